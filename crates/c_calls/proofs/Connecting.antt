@@ -5,8 +5,8 @@ use Rattle.ip_wire.specs.IpEndpoint.{IpEndpoint}
 use Rattle.ip_wire.specs.IpListenEndpoint.{IpListenEndpoint}
 use Rattle.interface.specs.Host.{HostValue}
 use Rattle.interface.specs.Made.{with_inner}
-use Rattle.interface_egress.specs.declared.socket_set.SocketStorage.{SocketStorage}
-use Rattle.interface_tables.specs.Inner.{context_of, drawn}
+use Rattle.interface.specs.SocketStorage.{SocketStorage}
+use Rattle.interface.specs.Inner.{context_of, drawn}
 use Rattle.sockets.specs.AnySocket.{as_tcp}
 use Rattle.sockets.specs.TcpCalls.{connect_after, connect_draws}
 use Rattle.sockets.specs.declared.socket.Socket.{Socket}

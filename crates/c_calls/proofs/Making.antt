@@ -4,8 +4,8 @@ use Rattle.net_base.specs.DeviceCapabilities.{DeviceCapabilities}
 use Rattle.interface.specs.Host.{HostValue}
 use Rattle.interface.specs.Made.{MadeUnless, Makes, new_host}
 use Rattle.interface.specs.Settings.{refusal}
-use Rattle.interface_tables.specs.declared.config.Config.{Config}
-use Rattle.interface_tables.specs.declared.config.NewError.{NewError}
+use Rattle.interface.specs.Config.{Config}
+use Rattle.interface.specs.NewError.{NewError}
 use Rattle.c_sockets.specs.declared.code.Code.{Code}
 use Rattle.c_calls.specs.Calls.{NewHost, NewHostUnless, config_of, device_of, fresh_host}
 use Rattle.c_calls.specs.Codes.{of_new}

@@ -6,7 +6,7 @@ use Rattle.net_base.specs.Ring.{ring}
 use Rattle.ip_wire.specs.IpProtocol.{IpProtocol}
 use Rattle.ip_wire.specs.IpVersion.{IpVersion}
 use Rattle.interface.specs.Set.{free_place, unmarked}
-use Rattle.interface_egress.specs.declared.socket_set.SocketStorage.{SocketStorage}
+use Rattle.interface.specs.SocketStorage.{SocketStorage}
 use Rattle.sockets.specs.Udp as Udp
 use Rattle.sockets.specs.Icmp as Icmp
 use Rattle.sockets.specs.Raw as Raw

@@ -5,12 +5,12 @@ use Rattle.std.specs.List.{list_any}
 use Rattle.std.specs.Option.{MatchOption}
 use Rattle.ip_wire.specs.IpListenEndpoint.{IpListenEndpoint}
 use Rattle.interface.specs.Set.{free, socket_at}
-use Rattle.interface_egress.specs.declared.socket_set.SocketHandle.{SocketHandle}
-use Rattle.interface_egress.specs.declared.socket_set.SocketStorage.{SocketStorage}
+use Rattle.interface.specs.SocketHandle.{SocketHandle}
+use Rattle.interface.specs.SocketStorage.{SocketStorage}
 use Rattle.sockets.specs.AnySocket.{as_tcp}
 use Rattle.sockets.specs.TcpValue.{TcpValue}
 use Rattle.sockets.specs.declared.socket.Socket.{Socket}
-use Rattle.tcp_control.specs.States.{is_closed}
+use Rattle.sockets.specs.TcpStates.{is_closed}
 use Rattle.tcp_listener.specs.Calls.{fresh_entry, Refreshes, Accepts, given_back}
 use Rattle.tcp_listener.specs.declared.entry.Entry.{Entry}
 use Rattle.tcp_listener.specs.declared.listener.Listener.{Listener}

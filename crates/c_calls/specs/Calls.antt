@@ -21,10 +21,10 @@ use Rattle.interface.specs.Made.{new_host}
 use Rattle.interface.specs.Polls.{Polls}
 use Rattle.interface.specs.State.{state}
 use Rattle.interface.specs.Settings.{refusal}
-use Rattle.interface_egress.specs.declared.socket_set.SocketStorage.{SocketStorage}
-use Rattle.interface_tables.specs.Inner.{at_moment}
-use Rattle.interface_tables.specs.declared.config.Config.{Config}
-use Rattle.interface_tables.specs.declared.config.NewError.{NewError}
+use Rattle.interface.specs.SocketStorage.{SocketStorage}
+use Rattle.interface.specs.Inner.{at_moment}
+use Rattle.interface.specs.Config.{Config}
+use Rattle.interface.specs.NewError.{NewError}
 use Rattle.sockets.specs.declared.socket.Socket.{Socket}
 use Rattle.tcp_listener.specs.Calls.{micros_of}
 use Rattle.c_calls.specs.Backlogs.{RefreshesAll}

@@ -5,8 +5,8 @@ use Rattle.c_link.specs.declared.error.PushError.{PushError}
 use Rattle.c_link.specs.declared.error.PushError.TheVariants as Push
 use Rattle.c_sockets.specs.declared.code.Code.{Code}
 use Rattle.c_sockets.specs.declared.code.Code.TheVariants as Is
-use Rattle.interface_tables.specs.declared.config.NewError.{NewError}
-use Rattle.interface_tables.specs.declared.config.NewError.TheVariants as New
+use Rattle.interface.specs.NewError.{NewError}
+use Rattle.interface.specs.NewError.TheVariants as New
 
 abbrev pub of_new : NewError → Code
 of_new New.Medium = Is.Medium

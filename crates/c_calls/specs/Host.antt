@@ -3,7 +3,7 @@ use Rattle.std.specs.Prelude.{ℕ, List, Option}
 use Rattle.c_link.specs.Link.{LinkValue}
 use Rattle.c_calls.specs.declared.host.Counters.{Counters}
 use Rattle.interface.specs.Host.{HostValue}
-use Rattle.interface_egress.specs.declared.socket_set.SocketStorage.{SocketStorage}
+use Rattle.interface.specs.SocketStorage.{SocketStorage}
 use Rattle.sockets.specs.declared.socket.Socket.{Socket}
 use Rattle.tcp_listener.specs.declared.listener.Listener.{Listener}
 

@@ -4,3 +4,4 @@ pub mod Calls
 pub mod Tables
 pub mod Added
 pub mod Backlogs
+pub use Rattle.c_link.specs.Link

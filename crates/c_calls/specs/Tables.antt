@@ -10,8 +10,8 @@ use Rattle.interface.specs.Host.{HostValue}
 use Rattle.interface.specs.Made.{with_inner}
 use Rattle.interface.specs.Route.{Route}
 use Rattle.interface.specs.Settings.{is_stranger, with_addresses, with_routes}
-use Rattle.interface_tables.specs.declared.config.HardwareAddrError.{HardwareAddrError}
-use Rattle.interface_tables.specs.declared.config.HardwareAddrError.TheVariants as No
+use Rattle.interface.specs.HardwareAddrError.{HardwareAddrError}
+use Rattle.interface.specs.HardwareAddrError.TheVariants as No
 use Rattle.c_sockets.specs.declared.code.Code.{Code}
 use Rattle.c_sockets.specs.declared.code.Code.TheVariants as Is
 use Rattle.c_calls.specs.Host.{StackValue}

@@ -4,7 +4,7 @@ ghost use Rattle.std.specs.List.{list_any};
 ghost use Rattle.interface.specs.Set.{places, is_fixed};
 ghost use Rattle.tcp_listener.specs.Calls.{micros_of};
 ghost use Rattle.tcp_listener.specs.declared.entry.Entry.{Entry};
-ghost use Rattle.interface_egress.specs.declared.socket_set.SocketHandle.{SocketHandle as Handle};
+ghost use Rattle.interface.specs.SocketHandle.{SocketHandle as Handle};
 ghost use Rattle.sockets.specs.AnySocket.{as_tcp};
 ghost use Rattle.c_sockets.specs.Places.{answer_at};
 ghost use Rattle.c_calls.specs.Backlogs.{RefreshesAt, RefreshesAll, MakesListener, IsPut, listener_place, is_there, without_listener, listener_at, has_place};

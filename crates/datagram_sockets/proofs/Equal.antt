@@ -7,10 +7,10 @@ use Rattle.std.proofs.lemmas.Slice.Eq.{bytes_eq-Decides}
 use Rattle.ip_address.specs.contracts.ip.IpAddressPartialEq.TheImpl as Addresses
 use Rattle.ip_address.specs.contracts.ip.IpEndpointPartialEq.TheImpl as Endpoints
 use Rattle.ip_address.specs.contracts.ip.IpListenEndpointPartialEq.TheImpl as Listening
-use Rattle.ip_wire.specs.IpAddress.{IpAddress}
-use Rattle.ip_wire.specs.IpAddress.TheVariants as Address
-use Rattle.ip_wire.specs.IpEndpoint.{IpEndpoint}
-use Rattle.ip_wire.specs.IpListenEndpoint.{IpListenEndpoint}
+use Rattle.ip_address.specs.declared.ip.IpAddress.{IpAddress}
+use Rattle.ip_address.specs.declared.ip.IpAddress.TheVariants as Address
+use Rattle.ip_address.specs.declared.ip.IpEndpoint.{IpEndpoint}
+use Rattle.ip_address.specs.declared.ip.IpListenEndpoint.{IpListenEndpoint}
 use Rattle.datagram_sockets.specs.contracts.error.BindErrorPartialEq.TheImpl as Bind
 use Rattle.datagram_sockets.specs.contracts.error.RecvErrorPartialEq.TheImpl as Recv
 use Rattle.datagram_sockets.specs.contracts.error.SendErrorPartialEq.TheImpl as Send

@@ -1,11 +1,11 @@
 -- The packet that takes a queued one can be sent, and is the only one.
 use Rattle.std.proofs.Common.{◌≡◌, ℕ, ◌+◌, ◌-◌, ◌≤◌, List, length, drop, slice_range, refl, sym, ap, ◌∙◌, subst, Some, true, false, arith}
 use Rattle.std.proofs.lemmas.List.{length-take, length-drop}
-use Rattle.ip_wire.specs.Fields.{be16}
-use Rattle.ip_wire.specs.IpRepr.{IpRepr}
-use Rattle.ip_wire.specs.IpRepr.TheVariants as Either
-use Rattle.ip_wire.specs.Ip as Ip
-use Rattle.ip_wire.specs.Ipv4 as Ipv4
+use Rattle.ip_address.specs.Fields.{be16}
+use Rattle.ip_packet.specs.declared.ip.repr.IpRepr.{IpRepr}
+use Rattle.ip_packet.specs.declared.ip.repr.IpRepr.TheVariants as Either
+use Rattle.ip_packet.specs.Ip as Ip
+use Rattle.ip_packet.specs.Ipv4 as Ipv4
 use Rattle.socket_base.specs.Packet.{PacketValue}
 use Rattle.datagram_sockets.specs.Offers.{IsOnly}
 use Rattle.datagram_sockets.specs.Raw.{RawFilters, carried_by, bytes_behind, may_send, TakesPacket}

@@ -2,8 +2,8 @@
 -- queue.
 use Rattle.std.specs.Prelude.{ℕ, ◌≤◌, List, length, drop, Option, None, Some}
 use Rattle.net_base.specs.Packets.{Packets}
-use Rattle.ip_wire.specs.IpAddress.{IpAddress}
-use Rattle.control_wire.specs.Icmpv6 as Icmpv6
+use Rattle.ip_address.specs.declared.ip.IpAddress.{IpAddress}
+use Rattle.icmpv6.specs.Icmpv6 as Icmpv6
 use Rattle.socket_base.specs.Packet as Carried
 use Rattle.socket_base.specs.Packet.{PacketValue}
 use Rattle.datagram_sockets.specs.Held.{AreHeld, packet_in}

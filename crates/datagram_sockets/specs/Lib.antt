@@ -13,3 +13,11 @@ pub use Rattle.socket_base.specs.Packet
 pub use Rattle.socket_base.specs.Context
 pub use Rattle.socket_base.specs.Offers as BaseOffers
 pub use Rattle.socket_base.specs.declared.offer.Offer
+pub use Rattle.net_containers.specs.Packets
+pub use Rattle.icmpv4.specs.declared.header.Icmpv4Header
+pub use Rattle.icmpv6.specs.Icmpv6
+pub use Rattle.socket_base.specs.Addresses
+pub use Rattle.icmpv4.specs.declared.message.Icmpv4DstUnreachable
+pub use Rattle.icmpv6.specs.declared.reason.Icmpv6DstUnreachable
+pub use Rattle.icmpv6.specs.declared.reason.Icmpv6ParamProblem
+pub use Rattle.icmpv6.specs.Ndisc

@@ -1,13 +1,13 @@
 -- A raw socket as a value, and what its calls answer and leave.
 use Rattle.std.specs.Prelude.{◌≡◌, ℕ, ◌+◌, ◌^◌, ◌==◌, nat_lt, ◌&&◌, Bool, true, false, if◌then◌else◌, List, ◌++◌, length, Option, None, Some, Result, Ok, Err}
 use Rattle.net_base.specs.Packets.{Packets, is_full_for}
-use Rattle.ip_wire.specs.IpProtocol.{IpProtocol}
-use Rattle.ip_wire.specs.IpVersion.{IpVersion}
-use Rattle.ip_wire.specs.IpRepr.{IpRepr}
-use Rattle.ip_wire.specs.IpRepr.TheVariants as Either
-use Rattle.ip_wire.specs.Ip as Ip
-use Rattle.ip_wire.specs.Ipv4 as Ipv4
-use Rattle.ip_wire.specs.Ipv6 as Ipv6
+use Rattle.ip_address.specs.declared.ip.IpProtocol.{IpProtocol}
+use Rattle.ip_address.specs.declared.ip.IpVersion.{IpVersion}
+use Rattle.ip_packet.specs.declared.ip.repr.IpRepr.{IpRepr}
+use Rattle.ip_packet.specs.declared.ip.repr.IpRepr.TheVariants as Either
+use Rattle.ip_packet.specs.Ip as Ip
+use Rattle.ip_packet.specs.Ipv4 as Ipv4
+use Rattle.ip_packet.specs.Ipv6 as Ipv6
 use Rattle.socket_base.specs.Addresses.{is_unspecified}
 use Rattle.socket_base.specs.Context.{ContextValue}
 use Rattle.socket_base.specs.Packet as Carried

@@ -1,10 +1,10 @@
 -- Whether two families or two protocols are the same, as truth values.
 use Rattle.std.specs.Prelude.{ℕ, ◌+◌, ◌==◌, Bool, true, false}
-use Rattle.ip_wire.specs.IpProtocol.{IpProtocol}
-use Rattle.ip_wire.specs.IpProtocol.TheVariants as Protocol
-use Rattle.ip_wire.specs.IpVersion.{IpVersion}
-use Rattle.ip_wire.specs.IpVersion.TheVariants as Version
-use Rattle.ip_wire.specs.Protocol.{protocol_number}
+use Rattle.ip_address.specs.declared.ip.IpProtocol.{IpProtocol}
+use Rattle.ip_address.specs.declared.ip.IpProtocol.TheVariants as Protocol
+use Rattle.ip_address.specs.declared.ip.IpVersion.{IpVersion}
+use Rattle.ip_address.specs.declared.ip.IpVersion.TheVariants as Version
+use Rattle.ip_address.specs.Protocol.{protocol_number}
 
 abbrev pub is_version : IpVersion → IpVersion → Bool
 is_version Version.Ipv4 Version.Ipv4 = true

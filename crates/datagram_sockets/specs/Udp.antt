@@ -1,13 +1,13 @@
 -- A UDP socket as a value, and what its calls answer and leave.
 use Rattle.std.specs.Prelude.{◌≡◌, ℕ, ◌+◌, ◌==◌, not, ◌&&◌, ◌||◌, Bool, true, if◌then◌else◌, List, length, Option, None, Some, Result, Ok, Err, is_ok}
 use Rattle.net_base.specs.Packets.{Packets, is_full_for}
-use Rattle.ip_wire.specs.IpAddress.{IpAddress}
-use Rattle.ip_wire.specs.IpEndpoint.{IpEndpoint}
-use Rattle.ip_wire.specs.IpListenEndpoint.{IpListenEndpoint}
-use Rattle.ip_wire.specs.IpProtocol.TheVariants as Protocol
-use Rattle.ip_wire.specs.IpRepr.{IpRepr}
-use Rattle.ip_wire.specs.Ip.{destination_of, source_of}
-use Rattle.ip_wire.specs.UdpRepr.{UdpRepr}
+use Rattle.ip_address.specs.declared.ip.IpAddress.{IpAddress}
+use Rattle.ip_address.specs.declared.ip.IpEndpoint.{IpEndpoint}
+use Rattle.ip_address.specs.declared.ip.IpListenEndpoint.{IpListenEndpoint}
+use Rattle.ip_address.specs.declared.ip.IpProtocol.TheVariants as Protocol
+use Rattle.ip_packet.specs.declared.ip.repr.IpRepr.{IpRepr}
+use Rattle.ip_packet.specs.Ip.{destination_of, source_of}
+use Rattle.ip_packet.specs.declared.udp.repr.UdpRepr.{UdpRepr}
 use Rattle.socket_base.specs.Addresses.{is_unspecified, is_multicast, is_same_address}
 use Rattle.socket_base.specs.Context.{ContextValue}
 use Rattle.socket_base.specs.Packet as Carried

@@ -2,7 +2,9 @@
 ghost use Rattle.std.specs.Prelude.{◌≡◌, None};
 ghost use Rattle.datagram_sockets.specs.Header.{header_between};
 
-use ip_wire::{IPV4_HEADER_LEN, IpAddress, IpProtocol, IpRepr, Ipv4Repr, Ipv6Repr};
+use ip_address::{IpAddress, IpProtocol};
+use ip_packet::ipv4::field::HEADER_LEN as IPV4_HEADER_LEN;
+use ip_packet::{IpRepr, Ipv4Repr, Ipv6Repr};
 
 /// The hop limit of packets for which none was set.
 pub const DEFAULT_HOP_LIMIT: u8 = 64;

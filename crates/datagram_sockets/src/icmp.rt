@@ -8,9 +8,9 @@ ghost use Rattle.socket_base.specs.Addresses.{is_unspecified};
 ghost use Rattle.socket_base.specs.Offers.{IsBefore};
 ghost use Rattle.socket_base.specs.Context.{ContextValue};
 ghost use Rattle.socket_base.specs.Packet.{PacketValue, IsSendable, option_value};
-ghost use Rattle.ip_wire.specs.IpAddress.TheVariants as Address;
-ghost use Rattle.control_wire.specs.Icmpv4 as Icmpv4;
-ghost use Rattle.control_wire.specs.Icmpv6 as Icmpv6;
+ghost use Rattle.ip_address.specs.declared.ip.IpAddress.TheVariants as Address;
+ghost use Rattle.icmpv4.specs.Icmpv4 as Icmpv4;
+ghost use Rattle.icmpv6.specs.Icmpv6 as Icmpv6;
 ghost use Rattle.socket_base.specs.declared.offer.Offer.{Offer};
 ghost use Rattle.socket_base.specs.declared.offer.Offer.TheVariants as Answer;
 ghost use Rattle.datagram_sockets.specs.Icmp.{IcmpValue, made, is_specified, is_open, with_hop_limit, bind_answer, bind_after, send_answer, send_after};
@@ -26,14 +26,11 @@ ghost use Rattle.datagram_sockets.specs.declared.error.RecvError.TheVariants as 
 pub use crate::error::{BindError, RecvError, SendError};
 use crate::header::{DEFAULT_HOP_LIMIT, LAST_LENGTH, header_between};
 use crate::queues::Queues;
-use control_wire::{
-    Icmpv4Header, Icmpv4Packet, Icmpv4PacketMut, Icmpv4Repr, Icmpv6Header, Icmpv6Packet,
-    Icmpv6PacketMut, Icmpv6Repr,
-};
-use ip_wire::{
-    IPV4_HEADER_LEN, IpAddress, IpListenEndpoint, IpProtocol, IpRepr, Ipv4Address, Ipv4Repr,
-    Ipv6Address, Ipv6Repr,
-};
+use icmpv4::{Icmpv4Header, Icmpv4Packet, Icmpv4PacketMut, Icmpv4Repr};
+use icmpv6::{Icmpv6Header, Icmpv6Packet, Icmpv6PacketMut, Icmpv6Repr};
+use ip_address::{IpAddress, IpListenEndpoint, IpProtocol, Ipv4Address, Ipv6Address};
+use ip_packet::ipv4::field::HEADER_LEN as IPV4_HEADER_LEN;
+use ip_packet::{IpRepr, Ipv4Repr, Ipv6Repr};
 use net_base::ChecksumCapabilities;
 use socket_base::addresses::{is_same_address, is_unspecified};
 use socket_base::{Context, IpPayload, Offer, Packet, PollAt};

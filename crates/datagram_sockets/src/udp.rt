@@ -4,8 +4,8 @@ ghost use Rattle.std.specs.Prelude.{Option, None, Some, IsSome, if◌then◌else
 ghost use Rattle.std.specs.Borrow.{sem};
 ghost use Rattle.std.specs.Fn.{FnOnceTakesAtMut, FnOnceReturnsAtMut};
 ghost use Rattle.net_base.specs.Packets.{used_room, first};
-ghost use Rattle.ip_wire.specs.Text.{endpoint_text};
-ghost use Rattle.ip_wire.specs.IpListenEndpoint.{IpListenEndpoint};
+ghost use Rattle.ip_address.specs.Text.{endpoint_text};
+ghost use Rattle.ip_address.specs.declared.ip.IpListenEndpoint.{IpListenEndpoint};
 ghost use Rattle.socket_base.specs.Offers.{IsBefore};
 ghost use Rattle.socket_base.specs.Context.{ContextValue};
 ghost use Rattle.socket_base.specs.Packet.{PacketValue, IsSendable, option_value};
@@ -23,9 +23,9 @@ ghost use Rattle.datagram_sockets.specs.declared.error.RecvError.TheVariants as 
 pub use crate::error::{BindError, RecvError, SendError};
 use crate::header::{DEFAULT_HOP_LIMIT, forget_offer, header_between};
 use crate::queues::Queues;
-use ip_wire::{
-    IpAddress, IpEndpoint, IpListenEndpoint, IpProtocol, IpRepr, UDP_HEADER_LEN, UdpRepr,
-};
+use ip_address::{IpAddress, IpEndpoint, IpListenEndpoint, IpProtocol};
+use ip_packet::udp::field::HEADER_LEN as UDP_HEADER_LEN;
+use ip_packet::{IpRepr, UdpRepr};
 use net_base::PacketMeta;
 use socket_base::addresses::{is_multicast, is_same_address, is_unspecified};
 use socket_base::{Context, IpPayload, Offer, Packet, PollAt};

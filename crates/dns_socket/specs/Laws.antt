@@ -1,7 +1,7 @@
 -- What is promised of the client.
 use Rattle.std.specs.Prelude.{◌≡◌, ◌⊎◌, ℕ, ◌≤◌, zero, suc, true, Option, Some, List, length}
 use Rattle.std.specs.List.{Contains}
-use Rattle.ip_address.specs.Fields.{be16}
+use Rattle.ip_wire.specs.Fields.{be16}
 use Rattle.ip_wire.specs.AddressTests.{is_same_address}
 use Rattle.ip_wire.specs.Ip.{source_of}
 use Rattle.ip_wire.specs.IpAddress.{IpAddress}

@@ -1,7 +1,7 @@
 -- What a datagram says to a query (RFC 1035, sections 4.1.1 and 7.3).
 use Rattle.std.specs.Prelude.{◌≡◌, ◌≢◌, ◌⊎◌, ℕ, ◌/◌, ◌%◌, ◌≤◌, ◌==◌, ◌&&◌, Bool, true, false, Option, None, List, [], ◌∷◌, length, slice_index}
 use Rattle.ip_wire.specs.IpAddress.{IpAddress}
-use Rattle.ip_address.specs.Fields.{be16}
+use Rattle.ip_wire.specs.Fields.{be16}
 use Rattle.dns_wire.specs.Codes.{flags_of, opcode_of, opcode_number, rcode_of, type_number}
 use Rattle.dns_wire.specs.Message.{IsQuestion}
 use Rattle.dns_wire.specs.declared.codes.DnsRcode.{DnsRcode}

@@ -1,1 +1,3 @@
 pub mod Held
+pub use Rattle.tcp_law.specs.Numbers
+pub use Rattle.tcp_law.specs.ReceiveMap

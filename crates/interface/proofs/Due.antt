@@ -3,9 +3,9 @@ use Rattle.std.proofs.Common.{◌≡◌, Bool, true, false, not, ◌&&◌, if◌
 use Rattle.std.proofs.Common.{ap, ◌∙◌, subst, arith}
 use Rattle.std.specs.List.{fold}
 use Rattle.std.proofs.lemmas.List.Folds.{fold-map}
-use Rattle.socket_base.specs.Offers.{IsBefore}
-use Rattle.socket_base.specs.declared.poll_at.PollAt.{PollAt}
-use Rattle.socket_base.specs.declared.poll_at.PollAt.TheVariants as At
+use Rattle.sockets.specs.Polling.{IsBefore}
+use Rattle.sockets.specs.PollAt.{PollAt}
+use Rattle.sockets.specs.PollAt.TheVariants as At
 use Rattle.interface_tables.specs.Inner.{InnerValue}
 use Rattle.interface_egress.specs.Meta.{waits_by, poll_by}
 use Rattle.interface_egress.specs.declared.socket_meta.Waiting.{Waiting}

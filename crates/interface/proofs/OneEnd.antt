@@ -4,10 +4,10 @@ use Rattle.std.proofs.Common.{ap, ◌∙◌, subst}
 use Rattle.net_base.specs.Device.{Move, Took, Empty, Allowed, Emitted, Denied}
 use Rattle.ip_wire.specs.Ip.{destination_of}
 use Rattle.ip_wire.specs.IpAddress.{IpAddress}
-use Rattle.socket_base.specs.Context.{ContextValue}
-use Rattle.socket_base.specs.Packet.{PacketValue}
-use Rattle.socket_base.specs.declared.offer.Offer as Answer
-use Rattle.socket_base.specs.declared.offer.Offer.TheVariants as Offer
+use Rattle.sockets.specs.Context.{ContextValue}
+use Rattle.sockets.specs.Packet.{PacketValue}
+use Rattle.sockets.specs.Offer as Answer
+use Rattle.sockets.specs.Offer.TheVariants as Offer
 use Rattle.sockets.specs.Socket.{Offers, offered_by}
 use Rattle.sockets.specs.declared.socket.Socket.{Socket}
 use Rattle.interface_tables.specs.Inner.{InnerValue, context_of}

@@ -1,10 +1,10 @@
 -- The turn of a socket that isn't due yet.
 use Rattle.std.proofs.Common.{◌≡◌, Bool, true, false, ℤ, pos, ◌≤ℤ◌, Option, Some, None, refl, sym, ap, ◌∙◌, subst}
 use Rattle.net_base.specs.Device.{Move}
-use Rattle.socket_base.specs.Context.{ContextValue}
-use Rattle.socket_base.specs.declared.offer.Offer as Answer
-use Rattle.socket_base.specs.declared.offer.Offer.TheVariants as Offer
-use Rattle.socket_base.specs.declared.poll_at.PollAt.{PollAt}
+use Rattle.sockets.specs.Context.{ContextValue}
+use Rattle.sockets.specs.Offer as Answer
+use Rattle.sockets.specs.Offer.TheVariants as Offer
+use Rattle.sockets.specs.PollAt.{PollAt}
 use Rattle.sockets.proofs.AnyKind.{silent}
 use Rattle.sockets.specs.Socket.{poll_of, settled}
 use Rattle.sockets.specs.declared.socket.Socket.{Socket}

@@ -2,9 +2,9 @@
 use Rattle.std.proofs.Common.{◌≡◌, ℤ, Bool, true, false, ◌||◌, inl, inr, List, [], ◌∷◌, ◌++◌, Option, Some, None, refl, sym, ap, ◌∙◌, subst, append_assoc}
 use Rattle.std.proofs.Common.{append-nil}
 use Rattle.net_base.specs.Device.{Move}
-use Rattle.socket_base.specs.Packet.{PacketValue}
-use Rattle.socket_base.specs.declared.offer.Offer as Answer
-use Rattle.socket_base.specs.declared.offer.Offer.TheVariants as Offer
+use Rattle.sockets.specs.Packet.{PacketValue}
+use Rattle.sockets.specs.Offer as Answer
+use Rattle.sockets.specs.Offer.TheVariants as Offer
 use Rattle.ip_wire.specs.IpAddress.{IpAddress}
 use Rattle.sockets.proofs.AnyKind.{same}
 use Rattle.sockets.specs.Socket.{Offers, offered_by, settled, IsSameButForPlaces}

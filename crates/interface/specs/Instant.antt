@@ -1,8 +1,8 @@
 -- When an interface wants to be polled.
 use Rattle.std.specs.Prelude.{ℤ, pos, int_lt, if◌then◌else◌, List, Option, None, Some}
 use Rattle.std.specs.List.{fold}
-use Rattle.socket_base.specs.declared.poll_at.PollAt.{PollAt}
-use Rattle.socket_base.specs.declared.poll_at.PollAt.TheVariants as At
+use Rattle.sockets.specs.PollAt.{PollAt}
+use Rattle.sockets.specs.PollAt.TheVariants as At
 use Rattle.interface_tables.specs.Inner.{InnerValue, context_of}
 use Rattle.interface_egress.specs.Meta.{poll_at}
 use Rattle.interface_egress.specs.declared.socket_set.Item.{Item}

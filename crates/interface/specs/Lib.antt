@@ -21,3 +21,11 @@ pub use Rattle.interface_egress.specs.Set
 pub use Rattle.interface_tables.specs.Settings
 pub use Rattle.interface_egress.specs.Departing
 pub use Rattle.interface_tables.specs.declared.route.Route
+pub use Rattle.interface_tables.specs.Slots
+pub use Rattle.interface_tables.specs.declared.config.HardwareAddrError
+pub use Rattle.interface_tables.specs.declared.config.Config
+pub use Rattle.interface_tables.specs.declared.config.NewError
+pub use Rattle.interface_egress.specs.declared.socket_set.Item
+pub use Rattle.interface_egress.specs.declared.socket_set.SocketHandle
+pub use Rattle.interface_egress.specs.declared.socket_set.SocketStorage
+pub use Rattle.interface_tables.specs.Inner

@@ -17,7 +17,7 @@ use interface_egress::{
 };
 use ip_wire::IpAddress;
 use net_base::{Device, Duration, Instant};
-use socket_base::addresses::is_same_address;
+use sockets::addresses::is_same_address;
 use sockets::laws::unsent_is_offered_again;
 use sockets::widths::fields_have_widths;
 use sockets::{Context, Offer, Packet, Socket};

@@ -8,27 +8,27 @@ use Rattle.icmpv4.proofs.Lengths as Lengths4
 use Rattle.icmpv6.proofs.Lengths as Lengths6
 use Rattle.ip_packet.proofs.Lengths.{length-datagram}
 use Rattle.ip_tcp.proofs.Lengths.{length-segment}
-use Rattle.ip_wire.specs.Address.{IsEthernetAddress, IsIpv4Address, IsIpv6Address, solicited_of, solicited_prefix}
-use Rattle.ip_wire.specs.Fields.{IsBytes}
-use Rattle.ip_wire.specs.Arp as Arps
-use Rattle.ip_wire.specs.declared.arp.repr.ArpRepr.{ArpRepr}
-use Rattle.ip_wire.specs.declared.arp.repr.ArpRepr.TheVariants as Arp
-use Rattle.ip_wire.specs.EthernetAddress.{EthernetAddress}
-use Rattle.ip_wire.specs.EthernetProtocol.TheVariants as Ether
-use Rattle.ip_wire.specs.HardwareAddress.{HardwareAddress}
-use Rattle.ip_wire.specs.HardwareAddress.TheVariants as Hardware
-use Rattle.ip_wire.specs.Ip as Ips
-use Rattle.ip_wire.specs.IpRepr.{IpRepr}
-use Rattle.ip_wire.specs.IpRepr.TheVariants as Ip
-use Rattle.ip_wire.specs.Ipv4 as Ipv4
-use Rattle.ip_wire.specs.Ipv4Piece.{Ipv4Piece}
-use Rattle.ip_wire.specs.Ipv4Repr.{Ipv4Repr}
-use Rattle.ip_wire.specs.Ipv4Address.{Ipv4Address}
-use Rattle.ip_wire.specs.Ipv6Address.{Ipv6Address}
+use Rattle.interface_ingress.specs.Address.{IsEthernetAddress, IsIpv4Address, IsIpv6Address, solicited_of, solicited_prefix}
+use Rattle.interface_ingress.specs.Fields.{IsBytes}
+use Rattle.interface_egress.specs.Arp as Arps
+use Rattle.interface_ingress.specs.ArpRepr.{ArpRepr}
+use Rattle.interface_ingress.specs.ArpRepr.TheVariants as Arp
+use Rattle.interface_ingress.specs.EthernetAddress.{EthernetAddress}
+use Rattle.interface_ingress.specs.EthernetProtocol.TheVariants as Ether
+use Rattle.interface_ingress.specs.HardwareAddress.{HardwareAddress}
+use Rattle.interface_ingress.specs.HardwareAddress.TheVariants as Hardware
+use Rattle.ip_packet.specs.Ip as Ips
+use Rattle.ip_packet.specs.declared.ip.repr.IpRepr.{IpRepr}
+use Rattle.ip_packet.specs.declared.ip.repr.IpRepr.TheVariants as Ip
+use Rattle.ip_packet.specs.Ipv4 as Ipv4
+use Rattle.ip_packet.specs.declared.ipv4.piece.Ipv4Piece.{Ipv4Piece}
+use Rattle.ip_packet.specs.declared.ipv4.repr.Ipv4Repr.{Ipv4Repr}
+use Rattle.interface_ingress.specs.Ipv4Address.{Ipv4Address}
+use Rattle.interface_ingress.specs.Ipv6Address.{Ipv6Address}
 use Rattle.socket_base.specs.Packet.{PacketValue, PayloadValue, packet_of, payload_written}
 use Rattle.socket_base.proofs.Lengths.{Lengths, length-payload}
-use Rattle.interface_tables.specs.Inner.{InnerValue}
-use Rattle.interface_tables.specs.Pieces.{Piece}
+use Rattle.interface_egress.specs.Inner.{InnerValue}
+use Rattle.interface_ingress.specs.Pieces.{Piece}
 use Rattle.interface_ingress.specs.Incoming.{IsIncoming}
 use Rattle.interface_ingress.specs.Incoming as Heard
 use Rattle.interface_ingress.specs.Sent as Sent

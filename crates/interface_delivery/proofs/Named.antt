@@ -1,11 +1,11 @@
 -- The protocol that a frame names is the one that was sent.
 use Rattle.std.proofs.Common.{◌≡◌, ℕ, List, ◌++◌, Option, Some, refl, sym, subst, ap, ◌∙◌}
 use Rattle.net_base.specs.ChecksumCapabilities.{ChecksumCapabilities}
-use Rattle.ip_wire.specs.HardwareAddress.{HardwareAddress}
-use Rattle.ip_wire.specs.IpRepr.{IpRepr}
-use Rattle.ip_wire.specs.IpRepr.TheVariants as Ip
+use Rattle.interface_ingress.specs.HardwareAddress.{HardwareAddress}
+use Rattle.ip_packet.specs.declared.ip.repr.IpRepr.{IpRepr}
+use Rattle.ip_packet.specs.declared.ip.repr.IpRepr.TheVariants as Ip
 use Rattle.socket_base.specs.Packet.{PayloadValue, packet_of}
-use Rattle.interface_tables.specs.Inner.{InnerValue}
+use Rattle.interface_egress.specs.Inner.{InnerValue}
 use Rattle.interface_ingress.specs.Incoming.{IncomingValue, IsContent}
 use Rattle.interface_ingress.specs.Sent.{AreSealed}
 use Rattle.interface_ingress.proofs.OneContent.{one-content}

@@ -4,14 +4,14 @@ use Rattle.std.proofs.Common.{length-drop, arith}
 use Rattle.std.specs.Prelude.{nat_lt}
 use Rattle.std.proofs.lemmas.Bool.Decides.{nat_tests}
 use Rattle.net_base.specs.Device.{Move}
-use Rattle.ip_wire.specs.HardwareAddress.{HardwareAddress}
-use Rattle.ip_wire.specs.Ip as Ips
-use Rattle.ip_wire.specs.IpRepr.{IpRepr}
-use Rattle.ip_wire.specs.IpRepr.TheVariants as Ip
-use Rattle.ip_wire.specs.Ipv4Repr.{Ipv4Repr}
+use Rattle.interface_ingress.specs.HardwareAddress.{HardwareAddress}
+use Rattle.ip_packet.specs.Ip as Ips
+use Rattle.ip_packet.specs.declared.ip.repr.IpRepr.{IpRepr}
+use Rattle.ip_packet.specs.declared.ip.repr.IpRepr.TheVariants as Ip
+use Rattle.ip_packet.specs.declared.ipv4.repr.Ipv4Repr.{Ipv4Repr}
 use Rattle.socket_base.specs.Packet.{PacketValue, PayloadValue, ControlV4, ControlV6, Bytes, Datagram, Segment, packet_of, PayloadFits, IsSendable}
 use Rattle.socket_base.specs.Packet.{payload_written}
-use Rattle.interface_tables.specs.Inner.{InnerValue}
+use Rattle.interface_egress.specs.Inner.{InnerValue}
 use Rattle.interface_ingress.specs.Sent.{CanBeRead, AreSealed}
 use Rattle.interface_ingress.proofs.FramesArrive.{payload-arrives}
 use Rattle.interface_egress.specs.Departure.{Departure, Asks, Whole}

@@ -3,27 +3,27 @@ use Rattle.std.proofs.Common.{◌≡◌, ℕ, zero, suc, ◌+◌, ◌<◌, Bool,
 use Rattle.std.proofs.Common.{length-drop}
 use Rattle.std.specs.Prelude.{ℤ, int_lt, nat_le, slice_index}
 use Rattle.std.specs.List.{AllByRecursion}
-use Rattle.ip_wire.specs.Address.{IsEthernetAddress, IsIpAddress}
-use Rattle.ip_wire.specs.AddressTests.{is_multicast}
-use Rattle.ip_wire.specs.EthernetAddress.{EthernetAddress}
-use Rattle.ip_wire.specs.HardwareAddress.{HardwareAddress}
-use Rattle.ip_wire.specs.HardwareAddress.TheVariants as Hardware
-use Rattle.ip_wire.specs.Ip.{destination_of}
-use Rattle.ip_wire.specs.IpAddress.{IpAddress}
-use Rattle.ip_wire.specs.IpAddress.TheVariants as Address
-use Rattle.ip_wire.specs.IpRepr.{IpRepr}
-use Rattle.ip_wire.specs.IpRepr.TheVariants as Ip
-use Rattle.ip_wire.specs.Ipv4Address.{Ipv4Address}
-use Rattle.ip_wire.specs.Ipv4Repr.{Ipv4Repr}
-use Rattle.interface_tables.specs.Best.{at_place}
-use Rattle.interface_tables.specs.Inner.{InnerValue, is_local_broadcast, next_hop, link_by, link_of_hop, link_on, link_address, group_station, all_stations}
-use Rattle.interface_tables.specs.Neighbor.{CacheValue, lookup, missing, answer_by, place_of, unless_failed, has_failed}
-use Rattle.interface_tables.specs.Source.{source_v4}
-use Rattle.interface_tables.specs.declared.link.LinkAddress.{LinkAddress}
-use Rattle.interface_tables.specs.declared.link.LinkAddress.TheVariants as Link
-use Rattle.interface_tables.specs.declared.neighbor.Answer.{Answer}
-use Rattle.interface_tables.specs.declared.neighbor.Answer.TheVariants as Known
-use Rattle.interface_tables.specs.declared.neighbor.Neighbor.{Neighbor}
+use Rattle.interface_ingress.specs.Address.{IsEthernetAddress, IsIpAddress}
+use Rattle.interface_ingress.specs.AddressTests.{is_multicast}
+use Rattle.interface_ingress.specs.EthernetAddress.{EthernetAddress}
+use Rattle.interface_ingress.specs.HardwareAddress.{HardwareAddress}
+use Rattle.interface_ingress.specs.HardwareAddress.TheVariants as Hardware
+use Rattle.ip_packet.specs.Ip.{destination_of}
+use Rattle.interface_ingress.specs.IpAddress.{IpAddress}
+use Rattle.interface_ingress.specs.IpAddress.TheVariants as Address
+use Rattle.ip_packet.specs.declared.ip.repr.IpRepr.{IpRepr}
+use Rattle.ip_packet.specs.declared.ip.repr.IpRepr.TheVariants as Ip
+use Rattle.interface_ingress.specs.Ipv4Address.{Ipv4Address}
+use Rattle.ip_packet.specs.declared.ipv4.repr.Ipv4Repr.{Ipv4Repr}
+use Rattle.interface_ingress.specs.Best.{at_place}
+use Rattle.interface_egress.specs.Inner.{InnerValue, is_local_broadcast, next_hop, link_by, link_of_hop, link_on, link_address, group_station, all_stations}
+use Rattle.interface_ingress.specs.Neighbor.{CacheValue, lookup, missing, answer_by, place_of, unless_failed, has_failed}
+use Rattle.interface_egress.specs.Source.{source_v4}
+use Rattle.interface_ingress.specs.LinkAddress.{LinkAddress}
+use Rattle.interface_ingress.specs.LinkAddress.TheVariants as Link
+use Rattle.interface_ingress.specs.Answer.{Answer}
+use Rattle.interface_ingress.specs.Answer.TheVariants as Known
+use Rattle.interface_egress.specs.Neighbor.{Neighbor}
 use Rattle.interface_egress.specs.Plan.{longest_cut, total_len, cut_if_idle, long_plan, ask_v4, ask_on, may_ask, ask_if, plan_by, never_leaves, plan_of}
 use Rattle.interface_egress.specs.declared.plan.Plan.{Plan}
 use Rattle.interface_egress.specs.declared.plan.Plan.TheVariants as Way

@@ -1,23 +1,23 @@
 -- What another host of the same medium reads in the frame of a departure.
 use Rattle.std.specs.Prelude.{◌≡◌, ◌+◌, ◌%◌, ◌^◌, ◌<◌, length, Option, None, Some}
 use Rattle.net_base.specs.ChecksumCapabilities.{ChecksumCapabilities}
-use Rattle.ip_wire.specs.Address.{IsEthernetAddress, IsIpv4Address, IsIpv6Address}
-use Rattle.ip_wire.specs.Arp as Arps
-use Rattle.ip_wire.specs.EthernetProtocol.{EthernetProtocol}
-use Rattle.ip_wire.specs.EthernetProtocol.TheVariants as Ether
-use Rattle.ip_wire.specs.declared.ethernet.repr.EthernetRepr.{EthernetRepr}
-use Rattle.ip_wire.specs.HardwareAddress.{HardwareAddress}
-use Rattle.ip_wire.specs.HardwareAddress.TheVariants as Hardware
-use Rattle.ip_wire.specs.Ip as Ips
-use Rattle.ip_wire.specs.Ip.{carried_in}
-use Rattle.ip_wire.specs.IpProtocol.{IpProtocol}
-use Rattle.ip_wire.specs.IpProtocol.TheVariants as Protocol
-use Rattle.ip_wire.specs.Ipv4 as Ipv4
-use Rattle.ip_wire.specs.Ipv4Repr.{Ipv4Repr}
+use Rattle.interface_ingress.specs.Address.{IsEthernetAddress, IsIpv4Address, IsIpv6Address}
+use Rattle.interface_egress.specs.Arp as Arps
+use Rattle.interface_ingress.specs.EthernetProtocol.{EthernetProtocol}
+use Rattle.interface_ingress.specs.EthernetProtocol.TheVariants as Ether
+use Rattle.interface_ingress.specs.EthernetRepr.{EthernetRepr}
+use Rattle.interface_ingress.specs.HardwareAddress.{HardwareAddress}
+use Rattle.interface_ingress.specs.HardwareAddress.TheVariants as Hardware
+use Rattle.ip_packet.specs.Ip as Ips
+use Rattle.ip_packet.specs.Ip.{carried_in}
+use Rattle.interface_ingress.specs.IpProtocol.{IpProtocol}
+use Rattle.interface_ingress.specs.IpProtocol.TheVariants as Protocol
+use Rattle.ip_packet.specs.Ipv4 as Ipv4
+use Rattle.ip_packet.specs.declared.ipv4.repr.Ipv4Repr.{Ipv4Repr}
 use Rattle.socket_base.specs.Packet.{PacketValue, IsSendable, payload_written}
 use Rattle.socket_base.specs.Widths.{IsPayload}
-use Rattle.interface_tables.specs.Inner.{InnerValue}
-use Rattle.interface_tables.specs.Pieces as Pieces
+use Rattle.interface_egress.specs.Inner.{InnerValue}
+use Rattle.interface_ingress.specs.Pieces as Pieces
 use Rattle.interface_ingress.specs.Incoming.{IncomingValue, Arp, Ip4, Ip6}
 use Rattle.interface_ingress.specs.Sent.{ether_for, uncut}
 use Rattle.interface_egress.specs.Departure.{Departure, Asks, Tells, Whole, Part, arp_link, arp_request, solicited_station, solicitation}

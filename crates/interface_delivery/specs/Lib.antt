@@ -1,3 +1,15 @@
 pub mod Delivered
 pub mod Taken
 pub mod Medium
+pub use Rattle.ip_packet.specs.Ip
+pub use Rattle.ip_packet.specs.declared.ip.repr.IpRepr
+pub use Rattle.ip_packet.specs.Ipv4
+pub use Rattle.ip_packet.specs.declared.ipv4.piece.Ipv4Piece
+pub use Rattle.ip_packet.specs.declared.ipv4.repr.Ipv4Repr
+pub use Rattle.ip_packet.specs.Ipv6
+pub use Rattle.ip_packet.specs.declared.ipv6.repr.Ipv6Repr
+pub use Rattle.ip_packet.specs.Parts
+pub use Rattle.ip_packet.specs.Udp
+pub use Rattle.ip_packet.specs.declared.udp.repr.UdpRepr
+pub use Rattle.icmpv6.specs.declared.ndisc_flags.NdiscNeighborFlags
+pub use Rattle.socket_base.specs.Widths

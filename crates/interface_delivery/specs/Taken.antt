@@ -2,12 +2,12 @@
 use Rattle.std.specs.Prelude.{◌≡◌, ℕ, ◌+◌, ◌%◌, ◌^◌, ◌<◌, ◌≤◌, List, ◌++◌, length, Some}
 use Rattle.net_base.specs.ChecksumCapabilities.{ChecksumCapabilities}
 use Rattle.net_base.specs.Device.{Move, Emitted}
-use Rattle.ip_wire.specs.HardwareAddress.{HardwareAddress}
-use Rattle.ip_wire.specs.Ip as Ips
-use Rattle.ip_wire.specs.Ipv4 as Ipv4
+use Rattle.interface_ingress.specs.HardwareAddress.{HardwareAddress}
+use Rattle.ip_packet.specs.Ip as Ips
+use Rattle.ip_packet.specs.Ipv4 as Ipv4
 use Rattle.socket_base.specs.Packet.{PacketValue, payload_written}
 use Rattle.socket_base.specs.Widths.{IsPayload}
-use Rattle.interface_tables.specs.Inner.{InnerValue}
+use Rattle.interface_egress.specs.Inner.{InnerValue}
 use Rattle.interface_ingress.specs.Incoming.{IsContent}
 use Rattle.interface_ingress.specs.Carried.{IsCarriedContent}
 use Rattle.interface_ingress.specs.Sent.{AreSealed, normal_payload}

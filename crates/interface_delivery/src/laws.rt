@@ -1,12 +1,12 @@
 //! What follows from the definitions.
 ghost use Rattle.std.specs.Prelude.{◌≡◌, ℕ, Bool, true, List, ◌++◌, Option, Some, IfSome};
 ghost use Rattle.net_base.specs.ChecksumCapabilities.{ChecksumCapabilities};
-ghost use Rattle.ip_wire.specs.Address.{IsIpAddress};
-ghost use Rattle.ip_wire.specs.HardwareAddress.{HardwareAddress};
-ghost use Rattle.ip_wire.specs.Ip.{destination_of};
-ghost use Rattle.ip_wire.specs.Ipv4Repr.{Ipv4Repr};
+ghost use Rattle.interface_ingress.specs.Address.{IsIpAddress};
+ghost use Rattle.interface_ingress.specs.HardwareAddress.{HardwareAddress};
+ghost use Rattle.ip_packet.specs.Ip.{destination_of};
+ghost use Rattle.ip_packet.specs.declared.ipv4.repr.Ipv4Repr.{Ipv4Repr};
 ghost use Rattle.socket_base.specs.Packet.{PacketValue};
-ghost use Rattle.interface_tables.specs.Inner.{InnerValue};
+ghost use Rattle.interface_egress.specs.Inner.{InnerValue};
 ghost use Rattle.interface_ingress.specs.Incoming.{IncomingValue, IsContent};
 ghost use Rattle.interface_ingress.specs.Sent.{AreSealed, CanBeRead};
 ghost use Rattle.interface_egress.specs.Departure.{Departure, Asks, Tells, Whole};
@@ -16,8 +16,8 @@ ghost use Rattle.interface_egress.specs.GoesOut.{GoesOut, PieceGoesOut, Departs,
 ghost use Rattle.interface_egress.specs.declared.frame.Question.{Question};
 ghost use Rattle.interface_egress.specs.declared.way_out.Sent.TheVariants as Outcome;
 ghost use Rattle.interface_egress.specs.declared.plan.Plan.TheVariants as Way;
-ghost use Rattle.ip_wire.specs.declared.arp.repr.ArpRepr.{ArpRepr};
-ghost use Rattle.ip_wire.specs.Arp as Arps;
+ghost use Rattle.interface_ingress.specs.ArpRepr.{ArpRepr};
+ghost use Rattle.interface_egress.specs.Arp as Arps;
 ghost use Rattle.interface_delivery.specs.Delivered.{IsOfMedium, AreOfOneMedium, CanArrive, IsOnEthernet, IsQuestion, read_of, protocol_read, protocol_sent};
 ghost use Rattle.interface_delivery.specs.Delivered.{HasNoPorts, SendsNoPorts};
 ghost use Rattle.interface_delivery.specs.Medium.{KnowsItsMedium};

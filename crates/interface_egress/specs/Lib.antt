@@ -12,3 +12,7 @@ pub use Rattle.interface_tables.specs.Inner
 pub use Rattle.interface_tables.specs.declared.route.Route
 pub use Rattle.interface_tables.specs.Settings
 pub use Rattle.interface_tables.specs.Source
+pub use Rattle.ip_wire.specs.Arp
+pub use Rattle.interface_tables.specs.declared.neighbor.Neighbor
+pub use Rattle.ip_packet.specs.Ipv4
+pub use Rattle.ip_packet.specs.declared.ipv4.repr.Ipv4Repr

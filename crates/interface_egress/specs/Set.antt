@@ -1,9 +1,9 @@
 -- The sockets of a host: places, each with a socket or free.
 use Rattle.std.specs.Prelude.{◌≡◌, ℕ, Bool, true, false, Result, Ok, Err, MatchResult, List, [], ◌∷◌, ◌++◌, length, position, slice_get, slice_set, Option}
 use Rattle.std.specs.Prelude.{None, Some, is_none}
-use Rattle.net_containers.specs.ManagedSlice.{storage_items}
-use Rattle.net_containers.specs.declared.managed.ManagedSlice.{ManagedSlice}
-use Rattle.net_containers.specs.declared.managed.ManagedSlice.TheVariants.{Fixed, Owned}
+use Rattle.net_base.specs.ManagedSlice.{storage_items}
+use Rattle.interface_tables.specs.ManagedSlice.{ManagedSlice}
+use Rattle.interface_tables.specs.ManagedSlice.TheVariants.{Fixed, Owned}
 use Rattle.interface_egress.specs.declared.socket_meta.Meta.{Meta}
 use Rattle.interface_egress.specs.declared.socket_set.Item.{Item}
 use Rattle.interface_egress.specs.declared.socket_set.AddError.{AddError}

@@ -2,7 +2,7 @@
 ghost use Rattle.std.specs.Prelude.{◌≡◌, ◌<◌, ◌∷◌, ◌++◌, [], length, map, slice_get, slice_set, Some, MatchResult};
 ghost use Rattle.std.specs.Fn.{FnOnceReturnsAtMut};
 ghost use Rattle.std.specs.Option.{ForSome, option_copied, option_copied_mut};
-ghost use Rattle.net_containers.specs.ManagedSlice.{storage_items};
+ghost use Rattle.net_base.specs.ManagedSlice.{storage_items};
 ghost use Rattle.interface_egress.specs.Set.{places, is_fixed, is_fixed_storage, free, socket_at, free_place, Adds, Updates};
 ghost use Rattle.interface_egress.specs.Used.{used, used_left, lent_left, CanLend, handles_left, handle_of};
 

@@ -1,10 +1,10 @@
 -- What a host answers at once, and whom.
 use Rattle.std.proofs.Common.{◌≡◌, ℕ, Bool, true, false, IsTrue, if◌then◌else◌, List, Option, None, Some, refl, ap, ◌∙◌, subst}
 use Rattle.std.specs.Prelude.{◌&&◌, not}
-use Rattle.control_wire.specs.Icmpv4DstUnreachable.{Icmpv4DstUnreachable}
-use Rattle.control_wire.specs.Icmpv4Header.{Icmpv4Header}
-use Rattle.control_wire.specs.Icmpv4Header.TheVariants as V4
-use Rattle.control_wire.specs.Icmpv6 as Icmpv6
+use Rattle.icmpv4.specs.declared.message.Icmpv4DstUnreachable.{Icmpv4DstUnreachable}
+use Rattle.icmpv4.specs.declared.header.Icmpv4Header.{Icmpv4Header}
+use Rattle.icmpv4.specs.declared.header.Icmpv4Header.TheVariants as V4
+use Rattle.icmpv6.specs.Icmpv6 as Icmpv6
 use Rattle.ip_wire.specs.AddressTests.{is_unicast_v6}
 use Rattle.ip_wire.specs.IpAddress.TheVariants as Address
 use Rattle.ip_wire.specs.IpRepr.{IpRepr}

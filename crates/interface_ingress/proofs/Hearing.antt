@@ -3,8 +3,8 @@ use Rattle.std.proofs.Common.{◌≡◌, ◌≢◌, ℕ, Bool, true, false, IsTr
 use Rattle.std.specs.Prelude.{Option, Some, None, ◌&&◌, ◌||◌, not}
 use Rattle.std.specs.List.{list_any}
 use Rattle.std.proofs.lemmas.Bool.Decides.{eqb_tells}
-use Rattle.control_wire.specs.Ndisc.{NeighborMessage, Solicitation, Advertisement}
-use Rattle.control_wire.specs.NdiscNeighborFlags.{NdiscNeighborFlags}
+use Rattle.icmpv6.specs.Ndisc.{NeighborMessage, Solicitation, Advertisement}
+use Rattle.icmpv6.specs.declared.ndisc_flags.NdiscNeighborFlags.{NdiscNeighborFlags}
 use Rattle.ip_wire.specs.AddressTests.{is_unicast_v6, is_unspecified_v6, is_loopback_v6}
 use Rattle.ip_wire.specs.EthernetAddress.{EthernetAddress}
 use Rattle.ip_wire.specs.HardwareAddress.{HardwareAddress}

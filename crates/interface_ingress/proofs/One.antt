@@ -21,10 +21,10 @@ use Rattle.ip_wire.specs.Udp as Udp
 use Rattle.ip_wire.specs.UdpRepr.{UdpRepr}
 use Rattle.ip_packet.proofs.Ipv4Laws as V4
 use Rattle.ip_packet.proofs.Ipv6Laws as V6
-use Rattle.control_wire.specs.Icmpv4 as Icmpv4
-use Rattle.control_wire.specs.Icmpv4Codes.{unreachable_of, exceeded_of}
-use Rattle.control_wire.specs.Icmpv4Header.{Icmpv4Header}
-use Rattle.control_wire.specs.Icmpv4Header.TheVariants as Header
+use Rattle.icmpv4.specs.Icmpv4 as Icmpv4
+use Rattle.icmpv4.specs.Icmpv4Codes.{unreachable_of, exceeded_of}
+use Rattle.icmpv4.specs.declared.header.Icmpv4Header.{Icmpv4Header}
+use Rattle.icmpv4.specs.declared.header.Icmpv4Header.TheVariants as Header
 
 -- LINK HEADERS AND ARP PACKETS
 

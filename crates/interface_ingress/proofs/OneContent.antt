@@ -3,8 +3,8 @@ use Rattle.std.proofs.Common.{◌≡◌, ℕ, List, refl, sym, ap, ◌∙◌, ar
 use Rattle.std.specs.Prelude.{Option, Some, None}
 use Rattle.net_base.specs.Capabilities.{verifies}
 use Rattle.net_base.specs.ChecksumCapabilities.{ChecksumCapabilities}
-use Rattle.control_wire.specs.Icmpv4Header.{Icmpv4Header}
-use Rattle.control_wire.specs.Icmpv6 as Icmpv6
+use Rattle.icmpv4.specs.declared.header.Icmpv4Header.{Icmpv4Header}
+use Rattle.icmpv6.specs.Icmpv6 as Icmpv6
 use Rattle.ip_tcp.proofs.Read.{IsTcp-one}
 use Rattle.ip_wire.specs.Ethernet as Ethernet
 use Rattle.ip_wire.specs.EthernetProtocol.{EthernetProtocol}

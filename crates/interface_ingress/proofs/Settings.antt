@@ -1,8 +1,8 @@
 -- A host's settings, which no arrival changes.
 use Rattle.std.proofs.Common.{◌≡◌, Bool, true, false, if◌then◌else◌, List, refl, sym, ◌∙◌, subst}
 use Rattle.std.specs.Prelude.{ℕ, Option, Some, None}
-use Rattle.control_wire.specs.Icmpv6 as Icmpv6
-use Rattle.control_wire.specs.Ndisc.{NeighborMessage}
+use Rattle.icmpv6.specs.Icmpv6 as Icmpv6
+use Rattle.icmpv6.specs.Ndisc.{NeighborMessage}
 use Rattle.ip_wire.specs.IpAddress.{IpAddress}
 use Rattle.ip_wire.specs.IpRepr.{IpRepr}
 use Rattle.ip_wire.specs.IpRepr.TheVariants as Ip

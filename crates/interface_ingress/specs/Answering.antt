@@ -1,8 +1,8 @@
 -- What a host answers at once, and whom: words of the laws.
 use Rattle.std.specs.Prelude.{◌≡◌, ℕ, IsTrue, List}
-use Rattle.control_wire.specs.Icmpv4Header.{Icmpv4Header}
-use Rattle.control_wire.specs.Icmpv4Header.TheVariants as V4
-use Rattle.control_wire.specs.Icmpv6 as Icmpv6
+use Rattle.icmpv4.specs.declared.header.Icmpv4Header.{Icmpv4Header}
+use Rattle.icmpv4.specs.declared.header.Icmpv4Header.TheVariants as V4
+use Rattle.icmpv6.specs.Icmpv6 as Icmpv6
 use Rattle.ip_wire.specs.AddressTests.{is_unicast_v6}
 use Rattle.ip_wire.specs.Ip.{destination_of}
 use Rattle.ip_wire.specs.IpAddress.TheVariants as Address

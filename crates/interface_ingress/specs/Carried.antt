@@ -2,9 +2,9 @@
 use Rattle.std.specs.Prelude.{◌≡◌, ℕ, List, Option, Some, None}
 use Rattle.net_base.specs.Capabilities.{verifies}
 use Rattle.net_base.specs.ChecksumCapabilities.{ChecksumCapabilities}
-use Rattle.control_wire.specs.Icmpv4 as Icmpv4
-use Rattle.control_wire.specs.Icmpv4Header.{Icmpv4Header}
-use Rattle.control_wire.specs.Icmpv6 as Icmpv6
+use Rattle.icmpv4.specs.Icmpv4 as Icmpv4
+use Rattle.icmpv4.specs.declared.header.Icmpv4Header.{Icmpv4Header}
+use Rattle.icmpv6.specs.Icmpv6 as Icmpv6
 use Rattle.ip_wire.specs.Ip.{source_of, destination_of, carried_in}
 use Rattle.ip_wire.specs.IpProtocol.TheVariants as Protocol
 use Rattle.ip_wire.specs.IpRepr.{IpRepr}

@@ -2,8 +2,8 @@
 -- Sockets of other kinds stay as they were, and so do places without a socket.
 use Rattle.std.specs.Prelude.{ℕ, Bool, false, not, ◌&&◌, ◌||◌, if◌then◌else◌, List, length, map, position, slice_set, Option, None, Some}
 use Rattle.std.specs.List.{list_any}
-use Rattle.control_wire.specs.Icmpv4Header.{Icmpv4Header}
-use Rattle.control_wire.specs.Icmpv6.{MessageValue}
+use Rattle.icmpv4.specs.declared.header.Icmpv4Header.{Icmpv4Header}
+use Rattle.icmpv6.specs.Icmpv6.{MessageValue}
 use Rattle.ip_wire.specs.IpAddress.TheVariants as Address
 use Rattle.ip_wire.specs.IpRepr.{IpRepr}
 use Rattle.ip_wire.specs.Ipv4Repr.{Ipv4Repr}
@@ -23,7 +23,7 @@ use Rattle.tcp_model.specs.Controls.{is_rst}
 use Rattle.tcp_model.specs.Segments.{rst_reply}
 use Rattle.tcp_model.specs.States.{is_listening}
 use Rattle.tcp_model.specs.Reply.{Reply}
-use Rattle.tcp_socket.specs.Replies as Replies
+use Rattle.sockets.specs.Replies as Replies
 use Rattle.interface_egress.specs.declared.socket_set.Item.{Item}
 use Rattle.interface_egress.specs.declared.socket_set.SocketStorage.{SocketStorage}
 use Rattle.interface_tables.specs.Best.{at_place}

@@ -1,9 +1,9 @@
 -- What a packet for the host carries, given to sockets and tables, and what is answered at once (RFC 1122, sections 3.2.2, 4.1.3.1
 -- and 4.2.3.9; RFC 4443; RFC 9293, section 3.10.7.1).
 use Rattle.std.specs.Prelude.{ℕ, ◌+◌, ◌<◌, ◌^◌, ◌||◌, Bool, true, false, if◌then◌else◌, List, length, Option, None, Some, is_some}
-use Rattle.control_wire.specs.Icmpv4Header.{Icmpv4Header}
-use Rattle.control_wire.specs.Icmpv6 as Icmpv6
-use Rattle.control_wire.specs.Icmpv6.{MessageValue}
+use Rattle.icmpv4.specs.declared.header.Icmpv4Header.{Icmpv4Header}
+use Rattle.icmpv6.specs.Icmpv6 as Icmpv6
+use Rattle.icmpv6.specs.Icmpv6.{MessageValue}
 use Rattle.ip_wire.specs.AddressTests.{is_unspecified, is_multicast}
 use Rattle.ip_wire.specs.Ip.{source_of, destination_of}
 use Rattle.ip_wire.specs.IpAddress.{IpAddress}

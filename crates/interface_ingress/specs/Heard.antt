@@ -1,8 +1,8 @@
 -- Neighbour messages that arrive (RFC 4861, sections 7.1 and 7.2): what the host learns from them, and what it answers.
 use Rattle.std.specs.Prelude.{ℕ, ◌==◌, ◌&&◌, ◌||◌, not, Bool, true, false, if◌then◌else◌, List, [], ◌∷◌, ◌++◌, replicate, length, Option, None, Some}
-use Rattle.control_wire.specs.Icmpv6 as Icmpv6
-use Rattle.control_wire.specs.Ndisc.{NeighborMessage, Solicitation, Advertisement}
-use Rattle.control_wire.specs.NdiscNeighborFlags.{NdiscNeighborFlags}
+use Rattle.icmpv6.specs.Icmpv6 as Icmpv6
+use Rattle.icmpv6.specs.Ndisc.{NeighborMessage, Solicitation, Advertisement}
+use Rattle.icmpv6.specs.declared.ndisc_flags.NdiscNeighborFlags.{NdiscNeighborFlags}
 use Rattle.ip_wire.specs.AddressTests.{is_ethernet_unicast, is_unicast_v6, is_unspecified_v6}
 use Rattle.ip_wire.specs.EthernetAddress.{EthernetAddress}
 use Rattle.ip_wire.specs.HardwareAddress.{HardwareAddress}

@@ -1,13 +1,13 @@
 -- Control messages that answer a packet (RFC 792; RFC 1122, sections 3.2.2 and 3.2.2.6; RFC 4443, sections 2.4 and 4.2): whom
 -- they go to, from which address, and what an error quotes.
 use Rattle.std.specs.Prelude.{ℕ, ◌-◌, ◌*◌, ◌&&◌, not, Bool, true, false, if◌then◌else◌, List, take, Option, None, Some}
-use Rattle.control_wire.specs.Icmpv4Header.{Icmpv4Header}
-use Rattle.control_wire.specs.Icmpv4Header.TheVariants as V4
-use Rattle.control_wire.specs.Icmpv4DstUnreachable.{Icmpv4DstUnreachable}
-use Rattle.control_wire.specs.Icmpv4DstUnreachable.TheVariants as V4Reason
-use Rattle.control_wire.specs.Icmpv6 as Icmpv6
-use Rattle.control_wire.specs.Icmpv6DstUnreachable.TheVariants as V6Reason
-use Rattle.control_wire.specs.Icmpv6ParamProblem.TheVariants as V6Problem
+use Rattle.icmpv4.specs.declared.header.Icmpv4Header.{Icmpv4Header}
+use Rattle.icmpv4.specs.declared.header.Icmpv4Header.TheVariants as V4
+use Rattle.icmpv4.specs.declared.message.Icmpv4DstUnreachable.{Icmpv4DstUnreachable}
+use Rattle.icmpv4.specs.declared.message.Icmpv4DstUnreachable.TheVariants as V4Reason
+use Rattle.icmpv6.specs.Icmpv6 as Icmpv6
+use Rattle.icmpv6.specs.declared.reason.Icmpv6DstUnreachable.TheVariants as V6Reason
+use Rattle.icmpv6.specs.declared.reason.Icmpv6ParamProblem.TheVariants as V6Problem
 use Rattle.ip_wire.specs.AddressTests.{is_unicast_v4, is_unicast_v6}
 use Rattle.ip_wire.specs.IpAddress.TheVariants as Address
 use Rattle.ip_wire.specs.IpProtocol.TheVariants as Protocol

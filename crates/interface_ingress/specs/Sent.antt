@@ -2,8 +2,8 @@
 use Rattle.std.specs.Prelude.{◌≡◌, ℕ, false, IsTrue, List, ◌++◌, Option, Some, None}
 use Rattle.net_base.specs.Capabilities.{verifies, computes}
 use Rattle.net_base.specs.ChecksumCapabilities.{ChecksumCapabilities}
-use Rattle.control_wire.specs.Icmpv4 as Icmpv4
-use Rattle.control_wire.specs.Icmpv6 as Icmpv6
+use Rattle.icmpv4.specs.Icmpv4 as Icmpv4
+use Rattle.icmpv6.specs.Icmpv6 as Icmpv6
 use Rattle.ip_wire.specs.Ethernet as Ethernet
 use Rattle.ip_wire.specs.EthernetProtocol.{EthernetProtocol}
 use Rattle.ip_wire.specs.EthernetProtocol.TheVariants as Ether

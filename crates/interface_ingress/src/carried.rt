@@ -5,7 +5,8 @@ ghost use Rattle.ip_wire.specs.IpProtocol.TheVariants as Protocol;
 ghost use Rattle.interface_ingress.specs.Carried.{IsCarriedContent, carried_of};
 ghost use Rattle.interface_ingress.specs.Read.{datagram_of, segment_of};
 
-use control_wire::{Icmpv4Packet, Icmpv4Repr, Icmpv6Packet, Icmpv6Repr};
+use icmpv4::{Icmpv4Packet, Icmpv4Repr};
+use icmpv6::{Icmpv6Packet, Icmpv6Repr};
 use ip_wire::{IpProtocol, IpRepr, TcpPacket, TcpRepr, UdpPacket, UdpRepr};
 use net_base::ChecksumCapabilities;
 use sockets::IpPayload;

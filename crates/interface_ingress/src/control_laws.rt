@@ -1,6 +1,6 @@
 //! What follows from the definitions of neighbour messages that are heard.
 ghost use Rattle.std.specs.Prelude.{◌≡◌, ◌≢◌, IsTrue, Some, None};
-ghost use Rattle.control_wire.specs.Ndisc.{NeighborMessage};
+ghost use Rattle.icmpv6.specs.Ndisc.{NeighborMessage};
 ghost use Rattle.ip_wire.specs.HardwareAddress.TheVariants as Hardware;
 ghost use Rattle.ip_wire.specs.Ip.{source_of, destination_of, hops_in};
 ghost use Rattle.ip_wire.specs.IpAddress.TheVariants as Address;

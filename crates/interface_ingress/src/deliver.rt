@@ -1,8 +1,8 @@
 //! What arrived, given to the sockets that it is for.
 ghost use Rattle.std.specs.Prelude.{◌≡◌, ◌<◌, length, is_some, None, Some};
 ghost use Rattle.std.specs.Option.{ForSome};
-ghost use Rattle.control_wire.specs.Icmpv4 as Icmpv4;
-ghost use Rattle.control_wire.specs.Icmpv6 as Icmpv6;
+ghost use Rattle.icmpv4.specs.Icmpv4 as Icmpv4;
+ghost use Rattle.icmpv6.specs.Icmpv6 as Icmpv6;
 ghost use Rattle.ip_wire.specs.IpAddress.TheVariants as Address;
 ghost use Rattle.ip_wire.specs.Tcp as Tcp;
 ghost use Rattle.sockets.specs.Socket.{accepts_segment};
@@ -15,7 +15,8 @@ ghost use Rattle.interface_ingress.specs.Delivered.{reset_for};
 
 use crate::places::{Arrival, first_place, give_all, give_at, is_for_any};
 use crate::reply::Reply;
-use control_wire::{Icmpv4Repr, Icmpv6Repr};
+use icmpv4::Icmpv4Repr;
+use icmpv6::Icmpv6Repr;
 use interface_egress::{InterfaceInner, Item, SocketStorage};
 use ip_wire::{IpRepr, Ipv4Repr, Ipv6Repr, TcpControl, TcpRepr, UdpRepr};
 use net_base::PacketMeta;
@@ -72,7 +73,7 @@ struct Icmpv4Arrival<'a> {
 }
 
 impl<'a> Arrival for Icmpv4Arrival<'a> {
-    ghost use Rattle.control_wire.specs.Icmpv4 as Icmpv4;
+    ghost use Rattle.icmpv4.specs.Icmpv4 as Icmpv4;
     ghost use Rattle.ip_wire.specs.IpAddress.TheVariants as Address;
     ghost use Rattle.sockets.specs.Socket.{accepts_icmpv4};
     ghost use Rattle.interface_ingress.specs.Delivered.{with_icmpv4};
@@ -114,7 +115,7 @@ struct Icmpv6Arrival<'a> {
 }
 
 impl<'a> Arrival for Icmpv6Arrival<'a> {
-    ghost use Rattle.control_wire.specs.Icmpv6 as Icmpv6;
+    ghost use Rattle.icmpv6.specs.Icmpv6 as Icmpv6;
     ghost use Rattle.ip_wire.specs.IpAddress.TheVariants as Address;
     ghost use Rattle.sockets.specs.Socket.{accepts_icmpv6};
     ghost use Rattle.interface_ingress.specs.Delivered.{with_icmpv6};

@@ -3,8 +3,8 @@ ghost use Rattle.std.specs.Prelude.{◌≡◌, ◌≢◌, ◌+◌, ◌<◌, ◌^
 ghost use Rattle.ip_wire.specs.Ip.{Fits, payload_len_of, carried_in};
 ghost use Rattle.ip_wire.specs.IpProtocol.TheVariants as Protocol;
 ghost use Rattle.ip_wire.specs.Tcp as Tcp;
-ghost use Rattle.control_wire.specs.Icmpv4 as Icmpv4;
-ghost use Rattle.control_wire.specs.Icmpv6 as Icmpv6;
+ghost use Rattle.icmpv4.specs.Icmpv4 as Icmpv4;
+ghost use Rattle.icmpv6.specs.Icmpv6 as Icmpv6;
 ghost use Rattle.sockets.specs.Packet.{option_value, IsSendable};
 ghost use Rattle.interface_ingress.specs.Carried.{carried_of};
 ghost use Rattle.interface_ingress.specs.Read.{IsControl, datagram_of, segment_of};
@@ -20,7 +20,8 @@ use crate::deliver::{deliver_datagram, deliver_icmpv4, deliver_icmpv6, deliver_s
 use crate::heard::hear;
 use crate::icmp_reply::{echo_ipv4, echo_ipv6, port_unreachable, protocol_unreachable};
 use crate::reply::{Reply, packet_reply};
-use control_wire::{Icmpv4Repr, Icmpv6Repr};
+use icmpv4::Icmpv4Repr;
+use icmpv6::Icmpv6Repr;
 use interface_egress::{InterfaceInner, SocketStorage};
 use ip_wire::{IpAddress, IpProtocol, IpRepr, Ipv6Repr, TcpRepr};
 use sockets::addresses::{is_multicast, is_unspecified};

@@ -1,12 +1,12 @@
 //! Neighbour messages that arrive.
 ghost use Rattle.std.specs.Prelude.{◌≡◌, IsTrue, IfSome};
-ghost use Rattle.control_wire.specs.Ndisc.{neighbor_message};
-ghost use Rattle.control_wire.specs.NdiscOption.{link_bytes};
+ghost use Rattle.icmpv6.specs.Ndisc.{neighbor_message};
+ghost use Rattle.icmpv6.specs.NdiscOption.{link_bytes};
 ghost use Rattle.sockets.specs.Packet.{packet_value, option_value, IsSendable};
 ghost use Rattle.interface_ingress.specs.Heard.{neighbor_heard, is_one_station, is_target, is_sender_of, counts, learned, replaces, advertised, is_asked};
 ghost use Rattle.interface_ingress.specs.Heard.{told_at, flags_for, advertisement};
 
-use control_wire::{Icmpv6Repr, NdiscNeighborFlags, NdiscRepr};
+use icmpv6::{Icmpv6Repr, NdiscNeighborFlags, NdiscRepr};
 use interface_egress::InterfaceInner;
 use ip_wire::{
     AddressExt, EthernetAddress, HardwareAddress, IPV6_LINK_LOCAL_ALL_NODES, IpAddress, IpProtocol,

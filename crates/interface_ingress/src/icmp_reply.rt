@@ -1,7 +1,7 @@
 //! Control messages that answer a packet (RFC 1122, section 3.2.2; RFC 4443, section 2.4).
 ghost use Rattle.std.specs.Prelude.{◌≡◌, ◌+◌, ◌<◌, ◌≤◌, ◌^◌, take, length, None, Some, IfSome};
-ghost use Rattle.control_wire.specs.Icmpv4 as Icmpv4;
-ghost use Rattle.control_wire.specs.Icmpv6 as Icmpv6;
+ghost use Rattle.icmpv4.specs.Icmpv4 as Icmpv4;
+ghost use Rattle.icmpv6.specs.Icmpv6 as Icmpv6;
 ghost use Rattle.ip_wire.specs.Ip.{Fits};
 ghost use Rattle.ip_wire.specs.Ipv4 as Ipv4;
 ghost use Rattle.ip_wire.specs.Ipv6 as Ipv6;
@@ -9,9 +9,8 @@ ghost use Rattle.sockets.specs.Packet.{packet_value, option_value, IsSendable};
 ghost use Rattle.interface_ingress.specs.Replies.{is_one_host, is_echo_reply, source_of_reply, reply_v4, source_of_v6_reply, reply_v6, echo_v4, echo_v6};
 ghost use Rattle.interface_ingress.specs.Replies.{is_between_hosts, error_v4, error_v6, port_unreachable, protocol_unreachable};
 
-use control_wire::{
-    Icmpv4DstUnreachable, Icmpv4Repr, Icmpv6DstUnreachable, Icmpv6ParamProblem, Icmpv6Repr,
-};
+use icmpv4::{Icmpv4DstUnreachable, Icmpv4Repr};
+use icmpv6::{Icmpv6DstUnreachable, Icmpv6ParamProblem, Icmpv6Repr};
 use interface_egress::InterfaceInner;
 use ip_wire::{
     AddressExt, IPV4_HEADER_LEN, IPV4_MIN_MTU, IPV6_HEADER_LEN, IPV6_MIN_MTU, IpAddress,

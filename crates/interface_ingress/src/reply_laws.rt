@@ -1,8 +1,8 @@
 //! What follows from the definitions of what a host answers at once.
 ghost use Rattle.std.specs.Prelude.{◌≡◌, ◌<◌, ℕ, Bool, false, true, List, length, get_or, Some};
-ghost use Rattle.control_wire.specs.Icmpv4DstUnreachable.{Icmpv4DstUnreachable};
-ghost use Rattle.control_wire.specs.Icmpv4Header.{Icmpv4Header};
-ghost use Rattle.control_wire.specs.Icmpv6 as Icmpv6;
+ghost use Rattle.icmpv4.specs.declared.message.Icmpv4DstUnreachable.{Icmpv4DstUnreachable};
+ghost use Rattle.icmpv4.specs.declared.header.Icmpv4Header.{Icmpv4Header};
+ghost use Rattle.icmpv6.specs.Icmpv6 as Icmpv6;
 ghost use Rattle.ip_wire.specs.IpRepr.{IpRepr};
 ghost use Rattle.ip_wire.specs.Ipv4Repr.{Ipv4Repr};
 ghost use Rattle.ip_wire.specs.Ipv6Repr.{Ipv6Repr};

@@ -9,3 +9,5 @@ pub mod Settings
 pub mod Refusals
 pub mod Slots
 pub mod Source
+pub use Rattle.net_containers.specs.declared.managed.ManagedSlice
+pub use Rattle.tcp_law.specs.ReceiveMap

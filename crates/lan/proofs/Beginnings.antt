@@ -1,8 +1,8 @@
 -- A world that begins.
 use Rattle.std.proofs.Common.{◌≡◌, List, []}
 use Rattle.lan_history.specs.History.{Entry}
-use Rattle.lan_hosts.specs.Runs.{Starts, WorldValue}
-use Rattle.lan_hosts.specs.Station.{StationValue, Stations}
+use Rattle.lan_world.specs.Runs.{Starts, WorldValue}
+use Rattle.lan_theorem.specs.Station.{StationValue, Stations}
 use Rattle.lan_world.specs.Come.{both, starts_of}
 use Rattle.lan.specs.Hosts.{first_world}
 

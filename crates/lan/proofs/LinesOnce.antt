@@ -1,8 +1,8 @@
 -- A line of a script says one thing.
 use Rattle.std.proofs.Common.{◌≡◌, ℕ, List, [], ◌∷◌, Option, Some, None, refl, sym, ◌∙◌, ap, ap₂, subst}
 use Rattle.std.specs.Prelude.{drop}
-use Rattle.ip_wire.specs.IpCidr.{IpCidr}
-use Rattle.ip_wire.specs.Text.{IsEndpointText, IsIpText, IsEthernetText}
+use Rattle.ip_address.specs.declared.ip.IpCidr.{IpCidr}
+use Rattle.ip_address.specs.Text.{IsEndpointText, IsIpText, IsEthernetText}
 use Rattle.ip_address.proofs.OneReading.{IsIpText-unique}
 use Rattle.lan_script.specs.Lines.{IsLine, IsSocket, IsStream, IsDatagram, IsHost, IsLink, Host, Size, Short, Hex, AreQueueSizes, Queues, SaysWords, SaysLine}
 use Rattle.lan_script.specs.Verbs.{verb_of}

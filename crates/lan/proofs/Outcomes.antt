@@ -7,7 +7,7 @@ use Rattle.lan_history.specs.declared.event.Event.{Event}
 use Rattle.lan_script.specs.declared.line.Line.{Line}
 use Rattle.lan_script.specs.declared.line.Line.TheVariants.{World, Socket, Start, Listen, Connect, Send, Recv, Close, Abort, State, Bind, Ident, SendTo}
 use Rattle.lan_script.specs.declared.line.Line.TheVariants.{SendIcmp, SendRaw, RecvFrom, Addrs, Hw, Route, Poll, PollAt, Deliver, Damage, Noise, Room, Cut}
-use Rattle.lan_hosts.specs.Runs.{WorldValue, Step, Steps}
+use Rattle.lan_world.specs.Runs.{WorldValue, Step, Steps}
 use Rattle.lan.specs.declared.end.End.{End}
 use Rattle.lan.specs.declared.end.End.TheVariants.{Refusal}
 use Rattle.lan.specs.declared.session.Session.{Session}

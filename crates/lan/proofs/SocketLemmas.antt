@@ -4,8 +4,8 @@ use Rattle.std.proofs.Common.{ap, ap₂, arith}
 use Rattle.std.specs.Prelude.{◌||◌, ◌&&◌, if◌then◌else◌}
 use Rattle.std.specs.List.{position_or_len}
 use Rattle.std.proofs.lemmas.Bool.Decides.{nat_tests}
-use Rattle.interface_egress.specs.Set.{unmarked, is_free, free_place}
-use Rattle.interface_egress.specs.declared.socket_set.SocketStorage.{SocketStorage}
+use Rattle.lan_world.specs.Set.{unmarked, is_free, free_place}
+use Rattle.lan_theorem.specs.SocketStorage.{SocketStorage}
 use Rattle.lan_history.specs.Kinds.{same_side}
 use Rattle.lan_history.specs.declared.event.Side.{Side}
 use Rattle.lan_script.specs.declared.kinds.SocketSpec.{SocketSpec}

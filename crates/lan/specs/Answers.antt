@@ -1,7 +1,7 @@
 -- What a script writes: the answer of a line, and the frames that were sent.
 use Rattle.std.specs.Prelude.{ℕ, ◌+◌, ℤ, true, false, List, [], ◌∷◌, ◌++◌, codes, Some, None}
 use Rattle.std.specs.Fmt.{decimal, signed_decimal}
-use Rattle.ip_wire.specs.Text.{endpoint_text, ip_text}
+use Rattle.ip_address.specs.Text.{endpoint_text, ip_text}
 use Rattle.lan_history.specs.declared.event.Side.{Side}
 use Rattle.lan_history.specs.declared.event.Side.TheVariants.{A, B}
 use Rattle.lan_history.specs.declared.answer.Answer.{Answer}
@@ -10,7 +10,7 @@ use Rattle.lan_history.specs.declared.answer.Fault.{Fault}
 use Rattle.lan_history.specs.declared.answer.Fault.TheVariants.{InvalidState, Unaddressable, BufferFull, Exhausted, Truncated, Finished, Medium, NotUnicast}
 use Rattle.lan_history.specs.declared.answer.Fault.TheVariants.{RouteTableFull}
 use Rattle.lan_script.specs.Text.{hex_word}
-use Rattle.tcp_control.specs.States.{text_of}
+use Rattle.sockets.specs.TcpStates.{text_of}
 
 abbrev pub side_name : Side → List ℕ
 side_name A = codes "A"

@@ -1,8 +1,8 @@
 -- How a run of a script ends early, and the line that says so.
 use Rattle.std.specs.Prelude.{ℕ, List, ◌++◌, codes, Option, Some, None}
 use Rattle.std.specs.Fmt.{decimal}
-use Rattle.interface_tables.specs.declared.config.NewError.{NewError}
-use Rattle.interface_tables.specs.declared.config.NewError.TheVariants as New
+use Rattle.lan_world.specs.NewError.{NewError}
+use Rattle.lan_world.specs.NewError.TheVariants as New
 use Rattle.lan_history.specs.declared.answer.Refused.{Refused}
 use Rattle.lan_history.specs.declared.answer.Refused.TheVariants.{NoSocket, WrongKind, NoFrame, NotTcp, Place, SameSum, NamesTcpOrUdp, OpenedTwice, PortTaken}
 use Rattle.lan_history.specs.declared.answer.Refused.TheVariants.{TooManyBytes, TooManyCut, RawProtocol, Moment, Memory, NotIpv4, CutPlace}

@@ -4,20 +4,20 @@ use Rattle.std.specs.Prelude.{Some, option_map, ◌≤◌}
 use Rattle.std.proofs.Common.{arith}
 use Rattle.std.specs.List.{list_any}
 use Rattle.std.specs.Net.Addr.{octets_of}
-use Rattle.datagram_sockets.specs.Icmp as icmp
-use Rattle.datagram_sockets.specs.Raw as raw
-use Rattle.datagram_sockets.specs.SocketValue.{fresh}
-use Rattle.datagram_sockets.specs.Udp as udp
-use Rattle.interface.specs.Host.{HostValue}
-use Rattle.interface.specs.Made.{new_host, with_inner}
-use Rattle.interface_egress.specs.Set.{unmarked}
-use Rattle.interface_egress.specs.declared.socket_set.SocketStorage.{SocketStorage}
-use Rattle.interface_tables.specs.Settings.{refusal, with_addresses}
-use Rattle.interface_tables.specs.declared.config.Config.{Config}
-use Rattle.ip_wire.specs.HardwareAddress.{HardwareAddress}
-use Rattle.ip_wire.specs.HardwareAddress.TheVariants as Hardware
-use Rattle.ip_wire.specs.IpCidr.{IpCidr}
-use Rattle.ip_wire.specs.IpCidr.TheVariants as Block
+use Rattle.sockets.specs.Icmp as icmp
+use Rattle.sockets.specs.Raw as raw
+use Rattle.sockets.specs.SocketValue.{fresh}
+use Rattle.sockets.specs.Udp as udp
+use Rattle.lan_world.specs.Host.{HostValue}
+use Rattle.lan_world.specs.Made.{new_host, with_inner}
+use Rattle.lan_world.specs.Set.{unmarked}
+use Rattle.lan_theorem.specs.SocketStorage.{SocketStorage}
+use Rattle.lan_theorem.specs.Settings.{refusal, with_addresses}
+use Rattle.lan_world.specs.Config.{Config}
+use Rattle.ip_address.specs.declared.hardware.HardwareAddress.{HardwareAddress}
+use Rattle.ip_address.specs.declared.hardware.HardwareAddress.TheVariants as Hardware
+use Rattle.ip_address.specs.declared.ip.IpCidr.{IpCidr}
+use Rattle.ip_address.specs.declared.ip.IpCidr.TheVariants as Block
 use Rattle.ip_address.specs.Protocol.{protocol_of}
 use Rattle.lan_history.specs.Kinds.{same_side}
 use Rattle.lan_history.specs.declared.event.Side.{Side}
@@ -26,8 +26,8 @@ use Rattle.lan_port.specs.Port.{unused_end}
 use Rattle.lan_script.specs.declared.kinds.QueueSizes.{QueueSizes}
 use Rattle.lan_script.specs.declared.kinds.SocketSpec.{SocketSpec}
 use Rattle.lan_script.specs.declared.kinds.SocketSpec.TheVariants as Asks
-use Rattle.lan_hosts.specs.Runs.{WorldValue}
-use Rattle.lan_hosts.specs.Station.{StationValue}
+use Rattle.lan_world.specs.Runs.{WorldValue}
+use Rattle.lan_theorem.specs.Station.{StationValue}
 use Rattle.lan_world.specs.Come.{both, starts_of}
 use Rattle.lan_world.specs.New.{new_error}
 use Rattle.lan_world.specs.declared.error.WorldError.TheVariants as Since
@@ -40,7 +40,7 @@ use Rattle.net_base.specs.Packets.{Packets, packets_in}
 use Rattle.net_base.specs.Ring.{ring}
 use Rattle.sockets.specs.declared.socket.Socket.{Socket}
 use Rattle.sockets.specs.declared.socket.Socket.TheVariants as Is
-use Rattle.tcp_model.specs.Value.{new_socket}
+use Rattle.lan_history.specs.Value.{new_socket}
 use Rattle.lan.specs.Ends.{interface_end, world_end}
 use Rattle.lan.specs.declared.end.End.{End}
 use Rattle.lan.specs.declared.end.End.TheVariants.{World}

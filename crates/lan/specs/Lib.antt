@@ -19,10 +19,10 @@ pub use Rattle.lan_history.specs.declared.event.Event
 pub use Rattle.lan_history.specs.declared.event.Side
 pub use Rattle.lan_history.specs.declared.event.TcpSetting
 pub use Rattle.lan_port.specs.Port
-pub use Rattle.lan_hosts.specs.Refusals
-pub use Rattle.lan_hosts.specs.Runs
-pub use Rattle.lan_hosts.specs.Station
-pub use Rattle.lan_hosts.specs.Steps
+pub use Rattle.lan_theorem.specs.Refusals
+pub use Rattle.lan_world.specs.Runs
+pub use Rattle.lan_theorem.specs.Station
+pub use Rattle.lan_world.specs.Steps
 pub use Rattle.lan_world.specs.Damage
 pub use Rattle.lan_world.specs.HostRuns
 pub use Rattle.lan_world.specs.Quiet

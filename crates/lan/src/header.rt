@@ -12,7 +12,7 @@ ghost use Rattle.lan.specs.Hosts.{no_interface, no_sockets, no_world, no_start};
 use crate::end::End;
 use crate::own_sockets::own_sockets_of;
 use arrayvec::ArrayVec;
-use ip_wire::{EthernetAddress, HardwareAddress, IpAddress, IpCidr};
+use ip_address::{EthernetAddress, HardwareAddress, IpAddress, IpCidr};
 use lan_history::Side;
 use lan_port::Port;
 use lan_script::SocketSpec;

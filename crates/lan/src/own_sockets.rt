@@ -11,7 +11,7 @@ ghost use Rattle.lan_history.specs.Value.{new_socket};
 ghost use Rattle.lan.specs.Hosts.{queue, received, queued, socket_of, with_sockets, is_large, has_large};
 
 use crate::end::End;
-use ip_wire::IpProtocol;
+use ip_address::IpProtocol;
 use lan_history::{Refused, Side};
 use lan_script::{QueueSizes, SocketSpec, StreamSizes};
 use lan_world::{SocketSet, WorldError};

@@ -1,8 +1,8 @@
 -- The run of a host that connects to one of two listeners is a run.
 use Rattle.std.proofs.Common.{◌≡◌, true, false, Some, None, refl, ap, ◌∙◌}
-use Rattle.lan_history.specs.declared.event.Side.TheVariants.{A}
-use Rattle.lan_history.specs.declared.record.Opening.{Opening}
-use Rattle.lan_history.specs.Partners.{ArePartners, are_paired}
+use Rattle.lan_packets.specs.Side.TheVariants.{A}
+use Rattle.lan_packets.specs.Opening.{Opening}
+use Rattle.lan_packets.specs.Partners.{ArePartners, are_paired}
 use Rattle.lan_packets.specs.Moves.{IsRun, run}
 use Rattle.lan_packets.specs.Parties.Socket.{Tcp}
 use Rattle.lan_packets.specs.Safe.{IsFreshNet}

@@ -2,13 +2,13 @@
 use Rattle.std.proofs.Common.{◌≡◌, inl, inr, ℕ, ◌+◌, true, false, List, [], ◌∷◌, ◌++◌, length, get_or, length-append, Some, None, refl, sym, ap, ◌∙◌, subst}
 use Rattle.std.proofs.Common.{arith}
 use Rattle.std.specs.Prelude.{◌==◌, ◌||◌, Bool, if◌then◌else◌}
-use Rattle.lan_history.specs.declared.event.Side.{Side}
-use Rattle.lan_history.specs.declared.event.Side.TheVariants.{A, B}
-use Rattle.lan_history.specs.declared.answer.Answer.TheVariants as To
-use Rattle.lan_history.specs.Call as Call
-use Rattle.lan_history.specs.History.{Entry, closes, is_closed_by, bound_port}
-use Rattle.lan_history.specs.Partners.{ArePartners}
-use Rattle.lan_history.specs.Reads.{Accepts, Accepted}
+use Rattle.lan_packets.specs.Side.{Side}
+use Rattle.lan_packets.specs.Side.TheVariants.{A, B}
+use Rattle.lan_packets.specs.Answer.TheVariants as To
+use Rattle.lan_packets.specs.Call as Call
+use Rattle.lan_packets.specs.History.{Entry, closes, is_closed_by, bound_port}
+use Rattle.lan_packets.specs.Partners.{ArePartners}
+use Rattle.lan_packets.specs.Reads.{Accepts, Accepted}
 use Rattle.lan_examples.specs.Hosts.{endpoint, text, unbound}
 use Rattle.lan_examples.specs.Streams.{fresh}
 use Rattle.lan_examples.specs.Excluded.{Cannot, had, listened, spoken, lonely, ended, waits, queues, with_sockets, bound, and_sent, and_read, only}

@@ -1,8 +1,8 @@
 -- The run of a socket that is refused is a run.
 use Rattle.std.proofs.Common.{ℕ, refl}
 use Rattle.std.proofs.lemmas.Option.{none-some}
-use Rattle.lan_history.specs.declared.event.Side.TheVariants.{A}
-use Rattle.lan_history.specs.Partners.{ArePartners}
+use Rattle.lan_packets.specs.Side.TheVariants.{A}
+use Rattle.lan_packets.specs.Partners.{ArePartners}
 use Rattle.lan_packets.specs.Moves.{IsRun, run}
 use Rattle.lan_packets.specs.Parties.Socket.{Tcp}
 use Rattle.lan_packets.specs.Safe.{IsFreshNet}

@@ -1,6 +1,6 @@
 -- What two hosts do one after the other is a run, where each piece of it is.
 use Rattle.std.proofs.Common.{◌≡◌, ℕ, Bool, List, [], ◌∷◌, ◌++◌, refl, sym, ap, ◌∙◌, subst}
-use Rattle.lan_history.specs.declared.event.Side.TheVariants.{A, B}
+use Rattle.lan_packets.specs.Side.TheVariants.{A, B}
 use Rattle.lan_packets.specs.Moves.{Step, after, IsRun, run}
 use Rattle.lan_packets.specs.Parties.{Net}
 use Rattle.lan_packets.proofs.Extended.{IsRun-append}

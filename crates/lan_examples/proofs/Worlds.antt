@@ -8,8 +8,8 @@ use Rattle.ip_wire.specs.TcpControl.TheVariants as Bits
 use Rattle.ip_wire.specs.TcpHeader.{TcpHeader}
 use Rattle.ip_wire.specs.TcpOptions.{TcpOptions}
 use Rattle.net_base.specs.Ring.{ring}
-use Rattle.tcp_tie.specs.Host.{Made, made_of}
-use Rattle.tcp_law.specs.ReceiveMap.{space}
+use Rattle.lan_packets.specs.Host.{Made, made_of}
+use Rattle.lan_packets.specs.ReceiveMap.{space}
 use Rattle.tcp_model.specs.AddressPair.TheVariants as Pair
 use Rattle.tcp_model.specs.Blocks.{default_settings, fresh_timers}
 use Rattle.tcp_model.specs.declared.block.Block.{Block}
@@ -17,14 +17,14 @@ use Rattle.tcp_model.specs.declared.block.Names.{Names}
 use Rattle.tcp_model.specs.State.{State}
 use Rattle.tcp_model.specs.State.TheVariants as In
 use Rattle.tcp_model.specs.Value.{TcpValue, received_of}
-use Rattle.lan_history.specs.declared.answer.Answer.{Answer}
-use Rattle.lan_history.specs.declared.answer.Answer.TheVariants as To
-use Rattle.lan_history.specs.declared.answer.Fault.TheVariants as Fault
-use Rattle.lan_history.specs.declared.event.Side.{Side}
-use Rattle.lan_history.specs.declared.event.Side.TheVariants.{A, B}
-use Rattle.lan_history.specs.Call as Call
-use Rattle.lan_history.specs.Call.{SocketCall}
-use Rattle.lan_history.specs.History.{Entry}
+use Rattle.lan_packets.specs.Answer.{Answer}
+use Rattle.lan_packets.specs.Answer.TheVariants as To
+use Rattle.lan_packets.specs.Fault.TheVariants as Fault
+use Rattle.lan_packets.specs.Side.{Side}
+use Rattle.lan_packets.specs.Side.TheVariants.{A, B}
+use Rattle.lan_packets.specs.Call as Call
+use Rattle.lan_packets.specs.Call.{SocketCall}
+use Rattle.lan_packets.specs.History.{Entry}
 use Rattle.lan_packets.specs.Calls.{did, at_port}
 use Rattle.lan_packets.specs.Parties.{Party}
 use Rattle.lan_packets.specs.Parties.Socket.{Tcp}

@@ -1,7 +1,7 @@
 -- A whole connection: behind its opening A writes abc, which comes twice and is read once; then A closes, and B after it.
 use Rattle.std.specs.Prelude.{List, [], ◌∷◌, ◌++◌}
-use Rattle.lan_history.specs.declared.event.Side.TheVariants.{A, B}
-use Rattle.lan_history.specs.Call.SocketCall.{Send, Recv, Close}
+use Rattle.lan_packets.specs.Side.TheVariants.{A, B}
+use Rattle.lan_packets.specs.Call.SocketCall.{Send, Recv, Close}
 use Rattle.lan_examples.specs.Hosts.{text}
 use Rattle.lan_examples.specs.Opening.{opening, opened}
 use Rattle.lan_examples.specs.Played.{Doing, Play, played}

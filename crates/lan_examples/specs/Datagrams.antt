@@ -2,16 +2,16 @@
 use Rattle.std.specs.Prelude.{ℕ, true, false, List, [], ◌∷◌, Option, Some, None}
 use Rattle.ip_wire.specs.IpProtocol.TheVariants as Protocol
 use Rattle.ip_wire.specs.IpRepr.{IpRepr}
-use Rattle.net_containers.specs.Packets.{packets_in}
+use Rattle.datagram_sockets.specs.Packets.{packets_in}
 use Rattle.datagram_sockets.specs.Offers.{left_with}
 use Rattle.datagram_sockets.specs.Udp as Udps
 use Rattle.datagram_sockets.specs.Udp.{UdpValue, metadata_to}
-use Rattle.socket_base.specs.declared.offer.Offer.TheVariants as Offer
-use Rattle.lan_history.specs.declared.answer.Answer.TheVariants as To
-use Rattle.lan_history.specs.declared.event.Side.{Side}
-use Rattle.lan_history.specs.declared.event.Side.TheVariants.{A, B}
-use Rattle.lan_history.specs.Call as Call
-use Rattle.lan_history.specs.Call.{SocketCall}
+use Rattle.tcp_model.specs.Offer.TheVariants as Offer
+use Rattle.lan_packets.specs.Answer.TheVariants as To
+use Rattle.lan_packets.specs.Side.{Side}
+use Rattle.lan_packets.specs.Side.TheVariants.{A, B}
+use Rattle.lan_packets.specs.Call as Call
+use Rattle.lan_packets.specs.Call.{SocketCall}
 use Rattle.lan_packets.specs.Calls.{Did, did, udp_does}
 use Rattle.lan_packets.specs.Parties.{Net}
 use Rattle.lan_packets.specs.Parties.Socket.{Udp}

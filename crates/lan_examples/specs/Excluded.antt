@@ -2,14 +2,14 @@
 use Rattle.std.specs.Prelude.{ℕ, List, [], ◌∷◌, Some, None}
 use Rattle.net_base.specs.Ring.{ring}
 use Rattle.tcp_model.specs.Value.{TcpValue}
-use Rattle.lan_history.specs.declared.answer.Answer.{Answer}
-use Rattle.lan_history.specs.declared.answer.Answer.TheVariants as To
-use Rattle.lan_history.specs.declared.answer.Fault.TheVariants as Fault
-use Rattle.lan_history.specs.declared.event.Side.{Side}
-use Rattle.lan_history.specs.declared.event.Side.TheVariants.{A, B}
-use Rattle.lan_history.specs.Call as Call
-use Rattle.lan_history.specs.Call.{SocketCall}
-use Rattle.lan_history.specs.History.{Entry}
+use Rattle.lan_packets.specs.Answer.{Answer}
+use Rattle.lan_packets.specs.Answer.TheVariants as To
+use Rattle.lan_packets.specs.Fault.TheVariants as Fault
+use Rattle.lan_packets.specs.Side.{Side}
+use Rattle.lan_packets.specs.Side.TheVariants.{A, B}
+use Rattle.lan_packets.specs.Call as Call
+use Rattle.lan_packets.specs.Call.{SocketCall}
+use Rattle.lan_packets.specs.History.{Entry}
 use Rattle.lan_packets.specs.Parties.{Net}
 use Rattle.lan_packets.specs.Parties.Socket.{Tcp}
 use Rattle.lan_packets.specs.Safe.{IsSafe}

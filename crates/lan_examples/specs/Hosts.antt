@@ -8,17 +8,17 @@ use Rattle.ip_wire.specs.IpRepr.{IpRepr}
 use Rattle.ip_wire.specs.IpRepr.TheVariants as Ip
 use Rattle.net_base.specs.Capabilities.{all_checksums}
 use Rattle.net_base.specs.Checksum.TheVariants as Checksum
-use Rattle.socket_base.specs.Context.{ContextValue}
-use Rattle.lan_history.specs.declared.answer.Answer.{Answer}
-use Rattle.lan_history.specs.declared.answer.Answer.TheVariants as To
-use Rattle.lan_history.specs.declared.event.Event.{Event}
-use Rattle.lan_history.specs.declared.event.Event.TheVariants as E
-use Rattle.lan_history.specs.declared.event.Side.{Side}
-use Rattle.lan_history.specs.declared.event.Side.TheVariants.{A, B}
-use Rattle.lan_history.specs.Call as Call
-use Rattle.lan_history.specs.Call.{SocketCall}
-use Rattle.lan_history.specs.Kinds.{other}
-use Rattle.lan_history.specs.History.{Entry}
+use Rattle.tcp_model.specs.Context.{ContextValue}
+use Rattle.lan_packets.specs.Answer.{Answer}
+use Rattle.lan_packets.specs.Answer.TheVariants as To
+use Rattle.lan_packets.specs.Event.{Event}
+use Rattle.lan_packets.specs.Event.TheVariants as E
+use Rattle.lan_packets.specs.Side.{Side}
+use Rattle.lan_packets.specs.Side.TheVariants.{A, B}
+use Rattle.lan_packets.specs.Call as Call
+use Rattle.lan_packets.specs.Call.{SocketCall}
+use Rattle.lan_packets.specs.Kinds.{other}
+use Rattle.lan_packets.specs.History.{Entry}
 use Rattle.lan_packets.specs.Calls.{Did}
 use Rattle.lan_packets.specs.Parties.{Socket, Party, Net}
 

@@ -1,9 +1,9 @@
 -- A socket that connects where nobody listens, and is refused.
 use Rattle.std.specs.Prelude.{List, [], ◌∷◌, Some}
 use Rattle.tcp_model.specs.Value.{TcpValue}
-use Rattle.lan_history.specs.declared.event.Side.TheVariants.{A, B}
-use Rattle.lan_history.specs.Call as Call
-use Rattle.lan_history.specs.Call.{SocketCall}
+use Rattle.lan_packets.specs.Side.TheVariants.{A, B}
+use Rattle.lan_packets.specs.Call as Call
+use Rattle.lan_packets.specs.Call.{SocketCall}
 use Rattle.lan_packets.specs.Parties.{Net}
 use Rattle.lan_packets.specs.Parties.Socket.{Tcp}
 use Rattle.lan_packets.specs.Moves.{Step}

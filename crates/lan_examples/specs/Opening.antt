@@ -1,7 +1,7 @@
 -- B listens, and A connects: three segments open the connection.
 use Rattle.std.specs.Prelude.{List, [], ◌∷◌}
-use Rattle.lan_history.specs.declared.event.Side.TheVariants.{A, B}
-use Rattle.lan_history.specs.Call.SocketCall.{Listen, Connect}
+use Rattle.lan_packets.specs.Side.TheVariants.{A, B}
+use Rattle.lan_packets.specs.Call.SocketCall.{Listen, Connect}
 use Rattle.lan_examples.specs.Hosts.{endpoint}
 use Rattle.lan_examples.specs.Played.{Doing, Play, start, played}
 use Rattle.lan_examples.specs.Played.Doing.{Calls, Asks, Comes}

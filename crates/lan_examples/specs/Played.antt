@@ -1,9 +1,9 @@
 -- Two hosts with a TCP socket each, by what their applications and the network do one after the other.
 use Rattle.std.specs.Prelude.{ℕ, List, [], ◌∷◌, ◌++◌, slice_index_or, Some, None}
-use Rattle.lan_history.specs.declared.event.Side.{Side}
-use Rattle.lan_history.specs.declared.event.Side.TheVariants.{A, B}
-use Rattle.lan_history.specs.Call.{SocketCall}
-use Rattle.lan_history.specs.Kinds.{other}
+use Rattle.lan_packets.specs.Side.{Side}
+use Rattle.lan_packets.specs.Side.TheVariants.{A, B}
+use Rattle.lan_packets.specs.Call.{SocketCall}
+use Rattle.lan_packets.specs.Kinds.{other}
 use Rattle.lan_packets.specs.Parties.{Net}
 use Rattle.lan_packets.specs.Parties.Socket.{Tcp}
 use Rattle.lan_packets.specs.Moves.{Step, after}

@@ -6,16 +6,16 @@ use Rattle.ip_wire.specs.SeqNumber.{SeqNumber}
 use Rattle.ip_wire.specs.TcpControl.TheVariants as Bits
 use Rattle.ip_wire.specs.TcpHeader.{TcpHeader}
 use Rattle.net_base.specs.Ring.{ring}
-use Rattle.socket_base.specs.Packet.{PacketValue, PayloadValue}
-use Rattle.socket_base.specs.Packet as Carried
-use Rattle.tcp_tie.specs.Host.{made_of}
+use Rattle.datagram_sockets.specs.Packet.{PacketValue, PayloadValue}
+use Rattle.datagram_sockets.specs.Packet as Carried
+use Rattle.lan_packets.specs.Host.{made_of}
 use Rattle.tcp_model.specs.Arrival.{arrives}
 use Rattle.tcp_model.specs.Offers.{offer_of, offered_packet}
 use Rattle.tcp_model.specs.Settled.{settled}
 use Rattle.tcp_model.specs.Value.{TcpValue, new_socket}
-use Rattle.lan_history.specs.declared.answer.Answer.TheVariants as To
-use Rattle.lan_history.specs.declared.event.Side.{Side}
-use Rattle.lan_history.specs.Call.{SocketCall}
+use Rattle.lan_packets.specs.Answer.TheVariants as To
+use Rattle.lan_packets.specs.Side.{Side}
+use Rattle.lan_packets.specs.Call.{SocketCall}
 use Rattle.lan_packets.specs.Calls.{Did, did, tcp_does}
 use Rattle.lan_packets.specs.Parties.{Socket, socket_at, Net, party}
 use Rattle.lan_packets.specs.Parties.Socket.{Tcp}

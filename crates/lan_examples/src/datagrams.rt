@@ -1,8 +1,8 @@
 //! A datagram between bound ports.
 ghost use Rattle.std.specs.Prelude.{◌≡◌};
-ghost use Rattle.lan_history.specs.declared.answer.Answer.TheVariants as To;
-ghost use Rattle.lan_history.specs.declared.event.Side.TheVariants.{A, B};
-ghost use Rattle.lan_history.specs.Reads.{ReadsWereAccepted};
+ghost use Rattle.lan_packets.specs.Answer.TheVariants as To;
+ghost use Rattle.lan_packets.specs.Side.TheVariants.{A, B};
+ghost use Rattle.lan_packets.specs.Reads.{ReadsWereAccepted};
 ghost use Rattle.lan_packets.specs.Moves.{IsRun, run};
 ghost use Rattle.lan_packets.specs.Safe.{IsFreshNet};
 ghost use Rattle.lan_examples.specs.Datagrams.{hosts, steps};

@@ -1,9 +1,9 @@
 //! Connections.
 ghost use Rattle.std.specs.Prelude.{◌≡◌, ℕ};
-ghost use Rattle.lan_history.specs.declared.answer.Answer.TheVariants as To;
-ghost use Rattle.lan_history.specs.declared.answer.Fault.TheVariants as Fault;
-ghost use Rattle.lan_history.specs.declared.event.Side.TheVariants.{A, B};
-ghost use Rattle.lan_history.specs.Partners.{ArePartners};
+ghost use Rattle.lan_packets.specs.Answer.TheVariants as To;
+ghost use Rattle.lan_packets.specs.Fault.TheVariants as Fault;
+ghost use Rattle.lan_packets.specs.Side.TheVariants.{A, B};
+ghost use Rattle.lan_packets.specs.Partners.{ArePartners};
 ghost use Rattle.tcp_model.specs.State.TheVariants as In;
 ghost use Rattle.lan_packets.specs.Moves.{IsRun, run};
 ghost use Rattle.lan_packets.specs.Safe.{IsFreshNet};

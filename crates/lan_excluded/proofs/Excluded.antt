@@ -3,26 +3,26 @@ use Rattle.std.proofs.Common.{◌≡◌, ◌≢◌, ℕ, ◌<◌, ◌≤◌, ℤ
 use Rattle.std.proofs.Common.{◌∙◌, ap, subst, arith}
 use Rattle.std.specs.Prelude.{slice_get, ◌≤ℤ◌, ◌<ℤ◌}
 use Rattle.std.proofs.lemmas.Int.{ints}
-use Rattle.ip_wire.specs.Ipv4.{key_of}
-use Rattle.ip_wire.specs.Ipv4Repr.{Ipv4Repr}
-use Rattle.interface_egress.specs.declared.frame.Question.{Question}
-use Rattle.interface_ingress.specs.Arrives.{Arrived, ReplyValue}
-use Rattle.interface_ingress.specs.Delivered.{Places}
-use Rattle.interface_ingress.specs.Kept.{with_ports}
-use Rattle.interface_ingress.specs.Reassembled.{Slots}
-use Rattle.interface_tables.specs.Inner.{InnerValue}
-use Rattle.interface_tables.specs.declared.route.Route.{Route}
-use Rattle.interface.specs.Touches.{second_after}
-use Rattle.lan_history.specs.History.{Entry, Counts}
-use Rattle.lan_history.specs.Kinds.{other, Kind, Act, Delivered, Damaged, kind_of}
-use Rattle.lan_history.specs.Kinds.Act.{Opens, Asks}
-use Rattle.lan_history.specs.Kinds.Kind.{OfHost, OfLink}
-use Rattle.lan_history.specs.Kinds.LinkAct.{Hands}
-use Rattle.lan_history.specs.declared.answer.Answer.{Answer}
-use Rattle.lan_history.specs.declared.answer.Answer.TheVariants as To
-use Rattle.lan_history.specs.declared.answer.Refused.TheVariants as For
-use Rattle.lan_history.specs.declared.event.Side.{Side}
-use Rattle.lan_history.specs.declared.event.Side.TheVariants.{A}
+use Rattle.lan_theorem.specs.Ipv4.{key_of}
+use Rattle.lan_theorem.specs.Ipv4Repr.{Ipv4Repr}
+use Rattle.lan_theorem.specs.Question.{Question}
+use Rattle.lan_hosts.specs.Arrives.{Arrived, ReplyValue}
+use Rattle.lan_hosts.specs.Delivered.{Places}
+use Rattle.lan_theorem.specs.Kept.{with_ports}
+use Rattle.lan_hosts.specs.Reassembled.{Slots}
+use Rattle.lan_hosts.specs.Inner.{InnerValue}
+use Rattle.lan_theorem.specs.Route.{Route}
+use Rattle.lan_theorem.specs.Touches.{second_after}
+use Rattle.lan_hosts.specs.History.{Entry, Counts}
+use Rattle.lan_hosts.specs.Kinds.{other, Kind, Act, Delivered, Damaged, kind_of}
+use Rattle.lan_hosts.specs.Kinds.Act.{Opens, Asks}
+use Rattle.lan_hosts.specs.Kinds.Kind.{OfHost, OfLink}
+use Rattle.lan_hosts.specs.Kinds.LinkAct.{Hands}
+use Rattle.lan_hosts.specs.Answer.{Answer}
+use Rattle.lan_hosts.specs.Answer.TheVariants as To
+use Rattle.lan_hosts.specs.Refused.TheVariants as For
+use Rattle.lan_hosts.specs.Side.{Side}
+use Rattle.lan_hosts.specs.Side.TheVariants.{A}
 use Rattle.lan_hosts.specs.Origins.{medium_of, frame_of_origin, is_cut_of, own_frames}
 use Rattle.lan_hosts.specs.Refusals.{is_no_frame, refusal}
 use Rattle.lan_hosts.specs.Runs.{Starts, WorldValue, WorldRun, unused, unused_both, counts_of, tables_in}

@@ -3,22 +3,22 @@ use Rattle.std.specs.Prelude.{◌≡◌, ◌≢◌, ℕ, ℤ, pos, true, List, [
 use Rattle.net_base.specs.Capabilities.{all_checksums}
 use Rattle.net_base.specs.Checksum.TheVariants.{Both}
 use Rattle.net_base.specs.Medium.{Medium}
-use Rattle.ip_wire.specs.Ipv4FragKey.{Ipv4FragKey}
-use Rattle.interface_egress.specs.Departure.{Asks}
-use Rattle.interface_egress.specs.declared.frame.Question.{Question}
-use Rattle.interface_ingress.specs.Arrives.{Arrived, Arrives}
-use Rattle.interface_ingress.specs.Delivered.{Places}
-use Rattle.interface_ingress.specs.Reassembled.{Slots}
-use Rattle.interface_tables.specs.Inner.{InnerValue}
-use Rattle.interface_tables.specs.Settings.{is_of_medium}
-use Rattle.lan_history.specs.History.{Entry, Counts}
-use Rattle.lan_history.specs.Kinds.{Delivered, Damaged, kind_of}
-use Rattle.lan_history.specs.Kinds.Act.{Opens, Polls, Asks as AsksWhen}
-use Rattle.lan_history.specs.Kinds.Kind.{OfHost, OfLink}
-use Rattle.lan_history.specs.Kinds.LinkAct.{Hands}
-use Rattle.lan_history.specs.declared.answer.Answer.TheVariants as To
-use Rattle.lan_history.specs.declared.event.Event.TheVariants as E
-use Rattle.lan_history.specs.declared.event.Side.TheVariants.{A}
+use Rattle.lan_theorem.specs.Ipv4FragKey.{Ipv4FragKey}
+use Rattle.lan_hosts.specs.Departure.{Asks}
+use Rattle.lan_theorem.specs.Question.{Question}
+use Rattle.lan_hosts.specs.Arrives.{Arrived, Arrives}
+use Rattle.lan_hosts.specs.Delivered.{Places}
+use Rattle.lan_hosts.specs.Reassembled.{Slots}
+use Rattle.lan_hosts.specs.Inner.{InnerValue}
+use Rattle.lan_theorem.specs.Settings.{is_of_medium}
+use Rattle.lan_hosts.specs.History.{Entry, Counts}
+use Rattle.lan_hosts.specs.Kinds.{Delivered, Damaged, kind_of}
+use Rattle.lan_hosts.specs.Kinds.Act.{Opens, Polls, Asks as AsksWhen}
+use Rattle.lan_hosts.specs.Kinds.Kind.{OfHost, OfLink}
+use Rattle.lan_hosts.specs.Kinds.LinkAct.{Hands}
+use Rattle.lan_hosts.specs.Answer.TheVariants as To
+use Rattle.lan_hosts.specs.Event.TheVariants as E
+use Rattle.lan_hosts.specs.Side.TheVariants.{A}
 use Rattle.lan_hosts.specs.Origins.{medium_of, frame_of_origin}
 use Rattle.lan_hosts.specs.Runs.{Starts, WorldValue}
 use Rattle.lan_hosts.specs.Station.{Stations}

@@ -3,19 +3,19 @@
 #![tactic(auto)]
 
 ghost use Rattle.std.specs.Prelude.{◌≡◌, ◌≢◌, ◌≤◌, ℕ, ℤ, pos, List, [], ◌∷◌, length, slice_get, Some, None};
-ghost use Rattle.ip_wire.specs.Ipv4.{key_of};
-ghost use Rattle.ip_wire.specs.Ipv4Repr.{Ipv4Repr};
-ghost use Rattle.interface_egress.specs.declared.frame.Question.{Question};
-ghost use Rattle.interface_ingress.specs.Arrives.{Arrived, ReplyValue};
-ghost use Rattle.interface_ingress.specs.Delivered.{Places};
-ghost use Rattle.interface_ingress.specs.Kept.{with_ports};
-ghost use Rattle.interface_ingress.specs.Reassembled.{Slots};
-ghost use Rattle.interface_tables.specs.Inner.{InnerValue};
-ghost use Rattle.lan_history.specs.History.{Entry};
-ghost use Rattle.lan_history.specs.Kinds.{other};
-ghost use Rattle.lan_history.specs.declared.answer.Answer.TheVariants as To;
-ghost use Rattle.lan_history.specs.declared.event.Side.{Side};
-ghost use Rattle.lan_history.specs.declared.event.Side.TheVariants.{A};
+ghost use Rattle.lan_theorem.specs.Ipv4.{key_of};
+ghost use Rattle.lan_theorem.specs.Ipv4Repr.{Ipv4Repr};
+ghost use Rattle.lan_theorem.specs.Question.{Question};
+ghost use Rattle.lan_hosts.specs.Arrives.{Arrived, ReplyValue};
+ghost use Rattle.lan_hosts.specs.Delivered.{Places};
+ghost use Rattle.lan_theorem.specs.Kept.{with_ports};
+ghost use Rattle.lan_hosts.specs.Reassembled.{Slots};
+ghost use Rattle.lan_hosts.specs.Inner.{InnerValue};
+ghost use Rattle.lan_hosts.specs.History.{Entry};
+ghost use Rattle.lan_hosts.specs.Kinds.{other};
+ghost use Rattle.lan_hosts.specs.Answer.TheVariants as To;
+ghost use Rattle.lan_hosts.specs.Side.{Side};
+ghost use Rattle.lan_hosts.specs.Side.TheVariants.{A};
 ghost use Rattle.lan_hosts.specs.Origins.{medium_of};
 ghost use Rattle.lan_hosts.specs.Runs.{Starts, WorldValue, WorldRun, unused_both};
 ghost use Rattle.lan_hosts.specs.Station.{Stations, station};

@@ -2,3 +2,9 @@ pub mod Carried
 pub mod Parts
 pub mod Cuts
 pub mod Slices
+pub use Rattle.net_devices.specs.Capabilities
+pub use Rattle.net_devices.specs.declared.capabilities.Checksum
+pub use Rattle.net_devices.specs.declared.capabilities.ChecksumCapabilities
+pub use Rattle.net_devices.specs.Device
+pub use Rattle.net_devices.specs.declared.capabilities.DeviceCapabilities
+pub use Rattle.net_devices.specs.declared.capabilities.Medium

@@ -3,7 +3,7 @@ use Rattle.std.proofs.Common.{◌≡◌, ◌<◌, ◌≤◌, ◌+◌, ◌^◌, �
 use Rattle.std.specs.Prelude.{◌||◌, ◌%◌, ◌==◌, not, nat_lt, int_lt, if◌then◌else◌}
 use Rattle.std.proofs.lemmas.Bool.Decides.{nat_tests}
 use Rattle.net_base.specs.Time.{IsMoment}
-use Rattle.interface_tables.specs.Settings.{is_moment}
+use Rattle.interface.specs.Settings.{is_moment}
 use Rattle.lan_frames.specs.Carried.{names_tcp_or_udp}
 use Rattle.lan_frames.specs.Cuts.{ipv4_part}
 use Rattle.lan_frames.specs.Parts.{tcp_part}

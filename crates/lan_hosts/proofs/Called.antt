@@ -3,10 +3,10 @@ use Rattle.std.proofs.Common.{◌≡◌, ℕ, true, List, Option, None, Some, re
 use Rattle.std.specs.Prelude.{slice_get, slice_set}
 use Rattle.std.proofs.lemmas.List.{set-get_or}
 use Rattle.std.proofs.lemmas.Option.{get_or_from_slice_get}
-use Rattle.socket_base.specs.Context.{ContextValue}
+use Rattle.sockets.specs.Context.{ContextValue}
 use Rattle.lan_port.specs.Port.{LinkEnd}
 use Rattle.interface.specs.Host.{HostValue}
-use Rattle.interface_tables.specs.Inner.{context_of}
+use Rattle.interface_egress.specs.Inner.{context_of}
 use Rattle.interface_egress.specs.Set.{with_socket, socket_in, socket_of}
 use Rattle.interface_egress.specs.declared.socket_set.Item.{Item}
 use Rattle.interface_egress.specs.declared.socket_set.SocketStorage.{SocketStorage}

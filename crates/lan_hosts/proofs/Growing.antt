@@ -12,7 +12,7 @@ use Rattle.net_base.specs.DeviceCapabilities.{DeviceCapabilities}
 use Rattle.net_base.specs.Medium.{Medium}
 use Rattle.ip_wire.specs.HardwareAddress.{HardwareAddress}
 use Rattle.sockets.specs.declared.socket.Socket.{Socket}
-use Rattle.interface_tables.specs.Inner.{context_of}
+use Rattle.interface_egress.specs.Inner.{context_of}
 use Rattle.interface_egress.specs.declared.socket_set.Item.{Item}
 use Rattle.interface_egress.specs.declared.socket_set.SocketStorage.{SocketStorage}
 use Rattle.interface_egress.specs.Set.{with_socket}

@@ -3,22 +3,22 @@ use Rattle.std.proofs.Common.{◌≡◌, ℕ, ◌+◌, ◌-◌, ◌*◌, ◌≤�
 use Rattle.std.proofs.Common.{subst, arith}
 use Rattle.std.specs.Prelude.{nat_le, if◌then◌else◌}
 use Rattle.net_base.specs.Device.{Took, Emitted, Denied}
-use Rattle.socket_base.specs.Context.{ContextValue}
-use Rattle.socket_base.specs.Packet.{PacketValue, IsSendable}
-use Rattle.socket_base.specs.declared.offer.Offer as Answer
-use Rattle.socket_base.specs.declared.offer.Offer.TheVariants as Offer
-use Rattle.datagram_sockets.specs.Udp as Udps
-use Rattle.datagram_sockets.specs.Udp.{UdpValue}
-use Rattle.datagram_sockets.specs.Icmp as Icmps
-use Rattle.datagram_sockets.specs.Icmp.{IcmpValue}
-use Rattle.datagram_sockets.specs.Raw as Raws
-use Rattle.datagram_sockets.specs.Raw.{RawValue}
+use Rattle.sockets.specs.Context.{ContextValue}
+use Rattle.sockets.specs.Packet.{PacketValue, IsSendable}
+use Rattle.sockets.specs.Offer as Answer
+use Rattle.sockets.specs.Offer.TheVariants as Offer
+use Rattle.sockets.specs.Udp as Udps
+use Rattle.sockets.specs.Udp.{UdpValue}
+use Rattle.sockets.specs.Icmp as Icmps
+use Rattle.sockets.specs.Icmp.{IcmpValue}
+use Rattle.sockets.specs.Raw as Raws
+use Rattle.sockets.specs.Raw.{RawValue}
 use Rattle.tcp_model.specs.Offers as TcpOffers
 use Rattle.tcp_socket.proofs.Sendable.{fits_offered}
 use Rattle.sockets.specs.Socket.{Offers, offered_by}
 use Rattle.sockets.specs.declared.socket.Socket.{Socket}
 use Rattle.sockets.specs.declared.socket.Socket.TheVariants as Kind
-use Rattle.interface_tables.specs.Inner.{InnerValue, context_of, at_moment}
+use Rattle.interface_egress.specs.Inner.{InnerValue, context_of, at_moment}
 use Rattle.interface_egress.specs.declared.socket_set.Item.{Item}
 use Rattle.interface_egress.specs.declared.socket_set.SocketStorage.{SocketStorage}
 use Rattle.interface_egress.specs.Departing.{SendsOnce, HasSettingsOf, departure_by, was_taken, link_room}

@@ -1,14 +1,14 @@
 -- A packet that answers a frame has a header with the length of what it carries, and so has one that a socket offers.
 use Rattle.std.proofs.Common.{◌≡◌, ℕ, Bool, true, false, List, length, Option, None, Some, IfSome, refl, sym, subst}
 use Rattle.std.specs.Prelude.{◌||◌, is_some, if◌then◌else◌}
-use Rattle.control_wire.specs.Icmpv4Header.{Icmpv4Header}
-use Rattle.control_wire.specs.Icmpv4Header.TheVariants as V4
-use Rattle.control_wire.specs.Icmpv4DstUnreachable.TheVariants as V4Reason
-use Rattle.control_wire.specs.Icmpv6 as Icmpv6
-use Rattle.control_wire.specs.Icmpv6DstUnreachable.TheVariants as V6Reason
-use Rattle.control_wire.specs.Icmpv6ParamProblem.TheVariants as V6Problem
-use Rattle.control_wire.specs.Icmpv6.{MessageValue}
-use Rattle.control_wire.specs.Ndisc.{NeighborMessage, Solicitation, Advertisement}
+use Rattle.interface_ingress.specs.Icmpv4Header.{Icmpv4Header}
+use Rattle.interface_ingress.specs.Icmpv4Header.TheVariants as V4
+use Rattle.lan_packets.specs.Icmpv4DstUnreachable.TheVariants as V4Reason
+use Rattle.interface_ingress.specs.Icmpv6 as Icmpv6
+use Rattle.lan_packets.specs.Icmpv6DstUnreachable.TheVariants as V6Reason
+use Rattle.lan_packets.specs.Icmpv6ParamProblem.TheVariants as V6Problem
+use Rattle.interface_ingress.specs.Icmpv6.{MessageValue}
+use Rattle.lan_packets.specs.Ndisc.{NeighborMessage, Solicitation, Advertisement}
 use Rattle.ip_wire.specs.Ip.{payload_len_of}
 use Rattle.ip_wire.specs.IpRepr.{IpRepr}
 use Rattle.ip_wire.specs.IpRepr.TheVariants as Ip
@@ -24,8 +24,8 @@ use Rattle.interface_ingress.specs.Arp.{arp_answer}
 use Rattle.ip_wire.specs.HardwareAddress.{HardwareAddress}
 use Rattle.ip_wire.specs.HardwareAddress.TheVariants as Hardware
 use Rattle.ip_wire.specs.TcpHeader.{TcpHeader}
-use Rattle.socket_base.specs.Context.{ContextValue}
-use Rattle.socket_base.specs.Packet.{PacketValue, PayloadValue, ControlV4, ControlV6, Bytes, Datagram, Segment, payload_len, IsSendable}
+use Rattle.sockets.specs.Context.{ContextValue}
+use Rattle.sockets.specs.Packet.{PacketValue, PayloadValue, ControlV4, ControlV6, Bytes, Datagram, Segment, payload_len, IsSendable}
 use Rattle.interface_egress.specs.declared.socket_set.Item.{Item}
 use Rattle.interface_egress.specs.declared.socket_set.SocketStorage.{SocketStorage}
 use Rattle.interface_ingress.specs.Arrives as Replies
@@ -37,11 +37,11 @@ use Rattle.interface_ingress.specs.Heard.{Heard, heard, heard_on, counts, is_ask
 use Rattle.interface_ingress.specs.Incoming.{IncomingValue, Arp, Ip4, Ip6}
 use Rattle.interface_ingress.specs.Replies.{echo_v4, sent_v4, source_of_reply, port_unreachable, protocol_unreachable, reply_v4, reply_v6, error_v6}
 use Rattle.interface_ingress.specs.Replies.{is_between_hosts, quoted_v4, quoted_v6}
-use Rattle.interface_tables.specs.Inner.{InnerValue, context_of}
-use Rattle.interface_tables.specs.Best.{at_place}
+use Rattle.interface_egress.specs.Inner.{InnerValue, context_of}
+use Rattle.interface_ingress.specs.Best.{at_place}
 use Rattle.sockets.specs.declared.socket.Socket.{Socket}
 use Rattle.sockets.specs.declared.socket.Socket.TheVariants as Kind
-use Rattle.tcp_control.specs.declared.offer.Reply.{Reply}
+use Rattle.tcp_model.specs.Reply.{Reply}
 use Rattle.tcp_model.specs.Arrival.{arrives}
 use Rattle.tcp_model.specs.Segments.{rst_reply}
 use Rattle.tcp_socket.specs.Replies.{packet_in}

@@ -3,8 +3,8 @@ use Rattle.std.proofs.Common.{◌≡◌, Bool, List, subst}
 use Rattle.ip_wire.specs.IpAddress.{IpAddress}
 use Rattle.interface.specs.Made.{with_inner}
 use Rattle.interface.specs.Host.{HostValue}
-use Rattle.interface_tables.specs.Settings.{with_routes}
-use Rattle.interface_tables.specs.declared.route.Route.{Route}
+use Rattle.interface.specs.Settings.{with_routes}
+use Rattle.interface.specs.Route.{Route}
 use Rattle.lan_history.specs.Kinds as Sets
 use Rattle.lan_hosts.specs.Sets.{SetsTo, RoutedIf, has_route_room}
 

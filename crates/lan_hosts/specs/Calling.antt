@@ -1,9 +1,9 @@
 -- A call of an application, as an event says it.
 use Rattle.std.specs.Prelude.{◌≡◌, ℕ, Bool, true, false, if◌then◌else◌, List, slice_set, Option, None, Some}
-use Rattle.socket_base.specs.Context.{ContextValue}
+use Rattle.sockets.specs.Context.{ContextValue}
 use Rattle.interface.specs.Host.{HostValue}
 use Rattle.interface.specs.Made.{with_inner}
-use Rattle.interface_tables.specs.Inner.{context_of, drawn}
+use Rattle.interface_egress.specs.Inner.{context_of, drawn}
 use Rattle.interface_egress.specs.Set.{with_socket}
 use Rattle.interface_egress.specs.declared.socket_set.Item.{Item}
 use Rattle.interface_egress.specs.declared.socket_set.SocketStorage.{SocketStorage}

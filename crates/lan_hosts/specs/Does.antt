@@ -2,19 +2,19 @@
 use Rattle.std.specs.Prelude.{◌≡◌, ℕ, nat_lt, if◌then◌else◌, Bool, false, List, length, slice_get, slice_set, Option, None, Some}
 use Rattle.ip_wire.specs.IpAddress.{IpAddress}
 use Rattle.net_base.specs.Packets.{first}
-use Rattle.socket_base.specs.Context.{ContextValue}
-use Rattle.datagram_sockets.specs.SocketValue as Datagrams
-use Rattle.datagram_sockets.specs.Icmp as Icmps
-use Rattle.datagram_sockets.specs.Icmp.{IcmpValue}
-use Rattle.datagram_sockets.specs.Raw as Raws
-use Rattle.datagram_sockets.specs.Raw.{RawValue}
-use Rattle.datagram_sockets.specs.declared.icmp.Endpoint.TheVariants as Bound
-use Rattle.datagram_sockets.specs.declared.raw.SendError as RawErrors
-use Rattle.datagram_sockets.specs.declared.raw.SendError.TheVariants as RawSend
+use Rattle.sockets.specs.Context.{ContextValue}
+use Rattle.sockets.specs.SocketValue as Datagrams
+use Rattle.sockets.specs.Icmp as Icmps
+use Rattle.sockets.specs.Icmp.{IcmpValue}
+use Rattle.sockets.specs.Raw as Raws
+use Rattle.sockets.specs.Raw.{RawValue}
+use Rattle.sockets.specs.Endpoint.TheVariants as Bound
+use Rattle.sockets.specs.RawSendError as RawErrors
+use Rattle.sockets.specs.RawSendError.TheVariants as RawSend
 use Rattle.tcp_model.specs.Calls.{connect_draws}
 use Rattle.tcp_model.specs.State as States
 use Rattle.interface.specs.Host.{HostValue}
-use Rattle.interface_tables.specs.Inner.{context_of, drawn}
+use Rattle.interface_egress.specs.Inner.{context_of, drawn}
 use Rattle.interface_egress.specs.Set.{with_socket}
 use Rattle.interface_egress.specs.declared.socket_set.Item.{Item}
 use Rattle.interface_egress.specs.declared.socket_set.SocketStorage.{SocketStorage}

@@ -9,12 +9,12 @@ use Rattle.net_base.specs.Checksum.TheVariants.{Both}
 use Rattle.net_base.specs.Packets.{contents}
 use Rattle.interface.specs.Made.{IsIdle}
 use Rattle.interface_egress.specs.Set.{socket_at}
-use Rattle.interface_tables.specs.Inner.{InnerValue}
-use Rattle.interface_tables.specs.Settings.{is_of_medium, is_mtu}
+use Rattle.interface_egress.specs.Inner.{InnerValue}
+use Rattle.interface.specs.Settings.{is_of_medium, is_mtu}
 use Rattle.sockets.specs.declared.socket.Socket.{Socket}
 use Rattle.sockets.specs.declared.socket.Socket.TheVariants as Is
-use Rattle.tcp_tie.specs.Endpoints.{IsNameless}
-use Rattle.tcp_tie.specs.Promises.{IsFresh}
+use Rattle.lan_packets.specs.Endpoints.{IsNameless}
+use Rattle.lan_packets.specs.Promises.{IsFresh}
 use Rattle.lan_hosts.specs.Runs.{Start, Starts}
 
 -- nothing is queued; one of TCP is CLOSED without endpoints, and took no FIN

@@ -12,8 +12,8 @@ pub mod Records
 pub mod Runs
 pub mod Fresh
 pub mod Safe
-pub use Rattle.interface_tables.specs.Inner
-pub use Rattle.interface_tables.specs.Slots
+pub use Rattle.interface_egress.specs.Inner
+pub use Rattle.interface.specs.Slots
 pub use Rattle.interface_egress.specs.Departure
 pub use Rattle.interface_egress.specs.Fragments
 pub use Rattle.interface_egress.specs.GoesOut
@@ -33,3 +33,16 @@ pub use Rattle.lan_history.specs.Tables
 pub use Rattle.lan_history.specs.declared.answer.Answer
 pub use Rattle.lan_packets.specs.Safe as PacketsSafe
 pub use Rattle.interface_egress.specs.Determined
+pub use Rattle.lan_port.specs.Port
+pub use Rattle.ip_wire.specs.Ethernet
+pub use Rattle.ip_wire.specs.declared.arp.kinds.ArpOperation
+pub use Rattle.lan_history.specs.Call
+pub use Rattle.lan_history.specs.Partners
+pub use Rattle.lan_history.specs.declared.answer.Fault
+pub use Rattle.lan_history.specs.declared.answer.Refused
+pub use Rattle.lan_history.specs.declared.event.TcpSetting
+pub use Rattle.lan_history.specs.declared.record.SocketKind
+pub use Rattle.tcp_socket.specs.Socket
+pub use Rattle.interface.specs.Config
+pub use Rattle.interface.specs.Host
+pub use Rattle.interface.specs.NewError

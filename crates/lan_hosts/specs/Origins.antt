@@ -2,7 +2,7 @@
 use Rattle.std.specs.Prelude.{ℕ, Bool, false, ◌&&◌, ◌==◌, if◌then◌else◌, List, [], ◌∷◌, ◌++◌, take, drop, slice_index_or, Option, None, Some, is_some}
 use Rattle.std.specs.List.{count_by}
 use Rattle.net_base.specs.Medium.{Medium}
-use Rattle.ip_packet.specs.Ipv4.{piece_of}
+use Rattle.ip_wire.specs.Ipv4.{piece_of}
 use Rattle.lan_frames.specs.Carried.{packet_in}
 use Rattle.lan_frames.specs.Cuts.{ipv4_part, first_piece, second_piece}
 use Rattle.lan_frames.specs.Parts.{tcp_part, damaged}

@@ -2,10 +2,10 @@
 use Rattle.std.specs.Prelude.{◌≡◌, ◌⊎◌, ℕ, ◌+◌, ◌*◌, ◌%◌, ◌^◌, ◌==◌, nat_le, nat_lt, ℤ, int_lt, not, ◌||◌, Bool, true, List, [], ◌∷◌, length, Option, None}
 use Rattle.std.specs.Prelude.{Some}
 use Rattle.std.specs.List.{count_by}
-use Rattle.ip_address.specs.Fields.{be16}
+use Rattle.ip_wire.specs.Fields.{be16}
 use Rattle.interface_egress.specs.Set.{is_free}
 use Rattle.interface_egress.specs.declared.socket_set.SocketStorage.{SocketStorage}
-use Rattle.interface_tables.specs.Settings.{is_moment}
+use Rattle.interface.specs.Settings.{is_moment}
 use Rattle.net_base.specs.Medium.TheVariants as Medium
 use Rattle.lan_frames.specs.Carried.{names_tcp_or_udp}
 use Rattle.lan_frames.specs.Cuts.{ipv4_part}

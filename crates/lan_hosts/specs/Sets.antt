@@ -7,12 +7,12 @@ use Rattle.ip_wire.specs.IpAddress.TheVariants as Address
 use Rattle.interface.specs.Made.{with_inner, with_timeout}
 use Rattle.interface.specs.Host.{HostValue, host_at}
 use Rattle.interface.specs.Instant.{poll_instant}
-use Rattle.interface_tables.specs.Inner.{at_moment}
-use Rattle.interface_tables.specs.Route.{is_gateway_v4, is_gateway_v6, IsGateway, IsAdded, has_room}
-use Rattle.interface_tables.specs.Settings.{hardware_refusal, with_hardware, is_stranger, with_addresses, with_any_ip, with_routes}
-use Rattle.interface_tables.specs.declared.config.HardwareAddrError.{HardwareAddrError}
-use Rattle.interface_tables.specs.declared.config.HardwareAddrError.TheVariants as Set
-use Rattle.interface_tables.specs.declared.route.Route.{Route}
+use Rattle.interface_egress.specs.Inner.{at_moment}
+use Rattle.interface_ingress.specs.Route.{is_gateway_v4, is_gateway_v6, IsGateway, IsAdded, has_room}
+use Rattle.interface.specs.Settings.{hardware_refusal, with_hardware, is_stranger, with_addresses, with_any_ip, with_routes}
+use Rattle.interface.specs.HardwareAddrError.{HardwareAddrError}
+use Rattle.interface.specs.HardwareAddrError.TheVariants as Set
+use Rattle.interface.specs.Route.{Route}
 use Rattle.lan_history.specs.Kinds.{Setting}
 use Rattle.lan_history.specs.Kinds as Sets
 use Rattle.lan_history.specs.declared.answer.Answer.{Answer}

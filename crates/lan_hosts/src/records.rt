@@ -8,7 +8,7 @@ ghost use Rattle.lan_hosts.specs.Origins.{medium_of, is_cut_of, begins_datagram}
 ghost use Rattle.lan_hosts.specs.Records.{table_next, datagrams_added, place_of, opening_in, written_in, record_by, HasByteRoom, CanRise};
 
 use crate::host::Host;
-use ip_packet::Ipv4Packet;
+use ip_wire::Ipv4Packet;
 use lan_frames::{ipv4_part, packet_in};
 use lan_history::{Answer, Event, Opening, Side, SocketRecord};
 use net_base::Medium;

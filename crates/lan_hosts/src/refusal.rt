@@ -1,7 +1,7 @@
 //! Why an event isn't taken, but for want of memory. No test reads the history: what it has to say is in the tables.
 ghost use Rattle.std.specs.Prelude.{◌≡◌, ◌+◌, ◌≤◌, ◌||◌, ℕ, Bool, int_lt, not, List, length};
 ghost use Rattle.interface.specs.Settings.{is_moment};
-ghost use Rattle.ip_address.specs.Fields.{be16};
+ghost use Rattle.ip_wire.specs.Fields.{be16};
 ghost use Rattle.ip_wire.specs.IpEndpoint.{IpEndpoint};
 ghost use Rattle.lan_frames.specs.Parts.{bytes_at};
 ghost use Rattle.lan_frames.specs.Cuts.{ipv4_part};

@@ -3,11 +3,11 @@ use Rattle.std.proofs.Common.{◌≡◌, ◌≢◌, ◌⊎◌, inl, inr, ℕ, �
 use Rattle.std.proofs.Common.{append-nil}
 use Rattle.std.proofs.lemmas.Bool.{ne_eqb}
 use Rattle.std.specs.List.{AllByRecursion}
-use Rattle.tcp_law.specs.Alone.{AreResets}
-use Rattle.tcp_law.specs.Segment.{Segment}
-use Rattle.tcp_law.specs.Segment.Control.{Rst}
-use Rattle.tcp_law.specs.Side as Law
-use Rattle.tcp_law.specs.Side.Opening.{NotYet}
+use Rattle.tcp_tie.specs.Alone.{AreResets}
+use Rattle.tcp_tie.specs.Segment.{Segment}
+use Rattle.tcp_tie.specs.Segment.Control.{Rst}
+use Rattle.tcp_tie.specs.Side as Law
+use Rattle.tcp_tie.specs.Side.Opening.{NotYet}
 use Rattle.tcp_tie.specs.Endpoints.{HasPorts}
 use Rattle.tcp_tie.specs.Host.{Made, sent_from, past_at}
 use Rattle.tcp_tie.specs.Promises.{IsFresh, KeepsAlone}

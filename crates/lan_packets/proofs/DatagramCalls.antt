@@ -5,7 +5,7 @@ use Rattle.std.proofs.lemmas.Bool.{eqb-true, eqb-false}
 use Rattle.ip_wire.specs.IpEndpoint.{IpEndpoint}
 use Rattle.ip_wire.specs.IpListenEndpoint.{IpListenEndpoint}
 use Rattle.net_base.specs.Packets.{contents, first, is_full_for, appended}
-use Rattle.socket_base.specs.Addresses.{is_unspecified}
+use Rattle.datagram_sockets.specs.Addresses.{is_unspecified}
 use Rattle.datagram_sockets.specs.SocketValue as Datagrams
 use Rattle.datagram_sockets.specs.SocketValue.{with_settings, with_queued, sent_after, send_answer_to, settled}
 use Rattle.datagram_sockets.specs.Udp as Udps

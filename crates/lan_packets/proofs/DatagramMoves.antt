@@ -6,10 +6,10 @@ use Rattle.ip_wire.specs.Ip.{destination_of}
 use Rattle.ip_wire.specs.IpRepr.{IpRepr}
 use Rattle.ip_wire.specs.UdpRepr.{UdpRepr}
 use Rattle.net_base.specs.Packets.{Packets, contents, first, without_first}
-use Rattle.socket_base.specs.Context.{ContextValue}
-use Rattle.socket_base.specs.Packet as Carried
-use Rattle.socket_base.specs.Packet.{PacketValue, PayloadValue}
-use Rattle.socket_base.specs.declared.offer.Offer as Answers
+use Rattle.datagram_sockets.specs.Context.{ContextValue}
+use Rattle.datagram_sockets.specs.Packet as Carried
+use Rattle.datagram_sockets.specs.Packet.{PacketValue, PayloadValue}
+use Rattle.datagram_sockets.specs.Offer as Answers
 use Rattle.datagram_sockets.specs.Offers.{IsFound, OffersFirst, left_with}
 use Rattle.datagram_sockets.specs.SocketValue as Datagrams
 use Rattle.datagram_sockets.specs.SocketValue.{left_by}

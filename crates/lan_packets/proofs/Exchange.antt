@@ -1,6 +1,6 @@
 -- A step of one host that exchanges one socket, or none of TCP.
 use Rattle.std.proofs.Common.{◌≡◌, ◌≢◌, ◌⊎◌, inl, inr, ℕ, List, [], ◌∷◌, ◌++◌, Option, Some, None, refl, sym, ap, ◌∙◌, subst}
-use Rattle.tcp_law.specs.Segment.Control.{Rst}
+use Rattle.tcp_tie.specs.Segment.Control.{Rst}
 use Rattle.tcp_tie.specs.Endpoints.{HasPorts}
 use Rattle.tcp_tie.specs.Host.{Made, past_at}
 use Rattle.tcp_tie.specs.Promises.{KeepsAlone}

@@ -1,8 +1,8 @@
 -- A step of one host keeps what is kept of both hosts' streams, where it keeps it of each socket.
 use Rattle.std.proofs.Common.{◌≡◌, ◌≢◌, ◌⊎◌, inl, inr, ℕ, ◌||◌, Bool, true, false, List, [], ◌∷◌, ◌++◌, Option, Some, None, refl, sym, ap, ◌∙◌, subst}
 use Rattle.std.proofs.Common.{append-nil}
-use Rattle.tcp_law.specs.Segment.Control.{Rst}
-use Rattle.tcp_law.specs.Side as Law
+use Rattle.tcp_tie.specs.Segment.Control.{Rst}
+use Rattle.tcp_tie.specs.Side as Law
 use Rattle.tcp_tie.specs.Endpoints.{HasPorts}
 use Rattle.tcp_tie.specs.Host.{Made, past_at}
 use Rattle.tcp_tie.specs.Promises.{KeepsAlone}

@@ -1,8 +1,8 @@
 -- A send queue holds the rest of what was written.
 use Rattle.std.proofs.Common.{◌≡◌, ℕ, zero, suc, ◌+◌, ◌-◌, ◌≤◌, List, [], ◌∷◌, ◌++◌, length, take, drop, refl, sym, ◌∙◌, ap, subst, length-append, arith}
 use Rattle.std.proofs.lemmas.List.{take-append-drop}
-use Rattle.tcp_law.specs.Safe.{IsPrefixOf}
-use Rattle.tcp_law.specs.Side.{Side, fresh, send_queue}
+use Rattle.tcp_tie.specs.Safe.{IsPrefixOf}
+use Rattle.tcp_tie.specs.Side.{Side, fresh, send_queue}
 use Rattle.tcp_model.specs.Value.{TcpValue}
 use Rattle.tcp_tie.specs.Promises.{KeepsAlone, read_or_waiting}
 use Rattle.tcp_tie.specs.Tie.{Past, past_of, Keeps, core_of}

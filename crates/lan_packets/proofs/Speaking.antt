@@ -4,7 +4,7 @@ use Rattle.std.proofs.Common.{subst, eq-eqb}
 use Rattle.std.proofs.lemmas.Bool.{eqb-true, and_parts}
 use Rattle.ip_wire.specs.IpRepr.{IpRepr}
 use Rattle.ip_wire.specs.TcpHeader.{TcpHeader}
-use Rattle.tcp_law.specs.Segment.Control.{Rst}
+use Rattle.tcp_tie.specs.Segment.Control.{Rst}
 use Rattle.tcp_tie.specs.Endpoints.{IsFor, HasPorts, IsToward, CameBetween}
 use Rattle.tcp_tie.specs.Host.{Made, made_of}
 use Rattle.tcp_tie.specs.Tie.{control_of, segment_of}

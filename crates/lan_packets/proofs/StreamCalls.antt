@@ -7,9 +7,9 @@ use Rattle.net_base.specs.RandomWords.{word}
 use Rattle.net_base.specs.Ring.{anchored, enqueued}
 use Rattle.ip_wire.specs.IpEndpoint.{IpEndpoint}
 use Rattle.ip_wire.specs.AddressTests.{is_unspecified}
-use Rattle.socket_base.specs.Context.{ContextValue, next_random}
-use Rattle.tcp_law.specs.Segment.{Segment}
-use Rattle.tcp_law.specs.Side.Opening.{NotYet}
+use Rattle.datagram_sockets.specs.Context.{ContextValue, next_random}
+use Rattle.tcp_tie.specs.Segment.{Segment}
+use Rattle.tcp_tie.specs.Side.Opening.{NotYet}
 use Rattle.tcp_tie.specs.Endpoints.{HasPorts}
 use Rattle.tcp_tie.specs.Host.{past_at}
 use Rattle.tcp_tie.specs.History.{closes_in, closed_by, bytes_taken, with_written, with_read}

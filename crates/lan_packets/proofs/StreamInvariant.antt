@@ -1,8 +1,8 @@
 -- What is kept of TCP sockets and of the segments that were made.
 use Rattle.std.proofs.Common.{◌≡◌, ◌⊎◌, inl, inr, ℕ, ◌==◌, Bool, true, false, List, [], ◌∷◌, Option, Some, None, refl, sym, ap, ◌∙◌, subst}
-use Rattle.tcp_law.specs.Segment.Control.{Rst}
-use Rattle.tcp_law.specs.Side as Law
-use Rattle.tcp_law.specs.Side.Opening.{NotYet, Passive, Active}
+use Rattle.tcp_tie.specs.Segment.Control.{Rst}
+use Rattle.tcp_tie.specs.Side as Law
+use Rattle.tcp_tie.specs.Side.Opening.{NotYet, Passive, Active}
 use Rattle.tcp_tie.specs.Endpoints.{Ports, HasPorts, IsNameless}
 use Rattle.tcp_tie.specs.Host.{Made, past_at}
 use Rattle.tcp_tie.specs.Promises.{IsFresh, KeepsAlone}

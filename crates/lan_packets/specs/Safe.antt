@@ -1,7 +1,7 @@
 -- What holds of two hosts in every run, from hosts to which nothing has happened.
 use Rattle.std.specs.Prelude.{◌≡◌, ℕ, List, [], ◌++◌, Some}
 use Rattle.net_base.specs.Packets.{contents}
-use Rattle.tcp_law.specs.Safe.{IsPrefixOf}
+use Rattle.tcp_tie.specs.Safe.{IsPrefixOf}
 use Rattle.tcp_tie.specs.Endpoints.{IsNameless}
 use Rattle.tcp_tie.specs.Promises.{IsFresh}
 use Rattle.tcp_model.specs.Value.{TcpValue}

@@ -1,7 +1,7 @@
 -- One host acts, and the other rests.
 use Rattle.std.proofs.Common.{◌≡◌, ℕ, ◌≤◌, Bool, true, false, cond, List, Option, Some, None, refl, sym, ◌∙◌, ap, subst, arith}
 use Rattle.std.specs.Prelude.{ℤ, slice_get, slice_set}
-use Rattle.socket_base.specs.Packet.{PacketValue}
+use Rattle.sockets.specs.Packet.{PacketValue}
 use Rattle.sockets.specs.declared.socket.Socket.{Socket}
 use Rattle.interface_tables.specs.Inner.{InnerValue, context_of, drawn}
 use Rattle.interface_egress.specs.Fragments.{LeftValue}
@@ -10,14 +10,14 @@ use Rattle.interface_ingress.specs.Reassembled.{Slots}
 use Rattle.interface_egress.specs.declared.socket_set.Item.{Item}
 use Rattle.interface_egress.specs.declared.socket_set.SocketStorage.{SocketStorage}
 use Rattle.interface.specs.State.{State}
-use Rattle.lan_history.specs.Call.{SocketCall}
-use Rattle.lan_history.specs.Kinds.{other}
-use Rattle.lan_history.specs.declared.answer.Answer.{Answer}
-use Rattle.lan_history.specs.declared.event.Side.{Side}
-use Rattle.lan_history.specs.declared.event.Side.TheVariants.{A, B}
+use Rattle.lan_hosts.specs.Call.{SocketCall}
+use Rattle.lan_hosts.specs.Kinds.{other}
+use Rattle.lan_hosts.specs.Answer.{Answer}
+use Rattle.lan_hosts.specs.Side.{Side}
+use Rattle.lan_hosts.specs.Side.TheVariants.{A, B}
 use Rattle.lan_packets.specs.Calls.{Did}
 use Rattle.lan_packets.specs.Parties.{Party, Net, party}
-use Rattle.lan_port.specs.Port.{LinkEnd, PortValue}
+use Rattle.lan_hosts.specs.Port.{LinkEnd, PortValue}
 use Rattle.lan_hosts.specs.Does.{Does, PlaceDoes, ItemDoes, DidAt, draws, does}
 use Rattle.lan_hosts.specs.Sets.{with_room, asked}
 use Rattle.lan_hosts.specs.Station.{StationValue, Stations, station, at_port}

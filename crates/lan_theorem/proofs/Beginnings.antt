@@ -2,21 +2,21 @@
 use Rattle.std.proofs.Common.{◌≡◌, ℕ, ◌≤◌, true, List, [], ◌∷◌, Option, Some, None, IfSome, refl, sym, ◌∙◌, subst, arith}
 use Rattle.std.specs.List.{AllByRecursion}
 use Rattle.std.proofs.lemmas.Bool.Decides.{nat_tests}
-use Rattle.net_base.specs.Medium.{Medium}
-use Rattle.net_base.specs.Medium.TheVariants as Medium
-use Rattle.ip_wire.specs.HardwareAddress.{HardwareAddress}
-use Rattle.ip_wire.specs.HardwareAddress.TheVariants as Hardware
-use Rattle.ip_wire.specs.Ipv4FragKey.{Ipv4FragKey}
-use Rattle.socket_base.specs.Packet.{PacketValue, PayloadValue}
+use Rattle.lan_frames.specs.Medium.{Medium}
+use Rattle.lan_frames.specs.Medium.TheVariants as Medium
+use Rattle.interface_ingress.specs.HardwareAddress.{HardwareAddress}
+use Rattle.interface_ingress.specs.HardwareAddress.TheVariants as Hardware
+use Rattle.ip_address.specs.declared.ipv4.Ipv4FragKey.{Ipv4FragKey}
+use Rattle.sockets.specs.Packet.{PacketValue, PayloadValue}
 use Rattle.interface_tables.specs.Inner.{InnerValue}
 use Rattle.interface_tables.specs.Reassembly.{SlotValue, is_free}
 use Rattle.interface_tables.specs.Settings.{is_of_medium, is_mtu}
 use Rattle.interface_tables.specs.declared.neighbor.Neighbor.{Neighbor}
 use Rattle.interface_egress.specs.Fragments.{LeftValue}
 use Rattle.interface_ingress.specs.Reassembled.{Slots}
-use Rattle.lan_history.specs.Kinds.{other}
-use Rattle.lan_history.specs.declared.event.Side.{Side}
-use Rattle.lan_history.specs.declared.event.Side.TheVariants.{A, B}
+use Rattle.lan_hosts.specs.Kinds.{other}
+use Rattle.lan_hosts.specs.Side.{Side}
+use Rattle.lan_hosts.specs.Side.TheVariants.{A, B}
 use Rattle.lan_packets.specs.Parties.{Party, party}
 use Rattle.lan_hosts.specs.Fresh.{IsHardware, IsFreshStart, IsFreshWorld}
 use Rattle.lan_hosts.specs.Runs.{Start, Starts, start, unused, unused_both}

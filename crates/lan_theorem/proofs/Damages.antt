@@ -1,20 +1,20 @@
 -- Damage that the link hands over does no harm.
 use Rattle.std.proofs.Common.{◌≡◌, inl, inr, ℕ, ◌^◌, ◌<◌, true, false, List, ◌++◌, Option, Some, None, refl, sym, ◌∙◌, ap, subst}
-use Rattle.net_base.specs.Medium.{Medium}
-use Rattle.net_base.specs.Medium.TheVariants as Medium
-use Rattle.ip_wire.specs.HardwareAddress.{HardwareAddress}
-use Rattle.ip_wire.specs.HardwareAddress.TheVariants as Hardware
+use Rattle.lan_frames.specs.Medium.{Medium}
+use Rattle.lan_frames.specs.Medium.TheVariants as Medium
+use Rattle.interface_ingress.specs.HardwareAddress.{HardwareAddress}
+use Rattle.interface_ingress.specs.HardwareAddress.TheVariants as Hardware
 use Rattle.interface_ingress.specs.Incoming.{IncomingValue}
 use Rattle.interface_tables.specs.Settings.{is_of_medium}
 use Rattle.lan_frames.specs.Parts.{tcp_part}
 use Rattle.lan_frames.specs.declared.part.Part.{Part}
-use Rattle.lan_history.specs.History.{Entry}
-use Rattle.lan_history.specs.Kinds.{Kind, Origin, Delivered, Damaged, Noisy, kind_of}
-use Rattle.lan_history.specs.Kinds.Kind.{OfHost, OfLink}
-use Rattle.lan_history.specs.Kinds.LinkAct.{Hands, Cuts}
-use Rattle.lan_history.specs.Tables.{first_refusal}
-use Rattle.lan_history.specs.declared.answer.Refused.TheVariants as For
-use Rattle.lan_history.specs.declared.event.Side.{Side}
+use Rattle.lan_hosts.specs.History.{Entry}
+use Rattle.lan_hosts.specs.Kinds.{Kind, Origin, Delivered, Damaged, Noisy, kind_of}
+use Rattle.lan_hosts.specs.Kinds.Kind.{OfHost, OfLink}
+use Rattle.lan_hosts.specs.Kinds.LinkAct.{Hands, Cuts}
+use Rattle.lan_hosts.specs.Tables.{first_refusal}
+use Rattle.lan_hosts.specs.Refused.TheVariants as For
+use Rattle.lan_hosts.specs.Side.{Side}
 use Rattle.lan_packets.specs.Parties.{Net, party}
 use Rattle.lan_hosts.specs.Origins.{medium_of, frame_sent, damaged_in, frame_of_origin}
 use Rattle.lan_hosts.specs.Refusals.{is_no_frame, segment_tests, link_tests, refusal}

@@ -1,12 +1,12 @@
 -- Each thing that a poll does keeps what is said of the link.
 use Rattle.std.proofs.Common.{◌≡◌, ◌⊎◌, inl, inr, ℕ, ◌+◌, ◌≤◌, ℤ, Bool, true, false, List, ◌∷◌, Option, Some, None, is_some, refl, sym, ap, subst, arith}
-use Rattle.net_base.specs.ChecksumCapabilities.{ChecksumCapabilities}
-use Rattle.net_base.specs.Device.{Took, Empty, Allowed}
-use Rattle.ip_wire.specs.Ip as Ips
-use Rattle.ip_wire.specs.Ip.{carried_in}
-use Rattle.ip_wire.specs.IpRepr.{IpRepr}
-use Rattle.ip_wire.specs.IpRepr.TheVariants as Ip
-use Rattle.socket_base.specs.Packet.{PacketValue, PayloadValue, ControlV4, ControlV6, Bytes, Datagram, Segment}
+use Rattle.lan_frames.specs.ChecksumCapabilities.{ChecksumCapabilities}
+use Rattle.lan_frames.specs.Device.{Took, Empty, Allowed}
+use Rattle.interface_delivery.specs.Ip as Ips
+use Rattle.interface_delivery.specs.Ip.{carried_in}
+use Rattle.interface_delivery.specs.IpRepr.{IpRepr}
+use Rattle.interface_delivery.specs.IpRepr.TheVariants as Ip
+use Rattle.sockets.specs.Packet.{PacketValue, PayloadValue, ControlV4, ControlV6, Bytes, Datagram, Segment}
 use Rattle.interface_tables.specs.Inner.{InnerValue, at_moment}
 use Rattle.interface_tables.specs.Slots.{without_expired}
 use Rattle.interface_egress.specs.Departing.{HasSettingsOf, SendsOnce, departure_by, was_taken}
@@ -26,11 +26,11 @@ use Rattle.interface_ingress.specs.Sent.{CanBeRead, normal_payload}
 use Rattle.interface_delivery.specs.Delivered.{NamesNoPorts}
 use Rattle.interface.specs.Polls.{begun}
 use Rattle.interface.specs.Turn.{is_done}
-use Rattle.ip_wire.specs.declared.arp.repr.ArpRepr.{ArpRepr}
+use Rattle.interface_ingress.specs.ArpRepr.{ArpRepr}
 use Rattle.interface_ingress.specs.Arrives as Replies
 use Rattle.interface_ingress.proofs.Settings.{brings_same}
 use Rattle.interface.specs.State.{State, state, at_device}
-use Rattle.lan_port.specs.Port.{PortValue, PortMove}
+use Rattle.lan_hosts.specs.Port.{PortValue, PortMove}
 use Rattle.lan_packets.specs.Parties.{Party}
 use Rattle.tcp_tie.specs.Host.{made_of}
 use Rattle.lan_theorem.specs.Moves.Made as Moves

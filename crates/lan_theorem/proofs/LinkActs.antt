@@ -4,21 +4,21 @@ use Rattle.std.proofs.Common.{Option, Some, None, refl, sym, ◌∙◌, ap, subs
 use Rattle.std.specs.Prelude.{nat_lt}
 use Rattle.std.specs.List.{AllByRecursion}
 use Rattle.std.proofs.lemmas.Bool.Decides.{nat_tests}
-use Rattle.net_base.specs.Medium.{Medium}
-use Rattle.ip_wire.specs.Fields.{be16}
+use Rattle.lan_frames.specs.Medium.{Medium}
+use Rattle.interface_ingress.specs.Fields.{be16}
 use Rattle.lan_frames.specs.Carried.{names_tcp_or_udp}
 use Rattle.lan_frames.specs.Cuts.{ipv4_part, first_piece, second_piece}
 use Rattle.lan_frames.specs.Parts.{tcp_part, bytes_at}
 use Rattle.lan_frames.specs.declared.part.Part.{Part}
-use Rattle.lan_history.specs.Kinds.{other, Origin, Delivered, Damaged, Noisy}
-use Rattle.lan_history.specs.Tables.{first_refusal}
-use Rattle.lan_history.specs.declared.answer.Refused.{Refused}
-use Rattle.lan_history.specs.declared.answer.Refused.TheVariants as For
-use Rattle.lan_history.specs.declared.event.Side.{Side}
-use Rattle.lan_history.specs.declared.event.Side.TheVariants.{A, B}
-use Rattle.lan_history.specs.Kinds.LinkAct.{Hands, Cuts}
+use Rattle.lan_hosts.specs.Kinds.{other, Origin, Delivered, Damaged, Noisy}
+use Rattle.lan_hosts.specs.Tables.{first_refusal}
+use Rattle.lan_hosts.specs.Refused.{Refused}
+use Rattle.lan_hosts.specs.Refused.TheVariants as For
+use Rattle.lan_hosts.specs.Side.{Side}
+use Rattle.lan_hosts.specs.Side.TheVariants.{A, B}
+use Rattle.lan_hosts.specs.Kinds.LinkAct.{Hands, Cuts}
 use Rattle.lan_packets.specs.Parties.{Net, party}
-use Rattle.lan_port.specs.Port.{added, arrived}
+use Rattle.lan_hosts.specs.Port.{added, arrived}
 use Rattle.lan_hosts.specs.Origins.{medium_of, frame_sent, damaged_in, frame_of_origin, handed, cut}
 use Rattle.lan_hosts.specs.Refusals.{is_no_frame, is_no_place, is_same_sum, segment_tests, is_no_cut, cut_tests, link_tests}
 use Rattle.lan_hosts.specs.Station.{Stations, station, with_link}

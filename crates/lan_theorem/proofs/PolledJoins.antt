@@ -1,16 +1,16 @@
 -- A poll keeps what is said of both hosts and their link.
 use Rattle.std.proofs.Common.{◌≡◌, ℕ, ◌+◌, ◌*◌, ◌≤◌, List, ◌∷◌, sym, ◌∙◌, ap, subst, arith}
 use Rattle.std.specs.Prelude.{ℤ}
-use Rattle.net_base.specs.DeviceCapabilities.{DeviceCapabilities}
+use Rattle.lan_frames.specs.DeviceCapabilities.{DeviceCapabilities}
 use Rattle.interface.specs.State.{State}
 use Rattle.interface.proofs.Hosts.{settings_so}
-use Rattle.lan_history.specs.History.{Entry}
-use Rattle.lan_history.specs.Kinds.{other, kind_of}
-use Rattle.lan_history.specs.Kinds.Act.{Polls}
-use Rattle.lan_history.specs.Kinds.Kind.{OfHost}
-use Rattle.lan_history.specs.declared.event.Side.{Side}
+use Rattle.lan_hosts.specs.History.{Entry}
+use Rattle.lan_hosts.specs.Kinds.{other, kind_of}
+use Rattle.lan_hosts.specs.Kinds.Act.{Polls}
+use Rattle.lan_hosts.specs.Kinds.Kind.{OfHost}
+use Rattle.lan_hosts.specs.Side.{Side}
 use Rattle.lan_packets.specs.Parties.{Party, Net, party}
-use Rattle.lan_port.specs.Port.{LinkEnd, PortValue, PortMove}
+use Rattle.lan_hosts.specs.Port.{LinkEnd, PortValue, PortMove}
 use Rattle.lan_hosts.specs.Refusals.{socket_count}
 use Rattle.lan_hosts.specs.Station.{StationValue, Stations, station, at_port}
 use Rattle.lan_hosts.specs.Steps.{PollsAt, ActsAt}
@@ -24,7 +24,7 @@ use Rattle.lan_theorem.proofs.Moves.Calls.{names}
 use Rattle.lan_theorem.proofs.Moves.PollEvents.{AtPorts, Polled, poll_comes}
 use Rattle.lan_theorem.specs.Link.Frames.{medium_on}
 use Rattle.lan_theorem.specs.Link.Numbers.{count_v4, AreFew, IsTied}
-use Rattle.net_base.specs.Medium.{Medium}
+use Rattle.lan_frames.specs.Medium.{Medium}
 use Rattle.lan_hosts.specs.Origins.{medium_of}
 use Rattle.lan_theorem.specs.Link.Sides.{IsSender, IsReceiver}
 use Rattle.lan_theorem.proofs.Link.Begun.{tied_same}

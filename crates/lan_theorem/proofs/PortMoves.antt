@@ -1,8 +1,8 @@
 -- The moves of a port.
 use Rattle.std.proofs.Common.{◌≡◌, ℕ, ◌-◌, ◌<◌, ◌≤◌, Bool, true, false, cond, List, [], ◌∷◌, length, sym, ap, ◌∙◌, arith}
 use Rattle.std.specs.Prelude.{nat_le, drop}
-use Rattle.net_base.specs.Device.{Move, Took, Empty, Allowed, Emitted, Denied}
-use Rattle.lan_port.specs.Port.{PortValue, PortMove, has_leave}
+use Rattle.lan_frames.specs.Device.{Move, Took, Empty, Allowed, Emitted, Denied}
+use Rattle.lan_hosts.specs.Port.{PortValue, PortMove, has_leave}
 use Rattle.interface_egress.specs.Determined.{IsDetermined}
 
 -- a port before a frame was taken

@@ -1,15 +1,15 @@
 -- What a host holds and takes says what is so, through a poll too.
 use Rattle.std.proofs.Common.{◌≡◌, ◌⊎◌, inl, inr, ℕ, ℤ, Bool, true, false, cond, List, [], ◌∷◌, ◌++◌, Option, Some, None, is_some, refl, sym, ◌∙◌, ap, subst}
 use Rattle.std.specs.List.{AllByRecursion}
-use Rattle.net_base.specs.ChecksumCapabilities.{ChecksumCapabilities}
-use Rattle.net_base.specs.Device.{Took, Empty, Allowed}
-use Rattle.net_base.specs.Medium.{Medium}
-use Rattle.ip_wire.specs.HardwareAddress.{HardwareAddress}
-use Rattle.ip_wire.specs.IpAddress.{IpAddress}
-use Rattle.ip_wire.specs.Ipv4FragKey.{Ipv4FragKey}
-use Rattle.socket_base.specs.Packet.{PacketValue}
-use Rattle.socket_base.specs.declared.offer.Offer as Answer
-use Rattle.socket_base.specs.declared.offer.Offer.TheVariants as Offer
+use Rattle.lan_frames.specs.ChecksumCapabilities.{ChecksumCapabilities}
+use Rattle.lan_frames.specs.Device.{Took, Empty, Allowed}
+use Rattle.lan_frames.specs.Medium.{Medium}
+use Rattle.interface_ingress.specs.HardwareAddress.{HardwareAddress}
+use Rattle.interface_ingress.specs.IpAddress.{IpAddress}
+use Rattle.ip_address.specs.declared.ipv4.Ipv4FragKey.{Ipv4FragKey}
+use Rattle.sockets.specs.Packet.{PacketValue}
+use Rattle.sockets.specs.Offer as Answer
+use Rattle.sockets.specs.Offer.TheVariants as Offer
 use Rattle.sockets.specs.Socket.{offered_by}
 use Rattle.sockets.specs.declared.socket.Socket.{Socket}
 use Rattle.interface_tables.specs.Inner.{InnerValue}
@@ -38,7 +38,7 @@ use Rattle.interface.specs.declared.turn.Turned.{Turned}
 use Rattle.interface.proofs.Keep.{polls_keep}
 use Rattle.interface.proofs.Runs.{receives_same}
 use Rattle.interface.proofs.SameHost.{place_same}
-use Rattle.lan_port.specs.Port.{LinkEnd, PortValue, PortMove}
+use Rattle.lan_hosts.specs.Port.{LinkEnd, PortValue, PortMove}
 use Rattle.lan_hosts.specs.Station.{StationValue, at_port}
 use Rattle.lan_hosts.specs.Steps.{PollsAt}
 use Rattle.lan_theorem.specs.Link.Made.{sealed}

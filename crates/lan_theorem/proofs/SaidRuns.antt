@@ -4,26 +4,26 @@ use Rattle.std.proofs.Common.{drop, Option, Some, None, refl, sym, ◌∙◌, ap
 use Rattle.std.specs.Prelude.{ℤ, nat_lt}
 use Rattle.std.specs.List.{AllByRecursion}
 use Rattle.std.proofs.lemmas.List.{take_at, drop_at}
-use Rattle.net_base.specs.Medium.{Medium}
-use Rattle.ip_wire.specs.Ipv4FragKey.{Ipv4FragKey}
+use Rattle.lan_frames.specs.Medium.{Medium}
+use Rattle.ip_address.specs.declared.ipv4.Ipv4FragKey.{Ipv4FragKey}
 use Rattle.interface.specs.Host.{HostValue}
 use Rattle.lan_frames.specs.Carried.{names_tcp_or_udp}
 use Rattle.lan_frames.specs.Cuts.{ipv4_part, first_piece, second_piece}
 use Rattle.lan_frames.specs.declared.part.Part.{Part}
-use Rattle.lan_history.specs.Call.{SocketCall}
-use Rattle.lan_history.specs.History.{Entry, Counts}
-use Rattle.lan_history.specs.Kinds.{other, Kind, Act, Origin, Delivered, Damaged, Noisy, Setting, kind_of}
-use Rattle.lan_history.specs.Kinds as Settings
-use Rattle.lan_history.specs.Kinds.Act.{Calls, Sets, Opens, Asks, Polls}
-use Rattle.lan_history.specs.Kinds.Kind.{OfHost, OfLink}
-use Rattle.lan_history.specs.Kinds.LinkAct.{Hands, Cuts}
-use Rattle.lan_history.specs.Tables.{first_refusal}
-use Rattle.lan_history.specs.declared.answer.Answer.{Answer}
-use Rattle.lan_history.specs.declared.answer.Refused.TheVariants as For
-use Rattle.lan_history.specs.declared.event.Side.{Side}
-use Rattle.lan_history.specs.declared.event.Side.TheVariants.{A, B}
+use Rattle.lan_hosts.specs.Call.{SocketCall}
+use Rattle.lan_hosts.specs.History.{Entry, Counts}
+use Rattle.lan_hosts.specs.Kinds.{other, Kind, Act, Origin, Delivered, Damaged, Noisy, Setting, kind_of}
+use Rattle.lan_hosts.specs.Kinds as Settings
+use Rattle.lan_hosts.specs.Kinds.Act.{Calls, Sets, Opens, Asks, Polls}
+use Rattle.lan_hosts.specs.Kinds.Kind.{OfHost, OfLink}
+use Rattle.lan_hosts.specs.Kinds.LinkAct.{Hands, Cuts}
+use Rattle.lan_hosts.specs.Tables.{first_refusal}
+use Rattle.lan_hosts.specs.Answer.{Answer}
+use Rattle.lan_hosts.specs.Refused.TheVariants as For
+use Rattle.lan_hosts.specs.Side.{Side}
+use Rattle.lan_hosts.specs.Side.TheVariants.{A, B}
 use Rattle.lan_packets.specs.Parties.{Net}
-use Rattle.lan_port.specs.Port.{added, arrived}
+use Rattle.lan_hosts.specs.Port.{added, arrived}
 use Rattle.lan_hosts.specs.Fresh.{IsFreshWorld}
 use Rattle.lan_hosts.specs.Origins.{medium_of, frame_sent, frame_of_origin, goes_to, sent_before, is_cut_of, own_frames}
 use Rattle.lan_hosts.specs.Refusals.{is_no_frame, is_no_cut, cut_tests, link_tests, refusal}
@@ -32,7 +32,7 @@ use Rattle.lan_hosts.specs.Sets.{SetsTo, Configures}
 use Rattle.lan_hosts.specs.Station.{StationValue, Stations, station, with_station, with_link}
 use Rattle.lan_hosts.specs.Steps.{Acts, Happens, ActsAt}
 use Rattle.tcp_model.specs.State.{State}
-use Rattle.net_base.specs.DeviceCapabilities.{DeviceCapabilities}
+use Rattle.lan_frames.specs.DeviceCapabilities.{DeviceCapabilities}
 use Rattle.lan_theorem.specs.Events.{HasWord, IsTyped, AreTyped}
 use Rattle.lan_theorem.specs.Hosts.Damage.{BringsNoSegment}
 use Rattle.lan_theorem.specs.Hosts.GoesOn.{GoesOn}

@@ -1,15 +1,15 @@
 -- A setting keeps what is said of a host's frames.
 use Rattle.std.proofs.Common.{◌≡◌, ℕ, Bool, true, false, cond, List, length, replicate, ◌≤◌, Option, Some, None, IfSome, refl, sym, ap, subst, arith}
 use Rattle.std.specs.List.{AllByRecursion, list_any}
-use Rattle.ip_wire.specs.AddressTests.{is_ethernet_unicast}
-use Rattle.ip_wire.specs.EthernetAddress.{EthernetAddress}
-use Rattle.ip_wire.specs.HardwareAddress.{HardwareAddress}
-use Rattle.ip_wire.specs.HardwareAddress.TheVariants as Hardware
-use Rattle.ip_wire.specs.Address.{IsIpAddress}
-use Rattle.ip_wire.specs.IpAddress.{IpAddress}
-use Rattle.ip_wire.specs.IpAddress.TheVariants as Address
-use Rattle.ip_wire.specs.IpCidr.{IpCidr}
-use Rattle.socket_base.specs.Packet.{PacketValue}
+use Rattle.interface_ingress.specs.AddressTests.{is_ethernet_unicast}
+use Rattle.interface_ingress.specs.EthernetAddress.{EthernetAddress}
+use Rattle.interface_ingress.specs.HardwareAddress.{HardwareAddress}
+use Rattle.interface_ingress.specs.HardwareAddress.TheVariants as Hardware
+use Rattle.interface_ingress.specs.Address.{IsIpAddress}
+use Rattle.interface_ingress.specs.IpAddress.{IpAddress}
+use Rattle.interface_ingress.specs.IpAddress.TheVariants as Address
+use Rattle.ip_address.specs.declared.ip.IpCidr.{IpCidr}
+use Rattle.sockets.specs.Packet.{PacketValue}
 use Rattle.interface_tables.specs.Inner.{InnerValue}
 use Rattle.interface_tables.specs.Neighbor.{flushed}
 use Rattle.interface_tables.specs.Route.{is_gateway_v4, is_gateway_v6, IsGateway, IsAdded}
@@ -19,10 +19,10 @@ use Rattle.interface_tables.specs.declared.config.HardwareAddrError.TheVariants 
 use Rattle.interface_egress.specs.Fragments.{LeftValue}
 use Rattle.interface.specs.Host.{HostValue}
 use Rattle.interface.specs.Made.{with_inner, with_timeout}
-use Rattle.lan_history.specs.Kinds.{Setting, other}
-use Rattle.lan_history.specs.Kinds as Settings
-use Rattle.lan_history.specs.declared.answer.Answer.{Answer}
-use Rattle.lan_history.specs.declared.event.Side.{Side}
+use Rattle.lan_hosts.specs.Kinds.{Setting, other}
+use Rattle.lan_hosts.specs.Kinds as Settings
+use Rattle.lan_hosts.specs.Answer.{Answer}
+use Rattle.lan_hosts.specs.Side.{Side}
 use Rattle.lan_packets.specs.Parties.{Party, Net, party}
 use Rattle.lan_hosts.specs.Sets.{SetsTo, Configures, RoutedIf, has_route_room}
 use Rattle.lan_hosts.specs.Station.{StationValue, Stations, station}

@@ -2,21 +2,21 @@
 use Rattle.std.proofs.Common.{◌≡◌, ℕ, ◌-◌, ◌^◌, ◌≤◌, Bool, true, false, cond, List, length, take, drop, Option, Some, None, refl, sym, ◌∙◌, ap, subst, arith}
 use Rattle.std.proofs.Common.{length-take, length-drop}
 use Rattle.std.specs.Prelude.{nat_lt}
-use Rattle.net_base.specs.ChecksumCapabilities.{ChecksumCapabilities}
-use Rattle.ip_wire.specs.Arp as Wire
-use Rattle.ip_wire.specs.Ethernet as Ethernet
-use Rattle.ip_wire.specs.HardwareAddress.{HardwareAddress}
-use Rattle.ip_wire.specs.HardwareAddress.TheVariants as Hardware
-use Rattle.ip_wire.specs.IpAddress.TheVariants as Address
-use Rattle.ip_wire.specs.IpRepr.{IpRepr}
-use Rattle.ip_wire.specs.IpRepr.TheVariants as Ip
-use Rattle.ip_wire.specs.Ipv4Piece.{Ipv4Piece}
-use Rattle.ip_wire.specs.Ipv4Repr.{Ipv4Repr}
-use Rattle.ip_wire.specs.declared.arp.kinds.ArpOperation.TheVariants as Operation
-use Rattle.ip_wire.specs.declared.arp.repr.ArpRepr.{ArpRepr}
-use Rattle.ip_wire.specs.declared.arp.repr.ArpRepr.TheVariants as ArpIs
-use Rattle.ip_wire.specs.declared.ethernet.repr.EthernetRepr.{EthernetRepr}
-use Rattle.socket_base.specs.Packet.{PacketValue}
+use Rattle.lan_frames.specs.ChecksumCapabilities.{ChecksumCapabilities}
+use Rattle.interface_egress.specs.Arp as Wire
+use Rattle.lan_hosts.specs.Ethernet as Ethernet
+use Rattle.interface_ingress.specs.HardwareAddress.{HardwareAddress}
+use Rattle.interface_ingress.specs.HardwareAddress.TheVariants as Hardware
+use Rattle.interface_ingress.specs.IpAddress.TheVariants as Address
+use Rattle.interface_delivery.specs.IpRepr.{IpRepr}
+use Rattle.interface_delivery.specs.IpRepr.TheVariants as Ip
+use Rattle.interface_delivery.specs.Ipv4Piece.{Ipv4Piece}
+use Rattle.interface_delivery.specs.Ipv4Repr.{Ipv4Repr}
+use Rattle.lan_hosts.specs.ArpOperation.TheVariants as Operation
+use Rattle.interface_ingress.specs.ArpRepr.{ArpRepr}
+use Rattle.interface_ingress.specs.ArpRepr.TheVariants as ArpIs
+use Rattle.interface_ingress.specs.EthernetRepr.{EthernetRepr}
+use Rattle.sockets.specs.Packet.{PacketValue}
 use Rattle.interface_tables.specs.Inner.{InnerValue, is_for_us}
 use Rattle.interface_ingress.specs.Arp as Arps
 use Rattle.interface_ingress.specs.Arp.{arp_answer, answer_at}

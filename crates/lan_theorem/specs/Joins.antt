@@ -1,10 +1,10 @@
 -- What holds of both hosts and their link between two events.
 use Rattle.std.specs.Prelude.{◌≡◌, ◌≤◌, ℕ, List}
-use Rattle.socket_base.specs.Packet.{PacketValue}
-use Rattle.lan_history.specs.Kinds.{other, Kind}
-use Rattle.lan_history.specs.Kinds.Kind.{OfHost, OfLink}
-use Rattle.lan_history.specs.Kinds.Act.{Calls, Sets, Opens, Asks, Polls}
-use Rattle.lan_history.specs.declared.event.Side.{Side}
+use Rattle.sockets.specs.Packet.{PacketValue}
+use Rattle.lan_hosts.specs.Kinds.{other, Kind}
+use Rattle.lan_hosts.specs.Kinds.Kind.{OfHost, OfLink}
+use Rattle.lan_hosts.specs.Kinds.Act.{Calls, Sets, Opens, Asks, Polls}
+use Rattle.lan_hosts.specs.Side.{Side}
 use Rattle.lan_packets.specs.Parties.{Party, Net, party}
 use Rattle.lan_hosts.specs.Station.{StationValue, Stations, station}
 use Rattle.lan_theorem.specs.Moves.Made.{MadeBy}

@@ -13,3 +13,14 @@ pub use Rattle.interface_egress.specs.Set
 pub use Rattle.lan_hosts.specs.Fresh
 pub use Rattle.lan_hosts.specs.Refusals
 pub use Rattle.lan_hosts.specs.Station
+pub use Rattle.interface_egress.specs.declared.socket_set.Item
+pub use Rattle.interface_egress.specs.declared.socket_set.SocketStorage
+pub use Rattle.tcp_tie.specs.Endpoints
+pub use Rattle.tcp_tie.specs.Promises
+pub use Rattle.ip_address.specs.declared.ipv4.Ipv4FragKey
+pub use Rattle.interface_egress.specs.Ipv4
+pub use Rattle.interface_egress.specs.Ipv4Repr
+pub use Rattle.interface_egress.specs.declared.frame.Question
+pub use Rattle.interface_ingress.specs.Kept
+pub use Rattle.interface_tables.specs.declared.route.Route
+pub use Rattle.interface.specs.Touches

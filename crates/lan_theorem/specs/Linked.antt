@@ -1,9 +1,9 @@
 -- What holds of a host at its port while it polls: its own frames are of packets that it made, and what waits is of those that the other
 -- host made.
 use Rattle.std.specs.Prelude.{◌≤◌, ℕ, List}
-use Rattle.socket_base.specs.Packet.{PacketValue}
+use Rattle.sockets.specs.Packet.{PacketValue}
 use Rattle.interface.specs.State.{State}
-use Rattle.lan_port.specs.Port.{PortValue}
+use Rattle.lan_hosts.specs.Port.{PortValue}
 use Rattle.lan_packets.specs.Parties.{Party}
 use Rattle.lan_theorem.specs.Moves.Made.{MadeBy}
 use Rattle.lan_theorem.specs.Link.Frames.{medium_on}

@@ -1,20 +1,20 @@
 -- What is rebuilt from pieces is what the other host made.
 use Rattle.std.specs.Prelude.{◌≡◌, ◌⊎◌, ℕ, true, List, length, slice_get, Option, Some}
-use Rattle.net_base.specs.Medium.TheVariants as Medium
-use Rattle.ip_wire.specs.IpProtocol.TheVariants as Protocol
-use Rattle.ip_wire.specs.IpRepr.TheVariants as Ip
-use Rattle.ip_wire.specs.Ipv4 as Ipv4
-use Rattle.ip_wire.specs.Ipv4Piece.{Ipv4Piece}
-use Rattle.ip_wire.specs.Ipv4Repr.{Ipv4Repr}
-use Rattle.ip_wire.specs.declared.ethernet.repr.EthernetRepr.{EthernetRepr}
-use Rattle.socket_base.specs.Packet.{PacketValue}
+use Rattle.lan_frames.specs.Medium.TheVariants as Medium
+use Rattle.interface_ingress.specs.IpProtocol.TheVariants as Protocol
+use Rattle.interface_delivery.specs.IpRepr.TheVariants as Ip
+use Rattle.interface_delivery.specs.Ipv4 as Ipv4
+use Rattle.interface_delivery.specs.Ipv4Piece.{Ipv4Piece}
+use Rattle.interface_delivery.specs.Ipv4Repr.{Ipv4Repr}
+use Rattle.interface_ingress.specs.EthernetRepr.{EthernetRepr}
+use Rattle.sockets.specs.Packet.{PacketValue}
 use Rattle.interface_ingress.specs.Arrives.{whole_after}
 use Rattle.interface_ingress.specs.Incoming.{IncomingValue, Ip4, IsContent}
 use Rattle.interface_ingress.specs.Reassembled.{is_piece, uncut}
 use Rattle.interface_ingress.specs.Sent.{normal_payload}
 use Rattle.lan_frames.specs.Carried.{names_tcp_or_udp}
-use Rattle.lan_history.specs.Kinds.{other}
-use Rattle.lan_history.specs.declared.event.Side.{Side}
+use Rattle.lan_hosts.specs.Kinds.{other}
+use Rattle.lan_hosts.specs.Side.{Side}
 use Rattle.lan_packets.specs.Moves.{Step, IsRun, run}
 use Rattle.lan_packets.specs.Parties.{Party, Net, party}
 use Rattle.lan_hosts.specs.Runs.{WorldValue}

@@ -1,17 +1,17 @@
 -- What frames say of an IPv4 datagram's payload, whole or in pieces (RFC 791, section 3.2), and that what is rebuilt from pieces was sent.
 use Rattle.std.specs.Prelude.{◌≡◌, ◌↔◌, ◌+◌, ℕ, false, List, length, slice_get, Some}
-use Rattle.net_base.specs.Medium.{Medium}
-use Rattle.ip_wire.specs.Ipv4.{key_of}
-use Rattle.ip_wire.specs.Ipv4FragKey.{Ipv4FragKey}
-use Rattle.ip_wire.specs.Ipv4Piece.{Ipv4Piece}
-use Rattle.ip_wire.specs.Ipv4Repr.{Ipv4Repr}
+use Rattle.lan_frames.specs.Medium.{Medium}
+use Rattle.interface_delivery.specs.Ipv4.{key_of}
+use Rattle.ip_address.specs.declared.ipv4.Ipv4FragKey.{Ipv4FragKey}
+use Rattle.interface_delivery.specs.Ipv4Piece.{Ipv4Piece}
+use Rattle.interface_delivery.specs.Ipv4Repr.{Ipv4Repr}
 use Rattle.interface_ingress.specs.Incoming.{IsPacketV4}
 use Rattle.lan_frames.specs.Carried.{packet_in}
 use Rattle.lan_frames.specs.Cuts.{ipv4_part}
 use Rattle.lan_frames.specs.declared.part.Part.{Part}
-use Rattle.lan_history.specs.Kinds.{other}
-use Rattle.lan_history.specs.declared.event.Side.{Side}
-use Rattle.lan_history.specs.declared.event.Side.TheVariants.{A, B}
+use Rattle.lan_hosts.specs.Kinds.{other}
+use Rattle.lan_hosts.specs.Side.{Side}
+use Rattle.lan_hosts.specs.Side.TheVariants.{A, B}
 use Rattle.lan_hosts.specs.Origins.{medium_of}
 use Rattle.lan_hosts.specs.Runs.{WorldValue}
 use Rattle.lan_hosts.specs.Station.{station}

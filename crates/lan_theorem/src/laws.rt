@@ -1,7 +1,7 @@
 //! Each event keeps the link between the hosts, so worlds are safe.
 ghost use Rattle.std.specs.Prelude.{◌≡◌, ℕ, List, None};
 ghost use Rattle.sockets.specs.Packet.{PacketValue};
-ghost use Rattle.lan_port.specs.Port.{PortValue, PortMove};
+ghost use Rattle.lan_hosts.specs.Port.{PortValue, PortMove};
 ghost use Rattle.lan_hosts.specs.History.{Entry};
 ghost use Rattle.lan_theorem.specs.Hosts.Damage.{DamageIsHarmless, IsHarmlessFrom};
 ghost use Rattle.lan_hosts.specs.Kinds.{Origin, Setting, other, kind_of};
@@ -10,7 +10,7 @@ ghost use Rattle.lan_hosts.specs.Tables.{first_refusal};
 ghost use Rattle.lan_hosts.specs.Refusals.{link_tests};
 ghost use Rattle.lan_hosts.specs.Answer.{Answer};
 ghost use Rattle.lan_hosts.specs.Side.{Side};
-ghost use Rattle.lan_history.specs.declared.event.Side.TheVariants.{A, B};
+ghost use Rattle.lan_hosts.specs.Side.TheVariants.{A, B};
 ghost use Rattle.lan_hosts.specs.Parties.{Party, Net, party};
 ghost use Rattle.lan_hosts.specs.Runs.{Leads, Starts, WorldRun, unused_both};
 ghost use Rattle.lan_hosts.specs.Sets.{Configures};

@@ -1,10 +1,10 @@
 //! What the link hands over was made by the other host, or by the host itself.
 ghost use Rattle.std.specs.Prelude.{◌≡◌, ◌+◌, ◌%◌, ◌*◌, ◌≤◌, ℕ, ℤ, Bool, false, List, ◌∷◌, ◌++◌, Option, Some, is_some};
-ghost use Rattle.net_base.specs.Medium.{Medium};
-ghost use Rattle.ip_wire.specs.HardwareAddress.{HardwareAddress};
-ghost use Rattle.ip_wire.specs.IpRepr.TheVariants as Ip;
-ghost use Rattle.ip_wire.specs.Ipv4Repr.{Ipv4Repr};
-ghost use Rattle.ip_wire.specs.declared.arp.repr.ArpRepr.{ArpRepr};
+ghost use Rattle.lan_frames.specs.Medium.{Medium};
+ghost use Rattle.interface_ingress.specs.HardwareAddress.{HardwareAddress};
+ghost use Rattle.interface_delivery.specs.IpRepr.TheVariants as Ip;
+ghost use Rattle.interface_delivery.specs.Ipv4Repr.{Ipv4Repr};
+ghost use Rattle.interface_ingress.specs.ArpRepr.{ArpRepr};
 ghost use Rattle.sockets.specs.Packet.{PacketValue, PayloadValue};
 ghost use Rattle.lan_hosts.specs.Inner.{InnerValue};
 ghost use Rattle.lan_hosts.specs.Slots.{without_expired};
@@ -26,7 +26,7 @@ ghost use Rattle.lan_hosts.specs.Kinds.{kind_of};
 ghost use Rattle.lan_hosts.specs.Kinds.Act.{Polls};
 ghost use Rattle.lan_hosts.specs.Kinds.Kind.{OfHost};
 ghost use Rattle.lan_hosts.specs.Side.{Side};
-ghost use Rattle.lan_port.specs.Port.{PortValue, PortMove};
+ghost use Rattle.lan_hosts.specs.Port.{PortValue, PortMove};
 ghost use Rattle.lan_hosts.specs.Origins.{medium_of};
 ghost use Rattle.lan_hosts.specs.Refusals.{socket_count};
 ghost use Rattle.lan_hosts.specs.Runs.{Leads, table_in};

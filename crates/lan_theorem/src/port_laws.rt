@@ -1,7 +1,7 @@
 //! A simulated link's port as the device of an interface: its moves are determined.
 ghost use Rattle.std.specs.Prelude.{◌≡◌, ◌-◌, ℕ, ◌<◌, ◌≤◌, List, length};
-ghost use Rattle.net_base.specs.Device.{Emitted, Denied};
-ghost use Rattle.lan_port.specs.Port.{PortValue, PortMove};
+ghost use Rattle.lan_frames.specs.Device.{Emitted, Denied};
+ghost use Rattle.lan_hosts.specs.Port.{PortValue, PortMove};
 ghost use Rattle.lan_hosts.specs.Determined.{IsDetermined};
 
 /// Law: each move of a port is determined while a buffer lies ready that fits the longest frame. Such a port refuses no frame, and

@@ -3,7 +3,7 @@ use Rattle.std.proofs.Common.{ℕ, List}
 use Rattle.lan_history.specs.History.{Entry}
 use Rattle.lan_history.specs.declared.event.Side.{Side}
 use Rattle.lan_history.specs.declared.event.Side.TheVariants.{A, B}
-use Rattle.lan_packets.specs.Safe.{IsSafe}
+use Rattle.lan_hosts.specs.PacketsSafe.{IsSafe}
 use Rattle.lan_hosts.specs.Fresh.{IsFreshWorld}
 use Rattle.lan_hosts.specs.Refusals.{Table}
 use Rattle.lan_hosts.specs.Runs.{Starts, WorldValue, WorldRun, unused_both, counts_of}

@@ -6,5 +6,9 @@ pub use Rattle.lan_theorem.specs.Hosts.Damage
 pub use Rattle.lan_theorem.specs.Hosts.HostRuns
 pub use Rattle.lan_theorem.specs.Hosts.Quiet
 pub use Rattle.lan_hosts.specs.Runs
-pub use Rattle.interface.specs.Made
-pub use Rattle.interface_egress.specs.Set
+pub use Rattle.lan_theorem.specs.Made
+pub use Rattle.lan_theorem.specs.Set
+pub use Rattle.lan_hosts.specs.Config
+pub use Rattle.lan_hosts.specs.Host
+pub use Rattle.lan_hosts.specs.NewError
+pub use Rattle.lan_hosts.specs.Steps

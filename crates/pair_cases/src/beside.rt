@@ -1,7 +1,7 @@
 //! A socket beside one of a pair, which is told the same: it says of an offer what the pair's answer doesn't, whether there was a packet
 //! and whether it changed anything.
 ghost use Rattle.std.specs.Prelude.{◌≢◌, IfSome, Some};
-ghost use Rattle.tcp_tie.specs.Promises.{IsFresh};
+ghost use Rattle.tcp_pair.specs.Promises.{IsFresh};
 
 use crate::lines::{Todo, at_port};
 use ip_wire::TcpRepr;

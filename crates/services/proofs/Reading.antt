@@ -1,7 +1,7 @@
 -- What reading so many bytes leaves.
 use Rattle.std.proofs.Common.{◌≡◌, ℕ, ap, ◌∙◌, Result, Ok, Err}
 use Rattle.std.specs.Prelude.{OnErr, IfOk}
-use Rattle.tcp_control.specs.declared.error.RecvError.{RecvError}
+use Rattle.tcp_model.specs.RecvError.{RecvError}
 use Rattle.tcp_model.specs.Calls.{recv_answer, recv_after}
 use Rattle.tcp_model.specs.Value.{TcpValue, unoffered}
 use Rattle.services.specs.Site.{talk, read, read_by}

@@ -1,6 +1,6 @@
 -- What the echo services make of their sockets (RFC 862).
 use Rattle.std.specs.Prelude.{ℕ, nat_lt, min, if◌then◌else◌, List, length, take, Option, None, Some}
-use Rattle.net_base.specs.Packets.{first}
+use Rattle.datagram_sockets.specs.Packets.{first}
 use Rattle.datagram_sockets.specs.SocketValue as Datagrams
 use Rattle.datagram_sockets.specs.Udp.{UdpValue, send_after}
 use Rattle.datagram_sockets.specs.declared.udp.UdpMetadata.{UdpMetadata}

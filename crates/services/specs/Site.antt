@@ -1,10 +1,10 @@
 -- What is said on a connection of the site (RFC 9112, sections 6, 7 and 9).
 use Rattle.std.specs.Prelude.{◌≡◌, ℕ, zero, suc, ◌+◌, ◌-◌, ◌%◌, ◌==◌, ◌&&◌, nat_lt, min, Bool, true, false, List, [], length, take, map, codes, Result, Ok, Err}
 use Rattle.std.specs.List.{range_with_len}
-use Rattle.tcp_control.specs.declared.error.RecvError.{RecvError}
-use Rattle.tcp_control.specs.declared.state.State.{State}
-use Rattle.tcp_control.specs.declared.state.State.TheVariants as In
-use Rattle.tcp_control.specs.States.{takes_writes}
+use Rattle.tcp_model.specs.RecvError.{RecvError}
+use Rattle.sockets.specs.State.{State}
+use Rattle.sockets.specs.State.TheVariants as In
+use Rattle.sockets.specs.TcpStates.{takes_writes}
 use Rattle.tcp_model.specs.Calls.{send_after, recv_answer, recv_after, close_after}
 use Rattle.tcp_model.specs.Value.{TcpValue, unoffered}
 use Rattle.services.specs.Counts.{counts_said, one_more}

@@ -1,12 +1,12 @@
 -- The laws of a socket of any kind, from those of each kind.
 use Rattle.std.proofs.Common.{◌≡◌, ℕ, Bool, true, false, ℤ, List, Option, Some, None, is_some, if◌then◌else◌, refl, ap}
-use Rattle.net_base.specs.Packets.{first}
-use Rattle.socket_base.specs.Context.{ContextValue}
-use Rattle.socket_base.specs.Offers.{IsBefore}
-use Rattle.socket_base.specs.Packet.{PacketValue}
-use Rattle.socket_base.specs.declared.offer.Offer as Answer
-use Rattle.socket_base.specs.declared.offer.Offer.TheVariants as Offer
-use Rattle.socket_base.specs.declared.poll_at.PollAt.TheVariants as At
+use Rattle.datagram_sockets.specs.Packets.{first}
+use Rattle.datagram_sockets.specs.Context.{ContextValue}
+use Rattle.datagram_sockets.specs.BaseOffers.{IsBefore}
+use Rattle.datagram_sockets.specs.Packet.{PacketValue}
+use Rattle.datagram_sockets.specs.Offer as Answer
+use Rattle.datagram_sockets.specs.Offer.TheVariants as Offer
+use Rattle.tcp_socket.specs.PollAt.TheVariants as At
 use Rattle.datagram_sockets.specs.Icmp as Icmps
 use Rattle.datagram_sockets.specs.Raw as Raws
 use Rattle.datagram_sockets.specs.Udp as Udps

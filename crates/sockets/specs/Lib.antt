@@ -2,14 +2,14 @@
 -- `Rattle.sockets.specs.UdpMetadata.{UdpMetadata}`.
 pub mod AnySocket
 pub mod Socket
-pub use Rattle.socket_base.specs.Addresses
-pub use Rattle.socket_base.specs.Context
-pub use Rattle.socket_base.specs.Offers as Polling
-pub use Rattle.socket_base.specs.Packet
-pub use Rattle.socket_base.specs.declared.offer.Offer
-pub use Rattle.socket_base.specs.declared.poll_at.PollAt
-pub use Rattle.socket_base.specs.declared.packet.IpPayload
-pub use Rattle.socket_base.specs.declared.packet.Packet as LentPacket
+pub use Rattle.tcp_socket.specs.Addresses
+pub use Rattle.datagram_sockets.specs.Context
+pub use Rattle.datagram_sockets.specs.BaseOffers as Polling
+pub use Rattle.datagram_sockets.specs.Packet
+pub use Rattle.datagram_sockets.specs.Offer
+pub use Rattle.tcp_socket.specs.PollAt
+pub use Rattle.tcp_socket.specs.IpPayload
+pub use Rattle.tcp_socket.specs.Packet as LentPacket
 pub use Rattle.datagram_sockets.specs.SocketValue
 pub use Rattle.datagram_sockets.specs.Offers
 pub use Rattle.datagram_sockets.specs.Dispatch
@@ -36,4 +36,6 @@ pub use Rattle.tcp_model.specs.Segments as TcpSegments
 pub use Rattle.tcp_model.specs.States as TcpStates
 pub use Rattle.tcp_model.specs.Value as TcpValue
 pub use Rattle.tcp_model.specs.State
-pub use Rattle.socket_base.specs.WellFormed
+pub use Rattle.tcp_socket.specs.WellFormed
+pub use Rattle.tcp_socket.specs.Replies
+pub use Rattle.tcp_model.specs.declared.block.CongestionControl

@@ -3,12 +3,12 @@ use Rattle.std.specs.Prelude.{◌≡◌, ℕ, Bool, false, List, Option, None, S
 use Rattle.ip_wire.specs.IpAddress.{IpAddress}
 use Rattle.ip_wire.specs.IpRepr.{IpRepr}
 use Rattle.ip_wire.specs.UdpRepr.{UdpRepr}
-use Rattle.control_wire.specs.Icmpv4Header.{Icmpv4Header}
-use Rattle.control_wire.specs.Icmpv6.{MessageValue}
-use Rattle.socket_base.specs.Context.{ContextValue}
-use Rattle.socket_base.specs.Packet.{PacketValue, IsSendable}
-use Rattle.socket_base.specs.declared.offer.Offer.{Offer}
-use Rattle.socket_base.specs.declared.poll_at.PollAt.{PollAt}
+use Rattle.datagram_sockets.specs.Icmpv4Header.{Icmpv4Header}
+use Rattle.datagram_sockets.specs.Icmpv6.{MessageValue}
+use Rattle.datagram_sockets.specs.Context.{ContextValue}
+use Rattle.datagram_sockets.specs.Packet.{PacketValue, IsSendable}
+use Rattle.datagram_sockets.specs.Offer.{Offer}
+use Rattle.tcp_socket.specs.PollAt.{PollAt}
 use Rattle.datagram_sockets.specs.SocketValue as Datagrams
 use Rattle.datagram_sockets.specs.Offers as Places
 use Rattle.datagram_sockets.specs.Udp as Udps

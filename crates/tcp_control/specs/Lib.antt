@@ -9,3 +9,4 @@ pub use Rattle.socket_base.specs.declared.poll_at.PollAt
 pub use Rattle.socket_base.specs.Context
 pub use Rattle.socket_base.specs.declared.offer.Offer
 pub use Rattle.socket_base.specs.Offers
+pub use Rattle.socket_base.specs.Packet

@@ -2,7 +2,7 @@
 #![tactic(auto)]
 
 ghost use Rattle.std.specs.Prelude.{IfOk};
-ghost use Rattle.tcp_tie.specs.Promises.{IsFresh};
+ghost use Rattle.tcp_pair.specs.Promises.{IsFresh};
 ghost use Rattle.tcp_socket.specs.Receive.{FitsBuffer};
 
 mod courses;

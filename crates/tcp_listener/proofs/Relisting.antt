@@ -6,10 +6,10 @@ use Rattle.interface_egress.specs.declared.socket_set.SocketStorage.{SocketStora
 use Rattle.ip_wire.specs.IpListenEndpoint.{IpListenEndpoint}
 use Rattle.sockets.specs.declared.socket.Socket.{Socket}
 use Rattle.sockets.specs.declared.socket.Socket.TheVariants as Kind
-use Rattle.tcp_control.specs.declared.state.State.{State}
-use Rattle.tcp_control.specs.declared.state.State.TheVariants as In
-use Rattle.tcp_control.specs.States.{is_closed}
-use Rattle.tcp_model.specs.Value.{TcpValue}
+use Rattle.sockets.specs.State.{State}
+use Rattle.sockets.specs.State.TheVariants as In
+use Rattle.sockets.specs.TcpStates.{is_closed}
+use Rattle.sockets.specs.TcpValue.{TcpValue}
 use Rattle.tcp_listener.specs.declared.entry.Entry.{Entry}
 use Rattle.tcp_listener.specs.Noted.{socket_state, item_state, state_at, relisted, relisted_socket, relisted_item, relisted_place, ComesTo, IsNoted}
 use Rattle.tcp_listener.specs.Stages.{stage_after}

@@ -7,7 +7,7 @@ use Rattle.interface_egress.specs.Set.{free}
 use Rattle.interface_egress.specs.declared.socket_set.SocketStorage.{SocketStorage}
 use Rattle.ip_wire.specs.IpListenEndpoint.{IpListenEndpoint}
 use Rattle.sockets.specs.declared.socket.Socket.{Socket}
-use Rattle.tcp_control.specs.declared.state.State.{State}
+use Rattle.sockets.specs.State.{State}
 use Rattle.tcp_listener.specs.declared.entry.Entry.{Entry}
 use Rattle.tcp_listener.specs.Entries.{entry_at, no_entry}
 use Rattle.tcp_listener.specs.Stages.{is_accepted}

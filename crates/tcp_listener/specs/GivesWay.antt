@@ -6,8 +6,8 @@ use Rattle.interface_egress.specs.declared.socket_set.SocketStorage.{SocketStora
 use Rattle.ip_wire.specs.IpListenEndpoint.{IpListenEndpoint}
 use Rattle.sockets.specs.declared.socket.Socket.{Socket}
 use Rattle.sockets.specs.declared.socket.Socket.TheVariants as Kind
-use Rattle.tcp_model.specs.Calls.{listen_after, abort_after}
-use Rattle.tcp_model.specs.Value.{TcpValue}
+use Rattle.sockets.specs.TcpCalls.{listen_after, abort_after}
+use Rattle.sockets.specs.TcpValue.{TcpValue}
 use Rattle.tcp_listener.specs.declared.entry.Entry.{Entry}
 use Rattle.tcp_listener.specs.declared.stage.Stage.{Stage}
 use Rattle.tcp_listener.specs.declared.stage.Stage.TheVariants as Is

@@ -6,9 +6,9 @@ use Rattle.interface_egress.specs.declared.socket_set.SocketStorage.{SocketStora
 use Rattle.ip_wire.specs.IpListenEndpoint.{IpListenEndpoint}
 use Rattle.sockets.specs.declared.socket.Socket.{Socket}
 use Rattle.sockets.specs.declared.socket.Socket.TheVariants as Kind
-use Rattle.tcp_control.specs.States.{is_listening}
-use Rattle.tcp_model.specs.Settings.{pause_synack}
-use Rattle.tcp_model.specs.Value.{TcpValue}
+use Rattle.sockets.specs.TcpStates.{is_listening}
+use Rattle.sockets.specs.TcpSettings.{pause_synack}
+use Rattle.sockets.specs.TcpValue.{TcpValue}
 use Rattle.tcp_listener.specs.GivesWay.{restarted}
 use Rattle.tcp_listener.specs.Noted.{place_at}
 

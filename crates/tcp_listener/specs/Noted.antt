@@ -6,10 +6,10 @@ use Rattle.interface_egress.specs.declared.socket_set.SocketStorage.{SocketStora
 use Rattle.ip_wire.specs.IpListenEndpoint.{IpListenEndpoint}
 use Rattle.sockets.specs.declared.socket.Socket.{Socket}
 use Rattle.sockets.specs.declared.socket.Socket.TheVariants as Kind
-use Rattle.tcp_control.specs.declared.state.State.{State}
-use Rattle.tcp_control.specs.States.{is_closed}
-use Rattle.tcp_model.specs.Calls.{listen_after}
-use Rattle.tcp_model.specs.Value.{TcpValue}
+use Rattle.sockets.specs.State.{State}
+use Rattle.sockets.specs.TcpStates.{is_closed}
+use Rattle.sockets.specs.TcpCalls.{listen_after}
+use Rattle.sockets.specs.TcpValue.{TcpValue}
 use Rattle.tcp_listener.specs.declared.entry.Entry.{Entry}
 use Rattle.tcp_listener.specs.declared.stage.Stage.{Stage}
 use Rattle.tcp_listener.specs.Entries.{entry_at}

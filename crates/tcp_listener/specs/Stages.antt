@@ -1,7 +1,7 @@
 -- How far a socket of a backlog came, by its state.
 use Rattle.std.specs.Prelude.{Bool, true, false}
-use Rattle.tcp_control.specs.declared.state.State.{State}
-use Rattle.tcp_control.specs.declared.state.State.TheVariants as In
+use Rattle.sockets.specs.State.{State}
+use Rattle.sockets.specs.State.TheVariants as In
 use Rattle.tcp_listener.specs.declared.stage.Stage.{Stage}
 use Rattle.tcp_listener.specs.declared.stage.Stage.TheVariants as Is
 

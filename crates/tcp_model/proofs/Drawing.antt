@@ -6,8 +6,8 @@ use Rattle.std.proofs.lemmas.Bool.Decides.{nat_tests}
 use Rattle.held_bytes.specs.Held.{runs_of}
 use Rattle.ip_wire.specs.IpRepr.{IpRepr}
 use Rattle.ip_wire.specs.TcpHeader.{TcpHeader}
-use Rattle.socket_base.specs.Context.{ContextValue}
-use Rattle.socket_base.specs.Offers.{Offered}
+use Rattle.tcp_control.specs.Context.{ContextValue}
+use Rattle.tcp_control.specs.Offers.{Offered}
 use Rattle.tcp_control.specs.Controls.{is_syn, is_rst}
 use Rattle.tcp_control.specs.Moments.{is_due, is_over, next_draw_from}
 use Rattle.tcp_control.specs.Offsets.{before_by, past_by, meets_window}

@@ -2,11 +2,11 @@
 use Rattle.std.proofs.Common.{◌≡◌, Bool, true, false, ◌||◌, ◌&&◌, ◌==◌, is_none, if◌then◌else◌, ℤ, ◌<ℤ◌, int_lt, int_le, Option, Some, None, List, [], ◌∷◌}
 use Rattle.std.proofs.Common.{refl, sym, ap, ◌∙◌, subst, arith}
 use Rattle.std.proofs.lemmas.Bool.{cond_both}
-use Rattle.socket_base.specs.Offers.{IsBefore, Offered, offered_as}
-use Rattle.socket_base.specs.Context.{ContextValue}
-use Rattle.socket_base.specs.declared.offer.Offer.TheVariants as Answer
-use Rattle.socket_base.specs.declared.poll_at.PollAt.{PollAt}
-use Rattle.socket_base.specs.declared.poll_at.PollAt.TheVariants as At
+use Rattle.tcp_control.specs.Offers.{IsBefore, Offered, offered_as}
+use Rattle.tcp_control.specs.Context.{ContextValue}
+use Rattle.tcp_control.specs.Offer.TheVariants as Answer
+use Rattle.tcp_control.specs.PollAt.{PollAt}
+use Rattle.tcp_control.specs.PollAt.TheVariants as At
 use Rattle.tcp_model.specs.declared.block.Block.{Block}
 use Rattle.tcp_control.specs.declared.endpoints.EndpointPair.{EndpointPair}
 use Rattle.tcp_control.specs.declared.offer.OfferKind.TheVariants as Kind

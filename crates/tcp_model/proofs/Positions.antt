@@ -3,7 +3,7 @@ use Rattle.std.proofs.Common.{◌≡◌, ℕ, ◌+◌, ◌-◌, ◌%◌, ◌^◌
 use Rattle.std.proofs.lemmas.Bool.Decides.{nat_tests}
 use Rattle.ip_wire.specs.Seq.{distance_of}
 use Rattle.ip_wire.specs.SeqNumber.{SeqNumber}
-use Rattle.tcp_law.specs.Numbers.{wire, ahead, nearest}
+use Rattle.held_bytes.specs.Numbers.{wire, ahead, nearest}
 use Rattle.tcp_control.specs.Offsets.{past_by, before_by}
 
 -- the distance to a number from that of a position

@@ -4,10 +4,10 @@ use Rattle.std.proofs.Common.{subst}
 use Rattle.std.proofs.lemmas.Bool.{cond_both}
 use Rattle.ip_wire.specs.IpRepr.{IpRepr}
 use Rattle.ip_wire.specs.TcpHeader.{TcpHeader}
-use Rattle.socket_base.specs.Context.{ContextValue}
-use Rattle.socket_base.specs.Offers.{Offered}
-use Rattle.socket_base.specs.declared.offer.Offer.TheVariants as Answer
-use Rattle.socket_base.specs.declared.poll_at.PollAt.TheVariants as At
+use Rattle.tcp_control.specs.Context.{ContextValue}
+use Rattle.tcp_control.specs.Offers.{Offered}
+use Rattle.tcp_control.specs.Offer.TheVariants as Answer
+use Rattle.tcp_control.specs.PollAt.TheVariants as At
 use Rattle.tcp_control.specs.Moments.{is_due}
 use Rattle.tcp_control.specs.States.{is_time_wait, is_closed, is_opening, takes_writes, after_close}
 use Rattle.tcp_control.specs.declared.endpoints.EndpointPair.{EndpointPair}

@@ -5,7 +5,7 @@ use Rattle.held_bytes.specs.Held.{runs_of}
 use Rattle.ip_wire.specs.IpRepr.{IpRepr}
 use Rattle.ip_wire.specs.SeqNumber.{SeqNumber}
 use Rattle.ip_wire.specs.TcpHeader.{TcpHeader}
-use Rattle.socket_base.specs.Context.{ContextValue}
+use Rattle.tcp_control.specs.Context.{ContextValue}
 use Rattle.tcp_model.specs.declared.block.Block.{Block}
 use Rattle.tcp_model.specs.Blocks.{own_shift, edge_after}
 use Rattle.tcp_control.specs.Controls.{is_fin}

@@ -8,8 +8,8 @@ use Rattle.ip_wire.specs.IpAddress.{IpAddress}
 use Rattle.ip_wire.specs.IpEndpoint.{IpEndpoint}
 use Rattle.ip_wire.specs.IpListenEndpoint.{IpListenEndpoint}
 use Rattle.ip_wire.specs.AddressTests.{is_unspecified}
-use Rattle.socket_base.specs.Context.{ContextValue, next_random}
-use Rattle.tcp_law.specs.ReceiveMap.{space}
+use Rattle.tcp_control.specs.Context.{ContextValue, next_random}
+use Rattle.held_bytes.specs.ReceiveMap.{space}
 use Rattle.tcp_control.specs.declared.endpoints.AddressPair.{AddressPair}
 use Rattle.tcp_model.specs.declared.block.Block.{Block}
 use Rattle.tcp_control.specs.declared.endpoints.EndpointPair.{EndpointPair}

@@ -1,8 +1,8 @@
 -- When a socket wants to be polled. The answer doesn't depend on the moment: `poll_of` has none among its arguments.
 use Rattle.std.specs.Prelude.{ℕ, ◌||◌, ℤ, Bool, false, if◌then◌else◌, List, [], ◌∷◌, Option, Some, None}
 use Rattle.net_base.specs.Ring.{Ring}
-use Rattle.socket_base.specs.declared.poll_at.PollAt.{PollAt}
-use Rattle.socket_base.specs.declared.poll_at.PollAt.TheVariants as At
+use Rattle.tcp_control.specs.PollAt.{PollAt}
+use Rattle.tcp_control.specs.PollAt.TheVariants as At
 use Rattle.tcp_control.specs.declared.endpoints.AddressPair.{AddressPair}
 use Rattle.tcp_model.specs.declared.block.Block.{Block}
 use Rattle.tcp_control.specs.declared.endpoints.EndpointPair.{EndpointPair}

@@ -6,8 +6,8 @@ use Rattle.ip_wire.specs.IpRepr.{IpRepr}
 use Rattle.net_base.specs.Capabilities.{all_checksums}
 use Rattle.net_base.specs.Checksum.TheVariants as Checksum
 use Rattle.net_base.specs.Ring.{ring}
-use Rattle.socket_base.specs.Context.{ContextValue}
-use Rattle.socket_base.specs.Packet.{PacketValue, PayloadValue, Segment}
+use Rattle.tcp_control.specs.Context.{ContextValue}
+use Rattle.tcp_control.specs.Packet.{PacketValue, PayloadValue, Segment}
 use Rattle.tcp_control.specs.declared.endpoints.EndpointPair.{EndpointPair}
 use Rattle.tcp_control.specs.declared.endpoints.AddressPair.TheVariants as Pair
 use Rattle.tcp_control.specs.declared.offer.Reply.{Reply}

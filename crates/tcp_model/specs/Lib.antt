@@ -44,6 +44,7 @@ pub use Rattle.tcp_control.specs.declared.offer.OpenOffer
 pub use Rattle.tcp_control.specs.declared.offer.Reply
 pub use Rattle.tcp_control.specs.declared.endpoints.AddressPair
 pub use Rattle.tcp_control.specs.declared.endpoints.EndpointPair
-pub use Rattle.socket_base.specs.Context
-pub use Rattle.socket_base.specs.Offers as BaseOffers
-pub use Rattle.socket_base.specs.declared.offer.Offer
+pub use Rattle.tcp_control.specs.Context
+pub use Rattle.tcp_control.specs.Offers as BaseOffers
+pub use Rattle.tcp_control.specs.Offer
+pub use Rattle.held_bytes.specs.Held

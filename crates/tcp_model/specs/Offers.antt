@@ -3,11 +3,11 @@ use Rattle.std.specs.Prelude.{ℕ, ◌+◌, ◌==◌, ℤ, Bool, true, false, if
 use Rattle.ip_wire.specs.SeqNumber.{SeqNumber}
 use Rattle.ip_wire.specs.Tcp.{header_len}
 use Rattle.ip_wire.specs.TcpHeader.{TcpHeader}
-use Rattle.socket_base.specs.Context.{ContextValue}
-use Rattle.socket_base.specs.Offers.{Offered, offered_as}
-use Rattle.socket_base.specs.Packet.{PacketValue, packet_of}
-use Rattle.socket_base.specs.Packet as Carried
-use Rattle.socket_base.specs.declared.offer.Offer.TheVariants as Answer
+use Rattle.tcp_control.specs.Context.{ContextValue}
+use Rattle.tcp_control.specs.Offers.{Offered, offered_as}
+use Rattle.tcp_control.specs.Packet.{PacketValue, packet_of}
+use Rattle.tcp_control.specs.Packet as Carried
+use Rattle.tcp_control.specs.Offer.TheVariants as Answer
 use Rattle.tcp_model.specs.declared.block.Block.{Block}
 use Rattle.tcp_control.specs.declared.endpoints.EndpointPair.{EndpointPair}
 use Rattle.tcp_control.specs.declared.offer.OfferKind.{OfferKind}

@@ -2,7 +2,7 @@
 use Rattle.std.specs.Prelude.{◌≡◌, ℕ, not, ◌&&◌, ◌||◌, ℤ, pos, ◌+ℤ◌, ◌≤ℤ◌, Bool, true, false, if◌then◌else◌, List, [], ◌∷◌, ◌++◌, length, Option, is_some}
 use Rattle.ip_wire.specs.IpRepr.{IpRepr}
 use Rattle.ip_wire.specs.TcpHeader.{TcpHeader}
-use Rattle.socket_base.specs.Context.{ContextValue}
+use Rattle.tcp_control.specs.Context.{ContextValue}
 use Rattle.tcp_control.specs.Controls.{is_syn, is_rst}
 use Rattle.tcp_control.specs.States.{is_closed, is_listening}
 use Rattle.tcp_control.specs.declared.state.State.{State}

@@ -1,6 +1,6 @@
 -- A socket that has nothing to offer at a moment.
 use Rattle.std.specs.Prelude.{◌≡◌, ℤ, false, List, [], ◌∷◌, Option}
-use Rattle.socket_base.specs.Context.{ContextValue}
+use Rattle.tcp_control.specs.Context.{ContextValue}
 use Rattle.tcp_control.specs.declared.endpoints.EndpointPair.{EndpointPair}
 use Rattle.tcp_control.specs.Moments.{is_due}
 use Rattle.tcp_model.specs.Probing.{is_probe_unset, probe_moment}

@@ -2,7 +2,7 @@
 use Rattle.std.specs.Prelude.{ℕ, ◌+◌, ◌-◌, ◌==◌, nat_lt, nat_le, not, ◌&&◌, ℤ, Bool, true, false, if◌then◌else◌, List, ◌++◌, length, drop, Option, Some, None}
 use Rattle.held_bytes.specs.Held.{runs_of}
 use Rattle.ip_wire.specs.TcpHeader.{TcpHeader}
-use Rattle.tcp_law.specs.ReceiveMap.{store, front, behind}
+use Rattle.held_bytes.specs.ReceiveMap.{store, front, behind}
 use Rattle.tcp_model.specs.declared.block.Block.{Block}
 use Rattle.tcp_model.specs.Acknowledged.{in_state}
 use Rattle.tcp_control.specs.Controls.{is_fin}

@@ -1,7 +1,7 @@
 -- A socket as a value.
 use Rattle.std.specs.Prelude.{ℕ, ◌+◌, Bool, false, List, [], length, Option, Some, None}
 use Rattle.net_base.specs.Ring.{Ring, cleared}
-use Rattle.tcp_law.specs.ReceiveMap.{space}
+use Rattle.held_bytes.specs.ReceiveMap.{space}
 use Rattle.tcp_model.specs.Blocks.{fresh_block, forgotten, default_settings, window_field, announced}
 use Rattle.tcp_model.specs.declared.block.Block.{Block}
 use Rattle.tcp_control.specs.declared.offer.OpenOffer.{OpenOffer}

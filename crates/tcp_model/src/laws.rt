@@ -5,7 +5,7 @@ ghost use Rattle.ip_wire.specs.SeqNumber.{SeqNumber};
 ghost use Rattle.tcp_control.specs.Context.{ContextValue};
 ghost use Rattle.tcp_control.specs.Offers.{IsBefore, offered_as};
 ghost use Rattle.tcp_control.specs.Offer.TheVariants as Answer;
-ghost use Rattle.tcp_law.specs.Numbers.{wire, nearest};
+ghost use Rattle.held_bytes.specs.Numbers.{wire, nearest};
 ghost use Rattle.tcp_control.specs.declared.endpoints.EndpointPair.{EndpointPair};
 ghost use Rattle.tcp_model.specs.Due.{poll_open, poll_of};
 ghost use Rattle.tcp_model.specs.Offers.{offer_of};

@@ -6,12 +6,12 @@ use Rattle.std.proofs.lemmas.Option.{slice_get-map}
 use Rattle.std.proofs.lemmas.List.{map-append}
 use Rattle.ip_wire.specs.IpEndpoint.{IpEndpoint}
 use Rattle.ip_wire.specs.IpListenEndpoint.{IpListenEndpoint}
-use Rattle.socket_base.specs.Context.{ContextValue}
-use Rattle.tcp_law.specs.Segment.{Segment}
-use Rattle.tcp_law.specs.Invariant.{HoldsBetween, FitsPhase}
-use Rattle.tcp_law.specs.Side.{Phase, Side as Half}
-use Rattle.tcp_law.specs.Side.Phase.{SynSent}
-use Rattle.tcp_law.specs.Side.Opening.{NotYet, Passive, Active}
+use Rattle.tcp_model.specs.Context.{ContextValue}
+use Rattle.tcp_tie.specs.Segment.{Segment}
+use Rattle.tcp_tie.specs.Invariant.{HoldsBetween, FitsPhase}
+use Rattle.tcp_tie.specs.Side.{Phase, Side as Half}
+use Rattle.tcp_tie.specs.Side.Phase.{SynSent}
+use Rattle.tcp_tie.specs.Side.Opening.{NotYet, Passive, Active}
 use Rattle.tcp_model.specs.ConnectError.{ConnectError}
 use Rattle.tcp_model.specs.ConnectError.TheVariants as Connecting
 use Rattle.tcp_model.specs.ListenError.{ListenError}

@@ -1,6 +1,6 @@
 -- What was seen of each socket of a pair, as the events and their answers tell it.
 use Rattle.std.specs.Prelude.{ℕ, List, [], ◌∷◌, map, reverse, take}
-use Rattle.tcp_law.specs.Side.Opening.{NotYet}
+use Rattle.tcp_tie.specs.Side.Opening.{NotYet}
 use Rattle.tcp_model.specs.State.{State}
 use Rattle.tcp_tie.specs.History.{listened, called, with_written, with_read, closes_in, closed_by}
 use Rattle.tcp_tie.specs.Tie.{Past, no_past}

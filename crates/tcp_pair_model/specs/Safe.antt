@@ -1,6 +1,6 @@
 -- What holds of each pair, whatever happened to it.
 use Rattle.std.specs.Prelude.{◌≡◌, ℕ, ◌-◌, ◌≤◌, true, List, [], ◌∷◌, ◌++◌, length}
-use Rattle.tcp_law.specs.Safe.{IsPrefixOf}
+use Rattle.tcp_tie.specs.Safe.{IsPrefixOf}
 use Rattle.tcp_tie.specs.Tie.{Past, Keeps}
 use Rattle.tcp_pair_model.specs.declared.event.Side.{Side}
 use Rattle.tcp_pair_model.specs.declared.event.Side.TheVariants.{A, B}

@@ -5,8 +5,8 @@ use Rattle.net_base.specs.RandomWords.{next_state}
 use Rattle.net_base.specs.Time.{last_moment}
 use Rattle.ip_wire.specs.IpEndpoint.{IpEndpoint}
 use Rattle.ip_wire.specs.IpListenEndpoint.{IpListenEndpoint}
-use Rattle.tcp_law.specs.Side.{Opening}
-use Rattle.tcp_law.specs.Side.Opening.{NotYet, Passive, Active}
+use Rattle.tcp_tie.specs.Side.{Opening}
+use Rattle.tcp_tie.specs.Side.Opening.{NotYet, Passive, Active}
 use Rattle.tcp_model.specs.ConnectError.{ConnectError}
 use Rattle.tcp_model.specs.ConnectError.TheVariants as Connecting
 use Rattle.tcp_model.specs.ListenError.{ListenError}

@@ -6,8 +6,8 @@ use Rattle.ip_wire.specs.AddressTests.{is_same_address}
 use Rattle.ip_wire.specs.IpAddress.{IpAddress}
 use Rattle.ip_wire.specs.IpAddress.TheVariants as Ip
 use Rattle.ip_wire.specs.Ipv4Address.{Ipv4Address}
-use Rattle.socket_base.specs.Context.{ContextValue}
-use Rattle.tcp_law.specs.Segment.{Segment}
+use Rattle.tcp_model.specs.Context.{ContextValue}
+use Rattle.tcp_tie.specs.Segment.{Segment}
 use Rattle.tcp_model.specs.OpenOffer.{OpenOffer}
 use Rattle.tcp_model.specs.Reply.{Reply}
 use Rattle.tcp_model.specs.Offers.{payload_of}

@@ -1,6 +1,6 @@
 //! Two sockets, and events with their answers as lines of a table.
 ghost use Rattle.std.specs.Prelude.{IfOk};
-ghost use Rattle.tcp_tie.specs.Promises.{IsFresh};
+ghost use Rattle.tcp_pair.specs.Promises.{IsFresh};
 ghost use Rattle.tcp_socket.specs.Receive.{FitsBuffer};
 
 use ip_wire::{IpAddress, IpEndpoint, IpListenEndpoint, SeqNumber};

@@ -4,7 +4,7 @@ use Rattle.std.proofs.lemmas.Bool.{cond_both}
 use Rattle.ip_wire.specs.IpRepr.{IpRepr}
 use Rattle.ip_wire.specs.TcpHeader.{TcpHeader}
 use Rattle.net_base.specs.RandomWords.{word}
-use Rattle.socket_base.specs.Context.{ContextValue, next_random}
+use Rattle.tcp_model.specs.Context.{ContextValue, next_random}
 use Rattle.tcp_law.specs.Alone.{AreResets, unopened}
 use Rattle.tcp_law.specs.Invariant.{HoldsBetween}
 use Rattle.tcp_law.specs.Segment.{Segment}

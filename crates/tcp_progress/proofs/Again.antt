@@ -3,20 +3,20 @@ use Rattle.std.proofs.Common.{◌≡◌, inl, inr, ℕ, ◌+◌, ◌-◌, ◌%�
 use Rattle.ip_wire.specs.SeqNumber.{SeqNumber}
 use Rattle.ip_wire.specs.Tcp.{header_len}
 use Rattle.ip_wire.specs.TcpHeader.{TcpHeader}
-use Rattle.socket_base.specs.Context.{ContextValue}
-use Rattle.socket_base.specs.Offers.{Offered}
-use Rattle.tcp_control.specs.Endpoints.{header_for}
-use Rattle.tcp_control.specs.Moments.{is_due}
-use Rattle.tcp_control.specs.declared.endpoints.EndpointPair.{EndpointPair}
-use Rattle.tcp_control.specs.declared.offer.OfferKind.{OfferKind}
-use Rattle.tcp_control.specs.declared.offer.OfferKind.TheVariants as Kind
-use Rattle.tcp_control.specs.declared.offer.OpenOffer.{OpenOffer}
-use Rattle.tcp_model.specs.Blocks.{one_if}
-use Rattle.tcp_model.specs.Offers.{offer_of, offer_segment, offer_choice, number_at}
-use Rattle.tcp_model.specs.Rules.{Choice, next_place, text_choice, resend_choice, probe_choice, control_for, backed_off_now}
-use Rattle.tcp_model.specs.Segments.{hops_of, segment, ack_segment, syn_segment, reset_segment, keep_alive_segment}
-use Rattle.tcp_model.specs.Value.{TcpValue, with_block, unoffered, queued_in, free_in, room_of, window_of}
-use Rattle.tcp_model.specs.declared.block.Block.{Block}
+use Rattle.tcp_tie.specs.Context.{ContextValue}
+use Rattle.tcp_tie.specs.Offers.{Offered}
+use Rattle.tcp_rules.specs.Endpoints.{header_for}
+use Rattle.tcp_rules.specs.Moments.{is_due}
+use Rattle.tcp_rules.specs.EndpointPair.{EndpointPair}
+use Rattle.tcp_rules.specs.OfferKind.{OfferKind}
+use Rattle.tcp_rules.specs.OfferKind.TheVariants as Kind
+use Rattle.tcp_rules.specs.OpenOffer.{OpenOffer}
+use Rattle.tcp_pair_model.specs.Blocks.{one_if}
+use Rattle.tcp_pair_model.specs.Offers.{offer_of, offer_segment, offer_choice, number_at}
+use Rattle.tcp_pair_model.specs.Rules.{Choice, next_place, text_choice, resend_choice, probe_choice, control_for, backed_off_now}
+use Rattle.tcp_pair_model.specs.Segments.{hops_of, segment, ack_segment, syn_segment, reset_segment, keep_alive_segment}
+use Rattle.tcp_pair_model.specs.Value.{TcpValue, with_block, unoffered, queued_in, free_in, room_of, window_of}
+use Rattle.tcp_pair_model.specs.Block.{Block}
 use Rattle.tcp_rules.proofs.OfferCases.{FirstRules, by_rules, begun, probing}
 use Rattle.tcp_rules.proofs.OrderSteps.{clash}
 use Rattle.tcp_rules.specs.Timing.{carries}

@@ -1,11 +1,11 @@
 -- What each event of a socket keeps, each event of a pair keeps.
 use Rattle.std.proofs.Common.{ℕ, true, false, List, [], ◌∷◌, Option, Some, None, Result, Ok, Err, slice_get, subst, sym}
 use Rattle.std.proofs.lemmas.Bool.{cond_both}
-use Rattle.tcp_model.specs.Arrival.{arrives}
-use Rattle.tcp_model.specs.Calls.{recv_answer}
-use Rattle.tcp_model.specs.Names.{accepts}
-use Rattle.tcp_model.specs.Value.{TcpValue, unoffered}
-use Rattle.tcp_control.specs.declared.error.RecvError.{RecvError}
+use Rattle.tcp_pair_model.specs.Arrival.{arrives}
+use Rattle.tcp_pair_model.specs.Calls.{recv_answer}
+use Rattle.tcp_pair_model.specs.Names.{accepts}
+use Rattle.tcp_pair_model.specs.Value.{TcpValue, unoffered}
+use Rattle.tcp_rules.specs.RecvError.{RecvError}
 use Rattle.tcp_pair_model.specs.declared.event.Side.{Side}
 use Rattle.tcp_pair_model.specs.declared.event.Side.TheVariants.{A, B}
 use Rattle.tcp_pair_model.specs.declared.event.SentSegment.{SentSegment}

@@ -1,14 +1,14 @@
 -- RCV.NXT of a partner lies between SND.UNA and the end of what may be acknowledged.
 use Rattle.std.proofs.Common.{◌≡◌, ℕ, suc, ◌+◌, ◌-◌, ◌%◌, ◌^◌, ◌<◌, ◌≤◌, Bool, true, false, length, refl, sym, ap, ◌∙◌, subst, arith}
 use Rattle.ip_wire.specs.Seq.{distance_of}
-use Rattle.tcp_control.specs.States.{owes_fin}
-use Rattle.tcp_control.specs.declared.state.State.{State}
-use Rattle.tcp_control.specs.declared.state.State.TheVariants as In
+use Rattle.tcp_rules.specs.States.{owes_fin}
+use Rattle.tcp_rules.specs.State.{State}
+use Rattle.tcp_rules.specs.State.TheVariants as In
 use Rattle.tcp_law.specs.Invariant.{IsInStep, OneWay}
 use Rattle.tcp_law.specs.Side.{Side, rcv_next, send_end, taken_in, one_if as one_in}
 use Rattle.tcp_law.proofs.Lists.{Begins-length}
-use Rattle.tcp_model.specs.Blocks.{one_if, unacked}
-use Rattle.tcp_model.specs.Value.{TcpValue, queued_in}
+use Rattle.tcp_pair_model.specs.Blocks.{one_if, unacked}
+use Rattle.tcp_pair_model.specs.Value.{TcpValue, queued_in}
 use Rattle.tcp_tie.specs.Tie.{Past, Keeps, IsConnectedAs, unsent, core_of}
 use Rattle.tcp_tie.proofs.Tied.{is_connected, fits_connected}
 use Rattle.tcp_rules.proofs.OrderSteps.{clash}

@@ -6,31 +6,31 @@ use Rattle.ip_wire.specs.Tcp.{header_len}
 use Rattle.ip_wire.specs.TcpHeader.{TcpHeader}
 use Rattle.net_base.specs.RandomWords.{word}
 use Rattle.net_base.specs.Ring.{Ring, anchored, enqueued}
-use Rattle.socket_base.specs.Context.{ContextValue, next_random}
-use Rattle.socket_base.specs.Offers.{Offered, IsBefore, offered_as}
-use Rattle.socket_base.specs.declared.offer.Offer.TheVariants as Answer
-use Rattle.socket_base.specs.declared.poll_at.PollAt.TheVariants as At
-use Rattle.tcp_control.specs.Endpoints.{header_for}
-use Rattle.tcp_control.specs.Moments.{is_over, timeout_from}
-use Rattle.tcp_control.specs.States.{is_closed, is_listening, is_opening, is_time_wait, takes_writes, after_close}
-use Rattle.tcp_control.specs.declared.endpoints.EndpointPair.{EndpointPair}
-use Rattle.tcp_control.specs.declared.offer.OfferKind.{OfferKind}
-use Rattle.tcp_control.specs.declared.offer.OfferKind.TheVariants as Kind
-use Rattle.tcp_control.specs.declared.offer.OpenOffer.{OpenOffer}
-use Rattle.tcp_control.specs.declared.state.State.{State}
-use Rattle.tcp_control.specs.declared.state.State.TheVariants as In
-use Rattle.tcp_model.specs.Acknowledged.{windowed}
-use Rattle.tcp_model.specs.Arrival.{arrives, waiting_anew}
-use Rattle.tcp_model.specs.Calls.{listening, connecting, connected_by, pair_for, sent_more}
-use Rattle.tcp_model.specs.Due.{poll_of}
-use Rattle.tcp_model.specs.Offers.{offer_of, number_at}
-use Rattle.tcp_model.specs.Retries.{heard, asked, one_more}
-use Rattle.tcp_model.specs.Rules.{backed_off_now, probe_choice, control_for}
-use Rattle.tcp_model.specs.Segments.{hops_of, segment, keep_alive_segment}
-use Rattle.tcp_model.specs.Settled.{settled, recorded, probed, end_of}
-use Rattle.tcp_model.specs.Value.{TcpValue, Arrived, with_block, unoffered, ended, new_socket, queued_in, room_of, window_of}
-use Rattle.tcp_model.specs.declared.block.Block.{Block}
-use Rattle.tcp_model.specs.declared.block.Names.{Names}
+use Rattle.tcp_tie.specs.Context.{ContextValue, next_random}
+use Rattle.tcp_tie.specs.Offers.{Offered, IsBefore, offered_as}
+use Rattle.tcp_tie.specs.Offer.TheVariants as Answer
+use Rattle.tcp_tie.specs.PollAt.TheVariants as At
+use Rattle.tcp_rules.specs.Endpoints.{header_for}
+use Rattle.tcp_rules.specs.Moments.{is_over, timeout_from}
+use Rattle.tcp_rules.specs.States.{is_closed, is_listening, is_opening, is_time_wait, takes_writes, after_close}
+use Rattle.tcp_rules.specs.EndpointPair.{EndpointPair}
+use Rattle.tcp_rules.specs.OfferKind.{OfferKind}
+use Rattle.tcp_rules.specs.OfferKind.TheVariants as Kind
+use Rattle.tcp_rules.specs.OpenOffer.{OpenOffer}
+use Rattle.tcp_rules.specs.State.{State}
+use Rattle.tcp_rules.specs.State.TheVariants as In
+use Rattle.tcp_pair_model.specs.Acknowledged.{windowed}
+use Rattle.tcp_pair_model.specs.Arrival.{arrives, waiting_anew}
+use Rattle.tcp_pair_model.specs.Calls.{listening, connecting, connected_by, pair_for, sent_more}
+use Rattle.tcp_pair_model.specs.Due.{poll_of}
+use Rattle.tcp_pair_model.specs.Offers.{offer_of, number_at}
+use Rattle.tcp_pair_model.specs.Retries.{heard, asked, one_more}
+use Rattle.tcp_pair_model.specs.Rules.{backed_off_now, probe_choice, control_for}
+use Rattle.tcp_pair_model.specs.Segments.{hops_of, segment, keep_alive_segment}
+use Rattle.tcp_pair_model.specs.Settled.{settled, recorded, probed, end_of}
+use Rattle.tcp_pair_model.specs.Value.{TcpValue, Arrived, with_block, unoffered, ended, new_socket, queued_in, room_of, window_of}
+use Rattle.tcp_pair_model.specs.Block.{Block}
+use Rattle.tcp_rules.specs.Names.{Names}
 use Rattle.tcp_pair_model.specs.Sides.{at}
 use Rattle.tcp_pair_model.specs.Values.{PairValue, new_pair}
 use Rattle.tcp_pair_model.specs.declared.event.Side.{Side}

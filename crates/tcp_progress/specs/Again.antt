@@ -1,8 +1,8 @@
 -- When a socket sends from SND.UNA on.
 use Rattle.std.specs.Prelude.{◌≡◌, ◌⊎◌, true}
-use Rattle.socket_base.specs.Context.{ContextValue}
-use Rattle.tcp_control.specs.Moments.{is_due}
-use Rattle.tcp_model.specs.Value.{TcpValue}
+use Rattle.tcp_tie.specs.Context.{ContextValue}
+use Rattle.tcp_rules.specs.Moments.{is_due}
+use Rattle.tcp_pair_model.specs.Value.{TcpValue}
 
 -- nothing is in flight, or the retransmission timer has run out
 abbrev pub StartsOver : ContextValue → TcpValue → Type 0

@@ -3,18 +3,18 @@ use Rattle.std.specs.Prelude.{◌≡◌, ◌⊎◌, ℕ, ◌+◌, ◌-◌, ◌^�
 use Rattle.ip_wire.specs.Seq.{distance_of}
 use Rattle.ip_wire.specs.SeqNumber.{SeqNumber}
 use Rattle.ip_wire.specs.TcpHeader.{TcpHeader}
-use Rattle.socket_base.specs.Context.{ContextValue}
-use Rattle.tcp_control.specs.Controls.{is_syn, is_rst}
-use Rattle.tcp_control.specs.Offsets.{behind_by}
-use Rattle.tcp_control.specs.States.{is_answering, takes_text}
-use Rattle.tcp_control.specs.declared.offer.Reply.{Reply}
-use Rattle.tcp_control.specs.declared.state.State.{State}
-use Rattle.tcp_model.specs.Answers.{delayed}
-use Rattle.tcp_model.specs.Blocks.{top}
-use Rattle.tcp_model.specs.Checks.{is_in_window, lies_before}
-use Rattle.tcp_model.specs.Segments.{segment_len}
-use Rattle.tcp_model.specs.Value.{TcpValue, Arrived, free_in, room_of}
-use Rattle.tcp_model.specs.declared.block.Block.{Block}
+use Rattle.tcp_tie.specs.Context.{ContextValue}
+use Rattle.tcp_rules.specs.Controls.{is_syn, is_rst}
+use Rattle.tcp_rules.specs.Offsets.{behind_by}
+use Rattle.tcp_rules.specs.States.{is_answering, takes_text}
+use Rattle.tcp_rules.specs.Reply.{Reply}
+use Rattle.tcp_rules.specs.State.{State}
+use Rattle.tcp_pair_model.specs.Answers.{delayed}
+use Rattle.tcp_pair_model.specs.Blocks.{top}
+use Rattle.tcp_pair_model.specs.Checks.{is_in_window, lies_before}
+use Rattle.tcp_pair_model.specs.Segments.{segment_len}
+use Rattle.tcp_pair_model.specs.Value.{TcpValue, Arrived, free_in, room_of}
+use Rattle.tcp_pair_model.specs.Block.{Block}
 use Rattle.tcp_rules.specs.Acks.{IsDueWithin}
 use Rattle.tcp_rules.specs.Events.{is_past}
 

@@ -1,9 +1,9 @@
 -- The pairs that events lead to, and when a side of one waits for the other.
 use Rattle.std.specs.Prelude.{◌≡◌, ℕ, ◌≤◌, false, List}
 use Rattle.net_base.specs.Ring.{Ring}
-use Rattle.tcp_control.specs.States.{is_closed, is_listening}
-use Rattle.tcp_model.specs.Blocks.{unacked}
-use Rattle.tcp_model.specs.Value.{TcpValue, new_socket, queued_in}
+use Rattle.tcp_rules.specs.States.{is_closed, is_listening}
+use Rattle.tcp_pair_model.specs.Blocks.{unacked}
+use Rattle.tcp_pair_model.specs.Value.{TcpValue, new_socket, queued_in}
 use Rattle.tcp_pair_model.specs.declared.event.PairEvent.{PairEvent}
 use Rattle.tcp_pair_model.specs.Steps.{Steps}
 use Rattle.tcp_pair_model.specs.Values.{PairValue, new_pair}

@@ -1,9 +1,9 @@
 -- Rounds over a good link: each segment that is sent from now on comes once and in order, both sides are asked at the moments that they
 -- name, and both users read all that waits. What was sent before is lost.
 use Rattle.std.specs.Prelude.{ℕ, suc, zero, ◌-◌, ◌^◌, ℤ, int_lt, true, if◌then◌else◌, length, Option, Some, None}
-use Rattle.socket_base.specs.declared.poll_at.PollAt.{PollAt}
-use Rattle.socket_base.specs.declared.poll_at.PollAt.TheVariants as At
-use Rattle.tcp_model.specs.Due.{poll_of}
+use Rattle.tcp_tie.specs.PollAt.{PollAt}
+use Rattle.tcp_tie.specs.PollAt.TheVariants as At
+use Rattle.tcp_pair_model.specs.Due.{poll_of}
 use Rattle.tcp_pair_model.specs.declared.event.Side.{Side}
 use Rattle.tcp_pair_model.specs.declared.event.Side.TheVariants.{A, B}
 use Rattle.tcp_pair_model.specs.declared.event.PairEvent.{PairEvent}

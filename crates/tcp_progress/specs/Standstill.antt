@@ -2,7 +2,7 @@
 -- bare acknowledgement at SND.NXT and drop the acknowledgement of old text, neither ever learns of it, on a perfect link.
 use Rattle.std.specs.Prelude.{pos, true, [], ◌∷◌, replicate}
 use Rattle.net_base.specs.Ring.{ring}
-use Rattle.tcp_model.specs.Value.{TcpValue, new_socket}
+use Rattle.tcp_pair_model.specs.Value.{TcpValue, new_socket}
 use Rattle.tcp_pair_model.specs.declared.event.Side.TheVariants.{A, B}
 use Rattle.tcp_pair_model.specs.declared.event.PairEvent.TheVariants.{Listen, Connect, Send, Recv, Offer, Deliver}
 use Rattle.tcp_pair_model.specs.Examples.{server, port, run}

@@ -9,8 +9,8 @@ use Rattle.ip_wire.specs.TcpHeader.{TcpHeader}
 use Rattle.net_base.specs.RandomWords.{word}
 use Rattle.net_base.specs.Ring.{anchored, enqueued}
 use Rattle.net_base.specs.Time.{last_moment}
-use Rattle.socket_base.specs.Context.{ContextValue, next_random}
-use Rattle.socket_base.specs.Offers.{Offered}
+use Rattle.tcp_model.specs.Context.{ContextValue, next_random}
+use Rattle.tcp_model.specs.BaseOffers.{Offered}
 use Rattle.tcp_control.specs.Controls.{is_fin, is_rst}
 use Rattle.tcp_control.specs.Moments.{is_due, later, earlier}
 use Rattle.tcp_control.specs.States.{is_closed, is_opening, is_time_wait, takes_writes, after_close}

@@ -6,13 +6,13 @@ use Rattle.held_bytes.specs.Held.{runs_of}
 use Rattle.ip_wire.specs.IpRepr.{IpRepr}
 use Rattle.ip_wire.specs.TcpHeader.{TcpHeader}
 use Rattle.net_base.specs.RandomWords.{word}
-use Rattle.socket_base.specs.Context.{ContextValue, next_random}
+use Rattle.tcp_model.specs.Context.{ContextValue, next_random}
 use Rattle.tcp_control.specs.Controls.{is_syn, is_fin, is_rst}
 use Rattle.tcp_control.specs.Offsets.{past_by, before_by}
 use Rattle.tcp_control.specs.States.{is_closed, is_answering, takes_text}
 use Rattle.tcp_control.specs.declared.state.State.{State}
 use Rattle.tcp_control.specs.declared.state.State.TheVariants as In
-use Rattle.tcp_law.specs.ReceiveMap.{store, front}
+use Rattle.held_bytes.specs.ReceiveMap.{store, front}
 use Rattle.net_base.specs.Ring.{released}
 use Rattle.tcp_model.specs.Acknowledged.{acknowledged, duplicates_after, names_window, windowed, stamp_taken, ranges_taken, counted, ended_if, in_state}
 use Rattle.tcp_model.specs.Acknowledged.{una_moved, state_after_ack, freed_by}

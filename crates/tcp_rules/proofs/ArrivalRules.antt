@@ -6,7 +6,7 @@ use Rattle.held_bytes.specs.Held.{runs_of}
 use Rattle.ip_wire.specs.IpRepr.{IpRepr}
 use Rattle.ip_wire.specs.TcpHeader.{TcpHeader}
 use Rattle.net_base.specs.RandomWords.{word}
-use Rattle.socket_base.specs.Context.{ContextValue, next_random}
+use Rattle.tcp_model.specs.Context.{ContextValue, next_random}
 use Rattle.tcp_control.specs.Controls.{is_syn, is_rst}
 use Rattle.tcp_control.specs.Offsets.{past_by, before_by}
 use Rattle.tcp_control.specs.States.{is_closed, is_listening, after_fin, takes_text}

@@ -12,8 +12,8 @@ use Rattle.ip_wire.specs.TcpControl.TheVariants as Control
 use Rattle.ip_wire.specs.TcpHeader.{TcpHeader}
 use Rattle.net_base.specs.RandomWords.{word}
 use Rattle.net_base.specs.Ring.{Ring, anchored, enqueued}
-use Rattle.socket_base.specs.Context.{ContextValue, next_random}
-use Rattle.socket_base.specs.Offers.{Offered}
+use Rattle.tcp_model.specs.Context.{ContextValue, next_random}
+use Rattle.tcp_model.specs.BaseOffers.{Offered}
 use Rattle.tcp_control.specs.Controls.{is_syn, is_rst}
 use Rattle.tcp_control.specs.Moments.{timeout_from}
 use Rattle.tcp_control.specs.Moments as moments
@@ -25,7 +25,7 @@ use Rattle.tcp_control.specs.declared.offer.OfferKind.TheVariants as Kind
 use Rattle.tcp_control.specs.declared.offer.OpenOffer.{OpenOffer}
 use Rattle.tcp_control.specs.declared.state.State.{State}
 use Rattle.tcp_control.specs.declared.state.State.TheVariants as In
-use Rattle.tcp_law.specs.ReceiveMap.{space, front, behind}
+use Rattle.held_bytes.specs.ReceiveMap.{space, front, behind}
 use Rattle.tcp_model.specs.Acknowledged.{windowed, state_after_ack}
 use Rattle.tcp_model.specs.Answers.{acked, with_draw, ranges_held}
 use Rattle.tcp_model.specs.Arrival.{arrives, waiting_anew}

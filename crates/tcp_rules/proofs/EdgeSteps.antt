@@ -10,14 +10,14 @@ use Rattle.ip_wire.specs.Seq.{distance_of}
 use Rattle.ip_wire.specs.SeqNumber.{SeqNumber}
 use Rattle.ip_wire.specs.TcpControl.TheVariants as Control
 use Rattle.ip_wire.specs.TcpHeader.{TcpHeader}
-use Rattle.socket_base.specs.Context.{ContextValue}
+use Rattle.tcp_model.specs.Context.{ContextValue}
 use Rattle.tcp_control.specs.Controls.{is_syn, is_rst}
 use Rattle.tcp_control.specs.Endpoints.{pair_in}
 use Rattle.tcp_control.specs.Offsets.{behind_by}
 use Rattle.tcp_control.specs.States.{is_opening, takes_text, after_fin, after_ack, after_ack_of_fin}
 use Rattle.tcp_control.specs.declared.state.State.{State}
 use Rattle.tcp_control.specs.declared.state.State.TheVariants as In
-use Rattle.tcp_law.specs.ReceiveMap.{space, front, behind}
+use Rattle.held_bytes.specs.ReceiveMap.{space, front, behind}
 use Rattle.tcp_model.specs.Acknowledged.{state_after_ack, acks_fin}
 use Rattle.tcp_model.specs.Answers.{acked}
 use Rattle.tcp_model.specs.Blocks.{own_scale, shift_of, is_worth_telling}

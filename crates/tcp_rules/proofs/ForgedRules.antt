@@ -5,7 +5,7 @@ use Rattle.ip_wire.specs.IpRepr.{IpRepr}
 use Rattle.ip_wire.specs.TcpControl.{TcpControl}
 use Rattle.ip_wire.specs.TcpControl.TheVariants as Control
 use Rattle.ip_wire.specs.TcpHeader.{TcpHeader}
-use Rattle.socket_base.specs.Context.{ContextValue}
+use Rattle.tcp_model.specs.Context.{ContextValue}
 use Rattle.tcp_control.specs.Controls.{is_rst}
 use Rattle.tcp_control.specs.States.{is_time_wait}
 use Rattle.tcp_control.specs.declared.state.State.{State}

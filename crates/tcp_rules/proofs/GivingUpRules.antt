@@ -3,8 +3,8 @@ use Rattle.std.proofs.Common.{◌≡◌, ◌⊎◌, inl, inr, ⊎_elim, ℕ, ◌
 use Rattle.std.proofs.Common.{Some, None, refl, sym, ap, ◌∙◌, subst, arith}
 use Rattle.std.proofs.lemmas.Bool.{cond_both, leb-false, le-leb}
 use Rattle.ip_wire.specs.TcpHeader.{TcpHeader}
-use Rattle.socket_base.specs.Context.{ContextValue}
-use Rattle.socket_base.specs.Offers.{Offered}
+use Rattle.tcp_model.specs.Context.{ContextValue}
+use Rattle.tcp_model.specs.BaseOffers.{Offered}
 use Rattle.tcp_control.specs.Moments.{is_due, is_over as is_past_pause, timeout_from}
 use Rattle.tcp_control.specs.States.{is_closed, is_listening, is_opening, is_answering}
 use Rattle.tcp_control.specs.declared.endpoints.EndpointPair.{EndpointPair}

@@ -1,8 +1,8 @@
 -- The rules of an offer, case by case: what holds of what each rule gives holds of the offer.
 use Rattle.std.proofs.Common.{◌≡◌, ◌==◌, Bool, true, false, if◌then◌else◌, Option, Some, None, refl}
 use Rattle.std.proofs.lemmas.Bool.{cond_both}
-use Rattle.socket_base.specs.Context.{ContextValue}
-use Rattle.socket_base.specs.Offers.{Offered}
+use Rattle.tcp_model.specs.Context.{ContextValue}
+use Rattle.tcp_model.specs.BaseOffers.{Offered}
 use Rattle.tcp_control.specs.Moments.{is_due}
 use Rattle.tcp_control.specs.States.{is_closed}
 use Rattle.tcp_control.specs.declared.endpoints.EndpointPair.{EndpointPair}

@@ -6,9 +6,9 @@ use Rattle.ip_wire.specs.IpRepr.{IpRepr}
 use Rattle.ip_wire.specs.TcpHeader.{TcpHeader}
 use Rattle.net_base.specs.RandomWords.{word}
 use Rattle.net_base.specs.Ring.{anchored, enqueued}
-use Rattle.socket_base.specs.Context.{ContextValue, next_random}
-use Rattle.socket_base.specs.Offers.{Offered, offered_as}
-use Rattle.socket_base.specs.declared.offer.Offer.TheVariants as Answer
+use Rattle.tcp_model.specs.Context.{ContextValue, next_random}
+use Rattle.tcp_model.specs.BaseOffers.{Offered, offered_as}
+use Rattle.tcp_model.specs.Offer.TheVariants as Answer
 use Rattle.tcp_control.specs.Moments.{is_due, is_over, timeout_from}
 use Rattle.tcp_control.specs.States.{is_closed, is_listening, is_opening, is_answering, is_time_wait, sends_syn, sends_text, takes_text, takes_writes}
 use Rattle.tcp_control.specs.States.{keeps_alive, after_ack, after_ack_of_fin, after_close}

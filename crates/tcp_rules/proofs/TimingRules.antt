@@ -9,8 +9,8 @@ use Rattle.ip_wire.specs.Seq.{distance_of}
 use Rattle.ip_wire.specs.TcpHeader.{TcpHeader}
 use Rattle.net_base.specs.RandomWords.{word}
 use Rattle.net_base.specs.Ring.{Ring, anchored, enqueued}
-use Rattle.socket_base.specs.Context.{ContextValue, next_random}
-use Rattle.socket_base.specs.Offers.{Offered}
+use Rattle.tcp_model.specs.Context.{ContextValue, next_random}
+use Rattle.tcp_model.specs.BaseOffers.{Offered}
 use Rattle.tcp_control.specs.Moments.{is_due, is_over, timeout_from}
 use Rattle.tcp_control.specs.RoundTrip as round_trip
 use Rattle.tcp_control.specs.RoundTrip.{RoundTripValue}

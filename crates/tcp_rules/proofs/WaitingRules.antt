@@ -3,11 +3,11 @@ use Rattle.std.proofs.Common.{◌≡◌, ℕ, ◌+◌, ◌-◌, ◌%◌, ◌/◌
 use Rattle.std.proofs.Common.{if◌then◌else◌, length, Option, Some, None, is_some, is_none, refl, sym, ap, ◌∙◌, subst, arith}
 use Rattle.std.proofs.lemmas.Bool.{cond_both, eqb-true, eq-eqb, leb-false, le-leb, ltb-true, ltb-false, lt-ltb}
 use Rattle.net_base.specs.Ring.{Ring, until_end}
-use Rattle.socket_base.specs.Context.{ContextValue}
-use Rattle.socket_base.specs.Offers.{IsBefore, offered_as}
-use Rattle.socket_base.specs.declared.offer.Offer.TheVariants as Answer
-use Rattle.socket_base.specs.declared.poll_at.PollAt.{PollAt}
-use Rattle.socket_base.specs.declared.poll_at.PollAt.TheVariants as At
+use Rattle.tcp_model.specs.Context.{ContextValue}
+use Rattle.tcp_model.specs.BaseOffers.{IsBefore, offered_as}
+use Rattle.tcp_model.specs.Offer.TheVariants as Answer
+use Rattle.tcp_control.specs.PollAt.{PollAt}
+use Rattle.tcp_control.specs.PollAt.TheVariants as At
 use Rattle.tcp_control.specs.Moments.{is_due}
 use Rattle.tcp_control.specs.States.{is_closed, is_listening, is_opening, is_answering, sends_syn, sends_text, owes_fin}
 use Rattle.tcp_control.specs.declared.endpoints.AddressPair.{AddressPair}

@@ -1,6 +1,6 @@
 -- What ends a connection of itself, when the socket is asked.
 use Rattle.std.specs.Prelude.{◌≡◌, ◌||◌, Bool, false}
-use Rattle.socket_base.specs.Context.{ContextValue}
+use Rattle.tcp_model.specs.Context.{ContextValue}
 use Rattle.tcp_control.specs.Moments.{is_due}
 use Rattle.tcp_control.specs.States.{is_closed, is_listening}
 use Rattle.tcp_control.specs.declared.state.State.{State}

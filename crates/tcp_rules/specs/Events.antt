@@ -5,7 +5,7 @@ use Rattle.ip_wire.specs.IpListenEndpoint.{IpListenEndpoint}
 use Rattle.ip_wire.specs.IpRepr.{IpRepr}
 use Rattle.ip_wire.specs.TcpHeader.{TcpHeader}
 use Rattle.ip_wire.specs.TcpTimestampGenerator.{TcpTimestampGenerator}
-use Rattle.socket_base.specs.Context.{ContextValue}
+use Rattle.tcp_model.specs.Context.{ContextValue}
 use Rattle.tcp_control.specs.States.{is_closed, is_listening, is_opening}
 use Rattle.tcp_control.specs.declared.state.State.{State}
 use Rattle.tcp_model.specs.Arrival.{arrives}

@@ -1,6 +1,6 @@
 -- A connection that nobody answers (RFC 9293, 3.8.3): a run of polls between which no segment comes and no call is made.
 use Rattle.std.specs.Prelude.{ℕ, ◌+◌, Bool, List, [], ◌∷◌}
-use Rattle.socket_base.specs.Context.{ContextValue}
+use Rattle.tcp_model.specs.Context.{ContextValue}
 use Rattle.tcp_control.specs.Moments.{is_due}
 use Rattle.tcp_model.specs.Blocks.{one_if}
 use Rattle.tcp_model.specs.Offers.{offer_of}

@@ -12,3 +12,16 @@ pub mod Waiting
 pub mod Congestion
 pub mod Timing
 pub mod Recovery
+pub use Rattle.tcp_control.specs.Controls
+pub use Rattle.tcp_control.specs.declared.endpoints.EndpointPair
+pub use Rattle.tcp_control.specs.Endpoints
+pub use Rattle.held_bytes.specs.Held
+pub use Rattle.tcp_control.specs.Moments
+pub use Rattle.tcp_control.specs.declared.offer.OfferKind
+pub use Rattle.tcp_control.specs.Offsets
+pub use Rattle.tcp_control.specs.declared.offer.OpenOffer
+pub use Rattle.tcp_control.specs.declared.error.RecvError
+pub use Rattle.tcp_control.specs.declared.offer.Reply
+pub use Rattle.tcp_control.specs.declared.state.State
+pub use Rattle.tcp_control.specs.States
+pub use Rattle.tcp_model.specs.declared.block.Names

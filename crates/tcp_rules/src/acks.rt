@@ -3,8 +3,8 @@
 ghost use Rattle.std.specs.Prelude.{◌≡◌, ℕ, ℤ, true, List, Some};
 ghost use Rattle.ip_wire.specs.IpRepr.{IpRepr};
 ghost use Rattle.ip_wire.specs.TcpHeader.{TcpHeader};
-ghost use Rattle.socket_base.specs.Context.{ContextValue};
-ghost use Rattle.socket_base.specs.Offers.{IsBefore};
+ghost use Rattle.tcp_model.specs.Context.{ContextValue};
+ghost use Rattle.tcp_model.specs.BaseOffers.{IsBefore};
 ghost use Rattle.tcp_control.specs.declared.endpoints.EndpointPair.{EndpointPair};
 ghost use Rattle.tcp_model.specs.Answers.{delayed};
 ghost use Rattle.tcp_model.specs.Arrival.{arrives};

@@ -3,7 +3,7 @@
 ghost use Rattle.std.specs.Prelude.{◌≡◌, ℕ, true, List, Some};
 ghost use Rattle.ip_wire.specs.IpRepr.{IpRepr};
 ghost use Rattle.ip_wire.specs.TcpHeader.{TcpHeader};
-ghost use Rattle.socket_base.specs.Context.{ContextValue};
+ghost use Rattle.tcp_model.specs.Context.{ContextValue};
 ghost use Rattle.tcp_control.specs.declared.offer.OpenOffer.{OpenOffer};
 ghost use Rattle.tcp_control.specs.declared.offer.Reply.{Reply};
 ghost use Rattle.tcp_model.specs.Arrival.{arrives};

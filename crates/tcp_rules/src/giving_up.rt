@@ -1,7 +1,7 @@
 //! A connection that nobody answers.
 
 ghost use Rattle.std.specs.Prelude.{◌≡◌, ℕ, ◌+◌, ◌≤◌, ◌||◌, true, List, Some};
-ghost use Rattle.socket_base.specs.Context.{ContextValue};
+ghost use Rattle.tcp_model.specs.Context.{ContextValue};
 ghost use Rattle.tcp_control.specs.Moments.{is_due};
 ghost use Rattle.tcp_control.specs.declared.endpoints.EndpointPair.{EndpointPair};
 ghost use Rattle.tcp_model.specs.Offers.{offer_of};

@@ -1,9 +1,9 @@
 //! How TIME-WAIT ends.
 
 ghost use Rattle.std.specs.Prelude.{◌≡◌, true, false, Some};
-ghost use Rattle.socket_base.specs.Context.{ContextValue};
-ghost use Rattle.socket_base.specs.Offers.{offered_as};
-ghost use Rattle.socket_base.specs.declared.offer.Offer.TheVariants as Answer;
+ghost use Rattle.tcp_model.specs.Context.{ContextValue};
+ghost use Rattle.tcp_model.specs.BaseOffers.{offered_as};
+ghost use Rattle.tcp_model.specs.Offer.TheVariants as Answer;
 ghost use Rattle.tcp_control.specs.Moments.{is_due};
 ghost use Rattle.tcp_control.specs.declared.endpoints.EndpointPair.{EndpointPair};
 ghost use Rattle.tcp_control.specs.declared.state.State.TheVariants as In;

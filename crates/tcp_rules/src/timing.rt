@@ -2,7 +2,7 @@
 
 ghost use Rattle.std.specs.Prelude.{◌≡◌, ◌<◌, ◌≤◌, ℕ, true, false, List, Some, None};
 ghost use Rattle.net_base.specs.Ring.{Ring};
-ghost use Rattle.socket_base.specs.Context.{ContextValue};
+ghost use Rattle.tcp_model.specs.Context.{ContextValue};
 ghost use Rattle.tcp_control.specs.declared.offer.OpenOffer.{OpenOffer};
 ghost use Rattle.tcp_control.specs.declared.round_trip.Sample.{Sample};
 ghost use Rattle.tcp_model.specs.Offers.{offer_of};

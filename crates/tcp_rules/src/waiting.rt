@@ -1,10 +1,10 @@
 //! No socket waits for ever.
 
 ghost use Rattle.std.specs.Prelude.{◌≡◌, false};
-ghost use Rattle.socket_base.specs.Context.{ContextValue};
-ghost use Rattle.socket_base.specs.Offers.{IsBefore, offered_as};
-ghost use Rattle.socket_base.specs.declared.offer.Offer.TheVariants as Answer;
-ghost use Rattle.socket_base.specs.declared.poll_at.PollAt.TheVariants as At;
+ghost use Rattle.tcp_model.specs.Context.{ContextValue};
+ghost use Rattle.tcp_model.specs.BaseOffers.{IsBefore, offered_as};
+ghost use Rattle.tcp_model.specs.Offer.TheVariants as Answer;
+ghost use Rattle.tcp_control.specs.PollAt.TheVariants as At;
 ghost use Rattle.tcp_control.specs.declared.endpoints.EndpointPair.{EndpointPair};
 ghost use Rattle.tcp_model.specs.Due.{poll_of};
 ghost use Rattle.tcp_model.specs.Offers.{offer_of};

@@ -2,7 +2,7 @@
 use Rattle.std.proofs.Common.{◌≡◌, ℕ, zero, suc, ◌-◌, ◌≤◌, min, List, [], ◌∷◌, length, take, Option, Some, None, refl, sym, ap, ◌∙◌, arith}
 use Rattle.std.proofs.lemmas.List.{take_min}
 use Rattle.held_bytes.proofs.Storing.{store-cut}
-use Rattle.tcp_law.specs.ReceiveMap.{store, front}
+use Rattle.held_bytes.specs.ReceiveMap.{store, front}
 
 pub length-store : (map : List (Option ℕ)) (place : ℕ) (bytes : List ℕ) → length (store map place bytes) ≡ length map
 length-store [] place bytes = refl

@@ -7,8 +7,8 @@ use Rattle.std.proofs.lemmas.Bool.Decides.{nat_tests}
 use Rattle.std.proofs.lemmas.List.{length-take-le, take_all, length-take}
 use Rattle.net_base.specs.Ring.{Ring, capacity, rotated, storage_of, cleared, overwritten, extended, released}
 use Rattle.net_base.specs.Assembler.{IsUnion, added, front, without_front}
-use Rattle.tcp_law.specs.ReceiveMap as receive
-use Rattle.tcp_law.specs.ReceiveMap.{space, store}
+use Rattle.held_bytes.specs.ReceiveMap as receive
+use Rattle.held_bytes.specs.ReceiveMap.{space, store}
 use Rattle.held_bytes.specs.Held.{map_from, runs_of, overlay, EndsBy}
 use Rattle.held_bytes.proofs.Places.{length-map_from, map_from-space, map_from-more}
 use Rattle.held_bytes.proofs.Storing.{held-store, overlay-overwritten, length-overlay, EndsBy-union}

@@ -13,7 +13,7 @@ use Rattle.ip_wire.specs.TcpRepr.{TcpRepr}
 use Rattle.socket_base.specs.Context.{ContextValue}
 use Rattle.socket_base.specs.Packet.{IsSendable, packet_of}
 use Rattle.socket_base.specs.Packet as Carried
-use Rattle.tcp_law.specs.ReceiveMap.{store, front}
+use Rattle.held_bytes.specs.ReceiveMap.{store, front}
 use Rattle.tcp_model.specs.Acknowledged.{acknowledged, duplicates_after}
 use Rattle.tcp_model.specs.Answers.{answer_for}
 use Rattle.tcp_model.specs.Arrival.{finished, told, taken, received, arrives_in}

@@ -4,3 +4,8 @@ pub mod Replies
 pub mod Dispatch
 pub mod Opening
 pub mod Answering
+pub use Rattle.socket_base.specs.Addresses
+pub use Rattle.socket_base.specs.WellFormed
+pub use Rattle.socket_base.specs.declared.packet.IpPayload
+pub use Rattle.socket_base.specs.declared.packet.Packet
+pub use Rattle.socket_base.specs.declared.poll_at.PollAt

@@ -2,7 +2,7 @@
 use Rattle.std.specs.Prelude.{ℕ, ◌+◌, ◌-◌, ◌%◌, ◌^◌, ◌≤◌, nat_le, min, Bool, List, ◌++◌, length, take, Option, if◌then◌else◌, Some, None, Result, Ok, Err}
 use Rattle.net_base.specs.Ring.{Ring}
 use Rattle.net_base.specs.Assembler.{AreRuns, Holds}
-use Rattle.tcp_law.specs.ReceiveMap.{store, front, behind}
+use Rattle.held_bytes.specs.ReceiveMap.{store, front, behind}
 use Rattle.tcp_model.specs.RecvError.{RecvError}
 use Rattle.tcp_model.specs.Value.{Received, room_of}
 use Rattle.held_bytes.specs.Held.{map_from, runs_of, EndsBy}

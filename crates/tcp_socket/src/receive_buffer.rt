@@ -4,7 +4,7 @@ ghost use Rattle.tcp_socket.specs.Receive.{most_bytes, FitsBuffer, in_order, can
 ghost use Rattle.tcp_model.specs.Value.{received_of, room_of, emptied};
 ghost use Rattle.tcp_model.specs.Calls.{read_from};
 ghost use Rattle.tcp_model.specs.Answers.{run_at, others, first_two};
-ghost use Rattle.tcp_law.specs.ReceiveMap.{space, store, front};
+ghost use Rattle.held_bytes.specs.ReceiveMap.{space, store, front};
 ghost use Rattle.held_bytes.specs.Held.{runs_of};
 
 use net_base::{Assembler, RingBuffer, TooManyHolesError};

@@ -2,7 +2,7 @@
 use Rattle.std.proofs.Common.{◌≡◌, ℕ, zero, suc, ◌+◌, ◌-◌, ◌%◌, ◌^◌, ◌<◌, ◌≤◌, nat_lt, nat_le, not, ◌==◌, ◌&&◌, ℤ, Bool, true, false, if◌then◌else◌, List, []}
 use Rattle.std.proofs.Common.{◌∷◌, ◌++◌, Option, Some, None, length, drop, refl, sym, ap, ◌∙◌, subst, arith, length-drop, append-nil}
 use Rattle.std.proofs.lemmas.Bool.{and_parts, cond_both, not-true, eqb-true, eqb-false}
-use Rattle.held_bytes.specs.Held.{runs_of}
+use Rattle.tcp_model.specs.Held.{runs_of}
 use Rattle.ip_wire.specs.IpRepr.{IpRepr}
 use Rattle.ip_wire.specs.TcpControl.{TcpControl}
 use Rattle.ip_wire.specs.TcpControl.TheVariants as Bits

@@ -5,3 +5,13 @@ pub mod Run
 pub mod Endpoints
 pub mod Host
 pub mod Acceptance
+pub use Rattle.tcp_law.specs.Invariant
+pub use Rattle.tcp_law.specs.Safe
+pub use Rattle.tcp_law.specs.Segment
+pub use Rattle.tcp_law.specs.Side
+pub use Rattle.tcp_law.specs.Alone
+pub use Rattle.tcp_law.specs.ReceiveMap
+pub use Rattle.socket_base.specs.declared.poll_at.PollAt
+pub use Rattle.socket_base.specs.Offers
+pub use Rattle.socket_base.specs.Context
+pub use Rattle.socket_base.specs.declared.offer.Offer

@@ -7,8 +7,8 @@ use Rattle.std.proofs.lemmas.Bool.{false≢true}
 use Rattle.std.proofs.lemmas.List.Quantifiers.{position-Some}
 use Rattle.std.specs.List.{list_any}
 use Rattle.net_base.specs.Ring.{Ring, ring}
-use Rattle.tcp_law.specs.ReceiveMap.{space}
-use Rattle.tcp_model.specs.Value.{TcpValue, new_socket, received_of}
+use Rattle.interface_tables.specs.ReceiveMap.{space}
+use Rattle.sockets.specs.TcpValue.{TcpValue, new_socket, received_of}
 use Rattle.interface.specs.Host.{HostValue}
 use Rattle.interface.specs.Made.{new_host, with_inner, MadeUnless, Makes}
 use Rattle.interface_tables.specs.Inner.{InnerValue}

@@ -6,10 +6,10 @@ use Rattle.std.proofs.lemmas.Bool.{false≢true}
 use Rattle.std.proofs.lemmas.List.{length-map, get_or-map, get_or-set_same, get_or-set_other, get_or_past, get_or_append_left, get_or_push, get_or_default}
 use Rattle.std.proofs.lemmas.List.{set-get_or, set_past}
 use Rattle.std.proofs.Math.ListN.{length-set}
-use Rattle.interface_egress.specs.Set.{free}
-use Rattle.interface_egress.specs.declared.socket_set.Item.{Item}
-use Rattle.interface_egress.specs.declared.socket_set.SocketHandle.{SocketHandle}
-use Rattle.interface_egress.specs.declared.socket_set.SocketStorage.{SocketStorage}
+use Rattle.interface.specs.Set.{free}
+use Rattle.interface.specs.Item.{Item}
+use Rattle.interface.specs.SocketHandle.{SocketHandle}
+use Rattle.interface.specs.SocketStorage.{SocketStorage}
 use Rattle.services.specs.Site.{fresh_session}
 use Rattle.services.specs.declared.counts.Counts.{Counts}
 use Rattle.services.specs.declared.site.Session.{Session}

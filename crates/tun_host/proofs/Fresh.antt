@@ -2,8 +2,8 @@
 use Rattle.std.proofs.Common.{◌≡◌, ℕ, ◌+◌, ◌<◌, List, [], ◌∷◌, ◌++◌, length, length-append, arith, refl, sym, ◌∙◌, subst, ◌⊎◌, inl, inr}
 use Rattle.std.specs.Prelude.{slice_index_or}
 use Rattle.std.proofs.lemmas.List.{get_or_append_left, get_or_push}
-use Rattle.interface_egress.specs.Set.{free}
-use Rattle.interface_egress.specs.declared.socket_set.SocketStorage.{SocketStorage}
+use Rattle.interface.specs.Set.{free}
+use Rattle.interface.specs.SocketStorage.{SocketStorage}
 use Rattle.sockets.specs.declared.socket.Socket.{Socket}
 use Rattle.tun_host.specs.Begins.{IsFreshPlace, AreFresh, place_count}
 use Rattle.tun_host.specs.Services.{service_at}

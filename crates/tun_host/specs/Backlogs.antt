@@ -1,8 +1,8 @@
 -- A host's listeners, and what its services make of the connections that they accepted.
 use Rattle.std.specs.Prelude.{◌≡◌, ℕ, ◌+◌, ◌<◌, ◌≤◌, Bool, true, false, List, [], ◌∷◌, length, map, slice_index_or, slice_set, None}
 use Rattle.interface.specs.State.{State}
-use Rattle.interface_egress.specs.declared.socket_set.SocketHandle.{SocketHandle}
-use Rattle.interface_egress.specs.declared.socket_set.SocketStorage.{SocketStorage}
+use Rattle.interface.specs.SocketHandle.{SocketHandle}
+use Rattle.interface.specs.SocketStorage.{SocketStorage}
 use Rattle.ip_wire.specs.IpListenEndpoint.{IpListenEndpoint}
 use Rattle.services.specs.Site.{fresh_session}
 use Rattle.services.specs.declared.counts.Counts.{Counts}

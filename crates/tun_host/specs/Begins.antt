@@ -3,9 +3,9 @@ use Rattle.std.specs.Prelude.{◌≡◌, ℕ, ◌+◌, ◌<◌, ◌&&◌, ◌||�
 use Rattle.interface.specs.Host.{HostValue}
 use Rattle.interface.specs.Made.{new_host, with_inner}
 use Rattle.interface.specs.State.{State}
-use Rattle.interface_egress.specs.Set.{free}
-use Rattle.interface_egress.specs.declared.socket_set.Item.{Item}
-use Rattle.interface_egress.specs.declared.socket_set.SocketStorage.{SocketStorage}
+use Rattle.interface.specs.Set.{free}
+use Rattle.interface.specs.Item.{Item}
+use Rattle.interface.specs.SocketStorage.{SocketStorage}
 use Rattle.interface_tables.specs.Route.{IsGateway}
 use Rattle.interface_tables.specs.Settings.{is_station, made, with_addresses, with_routes}
 use Rattle.interface_tables.specs.declared.config.Config.{Config}
@@ -25,13 +25,13 @@ use Rattle.net_base.specs.Medium.{Medium}
 use Rattle.net_base.specs.Medium.TheVariants as Medium
 use Rattle.net_base.specs.Packets.{packets_in}
 use Rattle.net_base.specs.Ring.{capacity}
-use Rattle.datagram_sockets.specs.Udp.{UdpValue, made as made_socket, bind_after}
+use Rattle.sockets.specs.Udp.{UdpValue, made as made_socket, bind_after}
 use Rattle.tun_host.specs.Backlogs.{on_port, HostState, AreFreshEntries}
-use Rattle.tcp_model.specs.Settings.{set_timeout, set_keep_alive}
+use Rattle.sockets.specs.TcpSettings.{set_timeout, set_keep_alive}
 use Rattle.sockets.specs.declared.socket.Socket.{Socket}
 use Rattle.sockets.specs.declared.socket.Socket.TheVariants as Is
-use Rattle.tcp_model.specs.Blocks.{fresh_block, default_settings}
-use Rattle.tcp_model.specs.Value.{TcpValue, emptied, room_of}
+use Rattle.services.specs.Blocks.{fresh_block, default_settings}
+use Rattle.sockets.specs.TcpValue.{TcpValue, emptied, room_of}
 use Rattle.tun_host.specs.Settings.{medium_of}
 use Rattle.tun_host.specs.Services.{service_at, socket_count, echo_room}
 use Rattle.tun_host.specs.declared.error.ServeError.{ServeError}

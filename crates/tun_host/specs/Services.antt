@@ -1,14 +1,14 @@
 -- The services at the places of a host's sockets, and what a turn makes of them.
 use Rattle.std.specs.Prelude.{◌≡◌, ℕ, zero, suc, ◌==◌, nat_le, Bool, false, not, if◌then◌else◌, List, slice_set, Option, None, Some}
-use Rattle.interface_egress.specs.declared.socket_set.Item.{Item}
-use Rattle.interface_egress.specs.declared.socket_set.SocketStorage.{SocketStorage}
+use Rattle.interface.specs.Item.{Item}
+use Rattle.interface.specs.SocketStorage.{SocketStorage}
 use Rattle.services.specs.Echo.{datagram_echoed, stream_echoed}
 use Rattle.services.specs.Site.{Serves, talk, fresh_session}
 use Rattle.services.specs.declared.counts.Counts.{Counts}
 use Rattle.services.specs.declared.site.Session.{Session}
 use Rattle.sockets.specs.declared.socket.Socket.{Socket}
 use Rattle.sockets.specs.declared.socket.Socket.TheVariants as Is
-use Rattle.tcp_control.specs.States.{takes_writes}
+use Rattle.sockets.specs.TcpStates.{takes_writes}
 use Rattle.tcp_listener.specs.Noted.{place_at}
 use Rattle.tun_host.specs.declared.place.Service.{Service}
 use Rattle.tun_host.specs.declared.place.Service.TheVariants.{Datagrams, Streams, Page, Keeper}

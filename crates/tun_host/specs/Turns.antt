@@ -4,8 +4,8 @@ use Rattle.interface.specs.Host.{host_at}
 use Rattle.interface.specs.Instant.{poll_instant}
 use Rattle.interface.specs.Polls.{Polls}
 use Rattle.interface.specs.State.{State, state, at_device}
-use Rattle.interface_egress.specs.Set.{places}
-use Rattle.interface_egress.specs.declared.socket_set.SocketStorage.{SocketStorage}
+use Rattle.interface.specs.Set.{places}
+use Rattle.interface.specs.SocketStorage.{SocketStorage}
 use Rattle.interface_tables.specs.Inner.{at_moment}
 use Rattle.sockets.specs.declared.socket.Socket.{Socket}
 use Rattle.tun_host.specs.Begins.{Begins, RefusesSettings}

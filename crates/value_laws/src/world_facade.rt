@@ -10,40 +10,35 @@ pub fn passes_on_names(
     setting: lan_history::TcpSetting,
     fault: lan_history::Fault,
     refused: lan_history::Refused,
-) -> (
-    lan_world::Side,
-    lan_world::TcpSetting,
-    lan_world::Fault,
-    lan_world::Refused,
-)
+) -> (lan::Side, lan::TcpSetting, lan::Fault, lan::Refused)
     ensures { result ≡ (side, setting, fault, refused) }
 {
     (side, setting, fault, refused)
 }
 
 /// An event.
-pub fn passes_on_events(event: &lan_history::Event) -> &lan_world::Event
+pub fn passes_on_events(event: &lan_history::Event) -> &lan::Event
     ensures { result.now ≡ event.now }
 {
     event
 }
 
 /// An answer.
-pub fn passes_on_answers(answer: &lan_history::Answer) -> &lan_world::Answer
+pub fn passes_on_answers(answer: &lan_history::Answer) -> &lan::Answer
     ensures { result.now ≡ answer.now }
 {
     answer
 }
 
 /// Bytes.
-pub fn passes_on_bytes(bytes: &lan_history::Bytes) -> &lan_world::Bytes
+pub fn passes_on_bytes(bytes: &lan_history::Bytes) -> &lan::Bytes
     ensures { result.now ≡ bytes.now }
 {
     bytes
 }
 
 /// A host.
-pub fn passes_on_hosts(host: &lan_hosts::Host) -> &lan_world::Host
+pub fn passes_on_hosts(host: &lan_hosts::Host) -> &lan::Host
     ensures { result.now ≡ host.now }
 {
     host
@@ -54,5 +49,5 @@ pub fn passes_on_machines()
     ensures { (start : Machine) (room : ℕ) (turns : List Turn) (now : Machine)
         → HostRun start room turns now → AreApart (requests turns) }
 {
-    lan_world::host_laws::requests_are_apart();
+    lan::host_laws::requests_are_apart();
 }

@@ -12,11 +12,11 @@ use Rattle.ip_wire.specs.Ipv4Address.{Ipv4Address}
 use Rattle.ip_wire.specs.IpProtocol.{IpProtocol}
 use Rattle.ip_wire.specs.Protocol.{protocol_of}
 use Rattle.ip_wire.specs.TcpTimestampGenerator.{TcpTimestampGenerator}
-use Rattle.tcp_model.specs.declared.block.CongestionControl.{CongestionControl}
-use Rattle.tcp_model.specs.declared.block.CongestionControl.TheVariants as Control
+use Rattle.sockets.specs.CongestionControl.{CongestionControl}
+use Rattle.sockets.specs.CongestionControl.TheVariants as Control
 use Rattle.sockets.specs.UdpMetadata.{UdpMetadata}
-use Rattle.tcp_control.specs.declared.state.State.{State}
-use Rattle.tcp_control.specs.declared.state.State.TheVariants as At
+use Rattle.sockets.specs.State.{State}
+use Rattle.sockets.specs.State.TheVariants as At
 use Rattle.c_sockets.specs.declared.code.Code.{Code}
 use Rattle.c_sockets.specs.declared.code.Code.TheVariants as Is
 use Rattle.c_calls.specs.declared.host.Counters as Host_counters

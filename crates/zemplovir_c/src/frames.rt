@@ -1,6 +1,6 @@
 //! Hosts, frames and polls.
 ghost use Rattle.std.specs.Prelude.{◌≡◌, length, None, Ok};
-ghost use Rattle.c_link.specs.Link.{fetch_answer, fetched, next_len};
+ghost use Rattle.c_calls.specs.Link.{fetch_answer, fetched, next_len};
 ghost use Rattle.c_sockets.specs.Codes.{coded};
 ghost use Rattle.c_calls.specs.Calls.{fetched_from, or_empty, TakesFrame, PollsAt, AsksAt};
 ghost use Rattle.c_calls.specs.Codes.{of_fetch};

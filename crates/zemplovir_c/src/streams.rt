@@ -1,7 +1,7 @@
 //! TCP sockets.
 ghost use Rattle.std.specs.Prelude.{◌≡◌, if◌then◌else◌, length};
 ghost use Rattle.interface.specs.Made.{with_inner};
-ghost use Rattle.interface_tables.specs.Inner.{context_of, drawn};
+ghost use Rattle.interface.specs.Inner.{context_of, drawn};
 ghost use Rattle.sockets.specs.AnySocket.{as_tcp};
 ghost use Rattle.sockets.specs.TcpCalls.{connect_answer, connect_after, connect_draws, send_answer, send_after, recv_answer};
 ghost use Rattle.sockets.specs.declared.socket.Socket.TheVariants as Kind;

@@ -4,14 +4,14 @@ use Rattle.std.proofs.Common.{ap, ◌∙◌, subst, append-nil, arith}
 use Rattle.interface_egress.specs.Departure.{Departure}
 use Rattle.interface.specs.Touches.{departed, Silences}
 use Rattle.interface_tables.specs.Settings.{is_moment}
-use Rattle.lan_history.specs.Kinds.{Act}
-use Rattle.lan_history.specs.Kinds.Act.{Calls, Sets, Opens, Asks, Polls}
-use Rattle.lan_history.specs.Kinds.Kind.{OfHost}
-use Rattle.lan_history.specs.Tables.{first_refusal}
-use Rattle.lan_history.specs.declared.answer.Answer.{Answer}
-use Rattle.lan_history.specs.declared.answer.Refused.{Refused}
-use Rattle.lan_history.specs.declared.event.Side.{Side}
-use Rattle.lan_port.specs.Port.{LinkEnd}
+use Rattle.lan_hosts.specs.Kinds.{Act}
+use Rattle.lan_hosts.specs.Kinds.Act.{Calls, Sets, Opens, Asks, Polls}
+use Rattle.lan_hosts.specs.Kinds.Kind.{OfHost}
+use Rattle.lan_hosts.specs.Tables.{first_refusal}
+use Rattle.lan_hosts.specs.Answer.{Answer}
+use Rattle.lan_hosts.specs.Refused.{Refused}
+use Rattle.lan_hosts.specs.Side.{Side}
+use Rattle.lan_hosts.specs.Port.{LinkEnd}
 use Rattle.lan_hosts.specs.Refusals.{Table, Tables, act_tests, is_too_early, may_run_out, refusal}
 use Rattle.lan_hosts.specs.Station.{StationValue, Stations, station}
 use Rattle.lan_hosts.specs.Steps.{Acts}
@@ -150,7 +150,7 @@ not_less a b is = grind (arith)
 not_early : (s : StationValue) (moment : ℤ) → is_too_early s moment ≡ false → (s.host.inner.moment ≤ℤ moment) × (pos 0 ≤ℤ moment)
 not_early s moment is =
     let two = neither (not (is_moment moment)) (int_lt moment s.host.inner.moment) is in
-    let low = both_on (not (int_lt moment (pos 0))) (not (int_lt (pos Rattle.net_base.specs.Time.last_moment) moment)) (not_off (is_moment moment) two.0) in
+    let low = both_on (not (int_lt moment (pos 0))) (not (int_lt (pos Rattle.ip_tcp.specs.Time.last_moment) moment)) (not_off (is_moment moment) two.0) in
     (not_less moment s.host.inner.moment two.1, not_less moment (pos 0) (not_on (int_lt moment (pos 0)) low.0))
 
 act_in_time : (s : StationValue) (t : Table) (act : Act) → first_refusal (act_tests s t act) ≡ None → IsInTime s act
@@ -158,11 +158,11 @@ act_in_time s t (Calls i call) is = tt
 act_in_time s t (Sets setting) is = tt
 act_in_time s t (Opens n) is = tt
 act_in_time s t (Asks moment) is =
-    not_early s moment (not_refused (is_too_early s moment) Rattle.lan_history.specs.declared.answer.Refused.TheVariants.Moment [] is).0
+    not_early s moment (not_refused (is_too_early s moment) Rattle.lan_hosts.specs.Refused.TheVariants.Moment [] is).0
 act_in_time s t (Polls moment budget) is =
-    let first = not_refused (may_run_out s t budget) Rattle.lan_history.specs.declared.answer.Refused.TheVariants.TooManyCut
-    ((is_too_early s moment, Rattle.lan_history.specs.declared.answer.Refused.TheVariants.Moment) ∷ []) is in
-    not_early s moment (not_refused (is_too_early s moment) Rattle.lan_history.specs.declared.answer.Refused.TheVariants.Moment [] first.1).0
+    let first = not_refused (may_run_out s t budget) Rattle.lan_hosts.specs.Refused.TheVariants.TooManyCut
+    ((is_too_early s moment, Rattle.lan_hosts.specs.Refused.TheVariants.Moment) ∷ []) is in
+    not_early s moment (not_refused (is_too_early s moment) Rattle.lan_hosts.specs.Refused.TheVariants.Moment [] first.1).0
 
 pub in_time : (hosts : Stations) (tables : Tables) (side : Side) (act : Act) → refusal hosts tables (OfHost side act) ≡ None → IsInTime (station hosts side) act
 in_time hosts tables side act is = act_in_time (station hosts side) (Rattle.lan_hosts.specs.Refusals.table tables side) act is

@@ -3,10 +3,10 @@ use Rattle.std.proofs.Common.{◌≡◌, ℕ, Bool, true, false, if◌then◌els
 use Rattle.std.specs.Prelude.{slice_get}
 use Rattle.std.specs.List.{list_any}
 use Rattle.std.proofs.lemmas.List.{length-set}
-use Rattle.ip_wire.specs.EthernetAddress.{EthernetAddress}
-use Rattle.ip_wire.specs.HardwareAddress.{HardwareAddress}
-use Rattle.ip_wire.specs.HardwareAddress.TheVariants as Hardware
-use Rattle.ip_wire.specs.IpCidr.{IpCidr}
+use Rattle.interface_ingress.specs.EthernetAddress.{EthernetAddress}
+use Rattle.interface_ingress.specs.HardwareAddress.{HardwareAddress}
+use Rattle.interface_ingress.specs.HardwareAddress.TheVariants as Hardware
+use Rattle.ip_address.specs.declared.ip.IpCidr.{IpCidr}
 use Rattle.interface.specs.Host.{HostValue}
 use Rattle.interface.specs.Made.{with_inner, with_timeout}
 use Rattle.interface_egress.specs.Set.{with_socket}
@@ -15,10 +15,10 @@ use Rattle.interface_egress.specs.declared.socket_set.SocketStorage.{SocketStora
 use Rattle.interface_tables.specs.Inner.{InnerValue, context_of, drawn}
 use Rattle.interface_tables.specs.Settings.{hardware_refusal, if_none, with_hardware, with_addresses, is_stranger}
 use Rattle.interface_tables.specs.declared.config.HardwareAddrError.{HardwareAddrError}
-use Rattle.lan_history.specs.Call.{SocketCall}
-use Rattle.lan_history.specs.Kinds.{Setting}
-use Rattle.lan_history.specs.Kinds as Sets
-use Rattle.lan_history.specs.declared.answer.Answer.{Answer}
+use Rattle.lan_hosts.specs.Call.{SocketCall}
+use Rattle.lan_hosts.specs.Kinds.{Setting}
+use Rattle.lan_hosts.specs.Kinds as Sets
+use Rattle.lan_hosts.specs.Answer.{Answer}
 use Rattle.lan_packets.specs.Calls.{Did}
 use Rattle.lan_hosts.specs.Station.{StationValue}
 use Rattle.lan_hosts.specs.Does.{does, draws, host_after, DidAt, ItemDoes, PlaceDoes, Does}

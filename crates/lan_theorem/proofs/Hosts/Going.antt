@@ -1,7 +1,7 @@
 -- What goes on at each event goes on along a run.
 use Rattle.std.proofs.Common.{◌≤ℤ◌, ℕ, ℤ, List, [], ◌∷◌, ◌++◌, refl, sym, ap, ◌∙◌, subst, append_assoc, append-nil, arith}
-use Rattle.lan_history.specs.History.{Entry}
-use Rattle.lan_history.specs.declared.event.Side.{Side}
+use Rattle.lan_hosts.specs.History.{Entry}
+use Rattle.lan_hosts.specs.Side.{Side}
 use Rattle.lan_hosts.specs.Runs.{WorldRun}
 use Rattle.lan_hosts.specs.Station.{StationValue, Stations, station}
 use Rattle.lan_theorem.specs.Hosts.GoesOn.{GoesOn}

@@ -1,8 +1,8 @@
 -- A frame that brings a damaged segment alone does no harm, and damage stays harmless.
 use Rattle.std.proofs.Common.{◌≡◌, ℕ, Bool, true, false, if◌then◌else◌, List, [], ◌∷◌, Option, None, Some, refl, sym, ap, subst}
-use Rattle.ip_wire.specs.Ipv4Piece.{Ipv4Piece}
-use Rattle.ip_wire.specs.Ipv4Repr.{Ipv4Repr}
-use Rattle.ip_wire.specs.declared.ethernet.repr.EthernetRepr.{EthernetRepr}
+use Rattle.interface_delivery.specs.Ipv4Piece.{Ipv4Piece}
+use Rattle.interface_delivery.specs.Ipv4Repr.{Ipv4Repr}
+use Rattle.interface_ingress.specs.EthernetRepr.{EthernetRepr}
 use Rattle.interface_ingress.proofs.Kept.{brings_damaged_v4, brings_damaged_v6}
 use Rattle.interface_ingress.specs.Arrives.{Arrived, Brings, whole_after}
 use Rattle.interface_ingress.specs.Delivered.{Places}
@@ -10,17 +10,17 @@ use Rattle.interface_ingress.specs.Incoming.{IncomingValue, Arp, Ip4, Ip6, IsInc
 use Rattle.interface_ingress.specs.Kept.{with_ports}
 use Rattle.interface_ingress.specs.Reassembled.{Slots, uncut, is_taken_in, taken_in, kept, place_in, whole_of}
 use Rattle.interface_tables.specs.Inner.{InnerValue}
-use Rattle.lan_history.specs.History.{Entry}
-use Rattle.lan_history.specs.Kinds.{Kind, Origin, Delivered, Damaged, Noisy, kind_of}
-use Rattle.lan_history.specs.Kinds.Kind.{OfHost, OfLink}
-use Rattle.lan_history.specs.Kinds.LinkAct.{Hands, Cuts}
-use Rattle.lan_history.specs.declared.event.Side.{Side}
+use Rattle.lan_hosts.specs.History.{Entry}
+use Rattle.lan_hosts.specs.Kinds.{Kind, Origin, Delivered, Damaged, Noisy, kind_of}
+use Rattle.lan_hosts.specs.Kinds.Kind.{OfHost, OfLink}
+use Rattle.lan_hosts.specs.Kinds.LinkAct.{Hands, Cuts}
+use Rattle.lan_hosts.specs.Side.{Side}
 use Rattle.lan_hosts.specs.Origins.{medium_of, frame_of_origin}
 use Rattle.lan_hosts.specs.Refusals.{Tables, refusal}
 use Rattle.lan_hosts.specs.Runs.{WorldRun, Leads, tables_in}
 use Rattle.lan_hosts.specs.Station.{Stations, station}
-use Rattle.net_base.specs.ChecksumCapabilities.{ChecksumCapabilities}
-use Rattle.net_base.specs.Medium.{Medium}
+use Rattle.lan_frames.specs.ChecksumCapabilities.{ChecksumCapabilities}
+use Rattle.lan_frames.specs.Medium.{Medium}
 use Rattle.lan_theorem.specs.Hosts.Damage.{IsHarmless, IsHarmlessFrom, IsHarmlessBy, DamageIsHarmless, WasHarmless, HaveWords, IsNoSegment, BringsNoSegment}
 use Rattle.lan_theorem.specs.Hosts.GoesOn.{GoesOn, IsThere}
 use Rattle.lan_theorem.proofs.Hosts.Moving.{goes_on}

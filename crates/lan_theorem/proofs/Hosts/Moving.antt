@@ -1,13 +1,13 @@
 -- What an event is to one of the hosts: its own act, or something that leaves it alone.
 use Rattle.std.proofs.Common.{◌≡◌, ℕ, ◌⊎◌, inl, inr, Bool, true, false, if◌then◌else◌, List, [], ◌∷◌, ◌++◌, length, map, None, refl, sym, ap, ◌∙◌, subst}
 use Rattle.std.proofs.Common.{append_assoc, append-nil, ◌≤ℤ◌, ℤ, arith}
-use Rattle.lan_history.specs.History.{Entry}
-use Rattle.lan_history.specs.Kinds.{Act, Kind, Origin, same_side, kind_of}
-use Rattle.lan_history.specs.Kinds.Kind.{OfHost, OfLink}
-use Rattle.lan_history.specs.Kinds.LinkAct.{Hands, Cuts}
-use Rattle.lan_history.specs.declared.event.Side.{Side}
-use Rattle.lan_history.specs.declared.event.Side.TheVariants.{A, B}
-use Rattle.lan_port.specs.Port.{added, arrived}
+use Rattle.lan_hosts.specs.History.{Entry}
+use Rattle.lan_hosts.specs.Kinds.{Act, Kind, Origin, same_side, kind_of}
+use Rattle.lan_hosts.specs.Kinds.Kind.{OfHost, OfLink}
+use Rattle.lan_hosts.specs.Kinds.LinkAct.{Hands, Cuts}
+use Rattle.lan_hosts.specs.Side.{Side}
+use Rattle.lan_hosts.specs.Side.TheVariants.{A, B}
+use Rattle.lan_hosts.specs.Port.{added, arrived}
 use Rattle.lan_hosts.specs.Station.{StationValue, Stations, station, with_station, with_link}
 use Rattle.lan_hosts.specs.Origins.{frame_of_origin, frame_sent, medium_of, goes_to, origins_of, is_cut_of}
 use Rattle.lan_hosts.specs.Steps.{Acts, Happens}

@@ -3,16 +3,16 @@ use Rattle.std.proofs.Common.{◌≡◌, ◌≤◌, ℕ, Bool, true, false, List
 use Rattle.std.specs.Prelude.{replicate}
 use mathlib.Core.HLevel.{is_prop→PathP}
 use native.Mathlib.Bridge.{le_prop}
-use Rattle.ip_wire.specs.AddressTests.{are_of_one_family}
-use Rattle.ip_wire.specs.Block.{block_address, IsBlock}
-use Rattle.ip_wire.specs.IpAddress.{IpAddress}
-use Rattle.ip_wire.specs.IpAddress.TheVariants as Address
-use Rattle.ip_wire.specs.Ipv4Address.{Ipv4Address}
-use Rattle.ip_wire.specs.Ipv4Cidr.{Ipv4Cidr}
-use Rattle.ip_wire.specs.Ipv6Address.{Ipv6Address}
-use Rattle.ip_wire.specs.Ipv6Cidr.{Ipv6Cidr}
-use Rattle.ip_wire.specs.IpCidr.{IpCidr}
-use Rattle.ip_wire.specs.IpCidr.TheVariants as Block
+use Rattle.interface_ingress.specs.AddressTests.{are_of_one_family}
+use Rattle.ip_address.specs.Block.{block_address, IsBlock}
+use Rattle.interface_ingress.specs.IpAddress.{IpAddress}
+use Rattle.interface_ingress.specs.IpAddress.TheVariants as Address
+use Rattle.interface_ingress.specs.Ipv4Address.{Ipv4Address}
+use Rattle.ip_address.specs.declared.ipv4.Ipv4Cidr.{Ipv4Cidr}
+use Rattle.interface_ingress.specs.Ipv6Address.{Ipv6Address}
+use Rattle.ip_address.specs.declared.ipv6.Ipv6Cidr.{Ipv6Cidr}
+use Rattle.ip_address.specs.declared.ip.IpCidr.{IpCidr}
+use Rattle.ip_address.specs.declared.ip.IpCidr.TheVariants as Block
 use Rattle.interface_tables.specs.Route.{is_gateway_v4, is_gateway_v6, IsGateway, IsAdded, without}
 use Rattle.interface_tables.specs.declared.route.Route.{Route}
 use Rattle.lan_hosts.specs.Sets.{RoutedIf}

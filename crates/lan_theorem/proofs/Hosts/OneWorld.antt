@@ -9,17 +9,17 @@ use Rattle.interface_tables.specs.Inner.{context_of}
 use Rattle.interface_tables.specs.Settings.{with_routes}
 use Rattle.interface_tables.specs.declared.route.Route.{Route}
 use Rattle.interface.proofs.OneEnd.{OneOffer}
-use Rattle.lan_history.specs.Call.{SocketCall}
-use Rattle.lan_history.specs.History.{Entry}
-use Rattle.lan_history.specs.Kinds.{Act, Kind, Setting, kind_of}
-use Rattle.lan_history.specs.Kinds as Set
-use Rattle.lan_history.specs.Kinds.Act.{Calls, Sets, Opens, Asks, Polls}
-use Rattle.lan_history.specs.Kinds.Kind.{OfHost, OfLink}
-use Rattle.lan_history.specs.declared.answer.Answer.{Answer}
-use Rattle.lan_history.specs.declared.answer.Answer.TheVariants as To
-use Rattle.lan_history.specs.declared.event.Event.{Event}
-use Rattle.lan_history.specs.declared.event.Side.{Side}
-use Rattle.lan_history.specs.declared.event.Side.TheVariants.{A, B}
+use Rattle.lan_hosts.specs.Call.{SocketCall}
+use Rattle.lan_hosts.specs.History.{Entry}
+use Rattle.lan_hosts.specs.Kinds.{Act, Kind, Setting, kind_of}
+use Rattle.lan_hosts.specs.Kinds as Set
+use Rattle.lan_hosts.specs.Kinds.Act.{Calls, Sets, Opens, Asks, Polls}
+use Rattle.lan_hosts.specs.Kinds.Kind.{OfHost, OfLink}
+use Rattle.lan_hosts.specs.Answer.{Answer}
+use Rattle.lan_hosts.specs.Answer.TheVariants as To
+use Rattle.lan_hosts.specs.Event.{Event}
+use Rattle.lan_hosts.specs.Side.{Side}
+use Rattle.lan_hosts.specs.Side.TheVariants.{A, B}
 use Rattle.lan_packets.specs.Calls.{Did}
 use Rattle.lan_hosts.specs.Does.{does, DidAt, ItemDoes, PlaceDoes, Does}
 use Rattle.lan_hosts.specs.Runs.{WorldValue, Step, Steps}

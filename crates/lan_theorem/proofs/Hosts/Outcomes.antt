@@ -1,13 +1,13 @@
 -- Polls of one station have one end, whatever buffers lie ready.
 use Rattle.std.proofs.Common.{◌≡◌, ◌≤◌, ◌+◌, ◌-◌, ℕ, ℤ, Bool, true, false, List, [], ◌∷◌, ◌++◌, length, refl, sym, ap, ◌∙◌, subst, arith}
 use Rattle.std.specs.Prelude.{IsTrue, drop}
-use Rattle.net_base.specs.Device.{Move, Took, Empty, Allowed, Emitted, Denied}
+use Rattle.lan_frames.specs.Device.{Move, Took, Empty, Allowed, Emitted, Denied}
 use Rattle.interface.specs.Polls.{Polls}
 use Rattle.interface.specs.State.{State, state}
 use Rattle.interface_egress.specs.Determined.{IsDetermined}
 use Rattle.interface.specs.Steady.{IsShort, IsSteady}
 use Rattle.interface.proofs.OneEnd.{OneOffer, one_poll}
-use Rattle.lan_port.specs.Port.{LinkEnd, PortValue, PortMove, has_leave}
+use Rattle.lan_hosts.specs.Port.{LinkEnd, PortValue, PortMove, has_leave}
 use Rattle.lan_hosts.specs.Station.{StationValue, at_port}
 use Rattle.lan_hosts.specs.Steps.{PollsAt}
 use Rattle.lan_theorem.proofs.Hosts.Mapping.{IsMapped, polls_there}

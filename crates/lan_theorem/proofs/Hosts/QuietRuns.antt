@@ -3,11 +3,11 @@ use Rattle.std.proofs.Common.{◌≡◌, ◌≤ℤ◌, ◌⊎◌, inl, inr, ℕ,
 use Rattle.std.proofs.Common.{refl, sym, ap, ◌∙◌, subst, append_assoc, append-nil, arith}
 use Rattle.std.specs.Prelude.{slice_get}
 use Rattle.std.specs.List.{list_any}
-use Rattle.ip_wire.specs.EthernetAddress.{EthernetAddress}
-use Rattle.ip_wire.specs.HardwareAddress.TheVariants as Hardware
-use Rattle.ip_wire.specs.IpAddress.{IpAddress}
-use Rattle.ip_wire.specs.IpAddress.TheVariants as Address
-use Rattle.ip_wire.specs.IpCidr.{IpCidr}
+use Rattle.interface_ingress.specs.EthernetAddress.{EthernetAddress}
+use Rattle.interface_ingress.specs.HardwareAddress.TheVariants as Hardware
+use Rattle.interface_ingress.specs.IpAddress.{IpAddress}
+use Rattle.interface_ingress.specs.IpAddress.TheVariants as Address
+use Rattle.ip_address.specs.declared.ip.IpCidr.{IpCidr}
 use Rattle.interface.specs.Host.{HostValue}
 use Rattle.interface.specs.Instant.{poll_instant}
 use Rattle.interface.specs.QuietStep.{IsEarlier}
@@ -20,20 +20,20 @@ use Rattle.interface_tables.specs.Route.{is_gateway_v4, is_gateway_v6, IsGateway
 use Rattle.interface_tables.specs.Settings.{hardware_refusal, if_none, is_stranger}
 use Rattle.interface_tables.specs.declared.config.HardwareAddrError.{HardwareAddrError}
 use Rattle.interface_tables.specs.declared.route.Route.{Route}
-use Rattle.lan_history.specs.Call.{SocketCall}
-use Rattle.lan_history.specs.History.{Entry, Counts}
-use Rattle.lan_history.specs.Kinds.{Act, Kind, Origin, Setting, same_side, kind_of}
-use Rattle.lan_history.specs.Kinds as Set
-use Rattle.lan_history.specs.Kinds.Act.{Calls, Sets, Opens, Asks, Polls}
-use Rattle.lan_history.specs.Kinds.Kind.{OfHost, OfLink}
-use Rattle.lan_history.specs.Kinds.LinkAct.{Hands, Cuts}
-use Rattle.lan_history.specs.declared.answer.Answer.{Answer}
-use Rattle.lan_history.specs.declared.answer.Answer.TheVariants as To
-use Rattle.lan_history.specs.declared.answer.Fault.TheVariants as For
-use Rattle.lan_history.specs.declared.event.Side.{Side}
-use Rattle.lan_history.specs.declared.event.Side.TheVariants.{A, B}
+use Rattle.lan_hosts.specs.Call.{SocketCall}
+use Rattle.lan_hosts.specs.History.{Entry, Counts}
+use Rattle.lan_hosts.specs.Kinds.{Act, Kind, Origin, Setting, same_side, kind_of}
+use Rattle.lan_hosts.specs.Kinds as Set
+use Rattle.lan_hosts.specs.Kinds.Act.{Calls, Sets, Opens, Asks, Polls}
+use Rattle.lan_hosts.specs.Kinds.Kind.{OfHost, OfLink}
+use Rattle.lan_hosts.specs.Kinds.LinkAct.{Hands, Cuts}
+use Rattle.lan_hosts.specs.Answer.{Answer}
+use Rattle.lan_hosts.specs.Answer.TheVariants as To
+use Rattle.lan_hosts.specs.Fault.TheVariants as For
+use Rattle.lan_hosts.specs.Side.{Side}
+use Rattle.lan_hosts.specs.Side.TheVariants.{A, B}
 use Rattle.lan_packets.specs.Calls.{Did}
-use Rattle.lan_port.specs.Port.{LinkEnd}
+use Rattle.lan_hosts.specs.Port.{LinkEnd}
 use Rattle.lan_hosts.specs.Does.{does, draws, DidAt, ItemDoes, PlaceDoes, Does}
 use Rattle.lan_hosts.specs.Origins.{frame_of_origin, goes_to, origins_of, sent_before, waiting_before}
 use Rattle.lan_hosts.specs.Runs.{Starts, unused_both, Leads, WorldRun, counts_of, tables_in}

@@ -12,12 +12,12 @@ use Rattle.interface_egress.specs.Set.{with_socket}
 use Rattle.interface_egress.specs.declared.socket_set.Item.{Item}
 use Rattle.interface_egress.specs.declared.socket_set.SocketStorage.{SocketStorage}
 use Rattle.interface_tables.specs.Inner.{InnerValue, at_moment, context_of}
-use Rattle.lan_history.specs.Call as Call
-use Rattle.lan_history.specs.Call.{SocketCall}
-use Rattle.lan_history.specs.Kinds.{Act}
-use Rattle.lan_history.specs.Kinds.Act.{Calls, Sets, Opens, Asks, Polls}
-use Rattle.lan_history.specs.declared.answer.Answer.{Answer}
-use Rattle.lan_port.specs.Port.{LinkEnd, PortValue, PortMove}
+use Rattle.lan_hosts.specs.Call as Call
+use Rattle.lan_hosts.specs.Call.{SocketCall}
+use Rattle.lan_hosts.specs.Kinds.{Act}
+use Rattle.lan_hosts.specs.Kinds.Act.{Calls, Sets, Opens, Asks, Polls}
+use Rattle.lan_hosts.specs.Answer.{Answer}
+use Rattle.lan_hosts.specs.Port.{LinkEnd, PortValue, PortMove}
 use Rattle.lan_hosts.specs.Does.{does, DidAt, ItemDoes, PlaceDoes, Does}
 use Rattle.lan_hosts.specs.Station.{StationValue, at_port}
 use Rattle.lan_hosts.specs.Steps.{PollsAt, Acts}
@@ -121,7 +121,7 @@ module _ (due : DueAsBefore) (asked : InnerValue) (asked_at : ℤ) (answer : Opt
         sym (ap (λ (x : PortValue). x.link.waiting) took.1) ∙ ap (λ (x : LinkEnd). x.waiting) at ∙ held.waiting in
         absurd (cc)
 
-    same_port : (p q : PortValue) → (q ≡ p) ⊎ PortMove p Rattle.net_base.specs.Device.Empty q → q ≡ p
+    same_port : (p q : PortValue) → (q ≡ p) ⊎ PortMove p Rattle.lan_frames.specs.Device.Empty q → q ≡ p
     same_port p q (inl is) = is
     same_port p q (inr looks) = looks.0
 

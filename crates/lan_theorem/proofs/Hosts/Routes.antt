@@ -4,8 +4,8 @@ use Rattle.std.proofs.Common.{length, reverse, Option, None, Some, refl, sym, ap
 use Rattle.std.specs.List.{AllByRecursion, filter_map, prefix_len, cons_option}
 use Rattle.std.proofs.lemmas.Bool.Decides.{nat_tests}
 use Rattle.std.proofs.lemmas.List.{reverse-append}
-use Rattle.ip_wire.specs.AddressTests.{is_in_block, is_unicast, are_of_one_family}
-use Rattle.ip_wire.specs.IpAddress.{IpAddress}
+use Rattle.interface_ingress.specs.AddressTests.{is_in_block, is_unicast, are_of_one_family}
+use Rattle.interface_ingress.specs.IpAddress.{IpAddress}
 use Rattle.interface.specs.QuietStep.{RoutesStay}
 use Rattle.interface_tables.specs.Best.{first_best}
 use Rattle.interface_tables.specs.Inner.{InnerValue, is_in_own_network}

@@ -5,15 +5,15 @@ use Rattle.std.specs.Prelude.{slice_index_or}
 use Rattle.std.specs.List.{AllByRecursion}
 use Rattle.std.proofs.lemmas.Bool.Decides.{nat_tests}
 use Rattle.std.proofs.lemmas.List.{map-append, get_or_append_left, length-append}
-use Rattle.net_base.specs.DeviceCapabilities.{DeviceCapabilities}
-use Rattle.net_base.specs.Medium.{Medium}
+use Rattle.lan_frames.specs.DeviceCapabilities.{DeviceCapabilities}
+use Rattle.lan_frames.specs.Medium.{Medium}
 use Rattle.lan_frames.specs.Parts.{tcp_part}
-use Rattle.lan_history.specs.History.{Entry}
-use Rattle.lan_history.specs.Kinds.{Kind, Origin, Delivered, Damaged, Noisy, same_side, kind_of}
-use Rattle.lan_history.specs.Kinds.Kind.{OfHost, OfLink}
-use Rattle.lan_history.specs.Kinds.LinkAct.{Hands, Cuts}
-use Rattle.lan_history.specs.declared.answer.Refused.TheVariants as For
-use Rattle.lan_history.specs.declared.event.Side.{Side}
+use Rattle.lan_hosts.specs.History.{Entry}
+use Rattle.lan_hosts.specs.Kinds.{Kind, Origin, Delivered, Damaged, Noisy, same_side, kind_of}
+use Rattle.lan_hosts.specs.Kinds.Kind.{OfHost, OfLink}
+use Rattle.lan_hosts.specs.Kinds.LinkAct.{Hands, Cuts}
+use Rattle.lan_hosts.specs.Refused.TheVariants as For
+use Rattle.lan_hosts.specs.Side.{Side}
 use Rattle.lan_hosts.specs.Origins.{medium_of, frame_sent, damaged_in, frame_of_origin, goes_to, origins_of, origins}
 use Rattle.lan_hosts.specs.Refusals.{Tables, is_no_frame, segment_tests, refusal}
 use Rattle.lan_hosts.specs.Station.{Stations, station}

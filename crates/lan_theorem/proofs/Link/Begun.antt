@@ -4,15 +4,15 @@ use Rattle.std.specs.Prelude.{is_some}
 use Rattle.std.specs.List.{count_by}
 use Rattle.std.proofs.lemmas.List.{drop_at}
 use Rattle.std.proofs.lemmas.List.Sums.{sum_by_push}
-use Rattle.net_base.specs.Medium.{Medium}
-use Rattle.net_devices.specs.Capabilities.{frame_header}
-use Rattle.ip_packet.specs.Ipv4.{piece_of}
-use Rattle.ip_wire.specs.HardwareAddress.{HardwareAddress}
-use Rattle.ip_wire.specs.IpRepr.{IpRepr}
-use Rattle.ip_wire.specs.IpRepr.TheVariants as Ip
-use Rattle.ip_wire.specs.Ipv4 as Ipv4
-use Rattle.ip_wire.specs.Ipv4Piece.{Ipv4Piece}
-use Rattle.socket_base.specs.Packet.{PacketValue, PayloadValue, packet_of}
+use Rattle.lan_frames.specs.Medium.{Medium}
+use Rattle.lan_frames.specs.Capabilities.{frame_header}
+use Rattle.interface_delivery.specs.Ipv4.{piece_of}
+use Rattle.interface_ingress.specs.HardwareAddress.{HardwareAddress}
+use Rattle.interface_delivery.specs.IpRepr.{IpRepr}
+use Rattle.interface_delivery.specs.IpRepr.TheVariants as Ip
+use Rattle.interface_delivery.specs.Ipv4 as Ipv4
+use Rattle.interface_delivery.specs.Ipv4Piece.{Ipv4Piece}
+use Rattle.sockets.specs.Packet.{PacketValue, PayloadValue, packet_of}
 use Rattle.interface_egress.specs.Departure.{packet_frame, packet_frame_len, piece_frame, piece_frame_len}
 use Rattle.interface_egress.specs.Fragments.{LeftValue, next_piece}
 use Rattle.interface_delivery.specs.Delivered.{IsWritable}

@@ -1,12 +1,12 @@
 -- What the frames of a host carry.
 use Rattle.std.proofs.Common.{◌≡◌, inl, inr, ℕ, ◌+◌, true, List, ◌++◌, drop, refl, sym, ◌∙◌, ap, subst, append_assoc}
-use Rattle.ip_wire.specs.HardwareAddress.{HardwareAddress}
-use Rattle.ip_wire.specs.Ip as Ips
-use Rattle.ip_wire.specs.IpRepr.{IpRepr}
-use Rattle.ip_wire.specs.IpRepr.TheVariants as Ip
-use Rattle.ip_wire.specs.Ipv4 as Ipv4
-use Rattle.ip_wire.specs.Ipv6 as Ipv6
-use Rattle.socket_base.specs.Packet.{PacketValue, PayloadValue}
+use Rattle.interface_ingress.specs.HardwareAddress.{HardwareAddress}
+use Rattle.interface_delivery.specs.Ip as Ips
+use Rattle.interface_delivery.specs.IpRepr.{IpRepr}
+use Rattle.interface_delivery.specs.IpRepr.TheVariants as Ip
+use Rattle.interface_delivery.specs.Ipv4 as Ipv4
+use Rattle.interface_delivery.specs.Ipv6 as Ipv6
+use Rattle.sockets.specs.Packet.{PacketValue, PayloadValue}
 use Rattle.interface_tables.specs.Pieces as Pieces
 use Rattle.interface_tables.proofs.Rebuilt.{Begins-take}
 use Rattle.interface_ingress.specs.Incoming.{IsIncoming}

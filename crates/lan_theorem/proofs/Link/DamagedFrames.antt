@@ -4,27 +4,27 @@ use Rattle.std.proofs.Common.{take, drop, slice_index, Option, Some, None, refl,
 use Rattle.std.specs.Prelude.{nat_le, slice_range}
 use Rattle.std.proofs.lemmas.List.{drop_at, take_at}
 use Rattle.std.proofs.lemmas.Bool.Decides.{nat_tests}
-use Rattle.net_base.specs.Medium.{Medium}
-use Rattle.net_devices.specs.Capabilities.{frame_header}
-use Rattle.ip_wire.specs.Fields.{be16, put16}
-use Rattle.ip_wire.specs.HardwareAddress.{HardwareAddress}
-use Rattle.ip_wire.specs.HardwareAddress.TheVariants as Hardware
-use Rattle.ip_wire.specs.Ip as Ips
-use Rattle.ip_wire.specs.Ip.{carried_in, source_of, destination_of}
-use Rattle.ip_wire.specs.IpProtocol.TheVariants as Protocol
-use Rattle.ip_wire.specs.IpRepr.{IpRepr}
-use Rattle.ip_wire.specs.IpRepr.TheVariants as Ip
-use Rattle.ip_wire.specs.Ipv4 as Ipv4
-use Rattle.ip_wire.specs.Ipv4Piece.{Ipv4Piece}
-use Rattle.ip_wire.specs.Ipv4Repr.{Ipv4Repr}
-use Rattle.ip_wire.specs.Ipv6 as Ipv6
-use Rattle.ip_wire.specs.Ipv6Repr.{Ipv6Repr}
-use Rattle.ip_wire.specs.Parts.{has_flag}
-use Rattle.ip_wire.specs.Protocol.{protocol_of}
-use Rattle.ip_wire.specs.Tcp as Tcp
-use Rattle.ip_packet.specs.Ipv4.{header_len_of}
-use Rattle.ip_wire.specs.declared.ethernet.repr.EthernetRepr.{EthernetRepr}
-use Rattle.socket_base.specs.Packet.{PacketValue, PayloadValue}
+use Rattle.lan_frames.specs.Medium.{Medium}
+use Rattle.lan_frames.specs.Capabilities.{frame_header}
+use Rattle.interface_ingress.specs.Fields.{be16, put16}
+use Rattle.interface_ingress.specs.HardwareAddress.{HardwareAddress}
+use Rattle.interface_ingress.specs.HardwareAddress.TheVariants as Hardware
+use Rattle.interface_delivery.specs.Ip as Ips
+use Rattle.interface_delivery.specs.Ip.{carried_in, source_of, destination_of}
+use Rattle.interface_ingress.specs.IpProtocol.TheVariants as Protocol
+use Rattle.interface_delivery.specs.IpRepr.{IpRepr}
+use Rattle.interface_delivery.specs.IpRepr.TheVariants as Ip
+use Rattle.interface_delivery.specs.Ipv4 as Ipv4
+use Rattle.interface_delivery.specs.Ipv4Piece.{Ipv4Piece}
+use Rattle.interface_delivery.specs.Ipv4Repr.{Ipv4Repr}
+use Rattle.interface_delivery.specs.Ipv6 as Ipv6
+use Rattle.interface_delivery.specs.Ipv6Repr.{Ipv6Repr}
+use Rattle.interface_delivery.specs.Parts.{has_flag}
+use Rattle.ip_address.specs.Protocol.{protocol_of}
+use Rattle.ip_tcp.specs.Tcp as Tcp
+use Rattle.interface_delivery.specs.Ipv4.{header_len_of}
+use Rattle.interface_ingress.specs.EthernetRepr.{EthernetRepr}
+use Rattle.sockets.specs.Packet.{PacketValue, PayloadValue}
 use Rattle.interface_ingress.specs.Incoming.{IncomingValue, Ip4, Ip6, IsIncoming, IsPacketV4, IsPacketV6}
 use Rattle.interface_ingress.specs.Kept.{IsDamaged}
 use Rattle.interface_ingress.specs.Reassembled.{uncut}

@@ -4,20 +4,20 @@ use Rattle.std.proofs.Common.{arith}
 use Rattle.std.proofs.lemmas.Bool.Decides.{nat_tests}
 use Rattle.tcp_law.specs.ReceiveMap.{Begins}
 use Rattle.tcp_law.proofs.Lists.{Begins-whole}
-use Rattle.ip_wire.specs.Ip as Ips
-use Rattle.ip_wire.specs.Ip.{carried_in, source_of, destination_of}
-use Rattle.ip_wire.specs.IpAddress.{IpAddress}
-use Rattle.ip_wire.specs.IpAddress.TheVariants as Address
-use Rattle.ip_wire.specs.IpRepr.{IpRepr}
-use Rattle.ip_wire.specs.IpRepr.TheVariants as Ip
-use Rattle.ip_wire.specs.Ipv4 as Ipv4
-use Rattle.ip_wire.specs.Ipv4FragKey.{Ipv4FragKey}
-use Rattle.ip_wire.specs.Ipv4Piece.{Ipv4Piece}
-use Rattle.ip_wire.specs.Ipv4Repr.{Ipv4Repr}
-use Rattle.ip_wire.specs.Tcp as Tcp
-use Rattle.ip_wire.specs.Udp as Udp
-use Rattle.ip_wire.specs.declared.ethernet.repr.EthernetRepr.{EthernetRepr}
-use Rattle.socket_base.specs.Packet.{PacketValue, PayloadValue, ControlV4, ControlV6, Bytes, Datagram, Segment}
+use Rattle.interface_delivery.specs.Ip as Ips
+use Rattle.interface_delivery.specs.Ip.{carried_in, source_of, destination_of}
+use Rattle.interface_ingress.specs.IpAddress.{IpAddress}
+use Rattle.interface_ingress.specs.IpAddress.TheVariants as Address
+use Rattle.interface_delivery.specs.IpRepr.{IpRepr}
+use Rattle.interface_delivery.specs.IpRepr.TheVariants as Ip
+use Rattle.interface_delivery.specs.Ipv4 as Ipv4
+use Rattle.ip_address.specs.declared.ipv4.Ipv4FragKey.{Ipv4FragKey}
+use Rattle.interface_delivery.specs.Ipv4Piece.{Ipv4Piece}
+use Rattle.interface_delivery.specs.Ipv4Repr.{Ipv4Repr}
+use Rattle.ip_tcp.specs.Tcp as Tcp
+use Rattle.interface_delivery.specs.Udp as Udp
+use Rattle.interface_ingress.specs.EthernetRepr.{EthernetRepr}
+use Rattle.sockets.specs.Packet.{PacketValue, PayloadValue, ControlV4, ControlV6, Bytes, Datagram, Segment}
 use Rattle.interface_tables.specs.Pieces as Pieces
 use Rattle.interface_ingress.specs.Carried.{IsCarried}
 use Rattle.interface_ingress.specs.Incoming.{IncomingValue, Arp, Ip4, Ip6}

@@ -2,14 +2,14 @@
 use Rattle.std.proofs.Common.{◌≡◌, inl, inr, ℕ, ◌+◌, ◌%◌, ◌≤◌, ◌/◌, ◌==◌, ◌&&◌, Bool, true, false, cond, List, ◌++◌, length, slice_index, Option, Some, None}
 use Rattle.std.proofs.Common.{refl, sym, ◌∙◌, ap, subst}
 use Rattle.std.specs.Prelude.{nat_le}
-use Rattle.net_base.specs.Medium.{Medium}
-use Rattle.net_devices.specs.Capabilities.{frame_header}
-use Rattle.ip_wire.specs.Fields.{be16}
-use Rattle.ip_wire.specs.HardwareAddress.{HardwareAddress}
-use Rattle.ip_wire.specs.Ipv6 as Ipv6
-use Rattle.ip_wire.specs.Ipv6Repr.{Ipv6Repr}
-use Rattle.ip_packet.specs.Ipv4.{header_len_of}
-use Rattle.socket_base.specs.Packet.{PacketValue, PayloadValue}
+use Rattle.lan_frames.specs.Medium.{Medium}
+use Rattle.lan_frames.specs.Capabilities.{frame_header}
+use Rattle.interface_ingress.specs.Fields.{be16}
+use Rattle.interface_ingress.specs.HardwareAddress.{HardwareAddress}
+use Rattle.interface_delivery.specs.Ipv6 as Ipv6
+use Rattle.interface_delivery.specs.Ipv6Repr.{Ipv6Repr}
+use Rattle.interface_delivery.specs.Ipv4.{header_len_of}
+use Rattle.sockets.specs.Packet.{PacketValue, PayloadValue}
 use Rattle.lan_frames.specs.Carried.{packet_in, names_tcp_or_udp}
 use Rattle.lan_frames.specs.Cuts.{ipv4_part, first_piece, second_piece}
 use Rattle.lan_frames.specs.Parts.{may_carry, is_ipv4, payload_v4}

@@ -2,13 +2,13 @@
 use Rattle.std.proofs.Common.{◌≡◌, ℕ, ◌+◌, ◌==◌, List, ◌++◌, length, drop, slice_index, refl, sym, ◌∙◌, ap, arith, length-append, append_assoc}
 use Rattle.std.specs.Int.{w16, to_be_bytes}
 use Rattle.std.proofs.lemmas.List.{drop_at}
-use Rattle.ip_wire.specs.EthernetAddress.{EthernetAddress}
-use Rattle.ip_wire.specs.EthernetProtocol.{EthernetProtocol}
-use Rattle.ip_wire.specs.EthernetProtocol.TheVariants as Ether
-use Rattle.ip_wire.specs.Fields.{be16}
-use Rattle.ip_wire.specs.HardwareAddress.{HardwareAddress}
-use Rattle.ip_wire.specs.HardwareAddress.TheVariants as Hardware
-use Rattle.ip_wire.specs.Protocol.{ether_number}
+use Rattle.interface_ingress.specs.EthernetAddress.{EthernetAddress}
+use Rattle.interface_ingress.specs.EthernetProtocol.{EthernetProtocol}
+use Rattle.interface_ingress.specs.EthernetProtocol.TheVariants as Ether
+use Rattle.interface_ingress.specs.Fields.{be16}
+use Rattle.interface_ingress.specs.HardwareAddress.{HardwareAddress}
+use Rattle.interface_ingress.specs.HardwareAddress.TheVariants as Hardware
+use Rattle.ip_address.specs.Protocol.{ether_number}
 use Rattle.interface_egress.specs.Departure.{link_header, link_len}
 use Rattle.lan_frames.specs.Slices.{IsLinkHeader}
 use Rattle.lan_frames.proofs.Named.{byte_behind}

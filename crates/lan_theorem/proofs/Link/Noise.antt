@@ -1,13 +1,13 @@
 -- Bytes that name neither TCP nor UDP bring nothing of them.
 use Rattle.std.proofs.Common.{◌≡◌, ℕ, ◌/◌, false, ◌&&◌, ◌==◌, List, slice_index, Some, None, sym, ◌∙◌, ap}
-use Rattle.ip_wire.specs.EthernetAddress.{EthernetAddress}
-use Rattle.ip_wire.specs.Fields.{be16}
-use Rattle.ip_wire.specs.HardwareAddress.{HardwareAddress}
-use Rattle.ip_wire.specs.HardwareAddress.TheVariants as Hardware
-use Rattle.ip_wire.specs.IpRepr.TheVariants as Ip
-use Rattle.ip_wire.specs.Protocol.{protocol_of}
-use Rattle.socket_base.specs.Packet.{PayloadValue}
-use Rattle.net_base.specs.Medium.TheVariants as Medium
+use Rattle.interface_ingress.specs.EthernetAddress.{EthernetAddress}
+use Rattle.interface_ingress.specs.Fields.{be16}
+use Rattle.interface_ingress.specs.HardwareAddress.{HardwareAddress}
+use Rattle.interface_ingress.specs.HardwareAddress.TheVariants as Hardware
+use Rattle.interface_delivery.specs.IpRepr.TheVariants as Ip
+use Rattle.ip_address.specs.Protocol.{protocol_of}
+use Rattle.sockets.specs.Packet.{PayloadValue}
+use Rattle.lan_frames.specs.Medium.TheVariants as Medium
 use Rattle.interface_ingress.specs.Incoming.{IncomingValue, Arp, Ip4, Ip6, IsIncoming}
 use Rattle.interface_delivery.specs.Delivered.{HasNoPorts}
 use Rattle.lan_frames.specs.Carried.{is_tcp_or_udp, names_tcp_or_udp}

@@ -1,9 +1,9 @@
 -- One number is for one packet.
 use Rattle.std.proofs.Common.{◌≡◌, inl, inr, ℕ, ◌+◌, ◌%◌, ◌^◌, ◌<◌, ◌≤◌, List, [], ◌∷◌, refl, sym, ◌∙◌, ap, subst, arith}
-use Rattle.ip_wire.specs.IpRepr.{IpRepr}
-use Rattle.ip_wire.specs.IpRepr.TheVariants as Ip
-use Rattle.ip_wire.specs.Ipv4Repr.{Ipv4Repr}
-use Rattle.socket_base.specs.Packet.{PacketValue}
+use Rattle.interface_delivery.specs.IpRepr.{IpRepr}
+use Rattle.interface_delivery.specs.IpRepr.TheVariants as Ip
+use Rattle.interface_delivery.specs.Ipv4Repr.{Ipv4Repr}
+use Rattle.sockets.specs.Packet.{PacketValue}
 use Rattle.lan_theorem.specs.Link.Frames.{IsAmong}
 use Rattle.lan_theorem.specs.Link.Numbers.{and_v4, count_v4, TakesNext, AreNumbered, AreFew}
 

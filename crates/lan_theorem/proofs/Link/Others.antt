@@ -3,19 +3,19 @@ use Rattle.std.proofs.Common.{◌≡◌, ℕ, ◌+◌, Bool, true, false, cond, 
 use Rattle.std.proofs.Common.{arith, length-append, length-drop, append_assoc}
 use Rattle.std.specs.Int.{w16, to_be_bytes}
 use Rattle.std.proofs.lemmas.List.{drop_at}
-use Rattle.net_base.specs.Medium.{Medium}
-use Rattle.ip_wire.specs.Arp as Arps
-use Rattle.ip_wire.specs.EthernetAddress.{EthernetAddress}
-use Rattle.ip_wire.specs.EthernetProtocol.TheVariants as Ether
-use Rattle.ip_wire.specs.Fields.{be16}
-use Rattle.ip_wire.specs.HardwareAddress.{HardwareAddress}
-use Rattle.ip_wire.specs.HardwareAddress.TheVariants as Hardware
-use Rattle.ip_wire.specs.IpProtocol.{IpProtocol}
-use Rattle.ip_wire.specs.IpProtocol.TheVariants as Protocol
-use Rattle.ip_wire.specs.Ipv6 as Ipv6
-use Rattle.ip_wire.specs.Protocol.{ether_number, protocol_of}
-use Rattle.ip_wire.specs.declared.arp.repr.ArpRepr.{ArpRepr}
-use Rattle.ip_wire.specs.declared.arp.repr.ArpRepr.TheVariants as Arp
+use Rattle.lan_frames.specs.Medium.{Medium}
+use Rattle.interface_egress.specs.Arp as Arps
+use Rattle.interface_ingress.specs.EthernetAddress.{EthernetAddress}
+use Rattle.interface_ingress.specs.EthernetProtocol.TheVariants as Ether
+use Rattle.interface_ingress.specs.Fields.{be16}
+use Rattle.interface_ingress.specs.HardwareAddress.{HardwareAddress}
+use Rattle.interface_ingress.specs.HardwareAddress.TheVariants as Hardware
+use Rattle.interface_ingress.specs.IpProtocol.{IpProtocol}
+use Rattle.interface_ingress.specs.IpProtocol.TheVariants as Protocol
+use Rattle.interface_delivery.specs.Ipv6 as Ipv6
+use Rattle.ip_address.specs.Protocol.{ether_number, protocol_of}
+use Rattle.interface_ingress.specs.ArpRepr.{ArpRepr}
+use Rattle.interface_ingress.specs.ArpRepr.TheVariants as Arp
 use Rattle.interface_egress.specs.Departure.{arp_frame, arp_request, solicited_station, solicitation_header, solicitation, question_frame}
 use Rattle.interface_egress.specs.declared.frame.Question.{Question}
 use Rattle.interface_egress.specs.declared.frame.Question.TheVariants as Query

@@ -2,18 +2,18 @@
 use Rattle.std.proofs.Common.{ℕ, zero, suc, ◌+◌, Bool, true, false, cond, List, [], ◌∷◌, Option, Some, None, IfSome}
 use Rattle.std.specs.Prelude.{ℤ, int_lt, nat_le}
 use Rattle.std.specs.List.{AllByRecursion}
-use Rattle.ip_wire.specs.Address.{IsIpAddress}
-use Rattle.ip_wire.specs.AddressTests.{is_multicast}
-use Rattle.ip_wire.specs.EthernetAddress.{EthernetAddress}
-use Rattle.ip_wire.specs.HardwareAddress.{HardwareAddress}
-use Rattle.ip_wire.specs.HardwareAddress.TheVariants as Hardware
-use Rattle.ip_wire.specs.Ip.{destination_of}
-use Rattle.ip_wire.specs.IpAddress.{IpAddress}
-use Rattle.ip_wire.specs.IpAddress.TheVariants as Address
-use Rattle.ip_wire.specs.IpRepr.{IpRepr}
-use Rattle.ip_wire.specs.IpRepr.TheVariants as Ip
-use Rattle.ip_wire.specs.Ipv4Address.{Ipv4Address}
-use Rattle.ip_wire.specs.Ipv4Repr.{Ipv4Repr}
+use Rattle.interface_ingress.specs.Address.{IsIpAddress}
+use Rattle.interface_ingress.specs.AddressTests.{is_multicast}
+use Rattle.interface_ingress.specs.EthernetAddress.{EthernetAddress}
+use Rattle.interface_ingress.specs.HardwareAddress.{HardwareAddress}
+use Rattle.interface_ingress.specs.HardwareAddress.TheVariants as Hardware
+use Rattle.interface_delivery.specs.Ip.{destination_of}
+use Rattle.interface_ingress.specs.IpAddress.{IpAddress}
+use Rattle.interface_ingress.specs.IpAddress.TheVariants as Address
+use Rattle.interface_delivery.specs.IpRepr.{IpRepr}
+use Rattle.interface_delivery.specs.IpRepr.TheVariants as Ip
+use Rattle.interface_ingress.specs.Ipv4Address.{Ipv4Address}
+use Rattle.interface_delivery.specs.Ipv4Repr.{Ipv4Repr}
 use Rattle.interface_tables.specs.Best.{at_place}
 use Rattle.interface_tables.specs.Inner.{InnerValue, is_local_broadcast, is_in_own_network, next_hop, link_by, link_of_hop, link_on, link_address}
 use Rattle.interface_tables.specs.Inner.{group_station, all_stations}

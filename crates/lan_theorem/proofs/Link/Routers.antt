@@ -3,8 +3,8 @@ use Rattle.std.proofs.Common.{ℕ, zero, suc, Bool, true, false, cond, List, [],
 use Rattle.std.proofs.lemmas.List.{reverse-append}
 use Rattle.std.specs.Prelude.{ℤ, reverse, find, position}
 use Rattle.std.specs.List.{AllByRecursion, filter_map, cons_option}
-use Rattle.ip_wire.specs.Address.{IsIpAddress}
-use Rattle.ip_wire.specs.IpAddress.{IpAddress}
+use Rattle.interface_ingress.specs.Address.{IsIpAddress}
+use Rattle.interface_ingress.specs.IpAddress.{IpAddress}
 use Rattle.interface_tables.specs.Best.{is_unbeaten}
 use Rattle.interface_tables.specs.Route.{serves, serving, is_longer, best_route, router_of, without_at, without}
 use Rattle.interface_tables.specs.declared.route.Route.{Route}

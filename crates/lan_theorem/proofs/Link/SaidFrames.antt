@@ -4,18 +4,18 @@ use Rattle.std.proofs.Common.{Some, None, refl, sym, ◌∙◌, ap, subst, appen
 use Rattle.std.specs.Prelude.{slice_get}
 use Rattle.std.specs.List.{AllByRecursion}
 use Rattle.std.proofs.lemmas.List.{drop_at, length-drop}
-use Rattle.net_base.specs.Medium.{Medium}
-use Rattle.net_base.specs.Medium.TheVariants as Medium
-use Rattle.net_devices.specs.Capabilities.{frame_header}
-use Rattle.ip_wire.specs.HardwareAddress.{HardwareAddress}
-use Rattle.ip_wire.specs.HardwareAddress.TheVariants as Hardware
-use Rattle.ip_wire.specs.Ipv4 as Ipv4
-use Rattle.ip_wire.specs.Ipv4FragKey.{Ipv4FragKey}
-use Rattle.ip_wire.specs.Ipv4Piece.{Ipv4Piece}
-use Rattle.ip_wire.specs.Ipv4Repr.{Ipv4Repr}
-use Rattle.ip_wire.specs.Ipv6 as Ipv6
-use Rattle.ip_wire.specs.declared.ethernet.repr.EthernetRepr.{EthernetRepr}
-use Rattle.socket_base.specs.Packet.{PacketValue, PayloadValue}
+use Rattle.lan_frames.specs.Medium.{Medium}
+use Rattle.lan_frames.specs.Medium.TheVariants as Medium
+use Rattle.lan_frames.specs.Capabilities.{frame_header}
+use Rattle.interface_ingress.specs.HardwareAddress.{HardwareAddress}
+use Rattle.interface_ingress.specs.HardwareAddress.TheVariants as Hardware
+use Rattle.interface_delivery.specs.Ipv4 as Ipv4
+use Rattle.ip_address.specs.declared.ipv4.Ipv4FragKey.{Ipv4FragKey}
+use Rattle.interface_delivery.specs.Ipv4Piece.{Ipv4Piece}
+use Rattle.interface_delivery.specs.Ipv4Repr.{Ipv4Repr}
+use Rattle.interface_delivery.specs.Ipv6 as Ipv6
+use Rattle.interface_ingress.specs.EthernetRepr.{EthernetRepr}
+use Rattle.sockets.specs.Packet.{PacketValue, PayloadValue}
 use Rattle.interface_tables.specs.Settings.{is_of_medium}
 use Rattle.interface_ingress.specs.Incoming.{IncomingValue, Arp, Ip4, Ip6, IsPacketV4, IsIncoming}
 use Rattle.interface_ingress.specs.Reassembled.{is_piece, uncut}

@@ -3,17 +3,17 @@ use Rattle.std.proofs.Common.{◌≡◌, ◌⊎◌, inl, inr, ℕ, ◌+◌, ◌�
 use Rattle.std.proofs.Common.{ap, subst, arith}
 use Rattle.std.specs.Prelude.{nat_lt}
 use Rattle.std.specs.List.{AllByRecursion}
-use Rattle.net_base.specs.ChecksumCapabilities.{ChecksumCapabilities}
-use Rattle.ip_wire.specs.Address.{IsIpAddress}
-use Rattle.ip_wire.specs.HardwareAddress.{HardwareAddress}
-use Rattle.ip_wire.specs.HardwareAddress.TheVariants as Hardware
-use Rattle.ip_wire.specs.Ip as Ips
-use Rattle.ip_wire.specs.Ip.{carried_in, destination_of}
-use Rattle.ip_wire.specs.IpRepr.{IpRepr}
-use Rattle.ip_wire.specs.IpRepr.TheVariants as Ip
-use Rattle.ip_wire.specs.Ipv4Repr.{Ipv4Repr}
-use Rattle.ip_wire.specs.declared.arp.repr.ArpRepr.{ArpRepr}
-use Rattle.socket_base.specs.Packet.{PacketValue, PayloadValue, packet_of, payload_written}
+use Rattle.lan_frames.specs.ChecksumCapabilities.{ChecksumCapabilities}
+use Rattle.interface_ingress.specs.Address.{IsIpAddress}
+use Rattle.interface_ingress.specs.HardwareAddress.{HardwareAddress}
+use Rattle.interface_ingress.specs.HardwareAddress.TheVariants as Hardware
+use Rattle.interface_delivery.specs.Ip as Ips
+use Rattle.interface_delivery.specs.Ip.{carried_in, destination_of}
+use Rattle.interface_delivery.specs.IpRepr.{IpRepr}
+use Rattle.interface_delivery.specs.IpRepr.TheVariants as Ip
+use Rattle.interface_delivery.specs.Ipv4Repr.{Ipv4Repr}
+use Rattle.interface_ingress.specs.ArpRepr.{ArpRepr}
+use Rattle.sockets.specs.Packet.{PacketValue, PayloadValue, packet_of, payload_written}
 use Rattle.interface_tables.specs.Inner.{InnerValue, with_next_ident, with_request}
 use Rattle.interface_egress.specs.Departure.{Asks, Tells, Whole, question_frame, arp_frame, packet_frame, packet_frame_len, piece_frame, piece_frame_len}
 use Rattle.interface_egress.specs.Departure.{target_of}
@@ -31,7 +31,7 @@ use Rattle.interface_delivery.specs.Delivered.{NamesNoPorts, IsWritable}
 use Rattle.interface_delivery.specs.Taken.{HasWidths, IsHalfSent}
 use Rattle.interface_delivery.proofs.Offered.{writes, readable, begun_half, left_half}
 use Rattle.lan_hosts.specs.Origins.{begins_datagram}
-use Rattle.lan_port.specs.Port.{PortValue, PortMove}
+use Rattle.lan_hosts.specs.Port.{PortValue, PortMove}
 use Rattle.lan_theorem.specs.Link.Made.{sealed, IsGoing}
 use Rattle.lan_theorem.specs.Link.Frames.{medium_on, IsOut}
 use Rattle.lan_theorem.specs.Link.Numbers.{and_v4, count_v4, AreNumbered, IsTied}

@@ -12,11 +12,11 @@ use Rattle.held_bytes.specs.Held.{map_from, overlay, EndsBy}
 use Rattle.held_bytes.proofs.Storing.{held-added, overlay-spliced, length-overlay, EndsBy-union}
 use Rattle.held_bytes.proofs.Fronts.{front-held, front-EndsBy}
 use Rattle.held_bytes.proofs.Refused.{map_from-refused}
-use Rattle.ip_wire.specs.Ipv4 as Ipv4
-use Rattle.ip_wire.specs.Ipv4FragKey.{Ipv4FragKey}
-use Rattle.ip_wire.specs.Ipv4Piece.{Ipv4Piece}
-use Rattle.ip_wire.specs.Ipv4Repr.{Ipv4Repr}
-use Rattle.ip_wire.specs.declared.ethernet.repr.EthernetRepr.{EthernetRepr}
+use Rattle.interface_delivery.specs.Ipv4 as Ipv4
+use Rattle.ip_address.specs.declared.ipv4.Ipv4FragKey.{Ipv4FragKey}
+use Rattle.interface_delivery.specs.Ipv4Piece.{Ipv4Piece}
+use Rattle.interface_delivery.specs.Ipv4Repr.{Ipv4Repr}
+use Rattle.interface_ingress.specs.EthernetRepr.{EthernetRepr}
 use Rattle.interface_tables.specs.Best.{at_place}
 use Rattle.interface_tables.specs.Inner.{InnerValue}
 use Rattle.interface_tables.specs.Reassembly.{SlotValue, freed, taken, placed, overwritten, marked, completed, with_piece, with_total, takes_total, is_complete}

@@ -4,15 +4,15 @@ use Rattle.std.proofs.Common.{arith, length-append, length-take, length-drop, ap
 use Rattle.std.specs.Prelude.{nat_lt}
 use Rattle.std.proofs.lemmas.List.{take_at}
 use Rattle.std.proofs.lemmas.Bool.Decides.{nat_tests}
-use Rattle.ip_wire.specs.EthernetProtocol.TheVariants as Ether
-use Rattle.ip_wire.specs.HardwareAddress.{HardwareAddress}
-use Rattle.ip_wire.specs.IpRepr.{IpRepr}
-use Rattle.ip_wire.specs.IpRepr.TheVariants as Ip
-use Rattle.ip_wire.specs.Ipv4 as Ipv4
-use Rattle.ip_wire.specs.Ipv4Repr.{Ipv4Repr}
-use Rattle.ip_wire.specs.Ipv6 as Ipv6
-use Rattle.ip_wire.specs.Ipv6Repr.{Ipv6Repr}
-use Rattle.socket_base.specs.Packet.{PacketValue, PayloadValue, packet_of, payload_len}
+use Rattle.interface_ingress.specs.EthernetProtocol.TheVariants as Ether
+use Rattle.interface_ingress.specs.HardwareAddress.{HardwareAddress}
+use Rattle.interface_delivery.specs.IpRepr.{IpRepr}
+use Rattle.interface_delivery.specs.IpRepr.TheVariants as Ip
+use Rattle.interface_delivery.specs.Ipv4 as Ipv4
+use Rattle.interface_delivery.specs.Ipv4Repr.{Ipv4Repr}
+use Rattle.interface_delivery.specs.Ipv6 as Ipv6
+use Rattle.interface_delivery.specs.Ipv6Repr.{Ipv6Repr}
+use Rattle.sockets.specs.Packet.{PacketValue, PayloadValue, packet_of, payload_len}
 use Rattle.interface_egress.specs.Departure.{link_header, link_len, packet_frame, packet_frame_len, piece_frame, piece_frame_len}
 use Rattle.interface_egress.specs.Fragments.{LeftValue, piece_room, next_piece}
 use Rattle.interface_delivery.specs.Delivered.{IsWritable}

@@ -3,24 +3,24 @@ use Rattle.std.proofs.Common.{◌≡◌, ℕ, zero, suc, ◌^◌, ◌<◌, ◌�
 use Rattle.std.proofs.Common.{◌∙◌, subst}
 use Rattle.std.specs.Prelude.{ℤ, pos, ◌+ℤ◌, nat_lt, remove}
 use Rattle.std.specs.List.{AllByRecursion}
-use Rattle.control_wire.specs.Icmpv6 as Icmpv6
-use Rattle.control_wire.specs.Icmpv6.{MessageValue}
-use Rattle.control_wire.specs.Ndisc.{NeighborMessage, Solicitation, Advertisement}
-use Rattle.control_wire.specs.NdiscNeighborFlags.{NdiscNeighborFlags}
-use Rattle.ip_wire.specs.AddressTests.{is_same_hardware}
-use Rattle.ip_wire.specs.EthernetAddress.{EthernetAddress}
-use Rattle.ip_wire.specs.HardwareAddress.{HardwareAddress}
-use Rattle.ip_wire.specs.HardwareAddress.TheVariants as Hardware
-use Rattle.ip_wire.specs.IpAddress.{IpAddress}
-use Rattle.ip_wire.specs.IpAddress.TheVariants as Address
-use Rattle.ip_wire.specs.IpRepr.{IpRepr}
-use Rattle.ip_wire.specs.IpRepr.TheVariants as Ip
-use Rattle.ip_wire.specs.Ipv6Address.{Ipv6Address}
-use Rattle.ip_wire.specs.Ipv6Repr.{Ipv6Repr}
-use Rattle.ip_wire.specs.declared.arp.repr.ArpRepr.{ArpRepr}
-use Rattle.ip_wire.specs.declared.arp.repr.ArpRepr.TheVariants as ArpIs
-use Rattle.ip_wire.specs.declared.ethernet.repr.EthernetRepr.{EthernetRepr}
-use Rattle.socket_base.specs.Packet.{PacketValue, PayloadValue, ControlV4, ControlV6, Bytes, Datagram, Segment}
+use Rattle.interface_ingress.specs.Icmpv6 as Icmpv6
+use Rattle.interface_ingress.specs.Icmpv6.{MessageValue}
+use Rattle.lan_packets.specs.Ndisc.{NeighborMessage, Solicitation, Advertisement}
+use Rattle.interface_delivery.specs.NdiscNeighborFlags.{NdiscNeighborFlags}
+use Rattle.interface_ingress.specs.AddressTests.{is_same_hardware}
+use Rattle.interface_ingress.specs.EthernetAddress.{EthernetAddress}
+use Rattle.interface_ingress.specs.HardwareAddress.{HardwareAddress}
+use Rattle.interface_ingress.specs.HardwareAddress.TheVariants as Hardware
+use Rattle.interface_ingress.specs.IpAddress.{IpAddress}
+use Rattle.interface_ingress.specs.IpAddress.TheVariants as Address
+use Rattle.interface_delivery.specs.IpRepr.{IpRepr}
+use Rattle.interface_delivery.specs.IpRepr.TheVariants as Ip
+use Rattle.interface_ingress.specs.Ipv6Address.{Ipv6Address}
+use Rattle.interface_delivery.specs.Ipv6Repr.{Ipv6Repr}
+use Rattle.interface_ingress.specs.ArpRepr.{ArpRepr}
+use Rattle.interface_ingress.specs.ArpRepr.TheVariants as ArpIs
+use Rattle.interface_ingress.specs.EthernetRepr.{EthernetRepr}
+use Rattle.sockets.specs.Packet.{PacketValue, PayloadValue, ControlV4, ControlV6, Bytes, Datagram, Segment}
 use Rattle.interface_tables.specs.Best.{at_place}
 use Rattle.interface_tables.specs.Inner.{InnerValue, context_of, with_neighbor, table_room, is_for_us}
 use Rattle.interface_tables.specs.Neighbor.{entry_lifetime, renewed_entry, renewed_at, filled_at, place_of, victim}

@@ -6,16 +6,16 @@ use Rattle.std.specs.List.{count_by}
 use Rattle.std.proofs.Math.Seq.{drop-append_seam}
 use Rattle.std.proofs.lemmas.Bool.Decides.{nat_tests}
 use Rattle.std.proofs.lemmas.List.Sums.{sum_by-append}
-use Rattle.net_base.specs.DeviceCapabilities.{DeviceCapabilities}
-use Rattle.net_base.specs.Medium.{Medium}
-use Rattle.socket_base.specs.Packet.{PacketValue}
-use Rattle.lan_history.specs.History.{Entry}
-use Rattle.lan_history.specs.Kinds.{Kind, kind_of}
-use Rattle.lan_history.specs.Kinds.Act.{Polls}
-use Rattle.lan_history.specs.Kinds.Kind.{OfHost}
-use Rattle.lan_history.specs.declared.answer.Refused.{Refused}
-use Rattle.lan_history.specs.declared.event.Side.{Side}
-use Rattle.lan_history.specs.declared.event.Side.TheVariants.{A, B}
+use Rattle.lan_frames.specs.DeviceCapabilities.{DeviceCapabilities}
+use Rattle.lan_frames.specs.Medium.{Medium}
+use Rattle.sockets.specs.Packet.{PacketValue}
+use Rattle.lan_hosts.specs.History.{Entry}
+use Rattle.lan_hosts.specs.Kinds.{Kind, kind_of}
+use Rattle.lan_hosts.specs.Kinds.Act.{Polls}
+use Rattle.lan_hosts.specs.Kinds.Kind.{OfHost}
+use Rattle.lan_hosts.specs.Refused.{Refused}
+use Rattle.lan_hosts.specs.Side.{Side}
+use Rattle.lan_hosts.specs.Side.TheVariants.{A, B}
 use Rattle.lan_hosts.specs.Origins.{medium_of, begins_datagram}
 use Rattle.lan_hosts.specs.Records.{datagrams_added}
 use Rattle.lan_hosts.specs.Refusals.{Table, socket_count, may_run_out, refusal, table}

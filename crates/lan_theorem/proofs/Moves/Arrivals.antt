@@ -3,16 +3,16 @@ use Rattle.std.proofs.Common.{◌≡◌, ℕ, ◌<◌, Bool, true, false, if◌t
 use Rattle.std.proofs.Common.{subst, append-nil}
 use Rattle.std.specs.Prelude.{◌||◌, slice_get, slice_set, slice_index_or}
 use Rattle.std.proofs.lemmas.List.Quantifiers.{position-Some}
-use Rattle.control_wire.specs.Icmpv4Header.{Icmpv4Header}
-use Rattle.control_wire.specs.Icmpv6.{MessageValue}
-use Rattle.ip_wire.specs.IpAddress.TheVariants as Address
-use Rattle.ip_wire.specs.IpRepr.{IpRepr}
-use Rattle.ip_wire.specs.Ipv4Repr.{Ipv4Repr}
-use Rattle.ip_wire.specs.Ipv6Repr.{Ipv6Repr}
-use Rattle.ip_wire.specs.TcpHeader.{TcpHeader}
-use Rattle.ip_wire.specs.UdpRepr.{UdpRepr}
-use Rattle.socket_base.specs.Context.{ContextValue}
-use Rattle.socket_base.specs.Packet.{PacketValue}
+use Rattle.interface_ingress.specs.Icmpv4Header.{Icmpv4Header}
+use Rattle.interface_ingress.specs.Icmpv6.{MessageValue}
+use Rattle.interface_ingress.specs.IpAddress.TheVariants as Address
+use Rattle.interface_delivery.specs.IpRepr.{IpRepr}
+use Rattle.interface_delivery.specs.Ipv4Repr.{Ipv4Repr}
+use Rattle.interface_delivery.specs.Ipv6Repr.{Ipv6Repr}
+use Rattle.ip_tcp.specs.declared.header.TcpHeader.{TcpHeader}
+use Rattle.interface_delivery.specs.UdpRepr.{UdpRepr}
+use Rattle.sockets.specs.Context.{ContextValue}
+use Rattle.sockets.specs.Packet.{PacketValue}
 use Rattle.tcp_tie.specs.Host.{Made, made_of, and_answer, IsAmong}
 use Rattle.tcp_model.specs.Controls.{is_rst}
 use Rattle.tcp_model.specs.Arrival.{arrives}
@@ -28,8 +28,8 @@ use Rattle.interface_ingress.specs.Delivered.{with_icmpv6, icmpv6_delivered, wit
 use Rattle.interface_ingress.specs.Delivered.{answer_of, segment_place, segment_delivered, answer_in, segment_answer_at, segment_answer}
 use Rattle.interface_ingress.proofs.AtPlace.{changed_here, answer_here}
 use Rattle.interface_ingress.proofs.Segments.{accepted_there}
-use Rattle.lan_history.specs.declared.event.Side.{Side}
-use Rattle.lan_history.specs.Kinds.{other}
+use Rattle.lan_hosts.specs.Side.{Side}
+use Rattle.lan_hosts.specs.Kinds.{other}
 use Rattle.lan_packets.specs.Moves as Moves
 use Rattle.lan_packets.specs.Parties as Parties
 use Rattle.lan_packets.specs.Parties.{Party, Net, party, WasMade}

@@ -1,13 +1,13 @@
 -- A call of a host's socket is a move.
 use Rattle.std.proofs.Common.{◌≡◌, ℕ, zero, suc, Bool, List, [], ◌∷◌, length, map, Option, Some, None, refl, sym, ap, ◌∙◌, subst}
 use Rattle.std.specs.Prelude.{nat_lt, if◌then◌else◌, true, false, slice_get, slice_set, slice_index_or}
-use Rattle.ip_wire.specs.IpAddress.{IpAddress}
-use Rattle.net_base.specs.Medium.TheVariants as Medium
-use Rattle.net_base.specs.Packets.{first}
-use Rattle.socket_base.specs.Context.{ContextValue}
-use Rattle.datagram_sockets.specs.Icmp.{IcmpValue}
-use Rattle.datagram_sockets.specs.Raw.{RawValue}
-use Rattle.datagram_sockets.specs.Udp.{UdpValue}
+use Rattle.interface_ingress.specs.IpAddress.{IpAddress}
+use Rattle.lan_frames.specs.Medium.TheVariants as Medium
+use Rattle.net_containers.specs.Packets.{first}
+use Rattle.sockets.specs.Context.{ContextValue}
+use Rattle.sockets.specs.Icmp.{IcmpValue}
+use Rattle.sockets.specs.Raw.{RawValue}
+use Rattle.sockets.specs.Udp.{UdpValue}
 use Rattle.tcp_model.specs.State as States
 use Rattle.tcp_model.specs.Value.{TcpValue}
 use Rattle.sockets.specs.declared.socket.Socket.{Socket}
@@ -17,17 +17,17 @@ use Rattle.interface_egress.specs.Set.{socket_in, with_socket}
 use Rattle.interface_egress.specs.declared.socket_set.Item.{Item}
 use Rattle.interface_egress.specs.declared.socket_set.SocketStorage.{SocketStorage}
 use Rattle.lan_frames.specs.Carried.{names_tcp_or_udp}
-use Rattle.lan_history.specs.Call as Call
-use Rattle.lan_history.specs.Call.{SocketCall}
-use Rattle.lan_history.specs.History.{Entry}
-use Rattle.lan_history.specs.Kinds.{calls, Kind}
-use Rattle.lan_history.specs.Tables.{IsAllowed, call_refusal, table_of}
-use Rattle.lan_history.specs.declared.answer.Answer.{Answer}
-use Rattle.lan_history.specs.declared.answer.Answer.TheVariants as To
-use Rattle.lan_history.specs.declared.answer.Fault.TheVariants as For
-use Rattle.lan_history.specs.declared.event.Side.{Side}
-use Rattle.lan_history.specs.declared.event.Side.TheVariants.{A, B}
-use Rattle.lan_history.specs.declared.record.SocketKind.{SocketKind}
+use Rattle.lan_hosts.specs.Call as Call
+use Rattle.lan_hosts.specs.Call.{SocketCall}
+use Rattle.lan_hosts.specs.History.{Entry}
+use Rattle.lan_hosts.specs.Kinds.{calls, Kind}
+use Rattle.lan_hosts.specs.Tables.{IsAllowed, call_refusal, table_of}
+use Rattle.lan_hosts.specs.Answer.{Answer}
+use Rattle.lan_hosts.specs.Answer.TheVariants as To
+use Rattle.lan_hosts.specs.Fault.TheVariants as For
+use Rattle.lan_hosts.specs.Side.{Side}
+use Rattle.lan_hosts.specs.Side.TheVariants.{A, B}
+use Rattle.lan_hosts.specs.SocketKind.{SocketKind}
 use Rattle.lan_packets.specs.Calls.{Did, tcp_does, udp_does}
 use Rattle.lan_packets.specs.Moves as Moves
 use Rattle.lan_packets.specs.Moves.{IsOfOthers, DoneBy}

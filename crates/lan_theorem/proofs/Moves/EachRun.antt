@@ -1,8 +1,8 @@
 -- What polls, calls and a fresh start keep of each socket holds of all sockets of a world, wherever its events led.
 use Rattle.std.proofs.Common.{◌≡◌, ℕ, zero, suc, Bool, true, false, if◌then◌else◌, not, List, [], ◌∷◌, Option, Some, None, is_some, refl, sym, ap, subst}
 use Rattle.std.specs.Prelude.{slice_get}
-use Rattle.net_base.specs.Medium.TheVariants as Medium
-use Rattle.socket_base.specs.Context.{ContextValue}
+use Rattle.lan_frames.specs.Medium.TheVariants as Medium
+use Rattle.sockets.specs.Context.{ContextValue}
 use Rattle.tcp_model.specs.State as States
 use Rattle.sockets.specs.declared.socket.Socket.{Socket}
 use Rattle.interface_tables.specs.Inner.{context_of}
@@ -10,21 +10,21 @@ use Rattle.interface_egress.specs.Set.{socket_at, socket_in, with_socket}
 use Rattle.interface_egress.specs.declared.socket_set.Item.{Item}
 use Rattle.interface_egress.specs.declared.socket_set.SocketStorage.{SocketStorage}
 use Rattle.lan_frames.specs.Carried.{names_tcp_or_udp}
-use Rattle.lan_history.specs.Call as Call
-use Rattle.lan_history.specs.Call.{SocketCall}
-use Rattle.lan_history.specs.History.{Entry}
-use Rattle.lan_history.specs.Kinds.{other, kind_of, calls, Kind, LinkAct}
-use Rattle.lan_history.specs.Kinds.Act.{Calls, Sets, Opens, Asks, Polls}
-use Rattle.lan_history.specs.Kinds.Kind.{OfHost, OfLink}
-use Rattle.lan_history.specs.Kinds.LinkAct.{Hands, Cuts}
-use Rattle.lan_history.specs.Tables.{is_wrong_kind}
-use Rattle.lan_history.specs.declared.answer.Answer.{Answer}
-use Rattle.lan_history.specs.declared.answer.Refused.{Refused}
-use Rattle.lan_history.specs.declared.answer.Refused.TheVariants as For
-use Rattle.lan_history.specs.declared.event.Side.{Side}
-use Rattle.lan_history.specs.declared.event.Side.TheVariants.{A, B}
+use Rattle.lan_hosts.specs.Call as Call
+use Rattle.lan_hosts.specs.Call.{SocketCall}
+use Rattle.lan_hosts.specs.History.{Entry}
+use Rattle.lan_hosts.specs.Kinds.{other, kind_of, calls, Kind, LinkAct}
+use Rattle.lan_hosts.specs.Kinds.Act.{Calls, Sets, Opens, Asks, Polls}
+use Rattle.lan_hosts.specs.Kinds.Kind.{OfHost, OfLink}
+use Rattle.lan_hosts.specs.Kinds.LinkAct.{Hands, Cuts}
+use Rattle.lan_hosts.specs.Tables.{is_wrong_kind}
+use Rattle.lan_hosts.specs.Answer.{Answer}
+use Rattle.lan_hosts.specs.Refused.{Refused}
+use Rattle.lan_hosts.specs.Refused.TheVariants as For
+use Rattle.lan_hosts.specs.Side.{Side}
+use Rattle.lan_hosts.specs.Side.TheVariants.{A, B}
 use Rattle.lan_packets.specs.Calls.{Did}
-use Rattle.lan_port.specs.Port.{LinkEnd, PortMove}
+use Rattle.lan_hosts.specs.Port.{LinkEnd, PortMove}
 use Rattle.lan_hosts.specs.Does.{PlaceDoes, ItemDoes, DidAt, does, did_as}
 use Rattle.lan_hosts.specs.Fresh.{IsUnused, IsFreshWorld}
 use Rattle.lan_hosts.specs.Origins.{goes_to}

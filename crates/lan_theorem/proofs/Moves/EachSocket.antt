@@ -1,22 +1,22 @@
 -- What each thing that a poll does to a socket keeps of it is kept of all sockets by a poll.
 use Rattle.std.proofs.Common.{◌≡◌, ℕ, zero, suc, Bool, true, false, if◌then◌else◌, List, [], ◌∷◌, ◌++◌, Option, Some, None, refl, sym, ◌∙◌, subst}
 use Rattle.std.specs.Prelude.{ℤ, slice_get, slice_set}
-use Rattle.control_wire.specs.Icmpv4Header.{Icmpv4Header}
-use Rattle.control_wire.specs.Icmpv6.{MessageValue}
-use Rattle.ip_wire.specs.IpAddress.TheVariants as Address
-use Rattle.ip_wire.specs.IpRepr.{IpRepr}
-use Rattle.ip_wire.specs.IpRepr.TheVariants as Ip
-use Rattle.ip_wire.specs.Ipv4Repr.{Ipv4Repr}
-use Rattle.ip_wire.specs.Ipv6Repr.{Ipv6Repr}
-use Rattle.ip_wire.specs.TcpHeader.{TcpHeader}
-use Rattle.ip_wire.specs.UdpRepr.{UdpRepr}
-use Rattle.ip_wire.specs.declared.ethernet.repr.EthernetRepr.{EthernetRepr}
-use Rattle.net_base.specs.ChecksumCapabilities.{ChecksumCapabilities}
-use Rattle.net_base.specs.Device.{Move}
-use Rattle.socket_base.specs.Context.{ContextValue}
-use Rattle.socket_base.specs.Packet.{PacketValue, PayloadValue, ControlV4, ControlV6, Bytes, Datagram, Segment}
-use Rattle.socket_base.specs.declared.offer.Offer as Answer
-use Rattle.socket_base.specs.declared.offer.Offer.TheVariants as Offer
+use Rattle.interface_ingress.specs.Icmpv4Header.{Icmpv4Header}
+use Rattle.interface_ingress.specs.Icmpv6.{MessageValue}
+use Rattle.interface_ingress.specs.IpAddress.TheVariants as Address
+use Rattle.interface_delivery.specs.IpRepr.{IpRepr}
+use Rattle.interface_delivery.specs.IpRepr.TheVariants as Ip
+use Rattle.interface_delivery.specs.Ipv4Repr.{Ipv4Repr}
+use Rattle.interface_delivery.specs.Ipv6Repr.{Ipv6Repr}
+use Rattle.ip_tcp.specs.declared.header.TcpHeader.{TcpHeader}
+use Rattle.interface_delivery.specs.UdpRepr.{UdpRepr}
+use Rattle.interface_ingress.specs.EthernetRepr.{EthernetRepr}
+use Rattle.lan_frames.specs.ChecksumCapabilities.{ChecksumCapabilities}
+use Rattle.lan_frames.specs.Device.{Move}
+use Rattle.sockets.specs.Context.{ContextValue}
+use Rattle.sockets.specs.Packet.{PacketValue, PayloadValue, ControlV4, ControlV6, Bytes, Datagram, Segment}
+use Rattle.sockets.specs.Offer as Answer
+use Rattle.sockets.specs.Offer.TheVariants as Offer
 use Rattle.sockets.specs.Socket.{Offers, offered_by, settled, accepts_packet, accepts_icmpv4, accepts_icmpv6}
 use Rattle.sockets.specs.declared.socket.Socket.{Socket}
 use Rattle.interface_tables.specs.Inner.{InnerValue, context_of, is_for_us}
@@ -34,7 +34,7 @@ use Rattle.interface.specs.Polls.{Polls}
 use Rattle.interface.specs.State.{State}
 use Rattle.interface.specs.Turn.{ItemTurns, TurnsIf, Answers, SendsBy, is_waiting, let_through, is_done}
 use Rattle.interface.specs.declared.turn.Turned.{Turned}
-use Rattle.ip_wire.specs.IpAddress.{IpAddress}
+use Rattle.interface_ingress.specs.IpAddress.{IpAddress}
 use Rattle.interface.specs.Kept.{IsKept}
 use Rattle.interface.proofs.Keep.{polls_keep}
 use Rattle.lan_theorem.specs.Moves.Fit.{AreNamed}

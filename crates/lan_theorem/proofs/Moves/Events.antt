@@ -1,11 +1,11 @@
 -- What an event of a host, or of the link, does to both hosts, as moves.
 use Rattle.std.proofs.Common.{◌≡◌, ℕ, List, [], ◌∷◌, ◌++◌, None, refl, sym, ap, ◌∙◌, subst}
-use Rattle.lan_history.specs.Call.{SocketCall}
-use Rattle.lan_history.specs.History.{Entry}
-use Rattle.lan_history.specs.Kinds.{other, kind_of, calls}
-use Rattle.lan_history.specs.Kinds.Act.{Calls}
-use Rattle.lan_history.specs.declared.event.Side.{Side}
-use Rattle.lan_history.specs.declared.event.Side.TheVariants.{A, B}
+use Rattle.lan_hosts.specs.Call.{SocketCall}
+use Rattle.lan_hosts.specs.History.{Entry}
+use Rattle.lan_hosts.specs.Kinds.{other, kind_of, calls}
+use Rattle.lan_hosts.specs.Kinds.Act.{Calls}
+use Rattle.lan_hosts.specs.Side.{Side}
+use Rattle.lan_hosts.specs.Side.TheVariants.{A, B}
 use Rattle.lan_packets.specs.Moves as Moves
 use Rattle.lan_packets.specs.Moves.{IsNoCall, IsRun, after}
 use Rattle.lan_packets.specs.Parties.{Party, Net, party}

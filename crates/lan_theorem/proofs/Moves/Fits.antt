@@ -1,7 +1,7 @@
 -- Wherever two hosts came from a fresh start, their sockets are fit.
 use Rattle.std.proofs.Common.{List, Option, Some, None}
 use Rattle.sockets.specs.declared.socket.Socket.{Socket}
-use Rattle.lan_history.specs.History.{Entry}
+use Rattle.lan_hosts.specs.History.{Entry}
 use Rattle.lan_packets.specs.Calls.{Did}
 use Rattle.lan_hosts.specs.Does.{does}
 use Rattle.lan_hosts.specs.Fresh.{IsFreshWorld}

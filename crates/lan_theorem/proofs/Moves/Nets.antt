@@ -1,9 +1,9 @@
 -- A net after moves of one host.
 use Rattle.std.proofs.Common.{◌≡◌, ℕ, Bool, List, [], ◌∷◌, ◌++◌, Option, refl, sym, ap, ◌∙◌, subst}
 use Rattle.std.specs.Prelude.{slice_get}
-use Rattle.lan_history.specs.declared.event.Side.{Side}
-use Rattle.lan_history.specs.declared.event.Side.TheVariants.{A, B}
-use Rattle.lan_history.specs.Kinds.{other}
+use Rattle.lan_hosts.specs.Side.{Side}
+use Rattle.lan_hosts.specs.Side.TheVariants.{A, B}
+use Rattle.lan_hosts.specs.Kinds.{other}
 use Rattle.lan_packets.specs.Moves.{Move, party_after, history_after, May, Step, after, IsRun}
 use Rattle.lan_packets.specs.Parties.{Socket, Datagram, Party, Net, party}
 use Rattle.tcp_tie.specs.Host.{Made}

@@ -1,17 +1,17 @@
 -- What a socket offers is made.
 use Rattle.std.proofs.Common.{◌≡◌, ℕ, List, Option, Some, None, IfSome, refl, sym, ap, ◌∙◌, subst}
 use Rattle.std.specs.Prelude.{[], ◌∷◌, ◌++◌, slice_get}
-use Rattle.ip_wire.specs.UdpRepr.{UdpRepr}
-use Rattle.socket_base.specs.Context.{ContextValue}
-use Rattle.ip_wire.specs.IpAddress.{IpAddress}
-use Rattle.ip_wire.specs.IpAddress.TheVariants as Address
-use Rattle.socket_base.specs.Packet.{PacketValue, PayloadValue, ControlV4, ControlV6, Bytes, Datagram, Segment, packet_of}
-use Rattle.socket_base.specs.declared.offer.Offer as Answer
-use Rattle.datagram_sockets.specs.Icmp.{IsMessage, IsPacketFrom}
-use Rattle.datagram_sockets.specs.Offers.{IsFound, IsOnly, OffersFirst}
-use Rattle.datagram_sockets.specs.SocketValue.{SocketValue}
-use Rattle.datagram_sockets.specs.Udp as Udps
-use Rattle.datagram_sockets.specs.declared.udp.UdpMetadata.{UdpMetadata}
+use Rattle.interface_delivery.specs.UdpRepr.{UdpRepr}
+use Rattle.sockets.specs.Context.{ContextValue}
+use Rattle.interface_ingress.specs.IpAddress.{IpAddress}
+use Rattle.interface_ingress.specs.IpAddress.TheVariants as Address
+use Rattle.sockets.specs.Packet.{PacketValue, PayloadValue, ControlV4, ControlV6, Bytes, Datagram, Segment, packet_of}
+use Rattle.sockets.specs.Offer as Answer
+use Rattle.sockets.specs.Icmp.{IsMessage, IsPacketFrom}
+use Rattle.sockets.specs.Offers.{IsFound, IsOnly, OffersFirst}
+use Rattle.sockets.specs.SocketValue.{SocketValue}
+use Rattle.sockets.specs.Udp as Udps
+use Rattle.sockets.specs.UdpMetadata.{UdpMetadata}
 use Rattle.tcp_tie.specs.Host.{Made, made_of, and_offer}
 use Rattle.tcp_model.specs.OpenOffer.{OpenOffer}
 use Rattle.tcp_model.specs.Offers.{offer_of, payload_of, packet_with, offered_packet}

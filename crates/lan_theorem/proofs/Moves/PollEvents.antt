@@ -2,14 +2,14 @@
 use Rattle.std.proofs.Common.{◌≡◌, ◌+◌, ◌*◌, ℕ, ◌∷◌, List, sym, ap, ◌∙◌, subst}
 use Rattle.std.specs.Prelude.{ℤ}
 use Rattle.interface.specs.State.{State}
-use Rattle.lan_history.specs.History.{Entry}
-use Rattle.lan_history.specs.Kinds.{other, kind_of}
-use Rattle.lan_history.specs.Kinds.Act.{Polls}
-use Rattle.lan_history.specs.Kinds.Kind.{OfHost}
-use Rattle.lan_history.specs.declared.event.Side.{Side}
+use Rattle.lan_hosts.specs.History.{Entry}
+use Rattle.lan_hosts.specs.Kinds.{other, kind_of}
+use Rattle.lan_hosts.specs.Kinds.Act.{Polls}
+use Rattle.lan_hosts.specs.Kinds.Kind.{OfHost}
+use Rattle.lan_hosts.specs.Side.{Side}
 use Rattle.lan_packets.specs.Moves.{IsNoCall}
 use Rattle.lan_packets.specs.Parties.{Party, Net, party}
-use Rattle.lan_port.specs.Port.{PortValue, PortMove}
+use Rattle.lan_hosts.specs.Port.{PortValue, PortMove}
 use Rattle.lan_hosts.specs.Refusals.{socket_count}
 use Rattle.lan_hosts.specs.Station.{StationValue, Stations, station, at_port}
 use Rattle.lan_hosts.specs.Steps.{ActsAt}

@@ -2,9 +2,9 @@
 use Rattle.std.proofs.Common.{◌≡◌, ◌≤◌, ◌+◌, ◌*◌, arith, ℕ, Bool, true, false, inl, inr, List, Option, Some, None, IfSome, refl, sym, ap, ◌∙◌, subst}
 use Rattle.std.specs.Prelude.{ℤ}
 use Rattle.std.proofs.Math.Nat.{mul-le-mul_left}
-use Rattle.net_base.specs.Device.{Move, Took}
+use Rattle.lan_frames.specs.Device.{Move, Took}
 use Rattle.interface_egress.specs.Fragments.{LeftValue}
-use Rattle.ip_wire.specs.declared.arp.repr.ArpRepr.{ArpRepr}
+use Rattle.interface_ingress.specs.ArpRepr.{ArpRepr}
 use Rattle.interface_egress.specs.Departure as Departures
 use Rattle.interface_egress.specs.GoesOut.{Departs}
 use Rattle.lan_theorem.proofs.Moves.Nets.{grows_not}
@@ -18,8 +18,8 @@ use Rattle.interface.specs.WayOut.{PieceLeaves}
 use Rattle.interface.specs.Kept.{sending_as, IsKept}
 use Rattle.interface.specs.Priced.{IsPriced, sockets_in}
 use Rattle.interface.proofs.Priced.{polls_cost}
-use Rattle.lan_history.specs.declared.event.Side.{Side}
-use Rattle.lan_history.specs.Kinds.{other}
+use Rattle.lan_hosts.specs.Side.{Side}
+use Rattle.lan_hosts.specs.Kinds.{other}
 use Rattle.lan_packets.specs.Parties.{Party, Net, party}
 use Rattle.lan_theorem.specs.Moves.Follows.{Follows, sockets_of}
 use Rattle.lan_theorem.specs.Moves.Fit.{IsFit}

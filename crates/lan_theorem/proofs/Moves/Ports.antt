@@ -4,29 +4,29 @@ use Rattle.std.proofs.Common.{sym, ap, ◌∙◌, subst}
 use Rattle.std.specs.Prelude.{◌&&◌, ◌||◌, ◌==◌, not}
 use Rattle.std.proofs.lemmas.Bool.{eqb-false}
 use Rattle.std.specs.List.{AllByRecursion}
-use Rattle.control_wire.specs.Icmpv4Header.{Icmpv4Header}
-use Rattle.control_wire.specs.Icmpv6.{MessageValue}
-use Rattle.ip_wire.specs.AddressTests.{is_unspecified}
-use Rattle.ip_wire.specs.IpEndpoint.{IpEndpoint}
-use Rattle.ip_wire.specs.IpListenEndpoint.{IpListenEndpoint}
-use Rattle.ip_wire.specs.IpRepr.{IpRepr}
-use Rattle.ip_wire.specs.Ipv4Repr.{Ipv4Repr}
-use Rattle.ip_wire.specs.Ipv6Repr.{Ipv6Repr}
-use Rattle.ip_wire.specs.TcpHeader.{TcpHeader}
-use Rattle.ip_wire.specs.UdpRepr.{UdpRepr}
-use Rattle.net_base.specs.Packets.{contents, first, is_full_for}
-use Rattle.socket_base.specs.Addresses as Addresses
-use Rattle.socket_base.specs.Context.{ContextValue, next_random}
-use Rattle.socket_base.specs.declared.offer.Offer as Answer
-use Rattle.datagram_sockets.specs.SocketValue as Datagrams
-use Rattle.datagram_sockets.specs.SocketValue.{sent_after}
-use Rattle.datagram_sockets.specs.Udp as Udps
-use Rattle.datagram_sockets.specs.Udp.{UdpValue, metadata_to}
-use Rattle.datagram_sockets.specs.declared.error.SendError.{SendError}
-use Rattle.datagram_sockets.specs.declared.error.SendError.TheVariants as SendTo
-use Rattle.datagram_sockets.specs.declared.udp.UdpMetadata.{UdpMetadata}
-use Rattle.net_base.specs.RandomWords.{word}
-use Rattle.net_base.specs.Ring.{anchored, enqueued}
+use Rattle.interface_ingress.specs.Icmpv4Header.{Icmpv4Header}
+use Rattle.interface_ingress.specs.Icmpv6.{MessageValue}
+use Rattle.interface_ingress.specs.AddressTests.{is_unspecified}
+use Rattle.ip_address.specs.declared.ip.IpEndpoint.{IpEndpoint}
+use Rattle.ip_address.specs.declared.ip.IpListenEndpoint.{IpListenEndpoint}
+use Rattle.interface_delivery.specs.IpRepr.{IpRepr}
+use Rattle.interface_delivery.specs.Ipv4Repr.{Ipv4Repr}
+use Rattle.interface_delivery.specs.Ipv6Repr.{Ipv6Repr}
+use Rattle.ip_tcp.specs.declared.header.TcpHeader.{TcpHeader}
+use Rattle.interface_delivery.specs.UdpRepr.{UdpRepr}
+use Rattle.net_containers.specs.Packets.{contents, first, is_full_for}
+use Rattle.sockets.specs.Addresses as Addresses
+use Rattle.sockets.specs.Context.{ContextValue, next_random}
+use Rattle.sockets.specs.Offer as Answer
+use Rattle.sockets.specs.SocketValue as Datagrams
+use Rattle.sockets.specs.SocketValue.{sent_after}
+use Rattle.sockets.specs.Udp as Udps
+use Rattle.sockets.specs.Udp.{UdpValue, metadata_to}
+use Rattle.sockets.specs.SendError.{SendError}
+use Rattle.sockets.specs.SendError.TheVariants as SendTo
+use Rattle.sockets.specs.UdpMetadata.{UdpMetadata}
+use Rattle.ip_tcp.specs.Rand.{word}
+use Rattle.net_containers.specs.Ring.{anchored, enqueued}
 use Rattle.tcp_tie.specs.Endpoints.{KeepsOrForgets, IsLeftBy, IsRenamed}
 use Rattle.tcp_tie.proofs.NameLaws.{arrival_names, withheld_names, close_names, abort_names}
 use Rattle.tcp_model.specs.AddressPair.{AddressPair}
@@ -51,10 +51,10 @@ use Rattle.sockets.specs.Socket.{Offers, settled}
 use Rattle.sockets.specs.declared.socket.Socket.{Socket}
 use Rattle.sockets.specs.declared.socket.Socket.TheVariants as Is
 use Rattle.interface_ingress.specs.Delivered.{with_packet, with_icmpv4, with_icmpv6, with_datagram, with_segment}
-use Rattle.lan_history.specs.Call as Call
-use Rattle.lan_history.specs.Call.{SocketCall}
-use Rattle.lan_history.specs.declared.event.TcpSetting.{TcpSetting}
-use Rattle.lan_history.specs.declared.event.TcpSetting.TheVariants as Changed
+use Rattle.lan_hosts.specs.Call as Call
+use Rattle.lan_hosts.specs.Call.{SocketCall}
+use Rattle.lan_hosts.specs.TcpSetting.{TcpSetting}
+use Rattle.lan_hosts.specs.TcpSetting.TheVariants as Changed
 use Rattle.lan_packets.specs.Calls.{at_port, read_by, setting_after, tcp_does, udp_does}
 use Rattle.lan_packets.proofs.Queues.{each_left, each_appended}
 use Rattle.lan_packets.proofs.WireMoves.{pair_kept, pair_left}

@@ -1,33 +1,33 @@
 -- The header of a packet that a socket offers, and of one that answers, names what it carries.
 use Rattle.std.proofs.Common.{◌≡◌, ℕ, ◌+◌, Bool, true, false, if◌then◌else◌, not, List, length, Option, Some, None, IfSome, is_some, refl, sym, ap, ◌∙◌, subst}
 use Rattle.std.specs.Prelude.{◌^◌, ◌==◌, ◌&&◌, nat_lt}
-use Rattle.control_wire.specs.Icmpv4Header.{Icmpv4Header}
-use Rattle.control_wire.specs.Icmpv6.{MessageValue}
-use Rattle.ip_wire.specs.Ip.{carried_in}
-use Rattle.ip_wire.specs.IpAddress.{IpAddress}
-use Rattle.ip_wire.specs.IpAddress.TheVariants as Address
-use Rattle.ip_wire.specs.IpProtocol.{IpProtocol}
-use Rattle.ip_wire.specs.IpProtocol.TheVariants as Protocol
-use Rattle.ip_wire.specs.IpRepr.{IpRepr}
-use Rattle.ip_wire.specs.IpRepr.TheVariants as Ip
-use Rattle.ip_wire.specs.Ipv4Address.{Ipv4Address}
-use Rattle.ip_wire.specs.Ipv4Repr.{Ipv4Repr}
-use Rattle.ip_wire.specs.Ipv6Repr.{Ipv6Repr}
-use Rattle.ip_wire.specs.Tcp.{header_len}
-use Rattle.ip_wire.specs.TcpHeader.{TcpHeader}
-use Rattle.ip_wire.specs.UdpRepr.{UdpRepr}
-use Rattle.net_base.specs.Packets.{first}
-use Rattle.net_base.specs.RandomWords.{word}
-use Rattle.socket_base.specs.Context.{ContextValue, next_random}
-use Rattle.socket_base.specs.Offers.{Offered}
-use Rattle.socket_base.specs.Packet.{PacketValue, PayloadValue, ControlV4, ControlV6, Bytes, Datagram, Segment, packet_of, payload_len}
-use Rattle.socket_base.specs.declared.offer.Offer as Answer
-use Rattle.datagram_sockets.specs.Header.{header_between, hops}
-use Rattle.datagram_sockets.specs.Icmp as Icmps
-use Rattle.datagram_sockets.specs.Icmp.{protocol_to}
-use Rattle.datagram_sockets.specs.Raw as Raws
-use Rattle.datagram_sockets.specs.Udp as Udps
-use Rattle.datagram_sockets.specs.declared.udp.UdpMetadata.{UdpMetadata}
+use Rattle.interface_ingress.specs.Icmpv4Header.{Icmpv4Header}
+use Rattle.interface_ingress.specs.Icmpv6.{MessageValue}
+use Rattle.interface_delivery.specs.Ip.{carried_in}
+use Rattle.interface_ingress.specs.IpAddress.{IpAddress}
+use Rattle.interface_ingress.specs.IpAddress.TheVariants as Address
+use Rattle.interface_ingress.specs.IpProtocol.{IpProtocol}
+use Rattle.interface_ingress.specs.IpProtocol.TheVariants as Protocol
+use Rattle.interface_delivery.specs.IpRepr.{IpRepr}
+use Rattle.interface_delivery.specs.IpRepr.TheVariants as Ip
+use Rattle.interface_ingress.specs.Ipv4Address.{Ipv4Address}
+use Rattle.interface_delivery.specs.Ipv4Repr.{Ipv4Repr}
+use Rattle.interface_delivery.specs.Ipv6Repr.{Ipv6Repr}
+use Rattle.ip_tcp.specs.Tcp.{header_len}
+use Rattle.ip_tcp.specs.declared.header.TcpHeader.{TcpHeader}
+use Rattle.interface_delivery.specs.UdpRepr.{UdpRepr}
+use Rattle.net_containers.specs.Packets.{first}
+use Rattle.ip_tcp.specs.Rand.{word}
+use Rattle.sockets.specs.Context.{ContextValue, next_random}
+use Rattle.sockets.specs.Polling.{Offered}
+use Rattle.sockets.specs.Packet.{PacketValue, PayloadValue, ControlV4, ControlV6, Bytes, Datagram, Segment, packet_of, payload_len}
+use Rattle.sockets.specs.Offer as Answer
+use Rattle.sockets.specs.Header.{header_between, hops}
+use Rattle.sockets.specs.Icmp as Icmps
+use Rattle.sockets.specs.Icmp.{protocol_to}
+use Rattle.sockets.specs.Raw as Raws
+use Rattle.sockets.specs.Udp as Udps
+use Rattle.sockets.specs.UdpMetadata.{UdpMetadata}
 use Rattle.tcp_model.specs.AddressPair.{AddressPair}
 use Rattle.tcp_model.specs.AddressPair.TheVariants as Pair
 use Rattle.tcp_model.specs.Acknowledged.{acknowledged, duplicates_after}

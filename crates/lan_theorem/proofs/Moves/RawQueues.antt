@@ -2,37 +2,37 @@
 use Rattle.std.proofs.Common.{◌≡◌, ℕ, Bool, true, false, if◌then◌else◌, List, ◌++◌, length, Option, Some, None, refl, sym, ap, ◌∙◌, subst}
 use Rattle.std.specs.Prelude.{◌+◌, ◌/◌, ◌&&◌, ◌==◌, slice_index, is_ok}
 use Rattle.std.specs.List.{AllByRecursion}
-use Rattle.control_wire.specs.Icmpv4Header.{Icmpv4Header}
-use Rattle.control_wire.specs.Icmpv6.{MessageValue}
-use Rattle.ip_wire.specs.Ip.{carried_in, header_len_in, normal, written, IsIp}
+use Rattle.interface_ingress.specs.Icmpv4Header.{Icmpv4Header}
+use Rattle.interface_ingress.specs.Icmpv6.{MessageValue}
+use Rattle.interface_delivery.specs.Ip.{carried_in, header_len_in, normal, written, IsIp}
 use Rattle.ip_address.proofs.Numbers.{protocol_number-protocol_of}
 use Rattle.ip_address.specs.Protocol.{protocol_number, protocol_of}
-use Rattle.ip_wire.specs.IpProtocol.{IpProtocol}
-use Rattle.ip_wire.specs.IpRepr.{IpRepr}
-use Rattle.ip_wire.specs.IpRepr.TheVariants as Ip
-use Rattle.ip_wire.specs.Ipv4Repr.{Ipv4Repr}
-use Rattle.ip_wire.specs.Ipv6Repr.{Ipv6Repr}
-use Rattle.ip_wire.specs.TcpHeader.{TcpHeader}
-use Rattle.ip_wire.specs.UdpRepr.{UdpRepr}
+use Rattle.interface_ingress.specs.IpProtocol.{IpProtocol}
+use Rattle.interface_delivery.specs.IpRepr.{IpRepr}
+use Rattle.interface_delivery.specs.IpRepr.TheVariants as Ip
+use Rattle.interface_delivery.specs.Ipv4Repr.{Ipv4Repr}
+use Rattle.interface_delivery.specs.Ipv6Repr.{Ipv6Repr}
+use Rattle.ip_tcp.specs.declared.header.TcpHeader.{TcpHeader}
+use Rattle.interface_delivery.specs.UdpRepr.{UdpRepr}
 use Rattle.interface_delivery.specs.Delivered.{NamesNoPorts}
-use Rattle.net_base.specs.Medium.TheVariants as Medium
-use Rattle.net_base.specs.Packets.{contents, first}
-use Rattle.socket_base.specs.Context.{ContextValue}
-use Rattle.socket_base.specs.Packet.{PacketValue}
-use Rattle.socket_base.specs.declared.offer.Offer as Answer
-use Rattle.datagram_sockets.specs.Offers.{IsFound, IsOnly, OffersFirst}
-use Rattle.datagram_sockets.specs.Raw as Raws
-use Rattle.datagram_sockets.specs.Raw.{RawValue}
-use Rattle.datagram_sockets.specs.SocketValue as Datagrams
-use Rattle.datagram_sockets.specs.SocketValue.{arrived}
+use Rattle.lan_frames.specs.Medium.TheVariants as Medium
+use Rattle.net_containers.specs.Packets.{contents, first}
+use Rattle.sockets.specs.Context.{ContextValue}
+use Rattle.sockets.specs.Packet.{PacketValue}
+use Rattle.sockets.specs.Offer as Answer
+use Rattle.sockets.specs.Offers.{IsFound, IsOnly, OffersFirst}
+use Rattle.sockets.specs.Raw as Raws
+use Rattle.sockets.specs.Raw.{RawValue}
+use Rattle.sockets.specs.SocketValue as Datagrams
+use Rattle.sockets.specs.SocketValue.{arrived}
 use Rattle.sockets.specs.Socket.{Offers, settled}
 use Rattle.sockets.specs.declared.socket.Socket.{Socket}
 use Rattle.sockets.specs.declared.socket.Socket.TheVariants as Is
 use Rattle.interface_ingress.specs.Delivered.{with_packet, with_icmpv4, with_icmpv6, with_datagram, with_segment}
 use Rattle.lan_frames.specs.Carried.{names_tcp_or_udp, is_tcp_or_udp}
 use Rattle.lan_frames.proofs.Named.{neither_first, neither_second}
-use Rattle.lan_history.specs.Call as Call
-use Rattle.lan_history.specs.Call.{SocketCall}
+use Rattle.lan_hosts.specs.Call as Call
+use Rattle.lan_hosts.specs.Call.{SocketCall}
 use Rattle.lan_packets.specs.Calls.{tcp_does, udp_does}
 use Rattle.lan_packets.proofs.Queues.{each_left, each_appended, each_first}
 use Rattle.lan_hosts.specs.Does.{does, icmp_does, raw_does}

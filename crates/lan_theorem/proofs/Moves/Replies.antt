@@ -1,24 +1,24 @@
 -- What a host answers but for segments are control messages.
 use Rattle.std.proofs.Common.{◌≡◌, refl, [], ℕ, Bool, true, false, if◌then◌else◌, List, Option, Some, None, IfSome}
-use Rattle.control_wire.specs.Icmpv4Header.{Icmpv4Header}
-use Rattle.control_wire.specs.Icmpv4Header.TheVariants as V4
-use Rattle.control_wire.specs.Icmpv6 as Icmpv6
-use Rattle.control_wire.specs.Icmpv6.{MessageValue}
-use Rattle.control_wire.specs.Icmpv6DstUnreachable.TheVariants as V6Reason
-use Rattle.control_wire.specs.Icmpv6ParamProblem.TheVariants as V6Problem
-use Rattle.control_wire.specs.Ndisc.{NeighborMessage, Solicitation, Advertisement}
-use Rattle.ip_wire.specs.HardwareAddress.{HardwareAddress}
-use Rattle.ip_wire.specs.HardwareAddress.TheVariants as Hardware
-use Rattle.ip_wire.specs.EthernetAddress.{EthernetAddress}
-use Rattle.ip_wire.specs.IpProtocol.TheVariants as Protocol
-use Rattle.ip_wire.specs.IpRepr.{IpRepr}
-use Rattle.ip_wire.specs.IpRepr.TheVariants as Ip
-use Rattle.ip_wire.specs.Ipv4Address.{Ipv4Address}
-use Rattle.ip_wire.specs.Ipv4Repr.{Ipv4Repr}
-use Rattle.ip_wire.specs.Ipv6Address.{Ipv6Address}
-use Rattle.ip_wire.specs.Ipv6Repr.{Ipv6Repr}
-use Rattle.ip_wire.specs.declared.arp.repr.ArpRepr.{ArpRepr}
-use Rattle.socket_base.specs.Packet.{PacketValue, ControlV4, ControlV6, packet_of}
+use Rattle.interface_ingress.specs.Icmpv4Header.{Icmpv4Header}
+use Rattle.interface_ingress.specs.Icmpv4Header.TheVariants as V4
+use Rattle.interface_ingress.specs.Icmpv6 as Icmpv6
+use Rattle.interface_ingress.specs.Icmpv6.{MessageValue}
+use Rattle.lan_packets.specs.Icmpv6DstUnreachable.TheVariants as V6Reason
+use Rattle.lan_packets.specs.Icmpv6ParamProblem.TheVariants as V6Problem
+use Rattle.lan_packets.specs.Ndisc.{NeighborMessage, Solicitation, Advertisement}
+use Rattle.interface_ingress.specs.HardwareAddress.{HardwareAddress}
+use Rattle.interface_ingress.specs.HardwareAddress.TheVariants as Hardware
+use Rattle.interface_ingress.specs.EthernetAddress.{EthernetAddress}
+use Rattle.interface_ingress.specs.IpProtocol.TheVariants as Protocol
+use Rattle.interface_delivery.specs.IpRepr.{IpRepr}
+use Rattle.interface_delivery.specs.IpRepr.TheVariants as Ip
+use Rattle.interface_ingress.specs.Ipv4Address.{Ipv4Address}
+use Rattle.interface_delivery.specs.Ipv4Repr.{Ipv4Repr}
+use Rattle.interface_ingress.specs.Ipv6Address.{Ipv6Address}
+use Rattle.interface_delivery.specs.Ipv6Repr.{Ipv6Repr}
+use Rattle.interface_ingress.specs.ArpRepr.{ArpRepr}
+use Rattle.sockets.specs.Packet.{PacketValue, ControlV4, ControlV6, packet_of}
 use Rattle.interface_tables.specs.Inner.{InnerValue}
 use Rattle.interface_ingress.specs.Arrives.{told, answered}
 use Rattle.interface_ingress.specs.Handed.{control_v4_reply, control_v6_reply, message_reply}

@@ -2,23 +2,23 @@
 use Rattle.std.proofs.Common.{◌≡◌, ℕ, Bool, true, false, inl, inr, List, [], ◌∷◌, ◌++◌, length, Option, Some, None, IfSome, refl, sym, ap, ◌∙◌, subst, arith}
 use Rattle.std.proofs.Common.{append-nil, ◌+◌}
 use Rattle.std.specs.Prelude.{slice_set, slice_index_or}
-use Rattle.ip_wire.specs.Ip.{destination_of}
-use Rattle.ip_wire.specs.IpAddress.{IpAddress}
-use Rattle.net_base.specs.Device.{Move}
-use Rattle.socket_base.specs.Context.{ContextValue}
-use Rattle.socket_base.specs.Packet.{PacketValue}
-use Rattle.socket_base.specs.WellFormed.{IsWellFormed}
-use Rattle.socket_base.specs.declared.offer.Offer as Answer
-use Rattle.socket_base.specs.declared.offer.Offer.TheVariants as Offer
-use Rattle.datagram_sockets.specs.Offers.{HasPacket}
-use Rattle.net_base.specs.Packets.{first}
-use Rattle.datagram_sockets.specs.Header.{hops}
-use Rattle.datagram_sockets.specs.Icmp as Icmps
-use Rattle.datagram_sockets.specs.Icmp.{IcmpValue}
-use Rattle.datagram_sockets.specs.Raw as Raws
-use Rattle.datagram_sockets.specs.Raw.{RawValue}
-use Rattle.datagram_sockets.specs.Udp as Udps
-use Rattle.datagram_sockets.specs.Udp.{UdpValue}
+use Rattle.interface_delivery.specs.Ip.{destination_of}
+use Rattle.interface_ingress.specs.IpAddress.{IpAddress}
+use Rattle.lan_frames.specs.Device.{Move}
+use Rattle.sockets.specs.Context.{ContextValue}
+use Rattle.sockets.specs.Packet.{PacketValue}
+use Rattle.sockets.specs.WellFormed.{IsWellFormed}
+use Rattle.sockets.specs.Offer as Answer
+use Rattle.sockets.specs.Offer.TheVariants as Offer
+use Rattle.sockets.specs.Offers.{HasPacket}
+use Rattle.net_containers.specs.Packets.{first}
+use Rattle.sockets.specs.Header.{hops}
+use Rattle.sockets.specs.Icmp as Icmps
+use Rattle.sockets.specs.Icmp.{IcmpValue}
+use Rattle.sockets.specs.Raw as Raws
+use Rattle.sockets.specs.Raw.{RawValue}
+use Rattle.sockets.specs.Udp as Udps
+use Rattle.sockets.specs.Udp.{UdpValue}
 use Rattle.tcp_tie.specs.Host.{made_of, and_offer}
 use Rattle.tcp_model.specs.OpenOffer.{OpenOffer}
 use Rattle.tcp_model.specs.Offers.{offer_of, payload_of, packet_with, offered_packet}
@@ -38,7 +38,7 @@ use Rattle.interface.specs.State.{State, state}
 use Rattle.interface.specs.Turn.{PlaceTurns, ItemTurns, TurnsIf, Answers, SendsBy, Leaves, is_waiting, let_through, is_done, marked, plan_at, waits_until}
 use Rattle.interface.specs.declared.turn.Turned.{Turned}
 use Rattle.interface.specs.Kept.{sending_as}
-use Rattle.lan_history.specs.declared.event.Side.{Side}
+use Rattle.lan_hosts.specs.Side.{Side}
 use Rattle.lan_packets.specs.Moves as Moves
 use Rattle.lan_packets.specs.Parties as Parties
 use Rattle.lan_packets.specs.Parties.{Party, Net, party, datagrams_of}

@@ -3,14 +3,14 @@ use Rattle.std.proofs.Common.{◌≡◌, ℕ, zero, suc, List, [], ◌∷◌, Op
 use Rattle.std.specs.Prelude.{◌-◌, ◌≤◌, length, slice_index_or}
 use Rattle.tcp_law.specs.Safe.{IsPrefixOf}
 use Rattle.tcp_model.specs.Value.{TcpValue}
-use Rattle.lan_history.specs.History.{Entry, written}
-use Rattle.lan_history.specs.Kinds.{other, kind_of, Kind, LinkAct}
-use Rattle.lan_history.specs.Kinds.Act.{Calls, Sets, Opens, Asks, Polls}
-use Rattle.lan_history.specs.Kinds.Kind.{OfHost, OfLink}
-use Rattle.lan_history.specs.Kinds.LinkAct.{Hands, Cuts}
-use Rattle.lan_history.specs.declared.event.Side.{Side}
-use Rattle.lan_history.specs.declared.event.Side.TheVariants.{A, B}
-use Rattle.lan_history.specs.Partners.{ArePartners}
+use Rattle.lan_hosts.specs.History.{Entry, written}
+use Rattle.lan_hosts.specs.Kinds.{other, kind_of, Kind, LinkAct}
+use Rattle.lan_hosts.specs.Kinds.Act.{Calls, Sets, Opens, Asks, Polls}
+use Rattle.lan_hosts.specs.Kinds.Kind.{OfHost, OfLink}
+use Rattle.lan_hosts.specs.Kinds.LinkAct.{Hands, Cuts}
+use Rattle.lan_hosts.specs.Side.{Side}
+use Rattle.lan_hosts.specs.Side.TheVariants.{A, B}
+use Rattle.lan_hosts.specs.Partners.{ArePartners}
 use Rattle.lan_packets.specs.Moves.{IsNoCall}
 use Rattle.lan_packets.specs.Parties as Parties
 use Rattle.lan_packets.specs.Parties.{Party, Net, party}
@@ -24,7 +24,7 @@ use Rattle.lan_hosts.specs.Runs.{Start, Starts, unused, unused_both, Leads, refu
 use Rattle.lan_hosts.specs.Safe.{seen, seen_in, party_of, net_of, port_of, first_port}
 use Rattle.lan_hosts.specs.Station.{StationValue, Stations, station, with_station, with_link}
 use Rattle.lan_hosts.specs.Steps.{Happens, linked}
-use Rattle.lan_port.specs.Port.{LinkEnd}
+use Rattle.lan_hosts.specs.Port.{LinkEnd}
 use Rattle.lan_hosts.specs.Origins.{goes_to}
 use Rattle.lan_theorem.specs.Moves.Follows.{sockets_of, IsNetOf, Comes, IsNoPoll}
 use Rattle.lan_theorem.specs.Moves.Joined.{first_net, HasCome}

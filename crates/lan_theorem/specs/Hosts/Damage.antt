@@ -1,7 +1,7 @@
 -- A damaged frame does no harm, whenever it is taken.
 use Rattle.std.specs.Prelude.{◌≡◌, ◌<◌, ◌^◌, ℕ, true, List, [], ◌∷◌, None}
-use Rattle.ip_wire.specs.HardwareAddress.{HardwareAddress}
-use Rattle.ip_wire.specs.IpRepr.TheVariants as Ip
+use Rattle.interface_ingress.specs.HardwareAddress.{HardwareAddress}
+use Rattle.interface_delivery.specs.IpRepr.TheVariants as Ip
 use Rattle.interface_ingress.specs.Arrives.{Arrived, Arrives}
 use Rattle.interface_ingress.specs.Delivered.{Places}
 use Rattle.interface_ingress.specs.Incoming.{IncomingValue, Arp, Ip4, Ip6, IsIncoming}
@@ -9,17 +9,17 @@ use Rattle.interface_ingress.specs.Kept.{with_ports, IsDamaged}
 use Rattle.interface_ingress.specs.Reassembled.{Slots, uncut}
 use Rattle.interface_tables.specs.Inner.{InnerValue}
 use Rattle.interface_tables.specs.Settings.{is_of_medium}
-use Rattle.lan_history.specs.History.{Entry}
-use Rattle.lan_history.specs.Kinds.{Kind, Origin, Damaged, kind_of}
-use Rattle.lan_history.specs.Kinds.Kind.{OfLink}
-use Rattle.lan_history.specs.Kinds.LinkAct.{Hands}
+use Rattle.lan_hosts.specs.History.{Entry}
+use Rattle.lan_hosts.specs.Kinds.{Kind, Origin, Damaged, kind_of}
+use Rattle.lan_hosts.specs.Kinds.Kind.{OfLink}
+use Rattle.lan_hosts.specs.Kinds.LinkAct.{Hands}
 use Rattle.lan_hosts.specs.Origins.{medium_of, frame_of_origin}
 use Rattle.lan_hosts.specs.Runs.{Leads, WorldRun}
 use Rattle.lan_hosts.specs.Station.{Stations, station}
-use Rattle.net_base.specs.Capabilities.{all_checksums}
-use Rattle.net_base.specs.Checksum.TheVariants.{Both}
-use Rattle.net_base.specs.ChecksumCapabilities.{ChecksumCapabilities}
-use Rattle.net_base.specs.Medium.{Medium}
+use Rattle.lan_frames.specs.Capabilities.{all_checksums}
+use Rattle.lan_frames.specs.Checksum.TheVariants.{Both}
+use Rattle.lan_frames.specs.ChecksumCapabilities.{ChecksumCapabilities}
+use Rattle.lan_frames.specs.Medium.{Medium}
 
 -- Whichever host of the medium takes the frame, with whatever addresses, sockets and half rebuilt datagrams: if it tests all checksums,
 -- its TCP and UDP sockets stay as they were, and it answers nothing.

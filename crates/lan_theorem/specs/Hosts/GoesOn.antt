@@ -1,11 +1,11 @@
 -- What never goes back, and what never changes, at an end of the link.
 use Rattle.std.specs.Prelude.{◌≡◌, ◌≤ℤ◌, ◌<◌, ℕ, Bool, true, false, List, [], ◌∷◌, ◌++◌, length}
 use Rattle.std.specs.List.{AllByRecursion}
-use Rattle.ip_wire.specs.HardwareAddress.{HardwareAddress}
-use Rattle.ip_wire.specs.HardwareAddress.TheVariants as Hardware
-use Rattle.lan_history.specs.History.{Entry}
-use Rattle.lan_history.specs.Kinds.{Origin, Delivered, Damaged, Noisy, kind_of}
-use Rattle.lan_history.specs.declared.event.Side.{Side}
+use Rattle.interface_ingress.specs.HardwareAddress.{HardwareAddress}
+use Rattle.interface_ingress.specs.HardwareAddress.TheVariants as Hardware
+use Rattle.lan_hosts.specs.History.{Entry}
+use Rattle.lan_hosts.specs.Kinds.{Origin, Delivered, Damaged, Noisy, kind_of}
+use Rattle.lan_hosts.specs.Side.{Side}
 use Rattle.lan_hosts.specs.Origins.{origins_of}
 use Rattle.lan_hosts.specs.Station.{StationValue, Stations, station}
 

@@ -1,10 +1,10 @@
 -- Each host of a world is a run of its machine.
 use Rattle.std.specs.Prelude.{◌≡◌, ℕ, if◌then◌else◌, List, [], ◌∷◌, ◌++◌, map, Option}
-use Rattle.lan_history.specs.History.{Entry}
-use Rattle.lan_history.specs.Kinds.{same_side, Kind, Act, kind_of}
-use Rattle.lan_history.specs.Kinds.Kind.{OfHost}
-use Rattle.lan_history.specs.declared.answer.Answer.{Answer}
-use Rattle.lan_history.specs.declared.event.Side.{Side}
+use Rattle.lan_hosts.specs.History.{Entry}
+use Rattle.lan_hosts.specs.Kinds.{same_side, Kind, Act, kind_of}
+use Rattle.lan_hosts.specs.Kinds.Kind.{OfHost}
+use Rattle.lan_hosts.specs.Answer.{Answer}
+use Rattle.lan_hosts.specs.Side.{Side}
 use Rattle.lan_hosts.specs.Station.{station}
 use Rattle.lan_hosts.specs.Origins.{frame_of_origin, origins, own_frames}
 use Rattle.lan_hosts.specs.Runs.{start, unused, WorldValue}

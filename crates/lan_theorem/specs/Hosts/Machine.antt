@@ -1,16 +1,16 @@
 -- A host as a machine: what it takes, answers and sends at a turn, and what it becomes.
 use Rattle.std.specs.Prelude.{◌≡◌, ℕ, ◌-◌, ℤ, pos, List, [], ◌∷◌, ◌++◌, length, Option}
-use Rattle.net_base.specs.DeviceCapabilities.{DeviceCapabilities}
+use Rattle.lan_frames.specs.DeviceCapabilities.{DeviceCapabilities}
 use Rattle.interface.specs.Host.{HostValue}
 use Rattle.interface_egress.specs.Departure.{Departure}
 use Rattle.interface_egress.specs.GoesOut.{frame_of}
 use Rattle.interface_egress.specs.declared.socket_set.SocketStorage.{SocketStorage}
 use Rattle.interface.specs.Touches.{Silences}
 use Rattle.interface_tables.specs.Inner.{InnerValue}
-use Rattle.lan_history.specs.Kinds.{Act}
-use Rattle.lan_history.specs.Kinds.Act.{Opens, Polls}
-use Rattle.lan_history.specs.declared.answer.Answer.{Answer}
-use Rattle.lan_port.specs.Port.{LinkEnd}
+use Rattle.lan_hosts.specs.Kinds.{Act}
+use Rattle.lan_hosts.specs.Kinds.Act.{Opens, Polls}
+use Rattle.lan_hosts.specs.Answer.{Answer}
+use Rattle.lan_hosts.specs.Port.{LinkEnd}
 use Rattle.lan_hosts.specs.Station.{StationValue}
 use Rattle.lan_hosts.specs.Steps.{Acts}
 use Rattle.sockets.specs.declared.socket.Socket.{Socket}

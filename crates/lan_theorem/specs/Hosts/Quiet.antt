@@ -1,20 +1,20 @@
 -- A host that is polled too early, and was left alone since it was asked when to poll, sends nothing.
 use Rattle.std.specs.Prelude.{◌≡◌, ◌⊎◌, ◌≤ℤ◌, ◌<ℤ◌, ℤ, int_lt, Bool, true, false, not, ◌||◌, if◌then◌else◌, List, [], ◌∷◌, Option, None, Some}
 use Rattle.std.specs.List.{AllByRecursion}
-use Rattle.ip_wire.specs.IpAddress.TheVariants as Address
+use Rattle.interface_ingress.specs.IpAddress.TheVariants as Address
 use Rattle.interface.specs.QuietStep.{IsEarlier}
 use Rattle.interface_tables.specs.Route.{is_gateway_v4, is_gateway_v6, without}
 use Rattle.interface_tables.specs.declared.route.Route.{Route}
-use Rattle.lan_history.specs.Call as Call
-use Rattle.lan_history.specs.History.{Entry, Counts}
-use Rattle.lan_history.specs.Kinds.{Act, Kind, Setting, same_side, kind_of}
-use Rattle.lan_history.specs.Kinds as Set
-use Rattle.lan_history.specs.Kinds.Act.{Calls, Sets, Opens, Asks, Polls}
-use Rattle.lan_history.specs.Kinds.Kind.{OfHost, OfLink}
-use Rattle.lan_history.specs.Kinds.LinkAct.{Hands, Cuts}
-use Rattle.lan_history.specs.declared.answer.Answer.{Answer}
-use Rattle.lan_history.specs.declared.answer.Answer.TheVariants as To
-use Rattle.lan_history.specs.declared.event.Side.{Side}
+use Rattle.lan_hosts.specs.Call as Call
+use Rattle.lan_hosts.specs.History.{Entry, Counts}
+use Rattle.lan_hosts.specs.Kinds.{Act, Kind, Setting, same_side, kind_of}
+use Rattle.lan_hosts.specs.Kinds as Set
+use Rattle.lan_hosts.specs.Kinds.Act.{Calls, Sets, Opens, Asks, Polls}
+use Rattle.lan_hosts.specs.Kinds.Kind.{OfHost, OfLink}
+use Rattle.lan_hosts.specs.Kinds.LinkAct.{Hands, Cuts}
+use Rattle.lan_hosts.specs.Answer.{Answer}
+use Rattle.lan_hosts.specs.Answer.TheVariants as To
+use Rattle.lan_hosts.specs.Side.{Side}
 use Rattle.lan_hosts.specs.Origins.{goes_to, sent_before, waiting_before}
 use Rattle.lan_hosts.specs.Runs.{Starts, start}
 

@@ -1,21 +1,21 @@
 -- The frames that a host sends, and those that the link makes of them.
 use Rattle.std.specs.Prelude.{◌≡◌, ◌⊎◌, ◌%◌, ◌^◌, ◌+◌, ◌<◌, ℕ, true, List, [], ◌∷◌, ◌++◌, length}
-use Rattle.net_base.specs.Medium.{Medium}
-use Rattle.ip_wire.specs.HardwareAddress.{HardwareAddress}
-use Rattle.ip_wire.specs.HardwareAddress.TheVariants as Hardware
-use Rattle.ip_wire.specs.IpRepr.TheVariants as Ip
-use Rattle.ip_wire.specs.Ipv4 as Ipv4
-use Rattle.ip_wire.specs.Ip as Ips
-use Rattle.ip_wire.specs.Ipv4Piece.{Ipv4Piece}
-use Rattle.ip_wire.specs.Ipv4Repr.{Ipv4Repr}
-use Rattle.ip_wire.specs.Ipv6 as Ipv6
-use Rattle.ip_wire.specs.Ipv6Repr.{Ipv6Repr}
-use Rattle.socket_base.specs.Packet.{PacketValue, PayloadValue}
+use Rattle.lan_frames.specs.Medium.{Medium}
+use Rattle.interface_ingress.specs.HardwareAddress.{HardwareAddress}
+use Rattle.interface_ingress.specs.HardwareAddress.TheVariants as Hardware
+use Rattle.interface_delivery.specs.IpRepr.TheVariants as Ip
+use Rattle.interface_delivery.specs.Ipv4 as Ipv4
+use Rattle.interface_delivery.specs.Ip as Ips
+use Rattle.interface_delivery.specs.Ipv4Piece.{Ipv4Piece}
+use Rattle.interface_delivery.specs.Ipv4Repr.{Ipv4Repr}
+use Rattle.interface_delivery.specs.Ipv6 as Ipv6
+use Rattle.interface_delivery.specs.Ipv6Repr.{Ipv6Repr}
+use Rattle.sockets.specs.Packet.{PacketValue, PayloadValue}
 use Rattle.interface_tables.specs.Pieces as Pieces
 use Rattle.interface_ingress.specs.Incoming.{IncomingValue, Arp, Ip4, Ip6, IsIncoming}
 use Rattle.lan_frames.specs.Parts.{may_carry}
 use Rattle.lan_frames.specs.Slices.{Slice, IsSliceOf, IsLinkHeader, frame_of_slice}
-use Rattle.net_devices.specs.Capabilities.{frame_header}
+use Rattle.lan_frames.specs.Capabilities.{frame_header}
 use Rattle.lan_theorem.specs.Link.Made.{sealed, bytes_of, IsWholeMade, IsGoing}
 
 -- the medium that has such addresses

@@ -1,10 +1,10 @@
 -- What a host holds of the datagrams that come to it in pieces.
 use Rattle.std.specs.Prelude.{◌≡◌, ◌⊎◌, ℕ, List, Some}
 use Rattle.std.specs.List.{AllByRecursion}
-use Rattle.ip_wire.specs.Ipv4 as Ipv4
-use Rattle.ip_wire.specs.Ipv4FragKey.{Ipv4FragKey}
-use Rattle.ip_wire.specs.Ipv4Repr.{Ipv4Repr}
-use Rattle.socket_base.specs.Packet.{PacketValue}
+use Rattle.interface_delivery.specs.Ipv4 as Ipv4
+use Rattle.ip_address.specs.declared.ipv4.Ipv4FragKey.{Ipv4FragKey}
+use Rattle.interface_delivery.specs.Ipv4Repr.{Ipv4Repr}
+use Rattle.sockets.specs.Packet.{PacketValue}
 use Rattle.interface_tables.specs.Pieces.{HoldsSlicesOf}
 use Rattle.interface_tables.specs.Reassembly.{SlotValue}
 use Rattle.interface_ingress.specs.Reassembled.{Slots, runs_kept}

@@ -1,14 +1,14 @@
 -- What a host made, and what a frame brings of it. `made` says what TCP segments and UDP datagrams the host made, with the header
 -- that a reader makes of it.
 use Rattle.std.specs.Prelude.{◌≡◌, ◌⊎◌, ℕ, true, List, slice_get, Option, None, Some}
-use Rattle.net_base.specs.Capabilities.{all_checksums}
-use Rattle.net_base.specs.Checksum.TheVariants as Checksum
-use Rattle.net_base.specs.ChecksumCapabilities.{ChecksumCapabilities}
-use Rattle.ip_wire.specs.Ip as Ips
-use Rattle.ip_wire.specs.Ip.{carried_in}
-use Rattle.ip_wire.specs.IpRepr.{IpRepr}
-use Rattle.ip_wire.specs.IpRepr.TheVariants as Ip
-use Rattle.socket_base.specs.Packet.{PacketValue, PayloadValue, ControlV4, ControlV6, Bytes, Datagram, Segment, payload_written}
+use Rattle.lan_frames.specs.Capabilities.{all_checksums}
+use Rattle.lan_frames.specs.Checksum.TheVariants as Checksum
+use Rattle.lan_frames.specs.ChecksumCapabilities.{ChecksumCapabilities}
+use Rattle.interface_delivery.specs.Ip as Ips
+use Rattle.interface_delivery.specs.Ip.{carried_in}
+use Rattle.interface_delivery.specs.IpRepr.{IpRepr}
+use Rattle.interface_delivery.specs.IpRepr.TheVariants as Ip
+use Rattle.sockets.specs.Packet.{PacketValue, PayloadValue, ControlV4, ControlV6, Bytes, Datagram, Segment, payload_written}
 use Rattle.interface_ingress.specs.Carried.{IsCarried}
 use Rattle.interface_ingress.specs.Incoming.{IncomingValue, Arp, Ip4, Ip6}
 use Rattle.interface_ingress.specs.Reassembled.{is_piece}

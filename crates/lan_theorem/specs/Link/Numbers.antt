@@ -1,10 +1,10 @@
 -- Every IPv4 packet that a host sent has a number of its own (RFC 6864).
 use Rattle.std.specs.Prelude.{◌≡◌, ◌+◌, ◌%◌, ◌^◌, ◌<◌, ◌≤◌, ℕ, List, [], ◌∷◌}
 use Rattle.std.specs.List.{count_by}
-use Rattle.net_base.specs.Medium.{Medium}
-use Rattle.ip_wire.specs.IpRepr.{IpRepr}
-use Rattle.ip_wire.specs.IpRepr.TheVariants as Ip
-use Rattle.socket_base.specs.Packet.{PacketValue}
+use Rattle.lan_frames.specs.Medium.{Medium}
+use Rattle.interface_delivery.specs.IpRepr.{IpRepr}
+use Rattle.interface_delivery.specs.IpRepr.TheVariants as Ip
+use Rattle.sockets.specs.Packet.{PacketValue}
 use Rattle.lan_hosts.specs.Origins.{begins_datagram}
 
 abbrev pub and_v4 : IpRepr → ℕ → ℕ

@@ -1,13 +1,13 @@
 -- The invariant of two hosts at a link: what each sent, and what waits for it.
 use Rattle.std.specs.Prelude.{◌≡◌, ◌≢◌, ◌⊎◌, ◌%◌, ◌^◌, ◌+◌, ◌<◌, ◌≤◌, ℕ, List, ◌++◌, length, Option, None, Some, IfSome}
 use Rattle.std.specs.List.{AllByRecursion}
-use Rattle.net_base.specs.Medium.{Medium}
-use Rattle.ip_wire.specs.Address.{IsIpAddress}
-use Rattle.ip_wire.specs.HardwareAddress.{HardwareAddress}
-use Rattle.ip_wire.specs.HardwareAddress.TheVariants as Hardware
-use Rattle.ip_wire.specs.declared.arp.repr.ArpRepr.{ArpRepr}
-use Rattle.ip_wire.specs.declared.arp.repr.ArpRepr.TheVariants as Arp
-use Rattle.socket_base.specs.Packet.{PacketValue, PayloadValue}
+use Rattle.lan_frames.specs.Medium.{Medium}
+use Rattle.interface_ingress.specs.Address.{IsIpAddress}
+use Rattle.interface_ingress.specs.HardwareAddress.{HardwareAddress}
+use Rattle.interface_ingress.specs.HardwareAddress.TheVariants as Hardware
+use Rattle.interface_ingress.specs.ArpRepr.{ArpRepr}
+use Rattle.interface_ingress.specs.ArpRepr.TheVariants as Arp
+use Rattle.sockets.specs.Packet.{PacketValue, PayloadValue}
 use Rattle.interface_tables.specs.Inner.{InnerValue}
 use Rattle.interface_tables.specs.declared.neighbor.Neighbor.{Neighbor}
 use Rattle.interface_tables.specs.declared.route.Route.{Route}
@@ -19,7 +19,7 @@ use Rattle.interface_ingress.specs.Reassembled.{Slots}
 use Rattle.interface_delivery.specs.Delivered.{HasNoPorts}
 use Rattle.interface_delivery.specs.Taken.{HasWidths, IsHalfSent}
 use Rattle.lan_frames.specs.Cuts.{ipv4_part}
-use Rattle.ip_wire.specs.Fields.{be16}
+use Rattle.interface_ingress.specs.Fields.{be16}
 use Rattle.lan_frames.specs.Parts.{tcp_part, bytes_at}
 use Rattle.lan_frames.specs.declared.part.Part.{Part}
 use Rattle.lan_theorem.specs.Link.Made.{sealed}

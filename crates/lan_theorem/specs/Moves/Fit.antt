@@ -1,11 +1,11 @@
 -- Sockets whose packets another host can read: no raw one queues a packet of TCP or UDP, and no packet goes from or to port 0.
 use Rattle.std.specs.Prelude.{◌≡◌, ◌≢◌, ℕ, Some}
 use Rattle.std.specs.List.{AllByRecursion}
-use Rattle.net_base.specs.Packets.{contents}
+use Rattle.net_containers.specs.Packets.{contents}
 use Rattle.sockets.specs.declared.socket.Socket.{Socket}
 use Rattle.sockets.specs.declared.socket.Socket.TheVariants as Is
 use Rattle.tcp_model.specs.EndpointPair.{EndpointPair}
-use Rattle.lan_history.specs.declared.event.Side.{Side}
+use Rattle.lan_hosts.specs.Side.{Side}
 use Rattle.lan_hosts.specs.Station.{Stations, station}
 use Rattle.lan_theorem.specs.Moves.Raws.{OfEach, QueuesForeign}
 

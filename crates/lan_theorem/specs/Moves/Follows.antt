@@ -4,11 +4,11 @@ use Rattle.interface.specs.State.{State}
 use Rattle.interface_egress.specs.Set.{socket_in}
 use Rattle.interface_egress.specs.declared.socket_set.SocketStorage.{SocketStorage}
 use Rattle.sockets.specs.declared.socket.Socket as Sockets
-use Rattle.lan_history.specs.declared.event.Side.{Side}
-use Rattle.lan_history.specs.History.{Entry}
-use Rattle.lan_history.specs.Kinds.{other, Kind}
-use Rattle.lan_history.specs.Kinds.Act.{Polls}
-use Rattle.lan_history.specs.Kinds.Kind.{OfHost}
+use Rattle.lan_hosts.specs.Side.{Side}
+use Rattle.lan_hosts.specs.History.{Entry}
+use Rattle.lan_hosts.specs.Kinds.{other, Kind}
+use Rattle.lan_hosts.specs.Kinds.Act.{Polls}
+use Rattle.lan_hosts.specs.Kinds.Kind.{OfHost}
 use Rattle.lan_packets.specs.Moves.{Step, IsRun, run}
 use Rattle.lan_packets.specs.Parties as Parties
 use Rattle.lan_packets.specs.Parties.{Party, Net, party}

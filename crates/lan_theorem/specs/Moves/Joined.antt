@@ -1,8 +1,8 @@
 -- What is asked of the hosts and their link over a whole run.
 use Rattle.std.specs.Prelude.{◌≡◌, [], List}
-use Rattle.net_base.specs.Medium.TheVariants as Medium
+use Rattle.lan_frames.specs.Medium.TheVariants as Medium
 use Rattle.lan_frames.specs.Carried.{names_tcp_or_udp}
-use Rattle.lan_history.specs.History.{Entry}
+use Rattle.lan_hosts.specs.History.{Entry}
 use Rattle.lan_packets.specs.Moves.{Step, IsRun, run}
 use Rattle.lan_packets.specs.Parties.{Net}
 use Rattle.lan_hosts.specs.Runs.{Starts, unused}

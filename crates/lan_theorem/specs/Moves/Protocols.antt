@@ -1,10 +1,10 @@
 -- A packet whose header names what it carries.
 use Rattle.std.specs.Prelude.{◌≡◌}
-use Rattle.ip_wire.specs.Ip.{carried_in}
-use Rattle.ip_wire.specs.IpProtocol.TheVariants as Protocol
-use Rattle.ip_wire.specs.IpRepr.{IpRepr}
+use Rattle.interface_delivery.specs.Ip.{carried_in}
+use Rattle.interface_ingress.specs.IpProtocol.TheVariants as Protocol
+use Rattle.interface_delivery.specs.IpRepr.{IpRepr}
 use Rattle.interface_ingress.specs.Sent.{IsV4}
-use Rattle.socket_base.specs.Packet.{PacketValue, PayloadValue, ControlV4, ControlV6, Bytes, Datagram, Segment}
+use Rattle.sockets.specs.Packet.{PacketValue, PayloadValue, ControlV4, ControlV6, Bytes, Datagram, Segment}
 
 -- each family has control messages of its own; bytes may be of any protocol
 abbrev pub NamesBehind : IpRepr → PayloadValue → Type 0

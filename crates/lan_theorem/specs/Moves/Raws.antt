@@ -1,8 +1,8 @@
 -- Raw sockets that queue no packet of TCP or UDP.
 use Rattle.std.specs.Prelude.{◌≡◌, false, List, Option, None, Some}
 use Rattle.std.specs.List.{AllByRecursion}
-use Rattle.net_base.specs.Medium.TheVariants as Medium
-use Rattle.net_base.specs.Packets.{contents}
+use Rattle.lan_frames.specs.Medium.TheVariants as Medium
+use Rattle.net_containers.specs.Packets.{contents}
 use Rattle.interface_egress.specs.declared.socket_set.Item.{Item}
 use Rattle.interface_egress.specs.declared.socket_set.SocketStorage.{SocketStorage}
 use Rattle.sockets.specs.declared.socket.Socket.{Socket}

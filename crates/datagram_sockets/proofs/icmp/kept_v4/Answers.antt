@@ -1,9 +1,9 @@
 use Rattle.std.proofs.Common.{◌≡◌, ℕ, List, false, Some, sym, subst, ◌∙◌}
 use Rattle.net_base.specs.Capabilities.{verifies}
-use Rattle.control_wire.specs.Icmpv4 as V4
-use Rattle.control_wire.specs.Icmpv4Header.{Icmpv4Header}
-use Rattle.ip_wire.specs.IpAddress.TheVariants as Address
-use Rattle.ip_wire.specs.IpProtocol.TheVariants as Protocol
+use Rattle.icmpv4.specs.Icmpv4 as V4
+use Rattle.icmpv4.specs.declared.header.Icmpv4Header.{Icmpv4Header}
+use Rattle.ip_address.specs.declared.ip.IpAddress.TheVariants as Address
+use Rattle.ip_address.specs.declared.ip.IpProtocol.TheVariants as Protocol
 use Rattle.datagram_sockets.specs.Header.{header_between}
 use Rattle.datagram_sockets.proofs.Messages.{keeps_v4}
 use Rattle.datagram_sockets.proofs.icmp.kept_v4.Goals as goal

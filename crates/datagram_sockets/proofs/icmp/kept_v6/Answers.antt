@@ -1,10 +1,10 @@
 use Rattle.std.proofs.Common.{◌≡◌, ◌<◌, ◌^◌, length, false, Some, sym, ap, subst, ◌∙◌, arith}
 use Rattle.net_base.specs.Capabilities.{verifies}
-use Rattle.control_wire.specs.Icmpv6 as V6
+use Rattle.icmpv6.specs.Icmpv6 as V6
 use Rattle.icmpv6.specs.Packet.{bytes_of}
 use Rattle.icmpv6.proofs.Spelled.{no_longer}
-use Rattle.ip_wire.specs.IpAddress.TheVariants as Address
-use Rattle.ip_wire.specs.IpProtocol.TheVariants as Protocol
+use Rattle.ip_address.specs.declared.ip.IpAddress.TheVariants as Address
+use Rattle.ip_address.specs.declared.ip.IpProtocol.TheVariants as Protocol
 use Rattle.datagram_sockets.specs.Header.{header_between}
 use Rattle.datagram_sockets.proofs.Messages.{keeps_v6}
 use Rattle.datagram_sockets.proofs.icmp.kept_v6.Goals as goal

@@ -1,8 +1,8 @@
 use Rattle.std.proofs.Common.{◌≡◌, ℕ, List, Result, Ok, Err, true, false, if◌then◌else◌, sym, ap, ◌∙◌, subst}
 use Rattle.net_base.specs.Capabilities.{verifies}
 use Rattle.net_base.specs.ChecksumCapabilities.{ChecksumCapabilities}
-use Rattle.ip_wire.specs.IpRepr.{IpRepr}
-use Rattle.ip_wire.specs.Ip as Ip
+use Rattle.ip_packet.specs.declared.ip.repr.IpRepr.{IpRepr}
+use Rattle.ip_packet.specs.Ip as Ip
 use Rattle.ip_packet.proofs.IpLaws.{fits-ip}
 use Rattle.socket_base.specs.Addresses.{is_unspecified}
 use Rattle.datagram_sockets.specs.Raw.{filters, passes, may_send}

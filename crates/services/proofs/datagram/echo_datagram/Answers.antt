@@ -1,5 +1,5 @@
 use Rattle.std.proofs.Common.{◌∙◌, sym}
-use Rattle.net_base.specs.Packets.{first}
+use Rattle.datagram_sockets.specs.Packets.{first}
 use Rattle.datagram_sockets.specs.SocketValue.{recv_after}
 use Rattle.services.proofs.Echo.{sent_back_is}
 use Rattle.services.proofs.datagram.echo_datagram.Goals as goal

@@ -1,5 +1,5 @@
 use Rattle.std.proofs.Common.{◌≡◌, ℕ, ◌+◌, List, [], ◌∷◌, ◌++◌, arith, ap, sym, subst, ◌∙◌, refl}
-use Rattle.interface_egress.specs.declared.socket_set.SocketHandle.{SocketHandle}
+use Rattle.interface.specs.SocketHandle.{SocketHandle}
 use Rattle.tcp_listener.specs.Calls.{fresh_entry}
 use Rattle.tcp_listener.specs.declared.entry.Entry.{Entry}
 use Rattle.ip_wire.specs.IpListenEndpoint.{IpListenEndpoint}

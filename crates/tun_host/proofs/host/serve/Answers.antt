@@ -1,5 +1,5 @@
 use Rattle.std.proofs.Common.{◌≡◌, ◌∙◌, ap, subst, refl}
-use Rattle.interface_egress.specs.Set.{places}
+use Rattle.interface.specs.Set.{places}
 use Rattle.tcp_listener.specs.Calls.{micros_of}
 use Rattle.services.specs.declared.counts.Counts.{Counts}
 use Rattle.tun_host.specs.Tallies.{counts_of, more_waiting, collected}
