@@ -1,5 +1,6 @@
 pub mod Incoming
 pub mod Carried
+pub mod Upper
 pub mod Read
 pub mod Sent
 pub mod Heard

@@ -109,6 +109,7 @@ upper_bytes_of payload end = []
 
 abbrev pub StopsWithin : (size : ℕ) → Behind → Type 0
 StopsWithin size (End.Upper protocol at) = at ≤ size
+StopsWithin size (End.Problem problem pointer) = pointer ≤ 40 + size
 StopsWithin size end = Unit {0}
 
 abbrev pub GoesWithin : (at size : ℕ) → Step → Type 0

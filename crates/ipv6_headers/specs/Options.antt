@@ -41,3 +41,8 @@ asked_by at bytes = scanned (length bytes) at bytes
 abbrev pub SkipsWithin : ℕ → First → Type 0
 SkipsWithin size (Front.Skip len) = len ≤ size
 SkipsWithin size _ = Unit {0}
+
+-- an option's place is no later than the end
+abbrev pub AsksWithin : (end : ℕ) → Options → Type 0
+AsksWithin end (Asked.Unknown kind at) = at ≤ end
+AsksWithin end _ = Unit {0}

@@ -2,6 +2,7 @@
 ghost use Rattle.std.specs.Prelude.{◌≡◌, ℕ, ◌+◌, ◌<◌, ◌≤◌, ◌^◌, length};
 ghost use Rattle.ipv6_headers.specs.Headers.{is_extension, extension_len, go_through, step_at, options_step, routing_step, fragment_step, asked_step};
 ghost use Rattle.ipv6_headers.specs.Headers.{refused_by, is_whole, is_atomic, StopsWithin, GoesWithin};
+ghost use Rattle.ipv6_headers.specs.Options.{AsksWithin};
 
 use crate::options::{Options, asked_by};
 use ip_address::IpProtocol;
@@ -90,7 +91,8 @@ pub fn go_through(protocol: IpProtocol, payload: &[u8]) -> Behind
 /// What is done at a header of this kind, which the field at `named_at` of the packet names, and which begins at `at` of the
 /// payload.
 fn step_at(protocol: IpProtocol, named_at: usize, at: usize, rest: &[u8]) -> Step
-    requires { at + length rest.now < 2 ^ 16 }
+    requires short { at + length rest.now < 2 ^ 16 }
+    requires named { named_at ≤ 40 + at }
     ensures value { result ≡ step_at protocol named_at at rest.now }
     ensures within { GoesWithin at (length rest.now) result }
 {
@@ -140,7 +142,9 @@ fn options_step(at: usize, rest: &[u8]) -> Step
 
 /// What is done at a header of this length whose options ask this.
 fn asked_step(asked: Options, len: usize) -> Step
-    ensures { result ≡ asked_step len asked }
+    ensures value { result ≡ asked_step len asked }
+    ensures within { (at size : ℕ)
+        → AsksWithin (40 + (at + size)) asked → 8 ≤ len → len ≤ size → GoesWithin at size result }
 {
     match asked {
         Options::Skipped => Step::Goes(len),
@@ -151,7 +155,8 @@ fn asked_step(asked: Options, len: usize) -> Step
 
 /// What becomes of a packet for an option of a type that isn't known, at this place of the packet.
 fn refused_by(kind: u8, pointer: usize) -> Behind
-    ensures { result ≡ refused_by kind pointer }
+    ensures value { result ≡ refused_by kind pointer }
+    ensures within { (size : ℕ) → pointer ≤ 40 + size → StopsWithin size result }
 {
     match kind >> 6 {
         2 => Behind::Problem {
@@ -188,7 +193,7 @@ fn routing_step(at: usize, rest: &[u8]) -> Step
 /// A fragment header: a datagram that is whole in one piece is gone on with.
 fn fragment_step(named_at: usize, rest: &[u8]) -> Step
     ensures value { result ≡ fragment_step named_at rest.now }
-    ensures within { (at : ℕ) → GoesWithin at (length rest.now) result }
+    ensures within { (at : ℕ) → named_at ≤ 40 + at → GoesWithin at (length rest.now) result }
 {
     if rest.len() < UNIT {
         return Step::Stops(Behind::Nothing);

@@ -1,6 +1,6 @@
 //! Options of a hop-by-hop or a destination options header (RFC 8200, section 4.2).
 ghost use Rattle.std.specs.Prelude.{◌≡◌, ◌+◌, ◌<◌, ◌^◌, length};
-ghost use Rattle.ipv6_headers.specs.Options.{is_skipped, front_of, asked_by, SkipsWithin};
+ghost use Rattle.ipv6_headers.specs.Options.{is_skipped, front_of, asked_by, SkipsWithin, AsksWithin};
 
 /// The option of one byte, which has no length.
 const PAD1: u8 = 0;
@@ -32,7 +32,8 @@ pub(crate) enum First {
 /// What the options in these bytes ask of a host. `at` is the place of the first byte.
 pub fn asked_by(bytes: &[u8], at: usize) -> Options
     requires { at + length bytes.now < 2 ^ 32 }
-    ensures { result ≡ asked_by at bytes.now }
+    ensures value { result ≡ asked_by at bytes.now }
+    ensures within { AsksWithin (at + length bytes.now) result }
 {
     let mut rest = bytes;
     let mut place = at;

@@ -20,6 +20,7 @@ loop-count-preserved c =
     c.loop-count.rest.now (Way.Goes c.in-Goes.len) more c.in-Goes.ensures.value in
     record {
       same = rw (c.from-next.ensures, c.split_at.ensures.back) (sym stepped ∙ c.loop-count.invariant.same);
+      named = let len = c.in-Goes.ensures.within in omega arith;
       places = let back = ap length c.split_at.ensures.back in
           omega (arith, length-drop c.in-Goes.len c.loop-count.rest.now, c.in-Goes.ensures.within, c.loop-count.invariant.places, back);
     }

@@ -6,17 +6,27 @@ use Rattle.ipv6_headers.proofs.options.asked_by.Goals as goal
 pub returns-in-End : goal.returns-in-End
 returns-in-End c =
     let more : length c.args.bytes.now - c.loop-count._count ≡ suc (length c.args.bytes.now - (c.loop-count._count + 1)) = omega arith in
-    sym (scan_front _ _ c.loop-count.place c.loop-count.rest.now Front.End more c.in-End.ensures.value) ∙ c.loop-count.invariant.same
+    record {
+      value = sym (scan_front _ _ c.loop-count.place c.loop-count.rest.now Front.End more c.in-End.ensures.value) ∙ c.loop-count.invariant.same;
+      within = tt;
+    }
 
 pub returns-in-Broken : goal.returns-in-Broken
 returns-in-Broken c =
     let more : length c.args.bytes.now - c.loop-count._count ≡ suc (length c.args.bytes.now - (c.loop-count._count + 1)) = omega arith in
-    sym (scan_front _ _ c.loop-count.place c.loop-count.rest.now Front.Broken more c.in-Broken.ensures.value) ∙ c.loop-count.invariant.same
+    record {
+      value = sym (scan_front _ _ c.loop-count.place c.loop-count.rest.now Front.Broken more c.in-Broken.ensures.value) ∙ c.loop-count.invariant.same;
+      within = tt;
+    }
 
 pub returns-in-Unknown : goal.returns-in-Unknown
 returns-in-Unknown c =
     let more : length c.args.bytes.now - c.loop-count._count ≡ suc (length c.args.bytes.now - (c.loop-count._count + 1)) = omega arith in
-    sym (scan_front _ _ c.loop-count.place c.loop-count.rest.now (Front.Unknown c.in-Unknown.kind) more c.in-Unknown.ensures.value) ∙ c.loop-count.invariant.same
+    record {
+      value = sym (scan_front _ _ c.loop-count.place c.loop-count.rest.now (Front.Unknown c.in-Unknown.kind) more c.in-Unknown.ensures.value) ∙
+          c.loop-count.invariant.same;
+      within = omega arith;
+    }
 
 pub loop-count-preserved : goal.loop-count-preserved
 loop-count-preserved c =
@@ -32,4 +42,4 @@ loop-count-preserved c =
 pub returns : goal.returns
 returns c =
     let none : length c.args.bytes.now - c.loop-count._count ≡ 0 = omega arith in
-    sym (scan_none _ c.loop-count.place c.loop-count.rest.now none) ∙ c.loop-count.invariant.same
+    record { value = sym (scan_none _ c.loop-count.place c.loop-count.rest.now none) ∙ c.loop-count.invariant.same; within = tt }
