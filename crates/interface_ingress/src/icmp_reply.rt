@@ -13,11 +13,11 @@ ghost use Rattle.interface_ingress.specs.Replies.{parameter_problem};
 use icmpv4::{Icmpv4DstUnreachable, Icmpv4Repr};
 use icmpv6::{Icmpv6DstUnreachable, Icmpv6ParamProblem, Icmpv6Repr};
 use interface_egress::InterfaceInner;
-use ipv6_headers::Problem;
 use ip_wire::{
     AddressExt, IPV4_HEADER_LEN, IPV4_MIN_MTU, IPV6_HEADER_LEN, IPV6_MIN_MTU, IpAddress,
     IpProtocol, IpRepr, Ipv4Address, Ipv4Repr, Ipv6Address, Ipv6Repr,
 };
+use ipv6_headers::Problem;
 use sockets::{Context, IpPayload, Packet};
 
 /// The hop limit of a message.
@@ -302,9 +302,10 @@ pub fn parameter_problem<'a>(
     header: &Ipv6Repr,
     payload: &'a [u8],
     problem: Problem,
-    pointer: u32,
+    pointer: usize,
 ) -> Option<Packet<'a>>
-    requires { Ipv6.Fits header.now }
+    requires fits { Ipv6.Fits header.now }
+    requires place { pointer < 2 ^ 32 }
     ensures packet { option_value result ≡ parameter_problem inner.now header.now payload.now problem pointer }
     ensures sendable { IfSome (option_value result) IsSendable }
 {
@@ -313,7 +314,7 @@ pub fn parameter_problem<'a>(
     }
     let message = Icmpv6Repr::ParamProblem {
         reason: reason_of(problem),
-        pointer,
+        pointer: pointer as u32,
         header: *header,
         bytes: first_bytes(payload, QUOTED_IPV6),
     };
