@@ -1,3 +1,4 @@
+pub mod Bare
 pub mod One
 pub mod OneMessage
 pub mod Readers
