@@ -14,7 +14,7 @@ use Rattle.ip_wire.specs.IpRepr.TheVariants as Ip
 use Rattle.ip_wire.specs.Ipv6Repr.{Ipv6Repr}
 use Rattle.ip_wire.specs.TcpHeader.{TcpHeader}
 use Rattle.ip_wire.specs.UdpRepr.{UdpRepr}
-use Rattle.ipv6_headers.specs.Headers.{go_through}
+use Rattle.ipv6_headers.specs.Headers.{go_through, carries_error}
 use Rattle.ipv6_headers.specs.declared.headers.Behind.{Behind}
 use Rattle.ipv6_headers.specs.declared.headers.Behind.TheVariants as End
 use Rattle.ipv6_headers.specs.declared.headers.Problem.{Problem}
@@ -105,10 +105,11 @@ abbrev pub is_unknown : Problem → Bool
 is_unknown Told.NextHeader = true
 is_unknown problem = false
 
--- the source of an IPv6 packet is told what is wrong with its extension headers, unless a raw socket took what isn't known
+-- The source of an IPv6 packet is told what is wrong with its extension headers, unless a raw socket took what isn't known, or an
+-- error stands behind them.
 abbrev pub unread_v6 : InnerValue → Ipv6Repr → List ℕ → Bool → Behind → Option PacketValue
 unread_v6 i header payload taken (End.Problem problem pointer) =
-    if is_unknown problem && taken then None else parameter_problem i header payload problem pointer
+    if (is_unknown problem && taken) || carries_error header.next_header payload then None else parameter_problem i header payload problem pointer
 unread_v6 i header payload taken end = None
 
 -- what isn't known, and what no raw socket took, is answered by an error; what is known and can't be read is dropped

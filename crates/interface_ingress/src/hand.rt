@@ -30,7 +30,7 @@ use icmpv4::Icmpv4Repr;
 use icmpv6::Icmpv6Repr;
 use interface_egress::{InterfaceInner, SocketStorage};
 use ip_wire::{IpAddress, IpProtocol, IpRepr, Ipv6Repr, TcpRepr};
-use ipv6_headers::{Behind, Problem, go_through};
+use ipv6_headers::{Behind, Problem, carries_error, go_through};
 use sockets::addresses::{is_multicast, is_unspecified};
 use sockets::{Context, IpPayload, Packet, Socket};
 
@@ -160,7 +160,7 @@ fn reply_to_headers<'a>(
 {
     match behind {
         Behind::Problem { problem, pointer } => {
-            if is_unknown(problem) && is_taken {
+            if (is_unknown(problem) && is_taken) || carries_error(header.next_header, payload) {
                 return None;
             }
             parameter_problem(inner, header, payload, problem, pointer)

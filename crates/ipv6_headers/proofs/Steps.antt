@@ -1,8 +1,9 @@
 -- One option, and one header, of those that are gone through.
-use Rattle.std.proofs.Common.{◌≡◌, ℕ, suc, ◌+◌, List, drop, slice_index, ap, ◌∙◌}
+use Rattle.std.proofs.Common.{◌≡◌, ℕ, suc, ◌+◌, Bool, false, List, drop, slice_index, ap, ◌∙◌}
+use Rattle.std.specs.Prelude.{Option, Some, None}
 use Rattle.ip_address.specs.Protocol.{protocol_of}
 use Rattle.ip_address.specs.declared.ip.IpProtocol.{IpProtocol}
-use Rattle.ipv6_headers.specs.Headers.{step_at, walked}
+use Rattle.ipv6_headers.specs.Headers.{step_at, walked, error_within, is_error_of, passed_len}
 use Rattle.ipv6_headers.specs.Options.{front_of, scanned}
 use Rattle.ipv6_headers.specs.declared.headers.Behind.{Behind}
 use Rattle.ipv6_headers.specs.declared.headers.Behind.TheVariants as End
@@ -53,3 +54,23 @@ walk_step left most protocol named_at at rest way more is =
 pub walk_none : (left : ℕ) (protocol : IpProtocol) (named_at at : ℕ) (rest : List ℕ) → left ≡ 0 → walked left protocol named_at at rest ≡ End.Nothing
 unfolding walked
 walk_none left protocol named_at at rest none = ap (λ n. walked n protocol named_at at rest) none
+
+-- ERRORS
+
+abbrev after_passed : ℕ → IpProtocol → List ℕ → Option ℕ → Bool
+after_passed most protocol rest (Some len) = error_within most (protocol_of (slice_index rest 0)) (drop len rest)
+after_passed most protocol rest None = is_error_of protocol rest
+
+by_passed : (most : ℕ) (protocol : IpProtocol) (rest : List ℕ) (len : Option ℕ) → passed_len protocol rest ≡ len
+    → error_within (suc most) protocol rest ≡ after_passed most protocol rest len
+unfolding error_within
+by_passed most protocol rest len is = ap (after_passed most protocol rest) is
+
+pub error_step : (left most : ℕ) (protocol : IpProtocol) (rest : List ℕ) (len : Option ℕ) → left ≡ suc most → len ≡ passed_len protocol rest
+    → error_within left protocol rest ≡ after_passed most protocol rest len
+error_step left most protocol rest len more is =
+    ap (λ n. error_within n protocol rest) more ∙ by_passed most protocol rest len (let e : passed_len protocol rest ≡ len = cc in e)
+
+pub error_none : (left : ℕ) (protocol : IpProtocol) (rest : List ℕ) → left ≡ 0 → error_within left protocol rest ≡ false
+unfolding error_within
+error_none left protocol rest none = ap (λ n. error_within n protocol rest) none

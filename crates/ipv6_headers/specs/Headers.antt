@@ -1,6 +1,6 @@
 -- Extension headers (RFC 8200, section 4), one behind the other: what stands behind them, or what becomes of the packet. Places are
 -- those of the payload, pointers those of the packet, whose header has 40 bytes.
-use Rattle.std.specs.Prelude.{ℕ, zero, suc, ◌+◌, ◌*◌, ◌/◌, ◌%◌, ◌≤◌, ◌==◌, nat_le, ◌&&◌, Bool, true, false, if◌then◌else◌, List, [], length, drop, slice_index, slice_range}
+use Rattle.std.specs.Prelude.{ℕ, zero, suc, ◌+◌, ◌*◌, ◌/◌, ◌%◌, ◌≤◌, ◌==◌, nat_le, nat_lt, ◌&&◌, Bool, true, false, if◌then◌else◌, List, [], ◌∷◌, length, drop, slice_index, slice_range, Option, Some, None}
 use Rattle.ip_address.specs.Fields.{be16}
 use Rattle.ip_address.specs.Protocol.{protocol_of}
 use Rattle.ip_address.specs.declared.ip.IpProtocol.{IpProtocol}
@@ -104,6 +104,37 @@ upper_of end = Protocol.Ipv6NoNxt
 abbrev pub upper_bytes_of : List ℕ → Behind → List ℕ
 upper_bytes_of payload (End.Upper protocol at) = drop at payload
 upper_bytes_of payload end = []
+
+-- ERRORS. A control message of a type below 128 tells of an error (RFC 4443, section 2.1), and none answers it (section 2.4 e),
+-- whatever stands in the headers before it.
+
+abbrev pub is_error : List ℕ → Bool
+is_error [] = false
+is_error (kind ∷ rest) = nat_lt kind 128
+
+-- what is passed over on the way to it: the length of a header that is there, and of a first piece's fragment header
+abbrev pub passed_len : IpProtocol → List ℕ → Option ℕ
+passed_len Protocol.HopByHop rest = if is_whole rest then Some (extension_len rest) else None
+passed_len Protocol.Ipv6Opts rest = if is_whole rest then Some (extension_len rest) else None
+passed_len Protocol.Ipv6Route rest = if is_whole rest then Some (extension_len rest) else None
+passed_len Protocol.Ipv6Frag rest = if nat_le 8 (length rest) && (be16 rest 2 / 8 == 0) then Some 8 else None
+passed_len protocol rest = None
+
+abbrev pub is_error_of : IpProtocol → List ℕ → Bool
+is_error_of Protocol.Icmpv6 rest = is_error rest
+is_error_of protocol rest = false
+
+unfoldable pub error_within : (most : ℕ) → IpProtocol → List ℕ → Bool
+error_within zero protocol rest = false
+error_within (suc most) protocol rest =
+    elim (passed_len protocol rest) as (λ _. Bool) [
+      | Some len ↦ error_within most (protocol_of (slice_index rest 0)) (drop len rest)
+      | None ↦ is_error_of protocol rest
+    ]
+
+-- a packet whose header names this, and which has this payload, carries an error
+abbrev pub carries_error : IpProtocol → List ℕ → Bool
+carries_error protocol payload = error_within (suc (length payload)) protocol payload
 
 -- PLACES
 

@@ -15,7 +15,7 @@ const HEADER_LEN: usize = 40;
 const NEXT_HEADER_AT: usize = 6;
 
 /// The length of a fragment header, and the unit in which the others say theirs.
-const UNIT: usize = 8;
+pub(crate) const UNIT: usize = 8;
 
 /// What a packet's source is told of.
 #[derive(Clone, Copy, Debug, PartialEq, Eq)]
@@ -113,7 +113,7 @@ fn step_at(protocol: IpProtocol, named_at: usize, at: usize, rest: &[u8]) -> Ste
 }
 
 /// How long a header is whose second byte says it, in units beyond the first.
-fn extension_len(rest: &[u8]) -> usize
+pub(crate) fn extension_len(rest: &[u8]) -> usize
     requires { 8 ≤ length rest.now }
     ensures { result ≡ extension_len rest.now }
 {
@@ -121,7 +121,7 @@ fn extension_len(rest: &[u8]) -> usize
 }
 
 /// Whether a header is there to its end.
-fn is_whole(rest: &[u8]) -> bool
+pub(crate) fn is_whole(rest: &[u8]) -> bool
     ensures { result ≡ is_whole rest.now }
 {
     rest.len() >= UNIT && rest.len() >= extension_len(rest)

@@ -2,8 +2,10 @@
 //! can't go through.
 #![tactic(auto)]
 
+mod errors;
 mod headers;
 mod options;
 
+pub use errors::carries_error;
 pub use headers::{Behind, Problem, go_through, is_extension};
 pub use options::{Options, asked_by};

@@ -32,7 +32,7 @@ use Rattle.interface_ingress.specs.Arrives as Replies
 use Rattle.interface_ingress.specs.Arrives.{ReplyValue, Arrived, Brings, ArrivesV4, ArrivesV6, Hands, answered, told, renewed}
 use Rattle.interface_ingress.specs.Delivered.{Places, packet_delivered, is_taken_raw, segment_place, segment_answer_at, answer_of, answer_in, answer_by}
 use Rattle.interface_ingress.specs.Delivered.{packet_by, datagram_place}
-use Rattle.ipv6_headers.specs.Headers.{go_through}
+use Rattle.ipv6_headers.specs.Headers.{go_through, carries_error}
 use Rattle.ipv6_headers.specs.declared.headers.Behind.{Behind}
 use Rattle.ipv6_headers.specs.declared.headers.Behind.TheVariants as End
 use Rattle.ipv6_headers.specs.declared.headers.Problem.{Problem}
@@ -129,7 +129,7 @@ problem_so i header payload problem pointer =
 
 headers_so : (i : InnerValue) (header : Ipv6Repr) (payload : List ℕ) (taken : Bool) (behind : Behind) → IfMeasured (unread_v6 i header payload taken behind)
 headers_so i header payload taken (End.Problem problem pointer) =
-    if_either (is_unknown problem && taken) None (parameter_problem i header payload problem pointer) tt (problem_so i header payload problem pointer)
+    if_either ((is_unknown problem && taken) || carries_error header.next_header payload) None (parameter_problem i header payload problem pointer) tt (problem_so i header payload problem pointer)
 headers_so i header payload taken behind = tt
 
 unread_so : (i : InnerValue) (ip : IpRepr) (payload : List ℕ) (taken : Bool) → IfMeasured (unread_reply i ip payload taken)

@@ -23,7 +23,7 @@ use Rattle.interface_tables.specs.Inner.{InnerValue}
 use Rattle.interface_ingress.specs.Arrives.{told, answered}
 use Rattle.interface_ingress.specs.Handed.{control_v4_reply, control_v6_reply, message_reply, is_known_v4, is_unknown, unread_v6, unread_reply}
 use Rattle.interface_ingress.specs.Reassembled.{is_control_v6}
-use Rattle.ipv6_headers.specs.Headers.{go_through}
+use Rattle.ipv6_headers.specs.Headers.{go_through, carries_error}
 use Rattle.ipv6_headers.specs.declared.headers.Behind.{Behind}
 use Rattle.ipv6_headers.specs.declared.headers.Behind.TheVariants as End
 use Rattle.interface_ingress.specs.Heard.{neighbor_heard, Heard, heard, heard_on, counts, learned, advertised, answer, advertisement, is_asked}
@@ -106,7 +106,7 @@ module _ (Q : PacketValue → Type 0)
 
   headers_free : (i : InnerValue) (header : Ipv6Repr) (payload : List ℕ) (taken : Bool) (behind : Behind) → Free (unread_v6 i header payload taken behind)
   headers_free i header payload taken (End.Problem problem pointer) =
-      free_if (is_unknown problem && taken) (parameter_problem i header payload problem pointer)
+      free_if ((is_unknown problem && taken) || carries_error header.next_header payload) (parameter_problem i header payload problem pointer)
       (error_free (is_told problem header) i header (Icmpv6.ParamProblem (reason_of problem) pointer header) (quoted_v6 payload))
   headers_free i header payload taken behind = tt
 
