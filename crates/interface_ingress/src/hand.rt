@@ -420,16 +420,22 @@ fn hand_upper<'a>(
     }
 }
 
+/// The protocol that stands behind the extension headers, if there is one.
+fn upper_protocol(behind: &Behind) -> IpProtocol
+    ensures { result ≡ upper_of behind.now }
+{
+    match behind {
+        Behind::Upper { protocol, .. } => *protocol,
+        _ => IpProtocol::Ipv6NoNxt,
+    }
+}
+
 /// The header that names what stands behind the extension headers.
 fn upper_header(header: &Ipv6Repr, behind: &Behind) -> IpRepr
     ensures { result ≡ Ip.Ipv6 (record header.now { next_header = upper_of behind.now }) }
 {
-    let next_header = match behind {
-        Behind::Upper { protocol, .. } => *protocol,
-        _ => IpProtocol::Ipv6NoNxt,
-    };
     IpRepr::Ipv6(Ipv6Repr {
-        next_header,
+        next_header: upper_protocol(behind),
         ..*header
     })
 }
