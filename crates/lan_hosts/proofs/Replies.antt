@@ -38,7 +38,7 @@ use Rattle.ipv6_headers.specs.declared.headers.Behind.TheVariants as End
 use Rattle.ipv6_headers.specs.declared.headers.Problem.{Problem}
 use Rattle.interface_ingress.specs.Reassembled.{is_control_v6}
 use Rattle.interface_ingress.specs.Handed.{handed_reply, control_v4_reply, control_v6_reply, message_reply, names_nobody, is_known_v4, is_unknown, unread_v6, unread_reply}
-use Rattle.interface_ingress.specs.Heard.{Heard, heard, heard_on, counts, is_asked, learned, advertised, advertisement, answer}
+use Rattle.interface_ingress.specs.Heard.{neighbor_heard, Heard, heard, heard_on, counts, is_asked, learned, advertised, advertisement, answer}
 use Rattle.interface_ingress.specs.Incoming.{IncomingValue, Arp, Ip4, Ip6}
 use Rattle.interface_ingress.specs.Replies.{echo_v4, sent_v4, source_of_reply, port_unreachable, protocol_unreachable, parameter_problem, is_told, reason_of, reply_v4, reply_v6, error_v6}
 use Rattle.interface_ingress.specs.Replies.{is_between_hosts, quoted_v4, quoted_v6}

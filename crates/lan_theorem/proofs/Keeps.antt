@@ -6,7 +6,8 @@ use Rattle.interface_delivery.specs.Ip as Ips
 use Rattle.interface_delivery.specs.Ip.{carried_in}
 use Rattle.interface_delivery.specs.IpRepr.{IpRepr}
 use Rattle.interface_delivery.specs.IpRepr.TheVariants as Ip
-use Rattle.sockets.specs.Packet.{PacketValue, PayloadValue, ControlV4, ControlV6, Bytes, Datagram, Segment}
+use Rattle.sockets.specs.Packet.{PacketValue, PayloadValue, ControlV4, ControlV6, Bytes, Datagram, Segment, payload_written}
+use Rattle.interface_ingress.specs.Upper.{upper_header}
 use Rattle.interface_tables.specs.Inner.{InnerValue, at_moment}
 use Rattle.interface_tables.specs.Slots.{without_expired}
 use Rattle.interface_egress.specs.Departing.{HasSettingsOf, SendsOnce, departure_by, was_taken}

@@ -1,5 +1,5 @@
 -- A frame of which one word of the TCP segment was exchanged for one of another sum brings no segment.
-use Rattle.std.proofs.Common.{◌≡◌, ◌≢◌, inl, inr, ℕ, zero, suc, ◌+◌, ◌/◌, ◌%◌, ◌^◌, ◌<◌, ◌≤◌, List, [], ◌∷◌, ◌++◌, length, refl, ◌∙◌, ap, arith}
+use Rattle.std.proofs.Common.{◌≡◌, ◌≢◌, inl, inr, ℕ, zero, suc, ◌+◌, ◌/◌, ◌%◌, ◌^◌, ◌<◌, ◌≤◌, List, [], ◌∷◌, ◌++◌, length, refl, ◌∙◌, ap, subst, arith}
 use Rattle.std.proofs.Math.ListN.{set}
 use Rattle.interface_ingress.specs.Fields.{be16, put16}
 use Rattle.interface_delivery.specs.Ip as Ips
@@ -16,7 +16,7 @@ use Rattle.interface_ingress.specs.Sent.{normal_payload}
 use Rattle.interface_ingress.proofs.Bare.{bare_where}
 use Rattle.interface_ingress.specs.Upper.{upper_payload}
 use Rattle.interface_ingress.proofs.FramesArrive.{payload-arrives}
-use Rattle.lan_theorem.specs.Link.Made.{sealed, HandsMade, bytes_of}
+use Rattle.lan_theorem.specs.Link.Made.{sealed, WasMade, HandsMade, bytes_of}
 use Rattle.lan_theorem.specs.Link.Frames.{IsOut}
 use Rattle.lan_theorem.proofs.Link.Behind.{sealed_both}
 

@@ -8,6 +8,7 @@ use Rattle.interface_ingress.specs.Address.{IsIpAddress}
 use Rattle.interface_ingress.specs.HardwareAddress.{HardwareAddress}
 use Rattle.interface_ingress.specs.HardwareAddress.TheVariants as Hardware
 use Rattle.interface_delivery.specs.Ip as Ips
+use Rattle.interface_ingress.specs.Upper.{upper_header}
 use Rattle.interface_delivery.specs.Ip.{carried_in, destination_of}
 use Rattle.interface_delivery.specs.IpRepr.{IpRepr}
 use Rattle.interface_delivery.specs.IpRepr.TheVariants as Ip

@@ -17,7 +17,6 @@ use Rattle.interface_ingress.specs.Arp.{arp_answer}
 use Rattle.interface_ingress.specs.Arrives as Replies
 use Rattle.interface_ingress.specs.Arrives.{ReplyValue, Arrived, ArrivesV4, ArrivesV6, Brings, Hands, IsSilent, answered, is_direct, renewed, renewed_by}
 use Rattle.interface_ingress.specs.Arrives.{sender_of}
-use Rattle.interface_ingress.specs.Carried.{IsCarriedContent}
 use Rattle.interface_ingress.specs.Delivered.{packet_delivered, is_taken_raw, datagram_place, segment_delivered, segment_answer}
 use Rattle.interface_ingress.specs.Handed.{control_v4_places, control_v6_places, names_nobody, handed_places, handed_reply}
 use Rattle.interface_ingress.specs.Incoming.{IncomingValue, Arp, Ip4, Ip6}

@@ -16,7 +16,11 @@ use Rattle.interface_delivery.specs.UdpRepr.{UdpRepr}
 use Rattle.interface_ingress.specs.ArpRepr.{ArpRepr}
 use Rattle.net_containers.specs.Packets.{first}
 use Rattle.sockets.specs.Context.{ContextValue}
-use Rattle.sockets.specs.Packet.{PacketValue, PayloadValue, ControlV4, ControlV6, Bytes, Datagram, Segment, packet_of}
+use Rattle.sockets.specs.Packet.{PacketValue, PayloadValue, ControlV4, ControlV6, Bytes, Datagram, Segment, packet_of, payload_written}
+use Rattle.interface_delivery.specs.Delivered.{NamesNoPorts}
+use Rattle.interface_delivery.specs.Ip as Ips
+use Rattle.interface_delivery.specs.Ip.{carried_in}
+use Rattle.lan_theorem.specs.Link.Made.{sealed}
 use Rattle.interface_delivery.specs.Widths.{IsPayload}
 use Rattle.sockets.specs.Offer as Answer
 use Rattle.sockets.specs.WellFormed.{AreFields, HasWidths, IsWellFormed}
@@ -41,7 +45,6 @@ use Rattle.sockets.specs.declared.socket.Socket.TheVariants as Is
 use Rattle.interface_tables.specs.Inner.{InnerValue, context_of, is_for_us}
 use Rattle.interface_ingress.specs.Arrives.{Arrived, ArrivesV4, ArrivesV6, Brings, Hands, ReplyValue, Tells, Answers, told, answered, renewed}
 use Rattle.interface_ingress.specs.Arp.{arp_answer}
-use Rattle.interface_ingress.specs.Carried.{IsCarriedContent}
 use Rattle.interface_ingress.specs.Delivered.{packet_by, packet_delivered, is_taken_raw}
 use Rattle.interface_ingress.specs.Handed.{handed_reply}
 use Rattle.interface_ingress.specs.Incoming.{IncomingValue, Arp, Ip4, Ip6}
