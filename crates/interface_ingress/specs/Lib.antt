@@ -32,3 +32,6 @@ pub use Rattle.interface_tables.specs.Pieces
 pub use Rattle.interface_tables.specs.declared.link.LinkAddress
 pub use Rattle.interface_tables.specs.declared.neighbor.Answer
 pub use Rattle.interface_tables.specs.Route
+pub use Rattle.ipv6_headers.specs.Headers
+pub use Rattle.ipv6_headers.specs.declared.headers.Behind
+pub use Rattle.ipv6_headers.specs.declared.headers.Problem

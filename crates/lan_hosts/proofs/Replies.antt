@@ -32,10 +32,10 @@ use Rattle.interface_ingress.specs.Arrives as Replies
 use Rattle.interface_ingress.specs.Arrives.{ReplyValue, Arrived, Brings, ArrivesV4, ArrivesV6, Hands, answered, told, renewed}
 use Rattle.interface_ingress.specs.Delivered.{Places, packet_delivered, is_taken_raw, segment_place, segment_answer_at, answer_of, answer_in, answer_by}
 use Rattle.interface_ingress.specs.Delivered.{packet_by, datagram_place}
-use Rattle.ipv6_headers.specs.Headers.{go_through, carries_error}
-use Rattle.ipv6_headers.specs.declared.headers.Behind.{Behind}
-use Rattle.ipv6_headers.specs.declared.headers.Behind.TheVariants as End
-use Rattle.ipv6_headers.specs.declared.headers.Problem.{Problem}
+use Rattle.interface_ingress.specs.Headers.{go_through, carries_error}
+use Rattle.interface_ingress.specs.Behind.{Behind}
+use Rattle.interface_ingress.specs.Behind.TheVariants as End
+use Rattle.interface_ingress.specs.Problem.{Problem}
 use Rattle.interface_ingress.specs.Reassembled.{is_control_v6}
 use Rattle.interface_ingress.specs.Handed.{handed_reply, control_v4_reply, control_v6_reply, message_reply, names_nobody, is_known_v4, is_unknown, unread_v6, unread_reply}
 use Rattle.interface_ingress.specs.Heard.{neighbor_heard, Heard, heard, heard_on, counts, is_asked, learned, advertised, advertisement, answer}

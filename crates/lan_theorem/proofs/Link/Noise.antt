@@ -14,7 +14,7 @@ use Rattle.interface_delivery.specs.Ip.{carried_in}
 use Rattle.interface_delivery.specs.Ipv6.{payload_of}
 use Rattle.interface_delivery.specs.Ipv6Repr.{Ipv6Repr}
 use Rattle.interface_ingress.specs.Upper.{upper_header}
-use Rattle.ipv6_headers.specs.Headers.{go_through, upper_of}
+use Rattle.interface_ingress.specs.Headers.{go_through, upper_of}
 use Rattle.lan_frames.specs.Carried.{is_tcp_or_udp, has_ports_behind, names_tcp_or_udp}
 use Rattle.lan_frames.proofs.Named.{neither_first, neither_second, behind_named, ether_is, byte_behind}
 use Rattle.lan_theorem.specs.Link.Made.{sealed, IsWholeMade}

@@ -21,7 +21,7 @@ use Rattle.sockets.specs.Context.{ContextValue}
 use Rattle.sockets.specs.Packet.{PacketValue, PayloadValue, payload_written}
 use Rattle.interface_delivery.specs.Ipv6.{payload_of}
 use Rattle.interface_ingress.specs.Upper.{upper_header}
-use Rattle.ipv6_headers.specs.Headers.{go_through, upper_of}
+use Rattle.interface_ingress.specs.Headers.{go_through, upper_of}
 use Rattle.lan_theorem.specs.Link.Made.{sealed, bytes_of}
 use Rattle.sockets.specs.Offer as Answer
 use Rattle.sockets.specs.Offers.{IsFound, IsOnly, OffersFirst}

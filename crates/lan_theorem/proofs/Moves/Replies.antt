@@ -23,9 +23,9 @@ use Rattle.interface_tables.specs.Inner.{InnerValue}
 use Rattle.interface_ingress.specs.Arrives.{told, answered}
 use Rattle.interface_ingress.specs.Handed.{control_v4_reply, control_v6_reply, message_reply, is_known_v4, is_unknown, unread_v6, unread_reply}
 use Rattle.interface_ingress.specs.Reassembled.{is_control_v6}
-use Rattle.ipv6_headers.specs.Headers.{go_through, carries_error}
-use Rattle.ipv6_headers.specs.declared.headers.Behind.{Behind}
-use Rattle.ipv6_headers.specs.declared.headers.Behind.TheVariants as End
+use Rattle.interface_ingress.specs.Headers.{go_through, carries_error}
+use Rattle.interface_ingress.specs.Behind.{Behind}
+use Rattle.interface_ingress.specs.Behind.TheVariants as End
 use Rattle.interface_ingress.specs.Heard.{neighbor_heard, Heard, heard, heard_on, counts, learned, advertised, answer, advertisement, is_asked}
 use Rattle.interface_ingress.specs.Replies.{sent_v4, echo_v4, port_unreachable, protocol_unreachable, parameter_problem, is_told, reason_of, source_of_reply, reply_v6, is_between_hosts, quoted_v4}
 use Rattle.interface_ingress.specs.Replies.{quoted_v6}
