@@ -1,9 +1,10 @@
 //! Bytes that say that they carry TCP or UDP.
-ghost use Rattle.std.specs.Prelude.{◌≡◌, ◌==◌, ◌<◌, ◌^◌, length, slice_index};
+ghost use Rattle.std.specs.Prelude.{◌≡◌, ◌==◌, ◌<◌, ◌≤◌, ◌^◌, length, take, drop, slice_index};
 ghost use Rattle.ip_address.specs.Fields.{be16};
 ghost use Rattle.lan_frames.specs.Carried.{names_tcp_or_udp, is_tcp_or_udp, has_ports_behind};
 ghost use Rattle.ip_packet.specs.Ipv6.{payload_of};
 
+use crate::part::packet_in;
 use ip_wire::{IPV6_HEADER_LEN, IpProtocol};
 use ipv6_headers::{Behind, go_through};
 use net_devices::Medium;
@@ -16,7 +17,7 @@ pub fn names_tcp_or_udp(medium: Medium, bytes: &[u8]) -> bool
     match medium {
         Medium::Ethernet => match ethertype(bytes) {
             0x0800 => is_tcp_or_udp(byte_at(bytes, 23)),
-            0x86dd => has_ports_behind(bytes.get(14..).unwrap_or(&[])),
+            0x86dd => has_ports_behind(packet_in(Medium::Ethernet, bytes)),
             _ => false,
         },
         Medium::Ip => match byte_at(bytes, 0) >> 4 {
@@ -47,10 +48,28 @@ fn payload_of(packet: &[u8]) -> &[u8]
     ensures short { length result.now < 2 ^ 16 }
 {
     let len = u16::from_be_bytes([byte_at(packet, 4), byte_at(packet, 5)]) as usize;
-    let behind = packet.get(IPV6_HEADER_LEN..).unwrap_or(&[]);
-    match behind.split_at_checked(len) {
-        Some((payload, _padding)) => payload,
-        None => behind,
+    front_of(behind_header(packet), len)
+}
+
+/// What stands behind the header of an IPv6 packet.
+fn behind_header(packet: &[u8]) -> &[u8]
+    ensures { result.now ≡ drop 40 packet.now }
+{
+    if IPV6_HEADER_LEN <= packet.len() {
+        &packet[IPV6_HEADER_LEN..]
+    } else {
+        &[]
+    }
+}
+
+/// As many of the first bytes, or all of them.
+fn front_of(bytes: &[u8], count: usize) -> &[u8]
+    ensures front { result.now ≡ take count bytes.now }
+    ensures few { length result.now ≤ count }
+{
+    match bytes.split_at_checked(count) {
+        Some((front, _)) => front,
+        None => bytes,
     }
 }
 
