@@ -47,8 +47,16 @@ fn payload_of(packet: &[u8]) -> &[u8]
     ensures payload { result.now ≡ payload_of packet.now }
     ensures short { length result.now < 2 ^ 16 }
 {
-    let len = u16::from_be_bytes([byte_at(packet, 4), byte_at(packet, 5)]) as usize;
+    let len = payload_len(packet);
     front_of(behind_header(packet), len)
+}
+
+// The payload length of an IPv6 packet, where bytes that aren't there are 0.
+fn payload_len(packet: &[u8]) -> usize
+    ensures value { result ≡ be16 packet.now 4 }
+    ensures short { result < 2 ^ 16 }
+{
+    u16::from_be_bytes([byte_at(packet, 4), byte_at(packet, 5)]) as usize
 }
 
 /// What stands behind the header of an IPv6 packet.
