@@ -102,6 +102,7 @@ impl Header {
         let config = Config {
             random_seed: self.seed,
             hardware_addr: self.hardware,
+            isn_key: None,
         };
         let mut interface = match Interface::new(alloc, &config, wire, self.begins) {
             Ok(interface) => interface,

@@ -7,11 +7,13 @@
 pub mod controls;
 pub mod endpoints;
 mod error;
+pub mod first_number;
 pub mod moments;
 mod offer;
 pub mod offsets;
 mod reno;
 mod round_trip;
+pub mod sip_hash;
 mod state;
 mod states;
 

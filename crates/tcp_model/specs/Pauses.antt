@@ -13,6 +13,7 @@ use Rattle.tcp_model.specs.Checks.{Check, acknowledgement_check, is_in_window}
 use Rattle.tcp_model.specs.Checks.Check.{Passes, Old, Draws}
 use Rattle.tcp_model.specs.Offers.{offer_of}
 use Rattle.tcp_model.specs.Settled.{settled}
+use Rattle.tcp_model.specs.Timestamps.{is_stale}
 use Rattle.tcp_model.specs.Value.{TcpValue, queued_in, free_in}
 
 -- A segment draws an answer where it acknowledges what may not be, and where it lies outside the window and its acknowledgement doesn't end
@@ -26,10 +27,12 @@ draws_by Old cx v header size = not (is_in_window v.block (free_in v) header siz
 draws_by Draws cx v header size = true
 draws_by check cx v header size = false
 
--- so does a SYN, and a reset inside the window that isn't taken (RFC 5961, 3 and 4)
+-- so does a SYN, a segment with a timestamp that is too old, and a reset inside the window that isn't taken (RFC 5961, 3 and 4; RFC 7323,
+-- 5.3)
 abbrev pub draws_any : ContextValue → TcpValue → TcpHeader → ℕ → Bool
 draws_any cx v header size =
     if is_rst header.control then not (takes_reset v.block header) && challenges_reset v header size
+    else if is_stale v.block header cx.moment then true
     else if challenges_syn v.block header then true
     else draws_by (acknowledgement_check v.block header.ack_number) cx v header size
 

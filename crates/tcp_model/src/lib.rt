@@ -8,11 +8,12 @@ pub mod laws;
 pub mod pauses;
 
 pub use block::{
-    Block, CongestionControl, Names, PROBE, Part, Peer, Receiver, Sender, Settings, Timers,
+    Block, CongestionControl, Names, PROBE, Part, Peer, Receiver, Sender, Settings, Stamps, Timers,
     Verdict, is_first_syn, is_void_syn, numbers_of, reply_to, rst_reply,
 };
 pub use tcp_control::controls::{is_fin, is_rst, is_syn};
 pub use tcp_control::endpoints::is_same_listener;
+pub use tcp_control::first_number::first_number;
 pub use tcp_control::moments::{is_due, next_draw_from, time_wait_from};
 pub use tcp_control::offsets::{before_by, past_by};
 pub use tcp_control::{

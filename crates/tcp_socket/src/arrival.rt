@@ -23,8 +23,8 @@ use ip_wire::{IpRepr, SeqNumber, TcpHeader, TcpRepr};
 use net_base::Instant;
 use socket_base::Context;
 use tcp_model::{
-    EndpointPair, Reply, State, Verdict, before_by, is_fin, is_first_syn, is_rst, is_syn,
-    is_void_syn, next_draw_from, numbers_of, past_by, reply_to, rst_reply, time_wait_from,
+    EndpointPair, Reply, State, Verdict, before_by, first_number, is_fin, is_first_syn, is_rst,
+    is_syn, is_void_syn, next_draw_from, numbers_of, past_by, reply_to, rst_reply, time_wait_from,
 };
 
 /// A segment with what it came in. Functions that are called from several places get copies of it, so
@@ -161,8 +161,10 @@ impl Socket {
         if !is_first_syn(&incoming.header) {
             return None;
         }
-        let (number, header) = (cx.rand_u32(), incoming.header);
+        let (pair, header) = (EndpointPair::of_segment(incoming.ip_repr, &incoming.header), incoming.header);
+        let number = first_number(cx, &pair);
         self.block.answer_syn(incoming.ip_repr, &header, number);
+        self.block.believe_stamp(cx.now());
         self.block.restart_timeout(cx.now(), 0);
         None
     }
@@ -203,7 +205,9 @@ impl Socket {
     {
         if is_rst(incoming.header.control) {
             self.take_reset(cx, incoming)
-        } else if self.block.challenges_syn(&incoming.header) {
+        } else if self.block.is_stale(&incoming.header, cx.now())
+            || self.block.challenges_syn(&incoming.header)
+        {
             self.draw(cx, incoming)
         } else {
             self.check(cx, incoming)
@@ -290,6 +294,7 @@ impl Socket {
             .is_in_window(free, &incoming.header, incoming.bytes.len())
         {
             self.block.hear();
+            self.block.take_stamp(&incoming.header, cx.now());
             self.take_content(cx, incoming)
         } else {
             self.answer_outside(cx, incoming)
@@ -305,6 +310,7 @@ impl Socket {
             (passed_outside (C.context cx.now) self.old incoming.now.ip_repr.now incoming.now.header (length incoming.now.bytes.now) by).socket }
     {
         if self.tells_news(&incoming.header, incoming.bytes.len()) {
+            self.block.take_echo(&incoming.header, by, cx.now());
             self.acknowledge(by, cx.now());
             return self.answer_outside(cx, incoming);
         }
@@ -383,6 +389,7 @@ impl Socket {
         let duplicates = self
             .block
             .duplicates_after(&incoming.header, incoming.bytes.len(), by);
+        self.block.take_echo(&incoming.header, by, cx.now());
         self.acknowledge(by, cx.now());
         self.take_rest(cx, duplicates, incoming)
     }
@@ -414,7 +421,7 @@ impl Socket {
         requires moment { IsMoment now }
         ensures { self.new ≡ told self.old header.now duplicates now }
     {
-        self.block.set_window(header);
+        self.block.set_window(header, now);
         self.block.take_ranges(header);
         self.block.count(duplicates);
         self.block.restart_timeout(now, self.queued.len());

@@ -93,7 +93,7 @@ impl Block {
         ensures value { result ≡ stamp_len self.now }
         ensures small { result ≤ 12 }
     {
-        if self.peer.timestamps && self.sender.stamped && self.settings.timestamps.is_some() {
+        if self.uses_stamps() {
             12
         } else {
             0
