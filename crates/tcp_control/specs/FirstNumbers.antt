@@ -3,6 +3,7 @@
 use Rattle.std.specs.Prelude.{ℕ, ◌+◌, ◌/◌, ◌%◌, ◌^◌, ℤ, unsigned_abs, Bool, List, ◌++◌, Option, Some, None, is_none}
 use Rattle.std.specs.Int.{w16, to_be_bytes}
 use Rattle.net_base.specs.RandomWords.{word}
+use Rattle.ip_wire.specs.SeqNumber.{SeqNumber}
 use Rattle.socket_base.specs.Context.{ContextValue, next_random}
 use Rattle.tcp_control.specs.declared.endpoints.AddressPair.{AddressPair}
 use Rattle.tcp_control.specs.declared.endpoints.AddressPair.TheVariants as Pair
@@ -17,9 +18,16 @@ message_by (Pair.Ipv6 local remote) local_port remote_port = local.0 ++ (local_p
 abbrev pub message_of : EndpointPair → List ℕ
 message_of pair = message_by pair.addresses (to_be_bytes w16 pair.local_port) (to_be_bytes w16 pair.remote_port)
 
--- the clock that counts each 4 microseconds, and the hash
+-- a clock that counts each 4 microseconds
+abbrev pub ticks_of : ℤ → ℕ
+ticks_of now = unsigned_abs now / 4
+
+-- the clock and the hash
 abbrev pub keyed_number : List ℕ → ℤ → EndpointPair → ℕ
-keyed_number key now pair = (unsigned_abs now / 4 + sip_hash key (message_of pair)) % 2 ^ 32
+keyed_number key now pair = (ticks_of now + sip_hash key (message_of pair)) % 2 ^ 32
+
+abbrev pub number_of : ℕ → SeqNumber
+number_of n = record { 0 = n }
 
 abbrev pub number_by : Option (List ℕ) → ContextValue → EndpointPair → ℕ
 number_by None cx pair = word (next_random cx).random

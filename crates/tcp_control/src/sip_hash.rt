@@ -1,6 +1,7 @@
 //! SipHash-2-4, a keyed hash (Aumasson and Bernstein, 2012).
-ghost use Rattle.std.specs.Prelude.{◌≡◌, ◌+◌, ◌%◌, ◌^◌};
+ghost use Rattle.std.specs.Prelude.{◌≡◌, []};
 ghost use Rattle.tcp_control.specs.SipHash.{half_round, exchanged, sip_round, initial, with_word, compressed, finalized, hash_of_words};
+ghost use Rattle.tcp_control.specs.SipHash.{sip_hash, up_to};
 
 /// The four words of its state.
 #[derive(Clone, Copy, Debug, PartialEq, Eq)]
@@ -53,7 +54,10 @@ impl SipState {
     fn round(self) -> SipState
         ensures { result ≡ sip_round self }
     {
-        self.half_round(13, 16).exchanged().half_round(17, 21).exchanged()
+        self.half_round(13, 16)
+            .exchanged()
+            .half_round(17, 21)
+            .exchanged()
     }
 
     /// A word of the message goes in.
@@ -94,3 +98,13 @@ pub fn sip_hash(key: [u8; 16], words: &[u64]) -> u64
     }
     state.finish()
 }
+
+/// Runs on numerals: the key 00 .. 0f and the messages of no byte, of 00, of 00 01, of 00 01 02 (the
+/// vectors beside the reference code) and of 00 .. 0e (the paper, appendix A).
+pub fn sip_hashes()
+    ensures none { sip_hash (up_to 16) [] ≡ 0x726fdb47dd0e0e31 }
+    ensures one { sip_hash (up_to 16) (up_to 1) ≡ 0x74f839c593dc67fd }
+    ensures two { sip_hash (up_to 16) (up_to 2) ≡ 0x0d6c8009d9a94f5a }
+    ensures three { sip_hash (up_to 16) (up_to 3) ≡ 0x85676696d7fb7e2d }
+    ensures fifteen { sip_hash (up_to 16) (up_to 15) ≡ 0xa129ca6149be45e5 }
+{}

@@ -114,11 +114,14 @@ reset_comes cx v ip header size =
 abbrev pub challenges_syn : Block → TcpHeader → Bool
 challenges_syn b header = is_syn header.control && not (is_answering b.state)
 
+-- an ACK answers it before its acknowledgement is looked at: its timestamp is too old (RFC 7323, 5.3, R1), or it is a SYN
+abbrev pub draws_first : Block → TcpHeader → ℤ → Bool
+draws_first b header now = is_stale b header now || challenges_syn b header
+
 abbrev pub received : ContextValue → TcpValue → IpRepr → TcpHeader → List ℕ → Arrived
 received cx v ip header bytes =
     if is_rst header.control then reset_comes cx v ip header (length bytes)
-    else if is_stale v.block header cx.moment then drawn cx v ip header
-    else if challenges_syn v.block header then drawn cx v ip header
+    else if draws_first v.block header cx.moment then drawn cx v ip header
     else checked (acknowledgement_check v.block header.ack_number) cx v ip header bytes
 
 abbrev pub arrives_in : State → ContextValue → TcpValue → IpRepr → TcpHeader → List ℕ → Arrived

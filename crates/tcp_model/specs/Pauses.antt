@@ -8,12 +8,11 @@ use Rattle.tcp_control.specs.States.{is_closed, is_listening}
 use Rattle.tcp_control.specs.declared.state.State.{State}
 use Rattle.tcp_control.specs.declared.state.State.TheVariants as In
 use Rattle.tcp_model.specs.Acknowledged.{block_acknowledged}
-use Rattle.tcp_model.specs.Arrival.{arrives, is_void_syn, tells_news, takes_reset, challenges_reset, challenges_syn}
+use Rattle.tcp_model.specs.Arrival.{arrives, is_void_syn, tells_news, takes_reset, challenges_reset, draws_first}
 use Rattle.tcp_model.specs.Checks.{Check, acknowledgement_check, is_in_window}
 use Rattle.tcp_model.specs.Checks.Check.{Passes, Old, Draws}
 use Rattle.tcp_model.specs.Offers.{offer_of}
 use Rattle.tcp_model.specs.Settled.{settled}
-use Rattle.tcp_model.specs.Timestamps.{is_stale}
 use Rattle.tcp_model.specs.Value.{TcpValue, queued_in, free_in}
 
 -- A segment draws an answer where it acknowledges what may not be, and where it lies outside the window and its acknowledgement doesn't end
@@ -32,8 +31,7 @@ draws_by check cx v header size = false
 abbrev pub draws_any : ContextValue → TcpValue → TcpHeader → ℕ → Bool
 draws_any cx v header size =
     if is_rst header.control then not (takes_reset v.block header) && challenges_reset v header size
-    else if is_stale v.block header cx.moment then true
-    else if challenges_syn v.block header then true
+    else if draws_first v.block header cx.moment then true
     else draws_by (acknowledgement_check v.block header.ack_number) cx v header size
 
 abbrev pub draws_in : State → ContextValue → TcpValue → TcpHeader → ℕ → Bool

@@ -1,6 +1,6 @@
 -- The timestamps of a connection (RFC 7323): which one counts as the last that came, which segment is too old, and what round trip an
 -- echo tells of.
-use Rattle.std.specs.Prelude.{ℕ, ◌==◌, nat_le, ◌&&◌, not, ℤ, Bool, false, if◌then◌else◌, Option, Some, None, is_some}
+use Rattle.std.specs.Prelude.{ℕ, ◌/◌, ◌==◌, nat_le, ◌&&◌, not, ℤ, unsigned_abs, Bool, false, if◌then◌else◌, Option, Some, None, is_some}
 use Rattle.ip_wire.specs.Seq.{distance_of}
 use Rattle.ip_wire.specs.SeqNumber.{SeqNumber}
 use Rattle.ip_wire.specs.TcpHeader.{TcpHeader}
@@ -90,6 +90,10 @@ abbrev pub elapsed_by : Option TcpTimestampGenerator → ℕ → Option TcpTimes
 elapsed_by None first stamp now = None
 elapsed_by (Some generator) first None now = None
 elapsed_by (Some generator) first (Some stamp) now = elapsed first (value_at generator now) stamp.tsecr
+
+-- the whole milliseconds of a moment, which an own timestamp counts
+abbrev pub millis_of : ℤ → ℕ
+millis_of moment = unsigned_abs moment / 1000
 
 -- what the echo of a segment says
 abbrev pub echo_of : Block → TcpHeader → ℤ → Option ℕ

@@ -172,9 +172,9 @@ mod retries;
 mod rules;
 mod segments;
 mod settled;
-mod stamps;
 mod text;
 mod timeout;
+mod timestamps;
 
 pub use checks::Verdict;
 pub use opening::{is_first_syn, is_void_syn};

@@ -3,6 +3,7 @@
 
 pub mod aborts;
 mod block;
+pub mod echoes;
 pub mod examples;
 pub mod laws;
 pub mod pauses;
@@ -13,10 +14,9 @@ pub use block::{
 };
 pub use tcp_control::controls::{is_fin, is_rst, is_syn};
 pub use tcp_control::endpoints::is_same_listener;
-pub use tcp_control::first_number::first_number;
 pub use tcp_control::moments::{is_due, next_draw_from, time_wait_from};
 pub use tcp_control::offsets::{before_by, past_by};
 pub use tcp_control::{
     AddressPair, ConnectError, EndpointPair, ListenError, OfferKind, OpenOffer, RecvError, Reno,
-    Reply, RoundTrip, SendError, State,
+    Reply, RoundTrip, SendError, State, first_number,
 };

@@ -6,7 +6,7 @@ ghost use Rattle.socket_base.specs.Packet.{IsSendable};
 ghost use Rattle.ip_wire.specs.Tcp.{header_of};
 ghost use Rattle.tcp_model.specs.Acknowledged.{acknowledged};
 ghost use Rattle.tcp_model.specs.Answers.{ack_recorded, drawn, ranges_held, answer_for};
-ghost use Rattle.tcp_model.specs.Arrival.{waiting_anew, outside, tells_news, passed_outside, finished, told, taken, inside, checked, challenges_reset};
+ghost use Rattle.tcp_model.specs.Arrival.{waiting_anew, outside, tells_news, passed_outside, finished, told, echo_heard, taken, inside, checked, challenges_reset};
 ghost use Rattle.tcp_model.specs.Arrival.{reset_comes, received, is_void_syn, arrives_in, arrives};
 ghost use Rattle.tcp_model.specs.Checks.{acknowledgement_check, taken_down};
 ghost use Rattle.tcp_model.specs.Checks.Check.{Passes, Old};
@@ -161,7 +161,10 @@ impl Socket {
         if !is_first_syn(&incoming.header) {
             return None;
         }
-        let (pair, header) = (EndpointPair::of_segment(incoming.ip_repr, &incoming.header), incoming.header);
+        let (pair, header) = (
+            EndpointPair::of_segment(incoming.ip_repr, &incoming.header),
+            incoming.header,
+        );
         let number = first_number(cx, &pair);
         self.block.answer_syn(incoming.ip_repr, &header, number);
         self.block.believe_stamp(cx.now());
@@ -310,8 +313,7 @@ impl Socket {
             (passed_outside (C.context cx.now) self.old incoming.now.ip_repr.now incoming.now.header (length incoming.now.bytes.now) by).socket }
     {
         if self.tells_news(&incoming.header, incoming.bytes.len()) {
-            self.block.take_echo(&incoming.header, by, cx.now());
-            self.acknowledge(by, cx.now());
+            self.acknowledge(&incoming.header, by, cx.now());
             return self.answer_outside(cx, incoming);
         }
         self.answer_outside(cx, incoming)
@@ -389,8 +391,7 @@ impl Socket {
         let duplicates = self
             .block
             .duplicates_after(&incoming.header, incoming.bytes.len(), by);
-        self.block.take_echo(&incoming.header, by, cx.now());
-        self.acknowledge(by, cx.now());
+        self.acknowledge(&incoming.header, by, cx.now());
         self.take_rest(cx, duplicates, incoming)
     }
 
@@ -427,14 +428,15 @@ impl Socket {
         self.block.restart_timeout(now, self.queued.len());
     }
 
-    /// SND.UNA rises by so much, and what is acknowledged is freed.
-    fn acknowledge(&mut self, by: u32, now: Instant)
+    /// The echo of a segment is taken, SND.UNA rises by so much, and what is acknowledged is freed.
+    fn acknowledge(&mut self, header: &TcpHeader, by: u32, now: Instant)
         requires unoffered { self.old.offered ≡ None }
         requires moment { IsMoment now }
-        ensures { self.new ≡ acknowledged self.old by now }
+        ensures { self.new ≡ acknowledged (echo_heard self.old header.now by now) by now }
     {
         let queued = self.queued.len();
         let freed = self.block.freed_by(by, queued);
+        self.block.take_echo(header, by, now);
         self.block.acknowledge(by, queued, now);
         self.queued.dequeue_allocated(freed);
     }
