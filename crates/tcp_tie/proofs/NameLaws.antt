@@ -793,3 +793,5 @@ nameless_drops cx v ip header bytes n =
 
 pub nameless_silent : (cx : ContextValue) (v : TcpValue) → IsNameless v.block → offer_of cx v ≡ offered_as (Answer.Silent false) (unoffered v)
 nameless_silent cx v n = ap (λ (names : Option EndpointPair). offer_with names cx (unoffered v)) n.pair
+
+pub ruleset port_laws = (ports_listening, ports_connecting, ports_same, ports_close, ports_abort, ports_arrival, ports_sent, ports_withheld)
