@@ -34,6 +34,10 @@ pub(crate) fn answer<W: Write>(
             client.set_ignore_naks(true);
             Ok(())
         }
+        "ports" => {
+            client.set_ports(port(first), port(more));
+            Ok(())
+        }
         "reset" => {
             client.reset();
             Ok(())
@@ -66,6 +70,11 @@ pub(crate) fn answer<W: Write>(
         }
         _ => Ok(()),
     }
+}
+
+/// A port by its number, and 0 for any other text.
+fn port(text: &str) -> u16 {
+    text.parse::<u16>().unwrap_or(0)
 }
 
 /// Four seconds at first, and so many requests.
