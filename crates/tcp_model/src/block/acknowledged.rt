@@ -6,7 +6,6 @@ ghost use Rattle.tcp_model.specs.Acknowledged.{recovery_after, reno_after, una_m
 ghost use Rattle.tcp_model.specs.Acknowledged.{acks_no_less, or_number, names_window, windowed, window_set, end_past, highest_end, sacked_by, ranges_taken};
 ghost use Rattle.tcp_model.specs.Acknowledged.{tells_of_loss, is_duplicate, duplicates_after, is_third, begins_recovery, reno_counted, counted};
 
-use super::opening::or_recent;
 use crate::{Block, State};
 use ip_wire::{MAX_WINDOW_SCALE, SeqNumber, TcpHeader};
 use net_base::Instant;
@@ -233,13 +232,14 @@ impl Block {
     }
 
     /// Takes the window of an accepted segment, if no newer one was named, and its timestamp.
-    pub fn set_window(&mut self, header: &TcpHeader)
-        ensures { self.new ≡ window_set self.old header.now }
+    pub fn set_window(&mut self, header: &TcpHeader, now: Instant)
+        requires { IsMoment now }
+        ensures { self.new ≡ window_set self.old header.now now }
     {
         if self.names_window(header) {
             self.take_window(header);
         }
-        self.peer.recent = or_recent(header.options.timestamp, self.peer.recent);
+        self.take_stamp(header, now);
     }
 
     /// How far past SND.UNA the highest position lies that the SACK ranges of a segment name, if both
