@@ -12,6 +12,7 @@ mod offer;
 pub mod offsets;
 mod reno;
 mod round_trip;
+mod scoreboard;
 mod state;
 mod states;
 
@@ -20,4 +21,5 @@ pub use error::{ConnectError, ListenError, RecvError, SendError};
 pub use offer::{OfferKind, OpenOffer, Reply};
 pub use reno::{Reno, congestion_laws, congestion_windows};
 pub use round_trip::{RoundTrip, least_timeouts, timeouts};
+pub use scoreboard::{Run, Scoreboard};
 pub use state::State;

@@ -84,7 +84,7 @@ acked_cases u by now P last other = at (is_closed (state_after_ack u.block by (q
 abbrev pub heeded : ℤ → TcpHeader → ℕ → TcpValue → ℕ → Block → TcpValue
 heeded now header size u by b =
     with_block (acked_open u by now)
-    (timeout_restarted (counted (ranges_taken (stamp_taken b header) header) (duplicates_after u.block header size by)) now (queued_in (acked_open u by now)))
+    (timeout_restarted (counted (ranges_taken (stamp_taken b header) header now) (duplicates_after u.block header size by)) now (queued_in (acked_open u by now)))
 
 module _ (cx : ContextValue) (ip : IpRepr) (header : TcpHeader) (bytes : List ℕ) (Q : Arrived → Type 0) where
   -- a segment that is answered, unless the last answer is too near
@@ -206,7 +206,7 @@ module _ (cx : ContextValue) (ip : IpRepr) (header : TcpHeader) (bytes : List �
       (λ f. c.ordered_fin map (store-length x.received.map place rest) (fin_parts x.block (length (front map)) f).0 takes)
       (c.ordered map (store-length x.received.map place rest) takes (some_bytes (before_by x.block.receiver.next header.seq_number) bytes some)))
       (λ past.
-      cond_both (nat_le (length (runs_of map)) 4) (texted (held x map) 0 false (Some place)) (texted x 0 false None) (Finishing x.block)
+      cond_both (nat_le (length (runs_of map)) 16) (texted (held x map) 0 false (Some place)) (texted x 0 false None) (Finishing x.block)
       (λ _. by_early x map place past (c.early map place (store-length x.received.map place rest) takes))
       (λ _. plain)))
       (λ _. plain)
