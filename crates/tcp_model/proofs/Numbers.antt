@@ -22,4 +22,3 @@ number_small cx pair = by_small cx.isn_key cx pair
 pub number_for_small : (cx : ContextValue) (pair : Option EndpointPair) → number_for cx pair < 2 ^ 32
 number_for_small cx None = omega arith
 number_for_small cx (Some pair) = number_small cx pair
-
