@@ -11,8 +11,8 @@ use Rattle.sockets.specs.Udp as udp
 use Rattle.lan_world.specs.Host.{HostValue}
 use Rattle.lan_world.specs.Made.{new_host, with_inner}
 use Rattle.lan_world.specs.Set.{unmarked}
-use Rattle.lan_theorem.specs.SocketStorage.{SocketStorage}
-use Rattle.lan_theorem.specs.Settings.{refusal, with_addresses}
+use Rattle.lan_world.specs.SocketStorage.{SocketStorage}
+use Rattle.lan_world.specs.Settings.{refusal, with_addresses}
 use Rattle.lan_world.specs.Config.{Config}
 use Rattle.ip_address.specs.declared.hardware.HardwareAddress.{HardwareAddress}
 use Rattle.ip_address.specs.declared.hardware.HardwareAddress.TheVariants as Hardware
@@ -27,7 +27,7 @@ use Rattle.lan_script.specs.declared.kinds.QueueSizes.{QueueSizes}
 use Rattle.lan_script.specs.declared.kinds.SocketSpec.{SocketSpec}
 use Rattle.lan_script.specs.declared.kinds.SocketSpec.TheVariants as Asks
 use Rattle.lan_world.specs.Runs.{WorldValue}
-use Rattle.lan_theorem.specs.Station.{StationValue}
+use Rattle.lan_world.specs.Station.{StationValue}
 use Rattle.lan_world.specs.Come.{both, starts_of}
 use Rattle.lan_world.specs.New.{new_error}
 use Rattle.lan_world.specs.declared.error.WorldError.TheVariants as Since

@@ -1,8 +1,8 @@
 //! Which two hosts make a world.
 use crate::common::tell;
+use interface::{Config, Interface, SocketSet};
 use ip_wire::{EthernetAddress, HardwareAddress};
 use lan::{Host, Port, World, WorldError};
-use lan_hosts::{Config, Interface, SocketSet};
 use net_base::{ChecksumCapabilities, DeviceCapabilities, Instant, ManagedSlice, Medium};
 use std::alloc::Global;
 use std::test::Fail;

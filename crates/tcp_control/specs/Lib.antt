@@ -1,6 +1,7 @@
 pub mod States
 pub mod Reno
 pub mod RoundTrip
+pub mod Scoreboard
 pub mod Moments
 pub mod Offsets
 pub mod Controls

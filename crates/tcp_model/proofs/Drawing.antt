@@ -26,6 +26,7 @@ use Rattle.tcp_model.specs.Arrival.{continued, finished, checked, reset_comes, e
 use Rattle.tcp_model.specs.Calls.{listening, send_after, close_after}
 use Rattle.tcp_model.specs.Checks.{Check, acknowledgement_check, is_in_window, falls_back, taken_down}
 use Rattle.tcp_model.specs.Checks.Check.{Passes, Old, Drops, Draws, Resets}
+use Rattle.tcp_model.specs.LossRecovery.{loss_probe_moment, loss_probed, loss_probed_by}
 use Rattle.tcp_model.specs.Offers.{silent, offer_of, offer_with, offer_between, offer_reset, first_rules, last_rules, backed_off, offer_syn, offer_choice}
 use Rattle.tcp_model.specs.Offers.{offer_ack, offer_keep_alive, offer_held_back}
 use Rattle.tcp_model.specs.Opening.{opens, takes_answer, is_first_syn, acks_syn, connected, crossed}
@@ -98,7 +99,9 @@ first_pause cx v pair =
 
 backed_off_pause : (now : ℤ) (b : Block) → (backed_off now b).timers.draws_from ≡ b.timers.draws_from
 backed_off_pause now b =
-    cond_both (is_due now b.timers.retransmit_at) (backed_off_now b) b (λ (c : Block). c.timers.draws_from ≡ b.timers.draws_from) (λ _. refl) (λ _. refl)
+    cond_both (is_due now b.timers.retransmit_at) (backed_off_now b) (loss_probed_by now b) (λ (c : Block). c.timers.draws_from ≡ b.timers.draws_from)
+    (λ _. refl)
+    (λ _. cond_both (is_due now (loss_probe_moment b)) (loss_probed b) b (λ (c : Block). c.timers.draws_from ≡ b.timers.draws_from) (λ _. refl) (λ _. refl))
 
 -- a socket that is taken back to LISTEN wasn't there
 not_there : (b : Block) → falls_back b ≡ true → is_listening b.state ≡ false
@@ -160,7 +163,7 @@ text_pause v place bytes =
     Kept t = pause_of t.socket ≡ pause_of v
 
     held : Kept (held_early v place (laid v place bytes))
-    held = cond_both (nat_le (length (runs_of (laid v place bytes))) 4) _ (texted v 0 false None) Kept (λ _. refl) (λ _. refl)
+    held = cond_both (nat_le (length (runs_of (laid v place bytes))) 16) _ (texted v 0 false None) Kept (λ _. refl) (λ _. refl)
 
 answer_pause : (cx : ContextValue) (v : TcpValue) (ip : IpRepr) (header : TcpHeader) (size : ℕ) (fills : Bool) (early : Option ℕ) →
     Keeps (pause_of v) (answer_for cx v ip header size fills early)

@@ -5,3 +5,4 @@ pub mod Positions
 pub mod Idle
 pub mod Resets
 pub mod Drawing
+pub mod Holes

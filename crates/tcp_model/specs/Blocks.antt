@@ -4,6 +4,7 @@ use Rattle.std.specs.Prelude.{ℕ, zero, suc, ◌+◌, ◌-◌, ◌*◌, ◌/◌
 use Rattle.ip_wire.specs.IpListenEndpoint.{IpListenEndpoint}
 use Rattle.ip_wire.specs.SeqNumber.{SeqNumber}
 use Rattle.tcp_model.specs.declared.block.Block.{Block}
+use Rattle.tcp_model.specs.declared.block.Loss.{Loss}
 use Rattle.tcp_model.specs.declared.block.Names.{Names}
 use Rattle.tcp_model.specs.declared.block.Peer.{Peer}
 use Rattle.tcp_model.specs.declared.block.Receiver.{Receiver}
@@ -16,6 +17,7 @@ use Rattle.tcp_control.specs.declared.state.State.TheVariants as In
 use Rattle.tcp_control.specs.Offsets.{behind_by}
 use Rattle.tcp_control.specs.Reno as reno
 use Rattle.tcp_control.specs.RoundTrip as round_trip
+use Rattle.tcp_control.specs.Scoreboard.{no_runs}
 use Rattle.tcp_control.specs.States.{owes_fin}
 
 abbrev pub one_if : Bool → ℕ
@@ -84,6 +86,18 @@ fresh_timers = record {
   timeout_since = None;
 }
 
+-- nothing is known of what the remote holds, and nothing went again
+abbrev pub fresh_loss : Loss
+fresh_loss = record {
+  board = record { runs = no_runs };
+  resent = 0;
+  mark = 0;
+  eager = false;
+  probes = false;
+  probed = false;
+  probe_at = None;
+}
+
 -- Nothing is set: the delay of an acknowledgement is 10 milliseconds, a connection gives up after more than three minutes while it is
 -- opened, later after 16 timeouts (3.8.3), and the least retransmission timeout is a second (RFC 6298, 2.4).
 abbrev pub default_settings : Settings
@@ -114,6 +128,7 @@ fresh_block settings = record {
   timers = fresh_timers;
   round_trip = round_trip.with_least settings.min_rto round_trip.fresh;
   reno = reno.fresh;
+  loss = fresh_loss;
   settings = settings;
 }
 

@@ -12,6 +12,7 @@ pub mod Calls
 pub mod Settings
 pub mod Opening
 pub mod Checks
+pub mod LossRecovery
 pub mod Acknowledged
 pub mod Text
 pub mod Answers
@@ -31,6 +32,8 @@ pub mod Unsettled
 pub use Rattle.tcp_control.specs.States
 pub use Rattle.tcp_control.specs.Reno
 pub use Rattle.tcp_control.specs.RoundTrip
+pub use Rattle.tcp_control.specs.Scoreboard
+pub use Rattle.tcp_control.specs.declared.scoreboard.Run
 pub use Rattle.tcp_control.specs.Moments
 pub use Rattle.tcp_control.specs.Offsets
 pub use Rattle.tcp_control.specs.Controls

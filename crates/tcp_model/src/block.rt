@@ -1,5 +1,5 @@
 //! The control block of a connection (RFC 9293, section 3.3.1): all that a socket knows but for its bytes.
-use crate::{EndpointPair, Reno, RoundTrip, State};
+use crate::{EndpointPair, Reno, RoundTrip, Scoreboard, State};
 use ip_wire::{IpListenEndpoint, SeqNumber, TcpTimestampGenerator};
 use net_base::{Duration, Instant};
 
@@ -123,6 +123,26 @@ pub enum CongestionControl {
     Reno,
 }
 
+/// Loss recovery by selective acknowledgements (RFC 6675; RFC 8985). Counts are distances from SND.UNA.
+#[derive(Clone, Copy, Debug, PartialEq, Eq)]
+pub struct Loss {
+    /// What the remote holds.
+    pub board: Scoreboard,
+    /// HighRxt: where what went again in this recovery ends, but for what is held.
+    pub resent: u32,
+    /// The highest position that was sent, and one more, when something last went again.
+    pub mark: u32,
+    /// Whether one run that is held says that what lies before it is lost: a probe went after what isn't
+    /// acknowledged, so the order on the way doesn't explain it.
+    pub eager: bool,
+    /// Whether the last segment that was sent is to go again, as a probe.
+    pub probes: bool,
+    /// Whether a probe went, and nothing new was acknowledged since.
+    pub probed: bool,
+    /// When a probe goes, if nothing new is acknowledged.
+    pub probe_at: Option<Instant>,
+}
+
 /// What the user set. A new connection keeps it.
 #[derive(Clone, Copy, Debug, PartialEq, Eq)]
 pub struct Settings {
@@ -159,6 +179,7 @@ pub struct Block {
     pub timers: Timers,
     pub round_trip: RoundTrip,
     pub reno: Reno,
+    pub loss: Loss,
     pub settings: Settings,
 }
 
@@ -167,6 +188,7 @@ mod checks;
 mod due;
 mod endpoints;
 mod fresh;
+mod loss;
 mod opening;
 mod retries;
 mod rules;

@@ -12,6 +12,7 @@ pub use Rattle.tcp_model.specs.Calls
 pub use Rattle.tcp_model.specs.Checks
 pub use Rattle.tcp_model.specs.Due
 pub use Rattle.tcp_model.specs.Names
+pub use Rattle.tcp_model.specs.LossRecovery
 pub use Rattle.tcp_model.specs.Offers
 pub use Rattle.tcp_model.specs.Probing
 pub use Rattle.tcp_model.specs.Retries

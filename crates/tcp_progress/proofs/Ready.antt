@@ -22,6 +22,7 @@ use Rattle.tcp_pair_model.specs.Acknowledged.{windowed}
 use Rattle.tcp_pair_model.specs.Arrival.{arrives, waiting_anew}
 use Rattle.tcp_pair_model.specs.Calls.{listening, connecting, connected_by, pair_for, sent_more}
 use Rattle.tcp_pair_model.specs.Due.{poll_of}
+use Rattle.tcp_pair_model.specs.LossRecovery.{loss_probed}
 use Rattle.tcp_pair_model.specs.Offers.{offer_of, number_at}
 use Rattle.tcp_pair_model.specs.Retries.{heard, asked, one_more}
 use Rattle.tcp_pair_model.specs.Rules.{backed_off_now, probe_choice, control_for}
@@ -219,6 +220,7 @@ module _ (cx : ContextValue) (v : TcpValue) (n : Named v) where
         falls = λ _ _ _. (λ _ listens. clash listens, λ _ listens. clash listens);
         over = λ _ _ _. (λ closed _. clash closed, λ closed _. clash closed);
         backs = λ pair _ _ _. named_first pair (backed_off_now (begun cx v)) refl refl;
+        probes = λ pair _ _ _ _. named_first pair (loss_probed (begun cx v)) refl refl;
         goes = λ pair _ _ _. named_first pair (begun cx v) refl refl;
       })
 

@@ -20,13 +20,15 @@ use Rattle.tcp_rules.specs.State.TheVariants as In
 use Rattle.tcp_law.specs.ReceiveMap.{store, front}
 use Rattle.tcp_pair_model.specs.Acknowledged.{acknowledged, acks_fin, state_after_ack, names_window, windowed, duplicates_after}
 use Rattle.tcp_pair_model.specs.Answers.{drawn, may_draw, with_draw, acked, answer_for, delayed, sooner, ack_moment_after}
-use Rattle.tcp_pair_model.specs.Arrival.{arrives, checked, inside, taken, continued, told, with_content, finished, passed_outside, outside, tells_news, waiting_anew}
+use Rattle.tcp_pair_model.specs.Arrival.{arrives, checked, inside, taken, continued, told, with_content, finished, passed_outside}
+use Rattle.tcp_pair_model.specs.Arrival.{outside, tells_news, waiting_anew}
 use Rattle.tcp_pair_model.specs.Checks.{is_in_window, lies_before}
 use Rattle.tcp_pair_model.specs.Checks.Check.{Passes}
 use Rattle.tcp_pair_model.specs.Probing.{probe_kept}
 use Rattle.tcp_pair_model.specs.Segments.{no_ranges, segment_len, reply_to, sack_segment, hops_of}
 use Rattle.tcp_rules.specs.Endpoints.{pair_in}
-use Rattle.tcp_pair_model.specs.Text.{Texted, texted, with_text, with_text_at, with_bytes_at, taken_in_order, is_holding, laid, has_new_text, takes_fin, fin_taken}
+use Rattle.tcp_pair_model.specs.Text.{Texted, texted, with_text, with_text_at, with_bytes_at, taken_in_order, is_holding}
+use Rattle.tcp_pair_model.specs.Text.{laid, has_new_text, takes_fin, fin_taken}
 use Rattle.tcp_pair_model.specs.Value.{TcpValue, Received, Arrived, with_block, dropped, unoffered, queued_in, free_in, room_of, window_of}
 use Rattle.tcp_pair_model.specs.Block.{Block}
 use Rattle.tcp_pair_model.specs.Receiver.{Receiver}

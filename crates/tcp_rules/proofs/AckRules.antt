@@ -286,6 +286,7 @@ module _ (cx : ContextValue) (v : TcpValue) (t : ℤ) (due : IsDueBy t v.block) 
     falls = λ _ _ _. kept_silent true (listening (unoffered v) v.block.names.listen) refl (inl refl);
     over = λ _ _ _. kept_silent true (with_block (unoffered v) (timed_out v.block)) refl (inl refl);
     backs = λ pair _ _ _. kept_first pair _ refl due;
+    probes = λ pair _ _ _ _. kept_first pair _ refl due;
     goes = λ pair _ _ _. kept_first pair _ refl due;
   }
 
@@ -392,6 +393,7 @@ module _ (cx : ContextValue) (v : TcpValue) (heard : v.block.receiver.took_syn �
     falls = λ _ over _. absurd (let clash : true ≡ false = sym over ∙ on.tries in cc);
     over = λ _ over _. absurd (let clash : true ≡ false = sym over ∙ on.tries in cc);
     backs = λ pair _ _ _. goes_first pair _ refl is_owed;
+    probes = λ pair _ _ _ _. goes_first pair _ refl is_owed;
     goes = λ pair _ _ _. goes_first pair _ refl is_owed;
   }
 

@@ -90,7 +90,7 @@ timed now header u by = echo_heard u header by now
 abbrev pub heeded : ℤ → TcpHeader → ℕ → TcpValue → ℕ → Block → TcpValue
 heeded now header size u by b =
     with_block (acked_open (timed now header u by) by now)
-    (timeout_restarted (counted (ranges_taken (stamp_taken b header now) header) (duplicates_after u.block header size by)) now
+    (timeout_restarted (counted (ranges_taken (stamp_taken b header now) header now) (duplicates_after u.block header size by)) now
     (queued_in (acked_open (timed now header u by) by now)))
 
 module _ (cx : ContextValue) (ip : IpRepr) (header : TcpHeader) (bytes : List ℕ) (Q : Arrived → Type 0) where
@@ -213,7 +213,7 @@ module _ (cx : ContextValue) (ip : IpRepr) (header : TcpHeader) (bytes : List �
       (λ f. c.ordered_fin map (store-length x.received.map place rest) (fin_parts x.block (length (front map)) f).0 takes)
       (c.ordered map (store-length x.received.map place rest) takes (some_bytes (before_by x.block.receiver.next header.seq_number) bytes some)))
       (λ past.
-      cond_both (nat_le (length (runs_of map)) 4) (texted (held x map) 0 false (Some place)) (texted x 0 false None) (Finishing x.block)
+      cond_both (nat_le (length (runs_of map)) 16) (texted (held x map) 0 false (Some place)) (texted x 0 false None) (Finishing x.block)
       (λ _. by_early x map place past (c.early map place (store-length x.received.map place rest) takes))
       (λ _. plain)))
       (λ _. plain)

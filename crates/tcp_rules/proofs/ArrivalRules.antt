@@ -82,7 +82,7 @@ module _ (cx : ContextValue) (ip : IpRepr) (header : TcpHeader) where
       cond_both (place == 0) (taken_in_order v (laid v place bytes)) (held_early v place (laid v place bytes)) (λ (t : Texted). Leaves v.block t.socket.block)
       (λ _. (refl, refl))
       (λ _.
-      cond_both (nat_le (length (runs_of (laid v place bytes))) 4)
+      cond_both (nat_le (length (runs_of (laid v place bytes))) 16)
       (texted (record v { received = received_of v.received.waiting (laid v place bytes) v.received.start }) 0 false (Some place)) (texted v 0 false None)
       (λ (t : Texted). Leaves v.block t.socket.block)
       (λ _. (refl, refl))
@@ -114,7 +114,7 @@ module _ (cx : ContextValue) (ip : IpRepr) (header : TcpHeader) where
   told_leaves : (w : TcpValue) (duplicates : ℕ) → Leaves w.block (told w header duplicates cx.moment).block
   told_leaves w duplicates =
       cond_both (names_window w.block header) (windowed w.block header) w.block
-      (λ (b : Block). Leaves w.block (timeout_restarted (counted (ranges_taken (stamp_taken b header cx.moment) header) duplicates) cx.moment (queued_in w)))
+      (λ (b : Block). Leaves w.block (timeout_restarted (counted (ranges_taken (stamp_taken b header cx.moment) header cx.moment) duplicates) cx.moment (queued_in w)))
       (λ _. (refl, refl))
       (λ _. (refl, refl))
 

@@ -32,6 +32,7 @@ use Rattle.tcp_model.specs.Blocks.{forgotten, nowhere, own_scale, shift_of, is_w
 use Rattle.tcp_model.specs.Calls.{listening, connecting, connected_by, pair_for, sent_more, recv_after}
 use Rattle.tcp_model.specs.Offers.{offer_of, offer_syn, offer_choice, offer_ack, offer_reset, offer_keep_alive, silent, number_at}
 use Rattle.tcp_model.specs.Opening.{answering, connected, crossed}
+use Rattle.tcp_model.specs.LossRecovery.{loss_probed}
 use Rattle.tcp_model.specs.Retries.{heard, asked, one_more}
 use Rattle.tcp_model.specs.Rules.{Choice, control_for, owes_syn, probe_choice, text_choice, resend_choice, backed_off_now}
 use Rattle.tcp_model.specs.Segments.{no_ranges, segment, ack_segment, syn_segment, reset_segment, keep_alive_segment, reset_for}
@@ -385,6 +386,7 @@ module _ (capacity f : ℕ) (cx : ContextValue) (v : TcpValue) where
     falls = λ _ _ _. (fallen, fallen);
     over = λ _ _ _. (closed_out (timed_out v.block) p refl refl, closed_out (timed_out v.block) p refl refl);
     backs = λ pair _ _ _. edge_first (with_block (unoffered v) (backed_off_now (begun cx v))) pair refl p (backed_order (sending_of v) order);
+    probes = λ pair _ _ _ _. edge_first (with_block (unoffered v) (loss_probed (begun cx v))) pair refl p order;
     goes = λ pair _ _ _. edge_first (with_block (unoffered v) (begun cx v)) pair refl p order;
   }
     where

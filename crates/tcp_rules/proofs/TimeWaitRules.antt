@@ -22,6 +22,7 @@ use Rattle.tcp_model.specs.Arrival.{arrives}
 use Rattle.tcp_model.specs.Calls.{listening, connected_by, pair_for, sent_more}
 use Rattle.tcp_model.specs.Offers.{offer_of, offer_with, offer_reset, first_rules, backed_off, silent}
 use Rattle.tcp_model.specs.Probing.{probe_moment, is_probing, is_window_small}
+use Rattle.tcp_model.specs.LossRecovery.{loss_probed}
 use Rattle.tcp_model.specs.Retries.{asked, one_more, reaches, retries_of, is_last_timeout, is_last_question, gives_up, given_up}
 use Rattle.tcp_model.specs.Rules.{time_wait_end, keep_alive_moment, has_text, owes_syn, resends, updates_window}
 use Rattle.tcp_model.specs.Settled.{settled, sent_off, sent_as, recorded, probed, end_of}
@@ -191,6 +192,7 @@ module _ (cx : ContextValue) where
     falls = λ _ gives _. no_giving v at none gives;
     over = λ _ gives _. no_giving v at none gives;
     backs = λ _ _ _ due. clash (sym due ∙ ap (is_due cx.moment) none);
+    probes = λ pair _ _ _ _. waits_first pair (with_block (unoffered v) (loss_probed (begun cx v))) refl at;
     goes = λ pair _ _ _. waits_first pair (with_block (unoffered v) (begun cx v)) refl at;
   }
     where

@@ -29,6 +29,8 @@ use Rattle.tcp_model.specs.Calls.{listening, connected_by, pair_for, sent_more}
 use Rattle.tcp_model.specs.Offers.{offer_of, offer_choice, offer_syn, number_at}
 use Rattle.tcp_model.specs.Opening.{took_syn}
 use Rattle.tcp_model.specs.Probing.{is_window_small, is_probing, probe_moment}
+use Rattle.tcp_control.specs.Scoreboard.{first_missing}
+use Rattle.tcp_model.specs.LossRecovery.{loss_probed}
 use Rattle.tcp_model.specs.Retries.{asked, one_more}
 use Rattle.tcp_model.specs.Rules.{backed_off_now, owes_syn, probe_choice, text_choice, resend_choice, control_for}
 use Rattle.tcp_model.specs.Settled.{settled, sent_off, sent_as, recorded, probed, end_of}
@@ -109,32 +111,39 @@ acked_right : (b : Block) (by : ℕ) (now : ℤ) (state : State) → IsTimedRigh
     → IsTimedRight (record { state = state; sample = (round_trip_after b by now).sample; in_flight = b.sender.in_flight - by; top = b.sender.top - by })
 acked_right b by now state t not = right _ (acked_in b by now t.timed) (less_sent b.sender.in_flight b.sender.top by t.sent) not
 
--- a segment goes that ends there
-timing_in : (r : RoundTripValue) (flight top end : ℕ) (now : ℤ) → In_flight flight r.sample
-    → In_flight (max flight end) (if nat_lt top end then round_trip.timing r end now else r).sample
-timing_in r flight top end now t =
-    cond_both (nat_lt top end) (round_trip.timing r end now) r (λ (x : RoundTripValue). In_flight (max flight end) x.sample)
+-- a segment goes that ends there, and SND.NXT reaches no less far
+timing_in : (r : RoundTripValue) (flight top end reach : ℕ) (now : ℤ) → end ≤ reach → In_flight flight r.sample
+    → In_flight (max flight reach) (if nat_lt top end then round_trip.timing r end now else r).sample
+timing_in r flight top end reach now near t =
+    cond_both (nat_lt top end) (round_trip.timing r end now) r (λ (x : RoundTripValue). In_flight (max flight reach) x.sample)
     (λ past. begins r.sample refl t (ltb-true top end past))
     (λ _. longer r.sample t)
   where
-    longer : (sample : Option Sample) → In_flight flight sample → In_flight (max flight end) sample
+    longer : (sample : Option Sample) → In_flight flight sample → In_flight (max flight reach) sample
     longer None e = tt
-    longer (Some s) e = (e.0, at_most s.ends flight end e.1) where
+    longer (Some s) e = (e.0, at_most s.ends flight reach e.1) where
       at_most : (a b c : ℕ) → a ≤ b → a ≤ max b c
       at_most a b c e = omega arith
 
     begins : (sample : Option Sample) → r.sample ≡ sample → In_flight flight sample → top < end →
-        In_flight (max flight end) (round_trip.timing_with r end now sample).sample
-    begins None e t past = (some top end past, own flight end) where
+        In_flight (max flight reach) (round_trip.timing_with r end now sample).sample
+    begins None e t past = (some top end past, own flight end reach near) where
       some : (a b : ℕ) → a < b → 1 ≤ b
       some a b e = omega arith
 
-      own : (a b : ℕ) → b ≤ max a b
-      own a b = omega arith
-    begins (Some s) e t past = subst (In_flight (max flight end)) (sym e) (longer (Some s) t)
+      own : (a b c : ℕ) → b ≤ c → b ≤ max a c
+      own a b c e = omega arith
+    begins (Some s) e t past = subst (In_flight (max flight reach)) (sym e) (longer (Some s) t)
 
-larger_sent : (flight top end : ℕ) → flight ≤ top → max flight end ≤ max top end
-larger_sent flight top end e = omega arith
+larger_sent : (flight top end reach : ℕ) → flight ≤ top → reach ≤ max top end → max flight reach ≤ max top end
+larger_sent flight top end reach e f = omega arith
+
+-- past what is held SND.NXT lies past the segment, and no further than what was sent
+reach_low : (end missing top all : ℕ) → end ≤ max end (min missing (min top all))
+reach_low end missing top all = omega arith
+
+reach_high : (end missing top all : ℕ) → max end (min missing (min top all)) ≤ max top end
+reach_high end missing top all = omega arith
 
 raised : (flight top end : ℕ) → flight ≤ top → flight ≤ max top end
 raised flight top end e = omega arith
@@ -148,25 +157,32 @@ asked_right b now t =
     })
     b (λ (c : Block). IsTimedRight (timing_of c)) (λ _. t) (λ _. t)
 
-went_right : (r : RoundTripValue) (state : State) (flight top end : ℕ) (now : ℤ) → In_flight flight r.sample → flight ≤ top →
+went_right : (r : RoundTripValue) (state : State) (flight top end missing all : ℕ) (now : ℤ) → In_flight flight r.sample → flight ≤ top →
     (is_listening state ≡ true → r.sample ≡ None)
     → is_listening state ≡ false
     → IsTimedRight (record {
       state = state;
       sample = (if nat_lt top end then round_trip.timing r end now else r).sample;
-      in_flight = max flight end;
+      in_flight = max flight (max end (min missing (min top all)));
       top =
           max top end;
     })
-went_right r state flight top end now t sent listens not = right _ (timing_in r flight top end now t) (larger_sent flight top end sent) not
+went_right r state flight top end missing all now t sent listens not =
+    right _ (timing_in r flight top end (max end (min missing (min top all))) now (reach_low end missing top all) t)
+    (larger_sent flight top end (max end (min missing (min top all))) sent (reach_high end missing top all)) not
 
 sent_right : (kind : OfferKind) (b : Block) (o : OpenOffer) (queued : ℕ) → is_listening b.state ≡ false → IsTimedRight (timing_of b) →
     IsTimedRight (timing_of (sent_as kind b o queued))
 sent_right Kind.Reset b o queued not t = right _ t.timed t.sent refl
-sent_right Kind.Syn b o queued not t = went_right b.round_trip b.state b.sender.in_flight b.sender.top (end_of b o) o.moment t.timed t.sent t.listens not
+sent_right Kind.Syn b o queued not t =
+    went_right b.round_trip b.state b.sender.in_flight b.sender.top (end_of b o) (first_missing b.loss.board.runs (end_of b o))
+    (one_if b.sender.syn_unacked + queued) o.moment t.timed t.sent t.listens not
 sent_right Kind.FastRetransmission b o queued not t =
-    went_right (round_trip.untimed b.round_trip) b.state b.sender.in_flight b.sender.top (end_of b o) o.moment tt t.sent (λ _. refl) not
-sent_right Kind.Text b o queued not t = went_right b.round_trip b.state b.sender.in_flight b.sender.top (end_of b o) o.moment t.timed t.sent t.listens not
+    went_right (round_trip.untimed b.round_trip) b.state b.sender.in_flight b.sender.top (end_of b o) (first_missing b.loss.board.runs (end_of b o))
+    (one_if b.sender.syn_unacked + queued) o.moment tt t.sent (λ _. refl) not
+sent_right Kind.Text b o queued not t =
+    went_right b.round_trip b.state b.sender.in_flight b.sender.top (end_of b o) (first_missing b.loss.board.runs (end_of b o))
+    (one_if b.sender.syn_unacked + queued) o.moment t.timed t.sent t.listens not
 sent_right Kind.Probe b o queued not t =
     asked_right (probed b (end_of b o) o.moment) o.moment (right _ t.timed (raised b.sender.in_flight b.sender.top (end_of b o) t.sent) not)
 sent_right Kind.KeepAlive b o queued not t = asked_right b o.moment t
@@ -266,6 +282,7 @@ module _ (cx : ContextValue) where
               λ _. refl;
         })
         (unnamed v pair p named);
+    probes = λ pair named _ _ _. right_first pair (with_block (unoffered v) (loss_probed (begun cx v))) t (unnamed v pair p named);
     goes = λ pair named _ _. right_first pair (with_block (unoffered v) (begun cx v)) t (unnamed v pair p named);
   }
     where
@@ -514,6 +531,7 @@ past_rules cx v t = record {
         listens =
             λ _. refl;
       });
+  probes = λ pair _ _ _ _. past_first cx pair (with_block (unoffered v) (loss_probed (begun cx v))) refl t;
   goes = λ pair _ _ _. past_first cx pair (with_block (unoffered v) (begun cx v)) refl t;
 }
   where

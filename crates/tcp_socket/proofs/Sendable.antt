@@ -22,6 +22,7 @@ use Rattle.tcp_model.specs.Probing.{probe_started, probe_moment}
 use Rattle.tcp_model.specs.Calls.{listening}
 use Rattle.tcp_model.specs.Checks.{falls_back}
 use Rattle.tcp_model.specs.Retries.{gives_up, given_up}
+use Rattle.tcp_model.specs.LossRecovery.{again_place, hole_len}
 use Rattle.tcp_model.specs.Rules.{Choice, unbroken, stamp_len, size_limit, window_limit, next_place, time_wait_end, owes_syn, resends, ack_moment, has_text}
 use Rattle.tcp_model.specs.Rules.{text_choice, resend_choice, probe_choice, control_for, updates_window, keep_alive_moment, sent_places}
 use Rattle.tcp_model.specs.Segments.{stamp_by, segment, ack_segment, syn_segment, reset_segment, keep_alive_segment, hops_of}
@@ -184,7 +185,9 @@ fits_text cx v pair =
 fits_resent : (cx : ContextValue) (v : TcpValue) (pair : EndpointPair) →
     Fits (offer_choice Kind.FastRetransmission cx v pair (resend_choice v.block pair.addresses cx.ip_mtu v.queued)).socket
 fits_resent cx v pair =
-    let len = min (sent_places v.block) (min (size_limit v.block pair.addresses cx.ip_mtu) (unbroken v.queued 0)) in
+    let limit = size_limit v.block pair.addresses cx.ip_mtu in
+    let place = again_place v.block limit (sent_places v.block) (queued_in v) in
+    let len = min (hole_len v.block place (sent_places v.block)) (min limit (unbroken v.queued place)) in
     fits_choice Kind.FastRetransmission cx v pair (resend_choice v.block pair.addresses cx.ip_mtu v.queued) refl (omega arith)
     (fits_limit v.block pair.addresses cx.ip_mtu len (omega arith))
 

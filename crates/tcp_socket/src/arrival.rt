@@ -424,7 +424,7 @@ impl Socket {
         ensures { self.new ≡ told self.old header.now duplicates now }
     {
         self.block.set_window(header, now);
-        self.block.take_ranges(header);
+        self.block.take_ranges(header, now);
         self.block.count(duplicates);
         self.block.restart_timeout(now, self.queued.len());
     }

@@ -26,7 +26,8 @@ use Rattle.tcp_model.specs.Controls.{is_syn, is_rst}
 use Rattle.tcp_model.specs.Endpoints.{ip_header_len, pair_in}
 use Rattle.tcp_model.specs.Offsets.{past_by, before_by, meets_window}
 use Rattle.tcp_model.specs.Opening.{is_first_syn, opens, answering, takes_answer, acks_syn, syn_answered}
-use Rattle.tcp_model.specs.Rules.{text_choice, resend_choice, stamp_len, size_limit, window_limit, congestion_limit, unbroken, next_place, beyond, sent_places}
+use Rattle.tcp_model.specs.LossRecovery.{again_place, hole_len}
+use Rattle.tcp_model.specs.Rules.{text_choice, resend_choice, stamp_len, size_limit, window_limit, congestion_limit, unbroken, next_place, congestion_room, sent_places}
 use Rattle.tcp_model.specs.Segments.{no_ranges, segment_len, rst_reply}
 use Rattle.tcp_model.specs.States.{is_time_wait}
 use Rattle.tcp_model.specs.Timeout.{timeout_restarted}
@@ -249,23 +250,26 @@ module _ (b : Block) (addresses : AddressPair) (mtu : ℕ) (queued : Ring ℕ) w
 
   pub text_in_window : (text_choice b addresses mtu queued).len ≤ b.peer.window - b.sender.in_flight
   text_in_window =
-      below_parts _ _ _ (lowered b.settings.congestion_control (b.reno.cwnd + beyond b - b.sender.in_flight) (min (b.peer.window - b.sender.in_flight) size))
+      below_parts _ _ _ (lowered b.settings.congestion_control (congestion_room b) (min (b.peer.window - b.sender.in_flight) size))
       (min_both (b.peer.window - b.sender.in_flight) size).0
 
   pub text_in_congestion : b.settings.congestion_control ≡ Congestion.Reno →
-      (text_choice b addresses mtu queued).len ≤ b.reno.cwnd + beyond b - b.sender.in_flight
-  text_in_congestion e = reno_limit b.settings.congestion_control (b.reno.cwnd + beyond b - b.sender.in_flight)
+      (text_choice b addresses mtu queued).len ≤ congestion_room b
+  text_in_congestion e = reno_limit b.settings.congestion_control (congestion_room b)
       (min (b.peer.window - b.sender.in_flight) size) e
 
   text_in_size : (text_choice b addresses mtu queued).len ≤ size_limit b addresses mtu
   text_in_size =
-      below_parts _ _ _ (lowered b.settings.congestion_control (b.reno.cwnd + beyond b - b.sender.in_flight) (min (b.peer.window - b.sender.in_flight) size))
+      below_parts _ _ _ (lowered b.settings.congestion_control (congestion_room b) (min (b.peer.window - b.sender.in_flight) size))
       (below_parts _ _ _ (min_both (b.peer.window - b.sender.in_flight) size).1 (min_both (size_limit b addresses mtu) (unbroken queued (next_place b))).0)
 
   again_in_size : (resend_choice b addresses mtu queued).len ≤ size_limit b addresses mtu
   again_in_size =
-      below_parts _ _ _ (min_both (sent_places b) (min (size_limit b addresses mtu) (unbroken queued 0))).1
-      (min_both (size_limit b addresses mtu) (unbroken queued 0)).0
+      below_parts _ _ _ (min_both (hole_len b again (sent_places b)) (min (size_limit b addresses mtu) (unbroken queued again))).1
+      (min_both (size_limit b addresses mtu) (unbroken queued again)).0
+    where
+      again : ℕ
+      again = again_place b (size_limit b addresses mtu) (sent_places b) (length queued.queue)
 
   size_in_mss : size_limit b addresses mtu ≤ max 1 (b.peer.mss - stamp_len b)
   size_in_mss = omega arith
@@ -284,3 +288,5 @@ module _ (b : Block) (addresses : AddressPair) (mtu : ℕ) (queued : Ring ℕ) w
 
   pub again_in_packet : (resend_choice b addresses mtu queued).len ≤ max 1 (mtu - (ip_header_len addresses + 20 + stamp_len b))
   again_in_packet = below_parts _ _ _ again_in_size size_in_packet
+
+pub ruleset text_fits = (text_in_window, text_in_congestion, text_in_mss, text_in_packet, again_in_mss, again_in_packet)

@@ -88,7 +88,7 @@ neither false b e = e
 told_core : (v : TcpValue) (header : TcpHeader) (duplicates : ℕ) (now : ℤ) → core_of (told v header duplicates now) ≡ core_of v
 told_core v header duplicates now =
     cond_both (names_window v.block header) (windowed v.block header) v.block
-    (λ (b : Block). core_of (with_block v (timeout_restarted (counted (ranges_taken (stamp_taken b header now) header) duplicates) now (queued_in v))) ≡ core_of v)
+    (λ (b : Block). core_of (with_block v (timeout_restarted (counted (ranges_taken (stamp_taken b header now) header now) duplicates) now (queued_in v))) ≡ core_of v)
     (λ _. refl)
     (λ _. refl)
 

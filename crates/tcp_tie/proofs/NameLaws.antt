@@ -242,7 +242,7 @@ module _ (cx : ContextValue) (ip : IpRepr) (header : TcpHeader) where
       cond_both (place == 0) (taken_in_order v (laid v place bytes)) (held_early v place (laid v place bytes)) (λ (t : Texted). Stays v.block t.socket.block)
       (λ _. (refl, refl))
       (λ _.
-      cond_both (nat_le (length (runs_of (laid v place bytes))) 4)
+      cond_both (nat_le (length (runs_of (laid v place bytes))) 16)
       (texted (record v { received = received_of v.received.waiting (laid v place bytes) v.received.start }) 0 false (Some place)) (texted v 0 false None)
       (λ (t : Texted). Stays v.block t.socket.block)
       (λ _. (refl, refl))
@@ -306,7 +306,7 @@ module _ (cx : ContextValue) (ip : IpRepr) (header : TcpHeader) where
   told_stays : (w : TcpValue) (duplicates : ℕ) → Stays w.block (told w header duplicates cx.moment).block
   told_stays w duplicates =
       cond_both (names_window w.block header) (windowed w.block header) w.block
-      (λ (b : Block). Stays w.block (timeout_restarted (counted (ranges_taken (stamp_taken b header cx.moment) header) duplicates) cx.moment (queued_in w)))
+      (λ (b : Block). Stays w.block (timeout_restarted (counted (ranges_taken (stamp_taken b header cx.moment) header cx.moment) duplicates) cx.moment (queued_in w)))
       (λ _. (refl, refl))
       (λ _. (refl, refl))
 
@@ -807,3 +807,5 @@ nameless_drops cx v ip header bytes n =
 
 pub nameless_silent : (cx : ContextValue) (v : TcpValue) → IsNameless v.block → offer_of cx v ≡ offered_as (Answer.Silent false) (unoffered v)
 nameless_silent cx v n = ap (λ (names : Option EndpointPair). offer_with names cx (unoffered v)) n.pair
+
+pub ruleset port_laws = (ports_listening, ports_connecting, ports_same, ports_close, ports_abort, ports_arrival, ports_sent, ports_withheld)

@@ -1,11 +1,11 @@
 -- When what a TCP socket goes by is equal.
-use Rattle.std.proofs.Common.{rules, ◌≡◌, ℕ, ℤ, Bool, List, Option, ap, ap₂}
+use Rattle.std.proofs.Common.{rules, ◌≡◌, ℕ, ℤ, Bool, List, Option, refl, ap, ap₂}
 use Rattle.std.specs.Prelude.{◌==◌}
 use Rattle.std.specs.Ordering.{int_eq}
 use Rattle.std.specs.Bool.{Decides}
 use Rattle.std.specs.Cmp.{booleans_Decides}
 use Rattle.std.proofs.lemmas.Bool.Decides.{Decides-and, Decides-eqb, Decides-int_eq}
-use Rattle.std.proofs.lemmas.Slice.Eq.{bytes_eq-Decides}
+use Rattle.std.proofs.lemmas.Slice.Eq.{bytes_eq-Decides, slice_eq-Decides}
 use Rattle.ip_packet.proofs.Equal.{Decides-ip}
 use Rattle.ip_tcp.proofs.Equal.{both, Decides-header, Decides-number, Decides-option}
 use Rattle.ip_address.specs.contracts.ip.IpAddressPartialEq.TheImpl as Address
@@ -24,6 +24,8 @@ use Rattle.tcp_control.specs.contracts.reno.RenoPartialEq.TheImpl as Window
 use Rattle.tcp_control.specs.contracts.round_trip.EstimatePartialEq.TheImpl as Estimated
 use Rattle.tcp_control.specs.contracts.round_trip.RoundTripPartialEq.TheImpl as Trip
 use Rattle.tcp_control.specs.contracts.round_trip.SamplePartialEq.TheImpl as Sampled
+use Rattle.tcp_control.specs.contracts.scoreboard.RunPartialEq.TheImpl as Ran
+use Rattle.tcp_control.specs.contracts.scoreboard.ScoreboardPartialEq.TheImpl as Board
 use Rattle.tcp_control.specs.contracts.state.StatePartialEq.TheImpl as States
 use Rattle.tcp_control.specs.declared.endpoints.AddressPair.{AddressPair}
 use Rattle.tcp_control.specs.declared.endpoints.AddressPair.TheVariants as Both
@@ -33,11 +35,14 @@ use Rattle.tcp_control.specs.declared.offer.OpenOffer.{OpenOffer}
 use Rattle.tcp_control.specs.declared.offer.Reply.{Reply}
 use Rattle.tcp_control.specs.declared.round_trip.Estimate.{Estimate}
 use Rattle.tcp_control.specs.declared.round_trip.Sample.{Sample}
+use Rattle.tcp_control.specs.declared.scoreboard.Run.{Run}
+use Rattle.tcp_control.specs.declared.scoreboard.Scoreboard.{Scoreboard}
 use Rattle.tcp_control.specs.declared.state.State.{State}
 use Rattle.tcp_control.specs.Reno.{RenoValue}
 use Rattle.tcp_control.specs.RoundTrip.{RoundTripValue}
 use Rattle.tcp_model.specs.contracts.block.BlockPartialEq.TheImpl as Blocks
 use Rattle.tcp_model.specs.contracts.block.CongestionControlPartialEq.TheImpl as Congestion
+use Rattle.tcp_model.specs.contracts.block.LossPartialEq.TheImpl as Lost
 use Rattle.tcp_model.specs.contracts.block.NamesPartialEq.TheImpl as Named
 use Rattle.tcp_model.specs.contracts.block.PeerPartialEq.TheImpl as Remote
 use Rattle.tcp_model.specs.contracts.block.ReceiverPartialEq.TheImpl as Receiving
@@ -49,6 +54,7 @@ use Rattle.tcp_model.specs.contracts.block.checks.VerdictPartialEq.TheImpl as Ju
 use Rattle.tcp_model.specs.contracts.block.rules.PartPartialEq.TheImpl as Parted
 use Rattle.tcp_model.specs.declared.block.Block.{Block}
 use Rattle.tcp_model.specs.declared.block.CongestionControl.{CongestionControl}
+use Rattle.tcp_model.specs.declared.block.Loss.{Loss}
 use Rattle.tcp_model.specs.declared.block.Names.{Names}
 use Rattle.tcp_model.specs.declared.block.Peer.{Peer}
 use Rattle.tcp_model.specs.declared.block.Receiver.{Receiver}
@@ -399,10 +405,52 @@ Decides-settings a b =
           (both (ap (λ (v : Settings). v.opening_retries) e) (both (ap (λ (v : Settings). v.retries) e) (ap (λ (v : Settings). v.min_rto) e)))))))))))),
     )
 
+pub Decides-run : (a b : Run) → Decides (Ran.ghosts.eq a b) (a ≡ b)
+Decides-run a b =
+    let all = Decides-and _ _ (Decides-eqb a.start b.start) (Decides-eqb a.end b.end) in (
+      λ yes.
+          let parts = all.0 yes in
+          λ i. record { start = parts.0 i; end = parts.1 i },
+      λ e. all.1 (both (ap (λ (v : Run). v.start) e) (ap (λ (v : Run). v.end) e)),
+    )
+
+pub Decides-scoreboard : (a b : Scoreboard) → Decides (Board.ghosts.eq a b) (a ≡ b)
+Decides-scoreboard a b =
+    let all = slice_eq-Decides {E = λ x y. Ran.ghosts.eq x y} Decides-run a.runs b.runs (Board.ghosts.eq a b) refl in
+    (λ yes. λ i. record { runs = all.0 yes i }, λ e. all.1 (ap (λ (v : Scoreboard). v.runs) e))
+
+pub Decides-loss : (a b : Loss) → Decides (Lost.ghosts.eq a b) (a ≡ b)
+Decides-loss a b =
+    let from_probed =
+    Decides-and _ _ (booleans_Decides a.probed b.probed) (Decides-option (λ (x y : ℤ). int_eq x y) Decides-int_eq a.probe_at b.probe_at) in
+    let from_probes = Decides-and _ _ (booleans_Decides a.probes b.probes) (from_probed) in
+    let from_eager = Decides-and _ _ (booleans_Decides a.eager b.eager) (from_probes) in
+    let from_mark = Decides-and _ _ (Decides-eqb a.mark b.mark) (from_eager) in
+    let from_resent = Decides-and _ _ (Decides-eqb a.resent b.resent) (from_mark) in
+    let all = Decides-and _ _ (Decides-scoreboard a.board b.board) (from_resent) in (
+      λ yes.
+          let parts = all.0 yes in
+          λ i. record {
+            board = parts.0 i;
+            resent = parts.1.0 i;
+            mark = parts.1.1.0 i;
+            eager = parts.1.1.1.0 i;
+            probes = parts.1.1.1.1.0 i;
+            probed = parts.1.1.1.1.1.0 i;
+            probe_at = parts.1.1.1.1.1.1 i;
+          },
+      λ e. all.1 (both (ap (λ (v : Loss). v.board) e)
+          (both (ap (λ (v : Loss). v.resent) e)
+          (both (ap (λ (v : Loss). v.mark) e)
+          (both (ap (λ (v : Loss). v.eager) e)
+          (both (ap (λ (v : Loss). v.probes) e) (both (ap (λ (v : Loss). v.probed) e) (ap (λ (v : Loss). v.probe_at) e))))))),
+    )
+
 -- the control block is compared whole
 pub Decides-block : (a b : Block) → Decides (Blocks.ghosts.eq a b) (a ≡ b)
 Decides-block a b =
-    let from_reno = Decides-and _ _ (Decides-reno a.reno b.reno) (Decides-settings a.settings b.settings) in
+    let from_loss = Decides-and _ _ (Decides-loss a.loss b.loss) (Decides-settings a.settings b.settings) in
+    let from_reno = Decides-and _ _ (Decides-reno a.reno b.reno) (from_loss) in
     let from_round_trip = Decides-and _ _ (Decides-round_trip a.round_trip b.round_trip) (from_reno) in
     let from_timers = Decides-and _ _ (Decides-timers a.timers b.timers) (from_round_trip) in
     let from_stamps = Decides-and _ _ (Decides-stamps a.stamps b.stamps) (from_timers) in
@@ -423,6 +471,7 @@ Decides-block a b =
             timers = parts.1.1.1.1.1.1.0 i;
             round_trip = parts.1.1.1.1.1.1.1.0 i;
             reno = parts.1.1.1.1.1.1.1.1.0 i;
+            loss = parts.1.1.1.1.1.1.1.1.0 i;
             settings = parts.1.1.1.1.1.1.1.1.1 i;
           },
       λ e. all.1 (both (ap (λ (v : Block). v.state) e)
@@ -432,9 +481,8 @@ Decides-block a b =
           (both (ap (λ (v : Block). v.peer) e)
           (both (ap (λ (v : Block). v.stamps) e)
           (both (ap (λ (v : Block). v.timers) e)
-          (both (ap (λ (v : Block). v.round_trip) e)
-          (both (ap (λ (v : Block). v.reno) e)
-          (ap (λ (v : Block). v.settings) e)))))))))),
+          (both (ap (λ (v : Block). v.round_trip) e) (both (ap (λ (v : Block). v.reno) e)
+          (both (ap (λ (v : Block). v.loss) e) (ap (λ (v : Block). v.settings) e))))))))))),
     )
 
 pub Decides-verdict : (a b : Verdict) → Decides (Judged.ghosts.eq a b) (a ≡ b)

@@ -4,8 +4,8 @@ ghost use Rattle.tcp_model.specs.Blocks.{default_settings, fresh_sender, fresh_b
 ghost use Rattle.tcp_model.specs.Blocks.{own_shift, window_field, told_of, least_step, is_worth_telling, edge_after, announced};
 
 use crate::{
-    Block, CongestionControl, Names, Peer, Receiver, Reno, RoundTrip, Sender, Settings, Stamps,
-    State, Timers,
+    Block, CongestionControl, Loss, Names, Peer, Receiver, Reno, RoundTrip, Sender, Settings,
+    Stamps, State, Timers,
 };
 use ip_wire::{IpListenEndpoint, MAX_WINDOW_SCALE, SeqNumber};
 use net_base::Duration;
@@ -131,6 +131,7 @@ impl Block {
             },
             round_trip,
             reno: Reno::new(),
+            loss: Loss::NONE,
             settings,
         }
     }
