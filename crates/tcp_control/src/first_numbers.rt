@@ -8,8 +8,7 @@ ghost use Rattle.socket_base.specs.Context.{ContextValue};
 ghost use Rattle.tcp_control.specs.SipHash.{padded, words_of, sip_hash};
 ghost use Rattle.tcp_control.specs.FirstNumbers.{message_of, ticks_of, number_of, keyed_number, first_number, draws_number};
 
-use crate::sip_hash::sip_hash;
-use crate::{AddressPair, EndpointPair};
+use crate::{AddressPair, EndpointPair, sip_hash};
 use ip_wire::{Ipv4Address, Ipv6Address};
 use net_base::Instant;
 use socket_base::Context;
