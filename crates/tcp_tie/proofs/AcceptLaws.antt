@@ -283,3 +283,5 @@ module _ (b : Block) (addresses : AddressPair) (mtu : ℕ) (queued : Ring ℕ) w
 
   pub again_in_packet : (resend_choice b addresses mtu queued).len ≤ max 1 (mtu - (ip_header_len addresses + 20 + stamp_len b))
   again_in_packet = below_parts _ _ _ again_in_size size_in_packet
+
+pub ruleset text_fits = (text_in_window, text_in_congestion, text_in_mss, text_in_packet, again_in_mss, again_in_packet)
