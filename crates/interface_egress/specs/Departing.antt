@@ -83,5 +83,6 @@ pub record HasSettingsOf (old new : InnerValue) : Type 0 where
   pub mtu : new.mtu ≡ old.mtu
   pub checksums : new.checksums ≡ old.checksums
   pub addresses : new.addresses ≡ old.addresses
+  pub isn_key : new.isn_key ≡ old.isn_key
   pub any_ip : new.any_ip ≡ old.any_ip
   pub routes : new.routes ≡ old.routes

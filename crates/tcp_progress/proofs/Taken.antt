@@ -38,6 +38,7 @@ use Rattle.tcp_rules.proofs.OrderSteps.{clash}
 use Rattle.tcp_rules.specs.Acks.{IsDueWithin}
 use Rattle.tcp_progress.specs.Arrivals.{Counts, IsNew, Rises, IsAgain, IsAnswered}
 use Rattle.tcp_progress.proofs.Acked.{comes_to, not_answering}
+use Rattle.tcp_rules.proofs.ArrivalCases.{timed}
 
 -- WHERE IT BEGINS
 
@@ -380,10 +381,10 @@ module _ (cx : ContextValue) (u : TcpValue) (ip : IpRepr) (header : TcpHeader) (
 
   rises_taken : TextRises (taken cx u ip header bytes by)
   rises_taken =
-      acked_cases u by cx.moment (λ (w : TcpValue). TextRises (continued cx u.block w ip header bytes by))
+      acked_cases (timed cx.moment header u by) by cx.moment (λ (w : TcpValue). TextRises (continued cx u.block w ip header bytes by))
       (λ closed. clash (sym closed ∙ open_on (state_after_ack u.block by (queued_in u)) takes_after))
       (λ alive.
-      let x = acked_open u by cx.moment in
+      let x = acked_open (timed cx.moment header u by) by cx.moment in
       cond_both (is_closed x.block.state) (dropped x)
       (with_content cx (told x header (duplicates_after u.block header (length bytes) by) cx.moment) ip header bytes) TextRises
       (λ closed. clash (sym closed ∙ alive))
@@ -431,11 +432,11 @@ module _ (cx : ContextValue) (u : TcpValue) (ip : IpRepr) (header : TcpHeader) (
   abbrev Answered : Arrived → Type 0
   Answered a = (is_closed a.socket.block.state ≡ true) ⊎ IsAnswered u a
 
-  answered_outside : Answered (outside cx (acknowledged u by cx.moment) ip header)
+  answered_outside : Answered (outside cx (acknowledged (timed cx.moment header u by) by cx.moment) ip header)
   answered_outside =
-      acked_cases u by cx.moment (λ (w : TcpValue). Answered (outside cx w ip header)) (λ _. inl refl)
+      acked_cases (timed cx.moment header u by) by cx.moment (λ (w : TcpValue). Answered (outside cx w ip header)) (λ _. inl refl)
       (λ alive.
-      let x = acked_open u by cx.moment in
+      let x = acked_open (timed cx.moment header u by) by cx.moment in
       let y = waiting_anew x header cx.moment in
       cond_both (is_closed x.block.state) (dropped x) (drawn cx y ip header) Answered
       (λ closed. clash (sym closed ∙ alive))
@@ -468,7 +469,7 @@ again_answered cx v ip header bytes number c n may =
     (sym (comes_to cx v ip header bytes number c
     ∙ (if_not (is_in_window v.block (free_in v) header (length bytes)) (inside cx u ip header bytes by) (passed_outside cx u ip header (length bytes) by)
     (again_is_outside v header (length bytes) n)
-    ∙ if_so (tells_news u header (length bytes)) (outside cx (acknowledged u by cx.moment) ip header) (outside cx u ip header)
+    ∙ if_so (tells_news u header (length bytes)) (outside cx (acknowledged (timed cx.moment header u by) by cx.moment) ip header) (outside cx u ip header)
     (ap (λ (t : Bool). not t && lies_before v.block (room_of v.received) header (length bytes)) (not_answering v.block.state c.synchronized) ∙
     again_lies_before v header (length bytes) n))))
-    (answered_too v (outside cx (acknowledged u by cx.moment) ip header) (answered_outside cx u ip header bytes by may))
+    (answered_too v (outside cx (acknowledged (timed cx.moment header u by) by cx.moment) ip header) (answered_outside cx u ip header bytes by may))

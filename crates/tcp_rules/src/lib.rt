@@ -10,6 +10,7 @@ pub mod forged;
 pub mod giving_up;
 pub mod order;
 pub mod recovery;
+pub mod stamps;
 pub mod time_wait;
 pub mod timing;
 pub mod waiting;
