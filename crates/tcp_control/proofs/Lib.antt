@@ -1,1 +1,2 @@
 pub mod FirstNumbers
+pub mod Words

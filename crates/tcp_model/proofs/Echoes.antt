@@ -1,5 +1,5 @@
 -- What an echo says of the moment at which its segment was sent.
-use Rattle.std.proofs.Common.{◌≡◌, ℕ, ◌+◌, ◌-◌, ◌/◌, ◌%◌, ◌^◌, ◌<◌, ◌≤◌, nat_le, ℤ, pos, ◌≤ℤ◌, unsigned_abs, Bool, true, false, if◌then◌else◌, Option, Some, None, refl, sym, ap, ◌∙◌, arith}
+use Rattle.std.proofs.Common.{◌≡◌, ℕ, ◌+◌, ◌-◌, ◌/◌, ◌%◌, ◌^◌, ◌<◌, ◌≤◌, nat_le, ℤ, pos, negsuc, ◌≤ℤ◌, unsigned_abs, Bool, true, false, if◌then◌else◌, Option, Some, None, refl, sym, ap, ◌∙◌, arith}
 use Rattle.std.proofs.lemmas.Bool.Decides.{nat_tests}
 use Rattle.ip_wire.specs.TcpTimestampGenerator.{TcpTimestampGenerator}
 use Rattle.ip_wire.specs.Timestamp.{value_at}
@@ -15,13 +15,17 @@ elapsed_is g a b c low high near =
     let first = gap_is g a b low (omega arith) in
     let whole = gap_is g a c (omega arith) near in
     let last = gap_is g b c high (omega arith) in
-    rw (first, whole, last) (in_order (b - a) (c - a) (c - b) (omega arith))
+    ap (λ (n : ℕ). if nat_le n (gap ((g + a) % 2 ^ 32) ((g + c) % 2 ^ 32)) then Some (gap ((g + b) % 2 ^ 32) ((g + c) % 2 ^ 32)) else None) first
+    ∙ (ap (λ (n : ℕ). if nat_le (b - a) n then Some (gap ((g + b) % 2 ^ 32) ((g + c) % 2 ^ 32)) else None) whole
+    ∙ (ap (λ (n : ℕ). if nat_le (b - a) (c - a) then Some n else None) last ∙ in_order (b - a) (c - a) (c - b) (omega arith)))
   where
     in_order : (m n k : ℕ) → m ≤ n → (if nat_le m n then Some k else None) ≡ Some k
     in_order m n k e = grind (arith, nat_tests, e)
 
 abs_mono : (a b : ℤ) → pos 0 ≤ℤ a → a ≤ℤ b → unsigned_abs a / 1000 ≤ unsigned_abs b / 1000
-abs_mono a b low e = grind (arith)
+abs_mono (pos a) (pos b) low e = let le : a ≤ b = e in omega (arith, le)
+abs_mono (pos a) (negsuc b) low e = absurd e
+abs_mono (negsuc a) b low e = absurd low
 
 pub echo_is : (g : TcpTimestampGenerator) (first sent now : ℤ) → pos 0 ≤ℤ first → first ≤ℤ sent → sent ≤ℤ now → millis_of now - millis_of first < 2 ^ 32
     → elapsed (value_at g first) (value_at g now) (value_at g sent) ≡ Some (millis_of now - millis_of sent)
@@ -29,7 +33,7 @@ echo_is g first sent now low before after near =
     elapsed_is g.0 (millis_of first) (millis_of sent) (millis_of now) (abs_mono first sent low before) (abs_mono sent now (later low before) after) near
   where
     later : {a b : ℤ} → pos 0 ≤ℤ a → a ≤ℤ b → pos 0 ≤ℤ b
-    later e f = grind (arith)
+    later e f = grind (arith, e, f)
 
 nearer : (a b c : ℕ) → a < 2 ^ 32 → b < 2 ^ 32 → c < 2 ^ 32 → gap a c ≤ gap a b → gap c b ≤ gap a b
 nearer a b c p q r e = omega arith

@@ -40,7 +40,7 @@ use Rattle.tcp_model.specs.Settled.{settled, sent_off, sent_as, recorded, probed
 use Rattle.tcp_model.specs.Value.{TcpValue, Arrived, with_block, unoffered, ended, new_socket, queued_in, room_of}
 use Rattle.tcp_model.specs.declared.block.Block.{Block}
 use Rattle.tcp_model.specs.FirstNumbers.{number_for}
-use Rattle.tcp_model.specs.Timestamps.{echo_taken, echo_of, timed_by}
+use Rattle.tcp_model.specs.Timestamps.{echo_taken, echo_of, timed_by, timed_with}
 use Rattle.tcp_rules.specs.Events.{Event, Setting, after, led, set, is_past}
 use Rattle.tcp_rules.specs.Events.Event.{Comes, Asked, Listens, Connects, Sends, Reads, Closes, Aborts, Sets}
 use Rattle.tcp_rules.specs.Events.Setting.{Timeout, KeepAlive, AckDelay, Nagle, HopLimit, Timestamps, Paused, Retries, MinRto, Congestion}
@@ -147,13 +147,13 @@ fine_advanced r by duration now f = at r.sample where
       (λ _. fine_measured r (round_trip.millis_between s.since now) duration f) (λ _. record { least = f.least; timeout = f.timeout })
 
 fine_echo : (r : RoundTripValue) (by duration : ℕ) (echo : Option ℕ) → Fine r duration → Fine (timed_by r by echo) duration
-fine_echo r by duration None f = f
-fine_echo r by duration (Some millis) f =
-    cond_both (by == 0) r (round_trip.echoed r by millis) (λ (x : RoundTripValue). Fine x duration)
-    (λ _. f)
-    (λ _. cond_both (round_trip.is_reached r.sample by) (round_trip.measured r millis) r (λ (x : RoundTripValue). Fine x duration)
-    (λ _. fine_measured r millis duration f)
-    (λ _. f))
+fine_echo r by duration echo f = cond_both (by == 0) r (timed_with r by echo) (λ (x : RoundTripValue). Fine x duration) (λ _. f) (λ _. at echo) where
+  at : (echo : Option ℕ) → Fine (timed_with r by echo) duration
+  at None = f
+  at (Some millis) =
+      cond_both (round_trip.is_reached r.sample by) (round_trip.measured r millis) r (λ (x : RoundTripValue). Fine x duration)
+      (λ _. fine_measured r millis duration f)
+      (λ _. f)
 
 past_listening : (state : State) → is_past state ≡ true → is_listening state ≡ false
 past_listening In.Listen e = clash e

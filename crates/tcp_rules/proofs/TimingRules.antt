@@ -38,7 +38,7 @@ use Rattle.tcp_model.specs.Timeout.{timed_out}
 use Rattle.tcp_model.specs.Value.{TcpValue, Arrived, with_block, unoffered, ended, new_socket, queued_in, room_of}
 use Rattle.tcp_model.specs.declared.block.Block.{Block}
 use Rattle.tcp_model.specs.FirstNumbers.{number_for}
-use Rattle.tcp_model.specs.Timestamps.{echo_taken, echo_of, timed_by}
+use Rattle.tcp_model.specs.Timestamps.{echo_taken, echo_of, timed_by, timed_with}
 use Rattle.tcp_rules.specs.Events.{Event, Setting, after, led, set, is_past}
 use Rattle.tcp_rules.specs.Events.Event.{Comes, Asked, Listens, Connects, Sends, Reads, Closes, Aborts, Sets}
 use Rattle.tcp_rules.specs.Events.Setting.{Timeout, KeepAlive, AckDelay, Nagle, HopLimit, Timestamps, Paused, Retries, Congestion, MinRto}
@@ -87,11 +87,11 @@ acked_in b by now t =
 
 -- an echo ends a timing, or leaves it
 echo_in : (r : RoundTripValue) (by flight : ℕ) (echo : Option ℕ) → In_flight flight r.sample → In_flight flight (timed_by r by echo).sample
-echo_in r by flight None t = t
-echo_in r by flight (Some millis) t =
-    cond_both (by == 0) r (round_trip.echoed r by millis) (λ (x : RoundTripValue). In_flight flight x.sample)
-    (λ _. t)
-    (λ _. cond_both (round_trip.is_reached r.sample by) (round_trip.measured r millis) r (λ (x : RoundTripValue). In_flight flight x.sample) (λ _. tt) (λ _. t))
+echo_in r by flight echo t = cond_both (by == 0) r (timed_with r by echo) (λ (x : RoundTripValue). In_flight flight x.sample) (λ _. t) (λ _. at echo) where
+  at : (echo : Option ℕ) → In_flight flight (timed_with r by echo).sample
+  at None = t
+  at (Some millis) =
+      cond_both (round_trip.is_reached r.sample by) (round_trip.measured r millis) r (λ (x : RoundTripValue). In_flight flight x.sample) (λ _. tt) (λ _. t)
 
 past_listening : (state : State) → is_past state ≡ true → is_listening state ≡ false
 past_listening In.Listen e = clash e

@@ -165,10 +165,11 @@ impl Socket {
             EndpointPair::of_segment(incoming.ip_repr, &incoming.header),
             incoming.header,
         );
+        let now = cx.now();
         let number = first_number(cx, &pair);
         self.block.answer_syn(incoming.ip_repr, &header, number);
-        self.block.believe_stamp(cx.now());
-        self.block.restart_timeout(cx.now(), 0);
+        self.block.believe_stamp(now);
+        self.block.restart_timeout(now, 0);
         None
     }
 

@@ -155,9 +155,10 @@ impl Block {
         requires { IsMoment now }
         ensures { self.new ≡ echo_taken self.old header.now by now }
     {
-        if by != 0
-            && let Some(millis) = self.echo_of(header, now)
-        {
+        if by == 0 {
+            return;
+        }
+        if let Some(millis) = self.echo_of(header, now) {
             self.round_trip.take_echo(by, millis);
         }
     }
