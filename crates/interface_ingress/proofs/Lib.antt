@@ -1,3 +1,5 @@
+pub mod Bare
+pub mod Through
 pub mod One
 pub mod OneMessage
 pub mod Readers

@@ -21,6 +21,7 @@ use Rattle.interface_ingress.specs.Arrives.{Arrived, ArrivesV4, ArrivesV6, Bring
 use Rattle.interface_ingress.specs.Delivered.{Places, drawn_if, packet_delivered, is_taken_raw, segment_draws}
 use Rattle.interface_ingress.specs.Handed.{handed_host, message_host, names_nobody, segment_host}
 use Rattle.interface_ingress.specs.Kept.{HasSameSettings}
+use Rattle.interface_ingress.specs.Reassembled.{is_control_v6}
 
 same_itself : (i : InnerValue) → HasSameSettings i i
 same_itself i = record {
@@ -131,7 +132,11 @@ same_message i header (Icmpv6.TimeExceeded reason about) = same_itself i
 same_message i header (Icmpv6.ParamProblem reason pointer about) = same_itself i
 same_message i header (Icmpv6.EchoRequest ident seq_no) = same_itself i
 same_message i header (Icmpv6.EchoReply ident seq_no) = same_itself i
-same_message i header (Icmpv6.Ndisc message) = same_heard i header message
+same_message i header (Icmpv6.Ndisc message) =
+    elim (is_control_v6 header.next_header) as (λ b. HasSameSettings i (if b then (neighbor_heard i header message).inner else i)) [
+      | true ↦ same_heard i header message
+      | false ↦ same_itself i
+    ]
 
 same_handed : (i : InnerValue) (places : Places) (ip : IpRepr) (carried : Option PayloadValue) → HasSameSettings i (handed_host i places ip carried)
 same_handed i places ip (Some (ControlV4 message bytes)) = same_itself i

@@ -1,5 +1,6 @@
 pub mod Incoming
 pub mod Carried
+pub mod Upper
 pub mod Read
 pub mod Sent
 pub mod Heard
@@ -31,3 +32,6 @@ pub use Rattle.interface_tables.specs.Pieces
 pub use Rattle.interface_tables.specs.declared.link.LinkAddress
 pub use Rattle.interface_tables.specs.declared.neighbor.Answer
 pub use Rattle.interface_tables.specs.Route
+pub use Rattle.ipv6_headers.specs.Headers
+pub use Rattle.ipv6_headers.specs.declared.headers.Behind
+pub use Rattle.ipv6_headers.specs.declared.headers.Problem

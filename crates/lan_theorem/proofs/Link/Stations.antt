@@ -31,7 +31,8 @@ use Rattle.interface_ingress.specs.Arp.{arp_arrived}
 use Rattle.interface_ingress.specs.Arrives.{Arrived, ArrivesV4, ArrivesV6, Brings, is_direct, sender_of, renewed, renewed_by}
 use Rattle.interface_ingress.specs.Delivered.{Places, drawn_if, segment_draws, packet_delivered}
 use Rattle.interface_ingress.specs.Handed.{handed_host, message_host, control_v6_host, names_nobody}
-use Rattle.interface_ingress.specs.Heard.{heard, heard_on, station, learned, advertised, replaces, counts, answer}
+use Rattle.interface_ingress.specs.Reassembled.{is_control_v6}
+use Rattle.interface_ingress.specs.Heard.{neighbor_heard, heard, heard_on, station, learned, advertised, replaces, counts, answer}
 use Rattle.interface_ingress.specs.Incoming.{IncomingValue, Arp, Ip4, Ip6}
 use Rattle.interface_ingress.proofs.Settings.{brings_same}
 use Rattle.lan_theorem.specs.Link.Frames.{medium_on}
@@ -121,7 +122,11 @@ near_heard (Hardware.Ethernet own) i header (Advertisement flags target link) ne
     [ true ↦ near_advertised i flags header.src_addr link near | false ↦ near ]
 
 near_message : (i : InnerValue) (header : Ipv6Repr) (message : MessageValue) → AreNear i → AreNear (message_host i header message)
-near_message i header (Icmpv6.Ndisc message) near = near_heard i.hardware i header message near
+near_message i header (Icmpv6.Ndisc message) near =
+    elim (is_control_v6 header.next_header) as (λ b. AreNear (cond b (neighbor_heard i header message).inner i)) [
+      | true ↦ near_heard i.hardware i header message near
+      | false ↦ near
+    ]
 near_message i header (Icmpv6.DstUnreachable reason quoted) near = near
 near_message i header (Icmpv6.PktTooBig mtu quoted) near = near
 near_message i header (Icmpv6.TimeExceeded reason quoted) near = near
