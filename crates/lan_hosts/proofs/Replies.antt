@@ -33,7 +33,7 @@ use Rattle.interface_ingress.specs.Arrives.{ReplyValue, Arrived, Brings, Arrives
 use Rattle.interface_ingress.specs.Delivered.{Places, packet_delivered, is_taken_raw, segment_place, segment_answer_at, answer_of, answer_in, answer_by}
 use Rattle.interface_ingress.specs.Delivered.{packet_by, datagram_place}
 use Rattle.interface_ingress.specs.Handed.{handed_reply, control_v4_reply, control_v6_reply, message_reply, names_nobody, is_known}
-use Rattle.interface_ingress.specs.Heard.{Heard, heard, heard_on, counts, is_asked, learned, advertised, advertisement, answer}
+use Rattle.interface_ingress.specs.Heard.{Heard, heard, heard_on, counts, tells, is_asked, learned, advertised, advertisement, answer}
 use Rattle.interface_ingress.specs.Incoming.{IncomingValue, Arp, Ip4, Ip6}
 use Rattle.interface_ingress.specs.Replies.{echo_v4, sent_v4, source_of_reply, port_unreachable, protocol_unreachable, reply_v4, reply_v6, error_v6}
 use Rattle.interface_ingress.specs.Replies.{is_between_hosts, quoted_v4, quoted_v6}
@@ -91,7 +91,7 @@ heard_so (Hardware.Ethernet own) i header (Solicitation target link) =
     heard_if (counts header target link) (heard (learned i header.src_addr link) (answer own i header target)) (heard i None)
     (asked_so (is_asked i header target) own target header) tt
 heard_so (Hardware.Ethernet own) i header (Advertisement flags target link) =
-    heard_if (counts header target link) (heard (advertised i flags header.src_addr link) None) (heard i None) tt tt
+    heard_if (tells header flags target link) (heard (advertised i flags target link) None) (heard i None) tt tt
 
 message_so : (i : InnerValue) (header : Ipv6Repr) (message : MessageValue) (bytes : List ℕ) → IfMeasured (message_reply i header message bytes)
 message_so i header (Icmpv6.Ndisc message) bytes = heard_so i.hardware i header message
