@@ -1,6 +1,7 @@
 -- ARP packets that arrive (RFC 826, "Packet Reception"; RFC 5227): whose hardware address the host learns from them, and what it
 -- answers.
 use Rattle.std.specs.Prelude.{Bool, true, false, ◌&&◌, ◌||◌, if◌then◌else◌, Option, None, Some}
+use Rattle.std.specs.List.{list_any}
 use Rattle.ip_wire.specs.AddressTests.{is_ethernet_unicast, is_unicast_v4, is_unspecified_v4}
 use Rattle.ip_wire.specs.declared.arp.kinds.ArpOperation.{ArpOperation}
 use Rattle.ip_wire.specs.declared.arp.kinds.ArpOperation.TheVariants as Operation
@@ -9,7 +10,8 @@ use Rattle.ip_wire.specs.declared.arp.repr.ArpRepr.TheVariants as Arp
 use Rattle.ip_wire.specs.HardwareAddress.{HardwareAddress}
 use Rattle.ip_wire.specs.HardwareAddress.TheVariants as Hardware
 use Rattle.ip_wire.specs.IpAddress.TheVariants as Address
-use Rattle.interface_tables.specs.Inner.{InnerValue, is_own, is_assigned, is_in_own_network, deals_with, with_neighbor}
+use Rattle.interface_tables.specs.Inner.{InnerValue, is_address_of, is_own, is_in_own_network, with_neighbor}
+use Rattle.interface_ingress.specs.Acquaintance.{knows, seeks}
 
 -- a request or a reply
 abbrev pub is_known : ArpOperation → Bool
@@ -28,7 +30,8 @@ is_for_own i (Arp.EthernetIpv4 operation source_hardware source target_hardware 
 
 -- its sender is one that the host knows or asks for
 abbrev pub is_from_known : InnerValue → ArpRepr → Bool
-is_from_known i (Arp.EthernetIpv4 operation source_hardware source target_hardware target) = deals_with i (Address.Ipv4 source)
+is_from_known i (Arp.EthernetIpv4 operation source_hardware source target_hardware target) =
+    knows i (Address.Ipv4 source) || seeks i (Address.Ipv4 source)
 
 -- The packet counts: it asks or answers an own address, and it is from one station of an own network.
 abbrev pub counts : InnerValue → ArpRepr → Bool
@@ -43,7 +46,7 @@ teaches i packet = (is_for_own i packet || is_from_known i packet) && is_sound i
 -- nobody's.
 abbrev pub probes : InnerValue → ArpRepr → Bool
 probes i (Arp.EthernetIpv4 Operation.Request source_hardware source target_hardware target) =
-    is_unspecified_v4 source && is_ethernet_unicast source_hardware && is_assigned i (Address.Ipv4 target)
+    is_unspecified_v4 source && is_ethernet_unicast source_hardware && list_any (is_address_of (Address.Ipv4 target)) i.addresses
 probes i packet = false
 
 -- the sender's addresses are kept

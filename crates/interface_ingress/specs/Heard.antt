@@ -13,8 +13,8 @@ use Rattle.ip_wire.specs.IpRepr.TheVariants as Ip
 use Rattle.ip_wire.specs.Ipv6Address.{Ipv6Address}
 use Rattle.ip_wire.specs.Ipv6Repr.{Ipv6Repr}
 use Rattle.socket_base.specs.Packet.{PacketValue, ControlV6, packet_of}
-use Rattle.interface_tables.specs.Inner.{InnerValue, is_own, is_own_solicited_node, is_probed, knows, with_neighbor}
-use Rattle.interface_tables.specs.Neighbor.{is_sought}
+use Rattle.interface_tables.specs.Inner.{InnerValue, is_own, is_own_solicited_node, is_probed, with_neighbor}
+use Rattle.interface_ingress.specs.Acquaintance.{knows, seeks}
 
 -- the host after a message, and what it answers
 pub record Heard : Type 0 where
@@ -58,7 +58,7 @@ learned i source (Some link) = with_neighbor i (Address.Ipv6 source) (Hardware.E
 
 -- an advertisement replaces a known address where it says so, and gives an unknown one only where the host asks for it
 abbrev pub replaces : InnerValue → NdiscNeighborFlags → Ipv6Address → Bool
-replaces i flags target = if knows i (Address.Ipv6 target) then flags.overrides else is_sought i.neighbors (Address.Ipv6 target)
+replaces i flags target = if knows i (Address.Ipv6 target) then flags.overrides else seeks i (Address.Ipv6 target)
 
 abbrev pub advertised : InnerValue → NdiscNeighborFlags → Ipv6Address → Option (List ℕ) → InnerValue
 advertised i flags target link = if replaces i flags target then learned i target link else i

@@ -2,6 +2,7 @@ pub mod Incoming
 pub mod Carried
 pub mod Read
 pub mod Sent
+pub mod Acquaintance
 pub mod Heard
 pub mod Arp
 pub mod Replies

@@ -1,10 +1,14 @@
 //! ARP packets that arrive (RFC 826, RFC 5227).
 ghost use Rattle.std.specs.Prelude.{◌≡◌};
+ghost use Rattle.std.specs.List.{list_any};
+ghost use Rattle.interface_egress.specs.Inner.{is_address_of};
 ghost use Rattle.interface_ingress.specs.Arp.{is_known, is_sound, is_for_own, is_from_known, counts, teaches, probes, learned, answer_at, arp_arrived, arp_answer};
 
+use crate::acquaintance::{knows, seeks};
 use interface_egress::InterfaceInner;
-use ip_wire::{AddressExt, ArpOperation, ArpRepr, HardwareAddress, IpAddress};
+use ip_wire::{AddressExt, ArpOperation, ArpRepr, HardwareAddress, IpAddress, IpCidr};
 use sockets::Context;
+use sockets::addresses::is_same_address;
 
 /// Takes in an ARP packet: the sender's addresses are kept where it is one station of an own network that asks for or answers
 /// an own address, or that the host knows or asks for. Returns what a request for an own address is answered, also where its
@@ -72,7 +76,8 @@ fn is_from_known(inner: &InterfaceInner, packet: &ArpRepr) -> bool
         source_protocol_addr,
         ..
     } = packet;
-    inner.deals_with(&IpAddress::Ipv4(*source_protocol_addr))
+    let source = IpAddress::Ipv4(*source_protocol_addr);
+    knows(inner, &source) || seeks(inner, &source)
 }
 
 /// Whether a station that has no address yet looks whether an own one is in use.
@@ -89,10 +94,19 @@ fn probes(inner: &InterfaceInner, packet: &ArpRepr) -> bool
         } => {
             source_protocol_addr.is_unspecified()
                 && source_hardware_addr.is_unicast()
-                && inner.is_assigned(&IpAddress::Ipv4(*target_protocol_addr))
+                && is_assigned(inner.ip_addrs(), &IpAddress::Ipv4(*target_protocol_addr))
         }
         _ => false,
     }
+}
+
+/// Whether this is one of the own addresses that were set.
+fn is_assigned(addresses: &[IpCidr], address: &IpAddress) -> bool
+    ensures { result ≡ list_any (is_address_of address.now) addresses.now }
+{
+    addresses
+        .iter()
+        .any(|block| is_same_address(&block.address(), address))
 }
 
 /// Whether this is a request or a reply.

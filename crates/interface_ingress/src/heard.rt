@@ -6,6 +6,7 @@ ghost use Rattle.sockets.specs.Packet.{packet_value, option_value, IsSendable};
 ghost use Rattle.interface_ingress.specs.Heard.{neighbor_heard, is_one_station, is_sender_of, counts, tells, learned, replaces, advertised, is_asked};
 ghost use Rattle.interface_ingress.specs.Heard.{told_at, flags_for, advertisement};
 
+use crate::acquaintance::{knows, seeks};
 use icmpv6::{Icmpv6Repr, NdiscNeighborFlags, NdiscRepr};
 use interface_egress::InterfaceInner;
 use ip_wire::{
@@ -115,7 +116,10 @@ fn learn(inner: &mut InterfaceInner, neighbor: Ipv6Address, lladdr: &Option<RawH
 {
     if let Some(address) = lladdr {
         let station = EthernetAddress::from_bytes(address.as_bytes());
-        inner.fill_neighbor(IpAddress::Ipv6(neighbor), HardwareAddress::Ethernet(station));
+        inner.fill_neighbor(
+            IpAddress::Ipv6(neighbor),
+            HardwareAddress::Ethernet(station),
+        );
     }
 }
 
@@ -140,10 +144,10 @@ fn replaces(inner: &InterfaceInner, flags: NdiscNeighborFlags, target: Ipv6Addre
     ensures { result ≡ replaces inner.now flags target }
 {
     let target = IpAddress::Ipv6(target);
-    if inner.lookup_neighbor(&target).found() {
+    if knows(inner, &target) {
         flags.overrides
     } else {
-        inner.is_sought(&target)
+        seeks(inner, &target)
     }
 }
 

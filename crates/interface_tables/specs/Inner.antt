@@ -1,7 +1,7 @@
 -- A host beside its sockets and its slots, as a value: its addresses and tables, and where its packets go (RFC 1122, sections
 -- 3.2.1.3 and 3.3.1; RFC 4291, section 2.8).
 use Rattle.std.specs.Prelude.{ℕ, ◌+◌, ◌/◌, ◌%◌, ◌^◌, ◌==◌, ◌&&◌, ◌||◌, not, nat_lt, Bool, true, false, if◌then◌else◌, ℤ, pos, ◌+ℤ◌, int_lt, List, [], ◌∷◌, ◌++◌}
-use Rattle.std.specs.Prelude.{length, take, drop, replicate, slice_index, Option, None, Some}
+use Rattle.std.specs.Prelude.{length, drop, replicate, slice_index, Option, None, Some}
 use Rattle.std.specs.List.{list_any}
 use Rattle.std.specs.Str.{bytes_eq}
 use Rattle.net_base.specs.ChecksumCapabilities.{ChecksumCapabilities}
@@ -19,7 +19,7 @@ use Rattle.ip_wire.specs.IpCidr.TheVariants as Block
 use Rattle.ip_wire.specs.Ipv4Address.{Ipv4Address}
 use Rattle.ip_wire.specs.Ipv6Address.{Ipv6Address}
 use Rattle.socket_base.specs.Context.{ContextValue}
-use Rattle.interface_tables.specs.Neighbor.{CacheValue, lookup, is_found, is_sought, filled, renewed, requested, search_room, silent_time, entry_lifetime}
+use Rattle.interface_tables.specs.Neighbor.{CacheValue, lookup, is_found, filled, renewed, requested, search_room, silent_time, entry_lifetime}
 use Rattle.interface_tables.specs.Route.{best_route, router_of}
 use Rattle.interface_tables.specs.Source.{source_for}
 use Rattle.interface_tables.specs.declared.link.LinkAddress.{LinkAddress}
@@ -51,10 +51,6 @@ is_address_of address block = is_same_address (block_address block) address
 
 abbrev pub is_own : InnerValue → IpAddress → Bool
 is_own i address = i.any_ip || list_any (is_address_of address) i.addresses
-
--- an own address that was set, which no other host has
-abbrev pub is_assigned : InnerValue → IpAddress → Bool
-is_assigned i address = list_any (is_address_of address) i.addresses
 
 -- the address is in the network of an own one
 abbrev pub is_in_own_network : InnerValue → IpAddress → Bool
@@ -133,19 +129,10 @@ may_come_from i source destination =
 
 -- WAY OUT
 
--- fe80::/64, the form of the link-local addresses (RFC 4291, section 2.5.6)
-abbrev pub is_in_link_prefix : IpAddress → Bool
-is_in_link_prefix (Ip.Ipv4 a) = false
-is_in_link_prefix (Ip.Ipv6 a) = bytes_eq (take 8 a.0) (0xfe ∷ 0x80 ∷ replicate 6 0)
-
--- The address is a neighbour's: it is in an own network, or a link-local one, which no router passes on (RFC 4861, section 5.1).
-abbrev pub is_on_link : InnerValue → IpAddress → Bool
-is_on_link i address = is_in_own_network i address || is_in_link_prefix address
-
--- the destination itself on the link, else the router of the best route
+-- the destination itself in an own network, else the router of the best route
 abbrev pub next_hop : InnerValue → IpAddress → Option IpAddress
 next_hop i address =
-    if is_on_link i address then Some address else router_of (best_route i.routes address i.moment)
+    if is_in_own_network i address then Some address else router_of (best_route i.routes address i.moment)
 
 -- the Ethernet address of all stations
 abbrev pub all_stations : EthernetAddress
@@ -189,16 +176,6 @@ is_known_hop i (Some hop) = is_known_on i.hardware i hop
 -- there is a next hop for the destination, and its hardware address is known
 abbrev pub has_neighbor : InnerValue → IpAddress → Bool
 has_neighbor i address = is_known_hop i (next_hop i address)
-
--- WHOM THE HOST KNOWS OR ASKS FOR
-
--- the neighbour's hardware address is believed
-abbrev pub knows : InnerValue → IpAddress → Bool
-knows i address = is_found (lookup i.neighbors address i.moment)
-
--- or it is asked for
-abbrev pub deals_with : InnerValue → IpAddress → Bool
-deals_with i address = knows i address || is_sought i.neighbors address
 
 -- WAITING
 

@@ -1,6 +1,6 @@
 -- What an interface knows of its neighbours, as a value (RFC 826; RFC 1122, section 2.3.2; RFC 4861, section 5.1).
 use Rattle.std.specs.Prelude.{ℕ, ◌+◌, ℤ, pos, ◌+ℤ◌, int_lt, Bool, true, false, not, ◌&&◌, nat_lt, if◌then◌else◌, List, [], ◌∷◌, ◌++◌, length, slice_set, remove}
-use Rattle.std.specs.Prelude.{replicate, Option, None, Some, is_some, position}
+use Rattle.std.specs.Prelude.{replicate, Option, None, Some, position}
 use Rattle.ip_wire.specs.HardwareAddress.{HardwareAddress}
 use Rattle.ip_wire.specs.HardwareAddress.TheVariants as Hardware
 use Rattle.ip_wire.specs.IpAddress.{IpAddress}
@@ -78,10 +78,6 @@ search_place searches address = position (is_search_for address) searches
 
 abbrev pub search_of : List Search → IpAddress → Option Search
 search_of searches address = at_place (search_place searches address) searches
-
--- the address is asked for
-abbrev pub is_sought : CacheValue → IpAddress → Bool
-is_sought c address = is_some (search_place c.searches address)
 
 -- It was asked for three times, and none was answered within its second: for three seconds more the address is without answer.
 abbrev pub is_failed : Search → ℤ → Bool

@@ -5,7 +5,7 @@ ghost use Rattle.net_base.specs.Time.{IsMoment};
 ghost use Rattle.ip_wire.specs.AddressTests.{is_same_hardware};
 ghost use Rattle.interface_tables.specs.Neighbor.{fresh, lookup, filled, renewed, renewed_entry, silenced, requested, searched_at, one_more, first_search};
 ghost use Rattle.interface_tables.specs.Neighbor.{count_after, search_place, search_of, oldest_search, ended, is_failed, has_failed_by, has_failed};
-ghost use Rattle.interface_tables.specs.Neighbor.{last_request, is_sought, flushed, is_found, place_of, victim, search_room, entry_lifetime, silent_time};
+ghost use Rattle.interface_tables.specs.Neighbor.{last_request, flushed, is_found, place_of, victim, search_room, entry_lifetime, silent_time};
 
 use arrayvec::ArrayVec;
 use ip_wire::{HardwareAddress, IpAddress, Ipv4Address};
@@ -225,13 +225,6 @@ impl<const N: usize> Cache<N> {
             Some(search) => Some(search.answer_by),
             None => None,
         }
-    }
-
-    /// Whether this neighbour is asked for.
-    pub fn is_sought(&self, protocol_addr: &IpAddress) -> bool
-        ensures { result ≡ is_sought self.now protocol_addr.now }
-    {
-        search_place(self.searches.as_slice(), protocol_addr).is_some()
     }
 
     /// Whether as many neighbours are asked for as are kept count of.
