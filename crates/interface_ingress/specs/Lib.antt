@@ -4,6 +4,7 @@ pub mod Read
 pub mod Sent
 pub mod Acquaintance
 pub mod Heard
+pub mod Taught
 pub mod Arp
 pub mod Replies
 pub mod Answering
