@@ -22,8 +22,9 @@ pub fn play<'a>(
     let place = words.size()?;
     match verb {
         "bind" => {
-            let endpoint = listened(words)?;
+            let port = words.short("port")?;
             words.end()?;
+            let endpoint = IpListenEndpoint { addr: None, port };
             Ok(bound(host.udp(place)?.bind(endpoint)))
         }
         "ident" => {

@@ -21,4 +21,3 @@ pub mod HostCounts
 pub mod Idents
 pub mod Trace
 pub mod OneEnd
-pub mod Sourced
