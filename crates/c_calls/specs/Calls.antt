@@ -94,13 +94,15 @@ config_of settings = record { random_seed = settings.seed; hardware_addr = hardw
 
 -- A HOST THAT IS MADE
 
--- without frames, addresses, routes, sockets and listeners
+-- without frames, addresses, routes, sockets, listeners and clients
 abbrev pub fresh_host : Settings → ℤ → StackValue
 fresh_host settings now = record {
   link = unused (device_of settings) settings.frames;
   host = new_host (config_of settings) (device_of settings) now;
   places = [];
   listeners = [];
+  dhcp = None;
+  dns = None;
   counters = none_counted;
 }
 
