@@ -1,0 +1,6 @@
+pub mod Place
+pub mod Arrivals
+pub mod Turns
+pub mod Taken
+pub mod Tcp
+pub mod Udp

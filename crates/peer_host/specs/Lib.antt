@@ -1,0 +1,4 @@
+pub mod Steps
+pub mod Brought
+pub mod Streams
+pub mod Datagrams

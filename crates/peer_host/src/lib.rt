@@ -1,0 +1,52 @@
+//! One host on any device, whatever is at the other end: what a poll does to each TCP and UDP socket of its interface.
+//!
+//! A law of `interface`'s polls, and of `Interface::poll` itself. `specs/Streams.antt` and `specs/Datagrams.antt` have the sentences.
+#![tactic(auto)]
+
+ghost use Rattle.std.specs.Prelude.{◌≡◌, ℕ, ℤ, Bool};
+ghost use Rattle.net_base.specs.Time.{IsMoment};
+ghost use Rattle.tcp_model.specs.Value.{TcpValue};
+ghost use Rattle.sockets.specs.Udp.{UdpValue};
+ghost use Rattle.interface.specs.Polls.{Polls, is_change};
+ghost use Rattle.interface.specs.State.{State, state};
+ghost use Rattle.interface_egress.specs.Set.{places};
+ghost use Rattle.peer_host.specs.Streams.{IsTcpAt, StreamGoesOn};
+ghost use Rattle.peer_host.specs.Datagrams.{IsUdpAt, DatagramsGoOn};
+
+use interface::{Interface, PollResult, SocketSet};
+use net_base::{Device, Instant};
+use sockets::Socket;
+
+/// Law: a poll leads each TCP socket on by offers, and by segments that came in frames and are for the socket; so its stream is safe beside
+/// each honest peer that sent all of them. Of a UDP socket it keeps each datagram that waits, and adds such as came in frames with these
+/// bytes, ports and addresses. It does nothing else to either.
+#[tactic(auto, using(crate::proofs::Tcp::stream_goes_on, crate::proofs::Udp::datagrams_go_on))]
+pub fn polls_go_on<D: Device>()
+    ensures streams { (t : ℤ) (budget : ℕ) (s s' : State D) (changed : Bool) (i : ℕ) (v : TcpValue)
+        → IsTcpAt s.places i v → Polls D.moves t budget s changed s' → StreamGoesOn D.moves t s i v s' }
+    ensures datagrams { (t : ℤ) (budget : ℕ) (s s' : State D) (changed : Bool) (i : ℕ) (v : UdpValue)
+        → IsUdpAt s.places i v → Polls D.moves t budget s changed s' → DatagramsGoOn D.moves t s i v s' }
+{}
+
+/// Polls an interface, which leads each socket on so.
+#[tactic(auto, using(crate::proofs::Tcp::stream_goes_on, crate::proofs::Udp::datagrams_go_on))]
+pub fn poll<D: Device>(
+    interface: &mut Interface,
+    timestamp: Instant,
+    device: &mut D,
+    sockets: &mut SocketSet<Socket>,
+    budget: u16,
+) -> PollResult
+    requires { IsMoment timestamp }
+    ensures steps { Polls D.moves timestamp budget (state device.old interface.old (places sockets.old)) (is_change result)
+        (state device.new interface.new (places sockets.new)) }
+    ensures streams { (i : ℕ) (v : TcpValue) → IsTcpAt (places sockets.old) i v
+        → StreamGoesOn D.moves timestamp (state device.old interface.old (places sockets.old)) i v
+        (state device.new interface.new (places sockets.new)) }
+    ensures datagrams { (i : ℕ) (v : UdpValue) → IsUdpAt (places sockets.old) i v
+        → DatagramsGoOn D.moves timestamp (state device.old interface.old (places sockets.old)) i v
+        (state device.new interface.new (places sockets.new)) }
+{
+    polls_go_on::<D>();
+    interface.poll(timestamp, device, sockets, budget)
+}

@@ -1,0 +1,103 @@
+-- Events lead on from wherever events led.
+use Rattle.std.proofs.Common.{◌≡◌, Bool, true, false, List, [], ◌∷◌, ◌++◌, Option, Some, None, Result, Err, is_ok, refl, sym, ap, ◌∙◌, subst, append_assoc}
+use Rattle.std.proofs.Common.{append-nil, ℕ}
+use Rattle.tcp_law.specs.Segment.{Segment}
+use Rattle.tcp_model.specs.RecvError.TheVariants as Recv
+use Rattle.tcp_model.specs.Calls.{recv_answer}
+use Rattle.tcp_model.specs.OpenOffer.{OpenOffer}
+use Rattle.tcp_model.specs.Offers.{offer_of, packet_with}
+use Rattle.tcp_model.specs.Settled.{settled}
+use Rattle.tcp_model.specs.Value.{TcpValue}
+use Rattle.tcp_tie.specs.Run as two
+use Rattle.tcp_tie.specs.Run.Event.{Listens as TwoListens, Connects as TwoConnects, Sends as TwoSends, Comes as TwoComes}
+use Rattle.tcp_tie.specs.Run.Event.{Reads, Closes, Aborts, Changes, Offers, HostResets}
+use Rattle.tcp_peer.specs.Peer.{End}
+use Rattle.tcp_peer_tie.specs.Beside.{Event, Meeting, IsRun, happens, run, start}
+use Rattle.tcp_peer_tie.specs.Beside.Event.{Comes, Listens, Connects, Sends, Does}
+use Rattle.tcp_peer_tie.proofs.Runs.{runs_safe, read_to_the_end}
+use Rattle.peer_socket.specs.Goes.{after, after_all, CameBy, HasCome, GoOn, GoesOn, EndIsTrue}
+
+-- what an event makes of a socket depends on nothing that was seen of it
+pub happens_socket : (w : Meeting) (event : Event) → (happens w event).here.socket ≡ after w.here.socket event
+happens_socket w (Comes cx ip header bytes) = refl
+happens_socket w (Listens endpoint) = refl
+happens_socket w (Connects cx remote local) = refl
+happens_socket w (Sends bytes) = refl
+happens_socket w (Does (TwoListens endpoint)) = refl
+happens_socket w (Does (TwoConnects pair number)) = refl
+happens_socket w (Does (TwoSends queued bytes)) = refl
+happens_socket w (Does (Reads count)) = refl
+happens_socket w (Does Closes) = refl
+happens_socket w (Does Aborts) = refl
+happens_socket w (Does (Changes new)) = refl
+happens_socket w (Does (TwoComes cx ip header bytes place)) = refl
+happens_socket w (Does (Offers cx sent)) = refl
+happens_socket w (Does (HostResets x)) = refl
+
+pub run_append : (w : Meeting) (events more : List Event) → run w (events ++ more) ≡ run (run w events) more
+run_append w [] more = refl
+run_append w (event ∷ events) more = run_append (happens w event) events more
+
+pub has_come : (first : TcpValue) (resets : List Segment) (events : List Event) (v : TcpValue) → CameBy first resets events v → HasCome first resets events v
+has_come first resets events v came = record {
+  came = came;
+  safe = λ peer end is_run. runs_safe peer first resets events end came.fresh came.only_resets is_run;
+}
+
+pub goes_on : (v v' : TcpValue) (event : Event) → after v event ≡ v' → GoesOn v event v'
+goes_on v v' event leads first resets events came =
+    let w = run (start first resets) events in
+    has_come first resets (events ++ event ∷ []) v' (record {
+      fresh = came.fresh;
+      only_resets = came.only_resets;
+      leads =
+          ap (λ (m : Meeting). m.here.socket) (run_append (start first resets) events (event ∷ [])) ∙ happens_socket w event
+          ∙ ap (λ (u : TcpValue). after u event) came.leads ∙ leads;
+    })
+
+pub one_goes_on : (v : TcpValue) (event : Event) → GoesOn v event (after v event)
+one_goes_on v event = goes_on v (after v event) event refl
+
+pub more_go_on : (u v w : TcpValue) (events later : List Event) → GoOn u events v → GoOn v later w → GoOn u (events ++ later) w
+more_go_on u v w events later on further first resets before came =
+    subst (λ (all : List Event). HasCome first resets all w) (append_assoc before events later)
+    (further first resets (before ++ events) (on first resets before came).came)
+
+pub none_goes_on : (v : TcpValue) → GoOn v [] v
+none_goes_on v first resets events came =
+    subst (λ (all : List Event). HasCome first resets all v) (sym (append-nil events)) (has_come first resets events v came)
+
+-- AN OFFER
+
+unsettled : (v : TcpValue) → v.offered ≡ None → settled false v ≡ v
+unsettled v none = λ k. record v { offered = sym none k }
+
+none_open : (o : Option OpenOffer) (queue : List ℕ) → packet_with o queue ≡ None → o ≡ None
+none_open None queue is = refl
+none_open (Some o) queue is = absurd (cc)
+
+-- THE END OF THE STREAM
+
+pub end_is_true : (v : TcpValue) (room : ℕ) → recv_answer v room ≡ Err Recv.Finished → EndIsTrue v
+end_is_true v room tells first resets events peer came end is_run =
+    let w = run (start first resets) events in
+    read_to_the_end peer w.here.socket w.here.past w.came room (runs_safe peer first resets events end came.fresh came.only_resets is_run)
+    (ap (λ (u : TcpValue). recv_answer u room) came.leads ∙ tells)
+
+-- SEVERAL EVENTS
+
+pub run_after : (w : Meeting) (events : List Event) → (run w events).here.socket ≡ after_all w.here.socket events
+run_after w [] = refl
+run_after w (event ∷ events) =
+    run_after (happens w event) events ∙ ap (λ (u : TcpValue). after_all u events) (happens_socket w event)
+
+pub all_go_on : (v : TcpValue) (events : List Event) → GoOn v events (after_all v events)
+all_go_on v more first resets events came =
+    let w = run (start first resets) events in
+    has_come first resets (events ++ more) (after_all v more) (record {
+      fresh = came.fresh;
+      only_resets = came.only_resets;
+      leads =
+          ap (λ (m : Meeting). m.here.socket) (run_append (start first resets) events more) ∙ run_after w more
+          ∙ ap (λ (u : TcpValue). after_all u more) came.leads;
+    })
