@@ -1,11 +1,22 @@
 -- Events lead on from wherever events led.
 use Rattle.std.proofs.Common.{◌≡◌, Bool, true, false, List, [], ◌∷◌, ◌++◌, Option, Some, None, Result, Err, is_ok, refl, sym, ap, ◌∙◌, subst, append_assoc}
 use Rattle.std.proofs.Common.{append-nil, ℕ}
+use Rattle.std.specs.Fn.{Once}
+use Rattle.std.specs.Prelude.{Ok, MatchOption}
+use Rattle.ip_wire.specs.IpEndpoint.{IpEndpoint}
+use Rattle.ip_wire.specs.IpListenEndpoint.{IpListenEndpoint}
+use Rattle.ip_wire.specs.IpRepr.{IpRepr}
+use Rattle.ip_wire.specs.TcpHeader.{TcpHeader}
+use Rattle.socket_base.specs.Packet.{PacketValue}
 use Rattle.tcp_law.specs.Segment.{Segment}
+use Rattle.tcp_socket.specs.Packet.{Packet}
+use Rattle.tcp_socket.specs.Dispatch.{GivesAt, Hands}
+use Rattle.tcp_model.specs.Context.{ContextValue}
+use Rattle.tcp_model.specs.Arrival.{arrives}
 use Rattle.tcp_model.specs.RecvError.TheVariants as Recv
-use Rattle.tcp_model.specs.Calls.{recv_answer}
+use Rattle.tcp_model.specs.Calls.{listen_after, connect_after, send_after, recv_answer, recv_after, close_after, abort_after}
 use Rattle.tcp_model.specs.OpenOffer.{OpenOffer}
-use Rattle.tcp_model.specs.Offers.{offer_of, packet_with}
+use Rattle.tcp_model.specs.Offers.{offer_of, offered_packet, packet_with}
 use Rattle.tcp_model.specs.Settled.{settled}
 use Rattle.tcp_model.specs.Value.{TcpValue}
 use Rattle.tcp_tie.specs.Run as two
@@ -101,3 +112,41 @@ all_go_on v more first resets events came =
           ap (λ (m : Meeting). m.here.socket) (run_append (start first resets) events more) ∙ run_after w more
           ∙ ap (λ (u : TcpValue). after_all u more) came.leads;
     })
+
+-- EACH CALL
+
+pub listen_goes_on : (v v' : TcpValue) (endpoint : IpListenEndpoint) → v' ≡ listen_after v endpoint → GoesOn v (Listens endpoint) v'
+listen_goes_on v v' endpoint is = goes_on v v' (Listens endpoint) (sym is)
+
+pub connect_goes_on : (cx : ContextValue) (v v' : TcpValue) (remote : IpEndpoint) (local : IpListenEndpoint) → v' ≡ connect_after cx v remote local →
+    GoesOn v (Connects cx remote local) v'
+connect_goes_on cx v v' remote local is = goes_on v v' (Connects cx remote local) (sym is)
+
+pub send_goes_on : (v v' : TcpValue) (bytes : List ℕ) → v' ≡ send_after v bytes → GoesOn v (Sends bytes) v'
+send_goes_on v v' bytes is = goes_on v v' (Sends bytes) (sym is)
+
+pub read_goes_on : (v v' : TcpValue) (count : ℕ) → v' ≡ recv_after v count → GoesOn v (Does (Reads count)) v'
+read_goes_on v v' count is = goes_on v v' (Does (Reads count)) (sym is)
+
+pub close_goes_on : (v v' : TcpValue) → v' ≡ close_after v → GoesOn v (Does Closes) v'
+close_goes_on v v' is = goes_on v v' (Does Closes) (sym is)
+
+pub abort_goes_on : (v v' : TcpValue) → v' ≡ abort_after v → GoesOn v (Does Aborts) v'
+abort_goes_on v v' is = goes_on v v' (Does Aborts) (sym is)
+
+pub arrival_goes_on : (cx : ContextValue) (v v' : TcpValue) (ip : IpRepr) (header : TcpHeader) (bytes : List ℕ) → v' ≡ (arrives cx v ip header bytes).socket →
+    GoesOn v (Comes cx ip header bytes) v'
+arrival_goes_on cx v v' ip header bytes is = goes_on v v' (Comes cx ip header bytes) (sym is)
+
+pub offer_goes_on : {F E : Type 0} (g : Once F (Packet × Unit {0}) (Result (Unit {0}) E)) (f : F) (cx : ContextValue) (v v' : TcpValue)
+    (r : Result (Unit {0}) E) → Hands g f (offer_of cx v).socket r v' → (sent : Bool) × GoesOn v (Does (Offers cx sent)) v'
+offer_goes_on g f cx v v' r hands = by (offered_packet (offer_of cx v).socket) refl hands where
+  offered : TcpValue
+  offered = (offer_of cx v).socket
+
+  by : (o : Option PacketValue) → offered_packet offered ≡ o →
+      MatchOption o ((r ≡ Ok tt) × (v' ≡ offered)) (λ value. GivesAt g f value r × (v' ≡ settled (is_ok r) offered))
+      → (sent : Bool) × GoesOn v (Does (Offers cx sent)) v'
+  by None none rests =
+      (false, goes_on v v' (Does (Offers cx false)) (unsettled offered (none_open offered.offered offered.queued.queue none) ∙ sym rests.1))
+  by (Some value) some gives = (is_ok r, goes_on v v' (Does (Offers cx (is_ok r))) (sym gives.1))
