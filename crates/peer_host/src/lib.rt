@@ -3,6 +3,8 @@
 //! A law of `interface`'s polls, and of `Interface::poll` itself. `specs/Streams.antt` and `specs/Datagrams.antt` have the sentences.
 #![tactic(auto)]
 
+pub mod excluded;
+
 ghost use Rattle.std.specs.Prelude.{◌≡◌, ℕ, ℤ, Bool};
 ghost use Rattle.net_base.specs.Time.{IsMoment};
 ghost use Rattle.tcp_model.specs.Value.{TcpValue};

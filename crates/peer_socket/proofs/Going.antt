@@ -2,7 +2,7 @@
 use Rattle.std.proofs.Common.{◌≡◌, Bool, true, false, List, [], ◌∷◌, ◌++◌, Option, Some, None, Result, Err, is_ok, refl, sym, ap, ◌∙◌, subst, append_assoc}
 use Rattle.std.proofs.Common.{append-nil, ℕ}
 use Rattle.std.specs.Fn.{Once}
-use Rattle.std.specs.Prelude.{Ok, MatchOption}
+use Rattle.std.specs.Prelude.{Ok, IfOk, MatchOption, take, drop}
 use Rattle.ip_wire.specs.IpEndpoint.{IpEndpoint}
 use Rattle.ip_wire.specs.IpListenEndpoint.{IpListenEndpoint}
 use Rattle.ip_wire.specs.IpRepr.{IpRepr}
@@ -13,6 +13,7 @@ use Rattle.tcp_socket.specs.Packet.{Packet}
 use Rattle.tcp_socket.specs.Dispatch.{GivesAt, Hands}
 use Rattle.tcp_model.specs.Context.{ContextValue}
 use Rattle.tcp_model.specs.Arrival.{arrives}
+use Rattle.tcp_model.specs.RecvError.{RecvError}
 use Rattle.tcp_model.specs.RecvError.TheVariants as Recv
 use Rattle.tcp_model.specs.Calls.{listen_after, connect_after, send_after, recv_answer, recv_after, close_after, abort_after}
 use Rattle.tcp_model.specs.OpenOffer.{OpenOffer}
@@ -150,3 +151,9 @@ offer_goes_on g f cx v v' r hands = by (offered_packet (offer_of cx v).socket) r
   by None none rests =
       (false, goes_on v v' (Does (Offers cx false)) (unsettled offered (none_open offered.offered offered.queued.queue none) ∙ sym rests.1))
   by (Some value) some gives = (is_ok r, goes_on v v' (Does (Offers cx (is_ok r))) (sym gives.1))
+
+pub read_all_goes_on : (v v' : TcpValue) (bytes : List ℕ) (r : Result ℕ RecvError) (left : List ℕ)
+    → IfOk r (λ count. (v' ≡ recv_after v count) × (left ≡ take count v.received.waiting ++ drop count bytes))
+    → IfOk r (λ count. GoesOn v (Does (Reads count)) v' × (left ≡ take count v.received.waiting ++ drop count bytes))
+read_all_goes_on v v' bytes (Ok count) left is = (read_goes_on v v' count is.0, is.1)
+read_all_goes_on v v' bytes (Err e) left is = tt

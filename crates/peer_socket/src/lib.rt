@@ -7,15 +7,14 @@ ghost use Rattle.std.specs.Prelude.{◌≡◌, ◌++◌, Bool, List, [], length,
 ghost use Rattle.ip_wire.specs.IpEndpoint.{IpEndpoint};
 ghost use Rattle.ip_wire.specs.IpListenEndpoint.{IpListenEndpoint};
 ghost use Rattle.ip_wire.specs.Tcp.{header_of};
-ghost use Rattle.tcp_model.specs.Calls.{listen_answer, connect_answer, send_answer, recv_answer};
+ghost use Rattle.tcp_model.specs.Calls.{listen_answer, listen_after, connect_answer, connect_after, send_answer, recv_answer, close_after, abort_after};
 ghost use Rattle.tcp_model.specs.Arrival.{arrives};
 ghost use Rattle.tcp_model.specs.Offers.{offer_of};
 ghost use Rattle.tcp_model.specs.RecvError.TheVariants as Recv;
-ghost use Rattle.tcp_model.specs.Value.{TcpValue};
+ghost use Rattle.tcp_model.specs.Value.{TcpValue, unoffered};
 ghost use Rattle.tcp_socket.specs.Dispatch.{TakesOffered, Hands};
 ghost use Rattle.tcp_socket.specs.Replies.{replies_in};
-ghost use Rattle.tcp_tie.specs.Run.Event.{Reads, Closes, Aborts, Changes, Offers};
-ghost use Rattle.tcp_tie.specs.Tie.{core_of};
+ghost use Rattle.tcp_tie.specs.Run.Event.{Reads, Closes, Aborts, Offers};
 ghost use Rattle.tcp_peer_tie.specs.Beside.{Event};
 ghost use Rattle.tcp_peer_tie.specs.Beside.Event.{Comes, Listens, Connects, Sends, Does};
 ghost use Rattle.peer_socket.specs.Goes.{after, GoOn, GoesOn, EndIsTrue};
@@ -31,12 +30,31 @@ pub fn events_go_on()
     ensures none { (v : TcpValue) → GoOn v [] v }
 {}
 
+fn listen_to(socket: &mut Socket, endpoint: IpListenEndpoint) -> Result<(), ListenError>
+    ensures answer { result ≡ listen_answer socket.old endpoint }
+    ensures after { socket.new ≡ listen_after socket.old endpoint }
+{
+    socket.listen(endpoint)
+}
+
+fn connect_to<C: Context>(
+    socket: &mut Socket,
+    cx: &mut C,
+    remote: IpEndpoint,
+    local: IpListenEndpoint,
+) -> Result<(), ConnectError>
+    ensures answer { result ≡ connect_answer (C.context cx.old) socket.old remote local }
+    ensures after { socket.new ≡ connect_after (C.context cx.old) socket.old remote local }
+{
+    socket.connect(cx, remote, local)
+}
+
 /// Opens the socket for a connection that a remote opens.
 pub fn listen(socket: &mut Socket, endpoint: IpListenEndpoint) -> Result<(), ListenError>
     ensures answer { result ≡ listen_answer socket.old endpoint }
     ensures goes_on { GoesOn socket.old (Listens endpoint) socket.new }
 {
-    socket.listen(endpoint)
+    listen_to(socket, endpoint)
 }
 
 /// Opens a connection to a remote.
@@ -49,7 +67,7 @@ pub fn connect<C: Context>(
     ensures answer { result ≡ connect_answer (C.context cx.old) socket.old remote local }
     ensures goes_on { GoesOn socket.old (Connects (C.context cx.old) remote local) socket.new }
 {
-    socket.connect(cx, remote, local)
+    connect_to(socket, cx, remote, local)
 }
 
 /// Queues as many of the bytes as there is room for, and returns how many.
@@ -65,7 +83,7 @@ pub fn recv_slice(socket: &mut Socket, bytes: &mut [u8]) -> Result<usize, RecvEr
     ensures answer { result ≡ recv_answer socket.old (length bytes.old) }
     ensures read { IfOk result (λ count. GoesOn socket.old (Does (Reads count)) socket.new
         × (bytes.new ≡ take count socket.old.received.waiting ++ drop count bytes.old)) }
-    ensures refused { OnErr result ((core_of socket.new ≡ core_of socket.old) × (bytes.new ≡ bytes.old)) }
+    ensures refused { OnErr result ((socket.new ≡ unoffered socket.old) × (bytes.new ≡ bytes.old)) }
     ensures end { result ≡ Err Recv.Finished → EndIsTrue socket.old }
 {
     socket.recv_slice(bytes)
@@ -73,6 +91,7 @@ pub fn recv_slice(socket: &mut Socket, bytes: &mut [u8]) -> Result<usize, RecvEr
 
 /// Closes the way out.
 pub fn close(socket: &mut Socket)
+    ensures after { socket.new ≡ close_after socket.old }
     ensures goes_on { GoesOn socket.old (Does Closes) socket.new }
 {
     socket.close();
@@ -80,6 +99,7 @@ pub fn close(socket: &mut Socket)
 
 /// Ends the connection.
 pub fn abort(socket: &mut Socket)
+    ensures after { socket.new ≡ abort_after socket.old }
     ensures goes_on { GoesOn socket.old (Does Aborts) socket.new }
 {
     socket.abort();
