@@ -4,3 +4,4 @@ pub mod Turns
 pub mod Taken
 pub mod Tcp
 pub mod Udp
+pub mod HostRuns

@@ -2,3 +2,4 @@ pub mod Steps
 pub mod Brought
 pub mod Streams
 pub mod Datagrams
+pub mod Runs

@@ -5,7 +5,7 @@
 
 pub mod excluded;
 
-ghost use Rattle.std.specs.Prelude.{◌≡◌, ℕ, ℤ, Bool};
+ghost use Rattle.std.specs.Prelude.{◌≡◌, ℕ, ℤ, Bool, List};
 ghost use Rattle.net_base.specs.Time.{IsMoment};
 ghost use Rattle.tcp_model.specs.Value.{TcpValue};
 ghost use Rattle.sockets.specs.Udp.{UdpValue};
@@ -14,6 +14,7 @@ ghost use Rattle.interface.specs.State.{State, state};
 ghost use Rattle.interface_egress.specs.Set.{places};
 ghost use Rattle.peer_host.specs.Streams.{IsTcpAt, StreamGoesOn};
 ghost use Rattle.peer_host.specs.Datagrams.{IsUdpAt, DatagramsGoOn};
+ghost use Rattle.peer_host.specs.Runs.{Act, ActsAll, IsSafeRun};
 
 use interface::{Interface, PollResult, SocketSet};
 use net_base::{Device, Instant};
@@ -22,7 +23,6 @@ use sockets::Socket;
 /// Law: a poll leads each TCP socket on by offers, and by segments that came in frames and are for the socket; so its stream is safe beside
 /// each honest peer that sent all of them. Of a UDP socket it keeps each datagram that waits, and adds such as came in frames with these
 /// bytes, ports and addresses. It does nothing else to either.
-#[tactic(auto, using(crate::proofs::Tcp::stream_goes_on, crate::proofs::Udp::datagrams_go_on))]
 pub fn polls_go_on<D: Device>()
     ensures streams { (t : ℤ) (budget : ℕ) (s s' : State D) (changed : Bool) (i : ℕ) (v : TcpValue)
         → IsTcpAt s.places i v → Polls D.moves t budget s changed s' → StreamGoesOn D.moves t s i v s' }
@@ -30,8 +30,16 @@ pub fn polls_go_on<D: Device>()
         → IsUdpAt s.places i v → Polls D.moves t budget s changed s' → DatagramsGoOn D.moves t s i v s' }
 {}
 
+/// Law: after every run of a host, with its polls, the calls of one of its TCP sockets, and whatever else happens at it: what that socket saw
+/// is those calls, offers, and segments that came in frames; and beside each honest peer that sent all that came, what was read and waits
+/// begins the peer's stream, a FIN that was taken means that it ended and all was taken in, what left the send queue was acknowledged, and the
+/// socket is an honest peer, too.
+pub fn hosts_are_safe_beside_an_honest_peer<D: Device>()
+    ensures safe { (acts : List Act) (s s' : State D) (i : ℕ) (v : TcpValue)
+        → ActsAll D.moves i acts s s' → IsTcpAt s.places i v → IsSafeRun D.moves i acts s v s' }
+{}
+
 /// Polls an interface, which leads each socket on so.
-#[tactic(auto, using(crate::proofs::Tcp::stream_goes_on, crate::proofs::Udp::datagrams_go_on))]
 pub fn poll<D: Device>(
     interface: &mut Interface,
     timestamp: Instant,
@@ -49,6 +57,5 @@ pub fn poll<D: Device>(
         → DatagramsGoOn D.moves timestamp (state device.old interface.old (places sockets.old)) i v
         (state device.new interface.new (places sockets.new)) }
 {
-    polls_go_on::<D>();
     interface.poll(timestamp, device, sockets, budget)
 }

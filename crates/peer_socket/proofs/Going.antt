@@ -8,7 +8,7 @@ use Rattle.ip_wire.specs.IpListenEndpoint.{IpListenEndpoint}
 use Rattle.ip_wire.specs.IpRepr.{IpRepr}
 use Rattle.ip_wire.specs.TcpHeader.{TcpHeader}
 use Rattle.socket_base.specs.Packet.{PacketValue}
-use Rattle.tcp_law.specs.Segment.{Segment}
+use Rattle.tcp_tie.specs.Segment.{Segment}
 use Rattle.tcp_socket.specs.Packet.{Packet}
 use Rattle.tcp_socket.specs.Dispatch.{GivesAt, Hands}
 use Rattle.tcp_model.specs.Context.{ContextValue}

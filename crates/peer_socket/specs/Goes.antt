@@ -1,7 +1,7 @@
 -- A socket that events led to since it was fresh, what is promised of it beside each honest peer, and how a call goes on from there.
 use Rattle.std.specs.Prelude.{◌≡◌, Bool, true, List, [], ◌∷◌, ◌++◌, Err}
-use Rattle.tcp_law.specs.Alone.{AreResets}
-use Rattle.tcp_law.specs.Segment.{Segment}
+use Rattle.tcp_tie.specs.Alone.{AreResets}
+use Rattle.tcp_tie.specs.Segment.{Segment}
 use Rattle.tcp_model.specs.Value.{TcpValue}
 use Rattle.tcp_tie.specs.Promises.{IsFresh}
 use Rattle.tcp_peer.specs.Peer.{End, IsEnd}
