@@ -20,7 +20,7 @@ use Rattle.sockets.specs.Offer as Answer
 use Rattle.sockets.specs.Socket.{Offers, settled, accepts_packet, accepts_icmpv4, accepts_icmpv6, accepts_datagram, accepts_segment}
 use Rattle.sockets.specs.declared.socket.Socket.{Socket}
 use Rattle.interface_egress.specs.Set.{free}
-use Rattle.interface_tables.specs.Inner.{InnerValue, context_of, is_for_us}
+use Rattle.interface.specs.Inner.{InnerValue, context_of, is_for_us}
 use Rattle.interface_ingress.specs.Arrives.{Arrived, ArrivesV4, ArrivesV6, Brings, Hands, is_direct, renewed, renewed_by, sender_of}
 use Rattle.interface_ingress.specs.Carried.{IsDatagram, IsSegment, IsCarriedContent}
 use Rattle.interface_ingress.specs.Delivered.{Places, passes, changed_at, with_packet, packet_delivered, is_taken_raw, with_icmpv4, with_icmpv6, with_datagram}

@@ -1,5 +1,5 @@
 -- Runs of a host.
-use Rattle.std.proofs.Common.{◌≡◌, ℕ, List, [], ◌∷◌, ◌++◌, refl, sym, ap, ◌∙◌, subst}
+use Rattle.std.proofs.Common.{◌≡◌, ℕ, List, [], ◌∷◌, ◌++◌, refl, sym, subst}
 use Rattle.net_base.specs.Device.{Move}
 use Rattle.tcp_model.specs.Value.{TcpValue}
 use Rattle.interface.specs.State.{State}

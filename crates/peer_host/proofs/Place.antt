@@ -1,7 +1,7 @@
 -- The socket at a place.
-use Rattle.std.proofs.Common.{◌≡◌, ℕ, zero, suc, ◌<◌, Bool, true, false, if◌then◌else◌, List, [], ◌∷◌, ◌++◌, length, get_or, Option, Some, None, refl, sym, ap}
-use Rattle.std.proofs.Common.{◌∙◌, subst, arith}
-use Rattle.std.specs.Prelude.{slice_get, slice_set}
+use Rattle.std.proofs.Common.{◌≡◌, ℕ, zero, suc, Bool, true, false, if◌then◌else◌, [], ◌∷◌, ◌++◌, get_or, Option, Some, None, refl, sym}
+use Rattle.std.proofs.Common.{subst}
+use Rattle.std.specs.Prelude.{slice_set}
 use Rattle.sockets.specs.declared.socket.Socket.{Socket}
 use Rattle.interface_egress.specs.Set.{socket_in, socket_at}
 use Rattle.interface_egress.specs.declared.socket_set.Item.{Item}

@@ -1,21 +1,15 @@
 -- What a poll does to the socket at a place, from where it began.
 use Rattle.std.proofs.Common.{◌≡◌, ℕ, zero, suc, ℤ, Bool, true, false, inl, inr, List, ◌∷◌, ◌++◌, Option, Some, None, refl, sym, subst}
 use Rattle.net_base.specs.Device.{Move, Took}
-use Rattle.ip_wire.specs.IpAddress.{IpAddress}
-use Rattle.ip_wire.specs.IpRepr.{IpRepr}
 use Rattle.sockets.specs.declared.socket.Socket.{Socket}
-use Rattle.interface_egress.specs.declared.socket_set.SocketStorage.{SocketStorage}
 use Rattle.interface_ingress.specs.Delivered.{Places}
-use Rattle.interface_ingress.specs.Incoming.{IncomingValue, IsContent}
-use Rattle.interface.specs.Host.{HostValue, Sender}
 use Rattle.interface.specs.Ingress.{is_read, Takes, Reads}
-use Rattle.interface.specs.Kept.{RunsAt, sending_as, IsKept}
+use Rattle.interface.specs.Kept.{sending_as, IsKept}
 use Rattle.interface.specs.Polls.{Polls, begun}
 use Rattle.interface.specs.State.{State, at_device}
-use Rattle.interface.specs.declared.turn.Turned.{Turned}
 use Rattle.interface.proofs.Keep.{polls_keep}
 use Rattle.peer_host.specs.Brought.{Came}
-use Rattle.peer_host.specs.Steps.{Step, Steps, Reaches}
+use Rattle.peer_host.specs.Steps.{Step, Reaches}
 use Rattle.peer_host.proofs.Place.{HoldsAt, middle_holds}
 use Rattle.peer_host.proofs.Arrivals.{IsOfPolls, brings_holds}
 use Rattle.peer_host.proofs.Turns.{turn_holds}

@@ -1,5 +1,5 @@
 -- A TCP socket through a poll.
-use Rattle.std.proofs.Common.{◌≡◌, ℕ, ℤ, Bool, true, List, [], ◌∷◌, ◌++◌, Option, Some, refl, sym, ap, ◌∙◌, subst}
+use Rattle.std.proofs.Common.{◌≡◌, ℕ, ℤ, Bool, true, List, [], ◌∷◌, ◌++◌, Some, refl, sym, ap, ◌∙◌, subst}
 use Rattle.net_base.specs.Device.{Move}
 use Rattle.net_base.specs.ChecksumCapabilities.{ChecksumCapabilities}
 use Rattle.ip_wire.specs.IpRepr.{IpRepr}
@@ -19,11 +19,11 @@ use Rattle.interface_ingress.specs.Delivered.{with_packet, with_icmpv4, with_icm
 use Rattle.tcp_tie.specs.Run.Event.{Offers as IsAsked}
 use Rattle.tcp_peer_tie.specs.Beside.{Event}
 use Rattle.tcp_peer_tie.specs.Beside.Event.{Comes, Does}
-use Rattle.peer_socket.specs.Goes.{after, after_all, GoOn}
+use Rattle.peer_socket.specs.Goes.{after, after_all}
 use Rattle.peer_socket.proofs.Going.{all_go_on}
 use Rattle.peer_host.specs.Brought.{Came}
 use Rattle.peer_host.specs.Streams.{IsTcpAt, IsOfPoll, AreOfPoll, StreamGoesOn}
-use Rattle.peer_host.proofs.Place.{HoldsAt, Found, found_holds, holds_found}
+use Rattle.peer_host.proofs.Place.{Found, found_holds, holds_found}
 use Rattle.peer_host.proofs.Arrivals.{IsOfPolls}
 use Rattle.peer_host.proofs.Taken.{polled_holds}
 

@@ -15,7 +15,7 @@ use Rattle.sockets.specs.declared.socket.Socket.TheVariants as Is
 use Rattle.sockets.proofs.AnyKind.{has_packet}
 use Rattle.tcp_model.specs.OpenOffer.{OpenOffer}
 use Rattle.tcp_model.specs.Offers.{packet_with}
-use Rattle.interface_tables.specs.Inner.{context_of}
+use Rattle.interface.specs.Inner.{context_of}
 use Rattle.interface_egress.specs.declared.socket_set.Item.{Item}
 use Rattle.interface_egress.specs.declared.socket_set.SocketStorage.{SocketStorage}
 use Rattle.interface.specs.Host.{Sender}

@@ -1,12 +1,12 @@
 -- A UDP socket through a poll.
-use Rattle.std.proofs.Common.{◌≡◌, ℕ, ℤ, Bool, true, false, if◌then◌else◌, ◌&&◌, List, [], ◌∷◌, ◌++◌, length, map, Option, Some, None, refl, sym, ap, ◌∙◌, subst}
+use Rattle.std.proofs.Common.{◌≡◌, ℕ, ℤ, Bool, true, false, if◌then◌else◌, ◌&&◌, List, [], ◌∷◌, ◌++◌, length, Option, Some, None, refl, sym, ap, ◌∙◌, subst}
 use Rattle.std.proofs.Common.{append-nil, append_assoc}
 use Rattle.std.specs.List.{AllByRecursion}
 use Rattle.std.proofs.lemmas.Bool.{eqb-true}
 use Rattle.std.proofs.lemmas.List.{map-append}
 use Rattle.net_base.specs.Device.{Move}
 use Rattle.net_base.specs.ChecksumCapabilities.{ChecksumCapabilities}
-use Rattle.net_base.specs.Packets.{Packets, QueuedPacket, contents, is_full_for, appended, padding_for}
+use Rattle.net_base.specs.Packets.{Packets, QueuedPacket, contents, is_full_for, appended}
 use Rattle.ip_wire.specs.IpRepr.{IpRepr}
 use Rattle.ip_wire.specs.UdpRepr.{UdpRepr}
 use Rattle.sockets.specs.Context.{ContextValue}
@@ -16,7 +16,7 @@ use Rattle.sockets.specs.Packet.{PacketValue}
 use Rattle.sockets.specs.Socket.{Offers, settled, accepts_datagram}
 use Rattle.sockets.specs.SocketValue as Datagrams
 use Rattle.sockets.specs.Udp as Udps
-use Rattle.sockets.specs.Udp.{UdpValue, UdpSettings, TakesDatagram, metadata_of, takes_address, is_open}
+use Rattle.sockets.specs.Udp.{UdpValue, UdpSettings, TakesDatagram, metadata_of, is_open}
 use Rattle.sockets.specs.UdpMetadata.{UdpMetadata}
 use Rattle.sockets.specs.declared.socket.Socket.{Socket}
 use Rattle.sockets.specs.declared.socket.Socket.TheVariants as Is

@@ -1,5 +1,5 @@
 -- Events lead on from wherever events led.
-use Rattle.std.proofs.Common.{◌≡◌, Bool, true, false, List, [], ◌∷◌, ◌++◌, Option, Some, None, Result, Err, is_ok, refl, sym, ap, ◌∙◌, subst, append_assoc}
+use Rattle.std.proofs.Common.{◌≡◌, Bool, false, List, [], ◌∷◌, ◌++◌, Option, Some, None, Result, Err, is_ok, refl, sym, ap, ◌∙◌, subst, append_assoc}
 use Rattle.std.proofs.Common.{append-nil, ℕ}
 use Rattle.std.specs.Fn.{Once}
 use Rattle.std.specs.Prelude.{Ok, IfOk, MatchOption, take, drop}
@@ -20,11 +20,9 @@ use Rattle.tcp_model.specs.OpenOffer.{OpenOffer}
 use Rattle.tcp_model.specs.Offers.{offer_of, offered_packet, packet_with}
 use Rattle.tcp_model.specs.Settled.{settled}
 use Rattle.tcp_model.specs.Value.{TcpValue}
-use Rattle.tcp_tie.specs.Run as two
 use Rattle.tcp_tie.specs.Run.Event.{Listens as TwoListens, Connects as TwoConnects, Sends as TwoSends, Comes as TwoComes}
 use Rattle.tcp_tie.specs.Run.Event.{Reads, Closes, Aborts, Changes, Offers, HostResets}
-use Rattle.tcp_peer.specs.Peer.{End}
-use Rattle.tcp_peer_tie.specs.Beside.{Event, Meeting, IsRun, happens, run, start}
+use Rattle.tcp_peer_tie.specs.Beside.{Event, Meeting, happens, run, start}
 use Rattle.tcp_peer_tie.specs.Beside.Event.{Comes, Listens, Connects, Sends, Does}
 use Rattle.tcp_peer_tie.proofs.Runs.{runs_safe, read_to_the_end}
 use Rattle.peer_socket.specs.Goes.{after, after_all, CameBy, HasCome, GoOn, GoesOn, EndIsTrue}

@@ -1,5 +1,5 @@
 -- A socket that events led to since it was fresh, what is promised of it beside each honest peer, and how a call goes on from there.
-use Rattle.std.specs.Prelude.{◌≡◌, Bool, true, List, [], ◌∷◌, ◌++◌, Err}
+use Rattle.std.specs.Prelude.{◌≡◌, true, List, [], ◌∷◌, ◌++◌}
 use Rattle.tcp_tie.specs.Alone.{AreResets}
 use Rattle.tcp_tie.specs.Segment.{Segment}
 use Rattle.tcp_model.specs.Value.{TcpValue}

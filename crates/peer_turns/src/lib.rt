@@ -5,7 +5,7 @@
 ghost use Rattle.std.specs.Prelude.{ℕ, ℤ, List, Option};
 ghost use Rattle.interface.specs.State.{state};
 ghost use Rattle.sockets.specs.Udp.{UdpValue};
-ghost use Rattle.tcp_model.specs.Value.{TcpValue};
+ghost use Rattle.sockets.specs.TcpValue.{TcpValue};
 ghost use Rattle.tun_host.specs.Backlogs.{HostState};
 ghost use Rattle.tun_host.specs.Turns.{TakesTurn, with_packet};
 ghost use Rattle.tun_link.specs.Drain.{DrainMove};

@@ -1,4 +1,4 @@
-use Rattle.std.proofs.Common.{◌≡◌, ℕ, List, [], ◌∷◌, ◌++◌, sym, ap, ◌∙◌, length, arith, get_or}
+use Rattle.std.proofs.Common.{◌≡◌, ℕ, List, [], ◌∷◌, ◌++◌, sym, ap, ◌∙◌, get_or}
 use Rattle.sockets.specs.UdpMetadata.{UdpMetadata}
 use Rattle.peer_host.proofs.excluded.bad_datagrams_are_excluded.Goals as goal
 

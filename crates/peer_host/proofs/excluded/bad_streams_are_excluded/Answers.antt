@@ -1,4 +1,4 @@
-use Rattle.std.proofs.Common.{◌≡◌, Bool, true, false, sym, ◌∙◌}
+use Rattle.std.proofs.Common.{◌≡◌, true, false, sym, ◌∙◌}
 use Rattle.peer_host.proofs.excluded.bad_streams_are_excluded.Goals as goal
 
 pub returns-clause-written : goal.returns-clause-written
