@@ -27,7 +27,8 @@ module _ {D : Type 0} (moves : D → Move → D → Type 0) (t : ℤ) (from : St
   reads s s' frame mid took read (content, is, receives) at =
       subst (λ (places : Places). HoldsAt W places n) (sym receives.2)
       (brings_holds (Came moves t from) W law n s.host.inner s.places _ receives.0
-      (λ ip payload packet ours. (record {
+      (λ ip payload packet ours. (
+        record {
           host = s;
           reached = at.0;
           frame = frame;
@@ -37,7 +38,9 @@ module _ {D : Type 0} (moves : D → Move → D → Type 0) (t : ℤ) (from : St
           reads = is;
           brings = packet;
           ours = ours;
-        }, refl))
+        },
+        refl,
+      ))
       receives.1.1 at.1)
 
   takes : (s s' : State D) (answer : Option Bool) → Takes moves s answer s' → At s → HoldsAt W s'.places n

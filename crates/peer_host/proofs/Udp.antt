@@ -100,55 +100,55 @@ module _ {D : Type 0} (moves : D → Move → D → Type 0) (t : ℤ) (from : St
   offer_got : (cx : ContextValue) (s offered : Socket) (answer : Answer.Offer) (sent : Bool) → Offers cx s answer offered → GotMore s → GotMore (settled sent offered)
   offer_got cx s offered answer sent offers got =
       by offered (subst (λ (x : Socket). Offers cx x answer offered) got.is offers) where
-    by : (offered : Socket) → Offers cx (Is.Udp got.new) answer offered → GotMore (settled sent offered)
-    by (Is.Udp w) is =
-        let same = same_offered cx got.new w answer _ is in
-        same_in s got.new (Datagrams.settled sent w) got refl (record { settings = same.settings; received = same.received })
-    by (Is.Raw w) is = absurd is
-    by (Is.Icmp w) is = absurd is
-    by (Is.Tcp w) is = absurd is
+        by : (offered : Socket) → Offers cx (Is.Udp got.new) answer offered → GotMore (settled sent offered)
+        by (Is.Udp w) is =
+            let same = same_offered cx got.new w answer _ is in
+            same_in s got.new (Datagrams.settled sent w) got refl (record { settings = same.settings; received = same.received })
+        by (Is.Raw w) is = absurd is
+        by (Is.Icmp w) is = absurd is
+        by (Is.Tcp w) is = absurd is
 
   datagram_got : (caps : ChecksumCapabilities) (cx : ContextValue) (ip : IpRepr) (payload : List ℕ) (udp : UdpRepr) (bytes : List ℕ) (s : Socket)
       → Came moves t from caps ip payload → IsDatagram caps ip payload udp bytes → accepts_datagram cx s ip udp ≡ true → GotMore s
       → GotMore (with_datagram ip udp bytes s)
   datagram_got caps cx ip payload udp bytes s came is accepts got =
       by (is_full_for got.new.received (length bytes)) refl where
-    accepted : Udps.accepts cx got.new ip udp ≡ true
-    accepted = ap (λ (x : Socket). accepts_datagram cx x ip udp) (sym got.is) ∙ accepts
+        accepted : Udps.accepts cx got.new ip udp ≡ true
+        accepted = ap (λ (x : Socket). accepts_datagram cx x ip udp) (sym got.is) ∙ accepts
 
-    was : WasReceived moves t from v.settings.endpoint.port (metadata_of ip udp, bytes)
-    was = record {
-      ip = ip;
-      udp = udp;
-      came = record { caps = caps; payload = payload; came = came; carries = is };
-      told = refl;
-      to_port = bound_to cx got.new ip udp accepted ∙ ap (λ (x : UdpSettings). x.endpoint.port) got.bound;
-    }
+        was : WasReceived moves t from v.settings.endpoint.port (metadata_of ip udp, bytes)
+        was = record {
+          ip = ip;
+          udp = udp;
+          came = record { caps = caps; payload = payload; came = came; carries = is };
+          told = refl;
+          to_port = bound_to cx got.new ip udp accepted ∙ ap (λ (x : UdpSettings). x.endpoint.port) got.bound;
+        }
 
-    new : UdpValue
-    new = Udps.process_after got.new ip udp bytes
+        new : UdpValue
+        new = Udps.process_after got.new ip udp bytes
 
-    by : (full : Bool) → is_full_for got.new.received (length bytes) ≡ full → GotMore (with_datagram ip udp bytes s)
-    by true at = record {
-      new = new;
-      more = got.more;
-      is = ap (with_datagram ip udp bytes) got.is;
-      bound = got.bound;
-      behind = ap (λ (b : Bool). contents (if b then got.new.received else appended got.new.received (length bytes) (metadata_of ip udp) bytes)) at ∙ got.behind;
-      were = got.were;
-    }
-    by false at = record {
-      new = new;
-      more = got.more ++ (metadata_of ip udp, bytes) ∷ [];
-      is = ap (with_datagram ip udp bytes) got.is;
-      bound = got.bound;
-      behind =
-          ap (λ (b : Bool). contents (if b then got.new.received else appended got.new.received (length bytes) (metadata_of ip udp) bytes)) at
-          ∙ contents_appended got.new.received (length bytes) (metadata_of ip udp) bytes
-          ∙ ap (λ (ds : List (UdpMetadata × List ℕ)). ds ++ (metadata_of ip udp, bytes) ∷ []) got.behind
-          ∙ append_assoc (contents v.received) got.more ((metadata_of ip udp, bytes) ∷ []);
-      were = were_more got.more (metadata_of ip udp, bytes) got.were was;
-    }
+        by : (full : Bool) → is_full_for got.new.received (length bytes) ≡ full → GotMore (with_datagram ip udp bytes s)
+        by true at = record {
+          new = new;
+          more = got.more;
+          is = ap (with_datagram ip udp bytes) got.is;
+          bound = got.bound;
+          behind = ap (λ (b : Bool). contents (if b then got.new.received else appended got.new.received (length bytes) (metadata_of ip udp) bytes)) at ∙ got.behind;
+          were = got.were;
+        }
+        by false at = record {
+          new = new;
+          more = got.more ++ (metadata_of ip udp, bytes) ∷ [];
+          is = ap (with_datagram ip udp bytes) got.is;
+          bound = got.bound;
+          behind =
+              ap (λ (b : Bool). contents (if b then got.new.received else appended got.new.received (length bytes) (metadata_of ip udp) bytes)) at
+              ∙ contents_appended got.new.received (length bytes) (metadata_of ip udp) bytes
+              ∙ ap (λ (ds : List (UdpMetadata × List ℕ)). ds ++ (metadata_of ip udp, bytes) ∷ []) got.behind
+              ∙ append_assoc (contents v.received) got.more ((metadata_of ip udp, bytes) ∷ []);
+          were = were_more got.more (metadata_of ip udp, bytes) got.were was;
+        }
 
   got_law : IsOfPolls (Came moves t from) GotMore
   got_law = record {
