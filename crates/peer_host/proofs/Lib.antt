@@ -5,3 +5,4 @@ pub mod Taken
 pub mod Tcp
 pub mod Udp
 pub mod HostRuns
+pub mod Devices
