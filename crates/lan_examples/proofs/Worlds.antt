@@ -105,7 +105,6 @@ telling = record {
     sender = record (at_rest A).sender { in_flight = 3; top = 3 };
     timers = record fresh_timers { retransmit_at = Some (pos 1_000_000) };
     round_trip = record (at_rest A).round_trip { sample = Some (record { ends = 3; since = pos 0 }) };
-    loss = record fresh_loss { probe_at = Some (pos 220_000) };
   };
   received = received_of [] (space 8) 0;
   queued = ring text (replicate 5 0) 0;

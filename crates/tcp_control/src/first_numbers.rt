@@ -49,7 +49,6 @@ fn hash_of(key: [u8; 16], pair: &EndpointPair) -> u64
 }
 
 /// The words of 12 bytes: the own address and port, then the remote's.
-#[tactic(auto, using(crate::proofs::Words::words_of_12))]
 fn words_v4(
     local: &Ipv4Address,
     local_port: u16,
@@ -69,7 +68,6 @@ fn words_v4(
 }
 
 /// The words of 36 bytes.
-#[tactic(auto, using(crate::proofs::Words::words_of_36))]
 fn words_v6(
     local: &Ipv6Address,
     local_port: u16,

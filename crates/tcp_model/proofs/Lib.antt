@@ -1,5 +1,5 @@
 pub mod Waits
-pub mod Echoes
+pub mod EchoSteps
 pub mod Numbers
 pub mod Positions
 pub mod Idle

@@ -27,9 +27,13 @@ abbrev pub probe_from : Block → ℤ → Option ℤ
 probe_from b now =
     if b.sender.in_flight == 0 then None else after_wait now (probe_wait b.round_trip (nat_le b.sender.in_flight b.reno.mss))
 
+-- Probes go where both SYNs permitted selective acknowledgements, and the user asked for a least timeout below the second of RFC 6298, 2.4.
+abbrev pub probes_losses : Block → Bool
+probes_losses b = b.peer.sack && nat_lt b.settings.min_rto 1_000_000
+
 -- one goes some time from now, unless one went already since something new was acknowledged
 abbrev pub probe_armed : Block → Loss → ℤ → Loss
-probe_armed b l now = if b.peer.sack && not l.probed then record l { probe_at = probe_from b now } else l
+probe_armed b l now = if probes_losses b && not l.probed then record l { probe_at = probe_from b now } else l
 
 -- while text or a FIN is in flight
 abbrev pub loss_probe_moment : Block → Option ℤ

@@ -188,7 +188,7 @@ mod checks;
 mod due;
 mod endpoints;
 mod fresh;
-mod loss;
+mod loss_recovery;
 mod opening;
 mod retries;
 mod rules;

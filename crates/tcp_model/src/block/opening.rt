@@ -121,10 +121,11 @@ impl Block {
             self.move_una(1, 0, now);
             self.state = State::Established;
             self.timers.ack_at = Some(now);
+            self.believe_stamp(now);
         } else {
             self.hear();
             self.state = State::SynReceived;
+            self.believe_stamp(now);
         }
-        self.believe_stamp(now);
     }
 }

@@ -2,7 +2,7 @@
 ghost use Rattle.std.specs.Prelude.{◌≡◌, ◌≤◌, ◌<◌, ◌^◌};
 ghost use Rattle.net_base.specs.Time.{IsMoment};
 ghost use Rattle.tcp_model.specs.Blocks.{fresh_loss};
-ghost use Rattle.tcp_model.specs.LossRecovery.{with_board, after_wait, probe_from, probe_armed, loss_probe_moment, run_within, run_of, range_noted, all_noted};
+ghost use Rattle.tcp_model.specs.LossRecovery.{with_board, after_wait, probe_from, probes_losses, probe_armed, loss_probe_moment, run_within, run_of, range_noted, all_noted};
 ghost use Rattle.tcp_model.specs.LossRecovery.{heard_more, ranges_noted, threshold, is_lost_at, is_first_lost, is_lost_again, pipe_in_recovery, pipe, next_hole};
 ghost use Rattle.tcp_model.specs.LossRecovery.{fills_hole, again_place, hole_len, loss_lowered, loss_acked, loss_resent, loss_timed_out, probes_tail};
 ghost use Rattle.tcp_model.specs.LossRecovery.{loss_probed, loss_probed_by};
@@ -15,6 +15,9 @@ use tcp_control::offsets::past_by;
 
 /// DupThresh: once so many runs behind a position are held, or more than two segments, it is lost.
 const THRESHOLD: u8 = 3;
+
+/// Where the least timeout is as long, in microseconds, no probe goes.
+const LONG_TIMEOUT: u64 = 1_000_000;
 
 impl Loss {
     /// Of a new connection.
@@ -44,12 +47,20 @@ impl Block {
         after_wait(now, self.round_trip.probe_wait(alone))
     }
 
+    /// Whether probes go: the least timeout is below a second, and both SYNs permitted selective
+    /// acknowledgements.
+    fn probes_losses(&self) -> bool
+        ensures { result ≡ probes_losses self.now }
+    {
+        self.peer.sack && self.settings.min_rto.total_micros() < LONG_TIMEOUT
+    }
+
     /// A probe goes some time from now, unless one went already since something new was acknowledged.
     pub fn arm_probe(&mut self, now: Instant)
         requires { IsMoment now }
         ensures { self.new ≡ record self.old { loss = probe_armed self.old self.old.loss now } }
     {
-        if self.peer.sack && !self.loss.probed {
+        if self.probes_losses() && !self.loss.probed {
             self.loss.probe_at = self.probe_from(now);
         }
     }
