@@ -21,7 +21,7 @@ fn tells_default_routes(rt: HostRuntime) -> Result<(), Fail> {
     let v4 = Ipv4Address::new(192, 168, 1, 1);
     let v6 = Ipv6Address::new(0xfd00, 0, 0, 0, 0, 0, 0, 1);
     let (router4, router6) = (Some(IpAddress::Ipv4(v4)), Some(IpAddress::Ipv6(v6)));
-    let mut routes = Routes::new();
+    let mut routes: Routes<2> = Routes::new();
     assert!(rt; defaults(&routes) == (None, None));
     let _ = routes.add_default_ipv6_route(v6);
     assert!(rt; defaults(&routes) == (None, router6));

@@ -133,6 +133,6 @@ fn settings_are_taken(rt: HostRuntime) -> Result<(), Fail> {
 #[test]
 fn bytes_are_given_back(rt: HostRuntime) -> Result<(), Fail> {
     let bytes = filled(rt.alloc(), 3)?.into_vec();
-    assert!(rt; bytes.as_slice() == [0x5a, 0x5a, 0x5a]);
+    assert!(rt; bytes.as_slice() == b"ZZZ".as_slice());
     Ok(())
 }
