@@ -1,5 +1,5 @@
 -- A packet that has no extension headers.
-use Rattle.std.proofs.Common.{◌≡◌, ℕ, true, List, refl, ap, ◌∙◌}
+use Rattle.std.proofs.Common.{◌≡◌, ℕ, true, IsTrue, List, refl, ap, ◌∙◌}
 use Rattle.ip_wire.specs.Ip.{carried_in}
 use Rattle.ip_wire.specs.IpProtocol.{IpProtocol}
 use Rattle.ip_wire.specs.IpProtocol.TheVariants as Protocol
@@ -11,7 +11,7 @@ use Rattle.ipv6_headers.specs.Headers.{go_through, upper_of, upper_bytes_of}
 use Rattle.ipv6_headers.specs.declared.headers.Behind.{Behind}
 use Rattle.ipv6_headers.specs.declared.headers.Behind.TheVariants as End
 use Rattle.ipv6_headers.proofs.Bare.{bare_icmpv6, bare_tcp, bare_udp}
-use Rattle.interface_ingress.specs.Handed.{is_known_v6}
+use Rattle.interface_ingress.specs.Handed.{is_known_v6, is_bare}
 use Rattle.interface_ingress.specs.Upper.{IsBare}
 
 -- a protocol that the host knows stands there at once
@@ -30,6 +30,10 @@ bare_v6 header payload known =
       ap (λ (b : Behind). Ip.Ipv6 (record header { next_header = upper_of b })) e,
       ap (upper_bytes_of payload) e,
     )
+
+pub bare_if : (ip : IpRepr) (payload : List ℕ) → IsTrue (is_bare ip) → IsBare ip payload
+bare_if (Ip.Ipv4 header) payload known = bare_v4 header payload
+bare_if (Ip.Ipv6 header) payload known = bare_v6 header payload known
 
 -- a header that names this, which the host knows
 pub bare_where : (ip : IpRepr) (payload : List ℕ) (protocol : IpProtocol) → carried_in ip ≡ protocol → is_known_v6 protocol ≡ true → IsBare ip payload

@@ -101,6 +101,11 @@ is_known_v6 Protocol.Udp = true
 is_known_v6 Protocol.Tcp = true
 is_known_v6 protocol = false
 
+-- such a protocol stands right behind the header
+abbrev pub is_bare : IpRepr → Bool
+is_bare (Ip.Ipv4 header) = true
+is_bare (Ip.Ipv6 header) = is_known_v6 header.next_header
+
 abbrev pub is_unknown : Problem → Bool
 is_unknown Told.NextHeader = true
 is_unknown problem = false

@@ -1,5 +1,5 @@
 //! What a packet for the host carries, given to sockets and tables.
-ghost use Rattle.std.specs.Prelude.{◌≡◌, ◌≢◌, ◌+◌, ◌<◌, ◌≤◌, ◌^◌, length, None, IfSome};
+ghost use Rattle.std.specs.Prelude.{◌≡◌, ◌≢◌, ◌+◌, ◌<◌, ◌≤◌, ◌^◌, length, None, IsTrue, IfSome};
 ghost use Rattle.ip_wire.specs.Ip.{Fits, payload_len_of, carried_in};
 ghost use Rattle.ip_wire.specs.IpProtocol.TheVariants as Protocol;
 ghost use Rattle.ip_wire.specs.Tcp as Tcp;
@@ -12,7 +12,7 @@ ghost use Rattle.interface_egress.specs.Inner.{context_of};
 ghost use Rattle.interface_ingress.specs.Delivered.{datagram_delivered};
 ghost use Rattle.interface_ingress.specs.Handed.{control_v4_places, control_v4_reply, message_host, message_reply, control_v6_host, control_v6_places};
 ghost use Rattle.interface_ingress.specs.Handed.{control_v6_reply, is_for_many, names_nobody, datagram_reply, segment_host, segment_places, segment_reply};
-ghost use Rattle.interface_ingress.specs.Handed.{is_known_v4, is_known_v6, is_unknown, unread_v6, unread_reply, handed_host, handed_places, handed_reply, FitsBack};
+ghost use Rattle.interface_ingress.specs.Handed.{is_known_v4, is_known_v6, is_unknown, is_bare, unread_v6, unread_reply, handed_host, handed_places, handed_reply, FitsBack};
 ghost use Rattle.ipv6_headers.specs.Headers.{StopsWithin, upper_of, upper_bytes_of};
 ghost use Rattle.ip_wire.specs.IpRepr.TheVariants as Ip;
 ghost use Rattle.ip_wire.specs.Ipv6 as Ipv6;
@@ -455,6 +455,30 @@ fn upper_bytes<'a>(payload: &'a [u8], behind: &Behind) -> &'a [u8]
     }
 }
 
+/// Hands on the payload of a packet for the host that has no extension headers.
+fn hand_bare<'a>(
+    inner: &mut InterfaceInner,
+    places: &mut [SocketStorage<Socket>],
+    header: &IpRepr,
+    payload: &'a [u8],
+    is_taken: bool,
+    reply: &mut Option<Reply<'a>>,
+)
+    requires bare { IsTrue (is_bare header.now) }
+    requires fits { Fits header.now }
+    requires len { length payload.now ≡ payload_len_of header.now }
+    requires short { length payload.now < 2 ^ 16 }
+    requires none { reply.old ≡ None }
+    ensures hands { Hands inner.old places.old header.now payload.now is_taken (arrived inner.new places.new (reply_of reply.new)) }
+    ensures sendable { IfCanGo (reply_of reply.new) }
+{
+    let upper = Upper {
+        header,
+        bytes: payload,
+    };
+    hand_upper(inner, places, header, payload, is_taken, &upper, reply);
+}
+
 /// Goes through the extension headers of an IPv6 packet for the host, and hands on what stands behind them.
 fn hand_behind<'a>(
     inner: &mut InterfaceInner,
@@ -496,15 +520,14 @@ pub(crate) fn hand<'a>(
     ensures hands { Hands inner.old places.old header.now payload.now is_taken (arrived inner.new places.new (reply_of reply.new)) }
     ensures sendable { IfCanGo (reply_of reply.new) }
 {
-    if let IpRepr::Ipv6(v6) = header {
-        if !is_known_v6(v6.next_header) {
-            hand_behind(inner, places, v6, payload, is_taken, reply);
-            return;
+    match header {
+        IpRepr::Ipv4(_) => hand_bare(inner, places, header, payload, is_taken, reply),
+        IpRepr::Ipv6(v6) => {
+            if is_known_v6(v6.next_header) {
+                hand_bare(inner, places, header, payload, is_taken, reply);
+            } else {
+                hand_behind(inner, places, v6, payload, is_taken, reply);
+            }
         }
     }
-    let upper = Upper {
-        header,
-        bytes: payload,
-    };
-    hand_upper(inner, places, header, payload, is_taken, &upper, reply);
 }
