@@ -1,5 +1,5 @@
 -- What each move of a device keeps of it is kept by each thing that a poll does.
-use Rattle.std.proofs.Common.{◌≡◌, ℕ, zero, suc, ℤ, Bool, true, false, inl, inr, List, ◌∷◌, ◌++◌, Option, Some, None, is_some, refl, sym, ap, subst}
+use Rattle.std.proofs.Common.{◌≡◌, ℕ, zero, suc, ℤ, Bool, true, false, inl, inr, List, Option, Some, None, is_some, sym, ap, subst}
 use Rattle.net_base.specs.Device.{Move, Took, Empty, Allowed, Emitted, Denied}
 use Rattle.ip_wire.specs.IpAddress.{IpAddress}
 use Rattle.ip_wire.specs.IpRepr.{IpRepr}
@@ -9,10 +9,11 @@ use Rattle.sockets.specs.Packet.{PacketValue}
 use Rattle.sockets.specs.Socket.{offered_by}
 use Rattle.sockets.specs.declared.socket.Socket.{Socket}
 use Rattle.interface_egress.specs.Inner.{InnerValue}
+use Rattle.interface_egress.specs.Departure as Departures
 use Rattle.interface_egress.specs.Departure.{Departure}
 use Rattle.interface_egress.specs.Emits.{Emits}
 use Rattle.interface_egress.specs.Fragments.{LeftValue}
-use Rattle.interface_egress.specs.GoesOut.{GoesOut, PieceGoesOut, Asked, Went, WasCut, cut_of}
+use Rattle.interface_egress.specs.GoesOut.{GoesOut, PieceGoesOut, Asked, Went, WasCut, cut_of, frame_of, frame_len_of}
 use Rattle.interface_egress.specs.Plan.{plan_of}
 use Rattle.interface_egress.specs.declared.frame.Question.{Question}
 use Rattle.interface_egress.specs.declared.plan.Plan.{Plan}
@@ -46,22 +47,22 @@ module _ {D : Type 0} (moves : D → Move → D → Type 0) (Q : D → Type 0) (
   emits d d' frame len false is holds = keeps d d' (Denied len) is holds
 
   asked : (d d' : D) (i i' : InnerValue) (q : Question) (sent : Sent) → Asked moves d i q sent d' i' → Q d → Q d'
-  asked d d' i i' q Outcome.Waits is holds = emits d d' _ _ true is.0 holds
-  asked d d' i i' q Outcome.Refused is holds = emits d d' _ _ false is.0 holds
+  asked d d' i i' q Outcome.Waits is holds = keeps d d' (Emitted _) is.0.0 holds
+  asked d d' i i' q Outcome.Refused is holds = keeps d d' (Denied _) is.0 holds
   asked d d' i i' q Outcome.Gone is holds = absurd is
   asked d d' i i' q Outcome.Dropped is holds = absurd is
   asked d d' i i' q Outcome.Busy is holds = absurd is
 
   went : (d d' : D) (i i' : InnerValue) (header : IpRepr) (p : Departure) (sent : Sent) → Went moves d i header p sent d' i' → Q d → Q d'
-  went d d' i i' header p Outcome.Gone is holds = emits d d' _ _ true is.0 holds
-  went d d' i i' header p Outcome.Refused is holds = emits d d' _ _ false is.0 holds
+  went d d' i i' header p Outcome.Gone is holds = keeps d d' (Emitted _) is.0.0 holds
+  went d d' i i' header p Outcome.Refused is holds = keeps d d' (Denied _) is.0 holds
   went d d' i i' header p Outcome.Waits is holds = absurd is
   went d d' i i' header p Outcome.Dropped is holds = absurd is
   went d d' i i' header p Outcome.Busy is holds = absurd is
 
   was_cut : (d d' : D) (i i' : InnerValue) (l l' : Option LeftValue) (c : LeftValue) (sent : Sent) → WasCut moves d i l c sent d' i' l' → Q d → Q d'
-  was_cut d d' i i' l l' c Outcome.Gone is holds = emits d d' _ _ true is.0 holds
-  was_cut d d' i i' l l' c Outcome.Refused is holds = emits d d' _ _ false is.0 holds
+  was_cut d d' i i' l l' c Outcome.Gone is holds = keeps d d' (Emitted _) is.0.0 holds
+  was_cut d d' i i' l l' c Outcome.Refused is holds = keeps d d' (Denied _) is.0 holds
   was_cut d d' i i' l l' c Outcome.Waits is holds = absurd is
   was_cut d d' i i' l l' c Outcome.Dropped is holds = absurd is
   was_cut d d' i i' l l' c Outcome.Busy is holds = absurd is
@@ -77,8 +78,8 @@ module _ {D : Type 0} (moves : D → Move → D → Type 0) (Q : D → Type 0) (
   goes d d' i i' l l' p (Way.Cut to v) sent is holds = was_cut d d' i i' l l' (cut_of i to v p) sent is holds
 
   piece_goes : (d d' : D) (i : InnerValue) (l : LeftValue) (gone : Bool) (l' : Option LeftValue) → PieceGoesOut moves d i l gone d' l' → Q d → Q d'
-  piece_goes d d' i l true l' is holds = emits d d' _ _ true is.0 holds
-  piece_goes d d' i l false l' is holds = emits d d' _ _ false is.0 holds
+  piece_goes d d' i l true l' is holds = keeps d d' (Emitted _) is.0.0 holds
+  piece_goes d d' i l false l' is holds = keeps d d' (Denied _) is.0 holds
 
   piece_leaves : (l : LeftValue) (x x' : Sender D) (gone : Bool) → PieceLeaves moves l x gone x' → Q x.device → Q x'.device
   piece_leaves l x x' gone (inl stays) holds = keeps x.device x'.device (Allowed false) stays.0 holds
@@ -89,7 +90,8 @@ module _ {D : Type 0} (moves : D → Move → D → Type 0) (Q : D → Type 0) (
 
   replied : (awaited : Bool) (reply : Option ReplyValue) (x x' : Sender D) → Replied moves awaited reply x x' → Q x.device → Q x'.device
   replied awaited None x x' is holds = same x.device x'.device (ap (λ (y : Sender D). y.device) is) holds
-  replied awaited (Some (Replies.Tells packet)) x x' is holds = emits x.device x'.device _ _ is.0 is.1 holds
+  replied awaited (Some (Replies.Tells packet)) x x' is holds =
+      emits x.device x'.device (frame_of x.inner (Departures.Tells packet)) (frame_len_of x.inner (Departures.Tells packet)) is.0 is.1 holds
   replied awaited (Some (Replies.Answers p)) x x' (inl held) holds = same x.device x'.device (ap (λ (y : Sender D). y.device) held.0) holds
   replied awaited (Some (Replies.Answers p)) x x' (inr answers) holds =
       goes x.device x'.device x.inner x'.inner x.left x'.left p (plan_of x.inner (is_some x.left) p.header) answers.0 answers.1 holds

@@ -1,5 +1,5 @@
 -- The frame that a poll takes is the packet of its turn.
-use Rattle.std.proofs.Common.{◌≡◌, ℕ, ℤ, Bool, true, false, if◌then◌else◌, List, [], ◌∷◌, length, Some, None, refl, sym, ap, ◌∙◌, subst}
+use Rattle.std.proofs.Common.{◌≡◌, ℕ, ℤ, Bool, true, false, if◌then◌else◌, List, [], ◌∷◌, length, Some, None, sym, ap, ◌∙◌}
 use Rattle.std.specs.Prelude.{nat_lt, Option}
 use Rattle.net_base.specs.Device.{Move, Took, Empty, Allowed, Emitted, Denied}
 use Rattle.ip_wire.specs.IpRepr.{IpRepr}
