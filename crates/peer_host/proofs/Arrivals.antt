@@ -27,6 +27,7 @@ use Rattle.interface_ingress.specs.Delivered.{Places, passes, changed_at, with_p
 use Rattle.interface_ingress.specs.Delivered.{datagram_place, with_segment, segment_place, segment_delivered}
 use Rattle.interface_ingress.specs.Handed.{control_v4_places, control_v6_places, names_nobody, handed_places}
 use Rattle.interface_ingress.specs.Incoming.{IncomingValue, Arp, Ip4, Ip6}
+use Rattle.interface_ingress.specs.Upper.{upper_header, upper_payload}
 use Rattle.interface_ingress.proofs.AtPlace.{changed_here}
 use Rattle.interface_ingress.proofs.Segments.{accepted_there}
 use Rattle.peer_host.specs.Brought.{IsPacket}
@@ -39,9 +40,9 @@ pub record IsOfPolls (Came : ChecksumCapabilities → IpRepr → List ℕ → Ty
   pub icmpv4 : (ip : Ipv4Repr) (message : Icmpv4Header) (bytes : List ℕ) (s : Socket) → W s → W (with_icmpv4 ip message bytes s)
   pub icmpv6 : (ip : Ipv6Repr) (message : MessageValue) (bytes : List ℕ) (s : Socket) → W s → W (with_icmpv6 ip message bytes s)
   pub datagram : (caps : ChecksumCapabilities) (cx : ContextValue) (ip : IpRepr) (payload : List ℕ) (udp : UdpRepr) (bytes : List ℕ) (s : Socket)
-      → Came caps ip payload → IsDatagram caps ip payload udp bytes → accepts_datagram cx s ip udp ≡ true → W s → W (with_datagram ip udp bytes s)
+      → Came caps ip payload → IsDatagram caps (upper_header ip payload) (upper_payload ip payload) udp bytes → accepts_datagram cx s ip udp ≡ true → W s → W (with_datagram ip udp bytes s)
   pub segment : (caps : ChecksumCapabilities) (cx : ContextValue) (ip : IpRepr) (payload : List ℕ) (header : TcpHeader) (bytes : List ℕ) (s : Socket)
-      → Came caps ip payload → IsSegment caps ip payload header bytes → accepts_segment s ip header ≡ true → W s → W (with_segment cx ip header bytes s)
+      → Came caps ip payload → IsSegment caps (upper_header ip payload) (upper_payload ip payload) header bytes → accepts_segment s ip header ≡ true → W s → W (with_segment cx ip header bytes s)
 
 module _ (Came : ChecksumCapabilities → IpRepr → List ℕ → Type 0) (W : Socket → Type 0) (law : IsOfPolls Came W) (n : ℕ) where
   abbrev Holds : Places → Type 0
@@ -66,7 +67,7 @@ module _ (Came : ChecksumCapabilities → IpRepr → List ℕ → Type 0) (W : S
 
   module _ (caps : ChecksumCapabilities) (ip : IpRepr) (payload : List ℕ) (came : Came caps ip payload) (cx : ContextValue) (places : Places)
       (holds : Holds places) where
-    datagram_at : (udp : UdpRepr) (bytes : List ℕ) → IsDatagram caps ip payload udp bytes → (o : Option ℕ) → datagram_place cx ip udp places ≡ o
+    datagram_at : (udp : UdpRepr) (bytes : List ℕ) → IsDatagram caps (upper_header ip payload) (upper_payload ip payload) udp bytes → (o : Option ℕ) → datagram_place cx ip udp places ≡ o
         → Holds (changed_at (with_datagram ip udp bytes) o places)
     datagram_at udp bytes is None at = holds
     datagram_at udp bytes is (Some at) there =
@@ -75,7 +76,7 @@ module _ (Came : ChecksumCapabilities → IpRepr → List ℕ → Type 0) (W : S
         (set_holds W (λ s. accepts_datagram cx s ip udp) (with_datagram ip udp bytes)
         (λ s accepts w. law.datagram caps cx ip payload udp bytes s came is accepts w) places at n free first.1 holds)
 
-    segment_at : (header : TcpHeader) (bytes : List ℕ) → IsSegment caps ip payload header bytes → (o : Option ℕ) → segment_place ip header places ≡ o
+    segment_at : (header : TcpHeader) (bytes : List ℕ) → IsSegment caps (upper_header ip payload) (upper_payload ip payload) header bytes → (o : Option ℕ) → segment_place ip header places ≡ o
         → Holds (changed_at (with_segment cx ip header bytes) o places)
     segment_at header bytes is None at = holds
     segment_at header bytes is (Some at) there =
@@ -84,13 +85,13 @@ module _ (Came : ChecksumCapabilities → IpRepr → List ℕ → Type 0) (W : S
         (set_holds W (λ s. accepts_segment s ip header) (with_segment cx ip header bytes)
         (λ s accepts w. law.segment caps cx ip payload header bytes s came is accepts w) places at n free first.1 holds)
 
-    segment_for : (nobody : Bool) (header : TcpHeader) (bytes : List ℕ) → IsSegment caps ip payload header bytes
+    segment_for : (nobody : Bool) (header : TcpHeader) (bytes : List ℕ) → IsSegment caps (upper_header ip payload) (upper_payload ip payload) header bytes
         → Holds (if nobody then places else segment_delivered cx ip header bytes places)
     segment_for true header bytes is = holds
     segment_for false header bytes is = segment_at header bytes is (segment_place ip header places) refl
 
   handed : (i : InnerValue) (places : Places) (ip : IpRepr) (payload : List ℕ) (carried : Option PayloadValue) → Came i.checksums ip payload
-      → IsCarriedContent i.checksums ip payload carried → Holds places → Holds (handed_places i places ip carried)
+      → IsCarriedContent i.checksums (upper_header ip payload) (upper_payload ip payload) carried → Holds places → Holds (handed_places i places ip carried)
   handed i places ip payload None came is holds = holds
   handed i places ip payload (Some (ControlV4 message bytes)) came is holds = messages_v4 ip message bytes places holds
   handed i places ip payload (Some (ControlV6 message bytes)) came is holds = messages_v6 ip message bytes places holds

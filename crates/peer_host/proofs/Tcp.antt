@@ -15,6 +15,7 @@ use Rattle.tcp_model.specs.Value.{TcpValue}
 use Rattle.interface.specs.Polls.{Polls}
 use Rattle.interface.specs.State.{State}
 use Rattle.interface_ingress.specs.Carried.{IsSegment}
+use Rattle.interface_ingress.specs.Upper.{upper_header, upper_payload}
 use Rattle.interface_ingress.specs.Delivered.{with_packet, with_icmpv4, with_icmpv6, with_datagram, with_segment}
 use Rattle.tcp_tie.specs.Run.Event.{Offers as IsAsked}
 use Rattle.tcp_peer_tie.specs.Beside.{Event}
@@ -74,7 +75,7 @@ module _ {D : Type 0} (moves : D → Move → D → Type 0) (t : ℤ) (from : St
       one_more s (settled sent offered) led (Does (IsAsked cx sent)) tt (ap (settled sent) is)
 
   segment_led : (caps : ChecksumCapabilities) (cx : ContextValue) (ip : IpRepr) (payload : List ℕ) (header : TcpHeader) (bytes : List ℕ) (s : Socket)
-      → Came moves t from caps ip payload → IsSegment caps ip payload header bytes → accepts_segment s ip header ≡ true → LedTo s
+      → Came moves t from caps ip payload → IsSegment caps (upper_header ip payload) (upper_payload ip payload) header bytes → accepts_segment s ip header ≡ true → LedTo s
       → LedTo (with_segment cx ip header bytes s)
   segment_led caps cx ip payload header bytes s came is accepts led =
       one_more s (with_segment cx ip header bytes s) led (Comes cx ip header bytes) (

@@ -23,6 +23,7 @@ use Rattle.sockets.specs.declared.socket.Socket.TheVariants as Is
 use Rattle.interface.specs.Polls.{Polls}
 use Rattle.interface.specs.State.{State}
 use Rattle.interface_ingress.specs.Carried.{IsDatagram}
+use Rattle.interface_ingress.specs.Upper.{upper_header, upper_payload}
 use Rattle.interface_ingress.specs.Delivered.{with_packet, with_icmpv4, with_icmpv6, with_datagram, with_segment}
 use Rattle.peer_host.specs.Brought.{Came}
 use Rattle.peer_host.specs.Datagrams.{IsUdpAt, WasReceived, DatagramsGoOn}
@@ -109,7 +110,7 @@ module _ {D : Type 0} (moves : D → Move → D → Type 0) (t : ℤ) (from : St
         by (Is.Tcp w) is = absurd is
 
   datagram_got : (caps : ChecksumCapabilities) (cx : ContextValue) (ip : IpRepr) (payload : List ℕ) (udp : UdpRepr) (bytes : List ℕ) (s : Socket)
-      → Came moves t from caps ip payload → IsDatagram caps ip payload udp bytes → accepts_datagram cx s ip udp ≡ true → GotMore s
+      → Came moves t from caps ip payload → IsDatagram caps (upper_header ip payload) (upper_payload ip payload) udp bytes → accepts_datagram cx s ip udp ≡ true → GotMore s
       → GotMore (with_datagram ip udp bytes s)
   datagram_got caps cx ip payload udp bytes s came is accepts got =
       by (is_full_for got.new.received (length bytes)) refl where

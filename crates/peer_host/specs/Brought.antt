@@ -12,6 +12,7 @@ use Rattle.interface_ingress.specs.Arrives.{whole_after}
 use Rattle.interface_ingress.specs.Carried.{IsDatagram, IsSegment}
 use Rattle.interface_ingress.specs.Incoming.{IncomingValue, Arp, Ip4, Ip6, IsContent}
 use Rattle.interface_ingress.specs.Reassembled.{taken_in}
+use Rattle.interface_ingress.specs.Upper.{upper_header, upper_payload}
 use Rattle.interface.specs.State.{State}
 use Rattle.peer_host.specs.Steps.{Reaches}
 
@@ -43,16 +44,16 @@ module _ {D : Type 0} (moves : D → Move → D → Type 0) (moment : ℤ) (from
   abbrev pub Came : ChecksumCapabilities → IpRepr → List ℕ → Type 0
   Came caps ip payload = (b : WasBrought ip payload) × (b.host.host.inner.checksums ≡ caps)
 
-  -- a TCP segment in such a packet; its checksum is right where the host tests it
+  -- a TCP segment in such a packet, behind its extension headers; its checksum is right where the host tests it
   pub record SegmentCame (ip : IpRepr) (header : TcpHeader) (bytes : List ℕ) : Type 0 where
     pub caps : ChecksumCapabilities
     pub payload : List ℕ
     pub came : Came caps ip payload
-    pub carries : IsSegment caps ip payload header bytes
+    pub carries : IsSegment caps (upper_header ip payload) (upper_payload ip payload) header bytes
 
   -- and a UDP datagram
   pub record DatagramCame (ip : IpRepr) (udp : UdpRepr) (bytes : List ℕ) : Type 0 where
     pub caps : ChecksumCapabilities
     pub payload : List ℕ
     pub came : Came caps ip payload
-    pub carries : IsDatagram caps ip payload udp bytes
+    pub carries : IsDatagram caps (upper_header ip payload) (upper_payload ip payload) udp bytes

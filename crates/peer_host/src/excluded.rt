@@ -14,6 +14,7 @@ ghost use Rattle.sockets.specs.UdpMetadata.{UdpMetadata};
 ghost use Rattle.tcp_model.specs.Names.{accepts};
 ghost use Rattle.tcp_model.specs.Value.{TcpValue};
 ghost use Rattle.interface.specs.State.{State};
+ghost use Rattle.interface_ingress.specs.Upper.{upper_header, upper_payload};
 ghost use Rattle.tcp_tie.specs.Run.Event.{Reads, Closes};
 ghost use Rattle.tcp_peer_tie.specs.Beside.Event.{Comes, Sends, Does};
 ghost use Rattle.peer_host.specs.Brought.{SegmentCame};
@@ -43,9 +44,10 @@ pub fn bad_datagrams_are_excluded<D: Device>()
     ensures other_sender { (t : ℤ) (s : State D) (port : ℕ) (d : UdpMetadata × List ℕ) (w : WasReceived D.moves t s port d)
         → d.0.endpoint.port ≢ w.udp.src_port → ⊥ }
     ensures bad_checksum { (t : ℤ) (s : State D) (port : ℕ) (d : UdpMetadata × List ℕ) (w : WasReceived D.moves t s port d)
-        → IsTrue (verifies w.came.caps.udp) → (IsChecked (source_of w.ip) (destination_of w.ip) w.came.payload → ⊥) → ⊥ }
+        → IsTrue (verifies w.came.caps.udp) → (IsChecked (source_of (upper_header w.ip w.came.payload)) (destination_of (upper_header w.ip w.came.payload))
+        (upper_payload w.ip w.came.payload) → ⊥) → ⊥ }
     ensures other_bytes { (t : ℤ) (s : State D) (port : ℕ) (d : UdpMetadata × List ℕ) (w : WasReceived D.moves t s port d)
-        → d.1 ≢ payload_of w.came.payload → ⊥ }
+        → d.1 ≢ payload_of (upper_payload w.ip w.came.payload) → ⊥ }
     ensures lost { (t : ℤ) (s s' : State D) (i : ℕ) (v : UdpValue) (d : UdpMetadata × List ℕ) (rest : List (UdpMetadata × List ℕ))
         (g : DatagramsGoOn D.moves t s i v s') → contents v.received ≡ d ∷ rest → contents g.new.received ≡ [] → ⊥ }
     ensures another_first { (t : ℤ) (s s' : State D) (i : ℕ) (v : UdpValue) (d e : UdpMetadata × List ℕ) (rest later : List (UdpMetadata × List ℕ))
