@@ -43,6 +43,7 @@ use Rattle.tcp_model.specs.Controls.{is_syn, is_fin, is_rst}
 use Rattle.tcp_model.specs.Moments.{is_due, is_over, timeout_from}
 use Rattle.tcp_model.specs.Endpoints.{local_of, remote_of, pair_in, addresses_in, header_for, is_between, is_connected_by, is_bare, takes_address}
 use Rattle.tcp_model.specs.Names.{accepts_in, accepts}
+use Rattle.tcp_model.specs.LossRecovery.{loss_probe_moment, loss_probed, loss_probed_by}
 use Rattle.tcp_model.specs.Offers.{offer_segment, offer_choice, offer_ack, offer_syn, offer_reset, offer_keep_alive, offer_held_back, silent, last_rules}
 use Rattle.tcp_model.specs.Offers.{first_rules, backed_off, offer_between, offer_with, offer_of, number_at}
 use Rattle.tcp_model.specs.Opening.{is_first_syn, opens, takes_answer, acks_syn, syn_answered, connected, crossed, answering}
@@ -658,10 +659,14 @@ module _ (cx : ContextValue) (pair : EndpointPair) where
       (λ (o : Offered TcpValue). Directed v.block o)
       (λ _. directed_end v)
       (λ _.
-      cond_both (is_due cx.moment v.block.timers.retransmit_at) (backed_off_now started) started
+      cond_both (is_due cx.moment v.block.timers.retransmit_at) (backed_off_now started) (loss_probed_by cx.moment started)
       (λ (b : Block). Directed v.block (first_rules cx (with_block (unoffered v) b) pair))
       (λ _. directed_first v v.block (backed_off_now started) (keeps v.block (backed_off_now started) refl refl))
-      (λ _. directed_first v v.block started (keeps v.block started refl refl))))))
+      (λ _.
+      cond_both (is_due cx.moment (loss_probe_moment started)) (loss_probed started) started
+      (λ (b : Block). Directed v.block (first_rules cx (with_block (unoffered v) b) pair))
+      (λ _. directed_first v v.block (loss_probed started) (keeps v.block (loss_probed started) refl refl))
+      (λ _. directed_first v v.block started (keeps v.block started refl refl)))))))
 
 -- a socket without a remote endpoint offers nothing
 abbrev Goes : TcpValue → Offered TcpValue → Type 0
