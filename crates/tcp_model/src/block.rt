@@ -176,7 +176,7 @@ mod checks;
 mod due;
 mod endpoints;
 mod fresh;
-mod loss;
+mod losses;
 mod opening;
 mod retries;
 mod rules;

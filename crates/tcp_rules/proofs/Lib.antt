@@ -16,3 +16,4 @@ pub mod TimingRules
 pub mod RecoveryRules
 pub mod EdgeSteps
 pub mod EdgeRules
+pub mod LossRules
