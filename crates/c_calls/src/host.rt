@@ -91,6 +91,7 @@ fn config(settings: &Settings) -> Config
             Some(address) => HardwareAddress::Ethernet(address),
             None => HardwareAddress::Ip,
         },
+        isn_key: None,
     }
 }
 

@@ -19,6 +19,7 @@ use Rattle.socket_base.specs.Widths.{IsPayload}
 use Rattle.interface_egress.specs.Inner.{InnerValue}
 use Rattle.interface_ingress.specs.Pieces as Pieces
 use Rattle.interface_ingress.specs.Incoming.{IncomingValue, Arp, Ip4, Ip6}
+pub use Rattle.interface_ingress.specs.Kept.{NamesNoPorts, HasNoPorts}
 use Rattle.interface_ingress.specs.Sent.{ether_for, uncut}
 use Rattle.interface_egress.specs.Departure.{Departure, Asks, Tells, Whole, Part, arp_link, arp_request, solicited_station, solicitation}
 use Rattle.interface_egress.specs.declared.frame.Question.{Question}
@@ -119,16 +120,6 @@ protocol_sent (Asks (Query.Neighbor own source target)) = Some Protocol.Icmpv6
 protocol_sent (Tells packet) = None
 protocol_sent (Whole to p) = Some (carried_in (Ips.normal p.header))
 protocol_sent (Part to header p) = Some (Ipv4.normal header).next_header
-
--- neither TCP nor UDP
-abbrev pub NamesNoPorts : IpProtocol → Type 0
-NamesNoPorts protocol = (protocol ≡ Protocol.Tcp → ⊥) × (protocol ≡ Protocol.Udp → ⊥)
-
--- an ARP packet, or an IP packet, or a piece of one, that carries neither TCP nor UDP
-abbrev pub HasNoPorts : IncomingValue → Type 0
-HasNoPorts (Arp link packet) = Unit {0}
-HasNoPorts (Ip4 link header piece payload) = NamesNoPorts header.next_header
-HasNoPorts (Ip6 link header payload) = NamesNoPorts header.next_header
 
 -- a question, an answer to one, or a packet, or a piece of one, that carries neither
 abbrev pub SendsNoPorts : Departure → Type 0

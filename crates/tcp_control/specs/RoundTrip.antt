@@ -1,6 +1,6 @@
 -- The retransmission timeout (RFC 6298), in whole milliseconds: each division drops its rest.
 use Rattle.std.specs.Prelude.{ℕ, ◌+◌, ◌-◌, ◌*◌, ◌/◌, ◌^◌, ◌<◌, ◌≤◌, nat_le, min, max, ℤ, ◌-ℤ◌, unsigned_abs, int_lt, Option, Some, None, is_none, IfSome, Bool}
-use Rattle.std.specs.Prelude.{if◌then◌else◌}
+use Rattle.std.specs.Prelude.{Bool, true, if◌then◌else◌}
 use Rattle.net_base.specs.Time.{IsMoment}
 use Rattle.tcp_control.specs.declared.round_trip.Estimate.{Estimate}
 use Rattle.tcp_control.specs.declared.round_trip.Sample.{Sample}
@@ -76,6 +76,16 @@ advanced_with r by now (Some s) =
 
 abbrev pub advanced : RoundTripValue → ℕ → ℤ → RoundTripValue
 advanced r by now = advanced_with r by now r.sample
+
+-- nothing is timed that ends past so much
+abbrev pub is_reached : Option Sample → ℕ → Bool
+is_reached None by = true
+is_reached (Some s) by = nat_le s.ends by
+
+-- SND.UNA rises by so much, and an echo tells of a round trip of so many milliseconds: it counts where what is timed is acknowledged, or
+-- nothing is timed (RFC 7323, 4.1)
+abbrev pub echoed : RoundTripValue → ℕ → ℕ → RoundTripValue
+echoed r by millis = if is_reached r.sample by then measured r millis else r
 
 -- a segment that ends so far past SND.UNA was sent now: it is timed, if none is
 abbrev pub timing_with : RoundTripValue → ℕ → ℤ → Option Sample → RoundTripValue

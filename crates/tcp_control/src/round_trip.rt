@@ -2,7 +2,7 @@
 ghost use Rattle.std.specs.Prelude.{◌≡◌, ◌<◌, ◌≤◌, ◌^◌, ◌*◌, pos, Some};
 ghost use Rattle.net_base.specs.Time.{IsMoment};
 ghost use Rattle.tcp_control.specs.RoundTrip.{IsTimed, shortest_timeout, most_timeout, fresh, least_of, probe_wait, with_least, smoothed, timeout_of, measured};
-ghost use Rattle.tcp_control.specs.RoundTrip.{millis_between, advanced, timing, untimed, begun_late, backed_off};
+ghost use Rattle.tcp_control.specs.RoundTrip.{millis_between, advanced, is_reached, echoed, timing, untimed, begun_late, backed_off};
 
 use net_base::{Duration, Instant};
 use std::marker::Model;
@@ -123,6 +123,26 @@ impl RoundTrip {
                 ends: sample.ends - by,
                 since: sample.since,
             });
+        }
+    }
+
+    /// SND.UNA rises by so much, and an echo tells of a round trip of so many milliseconds. It counts
+    /// where what is timed is acknowledged, or nothing is timed.
+    pub fn take_echo(&mut self, by: u32, millis: u32)
+        ensures { self.new ≡ echoed self.old by millis }
+    {
+        if self.is_reached(by) {
+            self.measure(millis as u64);
+        }
+    }
+
+    /// Whether nothing is timed that ends past so much.
+    fn is_reached(&self, by: u32) -> bool
+        ensures { result ≡ is_reached self.now.sample by }
+    {
+        match self.sample {
+            None => true,
+            Some(sample) => sample.ends <= by,
         }
     }
 

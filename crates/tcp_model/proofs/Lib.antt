@@ -1,4 +1,6 @@
 pub mod Waits
+pub mod EchoSteps
+pub mod Numbers
 pub mod Positions
 pub mod Idle
 pub mod Resets

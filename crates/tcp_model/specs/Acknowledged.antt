@@ -11,7 +11,7 @@ use Rattle.tcp_model.specs.declared.block.Sender.{Sender}
 use Rattle.tcp_model.specs.declared.block.Timers.{Timers}
 use Rattle.tcp_control.specs.declared.state.State.{State}
 use Rattle.tcp_model.specs.Blocks.{one_if, unacked, forgotten, past_top}
-use Rattle.tcp_control.specs.Controls.{or_recent, is_fin}
+use Rattle.tcp_control.specs.Controls.{is_fin}
 use Rattle.tcp_control.specs.Moments.{timeout_from, time_wait_from}
 use Rattle.tcp_control.specs.Offsets.{behind_by, past_by, before_by}
 use Rattle.tcp_control.specs.Reno as reno
@@ -20,6 +20,7 @@ use Rattle.tcp_control.specs.RoundTrip as round_trip
 use Rattle.tcp_control.specs.RoundTrip.{RoundTripValue}
 use Rattle.tcp_control.specs.States.{is_closed, is_time_wait, owes_fin, after_ack, after_ack_of_fin}
 use Rattle.tcp_model.specs.LossRecovery.{loss_acked, ranges_noted, is_first_lost, is_lost_again}
+use Rattle.tcp_model.specs.Timestamps.{stamp_taken}
 use Rattle.tcp_model.specs.Value.{TcpValue, queued_in}
 
 -- how many bytes of the send queue are acknowledged
@@ -168,11 +169,8 @@ windowed b header = record b {
   };
 }
 
-abbrev pub stamp_taken : Block → TcpHeader → Block
-stamp_taken b header = record b { peer = record b.peer { recent = or_recent header.options.timestamp b.peer.recent } }
-
-abbrev pub window_set : Block → TcpHeader → Block
-window_set b header = stamp_taken (if names_window b header then windowed b header else b) header
+abbrev pub window_set : Block → TcpHeader → ℤ → Block
+window_set b header now = stamp_taken (if names_window b header then windowed b header else b) header now
 
 -- DUPLICATES (RFC 5681, 2 and 3.2)
 

@@ -10,6 +10,7 @@ use Rattle.tcp_model.specs.declared.block.Peer.{Peer}
 use Rattle.tcp_model.specs.declared.block.Receiver.{Receiver}
 use Rattle.tcp_model.specs.declared.block.Sender.{Sender}
 use Rattle.tcp_model.specs.declared.block.Settings.{Settings}
+use Rattle.tcp_model.specs.declared.block.Stamps.{Stamps}
 use Rattle.tcp_model.specs.declared.block.Timers.{Timers}
 use Rattle.tcp_model.specs.declared.block.CongestionControl.TheVariants as Congestion
 use Rattle.tcp_control.specs.declared.state.State.TheVariants as In
@@ -49,12 +50,11 @@ fresh_sender una syn_unacked = record {
   syn_lost = false;
   timeouts = 0;
   unanswered = 0;
-  stamped = false;
   reset_due = false;
 }
 
 abbrev pub fresh_receiver : Receiver
-fresh_receiver = record { next = no_number; took_syn = false; took_fin = false; edge = 0; mss = 0 }
+fresh_receiver = record { next = no_number; took_syn = false; took_fin = false; edge = 0; mss = 0; last_ack = no_number }
 
 -- the largest payload is 536 bytes where the remote names none (3.7.1)
 abbrev pub fresh_peer : Peer
@@ -70,6 +70,9 @@ fresh_peer = record {
       false;
   recent = 0;
 }
+
+abbrev pub fresh_stamps : Stamps
+fresh_stamps = record { generator = None; first = 0; believed_until = None }
 
 abbrev pub fresh_timers : Timers
 fresh_timers = record {
@@ -121,6 +124,7 @@ fresh_block settings = record {
   sender = fresh_sender no_number false;
   receiver = fresh_receiver;
   peer = fresh_peer;
+  stamps = fresh_stamps;
   timers = fresh_timers;
   round_trip = round_trip.with_least settings.min_rto round_trip.fresh;
   reno = reno.fresh;

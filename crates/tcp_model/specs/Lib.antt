@@ -3,6 +3,7 @@
 pub mod Blocks
 pub mod Value
 pub mod Names
+pub mod Timestamps
 pub mod Segments
 pub mod Timeout
 pub mod Probing
@@ -37,6 +38,8 @@ pub use Rattle.tcp_control.specs.Moments
 pub use Rattle.tcp_control.specs.Offsets
 pub use Rattle.tcp_control.specs.Controls
 pub use Rattle.tcp_control.specs.Endpoints
+pub use Rattle.tcp_control.specs.SipHash
+pub use Rattle.tcp_control.specs.FirstNumbers
 pub use Rattle.tcp_control.specs.declared.state.State
 pub use Rattle.tcp_control.specs.declared.error.ConnectError
 pub use Rattle.tcp_control.specs.declared.error.ListenError

@@ -1,7 +1,6 @@
 -- What a socket offers: a test for each rule, and what the rules for text may send. `queued` is the length of the send queue,
 -- and `unbroken` says how many of its bytes from a place on lie before the end of the storage.
 use Rattle.std.specs.Prelude.{ℕ, ◌+◌, ◌-◌, ◌*◌, ◌/◌, ◌==◌, nat_lt, nat_le, not, ◌&&◌, ◌||◌, min, max, ℤ, Bool, false, if◌then◌else◌, length, Option, None}
-use Rattle.std.specs.Prelude.{is_some}
 use Rattle.net_base.specs.Ring.{Ring, until_end}
 use Rattle.ip_wire.specs.TcpControl.{TcpControl}
 use Rattle.ip_wire.specs.TcpControl.TheVariants as Control
@@ -13,6 +12,7 @@ use Rattle.tcp_model.specs.Blocks.{one_if, unacked, past_top, is_worth_telling}
 use Rattle.tcp_control.specs.Endpoints.{ip_header_len}
 use Rattle.tcp_model.specs.LossRecovery.{pipe, fills_hole, again_place, hole_len, loss_timed_out}
 use Rattle.tcp_control.specs.Reno as reno
+use Rattle.tcp_model.specs.Timestamps.{uses_stamps}
 use Rattle.tcp_control.specs.RoundTrip as round_trip
 use Rattle.tcp_control.specs.States.{is_answering, is_time_wait, owes_fin, sends_text, sends_syn, takes_text, keeps_alive}
 
@@ -37,7 +37,7 @@ pub record Choice : Type 0 where
 
 -- the length of the timestamps option with its padding (RFC 7323, 3.2 and appendix A)
 abbrev pub stamp_len : Block → ℕ
-stamp_len b = if (b.peer.timestamps && b.sender.stamped) && is_some b.settings.timestamps then 12 else 0
+stamp_len b = if uses_stamps b then 12 else 0
 
 -- The longest text of a segment: what the remote takes, and a packet holds behind headers without options, less the options that the
 -- segment carries (3.7.1; RFC 6691), but at least a byte. The length field of a packet has 16 bits.

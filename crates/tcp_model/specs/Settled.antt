@@ -6,6 +6,7 @@ use Rattle.tcp_model.specs.declared.block.Block.{Block}
 use Rattle.tcp_control.specs.declared.offer.OfferKind.{OfferKind}
 use Rattle.tcp_control.specs.declared.offer.OfferKind.TheVariants as Kind
 use Rattle.tcp_control.specs.declared.offer.OpenOffer.{OpenOffer}
+use Rattle.tcp_model.specs.Acknowledged.{or_number}
 use Rattle.tcp_model.specs.Blocks.{one_if, forgotten, own_shift, edge_after}
 use Rattle.tcp_control.specs.Controls.{is_syn, or_mss}
 use Rattle.tcp_control.specs.Moments.{later_by, timeout_from}
@@ -14,6 +15,7 @@ use Rattle.tcp_model.specs.LossRecovery.{probe_armed, loss_resent}
 use Rattle.tcp_model.specs.Probing.{probe_kept}
 use Rattle.tcp_model.specs.Retries.{asked}
 use Rattle.tcp_control.specs.RoundTrip as round_trip
+use Rattle.tcp_model.specs.Timestamps.{stamps_begun}
 use Rattle.tcp_model.specs.Value.{TcpValue, with_block, unoffered, queued_in, room_of}
 
 -- The right edge of the window after a segment announced it, of a receive buffer with this capacity. A SYN's field isn't shifted and may not
@@ -25,7 +27,7 @@ edge_by b o capacity = if is_syn o.segment.control then capacity else edge_after
 -- each segment (3.8.4).
 abbrev pub recorded : Block → OpenOffer → ℕ → Block
 recorded b o capacity = record b {
-  receiver = record b.receiver { edge = edge_by b o capacity };
+  receiver = record b.receiver { edge = edge_by b o capacity; last_ack = or_number b.receiver.last_ack o.segment.ack_number };
   timers = record b.timers {
     ack_at = if is_some o.segment.ack_number then None else b.timers.ack_at;
     text_unacked = not (is_some o.segment.ack_number) && b.timers.text_unacked;
@@ -68,10 +70,10 @@ loss_watched b now = record b { loss = probe_armed b b.loss now }
 abbrev pub went : Block → OpenOffer → ℕ → Block
 went b o queued = probe_kept (loss_watched (timer_started (nxt_moved b (end_of b o) queued o.moment) o.moment) o.moment) queued
 
--- its SYN has timestamps, or has none, and names the largest payload of a segment
+-- its first SYN begins the own timestamps, and names the largest payload of a segment
 abbrev pub syn_went : Block → OpenOffer → Block
 syn_went b o = record b {
-  sender = record b.sender { stamped = is_some o.segment.options.timestamp };
+  stamps = stamps_begun b o.moment;
   receiver = record b.receiver { mss = or_mss o.segment.options.max_seg_size };
 }
 

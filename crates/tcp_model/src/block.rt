@@ -42,8 +42,6 @@ pub struct Sender {
     pub timeouts: u8,
     /// Probes of a closed window and keep-alives in a row without an answer.
     pub unanswered: u8,
-    /// Whether its SYN, as it went last, had timestamps.
-    pub stamped: bool,
     /// Whether a reset is to go.
     pub reset_due: bool,
 }
@@ -59,6 +57,8 @@ pub struct Receiver {
     pub edge: u32,
     /// The largest payload of a segment, as the own SYN named it.
     pub mss: u16,
+    /// Last.ACK.sent, RCV.NXT as the last acknowledgement named it.
+    pub last_ack: SeqNumber,
 }
 
 /// What the remote said of itself.
@@ -82,6 +82,17 @@ pub struct Peer {
     pub timestamps: bool,
     /// TS.Recent, the timestamp that came last.
     pub recent: u32,
+}
+
+/// The timestamps of a connection (RFC 7323).
+#[derive(Clone, Copy, Debug, PartialEq, Eq)]
+pub struct Stamps {
+    /// The clock of the own ones, as the first SYN had it.
+    pub generator: Option<TcpTimestampGenerator>,
+    /// What it said when that SYN went.
+    pub first: u32,
+    /// Until when TS.Recent counts.
+    pub believed_until: Option<Instant>,
 }
 
 /// The moments at which something is due.
@@ -164,6 +175,7 @@ pub struct Block {
     pub sender: Sender,
     pub receiver: Receiver,
     pub peer: Peer,
+    pub stamps: Stamps,
     pub timers: Timers,
     pub round_trip: RoundTrip,
     pub reno: Reno,
@@ -176,7 +188,7 @@ mod checks;
 mod due;
 mod endpoints;
 mod fresh;
-mod losses;
+mod loss_recovery;
 mod opening;
 mod retries;
 mod rules;
@@ -184,6 +196,7 @@ mod segments;
 mod settled;
 mod text;
 mod timeout;
+mod timestamps;
 
 pub use checks::Verdict;
 pub use opening::{is_first_syn, is_void_syn};

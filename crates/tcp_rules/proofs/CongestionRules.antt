@@ -7,9 +7,8 @@ use Rattle.std.proofs.lemmas.List.{length-drop}
 use Rattle.ip_wire.specs.IpListenEndpoint.{IpListenEndpoint}
 use Rattle.ip_wire.specs.IpRepr.{IpRepr}
 use Rattle.ip_wire.specs.TcpHeader.{TcpHeader}
-use Rattle.net_base.specs.RandomWords.{word}
 use Rattle.net_base.specs.Ring.{Ring, anchored, enqueued}
-use Rattle.tcp_model.specs.Context.{ContextValue, next_random}
+use Rattle.tcp_model.specs.Context.{ContextValue}
 use Rattle.tcp_model.specs.BaseOffers.{Offered}
 use Rattle.tcp_control.specs.Controls.{or_mss}
 use Rattle.tcp_control.specs.Moments.{is_due, is_over, timeout_from}
@@ -36,6 +35,7 @@ use Rattle.tcp_model.specs.Rules.{backed_off_now}
 use Rattle.tcp_model.specs.Settled.{settled, sent_off, sent_as, recorded, probed, end_of}
 use Rattle.tcp_model.specs.Value.{TcpValue, Arrived, with_block, unoffered, ended, new_socket, queued_in, room_of}
 use Rattle.tcp_model.specs.declared.block.Block.{Block}
+use Rattle.tcp_model.specs.FirstNumbers.{number_for}
 use Rattle.tcp_rules.specs.Congestion.{Control, control_of, IsHeld, renews, StaysOut}
 use Rattle.tcp_rules.specs.Ends.{GoesOn}
 use Rattle.tcp_rules.specs.Events.{Event, Setting, after, led, set, is_past}
@@ -430,9 +430,9 @@ event_held v (Listens endpoint) p h =
     cond_both (is_closed v.block.state && not (endpoint.port == 0)) (listening v endpoint) (unoffered v) (λ (w : TcpValue). IsHeld (control_of w.block))
     (λ _. record { window = λ e. clash (sym e); listens = λ _. refl }) (λ _. h)
 event_held v (Connects cx remote local) p h =
-    cond_both (is_closed v.block.state) (connected_by v (pair_for cx remote local) (word (next_random cx).random)) (unoffered v)
+    cond_both (is_closed v.block.state) (connected_by v (pair_for cx remote local) (number_for cx (pair_for cx remote local))) (unoffered v)
     (λ (w : TcpValue). IsHeld (control_of w.block))
-    (λ _. connected_held v (pair_for cx remote local) (word (next_random cx).random) h) (λ _. h)
+    (λ _. connected_held v (pair_for cx remote local) (number_for cx (pair_for cx remote local)) h) (λ _. h)
 event_held v (Sends bytes) p h =
     cond_both (takes_writes v.block.state) (sent_more v (enqueued (anchored v.queued) (take (min (length bytes) (length v.queued.free)) bytes))) (unoffered v)
     (λ (w : TcpValue). IsHeld (control_of w.block)) (λ _. h) (λ _. h)

@@ -17,3 +17,4 @@ pub mod RecoveryRules
 pub mod EdgeSteps
 pub mod EdgeRules
 pub mod LossRules
+pub mod StampRules

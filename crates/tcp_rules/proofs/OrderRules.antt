@@ -13,9 +13,8 @@ use Rattle.ip_wire.specs.Tcp.{header_len}
 use Rattle.ip_wire.specs.TcpControl.{TcpControl}
 use Rattle.ip_wire.specs.TcpControl.TheVariants as Control
 use Rattle.ip_wire.specs.TcpHeader.{TcpHeader}
-use Rattle.net_base.specs.RandomWords.{word}
 use Rattle.net_base.specs.Ring.{Ring, until_end, cleared, anchored, enqueued}
-use Rattle.tcp_model.specs.Context.{ContextValue, next_random}
+use Rattle.tcp_model.specs.Context.{ContextValue}
 use Rattle.tcp_model.specs.BaseOffers.{Offered}
 use Rattle.tcp_control.specs.Endpoints.{header_for}
 use Rattle.tcp_control.specs.Moments.{is_due, is_over, timeout_from}
@@ -50,11 +49,15 @@ use Rattle.tcp_model.specs.Value.{TcpValue, Arrived, with_block, unoffered, ende
 use Rattle.tcp_model.specs.declared.block.Block.{Block}
 use Rattle.tcp_model.specs.declared.block.CongestionControl.{CongestionControl}
 use Rattle.tcp_model.specs.declared.block.CongestionControl.TheVariants as Avoids
+use Rattle.tcp_model.specs.FirstNumbers.{first_number, number_for}
+use Rattle.tcp_model.specs.Timestamps.{believed, stamp_taken}
+use Rattle.tcp_model.proofs.Numbers.{number_small, number_for_small}
+use Rattle.tcp_control.specs.Endpoints.{pair_in}
 use Rattle.tcp_rules.specs.Events.{Event, Setting, after, led, set, is_past}
 use Rattle.tcp_rules.specs.Events.Event.{Comes, Asked, Listens, Connects, Sends, Reads, Closes, Aborts, Sets}
 use Rattle.tcp_rules.specs.Events.Setting.{Timeout, KeepAlive, AckDelay, Nagle, HopLimit, Timestamps, Paused, Retries, Congestion, MinRto}
 use Rattle.tcp_rules.specs.InOrder.{has_all, Sending, sending_of, all_of, IsInOrder}
-use Rattle.tcp_rules.proofs.ArrivalCases.{by_arrival, Received, Opening, Content, Drawing, acked_open, heeded}
+use Rattle.tcp_rules.proofs.ArrivalCases.{timed, by_arrival, Received, Opening, Content, Drawing, acked_open, heeded}
 use Rattle.tcp_rules.proofs.OfferCases.{Rules, FirstRules, LastRules, by_rules, begun, probing}
 use Rattle.tcp_rules.proofs.OrderSteps.{clash, listens_not, passes_news, old_news, syn_gone, syn_gone_old, acked_sending, one_if_least, acked_on, acked_fin}
 use Rattle.tcp_rules.proofs.OrderSteps.{with_waiting, with_fin_taken, closed_order, last_order, begins, went_order, backed_order, distance_at_most}
@@ -70,9 +73,6 @@ small_zero = omega arith
 
 least_zero : (m : ℕ) → 0 ≤ m
 least_zero m = omega arith
-
-small_word : (n : ℕ) → word n < 2 ^ 32
-small_word n = omega arith
 
 pub and_true : (a b : Bool) → (a && b) ≡ true → (a ≡ true) × (b ≡ true)
 and_true true b e = (refl, e)
@@ -141,21 +141,21 @@ module _ (cx : ContextValue) (ip : IpRepr) (header : TcpHeader) (bytes : List �
     closes = λ by passes _.
         last_order (sending_of u) (behind_by u.block.sender.una by).0 by (length (drop (freed_by u.block by (queued_in u)) u.queued.queue))
         (if u.block.sender.partial && is_partial u.block by then u.block.timers.retransmit_at else Some
-        (timeout_from cx.moment (acked_open u by cx.moment).block.round_trip)) p (small_number u.block.sender.una by)
+        (timeout_from cx.moment (acked_open (timed cx.moment header u by) by cx.moment).block.round_trip)) p (small_number u.block.sender.una by)
         (syn_gone (sending_of u) by p (passes_news u.block header.ack_number by passes));
     taken = λ by passes alive.
-        order_content (heeded cx.moment header (length bytes) u by (acked_open u by cx.moment).block)
-        (acked_order u by cx.moment p past (passes_news u.block header.ack_number by passes) alive)
+        order_content (heeded cx.moment header (length bytes) u by (acked_open (timed cx.moment header u by) by cx.moment).block)
+        (acked_order (timed cx.moment header u by) by cx.moment p past (passes_news u.block header.ack_number by passes) alive)
         (syn_gone (sending_of u) by p (passes_news u.block header.ack_number by passes));
     taken_window = λ by passes alive.
-        order_content (heeded cx.moment header (length bytes) u by (windowed (acked_open u by cx.moment).block header))
-        (acked_order u by cx.moment p past (passes_news u.block header.ack_number by passes) alive)
+        order_content (heeded cx.moment header (length bytes) u by (windowed (acked_open (timed cx.moment header u by) by cx.moment).block header))
+        (acked_order (timed cx.moment header u by) by cx.moment p past (passes_news u.block header.ack_number by passes) alive)
         (syn_gone (sending_of u) by p (passes_news u.block header.ack_number by passes));
     news = λ by passes alive.
-        order_drawing (waiting_anew (acked_open u by cx.moment) header cx.moment)
-        (acked_order u by cx.moment p past (passes_news u.block header.ack_number by passes) alive);
+        order_drawing (waiting_anew (acked_open (timed cx.moment header u by) by cx.moment) header cx.moment)
+        (acked_order (timed cx.moment header u by) by cx.moment p past (passes_news u.block header.ack_number by passes) alive);
     outside = order_drawing (waiting_anew u header cx.moment) p;
-    old = λ old. order_content (with_block u (heard u.block)) p (syn_gone_old (sending_of u) p (old_news u.block header.ack_number old));
+    old = λ old. order_content (with_block u (stamp_taken (heard u.block) header cx.moment)) p (syn_gone_old (sending_of u) p (old_news u.block header.ack_number old));
   }
 
   -- in SYN-SENT the SYN isn't acknowledged yet
@@ -168,8 +168,8 @@ module _ (cx : ContextValue) (ip : IpRepr) (header : TcpHeader) (bytes : List �
   order_opening : (u : TcpValue) → IsInOrder (sending_of u) → Opening cx ip header bytes Order u
   order_opening u p = record {
     opens = λ at _.
-        begins (sending_of (with_block u (timeout_restarted (answering u.block ip header (word (next_random cx).random)) cx.moment 0))) In.SynReceived refl refl
-        (small_word (next_random cx).random) refl refl (p.listens (ap is_listening at)).1 refl (λ _. refl);
+        begins (sending_of (with_block u (timeout_restarted (believed (answering u.block ip header (first_number cx (pair_in ip header))) cx.moment) cx.moment 0))) In.SynReceived refl refl
+        (number_small cx (pair_in ip header)) refl refl (p.listens (ap is_listening at)).1 refl (λ _. refl);
     refuses = p;
     ends = λ _. closed_order (sending_of u) false p;
     connects = λ at _. record {
@@ -572,9 +572,9 @@ event_order v (Listens endpoint) p =
     cond_both (is_closed v.block.state && not (endpoint.port == 0)) (listening v endpoint) (unoffered v) (λ (w : TcpValue). IsInOrder (sending_of w))
     (λ _. order_listens v endpoint) (λ _. p)
 event_order v (Connects cx remote local) p =
-    cond_both (is_closed v.block.state) (connected_by v (pair_for cx remote local) (word (next_random cx).random)) (unoffered v)
+    cond_both (is_closed v.block.state) (connected_by v (pair_for cx remote local) (number_for cx (pair_for cx remote local))) (unoffered v)
     (λ (w : TcpValue). IsInOrder (sending_of w))
-    (λ _. connected_order v (pair_for cx remote local) (word (next_random cx).random) p (small_word (next_random cx).random)) (λ _. p)
+    (λ _. connected_order v (pair_for cx remote local) (number_for cx (pair_for cx remote local)) p (number_for_small cx (pair_for cx remote local))) (λ _. p)
 event_order v (Sends bytes) p =
     let some = take (min (length bytes) (length v.queued.free)) bytes in
     cond_both (takes_writes v.block.state) (sent_more v (enqueued (anchored v.queued) some)) (unoffered v) (λ (w : TcpValue). IsInOrder (sending_of w))

@@ -7,9 +7,8 @@ use Rattle.ip_wire.specs.IpRepr.{IpRepr}
 use Rattle.ip_wire.specs.Seq.{distance_of}
 use Rattle.ip_wire.specs.SeqNumber.{SeqNumber}
 use Rattle.ip_wire.specs.TcpHeader.{TcpHeader}
-use Rattle.net_base.specs.RandomWords.{word}
 use Rattle.net_base.specs.Ring.{Ring, anchored, enqueued}
-use Rattle.tcp_model.specs.Context.{ContextValue, next_random}
+use Rattle.tcp_model.specs.Context.{ContextValue}
 use Rattle.tcp_model.specs.BaseOffers.{Offered}
 use Rattle.tcp_control.specs.Controls.{or_mss}
 use Rattle.tcp_control.specs.Moments.{is_over, timeout_from}
@@ -27,7 +26,7 @@ use Rattle.tcp_control.specs.declared.round_trip.Sample.{Sample}
 use Rattle.tcp_control.specs.declared.state.State.{State}
 use Rattle.tcp_control.specs.declared.state.State.TheVariants as In
 use Rattle.tcp_model.specs.Acknowledged.{state_after_ack, acks_own_syn, round_trip_after, reno_after, reno_counted, duplicates_after, begins_recovery}
-use Rattle.tcp_model.specs.Acknowledged.{ranges_taken, stamp_taken, windowed}
+use Rattle.tcp_model.specs.Acknowledged.{ranges_taken, windowed}
 use Rattle.tcp_model.specs.LossRecovery.{hole_len, is_lost_at, is_lost_again, loss_probed, probes_tail}
 use Rattle.tcp_model.proofs.Holes.{again_sent, hole_least}
 use Rattle.tcp_model.specs.Arrival.{arrives}
@@ -40,12 +39,14 @@ use Rattle.tcp_model.specs.Rules.{Choice, backed_off_now, resend_choice, control
 use Rattle.tcp_model.specs.Settled.{settled, sent_off, sent_as, recorded, probed, end_of}
 use Rattle.tcp_model.specs.Value.{TcpValue, Arrived, with_block, unoffered, ended, new_socket, queued_in, room_of}
 use Rattle.tcp_model.specs.declared.block.Block.{Block}
+use Rattle.tcp_model.specs.FirstNumbers.{number_for}
+use Rattle.tcp_model.specs.Timestamps.{echo_taken, echo_of, timed_by, timed_with}
 use Rattle.tcp_rules.specs.Events.{Event, Setting, after, led, set, is_past}
 use Rattle.tcp_rules.specs.Events.Event.{Comes, Asked, Listens, Connects, Sends, Reads, Closes, Aborts, Sets}
 use Rattle.tcp_rules.specs.Events.Setting.{Timeout, KeepAlive, AckDelay, Nagle, HopLimit, Timestamps, Paused, Retries, MinRto, Congestion}
 use Rattle.tcp_rules.specs.InOrder.{sending_of, IsInOrder}
 use Rattle.tcp_rules.specs.Recovery.{Recovery, recovery_of, IsPaced}
-use Rattle.tcp_rules.proofs.ArrivalCases.{by_arrival, Received, Opening, Content, Drawing, acked_open}
+use Rattle.tcp_rules.proofs.ArrivalCases.{timed, by_arrival, Received, Opening, Content, Drawing, acked_open}
 use Rattle.tcp_rules.proofs.CongestionRules.{acked_reno, fin_on, state_past, close_on, unnamed, left_true}
 use Rattle.tcp_rules.proofs.OfferCases.{Rules, FirstRules, LastRules, by_rules, begun, probing}
 use Rattle.tcp_rules.proofs.OrderRules.{event_order, new_order, control_least}
@@ -144,6 +145,19 @@ fine_advanced r by duration now f = at r.sample where
       (record r { sample = Some (record s { ends = s.ends - by }) })
       (λ (x : RoundTripValue). Fine x duration)
       (λ _. fine_measured r (round_trip.millis_between s.since now) duration f) (λ _. record { least = f.least; timeout = f.timeout })
+
+fine_echo : (r : RoundTripValue) (by duration : ℕ) (echo : Option ℕ) → Fine r duration → Fine (timed_by r by echo) duration
+fine_echo r by duration echo f = cond_both (by == 0) r (timed_with r by echo) (λ (x : RoundTripValue). Fine x duration) (λ _. f) (λ _. at echo) where
+  at : (echo : Option ℕ) → Fine (timed_with r by echo) duration
+  at None = f
+  at (Some millis) =
+      cond_both (round_trip.is_reached r.sample by) (round_trip.measured r millis) r (λ (x : RoundTripValue). Fine x duration)
+      (λ _. fine_measured r millis duration f)
+      (λ _. f)
+
+past_listening : (state : State) → is_past state ≡ true → is_listening state ≡ false
+past_listening In.Listen e = clash e
+past_listening other e = refl
 
 fine_late : (r : RoundTripValue) (duration : ℕ) → Fine r duration → Fine (round_trip.begun_late r) duration
 fine_late r duration f = record {
@@ -258,6 +272,10 @@ module _ (cx : ContextValue) (ip : IpRepr) (header : TcpHeader) (bytes : List �
       paced _ (lasts_acked b.reno b.peer.sack b.sender.syn_unacked b.sender.syn_lost by queued b.sender.recover p.lasts) not
       (fine_acked b by cx.moment (fine_of (recovery_of b) p))
 
+  echo_paced : (b : Block) (by : ℕ) → IsPaced (recovery_of b) → is_listening b.state ≡ false → IsPaced (recovery_of (echo_taken b header by cx.moment))
+  echo_paced b by p not =
+      paced _ p.lasts not (fine_echo b.round_trip by b.settings.min_rto (echo_of b header cx.moment) (fine_of (recovery_of b) p))
+
   heeded_paced : (u : TcpValue) (by : ℕ) (begins again : Bool) → (again ≡ true → (reno_after u.block by (queued_in u)).recovers ≡ true)
       → IsPaced (recovery_of u.block) → is_past u.block.state ≡ true
       → IsPaced (record {
@@ -277,7 +295,7 @@ module _ (cx : ContextValue) (ip : IpRepr) (header : TcpHeader) (bytes : List �
 
   -- the block as its duplicates are counted
   abbrev noted : Block → Block
-  noted b = ranges_taken (stamp_taken b header) header cx.moment
+  noted b = ranges_taken (stamp_taken b header cx.moment) header cx.moment
 
   -- what went again was lost in recovery
   lost_in : (b : Block) → is_lost_again b ≡ true → b.reno.recovers ≡ true
@@ -292,26 +310,35 @@ module _ (cx : ContextValue) (ip : IpRepr) (header : TcpHeader) (bytes : List �
     draws = paced_drawing u p;
     falls = λ _ _ _. fresh_paced In.Listen 0 u.block.settings.min_rto;
     ends = λ _ _ _. closed_paced u p;
-    closes = λ by _ _. acked_paced u.block by (queued_in u) In.Closed p refl;
+    closes = λ by _ _. acked_paced (echo_taken u.block header by cx.moment) by (queued_in u) In.Closed (heard_paced by) refl;
     taken = λ by _ _.
-        let b : Block = noted (acked_open u by cx.moment).block in
+        let b : Block = noted (acked_open (timed cx.moment header u by) by cx.moment).block in
         paced_content _
-        (heeded_paced u by (begins_recovery b (duplicates_after u.block header (length bytes) by)) (is_lost_again b) (lost_in b) p past);
+        (heeded_paced (timed cx.moment header u by) by (begins_recovery b (duplicates_after u.block header (length bytes) by)) (is_lost_again b) (lost_in b)
+        (heard_paced by) past);
     taken_window = λ by _ _.
-        let b : Block = noted (windowed (acked_open u by cx.moment).block header) in
+        let b : Block = noted (windowed (acked_open (timed cx.moment header u by) by cx.moment).block header) in
         paced_content _
-        (heeded_paced u by (begins_recovery b (duplicates_after u.block header (length bytes) by)) (is_lost_again b) (lost_in b) p past);
-    news = λ by _ _. paced_drawing _ (acked_paced u.block by (queued_in u) (state_after_ack u.block by (queued_in u)) p (state_past u by past));
+        (heeded_paced (timed cx.moment header u by) by (begins_recovery b (duplicates_after u.block header (length bytes) by)) (is_lost_again b) (lost_in b)
+        (heard_paced by) past);
+    news = λ by _ _.
+        paced_drawing _
+        (acked_paced (echo_taken u.block header by cx.moment) by (queued_in u) (state_after_ack u.block by (queued_in u)) (heard_paced by) (state_past u by past));
     outside = paced_drawing _ p;
     old = λ _. paced_content _ p;
   }
+    where
+      heard_paced : (by : ℕ) → IsPaced (recovery_of (echo_taken u.block header by cx.moment))
+      heard_paced by = echo_paced u.block by p (past_listening u.block.state past)
 
   paced_opening : (u : TcpValue) → IsPaced (recovery_of u.block) → Opening cx ip header bytes Paced u
   paced_opening u p = record {
     opens = λ at _. paced _ (λ e. clash (sym e ∙ p.listens (ap is_listening at))) refl (fine_of _ p);
     refuses = p;
     ends = λ _. closed_paced u p;
-    connects = λ at _. acked_paced (took_syn u.block header) 1 0 In.Established (paced _ p.lasts (ap is_listening at) (fine_of _ p)) refl;
+    connects = λ at _.
+        acked_paced (echo_taken (took_syn u.block header) header 1 cx.moment) 1 0 In.Established
+        (echo_paced (took_syn u.block header) 1 (paced _ p.lasts (ap is_listening at) (fine_of _ p)) (ap is_listening at)) refl;
     crosses = λ at _. paced _ p.lasts refl (fine_of _ p);
   }
 
@@ -441,9 +468,9 @@ event_paced v (Listens endpoint) p k =
     cond_both (is_closed v.block.state && not (endpoint.port == 0)) (listening v endpoint) (unoffered v) (λ (w : TcpValue). IsPaced (recovery_of w.block))
     (λ _. fresh_paced In.Listen 0 v.block.settings.min_rto) (λ _. k)
 event_paced v (Connects cx remote local) p k =
-    cond_both (is_closed v.block.state) (connected_by v (pair_for cx remote local) (word (next_random cx).random)) (unoffered v)
+    cond_both (is_closed v.block.state) (connected_by v (pair_for cx remote local) (number_for cx (pair_for cx remote local))) (unoffered v)
     (λ (w : TcpValue). IsPaced (recovery_of w.block))
-    (λ _. connected_paced v (pair_for cx remote local) (word (next_random cx).random) k) (λ _. k)
+    (λ _. connected_paced v (pair_for cx remote local) (number_for cx (pair_for cx remote local)) k) (λ _. k)
 event_paced v (Sends bytes) p k =
     cond_both (takes_writes v.block.state) (sent_more v (enqueued (anchored v.queued) (take (min (length bytes) (length v.queued.free)) bytes))) (unoffered v)
     (λ (w : TcpValue). IsPaced (recovery_of w.block)) (λ _. k) (λ _. k)

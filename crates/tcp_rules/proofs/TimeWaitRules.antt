@@ -4,9 +4,8 @@ use Rattle.std.proofs.Common.{is_none, refl, sym, ap, ◌∙◌, subst}
 use Rattle.std.proofs.lemmas.Bool.{cond_both}
 use Rattle.ip_wire.specs.IpRepr.{IpRepr}
 use Rattle.ip_wire.specs.TcpHeader.{TcpHeader}
-use Rattle.net_base.specs.RandomWords.{word}
 use Rattle.net_base.specs.Ring.{anchored, enqueued}
-use Rattle.tcp_model.specs.Context.{ContextValue, next_random}
+use Rattle.tcp_model.specs.Context.{ContextValue}
 use Rattle.tcp_model.specs.BaseOffers.{Offered, offered_as}
 use Rattle.tcp_model.specs.Offer.TheVariants as Answer
 use Rattle.tcp_control.specs.Moments.{is_due, is_over, timeout_from}
@@ -30,6 +29,7 @@ use Rattle.tcp_model.specs.Settled.{settled, sent_off, sent_as, recorded, probed
 use Rattle.tcp_model.specs.Timeout.{timeout_end, timeout_runs, waits_for_remote, end_by, timed_out}
 use Rattle.tcp_model.specs.Value.{TcpValue, Arrived, with_block, unoffered, ended, queued_in, room_of}
 use Rattle.tcp_model.specs.declared.block.Block.{Block}
+use Rattle.tcp_model.specs.FirstNumbers.{number_for}
 use Rattle.tcp_rules.specs.Events.{Event, Setting, after, set, is_past}
 use Rattle.tcp_rules.specs.Events.Event.{Comes, Asked, Listens, Connects, Sends, Reads, Closes, Aborts, Sets}
 use Rattle.tcp_rules.specs.Events.Setting.{Timeout, KeepAlive, AckDelay, Nagle, HopLimit, Timestamps, Paused, Retries, Congestion, MinRto}
@@ -247,7 +247,7 @@ stays_in_wait v (Listens endpoint) p at stays =
     cond_both (is_closed v.block.state && not (endpoint.port == 0)) (listening v endpoint) (unoffered v) (λ (w : TcpValue). w.block.state ≡ In.TimeWait)
     (λ closed. elsewhere v.block.state is_closed _ at refl closed) (λ _. at)
 stays_in_wait v (Connects cx remote local) p at stays =
-    cond_both (is_closed v.block.state) (connected_by v (pair_for cx remote local) (word (next_random cx).random)) (unoffered v)
+    cond_both (is_closed v.block.state) (connected_by v (pair_for cx remote local) (number_for cx (pair_for cx remote local))) (unoffered v)
     (λ (w : TcpValue). w.block.state ≡ In.TimeWait)
     (λ closed. clash (sym closed ∙ ap is_closed at)) (λ _. at)
 stays_in_wait v (Sends bytes) p at stays =

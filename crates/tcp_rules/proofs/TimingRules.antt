@@ -7,9 +7,8 @@ use Rattle.ip_wire.specs.Control.{control_len}
 use Rattle.ip_wire.specs.IpRepr.{IpRepr}
 use Rattle.ip_wire.specs.Seq.{distance_of}
 use Rattle.ip_wire.specs.TcpHeader.{TcpHeader}
-use Rattle.net_base.specs.RandomWords.{word}
 use Rattle.net_base.specs.Ring.{Ring, anchored, enqueued}
-use Rattle.tcp_model.specs.Context.{ContextValue, next_random}
+use Rattle.tcp_model.specs.Context.{ContextValue}
 use Rattle.tcp_model.specs.BaseOffers.{Offered}
 use Rattle.tcp_control.specs.Moments.{is_due, is_over, timeout_from}
 use Rattle.tcp_control.specs.RoundTrip as round_trip
@@ -38,12 +37,14 @@ use Rattle.tcp_model.specs.Settled.{settled, sent_off, sent_as, recorded, probed
 use Rattle.tcp_model.specs.Timeout.{timed_out}
 use Rattle.tcp_model.specs.Value.{TcpValue, Arrived, with_block, unoffered, ended, new_socket, queued_in, room_of}
 use Rattle.tcp_model.specs.declared.block.Block.{Block}
+use Rattle.tcp_model.specs.FirstNumbers.{number_for}
+use Rattle.tcp_model.specs.Timestamps.{echo_taken, echo_of, timed_by, timed_with}
 use Rattle.tcp_rules.specs.Events.{Event, Setting, after, led, set, is_past}
 use Rattle.tcp_rules.specs.Events.Event.{Comes, Asked, Listens, Connects, Sends, Reads, Closes, Aborts, Sets}
 use Rattle.tcp_rules.specs.Events.Setting.{Timeout, KeepAlive, AckDelay, Nagle, HopLimit, Timestamps, Paused, Retries, Congestion, MinRto}
 use Rattle.tcp_rules.specs.InOrder.{sending_of, IsInOrder}
 use Rattle.tcp_rules.specs.Timing.{Timing, timing_of, IsTimedRight, carries, start_of}
-use Rattle.tcp_rules.proofs.ArrivalCases.{by_arrival, Received, Opening, Content, Drawing, acked_open}
+use Rattle.tcp_rules.proofs.ArrivalCases.{timed, by_arrival, Received, Opening, Content, Drawing, acked_open}
 use Rattle.tcp_rules.proofs.CongestionRules.{fin_on, state_past, close_on, unnamed}
 use Rattle.tcp_rules.proofs.OfferCases.{Rules, FirstRules, LastRules, by_rules, begun, probing}
 use Rattle.tcp_rules.proofs.OrderSteps.{clash}
@@ -83,6 +84,22 @@ acked_in b by now t =
     (round_trip.advanced b.round_trip by now)
     (λ (x : RoundTripValue). In_flight (b.sender.in_flight - by) x.sample)
     (λ _. advanced_in b.round_trip by b.sender.in_flight now t) (λ _. advanced_in b.round_trip by b.sender.in_flight now t)
+
+-- an echo ends a timing, or leaves it
+echo_in : (r : RoundTripValue) (by flight : ℕ) (echo : Option ℕ) → In_flight flight r.sample → In_flight flight (timed_by r by echo).sample
+echo_in r by flight echo t = cond_both (by == 0) r (timed_with r by echo) (λ (x : RoundTripValue). In_flight flight x.sample) (λ _. t) (λ _. at echo) where
+  at : (echo : Option ℕ) → In_flight flight (timed_with r by echo).sample
+  at None = t
+  at (Some millis) =
+      cond_both (round_trip.is_reached r.sample by) (round_trip.measured r millis) r (λ (x : RoundTripValue). In_flight flight x.sample) (λ _. tt) (λ _. t)
+
+past_listening : (state : State) → is_past state ≡ true → is_listening state ≡ false
+past_listening In.Listen e = clash e
+past_listening other e = refl
+
+echo_right : (b : Block) (header : TcpHeader) (by : ℕ) (now : ℤ) → IsTimedRight (timing_of b) → is_listening b.state ≡ false
+    → IsTimedRight (timing_of (echo_taken b header by now))
+echo_right b header by now t not = right _ (echo_in b.round_trip by b.sender.in_flight (echo_of b header now) t.timed) t.sent not
 
 less_sent : (flight top by : ℕ) → flight ≤ top → flight - by ≤ top - by
 less_sent flight top by e = omega arith
@@ -196,20 +213,31 @@ module _ (cx : ContextValue) (ip : IpRepr) (header : TcpHeader) (bytes : List �
     draws = right_drawing u t;
     falls = λ _ _ _. record { timed = tt; sent = nothing_sent _; listens = λ _. refl };
     ends = λ _ _ _. right _ t.timed t.sent refl;
-    closes = λ by _ _. acked_right u.block by cx.moment In.Closed t refl;
-    taken = λ by _ _. right_content _ (acked_right u.block by cx.moment (state_after_ack u.block by (queued_in u)) t (state_past u by past));
-    taken_window = λ by _ _. right_content _ (acked_right u.block by cx.moment (state_after_ack u.block by (queued_in u)) t (state_past u by past));
-    news = λ by _ _. right_drawing _ (acked_right u.block by cx.moment (state_after_ack u.block by (queued_in u)) t (state_past u by past));
+    closes = λ by _ _. acked_right (echo_taken u.block header by cx.moment) by cx.moment In.Closed (heard_right by) refl;
+    taken = λ by _ _. right_content _ (left_right by);
+    taken_window = λ by _ _. right_content _ (left_right by);
+    news = λ by _ _. right_drawing _ (left_right by);
     outside = right_drawing _ t;
     old = λ _. right_content _ t;
   }
+    where
+      heard_right : (by : ℕ) → IsTimedRight (timing_of (echo_taken u.block header by cx.moment))
+      heard_right by = echo_right u.block header by cx.moment t (past_listening u.block.state past)
+
+      left_right : (by : ℕ)
+          → IsTimedRight (timing_of (acked_open (timed cx.moment header u by) by cx.moment).block)
+      left_right by =
+          acked_right (echo_taken u.block header by cx.moment) by cx.moment (state_after_ack u.block by (queued_in u)) (heard_right by) (state_past u by past)
 
   right_opening : (u : TcpValue) → IsTimedRight (timing_of u.block) → Opening cx ip header bytes Right u
   right_opening u t = record {
     opens = λ at _. record { timed = subst (In_flight 0) (sym (t.listens (ap is_listening at))) tt; sent = nothing_sent _; listens = λ e. clash (sym e) };
     refuses = t;
     ends = λ _. right _ t.timed t.sent refl;
-    connects = λ at _. acked_right (took_syn u.block header) 1 cx.moment In.Established (right _ t.timed t.sent (ap is_listening at)) refl;
+    connects = λ at _.
+        let heard_syn = took_syn u.block header in
+        acked_right (echo_taken heard_syn header 1 cx.moment) 1 cx.moment In.Established
+        (echo_right heard_syn header 1 cx.moment (right _ t.timed t.sent (ap is_listening at)) (ap is_listening at)) refl;
     crosses = λ at _. right _ t.timed t.sent refl;
   }
 
@@ -301,9 +329,9 @@ event_right v (Listens endpoint) p t =
     cond_both (is_closed v.block.state && not (endpoint.port == 0)) (listening v endpoint) (unoffered v) (λ (w : TcpValue). IsTimedRight (timing_of w.block))
     (λ _. record { timed = tt; sent = nothing_sent _; listens = λ _. refl }) (λ _. t)
 event_right v (Connects cx remote local) p t =
-    cond_both (is_closed v.block.state) (connected_by v (pair_for cx remote local) (word (next_random cx).random)) (unoffered v)
+    cond_both (is_closed v.block.state) (connected_by v (pair_for cx remote local) (number_for cx (pair_for cx remote local))) (unoffered v)
     (λ (w : TcpValue). IsTimedRight (timing_of w.block))
-    (λ _. connected_right v (pair_for cx remote local) (word (next_random cx).random) t) (λ _. t)
+    (λ _. connected_right v (pair_for cx remote local) (number_for cx (pair_for cx remote local)) t) (λ _. t)
 event_right v (Sends bytes) p t =
     cond_both (takes_writes v.block.state) (sent_more v (enqueued (anchored v.queued) (take (min (length bytes) (length v.queued.free)) bytes))) (unoffered v)
     (λ (w : TcpValue). IsTimedRight (timing_of w.block)) (λ _. t) (λ _. t)

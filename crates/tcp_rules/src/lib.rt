@@ -11,6 +11,7 @@ pub mod giving_up;
 pub mod losses;
 pub mod order;
 pub mod recovery;
+pub mod stamps;
 pub mod time_wait;
 pub mod timing;
 pub mod waiting;

@@ -28,6 +28,7 @@ use Rattle.tcp_model.specs.Rules.{text_choice, resend_choice, probe_choice, cont
 use Rattle.tcp_model.specs.Segments.{stamp_by, segment, ack_segment, syn_segment, reset_segment, keep_alive_segment, hops_of}
 use Rattle.tcp_model.specs.States.{is_closed}
 use Rattle.tcp_model.specs.Timeout.{timeout_end, timeout_started, timed_out}
+use Rattle.tcp_model.specs.Timestamps.{generator_of, uses_stamps}
 use Rattle.tcp_model.specs.Value.{TcpValue, with_block, unoffered, ended, queued_in, free_in, room_of, window_of}
 use Rattle.tcp_model.specs.AddressPair.{AddressPair}
 use Rattle.tcp_model.specs.AddressPair.TheVariants as Pair
@@ -79,14 +80,14 @@ stamped_room false generator now recent = refl
 segment_room : (b : Block) (pair : EndpointPair) (now : ℤ) (window : ℕ) (control : TcpControl) (seq : SeqNumber) →
     header_len (segment b pair now window control seq) ≡ 20 + stamp_len b
 segment_room b pair now window control seq =
-    ap (λ n. 20 + n) (stamped_room (b.peer.timestamps && b.sender.stamped) b.settings.timestamps now b.peer.recent)
+    ap (λ n. 20 + n) (stamped_room b.peer.timestamps b.stamps.generator now b.peer.recent)
 
 stamp_small : (t : Bool) → (if t then 12 else 0) ≤ 12
 stamp_small true = omega arith
 stamp_small false = omega arith
 
 stamp_len_small : (b : Block) → stamp_len b ≤ 12
-stamp_len_small b = stamp_small ((b.peer.timestamps && b.sender.stamped) && is_some b.settings.timestamps)
+stamp_len_small b = stamp_small (uses_stamps b)
 
 -- the options of a SYN
 scale_room : (t : Bool) (n : ℕ) → length (options_bytes (scale_options (if t then Some n else None))) ≤ 3
@@ -107,7 +108,7 @@ syn_room : (b : Block) (pair : EndpointPair) (now : ℤ) (ip_mtu capacity free :
 syn_room b pair now ip_mtu capacity free =
     let scale = scale_room (not b.receiver.took_syn || is_some b.peer.scale) (own_scale capacity) in
     let sack = permitted_room (not b.receiver.took_syn || b.peer.sack) in
-    let stamp = stamp_room (not b.receiver.took_syn || b.peer.timestamps) b.settings.timestamps now b.peer.recent in
+    let stamp = stamp_room (not b.receiver.took_syn || b.peer.timestamps) (generator_of b) now b.peer.recent in
     omega (arith, scale, sack, stamp)
 
 -- a segment that is offered with these bytes

@@ -38,7 +38,7 @@ pub fn other_resets_are_ignored()
 /// Text keeps to the remote's window and to what the congestion window leaves beside what is on its way; it and what goes again keep to the
 /// remote's largest payload less the options that the segment carries, and to the longest packet where that holds the headers, but a byte
 /// always fits.
-#[tactic(auto, using(crate::proofs::AcceptLaws::text_in_window, crate::proofs::AcceptLaws::text_in_congestion, crate::proofs::AcceptLaws::text_in_mss, crate::proofs::AcceptLaws::text_in_packet, crate::proofs::AcceptLaws::again_in_mss, crate::proofs::AcceptLaws::again_in_packet))]
+#[tactic(auto, using(crate::proofs::AcceptLaws::text_fits))]
 pub fn text_keeps_to_the_limits()
     ensures remote { (b : Block) (addresses : AddressPair) (mtu : ℕ) (queued : Ring ℕ)
         → (text_choice b addresses mtu queued).len ≤ b.peer.window - b.sender.in_flight }

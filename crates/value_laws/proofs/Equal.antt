@@ -48,6 +48,7 @@ use Rattle.tcp_model.specs.contracts.block.PeerPartialEq.TheImpl as Remote
 use Rattle.tcp_model.specs.contracts.block.ReceiverPartialEq.TheImpl as Receiving
 use Rattle.tcp_model.specs.contracts.block.SenderPartialEq.TheImpl as Sending
 use Rattle.tcp_model.specs.contracts.block.SettingsPartialEq.TheImpl as Set
+use Rattle.tcp_model.specs.contracts.block.StampsPartialEq.TheImpl as Stamped
 use Rattle.tcp_model.specs.contracts.block.TimersPartialEq.TheImpl as Timed
 use Rattle.tcp_model.specs.contracts.block.checks.VerdictPartialEq.TheImpl as Judged
 use Rattle.tcp_model.specs.contracts.block.rules.PartPartialEq.TheImpl as Parted
@@ -59,6 +60,7 @@ use Rattle.tcp_model.specs.declared.block.Peer.{Peer}
 use Rattle.tcp_model.specs.declared.block.Receiver.{Receiver}
 use Rattle.tcp_model.specs.declared.block.Sender.{Sender}
 use Rattle.tcp_model.specs.declared.block.Settings.{Settings}
+use Rattle.tcp_model.specs.declared.block.Stamps.{Stamps}
 use Rattle.tcp_model.specs.declared.block.Timers.{Timers}
 use Rattle.tcp_model.specs.declared.block.checks.Verdict.{Verdict}
 use Rattle.tcp_model.specs.declared.block.rules.Part.{Part}
@@ -202,8 +204,7 @@ Decides-names a b =
 
 pub Decides-sender : (a b : Sender) → Decides (Sending.ghosts.eq a b) (a ≡ b)
 Decides-sender a b =
-    let from_stamped = Decides-and _ _ (booleans_Decides a.stamped b.stamped) (booleans_Decides a.reset_due b.reset_due) in
-    let from_unanswered = Decides-and _ _ (Decides-eqb a.unanswered b.unanswered) (from_stamped) in
+    let from_unanswered = Decides-and _ _ (Decides-eqb a.unanswered b.unanswered) (booleans_Decides a.reset_due b.reset_due) in
     let from_timeouts = Decides-and _ _ (Decides-eqb a.timeouts b.timeouts) (from_unanswered) in
     let from_syn_lost = Decides-and _ _ (booleans_Decides a.syn_lost b.syn_lost) (from_timeouts) in
     let from_partial = Decides-and _ _ (booleans_Decides a.partial b.partial) (from_syn_lost) in
@@ -224,19 +225,15 @@ Decides-sender a b =
             syn_unacked = parts.1.1.0 i;
             in_flight = parts.1.1.1.0 i;
             top = parts.1.1.1.1.0 i;
-            duplicates =
-                parts.1.1.1.1.1.0 i;
+            duplicates = parts.1.1.1.1.1.0 i;
             sacked = parts.1.1.1.1.1.1.0 i;
             resend = parts.1.1.1.1.1.1.1.0 i;
             recover = parts.1.1.1.1.1.1.1.1.0 i;
-            partial =
-                parts.1.1.1.1.1.1.1.1.1.0 i;
+            partial = parts.1.1.1.1.1.1.1.1.1.0 i;
             syn_lost = parts.1.1.1.1.1.1.1.1.1.1.0 i;
             timeouts = parts.1.1.1.1.1.1.1.1.1.1.1.0 i;
-            unanswered =
-                parts.1.1.1.1.1.1.1.1.1.1.1.1.0 i;
-            stamped = parts.1.1.1.1.1.1.1.1.1.1.1.1.1.0 i;
-            reset_due = parts.1.1.1.1.1.1.1.1.1.1.1.1.1.1 i;
+            unanswered = parts.1.1.1.1.1.1.1.1.1.1.1.1.0 i;
+            reset_due = parts.1.1.1.1.1.1.1.1.1.1.1.1.1 i;
           },
       λ e. all.1 (both (ap (λ (v : Sender). v.una) e)
           (both (ap (λ (v : Sender). v.past_iss) e)
@@ -250,21 +247,33 @@ Decides-sender a b =
           (both (ap (λ (v : Sender). v.partial) e)
           (both (ap (λ (v : Sender). v.syn_lost) e)
           (both (ap (λ (v : Sender). v.timeouts) e)
-          (both (ap (λ (v : Sender). v.unanswered) e) (both (ap (λ (v : Sender). v.stamped) e) (ap (λ (v : Sender). v.reset_due) e))))))))))))))),
+          (both (ap (λ (v : Sender). v.unanswered) e)
+          (ap (λ (v : Sender). v.reset_due) e)))))))))))))),
     )
 
 pub Decides-receiver : (a b : Receiver) → Decides (Receiving.ghosts.eq a b) (a ≡ b)
 Decides-receiver a b =
-    let from_edge = Decides-and _ _ (Decides-eqb a.edge b.edge) (Decides-eqb a.mss b.mss) in
+    let from_mss = Decides-and _ _ (Decides-eqb a.mss b.mss) (Decides-number a.last_ack b.last_ack) in
+    let from_edge = Decides-and _ _ (Decides-eqb a.edge b.edge) (from_mss) in
     let from_took_fin = Decides-and _ _ (booleans_Decides a.took_fin b.took_fin) (from_edge) in
     let from_took_syn = Decides-and _ _ (booleans_Decides a.took_syn b.took_syn) (from_took_fin) in
     let all = Decides-and _ _ (Decides-number a.next b.next) (from_took_syn) in (
       λ yes.
           let parts = all.0 yes in
-          λ i. record { next = parts.0 i; took_syn = parts.1.0 i; took_fin = parts.1.1.0 i; edge = parts.1.1.1.0 i; mss = parts.1.1.1.1 i },
+          λ i. record {
+            next = parts.0 i;
+            took_syn = parts.1.0 i;
+            took_fin = parts.1.1.0 i;
+            edge = parts.1.1.1.0 i;
+            mss = parts.1.1.1.1.0 i;
+            last_ack = parts.1.1.1.1.1 i;
+          },
       λ e. all.1 (both (ap (λ (v : Receiver). v.next) e)
           (both (ap (λ (v : Receiver). v.took_syn) e)
-          (both (ap (λ (v : Receiver). v.took_fin) e) (both (ap (λ (v : Receiver). v.edge) e) (ap (λ (v : Receiver). v.mss) e))))),
+          (both (ap (λ (v : Receiver). v.took_fin) e)
+          (both (ap (λ (v : Receiver). v.edge) e)
+          (both (ap (λ (v : Receiver). v.mss) e)
+          (ap (λ (v : Receiver). v.last_ack) e)))))),
     )
 
 pub Decides-peer : (a b : Peer) → Decides (Remote.ghosts.eq a b) (a ≡ b)
@@ -299,6 +308,22 @@ Decides-peer a b =
           (both (ap (λ (v : Peer). v.mss) e)
           (both (ap (λ (v : Peer). v.scale) e)
           (both (ap (λ (v : Peer). v.sack) e) (both (ap (λ (v : Peer). v.timestamps) e) (ap (λ (v : Peer). v.recent) e))))))))),
+    )
+
+pub Decides-stamps : (a b : Stamps) → Decides (Stamped.ghosts.eq a b) (a ≡ b)
+Decides-stamps a b =
+    let from_first = Decides-and _ _ (Decides-eqb a.first b.first) (Decides-option (λ (x y : ℤ). int_eq x y) Decides-int_eq a.believed_until b.believed_until) in
+    let all = Decides-and _ _ (Decides-option (λ x y. Generator.ghosts.eq x y) Decides-generator a.generator b.generator) (from_first) in (
+      λ yes.
+          let parts = all.0 yes in
+          λ i. record {
+            generator = parts.0 i;
+            first = parts.1.0 i;
+            believed_until = parts.1.1 i;
+          },
+      λ e. all.1 (both (ap (λ (v : Stamps). v.generator) e)
+          (both (ap (λ (v : Stamps). v.first) e)
+          (ap (λ (v : Stamps). v.believed_until) e))),
     )
 
 pub Decides-timers : (a b : Timers) → Decides (Timed.ghosts.eq a b) (a ≡ b)
@@ -428,7 +453,8 @@ Decides-block a b =
     let from_reno = Decides-and _ _ (Decides-reno a.reno b.reno) (from_loss) in
     let from_round_trip = Decides-and _ _ (Decides-round_trip a.round_trip b.round_trip) (from_reno) in
     let from_timers = Decides-and _ _ (Decides-timers a.timers b.timers) (from_round_trip) in
-    let from_peer = Decides-and _ _ (Decides-peer a.peer b.peer) (from_timers) in
+    let from_stamps = Decides-and _ _ (Decides-stamps a.stamps b.stamps) (from_timers) in
+    let from_peer = Decides-and _ _ (Decides-peer a.peer b.peer) (from_stamps) in
     let from_receiver = Decides-and _ _ (Decides-receiver a.receiver b.receiver) (from_peer) in
     let from_sender = Decides-and _ _ (Decides-sender a.sender b.sender) (from_receiver) in
     let from_names = Decides-and _ _ (Decides-names a.names b.names) (from_sender) in
@@ -441,10 +467,10 @@ Decides-block a b =
             sender = parts.1.1.0 i;
             receiver = parts.1.1.1.0 i;
             peer = parts.1.1.1.1.0 i;
-            timers =
-                parts.1.1.1.1.1.0 i;
-            round_trip = parts.1.1.1.1.1.1.0 i;
-            reno = parts.1.1.1.1.1.1.1.0 i;
+            stamps = parts.1.1.1.1.1.0 i;
+            timers = parts.1.1.1.1.1.1.0 i;
+            round_trip = parts.1.1.1.1.1.1.1.0 i;
+            reno = parts.1.1.1.1.1.1.1.1.0 i;
             loss = parts.1.1.1.1.1.1.1.1.0 i;
             settings = parts.1.1.1.1.1.1.1.1.1 i;
           },
@@ -453,9 +479,10 @@ Decides-block a b =
           (both (ap (λ (v : Block). v.sender) e)
           (both (ap (λ (v : Block). v.receiver) e)
           (both (ap (λ (v : Block). v.peer) e)
+          (both (ap (λ (v : Block). v.stamps) e)
           (both (ap (λ (v : Block). v.timers) e)
           (both (ap (λ (v : Block). v.round_trip) e) (both (ap (λ (v : Block). v.reno) e)
-          (both (ap (λ (v : Block). v.loss) e) (ap (λ (v : Block). v.settings) e)))))))))),
+          (both (ap (λ (v : Block). v.loss) e) (ap (λ (v : Block). v.settings) e))))))))))),
     )
 
 pub Decides-verdict : (a b : Verdict) → Decides (Judged.ghosts.eq a b) (a ≡ b)

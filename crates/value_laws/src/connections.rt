@@ -20,6 +20,7 @@ ghost use Rattle.tcp_model.specs.declared.block.Peer.{Peer};
 ghost use Rattle.tcp_model.specs.declared.block.Receiver.{Receiver};
 ghost use Rattle.tcp_model.specs.declared.block.Sender.{Sender};
 ghost use Rattle.tcp_model.specs.declared.block.Settings.{Settings};
+ghost use Rattle.tcp_model.specs.declared.block.Stamps.{Stamps};
 ghost use Rattle.tcp_model.specs.declared.block.Timers.{Timers};
 ghost use Rattle.tcp_model.specs.declared.block.checks.Verdict.{Verdict};
 ghost use Rattle.tcp_model.specs.declared.block.rules.Part.{Part};
@@ -27,8 +28,8 @@ ghost use Rattle.tcp_model.specs.declared.block.rules.Part.{Part};
 use std::fmt::Display;
 use tcp_model::{
     AddressPair, Block, CongestionControl, EndpointPair, Loss, Names, OfferKind, OpenOffer, PROBE,
-    Part, Peer, Receiver, Reno, Reply, RoundTrip, Run, Scoreboard, Sender, Settings, State, Timers,
-    Verdict,
+    Part, Peer, Receiver, Reno, Reply, RoundTrip, Run, Scoreboard, Sender, Settings, Stamps, State,
+    Timers, Verdict,
 };
 
 /// Law: `==` of a control block, and of each part of it, says whether they are the same.
@@ -38,6 +39,7 @@ pub fn blocks_are_equated()
     ensures sender { (a b : Sender) → IsTrue (⟦<Sender as PartialEq>⟧.eq a b) ↔ (a ≡ b) }
     ensures receiver { (a b : Receiver) → IsTrue (⟦<Receiver as PartialEq>⟧.eq a b) ↔ (a ≡ b) }
     ensures peer { (a b : Peer) → IsTrue (⟦<Peer as PartialEq>⟧.eq a b) ↔ (a ≡ b) }
+    ensures stamps { (a b : Stamps) → IsTrue (⟦<Stamps as PartialEq>⟧.eq a b) ↔ (a ≡ b) }
     ensures timers { (a b : Timers) → IsTrue (⟦<Timers as PartialEq>⟧.eq a b) ↔ (a ≡ b) }
     ensures round_trip { (a b : RoundTripValue) → IsTrue (⟦<RoundTrip as PartialEq>⟧.eq a b) ↔ (a ≡ b) }
     ensures reno { (a b : RenoValue) → IsTrue (⟦<Reno as PartialEq>⟧.eq a b) ↔ (a ≡ b) }

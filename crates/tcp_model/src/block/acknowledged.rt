@@ -7,7 +7,6 @@ ghost use Rattle.tcp_model.specs.Acknowledged.{acks_no_less, or_number, names_wi
 ghost use Rattle.tcp_model.specs.Acknowledged.{tells_of_loss, is_duplicate, duplicates_after, is_third, begins_recovery};
 ghost use Rattle.tcp_model.specs.Acknowledged.{partly_after, una_risen, reno_counted, counted};
 
-use super::opening::or_recent;
 use crate::{Block, State};
 use ip_wire::{MAX_WINDOW_SCALE, SeqNumber, TcpHeader};
 use net_base::Instant;
@@ -256,13 +255,14 @@ impl Block {
     }
 
     /// Takes the window of an accepted segment, if no newer one was named, and its timestamp.
-    pub fn set_window(&mut self, header: &TcpHeader)
-        ensures { self.new ≡ window_set self.old header.now }
+    pub fn set_window(&mut self, header: &TcpHeader, now: Instant)
+        requires { IsMoment now }
+        ensures { self.new ≡ window_set self.old header.now now }
     {
         if self.names_window(header) {
             self.take_window(header);
         }
-        self.peer.recent = or_recent(header.options.timestamp, self.peer.recent);
+        self.take_stamp(header, now);
     }
 
     /// How far past SND.UNA the highest position lies that the SACK ranges of a segment name, if both

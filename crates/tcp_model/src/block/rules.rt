@@ -94,11 +94,7 @@ impl Block {
         ensures value { result ≡ stamp_len self.now }
         ensures small { result ≤ 12 }
     {
-        if self.peer.timestamps && self.sender.stamped && self.settings.timestamps.is_some() {
-            12
-        } else {
-            0
-        }
+        if self.uses_stamps() { 12 } else { 0 }
     }
 
     /// The longest text of a segment: what the remote takes, and a packet holds behind headers without

@@ -5,6 +5,7 @@ ghost use Rattle.tcp_model.specs.Unsettled.{EndsNear};
 ghost use Rattle.tcp_model.specs.Settled.{edge_by, recorded, end_of, past_held, nxt_moved, timer_started, loss_watched, went, syn_went, resent, probed};
 ghost use Rattle.tcp_model.specs.Settled.{sent_as};
 
+use super::acknowledged::or_number;
 use super::opening::or_mss;
 use crate::{Block, OfferKind, OpenOffer};
 use net_base::Instant;
@@ -19,6 +20,7 @@ impl Block {
         ensures { self.new ≡ recorded self.old offer.now capacity }
     {
         self.receiver.edge = self.edge_by(offer, capacity);
+        self.receiver.last_ack = or_number(self.receiver.last_ack, offer.segment.ack_number);
         if offer.segment.ack_number.is_some() {
             self.timers.ack_at = None;
             self.timers.text_unacked = false;
@@ -122,7 +124,7 @@ impl Block {
         match offer.kind {
             OfferKind::Reset => self.forget(),
             OfferKind::Syn => {
-                self.sender.stamped = offer.segment.options.timestamp.is_some();
+                self.begin_stamps(offer.moment);
                 self.receiver.mss = or_mss(offer.segment.options.max_seg_size);
                 self.went(offer, queued);
             }
