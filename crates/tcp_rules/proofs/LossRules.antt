@@ -6,9 +6,8 @@ use Rattle.std.proofs.lemmas.Bool.{cond_both, eqb-true, leb-true}
 use Rattle.ip_wire.specs.IpRepr.{IpRepr}
 use Rattle.ip_wire.specs.SeqNumber.{SeqNumber}
 use Rattle.ip_wire.specs.TcpHeader.{TcpHeader}
-use Rattle.net_base.specs.RandomWords.{word}
 use Rattle.net_base.specs.Ring.{Ring, anchored, enqueued}
-use Rattle.tcp_model.specs.Context.{ContextValue, next_random}
+use Rattle.tcp_model.specs.Context.{ContextValue}
 use Rattle.tcp_model.specs.BaseOffers.{Offered}
 use Rattle.tcp_control.specs.Moments.{is_over, timeout_from}
 use Rattle.tcp_control.specs.Offsets.{past_by}
@@ -22,9 +21,11 @@ use Rattle.tcp_control.specs.declared.offer.OpenOffer.{OpenOffer}
 use Rattle.tcp_control.specs.declared.scoreboard.Run.{Run}
 use Rattle.tcp_control.specs.declared.state.State.{State}
 use Rattle.tcp_control.specs.declared.state.State.TheVariants as In
-use Rattle.tcp_model.specs.Acknowledged.{state_after_ack, una_risen, is_partial, stamp_taken, windowed}
+use Rattle.tcp_model.specs.Acknowledged.{state_after_ack, una_risen, is_partial, windowed}
 use Rattle.tcp_model.specs.Arrival.{arrives}
 use Rattle.tcp_model.specs.Calls.{listening, connected_by, pair_for, sent_more}
+use Rattle.tcp_model.specs.FirstNumbers.{number_for}
+use Rattle.tcp_model.specs.Timestamps.{stamp_taken, echo_taken}
 use Rattle.tcp_model.specs.LossRecovery.{with_board, probe_from, probes_losses, probe_armed, run_within, run_of, range_noted, all_noted, heard_more, ranges_noted}
 use Rattle.tcp_model.specs.LossRecovery.{loss_lowered, loss_acked, loss_probed}
 use Rattle.tcp_model.specs.Offers.{offer_of}
@@ -40,7 +41,7 @@ use Rattle.tcp_rules.specs.Events.Event.{Comes, Asked, Listens, Connects, Sends,
 use Rattle.tcp_rules.specs.Events.Setting.{Timeout, KeepAlive, AckDelay, Nagle, HopLimit, Timestamps, Paused, Retries, Congestion, MinRto}
 use Rattle.tcp_rules.specs.InOrder.{sending_of, IsInOrder}
 use Rattle.tcp_rules.specs.Losses.{AreWithin, Known, known_of, IsKnownRight}
-use Rattle.tcp_rules.proofs.ArrivalCases.{by_arrival, Received, Opening, Content, Drawing, acked_open}
+use Rattle.tcp_rules.proofs.ArrivalCases.{timed, by_arrival, Received, Opening, Content, Drawing, acked_open}
 use Rattle.tcp_rules.proofs.CongestionRules.{fin_on, state_past, close_on, unnamed}
 use Rattle.tcp_rules.proofs.OfferCases.{Rules, FirstRules, LastRules, by_rules, begun, probing}
 use Rattle.tcp_rules.proofs.OrderSteps.{clash}
@@ -210,20 +211,30 @@ module _ (cx : ContextValue) (ip : IpRepr) (header : TcpHeader) (bytes : List �
     draws = right_drawing u k;
     falls = λ _ _ _. record { within = within_nothing 0 16; listens = λ _. refl };
     ends = λ _ _ _. right _ k.within refl;
-    closes = λ by _ _. acked_right u.block by (queued_in u) In.Closed k refl;
+    closes = λ by _ _. acked_right (echo_taken u.block header by cx.moment) by (queued_in u) In.Closed (echoed by) refl;
     taken = λ by _ _.
         right_content _
-        (heeded_right u by (stamp_taken (acked_open u by cx.moment).block header) refl
-        (within_acked u.block by (queued_in u) (is_partial u.block by) cx.moment k.within) past);
+        (heeded_right u by (stamp_taken (acked_open (timed cx.moment header u by) by cx.moment).block header cx.moment) refl (within_now by) past);
     taken_window = λ by _ _.
         right_content _
-        (heeded_right u by (stamp_taken (windowed (acked_open u by cx.moment).block header) header) refl
-        (within_acked u.block by (queued_in u) (is_partial u.block by) cx.moment k.within) past);
+        (heeded_right u by (stamp_taken (windowed (acked_open (timed cx.moment header u by) by cx.moment).block header) header cx.moment) refl (within_now by)
+        past);
     news = λ by _ _.
-        right_drawing _ (acked_right u.block by (queued_in u) (state_after_ack u.block by (queued_in u)) k (state_past u by past));
+        right_drawing _
+        (acked_right (echo_taken u.block header by cx.moment) by (queued_in u) (state_after_ack u.block by (queued_in u)) (echoed by) (state_past u by past));
     outside = right_drawing _ k;
     old = λ _. right_content _ k;
   }
+    where
+      -- a round trip by an echo changes nothing of it
+      echoed : (by : ℕ) → IsKnownRight (known_of (echo_taken u.block header by cx.moment))
+      echoed by = k
+
+      within_now : (by : ℕ) → AreWithin (u.block.sender.top - by)
+          (loss_acked (una_risen (echo_taken u.block header by cx.moment) by (queued_in u) cx.moment) by
+          (is_partial (echo_taken u.block header by cx.moment) by) cx.moment).board.runs
+      within_now by =
+          within_acked (echo_taken u.block header by cx.moment) by (queued_in u) (is_partial (echo_taken u.block header by cx.moment) by) cx.moment k.within
 
   right_opening : (u : TcpValue) → IsKnownRight (known_of u.block) → Opening cx ip header bytes Right u
   right_opening u k = record {
@@ -231,7 +242,8 @@ module _ (cx : ContextValue) (ip : IpRepr) (header : TcpHeader) (bytes : List �
         record { within = subst (AreWithin 0) (sym (k.listens (ap is_listening at))) (within_nothing 0 16); listens = λ e. clash (sym e) };
     refuses = k;
     ends = λ _. right _ k.within refl;
-    connects = λ at _. acked_right (took_syn u.block header) 1 0 In.Established (right _ k.within (ap is_listening at)) refl;
+    connects = λ at _.
+        acked_right (echo_taken (took_syn u.block header) header 1 cx.moment) 1 0 In.Established (right _ k.within (ap is_listening at)) refl;
     crosses = λ at _. right _ k.within refl;
   }
 
@@ -349,9 +361,9 @@ event_right v (Listens endpoint) p k =
     cond_both (is_closed v.block.state && not (endpoint.port == 0)) (listening v endpoint) (unoffered v) (λ (w : TcpValue). IsKnownRight (known_of w.block))
     (λ _. record { within = within_nothing 0 16; listens = λ _. refl }) (λ _. k)
 event_right v (Connects cx remote local) p k =
-    cond_both (is_closed v.block.state) (connected_by v (pair_for cx remote local) (word (next_random cx).random)) (unoffered v)
+    cond_both (is_closed v.block.state) (connected_by v (pair_for cx remote local) (number_for cx (pair_for cx remote local))) (unoffered v)
     (λ (w : TcpValue). IsKnownRight (known_of w.block))
-    (λ _. connected_right v (pair_for cx remote local) (word (next_random cx).random) k) (λ _. k)
+    (λ _. connected_right v (pair_for cx remote local) (number_for cx (pair_for cx remote local)) k) (λ _. k)
 event_right v (Sends bytes) p k =
     cond_both (takes_writes v.block.state) (sent_more v (enqueued (anchored v.queued) (take (min (length bytes) (length v.queued.free)) bytes))) (unoffered v)
     (λ (w : TcpValue). IsKnownRight (known_of w.block)) (λ _. k) (λ _. k)
