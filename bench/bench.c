@@ -13,7 +13,8 @@ uint64_t bench_receive(const uint16_t *offsets, size_t offsets_len, const uint16
 uint64_t bench_add(const uint16_t *offsets, size_t offsets_len, const uint16_t *sizes, size_t sizes_len);
 uint16_t bench_checksum(const uint8_t *bytes, size_t len);
 uint64_t bench_parse(const uint8_t *bytes, size_t len, uint8_t *out, size_t out_len);
-size_t bench_emit(uint8_t *out, size_t out_len, const uint8_t *payload, size_t len, uint32_t source, uint32_t destination, uint16_t src_port, uint16_t dst_port);
+size_t bench_emit(uint8_t *out, size_t out_len, const uint8_t *payload, size_t len, uint32_t source, uint32_t destination,
+                  uint16_t src_port, uint16_t dst_port);
 
 enum { CAPACITY = 65535, TRIES = 300 };
 static const uint32_t HERE = 0xc0a80101, THERE = 0xc0a80102;
@@ -136,7 +137,8 @@ __attribute__((noipa)) static uint64_t plain_parse(const uint8_t *p, size_t len,
 }
 
 // What `bench_emit` does.
-__attribute__((noipa)) static size_t plain_emit(uint8_t *p, size_t room, const uint8_t *payload, size_t len, uint32_t source, uint32_t destination, uint16_t src_port, uint16_t dst_port) {
+__attribute__((noipa)) static size_t plain_emit(uint8_t *p, size_t room, const uint8_t *payload, size_t len, uint32_t source,
+                                                uint32_t destination, uint16_t src_port, uint16_t dst_port) {
     if (len > 65507 || room < len + 28) return 0;
     p[0] = 0x45;
     p[1] = 0;
@@ -193,7 +195,10 @@ static void time_emit(size_t len) {
         for (uint32_t r = 0; r < rounds; r++) a += bench_emit(out, CAPACITY, piece, len, HERE, THERE, (uint16_t)r, 53);
         keep_least(&ours, start);
         start = now();
-        for (uint32_t r = 0; r < rounds; r++) { b += plain_emit(middle, CAPACITY, piece, len, HERE, THERE, (uint16_t)r, 53); __asm__ volatile("" ::: "memory"); }
+        for (uint32_t r = 0; r < rounds; r++) {
+            b += plain_emit(middle, CAPACITY, piece, len, HERE, THERE, (uint16_t)r, 53);
+            __asm__ volatile("" ::: "memory");
+        }
         keep_least(&plain, start);
         if (a != b || a != (uint64_t)total * rounds || memcmp(out, middle, total)) fail("written otherwise");
     }

@@ -259,7 +259,8 @@ def by_ab(count, at_once):
     ran = subprocess.run(["ab", "-q", "-s", "60", "-n", str(count), "-c", str(at_once), f"http://{OURS}/"], capture_output=True, text=True)
     lines = {it.split(":")[0]: it.split(":")[1].strip() for it in ran.stdout.splitlines() if ":" in it}
     done, failed = lines.get("Complete requests", "0"), lines.get("Failed requests", "?")
-    return say(f"ab: {done} of {count} pages, {at_once} at a time, {failed} failed, {lines.get('Time taken for tests', '?')}", done == str(count) and failed == "0")
+    took = lines.get("Time taken for tests", "?")
+    return say(f"ab: {done} of {count} pages, {at_once} at a time, {failed} failed, {took}", done == str(count) and failed == "0")
 
 
 def capture(folder):

@@ -195,7 +195,8 @@ int main(int count, char **words) {
         }
     }
     words += optind, count -= optind;
-    if (count != 2 && count != 4 && count != 6) return fprintf(stderr, "pump [OPTIONS] DEVICE HOST ADDRESS/LEN ROUTER [ADDRESS6/LEN ROUTER6] | DEVICE OTHER\n"), 2;
+    if (count != 2 && count != 4 && count != 6)
+        return fprintf(stderr, "pump [OPTIONS] DEVICE HOST ADDRESS/LEN ROUTER [ADDRESS6/LEN ROUTER6] | DEVICE OTHER\n"), 2;
     struct sigaction act = {.sa_handler = on_signal, .sa_flags = SA_RESTART};
     sigaction(SIGTERM, &act, 0), sigaction(SIGINT, &act, 0), sigaction(SIGUSR1, &act, 0);
     tun = open_device(words[0]);

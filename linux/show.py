@@ -56,7 +56,10 @@ def frame(it):
 
 def settings(it):
     link = f"Ethernet {it[1:7].hex(':')}" if it[0] else "bare IP"
-    families = [f"{ipaddress.ip_address(it[at:at + size])}/{it[at + size]}, router {ipaddress.ip_address(it[at + size + 1:at + 2 * size + 1])}" for at, size in ((7, 4), (16, 16))]
+    families = [
+        f"{ipaddress.ip_address(it[at:at + size])}/{it[at + size]}, router {ipaddress.ip_address(it[at + size + 1:at + 2 * size + 1])}"
+        for at, size in ((7, 4), (16, 16))
+    ]
     return f"settings: {link}; {'; '.join(families)}; seed {struct.unpack('<Q', it[49:])[0]}"
 
 

@@ -7,6 +7,7 @@ pub mod OneContent
 pub mod FramesArrive
 pub mod Measured
 pub mod Hearing
+pub mod Taught
 pub mod AtPlace
 pub mod Segments
 pub mod Answering

@@ -15,7 +15,7 @@ use Rattle.ip_wire.specs.declared.arp.repr.ArpRepr.{ArpRepr}
 use Rattle.ip_wire.specs.declared.ethernet.repr.EthernetRepr.{EthernetRepr}
 use Rattle.socket_base.specs.Packet.{PayloadValue, ControlV4, ControlV6, Bytes, Datagram, Segment}
 use Rattle.interface_ingress.specs.Incoming.{Arp, Ip4, Ip6}
-use Rattle.interface_ingress.specs.Arp.{counts, learned, arp_arrived}
+use Rattle.interface_ingress.specs.Arp.{teaches, learned, arp_arrived}
 use Rattle.interface_tables.specs.Inner.{InnerValue, context_of}
 use Rattle.interface_tables.specs.Neighbor.{CacheValue}
 use Rattle.interface_ingress.specs.Arrives.{Arrived, ArrivesV4, ArrivesV6, Brings, is_direct, sender_of, renewed, renewed_by}
@@ -121,7 +121,7 @@ pub renews_v6 : (i : InnerValue) (places : Places) (link : Option EthernetRepr) 
 renews_v6 i places link header payload a h other = v6_renews _ i places link header payload a h other
 
 learns_at : (i : InnerValue) (packet : ArpRepr) → LearnsOnly i packet (arp_arrived i packet)
-learns_at i packet = elim (counts i packet) as (λ b. LearnsOnly i packet (if b then learned i packet else i)) [ true ↦ inr refl | false ↦ inl refl ]
+learns_at i packet = elim (teaches i packet) as (λ b. LearnsOnly i packet (if b then learned i packet else i)) [ true ↦ inr refl | false ↦ inl refl ]
 
 pub learns : (i : InnerValue) (places : Places) (link : EthernetRepr) (packet : ArpRepr) (a : Arrived) → Brings i places (Some (Arp link packet)) a →
     LearnsOnly i packet a.inner

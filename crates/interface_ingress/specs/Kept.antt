@@ -73,6 +73,7 @@ pub record HasSameSettings (i i' : InnerValue) : Type 0 where
   pub mtu : i'.mtu ≡ i.mtu
   pub checksums : i'.checksums ≡ i.checksums
   pub addresses : i'.addresses ≡ i.addresses
+  pub isn_key : i'.isn_key ≡ i.isn_key
   pub any_ip : i'.any_ip ≡ i.any_ip
   pub routes : i'.routes ≡ i.routes
   pub silent : i'.neighbors.silent ≡ i.neighbors.silent

@@ -3,7 +3,9 @@ pub mod Carried
 pub mod Upper
 pub mod Read
 pub mod Sent
+pub mod Acquaintance
 pub mod Heard
+pub mod Taught
 pub mod Arp
 pub mod Replies
 pub mod Answering

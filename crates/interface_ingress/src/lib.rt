@@ -2,6 +2,7 @@
 //! at once.
 #![tactic(auto)]
 
+mod acquaintance;
 pub mod arp;
 mod arrive;
 mod carried;

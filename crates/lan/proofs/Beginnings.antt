@@ -2,7 +2,7 @@
 use Rattle.std.proofs.Common.{◌≡◌, List, []}
 use Rattle.lan_history.specs.History.{Entry}
 use Rattle.lan_world.specs.Runs.{Starts, WorldValue}
-use Rattle.lan_theorem.specs.Station.{StationValue, Stations}
+use Rattle.lan_world.specs.Station.{StationValue, Stations}
 use Rattle.lan_world.specs.Come.{both, starts_of}
 use Rattle.lan.specs.Hosts.{first_world}
 

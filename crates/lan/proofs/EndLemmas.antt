@@ -1,7 +1,7 @@
 -- Why a script's lines end the run.
 use Rattle.std.proofs.Common.{◌≡◌, ℕ, Bool, true, false, List, [], ◌∷◌, Option, Some, None, inl, inr, ◌⊎◌, refl}
 use Rattle.std.specs.Prelude.{◌≢◌, pos, option_map, if◌then◌else◌}
-use Rattle.lan_theorem.specs.Settings.{refusal}
+use Rattle.lan_world.specs.Settings.{refusal}
 use Rattle.lan_world.specs.NewError.{NewError}
 use Rattle.lan_world.specs.NewError.TheVariants as New
 use Rattle.lan_history.specs.declared.answer.Refused.TheVariants.{Memory}
@@ -9,7 +9,7 @@ use Rattle.lan_history.specs.declared.event.Side.{Side}
 use Rattle.lan_history.specs.declared.event.Side.TheVariants.{A, B}
 use Rattle.lan_script.specs.declared.line.Line.{Line}
 use Rattle.lan_script.specs.declared.line.Line.TheVariants.{Start}
-use Rattle.lan_theorem.specs.Station.{StationValue}
+use Rattle.lan_world.specs.Station.{StationValue}
 use Rattle.lan_world.specs.New.{new_error}
 use Rattle.lan_world.specs.declared.error.WorldError.{WorldError}
 use Rattle.lan_world.specs.declared.error.WorldError.TheVariants as Since

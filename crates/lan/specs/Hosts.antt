@@ -11,8 +11,8 @@ use Rattle.sockets.specs.Udp as udp
 use Rattle.lan_world.specs.Host.{HostValue}
 use Rattle.lan_world.specs.Made.{new_host, with_inner}
 use Rattle.lan_world.specs.Set.{unmarked}
-use Rattle.lan_theorem.specs.SocketStorage.{SocketStorage}
-use Rattle.lan_theorem.specs.Settings.{refusal, with_addresses}
+use Rattle.lan_world.specs.SocketStorage.{SocketStorage}
+use Rattle.lan_world.specs.Settings.{refusal, with_addresses}
 use Rattle.lan_world.specs.Config.{Config}
 use Rattle.ip_address.specs.declared.hardware.HardwareAddress.{HardwareAddress}
 use Rattle.ip_address.specs.declared.hardware.HardwareAddress.TheVariants as Hardware
@@ -27,7 +27,7 @@ use Rattle.lan_script.specs.declared.kinds.QueueSizes.{QueueSizes}
 use Rattle.lan_script.specs.declared.kinds.SocketSpec.{SocketSpec}
 use Rattle.lan_script.specs.declared.kinds.SocketSpec.TheVariants as Asks
 use Rattle.lan_world.specs.Runs.{WorldValue}
-use Rattle.lan_theorem.specs.Station.{StationValue}
+use Rattle.lan_world.specs.Station.{StationValue}
 use Rattle.lan_world.specs.Come.{both, starts_of}
 use Rattle.lan_world.specs.New.{new_error}
 use Rattle.lan_world.specs.declared.error.WorldError.TheVariants as Since
@@ -76,7 +76,7 @@ block_v6 side = Block.Ipv6 (record {
 })
 
 abbrev pub config_of : Medium → Side → Config
-config_of medium side = record { random_seed = number side; hardware_addr = hardware_of medium side }
+config_of medium side = record { random_seed = number side; hardware_addr = hardware_of medium side; isn_key = None }
 
 -- what both devices say of themselves: they verify and compute every checksum
 abbrev pub device_of : Medium → ℕ → DeviceCapabilities

@@ -19,9 +19,9 @@ pub use Rattle.lan_history.specs.declared.event.Event
 pub use Rattle.lan_history.specs.declared.event.Side
 pub use Rattle.lan_history.specs.declared.event.TcpSetting
 pub use Rattle.lan_port.specs.Port
-pub use Rattle.lan_theorem.specs.Refusals
+pub use Rattle.lan_world.specs.Refusals
 pub use Rattle.lan_world.specs.Runs
-pub use Rattle.lan_theorem.specs.Station
+pub use Rattle.lan_world.specs.Station
 pub use Rattle.lan_world.specs.Steps
 pub use Rattle.lan_world.specs.Damage
 pub use Rattle.lan_world.specs.HostRuns
@@ -30,6 +30,6 @@ pub use Rattle.lan_world.specs.Come
 pub use Rattle.lan_world.specs.New
 pub use Rattle.lan_world.specs.Promises
 pub use Rattle.lan_world.specs.declared.error.WorldError
-pub use Rattle.lan_theorem.specs.Hosts.Asked
-pub use Rattle.lan_theorem.specs.Hosts.Machine
-pub use Rattle.lan_theorem.specs.Said
+pub use Rattle.lan_world.specs.Asked
+pub use Rattle.lan_world.specs.Machine
+pub use Rattle.lan_world.specs.Said

@@ -8,7 +8,7 @@ use Rattle.lan_history.specs.declared.event.Side.TheVariants.{A, B}
 use Rattle.lan_script.specs.declared.line.Line.{Line}
 use Rattle.lan_script.specs.declared.line.Line.TheVariants.{World, Socket, Start}
 use Rattle.lan_world.specs.Runs.{WorldValue, Step, refusal_in}
-use Rattle.lan_theorem.specs.Station.{Stations, station}
+use Rattle.lan_world.specs.Station.{Stations, station}
 use Rattle.lan.specs.declared.end.End.{End}
 use Rattle.lan.specs.declared.end.End.TheVariants.{BadEvent, Refusal}
 use Rattle.lan.specs.declared.session.Session.{Session}

@@ -63,10 +63,9 @@ fn payload_len(packet: &[u8]) -> usize
 fn behind_header(packet: &[u8]) -> &[u8]
     ensures { result.now ≡ drop 40 packet.now }
 {
-    if IPV6_HEADER_LEN <= packet.len() {
-        &packet[IPV6_HEADER_LEN..]
-    } else {
-        &[]
+    match packet.split_at_checked(IPV6_HEADER_LEN) {
+        Some((_header, rest)) => rest,
+        None => &[],
     }
 }
 

@@ -38,7 +38,7 @@ use Rattle.interface_ingress.specs.Behind.TheVariants as End
 use Rattle.interface_ingress.specs.Problem.{Problem}
 use Rattle.interface_ingress.specs.Reassembled.{is_control_v6}
 use Rattle.interface_ingress.specs.Handed.{handed_reply, control_v4_reply, control_v6_reply, message_reply, names_nobody, is_known_v4, is_unknown, unread_v6, unread_reply}
-use Rattle.interface_ingress.specs.Heard.{neighbor_heard, Heard, heard, heard_on, counts, is_asked, learned, advertised, advertisement, answer}
+use Rattle.interface_ingress.specs.Heard.{neighbor_heard, Heard, heard, heard_on, counts, tells, is_asked, learned, advertised, advertisement, answer}
 use Rattle.interface_ingress.specs.Incoming.{IncomingValue, Arp, Ip4, Ip6}
 use Rattle.interface_ingress.specs.Replies.{echo_v4, sent_v4, source_of_reply, port_unreachable, protocol_unreachable, parameter_problem, is_told, reason_of, reply_v4, reply_v6, error_v6}
 use Rattle.interface_ingress.specs.Replies.{is_between_hosts, quoted_v4, quoted_v6}
@@ -96,7 +96,7 @@ heard_so (Hardware.Ethernet own) i header (Solicitation target link) =
     heard_if (counts header target link) (heard (learned i header.src_addr link) (answer own i header target)) (heard i None)
     (asked_so (is_asked i header target) own target header) tt
 heard_so (Hardware.Ethernet own) i header (Advertisement flags target link) =
-    heard_if (counts header target link) (heard (advertised i flags header.src_addr link) None) (heard i None) tt tt
+    heard_if (tells header flags target link) (heard (advertised i flags target link) None) (heard i None) tt tt
 
 message_so : (i : InnerValue) (header : Ipv6Repr) (message : MessageValue) (bytes : List ℕ) → IfMeasured (message_reply i header message bytes)
 message_so i header (Icmpv6.Ndisc message) bytes =

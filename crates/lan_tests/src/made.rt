@@ -1,8 +1,8 @@
 //! Which two hosts make a world.
 use crate::common::tell;
+use interface::{Config, Interface, SocketSet};
 use ip_wire::{EthernetAddress, HardwareAddress};
 use lan::{Host, Port, World, WorldError};
-use lan_hosts::{Config, Interface, SocketSet};
 use net_base::{ChecksumCapabilities, DeviceCapabilities, Instant, ManagedSlice, Medium};
 use std::alloc::Global;
 use std::test::Fail;
@@ -41,6 +41,7 @@ fn config(n: u8, medium: Medium) -> Config {
             Medium::Ethernet => HardwareAddress::Ethernet(EthernetAddress([2, 0, 0, 0, 0, n])),
             Medium::Ip => HardwareAddress::Ip,
         },
+        isn_key: None,
     }
 }
 

@@ -24,3 +24,13 @@ pub use Rattle.interface_egress.specs.declared.frame.Question
 pub use Rattle.interface_ingress.specs.Kept
 pub use Rattle.interface_tables.specs.declared.route.Route
 pub use Rattle.interface.specs.Touches
+pub use Rattle.lan_hosts.specs.Config
+pub use Rattle.lan_hosts.specs.Host
+pub use Rattle.lan_hosts.specs.NewError
+pub use Rattle.lan_hosts.specs.Origins
+pub use Rattle.lan_hosts.specs.PacketsSafe
+pub use Rattle.lan_hosts.specs.Port
+pub use Rattle.lan_hosts.specs.Records
+pub use Rattle.lan_hosts.specs.Safe
+pub use Rattle.lan_hosts.specs.Socket
+pub use Rattle.lan_hosts.specs.Steps

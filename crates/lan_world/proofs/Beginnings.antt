@@ -11,10 +11,10 @@ use Rattle.lan_theorem.specs.Settings.{is_of_medium}
 use Rattle.lan_history.specs.Tables.{no_record}
 use Rattle.lan_history.specs.declared.event.Side.{Side}
 use Rattle.lan_history.specs.declared.event.Side.TheVariants.{A, B}
-use Rattle.lan_hosts.specs.Port.{LinkEnd}
-use Rattle.lan_hosts.specs.Fresh.{IsTypedHost, IsFreshStart}
-use Rattle.lan_hosts.specs.Runs.{unused, unused_both, table_in}
-use Rattle.lan_hosts.specs.Station.{StationValue}
+use Rattle.lan_theorem.specs.Port.{LinkEnd}
+use Rattle.lan_theorem.specs.Fresh.{IsTypedHost, IsFreshStart}
+use Rattle.lan_theorem.specs.Runs.{unused, unused_both, table_in}
+use Rattle.lan_theorem.specs.Station.{StationValue}
 use Rattle.lan_world.specs.Come.{start_of, starts_of, both, tables, HasCome}
 use Rattle.lan_world.specs.New.{has_one_medium, has_checksums, has_mtu, has_buffers, of_each, is_fresh, first_error, new_error}
 use Rattle.lan_world.specs.declared.error.WorldError.TheVariants as Since

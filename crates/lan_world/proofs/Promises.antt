@@ -3,12 +3,12 @@ use Rattle.std.proofs.Common.{ℕ, List}
 use Rattle.lan_history.specs.History.{Entry}
 use Rattle.lan_history.specs.declared.event.Side.{Side}
 use Rattle.lan_history.specs.declared.event.Side.TheVariants.{A, B}
-use Rattle.lan_hosts.specs.PacketsSafe.{IsSafe}
-use Rattle.lan_hosts.specs.Fresh.{IsFreshWorld}
-use Rattle.lan_hosts.specs.Refusals.{Table}
-use Rattle.lan_hosts.specs.Runs.{Starts, WorldValue, WorldRun, unused_both, counts_of}
-use Rattle.lan_hosts.specs.Safe.{first_port, net_of}
-use Rattle.lan_hosts.specs.Station.{StationValue, Stations}
+use Rattle.lan_theorem.specs.PacketsSafe.{IsSafe}
+use Rattle.lan_theorem.specs.Fresh.{IsFreshWorld}
+use Rattle.lan_theorem.specs.Refusals.{Table}
+use Rattle.lan_theorem.specs.Runs.{Starts, WorldValue, WorldRun, unused_both, counts_of}
+use Rattle.lan_theorem.specs.Safe.{first_port, net_of}
+use Rattle.lan_theorem.specs.Station.{StationValue, Stations}
 use Rattle.lan_theorem.specs.Events.{AreTyped}
 use Rattle.lan_theorem.specs.Rebuilt.{RebuiltWasMade}
 use Rattle.lan_theorem.specs.Said.{RebuiltWasSent, by_side}

@@ -3,7 +3,7 @@ use Rattle.std.proofs.Common.{◌≡◌, ℕ, zero, suc, ◌+◌, ◌<◌, List,
 use Rattle.std.specs.Prelude.{slice_get}
 use Rattle.lan_history.specs.declared.event.Event.{Event}
 use Rattle.lan_history.specs.declared.answer.Answer.{Answer}
-use Rattle.lan_hosts.specs.Runs.{WorldValue, Step, Steps}
+use Rattle.lan_theorem.specs.Runs.{WorldValue, Step, Steps}
 use Rattle.lan_world.specs.Come.{HasRun}
 
 -- where something is left of a list, its first comes next

@@ -23,9 +23,9 @@ use Rattle.lan_history.specs.State.TheVariants as In
 use Rattle.tcp_model.specs.EndpointPair.{EndpointPair}
 use Rattle.tcp_model.specs.Calls.{nothing_left}
 use Rattle.tcp_model.specs.Value.{TcpValue}
-use Rattle.lan_hosts.specs.Socket.{local_in}
+use Rattle.lan_theorem.specs.Socket.{local_in}
 use Rattle.std.specs.Prelude.{is_some}
-use Rattle.lan_hosts.specs.Fresh.{IsUnused}
+use Rattle.lan_theorem.specs.Fresh.{IsUnused}
 use Rattle.lan_world.specs.New.{is_both, are_on, is_no_socket, is_unopened, is_ingress, is_unused, of_item, of_place}
 
 -- LISTS

@@ -2,10 +2,10 @@
 use Rattle.std.specs.Prelude.{◌≡◌, ℕ, ◌≤◌, List, length, take, drop}
 use Rattle.lan_history.specs.History.{Entry}
 use Rattle.lan_history.specs.declared.event.Event.{Event}
-use Rattle.lan_hosts.specs.Fresh.{IsFreshWorld}
-use Rattle.lan_hosts.specs.Refusals.{Table, Tables}
-use Rattle.lan_hosts.specs.Runs.{Start, Starts, WorldValue, WorldRun, Steps, unused_both, tables_in}
-use Rattle.lan_hosts.specs.Station.{StationValue, Stations}
+use Rattle.lan_theorem.specs.Fresh.{IsFreshWorld}
+use Rattle.lan_theorem.specs.Refusals.{Table, Tables}
+use Rattle.lan_theorem.specs.Runs.{Start, Starts, WorldValue, WorldRun, Steps, unused_both, tables_in}
+use Rattle.lan_theorem.specs.Station.{StationValue, Stations}
 use Rattle.lan_theorem.specs.Events.{AreTyped}
 
 -- a host as its world began with it

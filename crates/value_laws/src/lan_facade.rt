@@ -22,7 +22,7 @@ pub fn passes_on_names(
     setting: lan_history::TcpSetting,
     fault: lan_history::Fault,
     refused: lan_history::Refused,
-    error: lan::WorldError,
+    error: lan_world::WorldError,
 ) -> (
     lan::Side,
     lan::TcpSetting,
@@ -64,21 +64,21 @@ pub fn passes_on_hosts(host: &lan_hosts::Host) -> &lan::Host
 }
 
 /// A world.
-pub fn passes_on_worlds(world: &lan::World) -> &lan::World
+pub fn passes_on_worlds(world: &lan_world::World) -> &lan::World
     ensures { result.now ≡ world.now }
 {
     world
 }
 
 /// A port.
-pub fn passes_on_ports(port: &lan::Port) -> &lan::Port
+pub fn passes_on_ports(port: &lan_port::Port) -> &lan::Port
     ensures { result.now ≡ port.now }
 {
     port
 }
 
 /// Leave to send at a port.
-pub fn passes_on_tokens(token: &lan::PortTxToken) -> &lan::PortTxToken
+pub fn passes_on_tokens(token: &lan_port::PortTxToken) -> &lan::PortTxToken
     ensures { result.now ≡ token.now }
 {
     token

@@ -10,35 +10,40 @@ pub fn passes_on_names(
     setting: lan_history::TcpSetting,
     fault: lan_history::Fault,
     refused: lan_history::Refused,
-) -> (lan::Side, lan::TcpSetting, lan::Fault, lan::Refused)
+) -> (
+    lan_world::Side,
+    lan_world::TcpSetting,
+    lan_world::Fault,
+    lan_world::Refused,
+)
     ensures { result ≡ (side, setting, fault, refused) }
 {
     (side, setting, fault, refused)
 }
 
 /// An event.
-pub fn passes_on_events(event: &lan_history::Event) -> &lan::Event
+pub fn passes_on_events(event: &lan_history::Event) -> &lan_world::Event
     ensures { result.now ≡ event.now }
 {
     event
 }
 
 /// An answer.
-pub fn passes_on_answers(answer: &lan_history::Answer) -> &lan::Answer
+pub fn passes_on_answers(answer: &lan_history::Answer) -> &lan_world::Answer
     ensures { result.now ≡ answer.now }
 {
     answer
 }
 
 /// Bytes.
-pub fn passes_on_bytes(bytes: &lan_history::Bytes) -> &lan::Bytes
+pub fn passes_on_bytes(bytes: &lan_history::Bytes) -> &lan_world::Bytes
     ensures { result.now ≡ bytes.now }
 {
     bytes
 }
 
 /// A host.
-pub fn passes_on_hosts(host: &lan_hosts::Host) -> &lan::Host
+pub fn passes_on_hosts(host: &lan_hosts::Host) -> &lan_world::Host
     ensures { result.now ≡ host.now }
 {
     host
@@ -49,5 +54,5 @@ pub fn passes_on_machines()
     ensures { (start : Machine) (room : ℕ) (turns : List Turn) (now : Machine)
         → HostRun start room turns now → AreApart (requests turns) }
 {
-    lan::host_laws::requests_are_apart();
+    lan_world::host_laws::requests_are_apart();
 }

@@ -26,7 +26,7 @@ use Rattle.interface_ingress.specs.Reassembled.{is_control_v6}
 use Rattle.interface_ingress.specs.Headers.{go_through, carries_error}
 use Rattle.interface_ingress.specs.Behind.{Behind}
 use Rattle.interface_ingress.specs.Behind.TheVariants as End
-use Rattle.interface_ingress.specs.Heard.{neighbor_heard, Heard, heard, heard_on, counts, learned, advertised, answer, advertisement, is_asked}
+use Rattle.interface_ingress.specs.Heard.{neighbor_heard, Heard, heard, heard_on, counts, tells, learned, advertised, answer, advertisement, is_asked}
 use Rattle.interface_ingress.specs.Replies.{sent_v4, echo_v4, port_unreachable, protocol_unreachable, parameter_problem, is_told, reason_of, source_of_reply, reply_v6, is_between_hosts, quoted_v4}
 use Rattle.interface_ingress.specs.Replies.{quoted_v6}
 use Rattle.lan_packets.specs.Parties.{Party}
@@ -79,7 +79,7 @@ module _ (Q : PacketValue → Type 0)
       heard_if (counts header target link) (heard (learned i header.src_addr link) (answer own i header target)) i
       (answer_free (is_asked i header target) own target header.src_addr)
   heard_free (Hardware.Ethernet own) i header (Advertisement flags target link) =
-      heard_if (counts header target link) (heard (advertised i flags header.src_addr link) None) i tt
+      heard_if (tells header flags target link) (heard (advertised i flags target link) None) i tt
 
   message_free : (i : InnerValue) (header : Ipv6Repr) (message : MessageValue) (bytes : List ℕ) → Free (message_reply i header message bytes)
   message_free i header (Icmpv6.Ndisc message) bytes =
