@@ -8,6 +8,7 @@ pub mod edges;
 pub mod flight;
 pub mod forged;
 pub mod giving_up;
+pub mod losses;
 pub mod order;
 pub mod recovery;
 pub mod stamps;
