@@ -1,11 +1,12 @@
 #!/usr/bin/env python3
 """The program `host` beside Linux's own stack over the same bad link, in a network namespace of its own:
 
-    badlink.py PUMP HOST [STREAMS [BYTES]]
+    badlink.py PUMP HOST [SEEDS [BYTES]]
 
-For each kind of link so many streams (5) of so many bytes (200,000) are echoed one after the other: first by the host, over a TUN
+For each kind of link and each of so many seeds (5) a stream of so many bytes (200,000) is echoed: first by the host, over a TUN
 device, then by a program over Linux's own stack, between two TUN devices, of which the other one is in a namespace within. PUMP is
-linux/pump.c, built; it loses, repeats, holds back and damages the packets of both by the same chances. It prints a table.
+linux/pump.c, built; it loses, repeats, holds back and damages the packets of both by the same chances, whose random numbers begin with
+the seed. It prints a table.
 """
 import os, random, select, socket, statistics, subprocess, sys, time
 
@@ -15,6 +16,8 @@ from talk import LINUX, OURS, sh
 
 LINKS = (
     ("good", ()),
+    ("0.1% lost", ("-l", "1")),
+    ("1% lost", ("-l", "10")),
     ("2% lost", ("-l", "20")),
     ("5% lost", ("-l", "50")),
     ("10% lost", ("-l", "100")),
@@ -66,18 +69,18 @@ def stream(count, seconds=300):
     return time.monotonic() - began if got == sent else None
 
 
-def streams(count, size):
-    took = [it for _ in range(count) if (it := stream(size)) is not None]
-    if not took:
-        return f"0 of {count}"
-    return f"{len(took)} of {count}; {statistics.median(took):.2f} s, {max(took):.2f} s"
+def said(took):
+    """How many came whole, the median and the longest."""
+    came = [it for it in took if it is not None]
+    if not came:
+        return f"0 of {len(took)}"
+    return f"{len(came)} of {len(took)}; {statistics.median(came):.2f} s, {max(came):.2f} s"
 
 
-def by_host(pump, program, options, count, size):
-    ran = start(pump, program, *options)
-    said = streams(count, size)
-    end([ran])
-    return said
+def tried(started, size):
+    took = stream(size)
+    end(started)
+    return took
 
 
 def linux_beyond(pump, *options):
@@ -104,21 +107,18 @@ def end(started):
         it.wait()
 
 
-def by_linux(pump, options, count, size):
-    started = linux_beyond(pump, *options)
-    said = streams(count, size)
-    end(started)
-    return said
-
-
 def main():
     pump, program = sys.argv[1], sys.argv[2]
-    count, size = (int(it) for it in (sys.argv[3:] + ["5", "200000"][len(sys.argv) - 3:])[:2])
-    print(f"{count} streams of {size} bytes, there and back: how many came whole; the median, the longest\n")
+    seeds, size = (int(it) for it in (sys.argv[3:] + ["5", "200000"][len(sys.argv) - 3:])[:2])
+    print(f"a stream of {size} bytes for each of {seeds} seeds, there and back: how many came whole; the median, the longest\n")
     print("| Link, each way | The host | Linux's own stack |\n|---|---|---|")
     for name, options in LINKS:
-        chance = ("-c", str(random.randrange(1, 2**32)))
-        print(f"| {name} | {by_host(pump, program, (*options, *chance), count, size)} | {by_linux(pump, (*options, *chance), count, size)} |", flush=True)
+        host, linux = [], []
+        for seed in range(seeds):
+            chance = ("-c", str(random.Random(seed).getrandbits(64)))
+            host.append(tried([start(pump, program, *options, *chance, "-s", str(seed))], size))
+            linux.append(tried(linux_beyond(pump, *options, *chance), size))
+        print(f"| {name} | {said(host)} | {said(linux)} |", flush=True)
 
 
 if __name__ == "__main__":

@@ -27,7 +27,7 @@ use Rattle.net_base.specs.Packets.{packets_in}
 use Rattle.net_base.specs.Ring.{capacity}
 use Rattle.sockets.specs.Udp.{UdpValue, made as made_socket, bind_after}
 use Rattle.tun_host.specs.Backlogs.{on_port, HostState, AreFreshEntries}
-use Rattle.sockets.specs.TcpSettings.{set_timeout, set_keep_alive}
+use Rattle.sockets.specs.TcpSettings.{set_timeout, set_keep_alive, set_min_rto}
 use Rattle.sockets.specs.declared.socket.Socket.{Socket}
 use Rattle.sockets.specs.declared.socket.Socket.TheVariants as Is
 use Rattle.services.specs.Blocks.{fresh_block, default_settings}
@@ -128,8 +128,12 @@ keep_alive = 30_000_000
 abbrev pub timeout : ℕ
 timeout = 120_000_000
 
+-- how long a segment waits for its acknowledgement at least until it goes again, in microseconds (RFC 6298, 2.4, asks for a second)
+abbrev pub least_rto : ℕ
+least_rto = 200_000
+
 abbrev pub patient : TcpValue → TcpValue
-patient v = set_timeout (set_keep_alive v (Some keep_alive)) (Some timeout)
+patient v = set_min_rto (set_timeout (set_keep_alive v (Some keep_alive)) (Some timeout)) least_rto
 
 -- one that serves connections, and sees that its partner vanished
 pub record IsPatient (room : ℕ) (v : TcpValue) : Type 0 where

@@ -1,12 +1,15 @@
 //! A host as a program.
 use crate::turns::serve;
-use std::io;
+use std::io::{self, BufReader};
 use std::process::ExitCode;
 
 /// Serves a program's standard input and output, and returns the status with which it ends: success where its input ended. All that
-/// is known of what it writes is what `serve` promises.
+/// is known of what it writes is what `serve` promises. A turn that was written in one piece is read in one.
 pub fn run<R: Input + Print + AllocGlobal>(rt: &R) -> ExitCode {
-    match serve(rt.alloc(), &mut rt.reader(), &mut io::writer(rt)) {
+    let Ok(mut reader) = BufReader::new(rt.alloc(), rt.reader()) else {
+        return ExitCode::FAILURE;
+    };
+    match serve(rt.alloc(), &mut reader, &mut io::writer(rt)) {
         Ok(()) => ExitCode::SUCCESS,
         Err(_) => ExitCode::FAILURE,
     }

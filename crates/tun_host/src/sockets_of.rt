@@ -27,6 +27,9 @@ const KEEP_ALIVE_SECS: u64 = 30;
 /// How long it may say nothing at all while something waits for it, in seconds.
 const TIMEOUT_SECS: u64 = 120;
 
+/// How long a segment waits for its acknowledgement at least until it goes again, in milliseconds: Linux's least, too.
+const MIN_RTO_MILLIS: u64 = 200;
+
 /// A queue for so many datagrams of so many bytes together.
 fn queue<H: Drop>(alloc: Global, count: usize, room: usize) -> Result<PacketBuffer<H>, AllocError>
     ensures { IfOk result (λ queue. queue ≡ packets_in [] 0 count room) }
@@ -64,12 +67,13 @@ fn stream(alloc: Global, room: usize) -> Result<tcp::Socket, AllocError>
     Ok(tcp::Socket::new(rx, tx))
 }
 
-/// A connection whose partner vanishes ends.
+/// A connection whose partner vanishes ends, and a segment that is lost goes again soon.
 fn be_patient(socket: &mut tcp::Socket)
     ensures { socket.new ≡ patient socket.old }
 {
     socket.set_keep_alive(Some(Duration::from_secs(KEEP_ALIVE_SECS)));
     socket.set_timeout(Some(Duration::from_secs(TIMEOUT_SECS)));
+    socket.set_min_rto(Duration::from_millis(MIN_RTO_MILLIS));
 }
 
 /// A socket that serves connections.

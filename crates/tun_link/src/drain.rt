@@ -1,5 +1,5 @@
 //! The device of a host that takes turns.
-ghost use Rattle.std.specs.Prelude.{◌≡◌, ◌+◌, ◌^◌, ◌<◌, ◌≤◌, [], ◌++◌, length, vec_len, vec_capacity, IfSome, OnSome};
+ghost use Rattle.std.specs.Prelude.{◌≡◌, ◌+◌, ◌^◌, ◌<◌, ◌≤◌, [], ◌++◌, length, vec_len, vec_capacity, IfSome, OnSome, if◌then◌else◌};
 ghost use Rattle.tun_link.specs.Answer.{packet_bytes};
 ghost use Rattle.tun_link.specs.Drain.{brought, received, fresh_drain, one_more_if};
 
@@ -151,6 +151,13 @@ impl Drain {
         ensures { result.now ≡ self.now.sent }
     {
         self.answer.as_slice()
+    }
+
+    /// Puts the answer's end behind it, if there is room or memory. Whether there was.
+    pub(crate) fn append_end(&mut self, end: &[u8]) -> bool
+        ensures { self.new ≡ if result then record self.old { sent = self.old.sent ++ end.now } else self.old }
+    {
+        self.answer.extend_from_slice(end).is_ok()
     }
 
     /// Forgets the answer. Its buffer stays.
