@@ -40,7 +40,7 @@ use Rattle.tcp_model.specs.Settled.{settled, sent_off, sent_as, recorded, probed
 use Rattle.tcp_model.specs.Value.{TcpValue, Arrived, with_block, unoffered, ended, new_socket, queued_in, room_of}
 use Rattle.tcp_model.specs.declared.block.Block.{Block}
 use Rattle.tcp_model.specs.FirstNumbers.{number_for}
-use Rattle.tcp_model.specs.Timestamps.{echo_taken, echo_of, timed_by, timed_with}
+use Rattle.tcp_model.specs.Timestamps.{echo_taken, echo_of, stamp_taken, timed_by, timed_with}
 use Rattle.tcp_rules.specs.Events.{Event, Setting, after, led, set, is_past}
 use Rattle.tcp_rules.specs.Events.Event.{Comes, Asked, Listens, Connects, Sends, Reads, Closes, Aborts, Sets}
 use Rattle.tcp_rules.specs.Events.Setting.{Timeout, KeepAlive, AckDelay, Nagle, HopLimit, Timestamps, Paused, Retries, MinRto, Congestion}
@@ -156,7 +156,7 @@ fine_echo r by duration echo f = cond_both (by == 0) r (timed_with r by echo) (�
       (λ _. f)
 
 past_listening : (state : State) → is_past state ≡ true → is_listening state ≡ false
-past_listening In.Listen e = clash e
+past_listening In.Listen e = clash (sym e)
 past_listening other e = refl
 
 fine_late : (r : RoundTripValue) (duration : ℕ) → Fine r duration → Fine (round_trip.begun_late r) duration
