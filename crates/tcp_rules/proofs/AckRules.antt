@@ -126,7 +126,7 @@ module _ (b : Block) (header : TcpHeader) (size : ℕ) (fills : Bool) (now : ℤ
 
 -- A SEGMENT COMES
 
-is_in : (state : State) → is_past state ≡ true → (state ≡ In.Listen → ⊥) × (state ≡ In.SynSent → ⊥)
+pub is_in : (state : State) → is_past state ≡ true → (state ≡ In.Listen → ⊥) × (state ≡ In.SynSent → ⊥)
 is_in state past = (λ at. absurd (let clash = ap is_past at in cc), λ at. absurd (let clash = ap is_past at in cc))
 
 module _ (cx : ContextValue) (v : TcpValue) (ip : IpRepr) (header : TcpHeader) (bytes : List ℕ) (past : is_past v.block.state ≡ true) where

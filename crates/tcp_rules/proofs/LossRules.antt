@@ -32,7 +32,7 @@ use Rattle.tcp_model.specs.Offers.{offer_of}
 use Rattle.tcp_model.specs.Opening.{took_syn}
 use Rattle.tcp_model.specs.Retries.{asked, one_more}
 use Rattle.tcp_model.specs.Rules.{backed_off_now}
-use Rattle.tcp_model.specs.Settled.{settled, sent_off, sent_as, recorded, probed, end_of}
+use Rattle.tcp_model.specs.Settled.{settled, sent_off, sent_as, recorded, probed, end_of, nxt_moved, timer_started, syn_went, resent}
 use Rattle.tcp_model.specs.Value.{TcpValue, Arrived, with_block, unoffered, ended, new_socket, queued_in, room_of}
 use Rattle.tcp_model.specs.declared.block.Block.{Block}
 use Rattle.tcp_model.specs.declared.block.Loss.{Loss}
@@ -274,12 +274,17 @@ went_right b l c end now same not k =
     (within_more b.sender.top (max b.sender.top end) b.loss.board.runs (at_most b.sender.top end) k.within)))
     not
 
+-- SND.NXT is past the segment, and the retransmission timer runs
+abbrev moved : Block → OpenOffer → ℕ → Block
+moved b o queued = timer_started (nxt_moved b (end_of b o) queued o.moment) o.moment
+
 sent_right : (kind : OfferKind) (b : Block) (o : OpenOffer) (queued : ℕ) → is_listening b.state ≡ false → IsKnownRight (known_of b) →
     IsKnownRight (known_of (sent_as kind b o queued))
 sent_right Kind.Reset b o queued not k = right _ k.within refl
-sent_right Kind.Syn b o queued not k = went_right b b.loss _ (end_of b o) o.moment refl not k
-sent_right Kind.FastRetransmission b o queued not k = went_right b _ _ (end_of b o) o.moment refl not k
-sent_right Kind.Text b o queued not k = went_right b b.loss _ (end_of b o) o.moment refl not k
+sent_right Kind.Syn b o queued not k = went_right b b.loss (moved (syn_went b o) o queued) (end_of b o) o.moment refl not k
+sent_right Kind.FastRetransmission b o queued not k =
+    went_right b (resent b (end_of b o)).loss (moved (resent b (end_of b o)) o queued) (end_of b o) o.moment refl not k
+sent_right Kind.Text b o queued not k = went_right b b.loss (moved b o queued) (end_of b o) o.moment refl not k
 sent_right Kind.Probe b o queued not k =
     asked_right (probed b (end_of b o) o.moment) o.moment
     (right _ (within_more b.sender.top (max b.sender.top (end_of b o)) b.loss.board.runs (at_most b.sender.top (end_of b o)) k.within) not)
@@ -406,9 +411,10 @@ asked_probe b now =
 
 pub probed_once : (kind : OfferKind) (b : Block) (o : OpenOffer) (queued : ℕ) → b.loss.probed ≡ true
     → (sent_as kind b o queued).loss.probe_at ≡ b.loss.probe_at
-probed_once Kind.Syn b o queued e = armed_not _ b.loss o.moment e
-probed_once Kind.FastRetransmission b o queued e = armed_not _ _ o.moment e
-probed_once Kind.Text b o queued e = armed_not _ b.loss o.moment e
+probed_once Kind.Syn b o queued e = armed_not (moved (syn_went b o) o queued) b.loss o.moment e
+probed_once Kind.FastRetransmission b o queued e =
+    armed_not (moved (resent b (end_of b o)) o queued) (resent b (end_of b o)).loss o.moment e
+probed_once Kind.Text b o queued e = armed_not (moved b o queued) b.loss o.moment e
 probed_once Kind.Probe b o queued e = asked_probe (probed b (end_of b o) o.moment) o.moment
 probed_once Kind.KeepAlive b o queued e = asked_probe b o.moment
 probed_once other b o queued e = refl

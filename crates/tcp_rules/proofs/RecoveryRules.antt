@@ -40,7 +40,7 @@ use Rattle.tcp_model.specs.Settled.{settled, sent_off, sent_as, recorded, probed
 use Rattle.tcp_model.specs.Value.{TcpValue, Arrived, with_block, unoffered, ended, new_socket, queued_in, room_of}
 use Rattle.tcp_model.specs.declared.block.Block.{Block}
 use Rattle.tcp_model.specs.FirstNumbers.{number_for}
-use Rattle.tcp_model.specs.Timestamps.{echo_taken, echo_of, timed_by, timed_with}
+use Rattle.tcp_model.specs.Timestamps.{stamp_taken, echo_taken, echo_of, stamp_taken, timed_by, timed_with}
 use Rattle.tcp_rules.specs.Events.{Event, Setting, after, led, set, is_past}
 use Rattle.tcp_rules.specs.Events.Event.{Comes, Asked, Listens, Connects, Sends, Reads, Closes, Aborts, Sets}
 use Rattle.tcp_rules.specs.Events.Setting.{Timeout, KeepAlive, AckDelay, Nagle, HopLimit, Timestamps, Paused, Retries, MinRto, Congestion}
@@ -156,7 +156,7 @@ fine_echo r by duration echo f = cond_both (by == 0) r (timed_with r by echo) (�
       (λ _. f)
 
 past_listening : (state : State) → is_past state ≡ true → is_listening state ≡ false
-past_listening In.Listen e = clash e
+past_listening In.Listen e = clash (sym e)
 past_listening other e = refl
 
 fine_late : (r : RoundTripValue) (duration : ℕ) → Fine r duration → Fine (round_trip.begun_late r) duration
@@ -384,7 +384,7 @@ module _ (cx : ContextValue) where
 
   -- a loss probe is due
   probed_paced : (v : TcpValue) → IsPaced (recovery_of v.block) → is_listening v.block.state ≡ false → IsPaced (recovery_of (loss_probed (begun cx v)))
-  probed_paced v p not = at (probes_tail (begun cx v)) where
+  probed_paced v p open_yet = at (probes_tail (begun cx v)) where
     one_of : (n : ℕ) → (n == 0) ≡ false → 1 ≤ n
     one_of zero e = clash e
     one_of (suc n) e = omega arith
@@ -403,7 +403,7 @@ module _ (cx : ContextValue) where
           min_rto = v.block.settings.min_rto;
         })
     at true = p
-    at false = paced _ (λ _. recovers_on) not (fine_of _ p)
+    at false = paced _ (λ _. recovers_on) open_yet (fine_of _ p)
 
   paced_rules : (v : TcpValue) → IsInOrder (sending_of v) → IsPaced (recovery_of v.block) → Rules cx v PacedOffer
   paced_rules v p k = record {

@@ -101,7 +101,7 @@ recent_rises cx v ip header bytes past = kept_arrival cx v ip header bytes past
 module _ (cx : ContextValue) (ip : IpRepr) (header : TcpHeader) (bytes : List ℕ) (v : TcpValue) where
   either : (a b : Bool) → a ≡ true → (a || b) ≡ true
   either true b e = refl
-  either false b e = clash e
+  either false b e = clash (sym e)
 
   by_stale : is_rst header.control ≡ false → is_stale v.block header cx.moment ≡ true → Left v (received cx (unoffered v) ip header bytes)
   by_stale no_rst stale =

@@ -136,7 +136,7 @@ module _ (cx : ContextValue) where
         elsewhere w.block.state sends_syn (not (is_answering w.block.state && w.block.settings.synack_paused)) at refl
         (first_of_both (sends_syn w.block.state && not (is_answering w.block.state && w.block.settings.synack_paused))
         (w.block.sender.syn_unacked && (w.block.sender.in_flight == 0)) owes);
-    again = λ _ again. elsewhere w.block.state sends_text w.block.sender.resend at refl again;
+    again = λ _ again. elsewhere w.block.state sends_text _ at refl again;
     text = λ _ text. elsewhere w.block.state sends_text _ at refl text;
     last = λ _. waits_last pair (probing cx w) none at;
   }

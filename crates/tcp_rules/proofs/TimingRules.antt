@@ -94,8 +94,11 @@ echo_in r by flight echo t = cond_both (by == 0) r (timed_with r by echo) (λ (x
       cond_both (round_trip.is_reached r.sample by) (round_trip.measured r millis) r (λ (x : RoundTripValue). In_flight flight x.sample) (λ _. tt) (λ _. t)
 
 past_listening : (state : State) → is_past state ≡ true → is_listening state ≡ false
-past_listening In.Listen e = clash e
+past_listening In.Listen e = clash (sym e)
 past_listening other e = refl
+
+right : (t : Timing) → In_flight t.in_flight t.sample → t.in_flight ≤ t.top → is_listening t.state ≡ false → IsTimedRight t
+right t timed sent not = record { timed = timed; sent = sent; listens = λ e. clash (sym e ∙ not) }
 
 echo_right : (b : Block) (header : TcpHeader) (by : ℕ) (now : ℤ) → IsTimedRight (timing_of b) → is_listening b.state ≡ false
     → IsTimedRight (timing_of (echo_taken b header by now))
@@ -103,9 +106,6 @@ echo_right b header by now t not = right _ (echo_in b.round_trip by b.sender.in_
 
 less_sent : (flight top by : ℕ) → flight ≤ top → flight - by ≤ top - by
 less_sent flight top by e = omega arith
-
-right : (t : Timing) → In_flight t.in_flight t.sample → t.in_flight ≤ t.top → is_listening t.state ≡ false → IsTimedRight t
-right t timed sent not = record { timed = timed; sent = sent; listens = λ e. clash (sym e ∙ not) }
 
 acked_right : (b : Block) (by : ℕ) (now : ℤ) (state : State) → IsTimedRight (timing_of b) → is_listening state ≡ false
     → IsTimedRight (record { state = state; sample = (round_trip_after b by now).sample; in_flight = b.sender.in_flight - by; top = b.sender.top - by })
