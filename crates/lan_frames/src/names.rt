@@ -48,7 +48,7 @@ fn payload_of(packet: &[u8]) -> &[u8]
     ensures short { length result.now < 2 ^ 16 }
 {
     let len = payload_len(packet);
-    front_of(rest_from(packet, IPV6_HEADER_LEN), len)
+    front_of(behind_header(packet), len)
 }
 
 // The payload length of an IPv6 packet, where bytes that aren't there are 0.
@@ -59,11 +59,14 @@ fn payload_len(packet: &[u8]) -> usize
     u16::from_be_bytes([byte_at(packet, 4), byte_at(packet, 5)]) as usize
 }
 
-/// The bytes from this place on.
-fn rest_from(bytes: &[u8], at: usize) -> &[u8]
-    ensures { result.now ≡ drop at bytes.now }
+/// What stands behind the header of an IPv6 packet.
+fn behind_header(packet: &[u8]) -> &[u8]
+    ensures { result.now ≡ drop 40 packet.now }
 {
-    if at <= bytes.len() { &bytes[at..] } else { &[] }
+    match packet.split_at_checked(IPV6_HEADER_LEN) {
+        Some((_header, rest)) => rest,
+        None => &[],
+    }
 }
 
 /// As many of the first bytes, or all of them.

@@ -6,6 +6,6 @@ pub returns-clause-payload : goal.returns-clause-payload
 returns-clause-payload c =
     let size : 40 + be16 c.args.packet.now 4 - 40 ≡ be16 c.args.packet.now 4 = omega arith in
     c.front_of.ensures.front
-    ∙ ap (λ (n : ℕ). take n c.rest_from.result.now) c.payload_len-len.ensures.value
-    ∙ ap (take (be16 c.args.packet.now 4)) c.rest_from.ensures
+    ∙ ap (λ (n : ℕ). take n c.behind_header.result.now) c.payload_len-len.ensures.value
+    ∙ ap (take (be16 c.args.packet.now 4)) c.behind_header.ensures
     ∙ ap (λ (n : ℕ). take n (drop 40 c.args.packet.now)) (sym size)
