@@ -93,7 +93,8 @@ fn perform_of(socket: &mut Socket, act: Act) -> Result<(), Code>
 {
     match socket {
         Socket::Tcp(socket) => act_on(socket, act),
-        Socket::Raw(_) | Socket::Icmp(_) | Socket::Udp(_) | Socket::Dhcpv4(_) | Socket::Dns(_) => Err(Code::WrongKind),
+        Socket::Raw(_) | Socket::Icmp(_) | Socket::Udp(_) | Socket::Dhcpv4(_) | Socket::Dns(_) =>
+            Err(Code::WrongKind),
     }
 }
 
@@ -133,7 +134,8 @@ fn connect_of<C: Context>(
             Ok(answer) => Ok(answer),
             Err(error) => Err(of_connect(error)),
         },
-        Socket::Raw(_) | Socket::Icmp(_) | Socket::Udp(_) | Socket::Dhcpv4(_) | Socket::Dns(_) => Err(Code::WrongKind),
+        Socket::Raw(_) | Socket::Icmp(_) | Socket::Udp(_) | Socket::Dhcpv4(_) | Socket::Dns(_) =>
+            Err(Code::WrongKind),
     }
 }
 
@@ -160,7 +162,8 @@ fn send_of(socket: &mut Socket, bytes: &[u8]) -> Result<usize, Code>
             Ok(answer) => Ok(answer),
             Err(error) => Err(of_stream_send(error)),
         },
-        Socket::Raw(_) | Socket::Icmp(_) | Socket::Udp(_) | Socket::Dhcpv4(_) | Socket::Dns(_) => Err(Code::WrongKind),
+        Socket::Raw(_) | Socket::Icmp(_) | Socket::Udp(_) | Socket::Dhcpv4(_) | Socket::Dns(_) =>
+            Err(Code::WrongKind),
     }
 }
 
@@ -193,7 +196,8 @@ fn recv_of(socket: &mut Socket, out: &mut [u8]) -> Result<usize, Code>
             Ok(answer) => Ok(answer),
             Err(error) => Err(of_stream_recv(error)),
         },
-        Socket::Raw(_) | Socket::Icmp(_) | Socket::Udp(_) | Socket::Dhcpv4(_) | Socket::Dns(_) => Err(Code::WrongKind),
+        Socket::Raw(_) | Socket::Icmp(_) | Socket::Udp(_) | Socket::Dhcpv4(_) | Socket::Dns(_) =>
+            Err(Code::WrongKind),
     }
 }
 
@@ -217,7 +221,8 @@ fn done_of(socket: &mut Socket, count: usize) -> Result<usize, Code>
 {
     match socket {
         Socket::Tcp(socket) => give_up(socket, count),
-        Socket::Raw(_) | Socket::Icmp(_) | Socket::Udp(_) | Socket::Dhcpv4(_) | Socket::Dns(_) => Err(Code::WrongKind),
+        Socket::Raw(_) | Socket::Icmp(_) | Socket::Udp(_) | Socket::Dhcpv4(_) | Socket::Dns(_) =>
+            Err(Code::WrongKind),
     }
 }
 

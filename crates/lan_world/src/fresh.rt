@@ -104,7 +104,8 @@ fn has_buffers_in(socket: &Socket) -> bool
 {
     match socket {
         Socket::Tcp(socket) => socket.recv_capacity() != 0 && socket.send_capacity() != 0,
-        Socket::Raw(_) | Socket::Icmp(_) | Socket::Udp(_) | Socket::Dhcpv4(_) | Socket::Dns(_) => true,
+        Socket::Raw(_) | Socket::Icmp(_) | Socket::Udp(_) | Socket::Dhcpv4(_) | Socket::Dns(_) =>
+            true,
     }
 }
 
