@@ -84,15 +84,15 @@ class Host:
 
 def run(host, device, lose, until, most):
     """Turns until this is said by the lines, or the host's clock is at `most`: whether it was said, and all that was."""
-    said = []
+    said, sent = [], []
     while True:
         said += host.lines()
         if until(said):
             return True, said
         if host.now >= most:
             return False, said
-        # A frame has 20 milliseconds of ours to come; its way takes one of the host's.
-        ready, _, _ = select.select([device], [], [], 0.02)
+        # A frame has 20 milliseconds of ours to come, an answer 200; its way takes one of the host's.
+        ready, _, _ = select.select([device], [], [], 0.2 if sent else 0.02)
         if ready:
             frame = os.read(device, 65536)
             host.now += 1000
