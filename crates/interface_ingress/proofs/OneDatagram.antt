@@ -43,7 +43,7 @@ module _ (cx : ContextValue) (ip : IpRepr) (udp : UdpRepr) (bytes : List ℕ) wh
 
   one_at : (at : Option ℕ) (places p q : Places) → GivenAt cx ip udp bytes at places p → GivenAt cx ip udp bytes at places q → p ≡ q
   one_at None places p q one other = one ∙ sym other
-  one_at (Some at) places p q one other = one_in at (at_place at places) places p q one other
+  one_at (Some at) places p q one other = one_in at (at_place (Some at) places) places p q one other
 
   pub one_delivered : (places p q : Places) → IsDelivered cx ip udp bytes places p → IsDelivered cx ip udp bytes places q → p ≡ q
   one_delivered places p q one other = one_at (datagram_place cx ip udp places) places p q one other

@@ -39,7 +39,7 @@ GivenIn cx ip udp bytes at (Some place) places places' =
 
 abbrev pub GivenAt : ContextValue → IpRepr → UdpRepr → List ℕ → Option ℕ → Places → Places → Type 0
 GivenAt cx ip udp bytes None places places' = places' ≡ places
-GivenAt cx ip udp bytes (Some at) places places' = GivenIn cx ip udp bytes at (at_place at places) places places'
+GivenAt cx ip udp bytes (Some at) places places' = GivenIn cx ip udp bytes at (at_place (Some at) places) places places'
 
 abbrev pub IsDelivered : ContextValue → IpRepr → UdpRepr → List ℕ → Places → Places → Type 0
 IsDelivered cx ip udp bytes places places' = GivenAt cx ip udp bytes (datagram_place cx ip udp places) places places'

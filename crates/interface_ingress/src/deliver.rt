@@ -243,6 +243,7 @@ fn process_datagram_at(
 }
 
 /// Gives a user datagram to the first socket that accepts it, and says whether there is one.
+#[tactic(auto, using(crate::proofs::AtPlace::delivered_at, crate::proofs::AtPlace::delivered_nowhere))]
 pub fn deliver_datagram(
     inner: &InterfaceInner,
     places: &mut [SocketStorage<Socket>],
