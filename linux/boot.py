@@ -1,14 +1,15 @@
 #!/usr/bin/env python3
 """The program `boot_host` at one end of a TAP device, Linux's stack with dnsmasq at the other: run it in a network namespace of its own.
 
-    boot.py BOOT_HOST [--lose N] [--seed N] [--rounds N]
+    boot.py BOOT_HOST [--lose N] [--seed N] [--rounds N] [--record FOLDER]
 
 The host starts without an address. It has to be configured within five seconds of its clock, ping its router, and ask for names: one
 with an address of each family, one that is an alias of an alias, one that doesn't exist; to renew a lease of two minutes twice; and to
 be deconfigured once the server is gone. --lose takes so many of 100 frames each way: then it has only to be configured, --rounds times.
-The host's clock is this program's: where nothing is to be carried it goes on to the moment that the host waits for.
+The host's clock is this program's: where nothing is to be carried it goes on to the moment that the host waits for. --record keeps what
+the program read and wrote as the files stdin and stdout.
 """
-import argparse, fcntl, os, random, re, select, signal, socket, struct, subprocess, sys, tempfile, time
+import argparse, fcntl, os, random, select, signal, socket, struct, subprocess, sys, tempfile, time
 
 NEVER = 2**64 - 1
 STATION = bytes([2, 0, 0, 0, 0, 0x21])
@@ -41,13 +42,14 @@ def dnsmasq(name, folder):
 class Host:
     """The program, and its clock in microseconds."""
 
-    def __init__(self, program, seed, names, folder):
+    def __init__(self, program, seed, names, folder, record=None):
         ours, its = socket.socketpair()
         self.said = open(f"{folder}/said", "w+b", buffering=0)
         self.process = subprocess.Popen([program], stdin=its, stdout=its, stderr=self.said)
         its.close()
         self.stream = ours.makefile("rwb", buffering=1 << 16)
         self.now, self.at, self.read_to = 0, 0, 0
+        self.kept = [open(os.path.join(record, name), "wb") for name in ("stdin", "stdout")] if record else None
         orders = STATION + struct.pack("<Q", seed) + b"".join(f"{kind} {name}\n".encode() for kind, name in names)
         self.turn(orders)
 
@@ -56,11 +58,16 @@ class Host:
         if len(got) < count:
             self.said.seek(0)
             sys.exit(f"boot: the program ended: {self.said.read().decode()}")
+        if self.kept:
+            self.kept[1].write(got)
         return got
 
     def turn(self, frame=b""):
-        self.stream.write(struct.pack("<HQ", len(frame), self.now) + frame)
+        said = struct.pack("<HQ", len(frame), self.now) + frame
+        self.stream.write(said)
         self.stream.flush()
+        if self.kept:
+            self.kept[0].write(said)
         frames = []
         while True:
             (size,) = struct.unpack("<H", self.read(2))
@@ -77,6 +84,8 @@ class Host:
         return text.decode().splitlines()
 
     def end(self):
+        for it in self.kept or []:
+            it.close()
         self.stream.close()
         self.process.kill()
         self.process.wait()
@@ -107,18 +116,14 @@ def run(host, device, lose, until, most):
                 os.write(device, frame)
 
 
-def seconds(line):
-    return float(re.match(r"([0-9.]+)s?", line)[1])
-
-
 def has(said, text):
     return any(text in line for line in said)
 
 
-def whole(program, device, name, folder):
+def whole(program, device, name, folder, record):
     server, bad = dnsmasq(name, folder), 0
     time.sleep(0.5)
-    host = Host(program, 7, NAMES, folder)
+    host = Host(program, 7, NAMES, folder, record)
 
     def check(good, what):
         nonlocal bad
@@ -174,6 +179,7 @@ def main():
     parser.add_argument("program")
     for name, default in (("--lose", 0), ("--seed", 1), ("--rounds", 20)):
         parser.add_argument(name, type=int, default=default)
+    parser.add_argument("--record", metavar="FOLDER")
     given = parser.parse_args()
     sh("ip", "link", "set", "lo", "up")
     device = tap("boot0")
@@ -181,7 +187,7 @@ def main():
         if given.lose:
             bad = lossy(given.program, device, "boot0", folder, given.lose, given.rounds, given.seed)
         else:
-            bad = whole(given.program, device, "boot0", folder)
+            bad = whole(given.program, device, "boot0", folder, given.record)
     sys.exit(1 if bad else 0)
 
 
