@@ -257,7 +257,12 @@ impl Host {
             let _ = ping(socket, router, self.count);
         }
         self.count = self.count.wrapping_add(1);
-        self.ping_at = Some(now + Duration::from_secs(1));
+        let wait = Duration::from_secs(1);
+        self.ping_at = if now.fits_add(wait) {
+            Some(now + wait)
+        } else {
+            None
+        };
     }
 
     fn ask_name(&mut self) {
