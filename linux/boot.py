@@ -1,12 +1,12 @@
 #!/usr/bin/env python3
 """The program `boot_host` at one end of a TAP device, Linux's stack with dnsmasq at the other: run it in a network namespace of its own.
 
-    boot.py BOOT_HOST [--lose N] [--seed N] [--rounds N] [--record FOLDER]
+    boot.py BOOT_HOST [--lose N] [--seed N] [--rounds N] [--record FOLDER] [--others]
 
 The host starts without an address. It has to be configured within five seconds of its clock, ping its router, and ask for names: one
 with an address of each family, one that is an alias of an alias, one that doesn't exist; to renew a lease of two minutes twice; and to
 be deconfigured once the server is gone. --lose takes so many of 100 frames each way: then it has only to be configured, --rounds times.
-The host's clock is this program's: where nothing is to be carried it goes on to the moment that the host waits for. --record keeps what
+With --others ISC's dhcpd gives the leases, and unbound knows the names. The host's clock is this program's: where nothing is to be carried it goes on to the moment that the host waits for. --record keeps what
 the program read and wrote as the files stdin and stdout.
 """
 import argparse, fcntl, os, random, select, signal, socket, struct, subprocess, sys, tempfile, time
@@ -37,6 +37,51 @@ def dnsmasq(name, folder):
          "--local=/example.test/", "--host-record=both.example.test,10.11.12.99,fd00::99",
          "--cname=middle.example.test,both.example.test", "--cname=alias.example.test,middle.example.test"],
         stdout=open(f"{folder}/dnsmasq", "ab"), stderr=subprocess.STDOUT)
+
+
+DHCPD = f"""default-lease-time 120; max-lease-time 120; authoritative; ping-check false;
+subnet 10.11.12.0 netmask 255.255.255.0 {{
+  range {FIRST} {LAST}; option routers {ROUTER}; option domain-name-servers {ROUTER}; }}
+"""
+UNBOUND = f"""server:
+  interface: {ROUTER}
+  access-control: 10.11.12.0/24 allow
+  do-daemonize: no
+  username: ""
+  chroot: ""
+  directory: "."
+  pidfile: ""
+  use-syslog: no
+  logfile: ""
+  local-zone: "example.test." static
+  local-data: "both.example.test. A 10.11.12.99"
+  local-data: "both.example.test. AAAA fd00::99"
+remote-control:
+  control-enable: no
+"""
+
+
+class Others:
+    """dhcpd and unbound, as one server."""
+
+    def __init__(self, name, folder):
+        for file, text in (("dhcpd.conf", DHCPD), ("unbound.conf", UNBOUND), ("leases", "")):
+            with open(f"{folder}/{file}", "w") as out:
+                out.write(text)
+        log = open(f"{folder}/others", "ab")
+        self.servers = [
+            subprocess.Popen(words, stdout=log, stderr=log)
+            for words in (["dhcpd", "-4", "-f", "-user", "root", "-group", "root", "-cf", f"{folder}/dhcpd.conf", "-lf", f"{folder}/leases",
+                           "-pf", f"{folder}/pid", name], ["unbound", "-d", "-c", f"{folder}/unbound.conf"])]
+        time.sleep(1)
+
+    def kill(self):
+        for server in self.servers:
+            server.kill()
+
+    def wait(self):
+        for server in self.servers:
+            server.wait()
 
 
 class Host:
@@ -120,10 +165,12 @@ def has(said, text):
     return any(text in line for line in said)
 
 
-def whole(program, device, name, folder, record):
-    server, bad = dnsmasq(name, folder), 0
+def whole(program, device, name, folder, record, others):
+    server, bad = Others(name, folder) if others else dnsmasq(name, folder), 0
     time.sleep(0.5)
-    host = Host(program, 7, NAMES, folder, record)
+    # unbound answers a local alias without its target, which dnsmasq adds
+    names = [it for it in NAMES if not (others and it[1].startswith("alias"))]
+    host = Host(program, 7, names, folder, record)
 
     def check(good, what):
         nonlocal bad
@@ -138,7 +185,8 @@ def whole(program, device, name, folder, record):
     good, more = run(host, device, 0, lambda all_: has(said + all_, "nobody.example.test has no address"), 60_000_000)
     said += more
     check(good, "a name that doesn't exist has no address")
-    for asked, wanted in FOUND.items():
+    for asked in dict.fromkeys(name for _, name in names if name in FOUND):
+        wanted = FOUND[asked]
         found = {line.split(" is ")[1] for line in said if f" {asked} is " in line}
         check(found == wanted, f"{asked} is {', '.join(sorted(found))}")
     _, more = run(host, device, 0, lambda all_: sum(" configured " in line for line in said + all_) >= 3, 400_000_000)
@@ -180,6 +228,7 @@ def main():
     for name, default in (("--lose", 0), ("--seed", 1), ("--rounds", 20)):
         parser.add_argument(name, type=int, default=default)
     parser.add_argument("--record", metavar="FOLDER")
+    parser.add_argument("--others", action="store_true")
     given = parser.parse_args()
     sh("ip", "link", "set", "lo", "up")
     device = tap("boot0")
@@ -187,7 +236,7 @@ def main():
         if given.lose:
             bad = lossy(given.program, device, "boot0", folder, given.lose, given.rounds, given.seed)
         else:
-            bad = whole(given.program, device, "boot0", folder, given.record)
+            bad = whole(given.program, device, "boot0", folder, given.record, given.others)
     sys.exit(1 if bad else 0)
 
 
