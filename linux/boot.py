@@ -4,17 +4,17 @@
     boot.py BOOT_HOST [--lose N] [--seed N] [--rounds N] [--record FOLDER] [--others]
 
 The host starts without an address. It has to be configured within five seconds of its clock, ping its router, and ask for names: one
-with an address of each family, one that is an alias of an alias, one that doesn't exist; to renew a lease of two minutes twice; and to
-be deconfigured once the server is gone. --lose takes so many of 100 frames each way: then it has only to be configured, --rounds times.
+with an address of each family, one that is an alias of an alias, one that doesn't exist; to fetch a page of 10,000 bytes by the name of
+its host, which is Linux's stack; to renew a lease of two minutes twice; and to be deconfigured once the server is gone. --lose takes so many of 100 frames each way: then it has only to be configured, --rounds times.
 With --others ISC's dhcpd gives the leases, and unbound knows the names. The host's clock is this program's: where nothing is to be carried it goes on to the moment that the host waits for. --record keeps what
 the program read and wrote as the files stdin and stdout.
 """
-import argparse, fcntl, os, random, select, signal, socket, struct, subprocess, sys, tempfile, time
+import argparse, fcntl, os, random, select, signal, socket, struct, subprocess, sys, tempfile, threading, time
 
 NEVER = 2**64 - 1
 STATION = bytes([2, 0, 0, 0, 0, 0x21])
 ROUTER, FIRST, LAST = "10.11.12.1", "10.11.12.50", "10.11.12.60"
-NAMES = [("A", "both.example.test"), ("AAAA", "both.example.test"), ("A", "alias.example.test"), ("A", "nobody.example.test")]
+NAMES = [("A", "both.example.test"), ("AAAA", "both.example.test"), ("A", "alias.example.test"), ("A", "nobody.example.test"), ("GET", "page.example.test")]
 FOUND = {"both.example.test": {"10.11.12.99", "fd00::99"}, "alias.example.test": {"10.11.12.99"}}
 
 
@@ -34,7 +34,7 @@ def dnsmasq(name, folder):
     return subprocess.Popen(
         ["dnsmasq", "--no-daemon", "--conf-file=/dev/null", "--no-resolv", "--no-hosts", "--user=root", f"--interface={name}",
          "--bind-interfaces", f"--dhcp-range={FIRST},{LAST},2m", f"--dhcp-leasefile={folder}/leases", "--dhcp-authoritative", "--no-ping",
-         "--local=/example.test/", "--host-record=both.example.test,10.11.12.99,fd00::99",
+         "--local=/example.test/", "--host-record=both.example.test,10.11.12.99,fd00::99", f"--host-record=page.example.test,{ROUTER}",
          "--cname=middle.example.test,both.example.test", "--cname=alias.example.test,middle.example.test"],
         stdout=open(f"{folder}/dnsmasq", "ab"), stderr=subprocess.STDOUT)
 
@@ -56,9 +56,24 @@ UNBOUND = f"""server:
   local-zone: "example.test." static
   local-data: "both.example.test. A 10.11.12.99"
   local-data: "both.example.test. AAAA fd00::99"
+  local-data: "page.example.test. A 10.11.12.1"
 remote-control:
   control-enable: no
 """
+
+
+def serve_page():
+    """Linux's stack serves a page of 10,000 bytes to whoever asks."""
+    server = socket.create_server((ROUTER, 80))
+
+    def run():
+        while True:
+            connection, _ = server.accept()
+            connection.recv(4096)
+            connection.sendall(b"HTTP/1.0 200 OK\r\n\r\n" + bytes(10_000))
+            connection.close()
+
+    threading.Thread(target=run, daemon=True).start()
 
 
 class Others:
@@ -189,6 +204,9 @@ def whole(program, device, name, folder, record, others):
         wanted = FOUND[asked]
         found = {line.split(" is ")[1] for line in said if f" {asked} is " in line}
         check(found == wanted, f"{asked} is {', '.join(sorted(found))}")
+    good, more = run(host, device, 0, lambda all_: has(said + all_, "the page has "), 120_000_000)
+    said += more
+    check(has(said, "the page has 10019 bytes"), "a page of 10,000 bytes and its head, fetched by the name of its host")
     _, more = run(host, device, 0, lambda all_: sum(" configured " in line for line in said + all_) >= 3, 400_000_000)
     said += more
     count = sum(" configured " in line for line in said)
@@ -232,6 +250,7 @@ def main():
     given = parser.parse_args()
     sh("ip", "link", "set", "lo", "up")
     device = tap("boot0")
+    serve_page()
     with tempfile.TemporaryDirectory() as folder:
         if given.lose:
             bad = lossy(given.program, device, "boot0", folder, given.lose, given.rounds, given.seed)

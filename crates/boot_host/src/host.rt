@@ -1,8 +1,9 @@
-//! The host: an interface, a client of DHCP, one of DNS, and a socket for echo messages.
+//! The host: an interface, a client of DHCP, one of DNS, a socket for echo messages, and one for a page.
 ghost use Rattle.net_base.specs.Time.{IsMoment};
 
-use crate::buffers::pings;
+use crate::buffers::{pings, stream};
 use crate::orders::{Orders, Question};
+use crate::page::{self, Page};
 use crate::pings::{IDENT, ping, pong};
 use anyhow::{Result, anyhow};
 use interface::{Config, Interface, SocketHandle, SocketSet, earlier};
@@ -32,6 +33,8 @@ pub struct Host {
     count: u16,
     questions: Vec<Question>,
     asked: Option<Question>,
+    stream: SocketHandle,
+    page: Option<Page>,
 }
 
 impl Host {
@@ -48,6 +51,7 @@ impl Host {
         let dhcp = add(&mut sockets, dhcpv4::Socket::new(station, seed))?;
         let dns = add(&mut sockets, dns::Socket::new(&[]))?;
         let pings = add(&mut sockets, pings(alloc, IDENT)?)?;
+        let stream = add(&mut sockets, stream(alloc, page::ROOM)?)?;
         let drain = Drain::new(alloc, capabilities());
         let config = Config {
             random_seed: seed,
@@ -66,6 +70,8 @@ impl Host {
             count: 0,
             questions,
             asked: None,
+            stream,
+            page: None,
         })
     }
 
@@ -78,6 +84,7 @@ impl Host {
         self.configure(rt, now)?;
         self.hear(rt, now)?;
         self.tell(rt, now)?;
+        self.read(rt, now)?;
         self.ask(now);
         self.poll(now);
         Ok(())
@@ -163,7 +170,8 @@ impl Host {
             return Ok(());
         };
         let name = question.name.as_str();
-        match socket.get_query_result() {
+        let found = socket.get_query_result();
+        match &found {
             Err(GetQueryResultError::Pending) => return Ok(()),
             Err(GetQueryResultError::Failed) => eprintln!(rt; "{now} {name} has no address")?,
             Ok(found) => {
@@ -172,7 +180,43 @@ impl Host {
                 }
             }
         }
+        if let (true, Ok(found)) = (question.fetches, found) {
+            if let Some(address) = found[0] {
+                self.fetch(address);
+            }
+        }
         self.asked = None;
+        Ok(())
+    }
+
+    /// Turns to the host whose page is fetched.
+    fn fetch(&mut self, address: IpAddress) {
+        if let Some(Socket::Tcp(socket)) = self.sockets.get_mut(self.stream) {
+            let remote = (address, page::PORT);
+            if socket
+                .connect(&mut self.interface, remote, page::OWN_PORT)
+                .is_ok()
+            {
+                self.page = Some(Page::NEW);
+            }
+        }
+    }
+
+    /// What came of a page.
+    fn read<R: Eprint>(&mut self, rt: &R, now: Instant) -> Result<()> {
+        let Some(mut page) = self.page else {
+            return Ok(());
+        };
+        let Some(Socket::Tcp(socket)) = self.sockets.get_mut(self.stream) else {
+            return Ok(());
+        };
+        match page.read(socket) {
+            Some(count) => {
+                eprintln!(rt; "{now} the page has {count} bytes")?;
+                self.page = None;
+            }
+            None => self.page = Some(page),
+        }
         Ok(())
     }
 

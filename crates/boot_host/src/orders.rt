@@ -13,6 +13,8 @@ const HEAD_LEN: usize = 14;
 pub struct Question {
     pub name: String,
     pub kind: DnsQueryType,
+    /// Whether the page of the host is fetched that has this name.
+    pub fetches: bool,
 }
 
 /// Who the host is, and what it asks for, the last name first.
@@ -24,7 +26,7 @@ pub struct Orders {
 }
 
 impl Orders {
-    /// The Ethernet address, the seed with its low byte first, and lines of `A NAME` and `AAAA NAME`.
+    /// The Ethernet address, the seed with its low byte first, and lines of `A NAME`, `AAAA NAME` and `GET NAME`.
     pub fn read(alloc: Global, bytes: &[u8]) -> Result<Orders> {
         if bytes.len() < HEAD_LEN {
             bail!("the first turn is too short");
@@ -59,12 +61,13 @@ fn question(alloc: Global, line: &str) -> Result<Option<Question>> {
         return Ok(None);
     };
     let kind = match word {
-        "A" => DnsQueryType::A,
+        "A" | "GET" => DnsQueryType::A,
         "AAAA" => DnsQueryType::Aaaa,
         _ => bail!("no such question"),
     };
     Ok(Some(Question {
         name: String::from_str(alloc, name)?,
         kind,
+        fetches: word == "GET",
     }))
 }
