@@ -22,9 +22,8 @@ pub fn play<'a>(
     let place = words.size()?;
     match verb {
         "bind" => {
-            let port = words.short("port")?;
+            let endpoint = listened(words)?;
             words.end()?;
-            let endpoint = IpListenEndpoint { addr: None, port };
             Ok(bound(host.udp(place)?.bind(endpoint)))
         }
         "ident" => {
