@@ -25,7 +25,7 @@ use Rattle.interface_ingress.specs.Kept.{HasSameSettings}
 use Rattle.interface.specs.Host.{Sender}
 use Rattle.interface.specs.Ingress.{Takes, Replied, is_awaited, sender_of, sender_with}
 use Rattle.interface.specs.State.{State}
-use Rattle.interface.specs.Turn.{sourced, Leaves, SendsBy, Answers, TurnsIf, ItemTurns, is_waiting, let_through}
+use Rattle.interface.specs.Turn.{Leaves, SendsBy, Answers, TurnsIf, ItemTurns, is_waiting, let_through}
 use Rattle.interface.specs.declared.turn.Turned.{Turned}
 use Rattle.interface.specs.Priced.{IsPriced}
 use Rattle.interface.proofs.Runs.{receives_same}
@@ -79,7 +79,7 @@ module _ {D : Type 0} (moves : D → Move → D → Type 0) (t : ℤ) (Q : ℕ �
 
     offers : (o : Option PacketValue) (item item' : Item Socket) (changed : Bool) (turned : Turned) → SendsBy moves turn o x item changed turned x' item' → Next
     offers None item item' changed turned sends = absurd sends
-    offers (Some p) item item' changed turned sends = leaves item.meta (sourced x.inner p) sends.1.0 sends.1.1
+    offers (Some p) item item' changed turned sends = leaves item.meta sends.0 sends.3.0 sends.3.1
 
     answers : (answer : Answer.Offer) (item item' : Item Socket) (turned : Turned) → Answers moves turn answer x item turned x' item' → Next
     answers (Offer.Silent changed) item item' turned is = rests is.1

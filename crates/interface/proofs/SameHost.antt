@@ -26,7 +26,7 @@ use Rattle.interface.specs.Host.{Sender}
 use Rattle.interface.specs.Pass.{Pass, Passed}
 use Rattle.interface.specs.WayOut.{Clears, Egress}
 use Rattle.interface.specs.SameHost.{IsSameHost}
-use Rattle.interface.specs.Turn.{sourced, Leaves, SendsBy, Answers, TurnsIf, ItemTurns, PlaceTurns, is_waiting, let_through}
+use Rattle.interface.specs.Turn.{Leaves, SendsBy, Answers, TurnsIf, ItemTurns, PlaceTurns, is_waiting, let_through}
 use Rattle.interface.specs.declared.turn.Turned.{Turned}
 
 pub same_where : (i i' : InnerValue) → i' ≡ i → IsSameHost i i'
@@ -71,7 +71,7 @@ module _ {D : Type 0} (moves : D → Move → D → Type 0) where
     sends_same : (o : Option PacketValue) (item item' : Item Socket) (changed : Bool) (turned : Turned) → SendsBy moves turn o s item changed turned s' item' →
         IsSameHost s.inner s'.inner
     sends_same None item item' changed turned sends = absurd sends
-    sends_same (Some p) item item' changed turned sends = leaves_same item.meta (sourced s.inner p) sends.1.0 sends.1.1
+    sends_same (Some p) item item' changed turned sends = leaves_same item.meta sends.0 sends.3.0 sends.3.1
 
     answers_same : (answer : Answer.Offer) (item item' : Item Socket) (turned : Turned) → Answers moves turn answer s item turned s' item' →
         IsSameHost s.inner s'.inner

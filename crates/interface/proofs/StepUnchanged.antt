@@ -19,7 +19,7 @@ use Rattle.interface.specs.Awaited.{turn_of}
 use Rattle.interface.specs.Host.{Sender}
 use Rattle.interface.specs.Pass.{Pass, Passed}
 use Rattle.interface.specs.WayOut.{Egress}
-use Rattle.interface.specs.Turn.{sourced, Answers, Asks, SendsBy, TurnsIf, ItemTurns, PlaceTurns, is_waiting, let_through, settled_by, turned_by, plan_at, waits_until}
+use Rattle.interface.specs.Turn.{Answers, Asks, SendsBy, TurnsIf, ItemTurns, PlaceTurns, is_waiting, let_through, settled_by, turned_by, plan_at, waits_until}
 use Rattle.interface.specs.QuietStep.{IsUnchanged, IsItemUnchanged, AreUnchanged}
 use Rattle.interface.specs.declared.turn.Turned.{Turned}
 use Rattle.interface.specs.declared.turn.Turned.TheVariants as Turn
@@ -73,8 +73,7 @@ module _ {D : Type 0} (moves : D → Move → D → Type 0) (turn : Option IpAdd
       → SendsBy moves turn o s item changed turned s' item' → said turned ≡ false → IsUnchanged before item'.socket
   sends_same None changed before item item' turned same_offered sends quiet = absurd sends
   sends_same (Some p) changed before item item' turned same_offered sends quiet =
-      let leaving = sourced s.inner p in
-      kept (waits_until (plan_at s leaving) s'.inner) sends.1.0 changed before item item' turned leaving same_offered sends.1.2 sends.1.3 quiet
+      kept (waits_until (plan_at s sends.0) s'.inner) sends.3.0 changed before item item' turned sends.0 same_offered sends.3.2 sends.3.3 quiet
 
   asks_same : (item item' : Item Socket) (turned : Turned) → Asks moves turn s item turned s' item' → said turned ≡ false → IsUnchanged item.socket item'.socket
   asks_same item item' turned a quiet = by a.0 a.2 a.3 where

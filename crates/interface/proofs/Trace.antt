@@ -32,7 +32,7 @@ use Rattle.interface_ingress.specs.Arrives.{ReplyValue}
 use Rattle.interface_ingress.specs.Kept.{HasSameSettings}
 use Rattle.interface.specs.Host.{Sender}
 use Rattle.interface.specs.WayOut.{PieceLeaves}
-use Rattle.interface.specs.Turn.{sourced, Leaves, SendsBy, Answers, TurnsIf, ItemTurns, PlaceTurns, is_waiting, let_through}
+use Rattle.interface.specs.Turn.{Leaves, SendsBy, Answers, TurnsIf, ItemTurns, PlaceTurns, is_waiting, let_through}
 use Rattle.interface.specs.declared.turn.Turned.{Turned}
 use Rattle.interface.specs.State.{State}
 use Rattle.interface.specs.Ingress.{Takes, Replied, is_awaited}
@@ -243,7 +243,7 @@ module _ {D : Type 0} (moves : D → Move → D → Type 0) (t : ℤ) (d0 : D) (
     so_sent : (o : Option PacketValue) (item item' : Item Socket) (changed : Bool) (turned : Turned) →
         SendsBy moves turn o x item changed turned x' item' → Next
     so_sent None item item' changed turned sends = absurd sends
-    so_sent (Some p) item item' changed turned sends = so_leaves item.meta (sourced x.inner p) sends.1.0 sends.1.1
+    so_sent (Some p) item item' changed turned sends = so_leaves item.meta sends.0 sends.3.0 sends.3.1
 
     so_answers : (answer : Answer.Offer) (item item' : Item Socket) (turned : Turned) → Answers moves turn answer x item turned x' item' → Next
     so_answers (Offer.Silent changed) item item' turned answers = so_same answers.1

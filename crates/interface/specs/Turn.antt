@@ -180,7 +180,8 @@ module _ {D : Type 0} (moves : D → Move → D → Type 0) (turn : Option IpAdd
   -- the packet of the open offer, which is one that can be sent, leaves from its source
   abbrev pub SendsBy : Option PacketValue → Sender D → Item Socket → Bool → Turned → Sender D → Item Socket → Type 0
   SendsBy None s item changed turned s' item' = ⊥
-  SendsBy (Some p) s item changed turned s' item' = IsWellFormed p × SendsAs (sourced s.inner p) s item changed turned s' item'
+  SendsBy (Some p) s item changed turned s' item' =
+      (leaving : PacketValue) × (leaving ≡ sourced s.inner p) × IsWellFormed p × SendsAs leaving s item changed turned s' item'
 
   abbrev pub Sends : Sender D → Item Socket → Bool → Turned → Sender D → Item Socket → Type 0
   Sends s item changed turned s' item' = SendsBy (offered_by item.socket) s item changed turned s' item'

@@ -135,7 +135,6 @@ fn send_offered<D: Device>(
 }
 
 /// The packet from the address that is chosen for its destination, where its own source can't be one.
-#[tactic(auto, using(crate::proofs::Sourced::sourced_sendable))]
 fn sourced<'a>(inner: &InterfaceInner, packet: &Packet<'a>) -> Packet<'a>
     requires { IsSendable (packet_value packet.now) }
     ensures value { packet_value result ≡ sourced inner.now (packet_value packet.now) }

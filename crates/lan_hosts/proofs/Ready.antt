@@ -40,7 +40,7 @@ use Rattle.interface.specs.Host.{Sender}
 use Rattle.interface.specs.Ingress.{Takes, Replied, is_awaited}
 use Rattle.interface.specs.Polls.{Polls}
 use Rattle.interface.specs.State.{State}
-use Rattle.interface.specs.Turn.{sourced, Leaves, SendsBy, Answers, TurnsIf, ItemTurns, PlaceTurns, is_waiting, let_through}
+use Rattle.interface.specs.Turn.{Leaves, SendsBy, Answers, TurnsIf, ItemTurns, PlaceTurns, is_waiting, let_through}
 use Rattle.interface.specs.WayOut.{PieceLeaves}
 use Rattle.interface.specs.declared.turn.Turned.{Turned}
 use Rattle.interface.specs.Kept.{IsCounted}
@@ -246,7 +246,7 @@ module _ (most refusals : ℕ) where
     so_sent : (o : Option PacketValue) (item item' : Item Socket) (changed : Bool) (turned : Turned) → ((p : PacketValue) → o ≡ Some p → IsMeasured p) →
         SendsBy PortMove turn o x item changed turned x' item' → Next
     so_sent None item item' changed turned len sends = absurd sends
-    so_sent (Some p) item item' changed turned len sends = so_leaves item.meta (sourced x.inner p) sends.1.0 sends.1.4.sendable.len sends.1.1
+    so_sent (Some p) item item' changed turned len sends = so_leaves item.meta sends.0 sends.3.0 sends.3.4.sendable.len sends.3.1
 
     so_answers : (s s' : Socket) (answer : Answer.Offer) (item item' : Item Socket) (turned : Turned) → Offers (context_of x.inner) s answer s' →
         item.socket ≡ s' → Answers PortMove turn answer x item turned x' item' → Next

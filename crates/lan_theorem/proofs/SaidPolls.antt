@@ -32,7 +32,7 @@ use Rattle.interface.specs.Ingress.{Takes, Replied, is_awaited, sender_of, sende
 use Rattle.interface.specs.Kept.{IsKept, sending_as}
 use Rattle.interface.specs.Polls.{begun}
 use Rattle.interface.specs.State.{State, state, at_device}
-use Rattle.interface.specs.Turn.{sourced, Leaves, SendsBy, Answers, TurnsIf, ItemTurns, is_waiting, let_through}
+use Rattle.interface.specs.Turn.{Leaves, SendsBy, Answers, TurnsIf, ItemTurns, is_waiting, let_through}
 use Rattle.interface.specs.WayOut.{PieceLeaves}
 use Rattle.interface.specs.declared.turn.Turned.{Turned}
 use Rattle.interface.proofs.Keep.{polls_keep}
@@ -70,7 +70,7 @@ module _ (turn : Option IpAddress) where
   offer_waits : (o : Option PacketValue) (x x' : Sender PortValue) (item item' : Item Socket) (changed : Bool) (turned : Turned) →
       SendsBy PortMove turn o x item changed turned x' item' → Waits x'.device ≡ Waits x.device
   offer_waits None x x' item item' changed turned sends = absurd sends
-  offer_waits (Some p) x x' item item' changed turned sends = leaves_waits x x' item.meta (sourced x.inner p) sends.1.0 sends.1.1
+  offer_waits (Some p) x x' item item' changed turned sends = leaves_waits x x' item.meta sends.0 sends.3.0 sends.3.1
 
   answer_waits : (answer : Answer.Offer) (x x' : Sender PortValue) (item item' : Item Socket) (turned : Turned) →
       Answers PortMove turn answer x item turned x' item' → Waits x'.device ≡ Waits x.device

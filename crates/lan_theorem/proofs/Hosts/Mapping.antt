@@ -29,7 +29,7 @@ use Rattle.interface.specs.Awaited.{turn_of}
 use Rattle.interface.specs.Host.{Sender, sender}
 use Rattle.interface.specs.Pass.{Pass, Passed, passed}
 use Rattle.interface.specs.WayOut.{Clears, Egress, PieceLeaves}
-use Rattle.interface.specs.Turn.{sourced, Leaves, SendsBy, Answers, TurnsIf, ItemTurns, PlaceTurns, is_waiting, let_through}
+use Rattle.interface.specs.Turn.{Leaves, SendsBy, Answers, TurnsIf, ItemTurns, PlaceTurns, is_waiting, let_through}
 use Rattle.interface.specs.declared.turn.Turned.{Turned}
 use Rattle.interface.specs.declared.turn.Turned.TheVariants as Turn
 use Rattle.interface.specs.State.{State, state, at_device}
@@ -169,10 +169,10 @@ module _ {D E : Type 0} (f : D → E) (moves : D → Move → D → Type 0) (oth
         → Leads x.device y.device (SendsBy others turn o (on_sender x) item changed a (on_sender y) m)
     sends None x y item m changed a one = absurd one
     sends (Some p) x y item m changed a one =
-        let p' = sourced x.inner p in
-        so x.device y.device (Leaves others turn (on_sender x) item.meta p' one.1.0 (on_sender y))
-        (SendsBy others turn (Some p) (on_sender x) item changed a (on_sender y) m) (λ n. (one.0, (one.1.0, n, one.1.2, one.1.3, one.1.4)))
-        (leaves x y item.meta p' one.1.0 one.1.1)
+        so x.device y.device (Leaves others turn (on_sender x) item.meta one.0 one.3.0 (on_sender y))
+        (SendsBy others turn (Some p) (on_sender x) item changed a (on_sender y) m)
+        (λ n. (one.0, one.1, one.2, (one.3.0, n, one.3.2, one.3.3, one.3.4)))
+        (leaves x y item.meta one.0 one.3.0 one.3.1)
 
     same_device : (x y : Sender D) → y ≡ x → y.device ≡ x.device
     same_device x y is = ap (λ (v : Sender D). v.device) is

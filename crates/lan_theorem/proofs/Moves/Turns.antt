@@ -303,8 +303,8 @@ module _ {D : Type 0} (moves : D → Move → D → Type 0) (turn_of : Option Ip
       → Now (At x (Some item)) → Next (At x' (Some item'))
   sends x x' item item' offered changed turned None is wide offers goes f = absurd goes
   sends x x' item item' offered changed turned (Some packet) is wide offers sending f =
-      let leaving = sourced x.inner packet in
-      let goes : SendsAs moves turn_of leaving x (record item { socket = offered }) changed turned x' item' = sending.1 in
+      let leaving = sending.0 in
+      let goes : SendsAs moves turn_of leaving x (record item { socket = offered }) changed turned x' item' = sending.3 in
       let sent = goes.0 in
       let meta = marked sent x.inner.moment (waits_until (plan_at x leaving) x'.inner) (destination_of leaving.header) item.meta in
       let places = before ++ holding meta (settled (is_done sent) offered) ∷ after in
@@ -315,8 +315,10 @@ module _ {D : Type 0} (moves : D → Move → D → Type 0) (turn_of : Option Ip
         now = on.now;
         reaches = on.reaches;
         sockets = on.sockets;
-        link = leaves x x' places (party given.moved.next side) item.meta leaving sent (sourced_wide x.inner packet (wide sending.0) goes.4)
-            (λ done. some_so (offered_by offered) (IsMade (party given.moved.next side)) packet (sym is) (given.made done)) goes.1 on.link;
+        link = leaves x x' places (party given.moved.next side) item.meta leaving sent
+            (subst IsWide (sym sending.1) (sourced_wide x.inner packet (wide sending.2) (subst IsWellFormed sending.1 goes.4)))
+            (λ done. subst (IsMade (party given.moved.next side)) (sym sending.1)
+            (some_so (offered_by offered) (IsMade (party given.moved.next side)) packet (sym is) (given.made done))) goes.1 on.link;
       } in
       subst (λ (i : Item Socket). Next (At x' (Some i))) (sym goes.3) told
 
