@@ -10,7 +10,7 @@ ghost use Rattle.interface_egress.specs.Plan.{IsPacket, plan_of};
 ghost use Rattle.interface.specs.Host.{sender};
 ghost use Rattle.interface.specs.Turn.{is_known, is_heard, is_waiting, is_given_up, is_other, is_out_of_turn, held, waits_until, is_done, marked, settled_by};
 ghost use Rattle.interface.specs.Turn.{is_raw, with_source, sourced_header, sourced};
-ghost use Rattle.interface.specs.Turn.{turned_by, Leaves, Sends, Turns, PlaceTurns};
+ghost use Rattle.interface.specs.Turn.{turned_by, Leaves, HasLeft, Sends, Turns, PlaceTurns};
 ghost use Rattle.interface_egress.specs.Meta.{freed};
 
 use interface_egress::{
@@ -120,18 +120,46 @@ fn send_offered<D: Device>(
         unreachable!()
     };
     fields_have_widths(&packet);
-    let leaving = sourced(inner, &packet);
+    let left = let_leave(turn, inner, fragmenter, device, &item.meta, &packet);
+    settle(item, left.sent, now, left.until, left.destination);
+    turned_by(left.sent, changed)
+}
+
+/// What became of a packet that was to leave.
+#[derive(Clone, Copy)]
+struct Left {
+    sent: Sent,
+    /// Until when it waits, if it does.
+    until: Instant,
+    destination: IpAddress,
+}
+
+/// Lets a packet leave from its source, if the device gives leave.
+fn let_leave<D: Device>(
+    turn: Option<IpAddress>,
+    inner: &mut InterfaceInner,
+    fragmenter: &mut Fragmenter,
+    device: &mut D,
+    meta: &Meta,
+    packet: &Packet<'_>,
+) -> Left
+    requires sendable { IsSendable (packet_value packet.now) }
+    ensures left { HasLeft D.moves turn (sender device.old inner.old fragmenter.old) meta.now (packet_value packet.now) result.sent result.until result.destination
+        (sender device.new inner.new fragmenter.new) }
+    ensures capabilities { D.described device.new ≡ D.described device.old }
+{
+    let leaving = sourced(inner, packet);
     fields_have_widths(&leaving);
     let header = leaving.ip_repr();
     let destination = header.dst_addr();
     let plan = plan_for(inner, fragmenter.is_waiting(), &header);
-    let held = held(turn, &item.meta, inner, &destination, &plan);
-    let sent = send_packet(
-        turn, inner, fragmenter, device, &item.meta, &leaving, plan, held,
-    );
-    let until = waits_until(&plan, inner);
-    settle(item, sent, now, until, destination);
-    turned_by(sent, changed)
+    let held = held(turn, meta, inner, &destination, &plan);
+    let sent = send_packet(turn, inner, fragmenter, device, meta, &leaving, plan, held);
+    Left {
+        sent,
+        until: waits_until(&plan, inner),
+        destination,
+    }
 }
 
 /// The packet from the address that is chosen for its destination, where its own source can't be one.
