@@ -95,7 +95,7 @@ static void fail(const char *why, uint64_t number)
 
 static void check(uint32_t code)
 {
-    if (code > ZV_IN_BACKLOG)
+    if (code > ZV_QUERY_FAILED)
         fail("no such code", code);
 }
 
@@ -127,12 +127,15 @@ static void call(zv_host *host, int which)
     zv_endpoint remote = any_endpoint(), local = any_endpoint();
     zv_address address = any_address(), network = any_address();
     zv_counts counts;
+    zv_lease lease;
+    zv_addresses found;
+    static uint16_t port;
     uint32_t code = ZV_OK;
     if (choice(64) == 0)
         length = choice(sizeof bytes);
     for (size_t i = 0; i < 8 && i < length; i++)
         bytes[i] = (uint8_t)choice(256);
-    switch (choice(56)) {
+    switch (choice(66)) {
     case 0: code = zv_address_add(host, &address, (uint8_t)choice(140)); break;
     case 1: code = zv_address_remove(host, &address); break;
     case 2: code = zv_route_add(host, &network, (uint8_t)choice(140), &address); break;
@@ -207,6 +210,34 @@ static void call(zv_host *host, int which)
                          : zv_icmp_bind_tcp(host, socket, &address, (uint16_t)choice(10));
         break;
     case 53: code = zv_icmp_set_hop_limit(host, socket, (uint8_t)choice(256)); break;
+    case 56: code = zv_tcp_set_min_rto(host, socket, any_number()); break;
+    case 57: code = zv_dhcp_new(host, any_number()); break;
+    case 58: code = zv_dhcp_turn(host, socket, choice(64) == 0 ? (int64_t)any_number() : clock_of[which], &lease); break;
+    case 59: code = choice(2) ? zv_dhcp_recv(host, bytes, length, &remote, &address) : zv_dhcp_sent(host, (uint8_t)choice(3)); break;
+    case 60:
+        code = zv_dhcp_send(host, bytes, length, &count, &remote, &local);
+        if (code == ZV_OK && count > length)
+            fail("more bytes than the buffer has", count);
+        break;
+    case 61: code = choice(2) ? zv_dhcp_poll_at(host, &at) : zv_dns_poll_at(host, &at); break;
+    case 62:
+        code = zv_dns_new(host, &address, &network, &remote.address);
+        memcpy(bytes, "www.example.test", 16);
+        check(zv_dns_ask(host, bytes, choice(2) ? 16 : length % 300, (uint8_t)(choice(8) == 0 ? choice(256) : 4 + 2 * choice(2))));
+        break;
+    case 63: code = zv_dns_turn(host, socket, &port); break;
+    case 64:
+        code = zv_dns_send(host, bytes, length, &count, &remote, &local);
+        if (code == ZV_OK && count > length)
+            fail("more bytes than the buffer has", count);
+        if (code == ZV_OK && choice(2)) {
+            check(zv_dns_sent(host, 1));
+            bytes[2] |= 0x80;
+            remote.port = 53;
+            code = zv_dns_recv(host, bytes, count + (size_t)choice(length - count + 1), &remote, &local);
+        }
+        break;
+    case 65: code = choice(2) ? zv_dns_result(host, &found) : zv_dns_recv(host, bytes, length, &remote, &local); break;
     case 54: {
         const zv_hardware station = {{2, 0, 0, 0, 0, (uint8_t)(which + 1)}};
         code = zv_host_set_hardware(host, &station);

@@ -78,18 +78,24 @@ static zv_address read_address(const char *text)
     return address;
 }
 
-/* Frames that came go to the host, as many as it takes; those that are to go go to the device. */
-static void carry(zv_host *host, int device, int64_t moment)
+static uint8_t frame[65549];
+
+/* Frames that came go to the host, as many as it takes. */
+static void take(zv_host *host, int device)
 {
-    static uint8_t frame[65549];
-    uint8_t changed;
-    size_t count;
     for (int taken = 0; taken < BUDGET; taken++) {
         ssize_t length = read(device, frame, sizeof frame);
         if (length <= 0)
             break;
         zv_frame_in(host, frame, (size_t)length);
     }
+}
+
+/* The host does what is to be done, and the frames that are to go go to the device. */
+static void turn(zv_host *host, int device, int64_t moment)
+{
+    uint8_t changed;
+    size_t count;
     must(zv_poll(host, moment, BUDGET, &changed), "poll");
     while (zv_frame_out(host, frame, sizeof frame, &count) == ZV_OK)
         if (write(device, frame, count) < 0 && errno != EAGAIN && errno != EIO)
@@ -210,7 +216,6 @@ int main(int count, char **words)
     for (int i = 0; i < STREAMS; i++) {
         must(zv_tcp_new(&host, 262144, 262144, &streams[i]), "TCP socket");
         must(zv_tcp_set_nagle(&host, streams[i], 0), "Nagle");
-        must(zv_tcp_set_ack_delay(&host, streams[i], UINT64_MAX), "ACK delay");
     }
     const size_t listener = listen_for_pages(&host);
     for (int i = 0; i < PAGES; i++)
@@ -221,12 +226,13 @@ int main(int count, char **words)
     fprintf(stderr, "tun: ready\n");
     while (!is_over) {
         int64_t at, moment = now();
-        carry(&host, device, moment);
+        take(&host, device);
+        turn(&host, device, moment);
         echo_datagrams(&host, datagrams);
         for (int i = 0; i < STREAMS; i++)
             echo_stream(&host, streams[i]);
         serve_pages(&host, listener, accepted);
-        carry(&host, device, moment);
+        turn(&host, device, moment);
         must(zv_poll_at(&host, moment, &at), "poll_at");
         int64_t left = at - moment;
         struct pollfd waits = {device, POLLIN, 0};

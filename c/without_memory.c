@@ -95,9 +95,11 @@ static void turns(zv_host *hosts, int64_t *now)
 static void course(void)
 {
     zv_host hosts[2] = {{0}, {0}};
-    size_t udp[2], tcp[3], icmp, raw, listener, count;
+    size_t udp[2], tcp[3], icmp, raw, listener, dhcp, dns, count;
     uint8_t bytes[512] = {8, 0, 0, 0, 0, 9, 0, 1}, got[512];
     int64_t now = 0;
+    uint16_t port = 0;
+    zv_lease lease;
     const zv_address any = zv_any(), router = zv_ipv4(192, 168, 1, 9);
     zv_endpoint remote = {zv_ipv4(192, 168, 1, 2), 7}, from;
     zv_address to;
@@ -119,6 +121,16 @@ static void course(void)
     DO(zv_listener_new(&hosts[1], &any, 8, &listener));
     DO(zv_listener_add(&hosts[1], listener, tcp[1]));
     DO(zv_listener_add_keeper(&hosts[1], listener, tcp[2]));
+    DO(zv_udp_new(&hosts[0], 2, 1024, &dhcp));
+    DO(zv_udp_bind(&hosts[0], dhcp, &any, 68));
+    DO(zv_udp_new(&hosts[0], 2, 1024, &dns));
+    DO(zv_dhcp_new(&hosts[0], 3));
+    DO(zv_dns_new(&hosts[0], &remote.address, &any, &any));
+    DO(zv_dns_ask(&hosts[0], (const uint8_t *)"example.test", 12, 4));
+    DO(zv_dhcp_turn(&hosts[0], dhcp, now, &lease));
+    DO(zv_dns_turn(&hosts[0], dns, &port));
+    if (lease.event != 2 || port < 1024)
+        stop("the clients don't ask", port);
     turns(hosts, &now);
     DO(zv_udp_send(&hosts[0], udp[0], bytes, sizeof bytes, &remote, &any));
     DO(zv_icmp_send(&hosts[0], icmp, bytes, 16, &remote.address));

@@ -54,7 +54,12 @@ enum {
     ZV_MTU = 19,          /* the longest IP packet of a frame is below 576 or above 65,535 bytes */
     ZV_MOMENT = 20,       /* the moment is below 0 or above 2^61 */
     ZV_NO_LISTENER = 21,  /* there is no listener of this number */
-    ZV_IN_BACKLOG = 22    /* a listener has the socket */
+    ZV_IN_BACKLOG = 22,    /* a listener has the socket */
+    ZV_NO_CLIENT = 23,     /* the host has no such client */
+    ZV_QUERY_PENDING = 24, /* the query has no answer yet */
+    ZV_NAME_TOO_LONG = 25, /* the name has more than 255 bytes */
+    ZV_INVALID_NAME = 26,  /* a label of the name has no bytes, or more than 63, or the name is no text in UTF-8 */
+    ZV_QUERY_FAILED = 27   /* no server gave an address, or nothing was asked */
 };
 
 /* The code in words. */
@@ -84,6 +89,11 @@ static inline const char *zv_strerror(uint32_t code)
     case ZV_MOMENT: return "moment out of range";
     case ZV_NO_LISTENER: return "no listener of this number";
     case ZV_IN_BACKLOG: return "a listener has the socket";
+    case ZV_NO_CLIENT: return "no such client";
+    case ZV_QUERY_PENDING: return "the query has no answer yet";
+    case ZV_NAME_TOO_LONG: return "name too long";
+    case ZV_INVALID_NAME: return "invalid name";
+    case ZV_QUERY_FAILED: return "no address was found";
     default: return "unknown code";
     }
 }
@@ -289,6 +299,10 @@ uint32_t zv_tcp_set_keep_alive(zv_host *host, size_t socket, uint64_t micros);
 /* The delay of an acknowledgement in microseconds. UINT64_MAX for none. */
 uint32_t zv_tcp_set_ack_delay(zv_host *host, size_t socket, uint64_t micros);
 
+/* How long a segment waits for its acknowledgement at least until it goes again, in microseconds, from 10 ms to a minute. A new socket has
+ * a second (RFC 6298); Linux has 200 ms. */
+uint32_t zv_tcp_set_min_rto(zv_host *host, size_t socket, uint64_t micros);
+
 /* Whether small segments wait while others are in flight: 0 for no. */
 uint32_t zv_tcp_set_nagle(zv_host *host, size_t socket, uint8_t enabled);
 
@@ -370,6 +384,115 @@ uint32_t zv_raw_send(zv_host *host, size_t socket, const uint8_t *bytes, size_t 
 /* Copies the first packet to the buffer, its IP header first, and says its length. One that is longer than the buffer is gone
  * (ZV_TRUNCATED). ZV_EMPTY. */
 uint32_t zv_raw_recv(zv_host *host, size_t socket, uint8_t *bytes, size_t length, size_t *count);
+
+/* DHCP AND DNS. A host has room for a client of each. UDP sockets carry their datagrams: zv_dhcp_turn and zv_dns_turn below do all that is
+ * to be done between a client and its socket, by the other calls. Call each after a poll, and poll again; poll at the latest when
+ * zv_poll_at, zv_dhcp_poll_at or zv_dns_poll_at says. Each call but zv_dhcp_new and zv_dns_new may answer ZV_NO_CLIENT. */
+
+/* What a client of DHCP tells. */
+typedef struct zv_lease {
+    uint8_t event;       /* 0: nothing happened. 1: there is a lease of what follows. 2: there is none, an address that was used is to go */
+    uint8_t prefix;      /* how many bits the address's network has */
+    zv_address address;
+    zv_address router;   /* family 0 for none, here and below */
+    zv_address server;
+    zv_address names[3]; /* servers of names */
+} zv_lease;
+
+/* The addresses of a name, without gaps, and family 0 for none. */
+typedef struct zv_addresses {
+    zv_address at[4];
+} zv_addresses;
+
+/* Begins a client of DHCP for this station, in place of one that there was. The seed is that of its random words. ZV_MEDIUM (no Ethernet). */
+uint32_t zv_dhcp_new(zv_host *host, uint64_t seed);
+
+/* Hands the client a datagram that a socket received at port 68: from where, and at which address. ZV_BAD_ARGUMENT. */
+uint32_t zv_dhcp_recv(zv_host *host, const uint8_t *bytes, size_t length, const zv_endpoint *remote, const zv_address *local);
+
+/* Copies the message that is due at the moment of the last poll: how many bytes it has, where to, and from where. It is open until
+ * zv_dhcp_sent, or any other call of the client. ZV_EMPTY, ZV_TOO_SHORT (a message has 300 bytes). */
+uint32_t zv_dhcp_send(zv_host *host, uint8_t *bytes, size_t length, size_t *count, zv_endpoint *remote, zv_endpoint *local);
+
+/* Says whether the message went: behind one that did the client waits for its answer. 0 for no. */
+uint32_t zv_dhcp_sent(zv_host *host, uint8_t sent);
+
+/* What happened since the last call. A lease that is over by now is given up first. */
+uint32_t zv_dhcp_poll(zv_host *host, int64_t now, zv_lease *lease);
+
+/* When the client has something to send: 0 for now, INT64_MAX for never. */
+uint32_t zv_dhcp_poll_at(zv_host *host, int64_t *at);
+
+/* Begins a client of DNS in place of one that there was. It asks these servers in turn, up to one of family 0. ZV_BAD_ARGUMENT. */
+uint32_t zv_dns_new(zv_host *host, const zv_address *first, const zv_address *second, const zv_address *third);
+
+/* Asks for the addresses of family 4 or 6 that a name has, a text with dots between its labels. The result of the query before is
+ * forgotten. ZV_BAD_ARGUMENT (family), ZV_QUERY_PENDING, ZV_NAME_TOO_LONG, ZV_INVALID_NAME. */
+uint32_t zv_dns_ask(zv_host *host, const uint8_t *name, size_t length, uint8_t family);
+
+/* Hands the client a datagram that a socket received: from where, and at which address and port. ZV_BAD_ARGUMENT. */
+uint32_t zv_dns_recv(zv_host *host, const uint8_t *bytes, size_t length, const zv_endpoint *remote, const zv_endpoint *local);
+
+/* Copies the query that is due at the moment of the last poll: how many bytes it has, where to, and from where. It is open until
+ * zv_dns_sent, or any other call of the client. ZV_EMPTY, ZV_TOO_SHORT. */
+uint32_t zv_dns_send(zv_host *host, uint8_t *bytes, size_t length, size_t *count, zv_endpoint *remote, zv_endpoint *local);
+
+/* Says whether the query went: behind one that did the client waits for its answer. 0 for no. */
+uint32_t zv_dns_sent(zv_host *host, uint8_t sent);
+
+/* The addresses that were found, told once. ZV_QUERY_PENDING, ZV_QUERY_FAILED. */
+uint32_t zv_dns_result(zv_host *host, zv_addresses *addresses);
+
+/* When the client has something to send, INT64_MAX for never. */
+uint32_t zv_dns_poll_at(zv_host *host, int64_t *at);
+
+/* Carries datagrams between the client of DHCP and a UDP socket that is bound to port 68 of all addresses, and says what happened. */
+static inline uint32_t zv_dhcp_turn(zv_host *host, size_t socket, int64_t now, zv_lease *lease)
+{
+    uint8_t bytes[1472];
+    size_t count;
+    zv_endpoint remote, own;
+    zv_address local;
+    uint32_t code;
+
+    while ((code = zv_udp_recv(host, socket, bytes, sizeof bytes, &count, &remote, &local)) == ZV_OK || code == ZV_TRUNCATED)
+        if (code == ZV_OK)
+            zv_dhcp_recv(host, bytes, count, &remote, &local);
+    if (code != ZV_EMPTY)
+        return code;
+    code = zv_dhcp_send(host, bytes, sizeof bytes, &count, &remote, &own);
+    if (code == ZV_OK)
+        zv_dhcp_sent(host, zv_udp_send(host, socket, bytes, count, &remote, &own.address) == ZV_OK);
+    else if (code != ZV_EMPTY)
+        return code;
+    return zv_dhcp_poll(host, now, lease);
+}
+
+/* Carries datagrams between the client of DNS and a UDP socket, which is bound to the port of each query. `port` is the port that it is
+ * bound to, 0 at first. Then zv_dns_result. */
+static inline uint32_t zv_dns_turn(zv_host *host, size_t socket, uint16_t *port)
+{
+    uint8_t bytes[1472];
+    size_t count;
+    zv_endpoint remote, own;
+    const zv_address any = zv_any();
+    uint32_t code;
+
+    own.port = *port;
+    while ((code = zv_udp_recv(host, socket, bytes, sizeof bytes, &count, &remote, &own.address)) == ZV_OK || code == ZV_TRUNCATED)
+        if (code == ZV_OK)
+            zv_dns_recv(host, bytes, count, &remote, &own);
+    if (code != ZV_EMPTY)
+        return code;
+    code = zv_dns_send(host, bytes, sizeof bytes, &count, &remote, &own);
+    if (code != ZV_OK)
+        return code == ZV_EMPTY ? ZV_OK : code;
+    if (own.port != *port) {
+        zv_udp_close(host, socket);
+        *port = zv_udp_bind(host, socket, &any, own.port) == ZV_OK ? own.port : 0;
+    }
+    return zv_dns_sent(host, zv_udp_send(host, socket, bytes, count, &remote, &own.address) == ZV_OK);
+}
 
 #ifdef __cplusplus
 }

@@ -4,12 +4,12 @@
 
     pages.py HOST [--tap MAC]
 
-Connections that stay and pipelining, HEAD, refusals, requests in pieces, a megabyte, what the host counted.
+Connections that stay and pipelining, HEAD, refusals, requests in pieces, a megabyte, what the host counted, also of frames with faults.
 """
-import subprocess, sys
+import socket, struct, subprocess, sys
 
 import talk
-from talk import OURS, OURS6, connect, named, say
+from talk import LINUX, LINUX6, OURS, OURS6, STATION, checksum, connect, named, say
 
 PAGE, MEGABYTE = "/", bytes(33 + it % 94 for it in range(1_000_000))
 
@@ -166,13 +166,61 @@ def counts(at):
     return say(f"/counts: {', '.join(f'{number} {name}' for number, name in after)}{named(at)}", well)
 
 
+def v4(protocol, payload, total=None, first=0x45, off=0):
+    """An IPv4 packet to the host, whose header's checksum is off by so much."""
+    ends = socket.inet_aton(LINUX) + socket.inet_aton(OURS)
+    head = struct.pack(">BBHHHBBH", first, 0, total or 20 + len(payload), 7, 0, 64, protocol, 0) + ends
+    right = (checksum(head[: first % 16 * 4]) + off) % 65536
+    return head[:10] + struct.pack(">H", right) + head[12:] + payload
+
+
+def faulty():
+    """Frames with a fault of each kind, and some without one: the EtherType, the packet, and the label under which it is counted."""
+    ends = socket.inet_aton(LINUX) + socket.inet_aton(OURS)
+    text = b"text"
+    udp = struct.pack(">HHHH", 4000, 9, 12, 0) + text
+    right = checksum(ends + struct.pack(">BBH", 0, 17, 12) + udp)
+    with_sum = lambda sum: udp[:6] + struct.pack(">H", sum) + text
+    syn = struct.pack(">HHIIBBHHH", 4000, 9, 1, 0, 5 << 4, 4, 1000, 0, 0)  # a reset, which nobody answers
+    ping = struct.pack(">BBHHH", 8, 0, 1, 2, 3)
+    six = socket.inet_pton(socket.AF_INET6, LINUX6) + socket.inet_pton(socket.AF_INET6, OURS6)
+    v6 = lambda kind, payload, length: struct.pack(">IHBB", 6 << 28, length, kind, 64) + six + payload
+    unknown, header, damaged = "of them neither IP nor ARP, dropped", "of them with a damaged header, dropped", "of them with a wrong checksum, dropped"
+    return [
+        (0x88B5, bytes([0x75]) + bytes(40), unknown),
+        (0x0800, v4(17, with_sum(right), off=1), header),
+        (0x0800, v4(17, with_sum(right), total=33), header),
+        (0x0800, v4(17, with_sum(right), first=0x44), header),
+        (0x86DD, v6(59, b"", 1), header),
+        (0x0800, v4(17, with_sum(right ^ 1)), damaged),
+        (0x0800, v4(6, syn), damaged),
+        (0x0800, v4(1, ping), damaged),
+        (0x86DD, v6(58, bytes([128]) + bytes(7), 8), damaged),
+        (0x0800, v4(17, with_sum(right)), None),
+        (0x0800, v4(17, with_sum(0)), None),
+        (0x0800, v4(59, text), None),
+    ]
+
+
+def faults():
+    """Frames with faults are counted by their kinds, and others aren't."""
+    frames, before = faulty(), dict((name, number) for number, name in counted())
+    with socket.socket(socket.AF_PACKET, socket.SOCK_DGRAM) as it:
+        for kind, packet, _ in frames:
+            it.sendto(packet, ("zemplovir", kind, 0, 0, bytes.fromhex(STATION.replace(":", ""))))
+    after, names = dict((name, number) for number, name in counted()), [it[2] for it in frames]
+    change = {name: after[name] - before[name] for name in {*names} - {None}} if before and after else {}
+    well = bool(change) and all(number == names.count(name) for name, number in change.items())
+    return say(f"{len(frames)} frames, {len(names) - names.count(None)} of them with a fault, are counted by their kinds", well)
+
+
 def try_site(at=OURS):
     return [stays(at), pipelined(at), in_pieces(at), heads(at), *[case(*it, at) for it in CASES], megabytes(at), counts(at)]
 
 
 def main():
     pump = talk.start(sys.argv[1], *sys.argv[2:])
-    well = [it for at in (OURS, OURS6) for it in try_site(at)]
+    well = [it for at in (OURS, OURS6) for it in try_site(at)] + [faults()]
     talk.stop(pump)
     print(f"{sum(well)} of {len(well)} well")
     return 0 if all(well) else 1

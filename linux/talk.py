@@ -4,7 +4,8 @@
     talk.py HOST SECONDS [FOLDER]   over a TUN device and over a TAP device, by IPv4 and by IPv6: first over a good link, then for so many
                                     seconds over one that loses, repeats and reorders
     talk.py HOST exchange FOLDER    a short exchange over a TAP device: of either family pings, datagrams and a stream, each echoed; the
-                                    page by curl, a request that isn't understood, ten requests in one piece, GET and HEAD
+                                    page by curl, a request that isn't understood, ten requests in one piece, GET and HEAD; frames with
+                                    faults, and what the host counted of them
 
 FOLDER keeps what the program read and wrote (over the TAP device that loses, in the first form): the files stdin and stdout.
 """
@@ -166,6 +167,7 @@ def exchange(program, folder):
     well = []
     for at in (OURS, OURS6):
         well += [pings(3, at=at), datagrams(5, at), stream(5000, at), page(at), refusal(at), pages.pipelined(at, 1), pages.heads(at)]
+    well.append(pages.faults())
     time.sleep(11)
     stop(pump)
     return well

@@ -55,6 +55,11 @@ errors! {
     20 Moment "moment out of range"
     21 NoListener "no listener of this number"
     22 InBacklog "a listener has the socket"
+    23 NoClient "no such client"
+    24 QueryPending "the query has no answer yet"
+    25 NameTooLong "name too long"
+    26 InvalidName "invalid name"
+    27 QueryFailed "no address was found"
 }
 
 impl std::error::Error for Error {}

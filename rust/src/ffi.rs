@@ -47,6 +47,23 @@ pub struct Counters {
     pub polls: u64,
 }
 
+#[repr(C)]
+#[derive(Clone, Copy, Default)]
+pub struct Lease {
+    pub event: u8,
+    pub prefix: u8,
+    pub address: Address,
+    pub router: Address,
+    pub server: Address,
+    pub names: [Address; 3],
+}
+
+#[repr(C)]
+#[derive(Clone, Copy, Default)]
+pub struct Addresses {
+    pub at: [Address; 4],
+}
+
 extern "C" {
     pub fn zv_host_new(host: *mut Host, settings: *const Settings, now: i64) -> u32;
     pub fn zv_host_free(host: *mut Host) -> u32;
@@ -106,6 +123,7 @@ extern "C" {
     pub fn zv_tcp_set_timeout(host: *mut Host, socket: usize, micros: u64) -> u32;
     pub fn zv_tcp_set_keep_alive(host: *mut Host, socket: usize, micros: u64) -> u32;
     pub fn zv_tcp_set_ack_delay(host: *mut Host, socket: usize, micros: u64) -> u32;
+    pub fn zv_tcp_set_min_rto(host: *mut Host, socket: usize, micros: u64) -> u32;
     pub fn zv_tcp_set_nagle(host: *mut Host, socket: usize, enabled: u8) -> u32;
     pub fn zv_tcp_set_hop_limit(host: *mut Host, socket: usize, limit: u8) -> u32;
     pub fn zv_tcp_set_retries(host: *mut Host, socket: usize, limit: u16) -> u32;
@@ -142,4 +160,43 @@ extern "C" {
     ) -> u32;
     pub fn zv_raw_send(host: *mut Host, socket: usize, bytes: *const u8, length: usize) -> u32;
     pub fn zv_raw_recv(host: *mut Host, socket: usize, bytes: *mut u8, length: usize, count: *mut usize) -> u32;
+    pub fn zv_dhcp_new(host: *mut Host, seed: u64) -> u32;
+    pub fn zv_dhcp_recv(
+        host: *mut Host,
+        bytes: *const u8,
+        length: usize,
+        remote: *const Endpoint,
+        local: *const Address,
+    ) -> u32;
+    pub fn zv_dhcp_send(
+        host: *mut Host,
+        bytes: *mut u8,
+        length: usize,
+        count: *mut usize,
+        remote: *mut Endpoint,
+        local: *mut Endpoint,
+    ) -> u32;
+    pub fn zv_dhcp_sent(host: *mut Host, sent: u8) -> u32;
+    pub fn zv_dhcp_poll(host: *mut Host, now: i64, lease: *mut Lease) -> u32;
+    pub fn zv_dhcp_poll_at(host: *mut Host, at: *mut i64) -> u32;
+    pub fn zv_dns_new(host: *mut Host, first: *const Address, second: *const Address, third: *const Address) -> u32;
+    pub fn zv_dns_ask(host: *mut Host, name: *const u8, length: usize, family: u8) -> u32;
+    pub fn zv_dns_recv(
+        host: *mut Host,
+        bytes: *const u8,
+        length: usize,
+        remote: *const Endpoint,
+        local: *const Endpoint,
+    ) -> u32;
+    pub fn zv_dns_send(
+        host: *mut Host,
+        bytes: *mut u8,
+        length: usize,
+        count: *mut usize,
+        remote: *mut Endpoint,
+        local: *mut Endpoint,
+    ) -> u32;
+    pub fn zv_dns_sent(host: *mut Host, sent: u8) -> u32;
+    pub fn zv_dns_result(host: *mut Host, addresses: *mut Addresses) -> u32;
+    pub fn zv_dns_poll_at(host: *mut Host, at: *mut i64) -> u32;
 }

@@ -5,6 +5,8 @@
 //!
 //! The wrapper adds nothing to what the library does, but that Rust's types keep the library's demands: a host is freed once, is used from
 //! one thread at a time, and lent bytes are read only as long as nothing else is called.
+pub mod dhcp;
+pub mod dns;
 mod error;
 mod ffi;
 pub mod icmp;

@@ -159,6 +159,11 @@ impl Socket<'_> {
         done(unsafe { ffi::zv_tcp_set_ack_delay(&mut self.interface.host, self.handle.0, micros(delay)) })
     }
 
+    /// Sets how long a segment waits for its acknowledgement at least until it goes again.
+    pub fn set_min_rto(&mut self, duration: Duration) -> Result<()> {
+        done(unsafe { ffi::zv_tcp_set_min_rto(&mut self.interface.host, self.handle.0, micros(Some(duration))) })
+    }
+
     pub fn set_nagle_enabled(&mut self, enabled: bool) -> Result<()> {
         done(unsafe { ffi::zv_tcp_set_nagle(&mut self.interface.host, self.handle.0, enabled.into()) })
     }

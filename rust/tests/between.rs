@@ -1,6 +1,6 @@
 //! Two interfaces whose frames go from one to the other.
 use std::net::{IpAddr, Ipv4Addr, SocketAddr};
-use zemplovir::{Config, Error, Instant, Interface, Medium, tcp::State};
+use zemplovir::{Config, Error, Instant, Interface, Medium, dhcp::Event, dns::DnsQueryType, tcp::State};
 
 const FIRST: IpAddr = IpAddr::V4(Ipv4Addr::new(192, 168, 1, 1));
 const SECOND: IpAddr = IpAddr::V4(Ipv4Addr::new(192, 168, 1, 2));
@@ -187,4 +187,59 @@ fn a_listener_serves_more_than_it_has_sockets() {
     pair.second.remove_listener(listener).unwrap();
     assert_eq!(pair.second.accept(listener), Err(Error::NoListener));
     pair.second.remove(served).unwrap();
+}
+
+#[test]
+fn a_client_of_dhcp_asks() {
+    let mut plain = host(Medium::Ip, FIRST, 1);
+    assert_eq!(plain.start_dhcp(1), Err(Error::Medium));
+    assert_eq!(plain.dhcp_poll_at(), Err(Error::NoClient));
+    let mut pair = Pair::new(true);
+    let (client, server) = (pair.first.add_udp(4, 2048).unwrap(), pair.second.add_udp(4, 2048).unwrap());
+    pair.first.udp(client).bind(68).unwrap();
+    pair.second.udp(server).bind(67).unwrap();
+    pair.first.start_dhcp(7).unwrap();
+    assert_eq!(pair.first.dhcp_poll_at(), Ok(Some(Instant::ZERO)));
+    pair.run(1);
+    let now = Instant::from_micros(pair.now);
+    assert_eq!(pair.first.poll_dhcp(client, now), Ok(Some(Event::Deconfigured)));
+    assert_eq!(pair.first.poll_dhcp(client, now), Ok(None));
+    pair.run(2);
+    let mut data = [0; 400];
+    let (count, from) = pair.second.udp(server).recv_slice(&mut data).unwrap();
+    // a request of 300 bytes that names the station, with the magic number of RFC 2131
+    assert_eq!((count, data[0], &data[28..34], &data[236..240]), (300, 1, &[2, 0, 0, 0, 0, 1][..], &[99, 130, 83, 99][..]));
+    assert_eq!(from.endpoint.port(), 68);
+}
+
+#[test]
+fn a_client_of_dns_asks_and_is_answered() {
+    let mut pair = Pair::new(true);
+    let (client, server) = (pair.first.add_udp(4, 2048).unwrap(), pair.second.add_udp(4, 2048).unwrap());
+    pair.second.udp(server).bind(53).unwrap();
+    assert_eq!(pair.first.start_query("example.test", DnsQueryType::A), Err(Error::NoClient));
+    pair.first.start_dns(&[SECOND]).unwrap();
+    assert_eq!(pair.first.query_result(), Err(Error::QueryFailed));
+    assert_eq!(pair.first.start_query("a..b", DnsQueryType::A), Err(Error::InvalidName));
+    assert_eq!(pair.first.start_query(&"a.".repeat(128), DnsQueryType::A), Err(Error::NameTooLong));
+    pair.first.start_query("example.test", DnsQueryType::A).unwrap();
+    assert_eq!(pair.first.start_query("example.test", DnsQueryType::A), Err(Error::QueryPending));
+    let mut port = 0;
+    pair.first.poll_dns(client, &mut port).unwrap();
+    assert!(port >= 1024);
+    pair.run(3);
+    let mut data = [0; 400];
+    let (count, from) = pair.second.udp(server).recv_slice(&mut data).unwrap();
+    assert_eq!(from.endpoint, SocketAddr::new(FIRST, port));
+    // the answer repeats the question, and one record gives its name 192.168.1.80 for a minute
+    data[2] |= 0x80;
+    data[7] = 1;
+    let record = [0xc0, 12, 0, 1, 0, 1, 0, 0, 0, 60, 0, 4, 192, 168, 1, 80];
+    data[count..count + 16].copy_from_slice(&record);
+    pair.second.udp(server).send_slice(&data[..count + 16], from).unwrap();
+    assert_eq!(pair.first.query_result(), Ok(None));
+    pair.run(3);
+    pair.first.poll_dns(client, &mut port).unwrap();
+    assert_eq!(pair.first.query_result(), Ok(Some(vec![IpAddr::V4(Ipv4Addr::new(192, 168, 1, 80))])));
+    assert_eq!(pair.first.query_result(), Err(Error::QueryFailed));
 }

@@ -90,17 +90,19 @@ device_of settings =
     record { medium = medium_of settings.hardware; max_transmission_unit = settings.mtu; checksum = all_checksums Checksum.Both }
 
 abbrev pub config_of : Settings → Config
-config_of settings = record { random_seed = settings.seed; hardware_addr = hardware_of settings.hardware }
+config_of settings = record { random_seed = settings.seed; hardware_addr = hardware_of settings.hardware; isn_key = None }
 
 -- A HOST THAT IS MADE
 
--- without frames, addresses, routes, sockets and listeners
+-- without frames, addresses, routes, sockets, listeners and clients
 abbrev pub fresh_host : Settings → ℤ → StackValue
 fresh_host settings now = record {
   link = unused (device_of settings) settings.frames;
   host = new_host (config_of settings) (device_of settings) now;
   places = [];
   listeners = [];
+  dhcp = None;
+  dns = None;
   counters = none_counted;
 }
 

@@ -1,4 +1,4 @@
--- A host as a value: its link, its interface, its sockets, its listeners and what it counted.
+-- A host as a value: its link, its interface, its sockets, its listeners, its clients and what it counted.
 use Rattle.std.specs.Prelude.{ℕ, List, Option}
 use Rattle.c_link.specs.Link.{LinkValue}
 use Rattle.c_calls.specs.declared.host.Counters.{Counters}
@@ -6,10 +6,14 @@ use Rattle.interface.specs.Host.{HostValue}
 use Rattle.interface.specs.SocketStorage.{SocketStorage}
 use Rattle.sockets.specs.declared.socket.Socket.{Socket}
 use Rattle.tcp_listener.specs.declared.listener.Listener.{Listener}
+use Rattle.dhcpv4.specs.Value.{DhcpValue}
+use Rattle.dns_socket.specs.Value.{DnsValue}
 
 pub record StackValue : Type 0 where
   pub link : LinkValue
   pub host : HostValue
   pub places : List (SocketStorage Socket)
   pub listeners : List (Option Listener)
+  pub dhcp : Option DhcpValue
+  pub dns : Option DnsValue
   pub counters : Counters

@@ -11,6 +11,7 @@ use crate::backlogs::{is_in_backlog, refresh_all};
 use crate::code::{of_fetch, of_new, of_push};
 use c_link::FrameLink;
 use c_sockets::Code;
+use clients::{dhcp, dns};
 use interface::{AddError, Config, Interface, PollResult, SocketHandle, SocketSet};
 use ip_wire::{EthernetAddress, HardwareAddress};
 use net_base::{ChecksumCapabilities, DeviceCapabilities, Instant, ManagedSlice, Medium};
@@ -53,6 +54,8 @@ pub struct Host {
     pub(crate) interface: Interface,
     pub(crate) sockets: SocketSet<Socket>,
     pub(crate) listeners: Vec<Option<Listener>>,
+    pub(crate) dhcp: Option<dhcp::Socket>,
+    pub(crate) dns: Option<dns::Socket>,
     pub(crate) counters: Counters,
 }
 
@@ -63,7 +66,15 @@ impl Model for Host {
 
     ghost Value = { StackValue };
 
-    ghost view = { λ h. record { link = h.link; host = h.interface; places = places h.sockets; listeners = h.listeners.items; counters = h.counters } };
+    ghost view = { λ h. record {
+      link = h.link;
+      host = h.interface;
+      places = places h.sockets;
+      listeners = h.listeners.items;
+      dhcp = h.dhcp;
+      dns = h.dns;
+      counters = h.counters;
+    } };
 
     ghost invariant = { λ h. is_fixed h.sockets ≡ false };
 }
@@ -91,6 +102,7 @@ fn config(settings: &Settings) -> Config
             Some(address) => HardwareAddress::Ethernet(address),
             None => HardwareAddress::Ip,
         },
+        isn_key: None,
     }
 }
 
@@ -113,6 +125,8 @@ impl Host {
                 interface,
                 sockets: SocketSet::new(ManagedSlice::Owned(Vec::new(alloc))),
                 listeners: Vec::new(alloc),
+                dhcp: None,
+                dns: None,
                 counters: Counters {
                     frames_in: 0,
                     frames_dropped: 0,

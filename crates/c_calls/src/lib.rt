@@ -4,6 +4,7 @@
 
 mod backlogs;
 mod code;
+mod configuring;
 mod control;
 mod datagrams;
 mod host;
@@ -11,5 +12,5 @@ mod packets;
 mod streams;
 mod tables;
 
-pub use c_sockets::Code;
+pub use c_sockets::{Code, Sending};
 pub use host::{Counters, Host, Settings};

@@ -43,6 +43,11 @@ number_of Is.Mtu = 19
 number_of Is.Moment = 20
 number_of Is.NoListener = 21
 number_of Is.InBacklog = 22
+number_of Is.NoClient = 23
+number_of Is.QueryPending = 24
+number_of Is.NameTooLong = 25
+number_of Is.InvalidName = 26
+number_of Is.QueryFailed = 27
 
 -- an answer whose error is named by its code
 abbrev pub coded : {A E : Type 0} → (E → Code) → Result A E → Result A Code

@@ -52,6 +52,16 @@ pub enum Code {
     NoListener,
     /// The socket is in the backlog of a listener, or one of its keepers.
     InBacklog,
+    /// The host has no such client.
+    NoClient,
+    /// The query has no answer yet.
+    QueryPending,
+    /// The name has more than 255 bytes.
+    NameTooLong,
+    /// A label of the name has no bytes, or more than 63, or the name is no text.
+    InvalidName,
+    /// No server gave an address, or nothing was asked.
+    QueryFailed,
 }
 
 impl Code {
@@ -82,6 +92,11 @@ impl Code {
             Code::Moment => 20,
             Code::NoListener => 21,
             Code::InBacklog => 22,
+            Code::NoClient => 23,
+            Code::QueryPending => 24,
+            Code::NameTooLong => 25,
+            Code::InvalidName => 26,
+            Code::QueryFailed => 27,
         }
     }
 }

@@ -33,6 +33,8 @@ pub enum Act {
     KeepAlive(Option<Duration>),
     /// Sets the delay of an acknowledgement.
     AckDelay(Option<Duration>),
+    /// Sets how long a segment waits for its acknowledgement at least until it goes again.
+    MinRto(Duration),
     /// Sets whether small segments wait while others are in flight.
     Nagle(bool),
     /// Sets the hop limit, 0 for 64.
@@ -63,6 +65,7 @@ fn act_on(socket: &mut tcp::Socket, act: Act) -> Result<(), Code>
         Act::Timeout(duration) => socket.set_timeout(duration),
         Act::KeepAlive(interval) => socket.set_keep_alive(interval),
         Act::AckDelay(delay) => socket.set_ack_delay(delay),
+        Act::MinRto(duration) => socket.set_min_rto(duration),
         Act::Nagle(enabled) => socket.set_nagle_enabled(enabled),
         Act::HopLimit(limit) => socket.set_hop_limit(limit_of(limit)),
         Act::Retries(limit) => socket.set_retries(limit),

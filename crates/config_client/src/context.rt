@@ -37,6 +37,7 @@ impl Context for Host {
       ip_mtu = 1500;
       checksums =
           all_checksums checksum.Both;
+      isn_key = None;
       random = c.words;
     } };
 
@@ -64,6 +65,10 @@ impl Context for Host {
 
     fn checksum_caps(&self) -> ChecksumCapabilities {
         ChecksumCapabilities::default()
+    }
+
+    fn isn_key(&self) -> Option<[u8; 16]> {
+        None
     }
 
     fn rand_u32(&mut self) -> u32 {

@@ -7,65 +7,56 @@ use socket_base::{IpPayload, Offer};
 use std::alloc::Global;
 use std::io::{self, Write};
 
-/// Answers a line: a word, and for most a moment in microseconds. Says nothing of another one.
+/// Answers a line: a word, and for most a moment in microseconds. False: no line begins with that word.
 pub(crate) fn answer<W: Write>(
     alloc: Global,
     line: &str,
     client: &mut Socket,
     writer: &mut W,
-) -> io::Result<()> {
+) -> io::Result<bool> {
     let (word, rest) = line.split_once(' ').unwrap_or((line, ""));
     let (first, more) = rest.split_once(' ').unwrap_or((rest, ""));
     let micros = first.parse::<u64>().unwrap_or(0);
     match word {
-        "client" => {
-            *client = Socket::new(EthernetAddress([2, 0, 0, 0, 0, 7]), micros);
-            Ok(())
-        }
-        "retries" => {
-            client.set_retry_config(retries(micros));
-            Ok(())
-        }
-        "longest" => {
-            client.set_max_lease_duration(Some(Duration::from_micros(micros)));
-            Ok(())
-        }
-        "ignore" => {
-            client.set_ignore_naks(true);
-            Ok(())
-        }
-        "reset" => {
-            client.reset();
-            Ok(())
-        }
-        "offer" => offer(alloc, micros, client, writer),
-        "sent" => {
-            client.settle(true);
-            Ok(())
-        }
-        "unsent" => {
-            client.settle(false);
-            Ok(())
-        }
-        "arrives" => {
-            arrives(alloc, micros, more, client);
-            Ok(())
-        }
+        "offer" => offer(alloc, micros, client, writer)?,
         "poll" => {
             let now = Instant::from_micros(micros.min(1 << 61) as i64);
             let event = client.poll(now);
-            writeln!(writer, "{event:?}")
+            writeln!(writer, "{event:?}")?;
         }
         "when" => {
             let when = client.poll_at(&Host::at(0));
-            writeln!(writer, "{when:?}")
+            writeln!(writer, "{when:?}")?;
         }
         "state" => {
             let state = client.state();
-            writeln!(writer, "{state:?}")
+            writeln!(writer, "{state:?}")?;
         }
-        _ => Ok(()),
+        "arrives" => arrives(alloc, micros, more, client),
+        "ports" => client.set_ports(port(first), port(more)),
+        _ => return Ok(tell(word, micros, client)),
     }
+    Ok(true)
+}
+
+/// Tells the client something. False: no line begins with that word.
+fn tell(word: &str, micros: u64, client: &mut Socket) -> bool {
+    match word {
+        "client" => *client = Socket::new(EthernetAddress([2, 0, 0, 0, 0, 7]), micros),
+        "retries" => client.set_retry_config(retries(micros)),
+        "longest" => client.set_max_lease_duration(Some(Duration::from_micros(micros))),
+        "ignore" => client.set_ignore_naks(true),
+        "reset" => client.reset(),
+        "sent" => client.settle(true),
+        "unsent" => client.settle(false),
+        _ => return false,
+    }
+    true
+}
+
+/// A port by its number, and 0 for any other text.
+fn port(text: &str) -> u16 {
+    text.parse::<u16>().unwrap_or(0)
 }
 
 /// Four seconds at first, and so many requests.

@@ -2,7 +2,7 @@
 use dns_wire::{DnsPacket, DnsQuestion, DnsRecord};
 use std::io::{self, Write};
 
-/// Says what the header says, and then each question and record, up to the first that is refused.
+/// Says what the header says, how many records follow the answers, and then each question and answer, up to the first that is refused.
 pub(crate) fn describe<W: Write>(bytes: &[u8], writer: &mut W) -> io::Result<()> {
     let Ok(packet) = DnsPacket::new_checked(bytes) else {
         return writer.write_all(b"refused\n");
@@ -15,6 +15,13 @@ pub(crate) fn describe<W: Write>(bytes: &[u8], writer: &mut W) -> io::Result<()>
         packet.rcode(),
         packet.flags()
     )?;
+    let (authority, additional) = (
+        packet.authority_record_count(),
+        packet.additional_record_count(),
+    );
+    if (authority, additional) != (0, 0) {
+        writeln!(writer, "{authority} of authorities, {additional} more")?;
+    }
     let mut at = 12;
     for _ in 0..packet.question_count() {
         let Ok((question, end)) = DnsQuestion::parse(bytes, at) else {

@@ -10,8 +10,7 @@ use std::io;
 use std::process::ExitCode;
 
 fn main(rt: HostRuntime) -> ExitCode {
-    match lines::run(rt.alloc(), rt.reader(), &mut io::writer(&rt)) {
-        Ok(()) => ExitCode::SUCCESS,
-        Err(_) => ExitCode::from(1),
-    }
+    let ended = lines::run(rt.alloc(), rt.reader(), &mut io::writer(&rt));
+    // The reader or the writer failed, or no memory was left.
+    ExitCode::from(ended.unwrap_or(2))
 }

@@ -3,16 +3,11 @@
 use Rattle.std.specs.Prelude.{◌==◌, ℕ, zero, suc, ◌+◌, Bool, true, false, nat_le, if◌then◌else◌, Option, Some, None, List, [], ◌∷◌, ◌++◌, length, take}
 use Rattle.std.specs.Prelude.{slice_index}
 use denote.Ref.{Bor}
-use Rattle.dhcp_wire.specs.declared.option.DhcpOption.{DhcpOption}
 
 -- an option as a value
 pub record OptionValue : Type 0 where
   pub kind : ℕ
   pub inside : List ℕ
-
--- the value of an option
-abbrev pub value_of : DhcpOption → OptionValue
-value_of o = record { kind = o.kind; inside = o.data.now }
 
 -- an option of this code, given its length field and what follows, before others; none where it is cut
 abbrev pub option_before : ℕ → List ℕ → List OptionValue → List OptionValue

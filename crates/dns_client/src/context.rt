@@ -36,7 +36,7 @@ impl Host {
 }
 
 impl Context for Host {
-    ghost use Rattle.std.specs.Prelude.{refl, false, Some, Option, ◌∷◌, []};
+    ghost use Rattle.std.specs.Prelude.{refl, false, Some, None, Option, ◌∷◌, []};
     ghost use Rattle.ip_wire.specs.IpAddress.{IpAddress};
     ghost use Rattle.ip_wire.specs.IpAddress.TheVariants as Ip;
     ghost use Rattle.net_base.specs.RandomWords.{next_state};
@@ -52,6 +52,7 @@ impl Context for Host {
       ip_mtu = 1500;
       checksums =
           all_checksums checksum.Both;
+      isn_key = None;
       random = c.words;
     } };
 
@@ -82,6 +83,10 @@ impl Context for Host {
 
     fn checksum_caps(&self) -> ChecksumCapabilities {
         ChecksumCapabilities::default()
+    }
+
+    fn isn_key(&self) -> Option<[u8; 16]> {
+        None
     }
 
     fn rand_u32(&mut self) -> u32 {

@@ -21,34 +21,65 @@ fn new_player(seed: u64) -> Player {
     }
 }
 
-/// Answers each line.
+/// Answers each line, up to one that begins with no word of these, which is said by its number. The status: 0, or 1 after such a line.
 pub(crate) fn run<R: Read + Drop, W: Write>(
     alloc: Global,
     reader: R,
     writer: &mut W,
-) -> io::Result<()> {
+) -> io::Result<u8> {
+    let mut player = new_player(0);
+    play(alloc, reader, &mut player, writer)
+}
+
+/// The same of this player. (It is borrowed: where it is owned each way out lets it go, which makes a long proof.)
+fn play<R: Read + Drop, W: Write>(
+    alloc: Global,
+    reader: R,
+    player: &mut Player,
+    writer: &mut W,
+) -> io::Result<u8> {
     let mut reader = BufReader::new(alloc, reader)?;
     let mut line = Vec::new(alloc);
-    let mut current = new_player(0);
-    for _ in 0..u64::MAX {
+    let mut status = 0;
+    for number in 1..u64::MAX {
         line.clear();
         if reader.read_until(b'\n', &mut line)? == 0 {
             break;
         }
-        if let Ok(text) = str::from_utf8(line.as_slice()) {
-            answer(alloc, text.trim(), &mut current, writer)?;
+        if !take(alloc, line.as_slice(), player, writer)? {
+            writeln!(writer, "line {number}: no such line")?;
+            status = 1;
+            break;
         }
     }
-    writer.flush()
+    writer.flush()?;
+    Ok(status)
 }
 
-/// Answers a line. Says nothing of one that begins with another word.
+/// Answers a line; says nothing of an empty one and of a comment. False: it is none of these.
+fn take<W: Write>(
+    alloc: Global,
+    line: &[u8],
+    player: &mut Player,
+    writer: &mut W,
+) -> io::Result<bool> {
+    let Ok(text) = str::from_utf8(line) else {
+        return Ok(false);
+    };
+    let text = text.trim();
+    if text.is_empty() || text.starts_with('#') {
+        return Ok(true);
+    }
+    answer(alloc, text, player, writer)
+}
+
+/// Answers a line. False: no line begins with its word.
 fn answer<W: Write>(
     alloc: Global,
     line: &str,
     player: &mut Player,
     writer: &mut W,
-) -> io::Result<()> {
+) -> io::Result<bool> {
     let (word, rest) = line.split_once(' ').unwrap_or((line, ""));
     let (first, more) = rest.split_once(' ').unwrap_or((rest, ""));
     let micros = first.parse::<u64>().unwrap_or(0);
@@ -66,9 +97,9 @@ fn answer<W: Write>(
         }
         "result" => result(player, writer)?,
         "when" => when(player, writer)?,
-        _ => tell(player, word, rest),
+        _ => return Ok(tell(player, word, rest)),
     }
-    Ok(())
+    Ok(true)
 }
 
 fn begin(current: &mut Player, seed: u64) {
@@ -112,8 +143,8 @@ fn when<W: Write>(player: &Player, writer: &mut W) -> io::Result<()> {
     writeln!(writer, "{when:?}")
 }
 
-/// Tells the client what became of a packet, to ask no longer, or which servers there are.
-fn tell(player: &mut Player, word: &str, rest: &str) {
+/// Tells the client what became of a packet, to ask no longer, or which servers there are. False: no line begins with that word.
+fn tell(player: &mut Player, word: &str, rest: &str) -> bool {
     match word {
         "sent" => player.client.settle(true),
         "unsent" => player.client.settle(false),
@@ -123,6 +154,7 @@ fn tell(player: &mut Player, word: &str, rest: &str) {
             player.client.update_servers(&[server(number)]);
         }
         "servers" => player.client.update_servers(&[]),
-        _ => {}
+        _ => return false,
     }
+    true
 }

@@ -2,7 +2,7 @@
 use Rattle.std.proofs.Common.{◌≡◌, ℕ, ◌+◌, ◌<◌, ◌≤◌, List, [], ◌∷◌, ◌++◌, length, refl, sym, ◌∙◌, ap, subst, arith, append_assoc, length-append}
 use Rattle.std.specs.Prelude.{Option, Some, None, Result, Ok, Err, slice_index, slice_range}
 use Rattle.std.specs.Option.{unwrap_or}
-use Rattle.dns_wire.specs.Name.{Step, Label, Jump, IsLabel, IsPointer, IsRoot, IsNoPart, IsName, Leads, name_of, end_of, end_from}
+use Rattle.dns_wire.specs.Name.{Step, Label, Jump, IsLabel, IsPointer, IsRoot, IsNoPart, IsName, Leads, name_of, end_of}
 
 -- steps from the end of a name
 pub Leads-root : (message : List ℕ) (limit at : ℕ) (steps : List Step) → IsRoot message at → Leads message limit at steps → steps ≡ []
@@ -61,6 +61,11 @@ pub Leads-none : (message : List ℕ) (limit at : ℕ) (steps : List Step) → I
 Leads-none message limit at [] none leads = none.root leads
 Leads-none message limit at (Label label ∷ steps) none leads = none.label label leads.0
 Leads-none message limit at (Jump place ∷ steps) none leads = none.pointer place leads.0
+
+-- the end of a name's own bytes, if a pointer set it, or else by the steps that are left
+abbrev pub end_from : Option ℕ → ℕ → List Step → ℕ
+end_from None at steps = end_of at steps
+end_from (Some end) at steps = end
 
 -- the whole of a name, given what was read of it and the steps that are left
 pub record Whole (message : List ℕ) (at : ℕ) (read : List ℕ) (end : Option ℕ) (place : ℕ) (steps : List Step) : Type 0 where

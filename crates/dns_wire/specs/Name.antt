@@ -1,7 +1,7 @@
 -- Names (RFC 1035, sections 2.3.4, 3.1 and 4.1.4). A name in a message is labels of 1 to 63 bytes, each behind its
 -- length, and then a zero, or a pointer to a place where the name goes on. A pointer leads back: below the place where the
 -- name begins, and below every pointer before it. So each name is read in finitely many steps.
-use Rattle.std.specs.Prelude.{◌≡◌, ℕ, ◌+◌, ◌*◌, ◌<◌, ◌≤◌, Option, Some, None, Result, Ok, Err, List, [], ◌∷◌, ◌++◌, length, slice_index, slice_range}
+use Rattle.std.specs.Prelude.{◌≡◌, ℕ, ◌+◌, ◌*◌, ◌<◌, ◌≤◌, Result, Ok, Err, List, [], ◌∷◌, ◌++◌, length, slice_index, slice_range}
 use Rattle.ip_address.specs.Fields.{be16}
 use Rattle.ip_address.specs.declared.Error.{Error}
 use Rattle.dns_wire.specs.declared.name.DnsName.{DnsName}
@@ -71,11 +71,6 @@ IsPartAt message limit at (Ok P.Root) = IsRoot message at
 IsPartAt message limit at (Ok (P.Label label)) = IsLabel message at label.now
 IsPartAt message limit at (Ok (P.Pointer place)) = IsPointer message limit at place
 IsPartAt message limit at (Err e) = IsNoPart message limit at
-
--- the end of a name's own bytes, if a pointer set it, or else by the steps that are left
-abbrev pub end_from : Option ℕ → ℕ → List Step → ℕ
-end_from None at steps = end_of at steps
-end_from (Some end) at steps = end
 
 -- the bytes of a name: its labels, each behind its length, and a zero
 abbrev pub bytes_of_name : DnsName → List ℕ

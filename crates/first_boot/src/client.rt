@@ -42,6 +42,7 @@ impl Client {
         let config = Config {
             random_seed: 1,
             hardware_addr: HardwareAddress::Ethernet(STATION),
+            isn_key: None,
         };
         let interface = Interface::new(alloc, &config, &wire, Instant::ZERO)?;
         Ok(Client {

@@ -43,6 +43,7 @@ impl Server {
         let config = Config {
             random_seed: 2,
             hardware_addr: HardwareAddress::Ethernet(EthernetAddress([2, 0, 0, 0, 0, 2])),
+            isn_key: None,
         };
         let mut interface = Interface::new(alloc, &config, &wire, Instant::ZERO)?;
         let _ = interface.update_ip_addrs(|addresses| {

@@ -1,4 +1,6 @@
 //! The header of a script: what the host is made of.
+ghost use Rattle.std.specs.Prelude.{◌<◌, IfSome};
+
 use crate::host::Host;
 use crate::made::{read_socket, sockets_of};
 use crate::stop::Stop;
@@ -18,6 +20,7 @@ pub struct Header {
     seed: u64,
     hardware: HardwareAddress,
     begins: Instant,
+    isn_key: Option<[u8; 16]>,
     specs: Vec<SocketSpec>,
 }
 
@@ -43,6 +46,7 @@ impl Header {
                 Medium::Ip => HardwareAddress::Ip,
             },
             begins: Instant::ZERO,
+            isn_key: None,
             specs: Vec::new(alloc),
         })
     }
@@ -62,6 +66,10 @@ impl Header {
             "mac" => {
                 words.host()?;
                 self.hardware = hardware(words)?;
+            }
+            "isn_key" => {
+                words.host()?;
+                self.isn_key = Some(isn_key(words)?);
             }
             "checksums" => {
                 words.host()?;
@@ -102,6 +110,7 @@ impl Header {
         let config = Config {
             random_seed: self.seed,
             hardware_addr: self.hardware,
+            isn_key: self.isn_key,
         };
         let mut interface = match Interface::new(alloc, &config, wire, self.begins) {
             Ok(interface) => interface,
@@ -126,6 +135,34 @@ pub fn hardware<'a>(words: &mut Words<'a>) -> Result<HardwareAddress, Stop<'a>> 
     match word.parse() {
         Ok(station) => Ok(HardwareAddress::Ethernet(station)),
         Err(_) => Err(Stop::Wrong("hardware address", word)),
+    }
+}
+
+/// A key of 16 bytes.
+fn isn_key<'a>(words: &mut Words<'a>) -> Result<[u8; 16], Stop<'a>> {
+    let word = words.word("key")?;
+    read_key(word.as_bytes()).ok_or(Stop::Wrong("key", word))
+}
+
+/// The bytes that 32 hexadecimal digits say.
+fn read_key(digits: &[u8]) -> Option<[u8; 16]> {
+    if digits.len() != 32 {
+        return None;
+    }
+    let mut key = [0; 16];
+    for at in 0..16 {
+        key[at] = 16 * digit(digits[2 * at])? + digit(digits[2 * at + 1])?;
+    }
+    Some(key)
+}
+
+fn digit(code: u8) -> Option<u8>
+    ensures { IfSome result (λ n. n < 16) }
+{
+    match code {
+        b'0'..=b'9' => Some(code - b'0'),
+        b'a'..=b'f' => Some(code - b'a' + 10),
+        _ => None,
     }
 }
 

@@ -39,6 +39,7 @@ begins_so t old i has = record {
   mtu = has.mtu;
   checksums = has.checksums;
   addresses = has.addresses;
+  isn_key = has.isn_key;
   any_ip = has.any_ip;
   routes =
       has.routes;
@@ -50,6 +51,7 @@ arrives_so old i i' same has = record {
   mtu = same.mtu ∙ has.mtu;
   checksums = same.checksums ∙ has.checksums;
   addresses = same.addresses ∙ has.addresses;
+  isn_key = same.isn_key ∙ has.isn_key;
   any_ip = same.any_ip ∙ has.any_ip;
   routes = same.routes ∙ has.routes;
 }
@@ -60,6 +62,7 @@ sends_so old i i' same has = record {
   mtu = ap (λ (x : InnerValue). x.mtu) same ∙ has.mtu;
   checksums = ap (λ (x : InnerValue). x.checksums) same ∙ has.checksums;
   addresses = ap (λ (x : InnerValue). x.addresses) same ∙ has.addresses;
+  isn_key = ap (λ (x : InnerValue). x.isn_key) same ∙ has.isn_key;
   any_ip = ap (λ (x : InnerValue). x.any_ip) same ∙ has.any_ip;
   routes = ap (λ (x : InnerValue). x.routes) same ∙ has.routes;
 }
@@ -69,5 +72,5 @@ pub settings_so : {D : Type 0} (moves : D → Move → D → Type 0) (t : ℤ) (
 settings_so {D} moves t budget s s' changed polls =
     let old : InnerValue = s.host.inner in
     let kept = hosts_keep moves t (HasSettingsOf old) (arrives_so old) (sends_so old) (begins_so t old) in
-    let start : HasSettingsOf old old = record { hardware = refl; mtu = refl; checksums = refl; addresses = refl; any_ip = refl; routes = refl } in
+    let start : HasSettingsOf old old = record { hardware = refl; mtu = refl; checksums = refl; isn_key = refl; addresses = refl; any_ip = refl; routes = refl } in
     (polls_keep moves t (λ (x : State D). HasSettingsOf old x.host.inner) kept budget s s' changed start polls).0

@@ -26,13 +26,17 @@ keeps_in i i' same =
     ∙ ap (λ x. record i' { moment = i.moment; hardware = x }) same.hardware
     ∙ ap (λ x. record i' { moment = i.moment; hardware = i.hardware; mtu = x }) same.mtu
     ∙ ap (λ x. record i' { moment = i.moment; hardware = i.hardware; mtu = i.mtu; checksums = x }) same.checksums
-    ∙ ap (λ x. record i' { moment = i.moment; hardware = i.hardware; mtu = i.mtu; checksums = i.checksums; addresses = x }) same.addresses
-    ∙ ap (λ x. record i' { moment = i.moment; hardware = i.hardware; mtu = i.mtu; checksums = i.checksums; addresses = i.addresses; any_ip = x }) same.any_ip
+    ∙ ap (λ x. record i' { moment = i.moment; hardware = i.hardware; mtu = i.mtu; checksums = i.checksums; isn_key = x }) same.isn_key
+    ∙ ap (λ x. record i' { moment = i.moment; hardware = i.hardware; mtu = i.mtu; checksums = i.checksums; isn_key = i.isn_key; addresses = x })
+    same.addresses
+    ∙ ap (λ x. record i' { moment = i.moment; hardware = i.hardware; mtu = i.mtu; checksums = i.checksums; isn_key = i.isn_key; addresses = i.addresses; any_ip = x })
+    same.any_ip
     ∙ ap (λ x. record i' {
       moment = i.moment;
       hardware = i.hardware;
       mtu = i.mtu;
       checksums = i.checksums;
+      isn_key = i.isn_key;
       addresses = i.addresses;
       any_ip = i.any_ip;
       routes =
@@ -43,6 +47,7 @@ keeps_in i i' same =
       hardware = i.hardware;
       mtu = i.mtu;
       checksums = i.checksums;
+      isn_key = i.isn_key;
       addresses = i.addresses;
       any_ip = i.any_ip;
       routes =
@@ -56,6 +61,7 @@ settings_kept t i i' keeps = record {
   mtu = ap (λ (x : InnerValue). x.mtu) keeps;
   checksums = ap (λ (x : InnerValue). x.checksums) keeps;
   addresses = ap (λ (x : InnerValue). x.addresses) keeps;
+  isn_key = ap (λ (x : InnerValue). x.isn_key) keeps;
   any_ip = ap (λ (x : InnerValue). x.any_ip) keeps;
   routes = ap (λ (x : InnerValue). x.routes) keeps;
 }
@@ -66,6 +72,7 @@ settings_then a b c first second = record {
   mtu = second.mtu ∙ first.mtu;
   checksums = second.checksums ∙ first.checksums;
   addresses = second.addresses ∙ first.addresses;
+  isn_key = second.isn_key ∙ first.isn_key;
   any_ip = second.any_ip ∙ first.any_ip;
   routes = second.routes ∙ first.routes;
 }

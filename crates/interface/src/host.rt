@@ -247,6 +247,10 @@ impl Context for Interface {
         self.inner.checksum_caps()
     }
 
+    fn isn_key(&self) -> Option<[u8; 16]> {
+        self.inner.isn_key()
+    }
+
     fn rand_u32(&mut self) -> u32 {
         self.inner.rand_u32()
     }

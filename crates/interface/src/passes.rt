@@ -32,7 +32,8 @@ pub fn pass<D: Device>(
     changed
 }
 
-fn either(a: bool, b: bool) -> bool
+/// Whether one of both holds.
+pub(crate) fn either(a: bool, b: bool) -> bool
     ensures { result ≡ (a || b) }
 {
     a || b

@@ -1,5 +1,5 @@
 //! Polling.
-ghost use Rattle.std.specs.Prelude.{◌≡◌, ◌||◌, false};
+ghost use Rattle.std.specs.Prelude.{◌≡◌, false};
 ghost use Rattle.net_base.specs.Time.{IsMoment};
 ghost use Rattle.interface_egress.specs.Inner.{InnerValue, at_moment};
 ghost use Rattle.interface_egress.specs.Set.{places, is_fixed};
@@ -20,6 +20,7 @@ ghost use Rattle.interface.specs.QuietPoll.{HasNoFrame, IsQuietPoll};
 use crate::arrival::ingress;
 use crate::host::Interface;
 use crate::instant::poll_instant;
+use crate::passes::either;
 use crate::step::egress;
 use interface_egress::{Fragmenter, InterfaceInner, PacketAssemblerSet, SocketSet, SocketStorage};
 use net_base::{Device, Duration, Instant, ManagedSlice};
@@ -318,13 +319,6 @@ fn ingress_in<D: Device, const N: usize>(
         device,
         places.as_mut_slice(),
     )
-}
-
-/// Whether one of both holds.
-fn either(a: bool, b: bool) -> bool
-    ensures { result ≡ (a || b) }
-{
-    a || b
 }
 
 /// One step of the way out, of the sockets in this storage.

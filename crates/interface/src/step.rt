@@ -31,11 +31,11 @@ pub fn egress<D: Device>(
     ensures capabilities { D.described device.new ≡ D.described device.old }
 {
     due_as_before();
-    send_all(inner, fragmenter, device, places)
+    send_turns(inner, fragmenter, device, places)
 }
 
 /// Sends the piece that waits, and then what the sockets have.
-fn send_all<D: Device>(
+fn send_turns<D: Device>(
     inner: &mut InterfaceInner,
     fragmenter: &mut Fragmenter,
     device: &mut D,

@@ -4,7 +4,7 @@ use Rattle.net_base.specs.ChecksumCapabilities.{ChecksumCapabilities}
 use Rattle.interface_ingress.specs.HardwareAddress.{HardwareAddress}
 use Rattle.ip_packet.specs.declared.ip.repr.IpRepr.{IpRepr}
 use Rattle.ip_packet.specs.declared.ip.repr.IpRepr.TheVariants as Ip
-use Rattle.socket_base.specs.Packet.{PayloadValue, packet_of}
+use Rattle.socket_base.specs.Packet.{PacketValue, PayloadValue, packet_of, payload_written}
 use Rattle.interface_egress.specs.Inner.{InnerValue}
 use Rattle.interface_ingress.specs.Incoming.{IncomingValue, IsContent}
 use Rattle.interface_ingress.specs.Sent.{AreSealed}
@@ -12,7 +12,12 @@ use Rattle.interface_ingress.proofs.OneContent.{one-content}
 use Rattle.interface_egress.specs.Departure.{Departure, Asks, Tells, Whole, Part}
 use Rattle.interface_egress.specs.GoesOut.{frame_of}
 use Rattle.interface_egress.specs.declared.frame.Question.TheVariants as Query
-use Rattle.interface_delivery.specs.Delivered.{CanArrive, packet_read, read_from, read_of, protocol_read, protocol_sent, HasNoPorts, SendsNoPorts}
+use Rattle.interface_delivery.specs.Delivered.{CanArrive, packet_read, read_from, read_of, protocol_read, protocol_sent, NamesNoPorts, HasNoPorts, SendsNoPorts}
+use Rattle.interface_ingress.proofs.Bare.{bare_v6}
+use Rattle.interface_egress.specs.Departure.{solicitation, solicitation_header}
+use Rattle.ip_packet.specs.Ip.{carried_in}
+use Rattle.ip_packet.specs.Ipv6 as Ipv6
+use Rattle.ip_packet.specs.declared.ipv6.repr.Ipv6Repr.{Ipv6Repr}
 use Rattle.interface_delivery.proofs.Arrives.{arrives}
 
 packet_names : (caps : ChecksumCapabilities) (own to : HardwareAddress) (h : IpRepr) (x : PayloadValue) →
@@ -27,14 +32,18 @@ names own caps (Tells packet) = refl
 names own caps (Whole to p) = packet_names caps own to p.header p.payload
 names own caps (Part to header p) = refl
 
-packet_free : (caps : ChecksumCapabilities) (own to : HardwareAddress) (h : IpRepr) (x : PayloadValue) → SendsNoPorts (Whole to (packet_of h x)) →
+packet_free : (caps : ChecksumCapabilities) (own to : HardwareAddress) (h : IpRepr) (x : PayloadValue) → SendsNoPorts caps (Whole to (packet_of h x)) →
     HasNoPorts (packet_read caps own to (packet_of h x))
 packet_free caps own to (Ip.Ipv4 v) x free = free
 packet_free caps own to (Ip.Ipv6 v) x free = free
 
-is_free : (own : HardwareAddress) (caps : ChecksumCapabilities) (d : Departure) → SendsNoPorts d → HasNoPorts (read_from own caps d)
+is_free : (own : HardwareAddress) (caps : ChecksumCapabilities) (d : Departure) → SendsNoPorts caps d → HasNoPorts (read_from own caps d)
 is_free own caps (Asks (Query.Arp from source target)) free = tt
-is_free own caps (Asks (Query.Neighbor from source target)) free = (λ is. absurd cc, λ is. absurd cc)
+is_free own caps (Asks (Query.Neighbor from source target)) free =
+    let packet : PacketValue = solicitation from source target in
+    let header : Ipv6Repr = Ipv6.normal (solicitation_header source target) in
+    let straight = bare_v6 header (payload_written caps packet.header packet.payload) refl in
+    subst (λ (h : IpRepr). NamesNoPorts (carried_in h)) (sym straight.0) (λ is. absurd cc, λ is. absurd cc)
 is_free own caps (Tells packet) free = tt
 is_free own caps (Whole to p) free = packet_free caps own to p.header p.payload free
 is_free own caps (Part to header p) free = free
@@ -58,6 +67,6 @@ names-same i other receiver d padding v sealed can content =
 
 pub names-none : (i : InnerValue) (other : HardwareAddress) (receiver : ChecksumCapabilities) (d : Departure) (padding : List ℕ) (v : IncomingValue) →
     AreSealed i.checksums receiver → CanArrive i.hardware other d
-    → SendsNoPorts d → IsContent other receiver (frame_of i d ++ padding) (Some v) → HasNoPorts v
+    → SendsNoPorts i.checksums d → IsContent other receiver (frame_of i d ++ padding) (Some v) → HasNoPorts v
 names-none i other receiver d padding v sealed can free content =
     subst HasNoPorts (is_that i other receiver d padding v sealed can content) (is_free i.hardware i.checksums d free)

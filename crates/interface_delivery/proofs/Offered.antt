@@ -13,7 +13,7 @@ use Rattle.socket_base.specs.Packet.{PacketValue, PayloadValue, ControlV4, Contr
 use Rattle.socket_base.specs.Packet.{payload_written}
 use Rattle.interface_egress.specs.Inner.{InnerValue}
 use Rattle.interface_ingress.specs.Sent.{CanBeRead, AreSealed}
-use Rattle.interface_ingress.proofs.FramesArrive.{payload-arrives}
+use Rattle.interface_ingress.proofs.FramesArrive.{payload-brought}
 use Rattle.interface_egress.specs.Departure.{Departure, Asks, Whole}
 use Rattle.interface_egress.specs.Fragments.{LeftValue, piece_room, next_piece, next_departure, left_after}
 use Rattle.interface_egress.specs.GoesOut.{GoesOut, PieceGoesOut, Departs, numbered_v4, numbered_header, numbered, cut_of}
@@ -113,7 +113,7 @@ pub carried : (i : InnerValue) (busy : Bool) (p : PacketValue) (to : HardwareAdd
 carried i busy p to reader wide offered plan can reads =
     let short : total_len p.header ≤ i.mtu = go_short i busy p.header to plan in
     let w = writes i p wide offered (omega (arith, short, wide.mtu)) in
-    payload-arrives i.checksums reader.checksums (numbered_header i p.header) p.payload w.sendable.payload (readable i p.header p.payload reads) can.sealed
+    payload-brought i.checksums reader.checksums (numbered_header i p.header) p.payload w.sendable.payload (readable i p.header p.payload reads) can.sealed
 
 -- PIECES
 

@@ -12,6 +12,7 @@ use Rattle.ip_packet.specs.Ip as Ips
 use Rattle.ip_packet.specs.Ip.{carried_in}
 use Rattle.interface_ingress.specs.IpProtocol.{IpProtocol}
 use Rattle.interface_ingress.specs.IpProtocol.TheVariants as Protocol
+use Rattle.ip_packet.specs.declared.ip.repr.IpRepr.TheVariants as Ip
 use Rattle.ip_packet.specs.Ipv4 as Ipv4
 use Rattle.ip_packet.specs.declared.ipv4.repr.Ipv4Repr.{Ipv4Repr}
 use Rattle.socket_base.specs.Packet.{PacketValue, IsSendable, payload_written}
@@ -20,6 +21,7 @@ use Rattle.interface_egress.specs.Inner.{InnerValue}
 use Rattle.interface_ingress.specs.Pieces as Pieces
 use Rattle.interface_ingress.specs.Incoming.{IncomingValue, Arp, Ip4, Ip6}
 use Rattle.interface_ingress.specs.Sent.{ether_for, uncut}
+use Rattle.interface_ingress.specs.Upper.{upper_header}
 use Rattle.interface_egress.specs.Departure.{Departure, Asks, Tells, Whole, Part, arp_link, arp_request, solicited_station, solicitation}
 use Rattle.interface_egress.specs.declared.frame.Question.{Question}
 use Rattle.interface_egress.specs.declared.frame.Question.TheVariants as Query
@@ -124,15 +126,15 @@ protocol_sent (Part to header p) = Some (Ipv4.normal header).next_header
 abbrev pub NamesNoPorts : IpProtocol → Type 0
 NamesNoPorts protocol = (protocol ≡ Protocol.Tcp → ⊥) × (protocol ≡ Protocol.Udp → ⊥)
 
--- an ARP packet, or an IP packet, or a piece of one, that carries neither TCP nor UDP
+-- an ARP packet, or an IP packet, or a piece of one, that carries neither TCP nor UDP, behind extension headers either
 abbrev pub HasNoPorts : IncomingValue → Type 0
 HasNoPorts (Arp link packet) = Unit {0}
 HasNoPorts (Ip4 link header piece payload) = NamesNoPorts header.next_header
-HasNoPorts (Ip6 link header payload) = NamesNoPorts header.next_header
+HasNoPorts (Ip6 link header payload) = NamesNoPorts (carried_in (upper_header (Ip.Ipv6 header) payload))
 
 -- a question, an answer to one, or a packet, or a piece of one, that carries neither
-abbrev pub SendsNoPorts : Departure → Type 0
-SendsNoPorts (Asks question) = Unit {0}
-SendsNoPorts (Tells packet) = Unit {0}
-SendsNoPorts (Whole to p) = NamesNoPorts (carried_in (Ips.normal p.header))
-SendsNoPorts (Part to header p) = NamesNoPorts (Ipv4.normal header).next_header
+abbrev pub SendsNoPorts : ChecksumCapabilities → Departure → Type 0
+SendsNoPorts caps (Asks question) = Unit {0}
+SendsNoPorts caps (Tells packet) = Unit {0}
+SendsNoPorts caps (Whole to p) = NamesNoPorts (carried_in (upper_header (Ips.normal p.header) (payload_written caps p.header p.payload)))
+SendsNoPorts caps (Part to header p) = NamesNoPorts (Ipv4.normal header).next_header

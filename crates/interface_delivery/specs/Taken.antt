@@ -9,7 +9,7 @@ use Rattle.socket_base.specs.Packet.{PacketValue, payload_written}
 use Rattle.socket_base.specs.Widths.{IsPayload}
 use Rattle.interface_egress.specs.Inner.{InnerValue}
 use Rattle.interface_ingress.specs.Incoming.{IsContent}
-use Rattle.interface_ingress.specs.Carried.{IsCarriedContent}
+use Rattle.interface_ingress.specs.Upper.{IsBrought}
 use Rattle.interface_ingress.specs.Sent.{AreSealed, normal_payload}
 use Rattle.interface_egress.specs.Departure.{Departure}
 use Rattle.interface_egress.specs.Fragments.{LeftValue}
@@ -39,7 +39,7 @@ pub record Arrives {D : Type 0} (moves : D → Move → D → Type 0) (old : D) 
 
 -- behind the packet's header the reader finds what was sent there, in its normal form
 abbrev pub IsCarriedTo : InnerValue → PacketValue → Reader → Type 0
-IsCarriedTo i p reader = IsCarriedContent
+IsCarriedTo i p reader = IsBrought
     reader.checksums
     (Ips.normal p.header)
     (payload_written i.checksums p.header p.payload)

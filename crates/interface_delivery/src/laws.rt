@@ -46,7 +46,7 @@ pub fn protocols_are_those_sent()
     ensures no_ports { (i : InnerValue) (other : HardwareAddress) (receiver : ChecksumCapabilities) (d : Departure) (padding : List ℕ) (v : IncomingValue)
         → AreSealed i.checksums receiver
         → CanArrive i.hardware other d
-        → SendsNoPorts d
+        → SendsNoPorts i.checksums d
         → IsContent other receiver (frame_of i d ++ padding) (Some v)
         → HasNoPorts v }
 {}

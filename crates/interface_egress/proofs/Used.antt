@@ -22,7 +22,8 @@ module _ {T : Type 0} where
   pub used_skip : (n : ℕ) (ps : List (SocketStorage T)) → n < length ps → socket_at ps n ≡ None → used n (drop n ps) ≡ used (n + 1) (drop (n + 1) ps)
   used_skip n ps within none = used_one n ps within ∙ ap (λ o. with_used n o (used (n + 1) (drop (n + 1) ps))) none
 
-  pub used_take : (n : ℕ) (ps : List (SocketStorage T)) (x : T) → n < length ps → socket_at ps n ≡ Some x → used n (drop n ps) ≡ (record { 0 = n }, x) ∷ used (n + 1) (drop (n + 1) ps)
+  pub used_take : (n : ℕ) (ps : List (SocketStorage T)) (x : T) → n < length ps → socket_at ps n ≡ Some x →
+      used n (drop n ps) ≡ (record { 0 = n }, x) ∷ used (n + 1) (drop (n + 1) ps)
   used_take n ps x within some = used_one n ps within ∙ ap (λ o. with_used n o (used (n + 1) (drop (n + 1) ps))) some
 
   pub used_end : (n : ℕ) (ps : List (SocketStorage T)) → length ps ≤ n → used n (drop n ps) ≡ []

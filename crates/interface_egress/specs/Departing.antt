@@ -1,5 +1,5 @@
 -- Words of the laws: which frame a plan sends, and what a host is after it.
-use Rattle.std.specs.Prelude.{◌≡◌, ℕ, ◌+◌, ◌%◌, ◌^◌, ℤ, Bool, true, false, List, [], ◌∷◌, Option, None, Some}
+use Rattle.std.specs.Prelude.{◌≡◌, ℕ, ◌+◌, ◌%◌, ◌^◌, ℤ, Bool, true, false, Option, None, Some}
 use Rattle.net_base.specs.Device.{Move}
 use Rattle.ip_wire.specs.HardwareAddress.{HardwareAddress}
 use Rattle.ip_wire.specs.HardwareAddress.TheVariants as Hardware
@@ -62,17 +62,6 @@ abbrev pub was_taken : Sent → Bool
 was_taken Outcome.Refused = false
 was_taken sent = true
 
-abbrev pub at_most_one : Option Departure → Bool → List Departure
-at_most_one (Some d) true = d ∷ []
-at_most_one o taken = []
-
--- what left in frames that the device took: of a packet, and of a datagram that is half sent
-abbrev pub departures_by : InnerValue → PacketValue → Plan → Sent → List Departure
-departures_by i p plan sent = at_most_one (departure_by i p plan) (was_taken sent)
-
-abbrev pub departures_of_piece : InnerValue → LeftValue → Bool → List Departure
-departures_of_piece i l taken = at_most_one (Some (next_departure i.mtu l)) taken
-
 -- NUMBERS
 
 abbrev pub number_in_header : IpRepr → Option ℕ
@@ -94,5 +83,6 @@ pub record HasSettingsOf (old new : InnerValue) : Type 0 where
   pub mtu : new.mtu ≡ old.mtu
   pub checksums : new.checksums ≡ old.checksums
   pub addresses : new.addresses ≡ old.addresses
+  pub isn_key : new.isn_key ≡ old.isn_key
   pub any_ip : new.any_ip ≡ old.any_ip
   pub routes : new.routes ≡ old.routes

@@ -16,12 +16,14 @@ use Rattle.socket_base.specs.Packet.{PacketValue, PayloadValue, ControlV4, Contr
 use Rattle.interface_tables.specs.Inner.{InnerValue, context_of, is_local_broadcast}
 use Rattle.interface_tables.specs.Source.{first_v4}
 use Rattle.interface_tables.specs.Reassembly.{or_else}
-use Rattle.interface_ingress.specs.Answering.{IsEchoV4, IsEchoV6, IsBetweenV4, IsBetweenV6}
+use Rattle.ipv6_headers.specs.declared.headers.Problem.{Problem}
+use Rattle.ipv6_headers.specs.declared.headers.Problem.TheVariants as Told
+use Rattle.interface_ingress.specs.Answering.{IsEchoV4, IsEchoV6, IsBetweenV4, IsBetweenV6, IsToldOf}
 use Rattle.interface_ingress.specs.Delivered.{Places, first_place, is_connected, segment_place, segment_answer}
 use Rattle.sockets.specs.Socket.{accepts_segment}
 use Rattle.interface_ingress.specs.Handed.{names_nobody, segment_reply}
-use Rattle.interface_ingress.specs.Replies.{is_one_host, source_of_reply, sent_v4, reply_v4, reply_v6, echo_v4, echo_v6, quoted_v4, error_v4, error_v6}
-use Rattle.interface_ingress.specs.Replies.{is_between_hosts}
+use Rattle.interface_ingress.specs.Replies.{is_one_host, source_of_reply, sent_v4, reply_v4, reply_v6, echo_v4, echo_v6, quoted_v4, quoted_v6, error_v4, error_v6}
+use Rattle.interface_ingress.specs.Replies.{is_between_hosts, parameter_problem, reason_of}
 
 -- ECHO
 
@@ -89,6 +91,25 @@ pub error_between_v6 : (i : InnerValue) (header : Ipv6Repr) (message : Icmpv6.Me
     error_v6 i header message quoted ≡ Some p → IsBetweenV6 header
 error_between_v6 i header message quoted p is =
     between_v6 (is_unicast_v6 header.src_addr) (is_unicast_v6 header.dst_addr) (reply_v6 i header message quoted) p is
+
+told_of : (a : Bool) (q p : PacketValue) → (if a then Some q else None) ≡ Some p → IsTrue a
+told_of true q p is = refl
+told_of false q p is = absurd (cc is)
+
+pub problem_told : (i : InnerValue) (header : Ipv6Repr) (payload : List ℕ) (problem : Problem) (pointer : ℕ) (p : PacketValue) →
+    parameter_problem i header payload problem pointer ≡ Some p → IsToldOf problem header
+problem_told i header payload Told.Field pointer p is =
+    between_v6 (is_unicast_v6 header.src_addr) (is_unicast_v6 header.dst_addr)
+    (reply_v6 i header (Icmpv6.ParamProblem (reason_of Told.Field) pointer header) (quoted_v6 payload)) p is
+problem_told i header payload Told.NextHeader pointer p is =
+    between_v6 (is_unicast_v6 header.src_addr) (is_unicast_v6 header.dst_addr)
+    (reply_v6 i header (Icmpv6.ParamProblem (reason_of Told.NextHeader) pointer header) (quoted_v6 payload)) p is
+problem_told i header payload Told.Option pointer p is =
+    between_v6 (is_unicast_v6 header.src_addr) (is_unicast_v6 header.dst_addr)
+    (reply_v6 i header (Icmpv6.ParamProblem (reason_of Told.Option) pointer header) (quoted_v6 payload)) p is
+problem_told i header payload Told.OptionToAny pointer p is =
+    told_of (is_unicast_v6 header.src_addr)
+    (reply_v6 i header (Icmpv6.ParamProblem (reason_of Told.OptionToAny) pointer header) (quoted_v6 payload)) p is
 
 -- SEGMENTS
 

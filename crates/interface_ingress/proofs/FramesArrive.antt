@@ -45,6 +45,9 @@ use Rattle.socket_base.proofs.Lengths.{Lengths, length-payload}
 use Rattle.socket_base.specs.Packet.{PacketValue, PayloadValue, ControlV4, ControlV6, Bytes, Datagram, Segment, PayloadFits, IsSendable, payload_written}
 use Rattle.socket_base.specs.Widths.{IsPayload}
 use Rattle.interface_ingress.specs.Carried.{IsCarried}
+use Rattle.interface_ingress.specs.Upper.{upper_payload, IsBrought, IsBare}
+use Rattle.interface_ingress.specs.Handed.{is_known_v6}
+use Rattle.interface_ingress.proofs.Bare.{bare_v4, bare_v6}
 use Rattle.interface_ingress.specs.Incoming.{Arp, Ip4, Ip6, IsPacketV4, IsPacketV6, IsIncoming}
 use Rattle.interface_ingress.specs.Sent.{framed, CanFrame, ether_for, AreSealed, uncut, CanBeRead, normal_payload}
 
@@ -207,6 +210,28 @@ payload-arrives sender receiver (Ip.Ipv6 h) (Segment tcp bytes) fits can sealed 
   format = Tcps.IsTcp-written (source_of (Ip.Ipv6 h)) (destination_of (Ip.Ipv6 h)) (verifies receiver.tcp) (computes sender.tcp) tcp bytes can.1 sealed.tcp;
   bytes_are = sym (Tcps.payload_of-written (source_of (Ip.Ipv6 h)) (destination_of (Ip.Ipv6 h)) (computes sender.tcp) tcp bytes);
 }
+
+-- such a payload stands right behind the header
+bare : (header : IpRepr) (v : PayloadValue) (payload : List ℕ) → CanBeRead header v → IsBare (Ips.normal header) payload
+bare (Ip.Ipv4 h) v payload can = bare_v4 (Ipv4.normal h) payload
+bare (Ip.Ipv6 h) (ControlV4 message bytes) payload can = absurd can.2
+bare (Ip.Ipv6 h) (ControlV6 message bytes) payload can = bare_v6 (Ipv6.normal h) payload (ap is_known_v6 (named _ _ can.0 refl))
+bare (Ip.Ipv6 h) (Bytes bytes) payload can = absurd can
+bare (Ip.Ipv6 h) (Datagram udp bytes) payload can = bare_v6 (Ipv6.normal h) payload (ap is_known_v6 (named _ _ can.0 refl))
+bare (Ip.Ipv6 h) (Segment tcp bytes) payload can = bare_v6 (Ipv6.normal h) payload (ap is_known_v6 (named _ _ can.0 refl))
+
+pub brought : (caps : ChecksumCapabilities) (ip : IpRepr) (payload : List ℕ) (v : PayloadValue) → IsBare ip payload → IsCarried caps ip payload v →
+    IsBrought caps ip payload (Some v)
+brought caps ip payload v straight is =
+    subst (λ (h : IpRepr). IsCarried caps h (upper_payload ip payload) v) (sym straight.0)
+    (subst (λ (bytes : List ℕ). IsCarried caps ip bytes v) (sym straight.1) is)
+
+pub payload-brought : (sender receiver : ChecksumCapabilities) (header : IpRepr) (v : PayloadValue) → PayloadFits header v → CanBeRead header v →
+    AreSealed sender receiver
+    → IsBrought receiver (Ips.normal header) (payload_written sender header v) (Some (normal_payload v))
+payload-brought sender receiver header v fits can sealed =
+    brought receiver (Ips.normal header) (payload_written sender header v) (normal_payload v) (bare header v (payload_written sender header v) can)
+    (payload-arrives sender receiver header v fits can sealed)
 
 -- BOTH
 

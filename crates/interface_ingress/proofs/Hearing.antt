@@ -5,7 +5,7 @@ use Rattle.std.specs.List.{list_any}
 use Rattle.std.proofs.lemmas.Bool.Decides.{eqb_tells}
 use Rattle.icmpv6.specs.Ndisc.{NeighborMessage, Solicitation, Advertisement}
 use Rattle.icmpv6.specs.declared.ndisc_flags.NdiscNeighborFlags.{NdiscNeighborFlags}
-use Rattle.ip_wire.specs.AddressTests.{is_unicast_v6, is_unspecified_v6, is_loopback_v6}
+use Rattle.ip_wire.specs.AddressTests.{is_unicast_v6, is_multicast_v6, is_unspecified_v6, is_loopback_v6}
 use Rattle.ip_wire.specs.EthernetAddress.{EthernetAddress}
 use Rattle.ip_wire.specs.HardwareAddress.{HardwareAddress}
 use Rattle.ip_wire.specs.HardwareAddress.TheVariants as Hardware
@@ -15,7 +15,7 @@ use Rattle.ip_wire.specs.Ipv6Address.{Ipv6Address}
 use Rattle.ip_wire.specs.Ipv6Repr.{Ipv6Repr}
 use Rattle.socket_base.specs.Packet.{PacketValue}
 use Rattle.interface_tables.specs.Inner.{InnerValue, is_own, is_address_of, is_own_solicited_node, is_probed, solicits}
-use Rattle.interface_ingress.specs.Heard.{Heard, heard, counts, learned, advertised, replaces, is_asked, told_at, advertisement, answer, heard_at, heard_on}
+use Rattle.interface_ingress.specs.Heard.{Heard, heard, counts, tells, learned, advertised, replaces, is_asked, told_at, advertisement, answer, heard_at, heard_on}
 use Rattle.interface_ingress.specs.Heard.{neighbor_heard, with_entries_of}
 
 -- ENTRIES ALONE
@@ -27,9 +27,9 @@ learned-rest : (i : InnerValue) (source : Ipv6Address) (link : Option (List ℕ)
 learned-rest i source None = refl
 learned-rest i source (Some link) = refl
 
-advertised-rest : (i : InnerValue) (flags : NdiscNeighborFlags) (source : Ipv6Address) (link : Option (List ℕ)) → KeepsRest i (advertised i flags source link)
-advertised-rest i flags source link =
-    elim (replaces i flags source) as (λ (b : Bool). KeepsRest i (if b then learned i source link else i)) [ true ↦ learned-rest i source link | false ↦ refl ]
+advertised-rest : (i : InnerValue) (flags : NdiscNeighborFlags) (target : Ipv6Address) (link : Option (List ℕ)) → KeepsRest i (advertised i flags target link)
+advertised-rest i flags target link =
+    elim (replaces i flags target) as (λ (b : Bool). KeepsRest i (if b then learned i target link else i)) [ true ↦ learned-rest i target link | false ↦ refl ]
 
 abbrev Rest : InnerValue → Heard → Type 0
 Rest i h = KeepsRest i h.inner
@@ -42,8 +42,8 @@ heard-rest own i header (Solicitation target link) =
       | false ↦ refl
     ]
 heard-rest own i header (Advertisement flags target link) =
-    elim (counts header target link) as (λ (b : Bool). Rest i (if b then heard (advertised i flags header.src_addr link) None else heard i None)) [
-      | true ↦ advertised-rest i flags header.src_addr link
+    elim (tells header flags target link) as (λ (b : Bool). Rest i (if b then heard (advertised i flags target link) None else heard i None)) [
+      | true ↦ advertised-rest i flags target link
       | false ↦ refl
     ]
 
@@ -64,7 +64,8 @@ passed-at : (own : EthernetAddress) (i : InnerValue) (header : Ipv6Repr) (messag
 passed-at own i header (Solicitation target link) other =
     ap (λ (b : Bool). if b then heard (learned i header.src_addr link) (answer own i header target) else heard i None) (other-hops header target link other)
 passed-at own i header (Advertisement flags target link) other =
-    ap (λ (b : Bool). if b then heard (advertised i flags header.src_addr link) None else heard i None) (other-hops header target link other)
+    ap (λ (b : Bool). if b && not (flags.solicited && is_multicast_v6 header.dst_addr) then heard (advertised i flags target link) None else heard i None)
+    (other-hops header target link other)
 
 passed-on-medium : (hardware : HardwareAddress) (i : InnerValue) (header : Ipv6Repr) (message : NeighborMessage) → header.hop_limit ≢ 255 →
     heard_on hardware i header message ≡ heard i None
@@ -114,15 +115,15 @@ solicited-by : (own : EthernetAddress) (i : InnerValue) (header : Ipv6Repr) (tar
 solicited-by own i header target link p true is = answer-by own i header target p (is_asked i header target) refl is
 solicited-by own i header target link p false is = absurd (cc is)
 
-advertised-by : (i : InnerValue) (flags : NdiscNeighborFlags) (header : Ipv6Repr) (link : Option (List ℕ)) (p : PacketValue) (b : Bool)
-    → (if b then heard (advertised i flags header.src_addr link) None else heard i None).reply ≡ Some p → IsAnswer i header p
-advertised-by i flags header link p true is = absurd (cc is)
-advertised-by i flags header link p false is = absurd (cc is)
+advertised-by : (i : InnerValue) (flags : NdiscNeighborFlags) (header : Ipv6Repr) (target : Ipv6Address) (link : Option (List ℕ)) (p : PacketValue) (b : Bool)
+    → (if b then heard (advertised i flags target link) None else heard i None).reply ≡ Some p → IsAnswer i header p
+advertised-by i flags header target link p true is = absurd (cc is)
+advertised-by i flags header target link p false is = absurd (cc is)
 
 answers-at : (own : EthernetAddress) (i : InnerValue) (header : Ipv6Repr) (message : NeighborMessage) (p : PacketValue) →
     (heard_at own i header message).reply ≡ Some p → IsAnswer i header p
 answers-at own i header (Solicitation target link) p is = solicited-by own i header target link p (counts header target link) is
-answers-at own i header (Advertisement flags target link) p is = advertised-by i flags header link p (counts header target link) is
+answers-at own i header (Advertisement flags target link) p is = advertised-by i flags header target link p (tells header flags target link) is
 
 answers-on : (hardware : HardwareAddress) (i : InnerValue) (header : Ipv6Repr) (message : NeighborMessage) (p : PacketValue) →
     (heard_on hardware i header message).reply ≡ Some p → IsAnswer i header p

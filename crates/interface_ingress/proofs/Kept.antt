@@ -18,13 +18,15 @@ use Rattle.sockets.specs.declared.socket.Socket.{Socket}
 use Rattle.sockets.specs.declared.socket.Socket.TheVariants as Kind
 use Rattle.interface_ingress.specs.Carried.{IsCarriedContent}
 use Rattle.interface_ingress.specs.Incoming.{IncomingValue, Arp, Ip4, Ip6}
+use Rattle.interface_ingress.specs.Upper.{upper_header, upper_payload}
+use Rattle.interface_ingress.proofs.Bare.{known_at_once, bare_where}
 use Rattle.interface_egress.specs.declared.socket_meta.Meta.{Meta}
 use Rattle.interface_egress.specs.declared.socket_set.Item.{Item}
 use Rattle.interface_tables.specs.Inner.{InnerValue}
 use Rattle.interface_ingress.specs.Arrives.{Arrived, ArrivesV4, ArrivesV6, ArrivesAs, Brings, Hands, is_direct, sender_of, renewed, renewed_by, answered}
 use Rattle.interface_ingress.specs.Delivered.{Places, given, changed_item, with_change, all_given, with_packet, packet_delivered, with_icmpv4, with_icmpv6}
 use Rattle.interface_ingress.specs.Delivered.{is_taken_raw}
-use Rattle.interface_ingress.specs.Handed.{handed_places, handed_reply, control_v4_places, control_v6_places, is_known, is_known_v4, is_known_v6}
+use Rattle.interface_ingress.specs.Handed.{handed_places, handed_reply, control_v4_places, control_v6_places, is_known_v4, is_known_v6, unread_v6}
 use Rattle.interface_ingress.specs.Replies.{protocol_unreachable}
 use Rattle.interface_ingress.specs.Kept.{kept_by_kind, ports_item, ports_in, with_ports, NamesNoPorts, HaveNoPorts, IsDamaged}
 use Rattle.interface_ingress.specs.Reassembled.{Slots, is_taken_in, taken_in, is_piece, uncut, rebuilt, bytes_at, place_in, kept, whole_of}
@@ -114,18 +116,18 @@ handed_kept i places ip (Some (Segment header bytes)) bare = absurd bare
 handed_kept i places ip None bare = refl
 
 hands_kept : (i : InnerValue) (places : Places) (ip : IpRepr) (payload : List ℕ) (taken : Bool) (a : Arrived) → Hands i places ip payload taken a →
-    NamesNoPorts (carried_in ip) → with_ports a.places ≡ with_ports places
+    NamesNoPorts (carried_in (upper_header ip payload)) → with_ports a.places ≡ with_ports places
 hands_kept i places ip payload taken a (carried, is, handed) bare =
-    ap with_ports handed.places_are ∙ handed_kept i places ip carried (none_of i.checksums ip payload carried is bare)
+    ap with_ports handed.places_are ∙ handed_kept i places ip carried (none_of i.checksums (upper_header ip payload) (upper_payload ip payload) carried is bare)
 
 v4_kept : (ours : Bool) (i : InnerValue) (places : Places) (link : Option EthernetRepr) (ip : IpRepr) (payload : List ℕ) (a : Arrived) →
-    ArrivesV4 ours i places link ip payload a → NamesNoPorts (carried_in ip) → with_ports a.places ≡ with_ports places
+    ArrivesV4 ours i places link ip payload a → NamesNoPorts (carried_in (upper_header ip payload)) → with_ports a.places ≡ with_ports places
 v4_kept true i places link ip payload a h bare =
     hands_kept (renewed i link ip) (packet_delivered ip payload places) ip payload (is_taken_raw ip places) a h bare ∙ packet_kept ip payload places
 v4_kept false i places link ip payload a h bare = ap with_ports h.places_are ∙ packet_kept ip payload places
 
 v6_kept : (ours : Bool) (i : InnerValue) (places : Places) (link : Option EthernetRepr) (ip : IpRepr) (payload : List ℕ) (a : Arrived) →
-    ArrivesV6 ours i places link ip payload a → NamesNoPorts (carried_in ip) → with_ports a.places ≡ with_ports places
+    ArrivesV6 ours i places link ip payload a → NamesNoPorts (carried_in (upper_header ip payload)) → with_ports a.places ≡ with_ports places
 v6_kept true i places link ip payload a h bare =
     hands_kept (renewed i link ip) (packet_delivered ip payload places) ip payload (is_taken_raw ip places) a h bare ∙ packet_kept ip payload places
 v6_kept false i places link ip payload a h bare = ap with_ports h.places_are
@@ -179,13 +181,12 @@ nothing_of caps ip payload (Some (Datagram udp bytes)) is bare = let e = sym is.
 nothing_of caps ip payload (Some (Segment header bytes)) is bare = absurd (bare.1 header bytes is)
 nothing_of caps ip payload None is bare = refl
 
-known : (ip : IpRepr) → carried_in ip ≡ Protocol.Tcp → is_known ip ≡ true
-known (Ip.Ipv4 header) is = ap is_known_v4 is
-known (Ip.Ipv6 header) is = ap is_known_v6 is
-
 no_reply : (i : InnerValue) (places : Places) (ip : IpRepr) (payload : List ℕ) (taken : Bool) → carried_in ip ≡ Protocol.Tcp →
     handed_reply i places ip payload taken None ≡ None
-no_reply i places ip payload taken is = ap (λ b. if b || taken then None else protocol_unreachable i ip payload) (known ip is)
+no_reply i places (Ip.Ipv4 header) payload taken is =
+    ap (λ b. if b || taken then None else protocol_unreachable i header payload) (ap is_known_v4 is)
+no_reply i places (Ip.Ipv6 header) payload taken is =
+    ap (unread_v6 i header payload taken) (known_at_once header.next_header payload (ap is_known_v6 is))
 
 renewed_by_checksums : (i : InnerValue) (link : Option EthernetRepr) (sender : IpAddress) → (renewed_by i link sender).checksums ≡ i.checksums
 renewed_by_checksums i None sender = refl
@@ -204,7 +205,10 @@ LeavesPorts places a = (with_ports a.places ≡ with_ports places) × (a.reply �
 hands_damaged : (i : InnerValue) (places : Places) (ip : IpRepr) (payload : List ℕ) (taken : Bool) (a : Arrived) → Hands i places ip payload taken a →
     IsDamaged i.checksums ip payload → LeavesPorts places a
 hands_damaged i places ip payload taken a (carried, is, handed) bare =
-    let none = nothing_of i.checksums ip payload carried is bare in (
+    let straight = bare_where ip payload Protocol.Tcp bare.0 refl in
+    let P : IpRepr → Type 0 = λ h. IsCarriedContent i.checksums h (upper_payload ip payload) carried in
+    let Q : List ℕ → Type 0 = λ bytes. IsCarriedContent i.checksums ip bytes carried in
+    let none = nothing_of i.checksums ip payload carried (subst Q straight.1 (subst P straight.0 is)) bare in (
       ap with_ports handed.places_are ∙ ap (λ c. with_ports (handed_places i places ip c)) none,
       handed.reply ∙ ap (λ c. answered (handed_reply i places ip payload taken c)) none ∙ ap answered (no_reply i places ip payload taken bare.0),
     )

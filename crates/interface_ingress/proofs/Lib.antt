@@ -1,3 +1,5 @@
+pub mod Bare
+pub mod Through
 pub mod One
 pub mod OneMessage
 pub mod Readers
@@ -5,6 +7,7 @@ pub mod OneContent
 pub mod FramesArrive
 pub mod Measured
 pub mod Hearing
+pub mod Taught
 pub mod AtPlace
 pub mod Segments
 pub mod Answering

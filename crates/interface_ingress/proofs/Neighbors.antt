@@ -2,6 +2,8 @@
 use Rattle.std.proofs.Common.{◌≡◌, Bool, true, false, if◌then◌else◌, List, refl, sym, ap, ◌∙◌, subst, inl, inr}
 use Rattle.std.specs.Prelude.{ℕ, Option, Some, None}
 use Rattle.ip_wire.specs.Ip.{carried_in}
+use Rattle.icmpv6.specs.Icmpv6 as Icmpv6
+use Rattle.ip_wire.specs.IpProtocol.{IpProtocol}
 use Rattle.ip_wire.specs.IpProtocol.TheVariants as Protocol
 use Rattle.ip_wire.specs.IpRepr.{IpRepr}
 use Rattle.ip_wire.specs.IpRepr.TheVariants as Ip
@@ -12,14 +14,15 @@ use Rattle.ip_wire.specs.TcpHeader.{TcpHeader}
 use Rattle.ip_wire.specs.declared.arp.repr.ArpRepr.{ArpRepr}
 use Rattle.ip_wire.specs.declared.ethernet.repr.EthernetRepr.{EthernetRepr}
 use Rattle.socket_base.specs.Packet.{PayloadValue, ControlV4, ControlV6, Bytes, Datagram, Segment}
-use Rattle.interface_ingress.specs.Carried.{IsCarriedContent}
 use Rattle.interface_ingress.specs.Incoming.{Arp, Ip4, Ip6}
-use Rattle.interface_ingress.specs.Arp.{counts, learned, arp_arrived}
+use Rattle.interface_ingress.specs.Arp.{teaches, learned, arp_arrived}
 use Rattle.interface_tables.specs.Inner.{InnerValue, context_of}
 use Rattle.interface_tables.specs.Neighbor.{CacheValue}
 use Rattle.interface_ingress.specs.Arrives.{Arrived, ArrivesV4, ArrivesV6, Brings, is_direct, sender_of, renewed, renewed_by}
 use Rattle.interface_ingress.specs.Delivered.{Places, drawn_if, packet_delivered, segment_draws}
-use Rattle.interface_ingress.specs.Handed.{handed_host, names_nobody, segment_host}
+use Rattle.interface_ingress.specs.Handed.{handed_host, message_host, names_nobody, segment_host}
+use Rattle.interface_ingress.specs.Heard.{neighbor_heard}
+use Rattle.interface_ingress.specs.Reassembled.{is_control_v6}
 use Rattle.interface_ingress.specs.Kept.{RenewsOnly, LearnsOnly}
 
 drawn_neighbors : (draws : Bool) (i : InnerValue) → (drawn_if draws i).neighbors ≡ i.neighbors
@@ -47,15 +50,30 @@ handed_v4 i places header (Some (Datagram udp bytes)) = refl
 handed_v4 i places header (Some (Segment tcp bytes)) = segment_neighbors i places (Ip.Ipv4 header) tcp bytes
 handed_v4 i places header None = refl
 
-handed_v6 : (i : InnerValue) (places : Places) (header : Ipv6Repr) (payload : List ℕ) (carried : Option PayloadValue) →
-    IsCarriedContent i.checksums (Ip.Ipv6 header) payload carried → IsOther (Ip.Ipv6 header) →
+-- neighbour messages count right behind the IPv6 header alone
+not_control : (protocol : IpProtocol) → (protocol ≡ Protocol.Icmpv6 → ⊥) → is_control_v6 protocol ≡ false
+not_control Protocol.Icmpv6 other = absurd (other refl)
+not_control protocol other = refl
+
+message_neighbors : (i : InnerValue) (header : Ipv6Repr) (message : Icmpv6.MessageValue) → IsOther (Ip.Ipv6 header) →
+    (message_host i header message).neighbors ≡ i.neighbors
+message_neighbors i header (Icmpv6.Ndisc message) other =
+    ap (λ b. (if b then (neighbor_heard i header message).inner else i).neighbors) (not_control header.next_header other)
+message_neighbors i header (Icmpv6.DstUnreachable reason about) other = refl
+message_neighbors i header (Icmpv6.PktTooBig mtu about) other = refl
+message_neighbors i header (Icmpv6.TimeExceeded reason about) other = refl
+message_neighbors i header (Icmpv6.ParamProblem reason pointer about) other = refl
+message_neighbors i header (Icmpv6.EchoRequest ident seq_no) other = refl
+message_neighbors i header (Icmpv6.EchoReply ident seq_no) other = refl
+
+handed_v6 : (i : InnerValue) (places : Places) (header : Ipv6Repr) (carried : Option PayloadValue) → IsOther (Ip.Ipv6 header) →
     (handed_host i places (Ip.Ipv6 header) carried).neighbors ≡ i.neighbors
-handed_v6 i places header payload (Some (ControlV4 message bytes)) is other = refl
-handed_v6 i places header payload (Some (ControlV6 message bytes)) is other = absurd (other is.protocol)
-handed_v6 i places header payload (Some (Bytes bytes)) is other = refl
-handed_v6 i places header payload (Some (Datagram udp bytes)) is other = refl
-handed_v6 i places header payload (Some (Segment tcp bytes)) is other = segment_neighbors i places (Ip.Ipv6 header) tcp bytes
-handed_v6 i places header payload None is other = refl
+handed_v6 i places header (Some (ControlV4 message bytes)) other = refl
+handed_v6 i places header (Some (ControlV6 message bytes)) other = message_neighbors i header message other
+handed_v6 i places header (Some (Bytes bytes)) other = refl
+handed_v6 i places header (Some (Datagram udp bytes)) other = refl
+handed_v6 i places header (Some (Segment tcp bytes)) other = segment_neighbors i places (Ip.Ipv6 header) tcp bytes
+handed_v6 i places header None other = refl
 
 unrenewed : (i : InnerValue) (link : Option EthernetRepr) (ip : IpRepr) (n : CacheValue) → n ≡ i.neighbors → RenewsOnly i link (sender_of ip) n
 unrenewed i None ip n same = same
@@ -91,7 +109,7 @@ v6_renews : (ours : Bool) (i : InnerValue) (places : Places) (link : Option Ethe
 v6_renews true i places link header payload a (carried, is, handed) other =
     renews_along i link (Ip.Ipv6 header) a.inner.neighbors
     (ap neighbors_in handed.inner ∙
-    handed_v6 (renewed i link (Ip.Ipv6 header)) (packet_delivered (Ip.Ipv6 header) payload places) header payload carried is other)
+    handed_v6 (renewed i link (Ip.Ipv6 header)) (packet_delivered (Ip.Ipv6 header) payload places) header carried other)
 v6_renews false i places link header payload a h other = unrenewed i link (Ip.Ipv6 header) a.inner.neighbors (ap neighbors_in h.inner)
 
 pub renews_v4 : (i : InnerValue) (places : Places) (link : Option EthernetRepr) (header : Ipv4Repr) (piece : Ipv4Piece) (payload : List ℕ) (a : Arrived) →
@@ -103,7 +121,7 @@ pub renews_v6 : (i : InnerValue) (places : Places) (link : Option EthernetRepr) 
 renews_v6 i places link header payload a h other = v6_renews _ i places link header payload a h other
 
 learns_at : (i : InnerValue) (packet : ArpRepr) → LearnsOnly i packet (arp_arrived i packet)
-learns_at i packet = elim (counts i packet) as (λ b. LearnsOnly i packet (if b then learned i packet else i)) [ true ↦ inr refl | false ↦ inl refl ]
+learns_at i packet = elim (teaches i packet) as (λ b. LearnsOnly i packet (if b then learned i packet else i)) [ true ↦ inr refl | false ↦ inl refl ]
 
 pub learns : (i : InnerValue) (places : Places) (link : EthernetRepr) (packet : ArpRepr) (a : Arrived) → Brings i places (Some (Arp link packet)) a →
     LearnsOnly i packet a.inner

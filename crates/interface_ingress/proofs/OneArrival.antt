@@ -13,6 +13,7 @@ use Rattle.interface_ingress.specs.Arrives.{whole_after}
 use Rattle.interface_ingress.specs.Delivered.{Places, packet_delivered, is_taken_raw}
 use Rattle.interface_ingress.specs.Handed.{handed_host, handed_places, handed_reply}
 use Rattle.interface_ingress.specs.Reassembled.{Slots, taken_in}
+use Rattle.interface_ingress.specs.Upper.{upper_header, upper_payload}
 
 same_arrived : (a b : Arrived) → a.inner ≡ b.inner → a.places ≡ b.places → a.reply ≡ b.reply → a ≡ b
 same_arrived a b hosts sockets replies = λ k. record { inner = hosts k; places = sockets k; reply = replies k }
@@ -28,7 +29,7 @@ one_handed i places ip payload taken c d a b same one other =
 one_hands : (i : InnerValue) (places : Places) (ip : IpRepr) (payload : List ℕ) (taken : Bool) (a b : Arrived) → Hands i places ip payload taken a →
     Hands i places ip payload taken b → a ≡ b
 one_hands i places ip payload taken a b (c, is, one) (d, is', other) =
-    one_handed i places ip payload taken c d a b (one-carried-content i.checksums ip payload c d is is') one other
+    one_handed i places ip payload taken c d a b (one-carried-content i.checksums (upper_header ip payload) (upper_payload ip payload) c d is is') one other
 
 one_silent : (i : InnerValue) (places : Places) (a b : Arrived) → IsSilent i places a → IsSilent i places b → a ≡ b
 one_silent i places a b one other = same_arrived a b (one.inner ∙ sym other.inner) (one.places_are ∙ sym other.places_are) (one.reply ∙ sym other.reply)

@@ -15,12 +15,13 @@ use Rattle.socket_base.specs.Packet.{PayloadValue, ControlV4, ControlV6, Bytes, 
 use Rattle.interface_ingress.specs.Heard.{neighbor_heard, with_entries_of}
 use Rattle.interface_ingress.proofs.Hearing.{entries-alone}
 use Rattle.interface_ingress.specs.Incoming.{IncomingValue, Arp, Ip4, Ip6}
-use Rattle.interface_ingress.specs.Arp.{counts, learned, arp_arrived}
+use Rattle.interface_ingress.specs.Arp.{teaches, learned, arp_arrived}
 use Rattle.interface_tables.specs.Inner.{InnerValue, context_of}
 use Rattle.interface_ingress.specs.Arrives.{Arrived, ArrivesV4, ArrivesV6, Brings, Hands, is_direct, sender_of, renewed, renewed_by}
 use Rattle.interface_ingress.specs.Delivered.{Places, drawn_if, packet_delivered, is_taken_raw, segment_draws}
 use Rattle.interface_ingress.specs.Handed.{handed_host, message_host, names_nobody, segment_host}
 use Rattle.interface_ingress.specs.Kept.{HasSameSettings}
+use Rattle.interface_ingress.specs.Reassembled.{is_control_v6}
 
 same_itself : (i : InnerValue) → HasSameSettings i i
 same_itself i = record {
@@ -29,6 +30,7 @@ same_itself i = record {
   mtu = refl;
   checksums = refl;
   addresses = refl;
+  isn_key = refl;
   any_ip = refl;
   routes = refl;
   silent = refl;
@@ -44,6 +46,7 @@ same_then i j k first second = record {
   mtu = second.mtu ∙ first.mtu;
   checksums = second.checksums ∙ first.checksums;
   addresses = second.addresses ∙ first.addresses;
+  isn_key = second.isn_key ∙ first.isn_key;
   any_ip = second.any_ip ∙ first.any_ip;
   routes = second.routes ∙ first.routes;
   silent = second.silent ∙ first.silent;
@@ -63,6 +66,7 @@ same_renewed_by i (Some link) sender =
       mtu = refl;
       checksums = refl;
       addresses = refl;
+      isn_key = refl;
       any_ip = refl;
       routes = refl;
       silent = refl;
@@ -85,6 +89,7 @@ same_drawn true i = record {
   mtu = refl;
   checksums = refl;
   addresses = refl;
+  isn_key = refl;
   any_ip = refl;
   routes = refl;
   silent =
@@ -111,6 +116,7 @@ same_heard i header message =
       mtu = refl;
       checksums = refl;
       addresses = refl;
+      isn_key = refl;
       any_ip = refl;
       routes = refl;
       silent = refl;
@@ -126,7 +132,11 @@ same_message i header (Icmpv6.TimeExceeded reason about) = same_itself i
 same_message i header (Icmpv6.ParamProblem reason pointer about) = same_itself i
 same_message i header (Icmpv6.EchoRequest ident seq_no) = same_itself i
 same_message i header (Icmpv6.EchoReply ident seq_no) = same_itself i
-same_message i header (Icmpv6.Ndisc message) = same_heard i header message
+same_message i header (Icmpv6.Ndisc message) =
+    elim (is_control_v6 header.next_header) as (λ b. HasSameSettings i (if b then (neighbor_heard i header message).inner else i)) [
+      | true ↦ same_heard i header message
+      | false ↦ same_itself i
+    ]
 
 same_handed : (i : InnerValue) (places : Places) (ip : IpRepr) (carried : Option PayloadValue) → HasSameSettings i (handed_host i places ip carried)
 same_handed i places ip (Some (ControlV4 message bytes)) = same_itself i
@@ -162,6 +172,7 @@ same_learned i (Arps.EthernetIpv4 operation source_hardware source target_hardwa
       mtu = refl;
       checksums = refl;
       addresses = refl;
+      isn_key = refl;
       any_ip = refl;
       routes = refl;
       silent = refl;
@@ -172,7 +183,7 @@ same_learned i (Arps.EthernetIpv4 operation source_hardware source target_hardwa
 
 same_arp : (i : InnerValue) (packet : ArpRepr) → HasSameSettings i (arp_arrived i packet)
 same_arp i packet =
-    elim (counts i packet) as (λ b. HasSameSettings i (if b then learned i packet else i)) [ true ↦ same_learned i packet | false ↦ same_itself i ]
+    elim (teaches i packet) as (λ b. HasSameSettings i (if b then learned i packet else i)) [ true ↦ same_learned i packet | false ↦ same_itself i ]
 
 pub brings_same : (i : InnerValue) (places : Places) (content : Option IncomingValue) (a : Arrived) → Brings i places content a → HasSameSettings i a.inner
 brings_same i places None a h = same_at i i a.inner h.inner (same_itself i)

@@ -35,7 +35,7 @@ data_of_v6 payload bytes (Icmpv6.EchoReply ident seq_no) is = omega (arith, ap l
 data_of_v6 payload bytes (Icmpv6.Ndisc message) is = omega (arith, ap length is)
 
 pub fits_back : (caps : ChecksumCapabilities) (ip : IpRepr) (payload : List ℕ) (carried : Option PayloadValue) → IsCarriedContent caps ip payload carried →
-    Fits ip → length payload ≡ payload_len_of ip → FitsBack carried
+    Fits ip → length payload ≤ payload_len_of ip → FitsBack carried
 fits_back caps (Ip.Ipv4 header) payload (Some (ControlV4 m bytes)) is fits len =
     let short = data_of_says payload bytes m is.format.says in omega (arith, is.format.whole, fits, len)
 fits_back caps (Ip.Ipv6 header) payload (Some (ControlV4 m bytes)) is fits len = absurd is

@@ -8,6 +8,8 @@ use Rattle.ip_wire.specs.Ip.{destination_of}
 use Rattle.ip_wire.specs.IpAddress.TheVariants as Address
 use Rattle.ip_wire.specs.Ipv4Repr.{Ipv4Repr}
 use Rattle.ip_wire.specs.Ipv6Repr.{Ipv6Repr}
+use Rattle.ipv6_headers.specs.declared.headers.Problem.{Problem}
+use Rattle.ipv6_headers.specs.declared.headers.Problem.TheVariants as Told
 use Rattle.socket_base.specs.Packet.{PacketValue, ControlV4, ControlV6}
 use Rattle.interface_ingress.specs.Replies.{is_one_host}
 use Rattle.interface_tables.specs.Inner.{InnerValue}
@@ -33,3 +35,8 @@ IsBetweenV4 i header = IsTrue (is_one_host i header.src_addr) × IsTrue (is_one_
 
 abbrev pub IsBetweenV6 : Ipv6Repr → Type 0
 IsBetweenV6 header = IsTrue (is_unicast_v6 header.src_addr) × IsTrue (is_unicast_v6 header.dst_addr)
+
+-- of this problem of a packet with this header may be told: the packet goes from one host to one, or an option asks that any is told
+abbrev pub IsToldOf : Problem → Ipv6Repr → Type 0
+IsToldOf Told.OptionToAny header = IsTrue (is_unicast_v6 header.src_addr)
+IsToldOf problem header = IsBetweenV6 header

@@ -10,6 +10,7 @@ use Rattle.ip_wire.specs.IpRepr.TheVariants as Ip
 use Rattle.ip_wire.specs.declared.arp.repr.ArpRepr.{ArpRepr}
 use Rattle.socket_base.specs.Packet.{PacketValue, PayloadValue, IsSendable, packet_value}
 use Rattle.interface_ingress.specs.Carried.{IsCarriedContent}
+use Rattle.interface_ingress.specs.Upper.{upper_header, upper_payload}
 use Rattle.interface_ingress.specs.Incoming.{IncomingValue, Arp, Ip4, Ip6, IsContent}
 use Rattle.interface_ingress.specs.Arp.{arp_arrived, arp_answer}
 use Rattle.interface_ingress.specs.Replies.{is_one_host}
@@ -65,9 +66,14 @@ pub record IsHanded (i : InnerValue) (places : Places) (ip : IpRepr) (payload : 
   pub places_are : a.places ≡ handed_places i places ip carried
   pub reply : a.reply ≡ answered (handed_reply i places ip payload taken carried)
 
+-- a packet of which these bytes behind this header count
+abbrev pub HandsUpper : InnerValue → Places → IpRepr → List ℕ → Bool → IpRepr → List ℕ → Arrived → Type 0
+HandsUpper i places ip payload taken upper bytes a =
+    (carried : Option PayloadValue) × IsCarriedContent i.checksums upper bytes carried × IsHanded i places ip payload taken carried a
+
+-- what counts stands behind its extension headers
 abbrev pub Hands : InnerValue → Places → IpRepr → List ℕ → Bool → Arrived → Type 0
-Hands i places ip payload taken a =
-    (carried : Option PayloadValue) × IsCarriedContent i.checksums ip payload carried × IsHanded i places ip payload taken carried a
+Hands i places ip payload taken a = HandsUpper i places ip payload taken (upper_header ip payload) (upper_payload ip payload) a
 
 -- nothing is answered
 pub record IsSilent (i : InnerValue) (places : Places) (a : Arrived) : Type 0 where

@@ -1,6 +1,6 @@
 -- What a packet for the host carries, given to sockets and tables, and what is answered at once (RFC 1122, sections 3.2.2, 4.1.3.1
 -- and 4.2.3.9; RFC 4443; RFC 9293, section 3.10.7.1).
-use Rattle.std.specs.Prelude.{ℕ, ◌+◌, ◌<◌, ◌^◌, ◌||◌, Bool, true, false, if◌then◌else◌, List, length, Option, None, Some, is_some}
+use Rattle.std.specs.Prelude.{ℕ, ◌+◌, ◌<◌, ◌^◌, ◌||◌, ◌&&◌, Bool, true, false, if◌then◌else◌, List, length, Option, None, Some, is_some}
 use Rattle.icmpv4.specs.declared.header.Icmpv4Header.{Icmpv4Header}
 use Rattle.icmpv6.specs.Icmpv6 as Icmpv6
 use Rattle.icmpv6.specs.Icmpv6.{MessageValue}
@@ -14,9 +14,15 @@ use Rattle.ip_wire.specs.IpRepr.TheVariants as Ip
 use Rattle.ip_wire.specs.Ipv6Repr.{Ipv6Repr}
 use Rattle.ip_wire.specs.TcpHeader.{TcpHeader}
 use Rattle.ip_wire.specs.UdpRepr.{UdpRepr}
+use Rattle.ipv6_headers.specs.Headers.{go_through, carries_error}
+use Rattle.ipv6_headers.specs.declared.headers.Behind.{Behind}
+use Rattle.ipv6_headers.specs.declared.headers.Behind.TheVariants as End
+use Rattle.ipv6_headers.specs.declared.headers.Problem.{Problem}
+use Rattle.ipv6_headers.specs.declared.headers.Problem.TheVariants as Told
 use Rattle.socket_base.specs.Packet.{PacketValue, PayloadValue, ControlV4, ControlV6, Bytes, Datagram, Segment}
 use Rattle.interface_ingress.specs.Heard.{neighbor_heard}
-use Rattle.interface_ingress.specs.Replies.{echo_v4, echo_v6, port_unreachable, protocol_unreachable}
+use Rattle.interface_ingress.specs.Reassembled.{is_control_v6}
+use Rattle.interface_ingress.specs.Replies.{echo_v4, echo_v6, port_unreachable, protocol_unreachable, parameter_problem}
 use Rattle.interface_tables.specs.Inner.{InnerValue, context_of, is_local_broadcast}
 use Rattle.interface_ingress.specs.Delivered.{Places, icmpv4_delivered, icmpv6_delivered, datagram_place, datagram_delivered, segment_answer, segment_delivered}
 use Rattle.interface_ingress.specs.Delivered.{segment_draws, drawn_if}
@@ -35,13 +41,13 @@ abbrev pub control_v6_places : IpRepr → MessageValue → List ℕ → Places �
 control_v6_places (Ip.Ipv4 header) message bytes places = places
 control_v6_places (Ip.Ipv6 header) message bytes places = icmpv6_delivered header message bytes places
 
--- a neighbour message tells of its sender, and may be answered
+-- A neighbour message tells of its sender, and may be answered. It stands right behind the IPv6 header (RFC 6980 for fragment headers).
 abbrev pub message_host : InnerValue → Ipv6Repr → MessageValue → InnerValue
-message_host i header (Icmpv6.Ndisc message) = (neighbor_heard i header message).inner
+message_host i header (Icmpv6.Ndisc message) = if is_control_v6 header.next_header then (neighbor_heard i header message).inner else i
 message_host i header message = i
 
 abbrev pub message_reply : InnerValue → Ipv6Repr → MessageValue → List ℕ → Option PacketValue
-message_reply i header (Icmpv6.Ndisc message) bytes = (neighbor_heard i header message).reply
+message_reply i header (Icmpv6.Ndisc message) bytes = if is_control_v6 header.next_header then (neighbor_heard i header message).reply else None
 message_reply i header message bytes = echo_v6 i header message bytes
 
 abbrev pub control_v6_host : InnerValue → IpRepr → MessageValue → InnerValue
@@ -95,14 +101,26 @@ is_known_v6 Protocol.Udp = true
 is_known_v6 Protocol.Tcp = true
 is_known_v6 protocol = false
 
--- the host knows what is behind the header
-abbrev pub is_known : IpRepr → Bool
-is_known (Ip.Ipv4 header) = is_known_v4 header.next_header
-is_known (Ip.Ipv6 header) = is_known_v6 header.next_header
+-- such a protocol stands right behind the header
+abbrev pub is_bare : IpRepr → Bool
+is_bare (Ip.Ipv4 header) = true
+is_bare (Ip.Ipv6 header) = is_known_v6 header.next_header
+
+abbrev pub is_unknown : Problem → Bool
+is_unknown Told.NextHeader = true
+is_unknown problem = false
+
+-- The source of an IPv6 packet is told what is wrong with its extension headers, unless a raw socket took what isn't known, or an
+-- error stands behind them.
+abbrev pub unread_v6 : InnerValue → Ipv6Repr → List ℕ → Bool → Behind → Option PacketValue
+unread_v6 i header payload taken (End.Problem problem pointer) =
+    if (is_unknown problem && taken) || carries_error header.next_header payload then None else parameter_problem i header payload problem pointer
+unread_v6 i header payload taken end = None
 
 -- what isn't known, and what no raw socket took, is answered by an error; what is known and can't be read is dropped
 abbrev pub unread_reply : InnerValue → IpRepr → List ℕ → Bool → Option PacketValue
-unread_reply i ip payload taken = if is_known ip || taken then None else protocol_unreachable i ip payload
+unread_reply i (Ip.Ipv4 header) payload taken = if is_known_v4 header.next_header || taken then None else protocol_unreachable i header payload
+unread_reply i (Ip.Ipv6 header) payload taken = unread_v6 i header payload taken (go_through header.next_header payload)
 
 -- ALL. `taken` says that a raw socket took the packet.
 

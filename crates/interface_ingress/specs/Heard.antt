@@ -3,7 +3,7 @@ use Rattle.std.specs.Prelude.{ℕ, ◌==◌, ◌&&◌, ◌||◌, not, Bool, true
 use Rattle.icmpv6.specs.Icmpv6 as Icmpv6
 use Rattle.icmpv6.specs.Ndisc.{NeighborMessage, Solicitation, Advertisement}
 use Rattle.icmpv6.specs.declared.ndisc_flags.NdiscNeighborFlags.{NdiscNeighborFlags}
-use Rattle.ip_wire.specs.AddressTests.{is_ethernet_unicast, is_unicast_v6, is_unspecified_v6}
+use Rattle.ip_wire.specs.AddressTests.{is_ethernet_unicast, is_unicast_v6, is_multicast_v6, is_unspecified_v6}
 use Rattle.ip_wire.specs.EthernetAddress.{EthernetAddress}
 use Rattle.ip_wire.specs.HardwareAddress.{HardwareAddress}
 use Rattle.ip_wire.specs.HardwareAddress.TheVariants as Hardware
@@ -14,7 +14,7 @@ use Rattle.ip_wire.specs.Ipv6Address.{Ipv6Address}
 use Rattle.ip_wire.specs.Ipv6Repr.{Ipv6Repr}
 use Rattle.socket_base.specs.Packet.{PacketValue, ControlV6, packet_of}
 use Rattle.interface_tables.specs.Inner.{InnerValue, is_own, is_own_solicited_node, is_probed, with_neighbor}
-use Rattle.interface_tables.specs.Neighbor.{lookup, is_found}
+use Rattle.interface_ingress.specs.Acquaintance.{knows, seeks}
 
 -- the host after a message, and what it answers
 pub record Heard : Type 0 where
@@ -35,37 +35,33 @@ abbrev pub is_one_station : Option (List ℕ) → Bool
 is_one_station None = true
 is_one_station (Some link) = length link == 6 && is_ethernet_unicast (station link)
 
--- the target beside a link address is one host's; without a link address it isn't tested
-abbrev pub is_target : Ipv6Address → Option (List ℕ) → Bool
-is_target target None = true
-is_target target (Some link) = is_unicast_v6 target
-
 -- who has no address yet gives no link address for it
 abbrev pub is_sender_of : Ipv6Address → Option (List ℕ) → Bool
 is_sender_of source None = true
 is_sender_of source (Some link) = not (is_unspecified_v6 source)
 
--- no router passed the packet on, so that its sender is a neighbour (RFC 4861, section 3.1), and link address, target and sender
--- are sound
+-- no router passed the packet on, so that its sender is a neighbour (RFC 4861, section 3.1), its target is one host's, and link
+-- address and sender are sound
 abbrev pub counts : Ipv6Repr → Ipv6Address → Option (List ℕ) → Bool
 counts header target link =
-    header.hop_limit == 255 && is_one_station link && is_target target link && is_sender_of header.src_addr link
+    header.hop_limit == 255 && is_one_station link && is_unicast_v6 target && is_sender_of header.src_addr link
 
--- WHAT IS LEARNED: the link address of the packet's sender, if the message gives it
+-- an advertisement counts, which answers a solicitation only where it went to one host
+abbrev pub tells : Ipv6Repr → NdiscNeighborFlags → Ipv6Address → Option (List ℕ) → Bool
+tells header flags target link = counts header target link && not (flags.solicited && is_multicast_v6 header.dst_addr)
+
+-- WHAT IS LEARNED: a neighbour's link address, if the message gives it: of a solicitation's sender, of an advertisement's target
 
 abbrev pub learned : InnerValue → Ipv6Address → Option (List ℕ) → InnerValue
 learned i source None = i
 learned i source (Some link) = with_neighbor i (Address.Ipv6 source) (Hardware.Ethernet (station link))
 
-abbrev pub is_known : InnerValue → Ipv6Address → Bool
-is_known i source = is_found (lookup i.neighbors (Address.Ipv6 source) i.moment)
-
--- an advertisement replaces a known address where it says so
+-- an advertisement replaces a known address where it says so, and gives an unknown one only where the host asks for it
 abbrev pub replaces : InnerValue → NdiscNeighborFlags → Ipv6Address → Bool
-replaces i flags source = flags.overrides || not (is_known i source)
+replaces i flags target = if knows i (Address.Ipv6 target) then flags.overrides else seeks i (Address.Ipv6 target)
 
 abbrev pub advertised : InnerValue → NdiscNeighborFlags → Ipv6Address → Option (List ℕ) → InnerValue
-advertised i flags source link = if replaces i flags source then learned i source link else i
+advertised i flags target link = if replaces i flags target then learned i target link else i
 
 -- WHAT IS ANSWERED: a solicitation for an own address, sent to that or to an own address's solicited-node group; and one from
 -- who looks whether an own address is in use, sent to the address's solicited-node group
@@ -108,7 +104,7 @@ abbrev pub heard_at : EthernetAddress → InnerValue → Ipv6Repr → NeighborMe
 heard_at own i header (Solicitation target link) =
     if counts header target link then heard (learned i header.src_addr link) (answer own i header target) else heard i None
 heard_at own i header (Advertisement flags target link) =
-    if counts header target link then heard (advertised i flags header.src_addr link) None else heard i None
+    if tells header flags target link then heard (advertised i flags target link) None else heard i None
 
 abbrev pub heard_on : HardwareAddress → InnerValue → Ipv6Repr → NeighborMessage → Heard
 heard_on Hardware.Ip i header message = heard i None

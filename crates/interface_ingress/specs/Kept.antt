@@ -6,6 +6,7 @@ use Rattle.ip_wire.specs.IpProtocol.TheVariants as Protocol
 use Rattle.ip_wire.specs.HardwareAddress.TheVariants as Hardware
 use Rattle.ip_wire.specs.IpAddress.{IpAddress}
 use Rattle.ip_wire.specs.IpRepr.{IpRepr}
+use Rattle.ip_wire.specs.IpRepr.TheVariants as Ip
 use Rattle.ip_wire.specs.TcpHeader.{TcpHeader}
 use Rattle.ip_wire.specs.declared.arp.repr.ArpRepr.{ArpRepr}
 use Rattle.ip_wire.specs.declared.ethernet.repr.EthernetRepr.{EthernetRepr}
@@ -14,6 +15,7 @@ use Rattle.sockets.specs.declared.socket.Socket.{Socket}
 use Rattle.sockets.specs.declared.socket.Socket.TheVariants as Kind
 use Rattle.interface_ingress.specs.Carried.{IsSegment}
 use Rattle.interface_ingress.specs.Incoming.{IncomingValue, Arp, Ip4, Ip6}
+use Rattle.interface_ingress.specs.Upper.{upper_header}
 use Rattle.interface_egress.specs.declared.socket_set.Item.{Item}
 use Rattle.interface_egress.specs.declared.socket_set.SocketStorage.{SocketStorage}
 use Rattle.interface_ingress.specs.Arp.{learned}
@@ -47,11 +49,11 @@ with_ports places = map ports_in places
 abbrev pub NamesNoPorts : IpProtocol → Type 0
 NamesNoPorts protocol = (protocol ≡ Protocol.Tcp → ⊥) × (protocol ≡ Protocol.Udp → ⊥)
 
--- an ARP packet, or an IP packet, or a piece of one, that carries neither TCP nor UDP
+-- an ARP packet, or an IP packet, or a piece of one, that carries neither TCP nor UDP, behind extension headers either
 abbrev pub HasNoPorts : IncomingValue → Type 0
 HasNoPorts (Arp link packet) = Unit {0}
 HasNoPorts (Ip4 link header piece payload) = NamesNoPorts header.next_header
-HasNoPorts (Ip6 link header payload) = NamesNoPorts header.next_header
+HasNoPorts (Ip6 link header payload) = NamesNoPorts (carried_in (upper_header (Ip.Ipv6 header) payload))
 
 abbrev pub HaveNoPorts : Option IncomingValue → Type 0
 HaveNoPorts None = Unit {0}
@@ -71,6 +73,7 @@ pub record HasSameSettings (i i' : InnerValue) : Type 0 where
   pub mtu : i'.mtu ≡ i.mtu
   pub checksums : i'.checksums ≡ i.checksums
   pub addresses : i'.addresses ≡ i.addresses
+  pub isn_key : i'.isn_key ≡ i.isn_key
   pub any_ip : i'.any_ip ≡ i.any_ip
   pub routes : i'.routes ≡ i.routes
   pub silent : i'.neighbors.silent ≡ i.neighbors.silent

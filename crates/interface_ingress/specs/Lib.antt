@@ -1,8 +1,11 @@
 pub mod Incoming
 pub mod Carried
+pub mod Upper
 pub mod Read
 pub mod Sent
+pub mod Acquaintance
 pub mod Heard
+pub mod Taught
 pub mod Arp
 pub mod Replies
 pub mod Answering
@@ -31,3 +34,6 @@ pub use Rattle.interface_tables.specs.Pieces
 pub use Rattle.interface_tables.specs.declared.link.LinkAddress
 pub use Rattle.interface_tables.specs.declared.neighbor.Answer
 pub use Rattle.interface_tables.specs.Route
+pub use Rattle.ipv6_headers.specs.Headers
+pub use Rattle.ipv6_headers.specs.declared.headers.Behind
+pub use Rattle.ipv6_headers.specs.declared.headers.Problem

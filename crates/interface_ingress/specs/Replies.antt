@@ -7,6 +7,7 @@ use Rattle.icmpv4.specs.declared.message.Icmpv4DstUnreachable.{Icmpv4DstUnreacha
 use Rattle.icmpv4.specs.declared.message.Icmpv4DstUnreachable.TheVariants as V4Reason
 use Rattle.icmpv6.specs.Icmpv6 as Icmpv6
 use Rattle.icmpv6.specs.declared.reason.Icmpv6DstUnreachable.TheVariants as V6Reason
+use Rattle.icmpv6.specs.declared.reason.Icmpv6ParamProblem.{Icmpv6ParamProblem}
 use Rattle.icmpv6.specs.declared.reason.Icmpv6ParamProblem.TheVariants as V6Problem
 use Rattle.ip_wire.specs.AddressTests.{is_unicast_v4, is_unicast_v6}
 use Rattle.ip_wire.specs.IpAddress.TheVariants as Address
@@ -17,6 +18,8 @@ use Rattle.ip_wire.specs.Ipv4Address.{Ipv4Address}
 use Rattle.ip_wire.specs.Ipv4Repr.{Ipv4Repr}
 use Rattle.ip_wire.specs.Ipv6Address.{Ipv6Address}
 use Rattle.ip_wire.specs.Ipv6Repr.{Ipv6Repr}
+use Rattle.ipv6_headers.specs.declared.headers.Problem.{Problem}
+use Rattle.ipv6_headers.specs.declared.headers.Problem.TheVariants as Told
 use Rattle.socket_base.specs.Packet.{PacketValue, PayloadValue, ControlV4, ControlV6, packet_of, payload_len}
 use Rattle.interface_tables.specs.Inner.{InnerValue, is_local_broadcast}
 use Rattle.interface_tables.specs.Source.{first_v4, source_v6}
@@ -112,8 +115,24 @@ abbrev pub port_unreachable : InnerValue → IpRepr → List ℕ → Option Pack
 port_unreachable i (Ip.Ipv4 header) payload = error_v4 i header V4Reason.PortUnreachable payload
 port_unreachable i (Ip.Ipv6 header) payload = error_v6 i header (Icmpv6.DstUnreachable V6Reason.PortUnreachable header) (quoted_v6 payload)
 
--- the host knows no such protocol: over IPv6 the problem lies behind the header
-abbrev pub protocol_unreachable : InnerValue → IpRepr → List ℕ → Option PacketValue
-protocol_unreachable i (Ip.Ipv4 header) payload = error_v4 i header V4Reason.ProtoUnreachable payload
-protocol_unreachable i (Ip.Ipv6 header) payload =
-    error_v6 i header (Icmpv6.ParamProblem V6Problem.UnrecognizedNxtHdr 40 header) (quoted_v6 payload)
+-- the host knows no such protocol
+abbrev pub protocol_unreachable : InnerValue → Ipv4Repr → List ℕ → Option PacketValue
+protocol_unreachable i header payload = error_v4 i header V4Reason.ProtoUnreachable payload
+
+-- EXTENSION HEADERS of IPv6 that aren't gone through (RFC 8200, sections 4.2 and 4.4; RFC 4443, section 3.4)
+
+abbrev pub reason_of : Problem → Icmpv6ParamProblem
+reason_of Told.Field = V6Problem.ErroneousHdrField
+reason_of Told.NextHeader = V6Problem.UnrecognizedNxtHdr
+reason_of Told.Option = V6Problem.UnrecognizedOption
+reason_of Told.OptionToAny = V6Problem.UnrecognizedOption
+
+-- an option may ask that the source is told also where the packet is for a group
+abbrev pub is_told : Problem → Ipv6Repr → Bool
+is_told Told.OptionToAny header = is_unicast_v6 header.src_addr
+is_told problem header = is_between_hosts header
+
+-- the place is one of the packet, which is quoted as it came
+abbrev pub parameter_problem : InnerValue → Ipv6Repr → List ℕ → Problem → (pointer : ℕ) → Option PacketValue
+parameter_problem i header payload problem pointer =
+    if is_told problem header then Some (reply_v6 i header (Icmpv6.ParamProblem (reason_of problem) pointer header) (quoted_v6 payload)) else None

@@ -1,13 +1,22 @@
 //! What follows from the definitions of neighbour messages that are heard.
-ghost use Rattle.std.specs.Prelude.{◌≡◌, ◌≢◌, IsTrue, Some, None};
-ghost use Rattle.icmpv6.specs.Ndisc.{NeighborMessage};
+ghost use Rattle.std.specs.Prelude.{◌≡◌, ◌≢◌, ℕ, IsTrue, true, List, Option, Some, None};
+ghost use Rattle.icmpv6.specs.Ndisc.{NeighborMessage, Advertisement};
+ghost use Rattle.icmpv6.specs.declared.ndisc_flags.NdiscNeighborFlags.{NdiscNeighborFlags};
+ghost use Rattle.ip_wire.specs.AddressTests.{is_unspecified_v4};
+ghost use Rattle.ip_wire.specs.EthernetAddress.{EthernetAddress};
 ghost use Rattle.ip_wire.specs.HardwareAddress.TheVariants as Hardware;
 ghost use Rattle.ip_wire.specs.Ip.{source_of, destination_of, hops_in};
 ghost use Rattle.ip_wire.specs.IpAddress.TheVariants as Address;
+ghost use Rattle.ip_wire.specs.Ipv4Address.{Ipv4Address};
+ghost use Rattle.ip_wire.specs.Ipv6Address.{Ipv6Address};
 ghost use Rattle.ip_wire.specs.Ipv6Repr.{Ipv6Repr};
+ghost use Rattle.ip_wire.specs.declared.arp.kinds.ArpOperation.{ArpOperation};
+ghost use Rattle.ip_wire.specs.declared.arp.repr.ArpRepr.TheVariants as Arp;
 ghost use Rattle.sockets.specs.Packet.{PacketValue};
 ghost use Rattle.interface_egress.specs.Inner.{InnerValue, is_own};
+ghost use Rattle.interface_ingress.specs.Arp.{arp_arrived};
 ghost use Rattle.interface_ingress.specs.Heard.{neighbor_heard, heard, told_at, with_entries_of};
+ghost use Rattle.interface_ingress.specs.Taught.{TellsOf};
 
 /// Law: a neighbour message changes the entries of neighbours, and whom the host looks for, alone: settings, identification and
 /// the time in which no neighbour is asked for stay as they were.
@@ -35,4 +44,18 @@ pub fn answers_the_sender()
         → (destination_of p.header ≡ Address.Ipv6 (told_at header.src_addr))
         × IsTrue (is_own i (source_of p.header))
         × (hops_in p.header ≡ 255) }
+{}
+
+/// Law: an advertisement tells of its target alone: it leaves the host as it was, or the target's link address is kept, which the
+/// host asked for, or knew another of that is to be replaced (RFC 4861, section 7.2.5).
+pub fn advertisements_tell_of_targets()
+    ensures { (i : InnerValue) (header : Ipv6Repr) (flags : NdiscNeighborFlags) (target : Ipv6Address) (link : Option (List ℕ))
+        → TellsOf i flags target link (neighbor_heard i header (Advertisement flags target link)).inner }
+{}
+
+/// Law: an ARP packet from 0.0.0.0, by which a station looks whether an address is in use, leaves the host as it was (RFC 5227).
+pub fn probes_teach_nothing()
+    ensures { (i : InnerValue) (operation : ArpOperation) (station other : EthernetAddress) (source target : Ipv4Address)
+        → is_unspecified_v4 source ≡ true
+        → arp_arrived i (Arp.EthernetIpv4 operation station source other target) ≡ i }
 {}

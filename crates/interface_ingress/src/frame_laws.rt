@@ -15,6 +15,7 @@ ghost use Rattle.ip_wire.specs.Ipv4Repr.{Ipv4Repr};
 ghost use Rattle.sockets.specs.Packet.{PacketValue, PayloadValue, PayloadFits, IsSendable, payload_written};
 ghost use Rattle.interface_ingress.specs.Incoming.{IncomingValue, Arp, Ip4, IsContent, IsIncoming, IsMeasured};
 ghost use Rattle.interface_ingress.specs.Carried.{IsCarried, IsCarriedContent};
+ghost use Rattle.interface_ingress.specs.Upper.{IsBrought};
 ghost use Rattle.interface_ingress.specs.Sent.{framed, CanFrame, ether_for, AreSealed, uncut, CanBeRead, normal_payload};
 ghost use Rattle.ip_wire.specs.Fields.{IsBytes};
 
@@ -80,7 +81,7 @@ pub fn payloads_arrive()
         → IsCarriedContent receiver (Ips.normal header) (payload_written sender header v) (Some (normal_payload v)) }
 {}
 
-/// Law: a packet that can be sent is read in its frame, and what it carries behind its header,
+/// Law: a packet that can be sent is read in its frame, and what it carries behind its headers,
 /// whatever padding follows: no byte of the padding is in either.
 pub fn packets_arrive()
     ensures { (hardware : HardwareAddress) (sender receiver : ChecksumCapabilities) (link : Option EthernetRepr) (p : PacketValue) (padding : List ℕ)
@@ -92,5 +93,5 @@ pub fn packets_arrive()
         → IsContent hardware receiver
         (framed link (Ips.written (computes sender.ipv4) p.header ++ payload_written sender p.header p.payload) ++ padding)
         (Some (uncut link (Ips.normal p.header) (payload_written sender p.header p.payload)))
-        × IsCarriedContent receiver (Ips.normal p.header) (payload_written sender p.header p.payload) (Some (normal_payload p.payload)) }
+        × IsBrought receiver (Ips.normal p.header) (payload_written sender p.header p.payload) (Some (normal_payload p.payload)) }
 {}

@@ -1,5 +1,5 @@
 //! What a packet for the host carries, given to sockets and tables.
-ghost use Rattle.std.specs.Prelude.{◌≡◌, ◌≢◌, ◌+◌, ◌<◌, ◌^◌, length, None, IfSome};
+ghost use Rattle.std.specs.Prelude.{◌≡◌, ◌≢◌, ◌+◌, ◌<◌, ◌≤◌, ◌^◌, length, None, IsTrue, IfSome};
 ghost use Rattle.ip_wire.specs.Ip.{Fits, payload_len_of, carried_in};
 ghost use Rattle.ip_wire.specs.IpProtocol.TheVariants as Protocol;
 ghost use Rattle.ip_wire.specs.Tcp as Tcp;
@@ -12,18 +12,25 @@ ghost use Rattle.interface_egress.specs.Inner.{context_of};
 ghost use Rattle.interface_ingress.specs.Delivered.{datagram_delivered};
 ghost use Rattle.interface_ingress.specs.Handed.{control_v4_places, control_v4_reply, message_host, message_reply, control_v6_host, control_v6_places};
 ghost use Rattle.interface_ingress.specs.Handed.{control_v6_reply, is_for_many, names_nobody, datagram_reply, segment_host, segment_places, segment_reply};
-ghost use Rattle.interface_ingress.specs.Handed.{is_known, unread_reply, handed_host, handed_places, handed_reply, FitsBack};
-ghost use Rattle.interface_ingress.specs.Arrives.{Hands, IfCanGo, answered, arrived, reply_of};
+ghost use Rattle.interface_ingress.specs.Handed.{is_known_v4, is_known_v6, is_unknown, is_bare, unread_v6, unread_reply, handed_host, handed_places, handed_reply, FitsBack};
+ghost use Rattle.ipv6_headers.specs.Headers.{StopsWithin, upper_of, upper_bytes_of};
+ghost use Rattle.ip_wire.specs.IpRepr.TheVariants as Ip;
+ghost use Rattle.ip_wire.specs.Ipv6 as Ipv6;
+ghost use Rattle.interface_ingress.specs.Arrives.{Hands, HandsUpper, IfCanGo, answered, arrived, reply_of};
 
 use crate::carried::{ReadDatagram, read_payload, read_tcp, read_udp};
 use crate::deliver::{deliver_datagram, deliver_icmpv4, deliver_icmpv6, deliver_segment};
 use crate::heard::hear;
-use crate::icmp_reply::{echo_ipv4, echo_ipv6, port_unreachable, protocol_unreachable};
+use crate::icmp_reply::{
+    echo_ipv4, echo_ipv6, parameter_problem, port_unreachable, protocol_unreachable,
+};
+use crate::reassemble::is_control;
 use crate::reply::{Reply, packet_reply};
 use icmpv4::Icmpv4Repr;
 use icmpv6::Icmpv6Repr;
 use interface_egress::{InterfaceInner, SocketStorage};
 use ip_wire::{IpAddress, IpProtocol, IpRepr, Ipv6Repr, TcpRepr};
+use ipv6_headers::{Behind, Problem, carries_error, go_through};
 use sockets::addresses::{is_multicast, is_unspecified};
 use sockets::{Context, IpPayload, Packet, Socket};
 
@@ -46,7 +53,7 @@ fn hand_icmpv4<'a>(
     echo_ipv4(inner, header, message)
 }
 
-/// Learns from a neighbour message, and answers it and an echo request.
+/// Learns from a neighbour message right behind the IPv6 header, and answers it and an echo request.
 fn answer_icmpv6<'a>(
     inner: &mut InterfaceInner,
     header: &Ipv6Repr,
@@ -58,7 +65,13 @@ fn answer_icmpv6<'a>(
     ensures sendable { IfSome (option_value result) IsSendable }
 {
     match message {
-        Icmpv6Repr::Ndisc(message) => hear(inner, header, message),
+        Icmpv6Repr::Ndisc(message) => {
+            if is_control(header.next_header) {
+                hear(inner, header, message)
+            } else {
+                None
+            }
+        }
         _ => echo_ipv6(inner, header, message),
     }
 }
@@ -101,19 +114,58 @@ fn names_nobody(inner: &InterfaceInner, header: &IpRepr) -> bool
         || is_for_many(inner, &destination)
 }
 
-/// Whether the host knows what is behind the header.
-fn is_known(header: &IpRepr) -> bool
-    ensures { result ≡ is_known header.now }
+/// Whether the host knows what an IPv4 header names.
+fn is_known_v4(protocol: IpProtocol) -> bool
+    ensures { result ≡ is_known_v4 protocol }
 {
-    match header {
-        IpRepr::Ipv4(header) => match header.next_header {
-            IpProtocol::Icmp | IpProtocol::Udp | IpProtocol::Tcp => true,
-            _ => false,
-        },
-        IpRepr::Ipv6(header) => match header.next_header {
-            IpProtocol::Icmpv6 | IpProtocol::Udp | IpProtocol::Tcp => true,
-            _ => false,
-        },
+    match protocol {
+        IpProtocol::Icmp | IpProtocol::Udp | IpProtocol::Tcp => true,
+        _ => false,
+    }
+}
+
+/// Whether the host knows what an IPv6 header names, and it is no extension header.
+fn is_known_v6(protocol: IpProtocol) -> bool
+    ensures { result ≡ is_known_v6 protocol }
+{
+    match protocol {
+        IpProtocol::Icmpv6 | IpProtocol::Udp | IpProtocol::Tcp => true,
+        _ => false,
+    }
+}
+
+/// Whether the problem is one of a header that the host doesn't know.
+fn is_unknown(problem: Problem) -> bool
+    ensures { result ≡ is_unknown problem }
+{
+    match problem {
+        Problem::NextHeader => true,
+        _ => false,
+    }
+}
+
+/// What answers an IPv6 packet that has this behind its extension headers, where nothing was read of that.
+fn reply_to_headers<'a>(
+    inner: &InterfaceInner,
+    header: &Ipv6Repr,
+    payload: &'a [u8],
+    is_taken: bool,
+    behind: Behind,
+) -> Option<Packet<'a>>
+    requires fits { Ipv6.Fits header.now }
+    requires within { StopsWithin (length payload.now) behind }
+    requires short { length payload.now < 2 ^ 16 }
+    ensures reply { option_value result ≡ unread_v6 inner.now header.now payload.now is_taken behind }
+    ensures sendable { IfSome (option_value result) IsSendable }
+{
+    match behind {
+        Behind::Problem { problem, pointer } => {
+            if (is_unknown(problem) && is_taken) || carries_error(header.next_header, payload) {
+                return None;
+            }
+            parameter_problem(inner, header, payload, problem, pointer)
+        }
+        _ => None,
     }
 }
 
@@ -124,14 +176,30 @@ fn reply_to_unread<'a>(
     payload: &'a [u8],
     is_taken: bool,
 ) -> Option<Packet<'a>>
-    requires { Fits header.now }
+    requires fits { Fits header.now }
+    requires short { length payload.now < 2 ^ 16 }
     ensures reply { option_value result ≡ unread_reply inner.now header.now payload.now is_taken }
     ensures sendable { IfSome (option_value result) IsSendable }
 {
-    if is_known(header) || is_taken {
-        return None;
+    match header {
+        IpRepr::Ipv4(header) => {
+            if is_known_v4(header.next_header) || is_taken {
+                return None;
+            }
+            protocol_unreachable(inner, header, payload)
+        }
+        IpRepr::Ipv6(header) => {
+            let behind = go_through(header.next_header, payload);
+            reply_to_headers(inner, header, payload, is_taken, behind)
+        }
     }
-    protocol_unreachable(inner, header, payload)
+}
+
+/// What counts of a packet: the bytes of an upper-layer protocol, behind a header that names it.
+#[derive(Clone, Copy)]
+struct Upper<'b, 'a> {
+    header: &'b IpRepr,
+    bytes: &'a [u8],
 }
 
 /// Gives a datagram to the first socket that accepts it. Without one, and where no raw socket took it, an error answers it.
@@ -167,6 +235,7 @@ fn hand_datagram<'a>(
     reply: &mut Option<Reply<'a>>,
 )
     requires fits { Fits header.now }
+    requires short { length payload.now < 2 ^ 16 }
     requires none { reply.old ≡ None }
     ensures host { inner.now ≡ handed_host inner.now places.old header.now (datagram_of datagram.now) }
     ensures places { places.new ≡ handed_places inner.now places.old header.now (datagram_of datagram.now) }
@@ -186,15 +255,18 @@ fn hand_udp<'a>(
     header: &IpRepr,
     payload: &'a [u8],
     is_taken: bool,
+    upper: &Upper<'_, 'a>,
     reply: &mut Option<Reply<'a>>,
 )
-    requires protocol { carried_in header.now ≡ Protocol.Udp }
+    requires protocol { carried_in upper.now.header.now ≡ Protocol.Udp }
     requires fits { Fits header.now }
+    requires short { length payload.now < 2 ^ 16 }
     requires none { reply.old ≡ None }
-    ensures hands { Hands inner.now places.old header.now payload.now is_taken (arrived inner.now places.new (reply_of reply.new)) }
+    ensures hands { HandsUpper inner.now places.old header.now payload.now is_taken upper.now.header.now upper.now.bytes.now
+        (arrived inner.now places.new (reply_of reply.new)) }
     ensures sendable { IfCanGo (reply_of reply.new) }
 {
-    let datagram = read_udp(header, payload, &inner.checksum_caps());
+    let datagram = read_udp(upper.header, upper.bytes, &inner.checksum_caps());
     hand_datagram(inner, places, header, payload, is_taken, &datagram, reply);
 }
 
@@ -230,6 +302,7 @@ fn hand_segment<'a>(
     reply: &mut Option<Reply<'a>>,
 )
     requires fits { Fits header.now }
+    requires short { length payload.now < 2 ^ 16 }
     requires none { reply.old ≡ None }
     ensures host { inner.new ≡ handed_host inner.old places.old header.now (segment_of segment.now) }
     ensures places { places.new ≡ handed_places inner.old places.old header.now (segment_of segment.now) }
@@ -249,16 +322,19 @@ fn hand_tcp<'a>(
     header: &IpRepr,
     payload: &'a [u8],
     is_taken: bool,
+    upper: &Upper<'_, 'a>,
     reply: &mut Option<Reply<'a>>,
 )
-    requires protocol { carried_in header.now ≡ Protocol.Tcp }
+    requires protocol { carried_in upper.now.header.now ≡ Protocol.Tcp }
     requires fits { Fits header.now }
     requires short { length payload.now < 2 ^ 16 }
+    requires upper_short { length upper.now.bytes.now < 2 ^ 16 }
     requires none { reply.old ≡ None }
-    ensures hands { Hands inner.old places.old header.now payload.now is_taken (arrived inner.new places.new (reply_of reply.new)) }
+    ensures hands { HandsUpper inner.old places.old header.now payload.now is_taken upper.now.header.now upper.now.bytes.now
+        (arrived inner.new places.new (reply_of reply.new)) }
     ensures sendable { IfCanGo (reply_of reply.new) }
 {
-    let segment = read_tcp(header, payload, &inner.checksum_caps());
+    let segment = read_tcp(upper.header, upper.bytes, &inner.checksum_caps());
     hand_segment(inner, places, header, payload, is_taken, &segment, reply);
 }
 
@@ -272,6 +348,7 @@ fn hand_message<'a>(
     carried: &Option<IpPayload<'a>>,
 ) -> Option<Packet<'a>>
     requires fits { Fits header.now }
+    requires short { length payload.now < 2 ^ 16 }
     requires back { FitsBack (carried_of carried.now) }
     requires control { IsControl (carried_of carried.now) }
     ensures host { inner.new ≡ handed_host inner.old places.old header.now (carried_of carried.now) }
@@ -288,32 +365,146 @@ fn hand_message<'a>(
     }
 }
 
-/// Reads what is behind the header of a packet for the host that carries neither a datagram nor a segment, gives it to whom
-/// it concerns, and answers it.
+/// Reads what counts of a packet for the host that carries neither a datagram nor a segment, gives it to whom it concerns, and
+/// answers it.
 fn hand_control<'a>(
     inner: &mut InterfaceInner,
     places: &mut [SocketStorage<Socket>],
     header: &IpRepr,
     payload: &'a [u8],
     is_taken: bool,
+    upper: &Upper<'_, 'a>,
 ) -> Option<Reply<'a>>
-    requires udp { carried_in header.now ≢ Protocol.Udp }
-    requires tcp { carried_in header.now ≢ Protocol.Tcp }
+    requires udp { carried_in upper.now.header.now ≢ Protocol.Udp }
+    requires tcp { carried_in upper.now.header.now ≢ Protocol.Tcp }
     requires fits { Fits header.now }
-    requires len { length payload.now ≡ payload_len_of header.now }
     requires short { length payload.now < 2 ^ 16 }
-    ensures hands { Hands inner.old places.old header.now payload.now is_taken (arrived inner.new places.new (reply_of result)) }
+    requires upper_fits { Fits upper.now.header.now }
+    requires len { length upper.now.bytes.now ≤ payload_len_of upper.now.header.now }
+    requires upper_short { length upper.now.bytes.now < 2 ^ 16 }
+    ensures hands { HandsUpper inner.old places.old header.now payload.now is_taken upper.now.header.now upper.now.bytes.now
+        (arrived inner.new places.new (reply_of result)) }
     ensures sendable { IfCanGo (reply_of result) }
 {
-    let carried = read_payload(header, payload, &inner.checksum_caps());
+    let carried = read_payload(upper.header, upper.bytes, &inner.checksum_caps());
     packet_reply(&hand_message(inner, places, header, payload, is_taken, &carried))
 }
 
-/// Reads what is behind the header of a packet for the host, gives it to whom it concerns, and writes what answers it.
-/// `is_taken` says that a raw socket took the packet.
+/// Reads what counts of a packet for the host, gives it to whom it concerns, and writes what answers it.
 ///
 /// Datagrams and segments go ways of their own, by values of their own size: `IpPayload` is as large as all that it can be.
 /// So is a reply, which nearly always is none: it is written where the caller wants it, in place of going up through each call.
+fn hand_upper<'a>(
+    inner: &mut InterfaceInner,
+    places: &mut [SocketStorage<Socket>],
+    header: &IpRepr,
+    payload: &'a [u8],
+    is_taken: bool,
+    upper: &Upper<'_, 'a>,
+    reply: &mut Option<Reply<'a>>,
+)
+    requires fits { Fits header.now }
+    requires short { length payload.now < 2 ^ 16 }
+    requires upper_fits { Fits upper.now.header.now }
+    requires len { length upper.now.bytes.now ≤ payload_len_of upper.now.header.now }
+    requires upper_short { length upper.now.bytes.now < 2 ^ 16 }
+    requires none { reply.old ≡ None }
+    ensures hands { HandsUpper inner.old places.old header.now payload.now is_taken upper.now.header.now upper.now.bytes.now
+        (arrived inner.new places.new (reply_of reply.new)) }
+    ensures sendable { IfCanGo (reply_of reply.new) }
+{
+    match upper.header.next_header() {
+        IpProtocol::Udp => hand_udp(inner, places, header, payload, is_taken, upper, reply),
+        IpProtocol::Tcp => hand_tcp(inner, places, header, payload, is_taken, upper, reply),
+        _ => *reply = hand_control(inner, places, header, payload, is_taken, upper),
+    }
+}
+
+/// The protocol that stands behind the extension headers, if there is one.
+fn upper_protocol(behind: &Behind) -> IpProtocol
+    ensures { result ≡ upper_of behind.now }
+{
+    match behind {
+        Behind::Upper { protocol, .. } => *protocol,
+        _ => IpProtocol::Ipv6NoNxt,
+    }
+}
+
+/// The header that names what stands behind the extension headers.
+fn upper_header(header: &Ipv6Repr, behind: &Behind) -> IpRepr
+    ensures { result ≡ Ip.Ipv6 (record header.now { next_header = upper_of behind.now }) }
+{
+    IpRepr::Ipv6(Ipv6Repr {
+        next_header: upper_protocol(behind),
+        ..*header
+    })
+}
+
+/// The bytes that stand behind the extension headers.
+fn upper_bytes<'a>(payload: &'a [u8], behind: &Behind) -> &'a [u8]
+    requires { StopsWithin (length payload.now) behind.now }
+    ensures bytes { result.now ≡ upper_bytes_of payload.now behind.now }
+    ensures short { length result.now ≤ length payload.now }
+{
+    match behind {
+        Behind::Upper { at, .. } => {
+            let (_headers, bytes) = payload.split_at(*at);
+            bytes
+        }
+        _ => &[],
+    }
+}
+
+/// Hands on the payload of a packet for the host that has no extension headers.
+fn hand_bare<'a>(
+    inner: &mut InterfaceInner,
+    places: &mut [SocketStorage<Socket>],
+    header: &IpRepr,
+    payload: &'a [u8],
+    is_taken: bool,
+    reply: &mut Option<Reply<'a>>,
+)
+    requires bare { IsTrue (is_bare header.now) }
+    requires fits { Fits header.now }
+    requires len { length payload.now ≡ payload_len_of header.now }
+    requires short { length payload.now < 2 ^ 16 }
+    requires none { reply.old ≡ None }
+    ensures hands { Hands inner.old places.old header.now payload.now is_taken (arrived inner.new places.new (reply_of reply.new)) }
+    ensures sendable { IfCanGo (reply_of reply.new) }
+{
+    let upper = Upper {
+        header,
+        bytes: payload,
+    };
+    hand_upper(inner, places, header, payload, is_taken, &upper, reply);
+}
+
+/// Goes through the extension headers of an IPv6 packet for the host, and hands on what stands behind them.
+fn hand_behind<'a>(
+    inner: &mut InterfaceInner,
+    places: &mut [SocketStorage<Socket>],
+    header: &Ipv6Repr,
+    payload: &'a [u8],
+    is_taken: bool,
+    reply: &mut Option<Reply<'a>>,
+)
+    requires fits { Ipv6.Fits header.now }
+    requires len { length payload.now ≡ header.now.payload_len }
+    requires none { reply.old ≡ None }
+    ensures hands { Hands inner.old places.old (Ip.Ipv6 header.now) payload.now is_taken (arrived inner.new places.new (reply_of reply.new)) }
+    ensures sendable { IfCanGo (reply_of reply.new) }
+{
+    let behind = go_through(header.next_header, payload);
+    let upper = Upper {
+        header: &upper_header(header, &behind),
+        bytes: upper_bytes(payload, &behind),
+    };
+    let header = IpRepr::Ipv6(*header);
+    hand_upper(inner, places, &header, payload, is_taken, &upper, reply);
+}
+
+/// Reads what is behind the headers of a packet for the host, gives it to whom it concerns, and writes what answers it.
+/// `is_taken` says that a raw socket took the packet.
 pub(crate) fn hand<'a>(
     inner: &mut InterfaceInner,
     places: &mut [SocketStorage<Socket>],
@@ -329,9 +520,14 @@ pub(crate) fn hand<'a>(
     ensures hands { Hands inner.old places.old header.now payload.now is_taken (arrived inner.new places.new (reply_of reply.new)) }
     ensures sendable { IfCanGo (reply_of reply.new) }
 {
-    match header.next_header() {
-        IpProtocol::Udp => hand_udp(inner, places, header, payload, is_taken, reply),
-        IpProtocol::Tcp => hand_tcp(inner, places, header, payload, is_taken, reply),
-        _ => *reply = hand_control(inner, places, header, payload, is_taken),
+    match header {
+        IpRepr::Ipv4(_) => hand_bare(inner, places, header, payload, is_taken, reply),
+        IpRepr::Ipv6(v6) => {
+            if is_known_v6(v6.next_header) {
+                hand_bare(inner, places, header, payload, is_taken, reply);
+            } else {
+                hand_behind(inner, places, v6, payload, is_taken, reply);
+            }
+        }
     }
 }

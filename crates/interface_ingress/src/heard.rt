@@ -3,9 +3,10 @@ ghost use Rattle.std.specs.Prelude.{◌≡◌, IsTrue, IfSome};
 ghost use Rattle.icmpv6.specs.Ndisc.{neighbor_message};
 ghost use Rattle.icmpv6.specs.NdiscOption.{link_bytes};
 ghost use Rattle.sockets.specs.Packet.{packet_value, option_value, IsSendable};
-ghost use Rattle.interface_ingress.specs.Heard.{neighbor_heard, is_one_station, is_target, is_sender_of, counts, learned, replaces, advertised, is_asked};
+ghost use Rattle.interface_ingress.specs.Heard.{neighbor_heard, is_one_station, is_sender_of, counts, tells, learned, replaces, advertised, is_asked};
 ghost use Rattle.interface_ingress.specs.Heard.{told_at, flags_for, advertisement};
 
+use crate::acquaintance::{knows, seeks};
 use icmpv6::{Icmpv6Repr, NdiscNeighborFlags, NdiscRepr};
 use interface_egress::InterfaceInner;
 use ip_wire::{
@@ -17,11 +18,12 @@ use sockets::{Context, IpPayload, Packet};
 /// The hop limit of a packet that no router passed on.
 const HOP_LIMIT: u8 = 255;
 
-/// Takes in the neighbour message of a packet with this header. The sender's link address is kept
-/// where the message gives it; a solicitation for an own address is answered, also where its sender
-/// only looks whether the address is in use. A message counts on
+/// Takes in the neighbour message of a packet with this header. Where it gives a link address, that
+/// of a solicitation's sender is kept, and that of an advertisement's target where the host asks for
+/// it or knows another that the advertisement replaces; a solicitation for an own address is
+/// answered, also where its sender only looks whether the address is in use. A message counts on
 /// Ethernet alone, where no router passed it on (RFC 4861, section 7.1), its link address is one
-/// station's and its target one host's; the target isn't tested without a link address.
+/// station's and its target one host's.
 pub fn hear(
     inner: &mut InterfaceInner,
     header: &Ipv6Repr,
@@ -55,8 +57,8 @@ pub fn hear(
             target_addr,
             lladdr,
         } => {
-            if counts(header, target_addr, lladdr) {
-                take_advertisement(inner, *flags, header.src_addr, lladdr);
+            if tells(header, *flags, target_addr, lladdr) {
+                take_advertisement(inner, *flags, *target_addr, lladdr);
             }
             None
         }
@@ -69,7 +71,7 @@ fn counts(header: &Ipv6Repr, target_addr: &Ipv6Address, lladdr: &Option<RawHardw
 {
     header.hop_limit == HOP_LIMIT
         && is_one_station(lladdr)
-        && is_target(target_addr, lladdr)
+        && target_addr.x_is_unicast()
         && is_sender_of(&header.src_addr, lladdr)
 }
 
@@ -85,14 +87,16 @@ fn is_one_station(lladdr: &Option<RawHardwareAddress>) -> bool
     }
 }
 
-/// Whether the target beside a link address is one host's.
-fn is_target(target_addr: &Ipv6Address, lladdr: &Option<RawHardwareAddress>) -> bool
-    ensures { result ≡ is_target target_addr.now (link_bytes lladdr.now) }
+/// Whether an advertisement counts, which answers a solicitation only where it went to one host.
+fn tells(
+    header: &Ipv6Repr,
+    flags: NdiscNeighborFlags,
+    target_addr: &Ipv6Address,
+    lladdr: &Option<RawHardwareAddress>,
+) -> bool
+    ensures { result ≡ tells header.now flags target_addr.now (link_bytes lladdr.now) }
 {
-    match lladdr {
-        None => true,
-        Some(_) => target_addr.x_is_unicast(),
-    }
+    counts(header, target_addr, lladdr) && !(flags.solicited && header.dst_addr.is_multicast())
 }
 
 /// Whether a link address, if there is one, is that of a sender that has an address.
@@ -105,38 +109,46 @@ fn is_sender_of(source: &Ipv6Address, lladdr: &Option<RawHardwareAddress>) -> bo
     }
 }
 
-/// Keeps the sender's link address, if there is one.
-fn learn(inner: &mut InterfaceInner, source: Ipv6Address, lladdr: &Option<RawHardwareAddress>)
+/// Keeps a neighbour's link address, if there is one.
+fn learn(inner: &mut InterfaceInner, neighbor: Ipv6Address, lladdr: &Option<RawHardwareAddress>)
     requires { IsTrue (is_one_station (link_bytes lladdr.now)) }
-    ensures { inner.new ≡ learned inner.old source (link_bytes lladdr.now) }
+    ensures { inner.new ≡ learned inner.old neighbor (link_bytes lladdr.now) }
 {
     if let Some(address) = lladdr {
         let station = EthernetAddress::from_bytes(address.as_bytes());
-        inner.fill_neighbor(IpAddress::Ipv6(source), HardwareAddress::Ethernet(station));
+        inner.fill_neighbor(
+            IpAddress::Ipv6(neighbor),
+            HardwareAddress::Ethernet(station),
+        );
     }
 }
 
-/// Keeps the link address that an advertisement gives, unless another is known that it doesn't
-/// replace.
+/// Keeps the link address that an advertisement gives of its target, where the host asks for it or
+/// knows another that is to be replaced.
 fn take_advertisement(
     inner: &mut InterfaceInner,
     flags: NdiscNeighborFlags,
-    source: Ipv6Address,
+    target: Ipv6Address,
     lladdr: &Option<RawHardwareAddress>,
 )
     requires { IsTrue (is_one_station (link_bytes lladdr.now)) }
-    ensures { inner.new ≡ advertised inner.old flags source (link_bytes lladdr.now) }
+    ensures { inner.new ≡ advertised inner.old flags target (link_bytes lladdr.now) }
 {
-    if replaces(inner, flags, source) {
-        learn(inner, source, lladdr);
+    if replaces(inner, flags, target) {
+        learn(inner, target, lladdr);
     }
 }
 
-/// Whether an advertisement with these flags counts beside what is known of its sender.
-fn replaces(inner: &InterfaceInner, flags: NdiscNeighborFlags, source: Ipv6Address) -> bool
-    ensures { result ≡ replaces inner.now flags source }
+/// Whether an advertisement with these flags counts beside what is known of its target.
+fn replaces(inner: &InterfaceInner, flags: NdiscNeighborFlags, target: Ipv6Address) -> bool
+    ensures { result ≡ replaces inner.now flags target }
 {
-    flags.overrides || !inner.lookup_neighbor(&IpAddress::Ipv6(source)).found()
+    let target = IpAddress::Ipv6(target);
+    if knows(inner, &target) {
+        flags.overrides
+    } else {
+        seeks(inner, &target)
+    }
 }
 
 /// Whether a solicitation in a packet with this header for this target is to be answered.

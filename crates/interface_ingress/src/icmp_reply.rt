@@ -7,7 +7,8 @@ ghost use Rattle.ip_wire.specs.Ipv4 as Ipv4;
 ghost use Rattle.ip_wire.specs.Ipv6 as Ipv6;
 ghost use Rattle.sockets.specs.Packet.{packet_value, option_value, IsSendable};
 ghost use Rattle.interface_ingress.specs.Replies.{is_one_host, is_echo_reply, source_of_reply, reply_v4, source_of_v6_reply, reply_v6, echo_v4, echo_v6};
-ghost use Rattle.interface_ingress.specs.Replies.{is_between_hosts, error_v4, error_v6, port_unreachable, protocol_unreachable};
+ghost use Rattle.interface_ingress.specs.Replies.{is_between_hosts, error_v4, error_v6, port_unreachable, protocol_unreachable, reason_of, is_told};
+ghost use Rattle.interface_ingress.specs.Replies.{parameter_problem};
 
 use icmpv4::{Icmpv4DstUnreachable, Icmpv4Repr};
 use icmpv6::{Icmpv6DstUnreachable, Icmpv6ParamProblem, Icmpv6Repr};
@@ -16,6 +17,7 @@ use ip_wire::{
     AddressExt, IPV4_HEADER_LEN, IPV4_MIN_MTU, IPV6_HEADER_LEN, IPV6_MIN_MTU, IpAddress,
     IpProtocol, IpRepr, Ipv4Address, Ipv4Repr, Ipv6Address, Ipv6Repr,
 };
+use ipv6_headers::Problem;
 use sockets::{Context, IpPayload, Packet};
 
 /// The hop limit of a message.
@@ -25,9 +27,6 @@ const HOP_LIMIT: u8 = 64;
 const QUOTED_IPV4: usize = IPV4_MIN_MTU - 2 * IPV4_HEADER_LEN - 8;
 
 const QUOTED_IPV6: usize = IPV6_MIN_MTU - 2 * IPV6_HEADER_LEN - 8;
-
-/// Where the next header begins that isn't known: behind the IPv6 header.
-const NEXT_HEADER_AT: u32 = 40;
 
 /// Whether this is one host's address: neither a group's nor that of all hosts of an own network.
 pub fn is_one_host(inner: &InterfaceInner, address: &Ipv4Address) -> bool
@@ -258,31 +257,66 @@ pub fn port_unreachable<'a>(
     }
 }
 
-/// The error that the host doesn't know what a packet carries.
+/// The error that the host doesn't know what an IPv4 packet carries.
 pub fn protocol_unreachable<'a>(
     inner: &InterfaceInner,
-    header: &IpRepr,
+    header: &Ipv4Repr,
     payload: &'a [u8],
 ) -> Option<Packet<'a>>
-    requires { Fits header.now }
+    requires { Ipv4.Fits header.now }
     ensures packet { option_value result ≡ protocol_unreachable inner.now header.now payload.now }
     ensures sendable { IfSome (option_value result) IsSendable }
 {
-    match header {
-        IpRepr::Ipv4(header) => error_ipv4(
-            inner,
-            header,
-            Icmpv4DstUnreachable::ProtoUnreachable,
-            payload,
-        ),
-        IpRepr::Ipv6(header) => {
-            let message = Icmpv6Repr::ParamProblem {
-                reason: Icmpv6ParamProblem::UnrecognizedNxtHdr,
-                pointer: NEXT_HEADER_AT,
-                header: *header,
-                bytes: first_bytes(payload, QUOTED_IPV6),
-            };
-            error_ipv6(inner, header, &message)
-        }
+    error_ipv4(
+        inner,
+        header,
+        Icmpv4DstUnreachable::ProtoUnreachable,
+        payload,
+    )
+}
+
+/// The code of a problem with extension headers.
+fn reason_of(problem: Problem) -> Icmpv6ParamProblem
+    ensures { result ≡ reason_of problem }
+{
+    match problem {
+        Problem::Field => Icmpv6ParamProblem::ErroneousHdrField,
+        Problem::NextHeader => Icmpv6ParamProblem::UnrecognizedNxtHdr,
+        Problem::Option | Problem::OptionToAny => Icmpv6ParamProblem::UnrecognizedOption,
     }
+}
+
+/// Whether the source of a packet with this header is told of a problem.
+fn is_told(problem: Problem, header: &Ipv6Repr) -> bool
+    ensures { result ≡ is_told problem header.now }
+{
+    match problem {
+        Problem::OptionToAny => header.src_addr.x_is_unicast(),
+        _ => is_between_hosts(header),
+    }
+}
+
+/// The error that a packet's extension headers have a problem, at this place of the packet.
+pub fn parameter_problem<'a>(
+    inner: &InterfaceInner,
+    header: &Ipv6Repr,
+    payload: &'a [u8],
+    problem: Problem,
+    pointer: usize,
+) -> Option<Packet<'a>>
+    requires fits { Ipv6.Fits header.now }
+    requires place { pointer < 2 ^ 32 }
+    ensures packet { option_value result ≡ parameter_problem inner.now header.now payload.now problem pointer }
+    ensures sendable { IfSome (option_value result) IsSendable }
+{
+    if !is_told(problem, header) {
+        return None;
+    }
+    let message = Icmpv6Repr::ParamProblem {
+        reason: reason_of(problem),
+        pointer: pointer as u32,
+        header: *header,
+        bytes: first_bytes(payload, QUOTED_IPV6),
+    };
+    Some(reply_ipv6(inner, header, &message))
 }

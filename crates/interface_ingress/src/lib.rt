@@ -2,6 +2,7 @@
 //! at once.
 #![tactic(auto)]
 
+mod acquaintance;
 pub mod arp;
 mod arrive;
 mod carried;
@@ -21,7 +22,9 @@ pub mod reply_laws;
 pub use arrive::bring;
 pub use carried::read_payload;
 pub use heard::hear;
-pub use icmp_reply::{echo_ipv4, echo_ipv6, is_one_host, port_unreachable, protocol_unreachable};
+pub use icmp_reply::{
+    echo_ipv4, echo_ipv6, is_one_host, parameter_problem, port_unreachable, protocol_unreachable,
+};
 pub use incoming::{Incoming, read, read_into};
 pub use reassemble::{keep, release, take_in};
 pub use reply::Reply;

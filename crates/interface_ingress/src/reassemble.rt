@@ -130,7 +130,7 @@ fn is_probe(inner: &InterfaceInner, header: &Ipv6Repr) -> bool
         && header.hop_limit == UNROUTED
 }
 
-fn is_control(protocol: IpProtocol) -> bool
+pub(crate) fn is_control(protocol: IpProtocol) -> bool
     ensures { result ≡ is_control_v6 protocol }
 {
     match protocol {

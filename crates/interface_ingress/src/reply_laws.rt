@@ -12,10 +12,11 @@ ghost use Rattle.sockets.specs.Socket.{accepts_segment};
 ghost use Rattle.interface_egress.specs.Inner.{InnerValue};
 ghost use Rattle.interface_egress.specs.declared.socket_set.SocketStorage.{SocketStorage};
 ghost use Rattle.sockets.specs.declared.socket.Socket.{Socket};
-ghost use Rattle.interface_ingress.specs.Answering.{IsEchoV4, IsEchoV6, IsBetweenV4, IsBetweenV6};
+ghost use Rattle.interface_ingress.specs.Answering.{IsEchoV4, IsEchoV6, IsBetweenV4, IsBetweenV6, IsToldOf};
+ghost use Rattle.ipv6_headers.specs.declared.headers.Problem.{Problem};
 ghost use Rattle.interface_ingress.specs.Delivered.{Places, passes, first_place, is_connected, segment_place};
 ghost use Rattle.interface_ingress.specs.Handed.{names_nobody, segment_reply};
-ghost use Rattle.interface_ingress.specs.Replies.{echo_v4, echo_v6, error_v4, error_v6};
+ghost use Rattle.interface_ingress.specs.Replies.{echo_v4, echo_v6, error_v4, error_v6, parameter_problem};
 
 /// Law: a control message that isn't one of neighbours is answered by an echo reply or not at all: no error answers an error. An
 /// echo reply has its request's data, identifier and number, and goes to who asked.
@@ -26,13 +27,16 @@ pub fn echoes_go_back()
         → echo_v6 i header message bytes ≡ Some p → IsEchoV6 header message bytes p }
 {}
 
-/// Law: no error and no reset answers a packet that wasn't sent to one host by one host. (A segment may come from 0.0.0.0 or to
+/// Law: no error and no reset answers a packet that wasn't sent to one host by one host, but where an unknown option asks that its
+/// source is told whomever the packet is for. (A segment may come from 0.0.0.0 or to
 /// it; that names nobody, too.)
 pub fn errors_are_between_hosts()
     ensures ipv4 { (i : InnerValue) (header : Ipv4Repr) (reason : Icmpv4DstUnreachable) (payload : List ℕ) (p : PacketValue)
         → error_v4 i header reason payload ≡ Some p → IsBetweenV4 i header }
     ensures ipv6 { (i : InnerValue) (header : Ipv6Repr) (message : Icmpv6.MessageValue) (quoted : List ℕ) (p : PacketValue)
         → error_v6 i header message quoted ≡ Some p → IsBetweenV6 header }
+    ensures headers { (i : InnerValue) (header : Ipv6Repr) (payload : List ℕ) (problem : Problem) (pointer : ℕ) (p : PacketValue)
+        → parameter_problem i header payload problem pointer ≡ Some p → IsToldOf problem header }
     ensures segment { (i : InnerValue) (places : Places) (ip : IpRepr) (taken : Bool) (header : TcpHeader) (bytes : List ℕ) (p : PacketValue)
         → segment_reply i places ip taken header bytes ≡ Some p → names_nobody i ip ≡ false }
 {}

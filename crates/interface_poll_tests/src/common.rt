@@ -67,6 +67,7 @@ fn bare<D: Device>(alloc: Global, plan: &Plan, device: &D) -> Option<Interface> 
     let config = Config {
         random_seed: u64::from(plan.number),
         hardware_addr: hardware(plan),
+        isn_key: None,
     };
     match Interface::new(alloc, &config, device, at(0)) {
         Ok(interface) => Some(interface),

@@ -1,10 +1,10 @@
-//! An interface that finds no memory.
+//! An interface as it is made: where it finds no memory, and how long it waits for pieces.
 use crate::common::at;
 use crate::wire::capabilities;
 use interface::{Config, Interface, NewError};
 use ip_wire::HardwareAddress;
 use lan_port::Port;
-use net_base::Medium;
+use net_base::{Duration, Medium};
 use std::alloc::Global;
 use std::test::Fail;
 
@@ -31,5 +31,20 @@ fn want_of_memory_has_its_name(rt: HostRuntime) -> Result<(), Fail> {
         }
         answer => assert_eq!(rt; answer, None),
     }
+    Ok(())
+}
+
+/// Pieces of a datagram are waited for 60 s, if nothing else was set.
+#[test]
+fn pieces_are_waited_for(rt: HostRuntime) -> Result<(), Fail> {
+    let alloc = rt.alloc();
+    let port = Port::new(alloc, capabilities(Medium::Ip));
+    let config = Config::new(HardwareAddress::Ip);
+    let mut interface = Interface::new(alloc, &config, &port, at(0)).map_err(|_| "an interface")?;
+    let first = interface.reassembly_timeout();
+    interface.set_reassembly_timeout(Duration::from_secs(5));
+    assert!(rt;
+        (first, interface.reassembly_timeout()) == (Duration::from_secs(60), Duration::from_secs(5))
+    );
     Ok(())
 }

@@ -29,14 +29,15 @@ use Rattle.interface_tables.specs.declared.neighbor.Answer.TheVariants as Known
 use Rattle.interface_tables.specs.declared.route.Route.{Route}
 
 -- The moment of the call that runs, or of the last one; the state of the random words; the hardware address, `Ip` on a medium
--- that has none; the longest IP packet of a frame; the checksums that the stack handles itself; the own addresses, and whether
--- every address is one; routes and neighbours; the identification of the next IPv4 datagram; and whether nothing ran yet.
+-- that has none; the longest IP packet of a frame; the checksums that the stack handles itself; the key of 16 bytes by which first
+-- numbers of connections are told, if there is one; the own addresses, and whether every address is one; routes and neighbours; the identification of the next IPv4 datagram; and whether nothing ran yet.
 pub record InnerValue : Type 0 where
   pub moment : ℤ
   pub random : ℕ
   pub hardware : HardwareAddress
   pub mtu : ℕ
   pub checksums : ChecksumCapabilities
+  pub isn_key : Option (List ℕ)
   pub addresses : List IpCidr
   pub any_ip : Bool
   pub routes : List Route
@@ -211,6 +212,7 @@ context_of i = record {
   is_broadcast = is_local_broadcast i;
   ip_mtu = i.mtu;
   checksums = i.checksums;
+  isn_key = i.isn_key;
   random = i.random;
 }
 

@@ -64,6 +64,7 @@ made config device moment = record {
   hardware = config.hardware_addr;
   mtu = ip_mtu device;
   checksums = device.checksum;
+  isn_key = config.isn_key;
   addresses = [];
   any_ip = false;
   routes = [];

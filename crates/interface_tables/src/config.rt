@@ -17,16 +17,20 @@ pub struct Config {
     pub random_seed: u64,
     /// `Ip` on a medium that has no hardware addresses.
     pub hardware_addr: HardwareAddress,
+    /// The key by which the first numbers of TCP connections are told; without one they are random
+    /// words.
+    pub isn_key: Option<[u8; 16]>,
 }
 
 impl Config {
-    /// This hardware address, and random words of the seed 0.
+    /// This hardware address, random words of the seed 0, and no key.
     pub fn new(hardware_addr: HardwareAddress) -> Config
-        ensures { result ≡ record { random_seed = 0; hardware_addr = hardware_addr } }
+        ensures { result ≡ record { random_seed = 0; hardware_addr = hardware_addr; isn_key = None } }
     {
         Config {
             random_seed: 0,
             hardware_addr,
+            isn_key: None,
         }
     }
 }

@@ -43,6 +43,7 @@ pub struct InterfaceInner {
     hardware_addr: HardwareAddress,
     ip_mtu: usize,
     checksum: ChecksumCapabilities,
+    isn_key: Option<[u8; 16]>,
     ip_addrs: ArrayVec<IpCidr, TABLE_ROOM>,
     any_ip: bool,
     routes: Routes<TABLE_ROOM>,
@@ -64,6 +65,7 @@ impl Model for InterfaceInner {
       hardware = i.hardware_addr;
       mtu = i.ip_mtu;
       checksums = i.checksum;
+      isn_key = i.isn_key;
       addresses =
           i.ip_addrs.items;
       any_ip = i.any_ip;
@@ -96,6 +98,7 @@ impl InterfaceInner {
             hardware_addr: config.hardware_addr,
             ip_mtu: device.ip_mtu(),
             checksum: device.checksum,
+            isn_key: config.isn_key,
             ip_addrs: ArrayVec::new(),
             any_ip: false,
             routes: Routes::new(),
@@ -512,6 +515,10 @@ impl Context for InterfaceInner {
 
     fn checksum_caps(&self) -> ChecksumCapabilities {
         self.checksum
+    }
+
+    fn isn_key(&self) -> Option<[u8; 16]> {
+        self.isn_key
     }
 
     fn rand_u32(&mut self) -> u32 {

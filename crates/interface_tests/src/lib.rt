@@ -9,6 +9,8 @@ mod inner;
 #[cfg(test)]
 mod neighbor;
 #[cfg(test)]
+mod routes;
+#[cfg(test)]
 mod socket_meta;
 #[cfg(test)]
 mod socket_set;

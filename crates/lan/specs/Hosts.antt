@@ -76,7 +76,7 @@ block_v6 side = Block.Ipv6 (record {
 })
 
 abbrev pub config_of : Medium → Side → Config
-config_of medium side = record { random_seed = number side; hardware_addr = hardware_of medium side }
+config_of medium side = record { random_seed = number side; hardware_addr = hardware_of medium side; isn_key = None }
 
 -- what both devices say of themselves: they verify and compute every checksum
 abbrev pub device_of : Medium → ℕ → DeviceCapabilities

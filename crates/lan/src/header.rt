@@ -152,6 +152,7 @@ fn config_of(medium: Medium, side: Side) -> Config
             Medium::Ethernet => HardwareAddress::Ethernet(EthernetAddress([2, 0, 0, 0, 0, n])),
             Medium::Ip => HardwareAddress::Ip,
         },
+        isn_key: None,
     }
 }
 

@@ -38,3 +38,5 @@ not_first p =
     let another : at_first ≡ p.another = some_same at_first p.another p.partner_opened in
     let clash : false ≡ true = ap (λ o. are_paired o at_first) one ∙ ap (λ o. are_paired p.one o) another ∙ p.paired in
     cc
+
+pub ruleset candidates = (is_run, are_fresh, second, not_first)

@@ -9,6 +9,7 @@ use Rattle.lan_examples.specs.Connection.{told, half_closed, closing, closed}
 use Rattle.lan_examples.specs.Hosts.{text, last_answer}
 use Rattle.lan_examples.specs.Played.{Play, played}
 use Rattle.lan_examples.specs.Streams.{tcp_at}
+use Rattle.lan_examples.proofs.ConnectionRun.{closing_run, closing_leads}
 use Rattle.lan_examples.proofs.Worlds as Worlds
 use Rattle.lan_examples.proofs.Worlds.{told_is, half_closed_is}
 
@@ -38,3 +39,5 @@ partners_from = record {
 
 pub are_partners : ArePartners closed.net.history A 0 0
 are_partners = subst (λ (p : Play). ArePartners p.net.history A 0 0) (sym closed_is) partners_from
+
+pub ruleset closed_for_good = (closing_run, closing_leads, waits, is_over)

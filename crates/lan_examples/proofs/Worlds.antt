@@ -11,7 +11,7 @@ use Rattle.net_base.specs.Ring.{ring}
 use Rattle.lan_packets.specs.Host.{Made, made_of}
 use Rattle.lan_packets.specs.ReceiveMap.{space}
 use Rattle.tcp_model.specs.AddressPair.TheVariants as Pair
-use Rattle.tcp_model.specs.Blocks.{default_settings, fresh_timers}
+use Rattle.tcp_model.specs.Blocks.{default_settings, fresh_loss, fresh_stamps, fresh_timers}
 use Rattle.tcp_model.specs.declared.block.Block.{Block}
 use Rattle.tcp_model.specs.declared.block.Names.{Names}
 use Rattle.tcp_model.specs.State.{State}
@@ -73,10 +73,9 @@ at_rest side = record {
     syn_lost = false;
     timeouts = 0;
     unanswered = 0;
-    stamped = false;
     reset_due = false;
   };
-  receiver = record { next = number 4; took_syn = true; took_fin = false; edge = 8; mss = 1460 };
+  receiver = record { next = number 4; took_syn = true; took_fin = false; edge = 8; mss = 1460; last_ack = number 4 };
   peer = record {
     window = 8;
     largest_window = 8;
@@ -88,9 +87,11 @@ at_rest side = record {
     timestamps = false;
     recent = 0;
   };
+  stamps = record fresh_stamps { believed_until = Some (pos 2_073_600_000_000) };
   timers = fresh_timers;
   round_trip = record { estimate = Some (record { smoothed = 0; variation = 0 }); timeout = 1000; least = 1000; sample = None };
   reno = record { mss = 1460; cwnd = 14_600; ssthresh = 1_073_741_824; recovers = false; timed_out = false };
+  loss = fresh_loss;
   settings = default_settings;
 }
 
@@ -114,7 +115,7 @@ telling = record {
 abbrev reading : TcpValue
 reading = record {
   block = record (at_rest B) {
-    receiver = record (at_rest B).receiver { next = number 7; edge = 5 };
+    receiver = record (at_rest B).receiver { next = number 7; edge = 5; last_ack = number 7 };
     timers = record fresh_timers { draws_from = Some (pos 1_000_000) };
   };
   received = received_of [] (space 8) 3;

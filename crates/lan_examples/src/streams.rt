@@ -27,7 +27,7 @@ pub fn a_lone_socket_is_refused()
 {}
 
 /// Of two listeners, the one whose port is named is the partner, and takes the SYN.
-#[tactic(auto, using(crate::proofs::CandidatesRun::is_run, crate::proofs::CandidatesRun::are_fresh, crate::proofs::CandidatesRun::second, crate::proofs::CandidatesRun::not_first))]
+#[tactic(auto, using(crate::proofs::CandidatesRun::candidates))]
 pub fn ports_tell_the_partner()
     ensures fresh { IsFreshNet unbound Candidates.hosts }
     ensures run { IsRun no_names Candidates.hosts Candidates.steps }
@@ -74,7 +74,7 @@ pub fn a_close_is_read_as_the_end()
 {}
 
 /// The other closes too: the side that was first waits in TIME-WAIT, and the connection of the other is over.
-#[tactic(auto, using(crate::proofs::ConnectionRun::closing_run, crate::proofs::ConnectionRun::closing_leads, crate::proofs::ConnectionEnd::waits, crate::proofs::ConnectionEnd::is_over))]
+#[tactic(auto, using(crate::proofs::ConnectionEnd::closed_for_good))]
 pub fn both_sides_close()
     ensures run { IsRun no_names half_closed.net (steps_of half_closed closing) }
     ensures end { run half_closed.net (steps_of half_closed closing) ≡ closed.net }

@@ -1,16 +1,13 @@
 -- Bytes that name neither TCP nor UDP.
-use Rattle.std.proofs.Common.{◌≡◌, ◌≢◌, ℕ, ◌+◌, Bool, true, false, ◌&&◌, ◌||◌, eqb, List, slice_index, drop, arith, refl, sym, ◌∙◌, ap}
+use Rattle.std.proofs.Common.{◌≡◌, ℕ, ◌+◌, Bool, true, false, ◌&&◌, ◌||◌, eqb, List, slice_index, drop, arith, refl, sym, ◌∙◌, ap, subst}
 use Rattle.std.proofs.lemmas.Bool.Decides.{nat_tests}
 use Rattle.std.proofs.lemmas.List.{get_or-drop}
 use Rattle.ip_address.specs.Protocol.{protocol_number, protocol_of, ether_number, ether_of}
 use Rattle.ip_address.specs.declared.ip.IpProtocol.{IpProtocol}
-use Rattle.ip_address.specs.declared.ip.IpProtocol.TheVariants.{Tcp, Udp}
 use Rattle.ip_address.proofs.Numbers.{protocol_number-protocol_of, ether_number-ether_of}
-use Rattle.lan_frames.specs.Carried.{is_tcp_or_udp}
-
--- a protocol by a number that is neither 6 nor 17
-abbrev pub IsNeither : IpProtocol → Type 0
-IsNeither protocol = (protocol ≢ Tcp) × (protocol ≢ Udp)
+use Rattle.ip_packet.specs.Ipv6.{payload_of}
+use Rattle.ipv6_headers.specs.Headers.{go_through, upper_of}
+use Rattle.lan_frames.specs.Carried.{IsNeither, is_tcp_or_udp, has_ports}
 
 number_is : (n m : ℕ) (p : IpProtocol) → p ≡ protocol_of n → protocol_number p ≡ m → n ≡ m
 number_is n m p is number = sym (protocol_number-protocol_of n) ∙ ap protocol_number (sym is) ∙ number
@@ -29,6 +26,10 @@ neither n p none is = (
   λ tcp. no_truth (not_six n none (number_is n 6 p is (ap protocol_number tcp))),
   λ udp. no_truth (not_seventeen n none (number_is n 17 p is (ap protocol_number udp))),
 )
+
+-- a protocol behind extension headers that has no ports
+pub no_ports : (p : IpProtocol) → has_ports p ≡ false → IsNeither p
+no_ports p none = (λ tcp. no_truth (sym none ∙ ap has_ports tcp), λ udp. no_truth (sym none ∙ ap has_ports udp))
 
 -- of two alternatives that don't hold, the one whose condition does
 left_none : (test : Bool) (named other : Bool) → test ≡ true → (test && named) || other ≡ false → named ≡ false
@@ -49,9 +50,13 @@ pub neither_first : (n m protocol : ℕ) (other : Bool) (p : IpProtocol) → n �
     p ≡ protocol_of protocol → IsNeither p
 neither_first n m protocol other p is none of = neither protocol p (left_none (eqb n m) (is_tcp_or_udp protocol) other (same_number n m is) none) of
 
-pub neither_second : (n m protocol : ℕ) (other : Bool) (p : IpProtocol) → n ≡ m → other || (eqb n m && is_tcp_or_udp protocol) ≡ false →
-    p ≡ protocol_of protocol → IsNeither p
-neither_second n m protocol other p is none of = neither protocol p (right_none (eqb n m) (is_tcp_or_udp protocol) other (same_number n m is) none) of
+pub neither_second : (n m : ℕ) (other : Bool) (p : IpProtocol) → n ≡ m → other || (eqb n m && has_ports p) ≡ false → IsNeither p
+neither_second n m other p is none = no_ports p (right_none (eqb n m) (has_ports p) other (same_number n m is) none)
+
+-- what stands behind extension headers, by the header that the packet's names
+pub behind_named : (packet : List ℕ) (p : IpProtocol) → p ≡ protocol_of (slice_index packet 6)
+    → IsNeither (upper_of (go_through (protocol_of (slice_index packet 6)) (payload_of packet))) → IsNeither (upper_of (go_through p (payload_of packet)))
+behind_named packet p is neither_there = subst (λ (q : IpProtocol). IsNeither (upper_of (go_through q (payload_of packet)))) (sym is) neither_there
 
 -- an EtherType is told by its number
 pub ether_is : (n m : ℕ) → ether_of n ≡ ether_of m → n ≡ m

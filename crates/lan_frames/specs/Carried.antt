@@ -1,9 +1,14 @@
 -- Which packet a frame carries, as far as its first bytes say.
-use Rattle.std.specs.Prelude.{ℕ, ◌/◌, Bool, ◌&&◌, ◌||◌, ◌==◌, List, drop, slice_index}
+use Rattle.std.specs.Prelude.{◌≢◌, ℕ, ◌/◌, Bool, true, false, ◌&&◌, ◌||◌, ◌==◌, List, drop, slice_index}
 use Rattle.net_devices.specs.Capabilities.{frame_header}
 use Rattle.net_devices.specs.declared.capabilities.Medium.{Medium}
 use Rattle.net_devices.specs.declared.capabilities.Medium.TheVariants.{Ethernet, Ip}
 use Rattle.ip_address.specs.Fields.{be16}
+use Rattle.ip_address.specs.Protocol.{protocol_of}
+use Rattle.ip_address.specs.declared.ip.IpProtocol.{IpProtocol}
+use Rattle.ip_address.specs.declared.ip.IpProtocol.TheVariants as Protocol
+use Rattle.ip_packet.specs.Ipv6.{payload_of}
+use Rattle.ipv6_headers.specs.Headers.{go_through, upper_of}
 
 -- the packet that a frame carries, and padding
 abbrev pub packet_in : Medium → List ℕ → List ℕ
@@ -13,13 +18,24 @@ packet_in medium frame = drop (frame_header medium) frame
 abbrev pub is_tcp_or_udp : ℕ → Bool
 is_tcp_or_udp protocol = (protocol == 6) || (protocol == 17)
 
--- Whether bytes say that they carry TCP or UDP, where an IPv4 header has its protocol and an IPv6 header its next
--- header. On Ethernet the EtherType says which of the two headers there is, and else the version. Bytes that are too
--- short for that place say neither.
+abbrev pub IsNeither : IpProtocol → Type 0
+IsNeither protocol = (protocol ≢ Protocol.Tcp) × (protocol ≢ Protocol.Udp)
+
+abbrev pub has_ports : IpProtocol → Bool
+has_ports Protocol.Tcp = true
+has_ports Protocol.Udp = true
+has_ports protocol = false
+
+-- an IPv6 packet has TCP or UDP behind its extension headers, if there are any
+abbrev pub has_ports_behind : List ℕ → Bool
+has_ports_behind packet = has_ports (upper_of (go_through (protocol_of (slice_index packet 6)) (payload_of packet)))
+
+-- Whether bytes say that they carry TCP or UDP, where an IPv4 header has its protocol, and behind the extension headers of IPv6.
+-- On Ethernet the EtherType says which of the two headers there is, and else the version. Bytes that are too short say neither.
 abbrev pub names_tcp_or_udp : Medium → List ℕ → Bool
 names_tcp_or_udp Ethernet bytes =
     ((be16 bytes 12 == 0x0800) && is_tcp_or_udp (slice_index bytes 23))
-    || ((be16 bytes 12 == 0x86dd) && is_tcp_or_udp (slice_index bytes 20))
+    || ((be16 bytes 12 == 0x86dd) && has_ports_behind (drop 14 bytes))
 names_tcp_or_udp Ip bytes =
     ((slice_index bytes 0 / 16 == 4) && is_tcp_or_udp (slice_index bytes 9))
-    || ((slice_index bytes 0 / 16 == 6) && is_tcp_or_udp (slice_index bytes 6))
+    || ((slice_index bytes 0 / 16 == 6) && has_ports_behind bytes)

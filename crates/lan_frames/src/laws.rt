@@ -6,7 +6,6 @@ ghost use Rattle.net_devices.specs.declared.capabilities.Medium.{Medium};
 ghost use Rattle.net_devices.specs.declared.capabilities.Medium.TheVariants.{Ethernet, Ip};
 ghost use Rattle.ip_address.specs.Fields.{be16};
 ghost use Rattle.ip_address.specs.declared.ip.IpAddress.{IpAddress};
-ghost use Rattle.ip_address.specs.declared.ip.IpProtocol.TheVariants.{Tcp, Udp};
 ghost use Rattle.ip_address.specs.declared.ethernet.EthernetProtocol.TheVariants as ether;
 ghost use Rattle.ip_packet.specs.Ipv4 as ipv4;
 ghost use Rattle.ip_packet.specs.Ipv6 as ipv6;
@@ -16,34 +15,35 @@ ghost use Rattle.ip_tcp.specs.Tcp.{IsChecked, IsTcp};
 ghost use Rattle.ip_tcp.specs.declared.header.TcpHeader.{TcpHeader};
 ghost use Rattle.ip_wire.specs.Ethernet as ethernet;
 ghost use Rattle.ip_wire.specs.declared.ethernet.repr.EthernetRepr.{EthernetRepr};
-ghost use Rattle.lan_frames.specs.Carried.{names_tcp_or_udp};
+ghost use Rattle.lan_frames.specs.Carried.{names_tcp_or_udp, IsNeither};
+ghost use Rattle.ipv6_headers.specs.Headers.{go_through, upper_of};
 ghost use Rattle.lan_frames.specs.Cuts.{ipv4_part, first_piece, second_piece};
 ghost use Rattle.lan_frames.specs.Parts.{bytes_at, damaged};
 ghost use Rattle.lan_frames.specs.Slices.{Slice, IsSliceOf, IsLinkHeader, frame_of_slice, front_of, back_of};
 ghost use Rattle.lan_frames.specs.declared.part.Part.{Part};
 
-/// Law: bytes that name neither TCP nor UDP are no packet of either, on either medium.
+/// Law: bytes that name neither TCP nor UDP are no packet of either, on either medium, behind extension headers either.
 pub fn names_neither()
     ensures ipv4 { (bytes : List ℕ) (tested : Bool) (v : Ipv4Repr)
         → names_tcp_or_udp Ip bytes ≡ false
         → ipv4.IsIpv4 tested bytes v
-        → (v.next_header ≢ Tcp) × (v.next_header ≢ Udp) }
+        → IsNeither v.next_header }
     ensures ipv6 { (bytes : List ℕ) (v : Ipv6Repr)
         → names_tcp_or_udp Ip bytes ≡ false
         → ipv6.IsIpv6 bytes v
-        → (v.next_header ≢ Tcp) × (v.next_header ≢ Udp) }
+        → IsNeither (upper_of (go_through v.next_header (ipv6.payload_of bytes))) }
     ensures ethernet_ipv4 { (bytes : List ℕ) (tested : Bool) (e : EthernetRepr) (v : Ipv4Repr)
         → names_tcp_or_udp Ethernet bytes ≡ false
         → ethernet.IsEthernet bytes e
         → e.ethertype ≡ ether.Ipv4
         → ipv4.IsIpv4 tested (ethernet.payload_of bytes) v
-        → (v.next_header ≢ Tcp) × (v.next_header ≢ Udp) }
+        → IsNeither v.next_header }
     ensures ethernet_ipv6 { (bytes : List ℕ) (e : EthernetRepr) (v : Ipv6Repr)
         → names_tcp_or_udp Ethernet bytes ≡ false
         → ethernet.IsEthernet bytes e
         → e.ethertype ≡ ether.Ipv6
         → ipv6.IsIpv6 (ethernet.payload_of bytes) v
-        → (v.next_header ≢ Tcp) × (v.next_header ≢ Udp) }
+        → IsNeither (upper_of (go_through v.next_header (ipv6.payload_of (ethernet.payload_of bytes)))) }
 {}
 
 /// Law: a segment whose checksum holds isn't read once the link exchanged one of its words for a

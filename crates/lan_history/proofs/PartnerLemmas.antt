@@ -254,3 +254,5 @@ partners_stay past e side i j a = record {
   partner_opened = opening_stays past e (other side) j a.another a.partner_opened;
   paired = a.paired;
 }
+
+pub ruleset partner_laws = (one_partner, partners_turned, partners_stay, opening_stays)

@@ -15,7 +15,7 @@ pub fn tables_say_what_the_history_says()
 {}
 
 /// A socket has at most one partner, and is its partner's. Partners stay so, and an opening stays.
-#[tactic(auto, using(crate::proofs::PartnerLemmas::one_partner, crate::proofs::PartnerLemmas::partners_turned, crate::proofs::PartnerLemmas::partners_stay, crate::proofs::PartnerLemmas::opening_stays))]
+#[tactic(auto, using(crate::proofs::PartnerLemmas::partner_laws))]
 pub fn a_socket_has_at_most_one_partner()
     ensures one { (places : Places) (history : List Entry) (side : Side) (i j k : ℕ) → AreAllowed places history
         → ArePartners history side i j → ArePartners history side i k → j ≡ k }

@@ -191,3 +191,5 @@ pub links_happen : (hosts new : Stations) (kind : Kind) (t : Taken) → actor ki
     t.found ≡ None → HappensBy hosts kind t new
 links_happen hosts new (OfHost s act) t is linked answer kept found = absurd cc
 links_happen hosts new (OfLink act) t is linked answer kept found = ((answer, found, linked), kept ∙ sym answer)
+
+pub ruleset allowed = (can_act, can_link, acts_happen_a, acts_happen_b, links_happen)

@@ -32,10 +32,15 @@ use Rattle.interface_ingress.specs.Arrives as Replies
 use Rattle.interface_ingress.specs.Arrives.{ReplyValue, Arrived, Brings, ArrivesV4, ArrivesV6, Hands, answered, told, renewed}
 use Rattle.interface_ingress.specs.Delivered.{Places, packet_delivered, is_taken_raw, segment_place, segment_answer_at, answer_of, answer_in, answer_by}
 use Rattle.interface_ingress.specs.Delivered.{packet_by, datagram_place}
-use Rattle.interface_ingress.specs.Handed.{handed_reply, control_v4_reply, control_v6_reply, message_reply, names_nobody, is_known}
-use Rattle.interface_ingress.specs.Heard.{Heard, heard, heard_on, counts, is_asked, learned, advertised, advertisement, answer}
+use Rattle.interface_ingress.specs.Headers.{go_through, carries_error}
+use Rattle.interface_ingress.specs.Behind.{Behind}
+use Rattle.interface_ingress.specs.Behind.TheVariants as End
+use Rattle.interface_ingress.specs.Problem.{Problem}
+use Rattle.interface_ingress.specs.Reassembled.{is_control_v6}
+use Rattle.interface_ingress.specs.Handed.{handed_reply, control_v4_reply, control_v6_reply, message_reply, names_nobody, is_known_v4, is_unknown, unread_v6, unread_reply}
+use Rattle.interface_ingress.specs.Heard.{neighbor_heard, Heard, heard, heard_on, counts, tells, is_asked, learned, advertised, advertisement, answer}
 use Rattle.interface_ingress.specs.Incoming.{IncomingValue, Arp, Ip4, Ip6}
-use Rattle.interface_ingress.specs.Replies.{echo_v4, sent_v4, source_of_reply, port_unreachable, protocol_unreachable, reply_v4, reply_v6, error_v6}
+use Rattle.interface_ingress.specs.Replies.{echo_v4, sent_v4, source_of_reply, port_unreachable, protocol_unreachable, parameter_problem, is_told, reason_of, reply_v4, reply_v6, error_v6}
 use Rattle.interface_ingress.specs.Replies.{is_between_hosts, quoted_v4, quoted_v6}
 use Rattle.interface_egress.specs.Inner.{InnerValue, context_of}
 use Rattle.interface_ingress.specs.Best.{at_place}
@@ -91,10 +96,11 @@ heard_so (Hardware.Ethernet own) i header (Solicitation target link) =
     heard_if (counts header target link) (heard (learned i header.src_addr link) (answer own i header target)) (heard i None)
     (asked_so (is_asked i header target) own target header) tt
 heard_so (Hardware.Ethernet own) i header (Advertisement flags target link) =
-    heard_if (counts header target link) (heard (advertised i flags header.src_addr link) None) (heard i None) tt tt
+    heard_if (tells header flags target link) (heard (advertised i flags target link) None) (heard i None) tt tt
 
 message_so : (i : InnerValue) (header : Ipv6Repr) (message : MessageValue) (bytes : List ℕ) → IfMeasured (message_reply i header message bytes)
-message_so i header (Icmpv6.Ndisc message) bytes = heard_so i.hardware i header message
+message_so i header (Icmpv6.Ndisc message) bytes =
+    if_either (is_control_v6 header.next_header) (neighbor_heard i header message).reply None (heard_so i.hardware i header message) tt
 message_so i header (Icmpv6.EchoRequest ident seq_no) bytes = refl
 message_so i header (Icmpv6.EchoReply ident seq_no) bytes = tt
 message_so i header (Icmpv6.DstUnreachable reason quoted) bytes = tt
@@ -113,9 +119,23 @@ port_so : (i : InnerValue) (ip : IpRepr) (payload : List ℕ) → IfMeasured (po
 port_so i (Ip.Ipv4 header) payload = reply_v4_so i header (V4.DstUnreachable V4Reason.PortUnreachable header) (quoted_v4 payload)
 port_so i (Ip.Ipv6 header) payload = error_v6_so i header (Icmpv6.DstUnreachable V6Reason.PortUnreachable header) (quoted_v6 payload)
 
-protocol_so : (i : InnerValue) (ip : IpRepr) (payload : List ℕ) → IfMeasured (protocol_unreachable i ip payload)
-protocol_so i (Ip.Ipv4 header) payload = reply_v4_so i header (V4.DstUnreachable V4Reason.ProtoUnreachable header) (quoted_v4 payload)
-protocol_so i (Ip.Ipv6 header) payload = error_v6_so i header (Icmpv6.ParamProblem V6Problem.UnrecognizedNxtHdr 40 header) (quoted_v6 payload)
+protocol_so : (i : InnerValue) (header : Ipv4Repr) (payload : List ℕ) → IfMeasured (protocol_unreachable i header payload)
+protocol_so i header payload = reply_v4_so i header (V4.DstUnreachable V4Reason.ProtoUnreachable header) (quoted_v4 payload)
+
+problem_so : (i : InnerValue) (header : Ipv6Repr) (payload : List ℕ) (problem : Problem) (pointer : ℕ) →
+    IfMeasured (parameter_problem i header payload problem pointer)
+problem_so i header payload problem pointer =
+    if_either (is_told problem header) (Some (reply_v6 i header (Icmpv6.ParamProblem (reason_of problem) pointer header) (quoted_v6 payload))) None refl tt
+
+headers_so : (i : InnerValue) (header : Ipv6Repr) (payload : List ℕ) (taken : Bool) (behind : Behind) → IfMeasured (unread_v6 i header payload taken behind)
+headers_so i header payload taken (End.Problem problem pointer) =
+    if_either ((is_unknown problem && taken) || carries_error header.next_header payload) None (parameter_problem i header payload problem pointer) tt (problem_so i header payload problem pointer)
+headers_so i header payload taken behind = tt
+
+unread_so : (i : InnerValue) (ip : IpRepr) (payload : List ℕ) (taken : Bool) → IfMeasured (unread_reply i ip payload taken)
+unread_so i (Ip.Ipv4 header) payload taken =
+    if_either (is_known_v4 header.next_header || taken) None (protocol_unreachable i header payload) tt (protocol_so i header payload)
+unread_so i (Ip.Ipv6 header) payload taken = headers_so i header payload taken (go_through header.next_header payload)
 
 -- SEGMENTS
 
@@ -157,8 +177,7 @@ handed_so i places ip payload taken (Some (Datagram udp bytes)) =
 handed_so i places ip payload taken (Some (Segment header bytes)) =
     if_either (names_nobody i ip) None (segment_answer_at (segment_place ip header places) (context_of i) ip header bytes taken places) tt
     (segment_so (segment_place ip header places) (context_of i) ip header bytes taken places)
-handed_so i places ip payload taken None =
-    if_either (is_known ip || taken) None (protocol_unreachable i ip payload) tt (protocol_so i ip payload)
+handed_so i places ip payload taken None = unread_so i ip payload taken
 
 abbrev pub IfReplyMeasured : Option ReplyValue → Type 0
 IfReplyMeasured None = Unit {0}

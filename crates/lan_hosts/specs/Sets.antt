@@ -29,10 +29,6 @@ abbrev pub hardware_fault : HardwareAddrError → Fault
 hardware_fault Set.Medium = For.Medium
 hardware_fault Set.NotUnicast = For.NotUnicast
 
-abbrev pub unless_fault : Option Fault → Answer
-unless_fault None = To.Done
-unless_fault (Some fault) = To.Error fault
-
 abbrev pub hardware_answer : Option HardwareAddrError → Answer
 hardware_answer None = To.Done
 hardware_answer (Some e) = To.Error (hardware_fault e)

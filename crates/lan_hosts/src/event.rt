@@ -293,7 +293,7 @@ fn link(alloc: Global, a: &mut Host, b: &mut Host, event: &Event) -> Result<(), 
 }
 
 /// What an event makes of both hosts and the link, and what it answers.
-#[tactic(auto, using(crate::proofs::Allowed::can_act, crate::proofs::Allowed::can_link, crate::proofs::Allowed::acts_happen_a, crate::proofs::Allowed::acts_happen_b, crate::proofs::Allowed::links_happen))]
+#[tactic(auto, using(crate::proofs::Allowed::allowed))]
 fn play(alloc: Global, a: &mut Host, b: &mut Host, event: &Event) -> Result<Taken, AllocError>
     requires { CanHappen (record { a = a.old; b = b.old }) (kind_of event.now) }
     ensures happens { IfOk result (λ t. HappensBy (record { a = a.old; b = b.old }) (kind_of event.now) t (record { a = a.new; b = b.new })) }

@@ -140,7 +140,8 @@ module _ (starts : Side → ℕ → ℕ) (h : List Entry) (e : Entry) (side : Si
   reads_by v None limit is k answered = subst (ReadWasAccepted starts h (calls side i (Call.RecvFrom limit))) (sym answered) tt
   reads_by v (Some d) limit is k answered =
       subst (ReadWasAccepted starts h (calls side i (Call.RecvFrom limit))) (sym answered) (by (nat_lt limit (length d.1))) where
-        by : (t : Bool) → ReadWasAccepted starts h (calls side i (Call.RecvFrom limit)) (if t then To.Error Fault.Truncated else To.FromEndpoint d.0.endpoint d.1)
+        by : (t : Bool) →
+            ReadWasAccepted starts h (calls side i (Call.RecvFrom limit)) (if t then To.Error Fault.Truncated else To.FromEndpoint d.0.endpoint d.1)
         by true = tt
         by false = each_first (CameTo starts h side (bound_port starts h side i)) v.received d is k.received
 

@@ -76,3 +76,5 @@ closed_end = (
   },
   (tt, (tt, (tt, tt))),
 )
+
+pub ruleset ports_and_ends = (right_port, wrong_port, no_close, closed_end)

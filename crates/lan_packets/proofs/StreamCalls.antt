@@ -3,11 +3,10 @@ use Rattle.std.proofs.Common.{◌≡◌, ◌≢◌, ◌⊎◌, inl, inr, ℕ, �
 use Rattle.std.proofs.Common.{◌∷◌, ◌++◌, length, take, Option, Some, None, is_some, Result, Ok, Err, is_ok, refl, sym, ap, ◌∙◌, subst, append-nil, arith}
 use Rattle.std.proofs.lemmas.Bool.Decides.{nat_tests}
 use Rattle.std.proofs.lemmas.List.{length-append, length-take}
-use Rattle.net_base.specs.RandomWords.{word}
 use Rattle.net_base.specs.Ring.{anchored, enqueued}
 use Rattle.ip_wire.specs.IpEndpoint.{IpEndpoint}
 use Rattle.ip_wire.specs.AddressTests.{is_unspecified}
-use Rattle.datagram_sockets.specs.Context.{ContextValue, next_random}
+use Rattle.datagram_sockets.specs.Context.{ContextValue}
 use Rattle.tcp_tie.specs.Segment.{Segment}
 use Rattle.tcp_tie.specs.Side.Opening.{NotYet}
 use Rattle.tcp_tie.specs.Endpoints.{HasPorts}
@@ -59,6 +58,8 @@ use Rattle.lan_packets.proofs.StreamInvariant.{way_by, told, ports_of, IsUntouch
 use Rattle.lan_packets.proofs.HostSteps.{past, or_false, HostSteps}
 use Rattle.lan_packets.proofs.WireMoves.{untouched_same, pair_kept}
 use Rattle.lan_packets.proofs.CallSteps.{or_true, told_with, told_parts, told_plain, told_after, called_opened, called_untouched, called_opens}
+use Rattle.tcp_model.specs.FirstNumbers.{first_number, number_for}
+use Rattle.tcp_model.proofs.Numbers.{number_small}
 
 -- no setting changes what the tie reads
 setting_same : (v : TcpValue) (setting : TcpSetting) → core_of (setting_after v setting) ≡ core_of v
@@ -75,18 +76,11 @@ closed_is : (state : State) → is_closed state ≡ true → state ≡ In.Closed
 closed_is In.Closed e = refl
 closed_is other e = absurd (cc)
 
-word_small : (s : ℕ) → word s < 2 ^ 32
-word_small s = omega arith
-
 abbrev listens_at : ℕ → Opening
 listens_at port = record { local = port; remote = None }
 
 abbrev connects_to : ℕ → ℕ → Opening
 connects_to port remote = record { local = port; remote = Some remote }
-
--- the random word that a connect draws
-abbrev first_number : ContextValue → ℕ
-first_number cx = word (next_random cx).random
 
 -- the endpoints of a connect have the ports that were asked for
 record HasPair (remote : IpEndpoint) (port : ℕ) (pair : EndpointPair) : Type 0 where
@@ -224,27 +218,30 @@ module _
     answer_is = answered ∙ ap
         (λ (t : Bool). done_or connect_fault (if t then found_answer (pair_for cx remote (at_port port)) else Err Connect.InvalidState)) state
 
-    new_is : new ≡ connected_by v (pair_for cx remote (at_port port)) (first_number cx)
-    new_is = becomes ∙ ap (λ (t : Bool). if t then connected_by v (pair_for cx remote (at_port port)) (first_number cx) else unoffered v) state
+    opens_to : Option EndpointPair → TcpValue
+    opens_to pair = connected_by v pair (number_for cx pair)
+
+    new_is : new ≡ opens_to (pair_for cx remote (at_port port))
+    new_is = becomes ∙ ap (λ (t : Bool). if t then opens_to (pair_for cx remote (at_port port)) else unoffered v) state
 
     by : (pair : Option EndpointPair) → pair_for cx remote (at_port port) ≡ pair → Steps
     by None none =
         same_call (Call.Connect remote port) (To.Error (connect_fault Connect.Unaddressable)) kind
         (answer_is ∙ ap (λ (x : Option EndpointPair). done_or connect_fault (found_answer x)) none) found
-        (ap core_of (new_is ∙ ap (λ (x : Option EndpointPair). connected_by v x (first_number cx)) none)) refl refl refl refl
+        (ap core_of (new_is ∙ ap opens_to none)) refl refl refl refl
     by (Some pair) found_pair =
         let ports = pair_ports cx remote port pair found_pair in
         let done : e.answer ≡ To.Done = answer_is ∙ ap (λ (x : Option EndpointPair). done_or connect_fault (found_answer x)) found_pair in
-        let opened : new ≡ connecting v pair (first_number cx) = new_is ∙ ap (λ (x : Option EndpointPair). connected_by v x (first_number cx)) found_pair in
+        let opened : new ≡ connecting v pair (first_number cx pair) = new_is ∙ ap opens_to found_pair in
         subst (λ (new : TcpValue). HostSteps h (e ∷ h) side p (with_socket p at (Tcp new)) q) (sym opened)
         (called_opens places h e side p q at v (Call.Connect remote port) kind allowed is k far pairs (connects_to port remote.port)
-        (connecting v pair (first_number cx)) may (ap (opening_by (Some (Call.Connect remote port))) done) refl refl refl
-        (subst (λ (local : ℕ). HasPorts (record { local = local; remote = Some remote.port }) (connecting v pair (first_number cx)).block) ports.local
-        (subst (λ (far : ℕ). HasPorts (record { local = pair.local_port; remote = Some far }) (connecting v pair (first_number cx)).block) ports.remote_port
-        (ports_connecting v pair (first_number cx))))
+        (connecting v pair (first_number cx pair)) may (ap (opening_by (Some (Call.Connect remote port))) done) refl refl refl
+        (subst (λ (local : ℕ). HasPorts (record { local = local; remote = Some remote.port }) (connecting v pair (first_number cx pair)).block) ports.local
+        (subst (λ (far : ℕ). HasPorts (record { local = pair.local_port; remote = Some far }) (connecting v pair (first_number cx pair)).block) ports.remote_port
+        (ports_connecting v pair (first_number cx pair))))
         (λ other_pair named. let same : pair ≡ other_pair =
         cc in inl (ap (λ (n : ℕ). Some n) (sym ports.remote_port ∙ ap (λ (x : EndpointPair). x.remote_port) same)))
-        (λ rs w b keeps. keeps_connecting v w (no_past rs) b pair (first_number cx) keeps state refl (word_small (next_random cx).random)))
+        (λ rs w b keeps. keeps_connecting v w (no_past rs) b pair (first_number cx pair) keeps state refl (number_small cx pair)))
 
   -- SEND
 

@@ -10,7 +10,7 @@ ghost use Rattle.lan_packets.specs.Parties.Socket.{Tcp};
 ghost use Rattle.lan_packets.specs.Safe.{IsSafe};
 
 /// A datagram that is handed to another port breaks the promise on datagrams, and a reset that is read as the end breaks that on streams.
-#[tactic(auto, using(crate::proofs::HistoryLemmas::right_port, crate::proofs::HistoryLemmas::wrong_port, crate::proofs::HistoryLemmas::no_close, crate::proofs::HistoryLemmas::closed_end))]
+#[tactic(auto, using(crate::proofs::HistoryLemmas::ports_and_ends))]
 pub fn wrong_histories_break_the_promises()
     ensures right_port { ReadsWereAccepted unbound (datagram_read_at 53) }
     ensures wrong_port { ¬ (ReadsWereAccepted unbound (datagram_read_at 54)) }

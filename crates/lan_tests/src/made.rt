@@ -41,6 +41,7 @@ fn config(n: u8, medium: Medium) -> Config {
             Medium::Ethernet => HardwareAddress::Ethernet(EthernetAddress([2, 0, 0, 0, 0, n])),
             Medium::Ip => HardwareAddress::Ip,
         },
+        isn_key: None,
     }
 }
 

@@ -128,3 +128,11 @@ static ROWS: [Row; 4] = [
 fn settings_are_taken(rt: HostRuntime) -> Result<(), Fail> {
     play_steps(&rt, &ROWS)
 }
+
+/// What was taken as bytes is given back as memory.
+#[test]
+fn bytes_are_given_back(rt: HostRuntime) -> Result<(), Fail> {
+    let bytes = filled(rt.alloc(), 3)?.into_vec();
+    assert!(rt; bytes.as_slice() == b"ZZZ".as_slice());
+    Ok(())
+}

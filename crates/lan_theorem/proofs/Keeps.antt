@@ -6,7 +6,8 @@ use Rattle.interface_delivery.specs.Ip as Ips
 use Rattle.interface_delivery.specs.Ip.{carried_in}
 use Rattle.interface_delivery.specs.IpRepr.{IpRepr}
 use Rattle.interface_delivery.specs.IpRepr.TheVariants as Ip
-use Rattle.sockets.specs.Packet.{PacketValue, PayloadValue, ControlV4, ControlV6, Bytes, Datagram, Segment}
+use Rattle.sockets.specs.Packet.{PacketValue, PayloadValue, ControlV4, ControlV6, Bytes, Datagram, Segment, payload_written}
+use Rattle.interface_ingress.specs.Upper.{upper_header}
 use Rattle.interface_tables.specs.Inner.{InnerValue, at_moment}
 use Rattle.interface_tables.specs.Slots.{without_expired}
 use Rattle.interface_egress.specs.Departing.{HasSettingsOf, SendsOnce, departure_by, was_taken}
@@ -68,7 +69,7 @@ taken_sent d d' frame is = sym (ap (λ (p : PortValue). p.link.sent) is.1)
 -- WHAT WAS MADE
 
 -- what goes has the form that the link wants
-going_by : (p : Party) (h : IpRepr) (x : PayloadValue) → FitsBehind h x → MadeBy p x → NamesNoPorts (carried_in (Ips.normal h)) ⊎
+going_by : (p : Party) (h : IpRepr) (x : PayloadValue) → FitsBehind h x → MadeBy p x → NamesNoPorts (carried_in (upper_header (Ips.normal h) (payload_written sealed h x))) ⊎
     (CanBeRead h x × MadeBy p (normal_payload x))
 going_by p h (ControlV4 message bytes) fits made = inr (fits, tt)
 going_by p h (ControlV6 message bytes) fits made = inr (fits, tt)

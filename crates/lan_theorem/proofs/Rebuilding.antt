@@ -5,6 +5,7 @@ use Rattle.std.specs.List.{AllByRecursion}
 use Rattle.lan_frames.specs.ChecksumCapabilities.{ChecksumCapabilities}
 use Rattle.lan_frames.specs.Medium.{Medium}
 use Rattle.interface_delivery.specs.Ip as Ips
+use Rattle.interface_ingress.specs.Upper.{upper_header}
 use Rattle.interface_delivery.specs.Ip.{carried_in}
 use Rattle.interface_ingress.specs.IpProtocol.{IpProtocol}
 use Rattle.interface_ingress.specs.IpProtocol.TheVariants as Protocol
@@ -60,13 +61,14 @@ either_is a b same (inr udp) = inr (same ∙ udp)
 
 module _ (q : Party) (first next : ℕ) (out : List PacketValue) (sent : AreSent (MadeBy q) first next out) where
   -- the packet has the protocol of the header
-  protocol_is : (h : Ipv4Repr) (payload : List ℕ) (o : IsPayloadOf out h payload) → carried_in (Ips.normal o.sent.packet.header) ≡ h.next_header
-  protocol_is h payload o = ap (λ (x : IpRepr). carried_in (Ips.normal x)) o.sent.header ∙ sym (ap (λ (k : Ipv4FragKey). k.protocol) o.key_is)
+  protocol_is : (h : Ipv4Repr) (payload : List ℕ) (o : IsPayloadOf out h payload) →
+      carried_in (upper_header (Ips.normal o.sent.packet.header) (bytes_of o.sent.packet)) ≡ h.next_header
+  protocol_is h payload o = ap (λ (x : IpRepr). carried_in (upper_header (Ips.normal x) (bytes_of o.sent.packet))) o.sent.header ∙ sym (ap (λ (k : Ipv4FragKey). k.protocol) o.key_is)
 
   made_of_one : (h : Ipv4Repr) (payload : List ℕ) (o : IsPayloadOf out h payload) → NamesPorts h → MadeBy q (normal_payload o.sent.packet.payload)
   made_of_one h payload o ports = elim (sent.packets o.sent.packet o.sent.among).going.carries [
-    | inl none ↦ absurd (not_both (carried_in (Ips.normal o.sent.packet.header)) none
-        (either_is (carried_in (Ips.normal o.sent.packet.header)) h.next_header (protocol_is h payload o) ports))
+    | inl none ↦ absurd (not_both (carried_in (upper_header (Ips.normal o.sent.packet.header) (bytes_of o.sent.packet))) none
+        (either_is (carried_in (upper_header (Ips.normal o.sent.packet.header) (bytes_of o.sent.packet))) h.next_header (protocol_is h payload o) ports))
     | inr reads ↦ reads.1
   ]
 

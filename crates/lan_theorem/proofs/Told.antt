@@ -1,7 +1,7 @@
 -- An ARP packet that a host answers with goes between two stations.
 use Rattle.std.proofs.Common.{◌≡◌, ℕ, ◌-◌, ◌^◌, ◌≤◌, Bool, true, false, cond, List, length, take, drop, Option, Some, None, refl, sym, ◌∙◌, ap, subst, arith}
 use Rattle.std.proofs.Common.{length-take, length-drop}
-use Rattle.std.specs.Prelude.{nat_lt}
+use Rattle.std.specs.Prelude.{nat_lt, ◌||◌}
 use Rattle.lan_frames.specs.ChecksumCapabilities.{ChecksumCapabilities}
 use Rattle.interface_egress.specs.Arp as Wire
 use Rattle.lan_hosts.specs.Ethernet as Ethernet
@@ -134,4 +134,4 @@ told_between i timeout slots places frame content a packet long is brings reply 
     let read : IsIncoming i.hardware i.checksums frame (Arp by.link by.question) =
     subst (λ (o : Option IncomingValue). IsContent i.hardware i.checksums frame o) came is in
     answer_between i.hardware by.question packet (Ethernet.payload_of frame) long (read_arp i.hardware i.checksums frame by.link by.question read)
-    (counted_by (Arps.counts i by.question) (answer_at i.hardware by.question) packet by.answer)
+    (counted_by (Arps.counts i by.question || Arps.probes i by.question) (answer_at i.hardware by.question) packet by.answer)

@@ -379,8 +379,10 @@ fn prints_what_it_holds(rt: HostRuntime) -> Result<(), Fail> {
     let mut queue = queue_of(&rt, 1, 2)?;
     assert!(rt; put(&mut queue, 7, b"a"));
     let text = format!(in rt.alloc(); "{queue:?}")?;
-    let wanted =
-        "PacketBuffer { metadata: RingBuffer { storage: [PacketMetadata { size: 1, header: Some(7) }], read_at: 0, length: 1 }, payload: RingBuffer { storage: [97, 0], read_at: 0, length: 1 } }";
+    let wanted = concat!(
+        "PacketBuffer { metadata: RingBuffer { storage: [PacketMetadata { size: 1, header: Some(7) }], read_at: 0, length: 1 }, ",
+        "payload: RingBuffer { storage: [97, 0], read_at: 0, length: 1 } }"
+    );
     assert!(rt; text.as_str() == wanted);
     Ok(())
 }

@@ -11,13 +11,21 @@ spaces = codes "                    "
 unfoldable pub line_said : ℕ → List ℕ → TcpValue → TcpValue
 line_said number label v = send_after (send_after (send_after v (take (20 - length (decimal number)) spaces)) (decimal number)) label
 
+-- of the frames that came those that are dropped, by reason
+unfoldable pub faults_said : Counts → TcpValue → TcpValue
+faults_said c v =
+    line_said c.checksum (codes " of them with a wrong checksum, dropped\n")
+    (line_said c.header (codes " of them with a damaged header, dropped\n")
+    (line_said c.unknown (codes " of them neither IP nor ARP, dropped\n")
+    (line_said c.too_long (codes " of them too long for the link, dropped\n") v)))
+
 unfoldable pub frames_said : Counts → TcpValue → TcpValue
 frames_said c v =
     line_said c.refused (codes " frames refused by the device\n")
     (line_said c.resets_sent (codes " of them resets\n")
     (line_said c.sent (codes " frames sent\n")
     (line_said c.resets_received (codes " of them resets\n")
-    (line_said c.too_long (codes " of them too long for the link, dropped\n")
+    (faults_said c
     (line_said c.received (codes " frames received\n") v)))))
 
 unfoldable pub served_said : Counts → TcpValue → TcpValue

@@ -59,7 +59,7 @@ said_more most t = record t {
 -- the status line, and the fields that depend on the reply alone
 unfoldable pub head_text : Reply → List ℕ
 head_text Say.Page = codes "HTTP/1.1 200 OK\r\nContent-Type: text/html\r\nContent-Length: 106\r\n"
-head_text Say.Counts = codes "HTTP/1.1 200 OK\r\nContent-Type: text/plain\r\nCache-Control: no-store\r\nContent-Length: 422\r\n"
+head_text Say.Counts = codes "HTTP/1.1 200 OK\r\nContent-Type: text/plain\r\nCache-Control: no-store\r\nContent-Length: 599\r\n"
 head_text Say.Megabyte = codes "HTTP/1.1 200 OK\r\nContent-Type: text/plain\r\nContent-Length: 1000000\r\n"
 head_text Say.BadRequest = codes "HTTP/1.1 400 Bad Request\r\nContent-Type: text/plain\r\nContent-Length: 12\r\n"
 head_text Say.NotFound = codes "HTTP/1.1 404 Not Found\r\nContent-Type: text/plain\r\nContent-Length: 10\r\n"

@@ -1,6 +1,6 @@
 //! What a host counts, as text.
 ghost use Rattle.std.specs.Prelude.{◌≡◌};
-ghost use Rattle.services.specs.Counts.{line_said, frames_said, served_said, counts_said};
+ghost use Rattle.services.specs.Counts.{line_said, faults_said, frames_said, served_said, counts_said};
 
 use itoa::Buffer;
 use sockets::tcp;
@@ -17,6 +17,12 @@ pub struct Counts {
     pub received: u64,
     /// Of them those that were longer than the link takes, which were dropped.
     pub too_long: u64,
+    /// Of them those that were neither IP nor ARP.
+    pub unknown: u64,
+    /// Of them those with a header that is damaged.
+    pub header: u64,
+    /// Of them those with a checksum that is wrong behind the header.
+    pub checksum: u64,
     /// Of them those with a TCP segment that is a reset.
     pub resets_received: u64,
     /// Frames that went.
@@ -40,6 +46,9 @@ impl Counts {
     pub const NONE: Counts = Counts {
         received: 0,
         too_long: 0,
+        unknown: 0,
+        header: 0,
+        checksum: 0,
         resets_received: 0,
         sent: 0,
         resets_sent: 0,
@@ -64,16 +73,38 @@ fn say_line(socket: &mut tcp::Socket, number: u64, label: &[u8])
     let _ = socket.send_slice(label);
 }
 
-#[tactic(auto, unfolding(crate::specs::Counts::frames_said))]
-fn say_frames(socket: &mut tcp::Socket, counts: &Counts)
-    ensures { socket.new ≡ frames_said counts.now socket.old }
+#[tactic(auto, unfolding(crate::specs::Counts::faults_said))]
+fn say_faults(socket: &mut tcp::Socket, counts: &Counts)
+    ensures { socket.new ≡ faults_said counts.now socket.old }
 {
-    say_line(socket, counts.received, b" frames received\n");
     say_line(
         socket,
         counts.too_long,
         b" of them too long for the link, dropped\n",
     );
+    say_line(
+        socket,
+        counts.unknown,
+        b" of them neither IP nor ARP, dropped\n",
+    );
+    say_line(
+        socket,
+        counts.header,
+        b" of them with a damaged header, dropped\n",
+    );
+    say_line(
+        socket,
+        counts.checksum,
+        b" of them with a wrong checksum, dropped\n",
+    );
+}
+
+#[tactic(auto, unfolding(crate::specs::Counts::frames_said))]
+fn say_frames(socket: &mut tcp::Socket, counts: &Counts)
+    ensures { socket.new ≡ frames_said counts.now socket.old }
+{
+    say_line(socket, counts.received, b" frames received\n");
+    say_faults(socket, counts);
     say_line(socket, counts.resets_received, b" of them resets\n");
     say_line(socket, counts.sent, b" frames sent\n");
     say_line(socket, counts.resets_sent, b" of them resets\n");
@@ -90,7 +121,7 @@ fn say_served(socket: &mut tcp::Socket, counts: &Counts)
     say_line(socket, counts.declined, b" requests declined\n");
 }
 
-/// Queues the text: 422 bytes.
+/// Queues the text: 599 bytes.
 pub fn say_counts(socket: &mut tcp::Socket, counts: &Counts)
     ensures { socket.new ≡ counts_said counts.now socket.old }
 {

@@ -59,7 +59,7 @@ fn head_of(reply: Reply) -> &'static [u8]
     match reply {
         Reply::Page => b"HTTP/1.1 200 OK\r\nContent-Type: text/html\r\nContent-Length: 106\r\n",
         Reply::Counts => {
-            b"HTTP/1.1 200 OK\r\nContent-Type: text/plain\r\nCache-Control: no-store\r\nContent-Length: 422\r\n"
+            b"HTTP/1.1 200 OK\r\nContent-Type: text/plain\r\nCache-Control: no-store\r\nContent-Length: 599\r\n"
         }
         Reply::Megabyte => {
             b"HTTP/1.1 200 OK\r\nContent-Type: text/plain\r\nContent-Length: 1000000\r\n"

@@ -1,12 +1,12 @@
 -- What sockets know of the interface that they work for.
-use Rattle.std.specs.Prelude.{ℕ, ℤ, Bool, Option}
+use Rattle.std.specs.Prelude.{ℕ, ℤ, Bool, List, Option}
 use Rattle.net_base.specs.RandomWords.{next_state}
 use Rattle.net_base.specs.ChecksumCapabilities.{ChecksumCapabilities}
 use Rattle.ip_wire.specs.IpAddress.{IpAddress}
 
 -- The moment in microseconds, the interface's addresses, the source that it takes for a destination, the broadcast
--- addresses of its network, the longest IP packet that a frame holds, the checksums that the stack handles itself, and
--- the state of the random words.
+-- addresses of its network, the longest IP packet that a frame holds, the checksums that the stack handles itself, the key
+-- of 16 bytes by which the first numbers of TCP connections are told, if it has one, and the state of the random words.
 pub record ContextValue : Type 0 where
   pub moment : ℤ
   pub has_ip_addr : IpAddress → Bool
@@ -14,6 +14,7 @@ pub record ContextValue : Type 0 where
   pub is_broadcast : IpAddress → Bool
   pub ip_mtu : ℕ
   pub checksums : ChecksumCapabilities
+  pub isn_key : Option (List ℕ)
   pub random : ℕ
 
 -- after a random word was drawn

@@ -40,6 +40,10 @@ pub trait Context {
     fn checksum_caps(&self) -> ChecksumCapabilities
         ensures { result ≡ (context self.now).checksums };
 
+    /// The key by which the first numbers of TCP connections are told, if it has one.
+    fn isn_key(&self) -> Option<[u8; 16]>
+        ensures { result ≡ (context self.now).isn_key };
+
     /// Draws a random word.
     fn rand_u32(&mut self) -> u32
         ensures word { result ≡ word (context self.new).random }

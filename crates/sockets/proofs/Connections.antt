@@ -17,6 +17,7 @@ use Rattle.tcp_model.specs.Due.{poll_of}
 use Rattle.tcp_model.specs.Moments.{is_due}
 use Rattle.tcp_model.specs.Offers.{offered_packet, offer_segment, number_at, offer_choice, offer_ack, offer_syn, offer_reset, offer_keep_alive, offer_held_back}
 use Rattle.tcp_model.specs.Offers.{silent, last_rules, first_rules, backed_off, offer_between, offer_with, offer_of}
+use Rattle.tcp_model.specs.LossRecovery.{loss_probe_moment, loss_probed}
 use Rattle.tcp_model.specs.Probing.{probe_started, probe_moment}
 use Rattle.tcp_model.specs.Retries.{gives_up, given_up}
 use Rattle.tcp_model.specs.Rules.{Choice, time_wait_end, owes_syn, resends, ack_moment, has_text, text_choice, resend_choice, probe_choice, control_for}
@@ -48,9 +49,10 @@ either : (v : TcpValue) (test : Bool) (x y : Offered TcpValue) → IsSaid v x �
 either v true x y p q = p
 either v false x y p q = q
 
-backed : (b : Block) (test : Bool) (b' : Block) → IsSame b b' → IsSame b (if test then backed_off_now b' else b')
-backed b true b' is = record { state = is.state; names = is.names; settings = is.settings }
-backed b false b' is = is
+backed : (b : Block) (test probes : Bool) (b' : Block) → IsSame b b' → IsSame b (if test then backed_off_now b' else if probes then loss_probed b' else b')
+backed b true probes b' is = record { state = is.state; names = is.names; settings = is.settings }
+backed b false true b' is = record { state = is.state; names = is.names; settings = is.settings }
+backed b false false b' is = is
 
 module _ (cx : ContextValue) (v : TcpValue) (pair : EndpointPair) where
   said : (b : Block) → IsSame v.block b → (kind : OfferKind) (header : TcpHeader) (place len : ℕ) →
@@ -131,7 +133,8 @@ module _ (cx : ContextValue) (v : TcpValue) (pair : EndpointPair) where
       (either v b.sender.reset_due (offer_reset cx w pair) (silent false w)
       (said b same Kind.Reset (reset_segment b pair cx.moment (window_of w)) 0 0) (unsaid b same))
       (either v (gives_up cx.moment b (queued_in v)) over first (gives (falls_back b))
-      (said_first going (backed b (is_due cx.moment started.timers.retransmit_at) started (record { state = refl; names = refl; settings = refl }))))))
+      (said_first going (backed b (is_due cx.moment started.timers.retransmit_at) (is_due cx.moment (loss_probe_moment started)) started
+      (record { state = refl; names = refl; settings = refl }))))))
 
 said_with : (pair : Option EndpointPair) (cx : ContextValue) (v : TcpValue) → IsSaid v (offer_with pair cx (unoffered v))
 said_with None cx v =

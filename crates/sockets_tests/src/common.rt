@@ -18,7 +18,7 @@ pub struct Host {
 }
 
 impl Context for Host {
-    ghost use Rattle.std.specs.Prelude.{refl, false, Some, unwrap_or};
+    ghost use Rattle.std.specs.Prelude.{refl, false, Some, None, unwrap_or};
     ghost use Rattle.net_base.specs.RandomWords.{next_state};
     ghost use Rattle.net_base.specs.Capabilities.{all_checksums};
     ghost use Rattle.net_base.specs.Checksum.TheVariants as checksum;
@@ -31,6 +31,7 @@ impl Context for Host {
       ip_mtu =
           1500;
       checksums = all_checksums checksum.Both;
+      isn_key = None;
       random = c.words;
     } };
 
@@ -58,6 +59,10 @@ impl Context for Host {
 
     fn checksum_caps(&self) -> ChecksumCapabilities {
         ChecksumCapabilities::default()
+    }
+
+    fn isn_key(&self) -> Option<[u8; 16]> {
+        None
     }
 
     fn rand_u32(&mut self) -> u32 {

@@ -1,10 +1,13 @@
 pub mod States
 pub mod Reno
 pub mod RoundTrip
+pub mod Scoreboard
 pub mod Moments
 pub mod Offsets
 pub mod Controls
 pub mod Endpoints
+pub mod SipHash
+pub mod FirstNumbers
 pub use Rattle.socket_base.specs.declared.poll_at.PollAt
 pub use Rattle.socket_base.specs.Context
 pub use Rattle.socket_base.specs.declared.offer.Offer

@@ -24,6 +24,10 @@ time_wait_from now = now +ℤ pos 10_000_000
 abbrev pub next_draw_from : ℤ → ℤ
 next_draw_from now = now +ℤ pos 1_000_000
 
+-- 24 days, as long as a timestamp that came counts (RFC 7323, 5.5)
+abbrev pub stamp_end_from : ℤ → ℤ
+stamp_end_from now = now +ℤ pos 2_073_600_000_000
+
 -- the moment has come
 abbrev pub is_due : ℤ → Option ℤ → Bool
 is_due now None = false

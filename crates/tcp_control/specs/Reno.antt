@@ -68,6 +68,13 @@ lost r flight =
       recovers = true;
     }
 
+-- A segment was lost, where selective acknowledgements say what is still on its way: the window is the threshold at once, and doesn't
+-- grow by duplicates (RFC 6675, 5, steps 4.2 and 4.3). After a timeout it says nothing.
+abbrev pub reduced : RenoValue → ℕ → RenoValue
+reduced r flight =
+    if r.timed_out then r
+    else record r { ssthresh = halved r (min flight r.cwnd); cwnd = halved r (min flight r.cwnd); recovers = true }
+
 -- a duplicate beyond the third came: in recovery alone, which a timeout ends (3.2, step 4)
 abbrev pub inflated : RenoValue → RenoValue
 inflated r = if r.recovers then record r { cwnd = min most (r.cwnd + r.mss) } else r

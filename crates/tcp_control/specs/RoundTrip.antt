@@ -1,6 +1,6 @@
 -- The retransmission timeout (RFC 6298), in whole milliseconds: each division drops its rest.
-use Rattle.std.specs.Prelude.{ℕ, ◌+◌, ◌-◌, ◌*◌, ◌/◌, ◌^◌, ◌<◌, ◌≤◌, nat_le, min, max, ℤ, ◌-ℤ◌, unsigned_abs, int_lt, Option, Some, None, is_none, IfSome}
-use Rattle.std.specs.Prelude.{if◌then◌else◌}
+use Rattle.std.specs.Prelude.{ℕ, ◌+◌, ◌-◌, ◌*◌, ◌/◌, ◌^◌, ◌<◌, ◌≤◌, nat_le, min, max, ℤ, ◌-ℤ◌, unsigned_abs, int_lt, Option, Some, None, is_none, IfSome, Bool}
+use Rattle.std.specs.Prelude.{Bool, true, if◌then◌else◌}
 use Rattle.net_base.specs.Time.{IsMoment}
 use Rattle.tcp_control.specs.declared.round_trip.Estimate.{Estimate}
 use Rattle.tcp_control.specs.declared.round_trip.Sample.{Sample}
@@ -77,6 +77,16 @@ advanced_with r by now (Some s) =
 abbrev pub advanced : RoundTripValue → ℕ → ℤ → RoundTripValue
 advanced r by now = advanced_with r by now r.sample
 
+-- nothing is timed that ends past so much
+abbrev pub is_reached : Option Sample → ℕ → Bool
+is_reached None by = true
+is_reached (Some s) by = nat_le s.ends by
+
+-- SND.UNA rises by so much, and an echo tells of a round trip of so many milliseconds: it counts where what is timed is acknowledged, or
+-- nothing is timed (RFC 7323, 4.1)
+abbrev pub echoed : RoundTripValue → ℕ → ℕ → RoundTripValue
+echoed r by millis = if is_reached r.sample by then measured r millis else r
+
 -- a segment that ends so far past SND.UNA was sent now: it is timed, if none is
 abbrev pub timing_with : RoundTripValue → ℕ → ℤ → Option Sample → RoundTripValue
 timing_with r ends now None = record r { sample = Some (record { ends = ends; since = now }) }
@@ -96,3 +106,14 @@ begun_late r = record r { timeout = if is_none r.estimate then max 3000 r.least 
 -- the timer ran out: the timeout is doubled (5.5)
 abbrev pub backed_off : RoundTripValue → RoundTripValue
 backed_off r = record r { timeout = min most_timeout (2 * r.timeout) }
+
+-- LOSS PROBES
+
+-- How long a loss probe waits, in microseconds: two round trips, at least 20 milliseconds, and 200 milliseconds more where no more than a
+-- segment is in flight, whose acknowledgement the remote may delay (RFC 8985, 7.2).
+abbrev pub wait_by : Option Estimate → Bool → Option ℕ
+wait_by None alone = None
+wait_by (Some e) alone = Some (max (e.smoothed * 2000) 20_000 + (if alone then 200_000 else 0))
+
+abbrev pub probe_wait : RoundTripValue → Bool → Option ℕ
+probe_wait r alone = wait_by r.estimate alone

@@ -7,17 +7,23 @@
 pub mod controls;
 pub mod endpoints;
 mod error;
+mod first_numbers;
 pub mod moments;
 mod offer;
 pub mod offsets;
 mod reno;
 mod round_trip;
+mod scoreboard;
+mod sip;
 mod state;
 mod states;
 
 pub use endpoints::{AddressPair, EndpointPair};
 pub use error::{ConnectError, ListenError, RecvError, SendError};
+pub use first_numbers::{first_number, first_numbers_rise};
 pub use offer::{OfferKind, OpenOffer, Reply};
 pub use reno::{Reno, congestion_laws, congestion_windows};
 pub use round_trip::{RoundTrip, least_timeouts, timeouts};
+pub use scoreboard::{Run, Scoreboard};
+pub use sip::{sip_hash, sip_hashes};
 pub use state::State;

@@ -1,7 +1,7 @@
 //! Moments, and when something is due.
 ghost use Rattle.std.specs.Prelude.{◌≡◌};
 ghost use Rattle.net_base.specs.Time.{IsMoment};
-ghost use Rattle.tcp_control.specs.Moments.{later, later_by, timeout_from, time_wait_from, next_draw_from, is_due, is_over, earlier};
+ghost use Rattle.tcp_control.specs.Moments.{later, later_by, timeout_from, time_wait_from, next_draw_from, stamp_end_from, is_due, is_over, earlier};
 
 use crate::RoundTrip;
 use net_base::{Duration, Instant};
@@ -12,6 +12,8 @@ const LONGEST: u64 = 1 << 61;
 const TIME_WAIT: u64 = 10_000_000;
 /// How long after an answer to a segment that isn't acceptable no other goes, in microseconds.
 const BETWEEN_DRAWS: u64 = 1_000_000;
+/// How long a timestamp that came counts, 24 days, in microseconds.
+const STAMP_LIFE: u64 = 2_073_600_000_000;
 
 /// The moment after a duration that the user set.
 pub fn later(now: Instant, duration: Duration) -> Instant
@@ -54,6 +56,14 @@ pub fn next_draw_from(now: Instant) -> Instant
     ensures { result ≡ next_draw_from now }
 {
     now + Duration::from_micros(BETWEEN_DRAWS)
+}
+
+/// Until when a timestamp that comes now counts.
+pub fn stamp_end_from(now: Instant) -> Instant
+    requires { IsMoment now }
+    ensures { result ≡ stamp_end_from now }
+{
+    now + Duration::from_micros(STAMP_LIFE)
 }
 
 /// Whether the moment has come.

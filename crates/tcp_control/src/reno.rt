@@ -2,7 +2,7 @@
 //! a partial acknowledgement doesn't end (RFC 6582).
 ghost use Rattle.std.specs.Prelude.{◌≡◌, ◌≤◌, ℕ, true, false};
 ghost use Rattle.tcp_control.specs.Reno.{RenoValue, IsBounded, fresh, with_mss, first_window, started, growth, halved, acknowledged, partly, recovered, lost};
-ghost use Rattle.tcp_control.specs.Reno.{inflated, timed_out};
+ghost use Rattle.tcp_control.specs.Reno.{reduced, inflated, timed_out};
 
 use std::marker::Model;
 
@@ -134,6 +134,20 @@ impl Reno {
         self.ssthresh = self.halved(flight.min(self.cwnd));
         self.cwnd = (self.ssthresh + 3 * self.mss as u32).min(MOST);
         self.recovers = true;
+    }
+
+    /// A segment was lost while so much was in flight, where selective acknowledgements say what is still
+    /// on its way.
+    pub fn reduce(&mut self, flight: u32)
+        ensures { self.new ≡ reduced self.old flight }
+    {
+        let counts = !self.timed_out;
+        if counts {
+            let half = self.halved(flight.min(self.cwnd));
+            self.ssthresh = half;
+            self.cwnd = half;
+            self.recovers = true;
+        }
     }
 
     /// A duplicate beyond the third came: in recovery a segment has left.

@@ -1,8 +1,8 @@
 //! The retransmission timeout (RFC 6298), in whole milliseconds.
 ghost use Rattle.std.specs.Prelude.{◌≡◌, ◌<◌, ◌≤◌, ◌^◌, ◌*◌, pos, Some};
 ghost use Rattle.net_base.specs.Time.{IsMoment};
-ghost use Rattle.tcp_control.specs.RoundTrip.{IsTimed, shortest_timeout, most_timeout, fresh, least_of, with_least, smoothed, timeout_of, measured};
-ghost use Rattle.tcp_control.specs.RoundTrip.{millis_between, advanced, timing, untimed, begun_late, backed_off};
+ghost use Rattle.tcp_control.specs.RoundTrip.{IsTimed, shortest_timeout, most_timeout, fresh, least_of, probe_wait, with_least, smoothed, timeout_of, measured};
+ghost use Rattle.tcp_control.specs.RoundTrip.{millis_between, advanced, is_reached, echoed, timing, untimed, begun_late, backed_off};
 
 use net_base::{Duration, Instant};
 use std::marker::Model;
@@ -51,6 +51,12 @@ const SHORTEST_TIMEOUT: u16 = 10;
 
 const MOST_TIMEOUT: u16 = 60_000;
 
+/// A loss probe waits no less, in microseconds.
+const LEAST_PROBE_WAIT: u64 = 20_000;
+
+/// How long the remote may delay the acknowledgement of one segment, in microseconds.
+const DELAYED_ACK: u64 = 200_000;
+
 const LATE_TIMEOUT: u16 = 3000;
 
 impl RoundTrip {
@@ -81,6 +87,18 @@ impl RoundTrip {
         Duration::from_millis(self.least as u64)
     }
 
+    /// How long a loss probe waits, in microseconds, where a round trip is known. `alone` says that no more
+    /// than a segment is in flight, whose acknowledgement the remote may delay.
+    pub fn probe_wait(&self, alone: bool) -> Option<u64>
+        ensures { result ≡ probe_wait self.now alone }
+    {
+        let delay = if alone { DELAYED_ACK } else { 0 };
+        match self.estimate {
+            None => None,
+            Some(estimate) => Some((estimate.smoothed * 2000).max(LEAST_PROBE_WAIT) + delay),
+        }
+    }
+
     /// Sets the least timeout, in whole milliseconds between 10 and a minute. One that is higher than
     /// the timeout counts at once, another from the next round trip on.
     pub fn set_least(&mut self, least: Duration)
@@ -105,6 +123,26 @@ impl RoundTrip {
                 ends: sample.ends - by,
                 since: sample.since,
             });
+        }
+    }
+
+    /// SND.UNA rises by so much, and an echo tells of a round trip of so many milliseconds. It counts
+    /// where what is timed is acknowledged, or nothing is timed.
+    pub fn take_echo(&mut self, by: u32, millis: u32)
+        ensures { self.new ≡ echoed self.old by millis }
+    {
+        if self.is_reached(by) {
+            self.measure(millis as u64);
+        }
+    }
+
+    /// Whether nothing is timed that ends past so much.
+    fn is_reached(&self, by: u32) -> bool
+        ensures { result ≡ is_reached self.now.sample by }
+    {
+        match self.sample {
+            None => true,
+            Some(sample) => sample.ends <= by,
         }
     }
 

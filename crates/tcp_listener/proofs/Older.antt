@@ -40,3 +40,5 @@ module _ (n : ℕ) (stage : Stage) (es : List Entry) where
   -- it is the first
   pub older_first : IsOldestOf n stage es None → (entry_at es n).stage ≡ stage → IsOldestOf (n + 1) stage es (Some n)
   older_first so_far is = (omega arith, is, λ j h. least_at n (λ _. omega arith) (λ j' h' is'. absurd (so_far j' h' is')) j (which j h))
+
+pub ruleset older = (older_other, older_later, older_sooner, older_first)

@@ -5,7 +5,7 @@ use crate::entry::Entry;
 use crate::stage::Stage;
 
 /// Where the entry is that has been at this stage for longest, the first of several.
-#[tactic(auto, using(crate::proofs::Older::older_other, crate::proofs::Older::older_later, crate::proofs::Older::older_sooner, crate::proofs::Older::older_first))]
+#[tactic(auto, using(crate::proofs::Older::older))]
 pub(crate) fn oldest(entries: &[Entry], stage: Stage) -> Option<usize>
     ensures { IsOldest stage entries.now result }
 {

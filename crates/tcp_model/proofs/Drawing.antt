@@ -22,10 +22,11 @@ use Rattle.tcp_model.specs.Acknowledged.{acknowledged, block_acknowledged, acks_
 use Rattle.tcp_model.specs.Acknowledged.{duplicates_after}
 use Rattle.tcp_model.specs.Answers.{may_draw, with_draw, drawn, acked, answer_for}
 use Rattle.tcp_model.specs.Arrival.{arrives, arrives_in, is_void_syn, outside, tells_news, passed_outside, waiting_anew, inside, taken, told, with_content}
-use Rattle.tcp_model.specs.Arrival.{continued, finished, checked, reset_comes, takes_reset, challenges_reset, challenges_syn}
+use Rattle.tcp_model.specs.Arrival.{continued, finished, checked, reset_comes, echo_heard, takes_reset, challenges_reset, draws_first}
 use Rattle.tcp_model.specs.Calls.{listening, send_after, close_after}
 use Rattle.tcp_model.specs.Checks.{Check, acknowledgement_check, is_in_window, falls_back, taken_down}
 use Rattle.tcp_model.specs.Checks.Check.{Passes, Old, Drops, Draws, Resets}
+use Rattle.tcp_model.specs.LossRecovery.{loss_probe_moment, loss_probed, loss_probed_by}
 use Rattle.tcp_model.specs.Offers.{silent, offer_of, offer_with, offer_between, offer_reset, first_rules, last_rules, backed_off, offer_syn, offer_choice}
 use Rattle.tcp_model.specs.Offers.{offer_ack, offer_keep_alive, offer_held_back}
 use Rattle.tcp_model.specs.Opening.{opens, takes_answer, is_first_syn, acks_syn, connected, crossed}
@@ -40,6 +41,7 @@ use Rattle.tcp_model.specs.Settled.{settled, sent_as, recorded, probed, end_of}
 use Rattle.tcp_model.specs.Text.{Texted, texted, with_text, with_text_at, with_bytes_at, taken_in_order, held_early, has_new_text, laid, takes_fin, with_fin}
 use Rattle.tcp_model.specs.Text.{fin_taken}
 use Rattle.tcp_model.specs.Timeout.{timeout_end, timeout_started, timed_out}
+use Rattle.tcp_model.specs.Timestamps.{stamp_taken, echo_taken}
 use Rattle.tcp_model.specs.Value.{TcpValue, Arrived, with_block, dropped, answered_with, unoffered, ended, queued_in, free_in, room_of}
 use Rattle.tcp_model.specs.declared.block.Block.{Block}
 
@@ -97,7 +99,9 @@ first_pause cx v pair =
 
 backed_off_pause : (now : ℤ) (b : Block) → (backed_off now b).timers.draws_from ≡ b.timers.draws_from
 backed_off_pause now b =
-    cond_both (is_due now b.timers.retransmit_at) (backed_off_now b) b (λ (c : Block). c.timers.draws_from ≡ b.timers.draws_from) (λ _. refl) (λ _. refl)
+    cond_both (is_due now b.timers.retransmit_at) (backed_off_now b) (loss_probed_by now b) (λ (c : Block). c.timers.draws_from ≡ b.timers.draws_from)
+    (λ _. refl)
+    (λ _. cond_both (is_due now (loss_probe_moment b)) (loss_probed b) b (λ (c : Block). c.timers.draws_from ≡ b.timers.draws_from) (λ _. refl) (λ _. refl))
 
 -- a socket that is taken back to LISTEN wasn't there
 not_there : (b : Block) → falls_back b ≡ true → is_listening b.state ≡ false
@@ -159,7 +163,7 @@ text_pause v place bytes =
     Kept t = pause_of t.socket ≡ pause_of v
 
     held : Kept (held_early v place (laid v place bytes))
-    held = cond_both (nat_le (length (runs_of (laid v place bytes))) 4) _ (texted v 0 false None) Kept (λ _. refl) (λ _. refl)
+    held = cond_both (nat_le (length (runs_of (laid v place bytes))) 16) _ (texted v 0 false None) Kept (λ _. refl) (λ _. refl)
 
 answer_pause : (cx : ContextValue) (v : TcpValue) (ip : IpRepr) (header : TcpHeader) (size : ℕ) (fills : Bool) (early : Option ℕ) →
     Keeps (pause_of v) (answer_for cx v ip header size fills early)
@@ -182,6 +186,16 @@ acknowledged_pause v by now = either (is_closed (state_after_ack v.block by (que
   either true = refl
   either false = refl
 
+-- an echo says nothing of whether the connection ends
+echo_ends : (v : TcpValue) (header : TcpHeader) (by : ℕ) (now : ℤ)
+    → (acknowledged (echo_heard v header by now) by now).block.state ≡ (block_acknowledged v.block by (queued_in v) now).state
+echo_ends v header by now = either (is_closed (state_after_ack v.block by (queued_in v))) where
+  either : (ends : Bool)
+      → (ended_if ends (in_state (una_moved (echo_taken v.block header by now) by (queued_in v) now) (state_after_ack v.block by (queued_in v)) now)).state
+      ≡ (ended_if ends (in_state (una_moved v.block by (queued_in v) now) (state_after_ack v.block by (queued_in v)) now)).state
+  either true = refl
+  either false = refl
+
 content_pause : (cx : ContextValue) (v : TcpValue) (ip : IpRepr) (header : TcpHeader) (bytes : List ℕ) → Keeps (pause_of v) (with_content cx v ip header bytes)
 content_pause cx v ip header bytes = finished_pause cx v.block (with_text v header bytes) ip header (length bytes) ∙ text_pause v _ _
 
@@ -199,7 +213,9 @@ continued_pause cx old v ip header bytes by =
 
 taken_pause :
     (cx : ContextValue) (v : TcpValue) (ip : IpRepr) (header : TcpHeader) (bytes : List ℕ) (by : ℕ) → Keeps (pause_of v) (taken cx v ip header bytes by)
-taken_pause cx v ip header bytes by = continued_pause cx v.block (acknowledged v by cx.moment) ip header bytes by ∙ acknowledged_pause v by cx.moment
+taken_pause cx v ip header bytes by =
+    let timed : TcpValue = echo_heard v header by cx.moment in
+    continued_pause cx v.block (acknowledged timed by cx.moment) ip header bytes by ∙ acknowledged_pause timed by cx.moment
 
 -- EACH SEGMENT
 
@@ -247,8 +263,13 @@ module _ (cx : ContextValue) (v : TcpValue) (ip : IpRepr) (header : TcpHeader) (
       if tells then not (is_closed (block_acknowledged v.block by (queued_in v) cx.moment).state) else not (is_closed v.block.state)
 
   passed_outside_moves : (by : ℕ) (tells : Bool)
-      → Moves cx v (Draws_outside by tells) (if tells then outside cx (acknowledged v by cx.moment) ip header else outside cx v ip header)
-  passed_outside_moves by true = outside_moves (acknowledged v by cx.moment) (acknowledged_pause v by cx.moment)
+      → Moves cx v (Draws_outside by tells)
+      (if tells then outside cx (acknowledged (echo_heard v header by cx.moment) by cx.moment) ip header else outside cx v ip header)
+  passed_outside_moves by true =
+      let timed : TcpValue = echo_heard v header by cx.moment in
+      let told_of : TcpValue = acknowledged timed by cx.moment in
+      subst (λ (state : State). Moves cx v (not (is_closed state)) (outside cx told_of ip header)) (echo_ends v header by cx.moment)
+      (outside_moves told_of (acknowledged_pause timed by cx.moment))
   passed_outside_moves by false = outside_moves v refl
 
   passed_moves : (by : ℕ) (meets : Bool)
@@ -259,8 +280,8 @@ module _ (cx : ContextValue) (v : TcpValue) (ip : IpRepr) (header : TcpHeader) (
 
   old_moves : (meets : Bool)
       → Moves cx v (not meets && not (is_closed v.block.state))
-      (if meets then with_content cx (with_block v (heard v.block)) ip header bytes else outside cx v ip header)
-  old_moves true = undrawn cx v _ (content_pause cx (with_block v (heard v.block)) ip header bytes)
+      (if meets then with_content cx (with_block v (stamp_taken (heard v.block) header cx.moment)) ip header bytes else outside cx v ip header)
+  old_moves true = undrawn cx v _ (content_pause cx (with_block v (stamp_taken (heard v.block) header cx.moment)) ip header bytes)
   old_moves false = outside_moves v refl
 
   checked_moves : (check : Check) → Moves cx v (draws_by check cx v header (length bytes)) (checked check cx v ip header bytes)
@@ -304,7 +325,7 @@ module _ (cx : ContextValue) (v : TcpValue) (ip : IpRepr) (header : TcpHeader) (
   moves_in In.Closed = undrawn cx v (dropped v) refl
   moves_in In.Listen = undrawn cx v (opens cx v ip header) opens_pause
   moves_in In.SynSent = undrawn cx v (takes_answer cx v ip header bytes) answer_taken_pause
-  moves_in other = received_moves (is_rst header.control) (challenges_syn v.block header)
+  moves_in other = received_moves (is_rst header.control) (draws_first v.block header cx.moment)
 
 same_draws : (cx : ContextValue) (v : TcpValue) (header : TcpHeader) (size : ℕ) (state : State) →
     draws_in state cx (unoffered v) header size ≡ draws_in state cx v header size
@@ -312,8 +333,8 @@ same_draws cx v header size In.Closed = refl
 same_draws cx v header size In.Listen = refl
 same_draws cx v header size In.SynSent = refl
 same_draws cx v header size other =
-    ap (λ (t : Bool). if is_rst header.control then not (takes_reset v.block header) && challenges_reset v header size else if challenges_syn v.block header
-    then true else t)
+    ap (λ (t : Bool). if is_rst header.control then not (takes_reset v.block header) && challenges_reset v header size else if draws_first v.block header
+    cx.moment then true else t)
     (by (acknowledgement_check v.block header.ack_number))
   where
     by : (check : Check) → draws_by check cx (unoffered v) header size ≡ draws_by check cx v header size
@@ -404,7 +425,7 @@ closed_draws cx v header bytes by takes closed long no_reset sized passes =
     any : draws_any cx v header (length bytes) ≡ true
     any =
         if_not (is_rst header.control) (not (takes_reset v.block header) && challenges_reset v header (length bytes)) _ no_reset
-        ∙ so (challenges_syn v.block header) _ passed
+        ∙ so (draws_first v.block header cx.moment) _ passed
 
 -- RUNS
 

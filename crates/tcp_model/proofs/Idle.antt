@@ -1,5 +1,5 @@
 -- An offer that does nothing comes before the due moment.
-use Rattle.std.proofs.Common.{◌≡◌, Bool, true, false, ◌||◌, ◌&&◌, ◌==◌, is_none, if◌then◌else◌, ℤ, ◌<ℤ◌, int_lt, int_le, Option, Some, None, List, [], ◌∷◌}
+use Rattle.std.proofs.Common.{◌≡◌, Bool, true, false, ◌||◌, ◌&&◌, not, ◌==◌, is_none, if◌then◌else◌, ℤ, ◌<ℤ◌, int_lt, int_le, Option, Some, None, List, [], ◌∷◌}
 use Rattle.std.proofs.Common.{refl, sym, ap, ◌∙◌, subst, arith}
 use Rattle.std.proofs.lemmas.Bool.{cond_both}
 use Rattle.tcp_control.specs.Offers.{IsBefore, Offered, offered_as}
@@ -14,13 +14,14 @@ use Rattle.tcp_model.specs.Due.{wishes, moments, any, earlier_of, earliest, at_m
 use Rattle.tcp_control.specs.Moments.{is_due, timeout_from}
 use Rattle.tcp_model.specs.Offers.{silent, offer_syn, offer_choice, offer_ack, offer_keep_alive, offer_held_back, offer_reset, first_rules, last_rules}
 use Rattle.tcp_model.specs.Offers.{backed_off, offer_between, offer_with, offer_of}
+use Rattle.tcp_model.specs.LossRecovery.{loss_probe_moment, loss_probed, loss_probed_by}
 use Rattle.tcp_model.specs.Probing.{probe_started, probe_moment, is_probe_unset, is_probing}
 use Rattle.tcp_model.specs.Quiet.{IsQuiet, AreLater}
 use Rattle.tcp_model.specs.Retries.{gives_up, given_up}
 use Rattle.tcp_model.specs.Rules.{time_wait_end, owes_syn, resends, ack_moment, has_text, text_choice, resend_choice, probe_choice, updates_window}
 use Rattle.tcp_model.specs.Rules.{keep_alive_moment, backed_off_now}
 use Rattle.tcp_model.specs.Settled.{settled}
-use Rattle.tcp_control.specs.States.{is_closed}
+use Rattle.tcp_control.specs.States.{is_closed, sends_text}
 use Rattle.tcp_model.specs.Timeout.{timeout_end, timeout_started, timeout_runs, is_timeout_unset, with_timeout_since, timed_out}
 use Rattle.tcp_model.specs.Value.{TcpValue, with_block, unoffered, ended, queued_in, free_in, room_of}
 use Rattle.tcp_model.proofs.Waits.{same_poll}
@@ -84,7 +85,7 @@ module _ (cx : ContextValue) (pair : EndpointPair) (v : TcpValue) where
   -- the tests of the first rules, and what is left to the last ones
   record IsQuietFirst (w : TcpValue) : Type 0 where
     syn : owes_syn w.block ≡ false
-    third_duplicate : resends w.block ≡ false
+    again : resends w.block ≡ false
     text : has_text w.block pair.addresses cx.ip_mtu w.queued ≡ false
     same : with_block w (probe_started cx.moment (queued_in w) w.block) ≡ v
     last : IsQuietLast cx (with_block w (probe_started cx.moment (queued_in w) w.block))
@@ -110,7 +111,7 @@ module _ (cx : ContextValue) (pair : EndpointPair) (v : TcpValue) where
       (λ _ e. absurd (packet v (offer_choice Kind.Text cx w pair (text_choice w.block pair.addresses cx.ip_mtu w.queued)).socket e))
       (λ no_text e.
       let last = idle_last (with_block w (probe_started cx.moment (queued_in w) w.block)) e in
-      record { syn = no_syn; third_duplicate = no_resend; text = no_text; same = last.0; last = last.1 })))
+      record { syn = no_syn; again = no_resend; text = no_text; same = last.0; last = last.1 })))
 
 -- a moment that was to be set would have been
 unset_not : (counts : Bool) (moment : ℤ) (old : Option ℤ) → (if counts && is_none old then Some moment else old) ≡ old → (counts && is_none old) ≡ false
@@ -133,16 +134,29 @@ module _ (cx : ContextValue) (pair : EndpointPair) (v : TcpValue) where
 
   since_kept : retried.timers.timeout_since ≡ started.timers.timeout_since
   since_kept =
-      cond_both (is_due cx.moment started.timers.retransmit_at) (backed_off_now started) started (λ (b : Block). b.timers.timeout_since ≡
-      started.timers.timeout_since)
+      cond_both (is_due cx.moment started.timers.retransmit_at) (backed_off_now started) (loss_probed_by cx.moment started)
+      (λ (b : Block). b.timers.timeout_since ≡ started.timers.timeout_since)
       (λ _. refl)
-      (λ _. refl)
+      (λ _. cond_both (is_due cx.moment (loss_probe_moment started)) (loss_probed started) started
+      (λ (b : Block). b.timers.timeout_since ≡ started.timers.timeout_since) (λ _. refl) (λ _. refl))
 
   not_retried : retried.timers.retransmit_at ≡ v.block.timers.retransmit_at → is_due cx.moment v.block.timers.retransmit_at ≡ false
   not_retried =
-      cond_both (is_due cx.moment started.timers.retransmit_at) (backed_off_now started) started
+      cond_both (is_due cx.moment started.timers.retransmit_at) (backed_off_now started) (loss_probed_by cx.moment started)
       (λ (b : Block). b.timers.retransmit_at ≡ v.block.timers.retransmit_at → is_due cx.moment v.block.timers.retransmit_at ≡ false)
       (λ _ e. never_due cx.moment v.block.timers.retransmit_at e)
+      (λ later _. later)
+
+  -- a probe that is due takes its moment away
+  never_in : (sends : Bool) → None ≡ v.block.loss.probe_at → is_due cx.moment (if sends then v.block.loss.probe_at else None) ≡ false
+  never_in true e = never_due cx.moment v.block.loss.probe_at e
+  never_in false e = refl
+
+  not_probed : (loss_probed_by cx.moment started).loss.probe_at ≡ v.block.loss.probe_at → is_due cx.moment (loss_probe_moment v.block) ≡ false
+  not_probed =
+      cond_both (is_due cx.moment (loss_probe_moment started)) (loss_probed started) started
+      (λ (b : Block). b.loss.probe_at ≡ v.block.loss.probe_at → is_due cx.moment (loss_probe_moment v.block) ≡ false)
+      (λ _ e. never_in (sends_text v.block.state && (not v.block.sender.syn_unacked && not (v.block.sender.in_flight == 0))) e)
       (λ later _. later)
 
   module _ (no_end : is_due cx.moment (time_wait_end v.block) ≡ false) (no_timeout : is_due cx.moment (timeout_end v.block (queued_in v)) ≡ false)
@@ -158,9 +172,16 @@ module _ (cx : ContextValue) (pair : EndpointPair) (v : TcpValue) where
     no_retry : is_due cx.moment v.block.timers.retransmit_at ≡ false
     no_retry = not_retried (ap (λ t. t.retransmit_at) same_timers)
 
+    goes_on : retried ≡ loss_probed_by cx.moment started
+    goes_on = if_not (is_due cx.moment v.block.timers.retransmit_at) (backed_off_now started) (loss_probed_by cx.moment started) no_retry
+
+    no_loss_probe : is_due cx.moment (loss_probe_moment v.block) ≡ false
+    no_loss_probe =
+        not_probed (sym (ap (λ (b : Block). b.loss.probe_at) goes_on) ∙ ap (λ (w : TcpValue). w.block.loss.probe_at) q.same)
+
     same_block : retried ≡ v.block
     same_block =
-        if_not (is_due cx.moment v.block.timers.retransmit_at) (backed_off_now started) started no_retry
+        goes_on ∙ if_not (is_due cx.moment (loss_probe_moment v.block)) (loss_probed started) started no_loss_probe
         ∙ ap (λ (unset : Bool). with_timeout_since v.block (if unset then Some cx.moment else v.block.timers.timeout_since)) no_start
 
     at_block : IsQuietFirst cx pair v (with_block v v.block)
@@ -180,8 +201,9 @@ module _ (cx : ContextValue) (pair : EndpointPair) (v : TcpValue) where
       timeout = no_timeout;
       timeout_set = no_start;
       retransmission = no_retry;
+      loss_probe = no_loss_probe;
       syn = at_block.syn;
-      third_duplicate = at_block.third_duplicate;
+      again = at_block.again;
       text = at_block.text;
       probe_set = no_probe_set;
       probe = last.probe;
@@ -217,9 +239,9 @@ all_before now (m ∷ ms) later = both_before now m (earliest ms) later.0 (all_b
 quiet_before : (cx : ContextValue) (v : TcpValue) (pair : EndpointPair) → IsQuiet cx v pair → IsBefore cx.moment (poll_open cx.ip_mtu v pair)
 quiet_before cx v pair q =
     let none : any (wishes v.block pair.addresses cx.ip_mtu v.queued (queued_in v) (room_of v.received) (free_in v)) ≡ false =
-    neither _ _ q.syn (neither _ _ q.third_duplicate
+    neither _ _ q.syn (neither _ _ q.again
     (neither _ _ q.text (neither _ _ q.window_update (neither _ _ q.timeout_set (neither _ _ q.probe_set refl))))) in
-    let later : AreLater cx.moment (moments v.block (queued_in v)) = (q.time_wait, (q.timeout, (q.retransmission, (q.probe, (q.ack, (q.keep_alive, tt)))))) in
+    let later : AreLater cx.moment (moments v.block (queued_in v)) = (q.time_wait, (q.timeout, (q.retransmission, (q.loss_probe, (q.probe, (q.ack, (q.keep_alive, tt))))))) in
     subst (λ (at : PollAt). IsBefore cx.moment at)
     (sym (if_not (any (wishes v.block pair.addresses cx.ip_mtu v.queued (queued_in v) (room_of v.received) (free_in v))) At.Now
     (at_moment (earliest (moments v.block (queued_in v)))) none))

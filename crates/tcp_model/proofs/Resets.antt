@@ -165,3 +165,7 @@ pub sent :
 sent cx v pair ip_mtu owes =
     let same = offers_reset cx v pair owes in
     (ap (λ (o : Offered TcpValue). poll_of ip_mtu (settled true o.socket)) same, ap (λ (o : Offered TcpValue). (settled true o.socket).block.names.pair) same)
+
+pub ruleset owing = (aborted, ran_out, gave_up, owes_nothing, waited)
+
+pub ruleset owed_on = (arrival_waits, is_deaf, unsent, sent, close_waits, abort_waits, send_waits, recv_waits, setting_waits)

@@ -68,13 +68,14 @@ is_quiet cx v pair h =
       timeout_set = w5.0;
       retransmission = later.1.1.0;
       syn = w1.0;
-      third_duplicate = w2.0;
+      again = w2.0;
       text = w3.0;
       probe_set = w6.0;
-      probe = later.1.1.1.0;
-      ack = later.1.1.1.1.0;
+      loss_probe = later.1.1.1.0;
+      probe = later.1.1.1.1.0;
+      ack = later.1.1.1.1.1.0;
       window_update = w4.0;
-      keep_alive = later.1.1.1.1.1.0;
+      keep_alive = later.1.1.1.1.1.1.0;
     }
 
 if_not : {A : Type 0} (t : Bool) (x y : A) → t ≡ false → (if t then x else y) ≡ y
@@ -90,14 +91,14 @@ no_probe_set cx v pair q =
 
 quiet_first : (cx : ContextValue) (v : TcpValue) (pair : EndpointPair) → IsQuiet cx v pair → first_rules cx v pair ≡ silent false v
 quiet_first cx v pair q =
-    if_not _ _ _ q.syn ∙ (if_not _ _ _ q.third_duplicate ∙ (if_not _ _ _ q.text
+    if_not _ _ _ q.syn ∙ (if_not _ _ _ q.again ∙ (if_not _ _ _ q.text
     ∙ (ap (λ (b : Block). last_rules cx (with_block v b) pair) (no_probe_set cx v pair q) ∙ quiet_last cx v pair q)))
 
 no_moment_set : (cx : ContextValue) (v : TcpValue) (pair : EndpointPair) → IsQuiet cx v pair →
     backed_off cx.moment (timeout_started cx.moment (queued_in v) v.block) ≡ v.block
 no_moment_set cx v pair q =
     ap (λ (unset : Bool). backed_off cx.moment (with_timeout_since v.block (if unset then Some cx.moment else v.block.timers.timeout_since))) q.timeout_set
-    ∙ if_not _ _ _ q.retransmission
+    ∙ (if_not _ _ _ q.retransmission ∙ if_not _ _ _ q.loss_probe)
 
 neither : (a b : Bool) → a ≡ false → b ≡ false → (a || b) ≡ false
 neither true b e f = absurd (cc)

@@ -11,7 +11,7 @@ use Rattle.tcp_model.specs.declared.block.Sender.{Sender}
 use Rattle.tcp_model.specs.declared.block.Timers.{Timers}
 use Rattle.tcp_control.specs.declared.state.State.{State}
 use Rattle.tcp_model.specs.Blocks.{one_if, unacked, forgotten, past_top}
-use Rattle.tcp_control.specs.Controls.{or_recent, is_fin}
+use Rattle.tcp_control.specs.Controls.{is_fin}
 use Rattle.tcp_control.specs.Moments.{timeout_from, time_wait_from}
 use Rattle.tcp_control.specs.Offsets.{behind_by, past_by, before_by}
 use Rattle.tcp_control.specs.Reno as reno
@@ -19,6 +19,8 @@ use Rattle.tcp_control.specs.Reno.{RenoValue}
 use Rattle.tcp_control.specs.RoundTrip as round_trip
 use Rattle.tcp_control.specs.RoundTrip.{RoundTripValue}
 use Rattle.tcp_control.specs.States.{is_closed, is_time_wait, owes_fin, after_ack, after_ack_of_fin}
+use Rattle.tcp_model.specs.LossRecovery.{loss_acked, ranges_noted, is_first_lost, is_lost_again}
+use Rattle.tcp_model.specs.Timestamps.{stamp_taken}
 use Rattle.tcp_model.specs.Value.{TcpValue, queued_in}
 
 -- how many bytes of the send queue are acknowledged
@@ -65,9 +67,13 @@ acks_in_recovery b by = b.reno.recovers && not (by == 0)
 abbrev pub is_partial : Block → ℕ → Bool
 is_partial b by = acks_in_recovery b by && nat_lt (by + 1) b.sender.recover
 
+-- what a partial acknowledgement makes of so many bytes: with selective acknowledgements the window stays (RFC 6675, 5)
+abbrev pub partly_after : Block → ℕ → ℕ → RenoValue
+partly_after b by queued = if b.peer.sack then b.reno else reno.partly b.reno (freed_by b by queued)
+
 -- what recovery makes of so many bytes
 abbrev pub recovery_after : Block → ℕ → ℕ → RenoValue
-recovery_after b by queued = if is_partial b by then reno.partly b.reno (freed_by b by queued) else reno.recovered b.reno
+recovery_after b by queued = if is_partial b by then partly_after b by queued else reno.recovered b.reno
 
 -- a connection begins with its first window; in fast recovery an acknowledgement is partial, or ends it; else the window grows by what is
 -- acknowledged
@@ -78,12 +84,12 @@ reno_after b by queued =
     else reno.acknowledged b.reno (freed_by b by queued)
 
 -- SND.UNA rises: sender, retransmission timer, round trip and congestion. After a partial acknowledgement the segment at SND.UNA is to
--- go again at once.
-abbrev pub una_moved : Block → ℕ → ℕ → ℤ → Block
-una_moved b by queued now = record b {
+-- go again at once, unless it did. Only without selective acknowledgements the timer doesn't start again at each one.
+abbrev pub una_risen : Block → ℕ → ℕ → ℤ → Block
+una_risen b by queued now = record b {
   sender = record (sender_moved b.sender by) {
-    resend = (b.sender.resend && (by == 0)) || is_partial b by;
-    partial = b.sender.partial || is_partial b by;
+    resend = (b.sender.resend && (by == 0)) || (is_partial b by && (b.loss.resent - by == 0));
+    partial = b.sender.partial || (is_partial b by && not b.peer.sack);
   };
   timers = record b.timers {
     retransmit_at =
@@ -92,6 +98,10 @@ una_moved b by queued now = record b {
   round_trip = round_trip_after b by now;
   reno = reno_after b by queued;
 }
+
+abbrev pub una_moved : Block → ℕ → ℕ → ℤ → Block
+una_moved b by queued now =
+    record (una_risen b by queued now) { loss = loss_acked (una_risen b by queued now) by (is_partial b by) now }
 
 -- the FIN is acknowledged
 abbrev pub acks_fin : Block → ℕ → ℕ → Bool
@@ -159,11 +169,8 @@ windowed b header = record b {
   };
 }
 
-abbrev pub stamp_taken : Block → TcpHeader → Block
-stamp_taken b header = record b { peer = record b.peer { recent = or_recent header.options.timestamp b.peer.recent } }
-
-abbrev pub window_set : Block → TcpHeader → Block
-window_set b header = stamp_taken (if names_window b header then windowed b header else b) header
+abbrev pub window_set : Block → TcpHeader → ℤ → Block
+window_set b header now = stamp_taken (if names_window b header then windowed b header else b) header now
 
 -- DUPLICATES (RFC 5681, 2 and 3.2)
 
@@ -199,27 +206,38 @@ duplicates_after old header size by = if is_duplicate old header size by then mi
 abbrev pub is_third : Block → ℕ → Bool
 is_third b count = (count == 3) && not b.reno.recovers
 
--- It begins fast recovery where more than `recover` is acknowledged (RFC 6582, 3.2, step 2). Else the timer ran out, and it may answer a
--- segment that went again without need: it says nothing of the window.
+-- It begins fast recovery, and so do ranges that say so much (RFC 6675, 5), where more than `recover` is acknowledged (RFC 6582, 3.2,
+-- step 2). Else the timer ran out, and a duplicate may answer a segment that went again without need: it says nothing of the window.
 abbrev pub begins_recovery : Block → ℕ → Bool
-begins_recovery b count = (count == 3) && (b.sender.recover == 0)
+begins_recovery b count = (b.sender.recover == 0) && ((count == 3) || is_first_lost b)
 
--- where recovery begins a segment was lost; each other one in recovery says that a segment has left
-abbrev pub reno_counted : RenoValue → ℕ → ℕ → Bool → RenoValue
-reno_counted r count flight begins = if begins then reno.lost r flight else if count == 0 then r else reno.inflated r
+-- Where recovery begins a segment was lost, and the loss of what went again is one more (RFC 5681, 4.3); each other one in recovery says
+-- that a segment has left, but where ranges tell so the window doesn't grow.
+abbrev pub reno_counted : RenoValue → Bool → ℕ → ℕ → Bool → Bool → RenoValue
+reno_counted r sack count flight begins again =
+    if begins then (if sack then reno.reduced r flight else reno.lost r flight)
+    else if again then reno.reduced r flight
+    else if not (count == 0) && not sack then reno.inflated r
+    else r
 
 -- its ranges name positions
-abbrev pub ranges_taken : Block → TcpHeader → Block
-ranges_taken b header = record b { sender = record b.sender { sacked = max b.sender.sacked (sacked_by b header) } }
+abbrev pub ranges_taken : Block → TcpHeader → ℤ → Block
+ranges_taken b header now =
+    record b { sender = record b.sender { sacked = max b.sender.sacked (sacked_by b header) }; loss = ranges_noted b header now }
 
--- at the third the segment at SND.UNA is to go again
+-- where recovery begins, nothing went again yet; and what went again may be lost
+abbrev pub starts_again : Block → ℕ → Bool
+starts_again b count = begins_recovery b count || is_lost_again b
+
+-- at the third, and where recovery begins, the segment at SND.UNA is to go again
 abbrev pub counted : Block → ℕ → Block
 counted b count = record b {
   sender = record b.sender {
     duplicates = count;
-    resend = b.sender.resend || is_third b count;
+    resend = b.sender.resend || (is_third b count || begins_recovery b count);
     recover = if begins_recovery b count then past_top b else b.sender.recover;
     partial = b.sender.partial && not (begins_recovery b count);
   };
-  reno = reno_counted b.reno count b.sender.in_flight (begins_recovery b count);
+  loss = record b.loss { resent = if starts_again b count then 0 else b.loss.resent };
+  reno = reno_counted b.reno b.peer.sack count b.sender.in_flight (begins_recovery b count) (is_lost_again b);
 }

@@ -18,7 +18,7 @@ use Rattle.tcp_model.specs.Value.{TcpValue, Arrived, with_block, dropped, answer
 -- an acknowledgement of all that came went out, with this window field, for a receive buffer of this capacity: none is due any more
 abbrev pub ack_recorded : Block → ℕ → ℕ → Block
 ack_recorded b capacity window = record b {
-  receiver = record b.receiver { edge = edge_after b capacity (window * 2 ^ own_shift b capacity) };
+  receiver = record b.receiver { edge = edge_after b capacity (window * 2 ^ own_shift b capacity); last_ack = b.receiver.next };
   timers = record b.timers { ack_at = None; text_unacked = false };
 }
 

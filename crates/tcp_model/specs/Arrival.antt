@@ -19,6 +19,7 @@ use Rattle.tcp_model.specs.Segments.{rst_reply}
 use Rattle.tcp_control.specs.States.{is_closed, is_answering, is_time_wait}
 use Rattle.tcp_model.specs.Text.{Texted, with_text, with_fin}
 use Rattle.tcp_model.specs.Timeout.{timeout_restarted}
+use Rattle.tcp_model.specs.Timestamps.{stamp_taken, echo_taken, is_stale}
 use Rattle.tcp_model.specs.Value.{TcpValue, Arrived, with_block, dropped, answered_with, unoffered, queued_in, free_in, room_of}
 
 -- a FIN that comes again in TIME-WAIT restarts it
@@ -39,11 +40,16 @@ outside cx v ip header =
 abbrev pub tells_news : TcpValue → TcpHeader → ℕ → Bool
 tells_news v header size = not (is_answering v.block.state) && lies_before v.block (room_of v.received) header size
 
+-- the round trip that the echo of a segment tells of
+abbrev pub echo_heard : TcpValue → TcpHeader → ℕ → ℤ → TcpValue
+echo_heard v header by now = with_block v (echo_taken v.block header by now)
+
 -- Outside the window, with an acknowledgement that passes. The acknowledgement of a segment that lies just before the window is taken,
 -- since the remote may have nothing else to say it in: all that it sends may be old here.
 abbrev pub passed_outside : ContextValue → TcpValue → IpRepr → TcpHeader → ℕ → ℕ → Arrived
 passed_outside cx v ip header size by =
-    if tells_news v header size then outside cx (acknowledged v by cx.moment) ip header else outside cx v ip header
+    if tells_news v header size then outside cx (acknowledged (echo_heard v header by cx.moment) by cx.moment) ip header
+    else outside cx v ip header
 
 -- its text was taken: then its FIN is, and it may be answered. `old` is the block before the text.
 abbrev pub finished : ContextValue → Block → Texted → IpRepr → TcpHeader → ℕ → Arrived
@@ -59,7 +65,7 @@ with_content cx v ip header bytes = finished cx v.block (with_text v header byte
 -- the window of a segment, what its ranges name, and which duplicate it is
 abbrev pub told : TcpValue → TcpHeader → ℕ → ℤ → TcpValue
 told v header duplicates now =
-    with_block v (timeout_restarted (counted (ranges_taken (window_set v.block header) header) duplicates) now (queued_in v))
+    with_block v (timeout_restarted (counted (ranges_taken (window_set v.block header now) header now) duplicates) now (queued_in v))
 
 -- its acknowledgement was taken: then its window and its text are. `old` is the block as the segment found it.
 abbrev pub continued : ContextValue → Block → TcpValue → IpRepr → TcpHeader → List ℕ → ℕ → Arrived
@@ -69,7 +75,8 @@ continued cx old v ip header bytes by =
 
 -- an accepted segment; where it ends LAST-ACK nothing more is done
 abbrev pub taken : ContextValue → TcpValue → IpRepr → TcpHeader → List ℕ → ℕ → Arrived
-taken cx v ip header bytes by = continued cx v.block (acknowledged v by cx.moment) ip header bytes by
+taken cx v ip header bytes by =
+    continued cx v.block (acknowledged (echo_heard v header by cx.moment) by cx.moment) ip header bytes by
 
 -- inside the window: in SYN-RECEIVED it may be a SYN still (fourth)
 abbrev pub inside : ContextValue → TcpValue → IpRepr → TcpHeader → List ℕ → ℕ → Arrived
@@ -81,7 +88,7 @@ checked (Passes by) cx v ip header bytes =
     if is_in_window v.block (free_in v) header (length bytes) then inside cx v ip header bytes by
     else passed_outside cx v ip header (length bytes) by
 checked Old cx v ip header bytes =
-    if is_in_window v.block (free_in v) header (length bytes) then with_content cx (with_block v (heard v.block)) ip header bytes
+    if is_in_window v.block (free_in v) header (length bytes) then with_content cx (with_block v (stamp_taken (heard v.block) header cx.moment)) ip header bytes
     else outside cx v ip header
 checked Drops cx v ip header bytes = dropped v
 checked Draws cx v ip header bytes = drawn cx v ip header
@@ -107,10 +114,14 @@ reset_comes cx v ip header size =
 abbrev pub challenges_syn : Block → TcpHeader → Bool
 challenges_syn b header = is_syn header.control && not (is_answering b.state)
 
+-- an ACK answers it before its acknowledgement is looked at: its timestamp is too old (RFC 7323, 5.3, R1), or it is a SYN
+abbrev pub draws_first : Block → TcpHeader → ℤ → Bool
+draws_first b header now = is_stale b header now || challenges_syn b header
+
 abbrev pub received : ContextValue → TcpValue → IpRepr → TcpHeader → List ℕ → Arrived
 received cx v ip header bytes =
     if is_rst header.control then reset_comes cx v ip header (length bytes)
-    else if challenges_syn v.block header then drawn cx v ip header
+    else if draws_first v.block header cx.moment then drawn cx v ip header
     else checked (acknowledgement_check v.block header.ack_number) cx v ip header bytes
 
 abbrev pub arrives_in : State → ContextValue → TcpValue → IpRepr → TcpHeader → List ℕ → Arrived

@@ -4,17 +4,20 @@ use Rattle.std.specs.Prelude.{ℕ, zero, suc, ◌+◌, ◌-◌, ◌*◌, ◌/◌
 use Rattle.ip_wire.specs.IpListenEndpoint.{IpListenEndpoint}
 use Rattle.ip_wire.specs.SeqNumber.{SeqNumber}
 use Rattle.tcp_model.specs.declared.block.Block.{Block}
+use Rattle.tcp_model.specs.declared.block.Loss.{Loss}
 use Rattle.tcp_model.specs.declared.block.Names.{Names}
 use Rattle.tcp_model.specs.declared.block.Peer.{Peer}
 use Rattle.tcp_model.specs.declared.block.Receiver.{Receiver}
 use Rattle.tcp_model.specs.declared.block.Sender.{Sender}
 use Rattle.tcp_model.specs.declared.block.Settings.{Settings}
+use Rattle.tcp_model.specs.declared.block.Stamps.{Stamps}
 use Rattle.tcp_model.specs.declared.block.Timers.{Timers}
 use Rattle.tcp_model.specs.declared.block.CongestionControl.TheVariants as Congestion
 use Rattle.tcp_control.specs.declared.state.State.TheVariants as In
 use Rattle.tcp_control.specs.Offsets.{behind_by}
 use Rattle.tcp_control.specs.Reno as reno
 use Rattle.tcp_control.specs.RoundTrip as round_trip
+use Rattle.tcp_control.specs.Scoreboard.{no_runs}
 use Rattle.tcp_control.specs.States.{owes_fin}
 
 abbrev pub one_if : Bool → ℕ
@@ -47,12 +50,11 @@ fresh_sender una syn_unacked = record {
   syn_lost = false;
   timeouts = 0;
   unanswered = 0;
-  stamped = false;
   reset_due = false;
 }
 
 abbrev pub fresh_receiver : Receiver
-fresh_receiver = record { next = no_number; took_syn = false; took_fin = false; edge = 0; mss = 0 }
+fresh_receiver = record { next = no_number; took_syn = false; took_fin = false; edge = 0; mss = 0; last_ack = no_number }
 
 -- the largest payload is 536 bytes where the remote names none (3.7.1)
 abbrev pub fresh_peer : Peer
@@ -69,6 +71,9 @@ fresh_peer = record {
   recent = 0;
 }
 
+abbrev pub fresh_stamps : Stamps
+fresh_stamps = record { generator = None; first = 0; believed_until = None }
+
 abbrev pub fresh_timers : Timers
 fresh_timers = record {
   retransmit_at = None;
@@ -79,6 +84,18 @@ fresh_timers = record {
   counts_from = None;
   time_wait_ends = None;
   timeout_since = None;
+}
+
+-- nothing is known of what the remote holds, and nothing went again
+abbrev pub fresh_loss : Loss
+fresh_loss = record {
+  board = record { runs = no_runs };
+  resent = 0;
+  mark = 0;
+  eager = false;
+  probes = false;
+  probed = false;
+  probe_at = None;
 }
 
 -- Nothing is set: the delay of an acknowledgement is 10 milliseconds, a connection gives up after more than three minutes while it is
@@ -107,9 +124,11 @@ fresh_block settings = record {
   sender = fresh_sender no_number false;
   receiver = fresh_receiver;
   peer = fresh_peer;
+  stamps = fresh_stamps;
   timers = fresh_timers;
   round_trip = round_trip.with_least settings.min_rto round_trip.fresh;
   reno = reno.fresh;
+  loss = fresh_loss;
   settings = settings;
 }
 

@@ -2,13 +2,12 @@
 -- offer as not sent.
 use Rattle.std.specs.Prelude.{ℕ, ◌+◌, ◌%◌, ◌==◌, not, ◌&&◌, ◌||◌, min, Bool, true, false, if◌then◌else◌, List, ◌++◌, length, take, drop, Option, Some, None}
 use Rattle.std.specs.Prelude.{is_some, Result, Ok, Err, is_ok}
-use Rattle.net_base.specs.RandomWords.{word}
 use Rattle.net_base.specs.Ring.{Ring, anchored, enqueued}
 use Rattle.ip_wire.specs.IpAddress.{IpAddress}
 use Rattle.ip_wire.specs.IpEndpoint.{IpEndpoint}
 use Rattle.ip_wire.specs.IpListenEndpoint.{IpListenEndpoint}
 use Rattle.ip_wire.specs.AddressTests.{is_unspecified}
-use Rattle.tcp_control.specs.Context.{ContextValue, next_random}
+use Rattle.tcp_control.specs.Context.{ContextValue}
 use Rattle.held_bytes.specs.ReceiveMap.{space}
 use Rattle.tcp_control.specs.declared.endpoints.AddressPair.{AddressPair}
 use Rattle.tcp_model.specs.declared.block.Block.{Block}
@@ -24,6 +23,7 @@ use Rattle.tcp_control.specs.declared.error.SendError.TheVariants as Send
 use Rattle.tcp_control.specs.declared.state.State.TheVariants as In
 use Rattle.tcp_model.specs.Blocks.{fresh_block, fresh_sender, nowhere}
 use Rattle.tcp_control.specs.Endpoints.{pair_of, is_same_listener}
+use Rattle.tcp_control.specs.FirstNumbers.{number_for, draws_number}
 use Rattle.tcp_control.specs.States.{is_closed, is_time_wait, is_listening, is_opening, takes_writes, takes_text, after_close}
 use Rattle.tcp_model.specs.Value.{TcpValue, Received, received_of, with_block, unoffered, ended, opened, room_of}
 
@@ -90,13 +90,14 @@ abbrev pub connected_by : TcpValue → Option EndpointPair → ℕ → TcpValue
 connected_by v None number = unoffered v
 connected_by v (Some pair) number = connecting v pair number
 
--- an accepted connect draws a random word, which is the first number
+-- an accepted connect
 abbrev pub connect_after : ContextValue → TcpValue → IpEndpoint → IpListenEndpoint → TcpValue
 connect_after cx v remote local =
-    if is_closed v.block.state then connected_by v (pair_for cx remote local) (word (next_random cx).random) else unoffered v
+    if is_closed v.block.state then connected_by v (pair_for cx remote local) (number_for cx (pair_for cx remote local)) else unoffered v
 
+-- it draws a random word for its first number, unless a key tells it
 abbrev pub connect_draws : ContextValue → TcpValue → IpEndpoint → IpListenEndpoint → Bool
-connect_draws cx v remote local = is_ok (connect_answer cx v remote local)
+connect_draws cx v remote local = is_ok (connect_answer cx v remote local) && draws_number cx
 
 -- SEND
 

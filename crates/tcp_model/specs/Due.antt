@@ -7,6 +7,7 @@ use Rattle.tcp_control.specs.declared.endpoints.AddressPair.{AddressPair}
 use Rattle.tcp_model.specs.declared.block.Block.{Block}
 use Rattle.tcp_control.specs.declared.endpoints.EndpointPair.{EndpointPair}
 use Rattle.tcp_control.specs.Moments.{earlier}
+use Rattle.tcp_model.specs.LossRecovery.{loss_probe_moment}
 use Rattle.tcp_model.specs.Probing.{is_probe_unset, probe_moment}
 use Rattle.tcp_model.specs.Rules.{time_wait_end, owes_syn, resends, ack_moment, has_text, updates_window, keep_alive_moment}
 use Rattle.tcp_control.specs.States.{is_closed}
@@ -30,6 +31,7 @@ moments b queued =
     time_wait_end b
     ∷ timeout_end b queued
     ∷ b.timers.retransmit_at
+    ∷ loss_probe_moment b
     ∷ probe_moment b queued
     ∷ ack_moment b
     ∷ keep_alive_moment b

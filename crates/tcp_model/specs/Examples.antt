@@ -26,6 +26,7 @@ at now = record {
   is_broadcast = λ _. false;
   ip_mtu = 1500;
   checksums = all_checksums Checksum.Both;
+  isn_key = None;
   random = 0;
 }
 

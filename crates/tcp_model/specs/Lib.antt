@@ -3,6 +3,7 @@
 pub mod Blocks
 pub mod Value
 pub mod Names
+pub mod Timestamps
 pub mod Segments
 pub mod Timeout
 pub mod Probing
@@ -11,6 +12,7 @@ pub mod Calls
 pub mod Settings
 pub mod Opening
 pub mod Checks
+pub mod LossRecovery
 pub mod Acknowledged
 pub mod Text
 pub mod Answers
@@ -30,10 +32,14 @@ pub mod Unsettled
 pub use Rattle.tcp_control.specs.States
 pub use Rattle.tcp_control.specs.Reno
 pub use Rattle.tcp_control.specs.RoundTrip
+pub use Rattle.tcp_control.specs.Scoreboard
+pub use Rattle.tcp_control.specs.declared.scoreboard.Run
 pub use Rattle.tcp_control.specs.Moments
 pub use Rattle.tcp_control.specs.Offsets
 pub use Rattle.tcp_control.specs.Controls
 pub use Rattle.tcp_control.specs.Endpoints
+pub use Rattle.tcp_control.specs.SipHash
+pub use Rattle.tcp_control.specs.FirstNumbers
 pub use Rattle.tcp_control.specs.declared.state.State
 pub use Rattle.tcp_control.specs.declared.error.ConnectError
 pub use Rattle.tcp_control.specs.declared.error.ListenError

@@ -17,6 +17,7 @@ use Rattle.tcp_model.specs.Blocks.{one_if}
 use Rattle.tcp_control.specs.Moments.{is_due}
 use Rattle.tcp_control.specs.Endpoints.{header_for}
 use Rattle.tcp_control.specs.Offsets.{behind_by}
+use Rattle.tcp_model.specs.LossRecovery.{loss_probed_by}
 use Rattle.tcp_model.specs.Probing.{probe_started, probe_moment}
 use Rattle.tcp_model.specs.Retries.{gives_up, given_up}
 use Rattle.tcp_model.specs.Rules.{Choice, time_wait_end, owes_syn, resends, ack_moment, has_text, text_choice, resend_choice, probe_choice, control_for}
@@ -93,9 +94,9 @@ first_rules cx v pair =
     else if has_text v.block pair.addresses cx.ip_mtu v.queued then offer_choice Kind.Text cx v pair (text_choice v.block pair.addresses cx.ip_mtu v.queued)
     else last_rules cx (with_block v (probe_started cx.moment (queued_in v) v.block)) pair
 
--- the retransmission timer (RFC 6298, 5.4)
+-- the retransmission timer (RFC 6298, 5.4), or else a loss probe (RFC 8985, 7.3)
 abbrev pub backed_off : ℤ → Block → Block
-backed_off now b = if is_due now b.timers.retransmit_at then backed_off_now b else b
+backed_off now b = if is_due now b.timers.retransmit_at then backed_off_now b else loss_probed_by now b
 
 abbrev pub offer_between : ContextValue → TcpValue → EndpointPair → Offered TcpValue
 offer_between cx v pair =

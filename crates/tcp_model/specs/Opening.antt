@@ -1,11 +1,10 @@
 -- A segment comes in LISTEN or SYN-SENT (RFC 9293, 3.10.7.2 and 3.10.7.3). A payload on a SYN is ignored.
 use Rattle.std.specs.Prelude.{ℕ, ◌==◌, not, ◌&&◌, ℤ, Bool, true, false, if◌then◌else◌, List, length, Option, Some, None, is_some}
-use Rattle.net_base.specs.RandomWords.{word}
 use Rattle.ip_wire.specs.IpRepr.{IpRepr}
 use Rattle.ip_wire.specs.Seq.{distance_of}
 use Rattle.ip_wire.specs.SeqNumber.{SeqNumber}
 use Rattle.ip_wire.specs.TcpHeader.{TcpHeader}
-use Rattle.tcp_control.specs.Context.{ContextValue, next_random}
+use Rattle.tcp_control.specs.Context.{ContextValue}
 use Rattle.tcp_model.specs.declared.block.Block.{Block}
 use Rattle.tcp_model.specs.declared.block.Peer.{Peer}
 use Rattle.tcp_control.specs.declared.state.State.TheVariants as In
@@ -13,11 +12,13 @@ use Rattle.tcp_model.specs.Acknowledged.{una_moved, or_number}
 use Rattle.tcp_model.specs.Blocks.{fresh_sender, no_number}
 use Rattle.tcp_control.specs.Controls.{is_syn, is_rst, or_mss, or_recent}
 use Rattle.tcp_control.specs.Endpoints.{pair_in}
+use Rattle.tcp_control.specs.FirstNumbers.{first_number, draws_number}
 use Rattle.tcp_control.specs.Offsets.{behind_by}
 use Rattle.tcp_control.specs.Reno.{with_mss}
 use Rattle.tcp_model.specs.Segments.{rst_reply}
 use Rattle.tcp_model.specs.Retries.{heard}
 use Rattle.tcp_model.specs.Timeout.{timeout_restarted}
+use Rattle.tcp_model.specs.Timestamps.{believed, echo_taken}
 use Rattle.tcp_model.specs.Value.{TcpValue, Arrived, with_block, dropped, answered_with, ended, queued_in}
 
 -- what the remote's SYN says of it; its window field isn't shifted (RFC 7323, 2.2)
@@ -37,7 +38,7 @@ peer_of header = record {
 -- the remote's SYN is taken: IRS and what it says of the remote
 abbrev pub took_syn : Block → TcpHeader → Block
 took_syn b header = record b {
-  receiver = record b.receiver { next = behind_by header.seq_number 1; took_syn = true };
+  receiver = record b.receiver { next = behind_by header.seq_number 1; took_syn = true; last_ack = behind_by header.seq_number 1 };
   peer = peer_of header;
   reno = with_mss b.reno (or_mss header.options.max_seg_size);
 }
@@ -59,9 +60,11 @@ abbrev pub opens : ContextValue → TcpValue → IpRepr → TcpHeader → Arrive
 opens cx v ip header =
     if is_first_syn header
     then record {
-      socket = with_block v (timeout_restarted (answering v.block ip header (word (next_random cx).random)) cx.moment 0);
+      socket =
+          with_block v
+          (timeout_restarted (believed (answering v.block ip header (first_number cx (pair_in ip header))) cx.moment) cx.moment 0);
       answer = None;
-      draws = true;
+      draws = draws_number cx;
     }
     else dropped v
 
@@ -73,17 +76,15 @@ acks_syn una (Some n) = distance_of una n == 1
 -- SYN-SENT takes a SYN that acknowledges its own: an acknowledgement of it is due at once
 abbrev pub connected : Block → TcpHeader → ℤ → Block
 connected b header now =
-    record (una_moved (took_syn b header) 1 0 now) {
-      state = In.Established;
-      timers = record (una_moved (took_syn b header) 1 0 now).timers { ack_at = Some now };
-    }
+    let opened : Block = una_moved (echo_taken (took_syn b header) header 1 now) 1 0 now in
+    record opened { state = In.Established; timers = record opened.timers { ack_at = Some now } }
 
 -- SYN-SENT takes a SYN without ACK: both sides open at once (3.5)
 abbrev pub crossed : Block → TcpHeader → Block
 crossed b header = record (heard (took_syn b header)) { state = In.SynReceived }
 
 abbrev pub syn_answered : Block → TcpHeader → ℤ → Block
-syn_answered b header now = if is_some header.ack_number then connected b header now else crossed b header
+syn_answered b header now = believed (if is_some header.ack_number then connected b header now else crossed b header) now
 
 -- a reset counts if it acknowledges the SYN; then an acknowledgement of anything else is answered by a reset; then a SYN is taken
 abbrev pub takes_answer : ContextValue → TcpValue → IpRepr → TcpHeader → List ℕ → Arrived

@@ -8,7 +8,7 @@ use Rattle.tcp_control.specs.States.{is_closed, is_listening}
 use Rattle.tcp_control.specs.declared.state.State.{State}
 use Rattle.tcp_control.specs.declared.state.State.TheVariants as In
 use Rattle.tcp_model.specs.Acknowledged.{block_acknowledged}
-use Rattle.tcp_model.specs.Arrival.{arrives, is_void_syn, tells_news, takes_reset, challenges_reset, challenges_syn}
+use Rattle.tcp_model.specs.Arrival.{arrives, is_void_syn, tells_news, takes_reset, challenges_reset, draws_first}
 use Rattle.tcp_model.specs.Checks.{Check, acknowledgement_check, is_in_window}
 use Rattle.tcp_model.specs.Checks.Check.{Passes, Old, Draws}
 use Rattle.tcp_model.specs.Offers.{offer_of}
@@ -26,11 +26,12 @@ draws_by Old cx v header size = not (is_in_window v.block (free_in v) header siz
 draws_by Draws cx v header size = true
 draws_by check cx v header size = false
 
--- so does a SYN, and a reset inside the window that isn't taken (RFC 5961, 3 and 4)
+-- so does a SYN, a segment with a timestamp that is too old, and a reset inside the window that isn't taken (RFC 5961, 3 and 4; RFC 7323,
+-- 5.3)
 abbrev pub draws_any : ContextValue → TcpValue → TcpHeader → ℕ → Bool
 draws_any cx v header size =
     if is_rst header.control then not (takes_reset v.block header) && challenges_reset v header size
-    else if challenges_syn v.block header then true
+    else if draws_first v.block header cx.moment then true
     else draws_by (acknowledgement_check v.block header.ack_number) cx v header size
 
 abbrev pub draws_in : State → ContextValue → TcpValue → TcpHeader → ℕ → Bool

@@ -1,7 +1,6 @@
 -- What a socket offers: a test for each rule, and what the rules for text may send. `queued` is the length of the send queue,
 -- and `unbroken` says how many of its bytes from a place on lie before the end of the storage.
 use Rattle.std.specs.Prelude.{ℕ, ◌+◌, ◌-◌, ◌*◌, ◌/◌, ◌==◌, nat_lt, nat_le, not, ◌&&◌, ◌||◌, min, max, ℤ, Bool, false, if◌then◌else◌, length, Option, None}
-use Rattle.std.specs.Prelude.{is_some}
 use Rattle.net_base.specs.Ring.{Ring, until_end}
 use Rattle.ip_wire.specs.TcpControl.{TcpControl}
 use Rattle.ip_wire.specs.TcpControl.TheVariants as Control
@@ -11,7 +10,9 @@ use Rattle.tcp_model.specs.declared.block.CongestionControl.{CongestionControl}
 use Rattle.tcp_model.specs.declared.block.CongestionControl.TheVariants as Congestion
 use Rattle.tcp_model.specs.Blocks.{one_if, unacked, past_top, is_worth_telling}
 use Rattle.tcp_control.specs.Endpoints.{ip_header_len}
+use Rattle.tcp_model.specs.LossRecovery.{pipe, fills_hole, again_place, hole_len, loss_timed_out}
 use Rattle.tcp_control.specs.Reno as reno
+use Rattle.tcp_model.specs.Timestamps.{uses_stamps}
 use Rattle.tcp_control.specs.RoundTrip as round_trip
 use Rattle.tcp_control.specs.States.{is_answering, is_time_wait, owes_fin, sends_text, sends_syn, takes_text, keeps_alive}
 
@@ -36,7 +37,7 @@ pub record Choice : Type 0 where
 
 -- the length of the timestamps option with its padding (RFC 7323, 3.2 and appendix A)
 abbrev pub stamp_len : Block → ℕ
-stamp_len b = if (b.peer.timestamps && b.sender.stamped) && is_some b.settings.timestamps then 12 else 0
+stamp_len b = if uses_stamps b then 12 else 0
 
 -- The longest text of a segment: what the remote takes, and a packet holds behind headers without options, less the options that the
 -- segment carries (3.7.1; RFC 6691), but at least a byte. The length field of a packet has 16 bits.
@@ -52,10 +53,14 @@ congestion_limit Congestion.Reno cwnd size = min cwnd size
 abbrev pub beyond : Block → ℕ
 beyond b = if b.sender.recover == 0 then b.reno.mss * min 2 b.sender.duplicates else 0
 
+-- how much the congestion window lets go beyond what is on its way, as far as that is known (RFC 5681; RFC 6675, 5, step C)
+abbrev pub congestion_room : Block → ℕ
+congestion_room b = if b.peer.sack then b.reno.cwnd - pipe b else b.reno.cwnd + beyond b - b.sender.in_flight
+
 -- what both windows leave of so many bytes (3.8.6; RFC 5681)
 abbrev pub window_limit : Block → ℕ → ℕ
 window_limit b size =
-    congestion_limit b.settings.congestion_control (b.reno.cwnd + beyond b - b.sender.in_flight) (min (b.peer.window - b.sender.in_flight) size)
+    congestion_limit b.settings.congestion_control (congestion_room b) (min (b.peer.window - b.sender.in_flight) size)
 
 -- how many queued bytes from a place on lie before the end of the storage
 abbrev pub unbroken : Ring ℕ → ℕ → ℕ
@@ -107,21 +112,29 @@ abbrev pub has_text : Block → AddressPair → ℕ → Ring ℕ → Bool
 has_text b addresses ip_mtu queued =
     sends_choice b (length queued.queue) (size_limit b addresses ip_mtu) (text_choice b addresses ip_mtu queued)
 
--- the third duplicate came, or a partial acknowledgement: the segment at SND.UNA is to go again (RFC 5681, 3.2; RFC 6582, 3.2)
+-- something is to go again: the segment at SND.UNA, since the third duplicate came, or a partial acknowledgement (RFC 5681, 3.2; RFC 6582,
+-- 3.2), the last segment as a probe, or what isn't held at the next hole
 abbrev pub resends : Block → Bool
-resends b = sends_text b.state && b.sender.resend
+resends b = sends_text b.state && (b.sender.resend || (b.loss.probes || fills_hole b))
 
 -- how many places of the send queue, and one for the FIN behind it, were ever sent
 abbrev pub sent_places : Block → ℕ
 sent_places b = b.sender.top - one_if b.sender.syn_unacked
 
--- what was sent before, and no more; no window limits it
-abbrev pub first_text : Block → ℕ → ℕ → Choice
-first_text b queued len = record { place = 0; len = len; fin = fin_goes b queued len && nat_lt len (sent_places b) }
+-- what was sent before, and no more; the remote's window doesn't limit it
+abbrev pub sent_text : Block → ℕ → ℕ → ℕ → Choice
+sent_text b queued place len =
+    record { place = place; len = len; fin = fin_goes b queued (place + len) && nat_lt (place + len) (sent_places b) }
+
+-- from a place on, up to what is held
+abbrev pub resend_from : Block → AddressPair → ℕ → Ring ℕ → ℕ → Choice
+resend_from b addresses ip_mtu queued place =
+    sent_text b (length queued.queue) place
+    (min (hole_len b place (sent_places b)) (min (size_limit b addresses ip_mtu) (unbroken queued place)))
 
 abbrev pub resend_choice : Block → AddressPair → ℕ → Ring ℕ → Choice
 resend_choice b addresses ip_mtu queued =
-    first_text b (length queued.queue) (min (sent_places b) (min (size_limit b addresses ip_mtu) (unbroken queued 0)))
+    resend_from b addresses ip_mtu queued (again_place b (size_limit b addresses ip_mtu) (sent_places b) (length queued.queue))
 
 -- the byte at SND.UNA, which probes a closed window
 abbrev pub probe_choice : Choice
@@ -162,5 +175,6 @@ backed_off_now b = record b {
   };
   timers = record b.timers { retransmit_at = None };
   round_trip = round_trip.untimed (round_trip.backed_off b.round_trip);
+  loss = loss_timed_out b.loss;
   reno = if b.sender.syn_unacked then b.reno else reno.timed_out b.reno b.sender.in_flight;
 }

@@ -18,6 +18,7 @@ use Rattle.tcp_control.specs.declared.offer.Reply.{Reply}
 use Rattle.tcp_model.specs.Blocks.{top, own_scale, field_of}
 use Rattle.tcp_control.specs.Endpoints.{addresses_in, header_for, ip_header_len}
 use Rattle.tcp_control.specs.Offsets.{behind_by}
+use Rattle.tcp_model.specs.Timestamps.{generator_of}
 
 -- the hop limit that is set, or 64
 abbrev pub hops_of : Option ℕ → ℕ
@@ -31,7 +32,7 @@ stamp_by (Some generator) now recent = Some (record { tsval = value_at generator
 
 -- the timestamps of a segment, which hold if both SYNs have them (RFC 7323, 3.2)
 abbrev pub stamp_of : Block → ℤ → Option TcpTimestampRepr
-stamp_of b now = if b.peer.timestamps && b.sender.stamped then stamp_by b.settings.timestamps now b.peer.recent else None
+stamp_of b now = if b.peer.timestamps then stamp_by b.stamps.generator now b.peer.recent else None
 
 abbrev pub no_ranges : List (Option (ℕ × ℕ))
 no_ranges = None ∷ None ∷ None ∷ []
@@ -61,14 +62,15 @@ sack_segment b pair now window ranges =
 abbrev pub mss_for : ℕ → ℕ → ℕ
 mss_for ip_mtu ip_header = min (ip_mtu - ip_header - 20) 65_535
 
--- The options of a SYN. A first one asks for all, and an answer only for what the other SYN had.
+-- The options of a SYN. A first one asks for all, and an answer only for what the other SYN had. One that goes again has the timestamps
+-- of the first.
 abbrev pub syn_options : Block → ℕ → ℤ → ℕ → TcpOptions
 syn_options b mss now scale = record {
   max_seg_size = Some mss;
   window_scale = if not b.receiver.took_syn || is_some b.peer.scale then Some scale else None;
   sack_permitted = not b.receiver.took_syn || b.peer.sack;
   sack_ranges = no_ranges;
-  timestamp = if not b.receiver.took_syn || b.peer.timestamps then stamp_by b.settings.timestamps now b.peer.recent else None;
+  timestamp = if not b.receiver.took_syn || b.peer.timestamps then stamp_by (generator_of b) now b.peer.recent else None;
 }
 
 -- where a SYN was taken

@@ -1,17 +1,21 @@
 -- What an offer is told. A segment that was sent is recorded; one that wasn't leaves all as it is.
-use Rattle.std.specs.Prelude.{ℕ, ◌+◌, ◌*◌, ◌^◌, nat_lt, max, not, ◌&&◌, ℤ, Bool, true, false, if◌then◌else◌, Option, Some, None, is_some}
+use Rattle.std.specs.Prelude.{ℕ, ◌+◌, ◌*◌, ◌^◌, nat_lt, min, max, not, ◌&&◌, ℤ, Bool, true, false, if◌then◌else◌, Option, Some, None, is_some}
 use Rattle.ip_wire.specs.Control.{control_len}
 use Rattle.ip_wire.specs.Seq.{distance_of}
 use Rattle.tcp_model.specs.declared.block.Block.{Block}
 use Rattle.tcp_control.specs.declared.offer.OfferKind.{OfferKind}
 use Rattle.tcp_control.specs.declared.offer.OfferKind.TheVariants as Kind
 use Rattle.tcp_control.specs.declared.offer.OpenOffer.{OpenOffer}
-use Rattle.tcp_model.specs.Blocks.{forgotten, own_shift, edge_after}
+use Rattle.tcp_model.specs.Acknowledged.{or_number}
+use Rattle.tcp_model.specs.Blocks.{one_if, forgotten, own_shift, edge_after}
 use Rattle.tcp_control.specs.Controls.{is_syn, or_mss}
 use Rattle.tcp_control.specs.Moments.{later_by, timeout_from}
+use Rattle.tcp_control.specs.Scoreboard.{first_missing}
+use Rattle.tcp_model.specs.LossRecovery.{probe_armed, loss_resent}
 use Rattle.tcp_model.specs.Probing.{probe_kept}
 use Rattle.tcp_model.specs.Retries.{asked}
 use Rattle.tcp_control.specs.RoundTrip as round_trip
+use Rattle.tcp_model.specs.Timestamps.{stamps_begun}
 use Rattle.tcp_model.specs.Value.{TcpValue, with_block, unoffered, queued_in, room_of}
 
 -- The right edge of the window after a segment announced it, of a receive buffer with this capacity. A SYN's field isn't shifted and may not
@@ -23,7 +27,7 @@ edge_by b o capacity = if is_syn o.segment.control then capacity else edge_after
 -- each segment (3.8.4).
 abbrev pub recorded : Block → OpenOffer → ℕ → Block
 recorded b o capacity = record b {
-  receiver = record b.receiver { edge = edge_by b o capacity };
+  receiver = record b.receiver { edge = edge_by b o capacity; last_ack = or_number b.receiver.last_ack o.segment.ack_number };
   timers = record b.timers {
     ack_at = if is_some o.segment.ack_number then None else b.timers.ack_at;
     text_unacked = not (is_some o.segment.ack_number) && b.timers.text_unacked;
@@ -35,11 +39,16 @@ recorded b o capacity = record b {
 abbrev pub end_of : Block → OpenOffer → ℕ
 end_of b o = distance_of b.sender.una o.segment.seq_number + (o.len + control_len o.segment.control)
 
--- SND.NXT moves past the segment, if that is higher. What reaches further than anything before was sent for the first time: its round
+-- so far past SND.UNA, and past what the remote holds there of the send queue
+abbrev pub past_held : Block → ℕ → ℕ → ℕ
+past_held b end queued =
+    max end (min (first_missing b.loss.board.runs end) (min b.sender.top (one_if b.sender.syn_unacked + queued)))
+
+-- SND.NXT moves past the segment, if that is higher, and past what is held behind it: after a timeout that doesn't go again. What reaches further than anything before was sent for the first time: its round
 -- trip is timed, if none is (RFC 6298, 3).
-abbrev pub nxt_moved : Block → ℕ → ℤ → Block
-nxt_moved b end now = record b {
-  sender = record b.sender { in_flight = max b.sender.in_flight end; top = max b.sender.top end };
+abbrev pub nxt_moved : Block → ℕ → ℕ → ℤ → Block
+nxt_moved b end queued now = record b {
+  sender = record b.sender { in_flight = max b.sender.in_flight (past_held b end queued); top = max b.sender.top end };
   round_trip = if nat_lt b.sender.top end then round_trip.timing b.round_trip end now else b.round_trip;
 }
 
@@ -53,20 +62,25 @@ timer_started b now =
       };
     }
 
+-- a loss probe goes some time from now (RFC 8985, 7.2)
+abbrev pub loss_watched : Block → ℤ → Block
+loss_watched b now = record b { loss = probe_armed b b.loss now }
+
 -- a segment from the send queue, or a SYN, went
 abbrev pub went : Block → OpenOffer → ℕ → Block
-went b o queued = probe_kept (timer_started (nxt_moved b (end_of b o) o.moment) o.moment) queued
+went b o queued = probe_kept (loss_watched (timer_started (nxt_moved b (end_of b o) queued o.moment) o.moment) o.moment) queued
 
--- its SYN has timestamps, or has none, and names the largest payload of a segment
+-- its first SYN begins the own timestamps, and names the largest payload of a segment
 abbrev pub syn_went : Block → OpenOffer → Block
 syn_went b o = record b {
-  sender = record b.sender { stamped = is_some o.segment.options.timestamp };
+  stamps = stamps_begun b o.moment;
   receiver = record b.receiver { mss = or_mss o.segment.options.max_seg_size };
 }
 
--- the segment at SND.UNA went again: it can't be timed (RFC 6298, 3)
-abbrev pub resent : Block → Block
-resent b = record b { sender = record b.sender { resend = false }; round_trip = round_trip.untimed b.round_trip }
+-- something went again, up to so far past SND.UNA: what is timed isn't any more (RFC 6298, 3)
+abbrev pub resent : Block → ℕ → Block
+resent b end =
+    record b { sender = record b.sender { resend = false }; loss = loss_resent b end; round_trip = round_trip.untimed b.round_trip }
 
 -- a probe went that ends so far past SND.UNA, where SND.NXT stays; the next one waits twice as long (3.8.6.1)
 abbrev pub probed : Block → ℕ → ℤ → Block
@@ -80,7 +94,7 @@ probed b end now =
 abbrev pub sent_as : OfferKind → Block → OpenOffer → ℕ → Block
 sent_as Kind.Reset b o queued = forgotten b
 sent_as Kind.Syn b o queued = went (syn_went b o) o queued
-sent_as Kind.FastRetransmission b o queued = went (resent b) o queued
+sent_as Kind.FastRetransmission b o queued = went (resent b (end_of b o)) o queued
 sent_as Kind.Text b o queued = went b o queued
 sent_as Kind.Probe b o queued = asked (probed b (end_of b o) o.moment) o.moment
 sent_as Kind.KeepAlive b o queued = asked b o.moment

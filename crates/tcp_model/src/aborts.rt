@@ -26,7 +26,7 @@ ghost use Rattle.tcp_model.specs.declared.block.Settings.{Settings};
 
 /// An abort owes the remote a reset, and so do the user timeout and a connection that gives up. Where
 /// there is no remote endpoint, or the connection was in TIME-WAIT, nothing is owed.
-#[tactic(auto, using(crate::proofs::Resets::aborted, crate::proofs::Resets::ran_out, crate::proofs::Resets::gave_up, crate::proofs::Resets::owes_nothing, crate::proofs::Resets::waited))]
+#[tactic(auto, using(crate::proofs::Resets::owing))]
 pub fn an_abort_owes_a_reset()
     ensures abort { (v : TcpValue) (pair : EndpointPair) → v.block.names.pair ≡ Some pair → is_time_wait v.block.state ≡ false
         → OwesReset (abort_after v) pair }
@@ -55,7 +55,7 @@ pub fn the_next_offer_makes_the_reset()
 
 /// It is owed until it was sent, whatever comes or is called but an OPEN; then nothing is due, and the
 /// endpoints are forgotten.
-#[tactic(auto, using(crate::proofs::Resets::arrival_waits, crate::proofs::Resets::is_deaf, crate::proofs::Resets::unsent, crate::proofs::Resets::sent, crate::proofs::Resets::close_waits, crate::proofs::Resets::abort_waits, crate::proofs::Resets::send_waits, crate::proofs::Resets::recv_waits, crate::proofs::Resets::setting_waits))]
+#[tactic(auto, using(crate::proofs::Resets::owed_on))]
 pub fn a_reset_is_owed_until_it_is_sent()
     ensures segments { (v : TcpValue) (pair : EndpointPair) (ip : IpRepr) (header : TcpHeader) → OwesReset v pair
         → accepts v.block ip header ≡ false }

@@ -1,5 +1,5 @@
 //! The control block of a connection (RFC 9293, section 3.3.1): all that a socket knows but for its bytes.
-use crate::{EndpointPair, Reno, RoundTrip, State};
+use crate::{EndpointPair, Reno, RoundTrip, Scoreboard, State};
 use ip_wire::{IpListenEndpoint, SeqNumber, TcpTimestampGenerator};
 use net_base::{Duration, Instant};
 
@@ -42,8 +42,6 @@ pub struct Sender {
     pub timeouts: u8,
     /// Probes of a closed window and keep-alives in a row without an answer.
     pub unanswered: u8,
-    /// Whether its SYN, as it went last, had timestamps.
-    pub stamped: bool,
     /// Whether a reset is to go.
     pub reset_due: bool,
 }
@@ -59,6 +57,8 @@ pub struct Receiver {
     pub edge: u32,
     /// The largest payload of a segment, as the own SYN named it.
     pub mss: u16,
+    /// Last.ACK.sent, RCV.NXT as the last acknowledgement named it.
+    pub last_ack: SeqNumber,
 }
 
 /// What the remote said of itself.
@@ -82,6 +82,17 @@ pub struct Peer {
     pub timestamps: bool,
     /// TS.Recent, the timestamp that came last.
     pub recent: u32,
+}
+
+/// The timestamps of a connection (RFC 7323).
+#[derive(Clone, Copy, Debug, PartialEq, Eq)]
+pub struct Stamps {
+    /// The clock of the own ones, as the first SYN had it.
+    pub generator: Option<TcpTimestampGenerator>,
+    /// What it said when that SYN went.
+    pub first: u32,
+    /// Until when TS.Recent counts.
+    pub believed_until: Option<Instant>,
 }
 
 /// The moments at which something is due.
@@ -110,6 +121,26 @@ pub enum CongestionControl {
     None,
     /// As RFC 5681 says.
     Reno,
+}
+
+/// Loss recovery by selective acknowledgements (RFC 6675; RFC 8985). Counts are distances from SND.UNA.
+#[derive(Clone, Copy, Debug, PartialEq, Eq)]
+pub struct Loss {
+    /// What the remote holds.
+    pub board: Scoreboard,
+    /// HighRxt: where what went again in this recovery ends, but for what is held.
+    pub resent: u32,
+    /// The highest position that was sent, and one more, when something last went again.
+    pub mark: u32,
+    /// Whether one run that is held says that what lies before it is lost: a probe went after what isn't
+    /// acknowledged, so the order on the way doesn't explain it.
+    pub eager: bool,
+    /// Whether the last segment that was sent is to go again, as a probe.
+    pub probes: bool,
+    /// Whether a probe went, and nothing new was acknowledged since.
+    pub probed: bool,
+    /// When a probe goes, if nothing new is acknowledged.
+    pub probe_at: Option<Instant>,
 }
 
 /// What the user set. A new connection keeps it.
@@ -144,9 +175,11 @@ pub struct Block {
     pub sender: Sender,
     pub receiver: Receiver,
     pub peer: Peer,
+    pub stamps: Stamps,
     pub timers: Timers,
     pub round_trip: RoundTrip,
     pub reno: Reno,
+    pub loss: Loss,
     pub settings: Settings,
 }
 
@@ -155,6 +188,7 @@ mod checks;
 mod due;
 mod endpoints;
 mod fresh;
+mod loss_recovery;
 mod opening;
 mod retries;
 mod rules;
@@ -162,6 +196,7 @@ mod segments;
 mod settled;
 mod text;
 mod timeout;
+mod timestamps;
 
 pub use checks::Verdict;
 pub use opening::{is_first_syn, is_void_syn};

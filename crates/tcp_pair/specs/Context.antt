@@ -1,5 +1,5 @@
 -- What a side of a pair knows, as a value.
-use Rattle.std.specs.Prelude.{ℕ, ℤ}
+use Rattle.std.specs.Prelude.{ℕ, ℤ, None}
 use Rattle.net_base.specs.Capabilities.{all_checksums}
 use Rattle.net_base.specs.Checksum.TheVariants as Checksum
 use Rattle.net_base.specs.RandomWords.{next_state}
@@ -30,6 +30,7 @@ context_of c = record {
   is_broadcast = λ address. is_same_address address (Ip.Ipv4 broadcast);
   ip_mtu = 1500;
   checksums = all_checksums Checksum.Both;
+  isn_key = None;
   random = c.random;
 }
 

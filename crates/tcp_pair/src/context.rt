@@ -111,6 +111,10 @@ impl Context for PairContext {
         ChecksumCapabilities::default()
     }
 
+    fn isn_key(&self) -> Option<[u8; 16]> {
+        None
+    }
+
     fn rand_u32(&mut self) -> u32 {
         self.words.rand_u32()
     }

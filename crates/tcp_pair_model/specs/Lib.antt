@@ -12,6 +12,7 @@ pub use Rattle.tcp_model.specs.Calls
 pub use Rattle.tcp_model.specs.Checks
 pub use Rattle.tcp_model.specs.Due
 pub use Rattle.tcp_model.specs.Names
+pub use Rattle.tcp_model.specs.LossRecovery
 pub use Rattle.tcp_model.specs.Offers
 pub use Rattle.tcp_model.specs.Probing
 pub use Rattle.tcp_model.specs.Retries
@@ -19,6 +20,8 @@ pub use Rattle.tcp_model.specs.Rules
 pub use Rattle.tcp_model.specs.Segments
 pub use Rattle.tcp_model.specs.Settled
 pub use Rattle.tcp_model.specs.Text
+pub use Rattle.tcp_model.specs.Timestamps
+pub use Rattle.tcp_model.specs.FirstNumbers
 pub use Rattle.tcp_model.specs.Value
 pub use Rattle.tcp_model.specs.declared.block.Block
 pub use Rattle.tcp_model.specs.declared.block.Receiver

@@ -14,7 +14,7 @@ struct Echoes {
 }
 
 impl Context for Echoes {
-    ghost use Rattle.std.specs.Prelude.{pos, refl, false, Some};
+    ghost use Rattle.std.specs.Prelude.{pos, refl, false, Some, None};
     ghost use Rattle.net_base.specs.RandomWords.{next_state};
     ghost use Rattle.net_base.specs.Capabilities.{all_checksums};
     ghost use Rattle.net_base.specs.Checksum.TheVariants as checksum;
@@ -27,6 +27,7 @@ impl Context for Echoes {
       ip_mtu = 1500;
       checksums =
           all_checksums checksum.Both;
+      isn_key = None;
       random = c.words;
     } };
 
@@ -54,6 +55,10 @@ impl Context for Echoes {
 
     fn checksum_caps(&self) -> ChecksumCapabilities {
         ChecksumCapabilities::default()
+    }
+
+    fn isn_key(&self) -> Option<[u8; 16]> {
+        None
     }
 
     fn rand_u32(&mut self) -> u32 {

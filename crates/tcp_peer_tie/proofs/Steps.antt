@@ -3,8 +3,7 @@ use Rattle.std.proofs.Common.{◌≡◌, inl, inr, ℕ, Bool, true, false, if◌
 use Rattle.std.proofs.lemmas.Bool.{cond_both}
 use Rattle.ip_wire.specs.IpRepr.{IpRepr}
 use Rattle.ip_wire.specs.TcpHeader.{TcpHeader}
-use Rattle.net_base.specs.RandomWords.{word}
-use Rattle.tcp_model.specs.Context.{ContextValue, next_random}
+use Rattle.tcp_model.specs.Context.{ContextValue}
 use Rattle.tcp_law.specs.Alone.{AreResets, unopened}
 use Rattle.tcp_law.specs.Invariant.{HoldsBetween}
 use Rattle.tcp_law.specs.Segment.{Segment}
@@ -34,6 +33,9 @@ use Rattle.tcp_peer.proofs.Comes.{meets_honest}
 use Rattle.tcp_peer_tie.specs.Beside.{end_in, counts_in, sender_of}
 use Rattle.tcp_peer_tie.proofs.Pinned.{MeetsSocket, socket_step}
 use Rattle.tcp_peer_tie.proofs.Ends.{end_connected, end_asking, syn_to_any, first_syn}
+use Rattle.tcp_model.specs.FirstNumbers.{first_number, draws_number}
+use Rattle.tcp_model.specs.Timestamps.{believed}
+use Rattle.tcp_model.specs.Endpoints.{pair_in}
 
 pub socket_start : (peer : End) (v : TcpValue) (resets : List Segment) → IsEnd peer → IsFresh v → AreResets resets → MeetsSocket peer v (no_past resets) []
 socket_start peer v resets e fresh are_resets =
@@ -125,9 +127,9 @@ module _ (peer : End) (v : TcpValue) (p : Past) (came : List Segment) (header : 
       by In.Listen none =
           cond_both (is_first_syn header)
           (record {
-            socket = with_block (unoffered v) (timeout_restarted (answering v.block ip header (word (next_random cx).random)) cx.moment 0);
+            socket = with_block (unoffered v) (timeout_restarted (believed (answering v.block ip header (first_number cx (pair_in ip header))) cx.moment) cx.moment 0);
             answer = None;
-            draws = true;
+            draws = draws_number cx;
           })
           (dropped (unoffered v)) (λ (a : Arrived). Stays a)
           (λ syn. absurd (let clash : true ≡ false = sym syn ∙ none in cc))

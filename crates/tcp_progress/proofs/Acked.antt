@@ -30,6 +30,8 @@ use Rattle.tcp_rules.proofs.ArrivalCases.{acked_cases}
 use Rattle.tcp_rules.proofs.OrderSteps.{clash}
 use Rattle.tcp_rules.specs.Events.{is_past}
 use Rattle.tcp_progress.specs.Arrivals.{is_synchronized, Counts, IsNearWindow}
+use Rattle.tcp_pair_model.specs.Timestamps.{uses_stamps, is_believed, comes_older}
+use Rattle.tcp_pair_model.specs.Arrival.{draws_first, echo_heard}
 
 -- WHICH CHECK IT PASSES
 
@@ -91,6 +93,12 @@ reaches In.Listen cx u ip header bytes e = clash (sym e)
 reaches In.SynSent cx u ip header bytes e = clash (sym e)
 reaches other cx u ip header bytes e = refl
 
+-- its timestamp isn't older, and it is no SYN
+accepted : (uses believed older syn : Bool) → older ≡ false → syn ≡ false → ((uses && (believed && older)) || syn) ≡ false
+accepted true true older syn e f = ap (λ (t : Bool). t || syn) e ∙ f
+accepted true false older syn e f = f
+accepted false believed older syn e f = f
+
 pub comes_to :
     (cx : ContextValue) (v : TcpValue) (ip : IpRepr) (header : TcpHeader) (bytes : List ℕ) (number : SeqNumber) → Counts v.block header number
     → arrives cx v ip header bytes ≡ checked (Passes (distance_of v.block.sender.una number)) cx (unoffered v) ip header bytes
@@ -99,11 +107,13 @@ comes_to cx v ip header bytes number c =
     (and_not (is_syn header.control) (is_zero header.options.max_seg_size) c.no_syn)
     ∙ (reaches v.block.state cx (unoffered v) ip header bytes (parts (is_past v.block.state) (not (is_answering v.block.state)) c.synchronized).0
     ∙ (if_not (is_rst header.control) (reset_comes cx (unoffered v) ip header (length bytes))
-    (if challenges_syn v.block header then drawn cx (unoffered v) ip header else checked (acknowledgement_check v.block header.ack_number) cx (unoffered v) ip
+    (if draws_first v.block header cx.moment then drawn cx (unoffered v) ip header else checked (acknowledgement_check v.block header.ack_number) cx (unoffered v) ip
     header bytes) c.no_reset
-    ∙ (if_not (challenges_syn v.block header) (drawn cx (unoffered v) ip header)
+    ∙ (if_not (draws_first v.block header cx.moment) (drawn cx (unoffered v) ip header)
     (checked (acknowledgement_check v.block header.ack_number) cx (unoffered v) ip header bytes)
-    (and_not (is_syn header.control) (not (is_answering v.block.state)) c.no_syn)
+    (accepted (uses_stamps v.block) (is_believed v.block cx.moment) (comes_older header.options.timestamp v.block.peer.recent)
+    (challenges_syn v.block header) c.fresh
+    (and_not (is_syn header.control) (not (is_answering v.block.state)) c.no_syn))
     ∙ ap (λ (check : Check). checked check cx (unoffered v) ip header bytes) (passes v.block header number c))))
 
 -- WHAT KEEPS SND.UNA
@@ -126,7 +136,7 @@ module _ (cx : ContextValue) (ip : IpRepr) (header : TcpHeader) where
       (λ _.
       cond_both (place == 0) (taken_in_order v map) (held_early v place map) (Same v)
       (λ _. refl)
-      (λ _. cond_both (nat_le (length (runs_of map)) 4)
+      (λ _. cond_both (nat_le (length (runs_of map)) 16)
       (texted (record v { received = received_of v.received.waiting map v.received.start }) 0 false (Some place)) (texted v 0 false None) (Same v)
       (λ _. refl) (λ _. refl)))
       (λ _. refl)
@@ -171,20 +181,22 @@ module _ (cx : ContextValue) (u : TcpValue) (ip : IpRepr) (header : TcpHeader) (
 
   moved_taken : Moved (taken cx u ip header bytes by)
   moved_taken =
-      let w = acknowledged u by cx.moment in
+      let heard_of = echo_heard u header by cx.moment in
+      let w = acknowledged heard_of by cx.moment in
       cond_both (is_closed w.block.state) (dropped w)
       (with_content cx (told w header (duplicates_after u.block header (length bytes) by) cx.moment) ip header bytes) Moved
-      (λ _. moves_una u by cx.moment)
+      (λ _. moves_una heard_of by cx.moment)
       (λ _.
       ap (λ (s : Sender). s.una) (content_keeps cx ip header (told w header (duplicates_after u.block header (length bytes) by) cx.moment) bytes)
-      ∙ (told_keeps cx ip header w (duplicates_after u.block header (length bytes) by) cx.moment ∙ moves_una u by cx.moment))
+      ∙ (told_keeps cx ip header w (duplicates_after u.block header (length bytes) by) cx.moment ∙ moves_una heard_of by cx.moment))
 
-  moved_outside : Moved (outside cx (acknowledged u by cx.moment) ip header)
+  moved_outside : Moved (outside cx (acknowledged (echo_heard u header by cx.moment) by cx.moment) ip header)
   moved_outside =
-      let w = acknowledged u by cx.moment in
+      let heard_of = echo_heard u header by cx.moment in
+      let w = acknowledged heard_of by cx.moment in
       cond_both (is_closed w.block.state) (dropped w) (drawn cx (waiting_anew w header cx.moment) ip header) Moved
-      (λ _. moves_una u by cx.moment)
-      (λ _. ap (λ (s : Sender). s.una) (drawn_keeps cx ip header (waiting_anew w header cx.moment)) ∙ moves_una u by cx.moment)
+      (λ _. moves_una heard_of by cx.moment)
+      (λ _. ap (λ (s : Sender). s.una) (drawn_keeps cx ip header (waiting_anew w header cx.moment)) ∙ moves_una heard_of by cx.moment)
 
   moved_checked : is_syn header.control ≡ false → is_answering u.block.state ≡ false → IsNearWindow u header (length bytes) →
       Moved (checked (Passes by) cx u ip header bytes)
@@ -199,7 +211,7 @@ module _ (cx : ContextValue) (u : TcpValue) (ip : IpRepr) (header : TcpHeader) (
       before out (inl in_window) = clash (sym in_window ∙ out)
       before out (inr old) =
           subst Moved
-          (sym (if_so (tells_news u header (length bytes)) (outside cx (acknowledged u by cx.moment) ip header) (outside cx u ip header)
+          (sym (if_so (tells_news u header (length bytes)) (outside cx (acknowledged (echo_heard u header by cx.moment) by cx.moment) ip header) (outside cx u ip header)
           (ap (λ (t : Bool). not t && lies_before u.block (room_of u.received) header (length bytes)) past ∙ old)))
           moved_outside
 

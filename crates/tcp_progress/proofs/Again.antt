@@ -13,11 +13,12 @@ use Rattle.tcp_rules.specs.OfferKind.TheVariants as Kind
 use Rattle.tcp_rules.specs.OpenOffer.{OpenOffer}
 use Rattle.tcp_pair_model.specs.Blocks.{one_if}
 use Rattle.tcp_pair_model.specs.Offers.{offer_of, offer_segment, offer_choice, number_at}
-use Rattle.tcp_pair_model.specs.Rules.{Choice, next_place, text_choice, resend_choice, probe_choice, control_for, backed_off_now}
+use Rattle.tcp_pair_model.specs.Rules.{Choice, next_place, text_choice, resend_choice, probe_choice, control_for, backed_off_now, size_limit, sent_places}
+use Rattle.tcp_pair_model.specs.LossRecovery.{loss_probed}
 use Rattle.tcp_pair_model.specs.Segments.{hops_of, segment, ack_segment, syn_segment, reset_segment, keep_alive_segment}
 use Rattle.tcp_pair_model.specs.Value.{TcpValue, with_block, unoffered, queued_in, free_in, room_of, window_of}
 use Rattle.tcp_pair_model.specs.Block.{Block}
-use Rattle.tcp_rules.proofs.OfferCases.{FirstRules, by_rules, begun, probing}
+use Rattle.tcp_rules.proofs.OfferCases.{FirstRules, resends_first, by_rules, begun, probing}
 use Rattle.tcp_rules.proofs.OrderSteps.{clash}
 use Rattle.tcp_rules.specs.Timing.{carries}
 use Rattle.tcp_progress.specs.Again.{StartsOver}
@@ -85,7 +86,9 @@ module _ (cx : ContextValue) (v : TcpValue) (small : v.block.sender.una.0 < 2 ^ 
       → FirstRules cx pair AtUna (with_block (unoffered v) b)
   by_first pair b una same none = record {
     syn = λ _. by_place Kind.Syn w pair (syn_segment w.block pair cx.moment cx.ip_mtu (room_of w.received) (free_in w)) 0 0 (ap (λ (s : SeqNumber). s.0) una);
-    again = λ _ _. by_choice Kind.FastRetransmission w pair (resend_choice w.block pair.addresses cx.ip_mtu w.queued) (at_place 0 refl);
+    again = λ _ _. by_choice Kind.FastRetransmission w pair (resend_choice w.block pair.addresses cx.ip_mtu w.queued)
+        (at_place (resend_choice w.block pair.addresses cx.ip_mtu w.queued).place
+        (resends_first b (size_limit b pair.addresses cx.ip_mtu) (sent_places b) (queued_in w) none));
     text = λ _ _. by_choice Kind.Text w pair (text_choice w.block pair.addresses cx.ip_mtu w.queued) (at_place (next_place b) first);
     last = λ _.
         record {
@@ -130,6 +133,7 @@ module _ (cx : ContextValue) (v : TcpValue) (small : v.block.sender.una.0 < 2 ^ 
         falls = λ _ _ _ k e _. none_offered k e;
         over = λ _ _ _ k e _. none_offered k e;
         backs = λ pair _ _ _. by_first pair (backed_off_now (begun cx v)) refl refl refl;
+        probes = λ pair _ _ not _. by_first pair (loss_probed (begun cx v)) refl refl (not_due not);
         goes = λ pair _ _ not. by_first pair (begun cx v) refl refl (not_due not);
       })
 

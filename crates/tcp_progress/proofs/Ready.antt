@@ -4,9 +4,8 @@ use Rattle.std.proofs.lemmas.Bool.{cond_both}
 use Rattle.ip_wire.specs.IpRepr.{IpRepr}
 use Rattle.ip_wire.specs.Tcp.{header_len}
 use Rattle.ip_wire.specs.TcpHeader.{TcpHeader}
-use Rattle.net_base.specs.RandomWords.{word}
 use Rattle.net_base.specs.Ring.{Ring, anchored, enqueued}
-use Rattle.tcp_tie.specs.Context.{ContextValue, next_random}
+use Rattle.tcp_tie.specs.Context.{ContextValue}
 use Rattle.tcp_tie.specs.Offers.{Offered, IsBefore, offered_as}
 use Rattle.tcp_tie.specs.Offer.TheVariants as Answer
 use Rattle.tcp_tie.specs.PollAt.TheVariants as At
@@ -23,6 +22,7 @@ use Rattle.tcp_pair_model.specs.Acknowledged.{windowed}
 use Rattle.tcp_pair_model.specs.Arrival.{arrives, waiting_anew}
 use Rattle.tcp_pair_model.specs.Calls.{listening, connecting, connected_by, pair_for, sent_more}
 use Rattle.tcp_pair_model.specs.Due.{poll_of}
+use Rattle.tcp_pair_model.specs.LossRecovery.{loss_probed}
 use Rattle.tcp_pair_model.specs.Offers.{offer_of, number_at}
 use Rattle.tcp_pair_model.specs.Retries.{heard, asked, one_more}
 use Rattle.tcp_pair_model.specs.Rules.{backed_off_now, probe_choice, control_for}
@@ -49,6 +49,9 @@ use Rattle.tcp_rules.specs.InOrder.{sending_of, IsInOrder}
 use Rattle.tcp_rules.specs.Waiting.{IsWaiting}
 use Rattle.tcp_progress.specs.Reached.{IsReached, Owes}
 use Rattle.tcp_progress.proofs.Events.{of_side, by_steps}
+use Rattle.tcp_pair_model.specs.FirstNumbers.{number_for}
+use Rattle.tcp_pair_model.specs.Timestamps.{stamp_taken}
+use Rattle.tcp_rules.proofs.ArrivalCases.{timed}
 
 -- A TIMER
 
@@ -80,8 +83,8 @@ event_armed v (Listens endpoint) a =
     cond_both (is_closed v.block.state && not (endpoint.port == 0)) (listening v endpoint) (unoffered v) Armed
     (λ _. nothing_out (listening v endpoint) refl) (λ _. a)
 event_armed v (Connects cx remote local) a =
-    cond_both (is_closed v.block.state) (connected_by v (pair_for cx remote local) (word (next_random cx).random)) (unoffered v) Armed
-    (λ _. connected_armed v (pair_for cx remote local) (word (next_random cx).random) a) (λ _. a)
+    cond_both (is_closed v.block.state) (connected_by v (pair_for cx remote local) (number_for cx (pair_for cx remote local))) (unoffered v) Armed
+    (λ _. connected_armed v (pair_for cx remote local) (number_for cx (pair_for cx remote local)) a) (λ _. a)
 event_armed v (Sends bytes) a =
     cond_both (takes_writes v.block.state) (sent_more v (enqueued (anchored v.queued) (take (min (length bytes) (length v.queued.free)) bytes))) (unoffered v)
     Armed (λ _. a) (λ _. a)
@@ -129,11 +132,11 @@ module _ (cx : ContextValue) (ip : IpRepr) (header : TcpHeader) (bytes : List �
     falls = λ _ _ _ _ listens. clash listens;
     ends = λ _ _ _ closed _. clash closed;
     closes = λ _ _ _ closed _. clash closed;
-    taken = λ by passes alive. named_content (heeded cx.moment header (length bytes) u by (acked_open u by cx.moment).block) some;
-    taken_window = λ by passes alive. named_content (heeded cx.moment header (length bytes) u by (windowed (acked_open u by cx.moment).block header)) some;
-    news = λ by passes alive. named_drawing (waiting_anew (acked_open u by cx.moment) header cx.moment) some;
+    taken = λ by passes alive. named_content (heeded cx.moment header (length bytes) u by (acked_open (timed cx.moment header u by) by cx.moment).block) some;
+    taken_window = λ by passes alive. named_content (heeded cx.moment header (length bytes) u by (windowed (acked_open (timed cx.moment header u by) by cx.moment).block header)) some;
+    news = λ by passes alive. named_drawing (waiting_anew (acked_open (timed cx.moment header u by) by cx.moment) header cx.moment) some;
     outside = named_drawing (waiting_anew u header cx.moment) some;
-    old = λ _. named_content (with_block u (heard u.block)) some;
+    old = λ _. named_content (with_block u (stamp_taken (heard u.block) header cx.moment)) some;
   }
 
   named_opening : (u : TcpValue) → Named u → Opening cx ip header bytes NamedAfter u
@@ -217,6 +220,7 @@ module _ (cx : ContextValue) (v : TcpValue) (n : Named v) where
         falls = λ _ _ _. (λ _ listens. clash listens, λ _ listens. clash listens);
         over = λ _ _ _. (λ closed _. clash closed, λ closed _. clash closed);
         backs = λ pair _ _ _. named_first pair (backed_off_now (begun cx v)) refl refl;
+        probes = λ pair _ _ _ _. named_first pair (loss_probed (begun cx v)) refl refl;
         goes = λ pair _ _ _. named_first pair (begun cx v) refl refl;
       })
 
@@ -238,8 +242,8 @@ event_named v (Listens endpoint) n =
     cond_both (is_closed v.block.state && not (endpoint.port == 0)) (listening v endpoint) (unoffered v) Named
     (λ _ _ listens. clash listens) (λ _. n)
 event_named v (Connects cx remote local) n =
-    cond_both (is_closed v.block.state) (connected_by v (pair_for cx remote local) (word (next_random cx).random)) (unoffered v) Named
-    (λ _. connected_named v (pair_for cx remote local) (word (next_random cx).random) n) (λ _. n)
+    cond_both (is_closed v.block.state) (connected_by v (pair_for cx remote local) (number_for cx (pair_for cx remote local))) (unoffered v) Named
+    (λ _. connected_named v (pair_for cx remote local) (number_for cx (pair_for cx remote local)) n) (λ _. n)
 event_named v (Sends bytes) n =
     cond_both (takes_writes v.block.state) (sent_more v (enqueued (anchored v.queued) (take (min (length bytes) (length v.queued.free)) bytes))) (unoffered v)
     Named (λ _. n) (λ _. n)

@@ -20,13 +20,15 @@ use Rattle.tcp_rules.specs.State.TheVariants as In
 use Rattle.tcp_law.specs.ReceiveMap.{store, front}
 use Rattle.tcp_pair_model.specs.Acknowledged.{acknowledged, acks_fin, state_after_ack, names_window, windowed, duplicates_after}
 use Rattle.tcp_pair_model.specs.Answers.{drawn, may_draw, with_draw, acked, answer_for, delayed, sooner, ack_moment_after}
-use Rattle.tcp_pair_model.specs.Arrival.{arrives, checked, inside, taken, continued, told, with_content, finished, passed_outside, outside, tells_news, waiting_anew}
+use Rattle.tcp_pair_model.specs.Arrival.{arrives, checked, inside, taken, continued, told, with_content, finished, passed_outside}
+use Rattle.tcp_pair_model.specs.Arrival.{outside, tells_news, waiting_anew}
 use Rattle.tcp_pair_model.specs.Checks.{is_in_window, lies_before}
 use Rattle.tcp_pair_model.specs.Checks.Check.{Passes}
 use Rattle.tcp_pair_model.specs.Probing.{probe_kept}
 use Rattle.tcp_pair_model.specs.Segments.{no_ranges, segment_len, reply_to, sack_segment, hops_of}
 use Rattle.tcp_rules.specs.Endpoints.{pair_in}
-use Rattle.tcp_pair_model.specs.Text.{Texted, texted, with_text, with_text_at, with_bytes_at, taken_in_order, is_holding, laid, has_new_text, takes_fin, fin_taken}
+use Rattle.tcp_pair_model.specs.Text.{Texted, texted, with_text, with_text_at, with_bytes_at, taken_in_order, is_holding}
+use Rattle.tcp_pair_model.specs.Text.{laid, has_new_text, takes_fin, fin_taken}
 use Rattle.tcp_pair_model.specs.Value.{TcpValue, Received, Arrived, with_block, dropped, unoffered, queued_in, free_in, room_of, window_of}
 use Rattle.tcp_pair_model.specs.Block.{Block}
 use Rattle.tcp_pair_model.specs.Receiver.{Receiver}
@@ -36,6 +38,7 @@ use Rattle.tcp_rules.proofs.OrderSteps.{clash}
 use Rattle.tcp_rules.specs.Acks.{IsDueWithin}
 use Rattle.tcp_progress.specs.Arrivals.{Counts, IsNew, Rises, IsAgain, IsAnswered}
 use Rattle.tcp_progress.proofs.Acked.{comes_to, not_answering}
+use Rattle.tcp_rules.proofs.ArrivalCases.{timed}
 
 -- WHERE IT BEGINS
 
@@ -378,10 +381,10 @@ module _ (cx : ContextValue) (u : TcpValue) (ip : IpRepr) (header : TcpHeader) (
 
   rises_taken : TextRises (taken cx u ip header bytes by)
   rises_taken =
-      acked_cases u by cx.moment (λ (w : TcpValue). TextRises (continued cx u.block w ip header bytes by))
+      acked_cases (timed cx.moment header u by) by cx.moment (λ (w : TcpValue). TextRises (continued cx u.block w ip header bytes by))
       (λ closed. clash (sym closed ∙ open_on (state_after_ack u.block by (queued_in u)) takes_after))
       (λ alive.
-      let x = acked_open u by cx.moment in
+      let x = acked_open (timed cx.moment header u by) by cx.moment in
       cond_both (is_closed x.block.state) (dropped x)
       (with_content cx (told x header (duplicates_after u.block header (length bytes) by) cx.moment) ip header bytes) TextRises
       (λ closed. clash (sym closed ∙ alive))
@@ -429,11 +432,11 @@ module _ (cx : ContextValue) (u : TcpValue) (ip : IpRepr) (header : TcpHeader) (
   abbrev Answered : Arrived → Type 0
   Answered a = (is_closed a.socket.block.state ≡ true) ⊎ IsAnswered u a
 
-  answered_outside : Answered (outside cx (acknowledged u by cx.moment) ip header)
+  answered_outside : Answered (outside cx (acknowledged (timed cx.moment header u by) by cx.moment) ip header)
   answered_outside =
-      acked_cases u by cx.moment (λ (w : TcpValue). Answered (outside cx w ip header)) (λ _. inl refl)
+      acked_cases (timed cx.moment header u by) by cx.moment (λ (w : TcpValue). Answered (outside cx w ip header)) (λ _. inl refl)
       (λ alive.
-      let x = acked_open u by cx.moment in
+      let x = acked_open (timed cx.moment header u by) by cx.moment in
       let y = waiting_anew x header cx.moment in
       cond_both (is_closed x.block.state) (dropped x) (drawn cx y ip header) Answered
       (λ closed. clash (sym closed ∙ alive))
@@ -466,7 +469,7 @@ again_answered cx v ip header bytes number c n may =
     (sym (comes_to cx v ip header bytes number c
     ∙ (if_not (is_in_window v.block (free_in v) header (length bytes)) (inside cx u ip header bytes by) (passed_outside cx u ip header (length bytes) by)
     (again_is_outside v header (length bytes) n)
-    ∙ if_so (tells_news u header (length bytes)) (outside cx (acknowledged u by cx.moment) ip header) (outside cx u ip header)
+    ∙ if_so (tells_news u header (length bytes)) (outside cx (acknowledged (timed cx.moment header u by) by cx.moment) ip header) (outside cx u ip header)
     (ap (λ (t : Bool). not t && lies_before v.block (room_of v.received) header (length bytes)) (not_answering v.block.state c.synchronized) ∙
     again_lies_before v header (length bytes) n))))
-    (answered_too v (outside cx (acknowledged u by cx.moment) ip header) (answered_outside cx u ip header bytes by may))
+    (answered_too v (outside cx (acknowledged (timed cx.moment header u by) by cx.moment) ip header) (answered_outside cx u ip header bytes by may))

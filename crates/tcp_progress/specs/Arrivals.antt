@@ -13,6 +13,7 @@ use Rattle.tcp_pair_model.specs.Answers.{delayed}
 use Rattle.tcp_pair_model.specs.Blocks.{top}
 use Rattle.tcp_pair_model.specs.Checks.{is_in_window, lies_before}
 use Rattle.tcp_pair_model.specs.Segments.{segment_len}
+use Rattle.tcp_pair_model.specs.Timestamps.{comes_older}
 use Rattle.tcp_pair_model.specs.Value.{TcpValue, Arrived, free_in, room_of}
 use Rattle.tcp_pair_model.specs.Block.{Block}
 use Rattle.tcp_rules.specs.Acks.{IsDueWithin}
@@ -22,13 +23,15 @@ use Rattle.tcp_rules.specs.Events.{is_past}
 abbrev pub is_synchronized : State → Bool
 is_synchronized state = is_past state && not (is_answering state)
 
--- The segment counts for the connection: both SYNs were acknowledged, it is neither a SYN nor a reset, and what it acknowledges lies
+-- The segment counts for the connection: both SYNs were acknowledged, it is neither a SYN nor a reset, its timestamp isn't older than
+-- TS.Recent, and what it acknowledges lies
 -- between SND.UNA and all that was ever sent. What was sent is less than half of the circle of numbers.
 pub record Counts (b : Block) (header : TcpHeader) (number : SeqNumber) : Type 0 where
   pub synchronized : is_synchronized b.state ≡ true
   pub opened : 1 ≤ b.sender.past_iss
   pub no_syn : is_syn header.control ≡ false
   pub no_reset : is_rst header.control ≡ false
+  pub fresh : comes_older header.options.timestamp b.peer.recent ≡ false
   pub acknowledges : header.ack_number ≡ Some number
   pub sent : distance_of b.sender.una number ≤ b.sender.top
   pub few : b.sender.top < 2 ^ 31

@@ -6,10 +6,9 @@ use Rattle.std.proofs.lemmas.Int.{ints}
 use Rattle.ip_wire.specs.IpRepr.{IpRepr}
 use Rattle.ip_wire.specs.TcpControl.{TcpControl}
 use Rattle.ip_wire.specs.TcpHeader.{TcpHeader}
-use Rattle.net_base.specs.RandomWords.{word}
 use Rattle.net_base.specs.Ring.{anchored, enqueued}
 use Rattle.net_base.specs.Time.{last_moment}
-use Rattle.tcp_model.specs.Context.{ContextValue, next_random}
+use Rattle.tcp_model.specs.Context.{ContextValue}
 use Rattle.tcp_model.specs.BaseOffers.{Offered}
 use Rattle.tcp_control.specs.Controls.{is_fin, is_rst}
 use Rattle.tcp_control.specs.Moments.{is_due, later, earlier}
@@ -31,6 +30,7 @@ use Rattle.tcp_model.specs.Timeout.{timed_out}
 use Rattle.tcp_model.specs.Value.{TcpValue, Arrived, with_block, unoffered, ended}
 use Rattle.tcp_model.specs.declared.block.Block.{Block}
 use Rattle.tcp_model.specs.declared.block.Receiver.{Receiver}
+use Rattle.tcp_model.specs.FirstNumbers.{number_for}
 use Rattle.tcp_rules.specs.Acks.{IsDueWithin, OffersAck, answer_acks, offer_acks, acks, IsBy, IsDueBy, StaysDue}
 use Rattle.tcp_rules.specs.Ends.{GoesOn}
 use Rattle.tcp_rules.specs.Events.{Event, Setting, after, set, is_past}
@@ -126,7 +126,7 @@ module _ (b : Block) (header : TcpHeader) (size : ℕ) (fills : Bool) (now : ℤ
 
 -- A SEGMENT COMES
 
-is_in : (state : State) → is_past state ≡ true → (state ≡ In.Listen → ⊥) × (state ≡ In.SynSent → ⊥)
+pub is_in : (state : State) → is_past state ≡ true → (state ≡ In.Listen → ⊥) × (state ≡ In.SynSent → ⊥)
 is_in state past = (λ at. absurd (let clash = ap is_past at in cc), λ at. absurd (let clash = ap is_past at in cc))
 
 module _ (cx : ContextValue) (v : TcpValue) (ip : IpRepr) (header : TcpHeader) (bytes : List ℕ) (past : is_past v.block.state ≡ true) where
@@ -286,6 +286,7 @@ module _ (cx : ContextValue) (v : TcpValue) (t : ℤ) (due : IsDueBy t v.block) 
     falls = λ _ _ _. kept_silent true (listening (unoffered v) v.block.names.listen) refl (inl refl);
     over = λ _ _ _. kept_silent true (with_block (unoffered v) (timed_out v.block)) refl (inl refl);
     backs = λ pair _ _ _. kept_first pair _ refl due;
+    probes = λ pair _ _ _ _. kept_first pair _ refl due;
     goes = λ pair _ _ _. kept_first pair _ refl due;
   }
 
@@ -311,7 +312,7 @@ stays_due v (Listens endpoint) t past by due =
     ((false ≡ true) ⊎ IsDueBy t w.block))
     (λ _. inl refl) (λ _. inr (inr due))
 stays_due v (Connects cx remote local) t past by due =
-    cond_both (is_closed v.block.state) (connected_by v (pair_for cx remote local) (word (next_random cx).random)) (unoffered v)
+    cond_both (is_closed v.block.state) (connected_by v (pair_for cx remote local) (number_for cx (pair_for cx remote local))) (unoffered v)
     (λ (w : TcpValue). (is_past w.block.state ≡ false) ⊎ ((false ≡ true) ⊎ IsDueBy t w.block))
     (λ closed. absurd (let clash : true ≡ false = sym closed ∙ not_closed v.block.state past in cc))
     (λ _. inr (inr due))
@@ -392,6 +393,7 @@ module _ (cx : ContextValue) (v : TcpValue) (heard : v.block.receiver.took_syn �
     falls = λ _ over _. absurd (let clash : true ≡ false = sym over ∙ on.tries in cc);
     over = λ _ over _. absurd (let clash : true ≡ false = sym over ∙ on.tries in cc);
     backs = λ pair _ _ _. goes_first pair _ refl is_owed;
+    probes = λ pair _ _ _ _. goes_first pair _ refl is_owed;
     goes = λ pair _ _ _. goes_first pair _ refl is_owed;
   }
 

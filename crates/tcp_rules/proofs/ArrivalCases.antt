@@ -5,8 +5,7 @@ use Rattle.std.proofs.lemmas.Bool.{cond_both, eqb-true}
 use Rattle.held_bytes.specs.Held.{runs_of}
 use Rattle.ip_wire.specs.IpRepr.{IpRepr}
 use Rattle.ip_wire.specs.TcpHeader.{TcpHeader}
-use Rattle.net_base.specs.RandomWords.{word}
-use Rattle.tcp_model.specs.Context.{ContextValue, next_random}
+use Rattle.tcp_model.specs.Context.{ContextValue}
 use Rattle.tcp_control.specs.Controls.{is_syn, is_fin, is_rst}
 use Rattle.tcp_control.specs.Offsets.{past_by, before_by}
 use Rattle.tcp_control.specs.States.{is_closed, is_answering, takes_text}
@@ -14,12 +13,12 @@ use Rattle.tcp_control.specs.declared.state.State.{State}
 use Rattle.tcp_control.specs.declared.state.State.TheVariants as In
 use Rattle.held_bytes.specs.ReceiveMap.{store, front}
 use Rattle.net_base.specs.Ring.{released}
-use Rattle.tcp_model.specs.Acknowledged.{acknowledged, duplicates_after, names_window, windowed, stamp_taken, ranges_taken, counted, ended_if, in_state}
+use Rattle.tcp_model.specs.Acknowledged.{acknowledged, duplicates_after, names_window, windowed, ranges_taken, counted, ended_if, in_state}
 use Rattle.tcp_model.specs.Acknowledged.{una_moved, state_after_ack, freed_by}
 use Rattle.tcp_model.specs.Blocks.{forgotten}
 use Rattle.tcp_model.specs.Answers.{drawn, may_draw, with_draw, acked, answer_for, ranges_held, ack_due}
 use Rattle.tcp_model.specs.Arrival.{waiting_anew, outside, passed_outside, tells_news, finished, with_content, told, taken, inside, checked, continued}
-use Rattle.tcp_model.specs.Arrival.{takes_reset, challenges_reset, reset_comes, challenges_syn, received, arrives_in, arrives, is_void_syn}
+use Rattle.tcp_model.specs.Arrival.{takes_reset, challenges_reset, reset_comes, draws_first, echo_heard, received, arrives_in, arrives, is_void_syn}
 use Rattle.tcp_model.specs.Calls.{listening}
 use Rattle.tcp_model.specs.Checks.{Check, acknowledgement_check, is_in_window, taken_down, falls_back}
 use Rattle.tcp_model.specs.Checks.Check.{Passes, Old, Drops, Draws, Resets}
@@ -32,6 +31,9 @@ use Rattle.tcp_model.specs.Text.{takes_fin, fin_taken, is_at_fin}
 use Rattle.tcp_model.specs.Timeout.{timeout_restarted}
 use Rattle.tcp_model.specs.Value.{TcpValue, Arrived, with_block, dropped, answered_with, unoffered, ended, queued_in, free_in, received_of}
 use Rattle.tcp_model.specs.declared.block.Block.{Block}
+use Rattle.tcp_model.specs.FirstNumbers.{first_number, draws_number}
+use Rattle.tcp_model.specs.Timestamps.{believed, stamp_taken}
+use Rattle.tcp_control.specs.Endpoints.{pair_in}
 use Rattle.tcp_rules.specs.Events.{is_past}
 
 -- the store keeps the length of the map
@@ -80,11 +82,16 @@ acked_cases u by now P last other = at (is_closed (state_after_ack u.block by (q
   at true e = last e
   at false e = other e
 
+-- the socket with the round trip that the segment's echo tells of
+abbrev pub timed : ℤ → TcpHeader → TcpValue → ℕ → TcpValue
+timed now header u by = echo_heard u header by now
+
 -- the block with its acknowledgement, its duplicates and its ranges, and with its window where it names one
 abbrev pub heeded : ℤ → TcpHeader → ℕ → TcpValue → ℕ → Block → TcpValue
 heeded now header size u by b =
-    with_block (acked_open u by now)
-    (timeout_restarted (counted (ranges_taken (stamp_taken b header) header) (duplicates_after u.block header size by)) now (queued_in (acked_open u by now)))
+    with_block (acked_open (timed now header u by) by now)
+    (timeout_restarted (counted (ranges_taken (stamp_taken b header now) header now) (duplicates_after u.block header size by)) now
+    (queued_in (acked_open (timed now header u by) by now)))
 
 module _ (cx : ContextValue) (ip : IpRepr) (header : TcpHeader) (bytes : List ℕ) (Q : Arrived → Type 0) where
   -- a segment that is answered, unless the last answer is too near
@@ -118,19 +125,19 @@ module _ (cx : ContextValue) (ip : IpRepr) (header : TcpHeader) (bytes : List �
     pub ends : is_rst header.control ≡ true → takes_reset u.block header ≡ true → falls_back u.block ≡ false → Q (dropped (ended u))
     pub closes :
         (by : ℕ) → acknowledgement_check u.block header.ack_number ≡ Passes by → is_closed (state_after_ack u.block by (queued_in u)) ≡ true
-        → Q (dropped (acked_last u by cx.moment))
+        → Q (dropped (acked_last (timed cx.moment header u by) by cx.moment))
     pub taken :
         (by : ℕ) → acknowledgement_check u.block header.ack_number ≡ Passes by → is_closed (state_after_ack u.block by (queued_in u)) ≡ false
-        → Content (heeded cx.moment header (length bytes) u by (acked_open u by cx.moment).block)
+        → Content (heeded cx.moment header (length bytes) u by (acked_open (timed cx.moment header u by) by cx.moment).block)
     -- and it names the window
     pub taken_window :
         (by : ℕ) → acknowledgement_check u.block header.ack_number ≡ Passes by → is_closed (state_after_ack u.block by (queued_in u)) ≡ false
-        → Content (heeded cx.moment header (length bytes) u by (windowed (acked_open u by cx.moment).block header))
+        → Content (heeded cx.moment header (length bytes) u by (windowed (acked_open (timed cx.moment header u by) by cx.moment).block header))
     pub news :
         (by : ℕ) → acknowledgement_check u.block header.ack_number ≡ Passes by → is_closed (state_after_ack u.block by (queued_in u)) ≡ false
-        → Drawing (waiting_anew (acked_open u by cx.moment) header cx.moment)
+        → Drawing (waiting_anew (acked_open (timed cx.moment header u by) by cx.moment) header cx.moment)
     pub outside : Drawing (waiting_anew u header cx.moment)
-    pub old : acknowledgement_check u.block header.ack_number ≡ Old → Content (with_block u (heard u.block))
+    pub old : acknowledgement_check u.block header.ack_number ≡ Old → Content (with_block u (stamp_taken (heard u.block) header cx.moment))
 
   by_drawn : (x : TcpValue) → Drawing x → Q (drawn cx x ip header)
   by_drawn x d =
@@ -206,7 +213,7 @@ module _ (cx : ContextValue) (ip : IpRepr) (header : TcpHeader) (bytes : List �
       (λ f. c.ordered_fin map (store-length x.received.map place rest) (fin_parts x.block (length (front map)) f).0 takes)
       (c.ordered map (store-length x.received.map place rest) takes (some_bytes (before_by x.block.receiver.next header.seq_number) bytes some)))
       (λ past.
-      cond_both (nat_le (length (runs_of map)) 4) (texted (held x map) 0 false (Some place)) (texted x 0 false None) (Finishing x.block)
+      cond_both (nat_le (length (runs_of map)) 16) (texted (held x map) 0 false (Some place)) (texted x 0 false None) (Finishing x.block)
       (λ _. by_early x map place past (c.early map place (store-length x.received.map place rest) takes))
       (λ _. plain)))
       (λ _. plain)
@@ -230,20 +237,20 @@ module _ (cx : ContextValue) (ip : IpRepr) (header : TcpHeader) (bytes : List �
       (λ _. by_drawn (waiting_anew x header cx.moment) d)
 
   by_news : (u : TcpValue) (by : ℕ) → Received u → acknowledgement_check u.block header.ack_number ≡ Passes by →
-      Q (outside cx (acknowledged u by cx.moment) ip header)
+      Q (outside cx (acknowledged (timed cx.moment header u by) by cx.moment) ip header)
   by_news u by r passes =
-      acked_cases u by cx.moment (λ (w : TcpValue). Q (outside cx w ip header)) (r.closes by passes)
+      acked_cases (timed cx.moment header u by) by cx.moment (λ (w : TcpValue). Q (outside cx w ip header)) (r.closes by passes)
       (λ alive.
-      let x = acked_open u by cx.moment in
+      let x = acked_open (timed cx.moment header u by) by cx.moment in
       cond_both (is_closed x.block.state) (dropped x) (drawn cx (waiting_anew x header cx.moment) ip header) Q
       (λ closed. absurd (let clash : true ≡ false = sym closed ∙ alive in cc))
       (λ _. by_drawn (waiting_anew x header cx.moment) (r.news by passes alive)))
 
   by_taken : (u : TcpValue) (by : ℕ) → Received u → acknowledgement_check u.block header.ack_number ≡ Passes by → Q (taken cx u ip header bytes by)
   by_taken u by r passes =
-      acked_cases u by cx.moment (λ (w : TcpValue). Q (continued cx u.block w ip header bytes by)) (r.closes by passes)
+      acked_cases (timed cx.moment header u by) by cx.moment (λ (w : TcpValue). Q (continued cx u.block w ip header bytes by)) (r.closes by passes)
       (λ alive.
-      let x = acked_open u by cx.moment in
+      let x = acked_open (timed cx.moment header u by) by cx.moment in
       cond_both (is_closed x.block.state) (dropped x)
       (with_content cx (told x header (duplicates_after u.block header (length bytes) by) cx.moment) ip header bytes) Q
       (λ closed. absurd (let clash : true ≡ false = sym closed ∙ alive in cc))
@@ -261,13 +268,13 @@ module _ (cx : ContextValue) (ip : IpRepr) (header : TcpHeader) (bytes : List �
       (λ _. by_drawn u r.draws)
       (λ _. by_taken u by r passes))
       (λ _.
-      cond_both (tells_news u header (length bytes)) (outside cx (acknowledged u by cx.moment) ip header) (outside cx u ip header) Q
+      cond_both (tells_news u header (length bytes)) (outside cx (acknowledged (timed cx.moment header u by) by cx.moment) ip header) (outside cx u ip header) Q
       (λ _. by_news u by r passes)
       (λ _. by_outside u r.stays r.outside))
   by_checked Old u r old =
-      cond_both (is_in_window u.block (free_in u) header (length bytes)) (with_content cx (with_block u (heard u.block)) ip header bytes)
+      cond_both (is_in_window u.block (free_in u) header (length bytes)) (with_content cx (with_block u (stamp_taken (heard u.block) header cx.moment)) ip header bytes)
       (outside cx u ip header) Q
-      (λ _. by_content (with_block u (heard u.block)) (r.old old))
+      (λ _. by_content (with_block u (stamp_taken (heard u.block) header cx.moment)) (r.old old))
       (λ _. by_outside u r.stays r.outside)
   by_checked Drops u r e = r.stays
   by_checked Draws u r e = by_drawn u r.draws
@@ -276,7 +283,7 @@ module _ (cx : ContextValue) (ip : IpRepr) (header : TcpHeader) (bytes : List �
   by_received : (u : TcpValue) → Received u → Q (received cx u ip header bytes)
   by_received u r =
       cond_both (is_rst header.control) (reset_comes cx u ip header (length bytes))
-      (if challenges_syn u.block header then drawn cx u ip header else checked (acknowledgement_check u.block header.ack_number) cx u ip header bytes)
+      (if draws_first u.block header cx.moment then drawn cx u ip header else checked (acknowledgement_check u.block header.ack_number) cx u ip header bytes)
       Q
       (λ rst.
       cond_both (takes_reset u.block header) (dropped (taken_down u)) (if challenges_reset u header (length bytes) then drawn cx u ip header else dropped u) Q
@@ -289,7 +296,7 @@ module _ (cx : ContextValue) (ip : IpRepr) (header : TcpHeader) (bytes : List �
       (λ _. by_drawn u r.draws)
       (λ _. r.stays)))
       (λ _.
-      cond_both (challenges_syn u.block header) (drawn cx u ip header) (checked (acknowledgement_check u.block header.ack_number) cx u ip header bytes) Q
+      cond_both (draws_first u.block header cx.moment) (drawn cx u ip header) (checked (acknowledgement_check u.block header.ack_number) cx u ip header bytes) Q
       (λ _. by_drawn u r.draws)
       (λ _. by_checked (acknowledgement_check u.block header.ack_number) u r refl))
 
@@ -298,17 +305,17 @@ module _ (cx : ContextValue) (ip : IpRepr) (header : TcpHeader) (bytes : List �
     pub opens :
         u.block.state ≡ In.Listen → is_first_syn header ≡ true
         → Q (record {
-          socket = with_block u (timeout_restarted (answering u.block ip header (word (next_random cx).random)) cx.moment 0);
+          socket = with_block u (timeout_restarted (believed (answering u.block ip header (first_number cx (pair_in ip header))) cx.moment) cx.moment 0);
           answer =
               None;
-          draws = true;
+          draws = draws_number cx;
         })
     pub refuses : Q (answered_with u (rst_reply ip header (length bytes)))
     pub ends : u.block.state ≡ In.SynSent → Q (dropped (ended u))
     pub connects : u.block.state ≡ In.SynSent → is_syn header.control ≡ true →
-        Q (dropped (with_block u (timeout_restarted (connected u.block header cx.moment) cx.moment (queued_in u))))
+        Q (dropped (with_block u (timeout_restarted (believed (connected u.block header cx.moment) cx.moment) cx.moment (queued_in u))))
     pub crosses : u.block.state ≡ In.SynSent → is_syn header.control ≡ true →
-        Q (dropped (with_block u (timeout_restarted (crossed u.block header) cx.moment (queued_in u))))
+        Q (dropped (with_block u (timeout_restarted (believed (crossed u.block header) cx.moment) cx.moment (queued_in u))))
 
   by_answer : (u : TcpValue) → u.block.state ≡ In.SynSent → Q (dropped u) → Opening u → Q (takes_answer cx u ip header bytes)
   by_answer u at stays o =
@@ -332,7 +339,7 @@ module _ (cx : ContextValue) (ip : IpRepr) (header : TcpHeader) (bytes : List �
       cond_both (is_syn header.control) (dropped answered) (dropped u) Q
       (λ syn.
       cond_both (is_some header.ack_number) (connected u.block header cx.moment) (crossed u.block header)
-      (λ (b : Block). Q (dropped (with_block u (timeout_restarted b cx.moment (queued_in u)))))
+      (λ (b : Block). Q (dropped (with_block u (timeout_restarted (believed b cx.moment) cx.moment (queued_in u)))))
       (λ _. o.connects at syn)
       (λ _. o.crosses at syn))
       (λ _. stays)))
@@ -341,10 +348,10 @@ module _ (cx : ContextValue) (ip : IpRepr) (header : TcpHeader) (bytes : List �
   by_opens u at stays o =
       cond_both (is_first_syn header)
       (record {
-        socket = with_block u (timeout_restarted (answering u.block ip header (word (next_random cx).random)) cx.moment 0);
+        socket = with_block u (timeout_restarted (believed (answering u.block ip header (first_number cx (pair_in ip header))) cx.moment) cx.moment 0);
         answer =
             None;
-        draws = true;
+        draws = draws_number cx;
       })
       (dropped u) Q
       (λ first. o.opens at first)

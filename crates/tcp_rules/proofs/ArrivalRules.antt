@@ -5,8 +5,7 @@ use Rattle.std.proofs.lemmas.Bool.{cond_both}
 use Rattle.held_bytes.specs.Held.{runs_of}
 use Rattle.ip_wire.specs.IpRepr.{IpRepr}
 use Rattle.ip_wire.specs.TcpHeader.{TcpHeader}
-use Rattle.net_base.specs.RandomWords.{word}
-use Rattle.tcp_model.specs.Context.{ContextValue, next_random}
+use Rattle.tcp_model.specs.Context.{ContextValue}
 use Rattle.tcp_control.specs.Controls.{is_syn, is_rst}
 use Rattle.tcp_control.specs.Offsets.{past_by, before_by}
 use Rattle.tcp_control.specs.States.{is_closed, is_listening, after_fin, takes_text}
@@ -14,10 +13,10 @@ use Rattle.tcp_control.specs.declared.offer.Reply.{Reply}
 use Rattle.tcp_control.specs.declared.state.State.{State}
 use Rattle.tcp_control.specs.declared.state.State.TheVariants as In
 use Rattle.tcp_control.specs.Endpoints.{pair_in}
-use Rattle.tcp_model.specs.Acknowledged.{acknowledged, duplicates_after, names_window, windowed, stamp_taken, ranges_taken, counted, una_moved}
+use Rattle.tcp_model.specs.Acknowledged.{acknowledged, duplicates_after, names_window, windowed, ranges_taken, counted, una_moved}
 use Rattle.tcp_model.specs.Answers.{drawn, may_draw, with_draw, acked, answer_for, ranges_held}
 use Rattle.tcp_model.specs.Arrival.{waiting_anew, outside, passed_outside, tells_news, finished, with_content, told, taken, inside, checked, takes_reset}
-use Rattle.tcp_model.specs.Arrival.{challenges_reset, reset_comes, challenges_syn, received, arrives_in, arrives, is_void_syn}
+use Rattle.tcp_model.specs.Arrival.{challenges_reset, reset_comes, draws_first, echo_heard, received, arrives_in, arrives, is_void_syn}
 use Rattle.tcp_model.specs.Calls.{listening}
 use Rattle.tcp_model.specs.Checks.{Check, acknowledgement_check, is_in_window, taken_down, falls_back}
 use Rattle.tcp_model.specs.Checks.Check.{Passes, Old, Drops, Draws, Resets}
@@ -30,6 +29,8 @@ use Rattle.tcp_model.specs.Text.{fin_taken}
 use Rattle.tcp_model.specs.Timeout.{timeout_restarted}
 use Rattle.tcp_model.specs.Value.{TcpValue, Arrived, with_block, dropped, answered_with, unoffered, ended, queued_in, free_in, received_of, window_of}
 use Rattle.tcp_model.specs.declared.block.Block.{Block}
+use Rattle.tcp_model.specs.FirstNumbers.{first_number, draws_number}
+use Rattle.tcp_model.specs.Timestamps.{believed, stamp_taken, echo_taken}
 use Rattle.tcp_rules.specs.Flight.{flight_of, Goes, IsPastAll}
 use Rattle.tcp_rules.proofs.Steps.{same, goes_on, anew, una_goes, acked_goes}
 
@@ -81,7 +82,7 @@ module _ (cx : ContextValue) (ip : IpRepr) (header : TcpHeader) where
       cond_both (place == 0) (taken_in_order v (laid v place bytes)) (held_early v place (laid v place bytes)) (λ (t : Texted). Leaves v.block t.socket.block)
       (λ _. (refl, refl))
       (λ _.
-      cond_both (nat_le (length (runs_of (laid v place bytes))) 4)
+      cond_both (nat_le (length (runs_of (laid v place bytes))) 16)
       (texted (record v { received = received_of v.received.waiting (laid v place bytes) v.received.start }) 0 false (Some place)) (texted v 0 false None)
       (λ (t : Texted). Leaves v.block t.socket.block)
       (λ _. (refl, refl))
@@ -113,15 +114,20 @@ module _ (cx : ContextValue) (ip : IpRepr) (header : TcpHeader) where
   told_leaves : (w : TcpValue) (duplicates : ℕ) → Leaves w.block (told w header duplicates cx.moment).block
   told_leaves w duplicates =
       cond_both (names_window w.block header) (windowed w.block header) w.block
-      (λ (b : Block). Leaves w.block (timeout_restarted (counted (ranges_taken (stamp_taken b header) header) duplicates) cx.moment (queued_in w)))
+      (λ (b : Block). Leaves w.block (timeout_restarted (counted (ranges_taken (stamp_taken b header cx.moment) header cx.moment) duplicates) cx.moment (queued_in w)))
       (λ _. (refl, refl))
       (λ _. (refl, refl))
 
+  -- an echo leaves what is in flight
+  from_echo : (old new : Block) (by : ℕ) → Goes (echo_taken old header by cx.moment) new → Goes old new
+  from_echo old new by goes = record { armed = goes.armed; rises = goes.rises }
+
   by_taken : (v : TcpValue) (bytes : List ℕ) (by : ℕ) → Sound v.block (taken cx v ip header bytes by)
   by_taken v bytes by =
-      let w = acknowledged v by cx.moment in
+      let timed = echo_heard v header by cx.moment in
+      let w = acknowledged timed by cx.moment in
       let heeded = told w header (duplicates_after v.block header (length bytes) by) cx.moment in
-      let goes = acked_goes v.block by (queued_in v) cx.moment in
+      let goes = from_echo v.block w.block by (acked_goes timed.block by (queued_in v) cx.moment) in
       cond_both (is_closed w.block.state) (dropped w) (with_content cx heeded ip header bytes) (Sound v.block)
       (λ _. by_dropped v.block w goes)
       (λ _.
@@ -143,13 +149,18 @@ module _ (cx : ContextValue) (ip : IpRepr) (header : TcpHeader) where
       (λ _. draws v)
       (λ _. by_taken v bytes by))
       (λ _.
-      cond_both (tells_news v header (length bytes)) (outside cx (acknowledged v by cx.moment) ip header) (outside cx v ip header) (Sound v.block)
-      (λ _. by_outside v.block (acknowledged v by cx.moment) (acked_goes v.block by (queued_in v) cx.moment))
+      cond_both (tells_news v header (length bytes)) (outside cx (acknowledged (echo_heard v header by cx.moment) by cx.moment) ip header) (outside cx v ip header) (Sound v.block)
+      (λ _.
+      let timed = echo_heard v header by cx.moment in
+      let w = acknowledged timed by cx.moment in
+      by_outside v.block w (from_echo v.block w.block by (acked_goes timed.block by (queued_in v) cx.moment)))
       (λ _. by_outside v.block v (same v.block v.block refl)))
   by_checked Old v bytes =
-      cond_both (is_in_window v.block (free_in v) header (length bytes)) (with_content cx (with_block v (heard v.block)) ip header bytes)
+      cond_both (is_in_window v.block (free_in v) header (length bytes)) (with_content cx (with_block v (stamp_taken (heard v.block) header cx.moment)) ip header bytes)
       (outside cx v ip header) (Sound v.block)
-      (λ _. by_content v.block (with_block v (heard v.block)) bytes (same v.block (heard v.block) refl))
+      (λ _.
+      let heard_of = stamp_taken (heard v.block) header cx.moment in
+      by_content v.block (with_block v heard_of) bytes (same v.block heard_of refl))
       (λ _. by_outside v.block v (same v.block v.block refl))
   by_checked Drops v bytes = stays v
   by_checked Draws v bytes = draws v
@@ -164,7 +175,7 @@ module _ (cx : ContextValue) (ip : IpRepr) (header : TcpHeader) where
   by_received : (v : TcpValue) (bytes : List ℕ) → Sound v.block (received cx v ip header bytes)
   by_received v bytes =
       cond_both (is_rst header.control) (reset_comes cx v ip header (length bytes))
-      (if challenges_syn v.block header then drawn cx v ip header else checked (acknowledgement_check v.block header.ack_number) cx v ip header bytes)
+      (if draws_first v.block header cx.moment then drawn cx v ip header else checked (acknowledgement_check v.block header.ack_number) cx v ip header bytes)
       (Sound v.block)
       (λ _.
       cond_both (takes_reset v.block header) (dropped (taken_down v)) (if challenges_reset v header (length bytes) then drawn cx v ip header else dropped v)
@@ -175,7 +186,7 @@ module _ (cx : ContextValue) (ip : IpRepr) (header : TcpHeader) where
       (λ _. draws v)
       (λ _. stays v)))
       (λ _.
-      cond_both (challenges_syn v.block header) (drawn cx v ip header) (checked (acknowledgement_check v.block header.ack_number) cx v ip header bytes)
+      cond_both (draws_first v.block header cx.moment) (drawn cx v ip header) (checked (acknowledgement_check v.block header.ack_number) cx v ip header bytes)
       (Sound v.block)
       (λ _. draws v)
       (λ _. by_checked (acknowledgement_check v.block header.ack_number) v bytes))
@@ -189,20 +200,20 @@ module _ (cx : ContextValue) (ip : IpRepr) (header : TcpHeader) where
 
   by_opens : (v : TcpValue) → v.block.state ≡ In.Listen → Sound v.block (opens cx v ip header)
   by_opens v at =
-      let answers : TcpValue = with_block v (timeout_restarted (answering v.block ip header (word (next_random cx).random)) cx.moment 0) in
-      cond_both (is_first_syn header) (record { socket = answers; answer = None; draws = true }) (dropped v) (Sound v.block)
+      let answers : TcpValue = with_block v (timeout_restarted (believed (answering v.block ip header (first_number cx (pair_in ip header))) cx.moment) cx.moment 0) in
+      cond_both (is_first_syn header) (record { socket = answers; answer = None; draws = draws_number cx }) (dropped v) (Sound v.block)
       (λ _. (begun v.block answers.block (ap is_listening at) refl, λ reply none. absurd (cc)))
       (λ _. stays v)
 
   by_syn : (v : TcpValue) → Goes v.block (timeout_restarted (syn_answered v.block header cx.moment) cx.moment (queued_in v))
   by_syn v =
       cond_both (is_some header.ack_number) (connected v.block header cx.moment) (crossed v.block header)
-      (λ (b : Block). Goes v.block (timeout_restarted b cx.moment (queued_in v)))
+      (λ (b : Block). Goes v.block (timeout_restarted (believed b cx.moment) cx.moment (queued_in v)))
       (λ _.
-      let new = timeout_restarted (connected v.block header cx.moment) cx.moment (queued_in v) in
-      let taken = una_goes (took_syn v.block header) 1 0 cx.moment new refl in
+      let new = timeout_restarted (believed (connected v.block header cx.moment) cx.moment) cx.moment (queued_in v) in
+      let taken = una_goes (echo_taken (took_syn v.block header) header 1 cx.moment) 1 0 cx.moment new refl in
       record { armed = taken.armed; rises = taken.rises })
-      (λ _. same v.block (timeout_restarted (crossed v.block header) cx.moment (queued_in v)) refl)
+      (λ _. same v.block (timeout_restarted (believed (crossed v.block header) cx.moment) cx.moment (queued_in v)) refl)
 
   by_answer_to_syn : (v : TcpValue) (bytes : List ℕ) → Sound v.block (takes_answer cx v ip header bytes)
   by_answer_to_syn v bytes =

@@ -7,9 +7,8 @@ use Rattle.std.proofs.lemmas.List.{length-drop}
 use Rattle.ip_wire.specs.IpListenEndpoint.{IpListenEndpoint}
 use Rattle.ip_wire.specs.IpRepr.{IpRepr}
 use Rattle.ip_wire.specs.TcpHeader.{TcpHeader}
-use Rattle.net_base.specs.RandomWords.{word}
 use Rattle.net_base.specs.Ring.{Ring, anchored, enqueued}
-use Rattle.tcp_model.specs.Context.{ContextValue, next_random}
+use Rattle.tcp_model.specs.Context.{ContextValue}
 use Rattle.tcp_model.specs.BaseOffers.{Offered}
 use Rattle.tcp_control.specs.Controls.{or_mss}
 use Rattle.tcp_control.specs.Moments.{is_due, is_over, timeout_from}
@@ -30,11 +29,13 @@ use Rattle.tcp_model.specs.Calls.{listening, connected_by, pair_for, sent_more}
 use Rattle.tcp_model.specs.Checks.{falls_back}
 use Rattle.tcp_model.specs.Offers.{offer_of}
 use Rattle.tcp_model.specs.Opening.{took_syn}
+use Rattle.tcp_model.specs.LossRecovery.{loss_probed, probes_tail}
 use Rattle.tcp_model.specs.Retries.{asked, one_more}
 use Rattle.tcp_model.specs.Rules.{backed_off_now}
 use Rattle.tcp_model.specs.Settled.{settled, sent_off, sent_as, recorded, probed, end_of}
 use Rattle.tcp_model.specs.Value.{TcpValue, Arrived, with_block, unoffered, ended, new_socket, queued_in, room_of}
 use Rattle.tcp_model.specs.declared.block.Block.{Block}
+use Rattle.tcp_model.specs.FirstNumbers.{number_for}
 use Rattle.tcp_rules.specs.Congestion.{Control, control_of, IsHeld, renews, StaysOut}
 use Rattle.tcp_rules.specs.Ends.{GoesOn}
 use Rattle.tcp_rules.specs.Events.{Event, Setting, after, led, set, is_past}
@@ -61,57 +62,77 @@ pub left_true : (a b : Bool) → (a && b) ≡ true → a ≡ true
 left_true true b e = refl
 left_true false b e = clash (sym e)
 
-out_counted : (r : RenoValue) (syn begins : Bool) (count flight : ℕ) → Out r syn → Out (reno_counted r count flight begins) syn
-out_counted r syn begins count flight out =
-    cond_both begins (reno.lost r flight) (if count == 0 then r else reno.inflated r) (λ (x : RenoValue). Out x syn)
+-- what the loss of a segment makes of it, and the end of a count
+counted_both : (P : RenoValue → Type 0) (r : RenoValue) (sack begins again : Bool) (count flight : ℕ)
+    → P (reno.reduced r flight) → P (reno.lost r flight) → P (reno.inflated r) → P r → P (reno_counted r sack count flight begins again)
+counted_both P r sack begins again count flight reduces loses inflates stays =
+    cond_both begins (if sack then reno.reduced r flight else reno.lost r flight)
+    (if again then reno.reduced r flight else if not (count == 0) && not sack then reno.inflated r else r) P
+    (λ _. cond_both sack (reno.reduced r flight) (reno.lost r flight) P (λ _. reduces) (λ _. loses))
     (λ _.
+    cond_both again (reno.reduced r flight) (if not (count == 0) && not sack then reno.inflated r else r) P
+    (λ _. reduces)
+    (λ _. cond_both (not (count == 0) && not sack) (reno.inflated r) r P (λ _. inflates) (λ _. stays)))
+
+pub out_reduced : (r : RenoValue) (syn : Bool) (flight : ℕ) → Out r syn → Out (reno.reduced r flight) syn
+out_reduced r syn flight out =
     cond_both r.timed_out r
+    (record r { ssthresh = reno.halved r (min flight r.cwnd); cwnd = reno.halved r (min flight r.cwnd); recovers = true }) (λ (x : RenoValue). Out x syn)
+    (λ _. out)
+    (λ not e. clash (sym e ∙ not))
+
+out_counted : (r : RenoValue) (syn sack begins again : Bool) (count flight : ℕ) → Out r syn → Out (reno_counted r sack count flight begins again) syn
+out_counted r syn sack begins again count flight out =
+    counted_both (λ (x : RenoValue). Out x syn) r sack begins again count flight (out_reduced r syn flight out)
+    (cond_both r.timed_out r
     (record r { ssthresh = reno.halved r (min flight r.cwnd); cwnd = min reno.most (reno.halved r (min flight r.cwnd) + 3 * r.mss); recovers = true })
     (λ (x : RenoValue). Out x syn)
     (λ _. out)
     (λ not e. clash (sym e ∙ not)))
-    (λ _.
-    cond_both (count == 0) r (reno.inflated r) (λ (x : RenoValue). Out x syn)
-    (λ _. out)
-    (λ _.
-    cond_both r.recovers (record r { cwnd = min reno.most (r.cwnd + r.mss) }) r (λ (x : RenoValue). Out x syn)
+    (cond_both r.recovers (record r { cwnd = min reno.most (r.cwnd + r.mss) }) r (λ (x : RenoValue). Out x syn)
     (λ recovers e. clash (sym recovers ∙ (out e).1))
-    (λ _. out)))
+    (λ _. out))
+    out
 
 -- what an acknowledgement makes of it, where so many bytes are queued, and so much is to be acknowledged until it is more than `recover`
-abbrev pub acked_reno : RenoValue → Bool → Bool → ℕ → ℕ → ℕ → RenoValue
-acked_reno r syn lost by queued recover =
+abbrev pub acked_reno : RenoValue → Bool → Bool → Bool → ℕ → ℕ → ℕ → RenoValue
+acked_reno r sack syn lost by queued recover =
     if syn && not (by == 0) then reno.started r lost
     else if r.recovers && not (by == 0)
-    then (if (r.recovers && not (by == 0)) && nat_lt (by + 1) recover then reno.partly r (min (by - one_if syn) queued) else reno.recovered r)
+    then (if (r.recovers && not (by == 0)) && nat_lt (by + 1) recover then (if sack then r else reno.partly r (min (by - one_if syn) queued)) else reno.recovered r)
     else reno.acknowledged r (min (by - one_if syn) queued)
 
 -- a part of it, and all: both alike
-acked_both : (P : RenoValue → Type 0) (r : RenoValue) (syn lost : Bool) (by queued recover : ℕ)
+acked_both : (P : RenoValue → Type 0) (r : RenoValue) (sack syn lost : Bool) (by queued recover : ℕ)
     → ((syn && not (by == 0)) ≡ true → P (reno.started r lost))
+    → (r.recovers ≡ true → P r)
     → (r.recovers ≡ true → P (reno.partly r (min (by - one_if syn) queued)))
     → (r.recovers ≡ true → P (reno.recovered r))
     → P (reno.acknowledged r (min (by - one_if syn) queued))
-    → P (acked_reno r syn lost by queued recover)
-acked_both P r syn lost by queued recover starts part whole grows =
+    → P (acked_reno r sack syn lost by queued recover)
+acked_both P r sack syn lost by queued recover starts stays part whole grows =
     cond_both (syn && not (by == 0)) (reno.started r lost)
     (if r.recovers && not (by == 0)
-    then (if (r.recovers && not (by == 0)) && nat_lt (by + 1) recover then reno.partly r (min (by - one_if syn) queued) else reno.recovered r)
+    then (if (r.recovers && not (by == 0)) && nat_lt (by + 1) recover then (if sack then r else reno.partly r (min (by - one_if syn) queued)) else reno.recovered r)
     else reno.acknowledged r (min (by - one_if syn) queued))
     P starts
     (λ _.
     cond_both (r.recovers && not (by == 0))
-    (if (r.recovers && not (by == 0)) && nat_lt (by + 1) recover then reno.partly r (min (by - one_if syn) queued) else reno.recovered r)
+    (if (r.recovers && not (by == 0)) && nat_lt (by + 1) recover then (if sack then r else reno.partly r (min (by - one_if syn) queued)) else reno.recovered r)
     (reno.acknowledged r (min (by - one_if syn) queued)) P
     (λ recovers.
-    cond_both ((r.recovers && not (by == 0)) && nat_lt (by + 1) recover) (reno.partly r (min (by - one_if syn) queued)) (reno.recovered r) P
-    (λ _. part (left_true r.recovers (not (by == 0)) recovers)) (λ _. whole (left_true r.recovers (not (by == 0)) recovers)))
+    cond_both ((r.recovers && not (by == 0)) && nat_lt (by + 1) recover) (if sack then r else reno.partly r (min (by - one_if syn) queued)) (reno.recovered r) P
+    (λ _.
+    cond_both sack r (reno.partly r (min (by - one_if syn) queued)) P
+    (λ _. stays (left_true r.recovers (not (by == 0)) recovers)) (λ _. part (left_true r.recovers (not (by == 0)) recovers)))
+    (λ _. whole (left_true r.recovers (not (by == 0)) recovers)))
     (λ _. grows))
 
-out_acked : (r : RenoValue) (syn lost : Bool) (by queued recover : ℕ) → Out r syn → Out (acked_reno r syn lost by queued recover) (syn && (by == 0))
-out_acked r syn lost by queued recover out =
-    acked_both (λ (x : RenoValue). Out x (syn && (by == 0))) r syn lost by queued recover
+out_acked : (r : RenoValue) (sack syn lost : Bool) (by queued recover : ℕ) → Out r syn → Out (acked_reno r sack syn lost by queued recover) (syn && (by == 0))
+out_acked r sack syn lost by queued recover out =
+    acked_both (λ (x : RenoValue). Out x (syn && (by == 0))) r sack syn lost by queued recover
     (λ acks e. clash (no_both syn (not (by == 0)) (out e).2 acks))
+    (λ recovers e. clash (sym recovers ∙ (out e).1))
     (λ recovers e. clash (sym recovers ∙ (out e).1))
     (λ _ e. clash (sym e))
     (cond_both (min (by - one_if syn) queued == 0) r
@@ -121,10 +142,11 @@ out_acked r syn lost by queued recover out =
     (λ _ e. clash (sym e)))
 
 -- no timeout counts, so none does behind it
-quiet_acked : (r : RenoValue) (syn lost : Bool) (by queued recover : ℕ) → r.timed_out ≡ false → (acked_reno r syn lost by queued recover).timed_out ≡ false
-quiet_acked r syn lost by queued recover quiet =
-    acked_both (λ (x : RenoValue). x.timed_out ≡ false) r syn lost by queued recover
-    (λ _. quiet) (λ _. quiet) (λ _. refl)
+quiet_acked : (r : RenoValue) (sack syn lost : Bool) (by queued recover : ℕ) → r.timed_out ≡ false →
+    (acked_reno r sack syn lost by queued recover).timed_out ≡ false
+quiet_acked r sack syn lost by queued recover quiet =
+    acked_both (λ (x : RenoValue). x.timed_out ≡ false) r sack syn lost by queued recover
+    (λ _. quiet) (λ _. quiet) (λ _. quiet) (λ _. refl)
     (cond_both (min (by - one_if syn) queued == 0) r
     (record r { cwnd = min reno.most (r.cwnd + reno.growth r (min (by - one_if syn) queued)); timed_out = false })
     (λ (x : RenoValue). x.timed_out ≡ false) (λ _. quiet) (λ _. refl))
@@ -188,25 +210,24 @@ module _ (cx : ContextValue) (ip : IpRepr) (header : TcpHeader) (bytes : List �
   acked_held : (u : TcpValue) (by : ℕ) → IsHeld (control_of u.block) → is_past u.block.state ≡ true → IsHeld (control_of (acked_open u by cx.moment).block)
   acked_held u by h past =
       held (reno_after u.block by (queued_in u)) (u.block.sender.syn_unacked && (by == 0)) (state_after_ack u.block by (queued_in u))
-      (out_acked u.block.reno u.block.sender.syn_unacked u.block.sender.syn_lost by (queued_in u) u.block.sender.recover h.window) (state_past u by past)
+      (out_acked u.block.reno u.block.peer.sack u.block.sender.syn_unacked u.block.sender.syn_lost by (queued_in u) u.block.sender.recover h.window) (state_past u by past)
 
-  heeded_held : (u : TcpValue) (by : ℕ) → IsHeld (control_of u.block) → is_past u.block.state ≡ true
+  heeded_held : (u : TcpValue) (by : ℕ) (begins again : Bool) → IsHeld (control_of u.block) → is_past u.block.state ≡ true
       → IsHeld (record {
         reno =
-            reno_counted (reno_after u.block by (queued_in u)) (duplicates_after u.block header (length bytes) by) (u.block.sender.in_flight - by)
-            ((duplicates_after u.block header (length bytes) by == 3) && (u.block.sender.recover - by == 0));
+            reno_counted (reno_after u.block by (queued_in u)) u.block.peer.sack (duplicates_after u.block header (length bytes) by)
+            (u.block.sender.in_flight - by) begins again;
         syn_unacked = u.block.sender.syn_unacked && (by == 0);
         state = state_after_ack u.block by (queued_in u);
       })
-  heeded_held u by h past =
+  heeded_held u by begins again h past =
       held
-      (reno_counted (reno_after u.block by (queued_in u)) (duplicates_after u.block header (length bytes) by) (u.block.sender.in_flight - by)
-      ((duplicates_after u.block header (length bytes) by == 3) && (u.block.sender.recover - by == 0)))
+      (reno_counted (reno_after u.block by (queued_in u)) u.block.peer.sack (duplicates_after u.block header (length bytes) by)
+      (u.block.sender.in_flight - by) begins again)
       (u.block.sender.syn_unacked && (by == 0)) (state_after_ack u.block by (queued_in u))
-      (out_counted (reno_after u.block by (queued_in u)) (u.block.sender.syn_unacked && (by == 0))
-      ((duplicates_after u.block header (length bytes) by == 3) && (u.block.sender.recover - by == 0))
+      (out_counted (reno_after u.block by (queued_in u)) (u.block.sender.syn_unacked && (by == 0)) u.block.peer.sack begins again
       (duplicates_after u.block header (length bytes) by) (u.block.sender.in_flight - by)
-      (out_acked u.block.reno u.block.sender.syn_unacked u.block.sender.syn_lost by (queued_in u) u.block.sender.recover h.window))
+      (out_acked u.block.reno u.block.peer.sack u.block.sender.syn_unacked u.block.sender.syn_lost by (queued_in u) u.block.sender.recover h.window))
       (state_past u by past)
 
   held_received : (u : TcpValue) → IsHeld (control_of u.block) → is_past u.block.state ≡ true → Received cx ip header bytes Held u
@@ -218,9 +239,9 @@ module _ (cx : ContextValue) (ip : IpRepr) (header : TcpHeader) (bytes : List �
     ends = λ _ _ _. closed_held u h;
     closes = λ by _ _.
         held (reno_after u.block by (queued_in u)) (u.block.sender.syn_unacked && (by == 0)) In.Closed
-        (out_acked u.block.reno u.block.sender.syn_unacked u.block.sender.syn_lost by (queued_in u) u.block.sender.recover h.window) refl;
-    taken = λ by _ _. held_content _ (heeded_held u by h past);
-    taken_window = λ by _ _. held_content _ (heeded_held u by h past);
+        (out_acked u.block.reno u.block.peer.sack u.block.sender.syn_unacked u.block.sender.syn_lost by (queued_in u) u.block.sender.recover h.window) refl;
+    taken = λ by _ _. held_content _ (heeded_held u by _ _ h past);
+    taken_window = λ by _ _. held_content _ (heeded_held u by _ _ h past);
     news = λ by _ _. held_drawing _ (acked_held u by h past);
     outside = held_drawing _ h;
     old = λ _. held_content _ h;
@@ -242,7 +263,7 @@ module _ (cx : ContextValue) (ip : IpRepr) (header : TcpHeader) (bytes : List �
         let quiet = no_timeout u h (is_syn_unacked u p (ap (λ (s : State). is_opening s || is_answering s) at)) in
         record {
           window = λ e.
-              clash (sym e ∙ quiet_acked (reno.with_mss u.block.reno (or_mss header.options.max_seg_size)) u.block.sender.syn_unacked u.block.sender.syn_lost 1
+              clash (sym e ∙ quiet_acked (reno.with_mss u.block.reno (or_mss header.options.max_seg_size)) (took_syn u.block header).peer.sack u.block.sender.syn_unacked u.block.sender.syn_lost 1
               0 u.block.sender.recover quiet);
           listens = λ e. clash (sym e);
         };
@@ -306,6 +327,16 @@ module _ (cx : ContextValue) where
       at true e = h
       at false e = record { window = λ _. (refl, refl, e); listens = λ f. clash (sym f ∙ not) }
 
+  -- a loss probe is due
+  probed_held : (v : TcpValue) → IsHeld (control_of v.block) → is_listening v.block.state ≡ false → IsHeld (control_of (loss_probed (begun cx v)))
+  probed_held v h not =
+      cond_both (probes_tail (begun cx v)) v.block.reno (reno.reduced v.block.reno v.block.sender.in_flight)
+      (λ (r : RenoValue). IsHeld (record { reno = r; syn_unacked = v.block.sender.syn_unacked; state = v.block.state }))
+      (λ _. h)
+      (λ _.
+      held (reno.reduced v.block.reno v.block.sender.in_flight) v.block.sender.syn_unacked v.block.state
+      (out_reduced v.block.reno v.block.sender.syn_unacked v.block.sender.in_flight h.window) not)
+
   held_rules : (v : TcpValue) → IsInOrder (sending_of v) → IsHeld (control_of v.block) → Rules cx v HeldBlock
   held_rules v p h = record {
     nobody = λ _. h;
@@ -316,6 +347,7 @@ module _ (cx : ContextValue) where
     falls = λ _ _ _. record { window = λ e. clash (sym e); listens = λ _. refl };
     over = λ _ _ _. held v.block.reno v.block.sender.syn_unacked In.Closed h.window refl;
     backs = λ pair named _ _. held_first pair (with_block (unoffered v) (backed_off_now (begun cx v))) (backed_held v h (unnamed v pair p named));
+    probes = λ pair named _ _ _. held_first pair (with_block (unoffered v) (loss_probed (begun cx v))) (probed_held v h (unnamed v pair p named));
     goes = λ pair _ _ _. held_first pair (with_block (unoffered v) (begun cx v)) h;
   }
 
@@ -350,6 +382,7 @@ module _ (cx : ContextValue) (v : TcpValue) where
     backs = λ pair _ _ _.
         counts_first pair (with_block (unoffered v) (backed_off_now (begun cx v)))
         (ap (λ (syn : Bool). (if syn then v.block.reno else reno.timed_out v.block.reno v.block.sender.in_flight).timed_out) no_syn);
+    probes = λ _ _ _ not _. clash (sym due ∙ not);
     goes = λ _ _ _ not. clash (sym due ∙ not);
   }
 
@@ -397,9 +430,9 @@ event_held v (Listens endpoint) p h =
     cond_both (is_closed v.block.state && not (endpoint.port == 0)) (listening v endpoint) (unoffered v) (λ (w : TcpValue). IsHeld (control_of w.block))
     (λ _. record { window = λ e. clash (sym e); listens = λ _. refl }) (λ _. h)
 event_held v (Connects cx remote local) p h =
-    cond_both (is_closed v.block.state) (connected_by v (pair_for cx remote local) (word (next_random cx).random)) (unoffered v)
+    cond_both (is_closed v.block.state) (connected_by v (pair_for cx remote local) (number_for cx (pair_for cx remote local))) (unoffered v)
     (λ (w : TcpValue). IsHeld (control_of w.block))
-    (λ _. connected_held v (pair_for cx remote local) (word (next_random cx).random) h) (λ _. h)
+    (λ _. connected_held v (pair_for cx remote local) (number_for cx (pair_for cx remote local)) h) (λ _. h)
 event_held v (Sends bytes) p h =
     cond_both (takes_writes v.block.state) (sent_more v (enqueued (anchored v.queued) (take (min (length bytes) (length v.queued.free)) bytes))) (unoffered v)
     (λ (w : TcpValue). IsHeld (control_of w.block)) (λ _. h) (λ _. h)
@@ -462,6 +495,12 @@ never_falls v h out p falls = at v.block.sender.syn_unacked refl where
       (sym (or_right (is_opening v.block.state) (is_answering v.block.state)
       (answers (is_answering v.block.state) (not (v.block.names.listen.port == 0)) falls)) ∙ p.opened e)
 
+reduced_stays : (r : RenoValue) (flight : ℕ) → r.timed_out ≡ true → (reno.reduced r flight).timed_out ≡ true
+reduced_stays r flight e =
+    cond_both r.timed_out r
+    (record r { ssthresh = reno.halved r (min flight r.cwnd); cwnd = reno.halved r (min flight r.cwnd); recovers = true })
+    (λ (x : RenoValue). x.timed_out ≡ true) (λ _. e) (λ _. e)
+
 module _ (cx : ContextValue) (ip : IpRepr) (header : TcpHeader) (bytes : List ℕ) (v : TcpValue) (h : IsHeld (control_of v.block))
     (out : v.block.reno.timed_out ≡ true) where
   abbrev StaysBy : Arrived → Type 0
@@ -478,35 +517,33 @@ module _ (cx : ContextValue) (ip : IpRepr) (header : TcpHeader) (bytes : List �
       (length (drop (freed_by v.block by (queued_in v)) v.queued.queue) < queued_in v)
   acked_stays by =
       acked_both (λ (r : RenoValue). (r.timed_out ≡ true) ⊎ (length (drop (freed_by v.block by (queued_in v)) v.queued.queue) < queued_in v))
-      v.block.reno v.block.sender.syn_unacked v.block.sender.syn_lost by (queued_in v) v.block.sender.recover
-      (λ _. inl out) (λ _. inl out) (λ recovers. clash (sym recovers ∙ (h.window out).1))
+      v.block.reno v.block.peer.sack v.block.sender.syn_unacked v.block.sender.syn_lost by (queued_in v) v.block.sender.recover
+      (λ _. inl out) (λ _. inl out) (λ _. inl out) (λ recovers. clash (sym recovers ∙ (h.window out).1))
       (cond_both (freed_by v.block by (queued_in v) == 0) v.block.reno
       (record v.block.reno { cwnd = min reno.most (v.block.reno.cwnd + reno.growth v.block.reno (freed_by v.block by (queued_in v))); timed_out = false })
       (λ (r : RenoValue). (r.timed_out ≡ true) ⊎ (length (drop (freed_by v.block by (queued_in v)) v.queued.queue) < queued_in v))
       (λ _. inl out)
       (λ some. inr (shorter v.queued.queue by (one_if v.block.sender.syn_unacked) some)))
 
-  counted_stays : (r : RenoValue) (count flight : ℕ) (begins : Bool) → r.timed_out ≡ true → (reno_counted r count flight begins).timed_out ≡ true
-  counted_stays r count flight begins e =
-      cond_both begins (reno.lost r flight) (if count == 0 then r else reno.inflated r) (λ (x : RenoValue). x.timed_out ≡ true)
-      (λ _.
-      cond_both r.timed_out r
+  counted_stays : (r : RenoValue) (count flight : ℕ) (sack begins again : Bool) → r.timed_out ≡ true →
+      (reno_counted r sack count flight begins again).timed_out ≡ true
+  counted_stays r count flight sack begins again e =
+      counted_both (λ (x : RenoValue). x.timed_out ≡ true) r sack begins again count flight (reduced_stays r flight e)
+      (cond_both r.timed_out r
       (record r { ssthresh = reno.halved r (min flight r.cwnd); cwnd = min reno.most (reno.halved r (min flight r.cwnd) + 3 * r.mss); recovers = true })
       (λ (x : RenoValue). x.timed_out ≡ true) (λ _. e) (λ _. e))
-      (λ _.
-      cond_both (count == 0) r (reno.inflated r) (λ (x : RenoValue). x.timed_out ≡ true)
-      (λ _. e)
-      (λ _. cond_both r.recovers (record r { cwnd = min reno.most (r.cwnd + r.mss) }) r (λ (x : RenoValue). x.timed_out ≡ true) (λ _. e) (λ _. e)))
+      (cond_both r.recovers (record r { cwnd = min reno.most (r.cwnd + r.mss) }) r (λ (x : RenoValue). x.timed_out ≡ true) (λ _. e) (λ _. e))
+      e
 
-  heeded_stays : (by : ℕ)
-      → ((reno_counted (reno_after v.block by (queued_in v)) (duplicates_after v.block header (length bytes) by) (v.block.sender.in_flight - by)
-      ((duplicates_after v.block header (length bytes) by == 3) && (v.block.sender.recover - by == 0))).timed_out ≡ true)
+  heeded_stays : (by : ℕ) (begins again : Bool)
+      → ((reno_counted (reno_after v.block by (queued_in v)) v.block.peer.sack (duplicates_after v.block header (length bytes) by)
+      (v.block.sender.in_flight - by) begins again).timed_out ≡ true)
       ⊎ (length (drop (freed_by v.block by (queued_in v)) v.queued.queue) < queued_in v)
-  heeded_stays by =
+  heeded_stays by begins again =
       ⊎_elim
       (λ e.
       inl (counted_stays (reno_after v.block by (queued_in v)) (duplicates_after v.block header (length bytes) by) (v.block.sender.in_flight - by)
-      ((duplicates_after v.block header (length bytes) by == 3) && (v.block.sender.recover - by == 0)) e))
+      v.block.peer.sack begins again e))
       (λ less. inr less) (acked_stays by)
 
   stays_received : IsInOrder (sending_of v) → Received cx ip header bytes StaysBy (unoffered v)
@@ -517,8 +554,8 @@ module _ (cx : ContextValue) (ip : IpRepr) (header : TcpHeader) (bytes : List �
     falls = λ _ _ falls. never_falls v h out p falls;
     ends = λ _ _ _. inl out;
     closes = λ by _ _. acked_stays by;
-    taken = λ by _ _. stays_content _ (heeded_stays by);
-    taken_window = λ by _ _. stays_content _ (heeded_stays by);
+    taken = λ by _ _. stays_content _ (heeded_stays by _ _);
+    taken_window = λ by _ _. stays_content _ (heeded_stays by _ _);
     news = λ by _ _. stays_drawing _ (acked_stays by);
     outside = stays_drawing _ (inl out);
     old = λ _. stays_content _ (inl out);
@@ -550,9 +587,15 @@ offers_on cx v h out p = record {
   falls = λ _ _ falls. never_falls v h out p falls;
   over = λ _ _ _. out;
   backs = λ pair _ _ _. counts_first cx v pair (with_block (unoffered v) (backed_off_now (begun cx v))) backed;
+  probes = λ pair _ _ _ _. counts_first cx v pair (with_block (unoffered v) (loss_probed (begun cx v))) probed;
   goes = λ pair _ _ _. counts_first cx v pair (with_block (unoffered v) (begun cx v)) out;
 }
   where
+    probed : (loss_probed (begun cx v)).reno.timed_out ≡ true
+    probed =
+        cond_both (probes_tail (begun cx v)) v.block.reno (reno.reduced v.block.reno v.block.sender.in_flight) (λ (r : RenoValue). r.timed_out ≡
+        true) (λ _. out) (λ _. reduced_stays v.block.reno v.block.sender.in_flight out)
+
     backed : (backed_off_now (begun cx v)).reno.timed_out ≡ true
     backed =
         cond_both v.block.sender.syn_unacked v.block.reno (reno.timed_out v.block.reno v.block.sender.in_flight) (λ (r : RenoValue). r.timed_out ≡

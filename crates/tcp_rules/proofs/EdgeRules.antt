@@ -10,9 +10,8 @@ use Rattle.ip_wire.specs.SeqNumber.{SeqNumber}
 use Rattle.ip_wire.specs.TcpControl.{TcpControl}
 use Rattle.ip_wire.specs.TcpControl.TheVariants as Control
 use Rattle.ip_wire.specs.TcpHeader.{TcpHeader}
-use Rattle.net_base.specs.RandomWords.{word}
 use Rattle.net_base.specs.Ring.{Ring, anchored, enqueued}
-use Rattle.tcp_model.specs.Context.{ContextValue, next_random}
+use Rattle.tcp_model.specs.Context.{ContextValue}
 use Rattle.tcp_model.specs.BaseOffers.{Offered}
 use Rattle.tcp_control.specs.Controls.{is_syn, is_rst}
 use Rattle.tcp_control.specs.Moments.{timeout_from}
@@ -33,6 +32,7 @@ use Rattle.tcp_model.specs.Blocks.{forgotten, nowhere, own_scale, shift_of, is_w
 use Rattle.tcp_model.specs.Calls.{listening, connecting, connected_by, pair_for, sent_more, recv_after}
 use Rattle.tcp_model.specs.Offers.{offer_of, offer_syn, offer_choice, offer_ack, offer_reset, offer_keep_alive, silent, number_at}
 use Rattle.tcp_model.specs.Opening.{answering, connected, crossed}
+use Rattle.tcp_model.specs.LossRecovery.{loss_probed}
 use Rattle.tcp_model.specs.Retries.{heard, asked, one_more}
 use Rattle.tcp_model.specs.Rules.{Choice, control_for, owes_syn, probe_choice, text_choice, resend_choice, backed_off_now}
 use Rattle.tcp_model.specs.Segments.{no_ranges, segment, ack_segment, syn_segment, reset_segment, keep_alive_segment, reset_for}
@@ -41,13 +41,16 @@ use Rattle.tcp_model.specs.Text.{taken_in_order, is_holding, fin_taken}
 use Rattle.tcp_model.specs.Timeout.{timeout_restarted, timed_out}
 use Rattle.tcp_model.specs.Value.{TcpValue, Arrived, with_block, unoffered, ended, new_socket, queued_in, free_in, room_of, window_of}
 use Rattle.tcp_model.specs.declared.block.Block.{Block}
+use Rattle.tcp_model.specs.FirstNumbers.{first_number, number_for}
+use Rattle.tcp_model.specs.Timestamps.{believed, stamp_taken}
+use Rattle.tcp_control.specs.Endpoints.{pair_in}
 use Rattle.tcp_rules.specs.Edges.{answer_in, offer_in, goes, risen, furthest_after, KeepEdges}
 use Rattle.tcp_rules.specs.Ends.{is_over}
 use Rattle.tcp_rules.specs.Events.{Event, Setting, after, set, is_past}
 use Rattle.tcp_rules.specs.Events.Event.{Comes, Asked, Listens, Connects, Sends, Reads, Closes, Aborts, Sets}
 use Rattle.tcp_rules.specs.Events.Setting.{Timeout, KeepAlive, AckDelay, Nagle, HopLimit, Timestamps, Paused, Retries, Congestion, MinRto}
 use Rattle.tcp_rules.specs.InOrder.{sending_of, IsInOrder}
-use Rattle.tcp_rules.proofs.ArrivalCases.{by_arrival, Received, Opening, Content, Drawing, acked_open, acked_last, heeded, held, kept, due}
+use Rattle.tcp_rules.proofs.ArrivalCases.{timed, by_arrival, Received, Opening, Content, Drawing, acked_open, acked_last, heeded, held, kept, due}
 use Rattle.tcp_rules.proofs.OfferCases.{Rules, FirstRules, LastRules, by_rules, begun, probing}
 use Rattle.tcp_rules.proofs.OrderRules.{event_order, new_order, opened_by, and_true}
 use Rattle.tcp_rules.proofs.OrderSteps.{clash, backed_order}
@@ -150,14 +153,14 @@ module _ (capacity f : ℕ) (cx : ContextValue) (ip : IpRepr) (header : TcpHeade
     draws = edge_drawing u p;
     falls = λ _ _ _. over_out capacity f v (listening u u.block.names.listen) refl (listens_edge capacity u u.block.names.listen f p);
     ends = λ _ _ _. over_out capacity f v (ended u) refl (less capacity f 0 _ (in_state capacity f (edge_of u) In.Closed p (λ is. clash (sym is))) (least f));
-    closes = λ by _ _. over_out capacity f v (acked_last u by cx.moment) refl
+    closes = λ by _ _. over_out capacity f v (acked_last (timed cx.moment header u by) by cx.moment) refl
         (less capacity f 0 _ (in_state capacity f (edge_of u) In.Closed p (λ is. clash (sym is))) (least f));
-    taken = λ by _ _. edge_content (heeded cx.moment header (length bytes) u by (acked_open u by cx.moment).block) (acked_edge by) same took;
-    taken_window = λ by _ _. edge_content (heeded cx.moment header (length bytes) u by (windowed (acked_open u by cx.moment).block header))
+    taken = λ by _ _. edge_content (heeded cx.moment header (length bytes) u by (acked_open (timed cx.moment header u by) by cx.moment).block) (acked_edge by) same took;
+    taken_window = λ by _ _. edge_content (heeded cx.moment header (length bytes) u by (windowed (acked_open (timed cx.moment header u by) by cx.moment).block header))
         (acked_edge by) same took;
-    news = λ by _ _. edge_drawing (waiting_anew (acked_open u by cx.moment) header cx.moment) (acked_edge by);
+    news = λ by _ _. edge_drawing (waiting_anew (acked_open (timed cx.moment header u by) by cx.moment) header cx.moment) (acked_edge by);
     outside = edge_drawing (waiting_anew u header cx.moment) p;
-    old = λ _. edge_content (with_block u (heard u.block)) p same took;
+    old = λ _. edge_content (with_block u (stamp_taken (heard u.block) header cx.moment)) p same took;
   }
     where
       acked_edge : (by : ℕ) → IsEdge capacity f (record (edge_of u) { state = state_after_ack u.block by (queued_in u) })
@@ -165,14 +168,14 @@ module _ (capacity f : ℕ) (cx : ContextValue) (ip : IpRepr) (header : TcpHeade
 
   edge_opening : (u : TcpValue) → IsEdge capacity f (edge_of u) → (is_over u.block.state ≡ true → f ≡ 0) → Opening cx ip header bytes Arrives u
   edge_opening u p none = record {
-    opens = λ at _. none_out capacity f v (with_block u (timeout_restarted (answering u.block ip header (word (next_random cx).random)) cx.moment 0))
+    opens = λ at _. none_out capacity f v (with_block u (timeout_restarted (believed (answering u.block ip header (first_number cx (pair_in ip header))) cx.moment) cx.moment 0))
         (less capacity 0 _ _ (begins header.options.window_scale In.SynReceived refl) (nothing _ (none (ap is_over at))));
     refuses = reset_out capacity f v u (reset_for header (length bytes)) refl
         (less capacity f (f - risen v.block u.block) (edge_of u) p (minus_least f (risen v.block u.block)));
     ends = λ _. over_out capacity f v (ended u) refl (less capacity f 0 _ (in_state capacity f (edge_of u) In.Closed p (λ is. clash (sym is))) (least f));
-    connects = λ at _. none_out capacity f v (with_block u (timeout_restarted (connected u.block header cx.moment) cx.moment (queued_in u)))
+    connects = λ at _. none_out capacity f v (with_block u (timeout_restarted (believed (connected u.block header cx.moment) cx.moment) cx.moment (queued_in u)))
         (less capacity f _ _ (takes header.options.window_scale In.Established refl at) (minus_least f _));
-    crosses = λ at _. none_out capacity f v (with_block u (timeout_restarted (crossed u.block header) cx.moment (queued_in u)))
+    crosses = λ at _. none_out capacity f v (with_block u (timeout_restarted (believed (crossed u.block header) cx.moment) cx.moment (queued_in u)))
         (less capacity f _ _ (takes header.options.window_scale In.SynReceived refl at) (minus_least f _));
   }
     where
@@ -383,6 +386,7 @@ module _ (capacity f : ℕ) (cx : ContextValue) (v : TcpValue) where
     falls = λ _ _ _. (fallen, fallen);
     over = λ _ _ _. (closed_out (timed_out v.block) p refl refl, closed_out (timed_out v.block) p refl refl);
     backs = λ pair _ _ _. edge_first (with_block (unoffered v) (backed_off_now (begun cx v))) pair refl p (backed_order (sending_of v) order);
+    probes = λ pair _ _ _ _. edge_first (with_block (unoffered v) (loss_probed (begun cx v))) pair refl p order;
     goes = λ pair _ _ _. edge_first (with_block (unoffered v) (begun cx v)) pair refl p order;
   }
     where
@@ -510,9 +514,9 @@ event_edge capacity f v (Listens endpoint) few order p none =
     cond_both (is_closed v.block.state && not (endpoint.port == 0)) (listening v endpoint) (unoffered v) (λ (w : TcpValue). Out capacity f v w None)
     (λ _. over_out capacity f v (listening v endpoint) refl (listens_edge capacity v endpoint f p)) (λ _. same_out capacity f v p (unoffered v) p)
 event_edge capacity f v (Connects cx remote local) few order p none =
-    cond_both (is_closed v.block.state) (connected_by v (pair_for cx remote local) (word (next_random cx).random)) (unoffered v)
+    cond_both (is_closed v.block.state) (connected_by v (pair_for cx remote local) (number_for cx (pair_for cx remote local))) (unoffered v)
     (λ (w : TcpValue). Out capacity f v w None)
-    (λ closed. connects_out capacity f v p (pair_for cx remote local) (word (next_random cx).random) (none (closed_over v.block.state closed)))
+    (λ closed. connects_out capacity f v p (pair_for cx remote local) (number_for cx (pair_for cx remote local)) (none (closed_over v.block.state closed)))
     (λ _. same_out capacity f v p (unoffered v) p)
 event_edge capacity f v (Sends bytes) few order p none =
     let some = take (min (length bytes) (length v.queued.free)) bytes in

@@ -11,18 +11,18 @@ use Rattle.tcp_control.specs.States.{is_time_wait}
 use Rattle.tcp_control.specs.declared.state.State.{State}
 use Rattle.tcp_control.specs.declared.state.State.TheVariants as In
 use Rattle.tcp_model.specs.Answers.{drawn, may_draw, with_draw, acked}
-use Rattle.tcp_model.specs.Arrival.{takes_reset, challenges_reset, reset_comes, challenges_syn, checked, received, arrives_in, arrives, is_void_syn}
+use Rattle.tcp_model.specs.Arrival.{takes_reset, challenges_reset, reset_comes, draws_first, checked, received, arrives_in, arrives, is_void_syn}
 use Rattle.tcp_model.specs.Checks.{acknowledgement_check, taken_down}
 use Rattle.tcp_model.specs.Value.{TcpValue, Arrived, dropped, unoffered}
 use Rattle.tcp_model.specs.Segments.{no_ranges}
 use Rattle.tcp_rules.specs.Events.{is_past}
 use Rattle.tcp_rules.specs.Forged.{IsUntouched}
 
-abbrev Left : TcpValue → Arrived → Type 0
+abbrev pub Left : TcpValue → Arrived → Type 0
 Left v a = IsUntouched v a.socket × (a.answer ≡ None → a.socket ≡ unoffered v)
 
 module _ (cx : ContextValue) (ip : IpRepr) (header : TcpHeader) (bytes : List ℕ) (v : TcpValue) where
-  stays : Left v (dropped (unoffered v))
+  pub stays : Left v (dropped (unoffered v))
   stays = (
     record {
       state = refl;
@@ -31,6 +31,7 @@ module _ (cx : ContextValue) (ip : IpRepr) (header : TcpHeader) (bytes : List �
       next = refl;
       took_fin = refl;
       peer = refl;
+      stamps = refl;
       timer = refl;
       time_wait = refl;
       timeout = refl;
@@ -43,7 +44,7 @@ module _ (cx : ContextValue) (ip : IpRepr) (header : TcpHeader) (bytes : List �
     λ _. refl,
   )
 
-  answers : Left v (acked cx (with_draw (unoffered v) cx.moment) ip header no_ranges)
+  pub answers : Left v (acked cx (with_draw (unoffered v) cx.moment) ip header no_ranges)
   answers = (
     record {
       state = refl;
@@ -52,6 +53,7 @@ module _ (cx : ContextValue) (ip : IpRepr) (header : TcpHeader) (bytes : List �
       next = refl;
       took_fin = refl;
       peer = refl;
+      stamps = refl;
       timer = refl;
       time_wait = refl;
       timeout = refl;
@@ -73,7 +75,7 @@ module _ (cx : ContextValue) (ip : IpRepr) (header : TcpHeader) (bytes : List �
   by_reset : is_rst header.control ≡ true → (v.block.receiver.next.0 == header.seq_number.0) ≡ false → Left v (received cx (unoffered v) ip header bytes)
   by_reset rst elsewhere =
       cond_both (is_rst header.control) (reset_comes cx (unoffered v) ip header (length bytes))
-      (if challenges_syn v.block header
+      (if draws_first v.block header cx.moment
       then drawn cx (unoffered v) ip header
       else checked (acknowledgement_check v.block header.ack_number) cx (unoffered v) ip header bytes)
       (Left v)

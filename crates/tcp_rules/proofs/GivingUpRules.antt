@@ -17,6 +17,7 @@ use Rattle.tcp_model.specs.Blocks.{one_if}
 use Rattle.tcp_model.specs.Calls.{listening}
 use Rattle.tcp_model.specs.Offers.{offer_of, silent}
 use Rattle.tcp_model.specs.Probing.{probe_moment}
+use Rattle.tcp_model.specs.LossRecovery.{loss_probed}
 use Rattle.tcp_model.specs.Retries.{asked, one_more, reaches, retries_of, is_last_timeout, is_last_question, gives_up}
 use Rattle.tcp_model.specs.Rules.{keep_alive_moment, backed_off_now}
 use Rattle.tcp_model.specs.Settled.{settled, sent_off, sent_as, recorded, probed, end_of}
@@ -158,6 +159,9 @@ module _ (cx : ContextValue) (v : TcpValue) where
     backs = λ pair _ on due.
         steps_first pair (with_block (unoffered v) (backed_off_now (begun cx v)))
         (record { state = refl; names = refl; opening = refl; retries = refl; timeouts = one_later due }) (tries_on on);
+    probes = λ pair _ on not _.
+        steps_first pair (with_block (unoffered v) (loss_probed (begun cx v)))
+        (record { state = refl; names = refl; opening = refl; retries = refl; timeouts = unchanged not }) (tries_on on);
     goes = λ pair _ on not.
         steps_first pair (with_block (unoffered v) (begun cx v)) (record {
           state = refl;
@@ -218,6 +222,7 @@ module _ (cx : ContextValue) (v : TcpValue) (over : is_over v.block.state ≡ tr
     falls = λ _ _ _. refl;
     over = λ _ _ _. refl;
     backs = λ pair _ _ _. over_first pair (with_block (unoffered v) (backed_off_now (begun cx v))) over;
+    probes = λ pair _ _ _ _. over_first pair (with_block (unoffered v) (loss_probed (begun cx v))) over;
     goes = λ pair _ _ _. over_first pair (with_block (unoffered v) (begun cx v)) over;
   }
 
@@ -325,6 +330,7 @@ module _ (cx : ContextValue) (v : TcpValue) (limit : ℕ) (by : v.block.settings
     falls = λ _ _ _. refl;
     over = λ _ _ _. refl;
     backs = λ _ _ on _. absurd (let clash : true ≡ false = sym over ∙ on.tries in cc);
+    probes = λ _ _ on _ _. absurd (let clash : true ≡ false = sym over ∙ on.tries in cc);
     goes = λ _ _ on _. absurd (let clash : true ≡ false = sym over ∙ on.tries in cc);
   }
 

@@ -16,3 +16,5 @@ pub mod TimingRules
 pub mod RecoveryRules
 pub mod EdgeSteps
 pub mod EdgeRules
+pub mod LossRules
+pub mod StampRules

@@ -1,5 +1,5 @@
 -- The rules of an offer, case by case: what holds of what each rule gives holds of the offer.
-use Rattle.std.proofs.Common.{◌≡◌, ◌==◌, Bool, true, false, if◌then◌else◌, Option, Some, None, refl}
+use Rattle.std.proofs.Common.{◌≡◌, ℕ, ◌==◌, Bool, true, false, if◌then◌else◌, Option, Some, None, refl}
 use Rattle.std.proofs.lemmas.Bool.{cond_both}
 use Rattle.tcp_model.specs.Context.{ContextValue}
 use Rattle.tcp_model.specs.BaseOffers.{Offered}
@@ -11,6 +11,7 @@ use Rattle.tcp_model.specs.Calls.{listening}
 use Rattle.tcp_model.specs.Checks.{falls_back}
 use Rattle.tcp_model.specs.Offers.{offer_choice, offer_ack, offer_syn, offer_reset, offer_keep_alive, offer_held_back, silent, last_rules, first_rules}
 use Rattle.tcp_model.specs.Offers.{backed_off, offer_between, offer_with, offer_of}
+use Rattle.tcp_model.specs.LossRecovery.{again_place, loss_probe_moment, loss_probed, loss_probed_by}
 use Rattle.tcp_model.specs.Probing.{probe_started, probe_moment}
 use Rattle.tcp_model.specs.Retries.{gives_up, given_up}
 use Rattle.tcp_model.specs.Rules.{time_wait_end, owes_syn, resends, ack_moment, has_text, text_choice, resend_choice, probe_choice, updates_window}
@@ -18,6 +19,7 @@ use Rattle.tcp_model.specs.Rules.{keep_alive_moment, backed_off_now}
 use Rattle.tcp_model.specs.Timeout.{timeout_end, timeout_started, timed_out}
 use Rattle.tcp_model.specs.Value.{TcpValue, with_block, unoffered, ended, queued_in, free_in, room_of}
 use Rattle.tcp_model.specs.declared.block.Block.{Block}
+use Rattle.tcp_model.proofs.Holes.{again_first}
 use Rattle.tcp_rules.specs.Ends.{GoesOn}
 
 -- the moment of a probe is set where one is to be
@@ -101,6 +103,10 @@ module _ (cx : ContextValue) (pair : EndpointPair) (Q : Offered TcpValue → Typ
       (λ text. r.text no_syn text)
       (λ _. by_last (probing cx w) (r.last no_syn))))
 
+-- with nothing in flight what goes again goes from SND.UNA
+pub resends_first : (b : Block) (limit sent queued : ℕ) → b.sender.in_flight ≡ 0 → again_place b limit sent queued ≡ 0
+resends_first b limit sent queued none = again_first b limit sent queued none
+
 pub record Rules (cx : ContextValue) (v : TcpValue) (Q : Offered TcpValue → Type 0) : Type 0 where
   pub nobody : v.block.names.pair ≡ None → Q (silent false (unoffered v))
   pub time_wait : is_due cx.moment (time_wait_end v.block) ≡ true → Q (silent true (ended (unoffered v)))
@@ -116,6 +122,9 @@ pub record Rules (cx : ContextValue) (v : TcpValue) (Q : Offered TcpValue → Ty
   pub backs :
       (pair : EndpointPair) → v.block.names.pair ≡ Some pair → GoesOn cx v → is_due cx.moment v.block.timers.retransmit_at ≡ true
       → FirstRules cx pair Q (with_block (unoffered v) (backed_off_now (begun cx v)))
+  pub probes :
+      (pair : EndpointPair) → v.block.names.pair ≡ Some pair → GoesOn cx v → is_due cx.moment v.block.timers.retransmit_at ≡ false
+      → is_due cx.moment (loss_probe_moment v.block) ≡ true → FirstRules cx pair Q (with_block (unoffered v) (loss_probed (begun cx v)))
   pub goes :
       (pair : EndpointPair) → v.block.names.pair ≡ Some pair → GoesOn cx v → is_due cx.moment v.block.timers.retransmit_at ≡ false
       → FirstRules cx pair Q (with_block (unoffered v) (begun cx v))
@@ -154,10 +163,14 @@ module _ (cx : ContextValue) (v : TcpValue) (Q : Offered TcpValue → Type 0) (r
       (λ over. by_over alive over)
       (λ tries.
       let on : GoesOn cx v = record { lasts = lasts; in_time = in_time; alive = alive; tries = tries } in
-      cond_both (is_due cx.moment v.block.timers.retransmit_at) (backed_off_now (begun cx v)) (begun cx v)
+      cond_both (is_due cx.moment v.block.timers.retransmit_at) (backed_off_now (begun cx v)) (loss_probed_by cx.moment (begun cx v))
       (λ (b : Block). Q (first_rules cx (with_block (unoffered v) b) pair))
       (λ due. by_first cx pair Q (with_block (unoffered v) (backed_off_now (begun cx v))) (r.backs pair named on due))
-      (λ not. by_first cx pair Q (with_block (unoffered v) (begun cx v)) (r.goes pair named on not))))))
+      (λ not.
+      cond_both (is_due cx.moment (loss_probe_moment v.block)) (loss_probed (begun cx v)) (begun cx v)
+      (λ (b : Block). Q (first_rules cx (with_block (unoffered v) b) pair))
+      (λ due. by_first cx pair Q (with_block (unoffered v) (loss_probed (begun cx v))) (r.probes pair named on not due))
+      (λ _. by_first cx pair Q (with_block (unoffered v) (begun cx v)) (r.goes pair named on not)))))))
 
   by_names : (names : Option EndpointPair) → v.block.names.pair ≡ names → Q (offer_with names cx (unoffered v))
   by_names None none = r.nobody none

@@ -17,6 +17,7 @@ use Rattle.tcp_model.specs.Calls.{listening}
 use Rattle.tcp_model.specs.Checks.{falls_back}
 use Rattle.tcp_model.specs.Offers.{offer_segment, offer_choice, offer_ack, offer_syn, offer_reset, offer_keep_alive, offer_held_back, silent, last_rules}
 use Rattle.tcp_model.specs.Offers.{first_rules, backed_off, offer_between, offer_with, offer_of, number_at}
+use Rattle.tcp_model.specs.LossRecovery.{loss_probe_moment, loss_probed, loss_probed_by}
 use Rattle.tcp_model.specs.Probing.{probe_started, probe_moment}
 use Rattle.tcp_model.specs.Retries.{asked, one_more, gives_up, given_up}
 use Rattle.tcp_model.specs.Rules.{control_for, time_wait_end, owes_syn, resends, ack_moment, has_text, text_choice, resend_choice, probe_choice, updates_window}
@@ -220,12 +221,18 @@ module _ (cx : ContextValue) (pair : EndpointPair) where
       cond_both (gives_up cx.moment v.block (queued_in v)) gone going (Sound v.block)
       (λ _. by_end v)
       (λ _.
-      cond_both (is_due cx.moment v.block.timers.retransmit_at) (backed_off_now started) started
+      cond_both (is_due cx.moment v.block.timers.retransmit_at) (backed_off_now started) (loss_probed_by cx.moment started)
       (λ (b : Block). Sound v.block (first_rules cx (with_block (unoffered v) b) pair))
       (λ _.
       by_first v.block (with_block (unoffered v) (backed_off_now started))
       (record { none = refl; goes = backs_off v.block (backed_off_now started) refl refl refl; listens = refl }))
-      (λ _. by_first v.block (with_block (unoffered v) started) (record { none = refl; goes = same v.block started refl; listens = refl }))))))
+      (λ _.
+      cond_both (is_due cx.moment (loss_probe_moment started)) (loss_probed started) started
+      (λ (b : Block). Sound v.block (first_rules cx (with_block (unoffered v) b) pair))
+      (λ _.
+      by_first v.block (with_block (unoffered v) (loss_probed started))
+      (record { none = refl; goes = same v.block (loss_probed started) refl; listens = refl }))
+      (λ _. by_first v.block (with_block (unoffered v) started) (record { none = refl; goes = same v.block started refl; listens = refl })))))))
 
 abbrev Sound_with : TcpValue → Offered TcpValue → Type 0
 Sound_with v o =

@@ -13,9 +13,8 @@ use Rattle.ip_wire.specs.Tcp.{header_len}
 use Rattle.ip_wire.specs.TcpControl.{TcpControl}
 use Rattle.ip_wire.specs.TcpControl.TheVariants as Control
 use Rattle.ip_wire.specs.TcpHeader.{TcpHeader}
-use Rattle.net_base.specs.RandomWords.{word}
 use Rattle.net_base.specs.Ring.{Ring, until_end, cleared, anchored, enqueued}
-use Rattle.tcp_model.specs.Context.{ContextValue, next_random}
+use Rattle.tcp_model.specs.Context.{ContextValue}
 use Rattle.tcp_model.specs.BaseOffers.{Offered}
 use Rattle.tcp_control.specs.Endpoints.{header_for}
 use Rattle.tcp_control.specs.Moments.{is_due, is_over, timeout_from}
@@ -38,20 +37,27 @@ use Rattle.tcp_model.specs.Offers.{offer_of, offer_choice, offer_syn, number_at}
 use Rattle.tcp_model.specs.Opening.{answering}
 use Rattle.tcp_model.specs.Probing.{probe_moment, is_probing}
 use Rattle.tcp_model.specs.Retries.{asked, one_more, heard}
+use Rattle.tcp_control.specs.Scoreboard.{first_missing}
+use Rattle.tcp_model.specs.LossRecovery.{hole_len, loss_probed}
 use Rattle.tcp_model.specs.Rules.{Choice, congestion_limit, window_limit, size_limit, unbroken, next_place, text_choice, resend_choice, probe_choice}
-use Rattle.tcp_model.specs.Rules.{control_for, owes_syn, resends, has_text, backed_off_now, beyond, sent_places}
+use Rattle.tcp_model.specs.Rules.{control_for, owes_syn, resends, has_text, backed_off_now, congestion_room, sent_places}
+use Rattle.tcp_model.proofs.Holes as Holes
 use Rattle.tcp_model.specs.Segments.{hops_of, segment, keep_alive_segment}
-use Rattle.tcp_model.specs.Settled.{settled, sent_off, recorded, probed, end_of}
+use Rattle.tcp_model.specs.Settled.{past_held, settled, sent_off, recorded, probed, end_of}
 use Rattle.tcp_model.specs.Timeout.{timeout_restarted}
 use Rattle.tcp_model.specs.Value.{TcpValue, Arrived, with_block, unoffered, ended, new_socket, queued_in, room_of, window_of}
 use Rattle.tcp_model.specs.declared.block.Block.{Block}
 use Rattle.tcp_model.specs.declared.block.CongestionControl.{CongestionControl}
 use Rattle.tcp_model.specs.declared.block.CongestionControl.TheVariants as Avoids
+use Rattle.tcp_model.specs.FirstNumbers.{first_number, number_for}
+use Rattle.tcp_model.specs.Timestamps.{believed, stamp_taken}
+use Rattle.tcp_model.proofs.Numbers.{number_small, number_for_small}
+use Rattle.tcp_control.specs.Endpoints.{pair_in}
 use Rattle.tcp_rules.specs.Events.{Event, Setting, after, led, set, is_past}
 use Rattle.tcp_rules.specs.Events.Event.{Comes, Asked, Listens, Connects, Sends, Reads, Closes, Aborts, Sets}
 use Rattle.tcp_rules.specs.Events.Setting.{Timeout, KeepAlive, AckDelay, Nagle, HopLimit, Timestamps, Paused, Retries, Congestion, MinRto}
 use Rattle.tcp_rules.specs.InOrder.{has_all, Sending, sending_of, all_of, IsInOrder}
-use Rattle.tcp_rules.proofs.ArrivalCases.{by_arrival, Received, Opening, Content, Drawing, acked_open, heeded}
+use Rattle.tcp_rules.proofs.ArrivalCases.{timed, by_arrival, Received, Opening, Content, Drawing, acked_open, heeded}
 use Rattle.tcp_rules.proofs.OfferCases.{Rules, FirstRules, LastRules, by_rules, begun, probing}
 use Rattle.tcp_rules.proofs.OrderSteps.{clash, listens_not, passes_news, old_news, syn_gone, syn_gone_old, acked_sending, one_if_least, acked_on, acked_fin}
 use Rattle.tcp_rules.proofs.OrderSteps.{with_waiting, with_fin_taken, closed_order, last_order, begins, went_order, backed_order, distance_at_most}
@@ -67,9 +73,6 @@ small_zero = omega arith
 
 least_zero : (m : ℕ) → 0 ≤ m
 least_zero m = omega arith
-
-small_word : (n : ℕ) → word n < 2 ^ 32
-small_word n = omega arith
 
 pub and_true : (a b : Bool) → (a && b) ≡ true → (a ≡ true) × (b ≡ true)
 and_true true b e = (refl, e)
@@ -138,21 +141,21 @@ module _ (cx : ContextValue) (ip : IpRepr) (header : TcpHeader) (bytes : List �
     closes = λ by passes _.
         last_order (sending_of u) (behind_by u.block.sender.una by).0 by (length (drop (freed_by u.block by (queued_in u)) u.queued.queue))
         (if u.block.sender.partial && is_partial u.block by then u.block.timers.retransmit_at else Some
-        (timeout_from cx.moment (acked_open u by cx.moment).block.round_trip)) p (small_number u.block.sender.una by)
+        (timeout_from cx.moment (acked_open (timed cx.moment header u by) by cx.moment).block.round_trip)) p (small_number u.block.sender.una by)
         (syn_gone (sending_of u) by p (passes_news u.block header.ack_number by passes));
     taken = λ by passes alive.
-        order_content (heeded cx.moment header (length bytes) u by (acked_open u by cx.moment).block)
-        (acked_order u by cx.moment p past (passes_news u.block header.ack_number by passes) alive)
+        order_content (heeded cx.moment header (length bytes) u by (acked_open (timed cx.moment header u by) by cx.moment).block)
+        (acked_order (timed cx.moment header u by) by cx.moment p past (passes_news u.block header.ack_number by passes) alive)
         (syn_gone (sending_of u) by p (passes_news u.block header.ack_number by passes));
     taken_window = λ by passes alive.
-        order_content (heeded cx.moment header (length bytes) u by (windowed (acked_open u by cx.moment).block header))
-        (acked_order u by cx.moment p past (passes_news u.block header.ack_number by passes) alive)
+        order_content (heeded cx.moment header (length bytes) u by (windowed (acked_open (timed cx.moment header u by) by cx.moment).block header))
+        (acked_order (timed cx.moment header u by) by cx.moment p past (passes_news u.block header.ack_number by passes) alive)
         (syn_gone (sending_of u) by p (passes_news u.block header.ack_number by passes));
     news = λ by passes alive.
-        order_drawing (waiting_anew (acked_open u by cx.moment) header cx.moment)
-        (acked_order u by cx.moment p past (passes_news u.block header.ack_number by passes) alive);
+        order_drawing (waiting_anew (acked_open (timed cx.moment header u by) by cx.moment) header cx.moment)
+        (acked_order (timed cx.moment header u by) by cx.moment p past (passes_news u.block header.ack_number by passes) alive);
     outside = order_drawing (waiting_anew u header cx.moment) p;
-    old = λ old. order_content (with_block u (heard u.block)) p (syn_gone_old (sending_of u) p (old_news u.block header.ack_number old));
+    old = λ old. order_content (with_block u (stamp_taken (heard u.block) header cx.moment)) p (syn_gone_old (sending_of u) p (old_news u.block header.ack_number old));
   }
 
   -- in SYN-SENT the SYN isn't acknowledged yet
@@ -165,8 +168,8 @@ module _ (cx : ContextValue) (ip : IpRepr) (header : TcpHeader) (bytes : List �
   order_opening : (u : TcpValue) → IsInOrder (sending_of u) → Opening cx ip header bytes Order u
   order_opening u p = record {
     opens = λ at _.
-        begins (sending_of (with_block u (timeout_restarted (answering u.block ip header (word (next_random cx).random)) cx.moment 0))) In.SynReceived refl refl
-        (small_word (next_random cx).random) refl refl (p.listens (ap is_listening at)).1 refl (λ _. refl);
+        begins (sending_of (with_block u (timeout_restarted (believed (answering u.block ip header (first_number cx (pair_in ip header))) cx.moment) cx.moment 0))) In.SynReceived refl refl
+        (number_small cx (pair_in ip header)) refl refl (p.listens (ap is_listening at)).1 refl (λ _. refl);
     refuses = p;
     ends = λ _. closed_order (sending_of u) false p;
     connects = λ at _. record {
@@ -214,7 +217,7 @@ limit_least Avoids.Reno window size = omega arith
 
 window_least : (b : Block) (size : ℕ) → window_limit b size ≤ size
 window_least b size =
-    let limit = limit_least b.settings.congestion_control (b.reno.cwnd + beyond b - b.sender.in_flight) (min (b.peer.window - b.sender.in_flight) size) in
+    let limit = limit_least b.settings.congestion_control (congestion_room b) (min (b.peer.window - b.sender.in_flight) size) in
     omega (arith, limit)
 
 pub control_least : (c : Choice) (queued : ℕ) → control_len (control_for c queued) ≤ one_if c.fin
@@ -261,6 +264,15 @@ choice_within x c p place len fin = at c.fin refl where
       (distance_of x.block.sender.una (number_at x.block c.place))
       (control_len (control_for c (queued_in x))) (one_if c.fin) place len near (control_least c (queued_in x)) (ap one_if e)
 
+-- SND.NXT moves past what is held no further than the send queue
+past_within : (x : TcpValue) (end : ℕ) → end ≤ all_of (sending_of x) → past_held x.block end (queued_in x) ≤ all_of (sending_of x)
+past_within x end small =
+    reach end (first_missing x.block.loss.board.runs end) x.block.sender.top (one_if x.block.sender.syn_unacked) (queued_in x)
+    (one_if (owes_fin x.block.state)) small
+  where
+    reach : (end missing top syn queued owes : ℕ) → end ≤ syn + queued + owes → max end (min missing (min top (syn + queued))) ≤ syn + queued + owes
+    reach end missing top syn queued owes e = omega arith
+
 -- as it is offered, and settled as sent
 abbrev Both : Offered TcpValue → Type 0
 Both o = IsInOrder (sending_of o.socket) × IsInOrder (sending_of (settled true o.socket))
@@ -282,8 +294,9 @@ module _ (cx : ContextValue) (pair : EndpointPair) where
       → Both (offer_choice Kind.Text cx x pair c)
   by_text x c p not_all end = (
     p,
-    went_order (sending_of x) (distance_of x.block.sender.una (number_at x.block c.place) + (c.len + control_len (control_for c (queued_in x)))) _ p
-        not_all end,
+    went_order (sending_of x)
+        (past_held x.block (distance_of x.block.sender.una (number_at x.block c.place) + (c.len + control_len (control_for c (queued_in x)))) (queued_in x)) _ p
+        not_all (past_within x _ end),
   )
 
   by_again :
@@ -292,8 +305,9 @@ module _ (cx : ContextValue) (pair : EndpointPair) where
       → Both (offer_choice Kind.FastRetransmission cx x pair c)
   by_again x c p not_all end = (
     p,
-    went_order (sending_of x) (distance_of x.block.sender.una (number_at x.block c.place) + (c.len + control_len (control_for c (queued_in x)))) _ p
-        not_all end,
+    went_order (sending_of x)
+        (past_held x.block (distance_of x.block.sender.una (number_at x.block c.place) + (c.len + control_len (control_for c (queued_in x)))) (queued_in x)) _ p
+        not_all (past_within x _ end),
   )
 
   -- a question counts
@@ -355,31 +369,33 @@ module _ (cx : ContextValue) (pair : EndpointPair) where
 
   again_within :
       (x : TcpValue) → IsInOrder (sending_of x)
-      → distance_of x.block.sender.una (number_at x.block 0)
+      → distance_of x.block.sender.una (number_at x.block (resend_choice x.block pair.addresses cx.ip_mtu x.queued).place)
       + ((resend_choice x.block pair.addresses cx.ip_mtu x.queued).len +
       control_len (control_for (resend_choice x.block pair.addresses cx.ip_mtu x.queued) (queued_in x)))
       ≤ all_of (sending_of x)
-  again_within x p = choice_within x (resend_choice x.block pair.addresses cx.ip_mtu x.queued) p (least (queued_in x + one_if (owes_fin x.block.state)))
-      shorter same where
-        least : (m : ℕ) → 0 ≤ m
-        least m = omega arith
+  again_within x p = choice_within x again p inside shorter same where
+    again : Choice
+    again = resend_choice x.block pair.addresses cx.ip_mtu x.queued
 
-        twice : (s m k u : ℕ) → min s (min m (min k u)) ≤ k
-        twice s m k u = omega arith
+    more : (place queued owes : ℕ) → place ≤ queued → place ≤ queued + owes
+    more place queued owes e = omega arith
 
-        shorter : (resend_choice x.block pair.addresses cx.ip_mtu x.queued).len ≤ queued_in x - 0
-        shorter = twice (sent_places x.block) (size_limit x.block pair.addresses cx.ip_mtu) (queued_in x - 0) (until_end x.queued 0)
+    inside : again.place ≤ queued_in x + one_if (owes_fin x.block.state)
+    inside =
+        more again.place (queued_in x) (one_if (owes_fin x.block.state))
+        (Holes.again_within x.block (size_limit x.block pair.addresses cx.ip_mtu) (sent_places x.block) (queued_in x))
 
-        none_before : (n : ℕ) → n ≡ 0 + n
-        none_before n = omega arith
+    twice : (s m k u : ℕ) → min s (min m (min k u)) ≤ k
+    twice s m k u = omega arith
 
-        same :
-            (resend_choice x.block pair.addresses cx.ip_mtu x.queued).fin ≡ true
-            → (owes_fin x.block.state && (0 + (resend_choice x.block pair.addresses cx.ip_mtu x.queued).len == queued_in x)) ≡ true
-        same fin =
-            sym (ap (λ (n : ℕ). owes_fin x.block.state && (n == queued_in x)) (none_before (resend_choice x.block pair.addresses cx.ip_mtu x.queued).len))
-            ∙ (and_true (owes_fin x.block.state && ((resend_choice x.block pair.addresses cx.ip_mtu x.queued).len == queued_in x))
-            (nat_lt (resend_choice x.block pair.addresses cx.ip_mtu x.queued).len (sent_places x.block)) fin).0
+    shorter : again.len ≤ queued_in x - again.place
+    shorter =
+        twice (hole_len x.block again.place (sent_places x.block)) (size_limit x.block pair.addresses cx.ip_mtu) (queued_in x - again.place)
+        (until_end x.queued again.place)
+
+    same : again.fin ≡ true → (owes_fin x.block.state && (again.place + again.len == queued_in x)) ≡ true
+    same fin =
+        (and_true (owes_fin x.block.state && (again.place + again.len == queued_in x)) (nat_lt (again.place + again.len) (sent_places x.block)) fin).0
 
   order_last : (x : TcpValue) → x.offered ≡ None → IsInOrder (sending_of x) → LastRules cx pair Both x
   order_last x none p = record {
@@ -404,7 +420,7 @@ module _ (cx : ContextValue) (pair : EndpointPair) where
   order_first w none p alive = record {
     syn = λ owes. by_syn owes;
     again = λ _ again.
-        let sends = (and_true (sends_text w.block.state) w.block.sender.resend again).0 in
+        let sends = (and_true (sends_text w.block.state) _ again).0 in
         by_again w (resend_choice w.block pair.addresses cx.ip_mtu w.queued) p (sends_on w.block.state sends) (again_within w p);
     text = λ _ text.
         let sends = (and_true (sends_text w.block.state) _ text).0 in
@@ -419,10 +435,12 @@ module _ (cx : ContextValue) (pair : EndpointPair) where
           let state = (and_true (sends_syn w.block.state) (not (is_answering w.block.state && w.block.settings.synack_paused)) parts.0).0 in
           let syn = (and_true w.block.sender.syn_unacked (w.block.sender.in_flight == 0) parts.1).0 in (
             p,
-            went_order (sending_of w) (distance_of w.block.sender.una w.block.sender.una + (0 + 1)) _ p (syn_on w.block.state state)
+            went_order (sending_of w) (past_held w.block (distance_of w.block.sender.una w.block.sender.una + (0 + 1)) (queued_in w)) _ p
+                (syn_on w.block.state state)
+                (past_within w _
                 (one_at_most (distance_of w.block.sender.una w.block.sender.una) (one_if w.block.sender.syn_unacked) (queued_in w)
                 (one_if (owes_fin w.block.state))
-                (own_distance w.block.sender.una p.number) (ap one_if syn)),
+                (own_distance w.block.sender.una p.number) (ap one_if syn))),
           )
         where
           one_at_most : (far syn queued owes : ℕ) → far ≡ 0 → syn ≡ 1 → far + (0 + 1) ≤ syn + queued + owes
@@ -438,6 +456,7 @@ order_rules cx v p = record {
   falls = λ _ _ _. (order_listens v v.block.names.listen, order_listens v v.block.names.listen);
   over = λ _ _ _. (closed_order (sending_of v) (is_some v.block.names.pair) p, closed_order (sending_of v) (is_some v.block.names.pair) p);
   backs = λ pair _ on _. order_first cx pair (with_block (unoffered v) (backed_off_now (begun cx v))) refl (backed_order (sending_of v) p) on.alive;
+  probes = λ pair _ on _ _. order_first cx pair (with_block (unoffered v) (loss_probed (begun cx v))) refl p on.alive;
   goes = λ pair _ on _. order_first cx pair (with_block (unoffered v) (begun cx v)) refl p on.alive;
 }
 
@@ -553,9 +572,9 @@ event_order v (Listens endpoint) p =
     cond_both (is_closed v.block.state && not (endpoint.port == 0)) (listening v endpoint) (unoffered v) (λ (w : TcpValue). IsInOrder (sending_of w))
     (λ _. order_listens v endpoint) (λ _. p)
 event_order v (Connects cx remote local) p =
-    cond_both (is_closed v.block.state) (connected_by v (pair_for cx remote local) (word (next_random cx).random)) (unoffered v)
+    cond_both (is_closed v.block.state) (connected_by v (pair_for cx remote local) (number_for cx (pair_for cx remote local))) (unoffered v)
     (λ (w : TcpValue). IsInOrder (sending_of w))
-    (λ _. connected_order v (pair_for cx remote local) (word (next_random cx).random) p (small_word (next_random cx).random)) (λ _. p)
+    (λ _. connected_order v (pair_for cx remote local) (number_for cx (pair_for cx remote local)) p (number_for_small cx (pair_for cx remote local))) (λ _. p)
 event_order v (Sends bytes) p =
     let some = take (min (length bytes) (length v.queued.free)) bytes in
     cond_both (takes_writes v.block.state) (sent_more v (enqueued (anchored v.queued) some)) (unoffered v) (λ (w : TcpValue). IsInOrder (sending_of w))

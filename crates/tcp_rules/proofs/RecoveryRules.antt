@@ -7,9 +7,8 @@ use Rattle.ip_wire.specs.IpRepr.{IpRepr}
 use Rattle.ip_wire.specs.Seq.{distance_of}
 use Rattle.ip_wire.specs.SeqNumber.{SeqNumber}
 use Rattle.ip_wire.specs.TcpHeader.{TcpHeader}
-use Rattle.net_base.specs.RandomWords.{word}
 use Rattle.net_base.specs.Ring.{Ring, anchored, enqueued}
-use Rattle.tcp_model.specs.Context.{ContextValue, next_random}
+use Rattle.tcp_model.specs.Context.{ContextValue}
 use Rattle.tcp_model.specs.BaseOffers.{Offered}
 use Rattle.tcp_control.specs.Controls.{or_mss}
 use Rattle.tcp_control.specs.Moments.{is_over, timeout_from}
@@ -26,7 +25,10 @@ use Rattle.tcp_control.specs.declared.offer.OpenOffer.{OpenOffer}
 use Rattle.tcp_control.specs.declared.round_trip.Sample.{Sample}
 use Rattle.tcp_control.specs.declared.state.State.{State}
 use Rattle.tcp_control.specs.declared.state.State.TheVariants as In
-use Rattle.tcp_model.specs.Acknowledged.{state_after_ack, acks_own_syn, round_trip_after, reno_after, reno_counted, duplicates_after}
+use Rattle.tcp_model.specs.Acknowledged.{state_after_ack, acks_own_syn, round_trip_after, reno_after, reno_counted, duplicates_after, begins_recovery}
+use Rattle.tcp_model.specs.Acknowledged.{ranges_taken, windowed}
+use Rattle.tcp_model.specs.LossRecovery.{hole_len, is_lost_at, is_lost_again, loss_probed, probes_tail}
+use Rattle.tcp_model.proofs.Holes.{again_sent, hole_least}
 use Rattle.tcp_model.specs.Arrival.{arrives}
 use Rattle.tcp_model.specs.Blocks.{one_if}
 use Rattle.tcp_model.specs.Calls.{listening, connected_by, pair_for, sent_more}
@@ -37,12 +39,14 @@ use Rattle.tcp_model.specs.Rules.{Choice, backed_off_now, resend_choice, control
 use Rattle.tcp_model.specs.Settled.{settled, sent_off, sent_as, recorded, probed, end_of}
 use Rattle.tcp_model.specs.Value.{TcpValue, Arrived, with_block, unoffered, ended, new_socket, queued_in, room_of}
 use Rattle.tcp_model.specs.declared.block.Block.{Block}
+use Rattle.tcp_model.specs.FirstNumbers.{number_for}
+use Rattle.tcp_model.specs.Timestamps.{stamp_taken, echo_taken, echo_of, stamp_taken, timed_by, timed_with}
 use Rattle.tcp_rules.specs.Events.{Event, Setting, after, led, set, is_past}
 use Rattle.tcp_rules.specs.Events.Event.{Comes, Asked, Listens, Connects, Sends, Reads, Closes, Aborts, Sets}
 use Rattle.tcp_rules.specs.Events.Setting.{Timeout, KeepAlive, AckDelay, Nagle, HopLimit, Timestamps, Paused, Retries, MinRto, Congestion}
 use Rattle.tcp_rules.specs.InOrder.{sending_of, IsInOrder}
 use Rattle.tcp_rules.specs.Recovery.{Recovery, recovery_of, IsPaced}
-use Rattle.tcp_rules.proofs.ArrivalCases.{by_arrival, Received, Opening, Content, Drawing, acked_open}
+use Rattle.tcp_rules.proofs.ArrivalCases.{timed, by_arrival, Received, Opening, Content, Drawing, acked_open}
 use Rattle.tcp_rules.proofs.CongestionRules.{acked_reno, fin_on, state_past, close_on, unnamed, left_true}
 use Rattle.tcp_rules.proofs.OfferCases.{Rules, FirstRules, LastRules, by_rules, begun, probing}
 use Rattle.tcp_rules.proofs.OrderRules.{event_order, new_order, control_least}
@@ -57,20 +61,23 @@ right_true : (a b : Bool) → (a && b) ≡ true → b ≡ true
 right_true true b e = e
 right_true false b e = clash (sym e)
 
-lasts_acked : (r : RenoValue) (syn lost : Bool) (by queued recover : ℕ) → Lasts r recover → Lasts (acked_reno r syn lost by queued recover) (recover - by)
-lasts_acked r syn lost by queued recover lasts =
+lasts_acked : (r : RenoValue) (sack syn lost : Bool) (by queued recover : ℕ) → Lasts r recover →
+    Lasts (acked_reno r sack syn lost by queued recover) (recover - by)
+lasts_acked r sack syn lost by queued recover lasts =
     cond_both (syn && not (by == 0)) (reno.started r lost)
     (if r.recovers && not (by == 0)
-    then (if (r.recovers && not (by == 0)) && nat_lt (by + 1) recover then reno.partly r (min (by - one_if syn) queued) else reno.recovered r)
+    then (if (r.recovers && not (by == 0)) && nat_lt (by + 1) recover then (if sack then r else reno.partly r (min (by - one_if syn) queued))
+    else reno.recovered r)
     else reno.acknowledged r (min (by - one_if syn) queued))
     (λ (x : RenoValue). Lasts x (recover - by))
     (λ _ e. clash (sym e))
     (λ _.
     cond_both (r.recovers && not (by == 0))
-    (if (r.recovers && not (by == 0)) && nat_lt (by + 1) recover then reno.partly r (min (by - one_if syn) queued) else reno.recovered r)
+    (if (r.recovers && not (by == 0)) && nat_lt (by + 1) recover then (if sack then r else reno.partly r (min (by - one_if syn) queued))
+    else reno.recovered r)
     (reno.acknowledged r (min (by - one_if syn) queued)) (λ (x : RenoValue). Lasts x (recover - by))
     (λ _.
-    cond_both ((r.recovers && not (by == 0)) && nat_lt (by + 1) recover) (reno.partly r (min (by - one_if syn) queued)) (reno.recovered r)
+    cond_both ((r.recovers && not (by == 0)) && nat_lt (by + 1) recover) (if sack then r else reno.partly r (min (by - one_if syn) queued)) (reno.recovered r)
     (λ (x : RenoValue). Lasts x (recover - by))
     (λ part _. more by recover (ltb-true (by + 1) recover (right_true (r.recovers && not (by == 0)) (nat_lt (by + 1) recover) part)))
     (λ _ e. clash (sym e)))
@@ -96,15 +103,20 @@ lasts_acked r syn lost by queued recover lasts =
     stays true none e f = same by recover (is_none_by by none) (f e)
     stays false none e f = clash (sym e)
 
-lasts_counted : (r : RenoValue) (begins : Bool) (count flight top recover : ℕ) → Lasts r recover
-    → Lasts (reno_counted r count flight begins) (if begins then min (top + 1) 4_294_967_295 else recover)
-lasts_counted r true count flight top recover lasts = λ _. one_at_least top where
-  one_at_least : (top : ℕ) → 1 ≤ min (top + 1) 4_294_967_295
-  one_at_least top = omega arith
-lasts_counted r false count flight top recover lasts =
-    cond_both (count == 0) r (reno.inflated r) (λ (x : RenoValue). Lasts x recover)
-    (λ _. lasts)
+one_past : (top : ℕ) → 1 ≤ min (top + 1) 4_294_967_295
+one_past top = omega arith
+
+-- what goes again is lost once more in recovery alone
+lasts_counted : (r : RenoValue) (sack begins again : Bool) (count flight top recover : ℕ) → (again ≡ true → r.recovers ≡ true) → Lasts r recover
+    → Lasts (reno_counted r sack count flight begins again) (if begins then min (top + 1) 4_294_967_295 else recover)
+lasts_counted r sack true again count flight top recover only lasts = λ _. one_past top
+lasts_counted r sack false again count flight top recover only lasts =
+    cond_both again (reno.reduced r flight) (if not (count == 0) && not sack then reno.inflated r else r) (λ (x : RenoValue). Lasts x recover)
+    (λ e _. lasts (only e))
+    (λ _.
+    cond_both (not (count == 0) && not sack) (reno.inflated r) r (λ (x : RenoValue). Lasts x recover)
     (λ _. cond_both r.recovers (record r { cwnd = min reno.most (r.cwnd + r.mss) }) r (λ (x : RenoValue). Lasts x recover) (λ _. lasts) (λ _. lasts))
+    (λ _. lasts))
 
 -- THE LEAST TIMEOUT
 
@@ -133,6 +145,19 @@ fine_advanced r by duration now f = at r.sample where
       (record r { sample = Some (record s { ends = s.ends - by }) })
       (λ (x : RoundTripValue). Fine x duration)
       (λ _. fine_measured r (round_trip.millis_between s.since now) duration f) (λ _. record { least = f.least; timeout = f.timeout })
+
+fine_echo : (r : RoundTripValue) (by duration : ℕ) (echo : Option ℕ) → Fine r duration → Fine (timed_by r by echo) duration
+fine_echo r by duration echo f = cond_both (by == 0) r (timed_with r by echo) (λ (x : RoundTripValue). Fine x duration) (λ _. f) (λ _. at echo) where
+  at : (echo : Option ℕ) → Fine (timed_with r by echo) duration
+  at None = f
+  at (Some millis) =
+      cond_both (round_trip.is_reached r.sample by) (round_trip.measured r millis) r (λ (x : RoundTripValue). Fine x duration)
+      (λ _. fine_measured r millis duration f)
+      (λ _. f)
+
+past_listening : (state : State) → is_past state ≡ true → is_listening state ≡ false
+past_listening In.Listen e = clash (sym e)
+past_listening other e = refl
 
 fine_late : (r : RoundTripValue) (duration : ℕ) → Fine r duration → Fine (round_trip.begun_late r) duration
 fine_late r duration f = record {
@@ -244,27 +269,39 @@ module _ (cx : ContextValue) (ip : IpRepr) (header : TcpHeader) (bytes : List �
         min_rto = b.settings.min_rto;
       })
   acked_paced b by queued state p not =
-      paced _ (lasts_acked b.reno b.sender.syn_unacked b.sender.syn_lost by queued b.sender.recover p.lasts) not
+      paced _ (lasts_acked b.reno b.peer.sack b.sender.syn_unacked b.sender.syn_lost by queued b.sender.recover p.lasts) not
       (fine_acked b by cx.moment (fine_of (recovery_of b) p))
 
-  abbrev begins_now : TcpValue → ℕ → Bool
-  begins_now u by = (duplicates_after u.block header (length bytes) by == 3) && (u.block.sender.recover - by == 0)
+  echo_paced : (b : Block) (by : ℕ) → IsPaced (recovery_of b) → is_listening b.state ≡ false → IsPaced (recovery_of (echo_taken b header by cx.moment))
+  echo_paced b by p not =
+      paced _ p.lasts not (fine_echo b.round_trip by b.settings.min_rto (echo_of b header cx.moment) (fine_of (recovery_of b) p))
 
-  heeded_paced : (u : TcpValue) (by : ℕ) → IsPaced (recovery_of u.block) → is_past u.block.state ≡ true
+  heeded_paced : (u : TcpValue) (by : ℕ) (begins again : Bool) → (again ≡ true → (reno_after u.block by (queued_in u)).recovers ≡ true)
+      → IsPaced (recovery_of u.block) → is_past u.block.state ≡ true
       → IsPaced (record {
         state = state_after_ack u.block by (queued_in u);
-        reno = reno_counted (reno_after u.block by (queued_in u)) (duplicates_after u.block header (length bytes) by) (u.block.sender.in_flight - by)
-            (begins_now u by);
-        recover = if begins_now u by then min (u.block.sender.top - by + 1) 4_294_967_295 else u.block.sender.recover - by;
+        reno = reno_counted (reno_after u.block by (queued_in u)) u.block.peer.sack (duplicates_after u.block header (length bytes) by)
+            (u.block.sender.in_flight - by) begins again;
+        recover = if begins then min (u.block.sender.top - by + 1) 4_294_967_295 else u.block.sender.recover - by;
         round_trip = round_trip_after u.block by cx.moment;
         min_rto = u.block.settings.min_rto;
       })
-  heeded_paced u by p past =
+  heeded_paced u by begins again only p past =
       paced _
-      (lasts_counted (reno_after u.block by (queued_in u)) (begins_now u by) (duplicates_after u.block header (length bytes) by) (u.block.sender.in_flight - by)
-      (u.block.sender.top - by) (u.block.sender.recover - by)
-      (lasts_acked u.block.reno u.block.sender.syn_unacked u.block.sender.syn_lost by (queued_in u) u.block.sender.recover p.lasts))
+      (lasts_counted (reno_after u.block by (queued_in u)) u.block.peer.sack begins again (duplicates_after u.block header (length bytes) by)
+      (u.block.sender.in_flight - by) (u.block.sender.top - by) (u.block.sender.recover - by) only
+      (lasts_acked u.block.reno u.block.peer.sack u.block.sender.syn_unacked u.block.sender.syn_lost by (queued_in u) u.block.sender.recover p.lasts))
       (state_past u by past) (fine_acked u.block by cx.moment (fine_of (recovery_of u.block) p))
+
+  -- the block as its duplicates are counted
+  abbrev noted : Block → Block
+  noted b = ranges_taken (stamp_taken b header cx.moment) header cx.moment
+
+  -- what went again was lost in recovery
+  lost_in : (b : Block) → is_lost_again b ≡ true → b.reno.recovers ≡ true
+  lost_in b e =
+      left_true b.reno.recovers (not (b.loss.resent == 0) && is_lost_at b b.loss.mark)
+      (right_true b.peer.sack (b.reno.recovers && (not (b.loss.resent == 0) && is_lost_at b b.loss.mark)) e)
 
   paced_received : (u : TcpValue) → IsPaced (recovery_of u.block) → is_past u.block.state ≡ true → Received cx ip header bytes Paced u
   paced_received u p past = record {
@@ -273,20 +310,35 @@ module _ (cx : ContextValue) (ip : IpRepr) (header : TcpHeader) (bytes : List �
     draws = paced_drawing u p;
     falls = λ _ _ _. fresh_paced In.Listen 0 u.block.settings.min_rto;
     ends = λ _ _ _. closed_paced u p;
-    closes = λ by _ _. acked_paced u.block by (queued_in u) In.Closed p refl;
-    taken = λ by _ _. paced_content _ (heeded_paced u by p past);
-    taken_window = λ by _ _. paced_content _ (heeded_paced u by p past);
-    news = λ by _ _. paced_drawing _ (acked_paced u.block by (queued_in u) (state_after_ack u.block by (queued_in u)) p (state_past u by past));
+    closes = λ by _ _. acked_paced (echo_taken u.block header by cx.moment) by (queued_in u) In.Closed (heard_paced by) refl;
+    taken = λ by _ _.
+        let b : Block = noted (acked_open (timed cx.moment header u by) by cx.moment).block in
+        paced_content _
+        (heeded_paced (timed cx.moment header u by) by (begins_recovery b (duplicates_after u.block header (length bytes) by)) (is_lost_again b) (lost_in b)
+        (heard_paced by) past);
+    taken_window = λ by _ _.
+        let b : Block = noted (windowed (acked_open (timed cx.moment header u by) by cx.moment).block header) in
+        paced_content _
+        (heeded_paced (timed cx.moment header u by) by (begins_recovery b (duplicates_after u.block header (length bytes) by)) (is_lost_again b) (lost_in b)
+        (heard_paced by) past);
+    news = λ by _ _.
+        paced_drawing _
+        (acked_paced (echo_taken u.block header by cx.moment) by (queued_in u) (state_after_ack u.block by (queued_in u)) (heard_paced by) (state_past u by past));
     outside = paced_drawing _ p;
     old = λ _. paced_content _ p;
   }
+    where
+      heard_paced : (by : ℕ) → IsPaced (recovery_of (echo_taken u.block header by cx.moment))
+      heard_paced by = echo_paced u.block by p (past_listening u.block.state past)
 
   paced_opening : (u : TcpValue) → IsPaced (recovery_of u.block) → Opening cx ip header bytes Paced u
   paced_opening u p = record {
     opens = λ at _. paced _ (λ e. clash (sym e ∙ p.listens (ap is_listening at))) refl (fine_of _ p);
     refuses = p;
     ends = λ _. closed_paced u p;
-    connects = λ at _. acked_paced (took_syn u.block header) 1 0 In.Established (paced _ p.lasts (ap is_listening at) (fine_of _ p)) refl;
+    connects = λ at _.
+        acked_paced (echo_taken (took_syn u.block header) header 1 cx.moment) 1 0 In.Established
+        (echo_paced (took_syn u.block header) 1 (paced _ p.lasts (ap is_listening at) (fine_of _ p)) (ap is_listening at)) refl;
     crosses = λ at _. paced _ p.lasts refl (fine_of _ p);
   }
 
@@ -330,6 +382,29 @@ module _ (cx : ContextValue) where
         let f = fine_backed v.block.round_trip v.block.settings.min_rto (fine_of (recovery_of v.block) p) in
         paced _ (λ e. clash (sym e)) not (record { least = f.least; timeout = f.timeout })
 
+  -- a loss probe is due
+  probed_paced : (v : TcpValue) → IsPaced (recovery_of v.block) → is_listening v.block.state ≡ false → IsPaced (recovery_of (loss_probed (begun cx v)))
+  probed_paced v p open_yet = at (probes_tail (begun cx v)) where
+    one_of : (n : ℕ) → (n == 0) ≡ false → 1 ≤ n
+    one_of zero e = clash e
+    one_of (suc n) e = omega arith
+
+    recovers_on : 1 ≤ (if v.block.sender.recover == 0 then min (v.block.sender.top + 1) 4_294_967_295 else v.block.sender.recover)
+    recovers_on =
+        cond_both (v.block.sender.recover == 0) (min (v.block.sender.top + 1) 4_294_967_295) v.block.sender.recover (λ (n : ℕ). 1 ≤ n)
+        (λ _. one_past v.block.sender.top) (λ some. one_of v.block.sender.recover some)
+
+    at : (tail : Bool)
+        → IsPaced (record {
+          state = v.block.state;
+          reno = if tail then v.block.reno else reno.reduced v.block.reno v.block.sender.in_flight;
+          recover = if not tail && (v.block.sender.recover == 0) then min (v.block.sender.top + 1) 4_294_967_295 else v.block.sender.recover;
+          round_trip = v.block.round_trip;
+          min_rto = v.block.settings.min_rto;
+        })
+    at true = p
+    at false = paced _ (λ _. recovers_on) open_yet (fine_of _ p)
+
   paced_rules : (v : TcpValue) → IsInOrder (sending_of v) → IsPaced (recovery_of v.block) → Rules cx v PacedOffer
   paced_rules v p k = record {
     nobody = λ _. (k, inr refl);
@@ -341,6 +416,8 @@ module _ (cx : ContextValue) where
     over = λ _ _ _. (paced _ k.lasts refl (fine_of _ k), inr refl);
     backs = λ pair named _ _.
         paced_first pair (with_block (unoffered v) (backed_off_now (begun cx v))) (backed_paced v k (unnamed v pair p named)) (unnamed v pair p named);
+    probes = λ pair named _ _ _.
+        paced_first pair (with_block (unoffered v) (loss_probed (begun cx v))) (probed_paced v k (unnamed v pair p named)) (unnamed v pair p named);
     goes = λ pair named _ _. paced_first pair (with_block (unoffered v) (begun cx v)) k (unnamed v pair p named);
   }
     where
@@ -391,9 +468,9 @@ event_paced v (Listens endpoint) p k =
     cond_both (is_closed v.block.state && not (endpoint.port == 0)) (listening v endpoint) (unoffered v) (λ (w : TcpValue). IsPaced (recovery_of w.block))
     (λ _. fresh_paced In.Listen 0 v.block.settings.min_rto) (λ _. k)
 event_paced v (Connects cx remote local) p k =
-    cond_both (is_closed v.block.state) (connected_by v (pair_for cx remote local) (word (next_random cx).random)) (unoffered v)
+    cond_both (is_closed v.block.state) (connected_by v (pair_for cx remote local) (number_for cx (pair_for cx remote local))) (unoffered v)
     (λ (w : TcpValue). IsPaced (recovery_of w.block))
-    (λ _. connected_paced v (pair_for cx remote local) (word (next_random cx).random) k) (λ _. k)
+    (λ _. connected_paced v (pair_for cx remote local) (number_for cx (pair_for cx remote local)) k) (λ _. k)
 event_paced v (Sends bytes) p k =
     cond_both (takes_writes v.block.state) (sent_more v (enqueued (anchored v.queued) (take (min (length bytes) (length v.queued.free)) bytes))) (unoffered v)
     (λ (w : TcpValue). IsPaced (recovery_of w.block)) (λ _. k) (λ _. k)
@@ -431,33 +508,40 @@ module _ (x : TcpValue) (addresses : AddressPair) (mtu : ℕ) where
   again = resend_choice x.block addresses mtu x.queued
 
   again_end : x.block.sender.una.0 < 2 ^ 32 → x.block.sender.syn_unacked ≡ false
-      → distance_of x.block.sender.una (number_at x.block 0) + (again.len + control_len (control_for again (queued_in x))) ≤ x.block.sender.top
+      → distance_of x.block.sender.una (number_at x.block again.place) + (again.len + control_len (control_for again (queued_in x))) ≤ x.block.sender.top
   again_end small no_syn = at again.fin refl where
-    near : distance_of x.block.sender.una (number_at x.block 0) ≤ one_if x.block.sender.syn_unacked + 0
-    near = distance_at_most x.block.sender.una (one_if x.block.sender.syn_unacked + 0) small
+    near : distance_of x.block.sender.una (number_at x.block again.place) ≤ one_if x.block.sender.syn_unacked + again.place
+    near = distance_at_most x.block.sender.una (one_if x.block.sender.syn_unacked + again.place) small
 
-    with_fin : (d syn len control top : ℕ) → d ≤ syn + 0 → syn ≡ 0 → len < top - syn → control ≤ 1 → d + (len + control) ≤ top
-    with_fin d syn len control top a b c d' = omega arith
+    with_fin : (d syn place len control top : ℕ) → d ≤ syn + place → syn ≡ 0 → place + len < top - syn → control ≤ 1 → d + (len + control) ≤ top
+    with_fin d syn place len control top a b c d' = omega arith
 
-    without : (d syn len control top : ℕ) → d ≤ syn + 0 → syn ≡ 0 → len ≤ top - syn → control ≤ 0 → d + (len + control) ≤ top
-    without d syn len control top a b c d' = omega arith
+    without : (d syn place len control top : ℕ) → d ≤ syn + place → syn ≡ 0 → place ≤ top - syn → len ≤ top - syn - place → control ≤ 0 →
+        d + (len + control) ≤ top
+    without d syn place len control top a b c d' e' = omega arith
 
-    cut : (s m : ℕ) → min s m ≤ s
-    cut s m = omega arith
+    cut : (s m hole : ℕ) → hole ≤ s → min hole m ≤ s
+    cut s m hole e = omega arith
 
-    at : (fin : Bool) → again.fin ≡ fin → distance_of x.block.sender.una (number_at x.block 0) + (again.len + control_len (control_for again (queued_in x))) ≤
+    sent : again.place ≤ sent_places x.block
+    sent = again_sent x.block (size_limit x.block addresses mtu) (sent_places x.block) (queued_in x)
+
+    at : (fin : Bool) → again.fin ≡ fin → distance_of x.block.sender.una (number_at x.block again.place) + (again.len + control_len (control_for again (queued_in x))) ≤
         x.block.sender.top
     at true e =
-        with_fin (distance_of x.block.sender.una (number_at x.block 0)) (one_if x.block.sender.syn_unacked) again.len
+        with_fin (distance_of x.block.sender.una (number_at x.block again.place)) (one_if x.block.sender.syn_unacked) again.place again.len
         (control_len (control_for again (queued_in x))) x.block.sender.top near
         (ap one_if no_syn)
-        (ltb-true again.len (sent_places x.block) (right_true (fin_goes x.block (queued_in x) again.len) (nat_lt again.len (sent_places x.block)) e))
+        (ltb-true (again.place + again.len) (sent_places x.block)
+        (right_true (fin_goes x.block (queued_in x) (again.place + again.len)) (nat_lt (again.place + again.len) (sent_places x.block)) e))
         (subst (λ (t : Bool). control_len (control_for again (queued_in x)) ≤ one_if t) e (control_least again (queued_in x)))
     at false e =
-        without (distance_of x.block.sender.una (number_at x.block 0)) (one_if x.block.sender.syn_unacked) again.len
+        without (distance_of x.block.sender.una (number_at x.block again.place)) (one_if x.block.sender.syn_unacked) again.place again.len
         (control_len (control_for again (queued_in x))) x.block.sender.top near
         (ap one_if no_syn)
-        (cut (sent_places x.block) (min (size_limit x.block addresses mtu) (unbroken x.queued 0)))
+        sent
+        (cut (sent_places x.block - again.place) (min (size_limit x.block addresses mtu) (unbroken x.queued again.place))
+        (hole_len x.block again.place (sent_places x.block)) (hole_least x.block again.place (sent_places x.block)))
         (subst (λ (t : Bool). control_len (control_for again (queued_in x)) ≤ one_if t) e (control_least again (queued_in x)))
 
 abbrev is_again : OfferKind → Bool
@@ -512,6 +596,7 @@ module _ (cx : ContextValue) (v : TcpValue) (p : IsInOrder (sending_of v)) (no_s
     falls = λ _ _ _ k e is. nothing k e;
     over = λ _ _ _ k e is. nothing k e;
     backs = λ pair _ _ _. ends_first pair (with_block (unoffered v) (backed_off_now (begun cx v))) refl refl refl refl;
+    probes = λ pair _ _ _ _. ends_first pair (with_block (unoffered v) (loss_probed (begun cx v))) refl refl refl refl;
     goes = λ pair _ _ _. ends_first pair (with_block (unoffered v) (begun cx v)) refl refl refl refl;
   }
 

@@ -4,9 +4,8 @@ use Rattle.std.proofs.Common.{is_none, refl, sym, ap, ◌∙◌, subst}
 use Rattle.std.proofs.lemmas.Bool.{cond_both}
 use Rattle.ip_wire.specs.IpRepr.{IpRepr}
 use Rattle.ip_wire.specs.TcpHeader.{TcpHeader}
-use Rattle.net_base.specs.RandomWords.{word}
 use Rattle.net_base.specs.Ring.{anchored, enqueued}
-use Rattle.tcp_model.specs.Context.{ContextValue, next_random}
+use Rattle.tcp_model.specs.Context.{ContextValue}
 use Rattle.tcp_model.specs.BaseOffers.{Offered, offered_as}
 use Rattle.tcp_model.specs.Offer.TheVariants as Answer
 use Rattle.tcp_control.specs.Moments.{is_due, is_over, timeout_from}
@@ -23,12 +22,14 @@ use Rattle.tcp_model.specs.Arrival.{arrives}
 use Rattle.tcp_model.specs.Calls.{listening, connected_by, pair_for, sent_more}
 use Rattle.tcp_model.specs.Offers.{offer_of, offer_with, offer_reset, first_rules, backed_off, silent}
 use Rattle.tcp_model.specs.Probing.{probe_moment, is_probing, is_window_small}
+use Rattle.tcp_model.specs.LossRecovery.{loss_probed}
 use Rattle.tcp_model.specs.Retries.{asked, one_more, reaches, retries_of, is_last_timeout, is_last_question, gives_up, given_up}
 use Rattle.tcp_model.specs.Rules.{time_wait_end, keep_alive_moment, has_text, owes_syn, resends, updates_window}
 use Rattle.tcp_model.specs.Settled.{settled, sent_off, sent_as, recorded, probed, end_of}
 use Rattle.tcp_model.specs.Timeout.{timeout_end, timeout_runs, waits_for_remote, end_by, timed_out}
 use Rattle.tcp_model.specs.Value.{TcpValue, Arrived, with_block, unoffered, ended, queued_in, room_of}
 use Rattle.tcp_model.specs.declared.block.Block.{Block}
+use Rattle.tcp_model.specs.FirstNumbers.{number_for}
 use Rattle.tcp_rules.specs.Events.{Event, Setting, after, set, is_past}
 use Rattle.tcp_rules.specs.Events.Event.{Comes, Asked, Listens, Connects, Sends, Reads, Closes, Aborts, Sets}
 use Rattle.tcp_rules.specs.Events.Setting.{Timeout, KeepAlive, AckDelay, Nagle, HopLimit, Timestamps, Paused, Retries, Congestion, MinRto}
@@ -135,7 +136,7 @@ module _ (cx : ContextValue) where
         elsewhere w.block.state sends_syn (not (is_answering w.block.state && w.block.settings.synack_paused)) at refl
         (first_of_both (sends_syn w.block.state && not (is_answering w.block.state && w.block.settings.synack_paused))
         (w.block.sender.syn_unacked && (w.block.sender.in_flight == 0)) owes);
-    again = λ _ again. elsewhere w.block.state sends_text w.block.sender.resend at refl again;
+    again = λ _ again. elsewhere w.block.state sends_text _ at refl again;
     text = λ _ text. elsewhere w.block.state sends_text _ at refl text;
     last = λ _. waits_last pair (probing cx w) none at;
   }
@@ -191,6 +192,7 @@ module _ (cx : ContextValue) where
     falls = λ _ gives _. no_giving v at none gives;
     over = λ _ gives _. no_giving v at none gives;
     backs = λ _ _ _ due. clash (sym due ∙ ap (is_due cx.moment) none);
+    probes = λ pair _ _ _ _. waits_first pair (with_block (unoffered v) (loss_probed (begun cx v))) refl at;
     goes = λ pair _ _ _. waits_first pair (with_block (unoffered v) (begun cx v)) refl at;
   }
     where
@@ -245,7 +247,7 @@ stays_in_wait v (Listens endpoint) p at stays =
     cond_both (is_closed v.block.state && not (endpoint.port == 0)) (listening v endpoint) (unoffered v) (λ (w : TcpValue). w.block.state ≡ In.TimeWait)
     (λ closed. elsewhere v.block.state is_closed _ at refl closed) (λ _. at)
 stays_in_wait v (Connects cx remote local) p at stays =
-    cond_both (is_closed v.block.state) (connected_by v (pair_for cx remote local) (word (next_random cx).random)) (unoffered v)
+    cond_both (is_closed v.block.state) (connected_by v (pair_for cx remote local) (number_for cx (pair_for cx remote local))) (unoffered v)
     (λ (w : TcpValue). w.block.state ≡ In.TimeWait)
     (λ closed. clash (sym closed ∙ ap is_closed at)) (λ _. at)
 stays_in_wait v (Sends bytes) p at stays =

@@ -7,9 +7,8 @@ use Rattle.ip_wire.specs.Control.{control_len}
 use Rattle.ip_wire.specs.IpRepr.{IpRepr}
 use Rattle.ip_wire.specs.Seq.{distance_of}
 use Rattle.ip_wire.specs.TcpHeader.{TcpHeader}
-use Rattle.net_base.specs.RandomWords.{word}
 use Rattle.net_base.specs.Ring.{Ring, anchored, enqueued}
-use Rattle.tcp_model.specs.Context.{ContextValue, next_random}
+use Rattle.tcp_model.specs.Context.{ContextValue}
 use Rattle.tcp_model.specs.BaseOffers.{Offered}
 use Rattle.tcp_control.specs.Moments.{is_due, is_over, timeout_from}
 use Rattle.tcp_control.specs.RoundTrip as round_trip
@@ -30,18 +29,22 @@ use Rattle.tcp_model.specs.Calls.{listening, connected_by, pair_for, sent_more}
 use Rattle.tcp_model.specs.Offers.{offer_of, offer_choice, offer_syn, number_at}
 use Rattle.tcp_model.specs.Opening.{took_syn}
 use Rattle.tcp_model.specs.Probing.{is_window_small, is_probing, probe_moment}
+use Rattle.tcp_control.specs.Scoreboard.{first_missing}
+use Rattle.tcp_model.specs.LossRecovery.{loss_probed}
 use Rattle.tcp_model.specs.Retries.{asked, one_more}
 use Rattle.tcp_model.specs.Rules.{backed_off_now, owes_syn, probe_choice, text_choice, resend_choice, control_for}
 use Rattle.tcp_model.specs.Settled.{settled, sent_off, sent_as, recorded, probed, end_of}
 use Rattle.tcp_model.specs.Timeout.{timed_out}
 use Rattle.tcp_model.specs.Value.{TcpValue, Arrived, with_block, unoffered, ended, new_socket, queued_in, room_of}
 use Rattle.tcp_model.specs.declared.block.Block.{Block}
+use Rattle.tcp_model.specs.FirstNumbers.{number_for}
+use Rattle.tcp_model.specs.Timestamps.{echo_taken, echo_of, timed_by, timed_with}
 use Rattle.tcp_rules.specs.Events.{Event, Setting, after, led, set, is_past}
 use Rattle.tcp_rules.specs.Events.Event.{Comes, Asked, Listens, Connects, Sends, Reads, Closes, Aborts, Sets}
 use Rattle.tcp_rules.specs.Events.Setting.{Timeout, KeepAlive, AckDelay, Nagle, HopLimit, Timestamps, Paused, Retries, Congestion, MinRto}
 use Rattle.tcp_rules.specs.InOrder.{sending_of, IsInOrder}
 use Rattle.tcp_rules.specs.Timing.{Timing, timing_of, IsTimedRight, carries, start_of}
-use Rattle.tcp_rules.proofs.ArrivalCases.{by_arrival, Received, Opening, Content, Drawing, acked_open}
+use Rattle.tcp_rules.proofs.ArrivalCases.{timed, by_arrival, Received, Opening, Content, Drawing, acked_open}
 use Rattle.tcp_rules.proofs.CongestionRules.{fin_on, state_past, close_on, unnamed}
 use Rattle.tcp_rules.proofs.OfferCases.{Rules, FirstRules, LastRules, by_rules, begun, probing}
 use Rattle.tcp_rules.proofs.OrderSteps.{clash}
@@ -82,42 +85,65 @@ acked_in b by now t =
     (λ (x : RoundTripValue). In_flight (b.sender.in_flight - by) x.sample)
     (λ _. advanced_in b.round_trip by b.sender.in_flight now t) (λ _. advanced_in b.round_trip by b.sender.in_flight now t)
 
-less_sent : (flight top by : ℕ) → flight ≤ top → flight - by ≤ top - by
-less_sent flight top by e = omega arith
+-- an echo ends a timing, or leaves it
+echo_in : (r : RoundTripValue) (by flight : ℕ) (echo : Option ℕ) → In_flight flight r.sample → In_flight flight (timed_by r by echo).sample
+echo_in r by flight echo t = cond_both (by == 0) r (timed_with r by echo) (λ (x : RoundTripValue). In_flight flight x.sample) (λ _. t) (λ _. at echo) where
+  at : (echo : Option ℕ) → In_flight flight (timed_with r by echo).sample
+  at None = t
+  at (Some millis) =
+      cond_both (round_trip.is_reached r.sample by) (round_trip.measured r millis) r (λ (x : RoundTripValue). In_flight flight x.sample) (λ _. tt) (λ _. t)
+
+past_listening : (state : State) → is_past state ≡ true → is_listening state ≡ false
+past_listening In.Listen e = clash (sym e)
+past_listening other e = refl
 
 right : (t : Timing) → In_flight t.in_flight t.sample → t.in_flight ≤ t.top → is_listening t.state ≡ false → IsTimedRight t
 right t timed sent not = record { timed = timed; sent = sent; listens = λ e. clash (sym e ∙ not) }
+
+echo_right : (b : Block) (header : TcpHeader) (by : ℕ) (now : ℤ) → IsTimedRight (timing_of b) → is_listening b.state ≡ false
+    → IsTimedRight (timing_of (echo_taken b header by now))
+echo_right b header by now t not = right _ (echo_in b.round_trip by b.sender.in_flight (echo_of b header now) t.timed) t.sent not
+
+less_sent : (flight top by : ℕ) → flight ≤ top → flight - by ≤ top - by
+less_sent flight top by e = omega arith
 
 acked_right : (b : Block) (by : ℕ) (now : ℤ) (state : State) → IsTimedRight (timing_of b) → is_listening state ≡ false
     → IsTimedRight (record { state = state; sample = (round_trip_after b by now).sample; in_flight = b.sender.in_flight - by; top = b.sender.top - by })
 acked_right b by now state t not = right _ (acked_in b by now t.timed) (less_sent b.sender.in_flight b.sender.top by t.sent) not
 
--- a segment goes that ends there
-timing_in : (r : RoundTripValue) (flight top end : ℕ) (now : ℤ) → In_flight flight r.sample
-    → In_flight (max flight end) (if nat_lt top end then round_trip.timing r end now else r).sample
-timing_in r flight top end now t =
-    cond_both (nat_lt top end) (round_trip.timing r end now) r (λ (x : RoundTripValue). In_flight (max flight end) x.sample)
+-- a segment goes that ends there, and SND.NXT reaches no less far
+timing_in : (r : RoundTripValue) (flight top end reach : ℕ) (now : ℤ) → end ≤ reach → In_flight flight r.sample
+    → In_flight (max flight reach) (if nat_lt top end then round_trip.timing r end now else r).sample
+timing_in r flight top end reach now near t =
+    cond_both (nat_lt top end) (round_trip.timing r end now) r (λ (x : RoundTripValue). In_flight (max flight reach) x.sample)
     (λ past. begins r.sample refl t (ltb-true top end past))
     (λ _. longer r.sample t)
   where
-    longer : (sample : Option Sample) → In_flight flight sample → In_flight (max flight end) sample
+    longer : (sample : Option Sample) → In_flight flight sample → In_flight (max flight reach) sample
     longer None e = tt
-    longer (Some s) e = (e.0, at_most s.ends flight end e.1) where
+    longer (Some s) e = (e.0, at_most s.ends flight reach e.1) where
       at_most : (a b c : ℕ) → a ≤ b → a ≤ max b c
       at_most a b c e = omega arith
 
     begins : (sample : Option Sample) → r.sample ≡ sample → In_flight flight sample → top < end →
-        In_flight (max flight end) (round_trip.timing_with r end now sample).sample
-    begins None e t past = (some top end past, own flight end) where
+        In_flight (max flight reach) (round_trip.timing_with r end now sample).sample
+    begins None e t past = (some top end past, own flight end reach near) where
       some : (a b : ℕ) → a < b → 1 ≤ b
       some a b e = omega arith
 
-      own : (a b : ℕ) → b ≤ max a b
-      own a b = omega arith
-    begins (Some s) e t past = subst (In_flight (max flight end)) (sym e) (longer (Some s) t)
+      own : (a b c : ℕ) → b ≤ c → b ≤ max a c
+      own a b c e = omega arith
+    begins (Some s) e t past = subst (In_flight (max flight reach)) (sym e) (longer (Some s) t)
 
-larger_sent : (flight top end : ℕ) → flight ≤ top → max flight end ≤ max top end
-larger_sent flight top end e = omega arith
+larger_sent : (flight top end reach : ℕ) → flight ≤ top → reach ≤ max top end → max flight reach ≤ max top end
+larger_sent flight top end reach e f = omega arith
+
+-- past what is held SND.NXT lies past the segment, and no further than what was sent
+reach_low : (end missing top all : ℕ) → end ≤ max end (min missing (min top all))
+reach_low end missing top all = omega arith
+
+reach_high : (end missing top all : ℕ) → max end (min missing (min top all)) ≤ max top end
+reach_high end missing top all = omega arith
 
 raised : (flight top end : ℕ) → flight ≤ top → flight ≤ max top end
 raised flight top end e = omega arith
@@ -131,25 +157,32 @@ asked_right b now t =
     })
     b (λ (c : Block). IsTimedRight (timing_of c)) (λ _. t) (λ _. t)
 
-went_right : (r : RoundTripValue) (state : State) (flight top end : ℕ) (now : ℤ) → In_flight flight r.sample → flight ≤ top →
+went_right : (r : RoundTripValue) (state : State) (flight top end missing all : ℕ) (now : ℤ) → In_flight flight r.sample → flight ≤ top →
     (is_listening state ≡ true → r.sample ≡ None)
     → is_listening state ≡ false
     → IsTimedRight (record {
       state = state;
       sample = (if nat_lt top end then round_trip.timing r end now else r).sample;
-      in_flight = max flight end;
+      in_flight = max flight (max end (min missing (min top all)));
       top =
           max top end;
     })
-went_right r state flight top end now t sent listens not = right _ (timing_in r flight top end now t) (larger_sent flight top end sent) not
+went_right r state flight top end missing all now t sent listens not =
+    right _ (timing_in r flight top end (max end (min missing (min top all))) now (reach_low end missing top all) t)
+    (larger_sent flight top end (max end (min missing (min top all))) sent (reach_high end missing top all)) not
 
 sent_right : (kind : OfferKind) (b : Block) (o : OpenOffer) (queued : ℕ) → is_listening b.state ≡ false → IsTimedRight (timing_of b) →
     IsTimedRight (timing_of (sent_as kind b o queued))
 sent_right Kind.Reset b o queued not t = right _ t.timed t.sent refl
-sent_right Kind.Syn b o queued not t = went_right b.round_trip b.state b.sender.in_flight b.sender.top (end_of b o) o.moment t.timed t.sent t.listens not
+sent_right Kind.Syn b o queued not t =
+    went_right b.round_trip b.state b.sender.in_flight b.sender.top (end_of b o) (first_missing b.loss.board.runs (end_of b o))
+    (one_if b.sender.syn_unacked + queued) o.moment t.timed t.sent t.listens not
 sent_right Kind.FastRetransmission b o queued not t =
-    went_right (round_trip.untimed b.round_trip) b.state b.sender.in_flight b.sender.top (end_of b o) o.moment tt t.sent (λ _. refl) not
-sent_right Kind.Text b o queued not t = went_right b.round_trip b.state b.sender.in_flight b.sender.top (end_of b o) o.moment t.timed t.sent t.listens not
+    went_right (round_trip.untimed b.round_trip) b.state b.sender.in_flight b.sender.top (end_of b o) (first_missing b.loss.board.runs (end_of b o))
+    (one_if b.sender.syn_unacked + queued) o.moment tt t.sent (λ _. refl) not
+sent_right Kind.Text b o queued not t =
+    went_right b.round_trip b.state b.sender.in_flight b.sender.top (end_of b o) (first_missing b.loss.board.runs (end_of b o))
+    (one_if b.sender.syn_unacked + queued) o.moment t.timed t.sent t.listens not
 sent_right Kind.Probe b o queued not t =
     asked_right (probed b (end_of b o) o.moment) o.moment (right _ t.timed (raised b.sender.in_flight b.sender.top (end_of b o) t.sent) not)
 sent_right Kind.KeepAlive b o queued not t = asked_right b o.moment t
@@ -180,20 +213,31 @@ module _ (cx : ContextValue) (ip : IpRepr) (header : TcpHeader) (bytes : List �
     draws = right_drawing u t;
     falls = λ _ _ _. record { timed = tt; sent = nothing_sent _; listens = λ _. refl };
     ends = λ _ _ _. right _ t.timed t.sent refl;
-    closes = λ by _ _. acked_right u.block by cx.moment In.Closed t refl;
-    taken = λ by _ _. right_content _ (acked_right u.block by cx.moment (state_after_ack u.block by (queued_in u)) t (state_past u by past));
-    taken_window = λ by _ _. right_content _ (acked_right u.block by cx.moment (state_after_ack u.block by (queued_in u)) t (state_past u by past));
-    news = λ by _ _. right_drawing _ (acked_right u.block by cx.moment (state_after_ack u.block by (queued_in u)) t (state_past u by past));
+    closes = λ by _ _. acked_right (echo_taken u.block header by cx.moment) by cx.moment In.Closed (heard_right by) refl;
+    taken = λ by _ _. right_content _ (left_right by);
+    taken_window = λ by _ _. right_content _ (left_right by);
+    news = λ by _ _. right_drawing _ (left_right by);
     outside = right_drawing _ t;
     old = λ _. right_content _ t;
   }
+    where
+      heard_right : (by : ℕ) → IsTimedRight (timing_of (echo_taken u.block header by cx.moment))
+      heard_right by = echo_right u.block header by cx.moment t (past_listening u.block.state past)
+
+      left_right : (by : ℕ)
+          → IsTimedRight (timing_of (acked_open (timed cx.moment header u by) by cx.moment).block)
+      left_right by =
+          acked_right (echo_taken u.block header by cx.moment) by cx.moment (state_after_ack u.block by (queued_in u)) (heard_right by) (state_past u by past)
 
   right_opening : (u : TcpValue) → IsTimedRight (timing_of u.block) → Opening cx ip header bytes Right u
   right_opening u t = record {
     opens = λ at _. record { timed = subst (In_flight 0) (sym (t.listens (ap is_listening at))) tt; sent = nothing_sent _; listens = λ e. clash (sym e) };
     refuses = t;
     ends = λ _. right _ t.timed t.sent refl;
-    connects = λ at _. acked_right (took_syn u.block header) 1 cx.moment In.Established (right _ t.timed t.sent (ap is_listening at)) refl;
+    connects = λ at _.
+        let heard_syn = took_syn u.block header in
+        acked_right (echo_taken heard_syn header 1 cx.moment) 1 cx.moment In.Established
+        (echo_right heard_syn header 1 cx.moment (right _ t.timed t.sent (ap is_listening at)) (ap is_listening at)) refl;
     crosses = λ at _. right _ t.timed t.sent refl;
   }
 
@@ -238,6 +282,7 @@ module _ (cx : ContextValue) where
               λ _. refl;
         })
         (unnamed v pair p named);
+    probes = λ pair named _ _ _. right_first pair (with_block (unoffered v) (loss_probed (begun cx v))) t (unnamed v pair p named);
     goes = λ pair named _ _. right_first pair (with_block (unoffered v) (begun cx v)) t (unnamed v pair p named);
   }
     where
@@ -284,9 +329,9 @@ event_right v (Listens endpoint) p t =
     cond_both (is_closed v.block.state && not (endpoint.port == 0)) (listening v endpoint) (unoffered v) (λ (w : TcpValue). IsTimedRight (timing_of w.block))
     (λ _. record { timed = tt; sent = nothing_sent _; listens = λ _. refl }) (λ _. t)
 event_right v (Connects cx remote local) p t =
-    cond_both (is_closed v.block.state) (connected_by v (pair_for cx remote local) (word (next_random cx).random)) (unoffered v)
+    cond_both (is_closed v.block.state) (connected_by v (pair_for cx remote local) (number_for cx (pair_for cx remote local))) (unoffered v)
     (λ (w : TcpValue). IsTimedRight (timing_of w.block))
-    (λ _. connected_right v (pair_for cx remote local) (word (next_random cx).random) t) (λ _. t)
+    (λ _. connected_right v (pair_for cx remote local) (number_for cx (pair_for cx remote local)) t) (λ _. t)
 event_right v (Sends bytes) p t =
     cond_both (takes_writes v.block.state) (sent_more v (enqueued (anchored v.queued) (take (min (length bytes) (length v.queued.free)) bytes))) (unoffered v)
     (λ (w : TcpValue). IsTimedRight (timing_of w.block)) (λ _. t) (λ _. t)
@@ -486,6 +531,7 @@ past_rules cx v t = record {
         listens =
             λ _. refl;
       });
+  probes = λ pair _ _ _ _. past_first cx pair (with_block (unoffered v) (loss_probed (begun cx v))) refl t;
   goes = λ pair _ _ _. past_first cx pair (with_block (unoffered v) (begun cx v)) refl t;
 }
   where

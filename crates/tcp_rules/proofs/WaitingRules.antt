@@ -22,7 +22,7 @@ use Rattle.tcp_model.specs.Offers.{offer_of}
 use Rattle.tcp_model.specs.Probing.{is_window_small, is_probing, probe_moment, is_probe_unset}
 use Rattle.tcp_model.specs.Quiet.{IsQuiet}
 use Rattle.tcp_model.specs.Rules.{congestion_limit, window_limit, size_limit, unbroken, next_place, ready, fills_enough, is_sendable, sends_choice, has_text}
-use Rattle.tcp_model.specs.Rules.{text_choice, owes_syn, beyond}
+use Rattle.tcp_model.specs.Rules.{text_choice, owes_syn, congestion_room}
 use Rattle.tcp_model.specs.Value.{TcpValue, unoffered, queued_in}
 use Rattle.tcp_model.specs.declared.block.Block.{Block}
 use Rattle.tcp_model.specs.declared.block.CongestionControl.{CongestionControl}
@@ -46,7 +46,7 @@ leaves_with Congestion.Reno window room = (min window room, λ size. both window
 
 leaves : (b : Block) → Leaves b
 leaves b =
-    let it = leaves_with b.settings.congestion_control (b.reno.cwnd + beyond b - b.sender.in_flight) (b.peer.window - b.sender.in_flight) in
+    let it = leaves_with b.settings.congestion_control (congestion_room b) (b.peer.window - b.sender.in_flight) in
     record { bound = it.0; limits = it.1 }
 
 -- WHAT MAY GO

@@ -16,6 +16,7 @@ pub record IsUntouched (old new : TcpValue) : Type 0 where
   pub next : new.block.receiver.next ≡ old.block.receiver.next
   pub took_fin : new.block.receiver.took_fin ≡ old.block.receiver.took_fin
   pub peer : new.block.peer ≡ old.block.peer
+  pub stamps : new.block.stamps ≡ old.block.stamps
   pub timer : new.block.timers.retransmit_at ≡ old.block.timers.retransmit_at
   pub time_wait : new.block.timers.time_wait_ends ≡ old.block.timers.time_wait_ends
   pub timeout : new.block.timers.timeout_since ≡ old.block.timers.timeout_since

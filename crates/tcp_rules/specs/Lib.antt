@@ -12,6 +12,8 @@ pub mod Waiting
 pub mod Congestion
 pub mod Timing
 pub mod Recovery
+pub mod Losses
+pub mod Stamps
 pub use Rattle.tcp_control.specs.Controls
 pub use Rattle.tcp_control.specs.declared.endpoints.EndpointPair
 pub use Rattle.tcp_control.specs.Endpoints

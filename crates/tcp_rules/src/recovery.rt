@@ -22,7 +22,7 @@ pub fn recovery_ends_and_the_timer_keeps_to_its_least()
         → least_of (led (new_socket capacity queued) events).block.settings.min_rto ≤ (led (new_socket capacity queued) events).block.round_trip.timeout }
 {}
 
-/// What goes again at once was sent before: it begins at SND.UNA, and ends no further than anything that was ever sent.
+/// What goes again at once was sent before: it ends no further than anything that was ever sent.
 pub fn what_goes_again_was_sent()
     ensures again { (cx : ContextValue) (v : TcpValue) (o : OpenOffer) → IsInOrder (sending_of v) → v.block.sender.syn_unacked ≡ false
         → (offer_of cx v).socket.offered ≡ Some o → o.kind ≡ Kind.FastRetransmission

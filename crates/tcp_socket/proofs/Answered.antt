@@ -8,8 +8,7 @@ use Rattle.ip_wire.specs.TcpHeader.{TcpHeader}
 use Rattle.ip_wire.specs.TcpTimestampRepr.{TcpTimestampRepr}
 use Rattle.held_bytes.specs.Held.{runs_of}
 use Rattle.ip_wire.specs.Options.{options_bytes, range_options, stamp_options}
-use Rattle.net_base.specs.RandomWords.{word}
-use Rattle.socket_base.specs.Context.{ContextValue, next_random}
+use Rattle.socket_base.specs.Context.{ContextValue}
 use Rattle.socket_base.specs.Packet.{IsSendable}
 use Rattle.tcp_model.specs.declared.block.Block.{Block}
 use Rattle.tcp_model.specs.EndpointPair.{EndpointPair}
@@ -18,11 +17,12 @@ use Rattle.tcp_model.specs.State.TheVariants as In
 use Rattle.tcp_model.specs.Acknowledged.{acknowledged, duplicates_after}
 use Rattle.tcp_model.specs.Answers.{may_draw, with_draw, acked, drawn, answer_for, run_at, others, first_two, numbers_of, ranges_held}
 use Rattle.tcp_model.specs.Arrival.{waiting_anew, outside, tells_news, passed_outside, finished, with_content, told, continued, taken, inside, checked}
-use Rattle.tcp_model.specs.Arrival.{takes_reset, challenges_reset, reset_comes, challenges_syn, received, arrives_in, is_void_syn, arrives}
+use Rattle.tcp_model.specs.Arrival.{takes_reset, challenges_reset, reset_comes, draws_first, echo_heard, received, arrives_in, is_void_syn, arrives}
 use Rattle.tcp_model.specs.Checks.{Check, acknowledgement_check, is_in_window, taken_down}
 use Rattle.tcp_model.specs.Checks.Check.{Passes, Old, Drops, Draws, Resets}
 use Rattle.tcp_model.specs.Controls.{is_syn, is_rst}
 use Rattle.tcp_model.specs.Endpoints.{pair_in}
+use Rattle.tcp_model.specs.FirstNumbers.{first_number, draws_number}
 use Rattle.tcp_model.specs.Opening.{acks_syn, syn_answered, takes_answer, answering, is_first_syn}
 use Rattle.tcp_model.specs.Probing.{probe_kept}
 use Rattle.tcp_model.specs.Retries.{heard}
@@ -30,6 +30,7 @@ use Rattle.tcp_model.specs.Segments.{no_ranges, stamp_of, sack_segment, rst_repl
 use Rattle.tcp_model.specs.States.{is_closed}
 use Rattle.tcp_model.specs.Text.{Texted, with_text, with_fin}
 use Rattle.tcp_model.specs.Timeout.{timeout_restarted}
+use Rattle.tcp_model.specs.Timestamps.{believed, stamp_taken}
 use Rattle.tcp_model.specs.Value.{TcpValue, Arrived, with_block, dropped, answered_with, unoffered, ended, queued_in, free_in, window_of}
 use Rattle.tcp_socket.specs.Replies.{packet_in}
 
@@ -113,7 +114,7 @@ quick_outside cx v ip header =
 
 quick_passed_outside : (cx : ContextValue) (v : TcpValue) (ip : IpRepr) (header : TcpHeader) (size by : ℕ) → IsQuick (passed_outside cx v ip header size by)
 quick_passed_outside cx v ip header size by =
-    let told_of = acknowledged v by cx.moment in
+    let told_of = acknowledged (echo_heard v header by cx.moment) by cx.moment in
     quick_if (tells_news v header size) (outside cx told_of ip header) (outside cx v ip header) (quick_outside cx told_of ip header)
     (quick_outside cx v ip header)
 
@@ -139,14 +140,14 @@ quick_continued cx old v ip header bytes by =
 quick_inside : (cx : ContextValue) (v : TcpValue) (ip : IpRepr) (header : TcpHeader) (bytes : List ℕ) (by : ℕ) → IsQuick (inside cx v ip header bytes by)
 quick_inside cx v ip header bytes by =
     quick_if (is_syn header.control) (drawn cx v ip header) (taken cx v ip header bytes by) (quick_drawn cx v ip header)
-    (quick_continued cx v.block (acknowledged v by cx.moment) ip header bytes by)
+    (quick_continued cx v.block (acknowledged (echo_heard v header by cx.moment) by cx.moment) ip header bytes by)
 
 quick_checked : (c : Check) (cx : ContextValue) (v : TcpValue) (ip : IpRepr) (header : TcpHeader) (bytes : List ℕ) → IsQuick (checked c cx v ip header bytes)
 quick_checked (Passes by) cx v ip header bytes =
     quick_if (is_in_window v.block (free_in v) header (length bytes)) (inside cx v ip header bytes by) (passed_outside cx v ip header (length bytes) by)
     (quick_inside cx v ip header bytes by) (quick_passed_outside cx v ip header (length bytes) by)
 quick_checked Old cx v ip header bytes =
-    let heard_of = with_block v (heard v.block) in
+    let heard_of = with_block v (stamp_taken (heard v.block) header cx.moment) in
     quick_if (is_in_window v.block (free_in v) header (length bytes)) (with_content cx heard_of ip header bytes) (outside cx v ip header)
     (quick_content cx heard_of ip header bytes) (quick_outside cx v ip header)
 quick_checked Drops cx v ip header bytes = quick_dropped v
@@ -162,9 +163,9 @@ quick_reset_comes cx v ip header size =
 quick_received : (cx : ContextValue) (v : TcpValue) (ip : IpRepr) (header : TcpHeader) (bytes : List ℕ) → IsQuick (received cx v ip header bytes)
 quick_received cx v ip header bytes =
     let check = acknowledgement_check v.block header.ack_number in
-    let rest : Arrived = if challenges_syn v.block header then drawn cx v ip header else checked check cx v ip header bytes in
+    let rest : Arrived = if draws_first v.block header cx.moment then drawn cx v ip header else checked check cx v ip header bytes in
     quick_if (is_rst header.control) (reset_comes cx v ip header (length bytes)) rest (quick_reset_comes cx v ip header (length bytes))
-    (quick_if (challenges_syn v.block header) (drawn cx v ip header) (checked check cx v ip header bytes) (quick_drawn cx v ip header)
+    (quick_if (draws_first v.block header cx.moment) (drawn cx v ip header) (checked check cx v ip header bytes) (quick_drawn cx v ip header)
     (quick_checked check cx v ip header bytes))
 
 quick_takes_answer : (cx : ContextValue) (v : TcpValue) (ip : IpRepr) (header : TcpHeader) (bytes : List ℕ) → IsQuick (takes_answer cx v ip header bytes)
@@ -207,10 +208,11 @@ sendable_in : (state : State) (cx : ContextValue) (v : TcpValue) (ip : IpRepr) (
 sendable_in In.Closed cx v ip header bytes = tt
 sendable_in In.Listen cx v ip header bytes =
     let opened : Arrived = record {
-      socket = with_block v (timeout_restarted (answering v.block ip header (word (next_random cx).random)) cx.moment 0);
-      answer =
-          None;
-      draws = true;
+      socket =
+          with_block v
+          (timeout_restarted (believed (answering v.block ip header (first_number cx (pair_in ip header))) cx.moment) cx.moment 0);
+      answer = None;
+      draws = draws_number cx;
     } in
     if_sendable (is_first_syn header) opened (dropped v) tt tt
 sendable_in In.SynSent cx v ip header bytes = (quick_takes_answer cx v ip header bytes).sendable

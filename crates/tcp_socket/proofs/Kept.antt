@@ -59,9 +59,9 @@ kept_window true b header mss = mss
 kept_window false b header mss = mss
 
 pub kept_told : (b : Block) (header : TcpHeader) (count queued : ℕ) (now : ℤ) → IsMoment now → IsBlock b
-    → IsBlock (timeout_restarted (counted (ranges_taken (window_set b header) header) count) now queued)
+    → IsBlock (timeout_restarted (counted (ranges_taken (window_set b header now) header now) count) now queued)
 kept_told b header count queued now is block =
-    kept_timeout (counted (ranges_taken (window_set b header) header) count) now queued is (kept_window (names_window b header) b header block.mss)
+    kept_timeout (counted (ranges_taken (window_set b header now) header now) count) now queued is (kept_window (names_window b header) b header block.mss)
 
 -- a SYN that isn't dropped names no MSS of 0
 pub sized_syn : (syn zero_mss : Bool) → (syn && zero_mss) ≡ false → syn ≡ true → zero_mss ≡ false

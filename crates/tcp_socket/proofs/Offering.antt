@@ -17,7 +17,7 @@ use Rattle.tcp_model.specs.Offers.{number_at}
 use Rattle.tcp_model.specs.Offsets.{behind_by}
 use Rattle.tcp_model.specs.Probing.{is_window_small, is_probing, probe_moment}
 use Rattle.tcp_model.specs.Rules.{Choice, unbroken, size_limit, congestion_limit, window_limit, next_place, is_sendable, text_choice, has_text, resend_choice}
-use Rattle.tcp_model.specs.Rules.{probe_choice, control_for, beyond}
+use Rattle.tcp_model.specs.Rules.{probe_choice, control_for, congestion_room, sent_places}
 use Rattle.tcp_model.specs.Segments.{segment}
 use Rattle.tcp_model.specs.Settled.{end_of}
 use Rattle.tcp_model.specs.States.{owes_fin, sends_text}
@@ -31,6 +31,7 @@ use Rattle.tcp_model.specs.EndpointPair.{EndpointPair}
 use Rattle.tcp_model.specs.OfferKind.{OfferKind}
 use Rattle.tcp_model.specs.OfferKind.TheVariants as Kind
 use Rattle.tcp_model.specs.OpenOffer.{OpenOffer}
+use Rattle.tcp_model.proofs.Holes.{again_within}
 use Rattle.tcp_socket.specs.Opening.{open_offer, MayOpen, IsPartOf}
 use Rattle.tcp_socket.specs.Receive.{FitsBuffer}
 use Rattle.tcp_socket.specs.Socket.{LiesInRing}
@@ -56,7 +57,7 @@ congestion_small Congestion.Reno cwnd size = omega arith
 
 pub window_small : (b : Block) (size : ℕ) → window_limit b size ≤ size
 window_small b size =
-    let least = congestion_small b.settings.congestion_control (b.reno.cwnd + beyond b - b.sender.in_flight) (min (b.peer.window - b.sender.in_flight) size) in
+    let least = congestion_small b.settings.congestion_control (congestion_room b) (min (b.peer.window - b.sender.in_flight) size) in
     omega arith
 
 -- what the rules choose is a part of the send queue
@@ -75,8 +76,10 @@ part_of_text v addresses ip_mtu fits has =
     let least = window_small v.block (min (size_limit v.block addresses ip_mtu) (unbroken v.queued (next_place v.block))) in
     record { near = omega (arith, near, syn, fin, fits); unbroken = omega (arith, least) }
 
-pub part_of_resend : (v : TcpValue) (addresses : AddressPair) (ip_mtu : ℕ) → IsPartOf v (resend_choice v.block addresses ip_mtu v.queued)
-part_of_resend v addresses ip_mtu = record { near = omega arith; unbroken = omega arith }
+pub part_of_resend : (v : TcpValue) (addresses : AddressPair) (ip_mtu : ℕ) → FitsBuffer v.queued → IsPartOf v (resend_choice v.block addresses ip_mtu v.queued)
+part_of_resend v addresses ip_mtu fits =
+    let within = again_within v.block (size_limit v.block addresses ip_mtu) (sent_places v.block) (queued_in v) in
+    record { near = omega (arith, within, fits); unbroken = omega arith }
 
 unset : (t : Bool) (now : ℤ) (moment : Option ℤ) → is_due now (if t then moment else None) ≡ true → t ≡ true
 unset true now moment is = refl

@@ -22,11 +22,13 @@ use Rattle.tcp_model.specs.Probing.{probe_started, probe_moment}
 use Rattle.tcp_model.specs.Calls.{listening}
 use Rattle.tcp_model.specs.Checks.{falls_back}
 use Rattle.tcp_model.specs.Retries.{gives_up, given_up}
+use Rattle.tcp_model.specs.LossRecovery.{again_place, hole_len}
 use Rattle.tcp_model.specs.Rules.{Choice, unbroken, stamp_len, size_limit, window_limit, next_place, time_wait_end, owes_syn, resends, ack_moment, has_text}
 use Rattle.tcp_model.specs.Rules.{text_choice, resend_choice, probe_choice, control_for, updates_window, keep_alive_moment, sent_places}
 use Rattle.tcp_model.specs.Segments.{stamp_by, segment, ack_segment, syn_segment, reset_segment, keep_alive_segment, hops_of}
 use Rattle.tcp_model.specs.States.{is_closed}
 use Rattle.tcp_model.specs.Timeout.{timeout_end, timeout_started, timed_out}
+use Rattle.tcp_model.specs.Timestamps.{generator_of, uses_stamps}
 use Rattle.tcp_model.specs.Value.{TcpValue, with_block, unoffered, ended, queued_in, free_in, room_of, window_of}
 use Rattle.tcp_model.specs.AddressPair.{AddressPair}
 use Rattle.tcp_model.specs.AddressPair.TheVariants as Pair
@@ -78,14 +80,14 @@ stamped_room false generator now recent = refl
 segment_room : (b : Block) (pair : EndpointPair) (now : ℤ) (window : ℕ) (control : TcpControl) (seq : SeqNumber) →
     header_len (segment b pair now window control seq) ≡ 20 + stamp_len b
 segment_room b pair now window control seq =
-    ap (λ n. 20 + n) (stamped_room (b.peer.timestamps && b.sender.stamped) b.settings.timestamps now b.peer.recent)
+    ap (λ n. 20 + n) (stamped_room b.peer.timestamps b.stamps.generator now b.peer.recent)
 
 stamp_small : (t : Bool) → (if t then 12 else 0) ≤ 12
 stamp_small true = omega arith
 stamp_small false = omega arith
 
 stamp_len_small : (b : Block) → stamp_len b ≤ 12
-stamp_len_small b = stamp_small ((b.peer.timestamps && b.sender.stamped) && is_some b.settings.timestamps)
+stamp_len_small b = stamp_small (uses_stamps b)
 
 -- the options of a SYN
 scale_room : (t : Bool) (n : ℕ) → length (options_bytes (scale_options (if t then Some n else None))) ≤ 3
@@ -106,7 +108,7 @@ syn_room : (b : Block) (pair : EndpointPair) (now : ℤ) (ip_mtu capacity free :
 syn_room b pair now ip_mtu capacity free =
     let scale = scale_room (not b.receiver.took_syn || is_some b.peer.scale) (own_scale capacity) in
     let sack = permitted_room (not b.receiver.took_syn || b.peer.sack) in
-    let stamp = stamp_room (not b.receiver.took_syn || b.peer.timestamps) b.settings.timestamps now b.peer.recent in
+    let stamp = stamp_room (not b.receiver.took_syn || b.peer.timestamps) (generator_of b) now b.peer.recent in
     omega (arith, scale, sack, stamp)
 
 -- a segment that is offered with these bytes
@@ -183,7 +185,9 @@ fits_text cx v pair =
 fits_resent : (cx : ContextValue) (v : TcpValue) (pair : EndpointPair) →
     Fits (offer_choice Kind.FastRetransmission cx v pair (resend_choice v.block pair.addresses cx.ip_mtu v.queued)).socket
 fits_resent cx v pair =
-    let len = min (sent_places v.block) (min (size_limit v.block pair.addresses cx.ip_mtu) (unbroken v.queued 0)) in
+    let limit = size_limit v.block pair.addresses cx.ip_mtu in
+    let place = again_place v.block limit (sent_places v.block) (queued_in v) in
+    let len = min (hole_len v.block place (sent_places v.block)) (min limit (unbroken v.queued place)) in
     fits_choice Kind.FastRetransmission cx v pair (resend_choice v.block pair.addresses cx.ip_mtu v.queued) refl (omega arith)
     (fits_limit v.block pair.addresses cx.ip_mtu len (omega arith))
 

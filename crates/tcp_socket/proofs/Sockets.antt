@@ -6,6 +6,7 @@ use Rattle.std.proofs.lemmas.List.{length-take-le, length-take}
 use Rattle.net_base.specs.Ring.{Ring, capacity, rotated, cleared, anchored, overwritten, extended, enqueued, released, contiguous}
 use Rattle.net_base.specs.Time.{IsMoment}
 use Rattle.tcp_model.specs.Moments.{is_due}
+use Rattle.tcp_model.specs.LossRecovery.{loss_probe_moment, loss_probed, loss_probed_by}
 use Rattle.tcp_model.specs.Offers.{backed_off}
 use Rattle.tcp_model.specs.Rules.{backed_off_now}
 use Rattle.tcp_model.specs.declared.block.Block.{Block}
@@ -81,13 +82,15 @@ kept_if : (test : Bool) (a b : Block) → IsBlock a → IsBlock b → IsBlock (i
 kept_if true a b is other = is
 kept_if false a b is other = other
 
--- the user timeout starts, and the retransmission timer may have run out
+-- the user timeout starts, and the retransmission timer may have run out, or a loss probe be due
 pub kept_going : (b : Block) (now : ℤ) (queued : ℕ) → IsMoment now → IsBlock b → IsBlock (backed_off now (timeout_started now queued b))
 kept_going b now queued moment is =
     let started : IsBlock (timeout_started now queued b) =
     record { start = start_made (is_timeout_unset b queued) now b.timers.timeout_since moment is.start; mss = is.mss } in
     let went : IsBlock (backed_off_now (timeout_started now queued b)) = record { start = started.start; mss = is.mss } in
-    kept_if (is_due now b.timers.retransmit_at) (backed_off_now (timeout_started now queued b)) (timeout_started now queued b) went started
+    let probed : IsBlock (loss_probed (timeout_started now queued b)) = record { start = started.start; mss = is.mss } in
+    kept_if (is_due now b.timers.retransmit_at) (backed_off_now (timeout_started now queued b)) (loss_probed_by now (timeout_started now queued b)) went
+    (kept_if (is_due now (loss_probe_moment b)) (loss_probed (timeout_started now queued b)) (timeout_started now queued b) probed started)
 
 -- ANSWERS
 

@@ -16,7 +16,7 @@ use Rattle.socket_base.specs.Packet as Carried
 use Rattle.held_bytes.specs.ReceiveMap.{store, front}
 use Rattle.tcp_model.specs.Acknowledged.{acknowledged, duplicates_after}
 use Rattle.tcp_model.specs.Answers.{answer_for}
-use Rattle.tcp_model.specs.Arrival.{finished, told, taken, received, arrives_in}
+use Rattle.tcp_model.specs.Arrival.{finished, told, echo_heard, taken, received, arrives_in}
 use Rattle.tcp_model.specs.Probing.{probe_kept}
 use Rattle.tcp_model.specs.States.{is_closed, takes_text}
 use Rattle.tcp_model.specs.Text.{Texted, texted, laid, has_new_text, with_text, with_text_at, with_bytes_at, taken_in_order, held_early, with_fin}
@@ -94,7 +94,7 @@ finish_leads cx next b b2 r q o v w advance fills early ip header size n now ans
 
 state_held : (v : TcpValue) (place : ℕ) (map : List (Option ℕ)) → (held_early v place map).socket.block.state ≡ v.block.state
 state_held v place map =
-    elim (nat_le (length (runs_of map)) 4) as
+    elim (nat_le (length (runs_of map)) 16) as
     (λ t. (if t then texted (record v { received = received_of v.received.waiting map v.received.start }) 0 false (Some place) else texted v 0 false
     None).socket.block.state ≡ v.block.state) [ true ↦ refl | false ↦ refl ]
 
@@ -154,16 +154,18 @@ rest_leads cx duplicates v w ip header bytes answer socket opened w_is a s =
 -- the acknowledgement is taken, then the rest
 pub taken_leads : (cx : ContextValue) (duplicates : ℕ) (v w : TcpValue) (now : ℤ) (ip : IpRepr) (header : TcpHeader) (bytes : List ℕ) (by : ℕ)
     (answer : Option Reply) (socket : TcpValue)
-    → duplicates ≡ duplicates_after v.block header (length bytes) by → now ≡ cx.moment → w ≡ acknowledged v by now
+    → duplicates ≡ duplicates_after v.block header (length bytes) by → now ≡ cx.moment → w ≡ acknowledged (echo_heard v header by now) by now
     → answer ≡ (continued_by cx duplicates w ip header bytes).answer → socket ≡ (continued_by cx duplicates w ip header bytes).socket
     → Leads (taken cx v ip header bytes by) answer socket
 taken_leads cx duplicates v w now ip header bytes by answer socket count now_is w_is a s =
-    let acked : w ≡ acknowledged v by cx.moment = w_is ∙ ap (acknowledged v by) now_is in
+    let acked : w ≡ acknowledged (echo_heard v header by cx.moment) by cx.moment =
+    w_is ∙ ap (λ (m : ℤ). acknowledged (echo_heard v header by m) by m) now_is
+    in
     let first : Leads (continued_by cx (duplicates_after v.block header (length bytes) by) w ip header bytes) answer socket =
     subst (λ (n : ℕ). Leads (continued_by cx n w ip header bytes) answer socket) count (record { answer = a; socket = s })
     in
-    leads_to (λ (x : TcpValue). continued_by cx (duplicates_after v.block header (length bytes) by) x ip header bytes) w (acknowledged v by cx.moment) answer
-    socket acked first.answer first.socket
+    leads_to (λ (x : TcpValue). continued_by cx (duplicates_after v.block header (length bytes) by) x ip header bytes) w
+    (acknowledged (echo_heard v header by cx.moment) by cx.moment) answer socket acked first.answer first.socket
 
 -- no word is drawn but in LISTEN
 pub quiet_in : (state : State) (cx : ContextValue) (v : TcpValue) (ip : IpRepr) (header : TcpHeader) (bytes : List ℕ) → (state ≡ In.Listen → ⊥) →

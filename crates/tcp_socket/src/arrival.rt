@@ -6,7 +6,7 @@ ghost use Rattle.socket_base.specs.Packet.{IsSendable};
 ghost use Rattle.ip_wire.specs.Tcp.{header_of};
 ghost use Rattle.tcp_model.specs.Acknowledged.{acknowledged};
 ghost use Rattle.tcp_model.specs.Answers.{ack_recorded, drawn, ranges_held, answer_for};
-ghost use Rattle.tcp_model.specs.Arrival.{waiting_anew, outside, tells_news, passed_outside, finished, told, taken, inside, checked, challenges_reset};
+ghost use Rattle.tcp_model.specs.Arrival.{waiting_anew, outside, tells_news, passed_outside, finished, told, echo_heard, taken, inside, checked, challenges_reset};
 ghost use Rattle.tcp_model.specs.Arrival.{reset_comes, received, is_void_syn, arrives_in, arrives};
 ghost use Rattle.tcp_model.specs.Checks.{acknowledgement_check, taken_down};
 ghost use Rattle.tcp_model.specs.Checks.Check.{Passes, Old};
@@ -23,8 +23,8 @@ use ip_wire::{IpRepr, SeqNumber, TcpHeader, TcpRepr};
 use net_base::Instant;
 use socket_base::Context;
 use tcp_model::{
-    EndpointPair, Reply, State, Verdict, before_by, is_fin, is_first_syn, is_rst, is_syn,
-    is_void_syn, next_draw_from, numbers_of, past_by, reply_to, rst_reply, time_wait_from,
+    EndpointPair, Reply, State, Verdict, before_by, first_number, is_fin, is_first_syn, is_rst,
+    is_syn, is_void_syn, next_draw_from, numbers_of, past_by, reply_to, rst_reply, time_wait_from,
 };
 
 /// A segment with what it came in. Functions that are called from several places get copies of it, so
@@ -161,9 +161,15 @@ impl Socket {
         if !is_first_syn(&incoming.header) {
             return None;
         }
-        let (number, header) = (cx.rand_u32(), incoming.header);
+        let (pair, header) = (
+            EndpointPair::of_segment(incoming.ip_repr, &incoming.header),
+            incoming.header,
+        );
+        let now = cx.now();
+        let number = first_number(cx, &pair);
         self.block.answer_syn(incoming.ip_repr, &header, number);
-        self.block.restart_timeout(cx.now(), 0);
+        self.block.believe_stamp(now);
+        self.block.restart_timeout(now, 0);
         None
     }
 
@@ -203,7 +209,9 @@ impl Socket {
     {
         if is_rst(incoming.header.control) {
             self.take_reset(cx, incoming)
-        } else if self.block.challenges_syn(&incoming.header) {
+        } else if self.block.is_stale(&incoming.header, cx.now())
+            || self.block.challenges_syn(&incoming.header)
+        {
             self.draw(cx, incoming)
         } else {
             self.check(cx, incoming)
@@ -290,6 +298,7 @@ impl Socket {
             .is_in_window(free, &incoming.header, incoming.bytes.len())
         {
             self.block.hear();
+            self.block.take_stamp(&incoming.header, cx.now());
             self.take_content(cx, incoming)
         } else {
             self.answer_outside(cx, incoming)
@@ -305,7 +314,7 @@ impl Socket {
             (passed_outside (C.context cx.now) self.old incoming.now.ip_repr.now incoming.now.header (length incoming.now.bytes.now) by).socket }
     {
         if self.tells_news(&incoming.header, incoming.bytes.len()) {
-            self.acknowledge(by, cx.now());
+            self.acknowledge(&incoming.header, by, cx.now());
             return self.answer_outside(cx, incoming);
         }
         self.answer_outside(cx, incoming)
@@ -383,7 +392,7 @@ impl Socket {
         let duplicates = self
             .block
             .duplicates_after(&incoming.header, incoming.bytes.len(), by);
-        self.acknowledge(by, cx.now());
+        self.acknowledge(&incoming.header, by, cx.now());
         self.take_rest(cx, duplicates, incoming)
     }
 
@@ -414,20 +423,21 @@ impl Socket {
         requires moment { IsMoment now }
         ensures { self.new ≡ told self.old header.now duplicates now }
     {
-        self.block.set_window(header);
-        self.block.take_ranges(header);
+        self.block.set_window(header, now);
+        self.block.take_ranges(header, now);
         self.block.count(duplicates);
         self.block.restart_timeout(now, self.queued.len());
     }
 
-    /// SND.UNA rises by so much, and what is acknowledged is freed.
-    fn acknowledge(&mut self, by: u32, now: Instant)
+    /// The echo of a segment is taken, SND.UNA rises by so much, and what is acknowledged is freed.
+    fn acknowledge(&mut self, header: &TcpHeader, by: u32, now: Instant)
         requires unoffered { self.old.offered ≡ None }
         requires moment { IsMoment now }
-        ensures { self.new ≡ acknowledged self.old by now }
+        ensures { self.new ≡ acknowledged (echo_heard self.old header.now by now) by now }
     {
         let queued = self.queued.len();
         let freed = self.block.freed_by(by, queued);
+        self.block.take_echo(header, by, now);
         self.block.acknowledge(by, queued, now);
         self.queued.dequeue_allocated(freed);
     }

@@ -21,7 +21,7 @@ use socket_base::addresses::is_unspecified;
 use std::fmt;
 use tcp_model::{
     AddressPair, Block, ConnectError, EndpointPair, ListenError, Names, RecvError, SendError,
-    Sender, State, is_same_listener,
+    Sender, State, first_number, is_same_listener,
 };
 
 /// The source of what is sent to this address: the one that is named, else the interface's, if it is
@@ -146,7 +146,7 @@ impl Socket {
         let Some(pair) = pair_for(cx, &remote, &local) else {
             return Err(ConnectError::Unaddressable);
         };
-        let number = cx.rand_u32();
+        let number = first_number(cx, &pair);
         let names = Names {
             pair: Some(pair),
             ..Names::NONE

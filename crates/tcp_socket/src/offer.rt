@@ -266,13 +266,16 @@ impl Socket {
         }
     }
 
-    /// The segment at SND.UNA again.
+    /// What is to go again.
     fn resend_part(&self, addresses: &AddressPair, ip_mtu: usize) -> Part
         ensures part { IsPartOf self.now (choice_of result) }
         ensures value { choice_of result ≡ resend_choice self.now.block addresses.now ip_mtu self.now.queued }
     {
-        let (queued, unbroken) = (self.queued.len(), self.unbroken(0));
-        self.block.first_part(addresses, ip_mtu, queued, unbroken)
+        let queued = self.queued.len();
+        let place = self.block.resend_place(addresses, ip_mtu, queued);
+        let unbroken = self.unbroken(place);
+        self.block
+            .sent_part(addresses, ip_mtu, place, queued, unbroken)
     }
 
     /// The payload of an open offer.

@@ -9,9 +9,8 @@ use Rattle.ip_wire.specs.SeqNumber.{SeqNumber}
 use Rattle.ip_wire.specs.TcpControl.{TcpControl}
 use Rattle.ip_wire.specs.TcpControl.TheVariants as Control
 use Rattle.ip_wire.specs.TcpHeader.{TcpHeader}
-use Rattle.net_base.specs.RandomWords.{word}
 use Rattle.net_base.specs.Ring.{Ring}
-use Rattle.socket_base.specs.Context.{ContextValue, next_random}
+use Rattle.socket_base.specs.Context.{ContextValue}
 use Rattle.tcp_law.specs.Numbers.{wire, nearest, IsNear}
 use Rattle.tcp_law.proofs.DecodedLemmas.{nearest-wire}
 use Rattle.tcp_model.specs.AddressPair.{AddressPair}
@@ -21,17 +20,20 @@ use Rattle.tcp_model.specs.declared.block.CongestionControl.TheVariants as Conge
 use Rattle.tcp_model.specs.State.{State}
 use Rattle.tcp_model.specs.State.TheVariants as In
 use Rattle.tcp_model.specs.Answers.{drawn, acked, may_draw, with_draw}
-use Rattle.tcp_model.specs.Arrival.{arrives, arrives_in, is_void_syn, checked, takes_reset, challenges_reset, reset_comes, challenges_syn, received}
+use Rattle.tcp_model.specs.Arrival.{arrives, arrives_in, is_void_syn, checked, takes_reset, challenges_reset, reset_comes, draws_first, received}
 use Rattle.tcp_model.specs.Checks.{acknowledgement_check, is_in_window, taken_down}
 use Rattle.tcp_model.specs.Controls.{is_syn, is_rst}
-use Rattle.tcp_model.specs.Endpoints.{ip_header_len}
+use Rattle.tcp_model.specs.Endpoints.{ip_header_len, pair_in}
 use Rattle.tcp_model.specs.Offsets.{past_by, before_by, meets_window}
 use Rattle.tcp_model.specs.Opening.{is_first_syn, opens, answering, takes_answer, acks_syn, syn_answered}
-use Rattle.tcp_model.specs.Rules.{text_choice, resend_choice, stamp_len, size_limit, window_limit, congestion_limit, unbroken, next_place, beyond, sent_places}
+use Rattle.tcp_model.specs.LossRecovery.{again_place, hole_len}
+use Rattle.tcp_model.specs.Rules.{text_choice, resend_choice, stamp_len, size_limit, window_limit, congestion_limit, unbroken, next_place, congestion_room, sent_places}
 use Rattle.tcp_model.specs.Segments.{no_ranges, segment_len, rst_reply}
 use Rattle.tcp_model.specs.States.{is_time_wait}
 use Rattle.tcp_model.specs.Timeout.{timeout_restarted}
 use Rattle.tcp_model.specs.Value.{TcpValue, Arrived, with_block, dropped, answered_with, unoffered, ended, queued_in}
+use Rattle.tcp_model.specs.FirstNumbers.{first_number, draws_number}
+use Rattle.tcp_model.specs.Timestamps.{believed}
 use Rattle.tcp_model.proofs.Positions.{offsets_nearest}
 use Rattle.tcp_tie.specs.Acceptance.{Meets, reset_counts_in, reset_counts, IsIgnored}
 use Rattle.tcp_tie.specs.Tie.{core_of}
@@ -166,7 +168,7 @@ module _ (cx : ContextValue) (v : TcpValue) (ip : IpRepr) (header : TcpHeader) (
   later_reset : takes_reset v.block header ≡ false → IsIgnored cx v ip header (received cx (unoffered v) ip header bytes)
   later_reset other_reset =
       cond_both (is_rst header.control) (reset_comes cx (unoffered v) ip header (length bytes))
-      (if challenges_syn v.block header then drawn cx (unoffered v) ip header
+      (if draws_first v.block header cx.moment then drawn cx (unoffered v) ip header
       else checked (acknowledgement_check v.block header.ack_number) cx (unoffered v) ip header bytes)
       (IsIgnored cx v ip header)
       (λ _.
@@ -194,10 +196,10 @@ module _ (cx : ContextValue) (v : TcpValue) (ip : IpRepr) (header : TcpHeader) (
       subst (IsIgnored cx v ip header)
       (sym (if_not (is_first_syn header)
       (record {
-        socket = with_block (unoffered v) (timeout_restarted (answering v.block ip header (word (next_random cx).random)) cx.moment 0);
+        socket = with_block (unoffered v) (timeout_restarted (believed (answering v.block ip header (first_number cx (pair_in ip header))) cx.moment) cx.moment 0);
         answer =
             None;
-        draws = true;
+        draws = draws_number cx;
       }) (dropped (unoffered v)) no_first_syn))
       silently
   reset_in In.SynSent at other_reset =
@@ -248,23 +250,26 @@ module _ (b : Block) (addresses : AddressPair) (mtu : ℕ) (queued : Ring ℕ) w
 
   pub text_in_window : (text_choice b addresses mtu queued).len ≤ b.peer.window - b.sender.in_flight
   text_in_window =
-      below_parts _ _ _ (lowered b.settings.congestion_control (b.reno.cwnd + beyond b - b.sender.in_flight) (min (b.peer.window - b.sender.in_flight) size))
+      below_parts _ _ _ (lowered b.settings.congestion_control (congestion_room b) (min (b.peer.window - b.sender.in_flight) size))
       (min_both (b.peer.window - b.sender.in_flight) size).0
 
   pub text_in_congestion : b.settings.congestion_control ≡ Congestion.Reno →
-      (text_choice b addresses mtu queued).len ≤ b.reno.cwnd + beyond b - b.sender.in_flight
-  text_in_congestion e = reno_limit b.settings.congestion_control (b.reno.cwnd + beyond b - b.sender.in_flight)
+      (text_choice b addresses mtu queued).len ≤ congestion_room b
+  text_in_congestion e = reno_limit b.settings.congestion_control (congestion_room b)
       (min (b.peer.window - b.sender.in_flight) size) e
 
   text_in_size : (text_choice b addresses mtu queued).len ≤ size_limit b addresses mtu
   text_in_size =
-      below_parts _ _ _ (lowered b.settings.congestion_control (b.reno.cwnd + beyond b - b.sender.in_flight) (min (b.peer.window - b.sender.in_flight) size))
+      below_parts _ _ _ (lowered b.settings.congestion_control (congestion_room b) (min (b.peer.window - b.sender.in_flight) size))
       (below_parts _ _ _ (min_both (b.peer.window - b.sender.in_flight) size).1 (min_both (size_limit b addresses mtu) (unbroken queued (next_place b))).0)
 
   again_in_size : (resend_choice b addresses mtu queued).len ≤ size_limit b addresses mtu
   again_in_size =
-      below_parts _ _ _ (min_both (sent_places b) (min (size_limit b addresses mtu) (unbroken queued 0))).1
-      (min_both (size_limit b addresses mtu) (unbroken queued 0)).0
+      below_parts _ _ _ (min_both (hole_len b again (sent_places b)) (min (size_limit b addresses mtu) (unbroken queued again))).1
+      (min_both (size_limit b addresses mtu) (unbroken queued again)).0
+    where
+      again : ℕ
+      again = again_place b (size_limit b addresses mtu) (sent_places b) (length queued.queue)
 
   size_in_mss : size_limit b addresses mtu ≤ max 1 (b.peer.mss - stamp_len b)
   size_in_mss = omega arith
@@ -283,3 +288,5 @@ module _ (b : Block) (addresses : AddressPair) (mtu : ℕ) (queued : Ring ℕ) w
 
   pub again_in_packet : (resend_choice b addresses mtu queued).len ≤ max 1 (mtu - (ip_header_len addresses + 20 + stamp_len b))
   again_in_packet = below_parts _ _ _ again_in_size size_in_packet
+
+pub ruleset text_fits = (text_in_window, text_in_congestion, text_in_mss, text_in_packet, again_in_mss, again_in_packet)

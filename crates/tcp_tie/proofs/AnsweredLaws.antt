@@ -4,9 +4,8 @@ use Rattle.std.proofs.Common.{length, take, Option, Some, None, Result, Ok, Err,
 use Rattle.std.proofs.lemmas.Bool.{cond_both, eqb-true}
 use Rattle.ip_wire.specs.IpEndpoint.{IpEndpoint}
 use Rattle.ip_wire.specs.IpListenEndpoint.{IpListenEndpoint}
-use Rattle.net_base.specs.RandomWords.{word}
 use Rattle.net_base.specs.Ring.{Ring, anchored, cleared, enqueued}
-use Rattle.socket_base.specs.Context.{ContextValue, next_random}
+use Rattle.socket_base.specs.Context.{ContextValue}
 use Rattle.tcp_law.specs.Side.Opening.{NotYet, Passive, Active}
 use Rattle.tcp_model.specs.EndpointPair.{EndpointPair}
 use Rattle.tcp_model.specs.ConnectError.{ConnectError}
@@ -23,6 +22,8 @@ use Rattle.tcp_model.specs.Calls.{send_after, recv_answer, recv_refusal, nothing
 use Rattle.tcp_model.specs.Offers.{offered_packet, packet_with}
 use Rattle.tcp_model.specs.States.{is_closed, takes_writes, takes_text}
 use Rattle.tcp_model.specs.Value.{TcpValue, unoffered}
+use Rattle.tcp_model.specs.FirstNumbers.{first_number, number_for}
+use Rattle.tcp_model.proofs.Numbers.{number_small}
 use Rattle.tcp_tie.specs.History.{listened, called, listen_opens, connect_opens, opened_by, bytes_taken, with_written, with_offer, with_packet}
 use Rattle.tcp_tie.specs.Promises.{KeepsAlone}
 use Rattle.tcp_tie.specs.Tie.{Past, Keeps}
@@ -56,24 +57,18 @@ keeps_listen v w p q endpoint k first =
     by true true at first = keeps_same v (unoffered v) w p q refl k
     by false none at first = keeps_same v (unoffered v) w p q refl k
 
-word_range : (s : ℕ) → word s < 2 ^ 32
-word_range s = omega arith
-
 pub keeps_connect :
     (cx : ContextValue) (v w : TcpValue) (p q : Past) (remote : IpEndpoint) (local : IpListenEndpoint) → Keeps v p w q
     → (connect_opens cx v remote local ≡ true → p.opening ≡ NotYet)
     → Keeps (connect_after cx v remote local) (opened_by Active (connect_opens cx v remote local) p) w q
 keeps_connect cx v w p q remote local k first = by (is_closed v.block.state) (pair_for cx remote local) refl first where
-  number : ℕ
-  number = word (next_random cx).random
-
   by :
       (closed : Bool) (pair : Option EndpointPair) → is_closed v.block.state ≡ closed
       → (is_ok (if closed then found_answer pair else Err Connect.InvalidState) ≡ true → p.opening ≡ NotYet)
-      → Keeps (if closed then connected_by v pair (word (next_random cx).random) else unoffered v)
+      → Keeps (if closed then connected_by v pair (number_for cx pair) else unoffered v)
       (opened_by Active (is_ok (if closed then found_answer pair else Err Connect.InvalidState)) p) w q
   by true None at first = keeps_same v (unoffered v) w p q refl k
-  by true (Some pair) at first = keeps_connecting v w p q pair (word (next_random cx).random) k at (first refl) (word_range (next_random cx).random)
+  by true (Some pair) at first = keeps_connecting v w p q pair (first_number cx pair) k at (first refl) (number_small cx pair)
   by false pair at first = keeps_same v (unoffered v) w p q refl k
 
 -- SENDING

@@ -1,5 +1,5 @@
 -- Each segment that the partner sent, when it comes, keeps the invariant.
-use Rattle.std.proofs.Common.{◌≡◌, ◌⊎◌, inl, inr, ℕ, zero, suc, ◌-◌, ◌^◌, ◌<◌, ◌≤◌, nat_lt, nat_le, not, ◌==◌, ◌&&◌, ℤ, Bool, true, false, if◌then◌else◌, List}
+use Rattle.std.proofs.Common.{◌≡◌, ◌⊎◌, inl, inr, ℕ, zero, suc, ◌-◌, ◌^◌, ◌<◌, ◌≤◌, nat_lt, nat_le, not, ◌==◌, ◌&&◌, ◌||◌, ℤ, Bool, true, false, if◌then◌else◌, List}
 use Rattle.std.proofs.Common.{Option, Some, None, slice_get, length, refl, sym, ap, ◌∙◌, subst, arith}
 use Rattle.std.proofs.lemmas.Bool.{and_cases, cond_both, eqb-true, not-false}
 use Rattle.std.proofs.lemmas.Bool.Decides.{nat_tests}
@@ -14,10 +14,10 @@ use Rattle.tcp_law.specs.Side.Phase.{SynReceived}
 use Rattle.tcp_model.specs.State.{State}
 use Rattle.tcp_model.specs.State.TheVariants as In
 use Rattle.tcp_model.specs.declared.block.Block.{Block}
-use Rattle.tcp_model.specs.Acknowledged.{acknowledged, duplicates_after, names_window, windowed, stamp_taken, ranges_taken, counted}
+use Rattle.tcp_model.specs.Acknowledged.{acknowledged, duplicates_after, names_window, windowed, ranges_taken, counted}
 use Rattle.tcp_model.specs.Answers.{drawn}
 use Rattle.tcp_model.specs.Arrival.{waiting_anew, outside, passed_outside, tells_news, with_content, told, taken, inside, checked, takes_reset}
-use Rattle.tcp_model.specs.Arrival.{challenges_reset, reset_comes, challenges_syn, received, arrives_in, arrives, is_void_syn}
+use Rattle.tcp_model.specs.Arrival.{challenges_reset, reset_comes, challenges_syn, draws_first, echo_heard, received, arrives_in, arrives, is_void_syn}
 use Rattle.tcp_model.specs.Checks.{Check, opening_check, synchronized_check, acknowledgement_check, is_in_window, taken_down}
 use Rattle.tcp_model.specs.Checks.Check.{Passes, Old, Drops, Draws, Resets}
 use Rattle.tcp_model.specs.Controls.{is_syn, is_rst}
@@ -26,6 +26,7 @@ use Rattle.tcp_model.specs.Retries.{heard}
 use Rattle.tcp_model.specs.States.{is_closed, is_answering}
 use Rattle.tcp_model.specs.Timeout.{timeout_restarted}
 use Rattle.tcp_model.specs.Value.{TcpValue, Arrived, with_block, dropped, unoffered, queued_in, free_in}
+use Rattle.tcp_model.specs.Timestamps.{stamp_taken, is_stale}
 use Rattle.tcp_tie.specs.Tie.{Core, Past, unsent, phase_of, IsConnectedAs, Keeps, core_of, segment_of}
 use Rattle.tcp_tie.specs.History.{with_answer}
 use Rattle.tcp_tie.proofs.Tied.{Tied, fits_connected, is_connected, keeps_by}
@@ -79,11 +80,15 @@ syn_gone true past_iss past before first e none =
     absurd (let reaches = at_least past_iss before (first refl) in let all = ap (λ (t : Bool). t && nat_le past_iss before) none ∙ reaches in
     let clash : true ≡ false = sym all ∙ e in cc)
 
+neither : (a b : Bool) → (a || b) ≡ false → b ≡ false
+neither true b e = absurd (cc)
+neither false b e = e
+
 -- the window and the duplicates change nothing that the tie reads
 told_core : (v : TcpValue) (header : TcpHeader) (duplicates : ℕ) (now : ℤ) → core_of (told v header duplicates now) ≡ core_of v
 told_core v header duplicates now =
     cond_both (names_window v.block header) (windowed v.block header) v.block
-    (λ (b : Block). core_of (with_block v (timeout_restarted (counted (ranges_taken (stamp_taken b header) header) duplicates) now (queued_in v))) ≡ core_of v)
+    (λ (b : Block). core_of (with_block v (timeout_restarted (counted (ranges_taken (stamp_taken b header now) header now) duplicates) now (queued_in v))) ≡ core_of v)
     (λ _. refl)
     (λ _. refl)
 
@@ -92,6 +97,10 @@ module _ (cx : ContextValue) (v : TcpValue) (ip : IpRepr) (header : TcpHeader) (
   module _ (connected : is_connected v.block.state ≡ true) where
     tied_as : IsConnectedAs (core_of v) (unsent r.side)
     tied_as = fits_connected v.block.state (core_of v) (unsent r.side) connected r.fits
+
+    -- the echo changes nothing that the tie reads
+    abbrev timed : ℕ → TcpValue
+    timed by = echo_heard v header by cx.moment
 
     -- outside the window
     led_outside : (w : TcpValue) → Tied (core_of w) p t → (is_closed w.block.state ≡ false → is_connected w.block.state ≡ true) →
@@ -103,19 +112,19 @@ module _ (cx : ContextValue) (v : TcpValue) (ip : IpRepr) (header : TcpHeader) (
 
     module _ (by : ℕ) (n : SeqNumber) (e : header.ack_number ≡ Some n) (distance : by ≡ distance_of v.block.sender.una n) (ok : IsAcceptable (core_of v) by)
         (no_rst : is_rst header.control ≡ false) where
-      acked_now : IsAcked p t (acknowledged v by cx.moment)
-      acked_now = acks v p t header bytes n by cx.moment comes (no_reset_control header.control no_rst) e distance ok connected r
+      acked_now : IsAcked p t (acknowledged (timed by) by cx.moment)
+      acked_now = acks (timed by) p t header bytes n by cx.moment comes (no_reset_control header.control no_rst) e distance ok connected r
 
       led_taken : is_syn header.control ≡ false → Led p t (taken cx v ip header bytes by)
       led_taken no_syn =
-          cond_both (is_closed (acknowledged v by cx.moment).block.state) (dropped (acknowledged v by cx.moment))
-          (with_content cx (told (acknowledged v by cx.moment) header (duplicates_after v.block header (length bytes) by) cx.moment) ip header bytes)
+          cond_both (is_closed (acknowledged (timed by) by cx.moment).block.state) (dropped (acknowledged (timed by) by cx.moment))
+          (with_content cx (told (acknowledged (timed by) by cx.moment) header (duplicates_after v.block header (length bytes) by) cx.moment) ip header bytes)
           (λ (a : Arrived). Led p t a)
           (λ _. acked_now.tied)
           (λ open_yet.
           let on = acked_now.running open_yet in
-          let same = told_core (acknowledged v by cx.moment) header (duplicates_after v.block header (length bytes) by) cx.moment in
-          led_content cx (told (acknowledged v by cx.moment) header (duplicates_after v.block header (length bytes) by) cx.moment) ip header bytes p t comes
+          let same = told_core (acknowledged (timed by) by cx.moment) header (duplicates_after v.block header (length bytes) by) cx.moment in
+          led_content cx (told (acknowledged (timed by) by cx.moment) header (duplicates_after v.block header (length bytes) by) cx.moment) ip header bytes p t comes
           (data_control header.control no_rst no_syn) (ap (λ (c : Core). is_connected c.state) same ∙ on.0) (ap (λ (c : Core). c.syn_unacked) same ∙ on.1)
           (subst (λ (c : Core). Tied c p t) (sym same) acked_now.tied))
 
@@ -128,18 +137,18 @@ module _ (cx : ContextValue) (v : TcpValue) (ip : IpRepr) (header : TcpHeader) (
           (λ _. led_drawn cx v ip header p t connected r)
           led_taken)
           (λ _.
-          cond_both (tells_news v header (length bytes)) (outside cx (acknowledged v by cx.moment) ip header) (outside cx v ip header)
+          cond_both (tells_news v header (length bytes)) (outside cx (acknowledged (timed by) by cx.moment) ip header) (outside cx v ip header)
           (λ (a : Arrived). Led p t a)
-          (λ _. led_outside (acknowledged v by cx.moment) acked_now.tied (λ open_yet. (acked_now.running open_yet).0))
+          (λ _. led_outside (acknowledged (timed by) by cx.moment) acked_now.tied (λ open_yet. (acked_now.running open_yet).0))
           (λ _. led_outside v r (λ _. connected)))
 
     -- its acknowledgement is old
     led_old : is_rst header.control ≡ false → is_syn header.control ≡ false → v.block.sender.syn_unacked ≡ false → Led p t (checked Old cx v ip header bytes)
     led_old no_rst no_syn acked =
-        cond_both (is_in_window v.block (free_in v) header (length bytes)) (with_content cx (with_block v (heard v.block)) ip header bytes)
+        cond_both (is_in_window v.block (free_in v) header (length bytes)) (with_content cx (with_block v (stamp_taken (heard v.block) header cx.moment)) ip header bytes)
         (outside cx v ip header)
         (λ (a : Arrived). Led p t a)
-        (λ _. led_content cx (with_block v (heard v.block)) ip header bytes p t comes (data_control header.control no_rst no_syn) connected acked r)
+        (λ _. led_content cx (with_block v (stamp_taken (heard v.block) header cx.moment)) ip header bytes p t comes (data_control header.control no_rst no_syn) connected acked r)
         (λ _. led_outside v r (λ _. connected))
 
     -- in SYN-RECEIVED
@@ -232,14 +241,14 @@ module _ (cx : ContextValue) (v : TcpValue) (ip : IpRepr) (header : TcpHeader) (
     led_received : Led p t (received cx v ip header bytes)
     led_received =
         cond_both (is_rst header.control) (reset_comes cx v ip header (length bytes))
-        (if challenges_syn v.block header then drawn cx v ip header else checked (acknowledgement_check v.block header.ack_number) cx v ip header bytes)
+        (if draws_first v.block header cx.moment then drawn cx v ip header else checked (acknowledgement_check v.block header.ack_number) cx v ip header bytes)
         (λ (a : Arrived). Led p t a)
         (λ _. led_reset_comes)
         (λ no_rst.
-        cond_both (challenges_syn v.block header) (drawn cx v ip header) (checked (acknowledgement_check v.block header.ack_number) cx v ip header bytes)
+        cond_both (draws_first v.block header cx.moment) (drawn cx v ip header) (checked (acknowledgement_check v.block header.ack_number) cx v ip header bytes)
         (λ (a : Arrived). Led p t a)
         (λ _. led_drawn cx v ip header p t connected r)
-        (λ calm. led_ack header.ack_number refl no_rst calm))
+        (λ calm. led_ack header.ack_number refl no_rst (neither (is_stale v.block header cx.moment) (challenges_syn v.block header) calm)))
 
   led_in : (state : State) → v.block.state ≡ state → Led p t (arrives_in state cx v ip header bytes)
   led_in In.Closed e = r

@@ -153,3 +153,5 @@ hosted_reset_comes cx v p ip header bytes made k reset =
     subst (λ (p : Past). KeepsAlone (arrives cx v ip header bytes).socket p)
     (past_of_answer header.dst_port made p (arrives cx v ip header bytes).answer (λ reply e. (answer_back cx v ip header bytes reply e).source_port))
     (reset_comes cx v (past_at header.dst_port made p) ip header bytes k reset)
+
+pub ruleset hosted = (keeps_hosted_arrival, keeps_hosted_offer, keeps_made_reset, keeps_made_elsewhere)

@@ -16,8 +16,7 @@ use Rattle.ip_wire.specs.Tcp.{header_len}
 use Rattle.ip_wire.specs.TcpControl.{TcpControl}
 use Rattle.ip_wire.specs.TcpControl.TheVariants as Control
 use Rattle.ip_wire.specs.TcpHeader.{TcpHeader}
-use Rattle.net_base.specs.RandomWords.{word}
-use Rattle.socket_base.specs.Context.{ContextValue, next_random}
+use Rattle.socket_base.specs.Context.{ContextValue}
 use Rattle.socket_base.specs.Offers.{Offered, offered_as}
 use Rattle.socket_base.specs.declared.offer.Offer.TheVariants as Answer
 use Rattle.tcp_model.specs.AddressPair.{AddressPair}
@@ -32,10 +31,10 @@ use Rattle.tcp_model.specs.Reply.{Reply}
 use Rattle.tcp_model.specs.State.{State}
 use Rattle.tcp_model.specs.State.TheVariants as In
 use Rattle.tcp_model.specs.Acknowledged.{acknowledged, block_acknowledged, state_after_ack, acks_fin, una_moved, in_state, ended_if, duplicates_after}
-use Rattle.tcp_model.specs.Acknowledged.{names_window, windowed, stamp_taken, ranges_taken, counted}
+use Rattle.tcp_model.specs.Acknowledged.{names_window, windowed, ranges_taken, counted}
 use Rattle.tcp_model.specs.Answers.{drawn, may_draw, with_draw, acked, answer_for, ranges_held}
 use Rattle.tcp_model.specs.Arrival.{waiting_anew, outside, passed_outside, tells_news, finished, with_content, told, taken, inside, checked, takes_reset}
-use Rattle.tcp_model.specs.Arrival.{challenges_reset, reset_comes, challenges_syn, received, arrives_in, arrives, is_void_syn}
+use Rattle.tcp_model.specs.Arrival.{challenges_reset, reset_comes, draws_first, echo_heard, received, arrives_in, arrives, is_void_syn}
 use Rattle.tcp_model.specs.Blocks.{unacked, no_names}
 use Rattle.tcp_model.specs.Calls.{listening, connecting, close_after, abort_after}
 use Rattle.tcp_model.specs.Checks.{Check, acknowledgement_check, is_in_window, taken_down, falls_back}
@@ -44,6 +43,7 @@ use Rattle.tcp_model.specs.Controls.{is_syn, is_fin, is_rst}
 use Rattle.tcp_model.specs.Moments.{is_due, is_over, timeout_from}
 use Rattle.tcp_model.specs.Endpoints.{local_of, remote_of, pair_in, addresses_in, header_for, is_between, is_connected_by, is_bare, takes_address}
 use Rattle.tcp_model.specs.Names.{accepts_in, accepts}
+use Rattle.tcp_model.specs.LossRecovery.{loss_probe_moment, loss_probed, loss_probed_by}
 use Rattle.tcp_model.specs.Offers.{offer_segment, offer_choice, offer_ack, offer_syn, offer_reset, offer_keep_alive, offer_held_back, silent, last_rules}
 use Rattle.tcp_model.specs.Offers.{first_rules, backed_off, offer_between, offer_with, offer_of, number_at}
 use Rattle.tcp_model.specs.Opening.{is_first_syn, opens, takes_answer, acks_syn, syn_answered, connected, crossed, answering}
@@ -61,6 +61,8 @@ use Rattle.tcp_model.specs.Text.{Texted, texted, with_text, with_text_at, with_b
 use Rattle.tcp_model.specs.Text.{fin_taken}
 use Rattle.tcp_model.specs.Timeout.{timeout_end, timeout_started, timeout_restarted, timed_out}
 use Rattle.tcp_model.specs.Value.{TcpValue, Arrived, with_block, dropped, answered_with, unoffered, ended, queued_in, free_in, room_of, received_of, window_of}
+use Rattle.tcp_model.specs.FirstNumbers.{first_number, draws_number}
+use Rattle.tcp_model.specs.Timestamps.{believed, stamp_taken}
 use Rattle.tcp_tie.specs.Tie.{Core, core_of}
 use Rattle.tcp_tie.specs.Endpoints.{GoesBetween, GoesBack, CameBetween, IsFor, KeepsNames, Forgets, IsOpenedBy, FallsBack, KeepsOrForgets, IsLeftBy, IsRenamed}
 use Rattle.tcp_tie.specs.Endpoints.{Ports, IsToward, HasPorts, IsNameless}
@@ -241,7 +243,7 @@ module _ (cx : ContextValue) (ip : IpRepr) (header : TcpHeader) where
       cond_both (place == 0) (taken_in_order v (laid v place bytes)) (held_early v place (laid v place bytes)) (λ (t : Texted). Stays v.block t.socket.block)
       (λ _. (refl, refl))
       (λ _.
-      cond_both (nat_le (length (runs_of (laid v place bytes))) 4)
+      cond_both (nat_le (length (runs_of (laid v place bytes))) 16)
       (texted (record v { received = received_of v.received.waiting (laid v place bytes) v.received.start }) 0 false (Some place)) (texted v 0 false None)
       (λ (t : Texted). Stays v.block t.socket.block)
       (λ _. (refl, refl))
@@ -281,6 +283,17 @@ module _ (cx : ContextValue) (ip : IpRepr) (header : TcpHeader) where
     at true = inr (record { state = refl; names = refl })
     at false = inl (keeps b (in_state (una_moved b by queued cx.moment) (state_after_ack b by queued) cx.moment) refl state_stays)
 
+  -- so it does behind the echo
+  abbrev timed : TcpValue → ℕ → TcpValue
+  timed v by = echo_heard v header by cx.moment
+
+  timed_names : (v : TcpValue) (by : ℕ) → KeepsOrForgets v.block (acknowledged (timed v by) by cx.moment).block
+  timed_names v by = from (acked_names (timed v by).block by (queued_in v)) where
+    from : KeepsOrForgets (timed v by).block (acknowledged (timed v by) by cx.moment).block
+        → KeepsOrForgets v.block (acknowledged (timed v by) by cx.moment).block
+    from (inl kept) = inl (record { names = kept.names; listening = kept.listening })
+    from (inr forgets) = inr forgets
+
   open_keeps : (old new : Block) → is_closed new.state ≡ false → KeepsOrForgets old new → KeepsNames old new
   open_keeps old new open_yet (inl names) = names
   open_keeps old new open_yet (inr forgets) = absurd (let clash : true ≡ false = sym forgets.state ∙ open_yet in cc)
@@ -294,18 +307,18 @@ module _ (cx : ContextValue) (ip : IpRepr) (header : TcpHeader) where
   told_stays : (w : TcpValue) (duplicates : ℕ) → Stays w.block (told w header duplicates cx.moment).block
   told_stays w duplicates =
       cond_both (names_window w.block header) (windowed w.block header) w.block
-      (λ (b : Block). Stays w.block (timeout_restarted (counted (ranges_taken (stamp_taken b header) header) duplicates) cx.moment (queued_in w)))
+      (λ (b : Block). Stays w.block (timeout_restarted (counted (ranges_taken (stamp_taken b header cx.moment) header cx.moment) duplicates) cx.moment (queued_in w)))
       (λ _. (refl, refl))
       (λ _. (refl, refl))
 
   named_taken : (v : TcpValue) (bytes : List ℕ) (by : ℕ) → Named v.block (taken cx v ip header bytes by)
   named_taken v bytes by =
-      let w = acknowledged v by cx.moment in
+      let w = acknowledged (timed v by) by cx.moment in
       let heeded = told w header (duplicates_after v.block header (length bytes) by) cx.moment in
       cond_both (is_closed w.block.state) (dropped w) (with_content cx heeded ip header bytes) (λ (a : Arrived). Named v.block a)
-      (λ _. named_dropped v.block w (acked_names v.block by (queued_in v)))
+      (λ _. named_dropped v.block w (timed_names v by))
       (λ open_yet.
-      let kept = open_keeps v.block w.block open_yet (acked_names v.block by (queued_in v)) in
+      let kept = open_keeps v.block w.block open_yet (timed_names v by) in
       let heeds = told_stays w (duplicates_after v.block header (length bytes) by) in
       named_content v.block heeded bytes (then_keeps v.block w.block heeded.block kept (keeps w.block heeded.block heeds.0 heeds.1)))
 
@@ -348,15 +361,17 @@ module _ (cx : ContextValue) (ip : IpRepr) (header : TcpHeader) where
       (λ _. draws_named v)
       (λ _. named_taken v bytes by))
       (λ _.
-      cond_both (tells_news v header (length bytes)) (outside cx (acknowledged v by cx.moment) ip header) (outside cx v ip header)
+      cond_both (tells_news v header (length bytes)) (outside cx (acknowledged (timed v by) by cx.moment) ip header) (outside cx v ip header)
       (λ (a : Arrived). Named v.block a)
-      (λ _. named_outside v.block (acknowledged v by cx.moment) (acked_names v.block by (queued_in v)))
+      (λ _. named_outside v.block (acknowledged (timed v by) by cx.moment) (timed_names v by))
       (λ _. named_outside v.block v (inl (keeps v.block v.block refl refl))))
   named_checked Old v bytes =
-      cond_both (is_in_window v.block (free_in v) header (length bytes)) (with_content cx (with_block v (heard v.block)) ip header bytes)
+      cond_both (is_in_window v.block (free_in v) header (length bytes)) (with_content cx (with_block v (stamp_taken (heard v.block) header cx.moment)) ip header bytes)
       (outside cx v ip header)
       (λ (a : Arrived). Named v.block a)
-      (λ _. named_content v.block (with_block v (heard v.block)) bytes (keeps v.block (heard v.block) refl refl))
+      (λ _.
+      let heard_of = stamp_taken (heard v.block) header cx.moment in
+      named_content v.block (with_block v heard_of) bytes (keeps v.block heard_of refl refl))
       (λ _. named_outside v.block v (inl (keeps v.block v.block refl refl)))
   named_checked Drops v bytes = stays_named v
   named_checked Draws v bytes = draws_named v
@@ -365,7 +380,7 @@ module _ (cx : ContextValue) (ip : IpRepr) (header : TcpHeader) where
   renamed_received : (v : TcpValue) (bytes : List ℕ) → Renamed v.block (received cx v ip header bytes)
   renamed_received v bytes =
       cond_both (is_rst header.control) (reset_comes cx v ip header (length bytes))
-      (if challenges_syn v.block header then drawn cx v ip header else checked (acknowledgement_check v.block header.ack_number) cx v ip header bytes)
+      (if draws_first v.block header cx.moment then drawn cx v ip header else checked (acknowledgement_check v.block header.ack_number) cx v ip header bytes)
       (λ (a : Arrived). Renamed v.block a)
       (λ _.
       cond_both (takes_reset v.block header) (dropped (taken_down v)) (if challenges_reset v header (length bytes) then drawn cx v ip header else dropped v)
@@ -376,7 +391,7 @@ module _ (cx : ContextValue) (ip : IpRepr) (header : TcpHeader) where
       (λ _. renamed_by v.block (drawn cx v ip header) (draws_named v))
       (λ _. renamed_by v.block (dropped v) (stays_named v))))
       (λ _.
-      cond_both (challenges_syn v.block header) (drawn cx v ip header) (checked (acknowledgement_check v.block header.ack_number) cx v ip header bytes)
+      cond_both (draws_first v.block header cx.moment) (drawn cx v ip header) (checked (acknowledgement_check v.block header.ack_number) cx v ip header bytes)
       (λ (a : Arrived). Renamed v.block a)
       (λ _. renamed_by v.block (drawn cx v ip header) (draws_named v))
       (λ _.
@@ -385,8 +400,8 @@ module _ (cx : ContextValue) (ip : IpRepr) (header : TcpHeader) where
 
   renamed_opens : (v : TcpValue) → v.block.state ≡ In.Listen → Renamed v.block (opens cx v ip header)
   renamed_opens v at =
-      let answers : TcpValue = with_block v (timeout_restarted (answering v.block ip header (word (next_random cx).random)) cx.moment 0) in
-      cond_both (is_first_syn header) (record { socket = answers; answer = None; draws = true }) (dropped v) (λ (a : Arrived). Renamed v.block a)
+      let answers : TcpValue = with_block v (timeout_restarted (believed (answering v.block ip header (first_number cx (pair_in ip header))) cx.moment) cx.moment 0) in
+      cond_both (is_first_syn header) (record { socket = answers; answer = None; draws = draws_number cx }) (dropped v) (λ (a : Arrived). Renamed v.block a)
       (λ first. (inl (record { listening = ap is_listening at; opening = first; state = refl; names = refl }), λ reply none. absurd (cc)))
       (λ _. renamed_by v.block (dropped v) (named_dropped v.block v (inl (keeps v.block v.block refl refl))))
 
@@ -644,10 +659,14 @@ module _ (cx : ContextValue) (pair : EndpointPair) where
       (λ (o : Offered TcpValue). Directed v.block o)
       (λ _. directed_end v)
       (λ _.
-      cond_both (is_due cx.moment v.block.timers.retransmit_at) (backed_off_now started) started
+      cond_both (is_due cx.moment v.block.timers.retransmit_at) (backed_off_now started) (loss_probed_by cx.moment started)
       (λ (b : Block). Directed v.block (first_rules cx (with_block (unoffered v) b) pair))
       (λ _. directed_first v v.block (backed_off_now started) (keeps v.block (backed_off_now started) refl refl))
-      (λ _. directed_first v v.block started (keeps v.block started refl refl))))))
+      (λ _.
+      cond_both (is_due cx.moment (loss_probe_moment started)) (loss_probed started) started
+      (λ (b : Block). Directed v.block (first_rules cx (with_block (unoffered v) b) pair))
+      (λ _. directed_first v v.block (loss_probed started) (keeps v.block (loss_probed started) refl refl))
+      (λ _. directed_first v v.block started (keeps v.block started refl refl)))))))
 
 -- a socket without a remote endpoint offers nothing
 abbrev Goes : TcpValue → Offered TcpValue → Type 0
@@ -793,3 +812,5 @@ nameless_drops cx v ip header bytes n =
 
 pub nameless_silent : (cx : ContextValue) (v : TcpValue) → IsNameless v.block → offer_of cx v ≡ offered_as (Answer.Silent false) (unoffered v)
 nameless_silent cx v n = ap (λ (names : Option EndpointPair). offer_with names cx (unoffered v)) n.pair
+
+pub ruleset port_laws = (ports_listening, ports_connecting, ports_same, ports_close, ports_abort, ports_arrival, ports_sent, ports_withheld)

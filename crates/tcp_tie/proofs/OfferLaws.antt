@@ -1,5 +1,5 @@
 -- Each offer, with its settling, keeps the invariant.
-use Rattle.std.proofs.Common.{◌≡◌, ◌⊎◌, inl, inr, ℕ, zero, suc, ◌+◌, ◌-◌, ◌/◌, ◌%◌, ◌^◌, ◌<◌, ◌≤◌, nat_lt, nat_le, min, max, not, ◌==◌, ◌&&◌, ℤ, Bool, true}
+use Rattle.std.proofs.Common.{◌≡◌, ◌⊎◌, inl, inr, ℕ, zero, suc, ◌+◌, ◌-◌, ◌/◌, ◌%◌, ◌^◌, ◌<◌, ◌≤◌, nat_lt, nat_le, min, max, not, ◌==◌, ◌&&◌, ◌||◌, ℤ, Bool, true}
 use Rattle.std.proofs.Common.{false, if◌then◌else◌, [], Option, Some, None, length, take, drop, refl, sym, ap, ◌∙◌, subst, arith}
 use Rattle.std.proofs.lemmas.Bool.{and_parts, cond_both, eqb-true}
 use Rattle.std.proofs.lemmas.Bool.Decides.{nat_tests}
@@ -34,7 +34,9 @@ use Rattle.tcp_model.specs.Probing.{probe_started, probe_moment, is_probing, is_
 use Rattle.tcp_model.specs.Retries.{asked, one_more, gives_up, given_up}
 use Rattle.tcp_model.specs.Rules.{Choice, time_wait_end, owes_syn, resends, ack_moment, has_text, text_choice, resend_choice, probe_choice, control_for}
 use Rattle.tcp_model.specs.Rules.{updates_window, keep_alive_moment, backed_off_now, fin_goes, next_place, size_limit, window_limit, congestion_limit, unbroken}
-use Rattle.tcp_model.specs.Rules.{is_sendable, beyond, sent_places}
+use Rattle.tcp_model.specs.LossRecovery.{fills_hole, hole_len, loss_probe_moment, loss_probed, loss_probed_by}
+use Rattle.tcp_model.specs.Rules.{is_sendable, congestion_room, sent_places}
+use Rattle.tcp_model.proofs.Holes.{again_within}
 use Rattle.tcp_model.specs.Segments.{segment, reset_segment, keep_alive_segment, hops_of}
 use Rattle.tcp_model.specs.Settled.{settled, recorded, probed, end_of}
 use Rattle.tcp_model.specs.States.{is_closed, is_answering, owes_fin, sends_syn, sends_text, takes_text, keeps_alive}
@@ -147,7 +149,7 @@ limited_by Congestion.None cwnd window size = omega arith
 limited_by Congestion.Reno cwnd window size = omega arith
 
 limited : (b : Block) (size : ℕ) → window_limit b size ≤ size
-limited b size = limited_by b.settings.congestion_control (b.reno.cwnd + beyond b - b.sender.in_flight) (b.peer.window - b.sender.in_flight) size
+limited b size = limited_by b.settings.congestion_control (congestion_room b) (b.peer.window - b.sender.in_flight) size
 
 left_over : (place len queue limit storage : ℕ) → place ≤ queue → len ≤ min limit (min (queue - place) storage) → place + len ≤ queue
 left_over place len queue limit storage inside low = omega arith
@@ -189,18 +191,21 @@ text_part b pair mtu queued e =
 
 resend_part : (b : Block) (pair : EndpointPair) (mtu : ℕ) (queued : Ring ℕ) → resends b ≡ true →
     IsPart b (length queued.queue) (resend_choice b pair.addresses mtu queued)
-resend_part b pair mtu queued e = record {
-  sends = (and_parts (sends_text b.state) b.sender.resend e).0;
-  within = omega arith;
-  fits = omega arith;
-  last = λ fin.
-      let len = (resend_choice b pair.addresses mtu queued).len in
-      let at_end = fin_place b (length queued.queue) len (and_parts (fin_goes b (length queued.queue) len) (nat_lt len (sent_places b)) fin).0 in
-      (at_end.0, from_start len (length queued.queue) at_end.1);
-}
+resend_part b pair mtu queued e =
+    let place = (resend_choice b pair.addresses mtu queued).place in
+    let len = (resend_choice b pair.addresses mtu queued).len in
+    let inside : place ≤ length queued.queue = again_within b (size_limit b pair.addresses mtu) (sent_places b) (length queued.queue) in
+    record {
+      sends = (and_parts (sends_text b.state) (b.sender.resend || (b.loss.probes || fills_hole b)) e).0;
+      within = inside;
+      fits = held_in place (hole_len b place (sent_places b)) (length queued.queue) (size_limit b pair.addresses mtu) (until_end queued place) inside;
+      last = λ fin.
+          fin_place b (length queued.queue) (place + len)
+          (and_parts (fin_goes b (length queued.queue) (place + len)) (nat_lt (place + len) (sent_places b)) fin).0;
+    }
   where
-    from_start : (len queue : ℕ) → len ≡ queue → 0 + len ≡ queue
-    from_start len queue e = omega arith
+    held_in : (place hole queue limit storage : ℕ) → place ≤ queue → place + min hole (min limit (min (queue - place) storage)) ≤ queue
+    held_in place hole queue limit storage inside = omega arith
 
 probes : (b : Block) (queued : ℕ) (now : ℤ) → is_due now (probe_moment b queued) ≡ true → is_probing b queued ≡ true
 probes b queued now e = by (is_probing b queued) refl e where
@@ -429,12 +434,15 @@ module _ (cx : ContextValue) (v : TcpValue) (pair : EndpointPair) (p : Past) (t 
         r,
       )
 
-  -- the retransmission timer changes nothing that the tie reads
+  -- the retransmission timer and a loss probe change nothing that the tie reads
   abbrev IsRunning : Block → Type 0
   IsRunning b = (b.names.pair ≡ Some pair) × (is_closed b.state ≡ false) × Tied (core_of (plain v b)) p t
 
   backs_off : (b : Block) → IsRunning b → IsRunning (backed_off cx.moment b)
-  backs_off b k = cond_both (is_due cx.moment b.timers.retransmit_at) (backed_off_now b) b (λ (b : Block). IsRunning b) (λ _. (k.0, k.1, k.2)) (λ _. k)
+  backs_off b k =
+      cond_both (is_due cx.moment b.timers.retransmit_at) (backed_off_now b) (loss_probed_by cx.moment b) (λ (b : Block). IsRunning b)
+      (λ _. (k.0, k.1, k.2))
+      (λ _. cond_both (is_due cx.moment (loss_probe_moment b)) (loss_probed b) b (λ (b : Block). IsRunning b) (λ _. (k.0, k.1, k.2)) (λ _. k))
 
   led_between : v.block.names.pair ≡ Some pair → Tied (core_of v) p t → LedOffer p t (offer_between cx (unoffered v) pair)
   led_between named r =

@@ -8,8 +8,7 @@ use Rattle.ip_wire.specs.SeqNumber.{SeqNumber}
 use Rattle.ip_wire.specs.TcpControl.{TcpControl}
 use Rattle.ip_wire.specs.TcpControl.TheVariants as Bits
 use Rattle.ip_wire.specs.TcpHeader.{TcpHeader}
-use Rattle.net_base.specs.RandomWords.{word}
-use Rattle.socket_base.specs.Context.{ContextValue, next_random}
+use Rattle.socket_base.specs.Context.{ContextValue}
 use Rattle.tcp_law.specs.Invariant.{HoldsBetween}
 use Rattle.tcp_law.specs.Move.{after, Comes, listening}
 use Rattle.tcp_law.specs.Move.Move.{TakesSyn, TakesSynAck, TakesCrossedSyn, FallsBack}
@@ -36,6 +35,9 @@ use Rattle.tcp_model.specs.Segments.{rst_reply}
 use Rattle.tcp_model.specs.States.{is_answering}
 use Rattle.tcp_model.specs.Timeout.{timeout_restarted}
 use Rattle.tcp_model.specs.Value.{TcpValue, Arrived, with_block, dropped, answered_with, ended, queued_in, room_of}
+use Rattle.tcp_model.specs.FirstNumbers.{first_number, draws_number}
+use Rattle.tcp_model.specs.Timestamps.{believed}
+use Rattle.tcp_model.proofs.Numbers.{number_small}
 use Rattle.tcp_tie.specs.Tie.{Core, Past, past_of, unsent, phase_of, FitsIn, IsConnectedAs, IsListening, IsAsking, core_of, segment_of, control_of, ack_of}
 use Rattle.tcp_tie.proofs.Tied.{Tied, tied_by, fits_connected, is_connected, no_stream}
 use Rattle.tcp_tie.proofs.CallMoves.{front-space, wire_first, blank, listening_core, length-space}
@@ -97,9 +99,6 @@ no_number_of : (ack : Option SeqNumber) → is_some ack ≡ false → ack_of ack
 no_number_of None e = refl
 no_number_of (Some n) e = absurd (cc)
 
-word_small : (s : ℕ) → word s < 2 ^ 32
-word_small s = omega arith
-
 listening_state : (v : TcpValue) (p : Past) (t : Side) → v.block.state ≡ In.Listen → (r : Tied (core_of v) p t) → IsListening (core_of v) (unsent r.side)
 listening_state v p t e r = subst (λ (state : State). FitsIn state (core_of v) (unsent r.side)) e r.fits
 
@@ -109,16 +108,16 @@ pub led_opens :
 led_opens cx v ip header bytes p t comes e r =
     cond_both (is_first_syn header)
     (record {
-      socket = with_block v (timeout_restarted (answering v.block ip header (word (next_random cx).random)) cx.moment 0);
+      socket = with_block v (timeout_restarted (believed (answering v.block ip header (first_number cx (pair_in ip header))) cx.moment) cx.moment 0);
       answer = None;
-      draws = true;
+      draws = draws_number cx;
     })
     (dropped v) (λ (a : Arrived). Led p t a)
     (λ first.
     let tests = and_parts (is_syn header.control) (not (is_some header.ack_number)) first in
-    subst (λ (p : Past). Tied (answering_core (core_of v) (pair_in ip header) (word (next_random cx).random) header.seq_number.0) p t) r.past
-    (takes_syn (core_of v) r.side t (segment_of header bytes) (word (next_random cx).random) (pair_in ip header) comes (syn_control header.control tests.0)
-    (no_number_of header.ack_number (not-true (is_some header.ack_number) tests.1)) (word_small (next_random cx).random) (listening_state v p t e r) r.holds))
+    subst (λ (p : Past). Tied (answering_core (core_of v) (pair_in ip header) (first_number cx (pair_in ip header)) header.seq_number.0) p t) r.past
+    (takes_syn (core_of v) r.side t (segment_of header bytes) (first_number cx (pair_in ip header)) (pair_in ip header) comes (syn_control header.control tests.0)
+    (no_number_of header.ack_number (not-true (is_some header.ack_number) tests.1)) (number_small cx (pair_in ip header)) (listening_state v p t e r) r.holds))
     (λ _. r)
 
 -- SYN-SENT

@@ -154,3 +154,5 @@ pub alone_nothing : (v : TcpValue) (p : Past) → KeepsAlone v p → HasTakenNot
 alone_nothing v p k =
     subst (λ (p : Past). HasTakenNothing v p) k.past
     (nothing_shown v k.side (alone.HasNothing-unopened k.side (fresh 0) k.holds.0 k.holds.1 refl) (shows (core_of v) k.side (fresh 0) k.holds k.fits))
+
+pub ruleset partner_promises = (alone_fresh, partner_comes, partner_goes, alone_nothing)

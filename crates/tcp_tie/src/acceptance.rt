@@ -13,7 +13,7 @@ ghost use Rattle.tcp_model.specs.Arrival.{arrives};
 ghost use Rattle.tcp_model.specs.Checks.{is_in_window};
 ghost use Rattle.tcp_model.specs.Controls.{is_rst};
 ghost use Rattle.tcp_model.specs.Endpoints.{ip_header_len};
-ghost use Rattle.tcp_model.specs.Rules.{text_choice, resend_choice, stamp_len, beyond};
+ghost use Rattle.tcp_model.specs.Rules.{text_choice, resend_choice, stamp_len, congestion_room};
 ghost use Rattle.tcp_model.specs.Segments.{segment_len};
 ghost use Rattle.tcp_model.specs.Value.{TcpValue};
 ghost use Rattle.tcp_tie.specs.Acceptance.{Meets, reset_counts, IsIgnored};
@@ -35,16 +35,16 @@ pub fn other_resets_are_ignored()
         → IsIgnored cx v ip header (arrives cx v ip header bytes) }
 {}
 
-/// Text keeps to the remote's window and to the congestion window, with what limited transmit adds to it; it and what goes again keep to the remote's largest
-/// payload less the
-/// options that the segment carries, and to the longest packet where that holds the headers, but a byte always fits.
-#[tactic(auto, using(crate::proofs::AcceptLaws::text_in_window, crate::proofs::AcceptLaws::text_in_congestion, crate::proofs::AcceptLaws::text_in_mss, crate::proofs::AcceptLaws::text_in_packet, crate::proofs::AcceptLaws::again_in_mss, crate::proofs::AcceptLaws::again_in_packet))]
+/// Text keeps to the remote's window and to what the congestion window leaves beside what is on its way; it and what goes again keep to the
+/// remote's largest payload less the options that the segment carries, and to the longest packet where that holds the headers, but a byte
+/// always fits.
+#[tactic(auto, using(crate::proofs::AcceptLaws::text_fits))]
 pub fn text_keeps_to_the_limits()
     ensures remote { (b : Block) (addresses : AddressPair) (mtu : ℕ) (queued : Ring ℕ)
         → (text_choice b addresses mtu queued).len ≤ b.peer.window - b.sender.in_flight }
     ensures congestion { (b : Block) (addresses : AddressPair) (mtu : ℕ) (queued : Ring ℕ)
         → b.settings.congestion_control ≡ Congestion.Reno
-        → (text_choice b addresses mtu queued).len ≤ b.reno.cwnd + beyond b - b.sender.in_flight }
+        → (text_choice b addresses mtu queued).len ≤ congestion_room b }
     ensures payload { (b : Block) (addresses : AddressPair) (mtu : ℕ) (queued : Ring ℕ)
         → (text_choice b addresses mtu queued).len ≤ max 1 (b.peer.mss - stamp_len b) }
     ensures packet { (b : Block) (addresses : AddressPair) (mtu : ℕ) (queued : Ring ℕ)

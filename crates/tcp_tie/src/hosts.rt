@@ -31,7 +31,7 @@ pub fn segments_of_a_host()
 
 /// A segment that the partner's host made, from the partner's port to the socket's, comes; the socket is asked for a segment, which goes
 /// from its port; the host makes any reset, or a segment from another port.
-#[tactic(auto, using(crate::proofs::HostLaws::keeps_hosted_arrival, crate::proofs::HostLaws::keeps_hosted_offer, crate::proofs::HostLaws::keeps_made_reset, crate::proofs::HostLaws::keeps_made_elsewhere))]
+#[tactic(auto, using(crate::proofs::HostLaws::hosted))]
 pub fn hosts_keep_the_invariant()
     ensures arrival { (cx : ContextValue) (v w : TcpValue) (p q : Past) (ip : IpRepr) (header : TcpHeader) (bytes : List ℕ)
         (made theirs : List Made) → Keeps v (past_at header.dst_port made p) w (past_at header.src_port theirs q)

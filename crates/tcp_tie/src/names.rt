@@ -74,7 +74,7 @@ pub fn hosts_answer_by_resets()
 {}
 
 /// So the ports that a socket was opened with are those of all that names it, whatever comes.
-#[tactic(auto, using(crate::proofs::NameLaws::ports_listening, crate::proofs::NameLaws::ports_connecting, crate::proofs::NameLaws::ports_same, crate::proofs::NameLaws::ports_close, crate::proofs::NameLaws::ports_abort, crate::proofs::NameLaws::ports_arrival, crate::proofs::NameLaws::ports_sent, crate::proofs::NameLaws::ports_withheld))]
+#[tactic(auto, using(crate::proofs::NameLaws::port_laws))]
 pub fn ports_stay()
     ensures listens { (v : TcpValue) (endpoint : IpListenEndpoint)
         → HasPorts (record { local = endpoint.port; remote = None }) (listening v endpoint).block }

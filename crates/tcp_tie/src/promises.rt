@@ -34,7 +34,7 @@ pub fn resets_keep_the_invariant()
 {}
 
 /// A socket without a partner has taken nothing; it can get any partner that isn't opened yet, and lose it again.
-#[tactic(auto, using(crate::proofs::PromiseLemmas::alone_fresh, crate::proofs::PromiseLemmas::partner_comes, crate::proofs::PromiseLemmas::partner_goes, crate::proofs::PromiseLemmas::alone_nothing))]
+#[tactic(auto, using(crate::proofs::PromiseLemmas::partner_promises))]
 pub fn a_socket_may_be_alone()
     ensures fresh { (v : TcpValue) (resets : List Segment) → IsFresh v → AreResets resets
         → KeepsAlone v (no_past resets) }

@@ -39,7 +39,7 @@ not_below a b is = grind (arith)
 
 -- at a moment of the stack an interface is refused for a hardware address that is no station's alone
 pub refusal_is : (hardware : HardwareAddress) (seed : ℕ) (moment : ℤ) → IsMoment moment
-    → refusal (record { random_seed = seed; hardware_addr = hardware }) (capabilities_of hardware) moment ≡
+    → refusal (record { random_seed = seed; hardware_addr = hardware; isn_key = None }) (capabilities_of hardware) moment ≡
     (if is_station hardware then None else Some New.NotUnicast)
 refusal_is Hardware.Ip seed moment is = rw (not_below moment (pos 0) is.0, not_below (pos last_moment) moment is.1) refl
 refusal_is (Hardware.Ethernet a) seed moment is = rw (not_below moment (pos 0) is.0, not_below (pos last_moment) moment is.1) refl

@@ -36,6 +36,9 @@ abbrev pub counts_of : DrainValue → Tally → Counts
 counts_of d t = record {
   received = d.received;
   too_long = d.dropped;
+  unknown = d.faults.unknown;
+  header = d.faults.header;
+  checksum = d.faults.checksum;
   resets_received = d.resets_received;
   sent = d.emitted;
   resets_sent = d.resets_sent;

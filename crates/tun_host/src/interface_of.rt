@@ -93,6 +93,7 @@ fn fresh(
     let config = Config {
         random_seed: settings.seed,
         hardware_addr: settings.hardware,
+        isn_key: None,
     };
     match Interface::new(alloc, &config, drain, now) {
         Ok(interface) => Ok(interface),

@@ -46,9 +46,13 @@ impl Tally {
     pub fn counts(&self, device: &Drain) -> Counts
         ensures { result ≡ counts_of device.now self.now }
     {
+        let faults = device.faults();
         Counts {
             received: device.received(),
             too_long: device.dropped(),
+            unknown: faults.unknown,
+            header: faults.header,
+            checksum: faults.checksum,
             resets_received: device.resets_received(),
             sent: device.sent(),
             resets_sent: device.resets_sent(),

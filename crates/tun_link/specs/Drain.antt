@@ -4,14 +4,17 @@ use Rattle.net_base.specs.Device.{Move, Took, Empty, Allowed, Emitted, Denied, g
 use Rattle.net_base.specs.DeviceCapabilities.{DeviceCapabilities}
 use Rattle.tun_link.specs.Answer.{packet_bytes}
 use Rattle.tun_link.specs.Reset.{is_reset}
+use Rattle.tun_link.specs.Fault.{fault_of, with_fault, no_faults}
+use Rattle.tun_link.specs.declared.fault.Faults.{Faults}
 
--- the packet of the turn while it wasn't taken; how many came, how many of them were resets of TCP, and how many were dropped for their
--- length; the bytes of what was sent since the last answer; how many packets went, and how many of them were resets; how many packets
+-- the packet of the turn while it wasn't taken; how many came, how many of them were resets of TCP, how many had a fault, and how many
+-- were dropped for their length; the bytes of what was sent since the last answer; how many packets went, and how many of them were resets; how many packets
 -- were refused; and what the device says of itself
 pub record DrainValue : Type 0 where
   pub waiting : Option (List ℕ)
   pub received : ℕ
   pub resets_received : ℕ
+  pub faults : Faults
   pub dropped : ℕ
   pub sent : List ℕ
   pub emitted : ℕ
@@ -36,6 +39,7 @@ abbrev pub received : List ℕ → DrainValue → DrainValue
 received packet d = record d {
   received = one_more_if (not (length packet == 0)) d.received;
   resets_received = one_more_if (is_reset d.capabilities.medium packet) d.resets_received;
+  faults = if length packet == 0 then d.faults else with_fault (fault_of d.capabilities.medium packet) d.faults;
 }
 
 -- A turn's packet comes, in place of one that wasn't taken. One that is longer than the link takes is dropped, and they are counted to
@@ -63,6 +67,7 @@ fresh_drain capabilities = record {
   waiting = None;
   received = 0;
   resets_received = 0;
+  faults = no_faults;
   dropped = 0;
   sent = [];
   emitted = 0;

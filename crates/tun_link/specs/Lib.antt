@@ -1,4 +1,5 @@
 pub mod Turn
 pub mod Answer
 pub mod Reset
+pub mod Fault
 pub mod Drain

@@ -3,6 +3,7 @@ ghost use Rattle.std.specs.Prelude.{◌≡◌, ◌+◌, ◌^◌, ◌<◌, ◌≤
 ghost use Rattle.tun_link.specs.Answer.{packet_bytes};
 ghost use Rattle.tun_link.specs.Drain.{brought, received, fresh_drain, one_more_if};
 
+use crate::fault::{Faults, fault_of};
 use crate::reset::is_reset;
 use net_base::{Device, DeviceCapabilities, Instant, OwnedRxToken, SendRefused, TxToken};
 use std::alloc::Global;
@@ -24,6 +25,7 @@ pub struct Drain {
     packet: Option<Vec<u8>>,
     received: u64,
     resets_received: u64,
+    faults: Faults,
     dropped: u64,
     sent: u64,
     resets_sent: u64,
@@ -43,6 +45,7 @@ impl Model for Drain {
       waiting = option_map (λ packet. packet.items) d.packet;
       received = d.received;
       resets_received = d.resets_received;
+      faults = d.faults;
       dropped = d.dropped;
       sent = d.answer.items;
       emitted = d.sent;
@@ -67,6 +70,7 @@ impl Drain {
             packet: None,
             received: 0,
             resets_received: 0,
+            faults: Faults::NONE,
             dropped: 0,
             sent: 0,
             resets_sent: 0,
@@ -102,6 +106,9 @@ impl Drain {
         let resets = is_reset(self.described.medium, packet);
         self.received = one_more_if(!packet.is_empty(), self.received);
         self.resets_received = one_more_if(resets, self.resets_received);
+        if !packet.is_empty() {
+            self.faults.count(fault_of(self.described.medium, packet));
+        }
     }
 
     /// How many packets came.
@@ -116,6 +123,13 @@ impl Drain {
         ensures { result ≡ self.now.resets_received }
     {
         self.resets_received
+    }
+
+    /// How many of them had a fault, by its kind.
+    pub fn faults(&self) -> Faults
+        ensures { result ≡ self.now.faults }
+    {
+        self.faults
     }
 
     /// How many packets went.

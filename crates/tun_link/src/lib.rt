@@ -4,9 +4,11 @@
 
 mod answer;
 mod drain;
+mod fault;
 mod reset;
 mod turn;
 
 pub use answer::write_answer;
 pub use drain::{Drain, DrainTxToken};
+pub use fault::{Fault, Faults};
 pub use turn::{HEAD_LEN, TurnError, read_turn};

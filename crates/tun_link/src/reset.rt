@@ -1,19 +1,20 @@
 //! Frames that carry a reset of TCP.
-ghost use Rattle.std.specs.Prelude.{◌≡◌, slice_index};
+ghost use Rattle.std.specs.Prelude.{◌≡◌, ◌≤◌, slice_index};
 ghost use Rattle.tun_link.specs.Reset.{is_reset, head_len, has_rst};
 
 use net_base::Medium;
 
 /// The byte at a place, 0 past the end.
-fn byte_at(bytes: &[u8], at: usize) -> u8
+pub(crate) fn byte_at(bytes: &[u8], at: usize) -> u8
     ensures { result ≡ slice_index bytes.now at }
 {
     if at < bytes.len() { bytes[at] } else { 0 }
 }
 
 /// How many bytes stand before a packet on a link.
-fn head_len(medium: Medium) -> usize
-    ensures { result ≡ head_len medium }
+pub(crate) fn head_len(medium: Medium) -> usize
+    ensures len { result ≡ head_len medium }
+    ensures small { result ≤ 14 }
 {
     match medium {
         Medium::Ethernet => 14,

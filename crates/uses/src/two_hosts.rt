@@ -32,6 +32,7 @@ fn interface(alloc: Global, n: u8, port: &Port) -> Result<Interface> {
     let config = Config {
         random_seed: n as u64,
         hardware_addr: HardwareAddress::Ip,
+        isn_key: None,
     };
     let mut interface = Interface::new(alloc, &config, port, Instant::ZERO).map_err(|_| anyhow!(
         "no interface"

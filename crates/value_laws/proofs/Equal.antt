@@ -1,11 +1,11 @@
 -- When what a TCP socket goes by is equal.
-use Rattle.std.proofs.Common.{rules, ◌≡◌, ℕ, ℤ, Bool, List, Option, ap, ap₂}
+use Rattle.std.proofs.Common.{rules, ◌≡◌, ℕ, ℤ, Bool, List, Option, refl, ap, ap₂}
 use Rattle.std.specs.Prelude.{◌==◌}
 use Rattle.std.specs.Ordering.{int_eq}
 use Rattle.std.specs.Bool.{Decides}
 use Rattle.std.specs.Cmp.{booleans_Decides}
 use Rattle.std.proofs.lemmas.Bool.Decides.{Decides-and, Decides-eqb, Decides-int_eq}
-use Rattle.std.proofs.lemmas.Slice.Eq.{bytes_eq-Decides}
+use Rattle.std.proofs.lemmas.Slice.Eq.{bytes_eq-Decides, slice_eq-Decides}
 use Rattle.ip_packet.proofs.Equal.{Decides-ip}
 use Rattle.ip_tcp.proofs.Equal.{both, Decides-header, Decides-number, Decides-option}
 use Rattle.ip_address.specs.contracts.ip.IpAddressPartialEq.TheImpl as Address
@@ -24,6 +24,8 @@ use Rattle.tcp_control.specs.contracts.reno.RenoPartialEq.TheImpl as Window
 use Rattle.tcp_control.specs.contracts.round_trip.EstimatePartialEq.TheImpl as Estimated
 use Rattle.tcp_control.specs.contracts.round_trip.RoundTripPartialEq.TheImpl as Trip
 use Rattle.tcp_control.specs.contracts.round_trip.SamplePartialEq.TheImpl as Sampled
+use Rattle.tcp_control.specs.contracts.scoreboard.RunPartialEq.TheImpl as Ran
+use Rattle.tcp_control.specs.contracts.scoreboard.ScoreboardPartialEq.TheImpl as Board
 use Rattle.tcp_control.specs.contracts.state.StatePartialEq.TheImpl as States
 use Rattle.tcp_control.specs.declared.endpoints.AddressPair.{AddressPair}
 use Rattle.tcp_control.specs.declared.endpoints.AddressPair.TheVariants as Both
@@ -33,26 +35,32 @@ use Rattle.tcp_control.specs.declared.offer.OpenOffer.{OpenOffer}
 use Rattle.tcp_control.specs.declared.offer.Reply.{Reply}
 use Rattle.tcp_control.specs.declared.round_trip.Estimate.{Estimate}
 use Rattle.tcp_control.specs.declared.round_trip.Sample.{Sample}
+use Rattle.tcp_control.specs.declared.scoreboard.Run.{Run}
+use Rattle.tcp_control.specs.declared.scoreboard.Scoreboard.{Scoreboard}
 use Rattle.tcp_control.specs.declared.state.State.{State}
 use Rattle.tcp_control.specs.Reno.{RenoValue}
 use Rattle.tcp_control.specs.RoundTrip.{RoundTripValue}
 use Rattle.tcp_model.specs.contracts.block.BlockPartialEq.TheImpl as Blocks
 use Rattle.tcp_model.specs.contracts.block.CongestionControlPartialEq.TheImpl as Congestion
+use Rattle.tcp_model.specs.contracts.block.LossPartialEq.TheImpl as Lost
 use Rattle.tcp_model.specs.contracts.block.NamesPartialEq.TheImpl as Named
 use Rattle.tcp_model.specs.contracts.block.PeerPartialEq.TheImpl as Remote
 use Rattle.tcp_model.specs.contracts.block.ReceiverPartialEq.TheImpl as Receiving
 use Rattle.tcp_model.specs.contracts.block.SenderPartialEq.TheImpl as Sending
 use Rattle.tcp_model.specs.contracts.block.SettingsPartialEq.TheImpl as Set
+use Rattle.tcp_model.specs.contracts.block.StampsPartialEq.TheImpl as Stamped
 use Rattle.tcp_model.specs.contracts.block.TimersPartialEq.TheImpl as Timed
 use Rattle.tcp_model.specs.contracts.block.checks.VerdictPartialEq.TheImpl as Judged
 use Rattle.tcp_model.specs.contracts.block.rules.PartPartialEq.TheImpl as Parted
 use Rattle.tcp_model.specs.declared.block.Block.{Block}
 use Rattle.tcp_model.specs.declared.block.CongestionControl.{CongestionControl}
+use Rattle.tcp_model.specs.declared.block.Loss.{Loss}
 use Rattle.tcp_model.specs.declared.block.Names.{Names}
 use Rattle.tcp_model.specs.declared.block.Peer.{Peer}
 use Rattle.tcp_model.specs.declared.block.Receiver.{Receiver}
 use Rattle.tcp_model.specs.declared.block.Sender.{Sender}
 use Rattle.tcp_model.specs.declared.block.Settings.{Settings}
+use Rattle.tcp_model.specs.declared.block.Stamps.{Stamps}
 use Rattle.tcp_model.specs.declared.block.Timers.{Timers}
 use Rattle.tcp_model.specs.declared.block.checks.Verdict.{Verdict}
 use Rattle.tcp_model.specs.declared.block.rules.Part.{Part}
@@ -196,8 +204,7 @@ Decides-names a b =
 
 pub Decides-sender : (a b : Sender) → Decides (Sending.ghosts.eq a b) (a ≡ b)
 Decides-sender a b =
-    let from_stamped = Decides-and _ _ (booleans_Decides a.stamped b.stamped) (booleans_Decides a.reset_due b.reset_due) in
-    let from_unanswered = Decides-and _ _ (Decides-eqb a.unanswered b.unanswered) (from_stamped) in
+    let from_unanswered = Decides-and _ _ (Decides-eqb a.unanswered b.unanswered) (booleans_Decides a.reset_due b.reset_due) in
     let from_timeouts = Decides-and _ _ (Decides-eqb a.timeouts b.timeouts) (from_unanswered) in
     let from_syn_lost = Decides-and _ _ (booleans_Decides a.syn_lost b.syn_lost) (from_timeouts) in
     let from_partial = Decides-and _ _ (booleans_Decides a.partial b.partial) (from_syn_lost) in
@@ -218,19 +225,15 @@ Decides-sender a b =
             syn_unacked = parts.1.1.0 i;
             in_flight = parts.1.1.1.0 i;
             top = parts.1.1.1.1.0 i;
-            duplicates =
-                parts.1.1.1.1.1.0 i;
+            duplicates = parts.1.1.1.1.1.0 i;
             sacked = parts.1.1.1.1.1.1.0 i;
             resend = parts.1.1.1.1.1.1.1.0 i;
             recover = parts.1.1.1.1.1.1.1.1.0 i;
-            partial =
-                parts.1.1.1.1.1.1.1.1.1.0 i;
+            partial = parts.1.1.1.1.1.1.1.1.1.0 i;
             syn_lost = parts.1.1.1.1.1.1.1.1.1.1.0 i;
             timeouts = parts.1.1.1.1.1.1.1.1.1.1.1.0 i;
-            unanswered =
-                parts.1.1.1.1.1.1.1.1.1.1.1.1.0 i;
-            stamped = parts.1.1.1.1.1.1.1.1.1.1.1.1.1.0 i;
-            reset_due = parts.1.1.1.1.1.1.1.1.1.1.1.1.1.1 i;
+            unanswered = parts.1.1.1.1.1.1.1.1.1.1.1.1.0 i;
+            reset_due = parts.1.1.1.1.1.1.1.1.1.1.1.1.1 i;
           },
       λ e. all.1 (both (ap (λ (v : Sender). v.una) e)
           (both (ap (λ (v : Sender). v.past_iss) e)
@@ -244,21 +247,33 @@ Decides-sender a b =
           (both (ap (λ (v : Sender). v.partial) e)
           (both (ap (λ (v : Sender). v.syn_lost) e)
           (both (ap (λ (v : Sender). v.timeouts) e)
-          (both (ap (λ (v : Sender). v.unanswered) e) (both (ap (λ (v : Sender). v.stamped) e) (ap (λ (v : Sender). v.reset_due) e))))))))))))))),
+          (both (ap (λ (v : Sender). v.unanswered) e)
+          (ap (λ (v : Sender). v.reset_due) e)))))))))))))),
     )
 
 pub Decides-receiver : (a b : Receiver) → Decides (Receiving.ghosts.eq a b) (a ≡ b)
 Decides-receiver a b =
-    let from_edge = Decides-and _ _ (Decides-eqb a.edge b.edge) (Decides-eqb a.mss b.mss) in
+    let from_mss = Decides-and _ _ (Decides-eqb a.mss b.mss) (Decides-number a.last_ack b.last_ack) in
+    let from_edge = Decides-and _ _ (Decides-eqb a.edge b.edge) (from_mss) in
     let from_took_fin = Decides-and _ _ (booleans_Decides a.took_fin b.took_fin) (from_edge) in
     let from_took_syn = Decides-and _ _ (booleans_Decides a.took_syn b.took_syn) (from_took_fin) in
     let all = Decides-and _ _ (Decides-number a.next b.next) (from_took_syn) in (
       λ yes.
           let parts = all.0 yes in
-          λ i. record { next = parts.0 i; took_syn = parts.1.0 i; took_fin = parts.1.1.0 i; edge = parts.1.1.1.0 i; mss = parts.1.1.1.1 i },
+          λ i. record {
+            next = parts.0 i;
+            took_syn = parts.1.0 i;
+            took_fin = parts.1.1.0 i;
+            edge = parts.1.1.1.0 i;
+            mss = parts.1.1.1.1.0 i;
+            last_ack = parts.1.1.1.1.1 i;
+          },
       λ e. all.1 (both (ap (λ (v : Receiver). v.next) e)
           (both (ap (λ (v : Receiver). v.took_syn) e)
-          (both (ap (λ (v : Receiver). v.took_fin) e) (both (ap (λ (v : Receiver). v.edge) e) (ap (λ (v : Receiver). v.mss) e))))),
+          (both (ap (λ (v : Receiver). v.took_fin) e)
+          (both (ap (λ (v : Receiver). v.edge) e)
+          (both (ap (λ (v : Receiver). v.mss) e)
+          (ap (λ (v : Receiver). v.last_ack) e)))))),
     )
 
 pub Decides-peer : (a b : Peer) → Decides (Remote.ghosts.eq a b) (a ≡ b)
@@ -293,6 +308,22 @@ Decides-peer a b =
           (both (ap (λ (v : Peer). v.mss) e)
           (both (ap (λ (v : Peer). v.scale) e)
           (both (ap (λ (v : Peer). v.sack) e) (both (ap (λ (v : Peer). v.timestamps) e) (ap (λ (v : Peer). v.recent) e))))))))),
+    )
+
+pub Decides-stamps : (a b : Stamps) → Decides (Stamped.ghosts.eq a b) (a ≡ b)
+Decides-stamps a b =
+    let from_first = Decides-and _ _ (Decides-eqb a.first b.first) (Decides-option (λ (x y : ℤ). int_eq x y) Decides-int_eq a.believed_until b.believed_until) in
+    let all = Decides-and _ _ (Decides-option (λ x y. Generator.ghosts.eq x y) Decides-generator a.generator b.generator) (from_first) in (
+      λ yes.
+          let parts = all.0 yes in
+          λ i. record {
+            generator = parts.0 i;
+            first = parts.1.0 i;
+            believed_until = parts.1.1 i;
+          },
+      λ e. all.1 (both (ap (λ (v : Stamps). v.generator) e)
+          (both (ap (λ (v : Stamps). v.first) e)
+          (ap (λ (v : Stamps). v.believed_until) e))),
     )
 
 pub Decides-timers : (a b : Timers) → Decides (Timed.ghosts.eq a b) (a ≡ b)
@@ -374,13 +405,56 @@ Decides-settings a b =
           (both (ap (λ (v : Settings). v.opening_retries) e) (both (ap (λ (v : Settings). v.retries) e) (ap (λ (v : Settings). v.min_rto) e)))))))))))),
     )
 
+pub Decides-run : (a b : Run) → Decides (Ran.ghosts.eq a b) (a ≡ b)
+Decides-run a b =
+    let all = Decides-and _ _ (Decides-eqb a.start b.start) (Decides-eqb a.end b.end) in (
+      λ yes.
+          let parts = all.0 yes in
+          λ i. record { start = parts.0 i; end = parts.1 i },
+      λ e. all.1 (both (ap (λ (v : Run). v.start) e) (ap (λ (v : Run). v.end) e)),
+    )
+
+pub Decides-scoreboard : (a b : Scoreboard) → Decides (Board.ghosts.eq a b) (a ≡ b)
+Decides-scoreboard a b =
+    let all = slice_eq-Decides {E = λ x y. Ran.ghosts.eq x y} Decides-run a.runs b.runs (Board.ghosts.eq a b) refl in
+    (λ yes. λ i. record { runs = all.0 yes i }, λ e. all.1 (ap (λ (v : Scoreboard). v.runs) e))
+
+pub Decides-loss : (a b : Loss) → Decides (Lost.ghosts.eq a b) (a ≡ b)
+Decides-loss a b =
+    let from_probed =
+    Decides-and _ _ (booleans_Decides a.probed b.probed) (Decides-option (λ (x y : ℤ). int_eq x y) Decides-int_eq a.probe_at b.probe_at) in
+    let from_probes = Decides-and _ _ (booleans_Decides a.probes b.probes) (from_probed) in
+    let from_eager = Decides-and _ _ (booleans_Decides a.eager b.eager) (from_probes) in
+    let from_mark = Decides-and _ _ (Decides-eqb a.mark b.mark) (from_eager) in
+    let from_resent = Decides-and _ _ (Decides-eqb a.resent b.resent) (from_mark) in
+    let all = Decides-and _ _ (Decides-scoreboard a.board b.board) (from_resent) in (
+      λ yes.
+          let parts = all.0 yes in
+          λ i. record {
+            board = parts.0 i;
+            resent = parts.1.0 i;
+            mark = parts.1.1.0 i;
+            eager = parts.1.1.1.0 i;
+            probes = parts.1.1.1.1.0 i;
+            probed = parts.1.1.1.1.1.0 i;
+            probe_at = parts.1.1.1.1.1.1 i;
+          },
+      λ e. all.1 (both (ap (λ (v : Loss). v.board) e)
+          (both (ap (λ (v : Loss). v.resent) e)
+          (both (ap (λ (v : Loss). v.mark) e)
+          (both (ap (λ (v : Loss). v.eager) e)
+          (both (ap (λ (v : Loss). v.probes) e) (both (ap (λ (v : Loss). v.probed) e) (ap (λ (v : Loss). v.probe_at) e))))))),
+    )
+
 -- the control block is compared whole
 pub Decides-block : (a b : Block) → Decides (Blocks.ghosts.eq a b) (a ≡ b)
 Decides-block a b =
-    let from_reno = Decides-and _ _ (Decides-reno a.reno b.reno) (Decides-settings a.settings b.settings) in
+    let from_loss = Decides-and _ _ (Decides-loss a.loss b.loss) (Decides-settings a.settings b.settings) in
+    let from_reno = Decides-and _ _ (Decides-reno a.reno b.reno) (from_loss) in
     let from_round_trip = Decides-and _ _ (Decides-round_trip a.round_trip b.round_trip) (from_reno) in
     let from_timers = Decides-and _ _ (Decides-timers a.timers b.timers) (from_round_trip) in
-    let from_peer = Decides-and _ _ (Decides-peer a.peer b.peer) (from_timers) in
+    let from_stamps = Decides-and _ _ (Decides-stamps a.stamps b.stamps) (from_timers) in
+    let from_peer = Decides-and _ _ (Decides-peer a.peer b.peer) (from_stamps) in
     let from_receiver = Decides-and _ _ (Decides-receiver a.receiver b.receiver) (from_peer) in
     let from_sender = Decides-and _ _ (Decides-sender a.sender b.sender) (from_receiver) in
     let from_names = Decides-and _ _ (Decides-names a.names b.names) (from_sender) in
@@ -393,19 +467,22 @@ Decides-block a b =
             sender = parts.1.1.0 i;
             receiver = parts.1.1.1.0 i;
             peer = parts.1.1.1.1.0 i;
-            timers =
-                parts.1.1.1.1.1.0 i;
-            round_trip = parts.1.1.1.1.1.1.0 i;
-            reno = parts.1.1.1.1.1.1.1.0 i;
-            settings = parts.1.1.1.1.1.1.1.1 i;
+            stamps = parts.1.1.1.1.1.0 i;
+            timers = parts.1.1.1.1.1.1.0 i;
+            round_trip = parts.1.1.1.1.1.1.1.0 i;
+            reno = parts.1.1.1.1.1.1.1.1.0 i;
+            loss = parts.1.1.1.1.1.1.1.1.0 i;
+            settings = parts.1.1.1.1.1.1.1.1.1 i;
           },
       λ e. all.1 (both (ap (λ (v : Block). v.state) e)
           (both (ap (λ (v : Block). v.names) e)
           (both (ap (λ (v : Block). v.sender) e)
           (both (ap (λ (v : Block). v.receiver) e)
           (both (ap (λ (v : Block). v.peer) e)
+          (both (ap (λ (v : Block). v.stamps) e)
           (both (ap (λ (v : Block). v.timers) e)
-          (both (ap (λ (v : Block). v.round_trip) e) (both (ap (λ (v : Block). v.reno) e) (ap (λ (v : Block). v.settings) e))))))))),
+          (both (ap (λ (v : Block). v.round_trip) e) (both (ap (λ (v : Block). v.reno) e)
+          (both (ap (λ (v : Block). v.loss) e) (ap (λ (v : Block). v.settings) e))))))))))),
     )
 
 pub Decides-verdict : (a b : Verdict) → Decides (Judged.ghosts.eq a b) (a ≡ b)

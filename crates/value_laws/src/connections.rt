@@ -7,22 +7,29 @@ ghost use Rattle.tcp_model.specs.OpenOffer.{OpenOffer};
 ghost use Rattle.tcp_model.specs.Reply.{Reply};
 ghost use Rattle.tcp_model.specs.Reno.{RenoValue};
 ghost use Rattle.tcp_model.specs.RoundTrip.{RoundTripValue};
+ghost use Rattle.tcp_model.specs.Blocks.{fresh_loss};
+ghost use Rattle.tcp_model.specs.Run.{Run};
+ghost use Rattle.tcp_model.specs.Scoreboard.{no_run, no_runs};
+ghost use Rattle.tcp_control.specs.declared.scoreboard.Scoreboard.{Scoreboard};
 ghost use Rattle.tcp_model.specs.State.{State};
 ghost use Rattle.tcp_model.specs.declared.block.Block.{Block};
 ghost use Rattle.tcp_model.specs.declared.block.CongestionControl.{CongestionControl};
+ghost use Rattle.tcp_model.specs.declared.block.Loss.{Loss};
 ghost use Rattle.tcp_model.specs.declared.block.Names.{Names};
 ghost use Rattle.tcp_model.specs.declared.block.Peer.{Peer};
 ghost use Rattle.tcp_model.specs.declared.block.Receiver.{Receiver};
 ghost use Rattle.tcp_model.specs.declared.block.Sender.{Sender};
 ghost use Rattle.tcp_model.specs.declared.block.Settings.{Settings};
+ghost use Rattle.tcp_model.specs.declared.block.Stamps.{Stamps};
 ghost use Rattle.tcp_model.specs.declared.block.Timers.{Timers};
 ghost use Rattle.tcp_model.specs.declared.block.checks.Verdict.{Verdict};
 ghost use Rattle.tcp_model.specs.declared.block.rules.Part.{Part};
 
 use std::fmt::Display;
 use tcp_model::{
-    AddressPair, Block, CongestionControl, EndpointPair, Names, OfferKind, OpenOffer, PROBE, Part,
-    Peer, Receiver, Reno, Reply, RoundTrip, Sender, Settings, State, Timers, Verdict,
+    AddressPair, Block, CongestionControl, EndpointPair, Loss, Names, OfferKind, OpenOffer, PROBE,
+    Part, Peer, Receiver, Reno, Reply, RoundTrip, Run, Scoreboard, Sender, Settings, Stamps, State,
+    Timers, Verdict,
 };
 
 /// Law: `==` of a control block, and of each part of it, says whether they are the same.
@@ -32,9 +39,13 @@ pub fn blocks_are_equated()
     ensures sender { (a b : Sender) → IsTrue (⟦<Sender as PartialEq>⟧.eq a b) ↔ (a ≡ b) }
     ensures receiver { (a b : Receiver) → IsTrue (⟦<Receiver as PartialEq>⟧.eq a b) ↔ (a ≡ b) }
     ensures peer { (a b : Peer) → IsTrue (⟦<Peer as PartialEq>⟧.eq a b) ↔ (a ≡ b) }
+    ensures stamps { (a b : Stamps) → IsTrue (⟦<Stamps as PartialEq>⟧.eq a b) ↔ (a ≡ b) }
     ensures timers { (a b : Timers) → IsTrue (⟦<Timers as PartialEq>⟧.eq a b) ↔ (a ≡ b) }
     ensures round_trip { (a b : RoundTripValue) → IsTrue (⟦<RoundTrip as PartialEq>⟧.eq a b) ↔ (a ≡ b) }
     ensures reno { (a b : RenoValue) → IsTrue (⟦<Reno as PartialEq>⟧.eq a b) ↔ (a ≡ b) }
+    ensures run { (a b : Run) → IsTrue (⟦<Run as PartialEq>⟧.eq a b) ↔ (a ≡ b) }
+    ensures scoreboard { (a b : Scoreboard) → IsTrue (⟦<Scoreboard as PartialEq>⟧.eq a b) ↔ (a ≡ b) }
+    ensures loss { (a b : Loss) → IsTrue (⟦<Loss as PartialEq>⟧.eq a b) ↔ (a ≡ b) }
     ensures congestion { (a b : CongestionControl) → IsTrue (⟦<CongestionControl as PartialEq>⟧.eq a b) ↔ (a ≡ b) }
     ensures settings { (a b : Settings) → IsTrue (⟦<Settings as PartialEq>⟧.eq a b) ↔ (a ≡ b) }
     ensures block { (a b : Block) → IsTrue (⟦<Block as PartialEq>⟧.eq a b) ↔ (a ≡ b) }
@@ -51,9 +62,12 @@ pub fn offers_are_equated()
     ensures part { (a b : Part) → IsTrue (⟦<Part as PartialEq>⟧.eq a b) ↔ (a ≡ b) }
 {}
 
-/// Law: no names, and the byte that probes a closed window.
+/// Law: no names, nothing that is held or lost, and the byte that probes a closed window.
 pub fn constants()
     ensures names { Names.NONE ≡ record { listen = record { addr = None; port = 0 }; pair = None } }
+    ensures run { Run.NONE ≡ no_run }
+    ensures scoreboard { Scoreboard.EMPTY ≡ record { runs = no_runs } }
+    ensures loss { Loss.NONE ≡ fresh_loss }
     ensures probe { PROBE ≡ record { place = 0; len = 1; fin = false } }
 {}
 

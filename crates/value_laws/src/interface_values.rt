@@ -47,7 +47,7 @@ pub fn interface_texts()
 
 /// The configuration with this hardware address, and random words of the seed 0.
 pub fn configured(hardware_addr: HardwareAddress) -> Config
-    ensures { result ≡ record { random_seed = 0; hardware_addr = hardware_addr } }
+    ensures { result ≡ record { random_seed = 0; hardware_addr = hardware_addr; isn_key = None } }
 {
     Config::new(hardware_addr)
 }

@@ -2,3 +2,4 @@ pub mod Held
 pub mod Answers
 pub mod Values
 pub mod Hosts
+pub mod Configuring

@@ -13,6 +13,7 @@ ghost use Rattle.c_calls.specs.Added.{MakesSocket, new_icmp};
 ghost use Rattle.zemplovir_c.specs.Answers.{answer_by, after_by, given_by, written_by, mapped, checked_answer, checked, Gives};
 ghost use Rattle.zemplovir_c.specs.Values.{optional_in, required_in, listens_at, address_out};
 
+use crate::acts::icmp_act;
 use crate::answers::{NO_HOST, OK, done, given};
 use crate::handle::Handle;
 use crate::types::{Address, listens_at, optional, required, said};
@@ -52,12 +53,12 @@ pub extern "C" fn zv_icmp_bind(
         after_by handle.old.inside
         (λ host. record host { places = after_at as_icmp Kind.Icmp (act_after (To.Bind (Bound.Ident identifier))) host.places socket }) }
 {
-    let Some(mut host) = handle.take(alloc) else {
-        return NO_HOST;
-    };
-    let answer = host.icmp_act(socket, Act::Bind(Endpoint::Ident(identifier)));
-    handle.put(host);
-    done(answer)
+    icmp_act(
+        alloc,
+        handle,
+        socket,
+        Act::Bind(Endpoint::Ident(identifier)),
+    )
 }
 
 /// From now on errors about UDP datagrams from this port are for the socket, of one own address or, where the family is 0, of all.
@@ -82,12 +83,12 @@ pub extern "C" fn zv_icmp_bind_udp(
         Ok(address) => address,
         Err(code) => return code.number(),
     };
-    let Some(mut host) = handle.take(alloc) else {
-        return NO_HOST;
-    };
-    let answer = host.icmp_act(socket, Act::Bind(Endpoint::Udp(listens_at(address, port))));
-    handle.put(host);
-    done(answer)
+    icmp_act(
+        alloc,
+        handle,
+        socket,
+        Act::Bind(Endpoint::Udp(listens_at(address, port))),
+    )
 }
 
 /// From now on errors about TCP segments from this port are for the socket, of one own address or, where the family is 0, of all.
@@ -112,12 +113,12 @@ pub extern "C" fn zv_icmp_bind_tcp(
         Ok(address) => address,
         Err(code) => return code.number(),
     };
-    let Some(mut host) = handle.take(alloc) else {
-        return NO_HOST;
-    };
-    let answer = host.icmp_act(socket, Act::Bind(Endpoint::Tcp(listens_at(address, port))));
-    handle.put(host);
-    done(answer)
+    icmp_act(
+        alloc,
+        handle,
+        socket,
+        Act::Bind(Endpoint::Tcp(listens_at(address, port))),
+    )
 }
 
 /// Sets the hop limit, 0 for 64.
@@ -132,12 +133,7 @@ pub extern "C" fn zv_icmp_set_hop_limit(
     ensures after { handle.new.inside ≡
         after_by handle.old.inside (λ host. record host { places = after_at as_icmp Kind.Icmp (act_after (To.HopLimit limit)) host.places socket }) }
 {
-    let Some(mut host) = handle.take(alloc) else {
-        return NO_HOST;
-    };
-    let answer = host.icmp_act(socket, Act::HopLimit(limit));
-    handle.put(host);
-    done(answer)
+    icmp_act(alloc, handle, socket, Act::HopLimit(limit))
 }
 
 /// Queues a message. Its checksum is written when it is sent.

@@ -12,6 +12,7 @@ ghost use Rattle.c_calls.specs.Added.{MakesSocket, new_udp};
 ghost use Rattle.zemplovir_c.specs.Answers.{answer_by, after_by, given_by, written_by, mapped, checked_answer, checked, Gives};
 ghost use Rattle.zemplovir_c.specs.Values.{optional_in, endpoint_in, listens_at, metadata, endpoint_out, address_or_none};
 
+use crate::acts::udp_act;
 use crate::answers::{NO_HOST, OK, done, given};
 use crate::handle::Handle;
 use crate::types::{
@@ -73,12 +74,7 @@ pub extern "C" fn zv_udp_bind(
         Ok(address) => address,
         Err(code) => return code.number(),
     };
-    let Some(mut host) = handle.take(alloc) else {
-        return NO_HOST;
-    };
-    let answer = host.udp_act(socket, Act::Bind(listens_at(address, port)));
-    handle.put(host);
-    done(answer)
+    udp_act(alloc, handle, socket, Act::Bind(listens_at(address, port)))
 }
 
 /// Queues a datagram, which goes from the named own address, or from one that the socket or the host chooses where the family is
@@ -170,12 +166,7 @@ pub extern "C" fn zv_udp_set_hop_limit(
     ensures after { handle.new.inside ≡
         after_by handle.old.inside (λ host. record host { places = after_at as_udp Kind.Udp (act_after (To.HopLimit limit)) host.places socket }) }
 {
-    let Some(mut host) = handle.take(alloc) else {
-        return NO_HOST;
-    };
-    let answer = host.udp_act(socket, Act::HopLimit(limit));
-    handle.put(host);
-    done(answer)
+    udp_act(alloc, handle, socket, Act::HopLimit(limit))
 }
 
 /// Unbinds the socket, and empties its queues.
@@ -185,10 +176,5 @@ pub extern "C" fn zv_udp_close(alloc: Global, handle: &mut Handle, socket: usize
     ensures after { handle.new.inside ≡
         after_by handle.old.inside (λ host. record host { places = after_at as_udp Kind.Udp (act_after (To.Close)) host.places socket }) }
 {
-    let Some(mut host) = handle.take(alloc) else {
-        return NO_HOST;
-    };
-    let answer = host.udp_act(socket, Act::Close);
-    handle.put(host);
-    done(answer)
+    udp_act(alloc, handle, socket, Act::Close)
 }

@@ -1,8 +1,10 @@
 //! The stack as a static library for C: thin exports over the calls of `c_calls`. `c/zemplovir.h` declares them.
 #![tactic(auto)]
 
+mod acts;
 mod answers;
 mod backlogs;
+mod configuring;
 mod control;
 mod datagrams;
 mod frames;
@@ -18,6 +20,10 @@ pub use backlogs::{
     zv_listener_accept, zv_listener_add, zv_listener_add_keeper, zv_listener_give_back,
     zv_listener_new, zv_listener_remove,
 };
+pub use configuring::{
+    zv_dhcp_new, zv_dhcp_poll, zv_dhcp_poll_at, zv_dhcp_recv, zv_dhcp_send, zv_dhcp_sent,
+    zv_dns_ask, zv_dns_new, zv_dns_poll_at, zv_dns_recv, zv_dns_result, zv_dns_send, zv_dns_sent,
+};
 pub use control::{
     zv_icmp_bind, zv_icmp_bind_tcp, zv_icmp_bind_udp, zv_icmp_new, zv_icmp_recv, zv_icmp_send,
     zv_icmp_set_hop_limit,
@@ -32,8 +38,8 @@ pub use frames::{
 pub use packets::{zv_raw_new, zv_raw_recv, zv_raw_send};
 pub use stream_settings::{
     zv_tcp_pause_synack, zv_tcp_set_ack_delay, zv_tcp_set_congestion_control, zv_tcp_set_hop_limit,
-    zv_tcp_set_keep_alive, zv_tcp_set_nagle, zv_tcp_set_retries, zv_tcp_set_timeout,
-    zv_tcp_set_timestamps,
+    zv_tcp_set_keep_alive, zv_tcp_set_min_rto, zv_tcp_set_nagle, zv_tcp_set_retries,
+    zv_tcp_set_timeout, zv_tcp_set_timestamps,
 };
 pub use streams::{
     zv_tcp_abort, zv_tcp_close, zv_tcp_connect, zv_tcp_done, zv_tcp_listen, zv_tcp_new,

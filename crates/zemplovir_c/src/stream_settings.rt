@@ -8,7 +8,7 @@ ghost use Rattle.c_sockets.specs.declared.streams.Act.TheVariants as To;
 ghost use Rattle.zemplovir_c.specs.Answers.{answer_by, after_by};
 ghost use Rattle.zemplovir_c.specs.Values.{duration_of, is_on, byte_or_none, control_of, generator_of};
 
-use crate::answers::{NO_HOST, done};
+use crate::acts::tcp_act;
 use crate::handle::Handle;
 use c_sockets::streams::Act;
 use ip_wire::TcpTimestampGenerator;
@@ -74,12 +74,7 @@ pub extern "C" fn zv_tcp_set_timeout(
         after_by handle.old.inside
         (λ host. record host { places = after_at as_tcp Kind.Tcp (act_after (To.Timeout (duration_of micros))) host.places socket }) }
 {
-    let Some(mut host) = handle.take(alloc) else {
-        return NO_HOST;
-    };
-    let answer = host.tcp_act(socket, Act::Timeout(duration_of(micros)));
-    handle.put(host);
-    done(answer)
+    tcp_act(alloc, handle, socket, Act::Timeout(duration_of(micros)))
 }
 
 /// The interval of keep-alives, the largest number for none.
@@ -95,12 +90,7 @@ pub extern "C" fn zv_tcp_set_keep_alive(
         after_by handle.old.inside
         (λ host. record host { places = after_at as_tcp Kind.Tcp (act_after (To.KeepAlive (duration_of micros))) host.places socket }) }
 {
-    let Some(mut host) = handle.take(alloc) else {
-        return NO_HOST;
-    };
-    let answer = host.tcp_act(socket, Act::KeepAlive(duration_of(micros)));
-    handle.put(host);
-    done(answer)
+    tcp_act(alloc, handle, socket, Act::KeepAlive(duration_of(micros)))
 }
 
 /// The delay of an acknowledgement, the largest number for none.
@@ -116,12 +106,23 @@ pub extern "C" fn zv_tcp_set_ack_delay(
         after_by handle.old.inside
         (λ host. record host { places = after_at as_tcp Kind.Tcp (act_after (To.AckDelay (duration_of micros))) host.places socket }) }
 {
-    let Some(mut host) = handle.take(alloc) else {
-        return NO_HOST;
-    };
-    let answer = host.tcp_act(socket, Act::AckDelay(duration_of(micros)));
-    handle.put(host);
-    done(answer)
+    tcp_act(alloc, handle, socket, Act::AckDelay(duration_of(micros)))
+}
+
+/// How long a segment waits for its acknowledgement at least until it goes again.
+#[unsafe(no_mangle)]
+pub extern "C" fn zv_tcp_set_min_rto(
+    alloc: Global,
+    handle: &mut Handle,
+    socket: usize,
+    micros: u64,
+) -> u32
+    ensures answer { result ≡ answer_by handle.old.inside (λ host. answer_at as_tcp (act_answer (To.MinRto micros)) host.places socket) }
+    ensures after { handle.new.inside ≡
+        after_by handle.old.inside (λ host. record host { places = after_at as_tcp Kind.Tcp (act_after (To.MinRto micros)) host.places socket }) }
+{
+    let least = Duration::from_micros(micros);
+    tcp_act(alloc, handle, socket, Act::MinRto(least))
 }
 
 /// Whether small segments wait while others are in flight.
@@ -136,12 +137,7 @@ pub extern "C" fn zv_tcp_set_nagle(
     ensures after { handle.new.inside ≡
         after_by handle.old.inside (λ host. record host { places = after_at as_tcp Kind.Tcp (act_after (To.Nagle (is_on enabled))) host.places socket }) }
 {
-    let Some(mut host) = handle.take(alloc) else {
-        return NO_HOST;
-    };
-    let answer = host.tcp_act(socket, Act::Nagle(is_on(enabled)));
-    handle.put(host);
-    done(answer)
+    tcp_act(alloc, handle, socket, Act::Nagle(is_on(enabled)))
 }
 
 /// The hop limit, 0 for 64.
@@ -156,12 +152,7 @@ pub extern "C" fn zv_tcp_set_hop_limit(
     ensures after { handle.new.inside ≡
         after_by handle.old.inside (λ host. record host { places = after_at as_tcp Kind.Tcp (act_after (To.HopLimit limit)) host.places socket }) }
 {
-    let Some(mut host) = handle.take(alloc) else {
-        return NO_HOST;
-    };
-    let answer = host.tcp_act(socket, Act::HopLimit(limit));
-    handle.put(host);
-    done(answer)
+    tcp_act(alloc, handle, socket, Act::HopLimit(limit))
 }
 
 /// After how many timeouts without an answer the connection gives up, above 255 for never.
@@ -177,12 +168,7 @@ pub extern "C" fn zv_tcp_set_retries(
         after_by handle.old.inside
         (λ host. record host { places = after_at as_tcp Kind.Tcp (act_after (To.Retries (byte_or_none limit))) host.places socket }) }
 {
-    let Some(mut host) = handle.take(alloc) else {
-        return NO_HOST;
-    };
-    let answer = host.tcp_act(socket, Act::Retries(byte_or_none(limit)));
-    handle.put(host);
-    done(answer)
+    tcp_act(alloc, handle, socket, Act::Retries(byte_or_none(limit)))
 }
 
 /// Whether what is sent is held back where congestion may be.
@@ -198,12 +184,7 @@ pub extern "C" fn zv_tcp_set_congestion_control(
         after_by handle.old.inside
         (λ host. record host { places = after_at as_tcp Kind.Tcp (act_after (To.Congestion (control_of enabled))) host.places socket }) }
 {
-    let Some(mut host) = handle.take(alloc) else {
-        return NO_HOST;
-    };
-    let answer = host.tcp_act(socket, Act::Congestion(control_of(enabled)));
-    handle.put(host);
-    done(answer)
+    tcp_act(alloc, handle, socket, Act::Congestion(control_of(enabled)))
 }
 
 /// Whether segments carry timestamps, which begin with this number.
@@ -221,12 +202,12 @@ pub extern "C" fn zv_tcp_set_timestamps(
         after_by handle.old.inside
         (λ host. record host { places = after_at as_tcp Kind.Tcp (act_after (To.Timestamps (generator_of enabled first))) host.places socket }) }
 {
-    let Some(mut host) = handle.take(alloc) else {
-        return NO_HOST;
-    };
-    let answer = host.tcp_act(socket, Act::Timestamps(generator_of(enabled, first)));
-    handle.put(host);
-    done(answer)
+    tcp_act(
+        alloc,
+        handle,
+        socket,
+        Act::Timestamps(generator_of(enabled, first)),
+    )
 }
 
 /// Whether the answer to a SYN waits.
@@ -241,10 +222,5 @@ pub extern "C" fn zv_tcp_pause_synack(
     ensures after { handle.new.inside ≡
         after_by handle.old.inside (λ host. record host { places = after_at as_tcp Kind.Tcp (act_after (To.PauseSynack (is_on paused))) host.places socket }) }
 {
-    let Some(mut host) = handle.take(alloc) else {
-        return NO_HOST;
-    };
-    let answer = host.tcp_act(socket, Act::PauseSynack(is_on(paused)));
-    handle.put(host);
-    done(answer)
+    tcp_act(alloc, handle, socket, Act::PauseSynack(is_on(paused)))
 }

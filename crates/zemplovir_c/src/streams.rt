@@ -13,6 +13,7 @@ ghost use Rattle.c_calls.specs.Added.{MakesStream};
 ghost use Rattle.zemplovir_c.specs.Answers.{answer_by, after_by, given_by, written_by, mapped, checked_answer, checked, Gives};
 ghost use Rattle.zemplovir_c.specs.Values.{optional_in, endpoint_in, listens_at, endpoint_out, state_number};
 
+use crate::acts::tcp_act;
 use crate::answers::{NO_HOST, OK, done, given};
 use crate::handle::Handle;
 use crate::types::{Address, Endpoint, listens_at, optional, required_endpoint, said_endpoint};
@@ -62,12 +63,12 @@ pub extern "C" fn zv_tcp_listen(
         Ok(address) => address,
         Err(code) => return code.number(),
     };
-    let Some(mut host) = handle.take(alloc) else {
-        return NO_HOST;
-    };
-    let answer = host.tcp_act(socket, Act::Listen(listens_at(address, port)));
-    handle.put(host);
-    done(answer)
+    tcp_act(
+        alloc,
+        handle,
+        socket,
+        Act::Listen(listens_at(address, port)),
+    )
 }
 
 /// Opens a connection to a remote, from a port of one own address or, where the family is 0, of the one that the host chooses.
@@ -221,12 +222,7 @@ pub extern "C" fn zv_tcp_close(alloc: Global, handle: &mut Handle, socket: usize
     ensures after { handle.new.inside ≡
         after_by handle.old.inside (λ host. record host { places = after_at as_tcp Kind.Tcp (act_after (To.Close)) host.places socket }) }
 {
-    let Some(mut host) = handle.take(alloc) else {
-        return NO_HOST;
-    };
-    let answer = host.tcp_act(socket, Act::Close);
-    handle.put(host);
-    done(answer)
+    tcp_act(alloc, handle, socket, Act::Close)
 }
 
 /// Ends the connection.
@@ -236,12 +232,7 @@ pub extern "C" fn zv_tcp_abort(alloc: Global, handle: &mut Handle, socket: usize
     ensures after { handle.new.inside ≡
         after_by handle.old.inside (λ host. record host { places = after_at as_tcp Kind.Tcp (act_after (To.Abort)) host.places socket }) }
 {
-    let Some(mut host) = handle.take(alloc) else {
-        return NO_HOST;
-    };
-    let answer = host.tcp_act(socket, Act::Abort);
-    handle.put(host);
-    done(answer)
+    tcp_act(alloc, handle, socket, Act::Abort)
 }
 
 fn number_of(state: State) -> u8

@@ -51,6 +51,29 @@ pub struct Counters {
     pub polls: u64,
 }
 
+/// What a client of DHCP tells.
+#[repr(C)]
+#[derive(Clone, Copy)]
+pub struct Lease {
+    /// 0 where nothing happened, 1 where there is a lease of what follows, 2 where there is none.
+    pub event: u8,
+    /// How many bits the address's network has.
+    pub prefix: u8,
+    pub address: Address,
+    /// Family 0 for none.
+    pub router: Address,
+    pub server: Address,
+    /// Servers of names, family 0 for none.
+    pub names: [Address; 3],
+}
+
+/// The addresses of a name, without gaps, and family 0 for none.
+#[repr(C)]
+#[derive(Clone, Copy)]
+pub struct Addresses {
+    pub at: [Address; 4],
+}
+
 /// No address.
 pub(crate) const NO_ADDRESS: Address = Address {
     family: 0,

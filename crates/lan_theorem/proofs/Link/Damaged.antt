@@ -1,5 +1,5 @@
 -- A frame of which one word of the TCP segment was exchanged for one of another sum brings no segment.
-use Rattle.std.proofs.Common.{◌≡◌, ◌≢◌, inl, inr, ℕ, zero, suc, ◌+◌, ◌/◌, ◌%◌, ◌^◌, ◌<◌, ◌≤◌, List, [], ◌∷◌, ◌++◌, length, refl, ◌∙◌, ap, arith}
+use Rattle.std.proofs.Common.{◌≡◌, ◌≢◌, inl, inr, ℕ, zero, suc, ◌+◌, ◌/◌, ◌%◌, ◌^◌, ◌<◌, ◌≤◌, List, [], ◌∷◌, ◌++◌, length, refl, ◌∙◌, ap, subst, arith}
 use Rattle.std.proofs.Math.ListN.{set}
 use Rattle.interface_ingress.specs.Fields.{be16, put16}
 use Rattle.interface_delivery.specs.Ip as Ips
@@ -13,8 +13,10 @@ use Rattle.sockets.specs.Packet.{PacketValue, PayloadValue, ControlV4, ControlV6
 use Rattle.interface_ingress.specs.Carried.{IsCarried}
 use Rattle.interface_ingress.specs.Kept.{IsDamaged}
 use Rattle.interface_ingress.specs.Sent.{normal_payload}
+use Rattle.interface_ingress.proofs.Bare.{bare_where}
+use Rattle.interface_ingress.specs.Upper.{upper_payload}
 use Rattle.interface_ingress.proofs.FramesArrive.{payload-arrives}
-use Rattle.lan_theorem.specs.Link.Made.{sealed, HandsMade, bytes_of}
+use Rattle.lan_theorem.specs.Link.Made.{sealed, WasMade, HandsMade, bytes_of}
 use Rattle.lan_theorem.specs.Link.Frames.{IsOut}
 use Rattle.lan_theorem.proofs.Link.Behind.{sealed_both}
 
@@ -56,18 +58,25 @@ module _ (made : PayloadValue → Type 0) where
   pub segment_checked : (p : PacketValue) → IsOut made p → carried_in (Ips.normal p.header) ≡ Protocol.Tcp →
       Tcp.IsChecked (source_of (Ips.normal p.header)) (destination_of (Ips.normal p.header)) (bytes_of p)
   segment_checked p is tcp = elim is.going.carries [
-    | inl none ↦ absurd (none.0 tcp)
+    | inl none ↦ absurd (none.0 (ap carried_in (bare_where (Ips.normal p.header) (bytes_of p) Protocol.Tcp tcp refl).0 ∙ tcp))
     | inr reads ↦ checked_by p.header (normal_payload p.payload) (bytes_of p) tcp
         (payload-arrives sealed sealed p.header p.payload (is.going.offered.packet.payload is.fits) reads.0 sealed_both)
   ]
 
   -- what is no segment brings nothing that was not made
+  none_damaged : (ip : IpRepr) (payload : List ℕ) → IsDamaged sealed ip payload → (x : PayloadValue) → IsCarried sealed ip payload x → WasMade made x
+  none_damaged ip payload bad (Segment header bytes) is = absurd (bad.1 header bytes is)
+  none_damaged ip payload bad (Datagram udp bytes) is = absurd (let p = is.protocol in let q = bad.0 in cc)
+  none_damaged ip payload bad (ControlV4 message bytes) is = tt
+  none_damaged ip payload bad (ControlV6 message bytes) is = tt
+  none_damaged ip payload bad (Bytes bytes) is = tt
+
   pub hands_damaged : (ip : IpRepr) (payload : List ℕ) → IsDamaged sealed ip payload → HandsMade made ip payload
-  hands_damaged ip payload bad (Segment header bytes) is = absurd (bad.1 header bytes is)
-  hands_damaged ip payload bad (Datagram udp bytes) is = absurd (let p = is.protocol in let q = bad.0 in cc)
-  hands_damaged ip payload bad (ControlV4 message bytes) is = tt
-  hands_damaged ip payload bad (ControlV6 message bytes) is = tt
-  hands_damaged ip payload bad (Bytes bytes) is = tt
+  hands_damaged ip payload bad x is =
+      let straight = bare_where ip payload Protocol.Tcp bad.0 refl in
+      none_damaged ip payload bad x
+      (subst (λ (bytes : List ℕ). IsCarried sealed ip bytes x) straight.1
+      (subst (λ (h : IpRepr). IsCarried sealed h (upper_payload ip payload) x) straight.0 is))
 
 -- a segment whose checksum holds, with a word exchanged, is none
 pub no_segment : (ip : IpRepr) (bytes : List ℕ) (place word : ℕ) → carried_in ip ≡ Protocol.Tcp → Tcp.IsChecked (source_of ip) (destination_of ip) bytes →

@@ -19,11 +19,11 @@ use Rattle.interface_delivery.specs.Udp as Udp
 use Rattle.interface_ingress.specs.EthernetRepr.{EthernetRepr}
 use Rattle.sockets.specs.Packet.{PacketValue, PayloadValue, ControlV4, ControlV6, Bytes, Datagram, Segment}
 use Rattle.interface_tables.specs.Pieces as Pieces
-use Rattle.interface_ingress.specs.Carried.{IsCarried}
+use Rattle.interface_ingress.specs.Upper.{upper_header, upper_payload, IsBrought}
 use Rattle.interface_ingress.specs.Incoming.{IncomingValue, Arp, Ip4, Ip6}
 use Rattle.interface_ingress.specs.Reassembled.{is_piece}
 use Rattle.interface_ingress.specs.Sent.{CanBeRead, normal_payload}
-use Rattle.interface_ingress.proofs.FramesArrive.{payload-arrives}
+use Rattle.interface_ingress.proofs.FramesArrive.{payload-brought}
 use Rattle.interface_ingress.proofs.OneContent.{one-carried-content}
 use Rattle.interface_delivery.specs.Delivered.{NamesNoPorts}
 use Rattle.lan_theorem.specs.Link.Made.{sealed, WasMade, HandsMade, BringsMade, bytes_of}
@@ -34,7 +34,8 @@ module _ (made : PayloadValue → Type 0) where
   -- PROTOCOLS
 
   -- behind a header that names neither TCP nor UDP there is nothing of them
-  pub hands_none : (ip : IpRepr) (payload : List ℕ) → NamesNoPorts (carried_in ip) → HandsMade made ip payload
+  pub hands_none : (ip : IpRepr) (payload : List ℕ) → NamesNoPorts (carried_in (upper_header ip payload)) →
+      HandsMade made ip payload
   hands_none ip payload none (Datagram udp bytes) is = absurd (none.1 is.protocol)
   hands_none ip payload none (Segment header bytes) is = absurd (none.0 is.protocol)
   hands_none ip payload none (ControlV4 message bytes) is = tt
@@ -53,15 +54,16 @@ module _ (made : PayloadValue → Type 0) where
   same_some : {A : Type 0} (x y : A) → Some x ≡ Some y → x ≡ y
   same_some x y same = cc
 
-  hands_by : (p : PacketValue) → IsOut made p → (NamesNoPorts (carried_in (Ips.normal p.header))) ⊎
+  hands_by : (p : PacketValue) → IsOut made p → NamesNoPorts (carried_in (upper_header (Ips.normal p.header) (bytes_of p))) ⊎
       (CanBeRead p.header p.payload × made (normal_payload p.payload)) → HandsMade made (Ips.normal p.header) (bytes_of p)
   hands_by p is (inl none) = hands_none (Ips.normal p.header) (bytes_of p) none
   hands_by p is (inr reads) = λ x carried.
-      let read : IsCarried sealed (Ips.normal p.header) (bytes_of p) (normal_payload p.payload) =
-      payload-arrives sealed sealed p.header p.payload (is.going.offered.packet.payload is.fits) reads.0 sealed_both in
+      let read : IsBrought sealed (Ips.normal p.header) (bytes_of p) (Some (normal_payload p.payload)) =
+      payload-brought sealed sealed p.header p.payload (is.going.offered.packet.payload is.fits) reads.0 sealed_both in
       let same : normal_payload p.payload ≡ x =
       same_some (normal_payload p.payload) x
-      (one-carried-content sealed (Ips.normal p.header) (bytes_of p) (Some (normal_payload p.payload)) (Some x) read carried) in
+      (one-carried-content sealed (upper_header (Ips.normal p.header) (bytes_of p)) (upper_payload (Ips.normal p.header) (bytes_of p))
+      (Some (normal_payload p.payload)) (Some x) read carried) in
       was_made x (subst made same reads.1)
 
   -- what is read behind the header of a packet that was sent was made

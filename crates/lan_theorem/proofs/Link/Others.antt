@@ -21,6 +21,9 @@ use Rattle.interface_egress.specs.declared.frame.Question.{Question}
 use Rattle.interface_egress.specs.declared.frame.Question.TheVariants as Query
 use Rattle.interface_ingress.specs.Incoming.{IncomingValue, IsIncoming}
 use Rattle.interface_ingress.specs.Incoming as Content
+use Rattle.interface_delivery.specs.Ip.{carried_in}
+use Rattle.interface_ingress.proofs.Bare.{bare_v6}
+use Rattle.interface_ingress.specs.Handed.{is_known_v6}
 use Rattle.interface_delivery.specs.Delivered.{NamesNoPorts, HasNoPorts}
 use Rattle.lan_frames.specs.Carried.{packet_in}
 use Rattle.lan_frames.specs.Parts.{may_carry, is_ipv4, is_ipv6, is_uncut, payload_v4, payload_v6}
@@ -131,8 +134,9 @@ control_other link packet len here there names still = record {
       absurd (let e = carries link (packet ++ padding) 0x86dd l Ether.Ipv4 len (ap (λ (n : ℕ). n == 0x86dd) here) is.0 in cc)
   on_ethernet own padding (Content.Ip6 None h x) is = absurd is
   on_ethernet own padding (Content.Ip6 (Some l) h x) is =
-      not_ports h.next_header (is.1.format.protocol ∙ ap (λ (b : List ℕ). protocol_of (slice_index b 6)) (drop_at link (packet ++ padding) 14 len) ∙
-      ap protocol_of (still padding))
+      let names : h.next_header ≡ Protocol.Icmpv6 = is.1.format.protocol ∙
+      ap (λ (b : List ℕ). protocol_of (slice_index b 6)) (drop_at link (packet ++ padding) 14 len) ∙ ap protocol_of (still padding) in
+      not_ports _ (ap carried_in (bare_v6 h x (ap is_known_v6 names)).0 ∙ names)
 
   reads : (hardware : HardwareAddress) (padding : List ℕ) (v : IncomingValue) → medium_on hardware ≡ Medium.Ethernet →
       IsIncoming hardware sealed ((link ++ packet) ++ padding) v → HasNoPorts v

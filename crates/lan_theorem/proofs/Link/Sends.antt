@@ -8,6 +8,7 @@ use Rattle.interface_ingress.specs.Address.{IsIpAddress}
 use Rattle.interface_ingress.specs.HardwareAddress.{HardwareAddress}
 use Rattle.interface_ingress.specs.HardwareAddress.TheVariants as Hardware
 use Rattle.interface_delivery.specs.Ip as Ips
+use Rattle.interface_ingress.specs.Upper.{upper_header}
 use Rattle.interface_delivery.specs.Ip.{carried_in, destination_of}
 use Rattle.interface_delivery.specs.IpRepr.{IpRepr}
 use Rattle.interface_delivery.specs.IpRepr.TheVariants as Ip
@@ -55,8 +56,10 @@ denied d d' frame len is = ap (λ (p : PortValue). p.link.sent) is.0
 -- NUMBERS
 
 module _ (made : PayloadValue → Type 0) (i : InnerValue) where
-  carries_number : (h : IpRepr) (x : PayloadValue) → NamesNoPorts (carried_in (Ips.normal h)) ⊎ (CanBeRead h x × made (normal_payload x))
-      → NamesNoPorts (carried_in (Ips.normal (numbered_header i h))) ⊎ (CanBeRead (numbered_header i h) x × made (normal_payload x))
+  carries_number : (h : IpRepr) (x : PayloadValue) → NamesNoPorts (carried_in (upper_header (Ips.normal h) (payload_written sealed h x)))
+      ⊎ (CanBeRead h x × made (normal_payload x))
+      → NamesNoPorts (carried_in (upper_header (Ips.normal (numbered_header i h)) (payload_written sealed (numbered_header i h) x)))
+      ⊎ (CanBeRead (numbered_header i h) x × made (normal_payload x))
   carries_number (Ip.Ipv4 v) x (inl none) = inl none
   carries_number (Ip.Ipv4 v) x (inr reads) = inr (readable i (Ip.Ipv4 v) x reads.0, reads.1)
   carries_number (Ip.Ipv6 v) x is = is

@@ -31,7 +31,8 @@ use Rattle.interface_ingress.specs.Arp.{arp_arrived}
 use Rattle.interface_ingress.specs.Arrives.{Arrived, ArrivesV4, ArrivesV6, Brings, is_direct, sender_of, renewed, renewed_by}
 use Rattle.interface_ingress.specs.Delivered.{Places, drawn_if, segment_draws, packet_delivered}
 use Rattle.interface_ingress.specs.Handed.{handed_host, message_host, control_v6_host, names_nobody}
-use Rattle.interface_ingress.specs.Heard.{heard, heard_on, station, learned, advertised, replaces, counts, answer}
+use Rattle.interface_ingress.specs.Reassembled.{is_control_v6}
+use Rattle.interface_ingress.specs.Heard.{neighbor_heard, heard, heard_on, station, learned, advertised, replaces, counts, tells, answer}
 use Rattle.interface_ingress.specs.Incoming.{IncomingValue, Arp, Ip4, Ip6}
 use Rattle.interface_ingress.proofs.Settings.{brings_same}
 use Rattle.lan_theorem.specs.Link.Frames.{medium_on}
@@ -105,10 +106,10 @@ near_learned : (i : InnerValue) (source : Ipv6Address) (link : Option (List ℕ)
 near_learned i source None near = near
 near_learned i source (Some link) near = near_neighbor i (Address.Ipv6 source) (station link) near
 
-near_advertised : (i : InnerValue) (flags : NdiscNeighborFlags) (source : Ipv6Address) (link : Option (List ℕ)) → AreNear i →
-    AreNear (advertised i flags source link)
-near_advertised i flags source link near =
-    elim (replaces i flags source) as (λ b. AreNear (cond b (learned i source link) i)) [ true ↦ near_learned i source link near | false ↦ near ]
+near_advertised : (i : InnerValue) (flags : NdiscNeighborFlags) (target : Ipv6Address) (link : Option (List ℕ)) → AreNear i →
+    AreNear (advertised i flags target link)
+near_advertised i flags target link near =
+    elim (replaces i flags target) as (λ b. AreNear (cond b (learned i target link) i)) [ true ↦ near_learned i target link near | false ↦ near ]
 
 near_heard : (hardware : HardwareAddress) (i : InnerValue) (header : Ipv6Repr) (message : NeighborMessage) → AreNear i →
     AreNear (heard_on hardware i header message).inner
@@ -117,11 +118,15 @@ near_heard (Hardware.Ethernet own) i header (Solicitation target link) near =
     elim (counts header target link) as (λ b. AreNear (cond b (heard (learned i header.src_addr link) (answer own i header target)) (heard i None)).inner)
     [ true ↦ near_learned i header.src_addr link near | false ↦ near ]
 near_heard (Hardware.Ethernet own) i header (Advertisement flags target link) near =
-    elim (counts header target link) as (λ b. AreNear (cond b (heard (advertised i flags header.src_addr link) None) (heard i None)).inner)
-    [ true ↦ near_advertised i flags header.src_addr link near | false ↦ near ]
+    elim (tells header flags target link) as (λ b. AreNear (cond b (heard (advertised i flags target link) None) (heard i None)).inner)
+    [ true ↦ near_advertised i flags target link near | false ↦ near ]
 
 near_message : (i : InnerValue) (header : Ipv6Repr) (message : MessageValue) → AreNear i → AreNear (message_host i header message)
-near_message i header (Icmpv6.Ndisc message) near = near_heard i.hardware i header message near
+near_message i header (Icmpv6.Ndisc message) near =
+    elim (is_control_v6 header.next_header) as (λ b. AreNear (cond b (neighbor_heard i header message).inner i)) [
+      | true ↦ near_heard i.hardware i header message near
+      | false ↦ near
+    ]
 near_message i header (Icmpv6.DstUnreachable reason quoted) near = near
 near_message i header (Icmpv6.PktTooBig mtu quoted) near = near
 near_message i header (Icmpv6.TimeExceeded reason quoted) near = near
@@ -165,7 +170,7 @@ near_v6 false i places link ip payload a near is = subst AreNear (sym is.inner) 
 
 near_arp : (i : InnerValue) (packet : ArpRepr) → AreNear i → AreNear (arp_arrived i packet)
 near_arp i (ArpIs.EthernetIpv4 operation source source_protocol target target_protocol) near =
-    elim (Arps.counts i (ArpIs.EthernetIpv4 operation source source_protocol target target_protocol)) as
+    elim (Arps.teaches i (ArpIs.EthernetIpv4 operation source source_protocol target target_protocol)) as
     (λ b. AreNear (cond b (with_neighbor i (Address.Ipv4 source_protocol) (Hardware.Ethernet source)) i)) [
       | true ↦ near_neighbor i (Address.Ipv4 source_protocol) source near
       | false ↦ near

@@ -22,9 +22,9 @@ use Rattle.interface_tables.specs.Inner.{InnerValue, context_of}
 use Rattle.interface_egress.specs.declared.socket_set.Item.{Item}
 use Rattle.interface_egress.specs.declared.socket_set.SocketStorage.{SocketStorage}
 use Rattle.interface_ingress.specs.Delivered.{datagram_place, packet_by, answer_of, answer_in, answer_by, segment_place, segment_answer_at, segment_answer}
-use Rattle.interface_ingress.specs.Handed.{handed_reply, is_known, names_nobody}
+use Rattle.interface_ingress.specs.Handed.{handed_reply, names_nobody}
 use Rattle.lan_theorem.proofs.Moves.Places.{Places}
-use Rattle.lan_theorem.proofs.Moves.Replies.{control_v4_free, control_v6_free, port_error_free, protocol_error_free}
+use Rattle.lan_theorem.proofs.Moves.Replies.{control_v4_free, control_v6_free, port_error_free, unread_free}
 
 -- it holds of what answers a segment: a socket's own answer, and the reset of a host
 pub record AnswersSegments (Q : PacketValue → Type 0) (cx : ContextValue) (ip : IpRepr) (header : TcpHeader) (bytes : List ℕ) : Type 0 where
@@ -67,7 +67,7 @@ module _ (Q : PacketValue → Type 0) where
     pub replied_all : (i : InnerValue) (places : Places) (ip : IpRepr) (payload : List ℕ) (taken : Bool) (carried : Option PayloadValue)
         → ((header : TcpHeader) (bytes : List ℕ) → carried ≡ Some (Segment header bytes) → AnswersSegments Q (context_of i) ip header bytes)
         → IfSome (handed_reply i places ip payload taken carried) Q
-    replied_all i places ip payload taken None all = protocol_error_free Q four six (is_known ip || taken) i ip payload
+    replied_all i places ip payload taken None all = unread_free Q four six i ip payload taken
     replied_all i places ip payload taken (Some (ControlV4 message bytes)) all = control_v4_free Q four six i ip message bytes
     replied_all i places ip payload taken (Some (ControlV6 message bytes)) all = control_v6_free Q four six i ip message bytes
     replied_all i places ip payload taken (Some (Bytes bytes)) all = tt

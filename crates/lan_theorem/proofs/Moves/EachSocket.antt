@@ -28,6 +28,7 @@ use Rattle.interface_ingress.specs.Delivered.{with_change, given, all_given, cha
 use Rattle.interface_ingress.specs.Delivered.{with_icmpv6, with_datagram, datagram_place, with_segment, segment_place, segment_delivered}
 use Rattle.interface_ingress.specs.Handed.{control_v4_places, control_v6_places, names_nobody, handed_places}
 use Rattle.interface_ingress.specs.Incoming.{IncomingValue, Arp, Ip4, Ip6}
+use Rattle.interface_ingress.specs.Upper.{upper_header, upper_payload}
 use Rattle.interface.specs.Host.{Sender}
 use Rattle.interface.specs.Ingress.{Takes}
 use Rattle.interface.specs.Polls.{Polls}
@@ -129,20 +130,20 @@ module _ (W : Socket → Type 0) where
     segments false cx ip header bytes places named all =
         changed (with_segment cx ip header bytes) (λ s holds. law.segment cx ip header bytes s named holds) (segment_place ip header places) places all
 
-    handed : (caps : ChecksumCapabilities) (i : InnerValue) (places : Places) (ip : IpRepr) (payload : List ℕ) (carried : Option PayloadValue) →
-        IsCarriedContent caps ip payload carried → OfEach W places → OfEach W (handed_places i places ip carried)
-    handed caps i places ip payload None is all = all
-    handed caps i places ip payload (Some (ControlV4 message bytes)) is all = messages ip message bytes places all
-    handed caps i places ip payload (Some (ControlV6 message bytes)) is all = messages_v6 ip message bytes places all
-    handed caps i places ip payload (Some (Bytes bytes)) is all = all
-    handed caps i places ip payload (Some (Datagram udp bytes)) is all =
+    handed : (caps : ChecksumCapabilities) (i : InnerValue) (places : Places) (ip upper : IpRepr) (payload : List ℕ) (carried : Option PayloadValue) →
+        IsCarriedContent caps upper payload carried → OfEach W places → OfEach W (handed_places i places ip carried)
+    handed caps i places ip upper payload None is all = all
+    handed caps i places ip upper payload (Some (ControlV4 message bytes)) is all = messages ip message bytes places all
+    handed caps i places ip upper payload (Some (ControlV6 message bytes)) is all = messages_v6 ip message bytes places all
+    handed caps i places ip upper payload (Some (Bytes bytes)) is all = all
+    handed caps i places ip upper payload (Some (Datagram udp bytes)) is all =
         changed (with_datagram ip udp bytes) (law.datagram ip udp bytes) (datagram_place (context_of i) ip udp places) places all
-    handed caps i places ip payload (Some (Segment header bytes)) is all =
-        segments (names_nobody i ip) (context_of i) ip header bytes places (segment_named caps ip payload header bytes is) all
+    handed caps i places ip upper payload (Some (Segment header bytes)) is all =
+        segments (names_nobody i ip) (context_of i) ip header bytes places (segment_named caps upper payload header bytes is) all
 
     hands : (i : InnerValue) (places : Places) (ip : IpRepr) (payload : List ℕ) (taken : Bool) (a : Arrived) → Hands i places ip payload taken a →
         OfEach W places → OfEach W a.places
-    hands i places ip payload taken a (carried, is, so) all = subst (OfEach W) (sym so.places_are) (handed i.checksums i places ip payload carried is all)
+    hands i places ip payload taken a (carried, is, so) all = subst (OfEach W) (sym so.places_are) (handed i.checksums i places ip (upper_header ip payload) (upper_payload ip payload) carried is all)
 
     v4 : (ours : Bool) (i : InnerValue) (places : Places) (link : Option EthernetRepr) (ip : IpRepr) (payload : List ℕ) (a : Arrived) →
         ArrivesV4 ours i places link ip payload a → OfEach W places → OfEach W a.places

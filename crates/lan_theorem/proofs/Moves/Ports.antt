@@ -16,7 +16,7 @@ use Rattle.ip_tcp.specs.declared.header.TcpHeader.{TcpHeader}
 use Rattle.interface_delivery.specs.UdpRepr.{UdpRepr}
 use Rattle.net_containers.specs.Packets.{contents, first, is_full_for}
 use Rattle.sockets.specs.Addresses as Addresses
-use Rattle.sockets.specs.Context.{ContextValue, next_random}
+use Rattle.sockets.specs.Context.{ContextValue}
 use Rattle.sockets.specs.Offer as Answer
 use Rattle.sockets.specs.SocketValue as Datagrams
 use Rattle.sockets.specs.SocketValue.{sent_after}
@@ -64,6 +64,7 @@ use Rattle.lan_theorem.specs.Moves.Fit.{AreNamed, NamesPorts}
 use Rattle.lan_theorem.proofs.Moves.EachRun.{IsOfRuns, SendsForeign, Keeps, kept_as, all_as}
 use Rattle.lan_theorem.proofs.Moves.EachSocket.{IsOfSockets}
 use Rattle.lan_theorem.proofs.Moves.Queued.{offer_left, settled_left}
+use Rattle.tcp_model.specs.FirstNumbers.{number_for}
 
 abbrev pub IsNamed : UdpMetadata × List ℕ → Type 0
 IsNamed q = q.0.endpoint.port ≢ 0
@@ -230,9 +231,9 @@ connected_named v None number new holds = holds
 connected_named v (Some pair) number new holds = new
 
 connects_named : (closed : Bool) (cx : ContextValue) (v : TcpValue) (remote : IpEndpoint) (port : ℕ) → TcpNames v
-    → TcpNames (if closed then connected_by v (pair_for cx remote (at_port port)) (word (next_random cx).random) else unoffered v)
+    → TcpNames (if closed then connected_by v (pair_for cx remote (at_port port)) (number_for cx (pair_for cx remote (at_port port))) else unoffered v)
 connects_named true cx v remote port holds =
-    connected_named v (pair_for cx remote (at_port port)) (word (next_random cx).random) (found_named cx remote port) holds
+    connected_named v (pair_for cx remote (at_port port)) (number_for cx (pair_for cx remote (at_port port))) (found_named cx remote port) holds
 connects_named false cx v remote port holds = holds
 
 writes_named : (v : TcpValue) (bytes : List ℕ) → TcpNames v → TcpNames (send_after v bytes)

@@ -18,7 +18,7 @@ use Rattle.ip_tcp.specs.declared.header.TcpHeader.{TcpHeader}
 use Rattle.interface_delivery.specs.UdpRepr.{UdpRepr}
 use Rattle.net_containers.specs.Packets.{first}
 use Rattle.ip_tcp.specs.Rand.{word}
-use Rattle.sockets.specs.Context.{ContextValue, next_random}
+use Rattle.sockets.specs.Context.{ContextValue}
 use Rattle.sockets.specs.Polling.{Offered}
 use Rattle.sockets.specs.Packet.{PacketValue, PayloadValue, ControlV4, ControlV6, Bytes, Datagram, Segment, packet_of, payload_len}
 use Rattle.sockets.specs.Offer as Answer
@@ -33,7 +33,7 @@ use Rattle.tcp_model.specs.AddressPair.TheVariants as Pair
 use Rattle.tcp_model.specs.Acknowledged.{acknowledged, duplicates_after}
 use Rattle.tcp_model.specs.Answers.{drawn, may_draw, with_draw, acked, answer_for, ranges_held}
 use Rattle.tcp_model.specs.Arrival.{waiting_anew, outside, passed_outside, tells_news, finished, with_content, told, taken, inside, checked, takes_reset}
-use Rattle.tcp_model.specs.Arrival.{challenges_reset, reset_comes, challenges_syn, received, arrives_in, arrives, is_void_syn}
+use Rattle.tcp_model.specs.Arrival.{challenges_reset, reset_comes, draws_first, echo_heard, received, arrives_in, arrives, is_void_syn}
 use Rattle.tcp_model.specs.Calls.{listening}
 use Rattle.tcp_model.specs.Checks.{Check, acknowledgement_check, is_in_window, taken_down, falls_back}
 use Rattle.tcp_model.specs.Checks.Check.{Passes, Old, Drops, Draws, Resets}
@@ -72,6 +72,8 @@ use Rattle.interface_ingress.specs.Handed.{handed_reply}
 use Rattle.lan_theorem.proofs.Moves.Offering.{takes_one}
 use Rattle.lan_theorem.proofs.Moves.Places.{Places}
 use Rattle.lan_theorem.proofs.Moves.Answering.{AnswersSegments, replied_all}
+use Rattle.tcp_model.specs.FirstNumbers.{first_number, draws_number}
+use Rattle.tcp_model.specs.Timestamps.{believed, stamp_taken}
 
 -- HEADERS
 
@@ -306,7 +308,7 @@ module _ (cx : ContextValue) (ip : IpRepr) (header : TcpHeader) where
 
   taken_tcp : (v : TcpValue) (bytes : List ℕ) (by : ℕ) → AnswersTcp (taken cx v ip header bytes by)
   taken_tcp v bytes by =
-      let w = acknowledged v by cx.moment in
+      let w = acknowledged (echo_heard v header by cx.moment) by cx.moment in
       let heeded = told w header (duplicates_after v.block header (length bytes) by) cx.moment in
       either_arrived (is_closed w.block.state) (dropped w) (with_content cx heeded ip header bytes) tt (content_tcp heeded bytes)
 
@@ -321,7 +323,7 @@ module _ (cx : ContextValue) (ip : IpRepr) (header : TcpHeader) where
 
   passed_outside_tcp : (v : TcpValue) (size by : ℕ) → AnswersTcp (passed_outside cx v ip header size by)
   passed_outside_tcp v size by =
-      let w = acknowledged v by cx.moment in
+      let w = acknowledged (echo_heard v header by cx.moment) by cx.moment in
       either_arrived (tells_news v header size) (outside cx w ip header) (outside cx v ip header) (outside_tcp w) (outside_tcp v)
 
   checked_tcp : (check : Check) (v : TcpValue) (bytes : List ℕ) → AnswersTcp (checked check cx v ip header bytes)
@@ -329,9 +331,9 @@ module _ (cx : ContextValue) (ip : IpRepr) (header : TcpHeader) where
       either_arrived (is_in_window v.block (free_in v) header (length bytes)) (inside cx v ip header bytes by) (passed_outside cx v ip header (length bytes) by)
       (inside_tcp v bytes by) (passed_outside_tcp v (length bytes) by)
   checked_tcp Old v bytes =
-      either_arrived (is_in_window v.block (free_in v) header (length bytes)) (with_content cx (with_block v (heard v.block)) ip header bytes)
+      either_arrived (is_in_window v.block (free_in v) header (length bytes)) (with_content cx (with_block v (stamp_taken (heard v.block) header cx.moment)) ip header bytes)
       (outside cx v ip header)
-      (content_tcp (with_block v (heard v.block)) bytes) (outside_tcp v)
+      (content_tcp (with_block v (stamp_taken (heard v.block) header cx.moment)) bytes) (outside_tcp v)
   checked_tcp Drops v bytes = tt
   checked_tcp Draws v bytes = drawn_tcp v
   checked_tcp Resets v bytes = reset_tcp v (length bytes)
@@ -345,17 +347,17 @@ module _ (cx : ContextValue) (ip : IpRepr) (header : TcpHeader) where
   received_tcp : (v : TcpValue) (bytes : List ℕ) → AnswersTcp (received cx v ip header bytes)
   received_tcp v bytes =
       let tested : Arrived = checked (acknowledgement_check v.block header.ack_number) cx v ip header bytes in
-      let segment : Arrived = if challenges_syn v.block header then drawn cx v ip header else tested in
+      let segment : Arrived = if draws_first v.block header cx.moment then drawn cx v ip header else tested in
       either_arrived (is_rst header.control) (reset_comes cx v ip header (length bytes)) segment (reset_comes_tcp v (length bytes))
-      (either_arrived (challenges_syn v.block header) (drawn cx v ip header) tested (drawn_tcp v)
+      (either_arrived (draws_first v.block header cx.moment) (drawn cx v ip header) tested (drawn_tcp v)
       (checked_tcp (acknowledgement_check v.block header.ack_number) v bytes))
 
   opens_tcp : (v : TcpValue) → AnswersTcp (opens cx v ip header)
   opens_tcp v =
       let answers : Arrived = record {
-        socket = with_block v (timeout_restarted (answering v.block ip header (word (next_random cx).random)) cx.moment 0);
+        socket = with_block v (timeout_restarted (believed (answering v.block ip header (first_number cx (pair_in ip header))) cx.moment) cx.moment 0);
         answer = None;
-        draws = true;
+        draws = draws_number cx;
       } in
       either_arrived (is_first_syn header) answers (dropped v) tt tt
 

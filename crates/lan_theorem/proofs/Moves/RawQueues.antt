@@ -18,19 +18,23 @@ use Rattle.interface_delivery.specs.Delivered.{NamesNoPorts}
 use Rattle.lan_frames.specs.Medium.TheVariants as Medium
 use Rattle.net_containers.specs.Packets.{contents, first}
 use Rattle.sockets.specs.Context.{ContextValue}
-use Rattle.sockets.specs.Packet.{PacketValue}
+use Rattle.sockets.specs.Packet.{PacketValue, PayloadValue, payload_written}
+use Rattle.interface_delivery.specs.Ipv6.{payload_of}
+use Rattle.interface_ingress.specs.Upper.{upper_header}
+use Rattle.interface_ingress.specs.Headers.{go_through, upper_of}
+use Rattle.lan_theorem.specs.Link.Made.{sealed, bytes_of}
 use Rattle.sockets.specs.Offer as Answer
 use Rattle.sockets.specs.Offers.{IsFound, IsOnly, OffersFirst}
 use Rattle.sockets.specs.Raw as Raws
-use Rattle.sockets.specs.Raw.{RawValue}
+use Rattle.sockets.specs.Raw.{RawValue, carried_by}
 use Rattle.sockets.specs.SocketValue as Datagrams
 use Rattle.sockets.specs.SocketValue.{arrived}
 use Rattle.sockets.specs.Socket.{Offers, settled}
 use Rattle.sockets.specs.declared.socket.Socket.{Socket}
 use Rattle.sockets.specs.declared.socket.Socket.TheVariants as Is
 use Rattle.interface_ingress.specs.Delivered.{with_packet, with_icmpv4, with_icmpv6, with_datagram, with_segment}
-use Rattle.lan_frames.specs.Carried.{names_tcp_or_udp, is_tcp_or_udp}
-use Rattle.lan_frames.proofs.Named.{neither_first, neither_second}
+use Rattle.lan_frames.specs.Carried.{names_tcp_or_udp, is_tcp_or_udp, has_ports_behind}
+use Rattle.lan_frames.proofs.Named.{neither_first, neither_second, behind_named}
 use Rattle.lan_hosts.specs.Call as Call
 use Rattle.lan_hosts.specs.Call.{SocketCall}
 use Rattle.lan_packets.specs.Calls.{tcp_does, udp_does}
@@ -138,26 +142,29 @@ foreign_runs = record { polls = foreign_sockets; calls = calls_foreign; unused =
 read_so : (p : IpProtocol) (n : ℕ) → p ≡ protocol_of n → protocol_of (protocol_number p) ≡ p
 read_so p n is = ap (λ (q : IpProtocol). protocol_of (protocol_number q)) is ∙ ap protocol_of (protocol_number-protocol_of n) ∙ sym is
 
-foreign_header : (h : IpRepr) (bytes : List ℕ) → names_tcp_or_udp Medium.Ip bytes ≡ false → IsIp false bytes h → NamesNoPorts (carried_in (normal h))
+foreign_header : (h : IpRepr) (bytes : List ℕ) → names_tcp_or_udp Medium.Ip bytes ≡ false → IsIp false bytes h →
+    NamesNoPorts (carried_in (upper_header (normal h) (carried_by h bytes)))
 foreign_header (Ip.Ipv4 v) bytes none is =
     subst NamesNoPorts (sym (read_so v.next_header (slice_index bytes 9) is.protocol))
-    (neither_first (slice_index bytes 0 / 16) 4 (slice_index bytes 9) ((slice_index bytes 0 / 16 == 6) && is_tcp_or_udp (slice_index bytes 6)) v.next_header
+    (neither_first (slice_index bytes 0 / 16) 4 (slice_index bytes 9) ((slice_index bytes 0 / 16 == 6) && has_ports_behind bytes) v.next_header
     is.version none is.protocol)
 foreign_header (Ip.Ipv6 v) bytes none is =
-    subst NamesNoPorts (sym (read_so v.next_header (slice_index bytes 6) is.protocol))
-    (neither_second (slice_index bytes 0 / 16) 6 (slice_index bytes 6) ((slice_index bytes 0 / 16 == 4) && is_tcp_or_udp (slice_index bytes 9)) v.next_header
-    is.version none is.protocol)
+    subst (λ (q : IpProtocol). NamesNoPorts (upper_of (go_through q (payload_of bytes)))) (sym (read_so v.next_header (slice_index bytes 6) is.protocol))
+    (behind_named bytes v.next_header is.protocol
+    (neither_second (slice_index bytes 0 / 16) 6 ((slice_index bytes 0 / 16 == 4) && is_tcp_or_udp (slice_index bytes 9)) _ is.version none))
 
 foreign_first : (o : Option (Unit {0} × List ℕ)) (v v' : RawValue) (answer : Answer.Offer) (p : PacketValue) → first v.queued ≡ o → QueuesForeign (Is.Raw v) →
     OffersFirst Raws.TakesPacket v o answer v' → v'.offered ≡ Some p
-    → NamesNoPorts (carried_in (normal p.header))
+    → NamesNoPorts (carried_in (upper_header (normal p.header) (bytes_of p)))
 foreign_first None v v' answer p is holds offers open_so =
     let none : v'.offered ≡ None = ap (λ (w : RawValue). w.offered) offers.1 in
     absurd (let clash : None ≡ Some p = sym none ∙ open_so in cc)
 foreign_first (Some q) v v' answer p is holds offers open_so =
     let only : IsOnly (Raws.TakesPacket v.settings q) p = subst (IsFound (Raws.TakesPacket v.settings q)) open_so offers.0 in
-    foreign_header p.header q.1 (each_first IsForeign v.queued q is holds) only.takes.read
+    subst (λ (x : PayloadValue). NamesNoPorts (carried_in (upper_header (normal p.header) (payload_written sealed p.header x))))
+    (sym (ap (λ (x : PacketValue). x.payload) only.takes.carried))
+    (foreign_header p.header q.1 (each_first IsForeign v.queued q is holds) only.takes.read)
 
 pub offered_foreign : (cx : ContextValue) (v v' : RawValue) (answer : Answer.Offer) (p : PacketValue) → QueuesForeign (Is.Raw v) → Raws.Offers cx v answer v' →
-    v'.offered ≡ Some p → NamesNoPorts (carried_in (normal p.header))
+    v'.offered ≡ Some p → NamesNoPorts (carried_in (upper_header (normal p.header) (bytes_of p)))
 offered_foreign cx v v' answer p holds offers open_so = foreign_first (first v.queued) v v' answer p refl holds offers open_so

@@ -17,10 +17,10 @@ use Rattle.interface_ingress.specs.Arp.{arp_answer}
 use Rattle.interface_ingress.specs.Arrives as Replies
 use Rattle.interface_ingress.specs.Arrives.{ReplyValue, Arrived, ArrivesV4, ArrivesV6, Brings, Hands, IsSilent, answered, is_direct, renewed, renewed_by}
 use Rattle.interface_ingress.specs.Arrives.{sender_of}
-use Rattle.interface_ingress.specs.Carried.{IsCarriedContent}
 use Rattle.interface_ingress.specs.Delivered.{packet_delivered, is_taken_raw, datagram_place, segment_delivered, segment_answer}
-use Rattle.interface_ingress.specs.Handed.{control_v4_places, control_v6_places, names_nobody, handed_places, handed_reply, is_known}
+use Rattle.interface_ingress.specs.Handed.{control_v4_places, control_v6_places, names_nobody, handed_places, handed_reply}
 use Rattle.interface_ingress.specs.Incoming.{IncomingValue, Arp, Ip4, Ip6}
+use Rattle.interface_ingress.specs.Upper.{IsBrought}
 use Rattle.lan_hosts.specs.Side.{Side}
 use Rattle.lan_hosts.specs.Kinds.{other}
 use Rattle.lan_packets.specs.Parties.{Party, Net, party, WasMade}
@@ -30,7 +30,7 @@ use Rattle.lan_theorem.proofs.Moves.Arrivals.{Answered, packet_delivered_same, i
 use Rattle.lan_theorem.proofs.Moves.Arrivals.{segment_taken}
 use Rattle.lan_theorem.proofs.Moves.Nets.{Moved, stays}
 use Rattle.lan_theorem.proofs.Moves.Places.{Places}
-use Rattle.lan_theorem.proofs.Moves.Replies.{control_v4_made, control_v6_made, port_error_made, protocol_error_made, answered_made, told_made}
+use Rattle.lan_theorem.proofs.Moves.Replies.{control_v4_made, control_v6_made, port_error_made, unread_made, answered_made, told_made}
 
 -- moves lead to these sockets, and what answers was made
 pub record Ended (names : List ℕ → Bool) (side : Side) (net now : Net) (places : Places) (reply : Option ReplyValue) : Type 0 where
@@ -61,10 +61,10 @@ module _ (names : List ℕ → Bool) (side : Side) (net now : Net) (r : Reaches 
     segment true header bytes made = nothing names side net now r places has
     segment false header bytes made = segment_taken names side net now r places has (context_of i) ip header bytes made taken
 
-    handed : (caps : ChecksumCapabilities) (carried : Option PayloadValue) → IsCarriedContent caps ip payload carried →
+    handed : (caps : ChecksumCapabilities) (carried : Option PayloadValue) → IsBrought caps ip payload carried →
         HandsMade (party net (other side)) caps ip payload
         → Ends (handed_places i places ip carried) (handed_reply i places ip payload taken carried)
-    handed caps None is made = same_with places _ refl (λ p. protocol_error_made p (is_known ip || taken) i ip payload)
+    handed caps None is made = same_with places _ refl (λ p. unread_made p i ip payload taken)
     handed caps (Some (ControlV4 message bytes)) is made =
         same_with (control_v4_places ip message bytes places) _ (control_v4 ip message bytes) (λ p. control_v4_made p i ip message bytes)
     handed caps (Some (ControlV6 message bytes)) is made =

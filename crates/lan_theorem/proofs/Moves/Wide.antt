@@ -16,7 +16,11 @@ use Rattle.interface_delivery.specs.UdpRepr.{UdpRepr}
 use Rattle.interface_ingress.specs.ArpRepr.{ArpRepr}
 use Rattle.net_containers.specs.Packets.{first}
 use Rattle.sockets.specs.Context.{ContextValue}
-use Rattle.sockets.specs.Packet.{PacketValue, PayloadValue, ControlV4, ControlV6, Bytes, Datagram, Segment, packet_of}
+use Rattle.sockets.specs.Packet.{PacketValue, PayloadValue, ControlV4, ControlV6, Bytes, Datagram, Segment, packet_of, payload_written}
+use Rattle.interface_delivery.specs.Delivered.{NamesNoPorts}
+use Rattle.interface_delivery.specs.Ip as Ips
+use Rattle.interface_delivery.specs.Ip.{carried_in}
+use Rattle.lan_theorem.specs.Link.Made.{sealed}
 use Rattle.interface_delivery.specs.Widths.{IsPayload}
 use Rattle.sockets.specs.Offer as Answer
 use Rattle.sockets.specs.WellFormed.{AreFields, HasWidths, IsWellFormed}
@@ -41,10 +45,10 @@ use Rattle.sockets.specs.declared.socket.Socket.TheVariants as Is
 use Rattle.interface_tables.specs.Inner.{InnerValue, context_of, is_for_us}
 use Rattle.interface_ingress.specs.Arrives.{Arrived, ArrivesV4, ArrivesV6, Brings, Hands, ReplyValue, Tells, Answers, told, answered, renewed}
 use Rattle.interface_ingress.specs.Arp.{arp_answer}
-use Rattle.interface_ingress.specs.Carried.{IsCarriedContent}
 use Rattle.interface_ingress.specs.Delivered.{packet_by, packet_delivered, is_taken_raw}
 use Rattle.interface_ingress.specs.Handed.{handed_reply}
 use Rattle.interface_ingress.specs.Incoming.{IncomingValue, Arp, Ip4, Ip6}
+use Rattle.interface_ingress.specs.Upper.{upper_header, upper_payload, IsBrought}
 use Rattle.lan_packets.proofs.Queues.{each_first}
 use Rattle.lan_theorem.specs.Moves.Fit.{AreNamed, NamesPorts, IsFit}
 use Rattle.lan_theorem.specs.Moves.Made.{FitsBehind, IsWide}
@@ -153,7 +157,10 @@ offered_fits : (cx : ContextValue) (s s' : Socket) (answer : Answer.Offer) (p : 
     NamesItsPayload p → HasWidths p.payload → FitsBehind p.header p.payload
 offered_fits cx (Is.Raw v) (Is.Raw v') answer p fit offers is named widths =
     let took = takes_one Raws.TakesPacket v (first v.queued) answer v' p offers is in
-    subst (FitsBehind p.header) (sym (ap (λ (x : PacketValue). x.payload) took.1.carried)) (offered_foreign cx v v' answer p fit.0 offers is)
+    let carried = ap (λ (x : PacketValue). x.payload) took.1.carried in
+    subst (FitsBehind p.header) (sym carried)
+    (subst (λ (x : PayloadValue). NamesNoPorts (carried_in (upper_header (Ips.normal p.header) (payload_written sealed p.header x)))) carried
+    (offered_foreign cx v v' answer p fit.0 offers is))
 offered_fits cx (Is.Icmp v) (Is.Icmp v') answer p fit offers is named widths =
     let took = takes_one (Icmps.TakesMessage cx) v (first v.queued) answer v' p offers is in
     plain_fits p.header p.payload (icmp_plain (cx.source_for took.0.0) took.0.0 took.0.1 (hops v.settings.hop_limit) p took.1) named widths
@@ -196,10 +203,11 @@ six : (header : Ipv6Repr) (message : MessageValue) (bytes : List ℕ) → header
 six header message bytes named = tt
 
 replied_plain : (i : InnerValue) (places : Places) (ip : IpRepr) (payload : List ℕ) (taken : Bool) (carried : Option PayloadValue) →
-    IsCarriedContent i.checksums ip payload carried → IfSome (handed_reply i places ip payload taken carried) GoesPlain
+    IsBrought i.checksums ip payload carried → IfSome (handed_reply i places ip payload taken carried) GoesPlain
 replied_plain i places ip payload taken carried is =
     replied_all GoesPlain four six i places ip payload taken carried (λ header bytes same.
-    segments_plain (context_of i) ip header bytes (segment_named i.checksums ip payload header bytes (subst (IsCarriedContent i.checksums ip payload) same is)))
+    segments_plain (context_of i) ip header bytes (segment_named i.checksums (upper_header ip payload) (upper_payload ip payload) header bytes
+    (subst (IsBrought i.checksums ip payload) same is)))
 
 -- once its fields are of their widths
 abbrev pub CanBeWide : ReplyValue → Type 0

@@ -10,6 +10,7 @@ use Rattle.interface_delivery.specs.IpRepr.{IpRepr}
 use Rattle.interface_delivery.specs.IpRepr.TheVariants as Ip
 use Rattle.sockets.specs.Packet.{PacketValue, PayloadValue, ControlV4, ControlV6, Bytes, Datagram, Segment, payload_written}
 use Rattle.interface_ingress.specs.Carried.{IsCarried}
+use Rattle.interface_ingress.specs.Upper.{upper_header, upper_payload}
 use Rattle.interface_ingress.specs.Incoming.{IncomingValue, Arp, Ip4, Ip6}
 use Rattle.interface_ingress.specs.Reassembled.{is_piece}
 use Rattle.interface_ingress.specs.Sent.{CanBeRead, normal_payload}
@@ -33,9 +34,9 @@ module _ (made : PayloadValue → Type 0) where
   WasMade (ControlV6 message bytes) = Unit {0}
   WasMade (Bytes bytes) = Unit {0}
 
-  -- whatever a payload behind this header is read as was made
+  -- whatever is read behind this header, and its extension headers, was made
   abbrev pub HandsMade : IpRepr → List ℕ → Type 0
-  HandsMade ip payload = (x : PayloadValue) → IsCarried sealed ip payload x → WasMade x
+  HandsMade ip payload = (x : PayloadValue) → IsCarried sealed (upper_header ip payload) (upper_payload ip payload) x → WasMade x
 
   -- what is whole brings what was made
   abbrev pub BringsMade : Option IncomingValue → Type 0
@@ -54,7 +55,8 @@ module _ (made : PayloadValue → Type 0) where
   -- host made.
   pub record IsGoing (p : PacketValue) : Type 0 where
     pub offered : IsOffered p
-    pub carries : NamesNoPorts (carried_in (Ips.normal p.header)) ⊎ (CanBeRead p.header p.payload × made (normal_payload p.payload))
+    pub carries : NamesNoPorts (carried_in (upper_header (Ips.normal p.header) (payload_written sealed p.header p.payload)))
+        ⊎ (CanBeRead p.header p.payload × made (normal_payload p.payload))
 
 -- the bytes behind a packet's IP header
 abbrev pub bytes_of : PacketValue → List ℕ

@@ -15,6 +15,7 @@ use Rattle.interface_ingress.specs.Arrives.{ReplyValue, Tells, Answers}
 use Rattle.interface_ingress.specs.Carried.{IsDatagram, IsSegment}
 use Rattle.interface_ingress.specs.Sent.{CanBeRead}
 use Rattle.interface_ingress.specs.Incoming.{IncomingValue, Arp, Ip4, Ip6}
+use Rattle.interface_ingress.specs.Upper.{upper_header, upper_payload}
 use Rattle.lan_packets.specs.Parties as Parties
 use Rattle.lan_packets.specs.Parties.{Party, WasMade}
 
@@ -46,9 +47,9 @@ IsMadeReply p (Answers x) = IsMade p x
 
 -- FORM
 
--- the header names what is carried, whose fields are numbers of their widths; bytes are of another protocol than TCP and UDP
+-- the header names what is carried, whose fields are numbers of their widths; bytes carry neither TCP nor UDP, behind extension headers either
 abbrev pub FitsBehind : IpRepr → PayloadValue → Type 0
-FitsBehind header (Bytes bytes) = NamesNoPorts (carried_in (Ips.normal header))
+FitsBehind header (Bytes bytes) = NamesNoPorts (carried_in (upper_header (Ips.normal header) bytes))
 FitsBehind header payload = CanBeRead header payload
 
 -- a packet that can be sent, and read by another host
@@ -60,8 +61,10 @@ pub record IsWide (x : PacketValue) : Type 0 where
 
 -- each segment and each datagram that this payload is read as was made by this host
 pub record HandsMade (q : Party) (caps : ChecksumCapabilities) (ip : IpRepr) (payload : List ℕ) : Type 0 where
-  pub segments : (header : TcpHeader) (bytes : List ℕ) → IsSegment caps ip payload header bytes → IsAmong q.segments (made_of header bytes)
-  pub datagrams : (udp : UdpRepr) (bytes : List ℕ) → IsDatagram caps ip payload udp bytes → WasMade q (datagram_of udp bytes)
+  pub segments : (header : TcpHeader) (bytes : List ℕ) → IsSegment caps (upper_header ip payload) (upper_payload ip payload) header bytes
+      → IsAmong q.segments (made_of header bytes)
+  pub datagrams : (udp : UdpRepr) (bytes : List ℕ) → IsDatagram caps (upper_header ip payload) (upper_payload ip payload) udp bytes
+      → WasMade q (datagram_of udp bytes)
 
 -- so of a content that arrived whole, or was rebuilt
 abbrev pub BringsMade : Party → ChecksumCapabilities → Option IncomingValue → Type 0

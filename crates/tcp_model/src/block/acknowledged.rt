@@ -4,9 +4,9 @@ ghost use Rattle.net_base.specs.Time.{IsMoment};
 ghost use Rattle.tcp_model.specs.Acknowledged.{freed_by, sender_moved, retransmit_after, acks_own_syn, acks_in_recovery, is_partial, round_trip_after};
 ghost use Rattle.tcp_model.specs.Acknowledged.{recovery_after, reno_after, una_moved, acks_fin, state_after_ack, in_state, block_acknowledged, scaled};
 ghost use Rattle.tcp_model.specs.Acknowledged.{acks_no_less, or_number, names_window, windowed, window_set, end_past, highest_end, sacked_by, ranges_taken};
-ghost use Rattle.tcp_model.specs.Acknowledged.{tells_of_loss, is_duplicate, duplicates_after, is_third, begins_recovery, reno_counted, counted};
+ghost use Rattle.tcp_model.specs.Acknowledged.{tells_of_loss, is_duplicate, duplicates_after, is_third, begins_recovery};
+ghost use Rattle.tcp_model.specs.Acknowledged.{partly_after, una_risen, reno_counted, counted};
 
-use super::opening::or_recent;
 use crate::{Block, State};
 use ip_wire::{MAX_WINDOW_SCALE, SeqNumber, TcpHeader};
 use net_base::Instant;
@@ -79,11 +79,22 @@ impl Block {
         ensures { self.new ≡ una_moved self.old by queued now }
     {
         let partial = self.is_partial(by);
+        self.raise_una(by, partial, queued, now);
+        self.lower_loss(by, partial, now);
+    }
+
+    /// The same, but for what is known of losses.
+    fn raise_una(&mut self, by: u32, partial: bool, queued: usize, now: Instant)
+        requires moment { IsMoment now }
+        requires partial { partial ≡ is_partial self.old by }
+        ensures { self.new ≡ una_risen self.old by queued now }
+    {
         let again = self.sender.partial && partial;
+        let first = partial && self.loss.resent.saturating_sub(by) == 0;
         self.time_una(by, queued, now);
         self.move_sender(by);
-        self.sender.resend = self.sender.resend || partial;
-        self.sender.partial = self.sender.partial || partial;
+        self.sender.resend = self.sender.resend || first;
+        self.sender.partial = self.sender.partial || partial && !self.peer.sack;
         self.timers.retransmit_at = self.retransmit_after(by, again, now);
     }
 
@@ -118,13 +129,24 @@ impl Block {
         self.acks_in_recovery(by) && (by as u64 + 1) < self.sender.recover as u64
     }
 
+    /// What a partial acknowledgement makes of the congestion window: with selective acknowledgements it
+    /// stays.
+    fn recover_partly(&mut self, by: u32, freed: usize, queued: usize)
+        requires { freed ≡ freed_by self.old by queued }
+        ensures { self.new ≡ record self.old { reno = partly_after self.old by queued } }
+    {
+        if !self.peer.sack {
+            self.reno.acknowledged_partly(freed);
+        }
+    }
+
     /// What fast recovery makes of this.
     fn recover_una(&mut self, by: u32, freed: usize, queued: usize)
         requires { freed ≡ freed_by self.old by queued }
         ensures { self.new ≡ record self.old { reno = recovery_after self.old by queued } }
     {
         if self.is_partial(by) {
-            self.reno.acknowledged_partly(freed);
+            self.recover_partly(by, freed, queued);
         } else {
             self.reno.recover();
         }
@@ -233,13 +255,14 @@ impl Block {
     }
 
     /// Takes the window of an accepted segment, if no newer one was named, and its timestamp.
-    pub fn set_window(&mut self, header: &TcpHeader)
-        ensures { self.new ≡ window_set self.old header.now }
+    pub fn set_window(&mut self, header: &TcpHeader, now: Instant)
+        requires { IsMoment now }
+        ensures { self.new ≡ window_set self.old header.now now }
     {
         if self.names_window(header) {
             self.take_window(header);
         }
-        self.peer.recent = or_recent(header.options.timestamp, self.peer.recent);
+        self.take_stamp(header, now);
     }
 
     /// How far past SND.UNA the highest position lies that the SACK ranges of a segment name, if both
@@ -255,9 +278,11 @@ impl Block {
     }
 
     /// Takes what the ranges of a segment name.
-    pub fn take_ranges(&mut self, header: &TcpHeader)
-        ensures { self.new ≡ ranges_taken self.old header.now }
+    pub fn take_ranges(&mut self, header: &TcpHeader, now: Instant)
+        requires { IsMoment now }
+        ensures { self.new ≡ ranges_taken self.old header.now now }
     {
+        self.note_ranges(header, now);
         self.sender.sacked = self.sender.sacked.max(self.sacked_by(header));
     }
 
@@ -291,19 +316,47 @@ impl Block {
         }
     }
 
+    /// Whether the third duplicate, or what the ranges say, begins fast recovery.
+    fn begins_recovery(&self, count: u8) -> bool
+        ensures { result ≡ begins_recovery self.now count }
+    {
+        self.sender.recover == 0 && (count == 3 || self.is_first_lost())
+    }
+
+    /// Congestion control after so many duplicates in a row, of which the last begins recovery, or what
+    /// went again is lost.
+    fn count_reno(&mut self, count: u8, begins: bool, again: bool)
+        ensures { self.new ≡ record self.old {
+          reno = reno_counted self.old.reno self.old.peer.sack count self.old.sender.in_flight begins again;
+        } }
+    {
+        let (sack, flight) = (self.peer.sack, self.sender.in_flight);
+        if begins && !sack {
+            self.reno.lost(flight);
+        } else if begins || again {
+            self.reno.reduce(flight);
+        } else if count != 0 && !sack {
+            self.reno.inflate();
+        }
+    }
+
     /// There were so many duplicates in a row. At the third the segment at SND.UNA is to go again, and fast
     /// recovery begins where more than `recover` is acknowledged.
     pub fn count(&mut self, count: u8)
         ensures { self.new ≡ counted self.old count }
     {
+        let begins = self.begins_recovery(count);
+        let again = self.is_lost_again();
+        let third = count == 3 && !self.reno.recovers();
+        self.count_reno(count, begins, again);
         self.sender.duplicates = count;
-        self.sender.resend = self.sender.resend || count == 3 && !self.reno.recovers();
-        if count == 3 && self.sender.recover == 0 {
-            self.reno.lost(self.sender.in_flight);
+        self.sender.resend = self.sender.resend || third || begins;
+        self.sender.partial = self.sender.partial && !begins;
+        if begins {
             self.sender.recover = self.past_top();
-            self.sender.partial = false;
-        } else if count != 0 {
-            self.reno.inflate();
+        }
+        if begins || again {
+            self.loss.resent = 0;
         }
     }
 }

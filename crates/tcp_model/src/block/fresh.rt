@@ -4,8 +4,8 @@ ghost use Rattle.tcp_model.specs.Blocks.{default_settings, fresh_sender, fresh_b
 ghost use Rattle.tcp_model.specs.Blocks.{own_shift, window_field, told_of, least_step, is_worth_telling, edge_after, announced};
 
 use crate::{
-    Block, CongestionControl, Names, Peer, Receiver, Reno, RoundTrip, Sender, Settings, State,
-    Timers,
+    Block, CongestionControl, Loss, Names, Peer, Receiver, Reno, RoundTrip, Sender, Settings,
+    Stamps, State, Timers,
 };
 use ip_wire::{IpListenEndpoint, MAX_WINDOW_SCALE, SeqNumber};
 use net_base::Duration;
@@ -57,7 +57,6 @@ impl Sender {
             syn_lost: false,
             timeouts: 0,
             unanswered: 0,
-            stamped: false,
             reset_due: false,
         }
     }
@@ -102,6 +101,7 @@ impl Block {
                 took_fin: false,
                 edge: 0,
                 mss: 0,
+                last_ack: SeqNumber(0),
             },
             peer: Peer {
                 window: 0,
@@ -113,6 +113,11 @@ impl Block {
                 sack: false,
                 timestamps: false,
                 recent: 0,
+            },
+            stamps: Stamps {
+                generator: None,
+                first: 0,
+                believed_until: None,
             },
             timers: Timers {
                 retransmit_at: None,
@@ -126,6 +131,7 @@ impl Block {
             },
             round_trip,
             reno: Reno::new(),
+            loss: Loss::NONE,
             settings,
         }
     }

@@ -83,6 +83,7 @@ impl Block {
     {
         self.receiver.next = behind_by(header.seq_number, 1);
         self.receiver.took_syn = true;
+        self.receiver.last_ack = self.receiver.next;
         self.peer = Peer::of_syn(header);
         self.reno.set_mss(self.peer.mss);
     }
@@ -116,12 +117,15 @@ impl Block {
     {
         self.take_syn(header);
         if header.ack_number.is_some() {
+            self.take_echo(header, 1, now);
             self.move_una(1, 0, now);
             self.state = State::Established;
             self.timers.ack_at = Some(now);
+            self.believe_stamp(now);
         } else {
             self.hear();
             self.state = State::SynReceived;
+            self.believe_stamp(now);
         }
     }
 }

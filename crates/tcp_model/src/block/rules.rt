@@ -2,7 +2,8 @@
 ghost use Rattle.std.specs.Prelude.{◌≡◌, ◌+◌, ◌≤◌, ◌<◌, ◌^◌, min};
 ghost use Rattle.tcp_model.specs.Rules.{time_wait_end, owes_syn, resends, ack_moment, Choice, stamp_len, size_limit, congestion_limit, beyond, window_limit};
 ghost use Rattle.tcp_model.specs.Rules.{next_place, fin_goes, text_of_size, ready, may_be_small, fills_enough, is_sendable, sends_choice, sent_places};
-ghost use Rattle.tcp_model.specs.Rules.{first_text, probe_choice, control_for, updates_window, keep_alive_moment, backed_off_now};
+ghost use Rattle.tcp_model.specs.LossRecovery.{again_place, hole_len};
+ghost use Rattle.tcp_model.specs.Rules.{congestion_room, sent_text, probe_choice, control_for, updates_window, keep_alive_moment, backed_off_now};
 ghost use Rattle.tcp_model.specs.Offers.{number_at, backed_off};
 ghost use Rattle.tcp_model.specs.Choices.{choice_of};
 
@@ -69,12 +70,12 @@ impl Block {
             && self.sender.in_flight == 0
     }
 
-    /// Whether the third duplicate came, or a partial acknowledgement, and the segment at SND.UNA is to go
-    /// again.
+    /// Whether something is to go again: the segment at SND.UNA, the last one as a probe, or what isn't held
+    /// at the next hole.
     pub fn resends(&self) -> bool
         ensures { result ≡ resends self.now }
     {
-        self.state.sends_text() && self.sender.resend
+        self.state.sends_text() && (self.sender.resend || self.loss.probes || self.fills_hole())
     }
 
     /// When an acknowledgement is due, where there is something to acknowledge.
@@ -93,11 +94,7 @@ impl Block {
         ensures value { result ≡ stamp_len self.now }
         ensures small { result ≤ 12 }
     {
-        if self.peer.timestamps && self.sender.stamped && self.settings.timestamps.is_some() {
-            12
-        } else {
-            0
-        }
+        if self.uses_stamps() { 12 } else { 0 }
     }
 
     /// The longest text of a segment: what the remote takes, and a packet holds behind headers without
@@ -124,10 +121,18 @@ impl Block {
         let size = size.min(self.peer.window.saturating_sub(flight) as usize);
         match self.settings.congestion_control {
             CongestionControl::None => size,
-            CongestionControl::Reno => {
-                let window = self.reno.window() + self.beyond();
-                size.min(window.saturating_sub(flight) as usize)
-            }
+            CongestionControl::Reno => { size.min(self.congestion_room() as usize) }
+        }
+    }
+
+    /// How much the congestion window lets go beyond what is on its way.
+    fn congestion_room(&self) -> u32
+        ensures { result ≡ congestion_room self.now }
+    {
+        if self.peer.sack {
+            self.reno.window().saturating_sub(self.pipe())
+        } else {
+            (self.reno.window() + self.beyond()).saturating_sub(self.sender.in_flight)
         }
     }
 
@@ -225,28 +230,48 @@ impl Block {
 
     /// How many places of the send queue, and one for the FIN behind it, were ever sent.
     fn sent_places(&self) -> usize
-        ensures { result ≡ sent_places self.now }
+        ensures value { result ≡ sent_places self.now }
+        ensures small { result < 2 ^ 32 }
     {
         (self.sender.top as usize).saturating_sub(self.sender.syn_unacked as usize)
     }
 
-    /// The segment at SND.UNA again, as far as it was sent, where so many bytes are queued and so many of
-    /// them lie there behind one another.
-    pub fn first_part(
+    /// From which place of the send queue something goes again.
+    pub fn resend_place(&self, addresses: &AddressPair, ip_mtu: usize, queued: usize) -> usize
+        ensures value { result ≡ again_place self.now (size_limit self.now addresses.now ip_mtu) (sent_places self.now) queued }
+        ensures within { result ≤ queued }
+    {
+        self.again_place(
+            self.size_limit(addresses, ip_mtu),
+            self.sent_places(),
+            queued,
+        )
+    }
+
+    /// What was sent again from a place on, up to what is held, where so many bytes are queued and so many
+    /// of them lie there behind one another.
+    pub fn sent_part(
         &self,
         addresses: &AddressPair,
         ip_mtu: usize,
+        place: usize,
         queued: usize,
         unbroken: usize,
     ) -> Part
-        ensures { choice_of result ≡ first_text self.now queued (min (sent_places self.now) (min (size_limit self.now addresses.now ip_mtu) unbroken)) }
+        requires { place < 2 ^ 32 }
+        ensures { choice_of result ≡ sent_text self.now queued place
+            (min (hole_len self.now place (sent_places self.now)) (min (size_limit self.now addresses.now ip_mtu) unbroken)) }
     {
         let sent = self.sent_places();
-        let len = self.size_limit(addresses, ip_mtu).min(unbroken).min(sent);
+        let len = self
+            .size_limit(addresses, ip_mtu)
+            .min(unbroken)
+            .min(self.hole_len(place, sent));
+        let end = place + len;
         Part {
-            place: 0,
+            place,
             len,
-            fin: self.fin_goes(queued, len) && len < sent,
+            fin: self.fin_goes(queued, end) && end < sent,
         }
     }
 
@@ -277,14 +302,23 @@ impl Block {
         }
     }
 
-    /// Where the retransmission timer has run out: SND.NXT goes back to SND.UNA, and the timer is off
-    /// until a segment goes. Congestion control isn't told of a SYN.
+    /// Where the retransmission timer has run out, or else where a loss probe is due.
     pub fn back_off(&mut self, now: Instant)
         ensures { self.new ≡ backed_off now self.old }
     {
-        if !is_due(now, self.timers.retransmit_at) {
-            return;
+        if is_due(now, self.timers.retransmit_at) {
+            self.time_out_flight();
+        } else {
+            self.probe_loss(now);
         }
+    }
+
+    /// SND.NXT goes back to SND.UNA, and the retransmission timer is off until a segment goes. Congestion
+    /// control isn't told of a SYN.
+    fn time_out_flight(&mut self)
+        ensures { self.new ≡ backed_off_now self.old }
+    {
+        self.lose_all();
         if !self.sender.syn_unacked {
             self.reno.timed_out(self.sender.in_flight);
             self.sender.recover = self.past_top();

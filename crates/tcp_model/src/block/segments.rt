@@ -69,8 +69,8 @@ impl Block {
         requires { IsMoment now }
         ensures { result ≡ stamp_of self.now now }
     {
-        if self.peer.timestamps && self.sender.stamped {
-            stamp_by(self.settings.timestamps, now, self.peer.recent)
+        if self.peer.timestamps {
+            stamp_by(self.stamps.generator, now, self.peer.recent)
         } else {
             None
         }
@@ -148,7 +148,7 @@ impl Block {
             sack_permitted: is_first || self.peer.sack,
             sack_ranges: [None; 3],
             timestamp: if is_first || self.peer.timestamps {
-                stamp_by(self.settings.timestamps, now, self.peer.recent)
+                stamp_by(self.generator(), now, self.peer.recent)
             } else {
                 None
             },

@@ -2,8 +2,10 @@
 ghost use Rattle.std.specs.Prelude.{◌≡◌, ◌+◌, ◌≤◌, ◌<◌, ◌^◌};
 ghost use Rattle.net_base.specs.Time.{IsMoment};
 ghost use Rattle.tcp_model.specs.Unsettled.{EndsNear};
-ghost use Rattle.tcp_model.specs.Settled.{edge_by, recorded, end_of, nxt_moved, timer_started, went, syn_went, resent, probed, sent_as};
+ghost use Rattle.tcp_model.specs.Settled.{edge_by, recorded, end_of, past_held, nxt_moved, timer_started, loss_watched, went, syn_went, resent, probed};
+ghost use Rattle.tcp_model.specs.Settled.{sent_as};
 
+use super::acknowledged::or_number;
 use super::opening::or_mss;
 use crate::{Block, OfferKind, OpenOffer};
 use net_base::Instant;
@@ -18,6 +20,7 @@ impl Block {
         ensures { self.new ≡ recorded self.old offer.now capacity }
     {
         self.receiver.edge = self.edge_by(offer, capacity);
+        self.receiver.last_ack = or_number(self.receiver.last_ack, offer.segment.ack_number);
         if offer.segment.ack_number.is_some() {
             self.timers.ack_at = None;
             self.timers.text_unacked = false;
@@ -39,15 +42,25 @@ impl Block {
 
     /// SND.NXT moves so far past SND.UNA, if that is higher. The round trip is timed of a segment that
     /// reaches further than anything before.
-    fn move_nxt(&mut self, end: u32, now: Instant)
+    fn move_nxt(&mut self, end: u32, queued: usize, now: Instant)
         requires { IsMoment now }
-        ensures { self.new ≡ nxt_moved self.old end now }
+        ensures { self.new ≡ nxt_moved self.old end queued now }
     {
         if self.sender.top < end {
             self.round_trip.time(end, now);
         }
-        self.sender.in_flight = self.sender.in_flight.max(end);
+        self.sender.in_flight = self.sender.in_flight.max(self.past_held(end, queued));
         self.sender.top = self.sender.top.max(end);
+    }
+
+    /// So far past SND.UNA, and past what the remote holds there of the send queue.
+    fn past_held(&self, end: u32, queued: usize) -> u32
+        ensures { result ≡ past_held self.now end queued }
+    {
+        let sent = (self.sender.top as usize).min(queued.saturating_add(
+            self.sender.syn_unacked as usize,
+        ));
+        end.max(self.loss.board.first_missing(end).min(sent as u32))
     }
 
     fn start_timer(&mut self, now: Instant)
@@ -75,15 +88,17 @@ impl Block {
         ensures { self.new ≡ went self.old offer.now queued }
     {
         let end = self.end_of(offer);
-        self.move_nxt(end, offer.moment);
+        self.move_nxt(end, queued, offer.moment);
         self.start_timer(offer.moment);
+        self.arm_probe(offer.moment);
         self.keep_probe(queued);
     }
 
-    /// The segment at SND.UNA went again.
-    fn resent(&mut self)
-        ensures { self.new ≡ resent self.old }
+    /// Something went again, up to so far past SND.UNA.
+    fn resent(&mut self, end: u32)
+        ensures { self.new ≡ resent self.old end }
     {
+        self.lose_resent(end);
         self.sender.resend = false;
         self.round_trip.forget_sample();
     }
@@ -109,12 +124,13 @@ impl Block {
         match offer.kind {
             OfferKind::Reset => self.forget(),
             OfferKind::Syn => {
-                self.sender.stamped = offer.segment.options.timestamp.is_some();
+                self.begin_stamps(offer.moment);
                 self.receiver.mss = or_mss(offer.segment.options.max_seg_size);
                 self.went(offer, queued);
             }
             OfferKind::FastRetransmission => {
-                self.resent();
+                let end = self.end_of(offer);
+                self.resent(end);
                 self.went(offer, queued);
             }
             OfferKind::Text => self.went(offer, queued),

@@ -60,6 +60,7 @@ impl Block {
         ensures { self.new ≡ ack_recorded self.old capacity window }
     {
         self.receiver.edge = self.edge_after(capacity, window);
+        self.receiver.last_ack = self.receiver.next;
         self.timers.ack_at = None;
         self.timers.text_unacked = false;
     }

@@ -1,4 +1,4 @@
-use Rattle.interface_ingress.proofs.FramesArrive.{packet-arrives, payload-arrives, length-carried}
+use Rattle.interface_ingress.proofs.FramesArrive.{packet-arrives, payload-brought, length-carried}
 use Rattle.socket_base.specs.Packet.{payload_written}
 use Rattle.interface_ingress.proofs.frame_laws.packets_arrive.Goals as goal
 
@@ -6,5 +6,5 @@ pub returns : goal.returns
 returns c = λ hardware sender receiver link p padding framed sendable value can sealed. (
   packet-arrives hardware sender receiver link p.header (payload_written sender p.header p.payload) padding framed sendable.header value
       (length-carried sender p sendable can) sealed,
-  payload-arrives sender receiver p.header p.payload sendable.payload can sealed,
+  payload-brought sender receiver p.header p.payload sendable.payload can sealed,
 )

@@ -24,6 +24,7 @@ returns-clause-counts c = record {
   opened = leb-true _ _ refl;
   no_syn = refl;
   no_reset = refl;
+  fresh = refl;
   acknowledges = refl;
   sent = leb-true _ _ refl;
   few = ltb-true _ _ refl;

@@ -1,5 +1,5 @@
-use Rattle.value_laws.proofs.Equal.{Decides-block, Decides-congestion, Decides-names, Decides-peer, Decides-receiver, Decides-reno, Decides-round_trip}
-use Rattle.value_laws.proofs.Equal.{Decides-sender, Decides-settings, Decides-state, Decides-timers}
+use Rattle.value_laws.proofs.Equal.{Decides-block, Decides-congestion, Decides-loss, Decides-names, Decides-peer, Decides-receiver, Decides-reno, Decides-round_trip}
+use Rattle.value_laws.proofs.Equal.{Decides-run, Decides-scoreboard, Decides-sender, Decides-settings, Decides-state, Decides-timers}
 use Rattle.value_laws.proofs.connections.blocks_are_equated.Goals as goal
 
 pub returns : goal.returns
@@ -12,6 +12,9 @@ returns c = record {
   timers = Decides-timers;
   round_trip = Decides-round_trip;
   reno = Decides-reno;
+  run = Decides-run;
+  scoreboard = Decides-scoreboard;
+  loss = Decides-loss;
   congestion = Decides-congestion;
   settings = Decides-settings;
   block = Decides-block;

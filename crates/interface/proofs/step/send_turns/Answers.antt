@@ -2,7 +2,7 @@ use Rattle.std.proofs.Common.{Option, false, [], inl, inr, refl, subst}
 use Rattle.ip_wire.specs.IpAddress.{IpAddress}
 use Rattle.interface.specs.Host.{sender}
 use Rattle.interface.specs.Pass.{Pass, passed}
-use Rattle.interface.proofs.step.send_all.Goals as goal
+use Rattle.interface.proofs.step.send_turns.Goals as goal
 
 pub returns-then-not-send_waiting-clause-egress : goal.returns-then-not-send_waiting-clause-egress
 returns-then-not-send_waiting-clause-egress g c =

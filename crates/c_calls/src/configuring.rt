@@ -1,0 +1,126 @@
+//! Calls of the clients of DHCP and DNS. UDP sockets of the host carry their datagrams: what one received is handed to its client, and
+//! what the client has to send is queued at the socket.
+ghost use Rattle.std.specs.Prelude.{◌≡◌, Err};
+ghost use Rattle.std.specs.Str.{IsUtf8};
+ghost use Rattle.c_sockets.specs.Leases.{dhcp_answer, dhcp_made, told_answer, told_after};
+ghost use Rattle.c_sockets.specs.Leases as Leases;
+ghost use Rattle.c_sockets.specs.Names.{query_made, found_answer, found_after};
+ghost use Rattle.c_sockets.specs.Names as Names;
+ghost use Rattle.c_calls.specs.Configuring.{LeaseArrives, LeaseGoes, AsksName, AnswerArrives, QueryGoes};
+
+use crate::host::Host;
+use c_sockets::{Code, Sending, leases, names};
+use clients::dhcp::Event;
+use clients::dns::{Addresses, DnsQueryType};
+use ip_wire::{IpAddress, IpEndpoint};
+use net_base::Instant;
+use sockets::PollAt;
+
+impl Host {
+    /// A client of DHCP for this station, in place of one that there was. The seed is that of its random words.
+    pub fn dhcp_new(&mut self, seed: u64) -> Result<(), Code>
+        ensures answer { result ≡ dhcp_answer self.old.host.inner.hardware }
+        ensures after { self.new ≡ record self.old { dhcp = dhcp_made self.old.host.inner.hardware seed self.old.dhcp } }
+    {
+        leases::begin(&mut self.dhcp, self.interface.hardware_addr(), seed)
+    }
+
+    /// A datagram that a socket received at the clients' port.
+    pub fn dhcp_recv(
+        &mut self,
+        bytes: &[u8],
+        remote: IpEndpoint,
+        local: IpAddress,
+    ) -> Result<(), Code>
+        ensures { LeaseArrives remote local bytes.now self.old result self.new }
+    {
+        leases::recv(&mut self.dhcp, &self.interface, bytes, remote, local)
+    }
+
+    /// Copies the message that is due to the front of the slice. It is open until `dhcp_sent` says what became of it.
+    pub fn dhcp_send(&mut self, out: &mut [u8]) -> Result<Sending, Code>
+        ensures { LeaseGoes out.old self.old result out.new self.new }
+    {
+        leases::send(&mut self.dhcp, &self.interface, out)
+    }
+
+    /// What became of the message: behind one that was sent the client waits for its answer.
+    pub fn dhcp_sent(&mut self, is_sent: bool) -> Result<(), Code>
+        ensures answer { result ≡ Leases.sent_answer self.old.dhcp }
+        ensures after { self.new ≡ record self.old { dhcp = Leases.sent_after is_sent self.old.dhcp } }
+    {
+        leases::sent(&mut self.dhcp, is_sent)
+    }
+
+    /// What happened since the last call: a lease that is over by now is given up first.
+    pub fn dhcp_poll(&mut self, now: Instant) -> Result<Option<Event>, Code>
+        ensures answer { result ≡ told_answer now self.old.dhcp }
+        ensures after { self.new ≡ record self.old { dhcp = told_after now self.old.dhcp } }
+    {
+        leases::poll(&mut self.dhcp, now)
+    }
+
+    /// When the client of DHCP has something to send.
+    pub fn dhcp_poll_at(&self) -> Result<PollAt, Code>
+        ensures { result ≡ Leases.due_answer self.now.dhcp }
+    {
+        leases::poll_at(&self.dhcp, &self.interface)
+    }
+
+    /// A client of DNS that asks these servers, in place of one that there was.
+    pub fn dns_new(&mut self, servers: &[IpAddress])
+        ensures { self.new ≡ record self.old { dns = query_made servers.now } }
+    {
+        names::begin(&mut self.dns, servers);
+    }
+
+    /// Asks for the addresses of a name, which is a text with dots between its labels. A query that is begun draws two random words.
+    pub fn dns_ask(&mut self, name: &[u8], kind: DnsQueryType) -> Result<(), Code>
+        ensures text { (IsUtf8 name.now → ⊥) → (result ≡ Err Code.InvalidName) × (self.new ≡ self.old) }
+        ensures asks { IsUtf8 name.now → AsksName name.now kind self.old result self.new }
+    {
+        names::start(&mut self.dns, &mut self.interface, name, kind)
+    }
+
+    /// A datagram that a socket received at an own address and its port.
+    pub fn dns_recv(
+        &mut self,
+        bytes: &[u8],
+        remote: IpEndpoint,
+        local: IpEndpoint,
+    ) -> Result<(), Code>
+        ensures { AnswerArrives remote local bytes.now self.old result self.new }
+    {
+        names::recv(&mut self.dns, &self.interface, bytes, remote, local)
+    }
+
+    /// Copies the query that is due to the front of the slice. It is open until `dns_sent` says what became of it.
+    pub fn dns_send(&mut self, out: &mut [u8]) -> Result<Sending, Code>
+        ensures { QueryGoes out.old self.old result out.new self.new }
+    {
+        names::send(&mut self.dns, &self.interface, out)
+    }
+
+    /// What became of the query: behind one that was sent the client waits for its answer.
+    pub fn dns_sent(&mut self, is_sent: bool) -> Result<(), Code>
+        ensures answer { result ≡ Names.sent_answer self.old.dns }
+        ensures after { self.new ≡ record self.old { dns = Names.sent_after is_sent self.old.dns } }
+    {
+        names::sent(&mut self.dns, is_sent)
+    }
+
+    /// The addresses that were found, which are told once.
+    pub fn dns_result(&mut self) -> Result<Addresses, Code>
+        ensures answer { result ≡ found_answer self.old.dns }
+        ensures after { self.new ≡ record self.old { dns = found_after self.old.dns } }
+    {
+        names::found(&mut self.dns)
+    }
+
+    /// When the client of DNS has something to send.
+    pub fn dns_poll_at(&self) -> Result<PollAt, Code>
+        ensures { result ≡ Names.due_answer self.now.dns }
+    {
+        names::poll_at(&self.dns, &self.interface)
+    }
+}

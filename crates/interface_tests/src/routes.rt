@@ -1,0 +1,33 @@
+//! Default routes.
+use interface_tables::Routes;
+use ip_wire::{IpAddress, Ipv4Address, Ipv6Address};
+use std::test::Fail;
+
+/// Which routers the default routes lead to, of each family.
+fn defaults(routes: &Routes<2>) -> (Option<IpAddress>, Option<IpAddress>) {
+    (
+        routes
+            .get_default_ipv4_route()
+            .map(|route| route.via_router),
+        routes
+            .get_default_ipv6_route()
+            .map(|route| route.via_router),
+    )
+}
+
+/// Each family has one of its own, which another one of the family replaces.
+#[test]
+fn tells_default_routes(rt: HostRuntime) -> Result<(), Fail> {
+    let v4 = Ipv4Address::new(192, 168, 1, 1);
+    let v6 = Ipv6Address::new(0xfd00, 0, 0, 0, 0, 0, 0, 1);
+    let (router4, router6) = (Some(IpAddress::Ipv4(v4)), Some(IpAddress::Ipv6(v6)));
+    let mut routes: Routes<2> = Routes::new();
+    assert!(rt; defaults(&routes) == (None, None));
+    let _ = routes.add_default_ipv6_route(v6);
+    assert!(rt; defaults(&routes) == (None, router6));
+    let _ = routes.add_default_ipv4_route(v4);
+    assert!(rt; defaults(&routes) == (router4, router6));
+    let _ = routes.remove_default_ipv6_route();
+    assert!(rt; defaults(&routes) == (router4, None));
+    Ok(())
+}

@@ -1,0 +1,5 @@
+pub mod Steps
+pub mod Brought
+pub mod Streams
+pub mod Datagrams
+pub mod Runs

@@ -1,0 +1,3 @@
+pub mod FirstNumbers
+pub mod Words
+pub mod SipSteps

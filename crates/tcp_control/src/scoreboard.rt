@@ -1,0 +1,240 @@
+//! What the remote holds of what was sent past SND.UNA, as its selective acknowledgements say (RFC 2018): the scoreboard of RFC 6675.
+ghost use Rattle.std.specs.Prelude.{◌≡◌};
+ghost use Rattle.tcp_control.specs.Scoreboard.{is_run, lies_in, meets, hull, lowered, hull_of, apart, without, free_place, placed, noted, reneges, after_ack, held, held_below, missing};
+ghost use Rattle.tcp_control.specs.Scoreboard.{first_missing, gap_end, runs_above, octets_above, is_lost, lost_end, no_runs, no_run};
+
+/// Positions behind one another, as distances from SND.UNA: the first, and the one behind the last. Where
+/// they are equal it is none.
+#[derive(Clone, Copy, Debug, PartialEq, Eq)]
+pub struct Run {
+    pub start: u32,
+    pub end: u32,
+}
+
+/// What the remote holds past SND.UNA, in no order. What doesn't fit isn't noted.
+#[derive(Clone, Copy, Debug, PartialEq, Eq)]
+pub struct Scoreboard {
+    pub runs: [Run; 16],
+}
+
+impl Run {
+    pub const NONE: Run = Run { start: 0, end: 0 };
+
+    /// Whether it has a position.
+    pub fn is_run(&self) -> bool
+        ensures { result ≡ is_run self.now }
+    {
+        self.start < self.end
+    }
+
+    fn lies_in(&self, place: u32) -> bool
+        ensures { result ≡ lies_in place self.now }
+    {
+        self.start <= place && place < self.end
+    }
+
+    /// Whether the two have a position in common, or one begins where the other ends.
+    fn meets(&self, other: &Run) -> bool
+        ensures { result ≡ meets other.now self.now }
+    {
+        self.is_run() && self.start <= other.end && other.start <= self.end
+    }
+
+    /// It, unless the other meets it.
+    fn apart(&self, other: &Run) -> Run
+        ensures { result ≡ apart other.now self.now }
+    {
+        if self.meets(other) { Run::NONE } else { *self }
+    }
+
+    /// The positions from the first of either to the last of either.
+    fn hull(&self, other: &Run) -> Run
+        ensures { result ≡ hull self.now other.now }
+    {
+        Run {
+            start: self.start.min(other.start),
+            end: self.end.max(other.end),
+        }
+    }
+
+    /// The same positions where SND.UNA rose by so much.
+    fn lowered(&self, by: u32) -> Run
+        ensures { result ≡ lowered by self.now }
+    {
+        Run {
+            start: self.start.saturating_sub(by),
+            end: self.end.saturating_sub(by),
+        }
+    }
+}
+
+impl Scoreboard {
+    /// Nothing is held.
+    pub const EMPTY: Scoreboard = Scoreboard {
+        runs: [Run::NONE; 16],
+    };
+
+    /// The remote said that it holds this run, too.
+    pub fn note(&mut self, run: Run)
+        ensures { self.new.runs ≡ noted self.old.runs run }
+    {
+        let hull = self.hull_of(&run);
+        self.take_out(&run);
+        self.place(hull);
+    }
+
+    /// A run together with those that it meets.
+    fn hull_of(&self, run: &Run) -> Run
+        ensures { result ≡ hull_of self.now.runs run.now }
+    {
+        self.runs.iter().fold(*run, |all, other| {
+            if other.meets(run) {
+                all.hull(other)
+            } else {
+                all
+            }
+        })
+    }
+
+    /// Takes out those that a run meets.
+    fn take_out(&mut self, run: &Run)
+        ensures { self.new.runs ≡ without self.old.runs run.now }
+    {
+        for other in self.runs.iter_mut() {
+            *other = other.apart(run);
+        }
+    }
+
+    /// Puts a run where there is none.
+    fn place(&mut self, run: Run)
+        ensures { self.new.runs ≡ placed self.old.runs run }
+    {
+        if let Some(place) = self.free_place() {
+            self.runs[place] = run;
+        }
+    }
+
+    /// Where there is no run.
+    fn free_place(&self) -> Option<usize>
+        ensures { result ≡ free_place self.now.runs }
+    {
+        self.runs.iter().position(|other| !other.is_run())
+    }
+
+    /// SND.UNA rose by so much. A run that then begins there was given up by the remote: then none is
+    /// believed any more.
+    pub fn acknowledge(&mut self, by: u32)
+        ensures { self.new.runs ≡ after_ack self.old.runs by }
+    {
+        if self.reneges(by) {
+            *self = Scoreboard::EMPTY;
+            return;
+        }
+        for run in self.runs.iter_mut() {
+            *run = run.lowered(by);
+        }
+    }
+
+    /// Whether the position so far past SND.UNA is held.
+    fn reneges(&self, by: u32) -> bool
+        ensures { result ≡ reneges self.now.runs by }
+    {
+        self.runs.iter().any(|run| run.lies_in(by))
+    }
+
+    /// How many positions are held.
+    pub fn held(&self) -> u32
+        ensures { result ≡ held self.now.runs }
+    {
+        self.held_below(u32::MAX)
+    }
+
+    /// How many positions below this one are held.
+    fn held_below(&self, place: u32) -> u32
+        ensures { result ≡ held_below self.now.runs place }
+    {
+        self.runs.iter().fold(0, |count, run| {
+            run.end
+                .min(place)
+                .saturating_sub(run.start.min(place))
+                .saturating_add(count)
+        })
+    }
+
+    /// How many positions below this one aren't held.
+    pub fn missing(&self, place: u32) -> u32
+        ensures { result ≡ missing self.now.runs place }
+    {
+        place.saturating_sub(self.held_below(place))
+    }
+
+    /// The first position from this one on that isn't held.
+    pub fn first_missing(&self, place: u32) -> u32
+        ensures { result ≡ first_missing self.now.runs place }
+    {
+        self.runs.iter().fold(place, |place, run| {
+            if run.lies_in(place) { run.end } else { place }
+        })
+    }
+
+    /// Where the first run behind this position begins, at most this one.
+    pub fn gap_end(&self, place: u32, most: u32) -> u32
+        ensures { result ≡ gap_end self.now.runs place most }
+    {
+        self.runs.iter().fold(most, |end, run| {
+            if run.is_run() && place < run.start {
+                end.min(run.start)
+            } else {
+                end
+            }
+        })
+    }
+
+    /// How many runs lie behind this position.
+    fn runs_above(&self, place: u32) -> u8
+        ensures { result ≡ runs_above self.now.runs place }
+    {
+        self.runs.iter().fold(0u8, |count, run| {
+            if run.is_run() && place < run.start {
+                count.saturating_add(1)
+            } else {
+                count
+            }
+        })
+    }
+
+    /// How many positions they have.
+    fn octets_above(&self, place: u32) -> u32
+        ensures { result ≡ octets_above self.now.runs place }
+    {
+        self.runs.iter().fold(0, |count, run| {
+            if place < run.start {
+                run.end.saturating_sub(run.start).saturating_add(count)
+            } else {
+                count
+            }
+        })
+    }
+
+    /// Whether the position is lost (RFC 6675, 4): so many runs behind it are held, or more than one
+    /// less of segments.
+    pub fn is_lost(&self, threshold: u8, mss: u16, place: u32) -> bool
+        ensures { result ≡ is_lost self.now.runs threshold mss place }
+    {
+        threshold <= self.runs_above(place)
+            || threshold.saturating_sub(1) as u32 * (mss as u32) < self.octets_above(place)
+    }
+
+    /// The position behind the last one that is lost.
+    pub fn lost_end(&self, threshold: u8, mss: u16) -> u32
+        ensures { result ≡ lost_end self.now.runs threshold mss }
+    {
+        self.runs.iter().fold(0, |end, run| {
+            if run.is_run() && self.is_lost(threshold, mss, run.start.saturating_sub(1)) {
+                end.max(run.start)
+            } else {
+                end
+            }
+        })
+    }
+}

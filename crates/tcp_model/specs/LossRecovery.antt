@@ -1,0 +1,179 @@
+-- Loss recovery by selective acknowledgements (RFC 6675), and loss probes (RFC 8985, 7). Places are distances from SND.UNA.
+use Rattle.std.specs.Prelude.{ℕ, ◌+◌, ◌-◌, ◌==◌, nat_le, nat_lt, not, ◌&&◌, ◌||◌, min, max, ℤ, Bool, true, false, if◌then◌else◌, List, [], ◌∷◌, Option, Some, None}
+use Rattle.ip_wire.specs.SeqNumber.{SeqNumber}
+use Rattle.ip_wire.specs.TcpHeader.{TcpHeader}
+use Rattle.tcp_control.specs.Moments.{later, is_due}
+use Rattle.tcp_control.specs.Offsets.{past_by}
+use Rattle.tcp_control.specs.Reno as reno
+use Rattle.tcp_control.specs.RoundTrip.{probe_wait}
+use Rattle.tcp_control.specs.Scoreboard.{is_run, no_run, noted, after_ack, held, missing, first_missing, gap_end, is_lost, lost_end, sum_of}
+use Rattle.tcp_control.specs.States.{sends_text}
+use Rattle.tcp_control.specs.declared.scoreboard.Run.{Run}
+use Rattle.tcp_model.specs.Blocks.{fresh_loss, past_top}
+use Rattle.tcp_model.specs.declared.block.Block.{Block}
+use Rattle.tcp_model.specs.declared.block.Loss.{Loss}
+
+abbrev pub with_board : Loss → List Run → Loss
+with_board l runs = record l { board = record { runs = runs } }
+
+-- PROBES
+
+-- a probe would go some time from now, if anything is in flight
+abbrev pub after_wait : ℤ → Option ℕ → Option ℤ
+after_wait now None = None
+after_wait now (Some wait) = Some (later now wait)
+
+abbrev pub probe_from : Block → ℤ → Option ℤ
+probe_from b now =
+    if b.sender.in_flight == 0 then None else after_wait now (probe_wait b.round_trip (nat_le b.sender.in_flight b.reno.mss))
+
+-- Probes go where both SYNs permitted selective acknowledgements, and the user asked for a least timeout below the second of RFC 6298, 2.4.
+abbrev pub probes_losses : Block → Bool
+probes_losses b = b.peer.sack && nat_lt b.settings.min_rto 1_000_000
+
+-- one goes some time from now, unless one went already since something new was acknowledged
+abbrev pub probe_armed : Block → Loss → ℤ → Loss
+probe_armed b l now = if probes_losses b && not l.probed then record l { probe_at = probe_from b now } else l
+
+-- while text or a FIN is in flight
+abbrev pub loss_probe_moment : Block → Option ℤ
+loss_probe_moment b = if sends_text b.state && (not b.sender.syn_unacked && not (b.sender.in_flight == 0)) then b.loss.probe_at else None
+
+-- WHAT THE REMOTE HOLDS (RFC 2018)
+
+-- a run past SND.UNA, in what was sent
+abbrev pub run_within : Block → ℕ → ℕ → Run
+run_within b start end =
+    if not (start == 0) && (nat_lt start end && nat_le end b.sender.top) then record { start = start; end = end } else no_run
+
+-- the run that a range names
+abbrev pub run_of : Block → Option (ℕ × ℕ) → Run
+run_of b None = no_run
+run_of b (Some range) = run_within b (past_by b.sender.una (record { 0 = range.0 })) (past_by b.sender.una (record { 0 = range.1 }))
+
+abbrev pub range_noted : Block → List Run → Option (ℕ × ℕ) → List Run
+range_noted b runs range = if is_run (run_of b range) then noted runs (run_of b range) else runs
+
+abbrev pub all_noted : Block → List Run → List (Option (ℕ × ℕ)) → List Run
+all_noted b runs [] = runs
+all_noted b runs (range ∷ more) = all_noted b (range_noted b runs range) more
+
+-- more is held than before: that is something new
+abbrev pub heard_more : Block → List Run → ℤ → Loss
+heard_more b runs now =
+    if nat_lt (held b.loss.board.runs) (held runs) then probe_armed b (record b.loss { board = record { runs = runs }; probed = false }) now
+    else with_board b.loss runs
+
+-- the ranges of a segment are noted, if both SYNs permitted them
+abbrev pub ranges_noted : Block → TcpHeader → ℤ → Loss
+ranges_noted b header now =
+    if b.peer.sack then heard_more b (all_noted b b.loss.board.runs header.options.sack_ranges) now else b.loss
+
+-- WHAT IS LOST (RFC 6675, 4)
+
+-- DupThresh; one run is enough after a probe, which doesn't go before the order on the way is settled
+abbrev pub threshold : Block → ℕ
+threshold b = if b.loss.eager then 1 else 3
+
+abbrev pub is_lost_at : Block → ℕ → Bool
+is_lost_at b place = is_lost b.loss.board.runs (threshold b) b.reno.mss place
+
+-- the segment at SND.UNA is, as the ranges say
+abbrev pub is_first_lost : Block → Bool
+is_first_lost b = b.peer.sack && is_lost_at b 0
+
+-- what went again is lost once more: what was first sent after it is held
+abbrev pub is_lost_again : Block → Bool
+is_lost_again b = b.peer.sack && (b.reno.recovers && (not (b.loss.resent == 0) && is_lost_at b b.loss.mark))
+
+-- WHAT MAY GO
+
+-- Pipe (RFC 6675, 4, SetPipe): of what was sent the positions that aren't held and, in recovery, aren't lost, and those that went again
+abbrev pub pipe_in_recovery : Block → ℕ
+pipe_in_recovery b =
+    sum_of
+    (missing b.loss.board.runs b.sender.in_flight
+    - missing b.loss.board.runs (min (lost_end b.loss.board.runs (threshold b) b.reno.mss) b.sender.in_flight))
+    (missing b.loss.board.runs (min b.loss.resent b.sender.in_flight))
+
+abbrev pub pipe : Block → ℕ
+pipe b =
+    if b.sender.in_flight == 0 then 0
+    else if b.reno.recovers then pipe_in_recovery b
+    else missing b.loss.board.runs b.sender.in_flight
+
+-- NextSeg, rule 1: the first position behind what went again that isn't held
+abbrev pub next_hole : Block → ℕ
+next_hole b = first_missing b.loss.board.runs b.loss.resent
+
+-- it is lost, and the window lets a segment go there (RFC 6675, 5, step C)
+abbrev pub fills_hole : Block → Bool
+fills_hole b =
+    b.peer.sack && (b.reno.recovers && (not b.sender.syn_unacked
+    && (nat_lt (next_hole b) b.sender.in_flight && (is_lost_at b (next_hole b) && nat_le (pipe b + b.reno.mss) b.reno.cwnd))))
+
+-- From which place of the send queue something goes again, where a segment takes so much and so much was sent: the segment at SND.UNA, the
+-- last one as a probe, or the next hole.
+abbrev pub again_place : Block → ℕ → ℕ → ℕ → ℕ
+again_place b limit sent queued =
+    if b.sender.resend || (b.sender.in_flight == 0) then 0
+    else if b.loss.probes then min (sent - limit) queued
+    else min (next_hole b) (min sent queued)
+
+-- how much from there on was sent and isn't held
+abbrev pub hole_len : Block → ℕ → ℕ → ℕ
+hole_len b place sent = if b.sender.syn_unacked then sent - place else gap_end b.loss.board.runs place sent - place
+
+-- WHAT HAPPENS
+
+-- SND.UNA rose by so much; in recovery, and it goes on, or not
+abbrev pub loss_lowered : Loss → ℕ → Bool → Loss
+loss_lowered l by partial = record l {
+  board = record { runs = after_ack l.board.runs by };
+  resent = l.resent - by;
+  mark = l.mark - by;
+  eager = l.eager && partial;
+  probes = false;
+  probed = false;
+}
+
+-- `b` is the block as it is then, but for this
+abbrev pub loss_acked : Block → ℕ → Bool → ℤ → Loss
+loss_acked b by partial now = if by == 0 then b.loss else probe_armed b (loss_lowered b.loss by partial) now
+
+-- something went again, up to so far past SND.UNA
+abbrev pub loss_resent : Block → ℕ → Loss
+loss_resent b end = record b.loss {
+  resent = if b.reno.recovers && (b.sender.resend || not b.loss.probes) then max b.loss.resent end else b.loss.resent;
+  mark = b.sender.top;
+  probes = false;
+}
+
+-- the retransmission timer ran out: what is held stays known (RFC 6675, 5.1)
+abbrev pub loss_timed_out : Loss → Loss
+loss_timed_out l = record fresh_loss { board = l.board }
+
+-- A probe is due. Where nothing is held, nor was lost, the last segment is to go again (RFC 8985, 7.3). Else what isn't held is lost, and
+-- what went again, too, since nothing came of it for two round trips: the segment at SND.UNA is to go again (RFC 8985, 6.2, step 5).
+abbrev pub probes_tail : Block → Bool
+probes_tail b = (b.sender.recover == 0) && (held b.loss.board.runs == 0)
+
+abbrev pub loss_probed : Block → Block
+loss_probed b = record b {
+  sender = record b.sender {
+    resend = b.sender.resend || not (probes_tail b);
+    recover = if not (probes_tail b) && (b.sender.recover == 0) then past_top b else b.sender.recover;
+  };
+  loss = record b.loss {
+    resent = if probes_tail b then b.loss.resent else 0;
+    eager = true;
+    probes = probes_tail b;
+    probed = true;
+    probe_at = None;
+  };
+  reno = if probes_tail b then b.reno else reno.reduced b.reno b.sender.in_flight;
+}
+
+-- where one is due
+abbrev pub loss_probed_by : ℤ → Block → Block
+loss_probed_by now b = if is_due now (loss_probe_moment b) then loss_probed b else b

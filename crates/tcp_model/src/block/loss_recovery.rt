@@ -1,0 +1,358 @@
+//! Loss recovery by selective acknowledgements, and loss probes.
+ghost use Rattle.std.specs.Prelude.{◌≡◌, ◌≤◌, ◌<◌, ◌^◌};
+ghost use Rattle.net_base.specs.Time.{IsMoment};
+ghost use Rattle.tcp_model.specs.Blocks.{fresh_loss};
+ghost use Rattle.tcp_model.specs.LossRecovery.{with_board, after_wait, probe_from, probes_losses, probe_armed, loss_probe_moment, run_within, run_of, range_noted, all_noted};
+ghost use Rattle.tcp_model.specs.LossRecovery.{heard_more, ranges_noted, threshold, is_lost_at, is_first_lost, is_lost_again, pipe_in_recovery, pipe, next_hole};
+ghost use Rattle.tcp_model.specs.LossRecovery.{fills_hole, again_place, hole_len, loss_lowered, loss_acked, loss_resent, loss_timed_out, probes_tail};
+ghost use Rattle.tcp_model.specs.LossRecovery.{loss_probed, loss_probed_by};
+
+use crate::{Block, Loss, Run, Scoreboard};
+use ip_wire::{SeqNumber, TcpHeader};
+use net_base::{Duration, Instant};
+use tcp_control::moments::{is_due, later};
+use tcp_control::offsets::past_by;
+
+/// DupThresh: once so many runs behind a position are held, or more than two segments, it is lost.
+const THRESHOLD: u8 = 3;
+
+/// Where the least timeout is as long, in microseconds, no probe goes.
+const LONG_TIMEOUT: u64 = 1_000_000;
+
+impl Loss {
+    /// Of a new connection.
+    pub const NONE: Loss = Loss {
+        board: Scoreboard::EMPTY,
+        resent: 0,
+        mark: 0,
+        eager: false,
+        probes: false,
+        probed: false,
+        probe_at: None,
+    };
+}
+
+// PROBES
+
+impl Block {
+    /// When a probe goes, if that is set now, and anything is in flight.
+    fn probe_from(&self, now: Instant) -> Option<Instant>
+        requires { IsMoment now }
+        ensures { result ≡ probe_from self.now now }
+    {
+        if self.sender.in_flight == 0 {
+            return None;
+        }
+        let alone = self.sender.in_flight <= self.reno.mss() as u32;
+        after_wait(now, self.round_trip.probe_wait(alone))
+    }
+
+    /// Whether probes go: the least timeout is below a second, and both SYNs permitted selective
+    /// acknowledgements.
+    fn probes_losses(&self) -> bool
+        ensures { result ≡ probes_losses self.now }
+    {
+        self.peer.sack && self.settings.min_rto.total_micros() < LONG_TIMEOUT
+    }
+
+    /// A probe goes some time from now, unless one went already since something new was acknowledged.
+    pub fn arm_probe(&mut self, now: Instant)
+        requires { IsMoment now }
+        ensures { self.new ≡ record self.old { loss = probe_armed self.old self.old.loss now } }
+    {
+        if self.probes_losses() && !self.loss.probed {
+            self.loss.probe_at = self.probe_from(now);
+        }
+    }
+
+    /// When a probe is due: while text or a FIN is in flight.
+    pub fn loss_probe_moment(&self) -> Option<Instant>
+        ensures { result ≡ loss_probe_moment self.now }
+    {
+        if self.state.sends_text() && !self.sender.syn_unacked && self.sender.in_flight != 0 {
+            self.loss.probe_at
+        } else {
+            None
+        }
+    }
+
+    /// Whether nothing is held, nor was lost: then a probe is the last segment.
+    fn probes_tail(&self) -> bool
+        ensures { result ≡ probes_tail self.now }
+    {
+        self.sender.recover == 0 && self.loss.board.held() == 0
+    }
+
+    /// A probe is due. Where something is held, or was lost, all that isn't held is lost.
+    fn probe(&mut self)
+        ensures { self.new ≡ loss_probed self.old }
+    {
+        let tail = self.probes_tail();
+        if !tail {
+            self.reno.reduce(self.sender.in_flight);
+            self.loss.resent = 0;
+        }
+        self.sender.resend = self.sender.resend || !tail;
+        if !tail && self.sender.recover == 0 {
+            self.sender.recover = self.past_top();
+        }
+        self.loss.eager = true;
+        self.loss.probes = tail;
+        self.loss.probed = true;
+        self.loss.probe_at = None;
+    }
+
+    /// Where a probe is due: the last segment is to go again, or the one at SND.UNA.
+    pub fn probe_loss(&mut self, now: Instant)
+        ensures { self.new ≡ loss_probed_by now self.old }
+    {
+        if is_due(now, self.loss_probe_moment()) {
+            self.probe();
+        }
+    }
+}
+
+// WHAT THE REMOTE HOLDS
+
+impl Block {
+    /// A run past SND.UNA, in what was sent.
+    fn run_within(&self, start: u32, end: u32) -> Run
+        ensures { result ≡ run_within self.now start end }
+    {
+        if start != 0 && start < end && end <= self.sender.top {
+            Run { start, end }
+        } else {
+            Run::NONE
+        }
+    }
+
+    /// The run that a range names.
+    fn run_of(&self, range: Option<(u32, u32)>) -> Run
+        ensures { result ≡ run_of self.now range }
+    {
+        match range {
+            None => Run::NONE,
+            Some((start, end)) => {
+                let start = past_by(self.sender.una, SeqNumber(start));
+                self.run_within(start, past_by(self.sender.una, SeqNumber(end)))
+            }
+        }
+    }
+
+    /// Notes the run that a range names.
+    fn note(&self, board: &mut Scoreboard, range: Option<(u32, u32)>)
+        ensures { board.new.runs ≡ range_noted self.now board.old.runs range }
+    {
+        let run = self.run_of(range);
+        if run.is_run() {
+            board.note(run);
+        }
+    }
+
+    /// What is held with what these ranges name.
+    fn noted(&self, ranges: &[Option<(u32, u32)>; 3]) -> Scoreboard
+        ensures { result.runs ≡ all_noted self.now self.now.loss.board.runs ranges.now }
+    {
+        let [first, second, third] = *ranges;
+        let mut board = self.loss.board;
+        self.note(&mut board, first);
+        self.note(&mut board, second);
+        self.note(&mut board, third);
+        board
+    }
+
+    /// So much is held. More than before is something new.
+    fn hear_more(&mut self, board: Scoreboard, now: Instant)
+        requires { IsMoment now }
+        ensures { self.new ≡ record self.old { loss = heard_more self.old board.runs now } }
+    {
+        let more = self.loss.board.held() < board.held();
+        self.loss.board = board;
+        if more {
+            self.loss.probed = false;
+            self.arm_probe(now);
+        }
+    }
+
+    /// Notes what the ranges of a segment name, if both SYNs permitted them.
+    pub fn note_ranges(&mut self, header: &TcpHeader, now: Instant)
+        requires { IsMoment now }
+        ensures { self.new ≡ record self.old { loss = ranges_noted self.old header.now now } }
+    {
+        if self.peer.sack {
+            let board = self.noted(&header.options.sack_ranges);
+            self.hear_more(board, now);
+        }
+    }
+}
+
+// WHAT IS LOST, AND WHAT MAY GO
+
+impl Block {
+    fn threshold(&self) -> u8
+        ensures { result ≡ threshold self.now }
+    {
+        if self.loss.eager { 1 } else { THRESHOLD }
+    }
+
+    /// Whether a position that isn't held is lost.
+    fn is_lost_at(&self, place: u32) -> bool
+        ensures { result ≡ is_lost_at self.now place }
+    {
+        self.loss
+            .board
+            .is_lost(self.threshold(), self.reno.mss(), place)
+    }
+
+    /// Whether the segment at SND.UNA is lost, as the ranges say.
+    pub fn is_first_lost(&self) -> bool
+        ensures { result ≡ is_first_lost self.now }
+    {
+        self.peer.sack && self.is_lost_at(0)
+    }
+
+    /// Whether what went again is lost once more: what was first sent after it is held.
+    pub fn is_lost_again(&self) -> bool
+        ensures { result ≡ is_lost_again self.now }
+    {
+        self.peer.sack
+            && self.reno.recovers()
+            && self.loss.resent != 0
+            && self.is_lost_at(self.loss.mark)
+    }
+
+    /// Pipe in recovery.
+    fn pipe_in_recovery(&self) -> u32
+        ensures { result ≡ pipe_in_recovery self.now }
+    {
+        let flight = self.sender.in_flight;
+        let board = &self.loss.board;
+        let lost = board
+            .lost_end(self.threshold(), self.reno.mss())
+            .min(flight);
+        let again = self.loss.resent.min(flight);
+        board
+            .missing(flight)
+            .saturating_sub(board.missing(lost))
+            .saturating_add(board.missing(again))
+    }
+
+    /// Pipe: how much is on its way, as far as that is known.
+    pub fn pipe(&self) -> u32
+        ensures { result ≡ pipe self.now }
+    {
+        if self.sender.in_flight == 0 {
+            0
+        } else if self.reno.recovers() {
+            self.pipe_in_recovery()
+        } else {
+            self.loss.board.missing(self.sender.in_flight)
+        }
+    }
+
+    /// The first position behind what went again that isn't held.
+    fn next_hole(&self) -> u32
+        ensures { result ≡ next_hole self.now }
+    {
+        self.loss.board.first_missing(self.loss.resent)
+    }
+
+    /// Whether the next hole is lost, and the congestion window lets a segment go there.
+    pub fn fills_hole(&self) -> bool
+        ensures { result ≡ fills_hole self.now }
+    {
+        self.peer.sack
+            && self.reno.recovers()
+            && !self.sender.syn_unacked
+            && self.next_hole() < self.sender.in_flight
+            && self.is_lost_at(self.next_hole())
+            && self.pipe() as u64 + self.reno.mss() as u64 <= self.reno.window() as u64
+    }
+
+    /// From which place of the send queue something goes again, where a segment takes so much, and so much
+    /// was sent.
+    pub fn again_place(&self, limit: usize, sent: usize, queued: usize) -> usize
+        ensures value { result ≡ again_place self.now limit sent queued }
+        ensures within { result ≤ queued }
+    {
+        if self.sender.resend || self.sender.in_flight == 0 {
+            0
+        } else if self.loss.probes {
+            sent.saturating_sub(limit).min(queued)
+        } else {
+            (self.next_hole() as usize).min(sent.min(queued))
+        }
+    }
+
+    /// How much from there on was sent and isn't held.
+    pub fn hole_len(&self, place: usize, sent: usize) -> usize
+        requires place { place < 2 ^ 32 }
+        requires sent { sent < 2 ^ 32 }
+        ensures { result ≡ hole_len self.now place sent }
+    {
+        if self.sender.syn_unacked {
+            return sent.saturating_sub(place);
+        }
+        let end = self.loss.board.gap_end(place as u32, sent as u32);
+        (end as usize).saturating_sub(place)
+    }
+}
+
+// WHAT HAPPENS
+
+impl Loss {
+    /// SND.UNA rose by so much. `partial` says that fast recovery goes on.
+    fn lower(&mut self, by: u32, partial: bool)
+        ensures { self.new ≡ loss_lowered self.old by partial }
+    {
+        self.board.acknowledge(by);
+        self.resent = self.resent.saturating_sub(by);
+        self.mark = self.mark.saturating_sub(by);
+        self.eager = self.eager && partial;
+        self.probes = false;
+        self.probed = false;
+    }
+}
+
+impl Block {
+    /// SND.UNA rose by so much.
+    pub fn lower_loss(&mut self, by: u32, partial: bool, now: Instant)
+        requires { IsMoment now }
+        ensures { self.new ≡ record self.old { loss = loss_acked self.old by partial now } }
+    {
+        if by != 0 {
+            self.loss.lower(by, partial);
+            self.arm_probe(now);
+        }
+    }
+
+    /// Something went again, up to so far past SND.UNA.
+    pub fn lose_resent(&mut self, end: u32)
+        ensures { self.new ≡ record self.old { loss = loss_resent self.old end } }
+    {
+        if self.reno.recovers() && (self.sender.resend || !self.loss.probes) {
+            self.loss.resent = self.loss.resent.max(end);
+        }
+        self.loss.mark = self.sender.top;
+        self.loss.probes = false;
+    }
+
+    /// The retransmission timer ran out: what is held stays known.
+    pub fn lose_all(&mut self)
+        ensures { self.new ≡ record self.old { loss = loss_timed_out self.old.loss } }
+    {
+        let board = self.loss.board;
+        self.loss = Loss::NONE;
+        self.loss.board = board;
+    }
+}
+
+fn after_wait(now: Instant, wait: Option<u64>) -> Option<Instant>
+    requires { IsMoment now }
+    ensures { result ≡ after_wait now wait }
+{
+    match wait {
+        None => None,
+        Some(wait) => Some(later(now, Duration::from_micros(wait))),
+    }
+}

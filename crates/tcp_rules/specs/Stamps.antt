@@ -1,0 +1,14 @@
+-- What a segment makes of TS.Recent (RFC 7323, 4.3).
+use Rattle.std.specs.Prelude.{◌≡◌, ◌⊎◌, ℤ, true, false}
+use Rattle.tcp_control.specs.States.{is_listening}
+use Rattle.tcp_model.specs.Timestamps.{is_older, is_believed}
+use Rattle.tcp_model.specs.declared.block.Block.{Block}
+
+-- TS.Recent stays, or becomes a timestamp that isn't older, or it hadn't been set for 24 days
+abbrev pub RisesRecent : Block → Block → ℤ → Type 0
+RisesRecent old new now =
+    (new.peer.recent ≡ old.peer.recent) ⊎ ((is_older new.peer.recent old.peer.recent ≡ false) ⊎ (is_believed old now ≡ false))
+
+-- or the connection is over, and its listener listens again
+abbrev pub RisesOrListens : Block → Block → ℤ → Type 0
+RisesOrListens old new now = (is_listening new.state ≡ true) ⊎ RisesRecent old new now
