@@ -1,5 +1,5 @@
 -- What a device says of itself.
-use Rattle.std.specs.Prelude.{ℕ, ◌-◌, ◌*◌, ◌/◌, Bool, true, false}
+use Rattle.std.specs.Prelude.{ℕ, ◌-◌, ◌*◌, ◌/◌, Bool, true, false, List, codes}
 use Rattle.net_devices.specs.declared.capabilities.Checksum.{Checksum}
 use Rattle.net_devices.specs.declared.capabilities.Checksum.TheVariants as checksum
 use Rattle.net_devices.specs.declared.capabilities.Medium.{Medium}
@@ -24,6 +24,11 @@ computes checksum.None = false
 -- every protocol's checksum is handled so
 abbrev pub all_checksums : Checksum → ChecksumCapabilities
 all_checksums c = record { ipv4 = c; udp = c; tcp = c; icmpv4 = c; icmpv6 = c }
+
+-- what is printed of a medium
+abbrev pub medium_text : Medium → List ℕ
+medium_text Ethernet = codes "Ethernet"
+medium_text Ip = codes "IP"
 
 -- the length of the header that a frame of the medium puts before its packet
 abbrev pub frame_header : Medium → ℕ

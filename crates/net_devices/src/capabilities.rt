@@ -1,6 +1,8 @@
 //! What a device says of itself: what its frames are, how long they may be, and who handles checksums.
-ghost use Rattle.std.specs.Prelude.{◌≡◌, ◌≤◌};
-ghost use Rattle.net_devices.specs.Capabilities.{verifies, computes, all_checksums, ip_mtu, fragment_size};
+ghost use Rattle.std.specs.Prelude.{◌≡◌, ◌≤◌, Some};
+ghost use Rattle.net_devices.specs.Capabilities.{verifies, computes, all_checksums, ip_mtu, fragment_size, medium_text};
+
+use std::fmt;
 
 /// The pieces of a cut IPv4 packet, but the last, hold a multiple of so many bytes (RFC 791,
 /// section 3.2).
@@ -17,6 +19,17 @@ pub enum Medium {
     Ethernet,
     /// IP packets with nothing before them.
     Ip,
+}
+
+impl fmt::Display for Medium {
+    ghost output = { λ medium. Some (medium_text medium) };
+
+    fn fmt<W: fmt::Write>(&self, f: &mut fmt::Formatter<W>) -> fmt::Result {
+        match self {
+            Medium::Ethernet => write!(f, "Ethernet"),
+            Medium::Ip => write!(f, "IP"),
+        }
+    }
 }
 
 /// On which way the stack handles a checksum; the device is left to handle it on the other.

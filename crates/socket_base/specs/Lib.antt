@@ -1,5 +1,6 @@
 pub mod Addresses
 pub mod Context
+pub mod Moments
 pub mod Offers
 pub mod Packet
 pub mod WellFormed

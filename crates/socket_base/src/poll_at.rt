@@ -1,5 +1,9 @@
 //! When a socket wants to be polled.
+ghost use Rattle.std.specs.Prelude.{Some};
+ghost use Rattle.socket_base.specs.Moments.{poll_at_text};
+
 use net_base::Instant;
+use std::fmt;
 
 /// When a socket wants to be polled.
 #[derive(Clone, Copy, Debug, PartialEq, Eq)]
@@ -10,4 +14,16 @@ pub enum PollAt {
     Time(Instant),
     /// When a packet for it came.
     Ingress,
+}
+
+impl fmt::Display for PollAt {
+    ghost output = { λ moment. Some (poll_at_text moment) };
+
+    fn fmt<W: fmt::Write>(&self, f: &mut fmt::Formatter<W>) -> fmt::Result {
+        match self {
+            PollAt::Now => write!(f, "now"),
+            PollAt::Time(at) => write!(f, "at {at}"),
+            PollAt::Ingress => write!(f, "when a packet came"),
+        }
+    }
 }
