@@ -14,8 +14,8 @@ returns-in-Neighbor-clause-emits g c =
     let sent = packet_value c.solicitation-packet.result in
     let lent : PacketValue = packet_of c.ip_repr-header.result (payload_value c.payload.result.now) in
     let whole : lent ≡ sent =
-        ap (λ (h : IpRepr). packet_of h (payload_value c.payload.result.now)) c.ip_repr-header.ensures
-        ∙ ap (packet_of sent.header) c.payload.ensures in
+    ap (λ (h : IpRepr). packet_of h (payload_value c.payload.result.now)) c.ip_repr-header.ensures
+    ∙ ap (packet_of sent.header) c.payload.ensures in
     let station = c.solicited_station.result in
     emits_at g.D.Device.moves c.args.device.now c.send-in-Neighbor.new.device
     (packet_frame caps own (Hardware.Ethernet station) lent) (question_frame caps c.args.question.now)
