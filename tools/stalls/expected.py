@@ -50,6 +50,9 @@ def standstill(lan, script):
     start = script.index("start")
     cuts, longest = 0, (0, 0)
     for cut in range(start + 1, len(script) + 1):
+        # Behind a question the hosts are as they were in front of it.
+        if cut < len(script) and script[cut - 1].startswith(("pollat", "state")):
+            continue
         try:
             course = Course(lan, script, cut)
             took = course.heal(DELAY, LONGEST, is_read, is_lost=True) if course.pairs() else 0
