@@ -190,8 +190,8 @@ reset_out edge named v w segment rst p = (
   edge - risen v.block w.block,
   (λ _. refl, λ no. clash (sym (ap is_rst rst) ∙ no)),
   subst (λ (n : ℕ). IsMark (unless_over w (edge - risen v.block w.block)) (unless_over w n) (mark_of w))
-  (sym (ap (λ (c : TcpControl). if is_syn c then or_mss segment.options.max_seg_size else named) rst))
-  (over_mark (is_over w.block.state) (edge - risen v.block w.block) named (mark_of w) refl p),
+      (sym (ap (λ (c : TcpControl). if is_syn c then or_mss segment.options.max_seg_size else named) rst))
+      (over_mark (is_over w.block.state) (edge - risen v.block w.block) named (mark_of w) refl p),
 )
 
 -- another segment goes, no SYN, and this is the edge behind it
@@ -201,7 +201,7 @@ some_out edge named new v w segment syn rst tells p = (
   new,
   (λ is. clash (sym is ∙ rst), λ _. tells),
   subst (λ (t : Bool). IsMark (unless_over w new) (unless_over w (if t then or_mss segment.options.max_seg_size else named)) (mark_of w)) (sym syn)
-  (over_mark (is_over w.block.state) new named (mark_of w) refl p),
+      (over_mark (is_over w.block.state) new named (mark_of w) refl p),
 )
 
 -- RCV.NXT stays
@@ -538,8 +538,8 @@ module _ (edge named : ℕ) (cx : ContextValue) (v : TcpValue) (small : v.block.
     text_out c =
         let plain = plain_control c (queued_in x) in (
           segment_out edge named v small x on p (settled true (offer_choice Kind.Text cx x pair c).socket)
-          (segment x.block pair cx.moment (window_of x) (control_for c (queued_in x)) (number_at x.block c.place)) plain.0 plain.1 refl refl refl same
-          (marked (control_for c (queued_in x)) plain.0),
+              (segment x.block pair cx.moment (window_of x) (control_for c (queued_in x)) (number_at x.block c.place)) plain.0 plain.1 refl refl refl same
+              (marked (control_for c (queued_in x)) plain.0),
           rests,
         )
 
@@ -547,22 +547,22 @@ module _ (edge named : ℕ) (cx : ContextValue) (v : TcpValue) (small : v.block.
     again_out c =
         let plain = plain_control c (queued_in x) in (
           segment_out edge named v small x on p (settled true (offer_choice Kind.FastRetransmission cx x pair c).socket)
-          (segment x.block pair cx.moment (window_of x) (control_for c (queued_in x)) (number_at x.block c.place)) plain.0 plain.1 refl refl refl same
-          (marked (control_for c (queued_in x)) plain.0),
+              (segment x.block pair cx.moment (window_of x) (control_for c (queued_in x)) (number_at x.block c.place)) plain.0 plain.1 refl refl refl same
+              (marked (control_for c (queued_in x)) plain.0),
           rests,
         )
 
     ack_out : Both (offer_ack Kind.Ack cx x pair)
     ack_out = (
       segment_out edge named v small x on p (settled true (offer_ack Kind.Ack cx x pair).socket) (ack_segment x.block pair cx.moment (window_of x)) refl refl
-      refl refl refl same refl,
+          refl refl refl same refl,
       rests,
     )
 
     update_out : Both (offer_ack Kind.WindowUpdate cx x pair)
     update_out = (
       segment_out edge named v small x on p (settled true (offer_ack Kind.WindowUpdate cx x pair).socket) (ack_segment x.block pair cx.moment (window_of x))
-      refl refl refl refl refl same refl,
+          refl refl refl refl refl same refl,
       rests,
     )
 
@@ -591,8 +591,8 @@ module _ (edge named : ℕ) (cx : ContextValue) (v : TcpValue) (small : v.block.
         let after_it = probed b (end_of b o) cx.moment in
         let plain = plain_control probe_choice (queued_in x) in (
           asked_out after_it cx.moment probe
-          (segment_out edge named v small x on p (with_block (unoffered x) after_it) probe plain.0 plain.1 refl refl refl same
-          (marked (control_for probe_choice (queued_in x)) plain.0)),
+              (segment_out edge named v small x on p (with_block (unoffered x) after_it) probe plain.0 plain.1 refl refl refl same
+              (marked (control_for probe_choice (queued_in x)) plain.0)),
           rests,
         )
 
@@ -609,18 +609,21 @@ module _ (edge named : ℕ) (cx : ContextValue) (v : TcpValue) (small : v.block.
     syn_out none = (
       (
         room_of x.received,
-        ((λ is. clash (sym is)), (λ _. record {
-          plain = λ no. clash no;
-          syn = λ _. told (length x.received.waiting) (free_in x) none;
-          moves = λ waits _. empty (length x.received.waiting) none waits;
-        })),
+        (
+          (λ is. clash (sym is)),
+          (λ _. record {
+            plain = λ no. clash no;
+            syn = λ _. told (length x.received.waiting) (free_in x) none;
+            moves = λ waits _. empty (length x.received.waiting) none waits;
+          }),
+        ),
         over_mark (is_over x.block.state) (room_of x.received) (or_mss syn.options.max_seg_size)
-        (record (mark_of x) { edge = room_of x.received; mss = or_mss syn.options.max_seg_size }) refl (record {
-          same = λ _. refl;
-          opening = p.opening;
-          listens = λ is. clash (sym is ∙ (not_over x.block.state on).1);
-          mss = itself (or_mss syn.options.max_seg_size);
-        }),
+            (record (mark_of x) { edge = room_of x.received; mss = or_mss syn.options.max_seg_size }) refl (record {
+              same = λ _. refl;
+              opening = p.opening;
+              listens = λ is. clash (sym is ∙ (not_over x.block.state on).1);
+              mss = itself (or_mss syn.options.max_seg_size);
+            }),
       ),
       rests,
     )
@@ -700,12 +703,11 @@ module _ (edge named : ℕ) (cx : ContextValue) (v : TcpValue) (small : v.block.
 
       reset_goes : (pair : EndpointPair) →
           Out edge named v (settled true (offer_reset cx (unoffered v) pair).socket) (Some (reset_segment v.block pair cx.moment (window_of v)))
-      reset_goes pair =
-          (
-            edge - risen v.block v.block,
-            ((λ _. refl), (λ no. clash no)),
-            closed_mark (mark_of (settled true (offer_reset cx (unoffered v) pair).socket)) refl refl refl,
-          )
+      reset_goes pair = (
+        edge - risen v.block v.block,
+        ((λ _. refl), (λ no. clash no)),
+        closed_mark (mark_of (settled true (offer_reset cx (unoffered v) pair).socket)) refl refl refl,
+      )
 
 moves_offer : (edge named : ℕ) (cx : ContextValue) (v : TcpValue) (small : v.block.receiver.next.0 < 2 ^ 32) → IsMark edge named (mark_of v) →
     IsInOrder (sending_of v) → Both edge named cx v small (offer_of cx v)
@@ -813,9 +815,9 @@ led_moves capacity edge named v (it ∷ more) few order q p none =
       out.0,
       out.1,
       led_moves capacity (unless_over (after v it) out.0) (unless_over (after v it) (mss_with named (goes v it))) (after v it) more few
-      (event_order v it order)
-      (less capacity (furthest_after v it 0) 0 (edge_of (after v it)) next.1 (least _)) out.2
-      (λ over. (over_none (is_over (after v it).block.state) _ over, over_none (is_over (after v it).block.state) _ over)),
+          (event_order v it order)
+          (less capacity (furthest_after v it 0) 0 (edge_of (after v it)) next.1 (least _)) out.2
+          (λ over. (over_none (is_over (after v it).block.state) _ over, over_none (is_over (after v it).block.state) _ over)),
     )
   where
     room : (waiting free c : ℕ) → waiting + free ≡ c → c ≤ 2 ^ 30 → free ≤ 2 ^ 30
