@@ -1,6 +1,6 @@
 -- What a host answers asks for no neighbour: echoes, errors, advertisements and segments.
 use Rattle.std.specs.Prelude.{◌&&◌, ◌||◌, slice_get}
-use Rattle.std.proofs.Common.{◌≡◌, refl, [], ℕ, Bool, true, false, if◌then◌else◌, List, length, Option, Some, None, IfSome, is_some}
+use Rattle.std.proofs.Common.{ℕ, Bool, true, false, if◌then◌else◌, List, length, Option, Some, None, IfSome, is_some}
 use Rattle.interface_ingress.specs.Icmpv4Header.{Icmpv4Header}
 use Rattle.interface_ingress.specs.Icmpv4Header.TheVariants as V4
 use Rattle.interface_ingress.specs.Icmpv6 as Icmpv6
@@ -11,17 +11,18 @@ use Rattle.interface_ingress.specs.Behind.{Behind}
 use Rattle.interface_ingress.specs.Behind.TheVariants as End
 use Rattle.interface_ingress.specs.Delivered.{datagram_place, packet_by, answer_of, answer_in, answer_by, segment_place, segment_answer_at, segment_answer}
 use Rattle.interface_ingress.specs.EthernetAddress.{EthernetAddress}
-use Rattle.interface_ingress.specs.Handed.{control_v4_reply, control_v6_reply, message_reply, handed_reply, is_known_v4, is_unknown, names_nobody, unread_v6, unread_reply}
+use Rattle.interface_ingress.specs.Handed.{control_v4_reply, control_v6_reply, message_reply, handed_reply, is_known_v4, is_unknown, names_nobody, unread_v6}
+use Rattle.interface_ingress.specs.Handed.{unread_reply}
 use Rattle.interface_ingress.specs.HardwareAddress.{HardwareAddress}
 use Rattle.interface_ingress.specs.HardwareAddress.TheVariants as Hardware
 use Rattle.interface_ingress.specs.Headers.{go_through, carries_error}
 use Rattle.interface_ingress.specs.Heard.{neighbor_heard, Heard, heard, heard_on, counts, tells, learned, advertised, answer, advertisement, is_asked}
 use Rattle.interface_ingress.specs.Reassembled.{is_control_v6}
-use Rattle.interface_ingress.specs.Replies.{sent_v4, echo_v4, port_unreachable, protocol_unreachable, parameter_problem, is_told, reason_of, source_of_reply, reply_v6, is_between_hosts, quoted_v4}
+use Rattle.interface_ingress.specs.Replies.{sent_v4, port_unreachable, protocol_unreachable, parameter_problem, is_told, reason_of, source_of_reply}
+use Rattle.interface_ingress.specs.Replies.{reply_v6, is_between_hosts, quoted_v4}
 use Rattle.interface_ingress.specs.Replies.{quoted_v6}
 use Rattle.interface_delivery.specs.IpRepr.{IpRepr}
 use Rattle.interface_delivery.specs.IpRepr.TheVariants as Ip
-use Rattle.interface_delivery.specs.Ipv4Repr.{Ipv4Repr}
 use Rattle.interface_delivery.specs.Ipv6Repr.{Ipv6Repr}
 use Rattle.interface_ingress.specs.Ipv4Address.{Ipv4Address}
 use Rattle.interface_ingress.specs.Ipv6Address.{Ipv6Address}
@@ -146,7 +147,8 @@ module _ (cx : ContextValue) (ip : IpRepr) (header : TcpHeader) (bytes : List �
 
   by_answer : (at : Option ℕ) (taken : Bool) (places : Places) → Free (segment_answer_at at cx ip header bytes taken places)
   by_answer None taken places =
-      free_if (taken || is_rst header.control) (packet_by (Some (rst_reply ip header (length bytes)))) (segment_free (Some (rst_reply ip header (length bytes))))
+      let reset : Option Reply = Some (rst_reply ip header (length bytes)) in
+      free_if (taken || is_rst header.control) (packet_by reset) (segment_free reset)
   by_answer (Some at) taken places = by_place (slice_get places at)
 
 -- ALL

@@ -1,6 +1,7 @@
 -- A run of a fresh host by the frames that it sends: those that pass a test are a second apart.
-use Rattle.std.proofs.Common.{◌≡◌, ◌≢◌, ◌≤◌, ℕ, ℤ, Bool, true, false, cond, if◌then◌else◌, List, [], ◌∷◌, ◌++◌, length, map, Option, Some, None, IfSome, refl, sym, ◌∙◌, ap, subst}
-use Rattle.std.specs.Prelude.{slice_get, slice_set}
+use Rattle.std.proofs.Common.{◌≡◌, ℕ, ℤ, Bool, true, false, cond, if◌then◌else◌, List, [], ◌∷◌, ◌++◌, length, map, Option, Some, None, IfSome, refl}
+use Rattle.std.proofs.Common.{sym, ◌∙◌, ap, subst}
+use Rattle.std.specs.Prelude.{slice_get}
 use Rattle.std.specs.List.{AllByRecursion, list_any}
 use Rattle.lan_frames.specs.DeviceCapabilities.{DeviceCapabilities}
 use Rattle.lan_frames.specs.Medium.{Medium}
@@ -9,8 +10,8 @@ use Rattle.interface_ingress.specs.EthernetAddress.{EthernetAddress}
 use Rattle.interface_ingress.specs.HardwareAddress.{HardwareAddress}
 use Rattle.interface_ingress.specs.HardwareAddress.TheVariants as Hardware
 use Rattle.interface_delivery.specs.IpRepr.{IpRepr}
-use Rattle.interface_tables.specs.Inner.{InnerValue, context_of}
-use Rattle.interface_tables.specs.Settings.{hardware_refusal, if_none, is_of_medium, is_stranger, with_addresses, with_any_ip, with_routes, used}
+use Rattle.interface_tables.specs.Inner.{context_of}
+use Rattle.interface_tables.specs.Settings.{hardware_refusal, if_none, is_stranger}
 use Rattle.interface_tables.specs.Neighbor.{flushed}
 use Rattle.interface_tables.specs.declared.config.HardwareAddrError.TheVariants as Refusals
 use Rattle.interface_egress.specs.Fragments.{LeftValue}
@@ -18,20 +19,20 @@ use Rattle.interface_egress.specs.Set.{with_socket}
 use Rattle.interface_egress.specs.declared.socket_set.Item.{Item}
 use Rattle.interface_egress.specs.declared.socket_set.SocketStorage.{SocketStorage}
 use Rattle.interface.specs.Host.{HostValue}
-use Rattle.interface.specs.Made.{with_inner, with_timeout}
+use Rattle.interface.specs.Made.{with_inner}
 use Rattle.lan_hosts.specs.Answer.{Answer}
 use Rattle.lan_hosts.specs.Call.{SocketCall}
-use Rattle.lan_hosts.specs.Does.{DidAt, Does, ItemDoes, PlaceDoes, does}
-use Rattle.lan_hosts.specs.Fresh.{IsFreshStart, IsFreshWorld}
+use Rattle.lan_hosts.specs.Does.{DidAt, ItemDoes, PlaceDoes, does}
+use Rattle.lan_hosts.specs.Fresh.{IsFreshWorld}
 use Rattle.lan_hosts.specs.History.{Entry}
 use Rattle.lan_hosts.specs.Kinds.{Act, Kind, Setting, kind_of, same_side}
 use Rattle.lan_hosts.specs.Kinds as Settings
 use Rattle.lan_hosts.specs.Kinds.Act.{Calls, Sets, Opens, Asks, Polls}
 use Rattle.lan_hosts.specs.Kinds.Kind.{OfHost, OfLink}
 use Rattle.lan_hosts.specs.Origins.{medium_of}
-use Rattle.lan_hosts.specs.Port.{LinkEnd, PortValue}
-use Rattle.lan_hosts.specs.Runs.{Start, Starts, WorldRun, start, unused, unused_both}
-use Rattle.lan_hosts.specs.Sets.{Configures, SetsTo, has_route_room}
+use Rattle.lan_hosts.specs.Port.{LinkEnd}
+use Rattle.lan_hosts.specs.Runs.{Starts, WorldRun, start, unused, unused_both}
+use Rattle.lan_hosts.specs.Sets.{SetsTo, has_route_room}
 use Rattle.lan_hosts.specs.Side.{Side}
 use Rattle.lan_hosts.specs.Side.TheVariants.{A, B}
 use Rattle.lan_hosts.specs.Station.{StationValue, Stations, station}
@@ -56,9 +57,10 @@ use Rattle.lan_theorem.proofs.Hosts.Calling.{call_quiet, setting_quiet}
 use Rattle.lan_theorem.proofs.Hosts.WireAnswers.{port_replies}
 use Rattle.lan_theorem.proofs.Hosts.WireFrames.{IsTest}
 use Rattle.lan_theorem.proofs.Hosts.WireReplies.{RepliesMayGo}
-use Rattle.lan_theorem.proofs.Hosts.WireTests.{Any, AnyKind, AsksNobody, any_calls, any_offers, any_replies, any_sockets, asks_test, every, port_calls, port_offers}
+use Rattle.lan_theorem.proofs.Hosts.WireTests.{Any, AnyKind, AsksNobody, any_calls, any_offers, any_replies, any_sockets, asks_test, every, port_calls}
+use Rattle.lan_theorem.proofs.Hosts.WireTests.{port_offers}
 use Rattle.lan_theorem.proofs.Hosts.WireTests.{port_sockets, request_test}
-use Rattle.lan_theorem.proofs.Hosts.Wiring.{IsLeftSo, OffersMayGo, So, polled_so}
+use Rattle.lan_theorem.proofs.Hosts.Wiring.{IsLeftSo, OffersMayGo, polled_so}
 use Rattle.lan_theorem.proofs.Moves.EachRun.{Keeps}
 use Rattle.lan_theorem.proofs.Moves.EachSocket.{IsOfSockets, found, with_set}
 use Rattle.lan_theorem.proofs.Moves.Places.{Places}
@@ -201,9 +203,9 @@ module _ (T : List ℕ → Bool) (May : IpRepr → PayloadValue → Type 0) (W :
           all = polled.3;
           silent = subst (λ (fs : List (List ℕ)). AreSilent (asked_in T moment fs ++ ts) s'.host.inner.neighbors.silent) same so.silent;
         } where
-      behind : (xs ys zs : List (List ℕ)) → xs ++ ys ≡ xs ++ zs → ys ≡ zs
-      behind [] ys zs same = same
-      behind (x ∷ xs) ys zs same = behind xs ys zs (let e : xs ++ ys ≡ xs ++ zs = cc in e)
+          behind : (xs ys zs : List (List ℕ)) → xs ++ ys ≡ xs ++ zs → ys ≡ zs
+          behind [] ys zs same = same
+          behind (x ∷ xs) ys zs same = behind xs ys zs (let e : xs ++ ys ≡ xs ++ zs = cc in e)
 
   -- RUNS
 
@@ -245,9 +247,9 @@ AreTypedDeeds ds = AllByRecursion (λ (d : Deed). IsTypedAct d.act) ds
 deed_typed : (side : Side) (k : Kind) (e : Entry) (rest : List Deed) → IsTyped k → AreTypedDeeds rest → AreTypedDeeds (deed_in side k e ++ rest)
 deed_typed side (OfHost s act) e rest is typed =
     if_same (same_side s side) (record { act = act; answer = e.answer; found = e.found }) (typed_act s act is) where
-  if_same : (same : Bool) (d : Deed) → IsTypedAct d.act → AreTypedDeeds ((if same then d ∷ [] else []) ++ rest)
-  if_same true d is = (is, typed)
-  if_same false d is = typed
+      if_same : (same : Bool) (d : Deed) → IsTypedAct d.act → AreTypedDeeds ((if same then d ∷ [] else []) ++ rest)
+      if_same true d is = (is, typed)
+      if_same false d is = typed
 deed_typed side (OfLink act) e rest is typed = typed
 
 deeds_typed : (side : Side) (history : List Entry) → AreTyped history → AreTypedDeeds (deeds side history)

@@ -1,5 +1,6 @@
 -- The two tests of frames: ARP requests alone, and these with neighbour solicitations.
-use Rattle.std.proofs.Common.{◌≡◌, ℕ, ◌+◌, ◌==◌, ◌&&◌, ◌||◌, Bool, true, false, List, [], ◌∷◌, ◌++◌, length, drop, slice_index, Option, Some, None, IfSome, refl, sym, ◌∙◌}
+use Rattle.std.proofs.Common.{◌≡◌, ℕ, ◌+◌, ◌==◌, ◌&&◌, ◌||◌, Bool, true, false, List, [], ◌∷◌, ◌++◌, length, slice_index, Option, Some, None, IfSome}
+use Rattle.std.proofs.Common.{refl, sym, ◌∙◌}
 use Rattle.std.proofs.Common.{ap, subst}
 use Rattle.std.proofs.lemmas.List.{drop_at}
 use Rattle.interface_ingress.specs.Fields.{be16}
@@ -24,7 +25,7 @@ use Rattle.lan_hosts.specs.Does.{does}
 use Rattle.interface_ingress.specs.Handed.{handed_reply}
 use Rattle.interface_egress.specs.declared.socket_set.Item.{Item}
 use Rattle.lan_packets.specs.Calls.{Did, tcp_does, udp_does}
-use Rattle.lan_packets.specs.Ndisc.{NeighborMessage, Solicitation, Advertisement}
+use Rattle.lan_packets.specs.Ndisc.{Solicitation, Advertisement}
 use Rattle.net_containers.specs.Packets.{first}
 use Rattle.sockets.specs.Context.{ContextValue}
 use Rattle.sockets.specs.Offer as Answer
@@ -41,7 +42,7 @@ use Rattle.lan_theorem.specs.Hosts.Wire.{HasPorts, asks, is_request, is_solicita
 use Rattle.lan_theorem.specs.Link.Made.{sealed}
 use Rattle.lan_theorem.specs.Moves.Fit.{AreNamed}
 use Rattle.lan_theorem.specs.Moves.Raws.{OfItem, OfEach}
-use Rattle.lan_theorem.specs.Moves.Protocols.{NamesBehind, NamesItsPayload}
+use Rattle.lan_theorem.specs.Moves.Protocols.{NamesBehind}
 use Rattle.lan_theorem.proofs.Hosts.WireFrames.{IsTest}
 use Rattle.lan_theorem.proofs.Hosts.WireReplies.{RepliesMayGo}
 use Rattle.lan_theorem.proofs.Hosts.Wiring.{OffersMayGo}

@@ -1,7 +1,8 @@
 -- A poll of a host on Ethernet, by the frames that it sends: one that passes a test is a question's, which waits for the end of the silence.
-use Rattle.std.proofs.Common.{◌≡◌, ◌≤ℤ◌, inl, inr, ℕ, ◌+◌, ◌≤◌, ℤ, Bool, true, false, cond, if◌then◌else◌, int_lt, List, [], ◌∷◌, ◌++◌, length, Option, Some, None}
+use Rattle.std.proofs.Common.{◌≡◌, ◌≤ℤ◌, inl, inr, ℕ, ◌+◌, ◌≤◌, ℤ, Bool, true, false, cond, if◌then◌else◌, int_lt, List, [], ◌∷◌, ◌++◌, length, Option, Some}
+use Rattle.std.proofs.Common.{None}
 use Rattle.std.proofs.Common.{IfSome, is_some, refl, sym, ◌∙◌, ap, subst, arith, append_assoc}
-use Rattle.std.specs.Prelude.{◌^◌, ◌<◌, nat_lt}
+use Rattle.std.specs.Prelude.{nat_lt}
 use Rattle.lan_frames.specs.ChecksumCapabilities.{ChecksumCapabilities}
 use Rattle.interface_ingress.specs.Address.{IsIpAddress}
 use Rattle.interface_ingress.specs.HardwareAddress.{HardwareAddress}
@@ -16,15 +17,14 @@ use Rattle.interface_delivery.specs.Taken.{IsOffered, IsHalfSent}
 use Rattle.interface_delivery.specs.Widths.{IsPayload}
 use Rattle.interface_delivery.proofs.Offered.{writes, begun_half, left_half}
 use Rattle.interface_tables.specs.Inner.{InnerValue, context_of, with_next_ident, with_request}
-use Rattle.interface_egress.specs.Departure.{Asks, Tells, Whole, arp_frame, packet_frame, packet_frame_len, piece_frame, piece_frame_len, question_frame, target_of}
+use Rattle.interface_egress.specs.Departure.{Tells, Whole, arp_frame, packet_frame, packet_frame_len, piece_frame, piece_frame_len, question_frame}
+use Rattle.interface_egress.specs.Departure.{target_of}
 use Rattle.interface_egress.specs.Fragments.{LeftValue, piece_room, next_piece, next_departure, left_after}
 use Rattle.interface_egress.specs.GoesOut.{GoesOut, Asked, Went, WasCut, PieceGoesOut, Departs, Stays, numbered, after_header, cut_of}
 use Rattle.interface_egress.specs.Plan.{plan_of}
 use Rattle.interface_egress.specs.declared.frame.Question.{Question}
-use Rattle.interface_egress.specs.declared.plan.Plan.{Plan}
 use Rattle.interface_egress.specs.declared.socket_meta.Meta.{Meta}
 use Rattle.interface_egress.specs.declared.socket_set.Item.{Item}
-use Rattle.interface_egress.specs.declared.socket_set.SocketStorage.{SocketStorage}
 use Rattle.interface_egress.specs.declared.way_out.Sent.{Sent}
 use Rattle.interface_egress.specs.declared.way_out.Sent.TheVariants as Outcome
 use Rattle.interface_egress.proofs.Planned.{MayAsk, plan_cases}
@@ -35,9 +35,9 @@ use Rattle.interface_ingress.specs.Delivered.{Places}
 use Rattle.interface_ingress.specs.Incoming.{IncomingValue, IsContent}
 use Rattle.interface_ingress.specs.Reassembled.{Slots, taken_in}
 use Rattle.interface_ingress.proofs.Settings.{brings_same}
-use Rattle.interface.specs.Host.{HostValue, Sender}
+use Rattle.interface.specs.Host.{Sender}
 use Rattle.interface.specs.Ingress.{Takes, Replied, is_awaited, sender_of, sender_with}
-use Rattle.interface.specs.Kept.{RunsAt, IsKept, sending_as}
+use Rattle.interface.specs.Kept.{RunsAt, IsKept}
 use Rattle.interface.specs.State.{State, at_device}
 use Rattle.interface.specs.Touches.{second_after}
 use Rattle.interface.specs.Turn.{Leaves, SendsBy, Answers, TurnsIf, ItemTurns, is_waiting, let_through}
@@ -56,7 +56,7 @@ use Rattle.sockets.specs.WellFormed.{HasWidths, IsWellFormed}
 use Rattle.sockets.specs.declared.socket.Socket.{Socket}
 use Rattle.lan_theorem.specs.Hosts.Wire.{asked_in}
 use Rattle.lan_theorem.specs.Link.Made.{sealed}
-use Rattle.lan_theorem.specs.Link.Sides.{HasSixBytes, IsBetweenStations, IsSameKind, IsSender, IsSound, IsStation}
+use Rattle.lan_theorem.specs.Link.Sides.{HasSixBytes, IsBetweenStations, IsSameKind, IsSound, IsStation}
 use Rattle.lan_theorem.specs.Moves.Raws.{OfItem, OfEach}
 use Rattle.lan_theorem.proofs.Hosts.Asking.{AreSilent, in_a_second, itself, later, over_later, reached}
 use Rattle.lan_theorem.proofs.Hosts.WireFrames.{IsReply, IsTest, piece_quiet, told_quiet, whole_quiet}
@@ -387,15 +387,15 @@ module _ (T : List ℕ → Bool) (May : IpRepr → PayloadValue → Type 0) (W :
   so_piece_leaves c x x' gone is (inr goes) same so =
       so_where x'.device x.inner x'.inner x'.left x'.left same refl
       (by gone goes.2 (so_device x.device goes.0 x.inner x.left (ap (λ (y : PortValue). y.link.sent) goes.1.0) so)) where
-    by : (gone : Bool) → PieceGoesOut PortMove goes.0 x.inner c gone x'.device x'.left → So goes.0 x.inner x.left → So x'.device x.inner x'.left
-    by true out so =
-        let left : IsLeftSo c = subst (λ (o : Option LeftValue). IfSome o IsLeftSo) is so.left in
-        so_where x'.device x.inner x.inner (left_after x.inner.mtu c) x'.left refl out.1
-        (so_left x'.device x.inner x.left (left_after x.inner.mtu c) (rest_so x.inner.mtu c left)
-        (so_piece c goes.0 x'.device x.inner x.left left out.0 so))
-    by false out so =
-        so_where x'.device x.inner x.inner x.left x'.left refl (out.1 ∙ sym is)
-        (so_device goes.0 x'.device x.inner x.left (ap (λ (y : PortValue). y.link.sent) out.0.0) so)
+        by : (gone : Bool) → PieceGoesOut PortMove goes.0 x.inner c gone x'.device x'.left → So goes.0 x.inner x.left → So x'.device x.inner x'.left
+        by true out so =
+            let left : IsLeftSo c = subst (λ (o : Option LeftValue). IfSome o IsLeftSo) is so.left in
+            so_where x'.device x.inner x.inner (left_after x.inner.mtu c) x'.left refl out.1
+            (so_left x'.device x.inner x.left (left_after x.inner.mtu c) (rest_so x.inner.mtu c left)
+            (so_piece c goes.0 x'.device x.inner x.left left out.0 so))
+        by false out so =
+            so_where x'.device x.inner x.inner x.left x'.left refl (out.1 ∙ sym is)
+            (so_device goes.0 x'.device x.inner x.left (ap (λ (y : PortValue). y.link.sent) out.0.0) so)
 
   module _ (turn : Option IpAddress) (x x' : Sender PortValue) (now : x.inner.moment ≡ t) (so : So x.device x.inner x.left) where
     abbrev Next : Type 0
@@ -465,6 +465,6 @@ module _ (T : List ℕ → Bool) (May : IpRepr → PayloadValue → Type 0) (W :
       } in
       let ended = polls_keep PortMove t P all_kept budget (at_port at.port s) (at_port at.port_after s') changed (began, all) at.polls in
       (at.port_after, at.after, ended.0.0, ended.0.1) where
-    none_more : (fs : List (List ℕ)) → fs ++ [] ≡ fs
-    none_more [] = refl
-    none_more (f ∷ fs) = ap (λ (gs : List (List ℕ)). f ∷ gs) (none_more fs)
+        none_more : (fs : List (List ℕ)) → fs ++ [] ≡ fs
+        none_more [] = refl
+        none_more (f ∷ fs) = ap (λ (gs : List (List ℕ)). f ∷ gs) (none_more fs)
