@@ -1,5 +1,5 @@
 -- A connection that is opened at a host.
-use Rattle.std.proofs.Common.{◌≡◌, ℕ, List, ap, ◌∙◌}
+use Rattle.std.proofs.Common.{◌≡◌, ℕ, List, Result, ap, ◌∙◌}
 use Rattle.std.specs.Prelude.{if◌then◌else◌}
 use Rattle.ip_wire.specs.IpEndpoint.{IpEndpoint}
 use Rattle.ip_wire.specs.IpListenEndpoint.{IpListenEndpoint}
@@ -8,13 +8,21 @@ use Rattle.interface.specs.Made.{with_inner}
 use Rattle.interface.specs.SocketStorage.{SocketStorage}
 use Rattle.interface.specs.Inner.{context_of, drawn}
 use Rattle.sockets.specs.AnySocket.{as_tcp}
-use Rattle.sockets.specs.TcpCalls.{connect_after, connect_draws}
+use Rattle.sockets.specs.TcpCalls.{connect_answer, connect_after, connect_draws}
 use Rattle.sockets.specs.declared.socket.Socket.{Socket}
 use Rattle.sockets.specs.declared.socket.Socket.TheVariants as Kind
-use Rattle.c_sockets.specs.Places.{after_at, draws_at}
+use Rattle.c_sockets.specs.Codes.{coded, of_connect}
+use Rattle.c_sockets.specs.Places.{answer_at, after_at, draws_at}
+use Rattle.c_sockets.specs.declared.code.Code.{Code}
 use Rattle.c_calls.specs.Host.{StackValue}
 
 module _ (place : ℕ) (remote : IpEndpoint) (local : IpListenEndpoint) where
+  abbrev answered : StackValue → Result (Unit {0}) Code
+  answered s = answer_at as_tcp (λ v. coded of_connect (connect_answer (context_of s.host.inner) v remote local)) s.places place
+
+  pub answers : (s now : StackValue) (result : Result (Unit {0}) Code) → s ≡ now → result ≡ answered s → result ≡ answered now
+  answers s now result is said = said ∙ ap answered is
+
   abbrev host_after : StackValue → HostValue
   host_after s =
       if draws_at as_tcp (λ v. connect_draws (context_of s.host.inner) v remote local) s.places place

@@ -1,3 +1,4 @@
 pub mod Making
 pub mod Placing
 pub mod Connecting
+pub mod Asking
