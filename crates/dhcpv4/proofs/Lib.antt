@@ -1,5 +1,7 @@
+pub mod Datagrams
 pub mod Ends
 pub mod Given
+pub mod OneMessage
 pub mod Short
 pub mod Turns
 pub mod Taken

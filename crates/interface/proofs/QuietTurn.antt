@@ -31,6 +31,8 @@ same_due asked t (Kind.Raw v) = refl
 same_due asked t (Kind.Icmp v) = refl
 same_due asked t (Kind.Udp v) = refl
 same_due asked t (Kind.Tcp v) = refl
+same_due asked t (Kind.Dhcpv4 v) = refl
+same_due asked t (Kind.Dns v) = refl
 
 -- an open offer that is settled as not sent doesn't change it
 abbrev pub DueAsBefore : Type 0

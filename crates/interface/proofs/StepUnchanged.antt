@@ -40,12 +40,16 @@ unchanged_self (Kind.Raw v) = record { received = refl; settings = refl; queued 
 unchanged_self (Kind.Icmp v) = record { received = refl; settings = refl; queued = refl; places = refl; room = refl }
 unchanged_self (Kind.Udp v) = record { received = refl; settings = refl; queued = refl; places = refl; room = refl }
 unchanged_self (Kind.Tcp v) = record { state = refl; names = refl; settings = refl; received = refl; queued = refl }
+unchanged_self (Kind.Dhcpv4 v) = refl
+unchanged_self (Kind.Dns v) = refl
 
 settled_once : (s : Socket) → settled false (settled false s) ≡ settled false s
 settled_once (Kind.Raw v) = refl
 settled_once (Kind.Icmp v) = refl
 settled_once (Kind.Udp v) = refl
 settled_once (Kind.Tcp v) = refl
+settled_once (Kind.Dhcpv4 v) = refl
+settled_once (Kind.Dns v) = refl
 
 -- TURNS
 

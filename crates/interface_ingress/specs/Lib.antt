@@ -10,6 +10,7 @@ pub mod Arp
 pub mod Replies
 pub mod Answering
 pub mod Delivered
+pub mod Datagrams
 pub mod Reassembled
 pub mod Handed
 pub mod Arrives

@@ -1,2 +1,3 @@
 pub mod Connections
+pub mod Clients
 pub mod AnyKind
