@@ -51,18 +51,9 @@ pub struct ArpFrame {
     pub packet: ArpRepr,
 }
 
-/// A frame that carries a packet.
-#[derive(Clone, Copy, Debug, PartialEq, Eq)]
-pub struct Whole<'a> {
-    pub from: HardwareAddress,
-    pub to: HardwareAddress,
-    pub packet: Packet<'a>,
-    pub checksums: ChecksumCapabilities,
-}
-
-/// A frame that carries a packet of this header and this payload.
+/// A frame that carries a packet, whose header and payload it borrows.
 #[derive(Drop)]
-pub(crate) struct LentPacket<'a> {
+pub(crate) struct Whole<'a> {
     pub from: HardwareAddress,
     pub to: HardwareAddress,
     pub header: &'a IpRepr,
@@ -114,30 +105,6 @@ impl Fill for ArpFrame {
 }
 
 impl<'a> Fill for Whole<'a> {
-    ghost filled = { λ w. packet_frame w.checksums w.from w.to (packet_value w.packet) };
-
-    ghost len = { λ w. packet_frame_len w.from w.to (packet_value w.packet) };
-
-    ghost fits = { λ w. IsSendable (packet_value w.packet) };
-
-    fn frame_len(&self) -> usize {
-        link_len(&self.from, &self.to) + self.packet.ip_repr().buffer_len()
-    }
-
-    fn fill(&self, buffer: &mut [u8]) {
-        let header = self.packet.ip_repr();
-        let frame = LentPacket {
-            from: self.from,
-            to: self.to,
-            header: &header,
-            payload: self.packet.payload(),
-            checksums: self.checksums,
-        };
-        frame.fill(buffer);
-    }
-}
-
-impl<'a> Fill for LentPacket<'a> {
     ghost filled = { λ w. packet_frame w.checksums w.from w.to (packet_of w.header.now (payload_value w.payload.now)) };
 
     ghost len = { λ w. packet_frame_len w.from w.to (packet_of w.header.now (payload_value w.payload.now)) };
@@ -207,10 +174,13 @@ pub fn ask<D: Device>(
             source,
             target,
         } => {
+            let packet = solicitation(own, source, target);
+            let header = packet.ip_repr();
             let frame = Whole {
                 from: HardwareAddress::Ethernet(*own),
                 to: HardwareAddress::Ethernet(solicited_station(target)),
-                packet: solicitation(own, source, target),
+                header: &header,
+                payload: packet.payload(),
                 checksums: *checksums,
             };
             send(device, token, &frame)

@@ -8,7 +8,7 @@ ghost use Rattle.interface_egress.specs.GoesOut.{GoesOut, PieceGoesOut, Asked, W
 
 use crate::fill::send;
 use crate::fragmenter::{Cut, Fragmenter};
-use crate::frame::{LentPacket, Question, ask};
+use crate::frame::{Question, Whole, ask};
 use crate::plan::{Plan, plan_for};
 use interface_tables::InterfaceInner;
 use ip_wire::{HardwareAddress, IpRepr, Ipv4Repr};
@@ -125,7 +125,7 @@ fn send_whole<D: Device>(
     ensures capabilities { D.described device.new ≡ D.described device.old }
 {
     let header = numbered_header(inner, &packet.ip_repr());
-    let frame = LentPacket {
+    let frame = Whole {
         from: inner.hardware_addr(),
         to,
         header: &header,

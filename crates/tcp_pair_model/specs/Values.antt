@@ -64,6 +64,7 @@ context_at side s = record {
   ip_mtu = 1500;
   checksums = all_checksums Checksum.Both;
   random = s.random;
+  isn_key = None;
 }
 
 -- SEGMENTS SENT

@@ -2,18 +2,15 @@
 ghost use Rattle.std.specs.Prelude.{◌≡◌, ◌↔◌, IsTrue, Some};
 ghost use Rattle.std.specs.Hash as fed;
 ghost use Rattle.std.specs.Ordering.{nat_cmp};
-ghost use Rattle.socket_base.specs.Packet.{packet_value};
 ghost use Rattle.interface_egress.specs.declared.frame.Piece.{Piece};
-ghost use Rattle.interface_egress.specs.declared.frame.Whole.{Whole};
 
-use interface_egress::{ArpFrame, Cut, Left, Piece, Plan, Question, Sent, SocketHandle, Whole};
+use interface_egress::{ArpFrame, Cut, Left, Piece, Plan, Question, Sent, SocketHandle};
 use interface_tables::{
     Answer, AssemblerError, AssemblerFullError, HardwareAddrError, LinkAddress, NewError,
     NotUnicast, RouteTableFull,
 };
 use ip_wire::{address_laws, arp_laws, ipv4_laws};
 use net_base::device_laws;
-use socket_base::laws as packet_laws;
 use std::hash::Hash;
 
 /// Law: `==` says of two refusals whether they have the same reason.
@@ -68,11 +65,9 @@ pub fn cuts_are_equated()
     device_laws::capabilities_are_equated();
 }
 
-/// Law: `==` says of two frames that carry a packet or a piece whether they go between the same addresses and carry the same,
+/// Law: `==` says of two frames that carry a piece whether they go between the same addresses and carry the same,
 /// with the same checksums.
 pub fn frames_are_equated<'a>()
-    ensures whole { (a b : Whole) → IsTrue (⟦<Whole<'a> as PartialEq>⟧.eq a b)
-        ↔ ((a.from ≡ b.from) × ((a.to ≡ b.to) × ((packet_value a.packet ≡ packet_value b.packet) × (a.checksums ≡ b.checksums)))) }
     ensures piece { (a b : Piece) → IsTrue (⟦<Piece<'a> as PartialEq>⟧.eq a b)
         ↔ ((a.from ≡ b.from) × ((a.to ≡ b.to) × ((a.header ≡ b.header) × ((a.offset ≡ b.offset) × ((a.more ≡ b.more)
         × ((a.bytes.now ≡ b.bytes.now) × (a.checksums ≡ b.checksums))))))) }
@@ -80,5 +75,4 @@ pub fn frames_are_equated<'a>()
     address_laws::hardware_tests();
     ipv4_laws::ipv4_equal();
     device_laws::capabilities_are_equated();
-    packet_laws::equal();
 }
