@@ -1,6 +1,7 @@
 pub mod Datagrams
 pub mod Ends
 pub mod Given
+pub mod Masks
 pub mod OneMessage
 pub mod Short
 pub mod Turns

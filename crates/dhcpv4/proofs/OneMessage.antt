@@ -1,15 +1,12 @@
 -- What a datagram leaves is determined, and so is what an offer answers and leaves.
-use Rattle.std.proofs.Common.{◌≡◌, inl, inr, ℕ, Bool, true, false, ◌-◌, ℤ, List, [], ◌∷◌, ◌++◌, length, Option, Some, None, refl, sym, ap, ◌∙◌, subst}
+use Rattle.std.proofs.Common.{◌≡◌, inl, inr, ℕ, Bool, true, false, if◌then◌else◌, ◌-◌, ℤ, List, [], ◌∷◌, ◌++◌, length, Option, Some, None, refl, sym, ap, ◌∙◌, subst}
 use Rattle.std.specs.Prelude.{replicate}
-use Rattle.std.specs.Int.{w32, leading_ones}
-use Rattle.ip_address.proofs.Masks.{leading_ones-mask_32}
 use Rattle.ip_wire.specs.EthernetAddress.{EthernetAddress}
 use Rattle.ip_wire.specs.IpRepr.{IpRepr}
 use Rattle.ip_wire.specs.IpRepr.TheVariants as Ip
 use Rattle.ip_wire.specs.Ipv4Address.{Ipv4Address}
 use Rattle.ip_wire.specs.Ipv4Cidr.{Ipv4Cidr}
 use Rattle.ip_wire.specs.UdpRepr.{UdpRepr}
-use Rattle.ip_wire.specs.Address.{IsMaskV4}
 use Rattle.socket_base.specs.Context.{ContextValue}
 use Rattle.socket_base.specs.Packet.{packet_of, Datagram}
 use Rattle.socket_base.specs.declared.offer.Offer.{Offer}
@@ -17,14 +14,20 @@ use Rattle.dhcp_wire.specs.Dhcp.{IsDhcp}
 use Rattle.dhcp_wire.specs.Options.{seen}
 use Rattle.dhcp_wire.specs.Written.{written, fixed, client_bytes, name_bytes, time_bytes, network_bytes, options_bytes, inside_bytes, address_inside}
 use Rattle.dhcp_wire.specs.declared.message_type.DhcpMessageType.{DhcpMessageType}
+use Rattle.dhcp_wire.specs.declared.message_type.DhcpMessageType.TheVariants as Of
 use Rattle.dhcp_wire.specs.declared.repr.DhcpRepr.{DhcpRepr}
-use Rattle.dhcpv4.specs.Answers.{told, ProcessedFrom, Processed}
-use Rattle.dhcpv4.specs.Leases.{IsBlockIn, IsBlockOf}
+use Rattle.dhcpv4.proofs.Masks.{one_block, one_mask}
+use Rattle.dhcpv4.specs.Answers.{is_answer, offer_in, bound_to, acknowledged, told_by, told_from, told, ProcessedFrom, Processed}
+use Rattle.dhcpv4.specs.Leases.{IsBlockIn, IsBlockOf, server_in, lease_in}
 use Rattle.dhcpv4.specs.Offers.{Offers, OffersAs, Sends, id_of, next_of}
 use Rattle.dhcpv4.specs.Requests.{IsRequest, header_for}
-use Rattle.dhcpv4.specs.States.{turn_of}
+use Rattle.dhcpv4.specs.States.{turn_of, is_asked}
 use Rattle.dhcpv4.specs.Value.{DhcpValue, accepts, unoffered, ports_of}
+use Rattle.dhcpv4.specs.declared.config.ServerInfo.{ServerInfo}
+use Rattle.dhcpv4.specs.declared.lease.Lease.{Lease}
 use Rattle.dhcpv4.specs.declared.request.Kind.{Kind}
+use Rattle.dhcpv4.specs.declared.state.ClientState.{ClientState}
+use Rattle.dhcpv4.specs.declared.state.ClientState.TheVariants as S
 use Rattle.dhcpv4.specs.declared.state.Turn.{Turn}
 use Rattle.dhcpv4.specs.declared.state.Turn.TheVariants as T
 
@@ -141,14 +144,6 @@ asked_once kind station number mtu m n one other = record {
 
 -- DATAGRAMS
 
-one_block : (a b : Ipv4Cidr) → a.address ≡ b.address → a.prefix_len ≡ b.prefix_len → a ≡ b
-one_block a b addresses lens = λ k. record { address = addresses k; prefix_len = lens k }
-
--- a mask is of one length
-one_mask : (mask : Ipv4Address) (m n : ℕ) → IsMaskV4 mask m → IsMaskV4 mask n → m ≡ n
-one_mask mask m n one other =
-    sym (leading_ones-mask_32 m one.0) ∙ ap (λ (number : ℕ). leading_ones w32 number) (sym one.1 ∙ other.1) ∙ leading_ones-mask_32 n other.0
-
 one_network : (address : Ipv4Address) (mask : Option Ipv4Address) (a b : Option Ipv4Cidr) → IsBlockIn address mask a → IsBlockIn address mask b → a ≡ b
 one_network address None None None one other = refl
 one_network address None (Some a) b one other = absurd one
@@ -160,9 +155,40 @@ one_network address (Some mask) (Some a) (Some b) one other =
     ap (λ (block : Ipv4Cidr). Some block) (one_block a b (one.0 ∙ sym other.0) (one_mask mask a.prefix_len b.prefix_len one.2 other.2))
 
 -- what a message does isn't by what it borrows
+module _ (now : ℤ) (v : DhcpValue) (m n : DhcpRepr) (block : Option Ipv4Cidr) where
+  alike_offer : (server : ServerInfo) (state : ClientState) → offer_in now server v m state ≡ offer_in now server v (borrowing m n) state
+  alike_offer server S.Init = refl
+  alike_offer server (S.Selecting s) = refl
+  alike_offer server (S.Requesting s) = refl
+  alike_offer server (S.Bound lease) = refl
+  alike_offer server (S.Renewing lease retry_at) = refl
+  alike_offer server (S.Rebinding lease retry_at) = refl
+
+  alike_lease : (server : ServerInfo) (b : Option Ipv4Cidr) (most : Option ℕ) → lease_in now server m b most ≡ lease_in now server (borrowing m n) b most
+  alike_lease server None most = refl
+  alike_lease server (Some b) most = refl
+
+  alike_by : (type : DhcpMessageType) (server : ServerInfo) → told_by type now server v m block ≡ told_by type now server v (borrowing m n) block
+  alike_by Of.Offer server = alike_offer server v.state
+  alike_by Of.Ack server =
+      ap (λ (lease : Option Lease). if is_asked v.state server then bound_to v lease else v) (alike_lease server block v.settings.max_lease_duration)
+  alike_by Of.Nak server = refl
+  alike_by Of.Discover server = refl
+  alike_by Of.Request server = refl
+  alike_by Of.Decline server = refl
+  alike_by Of.Release server = refl
+  alike_by Of.Inform server = refl
+
+  alike_from : (server : Option ServerInfo) → told_from server now v m block ≡ told_from server now v (borrowing m n) block
+  alike_from None = refl
+  alike_from (Some server) = alike_by m.message_type server
+
+  alike : (source : Ipv4Address) → told now source v m block ≡ told now source v (borrowing m n) block
+  alike source = ap (λ (w : DhcpValue). if is_answer v m then w else v) (alike_from (server_in source m))
+
 told_once : (now : ℤ) (source : Ipv4Address) (v : DhcpValue) (m n : DhcpRepr) (block : Option Ipv4Cidr) → IsSame m n →
     told now source v m block ≡ told now source v n block
-told_once now source v m n block is = ap (λ (x : DhcpRepr). told now source v x block) (same_message m n is)
+told_once now source v m n block is = alike now v m n block source ∙ ap (λ (x : DhcpRepr). told now source v x block) (same_message m n is)
 
 one_from : (test : Bool) (now : ℤ) (v left right : DhcpValue) (ip : IpRepr) (payload : List ℕ) → ProcessedFrom test now v ip payload left →
     ProcessedFrom test now v ip payload right → left ≡ right
