@@ -10,8 +10,8 @@ ghost use Rattle.c_calls.specs.Configuring.{LeaseArrives, LeaseGoes, AsksName, A
 
 use crate::host::Host;
 use c_sockets::{Code, Sending, leases, names};
-use clients::dhcp::Event;
-use clients::dns::{Addresses, DnsQueryType};
+use sockets::dhcpv4::Event;
+use sockets::dns::{Addresses, DnsQueryType};
 use ip_wire::{IpAddress, IpEndpoint};
 use net_base::Instant;
 use sockets::PollAt;

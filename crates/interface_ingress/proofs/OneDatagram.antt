@@ -6,10 +6,10 @@ use Rattle.ip_wire.specs.UdpRepr.{UdpRepr}
 use Rattle.sockets.specs.Context.{ContextValue}
 use Rattle.sockets.specs.declared.socket.Socket.{Socket}
 use Rattle.sockets.specs.declared.socket.Socket.TheVariants as Kind
-use Rattle.dhcpv4.proofs.OneMessage as Dhcps
-use Rattle.dhcpv4.specs.Value.{DhcpValue}
-use Rattle.dns_socket.proofs.OneVerdict as Dnss
-use Rattle.dns_socket.specs.Value.{DnsValue}
+use Rattle.sockets.proofs.DhcpOneMessage as Dhcps
+use Rattle.sockets.specs.DhcpValue.{DhcpValue}
+use Rattle.sockets.proofs.DnsOneVerdict as Dnss
+use Rattle.sockets.specs.DnsValue.{DnsValue}
 use Rattle.interface_egress.specs.declared.socket_set.Item.{Item}
 use Rattle.interface_egress.specs.declared.socket_set.SocketStorage.{SocketStorage}
 use Rattle.interface_tables.specs.Best.{at_place}

@@ -7,10 +7,10 @@ use Rattle.sockets.specs.Context.{ContextValue}
 use Rattle.sockets.specs.Udp as Udps
 use Rattle.sockets.specs.declared.socket.Socket.{Socket}
 use Rattle.sockets.specs.declared.socket.Socket.TheVariants as Kind
-use Rattle.dhcpv4.specs.Answers as Dhcps
-use Rattle.dhcpv4.specs.Value.{DhcpValue}
-use Rattle.dns_socket.specs.Processed as Dnss
-use Rattle.dns_socket.specs.Value.{DnsValue}
+use Rattle.sockets.specs.DhcpAnswers as Dhcps
+use Rattle.sockets.specs.DhcpValue.{DhcpValue}
+use Rattle.sockets.specs.DnsProcessed as Dnss
+use Rattle.sockets.specs.DnsValue.{DnsValue}
 use Rattle.interface_egress.specs.declared.socket_set.Item.{Item}
 use Rattle.interface_egress.specs.declared.socket_set.SocketStorage.{SocketStorage}
 use Rattle.interface_tables.specs.Best.{at_place}

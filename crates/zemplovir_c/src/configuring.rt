@@ -18,8 +18,8 @@ use crate::types::{
 };
 use c_calls::Host;
 use c_sockets::{Code, Sending};
-use clients::dhcp::{Config, Event};
-use clients::dns::{self, DnsQueryType};
+use sockets::dhcpv4::{Config, Event};
+use sockets::dns::{self, DnsQueryType};
 use ip_wire::{IpAddress, Ipv4Address};
 use net_base::Instant;
 use sockets::PollAt;

@@ -61,8 +61,8 @@ use Rattle.tcp_model.specs.Text.{Texted, with_text, with_fin}
 use Rattle.tcp_model.specs.Timeout.{timeout_started, timeout_restarted, timeout_end, timed_out}
 use Rattle.tcp_model.specs.Value.{TcpValue, Arrived, with_block, dropped, answered_with, unoffered, ended, queued_in, free_in, room_of, window_of}
 use Rattle.tcp_model.specs.declared.block.Block.{Block}
-use Rattle.dhcpv4.proofs.Datagrams as Dhcps
-use Rattle.dns_socket.proofs.Datagrams as Dnss
+use Rattle.sockets.proofs.DhcpDatagrams as Dhcps
+use Rattle.sockets.proofs.DnsDatagrams as Dnss
 use Rattle.sockets.specs.Socket.{Offers, offered_by}
 use Rattle.sockets.specs.declared.socket.Socket.{Socket}
 use Rattle.sockets.specs.declared.socket.Socket.TheVariants as Is

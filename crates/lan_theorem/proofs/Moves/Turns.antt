@@ -23,8 +23,8 @@ use Rattle.tcp_tie.specs.Host.{made_of, and_offer}
 use Rattle.tcp_model.specs.OpenOffer.{OpenOffer}
 use Rattle.tcp_model.specs.Offers.{offer_of, payload_of, packet_with, offered_packet}
 use Rattle.tcp_model.specs.Value.{TcpValue}
-use Rattle.dhcpv4.specs.Value as Dhcps
-use Rattle.dns_socket.specs.Value as Dnss
+use Rattle.sockets.specs.DhcpValue as Dhcps
+use Rattle.sockets.specs.DnsValue as Dnss
 use Rattle.sockets.specs.Socket.{Offers, offered_by, settled}
 use Rattle.sockets.specs.declared.socket.Socket.{Socket}
 use Rattle.sockets.specs.declared.socket.Socket.TheVariants as Is
