@@ -109,6 +109,7 @@ static void make(zv_host *host, int which)
         .mtu = choice(8) == 0 ? any_size() : 1514,
         .seed = choice(0),
         .frames = choice(8) == 0 ? some_size() : 32,
+        .keyed = (uint8_t)choice(3),
     };
     zv_address own = zv_ipv4(192, 168, 1, (uint8_t)(which + 1));
     check(zv_host_new(host, &settings, choice(16) == 0 ? (int64_t)any_number() : clock_of[which]));

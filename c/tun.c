@@ -195,9 +195,11 @@ int main(int count, char **words)
         .hardware = {2, 0, 0, 0, 0, 1},
         .mtu = is_tap ? MTU + 14 : MTU,
         .frames = 256,
+        .keyed = 1,
     };
     FILE *random = fopen("/dev/urandom", "rb");
-    if (random == NULL || fread(&settings.seed, sizeof settings.seed, 1, random) != 1) {
+    if (random == NULL || fread(&settings.seed, sizeof settings.seed, 1, random) != 1
+        || fread(settings.isn_key, sizeof settings.isn_key, 1, random) != 1) {
         perror("tun: /dev/urandom");
         return 1;
     }

@@ -138,6 +138,8 @@ typedef struct zv_settings {
     size_t mtu;          /* bytes of the longest frame, its Ethernet header counted: 1514 on Ethernet, 1500 on a TUN device */
     uint64_t seed;       /* from a true source: whoever knows it knows first sequence numbers, ports and identifications */
     size_t frames;       /* how many frames may wait each way */
+    uint8_t keyed;       /* 0 where the first sequence numbers are random words, else they are by the key (RFC 6528) */
+    uint8_t isn_key[16]; /* from a true source, and known to nobody else */
 } zv_settings;
 
 typedef struct zv_counts {

@@ -6,7 +6,7 @@
 //     pump [OPTIONS] DEVICE OTHER                                             the same link between two devices
 //
 // -l N, -r N, -h N, -d N: so many of 1000 packets each way are lost, repeated, held back behind the next one, or damaged in a byte;
-// -c N: where the random numbers begin; -s N: the seed of the host; -e MAC: the devices carry Ethernet frames (TAP), and the host has this
+// -c N: where the random numbers begin; -s N: the seed of the host, which then has no key; -e MAC: the devices carry Ethernet frames (TAP), and the host has this
 // hardware address; -k FOLDER keeps what the program read and wrote as the files stdin and stdout.
 // SIGUSR1 lets the host's clock go on by an hour: each moment at which it wants a turn comes at once; it says when that is done. SIGTERM ends it.
 //
@@ -34,6 +34,8 @@ enum { MOST = 65536, HEAD = 10, HOUR = 3600 };
 typedef unsigned char byte;
 static int kind = IFF_TUN, tun = -1, other = -1, host = -1;
 static uint64_t lose, repeat, hold, damage, chance = 1, seed, ahead, turns, carried[2];
+static byte key[16];
+static int seeded;
 static struct ether_addr station;
 static FILE *said, *answered;
 static volatile sig_atomic_t ends, skips;
@@ -141,12 +143,13 @@ static void put_family(byte *to, int family, int size, char *address, const char
 }
 
 static void start_host(const char *program, char **addresses, int count) {
-    byte settings[57] = {kind == IFF_TAP};
+    byte settings[73] = {kind == IFF_TAP};
     int ends_of[2];
     memcpy(settings + 1, station.ether_addr_octet, 6);
     put_family(settings + 7, AF_INET, 4, addresses[0], addresses[1]);
     if (count > 2) put_family(settings + 16, AF_INET6, 16, addresses[2], addresses[3]);
     for (int i = 0; i < 8; i++) settings[49 + i] = seed >> 8 * i;
+    memcpy(settings + 57, key, sizeof key);
     if (socketpair(AF_UNIX, SOCK_STREAM, 0, ends_of) < 0) stop("socketpair");
     if (!fork()) {
         dup2(ends_of[1], 0), dup2(ends_of[1], 1), close(ends_of[0]), close(ends_of[1]);
@@ -155,7 +158,7 @@ static void start_host(const char *program, char **addresses, int count) {
     }
     close(ends_of[1]);
     host = ends_of[0];
-    next_turn = take_turn(settings, sizeof settings);
+    next_turn = take_turn(settings, seeded ? 57 : 73);
 }
 
 static void pass(int device, int way) {
@@ -176,7 +179,7 @@ static void skip_an_hour(void) {
 int main(int count, char **words) {
     int option;
     char path[4096];
-    if (getrandom(&seed, sizeof seed, 0) < 0) stop("getrandom");
+    if (getrandom(&seed, sizeof seed, 0) < 0 || getrandom(key, sizeof key, 0) < 0) stop("getrandom");
     while ((option = getopt(count, words, "l:r:h:d:c:s:k:e:")) != -1) {
         uint64_t value = optarg ? strtoull(optarg, 0, 10) : 0;
         switch (option) {
@@ -185,7 +188,7 @@ int main(int count, char **words) {
         case 'h': hold = value; break;
         case 'd': damage = value; break;
         case 'c': chance = value | 1; break;
-        case 's': seed = value; break;
+        case 's': seed = value, seeded = 1; break;
         case 'e': kind = IFF_TAP; if (!ether_aton_r(optarg, &station)) stop(optarg); break;
         case 'k':
             snprintf(path, sizeof path, "%s/stdin", optarg), said = fopen(path, "wb");

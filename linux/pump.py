@@ -86,9 +86,11 @@ def family(address, router):
 
 
 def settings(given):
-    """The medium and the hardware address; the addresses, prefixes and routers of both families; the seed."""
+    """The medium and the hardware address; the addresses, prefixes and routers of both families; the seed, and the key of first numbers
+    where no seed is named."""
+    seed = os.urandom(24) if given.seed is None else struct.pack("<Q", given.seed)
     link = b"\1" + bytes.fromhex(given.tap.replace(":", "")) if given.tap else bytes(7)
-    return link + family(given.address, given.router) + family(given.address6, given.router6) + struct.pack("<Q", given.seed)
+    return link + family(given.address, given.router) + family(given.address6, given.router6) + seed
 
 
 def run(host, tun, given):
@@ -121,7 +123,7 @@ def main():
     parser.add_argument("address6", nargs="?", default="::/0")
     parser.add_argument("router6", nargs="?", default="::")
     parser.add_argument("--tap", metavar="MAC")
-    parser.add_argument("--seed", type=int, default=int.from_bytes(os.urandom(8), "little"))
+    parser.add_argument("--seed", type=int)
     for name in ("--lose", "--repeat", "--hold"):
         parser.add_argument(name, type=int, default=0)
     parser.add_argument("--record")

@@ -60,7 +60,7 @@ def settings(it):
         f"{ipaddress.ip_address(it[at:at + size])}/{it[at + size]}, router {ipaddress.ip_address(it[at + size + 1:at + 2 * size + 1])}"
         for at, size in ((7, 4), (16, 16))
     ]
-    return f"settings: {link}; {'; '.join(families)}; seed {struct.unpack('<Q', it[49:])[0]}"
+    return f"settings: {link}; {'; '.join(families)}; seed {struct.unpack('<Q', it[49:57])[0]}{'; a key' if it[57:] else ''}"
 
 
 def take(file, count):

@@ -99,12 +99,15 @@ fn main() -> Result<(), Box<dyn std::error::Error>> {
         std::process::exit(2);
     };
     let mut device = open(name)?;
-    let mut seed = [0; 8];
-    File::open("/dev/urandom")?.read_exact(&mut seed)?;
+    let (mut seed, mut key) = ([0; 8], [0; 16]);
+    let mut random = File::open("/dev/urandom")?;
+    random.read_exact(&mut seed)?;
+    random.read_exact(&mut key)?;
     let config = Config {
         medium: Medium::Ip,
         max_transmission_unit: 1500,
         random_seed: u64::from_ne_bytes(seed),
+        isn_key: Some(key),
         frames: 256,
     };
     let began = std::time::Instant::now();

@@ -32,6 +32,8 @@ pub struct Settings {
     pub mtu: usize,
     pub seed: u64,
     pub frames: usize,
+    pub keyed: u8,
+    pub isn_key: [u8; 16],
 }
 
 #[repr(C)]

@@ -62,6 +62,8 @@ pub struct Config {
     pub max_transmission_unit: usize,
     /// From a true source: whoever knows it knows first sequence numbers, ports and identifications.
     pub random_seed: u64,
+    /// The key of TCP's first numbers (RFC 6528), from a true source; without one they are random words.
+    pub isn_key: Option<[u8; 16]>,
     /// How many frames may wait each way.
     pub frames: usize,
 }
@@ -134,6 +136,8 @@ impl Interface {
             mtu: config.max_transmission_unit,
             seed: config.random_seed,
             frames: config.frames,
+            keyed: config.isn_key.is_some().into(),
+            isn_key: config.isn_key.unwrap_or_default(),
         };
         let mut host = ffi::Host { inside: null_mut() };
         done(unsafe { ffi::zv_host_new(&mut host, &settings, now.micros) })?;

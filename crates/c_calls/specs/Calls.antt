@@ -90,7 +90,7 @@ device_of settings =
     record { medium = medium_of settings.hardware; max_transmission_unit = settings.mtu; checksum = all_checksums Checksum.Both }
 
 abbrev pub config_of : Settings → Config
-config_of settings = record { random_seed = settings.seed; hardware_addr = hardware_of settings.hardware; isn_key = None }
+config_of settings = record { random_seed = settings.seed; hardware_addr = hardware_of settings.hardware; isn_key = settings.isn_key }
 
 -- A HOST THAT IS MADE
 

@@ -29,6 +29,8 @@ pub struct Settings {
     pub mtu: usize,
     /// What its random words begin with.
     pub seed: u64,
+    /// The key of TCP's first numbers (RFC 6528); without one they are random words.
+    pub isn_key: Option<[u8; 16]>,
     /// How many frames may wait each way.
     pub frames: usize,
 }
@@ -102,7 +104,7 @@ fn config(settings: &Settings) -> Config
             Some(address) => HardwareAddress::Ethernet(address),
             None => HardwareAddress::Ip,
         },
-        isn_key: None,
+        isn_key: settings.isn_key,
     }
 }
 

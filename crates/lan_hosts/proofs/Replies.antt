@@ -1,6 +1,6 @@
 -- A packet that answers a frame has a header with the length of what it carries, and so has one that a socket offers.
 use Rattle.std.proofs.Common.{◌≡◌, ℕ, Bool, true, false, List, length, Option, None, Some, IfSome, refl, sym, subst}
-use Rattle.std.specs.Prelude.{◌||◌, is_some, if◌then◌else◌}
+use Rattle.std.specs.Prelude.{◌&&◌, ◌||◌, is_some, if◌then◌else◌}
 use Rattle.interface_ingress.specs.Icmpv4Header.{Icmpv4Header}
 use Rattle.interface_ingress.specs.Icmpv4Header.TheVariants as V4
 use Rattle.lan_packets.specs.Icmpv4DstUnreachable.TheVariants as V4Reason

@@ -68,3 +68,13 @@ went k k' v w v' sent room sent' opened accepted moment context offered same joi
     ∙ ap (λ (c : PairContextValue).
     end_of c (settled true (offer_of (context_of c) v).socket)
     (and_offer sent (offer_of (context_of c) v).socket.offered (offer_of (context_of c) v).socket.queued.queue) opened accepted) context
+
+-- an offer is made at a moment, and isn't sent
+pub stayed : (k k' : PairContextValue) (v w v' : TcpValue) (sent : List SentSegment) (opened : Bool) (accepted : ℕ) (moment : ℤ) →
+    k' ≡ record k { moment = moment }
+    → w ≡ (offer_of (context_of k') v).socket → v' ≡ settled false w
+    → end_of k' v' sent opened accepted ≡ with_own (end_of k v sent opened accepted) (offered_at k.side (record (own_of k v sent) { moment = moment }) false)
+stayed k k' v w v' sent opened accepted moment context offered dropped =
+    ap (λ (x : TcpValue). end_of k' x sent opened accepted) dropped
+    ∙ ap (λ (x : TcpValue). end_of k' (settled false x) sent opened accepted) offered
+    ∙ ap (λ (c : PairContextValue). end_of c (settled false (offer_of (context_of c) v).socket) sent opened accepted) context

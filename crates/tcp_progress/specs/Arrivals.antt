@@ -24,8 +24,8 @@ abbrev pub is_synchronized : State → Bool
 is_synchronized state = is_past state && not (is_answering state)
 
 -- The segment counts for the connection: both SYNs were acknowledged, it is neither a SYN nor a reset, its timestamp isn't older than
--- TS.Recent, and what it acknowledges lies
--- between SND.UNA and all that was ever sent. What was sent is less than half of the circle of numbers.
+-- TS.Recent, and what it acknowledges lies between SND.UNA and all that was ever sent. What was sent is less than half of the circle of
+-- numbers.
 pub record Counts (b : Block) (header : TcpHeader) (number : SeqNumber) : Type 0 where
   pub synchronized : is_synchronized b.state ≡ true
   pub opened : 1 ≤ b.sender.past_iss

@@ -1,6 +1,6 @@
 -- The steps of an arrival, as its functions join them.
 use Rattle.std.proofs.Common.{◌≡◌, ℕ, ◌-◌, ◌==◌, ◌&&◌, not, nat_lt, ◌<◌, ◌≤◌, ◌^◌, min, nat_le, Bool, true, false, ℤ, List, [], length, take, drop, Option}
-use Rattle.std.proofs.Common.{Some, None, if◌then◌else◌, refl, sym, ap, subst, ◌∙◌, arith}
+use Rattle.std.proofs.Common.{Some, None, is_some, if◌then◌else◌, refl, sym, ap, subst, ◌∙◌, arith}
 use Rattle.std.specs.Prelude.{IfSome}
 use Rattle.std.proofs.lemmas.Bool.Decides.{nat_tests}
 use Rattle.net_base.specs.Ring.{Ring}
@@ -16,12 +16,20 @@ use Rattle.socket_base.specs.Packet as Carried
 use Rattle.held_bytes.specs.ReceiveMap.{store, front}
 use Rattle.tcp_model.specs.Acknowledged.{acknowledged, duplicates_after}
 use Rattle.tcp_model.specs.Answers.{answer_for}
-use Rattle.tcp_model.specs.Arrival.{finished, told, echo_heard, taken, received, arrives_in}
+use Rattle.tcp_model.specs.Arrival.{outside, finished, with_content, told, echo_heard, taken, checked, received, arrives_in}
+use Rattle.tcp_model.specs.Checks.{is_in_window}
+use Rattle.tcp_model.specs.Checks.Check.{Old}
+use Rattle.tcp_model.specs.Controls.{is_syn, is_rst}
+use Rattle.tcp_model.specs.Opening.{acks_syn, syn_answered, takes_answer}
 use Rattle.tcp_model.specs.Probing.{probe_kept}
+use Rattle.tcp_model.specs.Retries.{heard}
+use Rattle.tcp_model.specs.Segments.{rst_reply}
 use Rattle.tcp_model.specs.States.{is_closed, takes_text}
 use Rattle.tcp_model.specs.Text.{Texted, texted, laid, has_new_text, with_text, with_text_at, with_bytes_at, taken_in_order, held_early, with_fin}
+use Rattle.tcp_model.specs.Timeout.{timeout_restarted}
+use Rattle.tcp_model.specs.Timestamps.{stamp_taken}
 use Rattle.tcp_model.specs.Offsets.{past_by, before_by}
-use Rattle.tcp_model.specs.Value.{TcpValue, Received, Arrived, received_of, with_block, dropped, queued_in, free_in}
+use Rattle.tcp_model.specs.Value.{TcpValue, Received, Arrived, received_of, with_block, dropped, answered_with, ended, queued_in, free_in}
 use Rattle.tcp_model.specs.declared.block.Block.{Block}
 use Rattle.tcp_model.specs.OpenOffer.{OpenOffer}
 use Rattle.tcp_model.specs.Reply.{Reply}
@@ -166,6 +174,56 @@ taken_leads cx duplicates v w now ip header bytes by answer socket count now_is 
     in
     leads_to (λ (x : TcpValue). continued_by cx (duplicates_after v.block header (length bytes) by) x ip header bytes) w
     (acknowledged (echo_heard v header by cx.moment) by cx.moment) answer socket acked first.answer first.socket
+
+-- of two arrivals the first, or the second
+so_leads : (t : Bool) (a b : Arrived) (answer : Option Reply) (socket : TcpValue) → t ≡ true → Leads a answer socket → Leads (if t then a else b) answer socket
+so_leads true a b answer socket is leads = leads
+so_leads false a b answer socket is leads = absurd (cc)
+
+-- an acknowledgement that is old: text and FIN are taken
+pub old_leads : (cx : ContextValue) (b b1 b2 : Block) (r : Received) (q : Ring ℕ) (o : Option OpenOffer) (v : TcpValue) (now : ℤ) (ip : IpRepr)
+    (header : TcpHeader) (bytes : List ℕ) (answer : Option Reply) (socket : TcpValue)
+    → value_of b r q o ≡ v → is_in_window b (length r.map) header (length bytes) ≡ true → b1 ≡ heard b → b2 ≡ stamp_taken b1 header now → now ≡ cx.moment
+    → answer ≡ (with_content cx (value_of b2 r q o) ip header bytes).answer → socket ≡ (with_content cx (value_of b2 r q o) ip header bytes).socket
+    → Leads (checked Old cx v ip header bytes) answer socket
+old_leads cx b b1 b2 r q o v now ip header bytes answer socket is window heard_is stamp_is now_is a s =
+    let stamped : b2 ≡ stamp_taken (heard b) header cx.moment =
+    stamp_is ∙ ap (λ (x : Block). stamp_taken x header now) heard_is ∙ ap (λ (m : ℤ). stamp_taken (heard b) header m) now_is
+    in
+    let first : Leads (with_content cx (value_of (stamp_taken (heard b) header cx.moment) r q o) ip header bytes) answer socket =
+    subst (λ (x : Block). Leads (with_content cx (value_of x r q o) ip header bytes) answer socket) stamped (record { answer = a; socket = s })
+    in
+    let second : Leads (checked Old cx (value_of b r q o) ip header bytes) answer socket =
+    so_leads (is_in_window b (length r.map) header (length bytes)) (with_content cx (value_of (stamp_taken (heard b) header cx.moment) r q o) ip header bytes)
+    (outside cx (value_of b r q o) ip header) answer socket window first
+    in
+    subst (λ (x : TcpValue). Leads (checked Old cx x ip header bytes) answer socket) is second
+
+third : (rst refuses syn : Bool) (a b c d : Arrived) → rst ≡ false → refuses ≡ false → syn ≡ true →
+    c.socket ≡ (if rst then a else if refuses then b else if syn then c else d).socket
+third false false true a b c d no_rst no_refusal is = refl
+third false false false a b c d no_rst no_refusal is = absurd (cc)
+third false true syn a b c d no_rst no_refusal is = absurd (cc)
+third true refuses syn a b c d no_rst no_refusal is = absurd (cc)
+
+-- SYN-SENT takes a SYN
+pub syn_leads : (cx : ContextValue) (b b1 b2 : Block) (r : Received) (q : Ring ℕ) (o : Option OpenOffer) (v : TcpValue) (now : ℤ) (n : ℕ) (ip : IpRepr)
+    (header : TcpHeader) (bytes : List ℕ)
+    → value_of b r q o ≡ v → is_rst header.control ≡ false → (is_some header.ack_number && not (acks_syn b.sender.una header.ack_number)) ≡ false
+    → is_syn header.control ≡ true → b1 ≡ syn_answered b header now → b2 ≡ timeout_restarted b1 now n → now ≡ cx.moment → n ≡ length q.queue
+    → value_of b2 r q o ≡ (takes_answer cx v ip header bytes).socket
+syn_leads cx b b1 b2 r q o v now n ip header bytes is no_rst no_refusal syn answered restarted now_is n_is =
+    let all : b2 ≡ timeout_restarted (syn_answered b header cx.moment) cx.moment (length q.queue) =
+    restarted ∙ ap (λ (x : Block). timeout_restarted x now n) answered
+    ∙ ap (λ (m : ℤ). timeout_restarted (syn_answered b header m) m n) now_is
+    ∙ ap (λ (k : ℕ). timeout_restarted (syn_answered b header cx.moment) cx.moment k) n_is
+    in
+    let u = value_of b r q o in
+    ap (λ (x : Block). value_of x r q o) all
+    ∙ third (is_rst header.control) (is_some header.ack_number && not (acks_syn b.sender.una header.ack_number)) (is_syn header.control)
+    (if acks_syn b.sender.una header.ack_number then dropped (ended u) else dropped u) (answered_with u (rst_reply ip header (length bytes)))
+    (dropped (with_block u (timeout_restarted (syn_answered b header cx.moment) cx.moment (queued_in u)))) (dropped u) no_rst no_refusal syn
+    ∙ ap (λ (x : TcpValue). (takes_answer cx x ip header bytes).socket) is
 
 -- no word is drawn but in LISTEN
 pub quiet_in : (state : State) (cx : ContextValue) (v : TcpValue) (ip : IpRepr) (header : TcpHeader) (bytes : List ℕ) → (state ≡ In.Listen → ⊥) →

@@ -38,11 +38,11 @@ not_below : (a b : ℤ) → b ≤ℤ a → int_lt a b ≡ false
 not_below a b is = grind (arith)
 
 -- at a moment of the stack an interface is refused for a hardware address that is no station's alone
-pub refusal_is : (hardware : HardwareAddress) (seed : ℕ) (moment : ℤ) → IsMoment moment
-    → refusal (record { random_seed = seed; hardware_addr = hardware; isn_key = None }) (capabilities_of hardware) moment ≡
+pub refusal_is : (hardware : HardwareAddress) (seed : ℕ) (key : Option (List ℕ)) (moment : ℤ) → IsMoment moment
+    → refusal (record { random_seed = seed; hardware_addr = hardware; isn_key = key }) (capabilities_of hardware) moment ≡
     (if is_station hardware then None else Some New.NotUnicast)
-refusal_is Hardware.Ip seed moment is = rw (not_below moment (pos 0) is.0, not_below (pos last_moment) moment is.1) refl
-refusal_is (Hardware.Ethernet a) seed moment is = rw (not_below moment (pos 0) is.0, not_below (pos last_moment) moment is.1) refl
+refusal_is Hardware.Ip seed key moment is = rw (not_below moment (pos 0) is.0, not_below (pos last_moment) moment is.1) refl
+refusal_is (Hardware.Ethernet a) seed key moment is = rw (not_below moment (pos 0) is.0, not_below (pos last_moment) moment is.1) refl
 
 made_by : (b : Bool) (h made : HostValue) → MadeUnless (if b then None else Some New.NotUnicast) h (Ok made) → made ≡ h
 made_by true h made is = is
@@ -57,13 +57,13 @@ module _ (s : Settings) (moment : ℤ) (is : IsMoment moment) where
       made ≡ new_host (config_of s) (capabilities_of s.hardware) moment
   made_is made makes =
       let h = new_host (config_of s) (capabilities_of s.hardware) moment in
-      made_by (is_station s.hardware) h made (subst (λ (o : Option NewError). MadeUnless o h (Ok made)) (refusal_is s.hardware s.seed moment is) makes)
+      made_by (is_station s.hardware) h made (subst (λ (o : Option NewError). MadeUnless o h (Ok made)) (refusal_is s.hardware s.seed s.isn_key moment is) makes)
 
   pub no_station : Makes (config_of s) (capabilities_of s.hardware) moment (Err New.NotUnicast) → is_station s.hardware ≡ false
   no_station makes =
       let h = new_host (config_of s) (capabilities_of s.hardware) moment in
       not_made_by (is_station s.hardware) h
-      (subst (λ (o : Option NewError). MadeUnless o h (Err New.NotUnicast)) (refusal_is s.hardware s.seed moment is) makes)
+      (subst (λ (o : Option NewError). MadeUnless o h (Err New.NotUnicast)) (refusal_is s.hardware s.seed s.isn_key moment is) makes)
 
 -- ROUTES
 

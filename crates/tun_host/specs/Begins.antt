@@ -58,7 +58,7 @@ capabilities_of hardware =
     record { medium = medium_of hardware; max_transmission_unit = MTU + head_len (medium_of hardware); checksum = all_checksums Both }
 
 abbrev pub config_of : Settings → Config
-config_of s = record { random_seed = s.seed; hardware_addr = s.hardware; isn_key = None }
+config_of s = record { random_seed = s.seed; hardware_addr = s.hardware; isn_key = s.isn_key }
 
 -- one host's address, or the unspecified one
 abbrev pub is_host_address : IpAddress → Bool

@@ -1,5 +1,5 @@
 -- What a host begins with, as the first turn brings it.
-use Rattle.std.specs.Prelude.{ℕ, ◌+◌, ◌==◌, ◌≤◌, ◌&&◌, nat_le, if◌then◌else◌, Bool, List, length, drop, slice_index, slice_range, Option, None, Some}
+use Rattle.std.specs.Prelude.{ℕ, ◌+◌, ◌==◌, ◌≤◌, ◌&&◌, ◌||◌, nat_le, if◌then◌else◌, Bool, List, length, slice_index, slice_range, Option, None, Some}
 use Rattle.std.specs.Prelude.{option_map}
 use Rattle.byteorder.specs.Endian.{little_number}
 use Rattle.ip_wire.specs.EthernetAddress.{EthernetAddress}
@@ -26,11 +26,16 @@ abbrev pub hardware_in : List ℕ → Option HardwareAddress
 hardware_in bytes =
     if slice_index bytes 0 == 0 then Some Hardware.Ip else if slice_index bytes 0 == 1 then Some (Hardware.Ethernet (station_at 1 bytes)) else None
 
--- 57 bytes, with prefixes that aren't longer than addresses
+-- 57 bytes, or 16 more, with prefixes that aren't longer than addresses
 abbrev pub has_form : List ℕ → Bool
-has_form bytes = (length bytes == 57) && (nat_le (slice_index bytes 11) 32 && nat_le (slice_index bytes 32) 128)
+has_form bytes =
+    (length bytes == 57 || length bytes == 73) && (nat_le (slice_index bytes 11) 32 && nat_le (slice_index bytes 32) 128)
 
--- of either family the address, the prefix and the router; and the seed with the lowest byte first
+-- the key of first numbers, where it came (RFC 6528)
+abbrev pub key_in : List ℕ → Option (List ℕ)
+key_in bytes = if length bytes == 73 then Some (slice_range bytes 57 73) else None
+
+-- of either family the address, the prefix and the router; the seed with the lowest byte first; and the key
 abbrev pub settings_of : List ℕ → HardwareAddress → Settings
 settings_of bytes hardware = record {
   hardware = hardware;
@@ -40,7 +45,8 @@ settings_of bytes hardware = record {
   ipv6 = v6_at 16 bytes;
   ipv6_prefix_len = slice_index bytes 32;
   ipv6_router = v6_at 33 bytes;
-  seed = little_number 8 (drop 49 bytes);
+  seed = little_number 8 (slice_range bytes 49 57);
+  isn_key = key_in bytes;
 }
 
 abbrev pub settings_in : List ℕ → Option Settings

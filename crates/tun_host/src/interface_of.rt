@@ -93,7 +93,7 @@ fn fresh(
     let config = Config {
         random_seed: settings.seed,
         hardware_addr: settings.hardware,
-        isn_key: None,
+        isn_key: settings.isn_key,
     };
     match Interface::new(alloc, &config, drain, now) {
         Ok(interface) => Ok(interface),

@@ -2,7 +2,7 @@
 ghost use Rattle.std.specs.Prelude.{◌≡◌, ◌≤◌, ◌+◌, length, slice_range, IfSome};
 ghost use Rattle.ip_wire.specs.Block.{block_address, block_prefix_len};
 ghost use Rattle.ip_wire.specs.IpAddress.TheVariants.{Ipv4, Ipv6};
-ghost use Rattle.tun_host.specs.Settings.{settings_in, hardware_in, medium_of, HasPrefixes};
+ghost use Rattle.tun_host.specs.Settings.{settings_in, hardware_in, key_in, medium_of, HasPrefixes};
 
 use byteorder::{ByteOrder, LittleEndian};
 use ip_wire::{EthernetAddress, HardwareAddress, IpAddress, IpCidr, Ipv4Address, Ipv6Address};
@@ -12,10 +12,13 @@ use net_base::Medium;
 /// router, and a seed.
 const SETTINGS_LEN: usize = 57;
 
+/// And how many with a key behind them.
+const KEYED_LEN: usize = 73;
+
 /// What a host begins with. In bytes: 0 for a link of bare IP packets, 1 for one of Ethernet frames; six of the hardware address, which
 /// count on the latter alone; four of the IPv4 address, one of its prefix, four of the router; sixteen of the IPv6 address, one of its
-/// prefix, sixteen of the router; and eight of the seed with the lowest first. A host without addresses of a family has the unspecified
-/// one.
+/// prefix, sixteen of the router; and eight of the seed with the lowest first. Sixteen more, where they come, are the key of first
+/// numbers. A host without addresses of a family has the unspecified one.
 #[derive(Clone, Copy, Debug)]
 pub struct Settings {
     /// `Ip` on a link of bare IP packets.
@@ -26,8 +29,10 @@ pub struct Settings {
     pub ipv6: Ipv6Address,
     pub ipv6_prefix_len: u8,
     pub ipv6_router: Ipv6Address,
-    /// What its random words begin with. Who can guess it can guess where its streams begin.
+    /// What its random words begin with. Who can guess it can guess where its streams begin, unless there is a key.
     pub seed: u64,
+    /// The key of TCP's first numbers (RFC 6528).
+    pub isn_key: Option<[u8; 16]>,
 }
 
 /// So many bytes from a place on.
@@ -52,13 +57,27 @@ fn hardware_of(bytes: &[u8]) -> Option<HardwareAddress>
     }
 }
 
+/// The sixteen bytes behind the others, if they came.
+fn key_of(bytes: &[u8]) -> Option<[u8; 16]>
+    ensures { result ≡ key_in bytes.now }
+{
+    if bytes.len() == KEYED_LEN {
+        Some(octets_at(bytes, SETTINGS_LEN))
+    } else {
+        None
+    }
+}
+
 impl Settings {
     /// The settings in these bytes, if there are so many, the medium is one, and each prefix isn't longer than an address.
     pub fn read(bytes: &[u8]) -> Option<Settings>
         ensures settings { result ≡ settings_in bytes.now }
         ensures prefixes { IfSome result HasPrefixes }
     {
-        if bytes.len() != SETTINGS_LEN || bytes[11] > 32 || bytes[32] > 128 {
+        if bytes.len() != SETTINGS_LEN && bytes.len() != KEYED_LEN {
+            return None;
+        }
+        if bytes[11] > 32 || bytes[32] > 128 {
             return None;
         }
         let hardware = hardware_of(bytes)?;
@@ -70,7 +89,8 @@ impl Settings {
             ipv6: Ipv6Address(octets_at(bytes, 16)),
             ipv6_prefix_len: bytes[32],
             ipv6_router: Ipv6Address(octets_at(bytes, 33)),
-            seed: LittleEndian::read_u64(&bytes[49..]),
+            seed: LittleEndian::read_u64(&bytes[49..57]),
+            isn_key: key_of(bytes),
         })
     }
 

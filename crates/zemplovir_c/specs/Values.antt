@@ -150,9 +150,13 @@ hardware_in s =
     else if s.medium == 2 then Ok None
     else Err Is.BadArgument
 
+-- the key of first numbers, where it counts
+abbrev pub key_in : Settings → Option (List ℕ)
+key_in s = if s.keyed == 0 then None else Some s.isn_key
+
 abbrev pub settings_by : Result (Option EthernetAddress) Code → Settings → Result Host.Settings Code
 settings_by (Err code) s = Err code
-settings_by (Ok hardware) s = Ok (record { hardware = hardware; mtu = s.mtu; seed = s.seed; frames = s.frames })
+settings_by (Ok hardware) s = Ok (record { hardware = hardware; mtu = s.mtu; seed = s.seed; isn_key = key_in s; frames = s.frames })
 
 abbrev pub settings_in : Settings → Result Host.Settings Code
 settings_in s = settings_by (hardware_in s) s

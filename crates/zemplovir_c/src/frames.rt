@@ -7,7 +7,7 @@ ghost use Rattle.c_calls.specs.Codes.{of_fetch};
 ghost use Rattle.c_calls.specs.Backlogs.{may_be_removed, removed_by};
 ghost use Rattle.zemplovir_c.specs.Answers.{all_done, answer_by, after_by, given_by, written_by, mapped, Acts, Gives, As};
 ghost use Rattle.zemplovir_c.specs.Hosts.{NewBoxed, NewHandle, unboxed};
-ghost use Rattle.zemplovir_c.specs.Values.{hardware_in, settings_in, bit, moment_or_never, counters_out};
+ghost use Rattle.zemplovir_c.specs.Values.{hardware_in, key_in, settings_in, bit, moment_or_never, counters_out};
 
 use crate::answers::{NO_HOST, OK, done, given};
 use crate::handle::Handle;
@@ -37,6 +37,17 @@ fn hardware_in(settings: &Settings) -> Result<Option<EthernetAddress>, Code>
     }
 }
 
+fn key_in(settings: &Settings) -> Option<[u8; 16]>
+    ensures { result ≡ key_in settings.now }
+{
+    if settings.keyed == 0 {
+        None
+    } else {
+        let key = settings.isn_key;
+        Some(key)
+    }
+}
+
 fn settings_in(settings: &Settings) -> Result<c_calls::Settings, Code>
     ensures { result ≡ settings_in settings.now }
 {
@@ -45,6 +56,7 @@ fn settings_in(settings: &Settings) -> Result<c_calls::Settings, Code>
             hardware,
             mtu: settings.mtu,
             seed: settings.seed,
+            isn_key: key_in(settings),
             frames: settings.frames,
         }),
         Err(code) => Err(code),

@@ -39,6 +39,9 @@ pub struct Settings {
     pub mtu: usize,
     pub seed: u64,
     pub frames: usize,
+    /// 0 for no key.
+    pub keyed: u8,
+    pub isn_key: [u8; 16],
 }
 
 /// What a host has counted.

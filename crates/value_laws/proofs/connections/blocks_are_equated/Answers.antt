@@ -1,5 +1,5 @@
 use Rattle.value_laws.proofs.Equal.{Decides-block, Decides-congestion, Decides-loss, Decides-names, Decides-peer, Decides-receiver, Decides-reno, Decides-round_trip}
-use Rattle.value_laws.proofs.Equal.{Decides-run, Decides-scoreboard, Decides-sender, Decides-settings, Decides-state, Decides-timers}
+use Rattle.value_laws.proofs.Equal.{Decides-run, Decides-scoreboard, Decides-sender, Decides-settings, Decides-stamps, Decides-state, Decides-timers}
 use Rattle.value_laws.proofs.connections.blocks_are_equated.Goals as goal
 
 pub returns : goal.returns
@@ -9,6 +9,7 @@ returns c = record {
   sender = Decides-sender;
   receiver = Decides-receiver;
   peer = Decides-peer;
+  stamps = Decides-stamps;
   timers = Decides-timers;
   round_trip = Decides-round_trip;
   reno = Decides-reno;
