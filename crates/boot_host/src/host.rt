@@ -9,7 +9,7 @@ use anyhow::{Result, anyhow};
 use interface::{Config, Interface, SocketHandle, SocketSet, earlier};
 use ip_wire::{HardwareAddress, IpAddress, IpCidr, Ipv4Address};
 use net_base::{ChecksumCapabilities, DeviceCapabilities, Duration, Instant, ManagedSlice, Medium};
-use sockets::dhcpv4::{self, Event};
+use sockets::dhcp::{self, Event};
 use sockets::dns::{self, GetQueryResultError};
 use sockets::{AnySocket, Socket};
 use std::alloc::Global;
@@ -48,7 +48,7 @@ impl Host {
             seed,
             questions,
         } = orders;
-        let dhcp = add(&mut sockets, dhcpv4::Socket::new(station, seed))?;
+        let dhcp = add(&mut sockets, dhcp::Socket::new(station, seed))?;
         let dns = add(&mut sockets, dns::Socket::new(&[]))?;
         let pings = add(&mut sockets, pings(alloc, IDENT)?)?;
         let stream = add(&mut sockets, stream(alloc, page::ROOM)?)?;
@@ -125,7 +125,7 @@ impl Host {
     }
 
     /// Takes an address, and turns to the router.
-    fn begin<R: Eprint>(&mut self, rt: &R, now: Instant, config: &dhcpv4::Config) -> Result<()> {
+    fn begin<R: Eprint>(&mut self, rt: &R, now: Instant, config: &dhcp::Config) -> Result<()> {
         let (address, server) = (config.address, config.server.identifier);
         eprintln!(rt; "{now} configured {address} by {server}")?;
         set_address(&mut self.interface, Some(IpCidr::Ipv4(address)));

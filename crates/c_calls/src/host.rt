@@ -11,11 +11,10 @@ use crate::backlogs::{is_in_backlog, refresh_all};
 use crate::code::{of_fetch, of_new, of_push};
 use c_link::FrameLink;
 use c_sockets::Code;
-use sockets::{dhcpv4, dns};
 use interface::{AddError, Config, Interface, PollResult, SocketHandle, SocketSet};
 use ip_wire::{EthernetAddress, HardwareAddress};
 use net_base::{ChecksumCapabilities, DeviceCapabilities, Instant, ManagedSlice, Medium};
-use sockets::Socket;
+use sockets::{Socket, dhcp, dns};
 use std::alloc::Global;
 use std::marker::Model;
 use tcp_listener::Listener;
@@ -56,7 +55,7 @@ pub struct Host {
     pub(crate) interface: Interface,
     pub(crate) sockets: SocketSet<Socket>,
     pub(crate) listeners: Vec<Option<Listener>>,
-    pub(crate) dhcp: Option<dhcpv4::Socket>,
+    pub(crate) dhcp: Option<dhcp::Socket>,
     pub(crate) dns: Option<dns::Socket>,
     pub(crate) counters: Counters,
 }

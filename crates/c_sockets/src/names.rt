@@ -8,8 +8,8 @@ ghost use Rattle.c_sockets.specs.Names.{found_answer, found_after, due_answer};
 
 use crate::carrying::{Sending, carry, headers};
 use crate::code::Code;
-use sockets::dns::{Addresses, DnsQueryType, GetQueryResultError, Socket, StartQueryError};
 use ip_wire::{IpAddress, IpEndpoint};
+use sockets::dns::{Addresses, DnsQueryType, GetQueryResultError, Socket, StartQueryError};
 use sockets::{Context, PollAt};
 use std::str;
 

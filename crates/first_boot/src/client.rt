@@ -6,7 +6,7 @@ use anyhow::{Result, anyhow};
 use interface::{Config, Interface, SocketHandle, SocketSet};
 use ip_wire::{EthernetAddress, HardwareAddress, IpAddress, IpCidr, Ipv4Address};
 use net_base::{Instant, ManagedSlice};
-use sockets::dhcpv4::{self, Event};
+use sockets::dhcp::{self, Event};
 use sockets::dns::{self, DnsQueryType};
 use sockets::{AnySocket, Socket};
 use std::alloc::Global;
@@ -30,7 +30,7 @@ impl Client {
     /// A host without an address.
     pub fn new(alloc: Global) -> Result<Client> {
         let mut sockets = SocketSet::new(ManagedSlice::Owned(Vec::new(alloc)));
-        let dhcp = add(&mut sockets, dhcpv4::Socket::new(STATION, 1))?;
+        let dhcp = add(&mut sockets, dhcp::Socket::new(STATION, 1))?;
         let dns = add(&mut sockets, dns::Socket::new(&[]))?;
         let wire = Wire::new(alloc);
         let config = Config {
@@ -61,7 +61,7 @@ impl Client {
 
     /// What the client of DHCP tells.
     fn event(&mut self, now: Instant) -> Option<Event> {
-        dhcpv4::Socket::downcast_mut(self.sockets.get_mut(self.dhcp)?)?.poll(now)
+        dhcp::Socket::downcast_mut(self.sockets.get_mut(self.dhcp)?)?.poll(now)
     }
 
     /// Sets the address, the router and the servers of names.

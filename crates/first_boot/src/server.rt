@@ -8,7 +8,7 @@ use anyhow::{Result, anyhow};
 use interface::{Config, Interface, SocketHandle, SocketSet};
 use ip_wire::{EthernetAddress, HardwareAddress, IpAddress, IpCidr, IpEndpoint, Ipv4Address};
 use net_base::{Instant, ManagedSlice};
-use sockets::dhcpv4::{DhcpMessageType, DhcpPacket, DhcpRepr};
+use sockets::dhcp::{DhcpMessageType, DhcpPacket, DhcpRepr};
 use sockets::udp::UdpMetadata;
 use sockets::{Socket, udp};
 use std::alloc::Global;

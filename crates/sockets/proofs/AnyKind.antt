@@ -14,7 +14,7 @@ use Rattle.datagram_sockets.specs.Offers.{HasPacket, OffersFirst, OffersBy, answ
 use Rattle.datagram_sockets.specs.SocketValue as Datagrams
 use Rattle.datagram_sockets.specs.SocketValue.{SocketValue}
 use Rattle.datagram_sockets.proofs.OfferLaws as datagrams
-use Rattle.tcp_socket.specs.Value.{TcpValue}
+use Rattle.tcp_model.specs.Value.{TcpValue}
 use Rattle.clients.proofs.DhcpOneMessage.{one_offered}
 use Rattle.clients.proofs.DhcpTurns as Dhcps
 use Rattle.clients.specs.DhcpValue.{DhcpValue}

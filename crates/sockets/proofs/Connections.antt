@@ -1,33 +1,33 @@
 -- What an offer of a connection answers and leaves.
 use Rattle.std.proofs.Common.{◌≡◌, ℕ, ◌==◌, Bool, true, false, if◌then◌else◌, Option, Some, None, refl, sym, ap, ◌∙◌}
-use Rattle.tcp_socket.specs.TcpHeader.{TcpHeader}
+use Rattle.ip_wire.specs.TcpHeader.{TcpHeader}
 use Rattle.datagram_sockets.specs.Context.{ContextValue}
 use Rattle.datagram_sockets.specs.BaseOffers.{Offered, IsBefore}
 use Rattle.datagram_sockets.specs.Offer.{Offer}
 use Rattle.datagram_sockets.specs.Offer.TheVariants as Answer
 use Rattle.datagram_sockets.specs.Offers.{HasPacket, changed_by}
-use Rattle.tcp_socket.specs.Block.{Block}
-use Rattle.tcp_socket.specs.EndpointPair.{EndpointPair}
-use Rattle.tcp_socket.specs.OfferKind.{OfferKind}
-use Rattle.tcp_socket.specs.OfferKind.TheVariants as Kind
-use Rattle.tcp_socket.specs.Blocks.{forgotten}
-use Rattle.tcp_socket.specs.Calls.{listening}
-use Rattle.tcp_socket.specs.Checks.{falls_back}
-use Rattle.tcp_socket.specs.Due.{poll_of}
-use Rattle.tcp_socket.specs.Moments.{is_due}
-use Rattle.tcp_socket.specs.Offers.{offered_packet, offer_segment, number_at, offer_choice, offer_ack, offer_syn, offer_reset, offer_keep_alive, offer_held_back}
-use Rattle.tcp_socket.specs.Offers.{silent, last_rules, first_rules, backed_off, offer_between, offer_with, offer_of}
-use Rattle.tcp_socket.specs.LossRecovery.{loss_probe_moment, loss_probed}
-use Rattle.tcp_socket.specs.Probing.{probe_started, probe_moment}
-use Rattle.tcp_socket.specs.Retries.{gives_up, given_up}
-use Rattle.tcp_socket.specs.Rules.{Choice, time_wait_end, owes_syn, resends, ack_moment, has_text, text_choice, resend_choice, probe_choice, control_for}
-use Rattle.tcp_socket.specs.Rules.{updates_window, keep_alive_moment, backed_off_now}
-use Rattle.tcp_socket.specs.Segments.{segment, ack_segment, syn_segment, reset_segment, keep_alive_segment}
-use Rattle.tcp_socket.specs.Settled.{settled}
-use Rattle.tcp_socket.specs.States.{is_closed}
-use Rattle.tcp_socket.specs.Timeout.{timeout_started, timeout_end, timed_out}
-use Rattle.tcp_socket.proofs.Waits.{silence}
-use Rattle.tcp_socket.specs.Value.{TcpValue, with_block, unoffered, ended, queued_in, free_in, room_of, window_of}
+use Rattle.tcp_model.specs.declared.block.Block.{Block}
+use Rattle.tcp_model.specs.EndpointPair.{EndpointPair}
+use Rattle.tcp_model.specs.OfferKind.{OfferKind}
+use Rattle.tcp_model.specs.OfferKind.TheVariants as Kind
+use Rattle.tcp_model.specs.Blocks.{forgotten}
+use Rattle.tcp_model.specs.Calls.{listening}
+use Rattle.tcp_model.specs.Checks.{falls_back}
+use Rattle.tcp_model.specs.Due.{poll_of}
+use Rattle.tcp_model.specs.Moments.{is_due}
+use Rattle.tcp_model.specs.Offers.{offered_packet, offer_segment, number_at, offer_choice, offer_ack, offer_syn, offer_reset, offer_keep_alive, offer_held_back}
+use Rattle.tcp_model.specs.Offers.{silent, last_rules, first_rules, backed_off, offer_between, offer_with, offer_of}
+use Rattle.tcp_model.specs.LossRecovery.{loss_probe_moment, loss_probed}
+use Rattle.tcp_model.specs.Probing.{probe_started, probe_moment}
+use Rattle.tcp_model.specs.Retries.{gives_up, given_up}
+use Rattle.tcp_model.specs.Rules.{Choice, time_wait_end, owes_syn, resends, ack_moment, has_text, text_choice, resend_choice, probe_choice, control_for}
+use Rattle.tcp_model.specs.Rules.{updates_window, keep_alive_moment, backed_off_now}
+use Rattle.tcp_model.specs.Segments.{segment, ack_segment, syn_segment, reset_segment, keep_alive_segment}
+use Rattle.tcp_model.specs.Settled.{settled}
+use Rattle.tcp_model.specs.States.{is_closed}
+use Rattle.tcp_model.specs.Timeout.{timeout_started, timeout_end, timed_out}
+use Rattle.tcp_model.proofs.Waits.{silence}
+use Rattle.tcp_model.specs.Value.{TcpValue, with_block, unoffered, ended, queued_in, free_in, room_of, window_of}
 use Rattle.sockets.specs.Socket.{IsSameConnection}
 
 -- a packet is offered exactly where the answer says so, and where nothing changed the connection is the same

@@ -3,7 +3,7 @@ use Rattle.std.specs.Prelude.{Option, None, Some}
 use Rattle.datagram_sockets.specs.Udp.{UdpValue}
 use Rattle.datagram_sockets.specs.Icmp.{IcmpValue}
 use Rattle.datagram_sockets.specs.Raw.{RawValue}
-use Rattle.tcp_socket.specs.Value.{TcpValue}
+use Rattle.tcp_model.specs.Value.{TcpValue}
 use Rattle.clients.specs.DhcpValue.{DhcpValue}
 use Rattle.clients.specs.DnsValue.{DnsValue}
 use Rattle.sockets.specs.declared.socket.Socket.{Socket}

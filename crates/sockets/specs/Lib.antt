@@ -24,21 +24,21 @@ pub use Rattle.datagram_sockets.specs.declared.error.BindError
 pub use Rattle.datagram_sockets.specs.declared.error.RecvError
 pub use Rattle.datagram_sockets.specs.declared.error.SendError
 pub use Rattle.datagram_sockets.specs.declared.raw.SendError as RawSendError
-pub use Rattle.tcp_socket.specs.Calls as TcpCalls
-pub use Rattle.tcp_socket.specs.Settings as TcpSettings
-pub use Rattle.tcp_socket.specs.Arrival as TcpArrival
-pub use Rattle.tcp_socket.specs.Names as TcpNames
+pub use Rattle.tcp_model.specs.Calls as TcpCalls
+pub use Rattle.tcp_model.specs.Settings as TcpSettings
+pub use Rattle.tcp_model.specs.Arrival as TcpArrival
+pub use Rattle.tcp_model.specs.Names as TcpNames
 pub use Rattle.tcp_socket.specs.Receive as TcpReceive
-pub use Rattle.tcp_socket.specs.Offers as TcpOffers
-pub use Rattle.tcp_socket.specs.Settled as TcpSettled
-pub use Rattle.tcp_socket.specs.Due as TcpDue
-pub use Rattle.tcp_socket.specs.Segments as TcpSegments
-pub use Rattle.tcp_socket.specs.States as TcpStates
-pub use Rattle.tcp_socket.specs.Value as TcpValue
-pub use Rattle.tcp_socket.specs.State
+pub use Rattle.tcp_model.specs.Offers as TcpOffers
+pub use Rattle.tcp_model.specs.Settled as TcpSettled
+pub use Rattle.tcp_model.specs.Due as TcpDue
+pub use Rattle.tcp_model.specs.Segments as TcpSegments
+pub use Rattle.tcp_model.specs.States as TcpStates
+pub use Rattle.tcp_model.specs.Value as TcpValue
+pub use Rattle.tcp_model.specs.State
 pub use Rattle.tcp_socket.specs.WellFormed
 pub use Rattle.tcp_socket.specs.Replies
-pub use Rattle.tcp_socket.specs.CongestionControl
+pub use Rattle.tcp_model.specs.declared.block.CongestionControl
 pub use Rattle.clients.specs.DhcpAnswers
 pub use Rattle.clients.specs.DhcpConfig
 pub use Rattle.clients.specs.DhcpEvent

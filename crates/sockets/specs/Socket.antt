@@ -1,9 +1,9 @@
 -- A socket of any kind, the clients of DHCP and DNS among them: what it offers, how an offer is settled, when it wants to be polled,
 -- and what is for it.
 use Rattle.std.specs.Prelude.{◌≡◌, ℕ, Bool, false, List, Option, None, Some, IfSome}
-use Rattle.tcp_socket.specs.IpAddress.{IpAddress}
-use Rattle.tcp_socket.specs.IpRepr.{IpRepr}
-use Rattle.tcp_socket.specs.UdpRepr.{UdpRepr}
+use Rattle.ip_wire.specs.IpAddress.{IpAddress}
+use Rattle.ip_wire.specs.IpRepr.{IpRepr}
+use Rattle.ip_wire.specs.UdpRepr.{UdpRepr}
 use Rattle.datagram_sockets.specs.Icmpv4Header.{Icmpv4Header}
 use Rattle.datagram_sockets.specs.Icmpv6.{MessageValue}
 use Rattle.datagram_sockets.specs.Context.{ContextValue}
@@ -15,12 +15,12 @@ use Rattle.datagram_sockets.specs.Offers as Places
 use Rattle.datagram_sockets.specs.Udp as Udps
 use Rattle.datagram_sockets.specs.Icmp as Icmps
 use Rattle.datagram_sockets.specs.Raw as Raws
-use Rattle.tcp_socket.specs.TcpHeader.{TcpHeader}
-use Rattle.tcp_socket.specs.Due as Tcps
-use Rattle.tcp_socket.specs.Names as TcpNames
-use Rattle.tcp_socket.specs.Offers as TcpOffers
-use Rattle.tcp_socket.specs.Settled as TcpSettled
-use Rattle.tcp_socket.specs.Value.{TcpValue}
+use Rattle.ip_wire.specs.TcpHeader.{TcpHeader}
+use Rattle.tcp_model.specs.Due as Tcps
+use Rattle.tcp_model.specs.Names as TcpNames
+use Rattle.tcp_model.specs.Offers as TcpOffers
+use Rattle.tcp_model.specs.Settled as TcpSettled
+use Rattle.tcp_model.specs.Value.{TcpValue}
 use Rattle.clients.specs.DhcpOffers as DhcpOffers
 use Rattle.clients.specs.DhcpStates as DhcpStates
 use Rattle.clients.specs.DhcpValue as Dhcps
