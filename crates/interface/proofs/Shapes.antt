@@ -12,9 +12,9 @@ use Rattle.ip_wire.specs.IpRepr.TheVariants as Ip
 use Rattle.ip_wire.specs.TcpHeader.{TcpHeader}
 use Rattle.ip_wire.specs.UdpRepr.{UdpRepr}
 use Rattle.ip_wire.specs.declared.ethernet.repr.EthernetRepr.{EthernetRepr}
-use Rattle.sockets.specs.Context.{ContextValue}
-use Rattle.sockets.specs.Packet.{PayloadValue, ControlV4, ControlV6, Bytes, Datagram, Segment}
-use Rattle.sockets.specs.declared.socket.Socket.{Socket}
+use Rattle.interface_ingress.specs.Context.{ContextValue}
+use Rattle.interface_ingress.specs.Packet.{PayloadValue, ControlV4, ControlV6, Bytes, Datagram, Segment}
+use Rattle.interface_ingress.specs.Socket.{Socket}
 use Rattle.interface_ingress.specs.Incoming.{IncomingValue, Arp, Ip4, Ip6}
 use Rattle.interface_egress.specs.declared.socket_set.Item.{Item}
 use Rattle.interface_egress.specs.declared.socket_set.SocketStorage.{SocketStorage}

@@ -18,3 +18,4 @@ pub mod Settings
 pub mod OneDatagram
 pub mod OneArrival
 pub mod Neighbors
+pub use Rattle.sockets.proofs.AnyKind

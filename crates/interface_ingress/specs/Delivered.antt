@@ -19,10 +19,10 @@ use Rattle.sockets.specs.TcpArrival.{arrives}
 use Rattle.sockets.specs.Socket.{accepts_packet, accepts_icmpv4, accepts_icmpv6, accepts_datagram, accepts_segment}
 use Rattle.sockets.specs.declared.socket.Socket.{Socket}
 use Rattle.sockets.specs.declared.socket.Socket.TheVariants as Kind
-use Rattle.tcp_model.specs.Controls.{is_rst}
-use Rattle.tcp_model.specs.Segments.{rst_reply}
-use Rattle.tcp_model.specs.States.{is_listening}
-use Rattle.tcp_model.specs.Reply.{Reply}
+use Rattle.sockets.specs.TcpControls.{is_rst}
+use Rattle.sockets.specs.TcpSegments.{rst_reply}
+use Rattle.sockets.specs.TcpStates.{is_listening}
+use Rattle.sockets.specs.TcpReply.{Reply}
 use Rattle.sockets.specs.Replies as Replies
 use Rattle.interface_egress.specs.declared.socket_set.Item.{Item}
 use Rattle.interface_egress.specs.declared.socket_set.SocketStorage.{SocketStorage}

@@ -53,3 +53,5 @@ pub use Rattle.clients.specs.DnsTurns
 pub use Rattle.clients.specs.DnsValue
 pub use Rattle.clients.specs.GetQueryResultError
 pub use Rattle.clients.specs.StartQueryError
+pub use Rattle.tcp_model.specs.Controls as TcpControls
+pub use Rattle.tcp_model.specs.Reply as TcpReply
