@@ -1,5 +1,6 @@
 -- What a datagram says to a query is determined, and so is what it leaves.
-use Rattle.std.proofs.Common.{◌≡◌, ◌≢◌, ◌⊎◌, inl, inr, ℕ, zero, suc, ◌+◌, ◌<◌, ◌≤◌, Bool, true, false, ℤ, List, [], ◌∷◌, length, Option, Some, None, refl, sym, ap}
+use Rattle.std.proofs.Common.{◌≡◌, ◌≢◌, ◌⊎◌, inl, inr, ℕ, zero, suc, ◌+◌, ◌<◌, ◌≤◌, Bool, true, false, ℤ, List, [], ◌∷◌, length, Option, Some, None}
+use Rattle.std.proofs.Common.{refl, sym, ap}
 use Rattle.std.proofs.Common.{◌∙◌, subst, arith}
 use Rattle.std.specs.Prelude.{slice_index, ◌%◌}
 use Rattle.ip_wire.specs.Fields.{be16}
@@ -87,7 +88,8 @@ one_data message class kind start len (Other k n m) (Other k' n' m') one other =
 one_record : (message : List ℕ) (at : ℕ) (r s : DnsRecord) (end stop : ℕ) → IsRecord message at r end → IsRecord message at s stop → (r ≡ s) × (end ≡ stop)
 one_record message at r s end stop one other =
     let names = one_name message at (bytes_of_name r.name) (bytes_of_name s.name) one.name_end other.name_end one.name other.name in
-    let held = one_data message (be16 message (one.name_end + 2)) (be16 message one.name_end) (one.name_end + 10) (be16 message (one.name_end + 8)) r.«data» s.«data»
+    let held = one_data message (be16 message (one.name_end + 2)) (be16 message one.name_end) (one.name_end + 10)
+    (be16 message (one.name_end + 8)) r.«data» s.«data»
     one.holds (holds-at message at s stop one.name_end other names.1) in
     let same = record-is message at s stop r.name r.ttl r.«data» one.name_end other names.0 names.1 one.ttl held in
     let both = pair_left _ _ _ _ same in
@@ -101,7 +103,8 @@ one_records message at [] (s ∷ b) end stop one other len = absurd (omega (arit
 one_records message at (r ∷ a) [] end stop one other len = absurd (omega (arith, len))
 one_records message at (r ∷ a) (s ∷ b) end stop one other len =
     let first = one_record message at r s one.0 other.0 one.1 other.1 in
-    let rest : a ≡ b = one_records message one.0 a b end stop one.2 (subst (λ (n : ℕ). AreRecords message n b stop) (sym first.1) other.2) (omega (arith, len)) in
+    let rest : a ≡ b =
+    one_records message one.0 a b end stop one.2 (subst (λ (n : ℕ). AreRecords message n b stop) (sym first.1) other.2) (omega (arith, len)) in
     λ k. first.0 k ∷ rest k
 
 -- where no record stands behind some, there are no more

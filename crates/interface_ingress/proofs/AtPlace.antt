@@ -9,7 +9,8 @@ use Rattle.sockets.specs.declared.socket.Socket.{Socket}
 use Rattle.sockets.specs.Packet.{PacketValue}
 use Rattle.interface_egress.specs.declared.socket_set.SocketStorage.{SocketStorage}
 use Rattle.interface_ingress.specs.Datagrams.{PlaceTakes, GivenIn, GivenAt, IsDelivered}
-use Rattle.interface_ingress.specs.Delivered.{Places, datagram_place, with_change, changed_in, changed_at, answer_in, answer_by, answer_at, passes, passes_by, passes_at}
+use Rattle.interface_ingress.specs.Delivered.{Places, datagram_place, with_change, changed_in, changed_at, answer_in, answer_by, answer_at, passes}
+use Rattle.interface_ingress.specs.Delivered.{passes_by, passes_at}
 
 pub changed_here : (f : Socket → Socket) (places : Places) (at : ℕ) (d : SocketStorage Socket) → at < length places →
     changed_at f (Some at) places ≡ slice_set places at (with_change f (get_or places at d))

@@ -44,9 +44,11 @@ pub record IsOfPolls (Came : ChecksumCapabilities → IpRepr → List ℕ → Ty
   pub icmpv4 : (ip : Ipv4Repr) (message : Icmpv4Header) (bytes : List ℕ) (s : Socket) → W s → W (with_icmpv4 ip message bytes s)
   pub icmpv6 : (ip : Ipv6Repr) (message : MessageValue) (bytes : List ℕ) (s : Socket) → W s → W (with_icmpv6 ip message bytes s)
   pub datagram : (caps : ChecksumCapabilities) (cx : ContextValue) (ip : IpRepr) (payload : List ℕ) (udp : UdpRepr) (bytes : List ℕ) (s s' : Socket)
-      → Came caps ip payload → IsDatagram caps (upper_header ip payload) (upper_payload ip payload) udp bytes → accepts_datagram cx s ip udp ≡ true → TakesDatagram cx ip udp bytes s s' → W s → W s'
+      → Came caps ip payload → IsDatagram caps (upper_header ip payload) (upper_payload ip payload) udp bytes → accepts_datagram cx s ip udp ≡ true
+      → TakesDatagram cx ip udp bytes s s' → W s → W s'
   pub segment : (caps : ChecksumCapabilities) (cx : ContextValue) (ip : IpRepr) (payload : List ℕ) (header : TcpHeader) (bytes : List ℕ) (s : Socket)
-      → Came caps ip payload → IsSegment caps (upper_header ip payload) (upper_payload ip payload) header bytes → accepts_segment s ip header ≡ true → W s → W (with_segment cx ip header bytes s)
+      → Came caps ip payload → IsSegment caps (upper_header ip payload) (upper_payload ip payload) header bytes
+      → accepts_segment s ip header ≡ true → W s → W (with_segment cx ip header bytes s)
 
 module _ (Came : ChecksumCapabilities → IpRepr → List ℕ → Type 0) (W : Socket → Type 0) (law : IsOfPolls Came W) (n : ℕ) where
   abbrev Holds : Places → Type 0
@@ -88,7 +90,8 @@ module _ (Came : ChecksumCapabilities → IpRepr → List ℕ → Type 0) (W : S
         subst Holds (sym got.2)
         (put_holds W places at n free got.0 (datagram_in udp bytes is (get_or places at free).inner got.0.inner first.1 got.1) holds)
 
-    segment_at : (header : TcpHeader) (bytes : List ℕ) → IsSegment caps (upper_header ip payload) (upper_payload ip payload) header bytes → (o : Option ℕ) → segment_place ip header places ≡ o
+    segment_at : (header : TcpHeader) (bytes : List ℕ) → IsSegment caps (upper_header ip payload) (upper_payload ip payload) header bytes
+        → (o : Option ℕ) → segment_place ip header places ≡ o
         → Holds (changed_at (with_segment cx ip header bytes) o places)
     segment_at header bytes is None at = holds
     segment_at header bytes is (Some at) there =
@@ -103,7 +106,8 @@ module _ (Came : ChecksumCapabilities → IpRepr → List ℕ → Type 0) (W : S
     segment_for false header bytes is = segment_at header bytes is (segment_place ip header places) refl
 
   handed : (i : InnerValue) (places : Places) (ip : IpRepr) (payload : List ℕ) (carried : Option PayloadValue) → Came i.checksums ip payload
-      → IsCarriedContent i.checksums (upper_header ip payload) (upper_payload ip payload) carried → (to : Places) → HandsTo i places ip carried to → Holds places → Holds to
+      → IsCarriedContent i.checksums (upper_header ip payload) (upper_payload ip payload) carried → (to : Places) → HandsTo i places ip carried to
+      → Holds places → Holds to
   handed i places ip payload None came is to hands holds = subst Holds (sym hands) holds
   handed i places ip payload (Some (ControlV4 message bytes)) came is to hands holds = subst Holds (sym hands) (messages_v4 ip message bytes places holds)
   handed i places ip payload (Some (ControlV6 message bytes)) came is to hands holds = subst Holds (sym hands) (messages_v6 ip message bytes places holds)

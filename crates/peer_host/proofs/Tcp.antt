@@ -71,14 +71,16 @@ module _ {D : Type 0} (moves : D → Move → D → Type 0) (t : ℤ) (from : St
   is_offered cx u (Is.Dns w) answer offers = absurd offers
   is_offered cx u (Is.Tcp w) answer offers = ap Is.Tcp offers.1
 
-  offer_led : (cx : ContextValue) (s offered : Socket) (answer : Answer.Offer) (sent : Bool) → Offers cx s answer offered → LedTo s → LedTo (settled sent offered)
+  offer_led : (cx : ContextValue) (s offered : Socket) (answer : Answer.Offer) (sent : Bool) → Offers cx s answer offered → LedTo s
+      → LedTo (settled sent offered)
   offer_led cx s offered answer sent offers led =
       let u = after_all v led.events in
       let is = is_offered cx u offered answer (subst (λ (x : Socket). Offers cx x answer offered) led.is offers) in
       one_more s (settled sent offered) led (Does (IsAsked cx sent)) tt (ap (settled sent) is)
 
   segment_led : (caps : ChecksumCapabilities) (cx : ContextValue) (ip : IpRepr) (payload : List ℕ) (header : TcpHeader) (bytes : List ℕ) (s : Socket)
-      → Came moves t from caps ip payload → IsSegment caps (upper_header ip payload) (upper_payload ip payload) header bytes → accepts_segment s ip header ≡ true → LedTo s
+      → Came moves t from caps ip payload → IsSegment caps (upper_header ip payload) (upper_payload ip payload) header bytes
+      → accepts_segment s ip header ≡ true → LedTo s
       → LedTo (with_segment cx ip header bytes s)
   segment_led caps cx ip payload header bytes s came is accepts led =
       one_more s (with_segment cx ip header bytes s) led (Comes cx ip header bytes) (

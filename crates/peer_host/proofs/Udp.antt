@@ -75,7 +75,8 @@ module _ {D : Type 0} (moves : D → Move → D → Type 0) (t : ℤ) (from : St
     pub behind : contents new.received ≡ contents v.received ++ more
     pub were : Were more
 
-  were_more : (more : List (UdpMetadata × List ℕ)) (d : UdpMetadata × List ℕ) → Were more → WasReceived moves t from v.settings.endpoint.port d → Were (more ++ d ∷ [])
+  were_more : (more : List (UdpMetadata × List ℕ)) (d : UdpMetadata × List ℕ) → Were more → WasReceived moves t from v.settings.endpoint.port d
+      → Were (more ++ d ∷ [])
   were_more [] d were was = (was, tt)
   were_more (x ∷ more) d were was = (were.0, were_more more d were.1 was)
 
@@ -99,7 +100,8 @@ module _ {D : Type 0} (moves : D → Move → D → Type 0) (t : ℤ) (from : St
     were = got.were;
   }
 
-  offer_got : (cx : ContextValue) (s offered : Socket) (answer : Answer.Offer) (sent : Bool) → Offers cx s answer offered → GotMore s → GotMore (settled sent offered)
+  offer_got : (cx : ContextValue) (s offered : Socket) (answer : Answer.Offer) (sent : Bool) → Offers cx s answer offered → GotMore s
+      → GotMore (settled sent offered)
   offer_got cx s offered answer sent offers got =
       by offered (subst (λ (x : Socket). Offers cx x answer offered) got.is offers) where
         by : (offered : Socket) → Offers cx (Is.Udp got.new) answer offered → GotMore (settled sent offered)

@@ -163,7 +163,8 @@ module _ (W : Socket → Type 0) where
 
     hands : (i : InnerValue) (places : Places) (ip : IpRepr) (payload : List ℕ) (taken : Bool) (a : Arrived) → Hands i places ip payload taken a →
         OfEach W places → OfEach W a.places
-    hands i places ip payload taken a (carried, is, so) all = handed i.checksums i places ip (upper_header ip payload) (upper_payload ip payload) carried a.places is so.places_are all
+    hands i places ip payload taken a (carried, is, so) all =
+        handed i.checksums i places ip (upper_header ip payload) (upper_payload ip payload) carried a.places is so.places_are all
 
     v4 : (ours : Bool) (i : InnerValue) (places : Places) (link : Option EthernetRepr) (ip : IpRepr) (payload : List ℕ) (a : Arrived) →
         ArrivesV4 ours i places link ip payload a → OfEach W places → OfEach W a.places

@@ -282,7 +282,8 @@ module _ {D : Type 0} (moves : D → Move → D → Type 0) (turn_of : Option Ip
       } in
       subst (λ (i : Item Socket). Next (At x' (Some i))) (sym goes.3) told
 
-  asks : (x x' : Sender D) (item item' : Item Socket) (answer : Answer.Offer) (offered : Socket) (turned : Turned) → IfSome (offered_by offered) CanBeWide → IsFit item.socket
+  asks : (x x' : Sender D) (item item' : Item Socket) (answer : Answer.Offer) (offered : Socket) (turned : Turned)
+      → IfSome (offered_by offered) CanBeWide → IsFit item.socket
       → Offers (context_of x.inner) item.socket answer offered → Answers moves turn_of answer x (record item { socket = offered }) turned x' item'
       → Now (At x (Some item)) → Next (At x' (Some item'))
   asks x x' item item' (Offer.Silent changed) offered turned wide fit offers answers f =
