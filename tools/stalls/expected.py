@@ -50,6 +50,9 @@ def standstill(lan, script):
     start = script.index("start")
     cuts, longest = 0, (0, 0)
     for cut in range(start + 1, len(script) + 1):
+        # Behind a question the hosts are as they were in front of it.
+        if cut < len(script) and script[cut - 1].startswith(("pollat", "state")):
+            continue
         try:
             course = Course(lan, script, cut)
             took = course.heal(DELAY, LONGEST, is_read, is_lost=True) if course.pairs() else 0
@@ -125,8 +128,10 @@ def challenged(course):
 
 
 def reset_counts(course):
-    """The reset of an abort ends the other end."""
-    course.heal(DELAY, 2 * SECOND, lambda course: course.act("state B 0") == "state CLOSED")
+    """What A sent last comes: the reset of its abort ends B there and then."""
+    for number in course.outstanding("A"):
+        course.hand("A", number)
+    course.act(f"poll B {course.moment()} 64")
     state = course.act("state B 0")
     resets = [it for _, it in course.segments("A") if it.flags & RST]
     return None if state == "state CLOSED" and len(resets) == 1 else f"{len(resets)} resets, {state}", state
@@ -164,13 +169,27 @@ def silly_windows(course):
 
 
 def filled(course):
-    """No text waits that makes a full segment: what is smaller went as all that was queued, or while nothing was in flight."""
-    written = len(course.written.get(("A", 0), b""))
-    top = max(at + count for _, at, count in texts(course, "A"))
+    """Where a full segment's text waits though as much was in flight before: no segment is lost in this course, so the congestion window
+    never shrinks, and the other end's buffer holds more than ever goes."""
+    went, acked = texts(course, "A"), {frame.number: it.acknowledgement for frame, it in course.segments("B")}
+    first = next(it.sequence for _, it in course.segments("A") if it.text and not it.flags & SYN)
+    came = [(line, (acked[number] - first) % (1 << 32)) for line, _, number in course.came["B"]]
+    sends = [(line, int(answer.split(" ")[1])) for line, said, answer in course.answers if said.startswith("send A 0") and answer.startswith("ok")]
+    most, waits = 0, []
+    for line, said, _ in course.answers:
+        if not said.startswith("poll A "):
+            continue
+        sent = sum(frame.line == line for frame, _, _ in went)
+        written = sum(count for at, count in sends if at < line)
+        top = max((at + count for frame, at, count in went if frame.line <= line), default=0)
+        una = max((end for at, end in came if at < line and end < 1 << 31), default=0)
+        if written - top >= MSS and top - una + MSS <= most and sent < int(said.split(" ")[3]):
+            waits.append(line)
+        most = max(most, top - una)
     fault, took = read_soon(course)
-    if written - top >= MSS:
-        return f"{written - top} bytes wait at the end of the course", "nothing in front of them"
-    return fault, f"{written - top} of {written} bytes wait at the end of the course; all read in {in_seconds(took or 0)}"
+    if waits:
+        return f"a full segment's text waits at {len(waits)} polls, first at line {waits[0]}", f"at most {most} bytes in flight"
+    return fault, f"no full segment's text waits at a poll; at most {most} bytes in flight; all read in {in_seconds(took or 0)}"
 
 
 def request_for(course, address):

@@ -1,5 +1,5 @@
 -- Datagrams of the clients of DHCP and DNS, which UDP sockets carry.
-use Rattle.std.specs.Prelude.{ℕ, ◌+◌, min, nat_le, if◌then◌else◌, List, ◌++◌, length, drop, Option, None, Some, Result, Ok, Err}
+use Rattle.std.specs.Prelude.{ℕ, ◌+◌, false, min, nat_le, if◌then◌else◌, List, ◌++◌, length, drop, Option, None, Some, Result, Ok, Err}
 use Rattle.ip_wire.specs.Ip.{source_of, destination_of}
 use Rattle.ip_wire.specs.IpAddress.{IpAddress}
 use Rattle.ip_wire.specs.IpAddress.TheVariants as Address

@@ -1,17 +1,21 @@
 //! Default routes.
-use interface_tables::Routes;
+use interface_tables::{Route, Routes};
 use ip_wire::{IpAddress, Ipv4Address, Ipv6Address};
 use std::test::Fail;
+
+/// The router of a route.
+fn router(route: Option<Route>) -> Option<IpAddress> {
+    match route {
+        Some(Route { via_router, .. }) => Some(via_router),
+        None => None,
+    }
+}
 
 /// Which routers the default routes lead to, of each family.
 fn defaults(routes: &Routes<2>) -> (Option<IpAddress>, Option<IpAddress>) {
     (
-        routes
-            .get_default_ipv4_route()
-            .map(|route| route.via_router),
-        routes
-            .get_default_ipv6_route()
-            .map(|route| route.via_router),
+        router(routes.get_default_ipv4_route()),
+        router(routes.get_default_ipv6_route()),
     )
 }
 

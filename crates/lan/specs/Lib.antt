@@ -32,4 +32,5 @@ pub use Rattle.lan_world.specs.Promises
 pub use Rattle.lan_world.specs.declared.error.WorldError
 pub use Rattle.lan_world.specs.Asked
 pub use Rattle.lan_world.specs.Machine
+pub use Rattle.lan_world.specs.Wire
 pub use Rattle.lan_world.specs.Said

@@ -1,5 +1,5 @@
 -- Two hosts on numerals, and their moves by what they do: A has 192.168.1.1, B has 192.168.1.2.
-use Rattle.std.specs.Prelude.{ℕ, pos, Bool, true, false, List, [], ◌∷◌, Option, Some}
+use Rattle.std.specs.Prelude.{ℕ, pos, Bool, true, false, List, [], ◌∷◌, Option, Some, None}
 use Rattle.ip_wire.specs.IpAddress.TheVariants as Address
 use Rattle.ip_wire.specs.IpEndpoint.{IpEndpoint}
 use Rattle.ip_wire.specs.Ipv4Address.{Ipv4Address}
@@ -34,6 +34,7 @@ context side = record {
   is_broadcast = λ _. false;
   ip_mtu = 1500;
   checksums = all_checksums Checksum.Both;
+  isn_key = None;
   random = 0;
 }
 

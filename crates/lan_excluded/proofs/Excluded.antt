@@ -1,11 +1,22 @@
 -- Why no events lead to these worlds.
-use Rattle.std.proofs.Common.{◌≡◌, ◌≢◌, ℕ, ◌<◌, ◌≤◌, ℤ, pos, false, if◌then◌else◌, List, [], ◌∷◌, ◌++◌, length, map, take, drop, Some, None, inl, refl, sym}
+use Rattle.std.proofs.Common.{◌≡◌, ◌≢◌, ℕ, ◌<◌, ◌≤◌, ℤ, pos, Bool, true, false, if◌then◌else◌, List, [], ◌∷◌, ◌++◌, length, map, take, drop, Some, None, inl}
+use Rattle.std.proofs.Common.{refl, sym}
 use Rattle.std.proofs.Common.{◌∙◌, ap, subst, arith}
 use Rattle.std.specs.Prelude.{slice_get, ◌≤ℤ◌, ◌<ℤ◌}
 use Rattle.std.proofs.lemmas.Int.{ints}
 use Rattle.lan_theorem.specs.Ipv4.{key_of}
 use Rattle.lan_theorem.specs.Ipv4Repr.{Ipv4Repr}
+use Rattle.net_base.specs.Medium.{Medium}
+use Rattle.lan_theorem.specs.Address.{IsEthernetAddress, IsIpv6Address}
+use Rattle.lan_theorem.specs.EthernetAddress.{EthernetAddress}
+use Rattle.lan_theorem.specs.HardwareAddress.{HardwareAddress}
+use Rattle.lan_theorem.specs.HardwareAddress.TheVariants as Hardware
+use Rattle.lan_theorem.specs.Ipv4Address.{Ipv4Address}
+use Rattle.lan_theorem.specs.Ipv6Address.{Ipv6Address}
 use Rattle.lan_theorem.specs.Question.{Question}
+use Rattle.lan_theorem.specs.Question.TheVariants as Query
+use Rattle.lan_hosts.specs.Departure as Leaves
+use Rattle.lan_hosts.specs.Departure.{Tells, Whole, arp_frame, arp_request, packet_frame, question_frame, solicitation, solicited_station}
 use Rattle.lan_hosts.specs.Arrives.{Arrived, ReplyValue}
 use Rattle.lan_hosts.specs.Delivered.{Places}
 use Rattle.lan_theorem.specs.Kept.{with_ports}
@@ -33,10 +44,13 @@ use Rattle.lan_theorem.specs.Hosts.Damage.{DamageIsHarmless, IsHarmless, IsHarml
 use Rattle.lan_theorem.specs.Hosts.HostRuns.{Deed, deed_of, deed_in, deeds, IsHostRun, frames_sent, frames_taken}
 use Rattle.lan_theorem.specs.Hosts.Machine.{Turn, Machine, HostRun, HostStep, at_link, machine_of}
 use Rattle.lan_theorem.specs.Hosts.Quiet.{PollsWereQuiet, NoneExpires}
+use Rattle.lan_theorem.specs.Hosts.Wire.{FramesAreApart, HasPorts, asks, is_request}
+use Rattle.lan_theorem.specs.Moves.Raws.{OfEach}
 use Rattle.lan_theorem.specs.Rebuilt.{Rebuilds}
 use Rattle.lan_theorem.specs.Said.{Fact, ByteAt, EndsAt, IsSaid, RebuiltWasSent}
+use Rattle.lan_theorem.proofs.Hosts.WireQuestions.{request_passes, solicitation_passes}
 use Rattle.lan_theorem.proofs.LinkActs.{passed, below}
-use Rattle.lan_excluded.specs.Worlds.{after, Delivers, Damages, IsAsked, GetsRoom, sent_by_a, asked, polled, asking, AreOfOther, IsTaken}
+use Rattle.lan_excluded.specs.Worlds.{after, Delivers, Damages, IsAsked, GetsRoom, sent_by_a, asked, polled, asking, leaving, AreOfOther, IsTaken}
 
 -- RUNS
 
@@ -156,6 +170,46 @@ asks_in_turns q r apart = not_at_once apart.0.0
 
 pub asks_too_early : (q r : Question) → AreApart (requests (asking (pos 999_999) (q ∷ []) ∷ asking (pos 0) (r ∷ []) ∷ [])) → ⊥
 asks_too_early q r apart = not_before apart.0.0
+
+-- FRAMES
+
+abbrev if_asked : Bool → ℤ → List ℤ
+if_asked b t = if b then t ∷ [] else []
+
+not_half_a_second : second_after (pos 0) ≤ℤ pos 500_000 → ⊥
+not_half_a_second late = omega (arith, ints)
+
+-- two frames that pass, half a second apart
+half_a_second : (a b : Bool) → a ≡ true → b ≡ true → AreApart (if_asked a (pos 500_000) ++ (if_asked b (pos 0) ++ [])) → ⊥
+half_a_second true true one two apart = not_half_a_second apart.0.0
+half_a_second true false one two apart = absurd cc
+half_a_second false b one two apart = absurd cc
+
+pub frames_told : (i : InnerValue) (places : Places) (own : EthernetAddress) (source target : Ipv4Address) → IsEthernetAddress own →
+    FramesAreApart Medium.Ethernet places
+    (leaving (pos 500_000) i (Tells (arp_request own source target)) ∷ leaving (pos 0) i (Leaves.Asks (Query.Arp own source target)) ∷ [])
+    → ⊥
+frames_told i places own source target is apart =
+    let passes = request_passes own source target is.0 in
+    half_a_second (is_request (arp_frame (arp_request own source target))) (is_request (arp_frame (arp_request own source target))) passes passes
+    apart.requests
+
+pub frames_whole : (i : InnerValue) (places : Places) (own : EthernetAddress) (source target : Ipv6Address) → i.hardware ≡ Hardware.Ethernet own →
+    IsEthernetAddress own → IsIpv6Address source → IsIpv6Address target → OfEach HasPorts places
+    → FramesAreApart Medium.Ethernet places
+    (leaving (pos 500_000) i (Whole (Hardware.Ethernet (solicited_station target)) (solicitation own source target))
+    ∷ leaving (pos 0) i (Leaves.Asks (Query.Neighbor own source target)) ∷ [])
+    → ⊥
+frames_whole i places own source target from is source_is target_is ports apart =
+    let passes = solicitation_passes i.checksums own source target is.0 source_is.0 target_is.0 in
+    let to : HardwareAddress = Hardware.Ethernet (solicited_station target) in
+    half_a_second (asks (packet_frame i.checksums i.hardware to (solicitation own source target)))
+    (asks (question_frame i.checksums (Query.Neighbor own source target)))
+    (ap (λ (h : HardwareAddress). asks (packet_frame i.checksums h to (solicitation own source target))) from ∙ passes) passes (apart.all ports)
+
+pub frames_labelled : (i : InnerValue) (own : EthernetAddress) (source target : Ipv4Address) → AreApart (requests
+    (leaving (pos 500_000) i (Tells (arp_request own source target)) ∷ leaving (pos 0) i (Leaves.Asks (Query.Arp own source target)) ∷ []))
+frames_labelled i own source target = (tt, tt)
 
 -- PAYLOADS
 

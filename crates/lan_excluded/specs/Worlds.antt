@@ -1,10 +1,10 @@
 -- Worlds to which no events lead, and turns that no host takes.
-use Rattle.std.specs.Prelude.{◌≡◌, ◌≢◌, ℕ, ℤ, pos, true, List, [], map, slice_get, Option, Some, None}
+use Rattle.std.specs.Prelude.{◌≡◌, ◌≢◌, ℕ, ℤ, pos, true, List, [], ◌∷◌, map, slice_get, Option, Some, None}
 use Rattle.net_base.specs.Capabilities.{all_checksums}
 use Rattle.net_base.specs.Checksum.TheVariants.{Both}
 use Rattle.net_base.specs.Medium.{Medium}
 use Rattle.lan_theorem.specs.Ipv4FragKey.{Ipv4FragKey}
-use Rattle.lan_hosts.specs.Departure.{Asks}
+use Rattle.lan_hosts.specs.Departure.{Departure, Asks}
 use Rattle.lan_theorem.specs.Question.{Question}
 use Rattle.lan_hosts.specs.Arrives.{Arrived, Arrives}
 use Rattle.lan_hosts.specs.Delivered.{Places}
@@ -22,7 +22,7 @@ use Rattle.lan_hosts.specs.Side.TheVariants.{A}
 use Rattle.lan_hosts.specs.Origins.{medium_of, frame_of_origin}
 use Rattle.lan_hosts.specs.Runs.{Starts, WorldValue}
 use Rattle.lan_hosts.specs.Station.{Stations}
-use Rattle.lan_theorem.specs.Hosts.Machine.{Turn}
+use Rattle.lan_theorem.specs.Hosts.Machine.{Turn, frames_of}
 use Rattle.lan_theorem.specs.Said.{Fact, Carries}
 
 -- a world with this history
@@ -71,6 +71,18 @@ asking moment questions = record {
   found = None;
   departures = map Asks questions;
   sent = [];
+}
+
+-- a poll of this host at this moment, in which something leaves under this name
+abbrev pub leaving : ℤ → InnerValue → Departure → Turn
+leaving moment i departure = record {
+  act = Polls moment 1;
+  room = 8;
+  taken = [];
+  answer = To.Poll true;
+  found = None;
+  departures = departure ∷ [];
+  sent = frames_of i (departure ∷ []);
 }
 
 -- FRAMES

@@ -5,7 +5,15 @@
 ghost use Rattle.std.specs.Prelude.{◌≡◌, ◌≢◌, ◌≤◌, ℕ, ℤ, pos, List, [], ◌∷◌, length, slice_get, Some, None};
 ghost use Rattle.lan_theorem.specs.Ipv4.{key_of};
 ghost use Rattle.lan_theorem.specs.Ipv4Repr.{Ipv4Repr};
+ghost use Rattle.net_base.specs.Medium.{Medium};
+ghost use Rattle.lan_theorem.specs.Address.{IsEthernetAddress, IsIpv6Address};
+ghost use Rattle.lan_theorem.specs.EthernetAddress.{EthernetAddress};
+ghost use Rattle.lan_theorem.specs.HardwareAddress.TheVariants as Hardware;
+ghost use Rattle.lan_theorem.specs.Ipv4Address.{Ipv4Address};
+ghost use Rattle.lan_theorem.specs.Ipv6Address.{Ipv6Address};
 ghost use Rattle.lan_theorem.specs.Question.{Question};
+ghost use Rattle.lan_theorem.specs.Question.TheVariants as Query;
+ghost use Rattle.lan_hosts.specs.Departure.{Asks, Tells, Whole, arp_request, solicitation, solicited_station};
 ghost use Rattle.lan_hosts.specs.Arrives.{Arrived, ReplyValue};
 ghost use Rattle.lan_hosts.specs.Delivered.{Places};
 ghost use Rattle.lan_theorem.specs.Kept.{with_ports};
@@ -24,9 +32,11 @@ ghost use Rattle.lan_theorem.specs.Hosts.Damage.{DamageIsHarmless};
 ghost use Rattle.lan_theorem.specs.Hosts.HostRuns.{IsHostRun, frames_sent};
 ghost use Rattle.lan_theorem.specs.Hosts.Machine.{Turn};
 ghost use Rattle.lan_theorem.specs.Hosts.Quiet.{PollsWereQuiet};
+ghost use Rattle.lan_theorem.specs.Hosts.Wire.{FramesAreApart, HasPorts};
+ghost use Rattle.lan_theorem.specs.Moves.Raws.{OfEach};
 ghost use Rattle.lan_theorem.specs.Rebuilt.{Rebuilds};
 ghost use Rattle.lan_theorem.specs.Said.{ByteAt, EndsAt, IsSaid, RebuiltWasSent};
-ghost use Rattle.lan_excluded.specs.Worlds.{after, Delivers, Damages, IsAsked, GetsRoom, sent_by_a, asked, polled, asking, AreOfOther, IsTaken};
+ghost use Rattle.lan_excluded.specs.Worlds.{after, Delivers, Damages, IsAsked, GetsRoom, sent_by_a, asked, polled, asking, leaving, AreOfOther, IsTaken};
 
 /// `run`: a host sent a frame though nothing happened; a frame was handed over that wasn't sent yet; a question when to poll was answered as
 /// a call is.
@@ -80,6 +90,27 @@ pub fn bad_questions_are_excluded()
     ensures in_one_turn { (q r : Question) → AreApart (requests (asking (pos 0) (q ∷ r ∷ []) ∷ [])) → ⊥ }
     ensures in_two_turns { (q r : Question) → AreApart (requests (asking (pos 0) (q ∷ []) ∷ asking (pos 0) (r ∷ []) ∷ [])) → ⊥ }
     ensures too_early { (q r : Question) → AreApart (requests (asking (pos 999_999) (q ∷ []) ∷ asking (pos 0) (r ∷ []) ∷ [])) → ⊥ }
+{}
+
+/// `frames_a` and `frames_b`: a host asked for a neighbour, and half a second later the same frame left under another name, which the labels
+/// let pass: an ARP request as an answer in ARP, or a neighbour solicitation as a packet, of a host with TCP and UDP sockets alone.
+pub fn bad_frames_are_excluded()
+    ensures told { (i : InnerValue) (places : Places) (own : EthernetAddress) (source target : Ipv4Address)
+        → IsEthernetAddress own
+        → FramesAreApart Medium.Ethernet places
+        (leaving (pos 500_000) i (Tells (arp_request own source target)) ∷ leaving (pos 0) i (Asks (Query.Arp own source target)) ∷ []) → ⊥ }
+    ensures whole { (i : InnerValue) (places : Places) (own : EthernetAddress) (source target : Ipv6Address)
+        → i.hardware ≡ Hardware.Ethernet own
+        → IsEthernetAddress own
+        → IsIpv6Address source
+        → IsIpv6Address target
+        → OfEach HasPorts places
+        → FramesAreApart Medium.Ethernet places
+        (leaving (pos 500_000) i (Whole (Hardware.Ethernet (solicited_station target)) (solicitation own source target))
+        ∷ leaving (pos 0) i (Asks (Query.Neighbor own source target)) ∷ []) → ⊥ }
+    ensures labels { (i : InnerValue) (own : EthernetAddress) (source target : Ipv4Address)
+        → AreApart (requests
+        (leaving (pos 500_000) i (Tells (arp_request own source target)) ∷ leaving (pos 0) i (Asks (Query.Arp own source target)) ∷ [])) }
 {}
 
 /// `rebuilt`: a host rebuilds a payload of which the other host sent nothing; or only frames of another identification; or another byte at

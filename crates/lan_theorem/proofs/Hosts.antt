@@ -7,6 +7,13 @@ pub mod Moving
 pub mod Staying
 pub mod Running
 pub mod Asking
+pub mod WireFrames
+pub mod WireReplies
+pub mod Wiring
+pub mod WireTests
+pub mod WireQuestions
+pub mod WireAnswers
+pub mod WireRuns
 pub mod Going
 pub mod Routes
 pub mod Quieting

@@ -42,11 +42,11 @@ inner_settled : (s : StationValue) (i : InnerValue) → i.hardware ≡ s.host.in
 inner_settled s i hardware ident sound =
     record { sent = refl; waiting = refl; device = refl; left = refl; slots = refl; hardware = hardware; ident = ident; sound = sound }
 
-flushed_sound : (i : InnerValue) (blocks : List IpCidr) → IsSound i → IsSound (record i { addresses = blocks; neighbors = flushed i.neighbors })
+pub flushed_sound : (i : InnerValue) (blocks : List IpCidr) → IsSound i → IsSound (record i { addresses = blocks; neighbors = flushed i.neighbors })
 flushed_sound i blocks s =
     record { own = s.own; neighbors = tt; routers = s.routers; widths = record { mtu = s.widths.mtu; ident = s.widths.ident }; checksums = s.checksums }
 
-any_sound : (i : InnerValue) (any : Bool) → IsSound i → IsSound (with_any_ip i any)
+pub any_sound : (i : InnerValue) (any : Bool) → IsSound i → IsSound (with_any_ip i any)
 any_sound i any s = record {
   own = s.own;
   neighbors = s.neighbors;
@@ -55,7 +55,7 @@ any_sound i any s = record {
   checksums = s.checksums;
 }
 
-used_sound : (i : InnerValue) → IsSound i → IsSound (used i)
+pub used_sound : (i : InnerValue) → IsSound i → IsSound (used i)
 used_sound i s = record {
   own = s.own;
   neighbors = s.neighbors;
@@ -93,7 +93,7 @@ routed_are router false old new are to is = subst RoutersAre (sym is) are
 routed_are (Address.Ipv4 router) true old new are to is = added_are is_gateway_v4 (replicate 4 0) (Address.Ipv4 router) old new are to is
 routed_are (Address.Ipv6 router) true old new are to is = added_are is_gateway_v6 (replicate 16 0) (Address.Ipv6 router) old new are to is
 
-routed_sound : (i : InnerValue) (routes : List Route) (router : IpAddress) (room : Bool) → IsIpAddress router → RoutedIf room router i.routes routes →
+pub routed_sound : (i : InnerValue) (routes : List Route) (router : IpAddress) (room : Bool) → IsIpAddress router → RoutedIf room router i.routes routes →
     IsSound i → IsSound (with_routes i routes)
 routed_sound i routes router room to is s =
     record {
@@ -113,7 +113,7 @@ timeout_settled s timeout =
 
 -- A HARDWARE ADDRESS
 
-station_sound : (i : InnerValue) (own address : EthernetAddress) → i.hardware ≡ Hardware.Ethernet own → length address.0 ≡ 6 → IsSound i →
+pub station_sound : (i : InnerValue) (own address : EthernetAddress) → i.hardware ≡ Hardware.Ethernet own → length address.0 ≡ 6 → IsSound i →
     IsSound (record i { hardware = Hardware.Ethernet address })
 station_sound i own address is six s =
     record { own = six; neighbors = s.neighbors; routers = s.routers; widths = record { mtu = s.widths.mtu; ident = s.widths.ident }; checksums = s.checksums }

@@ -22,6 +22,11 @@ pub use Rattle.interface_egress.specs.Ipv4
 pub use Rattle.interface_egress.specs.Ipv4Repr
 pub use Rattle.interface_egress.specs.declared.frame.Question
 pub use Rattle.interface_ingress.specs.Kept
+pub use Rattle.interface_ingress.specs.Address
+pub use Rattle.interface_ingress.specs.EthernetAddress
+pub use Rattle.interface_ingress.specs.HardwareAddress
+pub use Rattle.interface_ingress.specs.Ipv4Address
+pub use Rattle.interface_ingress.specs.Ipv6Address
 pub use Rattle.interface_tables.specs.declared.route.Route
 pub use Rattle.interface.specs.Touches
 pub use Rattle.lan_hosts.specs.Config

@@ -12,7 +12,8 @@ ghost use Rattle.lan_hosts.specs.Answer.{Answer};
 ghost use Rattle.lan_hosts.specs.Side.{Side};
 ghost use Rattle.lan_hosts.specs.Side.TheVariants.{A, B};
 ghost use Rattle.lan_hosts.specs.Parties.{Party, Net, party};
-ghost use Rattle.lan_hosts.specs.Runs.{Leads, Starts, WorldRun, unused_both};
+ghost use Rattle.lan_hosts.specs.Origins.{medium_of};
+ghost use Rattle.lan_hosts.specs.Runs.{Leads, Starts, WorldRun, start, unused_both};
 ghost use Rattle.lan_hosts.specs.Sets.{Configures};
 ghost use Rattle.lan_hosts.specs.Station.{Stations, station};
 ghost use Rattle.lan_theorem.specs.Moves.Link.{IsLink};
@@ -26,6 +27,7 @@ ghost use Rattle.lan_theorem.specs.Linked.{IsOther, IsLinked};
 ghost use Rattle.lan_theorem.specs.Rebuilt.{RebuiltWasMade};
 ghost use Rattle.lan_theorem.specs.Said.{RebuiltWasSent, by_side};
 ghost use Rattle.lan_theorem.specs.Hosts.HostRuns.{IsHostRun};
+ghost use Rattle.lan_theorem.specs.Hosts.Wire.{FramesAreApart};
 
 /// Law: while a host polls at its port, each thing that the poll does keeps what is said of its frames and of those that wait, and each
 /// frame that it takes brings only what the other host made, of which fewer than 65,536 are IPv4 packets. A packet's way out counts one
@@ -110,4 +112,15 @@ pub fn damage_was_harmless()
         → AreTyped history
         → WorldRun history (unused_both starts) hosts
         → DamageIsHarmless hosts history }
+{}
+
+/// Law: wherever events led a fresh host, the frames that it sent and that ask for a neighbour, by their bytes and whatever the host calls
+/// them, are a second apart: ARP requests of any host, and requests and solicitations together of one whose sockets are of TCP and UDP.
+pub fn frames_are_apart()
+    ensures { (starts : Starts) (history : List Entry) (hosts : Stations) (side : Side)
+        → IsFreshWorld starts
+        → AreTyped history
+        → WorldRun history (unused_both starts) hosts
+        → (r : IsHostRun (record { hosts = hosts; starts = starts; history = history }) side)
+        → FramesAreApart (medium_of (station hosts side)) (start starts side).places r.turns }
 {}

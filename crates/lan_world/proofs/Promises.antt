@@ -6,9 +6,10 @@ use Rattle.lan_history.specs.declared.event.Side.TheVariants.{A, B}
 use Rattle.lan_theorem.specs.PacketsSafe.{IsSafe}
 use Rattle.lan_theorem.specs.Fresh.{IsFreshWorld}
 use Rattle.lan_theorem.specs.Refusals.{Table}
-use Rattle.lan_theorem.specs.Runs.{Starts, WorldValue, WorldRun, unused_both, counts_of}
+use Rattle.lan_theorem.specs.Origins.{medium_of}
+use Rattle.lan_theorem.specs.Runs.{Starts, WorldValue, WorldRun, start, unused_both, counts_of}
 use Rattle.lan_theorem.specs.Safe.{first_port, net_of}
-use Rattle.lan_theorem.specs.Station.{StationValue, Stations}
+use Rattle.lan_theorem.specs.Station.{StationValue, Stations, station}
 use Rattle.lan_theorem.specs.Events.{AreTyped}
 use Rattle.lan_theorem.specs.Rebuilt.{RebuiltWasMade}
 use Rattle.lan_theorem.specs.Said.{RebuiltWasSent, by_side}
@@ -17,6 +18,7 @@ use Rattle.lan_theorem.specs.Hosts.Damage.{DamageIsHarmless}
 use Rattle.lan_theorem.specs.Hosts.HostRuns.{IsHostRun}
 use Rattle.lan_theorem.specs.Hosts.Machine.{Turn, Machine, HostRun}
 use Rattle.lan_theorem.specs.Hosts.Quiet.{PollsWereQuiet}
+use Rattle.lan_theorem.specs.Hosts.Wire.{FramesAreApart}
 use Rattle.lan_world.specs.Come.{starts_of, both, world, HasCome}
 use Rattle.lan_world.specs.Promises.{IsSafeWorld}
 
@@ -61,6 +63,15 @@ RebuiltWereSent =
     (b : IsHostRun (record { hosts = hosts; starts = starts; history = history }) B)
     → RebuiltWasSent (record { hosts = hosts; starts = starts; history = history }) (by_side a.turns b.turns)
 
+abbrev pub FramesApart : Type 0
+FramesApart =
+    (starts : Starts) (history : List Entry) (hosts : Stations) (side : Side)
+    → IsFreshWorld starts
+    → AreTyped history
+    → WorldRun history (unused_both starts) hosts
+    → (r : IsHostRun (record { hosts = hosts; starts = starts; history = history }) side)
+    → FramesAreApart (medium_of (station hosts side)) (start starts side).places r.turns
+
 abbrev pub DamageWasHarmless : Type 0
 DamageWasHarmless =
     (starts : Starts) (history : List Entry) (hosts : Stations)
@@ -73,10 +84,10 @@ apart : RequestsAreApart → (w : WorldValue) (side : Side) (r : IsHostRun w sid
 apart law w side r = law _ _ r.turns _ r.run
 
 pub well_run : (start_a start_b a b : StationValue) (of_a of_b : Table) (history : List Entry)
-    → HostsRun → RequestsAreApart → PollsAreQuiet → WorldsAreSafe → RebuiltWereMade → RebuiltWereSent → DamageWasHarmless →
+    → HostsRun → RequestsAreApart → PollsAreQuiet → WorldsAreSafe → RebuiltWereMade → RebuiltWereSent → DamageWasHarmless → FramesApart →
     HasCome start_a start_b a b of_a of_b history
     → IsSafeWorld (world start_a start_b a b history)
-well_run start_a start_b a b of_a of_b history hosts_run are_apart are_quiet are_safe were_made were_sent was_harmless come =
+well_run start_a start_b a b of_a of_b history hosts_run are_apart are_quiet are_safe were_made were_sent was_harmless frames_apart come =
     let starts = starts_of start_a start_b in
     let w = world start_a start_b a b history in
     let of_host_a = hosts_run starts history (both a b) A come.run in
@@ -89,6 +100,8 @@ well_run start_a start_b a b of_a of_b history hosts_run are_apart are_quiet are
       quiet = are_quiet starts history (both a b) come.run;
       asks_a = apart are_apart w A of_host_a;
       asks_b = apart are_apart w B of_host_b;
+      frames_a = frames_apart starts history (both a b) A come.fresh come.typed come.run of_host_a;
+      frames_b = frames_apart starts history (both a b) B come.fresh come.typed come.run of_host_b;
       rebuilt = were_sent starts history (both a b) come.fresh come.typed come.run of_host_a of_host_b;
       made = were_made starts history (both a b) come.fresh come.typed come.run;
       damage = was_harmless starts history (both a b) come.fresh come.typed come.run;

@@ -14,6 +14,7 @@ pub use Rattle.lan_theorem.specs.NewError
 pub use Rattle.lan_theorem.specs.Steps
 pub use Rattle.lan_theorem.specs.Hosts.Asked
 pub use Rattle.lan_theorem.specs.Hosts.Machine
+pub use Rattle.lan_theorem.specs.Hosts.Wire
 pub use Rattle.lan_theorem.specs.Refusals
 pub use Rattle.lan_theorem.specs.Said
 pub use Rattle.lan_theorem.specs.Settings

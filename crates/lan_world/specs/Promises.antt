@@ -7,6 +7,8 @@ use Rattle.lan_theorem.specs.Hosts.Asked.{requests, AreApart}
 use Rattle.lan_theorem.specs.Hosts.Damage.{DamageIsHarmless}
 use Rattle.lan_theorem.specs.Hosts.HostRuns.{IsHostRun}
 use Rattle.lan_theorem.specs.Hosts.Quiet.{PollsWereQuiet}
+use Rattle.lan_theorem.specs.Hosts.Wire.{FramesAreApart}
+use Rattle.lan_theorem.specs.Origins.{medium_of}
 use Rattle.lan_theorem.specs.Rebuilt.{RebuiltWasMade}
 use Rattle.lan_theorem.specs.Said.{RebuiltWasSent, by_side}
 
@@ -25,6 +27,10 @@ pub record IsSafeWorld (w : WorldValue) : Type 0 where
   -- a host's own requests for neighbours are a second apart
   pub asks_a : AreApart (requests run_a.turns)
   pub asks_b : AreApart (requests run_b.turns)
+  -- so are, by their bytes and whatever the host calls them, the frames on Ethernet that ask: ARP requests, and requests and neighbour
+  -- solicitations together of a host whose sockets are all of TCP and UDP
+  pub frames_a : FramesAreApart (medium_of w.hosts.a) w.starts.a.places run_a.turns
+  pub frames_b : FramesAreApart (medium_of w.hosts.b) w.starts.b.places run_b.turns
   -- if a host takes a frame that waits for it next, and rebuilds a TCP or UDP datagram of pieces with it, what the other host's turns
   -- sent with that identification, those addresses and that protocol is its payload, all of it and nothing else
   pub rebuilt : RebuiltWasSent w (by_side run_a.turns run_b.turns)

@@ -18,7 +18,9 @@ use crate::kept::Kept;
 use crate::typed::{event_is_typed, host_is_typed};
 use lan_history::{Answer, Event, Refused, Side};
 use lan_theorem::host_laws::{hosts_run, polls_are_quiet, requests_are_apart};
-use lan_theorem::laws::{damage_was_harmless, rebuilt_was_made, rebuilt_was_sent, worlds_are_safe};
+use lan_theorem::laws::{
+    damage_was_harmless, frames_are_apart, rebuilt_was_made, rebuilt_was_sent, worlds_are_safe,
+};
 use lan_theorem::table_laws::{numbers_are_few, tables_go_on};
 use lan_theorem::{Host, Records, refusal_of, take};
 use std::alloc::{AllocError, Global};
@@ -129,6 +131,7 @@ impl World {
         rebuilt_was_made();
         rebuilt_was_sent();
         damage_was_harmless();
+        frames_are_apart();
         // (a look at a field makes known what a world keeps)
         let _ = &self.history;
     }

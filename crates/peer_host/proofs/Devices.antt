@@ -1,5 +1,5 @@
 -- What each move of a device keeps of it is kept by each thing that a poll does.
-use Rattle.std.proofs.Common.{◌≡◌, ℕ, zero, suc, ℤ, Bool, true, false, inl, inr, List, Option, Some, None, is_some, sym, ap, subst}
+use Rattle.std.proofs.Common.{◌≡◌, ℕ, zero, suc, ℤ, Bool, true, false, inl, inr, List, [], ◌∷◌, ◌++◌, Option, Some, None, is_some, refl, sym, ap, subst}
 use Rattle.net_base.specs.Device.{Move, Took, Empty, Allowed, Emitted, Denied}
 use Rattle.ip_wire.specs.IpAddress.{IpAddress}
 use Rattle.ip_wire.specs.IpRepr.{IpRepr}
@@ -13,7 +13,7 @@ use Rattle.interface_egress.specs.Departure as Departures
 use Rattle.interface_egress.specs.Departure.{Departure}
 use Rattle.interface_egress.specs.Emits.{Emits}
 use Rattle.interface_egress.specs.Fragments.{LeftValue}
-use Rattle.interface_egress.specs.GoesOut.{GoesOut, PieceGoesOut, Asked, Went, WasCut, cut_of, frame_of, frame_len_of}
+use Rattle.interface_egress.specs.GoesOut.{GoesOut, PieceGoesOut, Asked, Went, WasCut, cut_of, numbered, frame_of, frame_len_of}
 use Rattle.interface_egress.specs.Plan.{plan_of}
 use Rattle.interface_egress.specs.declared.frame.Question.{Question}
 use Rattle.interface_egress.specs.declared.plan.Plan.{Plan}
@@ -34,6 +34,7 @@ use Rattle.interface.specs.Turn.{Leaves, SendsBy, Answers, TurnsIf, ItemTurns, P
 use Rattle.interface.specs.WayOut.{PieceLeaves}
 use Rattle.interface.specs.declared.turn.Turned.{Turned}
 use Rattle.interface.proofs.Keep.{polls_keep}
+use Rattle.peer_host.specs.Moved.{AreMoves, MovedTo}
 use Rattle.peer_host.specs.Steps.{Step, Steps, Reaches}
 
 module _ {D : Type 0} (moves : D → Move → D → Type 0) (Q : D → Type 0) (keeps : (d d' : D) (m : Move) → moves d m d' → Q d → Q d') where
@@ -74,7 +75,7 @@ module _ {D : Type 0} (moves : D → Move → D → Type 0) (Q : D → Type 0) (
   goes d d' i i' l l' p Way.Wait sent is holds = same d d' is.1.0 holds
   goes d d' i i' l l' p Way.Busy sent is holds = same d d' is.1.0 holds
   goes d d' i i' l l' p (Way.Ask q) sent is holds = asked d d' i i' q sent is.0 holds
-  goes d d' i i' l l' p (Way.Go to) sent is holds = went d d' i i' p.header _ sent is.0 holds
+  goes d d' i i' l l' p (Way.Go to) sent is holds = went d d' i i' p.header (Departures.Whole to (numbered i p)) sent is.0 holds
   goes d d' i i' l l' p (Way.Cut to v) sent is holds = was_cut d d' i i' l l' (cut_of i to v p) sent is holds
 
   piece_goes : (d d' : D) (i : InnerValue) (l : LeftValue) (gone : Bool) (l' : Option LeftValue) → PieceGoesOut moves d i l gone d' l' → Q d → Q d'
@@ -169,3 +170,24 @@ module _ {D : Type 0} (moves : D → Move → D → Type 0) (Q : D → Type 0) (
     -- and where it ended
     pub polled_keeps : (budget : ℕ) (s s' : State D) (changed : Bool) → Q s.device → Polls moves t budget s changed s' → Q s'.device
     polled_keeps budget s s' changed holds polls = (polls_keep moves t (λ (x : State D). Q x.device) kept budget s s' changed holds polls).0
+
+-- NOTHING BUT MOVES
+
+module _ {D : Type 0} (moves : D → Move → D → Type 0) where
+  one_behind : (all : List Move) (a b c : D) (m : Move) → AreMoves moves all a b → moves b m c → AreMoves moves (all ++ m ∷ []) a c
+  one_behind [] a b c m same goes_on = (c, subst (λ (d : D). moves d m c) same goes_on, refl)
+  one_behind (first ∷ rest) a b c m (mid, begins, so) goes_on = (mid, begins, one_behind rest mid b c m so goes_on)
+
+  moved_on : (start d d' : D) (m : Move) → moves d m d' → MovedTo moves start d → MovedTo moves start d'
+  moved_on start d d' m goes_on so = record { all = so.all ++ m ∷ []; are = one_behind so.all start d d' m so.are goes_on }
+
+  not_moved : (start : D) → MovedTo moves start start
+  not_moved start = record { all = []; are = refl }
+
+  pub reached_by_moves : (t : ℤ) (from to : State D) → Reaches moves t from to → MovedTo moves from.device to.device
+  reached_by_moves t from to so =
+      reached_keeps moves (λ (d : D). MovedTo moves from.device d) (moved_on from.device) t from to so (not_moved from.device)
+
+  pub polled_by_moves : (t : ℤ) (budget : ℕ) (s s' : State D) (changed : Bool) → Polls moves t budget s changed s' → MovedTo moves s.device s'.device
+  polled_by_moves t budget s s' changed polls =
+      polled_keeps moves (λ (d : D). MovedTo moves s.device d) (moved_on s.device) t budget s s' changed (not_moved s.device) polls

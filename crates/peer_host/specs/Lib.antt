@@ -3,3 +3,4 @@ pub mod Brought
 pub mod Streams
 pub mod Datagrams
 pub mod Runs
+pub mod Moved

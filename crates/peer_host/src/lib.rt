@@ -6,13 +6,13 @@
 pub mod excluded;
 
 ghost use Rattle.std.specs.Prelude.{◌≡◌, ℕ, ℤ, Bool, List};
-ghost use Rattle.net_base.specs.Device.{Move};
 ghost use Rattle.net_base.specs.Time.{IsMoment};
 ghost use Rattle.tcp_model.specs.Value.{TcpValue};
 ghost use Rattle.sockets.specs.Udp.{UdpValue};
 ghost use Rattle.interface.specs.Polls.{Polls, is_change};
 ghost use Rattle.interface.specs.State.{State, state};
 ghost use Rattle.interface_egress.specs.Set.{places};
+ghost use Rattle.peer_host.specs.Moved.{MovedTo};
 ghost use Rattle.peer_host.specs.Steps.{Reaches};
 ghost use Rattle.peer_host.specs.Streams.{IsTcpAt, StreamGoesOn};
 ghost use Rattle.peer_host.specs.Datagrams.{IsUdpAt, DatagramsGoOn};
@@ -32,12 +32,12 @@ pub fn polls_go_on<D: Device>()
         → IsUdpAt s.places i v → Polls D.moves t budget s changed s' → DatagramsGoOn D.moves t s i v s' }
 {}
 
-/// Law: what each move of a device keeps of it holds wherever a poll that began there has come, and where it ends.
-pub fn devices_keep<D: Device>()
-    ensures on_the_way { (Kept : D → Type 0) (t : ℤ) (s s' : State D)
-        → ((d d' : D) (m : Move) → D.moves d m d' → Kept d → Kept d') → Reaches D.moves t s s' → Kept s.device → Kept s'.device }
-    ensures at_the_end { (Kept : D → Type 0) (t : ℤ) (budget : ℕ) (s s' : State D) (changed : Bool)
-        → ((d d' : D) (m : Move) → D.moves d m d' → Kept d → Kept d') → Kept s.device → Polls D.moves t budget s changed s' → Kept s'.device }
+/// Law: wherever a poll has come, and where it ends, nothing but moves of its device led the device there. So what each move keeps of a
+/// device holds all through a poll.
+pub fn devices_only_move<D: Device>()
+    ensures on_the_way { (t : ℤ) (s s' : State D) → Reaches D.moves t s s' → MovedTo D.moves s.device s'.device }
+    ensures at_the_end { (t : ℤ) (budget : ℕ) (s s' : State D) (changed : Bool)
+        → Polls D.moves t budget s changed s' → MovedTo D.moves s.device s'.device }
 {}
 
 /// Law: after every run of a host, with its polls, the calls of one of its TCP sockets, and whatever else happens at it: what that socket saw

@@ -4,21 +4,19 @@ use Rattle.std.proofs.Common.{if◌then◌else◌, List, length, Option, Some, N
 use Rattle.std.proofs.lemmas.Bool.{cond_both}
 use Rattle.std.proofs.lemmas.Int.{ints}
 use Rattle.ip_wire.specs.IpRepr.{IpRepr}
-use Rattle.ip_wire.specs.TcpControl.{TcpControl}
 use Rattle.ip_wire.specs.TcpHeader.{TcpHeader}
 use Rattle.net_base.specs.Ring.{anchored, enqueued}
 use Rattle.net_base.specs.Time.{last_moment}
 use Rattle.tcp_model.specs.Context.{ContextValue}
 use Rattle.tcp_model.specs.BaseOffers.{Offered}
-use Rattle.tcp_control.specs.Controls.{is_fin, is_rst}
-use Rattle.tcp_control.specs.Moments.{is_due, later, earlier}
+use Rattle.tcp_control.specs.Controls.{is_fin}
+use Rattle.tcp_control.specs.Moments.{is_due, earlier}
 use Rattle.tcp_control.specs.States.{is_closed, is_opening, is_time_wait, takes_writes, after_close}
 use Rattle.tcp_control.specs.declared.endpoints.EndpointPair.{EndpointPair}
-use Rattle.tcp_control.specs.declared.offer.OfferKind.{OfferKind}
 use Rattle.tcp_control.specs.declared.offer.OpenOffer.{OpenOffer}
 use Rattle.tcp_control.specs.declared.state.State.{State}
 use Rattle.tcp_control.specs.declared.state.State.TheVariants as In
-use Rattle.tcp_model.specs.Answers.{delayed, sooner, ack_moment_after, ack_due}
+use Rattle.tcp_model.specs.Answers.{delayed, sooner, ack_moment_after}
 use Rattle.tcp_model.specs.Arrival.{arrives}
 use Rattle.tcp_model.specs.Calls.{listening, connected_by, pair_for, sent_more}
 use Rattle.tcp_model.specs.Offers.{offer_of, offer_syn, silent}
@@ -31,9 +29,9 @@ use Rattle.tcp_model.specs.Value.{TcpValue, Arrived, with_block, unoffered, ende
 use Rattle.tcp_model.specs.declared.block.Block.{Block}
 use Rattle.tcp_model.specs.declared.block.Receiver.{Receiver}
 use Rattle.tcp_model.specs.FirstNumbers.{number_for}
-use Rattle.tcp_rules.specs.Acks.{IsDueWithin, OffersAck, answer_acks, offer_acks, acks, IsBy, IsDueBy, StaysDue}
+use Rattle.tcp_rules.specs.Acks.{IsDueWithin, OffersAck, answer_acks, offer_acks, IsBy, IsDueBy, StaysDue}
 use Rattle.tcp_rules.specs.Ends.{GoesOn}
-use Rattle.tcp_rules.specs.Events.{Event, Setting, after, set, is_past}
+use Rattle.tcp_rules.specs.Events.{Event, Setting, set, is_past}
 use Rattle.tcp_rules.specs.Events.Setting.{Timeout, KeepAlive, AckDelay, Nagle, HopLimit, Timestamps, Paused, Retries, Congestion, MinRto}
 use Rattle.tcp_rules.specs.Events.Event.{Comes, Asked, Listens, Connects, Sends, Reads, Closes, Aborts, Sets}
 use Rattle.tcp_rules.proofs.ArrivalCases.{by_arrival, Received, Opening, Content, Drawing, kept}

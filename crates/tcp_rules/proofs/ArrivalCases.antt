@@ -8,7 +8,7 @@ use Rattle.ip_wire.specs.TcpHeader.{TcpHeader}
 use Rattle.tcp_model.specs.Context.{ContextValue}
 use Rattle.tcp_control.specs.Controls.{is_syn, is_fin, is_rst}
 use Rattle.tcp_control.specs.Offsets.{past_by, before_by}
-use Rattle.tcp_control.specs.States.{is_closed, is_answering, takes_text}
+use Rattle.tcp_control.specs.States.{is_closed, takes_text}
 use Rattle.tcp_control.specs.declared.state.State.{State}
 use Rattle.tcp_control.specs.declared.state.State.TheVariants as In
 use Rattle.held_bytes.specs.ReceiveMap.{store, front}
@@ -26,7 +26,7 @@ use Rattle.tcp_model.specs.Opening.{is_first_syn, opens, takes_answer, acks_syn,
 use Rattle.tcp_model.specs.Probing.{probe_kept}
 use Rattle.tcp_model.specs.Retries.{heard}
 use Rattle.tcp_model.specs.Segments.{no_ranges, rst_reply}
-use Rattle.tcp_model.specs.Text.{Texted, texted, with_text, with_text_at, with_bytes_at, taken_in_order, held_early, is_holding, laid, has_new_text, with_fin}
+use Rattle.tcp_model.specs.Text.{Texted, texted, with_bytes_at, taken_in_order, held_early, is_holding, laid, has_new_text}
 use Rattle.tcp_model.specs.Text.{takes_fin, fin_taken, is_at_fin}
 use Rattle.tcp_model.specs.Timeout.{timeout_restarted}
 use Rattle.tcp_model.specs.Value.{TcpValue, Arrived, with_block, dropped, answered_with, unoffered, ended, queued_in, free_in, received_of}

@@ -1,8 +1,7 @@
 -- The congestion window after a timeout.
 use Rattle.std.proofs.Common.{◌≡◌, ◌⊎◌, inl, inr, ⊎_elim, ℕ, zero, suc, ◌+◌, ◌-◌, ◌*◌, ◌<◌, ◌≤◌, ◌==◌, nat_lt, ◌&&◌, ◌||◌, not, min, ℤ, Bool, true, false}
-use Rattle.std.proofs.Common.{if◌then◌else◌, List, [], ◌∷◌, ◌++◌, length, take, drop, Option, Some, None, is_some, refl, sym, ap, ◌∙◌, subst, arith}
-use Rattle.std.proofs.Common.{length-append}
-use Rattle.std.proofs.lemmas.Bool.{cond_both, eqb-true, eq-eqb}
+use Rattle.std.proofs.Common.{if◌then◌else◌, List, [], ◌∷◌, length, take, drop, Option, Some, None, is_some, refl, sym, ap, ◌∙◌, arith}
+use Rattle.std.proofs.lemmas.Bool.{cond_both}
 use Rattle.std.proofs.lemmas.List.{length-drop}
 use Rattle.ip_wire.specs.IpListenEndpoint.{IpListenEndpoint}
 use Rattle.ip_wire.specs.IpRepr.{IpRepr}
@@ -22,7 +21,7 @@ use Rattle.tcp_control.specs.declared.offer.OfferKind.TheVariants as Kind
 use Rattle.tcp_control.specs.declared.offer.OpenOffer.{OpenOffer}
 use Rattle.tcp_control.specs.declared.state.State.{State}
 use Rattle.tcp_control.specs.declared.state.State.TheVariants as In
-use Rattle.tcp_model.specs.Acknowledged.{acks_fin, acks_own_syn, state_after_ack, freed_by, reno_after, reno_counted, duplicates_after}
+use Rattle.tcp_model.specs.Acknowledged.{acks_fin, state_after_ack, freed_by, reno_after, reno_counted, duplicates_after}
 use Rattle.tcp_model.specs.Arrival.{arrives}
 use Rattle.tcp_model.specs.Blocks.{one_if}
 use Rattle.tcp_model.specs.Calls.{listening, connected_by, pair_for, sent_more}
@@ -32,11 +31,11 @@ use Rattle.tcp_model.specs.Opening.{took_syn}
 use Rattle.tcp_model.specs.LossRecovery.{loss_probed, probes_tail}
 use Rattle.tcp_model.specs.Retries.{asked, one_more}
 use Rattle.tcp_model.specs.Rules.{backed_off_now}
-use Rattle.tcp_model.specs.Settled.{settled, sent_off, sent_as, recorded, probed, end_of}
+use Rattle.tcp_model.specs.Settled.{sent_off, sent_as, recorded, probed, end_of}
 use Rattle.tcp_model.specs.Value.{TcpValue, Arrived, with_block, unoffered, ended, new_socket, queued_in, room_of}
 use Rattle.tcp_model.specs.declared.block.Block.{Block}
 use Rattle.tcp_model.specs.FirstNumbers.{number_for}
-use Rattle.tcp_rules.specs.Congestion.{Control, control_of, IsHeld, renews, StaysOut}
+use Rattle.tcp_rules.specs.Congestion.{control_of, IsHeld, renews, StaysOut}
 use Rattle.tcp_rules.specs.Ends.{GoesOn}
 use Rattle.tcp_rules.specs.Events.{Event, Setting, after, led, set, is_past}
 use Rattle.tcp_rules.specs.Events.Event.{Comes, Asked, Listens, Connects, Sends, Reads, Closes, Aborts, Sets}

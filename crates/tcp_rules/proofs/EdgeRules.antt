@@ -1,5 +1,5 @@
 -- What was announced of the window stays announced.
-use Rattle.std.proofs.Common.{◌≡◌, ◌⊎◌, ℕ, zero, suc, ◌+◌, ◌-◌, ◌*◌, ◌/◌, ◌%◌, ◌^◌, ◌<◌, ◌≤◌, ◌==◌, ◌&&◌, ◌||◌, not, min, ℤ, Bool, true, false, if◌then◌else◌}
+use Rattle.std.proofs.Common.{◌≡◌, ◌⊎◌, ℕ, zero, suc, ◌+◌, ◌-◌, ◌*◌, ◌^◌, ◌<◌, ◌≤◌, ◌==◌, ◌&&◌, ◌||◌, not, min, ℤ, Bool, true, false, if◌then◌else◌}
 use Rattle.std.proofs.Common.{List, [], ◌∷◌, ◌++◌, length, take, drop, Option, Some, None, is_some, inl, inr, ⊎_elim, refl, sym, ap, ◌∙◌, subst, arith}
 use Rattle.std.proofs.Common.{length-append, length-drop}
 use Rattle.std.proofs.lemmas.Bool.{cond_both}
@@ -503,7 +503,7 @@ closed_over : (state : State) → is_closed state ≡ true → is_over state ≡
 closed_over In.Closed e = refl
 closed_over other e = clash (sym e)
 
-event_edge :
+pub event_edge :
     (capacity f : ℕ) (v : TcpValue) (it : Event) → capacity ≤ 2 ^ 30 → IsInOrder (sending_of v) → IsEdge capacity f (edge_of v) →
     (is_over v.block.state ≡ true → f ≡ 0)
     → Out capacity f v (after v it) (goes v it)
@@ -537,7 +537,7 @@ event_edge capacity f v Aborts few order p none =
     (λ _. shut_out capacity f v p (ended (unoffered v)) refl refl) (λ _. shut_out capacity f v p aborted refl refl)
 event_edge capacity f v (Sets setting) few order p none = set_out capacity f v p setting
 
-over_none : (t : Bool) (n : ℕ) → t ≡ true → (if t then 0 else n) ≡ 0
+pub over_none : (t : Bool) (n : ℕ) → t ≡ true → (if t then 0 else n) ≡ 0
 over_none true n e = refl
 over_none false n e = clash (sym e)
 
@@ -551,21 +551,23 @@ led_edges capacity f v (it ∷ more) few order p none =
           (λ over. over_none (is_over (after v it).block.state) _ over),
     )
 
+pub new_edge : (capacity : ℕ) (queued : Ring ℕ) → IsEdge capacity 0 (edge_of (new_socket capacity queued))
+new_edge capacity queued = record {
+  room = none_waits (length (space capacity)) capacity (spaces capacity);
+  number = omega arith;
+  opening = λ is. clash (sym is);
+  below = omega arith;
+  told = least _;
+  within = least _;
+}
+  where
+    spaces : (n : ℕ) → length (space n) ≡ n
+    spaces zero = refl
+    spaces (suc n) = ap suc (spaces n)
+
+    none_waits : (a b : ℕ) → a ≡ b → 0 + a ≡ b
+    none_waits a b e = omega arith
+
 pub new_edges : (capacity : ℕ) (queued : Ring ℕ) (events : List Event) → capacity ≤ 2 ^ 30 → KeepEdges (new_socket capacity queued) 0 events
-new_edges capacity queued events few = led_edges capacity 0 (new_socket capacity queued) events few (new_order capacity queued) begins (λ _. refl) where
-  spaces : (n : ℕ) → length (space n) ≡ n
-  spaces zero = refl
-  spaces (suc n) = ap suc (spaces n)
-
-  none_waits : (a b : ℕ) → a ≡ b → 0 + a ≡ b
-  none_waits a b e = omega arith
-
-  begins : IsEdge capacity 0 (edge_of (new_socket capacity queued))
-  begins = record {
-    room = none_waits (length (space capacity)) capacity (spaces capacity);
-    number = omega arith;
-    opening = λ is. clash (sym is);
-    below = omega arith;
-    told = least _;
-    within = least _;
-  }
+new_edges capacity queued events few =
+    led_edges capacity 0 (new_socket capacity queued) events few (new_order capacity queued) (new_edge capacity queued) (λ _. refl)

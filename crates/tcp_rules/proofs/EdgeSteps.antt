@@ -1,6 +1,6 @@
 -- What was announced of the window, step by step: what a field tells, the text and the FIN that are taken.
-use Rattle.std.proofs.Common.{◌≡◌, ◌⊎◌, ℕ, zero, suc, ◌+◌, ◌-◌, ◌*◌, ◌/◌, ◌%◌, ◌^◌, ◌<◌, ◌≤◌, ◌==◌, ◌&&◌, ◌||◌, nat_le, not, min, max, ℤ, Bool, true, false}
-use Rattle.std.proofs.Common.{if◌then◌else◌, List, [], ◌∷◌, ◌++◌, length, Option, Some, None, ⊎_elim, refl, sym, ap, ◌∙◌, subst, arith}
+use Rattle.std.proofs.Common.{◌≡◌, ℕ, zero, suc, ◌+◌, ◌-◌, ◌*◌, ◌/◌, ◌%◌, ◌^◌, ◌<◌, ◌≤◌, ◌==◌, ◌||◌, nat_le, min, max, Bool, true, false}
+use Rattle.std.proofs.Common.{if◌then◌else◌, List, [], ◌∷◌, length, Option, Some, None, refl, sym, ap, ◌∙◌, subst, arith}
 use Rattle.std.proofs.lemmas.Bool.{cond_both, leb-true, leb-false}
 use Rattle.std.proofs.lemmas.Nat.{div-add-mod', pow_pos}
 use Rattle.std.proofs.Math.Nat.{mod-lt, mul-le-mul_right}
@@ -25,10 +25,9 @@ use Rattle.tcp_model.specs.Calls.{listening}
 use Rattle.tcp_model.specs.Segments.{segment, sack_segment}
 use Rattle.tcp_model.specs.Value.{TcpValue, queued_in, free_in, room_of, window_of}
 use Rattle.tcp_model.specs.declared.block.Block.{Block}
-use Rattle.tcp_rules.specs.Edges.{answer_in, goes, risen, furthest_with, KeepsEdge}
+use Rattle.tcp_rules.specs.Edges.{answer_in, risen, furthest_with, KeepsEdge}
 use Rattle.tcp_rules.specs.Ends.{is_over}
 use Rattle.tcp_rules.specs.Events.{is_past}
-use Rattle.tcp_rules.proofs.ArrivalCases.{kept}
 use Rattle.tcp_rules.proofs.OrderSteps.{clash}
 
 pub record Edge : Type 0 where

@@ -16,5 +16,7 @@ pub mod TimingRules
 pub mod RecoveryRules
 pub mod EdgeSteps
 pub mod EdgeRules
+pub mod EdgeMarks
+pub mod EdgeMoves
 pub mod LossRules
 pub mod StampRules

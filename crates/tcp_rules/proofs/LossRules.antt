@@ -1,19 +1,18 @@
 -- What a socket believes of its losses.
-use Rattle.std.proofs.Common.{◌≡◌, ◌⊎◌, inl, inr, ⊎_elim, ℕ, zero, suc, ◌+◌, ◌-◌, ◌<◌, ◌≤◌, ◌==◌, ◌&&◌, nat_le, nat_lt, not, min, max, ℤ, Bool, true, false}
+use Rattle.std.proofs.Common.{◌≡◌, ◌⊎◌, inl, inr, ⊎_elim, ℕ, zero, suc, ◌-◌, ◌≤◌, ◌==◌, ◌&&◌, nat_le, nat_lt, not, min, max, ℤ, Bool, true, false}
 use Rattle.std.proofs.Common.{if◌then◌else◌, List, [], ◌∷◌, length, take, map, set, replicate, Option, Some, None, is_some, refl, sym, ap, ◌∙◌, subst, arith}
 use Rattle.std.specs.List.{fold}
 use Rattle.std.proofs.lemmas.Bool.{cond_both, eqb-true, leb-true}
 use Rattle.ip_wire.specs.IpRepr.{IpRepr}
-use Rattle.ip_wire.specs.SeqNumber.{SeqNumber}
 use Rattle.ip_wire.specs.TcpHeader.{TcpHeader}
 use Rattle.net_base.specs.Ring.{Ring, anchored, enqueued}
 use Rattle.tcp_model.specs.Context.{ContextValue}
 use Rattle.tcp_model.specs.BaseOffers.{Offered}
 use Rattle.tcp_control.specs.Moments.{is_over, timeout_from}
 use Rattle.tcp_control.specs.Offsets.{past_by}
-use Rattle.tcp_control.specs.Scoreboard.{is_run, no_run, no_runs, meets, hull, hull_of, apart, without, free_place, placed_at, placed, noted, lowered}
+use Rattle.tcp_control.specs.Scoreboard.{is_run, no_run, no_runs, meets, hull, hull_of, without, free_place, placed_at, noted, lowered}
 use Rattle.tcp_control.specs.Scoreboard.{reneges, after_ack, held}
-use Rattle.tcp_control.specs.States.{is_closed, is_listening, is_opening, is_time_wait, takes_writes, after_fin, after_close}
+use Rattle.tcp_control.specs.States.{is_closed, is_listening, is_opening, is_time_wait, takes_writes, after_close}
 use Rattle.tcp_control.specs.declared.endpoints.EndpointPair.{EndpointPair}
 use Rattle.tcp_control.specs.declared.offer.OfferKind.{OfferKind}
 use Rattle.tcp_control.specs.declared.offer.OfferKind.TheVariants as Kind
@@ -32,7 +31,7 @@ use Rattle.tcp_model.specs.Offers.{offer_of}
 use Rattle.tcp_model.specs.Opening.{took_syn}
 use Rattle.tcp_model.specs.Retries.{asked, one_more}
 use Rattle.tcp_model.specs.Rules.{backed_off_now}
-use Rattle.tcp_model.specs.Settled.{settled, sent_off, sent_as, recorded, probed, end_of, nxt_moved, timer_started, syn_went, resent}
+use Rattle.tcp_model.specs.Settled.{sent_off, sent_as, recorded, probed, end_of, nxt_moved, timer_started, syn_went, resent}
 use Rattle.tcp_model.specs.Value.{TcpValue, Arrived, with_block, unoffered, ended, new_socket, queued_in, room_of}
 use Rattle.tcp_model.specs.declared.block.Block.{Block}
 use Rattle.tcp_model.specs.declared.block.Loss.{Loss}

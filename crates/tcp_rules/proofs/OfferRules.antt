@@ -1,5 +1,5 @@
 -- What an offer and its settling do to what is in flight, and where the offers lie that carry nothing.
-use Rattle.std.proofs.Common.{◌≡◌, ℕ, ◌+◌, ◌<◌, ◌≤◌, ◌==◌, ℤ, Bool, true, false, if◌then◌else◌, Option, Some, None, is_some, refl, sym, ap, ◌∙◌, subst, arith}
+use Rattle.std.proofs.Common.{◌≡◌, ℕ, ◌+◌, ◌<◌, ◌≤◌, ◌==◌, ℤ, Bool, true, false, if◌then◌else◌, Option, Some, None, refl, sym, ap, ◌∙◌, subst, arith}
 use Rattle.std.proofs.lemmas.Bool.{cond_both}
 use Rattle.ip_wire.specs.Tcp.{header_len}
 use Rattle.ip_wire.specs.TcpHeader.{TcpHeader}
@@ -27,7 +27,7 @@ use Rattle.tcp_model.specs.Settled.{settled, sent_off, recorded, probed, end_of,
 use Rattle.tcp_model.specs.Timeout.{timeout_end, timeout_started, timed_out}
 use Rattle.tcp_model.specs.Value.{TcpValue, with_block, unoffered, ended, queued_in, free_in, room_of, window_of}
 use Rattle.tcp_model.specs.declared.block.Block.{Block}
-use Rattle.tcp_rules.specs.Flight.{flight_of, Goes, is_bare}
+use Rattle.tcp_rules.specs.Flight.{Goes, is_bare}
 use Rattle.tcp_rules.proofs.Steps.{same, goes_on, goes_from, anew, backs_off, sends, probes, timer_runs}
 
 -- SETTLING

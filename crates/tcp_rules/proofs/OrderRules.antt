@@ -1,10 +1,9 @@
 -- Each event keeps a socket in order.
-use Rattle.std.proofs.Common.{◌≡◌, ℕ, ◌+◌, ◌-◌, ◌^◌, ◌%◌, ◌<◌, ◌≤◌, ◌==◌, ◌&&◌, ◌||◌, nat_le, nat_lt, not, min, max, ℤ, Bool, true, false, if◌then◌else◌, List}
-use Rattle.std.proofs.Common.{[], ◌∷◌, length, take, drop, ◌++◌, Option, Some, None, is_some, is_none, refl, sym, ap, ◌∙◌, subst, arith, length-append}
-use Rattle.std.proofs.lemmas.Bool.{cond_both, eqb-true, eq-eqb}
+use Rattle.std.proofs.Common.{◌≡◌, ℕ, ◌+◌, ◌-◌, ◌^◌, ◌<◌, ◌≤◌, ◌==◌, ◌&&◌, ◌||◌, nat_lt, not, min, max, ℤ, Bool, true, false, if◌then◌else◌, List}
+use Rattle.std.proofs.Common.{[], ◌∷◌, length, take, drop, Option, Some, None, is_some, refl, sym, ap, ◌∙◌, subst, arith, length-append}
+use Rattle.std.proofs.lemmas.Bool.{cond_both, eqb-true}
 use Rattle.std.proofs.lemmas.List.{length-drop}
 use Rattle.ip_wire.specs.Control.{control_len}
-use Rattle.ip_wire.specs.IpEndpoint.{IpEndpoint}
 use Rattle.ip_wire.specs.IpListenEndpoint.{IpListenEndpoint}
 use Rattle.ip_wire.specs.IpRepr.{IpRepr}
 use Rattle.ip_wire.specs.Seq.{distance_of}
@@ -31,16 +30,14 @@ use Rattle.tcp_model.specs.Acknowledged.{acks_fin, state_after_ack, freed_by, wi
 use Rattle.tcp_model.specs.Arrival.{arrives, waiting_anew}
 use Rattle.tcp_model.specs.Blocks.{one_if, unacked}
 use Rattle.tcp_model.specs.Calls.{listening, connecting, connected_by, pair_for, sent_more}
-use Rattle.tcp_model.specs.Checks.{acknowledgement_check}
-use Rattle.tcp_model.specs.Checks.Check.{Passes, Old}
 use Rattle.tcp_model.specs.Offers.{offer_of, offer_choice, offer_syn, number_at}
 use Rattle.tcp_model.specs.Opening.{answering}
-use Rattle.tcp_model.specs.Probing.{probe_moment, is_probing}
+use Rattle.tcp_model.specs.Probing.{is_probing}
 use Rattle.tcp_model.specs.Retries.{asked, one_more, heard}
 use Rattle.tcp_control.specs.Scoreboard.{first_missing}
 use Rattle.tcp_model.specs.LossRecovery.{hole_len, loss_probed}
 use Rattle.tcp_model.specs.Rules.{Choice, congestion_limit, window_limit, size_limit, unbroken, next_place, text_choice, resend_choice, probe_choice}
-use Rattle.tcp_model.specs.Rules.{control_for, owes_syn, resends, has_text, backed_off_now, congestion_room, sent_places}
+use Rattle.tcp_model.specs.Rules.{control_for, owes_syn, backed_off_now, congestion_room, sent_places}
 use Rattle.tcp_model.proofs.Holes as Holes
 use Rattle.tcp_model.specs.Segments.{hops_of, segment, keep_alive_segment}
 use Rattle.tcp_model.specs.Settled.{past_held, settled, sent_off, recorded, probed, end_of}

@@ -10,13 +10,12 @@ use Rattle.ip_wire.specs.TcpHeader.{TcpHeader}
 use Rattle.net_base.specs.Ring.{Ring, anchored, enqueued}
 use Rattle.tcp_model.specs.Context.{ContextValue}
 use Rattle.tcp_model.specs.BaseOffers.{Offered}
-use Rattle.tcp_control.specs.Controls.{or_mss}
 use Rattle.tcp_control.specs.Moments.{is_over, timeout_from}
 use Rattle.tcp_control.specs.Reno as reno
 use Rattle.tcp_control.specs.Reno.{RenoValue}
 use Rattle.tcp_control.specs.RoundTrip as round_trip
 use Rattle.tcp_control.specs.RoundTrip.{RoundTripValue, least_of}
-use Rattle.tcp_control.specs.States.{is_closed, is_listening, is_opening, is_time_wait, takes_writes, after_fin, after_close}
+use Rattle.tcp_control.specs.States.{is_closed, is_listening, is_opening, is_time_wait, takes_writes, after_close}
 use Rattle.tcp_control.specs.declared.endpoints.AddressPair.{AddressPair}
 use Rattle.tcp_control.specs.declared.endpoints.EndpointPair.{EndpointPair}
 use Rattle.tcp_control.specs.declared.offer.OfferKind.{OfferKind}
@@ -36,7 +35,7 @@ use Rattle.tcp_model.specs.Offers.{offer_of, number_at}
 use Rattle.tcp_model.specs.Opening.{took_syn}
 use Rattle.tcp_model.specs.Retries.{asked, one_more}
 use Rattle.tcp_model.specs.Rules.{Choice, backed_off_now, resend_choice, control_for, fin_goes, sent_places, size_limit, unbroken}
-use Rattle.tcp_model.specs.Settled.{settled, sent_off, sent_as, recorded, probed, end_of}
+use Rattle.tcp_model.specs.Settled.{sent_off, sent_as, recorded, probed, end_of}
 use Rattle.tcp_model.specs.Value.{TcpValue, Arrived, with_block, unoffered, ended, new_socket, queued_in, room_of}
 use Rattle.tcp_model.specs.declared.block.Block.{Block}
 use Rattle.tcp_model.specs.FirstNumbers.{number_for}

@@ -1,5 +1,5 @@
 -- What is in flight, over whole runs of a socket.
-use Rattle.std.proofs.Common.{◌≡◌, ℕ, ◌<◌, ◌≤◌, Bool, true, false, List, [], ◌∷◌, arith}
+use Rattle.std.proofs.Common.{◌≡◌, ℕ, ◌<◌, ◌≤◌, true, false, List, [], ◌∷◌, arith}
 use Rattle.tcp_control.specs.States.{is_listening}
 use Rattle.tcp_model.specs.Value.{TcpValue}
 use Rattle.tcp_rules.specs.Flight.{flight_of, IsArmed, Rises, Goes}

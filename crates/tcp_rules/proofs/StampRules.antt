@@ -1,30 +1,27 @@
 -- TS.Recent, and segments with timestamps that are too old.
 use Rattle.std.proofs.Common.{◌≡◌, ◌⊎◌, inl, inr, ℕ, ◌==◌, ◌&&◌, ◌||◌, not, ℤ, Bool, true, false, if◌then◌else◌, List, length, Option, Some, None, is_some}
-use Rattle.std.proofs.Common.{refl, sym, ap, ◌∙◌}
+use Rattle.std.proofs.Common.{refl, sym, ◌∙◌}
 use Rattle.std.proofs.lemmas.Bool.{cond_both}
 use Rattle.ip_wire.specs.IpRepr.{IpRepr}
 use Rattle.ip_wire.specs.TcpHeader.{TcpHeader}
 use Rattle.ip_wire.specs.TcpTimestampRepr.{TcpTimestampRepr}
 use Rattle.tcp_control.specs.Controls.{is_rst, or_recent}
 use Rattle.tcp_control.specs.Offsets.{past_by}
-use Rattle.tcp_control.specs.States.{is_listening}
 use Rattle.tcp_control.specs.declared.state.State.{State}
 use Rattle.tcp_control.specs.declared.state.State.TheVariants as In
-use Rattle.tcp_model.specs.Acknowledged.{windowed}
 use Rattle.tcp_model.specs.Answers.{drawn, may_draw, with_draw, acked}
-use Rattle.tcp_model.specs.Arrival.{waiting_anew, reset_comes, draws_first, challenges_syn, checked, received, arrives_in, arrives, is_void_syn}
+use Rattle.tcp_model.specs.Arrival.{reset_comes, draws_first, challenges_syn, checked, received, arrives_in, arrives, is_void_syn}
 use Rattle.tcp_model.specs.Checks.{acknowledgement_check}
 use Rattle.tcp_model.specs.Context.{ContextValue}
-use Rattle.tcp_model.specs.Retries.{heard}
 use Rattle.tcp_model.specs.Segments.{no_ranges}
-use Rattle.tcp_model.specs.Timestamps.{is_older, is_believed, comes_older, is_outdated, names_recent, stamp_taken, is_stale}
+use Rattle.tcp_model.specs.Timestamps.{is_older, is_believed, comes_older, names_recent, stamp_taken, is_stale}
 use Rattle.tcp_model.specs.Value.{TcpValue, Arrived, dropped, unoffered}
 use Rattle.tcp_model.specs.declared.block.Block.{Block}
 use Rattle.tcp_rules.specs.Events.{is_past}
 use Rattle.tcp_rules.specs.Forged.{IsUntouched}
 use Rattle.tcp_rules.specs.Stamps.{RisesRecent, RisesOrListens}
 use Rattle.tcp_rules.proofs.AckRules.{is_in}
-use Rattle.tcp_rules.proofs.ArrivalCases.{by_arrival, Received, Opening, Content, Drawing, timed, acked_open, heeded}
+use Rattle.tcp_rules.proofs.ArrivalCases.{by_arrival, Received, Opening, Content, Drawing}
 use Rattle.tcp_rules.proofs.ForgedRules.{Left, stays, answers}
 use Rattle.tcp_rules.proofs.OrderSteps.{clash}
 

@@ -1,9 +1,9 @@
 -- What each step of a rule does to what is in flight.
-use Rattle.std.proofs.Common.{◌≡◌, ℕ, ◌+◌, ◌-◌, ◌<◌, ◌≤◌, ◌==◌, min, max, ℤ, Bool, true, false, if◌then◌else◌, Option, Some, None, is_some, refl, sym, ap, ◌∙◌}
+use Rattle.std.proofs.Common.{◌≡◌, ℕ, ◌+◌, ◌-◌, ◌==◌, min, max, ℤ, Bool, true, false, if◌then◌else◌, Option, Some, None, is_some, refl, sym, ap, ◌∙◌}
 use Rattle.std.proofs.Common.{subst, arith}
 use Rattle.std.proofs.lemmas.Bool.{cond_both, eqb-true}
 use Rattle.tcp_control.specs.States.{is_closed, is_listening}
-use Rattle.tcp_model.specs.Acknowledged.{block_acknowledged, ended_if, in_state, una_moved, state_after_ack, retransmit_after}
+use Rattle.tcp_model.specs.Acknowledged.{block_acknowledged, ended_if, in_state, una_moved, state_after_ack}
 use Rattle.tcp_model.specs.declared.block.Block.{Block}
 use Rattle.tcp_rules.specs.Flight.{Flight, flight_of, IsArmed, Rises, Goes}
 

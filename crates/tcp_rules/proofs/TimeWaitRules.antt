@@ -1,6 +1,6 @@
 -- How TIME-WAIT ends.
 use Rattle.std.proofs.Common.{◌≡◌, ℕ, ◌+◌, ◌==◌, ◌&&◌, ◌||◌, not, min, ℤ, Bool, true, false, if◌then◌else◌, List, length, take, Option, Some, None, is_some}
-use Rattle.std.proofs.Common.{is_none, refl, sym, ap, ◌∙◌, subst}
+use Rattle.std.proofs.Common.{refl, sym, ap, ◌∙◌, subst}
 use Rattle.std.proofs.lemmas.Bool.{cond_both}
 use Rattle.ip_wire.specs.IpRepr.{IpRepr}
 use Rattle.ip_wire.specs.TcpHeader.{TcpHeader}
@@ -12,8 +12,6 @@ use Rattle.tcp_control.specs.Moments.{is_due, is_over, timeout_from}
 use Rattle.tcp_control.specs.States.{is_closed, is_listening, is_opening, is_answering, is_time_wait, sends_syn, sends_text, takes_text, takes_writes}
 use Rattle.tcp_control.specs.States.{keeps_alive, after_ack, after_ack_of_fin, after_close}
 use Rattle.tcp_control.specs.declared.endpoints.EndpointPair.{EndpointPair}
-use Rattle.tcp_control.specs.declared.offer.OfferKind.{OfferKind}
-use Rattle.tcp_control.specs.declared.offer.OfferKind.TheVariants as Kind
 use Rattle.tcp_control.specs.declared.offer.OpenOffer.{OpenOffer}
 use Rattle.tcp_control.specs.declared.state.State.{State}
 use Rattle.tcp_control.specs.declared.state.State.TheVariants as In
@@ -24,13 +22,13 @@ use Rattle.tcp_model.specs.Offers.{offer_of, offer_with, offer_reset, first_rule
 use Rattle.tcp_model.specs.Probing.{probe_moment, is_probing, is_window_small}
 use Rattle.tcp_model.specs.LossRecovery.{loss_probed}
 use Rattle.tcp_model.specs.Retries.{asked, one_more, reaches, retries_of, is_last_timeout, is_last_question, gives_up, given_up}
-use Rattle.tcp_model.specs.Rules.{time_wait_end, keep_alive_moment, has_text, owes_syn, resends, updates_window}
-use Rattle.tcp_model.specs.Settled.{settled, sent_off, sent_as, recorded, probed, end_of}
+use Rattle.tcp_model.specs.Rules.{time_wait_end, keep_alive_moment}
+use Rattle.tcp_model.specs.Settled.{settled, sent_off}
 use Rattle.tcp_model.specs.Timeout.{timeout_end, timeout_runs, waits_for_remote, end_by, timed_out}
-use Rattle.tcp_model.specs.Value.{TcpValue, Arrived, with_block, unoffered, ended, queued_in, room_of}
+use Rattle.tcp_model.specs.Value.{TcpValue, Arrived, with_block, unoffered, ended, queued_in}
 use Rattle.tcp_model.specs.declared.block.Block.{Block}
 use Rattle.tcp_model.specs.FirstNumbers.{number_for}
-use Rattle.tcp_rules.specs.Events.{Event, Setting, after, set, is_past}
+use Rattle.tcp_rules.specs.Events.{Event, Setting, after, set}
 use Rattle.tcp_rules.specs.Events.Event.{Comes, Asked, Listens, Connects, Sends, Reads, Closes, Aborts, Sets}
 use Rattle.tcp_rules.specs.Events.Setting.{Timeout, KeepAlive, AckDelay, Nagle, HopLimit, Timestamps, Paused, Retries, Congestion, MinRto}
 use Rattle.tcp_rules.specs.InOrder.{has_all, sending_of, IsInOrder}

@@ -1,8 +1,8 @@
 -- What waits names a moment.
 use Rattle.std.proofs.Common.{◌≡◌, ℕ, ◌+◌, ◌-◌, ◌%◌, ◌/◌, ◌<◌, ◌≤◌, zero, suc, ◌==◌, ◌&&◌, ◌||◌, nat_le, nat_lt, not, min, max, ℤ, int_le, Bool, true, false}
 use Rattle.std.proofs.Common.{if◌then◌else◌, length, Option, Some, None, is_some, is_none, refl, sym, ap, ◌∙◌, subst, arith}
-use Rattle.std.proofs.lemmas.Bool.{cond_both, eqb-true, eq-eqb, leb-false, le-leb, ltb-true, ltb-false, lt-ltb}
-use Rattle.net_base.specs.Ring.{Ring, until_end}
+use Rattle.std.proofs.lemmas.Bool.{eqb-true, eq-eqb, le-leb, ltb-true, ltb-false, lt-ltb}
+use Rattle.net_base.specs.Ring.{until_end}
 use Rattle.tcp_model.specs.Context.{ContextValue}
 use Rattle.tcp_model.specs.BaseOffers.{IsBefore, offered_as}
 use Rattle.tcp_model.specs.Offer.TheVariants as Answer
@@ -17,17 +17,17 @@ use Rattle.tcp_control.specs.declared.state.State.TheVariants as In
 use Rattle.tcp_model.proofs.Idle.{idle}
 use Rattle.tcp_model.proofs.Waits.{is_quiet}
 use Rattle.tcp_model.specs.Blocks.{one_if, unacked}
-use Rattle.tcp_model.specs.Due.{poll_open, poll_between, poll_with, poll_of}
+use Rattle.tcp_model.specs.Due.{poll_open, poll_with, poll_of}
 use Rattle.tcp_model.specs.Offers.{offer_of}
-use Rattle.tcp_model.specs.Probing.{is_window_small, is_probing, probe_moment, is_probe_unset}
+use Rattle.tcp_model.specs.Probing.{is_window_small, is_probing}
 use Rattle.tcp_model.specs.Quiet.{IsQuiet}
-use Rattle.tcp_model.specs.Rules.{congestion_limit, window_limit, size_limit, unbroken, next_place, ready, fills_enough, is_sendable, sends_choice, has_text}
-use Rattle.tcp_model.specs.Rules.{text_choice, owes_syn, congestion_room}
+use Rattle.tcp_model.specs.Rules.{congestion_limit, window_limit, size_limit, unbroken, next_place, ready, fills_enough, is_sendable, has_text}
+use Rattle.tcp_model.specs.Rules.{text_choice, congestion_room}
 use Rattle.tcp_model.specs.Value.{TcpValue, unoffered, queued_in}
 use Rattle.tcp_model.specs.declared.block.Block.{Block}
 use Rattle.tcp_model.specs.declared.block.CongestionControl.{CongestionControl}
 use Rattle.tcp_model.specs.declared.block.CongestionControl.TheVariants as Congestion
-use Rattle.tcp_rules.specs.InOrder.{has_all, sending_of, IsInOrder}
+use Rattle.tcp_rules.specs.InOrder.{has_all}
 use Rattle.tcp_rules.specs.Waiting.{IsWaiting}
 use Rattle.tcp_rules.proofs.OrderSteps.{clash}
 

@@ -1,10 +1,9 @@
 -- What a socket has in flight: how far past SND.UNA it was sent, what was ever sent, and the timer of what isn't acknowledged.
-use Rattle.std.specs.Prelude.{◌≡◌, ◌⊎◌, ℕ, ◌+◌, ◌<◌, ◌≤◌, ◌==◌, ◌||◌, ℤ, Bool, true, false, Option, Some, None, is_some}
+use Rattle.std.specs.Prelude.{◌≡◌, ◌⊎◌, ℕ, ◌+◌, ◌<◌, ◌≤◌, ◌==◌, ℤ, Bool, true, false, Option, is_some}
 use Rattle.ip_wire.specs.TcpControl.TheVariants as Control
 use Rattle.tcp_control.specs.States.{is_listening}
 use Rattle.tcp_control.specs.declared.offer.OfferKind.{OfferKind}
 use Rattle.tcp_control.specs.declared.offer.OfferKind.TheVariants as Kind
-use Rattle.tcp_control.specs.declared.offer.OpenOffer.{OpenOffer}
 use Rattle.tcp_control.specs.declared.offer.Reply.{Reply}
 use Rattle.tcp_model.specs.Blocks.{top}
 use Rattle.tcp_model.specs.declared.block.Block.{Block}

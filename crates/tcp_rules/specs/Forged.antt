@@ -1,10 +1,5 @@
 -- What a segment leaves that only draws an answer (RFC 5961, 3).
-use Rattle.std.specs.Prelude.{◌≡◌, Bool}
-use Rattle.ip_wire.specs.SeqNumber.{SeqNumber}
-use Rattle.net_base.specs.Ring.{Ring}
-use Rattle.tcp_control.specs.Reno.{RenoValue}
-use Rattle.tcp_control.specs.RoundTrip.{RoundTripValue}
-use Rattle.tcp_control.specs.declared.state.State.{State}
+use Rattle.std.specs.Prelude.{◌≡◌}
 use Rattle.tcp_model.specs.Value.{TcpValue}
 
 -- Nothing of the connection changes: not its state, not what it sent, not what came. Only the acknowledgement that was due may have

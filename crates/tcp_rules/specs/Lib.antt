@@ -3,6 +3,7 @@ pub mod Runs
 pub mod Events
 pub mod Forged
 pub mod Edges
+pub mod EdgeMoves
 pub mod Ends
 pub mod Acks
 pub mod GivingUp

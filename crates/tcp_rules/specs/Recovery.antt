@@ -1,5 +1,5 @@
 -- Fast recovery (RFC 6582), and the least retransmission timeout (RFC 6298, 2.4).
-use Rattle.std.specs.Prelude.{◌≡◌, ℕ, ◌≤◌, Bool, true, false}
+use Rattle.std.specs.Prelude.{◌≡◌, ℕ, ◌≤◌, true, false}
 use Rattle.tcp_control.specs.Reno.{RenoValue}
 use Rattle.tcp_control.specs.RoundTrip.{RoundTripValue, least_of}
 use Rattle.tcp_control.specs.States.{is_listening}

@@ -3,7 +3,7 @@ use Rattle.std.specs.Prelude.{Bool, true, false}
 use Rattle.tcp_control.specs.Moments.{is_due}
 use Rattle.tcp_model.specs.Value.{TcpValue}
 use Rattle.tcp_rules.specs.Events.{Event}
-use Rattle.tcp_rules.specs.Events.Event.{Comes, Asked, Aborts}
+use Rattle.tcp_rules.specs.Events.Event.{Asked, Aborts}
 
 -- its own moment has come when it is asked, or its user aborts
 abbrev pub ends_wait : TcpValue → Event → Bool

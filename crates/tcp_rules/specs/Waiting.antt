@@ -1,8 +1,8 @@
 -- A socket that has something to send, or something that isn't acknowledged: it names a moment, and acts at it.
-use Rattle.std.specs.Prelude.{◌≡◌, ℕ, ◌≤◌, false}
+use Rattle.std.specs.Prelude.{◌≡◌, ◌≤◌, false}
 use Rattle.tcp_control.specs.declared.endpoints.EndpointPair.{EndpointPair}
 use Rattle.tcp_control.specs.States.{is_closed}
-use Rattle.std.specs.Prelude.{Option, Some}
+use Rattle.std.specs.Prelude.{Some}
 use Rattle.tcp_model.specs.Blocks.{unacked}
 use Rattle.tcp_model.specs.Value.{TcpValue, queued_in}
 use Rattle.tcp_rules.specs.Flight.{flight_of, IsArmed}

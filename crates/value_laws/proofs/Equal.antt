@@ -471,8 +471,8 @@ Decides-block a b =
             timers = parts.1.1.1.1.1.1.0 i;
             round_trip = parts.1.1.1.1.1.1.1.0 i;
             reno = parts.1.1.1.1.1.1.1.1.0 i;
-            loss = parts.1.1.1.1.1.1.1.1.0 i;
-            settings = parts.1.1.1.1.1.1.1.1.1 i;
+            loss = parts.1.1.1.1.1.1.1.1.1.0 i;
+            settings = parts.1.1.1.1.1.1.1.1.1.1 i;
           },
       λ e. all.1 (both (ap (λ (v : Block). v.state) e)
           (both (ap (λ (v : Block). v.names) e)

@@ -7,7 +7,6 @@ ghost use Rattle.tcp_model.specs.OpenOffer.{OpenOffer};
 ghost use Rattle.tcp_model.specs.Reply.{Reply};
 ghost use Rattle.tcp_model.specs.Reno.{RenoValue};
 ghost use Rattle.tcp_model.specs.RoundTrip.{RoundTripValue};
-ghost use Rattle.tcp_model.specs.Blocks.{fresh_loss};
 ghost use Rattle.tcp_model.specs.Run.{Run};
 ghost use Rattle.tcp_model.specs.Scoreboard.{no_run, no_runs};
 ghost use Rattle.tcp_control.specs.declared.scoreboard.Scoreboard.{Scoreboard};
@@ -67,7 +66,6 @@ pub fn constants()
     ensures names { Names.NONE ≡ record { listen = record { addr = None; port = 0 }; pair = None } }
     ensures run { Run.NONE ≡ no_run }
     ensures scoreboard { Scoreboard.EMPTY ≡ record { runs = no_runs } }
-    ensures loss { Loss.NONE ≡ fresh_loss }
     ensures probe { PROBE ≡ record { place = 0; len = 1; fin = false } }
 {}
 

@@ -7,28 +7,28 @@ use Rattle.lan_theorem.specs.Hosts.Asked.{requests_in, requests, AreApart}
 use Rattle.lan_theorem.specs.Hosts.Machine.{Turn, Machine, HostRun, moment_of}
 
 -- each of these moments, and a second, is no later than this
-abbrev AreOver : List ℤ → ℤ → Type 0
+abbrev pub AreOver : List ℤ → ℤ → Type 0
 AreOver ts until = AllByRecursion (λ s. second_after s ≤ℤ until) ts
 
-later : (a b c : ℤ) → a ≤ℤ b → b ≤ℤ c → a ≤ℤ c
+pub later : (a b c : ℤ) → a ≤ℤ b → b ≤ℤ c → a ≤ℤ c
 later a b c one two = grind (arith)
 
-itself : (a : ℤ) → a ≤ℤ a
+pub itself : (a : ℤ) → a ≤ℤ a
 itself a = grind (arith)
 
-in_a_second : (t : ℤ) → t ≤ℤ second_after t
+pub in_a_second : (t : ℤ) → t ≤ℤ second_after t
 in_a_second t = grind (arith)
 
-reached : (t mid : ℤ) → int_lt t mid ≡ false → mid ≤ℤ t
+pub reached : (t mid : ℤ) → int_lt t mid ≡ false → mid ≤ℤ t
 reached t mid is = grind (arith)
 
-over_later : (ts : List ℤ) (a b : ℤ) → a ≤ℤ b → AreOver ts a → AreOver ts b
+pub over_later : (ts : List ℤ) (a b : ℤ) → a ≤ℤ b → AreOver ts a → AreOver ts b
 over_later [] a b up over = tt
 over_later (t ∷ ts) a b up over = (later (second_after t) a b over.0 up, over_later ts a b up over.1)
 
-record AreSilent (ts : List ℤ) (until : ℤ) : Type 0 where
-  apart : AreApart ts
-  over : AreOver ts until
+pub record AreSilent (ts : List ℤ) (until : ℤ) : Type 0 where
+  pub apart : AreApart ts
+  pub over : AreOver ts until
 
 asked_apart : (t : ℤ) (ds : List Departure) (rest : List ℤ) (before after : ℤ) → AreSilent rest before → Silences t ds before after →
     AreSilent (requests_in t ds ++ rest) after

@@ -9,11 +9,6 @@ returns c =
     let hardware = c.hardware_tests.ensures in
     let checksums = c.capabilities_are_equated.ensures.checksums in
     record {
-      whole = λ a b. Decides-and _ _ (by_other _ _ (hardware.equal a.from b.from) (hardware.same a.from b.from)) (
-          Decides-and _ _ (by_other _ _ (hardware.equal a.to b.to) (hardware.same a.to b.to)) (
-          Decides-and _ _ (c.equal.ensures.packets a.packet b.packet) (checksums a.checksums b.checksums)
-          )
-          );
       piece = λ a b. Decides-and _ _ (by_other _ _ (hardware.equal a.from b.from) (hardware.same a.from b.from)) (
           Decides-and _ _ (by_other _ _ (hardware.equal a.to b.to) (hardware.same a.to b.to)) (
           Decides-and _ _ (c.ipv4_equal.ensures.header a.header b.header) (
