@@ -56,6 +56,7 @@ impl Host {
         let config = Config {
             random_seed: seed,
             hardware_addr: HardwareAddress::Ethernet(station),
+            isn_key: None,
         };
         let interface = Interface::new(alloc, &config, &drain, now)?;
         Ok(Host {
