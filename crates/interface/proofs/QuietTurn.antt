@@ -6,6 +6,7 @@ use Rattle.interface_ingress.specs.Offer as Answer
 use Rattle.interface_ingress.specs.Offer.TheVariants as Offer
 use Rattle.interface_ingress.specs.PollAt.{PollAt}
 use Rattle.interface_ingress.proofs.AnyKind.{silent}
+use Rattle.interface_ingress.specs.Sockets as Sockets
 use Rattle.interface_ingress.specs.Sockets.{poll_of, settled}
 use Rattle.interface_ingress.specs.Socket.{Socket}
 use Rattle.interface_ingress.specs.Socket.TheVariants as Kind
@@ -59,7 +60,7 @@ module _ (due_as_before : DueAsBefore) {D : Type 0} (moves : D → Move → D �
       let cx = context_of (at_moment t asked) in
       let due : IsEarlier t (instant_of (poll_of cx item.socket)) =
       subst (λ (p : PollAt). IsEarlier t (instant_of p)) (sym (same_due asked t item.socket)) early in
-      let offers = subst (λ (i : InnerValue). Rattle.interface_ingress.specs.Sockets.Offers (context_of i) item.socket a.0 a.1) here a.2 in
+      let offers = subst (λ (i : InnerValue). Sockets.Offers (context_of i) item.socket a.0 a.1) here a.2 in
       let quiet = silent item.socket a.1 cx a.0 (before_due t moment (poll_of cx item.socket) due) offers in
       let ends = answered a.0 (record item { socket = a.1 }) item' turned quiet.0 a.3 in
       record {
