@@ -487,8 +487,10 @@ static inline uint32_t zv_dns_turn(zv_host *host, size_t socket, uint16_t *port)
     if (code != ZV_EMPTY)
         return code;
     code = zv_dns_send(host, bytes, sizeof bytes, &count, &remote, &own);
+    if (code == ZV_EMPTY)
+        return ZV_OK;
     if (code != ZV_OK)
-        return code == ZV_EMPTY ? ZV_OK : code;
+        return code;
     if (own.port != *port) {
         zv_udp_close(host, socket);
         *port = zv_udp_bind(host, socket, &any, own.port) == ZV_OK ? own.port : 0;
