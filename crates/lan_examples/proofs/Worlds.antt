@@ -160,7 +160,7 @@ syn = segment 49_500 80 Bits.Syn 3 None syn_options
 abbrev syn_ack : TcpHeader
 syn_ack = segment 80 49_500 Bits.Syn 3 (Some (number 4)) syn_options
 
-abbrev ack : TcpHeader
+abbrev pub ack : TcpHeader
 ack = segment 49_500 80 Bits.None 4 (Some (number 4)) no_options
 
 abbrev push : TcpHeader
