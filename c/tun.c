@@ -78,61 +78,88 @@ static zv_address read_address(const char *text)
     return address;
 }
 
+/* Waits until the device has a frame, at most so many microseconds. */
+static void wait_for(int device, int64_t left)
+{
+    struct pollfd waits = {device, POLLIN, 0};
+    poll(&waits, 1, left > 1000000 ? 1000 : (int)((left + 999) / 1000));
+}
+
 static uint8_t frame[65549];
 
-/* Frames that came go to the host, as many as it takes. */
-static void take(zv_host *host, int device)
+/* Frames that came go to the host, at most so many. Says how many there were. */
+static int take(zv_host *host, int device, int most)
 {
-    for (int taken = 0; taken < BUDGET; taken++) {
+    int taken = 0;
+    while (taken < most) {
         ssize_t length = read(device, frame, sizeof frame);
         if (length <= 0)
             break;
         zv_frame_in(host, frame, (size_t)length);
+        taken++;
     }
+    return taken;
 }
 
-/* The host does what is to be done, and the frames that are to go go to the device. */
-static void turn(zv_host *host, int device, int64_t moment)
+/* The host does what is to be done, and the frames that are to go go to the device. Says whether a socket may have changed. */
+static int turn(zv_host *host, int device, int64_t moment, uint16_t budget)
 {
     uint8_t changed;
     size_t count;
-    must(zv_poll(host, moment, BUDGET, &changed), "poll");
+    must(zv_poll(host, moment, budget, &changed), "poll");
     while (zv_frame_out(host, frame, sizeof frame, &count) == ZV_OK)
         if (write(device, frame, count) < 0 && errno != EAGAIN && errno != EIO)
             perror("tun: write");
+    return changed;
 }
 
-static void echo_datagrams(zv_host *host, size_t socket)
+/* Says whether there was one. */
+static int echo_datagrams(zv_host *host, size_t socket)
 {
     static uint8_t bytes[65535];
     zv_endpoint remote;
     zv_address local;
     size_t count;
-    while (zv_udp_recv(host, socket, bytes, sizeof bytes, &count, &remote, &local) == ZV_OK)
+    int any = 0;
+    while (zv_udp_recv(host, socket, bytes, sizeof bytes, &count, &remote, &local) == ZV_OK) {
         zv_udp_send(host, socket, bytes, count, &remote, &local);
+        any = 1;
+    }
+    return any;
 }
 
-/* The bytes that wait go back where they lie, as many as there is room for. */
-static void echo_stream(zv_host *host, size_t socket)
+/* A socket whose remote has ended is closed, and listens again once its connection is over. */
+static int renew_stream(zv_host *host, size_t socket, uint32_t code)
 {
-    const uint8_t *bytes;
-    size_t count, sent, done;
     const zv_address any = zv_any();
     uint8_t state;
+    if (code == ZV_FINISHED)
+        return zv_tcp_close(host, socket) == ZV_OK;
     must(zv_tcp_state(host, socket, &state), "state");
-    if (state == ZV_CLOSED) {
-        zv_tcp_listen(host, socket, &any, 7);
-        return;
-    }
+    return state == ZV_CLOSED && zv_tcp_listen(host, socket, &any, 7) == ZV_OK;
+}
+
+/* The bytes that wait go back, as many as there is room for. What is lent is read before the next call with the host. Says whether
+ * anything was done. */
+static int echo_stream(zv_host *host, size_t socket)
+{
+    static uint8_t bytes[65536];
+    const uint8_t *lent;
+    size_t count, sent, done;
+    int is_done = 0;
     for (;;) {
-        uint32_t code = zv_tcp_peek(host, socket, &bytes, &count);
-        if (code == ZV_FINISHED)
-            zv_tcp_close(host, socket);
-        if (code != ZV_OK || count == 0)
-            return;
+        uint32_t code = zv_tcp_peek(host, socket, &lent, &count);
+        if (code != ZV_OK)
+            return renew_stream(host, socket, code) || is_done;
+        if (count == 0)
+            return is_done;
+        if (count > sizeof bytes)
+            count = sizeof bytes;
+        memcpy(bytes, lent, count);
         if (zv_tcp_send(host, socket, bytes, count, &sent) != ZV_OK || sent == 0)
-            return;
+            return is_done;
         zv_tcp_done(host, socket, sent, &done);
+        is_done = 1;
     }
 }
 
@@ -153,16 +180,20 @@ static int serve_page(zv_host *host, size_t socket)
     return 1;
 }
 
-static void serve_pages(zv_host *host, size_t listener, size_t *accepted)
+/* Says whether a socket was given back. */
+static int serve_pages(zv_host *host, size_t listener, size_t *accepted)
 {
+    int any = 0, are_more = 1;
     for (int i = 0; i < PAGES; i++) {
-        if (accepted[i] == NONE && zv_listener_accept(host, listener, &accepted[i]) != ZV_OK)
-            accepted[i] = NONE;
+        if (accepted[i] == NONE && are_more && zv_listener_accept(host, listener, &accepted[i]) != ZV_OK)
+            are_more = 0;
         if (accepted[i] == NONE || !serve_page(host, accepted[i]))
             continue;
         must(zv_listener_give_back(host, listener, accepted[i]), "give back");
         accepted[i] = NONE;
+        any = 1;
     }
+    return any;
 }
 
 /* A listener at port 80, with its sockets behind it and a keeper for what is beyond them. */
@@ -222,23 +253,32 @@ int main(int count, char **words)
     const size_t listener = listen_for_pages(&host);
     for (int i = 0; i < PAGES; i++)
         accepted[i] = NONE;
+    for (int i = 0; i < STREAMS; i++)
+        must(zv_tcp_listen(&host, streams[i], &any, 7), "listen");
 
     signal(SIGTERM, end);
     signal(SIGINT, end);
     fprintf(stderr, "tun: ready\n");
+    /* Behind a wait one frame is taken alone and answered, so that the answer goes at once; then as many as there are. */
+    int64_t at = 0;
+    int most = BUDGET;
     while (!is_over) {
-        int64_t at, moment = now();
-        take(&host, device);
-        turn(&host, device, moment);
-        echo_datagrams(&host, datagrams);
-        for (int i = 0; i < STREAMS; i++)
-            echo_stream(&host, streams[i]);
-        serve_pages(&host, listener, accepted);
-        turn(&host, device, moment);
+        const int64_t moment = now();
+        if (take(&host, device, most) == 0 && moment < at) {
+            wait_for(device, at - moment);
+            most = 1;
+            continue;
+        }
+        while (turn(&host, device, moment, (uint16_t)most)) {
+            int any = echo_datagrams(&host, datagrams);
+            for (int i = 0; i < STREAMS; i++)
+                any |= echo_stream(&host, streams[i]);
+            any |= serve_pages(&host, listener, accepted);
+            if (!any)
+                break;
+        }
         must(zv_poll_at(&host, moment, &at), "poll_at");
-        int64_t left = at - moment;
-        struct pollfd waits = {device, POLLIN, 0};
-        poll(&waits, 1, left <= 0 ? 0 : left > 1000000 ? 1000 : (int)((left + 999) / 1000));
+        most = BUDGET;
     }
     zv_counts counts;
     must(zv_counters(&host, &counts), "counters");

@@ -1,0 +1,184 @@
+/* Echoes of datagrams and of streams at port 7, over the TAP device of this name.
+ *
+ *   zv_echo NAME ADDRESS
+ */
+#include "zemplovir.h"
+
+#include <arpa/inet.h>
+#include <fcntl.h>
+#include <linux/if.h>
+#include <linux/if_tun.h>
+#include <signal.h>
+#include <stdio.h>
+#include <stdlib.h>
+#include <string.h>
+#include <sys/ioctl.h>
+#include <sys/time.h>
+#include <sys/uio.h>
+#include <time.h>
+#include <unistd.h>
+
+enum { STREAMS = 2, ROOM = 180 * 1460, BUDGET = 64 };
+
+static uint8_t frame[2048], bytes[65536];
+
+static void must(uint32_t code, const char *what)
+{
+    if (code != ZV_OK) {
+        fprintf(stderr, "zv_echo: %s: %s\n", what, zv_strerror(code));
+        exit(1);
+    }
+}
+
+static int64_t now(void)
+{
+    struct timespec t;
+    clock_gettime(CLOCK_MONOTONIC, &t);
+    return (int64_t)t.tv_sec * 1000000 + t.tv_nsec / 1000;
+}
+
+static int open_device(const char *name)
+{
+    struct ifreq request;
+    int device = open("/dev/net/tun", O_RDWR);
+    memset(&request, 0, sizeof request);
+    request.ifr_flags = IFF_TAP | IFF_NO_PI;
+    strncpy(request.ifr_name, name, IFNAMSIZ - 1);
+    if (device < 0 || ioctl(device, TUNSETIFF, &request) < 0) {
+        perror("zv_echo: /dev/net/tun");
+        exit(1);
+    }
+    return device;
+}
+
+/* Where nothing was called for. The timer goes on until it is set anew, so that a call just before the wait isn't lost. */
+static void called(int number)
+{
+    (void)number;
+}
+
+/* The timer calls at this moment at the latest. It isn't set back while it would call earlier. */
+static void call_at(int64_t at, int64_t moment)
+{
+    static int64_t next = INT64_MAX;
+    if (at >= next && moment < next)
+        return;
+    next = at;
+    const int64_t left = at - moment > 1000000 ? 1000000 : at - moment;
+    const struct itimerval timer = {{0, 1000}, {left / 1000000, left % 1000000}};
+    setitimer(ITIMER_REAL, &timer, NULL);
+}
+
+/* Frames that came go to the host. Waits for the first one where it may, which goes alone, so that its answer goes at once. */
+static int take(zv_host *host, int device, int may_wait)
+{
+    const struct iovec room = {frame, sizeof frame};
+    int taken = 0;
+    ssize_t length = may_wait ? read(device, frame, sizeof frame) : preadv2(device, &room, 1, -1, RWF_NOWAIT);
+    while (length > 0) {
+        zv_frame_in(host, frame, (size_t)length);
+        if (++taken == BUDGET || may_wait)
+            break;
+        length = preadv2(device, &room, 1, -1, RWF_NOWAIT);
+    }
+    return taken;
+}
+
+static int turn(zv_host *host, int device, int64_t moment, uint16_t budget)
+{
+    uint8_t changed;
+    size_t count;
+    must(zv_poll(host, moment, budget, &changed), "poll");
+    while (zv_frame_out(host, frame, sizeof frame, &count) == ZV_OK)
+        if (write(device, frame, count) < 0)
+            perror("zv_echo: write");
+    return changed;
+}
+
+static int echo_datagrams(zv_host *host, size_t socket)
+{
+    zv_endpoint remote;
+    zv_address local;
+    size_t count;
+    int any = 0;
+    while (zv_udp_recv(host, socket, bytes, sizeof bytes, &count, &remote, &local) == ZV_OK) {
+        zv_udp_send(host, socket, bytes, count, &remote, &local);
+        any = 1;
+    }
+    return any;
+}
+
+/* A stream whose remote has ended is closed, and listens again once its connection is over. */
+static int echo_stream(zv_host *host, size_t socket)
+{
+    const zv_address here = zv_any();
+    const uint8_t *lent;
+    size_t count, sent, done;
+    uint32_t code;
+    uint8_t state;
+    int any = 0;
+    while ((code = zv_tcp_peek(host, socket, &lent, &count)) == ZV_OK && count > 0) {
+        if (count > sizeof bytes)
+            count = sizeof bytes;
+        memcpy(bytes, lent, count);
+        if (zv_tcp_send(host, socket, bytes, count, &sent) != ZV_OK || sent == 0)
+            return any;
+        zv_tcp_done(host, socket, sent, &done);
+        any = 1;
+    }
+    if (code == ZV_FINISHED)
+        return zv_tcp_close(host, socket) == ZV_OK;
+    if (code == ZV_INVALID_STATE && zv_tcp_state(host, socket, &state) == ZV_OK && state == ZV_CLOSED)
+        must(zv_tcp_listen(host, socket, &here, 7), "listen");
+    return any;
+}
+
+int main(int count, char **words)
+{
+    zv_host host = {0};
+    zv_settings settings = {.medium = ZV_ETHERNET, .hardware = {2, 0, 0, 0, 0, 1}, .mtu = 1514, .frames = 256};
+    zv_address own = {4, {0}};
+    const zv_address any = zv_any();
+    size_t datagrams, streams[STREAMS];
+    const struct sigaction on_call = {.sa_handler = called};
+    int64_t at = 0;
+    int is_idle = 0;
+    if (count < 3 || inet_pton(AF_INET, words[2], own.bytes) != 1) {
+        fprintf(stderr, "usage: zv_echo NAME ADDRESS\n");
+        return 2;
+    }
+    const int device = open_device(words[1]);
+    settings.seed = (uint64_t)now();
+    must(zv_host_new(&host, &settings, now()), "host");
+    must(zv_address_add(&host, &own, 24), "address");
+    must(zv_udp_new(&host, 64, 65536, &datagrams), "UDP socket");
+    must(zv_udp_bind(&host, datagrams, &any, 7), "UDP port");
+    for (int i = 0; i < STREAMS; i++) {
+        must(zv_tcp_new(&host, ROOM, ROOM, &streams[i]), "TCP socket");
+        must(zv_tcp_set_nagle(&host, streams[i], 0), "Nagle");
+        must(zv_tcp_listen(&host, streams[i], &any, 7), "listen");
+    }
+    fprintf(stderr, "zv_echo: ready\n");
+    sigaction(SIGALRM, &on_call, NULL);
+    for (;;) {
+        const int may_wait = is_idle;
+        int taken = take(&host, device, may_wait);
+        const int64_t moment = now();
+        is_idle = taken == 0 && moment < at;
+        if (is_idle) {
+            call_at(at, moment);
+            continue;
+        }
+        while (turn(&host, device, moment, may_wait ? 1 : BUDGET)) {
+            int is_any = echo_datagrams(&host, datagrams);
+            for (int i = 0; i < STREAMS; i++)
+                is_any |= echo_stream(&host, streams[i]);
+            if (!is_any)
+                break;
+        }
+        must(zv_poll_at(&host, moment, &at), "poll_at");
+        is_idle = may_wait && moment < at;
+        if (is_idle)
+            call_at(at, moment);
+    }
+}
