@@ -19,7 +19,7 @@ use Rattle.tcp_model.specs.Value.{TcpValue, Arrived, dropped, unoffered}
 use Rattle.tcp_model.specs.declared.block.Block.{Block}
 use Rattle.tcp_rules.specs.Events.{is_past}
 use Rattle.tcp_rules.specs.Forged.{IsUntouched}
-use Rattle.tcp_rules.specs.Stamps.{RisesRecent, RisesOrListens}
+use Rattle.tcp_rules.specs.Stamps.{IsTooOld, RisesRecent, RisesOrListens}
 use Rattle.tcp_rules.proofs.AckRules.{is_in}
 use Rattle.tcp_rules.proofs.ArrivalCases.{by_arrival, Received, Opening, Content, Drawing}
 use Rattle.tcp_rules.proofs.ForgedRules.{Left, stays, answers}
@@ -138,3 +138,15 @@ pub stale_ignored : (cx : ContextValue) (v : TcpValue) (ip : IpRepr) (header : T
     → is_rst header.control ≡ false → is_stale v.block header cx.moment ≡ true → (arrives cx v ip header bytes).answer ≡ None
     → (arrives cx v ip header bytes).socket ≡ unoffered v
 stale_ignored cx v ip header bytes past no_rst stale = (left cx ip header bytes v past no_rst stale).1
+
+stale : (b : Block) (header : TcpHeader) (now : ℤ) → IsTooOld b header now → is_stale b header now ≡ true
+stale b header now old = rw (old.uses, old.believed, old.has, old.older) refl
+
+pub old_untouched : (cx : ContextValue) (v : TcpValue) (ip : IpRepr) (header : TcpHeader) (bytes : List ℕ) → is_past v.block.state ≡ true
+    → is_rst header.control ≡ false → IsTooOld v.block header cx.moment → IsUntouched v (arrives cx v ip header bytes).socket
+old_untouched cx v ip header bytes past no_rst old = stale_untouched cx v ip header bytes past no_rst (stale v.block header cx.moment old)
+
+pub old_ignored : (cx : ContextValue) (v : TcpValue) (ip : IpRepr) (header : TcpHeader) (bytes : List ℕ) → is_past v.block.state ≡ true
+    → is_rst header.control ≡ false → IsTooOld v.block header cx.moment → (arrives cx v ip header bytes).answer ≡ None
+    → (arrives cx v ip header bytes).socket ≡ unoffered v
+old_ignored cx v ip header bytes past no_rst old = stale_ignored cx v ip header bytes past no_rst (stale v.block header cx.moment old)

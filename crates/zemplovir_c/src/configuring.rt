@@ -82,13 +82,21 @@ fn told(answer: Result<Option<Event>, Code>) -> Result<Lease, Code>
 }
 
 /// The moment, 0 for now, and the largest number for never.
+fn moment_of(at: PollAt) -> i64
+    ensures { result ≡ due_out at }
+{
+    match at {
+        PollAt::Now => 0,
+        PollAt::Time(moment) => moment.total_micros(),
+        PollAt::Ingress => i64::MAX,
+    }
+}
+
 fn due(answer: Result<PollAt, Code>) -> Result<i64, Code>
     ensures { result ≡ mapped due_out answer }
 {
     match answer {
-        Ok(PollAt::Now) => Ok(0),
-        Ok(PollAt::Time(moment)) => Ok(moment.total_micros()),
-        Ok(PollAt::Ingress) => Ok(i64::MAX),
+        Ok(at) => Ok(moment_of(at)),
         Err(code) => Err(code),
     }
 }
@@ -293,22 +301,27 @@ fn kind_of(family: u8) -> Result<DnsQueryType, Code>
     }
 }
 
-/// Asks for the addresses of a name, of a family.
-#[unsafe(no_mangle)]
-pub extern "C" fn zv_dns_ask(alloc: Global, handle: &mut Handle, name: &[u8], family: u8) -> u32
-    ensures { Where (kind_of family) result (handle.new.inside ≡ handle.old.inside)
-        (λ kind. Acts (NameIsAsked name.now kind) handle.old.inside result handle.new.inside) }
+fn ask(alloc: Global, handle: &mut Handle, name: &[u8], kind: DnsQueryType) -> u32
+    ensures { Acts (NameIsAsked name.now kind) handle.old.inside result handle.new.inside }
 {
-    let kind = match kind_of(family) {
-        Ok(kind) => kind,
-        Err(code) => return code.number(),
-    };
     let Some(mut host) = handle.take(alloc) else {
         return NO_HOST;
     };
     let answer = host.dns_ask(name, kind);
     handle.put(host);
     done(answer)
+}
+
+/// Asks for the addresses of a name, of a family.
+#[unsafe(no_mangle)]
+pub extern "C" fn zv_dns_ask(alloc: Global, handle: &mut Handle, name: &[u8], family: u8) -> u32
+    ensures { Where (kind_of family) result (handle.new.inside ≡ handle.old.inside)
+        (λ kind. Acts (NameIsAsked name.now kind) handle.old.inside result handle.new.inside) }
+{
+    match kind_of(family) {
+        Ok(kind) => ask(alloc, handle, name, kind),
+        Err(code) => code.number(),
+    }
 }
 
 /// Hands the client a datagram that a socket received, at its own address and port.
@@ -375,18 +388,24 @@ pub extern "C" fn zv_dns_sent(alloc: Global, handle: &mut Handle, sent: u8) -> u
     done(answer)
 }
 
+fn addresses_of(found: &dns::Addresses) -> Addresses
+    ensures { result ≡ addresses_out found.now }
+{
+    Addresses {
+        at: [
+            said_or_none(found[0]),
+            said_or_none(found[1]),
+            said_or_none(found[2]),
+            said_or_none(found[3]),
+        ],
+    }
+}
+
 fn found(answer: Result<dns::Addresses, Code>) -> Result<Addresses, Code>
     ensures { result ≡ mapped addresses_out answer }
 {
     match answer {
-        Ok([first, second, third, fourth]) => Ok(Addresses {
-            at: [
-                said_or_none(first),
-                said_or_none(second),
-                said_or_none(third),
-                said_or_none(fourth),
-            ],
-        }),
+        Ok(found) => Ok(addresses_of(&found)),
         Err(code) => Err(code),
     }
 }

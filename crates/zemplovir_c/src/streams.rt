@@ -19,6 +19,7 @@ use crate::handle::Handle;
 use crate::types::{Address, Endpoint, listens_at, optional, required_endpoint, said_endpoint};
 use c_sockets::Code;
 use c_sockets::streams::Act;
+use ip_wire::{IpEndpoint, IpListenEndpoint};
 use sockets::tcp::State;
 use std::alloc::Global;
 use std::ptr;
@@ -71,6 +72,29 @@ pub extern "C" fn zv_tcp_listen(
     )
 }
 
+fn connect(
+    alloc: Global,
+    handle: &mut Handle,
+    socket: usize,
+    remote: IpEndpoint,
+    local: IpListenEndpoint,
+) -> u32
+    ensures answer { result ≡ answer_by handle.old.inside
+        (λ host. answer_at as_tcp (λ v. coded of_connect (connect_answer (context_of host.host.inner) v remote local)) host.places socket) }
+    ensures after { handle.new.inside ≡ after_by handle.old.inside (λ host. record host {
+      host = if draws_at as_tcp (λ v. connect_draws (context_of host.host.inner) v remote local) host.places socket
+          then with_inner host.host (drawn host.host.inner) else host.host;
+      places = after_at as_tcp Kind.Tcp (λ v. connect_after (context_of host.host.inner) v remote local) host.places socket;
+    }) }
+{
+    let Some(mut host) = handle.take(alloc) else {
+        return NO_HOST;
+    };
+    let answer = host.tcp_connect(socket, remote, local);
+    handle.put(host);
+    done(answer)
+}
+
 /// Opens a connection to a remote, from a port of one own address or, where the family is 0, of the one that the host chooses.
 #[unsafe(no_mangle)]
 pub extern "C" fn zv_tcp_connect(
@@ -99,12 +123,7 @@ pub extern "C" fn zv_tcp_connect(
         Ok(address) => address,
         Err(code) => return code.number(),
     };
-    let Some(mut host) = handle.take(alloc) else {
-        return NO_HOST;
-    };
-    let answer = host.tcp_connect(socket, remote, listens_at(address, port));
-    handle.put(host);
-    done(answer)
+    connect(alloc, handle, socket, remote, listens_at(address, port))
 }
 
 /// Queues as many of the bytes as there is room for.
