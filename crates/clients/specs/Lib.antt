@@ -6,6 +6,7 @@ pub use Rattle.dhcpv4.specs.States as DhcpStates
 pub use Rattle.dhcpv4.specs.Value as DhcpValue
 pub use Rattle.dhcpv4.specs.declared.config.Config as DhcpConfig
 pub use Rattle.dhcpv4.specs.declared.config.Event as DhcpEvent
+pub use Rattle.dhcpv4.specs.declared.request.Kind as DhcpKind
 pub use Rattle.dhcpv4.specs.declared.state.Turn as DhcpTurn
 pub use Rattle.dns_socket.specs.Offers as DnsOffers
 pub use Rattle.dns_socket.specs.Processed as DnsProcessed

@@ -1,5 +1,5 @@
 -- The laws of a socket of any kind, from those of each kind.
-use Rattle.std.proofs.Common.{◌≡◌, ℕ, Bool, true, false, ℤ, List, Option, Some, None, is_some, if◌then◌else◌, IsSome, refl, sym, ap, ◌∙◌}
+use Rattle.std.proofs.Common.{◌≡◌, ℕ, Bool, true, false, ℤ, List, Option, Some, None, is_some, if◌then◌else◌, IsSome, ◌↔◌, refl, sym, ap, ◌∙◌}
 use Rattle.datagram_sockets.specs.Packets.{first}
 use Rattle.datagram_sockets.specs.Context.{ContextValue}
 use Rattle.datagram_sockets.specs.BaseOffers.{IsBefore}
@@ -20,7 +20,8 @@ use Rattle.clients.proofs.DhcpTurns as Dhcps
 use Rattle.clients.specs.DhcpValue.{DhcpValue}
 use Rattle.clients.proofs.DnsTurns as Dnss
 use Rattle.clients.specs.DnsValue.{DnsValue}
-use Rattle.sockets.proofs.Clients.{dhcp_packet, dhcp_same, dhcp_unoffered, dhcp_offered, dhcp_again, dns_packet, dns_same, dns_again, dns_once}
+use Rattle.sockets.proofs.Clients.{dhcp_packet, dhcp_same, dhcp_unoffered, dhcp_offered, dhcp_again, dns_packet, dns_same, dns_unoffered, dns_offered}
+use Rattle.sockets.proofs.Clients.{dns_again, dns_once}
 use Rattle.sockets.proofs.Connections.{said_packet, said_same, silent_before}
 use Rattle.sockets.specs.Socket.{Offers, offered_by, settled, poll_of, IsSameButForPlaces, IsOfDatagrams}
 use Rattle.sockets.specs.declared.socket.Socket.{Socket}
@@ -130,21 +131,29 @@ module _ (raw : Again Raws.RawValue (λ v. v.offered) (Datagrams.settled false) 
   again cx (Kind.Dns v) (Kind.Dns v') answer of offers some = dns_again cx v v' answer offers some
   again cx s s' answer of offers some = absurd offers
 
--- an open offer doesn't count
-pub closed : (cx : ContextValue) (s s' : Socket) (answer : Answer.Offer) → Offers cx s answer s' → Offers cx (settled false s) answer s'
-closed cx (Kind.Raw v) (Kind.Raw v') answer offers = offers
-closed cx (Kind.Icmp v) (Kind.Icmp v') answer offers = offers
-closed cx (Kind.Udp v) (Kind.Udp v') answer offers = offers
-closed cx (Kind.Tcp v) (Kind.Tcp v') answer offers = offers
-closed cx (Kind.Dhcpv4 v) (Kind.Dhcpv4 v') answer offers = dhcp_unoffered cx v v' answer offers
-closed cx (Kind.Dns v) (Kind.Dns v') answer offers = offers
-closed cx s s' answer offers = absurd offers
+abbrev pub Settles : (V : Type 0) → (V → V) → (ContextValue → V → Answer.Offer → V → Type 0) → Type 0
+Settles V unsent Gives = (cx : ContextValue) (v v' : V) (answer : Answer.Offer) → Gives cx (unsent v) answer v' ↔ Gives cx v answer v'
 
-pub unclosed : (cx : ContextValue) (s s' : Socket) (answer : Answer.Offer) → Offers cx (settled false s) answer s' → Offers cx s answer s'
-unclosed cx (Kind.Raw v) (Kind.Raw v') answer offers = offers
-unclosed cx (Kind.Icmp v) (Kind.Icmp v') answer offers = offers
-unclosed cx (Kind.Udp v) (Kind.Udp v') answer offers = offers
-unclosed cx (Kind.Tcp v) (Kind.Tcp v') answer offers = offers
-unclosed cx (Kind.Dhcpv4 v) (Kind.Dhcpv4 v') answer offers = dhcp_offered cx v v' answer offers
-unclosed cx (Kind.Dns v) (Kind.Dns v') answer offers = offers
-unclosed cx s s' answer offers = absurd offers
+-- an open offer doesn't count
+module _ (raw : Settles Raws.RawValue (Datagrams.settled false) Raws.Offers) (icmp : Settles Icmps.IcmpValue (Datagrams.settled false) Icmps.Offers)
+    (udp : Settles Udps.UdpValue (Datagrams.settled false) Udps.Offers) where
+  closed : (cx : ContextValue) (s s' : Socket) (answer : Answer.Offer) → Offers cx s answer s' → Offers cx (settled false s) answer s'
+  closed cx (Kind.Raw v) (Kind.Raw v') answer offers = (raw cx v v' answer).1 offers
+  closed cx (Kind.Icmp v) (Kind.Icmp v') answer offers = (icmp cx v v' answer).1 offers
+  closed cx (Kind.Udp v) (Kind.Udp v') answer offers = (udp cx v v' answer).1 offers
+  closed cx (Kind.Tcp v) (Kind.Tcp v') answer offers = offers
+  closed cx (Kind.Dhcpv4 v) (Kind.Dhcpv4 v') answer offers = dhcp_unoffered cx v v' answer offers
+  closed cx (Kind.Dns v) (Kind.Dns v') answer offers = dns_unoffered cx v v' answer offers
+  closed cx s s' answer offers = absurd offers
+
+  unclosed : (cx : ContextValue) (s s' : Socket) (answer : Answer.Offer) → Offers cx (settled false s) answer s' → Offers cx s answer s'
+  unclosed cx (Kind.Raw v) (Kind.Raw v') answer offers = (raw cx v v' answer).0 offers
+  unclosed cx (Kind.Icmp v) (Kind.Icmp v') answer offers = (icmp cx v v' answer).0 offers
+  unclosed cx (Kind.Udp v) (Kind.Udp v') answer offers = (udp cx v v' answer).0 offers
+  unclosed cx (Kind.Tcp v) (Kind.Tcp v') answer offers = offers
+  unclosed cx (Kind.Dhcpv4 v) (Kind.Dhcpv4 v') answer offers = dhcp_offered cx v v' answer offers
+  unclosed cx (Kind.Dns v) (Kind.Dns v') answer offers = dns_offered cx v v' answer offers
+  unclosed cx s s' answer offers = absurd offers
+
+  pub settles : (cx : ContextValue) (s s' : Socket) (answer : Answer.Offer) → Offers cx (settled false s) answer s' ↔ Offers cx s answer s'
+  settles cx s s' answer = (unclosed cx s s' answer, closed cx s s' answer)

@@ -1,5 +1,6 @@
 -- What an offer of a client answers and leaves.
-use Rattle.std.proofs.Common.{◌≡◌, true, false, List, Option, Some, None, IsSome, refl, sym, ap, ◌∙◌, subst}
+use Rattle.std.proofs.Common.{◌≡◌, true, false, if◌then◌else◌, int_lt, int_le, List, Option, Some, None, IsSome, refl, sym, ap, ◌∙◌, subst}
+use Rattle.ip_wire.specs.IpAddress.{IpAddress}
 use Rattle.datagram_sockets.specs.Context.{ContextValue}
 use Rattle.datagram_sockets.specs.Packet.{PacketValue}
 use Rattle.datagram_sockets.specs.Offer as Answer
@@ -9,9 +10,12 @@ use Rattle.clients.specs.DhcpOffers as DhcpOffers
 use Rattle.clients.specs.DhcpStates as DhcpStates
 use Rattle.clients.specs.DhcpValue as Dhcps
 use Rattle.clients.specs.DhcpValue.{DhcpValue}
+use Rattle.clients.specs.DhcpKind.{Kind}
+use Rattle.clients.specs.DhcpKind.TheVariants as K
 use Rattle.clients.specs.DhcpTurn as DhcpTurn
 use Rattle.clients.specs.DhcpTurn.TheVariants as D
 use Rattle.clients.specs.DnsOffers as DnsOffers
+use Rattle.clients.specs.DnsTurns.{due_at}
 use Rattle.clients.specs.DnsValue as Dnss
 use Rattle.clients.specs.DnsValue.{DnsValue}
 use Rattle.clients.specs.DnsQuery.{Query}
@@ -44,17 +48,27 @@ module _ (cx : ContextValue) (v v' : DhcpValue) (answer : Answer.Offer) where
   dhcp_same offers same = dhcp_stays (DhcpStates.turn_of cx.moment v.settings.retry.request_retries v.state) offers same
 
   -- an offer that is open doesn't count
+  dhcp_closed_for : (kind : Kind) → DhcpOffers.Sends cx.moment cx.ip_mtu v kind v' → DhcpOffers.Sends cx.moment cx.ip_mtu (Dhcps.unoffered v) kind v'
+  dhcp_closed_for K.Discover s = record { message = s.message; is_request = s.is_request; offers = s.offers }
+  dhcp_closed_for (K.Request to) s = record { message = s.message; is_request = s.is_request; offers = s.offers }
+  dhcp_closed_for (K.Renew lease) s = record { message = s.message; is_request = s.is_request; offers = s.offers }
+  dhcp_closed_for (K.Rebind lease) s = record { message = s.message; is_request = s.is_request; offers = s.offers }
+
+  dhcp_open_for : (kind : Kind) → DhcpOffers.Sends cx.moment cx.ip_mtu (Dhcps.unoffered v) kind v' → DhcpOffers.Sends cx.moment cx.ip_mtu v kind v'
+  dhcp_open_for K.Discover s = record { message = s.message; is_request = s.is_request; offers = s.offers }
+  dhcp_open_for (K.Request to) s = record { message = s.message; is_request = s.is_request; offers = s.offers }
+  dhcp_open_for (K.Renew lease) s = record { message = s.message; is_request = s.is_request; offers = s.offers }
+  dhcp_open_for (K.Rebind lease) s = record { message = s.message; is_request = s.is_request; offers = s.offers }
+
   dhcp_closed : (turn : DhcpTurn.Turn) → DhcpOffers.OffersAs turn cx v answer v' → DhcpOffers.OffersAs turn cx (Dhcps.unoffered v) answer v'
   dhcp_closed D.Wait offers = offers
   dhcp_closed D.GiveUp offers = offers
-  dhcp_closed (D.Send kind) offers =
-      (offers.0, record { message = offers.1.message; is_request = offers.1.is_request; offers = offers.1.offers })
+  dhcp_closed (D.Send kind) offers = (offers.0, dhcp_closed_for kind offers.1)
 
   dhcp_open : (turn : DhcpTurn.Turn) → DhcpOffers.OffersAs turn cx (Dhcps.unoffered v) answer v' → DhcpOffers.OffersAs turn cx v answer v'
   dhcp_open D.Wait offers = offers
   dhcp_open D.GiveUp offers = offers
-  dhcp_open (D.Send kind) offers =
-      (offers.0, record { message = offers.1.message; is_request = offers.1.is_request; offers = offers.1.offers })
+  dhcp_open (D.Send kind) offers = (offers.0, dhcp_open_for kind offers.1)
 
   pub dhcp_unoffered : DhcpOffers.Offers cx v answer v' → DhcpOffers.Offers cx (Dhcps.unoffered v) answer v'
   dhcp_unoffered offers = dhcp_closed (DhcpStates.turn_of cx.moment v.settings.retry.request_retries v.state) offers
@@ -106,9 +120,42 @@ module _ (cx : ContextValue) (v v' : DnsValue) (answer : Answer.Offer) where
   dns_kept N.Next offers some = absurd (subst (λ (w : DnsValue). IsSome (Dnss.offered_packet w)) offers.1 some)
   dns_kept (N.Send s) offers some = ap (λ (w : DnsValue). Dnss.unoffered w) offers.1
 
+  -- an offer that is open doesn't count
+  same_server : (server : Option IpAddress) (q : Query) → DnsOffers.sent_to server cx (Dnss.unoffered v) q ≡ DnsOffers.sent_to server cx v q
+  same_server None q = refl
+  same_server (Some server) q = refl
+
+  same_turn : (state : State) → DnsOffers.turn_in state cx (Dnss.unoffered v) ≡ DnsOffers.turn_in state cx v
+  same_turn S.Idle = refl
+  same_turn (S.Pending q) =
+      ap (λ (t : DnsTurn.Turn). if int_lt cx.moment (due_at q) then N.Wait else if int_le q.next_at cx.moment then N.Next else t)
+      (same_server (Dnss.server_at v.servers q.server) q)
+  same_turn (S.Completed found) = refl
+  same_turn S.Failed = refl
+
+  dns_closed : (turn : DnsTurn.Turn) → DnsOffers.OffersAs turn cx v answer v' → DnsOffers.OffersAs turn cx (Dnss.unoffered v) answer v'
+  dns_closed N.Wait offers = offers
+  dns_closed N.Next offers = offers
+  dns_closed (N.Send s) offers = offers
+
+  dns_open : (turn : DnsTurn.Turn) → DnsOffers.OffersAs turn cx (Dnss.unoffered v) answer v' → DnsOffers.OffersAs turn cx v answer v'
+  dns_open N.Wait offers = offers
+  dns_open N.Next offers = offers
+  dns_open (N.Send s) offers = offers
+
+  pub dns_unoffered : DnsOffers.Offers cx v answer v' → DnsOffers.Offers cx (Dnss.unoffered v) answer v'
+  dns_unoffered offers =
+      subst (λ (t : DnsTurn.Turn). DnsOffers.OffersAs t cx (Dnss.unoffered v) answer v') (sym (same_turn v.state))
+      (dns_closed (DnsOffers.turn_in v.state cx v) offers)
+
+  pub dns_offered : DnsOffers.Offers cx (Dnss.unoffered v) answer v' → DnsOffers.Offers cx v answer v'
+  dns_offered offers =
+      dns_open (DnsOffers.turn_in v.state cx v)
+      (subst (λ (t : DnsTurn.Turn). DnsOffers.OffersAs t cx (Dnss.unoffered v) answer v') (same_turn v.state) offers)
+
   pub dns_again : DnsOffers.Offers cx v answer v' → IsSome (Dnss.offered_packet v') → DnsOffers.Offers cx (Dnss.unoffered v') answer v'
   dns_again offers some =
-      subst (λ (w : DnsValue). DnsOffers.Offers cx w answer v') (sym (dns_kept (DnsOffers.turn_in v.state cx v) offers some)) offers
+      subst (λ (w : DnsValue). DnsOffers.Offers cx w answer v') (sym (dns_kept (DnsOffers.turn_in v.state cx v) offers some)) (dns_unoffered offers)
 
 -- what an offer answers and leaves is determined
 pub dns_once : (cx : ContextValue) (v left right : DnsValue) (answer other : Answer.Offer) → DnsOffers.Offers cx v answer left →
