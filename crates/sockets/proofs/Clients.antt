@@ -28,6 +28,9 @@ use Rattle.clients.specs.DnsState.TheVariants as S
 silent_changes : (answer : Answer.Offer) → answer ≡ Offer.Silent true → changed_by answer ≡ false → ⊥
 silent_changes answer is same = let clash : true ≡ false = sym (ap changed_by is) ∙ same in cc
 
+no_packet : false ≡ true → ⊥
+no_packet is = cc
+
 -- THE CLIENT OF DHCP
 
 module _ (cx : ContextValue) (v v' : DhcpValue) (answer : Answer.Offer) where
@@ -78,7 +81,7 @@ module _ (cx : ContextValue) (v v' : DhcpValue) (answer : Answer.Offer) where
 
   dhcp_kept : (turn : DhcpTurn.Turn) → DhcpOffers.OffersAs turn cx v answer v' → IsSome (Dhcps.offered_packet v') → Dhcps.unoffered v' ≡ Dhcps.unoffered v
   dhcp_kept D.Wait offers some = ap (λ (w : DhcpValue). Dhcps.unoffered w) offers.1
-  dhcp_kept D.GiveUp offers some = absurd (subst (λ (w : DhcpValue). IsSome (Dhcps.offered_packet w)) offers.1 some)
+  dhcp_kept D.GiveUp offers some = absurd (no_packet (subst (λ (w : DhcpValue). IsSome (Dhcps.offered_packet w)) offers.1 some))
   dhcp_kept (D.Send kind) offers some = ap (λ (w : DhcpValue). Dhcps.unoffered w) offers.1.offers
 
   pub dhcp_again : DhcpOffers.Offers cx v answer v' → IsSome (Dhcps.offered_packet v') → DhcpOffers.Offers cx (Dhcps.unoffered v') answer v'
@@ -117,7 +120,7 @@ module _ (cx : ContextValue) (v v' : DnsValue) (answer : Answer.Offer) where
 
   dns_kept : (turn : DnsTurn.Turn) → DnsOffers.OffersAs turn cx v answer v' → IsSome (Dnss.offered_packet v') → Dnss.unoffered v' ≡ Dnss.unoffered v
   dns_kept N.Wait offers some = ap (λ (w : DnsValue). Dnss.unoffered w) offers.1
-  dns_kept N.Next offers some = absurd (subst (λ (w : DnsValue). IsSome (Dnss.offered_packet w)) offers.1 some)
+  dns_kept N.Next offers some = absurd (no_packet (subst (λ (w : DnsValue). IsSome (Dnss.offered_packet w)) offers.1 some))
   dns_kept (N.Send s) offers some = ap (λ (w : DnsValue). Dnss.unoffered w) offers.1
 
   -- an offer that is open doesn't count
