@@ -1,5 +1,5 @@
 -- The laws of a socket of any kind, from those of each kind.
-use Rattle.std.proofs.Common.{◌≡◌, ℕ, Bool, true, false, ℤ, List, Option, Some, None, is_some, if◌then◌else◌, IsSome, ◌↔◌, refl, sym, ap, ◌∙◌}
+use Rattle.std.proofs.Common.{◌≡◌, ℕ, false, ℤ, List, Option, Some, None, is_some, if◌then◌else◌, IsSome, ◌↔◌, sym, ap, ◌∙◌}
 use Rattle.datagram_sockets.specs.Packets.{first}
 use Rattle.datagram_sockets.specs.Context.{ContextValue}
 use Rattle.datagram_sockets.specs.BaseOffers.{IsBefore}

@@ -1,8 +1,7 @@
 -- What an offer of a client answers and leaves.
-use Rattle.std.proofs.Common.{◌≡◌, true, false, if◌then◌else◌, int_lt, int_le, List, Option, Some, None, IsSome, refl, sym, ap, ◌∙◌, subst}
+use Rattle.std.proofs.Common.{◌≡◌, true, false, if◌then◌else◌, int_lt, int_le, Option, Some, None, IsSome, refl, sym, ap, ◌∙◌, subst}
 use Rattle.ip_wire.specs.IpAddress.{IpAddress}
 use Rattle.datagram_sockets.specs.Context.{ContextValue}
-use Rattle.datagram_sockets.specs.Packet.{PacketValue}
 use Rattle.datagram_sockets.specs.Offer as Answer
 use Rattle.datagram_sockets.specs.Offer.TheVariants as Offer
 use Rattle.datagram_sockets.specs.Offers.{HasPacket, changed_by}

@@ -1,6 +1,6 @@
 -- A socket of any kind, the clients of DHCP and DNS among them: what it offers, how an offer is settled, when it wants to be polled,
 -- and what is for it.
-use Rattle.std.specs.Prelude.{◌≡◌, ℕ, Bool, false, List, Option, None, Some, IfSome}
+use Rattle.std.specs.Prelude.{◌≡◌, ℕ, Bool, false, List, Option, IfSome}
 use Rattle.ip_wire.specs.IpAddress.{IpAddress}
 use Rattle.ip_wire.specs.IpRepr.{IpRepr}
 use Rattle.ip_wire.specs.UdpRepr.{UdpRepr}
