@@ -1,4 +1,4 @@
--- Raw sockets that queue no packet of TCP or UDP.
+-- Raw sockets that queue no packet of TCP or UDP, and no clients of DHCP and DNS: their datagrams no application sends.
 use Rattle.std.specs.Prelude.{◌≡◌, false, List, Option, None, Some}
 use Rattle.std.specs.List.{AllByRecursion}
 use Rattle.lan_frames.specs.Medium.TheVariants as Medium
@@ -17,9 +17,11 @@ OfItem W (Some item) = W item.socket
 abbrev pub OfEach : (Socket → Type 0) → List (SocketStorage Socket) → Type 0
 OfEach W places = AllByRecursion (λ p. OfItem W p.inner) places
 
--- each queued packet of a raw socket names neither TCP nor UDP
+-- each queued packet of a raw socket names neither TCP nor UDP; and it is no client
 abbrev pub QueuesForeign : Socket → Type 0
 QueuesForeign (Is.Raw v) = AllByRecursion (λ q. names_tcp_or_udp Medium.Ip q.1 ≡ false) (contents v.queued)
 QueuesForeign (Is.Icmp v) = Unit {0}
 QueuesForeign (Is.Udp v) = Unit {0}
 QueuesForeign (Is.Tcp v) = Unit {0}
+QueuesForeign (Is.Dhcpv4 v) = ⊥
+QueuesForeign (Is.Dns v) = ⊥
