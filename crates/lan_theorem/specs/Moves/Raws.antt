@@ -1,4 +1,4 @@
--- Raw sockets that queue no packet of TCP or UDP.
+-- Of each socket of a host: raw sockets that queue no packet of TCP or UDP, and hosts without a UDP socket.
 use Rattle.std.specs.Prelude.{◌≡◌, false, List, Option, None, Some}
 use Rattle.std.specs.List.{AllByRecursion}
 use Rattle.lan_frames.specs.Medium.TheVariants as Medium
@@ -23,3 +23,10 @@ QueuesForeign (Is.Raw v) = AllByRecursion (λ q. names_tcp_or_udp Medium.Ip q.1 
 QueuesForeign (Is.Icmp v) = Unit {0}
 QueuesForeign (Is.Udp v) = Unit {0}
 QueuesForeign (Is.Tcp v) = Unit {0}
+
+-- a socket of another kind
+abbrev pub HasNoUdp : Socket → Type 0
+HasNoUdp (Is.Udp v) = ⊥
+HasNoUdp (Is.Raw v) = Unit {0}
+HasNoUdp (Is.Icmp v) = Unit {0}
+HasNoUdp (Is.Tcp v) = Unit {0}
