@@ -83,7 +83,9 @@ module _ (q : Party) (first next : ℕ) (out : List PacketValue) (sent : AreSent
   protocol_is h payload o = ap (λ (x : IpRepr). carried_in (upper_header (Ips.normal x) (bytes_of o.sent.packet))) o.sent.header ∙ sym (ap (λ (k : Ipv4FragKey). k.protocol) o.key_is)
 
   named_is : (h : Ipv4Repr) (payload : List ℕ) (o : IsPayloadOf out h payload) → carried_in o.sent.packet.header ≡ h.next_header
-  named_is h payload o = ap carried_in o.sent.header ∙ sym (ap (λ (k : Ipv4FragKey). k.protocol) o.key_is)
+  named_is h payload o =
+      let same : h.next_header ≡ o.sent_header.next_header = ap (λ (k : Ipv4FragKey). k.protocol) o.key_is in
+      ap carried_in o.sent.header ∙ sym same
 
   made_of_one : (h : Ipv4Repr) (payload : List ℕ) (o : IsPayloadOf out h payload) → NamesPorts h →
       CanBeRead o.sent.packet.header o.sent.packet.payload × HasMade q (normal_payload o.sent.packet.payload)

@@ -28,12 +28,13 @@ use Rattle.lan_packets.specs.Parties as Parties
 use Rattle.lan_packets.specs.Parties.{Socket, Party, Net, party, with_party, socket_at}
 use Rattle.lan_packets.specs.Parties.Socket.{Tcp, Udp, Icmp, Raw}
 use Rattle.lan_hosts.specs.Kinds.{other}
+use Rattle.lan_hosts.specs.Safe.{seen_in}
 use Rattle.lan_hosts.specs.Runs.{Starts, WorldValue, start}
 use Rattle.lan_hosts.specs.Station.{station}
 use Rattle.lan_theorem.specs.Link.Made.{sealed}
 use Rattle.lan_theorem.specs.Moves.Follows.{seen_place, sockets_of}
 use Rattle.lan_theorem.specs.Moves.Joined.{first_net}
-use Rattle.lan_theorem.specs.Moves.Raws.{OfEach, HasNoUdp}
+use Rattle.lan_theorem.specs.Moves.Raws.{OfItem, OfEach, HasNoUdp}
 use Rattle.lan_theorem.specs.Rebuilt.{HasMade, IsOfMade, Rebuilds, RebuiltWasMade}
 
 abbrev IsNoUdp : Option Socket → Type 0
@@ -119,22 +120,20 @@ none_made names net (step ∷ steps) side may none =
     none_made names (after net step) steps side may.1 (stepped names net step.side step.move side may.0 none)
 
 -- the sockets of a host, as moves see them
-place_seen : (place : SocketStorage Sockets.Socket) → OfEach HasNoUdp (place ∷ []) → IsNoUdp (seen_place place)
-place_seen place none = by place.inner none.0 where
-  by : (inner : Option (Item Sockets.Socket)) → OfEach HasNoUdp (record { inner = inner } ∷ []) → IsNoUdp (seen_place (record { inner = inner }))
-  by None none = tt
-  by (Some item) none = of item.socket none.0 where
-    of : (s : Sockets.Socket) → HasNoUdp s → IsNoUdp (seen_place (record { inner = Some (record { meta = item.meta; socket = s }) }))
-    of (Is.Raw v) none = tt
-    of (Is.Icmp v) none = tt
-    of (Is.Udp v) none = absurd none
-    of (Is.Tcp v) none = tt
-    of (Is.Dhcpv4 v) none = absurd none
-    of (Is.Dns v) none = absurd none
+place_seen : (inner : Option (Item Sockets.Socket)) → OfItem HasNoUdp inner → IsNoUdp (seen_place (record { inner = inner }))
+place_seen None none = tt
+place_seen (Some item) none = of item.socket none where
+  of : (s : Sockets.Socket) → HasNoUdp s → IsNoUdp (seen_in (Some s))
+  of (Is.Raw v) none = tt
+  of (Is.Icmp v) none = tt
+  of (Is.Udp v) none = absurd none
+  of (Is.Tcp v) none = tt
+  of (Is.Dhcpv4 v) none = absurd none
+  of (Is.Dns v) none = absurd none
 
 pub none_seen : (places : List (SocketStorage Sockets.Socket)) → OfEach HasNoUdp places → NoneIs (sockets_of places)
 none_seen [] none = tt
-none_seen (place ∷ places) none = (place_seen place (none.0, tt), none_seen places none.1)
+none_seen (place ∷ places) none = (place_seen place.inner none.0, none_seen places none.1)
 
 -- WHAT WAS REBUILT
 
@@ -169,7 +168,9 @@ made_by_socket q ip (Bytes bytes) named is made none = absurd made
 module _ (q : Party) (h : Ipv4Repr) (payload : List ℕ) (o : IsOfMade q h payload) where
   -- the packet's header names what is carried
   named_so : carried_in o.packet.header ≡ h.next_header
-  named_so = ap carried_in o.header_is ∙ sym (ap (λ (k : Ipv4FragKey). k.protocol) o.key_is)
+  named_so =
+      let same : h.next_header ≡ o.header.next_header = ap (λ (k : Ipv4FragKey). k.protocol) o.key_is in
+      ap carried_in o.header_is ∙ sym same
 
   pub made_long : 8 ≤ length payload
   made_long = subst (λ (xs : List ℕ). 8 ≤ length xs) (sym o.bytes_are) (long q o.packet.header o.packet.payload o.made)
