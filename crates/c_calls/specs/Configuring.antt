@@ -1,7 +1,7 @@
 -- What calls of the clients of DHCP and DNS make of a host: nothing changes but the client, and the random words where a query begins.
 use Rattle.std.specs.Prelude.{◌≡◌, ℕ, is_ok, if◌then◌else◌, List, Option, Result}
-use Rattle.dhcpv4.specs.Value.{DhcpValue}
-use Rattle.dns_socket.specs.Value.{DnsValue}
+use Rattle.sockets.specs.DhcpValue.{DhcpValue}
+use Rattle.sockets.specs.DnsValue.{DnsValue}
 use Rattle.dns_wire.specs.declared.codes.DnsQueryType.{DnsQueryType}
 use Rattle.interface.specs.Host.{HostValue}
 use Rattle.interface.specs.Inner.{context_of, drawn}

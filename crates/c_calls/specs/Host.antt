@@ -6,8 +6,8 @@ use Rattle.interface.specs.Host.{HostValue}
 use Rattle.interface.specs.SocketStorage.{SocketStorage}
 use Rattle.sockets.specs.declared.socket.Socket.{Socket}
 use Rattle.tcp_listener.specs.declared.listener.Listener.{Listener}
-use Rattle.dhcpv4.specs.Value.{DhcpValue}
-use Rattle.dns_socket.specs.Value.{DnsValue}
+use Rattle.sockets.specs.DhcpValue.{DhcpValue}
+use Rattle.sockets.specs.DnsValue.{DnsValue}
 
 pub record StackValue : Type 0 where
   pub link : LinkValue

@@ -10,11 +10,11 @@ ghost use Rattle.c_calls.specs.Configuring.{LeaseArrives, LeaseGoes, AsksName, A
 
 use crate::host::Host;
 use c_sockets::{Code, Sending, leases, names};
-use clients::dhcp::Event;
-use clients::dns::{Addresses, DnsQueryType};
 use ip_wire::{IpAddress, IpEndpoint};
 use net_base::Instant;
 use sockets::PollAt;
+use sockets::dhcp::Event;
+use sockets::dns::{Addresses, DnsQueryType};
 
 impl Host {
     /// A client of DHCP for this station, in place of one that there was. The seed is that of its random words.

@@ -1,12 +1,12 @@
 -- The calls of a client of DHCP, where there is one.
 use Rattle.std.specs.Prelude.{◌≡◌, ℕ, ℤ, Bool, List, length, Option, None, Some, Result, Ok, Err}
-use Rattle.dhcpv4.specs.Value as Dhcp
-use Rattle.dhcpv4.specs.Value.{DhcpValue}
-use Rattle.dhcpv4.specs.Events.{fresh, event_of, untold}
-use Rattle.dhcpv4.specs.Offers.{Offers}
-use Rattle.dhcpv4.specs.Answers.{Processed}
-use Rattle.dhcpv4.specs.States.{poll_of}
-use Rattle.dhcpv4.specs.declared.config.Event.{Event}
+use Rattle.sockets.specs.DhcpValue as Dhcp
+use Rattle.sockets.specs.DhcpValue.{DhcpValue}
+use Rattle.sockets.specs.DhcpEvents.{fresh, event_of, untold}
+use Rattle.sockets.specs.DhcpOffers.{Offers}
+use Rattle.sockets.specs.DhcpAnswers.{Processed}
+use Rattle.sockets.specs.DhcpStates.{poll_of}
+use Rattle.sockets.specs.DhcpEvent.{Event}
 use Rattle.ip_wire.specs.HardwareAddress.{HardwareAddress}
 use Rattle.ip_wire.specs.HardwareAddress.TheVariants as Hardware
 use Rattle.ip_wire.specs.IpAddress.{IpAddress}

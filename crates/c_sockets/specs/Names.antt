@@ -1,16 +1,16 @@
 -- The calls of a client of DNS, where there is one.
 use Rattle.std.specs.Prelude.{◌≡◌, ℕ, ℤ, Bool, List, length, Option, None, Some, Result, Ok, Err}
-use Rattle.dns_socket.specs.Value as Dns
-use Rattle.dns_socket.specs.Value.{DnsValue, result_of, told}
-use Rattle.dns_socket.specs.Offers.{Offers}
-use Rattle.dns_socket.specs.Processed.{Processed}
-use Rattle.dns_socket.specs.Starts.{Starts}
-use Rattle.dns_socket.specs.Turns.{poll_of}
+use Rattle.sockets.specs.DnsValue as Dns
+use Rattle.sockets.specs.DnsValue.{DnsValue, result_of, told}
+use Rattle.sockets.specs.DnsOffers.{Offers}
+use Rattle.sockets.specs.DnsProcessed.{Processed}
+use Rattle.sockets.specs.DnsStarts.{Starts}
+use Rattle.sockets.specs.DnsTurns.{poll_of}
 use Rattle.dns_wire.specs.declared.codes.DnsQueryType.{DnsQueryType}
-use Rattle.dns_socket.specs.declared.error.GetQueryResultError.{GetQueryResultError}
-use Rattle.dns_socket.specs.declared.error.GetQueryResultError.TheVariants as Get
-use Rattle.dns_socket.specs.declared.error.StartQueryError.{StartQueryError}
-use Rattle.dns_socket.specs.declared.error.StartQueryError.TheVariants as Start
+use Rattle.sockets.specs.GetQueryResultError.{GetQueryResultError}
+use Rattle.sockets.specs.GetQueryResultError.TheVariants as Get
+use Rattle.sockets.specs.StartQueryError.{StartQueryError}
+use Rattle.sockets.specs.StartQueryError.TheVariants as Start
 use Rattle.ip_wire.specs.IpAddress.{IpAddress}
 use Rattle.ip_wire.specs.IpEndpoint.{IpEndpoint}
 use Rattle.ip_wire.specs.IpRepr.{IpRepr}

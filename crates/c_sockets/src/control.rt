@@ -60,7 +60,8 @@ fn perform_of(socket: &mut Socket, act: Act) -> Result<(), Code>
 {
     match socket {
         Socket::Icmp(socket) => act_on(socket, act),
-        Socket::Raw(_) | Socket::Udp(_) | Socket::Tcp(_) => Err(Code::WrongKind),
+        Socket::Raw(_) | Socket::Udp(_) | Socket::Tcp(_) | Socket::Dhcpv4(_) | Socket::Dns(_) =>
+            Err(Code::WrongKind),
     }
 }
 
@@ -92,7 +93,8 @@ fn send_of(socket: &mut Socket, bytes: &[u8], remote: IpAddress) -> Result<(), C
             Ok(answer) => Ok(answer),
             Err(error) => Err(of_send(error)),
         },
-        Socket::Raw(_) | Socket::Udp(_) | Socket::Tcp(_) => Err(Code::WrongKind),
+        Socket::Raw(_) | Socket::Udp(_) | Socket::Tcp(_) | Socket::Dhcpv4(_) | Socket::Dns(_) =>
+            Err(Code::WrongKind),
     }
 }
 
@@ -125,6 +127,7 @@ fn recv_of(socket: &mut Socket, out: &mut [u8]) -> Result<(usize, IpAddress), Co
             Ok(answer) => Ok(answer),
             Err(error) => Err(of_recv(error)),
         },
-        Socket::Raw(_) | Socket::Udp(_) | Socket::Tcp(_) => Err(Code::WrongKind),
+        Socket::Raw(_) | Socket::Udp(_) | Socket::Tcp(_) | Socket::Dhcpv4(_) | Socket::Dns(_) =>
+            Err(Code::WrongKind),
     }
 }

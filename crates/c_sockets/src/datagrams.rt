@@ -67,7 +67,8 @@ fn perform_of(socket: &mut Socket, act: Act) -> Result<(), Code>
 {
     match socket {
         Socket::Udp(socket) => act_on(socket, act),
-        Socket::Raw(_) | Socket::Icmp(_) | Socket::Tcp(_) => Err(Code::WrongKind),
+        Socket::Raw(_) | Socket::Icmp(_) | Socket::Tcp(_) | Socket::Dhcpv4(_) | Socket::Dns(_) =>
+            Err(Code::WrongKind),
     }
 }
 
@@ -99,7 +100,8 @@ fn send_of(socket: &mut Socket, bytes: &[u8], metadata: UdpMetadata) -> Result<(
             Ok(answer) => Ok(answer),
             Err(error) => Err(of_send(error)),
         },
-        Socket::Raw(_) | Socket::Icmp(_) | Socket::Tcp(_) => Err(Code::WrongKind),
+        Socket::Raw(_) | Socket::Icmp(_) | Socket::Tcp(_) | Socket::Dhcpv4(_) | Socket::Dns(_) =>
+            Err(Code::WrongKind),
     }
 }
 
@@ -132,6 +134,7 @@ fn recv_of(socket: &mut Socket, out: &mut [u8]) -> Result<(usize, UdpMetadata), 
             Ok(answer) => Ok(answer),
             Err(error) => Err(of_recv(error)),
         },
-        Socket::Raw(_) | Socket::Icmp(_) | Socket::Tcp(_) => Err(Code::WrongKind),
+        Socket::Raw(_) | Socket::Icmp(_) | Socket::Tcp(_) | Socket::Dhcpv4(_) | Socket::Dns(_) =>
+            Err(Code::WrongKind),
     }
 }

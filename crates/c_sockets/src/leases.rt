@@ -4,9 +4,9 @@ ghost use Rattle.c_sockets.specs.Leases.{dhcp_answer, dhcp_made, TakesLease, Lea
 
 use crate::carrying::{Sending, carry, headers};
 use crate::code::Code;
-use clients::dhcp::{Event, Socket};
 use ip_wire::{HardwareAddress, IpAddress, IpEndpoint};
 use net_base::Instant;
+use sockets::dhcp::{Event, Socket};
 use sockets::{Context, PollAt};
 
 /// The port of clients of DHCP.

@@ -28,7 +28,8 @@ fn state_of(socket: &Socket) -> Result<State, Code>
 {
     match socket {
         Socket::Tcp(socket) => Ok(socket.state()),
-        Socket::Raw(_) | Socket::Icmp(_) | Socket::Udp(_) => Err(Code::WrongKind),
+        Socket::Raw(_) | Socket::Icmp(_) | Socket::Udp(_) | Socket::Dhcpv4(_) | Socket::Dns(_) =>
+            Err(Code::WrongKind),
     }
 }
 
@@ -53,7 +54,8 @@ fn ends_of(socket: &Socket) -> Result<(IpEndpoint, IpEndpoint), Code>
 {
     match socket {
         Socket::Tcp(socket) => both_ends(socket),
-        Socket::Raw(_) | Socket::Icmp(_) | Socket::Udp(_) => Err(Code::WrongKind),
+        Socket::Raw(_) | Socket::Icmp(_) | Socket::Udp(_) | Socket::Dhcpv4(_) | Socket::Dns(_) =>
+            Err(Code::WrongKind),
     }
 }
 
@@ -87,7 +89,8 @@ fn queues_of(socket: &Socket) -> Result<(usize, usize), Code>
 {
     match socket {
         Socket::Tcp(socket) => Ok((socket.recv_queue(), socket.send_queue())),
-        Socket::Raw(_) | Socket::Icmp(_) | Socket::Udp(_) => Err(Code::WrongKind),
+        Socket::Raw(_) | Socket::Icmp(_) | Socket::Udp(_) | Socket::Dhcpv4(_) | Socket::Dns(_) =>
+            Err(Code::WrongKind),
     }
 }
 
@@ -113,7 +116,8 @@ fn peek_of(socket: &Socket) -> Result<&[u8], Code>
 {
     match socket {
         Socket::Tcp(socket) => first_bytes(socket),
-        Socket::Raw(_) | Socket::Icmp(_) | Socket::Udp(_) => Err(Code::WrongKind),
+        Socket::Raw(_) | Socket::Icmp(_) | Socket::Udp(_) | Socket::Dhcpv4(_) | Socket::Dns(_) =>
+            Err(Code::WrongKind),
     }
 }
 

@@ -1,15 +1,15 @@
 //! Calls of a client of DNS.
 ghost use Rattle.std.specs.Prelude.{◌≡◌, Err, is_ok, if◌then◌else◌};
 ghost use Rattle.std.specs.Str.{IsUtf8};
-ghost use Rattle.dns_socket.specs.Value.{result_of, told};
+ghost use Rattle.sockets.specs.DnsValue.{result_of, told};
 ghost use Rattle.c_sockets.specs.Codes.{coded};
 ghost use Rattle.c_sockets.specs.Names.{query_made, of_start, of_result, Asks, Asked, TakesAnswer, AnswerTaken, SendsQuery, QuerySent, sent_answer, sent_after};
 ghost use Rattle.c_sockets.specs.Names.{found_answer, found_after, due_answer};
 
 use crate::carrying::{Sending, carry, headers};
 use crate::code::Code;
-use clients::dns::{Addresses, DnsQueryType, GetQueryResultError, Socket, StartQueryError};
 use ip_wire::{IpAddress, IpEndpoint};
+use sockets::dns::{Addresses, DnsQueryType, GetQueryResultError, Socket, StartQueryError};
 use sockets::{Context, PollAt};
 use std::str;
 

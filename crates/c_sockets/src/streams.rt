@@ -96,7 +96,8 @@ fn perform_of(socket: &mut Socket, act: Act) -> Result<(), Code>
 {
     match socket {
         Socket::Tcp(socket) => act_on(socket, act),
-        Socket::Raw(_) | Socket::Icmp(_) | Socket::Udp(_) => Err(Code::WrongKind),
+        Socket::Raw(_) | Socket::Icmp(_) | Socket::Udp(_) | Socket::Dhcpv4(_) | Socket::Dns(_) =>
+            Err(Code::WrongKind),
     }
 }
 
@@ -136,7 +137,8 @@ fn connect_of<C: Context>(
             Ok(answer) => Ok(answer),
             Err(error) => Err(of_connect(error)),
         },
-        Socket::Raw(_) | Socket::Icmp(_) | Socket::Udp(_) => Err(Code::WrongKind),
+        Socket::Raw(_) | Socket::Icmp(_) | Socket::Udp(_) | Socket::Dhcpv4(_) | Socket::Dns(_) =>
+            Err(Code::WrongKind),
     }
 }
 
@@ -163,7 +165,8 @@ fn send_of(socket: &mut Socket, bytes: &[u8]) -> Result<usize, Code>
             Ok(answer) => Ok(answer),
             Err(error) => Err(of_stream_send(error)),
         },
-        Socket::Raw(_) | Socket::Icmp(_) | Socket::Udp(_) => Err(Code::WrongKind),
+        Socket::Raw(_) | Socket::Icmp(_) | Socket::Udp(_) | Socket::Dhcpv4(_) | Socket::Dns(_) =>
+            Err(Code::WrongKind),
     }
 }
 
@@ -196,7 +199,8 @@ fn recv_of(socket: &mut Socket, out: &mut [u8]) -> Result<usize, Code>
             Ok(answer) => Ok(answer),
             Err(error) => Err(of_stream_recv(error)),
         },
-        Socket::Raw(_) | Socket::Icmp(_) | Socket::Udp(_) => Err(Code::WrongKind),
+        Socket::Raw(_) | Socket::Icmp(_) | Socket::Udp(_) | Socket::Dhcpv4(_) | Socket::Dns(_) =>
+            Err(Code::WrongKind),
     }
 }
 
@@ -220,7 +224,8 @@ fn done_of(socket: &mut Socket, count: usize) -> Result<usize, Code>
 {
     match socket {
         Socket::Tcp(socket) => give_up(socket, count),
-        Socket::Raw(_) | Socket::Icmp(_) | Socket::Udp(_) => Err(Code::WrongKind),
+        Socket::Raw(_) | Socket::Icmp(_) | Socket::Udp(_) | Socket::Dhcpv4(_) | Socket::Dns(_) =>
+            Err(Code::WrongKind),
     }
 }
 

@@ -1,3 +1,5 @@
 //! The client of DHCP, and its messages.
-pub use dhcp_wire::{DhcpMessageType, DhcpOpCode, DhcpPacket, DhcpRepr, MAX_DNS_SERVER_COUNT};
-pub use dhcpv4::{ClientState, Config, Event, Lease, RetryConfig, ServerInfo, Socket};
+pub use dhcpv4::{
+    ClientState, Config, DhcpMessageType, DhcpOpCode, DhcpPacket, DhcpRepr, Event, Lease,
+    MAX_DNS_SERVER_COUNT, RetryConfig, ServerInfo, Socket,
+};

@@ -1,9 +1,6 @@
 //! The client of DNS, and its messages.
 pub use dns_socket::{
-    Addresses, GetQueryResultError, MAX_ADDRESSES, MAX_SERVERS, Query, Socket, StartQueryError,
-    State,
-};
-pub use dns_wire::{
-    DnsFlags, DnsName, DnsNameError, DnsOpcode, DnsPacket, DnsQueryType, DnsQuestion, DnsRcode,
-    DnsRecord, DnsRecordData, DnsRepr,
+    Addresses, DnsFlags, DnsName, DnsNameError, DnsOpcode, DnsPacket, DnsQueryType, DnsQuestion,
+    DnsRcode, DnsRecord, DnsRecordData, DnsRepr, GetQueryResultError, MAX_ADDRESSES, MAX_SERVERS,
+    Query, Socket, StartQueryError, State,
 };

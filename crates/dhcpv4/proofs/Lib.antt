@@ -1,5 +1,8 @@
+pub mod Datagrams
 pub mod Ends
 pub mod Given
+pub mod Masks
+pub mod OneMessage
 pub mod Short
 pub mod Turns
 pub mod Taken

@@ -58,3 +58,11 @@ pub fn told_leases_last()
         → event_of (fresh now v) ≡ Some (Told.Configured config)
         → (lease : Lease) × (lease_of v.state ≡ Some lease) × (lease.config ≡ config) × (now <ℤ lease.expires_at) }
 {}
+
+/// Law: what a datagram leaves is determined.
+pub fn one_arrival()
+    ensures { (now : ℤ) (v left right : DhcpValue) (ip : IpRepr) (repr : UdpRepr) (payload : List ℕ)
+        → Processed now v ip repr payload left
+        → Processed now v ip repr payload right
+        → left ≡ right }
+{}

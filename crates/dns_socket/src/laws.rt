@@ -39,3 +39,11 @@ pub fn silence()
         → Offers cx v answer v'
         → (answer ≡ Answer.Silent false) × (v' ≡ settled false v) }
 {}
+
+/// Law: what a datagram leaves is determined.
+pub fn one_arrival()
+    ensures { (now : ℤ) (v left right : DnsValue) (ip : IpRepr) (repr : UdpRepr) (payload : List ℕ)
+        → Processed now v ip repr payload left
+        → Processed now v ip repr payload right
+        → left ≡ right }
+{}

@@ -1,7 +1,7 @@
 //! A client of the domain name system (RFC 1034, RFC 1035): a socket that asks servers for the addresses of a name, and reads
 //! their answers.
 //!
-//! It stands on what sockets of all kinds share, so that an interface can poll it as any other.
+//! It stands on what sockets of all kinds share, so that an interface can poll it as any other, and passes its messages on: `dns_wire`.
 #![tactic(auto)]
 
 mod answer;
@@ -12,7 +12,10 @@ mod records;
 mod socket;
 mod state;
 
-pub use dns_wire::DnsQueryType;
+pub use dns_wire::{
+    DnsFlags, DnsName, DnsNameError, DnsOpcode, DnsPacket, DnsQueryType, DnsQuestion, DnsRcode,
+    DnsRecord, DnsRecordData, DnsRepr,
+};
 pub use error::{GetQueryResultError, StartQueryError};
 pub use query::Query;
 pub use records::{Addresses, MAX_ADDRESSES};

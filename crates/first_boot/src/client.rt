@@ -1,43 +1,37 @@
 //! A host that configures itself.
 ghost use Rattle.net_base.specs.Time.{IsMoment};
 
-use crate::buffers::datagrams;
-use crate::carry::{headers, queue};
 use crate::wire::Wire;
 use anyhow::{Result, anyhow};
-use clients::dhcp::{self, Event};
-use clients::dns::{self, DnsQueryType};
-use interface::{Config, Interface, SocketHandle, SocketSet, earlier};
+use interface::{Config, Interface, SocketHandle, SocketSet};
 use ip_wire::{EthernetAddress, HardwareAddress, IpAddress, IpCidr, Ipv4Address};
 use net_base::{Instant, ManagedSlice};
-use sockets::{Offer, PollAt, Socket, udp};
+use sockets::dhcp::{self, Event};
+use sockets::dns::{self, DnsQueryType};
+use sockets::{AnySocket, Socket};
 use std::alloc::Global;
 
 /// How many frames a poll takes in, and how often it goes over the sockets, at most.
 const BUDGET: u16 = 16;
-/// How many datagrams a socket holds.
-const PLACES: u32 = 4;
 /// The Ethernet address of the host.
 const STATION: EthernetAddress = EthernetAddress([2, 0, 0, 0, 0, 1]);
 
-/// A host at its end of the wire, its two clients, and the sockets that carry their packets.
+/// A host at its end of the wire, with a client of DHCP and one of DNS among its sockets.
 #[derive(Drop)]
 pub struct Client {
     interface: Interface,
     pub wire: Wire,
     sockets: SocketSet<Socket>,
-    dhcp: dhcp::Socket,
-    dhcp_handle: SocketHandle,
-    dns: dns::Socket,
-    dns_handle: SocketHandle,
+    dhcp: SocketHandle,
+    dns: SocketHandle,
 }
 
 impl Client {
     /// A host without an address.
     pub fn new(alloc: Global) -> Result<Client> {
         let mut sockets = SocketSet::new(ManagedSlice::Owned(Vec::new(alloc)));
-        let dhcp_handle = add(&mut sockets, datagrams(alloc, 68)?)?;
-        let dns_handle = add(&mut sockets, datagrams(alloc, 1024)?)?;
+        let dhcp = add(&mut sockets, dhcp::Socket::new(STATION, 1))?;
+        let dns = add(&mut sockets, dns::Socket::new(&[]))?;
         let wire = Wire::new(alloc);
         let config = Config {
             random_seed: 1,
@@ -49,117 +43,76 @@ impl Client {
             interface,
             wire,
             sockets,
-            dhcp: dhcp::Socket::new(STATION, 1),
-            dhcp_handle,
-            dns: dns::Socket::new(&[]),
-            dns_handle,
+            dhcp,
+            dns,
         })
     }
 
-    /// Takes in what came, lets both clients do what is due, and sends what is to be sent.
+    /// Takes in what came and sends what is due, and configures the host by what the client of DHCP tells.
     pub fn poll(&mut self, now: Instant)
         requires { IsMoment now }
     {
         self.interface
             .poll(now, &mut self.wire, &mut self.sockets, BUDGET);
-        self.poll_dhcp();
-        self.configure(now);
-        self.poll_dns();
-        self.interface
-            .poll(now, &mut self.wire, &mut self.sockets, BUDGET);
-    }
-
-    /// What came for the client of DHCP, and what it sends.
-    fn poll_dhcp(&mut self) {
-        let Some(Socket::Udp(socket)) = self.sockets.get_mut(self.dhcp_handle) else {
-            return;
-        };
-        for _ in 0..PLACES {
-            let Ok((bytes, metadata)) = socket.recv() else {
-                break;
-            };
-            if let Some((ip, ports)) = headers(&metadata, 68, bytes.len()) {
-                if self.dhcp.accepts(&self.interface, &ip, &ports) {
-                    self.dhcp.process(&self.interface, &ip, &ports, bytes);
-                }
-            }
-        }
-        if let Offer::Packet { .. } = self.dhcp.offer(&self.interface) {
-            let sent = match self.dhcp.offered() {
-                Some(packet) => queue(&packet, socket),
-                None => false,
-            };
-            self.dhcp.settle(sent);
+        if let Some(event) = self.event(now) {
+            self.configure(event);
         }
     }
 
-    /// Sets the address, the router and the servers of names that the client of DHCP tells of.
-    fn configure(&mut self, now: Instant) {
-        match self.dhcp.poll(now) {
-            Some(Event::Configured(config)) => {
+    /// What the client of DHCP tells.
+    fn event(&mut self, now: Instant) -> Option<Event> {
+        dhcp::Socket::downcast_mut(self.sockets.get_mut(self.dhcp)?)?.poll(now)
+    }
+
+    /// Sets the address, the router and the servers of names.
+    fn configure(&mut self, event: Event) {
+        match event {
+            Event::Configured(config) => {
                 set_address(&mut self.interface, Some(IpCidr::Ipv4(config.address)));
                 if let Some(router) = config.router {
                     set_router(&mut self.interface, router);
                 }
                 if let Some(server) = config.dns_servers[0] {
-                    self.dns.update_servers(&[IpAddress::Ipv4(server)]);
+                    self.set_servers(&[IpAddress::Ipv4(server)]);
                 }
             }
-            Some(Event::Deconfigured) => {
+            Event::Deconfigured => {
                 set_address(&mut self.interface, None);
-                self.dns.update_servers(&[]);
+                self.set_servers(&[]);
             }
-            None => {}
         }
     }
 
-    /// What came for the client of DNS, and what it sends.
-    fn poll_dns(&mut self) {
-        let Some(Socket::Udp(socket)) = self.sockets.get_mut(self.dns_handle) else {
-            return;
-        };
-        let port = socket.endpoint().port;
-        for _ in 0..PLACES {
-            let Ok((bytes, metadata)) = socket.recv() else {
-                break;
-            };
-            if let Some((ip, ports)) = headers(&metadata, port, bytes.len()) {
-                if self.dns.accepts(&self.interface, &ip, &ports) {
-                    self.dns.process(&self.interface, &ip, &ports, bytes);
-                }
-            }
-        }
-        if let Offer::Packet { .. } = self.dns.offer(&self.interface) {
-            let sent = match self.dns.offered() {
-                Some(packet) => queue(&packet, socket),
-                None => false,
-            };
-            self.dns.settle(sent);
+    /// Which servers the client of DNS asks.
+    fn set_servers(&mut self, servers: &[IpAddress]) {
+        if let Some(Socket::Dns(socket)) = self.sockets.get_mut(self.dns) {
+            socket.update_servers(servers);
         }
     }
 
-    /// When one of them wants to be polled.
+    /// When it wants to be polled.
     pub fn poll_at(&mut self, now: Instant) -> Option<Instant>
         requires { IsMoment now }
     {
-        let clients = earlier(
-            moment(self.dhcp.poll_at(&self.interface), now),
-            moment(self.dns.poll_at(&self.interface), now),
-        );
-        earlier(self.interface.poll_at(now, &self.sockets), clients)
+        self.interface.poll_at(now, &self.sockets)
     }
 
     /// Asks for the address of a name.
     pub fn ask(&mut self, name: &str) -> Result<()> {
-        Ok(
-            self.dns
-                .start_query(&mut self.interface, name, DnsQueryType::A)?,
-        )
+        match self.sockets.get_mut(self.dns) {
+            Some(Socket::Dns(socket)) => {
+                Ok(socket.start_query(&mut self.interface, name, DnsQueryType::A)?)
+            }
+            _ => Err(anyhow!("no client of DNS")),
+        }
     }
 
     /// The first address that was found.
     pub fn found(&mut self) -> Result<Option<IpAddress>> {
-        Ok(self.dns.get_query_result()?[0])
+        match self.sockets.get_mut(self.dns) {
+            Some(Socket::Dns(socket)) => Ok(socket.get_query_result()?[0]),
+            _ => Err(anyhow!("no client of DNS")),
+        }
     }
 
     /// The address of the host.
@@ -168,10 +121,10 @@ impl Client {
     }
 }
 
-/// Adds a UDP socket to a set that grows.
-fn add(sockets: &mut SocketSet<Socket>, socket: udp::Socket) -> Result<SocketHandle> {
+/// Adds a socket to a set that grows.
+fn add<S: AnySocket>(sockets: &mut SocketSet<Socket>, socket: S) -> Result<SocketHandle> {
     sockets
-        .add(Socket::Udp(socket))
+        .add(socket.upcast())
         .map_err(|_| anyhow!("no memory for a socket"))
 }
 
@@ -188,13 +141,4 @@ fn set_address(interface: &mut Interface, address: Option<IpCidr>) {
 /// Sets a router for all that isn't near.
 fn set_router(interface: &mut Interface, router: Ipv4Address) {
     let _ = interface.update_routes(|routes| routes.add_default_ipv4_route(router));
-}
-
-/// When a client wants to be polled, if it waits for no packet.
-fn moment(at: PollAt, now: Instant) -> Option<Instant> {
-    match at {
-        PollAt::Now => Some(now),
-        PollAt::Time(moment) => Some(moment),
-        PollAt::Ingress => None,
-    }
 }

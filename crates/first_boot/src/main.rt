@@ -1,9 +1,8 @@
-//! A first boot: a host without an address asks for one by DHCP, and for the address of a name by DNS, over UDP sockets of its
-//! interface. A server at the other end of the wire answers.
+//! A first boot: a host without an address asks for one by DHCP, and for the address of a name by DNS. A server at the other end of
+//! the wire answers.
 #![tactic(auto)]
 
 mod buffers;
-mod carry;
 mod client;
 mod net;
 mod server;

@@ -148,7 +148,7 @@ fn receive<'a>(alloc: Global, socket: &mut Socket, most: usize) -> Result<Answer
         Socket::Udp(socket) => Ok(datagram(alloc, socket, most)?),
         Socket::Icmp(socket) => Ok(message(alloc, socket, most)?),
         Socket::Raw(socket) => Ok(packet(alloc, socket, most)?),
-        Socket::Tcp(_) => Err(Stop::Refused("WrongKind")),
+        Socket::Tcp(_) | Socket::Dhcpv4(_) | Socket::Dns(_) => { Err(Stop::Refused("WrongKind")) }
     }
 }
 

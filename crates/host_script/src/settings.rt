@@ -65,7 +65,9 @@ fn set_hop_limit<'a>(socket: &mut Socket, words: &mut Words<'a>) -> Result<Answe
         Socket::Tcp(socket) => socket.set_hop_limit(hops),
         Socket::Udp(socket) => socket.set_hop_limit(hops),
         Socket::Icmp(socket) => socket.set_hop_limit(hops),
-        Socket::Raw(_) => return Err(Stop::Refused("WrongKind")),
+        Socket::Raw(_) | Socket::Dhcpv4(_) | Socket::Dns(_) => {
+            return Err(Stop::Refused("WrongKind"));
+        }
     }
     Ok(Answer::Done)
 }
@@ -121,6 +123,7 @@ pub fn get<'a>(host: &mut Host, words: &mut Words<'a>) -> Result<Answer, Stop<'a
         Socket::Udp(socket) => get_udp(socket, name),
         Socket::Icmp(socket) => get_icmp(socket, name),
         Socket::Raw(socket) => get_raw(socket, name),
+        Socket::Dhcpv4(_) | Socket::Dns(_) => return Err(Stop::Refused("WrongKind")),
     };
     found.ok_or(Stop::Wrong("setting", name))
 }

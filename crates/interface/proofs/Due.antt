@@ -3,14 +3,14 @@ use Rattle.std.proofs.Common.{◌≡◌, Bool, true, false, not, ◌&&◌, if◌
 use Rattle.std.proofs.Common.{ap, ◌∙◌, subst, arith}
 use Rattle.std.specs.List.{fold}
 use Rattle.std.proofs.lemmas.List.Folds.{fold-map}
-use Rattle.sockets.specs.Polling.{IsBefore}
-use Rattle.sockets.specs.PollAt.{PollAt}
-use Rattle.sockets.specs.PollAt.TheVariants as At
+use Rattle.interface_ingress.specs.Polling.{IsBefore}
+use Rattle.interface_ingress.specs.PollAt.{PollAt}
+use Rattle.interface_ingress.specs.PollAt.TheVariants as At
 use Rattle.interface_tables.specs.Inner.{InnerValue}
 use Rattle.interface_egress.specs.Meta.{waits_by, poll_by}
 use Rattle.interface_egress.specs.declared.socket_meta.Waiting.{Waiting}
 use Rattle.interface_egress.specs.declared.socket_set.SocketStorage.{SocketStorage}
-use Rattle.sockets.specs.declared.socket.Socket.{Socket}
+use Rattle.interface_ingress.specs.Socket.{Socket}
 use Rattle.interface.specs.Instant.{instant_of, earlier, place_instant, soonest}
 use Rattle.interface.specs.QuietStep.{IsEarlier}
 

@@ -4,11 +4,11 @@ use Rattle.std.specs.Prelude.{ℤ}
 use Rattle.net_base.specs.Device.{Move}
 use Rattle.ip_wire.specs.IpRepr.{IpRepr}
 use Rattle.ip_wire.specs.IpAddress.{IpAddress}
-use Rattle.sockets.specs.Packet.{PacketValue}
-use Rattle.sockets.specs.Offer as Answer
-use Rattle.sockets.specs.Offer.TheVariants as Offer
-use Rattle.sockets.specs.Socket.{offered_by}
-use Rattle.sockets.specs.declared.socket.Socket.{Socket}
+use Rattle.interface_ingress.specs.Packet.{PacketValue}
+use Rattle.interface_ingress.specs.Offer as Answer
+use Rattle.interface_ingress.specs.Offer.TheVariants as Offer
+use Rattle.interface_ingress.specs.Sockets.{offered_by}
+use Rattle.interface_ingress.specs.Socket.{Socket}
 use Rattle.interface_tables.specs.Inner.{InnerValue, at_moment}
 use Rattle.interface_egress.specs.Departing.{host_after}
 use Rattle.interface_egress.specs.Fragments.{LeftValue}

@@ -3,7 +3,7 @@ use Rattle.std.proofs.Common.{◌≡◌, ℕ, zero, suc, ◌+◌, ◌*◌, ◌�
 use Rattle.std.proofs.Common.{◌∙◌, ap, subst, arith, append_assoc, append-nil, suc-mul, mul-add}
 use Rattle.net_base.specs.Device.{Move}
 use Rattle.ip_wire.specs.IpAddress.{IpAddress}
-use Rattle.sockets.specs.declared.socket.Socket.{Socket}
+use Rattle.interface_ingress.specs.Socket.{Socket}
 use Rattle.interface_tables.specs.Inner.{InnerValue}
 use Rattle.interface_egress.specs.declared.socket_set.Item.{Item}
 use Rattle.interface_egress.specs.declared.socket_set.SocketStorage.{SocketStorage}

@@ -1,14 +1,15 @@
 -- The turn of a socket that isn't due yet.
 use Rattle.std.proofs.Common.{◌≡◌, Bool, true, false, ℤ, pos, ◌≤ℤ◌, Option, Some, None, refl, sym, ap, ◌∙◌, subst}
 use Rattle.net_base.specs.Device.{Move}
-use Rattle.sockets.specs.Context.{ContextValue}
-use Rattle.sockets.specs.Offer as Answer
-use Rattle.sockets.specs.Offer.TheVariants as Offer
-use Rattle.sockets.specs.PollAt.{PollAt}
-use Rattle.sockets.proofs.AnyKind.{silent}
-use Rattle.sockets.specs.Socket.{poll_of, settled}
-use Rattle.sockets.specs.declared.socket.Socket.{Socket}
-use Rattle.sockets.specs.declared.socket.Socket.TheVariants as Kind
+use Rattle.interface_ingress.specs.Context.{ContextValue}
+use Rattle.interface_ingress.specs.Offer as Answer
+use Rattle.interface_ingress.specs.Offer.TheVariants as Offer
+use Rattle.interface_ingress.specs.PollAt.{PollAt}
+use Rattle.interface_ingress.proofs.AnyKind.{silent}
+use Rattle.interface_ingress.specs.Sockets as Sockets
+use Rattle.interface_ingress.specs.Sockets.{poll_of, settled}
+use Rattle.interface_ingress.specs.Socket.{Socket}
+use Rattle.interface_ingress.specs.Socket.TheVariants as Kind
 use Rattle.interface_tables.specs.Inner.{InnerValue, at_moment, context_of}
 use Rattle.ip_wire.specs.IpAddress.{IpAddress}
 use Rattle.interface_egress.specs.Meta.{poll_by, freed, unmarked}
@@ -31,6 +32,8 @@ same_due asked t (Kind.Raw v) = refl
 same_due asked t (Kind.Icmp v) = refl
 same_due asked t (Kind.Udp v) = refl
 same_due asked t (Kind.Tcp v) = refl
+same_due asked t (Kind.Dhcpv4 v) = refl
+same_due asked t (Kind.Dns v) = refl
 
 -- an open offer that is settled as not sent doesn't change it
 abbrev pub DueAsBefore : Type 0
@@ -57,7 +60,7 @@ module _ (due_as_before : DueAsBefore) {D : Type 0} (moves : D → Move → D �
       let cx = context_of (at_moment t asked) in
       let due : IsEarlier t (instant_of (poll_of cx item.socket)) =
       subst (λ (p : PollAt). IsEarlier t (instant_of p)) (sym (same_due asked t item.socket)) early in
-      let offers = subst (λ (i : InnerValue). Rattle.sockets.specs.Socket.Offers (context_of i) item.socket a.0 a.1) here a.2 in
+      let offers = subst (λ (i : InnerValue). Sockets.Offers (context_of i) item.socket a.0 a.1) here a.2 in
       let quiet = silent item.socket a.1 cx a.0 (before_due t moment (poll_of cx item.socket) due) offers in
       let ends = answered a.0 (record item { socket = a.1 }) item' turned quiet.0 a.3 in
       record {

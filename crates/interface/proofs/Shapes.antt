@@ -10,17 +10,20 @@ use Rattle.interface_ingress.specs.Icmpv6.{MessageValue}
 use Rattle.ip_wire.specs.IpRepr.{IpRepr}
 use Rattle.ip_wire.specs.IpRepr.TheVariants as Ip
 use Rattle.ip_wire.specs.TcpHeader.{TcpHeader}
+use Rattle.ip_wire.specs.UdpRepr.{UdpRepr}
 use Rattle.ip_wire.specs.declared.ethernet.repr.EthernetRepr.{EthernetRepr}
-use Rattle.sockets.specs.Packet.{PayloadValue, ControlV4, ControlV6, Bytes, Datagram, Segment}
-use Rattle.sockets.specs.declared.socket.Socket.{Socket}
+use Rattle.interface_ingress.specs.Context.{ContextValue}
+use Rattle.interface_ingress.specs.Packet.{PayloadValue, ControlV4, ControlV6, Bytes, Datagram, Segment}
+use Rattle.interface_ingress.specs.Socket.{Socket}
 use Rattle.interface_ingress.specs.Incoming.{IncomingValue, Arp, Ip4, Ip6}
 use Rattle.interface_egress.specs.declared.socket_set.Item.{Item}
 use Rattle.interface_egress.specs.declared.socket_set.SocketStorage.{SocketStorage}
 use Rattle.interface_tables.specs.Inner.{InnerValue, context_of}
 use Rattle.interface_ingress.specs.Arrives.{Arrived, ArrivesV4, ArrivesV6, Brings, Hands, renewed, whole_after}
 use Rattle.interface_ingress.specs.Delivered.{Places, with_change, changed_item, changed_in, changed_at, packet_delivered, is_taken_raw, datagram_place}
-use Rattle.interface_ingress.specs.Delivered.{with_datagram, segment_delivered, segment_place, with_segment}
-use Rattle.interface_ingress.specs.Handed.{handed_places, control_v4_places, control_v6_places, segment_places, names_nobody}
+use Rattle.interface_ingress.specs.Datagrams.{ItemTakes, GivenIn, GivenAt}
+use Rattle.interface_ingress.specs.Delivered.{segment_delivered, segment_place, with_segment}
+use Rattle.interface_ingress.specs.Handed.{HandsTo, control_v4_places, control_v6_places, segment_places, names_nobody}
 use Rattle.interface_ingress.specs.Reassembled.{taken_in}
 use Rattle.interface.specs.State.{State}
 use Rattle.interface.specs.Ingress.{Takes}
@@ -92,20 +95,38 @@ segment_shape i places ip header bytes =
       | false ↦ changed_shape (with_segment (context_of i) ip header bytes) (segment_place ip header places) places
     ]
 
-handed_shape : (i : InnerValue) (places : Places) (ip : IpRepr) (carried : Option PayloadValue) → shape (handed_places i places ip carried) ≡ shape places
-handed_shape i places ip (Some (ControlV4 message bytes)) = v4_shape ip message bytes places
-handed_shape i places ip (Some (ControlV6 message bytes)) = v6_shape ip message bytes places
-handed_shape i places ip (Some (Bytes bytes)) = refl
-handed_shape i places ip (Some (Datagram udp bytes)) = changed_shape (with_datagram ip udp bytes) (datagram_place (context_of i) ip udp places) places
-handed_shape i places ip (Some (Segment header bytes)) = segment_shape i places ip header bytes
-handed_shape i places ip None = refl
+item_takes : (cx : ContextValue) (ip : IpRepr) (udp : UdpRepr) (bytes : List ℕ) (o o' : Option (Item Socket)) → ItemTakes cx ip udp bytes o o' →
+    not (is_none o') ≡ not (is_none o)
+item_takes cx ip udp bytes None o' takes = ap (λ (x : Option (Item Socket)). not (is_none x)) takes
+item_takes cx ip udp bytes (Some item) o' takes = ap (λ (x : Option (Item Socket)). not (is_none x)) takes.2
+
+given_in_shape : (cx : ContextValue) (ip : IpRepr) (udp : UdpRepr) (bytes : List ℕ) (at : ℕ) (o : Option (SocketStorage Socket)) (places qs : Places) →
+    slice_get places at ≡ o → GivenIn cx ip udp bytes at o places qs → shape qs ≡ shape places
+given_in_shape cx ip udp bytes at None places qs is given = ap shape given
+given_in_shape cx ip udp bytes at (Some place) places qs is given =
+    ap shape given.2 ∙ set_shape places at place given.0 is (item_takes cx ip udp bytes place.inner given.0.inner given.1)
+
+given_shape : (cx : ContextValue) (ip : IpRepr) (udp : UdpRepr) (bytes : List ℕ) (at : Option ℕ) (places qs : Places) →
+    GivenAt cx ip udp bytes at places qs → shape qs ≡ shape places
+given_shape cx ip udp bytes None places qs given = ap shape given
+given_shape cx ip udp bytes (Some at) places qs given = given_in_shape cx ip udp bytes at (slice_get places at) places qs refl given
+
+handed_shape : (i : InnerValue) (places : Places) (ip : IpRepr) (carried : Option PayloadValue) (qs : Places) → HandsTo i places ip carried qs →
+    shape qs ≡ shape places
+handed_shape i places ip (Some (ControlV4 message bytes)) qs is = ap shape is ∙ v4_shape ip message bytes places
+handed_shape i places ip (Some (ControlV6 message bytes)) qs is = ap shape is ∙ v6_shape ip message bytes places
+handed_shape i places ip (Some (Bytes bytes)) qs is = ap shape is
+handed_shape i places ip (Some (Datagram udp bytes)) qs is =
+    given_shape (context_of i) ip udp bytes (datagram_place (context_of i) ip udp places) places qs is
+handed_shape i places ip (Some (Segment header bytes)) qs is = ap shape is ∙ segment_shape i places ip header bytes
+handed_shape i places ip None qs is = ap shape is
 
 abbrev HasShapeOf : Arrived → Places → Type 0
 HasShapeOf a places = shape a.places ≡ shape places
 
 hands_shape : (i : InnerValue) (places : Places) (ip : IpRepr) (payload : List ℕ) (taken : Bool) (a : Arrived) → Hands i places ip payload taken a →
     HasShapeOf a places
-hands_shape i places ip payload taken a (carried, is, handed) = ap shape handed.places_are ∙ handed_shape i places ip carried
+hands_shape i places ip payload taken a (carried, is, handed) = handed_shape i places ip carried a.places handed.places_are
 
 of_v4_shape : (ours : Bool) (i : InnerValue) (places : Places) (link : Option EthernetRepr) (ip : IpRepr) (payload : List ℕ) (a : Arrived) →
     ArrivesV4 ours i places link ip payload a → HasShapeOf a places

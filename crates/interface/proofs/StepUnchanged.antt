@@ -2,14 +2,14 @@
 use Rattle.std.proofs.Common.{◌≡◌, ℤ, Bool, true, false, ◌||◌, inl, inr, List, [], ◌∷◌, ◌++◌, Option, Some, None, refl, sym, ap, ◌∙◌, subst, append_assoc}
 use Rattle.std.proofs.Common.{append-nil}
 use Rattle.net_base.specs.Device.{Move}
-use Rattle.sockets.specs.Packet.{PacketValue}
-use Rattle.sockets.specs.Offer as Answer
-use Rattle.sockets.specs.Offer.TheVariants as Offer
+use Rattle.interface_ingress.specs.Packet.{PacketValue}
+use Rattle.interface_ingress.specs.Offer as Answer
+use Rattle.interface_ingress.specs.Offer.TheVariants as Offer
 use Rattle.ip_wire.specs.IpAddress.{IpAddress}
-use Rattle.sockets.proofs.AnyKind.{same}
-use Rattle.sockets.specs.Socket.{Offers, offered_by, settled, IsSameButForPlaces}
-use Rattle.sockets.specs.declared.socket.Socket.{Socket}
-use Rattle.sockets.specs.declared.socket.Socket.TheVariants as Kind
+use Rattle.interface_ingress.proofs.AnyKind.{same}
+use Rattle.interface_ingress.specs.Sockets.{Offers, offered_by, settled, IsSameButForPlaces}
+use Rattle.interface_ingress.specs.Socket.{Socket}
+use Rattle.interface_ingress.specs.Socket.TheVariants as Kind
 use Rattle.interface_tables.specs.Inner.{context_of}
 use Rattle.interface_egress.specs.declared.socket_set.Item.{Item}
 use Rattle.interface_egress.specs.declared.socket_set.SocketStorage.{SocketStorage}
@@ -40,12 +40,16 @@ unchanged_self (Kind.Raw v) = record { received = refl; settings = refl; queued 
 unchanged_self (Kind.Icmp v) = record { received = refl; settings = refl; queued = refl; places = refl; room = refl }
 unchanged_self (Kind.Udp v) = record { received = refl; settings = refl; queued = refl; places = refl; room = refl }
 unchanged_self (Kind.Tcp v) = record { state = refl; names = refl; settings = refl; received = refl; queued = refl }
+unchanged_self (Kind.Dhcpv4 v) = refl
+unchanged_self (Kind.Dns v) = refl
 
 settled_once : (s : Socket) → settled false (settled false s) ≡ settled false s
 settled_once (Kind.Raw v) = refl
 settled_once (Kind.Icmp v) = refl
 settled_once (Kind.Udp v) = refl
 settled_once (Kind.Tcp v) = refl
+settled_once (Kind.Dhcpv4 v) = refl
+settled_once (Kind.Dns v) = refl
 
 -- TURNS
 

@@ -1,7 +1,7 @@
 -- A step of the way out, of values that are equal.
 use Rattle.std.proofs.Common.{◌≡◌, ℤ, Bool, List, Option, subst}
 use Rattle.net_base.specs.Device.{Move}
-use Rattle.sockets.specs.declared.socket.Socket.{Socket}
+use Rattle.interface_ingress.specs.Socket.{Socket}
 use Rattle.interface_tables.specs.Inner.{InnerValue, at_moment}
 use Rattle.interface_egress.specs.declared.socket_set.SocketStorage.{SocketStorage}
 use Rattle.interface_egress.specs.Fragments.{LeftValue}

@@ -8,11 +8,11 @@ use Rattle.ip_wire.specs.IpAddress.{IpAddress}
 use Rattle.ip_wire.specs.IpRepr.{IpRepr}
 use Rattle.ip_wire.specs.IpRepr.TheVariants as Ip
 use Rattle.ip_wire.specs.declared.arp.repr.ArpRepr.{ArpRepr}
-use Rattle.sockets.specs.Packet.{PacketValue}
-use Rattle.sockets.specs.Offer as Answer
-use Rattle.sockets.specs.Offer.TheVariants as Offer
-use Rattle.sockets.specs.Socket.{offered_by}
-use Rattle.sockets.specs.declared.socket.Socket.{Socket}
+use Rattle.interface_ingress.specs.Packet.{PacketValue}
+use Rattle.interface_ingress.specs.Offer as Answer
+use Rattle.interface_ingress.specs.Offer.TheVariants as Offer
+use Rattle.interface_ingress.specs.Sockets.{offered_by}
+use Rattle.interface_ingress.specs.Socket.{Socket}
 use Rattle.interface_tables.specs.Inner.{InnerValue, at_moment, with_request, with_next_ident}
 use Rattle.interface_egress.specs.declared.socket_meta.Meta.{Meta}
 use Rattle.interface_egress.specs.declared.socket_set.Item.{Item}

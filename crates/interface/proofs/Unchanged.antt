@@ -1,7 +1,7 @@
 -- A poll that says that nothing changed.
 use Rattle.std.proofs.Common.{◌≡◌, ℕ, zero, suc, ℤ, Bool, true, false, ◌||◌, inl, inr, List, Some, None, refl, sym, ap, ◌∙◌, subst}
 use Rattle.net_base.specs.Device.{Move}
-use Rattle.sockets.specs.declared.socket.Socket.{Socket}
+use Rattle.interface_ingress.specs.Socket.{Socket}
 use Rattle.interface_egress.specs.declared.socket_set.SocketStorage.{SocketStorage}
 use Rattle.interface.specs.QuietStep.{AreUnchanged}
 use Rattle.interface.proofs.StepUnchanged.{egress_same, unchanged_places}

@@ -8,7 +8,7 @@ use Rattle.interface_tables.specs.Neighbor.{last_request}
 use Rattle.interface_egress.specs.declared.socket_meta.Waiting.{Waiting}
 use Rattle.interface_egress.specs.declared.socket_set.Item.{Item}
 use Rattle.interface_egress.specs.declared.socket_set.SocketStorage.{SocketStorage}
-use Rattle.sockets.specs.declared.socket.Socket.{Socket}
+use Rattle.interface_ingress.specs.Socket.{Socket}
 use Rattle.interface.specs.declared.awaited.Awaited.{Awaited}
 
 -- the neighbour that a marked socket waits for, which isn't known, and may answer yet

@@ -3,8 +3,8 @@ use Rattle.std.specs.Prelude.{◌≡◌, ℕ, nat_lt, not, ◌&&◌, ℤ, Bool, 
 use Rattle.net_base.specs.Device.{Move, Took, Empty}
 use Rattle.interface_egress.specs.Departure as Departures
 use Rattle.interface_egress.specs.GoesOut.{Departs, GoesOut}
-use Rattle.sockets.specs.Packet.{PacketValue}
-use Rattle.sockets.specs.WellFormed.{IsWellFormed}
+use Rattle.interface_ingress.specs.Packet.{PacketValue}
+use Rattle.interface_ingress.specs.WellFormed.{IsWellFormed}
 use Rattle.interface_egress.specs.Plan.{plan_of}
 use Rattle.interface_egress.specs.declared.plan.Plan.{Plan}
 use Rattle.interface_egress.specs.declared.plan.Plan.TheVariants as Way

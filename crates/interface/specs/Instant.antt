@@ -1,14 +1,14 @@
 -- When an interface wants to be polled.
 use Rattle.std.specs.Prelude.{ℤ, pos, int_lt, if◌then◌else◌, List, Option, None, Some}
 use Rattle.std.specs.List.{fold}
-use Rattle.sockets.specs.PollAt.{PollAt}
-use Rattle.sockets.specs.PollAt.TheVariants as At
+use Rattle.interface_ingress.specs.PollAt.{PollAt}
+use Rattle.interface_ingress.specs.PollAt.TheVariants as At
 use Rattle.interface_tables.specs.Inner.{InnerValue, context_of}
 use Rattle.interface_egress.specs.Meta.{poll_at}
 use Rattle.interface_egress.specs.declared.socket_set.Item.{Item}
 use Rattle.interface_egress.specs.declared.socket_set.SocketStorage.{SocketStorage}
-use Rattle.sockets.specs.Socket.{poll_of}
-use Rattle.sockets.specs.declared.socket.Socket.{Socket}
+use Rattle.interface_ingress.specs.Sockets.{poll_of}
+use Rattle.interface_ingress.specs.Socket.{Socket}
 use Rattle.interface_egress.specs.Fragments.{LeftValue}
 use Rattle.interface.specs.Turn.{is_heard}
 

@@ -4,8 +4,8 @@ use Rattle.ip_wire.specs.IpAddress.{IpAddress}
 use Rattle.interface_tables.specs.Inner.{InnerValue, at_moment, next_hop}
 use Rattle.interface_egress.specs.declared.socket_set.Item.{Item}
 use Rattle.interface_egress.specs.declared.socket_set.SocketStorage.{SocketStorage}
-use Rattle.sockets.specs.Socket.{settled, IsSameButForPlaces}
-use Rattle.sockets.specs.declared.socket.Socket.{Socket}
+use Rattle.interface_ingress.specs.Sockets.{settled, IsSameButForPlaces}
+use Rattle.interface_ingress.specs.Socket.{Socket}
 use Rattle.interface_egress.specs.Fragments.{LeftValue}
 use Rattle.interface.specs.Host.{Sender}
 use Rattle.interface.specs.Instant.{poll_instant}

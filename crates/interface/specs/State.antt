@@ -4,7 +4,7 @@ use Rattle.ip_wire.specs.Ipv4FragKey.{Ipv4FragKey}
 use Rattle.interface_tables.specs.Inner.{InnerValue}
 use Rattle.interface_tables.specs.Reassembly.{SlotValue}
 use Rattle.interface_egress.specs.declared.socket_set.SocketStorage.{SocketStorage}
-use Rattle.sockets.specs.declared.socket.Socket.{Socket}
+use Rattle.interface_ingress.specs.Socket.{Socket}
 use Rattle.interface_egress.specs.Fragments.{LeftValue}
 use Rattle.interface.specs.Host.{HostValue}
 

@@ -4,19 +4,19 @@ use Rattle.net_base.specs.Device.{Move, Allowed}
 use Rattle.ip_wire.specs.AddressTests.{is_same_address}
 use Rattle.ip_wire.specs.Ip.{destination_of}
 use Rattle.ip_wire.specs.IpAddress.{IpAddress}
-use Rattle.sockets.specs.Packet.{PacketValue}
-use Rattle.sockets.specs.Offer as Answer
-use Rattle.sockets.specs.Offer.TheVariants as Offer
+use Rattle.interface_ingress.specs.Packet.{PacketValue}
+use Rattle.interface_ingress.specs.Offer as Answer
+use Rattle.interface_ingress.specs.Offer.TheVariants as Offer
 use Rattle.interface_tables.specs.Inner.{InnerValue, context_of, has_neighbor, is_crowded, next_request}
 use Rattle.interface_egress.specs.Departure.{target_of}
 use Rattle.interface_egress.specs.Meta.{silent_time, neighbor_of, waits, freed, missed, has_waited, unmarked}
 use Rattle.interface_egress.specs.declared.socket_meta.Meta.{Meta}
 use Rattle.interface_egress.specs.declared.socket_set.Item.{Item}
 use Rattle.interface_egress.specs.declared.socket_set.SocketStorage.{SocketStorage}
-use Rattle.sockets.specs.Socket.{Offers, offered_by, settled}
-use Rattle.sockets.specs.declared.socket.Socket.{Socket}
+use Rattle.interface_ingress.specs.Sockets.{Offers, offered_by, settled}
+use Rattle.interface_ingress.specs.Socket.{Socket}
 use Rattle.interface_egress.specs.GoesOut.{GoesOut}
-use Rattle.sockets.specs.WellFormed.{IsWellFormed}
+use Rattle.interface_ingress.specs.WellFormed.{IsWellFormed}
 use Rattle.interface_egress.specs.Plan.{plan_of}
 use Rattle.interface_egress.specs.declared.plan.Plan.{Plan}
 use Rattle.interface_egress.specs.declared.plan.Plan.TheVariants as Way

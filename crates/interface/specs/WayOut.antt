@@ -2,7 +2,7 @@
 use Rattle.std.specs.Prelude.{◌≡◌, Bool, true, false, ◌⊎◌, List, [], Option, None, Some}
 use Rattle.net_base.specs.Device.{Move, Allowed}
 use Rattle.interface_egress.specs.declared.socket_set.SocketStorage.{SocketStorage}
-use Rattle.sockets.specs.declared.socket.Socket.{Socket}
+use Rattle.interface_ingress.specs.Socket.{Socket}
 use Rattle.interface_egress.specs.Fragments.{LeftValue}
 use Rattle.interface_egress.specs.GoesOut.{PieceGoesOut}
 use Rattle.interface.specs.Awaited.{turn_of}

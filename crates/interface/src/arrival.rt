@@ -13,10 +13,11 @@ use interface_egress::{
     plan_for, send,
 };
 use interface_ingress::laws::same_settings;
-use interface_ingress::{Incoming, Reply, bring, keep, read_into, release, take_in};
+use interface_ingress::widths::fields_have_widths;
+use interface_ingress::{
+    Context, Incoming, Reply, Socket, bring, keep, read_into, release, take_in,
+};
 use net_base::{Device, Duration, RxToken};
-use sockets::widths::fields_have_widths;
-use sockets::{Context, Socket};
 
 /// The longest frame that is read: an Ethernet header before the longest IP packet.
 const LONGEST_FRAME: usize = 65_549;

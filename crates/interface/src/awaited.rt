@@ -5,9 +5,9 @@ ghost use Rattle.interface_tables.specs.Best.{better_of};
 ghost use Rattle.interface.specs.Awaited.{awaited_by, awaited_in, comes_before, next_awaited, turn_of};
 
 use interface_egress::{InterfaceInner, SocketStorage, Waiting};
+use interface_ingress::Socket;
 use ip_wire::IpAddress;
 use net_base::Instant;
-use sockets::Socket;
 
 /// A neighbour that a socket waits for.
 #[derive(Clone, Copy, Debug)]

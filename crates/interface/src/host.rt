@@ -17,9 +17,9 @@ use interface_egress::{
     Config, Fragmenter, HardwareAddrError, InterfaceInner, NewError, NotUnicast,
     PacketAssemblerSet, Routes, TABLE_ROOM,
 };
+use interface_ingress::Context;
 use ip_wire::{HardwareAddress, IpAddress, IpCidr, Ipv4Address, Ipv6Address};
 use net_base::{ChecksumCapabilities, Device, Duration, Instant};
-use sockets::Context;
 use std::alloc::Global;
 use std::marker::Model;
 

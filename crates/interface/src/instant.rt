@@ -4,8 +4,8 @@ ghost use Rattle.interface.specs.Instant.{instant_of, earlier_than, earlier, ite
 
 use crate::turn::is_known;
 use interface_egress::{Fragmenter, InterfaceInner, Item, SocketStorage};
+use interface_ingress::{Context, PollAt, Socket};
 use net_base::Instant;
-use sockets::{Context, PollAt, Socket};
 
 /// When the interface wants to be polled: at once where a piece waits, else when the first of its sockets wants it.
 pub fn poll_instant(

@@ -5,9 +5,9 @@ ghost use Rattle.interface.specs.Pass.{Pass, passed};
 
 use crate::turn::{Turned, take_place};
 use interface_egress::{Fragmenter, InterfaceInner, SocketStorage};
+use interface_ingress::Socket;
 use ip_wire::IpAddress;
 use net_base::Device;
-use sockets::Socket;
 
 /// Gives each socket its turn, in order, until one ends the pass. Says whether a socket or a queue changed. `turn` is the neighbour
 /// whose turn it is to be asked for, if a socket waits for one.

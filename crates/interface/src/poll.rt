@@ -23,9 +23,9 @@ use crate::instant::poll_instant;
 use crate::passes::either;
 use crate::step::egress;
 use interface_egress::{Fragmenter, InterfaceInner, PacketAssemblerSet, SocketSet, SocketStorage};
+use interface_ingress::Socket;
+use interface_ingress::socket_laws::due_as_before;
 use net_base::{Device, Duration, Instant, ManagedSlice};
-use sockets::Socket;
-use sockets::laws::due_as_before;
 
 /// What a poll did to the sockets.
 #[derive(Clone, Copy, Debug, PartialEq, Eq)]

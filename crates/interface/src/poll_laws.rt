@@ -9,7 +9,7 @@ ghost use Rattle.interface_egress.specs.declared.frame.Question.{Question};
 ghost use Rattle.interface_egress.specs.declared.plan.Plan.TheVariants as Way;
 ghost use Rattle.interface_egress.specs.declared.socket_meta.Meta.{Meta};
 ghost use Rattle.interface_egress.specs.declared.socket_set.SocketStorage.{SocketStorage};
-ghost use Rattle.sockets.specs.declared.socket.Socket.{Socket};
+ghost use Rattle.interface_ingress.specs.Socket.{Socket};
 ghost use Rattle.interface.specs.Awaited.{awaited_in, comes_before, next_awaited};
 ghost use Rattle.interface.specs.Turn.{held};
 ghost use Rattle.interface.specs.declared.awaited.Awaited.{Awaited};
@@ -22,8 +22,8 @@ ghost use Rattle.interface.specs.Priced.{sockets_in};
 ghost use Rattle.interface.specs.Steady.{IsSteady};
 ghost use Rattle.interface.specs.Touches.{Traced};
 
+use interface_ingress::socket_laws::one_offer;
 use net_base::Device;
-use sockets::laws::one_offer;
 
 /// Law: a poll changes no setting of its host: hardware address, MTU, checksums, addresses and routes.
 pub fn polls_keep_settings<D: Device>()

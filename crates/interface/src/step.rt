@@ -10,9 +10,9 @@ ghost use Rattle.interface.specs.SameHost.{IsSameHost};
 use crate::awaited::turn_of;
 use crate::passes::pass;
 use interface_egress::{Fragmenter, InterfaceInner, SocketStorage, send_next};
+use interface_ingress::socket_laws::due_as_before;
+use interface_ingress::{Context, Socket};
 use net_base::Device;
-use sockets::laws::due_as_before;
-use sockets::{Context, Socket};
 
 /// Sends the piece that waits, if there is one, and then what the sockets have. Says whether a socket or a queue changed.
 pub fn egress<D: Device>(

@@ -2,10 +2,10 @@
 ghost use Rattle.std.specs.Prelude.{◌≡◌, is_some};
 ghost use Rattle.net_base.specs.Time.{IsMoment};
 ghost use Rattle.ip_wire.specs.Ip.{destination_of};
-ghost use Rattle.sockets.specs.Packet.{packet_value};
-ghost use Rattle.sockets.specs.Offer.TheVariants as Answer;
-ghost use Rattle.sockets.specs.Offers.{HasPacket};
-ghost use Rattle.sockets.specs.Socket.{offered_by, IfSendable};
+ghost use Rattle.interface_ingress.specs.Packet.{packet_value};
+ghost use Rattle.interface_ingress.specs.Offer.TheVariants as Answer;
+ghost use Rattle.interface_ingress.specs.Offers.{HasPacket};
+ghost use Rattle.interface_ingress.specs.Sockets.{offered_by, IfSendable};
 ghost use Rattle.interface_egress.specs.Plan.{IsPacket, plan_of};
 ghost use Rattle.interface.specs.Host.{sender};
 ghost use Rattle.interface.specs.Turn.{is_known, is_heard, is_waiting, is_given_up, is_other, is_out_of_turn, held, waits_until, is_done, marked, settled_by};
@@ -15,12 +15,12 @@ ghost use Rattle.interface_egress.specs.Meta.{freed};
 use interface_egress::{
     Fragmenter, InterfaceInner, Item, Meta, Plan, Sent, SocketStorage, dispatch_by, plan_for,
 };
+use interface_ingress::addresses::is_same_address;
+use interface_ingress::socket_laws::unsent_is_offered_again;
+use interface_ingress::widths::fields_have_widths;
+use interface_ingress::{Context, Offer, Packet, Socket};
 use ip_wire::IpAddress;
 use net_base::{Device, Duration, Instant};
-use sockets::addresses::is_same_address;
-use sockets::laws::unsent_is_offered_again;
-use sockets::widths::fields_have_widths;
-use sockets::{Context, Offer, Packet, Socket};
 
 /// How long a packet waits for a route, in milliseconds.
 const LOST_MILLIS: u64 = 3_000;

@@ -1,4 +1,4 @@
--- Sockets of TCP and UDP that an arrival leaves as they were.
+-- Sockets of TCP and UDP, and clients, that an arrival leaves as they were.
 use Rattle.std.proofs.Common.{◌≡◌, Bool, true, false, if◌then◌else◌, ◌||◌, List, [], ◌∷◌, refl, sym, ap, ◌∙◌, subst}
 use Rattle.std.specs.Prelude.{ℕ, ◌-◌, ◌^◌, nat_lt, length, map, Option, Some, None}
 use Rattle.icmpv4.specs.declared.header.Icmpv4Header.{Icmpv4Header}
@@ -26,7 +26,7 @@ use Rattle.interface_tables.specs.Inner.{InnerValue}
 use Rattle.interface_ingress.specs.Arrives.{Arrived, ArrivesV4, ArrivesV6, ArrivesAs, Brings, Hands, is_direct, sender_of, renewed, renewed_by, answered}
 use Rattle.interface_ingress.specs.Delivered.{Places, given, changed_item, with_change, all_given, with_packet, packet_delivered, with_icmpv4, with_icmpv6}
 use Rattle.interface_ingress.specs.Delivered.{is_taken_raw}
-use Rattle.interface_ingress.specs.Handed.{handed_places, handed_reply, control_v4_places, control_v6_places, is_known_v4, is_known_v6, unread_v6}
+use Rattle.interface_ingress.specs.Handed.{handed_reply, HandsTo, control_v4_places, control_v6_places, is_known_v4, is_known_v6, unread_v6}
 use Rattle.interface_ingress.specs.Replies.{protocol_unreachable}
 use Rattle.interface_ingress.specs.Kept.{kept_by_kind, ports_item, ports_in, with_ports, NamesNoPorts, HaveNoPorts, IsDamaged}
 use Rattle.interface_ingress.specs.Reassembled.{Slots, is_taken_in, taken_in, is_piece, uncut, rebuilt, bytes_at, place_in, kept, whole_of}
@@ -64,18 +64,24 @@ keeps_packet ip payload (Kind.Raw v) m = refl
 keeps_packet ip payload (Kind.Icmp v) m = refl
 keeps_packet ip payload (Kind.Udp v) m = refl
 keeps_packet ip payload (Kind.Tcp v) m = refl
+keeps_packet ip payload (Kind.Dhcpv4 v) m = refl
+keeps_packet ip payload (Kind.Dns v) m = refl
 
 keeps_icmpv4 : (ip : Ipv4Repr) (message : Icmpv4Header) (bytes : List ℕ) → Keeps (with_icmpv4 ip message bytes)
 keeps_icmpv4 ip message bytes (Kind.Raw v) m = refl
 keeps_icmpv4 ip message bytes (Kind.Icmp v) m = refl
 keeps_icmpv4 ip message bytes (Kind.Udp v) m = refl
 keeps_icmpv4 ip message bytes (Kind.Tcp v) m = refl
+keeps_icmpv4 ip message bytes (Kind.Dhcpv4 v) m = refl
+keeps_icmpv4 ip message bytes (Kind.Dns v) m = refl
 
 keeps_icmpv6 : (ip : Ipv6Repr) (message : MessageValue) (bytes : List ℕ) → Keeps (with_icmpv6 ip message bytes)
 keeps_icmpv6 ip message bytes (Kind.Raw v) m = refl
 keeps_icmpv6 ip message bytes (Kind.Icmp v) m = refl
 keeps_icmpv6 ip message bytes (Kind.Udp v) m = refl
 keeps_icmpv6 ip message bytes (Kind.Tcp v) m = refl
+keeps_icmpv6 ip message bytes (Kind.Dhcpv4 v) m = refl
+keeps_icmpv6 ip message bytes (Kind.Dns v) m = refl
 
 pub packet_kept : (ip : IpRepr) (payload : List ℕ) (places : Places) → with_ports (packet_delivered ip payload places) ≡ with_ports places
 packet_kept ip payload places = all_kept _ (with_packet ip payload) (keeps_packet ip payload) places
@@ -106,19 +112,19 @@ none_of caps ip payload (Some (Datagram udp bytes)) is bare = bare.1 is.protocol
 none_of caps ip payload (Some (Segment header bytes)) is bare = bare.0 is.protocol
 none_of caps ip payload None is bare = tt
 
-handed_kept : (i : InnerValue) (places : Places) (ip : IpRepr) (carried : Option PayloadValue) → HasNone carried →
-    with_ports (handed_places i places ip carried) ≡ with_ports places
-handed_kept i places ip (Some (ControlV4 message bytes)) bare = control_v4_kept ip message bytes places
-handed_kept i places ip (Some (ControlV6 message bytes)) bare = control_v6_kept ip message bytes places
-handed_kept i places ip (Some (Bytes bytes)) bare = refl
-handed_kept i places ip (Some (Datagram udp bytes)) bare = absurd bare
-handed_kept i places ip (Some (Segment header bytes)) bare = absurd bare
-handed_kept i places ip None bare = refl
+handed_kept : (i : InnerValue) (places : Places) (ip : IpRepr) (carried : Option PayloadValue) (qs : Places) → HasNone carried →
+    HandsTo i places ip carried qs → with_ports qs ≡ with_ports places
+handed_kept i places ip (Some (ControlV4 message bytes)) qs bare is = ap with_ports is ∙ control_v4_kept ip message bytes places
+handed_kept i places ip (Some (ControlV6 message bytes)) qs bare is = ap with_ports is ∙ control_v6_kept ip message bytes places
+handed_kept i places ip (Some (Bytes bytes)) qs bare is = ap with_ports is
+handed_kept i places ip (Some (Datagram udp bytes)) qs bare is = absurd bare
+handed_kept i places ip (Some (Segment header bytes)) qs bare is = absurd bare
+handed_kept i places ip None qs bare is = ap with_ports is
 
 hands_kept : (i : InnerValue) (places : Places) (ip : IpRepr) (payload : List ℕ) (taken : Bool) (a : Arrived) → Hands i places ip payload taken a →
     NamesNoPorts (carried_in (upper_header ip payload)) → with_ports a.places ≡ with_ports places
 hands_kept i places ip payload taken a (carried, is, handed) bare =
-    ap with_ports handed.places_are ∙ handed_kept i places ip carried (none_of i.checksums (upper_header ip payload) (upper_payload ip payload) carried is bare)
+    handed_kept i places ip carried a.places (none_of i.checksums (upper_header ip payload) (upper_payload ip payload) carried is bare) handed.places_are
 
 v4_kept : (ours : Bool) (i : InnerValue) (places : Places) (link : Option EthernetRepr) (ip : IpRepr) (payload : List ℕ) (a : Arrived) →
     ArrivesV4 ours i places link ip payload a → NamesNoPorts (carried_in (upper_header ip payload)) → with_ports a.places ≡ with_ports places
@@ -209,7 +215,7 @@ hands_damaged i places ip payload taken a (carried, is, handed) bare =
     let P : IpRepr → Type 0 = λ h. IsCarriedContent i.checksums h (upper_payload ip payload) carried in
     let Q : List ℕ → Type 0 = λ bytes. IsCarriedContent i.checksums ip bytes carried in
     let none = nothing_of i.checksums ip payload carried (subst Q straight.1 (subst P straight.0 is)) bare in (
-      ap with_ports handed.places_are ∙ ap (λ c. with_ports (handed_places i places ip c)) none,
+      handed_kept i places ip None a.places tt (subst (λ (c : Option PayloadValue). HandsTo i places ip c a.places) none handed.places_are),
       handed.reply ∙ ap (λ c. answered (handed_reply i places ip payload taken c)) none ∙ ap answered (no_reply i places ip payload taken bare.0),
     )
 

@@ -15,5 +15,7 @@ pub mod Given
 pub mod Sizes
 pub mod Kept
 pub mod Settings
+pub mod OneDatagram
 pub mod OneArrival
 pub mod Neighbors
+pub use Rattle.sockets.proofs.AnyKind

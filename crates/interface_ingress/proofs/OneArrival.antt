@@ -4,26 +4,37 @@ use Rattle.std.specs.Prelude.{ℕ, Option, Some, None}
 use Rattle.ip_wire.specs.IpRepr.{IpRepr}
 use Rattle.ip_wire.specs.IpRepr.TheVariants as Ip
 use Rattle.ip_wire.specs.declared.ethernet.repr.EthernetRepr.{EthernetRepr}
-use Rattle.socket_base.specs.Packet.{PayloadValue}
+use Rattle.socket_base.specs.Packet.{PayloadValue, ControlV4, ControlV6, Bytes, Datagram, Segment}
 use Rattle.interface_ingress.specs.Incoming.{IncomingValue, Arp, Ip4, Ip6}
 use Rattle.interface_ingress.proofs.OneContent.{one-content, one-carried-content}
-use Rattle.interface_tables.specs.Inner.{InnerValue}
+use Rattle.interface_tables.specs.Inner.{InnerValue, context_of}
 use Rattle.interface_ingress.specs.Arrives.{Arrived, Arrives, ArrivesAs, ArrivesV4, ArrivesV6, Brings, Hands, IsHanded, IsSilent, answered, renewed}
 use Rattle.interface_ingress.specs.Arrives.{whole_after}
 use Rattle.interface_ingress.specs.Delivered.{Places, packet_delivered, is_taken_raw}
-use Rattle.interface_ingress.specs.Handed.{handed_host, handed_places, handed_reply}
+use Rattle.interface_ingress.specs.Handed.{handed_host, handed_reply, HandsTo}
+use Rattle.interface_ingress.proofs.OneDatagram.{one_delivered}
 use Rattle.interface_ingress.specs.Reassembled.{Slots, taken_in}
 use Rattle.interface_ingress.specs.Upper.{upper_header, upper_payload}
 
 same_arrived : (a b : Arrived) → a.inner ≡ b.inner → a.places ≡ b.places → a.reply ≡ b.reply → a ≡ b
 same_arrived a b hosts sockets replies = λ k. record { inner = hosts k; places = sockets k; reply = replies k }
 
+one_places : (i : InnerValue) (places : Places) (ip : IpRepr) (c : Option PayloadValue) (p q : Places) → HandsTo i places ip c p → HandsTo i places ip c q →
+    p ≡ q
+one_places i places ip (Some (ControlV4 message bytes)) p q one other = one ∙ sym other
+one_places i places ip (Some (ControlV6 message bytes)) p q one other = one ∙ sym other
+one_places i places ip (Some (Bytes bytes)) p q one other = one ∙ sym other
+one_places i places ip (Some (Datagram udp bytes)) p q one other = one_delivered (context_of i) ip udp bytes places p q one other
+one_places i places ip (Some (Segment header bytes)) p q one other = one ∙ sym other
+one_places i places ip None p q one other = one ∙ sym other
+
 one_handed : (i : InnerValue) (places : Places) (ip : IpRepr) (payload : List ℕ) (taken : Bool) (c d : Option PayloadValue) (a b : Arrived) → c ≡ d →
     IsHanded i places ip payload taken c a → IsHanded i places ip payload taken d b → a ≡ b
 one_handed i places ip payload taken c d a b same one other =
     same_arrived a b
     (one.inner ∙ ap (λ x. handed_host i places ip x) same ∙ sym other.inner)
-    (one.places_are ∙ ap (λ x. handed_places i places ip x) same ∙ sym other.places_are)
+    (one_places i places ip c a.places b.places one.places_are
+    (subst (λ (x : Option PayloadValue). HandsTo i places ip x b.places) (sym same) other.places_are))
     (one.reply ∙ ap (λ x. answered (handed_reply i places ip payload taken x)) same ∙ sym other.reply)
 
 one_hands : (i : InnerValue) (places : Places) (ip : IpRepr) (payload : List ℕ) (taken : Bool) (a b : Arrived) → Hands i places ip payload taken a →

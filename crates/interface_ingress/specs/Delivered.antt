@@ -1,4 +1,5 @@
--- Which sockets get what arrived, and what they are then (RFC 791, section 3.2; RFC 768; RFC 792; RFC 9293, section 3.10.7).
+-- Which sockets get what arrived, and what they are then (RFC 791, section 3.2; RFC 768; RFC 792; RFC 9293, section 3.10.7). What they are
+-- behind a datagram is said in Datagrams.antt.
 -- Sockets of other kinds stay as they were, and so do places without a socket.
 use Rattle.std.specs.Prelude.{ℕ, Bool, false, not, ◌&&◌, ◌||◌, if◌then◌else◌, List, length, map, position, slice_set, Option, None, Some}
 use Rattle.std.specs.List.{list_any}
@@ -14,15 +15,14 @@ use Rattle.sockets.specs.Context.{ContextValue}
 use Rattle.sockets.specs.Packet.{PacketValue}
 use Rattle.sockets.specs.Icmp as Icmps
 use Rattle.sockets.specs.Raw as Raws
-use Rattle.sockets.specs.Udp as Udps
 use Rattle.sockets.specs.TcpArrival.{arrives}
 use Rattle.sockets.specs.Socket.{accepts_packet, accepts_icmpv4, accepts_icmpv6, accepts_datagram, accepts_segment}
 use Rattle.sockets.specs.declared.socket.Socket.{Socket}
 use Rattle.sockets.specs.declared.socket.Socket.TheVariants as Kind
-use Rattle.tcp_model.specs.Controls.{is_rst}
-use Rattle.tcp_model.specs.Segments.{rst_reply}
-use Rattle.tcp_model.specs.States.{is_listening}
-use Rattle.tcp_model.specs.Reply.{Reply}
+use Rattle.sockets.specs.TcpControls.{is_rst}
+use Rattle.sockets.specs.TcpSegments.{rst_reply}
+use Rattle.sockets.specs.TcpStates.{is_listening}
+use Rattle.sockets.specs.TcpReply.{Reply}
 use Rattle.sockets.specs.Replies as Replies
 use Rattle.interface_egress.specs.declared.socket_set.Item.{Item}
 use Rattle.interface_egress.specs.declared.socket_set.SocketStorage.{SocketStorage}
@@ -102,15 +102,8 @@ icmpv6_delivered ip message bytes places =
 
 -- UDP: the first socket that accepts the datagram gets it
 
-abbrev pub with_datagram : IpRepr → UdpRepr → List ℕ → Socket → Socket
-with_datagram ip udp bytes (Kind.Udp v) = Kind.Udp (Udps.process_after v ip udp bytes)
-with_datagram ip udp bytes s = s
-
 abbrev pub datagram_place : ContextValue → IpRepr → UdpRepr → Places → Option ℕ
 datagram_place cx ip udp places = first_place (λ s. accepts_datagram cx s ip udp) places
-
-abbrev pub datagram_delivered : ContextValue → IpRepr → UdpRepr → List ℕ → Places → Places
-datagram_delivered cx ip udp bytes places = changed_at (with_datagram ip udp bytes) (datagram_place cx ip udp places) places
 
 -- TCP: the socket of the segment's connection gets it, else the first listener that accepts it; it may answer it, and may draw a
 -- random word

@@ -1,6 +1,6 @@
 -- What a packet for the host carries, given to sockets and tables, and what is answered at once (RFC 1122, sections 3.2.2, 4.1.3.1
 -- and 4.2.3.9; RFC 4443; RFC 9293, section 3.10.7.1).
-use Rattle.std.specs.Prelude.{ℕ, ◌+◌, ◌<◌, ◌^◌, ◌||◌, ◌&&◌, Bool, true, false, if◌then◌else◌, List, length, Option, None, Some, is_some}
+use Rattle.std.specs.Prelude.{◌≡◌, ℕ, ◌+◌, ◌<◌, ◌^◌, ◌||◌, ◌&&◌, Bool, true, false, if◌then◌else◌, List, length, Option, None, Some, is_some}
 use Rattle.icmpv4.specs.declared.header.Icmpv4Header.{Icmpv4Header}
 use Rattle.icmpv6.specs.Icmpv6 as Icmpv6
 use Rattle.icmpv6.specs.Icmpv6.{MessageValue}
@@ -24,7 +24,8 @@ use Rattle.interface_ingress.specs.Heard.{neighbor_heard}
 use Rattle.interface_ingress.specs.Reassembled.{is_control_v6}
 use Rattle.interface_ingress.specs.Replies.{echo_v4, echo_v6, port_unreachable, protocol_unreachable, parameter_problem}
 use Rattle.interface_tables.specs.Inner.{InnerValue, context_of, is_local_broadcast}
-use Rattle.interface_ingress.specs.Delivered.{Places, icmpv4_delivered, icmpv6_delivered, datagram_place, datagram_delivered, segment_answer, segment_delivered}
+use Rattle.interface_ingress.specs.Datagrams.{IsDelivered}
+use Rattle.interface_ingress.specs.Delivered.{Places, icmpv4_delivered, icmpv6_delivered, datagram_place, segment_answer, segment_delivered}
 use Rattle.interface_ingress.specs.Delivered.{segment_draws, drawn_if}
 
 -- CONTROL MESSAGES
@@ -129,13 +130,13 @@ handed_host i places ip (Some (ControlV6 message bytes)) = control_v6_host i ip 
 handed_host i places ip (Some (Segment header bytes)) = segment_host i places ip header bytes
 handed_host i places ip carried = i
 
-abbrev pub handed_places : InnerValue → Places → IpRepr → Option PayloadValue → Places
-handed_places i places ip (Some (ControlV4 message bytes)) = control_v4_places ip message bytes places
-handed_places i places ip (Some (ControlV6 message bytes)) = control_v6_places ip message bytes places
-handed_places i places ip (Some (Bytes bytes)) = places
-handed_places i places ip (Some (Datagram udp bytes)) = datagram_delivered (context_of i) ip udp bytes places
-handed_places i places ip (Some (Segment header bytes)) = segment_places i places ip header bytes
-handed_places i places ip None = places
+abbrev pub HandsTo : InnerValue → Places → IpRepr → Option PayloadValue → Places → Type 0
+HandsTo i places ip (Some (ControlV4 message bytes)) places' = places' ≡ control_v4_places ip message bytes places
+HandsTo i places ip (Some (ControlV6 message bytes)) places' = places' ≡ control_v6_places ip message bytes places
+HandsTo i places ip (Some (Bytes bytes)) places' = places' ≡ places
+HandsTo i places ip (Some (Datagram udp bytes)) places' = IsDelivered (context_of i) ip udp bytes places places'
+HandsTo i places ip (Some (Segment header bytes)) places' = places' ≡ segment_places i places ip header bytes
+HandsTo i places ip None places' = places' ≡ places
 
 abbrev pub handed_reply : InnerValue → Places → IpRepr → List ℕ → Bool → Option PayloadValue → Option PacketValue
 handed_reply i places ip payload taken (Some (ControlV4 message bytes)) = control_v4_reply i ip message bytes

@@ -30,16 +30,18 @@ kept_by_kind (Kind.Raw v) item = None
 kept_by_kind (Kind.Icmp v) item = None
 kept_by_kind (Kind.Udp v) item = Some item
 kept_by_kind (Kind.Tcp v) item = Some item
+kept_by_kind (Kind.Dhcpv4 v) item = Some item
+kept_by_kind (Kind.Dns v) item = Some item
 
 abbrev pub ports_item : Option (Item Socket) → Option (Item Socket)
 ports_item None = None
 ports_item (Some item) = kept_by_kind item.socket item
 
--- the socket of a place with its mark, where it is a TCP or a UDP socket
+-- the socket of a place with its mark, where it is a TCP or a UDP socket or a client
 abbrev pub ports_in : SocketStorage Socket → Option (Item Socket)
 ports_in place = ports_item place.inner
 
--- the TCP and UDP sockets at their places
+-- the TCP and UDP sockets and the clients at their places
 abbrev pub with_ports : Places → List (Option (Item Socket))
 with_ports places = map ports_in places
 

@@ -10,6 +10,7 @@ pub mod Arp
 pub mod Replies
 pub mod Answering
 pub mod Delivered
+pub mod Datagrams
 pub mod Reassembled
 pub mod Handed
 pub mod Arrives
@@ -37,3 +38,12 @@ pub use Rattle.interface_tables.specs.Route
 pub use Rattle.ipv6_headers.specs.Headers
 pub use Rattle.ipv6_headers.specs.declared.headers.Behind
 pub use Rattle.ipv6_headers.specs.declared.headers.Problem
+pub use Rattle.sockets.specs.Context
+pub use Rattle.sockets.specs.Offer
+pub use Rattle.sockets.specs.Offers
+pub use Rattle.sockets.specs.Packet
+pub use Rattle.sockets.specs.PollAt
+pub use Rattle.sockets.specs.Polling
+pub use Rattle.sockets.specs.Socket as Sockets
+pub use Rattle.sockets.specs.WellFormed
+pub use Rattle.sockets.specs.declared.socket.Socket

@@ -5,15 +5,16 @@ ghost use Rattle.icmpv4.specs.Icmpv4 as Icmpv4;
 ghost use Rattle.icmpv6.specs.Icmpv6 as Icmpv6;
 ghost use Rattle.ip_wire.specs.IpAddress.TheVariants as Address;
 ghost use Rattle.ip_wire.specs.Tcp as Tcp;
-ghost use Rattle.sockets.specs.Socket.{accepts_segment};
+ghost use Rattle.sockets.specs.Socket.{accepts_datagram, accepts_segment};
 ghost use Rattle.interface_egress.specs.Inner.{context_of};
 ghost use Rattle.interface_ingress.specs.Arrives.{IfCanGo, answered, reply_of};
-ghost use Rattle.interface_ingress.specs.Delivered.{is_taken_raw, packet_delivered, icmpv4_delivered, icmpv6_delivered, datagram_place, datagram_delivered};
+ghost use Rattle.interface_ingress.specs.Datagrams.{TakesDatagram, PlaceTakes, GivenAt, IsDelivered};
+ghost use Rattle.interface_ingress.specs.Delivered.{is_taken_raw, packet_delivered, icmpv4_delivered, icmpv6_delivered, datagram_place};
 ghost use Rattle.interface_ingress.specs.Delivered.{with_change, with_segment, answer_of, answer_in, answer_at, draws_of, drawn_if, passes, passes_at};
 ghost use Rattle.interface_ingress.specs.Delivered.{changed_at, first_place, is_connected, segment_place, segment_delivered, segment_answer, segment_draws};
 ghost use Rattle.interface_ingress.specs.Delivered.{reset_for};
 
-use crate::places::{Arrival, first_place, give_all, give_at, is_for_any};
+use crate::places::{Arrival, give_all, is_for_any};
 use crate::reply::Reply;
 use icmpv4::Icmpv4Repr;
 use icmpv6::Icmpv6Repr;
@@ -150,39 +151,99 @@ pub fn deliver_icmpv6(
     give_all(places, &Icmpv6Arrival { header, message });
 }
 
-/// A user datagram with the header of its packet, and the host that it came to.
-#[derive(Drop)]
-struct UdpArrival<'a> {
-    inner: &'a InterfaceInner,
-    header: &'a IpRepr,
-    udp: &'a UdpRepr,
-    bytes: &'a [u8],
+/// Whether the place has a socket that accepts a datagram: a UDP socket, or a client of DHCP or DNS.
+fn accepts_datagram(
+    inner: &InterfaceInner,
+    place: &SocketStorage<Socket>,
+    header: &IpRepr,
+    udp: &UdpRepr,
+) -> bool
+    ensures { result ≡ passes (λ s. accepts_datagram (context_of inner.now) s header.now udp.now) place.now }
+{
+    match &place.inner {
+        Some(item) => is_for(inner, &item.socket, header, udp),
+        None => false,
+    }
 }
 
-impl<'a> Arrival for UdpArrival<'a> {
-    ghost use Rattle.sockets.specs.Socket.{accepts_datagram};
-    ghost use Rattle.interface_egress.specs.Inner.{context_of};
-    ghost use Rattle.interface_ingress.specs.Delivered.{with_datagram};
-
-    ghost accepted = { λ a s. accepts_datagram (context_of a.inner.now) s a.header.now a.udp.now };
-
-    ghost taken = { λ a. with_datagram a.header.now a.udp.now a.bytes.now };
-
-    fn is_for(&self, socket: &Socket) -> bool {
-        match socket {
-            Socket::Udp(socket) => socket.accepts(self.inner, self.header, self.udp),
-            _ => false,
-        }
+/// Whether a datagram is for a socket.
+fn is_for(inner: &InterfaceInner, socket: &Socket, header: &IpRepr, udp: &UdpRepr) -> bool
+    ensures { result ≡ accepts_datagram (context_of inner.now) socket.now header.now udp.now }
+{
+    match socket {
+        Socket::Udp(socket) => socket.accepts(inner, header, udp),
+        Socket::Dhcpv4(socket) => socket.accepts(inner, header, udp),
+        Socket::Dns(socket) => socket.accepts(inner, header, udp),
+        Socket::Raw(_) | Socket::Icmp(_) | Socket::Tcp(_) => false,
     }
+}
 
-    fn give(&self, socket: &mut Socket) {
-        if let Socket::Udp(socket) = socket {
-            socket.process(PacketMeta {}, self.header, self.udp, self.bytes);
-        }
+/// The first place whose socket accepts a datagram.
+fn datagram_place(
+    inner: &InterfaceInner,
+    places: &[SocketStorage<Socket>],
+    header: &IpRepr,
+    udp: &UdpRepr,
+) -> Option<usize>
+    ensures place { result ≡ datagram_place (context_of inner.now) header.now udp.now places.now }
+    ensures in_range { ForSome result (λ at. at < length places.now) }
+{
+    places
+        .iter()
+        .position(|place| accepts_datagram(inner, place, header, udp))
+}
+
+/// Gives a datagram to a socket: a UDP socket queues it, a client reads it.
+fn process_datagram(
+    inner: &InterfaceInner,
+    socket: &mut Socket,
+    header: &IpRepr,
+    udp: &UdpRepr,
+    bytes: &[u8],
+)
+    ensures { TakesDatagram (context_of inner.now) header.now udp.now bytes.now socket.old socket.new }
+{
+    match socket {
+        Socket::Udp(socket) => socket.process(PacketMeta {}, header, udp, bytes),
+        Socket::Dhcpv4(socket) => socket.process(inner, header, udp, bytes),
+        Socket::Dns(socket) => socket.process(inner, header, udp, bytes),
+        Socket::Raw(_) | Socket::Icmp(_) | Socket::Tcp(_) => {}
     }
+}
+
+/// Gives a datagram to the socket, if there is one at this place.
+fn process_datagram_in(
+    inner: &InterfaceInner,
+    place: &mut SocketStorage<Socket>,
+    header: &IpRepr,
+    udp: &UdpRepr,
+    bytes: &[u8],
+)
+    ensures { PlaceTakes (context_of inner.now) header.now udp.now bytes.now place.old place.new }
+{
+    if let Some(item) = &mut place.inner {
+        process_datagram(inner, &mut item.socket, header, udp, bytes);
+    }
+}
+
+/// Gives a datagram to the socket at this place.
+#[tactic(auto, using(crate::proofs::AtPlace::given_here))]
+fn process_datagram_at(
+    inner: &InterfaceInner,
+    places: &mut [SocketStorage<Socket>],
+    at: usize,
+    header: &IpRepr,
+    udp: &UdpRepr,
+    bytes: &[u8],
+)
+    requires { at < length places.old }
+    ensures { GivenAt (context_of inner.now) header.now udp.now bytes.now (Some at) places.old places.new }
+{
+    process_datagram_in(inner, &mut places[at], header, udp, bytes);
 }
 
 /// Gives a user datagram to the first socket that accepts it, and says whether there is one.
+#[tactic(auto, using(crate::proofs::AtPlace::delivered_at, crate::proofs::AtPlace::delivered_nowhere))]
 pub fn deliver_datagram(
     inner: &InterfaceInner,
     places: &mut [SocketStorage<Socket>],
@@ -191,17 +252,11 @@ pub fn deliver_datagram(
     bytes: &[u8],
 ) -> bool
     ensures taken { result ≡ is_some (datagram_place (context_of inner.now) header.now udp.now places.old) }
-    ensures places { places.new ≡ datagram_delivered (context_of inner.now) header.now udp.now bytes.now places.old }
+    ensures places { IsDelivered (context_of inner.now) header.now udp.now bytes.now places.old places.new }
 {
-    let datagram = UdpArrival {
-        inner,
-        header,
-        udp,
-        bytes,
-    };
-    match first_place(places, &datagram) {
+    match datagram_place(inner, places, header, udp) {
         Some(at) => {
-            give_at(places, at, &datagram);
+            process_datagram_at(inner, places, at, header, udp, bytes);
             true
         }
         None => false,

@@ -9,10 +9,11 @@ ghost use Rattle.sockets.specs.Packet.{option_value, IsSendable};
 ghost use Rattle.interface_ingress.specs.Carried.{carried_of};
 ghost use Rattle.interface_ingress.specs.Read.{IsControl, datagram_of, segment_of};
 ghost use Rattle.interface_egress.specs.Inner.{context_of};
-ghost use Rattle.interface_ingress.specs.Delivered.{datagram_delivered};
+ghost use Rattle.interface_ingress.specs.Datagrams.{IsDelivered};
 ghost use Rattle.interface_ingress.specs.Handed.{control_v4_places, control_v4_reply, message_host, message_reply, control_v6_host, control_v6_places};
 ghost use Rattle.interface_ingress.specs.Handed.{control_v6_reply, is_for_many, names_nobody, datagram_reply, segment_host, segment_places, segment_reply};
-ghost use Rattle.interface_ingress.specs.Handed.{is_known_v4, is_known_v6, is_unknown, is_bare, unread_v6, unread_reply, handed_host, handed_places, handed_reply, FitsBack};
+ghost use Rattle.interface_ingress.specs.Handed.{is_known_v4, is_known_v6, is_unknown, is_bare, unread_v6, unread_reply, handed_host, handed_reply};
+ghost use Rattle.interface_ingress.specs.Handed.{HandsTo, FitsBack};
 ghost use Rattle.ipv6_headers.specs.Headers.{StopsWithin, upper_of, upper_bytes_of};
 ghost use Rattle.ip_wire.specs.IpRepr.TheVariants as Ip;
 ghost use Rattle.ip_wire.specs.Ipv6 as Ipv6;
@@ -214,7 +215,7 @@ fn give_datagram<'a>(
 )
     requires fits { Fits header.now }
     requires none { reply.old ≡ None }
-    ensures places { places.new ≡ datagram_delivered (context_of inner.now) header.now datagram.now.header datagram.now.bytes.now places.old }
+    ensures places { IsDelivered (context_of inner.now) header.now datagram.now.header datagram.now.bytes.now places.old places.new }
     ensures reply { reply_of reply.new ≡ answered (datagram_reply inner.now places.old header.now payload.now is_taken datagram.now.header) }
     ensures sendable { IfCanGo (reply_of reply.new) }
 {
@@ -238,7 +239,7 @@ fn hand_datagram<'a>(
     requires short { length payload.now < 2 ^ 16 }
     requires none { reply.old ≡ None }
     ensures host { inner.now ≡ handed_host inner.now places.old header.now (datagram_of datagram.now) }
-    ensures places { places.new ≡ handed_places inner.now places.old header.now (datagram_of datagram.now) }
+    ensures places { HandsTo inner.now places.old header.now (datagram_of datagram.now) places.new }
     ensures reply { reply_of reply.new ≡ answered (handed_reply inner.now places.old header.now payload.now is_taken (datagram_of datagram.now)) }
     ensures sendable { IfCanGo (reply_of reply.new) }
 {
@@ -305,7 +306,7 @@ fn hand_segment<'a>(
     requires short { length payload.now < 2 ^ 16 }
     requires none { reply.old ≡ None }
     ensures host { inner.new ≡ handed_host inner.old places.old header.now (segment_of segment.now) }
-    ensures places { places.new ≡ handed_places inner.old places.old header.now (segment_of segment.now) }
+    ensures places { HandsTo inner.old places.old header.now (segment_of segment.now) places.new }
     ensures reply { reply_of reply.new ≡ answered (handed_reply inner.old places.old header.now payload.now is_taken (segment_of segment.now)) }
     ensures sendable { IfCanGo (reply_of reply.new) }
 {
@@ -352,7 +353,7 @@ fn hand_message<'a>(
     requires back { FitsBack (carried_of carried.now) }
     requires control { IsControl (carried_of carried.now) }
     ensures host { inner.new ≡ handed_host inner.old places.old header.now (carried_of carried.now) }
-    ensures places { places.new ≡ handed_places inner.old places.old header.now (carried_of carried.now) }
+    ensures places { HandsTo inner.old places.old header.now (carried_of carried.now) places.new }
     ensures reply { option_value result ≡ handed_reply inner.old places.old header.now payload.now is_taken (carried_of carried.now) }
     ensures sendable { IfSome (option_value result) IsSendable }
 {

@@ -1,5 +1,7 @@
 //! The way in of an interface: what a frame carries, what it brings to a host's tables, slots and sockets, and what is answered
 //! at once.
+//!
+//! It passes on what an interface names of `sockets`.
 #![tactic(auto)]
 
 mod acquaintance;
@@ -28,3 +30,4 @@ pub use icmp_reply::{
 pub use incoming::{Incoming, read, read_into};
 pub use reassemble::{keep, release, take_in};
 pub use reply::Reply;
+pub use sockets::{Context, Offer, Packet, PollAt, Socket, addresses, laws as socket_laws, widths};

@@ -1,8 +1,7 @@
 //! Sockets at their places, to which something that arrived is given.
-ghost use Rattle.std.specs.Prelude.{◌≡◌, ◌<◌, length, position, Some};
+ghost use Rattle.std.specs.Prelude.{◌≡◌};
 ghost use Rattle.std.specs.List.{list_any};
-ghost use Rattle.std.specs.Option.{ForSome};
-ghost use Rattle.interface_ingress.specs.Delivered.{given, with_change, passes, all_given, first_place, changed_at};
+ghost use Rattle.interface_ingress.specs.Delivered.{given, with_change, passes, all_given};
 
 use interface_egress::SocketStorage;
 use sockets::Socket;
@@ -42,35 +41,6 @@ pub(crate) fn is_for_any<A: Arrival>(places: &[SocketStorage<Socket>], arrival: 
     ensures { result ≡ list_any (passes (A.accepted arrival.now)) places.now }
 {
     places.iter().any(|place| is_for_place(place, arrival))
-}
-
-/// The first place whose socket accepts it.
-pub(crate) fn first_place<A: Arrival>(
-    places: &[SocketStorage<Socket>],
-    arrival: &A,
-) -> Option<usize>
-    ensures place { result ≡ first_place (A.accepted arrival.now) places.now }
-    ensures in_range { ForSome result (λ at. at < length places.now) }
-{
-    places.iter().position(|place| is_for_place(place, arrival))
-}
-
-/// Gives it to the socket, if there is one at this place.
-fn give_place<A: Arrival>(place: &mut SocketStorage<Socket>, arrival: &A)
-    ensures { place.new ≡ with_change (A.taken arrival.now) place.old }
-{
-    if let Some(item) = &mut place.inner {
-        arrival.give(&mut item.socket);
-    }
-}
-
-/// Gives it to the socket at this place.
-#[tactic(auto, using(crate::proofs::AtPlace::changed_here))]
-pub(crate) fn give_at<A: Arrival>(places: &mut [SocketStorage<Socket>], at: usize, arrival: &A)
-    requires { at < length places.old }
-    ensures { places.new ≡ changed_at (A.taken arrival.now) (Some at) places.old }
-{
-    give_place(&mut places[at], arrival);
 }
 
 /// Gives it to the socket at this place, if that accepts it.

@@ -17,7 +17,6 @@ use Rattle.lan_history.specs.Call.{SocketCall}
 use Rattle.lan_history.specs.Kinds.{Kind}
 use Rattle.lan_history.specs.Kinds.Act.{Calls, Sets, Opens, Asks, Polls}
 use Rattle.lan_history.specs.Kinds.Kind.{OfHost, OfLink}
-use Rattle.lan_history.specs.Tables.{has_call}
 use Rattle.lan_history.specs.declared.event.Side.{Side}
 use Rattle.lan_packets.specs.Calls.{Did}
 use Rattle.lan_hosts.specs.Acting.{ActsBy, ActsSo}
@@ -32,7 +31,7 @@ some_taken : (t : Taken) → (let o : Option Taken = Some t in o) ≡ None → �
 some_taken t is = cc
 
 -- a socket of a kind that has a call does it
-has_does : (cx : ContextValue) (s : Socket) (call : SocketCall) → has_call (kind_of_socket s) call ≡ true → does cx s call ≡ None → ⊥
+has_does : (cx : ContextValue) (s : Socket) (call : SocketCall) → is_called (kind_of_socket s) call ≡ true → does cx s call ≡ None → ⊥
 has_does cx (Is.Raw v) (Call.Listen port) has is = absurd cc
 has_does cx (Is.Raw v) (Call.Connect remote port) has is = absurd cc
 has_does cx (Is.Raw v) (Call.Send bytes) has is = absurd cc
@@ -89,6 +88,8 @@ has_does cx (Is.Tcp v) (Call.SendTo remote bytes) has is = absurd cc
 has_does cx (Is.Tcp v) (Call.SendIcmp remote bytes) has is = absurd cc
 has_does cx (Is.Tcp v) (Call.SendRaw bytes) has is = absurd cc
 has_does cx (Is.Tcp v) (Call.RecvFrom limit) has is = absurd cc
+has_does cx (Is.Dhcpv4 v) call has is = absurd cc
+has_does cx (Is.Dns v) call has is = absurd cc
 
 module _ (s : StationValue) (i : ℕ) (side : Side) (call : SocketCall) (h' : HostValue) (ps' : List (SocketStorage Socket)) where
   abbrev After : StationValue

@@ -1,24 +1,14 @@
 -- A poll at a port with buffers for all that it may send: none is refused.
-use Rattle.std.proofs.Common.{◌≡◌, ℕ, ◌+◌, ◌-◌, ◌*◌, ◌≤◌, ℤ, Bool, true, false, List, length, Option, None, Some, IfSome, is_some, inl, inr, refl, sym, ap, ◌∙◌}
+use Rattle.std.proofs.Common.{◌≡◌, ℕ, ◌+◌, ◌-◌, ◌*◌, ◌≤◌, ℤ, Bool, true, false, List, length, Option, None, Some, is_some, inl, inr, refl, sym, ap, ◌∙◌}
 use Rattle.std.proofs.Common.{subst, arith}
 use Rattle.std.specs.Prelude.{nat_le, if◌then◌else◌}
 use Rattle.net_base.specs.Device.{Took, Emitted, Denied}
-use Rattle.sockets.specs.Context.{ContextValue}
-use Rattle.sockets.specs.Packet.{PacketValue, IsSendable}
+use Rattle.sockets.specs.Packet.{PacketValue}
 use Rattle.sockets.specs.Offer as Answer
 use Rattle.sockets.specs.Offer.TheVariants as Offer
-use Rattle.sockets.specs.Udp as Udps
-use Rattle.sockets.specs.Udp.{UdpValue}
-use Rattle.sockets.specs.Icmp as Icmps
-use Rattle.sockets.specs.Icmp.{IcmpValue}
-use Rattle.sockets.specs.Raw as Raws
-use Rattle.sockets.specs.Raw.{RawValue}
-use Rattle.tcp_model.specs.Offers as TcpOffers
-use Rattle.tcp_socket.proofs.Sendable.{fits_offered}
-use Rattle.sockets.specs.Socket.{Offers, offered_by}
+use Rattle.sockets.specs.Socket.{offered_by}
 use Rattle.sockets.specs.declared.socket.Socket.{Socket}
-use Rattle.sockets.specs.declared.socket.Socket.TheVariants as Kind
-use Rattle.interface_egress.specs.Inner.{InnerValue, context_of, at_moment}
+use Rattle.interface_egress.specs.Inner.{InnerValue, at_moment}
 use Rattle.interface_egress.specs.declared.socket_set.Item.{Item}
 use Rattle.interface_egress.specs.declared.socket_set.SocketStorage.{SocketStorage}
 use Rattle.interface_egress.specs.Departing.{SendsOnce, HasSettingsOf, departure_by, was_taken, link_room}
@@ -48,45 +38,6 @@ use Rattle.interface.proofs.Count.{polls_count}
 use Rattle.interface.proofs.Runs.{receives_same}
 use Rattle.lan_port.specs.Port.{PortValue, PortMove}
 use Rattle.lan_hosts.proofs.Replies.{IsMeasured, IfReplyMeasured, brings_so}
-
--- WHAT SOCKETS OFFER
-
-abbrev pub FitsRaw : Type 0
-FitsRaw = (cx : ContextValue) (v v' : RawValue) (answer : Answer.Offer) (p : PacketValue) → Raws.Offers cx v answer v' → v'.offered ≡ Some p → IsSendable p
-
-abbrev pub FitsIcmp : Type 0
-FitsIcmp = (cx : ContextValue) (v v' : IcmpValue) (answer : Answer.Offer) (p : PacketValue) → Icmps.Offers cx v answer v' → v'.offered ≡ Some p → IsSendable p
-
-abbrev pub FitsUdp : Type 0
-FitsUdp = (cx : ContextValue) (v v' : UdpValue) (answer : Answer.Offer) (p : PacketValue) → Udps.Offers cx v answer v' → v'.offered ≡ Some p → IsSendable p
-
-some_packet : (q p : PacketValue) → (let o : Option PacketValue = Some q in o) ≡ Some p → q ≡ p
-some_packet q p is = cc
-
-module _ (raw : FitsRaw) (icmp : FitsIcmp) (udp : FitsUdp) where
-  tcp_fits : (o : Option PacketValue) (p : PacketValue) → o ≡ Some p → IfSome o IsSendable → IsMeasured p
-  tcp_fits None p is fits = absurd cc
-  tcp_fits (Some q) p is fits = subst IsMeasured (some_packet q p is) fits.len
-
-  measured : (cx : ContextValue) (s s' : Socket) (answer : Answer.Offer) (p : PacketValue) → Offers cx s answer s' → offered_by s' ≡ Some p → IsMeasured p
-  measured cx (Kind.Raw v) (Kind.Raw v') answer p offers is = (raw cx v v' answer p offers is).len
-  measured cx (Kind.Icmp v) (Kind.Icmp v') answer p offers is = (icmp cx v v' answer p offers is).len
-  measured cx (Kind.Udp v) (Kind.Udp v') answer p offers is = (udp cx v v' answer p offers is).len
-  measured cx (Kind.Tcp v) (Kind.Tcp v') answer p offers is =
-      tcp_fits (TcpOffers.offered_packet (TcpOffers.offer_of cx v).socket) p
-      (ap TcpOffers.offered_packet (sym offers.1) ∙ is) (fits_offered cx v)
-  measured cx (Kind.Raw v) (Kind.Icmp v') answer p offers is = absurd offers
-  measured cx (Kind.Raw v) (Kind.Udp v') answer p offers is = absurd offers
-  measured cx (Kind.Raw v) (Kind.Tcp v') answer p offers is = absurd offers
-  measured cx (Kind.Icmp v) (Kind.Raw v') answer p offers is = absurd offers
-  measured cx (Kind.Icmp v) (Kind.Udp v') answer p offers is = absurd offers
-  measured cx (Kind.Icmp v) (Kind.Tcp v') answer p offers is = absurd offers
-  measured cx (Kind.Udp v) (Kind.Raw v') answer p offers is = absurd offers
-  measured cx (Kind.Udp v) (Kind.Icmp v') answer p offers is = absurd offers
-  measured cx (Kind.Udp v) (Kind.Tcp v') answer p offers is = absurd offers
-  measured cx (Kind.Tcp v) (Kind.Raw v') answer p offers is = absurd offers
-  measured cx (Kind.Tcp v) (Kind.Icmp v') answer p offers is = absurd offers
-  measured cx (Kind.Tcp v) (Kind.Udp v') answer p offers is = absurd offers
 
 -- THE PORT
 
@@ -228,8 +179,7 @@ module _ (most refusals : ℕ) where
       subst (λ (i : InnerValue). So (n + 1) x'.device i) (sym is)
       (so_piece n l gone goes.0 x'.device x.inner x'.left within goes.2 (so_same n x.device goes.0 x.inner goes.1.0 so))
 
-  module _ (raw : FitsRaw) (icmp : FitsIcmp) (udp : FitsUdp) (turn : Option IpAddress) (n : ℕ) (within : n + 1 ≤ most) (x x' : Sender PortValue)
-      (so : So n x.device x.inner) where
+  module _ (turn : Option IpAddress) (n : ℕ) (within : n + 1 ≤ most) (x x' : Sender PortValue) (so : So n x.device x.inner) where
     abbrev Next : Type 0
     Next = So (n + 1) x'.device x'.inner
 
@@ -243,22 +193,18 @@ module _ (most refusals : ℕ) where
     so_leaves m p sent len (inr goes) =
         so_out n goes.0 x'.device x.inner x'.inner x.left x'.left p (is_some x.left) sent within len goes.2 (so_same n x.device goes.0 x.inner goes.1.0 so)
 
-    so_sent : (o : Option PacketValue) (item item' : Item Socket) (changed : Bool) (turned : Turned) → ((p : PacketValue) → o ≡ Some p → IsMeasured p) →
+    so_sent : (o : Option PacketValue) (item item' : Item Socket) (changed : Bool) (turned : Turned) →
         SendsBy PortMove turn o x item changed turned x' item' → Next
-    so_sent None item item' changed turned len sends = absurd sends
-    so_sent (Some p) item item' changed turned len sends = so_leaves item.meta p sends.0 (len p refl) sends.1
+    so_sent None item item' changed turned sends = absurd sends
+    so_sent (Some p) item item' changed turned sends = so_leaves item.meta p sends.0 sends.4.sendable.len sends.1
 
-    so_answers : (s s' : Socket) (answer : Answer.Offer) (item item' : Item Socket) (turned : Turned) → Offers (context_of x.inner) s answer s' →
-        item.socket ≡ s' → Answers PortMove turn answer x item turned x' item' → Next
-    so_answers s s' (Offer.Silent changed) item item' turned offers is answers = so_stays answers.1
-    so_answers s s' (Offer.Packet changed) item item' turned offers is answers =
-        so_sent (offered_by item.socket) item item' changed turned
-        (λ p some. measured raw icmp udp (context_of x.inner) s s' (Offer.Packet changed) p offers
-        (subst (λ (y : Socket). offered_by y ≡ Some p) is some)) answers
+    so_answers : (answer : Answer.Offer) (item item' : Item Socket) (turned : Turned) → Answers PortMove turn answer x item turned x' item' → Next
+    so_answers (Offer.Silent changed) item item' turned answers = so_stays answers.1
+    so_answers (Offer.Packet changed) item item' turned answers = so_sent (offered_by item.socket) item item' changed turned answers
 
     so_turns : (waits : Bool) (item item' : Item Socket) (turned : Turned) → TurnsIf PortMove turn waits x item turned x' item' → Next
     so_turns true item item' turned turns = so_stays turns.1
-    so_turns false item item' turned turns = so_answers item.socket turns.1 turns.0 (record item { socket = turns.1 }) item' turned turns.2 refl turns.3
+    so_turns false item item' turned turns = so_answers turns.0 (record item { socket = turns.1 }) item' turned turns.3
 
     so_item : (o o' : Option (Item Socket)) (turned : Turned) → ItemTurns PortMove turn o x turned x' o' → Next
     so_item None None turned turns = so_stays turns.1
@@ -269,7 +215,7 @@ module _ (most refusals : ℕ) where
     so_place : (p p' : SocketStorage Socket) (turned : Turned) → PlaceTurns PortMove turn x p turned x' p' → Next
     so_place p p' turned turns = so_item p.inner p'.inner turned turns
 
-module _ (raw : FitsRaw) (icmp : FitsIcmp) (udp : FitsUdp) (t : ℤ) (most refusals : ℕ) where
+module _ (t : ℤ) (most refusals : ℕ) where
   -- within the count that was asked for
   abbrev Within : ℕ → State PortValue → Type 0
   Within n s = n ≤ most → Stocked most refusals n s.device s.host.inner
@@ -283,8 +229,7 @@ module _ (raw : FitsRaw) (icmp : FitsIcmp) (udp : FitsUdp) (t : ℤ) (most refus
     maintenance = λ n s so within. so_host most refusals n s.device s.host.inner (at_moment t s.host.inner) refl refl (so within);
     arrivals = λ n s s' answer runs so takes within. so_takes most refusals n s s' answer within (so (before n within)) takes;
     pieces = λ n h ps x x' l gone runs is so leaves same within. so_piece_leaves most refusals n l x x' gone within leaves same (so (before n within));
-    turns = λ turn n h earlier after p p' x x' turned runs so turns within. so_place most refusals raw icmp udp turn n within x x' (so (before n within)) p p'
-        turned turns;
+    turns = λ turn n h earlier after p p' x x' turned runs so turns within. so_place most refusals turn n within x x' (so (before n within)) p p' turned turns;
   }
 
   start : (d : PortValue) (i : InnerValue) → 576 ≤ i.mtu → link_room i.hardware + i.mtu ≤ d.size → most ≤ d.ready → d.link.refusals ≡ refusals →
@@ -292,14 +237,14 @@ module _ (raw : FitsRaw) (icmp : FitsIcmp) (udp : FitsUdp) (t : ℤ) (most refus
   start d i low fits ready none = record { low = low; fits = fits; ready = omega (arith, ready); none_refused = none }
 
 -- a poll at a port with so many buffers that fit
-pub none_refused : FitsRaw → FitsIcmp → FitsUdp → (t : ℤ) (budget : ℕ) (s s' : State PortValue) (changed : Bool) → 576 ≤ s.host.inner.mtu →
+pub none_refused : (t : ℤ) (budget : ℕ) (s s' : State PortValue) (changed : Bool) → 576 ≤ s.host.inner.mtu →
     link_room s.host.inner.hardware + s.host.inner.mtu ≤ s.device.size
     → budget * (length s.places + 2) ≤ s.device.ready → Polls PortMove t budget s changed s' → s'.device.link.refusals ≡ s.device.link.refusals
-none_refused raw icmp udp t budget s s' changed low fits ready polls =
+none_refused t budget s s' changed low fits ready polls =
     let most : ℕ = budget * (length s.places + 2) in
-    let first : Within raw icmp udp t most s.device.link.refusals 0 s =
-    λ within. start raw icmp udp t most s.device.link.refusals s.device s.host.inner low fits ready refl in
+    let first : Within t most s.device.link.refusals 0 s =
+    λ within. start t most s.device.link.refusals s.device s.host.inner low fits ready refl in
     let last : Stocked most s.device.link.refusals (0 + most) s'.device s'.host.inner =
-    (polls_count PortMove t (Within raw icmp udp t most s.device.link.refusals) (counted raw icmp udp t most s.device.link.refusals) budget 0 s s' changed first
+    (polls_count PortMove t (Within t most s.device.link.refusals) (counted t most s.device.link.refusals) budget 0 s s' changed first
     polls).0 (omega arith) in
     last.none_refused

@@ -148,6 +148,8 @@ socket_so cx ip header bytes (Kind.Tcp v) = by_reply (arrives cx v ip header byt
 socket_so cx ip header bytes (Kind.Udp v) = tt
 socket_so cx ip header bytes (Kind.Icmp v) = tt
 socket_so cx ip header bytes (Kind.Raw v) = tt
+socket_so cx ip header bytes (Kind.Dhcpv4 v) = tt
+socket_so cx ip header bytes (Kind.Dns v) = tt
 
 item_so : (cx : ContextValue) (ip : IpRepr) (header : TcpHeader) (bytes : List ℕ) (o : Option (Item Socket)) →
     IfMeasured (answer_in (answer_of cx ip header bytes) o)

@@ -73,6 +73,8 @@ does cx (Is.Raw v) call = did_as Is.Raw (raw_does v call)
 does cx (Is.Icmp v) call = did_as Is.Icmp (icmp_does v call)
 does cx (Is.Udp v) call = did_as Is.Udp (udp_does v call)
 does cx (Is.Tcp v) call = did_as Is.Tcp (tcp_does cx v call)
+does cx (Is.Dhcpv4 v) call = None
+does cx (Is.Dns v) call = None
 
 -- an accepted connect draws a random word from its host
 abbrev pub draws : ContextValue → Socket → SocketCall → Bool

@@ -17,12 +17,15 @@ use Rattle.lan_packets.specs.Endpoints.{IsNameless}
 use Rattle.lan_packets.specs.Promises.{IsFresh}
 use Rattle.lan_hosts.specs.Runs.{Start, Starts}
 
--- nothing is queued; one of TCP is CLOSED without endpoints, and took no FIN
+-- nothing is queued; one of TCP is CLOSED without endpoints, and took no FIN. A client of DHCP or DNS is at no host of a world: no
+-- application accepted the datagrams that it sends.
 abbrev pub IsUnused : Socket → Type 0
 IsUnused (Is.Raw v) = (contents v.received ≡ []) × (contents v.queued ≡ [])
 IsUnused (Is.Icmp v) = (contents v.received ≡ []) × (contents v.queued ≡ [])
 IsUnused (Is.Udp v) = (contents v.received ≡ []) × (contents v.queued ≡ [])
 IsUnused (Is.Tcp v) = IsFresh v × IsNameless v.block
+IsUnused (Is.Dhcpv4 v) = ⊥
+IsUnused (Is.Dns v) = ⊥
 
 abbrev pub IsHardware : HardwareAddress → Type 0
 IsHardware (Hardware.Ethernet own) = IsEthernetAddress own

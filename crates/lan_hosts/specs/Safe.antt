@@ -10,15 +10,18 @@ use Rattle.lan_packets.specs.Parties.{Party, Net}
 use Rattle.lan_hosts.specs.Station.{StationValue}
 use Rattle.lan_hosts.specs.Runs.{Starts, start, WorldValue}
 
-abbrev pub seen : Sockets.Socket → Parties.Socket
-seen (Is.Raw v) = Parties.Raw
-seen (Is.Icmp v) = Parties.Icmp
-seen (Is.Udp v) = Parties.Udp v
-seen (Is.Tcp v) = Parties.Tcp v
+-- of a client of DHCP or DNS nothing is looked at: a world has none
+abbrev pub seen : Sockets.Socket → Option Parties.Socket
+seen (Is.Raw v) = Some Parties.Raw
+seen (Is.Icmp v) = Some Parties.Icmp
+seen (Is.Udp v) = Some (Parties.Udp v)
+seen (Is.Tcp v) = Some (Parties.Tcp v)
+seen (Is.Dhcpv4 v) = None
+seen (Is.Dns v) = None
 
 abbrev pub seen_in : Option Sockets.Socket → Option Parties.Socket
 seen_in None = None
-seen_in (Some s) = Some (seen s)
+seen_in (Some s) = seen s
 
 -- which sockets a host has, by place; what they made isn't looked at
 abbrev pub party_of : StationValue → Party

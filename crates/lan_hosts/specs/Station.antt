@@ -33,17 +33,20 @@ with_station hosts B s = record hosts { b = s }
 abbrev pub with_link : StationValue → LinkEnd → StationValue
 with_link s link = record s { link = link }
 
-abbrev pub kind_of_socket : Socket → SocketKind
-kind_of_socket (Is.Raw v) = Of.Raw
-kind_of_socket (Is.Icmp v) = Of.Icmp
-kind_of_socket (Is.Udp v) = Of.Udp
-kind_of_socket (Is.Tcp v) = Of.Tcp
+-- no event calls a client of DHCP or DNS, so there is no kind of it
+abbrev pub kind_of_socket : Socket → Option SocketKind
+kind_of_socket (Is.Raw v) = Some Of.Raw
+kind_of_socket (Is.Icmp v) = Some Of.Icmp
+kind_of_socket (Is.Udp v) = Some Of.Udp
+kind_of_socket (Is.Tcp v) = Some Of.Tcp
+kind_of_socket (Is.Dhcpv4 v) = None
+kind_of_socket (Is.Dns v) = None
 
 abbrev pub kind_in : Option Socket → Option SocketKind
 kind_in None = None
-kind_in (Some s) = Some (kind_of_socket s)
+kind_in (Some s) = kind_of_socket s
 
--- which kind of socket is at a place; a free place has none
+-- which kind of socket that events call is at a place; a free place has none
 abbrev pub kind_at : List (SocketStorage Socket) → ℕ → Option SocketKind
 kind_at places i = kind_in (socket_at places i)
 

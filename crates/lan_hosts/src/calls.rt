@@ -22,7 +22,8 @@ pub fn listen(socket: &mut Socket, port: u16) -> Option<Brief>
 {
     match socket {
         Socket::Tcp(socket) => Some(streams::listen(socket, port)),
-        Socket::Raw(_) | Socket::Icmp(_) | Socket::Udp(_) => None,
+        Socket::Raw(_) | Socket::Icmp(_) | Socket::Udp(_) | Socket::Dhcpv4(_) | Socket::Dns(_) =>
+            None,
     }
 }
 
@@ -32,7 +33,8 @@ pub fn send(socket: &mut Socket, bytes: &Bytes) -> Option<Brief>
 {
     match socket {
         Socket::Tcp(socket) => Some(streams::send(socket, bytes)),
-        Socket::Raw(_) | Socket::Icmp(_) | Socket::Udp(_) => None,
+        Socket::Raw(_) | Socket::Icmp(_) | Socket::Udp(_) | Socket::Dhcpv4(_) | Socket::Dns(_) =>
+            None,
     }
 }
 
@@ -42,7 +44,8 @@ pub fn bind(socket: &mut Socket, port: u16) -> Option<Brief>
 {
     match socket {
         Socket::Udp(socket) => Some(datagrams::bind(socket, port)),
-        Socket::Raw(_) | Socket::Icmp(_) | Socket::Tcp(_) => None,
+        Socket::Raw(_) | Socket::Icmp(_) | Socket::Tcp(_) | Socket::Dhcpv4(_) | Socket::Dns(_) =>
+            None,
     }
 }
 
@@ -52,7 +55,8 @@ pub fn send_to(socket: &mut Socket, remote: IpEndpoint, bytes: &Bytes) -> Option
 {
     match socket {
         Socket::Udp(socket) => Some(datagrams::send_to(socket, remote, bytes)),
-        Socket::Raw(_) | Socket::Icmp(_) | Socket::Tcp(_) => None,
+        Socket::Raw(_) | Socket::Icmp(_) | Socket::Tcp(_) | Socket::Dhcpv4(_) | Socket::Dns(_) =>
+            None,
     }
 }
 
@@ -62,7 +66,8 @@ pub fn ident(socket: &mut Socket, ident: u16) -> Option<Brief>
 {
     match socket {
         Socket::Icmp(socket) => Some(datagrams::ident(socket, ident)),
-        Socket::Raw(_) | Socket::Udp(_) | Socket::Tcp(_) => None,
+        Socket::Raw(_) | Socket::Udp(_) | Socket::Tcp(_) | Socket::Dhcpv4(_) | Socket::Dns(_) =>
+            None,
     }
 }
 
@@ -72,7 +77,8 @@ pub fn send_icmp(socket: &mut Socket, remote: IpAddress, bytes: &Bytes) -> Optio
 {
     match socket {
         Socket::Icmp(socket) => Some(datagrams::send_icmp(socket, remote, bytes)),
-        Socket::Raw(_) | Socket::Udp(_) | Socket::Tcp(_) => None,
+        Socket::Raw(_) | Socket::Udp(_) | Socket::Tcp(_) | Socket::Dhcpv4(_) | Socket::Dns(_) =>
+            None,
     }
 }
 
@@ -82,7 +88,8 @@ pub fn send_raw(socket: &mut Socket, bytes: &Bytes) -> Option<Brief>
 {
     match socket {
         Socket::Raw(socket) => Some(datagrams::send_raw(socket, bytes)),
-        Socket::Icmp(_) | Socket::Udp(_) | Socket::Tcp(_) => None,
+        Socket::Icmp(_) | Socket::Udp(_) | Socket::Tcp(_) | Socket::Dhcpv4(_) | Socket::Dns(_) =>
+            None,
     }
 }
 
@@ -98,7 +105,8 @@ pub fn connect<C: Context>(
 {
     match socket {
         Socket::Tcp(socket) => Some(streams::connect(socket, cx, remote, port)),
-        Socket::Raw(_) | Socket::Icmp(_) | Socket::Udp(_) => None,
+        Socket::Raw(_) | Socket::Icmp(_) | Socket::Udp(_) | Socket::Dhcpv4(_) | Socket::Dns(_) =>
+            None,
     }
 }
 
@@ -111,7 +119,8 @@ pub fn abort(socket: &mut Socket) -> Option<Brief>
             socket.abort();
             Some(Brief::Done)
         }
-        Socket::Raw(_) | Socket::Icmp(_) | Socket::Udp(_) => None,
+        Socket::Raw(_) | Socket::Icmp(_) | Socket::Udp(_) | Socket::Dhcpv4(_) | Socket::Dns(_) =>
+            None,
     }
 }
 
@@ -129,7 +138,7 @@ pub fn close(socket: &mut Socket) -> Option<Taken>
             socket.close();
             Some(give(Brief::Done, None))
         }
-        Socket::Raw(_) | Socket::Icmp(_) => None,
+        Socket::Raw(_) | Socket::Icmp(_) | Socket::Dhcpv4(_) | Socket::Dns(_) => None,
     }
 }
 
@@ -139,7 +148,8 @@ pub fn state(socket: &Socket) -> Option<Brief>
 {
     match socket {
         Socket::Tcp(socket) => Some(Brief::State(socket.state())),
-        Socket::Raw(_) | Socket::Icmp(_) | Socket::Udp(_) => None,
+        Socket::Raw(_) | Socket::Icmp(_) | Socket::Udp(_) | Socket::Dhcpv4(_) | Socket::Dns(_) =>
+            None,
     }
 }
 
@@ -152,7 +162,8 @@ pub fn set(socket: &mut Socket, setting: &TcpSetting) -> Option<Brief>
             streams::set(socket, setting);
             Some(Brief::Done)
         }
-        Socket::Raw(_) | Socket::Icmp(_) | Socket::Udp(_) => None,
+        Socket::Raw(_) | Socket::Icmp(_) | Socket::Udp(_) | Socket::Dhcpv4(_) | Socket::Dns(_) =>
+            None,
     }
 }
 
@@ -163,7 +174,8 @@ pub fn recv(alloc: Global, socket: &mut Socket, limit: usize) -> Result<Option<T
 {
     match socket {
         Socket::Tcp(socket) => Ok(Some(give_twice(streams::recv(alloc, socket, limit)?))),
-        Socket::Raw(_) | Socket::Icmp(_) | Socket::Udp(_) => Ok(None),
+        Socket::Raw(_) | Socket::Icmp(_) | Socket::Udp(_) | Socket::Dhcpv4(_) | Socket::Dns(_) =>
+            Ok(None),
     }
 }
 
@@ -184,7 +196,7 @@ pub fn recv_from(
         Socket::Udp(socket) => Ok(Some(give_twice(datagrams::recv_datagram(
             alloc, socket, limit,
         )?))),
-        Socket::Tcp(_) => Ok(None),
+        Socket::Tcp(_) | Socket::Dhcpv4(_) | Socket::Dns(_) => Ok(None),
     }
 }
 

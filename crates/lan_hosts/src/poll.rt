@@ -13,7 +13,7 @@ use interface::{Interface, PollResult, SocketSet};
 use ip_wire::HardwareAddress;
 use lan_port::Port;
 use net_base::Instant;
-use sockets::{Socket, icmp, raw, udp};
+use sockets::Socket;
 use std::alloc::AllocError;
 
 /// How many bytes the longest frame has that the host sends.
@@ -53,9 +53,6 @@ fn poll_ready(
         (state port.new interface.new (places sockets.new)) }
     ensures none_denied { port.new.link.refusals ≡ port.old.link.refusals }
 {
-    raw::offered_fits();
-    icmp::offered_fits();
-    udp::offered_fits();
     match interface.poll(moment, port, sockets, budget) {
         PollResult::None => false,
         PollResult::SocketStateChanged => true,

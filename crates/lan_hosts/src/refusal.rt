@@ -24,27 +24,28 @@ use lan_history::{Opening, Refused, SocketKind, SocketRecord, is_port_taken};
 use net_base::{Instant, Medium};
 use sockets::{Context, Socket};
 
-/// Which kind of socket is at a place.
+/// Which kind of socket that events call is at a place: a client of DHCP or DNS is none.
 pub fn kind_at(sockets: &SocketSet<Socket>, place: usize) -> Option<SocketKind>
     ensures { result ≡ kind_at (places sockets.now) place }
 {
     match sockets.sockets.as_slice().get(place) {
         Some(storage) => match &storage.inner {
-            Some(item) => Some(kind_of_socket(&item.socket)),
+            Some(item) => kind_of_socket(&item.socket),
             None => None,
         },
         None => None,
     }
 }
 
-fn kind_of_socket(socket: &Socket) -> SocketKind
+fn kind_of_socket(socket: &Socket) -> Option<SocketKind>
     ensures { result ≡ kind_of_socket socket.now }
 {
     match socket {
-        Socket::Raw(_) => SocketKind::Raw,
-        Socket::Icmp(_) => SocketKind::Icmp,
-        Socket::Udp(_) => SocketKind::Udp,
-        Socket::Tcp(_) => SocketKind::Tcp,
+        Socket::Raw(_) => Some(SocketKind::Raw),
+        Socket::Icmp(_) => Some(SocketKind::Icmp),
+        Socket::Udp(_) => Some(SocketKind::Udp),
+        Socket::Tcp(_) => Some(SocketKind::Tcp),
+        Socket::Dhcpv4(_) | Socket::Dns(_) => None,
     }
 }
 

@@ -20,3 +20,4 @@ pub mod Protocols
 pub mod Ports
 pub mod Fits
 pub mod Wide
+pub mod Makers

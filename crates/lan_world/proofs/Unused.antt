@@ -118,6 +118,8 @@ unused_is (Is.Raw v) h = let p = and_parts _ _ h in (nothing_received v.received
 unused_is (Is.Icmp v) h = let p = and_parts _ _ h in (nothing_received v.received p.0, nothing_queued v.queued p.1)
 unused_is (Is.Udp v) h = let p = and_parts _ _ h in (nothing_received v.received p.0, nothing_queued v.queued p.1)
 unused_is (Is.Tcp v) h = unopened_is v h
+unused_is (Is.Dhcpv4 v) h = absurd (false≢true h)
+unused_is (Is.Dns v) h = absurd (false≢true h)
 
 unused_item : (item : Option (Item Socket)) (socket : Socket) → of_item is_unused item ≡ true → socket_of item ≡ Some socket → IsUnused socket
 unused_item None socket h is = cc

@@ -51,6 +51,8 @@ has_buffers (Is.Tcp v) = not (room_of v.received == 0) && not (length v.queued.q
 has_buffers (Is.Raw v) = true
 has_buffers (Is.Icmp v) = true
 has_buffers (Is.Udp v) = true
+has_buffers (Is.Dhcpv4 v) = true
+has_buffers (Is.Dns v) = true
 
 abbrev pub is_no_socket : Option RecvError → Bool
 is_no_socket (Some Recv.InvalidState) = true
@@ -69,11 +71,14 @@ is_ingress At.Ingress = true
 is_ingress At.Now = false
 is_ingress (At.Time moment) = false
 
+-- nothing came or is queued; a client of DHCP or DNS counts as used, since it sends by itself
 abbrev pub is_unused : Socket → Bool
 is_unused (Is.Raw v) = not (has_packets v.received) && is_ingress (due v.queued)
 is_unused (Is.Icmp v) = not (has_packets v.received) && is_ingress (due v.queued)
 is_unused (Is.Udp v) = not (has_packets v.received) && is_ingress (due v.queued)
 is_unused (Is.Tcp v) = is_unopened v
+is_unused (Is.Dhcpv4 v) = false
+is_unused (Is.Dns v) = false
 
 -- what holds of the socket at a place, if there is one
 abbrev pub of_item : (Socket → Bool) → Option (Item Socket) → Bool
@@ -119,5 +124,5 @@ world_error_text Since.Media = codes "two media"
 world_error_text Since.Checksums = codes "a checksum is off"
 world_error_text Since.Mtu = codes "an IP MTU is out of 576 to 65535 bytes"
 world_error_text Since.Buffers = codes "a TCP buffer of no bytes"
-world_error_text Since.NotFresh = codes "a host was used before"
+world_error_text Since.NotFresh = codes "a host was used before, or has a client of DHCP or DNS"
 world_error_text Since.Memory = codes "out of memory"

@@ -104,7 +104,8 @@ fn has_buffers_in(socket: &Socket) -> bool
 {
     match socket {
         Socket::Tcp(socket) => socket.recv_capacity() != 0 && socket.send_capacity() != 0,
-        Socket::Raw(_) | Socket::Icmp(_) | Socket::Udp(_) => true,
+        Socket::Raw(_) | Socket::Icmp(_) | Socket::Udp(_) | Socket::Dhcpv4(_) | Socket::Dns(_) =>
+            true,
     }
 }
 
@@ -142,6 +143,7 @@ fn is_unused(socket: &Socket) -> bool
         Socket::Icmp(socket) => !socket.can_recv() && is_ingress(socket.poll_at()),
         Socket::Udp(socket) => !socket.can_recv() && is_ingress(socket.poll_at()),
         Socket::Tcp(socket) => is_unopened(socket),
+        Socket::Dhcpv4(_) | Socket::Dns(_) => false,
     }
 }
 

@@ -1,6 +1,7 @@
 -- What a packet for the host does to the socket at a place.
-use Rattle.std.proofs.Common.{◌≡◌, ℕ, Bool, true, false, if◌then◌else◌, List, Option, Some, None, refl, sym, subst}
+use Rattle.std.proofs.Common.{◌≡◌, ℕ, Bool, true, false, if◌then◌else◌, List, get_or, Option, Some, None, refl, sym, subst}
 use Rattle.std.proofs.lemmas.List.Quantifiers.{position-Some}
+use Rattle.std.proofs.lemmas.Option.{slice_get-get_or}
 use Rattle.net_base.specs.ChecksumCapabilities.{ChecksumCapabilities}
 use Rattle.ip_wire.specs.IpAddress.{IpAddress}
 use Rattle.ip_wire.specs.IpAddress.TheVariants as Address
@@ -20,18 +21,21 @@ use Rattle.sockets.specs.Offer as Answer
 use Rattle.sockets.specs.Socket.{Offers, settled, accepts_packet, accepts_icmpv4, accepts_icmpv6, accepts_datagram, accepts_segment}
 use Rattle.sockets.specs.declared.socket.Socket.{Socket}
 use Rattle.interface_egress.specs.Set.{free}
+use Rattle.interface_egress.specs.declared.socket_set.Item.{Item}
+use Rattle.interface_egress.specs.declared.socket_set.SocketStorage.{SocketStorage}
 use Rattle.interface.specs.Inner.{InnerValue, context_of, is_for_us}
 use Rattle.interface_ingress.specs.Arrives.{Arrived, ArrivesV4, ArrivesV6, Brings, Hands, is_direct, renewed, renewed_by, sender_of}
 use Rattle.interface_ingress.specs.Carried.{IsDatagram, IsSegment, IsCarriedContent}
-use Rattle.interface_ingress.specs.Delivered.{Places, passes, changed_at, with_packet, packet_delivered, is_taken_raw, with_icmpv4, with_icmpv6, with_datagram}
+use Rattle.interface_ingress.specs.Datagrams.{TakesDatagram, ItemTakes, GivenIn, GivenAt}
+use Rattle.interface_ingress.specs.Delivered.{Places, passes, passes_in, changed_at, with_packet, packet_delivered, is_taken_raw, with_icmpv4, with_icmpv6}
 use Rattle.interface_ingress.specs.Delivered.{datagram_place, with_segment, segment_place, segment_delivered}
-use Rattle.interface_ingress.specs.Handed.{control_v4_places, control_v6_places, names_nobody, handed_places}
+use Rattle.interface_ingress.specs.Handed.{control_v4_places, control_v6_places, names_nobody, HandsTo}
 use Rattle.interface_ingress.specs.Incoming.{IncomingValue, Arp, Ip4, Ip6}
 use Rattle.interface_ingress.specs.Upper.{upper_header, upper_payload}
 use Rattle.interface_ingress.proofs.AtPlace.{changed_here}
 use Rattle.interface_ingress.proofs.Segments.{accepted_there}
 use Rattle.peer_host.specs.Brought.{IsPacket}
-use Rattle.peer_host.proofs.Place.{HoldsAt, set_holds, all_hold}
+use Rattle.peer_host.proofs.Place.{HoldsItem, HoldsAt, put_holds, set_holds, all_hold}
 
 -- What a poll may do to a socket keeps it. What comes is in a packet that came so.
 pub record IsOfPolls (Came : ChecksumCapabilities → IpRepr → List ℕ → Type 0) (W : Socket → Type 0) : Type 0 where
@@ -39,10 +43,12 @@ pub record IsOfPolls (Came : ChecksumCapabilities → IpRepr → List ℕ → Ty
   pub packet : (ip : IpRepr) (payload : List ℕ) (s : Socket) → W s → W (with_packet ip payload s)
   pub icmpv4 : (ip : Ipv4Repr) (message : Icmpv4Header) (bytes : List ℕ) (s : Socket) → W s → W (with_icmpv4 ip message bytes s)
   pub icmpv6 : (ip : Ipv6Repr) (message : MessageValue) (bytes : List ℕ) (s : Socket) → W s → W (with_icmpv6 ip message bytes s)
-  pub datagram : (caps : ChecksumCapabilities) (cx : ContextValue) (ip : IpRepr) (payload : List ℕ) (udp : UdpRepr) (bytes : List ℕ) (s : Socket)
-      → Came caps ip payload → IsDatagram caps (upper_header ip payload) (upper_payload ip payload) udp bytes → accepts_datagram cx s ip udp ≡ true → W s → W (with_datagram ip udp bytes s)
+  pub datagram : (caps : ChecksumCapabilities) (cx : ContextValue) (ip : IpRepr) (payload : List ℕ) (udp : UdpRepr) (bytes : List ℕ) (s s' : Socket)
+      → Came caps ip payload → IsDatagram caps (upper_header ip payload) (upper_payload ip payload) udp bytes → accepts_datagram cx s ip udp ≡ true
+      → TakesDatagram cx ip udp bytes s s' → W s → W s'
   pub segment : (caps : ChecksumCapabilities) (cx : ContextValue) (ip : IpRepr) (payload : List ℕ) (header : TcpHeader) (bytes : List ℕ) (s : Socket)
-      → Came caps ip payload → IsSegment caps (upper_header ip payload) (upper_payload ip payload) header bytes → accepts_segment s ip header ≡ true → W s → W (with_segment cx ip header bytes s)
+      → Came caps ip payload → IsSegment caps (upper_header ip payload) (upper_payload ip payload) header bytes
+      → accepts_segment s ip header ≡ true → W s → W (with_segment cx ip header bytes s)
 
 module _ (Came : ChecksumCapabilities → IpRepr → List ℕ → Type 0) (W : Socket → Type 0) (law : IsOfPolls Came W) (n : ℕ) where
   abbrev Holds : Places → Type 0
@@ -67,16 +73,25 @@ module _ (Came : ChecksumCapabilities → IpRepr → List ℕ → Type 0) (W : S
 
   module _ (caps : ChecksumCapabilities) (ip : IpRepr) (payload : List ℕ) (came : Came caps ip payload) (cx : ContextValue) (places : Places)
       (holds : Holds places) where
-    datagram_at : (udp : UdpRepr) (bytes : List ℕ) → IsDatagram caps (upper_header ip payload) (upper_payload ip payload) udp bytes → (o : Option ℕ) → datagram_place cx ip udp places ≡ o
-        → Holds (changed_at (with_datagram ip udp bytes) o places)
-    datagram_at udp bytes is None at = holds
-    datagram_at udp bytes is (Some at) there =
-        let first = position-Some (passes (λ s. accepts_datagram cx s ip udp)) places at free there in
-        subst Holds (sym (changed_here (with_datagram ip udp bytes) places at free first.0))
-        (set_holds W (λ s. accepts_datagram cx s ip udp) (with_datagram ip udp bytes)
-        (λ s accepts w. law.datagram caps cx ip payload udp bytes s came is accepts w) places at n free first.1 holds)
+    datagram_in : (udp : UdpRepr) (bytes : List ℕ) → IsDatagram caps (upper_header ip payload) (upper_payload ip payload) udp bytes
+        → (o o' : Option (Item Socket)) → passes_in (λ s. accepts_datagram cx s ip udp) o ≡ true → ItemTakes cx ip udp bytes o o' → HoldsItem W o
+        → HoldsItem W o'
+    datagram_in udp bytes is None o' passing takes here = absurd here
+    datagram_in udp bytes is (Some item) o' passing takes here =
+        subst (HoldsItem W) (sym takes.2) (law.datagram caps cx ip payload udp bytes item.socket takes.0 came is passing takes.1 here)
 
-    segment_at : (header : TcpHeader) (bytes : List ℕ) → IsSegment caps (upper_header ip payload) (upper_payload ip payload) header bytes → (o : Option ℕ) → segment_place ip header places ≡ o
+    datagram_at : (udp : UdpRepr) (bytes : List ℕ) → IsDatagram caps (upper_header ip payload) (upper_payload ip payload) udp bytes → (o : Option ℕ)
+        → datagram_place cx ip udp places ≡ o → (to : Places) → GivenAt cx ip udp bytes o places to → Holds to
+    datagram_at udp bytes is None at to given = subst Holds (sym given) holds
+    datagram_at udp bytes is (Some at) there to given =
+        let first = position-Some (passes (λ s. accepts_datagram cx s ip udp)) places at free there in
+        let got : GivenIn cx ip udp bytes at (Some (get_or places at free)) places to =
+        subst (λ (o : Option (SocketStorage Socket)). GivenIn cx ip udp bytes at o places to) (slice_get-get_or places at free first.0) given in
+        subst Holds (sym got.2)
+        (put_holds W places at n free got.0 (datagram_in udp bytes is (get_or places at free).inner got.0.inner first.1 got.1) holds)
+
+    segment_at : (header : TcpHeader) (bytes : List ℕ) → IsSegment caps (upper_header ip payload) (upper_payload ip payload) header bytes
+        → (o : Option ℕ) → segment_place ip header places ≡ o
         → Holds (changed_at (with_segment cx ip header bytes) o places)
     segment_at header bytes is None at = holds
     segment_at header bytes is (Some at) there =
@@ -91,15 +106,16 @@ module _ (Came : ChecksumCapabilities → IpRepr → List ℕ → Type 0) (W : S
     segment_for false header bytes is = segment_at header bytes is (segment_place ip header places) refl
 
   handed : (i : InnerValue) (places : Places) (ip : IpRepr) (payload : List ℕ) (carried : Option PayloadValue) → Came i.checksums ip payload
-      → IsCarriedContent i.checksums (upper_header ip payload) (upper_payload ip payload) carried → Holds places → Holds (handed_places i places ip carried)
-  handed i places ip payload None came is holds = holds
-  handed i places ip payload (Some (ControlV4 message bytes)) came is holds = messages_v4 ip message bytes places holds
-  handed i places ip payload (Some (ControlV6 message bytes)) came is holds = messages_v6 ip message bytes places holds
-  handed i places ip payload (Some (Bytes bytes)) came is holds = holds
-  handed i places ip payload (Some (Datagram udp bytes)) came is holds =
-      datagram_at i.checksums ip payload came (context_of i) places holds udp bytes is (datagram_place (context_of i) ip udp places) refl
-  handed i places ip payload (Some (Segment header bytes)) came is holds =
-      segment_for i.checksums ip payload came (context_of i) places holds (names_nobody i ip) header bytes is
+      → IsCarriedContent i.checksums (upper_header ip payload) (upper_payload ip payload) carried → (to : Places) → HandsTo i places ip carried to
+      → Holds places → Holds to
+  handed i places ip payload None came is to hands holds = subst Holds (sym hands) holds
+  handed i places ip payload (Some (ControlV4 message bytes)) came is to hands holds = subst Holds (sym hands) (messages_v4 ip message bytes places holds)
+  handed i places ip payload (Some (ControlV6 message bytes)) came is to hands holds = subst Holds (sym hands) (messages_v6 ip message bytes places holds)
+  handed i places ip payload (Some (Bytes bytes)) came is to hands holds = subst Holds (sym hands) holds
+  handed i places ip payload (Some (Datagram udp bytes)) came is to hands holds =
+      datagram_at i.checksums ip payload came (context_of i) places holds udp bytes is (datagram_place (context_of i) ip udp places) refl to hands
+  handed i places ip payload (Some (Segment header bytes)) came is to hands holds =
+      subst Holds (sym hands) (segment_for i.checksums ip payload came (context_of i) places holds (names_nobody i ip) header bytes is)
 
   -- PACKETS
 
@@ -118,9 +134,9 @@ module _ (Came : ChecksumCapabilities → IpRepr → List ℕ → Type 0) (W : S
   hands : (i : InnerValue) (places : Places) (link : Option EthernetRepr) (ip : IpRepr) (payload : List ℕ) (a : Arrived) → Came i.checksums ip payload
       → Hands (renewed i link ip) (packet_delivered ip payload places) ip payload (is_taken_raw ip places) a → Holds places → Holds a.places
   hands i places link ip payload a came (carried, is, so) holds =
-      subst Holds (sym so.places_are)
-      (handed (renewed i link ip) (packet_delivered ip payload places) ip payload carried
-      (subst (λ (caps : ChecksumCapabilities). Came caps ip payload) (sym (same_checksums i link ip)) came) is (packets ip payload places holds))
+      handed (renewed i link ip) (packet_delivered ip payload places) ip payload carried
+      (subst (λ (caps : ChecksumCapabilities). Came caps ip payload) (sym (same_checksums i link ip)) came) is a.places so.places_are
+      (packets ip payload places holds)
 
   v4 : (ours : Bool) (i : InnerValue) (places : Places) (link : Option EthernetRepr) (ip : IpRepr) (payload : List ℕ) (a : Arrived)
       → (ours ≡ true → Came i.checksums ip payload) → ArrivesV4 ours i places link ip payload a → Holds places → Holds a.places

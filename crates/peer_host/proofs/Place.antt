@@ -52,6 +52,14 @@ module _ (W : Socket → Type 0) where
   middle_holds (x ∷ before) after p p' zero keeps holds = holds
   middle_holds (x ∷ before) after p p' (suc i) keeps holds = middle_holds before after p p' i keeps holds
 
+  pub put_holds : (places : Places) (at i : ℕ) (d put : SocketStorage Socket) → (HoldsItem W (get_or places at d).inner → HoldsItem W put.inner)
+      → HoldsAt W places i → HoldsAt W (slice_set places at put) i
+  put_holds [] at i d put keeps holds = absurd holds
+  put_holds (p ∷ ps) zero zero d put keeps holds = keeps holds
+  put_holds (p ∷ ps) zero (suc i) d put keeps holds = holds
+  put_holds (p ∷ ps) (suc at) zero d put keeps holds = holds
+  put_holds (p ∷ ps) (suc at) (suc i) d put keeps holds = put_holds ps at i d put keeps holds
+
   module _ (test : Socket → Bool) (change : Socket → Socket) (keeps : (s : Socket) → test s ≡ true → W s → W (change s)) where
     item_holds : (o : Option (Item Socket)) → passes_in test o ≡ true → HoldsItem W o → HoldsItem W (with_change change (record { inner = o })).inner
     item_holds None passing holds = absurd holds

@@ -16,7 +16,8 @@ use Rattle.interface.specs.Polls.{Polls}
 use Rattle.interface.specs.State.{State}
 use Rattle.interface_ingress.specs.Carried.{IsSegment}
 use Rattle.interface_ingress.specs.Upper.{upper_header, upper_payload}
-use Rattle.interface_ingress.specs.Delivered.{with_packet, with_icmpv4, with_icmpv6, with_datagram, with_segment}
+use Rattle.interface_ingress.specs.Datagrams.{TakesDatagram}
+use Rattle.interface_ingress.specs.Delivered.{with_packet, with_icmpv4, with_icmpv6, with_segment}
 use Rattle.tcp_tie.specs.Run.Event.{Offers as IsAsked}
 use Rattle.tcp_peer_tie.specs.Beside.{Event}
 use Rattle.tcp_peer_tie.specs.Beside.Event.{Comes, Does}
@@ -66,16 +67,20 @@ module _ {D : Type 0} (moves : D → Move → D → Type 0) (t : ℤ) (from : St
   is_offered cx u (Is.Raw w) answer offers = absurd offers
   is_offered cx u (Is.Icmp w) answer offers = absurd offers
   is_offered cx u (Is.Udp w) answer offers = absurd offers
+  is_offered cx u (Is.Dhcpv4 w) answer offers = absurd offers
+  is_offered cx u (Is.Dns w) answer offers = absurd offers
   is_offered cx u (Is.Tcp w) answer offers = ap Is.Tcp offers.1
 
-  offer_led : (cx : ContextValue) (s offered : Socket) (answer : Answer.Offer) (sent : Bool) → Offers cx s answer offered → LedTo s → LedTo (settled sent offered)
+  offer_led : (cx : ContextValue) (s offered : Socket) (answer : Answer.Offer) (sent : Bool) → Offers cx s answer offered → LedTo s
+      → LedTo (settled sent offered)
   offer_led cx s offered answer sent offers led =
       let u = after_all v led.events in
       let is = is_offered cx u offered answer (subst (λ (x : Socket). Offers cx x answer offered) led.is offers) in
       one_more s (settled sent offered) led (Does (IsAsked cx sent)) tt (ap (settled sent) is)
 
   segment_led : (caps : ChecksumCapabilities) (cx : ContextValue) (ip : IpRepr) (payload : List ℕ) (header : TcpHeader) (bytes : List ℕ) (s : Socket)
-      → Came moves t from caps ip payload → IsSegment caps (upper_header ip payload) (upper_payload ip payload) header bytes → accepts_segment s ip header ≡ true → LedTo s
+      → Came moves t from caps ip payload → IsSegment caps (upper_header ip payload) (upper_payload ip payload) header bytes
+      → accepts_segment s ip header ≡ true → LedTo s
       → LedTo (with_segment cx ip header bytes s)
   segment_led caps cx ip payload header bytes s came is accepts led =
       one_more s (with_segment cx ip header bytes s) led (Comes cx ip header bytes) (
@@ -89,7 +94,11 @@ module _ {D : Type 0} (moves : D → Move → D → Type 0) (t : ℤ) (from : St
     packet = λ ip payload s led. same_for (with_packet ip payload) (λ u. refl) s led;
     icmpv4 = λ ip message bytes s led. same_for (with_icmpv4 ip message bytes) (λ u. refl) s led;
     icmpv6 = λ ip message bytes s led. same_for (with_icmpv6 ip message bytes) (λ u. refl) s led;
-    datagram = λ caps cx ip payload udp bytes s came is accepts led. same_for (with_datagram ip udp bytes) (λ u. refl) s led;
+    datagram = λ caps cx ip payload udp bytes s s' came is accepts takes led. record {
+      events = led.events;
+      are = led.are;
+      is = subst (λ (x : Socket). TakesDatagram cx ip udp bytes x s') led.is takes;
+    };
     segment = segment_led;
   }
 

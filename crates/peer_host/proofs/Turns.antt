@@ -11,6 +11,8 @@ use Rattle.sockets.specs.Offer.TheVariants as Offer
 use Rattle.sockets.specs.Offers.{HasPacket}
 use Rattle.sockets.specs.Socket.{Offers, offered_by, settled}
 use Rattle.sockets.specs.declared.socket.Socket.{Socket}
+use Rattle.sockets.specs.DhcpValue as Dhcps
+use Rattle.sockets.specs.DnsValue as Dnss
 use Rattle.sockets.specs.declared.socket.Socket.TheVariants as Is
 use Rattle.sockets.proofs.AnyKind.{has_packet}
 use Rattle.tcp_model.specs.OpenOffer.{OpenOffer}
@@ -33,11 +35,21 @@ none_offered : (o : Option PacketValue) (changed : Bool) → HasPacket (Offer.Si
 none_offered None changed has = refl
 none_offered (Some p) changed has = absurd has
 
+none_kept : (o : Option Dhcps.Open) → Dhcps.packet_in o ≡ None → o ≡ None
+none_kept None is = refl
+none_kept (Some o) is = absurd (cc)
+
+none_asked : (o : Option Dnss.Open) → Dnss.packet_in o ≡ None → o ≡ None
+none_asked None is = refl
+none_asked (Some o) is = absurd (cc)
+
 unsettled : (s : Socket) → offered_by s ≡ None → settled false s ≡ s
 unsettled (Is.Raw v) none = λ k. Is.Raw (record v { offered = sym none k })
 unsettled (Is.Icmp v) none = λ k. Is.Icmp (record v { offered = sym none k })
 unsettled (Is.Udp v) none = λ k. Is.Udp (record v { offered = sym none k })
 unsettled (Is.Tcp v) none = let no_offer : v.offered ≡ None = none_open v.offered v.queued.queue none in λ k. Is.Tcp (record v { offered = sym no_offer k })
+unsettled (Is.Dhcpv4 v) none = let no_offer : v.offered ≡ None = none_kept v.offered none in λ k. Is.Dhcpv4 (record v { offered = sym no_offer k })
+unsettled (Is.Dns v) none = let no_offer : v.offered ≡ None = none_asked v.offered none in λ k. Is.Dns (record v { offered = sym no_offer k })
 
 module _ {D : Type 0} (moves : D → Move → D → Type 0) (asked : Option IpAddress) (Came : ChecksumCapabilities → IpRepr → List ℕ → Type 0)
     (W : Socket → Type 0) (law : IsOfPolls Came W) where

@@ -24,7 +24,8 @@ use Rattle.interface.specs.Polls.{Polls}
 use Rattle.interface.specs.State.{State}
 use Rattle.interface_ingress.specs.Carried.{IsDatagram}
 use Rattle.interface_ingress.specs.Upper.{upper_header, upper_payload}
-use Rattle.interface_ingress.specs.Delivered.{with_packet, with_icmpv4, with_icmpv6, with_datagram, with_segment}
+use Rattle.interface_ingress.specs.Datagrams as Given
+use Rattle.interface_ingress.specs.Delivered.{with_packet, with_icmpv4, with_icmpv6, with_segment}
 use Rattle.peer_host.specs.Brought.{Came}
 use Rattle.peer_host.specs.Datagrams.{IsUdpAt, WasReceived, DatagramsGoOn}
 use Rattle.peer_host.proofs.Place.{Found, found_holds, holds_found}
@@ -74,7 +75,8 @@ module _ {D : Type 0} (moves : D → Move → D → Type 0) (t : ℤ) (from : St
     pub behind : contents new.received ≡ contents v.received ++ more
     pub were : Were more
 
-  were_more : (more : List (UdpMetadata × List ℕ)) (d : UdpMetadata × List ℕ) → Were more → WasReceived moves t from v.settings.endpoint.port d → Were (more ++ d ∷ [])
+  were_more : (more : List (UdpMetadata × List ℕ)) (d : UdpMetadata × List ℕ) → Were more → WasReceived moves t from v.settings.endpoint.port d
+      → Were (more ++ d ∷ [])
   were_more [] d were was = (was, tt)
   were_more (x ∷ more) d were was = (were.0, were_more more d were.1 was)
 
@@ -98,7 +100,8 @@ module _ {D : Type 0} (moves : D → Move → D → Type 0) (t : ℤ) (from : St
     were = got.were;
   }
 
-  offer_got : (cx : ContextValue) (s offered : Socket) (answer : Answer.Offer) (sent : Bool) → Offers cx s answer offered → GotMore s → GotMore (settled sent offered)
+  offer_got : (cx : ContextValue) (s offered : Socket) (answer : Answer.Offer) (sent : Bool) → Offers cx s answer offered → GotMore s
+      → GotMore (settled sent offered)
   offer_got cx s offered answer sent offers got =
       by offered (subst (λ (x : Socket). Offers cx x answer offered) got.is offers) where
         by : (offered : Socket) → Offers cx (Is.Udp got.new) answer offered → GotMore (settled sent offered)
@@ -108,11 +111,13 @@ module _ {D : Type 0} (moves : D → Move → D → Type 0) (t : ℤ) (from : St
         by (Is.Raw w) is = absurd is
         by (Is.Icmp w) is = absurd is
         by (Is.Tcp w) is = absurd is
+        by (Is.Dhcpv4 w) is = absurd is
+        by (Is.Dns w) is = absurd is
 
-  datagram_got : (caps : ChecksumCapabilities) (cx : ContextValue) (ip : IpRepr) (payload : List ℕ) (udp : UdpRepr) (bytes : List ℕ) (s : Socket)
-      → Came moves t from caps ip payload → IsDatagram caps (upper_header ip payload) (upper_payload ip payload) udp bytes → accepts_datagram cx s ip udp ≡ true → GotMore s
-      → GotMore (with_datagram ip udp bytes s)
-  datagram_got caps cx ip payload udp bytes s came is accepts got =
+  datagram_got : (caps : ChecksumCapabilities) (cx : ContextValue) (ip : IpRepr) (payload : List ℕ) (udp : UdpRepr) (bytes : List ℕ) (s s' : Socket)
+      → Came moves t from caps ip payload → IsDatagram caps (upper_header ip payload) (upper_payload ip payload) udp bytes → accepts_datagram cx s ip udp ≡ true
+      → Given.TakesDatagram cx ip udp bytes s s' → GotMore s → GotMore s'
+  datagram_got caps cx ip payload udp bytes s s' came is accepts takes got =
       by (is_full_for got.new.received (length bytes)) refl where
         accepted : Udps.accepts cx got.new ip udp ≡ true
         accepted = ap (λ (x : Socket). accepts_datagram cx x ip udp) (sym got.is) ∙ accepts
@@ -129,11 +134,14 @@ module _ {D : Type 0} (moves : D → Move → D → Type 0) (t : ℤ) (from : St
         new : UdpValue
         new = Udps.process_after got.new ip udp bytes
 
-        by : (full : Bool) → is_full_for got.new.received (length bytes) ≡ full → GotMore (with_datagram ip udp bytes s)
+        taken : s' ≡ Is.Udp new
+        taken = subst (λ (x : Socket). Given.TakesDatagram cx ip udp bytes x s') got.is takes
+
+        by : (full : Bool) → is_full_for got.new.received (length bytes) ≡ full → GotMore s'
         by true at = record {
           new = new;
           more = got.more;
-          is = ap (with_datagram ip udp bytes) got.is;
+          is = taken;
           bound = got.bound;
           behind = ap (λ (b : Bool). contents (if b then got.new.received else appended got.new.received (length bytes) (metadata_of ip udp) bytes)) at ∙ got.behind;
           were = got.were;
@@ -141,7 +149,7 @@ module _ {D : Type 0} (moves : D → Move → D → Type 0) (t : ℤ) (from : St
         by false at = record {
           new = new;
           more = got.more ++ (metadata_of ip udp, bytes) ∷ [];
-          is = ap (with_datagram ip udp bytes) got.is;
+          is = taken;
           bound = got.bound;
           behind =
               ap (λ (b : Bool). contents (if b then got.new.received else appended got.new.received (length bytes) (metadata_of ip udp) bytes)) at

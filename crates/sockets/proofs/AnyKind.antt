@@ -1,5 +1,5 @@
 -- The laws of a socket of any kind, from those of each kind.
-use Rattle.std.proofs.Common.{◌≡◌, ℕ, Bool, true, false, ℤ, List, Option, Some, None, is_some, if◌then◌else◌, refl, ap}
+use Rattle.std.proofs.Common.{◌≡◌, ℕ, false, ℤ, List, Option, Some, None, is_some, if◌then◌else◌, IsSome, ◌↔◌, sym, ap, ◌∙◌}
 use Rattle.datagram_sockets.specs.Packets.{first}
 use Rattle.datagram_sockets.specs.Context.{ContextValue}
 use Rattle.datagram_sockets.specs.BaseOffers.{IsBefore}
@@ -15,8 +15,15 @@ use Rattle.datagram_sockets.specs.SocketValue as Datagrams
 use Rattle.datagram_sockets.specs.SocketValue.{SocketValue}
 use Rattle.datagram_sockets.proofs.OfferLaws as datagrams
 use Rattle.tcp_model.specs.Value.{TcpValue}
+use Rattle.clients.proofs.DhcpOneMessage.{one_offered}
+use Rattle.clients.proofs.DhcpTurns as Dhcps
+use Rattle.clients.specs.DhcpValue.{DhcpValue}
+use Rattle.clients.proofs.DnsTurns as Dnss
+use Rattle.clients.specs.DnsValue.{DnsValue}
+use Rattle.sockets.proofs.Clients.{dhcp_packet, dhcp_same, dhcp_unoffered, dhcp_offered, dhcp_again, dns_packet, dns_same, dns_unoffered, dns_offered}
+use Rattle.sockets.proofs.Clients.{dns_again, dns_once}
 use Rattle.sockets.proofs.Connections.{said_packet, said_same, silent_before}
-use Rattle.sockets.specs.Socket.{Offers, offered_by, settled, poll_of, IsSameButForPlaces}
+use Rattle.sockets.specs.Socket.{Offers, offered_by, settled, poll_of, IsSameButForPlaces, IsOfDatagrams}
 use Rattle.sockets.specs.declared.socket.Socket.{Socket}
 use Rattle.sockets.specs.declared.socket.Socket.TheVariants as Kind
 
@@ -54,6 +61,10 @@ silent (Kind.Udp v) (Kind.Udp v') cx answer before offers =
     let q = quiet (Udps.TakesDatagram cx) cx.moment v v' answer before offers in (q.0, ap (λ (w : Udps.UdpValue). Kind.Udp w) q.1)
 silent (Kind.Tcp v) (Kind.Tcp v') cx answer before offers =
     let q = silent_before cx v v' answer before offers.0 offers.1 in (q.0, ap (λ (w : TcpValue). Kind.Tcp w) q.1)
+silent (Kind.Dhcpv4 v) (Kind.Dhcpv4 v') cx answer before offers =
+    let q = Dhcps.silent cx v v' answer before offers in (q.0, ap (λ (w : DhcpValue). Kind.Dhcpv4 w) q.1)
+silent (Kind.Dns v) (Kind.Dns v') cx answer before offers =
+    let q = Dnss.silent cx v v' answer before offers in (q.0, ap (λ (w : DnsValue). Kind.Dns w) q.1)
 silent s s' cx answer before offers = absurd offers
 
 pub has_packet : (s s' : Socket) (cx : ContextValue) (answer : Answer.Offer) → Offers cx s answer s' → HasPacket answer (offered_by s')
@@ -61,6 +72,8 @@ has_packet (Kind.Raw v) (Kind.Raw v') cx answer offers = has Raws.TakesPacket v 
 has_packet (Kind.Icmp v) (Kind.Icmp v') cx answer offers = has (Icmps.TakesMessage cx) v v' answer offers
 has_packet (Kind.Udp v) (Kind.Udp v') cx answer offers = has (Udps.TakesDatagram cx) v v' answer offers
 has_packet (Kind.Tcp v) (Kind.Tcp v') cx answer offers = said_packet cx v v' answer offers.0 offers.1
+has_packet (Kind.Dhcpv4 v) (Kind.Dhcpv4 v') cx answer offers = dhcp_packet cx v v' answer offers
+has_packet (Kind.Dns v) (Kind.Dns v') cx answer offers = dns_packet cx v v' answer offers
 has_packet s s' cx answer offers = absurd offers
 
 pub same : (s s' : Socket) (cx : ContextValue) (answer : Answer.Offer) → Offers cx s answer s' → changed_by answer ≡ false →
@@ -69,4 +82,78 @@ same (Kind.Raw v) (Kind.Raw v') cx answer offers is = datagrams.unchanged Raws.T
 same (Kind.Icmp v) (Kind.Icmp v') cx answer offers is = datagrams.unchanged (Icmps.TakesMessage cx) v v' answer offers is
 same (Kind.Udp v) (Kind.Udp v') cx answer offers is = datagrams.unchanged (Udps.TakesDatagram cx) v v' answer offers is
 same (Kind.Tcp v) (Kind.Tcp v') cx answer offers is = said_same cx v v' answer offers.0 offers.1 is
+same (Kind.Dhcpv4 v) (Kind.Dhcpv4 v') cx answer offers is = dhcp_same cx v v' answer offers is
+same (Kind.Dns v) (Kind.Dns v') cx answer offers is = dns_same cx v v' answer offers is
 same s s' cx answer offers is = absurd offers
+
+-- as the datagram kinds say it of theirs
+abbrev pub Once : (V : Type 0) → (ContextValue → V → Answer.Offer → V → Type 0) → Type 0
+Once V Gives = (cx : ContextValue) (v left right : V) (answer other : Answer.Offer) → Gives cx v answer left → Gives cx v other right →
+    (answer ≡ other) × (left ≡ right)
+
+module _ (raw : Once Raws.RawValue Raws.Offers) (icmp : Once Icmps.IcmpValue Icmps.Offers) (udp : Once Udps.UdpValue Udps.Offers) where
+  pub once : (cx : ContextValue) (s left right : Socket) (answer other : Answer.Offer) → Offers cx s answer left → Offers cx s other right →
+      (answer ≡ other) × (left ≡ right)
+  once cx (Kind.Raw v) (Kind.Raw l) (Kind.Raw r) answer other one two =
+      let q = raw cx v l r answer other one two in (q.0, ap (λ (w : Raws.RawValue). Kind.Raw w) q.1)
+  once cx (Kind.Icmp v) (Kind.Icmp l) (Kind.Icmp r) answer other one two =
+      let q = icmp cx v l r answer other one two in (q.0, ap (λ (w : Icmps.IcmpValue). Kind.Icmp w) q.1)
+  once cx (Kind.Udp v) (Kind.Udp l) (Kind.Udp r) answer other one two =
+      let q = udp cx v l r answer other one two in (q.0, ap (λ (w : Udps.UdpValue). Kind.Udp w) q.1)
+  once cx (Kind.Tcp v) (Kind.Tcp l) (Kind.Tcp r) answer other one two =
+      (one.0 ∙ sym two.0, ap (λ (w : TcpValue). Kind.Tcp w) (one.1 ∙ sym two.1))
+  once cx (Kind.Dhcpv4 v) (Kind.Dhcpv4 l) (Kind.Dhcpv4 r) answer other one two =
+      let q = one_offered cx v l r answer other one two in (q.0, ap (λ (w : DhcpValue). Kind.Dhcpv4 w) q.1)
+  once cx (Kind.Dns v) (Kind.Dns l) (Kind.Dns r) answer other one two =
+      let q = dns_once cx v l r answer other one two in (q.0, ap (λ (w : DnsValue). Kind.Dns w) q.1)
+  once cx (Kind.Raw v) (Kind.Raw l) right answer other one two = absurd two
+  once cx (Kind.Icmp v) (Kind.Icmp l) right answer other one two = absurd two
+  once cx (Kind.Udp v) (Kind.Udp l) right answer other one two = absurd two
+  once cx (Kind.Tcp v) (Kind.Tcp l) right answer other one two = absurd two
+  once cx (Kind.Dhcpv4 v) (Kind.Dhcpv4 l) right answer other one two = absurd two
+  once cx (Kind.Dns v) (Kind.Dns l) right answer other one two = absurd two
+  once cx s left right answer other one two = absurd one
+
+abbrev pub Again : (V : Type 0) → (V → Option PacketValue) → (V → V) → (ContextValue → V → Answer.Offer → V → Type 0) → Type 0
+Again V packet unsent Gives = (cx : ContextValue) (v v' : V) (answer : Answer.Offer) → Gives cx v answer v' → IsSome (packet v') →
+    Gives cx (unsent v') answer v'
+
+module _ (raw : Again Raws.RawValue (λ v. v.offered) (Datagrams.settled false) Raws.Offers)
+    (icmp : Again Icmps.IcmpValue (λ v. v.offered) (Datagrams.settled false) Icmps.Offers)
+    (udp : Again Udps.UdpValue (λ v. v.offered) (Datagrams.settled false) Udps.Offers) where
+  pub again : (cx : ContextValue) (s s' : Socket) (answer : Answer.Offer) → IsOfDatagrams s → Offers cx s answer s' → IsSome (offered_by s') →
+      Offers cx (settled false s') answer s'
+  again cx (Kind.Raw v) (Kind.Raw v') answer of offers some = raw cx v v' answer offers some
+  again cx (Kind.Icmp v) (Kind.Icmp v') answer of offers some = icmp cx v v' answer offers some
+  again cx (Kind.Udp v) (Kind.Udp v') answer of offers some = udp cx v v' answer offers some
+  again cx (Kind.Tcp v) s' answer of offers some = absurd of
+  again cx (Kind.Dhcpv4 v) (Kind.Dhcpv4 v') answer of offers some = dhcp_again cx v v' answer offers some
+  again cx (Kind.Dns v) (Kind.Dns v') answer of offers some = dns_again cx v v' answer offers some
+  again cx s s' answer of offers some = absurd offers
+
+abbrev pub Settles : (V : Type 0) → (V → V) → (ContextValue → V → Answer.Offer → V → Type 0) → Type 0
+Settles V unsent Gives = (cx : ContextValue) (v v' : V) (answer : Answer.Offer) → Gives cx (unsent v) answer v' ↔ Gives cx v answer v'
+
+-- an open offer doesn't count
+module _ (raw : Settles Raws.RawValue (Datagrams.settled false) Raws.Offers) (icmp : Settles Icmps.IcmpValue (Datagrams.settled false) Icmps.Offers)
+    (udp : Settles Udps.UdpValue (Datagrams.settled false) Udps.Offers) where
+  closed : (cx : ContextValue) (s s' : Socket) (answer : Answer.Offer) → Offers cx s answer s' → Offers cx (settled false s) answer s'
+  closed cx (Kind.Raw v) (Kind.Raw v') answer offers = (raw cx v v' answer).1 offers
+  closed cx (Kind.Icmp v) (Kind.Icmp v') answer offers = (icmp cx v v' answer).1 offers
+  closed cx (Kind.Udp v) (Kind.Udp v') answer offers = (udp cx v v' answer).1 offers
+  closed cx (Kind.Tcp v) (Kind.Tcp v') answer offers = offers
+  closed cx (Kind.Dhcpv4 v) (Kind.Dhcpv4 v') answer offers = dhcp_unoffered cx v v' answer offers
+  closed cx (Kind.Dns v) (Kind.Dns v') answer offers = dns_unoffered cx v v' answer offers
+  closed cx s s' answer offers = absurd offers
+
+  unclosed : (cx : ContextValue) (s s' : Socket) (answer : Answer.Offer) → Offers cx (settled false s) answer s' → Offers cx s answer s'
+  unclosed cx (Kind.Raw v) (Kind.Raw v') answer offers = (raw cx v v' answer).0 offers
+  unclosed cx (Kind.Icmp v) (Kind.Icmp v') answer offers = (icmp cx v v' answer).0 offers
+  unclosed cx (Kind.Udp v) (Kind.Udp v') answer offers = (udp cx v v' answer).0 offers
+  unclosed cx (Kind.Tcp v) (Kind.Tcp v') answer offers = offers
+  unclosed cx (Kind.Dhcpv4 v) (Kind.Dhcpv4 v') answer offers = dhcp_offered cx v v' answer offers
+  unclosed cx (Kind.Dns v) (Kind.Dns v') answer offers = dns_offered cx v v' answer offers
+  unclosed cx s s' answer offers = absurd offers
+
+  pub settles : (cx : ContextValue) (s s' : Socket) (answer : Answer.Offer) → Offers cx (settled false s) answer s' ↔ Offers cx s answer s'
+  settles cx s s' answer = (unclosed cx s s' answer, closed cx s s' answer)

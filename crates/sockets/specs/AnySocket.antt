@@ -4,6 +4,8 @@ use Rattle.datagram_sockets.specs.Udp.{UdpValue}
 use Rattle.datagram_sockets.specs.Icmp.{IcmpValue}
 use Rattle.datagram_sockets.specs.Raw.{RawValue}
 use Rattle.tcp_model.specs.Value.{TcpValue}
+use Rattle.clients.specs.DhcpValue.{DhcpValue}
+use Rattle.clients.specs.DnsValue.{DnsValue}
 use Rattle.sockets.specs.declared.socket.Socket.{Socket}
 use Rattle.sockets.specs.declared.socket.Socket.TheVariants as Kind
 
@@ -22,3 +24,11 @@ as_udp s = None
 abbrev pub as_tcp : Socket → Option TcpValue
 as_tcp (Kind.Tcp v) = Some v
 as_tcp s = None
+
+abbrev pub as_dhcpv4 : Socket → Option DhcpValue
+as_dhcpv4 (Kind.Dhcpv4 v) = Some v
+as_dhcpv4 s = None
+
+abbrev pub as_dns : Socket → Option DnsValue
+as_dns (Kind.Dns v) = Some v
+as_dns s = None

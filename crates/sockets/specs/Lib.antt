@@ -39,3 +39,19 @@ pub use Rattle.tcp_model.specs.State
 pub use Rattle.tcp_socket.specs.WellFormed
 pub use Rattle.tcp_socket.specs.Replies
 pub use Rattle.tcp_model.specs.declared.block.CongestionControl
+pub use Rattle.clients.specs.DhcpAnswers
+pub use Rattle.clients.specs.DhcpConfig
+pub use Rattle.clients.specs.DhcpEvent
+pub use Rattle.clients.specs.DhcpEvents
+pub use Rattle.clients.specs.DhcpOffers
+pub use Rattle.clients.specs.DhcpStates
+pub use Rattle.clients.specs.DhcpValue
+pub use Rattle.clients.specs.DnsOffers
+pub use Rattle.clients.specs.DnsProcessed
+pub use Rattle.clients.specs.DnsStarts
+pub use Rattle.clients.specs.DnsTurns
+pub use Rattle.clients.specs.DnsValue
+pub use Rattle.clients.specs.GetQueryResultError
+pub use Rattle.clients.specs.StartQueryError
+pub use Rattle.tcp_model.specs.Controls as TcpControls
+pub use Rattle.tcp_model.specs.Reply as TcpReply

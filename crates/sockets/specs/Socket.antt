@@ -1,5 +1,6 @@
--- A socket of any kind: what it offers, how an offer is settled, when it wants to be polled, and what is for it.
-use Rattle.std.specs.Prelude.{◌≡◌, ℕ, Bool, false, List, Option, None, Some, IfSome}
+-- A socket of any kind, the clients of DHCP and DNS among them: what it offers, how an offer is settled, when it wants to be polled,
+-- and what is for it.
+use Rattle.std.specs.Prelude.{◌≡◌, ℕ, Bool, false, List, Option, IfSome}
 use Rattle.ip_wire.specs.IpAddress.{IpAddress}
 use Rattle.ip_wire.specs.IpRepr.{IpRepr}
 use Rattle.ip_wire.specs.UdpRepr.{UdpRepr}
@@ -20,6 +21,13 @@ use Rattle.tcp_model.specs.Names as TcpNames
 use Rattle.tcp_model.specs.Offers as TcpOffers
 use Rattle.tcp_model.specs.Settled as TcpSettled
 use Rattle.tcp_model.specs.Value.{TcpValue}
+use Rattle.clients.specs.DhcpOffers as DhcpOffers
+use Rattle.clients.specs.DhcpStates as DhcpStates
+use Rattle.clients.specs.DhcpValue as Dhcps
+use Rattle.clients.specs.DnsOffers as DnsOffers
+use Rattle.clients.specs.DnsProcessed as DnsProcessed
+use Rattle.clients.specs.DnsTurns as DnsTurns
+use Rattle.clients.specs.DnsValue as Dnss
 use Rattle.sockets.specs.declared.socket.Socket.{Socket}
 use Rattle.sockets.specs.declared.socket.Socket.TheVariants as Kind
 
@@ -29,6 +37,8 @@ Offers cx (Kind.Raw v) answer (Kind.Raw v') = Raws.Offers cx v answer v'
 Offers cx (Kind.Icmp v) answer (Kind.Icmp v') = Icmps.Offers cx v answer v'
 Offers cx (Kind.Udp v) answer (Kind.Udp v') = Udps.Offers cx v answer v'
 Offers cx (Kind.Tcp v) answer (Kind.Tcp v') = (answer ≡ (TcpOffers.offer_of cx v).answer) × (v' ≡ (TcpOffers.offer_of cx v).socket)
+Offers cx (Kind.Dhcpv4 v) answer (Kind.Dhcpv4 v') = DhcpOffers.Offers cx v answer v'
+Offers cx (Kind.Dns v) answer (Kind.Dns v') = DnsOffers.Offers cx v answer v'
 Offers cx s answer s' = ⊥
 
 -- the packet of the open offer
@@ -37,17 +47,21 @@ offered_by (Kind.Raw v) = v.offered
 offered_by (Kind.Icmp v) = v.offered
 offered_by (Kind.Udp v) = v.offered
 offered_by (Kind.Tcp v) = TcpOffers.offered_packet v
+offered_by (Kind.Dhcpv4 v) = Dhcps.offered_packet v
+offered_by (Kind.Dns v) = Dnss.offered_packet v
 
 -- the packet, if there is one, can be sent
 abbrev pub IfSendable : Option PacketValue → Type 0
 IfSendable o = IfSome o IsSendable
 
--- what an offer is told: a datagram that was sent leaves its queue, and a segment is recorded
+-- what an offer is told: a datagram that was sent leaves its queue, a segment is recorded, and a client waits for its answer
 abbrev pub settled : Bool → Socket → Socket
 settled sent (Kind.Raw v) = Kind.Raw (Datagrams.settled sent v)
 settled sent (Kind.Icmp v) = Kind.Icmp (Datagrams.settled sent v)
 settled sent (Kind.Udp v) = Kind.Udp (Datagrams.settled sent v)
 settled sent (Kind.Tcp v) = Kind.Tcp (TcpSettled.settled sent v)
+settled sent (Kind.Dhcpv4 v) = Kind.Dhcpv4 (Dhcps.settled sent v)
+settled sent (Kind.Dns v) = Kind.Dns (Dnss.settled sent v)
 
 -- when the socket wants to be polled
 abbrev pub poll_of : ContextValue → Socket → PollAt
@@ -55,6 +69,8 @@ poll_of cx (Kind.Raw v) = Datagrams.poll_of v
 poll_of cx (Kind.Icmp v) = Datagrams.poll_of v
 poll_of cx (Kind.Udp v) = Datagrams.poll_of v
 poll_of cx (Kind.Tcp v) = Tcps.poll_of cx.ip_mtu v
+poll_of cx (Kind.Dhcpv4 v) = DhcpStates.poll_of v.state
+poll_of cx (Kind.Dns v) = DnsTurns.poll_of v.state
 
 -- the same connection in the same state, with the same bytes in its queues; its moments may have been set
 pub record IsSameConnection (v v' : TcpValue) : Type 0 where
@@ -64,20 +80,23 @@ pub record IsSameConnection (v v' : TcpValue) : Type 0 where
   pub received : v'.received ≡ v.received
   pub queued : v'.queued ≡ v.queued
 
--- the same socket, with the same datagrams in its queues, of which those to be sent may lie elsewhere, or the same connection
+-- the same socket, with the same datagrams in its queues, of which those to be sent may lie elsewhere, the same connection, or the same
+-- client but for an open offer
 abbrev pub IsSameButForPlaces : Socket → Socket → Type 0
 IsSameButForPlaces (Kind.Raw v) (Kind.Raw v') = Places.IsSameButForPlaces v v'
 IsSameButForPlaces (Kind.Icmp v) (Kind.Icmp v') = Places.IsSameButForPlaces v v'
 IsSameButForPlaces (Kind.Udp v) (Kind.Udp v') = Places.IsSameButForPlaces v v'
 IsSameButForPlaces (Kind.Tcp v) (Kind.Tcp v') = IsSameConnection v v'
+IsSameButForPlaces (Kind.Dhcpv4 v) (Kind.Dhcpv4 v') = Dhcps.unoffered v' ≡ Dhcps.unoffered v
+IsSameButForPlaces (Kind.Dns v) (Kind.Dns v') = Dnss.unoffered v' ≡ Dnss.unoffered v
 IsSameButForPlaces s s' = ⊥
 
--- a socket of datagrams
+-- a socket of datagrams, or a client
 abbrev pub IsOfDatagrams : Socket → Type 0
 IsOfDatagrams (Kind.Tcp v) = ⊥
 IsOfDatagrams s = Unit {0}
 
--- ARRIVAL. What is for a socket of one kind is for none of another.
+-- ARRIVAL. What is for a socket of one kind is for none of another; a datagram is for a UDP socket or for a client.
 
 abbrev pub accepts_packet : Socket → IpRepr → Bool
 accepts_packet (Kind.Raw v) ip = Raws.passes v.settings.version v.settings.protocol ip
@@ -93,6 +112,8 @@ accepts_icmpv6 s destination message bytes = false
 
 abbrev pub accepts_datagram : ContextValue → Socket → IpRepr → UdpRepr → Bool
 accepts_datagram cx (Kind.Udp v) ip udp = Udps.accepts cx v ip udp
+accepts_datagram cx (Kind.Dhcpv4 v) ip udp = Dhcps.accepts v ip udp
+accepts_datagram cx (Kind.Dns v) ip udp = DnsProcessed.accepts v.state ip udp
 accepts_datagram cx s ip udp = false
 
 abbrev pub accepts_segment : Socket → IpRepr → TcpHeader → Bool

@@ -2,13 +2,14 @@
 ghost use Rattle.std.specs.Prelude.{◌≡◌, Option, Some};
 ghost use Rattle.std.specs.Option.{option_copied, option_copied_mut};
 ghost use Rattle.std.specs.Borrow.{sem, LendsIf};
-ghost use Rattle.sockets.specs.AnySocket.{as_raw, as_icmp, as_udp, as_tcp};
+ghost use Rattle.sockets.specs.AnySocket.{as_raw, as_icmp, as_udp, as_tcp, as_dhcpv4, as_dns};
 ghost use Rattle.sockets.specs.declared.socket.Socket as AnyKind;
 ghost use Rattle.sockets.specs.declared.socket.Socket.TheVariants as Kind;
 ghost use Rattle.sockets.specs.contracts.socket.Socket.{the_row};
 
 use crate::socket::Socket;
 use crate::tcp;
+use clients::{dhcp, dns};
 use datagram_sockets::{icmp, raw, udp};
 
 /// A socket of some kind.
@@ -141,6 +142,62 @@ impl AnySocket for tcp::Socket {
     fn downcast_mut(socket: &mut Socket) -> Option<&mut tcp::Socket> {
         match socket {
             Socket::Tcp(socket) => Some(socket),
+            _ => None,
+        }
+    }
+
+    ghost given_back = { λ s. refl };
+}
+
+impl AnySocket for dhcp::Socket {
+    ghost use Rattle.std.specs.Prelude.{refl};
+
+    ghost upcast_of = { λ s. Kind.Dhcpv4 s };
+
+    ghost downcast_of = { as_dhcpv4 };
+
+    fn upcast(self) -> Socket {
+        Socket::Dhcpv4(self)
+    }
+
+    fn downcast(socket: &Socket) -> Option<&dhcp::Socket> {
+        match socket {
+            Socket::Dhcpv4(socket) => Some(socket),
+            _ => None,
+        }
+    }
+
+    fn downcast_mut(socket: &mut Socket) -> Option<&mut dhcp::Socket> {
+        match socket {
+            Socket::Dhcpv4(socket) => Some(socket),
+            _ => None,
+        }
+    }
+
+    ghost given_back = { λ s. refl };
+}
+
+impl AnySocket for dns::Socket {
+    ghost use Rattle.std.specs.Prelude.{refl};
+
+    ghost upcast_of = { λ s. Kind.Dns s };
+
+    ghost downcast_of = { as_dns };
+
+    fn upcast(self) -> Socket {
+        Socket::Dns(self)
+    }
+
+    fn downcast(socket: &Socket) -> Option<&dns::Socket> {
+        match socket {
+            Socket::Dns(socket) => Some(socket),
+            _ => None,
+        }
+    }
+
+    fn downcast_mut(socket: &mut Socket) -> Option<&mut dns::Socket> {
+        match socket {
+            Socket::Dns(socket) => Some(socket),
             _ => None,
         }
     }

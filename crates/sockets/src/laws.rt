@@ -8,6 +8,8 @@ ghost use Rattle.datagram_sockets.specs.Offers.{HasPacket, changed_by};
 ghost use Rattle.sockets.specs.Socket.{Offers, offered_by, settled, poll_of, IsSameButForPlaces, IsOfDatagrams};
 ghost use Rattle.sockets.specs.declared.socket.Socket.{Socket};
 
+use datagram_sockets::{icmp, raw, udp};
+
 /// Law: where the socket doesn't want to be polled at a moment yet, an offer at that moment is silent and
 /// changes nothing, but that an open offer is settled as not sent.
 pub fn silence()
@@ -22,8 +24,8 @@ pub fn due_as_before()
     ensures { (cx : ContextValue) (s : Socket) → poll_of cx (settled false s) ≡ poll_of cx s }
 {}
 
-/// Law: a packet is offered exactly where the answer says so, and a datagram whose offer is settled as not sent
-/// is offered again as it was.
+/// Law: a packet is offered exactly where the answer says so, and a datagram, or a message of a client, whose offer is settled as not
+/// sent is offered again as it was.
 pub fn unsent_is_offered_again()
     ensures packet { (cx : ContextValue) (s s' : Socket) (answer : Answer.Offer)
         → Offers cx s answer s'
@@ -35,7 +37,11 @@ pub fn unsent_is_offered_again()
         → Offers cx (settled false s') answer s' }
     ensures settled { (cx : ContextValue) (s s' : Socket) (answer : Answer.Offer)
         → Offers cx (settled false s) answer s' ↔ Offers cx s answer s' }
-{}
+{
+    raw::unsent_is_offered_again();
+    icmp::unsent_is_offered_again();
+    udp::unsent_is_offered_again();
+}
 
 /// Law: an offer that says that nothing changed, and is settled as not sent, leaves the socket with the same
 /// datagrams or bytes in its queues, and a connection in its state.
@@ -52,4 +58,8 @@ pub fn one_offer()
         → Offers cx s answer left
         → Offers cx s other right
         → (answer ≡ other) × (left ≡ right) }
-{}
+{
+    raw::one_offer();
+    icmp::one_offer();
+    udp::one_offer();
+}

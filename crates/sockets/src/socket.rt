@@ -4,6 +4,7 @@ ghost use Rattle.datagram_sockets.specs.Packet.{option_value};
 ghost use Rattle.sockets.specs.Socket.{Offers, offered_by, settled, poll_of, IfSendable};
 
 use crate::tcp;
+use clients::{dhcp, dns};
 use datagram_sockets::{Context, Offer, Packet, PollAt, icmp, raw, udp};
 
 /// A socket of any kind.
@@ -13,6 +14,8 @@ pub enum Socket {
     Icmp(icmp::Socket),
     Udp(udp::Socket),
     Tcp(tcp::Socket),
+    Dhcpv4(dhcp::Socket),
+    Dns(dns::Socket),
 }
 
 impl Socket {
@@ -36,6 +39,8 @@ impl Socket {
                 socket.offer(cx)
             }
             Socket::Tcp(socket) => socket.offer(cx),
+            Socket::Dhcpv4(socket) => socket.offer(cx),
+            Socket::Dns(socket) => socket.offer(cx),
         }
     }
 
@@ -48,11 +53,14 @@ impl Socket {
             Socket::Icmp(socket) => socket.offered(),
             Socket::Udp(socket) => socket.offered(),
             Socket::Tcp(socket) => socket.offered(),
+            Socket::Dhcpv4(socket) => socket.offered(),
+            Socket::Dns(socket) => socket.offered(),
         }
     }
 
     /// Says what became of the offered packet. A datagram that was sent leaves its queue, another one stays
-    /// first; a segment that was sent is recorded, another one leaves all as it is.
+    /// first; a segment that was sent is recorded, another one leaves all as it is; behind a message that was sent a client
+    /// waits for its answer.
     pub fn settle(&mut self, sent: bool)
         ensures { self.new ≡ settled sent self.old }
     {
@@ -61,6 +69,8 @@ impl Socket {
             Socket::Icmp(socket) => socket.settle(sent),
             Socket::Udp(socket) => socket.settle(sent),
             Socket::Tcp(socket) => socket.settle(sent),
+            Socket::Dhcpv4(socket) => socket.settle(sent),
+            Socket::Dns(socket) => socket.settle(sent),
         }
     }
 
@@ -73,6 +83,8 @@ impl Socket {
             Socket::Icmp(socket) => socket.poll_at(),
             Socket::Udp(socket) => socket.poll_at(),
             Socket::Tcp(socket) => socket.poll_at(cx),
+            Socket::Dhcpv4(socket) => socket.poll_at(cx),
+            Socket::Dns(socket) => socket.poll_at(cx),
         }
     }
 }

@@ -32,6 +32,8 @@ module _ (endpoint : IpListenEndpoint) where
   again_socket (Kind.Udp v) = refl
   again_socket (Kind.Icmp v) = refl
   again_socket (Kind.Raw v) = refl
+  again_socket (Kind.Dhcpv4 v) = refl
+  again_socket (Kind.Dns v) = refl
 
   again_item : (item : Option (Item Socket)) → relisted_item endpoint (relisted_item endpoint item) ≡ relisted_item endpoint item
   again_item None = refl
@@ -63,6 +65,8 @@ module _ (endpoint : IpListenEndpoint) (now : ℕ) (e e' : Entry) where
   before_socket (Kind.Udp v) noted = noted
   before_socket (Kind.Icmp v) noted = noted
   before_socket (Kind.Raw v) noted = noted
+  before_socket (Kind.Dhcpv4 v) noted = noted
+  before_socket (Kind.Dns v) noted = noted
 
   before_item : (item : Option (Item Socket)) → IsNoted now (item_state (relisted_item endpoint item)) e e' → IsNoted now (item_state item) e e'
   before_item None noted = noted

@@ -18,11 +18,11 @@ use crate::types::{
 };
 use c_calls::Host;
 use c_sockets::{Code, Sending};
-use clients::dhcp::{Config, Event};
-use clients::dns::{self, DnsQueryType};
 use ip_wire::{IpAddress, Ipv4Address};
 use net_base::Instant;
 use sockets::PollAt;
+use sockets::dhcp::{Config, Event};
+use sockets::dns::{self, DnsQueryType};
 use std::alloc::Global;
 
 /// Nothing happened.

@@ -54,6 +54,8 @@ module _ (s s' : StationValue) (i : ℕ) (answer : Answer) (found : Option State
   looked_at place item (Is.Raw v) at here is did = absurd did
   looked_at place item (Is.Icmp v) at here is did = absurd did
   looked_at place item (Is.Udp v) at here is did = absurd did
+  looked_at place item (Is.Dhcpv4 v) at here is did = absurd did
+  looked_at place item (Is.Dns v) at here is did = absurd did
   looked_at place item (Is.Tcp v) at here is did = looked_tcp place item (Is.Tcp v) at here is s.host refl did.2
 
   looked_item : (place : SocketStorage Socket) (o : Option (Item Socket)) → slice_get s.places i ≡ Some place → place.inner ≡ o →

@@ -136,6 +136,8 @@ module _ (cx : ContextValue) (ip : IpRepr) (header : TcpHeader) (bytes : List â„
   by_socket (Is.Icmp v) = tt
   by_socket (Is.Udp v) = tt
   by_socket (Is.Tcp v) = segment_free (arrives cx v ip header bytes).answer
+  by_socket (Is.Dhcpv4 v) = tt
+  by_socket (Is.Dns v) = tt
 
   by_item : (o : Option (Item Socket)) â†’ Free (answer_in (answer_of cx ip header bytes) o)
   by_item None = tt

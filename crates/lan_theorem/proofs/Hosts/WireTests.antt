@@ -32,12 +32,15 @@ use Rattle.sockets.specs.Offer as Answer
 use Rattle.sockets.specs.Packet.{PacketValue, PayloadValue, ControlV4, ControlV6, Bytes, Datagram, Segment, packet_of, payload_written}
 use Rattle.sockets.specs.Socket.{Offers, offered_by, settled}
 use Rattle.sockets.specs.Udp as Udps
+use Rattle.sockets.proofs.DhcpDatagrams as Dhcps
+use Rattle.sockets.proofs.DnsDatagrams as Dnss
 use Rattle.sockets.specs.declared.socket.Socket.{Socket}
 use Rattle.sockets.specs.declared.socket.Socket.TheVariants as Is
 use Rattle.tcp_model.specs.OpenOffer.{OpenOffer}
 use Rattle.tcp_model.specs.Offers.{offer_of, payload_of, packet_with, offered_packet}
 use Rattle.tcp_model.specs.Value.{TcpValue}
-use Rattle.interface_ingress.specs.Delivered.{with_packet, with_icmpv4, with_icmpv6, with_datagram, with_segment}
+use Rattle.interface_ingress.specs.Datagrams.{TakesDatagram}
+use Rattle.interface_ingress.specs.Delivered.{with_packet, with_icmpv4, with_icmpv6, with_segment}
 use Rattle.lan_theorem.specs.Hosts.Wire.{HasPorts, asks, is_request, is_solicitation}
 use Rattle.lan_theorem.specs.Link.Made.{sealed}
 use Rattle.lan_theorem.specs.Moves.Fit.{AreNamed}
@@ -190,7 +193,7 @@ any_sockets = record {
   packet = λ ip payload s holds. tt;
   icmpv4 = λ ip message bytes s holds. tt;
   icmpv6 = λ ip message bytes s holds. tt;
-  datagram = λ ip udp bytes s holds. tt;
+  datagram = λ cx ip udp bytes s s' takes holds. tt;
   segment = λ cx ip header bytes s named holds. tt;
 }
 
@@ -220,6 +223,8 @@ offers_ports cx (Is.Raw v) s' answer offers holds = absurd holds
 offers_ports cx (Is.Icmp v) s' answer offers holds = absurd holds
 offers_ports cx (Is.Udp v) (Is.Udp v') answer offers holds = tt
 offers_ports cx (Is.Tcp v) (Is.Tcp v') answer offers holds = tt
+offers_ports cx (Is.Dhcpv4 v) (Is.Dhcpv4 v') answer offers holds = tt
+offers_ports cx (Is.Dns v) (Is.Dns v') answer offers holds = tt
 offers_ports cx s s' answer offers holds = absurd offers
 
 pub port_sockets : IsOfSockets HasPorts
@@ -237,30 +242,41 @@ port_sockets = record {
   settles sent (Is.Icmp v) holds = absurd holds
   settles sent (Is.Udp v) holds = tt
   settles sent (Is.Tcp v) holds = tt
+  settles sent (Is.Dhcpv4 v) holds = tt
+  settles sent (Is.Dns v) holds = tt
 
   packet : (ip : IpRepr) (payload : List ℕ) (s : Socket) → HasPorts s → HasPorts (with_packet ip payload s)
   packet ip payload (Is.Raw v) holds = absurd holds
   packet ip payload (Is.Icmp v) holds = absurd holds
   packet ip payload (Is.Udp v) holds = tt
   packet ip payload (Is.Tcp v) holds = tt
+  packet ip payload (Is.Dhcpv4 v) holds = tt
+  packet ip payload (Is.Dns v) holds = tt
 
   icmpv4 : (ip : Ipv4Repr) (message : Icmpv4Header) (bytes : List ℕ) (s : Socket) → HasPorts s → HasPorts (with_icmpv4 ip message bytes s)
   icmpv4 ip message bytes (Is.Raw v) holds = absurd holds
   icmpv4 ip message bytes (Is.Icmp v) holds = absurd holds
   icmpv4 ip message bytes (Is.Udp v) holds = tt
   icmpv4 ip message bytes (Is.Tcp v) holds = tt
+  icmpv4 ip message bytes (Is.Dhcpv4 v) holds = tt
+  icmpv4 ip message bytes (Is.Dns v) holds = tt
 
   icmpv6 : (ip : Ipv6Repr) (message : MessageValue) (bytes : List ℕ) (s : Socket) → HasPorts s → HasPorts (with_icmpv6 ip message bytes s)
   icmpv6 ip message bytes (Is.Raw v) holds = absurd holds
   icmpv6 ip message bytes (Is.Icmp v) holds = absurd holds
   icmpv6 ip message bytes (Is.Udp v) holds = tt
   icmpv6 ip message bytes (Is.Tcp v) holds = tt
+  icmpv6 ip message bytes (Is.Dhcpv4 v) holds = tt
+  icmpv6 ip message bytes (Is.Dns v) holds = tt
 
-  datagram : (ip : IpRepr) (udp : UdpRepr) (bytes : List ℕ) (s : Socket) → HasPorts s → HasPorts (with_datagram ip udp bytes s)
-  datagram ip udp bytes (Is.Raw v) holds = absurd holds
-  datagram ip udp bytes (Is.Icmp v) holds = absurd holds
-  datagram ip udp bytes (Is.Udp v) holds = tt
-  datagram ip udp bytes (Is.Tcp v) holds = tt
+  datagram : (cx : ContextValue) (ip : IpRepr) (udp : UdpRepr) (bytes : List ℕ) (s s' : Socket) → TakesDatagram cx ip udp bytes s s' → HasPorts s →
+      HasPorts s'
+  datagram cx ip udp bytes (Is.Raw v) s' takes holds = absurd holds
+  datagram cx ip udp bytes (Is.Icmp v) s' takes holds = absurd holds
+  datagram cx ip udp bytes (Is.Udp v) s' takes holds = subst HasPorts (sym takes) tt
+  datagram cx ip udp bytes (Is.Tcp v) s' takes holds = subst HasPorts (sym takes) tt
+  datagram cx ip udp bytes (Is.Dhcpv4 v) s' takes holds = subst HasPorts (sym takes.1) tt
+  datagram cx ip udp bytes (Is.Dns v) s' takes holds = subst HasPorts (sym takes.1) tt
 
   segment : (cx : ContextValue) (ip : IpRepr) (header : TcpHeader) (bytes : List ℕ) (s : Socket) → AreNamed header.src_port header.dst_port → HasPorts s →
       HasPorts (with_segment cx ip header bytes s)
@@ -268,12 +284,16 @@ port_sockets = record {
   segment cx ip header bytes (Is.Icmp v) named holds = absurd holds
   segment cx ip header bytes (Is.Udp v) named holds = tt
   segment cx ip header bytes (Is.Tcp v) named holds = tt
+  segment cx ip header bytes (Is.Dhcpv4 v) named holds = tt
+  segment cx ip header bytes (Is.Dns v) named holds = tt
 
 pub port_calls : (cx : ContextValue) (s : Socket) (call : SocketCall) → HasPorts s → Keeps HasPorts (does cx s call)
 port_calls cx (Is.Raw v) call holds = absurd holds
 port_calls cx (Is.Icmp v) call holds = absurd holds
 port_calls cx (Is.Udp v) call holds = all_as HasPorts Is.Udp (λ w. tt) (udp_does v call)
 port_calls cx (Is.Tcp v) call holds = all_as HasPorts Is.Tcp (λ w. tt) (tcp_does cx v call)
+port_calls cx (Is.Dhcpv4 v) call holds = tt
+port_calls cx (Is.Dns v) call holds = tt
 
 -- a datagram or a segment
 abbrev IsOfPorts : PayloadValue → Type 0
@@ -308,6 +328,10 @@ offered_ports cx (Is.Udp v) (Is.Udp v') answer p holds offers is =
 offered_ports cx (Is.Tcp v) (Is.Tcp v') answer p holds offers is =
     let packet : offered_packet (offer_of cx v).socket ≡ Some p = ap (λ (w : TcpValue). offered_packet w) (sym offers.1) ∙ is in
     segment_ports (offer_of cx v).socket.offered (offer_of cx v).socket.queued.queue p packet
+offered_ports cx (Is.Dhcpv4 v) (Is.Dhcpv4 v') answer p holds offers is =
+    subst IsOfPorts (sym (Dhcps.offered_datagram cx v v' answer p offers is).carries) tt
+offered_ports cx (Is.Dns v) (Is.Dns v') answer p holds offers is =
+    subst IsOfPorts (sym (Dnss.offered_datagram cx v v' answer p offers is).carries) tt
 offered_ports cx s s' answer p holds offers is = absurd offers
 
 pub port_offers : OffersMayGo HasPorts AsksNobody

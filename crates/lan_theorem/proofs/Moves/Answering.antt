@@ -38,6 +38,8 @@ module _ (Q : PacketValue → Type 0) where
     by_socket (Is.Icmp v) = tt
     by_socket (Is.Udp v) = tt
     by_socket (Is.Tcp v) = all.socket v
+    by_socket (Is.Dhcpv4 v) = tt
+    by_socket (Is.Dns v) = tt
 
     by_item : (o : Option (Item Socket)) → IfSome (answer_in (answer_of cx ip header bytes) o) Q
     by_item None = tt

@@ -1,8 +1,10 @@
 -- What arrives at the sockets is a move, or none.
-use Rattle.std.proofs.Common.{◌≡◌, ℕ, ◌<◌, Bool, true, false, if◌then◌else◌, List, [], ◌∷◌, length, get_or, Option, Some, None, IfSome, refl, sym, ap, ◌∙◌}
+use Rattle.std.proofs.Common.{◌≡◌, ℕ, zero, suc, ◌<◌, Bool, true, false, if◌then◌else◌, List, [], ◌∷◌, length, get_or, Option, Some, None, IfSome}
+use Rattle.std.proofs.Common.{refl, sym, ap, ◌∙◌}
 use Rattle.std.proofs.Common.{subst, append-nil}
 use Rattle.std.specs.Prelude.{◌||◌, slice_get, slice_set, slice_index_or}
 use Rattle.std.proofs.lemmas.List.Quantifiers.{position-Some}
+use Rattle.std.proofs.lemmas.Option.{slice_get-get_or}
 use Rattle.interface_ingress.specs.Icmpv4Header.{Icmpv4Header}
 use Rattle.interface_ingress.specs.Icmpv6.{MessageValue}
 use Rattle.interface_ingress.specs.IpAddress.TheVariants as Address
@@ -13,6 +15,7 @@ use Rattle.ip_tcp.specs.declared.header.TcpHeader.{TcpHeader}
 use Rattle.interface_delivery.specs.UdpRepr.{UdpRepr}
 use Rattle.sockets.specs.Context.{ContextValue}
 use Rattle.sockets.specs.Packet.{PacketValue}
+use Rattle.sockets.specs.Udp as Udps
 use Rattle.tcp_tie.specs.Host.{Made, made_of, and_answer, IsAmong}
 use Rattle.tcp_model.specs.Controls.{is_rst}
 use Rattle.tcp_model.specs.Arrival.{arrives}
@@ -24,8 +27,9 @@ use Rattle.sockets.specs.declared.socket.Socket.TheVariants as Is
 use Rattle.interface_egress.specs.declared.socket_set.Item.{Item}
 use Rattle.interface_egress.specs.declared.socket_set.SocketStorage.{SocketStorage}
 use Rattle.interface_ingress.specs.Delivered.{with_change, passes, given, all_given, changed_at, with_packet, packet_delivered, with_icmpv4, icmpv4_delivered}
-use Rattle.interface_ingress.specs.Delivered.{with_icmpv6, icmpv6_delivered, with_datagram, datagram_place, datagram_delivered, with_segment, packet_by}
+use Rattle.interface_ingress.specs.Delivered.{with_icmpv6, icmpv6_delivered, datagram_place, with_segment, packet_by}
 use Rattle.interface_ingress.specs.Delivered.{answer_of, segment_place, segment_delivered, answer_in, segment_answer_at, segment_answer}
+use Rattle.interface_ingress.specs.Datagrams.{TakesDatagram, ItemTakes, GivenIn, GivenAt, IsDelivered}
 use Rattle.interface_ingress.proofs.AtPlace.{changed_here, answer_here}
 use Rattle.interface_ingress.proofs.Segments.{accepted_there}
 use Rattle.lan_hosts.specs.Side.{Side}
@@ -48,7 +52,7 @@ module _ (test : Socket → Bool) (change : Socket → Socket) (same : (s : Sock
 
   place_same : (o : Option (Item Socket)) → seen_place (with_change (given test change) (record { inner = o })) ≡ seen_place (record { inner = o })
   place_same None = refl
-  place_same (Some item) = ap Some (given_same (test item.socket) item.socket)
+  place_same (Some item) = given_same (test item.socket) item.socket
 
   pub all_same : (places : Places) → sockets_of (all_given test change places) ≡ sockets_of places
   all_same [] = refl
@@ -60,6 +64,8 @@ packet_same ip payload (Is.Raw v) = refl
 packet_same ip payload (Is.Icmp v) = refl
 packet_same ip payload (Is.Udp v) = refl
 packet_same ip payload (Is.Tcp v) = refl
+packet_same ip payload (Is.Dhcpv4 v) = refl
+packet_same ip payload (Is.Dns v) = refl
 
 pub packet_delivered_same : (ip : IpRepr) (payload : List ℕ) (places : Places) → sockets_of (packet_delivered ip payload places) ≡ sockets_of places
 packet_delivered_same ip payload places = all_same (λ s. accepts_packet s ip) (with_packet ip payload) (packet_same ip payload) places
@@ -69,6 +75,8 @@ icmpv4_same ip message bytes (Is.Raw v) = refl
 icmpv4_same ip message bytes (Is.Icmp v) = refl
 icmpv4_same ip message bytes (Is.Udp v) = refl
 icmpv4_same ip message bytes (Is.Tcp v) = refl
+icmpv4_same ip message bytes (Is.Dhcpv4 v) = refl
+icmpv4_same ip message bytes (Is.Dns v) = refl
 
 pub icmpv4_delivered_same : (ip : Ipv4Repr) (message : Icmpv4Header) (bytes : List ℕ) (places : Places) →
     sockets_of (icmpv4_delivered ip message bytes places) ≡ sockets_of places
@@ -80,6 +88,8 @@ icmpv6_same ip message bytes (Is.Raw v) = refl
 icmpv6_same ip message bytes (Is.Icmp v) = refl
 icmpv6_same ip message bytes (Is.Udp v) = refl
 icmpv6_same ip message bytes (Is.Tcp v) = refl
+icmpv6_same ip message bytes (Is.Dhcpv4 v) = refl
+icmpv6_same ip message bytes (Is.Dns v) = refl
 
 pub icmpv6_delivered_same : (ip : Ipv6Repr) (message : MessageValue) (bytes : List ℕ) (places : Places) →
     sockets_of (icmpv6_delivered ip message bytes places) ≡ sockets_of places
@@ -87,6 +97,13 @@ icmpv6_delivered_same ip message bytes places =
     all_same (λ s. accepts_icmpv6 s (Address.Ipv6 ip.dst_addr) message bytes) (with_icmpv6 ip message bytes) (icmpv6_same ip message bytes) places
 
 -- ONE SOCKET
+
+-- a place of which nothing is looked at stays one
+set_none : (xs : List (Option Parties.Socket)) (at : ℕ) → slice_index_or xs at None ≡ None → slice_set xs at None ≡ xs
+set_none [] zero is = refl
+set_none [] (suc at) is = refl
+set_none (x ∷ xs) zero is = ap (λ (o : Option Parties.Socket). o ∷ xs) (sym is)
+set_none (x ∷ xs) (suc at) is = ap (λ (os : List (Option Parties.Socket)). x ∷ os) (set_none xs at is)
 
 free : SocketStorage Socket
 free = record { inner = None }
@@ -110,7 +127,7 @@ module _ (names : List ℕ → Bool) (side : Side) (net now : Net) (r : Reaches 
   abbrev holds_at : ℕ → Option (Item Socket) → Type 0
   holds_at at o = (at < length places) × (get_or places at free ≡ record { inner = o })
 
-  found : (at : ℕ) (item : Item Socket) → holds_at at (Some item) → Parties.socket_at (party now side) at ≡ Some (seen item.socket)
+  found : (at : ℕ) (item : Item Socket) → holds_at at (Some item) → Parties.socket_at (party now side) at ≡ seen item.socket
   found at item here =
       ap (λ (xs : List (Option Parties.Socket)). slice_index_or xs at None) has ∙ seen_at places at free here.0 ∙ ap seen_place here.1
 
@@ -123,38 +140,53 @@ module _ (names : List ℕ → Bool) (side : Side) (net now : Net) (r : Reaches 
   -- A DATAGRAM
 
   module _ (cx : ContextValue) (ip : IpRepr) (udp : UdpRepr) (bytes : List ℕ) (made : WasMade (party now (other side)) (datagram_of udp bytes)) where
-    abbrev Given : ℕ → SocketStorage Socket → Type 0
-    Given at place = Moved names side net now (sockets_of (slice_set places at (with_change (with_datagram ip udp bytes) place)))
+    abbrev Given : Places → Type 0
+    Given qs = Moved names side net now (sockets_of qs)
 
-    socket_given : (at : ℕ) (item : Item Socket) (s : Socket) → s ≡ item.socket → holds_at at (Some (record item { socket = s })) →
-        accepts_datagram cx s ip udp ≡ true → Given at (record { inner = Some (record item { socket = s }) })
-    socket_given at item (Is.Udp v) is here accepts =
-        moves_by names side net now r move _ (found at (record item { socket = Is.Udp v }) here, accepts, made) refl
-        (set_there at (with_change (with_datagram ip udp bytes) (record { inner = Some (record item { socket = Is.Udp v }) })))
-        (grows_to (party now side) (Moves.party_after (party now side) move) refl refl)
+    -- of a client nothing is looked at
+    unseen : (at : ℕ) (item : Item Socket) (s s' : Socket) → seen s ≡ None → seen s' ≡ None → holds_at at (Some (record item { socket = s })) →
+        Given (slice_set places at (record { inner = Some (record item { socket = s' }) }))
+    unseen at item s s' was becomes here =
+        let next : SocketStorage Socket = record { inner = Some (record item { socket = s' }) } in
+        let none : slice_index_or (sockets_of places) at None ≡ None = seen_at places at free here.0 ∙ ap seen_place here.1 ∙ was in
+        let same : slice_set (sockets_of places) at None ≡ sockets_of places = set_none (sockets_of places) at none in
+        stays names side net now r (sockets_of (slice_set places at next))
+        (has ∙ sym same ∙ ap (λ (o : Option Parties.Socket). slice_set (sockets_of places) at o) (sym becomes) ∙ sym (seen_set places at next))
+
+    socket_given : (at : ℕ) (item : Item Socket) (s s' : Socket) → TakesDatagram cx ip udp bytes s s' → holds_at at (Some (record item { socket = s })) →
+        accepts_datagram cx s ip udp ≡ true → Given (slice_set places at (record { inner = Some (record item { socket = s' }) }))
+    socket_given at item (Is.Udp v) s' takes here accepts =
+        subst (λ (x : Socket). Given (slice_set places at (record { inner = Some (record item { socket = x }) }))) (sym takes)
+        (moves_by names side net now r move _ (found at (record item { socket = Is.Udp v }) here, accepts, made) refl
+        (set_there at (record { inner = Some (record item { socket = Is.Udp (Udps.process_after v ip udp bytes) }) }))
+        (grows_to (party now side) (Moves.party_after (party now side) move) refl refl))
       where
         move : Moves.Move
         move = Moves.Receives at cx v ip udp bytes
-    socket_given at item (Is.Raw v) is here accepts = absurd (cc)
-    socket_given at item (Is.Icmp v) is here accepts = absurd (cc)
-    socket_given at item (Is.Tcp v) is here accepts = absurd (cc)
+    socket_given at item (Is.Dhcpv4 v) s' takes here accepts = unseen at item (Is.Dhcpv4 v) s' refl (ap seen takes.1) here
+    socket_given at item (Is.Dns v) s' takes here accepts = unseen at item (Is.Dns v) s' refl (ap seen takes.1) here
+    socket_given at item (Is.Raw v) s' takes here accepts = absurd (cc)
+    socket_given at item (Is.Icmp v) s' takes here accepts = absurd (cc)
+    socket_given at item (Is.Tcp v) s' takes here accepts = absurd (cc)
 
-    place_given : (at : ℕ) (o : Option (Item Socket)) → holds_at at o → passes (λ s. accepts_datagram cx s ip udp) (record { inner = o }) ≡ true →
-        Given at (record { inner = o })
-    place_given at None here passing = absurd (cc)
-    place_given at (Some item) here passing = socket_given at item item.socket refl here passing
+    item_given : (at : ℕ) (o o' : Option (Item Socket)) → ItemTakes cx ip udp bytes o o' → holds_at at o →
+        passes (λ s. accepts_datagram cx s ip udp) (record { inner = o }) ≡ true → Given (slice_set places at (record { inner = o' }))
+    item_given at None o' takes here passing = absurd (cc)
+    item_given at (Some item) o' takes here passing =
+        subst (λ (x : Option (Item Socket)). Given (slice_set places at (record { inner = x }))) (sym takes.2)
+        (socket_given at item item.socket takes.0 takes.1 here passing)
 
-    first_given : (o : Option ℕ) → datagram_place cx ip udp places ≡ o →
-        Moved names side net now (sockets_of (changed_at (with_datagram ip udp bytes) o places))
-    first_given None is = stays names side net now r (sockets_of places) has
-    first_given (Some at) is =
+    first_given : (o : Option ℕ) → datagram_place cx ip udp places ≡ o → (qs : Places) → GivenAt cx ip udp bytes o places qs → Given qs
+    first_given None is qs given = subst Given (sym given) (stays names side net now r (sockets_of places) has)
+    first_given (Some at) is qs given =
         let first = position-Some (passes (λ s. accepts_datagram cx s ip udp)) places at free is in
         let place = get_or places at free in
-        subst (λ (qs : Places). Moved names side net now (sockets_of qs)) (sym (changed_here (with_datagram ip udp bytes) places at free first.0))
-        (place_given at place.inner (first.0, refl) first.1)
+        let by : GivenIn cx ip udp bytes at (Some place) places qs =
+        subst (λ (o : Option (SocketStorage Socket)). GivenIn cx ip udp bytes at o places qs) (slice_get-get_or places at free first.0) given in
+        subst Given (sym by.2) (item_given at place.inner by.0.inner by.1 (first.0, refl) first.1)
 
-    pub datagram_given : Moved names side net now (sockets_of (datagram_delivered cx ip udp bytes places))
-    datagram_given = first_given (datagram_place cx ip udp places) refl
+    pub datagram_given : (qs : Places) → IsDelivered cx ip udp bytes places qs → Given qs
+    datagram_given qs given = first_given (datagram_place cx ip udp places) refl qs given
 
   -- A SEGMENT
 
@@ -185,6 +217,8 @@ module _ (names : List ℕ → Bool) (side : Side) (net now : Net) (r : Reaches 
     socket_takes at item (Is.Raw v) here accepts = absurd (cc)
     socket_takes at item (Is.Icmp v) here accepts = absurd (cc)
     socket_takes at item (Is.Udp v) here accepts = absurd (cc)
+    socket_takes at item (Is.Dhcpv4 v) here accepts = absurd (cc)
+    socket_takes at item (Is.Dns v) here accepts = absurd (cc)
 
     place_takes : (at : ℕ) (o : Option (Item Socket)) → holds_at at o → passes (λ s. accepts_segment s ip header) (record { inner = o }) ≡ true →
         Taken at (record { inner = o })

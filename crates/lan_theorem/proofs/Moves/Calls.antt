@@ -54,11 +54,13 @@ seen_get (p ∷ ps) (suc i) place e = seen_get ps i place e
 kind_same : (o : Option (Item Socket)) → Parties.kind_in (seen_place (record { inner = o })) ≡ Stations.kind_in (socket_in (Some (record { inner = o })))
 kind_same None = refl
 kind_same (Some item) = by item.socket where
-  by : (s : Socket) → Parties.kind_in (Some (seen s)) ≡ Stations.kind_in (Some s)
+  by : (s : Socket) → Parties.kind_in (seen s) ≡ Stations.kind_in (Some s)
   by (Is.Raw v) = refl
   by (Is.Icmp v) = refl
   by (Is.Udp v) = refl
   by (Is.Tcp v) = refl
+  by (Is.Dhcpv4 v) = refl
+  by (Is.Dns v) = refl
 
 kinds_same : (places : Places) (i : ℕ) → slice_index_or (map Parties.kind_in (sockets_of places)) i None ≡ kind_at places i
 kinds_same [] zero = refl
@@ -116,18 +118,19 @@ module _ (p : Party) (s s' : StationValue) (has : p.sockets ≡ sockets_of s.pla
   abbrev Called : Type 0
   Called = IsCalled p s'.places i call answer found
 
-  behind : (item : Item Socket) (old new : Socket) → slice_get s.places i ≡ Some (record { inner = Some (record item { socket = old }) }) →
-      s'.places ≡ slice_set s.places i (with_socket item new)
-      → Moves.Does (context_of s.host.inner) (seen old) call answer found (seen new) → Called
-  behind item old new there is does = record {
+  behind : (item : Item Socket) (old new : Socket) (x y : Parties.Socket) → seen old ≡ Some x → seen new ≡ Some y →
+      slice_get s.places i ≡ Some (record { inner = Some (record item { socket = old }) }) → s'.places ≡ slice_set s.places i (with_socket item new)
+      → Moves.Does (context_of s.host.inner) x call answer found y → Called
+  behind item old new x y was becomes there is does = record {
     cx = context_of s.host.inner;
-    old = seen old;
-    new = seen new;
+    old = x;
+    new = y;
     there = ap (λ (xs : List (Option Parties.Socket)). slice_index_or xs i None) has ∙
-        seen_get s.places i (record { inner = Some (record item { socket = old }) }) there;
+        seen_get s.places i (record { inner = Some (record item { socket = old }) }) there ∙ was;
     does = does;
     sockets =
-        ap (λ (xs : List (Option Parties.Socket)). slice_set xs i (Some (seen new))) has ∙ sym (seen_set s.places i (with_socket item new)) ∙
+        ap (λ (o : Option Parties.Socket). slice_set p.sockets i o) (sym becomes) ∙
+        ap (λ (xs : List (Option Parties.Socket)). slice_set xs i (seen new)) has ∙ sym (seen_set s.places i (with_socket item new)) ∙
         ap (λ (ps : Places). sockets_of ps) (sym is);
   }
 
@@ -139,7 +142,7 @@ module _ (p : Party) (s s' : StationValue) (has : p.sockets ≡ sockets_of s.pla
   tcp item v None is there did = absurd did
   tcp item v (Some d) is there did =
       let done : DoneBy (Some d) answer found d.socket = (did.0, did.1, refl) in
-      behind item (Is.Tcp v) (Is.Tcp d.socket) there (ap (λ (x : StationValue). x.places) did.2)
+      behind item (Is.Tcp v) (Is.Tcp d.socket) (Parties.Tcp v) (Parties.Tcp d.socket) refl refl there (ap (λ (x : StationValue). x.places) did.2)
       (subst (λ (o : Option (Did TcpValue)). DoneBy o answer found d.socket) is done)
 
   udp : (item : Item Socket) (v : UdpValue) (o : Option (Did UdpValue)) → o ≡ udp_does v call → At item (Is.Udp v)
@@ -147,21 +150,21 @@ module _ (p : Party) (s s' : StationValue) (has : p.sockets ≡ sockets_of s.pla
   udp item v None is there did = absurd did
   udp item v (Some d) is there did =
       let done : DoneBy (Some d) answer found d.socket = (did.0, did.1, refl) in
-      behind item (Is.Udp v) (Is.Udp d.socket) there (ap (λ (x : StationValue). x.places) did.2)
+      behind item (Is.Udp v) (Is.Udp d.socket) (Parties.Udp v) (Parties.Udp d.socket) refl refl there (ap (λ (x : StationValue). x.places) did.2)
       (subst (λ (o : Option (Did UdpValue)). DoneBy o answer found d.socket) is done)
 
   icmp : (item : Item Socket) (v : IcmpValue) (o : Option (Did IcmpValue)) → OfOthers call o → At item (Is.Icmp v)
       → DidAt s i (record item { socket = Is.Icmp v }) call (did_as Is.Icmp o) answer found s' → Called
   icmp item v None own there did = absurd did
   icmp item v (Some d) own there did =
-      behind item (Is.Icmp v) (Is.Icmp d.socket) there (ap (λ (x : StationValue). x.places) did.2)
+      behind item (Is.Icmp v) (Is.Icmp d.socket) Parties.Icmp Parties.Icmp refl refl there (ap (λ (x : StationValue). x.places) did.2)
       (subst (λ (a : Answer). IsOfOthers call a) (sym did.0) own.0, did.1 ∙ own.1)
 
   raw : (item : Item Socket) (v : RawValue) (o : Option (Did RawValue)) → OfOthers call o → At item (Is.Raw v)
       → DidAt s i (record item { socket = Is.Raw v }) call (did_as Is.Raw o) answer found s' → Called
   raw item v None own there did = absurd did
   raw item v (Some d) own there did =
-      behind item (Is.Raw v) (Is.Raw d.socket) there (ap (λ (x : StationValue). x.places) did.2)
+      behind item (Is.Raw v) (Is.Raw d.socket) Parties.Raw Parties.Raw refl refl there (ap (λ (x : StationValue). x.places) did.2)
       (subst (λ (a : Answer). IsOfOthers call a) (sym did.0) own.0, did.1 ∙ own.1)
 
   socket : (item : Item Socket) (old : Socket) → At item old →
@@ -170,6 +173,8 @@ module _ (p : Party) (s s' : StationValue) (has : p.sockets ≡ sockets_of s.pla
   socket item (Is.Icmp v) there did = icmp item v (icmp_does v call) (icmp_own v call) there did
   socket item (Is.Udp v) there did = udp item v (udp_does v call) refl there did
   socket item (Is.Tcp v) there did = tcp item v (tcp_does (context_of s.host.inner) v call) refl there did
+  socket item (Is.Dhcpv4 v) there did = absurd did
+  socket item (Is.Dns v) there did = absurd did
 
   item_does : (o : Option (Item Socket)) → slice_get s.places i ≡ Some (record { inner = o }) → ItemDoes s i o call answer found s' → Called
   item_does None there does = absurd does

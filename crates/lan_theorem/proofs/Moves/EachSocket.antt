@@ -25,8 +25,9 @@ use Rattle.interface_egress.specs.declared.socket_set.SocketStorage.{SocketStora
 use Rattle.interface_ingress.specs.Arrives.{Arrived, ArrivesV4, ArrivesV6, Brings, Hands, renewed}
 use Rattle.interface_ingress.specs.Carried.{IsSegment, IsCarriedContent}
 use Rattle.interface_ingress.specs.Delivered.{with_change, given, all_given, changed_in, changed_at, with_packet, packet_delivered, is_taken_raw, with_icmpv4}
-use Rattle.interface_ingress.specs.Delivered.{with_icmpv6, with_datagram, datagram_place, with_segment, segment_place, segment_delivered}
-use Rattle.interface_ingress.specs.Handed.{control_v4_places, control_v6_places, names_nobody, handed_places}
+use Rattle.interface_ingress.specs.Delivered.{with_icmpv6, datagram_place, with_segment, segment_place, segment_delivered}
+use Rattle.interface_ingress.specs.Datagrams.{TakesDatagram, ItemTakes, GivenIn, GivenAt}
+use Rattle.interface_ingress.specs.Handed.{control_v4_places, control_v6_places, names_nobody, HandsTo}
 use Rattle.interface_ingress.specs.Incoming.{IncomingValue, Arp, Ip4, Ip6}
 use Rattle.interface_ingress.specs.Upper.{upper_header, upper_payload}
 use Rattle.interface.specs.Host.{Sender}
@@ -49,7 +50,7 @@ pub record IsOfSockets (W : Socket → Type 0) : Type 0 where
   pub packet : (ip : IpRepr) (payload : List ℕ) (s : Socket) → W s → W (with_packet ip payload s)
   pub icmpv4 : (ip : Ipv4Repr) (message : Icmpv4Header) (bytes : List ℕ) (s : Socket) → W s → W (with_icmpv4 ip message bytes s)
   pub icmpv6 : (ip : Ipv6Repr) (message : MessageValue) (bytes : List ℕ) (s : Socket) → W s → W (with_icmpv6 ip message bytes s)
-  pub datagram : (ip : IpRepr) (udp : UdpRepr) (bytes : List ℕ) (s : Socket) → W s → W (with_datagram ip udp bytes s)
+  pub datagram : (cx : ContextValue) (ip : IpRepr) (udp : UdpRepr) (bytes : List ℕ) (s s' : Socket) → TakesDatagram cx ip udp bytes s s' → W s → W s'
   pub segment : (cx : ContextValue) (ip : IpRepr) (header : TcpHeader) (bytes : List ℕ) (s : Socket) → AreNamed header.src_port header.dst_port → W s →
       W (with_segment cx ip header bytes s)
 
@@ -130,20 +131,40 @@ module _ (W : Socket → Type 0) where
     segments false cx ip header bytes places named all =
         changed (with_segment cx ip header bytes) (λ s holds. law.segment cx ip header bytes s named holds) (segment_place ip header places) places all
 
-    handed : (caps : ChecksumCapabilities) (i : InnerValue) (places : Places) (ip upper : IpRepr) (payload : List ℕ) (carried : Option PayloadValue) →
-        IsCarriedContent caps upper payload carried → OfEach W places → OfEach W (handed_places i places ip carried)
-    handed caps i places ip upper payload None is all = all
-    handed caps i places ip upper payload (Some (ControlV4 message bytes)) is all = messages ip message bytes places all
-    handed caps i places ip upper payload (Some (ControlV6 message bytes)) is all = messages_v6 ip message bytes places all
-    handed caps i places ip upper payload (Some (Bytes bytes)) is all = all
-    handed caps i places ip upper payload (Some (Datagram udp bytes)) is all =
-        changed (with_datagram ip udp bytes) (law.datagram ip udp bytes) (datagram_place (context_of i) ip udp places) places all
-    handed caps i places ip upper payload (Some (Segment header bytes)) is all =
-        segments (names_nobody i ip) (context_of i) ip header bytes places (segment_named caps upper payload header bytes is) all
+    datagram_item : (cx : ContextValue) (ip : IpRepr) (udp : UdpRepr) (bytes : List ℕ) (o o' : Option (Item Socket)) → ItemTakes cx ip udp bytes o o' →
+        OfItem W o → OfItem W o'
+    datagram_item cx ip udp bytes None o' takes holds = subst (OfItem W) (sym takes) tt
+    datagram_item cx ip udp bytes (Some item) o' takes holds =
+        subst (OfItem W) (sym takes.2) (law.datagram cx ip udp bytes item.socket takes.0 takes.1 holds)
+
+    datagram_in : (cx : ContextValue) (ip : IpRepr) (udp : UdpRepr) (bytes : List ℕ) (at : ℕ) (o : Option (SocketStorage Socket)) (places qs : Places) →
+        slice_get places at ≡ o → GivenIn cx ip udp bytes at o places qs → OfEach W places → OfEach W qs
+    datagram_in cx ip udp bytes at None places qs here given all = subst (OfEach W) (sym given) all
+    datagram_in cx ip udp bytes at (Some place) places qs here given all =
+        subst (OfEach W) (sym given.2) (with_set places at given.0
+        (datagram_item cx ip udp bytes place.inner given.0.inner given.1 (found places at place here all)) all)
+
+    datagrams : (cx : ContextValue) (ip : IpRepr) (udp : UdpRepr) (bytes : List ℕ) (at : Option ℕ) (places qs : Places) →
+        GivenAt cx ip udp bytes at places qs → OfEach W places → OfEach W qs
+    datagrams cx ip udp bytes None places qs given all = subst (OfEach W) (sym given) all
+    datagrams cx ip udp bytes (Some at) places qs given all = datagram_in cx ip udp bytes at (slice_get places at) places qs refl given all
+
+    handed : (caps : ChecksumCapabilities) (i : InnerValue) (places : Places) (ip upper : IpRepr) (payload : List ℕ) (carried : Option PayloadValue)
+        (qs : Places) → IsCarriedContent caps upper payload carried → HandsTo i places ip carried qs → OfEach W places → OfEach W qs
+    handed caps i places ip upper payload None qs is to all = subst (OfEach W) (sym to) all
+    handed caps i places ip upper payload (Some (ControlV4 message bytes)) qs is to all = subst (OfEach W) (sym to) (messages ip message bytes places all)
+    handed caps i places ip upper payload (Some (ControlV6 message bytes)) qs is to all = subst (OfEach W) (sym to) (messages_v6 ip message bytes places all)
+    handed caps i places ip upper payload (Some (Bytes bytes)) qs is to all = subst (OfEach W) (sym to) all
+    handed caps i places ip upper payload (Some (Datagram udp bytes)) qs is to all =
+        datagrams (context_of i) ip udp bytes (datagram_place (context_of i) ip udp places) places qs to all
+    handed caps i places ip upper payload (Some (Segment header bytes)) qs is to all =
+        subst (OfEach W) (sym to)
+        (segments (names_nobody i ip) (context_of i) ip header bytes places (segment_named caps upper payload header bytes is) all)
 
     hands : (i : InnerValue) (places : Places) (ip : IpRepr) (payload : List ℕ) (taken : Bool) (a : Arrived) → Hands i places ip payload taken a →
         OfEach W places → OfEach W a.places
-    hands i places ip payload taken a (carried, is, so) all = subst (OfEach W) (sym so.places_are) (handed i.checksums i places ip (upper_header ip payload) (upper_payload ip payload) carried is all)
+    hands i places ip payload taken a (carried, is, so) all =
+        handed i.checksums i places ip (upper_header ip payload) (upper_payload ip payload) carried a.places is so.places_are all
 
     v4 : (ours : Bool) (i : InnerValue) (places : Places) (link : Option EthernetRepr) (ip : IpRepr) (payload : List ℕ) (a : Arrived) →
         ArrivesV4 ours i places link ip payload a → OfEach W places → OfEach W a.places

@@ -25,7 +25,7 @@ module _ (V W : Socket → Type 0) where
     packet = λ ip payload s both. (v.packet ip payload s both.0, w.packet ip payload s both.1);
     icmpv4 = λ ip message bytes s both. (v.icmpv4 ip message bytes s both.0, w.icmpv4 ip message bytes s both.1);
     icmpv6 = λ ip message bytes s both. (v.icmpv6 ip message bytes s both.0, w.icmpv6 ip message bytes s both.1);
-    datagram = λ ip udp bytes s both. (v.datagram ip udp bytes s both.0, w.datagram ip udp bytes s both.1);
+    datagram = λ cx ip udp bytes s s' takes both. (v.datagram cx ip udp bytes s s' takes both.0, w.datagram cx ip udp bytes s s' takes both.1);
     segment = λ cx ip header bytes s named both. (v.segment cx ip header bytes s named both.0, w.segment cx ip header bytes s named both.1);
   }
 

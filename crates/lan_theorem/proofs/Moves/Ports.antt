@@ -50,7 +50,8 @@ use Rattle.tcp_model.specs.declared.block.Block.{Block}
 use Rattle.sockets.specs.Socket.{Offers, settled}
 use Rattle.sockets.specs.declared.socket.Socket.{Socket}
 use Rattle.sockets.specs.declared.socket.Socket.TheVariants as Is
-use Rattle.interface_ingress.specs.Delivered.{with_packet, with_icmpv4, with_icmpv6, with_datagram, with_segment}
+use Rattle.interface_ingress.specs.Datagrams.{TakesDatagram}
+use Rattle.interface_ingress.specs.Delivered.{with_packet, with_icmpv4, with_icmpv6, with_segment}
 use Rattle.lan_hosts.specs.Call as Call
 use Rattle.lan_hosts.specs.Call.{SocketCall}
 use Rattle.lan_hosts.specs.TcpSetting.{TcpSetting}
@@ -131,6 +132,8 @@ offers_named cx (Is.Udp v) (Is.Udp v') answer offers holds =
     each_left IsNamed (contents v.queued) (contents v'.queued) (offer_left (Udps.TakesDatagram cx) (first v.queued) v v' answer offers) holds
 offers_named cx (Is.Tcp v) (Is.Tcp v') answer offers holds =
     subst TcpNames (sym offers.1) (left_named v.block (offer_of cx v).socket.block (withheld_names cx v) holds)
+offers_named cx (Is.Dhcpv4 v) s' answer offers holds = absurd holds
+offers_named cx (Is.Dns v) s' answer offers holds = absurd holds
 offers_named cx s s' answer offers holds = absurd offers
 
 settles_named : (sent : Bool) (s : Socket) → NamesPorts s → NamesPorts (settled sent s)
@@ -139,12 +142,16 @@ settles_named sent (Is.Icmp v) holds = tt
 settles_named sent (Is.Udp v) holds = each_left IsNamed (contents v.queued) (contents (Datagrams.settled sent v).queued) (settled_left sent v) holds
 settles_named true (Is.Tcp v) holds = off_named v.offered (unoffered v) holds
 settles_named false (Is.Tcp v) holds = holds
+settles_named sent (Is.Dhcpv4 v) holds = absurd holds
+settles_named sent (Is.Dns v) holds = absurd holds
 
 segment_named : (cx : ContextValue) (ip : IpRepr) (header : TcpHeader) (bytes : List ℕ) (s : Socket) → AreNamed header.src_port header.dst_port → NamesPorts s →
     NamesPorts (with_segment cx ip header bytes s)
 segment_named cx ip header bytes (Is.Raw v) named holds = tt
 segment_named cx ip header bytes (Is.Icmp v) named holds = tt
 segment_named cx ip header bytes (Is.Udp v) named holds = holds
+segment_named cx ip header bytes (Is.Dhcpv4 v) named holds = absurd holds
+segment_named cx ip header bytes (Is.Dns v) named holds = absurd holds
 segment_named cx ip header bytes (Is.Tcp v) named holds =
     renamed_named ip header v.block (arrives cx v ip header bytes).socket.block (arrival_names cx v ip header bytes) named holds
 
@@ -163,24 +170,33 @@ named_sockets = record {
   packet ip payload (Is.Icmp v) holds = tt
   packet ip payload (Is.Udp v) holds = holds
   packet ip payload (Is.Tcp v) holds = holds
+  packet ip payload (Is.Dhcpv4 v) holds = absurd holds
+  packet ip payload (Is.Dns v) holds = absurd holds
 
   icmpv4 : (ip : Ipv4Repr) (message : Icmpv4Header) (bytes : List ℕ) (s : Socket) → NamesPorts s → NamesPorts (with_icmpv4 ip message bytes s)
   icmpv4 ip message bytes (Is.Raw v) holds = tt
   icmpv4 ip message bytes (Is.Icmp v) holds = tt
   icmpv4 ip message bytes (Is.Udp v) holds = holds
   icmpv4 ip message bytes (Is.Tcp v) holds = holds
+  icmpv4 ip message bytes (Is.Dhcpv4 v) holds = absurd holds
+  icmpv4 ip message bytes (Is.Dns v) holds = absurd holds
 
   icmpv6 : (ip : Ipv6Repr) (message : MessageValue) (bytes : List ℕ) (s : Socket) → NamesPorts s → NamesPorts (with_icmpv6 ip message bytes s)
   icmpv6 ip message bytes (Is.Raw v) holds = tt
   icmpv6 ip message bytes (Is.Icmp v) holds = tt
   icmpv6 ip message bytes (Is.Udp v) holds = holds
   icmpv6 ip message bytes (Is.Tcp v) holds = holds
+  icmpv6 ip message bytes (Is.Dhcpv4 v) holds = absurd holds
+  icmpv6 ip message bytes (Is.Dns v) holds = absurd holds
 
-  datagram : (ip : IpRepr) (udp : UdpRepr) (bytes : List ℕ) (s : Socket) → NamesPorts s → NamesPorts (with_datagram ip udp bytes s)
-  datagram ip udp bytes (Is.Raw v) holds = tt
-  datagram ip udp bytes (Is.Icmp v) holds = tt
-  datagram ip udp bytes (Is.Udp v) holds = holds
-  datagram ip udp bytes (Is.Tcp v) holds = holds
+  datagram : (cx : ContextValue) (ip : IpRepr) (udp : UdpRepr) (bytes : List ℕ) (s s' : Socket) → TakesDatagram cx ip udp bytes s s' → NamesPorts s →
+      NamesPorts s'
+  datagram cx ip udp bytes (Is.Raw v) s' takes holds = subst NamesPorts (sym takes) tt
+  datagram cx ip udp bytes (Is.Icmp v) s' takes holds = subst NamesPorts (sym takes) tt
+  datagram cx ip udp bytes (Is.Udp v) s' takes holds = subst NamesPorts (sym takes) holds
+  datagram cx ip udp bytes (Is.Tcp v) s' takes holds = subst NamesPorts (sym takes) holds
+  datagram cx ip udp bytes (Is.Dhcpv4 v) s' takes holds = absurd holds
+  datagram cx ip udp bytes (Is.Dns v) s' takes holds = absurd holds
 
 -- IN A CALL OF A UDP SOCKET
 
@@ -275,12 +291,16 @@ calls_named cx (Is.Raw v) call foreign holds = all_as NamesPorts Is.Raw (λ w. t
 calls_named cx (Is.Icmp v) call foreign holds = all_as NamesPorts Is.Icmp (λ w. tt) (icmp_does v call)
 calls_named cx (Is.Udp v) call foreign holds = kept_as NamesPorts Is.Udp (udp_does v call) (udp_keeps v call holds)
 calls_named cx (Is.Tcp v) call foreign holds = kept_as NamesPorts Is.Tcp (tcp_does cx v call) (tcp_keeps cx v call holds)
+calls_named cx (Is.Dhcpv4 v) call foreign holds = absurd holds
+calls_named cx (Is.Dns v) call foreign holds = absurd holds
 
 unused_named : (socket : Socket) → IsUnused socket → NamesPorts socket
 unused_named (Is.Raw v) unused = tt
 unused_named (Is.Icmp v) unused = tt
 unused_named (Is.Udp v) unused = subst (AllByRecursion IsNamed) (sym unused.1) tt
 unused_named (Is.Tcp v) unused = none_named v.block.names.pair unused.1.pair
+unused_named (Is.Dhcpv4 v) unused = absurd unused
+unused_named (Is.Dns v) unused = absurd unused
 
 pub named_runs : IsOfRuns NamesPorts
 named_runs = record { polls = named_sockets; calls = calls_named; unused = unused_named }

@@ -61,6 +61,8 @@ use Rattle.tcp_model.specs.Text.{Texted, with_text, with_fin}
 use Rattle.tcp_model.specs.Timeout.{timeout_started, timeout_restarted, timeout_end, timed_out}
 use Rattle.tcp_model.specs.Value.{TcpValue, Arrived, with_block, dropped, answered_with, unoffered, ended, queued_in, free_in, room_of, window_of}
 use Rattle.tcp_model.specs.declared.block.Block.{Block}
+use Rattle.sockets.proofs.DhcpDatagrams as Dhcps
+use Rattle.sockets.proofs.DnsDatagrams as Dnss
 use Rattle.sockets.specs.Socket.{Offers, offered_by}
 use Rattle.sockets.specs.declared.socket.Socket.{Socket}
 use Rattle.sockets.specs.declared.socket.Socket.TheVariants as Is
@@ -257,6 +259,10 @@ tcp_offer_names : (cx : ContextValue) (v : TcpValue) (p : PacketValue) → offer
 tcp_offer_names cx v p is =
     segment_names (offer_of cx v).socket.offered (offer_of cx v).socket.queued.queue p (names_with v.block.names.pair cx (unoffered v) refl) is
 
+datagram_names : (p : PacketValue) (udp : UdpRepr) (bytes : List ℕ) → p.payload ≡ Datagram udp bytes → carried_in p.header ≡ Protocol.Udp →
+    NamesItsPayload p
+datagram_names p udp bytes carries named = subst (NamesBehind p.header) (sym carries) named
+
 pub offered_names : (cx : ContextValue) (s s' : Socket) (answer : Answer.Offer) (p : PacketValue) → Offers cx s answer s' → offered_by s' ≡ Some p →
     NamesItsPayload p
 offered_names cx (Is.Raw v) (Is.Raw v') answer p offers is =
@@ -268,6 +274,10 @@ offered_names cx (Is.Udp v) (Is.Udp v') answer p offers is =
     let took = takes_one (Udps.TakesDatagram cx) v (first v.queued) answer v' p offers is in udp_names cx v.settings took.0 p took.1
 offered_names cx (Is.Tcp v) (Is.Tcp v') answer p offers is =
     tcp_offer_names cx v p (ap (λ (w : TcpValue). offered_packet w) (sym offers.1) ∙ is)
+offered_names cx (Is.Dhcpv4 v) (Is.Dhcpv4 v') answer p offers is =
+    let d = Dhcps.offered_datagram cx v v' answer p offers is in datagram_names p d.udp d.bytes d.carries d.protocol
+offered_names cx (Is.Dns v) (Is.Dns v') answer p offers is =
+    let d = Dnss.offered_datagram cx v v' answer p offers is in datagram_names p d.udp d.bytes d.carries d.protocol
 offered_names cx s s' answer p offers is = absurd offers
 
 -- WHAT A TCP SOCKET ANSWERS

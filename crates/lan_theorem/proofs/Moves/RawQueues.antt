@@ -32,7 +32,8 @@ use Rattle.sockets.specs.SocketValue.{arrived}
 use Rattle.sockets.specs.Socket.{Offers, settled}
 use Rattle.sockets.specs.declared.socket.Socket.{Socket}
 use Rattle.sockets.specs.declared.socket.Socket.TheVariants as Is
-use Rattle.interface_ingress.specs.Delivered.{with_packet, with_icmpv4, with_icmpv6, with_datagram, with_segment}
+use Rattle.interface_ingress.specs.Datagrams.{TakesDatagram}
+use Rattle.interface_ingress.specs.Delivered.{with_packet, with_icmpv4, with_icmpv6, with_segment}
 use Rattle.lan_frames.specs.Carried.{names_tcp_or_udp, is_tcp_or_udp, has_ports_behind}
 use Rattle.lan_frames.proofs.Named.{neither_first, neither_second, behind_named}
 use Rattle.lan_hosts.specs.Call as Call
@@ -58,6 +59,8 @@ offers_foreign cx (Is.Raw v) (Is.Raw v') answer offers holds =
 offers_foreign cx (Is.Icmp v) (Is.Icmp v') answer offers holds = tt
 offers_foreign cx (Is.Udp v) (Is.Udp v') answer offers holds = tt
 offers_foreign cx (Is.Tcp v) (Is.Tcp v') answer offers holds = tt
+offers_foreign cx (Is.Dhcpv4 v) s' answer offers holds = absurd holds
+offers_foreign cx (Is.Dns v) s' answer offers holds = absurd holds
 offers_foreign cx s s' answer offers holds = absurd offers
 
 settles_foreign : (sent : Bool) (s : Socket) → QueuesForeign s → QueuesForeign (settled sent s)
@@ -65,6 +68,8 @@ settles_foreign sent (Is.Raw v) holds = each_left IsForeign (contents v.queued) 
 settles_foreign sent (Is.Icmp v) holds = tt
 settles_foreign sent (Is.Udp v) holds = tt
 settles_foreign sent (Is.Tcp v) holds = tt
+settles_foreign sent (Is.Dhcpv4 v) holds = absurd holds
+settles_foreign sent (Is.Dns v) holds = absurd holds
 
 packet_foreign : (ip : IpRepr) (payload : List ℕ) (s : Socket) → QueuesForeign s → QueuesForeign (with_packet ip payload s)
 packet_foreign ip payload (Is.Raw v) holds = by (Raws.fits ip) where
@@ -75,6 +80,8 @@ packet_foreign ip payload (Is.Raw v) holds = by (Raws.fits ip) where
 packet_foreign ip payload (Is.Icmp v) holds = tt
 packet_foreign ip payload (Is.Udp v) holds = tt
 packet_foreign ip payload (Is.Tcp v) holds = tt
+packet_foreign ip payload (Is.Dhcpv4 v) holds = absurd holds
+packet_foreign ip payload (Is.Dns v) holds = absurd holds
 
 foreign_sockets : IsOfSockets QueuesForeign
 foreign_sockets = record {
@@ -91,18 +98,25 @@ foreign_sockets = record {
   icmpv4 ip message bytes (Is.Icmp v) holds = tt
   icmpv4 ip message bytes (Is.Udp v) holds = tt
   icmpv4 ip message bytes (Is.Tcp v) holds = tt
+  icmpv4 ip message bytes (Is.Dhcpv4 v) holds = absurd holds
+  icmpv4 ip message bytes (Is.Dns v) holds = absurd holds
 
   icmpv6 : (ip : Ipv6Repr) (message : MessageValue) (bytes : List ℕ) (s : Socket) → QueuesForeign s → QueuesForeign (with_icmpv6 ip message bytes s)
   icmpv6 ip message bytes (Is.Raw v) holds = holds
   icmpv6 ip message bytes (Is.Icmp v) holds = tt
   icmpv6 ip message bytes (Is.Udp v) holds = tt
   icmpv6 ip message bytes (Is.Tcp v) holds = tt
+  icmpv6 ip message bytes (Is.Dhcpv4 v) holds = absurd holds
+  icmpv6 ip message bytes (Is.Dns v) holds = absurd holds
 
-  datagram : (ip : IpRepr) (udp : UdpRepr) (bytes : List ℕ) (s : Socket) → QueuesForeign s → QueuesForeign (with_datagram ip udp bytes s)
-  datagram ip udp bytes (Is.Raw v) holds = holds
-  datagram ip udp bytes (Is.Icmp v) holds = tt
-  datagram ip udp bytes (Is.Udp v) holds = tt
-  datagram ip udp bytes (Is.Tcp v) holds = tt
+  datagram : (cx : ContextValue) (ip : IpRepr) (udp : UdpRepr) (bytes : List ℕ) (s s' : Socket) → TakesDatagram cx ip udp bytes s s' → QueuesForeign s →
+      QueuesForeign s'
+  datagram cx ip udp bytes (Is.Raw v) s' takes holds = subst QueuesForeign (sym takes) holds
+  datagram cx ip udp bytes (Is.Icmp v) s' takes holds = subst QueuesForeign (sym takes) tt
+  datagram cx ip udp bytes (Is.Udp v) s' takes holds = subst QueuesForeign (sym takes) tt
+  datagram cx ip udp bytes (Is.Tcp v) s' takes holds = subst QueuesForeign (sym takes) tt
+  datagram cx ip udp bytes (Is.Dhcpv4 v) s' takes holds = absurd holds
+  datagram cx ip udp bytes (Is.Dns v) s' takes holds = absurd holds
 
   segment : (cx : ContextValue) (ip : IpRepr) (header : TcpHeader) (bytes : List ℕ) (s : Socket) → AreNamed header.src_port header.dst_port → QueuesForeign s →
       QueuesForeign (with_segment cx ip header bytes s)
@@ -110,6 +124,8 @@ foreign_sockets = record {
   segment cx ip header bytes (Is.Icmp v) named holds = tt
   segment cx ip header bytes (Is.Udp v) named holds = tt
   segment cx ip header bytes (Is.Tcp v) named holds = tt
+  segment cx ip header bytes (Is.Dhcpv4 v) named holds = absurd holds
+  segment cx ip header bytes (Is.Dns v) named holds = absurd holds
 
 -- IN A CALL
 
@@ -126,12 +142,16 @@ calls_foreign cx (Is.Raw v) call foreign holds = kept_as QueuesForeign Is.Raw (r
 calls_foreign cx (Is.Icmp v) call foreign holds = all_as QueuesForeign Is.Icmp (λ w. tt) (icmp_does v call)
 calls_foreign cx (Is.Udp v) call foreign holds = all_as QueuesForeign Is.Udp (λ w. tt) (udp_does v call)
 calls_foreign cx (Is.Tcp v) call foreign holds = all_as QueuesForeign Is.Tcp (λ w. tt) (tcp_does cx v call)
+calls_foreign cx (Is.Dhcpv4 v) call foreign holds = absurd holds
+calls_foreign cx (Is.Dns v) call foreign holds = absurd holds
 
 no_queue : (socket : Socket) → IsUnused socket → QueuesForeign socket
 no_queue (Is.Raw v) unused = subst (AllByRecursion IsForeign) (sym unused.1) tt
 no_queue (Is.Icmp v) unused = tt
 no_queue (Is.Udp v) unused = tt
 no_queue (Is.Tcp v) unused = tt
+no_queue (Is.Dhcpv4 v) unused = absurd unused
+no_queue (Is.Dns v) unused = absurd unused
 
 pub foreign_runs : IsOfRuns QueuesForeign
 foreign_runs = record { polls = foreign_sockets; calls = calls_foreign; unused = no_queue }

@@ -1,5 +1,5 @@
 -- A frame that is taken makes at most one move.
-use Rattle.std.proofs.Common.{◌≡◌, ℕ, Bool, true, false, if◌then◌else◌, List, Option, Some, None, IfSome, refl, sym, ◌∙◌, subst}
+use Rattle.std.proofs.Common.{◌≡◌, ℕ, Bool, true, false, if◌then◌else◌, List, Option, Some, None, IfSome, refl, sym, ap, ◌∙◌, subst}
 use Rattle.std.specs.Prelude.{◌||◌, is_some}
 use Rattle.lan_frames.specs.ChecksumCapabilities.{ChecksumCapabilities}
 use Rattle.interface_ingress.specs.IpAddress.{IpAddress}
@@ -18,7 +18,7 @@ use Rattle.interface_ingress.specs.Arrives as Replies
 use Rattle.interface_ingress.specs.Arrives.{ReplyValue, Arrived, ArrivesV4, ArrivesV6, Brings, Hands, IsSilent, answered, is_direct, renewed, renewed_by}
 use Rattle.interface_ingress.specs.Arrives.{sender_of}
 use Rattle.interface_ingress.specs.Delivered.{packet_delivered, is_taken_raw, datagram_place, segment_delivered, segment_answer}
-use Rattle.interface_ingress.specs.Handed.{control_v4_places, control_v6_places, names_nobody, handed_places, handed_reply}
+use Rattle.interface_ingress.specs.Handed.{control_v4_places, control_v6_places, names_nobody, handed_reply, HandsTo}
 use Rattle.interface_ingress.specs.Incoming.{IncomingValue, Arp, Ip4, Ip6}
 use Rattle.interface_ingress.specs.Upper.{IsBrought}
 use Rattle.lan_hosts.specs.Side.{Side}
@@ -63,31 +63,33 @@ module _ (names : List ℕ → Bool) (side : Side) (net now : Net) (r : Reaches 
 
     handed : (caps : ChecksumCapabilities) (carried : Option PayloadValue) → IsBrought caps ip payload carried →
         HandsMade (party net (other side)) caps ip payload
-        → Ends (handed_places i places ip carried) (handed_reply i places ip payload taken carried)
-    handed caps None is made = same_with places _ refl (λ p. unread_made p i ip payload taken)
-    handed caps (Some (ControlV4 message bytes)) is made =
-        same_with (control_v4_places ip message bytes places) _ (control_v4 ip message bytes) (λ p. control_v4_made p i ip message bytes)
-    handed caps (Some (ControlV6 message bytes)) is made =
-        same_with (control_v6_places ip message bytes places) _ (control_v6 ip message bytes) (λ p. control_v6_made p i ip message bytes)
-    handed caps (Some (Bytes bytes)) is made = nothing names side net now r places has
-    handed caps (Some (Datagram udp bytes)) is made =
+        → (qs : Places) → HandsTo i places ip carried qs → Ends qs (handed_reply i places ip payload taken carried)
+    handed caps None is made qs to = same_with qs _ (ap (λ (ps : Places). sockets_of ps) to) (λ p. unread_made p i ip payload taken)
+    handed caps (Some (ControlV4 message bytes)) is made qs to =
+        same_with qs _ (ap (λ (ps : Places). sockets_of ps) to ∙ control_v4 ip message bytes) (λ p. control_v4_made p i ip message bytes)
+    handed caps (Some (ControlV6 message bytes)) is made qs to =
+        same_with qs _ (ap (λ (ps : Places). sockets_of ps) to ∙ control_v6 ip message bytes) (λ p. control_v6_made p i ip message bytes)
+    handed caps (Some (Bytes bytes)) is made qs to =
+        subst (λ (ps : Places). Ends ps None) (sym to) (nothing names side net now r places has)
+    handed caps (Some (Datagram udp bytes)) is made qs to =
         let was : WasMade (party now (other side)) (datagram_of udp bytes) =
         subst (λ (p : Party). WasMade p (datagram_of udp bytes)) (sym r.rests) (made.datagrams udp bytes is) in
-        let moved = datagram_given names side net now r places has (context_of i) ip udp bytes was in
+        let moved = datagram_given names side net now r places has (context_of i) ip udp bytes was qs to in
         record { moved = moved; made = port_error_made (party moved.next side) (is_some (datagram_place (context_of i) ip udp places) || taken) i ip payload }
-    handed caps (Some (Segment header bytes)) is made =
+    handed caps (Some (Segment header bytes)) is made qs to =
         let was : IsAmong (party now (other side)).segments (made_of header bytes) =
         subst (λ (p : Party). IsAmong p.segments (made_of header bytes)) (sym r.rests) (made.segments header bytes is) in
-        segment (names_nobody i ip) header bytes was
+        subst (λ (ps : Places). Ends ps (handed_reply i places ip payload taken (Some (Segment header bytes)))) (sym to)
+        (segment (names_nobody i ip) header bytes was)
 
     hands : (caps : ChecksumCapabilities) (a : Arrived) → i.checksums ≡ caps → Hands i places ip payload taken a →
         HandsMade (party net (other side)) caps ip payload → Ended names side net now a.places a.reply
     hands caps a same (carried, is, so) made =
-        let end = handed i.checksums carried is (subst (λ (c : ChecksumCapabilities). HandsMade (party net (other side)) c ip payload) (sym same) made) in
-        let given : Ended names side net now (handed_places i places ip carried) (answered (handed_reply i places ip payload taken carried)) =
+        let end = handed i.checksums carried is (subst (λ (c : ChecksumCapabilities). HandsMade (party net (other side)) c ip payload) (sym same) made)
+        a.places so.places_are in
+        let given : Ended names side net now a.places (answered (handed_reply i places ip payload taken carried)) =
         record { moved = end.moved; made = answered_made (party end.moved.next side) (handed_reply i places ip payload taken carried) end.made } in
-        subst (λ (qs : Places). Ended names side net now qs a.reply) (sym so.places_are)
-        (subst (λ (o : Option ReplyValue). Ended names side net now (handed_places i places ip carried) o) (sym so.reply) given)
+        subst (λ (o : Option ReplyValue). Ended names side net now a.places o) (sym so.reply) given
 
   -- A CONTENT
 

@@ -23,6 +23,8 @@ use Rattle.tcp_tie.specs.Host.{made_of, and_offer}
 use Rattle.tcp_model.specs.OpenOffer.{OpenOffer}
 use Rattle.tcp_model.specs.Offers.{offer_of, payload_of, packet_with, offered_packet}
 use Rattle.tcp_model.specs.Value.{TcpValue}
+use Rattle.sockets.specs.DhcpValue as Dhcps
+use Rattle.sockets.specs.DnsValue as Dnss
 use Rattle.sockets.specs.Socket.{Offers, offered_by, settled}
 use Rattle.sockets.specs.declared.socket.Socket.{Socket}
 use Rattle.sockets.specs.declared.socket.Socket.TheVariants as Is
@@ -77,20 +79,20 @@ module _ (names : List ℕ → Bool) (side : Side) (net now : Net) (r : Reaches 
   abbrev To : Meta → Socket → Bool → Option PacketValue → Type 0
   To m s sent packet = Gives names side net now (sockets_of (before ++ holding m s ∷ after)) sent packet
 
-  found : (m : Meta) (s : Socket) → Has m s → Parties.socket_at (party now side) (length before) ≡ Some (seen s)
+  found : (m : Meta) (s : Socket) → Has m s → Parties.socket_at (party now side) (length before) ≡ seen s
   found m s has =
       ap (λ (xs : List (Option Parties.Socket)). slice_index_or xs (length before) None) has ∙ get-middle seen_place before (holding m s) after None
 
   changed : (m m' : Meta) (s s' : Socket) → Has m s →
-      slice_set (party now side).sockets (length before) (Some (seen s')) ≡ sockets_of (before ++ holding m' s' ∷ after)
+      slice_set (party now side).sockets (length before) (seen s') ≡ sockets_of (before ++ holding m' s' ∷ after)
   changed m m' s s' has =
-      ap (λ (xs : List (Option Parties.Socket)). slice_set xs (length before) (Some (seen s'))) has ∙
+      ap (λ (xs : List (Option Parties.Socket)). slice_set xs (length before) (seen s')) has ∙
       set-middle seen_place before (holding m s) (holding m' s') after
 
   abbrev looks_same : (m m' : Meta) (s s' : Socket) → seen s' ≡ seen s → Has m s → Moved names side net now (sockets_of (before ++ holding m' s' ∷ after))
   looks_same m m' s s' same has =
       stays names side net now r (sockets_of (before ++ holding m' s' ∷ after)) (has ∙
-      sym (same-middle seen_place before (holding m s) (holding m' s') after (ap Some same)))
+      sym (same-middle seen_place before (holding m s) (holding m' s') after same))
 
   -- a raw packet and a control message are neither segments nor datagrams
   raw_gives : (m m' : Meta) (cx : ContextValue) (v v' : RawValue) (answer : Answer.Offer) (sent : Bool) → Raws.Offers cx v answer v' → Has m (Is.Raw v) →
@@ -158,19 +160,29 @@ module _ (names : List ℕ → Bool) (side : Side) (net now : Net) (r : Reaches 
     move : Moves.Move
     move = Moves.Offers (length before) cx v false
 
-  pub gives : (m m' : Meta) (cx : ContextValue) (s offered : Socket) (answer : Answer.Offer) (sent : Bool) → Offers cx s answer offered → Has m s
+  pub gives : (m m' : Meta) (cx : ContextValue) (s offered : Socket) (answer : Answer.Offer) (sent : Bool) → IsFit s → Offers cx s answer offered → Has m s
       → To m' (settled sent offered) sent (offered_by offered)
-  gives m m' cx (Is.Raw v) (Is.Raw v') answer sent offers has = raw_gives m m' cx v v' answer sent offers has
-  gives m m' cx (Is.Icmp v) (Is.Icmp v') answer sent offers has = icmp_gives m m' cx v v' answer sent offers has
-  gives m m' cx (Is.Udp v) (Is.Udp v') answer sent offers has = udp_gives m m' cx v v' answer sent offers has
-  gives m m' cx (Is.Tcp v) (Is.Tcp v') answer sent offers has =
+  gives m m' cx (Is.Raw v) (Is.Raw v') answer sent fit offers has = raw_gives m m' cx v v' answer sent offers has
+  gives m m' cx (Is.Icmp v) (Is.Icmp v') answer sent fit offers has = icmp_gives m m' cx v v' answer sent offers has
+  gives m m' cx (Is.Udp v) (Is.Udp v') answer sent fit offers has = udp_gives m m' cx v v' answer sent offers has
+  gives m m' cx (Is.Tcp v) (Is.Tcp v') answer sent fit offers has =
       subst (λ (w : TcpValue). To m' (settled sent (Is.Tcp w)) sent (offered_packet w)) (sym offers.1) (tcp_gives m m' cx v sent has)
-  gives m m' cx s offered answer sent offers has = absurd offers
+  gives m m' cx (Is.Dhcpv4 v) offered answer sent fit offers has = absurd fit.0
+  gives m m' cx (Is.Dns v) offered answer sent fit offers has = absurd fit.0
+  gives m m' cx s offered answer sent fit offers has = absurd offers
 
 -- an offer that is silent leaves none open
 none_open : (o : Option OpenOffer) (queue : List ℕ) → packet_with o queue ≡ None → o ≡ None
 none_open None queue is = refl
 none_open (Some o) queue is = absurd (cc)
+
+none_kept : (o : Option Dhcps.Open) → Dhcps.packet_in o ≡ None → o ≡ None
+none_kept None is = refl
+none_kept (Some o) is = absurd (cc)
+
+none_asked : (o : Option Dnss.Open) → Dnss.packet_in o ≡ None → o ≡ None
+none_asked None is = refl
+none_asked (Some o) is = absurd (cc)
 
 none_offered : (o : Option PacketValue) (changed : Bool) → HasPacket (Offer.Silent changed) o → o ≡ None
 none_offered None any has = refl
@@ -180,6 +192,8 @@ unsettled : (s : Socket) → offered_by s ≡ None → settled false s ≡ s
 unsettled (Is.Raw v) none = λ k. Is.Raw (record v { offered = sym none k })
 unsettled (Is.Icmp v) none = λ k. Is.Icmp (record v { offered = sym none k })
 unsettled (Is.Udp v) none = λ k. Is.Udp (record v { offered = sym none k })
+unsettled (Is.Dhcpv4 v) none = let no_offer : v.offered ≡ None = none_kept v.offered none in λ k. Is.Dhcpv4 (record v { offered = sym no_offer k })
+unsettled (Is.Dns v) none = let no_offer : v.offered ≡ None = none_asked v.offered none in λ k. Is.Dns (record v { offered = sym no_offer k })
 unsettled (Is.Tcp v) none = let no_offer : v.offered ≡ None = none_open v.offered v.queued.queue none in λ k. Is.Tcp (record v { offered = sym no_offer k })
 
 -- THE TURN
@@ -232,12 +246,12 @@ module _ {D : Type 0} (moves : D → Move → D → Type 0) (turn_of : Option Ip
     link = link.grown n (At x o) places (party f.now side) (party m.next side) m.grows f.link;
   }
 
-  silent : (x x' : Sender D) (item item' : Item Socket) (offered : Socket) (changed : Bool) (turned : Turned) →
+  silent : (x x' : Sender D) (item item' : Item Socket) (offered : Socket) (changed : Bool) (turned : Turned) → IsFit item.socket →
       Offers (context_of x.inner) item.socket (Offer.Silent changed) offered
       → Answers moves turn_of (Offer.Silent changed) x (record item { socket = offered }) turned x' item' → Now (At x (Some item)) → Now (At x' (Some item'))
-  silent x x' item item' offered changed turned offers answers f =
+  silent x x' item item' offered changed turned fit offers answers f =
       let given = gives names side net f.now f.reaches before after item.meta unmarked (context_of x.inner) item.socket offered (Offer.Silent changed) false
-      offers f.sockets in
+      fit offers f.sockets in
       let same : settled false offered ≡ offered =
       unsettled offered (none_offered (offered_by offered) changed (has_packet item.socket offered (context_of x.inner) (Offer.Silent changed) offers)) in
       let still : Now (At x (Some (record { meta = unmarked; socket = offered }))) =
@@ -247,17 +261,17 @@ module _ {D : Type 0} (moves : D → Move → D → Type 0) (turn_of : Option Ip
       (subst (λ (y : Sender D). Now (At y (Some (record { meta = unmarked; socket = offered })))) (sym answers.1) still)
 
   sends : (x x' : Sender D) (item item' : Item Socket) (offered : Socket) (changed : Bool) (turned : Turned) (packet : Option PacketValue) →
-      packet ≡ offered_by offered → IfSome packet CanBeWide
+      packet ≡ offered_by offered → IfSome packet CanBeWide → IsFit item.socket
       → Offers (context_of x.inner) item.socket (Offer.Packet changed) offered →
       SendsBy moves turn_of packet x (record item { socket = offered }) changed turned x' item'
       → Now (At x (Some item)) → Next (At x' (Some item'))
-  sends x x' item item' offered changed turned None is wide offers goes f = absurd goes
-  sends x x' item item' offered changed turned (Some packet) is wide offers goes f =
+  sends x x' item item' offered changed turned None is wide fit offers goes f = absurd goes
+  sends x x' item item' offered changed turned (Some packet) is wide fit offers goes f =
       let sent = goes.0 in
       let meta = marked sent x.inner.moment (waits_until (plan_at x packet) x'.inner) (destination_of packet.header) item.meta in
       let places = before ++ holding meta (settled (is_done sent) offered) ∷ after in
       let given = gives names side net f.now f.reaches before after item.meta meta (context_of x.inner) item.socket offered (Offer.Packet changed)
-      (is_done sent) offers f.sockets in
+      (is_done sent) fit offers f.sockets in
       let on = moved_on x (Some item) places f given.moved in
       let told : Next (sending_as h x' places) = record {
         now = on.now;
@@ -268,24 +282,25 @@ module _ {D : Type 0} (moves : D → Move → D → Type 0) (turn_of : Option Ip
       } in
       subst (λ (i : Item Socket). Next (At x' (Some i))) (sym goes.3) told
 
-  asks : (x x' : Sender D) (item item' : Item Socket) (answer : Answer.Offer) (offered : Socket) (turned : Turned) → IfSome (offered_by offered) CanBeWide
+  asks : (x x' : Sender D) (item item' : Item Socket) (answer : Answer.Offer) (offered : Socket) (turned : Turned)
+      → IfSome (offered_by offered) CanBeWide → IsFit item.socket
       → Offers (context_of x.inner) item.socket answer offered → Answers moves turn_of answer x (record item { socket = offered }) turned x' item'
       → Now (At x (Some item)) → Next (At x' (Some item'))
-  asks x x' item item' (Offer.Silent changed) offered turned wide offers answers f =
-      uncounted (At x' (Some item')) (silent x x' item item' offered changed turned offers answers f)
-  asks x x' item item' (Offer.Packet changed) offered turned wide offers answers f =
-      sends x x' item item' offered changed turned (offered_by offered) refl wide offers answers f
+  asks x x' item item' (Offer.Silent changed) offered turned wide fit offers answers f =
+      uncounted (At x' (Some item')) (silent x x' item item' offered changed turned fit offers answers f)
+  asks x x' item item' (Offer.Packet changed) offered turned wide fit offers answers f =
+      sends x x' item item' offered changed turned (offered_by offered) refl wide fit offers answers f
 
   turns : (waits : Bool) (x x' : Sender D) (item item' : Item Socket) (turned : Turned) →
       TurnsIf moves turn_of waits x (let_through x.inner item) turned x' item' → IsFit item.socket
       → Now (At x (Some item)) → Next (At x' (Some item'))
   turns true x x' item item' turned waits fit f =
-      uncounted (At x' (Some item')) (stays_put x x' (Some item) (Some item') waits.1 (ap (λ (i : Item Socket). Some (seen i.socket)) waits.2) f)
+      uncounted (At x' (Some item')) (stays_put x x' (Some item) (Some item') waits.1 (ap (λ (i : Item Socket). seen i.socket) waits.2) f)
   turns false x x' item item' turned asked fit f =
       let through = let_through x.inner item in
       asks x x' through item' asked.0 asked.1 turned
       (if_some (offered_by asked.1) CanBeWide (λ p is formed. offered_wide (context_of x.inner) item.socket asked.1 asked.0 p fit asked.2 is formed))
-      asked.2 asked.3
+      fit asked.2 asked.3
       (stays_put x x (Some item) (Some through) refl refl f)
 
   items : (x x' : Sender D) (o o' : Option (Item Socket)) (turned : Turned) → ItemTurns moves turn_of o x turned x' o' → OfItem IsFit o → Now (At x o) →

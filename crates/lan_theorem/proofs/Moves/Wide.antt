@@ -167,6 +167,8 @@ offered_fits cx (Is.Icmp v) (Is.Icmp v') answer p fit offers is named widths =
 offered_fits cx (Is.Udp v) (Is.Udp v') answer p fit offers is named widths = udp_first cx (first v.queued) v v' answer p refl fit.1 offers is named widths
 offered_fits cx (Is.Tcp v) (Is.Tcp v') answer p fit offers is named widths =
     plain_fits p.header p.payload (tcp_plain cx v p fit.1 (ap (λ (w : TcpValue). offered_packet w) (sym offers.1) ∙ is)) named widths
+offered_fits cx (Is.Dhcpv4 v) s' answer p fit offers is named widths = absurd fit.0
+offered_fits cx (Is.Dns v) s' answer p fit offers is named widths = absurd fit.0
 offered_fits cx s s' answer p fit offers is named widths = absurd offers
 
 pub offered_wide : (cx : ContextValue) (s s' : Socket) (answer : Answer.Offer) (p : PacketValue) → IsFit s → Offers cx s answer s' → offered_by s' ≡ Some p →

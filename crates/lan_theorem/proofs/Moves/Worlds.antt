@@ -1,5 +1,5 @@
 -- A run of both hosts is a run of moves, and so is safe.
-use Rattle.std.proofs.Common.{◌≡◌, ℕ, zero, suc, List, [], ◌∷◌, Option, Some, None, refl, sym, ap, ◌∙◌, subst}
+use Rattle.std.proofs.Common.{◌≡◌, ℕ, zero, suc, List, [], ◌∷◌, Option, Some, None, IfSome, refl, sym, ap, ◌∙◌, subst}
 use Rattle.std.specs.Prelude.{◌-◌, ◌≤◌, length, slice_index_or}
 use Rattle.tcp_law.specs.Safe.{IsPrefixOf}
 use Rattle.tcp_model.specs.Value.{TcpValue}
@@ -88,17 +88,21 @@ seen_index [] (suc i) = refl
 seen_index (p ∷ ps) zero = refl
 seen_index (p ∷ ps) (suc i) = seen_index ps i
 
-unused_fresh : (socket : Socket) → IsUnused socket → IsFreshSocket (port_of (Some socket)) (seen socket)
+abbrev IfFresh : ℕ → Option Parties.Socket → Type 0
+IfFresh port o = IfSome o (λ s. IsFreshSocket port s)
+
+unused_fresh : (socket : Socket) → IsUnused socket → IfFresh (port_of (Some socket)) (seen socket)
 unused_fresh (Is.Raw v) unused = tt
 unused_fresh (Is.Icmp v) unused = tt
 unused_fresh (Is.Udp v) unused = (refl, unused.0, unused.1)
 unused_fresh (Is.Tcp v) unused = unused
+unused_fresh (Is.Dhcpv4 v) unused = absurd unused
+unused_fresh (Is.Dns v) unused = absurd unused
 
 fresh_socket : (o : Option Socket) (s : Parties.Socket) → ((socket : Socket) → o ≡ Some socket → IsUnused socket) → seen_in o ≡ Some s →
     IsFreshSocket (port_of o) s
 fresh_socket None s unused is = absurd (cc)
-fresh_socket (Some socket) s unused is = let same : seen socket ≡ s =
-    cc in subst (IsFreshSocket (port_of (Some socket))) same (unused_fresh socket (unused socket refl))
+fresh_socket (Some socket) s unused is = subst (IfFresh (port_of (Some socket))) is (unused_fresh socket (unused socket refl))
 
 fresh_party : (s : Start) (p : Party) (ports : ℕ → ℕ) → IsFreshStart s → p ≡ party_of (unused s) → ((i : ℕ) → ports i ≡ port_of (socket_at s.places i)) →
     IsFreshParty ports p

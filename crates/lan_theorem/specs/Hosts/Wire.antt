@@ -41,15 +41,17 @@ asked test (turn ∷ past) = asked_in test (moment_of turn.act) turn.sent ++ ask
 
 -- WHAT IS PROMISED
 
--- a socket of TCP or of UDP
+-- a socket of TCP or of UDP, or a client of DHCP or DNS, which sends datagrams alone
 abbrev pub HasPorts : Socket → Type 0
 HasPorts (Is.Raw v) = ⊥
 HasPorts (Is.Icmp v) = ⊥
 HasPorts (Is.Udp v) = Unit {0}
 HasPorts (Is.Tcp v) = Unit {0}
+HasPorts (Is.Dhcpv4 v) = Unit {0}
+HasPorts (Is.Dns v) = Unit {0}
 
 -- The frames that a host with these sockets sent in these turns: ARP requests are a second apart. So are requests and solicitations
--- together, where all sockets are of TCP and UDP; the others may be given any solicitation to send.
+-- together, where all sockets are of these kinds; the others may be given any solicitation to send.
 pub record FramesAreApart (medium : Medium) (places : List (SocketStorage Socket)) (turns : List Turn) : Type 0 where
   pub requests : AreApart (asked (on_medium medium is_request) turns)
   pub all : OfEach HasPorts places → AreApart (asked (on_medium medium asks) turns)

@@ -1,4 +1,5 @@
--- Sockets whose packets another host can read: no raw one queues a packet of TCP or UDP, and no packet goes from or to port 0.
+-- Sockets whose packets another host can read: no raw one queues a packet of TCP or UDP, and no packet goes from or to port 0. There is
+-- no client of DHCP or DNS.
 use Rattle.std.specs.Prelude.{◌≡◌, ◌≢◌, ℕ, Some}
 use Rattle.std.specs.List.{AllByRecursion}
 use Rattle.net_containers.specs.Packets.{contents}
@@ -18,6 +19,8 @@ abbrev pub NamesPorts : Socket → Type 0
 NamesPorts (Is.Raw v) = Unit {0}
 NamesPorts (Is.Icmp v) = Unit {0}
 NamesPorts (Is.Udp v) = AllByRecursion (λ q. q.0.endpoint.port ≢ 0) (contents v.queued)
+NamesPorts (Is.Dhcpv4 v) = ⊥
+NamesPorts (Is.Dns v) = ⊥
 NamesPorts (Is.Tcp v) = (pair : EndpointPair) → v.block.names.pair ≡ Some pair → AreNamed pair.local_port pair.remote_port
 
 abbrev pub IsFit : Socket → Type 0

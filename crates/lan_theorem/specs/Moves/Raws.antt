@@ -1,4 +1,5 @@
--- Raw sockets that queue no packet of TCP or UDP.
+-- Of each socket of a host: raw sockets that queue no packet of TCP or UDP and no clients of DHCP and DNS, whose datagrams no application
+-- sends; and hosts that send no datagram.
 use Rattle.std.specs.Prelude.{◌≡◌, false, List, Option, None, Some}
 use Rattle.std.specs.List.{AllByRecursion}
 use Rattle.lan_frames.specs.Medium.TheVariants as Medium
@@ -17,9 +18,20 @@ OfItem W (Some item) = W item.socket
 abbrev pub OfEach : (Socket → Type 0) → List (SocketStorage Socket) → Type 0
 OfEach W places = AllByRecursion (λ p. OfItem W p.inner) places
 
--- each queued packet of a raw socket names neither TCP nor UDP
+-- each queued packet of a raw socket names neither TCP nor UDP; and it is no client
 abbrev pub QueuesForeign : Socket → Type 0
 QueuesForeign (Is.Raw v) = AllByRecursion (λ q. names_tcp_or_udp Medium.Ip q.1 ≡ false) (contents v.queued)
 QueuesForeign (Is.Icmp v) = Unit {0}
 QueuesForeign (Is.Udp v) = Unit {0}
 QueuesForeign (Is.Tcp v) = Unit {0}
+QueuesForeign (Is.Dhcpv4 v) = ⊥
+QueuesForeign (Is.Dns v) = ⊥
+
+-- neither a UDP socket nor a client that sends datagrams
+abbrev pub HasNoUdp : Socket → Type 0
+HasNoUdp (Is.Udp v) = ⊥
+HasNoUdp (Is.Raw v) = Unit {0}
+HasNoUdp (Is.Icmp v) = Unit {0}
+HasNoUdp (Is.Tcp v) = Unit {0}
+HasNoUdp (Is.Dhcpv4 v) = ⊥
+HasNoUdp (Is.Dns v) = ⊥

@@ -1,7 +1,7 @@
 use Rattle.std.proofs.Common.{rules, ◌≡◌, Bool, true, false, ◌&&◌, Option, Some, is_some, inr, refl, sym, subst, ap, ◌∙◌}
 use Rattle.ip_wire.specs.IpRepr.{IpRepr}
-use Rattle.sockets.specs.Packet.{packet_value}
-use Rattle.sockets.specs.WellFormed.{IsWellFormed}
+use Rattle.interface_ingress.specs.Packet.{packet_value}
+use Rattle.interface_ingress.specs.WellFormed.{IsWellFormed}
 use Rattle.interface_egress.specs.Plan.{plan_of}
 use Rattle.interface_ingress.specs.Arrives as Replies
 use Rattle.interface_ingress.specs.Arrives.{ReplyValue, reply_of}

@@ -1,6 +1,6 @@
 use Rattle.std.proofs.Common.{arith, ap, ◌∙◌, get_or}
 use Rattle.interface_egress.specs.declared.socket_set.SocketStorage.{SocketStorage}
-use Rattle.sockets.specs.declared.socket.Socket.{Socket}
+use Rattle.interface_ingress.specs.Socket.{Socket}
 use Rattle.interface.specs.Host.{sender}
 use Rattle.interface.proofs.PassStep.{pass_next, pass_stop}
 use Rattle.interface.proofs.passes.pass.Goals as goal

@@ -1,0 +1,36 @@
+//! The run of the host: turns that are read, taken, and answered.
+use crate::host::Host;
+use crate::orders::Orders;
+use anyhow::Result;
+use net_base::Instant;
+use std::io;
+use tun_link::{read_turn, write_answer};
+
+/// The longest frame that a turn brings, in bytes.
+const LONGEST: usize = 65_535;
+
+/// Takes turns until the input ends. The first one brings what the host is to do; each other one brings a frame, or none, and is
+/// answered with the frames that the host sends and the moment at which it wants its next turn.
+pub fn serve<R: Input + Print + Eprint + AllocGlobal>(rt: &R) -> Result<()> {
+    let alloc = rt.alloc();
+    let mut reader = rt.reader();
+    let mut writer = io::writer(rt);
+    let mut first = Vec::new(alloc);
+    let Some(begin) = read_turn(&mut reader, &mut first, LONGEST, Instant::ZERO)? else {
+        return Ok(());
+    };
+    let mut host = Host::new(alloc, Orders::read(alloc, first.as_slice())?, begin)?;
+    write_answer(&mut host.drain, &mut writer, Some(begin))?;
+    let mut last = begin;
+    for _ in 0..u64::MAX {
+        let mut frame = Vec::new(alloc);
+        let Some(now) = read_turn(&mut reader, &mut frame, LONGEST, last)? else {
+            return Ok(());
+        };
+        host.turn(rt, frame, now)?;
+        let next = host.next(now);
+        write_answer(&mut host.drain, &mut writer, next)?;
+        last = now;
+    }
+    Ok(())
+}
