@@ -128,15 +128,15 @@ static int echo_datagrams(zv_host *host, size_t socket)
     return any;
 }
 
-/* A socket whose remote has ended is closed, and listens again once its connection is over. */
-static int renew_stream(zv_host *host, size_t socket, uint32_t code)
+/* A socket whose remote has ended is closed, and listens again once its connection is over. Says whether it has to end. */
+static int renew_stream(zv_host *host, size_t socket)
 {
     const zv_address any = zv_any();
     uint8_t state;
-    if (code == ZV_FINISHED)
-        return zv_tcp_close(host, socket) == ZV_OK;
     must(zv_tcp_state(host, socket, &state), "state");
-    return state == ZV_CLOSED && zv_tcp_listen(host, socket, &any, 7) == ZV_OK;
+    if (state == ZV_CLOSED)
+        must(zv_tcp_listen(host, socket, &any, 7), "listen");
+    return state == ZV_CLOSE_WAIT && zv_tcp_close(host, socket) == ZV_OK;
 }
 
 /* The bytes that wait go back, as many as there is room for. What is lent is read before the next call with the host. Says whether
@@ -148,9 +148,8 @@ static int echo_stream(zv_host *host, size_t socket)
     size_t count, sent, done;
     int is_done = 0;
     for (;;) {
-        uint32_t code = zv_tcp_peek(host, socket, &lent, &count);
-        if (code != ZV_OK)
-            return renew_stream(host, socket, code) || is_done;
+        if (zv_tcp_peek(host, socket, &lent, &count) != ZV_OK)
+            return renew_stream(host, socket) || is_done;
         if (count == 0)
             return is_done;
         if (count > sizeof bytes)

@@ -108,16 +108,28 @@ static int echo_datagrams(zv_host *host, size_t socket)
     return any;
 }
 
-/* A stream whose remote has ended is closed, and listens again once its connection is over. */
+/* A socket whose remote has ended is closed, and listens again once its connection is over. Says whether it has to end. */
+static int renew_stream(zv_host *host, size_t socket)
+{
+    const zv_address any = zv_any();
+    uint8_t state;
+    must(zv_tcp_state(host, socket, &state), "state");
+    if (state == ZV_CLOSED)
+        must(zv_tcp_listen(host, socket, &any, 7), "listen");
+    return state == ZV_CLOSE_WAIT && zv_tcp_close(host, socket) == ZV_OK;
+}
+
+/* What is lent is read before the next call with the host. Says whether anything was done. */
 static int echo_stream(zv_host *host, size_t socket)
 {
-    const zv_address here = zv_any();
     const uint8_t *lent;
     size_t count, sent, done;
-    uint32_t code;
-    uint8_t state;
     int any = 0;
-    while ((code = zv_tcp_peek(host, socket, &lent, &count)) == ZV_OK && count > 0) {
+    for (;;) {
+        if (zv_tcp_peek(host, socket, &lent, &count) != ZV_OK)
+            return renew_stream(host, socket) || any;
+        if (count == 0)
+            return any;
         if (count > sizeof bytes)
             count = sizeof bytes;
         memcpy(bytes, lent, count);
@@ -126,11 +138,6 @@ static int echo_stream(zv_host *host, size_t socket)
         zv_tcp_done(host, socket, sent, &done);
         any = 1;
     }
-    if (code == ZV_FINISHED)
-        return zv_tcp_close(host, socket) == ZV_OK;
-    if (code == ZV_INVALID_STATE && zv_tcp_state(host, socket, &state) == ZV_OK && state == ZV_CLOSED)
-        must(zv_tcp_listen(host, socket, &here, 7), "listen");
-    return any;
 }
 
 int main(int count, char **words)
