@@ -1,6 +1,7 @@
 pub mod Meta
 pub mod Set
 pub mod Used
+pub mod Lends
 pub mod Emits
 pub mod Departure
 pub mod Fragments

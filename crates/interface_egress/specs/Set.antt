@@ -61,6 +61,18 @@ module _ {T : Type 0} where
   abbrev pub with_socket : Item T → T → SocketStorage T
   with_socket item socket = record { inner = Some (record item { socket = socket }) }
 
+  -- the places, of which the socket at this one is another
+  abbrev pub set_in : Option (Item T) → List (SocketStorage T) → ℕ → T → List (SocketStorage T)
+  set_in None ps n socket = ps
+  set_in (Some item) ps n socket = slice_set ps n (with_socket item socket)
+
+  abbrev pub set_by : Option (SocketStorage T) → List (SocketStorage T) → ℕ → T → List (SocketStorage T)
+  set_by None ps n socket = ps
+  set_by (Some place) ps n socket = set_in place.inner ps n socket
+
+  abbrev pub set_at : List (SocketStorage T) → ℕ → T → List (SocketStorage T)
+  set_at ps n socket = set_by (slice_get ps n) ps n socket
+
   -- What a call made of the socket of a handle, where `Calls old answer new` says what the call did. Without a socket nothing
   -- is called.
   abbrev pub UpdatesItem : {R : Type 0} → (T → R → T → Type 0) → Option (Item T) → List (SocketStorage T) → ℕ → Option R → List (SocketStorage T) → Type 0

@@ -1,6 +1,7 @@
 -- The used places of a host's sockets, in order.
 use Rattle.std.specs.Prelude.{◌≡◌, ℕ, ◌+◌, ◌<◌, ◌≤◌, ◌^◌, ◌⊎◌, List, [], ◌∷◌, drop, length, map, Option, None, Some}
 use Rattle.std.specs.Borrow.{Bor, MutBor}
+use Rattle.std.specs.Iterator.{YieldsFirstBy}
 use Rattle.std.specs.Slice.Iter.{iter_mut_rest}
 use Rattle.interface_egress.specs.Set.{socket_of}
 use Rattle.interface_egress.specs.declared.socket_set.Handles.{Handles}
@@ -36,6 +37,10 @@ module _ {T : Type 0} where
   -- the places of what is left have numbers
   abbrev pub CanLend : IterMut T → Type 0
   CanLend i = i.at + length (iter_mut_rest i.places) < 2 ^ 64
+
+  -- the next one is lent, and the rest can be
+  abbrev pub LendsFirst : IterMut T → Option (SocketHandle × MutBor T) → IterMut T → Type 0
+  LendsFirst i r i' = YieldsFirstBy lent_item lent_left i r i' × CanLend i'
 
   abbrev pub handles_left : Handles T → List SocketHandle
   handles_left h = map handle_of (used_left h.sockets)

@@ -1,9 +1,11 @@
 //! The sockets of a host, each at its place.
 ghost use Rattle.std.specs.Prelude.{◌≡◌, ◌<◌, ◌∷◌, ◌++◌, [], length, map, slice_get, slice_set, Some, MatchResult};
+ghost use Rattle.std.specs.Borrow.{sem};
 ghost use Rattle.std.specs.Fn.{FnOnceReturnsAtMut};
 ghost use Rattle.std.specs.Option.{ForSome, option_copied, option_copied_mut};
 ghost use Rattle.net_base.specs.ManagedSlice.{storage_items};
 ghost use Rattle.interface_egress.specs.Set.{places, is_fixed, is_fixed_storage, free, socket_at, free_place, Adds, Updates};
+ghost use Rattle.interface_egress.specs.Lends.{LendsPlace, LendsSocket};
 ghost use Rattle.interface_egress.specs.Used.{used, used_left, lent_left, CanLend, handles_left, handle_of};
 
 use crate::socket_meta::Meta;
@@ -137,13 +139,18 @@ impl<T: Drop> SocketSet<T> {
         socket_in(self.sockets.as_slice(), handle.0)
     }
 
-    /// Lends the socket of this handle.
+    /// Lends the socket of this handle. Its mark, and what the other places hold, stay as they are.
     pub fn get_mut(&mut self, handle: SocketHandle) -> Option<&mut T>
-        ensures { option_copied_mut result ≡ socket_at (places self.old) handle.0 }
+        ensures* lends { sem 𝓛 (LendsSocket T.row self.entry self.old handle.0 result) }
+        ensures value { option_copied_mut result ≡ socket_at (places self.old) handle.0 }
     {
         match &mut self.sockets {
-            ManagedSlice::Fixed(places) => socket_mut(places, handle.0),
-            ManagedSlice::Owned(places) => socket_mut(places, handle.0),
+            ManagedSlice::Fixed(places) => {
+                return socket_mut(places, handle.0);
+            }
+            ManagedSlice::Owned(places) => {
+                return socket_mut(places, handle.0);
+            }
         }
     }
 
@@ -214,14 +221,14 @@ pub struct IterMut<'a, T> {
 }
 
 impl<'a, T> Iterator for IterMut<'a, T> {
-    ghost use Rattle.std.specs.Iterator.{YieldsFirstBy, item_count};
-    ghost use Rattle.interface_egress.specs.Used.{lent_left, lent_item, CanLend};
+    ghost use Rattle.std.specs.Iterator.{item_count};
+    ghost use Rattle.interface_egress.specs.Used.{lent_left, LendsFirst, CanLend};
 
     type Item = (SocketHandle, &'a mut T);
 
     ghost can_next = { CanLend };
 
-    ghost next_gives = { YieldsFirstBy lent_item lent_left };
+    ghost next_gives = { LendsFirst };
 
     ghost remaining = { item_count lent_left };
 
@@ -334,14 +341,21 @@ fn socket_in<T>(places: &[SocketStorage<T>], at: usize) -> Option<&T>
 
 /// Lends the socket at this place.
 fn socket_mut<T>(places: &mut Vec<SocketStorage<T>>, at: usize) -> Option<&mut T>
-    ensures { option_copied_mut result ≡ socket_at places.old.items at }
+    ensures* lends { sem 𝓛 (LendsPlace T.row places.entry places.old.items at result) }
+    ensures value { option_copied_mut result ≡ socket_at places.old.items at }
 {
     match places.get_mut(at) {
         Some(place) => match &mut place.inner {
-            Some(item) => Some(&mut item.socket),
-            None => None,
+            Some(item) => {
+                return Some(&mut item.socket);
+            }
+            None => {
+                return None;
+            }
         },
-        None => None,
+        None => {
+            return None;
+        }
     }
 }
 

@@ -30,7 +30,8 @@ use Rattle.interface_tables.specs.declared.route.Route.{Route}
 
 -- The moment of the call that runs, or of the last one; the state of the random words; the hardware address, `Ip` on a medium
 -- that has none; the longest IP packet of a frame; the checksums that the stack handles itself; the key of 16 bytes by which first
--- numbers of connections are told, if there is one; the own addresses, and whether every address is one; routes and neighbours; the identification of the next IPv4 datagram; and whether nothing ran yet.
+-- numbers of connections are told, if there is one; the own addresses, and whether every address is one; routes and neighbours;
+-- the identification of the next IPv4 datagram; and whether nothing ran yet.
 pub record InnerValue : Type 0 where
   pub moment : ℤ
   pub random : ℕ

@@ -5,6 +5,7 @@ use Rattle.std.proofs.Common.{◌∙◌, ap, subst, arith}
 use Rattle.std.specs.Prelude.{slice_get, ◌≤ℤ◌, ◌<ℤ◌}
 use Rattle.std.proofs.lemmas.Int.{ints}
 use Rattle.lan_theorem.specs.Ipv4.{key_of}
+use Rattle.lan_theorem.specs.IpProtocol.TheVariants as Protocol
 use Rattle.lan_theorem.specs.Ipv4Repr.{Ipv4Repr}
 use Rattle.net_base.specs.Medium.{Medium}
 use Rattle.lan_theorem.specs.Address.{IsEthernetAddress, IsIpv6Address}
@@ -46,10 +47,11 @@ use Rattle.lan_theorem.specs.Hosts.Machine.{Turn, Machine, HostRun, HostStep, at
 use Rattle.lan_theorem.specs.Hosts.Quiet.{PollsWereQuiet, NoneExpires}
 use Rattle.lan_theorem.specs.Hosts.Wire.{FramesAreApart, HasPorts, asks, is_request}
 use Rattle.lan_theorem.specs.Moves.Raws.{OfEach}
-use Rattle.lan_theorem.specs.Rebuilt.{Rebuilds}
+use Rattle.lan_theorem.specs.Rebuilt.{Rebuilds, RebuiltWasMade}
 use Rattle.lan_theorem.specs.Said.{Fact, ByteAt, EndsAt, IsSaid, RebuiltWasSent}
 use Rattle.lan_theorem.proofs.Hosts.WireQuestions.{request_passes, solicitation_passes}
 use Rattle.lan_theorem.proofs.LinkActs.{passed, below}
+use Rattle.lan_theorem.proofs.Moves.Makers.{made_long, made_segment_long}
 use Rattle.lan_excluded.specs.Worlds.{after, Delivers, Damages, IsAsked, GetsRoom, sent_by_a, asked, polled, asking, leaving, AreOfOther, IsTaken}
 
 -- RUNS
@@ -236,6 +238,20 @@ module _ (w : WorldValue) (turns : Side → List Turn) (side : Side) (header : I
 
   pub payload_other_end : (place : ℕ) → Said (EndsAt place) → place ≢ length payload → ⊥
   payload_other_end place said differs = differs ((sent side header payload r (EndsAt place)).0 said)
+
+-- MAKERS
+
+pub maker_too_short : (w : WorldValue) (side : Side) (header : Ipv4Repr) (payload : List ℕ) → Rebuilds (station w.hosts side) header payload →
+    length payload < 8 → RebuiltWasMade w → ⊥
+maker_too_short w side header payload r short made =
+    let enough = made_long _ header payload (made.rebuilt side header payload r) in
+    absurd (omega (arith, short, enough))
+
+pub maker_no_segment : (w : WorldValue) (side : Side) (header : Ipv4Repr) (payload : List ℕ) → Rebuilds (station w.hosts side) header payload →
+    header.next_header ≡ Protocol.Tcp → length payload < 20 → RebuiltWasMade w → ⊥
+maker_no_segment w side header payload r tcp short made =
+    let enough = made_segment_long _ header payload (made.rebuilt side header payload r) tcp in
+    absurd (omega (arith, short, enough))
 
 -- DAMAGE
 

@@ -2,8 +2,9 @@
 //! `lan_examples::excluded` has those of the sockets' field.
 #![tactic(auto)]
 
-ghost use Rattle.std.specs.Prelude.{◌≡◌, ◌≢◌, ◌≤◌, ℕ, ℤ, pos, List, [], ◌∷◌, length, slice_get, Some, None};
+ghost use Rattle.std.specs.Prelude.{◌≡◌, ◌≢◌, ◌≤◌, ◌<◌, ℕ, ℤ, pos, List, [], ◌∷◌, length, slice_get, Some, None};
 ghost use Rattle.lan_theorem.specs.Ipv4.{key_of};
+ghost use Rattle.lan_theorem.specs.IpProtocol.TheVariants as Protocol;
 ghost use Rattle.lan_theorem.specs.Ipv4Repr.{Ipv4Repr};
 ghost use Rattle.net_base.specs.Medium.{Medium};
 ghost use Rattle.lan_theorem.specs.Address.{IsEthernetAddress, IsIpv6Address};
@@ -25,7 +26,7 @@ ghost use Rattle.lan_hosts.specs.Answer.TheVariants as To;
 ghost use Rattle.lan_hosts.specs.Side.{Side};
 ghost use Rattle.lan_hosts.specs.Side.TheVariants.{A};
 ghost use Rattle.lan_hosts.specs.Origins.{medium_of};
-ghost use Rattle.lan_hosts.specs.Runs.{Starts, WorldValue, WorldRun, unused_both};
+ghost use Rattle.lan_hosts.specs.Runs.{Starts, WorldValue, WorldRun, start, unused_both};
 ghost use Rattle.lan_hosts.specs.Station.{Stations, station};
 ghost use Rattle.lan_theorem.specs.Hosts.Asked.{requests, AreApart};
 ghost use Rattle.lan_theorem.specs.Hosts.Damage.{DamageIsHarmless};
@@ -33,8 +34,8 @@ ghost use Rattle.lan_theorem.specs.Hosts.HostRuns.{IsHostRun, frames_sent};
 ghost use Rattle.lan_theorem.specs.Hosts.Machine.{Turn};
 ghost use Rattle.lan_theorem.specs.Hosts.Quiet.{PollsWereQuiet};
 ghost use Rattle.lan_theorem.specs.Hosts.Wire.{FramesAreApart, HasPorts};
-ghost use Rattle.lan_theorem.specs.Moves.Raws.{OfEach};
-ghost use Rattle.lan_theorem.specs.Rebuilt.{Rebuilds};
+ghost use Rattle.lan_theorem.specs.Moves.Raws.{OfEach, HasNoUdp};
+ghost use Rattle.lan_theorem.specs.Rebuilt.{Rebuilds, RebuiltWasMade};
 ghost use Rattle.lan_theorem.specs.Said.{ByteAt, EndsAt, IsSaid, RebuiltWasSent};
 ghost use Rattle.lan_excluded.specs.Worlds.{after, Delivers, Damages, IsAsked, GetsRoom, sent_by_a, asked, polled, asking, leaving, AreOfOther, IsTaken};
 
@@ -134,6 +135,25 @@ pub fn bad_payloads_are_excluded()
         → IsSaid (medium_of (station w.hosts (other side))) (frames_sent (turns (other side))) (key_of header) (EndsAt place)
         → place ≢ length payload
         → RebuiltWasSent w turns → ⊥ }
+{}
+
+/// `made`: a host rebuilds a UDP datagram though the other host never had a UDP socket; or a payload too short for a datagram, or of TCP too
+/// short for a segment, which no socket makes, whatever bytes a raw socket queued.
+pub fn bad_makers_are_excluded()
+    ensures without_a_socket { (w : WorldValue) (side : Side) (header : Ipv4Repr) (payload : List ℕ)
+        → Rebuilds (station w.hosts side) header payload
+        → header.next_header ≡ Protocol.Udp
+        → OfEach HasNoUdp (start w.starts (other side)).places
+        → RebuiltWasMade w → ⊥ }
+    ensures too_short { (w : WorldValue) (side : Side) (header : Ipv4Repr) (payload : List ℕ)
+        → Rebuilds (station w.hosts side) header payload
+        → length payload < 8
+        → RebuiltWasMade w → ⊥ }
+    ensures no_segment { (w : WorldValue) (side : Side) (header : Ipv4Repr) (payload : List ℕ)
+        → Rebuilds (station w.hosts side) header payload
+        → header.next_header ≡ Protocol.Tcp
+        → length payload < 20
+        → RebuiltWasMade w → ⊥ }
 {}
 
 /// `damage`: a frame that the link damaged is answered by a host that takes it, or touches a TCP or UDP socket there.

@@ -13,10 +13,10 @@ use Rattle.interface_delivery.specs.IpRepr.{IpRepr}
 use Rattle.interface_delivery.specs.Ipv4 as Ipv4
 use Rattle.ip_address.specs.declared.ipv4.Ipv4FragKey.{Ipv4FragKey}
 use Rattle.interface_delivery.specs.Ipv4Repr.{Ipv4Repr}
-use Rattle.sockets.specs.Packet.{PacketValue}
+use Rattle.sockets.specs.Packet.{PacketValue, PayloadValue, ControlV4, ControlV6, Bytes, Datagram, Segment}
 use Rattle.interface_ingress.specs.Incoming.{Ip4, IsIncoming}
 use Rattle.interface_ingress.specs.Reassembled.{uncut}
-use Rattle.interface_ingress.specs.Sent.{normal_payload}
+use Rattle.interface_ingress.specs.Sent.{CanBeRead, normal_payload}
 use Rattle.interface_delivery.specs.Delivered.{NamesNoPorts}
 use Rattle.lan_hosts.specs.History.{Entry}
 use Rattle.lan_hosts.specs.Kinds.{other, kind_of}
@@ -43,11 +43,12 @@ use Rattle.lan_theorem.proofs.Link.Slots.{all_at}
 use Rattle.lan_theorem.proofs.Link.Taken.{taken_rebuilds}
 use Rattle.lan_theorem.specs.Events.{AreTyped}
 use Rattle.lan_theorem.specs.Joins.{Receives}
-use Rattle.lan_theorem.specs.Rebuilt.{NamesPorts, Rebuilds, IsOfMade, RebuiltWasMade}
+use Rattle.lan_theorem.specs.Rebuilt.{NamesPorts, Rebuilds, HasMade, IsOfMade, RebuiltWasMade}
 use Rattle.lan_theorem.specs.Said.{Fact, IsOf, Carries, IsSaid, AreFramesOf, by_side, RebuiltWasSent}
 use Rattle.lan_theorem.specs.Hosts.Damage.{DamageIsHarmless}
 use Rattle.lan_theorem.proofs.Beginnings.{firsts}
 use Rattle.lan_theorem.proofs.Damages.{damage_along}
+use Rattle.lan_theorem.proofs.Moves.Named.{told, not_icmp, not_icmpv6}
 use Rattle.lan_theorem.proofs.Runs.{has_come}
 use Rattle.lan_theorem.proofs.SaidRuns.{all_both, said, medium, host_on, port_on, has_said}
 
@@ -59,30 +60,49 @@ either_is : (a b : IpProtocol) → a ≡ b → (b ≡ Protocol.Tcp) ⊎ (b ≡ P
 either_is a b same (inl tcp) = inl (same ∙ tcp)
 either_is a b same (inr udp) = inr (same ∙ udp)
 
+-- a control message isn't named so, and bytes alone aren't named
+has_made : (q : Party) (header : IpRepr) (x : PayloadValue) → CanBeRead header x →
+    (told (carried_in header) ≡ Protocol.Tcp) ⊎ (told (carried_in header) ≡ Protocol.Udp) → MadeBy q (normal_payload x) → HasMade q (normal_payload x)
+has_made q header (ControlV4 message bytes) named ports made = absurd (not_icmp (carried_in header) named.0 ports)
+has_made q header (ControlV6 message bytes) named ports made = absurd (not_icmpv6 (carried_in header) named.0 ports)
+has_made q header (Bytes bytes) named ports made = absurd named
+has_made q header (Datagram udp bytes) named ports made = made
+has_made q header (Segment header' bytes) named ports made = made
+
 module _ (q : Party) (first next : ℕ) (out : List PacketValue) (sent : AreSent (MadeBy q) first next out) where
   -- the packet has the protocol of the header
   protocol_is : (h : Ipv4Repr) (payload : List ℕ) (o : IsPayloadOf out h payload) →
       carried_in (upper_header (Ips.normal o.sent.packet.header) (bytes_of o.sent.packet)) ≡ h.next_header
   protocol_is h payload o = ap (λ (x : IpRepr). carried_in (upper_header (Ips.normal x) (bytes_of o.sent.packet))) o.sent.header ∙ sym (ap (λ (k : Ipv4FragKey). k.protocol) o.key_is)
 
-  made_of_one : (h : Ipv4Repr) (payload : List ℕ) (o : IsPayloadOf out h payload) → NamesPorts h → MadeBy q (normal_payload o.sent.packet.payload)
+  named_is : (h : Ipv4Repr) (payload : List ℕ) (o : IsPayloadOf out h payload) → told (carried_in o.sent.packet.header) ≡ h.next_header
+  named_is h payload o =
+      let same : h.next_header ≡ told o.sent_header.next_header = ap (λ (k : Ipv4FragKey). k.protocol) o.key_is in
+      ap (λ (x : IpRepr). told (carried_in x)) o.sent.header ∙ sym same
+
+  made_of_one : (h : Ipv4Repr) (payload : List ℕ) (o : IsPayloadOf out h payload) → NamesPorts h →
+      CanBeRead o.sent.packet.header o.sent.packet.payload × HasMade q (normal_payload o.sent.packet.payload)
   made_of_one h payload o ports = elim (sent.packets o.sent.packet o.sent.among).going.carries [
     | inl none ↦ absurd (not_both (carried_in (upper_header (Ips.normal o.sent.packet.header) (bytes_of o.sent.packet))) none
         (either_is (carried_in (upper_header (Ips.normal o.sent.packet.header) (bytes_of o.sent.packet))) h.next_header (protocol_is h payload o) ports))
-    | inr reads ↦ reads.1
+    | inr reads ↦ (
+      reads.0,
+      has_made q o.sent.packet.header o.sent.packet.payload reads.0 (either_is (told (carried_in o.sent.packet.header)) h.next_header (named_is h payload o) ports) reads.1,
+    )
   ]
 
   of_made : (h : Ipv4Repr) (payload : List ℕ) → IsRebuiltOf out h payload → NamesPorts h → IsOfMade q h payload
   of_made h payload (inl none) ports = absurd (not_both h.next_header none ports)
   of_made h payload (inr o) ports =
+      let one = made_of_one h payload o ports in
       record {
         packet = o.sent.packet;
         header = o.sent_header;
         header_is = o.sent.header;
         key_is = o.key_is;
         bytes_are = o.sent.bytes_are;
-        made =
-            made_of_one h payload o ports;
+        named = one.0;
+        made = one.1;
       }
 
   -- it is the payload of one packet

@@ -21,6 +21,7 @@ pub use Rattle.ip_address.specs.declared.ipv4.Ipv4FragKey
 pub use Rattle.interface_egress.specs.Ipv4
 pub use Rattle.interface_egress.specs.Ipv4Repr
 pub use Rattle.interface_egress.specs.declared.frame.Question
+pub use Rattle.interface_ingress.specs.IpProtocol
 pub use Rattle.interface_ingress.specs.Kept
 pub use Rattle.interface_ingress.specs.Address
 pub use Rattle.interface_ingress.specs.EthernetAddress

@@ -7,21 +7,22 @@ use Rattle.interface_delivery.specs.Ipv4 as Ipv4
 use Rattle.interface_delivery.specs.Ipv4Piece.{Ipv4Piece}
 use Rattle.interface_delivery.specs.Ipv4Repr.{Ipv4Repr}
 use Rattle.interface_ingress.specs.EthernetRepr.{EthernetRepr}
-use Rattle.sockets.specs.Packet.{PacketValue}
+use Rattle.sockets.specs.Packet.{PacketValue, PayloadValue, Datagram, Segment}
+use Rattle.tcp_tie.specs.Host.{made_of, IsAmong}
 use Rattle.interface_ingress.specs.Arrives.{whole_after}
 use Rattle.interface_ingress.specs.Incoming.{IncomingValue, Ip4, IsContent}
 use Rattle.interface_ingress.specs.Reassembled.{is_piece, uncut}
-use Rattle.interface_ingress.specs.Sent.{normal_payload}
+use Rattle.interface_ingress.specs.Sent.{CanBeRead, normal_payload}
 use Rattle.lan_frames.specs.Carried.{names_tcp_or_udp}
 use Rattle.lan_hosts.specs.Kinds.{other}
 use Rattle.lan_hosts.specs.Side.{Side}
 use Rattle.lan_packets.specs.Moves.{Step, IsRun, run}
-use Rattle.lan_packets.specs.Parties.{Party, Net, party}
+use Rattle.lan_packets.specs.Parties.{Party, Net, WasMade, party}
 use Rattle.lan_hosts.specs.Runs.{WorldValue}
 use Rattle.lan_hosts.specs.Station.{StationValue, station}
 use Rattle.lan_theorem.specs.Moves.Follows.{IsNetOf}
 use Rattle.lan_theorem.specs.Moves.Joined.{first_net}
-use Rattle.lan_theorem.specs.Moves.Made.{MadeBy}
+use Rattle.lan_theorem.specs.Moves.Made.{datagram_of}
 use Rattle.lan_theorem.specs.Link.Made.{bytes_of}
 
 -- what a content is to a host that takes it next: itself, the whole datagram that it completes, or nothing yet
@@ -45,14 +46,22 @@ pub record Rebuilds (s : StationValue) (h : Ipv4Repr) (payload : List ℕ) : Typ
   pub ports : NamesPorts h
   pub whole : taken_next s (Some (Ip4 link h piece slice)) ≡ Some (Ip4 link (record h { payload_len = length payload }) uncut payload)
 
--- It is the payload of one packet, with the same identification, addresses and protocol, whose segment or datagram this host made.
+-- a segment or a datagram, and this host made it
+abbrev pub HasMade : Party → PayloadValue → Type 0
+HasMade p (Datagram udp bytes) = WasMade p (datagram_of udp bytes)
+HasMade p (Segment header bytes) = IsAmong p.segments (made_of header bytes)
+HasMade p payload = ⊥
+
+-- It is the payload of one packet, with the same identification, addresses and protocol, whose header names what it carries: a segment or
+-- a datagram that this host made.
 pub record IsOfMade (q : Party) (h : Ipv4Repr) (payload : List ℕ) : Type 0 where
   pub packet : PacketValue
   pub header : Ipv4Repr
   pub header_is : packet.header ≡ Ip.Ipv4 header
   pub key_is : Ipv4.key_of h ≡ Ipv4.key_of (Ipv4.normal header)
   pub bytes_are : payload ≡ bytes_of packet
-  pub made : MadeBy q (normal_payload packet.payload)
+  pub named : CanBeRead packet.header packet.payload
+  pub made : HasMade q (normal_payload packet.payload)
 
 -- Moves over packets lead from fresh hosts to these sockets by this history, and say what each host made on the way. Whatever a host
 -- rebuilds when it takes a frame next, the other one made.

@@ -34,7 +34,7 @@ pub record IsSafeWorld (w : WorldValue) : Type 0 where
   -- if a host takes a frame that waits for it next, and rebuilds a TCP or UDP datagram of pieces with it, what the other host's turns
   -- sent with that identification, those addresses and that protocol is its payload, all of it and nothing else
   pub rebuilt : RebuiltWasSent w (by_side run_a.turns run_b.turns)
-  -- and that is the payload of one packet whose segment or datagram the other host's sockets made
+  -- and that is the payload of one packet, a segment or a datagram that the other host made
   pub made : RebuiltWasMade w
   -- a frame of which the link exchanged one aligned word of its whole TCP segment, for one of another remainder by 65535, touches no TCP
   -- and no UDP socket of whichever host takes it, and isn't answered

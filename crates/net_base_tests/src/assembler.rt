@@ -75,3 +75,14 @@ fn a_cleared_one_holds_nothing(rt: HostRuntime) {
 fn the_error_has_a_text(rt: HostRuntime) {
     assert!(rt; prints(&rt, &TooManyHolesError, "too many holes"));
 }
+
+#[test]
+fn prints_runs_and_holes(rt: HostRuntime) {
+    let mut held: Assembler<4> = Assembler::new();
+    assert!(rt; prints(&rt, &held, "[ ]"));
+    let _ = held.add(6, 3);
+    assert!(rt; prints(&rt, &held, "[ (6) 3 ]"));
+    let _ = held.add(0, 4);
+    let _ = held.add(12, 1);
+    assert!(rt; prints(&rt, &held, "[ 4 (2) 3 (3) 1 ]"));
+}

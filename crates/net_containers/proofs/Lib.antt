@@ -8,3 +8,4 @@ pub mod PacketQueues
 pub mod PacketSteps
 pub mod PacketLaws
 pub mod RunsEq
+pub mod Texts

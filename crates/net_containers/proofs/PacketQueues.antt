@@ -58,7 +58,8 @@ module _ {H : Type 0} where
       room-step m.size m.header ms bs skipped at room h e
       (λ s w. room-packets_of ms (drop m.size bs) s ((at + m.size) % room) room h.2 (omega (arith, e, length-drop m.size bs)) w) way
 
-  pub used_room-packets_of : (ms : List (PacketMetadata H)) (bs : List ℕ) (at room : ℕ) → AreLaid at room ms → size_of ms ≡ length bs → used_room (packets_of 0 ms bs) ≡ length bs
+  pub used_room-packets_of : (ms : List (PacketMetadata H)) (bs : List ℕ) (at room : ℕ) → AreLaid at room ms →
+      size_of ms ≡ length bs → used_room (packets_of 0 ms bs) ≡ length bs
   used_room-packets_of ms bs at room h e = room-packets_of ms bs 0 at room h e (inl refl) ∙ omega arith
 
   -- no packet is no entry

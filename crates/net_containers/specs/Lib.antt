@@ -8,3 +8,4 @@ pub mod PacketLends
 pub mod Packets
 pub mod Ring
 pub mod RingLends
+pub mod Text

@@ -259,3 +259,54 @@ impl<const N: usize> Eq for Assembler<N> {
 
     ghost laws = { same_runs_equiv };
 }
+
+// `[ 4 (2) 3 ]` holds the positions 0 to 3 and 6 to 8.
+impl<const N: usize> fmt::Display for Assembler<N> {
+    ghost use Rattle.std.specs.Prelude.{Some};
+    ghost use Rattle.net_containers.specs.Text.{assembler_text};
+
+    ghost output = { λ runs. Some (assembler_text runs) };
+
+    fn fmt<W: fmt::Write>(&self, f: &mut fmt::Formatter<W>) -> fmt::Result {
+        write!(f, "[ {}]", Runs(&self.ranges[..self.count]))
+    }
+}
+
+/// Runs, each behind what is missing before it.
+#[derive(Clone, Copy)]
+struct Runs<'a>(&'a [(usize, usize)]);
+
+impl fmt::Display for Runs<'_> {
+    ghost use Rattle.std.specs.Prelude.{Some};
+    ghost use Rattle.net_containers.specs.Text.{runs_text};
+
+    ghost output = { λ runs. Some (runs_text 0 runs.0.now) };
+
+    fn fmt<W: fmt::Write>(&self, f: &mut fmt::Formatter<W>) -> fmt::Result {
+        let mut reached = 0;
+        for (start, end) in self.0 {
+            let hole = Hole(start.saturating_sub(reached));
+            write!(f, "{hole}{} ", end.saturating_sub(*start))?;
+            reached = *end;
+        }
+        Ok(())
+    }
+}
+
+/// How many positions are missing before a run, printed where any are.
+#[derive(Clone, Copy)]
+struct Hole(usize);
+
+impl fmt::Display for Hole {
+    ghost use Rattle.std.specs.Prelude.{Some};
+    ghost use Rattle.net_containers.specs.Text.{hole_text};
+
+    ghost output = { λ hole. Some (hole_text hole.0) };
+
+    fn fmt<W: fmt::Write>(&self, f: &mut fmt::Formatter<W>) -> fmt::Result {
+        match self.0 {
+            0 => Ok(()),
+            size => write!(f, "({size}) "),
+        }
+    }
+}

@@ -8,7 +8,8 @@ pub goes_in : (words : List ℕ) (at : ℕ) (s t first : SipState) → at < leng
     → compressed s (drop at words) ≡ compressed first words → compressed t (drop (at + 1) words) ≡ compressed first words
 goes_in words at s t first less goes so =
     let next : at + 1 ≡ suc at = omega arith in
-    let step : compressed (with_word s (get_or words at 0)) (drop (suc at) words) ≡ compressed s (drop at words) = sym (ap (compressed s) (drop-cons words at 0 less)) in
+    let step : compressed (with_word s (get_or words at 0)) (drop (suc at) words) ≡ compressed s (drop at words) =
+    sym (ap (compressed s) (drop-cons words at 0 less)) in
     ap (λ (x : SipState). compressed x (drop (at + 1) words)) goes
     ∙ (ap (λ (n : ℕ). compressed (with_word s (get_or words at 0)) (drop n words)) next ∙ (step ∙ so))
 

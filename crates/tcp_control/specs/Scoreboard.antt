@@ -1,6 +1,7 @@
 -- What the remote holds of what was sent past SND.UNA, as its selective acknowledgements say (RFC 2018): the scoreboard of RFC 6675, 3.
 -- It is a set of runs without order, each apart from the others.
-use Rattle.std.specs.Prelude.{ℕ, ◌+◌, ◌-◌, ◌*◌, ◌^◌, nat_le, nat_lt, not, ◌&&◌, ◌||◌, min, max, Bool, if◌then◌else◌, List, map, replicate, slice_set, Option, Some, None}
+use Rattle.std.specs.Prelude.{ℕ, ◌+◌, ◌-◌, ◌*◌, ◌^◌, nat_le, nat_lt, not, ◌&&◌, ◌||◌, min, max}
+use Rattle.std.specs.Prelude.{Bool, if◌then◌else◌, List, map, replicate, slice_set, Option, Some, None}
 use Rattle.std.specs.List.{fold, list_any, position}
 use Rattle.tcp_control.specs.declared.scoreboard.Run.{Run}
 

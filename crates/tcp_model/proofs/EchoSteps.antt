@@ -1,5 +1,6 @@
 -- What an echo says of the moment at which its segment was sent.
-use Rattle.std.proofs.Common.{◌≡◌, ℕ, ◌+◌, ◌-◌, ◌/◌, ◌%◌, ◌^◌, ◌<◌, ◌≤◌, nat_le, ℤ, pos, ◌≤ℤ◌, unsigned_abs, Bool, true, false, if◌then◌else◌, Option, Some, None, refl, sym, ap, ◌∙◌, arith}
+use Rattle.std.proofs.Common.{◌≡◌, ℕ, ◌+◌, ◌-◌, ◌/◌, ◌%◌, ◌^◌, ◌<◌, ◌≤◌, nat_le, ℤ, pos, ◌≤ℤ◌, unsigned_abs}
+use Rattle.std.proofs.Common.{Bool, true, false, if◌then◌else◌, Option, Some, None, refl, sym, ap, ◌∙◌, arith}
 use Rattle.std.proofs.lemmas.Bool.Decides.{nat_tests}
 use Rattle.std.proofs.lemmas.Int.{ints}
 use Rattle.ip_wire.specs.TcpTimestampGenerator.{TcpTimestampGenerator}
@@ -35,7 +36,8 @@ millis_mono a b low e = thousands (unsigned_abs a) (unsigned_abs b) (abs_le a b 
 pub echo_is : (g : TcpTimestampGenerator) (first sent now : ℤ) → pos 0 ≤ℤ first → first ≤ℤ sent → sent ≤ℤ now → millis_of now - millis_of first < 2 ^ 32
     → elapsed (value_at g first) (value_at g now) (value_at g sent) ≡ Some (millis_of now - millis_of sent)
 echo_is g first sent now low before after near =
-    elapsed_is g.0 (millis_of first) (millis_of sent) (millis_of now) (millis_mono first sent low before) (millis_mono sent now (later first sent low before) after) near
+    elapsed_is g.0 (millis_of first) (millis_of sent) (millis_of now) (millis_mono first sent low before)
+    (millis_mono sent now (later first sent low before) after) near
   where
     later : (a b : ℤ) → pos 0 ≤ℤ a → a ≤ℤ b → pos 0 ≤ℤ b
     later a b e f = omega (arith, ints)

@@ -32,7 +32,8 @@ either_way false = refl
 -- where nothing is in flight, from SND.UNA on
 pub again_first : (b : Block) (limit sent queued : ℕ) → b.sender.in_flight ≡ 0 → again_place b limit sent queued ≡ 0
 again_first b limit sent queued none =
-    ap (λ (flight : ℕ). if b.sender.resend || (flight == 0) then 0 else if b.loss.probes then min (sent - limit) queued else min (next_hole b) (min sent queued))
+    ap (λ (flight : ℕ). if b.sender.resend || (flight == 0) then 0
+    else if b.loss.probes then min (sent - limit) queued else min (next_hole b) (min sent queued))
     none
     ∙ ap (λ (t : Bool). if t then 0 else if b.loss.probes then min (sent - limit) queued else min (next_hole b) (min sent queued))
     (either_way b.sender.resend)

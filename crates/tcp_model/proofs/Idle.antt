@@ -241,7 +241,8 @@ quiet_before cx v pair q =
     let none : any (wishes v.block pair.addresses cx.ip_mtu v.queued (queued_in v) (room_of v.received) (free_in v)) ≡ false =
     neither _ _ q.syn (neither _ _ q.again
     (neither _ _ q.text (neither _ _ q.window_update (neither _ _ q.timeout_set (neither _ _ q.probe_set refl))))) in
-    let later : AreLater cx.moment (moments v.block (queued_in v)) = (q.time_wait, (q.timeout, (q.retransmission, (q.loss_probe, (q.probe, (q.ack, (q.keep_alive, tt))))))) in
+    let later : AreLater cx.moment (moments v.block (queued_in v)) =
+    (q.time_wait, (q.timeout, (q.retransmission, (q.loss_probe, (q.probe, (q.ack, (q.keep_alive, tt))))))) in
     subst (λ (at : PollAt). IsBefore cx.moment at)
     (sym (if_not (any (wishes v.block pair.addresses cx.ip_mtu v.queued (queued_in v) (room_of v.received) (free_in v))) At.Now
     (at_moment (earliest (moments v.block (queued_in v)))) none))

@@ -44,8 +44,8 @@ abbrev pub past_held : Block → ℕ → ℕ → ℕ
 past_held b end queued =
     max end (min (first_missing b.loss.board.runs end) (min b.sender.top (one_if b.sender.syn_unacked + queued)))
 
--- SND.NXT moves past the segment, if that is higher, and past what is held behind it: after a timeout that doesn't go again. What reaches further than anything before was sent for the first time: its round
--- trip is timed, if none is (RFC 6298, 3).
+-- SND.NXT moves past the segment, if that is higher, and past what is held behind it: after a timeout that doesn't go again.
+-- What reaches further than anything before was sent for the first time: its round trip is timed, if none is (RFC 6298, 3).
 abbrev pub nxt_moved : Block → ℕ → ℕ → ℤ → Block
 nxt_moved b end queued now = record b {
   sender = record b.sender { in_flight = max b.sender.in_flight (past_held b end queued); top = max b.sender.top end };

@@ -127,7 +127,9 @@ module _ (peer : End) (v : TcpValue) (p : Past) (came : List Segment) (header : 
       by In.Listen none =
           cond_both (is_first_syn header)
           (record {
-            socket = with_block (unoffered v) (timeout_restarted (believed (answering v.block ip header (first_number cx (pair_in ip header))) cx.moment) cx.moment 0);
+            socket =
+                with_block (unoffered v)
+                (timeout_restarted (believed (answering v.block ip header (first_number cx (pair_in ip header))) cx.moment) cx.moment 0);
             answer = None;
             draws = draws_number cx;
           })

@@ -107,7 +107,8 @@ comes_to cx v ip header bytes number c =
     (and_not (is_syn header.control) (is_zero header.options.max_seg_size) c.no_syn)
     ∙ (reaches v.block.state cx (unoffered v) ip header bytes (parts (is_past v.block.state) (not (is_answering v.block.state)) c.synchronized).0
     ∙ (if_not (is_rst header.control) (reset_comes cx (unoffered v) ip header (length bytes))
-    (if draws_first v.block header cx.moment then drawn cx (unoffered v) ip header else checked (acknowledgement_check v.block header.ack_number) cx (unoffered v) ip
+    (if draws_first v.block header cx.moment then drawn cx (unoffered v) ip header
+    else checked (acknowledgement_check v.block header.ack_number) cx (unoffered v) ip
     header bytes) c.no_reset
     ∙ (if_not (draws_first v.block header cx.moment) (drawn cx (unoffered v) ip header)
     (checked (acknowledgement_check v.block header.ack_number) cx (unoffered v) ip header bytes)
@@ -211,7 +212,8 @@ module _ (cx : ContextValue) (u : TcpValue) (ip : IpRepr) (header : TcpHeader) (
       before out (inl in_window) = clash (sym in_window ∙ out)
       before out (inr old) =
           subst Moved
-          (sym (if_so (tells_news u header (length bytes)) (outside cx (acknowledged (echo_heard u header by cx.moment) by cx.moment) ip header) (outside cx u ip header)
+          (sym (if_so (tells_news u header (length bytes)) (outside cx (acknowledged (echo_heard u header by cx.moment) by cx.moment) ip header)
+          (outside cx u ip header)
           (ap (λ (t : Bool). not t && lies_before u.block (room_of u.received) header (length bytes)) past ∙ old)))
           moved_outside
 

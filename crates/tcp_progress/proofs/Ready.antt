@@ -133,7 +133,8 @@ module _ (cx : ContextValue) (ip : IpRepr) (header : TcpHeader) (bytes : List 鈩
     ends = 位 _ _ _ closed _. clash closed;
     closes = 位 _ _ _ closed _. clash closed;
     taken = 位 by passes alive. named_content (heeded cx.moment header (length bytes) u by (acked_open (timed cx.moment header u by) by cx.moment).block) some;
-    taken_window = 位 by passes alive. named_content (heeded cx.moment header (length bytes) u by (windowed (acked_open (timed cx.moment header u by) by cx.moment).block header)) some;
+    taken_window = 位 by passes alive.
+        named_content (heeded cx.moment header (length bytes) u by (windowed (acked_open (timed cx.moment header u by) by cx.moment).block header)) some;
     news = 位 by passes alive. named_drawing (waiting_anew (acked_open (timed cx.moment header u by) by cx.moment) header cx.moment) some;
     outside = named_drawing (waiting_anew u header cx.moment) some;
     old = 位 _. named_content (with_block u (stamp_taken (heard u.block) header cx.moment)) some;

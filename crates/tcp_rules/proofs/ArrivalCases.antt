@@ -272,7 +272,8 @@ module _ (cx : ContextValue) (ip : IpRepr) (header : TcpHeader) (bytes : List 鈩
       (位 _. by_news u by r passes)
       (位 _. by_outside u r.stays r.outside))
   by_checked Old u r old =
-      cond_both (is_in_window u.block (free_in u) header (length bytes)) (with_content cx (with_block u (stamp_taken (heard u.block) header cx.moment)) ip header bytes)
+      cond_both (is_in_window u.block (free_in u) header (length bytes))
+      (with_content cx (with_block u (stamp_taken (heard u.block) header cx.moment)) ip header bytes)
       (outside cx u ip header) Q
       (位 _. by_content (with_block u (stamp_taken (heard u.block) header cx.moment)) (r.old old))
       (位 _. by_outside u r.stays r.outside)

@@ -114,7 +114,8 @@ module _ (cx : ContextValue) (ip : IpRepr) (header : TcpHeader) where
   told_leaves : (w : TcpValue) (duplicates : ℕ) → Leaves w.block (told w header duplicates cx.moment).block
   told_leaves w duplicates =
       cond_both (names_window w.block header) (windowed w.block header) w.block
-      (λ (b : Block). Leaves w.block (timeout_restarted (counted (ranges_taken (stamp_taken b header cx.moment) header cx.moment) duplicates) cx.moment (queued_in w)))
+      (λ (b : Block). Leaves w.block
+      (timeout_restarted (counted (ranges_taken (stamp_taken b header cx.moment) header cx.moment) duplicates) cx.moment (queued_in w)))
       (λ _. (refl, refl))
       (λ _. (refl, refl))
 
@@ -149,14 +150,16 @@ module _ (cx : ContextValue) (ip : IpRepr) (header : TcpHeader) where
       (λ _. draws v)
       (λ _. by_taken v bytes by))
       (λ _.
-      cond_both (tells_news v header (length bytes)) (outside cx (acknowledged (echo_heard v header by cx.moment) by cx.moment) ip header) (outside cx v ip header) (Sound v.block)
+      cond_both (tells_news v header (length bytes)) (outside cx (acknowledged (echo_heard v header by cx.moment) by cx.moment) ip header)
+      (outside cx v ip header) (Sound v.block)
       (λ _.
       let timed = echo_heard v header by cx.moment in
       let w = acknowledged timed by cx.moment in
       by_outside v.block w (from_echo v.block w.block by (acked_goes timed.block by (queued_in v) cx.moment)))
       (λ _. by_outside v.block v (same v.block v.block refl)))
   by_checked Old v bytes =
-      cond_both (is_in_window v.block (free_in v) header (length bytes)) (with_content cx (with_block v (stamp_taken (heard v.block) header cx.moment)) ip header bytes)
+      cond_both (is_in_window v.block (free_in v) header (length bytes))
+      (with_content cx (with_block v (stamp_taken (heard v.block) header cx.moment)) ip header bytes)
       (outside cx v ip header) (Sound v.block)
       (λ _.
       let heard_of = stamp_taken (heard v.block) header cx.moment in
@@ -200,7 +203,8 @@ module _ (cx : ContextValue) (ip : IpRepr) (header : TcpHeader) where
 
   by_opens : (v : TcpValue) → v.block.state ≡ In.Listen → Sound v.block (opens cx v ip header)
   by_opens v at =
-      let answers : TcpValue = with_block v (timeout_restarted (believed (answering v.block ip header (first_number cx (pair_in ip header))) cx.moment) cx.moment 0) in
+      let answers : TcpValue =
+      with_block v (timeout_restarted (believed (answering v.block ip header (first_number cx (pair_in ip header))) cx.moment) cx.moment 0) in
       cond_both (is_first_syn header) (record { socket = answers; answer = None; draws = draws_number cx }) (dropped v) (Sound v.block)
       (λ _. (begun v.block answers.block (ap is_listening at) refl, λ reply none. absurd (cc)))
       (λ _. stays v)

@@ -98,7 +98,8 @@ abbrev pub acked_reno : RenoValue → Bool → Bool → Bool → ℕ → ℕ →
 acked_reno r sack syn lost by queued recover =
     if syn && not (by == 0) then reno.started r lost
     else if r.recovers && not (by == 0)
-    then (if (r.recovers && not (by == 0)) && nat_lt (by + 1) recover then (if sack then r else reno.partly r (min (by - one_if syn) queued)) else reno.recovered r)
+    then (if (r.recovers && not (by == 0)) && nat_lt (by + 1) recover
+    then (if sack then r else reno.partly r (min (by - one_if syn) queued)) else reno.recovered r)
     else reno.acknowledged r (min (by - one_if syn) queued)
 
 -- a part of it, and all: both alike
@@ -112,7 +113,8 @@ acked_both : (P : RenoValue → Type 0) (r : RenoValue) (sack syn lost : Bool) (
 acked_both P r sack syn lost by queued recover starts stays part whole grows =
     cond_both (syn && not (by == 0)) (reno.started r lost)
     (if r.recovers && not (by == 0)
-    then (if (r.recovers && not (by == 0)) && nat_lt (by + 1) recover then (if sack then r else reno.partly r (min (by - one_if syn) queued)) else reno.recovered r)
+    then (if (r.recovers && not (by == 0)) && nat_lt (by + 1) recover
+    then (if sack then r else reno.partly r (min (by - one_if syn) queued)) else reno.recovered r)
     else reno.acknowledged r (min (by - one_if syn) queued))
     P starts
     (λ _.
@@ -209,7 +211,8 @@ module _ (cx : ContextValue) (ip : IpRepr) (header : TcpHeader) (bytes : List �
   acked_held : (u : TcpValue) (by : ℕ) → IsHeld (control_of u.block) → is_past u.block.state ≡ true → IsHeld (control_of (acked_open u by cx.moment).block)
   acked_held u by h past =
       held (reno_after u.block by (queued_in u)) (u.block.sender.syn_unacked && (by == 0)) (state_after_ack u.block by (queued_in u))
-      (out_acked u.block.reno u.block.peer.sack u.block.sender.syn_unacked u.block.sender.syn_lost by (queued_in u) u.block.sender.recover h.window) (state_past u by past)
+      (out_acked u.block.reno u.block.peer.sack u.block.sender.syn_unacked u.block.sender.syn_lost by (queued_in u)
+      u.block.sender.recover h.window) (state_past u by past)
 
   heeded_held : (u : TcpValue) (by : ℕ) (begins again : Bool) → IsHeld (control_of u.block) → is_past u.block.state ≡ true
       → IsHeld (record {
@@ -262,7 +265,8 @@ module _ (cx : ContextValue) (ip : IpRepr) (header : TcpHeader) (bytes : List �
         let quiet = no_timeout u h (is_syn_unacked u p (ap (λ (s : State). is_opening s || is_answering s) at)) in
         record {
           window = λ e.
-              clash (sym e ∙ quiet_acked (reno.with_mss u.block.reno (or_mss header.options.max_seg_size)) (took_syn u.block header).peer.sack u.block.sender.syn_unacked u.block.sender.syn_lost 1
+              clash (sym e ∙ quiet_acked (reno.with_mss u.block.reno (or_mss header.options.max_seg_size))
+              (took_syn u.block header).peer.sack u.block.sender.syn_unacked u.block.sender.syn_lost 1
               0 u.block.sender.recover quiet);
           listens = λ e. clash (sym e);
         };

@@ -43,7 +43,8 @@ module _ (edge free waiting half mss named u : ℕ) (some : 1 ≤ u) (less : nam
 
   below : (space : ℕ) → field_for space * u ≤ space
   below space =
-      transitive (field_for space * u) (space / u * u) space (mul-le-mul_right u (smaller (space / u))) (part (space / u * u) (space % u) space (div-add-mod' space u))
+      transitive (field_for space * u) (space / u * u) space (mul-le-mul_right u (smaller (space / u)))
+      (part (space / u * u) (space % u) space (div-add-mod' space u))
     where
       smaller : (d : ℕ) → min d 65_535 ≤ d
       smaller d = omega arith
@@ -143,8 +144,11 @@ none_out edge named v w p =
 
 -- it is over, and no segment goes
 pub over_out : (edge named : ℕ) (v w : TcpValue) → is_over w.block.state ≡ true → IsMark 0 0 (mark_of w) → Out edge named v w None
-over_out edge named v w over p =
-    (edge - risen v.block w.block, refl, subst (λ (t : Bool). IsMark (if t then 0 else edge - risen v.block w.block) (if t then 0 else named) (mark_of w)) (sym over) p)
+over_out edge named v w over p = (
+  edge - risen v.block w.block,
+  refl,
+  subst (λ (t : Bool). IsMark (if t then 0 else edge - risen v.block w.block) (if t then 0 else named) (mark_of w)) (sym over) p,
+)
 
 -- a reset goes
 pub reset_out : (edge named : ℕ) (v w : TcpValue) (segment : TcpHeader) → segment.control ≡ Control.Rst →

@@ -55,7 +55,8 @@ use Rattle.tcp_rules.proofs.EdgeSteps.{edge_of, IsEdge, risen_is, less, behind_t
 use Rattle.tcp_rules.proofs.OfferCases.{Rules, FirstRules, LastRules, by_rules, begun, probing}
 use Rattle.tcp_rules.proofs.OrderRules.{event_order, new_order, opened_by, and_true}
 use Rattle.tcp_rules.proofs.OrderSteps.{clash, backed_order}
-use Rattle.tcp_rules.proofs.EdgeMarks.{Mark, mark_of, IsMark, closed_mark, shut_mark, going_mark, over_mark, Out, none_out, over_out, reset_out, minus_none, unheard, told_edge, not_over, still, keeps, segment_out}
+use Rattle.tcp_rules.proofs.EdgeMarks.{Mark, mark_of, IsMark, closed_mark, shut_mark, going_mark, over_mark, Out, none_out, over_out}
+use Rattle.tcp_rules.proofs.EdgeMarks.{reset_out, minus_none, unheard, told_edge, not_over, still, keeps, segment_out}
 
 -- A SEGMENT COMES
 
@@ -211,7 +212,8 @@ module _ (edge named : ℕ) (cx : ContextValue) (ip : IpRepr) (header : TcpHeade
 
       acked_on : (by : ℕ) → is_closed (state_after_ack u.block by (queued_in u)) ≡ false → is_over (state_after_ack u.block by (queued_in u)) ≡ false
       acked_on by alive =
-          neither (is_closed (state_after_ack u.block by (queued_in u))) (is_listening (state_after_ack u.block by (queued_in u))) alive (after_no_listener u by past)
+          neither (is_closed (state_after_ack u.block by (queued_in u)))
+          (is_listening (state_after_ack u.block by (queued_in u))) alive (after_no_listener u by past)
 
       acked_mark : (by : ℕ) → IsMark edge named (record (mark_of u) { state = state_after_ack u.block by (queued_in u) })
       acked_mark by =
@@ -222,7 +224,8 @@ module _ (edge named : ℕ) (cx : ContextValue) (ip : IpRepr) (header : TcpHeade
       IsMark edge named (mark_of u) → Opening cx ip header bytes Arrives u
   moves_opening u same took p = record {
     opens = λ at _.
-        none_out edge named v (with_block u (timeout_restarted (believed (answering u.block ip header (first_number cx (pair_in ip header))) cx.moment) cx.moment 0))
+        none_out edge named v
+        (with_block u (timeout_restarted (believed (answering u.block ip header (first_number cx (pair_in ip header))) cx.moment) cx.moment 0))
         (begins In.SynReceived _ refl refl (nothing _ (sym (p.same (ap is_closed at)) ∙ p.listens (ap is_listening at))
         (p.listens (ap is_listening at))));
     refuses = refuses_out u same p;

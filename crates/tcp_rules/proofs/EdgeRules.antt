@@ -155,8 +155,10 @@ module _ (capacity f : ℕ) (cx : ContextValue) (ip : IpRepr) (header : TcpHeade
     ends = λ _ _ _. over_out capacity f v (ended u) refl (less capacity f 0 _ (in_state capacity f (edge_of u) In.Closed p (λ is. clash (sym is))) (least f));
     closes = λ by _ _. over_out capacity f v (acked_last (timed cx.moment header u by) by cx.moment) refl
         (less capacity f 0 _ (in_state capacity f (edge_of u) In.Closed p (λ is. clash (sym is))) (least f));
-    taken = λ by _ _. edge_content (heeded cx.moment header (length bytes) u by (acked_open (timed cx.moment header u by) by cx.moment).block) (acked_edge by) same took;
-    taken_window = λ by _ _. edge_content (heeded cx.moment header (length bytes) u by (windowed (acked_open (timed cx.moment header u by) by cx.moment).block header))
+    taken = λ by _ _.
+        edge_content (heeded cx.moment header (length bytes) u by (acked_open (timed cx.moment header u by) by cx.moment).block) (acked_edge by) same took;
+    taken_window = λ by _ _.
+        edge_content (heeded cx.moment header (length bytes) u by (windowed (acked_open (timed cx.moment header u by) by cx.moment).block header))
         (acked_edge by) same took;
     news = λ by _ _. edge_drawing (waiting_anew (acked_open (timed cx.moment header u by) by cx.moment) header cx.moment) (acked_edge by);
     outside = edge_drawing (waiting_anew u header cx.moment) p;
@@ -168,12 +170,14 @@ module _ (capacity f : ℕ) (cx : ContextValue) (ip : IpRepr) (header : TcpHeade
 
   edge_opening : (u : TcpValue) → IsEdge capacity f (edge_of u) → (is_over u.block.state ≡ true → f ≡ 0) → Opening cx ip header bytes Arrives u
   edge_opening u p none = record {
-    opens = λ at _. none_out capacity f v (with_block u (timeout_restarted (believed (answering u.block ip header (first_number cx (pair_in ip header))) cx.moment) cx.moment 0))
+    opens = λ at _. none_out capacity f v
+        (with_block u (timeout_restarted (believed (answering u.block ip header (first_number cx (pair_in ip header))) cx.moment) cx.moment 0))
         (less capacity 0 _ _ (begins header.options.window_scale In.SynReceived refl) (nothing _ (none (ap is_over at))));
     refuses = reset_out capacity f v u (reset_for header (length bytes)) refl
         (less capacity f (f - risen v.block u.block) (edge_of u) p (minus_least f (risen v.block u.block)));
     ends = λ _. over_out capacity f v (ended u) refl (less capacity f 0 _ (in_state capacity f (edge_of u) In.Closed p (λ is. clash (sym is))) (least f));
-    connects = λ at _. none_out capacity f v (with_block u (timeout_restarted (believed (connected u.block header cx.moment) cx.moment) cx.moment (queued_in u)))
+    connects = λ at _. none_out capacity f v
+        (with_block u (timeout_restarted (believed (connected u.block header cx.moment) cx.moment) cx.moment (queued_in u)))
         (less capacity f _ _ (takes header.options.window_scale In.Established refl at) (minus_least f _));
     crosses = λ at _. none_out capacity f v (with_block u (timeout_restarted (believed (crossed u.block header) cx.moment) cx.moment (queued_in u)))
         (less capacity f _ _ (takes header.options.window_scale In.SynReceived refl at) (minus_least f _));

@@ -25,7 +25,8 @@ use Rattle.tcp_model.specs.Arrival.{arrives}
 use Rattle.tcp_model.specs.Calls.{listening, connected_by, pair_for, sent_more}
 use Rattle.tcp_model.specs.FirstNumbers.{number_for}
 use Rattle.tcp_model.specs.Timestamps.{stamp_taken, echo_taken}
-use Rattle.tcp_model.specs.LossRecovery.{with_board, probe_from, probes_losses, probe_armed, run_within, run_of, range_noted, all_noted, heard_more, ranges_noted}
+use Rattle.tcp_model.specs.LossRecovery.{with_board, probe_from, probes_losses, probe_armed, run_within, run_of}
+use Rattle.tcp_model.specs.LossRecovery.{range_noted, all_noted, heard_more, ranges_noted}
 use Rattle.tcp_model.specs.LossRecovery.{loss_lowered, loss_acked, loss_probed}
 use Rattle.tcp_model.specs.Offers.{offer_of}
 use Rattle.tcp_model.specs.Opening.{took_syn}

@@ -152,7 +152,8 @@ module _ (cx : ContextValue) (ip : IpRepr) (header : TcpHeader) (bytes : List �
         order_drawing (waiting_anew (acked_open (timed cx.moment header u by) by cx.moment) header cx.moment)
         (acked_order (timed cx.moment header u by) by cx.moment p past (passes_news u.block header.ack_number by passes) alive);
     outside = order_drawing (waiting_anew u header cx.moment) p;
-    old = λ old. order_content (with_block u (stamp_taken (heard u.block) header cx.moment)) p (syn_gone_old (sending_of u) p (old_news u.block header.ack_number old));
+    old = λ old.
+        order_content (with_block u (stamp_taken (heard u.block) header cx.moment)) p (syn_gone_old (sending_of u) p (old_news u.block header.ack_number old));
   }
 
   -- in SYN-SENT the SYN isn't acknowledged yet
@@ -165,7 +166,8 @@ module _ (cx : ContextValue) (ip : IpRepr) (header : TcpHeader) (bytes : List �
   order_opening : (u : TcpValue) → IsInOrder (sending_of u) → Opening cx ip header bytes Order u
   order_opening u p = record {
     opens = λ at _.
-        begins (sending_of (with_block u (timeout_restarted (believed (answering u.block ip header (first_number cx (pair_in ip header))) cx.moment) cx.moment 0))) In.SynReceived refl refl
+        begins (sending_of (with_block u
+        (timeout_restarted (believed (answering u.block ip header (first_number cx (pair_in ip header))) cx.moment) cx.moment 0))) In.SynReceived refl refl
         (number_small cx (pair_in ip header)) refl refl (p.listens (ap is_listening at)).1 refl (λ _. refl);
     refuses = p;
     ends = λ _. closed_order (sending_of u) false p;

@@ -322,7 +322,8 @@ module _ (cx : ContextValue) (ip : IpRepr) (header : TcpHeader) (bytes : List �
         (heard_paced by) past);
     news = λ by _ _.
         paced_drawing _
-        (acked_paced (echo_taken u.block header by cx.moment) by (queued_in u) (state_after_ack u.block by (queued_in u)) (heard_paced by) (state_past u by past));
+        (acked_paced (echo_taken u.block header by cx.moment) by (queued_in u)
+        (state_after_ack u.block by (queued_in u)) (heard_paced by) (state_past u by past));
     outside = paced_drawing _ p;
     old = λ _. paced_content _ p;
   }
@@ -525,7 +526,8 @@ module _ (x : TcpValue) (addresses : AddressPair) (mtu : ℕ) where
     sent : again.place ≤ sent_places x.block
     sent = again_sent x.block (size_limit x.block addresses mtu) (sent_places x.block) (queued_in x)
 
-    at : (fin : Bool) → again.fin ≡ fin → distance_of x.block.sender.una (number_at x.block again.place) + (again.len + control_len (control_for again (queued_in x))) ≤
+    at : (fin : Bool) → again.fin ≡ fin →
+        distance_of x.block.sender.una (number_at x.block again.place) + (again.len + control_len (control_for again (queued_in x))) ≤
         x.block.sender.top
     at true e =
         with_fin (distance_of x.block.sender.una (number_at x.block again.place)) (one_if x.block.sender.syn_unacked) again.place again.len

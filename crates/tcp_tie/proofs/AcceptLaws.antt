@@ -27,7 +27,8 @@ use Rattle.tcp_model.specs.Endpoints.{ip_header_len, pair_in}
 use Rattle.tcp_model.specs.Offsets.{past_by, before_by, meets_window}
 use Rattle.tcp_model.specs.Opening.{is_first_syn, opens, answering, takes_answer, acks_syn, syn_answered}
 use Rattle.tcp_model.specs.LossRecovery.{again_place, hole_len}
-use Rattle.tcp_model.specs.Rules.{text_choice, resend_choice, stamp_len, size_limit, window_limit, congestion_limit, unbroken, next_place, congestion_room, sent_places}
+use Rattle.tcp_model.specs.Rules.{text_choice, resend_choice, stamp_len, size_limit}
+use Rattle.tcp_model.specs.Rules.{window_limit, congestion_limit, unbroken, next_place, congestion_room, sent_places}
 use Rattle.tcp_model.specs.Segments.{no_ranges, segment_len, rst_reply}
 use Rattle.tcp_model.specs.States.{is_time_wait}
 use Rattle.tcp_model.specs.Timeout.{timeout_restarted}
@@ -196,7 +197,8 @@ module _ (cx : ContextValue) (v : TcpValue) (ip : IpRepr) (header : TcpHeader) (
       subst (IsIgnored cx v ip header)
       (sym (if_not (is_first_syn header)
       (record {
-        socket = with_block (unoffered v) (timeout_restarted (believed (answering v.block ip header (first_number cx (pair_in ip header))) cx.moment) cx.moment 0);
+        socket =
+            with_block (unoffered v) (timeout_restarted (believed (answering v.block ip header (first_number cx (pair_in ip header))) cx.moment) cx.moment 0);
         answer =
             None;
         draws = draws_number cx;

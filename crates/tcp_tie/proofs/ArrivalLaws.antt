@@ -1,5 +1,6 @@
 -- Each segment that the partner sent, when it comes, keeps the invariant.
-use Rattle.std.proofs.Common.{◌≡◌, ◌⊎◌, inl, inr, ℕ, zero, suc, ◌-◌, ◌^◌, ◌<◌, ◌≤◌, nat_lt, nat_le, not, ◌==◌, ◌&&◌, ◌||◌, ℤ, Bool, true, false, if◌then◌else◌, List}
+use Rattle.std.proofs.Common.{◌≡◌, ◌⊎◌, inl, inr, ℕ, zero, suc}
+use Rattle.std.proofs.Common.{◌-◌, ◌^◌, ◌<◌, ◌≤◌, nat_lt, nat_le, not, ◌==◌, ◌&&◌, ◌||◌, ℤ, Bool, true, false, if◌then◌else◌, List}
 use Rattle.std.proofs.Common.{Option, Some, None, slice_get, length, refl, sym, ap, ◌∙◌, subst, arith}
 use Rattle.std.proofs.lemmas.Bool.{and_cases, cond_both, eqb-true, not-false}
 use Rattle.std.proofs.lemmas.Bool.Decides.{nat_tests}
@@ -88,7 +89,8 @@ neither false b e = e
 told_core : (v : TcpValue) (header : TcpHeader) (duplicates : ℕ) (now : ℤ) → core_of (told v header duplicates now) ≡ core_of v
 told_core v header duplicates now =
     cond_both (names_window v.block header) (windowed v.block header) v.block
-    (λ (b : Block). core_of (with_block v (timeout_restarted (counted (ranges_taken (stamp_taken b header now) header now) duplicates) now (queued_in v))) ≡ core_of v)
+    (λ (b : Block).
+    core_of (with_block v (timeout_restarted (counted (ranges_taken (stamp_taken b header now) header now) duplicates) now (queued_in v))) ≡ core_of v)
     (λ _. refl)
     (λ _. refl)
 
@@ -124,7 +126,8 @@ module _ (cx : ContextValue) (v : TcpValue) (ip : IpRepr) (header : TcpHeader) (
           (λ open_yet.
           let on = acked_now.running open_yet in
           let same = told_core (acknowledged (timed by) by cx.moment) header (duplicates_after v.block header (length bytes) by) cx.moment in
-          led_content cx (told (acknowledged (timed by) by cx.moment) header (duplicates_after v.block header (length bytes) by) cx.moment) ip header bytes p t comes
+          led_content cx (told (acknowledged (timed by) by cx.moment)
+          header (duplicates_after v.block header (length bytes) by) cx.moment) ip header bytes p t comes
           (data_control header.control no_rst no_syn) (ap (λ (c : Core). is_connected c.state) same ∙ on.0) (ap (λ (c : Core). c.syn_unacked) same ∙ on.1)
           (subst (λ (c : Core). Tied c p t) (sym same) acked_now.tied))
 
@@ -145,10 +148,12 @@ module _ (cx : ContextValue) (v : TcpValue) (ip : IpRepr) (header : TcpHeader) (
     -- its acknowledgement is old
     led_old : is_rst header.control ≡ false → is_syn header.control ≡ false → v.block.sender.syn_unacked ≡ false → Led p t (checked Old cx v ip header bytes)
     led_old no_rst no_syn acked =
-        cond_both (is_in_window v.block (free_in v) header (length bytes)) (with_content cx (with_block v (stamp_taken (heard v.block) header cx.moment)) ip header bytes)
+        cond_both (is_in_window v.block (free_in v) header (length bytes))
+        (with_content cx (with_block v (stamp_taken (heard v.block) header cx.moment)) ip header bytes)
         (outside cx v ip header)
         (λ (a : Arrived). Led p t a)
-        (λ _. led_content cx (with_block v (stamp_taken (heard v.block) header cx.moment)) ip header bytes p t comes (data_control header.control no_rst no_syn) connected acked r)
+        (λ _. led_content cx (with_block v (stamp_taken (heard v.block) header cx.moment)) ip header bytes p t comes
+        (data_control header.control no_rst no_syn) connected acked r)
         (λ _. led_outside v r (λ _. connected))
 
     -- in SYN-RECEIVED

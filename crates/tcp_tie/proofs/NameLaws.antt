@@ -307,7 +307,8 @@ module _ (cx : ContextValue) (ip : IpRepr) (header : TcpHeader) where
   told_stays : (w : TcpValue) (duplicates : ℕ) → Stays w.block (told w header duplicates cx.moment).block
   told_stays w duplicates =
       cond_both (names_window w.block header) (windowed w.block header) w.block
-      (λ (b : Block). Stays w.block (timeout_restarted (counted (ranges_taken (stamp_taken b header cx.moment) header cx.moment) duplicates) cx.moment (queued_in w)))
+      (λ (b : Block). Stays w.block
+      (timeout_restarted (counted (ranges_taken (stamp_taken b header cx.moment) header cx.moment) duplicates) cx.moment (queued_in w)))
       (λ _. (refl, refl))
       (λ _. (refl, refl))
 
@@ -366,7 +367,8 @@ module _ (cx : ContextValue) (ip : IpRepr) (header : TcpHeader) where
       (λ _. named_outside v.block (acknowledged (timed v by) by cx.moment) (timed_names v by))
       (λ _. named_outside v.block v (inl (keeps v.block v.block refl refl))))
   named_checked Old v bytes =
-      cond_both (is_in_window v.block (free_in v) header (length bytes)) (with_content cx (with_block v (stamp_taken (heard v.block) header cx.moment)) ip header bytes)
+      cond_both (is_in_window v.block (free_in v) header (length bytes))
+      (with_content cx (with_block v (stamp_taken (heard v.block) header cx.moment)) ip header bytes)
       (outside cx v ip header)
       (λ (a : Arrived). Named v.block a)
       (λ _.
@@ -400,7 +402,8 @@ module _ (cx : ContextValue) (ip : IpRepr) (header : TcpHeader) where
 
   renamed_opens : (v : TcpValue) → v.block.state ≡ In.Listen → Renamed v.block (opens cx v ip header)
   renamed_opens v at =
-      let answers : TcpValue = with_block v (timeout_restarted (believed (answering v.block ip header (first_number cx (pair_in ip header))) cx.moment) cx.moment 0) in
+      let answers : TcpValue =
+      with_block v (timeout_restarted (believed (answering v.block ip header (first_number cx (pair_in ip header))) cx.moment) cx.moment 0) in
       cond_both (is_first_syn header) (record { socket = answers; answer = None; draws = draws_number cx }) (dropped v) (λ (a : Arrived). Renamed v.block a)
       (λ first. (inl (record { listening = ap is_listening at; opening = first; state = refl; names = refl }), λ reply none. absurd (cc)))
       (λ _. renamed_by v.block (dropped v) (named_dropped v.block v (inl (keeps v.block v.block refl refl))))

@@ -116,7 +116,8 @@ led_opens cx v ip header bytes p t comes e r =
     (λ first.
     let tests = and_parts (is_syn header.control) (not (is_some header.ack_number)) first in
     subst (λ (p : Past). Tied (answering_core (core_of v) (pair_in ip header) (first_number cx (pair_in ip header)) header.seq_number.0) p t) r.past
-    (takes_syn (core_of v) r.side t (segment_of header bytes) (first_number cx (pair_in ip header)) (pair_in ip header) comes (syn_control header.control tests.0)
+    (takes_syn (core_of v) r.side t (segment_of header bytes) (first_number cx (pair_in ip header)) (pair_in ip header) comes
+    (syn_control header.control tests.0)
     (no_number_of header.ack_number (not-true (is_some header.ack_number) tests.1)) (number_small cx (pair_in ip header)) (listening_state v p t e r) r.holds))
     (λ _. r)
 

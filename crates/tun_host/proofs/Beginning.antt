@@ -57,7 +57,8 @@ module _ (s : Settings) (moment : ℤ) (is : IsMoment moment) where
       made ≡ new_host (config_of s) (capabilities_of s.hardware) moment
   made_is made makes =
       let h = new_host (config_of s) (capabilities_of s.hardware) moment in
-      made_by (is_station s.hardware) h made (subst (λ (o : Option NewError). MadeUnless o h (Ok made)) (refusal_is s.hardware s.seed s.isn_key moment is) makes)
+      made_by (is_station s.hardware) h made
+      (subst (λ (o : Option NewError). MadeUnless o h (Ok made)) (refusal_is s.hardware s.seed s.isn_key moment is) makes)
 
   pub no_station : Makes (config_of s) (capabilities_of s.hardware) moment (Err New.NotUnicast) → is_station s.hardware ≡ false
   no_station makes =

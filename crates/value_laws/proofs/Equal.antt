@@ -312,7 +312,8 @@ Decides-peer a b =
 
 pub Decides-stamps : (a b : Stamps) → Decides (Stamped.ghosts.eq a b) (a ≡ b)
 Decides-stamps a b =
-    let from_first = Decides-and _ _ (Decides-eqb a.first b.first) (Decides-option (λ (x y : ℤ). int_eq x y) Decides-int_eq a.believed_until b.believed_until) in
+    let from_first = Decides-and _ _ (Decides-eqb a.first b.first)
+    (Decides-option (λ (x y : ℤ). int_eq x y) Decides-int_eq a.believed_until b.believed_until) in
     let all = Decides-and _ _ (Decides-option (λ x y. Generator.ghosts.eq x y) Decides-generator a.generator b.generator) (from_first) in (
       λ yes.
           let parts = all.0 yes in

@@ -1,4 +1,5 @@
--- Raw sockets that queue no packet of TCP or UDP, and no clients of DHCP and DNS: their datagrams no application sends.
+-- Of each socket of a host: raw sockets that queue no packet of TCP or UDP and no clients of DHCP and DNS, whose datagrams no application
+-- sends; and hosts that send no datagram.
 use Rattle.std.specs.Prelude.{◌≡◌, false, List, Option, None, Some}
 use Rattle.std.specs.List.{AllByRecursion}
 use Rattle.lan_frames.specs.Medium.TheVariants as Medium
@@ -25,3 +26,12 @@ QueuesForeign (Is.Udp v) = Unit {0}
 QueuesForeign (Is.Tcp v) = Unit {0}
 QueuesForeign (Is.Dhcpv4 v) = ⊥
 QueuesForeign (Is.Dns v) = ⊥
+
+-- neither a UDP socket nor a client that sends datagrams
+abbrev pub HasNoUdp : Socket → Type 0
+HasNoUdp (Is.Udp v) = ⊥
+HasNoUdp (Is.Raw v) = Unit {0}
+HasNoUdp (Is.Icmp v) = Unit {0}
+HasNoUdp (Is.Tcp v) = Unit {0}
+HasNoUdp (Is.Dhcpv4 v) = ⊥
+HasNoUdp (Is.Dns v) = ⊥

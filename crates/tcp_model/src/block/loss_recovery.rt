@@ -2,8 +2,10 @@
 ghost use Rattle.std.specs.Prelude.{◌≡◌, ◌≤◌, ◌<◌, ◌^◌};
 ghost use Rattle.net_base.specs.Time.{IsMoment};
 ghost use Rattle.tcp_model.specs.Blocks.{fresh_loss};
-ghost use Rattle.tcp_model.specs.LossRecovery.{with_board, after_wait, probe_from, probes_losses, probe_armed, loss_probe_moment, run_within, run_of, range_noted, all_noted};
-ghost use Rattle.tcp_model.specs.LossRecovery.{heard_more, ranges_noted, threshold, is_lost_at, is_first_lost, is_lost_again, pipe_in_recovery, pipe, next_hole};
+ghost use Rattle.tcp_model.specs.LossRecovery.{with_board, after_wait, probe_from, probes_losses, probe_armed, loss_probe_moment, run_within, run_of};
+ghost use Rattle.tcp_model.specs.LossRecovery.{range_noted, all_noted};
+ghost use Rattle.tcp_model.specs.LossRecovery.{heard_more, ranges_noted, threshold, is_lost_at, is_first_lost, is_lost_again};
+ghost use Rattle.tcp_model.specs.LossRecovery.{pipe_in_recovery, pipe, next_hole};
 ghost use Rattle.tcp_model.specs.LossRecovery.{fills_hole, again_place, hole_len, loss_lowered, loss_acked, loss_resent, loss_timed_out, probes_tail};
 ghost use Rattle.tcp_model.specs.LossRecovery.{loss_probed, loss_probed_by};
 

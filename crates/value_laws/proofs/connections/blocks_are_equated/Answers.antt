@@ -1,4 +1,5 @@
-use Rattle.value_laws.proofs.Equal.{Decides-block, Decides-congestion, Decides-loss, Decides-names, Decides-peer, Decides-receiver, Decides-reno, Decides-round_trip}
+use Rattle.value_laws.proofs.Equal.{Decides-block, Decides-congestion, Decides-loss, Decides-names}
+use Rattle.value_laws.proofs.Equal.{Decides-peer, Decides-receiver, Decides-reno, Decides-round_trip}
 use Rattle.value_laws.proofs.Equal.{Decides-run, Decides-scoreboard, Decides-sender, Decides-settings, Decides-stamps, Decides-state, Decides-timers}
 use Rattle.value_laws.proofs.connections.blocks_are_equated.Goals as goal
 

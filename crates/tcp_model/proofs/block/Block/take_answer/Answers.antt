@@ -11,7 +11,8 @@ returns-then-is_some c =
     let b = c.args.self.now in
     let header = c.args.header.now in
     let now = c.args.now in
-    let opened = c.move_una.ensures ∙ ap (λ (x : Block). una_moved x 1 0 now) (c.take_echo.ensures ∙ ap (λ (x : Block). echo_taken x header 1 now) c.take_syn.ensures) in
+    let opened = c.move_una.ensures ∙ ap (λ (x : Block). una_moved x 1 0 now)
+    (c.take_echo.ensures ∙ ap (λ (x : Block). echo_taken x header 1 now) c.take_syn.ensures) in
     let said = c.is_some.ensures in
     let yes = c.if-is_some.true in
     let is : is_some header.ack_number ≡ true = cc in

@@ -35,7 +35,8 @@ returns-clause-answer g c =
     let ends : c.timeout_end.result ≡ timeout_end v.block (queued_in v) =
     c.timeout_end.ensures ∙ ap (λ (b : Block). timeout_end b c.len-queued.result) block ∙ ap (timeout_end v.block) queued
     in
-    let waiting = not_due cx.moment c.now-now.result (time_wait_end v.block) c.time_wait_end.result c.is_due.result at waits c.is_due.ensures c.if-is_due.false in
+    let waiting =
+    not_due cx.moment c.now-now.result (time_wait_end v.block) c.time_wait_end.result c.is_due.result at waits c.is_due.ensures c.if-is_due.false in
     let timed =
     not_due cx.moment c.now-now.result (timeout_end v.block (queued_in v)) c.timeout_end.result c.is_due-2.result at ends c.is_due-2.ensures
     c.if-is_due-2.false
@@ -74,7 +75,8 @@ returns-clause-socket g c =
     let ends : c.timeout_end.result ≡ timeout_end v.block (queued_in v) =
     c.timeout_end.ensures ∙ ap (λ (b : Block). timeout_end b c.len-queued.result) block ∙ ap (timeout_end v.block) queued
     in
-    let waiting = not_due cx.moment c.now-now.result (time_wait_end v.block) c.time_wait_end.result c.is_due.result at waits c.is_due.ensures c.if-is_due.false in
+    let waiting =
+    not_due cx.moment c.now-now.result (time_wait_end v.block) c.time_wait_end.result c.is_due.result at waits c.is_due.ensures c.if-is_due.false in
     let timed =
     not_due cx.moment c.now-now.result (timeout_end v.block (queued_in v)) c.timeout_end.result c.is_due-2.result at ends c.is_due-2.ensures
     c.if-is_due-2.false

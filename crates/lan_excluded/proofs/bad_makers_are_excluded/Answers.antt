@@ -1,0 +1,10 @@
+use Rattle.lan_theorem.proofs.Moves.Makers.{made_by_hosts}
+use Rattle.lan_excluded.proofs.Excluded as by
+use Rattle.lan_excluded.proofs.bad_makers_are_excluded.Goals as goal
+
+pub returns : goal.returns
+returns c = record {
+  without_a_socket = λ w side header payload r udp none made. made_by_hosts w side header payload r udp none made;
+  too_short = λ w side header payload r short made. by.maker_too_short w side header payload r short made;
+  no_segment = λ w side header payload r tcp short made. by.maker_no_segment w side header payload r tcp short made;
+}
