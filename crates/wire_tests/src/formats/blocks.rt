@@ -1,5 +1,5 @@
 //! Blocks of addresses, their masks and their ends.
-use crate::texts::{block, either};
+use crate::formats::texts::{block, either};
 use ip_wire::{
     AddressExt, Error, IPV6_LINK_LOCAL_ALL_NODES, IpAddress, IpCidr, Ipv4Address, Ipv4Cidr,
     Ipv6Address, Ipv6Cidr,

@@ -1,5 +1,5 @@
 //! What devices answer, and what they say of themselves.
-use crate::text::prints;
+use crate::base::text::prints;
 use net_base::{
     Checksum, ChecksumCapabilities, Device, DeviceCapabilities, IPV4_FRAGMENT_PAYLOAD_ALIGNMENT,
     Instant, Loopback, Medium, PacketMeta, RxToken, TxToken,

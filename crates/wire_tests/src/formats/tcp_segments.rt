@@ -1,5 +1,5 @@
 //! Segments with their payload. `decode` reads and writes headers as data.
-use crate::samples::{checksums, is_same};
+use crate::formats::samples::{checksums, is_same};
 use ip_wire::{
     Error, IpAddress, Ipv4Address, SeqNumber, TcpControl, TcpHeader, TcpOptions, TcpPacket,
     TcpPacketMut, TcpRepr,

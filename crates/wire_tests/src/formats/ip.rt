@@ -1,6 +1,6 @@
 //! Headers of either family as values.
-use crate::ipv6;
-use crate::samples::{HEADER, LEFT, RIGHT, SAID, behind, checksums, first, is_same};
+use crate::formats::ipv6;
+use crate::formats::samples::{HEADER, LEFT, RIGHT, SAID, behind, checksums, first, is_same};
 use ip_wire::{IPV6_LINK_LOCAL_ALL_NODES, IpAddress, IpProtocol, IpRepr, IpVersion};
 
 /// Version, addresses, protocol, hops and the header's length.

@@ -1,5 +1,5 @@
 //! The Internet checksum over bytes from outside.
-use crate::samples::{LEFT, RIGHT, behind, first};
+use crate::formats::samples::{LEFT, RIGHT, behind, first};
 use ip_wire::{IpAddress, IpProtocol, checksum};
 
 fn sum(bytes: &[u8]) -> u16 {

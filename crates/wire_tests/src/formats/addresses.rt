@@ -1,5 +1,5 @@
 //! Addresses compared, and told apart by their tests.
-use crate::texts::ipv6;
+use crate::formats::texts::ipv6;
 use ip_wire::address_laws::Comparison;
 use ip_wire::{
     AddressExt, EthernetAddress, EthernetProtocol, HardwareAddress, IPV4_MULTICAST_ALL_ROUTERS,

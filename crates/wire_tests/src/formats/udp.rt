@@ -3,7 +3,7 @@ ghost use Rattle.std.specs.Prelude.{◌≡◌, ◌+◌, ◌<◌, length};
 ghost use Rattle.net_base.specs.Capabilities.{computes};
 ghost use Rattle.ip_wire.specs.Udp as Udp;
 
-use crate::samples::{DATAGRAM, LEFT, RIGHT, behind, checksums, first, is_same, put};
+use crate::formats::samples::{DATAGRAM, LEFT, RIGHT, behind, checksums, first, is_same, put};
 use ip_wire::{IpAddress, UdpPacket, UdpPacketMut, UdpRepr};
 use net_base::ChecksumCapabilities;
 

@@ -1,5 +1,5 @@
 //! Ranges and in-order bytes of an assembler, on rows worked out by hand.
-use crate::text::prints;
+use crate::base::text::prints;
 use net_base::{Assembler, TooManyHolesError};
 
 /// Whether the runs held are these.

@@ -1,5 +1,5 @@
 //! IPv6 packets, where they are written. `decode` reads and writes them as data.
-use crate::samples::{OVER_V6, ends_with, first, starts_with};
+use crate::formats::samples::{OVER_V6, ends_with, first, starts_with};
 use ip_wire::{IPV6_LINK_LOCAL_ALL_NODES, IpProtocol, Ipv6Address, Ipv6PacketMut};
 
 pub const LOCAL: Ipv6Address = Ipv6Address([0xfe, 0x80, 0, 0, 0, 0, 0, 0, 0, 0, 0, 0, 0, 0, 0, 1]);

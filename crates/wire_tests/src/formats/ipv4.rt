@@ -4,7 +4,7 @@ ghost use Rattle.ip_wire.specs.IpAddress.TheVariants as Address;
 ghost use Rattle.ip_wire.specs.Ipv4 as Ipv4;
 ghost use Rattle.ip_wire.specs.Udp as Udp;
 
-use crate::samples::{DATAGRAM, WITH_OPTION, behind, first, is_same, starts_with};
+use crate::formats::samples::{DATAGRAM, WITH_OPTION, behind, first, is_same, starts_with};
 use ip_wire::{
     IpAddress, IpProtocol, Ipv4Address, Ipv4FragKey, Ipv4Packet, Ipv4PacketMut, Ipv4Repr,
     UdpPacketMut, UdpRepr,

@@ -1,6 +1,6 @@
 //! Views of TCP segments that write in place.
-use crate::samples::{LEFT, RIGHT, behind, first, is_same};
-use crate::tcp_segments::{RANGES, SYN_BYTES};
+use crate::formats::samples::{LEFT, RIGHT, behind, first, is_same};
+use crate::formats::tcp_segments::{RANGES, SYN_BYTES};
 use ip_wire::{Error, SeqNumber, TcpPacketMut};
 
 // The same fields through the writing view, and those of a segment with ranges.

@@ -1,5 +1,5 @@
 //! Moments and lengths of time: units, sums, texts, and the standard library's durations.
-use crate::text::prints;
+use crate::base::text::prints;
 use net_base::{Duration, Instant, Rand, laws};
 use std::time;
 

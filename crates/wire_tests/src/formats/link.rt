@@ -1,5 +1,5 @@
 //! Ethernet frames and ARP packets, where they are written. `decode` reads and writes them as data.
-use crate::samples::{behind, ends_with, first, is_same, starts_with};
+use crate::formats::samples::{behind, ends_with, first, is_same, starts_with};
 use ip_wire::{
     ArpHardware, ArpOperation, ArpPacketMut, ArpRepr, EthernetAddress, EthernetFrame,
     EthernetFrameMut, EthernetProtocol, EthernetRepr, Ipv4Address, arp_laws,
