@@ -1,7 +1,7 @@
 //! ICMP sockets.
-use crate::common::{queue, zeros};
-use crate::script::Step::Icmp;
-use crate::script::{Kind, Step, play};
+use crate::kinds::common::{queue, zeros};
+use crate::kinds::script::Step::Icmp;
+use crate::kinds::script::{Kind, Step, play};
 use control_wire::Icmpv4Repr;
 use ip_wire::{IpAddress, IpProtocol, Ipv4Address, Ipv4Repr};
 use sockets::icmp::{BindError, Endpoint, RecvError, Socket};

@@ -1,7 +1,7 @@
 //! UDP sockets.
-use crate::common::{queue, zeros};
-use crate::script::Step::{Anew, Offers, Shows, Silent, Udp};
-use crate::script::{Kind, Shown, Step, play};
+use crate::kinds::common::{queue, zeros};
+use crate::kinds::script::Step::{Anew, Offers, Shows, Silent, Udp};
+use crate::kinds::script::{Kind, Shown, Step, play};
 use ip_wire::{IpAddress, IpEndpoint, IpProtocol, IpRepr, Ipv4Address, Ipv6Address, UdpRepr};
 use net_base::PacketMeta;
 use sockets::IpPayload;

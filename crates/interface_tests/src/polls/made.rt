@@ -1,6 +1,6 @@
 //! An interface as it is made: where it finds no memory, and how long it waits for pieces.
-use crate::common::at;
-use crate::wire::capabilities;
+use crate::polls::common::at;
+use crate::polls::wire::capabilities;
 use interface::{Config, Interface, NewError};
 use ip_wire::HardwareAddress;
 use lan_port::Port;

@@ -1,7 +1,7 @@
 //! Hostile bytes: whatever frames come, each is taken, and a poll answers one of its results.
-use crate::common::{Host, Plan, UDP};
-use crate::streams::listening_socket;
-use crate::wire::capabilities;
+use crate::polls::common::{Host, Plan, UDP};
+use crate::polls::streams::listening_socket;
+use crate::polls::wire::capabilities;
 use interface::{PollIngressSingleResult, PollResult};
 use lan_port::Port;
 use net_base::{ChecksumCapabilities, Medium, Rand};

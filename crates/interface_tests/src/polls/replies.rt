@@ -1,5 +1,5 @@
 //! What a host behind a loopback answers: the request comes out of the device, and so does the reply.
-use crate::common::{UDP, at, begin, no_sockets};
+use crate::polls::common::{UDP, at, begin, no_sockets};
 use interface::PollIngressSingleResult;
 use net_base::{Device, Loopback, Medium, RxToken};
 use std::alloc::Global;

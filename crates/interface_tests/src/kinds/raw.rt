@@ -1,7 +1,7 @@
 //! Raw sockets.
-use crate::common::{queue, zeros};
-use crate::script::Step::{Anew, Raw, Shows};
-use crate::script::{Kind, Shown, Step, play};
+use crate::kinds::common::{queue, zeros};
+use crate::kinds::script::Step::{Anew, Raw, Shows};
+use crate::kinds::script::{Kind, Shown, Step, play};
 use ip_wire::{
     IpAddress, IpProtocol, IpRepr, IpVersion, Ipv4Address, Ipv4Repr, Ipv6Address, Ipv6Repr,
 };

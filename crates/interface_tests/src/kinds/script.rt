@@ -1,6 +1,6 @@
 //! Tables of steps, played at a datagram socket.
-use crate::common::make_host;
-use crate::{icmp, raw, udp};
+use crate::kinds::common::make_host;
+use crate::kinds::{icmp, raw, udp};
 use ip_wire::{IpAddress, IpProtocol, IpVersion};
 use sockets::{AnySocket, IpPayload, Offer, Packet, PollAt, Socket};
 use std::alloc::Global;

@@ -1,7 +1,7 @@
 //! Sockets of all kinds as one type.
-use crate::script::Step::{Settle, Shows, Silent, Waits};
-use crate::script::{Kind, Step, made, play_at};
-use crate::udp::{ABC, Call, V4, goes};
+use crate::kinds::script::Step::{Settle, Shows, Silent, Waits};
+use crate::kinds::script::{Kind, Step, made, play_at};
+use crate::kinds::udp::{ABC, Call, V4, goes};
 use sockets::{AnySocket, Socket, icmp, raw, udp};
 use std::alloc::Global;
 use std::test::Fail;

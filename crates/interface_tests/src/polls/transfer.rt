@@ -1,5 +1,5 @@
 //! Two connected TCP sockets over a link that loses, repeats and reorders frames: all bytes arrive, in order.
-use crate::common::{Host, Plan, TCP};
+use crate::polls::common::{Host, Plan, TCP};
 use net_base::Rand;
 use sockets::tcp;
 use sockets::tcp::{RecvError, State};

@@ -1,7 +1,7 @@
 //! Calls that no script makes: how a TCP socket begins, what a raw socket takes, and a datagram that is handed out at once.
-use crate::common::make_host;
-use crate::raw;
-use crate::udp::{V4, made};
+use crate::kinds::common::make_host;
+use crate::kinds::raw;
+use crate::kinds::udp::{V4, made};
 use ip_wire::{IpEndpoint, IpProtocol, IpVersion};
 use net_base::{ManagedSlice, RingBuffer};
 use sockets::udp::UdpMetadata;

@@ -1,8 +1,8 @@
 //! Hosts: what they are made of, and their calls.
 ghost use Rattle.net_base.specs.Time.{IsMoment};
 
-use crate::streams::closed_socket;
-use crate::wire::prepared;
+use crate::polls::streams::closed_socket;
+use crate::polls::wire::prepared;
 use interface::{Config, Interface, PollIngressSingleResult, PollResult, SocketHandle, SocketSet};
 use ip_wire::{EthernetAddress, HardwareAddress, IpAddress, IpCidr, IpListenEndpoint};
 use lan_port::Port;

@@ -1,5 +1,5 @@
 //! Hosts' TCP sockets.
-use crate::common::Host;
+use crate::polls::common::Host;
 use ip_wire::{IpAddress, IpEndpoint};
 use net_base::{ManagedSlice, RingBuffer};
 use sockets::tcp::State;
