@@ -47,7 +47,7 @@ fn questions(alloc: Global, text: &[u8]) -> Result<Vec<Question>> {
     let mut found = Vec::new(alloc);
     for line in text.split(|b| *b == b'\n') {
         if let Ok(line) = str::from_utf8(line) {
-            if let Some(question) = question(alloc, line)? {
+            if let Some(question) = question_of(alloc, line)? {
                 found.insert(0, question)?;
             }
         }
@@ -56,7 +56,7 @@ fn questions(alloc: Global, text: &[u8]) -> Result<Vec<Question>> {
 }
 
 /// The question of a line, if it has one.
-fn question(alloc: Global, line: &str) -> Result<Option<Question>> {
+fn question_of(alloc: Global, line: &str) -> Result<Option<Question>> {
     let Some((word, name)) = line.split_once(' ') else {
         return Ok(None);
     };
