@@ -36,8 +36,8 @@ impl Host {
         ensures after { self.new ≡ record self.old { places = after_at as_icmp Kind.Icmp (act_after act) self.old.places place } }
     {
         match &mut self.sockets.sockets {
-            ManagedSlice::Fixed(places) => control::perform(places.as_mut_slice(), place, act),
             ManagedSlice::Owned(places) => control::perform(places.as_mut_slice(), place, act),
+            ManagedSlice::Fixed(_) => unreachable!(),
         }
     }
 
@@ -47,18 +47,13 @@ impl Host {
         ensures after { self.new ≡ record self.old { places = after_at as_icmp Kind.Icmp (λ v. send_after v remote bytes.now) self.old.places place } }
     {
         match &mut self.sockets.sockets {
-            ManagedSlice::Fixed(places) => control::send(
-                places.as_mut_slice(),
-                place,
-                bytes,
-                remote,
-            ),
             ManagedSlice::Owned(places) => control::send(
                 places.as_mut_slice(),
                 place,
                 bytes,
                 remote,
             ),
+            ManagedSlice::Fixed(_) => unreachable!(),
         }
     }
 
@@ -69,8 +64,8 @@ impl Host {
         ensures read { out.new ≡ written_at as_icmp recv_written out.old self.old.places place }
     {
         match &mut self.sockets.sockets {
-            ManagedSlice::Fixed(places) => control::recv(places.as_mut_slice(), place, out),
             ManagedSlice::Owned(places) => control::recv(places.as_mut_slice(), place, out),
+            ManagedSlice::Fixed(_) => unreachable!(),
         }
     }
 }

@@ -36,8 +36,8 @@ impl Host {
         ensures after { self.new ≡ record self.old { places = after_at as_udp Kind.Udp (act_after act) self.old.places place } }
     {
         match &mut self.sockets.sockets {
-            ManagedSlice::Fixed(places) => datagrams::perform(places.as_mut_slice(), place, act),
             ManagedSlice::Owned(places) => datagrams::perform(places.as_mut_slice(), place, act),
+            ManagedSlice::Fixed(_) => unreachable!(),
         }
     }
 
@@ -52,18 +52,13 @@ impl Host {
         ensures after { self.new ≡ record self.old { places = after_at as_udp Kind.Udp (λ v. send_after v metadata bytes.now) self.old.places place } }
     {
         match &mut self.sockets.sockets {
-            ManagedSlice::Fixed(places) => datagrams::send(
-                places.as_mut_slice(),
-                place,
-                bytes,
-                metadata,
-            ),
             ManagedSlice::Owned(places) => datagrams::send(
                 places.as_mut_slice(),
                 place,
                 bytes,
                 metadata,
             ),
+            ManagedSlice::Fixed(_) => unreachable!(),
         }
     }
 
@@ -74,8 +69,8 @@ impl Host {
         ensures read { out.new ≡ written_at as_udp recv_written out.old self.old.places place }
     {
         match &mut self.sockets.sockets {
-            ManagedSlice::Fixed(places) => datagrams::recv(places.as_mut_slice(), place, out),
             ManagedSlice::Owned(places) => datagrams::recv(places.as_mut_slice(), place, out),
+            ManagedSlice::Fixed(_) => unreachable!(),
         }
     }
 }

@@ -40,8 +40,8 @@ impl Host {
         ensures after { self.new ≡ record self.old { places = after_at as_raw Kind.Raw (λ v. send_after v bytes.now) self.old.places place } }
     {
         match &mut self.sockets.sockets {
-            ManagedSlice::Fixed(places) => packets::send(places.as_mut_slice(), place, bytes),
             ManagedSlice::Owned(places) => packets::send(places.as_mut_slice(), place, bytes),
+            ManagedSlice::Fixed(_) => unreachable!(),
         }
     }
 
@@ -52,8 +52,8 @@ impl Host {
         ensures read { out.new ≡ written_at as_raw recv_written out.old self.old.places place }
     {
         match &mut self.sockets.sockets {
-            ManagedSlice::Fixed(places) => packets::recv(places.as_mut_slice(), place, out),
             ManagedSlice::Owned(places) => packets::recv(places.as_mut_slice(), place, out),
+            ManagedSlice::Fixed(_) => unreachable!(),
         }
     }
 }

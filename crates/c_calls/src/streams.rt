@@ -76,8 +76,8 @@ impl Host {
         ensures after { self.new ≡ record self.old { places = after_at as_tcp Kind.Tcp (act_after act) self.old.places place } }
     {
         match &mut self.sockets.sockets {
-            ManagedSlice::Fixed(places) => streams::perform(places.as_mut_slice(), place, act),
             ManagedSlice::Owned(places) => streams::perform(places.as_mut_slice(), place, act),
+            ManagedSlice::Fixed(_) => unreachable!(),
         }
     }
 
@@ -105,8 +105,8 @@ impl Host {
         ensures after { self.new ≡ record self.old { places = after_at as_tcp Kind.Tcp (λ v. send_after v bytes.now) self.old.places place } }
     {
         match &mut self.sockets.sockets {
-            ManagedSlice::Fixed(places) => streams::send(places.as_mut_slice(), place, bytes),
             ManagedSlice::Owned(places) => streams::send(places.as_mut_slice(), place, bytes),
+            ManagedSlice::Fixed(_) => unreachable!(),
         }
     }
 
@@ -117,8 +117,8 @@ impl Host {
         ensures read { out.new ≡ written_at as_tcp read_written out.old self.old.places place }
     {
         match &mut self.sockets.sockets {
-            ManagedSlice::Fixed(places) => streams::recv(places.as_mut_slice(), place, out),
             ManagedSlice::Owned(places) => streams::recv(places.as_mut_slice(), place, out),
+            ManagedSlice::Fixed(_) => unreachable!(),
         }
     }
 
@@ -128,8 +128,8 @@ impl Host {
         ensures after { self.new ≡ record self.old { places = after_at as_tcp Kind.Tcp (done_after count) self.old.places place } }
     {
         match &mut self.sockets.sockets {
-            ManagedSlice::Fixed(places) => streams::done(places.as_mut_slice(), place, count),
             ManagedSlice::Owned(places) => streams::done(places.as_mut_slice(), place, count),
+            ManagedSlice::Fixed(_) => unreachable!(),
         }
     }
 
