@@ -21,3 +21,4 @@ pub mod HostCounts
 pub mod Idents
 pub mod Trace
 pub mod OneEnd
+pub mod ByKind

@@ -17,6 +17,7 @@ pub mod Priced
 pub mod Idents
 pub mod Touches
 pub mod Steady
+pub mod ByKind
 pub use Rattle.interface_egress.specs.Set
 pub use Rattle.interface_tables.specs.Settings
 pub use Rattle.interface_egress.specs.Departing

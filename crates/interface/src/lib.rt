@@ -5,6 +5,7 @@
 
 mod arrival;
 mod awaited;
+mod by_kind;
 mod host;
 mod instant;
 mod passes;
@@ -13,6 +14,7 @@ pub mod poll_laws;
 mod step;
 mod turn;
 
+pub use by_kind::SocketsByKind;
 pub use host::Interface;
 pub use instant::{earlier, place_instant, poll_instant};
 pub use interface_egress::{

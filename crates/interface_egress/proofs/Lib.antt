@@ -11,3 +11,4 @@ pub mod EmitsAt
 pub mod PieceOut
 pub mod OneWay
 pub mod Leaving
+pub mod Lent

@@ -3,7 +3,9 @@ ghost use Rattle.net_base.specs.Time.{IsMoment};
 
 use crate::streams::closed_socket;
 use crate::wire::prepared;
-use interface::{Config, Interface, PollIngressSingleResult, PollResult, SocketHandle, SocketSet};
+use interface::{
+    Config, Interface, PollIngressSingleResult, PollResult, SocketHandle, SocketSet, SocketsByKind,
+};
 use ip_wire::{EthernetAddress, HardwareAddress, IpAddress, IpCidr, IpListenEndpoint};
 use lan_port::Port;
 use net_base::{Device, Instant, ManagedSlice, Medium, PacketBuffer, PacketMetadata};
@@ -214,10 +216,7 @@ impl Host {
     }
 
     fn udp(&mut self) -> Option<&mut udp::Socket> {
-        match self.sockets.get_mut(self.handle?) {
-            Some(Socket::Udp(socket)) => Some(socket),
-            _ => None,
-        }
+        self.sockets.get_mut_as(self.handle?)
     }
 
     /// Reads the next datagram, if one waits, and says how many bytes it has.

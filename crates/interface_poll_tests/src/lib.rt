@@ -3,6 +3,8 @@
 #![tactic(auto)]
 
 #[cfg(test)]
+mod by_kind;
+#[cfg(test)]
 mod common;
 #[cfg(test)]
 mod hostile;

@@ -1,5 +1,6 @@
 //! Hosts' TCP sockets.
 use crate::common::Host;
+use interface::SocketsByKind;
 use ip_wire::{IpAddress, IpEndpoint};
 use net_base::{ManagedSlice, RingBuffer};
 use sockets::tcp::State;
@@ -38,10 +39,7 @@ fn listens(socket: &mut tcp::Socket) -> bool {
 impl Host {
     /// Its TCP socket.
     pub fn tcp(&mut self) -> Option<&mut tcp::Socket> {
-        match self.sockets.get_mut(self.handle?) {
-            Some(Socket::Tcp(socket)) => Some(socket),
-            _ => None,
-        }
+        self.sockets.get_mut_as(self.handle?)
     }
 
     /// Connects from port 49500 to port 80 of 192.168.1.2.

@@ -20,4 +20,5 @@ pub mod Protocols
 pub mod Ports
 pub mod Fits
 pub mod Wide
+pub mod Named
 pub mod Makers

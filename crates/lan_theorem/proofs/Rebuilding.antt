@@ -48,6 +48,7 @@ use Rattle.lan_theorem.specs.Said.{Fact, IsOf, Carries, IsSaid, AreFramesOf, by_
 use Rattle.lan_theorem.specs.Hosts.Damage.{DamageIsHarmless}
 use Rattle.lan_theorem.proofs.Beginnings.{firsts}
 use Rattle.lan_theorem.proofs.Damages.{damage_along}
+use Rattle.lan_theorem.proofs.Moves.Named.{told, not_icmp, not_icmpv6}
 use Rattle.lan_theorem.proofs.Runs.{has_come}
 use Rattle.lan_theorem.proofs.SaidRuns.{all_both, said, medium, host_on, port_on, has_said}
 
@@ -59,17 +60,9 @@ either_is : (a b : IpProtocol) → a ≡ b → (b ≡ Protocol.Tcp) ⊎ (b ≡ P
 either_is a b same (inl tcp) = inl (same ∙ tcp)
 either_is a b same (inr udp) = inr (same ∙ udp)
 
-not_icmp : (a : IpProtocol) → a ≡ Protocol.Icmp → (a ≡ Protocol.Tcp) ⊎ (a ≡ Protocol.Udp) → ⊥
-not_icmp a is (inl tcp) = let clash = sym is ∙ tcp in cc
-not_icmp a is (inr udp) = let clash = sym is ∙ udp in cc
-
-not_icmpv6 : (a : IpProtocol) → a ≡ Protocol.Icmpv6 → (a ≡ Protocol.Tcp) ⊎ (a ≡ Protocol.Udp) → ⊥
-not_icmpv6 a is (inl tcp) = let clash = sym is ∙ tcp in cc
-not_icmpv6 a is (inr udp) = let clash = sym is ∙ udp in cc
-
 -- a control message isn't named so, and bytes alone aren't named
 has_made : (q : Party) (header : IpRepr) (x : PayloadValue) → CanBeRead header x →
-    (carried_in header ≡ Protocol.Tcp) ⊎ (carried_in header ≡ Protocol.Udp) → MadeBy q (normal_payload x) → HasMade q (normal_payload x)
+    (told (carried_in header) ≡ Protocol.Tcp) ⊎ (told (carried_in header) ≡ Protocol.Udp) → MadeBy q (normal_payload x) → HasMade q (normal_payload x)
 has_made q header (ControlV4 message bytes) named ports made = absurd (not_icmp (carried_in header) named.0 ports)
 has_made q header (ControlV6 message bytes) named ports made = absurd (not_icmpv6 (carried_in header) named.0 ports)
 has_made q header (Bytes bytes) named ports made = absurd named
@@ -82,10 +75,10 @@ module _ (q : Party) (first next : ℕ) (out : List PacketValue) (sent : AreSent
       carried_in (upper_header (Ips.normal o.sent.packet.header) (bytes_of o.sent.packet)) ≡ h.next_header
   protocol_is h payload o = ap (λ (x : IpRepr). carried_in (upper_header (Ips.normal x) (bytes_of o.sent.packet))) o.sent.header ∙ sym (ap (λ (k : Ipv4FragKey). k.protocol) o.key_is)
 
-  named_is : (h : Ipv4Repr) (payload : List ℕ) (o : IsPayloadOf out h payload) → carried_in o.sent.packet.header ≡ h.next_header
+  named_is : (h : Ipv4Repr) (payload : List ℕ) (o : IsPayloadOf out h payload) → told (carried_in o.sent.packet.header) ≡ h.next_header
   named_is h payload o =
-      let same : h.next_header ≡ o.sent_header.next_header = ap (λ (k : Ipv4FragKey). k.protocol) o.key_is in
-      ap carried_in o.sent.header ∙ sym same
+      let same : h.next_header ≡ told o.sent_header.next_header = ap (λ (k : Ipv4FragKey). k.protocol) o.key_is in
+      ap (λ (x : IpRepr). told (carried_in x)) o.sent.header ∙ sym same
 
   made_of_one : (h : Ipv4Repr) (payload : List ℕ) (o : IsPayloadOf out h payload) → NamesPorts h →
       CanBeRead o.sent.packet.header o.sent.packet.payload × HasMade q (normal_payload o.sent.packet.payload)
@@ -94,7 +87,7 @@ module _ (q : Party) (first next : ℕ) (out : List PacketValue) (sent : AreSent
         (either_is (carried_in (upper_header (Ips.normal o.sent.packet.header) (bytes_of o.sent.packet))) h.next_header (protocol_is h payload o) ports))
     | inr reads ↦ (
       reads.0,
-      has_made q o.sent.packet.header o.sent.packet.payload reads.0 (either_is (carried_in o.sent.packet.header) h.next_header (named_is h payload o) ports) reads.1,
+      has_made q o.sent.packet.header o.sent.packet.payload reads.0 (either_is (told (carried_in o.sent.packet.header)) h.next_header (named_is h payload o) ports) reads.1,
     )
   ]
 

@@ -35,6 +35,7 @@ use Rattle.lan_theorem.specs.Link.Made.{sealed}
 use Rattle.lan_theorem.specs.Moves.Follows.{seen_place, sockets_of}
 use Rattle.lan_theorem.specs.Moves.Joined.{first_net}
 use Rattle.lan_theorem.specs.Moves.Raws.{OfItem, OfEach, HasNoUdp}
+use Rattle.lan_theorem.proofs.Moves.Named.{told, not_udp, not_tcp}
 use Rattle.lan_theorem.specs.Rebuilt.{HasMade, IsOfMade, Rebuilds, RebuiltWasMade}
 
 abbrev IsNoUdp : Option Socket → Type 0
@@ -144,33 +145,30 @@ long q ip (ControlV4 message bytes) made = absurd made
 long q ip (ControlV6 message bytes) made = absurd made
 long q ip (Bytes bytes) made = absurd made
 
-no_udp : (a : IpProtocol) → a ≡ Protocol.Udp → a ≡ Protocol.Tcp → ⊥
-no_udp a udp tcp = let clash = sym udp ∙ tcp in cc
-
-long_segment : (q : Party) (ip : IpRepr) (x : PayloadValue) → CanBeRead ip x → carried_in ip ≡ Protocol.Tcp → HasMade q (normal_payload x) →
+long_segment : (q : Party) (ip : IpRepr) (x : PayloadValue) → CanBeRead ip x → told (carried_in ip) ≡ Protocol.Tcp → HasMade q (normal_payload x) →
     20 ≤ length (payload_written sealed ip x)
-long_segment q ip (Datagram udp bytes) named tcp made = absurd (no_udp (carried_in ip) named.0 tcp)
+long_segment q ip (Datagram udp bytes) named tcp made = absurd (not_udp (carried_in ip) named.0 tcp)
 long_segment q ip (Segment header bytes) named tcp made = omega arith
 long_segment q ip (ControlV4 message bytes) named tcp made = absurd made
 long_segment q ip (ControlV6 message bytes) named tcp made = absurd made
 long_segment q ip (Bytes bytes) named tcp made = absurd made
 
-made_by_socket : (q : Party) (ip : IpRepr) (x : PayloadValue) → CanBeRead ip x → carried_in ip ≡ Protocol.Udp → HasMade q (normal_payload x) →
+made_by_socket : (q : Party) (ip : IpRepr) (x : PayloadValue) → CanBeRead ip x → told (carried_in ip) ≡ Protocol.Udp → HasMade q (normal_payload x) →
     q.datagrams ≡ [] → ⊥
 made_by_socket q ip (Datagram udp bytes) named is made none =
     let there = ap (λ (xs : List Parties.Datagram). slice_get xs made.0) (sym none) ∙ made.1 in
     cc
-made_by_socket q ip (Segment header bytes) named is made none = absurd (no_udp (carried_in ip) is named.0)
+made_by_socket q ip (Segment header bytes) named is made none = absurd (not_tcp (carried_in ip) named.0 is)
 made_by_socket q ip (ControlV4 message bytes) named is made none = absurd made
 made_by_socket q ip (ControlV6 message bytes) named is made none = absurd made
 made_by_socket q ip (Bytes bytes) named is made none = absurd made
 
 module _ (q : Party) (h : Ipv4Repr) (payload : List ℕ) (o : IsOfMade q h payload) where
   -- the packet's header names what is carried
-  named_so : carried_in o.packet.header ≡ h.next_header
+  named_so : told (carried_in o.packet.header) ≡ h.next_header
   named_so =
-      let same : h.next_header ≡ o.header.next_header = ap (λ (k : Ipv4FragKey). k.protocol) o.key_is in
-      ap carried_in o.header_is ∙ sym same
+      let same : h.next_header ≡ told o.header.next_header = ap (λ (k : Ipv4FragKey). k.protocol) o.key_is in
+      ap (λ (x : IpRepr). told (carried_in x)) o.header_is ∙ sym same
 
   pub made_long : 8 ≤ length payload
   made_long = subst (λ (xs : List ℕ). 8 ≤ length xs) (sym o.bytes_are) (long q o.packet.header o.packet.payload o.made)
