@@ -101,16 +101,21 @@ static int take(zv_host *host, int device, int most)
     return taken;
 }
 
-/* The host does what is to be done, and the frames that are to go go to the device. Says whether a socket may have changed. */
-static int turn(zv_host *host, int device, int64_t moment, uint16_t budget)
+/* The host does what is to be done. Says whether a socket may have changed. */
+static int polled(zv_host *host, int64_t moment, uint16_t budget)
 {
     uint8_t changed;
-    size_t count;
     must(zv_poll(host, moment, budget, &changed), "poll");
+    return changed;
+}
+
+/* The frames that are to go go to the device. */
+static void send_frames(zv_host *host, int device)
+{
+    size_t count;
     while (zv_frame_out(host, frame, sizeof frame, &count) == ZV_OK)
         if (write(device, frame, count) < 0 && errno != EAGAIN && errno != EIO)
             perror("tun: write");
-    return changed;
 }
 
 /* Says whether there was one. */
@@ -210,6 +215,57 @@ static size_t listen_for_pages(zv_host *host)
     return listener;
 }
 
+/* What is served. */
+struct sockets {
+    size_t datagrams, streams[STREAMS], listener, accepted[PAGES];
+};
+
+static struct sockets opened(zv_host *host)
+{
+    const zv_address any = zv_any();
+    struct sockets it;
+    must(zv_udp_new(host, 64, 65536, &it.datagrams), "UDP socket");
+    must(zv_udp_bind(host, it.datagrams, &any, 7), "UDP port");
+    for (int i = 0; i < STREAMS; i++) {
+        must(zv_tcp_new(host, 262144, 262144, &it.streams[i]), "TCP socket");
+        must(zv_tcp_set_nagle(host, it.streams[i], 0), "Nagle");
+        must(zv_tcp_listen(host, it.streams[i], &any, 7), "listen");
+    }
+    it.listener = listen_for_pages(host);
+    for (int i = 0; i < PAGES; i++)
+        it.accepted[i] = NONE;
+    return it;
+}
+
+/* Says whether anything was done. */
+static int serve(zv_host *host, struct sockets *it)
+{
+    int any = echo_datagrams(host, it->datagrams);
+    for (int i = 0; i < STREAMS; i++)
+        any |= echo_stream(host, it->streams[i]);
+    return any | serve_pages(host, it->listener, it->accepted);
+}
+
+/* Behind a wait one frame is taken alone and answered, so that the answer goes at once; then as many as there are. */
+static void run(zv_host *host, int device, struct sockets *it)
+{
+    int64_t at = 0;
+    int most = BUDGET;
+    while (!is_over) {
+        const int64_t moment = now();
+        if (take(host, device, most) == 0 && moment < at) {
+            wait_for(device, at - moment);
+            most = 1;
+            continue;
+        }
+        if (polled(host, moment, (uint16_t)most) && serve(host, it))
+            polled(host, moment, (uint16_t)most);
+        send_frames(host, device);
+        must(zv_poll_at(host, moment, &at), "poll_at");
+        most = BUDGET;
+    }
+}
+
 int main(int count, char **words)
 {
     zv_host host = {0};
@@ -241,44 +297,12 @@ int main(int count, char **words)
         const zv_address all = {router.family, {0}};
         must(zv_route_add(&host, &all, 0, &router), "route");
     }
-    size_t datagrams, streams[STREAMS], accepted[PAGES];
-    const zv_address any = zv_any();
-    must(zv_udp_new(&host, 64, 65536, &datagrams), "UDP socket");
-    must(zv_udp_bind(&host, datagrams, &any, 7), "UDP port");
-    for (int i = 0; i < STREAMS; i++) {
-        must(zv_tcp_new(&host, 262144, 262144, &streams[i]), "TCP socket");
-        must(zv_tcp_set_nagle(&host, streams[i], 0), "Nagle");
-    }
-    const size_t listener = listen_for_pages(&host);
-    for (int i = 0; i < PAGES; i++)
-        accepted[i] = NONE;
-    for (int i = 0; i < STREAMS; i++)
-        must(zv_tcp_listen(&host, streams[i], &any, 7), "listen");
-
+    struct sockets sockets = opened(&host);
     signal(SIGTERM, end);
     signal(SIGINT, end);
     fprintf(stderr, "tun: ready\n");
-    /* Behind a wait one frame is taken alone and answered, so that the answer goes at once; then as many as there are. */
-    int64_t at = 0;
-    int most = BUDGET;
-    while (!is_over) {
-        const int64_t moment = now();
-        if (take(&host, device, most) == 0 && moment < at) {
-            wait_for(device, at - moment);
-            most = 1;
-            continue;
-        }
-        while (turn(&host, device, moment, (uint16_t)most)) {
-            int any = echo_datagrams(&host, datagrams);
-            for (int i = 0; i < STREAMS; i++)
-                any |= echo_stream(&host, streams[i]);
-            any |= serve_pages(&host, listener, accepted);
-            if (!any)
-                break;
-        }
-        must(zv_poll_at(&host, moment, &at), "poll_at");
-        most = BUDGET;
-    }
+    run(&host, device, &sockets);
+
     zv_counts counts;
     must(zv_counters(&host, &counts), "counters");
     fprintf(stderr, "tun: %llu frames came, %llu were dropped, %llu went\n", (unsigned long long)counts.frames_in,

@@ -84,15 +84,20 @@ static int take(zv_host *host, int device, int may_wait)
     return taken;
 }
 
-static int turn(zv_host *host, int device, int64_t moment, uint16_t budget)
+/* Says whether a socket may have changed. */
+static int polled(zv_host *host, int64_t moment, uint16_t budget)
 {
     uint8_t changed;
-    size_t count;
     must(zv_poll(host, moment, budget, &changed), "poll");
+    return changed;
+}
+
+static void send_frames(zv_host *host, int device)
+{
+    size_t count;
     while (zv_frame_out(host, frame, sizeof frame, &count) == ZV_OK)
         if (write(device, frame, count) < 0)
             perror("zv_echo: write");
-    return changed;
 }
 
 static int echo_datagrams(zv_host *host, size_t socket)
@@ -140,22 +145,52 @@ static int echo_stream(zv_host *host, size_t socket)
     }
 }
 
+/* Says whether anything was done. */
+static int echo(zv_host *host, size_t datagrams, const size_t *streams)
+{
+    int any = echo_datagrams(host, datagrams);
+    for (int i = 0; i < STREAMS; i++)
+        any |= echo_stream(host, streams[i]);
+    return any;
+}
+
+static void serve(zv_host *host, int device, size_t datagrams, const size_t *streams)
+{
+    int64_t at = 0;
+    int is_idle = 0;
+    for (;;) {
+        const int may_wait = is_idle;
+        const int taken = take(host, device, may_wait);
+        const int64_t moment = now();
+        is_idle = taken == 0 && moment < at;
+        if (is_idle) {
+            call_at(at, moment);
+            continue;
+        }
+        const uint16_t budget = may_wait ? 1 : BUDGET;
+        if (polled(host, moment, budget) && echo(host, datagrams, streams))
+            polled(host, moment, budget);
+        send_frames(host, device);
+        must(zv_poll_at(host, moment, &at), "poll_at");
+        is_idle = may_wait && moment < at;
+        if (is_idle)
+            call_at(at, moment);
+    }
+}
+
 int main(int count, char **words)
 {
     zv_host host = {0};
-    zv_settings settings = {.medium = ZV_ETHERNET, .hardware = {2, 0, 0, 0, 0, 1}, .mtu = 1514, .frames = 256};
+    zv_settings settings = {.medium = ZV_ETHERNET, .hardware = {2, 0, 0, 0, 0, 1}, .mtu = 1514, .seed = (uint64_t)now(), .frames = 256};
     zv_address own = {4, {0}};
     const zv_address any = zv_any();
-    size_t datagrams, streams[STREAMS];
     const struct sigaction on_call = {.sa_handler = called};
-    int64_t at = 0;
-    int is_idle = 0;
+    size_t datagrams, streams[STREAMS];
     if (count < 3 || inet_pton(AF_INET, words[2], own.bytes) != 1) {
         fprintf(stderr, "usage: zv_echo NAME ADDRESS\n");
         return 2;
     }
     const int device = open_device(words[1]);
-    settings.seed = (uint64_t)now();
     must(zv_host_new(&host, &settings, now()), "host");
     must(zv_address_add(&host, &own, 24), "address");
     must(zv_udp_new(&host, 64, 65536, &datagrams), "UDP socket");
@@ -165,27 +200,8 @@ int main(int count, char **words)
         must(zv_tcp_set_nagle(&host, streams[i], 0), "Nagle");
         must(zv_tcp_listen(&host, streams[i], &any, 7), "listen");
     }
-    fprintf(stderr, "zv_echo: ready\n");
     sigaction(SIGALRM, &on_call, NULL);
-    for (;;) {
-        const int may_wait = is_idle;
-        int taken = take(&host, device, may_wait);
-        const int64_t moment = now();
-        is_idle = taken == 0 && moment < at;
-        if (is_idle) {
-            call_at(at, moment);
-            continue;
-        }
-        while (turn(&host, device, moment, may_wait ? 1 : BUDGET)) {
-            int is_any = echo_datagrams(&host, datagrams);
-            for (int i = 0; i < STREAMS; i++)
-                is_any |= echo_stream(&host, streams[i]);
-            if (!is_any)
-                break;
-        }
-        must(zv_poll_at(&host, moment, &at), "poll_at");
-        is_idle = may_wait && moment < at;
-        if (is_idle)
-            call_at(at, moment);
-    }
+    fprintf(stderr, "zv_echo: ready\n");
+    serve(&host, device, datagrams, streams);
+    return 0;
 }

@@ -1,16 +1,9 @@
-//! Tests of the interface's parts, by public calls: generic tables and sets, slots of pieces, the mark of one that waits. What scripts can
-//! say of one host is data of the program `one_host`.
+//! Tests of sockets, of the interface's parts, and of an interface that polls its sockets, by public calls.
 #![tactic(auto)]
 
 #[cfg(test)]
-mod fragmentation;
+mod kinds;
 #[cfg(test)]
-mod inner;
+mod parts;
 #[cfg(test)]
-mod neighbor;
-#[cfg(test)]
-mod routes;
-#[cfg(test)]
-mod socket_meta;
-#[cfg(test)]
-mod socket_set;
+mod polls;

@@ -1,0 +1,47 @@
+//! Headers of either family as values.
+use crate::formats::ipv6;
+use crate::formats::samples::{HEADER, LEFT, RIGHT, SAID, behind, checksums, first, is_same};
+use ip_wire::{IPV6_LINK_LOCAL_ALL_NODES, IpAddress, IpProtocol, IpRepr, IpVersion};
+
+/// Version, addresses, protocol, hops and the header's length.
+type Parts = (IpVersion, IpAddress, IpAddress, IpProtocol, u8, usize);
+
+fn parts(header: &IpRepr) -> Parts {
+    (
+        header.version(),
+        header.src_addr(),
+        header.dst_addr(),
+        header.next_header(),
+        header.hop_limit(),
+        header.header_len(),
+    )
+}
+
+#[test]
+fn ipv4_header_has_parts(rt: HostRuntime) {
+    let mut header = IpRepr::new(LEFT, RIGHT, IpProtocol::Udp, 12, 64);
+    assert!(rt; header.buffer_len() == 32);
+    let wanted = (IpVersion::Ipv4, LEFT, RIGHT, IpProtocol::Udp, 64, 20);
+    assert!(rt; parts(&header) == wanted);
+    header.set_payload_len(95);
+    assert!(rt; header.payload_len() == 95);
+}
+
+#[test]
+fn ipv4_header_is_written(rt: HostRuntime) {
+    let mut bytes = [0xa5; 24];
+    IpRepr::from(SAID).emit(&mut bytes, &checksums(true));
+    assert!(rt; is_same(first(&bytes, 20), &HEADER));
+    assert!(rt; is_same(behind(&bytes, 20), &[0xa5; 4]));
+}
+
+#[test]
+fn ipv6_header_has_parts(rt: HostRuntime) {
+    let (source, destination) = (
+        IpAddress::Ipv6(ipv6::LOCAL),
+        IpAddress::Ipv6(IPV6_LINK_LOCAL_ALL_NODES),
+    );
+    let udp = IpProtocol::Udp;
+    let wanted = (IpVersion::Ipv6, source, destination, udp, 64, 40);
+    assert!(rt; parts(&IpRepr::new(source, destination, udp, 4, 64)) == wanted);
+}

@@ -1,0 +1,238 @@
+//! IPv4 packets, where they are written. `decode` reads and writes them as data.
+ghost use Rattle.std.specs.Prelude.{◌≡◌, ◌+◌, ◌<◌, ◌^◌, ◌++◌, length, take, true};
+ghost use Rattle.ip_wire.specs.IpAddress.TheVariants as Address;
+ghost use Rattle.ip_wire.specs.Ipv4 as Ipv4;
+ghost use Rattle.ip_wire.specs.Udp as Udp;
+
+use crate::formats::samples::{DATAGRAM, WITH_OPTION, behind, first, is_same, starts_with};
+use ip_wire::{
+    IpAddress, IpProtocol, Ipv4Address, Ipv4FragKey, Ipv4Packet, Ipv4PacketMut, Ipv4Repr,
+    UdpPacketMut, UdpRepr,
+};
+use net_base::{Checksum, ChecksumCapabilities};
+
+/// Numbers in the order of a header: version, header length, class, congestion, total length, identification, offset, hops.
+type Numbers = (u8, u8, u8, u8, u16, u16, u16, u8);
+
+const NUMBERS: Numbers = (4, 24, 48, 0, 32, 0x1234, 0x105 * 8, 1);
+
+/// Whether a packet may not be cut, whether more follows, its protocol and addresses.
+type Named = (bool, bool, IpProtocol, Ipv4Address, Ipv4Address);
+
+const NAMED: Named = (
+    false,
+    true,
+    IpProtocol::Igmp,
+    Ipv4Address([10, 0, 0, 1]),
+    Ipv4Address([224, 0, 0, 22]),
+);
+
+const EIGHT: [u8; 8] = [1, 2, 3, 4, 5, 6, 7, 8];
+
+/// A field to be set.
+#[derive(Drop)]
+enum Field {
+    NoFlags,
+    Version(u8),
+    HeaderLen(u8),
+    Dscp(u8),
+    Ecn(u8),
+    TotalLen(u16),
+    Ident(u16),
+    DontFrag(bool),
+    MoreFrags(bool),
+    FragOffset(u16),
+    HopLimit(u8),
+    NextHeader(IpProtocol),
+    Checksum(u16),
+    SrcAddr(Ipv4Address),
+    DstAddr(Ipv4Address),
+}
+
+/// Sets a field, if there is a header.
+fn set(bytes: &mut [u8], field: &Field) {
+    if bytes.len() < 20 {
+        return;
+    }
+    let mut packet = Ipv4PacketMut::new_unchecked(bytes);
+    match field {
+        Field::NoFlags => packet.clear_flags(),
+        Field::Version(value) => packet.set_version(*value),
+        Field::HeaderLen(value) => packet.set_header_len(*value),
+        Field::Dscp(value) => packet.set_dscp(*value),
+        Field::Ecn(value) => packet.set_ecn(*value),
+        Field::TotalLen(value) => packet.set_total_len(*value),
+        Field::Ident(value) => packet.set_ident(*value),
+        Field::DontFrag(value) => packet.set_dont_frag(*value),
+        Field::MoreFrags(value) => packet.set_more_frags(*value),
+        Field::FragOffset(value) => packet.set_frag_offset(*value),
+        Field::HopLimit(value) => packet.set_hop_limit(*value),
+        Field::NextHeader(value) => packet.set_next_header(*value),
+        Field::Checksum(value) => packet.set_checksum(*value),
+        Field::SrcAddr(value) => packet.set_src_addr(*value),
+        Field::DstAddr(value) => packet.set_dst_addr(*value),
+    }
+}
+
+#[test]
+fn ipv4_is_set(rt: HostRuntime) {
+    let mut bytes = [0xff; 32];
+    for field in &[
+        Field::NoFlags,
+        Field::Version(4),
+        Field::HeaderLen(24),
+        Field::Dscp(48),
+        Field::Ecn(1),
+        Field::TotalLen(32),
+        Field::Ident(0x1234),
+        Field::DontFrag(true),
+        Field::MoreFrags(true),
+        Field::FragOffset(0x828),
+        Field::HopLimit(1),
+        Field::NextHeader(IpProtocol::Igmp),
+        Field::Checksum(0x0102),
+        Field::SrcAddr(Ipv4Address([10, 0, 0, 1])),
+        Field::DstAddr(Ipv4Address([224, 0, 0, 22])),
+    ] {
+        set(&mut bytes, field);
+    }
+    let front = [
+        0x46, 0xc1, 0x00, 0x20, 0x12, 0x34, 0x61, 0x05, 0x01, 0x02, 0x01, 0x02, 0x0a, 0x00, 0x00,
+        0x01, 0xe0, 0x00, 0x00, 0x16,
+    ];
+    assert!(rt; starts_with(&bytes, &front));
+}
+
+fn numbers_in_place(bytes: &mut [u8]) -> Option<Numbers> {
+    let packet = Ipv4PacketMut::new_checked(bytes).ok()?;
+    Some((
+        packet.version(),
+        packet.header_len(),
+        packet.dscp(),
+        packet.ecn(),
+        packet.total_len(),
+        packet.ident(),
+        packet.frag_offset(),
+        packet.hop_limit(),
+    ))
+}
+
+fn named_in_place(bytes: &mut [u8]) -> Option<Named> {
+    let packet = Ipv4PacketMut::new_checked(bytes).ok()?;
+    Some((
+        packet.dont_frag(),
+        packet.more_frags(),
+        packet.next_header(),
+        packet.src_addr(),
+        packet.dst_addr(),
+    ))
+}
+
+/// Whether it is whole and carries these bytes, its checksum, the protocol of its pieces, and how long the view is.
+fn carried_in_place(bytes: &mut [u8], payload: &[u8]) -> Option<(bool, u16, IpProtocol, usize)> {
+    let packet = Ipv4PacketMut::new_checked(bytes).ok()?;
+    let is_whole = packet.check_len().is_ok() && packet.payload() == payload;
+    let (checksum, protocol) = (packet.checksum(), packet.get_key().protocol);
+    Some((is_whole, checksum, protocol, packet.into_inner().len()))
+}
+
+#[test]
+fn ipv4_is_read_where_it_is_written(rt: HostRuntime) {
+    let mut bytes = WITH_OPTION;
+    assert!(rt; numbers_in_place(&mut bytes) == Some(NUMBERS));
+    assert!(rt; named_in_place(&mut bytes) == Some(NAMED));
+    let whole = Some((true, 0, IpProtocol::Igmp, 34));
+    assert!(rt; carried_in_place(&mut bytes, &EIGHT) == whole);
+}
+
+/// Fills the payload, and says whether there is a packet.
+fn is_filled(bytes: &mut [u8], byte: u8) -> bool {
+    match Ipv4PacketMut::new_checked(bytes) {
+        Ok(mut packet) => {
+            packet.payload_mut().fill(byte);
+            true
+        }
+        Err(_) => false,
+    }
+}
+
+#[test]
+fn ipv4_payload_alone_is_lent(rt: HostRuntime) {
+    let mut bytes = WITH_OPTION;
+    assert!(rt; is_filled(&mut bytes, 7));
+    assert!(rt; starts_with(&bytes, first(&WITH_OPTION, 24)));
+    assert!(rt; is_same(behind(&bytes, 24), &[7, 7, 7, 7, 7, 7, 7, 7, 0, 0]));
+}
+
+/// Writes a datagram behind an Ethernet header, each part in its place.
+fn emit_datagram(frame: &mut [u8], ip: &Ipv4Repr, udp: &UdpRepr, payload: &[u8])
+    requires room { length frame.old ≡ 42 + length payload.now }
+    requires fits { 28 + length payload.now < 2 ^ 16 }
+    requires carried { ip.now.payload_len ≡ 8 + length payload.now }
+    ensures { frame.new
+        ≡ take 14 frame.old ++ (Ipv4.written true ip.now ++
+        Udp.written (Address.Ipv4 ip.now.src_addr) (Address.Ipv4 ip.now.dst_addr) true udp.now payload.now) }
+{
+    let checksum_caps = ChecksumCapabilities {
+        ipv4: Checksum::Both,
+        udp: Checksum::Both,
+        tcp: Checksum::Both,
+        icmpv4: Checksum::Both,
+        icmpv6: Checksum::Both,
+    };
+    let (_link, rest) = frame.split_at_mut(14);
+    let (header, inner) = rest.split_at_mut(20);
+    let mut packet = Ipv4PacketMut::new_unchecked(header);
+    ip.emit(&mut packet, &checksum_caps);
+    let mut datagram = UdpPacketMut::new_unchecked(inner);
+    udp.emit(
+        &mut datagram,
+        &IpAddress::Ipv4(ip.src_addr),
+        &IpAddress::Ipv4(ip.dst_addr),
+        payload,
+        &checksum_caps,
+    );
+}
+
+#[test]
+fn frame_is_written_in_place(rt: HostRuntime) {
+    let mut frame = [0xa5; 46];
+    let ip = Ipv4Repr {
+        src_addr: Ipv4Address([192, 168, 1, 1]),
+        dst_addr: Ipv4Address([192, 168, 1, 2]),
+        next_header: IpProtocol::Udp,
+        payload_len: 12,
+        hop_limit: 64,
+        ident: 0xc24d,
+        dont_frag: false,
+    };
+    let udp = UdpRepr {
+        src_port: 48896,
+        dst_port: 53,
+    };
+    emit_datagram(&mut frame, &ip, &udp, &[0xaa, 0x00, 0x00, 0xff]);
+    assert!(rt; is_same(behind(&frame, 34), &DATAGRAM));
+}
+
+/// The header of the last piece of a datagram.
+const PIECE: [u8; 24] = [
+    0x45, 0x00, 0x00, 0x18, 0xc2, 0x4d, 0x00, 0x01, 0x40, 0x11, 0x35, 0x33, 0xc0, 0xa8, 0x01, 0x01,
+    0xc0, 0xa8, 0x01, 0x02, 0xaa, 0x00, 0x00, 0xff,
+];
+
+/// What is the same in all pieces of a datagram, as the bytes and as the quoted header tell it.
+fn keys(bytes: &[u8]) -> Option<(Ipv4FragKey, Ipv4FragKey)> {
+    let packet = Ipv4Packet::new_checked(bytes).ok()?;
+    let (header, _) = Ipv4Repr::parse_quoted(bytes).ok()?;
+    Some((packet.get_key(), header.key()))
+}
+
+// RFC 791, section 3.2.
+#[test]
+fn pieces_have_one_key(rt: HostRuntime) {
+    let said = match keys(&PIECE) {
+        Some((read, quoted)) => (read == quoted, read.id, read.protocol),
+        None => (false, 0, IpProtocol::Tcp),
+    };
+    assert!(rt; said == (true, 0xc24d, IpProtocol::Udp));
+}

@@ -1,0 +1,104 @@
+//! IPv6 packets, where they are written. `decode` reads and writes them as data.
+use crate::formats::samples::{OVER_V6, ends_with, first, starts_with};
+use ip_wire::{IPV6_LINK_LOCAL_ALL_NODES, IpProtocol, Ipv6Address, Ipv6PacketMut};
+
+pub const LOCAL: Ipv6Address = Ipv6Address([0xfe, 0x80, 0, 0, 0, 0, 0, 0, 0, 0, 0, 0, 0, 0, 0, 1]);
+
+/// Version, class, flow, payload length, total length, header length and hops.
+type Numbers = (u8, u8, u32, u16, usize, usize, u8);
+
+const NUMBERS: Numbers = (6, 0xfe, 0x12345, 4, 44, 40, 64);
+
+/// The same of a view that writes.
+fn numbers_in_place(bytes: &mut [u8]) -> Option<Numbers> {
+    let packet = Ipv6PacketMut::new_checked(bytes).ok()?;
+    Some((
+        packet.version(),
+        packet.traffic_class(),
+        packet.flow_label(),
+        packet.payload_len(),
+        packet.total_len(),
+        packet.header_len(),
+        packet.hop_limit(),
+    ))
+}
+
+/// Whether it is whole, its protocol and addresses, and how long its payload is.
+fn named_in_place(bytes: &mut [u8]) -> Option<(bool, IpProtocol, Ipv6Address, Ipv6Address, usize)> {
+    let packet = Ipv6PacketMut::new_checked(bytes).ok()?;
+    Some((
+        packet.check_len().is_ok(),
+        packet.next_header(),
+        packet.src_addr(),
+        packet.dst_addr(),
+        packet.payload().len(),
+    ))
+}
+
+/// A field to be set.
+#[derive(Drop)]
+enum Field {
+    Version(u8),
+    TrafficClass(u8),
+    FlowLabel(u32),
+    PayloadLen(u16),
+    NextHeader(IpProtocol),
+    HopLimit(u8),
+    SrcAddr(Ipv6Address),
+    DstAddr(Ipv6Address),
+}
+
+/// Sets a field, if there is a header.
+fn set(bytes: &mut [u8], field: &Field) {
+    if bytes.len() < 40 {
+        return;
+    }
+    let mut packet = Ipv6PacketMut::new_unchecked(bytes);
+    match field {
+        Field::Version(value) => packet.set_version(*value),
+        Field::TrafficClass(value) => packet.set_traffic_class(*value),
+        Field::FlowLabel(value) => packet.set_flow_label(*value),
+        Field::PayloadLen(value) => packet.set_payload_len(*value),
+        Field::NextHeader(value) => packet.set_next_header(*value),
+        Field::HopLimit(value) => packet.set_hop_limit(*value),
+        Field::SrcAddr(value) => packet.set_src_addr(*value),
+        Field::DstAddr(value) => packet.set_dst_addr(*value),
+    }
+}
+
+#[test]
+fn ipv6_is_set(rt: HostRuntime) {
+    let mut bytes = [0xff; 46];
+    for field in &[
+        Field::Version(6),
+        Field::TrafficClass(0xfe),
+        Field::FlowLabel(0x12345),
+        Field::PayloadLen(4),
+        Field::NextHeader(IpProtocol::Udp),
+        Field::HopLimit(64),
+        Field::SrcAddr(LOCAL),
+        Field::DstAddr(IPV6_LINK_LOCAL_ALL_NODES),
+    ] {
+        set(&mut bytes, field);
+    }
+    assert!(rt; starts_with(&bytes, first(&OVER_V6, 40)));
+    assert!(rt; numbers_in_place(&mut bytes) == Some(NUMBERS));
+    let named_so = (true, IpProtocol::Udp, LOCAL, IPV6_LINK_LOCAL_ALL_NODES, 4);
+    assert!(rt; named_in_place(&mut bytes) == Some(named_so));
+}
+
+/// Fills the payload, and tells the header's length.
+fn filled(bytes: &mut [u8], byte: u8) -> Option<usize> {
+    let mut packet = Ipv6PacketMut::new_checked(bytes).ok()?;
+    let len = packet.header_len();
+    packet.payload_mut().fill(byte);
+    Some(len)
+}
+
+#[test]
+fn ipv6_payload_alone_is_lent(rt: HostRuntime) {
+    let mut bytes = OVER_V6;
+    assert!(rt; filled(&mut bytes, 7) == Some(40));
+    assert!(rt; starts_with(&bytes, first(&OVER_V6, 40)));
+    assert!(rt; ends_with(&bytes, &[7, 7, 7, 7, 0, 0]));
+}

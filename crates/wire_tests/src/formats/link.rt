@@ -1,0 +1,262 @@
+//! Ethernet frames and ARP packets, where they are written. `decode` reads and writes them as data.
+use crate::formats::samples::{behind, ends_with, first, is_same, starts_with};
+use ip_wire::{
+    ArpHardware, ArpOperation, ArpPacketMut, ArpRepr, EthernetAddress, EthernetFrame,
+    EthernetFrameMut, EthernetProtocol, EthernetRepr, Ipv4Address, arp_laws,
+};
+
+/// A request from 192.168.1.1 at 02-00-00-00-00-01 for the hardware address of 192.168.1.2, in a
+/// frame to all stations with padding up to 60 bytes.
+const FRAME: [u8; 60] = [
+    0xff, 0xff, 0xff, 0xff, 0xff, 0xff, 0x02, 0x00, 0x00, 0x00, 0x00, 0x01, 0x08, 0x06, 0x00, 0x01,
+    0x08, 0x00, 0x06, 0x04, 0x00, 0x01, 0x02, 0x00, 0x00, 0x00, 0x00, 0x01, 0xc0, 0xa8, 0x01, 0x01,
+    0x00, 0x00, 0x00, 0x00, 0x00, 0x00, 0xc0, 0xa8, 0x01, 0x02, 0, 0, 0, 0, 0, 0, 0, 0, 0, 0, 0, 0,
+    0, 0, 0, 0, 0, 0,
+];
+
+const SENDER: EthernetAddress = EthernetAddress([0x02, 0x00, 0x00, 0x00, 0x00, 0x01]);
+
+const HEADER: EthernetRepr = EthernetRepr {
+    src_addr: SENDER,
+    dst_addr: EthernetAddress::BROADCAST,
+    ethertype: EthernetProtocol::Arp,
+};
+
+/// That packet, or one of another operation.
+fn request(operation: ArpOperation) -> ArpRepr {
+    ArpRepr::EthernetIpv4 {
+        operation,
+        source_hardware_addr: SENDER,
+        source_protocol_addr: Ipv4Address([192, 168, 1, 1]),
+        target_hardware_addr: EthernetAddress([0; 6]),
+        target_protocol_addr: Ipv4Address([192, 168, 1, 2]),
+    }
+}
+
+#[test]
+fn frames_have_lengths(rt: HostRuntime) {
+    let headers = [
+        EthernetFrame::header_len(),
+        EthernetFrameMut::header_len(),
+        HEADER.buffer_len(),
+    ];
+    assert!(rt; headers == [14; 3]);
+    let frames = [
+        EthernetFrame::buffer_len(46),
+        EthernetFrameMut::buffer_len(46),
+    ];
+    assert!(rt; frames == [60; 2]);
+}
+
+/// Whether the frame is whole, both addresses, and what it carries, where it is written.
+fn frame_parts_in_place(
+    bytes: &mut [u8],
+) -> Option<(bool, EthernetAddress, EthernetAddress, EthernetProtocol)> {
+    let frame = EthernetFrameMut::new_checked(bytes).ok()?;
+    Some((
+        frame.check_len().is_ok(),
+        frame.dst_addr(),
+        frame.src_addr(),
+        frame.ethertype(),
+    ))
+}
+
+#[test]
+fn frame_is_set(rt: HostRuntime) {
+    let mut bytes = [0xa5; 20];
+    let mut frame = EthernetFrameMut::new_unchecked(&mut bytes);
+    frame.set_dst_addr(SENDER);
+    frame.set_src_addr(EthernetAddress::BROADCAST);
+    frame.set_ethertype(EthernetProtocol::Ipv6);
+    assert!(rt; is_same(&frame.into_inner()[12..14], &[0x86, 0xdd]));
+    let parts = (
+        true,
+        SENDER,
+        EthernetAddress::BROADCAST,
+        EthernetProtocol::Ipv6,
+    );
+    assert!(rt; frame_parts_in_place(&mut bytes) == Some(parts));
+}
+
+/// Fills the payload, and says whether there is a frame.
+fn is_filled(bytes: &mut [u8], byte: u8) -> bool {
+    match EthernetFrameMut::new_checked(bytes) {
+        Ok(mut frame) => {
+            frame.payload_mut().fill(byte);
+            true
+        }
+        Err(_) => false,
+    }
+}
+
+#[test]
+fn payload_alone_is_lent(rt: HostRuntime) {
+    let mut bytes = [0xa5; 20];
+    bytes[..14].copy_from_slice(&FRAME[..14]);
+    assert!(rt; is_filled(&mut bytes, 7));
+    assert!(rt; starts_with(&bytes, first(&FRAME, 14)));
+    assert!(rt; ends_with(&bytes, &[7; 6]));
+}
+
+/// Writes a packet, if there is a place for it.
+fn emit_arp(packet: &ArpRepr, bytes: &mut [u8]) {
+    if bytes.len() >= 28 {
+        packet.emit(&mut ArpPacketMut::new_unchecked(bytes));
+    }
+}
+
+/// Kinds, lengths and operation of a packet, and whether it is whole.
+type ArpNumbers = (bool, ArpHardware, EthernetProtocol, u8, u8, ArpOperation);
+
+const NUMBERS: ArpNumbers = (
+    true,
+    ArpHardware::Ethernet,
+    EthernetProtocol::Ipv4,
+    6,
+    4,
+    ArpOperation::Request,
+);
+
+/// The four addresses of a packet, in their order.
+type ArpAddresses<'a> = (&'a [u8], &'a [u8], &'a [u8], &'a [u8]);
+
+#[test]
+fn request_is_written(rt: HostRuntime) {
+    let mut bytes = [0xa5; 30];
+    emit_arp(&request(ArpOperation::Request), &mut bytes);
+    assert!(rt; starts_with(&bytes, first(behind(&FRAME, 14), 28)));
+    assert!(rt; bytes.last().copied() == Some(0xa5));
+    assert!(rt; request(ArpOperation::Request).buffer_len() == 28);
+}
+
+/// A number to be set.
+#[derive(Drop)]
+enum Field {
+    HardwareType(ArpHardware),
+    ProtocolType(EthernetProtocol),
+    HardwareLen(u8),
+    ProtocolLen(u8),
+    Operation(ArpOperation),
+}
+
+/// Sets a number, if there is a place for it.
+fn set(bytes: &mut [u8], number: &Field) {
+    if bytes.len() < 8 {
+        return;
+    }
+    let mut packet = ArpPacketMut::new_unchecked(bytes);
+    match number {
+        Field::HardwareType(value) => packet.set_hardware_type(*value),
+        Field::ProtocolType(value) => packet.set_protocol_type(*value),
+        Field::HardwareLen(value) => packet.set_hardware_len(*value),
+        Field::ProtocolLen(value) => packet.set_protocol_len(*value),
+        Field::Operation(value) => packet.set_operation(*value),
+    }
+}
+
+/// Kinds, lengths and operation, and whether it is whole, where the packet is written.
+fn arp_numbers_in_place(bytes: &mut [u8]) -> Option<ArpNumbers> {
+    let packet = ArpPacketMut::new_checked(bytes).ok()?;
+    Some((
+        packet.check_len().is_ok(),
+        packet.hardware_type(),
+        packet.protocol_type(),
+        packet.hardware_len(),
+        packet.protocol_len(),
+        packet.operation(),
+    ))
+}
+
+/// Sets the hardware addresses of sender and target, if they have room for six bytes.
+fn set_hardware_addresses(bytes: &mut [u8], source: &[u8; 6], target: &[u8; 6]) -> Option<()> {
+    let mut packet = ArpPacketMut::new_checked(bytes).ok()?;
+    if packet.hardware_len() != 6 {
+        return None;
+    }
+    packet.set_source_hardware_addr(source);
+    if packet.check_len().is_ok() && packet.hardware_len() == 6 {
+        packet.set_target_hardware_addr(target);
+    }
+    Some(())
+}
+
+/// Sets the protocol addresses of sender and target, if they have room for four bytes.
+fn set_protocol_addresses(bytes: &mut [u8], source: &[u8; 4], target: &[u8; 4]) -> Option<()> {
+    let mut packet = ArpPacketMut::new_checked(bytes).ok()?;
+    if packet.protocol_len() != 4 {
+        return None;
+    }
+    packet.set_source_protocol_addr(source);
+    if packet.check_len().is_ok() && packet.protocol_len() == 4 {
+        packet.set_target_protocol_addr(target);
+    }
+    Some(())
+}
+
+/// Whether these are the four addresses of the packet, where it is written.
+fn has_addresses(bytes: &mut [u8], wanted: ArpAddresses<'_>) -> bool {
+    match ArpPacketMut::new_checked(bytes) {
+        Ok(packet) => {
+            packet.source_hardware_addr() == wanted.0
+                && packet.source_protocol_addr() == wanted.1
+                && packet.target_hardware_addr() == wanted.2
+                && packet.target_protocol_addr() == wanted.3
+        }
+        Err(_) => false,
+    }
+}
+
+/// The bytes that the view holds.
+fn held(bytes: &mut [u8]) -> &[u8] {
+    ArpPacketMut::new_unchecked(bytes).into_inner()
+}
+
+#[test]
+fn packet_is_set(rt: HostRuntime) {
+    let mut bytes = [0xff; 28];
+    for number in &[
+        Field::HardwareType(ArpHardware::Ethernet),
+        Field::ProtocolType(EthernetProtocol::Ipv4),
+        Field::HardwareLen(6),
+        Field::ProtocolLen(4),
+        Field::Operation(ArpOperation::Request),
+    ] {
+        set(&mut bytes, number);
+    }
+    assert!(rt; arp_numbers_in_place(&mut bytes) == Some(NUMBERS));
+    let (here, there, nobody) = ([192, 168, 1, 1], [192, 168, 1, 2], [0; 6]);
+    assert!(rt; set_hardware_addresses(&mut bytes, &SENDER.0, &nobody).is_some());
+    assert!(rt; set_protocol_addresses(&mut bytes, &here, &there).is_some());
+    let addresses = (
+        SENDER.0.as_slice(),
+        here.as_slice(),
+        nobody.as_slice(),
+        there.as_slice(),
+    );
+    assert!(rt; has_addresses(&mut bytes, addresses));
+    assert!(rt; starts_with(held(&mut bytes), first(behind(&FRAME, 14), 28)));
+}
+
+// RFC 826: a known number under the name of an unknown one is another value.
+#[test]
+fn compares_kinds_and_operations(rt: HostRuntime) {
+    let request = ArpOperation::Request;
+    for (other, are_equal) in [
+        (ArpOperation::Reply, false),
+        (ArpOperation::Unknown(1), false),
+        (request, true),
+    ] {
+        let said = arp_laws::compare_arp_operations(&request, &other);
+        assert!(rt; said.equal == are_equal, "{other:?}");
+        if are_equal {
+            assert!(rt; said.hashes.0 == said.hashes.1);
+        } else {
+            assert!(rt; said.order.is_lt(), "{other:?}");
+        }
+    }
+    let kind = ArpHardware::Ethernet;
+    for (other, are_equal) in [(ArpHardware::Unknown(1), false), (kind, true)] {
+        let said = arp_laws::compare_arp_hardware(&kind, &other);
+        assert!(rt; said.equal == are_equal && (are_equal || said.order.is_lt()));
+    }
+}

@@ -1,0 +1,144 @@
+//! Segments with their payload. `decode` reads and writes headers as data.
+use crate::formats::samples::{checksums, is_same};
+use ip_wire::{
+    Error, IpAddress, Ipv4Address, SeqNumber, TcpControl, TcpHeader, TcpOptions, TcpPacket,
+    TcpPacketMut, TcpRepr,
+};
+
+// A SYN with four bytes of payload.
+pub const SYN_BYTES: [u8; 24] = [
+    0xbf, 0x00, 0x00, 0x50, 0x01, 0x23, 0x45, 0x67, 0x00, 0x00, 0x00, 0x00, 0x50, 0x02, 0x01, 0x23,
+    0x7a, 0x8d, 0x00, 0x00, 0xaa, 0x00, 0x00, 0xff,
+];
+
+const PAYLOAD: [u8; 4] = [0xaa, 0x00, 0x00, 0xff];
+
+const NO_OPTIONS: TcpOptions = TcpOptions {
+    max_seg_size: None,
+    window_scale: None,
+    sack_permitted: false,
+    sack_ranges: [None; 3],
+    timestamp: None,
+};
+
+/// The header of that SYN.
+const SYN: TcpHeader = TcpHeader {
+    src_port: 48896,
+    dst_port: 80,
+    control: TcpControl::Syn,
+    seq_number: SeqNumber(0x01234567),
+    ack_number: None,
+    window_len: 0x0123,
+    options: NO_OPTIONS,
+};
+
+/// Where segments come from and go to.
+type Ends = (Ipv4Address, Ipv4Address);
+
+const ENDS: Ends = (Ipv4Address([192, 168, 1, 1]), Ipv4Address([192, 168, 1, 2]));
+
+/// The numbers that the segment takes, whether it takes none, the lengths of its header and of all.
+fn lengths(segment: &TcpRepr<'_>) -> (usize, bool, usize, usize) {
+    (
+        segment.segment_len(),
+        segment.is_empty(),
+        segment.header_len(),
+        segment.buffer_len(),
+    )
+}
+
+#[test]
+fn reads_a_segment(rt: HostRuntime) -> Result<(), Error> {
+    let (source, destination) = (IpAddress::Ipv4(ENDS.0), IpAddress::Ipv4(ENDS.1));
+    let packet = TcpPacket::new_unchecked(&SYN_BYTES);
+    let read = TcpRepr::parse(&packet, &source, &destination, &checksums(true))?;
+    assert!(rt; (read.header(), read.payload) == (SYN, PAYLOAD.as_slice()));
+    assert!(rt; lengths(&read) == (5, false, 20, 24));
+    Ok(())
+}
+
+/// Writes a segment into bytes for it.
+fn emit_segment(segment: &TcpRepr<'_>, bytes: &mut [u8]) {
+    let (header, all) = (segment.header_len(), segment.buffer_len());
+    if header <= 60 && all <= 0xffff && bytes.len() == all {
+        segment.emit(
+            &mut TcpPacketMut::new_unchecked(bytes),
+            &IpAddress::Ipv4(ENDS.0),
+            &IpAddress::Ipv4(ENDS.1),
+            &checksums(true),
+        );
+    }
+}
+
+#[test]
+fn writes_a_segment(rt: HostRuntime) {
+    let mut buffer = [0x5a; 24];
+    emit_segment(&TcpRepr::new(&SYN, &PAYLOAD), &mut buffer);
+    assert!(rt; is_same(&buffer, &SYN_BYTES));
+}
+
+// The last row of the third case of RFC 2018, section 4, over IPv6 with timestamps: 5500 is
+// acknowledged, and three ranges behind it have come.
+pub const RANGES: [u8; 59] = [
+    0xc1, 0x5c, 0x00, 0x50, 0x00, 0x00, 0x00, 0x64, 0x00, 0x00, 0x15, 0x7c, 0xe0, 0x10, 0x03, 0xe8,
+    0x32, 0xb0, 0x00, 0x00, 0x05, 0x1a, 0x00, 0x00, 0x1f, 0x40, 0x00, 0x00, 0x21, 0x34, 0x00, 0x00,
+    0x1b, 0x58, 0x00, 0x00, 0x1d, 0x4c, 0x00, 0x00, 0x17, 0x70, 0x00, 0x00, 0x19, 0x64, 0x08, 0x0a,
+    0x00, 0x00, 0x00, 0x07, 0x00, 0x00, 0x00, 0x09, 0x61, 0x62, 0xff,
+];
+
+#[test]
+fn counts_flags(rt: HostRuntime) {
+    for (control, len) in [
+        (TcpControl::None, 0),
+        (TcpControl::Psh, 0),
+        (TcpControl::Syn, 1),
+        (TcpControl::Fin, 1),
+        (TcpControl::Rst, 0),
+    ] {
+        assert!(rt; control.len() == len);
+        let quashed = if control == TcpControl::Psh {
+            TcpControl::None
+        } else {
+            control
+        };
+        assert!(rt; control.quash_psh() == quashed);
+    }
+}
+
+/// Whether acknowledgements may have ranges, the ranges, and how many numbers the segment takes.
+type Acknowledged = (bool, [Option<(u32, u32)>; 3], usize);
+
+fn acknowledged(bytes: &[u8]) -> Result<Acknowledged, Error> {
+    if bytes.len() > 0xffff {
+        return Err(Error);
+    }
+    let packet = TcpPacket::new_checked(bytes)?;
+    Ok((
+        packet.selective_ack_permitted()?,
+        packet.selective_ack_ranges()?,
+        packet.segment_len(),
+    ))
+}
+
+#[test]
+fn ranges_are_seen(rt: HostRuntime) {
+    let ranges = [Some((8000, 8500)), Some((7000, 7500)), Some((6000, 6500))];
+    assert!(rt; acknowledged(&RANGES) == Ok((false, ranges, 3)));
+}
+
+#[test]
+fn counts_sequence_numbers(rt: HostRuntime) {
+    for (control, len, empty) in [
+        (TcpControl::None, 0, true),
+        (TcpControl::Psh, 0, true),
+        (TcpControl::Syn, 1, false),
+        (TcpControl::Fin, 1, false),
+        (TcpControl::Rst, 0, false),
+    ] {
+        let header = TcpHeader { control, ..SYN };
+        let (bare, is_empty, _, _) = lengths(&TcpRepr::new(&header, &[]));
+        assert!(rt; (bare, is_empty) == (len, empty));
+        let (full, is_empty, _, _) = lengths(&TcpRepr::new(&header, &PAYLOAD));
+        assert!(rt; (full, is_empty) == (len + 4, false));
+    }
+}

@@ -1,0 +1,246 @@
+//! Views of TCP segments that write in place.
+use crate::formats::samples::{LEFT, RIGHT, behind, first, is_same};
+use crate::formats::tcp_segments::{RANGES, SYN_BYTES};
+use ip_wire::{Error, SeqNumber, TcpPacketMut};
+
+// The same fields through the writing view, and those of a segment with ranges.
+/// Ports, numbers, the header's length, window, checksum and urgent pointer.
+fn fields(bytes: &mut [u8]) -> Result<(u16, u16, SeqNumber, SeqNumber, u8, u16, u16, u16), Error> {
+    let packet = TcpPacketMut::new_checked(bytes)?;
+    Ok((
+        packet.src_port(),
+        packet.dst_port(),
+        packet.seq_number(),
+        packet.ack_number(),
+        packet.header_len(),
+        packet.window_len(),
+        packet.checksum(),
+        packet.urgent_at(),
+    ))
+}
+
+#[test]
+fn reads_what_it_can_write(rt: HostRuntime) {
+    let mut buffer = RANGES;
+    let wanted = (
+        49500,
+        80,
+        SeqNumber(100),
+        SeqNumber(5500),
+        56,
+        1000,
+        0x32b0,
+        0,
+    );
+    assert!(rt; fields(&mut buffer) == Ok(wanted));
+}
+
+#[test]
+fn reads_behind_the_header(rt: HostRuntime) -> Result<(), Error> {
+    let mut buffer = RANGES;
+    let packet = TcpPacketMut::new_checked(&mut buffer)?;
+    assert!(rt; (packet.check_len(), packet.segment_len()) == (Ok(()), 3));
+    assert!(rt; packet.selective_ack_permitted() == Ok(false));
+    let ranges = [Some((8000, 8500)), Some((7000, 7500)), Some((6000, 6500))];
+    assert!(rt; packet.selective_ack_ranges() == Ok(ranges));
+    assert!(rt; is_same(packet.options(), first(behind(&RANGES, 20), 36)));
+    assert!(rt; is_same(packet.payload(), b"ab\xff"));
+    Ok(())
+}
+
+#[test]
+fn writes_through_the_options(rt: HostRuntime) -> Result<(), Error> {
+    let mut buffer = RANGES;
+    let mut packet = TcpPacketMut::new_checked(&mut buffer)?;
+    packet.options_mut().fill(1);
+    assert!(rt; is_same(first(&buffer, 20), first(&RANGES, 20)));
+    assert!(rt; is_same(first(behind(&buffer, 20), 36), &[1; 36]));
+    assert!(rt; is_same(behind(&buffer, 56), behind(&RANGES, 56)));
+    Ok(())
+}
+
+#[test]
+fn writes_through_the_payload(rt: HostRuntime) -> Result<(), Error> {
+    let mut buffer = RANGES;
+    let mut packet = TcpPacketMut::new_checked(&mut buffer)?;
+    packet.payload_mut().fill(2);
+    assert!(rt; is_same(first(&buffer, 56), first(&RANGES, 56)));
+    assert!(rt; is_same(behind(&buffer, 56), &[2, 2, 2]));
+    Ok(())
+}
+
+#[test]
+fn refuses_to_write_too_few_bytes(rt: HostRuntime) {
+    let mut short = [0x50; 19];
+    assert!(rt; TcpPacketMut::new_checked(&mut short).is_err());
+}
+
+/// A field to be set.
+#[derive(Drop)]
+enum Field {
+    NoFlags,
+    Fin(bool),
+    Syn(bool),
+    Rst(bool),
+    Psh(bool),
+    Ack(bool),
+    Urg(bool),
+    Ece(bool),
+    Cwr(bool),
+    Ns(bool),
+    HeaderLen(u8),
+    SrcPort(u16),
+    DstPort(u16),
+    SeqNumber(u32),
+    AckNumber(u32),
+    WindowLen(u16),
+    UrgentAt(u16),
+    Checksum(u16),
+}
+
+/// Sets a field, if there is a header.
+fn set(bytes: &mut [u8], field: &Field) {
+    if bytes.len() < 20 {
+        return;
+    }
+    let mut packet = TcpPacketMut::new_unchecked(bytes);
+    match field {
+        Field::NoFlags => packet.clear_flags(),
+        Field::Fin(value) => packet.set_fin(*value),
+        Field::Syn(value) => packet.set_syn(*value),
+        Field::Rst(value) => packet.set_rst(*value),
+        Field::Psh(value) => packet.set_psh(*value),
+        Field::Ack(value) => packet.set_ack(*value),
+        Field::Urg(value) => packet.set_urg(*value),
+        Field::Ece(value) => packet.set_ece(*value),
+        Field::Cwr(value) => packet.set_cwr(*value),
+        Field::Ns(value) => packet.set_ns(*value),
+        Field::HeaderLen(value) => packet.set_header_len(*value),
+        Field::SrcPort(value) => packet.set_src_port(*value),
+        Field::DstPort(value) => packet.set_dst_port(*value),
+        Field::SeqNumber(value) => packet.set_seq_number(SeqNumber(*value)),
+        Field::AckNumber(value) => packet.set_ack_number(SeqNumber(*value)),
+        Field::WindowLen(value) => packet.set_window_len(*value),
+        Field::UrgentAt(value) => packet.set_urgent_at(*value),
+        Field::Checksum(value) => packet.set_checksum(*value),
+    }
+}
+
+/// Whether the checksum is right.
+fn is_right(bytes: &mut [u8]) -> bool {
+    if bytes.len() < 20 || bytes.len() > 0xffff {
+        return false;
+    }
+    TcpPacketMut::new_unchecked(bytes).verify_checksum(&LEFT, &RIGHT)
+}
+
+/// Fills in the checksum, if there is a header.
+fn seal(bytes: &mut [u8]) {
+    if bytes.len() >= 20 && bytes.len() <= 0xffff {
+        TcpPacketMut::new_unchecked(bytes).fill_checksum(&LEFT, &RIGHT);
+    }
+}
+
+/// The bytes that the view holds.
+fn held(bytes: &mut [u8]) -> &[u8] {
+    TcpPacketMut::new_unchecked(bytes).into_inner()
+}
+
+#[test]
+fn writes_every_field(rt: HostRuntime) {
+    let mut buffer = SYN_BYTES;
+    for field in &[
+        Field::NoFlags,
+        Field::Ack(true),
+        Field::Ns(true),
+        Field::Cwr(true),
+        Field::Fin(true),
+        Field::Fin(false),
+        Field::HeaderLen(24),
+        Field::SrcPort(1),
+        Field::DstPort(2),
+        Field::SeqNumber(0xfffffffe),
+        Field::AckNumber(0x80000001),
+        Field::WindowLen(0xffff),
+        Field::UrgentAt(9),
+    ] {
+        set(&mut buffer, field);
+    }
+    seal(&mut buffer);
+    assert!(rt; is_right(&mut buffer));
+    set(&mut buffer, &Field::Checksum(0x1234));
+    assert!(rt; !is_right(&mut buffer));
+    let wanted = [
+        0x00, 0x01, 0x00, 0x02, 0xff, 0xff, 0xff, 0xfe, 0x80, 0x00, 0x00, 0x01, 0x61, 0x90, 0xff,
+        0xff, 0x12, 0x34, 0x00, 0x09, 0xaa, 0x00, 0x00, 0xff,
+    ];
+    assert!(rt; is_same(held(&mut buffer), &wanted));
+}
+
+/// The flags from the lowest bit on, where the segment is written.
+fn flags(bytes: &mut [u8]) -> [bool; 9] {
+    if bytes.len() < 20 {
+        return [false; 9];
+    }
+    let packet = TcpPacketMut::new_unchecked(bytes);
+    [
+        packet.fin(),
+        packet.syn(),
+        packet.rst(),
+        packet.psh(),
+        packet.ack(),
+        packet.urg(),
+        packet.ece(),
+        packet.cwr(),
+        packet.ns(),
+    ]
+}
+
+/// Sets a field, and tells whether the flag of this number is then set.
+fn is_set(bytes: &mut [u8], field: &Field, flag: usize) -> bool {
+    set(bytes, field);
+    flags(bytes).get(flag).copied() == Some(true)
+}
+
+/// The length that the header says it has.
+fn header_len(bytes: &mut [u8]) -> Option<u8> {
+    if bytes.len() < 20 {
+        return None;
+    }
+    Some(TcpPacketMut::new_unchecked(bytes).header_len())
+}
+
+// RFC 9293, section 3.1, and RFC 3540, section 9: the bits of bytes 12 and 13.
+#[test]
+fn sets_each_flag(rt: HostRuntime) {
+    let mut buffer = [0; 20];
+    for (field, flag) in &[
+        (Field::Fin(true), 0),
+        (Field::Syn(true), 1),
+        (Field::Rst(true), 2),
+        (Field::Psh(true), 3),
+        (Field::Ack(true), 4),
+    ] {
+        assert!(rt; is_set(&mut buffer, field, *flag), "flag {flag}");
+    }
+    assert!(rt; is_same(first(behind(&buffer, 13), 1), &[0x1f]));
+}
+
+#[test]
+fn sets_the_other_flags(rt: HostRuntime) {
+    let mut buffer = [0; 20];
+    buffer[13] = 0x1f;
+    for (field, flag) in &[
+        (Field::Urg(true), 5),
+        (Field::Ece(true), 6),
+        (Field::Cwr(true), 7),
+        (Field::Ns(true), 8),
+    ] {
+        assert!(rt; is_set(&mut buffer, field, *flag), "flag {flag}");
+    }
+    for field in &[Field::Syn(false), Field::Urg(false), Field::HeaderLen(63)] {
+        set(&mut buffer, field);
+    }
+    assert!(rt; header_len(&mut buffer) == Some(60));
+    assert!(rt; is_same(first(behind(&buffer, 12), 2), &[0xf1, 0xdd]));
+}
