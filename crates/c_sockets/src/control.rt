@@ -16,7 +16,7 @@ use ip_wire::IpAddress;
 use sockets::{Socket, icmp};
 
 /// A call that answers nothing but whether it was done.
-#[derive(Clone, Copy, Debug)]
+#[derive(Clone, Copy)]
 pub enum Act {
     /// Binds the socket: from now on the messages of this endpoint are for it.
     Bind(icmp::Endpoint),

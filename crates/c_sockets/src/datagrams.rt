@@ -17,7 +17,7 @@ use sockets::Socket;
 use sockets::udp::{self, UdpMetadata};
 
 /// A call that answers nothing but whether it was done.
-#[derive(Clone, Copy, Debug)]
+#[derive(Clone, Copy)]
 pub enum Act {
     /// Binds the socket to a port, of one own address or of all.
     Bind(IpListenEndpoint),

@@ -19,7 +19,7 @@ use sockets::tcp::{self, CongestionControl};
 use sockets::{Context, Socket};
 
 /// A call that answers nothing but whether it was done.
-#[derive(Clone, Copy, Debug)]
+#[derive(Clone, Copy)]
 pub enum Act {
     /// Opens the socket for a connection that a remote opens, to one own address or to any.
     Listen(IpListenEndpoint),
