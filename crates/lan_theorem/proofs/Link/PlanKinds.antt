@@ -28,7 +28,8 @@ use Rattle.interface_tables.specs.declared.neighbor.Neighbor.{Neighbor}
 use Rattle.interface_egress.specs.Plan.{longest_cut, total_len, cut_if_idle, long_plan, ask_v4, ask_on, may_ask, ask_if, plan_by, never_leaves, plan_of}
 use Rattle.interface_egress.specs.declared.plan.Plan.{Plan}
 use Rattle.interface_egress.specs.declared.plan.Plan.TheVariants as Way
-use Rattle.lan_theorem.specs.Link.Sides.{IsSameKind, IsStation, IsSound, IsAsked}
+use Rattle.lan_theorem.specs.Link.Sides.{IsSameKind, IsStation, IsSound}
+use Rattle.lan_theorem.proofs.Link.Asked.{IsAsked}
 use Rattle.lan_theorem.proofs.Link.Routers.{routers_are}
 
 -- WHAT IS KNOWN OF A NEIGHBOUR
