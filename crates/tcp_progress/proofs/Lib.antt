@@ -4,3 +4,5 @@ pub mod Acked
 pub mod Taken
 pub mod Positions
 pub mod Again
+pub mod Offered
+pub mod Exchange

@@ -4,12 +4,13 @@ use Rattle.ip_wire.specs.Seq.{distance_of}
 use Rattle.tcp_rules.specs.States.{owes_fin}
 use Rattle.tcp_rules.specs.State.{State}
 use Rattle.tcp_rules.specs.State.TheVariants as In
-use Rattle.tcp_law.specs.Invariant.{IsInStep, OneWay}
+use Rattle.tcp_law.specs.Invariant.{IsInStep, IsWellFormed, OneWay}
+use Rattle.tcp_law.specs.Numbers.{wire}
 use Rattle.tcp_law.specs.Side.{Side, rcv_next, send_end, taken_in, one_if as one_in}
 use Rattle.tcp_law.proofs.Lists.{Begins-length}
 use Rattle.tcp_pair_model.specs.Blocks.{one_if, unacked}
 use Rattle.tcp_pair_model.specs.Value.{TcpValue, queued_in}
-use Rattle.tcp_tie.specs.Tie.{Past, Keeps, IsConnectedAs, unsent, core_of}
+use Rattle.tcp_tie.specs.Tie.{Past, Keeps, IsConnectedAs, IsSideOf, is_finished_in, unsent, core_of}
 use Rattle.tcp_tie.proofs.Tied.{is_connected, fits_connected}
 use Rattle.tcp_rules.proofs.OrderSteps.{clash}
 use Rattle.tcp_progress.specs.Arrivals.{is_synchronized}
@@ -56,21 +57,21 @@ at_most_one false = omega arith
 within_all : (una far next all : ℕ) → una + far ≡ next → next ≤ una + all → far ≤ all
 within_all una far next all a b = omega arith
 
-pub lies_within :
-    (v w : TcpValue) (p q : Past) (k : Keeps v p w q) → is_synchronized v.block.state ≡ true → is_synchronized w.block.state ≡ true → IsInStep k.side k.partner
-    → LiesWithin v w k.side k.partner
-lies_within v w p q k mine theirs step = record { position = position; within = within_all s.una _ (rcv_next t) all position upper; few = few } where
-  s : Side
-  s = k.side
+-- A SIDE
 
-  t : Side
-  t = k.partner
+-- where a socket stands as a side: its numbers have 32 bits, and what may be acknowledged ends where all that was written does
+pub record IsPlaced (v : TcpValue) (s : Side) : Type 0 where
+  pub una : v.block.sender.una.0 ≡ wire s.una
+  pub next : v.block.receiver.next.0 ≡ wire (rcv_next s)
+  pub end : s.una + unacked v.block (queued_in v) ≡ send_end s
+  pub few : unacked v.block (queued_in v) < 2 ^ 30
+  pub top : v.block.sender.top ≤ unacked v.block (queued_in v)
+  pub finished : s.took_fin ≡ is_finished_in v.block.state
 
+pub placed : (v : TcpValue) (s : Side) → IsSideOf v s → IsWellFormed s → is_synchronized v.block.state ≡ true → IsPlaced v s
+placed v s fits formed mine = record { una = f.una; next = f.next; end = end; few = few; top = top; finished = f.side_finished } where
   f : IsConnectedAs (core_of v) (unsent s)
-  f = fits_connected v.block.state (core_of v) (unsent s) (connected_in v.block.state mine) k.fits
-
-  g : IsConnectedAs (core_of w) (unsent t)
-  g = fits_connected w.block.state (core_of w) (unsent t) (connected_in w.block.state theirs) k.partner_fits
+  f = fits_connected v.block.state (core_of v) (unsent s) (connected_in v.block.state mine) fits
 
   all : ℕ
   all = unacked v.block (queued_in v)
@@ -87,12 +88,54 @@ lies_within v w p q k mine theirs step = record { position = position; within = 
   end : s.una + all ≡ send_end s
   end = sym (ap (λ (n : ℕ). s.una + n) same_all) ∙ f.end
 
-  upper : rcv_next t ≤ s.una + all
-  upper = subst (λ (n : ℕ). rcv_next t ≤ n) (sym end) (ends s t k.holds.0 step.counts)
-
   few : all < 2 ^ 30
-  few = all_short s.iss s.una (length s.written) (one_in s.closed) all (send_end s) k.holds.0.well_formed.una_low k.holds.0.well_formed.short
-      (at_most_one s.closed) end refl
+  few = all_short s.iss s.una (length s.written) (one_in s.closed) all (send_end s) formed.una_low formed.short (at_most_one s.closed) end refl
+
+  top : v.block.sender.top ≤ all
+  top = subst (λ (n : ℕ). v.block.sender.top ≤ n) same_all f.top
+
+wire_small : (position : ℕ) → position % 2 ^ 32 < 2 ^ 32
+wire_small position = omega arith
+
+pub una_small : (v : TcpValue) (s : Side) → IsPlaced v s → v.block.sender.una.0 < 2 ^ 32
+una_small v s at = subst (λ (n : ℕ). n < 2 ^ 32) (sym at.una) (wire_small s.una)
+
+pub next_small : (v : TcpValue) (s : Side) → IsPlaced v s → v.block.receiver.next.0 < 2 ^ 32
+next_small v s at = subst (λ (n : ℕ). n < 2 ^ 32) (sym at.next) (wire_small (rcv_next s))
+
+-- TWO SIDES
+
+-- with the FIN of a side its partner took all
+pub whole_taken : (s t : Side) → OneWay s t → t.took_fin ≡ true → rcv_next t ≡ send_end s
+whole_taken s t o e =
+    let whole = o.fin e in
+    all_of t.irs s.iss (length (taken_in t)) (length s.written) (one_in t.took_fin) (one_in s.closed) whole.counts (ap length whole.whole) (ap one_in e)
+    (ap one_in whole.closed)
+  where
+    all_of : (irs iss taken written fin closed : ℕ) → irs ≡ iss → taken ≡ written → fin ≡ 1 → closed ≡ 1 → suc irs + taken + fin ≡ suc iss + written + closed
+    all_of irs iss taken written fin closed a b c d = omega arith
+
+pub lies_within :
+    (v w : TcpValue) (p q : Past) (k : Keeps v p w q) → is_synchronized v.block.state ≡ true → is_synchronized w.block.state ≡ true → IsInStep k.side k.partner
+    → LiesWithin v w k.side k.partner
+lies_within v w p q k mine theirs step = record { position = position; within = within_all s.una _ (rcv_next t) all position upper; few = a.few } where
+  s : Side
+  s = k.side
+
+  t : Side
+  t = k.partner
+
+  a : IsPlaced v s
+  a = placed v s k.fits k.holds.0.well_formed mine
+
+  b : IsPlaced w t
+  b = placed w t k.partner_fits k.holds.1.well_formed theirs
+
+  all : ℕ
+  all = unacked v.block (queued_in v)
+
+  upper : rcv_next t ≤ s.una + all
+  upper = subst (λ (n : ℕ). rcv_next t ≤ n) (sym a.end) (ends s t k.holds.0 step.counts)
 
   position : s.una + distance_of v.block.sender.una w.block.receiver.next ≡ rcv_next t
-  position = far s.una (rcv_next t) all v.block.sender.una.0 w.block.receiver.next.0 step.reached upper few f.una g.next
+  position = far s.una (rcv_next t) all v.block.sender.una.0 w.block.receiver.next.0 step.reached upper a.few a.una b.next

@@ -1,6 +1,6 @@
 -- Text and a FIN that come at RCV.NXT, or begin before it, raise it; what was taken already is answered.
 use Rattle.std.proofs.Common.{◌≡◌, ◌⊎◌, inl, inr, ℕ, ◌+◌, ◌-◌, ◌%◌, ◌^◌, ◌<◌, ◌≤◌, ◌==◌, ◌&&◌, ◌||◌, nat_le, nat_lt, not, min, ℤ, ◌≤ℤ◌, int_lt, pos, ◌+ℤ◌, Bool}
-use Rattle.std.proofs.Common.{true, false, if◌then◌else◌, List, [], ◌∷◌, length, drop, Option, Some, None, refl, sym, ap, ◌∙◌, subst, arith, length-drop}
+use Rattle.std.proofs.Common.{true, false, if◌then◌else◌, List, [], ◌∷◌, ◌++◌, length, drop, Option, Some, None, refl, sym, ap, ◌∙◌, subst, arith, length-drop}
 use Rattle.std.proofs.lemmas.Bool.{cond_both, le-ltb, lt-ltb, eq-eqb, ne_eqb, le-leb, ltb-true, ltb-false}
 use Rattle.std.proofs.lemmas.Int.{ints}
 use Rattle.ip_wire.specs.Control.{control_len}
@@ -36,7 +36,7 @@ use Rattle.tcp_tie.proofs.Tied.{if_so, if_not}
 use Rattle.tcp_rules.proofs.ArrivalCases.{acked_cases, acked_open, heeded}
 use Rattle.tcp_rules.proofs.OrderSteps.{clash}
 use Rattle.tcp_rules.specs.Acks.{IsDueWithin}
-use Rattle.tcp_progress.specs.Arrivals.{Counts, IsNew, Rises, IsAgain, IsAnswered}
+use Rattle.tcp_progress.specs.Arrivals.{is_synchronized, Counts, IsNew, Rises, IsAgain, IsAnswered, EndsLastAck}
 use Rattle.tcp_progress.proofs.Acked.{comes_to, not_answering}
 use Rattle.tcp_rules.proofs.ArrivalCases.{timed}
 
@@ -187,6 +187,13 @@ front_least [] bytes = omega arith
 front_least (entry ∷ map) [] = omega arith
 front_least (entry ∷ map) (byte ∷ bytes) = omega (arith, front_least map bytes)
 
+-- what is put behind a list is no longer than both
+put_behind : (xs ys : List ℕ) → length ys ≤ length (xs ++ ys)
+put_behind [] ys = same (length ys) where
+  same : (n : ℕ) → n ≤ n
+  same n = omega arith
+put_behind (x ∷ xs) ys = omega (arith, put_behind xs ys)
+
 abbrev number : ℕ → SeqNumber
 number n = record { 0 = n }
 
@@ -195,6 +202,9 @@ twice n a = omega arith
 
 one_more : (least a : ℕ) → least ≤ a → least ≤ a + 1
 one_more least a e = omega arith
+
+both_more : (a b : ℕ) → a ≤ b → a + 1 ≤ b + 1
+both_more a b e = omega arith
 
 some_more : (a : ℕ) → 1 ≤ a → 1 ≤ a + 1
 some_more a e = omega arith
@@ -266,14 +276,18 @@ module _ (cx : ContextValue) (ip : IpRepr) (header : TcpHeader) (bytes : List �
     not_empty : (length bytes == 0) ≡ false
     not_empty = ne_eqb (length bytes) 0 (some_of d (length bytes) more)
 
+    waits : advance ≤ length (x.received.waiting ++ front map)
+    waits = put_behind x.received.waiting (front map)
+
     with_fin_or_not : (b : Block) → (by : ℕ) → b.receiver.next ≡ behind_by x.block.receiver.next by → 1 ≤ by → min (length bytes - d) (free_in x) ≤ by
-        → b.settings.ack_delay ≡ x.block.settings.ack_delay
+        → by ≤ length (x.received.waiting ++ front map) + 1 → b.settings.ack_delay ≡ x.block.settings.ack_delay
         → Risen (answer_for cx (with_block (taken_in_order x map).socket (probe_kept b (queued_in x))) ip header (length bytes) (is_holding x) None)
-    with_fin_or_not b by next one enough delay = record {
+    with_fin_or_not b by next one enough there delay = record {
       by = by;
       next = next;
       some = one;
       all = enough;
+      waits = there;
       due = subst (λ (wait : Option ℕ). IsDueWithin (ack_moment_after (probe_kept b (queued_in x)) header (length bytes) (is_holding x) cx.moment)
           (delayed cx.moment wait)) delay
           (within (probe_kept b (queued_in x)) header (length bytes) (is_holding x) cx.moment (inr not_empty));
@@ -288,8 +302,8 @@ module _ (cx : ContextValue) (ip : IpRepr) (header : TcpHeader) (bytes : List �
         (λ _.
         with_fin_or_not (fin_taken (taken_in_order x map).socket.block cx.moment) (advance + 1) (ap number (twice x.block.receiver.next.0 advance))
         (some_more advance some)
-        (one_more (min (length bytes - d) (free_in x)) advance all) refl)
-        (λ _. with_fin_or_not (taken_in_order x map).socket.block advance refl some all refl)
+        (one_more (min (length bytes - d) (free_in x)) advance all) (both_more advance _ waits) refl)
+        (λ _. with_fin_or_not (taken_in_order x map).socket.block advance refl some all (one_more advance _ waits) refl)
 
   -- its FIN alone is
   by_fin : size ≤ d → Risen (finished cx x.block (with_text_at x 0 rest) ip header (length bytes))
@@ -327,6 +341,9 @@ module _ (cx : ContextValue) (ip : IpRepr) (header : TcpHeader) (bytes : List �
     one : 1 ≤ 1
     one = omega arith
 
+    one_at_most : (n : ℕ) → 1 ≤ n + 1
+    one_at_most n = omega arith
+
     taken_fin : Risen (finished cx x.block (texted x 0 false None) ip header (length bytes))
     taken_fin =
         subst (λ (b : Block). Risen (answer_for cx (with_block x (probe_kept b (queued_in x))) ip header (length bytes) false None))
@@ -336,6 +353,7 @@ module _ (cx : ContextValue) (ip : IpRepr) (header : TcpHeader) (bytes : List �
           next = refl;
           some = one;
           all = none_new (length bytes) (free_in x) whole;
+          waits = one_at_most (length x.received.waiting);
           due = within (probe_kept (fin_taken x.block cx.moment) (queued_in x)) header (length bytes) false cx.moment (inl fin.0);
         })
 
@@ -394,11 +412,11 @@ module _ (cx : ContextValue) (u : TcpValue) (ip : IpRepr) (header : TcpHeader) (
       (λ _.
       let y = heeded cx.moment header (length bytes) u by (windowed x.block header) in
       let r = content_rises cx ip header bytes y (new_of y takes_after refl refl) no_syn in
-      record { by = r.by; next = r.next; some = r.some; all = r.all; due = r.due })
+      record { by = r.by; next = r.next; some = r.some; all = r.all; waits = r.waits; due = r.due })
       (λ _.
       let y = heeded cx.moment header (length bytes) u by x.block in
       let r = content_rises cx ip header bytes y (new_of y takes_after refl refl) no_syn in
-      record { by = r.by; next = r.next; some = r.some; all = r.all; due = r.due })))
+      record { by = r.by; next = r.next; some = r.some; all = r.all; waits = r.waits; due = r.due })))
 
   rises_checked : TextRises (checked (Passes by) cx u ip header bytes)
   rises_checked =
@@ -414,7 +432,7 @@ unoffered_new v header size n = record { takes = n.takes; room = n.room; begins 
 
 offered_rises : (cx : ContextValue) (v : TcpValue) (header : TcpHeader) (size : ℕ) (a : Arrived) → Rises cx (unoffered v) header size a →
     Rises cx v header size a
-offered_rises cx v header size a r = record { by = r.by; next = r.next; some = r.some; all = r.all; due = r.due }
+offered_rises cx v header size a r = record { by = r.by; next = r.next; some = r.some; all = r.all; waits = r.waits; due = r.due }
 
 pub next_rises :
     (cx : ContextValue) (v : TcpValue) (ip : IpRepr) (header : TcpHeader) (bytes : List ℕ) (number : SeqNumber) → Counts v.block header number
@@ -427,14 +445,40 @@ next_rises cx v ip header bytes number c n =
 
 -- WHAT WAS TAKEN ALREADY
 
+-- the acknowledgement of the FIN alone ends a connection
+last_of : (state : State) (fin : Bool) → is_synchronized state ≡ true → is_closed (if fin then after_ack_of_fin state else after_ack state) ≡ true →
+    state ≡ In.LastAck
+last_of In.LastAck fin past e = refl
+last_of In.Closed fin past e = clash (sym past)
+last_of In.Listen fin past e = clash (sym past)
+last_of In.SynSent fin past e = clash (sym past)
+last_of In.SynReceived fin past e = clash (sym past)
+last_of In.Established true past e = clash (sym e)
+last_of In.Established false past e = clash (sym e)
+last_of In.FinWait1 true past e = clash (sym e)
+last_of In.FinWait1 false past e = clash (sym e)
+last_of In.FinWait2 true past e = clash (sym e)
+last_of In.FinWait2 false past e = clash (sym e)
+last_of In.CloseWait true past e = clash (sym e)
+last_of In.CloseWait false past e = clash (sym e)
+last_of In.Closing true past e = clash (sym e)
+last_of In.Closing false past e = clash (sym e)
+last_of In.TimeWait true past e = clash (sym e)
+last_of In.TimeWait false past e = clash (sym e)
+
+-- SND.UNA rises, and what was sent ends where it did
+same_top : (una by top : ℕ) → by ≤ top → ((una + by) % 2 ^ 32 + (top - by)) % 2 ^ 32 ≡ (una + top) % 2 ^ 32
+same_top una by top e = omega arith
+
 module _ (cx : ContextValue) (u : TcpValue) (ip : IpRepr) (header : TcpHeader) (bytes : List ℕ) (by : ℕ)
-    (may : may_draw cx.moment u.block.timers.draws_from ≡ true) where
+    (may : may_draw cx.moment u.block.timers.draws_from ≡ true) (past : is_synchronized u.block.state ≡ true) (sent : by ≤ u.block.sender.top) where
   abbrev Answered : Arrived → Type 0
-  Answered a = (is_closed a.socket.block.state ≡ true) ⊎ IsAnswered u a
+  Answered a = EndsLastAck u a ⊎ IsAnswered u a
 
   answered_outside : Answered (outside cx (acknowledged (timed cx.moment header u by) by cx.moment) ip header)
   answered_outside =
-      acked_cases (timed cx.moment header u by) by cx.moment (λ (w : TcpValue). Answered (outside cx w ip header)) (λ _. inl refl)
+      acked_cases (timed cx.moment header u by) by cx.moment (λ (w : TcpValue). Answered (outside cx w ip header))
+      (λ closed. inl (record { last = last_of u.block.state (acks_fin u.block by (queued_in u)) past closed; closed = refl }))
       (λ alive.
       let x = acked_open (timed cx.moment header u by) by cx.moment in
       let y = waiting_anew x header cx.moment in
@@ -450,26 +494,30 @@ module _ (cx : ContextValue) (u : TcpValue) (ip : IpRepr) (header : TcpHeader) (
         answer = refl;
         acknowledges = refl;
         bare = refl;
+        same = ap number (same_top u.block.sender.una.0 by u.block.sender.top sent);
+        plain = refl;
       }))
       (λ no. clash (sym may ∙ no))))
 
-answered_too : (v : TcpValue) (a : Arrived) → (is_closed a.socket.block.state ≡ true) ⊎ IsAnswered (unoffered v) a → (is_closed a.socket.block.state ≡ true) ⊎
-    IsAnswered v a
-answered_too v a (inl closed) = inl closed
-answered_too v a (inr r) = inr (record { reply = r.reply; answer = r.answer; acknowledges = r.acknowledges; bare = r.bare })
+answered_too : (v : TcpValue) (a : Arrived) → EndsLastAck (unoffered v) a ⊎ IsAnswered (unoffered v) a → EndsLastAck v a ⊎ IsAnswered v a
+answered_too v a (inl ends) = inl (record { last = ends.last; closed = ends.closed })
+answered_too v a (inr r) =
+    inr
+    (record { reply = r.reply; answer = r.answer; acknowledges = r.acknowledges; bare = r.bare; same = r.same; plain = r.plain })
 
 pub again_answered :
     (cx : ContextValue) (v : TcpValue) (ip : IpRepr) (header : TcpHeader) (bytes : List ℕ) (number : SeqNumber) → Counts v.block header number
     → IsAgain v header (length bytes) → may_draw cx.moment v.block.timers.draws_from ≡ true
-    → (is_closed (arrives cx v ip header bytes).socket.block.state ≡ true) ⊎ IsAnswered v (arrives cx v ip header bytes)
+    → EndsLastAck v (arrives cx v ip header bytes) ⊎ IsAnswered v (arrives cx v ip header bytes)
 again_answered cx v ip header bytes number c n may =
     let by = distance_of v.block.sender.una number in
     let u = unoffered v in
-    subst (λ (a : Arrived). (is_closed a.socket.block.state ≡ true) ⊎ IsAnswered v a)
+    subst (λ (a : Arrived). EndsLastAck v a ⊎ IsAnswered v a)
     (sym (comes_to cx v ip header bytes number c
     ∙ (if_not (is_in_window v.block (free_in v) header (length bytes)) (inside cx u ip header bytes by) (passed_outside cx u ip header (length bytes) by)
     (again_is_outside v header (length bytes) n)
     ∙ if_so (tells_news u header (length bytes)) (outside cx (acknowledged (timed cx.moment header u by) by cx.moment) ip header) (outside cx u ip header)
     (ap (λ (t : Bool). not t && lies_before v.block (room_of v.received) header (length bytes)) (not_answering v.block.state c.synchronized) ∙
     again_lies_before v header (length bytes) n))))
-    (answered_too v (outside cx (acknowledged (timed cx.moment header u by) by cx.moment) ip header) (answered_outside cx u ip header bytes by may))
+    (answered_too v (outside cx (acknowledged (timed cx.moment header u by) by cx.moment) ip header)
+    (answered_outside cx u ip header bytes by may c.synchronized c.sent))

@@ -1,14 +1,16 @@
 -- Segments of a connection that come: what makes them count, and what they bring about (RFC 9293, 3.10.7.4).
-use Rattle.std.specs.Prelude.{◌≡◌, ◌⊎◌, ℕ, ◌+◌, ◌-◌, ◌^◌, ◌<◌, ◌≤◌, ◌&&◌, not, min, Bool, true, false, Some}
+use Rattle.std.specs.Prelude.{◌≡◌, ◌⊎◌, ℕ, ◌+◌, ◌-◌, ◌^◌, ◌<◌, ◌≤◌, ◌&&◌, not, min, Bool, true, false, length, Some}
 use Rattle.ip_wire.specs.Seq.{distance_of}
 use Rattle.ip_wire.specs.SeqNumber.{SeqNumber}
+use Rattle.ip_wire.specs.TcpControl.TheVariants as Control
 use Rattle.ip_wire.specs.TcpHeader.{TcpHeader}
 use Rattle.tcp_tie.specs.Context.{ContextValue}
 use Rattle.tcp_rules.specs.Controls.{is_syn, is_rst}
 use Rattle.tcp_rules.specs.Offsets.{behind_by}
-use Rattle.tcp_rules.specs.States.{is_answering, takes_text}
+use Rattle.tcp_rules.specs.States.{is_answering, is_closed, takes_text}
 use Rattle.tcp_rules.specs.Reply.{Reply}
 use Rattle.tcp_rules.specs.State.{State}
+use Rattle.tcp_rules.specs.State.TheVariants as In
 use Rattle.tcp_pair_model.specs.Answers.{delayed}
 use Rattle.tcp_pair_model.specs.Blocks.{top}
 use Rattle.tcp_pair_model.specs.Checks.{is_in_window, lies_before}
@@ -63,6 +65,8 @@ pub record Rises (cx : ContextValue) (v : TcpValue) (header : TcpHeader) (size :
   pub next : a.socket.block.receiver.next ≡ behind_by v.block.receiver.next by
   pub some : 1 ≤ by
   pub all : min (new_text v header size) (free_in v) ≤ by
+  -- its text waits to be read
+  pub waits : by ≤ length a.socket.received.waiting + 1
   pub due : IsDueWithin a.socket.block.timers.ack_at (delayed cx.moment v.block.settings.ack_delay)
 
 -- The segment lies wholly before RCV.NXT: all of it was taken already.
@@ -76,9 +80,17 @@ pub record IsAgain (v : TcpValue) (header : TcpHeader) (size : ℕ) : Type 0 whe
   pub seq_small : header.seq_number.0 < 2 ^ 32
   pub next_small : v.block.receiver.next.0 < 2 ^ 32
 
--- it is answered at once: with RCV.NXT, past all that was sent
+-- its acknowledgement ends the connection: that of the FIN in LAST-ACK does (3.10.7.4, fifth)
+pub record EndsLastAck (v : TcpValue) (a : Arrived) : Type 0 where
+  pub last : v.block.state ≡ In.LastAck
+  pub closed : is_closed a.socket.block.state ≡ true
+
+-- it is answered at once: by a bare acknowledgement of RCV.NXT, past all that was sent
 pub record IsAnswered (v : TcpValue) (a : Arrived) : Type 0 where
   pub reply : Reply
   pub answer : a.answer ≡ Some reply
   pub acknowledges : reply.segment.ack_number ≡ Some v.block.receiver.next
   pub bare : reply.segment.seq_number ≡ top a.socket.block
+  -- what was sent ends where it did
+  pub same : top a.socket.block ≡ top v.block
+  pub plain : reply.segment.control ≡ Control.None

@@ -5,3 +5,4 @@ pub mod Met
 pub mod Rounds
 pub mod Standstill
 pub mod Again
+pub mod Exchange

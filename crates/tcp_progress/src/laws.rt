@@ -1,27 +1,33 @@
 //! That a connection goes on.
 
-ghost use Rattle.std.specs.Prelude.{◌≡◌, ◌⊎◌, ℕ, ◌^◌, ◌<◌, true, false, List, length, Some};
+ghost use Rattle.std.specs.Prelude.{◌≡◌, ◌⊎◌, ℕ, ◌+◌, ◌^◌, ◌<◌, ◌≤◌, true, false, List, length, Some};
 ghost use Rattle.ip_wire.specs.IpRepr.{IpRepr};
+ghost use Rattle.ip_wire.specs.Seq.{distance_of};
 ghost use Rattle.ip_wire.specs.SeqNumber.{SeqNumber};
 ghost use Rattle.ip_wire.specs.TcpHeader.{TcpHeader};
 ghost use Rattle.tcp_tie.specs.Context.{ContextValue};
 ghost use Rattle.tcp_tie.specs.Offers.{IsBefore, offered_as};
 ghost use Rattle.tcp_tie.specs.Offer.TheVariants as Answer;
 ghost use Rattle.tcp_tie.specs.PollAt.TheVariants as At;
-ghost use Rattle.tcp_rules.specs.States.{is_closed};
 ghost use Rattle.tcp_law.specs.Invariant.{IsInStep};
 ghost use Rattle.tcp_pair_model.specs.Answers.{may_draw};
 ghost use Rattle.tcp_pair_model.specs.Arrival.{arrives};
 ghost use Rattle.tcp_pair_model.specs.Due.{poll_of};
 ghost use Rattle.tcp_pair_model.specs.Offers.{offer_of};
-ghost use Rattle.tcp_pair_model.specs.Value.{TcpValue, unoffered};
+ghost use Rattle.tcp_pair_model.specs.Blocks.{unacked};
+ghost use Rattle.tcp_pair_model.specs.Segments.{segment_len};
+ghost use Rattle.tcp_pair_model.specs.Timestamps.{comes_older};
+ghost use Rattle.tcp_pair_model.specs.Value.{TcpValue, unoffered, free_in, queued_in, room_of};
 ghost use Rattle.tcp_pair_model.specs.Sides.{at};
 ghost use Rattle.tcp_pair_model.specs.Values.{PairValue};
 ghost use Rattle.tcp_pair_model.specs.declared.event.Side.{Side};
+ghost use Rattle.tcp_rules.specs.Controls.{is_rst, is_syn};
+ghost use Rattle.tcp_rules.specs.Offsets.{behind_by};
 ghost use Rattle.tcp_rules.specs.OpenOffer.{OpenOffer};
 ghost use Rattle.tcp_rules.specs.Timing.{carries};
 ghost use Rattle.tcp_progress.specs.Again.{StartsOver};
-ghost use Rattle.tcp_progress.specs.Arrivals.{is_synchronized, Counts, IsNearWindow, IsNew, Rises, IsAgain, IsAnswered};
+ghost use Rattle.tcp_progress.specs.Arrivals.{is_synchronized, Counts, EndsLastAck, IsNearWindow, IsNew, Rises, IsAgain, IsAnswered};
+ghost use Rattle.tcp_progress.specs.Exchange.{GoesFromUna, HasMoved, IsOpen, MayExchange, TookWhatWasSent};
 ghost use Rattle.tcp_progress.specs.Positions.{LiesWithin};
 ghost use Rattle.tcp_progress.specs.Reached.{IsReached, Owes};
 ghost use Rattle.tcp_tie.specs.Tie.{Past, Keeps};
@@ -59,11 +65,11 @@ pub fn text_in_order_raises_rcv_nxt()
 {}
 
 /// A segment that was taken already is answered at once with RCV.NXT, past all that was ever sent, unless the last answer was drawn within
-/// the second before; or its acknowledgement ends the connection.
+/// the second before; or its acknowledgement ends LAST-ACK.
 pub fn old_text_is_answered()
     ensures answered { (cx : ContextValue) (v : TcpValue) (ip : IpRepr) (header : TcpHeader) (bytes : List ℕ) (number : SeqNumber)
         → Counts v.block header number → IsAgain v header (length bytes) → may_draw cx.moment v.block.timers.draws_from ≡ true
-        → (is_closed (arrives cx v ip header bytes).socket.block.state ≡ true) ⊎ IsAnswered v (arrives cx v ip header bytes) }
+        → EndsLastAck v (arrives cx v ip header bytes) ⊎ IsAnswered v (arrives cx v ip header bytes) }
 {}
 
 /// Either way its acknowledgement counts: it lies inside the window, or just before it.
@@ -77,4 +83,33 @@ pub fn what_begins_before_the_window_counts()
 pub fn rcv_nxt_lies_in_what_was_written()
     ensures within { (v w : TcpValue) (p q : Past) (k : Keeps v p w q) → is_synchronized v.block.state ≡ true
         → is_synchronized w.block.state ≡ true → IsInStep k.side k.partner → LiesWithin v w k.side k.partner }
+{}
+
+/// What begins at SND.UNA, and ends no further than what was written, is new to the partner, or was taken already.
+pub fn what_begins_at_snd_una_is_new_or_was_taken()
+    ensures either { (v w : TcpValue) (p q : Past) (k : Keeps v p w q) (header : TcpHeader) (size : ℕ) → is_synchronized v.block.state ≡ true
+        → is_synchronized w.block.state ≡ true → IsInStep k.side k.partner → header.seq_number ≡ v.block.sender.una → 1 ≤ segment_len header size
+        → segment_len header size ≤ unacked v.block (queued_in v) → 1 ≤ free_in w
+        → distance_of v.block.sender.una w.block.receiver.next ≤ room_of w.received + 2
+        → IsNew w header size ⊎ IsAgain w header size }
+    ensures goes { (cx : ContextValue) (v : TcpValue) (o : OpenOffer) → v.block.sender.una.0 < 2 ^ 32 → v.block.sender.syn_unacked ≡ false
+        → StartsOver cx v → (offer_of cx v).socket.offered ≡ Some o → carries o.kind ≡ true → GoesFromUna v o }
+{}
+
+/// Whatever the partner sends, but a SYN and a reset, that lies in the window or just before it, raises SND.UNA to the partner's RCV.NXT.
+pub fn what_a_partner_says_raises_snd_una()
+    ensures rises { (cx : ContextValue) (v w : TcpValue) (p q : Past) (k : Keeps v p w q) (ip : IpRepr) (header : TcpHeader) (bytes : List ℕ)
+        → IsOpen v.block → is_synchronized w.block.state ≡ true → TookWhatWasSent v w → is_syn header.control ≡ false
+        → is_rst header.control ≡ false → comes_older header.options.timestamp v.block.peer.recent ≡ false
+        → header.ack_number ≡ Some w.block.receiver.next → IsNearWindow v header (length bytes)
+        → (arrives cx v ip header bytes).socket.block.sender.una
+        ≡ behind_by v.block.sender.una (distance_of v.block.sender.una w.block.receiver.next) }
+{}
+
+/// An exchange: a side with nothing in flight, or whose timer has run out, offers text or a FIN, and it comes. Then RCV.NXT of the partner
+/// rises, and its acknowledgement is due; or the partner has it already, and its answer, as soon as it comes, raises SND.UNA; or it ends
+/// LAST-ACK of the partner.
+pub fn an_exchange_goes_on()
+    ensures moved { (cx cy cz : ContextValue) (v w : TcpValue) (p q : Past) (k : Keeps v p w q) (o : OpenOffer)
+        → IsInStep k.side k.partner → MayExchange cx cy v w o → HasMoved cx cy cz v w o }
 {}

@@ -1,0 +1,433 @@
+-- The steps of an exchange joined: what goes from SND.UNA on is new to the partner, or was taken, and then its answer raises SND.UNA.
+use Rattle.std.proofs.Common.{◌≡◌, ◌⊎◌, inl, inr, ℕ, ◌+◌, ◌-◌, ◌%◌, ◌^◌, ◌<◌, ◌≤◌, ◌==◌, ◌&&◌, nat_lt, Bool, true, false, if◌then◌else◌, List, [], ◌∷◌, ◌++◌, length, slice_get, Option}
+use Rattle.std.proofs.Common.{Some, None, refl, sym, ap, ◌∙◌, subst, arith}
+use Rattle.std.proofs.lemmas.Bool.{eq-eqb, ltb-true, ltb-false, lt-ltb}
+use Rattle.net_base.specs.Ring.{Ring}
+use Rattle.ip_wire.specs.Control.{control_len}
+use Rattle.ip_wire.specs.IpRepr.{IpRepr}
+use Rattle.ip_wire.specs.Seq.{distance_of}
+use Rattle.ip_wire.specs.SeqNumber.{SeqNumber}
+use Rattle.ip_wire.specs.TcpControl.{TcpControl}
+use Rattle.ip_wire.specs.TcpHeader.{TcpHeader}
+use Rattle.tcp_law.specs.Invariant.{IsInStep}
+use Rattle.tcp_law.specs.Side.{Side, rcv_next, send_end}
+use Rattle.tcp_tie.specs.Context.{ContextValue}
+use Rattle.tcp_tie.specs.History.{with_answer, with_offer}
+use Rattle.tcp_tie.specs.Tie.{Past, Keeps, is_finished_in, segment_of}
+use Rattle.tcp_rules.specs.Controls.{is_syn, is_rst}
+use Rattle.tcp_rules.specs.Offsets.{past_by, before_by, behind_by, meets_window}
+use Rattle.tcp_rules.specs.OpenOffer.{OpenOffer}
+use Rattle.tcp_rules.specs.Reply.{Reply}
+use Rattle.tcp_rules.specs.State.{State}
+use Rattle.tcp_rules.specs.State.TheVariants as In
+use Rattle.tcp_rules.specs.States.{takes_text}
+use Rattle.tcp_pair_model.specs.Arrival.{arrives}
+use Rattle.tcp_pair_model.specs.Block.{Block}
+use Rattle.tcp_pair_model.specs.Blocks.{top, unacked}
+use Rattle.tcp_pair_model.specs.Checks.{is_in_window}
+use Rattle.tcp_pair_model.specs.Offers.{offer_of}
+use Rattle.tcp_pair_model.specs.Segments.{segment_len}
+use Rattle.tcp_pair_model.specs.Settled.{settled}
+use Rattle.tcp_pair_model.specs.Timestamps.{comes_older}
+use Rattle.tcp_pair_model.specs.Value.{TcpValue, Received, Arrived, free_in, queued_in, room_of}
+use Rattle.tcp_tie.proofs.ArrivalLaws.{keeps_arrival}
+use Rattle.tcp_tie.proofs.OfferLaws.{keeps_sent_offer}
+use Rattle.tcp_tie.proofs.PromiseLemmas.{keeps_turned, safe_sockets}
+use Rattle.tcp_rules.proofs.OrderSteps.{clash}
+use Rattle.tcp_progress.specs.Arrivals.{is_synchronized, Counts, IsNearWindow, IsNew, IsAgain, IsAnswered, EndsLastAck, Rises}
+use Rattle.tcp_progress.specs.Exchange.{IsOpen, TookWhatWasSent, HasSpace, text_of, GoesFromUna, offer_comes, MayExchange, MovesOn, IsTaken, IsTold, HasMoved}
+use Rattle.tcp_progress.specs.Positions.{LiesWithin}
+use Rattle.tcp_progress.proofs.Acked.{una_rises}
+use Rattle.tcp_progress.proofs.Offered.{GoesOut, StaysBut, goes_out_of, goes_from_una}
+use Rattle.tcp_progress.proofs.Positions.{IsPlaced, placed, lies_within, whole_taken, una_small, next_small}
+use Rattle.tcp_progress.proofs.Taken.{next_rises, again_answered}
+
+-- WHAT GOES FROM SND.UNA ON
+
+-- a side that takes no text took the FIN
+finished_where : (state : State) → is_synchronized state ≡ true → takes_text state ≡ false → is_finished_in state ≡ true
+finished_where In.Closed past e = clash (sym past)
+finished_where In.Listen past e = clash (sym past)
+finished_where In.SynSent past e = clash (sym past)
+finished_where In.SynReceived past e = clash (sym past)
+finished_where In.Established past e = clash e
+finished_where In.FinWait1 past e = clash e
+finished_where In.FinWait2 past e = clash e
+finished_where other past e = refl
+
+all_there : (una far next all end : ℕ) → una + far ≡ next → next ≡ end → una + all ≡ end → far ≡ all
+all_there una far next all end a b c = omega arith
+
+near_half : (far all : ℕ) → far ≤ all → all < 2 ^ 30 → far < 2 ^ 31
+near_half far all a b = omega arith
+
+not_within : (far all len : ℕ) → far ≡ all → len ≤ all → far < len → ⊥
+not_within far all len a b c = absurd (omega arith)
+
+pub new_or_again :
+    (v w : TcpValue) (p q : Past) (k : Keeps v p w q) (header : TcpHeader) (size : ℕ) → is_synchronized v.block.state ≡ true
+    → is_synchronized w.block.state ≡ true → IsInStep k.side k.partner → header.seq_number ≡ v.block.sender.una → 1 ≤ segment_len header size
+    → segment_len header size ≤ unacked v.block (queued_in v) → 1 ≤ free_in w
+    → distance_of v.block.sender.una w.block.receiver.next ≤ room_of w.received + 2
+    → IsNew w header size ⊎ IsAgain w header size
+new_or_again v w p q k header size mine theirs step number some ends room near = by (nat_lt far len) refl where
+  s : Side
+  s = k.side
+
+  t : Side
+  t = k.partner
+
+  a : IsPlaced v s
+  a = placed v s k.fits k.holds.0.well_formed mine
+
+  b : IsPlaced w t
+  b = placed w t k.partner_fits k.holds.1.well_formed theirs
+
+  l : LiesWithin v w s t
+  l = lies_within v w p q k mine theirs step
+
+  len : ℕ
+  len = segment_len header size
+
+  far : ℕ
+  far = distance_of v.block.sender.una w.block.receiver.next
+
+  same : far ≡ distance_of header.seq_number w.block.receiver.next
+  same = ap (λ (n : SeqNumber). distance_of n w.block.receiver.next) (sym number)
+
+  seq_small : header.seq_number.0 < 2 ^ 32
+  seq_small = subst (λ (n : SeqNumber). n.0 < 2 ^ 32) (sym number) (una_small v s a)
+
+  begins : distance_of header.seq_number w.block.receiver.next < 2 ^ 31
+  begins = subst (λ (n : ℕ). n < 2 ^ 31) same (near_half far (unacked v.block (queued_in v)) l.within l.few)
+
+  takes : far < len → takes_text w.block.state ≡ true
+  takes less = at (takes_text w.block.state) refl where
+    at : (test : Bool) → takes_text w.block.state ≡ test → takes_text w.block.state ≡ true
+    at true e = e
+    at false e =
+        let finished : t.took_fin ≡ true = b.finished ∙ finished_where w.block.state theirs e in
+        absurd (not_within far (unacked v.block (queued_in v)) len
+        (all_there s.una far (rcv_next t) (unacked v.block (queued_in v)) (send_end s) l.position (whole_taken s t k.holds.0 finished) a.end) ends less)
+
+  by : (test : Bool) → nat_lt far len ≡ test → IsNew w header size ⊎ IsAgain w header size
+  by true e =
+      inl
+      (record {
+        takes = takes (ltb-true far len e);
+        room = room;
+        begins = begins;
+        ends = subst (λ (n : ℕ). n < len) same (ltb-true far len e);
+        seq_small = seq_small;
+        next_small = next_small w t b;
+      })
+  by false e =
+      inr
+      (record {
+        some = some;
+        begins = begins;
+        ends = subst (λ (n : ℕ). len ≤ n) same (ltb-false far len e);
+        near = subst (λ (n : ℕ). n ≤ room_of w.received + 2) same near;
+        seq_small = seq_small;
+        next_small = next_small w t b;
+      })
+
+-- WHAT THE PARTNER ACKNOWLEDGES
+
+few_sent : (top all : ℕ) → top ≤ all → all < 2 ^ 30 → top < 2 ^ 31
+few_sent top all a b = omega arith
+
+pub counts_for :
+    (v w : TcpValue) (p q : Past) (k : Keeps v p w q) (header : TcpHeader) → IsOpen v.block → is_synchronized w.block.state ≡ true
+    → TookWhatWasSent v w → is_syn header.control ≡ false → is_rst header.control ≡ false
+    → comes_older header.options.timestamp v.block.peer.recent ≡ false → header.ack_number ≡ Some w.block.receiver.next
+    → Counts v.block header w.block.receiver.next
+counts_for v w p q k header mine theirs sent no_syn no_reset fresh ack = record {
+  synchronized = mine.synchronized;
+  opened = mine.opened;
+  no_syn = no_syn;
+  no_reset = no_reset;
+  fresh = fresh;
+  acknowledges = ack;
+  sent = sent;
+  few = few_sent v.block.sender.top (unacked v.block (queued_in v)) a.top a.few;
+  number_small = next_small w k.partner b;
+  una_small = una_small v k.side a;
+}
+  where
+    a : IsPlaced v k.side
+    a = placed v k.side k.fits k.holds.0.well_formed mine.synchronized
+
+    b : IsPlaced w k.partner
+    b = placed w k.partner k.partner_fits k.holds.1.well_formed theirs
+
+abbrev number_of : ℕ → SeqNumber
+number_of n = record { 0 = n }
+
+same_number : (a b : SeqNumber) → a.0 ≡ b.0 → a ≡ b
+same_number a b e = ap number_of e
+
+ahead_again : (una n : ℕ) → una < 2 ^ 32 → n < 2 ^ 32 → n ≡ (una + (n + (2 ^ 32 - una)) % 2 ^ 32) % 2 ^ 32
+ahead_again una n e f = omega arith
+
+-- SND.UNA rises to RCV.NXT of the partner: by as much as lies between them
+pub risen_to :
+    (old una next : SeqNumber) → old.0 < 2 ^ 32 → next.0 < 2 ^ 32 → una.0 ≡ next.0 → una ≡ behind_by old (distance_of old next)
+risen_to old una next a b e = same_number una (behind_by old (distance_of old next)) (e ∙ ahead_again old.0 next.0 a b)
+
+-- as far as the partner's RCV.NXT lies within what was written
+pub moves_to :
+    (old una next : SeqNumber) (all : ℕ) → old.0 < 2 ^ 32 → next.0 < 2 ^ 32 → una.0 ≡ next.0 → 1 ≤ distance_of old next → distance_of old next ≤ all
+    → all < 2 ^ 30 → MovesOn old una
+moves_to old una next all a b e some within few = record {
+  by = distance_of old next;
+  some = some;
+  few = below (distance_of old next) all within few;
+  moved = risen_to old una next a b e;
+}
+  where
+    below : (far all : ℕ) → far ≤ all → all < 2 ^ 30 → far < 2 ^ 30
+    below far all c d = omega arith
+
+pub partners_word :
+    (cx : ContextValue) (v w : TcpValue) (p q : Past) (k : Keeps v p w q) (ip : IpRepr) (header : TcpHeader) (bytes : List ℕ) → IsOpen v.block
+    → is_synchronized w.block.state ≡ true → TookWhatWasSent v w → is_syn header.control ≡ false → is_rst header.control ≡ false
+    → comes_older header.options.timestamp v.block.peer.recent ≡ false → header.ack_number ≡ Some w.block.receiver.next
+    → IsNearWindow v header (length bytes)
+    → (arrives cx v ip header bytes).socket.block.sender.una
+    ≡ behind_by v.block.sender.una (distance_of v.block.sender.una w.block.receiver.next)
+partners_word cx v w p q k ip header bytes mine theirs sent no_syn no_reset fresh ack there =
+    let c = counts_for v w p q k header mine theirs sent no_syn no_reset fresh ack in
+    risen_to v.block.sender.una (arrives cx v ip header bytes).socket.block.sender.una w.block.receiver.next c.una_small c.number_small
+    (una_rises cx v ip header bytes w.block.receiver.next c there)
+
+-- A BARE ACKNOWLEDGEMENT
+
+-- it lies past RCV.NXT, by what was sent and didn't come
+past_next : (una next top : ℕ) → una < 2 ^ 32 → next < 2 ^ 32 → (next + (2 ^ 32 - una)) % 2 ^ 32 ≤ top → top < 2 ^ 30
+    → ((una + top) % 2 ^ 32 + (2 ^ 32 - next)) % 2 ^ 32 < 2 ^ 31
+past_next una next top a b c d = omega arith
+
+bare_meets : (far space : ℕ) → far < 2 ^ 31 → (far ≡ 0) ⊎ (far < space) →
+    meets_window (if nat_lt far (2 ^ 31) then 0 else 2 ^ 32 - far) (if nat_lt far (2 ^ 31) then far else 0) 0 space ≡ true
+bare_meets far space less room =
+    ap (λ (t : Bool). meets_window (if t then 0 else 2 ^ 32 - far) (if t then far else 0) 0 space) (lt-ltb far (2 ^ 31) less) ∙ by room
+  where
+    by : (far ≡ 0) ⊎ (far < space) → (if far == 0 then true else nat_lt far space) ≡ true
+    by (inl none) = ap (λ (t : Bool). if t then true else nat_lt far space) (eq-eqb far 0 none)
+    by (inr within) = at (far == 0) where
+      at : (test : Bool) → (if test then true else nat_lt far space) ≡ true
+      at true = refl
+      at false = lt-ltb far space within
+
+-- SND.NXT of a partner, past RCV.NXT of the side
+pub bare_lies_inside :
+    (v w : TcpValue) (p q : Past) (k : Keeps v p w q) (header : TcpHeader) → is_synchronized v.block.state ≡ true → is_synchronized w.block.state ≡ true
+    → TookWhatWasSent w v → HasSpace v w → header.seq_number ≡ top w.block → segment_len header 0 ≡ 0
+    → is_in_window v.block (free_in v) header 0 ≡ true
+bare_lies_inside v w p q k header mine theirs heard space number bare =
+    ap (λ (n : SeqNumber). meets_window (before_by v.block.receiver.next n) (past_by v.block.receiver.next n) (segment_len header 0) (free_in v)) number
+    ∙ (ap (λ (n : ℕ). meets_window (before_by v.block.receiver.next (top w.block)) (past_by v.block.receiver.next (top w.block)) n (free_in v)) bare
+    ∙ bare_meets (distance_of v.block.receiver.next (top w.block)) (free_in v)
+    (past_next w.block.sender.una.0 v.block.receiver.next.0 w.block.sender.top (una_small w k.partner b) (next_small v k.side a) heard
+    (few w.block.sender.top (unacked w.block (queued_in w)) b.top b.few))
+    space)
+  where
+    a : IsPlaced v k.side
+    a = placed v k.side k.fits k.holds.0.well_formed mine
+
+    b : IsPlaced w k.partner
+    b = placed w k.partner k.partner_fits k.holds.1.well_formed theirs
+
+    few : (top all : ℕ) → top ≤ all → all < 2 ^ 30 → top < 2 ^ 30
+    few top all c d = omega arith
+
+-- AN EXCHANGE
+
+-- an exchange reads of the socket what an offer leaves as it is
+open_still : (old new : Block) → StaysBut old new → IsOpen old → IsOpen new
+open_still old new s o = record {
+  synchronized = ap is_synchronized s.state ∙ o.synchronized;
+  acknowledged = s.syn_unacked ∙ o.acknowledged;
+  opened = subst (λ (n : ℕ). 1 ≤ n) (sym s.past_iss) o.opened;
+}
+
+enough : (far len : ℕ) → len ≤ far → 1 ≤ len → 1 ≤ far
+enough far len a b = omega arith
+
+up_to : (a b c : ℕ) → a ≤ b → b ≤ c → a ≤ c
+up_to a b c e f = omega arith
+
+-- the last of a list
+pub last_of : {A : Type 0} → (xs : List A) (x : A) → slice_get (xs ++ x ∷ []) (length xs) ≡ Some x
+last_of [] x = refl
+last_of (y ∷ xs) x = last_of xs x
+
+-- what waits is part of a stream
+within_stream : (read waiting rest stream : List ℕ) → (read ++ waiting) ++ rest ≡ stream → length waiting ≤ length stream
+within_stream read waiting rest stream e =
+    subst (λ (xs : List ℕ). length waiting ≤ length xs) e
+    (up_to (length waiting) (length (read ++ waiting)) (length ((read ++ waiting) ++ rest)) (longer_behind read waiting) (longer_before (read ++ waiting) rest))
+  where
+    longer_behind : (xs ys : List ℕ) → length ys ≤ length (xs ++ ys)
+    longer_behind [] ys = same (length ys) where
+      same : (n : ℕ) → n ≤ n
+      same n = omega arith
+    longer_behind (x ∷ xs) ys = omega (arith, longer_behind xs ys)
+
+    longer_before : (xs ys : List ℕ) → length xs ≤ length (xs ++ ys)
+    longer_before [] ys = omega arith
+    longer_before (x ∷ xs) ys = omega (arith, longer_before xs ys)
+
+far_below : (by waiting written : ℕ) → by ≤ waiting + 1 → waiting ≤ written → written < 2 ^ 29 → by < 2 ^ 30
+far_below by waiting written a b c = omega arith
+
+module _ (cx cy cz : ContextValue) (v w : TcpValue) (p q : Past) (k : Keeps v p w q) (o : OpenOffer) (step : IsInStep k.side k.partner)
+    (may : MayExchange cx cy v w o) where
+  abbrev bytes : List ℕ
+  bytes = text_of v o
+
+  abbrev came : Arrived
+  came = offer_comes cy w v o
+
+  abbrev gone : TcpValue
+  gone = settled true (offer_of cx v).socket
+
+  out : GoesOut v (offer_of cx v).socket o
+  out = goes_out_of cx v o may.own.acknowledged may.offered may.kind
+
+  a : IsPlaced v k.side
+  a = placed v k.side k.fits k.holds.0.well_formed may.own.synchronized
+
+  goes : GoesFromUna v o
+  goes = goes_from_una cx v o (una_small v k.side a) may.own.acknowledged may.over may.offered may.kind
+
+  turned : Keeps w q v p
+  turned = record {
+    side = k.partner;
+    partner = k.side;
+    past = k.partner_past;
+    partner_past = k.past;
+    fits = k.partner_fits;
+    partner_fits = k.fits;
+    holds = (k.holds.1, k.holds.0);
+  }
+
+  counts : Counts w.block o.segment v.block.receiver.next
+  counts = counts_for w v q p turned o.segment may.theirs may.own.synchronized may.heard out.no_syn out.no_reset may.fresh goes.acknowledges
+
+  -- the answer finds the socket that has sent its offer
+  abbrev after : Past
+  after = with_offer p (offer_of cx v).socket.offered (offer_of cx v).socket.queued.queue
+
+  kept : Keeps gone after w q
+  kept = keeps_sent_offer cx v w p q k
+
+  mine : IsOpen gone.block
+  mine = open_still v.block gone.block out.sent may.own
+
+  same_una : distance_of gone.block.sender.una w.block.receiver.next ≡ distance_of v.block.sender.una w.block.receiver.next
+  same_una = ap (λ (n : SeqNumber). distance_of n w.block.receiver.next) out.sent.una
+
+  abbrev far : ℕ
+  far = distance_of v.block.sender.una w.block.receiver.next
+
+  l : LiesWithin v w k.side k.partner
+  l = lies_within v w p q k may.own.synchronized may.theirs.synchronized step
+
+  module _ (again : IsAgain w o.segment (length bytes)) (r : IsAnswered w came) where
+    abbrev heard_back : TcpValue
+    heard_back = (arrives cz gone r.reply.header r.reply.segment []).socket
+
+    heard : TookWhatWasSent w gone
+    heard = subst (λ (n : SeqNumber). distance_of w.block.sender.una n ≤ w.block.sender.top) (sym out.sent.next) may.heard
+
+    sent : TookWhatWasSent gone w
+    sent =
+        up_to (distance_of gone.block.sender.una w.block.receiver.next) v.block.sender.top gone.block.sender.top
+        (subst (λ (n : ℕ). n ≤ v.block.sender.top) (sym same_una) may.sent) out.sent.top
+
+    space : HasSpace gone w
+    space =
+        subst (λ (r : Received). (distance_of gone.block.receiver.next (top w.block) ≡ 0) ⊎ (distance_of gone.block.receiver.next (top w.block) < length r.map))
+        (sym out.received)
+        (subst (λ (n : SeqNumber). (distance_of n (top w.block) ≡ 0) ⊎ (distance_of n (top w.block) < free_in v)) (sym out.sent.next) may.space)
+
+    inside : is_in_window gone.block (free_in gone) r.reply.segment 0 ≡ true
+    inside =
+        bare_lies_inside gone w after q kept r.reply.segment mine.synchronized may.theirs.synchronized heard space (r.bare ∙ r.same)
+        (ap (λ (control : TcpControl). 0 + control_len control) r.plain)
+
+    fresh : comes_older r.reply.segment.options.timestamp gone.block.peer.recent ≡ false
+    fresh =
+        subst (λ (n : ℕ). comes_older r.reply.segment.options.timestamp n ≡ false) (sym out.sent.recent)
+        (may.answer_fresh r.reply r.answer)
+
+    answer_counts : Counts gone.block r.reply.segment w.block.receiver.next
+    answer_counts =
+        counts_for gone w after q kept r.reply.segment mine may.theirs.synchronized sent (ap is_syn r.plain) (ap is_rst r.plain) fresh
+        r.acknowledges
+
+    some : 1 ≤ far
+    some =
+        enough far (segment_len o.segment (length bytes))
+        (subst (λ (n : SeqNumber). segment_len o.segment (length bytes) ≤ distance_of n w.block.receiver.next) goes.number again.ends)
+        may.some
+
+    told : IsTold cx cz v came
+    told = record {
+      reply = r.reply;
+      answer = r.answer;
+      una =
+          moves_to v.block.sender.una heard_back.block.sender.una w.block.receiver.next (unacked v.block (queued_in v)) (una_small v k.side a)
+          answer_counts.number_small
+          (una_rises cz gone r.reply.header r.reply.segment [] w.block.receiver.next answer_counts (inl inside)) some l.within l.few;
+    }
+
+  -- WHAT IS NEW
+
+  module _ (r : Rises cy w o.segment (length bytes) came) where
+    -- the segment is the last that the side sent
+    last : slice_get after.sent (length p.sent) ≡ Some (segment_of o.segment bytes)
+    last =
+        ap (λ (x : Option OpenOffer). slice_get (with_offer p x (offer_of cx v).socket.queued.queue).sent (length p.sent)) may.offered
+        ∙ (ap (λ (queued : Ring ℕ). slice_get (with_offer p (Some o) queued.queue).sent (length p.sent)) out.queued
+        ∙ last_of p.sent (segment_of o.segment bytes))
+
+    taken : Keeps came.socket (with_answer q came.answer) gone after
+    taken = keeps_arrival cy w gone q after o.header o.segment bytes (length p.sent) (keeps_turned gone w after q kept) last
+
+    written : length after.written < 2 ^ 29
+    written = subst (λ (p : Past). length p.written < 2 ^ 29) taken.partner_past taken.holds.1.well_formed.short
+
+    waits : length came.socket.received.waiting ≤ length after.written
+    waits =
+        let safe = safe_sockets gone came.socket after (with_answer q came.answer) (keeps_turned came.socket gone (with_answer q came.answer) after taken) in
+        within_stream (with_answer q came.answer).read came.socket.received.waiting safe.prefix.0 after.written safe.prefix.1
+
+    is_taken : IsTaken cy w o.segment (length bytes) came
+    is_taken = record {
+      rises = r;
+      next = record {
+        by = r.by;
+        some = r.some;
+        few = far_below r.by (length came.socket.received.waiting) (length after.written) r.waits waits written;
+        moved = r.next;
+      };
+    }
+
+  pub moved : HasMoved cx cy cz v w o
+  moved = by (new_or_again v w p q k o.segment (length bytes) may.own.synchronized may.theirs.synchronized step goes.number may.some goes.ends may.room may.near)
+    where
+      answered : IsAgain w o.segment (length bytes) → EndsLastAck w came ⊎ IsAnswered w came → HasMoved cx cy cz v w o
+      answered again (inl ends) = inr (inr ends)
+      answered again (inr r) = inr (inl (told again r))
+
+      by : IsNew w o.segment (length bytes) ⊎ IsAgain w o.segment (length bytes) → HasMoved cx cy cz v w o
+      by (inl new) = inl (is_taken (next_rises cy w o.header o.segment bytes v.block.receiver.next counts new))
+      by (inr again) = answered again (again_answered cy w o.header o.segment bytes v.block.receiver.next counts again may.draws)
+
+pub goes_on :
+    (cx cy cz : ContextValue) (v w : TcpValue) (p q : Past) (k : Keeps v p w q) (o : OpenOffer) → IsInStep k.side k.partner → MayExchange cx cy v w o
+    → HasMoved cx cy cz v w o
+goes_on cx cy cz v w p q k o step may = moved cx cy cz v w p q k o step may
