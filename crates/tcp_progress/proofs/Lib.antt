@@ -6,3 +6,6 @@ pub mod Positions
 pub mod Again
 pub mod Offered
 pub mod Exchange
+pub mod Pair
+pub mod Stampless
+pub mod Left

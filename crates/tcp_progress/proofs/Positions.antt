@@ -16,7 +16,7 @@ use Rattle.tcp_rules.proofs.OrderSteps.{clash}
 use Rattle.tcp_progress.specs.Arrivals.{is_synchronized}
 use Rattle.tcp_progress.specs.Positions.{LiesWithin}
 
-connected_in : (state : State) → is_synchronized state ≡ true → is_connected state ≡ true
+pub connected_in : (state : State) → is_synchronized state ≡ true → is_connected state ≡ true
 connected_in In.Closed e = clash (sym e)
 connected_in In.Listen e = clash (sym e)
 connected_in In.SynSent e = clash (sym e)

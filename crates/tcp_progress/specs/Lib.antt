@@ -6,3 +6,4 @@ pub mod Rounds
 pub mod Standstill
 pub mod Again
 pub mod Exchange
+pub mod Pair

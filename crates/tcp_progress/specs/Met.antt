@@ -1,11 +1,14 @@
 -- That what the laws ask for is met, on numerals: a pair with room for 64 bytes each way, opened by three segments; then A writes abc.
-use Rattle.std.specs.Prelude.{pos, true, List, [], ◌∷◌, Option, slice_get}
+use Rattle.std.specs.Prelude.{ℤ, pos, true, List, [], ◌∷◌, Option, slice_get}
+use Rattle.tcp_rules.specs.OpenOffer.{OpenOffer}
+use Rattle.tcp_pair_model.specs.Offers.{offer_of}
 use Rattle.tcp_pair_model.specs.declared.event.SentSegment.{SentSegment}
 use Rattle.tcp_pair_model.specs.declared.event.Side.TheVariants.{A, B}
 use Rattle.tcp_pair_model.specs.declared.event.PairEvent.{PairEvent}
 use Rattle.tcp_pair_model.specs.declared.event.PairEvent.TheVariants.{Listen, Connect, Send, Offer, Deliver}
 use Rattle.tcp_pair_model.specs.Examples.{socket, server, port, run}
 use Rattle.tcp_pair_model.specs.Values.{PairValue, new_pair}
+use Rattle.tcp_progress.specs.Pair.{context_of}
 
 abbrev pub events : List PairEvent
 events =
@@ -32,3 +35,11 @@ come = run gone (Deliver A 2 ∷ [])
 -- the segment
 abbrev pub text : Option SentSegment
 text = slice_get gone.sides.a.sent 2
+
+-- when A's timer has run out
+abbrev pub late : ℤ
+late = pos 5_000_000
+
+-- what A offers then
+abbrev pub again_in : PairValue → Option OpenOffer
+again_in p = (offer_of (context_of p A late) p.sides.a.socket).socket.offered

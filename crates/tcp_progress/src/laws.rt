@@ -1,6 +1,6 @@
 //! That a connection goes on.
 
-ghost use Rattle.std.specs.Prelude.{◌≡◌, ◌⊎◌, ℕ, ◌+◌, ◌^◌, ◌<◌, ◌≤◌, true, false, List, length, Some};
+ghost use Rattle.std.specs.Prelude.{◌≡◌, ◌⊎◌, ℕ, ◌+◌, ◌^◌, ◌<◌, ◌≤◌, ℤ, true, false, List, length, Some};
 ghost use Rattle.ip_wire.specs.IpRepr.{IpRepr};
 ghost use Rattle.ip_wire.specs.Seq.{distance_of};
 ghost use Rattle.ip_wire.specs.SeqNumber.{SeqNumber};
@@ -18,8 +18,8 @@ ghost use Rattle.tcp_pair_model.specs.Blocks.{unacked};
 ghost use Rattle.tcp_pair_model.specs.Segments.{segment_len};
 ghost use Rattle.tcp_pair_model.specs.Timestamps.{comes_older};
 ghost use Rattle.tcp_pair_model.specs.Value.{TcpValue, unoffered, free_in, queued_in, room_of};
-ghost use Rattle.tcp_pair_model.specs.Sides.{at};
-ghost use Rattle.tcp_pair_model.specs.Values.{PairValue};
+ghost use Rattle.tcp_pair_model.specs.Sides.{at, other};
+ghost use Rattle.tcp_pair_model.specs.Values.{PairValue, past_at};
 ghost use Rattle.tcp_pair_model.specs.declared.event.Side.{Side};
 ghost use Rattle.tcp_rules.specs.Controls.{is_rst, is_syn};
 ghost use Rattle.tcp_rules.specs.Offsets.{behind_by};
@@ -28,6 +28,7 @@ ghost use Rattle.tcp_rules.specs.Timing.{carries};
 ghost use Rattle.tcp_progress.specs.Again.{StartsOver};
 ghost use Rattle.tcp_progress.specs.Arrivals.{is_synchronized, Counts, EndsLastAck, IsNearWindow, IsNew, Rises, IsAgain, IsAnswered};
 ghost use Rattle.tcp_progress.specs.Exchange.{GoesFromUna, HasMoved, IsOpen, MayExchange, TookWhatWasSent};
+ghost use Rattle.tcp_progress.specs.Pair.{HasStream, MayExchangeIn, MovesIn, socket_of};
 ghost use Rattle.tcp_progress.specs.Positions.{LiesWithin};
 ghost use Rattle.tcp_progress.specs.Reached.{IsReached, Owes};
 ghost use Rattle.tcp_tie.specs.Tie.{Past, Keeps};
@@ -112,4 +113,21 @@ pub fn what_a_partner_says_raises_snd_una()
 pub fn an_exchange_goes_on()
     ensures moved { (cx cy cz : ContextValue) (v w : TcpValue) (p q : Past) (k : Keeps v p w q) (o : OpenOffer)
         → IsInStep k.side k.partner → MayExchange cx cy v w o → HasMoved cx cy cz v w o }
+{}
+
+/// Of two sockets whose streams keep the invariant: they are in step where the side's user hasn't closed it, or wrote something.
+pub fn a_side_with_a_stream_is_in_step()
+    ensures step { (v w : TcpValue) (p q : Past) (k : Keeps v p w q) → is_synchronized v.block.state ≡ true → HasStream p
+        → IsInStep k.side k.partner }
+{}
+
+/// No deadlock, of a pair: a side that has something unacknowledged is asked at a moment at which nothing is in flight or its timer has run
+/// out, and sends text or a FIN. Its segment comes, and what answers it comes. Then RCV.NXT of the other rises, or SND.UNA of the side does,
+/// or the other was in LAST-ACK, which the segment ends.
+pub fn an_exchange_of_a_pair_goes_on()
+    ensures kept { (p : PairValue) (side : Side) (moment : ℤ) (o : OpenOffer)
+        (k : Keeps (socket_of p side) (past_at p side) (socket_of p (other side)) (past_at p (other side)))
+        → IsInStep k.side k.partner → MayExchangeIn p side moment o → MovesIn p side moment }
+    ensures reached { (p : PairValue) (side : Side) (moment : ℤ) (o : OpenOffer) → IsReached p → HasStream (past_at p side)
+        → MayExchangeIn p side moment o → MovesIn p side moment }
 {}

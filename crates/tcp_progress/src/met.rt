@@ -2,7 +2,10 @@
 
 ghost use Rattle.std.specs.Prelude.{length, IfSome};
 ghost use Rattle.tcp_progress.specs.Arrivals.{Counts, IsNew, IsAgain};
-ghost use Rattle.tcp_progress.specs.Met.{gone, come, text};
+ghost use Rattle.tcp_pair_model.specs.Values.{past_at};
+ghost use Rattle.tcp_pair_model.specs.declared.event.Side.TheVariants.{A};
+ghost use Rattle.tcp_progress.specs.Met.{gone, come, text, late, again_in};
+ghost use Rattle.tcp_progress.specs.Pair.{HasStream, MayExchangeIn, MovesIn};
 ghost use Rattle.tcp_progress.specs.Reached.{IsReached, Owes};
 
 /// Three bytes that have gone: their side waits, and they count and are new to the other; once they have come, they are old to it.
@@ -12,4 +15,14 @@ pub fn what_the_laws_ask_for_is_met()
     ensures counts { IfSome text (λ x. IfSome x.segment.ack_number (λ number. Counts gone.sides.b.socket.block x.segment number)) }
     ensures new { IfSome text (λ x. IsNew gone.sides.b.socket x.segment (length x.bytes)) }
     ensures again { IfSome text (λ x. IsAgain come.sides.b.socket x.segment (length x.bytes)) }
+{}
+
+/// An exchange is met where the bytes were lost, and where they came but the other didn't tell.
+pub fn what_an_exchange_asks_for_is_met()
+    ensures reached { IsReached come }
+    ensures stream { HasStream (past_at gone A) }
+    ensures lost { IfSome (again_in gone) (λ o. MayExchangeIn gone A late o) }
+    ensures untold { IfSome (again_in come) (λ o. MayExchangeIn come A late o) }
+    ensures moves { MovesIn gone A late }
+    ensures tells { MovesIn come A late }
 {}

@@ -1,0 +1,275 @@
+-- An exchange of two sockets as events of a pair.
+use Rattle.std.proofs.Common.{◌≡◌, ◌⊎◌, inl, inr, ℕ, suc, ◌≤◌, ◌==◌, ◌&&◌, ℤ, Bool, true, false, if◌then◌else◌, List, [], ◌∷◌, ◌++◌, length, Option, Some, None}
+use Rattle.std.proofs.Common.{slice_get, refl, sym, ap, ◌∙◌, subst, arith}
+use Rattle.std.proofs.lemmas.Bool.{eq-eqb}
+use Rattle.std.proofs.lemmas.Slice.Eq.{bytes_eq-Decides}
+use Rattle.net_base.specs.Ring.{Ring}
+use Rattle.ip_wire.specs.AddressTests.{is_same_address}
+use Rattle.ip_wire.specs.Ip.{source_of, destination_of}
+use Rattle.ip_wire.specs.IpAddress.{IpAddress}
+use Rattle.ip_wire.specs.IpAddress.TheVariants as Address
+use Rattle.ip_wire.specs.IpRepr.{IpRepr}
+use Rattle.ip_wire.specs.TcpHeader.{TcpHeader}
+use Rattle.tcp_law.specs.Invariant.{IsInStep, IsSilent}
+use Rattle.tcp_law.specs.Side.{Side as Way}
+use Rattle.tcp_law.specs.Side.Phase.{Synchronized}
+use Rattle.tcp_tie.specs.Context.{ContextValue}
+use Rattle.tcp_tie.specs.Endpoints.{GoesBetween, GoesBack, KeepsNames, FallsBack, Forgets, KeepsOrForgets, IsLeftBy}
+use Rattle.tcp_tie.specs.Tie.{Past, Keeps, IsConnectedAs, core_of, unsent, phase_of}
+use Rattle.tcp_rules.specs.EndpointPair.{EndpointPair}
+use Rattle.tcp_rules.specs.Endpoints.{local_of, remote_of, is_between, is_connected_by}
+use Rattle.tcp_rules.specs.Names.{Names}
+use Rattle.tcp_rules.specs.OpenOffer.{OpenOffer}
+use Rattle.tcp_rules.specs.Reply.{Reply}
+use Rattle.tcp_rules.specs.State.{State}
+use Rattle.tcp_rules.specs.State.TheVariants as In
+use Rattle.tcp_rules.specs.States.{is_answering, is_closed}
+use Rattle.tcp_pair_model.specs.Arrival.{arrives}
+use Rattle.tcp_pair_model.specs.Block.{Block}
+use Rattle.tcp_pair_model.specs.Names.{accepts, accepts_in}
+use Rattle.tcp_pair_model.specs.Offers.{offer_of, payload_of}
+use Rattle.tcp_pair_model.specs.Safe.{IsKept}
+use Rattle.tcp_pair_model.specs.Settled.{settled}
+use Rattle.tcp_pair_model.specs.Sides.{at, other}
+use Rattle.tcp_pair_model.specs.Steps.{Steps, happens, offered_at, handed, comes_to, taken_at}
+use Rattle.tcp_pair_model.specs.Value.{TcpValue, Arrived, new_socket}
+use Rattle.tcp_pair_model.specs.Values.{PairSide, PairValue, new_pair, context_at, and_offer, and_reply, past_at}
+use Rattle.tcp_pair_model.specs.declared.event.PairEvent.{PairEvent}
+use Rattle.tcp_pair_model.specs.declared.event.SentSegment.{SentSegment}
+use Rattle.tcp_pair_model.specs.declared.event.Side.{Side}
+use Rattle.tcp_pair_model.specs.declared.event.Side.TheVariants.{A, B}
+use Rattle.tcp_pair_model.specs.History.{pasts}
+use Rattle.tcp_pair_model.proofs.PairLaws.{new_is_kept, kept_after}
+use Rattle.tcp_tie.proofs.NameLaws.{offer_between_ends, sent_names, answer_back}
+use Rattle.tcp_tie.proofs.PromiseLemmas.{keeps_turned}
+use Rattle.tcp_tie.proofs.Tied.{fits_connected, if_so}
+use Rattle.tcp_rules.proofs.OrderSteps.{clash}
+use Rattle.tcp_progress.specs.Arrivals.{is_synchronized, EndsLastAck}
+use Rattle.tcp_progress.specs.Exchange.{IsOpen, MayExchange, MovesOn, IsTaken, IsTold, HasMoved, text_of, offer_comes}
+use Rattle.tcp_progress.specs.Pair.{HasStream, AreMirrored, MayExchangeIn, MovesIn, socket_of}
+use Rattle.tcp_progress.specs.Reached.{IsReached}
+use Rattle.tcp_progress.proofs.Exchange.{goes_on, last_of}
+use Rattle.tcp_progress.proofs.Offered.{GoesOut, goes_out_of}
+use Rattle.tcp_progress.proofs.Positions.{connected_in}
+
+-- EACH ACCEPTS WHAT THE OTHER SENDS
+
+alike : (a b : IpAddress) → a ≡ b → is_same_address a b ≡ true
+alike a b e = subst (λ (b : IpAddress). is_same_address a b ≡ true) e (itself a) where
+  itself : (a : IpAddress) → is_same_address a a ≡ true
+  itself (Address.Ipv4 a) = (bytes_eq-Decides a.0 a.0).1 refl
+  itself (Address.Ipv6 a) = (bytes_eq-Decides a.0 a.0).1 refl
+
+all_four : (a b c d : Bool) → a ≡ true → b ≡ true → c ≡ true → d ≡ true → (a && (b && (c && d))) ≡ true
+all_four a b c d e f g h = ap (λ (t : Bool). t && (b && (c && d))) e ∙ (ap (λ (t : Bool). t && (c && d)) f ∙ (ap (λ (t : Bool). t && d) g ∙ h))
+
+-- a segment between the endpoints of a connection
+between :
+    (pair : EndpointPair) (ip : IpRepr) (header : TcpHeader) → local_of pair.addresses ≡ destination_of ip → remote_of pair.addresses ≡ source_of ip
+    → pair.local_port ≡ header.dst_port → pair.remote_port ≡ header.src_port → is_between pair ip header ≡ true
+between pair ip header a b c d =
+    all_four (is_same_address (local_of pair.addresses) (destination_of ip)) (is_same_address (remote_of pair.addresses) (source_of ip))
+    (pair.local_port == header.dst_port) (pair.remote_port == header.src_port) (alike (local_of pair.addresses) (destination_of ip) a)
+    (alike (remote_of pair.addresses) (source_of ip) b) (eq-eqb pair.local_port header.dst_port c) (eq-eqb pair.remote_port header.src_port d)
+
+accepted_by :
+    (b : Block) (pair : EndpointPair) (ip : IpRepr) (header : TcpHeader) → is_synchronized b.state ≡ true → b.names.pair ≡ Some pair
+    → is_between pair ip header ≡ true → accepts b ip header ≡ true
+accepted_by b pair ip header past named fits =
+    in_state b.state past ∙ (ap (λ (names : Option EndpointPair). is_connected_by names ip header) named ∙ fits)
+  where
+    in_state : (state : State) → is_synchronized state ≡ true → accepts_in state b ip header ≡ is_connected_by b.names.pair ip header
+    in_state In.Closed e = clash (sym e)
+    in_state In.Listen e = clash (sym e)
+    in_state other e = refl
+
+one_pair : (x y : EndpointPair) → Some x ≡ Some y → x ≡ y
+one_pair x y e = cc
+
+-- a mirrored partner accepts an offer
+offer_accepted :
+    (cx : ContextValue) (v : TcpValue) (b : Block) (o : OpenOffer) (m : AreMirrored v.block b) → is_synchronized b.state ≡ true
+    → (offer_of cx v).socket.offered ≡ Some o → accepts b o.header o.segment ≡ true
+offer_accepted cx v b o m past offered =
+    let it = offer_between_ends cx v o offered in
+    let same : m.own ≡ it.0 = one_pair m.own it.0 (sym m.named ∙ it.1) in
+    let g : GoesBetween m.own o = subst (λ (pair : EndpointPair). GoesBetween pair o) (sym same) it.2 in
+    accepted_by b m.theirs o.header o.segment past m.partner_named
+    (between m.theirs o.header o.segment (sym m.remote ∙ sym g.destination) (sym m.local ∙ sym g.source) (sym m.remote_port ∙ sym g.destination_port)
+    (sym m.local_port ∙ sym g.source_port))
+
+-- the names stay with an offer, where the connection does
+names_stay : (old new : Block) → is_answering old.state ≡ false → is_closed new.state ≡ false → IsLeftBy old new → new.names ≡ old.names
+names_stay old new past alive (inl falls) = clash (sym falls.answering ∙ past)
+names_stay old new past alive (inr (inl keeps)) = keeps.names
+names_stay old new past alive (inr (inr forgets)) = clash (sym forgets.state ∙ alive)
+
+not_closed : (state : State) → is_synchronized state ≡ true → is_closed state ≡ false
+not_closed In.Closed e = clash (sym e)
+not_closed other e = refl
+
+not_answered : (state : State) → is_synchronized state ≡ true → is_answering state ≡ false
+not_answered In.SynReceived e = clash (sym e)
+not_answered other e = refl
+
+-- and the side accepts what answers it
+reply_accepted :
+    (cx cy : ContextValue) (v w : TcpValue) (bytes : List ℕ) (o : OpenOffer) (reply : Reply) (m : AreMirrored v.block w.block)
+    → (offer_of cx v).socket.offered ≡ Some o → is_synchronized v.block.state ≡ true
+    → is_synchronized (settled true (offer_of cx v).socket).block.state ≡ true → (arrives cy w o.header o.segment bytes).answer ≡ Some reply
+    → accepts (settled true (offer_of cx v).socket).block reply.header reply.segment ≡ true
+reply_accepted cx cy v w bytes o reply m offered past still answer =
+    let new = (settled true (offer_of cx v).socket).block in
+    let it = offer_between_ends cx v o offered in
+    let same : m.own ≡ it.0 = one_pair m.own it.0 (sym m.named ∙ it.1) in
+    let g : GoesBetween m.own o = subst (λ (pair : EndpointPair). GoesBetween pair o) (sym same) it.2 in
+    let back : GoesBack o.header o.segment reply = answer_back cy w o.header o.segment bytes reply answer in
+    let named : new.names.pair ≡ Some m.own =
+    ap (λ (names : Names). names.pair)
+    (names_stay v.block new (not_answered v.block.state past) (not_closed new.state still) (sent_names cx v))
+    ∙ m.named in
+    accepted_by new m.own reply.header reply.segment still named
+    (between m.own reply.header reply.segment (sym g.source ∙ sym back.destination) (sym g.destination ∙ sym back.source)
+    (sym g.source_port ∙ sym back.destination_port) (sym g.destination_port ∙ sym back.source_port))
+
+-- THE EVENTS
+
+module _ (side : Side) (s r : PairSide) (moment : ℤ) where
+  abbrev pub asked_side : PairSide
+  asked_side = offered_at side (record s { moment = moment }) true
+
+  abbrev pub partner_after : PairSide
+  partner_after = handed (other side) r (slice_get asked_side.sent (length s.sent))
+
+  abbrev pub side_after : PairSide
+  side_after = handed side asked_side (slice_get partner_after.sent (length r.sent))
+
+  abbrev cx : ContextValue
+  cx = context_at side (record s { moment = moment })
+
+  abbrev cy : ContextValue
+  cy = context_at (other side) r
+
+  abbrev Moves : Type 0
+  Moves =
+      MovesOn r.socket.block.receiver.next partner_after.socket.block.receiver.next
+      ⊎ (MovesOn s.socket.block.sender.una side_after.socket.block.sender.una
+      ⊎ ((r.socket.block.state ≡ In.LastAck) × (is_closed partner_after.socket.block.state ≡ true)))
+
+  module _ (m : AreMirrored s.socket.block r.socket.block) (o : OpenOffer) (may : MayExchange cx cy s.socket r.socket o) where
+    out : GoesOut s.socket (offer_of cx s.socket).socket o
+    out = goes_out_of cx s.socket o may.own.acknowledged may.offered may.kind
+
+    abbrev came : Arrived
+    came = offer_comes cy r.socket s.socket o
+
+    abbrev first : SentSegment
+    first = record { header = o.header; segment = o.segment; bytes = text_of s.socket o }
+
+    -- its segment is the next that it sends
+    sent : slice_get asked_side.sent (length s.sent) ≡ Some first
+    sent =
+        ap (λ (x : Option OpenOffer). slice_get (and_offer s.sent x (offer_of cx s.socket).socket.queued.queue) (length s.sent)) may.offered
+        ∙ (ap (λ (queued : Ring ℕ). slice_get (and_offer s.sent (Some o) queued.queue) (length s.sent)) out.queued ∙ last_of s.sent first)
+
+    reaches : partner_after ≡ taken_at r came
+    reaches =
+        ap (λ (x : Option SentSegment). handed (other side) r x) sent
+        ∙ if_so (accepts r.socket.block o.header o.segment) (taken_at r came) r
+        (offer_accepted cx s.socket r.socket.block o m may.theirs.synchronized may.offered)
+
+    still : is_synchronized asked_side.socket.block.state ≡ true
+    still = ap is_synchronized out.sent.state ∙ may.own.synchronized
+
+    abbrev second : Reply → SentSegment
+    second reply = record { header = reply.header; segment = reply.segment; bytes = [] }
+
+    -- and the answer is the next of the other
+    back : (reply : Reply) → came.answer ≡ Some reply →
+        side_after.socket ≡ (arrives cx asked_side.socket reply.header reply.segment []).socket
+    back reply answer =
+        ap (λ (x : Option SentSegment). (handed side asked_side x).socket) found
+        ∙ ap (λ (t : PairSide). t.socket)
+        (if_so (accepts asked_side.socket.block reply.header reply.segment)
+        (taken_at asked_side (arrives cx asked_side.socket reply.header reply.segment [])) asked_side
+        (reply_accepted cx cy s.socket r.socket (text_of s.socket o) o reply m may.offered may.own.synchronized still answer))
+      where
+        found : slice_get partner_after.sent (length r.sent) ≡ Some (second reply)
+        found =
+            ap (λ (t : PairSide). slice_get t.sent (length r.sent)) reaches
+            ∙ (drawn came.draws
+            ∙ (ap (λ (x : Option Reply). slice_get (and_reply r.sent x) (length r.sent)) answer ∙ last_of r.sent (second reply)))
+          where
+            drawn : (draws : Bool) → slice_get (taken_at r (record came { draws = draws })).sent (length r.sent) ≡
+                slice_get (and_reply r.sent came.answer) (length r.sent)
+            drawn draws = refl
+
+    by_moves : HasMoved cx cy cx s.socket r.socket o → Moves
+    by_moves (inl taken) =
+        inl
+        (subst (λ (t : PairSide). MovesOn r.socket.block.receiver.next t.socket.block.receiver.next) (sym reaches) taken.next)
+    by_moves (inr (inl told)) =
+        inr (inl (subst (λ (v : TcpValue). MovesOn s.socket.block.sender.una v.block.sender.una) (sym (back told.reply told.answer)) told.una))
+    by_moves (inr (inr ends)) =
+        inr (inr (ends.last, ap (λ (t : PairSide). is_closed t.socket.block.state) reaches ∙ ends.closed))
+
+    pub side_moves : (p q : Past) (k : Keeps s.socket p r.socket q) → IsInStep k.side k.partner → Moves
+    side_moves p q k step = by_moves (goes_on cx cy cx s.socket r.socket p q k o step may)
+
+-- OF A PAIR
+
+pub pair_moves :
+    (p : PairValue) (side : Side) (moment : ℤ) (o : OpenOffer) (k : Keeps (socket_of p side) (past_at p side) (socket_of p (other side)) (past_at p (other side)))
+    → IsInStep k.side k.partner → MayExchangeIn p side moment o → MovesIn p side moment
+pair_moves p A moment o k step may = side_moves A p.sides.a p.sides.b moment may.mirrored o may.may (past_at p A) (past_at p B) k step
+pair_moves p B moment o k step may = side_moves B p.sides.b p.sides.a moment may.mirrored o may.may (past_at p B) (past_at p A) k step
+
+-- IN STEP
+
+synchronized_phase : (state : State) → is_synchronized state ≡ true → phase_of state ≡ Synchronized
+synchronized_phase In.SynReceived e = clash (sym e)
+synchronized_phase other e = refl
+
+pub in_step : (v w : TcpValue) (p q : Past) (k : Keeps v p w q) → is_synchronized v.block.state ≡ true → HasStream p → IsInStep k.side k.partner
+in_step v w p q k mine stream = by k.holds.0.sync where
+  f : IsConnectedAs (core_of v) (unsent k.side)
+  f = fits_connected v.block.state (core_of v) (unsent k.side) (connected_in v.block.state mine) k.fits
+
+  none : (xs : List ℕ) → xs ≡ [] → 1 ≤ length xs → ⊥
+  none xs e some = at_least (length xs) (ap length e) some where
+    at_least : (n : ℕ) → n ≡ 0 → 1 ≤ n → ⊥
+    at_least n e f = absurd (omega arith)
+
+  not_silent : IsSilent k.side k.partner → HasStream p → ⊥
+  not_silent silent (inl unclosed) =
+      absurd
+      (let clashes : true ≡ false =
+      sym (silent.closed (f.phase ∙ synchronized_phase v.block.state mine)) ∙ (ap (λ (p : Past). p.closed) k.past ∙ unclosed) in cc)
+  not_silent silent (inr wrote) = none p.written (sym (ap (λ (p : Past). p.written) k.past) ∙ silent.unwritten) wrote
+
+  by : IsInStep k.side k.partner ⊎ IsSilent k.side k.partner → IsInStep k.side k.partner
+  by (inl step) = step
+  by (inr silent) = absurd (not_silent silent stream)
+
+-- WHAT EVENTS LED TO
+
+kept_steps : (p : PairValue) (events : List PairEvent) (new : PairValue) → IsKept p → Steps p events new → IsKept new
+kept_steps p [] new k steps = subst IsKept (sym steps) k
+kept_steps p (event ∷ events) new k steps = kept_steps (happens p event).pair events new (kept_after p event k steps.0) steps.1
+
+pub reached_kept : (p : PairValue) → IsReached p → IsKept p
+reached_kept p r =
+    kept_steps (new_pair (new_socket r.room_a r.ring_a) (new_socket r.room_b r.ring_b)) r.events p
+    (new_is_kept (new_socket r.room_a r.ring_a) (new_socket r.room_b r.ring_b)
+    (record { state = refl; waiting = refl; queue = refl; unfinished = refl }) (record { state = refl; waiting = refl; queue = refl; unfinished = refl })) r.steps
+
+pub keeps_of : (p : PairValue) (side : Side) → IsKept p → Keeps (socket_of p side) (past_at p side) (socket_of p (other side)) (past_at p (other side))
+keeps_of p A k = k.sockets
+keeps_of p B k = keeps_turned p.sides.a.socket p.sides.b.socket (past_at p A) (past_at p B) k.sockets
+
+pub reached_moves : (p : PairValue) (side : Side) (moment : ℤ) (o : OpenOffer) → IsReached p → HasStream (past_at p side) → MayExchangeIn p side moment o →
+    MovesIn p side moment
+reached_moves p side moment o reached stream may =
+    let k = keeps_of p side (reached_kept p reached) in
+    pair_moves p side moment o k
+    (in_step (socket_of p side) (socket_of p (other side)) (past_at p side) (past_at p (other side)) k may.may.own.synchronized stream) may

@@ -1,0 +1,92 @@
+use Rattle.std.proofs.Common.{inl, inr, refl}
+use Rattle.std.proofs.lemmas.Bool.{leb-true, ltb-true}
+use Rattle.net_base.specs.Ring.{ring}
+use Rattle.std.specs.Prelude.{[], ◌∷◌, ◌++◌, replicate}
+use Rattle.tcp_pair_model.specs.declared.event.PairEvent.TheVariants.{Deliver}
+use Rattle.tcp_pair_model.specs.declared.event.Side.TheVariants.{A}
+use Rattle.tcp_progress.proofs.Stampless.{stampless}
+use Rattle.tcp_progress.specs.Met.{events}
+use Rattle.tcp_progress.proofs.met.what_an_exchange_asks_for_is_met.Goals as goal
+
+pub returns-clause-reached : goal.returns-clause-reached
+returns-clause-reached c = record {
+  room_a = 64;
+  room_b = 64;
+  ring_a = ring [] (replicate 64 0) 0;
+  ring_b = ring [] (replicate 64 0) 0;
+  events = events ++ Deliver A 2 ∷ [];
+  steps = (refl, (refl, (refl, (refl, (refl, (refl, (refl, (refl, (refl, (refl, (refl, refl)))))))))));
+}
+
+pub returns-clause-stream : goal.returns-clause-stream
+returns-clause-stream c = inl refl
+
+pub returns-clause-lost : goal.returns-clause-lost
+returns-clause-lost c = record {
+  mirrored =
+      record {
+        own = _;
+        theirs = _;
+        named = refl;
+        partner_named = refl;
+        local = refl;
+        remote = refl;
+        local_port = refl;
+        remote_port = refl;
+      };
+  may =
+      record {
+        own = record { synchronized = refl; acknowledged = refl; opened = leb-true _ _ refl };
+        theirs = record { synchronized = refl; acknowledged = refl; opened = leb-true _ _ refl };
+        over = inr refl;
+        offered = refl;
+        kind = refl;
+        some = leb-true _ _ refl;
+        sent = leb-true _ _ refl;
+        heard = leb-true _ _ refl;
+        room = leb-true _ _ refl;
+        near = leb-true _ _ refl;
+        draws = refl;
+        space = inl refl;
+        fresh = refl;
+        answer_fresh = stampless _ _ refl;
+      };
+}
+
+pub returns-clause-untold : goal.returns-clause-untold
+returns-clause-untold c = record {
+  mirrored =
+      record {
+        own = _;
+        theirs = _;
+        named = refl;
+        partner_named = refl;
+        local = refl;
+        remote = refl;
+        local_port = refl;
+        remote_port = refl;
+      };
+  may =
+      record {
+        own = record { synchronized = refl; acknowledged = refl; opened = leb-true _ _ refl };
+        theirs = record { synchronized = refl; acknowledged = refl; opened = leb-true _ _ refl };
+        over = inr refl;
+        offered = refl;
+        kind = refl;
+        some = leb-true _ _ refl;
+        sent = leb-true _ _ refl;
+        heard = leb-true _ _ refl;
+        room = leb-true _ _ refl;
+        near = leb-true _ _ refl;
+        draws = refl;
+        space = inl refl;
+        fresh = refl;
+        answer_fresh = stampless _ _ refl;
+      };
+}
+
+pub returns-clause-moves : goal.returns-clause-moves
+returns-clause-moves c = inl (record { by = 3; some = leb-true _ _ refl; few = ltb-true _ _ refl; moved = refl })
+
+pub returns-clause-tells : goal.returns-clause-tells
+returns-clause-tells c = inr (inl (record { by = 3; some = leb-true _ _ refl; few = ltb-true _ _ refl; moved = refl }))

@@ -1,0 +1,64 @@
+-- An exchange as events of a pair: a side is asked, its segment comes, and what answers it comes.
+use Rattle.std.specs.Prelude.{◌≡◌, ◌⊎◌, ℕ, ◌≤◌, ℤ, true, false, length, Some}
+use Rattle.tcp_tie.specs.Context.{ContextValue}
+use Rattle.tcp_tie.specs.Tie.{Past}
+use Rattle.tcp_rules.specs.EndpointPair.{EndpointPair}
+use Rattle.tcp_rules.specs.Endpoints.{local_of, remote_of}
+use Rattle.tcp_rules.specs.OpenOffer.{OpenOffer}
+use Rattle.tcp_rules.specs.State.TheVariants as In
+use Rattle.tcp_rules.specs.States.{is_closed}
+use Rattle.tcp_pair_model.specs.Block.{Block}
+use Rattle.tcp_pair_model.specs.Value.{TcpValue}
+use Rattle.tcp_pair_model.specs.declared.event.Side.{Side}
+use Rattle.tcp_pair_model.specs.declared.event.PairEvent.TheVariants.{Offer, Deliver}
+use Rattle.tcp_pair_model.specs.Sides.{at, other}
+use Rattle.tcp_pair_model.specs.Values.{PairValue, context_at}
+use Rattle.tcp_progress.specs.Exchange.{MayExchange, MovesOn}
+use Rattle.tcp_progress.specs.Rounds.{takes}
+
+abbrev pub socket_of : PairValue → Side → TcpValue
+socket_of p side = (at p.sides side).socket
+
+-- the number of the next segment that a side sends
+abbrev pub next_sent : PairValue → Side → ℕ
+next_sent p side = length (at p.sides side).sent
+
+-- the side is asked at this moment, and what it sends comes to the other
+abbrev pub offered_in : PairValue → Side → ℤ → PairValue
+offered_in p side moment = takes (takes p (Offer side moment true)) (Deliver side (next_sent p side))
+
+-- and what answers it comes
+abbrev pub exchanged_in : PairValue → Side → ℤ → PairValue
+exchanged_in p side moment = takes (offered_in p side moment) (Deliver (other side) (next_sent p (other side)))
+
+-- the user of a side hasn't closed it, or wrote something: its stream is no empty one
+abbrev pub HasStream : Past → Type 0
+HasStream p = (p.closed ≡ false) ⊎ (1 ≤ length p.written)
+
+-- each is connected to the other: what is local to one is remote to the other
+pub record AreMirrored (b partner : Block) : Type 0 where
+  pub own : EndpointPair
+  pub theirs : EndpointPair
+  pub named : b.names.pair ≡ Some own
+  pub partner_named : partner.names.pair ≡ Some theirs
+  pub local : local_of own.addresses ≡ remote_of theirs.addresses
+  pub remote : remote_of own.addresses ≡ local_of theirs.addresses
+  pub local_port : own.local_port ≡ theirs.remote_port
+  pub remote_port : own.remote_port ≡ theirs.local_port
+
+-- what a side knows of its host at a moment
+abbrev pub context_of : PairValue → Side → ℤ → ContextValue
+context_of p side moment = context_at side (record (at p.sides side) { moment = moment })
+
+-- The side, asked at this moment, offers this for an exchange with the other, whose clock stands still meanwhile.
+pub record MayExchangeIn (p : PairValue) (side : Side) (moment : ℤ) (o : OpenOffer) : Type 0 where
+  pub mirrored : AreMirrored (socket_of p side).block (socket_of p (other side)).block
+  pub may :
+      MayExchange (context_of p side moment) (context_at (other side) (at p.sides (other side))) (socket_of p side) (socket_of p (other side)) o
+
+-- with its segment RCV.NXT of the other rises; or with the answer its SND.UNA does; or the other was in LAST-ACK, which its segment ends
+abbrev pub MovesIn : PairValue → Side → ℤ → Type 0
+MovesIn p side moment =
+    MovesOn (socket_of p (other side)).block.receiver.next (socket_of (offered_in p side moment) (other side)).block.receiver.next
+    ⊎ (MovesOn (socket_of p side).block.sender.una (socket_of (exchanged_in p side moment) side).block.sender.una
+    ⊎ (((socket_of p (other side)).block.state ≡ In.LastAck) × (is_closed (socket_of (offered_in p side moment) (other side)).block.state ≡ true)))
