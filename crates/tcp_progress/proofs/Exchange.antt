@@ -14,7 +14,7 @@ use Rattle.tcp_law.specs.Side.{Side, rcv_next, send_end}
 use Rattle.tcp_tie.specs.Context.{ContextValue}
 use Rattle.tcp_tie.specs.History.{with_answer, with_offer}
 use Rattle.tcp_tie.specs.Tie.{Past, Keeps, is_finished_in, segment_of}
-use Rattle.tcp_rules.specs.Controls.{is_syn, is_rst}
+use Rattle.tcp_rules.specs.Controls.{is_syn, is_fin, is_rst}
 use Rattle.tcp_rules.specs.Offsets.{past_by, before_by, behind_by, meets_window}
 use Rattle.tcp_rules.specs.OpenOffer.{OpenOffer}
 use Rattle.tcp_rules.specs.Reply.{Reply}
@@ -35,9 +35,10 @@ use Rattle.tcp_tie.proofs.OfferLaws.{keeps_sent_offer}
 use Rattle.tcp_tie.proofs.PromiseLemmas.{keeps_turned, safe_sockets}
 use Rattle.tcp_rules.proofs.OrderSteps.{clash}
 use Rattle.tcp_progress.specs.Arrivals.{is_synchronized, Counts, IsNearWindow, IsNew, IsAgain, IsAnswered, EndsLastAck, Rises}
-use Rattle.tcp_progress.specs.Exchange.{IsOpen, TookWhatWasSent, HasSpace, text_of, GoesFromUna, offer_comes, MayExchange, MovesOn, IsTaken, IsTold, HasMoved}
+use Rattle.tcp_progress.specs.Exchange.{IsOpen, TookWhatWasSent, HasSpace, text_of, GoesFromUna, offer_comes, MayExchange, MovesOn, left_of, IsTaken, IsTold, HasMoved}
 use Rattle.tcp_progress.specs.Positions.{LiesWithin}
 use Rattle.tcp_progress.proofs.Acked.{una_rises}
+use Rattle.tcp_progress.proofs.Left.{left_same, lowered}
 use Rattle.tcp_progress.proofs.Offered.{GoesOut, StaysBut, goes_out_of, goes_from_una}
 use Rattle.tcp_progress.proofs.Positions.{IsPlaced, placed, lies_within, whole_taken, una_small, next_small}
 use Rattle.tcp_progress.proofs.Taken.{next_rises, again_answered}
@@ -201,6 +202,26 @@ partners_word cx v w p q k ip header bytes mine theirs sent no_syn no_reset fres
     risen_to v.block.sender.una (arrives cx v ip header bytes).socket.block.sender.una w.block.receiver.next c.una_small c.number_small
     (una_rises cx v ip header bytes w.block.receiver.next c there)
 
+-- where all that was written was sent, no more was taken
+pub all_sent :
+    (v w : TcpValue) (p q : Past) (k : Keeps v p w q) → is_synchronized v.block.state ≡ true → is_synchronized w.block.state ≡ true
+    → IsInStep k.side k.partner → v.block.sender.top ≡ left_of v → TookWhatWasSent v w
+all_sent v w p q k mine theirs step whole =
+    let l = lies_within v w p q k mine theirs step in
+    subst (λ (n : ℕ). distance_of v.block.sender.una w.block.receiver.next ≤ n) (sym whole) l.within
+
+-- and where it fits the partner's buffer, what was taken does
+pub fits_buffer :
+    (v w : TcpValue) (p q : Past) (k : Keeps v p w q) → is_synchronized v.block.state ≡ true → is_synchronized w.block.state ≡ true
+    → IsInStep k.side k.partner → left_of v ≤ room_of w.received + 2
+    → distance_of v.block.sender.una w.block.receiver.next ≤ room_of w.received + 2
+fits_buffer v w p q k mine theirs step room =
+    let l = lies_within v w p q k mine theirs step in
+    at_most (distance_of v.block.sender.una w.block.receiver.next) (left_of v) (room_of w.received + 2) l.within room
+  where
+    at_most : (a b c : ℕ) → a ≤ b → b ≤ c → a ≤ c
+    at_most a b c e f = omega arith
+
 -- A BARE ACKNOWLEDGEMENT
 
 -- it lies past RCV.NXT, by what was sent and didn't come
@@ -329,6 +350,10 @@ module _ (cx cy cz : ContextValue) (v w : TcpValue) (p q : Past) (k : Keeps v p 
   same_una : distance_of gone.block.sender.una w.block.receiver.next ≡ distance_of v.block.sender.una w.block.receiver.next
   same_una = ap (λ (n : SeqNumber). distance_of n w.block.receiver.next) out.sent.una
 
+  same_left : left_of gone ≡ left_of v
+  same_left =
+      left_same v gone (record { state = out.sent.state; syn_unacked = out.sent.syn_unacked; queued = out.sent_queued })
+
   abbrev far : ℕ
   far = distance_of v.block.sender.una w.block.receiver.next
 
@@ -374,15 +399,27 @@ module _ (cx cy cz : ContextValue) (v w : TcpValue) (p q : Past) (k : Keeps v p 
         (subst (λ (n : SeqNumber). segment_len o.segment (length bytes) ≤ distance_of n w.block.receiver.next) goes.number again.ends)
         may.some
 
-    told : IsTold cx cz v came
+    told : IsTold cx cz v w came
     told = record {
       reply = r.reply;
       answer = r.answer;
       una =
           moves_to v.block.sender.una heard_back.block.sender.una w.block.receiver.next (unacked v.block (queued_in v)) (una_small v k.side a)
           answer_counts.number_small
-          (una_rises cz gone r.reply.header r.reply.segment [] w.block.receiver.next answer_counts (inl inside)) some l.within l.few;
+          caught some l.within l.few;
+      all = same_number heard_back.block.sender.una w.block.receiver.next caught;
+      had = some;
+      left =
+          ap (λ (n : ℕ). left_of heard_back + n) (sym same_una)
+          ∙ (lowered cz gone r.reply.header r.reply.segment [] w.block.receiver.next answer_counts mine.acknowledged
+          (subst (λ (n : ℕ). distance_of gone.block.sender.una w.block.receiver.next ≤ n) (sym same_left)
+          (subst (λ (n : ℕ). n ≤ left_of v) (sym same_una) l.within)) (ap is_fin r.plain) inside
+          ∙ same_left);
+      still = r.next;
     }
+      where
+        caught : heard_back.block.sender.una.0 ≡ w.block.receiver.next.0
+        caught = una_rises cz gone r.reply.header r.reply.segment [] w.block.receiver.next answer_counts (inl inside)
 
   -- WHAT IS NEW
 

@@ -9,3 +9,5 @@ pub mod Exchange
 pub mod Pair
 pub mod Stampless
 pub mod Left
+pub mod Led
+pub mod Opened

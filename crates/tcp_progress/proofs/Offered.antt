@@ -146,6 +146,7 @@ pub record GoesOut (v x : TcpValue) (o : OpenOffer) : Type 0 where
   pub sent : StaysBut v.block (settled true x).block
   pub received : (settled true x).received ≡ v.received
   pub queued : x.queued ≡ v.queued
+  pub sent_queued : (settled true x).queued ≡ v.queued
 
 same_unacked : (old b : Block) (queued : ℕ) → StaysBut old b → unacked old queued ≡ unacked b queued
 same_unacked old b queued s =
@@ -224,6 +225,7 @@ module _ (cx : ContextValue) (v : TcpValue) (syn : v.block.sender.syn_unacked �
           (sends (recorded b mine (room_of v.received)) mine (queued_in v)));
       received = refl;
       queued = refl;
+      sent_queued = refl;
     }
 
   -- it carries nothing

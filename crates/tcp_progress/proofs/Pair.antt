@@ -1,5 +1,5 @@
 -- An exchange of two sockets as events of a pair.
-use Rattle.std.proofs.Common.{◌≡◌, ◌⊎◌, inl, inr, ℕ, suc, ◌≤◌, ◌==◌, ◌&&◌, ℤ, Bool, true, false, if◌then◌else◌, List, [], ◌∷◌, ◌++◌, length, Option, Some, None}
+use Rattle.std.proofs.Common.{◌≡◌, ◌⊎◌, inl, inr, ℕ, suc, ◌+◌, ◌-◌, ◌*◌, ◌%◌, ◌^◌, ◌<◌, ◌≤◌, ◌==◌, ◌&&◌, ℤ, Bool, true, false, if◌then◌else◌, List, [], ◌∷◌, ◌++◌, length, Option, Some, None}
 use Rattle.std.proofs.Common.{slice_get, refl, sym, ap, ◌∙◌, subst, arith}
 use Rattle.std.proofs.lemmas.Bool.{eq-eqb}
 use Rattle.std.proofs.lemmas.Slice.Eq.{bytes_eq-Decides}
@@ -9,6 +9,8 @@ use Rattle.ip_wire.specs.Ip.{source_of, destination_of}
 use Rattle.ip_wire.specs.IpAddress.{IpAddress}
 use Rattle.ip_wire.specs.IpAddress.TheVariants as Address
 use Rattle.ip_wire.specs.IpRepr.{IpRepr}
+use Rattle.ip_wire.specs.Seq.{distance_of}
+use Rattle.ip_wire.specs.SeqNumber.{SeqNumber}
 use Rattle.ip_wire.specs.TcpHeader.{TcpHeader}
 use Rattle.tcp_law.specs.Invariant.{IsInStep, IsSilent}
 use Rattle.tcp_law.specs.Side.{Side as Way}
@@ -19,6 +21,7 @@ use Rattle.tcp_tie.specs.Tie.{Past, Keeps, IsConnectedAs, core_of, unsent, phase
 use Rattle.tcp_rules.specs.EndpointPair.{EndpointPair}
 use Rattle.tcp_rules.specs.Endpoints.{local_of, remote_of, is_between, is_connected_by}
 use Rattle.tcp_rules.specs.Names.{Names}
+use Rattle.tcp_rules.specs.Offsets.{behind_by}
 use Rattle.tcp_rules.specs.OpenOffer.{OpenOffer}
 use Rattle.tcp_rules.specs.Reply.{Reply}
 use Rattle.tcp_rules.specs.State.{State}
@@ -45,12 +48,15 @@ use Rattle.tcp_tie.proofs.PromiseLemmas.{keeps_turned}
 use Rattle.tcp_tie.proofs.Tied.{fits_connected, if_so}
 use Rattle.tcp_rules.proofs.OrderSteps.{clash}
 use Rattle.tcp_progress.specs.Arrivals.{is_synchronized, EndsLastAck}
-use Rattle.tcp_progress.specs.Exchange.{IsOpen, MayExchange, MovesOn, IsTaken, IsTold, HasMoved, text_of, offer_comes}
-use Rattle.tcp_progress.specs.Pair.{HasStream, AreMirrored, MayExchangeIn, MovesIn, socket_of}
+use Rattle.tcp_progress.specs.Exchange.{GoesFromUna, MayExchange, MovesOn, HasMoved, left_of, text_of, offer_comes}
+use Rattle.tcp_progress.specs.Pair.{HasStream, AreMirrored, MayExchangeIn, MovesIn, Exchanges, context_of, exchanged_in, left_in, next_sent, offered_in, socket_of}
+use Rattle.tcp_progress.specs.Positions.{LiesWithin}
+use Rattle.tcp_progress.specs.Rounds.{comes}
 use Rattle.tcp_progress.specs.Reached.{IsReached}
 use Rattle.tcp_progress.proofs.Exchange.{goes_on, last_of}
-use Rattle.tcp_progress.proofs.Offered.{GoesOut, goes_out_of}
-use Rattle.tcp_progress.proofs.Positions.{connected_in}
+use Rattle.tcp_progress.proofs.Left.{left_same}
+use Rattle.tcp_progress.proofs.Offered.{GoesOut, goes_out_of, goes_from_una}
+use Rattle.tcp_progress.proofs.Positions.{connected_in, placed, lies_within, una_small, next_small}
 
 -- EACH ACCEPTS WHAT THE OTHER SENDS
 
@@ -163,11 +169,11 @@ module _ (side : Side) (s r : PairSide) (moment : ℤ) where
     abbrev came : Arrived
     came = offer_comes cy r.socket s.socket o
 
-    abbrev first : SentSegment
+    abbrev pub first : SentSegment
     first = record { header = o.header; segment = o.segment; bytes = text_of s.socket o }
 
     -- its segment is the next that it sends
-    sent : slice_get asked_side.sent (length s.sent) ≡ Some first
+    pub sent : slice_get asked_side.sent (length s.sent) ≡ Some first
     sent =
         ap (λ (x : Option OpenOffer). slice_get (and_offer s.sent x (offer_of cx s.socket).socket.queued.queue) (length s.sent)) may.offered
         ∙ (ap (λ (queued : Ring ℕ). slice_get (and_offer s.sent (Some o) queued.queue) (length s.sent)) out.queued ∙ last_of s.sent first)
@@ -204,25 +210,166 @@ module _ (side : Side) (s r : PairSide) (moment : ℤ) where
                 slice_get (and_reply r.sent came.answer) (length r.sent)
             drawn draws = refl
 
-    by_moves : HasMoved cx cy cx s.socket r.socket o → Moves
+    none_answered : came.answer ≡ None → length partner_after.sent - length r.sent ≡ 0
+    none_answered none =
+        ap (λ (t : PairSide). length t.sent - length r.sent) reaches
+        ∙ (ap (λ (x : Option Reply). length (and_reply r.sent x) - length r.sent) none ∙ nothing (length r.sent))
+      where
+        nothing : (n : ℕ) → n - n ≡ 0
+        nothing n = omega arith
+
+    one_answered : (reply : Reply) → came.answer ≡ Some reply → length partner_after.sent - length r.sent ≡ 1
+    one_answered reply one =
+        ap (λ (t : PairSide). length t.sent - length r.sent) reaches
+        ∙ (ap (λ (x : Option Reply). length (and_reply r.sent x) - length r.sent) one ∙ one_behind r.sent (second reply))
+      where
+        one_behind : (xs : List SentSegment) (x : SentSegment) → length (xs ++ x ∷ []) - length xs ≡ 1
+        one_behind xs x = less (length (xs ++ x ∷ [])) (length xs) (longer xs x) where
+          longer : (xs : List SentSegment) (x : SentSegment) → length (xs ++ x ∷ []) ≡ length xs + 1
+          longer [] x = refl
+          longer (y ∷ xs) x = omega (arith, longer xs x)
+
+          less : (a b : ℕ) → a ≡ b + 1 → a - b ≡ 1
+          less a b e = omega arith
+
+    -- what isn't acknowledged, and how much of it the other has, is the same but for what moved
+    pub record Takes : Type 0 where
+      pub none : length partner_after.sent - length r.sent ≡ 0
+      pub next : MovesOn r.socket.block.receiver.next partner_after.socket.block.receiver.next
+      pub una : asked_side.socket.block.sender.una ≡ s.socket.block.sender.una
+      pub left : left_of asked_side.socket ≡ left_of s.socket
+
+    pub record Tells : Type 0 where
+      pub one : length partner_after.sent - length r.sent ≡ 1
+      pub una : MovesOn s.socket.block.sender.una side_after.socket.block.sender.una
+      pub all : side_after.socket.block.sender.una ≡ partner_after.socket.block.receiver.next
+      pub had : 1 ≤ distance_of s.socket.block.sender.una r.socket.block.receiver.next
+      pub left :
+          left_of side_after.socket + distance_of s.socket.block.sender.una r.socket.block.receiver.next ≡ left_of s.socket
+
+    pub record Ends : Type 0 where
+      pub none : length partner_after.sent - length r.sent ≡ 0
+      pub last : r.socket.block.state ≡ In.LastAck
+      pub closed : is_closed partner_after.socket.block.state ≡ true
+
+    by_moves : HasMoved cx cy cx s.socket r.socket o → Takes ⊎ (Tells ⊎ Ends)
     by_moves (inl taken) =
         inl
-        (subst (λ (t : PairSide). MovesOn r.socket.block.receiver.next t.socket.block.receiver.next) (sym reaches) taken.next)
+        (record {
+          none = none_answered taken.rises.silent;
+          next = subst (λ (t : PairSide). MovesOn r.socket.block.receiver.next t.socket.block.receiver.next) (sym reaches) taken.next;
+          una = out.sent.una;
+          left =
+              left_same s.socket asked_side.socket
+              (record { state = out.sent.state; syn_unacked = out.sent.syn_unacked; queued = out.sent_queued });
+        })
     by_moves (inr (inl told)) =
-        inr (inl (subst (λ (v : TcpValue). MovesOn s.socket.block.sender.una v.block.sender.una) (sym (back told.reply told.answer)) told.una))
+        inr
+        (inl
+        (record {
+          one = one_answered told.reply told.answer;
+          una = subst (λ (v : TcpValue). MovesOn s.socket.block.sender.una v.block.sender.una) (sym (back told.reply told.answer)) told.una;
+          all =
+              ap (λ (v : TcpValue). v.block.sender.una) (back told.reply told.answer)
+              ∙ (told.all ∙ (sym told.still ∙ ap (λ (t : PairSide). t.socket.block.receiver.next) (sym reaches)));
+          had = told.had;
+          left =
+              ap (λ (v : TcpValue). left_of v + distance_of s.socket.block.sender.una r.socket.block.receiver.next) (back told.reply told.answer)
+              ∙ told.left;
+        }))
     by_moves (inr (inr ends)) =
-        inr (inr (ends.last, ap (λ (t : PairSide). is_closed t.socket.block.state) reaches ∙ ends.closed))
+        inr (inr (record { none = none_answered ends.silent; last = ends.last; closed = ap (λ (t : PairSide). is_closed t.socket.block.state) reaches ∙ ends.closed }))
 
-    pub side_moves : (p q : Past) (k : Keeps s.socket p r.socket q) → IsInStep k.side k.partner → Moves
+    pub side_moves : (p q : Past) (k : Keeps s.socket p r.socket q) → IsInStep k.side k.partner → Takes ⊎ (Tells ⊎ Ends)
     side_moves p q k step = by_moves (goes_on cx cy cx s.socket r.socket p q k o step may)
 
 -- OF A PAIR
 
+-- what an exchange leaves: the other took more, or all that it took is acknowledged, or its connection is over
+pub record HasTaken (p new : PairValue) (side : Side) : Type 0 where
+  pub more : ℕ
+  pub some : 1 ≤ more
+  pub few : more < 2 ^ 30
+  pub una : (socket_of new side).block.sender.una ≡ (socket_of p side).block.sender.una
+  pub next : (socket_of new (other side)).block.receiver.next ≡ behind_by (socket_of p (other side)).block.receiver.next more
+  pub left : left_in new side ≡ left_in p side
+
+pub record HasTold (p new : PairValue) (side : Side) : Type 0 where
+  pub all : (socket_of new side).block.sender.una ≡ (socket_of new (other side)).block.receiver.next
+  pub had : 1 ≤ distance_of (socket_of p side).block.sender.una (socket_of p (other side)).block.receiver.next
+  pub left : left_in new side + distance_of (socket_of p side).block.sender.una (socket_of p (other side)).block.receiver.next ≡ left_in p side
+
+abbrev pub HasLess : PairValue → PairValue → Side → Type 0
+HasLess p new side = HasTaken p new side ⊎ (HasTold p new side ⊎ (is_closed (socket_of new (other side)).block.state ≡ true))
+
+pub record Moved (p : PairValue) (side : Side) (moment : ℤ) : Type 0 where
+  pub moves : MovesIn p side moment
+  pub less : HasLess p (exchanged_in p side moment) side
+
+pub pair_moved :
+    (p : PairValue) (side : Side) (moment : ℤ) (o : OpenOffer) (k : Keeps (socket_of p side) (past_at p side) (socket_of p (other side)) (past_at p (other side)))
+    → IsInStep k.side k.partner → MayExchangeIn p side moment o → Moved p side moment
+pair_moved p A moment o k step may = by (side_moves A p.sides.a p.sides.b moment may.mirrored o may.may (past_at p A) (past_at p B) k step) where
+  by :
+      Takes A p.sides.a p.sides.b moment may.mirrored o may.may
+      ⊎ (Tells A p.sides.a p.sides.b moment may.mirrored o may.may ⊎ Ends A p.sides.a p.sides.b moment may.mirrored o may.may)
+      → Moved p A moment
+  by (inl x) = record {
+    moves = inl x.next;
+    less =
+        subst (λ (n : ℕ). HasLess p (comes n B (next_sent p B) (offered_in p A moment)) A) (sym x.none)
+        (inl (record { more = x.next.by; some = x.next.some; few = x.next.few; una = x.una; next = x.next.moved; left = x.left }));
+  }
+  by (inr (inl x)) = record {
+    moves =
+        inr
+        (inl
+        (subst
+        (λ (n : ℕ).
+        MovesOn p.sides.a.socket.block.sender.una
+        (socket_of (comes n B (next_sent p B) (offered_in p A moment)) A).block.sender.una)
+        (sym x.one) x.una));
+    less =
+        subst (λ (n : ℕ). HasLess p (comes n B (next_sent p B) (offered_in p A moment)) A) (sym x.one)
+        (inr (inl (record { all = x.all; had = x.had; left = x.left })));
+  }
+  by (inr (inr x)) = record {
+    moves = inr (inr (x.last, x.closed));
+    less = subst (λ (n : ℕ). HasLess p (comes n B (next_sent p B) (offered_in p A moment)) A) (sym x.none) (inr (inr x.closed));
+  }
+pair_moved p B moment o k step may = by (side_moves B p.sides.b p.sides.a moment may.mirrored o may.may (past_at p B) (past_at p A) k step) where
+  by :
+      Takes B p.sides.b p.sides.a moment may.mirrored o may.may
+      ⊎ (Tells B p.sides.b p.sides.a moment may.mirrored o may.may ⊎ Ends B p.sides.b p.sides.a moment may.mirrored o may.may)
+      → Moved p B moment
+  by (inl x) = record {
+    moves = inl x.next;
+    less =
+        subst (λ (n : ℕ). HasLess p (comes n A (next_sent p A) (offered_in p B moment)) B) (sym x.none)
+        (inl (record { more = x.next.by; some = x.next.some; few = x.next.few; una = x.una; next = x.next.moved; left = x.left }));
+  }
+  by (inr (inl x)) = record {
+    moves =
+        inr
+        (inl
+        (subst
+        (λ (n : ℕ).
+        MovesOn p.sides.b.socket.block.sender.una
+        (socket_of (comes n A (next_sent p A) (offered_in p B moment)) B).block.sender.una)
+        (sym x.one) x.una));
+    less =
+        subst (λ (n : ℕ). HasLess p (comes n A (next_sent p A) (offered_in p B moment)) B) (sym x.one)
+        (inr (inl (record { all = x.all; had = x.had; left = x.left })));
+  }
+  by (inr (inr x)) = record {
+    moves = inr (inr (x.last, x.closed));
+    less = subst (λ (n : ℕ). HasLess p (comes n A (next_sent p A) (offered_in p B moment)) B) (sym x.none) (inr (inr x.closed));
+  }
+
 pub pair_moves :
     (p : PairValue) (side : Side) (moment : ℤ) (o : OpenOffer) (k : Keeps (socket_of p side) (past_at p side) (socket_of p (other side)) (past_at p (other side)))
     → IsInStep k.side k.partner → MayExchangeIn p side moment o → MovesIn p side moment
-pair_moves p A moment o k step may = side_moves A p.sides.a p.sides.b moment may.mirrored o may.may (past_at p A) (past_at p B) k step
-pair_moves p B moment o k step may = side_moves B p.sides.b p.sides.a moment may.mirrored o may.may (past_at p B) (past_at p A) k step
+pair_moves p side moment o k step may = (pair_moved p side moment o k step may).moves
 
 -- IN STEP
 
@@ -267,9 +414,114 @@ pub keeps_of : (p : PairValue) (side : Side) → IsKept p → Keeps (socket_of p
 keeps_of p A k = k.sockets
 keeps_of p B k = keeps_turned p.sides.a.socket p.sides.b.socket (past_at p A) (past_at p B) k.sockets
 
+-- a side of a pair that events led to, and its partner
+pub reached_keeps : (p : PairValue) (side : Side) → IsReached p →
+    Keeps (socket_of p side) (past_at p side) (socket_of p (other side)) (past_at p (other side))
+reached_keeps p side reached = keeps_of p side (reached_kept p reached)
+
+pub reached_moved : (p : PairValue) (side : Side) (moment : ℤ) (o : OpenOffer) → IsReached p → HasStream (past_at p side) → MayExchangeIn p side moment o →
+    Moved p side moment
+reached_moved p side moment o reached stream may =
+    let k = reached_keeps p side reached in
+    pair_moved p side moment o k
+    (in_step (socket_of p side) (socket_of p (other side)) (past_at p side) (past_at p (other side)) k may.may.own.synchronized stream) may
+
 pub reached_moves : (p : PairValue) (side : Side) (moment : ℤ) (o : OpenOffer) → IsReached p → HasStream (past_at p side) → MayExchangeIn p side moment o →
     MovesIn p side moment
-reached_moves p side moment o reached stream may =
-    let k = keeps_of p side (reached_kept p reached) in
-    pair_moves p side moment o k
-    (in_step (socket_of p side) (socket_of p (other side)) (past_at p side) (past_at p (other side)) k may.may.own.synchronized stream) may
+reached_moves p side moment o reached stream may = (reached_moved p side moment o reached stream may).moves
+
+-- HOW MANY
+
+-- how much of what isn't acknowledged the other has
+abbrev pub had_in : PairValue → Side → ℕ
+had_in p side = distance_of (socket_of p side).block.sender.una (socket_of p (other side)).block.receiver.next
+
+further : (una next more : ℕ) → una < 2 ^ 32 → next < 2 ^ 32 → (next + (2 ^ 32 - una)) % 2 ^ 32 < 2 ^ 30 → more < 2 ^ 30
+    → ((next + more) % 2 ^ 32 + (2 ^ 32 - una)) % 2 ^ 32 ≡ (next + (2 ^ 32 - una)) % 2 ^ 32 + more
+further una next more a b c d = omega arith
+
+-- what an exchange asks for says of what isn't acknowledged
+record HasSome (p : PairValue) (side : Side) : Type 0 where
+  some : 1 ≤ left_in p side
+  within : had_in p side ≤ left_in p side
+  few : left_in p side < 2 ^ 30
+  una : (socket_of p side).block.sender.una.0 < 2 ^ 32
+  next : (socket_of p (other side)).block.receiver.next.0 < 2 ^ 32
+
+has_some : (p : PairValue) (side : Side) (moment : ℤ) (o : OpenOffer) → IsReached p → HasStream (past_at p side) → MayExchangeIn p side moment o → HasSome p side
+has_some p side moment o reached stream may = record { some = enough _ _ may.may.some goes.ends; within = l.within; few = l.few; una = una; next = next } where
+  k : Keeps (socket_of p side) (past_at p side) (socket_of p (other side)) (past_at p (other side))
+  k = reached_keeps p side reached
+
+  step : IsInStep k.side k.partner
+  step = in_step (socket_of p side) (socket_of p (other side)) (past_at p side) (past_at p (other side)) k may.may.own.synchronized stream
+
+  l : LiesWithin (socket_of p side) (socket_of p (other side)) k.side k.partner
+  l =
+      lies_within (socket_of p side) (socket_of p (other side)) (past_at p side) (past_at p (other side)) k may.may.own.synchronized
+      may.may.theirs.synchronized step
+
+  una : (socket_of p side).block.sender.una.0 < 2 ^ 32
+  una = una_small (socket_of p side) k.side (placed (socket_of p side) k.side k.fits k.holds.0.well_formed may.may.own.synchronized)
+
+  next : (socket_of p (other side)).block.receiver.next.0 < 2 ^ 32
+  next =
+      next_small (socket_of p (other side)) k.partner
+      (placed (socket_of p (other side)) k.partner k.partner_fits k.holds.1.well_formed may.may.theirs.synchronized)
+
+  goes : GoesFromUna (socket_of p side) o
+  goes =
+      goes_from_una (context_of p side moment) (socket_of p side) o una may.may.own.acknowledged may.may.over may.may.offered may.may.kind
+
+  enough : (len all : ℕ) → 1 ≤ len → len ≤ all → 1 ≤ all
+  enough len all a b = omega arith
+
+-- a measure that falls with each exchange
+once_more : (n had had_new left left_new more : ℕ) → suc n + had_new ≤ left_new + left_new → left_new ≡ left → had_new ≡ had + more → 1 ≤ more →
+    suc (suc n) + had ≤ left + left
+once_more n had had_new left left_new more a b c d = omega arith
+
+acknowledged_once : (n had had_new left left_new : ℕ) → suc n + had_new ≤ left_new + left_new → left_new + had ≡ left → 1 ≤ had → suc (suc n) + had ≤ left + left
+acknowledged_once n had had_new left left_new a b c = omega arith
+
+last_one : (had left : ℕ) → had ≤ left → 1 ≤ left → 1 + had ≤ left + left
+last_one had left a b = omega arith
+
+below_quarter : (had left : ℕ) → had ≤ left → left < 2 ^ 30 → had < 2 ^ 30
+below_quarter had left a b = omega arith
+
+-- one exchange before others
+before :
+    (p : PairValue) (side : Side) (moment : ℤ) (n : ℕ) → HasSome p side
+    → ((is_closed (socket_of (exchanged_in p side moment) (other side)).block.state ≡ true) → ⊥)
+    → suc n + had_in (exchanged_in p side moment) side ≤ left_in (exchanged_in p side moment) side + left_in (exchanged_in p side moment) side
+    → HasLess p (exchanged_in p side moment) side → suc (suc n) + had_in p side ≤ left_in p side + left_in p side
+before p side moment n h open_still rest (inl t) =
+    once_more n (had_in p side) (had_in (exchanged_in p side moment) side) (left_in p side) (left_in (exchanged_in p side moment) side) t.more rest t.left
+    (ap (λ (n : SeqNumber). distance_of n (socket_of (exchanged_in p side moment) (other side)).block.receiver.next) t.una
+    ∙ (ap (λ (n : SeqNumber). distance_of (socket_of p side).block.sender.una n) t.next
+    ∙ further (socket_of p side).block.sender.una.0 (socket_of p (other side)).block.receiver.next.0 t.more h.una h.next
+    (below_quarter (had_in p side) (left_in p side) h.within h.few) t.few))
+    t.some
+before p side moment n h open_still rest (inr (inl t)) =
+    acknowledged_once n (had_in p side) (had_in (exchanged_in p side moment) side) (left_in p side) (left_in (exchanged_in p side moment) side) rest t.left t.had
+before p side moment n h open_still rest (inr (inr closed)) = absurd (open_still closed)
+
+still_open : (state : State) → is_synchronized state ≡ true → is_closed state ≡ true → ⊥
+still_open state past closed = absurd (let clashes : true ≡ false = sym closed ∙ not_closed state past in cc)
+
+fits : (p : PairValue) (side : Side) (x : ℤ × OpenOffer) (more : List (ℤ × OpenOffer)) → Exchanges p side (x ∷ more) →
+    suc (length more) + had_in p side ≤ left_in p side + left_in p side
+fits p side x [] e =
+    let h = has_some p side x.0 x.1 e.0 e.1 e.2 in last_one (had_in p side) (left_in p side) h.within h.some
+fits p side x (y ∷ more) e =
+    before p side x.0 (length more) (has_some p side x.0 x.1 e.0 e.1 e.2)
+    (λ closed. still_open (socket_of (exchanged_in p side x.0) (other side)).block.state e.3.2.may.theirs.synchronized closed)
+    (fits (exchanged_in p side x.0) side y more e.3)
+    (reached_moved p side x.0 x.1 e.0 e.1 e.2).less
+
+pub exchanges_few : (p : PairValue) (side : Side) (exchanges : List (ℤ × OpenOffer)) → Exchanges p side exchanges → length exchanges ≤ 2 * left_in p side
+exchanges_few p side [] e = omega arith
+exchanges_few p side (x ∷ more) e = twice (length more) (had_in p side) (left_in p side) (fits p side x more e) where
+  twice : (n had left : ℕ) → suc n + had ≤ left + left → suc n ≤ 2 * left
+  twice n had left a = omega arith

@@ -287,6 +287,7 @@ module _ (cx : ContextValue) (ip : IpRepr) (header : TcpHeader) (bytes : List �
       next = next;
       some = one;
       all = enough;
+      silent = refl;
       waits = there;
       due = subst (λ (wait : Option ℕ). IsDueWithin (ack_moment_after (probe_kept b (queued_in x)) header (length bytes) (is_holding x) cx.moment)
           (delayed cx.moment wait)) delay
@@ -353,6 +354,7 @@ module _ (cx : ContextValue) (ip : IpRepr) (header : TcpHeader) (bytes : List �
           next = refl;
           some = one;
           all = none_new (length bytes) (free_in x) whole;
+          silent = refl;
           waits = one_at_most (length x.received.waiting);
           due = within (probe_kept (fin_taken x.block cx.moment) (queued_in x)) header (length bytes) false cx.moment (inl fin.0);
         })
@@ -412,11 +414,11 @@ module _ (cx : ContextValue) (u : TcpValue) (ip : IpRepr) (header : TcpHeader) (
       (λ _.
       let y = heeded cx.moment header (length bytes) u by (windowed x.block header) in
       let r = content_rises cx ip header bytes y (new_of y takes_after refl refl) no_syn in
-      record { by = r.by; next = r.next; some = r.some; all = r.all; waits = r.waits; due = r.due })
+      record { by = r.by; next = r.next; some = r.some; all = r.all; silent = r.silent; waits = r.waits; due = r.due })
       (λ _.
       let y = heeded cx.moment header (length bytes) u by x.block in
       let r = content_rises cx ip header bytes y (new_of y takes_after refl refl) no_syn in
-      record { by = r.by; next = r.next; some = r.some; all = r.all; waits = r.waits; due = r.due })))
+      record { by = r.by; next = r.next; some = r.some; all = r.all; silent = r.silent; waits = r.waits; due = r.due })))
 
   rises_checked : TextRises (checked (Passes by) cx u ip header bytes)
   rises_checked =
@@ -432,7 +434,7 @@ unoffered_new v header size n = record { takes = n.takes; room = n.room; begins 
 
 offered_rises : (cx : ContextValue) (v : TcpValue) (header : TcpHeader) (size : ℕ) (a : Arrived) → Rises cx (unoffered v) header size a →
     Rises cx v header size a
-offered_rises cx v header size a r = record { by = r.by; next = r.next; some = r.some; all = r.all; waits = r.waits; due = r.due }
+offered_rises cx v header size a r = record { by = r.by; next = r.next; some = r.some; all = r.all; silent = r.silent; waits = r.waits; due = r.due }
 
 pub next_rises :
     (cx : ContextValue) (v : TcpValue) (ip : IpRepr) (header : TcpHeader) (bytes : List ℕ) (number : SeqNumber) → Counts v.block header number
@@ -478,7 +480,7 @@ module _ (cx : ContextValue) (u : TcpValue) (ip : IpRepr) (header : TcpHeader) (
   answered_outside : Answered (outside cx (acknowledged (timed cx.moment header u by) by cx.moment) ip header)
   answered_outside =
       acked_cases (timed cx.moment header u by) by cx.moment (λ (w : TcpValue). Answered (outside cx w ip header))
-      (λ closed. inl (record { last = last_of u.block.state (acks_fin u.block by (queued_in u)) past closed; closed = refl }))
+      (λ closed. inl (record { last = last_of u.block.state (acks_fin u.block by (queued_in u)) past closed; closed = refl; silent = refl }))
       (λ alive.
       let x = acked_open (timed cx.moment header u by) by cx.moment in
       let y = waiting_anew x header cx.moment in
@@ -496,14 +498,15 @@ module _ (cx : ContextValue) (u : TcpValue) (ip : IpRepr) (header : TcpHeader) (
         bare = refl;
         same = ap number (same_top u.block.sender.una.0 by u.block.sender.top sent);
         plain = refl;
+        next = refl;
       }))
       (λ no. clash (sym may ∙ no))))
 
 answered_too : (v : TcpValue) (a : Arrived) → EndsLastAck (unoffered v) a ⊎ IsAnswered (unoffered v) a → EndsLastAck v a ⊎ IsAnswered v a
-answered_too v a (inl ends) = inl (record { last = ends.last; closed = ends.closed })
+answered_too v a (inl ends) = inl (record { last = ends.last; closed = ends.closed; silent = ends.silent })
 answered_too v a (inr r) =
     inr
-    (record { reply = r.reply; answer = r.answer; acknowledges = r.acknowledges; bare = r.bare; same = r.same; plain = r.plain })
+    (record { reply = r.reply; answer = r.answer; acknowledges = r.acknowledges; bare = r.bare; same = r.same; plain = r.plain; next = r.next })
 
 pub again_answered :
     (cx : ContextValue) (v : TcpValue) (ip : IpRepr) (header : TcpHeader) (bytes : List ℕ) (number : SeqNumber) → Counts v.block header number

@@ -1,5 +1,5 @@
 -- Segments of a connection that come: what makes them count, and what they bring about (RFC 9293, 3.10.7.4).
-use Rattle.std.specs.Prelude.{◌≡◌, ◌⊎◌, ℕ, ◌+◌, ◌-◌, ◌^◌, ◌<◌, ◌≤◌, ◌&&◌, not, min, Bool, true, false, length, Some}
+use Rattle.std.specs.Prelude.{◌≡◌, ◌⊎◌, ℕ, ◌+◌, ◌-◌, ◌^◌, ◌<◌, ◌≤◌, ◌&&◌, not, min, Bool, true, false, length, Some, None}
 use Rattle.ip_wire.specs.Seq.{distance_of}
 use Rattle.ip_wire.specs.SeqNumber.{SeqNumber}
 use Rattle.ip_wire.specs.TcpControl.TheVariants as Control
@@ -65,7 +65,8 @@ pub record Rises (cx : ContextValue) (v : TcpValue) (header : TcpHeader) (size :
   pub next : a.socket.block.receiver.next ≡ behind_by v.block.receiver.next by
   pub some : 1 ≤ by
   pub all : min (new_text v header size) (free_in v) ≤ by
-  -- its text waits to be read
+  -- nothing answers it at once, and its text waits to be read
+  pub silent : a.answer ≡ None
   pub waits : by ≤ length a.socket.received.waiting + 1
   pub due : IsDueWithin a.socket.block.timers.ack_at (delayed cx.moment v.block.settings.ack_delay)
 
@@ -84,6 +85,7 @@ pub record IsAgain (v : TcpValue) (header : TcpHeader) (size : ℕ) : Type 0 whe
 pub record EndsLastAck (v : TcpValue) (a : Arrived) : Type 0 where
   pub last : v.block.state ≡ In.LastAck
   pub closed : is_closed a.socket.block.state ≡ true
+  pub silent : a.answer ≡ None
 
 -- it is answered at once: by a bare acknowledgement of RCV.NXT, past all that was sent
 pub record IsAnswered (v : TcpValue) (a : Arrived) : Type 0 where
@@ -94,3 +96,4 @@ pub record IsAnswered (v : TcpValue) (a : Arrived) : Type 0 where
   -- what was sent ends where it did
   pub same : top a.socket.block ≡ top v.block
   pub plain : reply.segment.control ≡ Control.None
+  pub next : a.socket.block.receiver.next ≡ v.block.receiver.next

@@ -86,14 +86,27 @@ pub record IsTaken (cy : ContextValue) (partner : TcpValue) (header : TcpHeader)
   pub rises : Rises cy partner header size a
   pub next : MovesOn partner.block.receiver.next a.socket.block.receiver.next
 
--- the partner answers, and the answer raises SND.UNA of the side, which has sent its offer
-pub record IsTold (cx cz : ContextValue) (v : TcpValue) (a : Arrived) : Type 0 where
+-- how much isn't acknowledged
+abbrev pub left_of : TcpValue → ℕ
+left_of v = unacked v.block (queued_in v)
+
+-- the side, once it has sent its offer and this answer has come
+abbrev pub answer_comes : ContextValue → ContextValue → TcpValue → Reply → TcpValue
+answer_comes cx cz v reply = (arrives cz (settled true (offer_of cx v).socket) reply.header reply.segment []).socket
+
+-- The partner answers, and the answer raises SND.UNA of the side, which has sent its offer,
+-- to all that the partner took
+pub record IsTold (cx cz : ContextValue) (v partner : TcpValue) (a : Arrived) : Type 0 where
   pub reply : Reply
   pub answer : a.answer ≡ Some reply
-  pub una : MovesOn v.block.sender.una (arrives cz (settled true (offer_of cx v).socket) reply.header reply.segment []).socket.block.sender.una
+  pub una : MovesOn v.block.sender.una (answer_comes cx cz v reply).block.sender.una
+  pub all : (answer_comes cx cz v reply).block.sender.una ≡ partner.block.receiver.next
+  pub had : 1 ≤ distance_of v.block.sender.una partner.block.receiver.next
+  pub left : left_of (answer_comes cx cz v reply) + distance_of v.block.sender.una partner.block.receiver.next ≡ left_of v
+  pub still : a.socket.block.receiver.next ≡ partner.block.receiver.next
 
 -- RCV.NXT of the partner rises; or it has all of it already, and what it answers raises SND.UNA; or its connection ends
 abbrev pub HasMoved : ContextValue → ContextValue → ContextValue → TcpValue → TcpValue → OpenOffer → Type 0
 HasMoved cx cy cz v partner o =
     IsTaken cy partner o.segment (length (text_of v o)) (offer_comes cy partner v o)
-    ⊎ (IsTold cx cz v (offer_comes cy partner v o) ⊎ EndsLastAck partner (offer_comes cy partner v o))
+    ⊎ (IsTold cx cz v partner (offer_comes cy partner v o) ⊎ EndsLastAck partner (offer_comes cy partner v o))

@@ -8,7 +8,7 @@ use Rattle.tcp_pair_model.specs.declared.event.PairEvent.{PairEvent}
 use Rattle.tcp_pair_model.specs.declared.event.PairEvent.TheVariants.{Listen, Connect, Send, Offer, Deliver}
 use Rattle.tcp_pair_model.specs.Examples.{socket, server, port, run}
 use Rattle.tcp_pair_model.specs.Values.{PairValue, new_pair}
-use Rattle.tcp_progress.specs.Pair.{context_of}
+use Rattle.tcp_progress.specs.Pair.{context_of, exchanged_in}
 
 abbrev pub events : List PairEvent
 events =
@@ -43,3 +43,10 @@ late = pos 5_000_000
 -- what A offers then
 abbrev pub again_in : PairValue → Option OpenOffer
 again_in p = (offer_of (context_of p A late) p.sides.a.socket).socket.offered
+
+-- its next offer, after that exchange, goes later
+abbrev pub later : ℤ
+later = pos 20_000_000
+
+abbrev pub told : PairValue
+told = exchanged_in gone A late

@@ -1,5 +1,5 @@
 -- An exchange as events of a pair: a side is asked, its segment comes, and what answers it comes.
-use Rattle.std.specs.Prelude.{◌≡◌, ◌⊎◌, ℕ, ◌≤◌, ℤ, true, false, length, Some}
+use Rattle.std.specs.Prelude.{◌≡◌, ◌⊎◌, ℕ, ◌-◌, ◌≤◌, ℤ, true, false, List, [], ◌∷◌, length, Some}
 use Rattle.tcp_tie.specs.Context.{ContextValue}
 use Rattle.tcp_tie.specs.Tie.{Past}
 use Rattle.tcp_rules.specs.EndpointPair.{EndpointPair}
@@ -12,9 +12,10 @@ use Rattle.tcp_pair_model.specs.Value.{TcpValue}
 use Rattle.tcp_pair_model.specs.declared.event.Side.{Side}
 use Rattle.tcp_pair_model.specs.declared.event.PairEvent.TheVariants.{Offer, Deliver}
 use Rattle.tcp_pair_model.specs.Sides.{at, other}
-use Rattle.tcp_pair_model.specs.Values.{PairValue, context_at}
-use Rattle.tcp_progress.specs.Exchange.{MayExchange, MovesOn}
-use Rattle.tcp_progress.specs.Rounds.{takes}
+use Rattle.tcp_pair_model.specs.Values.{PairValue, context_at, past_at}
+use Rattle.tcp_progress.specs.Exchange.{MayExchange, MovesOn, left_of}
+use Rattle.tcp_progress.specs.Reached.{IsReached}
+use Rattle.tcp_progress.specs.Rounds.{takes, comes}
 
 abbrev pub socket_of : PairValue → Side → TcpValue
 socket_of p side = (at p.sides side).socket
@@ -27,9 +28,11 @@ next_sent p side = length (at p.sides side).sent
 abbrev pub offered_in : PairValue → Side → ℤ → PairValue
 offered_in p side moment = takes (takes p (Offer side moment true)) (Deliver side (next_sent p side))
 
--- and what answers it comes
+-- and what answers it, if anything does, comes
 abbrev pub exchanged_in : PairValue → Side → ℤ → PairValue
-exchanged_in p side moment = takes (offered_in p side moment) (Deliver (other side) (next_sent p (other side)))
+exchanged_in p side moment =
+    comes (next_sent (offered_in p side moment) (other side) - next_sent p (other side)) (other side) (next_sent p (other side))
+    (offered_in p side moment)
 
 -- the user of a side hasn't closed it, or wrote something: its stream is no empty one
 abbrev pub HasStream : Past → Type 0
@@ -62,3 +65,15 @@ MovesIn p side moment =
     MovesOn (socket_of p (other side)).block.receiver.next (socket_of (offered_in p side moment) (other side)).block.receiver.next
     ⊎ (MovesOn (socket_of p side).block.sender.una (socket_of (exchanged_in p side moment) side).block.sender.una
     ⊎ (((socket_of p (other side)).block.state ≡ In.LastAck) × (is_closed (socket_of (offered_in p side moment) (other side)).block.state ≡ true)))
+
+-- EXCHANGES
+
+-- how much of a side isn't acknowledged
+abbrev pub left_in : PairValue → Side → ℕ
+left_in p side = left_of (socket_of p side)
+
+-- exchanges of a side, one after the other: when each is asked for, and what it offers
+abbrev pub Exchanges : PairValue → Side → List (ℤ × OpenOffer) → Type 0
+Exchanges p side [] = Unit {0}
+Exchanges p side (x ∷ more) =
+    IsReached p × HasStream (past_at p side) × MayExchangeIn p side x.0 x.1 × Exchanges (exchanged_in p side x.0) side more

@@ -1,6 +1,6 @@
 //! That a connection goes on.
 
-ghost use Rattle.std.specs.Prelude.{◌≡◌, ◌⊎◌, ℕ, ◌+◌, ◌^◌, ◌<◌, ◌≤◌, ℤ, true, false, List, length, Some};
+ghost use Rattle.std.specs.Prelude.{◌≡◌, ◌⊎◌, ℕ, ◌+◌, ◌*◌, ◌^◌, ◌<◌, ◌≤◌, ℤ, true, false, List, length, Some, None};
 ghost use Rattle.ip_wire.specs.IpRepr.{IpRepr};
 ghost use Rattle.ip_wire.specs.Seq.{distance_of};
 ghost use Rattle.ip_wire.specs.SeqNumber.{SeqNumber};
@@ -20,6 +20,8 @@ ghost use Rattle.tcp_pair_model.specs.Timestamps.{comes_older};
 ghost use Rattle.tcp_pair_model.specs.Value.{TcpValue, unoffered, free_in, queued_in, room_of};
 ghost use Rattle.tcp_pair_model.specs.Sides.{at, other};
 ghost use Rattle.tcp_pair_model.specs.Values.{PairValue, past_at};
+ghost use Rattle.tcp_pair_model.specs.Steps.{refusal};
+ghost use Rattle.tcp_pair_model.specs.declared.event.PairEvent.TheVariants.{Offer};
 ghost use Rattle.tcp_pair_model.specs.declared.event.Side.{Side};
 ghost use Rattle.tcp_rules.specs.Controls.{is_rst, is_syn};
 ghost use Rattle.tcp_rules.specs.Offsets.{behind_by};
@@ -27,8 +29,8 @@ ghost use Rattle.tcp_rules.specs.OpenOffer.{OpenOffer};
 ghost use Rattle.tcp_rules.specs.Timing.{carries};
 ghost use Rattle.tcp_progress.specs.Again.{StartsOver};
 ghost use Rattle.tcp_progress.specs.Arrivals.{is_synchronized, Counts, EndsLastAck, IsNearWindow, IsNew, Rises, IsAgain, IsAnswered};
-ghost use Rattle.tcp_progress.specs.Exchange.{GoesFromUna, HasMoved, IsOpen, MayExchange, TookWhatWasSent};
-ghost use Rattle.tcp_progress.specs.Pair.{HasStream, MayExchangeIn, MovesIn, socket_of};
+ghost use Rattle.tcp_progress.specs.Exchange.{GoesFromUna, HasMoved, IsOpen, MayExchange, TookWhatWasSent, left_of};
+ghost use Rattle.tcp_progress.specs.Pair.{Exchanges, HasStream, MayExchangeIn, MovesIn, exchanged_in, left_in, socket_of};
 ghost use Rattle.tcp_progress.specs.Positions.{LiesWithin};
 ghost use Rattle.tcp_progress.specs.Reached.{IsReached, Owes};
 ghost use Rattle.tcp_tie.specs.Tie.{Past, Keeps};
@@ -107,6 +109,15 @@ pub fn what_a_partner_says_raises_snd_una()
         ≡ behind_by v.block.sender.una (distance_of v.block.sender.una w.block.receiver.next) }
 {}
 
+/// Where all that was written was sent, the partner took only what was sent; and where it fits the partner's buffer, so does what was taken.
+pub fn where_all_was_sent_no_more_was_taken()
+    ensures sent { (v w : TcpValue) (p q : Past) (k : Keeps v p w q) → is_synchronized v.block.state ≡ true
+        → is_synchronized w.block.state ≡ true → IsInStep k.side k.partner → v.block.sender.top ≡ left_of v → TookWhatWasSent v w }
+    ensures near { (v w : TcpValue) (p q : Past) (k : Keeps v p w q) → is_synchronized v.block.state ≡ true
+        → is_synchronized w.block.state ≡ true → IsInStep k.side k.partner → left_of v ≤ room_of w.received + 2
+        → distance_of v.block.sender.una w.block.receiver.next ≤ room_of w.received + 2 }
+{}
+
 /// An exchange: a side with nothing in flight, or whose timer has run out, offers text or a FIN, and it comes. Then RCV.NXT of the partner
 /// rises, and its acknowledgement is due; or the partner has it already, and its answer, as soon as it comes, raises SND.UNA; or it ends
 /// LAST-ACK of the partner.
@@ -130,4 +141,18 @@ pub fn an_exchange_of_a_pair_goes_on()
         → IsInStep k.side k.partner → MayExchangeIn p side moment o → MovesIn p side moment }
     ensures reached { (p : PairValue) (side : Side) (moment : ℤ) (o : OpenOffer) → IsReached p → HasStream (past_at p side)
         → MayExchangeIn p side moment o → MovesIn p side moment }
+    ensures leads { (p : PairValue) (side : Side) (moment : ℤ) (o : OpenOffer) → IsReached p → HasStream (past_at p side)
+        → MayExchangeIn p side moment o → refusal p (Offer side moment true) ≡ None → IsReached (exchanged_in p side moment) }
+{}
+
+/// Of a pair that events led to: a side past SYN-RECEIVED whose SYN was acknowledged has counted it.
+pub fn a_side_of_a_pair_is_open()
+    ensures counts { (p : PairValue) (side : Side) → IsReached p → is_synchronized (socket_of p side).block.state ≡ true
+        → (socket_of p side).block.sender.syn_unacked ≡ false → IsOpen (socket_of p side).block }
+{}
+
+/// So exchanges come to an end: as long as nothing else happens, a side has at most two for each position that isn't acknowledged.
+pub fn exchanges_come_to_an_end()
+    ensures few { (p : PairValue) (side : Side) (exchanges : List (ℤ × OpenOffer)) → Exchanges p side exchanges
+        → length exchanges ≤ 2 * left_in p side }
 {}

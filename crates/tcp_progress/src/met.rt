@@ -1,11 +1,11 @@
 //! What the laws ask for is met, on numerals.
 
-ghost use Rattle.std.specs.Prelude.{length, IfSome};
+ghost use Rattle.std.specs.Prelude.{◌≡◌, [], ◌∷◌, length, IfSome};
 ghost use Rattle.tcp_progress.specs.Arrivals.{Counts, IsNew, IsAgain};
 ghost use Rattle.tcp_pair_model.specs.Values.{past_at};
 ghost use Rattle.tcp_pair_model.specs.declared.event.Side.TheVariants.{A};
-ghost use Rattle.tcp_progress.specs.Met.{gone, come, text, late, again_in};
-ghost use Rattle.tcp_progress.specs.Pair.{HasStream, MayExchangeIn, MovesIn};
+ghost use Rattle.tcp_progress.specs.Met.{gone, come, told, text, late, later, again_in};
+ghost use Rattle.tcp_progress.specs.Pair.{Exchanges, HasStream, MayExchangeIn, MovesIn, exchanged_in, left_in};
 ghost use Rattle.tcp_progress.specs.Reached.{IsReached, Owes};
 
 /// Three bytes that have gone: their side waits, and they count and are new to the other; once they have come, they are old to it.
@@ -25,4 +25,11 @@ pub fn what_an_exchange_asks_for_is_met()
     ensures untold { IfSome (again_in come) (λ o. MayExchangeIn come A late o) }
     ensures moves { MovesIn gone A late }
     ensures tells { MovesIn come A late }
+{}
+
+/// After two exchanges, one after the other, nothing is unacknowledged: in the first the bytes come, in the second that is told.
+pub fn two_exchanges_are_enough()
+    ensures one { IfSome (again_in gone) (λ o. Exchanges gone A ((late, o) ∷ [])) }
+    ensures some { left_in gone A ≡ 3 }
+    ensures none { left_in (exchanged_in told A later) A ≡ 0 }
 {}

@@ -1,0 +1,110 @@
+-- The events of an exchange are taken: so it leads on to a pair that events lead to.
+use Rattle.std.proofs.Common.{◌≡◌, ◌⊎◌, inl, inr, ℕ, suc, ◌-◌, ◌<◌, nat_lt, not, ℤ, Bool, true, false, List, [], ◌∷◌, ◌++◌, length, None, refl, sym, ap, ◌∙◌, subst, arith}
+use Rattle.std.proofs.lemmas.Bool.{lt-ltb}
+use Rattle.std.proofs.lemmas.Option.{slice_get_within}
+use Rattle.tcp_law.specs.Invariant.{IsInStep}
+use Rattle.tcp_tie.specs.Tie.{Past, Keeps}
+use Rattle.tcp_rules.specs.OpenOffer.{OpenOffer}
+use Rattle.tcp_pair_model.specs.Sides.{at, other}
+use Rattle.tcp_pair_model.specs.Steps.{Steps, refusal, if_so}
+use Rattle.tcp_pair_model.specs.Value.{new_socket}
+use Rattle.tcp_pair_model.specs.Values.{PairSide, PairValue, new_pair, past_at}
+use Rattle.tcp_pair_model.specs.declared.event.PairEvent.{PairEvent}
+use Rattle.tcp_pair_model.specs.declared.event.PairEvent.TheVariants.{Offer, Deliver}
+use Rattle.tcp_pair_model.specs.declared.event.PairRefused.TheVariants.{NoSegment}
+use Rattle.tcp_pair_model.specs.declared.event.Side.{Side}
+use Rattle.tcp_pair_model.specs.declared.event.Side.TheVariants.{A, B}
+use Rattle.tcp_pair_model.proofs.OutcomeLaws.{goes_on as in_pieces}
+use Rattle.tcp_progress.specs.Pair.{HasStream, MayExchangeIn, exchanged_in, next_sent, offered_in, socket_of}
+use Rattle.tcp_progress.specs.Reached.{IsReached}
+use Rattle.tcp_progress.specs.Rounds.{takes, comes}
+use Rattle.tcp_progress.proofs.Pair.{Takes, Tells, Ends, asked_side, partner_after, side_moves, sent, first, reached_keeps, in_step}
+
+reached_by : (p new : PairValue) (more : List PairEvent) → IsReached p → Steps p more new → IsReached new
+reached_by p new more r steps = record {
+  room_a = r.room_a;
+  room_b = r.room_b;
+  ring_a = r.ring_a;
+  ring_b = r.ring_b;
+  events = r.events ++ more;
+  steps = in_pieces (new_pair (new_socket r.room_a r.ring_a) (new_socket r.room_b r.ring_b)) p new r.events more r.steps steps;
+}
+
+abbrev IsTaken : PairValue → Side → ℕ → Type 0
+IsTaken p from k = refusal p (Deliver from k) ≡ None
+
+by_two :
+    (p : PairValue) (side : Side) (moment : ℤ) → IsReached p → refusal p (Offer side moment true) ≡ None
+    → IsTaken (takes p (Offer side moment true)) side (next_sent p side) → IsReached (offered_in p side moment)
+by_two p side moment r asked comes =
+    reached_by p (offered_in p side moment) (Offer side moment true ∷ Deliver side (next_sent p side) ∷ []) r (asked, (comes, refl))
+
+by_answer :
+    (p : PairValue) (from : Side) (k n : ℕ) → (n ≡ 0) ⊎ (n ≡ 1) → (n ≡ 1 → IsTaken p from k) → IsReached p → IsReached (comes n from k p)
+by_answer p from k n (inl none) there r = subst (λ (n : ℕ). IsReached (comes n from k p)) (sym none) r
+by_answer p from k n (inr one) there r =
+    subst (λ (n : ℕ). IsReached (comes n from k p)) (sym one)
+    (reached_by p (takes p (Deliver from k)) (Deliver from k ∷ []) r (there one, refl))
+
+within : (k n : ℕ) → k < n → if_so (not (nat_lt k n)) NoSegment ≡ None
+within k n less = ap (λ (t : Bool). if_so (not t) NoSegment) (lt-ltb k n less)
+
+one_more : (k n : ℕ) → n - k ≡ 1 → k < n
+one_more k n e = omega arith
+
+module _ (p : PairValue) (moment : ℤ) (o : OpenOffer) (r : IsReached p) where
+  led_a : HasStream (past_at p A) → MayExchangeIn p A moment o → refusal p (Offer A moment true) ≡ None → IsReached (exchanged_in p A moment)
+  led_a stream may asked =
+      by_answer (offered_in p A moment) B (next_sent p B) (next_sent (offered_in p A moment) B - next_sent p B) (counts moves)
+      (λ one. within (next_sent p B) (next_sent (offered_in p A moment) B) (one_more (next_sent p B) (next_sent (offered_in p A moment) B) one))
+      (by_two p A moment r asked
+      (within (next_sent p A) (length (asked_side A p.sides.a p.sides.b moment).sent)
+      (slice_get_within (asked_side A p.sides.a p.sides.b moment).sent (next_sent p A) (first A p.sides.a p.sides.b moment may.mirrored o may.may)
+      (sent A p.sides.a p.sides.b moment may.mirrored o may.may))))
+    where
+      k : Keeps p.sides.a.socket (past_at p A) p.sides.b.socket (past_at p B)
+      k = reached_keeps p A r
+
+      moves : Takes A p.sides.a p.sides.b moment may.mirrored o may.may
+          ⊎ (Tells A p.sides.a p.sides.b moment may.mirrored o may.may ⊎ Ends A p.sides.a p.sides.b moment may.mirrored o may.may)
+      moves =
+          side_moves A p.sides.a p.sides.b moment may.mirrored o may.may (past_at p A) (past_at p B) k
+          (in_step p.sides.a.socket p.sides.b.socket (past_at p A) (past_at p B) k may.may.own.synchronized stream)
+
+      counts : Takes A p.sides.a p.sides.b moment may.mirrored o may.may
+          ⊎ (Tells A p.sides.a p.sides.b moment may.mirrored o may.may ⊎ Ends A p.sides.a p.sides.b moment may.mirrored o may.may)
+          → (next_sent (offered_in p A moment) B - next_sent p B ≡ 0) ⊎ (next_sent (offered_in p A moment) B - next_sent p B ≡ 1)
+      counts (inl x) = inl x.none
+      counts (inr (inl x)) = inr x.one
+      counts (inr (inr x)) = inl x.none
+
+  led_b : HasStream (past_at p B) → MayExchangeIn p B moment o → refusal p (Offer B moment true) ≡ None → IsReached (exchanged_in p B moment)
+  led_b stream may asked =
+      by_answer (offered_in p B moment) A (next_sent p A) (next_sent (offered_in p B moment) A - next_sent p A) (counts moves)
+      (λ one. within (next_sent p A) (next_sent (offered_in p B moment) A) (one_more (next_sent p A) (next_sent (offered_in p B moment) A) one))
+      (by_two p B moment r asked
+      (within (next_sent p B) (length (asked_side B p.sides.b p.sides.a moment).sent)
+      (slice_get_within (asked_side B p.sides.b p.sides.a moment).sent (next_sent p B) (first B p.sides.b p.sides.a moment may.mirrored o may.may)
+      (sent B p.sides.b p.sides.a moment may.mirrored o may.may))))
+    where
+      k : Keeps p.sides.b.socket (past_at p B) p.sides.a.socket (past_at p A)
+      k = reached_keeps p B r
+
+      moves : Takes B p.sides.b p.sides.a moment may.mirrored o may.may
+          ⊎ (Tells B p.sides.b p.sides.a moment may.mirrored o may.may ⊎ Ends B p.sides.b p.sides.a moment may.mirrored o may.may)
+      moves =
+          side_moves B p.sides.b p.sides.a moment may.mirrored o may.may (past_at p B) (past_at p A) k
+          (in_step p.sides.b.socket p.sides.a.socket (past_at p B) (past_at p A) k may.may.own.synchronized stream)
+
+      counts : Takes B p.sides.b p.sides.a moment may.mirrored o may.may
+          ⊎ (Tells B p.sides.b p.sides.a moment may.mirrored o may.may ⊎ Ends B p.sides.b p.sides.a moment may.mirrored o may.may)
+          → (next_sent (offered_in p B moment) A - next_sent p A ≡ 0) ⊎ (next_sent (offered_in p B moment) A - next_sent p A ≡ 1)
+      counts (inl x) = inl x.none
+      counts (inr (inl x)) = inr x.one
+      counts (inr (inr x)) = inl x.none
+
+pub leads_on :
+    (p : PairValue) (side : Side) (moment : ℤ) (o : OpenOffer) → IsReached p → HasStream (past_at p side) → MayExchangeIn p side moment o
+    → refusal p (Offer side moment true) ≡ None → IsReached (exchanged_in p side moment)
+leads_on p A moment o r stream may asked = led_a p moment o r stream may asked
+leads_on p B moment o r stream may asked = led_b p moment o r stream may asked
