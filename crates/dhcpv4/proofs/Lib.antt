@@ -1,8 +1,10 @@
 pub mod Datagrams
 pub mod Ends
+pub mod Extras
 pub mod Given
 pub mod Masks
 pub mod OneMessage
+pub mod Sent
 pub mod Short
 pub mod Turns
 pub mod Taken
