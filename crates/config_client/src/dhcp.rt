@@ -66,11 +66,7 @@ fn tell(word: &str, micros: u64, client: &mut Socket) -> bool {
 }
 
 /// Sets up to two options: of each the code, and what is inside in hexadecimal digits.
-fn options(
-    alloc: Global,
-    text: &str,
-    client: &mut Socket,
-) -> io::Result<Result<(), OptionsError>> {
+fn options(alloc: Global, text: &str, client: &mut Socket) -> io::Result<Result<(), OptionsError>> {
     let (code, rest) = text.split_once(' ').unwrap_or((text, ""));
     let (digits, rest) = rest.split_once(' ').unwrap_or((rest, ""));
     let (other, more) = rest.split_once(' ').unwrap_or((rest, ""));

@@ -1,6 +1,5 @@
 pub mod Datagrams
 pub mod Ends
-pub mod Extras
 pub mod Given
 pub mod Masks
 pub mod OneMessage
@@ -8,3 +7,4 @@ pub mod Sent
 pub mod Short
 pub mod Turns
 pub mod Taken
+pub mod TakenOptions

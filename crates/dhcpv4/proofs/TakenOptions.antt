@@ -30,7 +30,7 @@ one-taken : (left : ℕ) (o : DhcpOption) (os : List DhcpOption) → is_reserved
     → AreTaken (left - (2 + length o.«data».now)) os → AreTaken left (o ∷ os)
 one-taken left o os free roomy rest = record {
   whole = are_options-one o.kind (length o.«data».now) (o.«data».now ++ encoded os) (λ e. false-true (sym free ∙ ap is_reserved e))
-          (λ e. false-true (sym free ∙ ap is_reserved e)) (omega (arith, length-append o.«data».now (encoded os)))
+      (λ e. false-true (sym free ∙ ap is_reserved e)) (omega (arith, length-append o.«data».now (encoded os)))
       ∙ ap (are_options 0) (drop-append_seam o.«data».now (encoded os))
       ∙ rest.whole;
   fits = omega (arith, rest.fits, ltb-false left (2 + length o.«data».now) roomy, length-append o.«data».now (encoded os));
