@@ -8,46 +8,46 @@ use Rattle.tcp_progress.proofs.met.two_exchanges_are_enough.Goals as goal
 
 pub returns-clause-one : goal.returns-clause-one
 returns-clause-one c = (
-    record {
-      room_a = 64;
-      room_b = 64;
-      ring_a = ring [] (replicate 64 0) 0;
-      ring_b = ring [] (replicate 64 0) 0;
-      events = events;
-      steps = (refl, (refl, (refl, (refl, (refl, (refl, (refl, (refl, (refl, (refl, refl))))))))));
-    },
-    inl refl,
-    record {
-      mirrored =
-          record {
-            own = _;
-            theirs = _;
-            named = refl;
-            partner_named = refl;
-            local = refl;
-            remote = refl;
-            local_port = refl;
-            remote_port = refl;
-          };
-      may =
-          record {
-            own = record { synchronized = refl; acknowledged = refl; opened = leb-true _ _ refl };
-            theirs = record { synchronized = refl; acknowledged = refl; opened = leb-true _ _ refl };
-            over = inr refl;
-            offered = refl;
-            kind = refl;
-            some = leb-true _ _ refl;
-            sent = leb-true _ _ refl;
-            heard = leb-true _ _ refl;
-            room = leb-true _ _ refl;
-            near = leb-true _ _ refl;
-            draws = refl;
-            space = inl refl;
-            fresh = refl;
-            answer_fresh = stampless _ _ refl;
-          };
-    },
-    tt,
+  record {
+    room_a = 64;
+    room_b = 64;
+    ring_a = ring [] (replicate 64 0) 0;
+    ring_b = ring [] (replicate 64 0) 0;
+    events = events;
+    steps = (refl, (refl, (refl, (refl, (refl, (refl, (refl, (refl, (refl, (refl, refl))))))))));
+  },
+  inl refl,
+  record {
+    mirrored =
+        record {
+          own = _;
+          theirs = _;
+          named = refl;
+          partner_named = refl;
+          local = refl;
+          remote = refl;
+          local_port = refl;
+          remote_port = refl;
+        };
+    may =
+        record {
+          own = record { synchronized = refl; acknowledged = refl; opened = leb-true _ _ refl };
+          theirs = record { synchronized = refl; acknowledged = refl; opened = leb-true _ _ refl };
+          over = inr refl;
+          offered = refl;
+          kind = refl;
+          some = leb-true _ _ refl;
+          sent = leb-true _ _ refl;
+          heard = leb-true _ _ refl;
+          room = leb-true _ _ refl;
+          near = leb-true _ _ refl;
+          draws = refl;
+          space = inl refl;
+          fresh = refl;
+          answer_fresh = stampless _ _ refl;
+        };
+  },
+  tt,
 )
 
 pub returns-clause-some : goal.returns-clause-some
