@@ -1,7 +1,7 @@
 -- Text and a FIN that come at RCV.NXT, or begin before it, raise it; what was taken already is answered.
 use Rattle.std.proofs.Common.{◌≡◌, ◌⊎◌, inl, inr, ℕ, ◌+◌, ◌-◌, ◌%◌, ◌^◌, ◌<◌, ◌≤◌, ◌==◌, ◌&&◌, ◌||◌, nat_le, nat_lt, not, min, ℤ, ◌≤ℤ◌, int_lt, pos, ◌+ℤ◌, Bool}
 use Rattle.std.proofs.Common.{true, false, if◌then◌else◌, List, [], ◌∷◌, ◌++◌, length, drop, Option, Some, None, refl, sym, ap, ◌∙◌, subst, arith, length-drop}
-use Rattle.std.proofs.lemmas.Bool.{cond_both, le-ltb, lt-ltb, eq-eqb, ne_eqb, le-leb, ltb-true, ltb-false}
+use Rattle.std.proofs.lemmas.Bool.{cond_both, le-ltb, lt-ltb, lt-leb, eq-eqb, ne_eqb, le-leb, ltb-true, ltb-false}
 use Rattle.std.proofs.lemmas.Int.{ints}
 use Rattle.ip_wire.specs.Control.{control_len}
 use Rattle.ip_wire.specs.IpRepr.{IpRepr}
@@ -36,7 +36,7 @@ use Rattle.tcp_tie.proofs.Tied.{if_so, if_not}
 use Rattle.tcp_rules.proofs.ArrivalCases.{acked_cases, acked_open, heeded}
 use Rattle.tcp_rules.proofs.OrderSteps.{clash}
 use Rattle.tcp_rules.specs.Acks.{IsDueWithin}
-use Rattle.tcp_progress.specs.Arrivals.{is_synchronized, Counts, IsNew, Rises, IsAgain, IsAnswered, EndsLastAck}
+use Rattle.tcp_progress.specs.Arrivals.{is_synchronized, Counts, IsNew, Rises, IsAgain, IsAnswered, IsShutOut, EndsLastAck}
 use Rattle.tcp_progress.proofs.Acked.{comes_to, not_answering}
 use Rattle.tcp_rules.proofs.ArrivalCases.{timed}
 
@@ -524,3 +524,87 @@ again_answered cx v ip header bytes number c n may =
     again_lies_before v header (length bytes) n))))
     (answered_too v (outside cx (acknowledged (timed cx.moment header u by) by cx.moment) ip header)
     (answered_outside cx u ip header bytes by may c.synchronized c.sent))
+
+-- WHAT A CLOSED WINDOW SHUTS OUT
+
+shut_meets_not : (before past len space : ℕ) → space ≡ 0 → 1 ≤ len → meets_window before past len space ≡ false
+shut_meets_not before past len space shut some =
+    if_not (len == 0) ((before == 0) && (if past == 0 then true else nat_lt past space)) (nat_lt past space && nat_lt before len)
+    (ne_eqb len 0 (none len some))
+    ∙ ap (λ (t : Bool). t && nat_lt before len) (le-ltb past space (no_space past space shut))
+  where
+    none : (n : ℕ) → 1 ≤ n → n ≡ 0 → ⊥
+    none n e f = absurd (omega arith)
+
+    no_space : (past space : ℕ) → space ≡ 0 → space ≤ past
+    no_space past space e = omega arith
+
+shut_is_outside : (v : TcpValue) (header : TcpHeader) (size : ℕ) → IsShutOut v header size → is_in_window v.block (free_in v) header size ≡ false
+shut_is_outside v header size n =
+    shut_meets_not (before_by v.block.receiver.next header.seq_number) (past_by v.block.receiver.next header.seq_number) (segment_len header size) (free_in v)
+    n.shut (some (distance_of header.seq_number v.block.receiver.next) (segment_len header size) n.ends)
+  where
+    some : (d len : ℕ) → d < len → 1 ≤ len
+    some d len e = omega arith
+
+shut_not_before : (v : TcpValue) (header : TcpHeader) (size : ℕ) → IsShutOut v header size → lies_before v.block (room_of v.received) header size ≡ false
+shut_not_before v header size n =
+    let it = begins v.block.receiver.next header.seq_number n.seq_small n.next_small n.begins in
+    ap (λ (d : ℕ). not (d == 0) && (nat_le (segment_len header size) d && nat_le d (room_of v.received + 2))) it.before
+    ∙ middle (not (distance_of header.seq_number v.block.receiver.next == 0))
+    (nat_le (segment_len header size) (distance_of header.seq_number v.block.receiver.next))
+    (nat_le (distance_of header.seq_number v.block.receiver.next) (room_of v.received + 2))
+    (lt-leb (segment_len header size) (distance_of header.seq_number v.block.receiver.next) n.ends)
+  where
+    middle : (a b c : Bool) → b ≡ false → (a && (b && c)) ≡ false
+    middle true b c e = ap (λ (t : Bool). t && c) e
+    middle false b c e = refl
+
+alive_in : (state : State) → is_synchronized state ≡ true → is_closed state ≡ false
+alive_in In.Closed e = clash (sym e)
+alive_in other e = refl
+
+shut_drawn :
+    (cx : ContextValue) (u : TcpValue) (ip : IpRepr) (header : TcpHeader) → may_draw cx.moment u.block.timers.draws_from ≡ true
+    → is_closed u.block.state ≡ false → IsAnswered u (outside cx u ip header)
+shut_drawn cx u ip header may alive =
+    let y = waiting_anew u header cx.moment in
+    cond_both (is_closed u.block.state) (dropped u) (drawn cx y ip header) (IsAnswered u) (λ closed. clash (sym closed ∙ alive))
+    (λ _.
+    cond_both (may_draw cx.moment u.block.timers.draws_from) (acked cx (with_draw y cx.moment) ip header no_ranges) (dropped y) (IsAnswered u)
+    (λ _.
+    record {
+      reply = reply_to ip (hops_of u.block.settings.hop_limit)
+          (sack_segment (with_draw y cx.moment).block (pair_in ip header) cx.moment (window_of (with_draw y cx.moment)) no_ranges);
+      answer = refl;
+      acknowledges = refl;
+      bare = refl;
+      same = refl;
+      plain = refl;
+      next = refl;
+    })
+    (λ never. clash (sym may ∙ never)))
+
+pub shut_answered :
+    (cx : ContextValue) (v : TcpValue) (ip : IpRepr) (header : TcpHeader) (bytes : List ℕ) (number : SeqNumber) → Counts v.block header number
+    → IsShutOut v header (length bytes) → may_draw cx.moment v.block.timers.draws_from ≡ true → IsAnswered v (arrives cx v ip header bytes)
+shut_answered cx v ip header bytes number c n may =
+    let by = distance_of v.block.sender.una number in
+    let u = unoffered v in
+    let r : IsAnswered u (outside cx u ip header) = shut_drawn cx u ip header may (alive_in v.block.state c.synchronized) in
+    subst (IsAnswered v)
+    (sym (comes_to cx v ip header bytes number c
+    ∙ (if_not (is_in_window v.block (free_in v) header (length bytes)) (inside cx u ip header bytes by) (passed_outside cx u ip header (length bytes) by)
+    (shut_is_outside v header (length bytes) n)
+    ∙ if_not (tells_news u header (length bytes)) (outside cx (acknowledged (timed cx.moment header u by) by cx.moment) ip header) (outside cx u ip header)
+    (ap (λ (t : Bool). not t && lies_before v.block (room_of v.received) header (length bytes)) (not_answering v.block.state c.synchronized) ∙
+    shut_not_before v header (length bytes) n))))
+    (record {
+      reply = r.reply;
+      answer = r.answer;
+      acknowledges = r.acknowledges;
+      bare = r.bare;
+      same = r.same;
+      plain = r.plain;
+      next = r.next;
+    })

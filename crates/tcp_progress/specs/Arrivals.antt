@@ -97,3 +97,12 @@ pub record IsAnswered (v : TcpValue) (a : Arrived) : Type 0 where
   pub same : top a.socket.block ≡ top v.block
   pub plain : reply.segment.control ≡ Control.None
   pub next : a.socket.block.receiver.next ≡ v.block.receiver.next
+
+-- The window is closed, and some of the segment is new: it is outside, as a probe is (3.8.6.1).
+pub record IsShutOut (v : TcpValue) (header : TcpHeader) (size : ℕ) : Type 0 where
+  pub shut : free_in v ≡ 0
+  pub begins : distance_of header.seq_number v.block.receiver.next < 2 ^ 31
+  pub ends : distance_of header.seq_number v.block.receiver.next < segment_len header size
+  -- numbers of 32 bits
+  pub seq_small : header.seq_number.0 < 2 ^ 32
+  pub next_small : v.block.receiver.next.0 < 2 ^ 32

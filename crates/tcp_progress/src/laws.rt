@@ -28,7 +28,7 @@ ghost use Rattle.tcp_rules.specs.Offsets.{behind_by};
 ghost use Rattle.tcp_rules.specs.OpenOffer.{OpenOffer};
 ghost use Rattle.tcp_rules.specs.Timing.{carries};
 ghost use Rattle.tcp_progress.specs.Again.{StartsOver};
-ghost use Rattle.tcp_progress.specs.Arrivals.{is_synchronized, Counts, EndsLastAck, IsNearWindow, IsNew, Rises, IsAgain, IsAnswered};
+ghost use Rattle.tcp_progress.specs.Arrivals.{is_synchronized, Counts, EndsLastAck, IsNearWindow, IsNew, Rises, IsAgain, IsAnswered, IsShutOut};
 ghost use Rattle.tcp_progress.specs.Exchange.{GoesFromUna, HasMoved, IsOpen, MayExchange, TookWhatWasSent, left_of};
 ghost use Rattle.tcp_progress.specs.Pair.{Exchanges, HasStream, MayExchangeIn, MovesIn, exchanged_in, left_in, socket_of};
 ghost use Rattle.tcp_progress.specs.Positions.{LiesWithin};
@@ -73,6 +73,13 @@ pub fn old_text_is_answered()
     ensures answered { (cx : ContextValue) (v : TcpValue) (ip : IpRepr) (header : TcpHeader) (bytes : List ℕ) (number : SeqNumber)
         → Counts v.block header number → IsAgain v header (length bytes) → may_draw cx.moment v.block.timers.draws_from ≡ true
         → EndsLastAck v (arrives cx v ip header bytes) ⊎ IsAnswered v (arrives cx v ip header bytes) }
+{}
+
+/// What comes while the window is closed, as a probe does, is answered with RCV.NXT, too; nothing of it is taken.
+pub fn a_probe_of_a_closed_window_is_answered()
+    ensures answered { (cx : ContextValue) (v : TcpValue) (ip : IpRepr) (header : TcpHeader) (bytes : List ℕ) (number : SeqNumber)
+        → Counts v.block header number → IsShutOut v header (length bytes) → may_draw cx.moment v.block.timers.draws_from ≡ true
+        → IsAnswered v (arrives cx v ip header bytes) }
 {}
 
 /// Either way its acknowledgement counts: it lies inside the window, or just before it.
