@@ -40,7 +40,7 @@ pub(crate) fn take_buffer(
         Some(buffer) => buffer,
         None => Vec::new(*leaving.allocator()),
     };
-    buffer.truncate(0);
+    // What stands in it is of a frame that went: the host writes each byte.
     buffer.resize(len, 0).ok()?;
     Some(buffer)
 }
