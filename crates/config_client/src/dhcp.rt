@@ -35,14 +35,12 @@ pub(crate) fn answer<W: Write>(
         "arrives" => arrives(alloc, micros, more, client),
         "ports" => client.set_ports(port(first), port(more)),
         "ask" => {
-            let Ok(codes) = hex::decode(alloc, rest) else {
-                return Ok(false);
-            };
+            let codes = bytes_of(alloc, rest);
             let taken = client.set_parameter_request_list(codes.as_slice());
             writeln!(writer, "{taken:?}")?;
         }
         "options" => {
-            let taken = options(alloc, rest, client)?;
+            let taken = options(alloc, rest, client);
             writeln!(writer, "{taken:?}")?;
         }
         _ => return Ok(tell(word, micros, client)),
@@ -66,33 +64,35 @@ fn tell(word: &str, micros: u64, client: &mut Socket) -> bool {
 }
 
 /// Sets up to two options: of each the code, and what is inside in hexadecimal digits.
-fn options(alloc: Global, text: &str, client: &mut Socket) -> io::Result<Result<(), OptionsError>> {
+fn options(alloc: Global, text: &str, client: &mut Socket) -> Result<(), OptionsError> {
     let (code, rest) = text.split_once(' ').unwrap_or((text, ""));
     let (digits, rest) = rest.split_once(' ').unwrap_or((rest, ""));
     let (other, more) = rest.split_once(' ').unwrap_or((rest, ""));
-    let (first, second) = (bytes_of(alloc, digits)?, bytes_of(alloc, more)?);
-    let one = DhcpOption {
-        kind: code.parse::<u8>().unwrap_or(0),
-        data: first.as_slice(),
-    };
-    let two = DhcpOption {
-        kind: other.parse::<u8>().unwrap_or(0),
-        data: second.as_slice(),
-    };
+    let (first, second) = (bytes_of(alloc, digits), bytes_of(alloc, more));
+    let one = option_of(code, first.as_slice());
+    let two = option_of(other, second.as_slice());
     if code.is_empty() {
-        return Ok(client.set_outgoing_options(&[]));
+        return client.set_outgoing_options(&[]);
     }
     if other.is_empty() {
-        return Ok(client.set_outgoing_options(&[one]));
+        return client.set_outgoing_options(&[one]);
     }
-    Ok(client.set_outgoing_options(&[one, two]))
+    client.set_outgoing_options(&[one, two])
+}
+
+/// An option of the code that a text says, and of 0 where it says none.
+fn option_of<'a>(code: &str, data: &'a [u8]) -> DhcpOption<'a> {
+    DhcpOption {
+        kind: code.parse::<u8>().unwrap_or(0),
+        data,
+    }
 }
 
 /// The bytes of hexadecimal digits, and none of any other text.
-fn bytes_of(alloc: Global, digits: &str) -> io::Result<Vec<u8>> {
+fn bytes_of(alloc: Global, digits: &str) -> Vec<u8> {
     match hex::decode(alloc, digits) {
-        Ok(bytes) => Ok(bytes),
-        Err(_) => Ok(Vec::new(alloc)),
+        Ok(bytes) => bytes,
+        Err(_) => Vec::new(alloc),
     }
 }
 
