@@ -18,6 +18,8 @@ use Rattle.c_sockets.specs.Places.{answer_at}
 use Rattle.c_sockets.specs.declared.code.Code.{Code}
 use Rattle.c_sockets.specs.declared.code.Code.TheVariants as Is
 use Rattle.c_calls.specs.Host.{StackValue}
+use Rattle.c_calls.specs.declared.backlogs.Role.{Role}
+use Rattle.c_calls.specs.declared.backlogs.Role.TheVariants as For
 
 -- a host has sixteen at most
 abbrev pub most_listeners : ℕ
@@ -133,6 +135,11 @@ HasEntry socket l l' =
 abbrev pub HasKeeper : ℕ → Listener → Listener → Type 0
 HasKeeper socket l l' =
     (l'.endpoint ≡ l.endpoint) × (l'.entries.items ≡ l.entries.items) × (l'.keepers.items ≡ l.keepers.items ++ handle socket ∷ [])
+
+-- what becomes of a listener that takes the socket in
+abbrev pub Has : Role → ℕ → Listener → Listener → Type 0
+Has For.Entry = HasEntry
+Has For.Keeper = HasKeeper
 
 -- the listener changes so, or there is no memory and it is the same
 abbrev pub Grows : (Listener → Listener → Type 0) → Listener → Result (Unit {0}) Code → Listener → Type 0

@@ -24,16 +24,19 @@ abbrev pub is_done : {A : Type 0} → Result A Code → Result (Unit {0}) Code
 is_done (Ok made) = Ok tt
 is_done (Err code) = Err code
 
+module _ {A : Type 0} where
+  -- one more, where there is room
+  abbrev pub pushed : List A → A → List A
+  pushed entries entry = if nat_lt (length entries) room then entries ++ entry ∷ [] else entries
+
+  -- without the one at the place, where there is one
+  abbrev pub removed : List A → ℕ → List A
+  removed entries place = if nat_lt place (length entries) then remove entries place else entries
+
 -- ADDRESSES
 
 abbrev pub is_address : IpAddress → IpCidr → Bool
 is_address address block = is_same_address (block_address block) address
-
-abbrev pub pushed : List IpCidr → IpCidr → List IpCidr
-pushed blocks block = if nat_lt (length blocks) room then blocks ++ block ∷ [] else blocks
-
-abbrev pub removed : List IpCidr → ℕ → List IpCidr
-removed blocks place = if nat_lt place (length blocks) then remove blocks place else blocks
 
 -- each is one host's or unspecified
 abbrev pub checked : List IpCidr → Result (List IpCidr) Code
@@ -67,12 +70,6 @@ is_block block route =
 
 abbrev pub route_to : IpCidr → IpAddress → Route
 route_to network router = record { cidr = network; via_router = router; preferred_until = None; expires_at = None }
-
-abbrev pub pushed_route : List Route → Route → List Route
-pushed_route routes route = if nat_lt (length routes) room then routes ++ route ∷ [] else routes
-
-abbrev pub removed_route : List Route → ℕ → List Route
-removed_route routes place = if nat_lt place (length routes) then remove routes place else routes
 
 -- behind the others, if its router is of its family and there is room
 abbrev pub routes_with : List Route → Route → Result (List Route) Code

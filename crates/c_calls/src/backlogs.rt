@@ -8,7 +8,7 @@ ghost use Rattle.interface.specs.SocketHandle.{SocketHandle as Handle};
 ghost use Rattle.sockets.specs.AnySocket.{as_tcp};
 ghost use Rattle.c_sockets.specs.Places.{answer_at};
 ghost use Rattle.c_calls.specs.Backlogs.{RefreshesAt, RefreshesAll, MakesListener, IsPut, listener_place, is_there, without_listener, listener_at, has_place};
-ghost use Rattle.c_calls.specs.Backlogs.{is_in_backlog, closed_in, may_be_taken, Takes, HasEntry, HasKeeper, Grows, Grown, WhereThere, Accepted, GivenBack};
+ghost use Rattle.c_calls.specs.Backlogs.{is_in_backlog, closed_in, may_be_taken, Takes, Has, HasEntry, HasKeeper, Grows, Grown, WhereThere, Accepted, GivenBack};
 ghost use Rattle.c_calls.specs.Backlogs.{AcceptsFrom, GivesBack, listener_refusal};
 
 use crate::host::Host;
@@ -22,6 +22,15 @@ use tcp_listener::{Entry, Listener};
 
 /// How many listeners a host has at most.
 const MOST_LISTENERS: usize = 16;
+
+/// What a listener takes a socket for.
+#[derive(Clone, Copy)]
+enum Role {
+    /// One of its backlog.
+    Entry,
+    /// A keeper.
+    Keeper,
+}
 
 fn refresh_one(listener: &mut Option<Listener>, sockets: &mut SocketSet<Socket>, now: Instant)
     ensures seen { RefreshesAt (micros_of now) listener.old (places sockets.old) listener.new (places sockets.new) }
@@ -182,22 +191,25 @@ impl Host {
     pub fn listener_add(&mut self, listener: usize, socket: usize) -> Result<(), Code>
         ensures { Takes (HasEntry socket) self.old listener socket result self.new }
     {
-        let taken = self.may_be_taken(socket);
-        if listener >= self.listeners.len() {
-            return Err(Code::NoListener);
-        }
-        add_to(&mut self.listeners[listener], socket, taken)
+        self.take_in(listener, socket, Role::Entry)
     }
 
     /// Takes a closed TCP socket for a keeper of a listener, which drops what is beyond the backlog. It needs no room for bytes.
     pub fn listener_add_keeper(&mut self, listener: usize, socket: usize) -> Result<(), Code>
         ensures { Takes (HasKeeper socket) self.old listener socket result self.new }
     {
+        self.take_in(listener, socket, Role::Keeper)
+    }
+
+    /// Takes a closed TCP socket into a listener.
+    fn take_in(&mut self, listener: usize, socket: usize, role: Role) -> Result<(), Code>
+        ensures { Takes (Has role socket) self.old listener socket result self.new }
+    {
         let taken = self.may_be_taken(socket);
         if listener >= self.listeners.len() {
             return Err(Code::NoListener);
         }
-        add_keeper_to(&mut self.listeners[listener], socket, taken)
+        add_to(&mut self.listeners[listener], socket, role, taken)
     }
 
     /// The place of the socket whose connection has waited for longest. It is its user's until `listener_give_back`.
@@ -221,50 +233,33 @@ impl Host {
     }
 }
 
-fn added(listener: &mut Listener, socket: usize) -> Result<(), Code>
-    ensures { Grows (HasEntry socket) listener.old result listener.new }
+fn added(listener: &mut Listener, socket: usize, role: Role) -> Result<(), Code>
+    ensures { Grows (Has role socket) listener.old result listener.new }
 {
-    match listener.add(SocketHandle::at(socket)) {
-        Ok(()) => Ok(()),
-        Err(_) => Err(Code::Memory),
+    let handle = SocketHandle::at(socket);
+    match role {
+        Role::Entry => match listener.add(handle) {
+            Ok(()) => Ok(()),
+            Err(_) => Err(Code::Memory),
+        },
+        Role::Keeper => match listener.add_keeper(handle) {
+            Ok(()) => Ok(()),
+            Err(_) => Err(Code::Memory),
+        },
     }
 }
 
 fn add_to(
     listener: &mut Option<Listener>,
     socket: usize,
+    role: Role,
     taken: Result<(), Code>,
 ) -> Result<(), Code>
-    ensures { WhereThere (Grown (HasEntry socket) taken) listener.old result listener.new }
+    ensures { WhereThere (Grown (Has role socket) taken) listener.old result listener.new }
 {
     match listener {
         Some(listener) => match taken {
-            Ok(()) => added(listener, socket),
-            Err(code) => Err(code),
-        },
-        None => Err(Code::NoListener),
-    }
-}
-
-fn kept(listener: &mut Listener, socket: usize) -> Result<(), Code>
-    ensures { Grows (HasKeeper socket) listener.old result listener.new }
-{
-    match listener.add_keeper(SocketHandle::at(socket)) {
-        Ok(()) => Ok(()),
-        Err(_) => Err(Code::Memory),
-    }
-}
-
-fn add_keeper_to(
-    listener: &mut Option<Listener>,
-    socket: usize,
-    taken: Result<(), Code>,
-) -> Result<(), Code>
-    ensures { WhereThere (Grown (HasKeeper socket) taken) listener.old result listener.new }
-{
-    match listener {
-        Some(listener) => match taken {
-            Ok(()) => kept(listener, socket),
+            Ok(()) => added(listener, socket, role),
             Err(code) => Err(code),
         },
         None => Err(Code::NoListener),

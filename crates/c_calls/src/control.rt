@@ -11,7 +11,7 @@ ghost use Rattle.c_calls.specs.Added.{MakesSocket, new_icmp};
 
 use crate::host::Host;
 use c_sockets::control::{self, Act};
-use c_sockets::{Code, queue};
+use c_sockets::{Code, queues};
 use ip_wire::IpAddress;
 use net_base::ManagedSlice;
 use sockets::{Socket, icmp};
@@ -21,10 +21,7 @@ impl Host {
     pub fn icmp_new(&mut self, packets: usize, bytes: usize) -> Result<usize, Code>
         ensures { MakesSocket (new_icmp packets bytes) self.old result self.new }
     {
-        let (Some(received), Some(queued)) = (
-            queue(self.alloc, packets, bytes),
-            queue(self.alloc, packets, bytes),
-        ) else {
+        let Some((received, queued)) = queues(self.alloc, packets, bytes) else {
             return Err(Code::Memory);
         };
         self.add(Socket::Icmp(icmp::Socket::new(received, queued)))
@@ -36,8 +33,8 @@ impl Host {
         ensures after { self.new ≡ record self.old { places = after_at as_icmp Kind.Icmp (act_after act) self.old.places place } }
     {
         match &mut self.sockets.sockets {
-            ManagedSlice::Fixed(places) => control::perform(places.as_mut_slice(), place, act),
             ManagedSlice::Owned(places) => control::perform(places.as_mut_slice(), place, act),
+            ManagedSlice::Fixed(_) => unreachable!(),
         }
     }
 
@@ -47,18 +44,13 @@ impl Host {
         ensures after { self.new ≡ record self.old { places = after_at as_icmp Kind.Icmp (λ v. send_after v remote bytes.now) self.old.places place } }
     {
         match &mut self.sockets.sockets {
-            ManagedSlice::Fixed(places) => control::send(
-                places.as_mut_slice(),
-                place,
-                bytes,
-                remote,
-            ),
             ManagedSlice::Owned(places) => control::send(
                 places.as_mut_slice(),
                 place,
                 bytes,
                 remote,
             ),
+            ManagedSlice::Fixed(_) => unreachable!(),
         }
     }
 
@@ -69,8 +61,8 @@ impl Host {
         ensures read { out.new ≡ written_at as_icmp recv_written out.old self.old.places place }
     {
         match &mut self.sockets.sockets {
-            ManagedSlice::Fixed(places) => control::recv(places.as_mut_slice(), place, out),
             ManagedSlice::Owned(places) => control::recv(places.as_mut_slice(), place, out),
+            ManagedSlice::Fixed(_) => unreachable!(),
         }
     }
 }

@@ -11,7 +11,7 @@ ghost use Rattle.c_calls.specs.Added.{MakesSocket, new_udp};
 
 use crate::host::Host;
 use c_sockets::datagrams::{self, Act};
-use c_sockets::{Code, queue};
+use c_sockets::{Code, queues};
 use net_base::ManagedSlice;
 use sockets::Socket;
 use sockets::udp::{self, UdpMetadata};
@@ -21,10 +21,7 @@ impl Host {
     pub fn udp_new(&mut self, packets: usize, bytes: usize) -> Result<usize, Code>
         ensures { MakesSocket (new_udp packets bytes) self.old result self.new }
     {
-        let (Some(received), Some(queued)) = (
-            queue(self.alloc, packets, bytes),
-            queue(self.alloc, packets, bytes),
-        ) else {
+        let Some((received, queued)) = queues(self.alloc, packets, bytes) else {
             return Err(Code::Memory);
         };
         self.add(Socket::Udp(udp::Socket::new(received, queued)))
@@ -36,8 +33,8 @@ impl Host {
         ensures after { self.new ≡ record self.old { places = after_at as_udp Kind.Udp (act_after act) self.old.places place } }
     {
         match &mut self.sockets.sockets {
-            ManagedSlice::Fixed(places) => datagrams::perform(places.as_mut_slice(), place, act),
             ManagedSlice::Owned(places) => datagrams::perform(places.as_mut_slice(), place, act),
+            ManagedSlice::Fixed(_) => unreachable!(),
         }
     }
 
@@ -52,18 +49,13 @@ impl Host {
         ensures after { self.new ≡ record self.old { places = after_at as_udp Kind.Udp (λ v. send_after v metadata bytes.now) self.old.places place } }
     {
         match &mut self.sockets.sockets {
-            ManagedSlice::Fixed(places) => datagrams::send(
-                places.as_mut_slice(),
-                place,
-                bytes,
-                metadata,
-            ),
             ManagedSlice::Owned(places) => datagrams::send(
                 places.as_mut_slice(),
                 place,
                 bytes,
                 metadata,
             ),
+            ManagedSlice::Fixed(_) => unreachable!(),
         }
     }
 
@@ -74,8 +66,8 @@ impl Host {
         ensures read { out.new ≡ written_at as_udp recv_written out.old self.old.places place }
     {
         match &mut self.sockets.sockets {
-            ManagedSlice::Fixed(places) => datagrams::recv(places.as_mut_slice(), place, out),
             ManagedSlice::Owned(places) => datagrams::recv(places.as_mut_slice(), place, out),
+            ManagedSlice::Fixed(_) => unreachable!(),
         }
     }
 }

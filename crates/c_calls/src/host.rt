@@ -20,7 +20,7 @@ use std::marker::Model;
 use tcp_listener::Listener;
 
 /// What a host is made with.
-#[derive(Clone, Copy, Debug)]
+#[derive(Clone, Copy)]
 pub struct Settings {
     /// The station's address, on a medium that has such addresses.
     pub hardware: Option<EthernetAddress>,
@@ -35,7 +35,7 @@ pub struct Settings {
 }
 
 /// What a host has counted since it was made, each up to the largest number.
-#[derive(Clone, Copy, Debug, PartialEq, Eq)]
+#[derive(Clone, Copy)]
 pub struct Counters {
     /// Frames that came, and were taken in.
     pub frames_in: u64,

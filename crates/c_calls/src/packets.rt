@@ -9,7 +9,7 @@ ghost use Rattle.c_sockets.specs.Codes.{coded, of_raw_send, of_recv};
 ghost use Rattle.c_calls.specs.Added.{MakesSocket, new_raw};
 
 use crate::host::Host;
-use c_sockets::{Code, packets, queue};
+use c_sockets::{Code, packets, queues};
 use ip_wire::{IpProtocol, IpVersion};
 use net_base::ManagedSlice;
 use sockets::{Socket, raw};
@@ -25,10 +25,7 @@ impl Host {
     ) -> Result<usize, Code>
         ensures { MakesSocket (new_raw version protocol packets bytes) self.old result self.new }
     {
-        let (Some(received), Some(queued)) = (
-            queue(self.alloc, packets, bytes),
-            queue(self.alloc, packets, bytes),
-        ) else {
+        let Some((received, queued)) = queues(self.alloc, packets, bytes) else {
             return Err(Code::Memory);
         };
         self.add(Socket::Raw(raw::Socket::new(version, protocol, received, queued)))
@@ -40,8 +37,8 @@ impl Host {
         ensures after { self.new ≡ record self.old { places = after_at as_raw Kind.Raw (λ v. send_after v bytes.now) self.old.places place } }
     {
         match &mut self.sockets.sockets {
-            ManagedSlice::Fixed(places) => packets::send(places.as_mut_slice(), place, bytes),
             ManagedSlice::Owned(places) => packets::send(places.as_mut_slice(), place, bytes),
+            ManagedSlice::Fixed(_) => unreachable!(),
         }
     }
 
@@ -52,8 +49,8 @@ impl Host {
         ensures read { out.new ≡ written_at as_raw recv_written out.old self.old.places place }
     {
         match &mut self.sockets.sockets {
-            ManagedSlice::Fixed(places) => packets::recv(places.as_mut_slice(), place, out),
             ManagedSlice::Owned(places) => packets::recv(places.as_mut_slice(), place, out),
+            ManagedSlice::Fixed(_) => unreachable!(),
         }
     }
 }

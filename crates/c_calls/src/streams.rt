@@ -15,7 +15,7 @@ ghost use Rattle.c_calls.specs.Added.{MakesStream};
 
 use crate::host::Host;
 use c_sockets::streams::{self, Act};
-use c_sockets::{Code, looks, ring};
+use c_sockets::{Code, looks, rings};
 use interface::{Interface, SocketSet};
 use ip_wire::{IpEndpoint, IpListenEndpoint};
 use net_base::ManagedSlice;
@@ -63,8 +63,7 @@ impl Host {
         if MOST < received || MOST < queued {
             return Err(Code::TooLong);
         }
-        let (Some(received), Some(queued)) = (ring(self.alloc, received), ring(self.alloc, queued))
-        else {
+        let Some((received, queued)) = rings(self.alloc, received, queued) else {
             return Err(Code::Memory);
         };
         self.add(Socket::Tcp(tcp::Socket::new(received, queued)))
@@ -76,8 +75,8 @@ impl Host {
         ensures after { self.new ≡ record self.old { places = after_at as_tcp Kind.Tcp (act_after act) self.old.places place } }
     {
         match &mut self.sockets.sockets {
-            ManagedSlice::Fixed(places) => streams::perform(places.as_mut_slice(), place, act),
             ManagedSlice::Owned(places) => streams::perform(places.as_mut_slice(), place, act),
+            ManagedSlice::Fixed(_) => unreachable!(),
         }
     }
 
@@ -105,8 +104,8 @@ impl Host {
         ensures after { self.new ≡ record self.old { places = after_at as_tcp Kind.Tcp (λ v. send_after v bytes.now) self.old.places place } }
     {
         match &mut self.sockets.sockets {
-            ManagedSlice::Fixed(places) => streams::send(places.as_mut_slice(), place, bytes),
             ManagedSlice::Owned(places) => streams::send(places.as_mut_slice(), place, bytes),
+            ManagedSlice::Fixed(_) => unreachable!(),
         }
     }
 
@@ -117,8 +116,8 @@ impl Host {
         ensures read { out.new ≡ written_at as_tcp read_written out.old self.old.places place }
     {
         match &mut self.sockets.sockets {
-            ManagedSlice::Fixed(places) => streams::recv(places.as_mut_slice(), place, out),
             ManagedSlice::Owned(places) => streams::recv(places.as_mut_slice(), place, out),
+            ManagedSlice::Fixed(_) => unreachable!(),
         }
     }
 
@@ -128,8 +127,8 @@ impl Host {
         ensures after { self.new ≡ record self.old { places = after_at as_tcp Kind.Tcp (done_after count) self.old.places place } }
     {
         match &mut self.sockets.sockets {
-            ManagedSlice::Fixed(places) => streams::done(places.as_mut_slice(), place, count),
             ManagedSlice::Owned(places) => streams::done(places.as_mut_slice(), place, count),
+            ManagedSlice::Fixed(_) => unreachable!(),
         }
     }
 

@@ -3,7 +3,7 @@ ghost use Rattle.std.specs.Prelude.{◌≡◌, position};
 ghost use Rattle.ip_wire.specs.HardwareAddress.TheVariants as Hardware;
 ghost use Rattle.interface.specs.Made.{with_inner, with_timeout};
 ghost use Rattle.interface.specs.Settings.{hardware_refusal, with_hardware, with_any_ip};
-ghost use Rattle.c_calls.specs.Tables.{is_address, is_block, pushed, removed, pushed_route, removed_route, own_with, own_without, routes_with, routes_without};
+ghost use Rattle.c_calls.specs.Tables.{is_address, is_block, pushed, removed, own_with, own_without, routes_with, routes_without};
 ghost use Rattle.c_calls.specs.Tables.{with_own, with_table, own_in, table_in, route_to, is_done, hardware_answer};
 
 use crate::host::Host;
@@ -80,13 +80,13 @@ fn remove_address(interface: &mut Interface, address: &IpAddress) -> Result<(), 
 }
 
 fn push_route(routes: &mut Routes<TABLE_ROOM>, route: Route)
-    ensures { routes.new ≡ pushed_route routes.old route }
+    ensures { routes.new ≡ pushed routes.old route }
 {
     let _ = routes.push(route);
 }
 
 fn take_route(routes: &mut Routes<TABLE_ROOM>, place: usize)
-    ensures { routes.new ≡ removed_route routes.old place }
+    ensures { routes.new ≡ removed routes.old place }
 {
     let _ = routes.remove(place);
 }

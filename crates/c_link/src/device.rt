@@ -3,8 +3,8 @@ ghost use Rattle.std.specs.Prelude.{◌≡◌, drop, length, OnOk, IfErr, OnErr}
 ghost use Rattle.c_link.specs.Link.{unused, IsTaken, push_refusal, arrived, next_len, fetch_answer, fetch_after, fetched};
 
 use crate::error::{FetchError, PushError};
-use crate::frame::{Frame, FrameRxToken, filled};
-use crate::queue::take_buffer;
+use crate::frame::{Frame, FrameRxToken, put_behind};
+use crate::queue::{copy_first, take_buffer};
 use net_base::{Device, DeviceCapabilities, Instant, SendRefused, TxToken};
 use std::alloc::Global;
 use std::collections::VecDeque;
@@ -48,7 +48,7 @@ impl Model for FrameLink {
 }
 
 /// Leave to send one frame.
-#[derive(Debug, Drop)]
+#[derive(Drop)]
 pub struct FrameTxToken {}
 
 impl TxToken for FrameTxToken {}
@@ -116,13 +116,7 @@ impl FrameLink {
             return Err(PushError::Full);
         }
         self.take_back();
-        let Some(frame) = filled(self.alloc, &mut self.ready, frame) else {
-            return Err(PushError::Memory);
-        };
-        match self.came.push_back(frame) {
-            Ok(()) => Ok(()),
-            Err(_) => Err(PushError::Memory),
-        }
+        put_behind(self.alloc, &mut self.came, &mut self.ready, frame)
     }
 
     /// How many bytes the first frame has that is to go.
@@ -142,16 +136,11 @@ impl FrameLink {
         ensures after { self.new ≡ record self.old { sent = fetch_after self.old.sent (length out.old) } }
         ensures bytes { out.new ≡ fetched self.old.sent out.old }
     {
-        let Some(first) = self.leaving.front() else {
-            return Err(FetchError::Empty);
-        };
-        let count = first.len();
-        if out.len() < count {
-            return Err(FetchError::TooShort);
+        let fetched = copy_first(&self.leaving, out);
+        if fetched.is_ok() {
+            self.drop_first();
         }
-        out[..count].copy_from_slice(first.as_slice());
-        self.drop_first();
-        Ok(count)
+        fetched
     }
 
     /// Drops the first frame that is to go. Its buffer lies ready.

@@ -2,7 +2,7 @@
 use thiserror::Error;
 
 /// Why a frame wasn't pushed.
-#[derive(Clone, Copy, Debug, PartialEq, Eq, Error)]
+#[derive(Clone, Copy, Debug, Error)]
 pub enum PushError {
     /// It is longer than any frame that is read.
     #[error("the frame is too long")]
@@ -16,7 +16,7 @@ pub enum PushError {
 }
 
 /// Why no frame was fetched.
-#[derive(Clone, Copy, Debug, PartialEq, Eq, Error)]
+#[derive(Clone, Copy, Debug, Error)]
 pub enum FetchError {
     /// No frame is to go.
     #[error("no frame is to go")]

@@ -1,8 +1,10 @@
 //! Frames that came, and the buffers that lie ready for the next ones.
-ghost use Rattle.std.specs.Prelude.{◌≡◌, IfSome};
+ghost use Rattle.std.specs.Prelude.{◌≡◌, [], ◌∷◌, ◌++◌, map, IfSome, MatchResult};
 
+use crate::error::PushError;
 use net_base::RxToken;
 use std::alloc::Global;
+use std::collections::VecDeque;
 use std::rc::Rc;
 
 /// A frame, which a token shares with the device while it is read: so its buffer is free again once the token is dropped.
@@ -23,6 +25,26 @@ impl RxToken for FrameRxToken {
 
     fn consume<R, F: FnOnce(&[u8]) -> R>(self, f: F) -> R {
         f(self.bytes())
+    }
+}
+
+/// Puts a frame of these bytes behind those that came, if there is memory.
+pub(crate) fn put_behind(
+    alloc: Global,
+    came: &mut VecDeque<Frame>,
+    ready: &mut Vec<Frame>,
+    bytes: &[u8],
+) -> Result<(), PushError>
+    ensures { MatchResult result
+        (λ u. map (λ frame. frame.value.items) came.new.items ≡ map (λ frame. frame.value.items) came.old.items ++ bytes.now ∷ [])
+        (λ error. (error ≡ PushError.Memory) × (came.new.items ≡ came.old.items)) }
+{
+    let Some(frame) = filled(alloc, ready, bytes) else {
+        return Err(PushError::Memory);
+    };
+    match came.push_back(frame) {
+        Ok(()) => Ok(()),
+        Err(_) => Err(PushError::Memory),
     }
 }
 

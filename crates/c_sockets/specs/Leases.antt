@@ -1,5 +1,5 @@
 -- The calls of a client of DHCP, where there is one.
-use Rattle.std.specs.Prelude.{◌≡◌, ℕ, ℤ, Bool, List, length, Option, None, Some, Result, Ok, Err}
+use Rattle.std.specs.Prelude.{ℕ, ℤ, Bool, List, Option, Some, Result, Ok, Err}
 use Rattle.sockets.specs.DhcpValue as Dhcp
 use Rattle.sockets.specs.DhcpValue.{DhcpValue}
 use Rattle.sockets.specs.DhcpEvents.{fresh, event_of, untold}
@@ -11,12 +11,9 @@ use Rattle.ip_wire.specs.HardwareAddress.{HardwareAddress}
 use Rattle.ip_wire.specs.HardwareAddress.TheVariants as Hardware
 use Rattle.ip_wire.specs.IpAddress.{IpAddress}
 use Rattle.ip_wire.specs.IpEndpoint.{IpEndpoint}
-use Rattle.ip_wire.specs.IpRepr.{IpRepr}
-use Rattle.ip_wire.specs.UdpRepr.{UdpRepr}
 use Rattle.sockets.specs.Context.{ContextValue}
-use Rattle.sockets.specs.Offer.{Offer}
 use Rattle.sockets.specs.PollAt.{PollAt}
-use Rattle.c_sockets.specs.Carrying.{headers_of, sending_in, written_in}
+use Rattle.c_sockets.specs.Clients.{answered, changed, Taken, Takes, Sent, Sends}
 use Rattle.c_sockets.specs.declared.carrying.Sending.{Sending}
 use Rattle.c_sockets.specs.declared.code.Code.{Code}
 use Rattle.c_sockets.specs.declared.code.Code.TheVariants as Is
@@ -36,47 +33,34 @@ dhcp_made Hardware.Ip seed client = client
 abbrev pub at_client : IpAddress → IpEndpoint
 at_client local = record { addr = local; port = 68 }
 
-abbrev pub TakenWith : Option (IpRepr × UdpRepr) → ℤ → List ℕ → DhcpValue → DhcpValue → Type 0
-TakenWith None now bytes v v' = v' ≡ v
-TakenWith (Some headers) now bytes v v' = Processed now v headers.0 headers.1 bytes v'
-
 -- a datagram from one end to the client's port at an address is processed
 abbrev pub LeaseTaken : ℤ → IpEndpoint → IpAddress → List ℕ → DhcpValue → DhcpValue → Type 0
-LeaseTaken now remote local bytes v v' = TakenWith (headers_of remote (at_client local) (length bytes)) now bytes v v'
+LeaseTaken now remote local bytes v v' = Taken Processed now remote (at_client local) bytes v v'
 
 abbrev pub TakesLease : ℤ → IpEndpoint → IpAddress → List ℕ → Option DhcpValue → Result (Unit {0}) Code → Option DhcpValue → Type 0
-TakesLease now remote local bytes None result client = (result ≡ Err Is.NoClient) × (client ≡ None)
-TakesLease now remote local bytes (Some v) result client =
-    (result ≡ Ok tt) × (v' : DhcpValue) × LeaseTaken now remote local bytes v v' × (client ≡ Some v')
+TakesLease now remote local bytes v result client = Takes Processed now remote (at_client local) bytes v result client
 
--- WHAT GOES: what is offered is copied, and the offer stays open
+-- WHAT GOES
 
 abbrev pub LeaseSent : ContextValue → List ℕ → DhcpValue → Result Sending Code → List ℕ → DhcpValue → Type 0
-LeaseSent cx out v result out' v' =
-    (answer : Offer) × Offers cx v answer v' × (result ≡ sending_in (Dhcp.offered_packet v') (length out)) × (out' ≡ written_in (Dhcp.offered_packet v') out)
+LeaseSent cx out v result out' v' = Sent Offers Dhcp.offered_packet cx out v result out' v'
 
 abbrev pub SendsLease : ContextValue → List ℕ → Option DhcpValue → Result Sending Code → List ℕ → Option DhcpValue → Type 0
-SendsLease cx out None result out' client = (result ≡ Err Is.NoClient) × (out' ≡ out) × (client ≡ None)
-SendsLease cx out (Some v) result out' client = (v' : DhcpValue) × LeaseSent cx out v result out' v' × (client ≡ Some v')
+SendsLease cx out v result out' client = Sends Offers Dhcp.offered_packet cx out v result out' client
 
 abbrev pub sent_answer : Option DhcpValue → Result (Unit {0}) Code
-sent_answer None = Err Is.NoClient
-sent_answer (Some v) = Ok tt
+sent_answer client = answered (λ (v : DhcpValue). Ok tt) client
 
 abbrev pub sent_after : Bool → Option DhcpValue → Option DhcpValue
-sent_after sent None = None
-sent_after sent (Some v) = Some (Dhcp.settled sent v)
+sent_after sent client = changed (Dhcp.settled sent) client
 
 -- WHAT IS TOLD
 
 abbrev pub told_answer : ℤ → Option DhcpValue → Result (Option Event) Code
-told_answer now None = Err Is.NoClient
-told_answer now (Some v) = Ok (event_of (fresh now v))
+told_answer now client = answered (λ (v : DhcpValue). Ok (event_of (fresh now v))) client
 
 abbrev pub told_after : ℤ → Option DhcpValue → Option DhcpValue
-told_after now None = None
-told_after now (Some v) = Some (untold (fresh now v))
+told_after now client = changed (λ (v : DhcpValue). untold (fresh now v)) client
 
 abbrev pub due_answer : Option DhcpValue → Result PollAt Code
-due_answer None = Err Is.NoClient
-due_answer (Some v) = Ok (poll_of v.state)
+due_answer client = answered (λ (v : DhcpValue). Ok (poll_of v.state)) client

@@ -4,5 +4,6 @@ pub mod Streams
 pub mod Datagrams
 pub mod Controls
 pub mod Carrying
+pub mod Clients
 pub mod Leases
 pub mod Names

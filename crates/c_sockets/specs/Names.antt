@@ -1,5 +1,5 @@
 -- The calls of a client of DNS, where there is one.
-use Rattle.std.specs.Prelude.{◌≡◌, ℕ, ℤ, Bool, List, length, Option, None, Some, Result, Ok, Err}
+use Rattle.std.specs.Prelude.{◌≡◌, ℕ, ℤ, Bool, List, Option, None, Some, Result, Ok, Err}
 use Rattle.sockets.specs.DnsValue as Dns
 use Rattle.sockets.specs.DnsValue.{DnsValue, result_of, told}
 use Rattle.sockets.specs.DnsOffers.{Offers}
@@ -13,12 +13,9 @@ use Rattle.sockets.specs.StartQueryError.{StartQueryError}
 use Rattle.sockets.specs.StartQueryError.TheVariants as Start
 use Rattle.ip_wire.specs.IpAddress.{IpAddress}
 use Rattle.ip_wire.specs.IpEndpoint.{IpEndpoint}
-use Rattle.ip_wire.specs.IpRepr.{IpRepr}
-use Rattle.ip_wire.specs.UdpRepr.{UdpRepr}
 use Rattle.sockets.specs.Context.{ContextValue}
-use Rattle.sockets.specs.Offer.{Offer}
 use Rattle.sockets.specs.PollAt.{PollAt}
-use Rattle.c_sockets.specs.Carrying.{headers_of, sending_in, written_in}
+use Rattle.c_sockets.specs.Clients.{answered, changed, Taken, Takes, Sent, Sends}
 use Rattle.c_sockets.specs.Codes.{coded}
 use Rattle.c_sockets.specs.declared.carrying.Sending.{Sending}
 use Rattle.c_sockets.specs.declared.code.Code.{Code}
@@ -48,47 +45,34 @@ Asks cx name kind (Some v) result client = (v' : DnsValue) × Asked cx name kind
 
 -- WHAT COMES
 
-abbrev pub TakenWith : Option (IpRepr × UdpRepr) → ℤ → List ℕ → DnsValue → DnsValue → Type 0
-TakenWith None now bytes v v' = v' ≡ v
-TakenWith (Some headers) now bytes v v' = Processed now v headers.0 headers.1 bytes v'
-
 -- a datagram from one end to another is processed
 abbrev pub AnswerTaken : ℤ → IpEndpoint → IpEndpoint → List ℕ → DnsValue → DnsValue → Type 0
-AnswerTaken now remote local bytes v v' = TakenWith (headers_of remote local (length bytes)) now bytes v v'
+AnswerTaken now remote local bytes v v' = Taken Processed now remote local bytes v v'
 
 abbrev pub TakesAnswer : ℤ → IpEndpoint → IpEndpoint → List ℕ → Option DnsValue → Result (Unit {0}) Code → Option DnsValue → Type 0
-TakesAnswer now remote local bytes None result client = (result ≡ Err Is.NoClient) × (client ≡ None)
-TakesAnswer now remote local bytes (Some v) result client =
-    (result ≡ Ok tt) × (v' : DnsValue) × AnswerTaken now remote local bytes v v' × (client ≡ Some v')
+TakesAnswer now remote local bytes v result client = Takes Processed now remote local bytes v result client
 
--- WHAT GOES: what is offered is copied, and the offer stays open
+-- WHAT GOES
 
 abbrev pub QuerySent : ContextValue → List ℕ → DnsValue → Result Sending Code → List ℕ → DnsValue → Type 0
-QuerySent cx out v result out' v' =
-    (answer : Offer) × Offers cx v answer v' × (result ≡ sending_in (Dns.offered_packet v') (length out)) × (out' ≡ written_in (Dns.offered_packet v') out)
+QuerySent cx out v result out' v' = Sent Offers Dns.offered_packet cx out v result out' v'
 
 abbrev pub SendsQuery : ContextValue → List ℕ → Option DnsValue → Result Sending Code → List ℕ → Option DnsValue → Type 0
-SendsQuery cx out None result out' client = (result ≡ Err Is.NoClient) × (out' ≡ out) × (client ≡ None)
-SendsQuery cx out (Some v) result out' client = (v' : DnsValue) × QuerySent cx out v result out' v' × (client ≡ Some v')
+SendsQuery cx out v result out' client = Sends Offers Dns.offered_packet cx out v result out' client
 
 abbrev pub sent_answer : Option DnsValue → Result (Unit {0}) Code
-sent_answer None = Err Is.NoClient
-sent_answer (Some v) = Ok tt
+sent_answer client = answered (λ (v : DnsValue). Ok tt) client
 
 abbrev pub sent_after : Bool → Option DnsValue → Option DnsValue
-sent_after sent None = None
-sent_after sent (Some v) = Some (Dns.settled sent v)
+sent_after sent client = changed (Dns.settled sent) client
 
 -- WHAT IS FOUND is told once
 
 abbrev pub found_answer : Option DnsValue → Result (List (Option IpAddress)) Code
-found_answer None = Err Is.NoClient
-found_answer (Some v) = coded of_result (result_of v.state)
+found_answer client = answered (λ (v : DnsValue). coded of_result (result_of v.state)) client
 
 abbrev pub found_after : Option DnsValue → Option DnsValue
-found_after None = None
-found_after (Some v) = Some (told v)
+found_after client = changed told client
 
 abbrev pub due_answer : Option DnsValue → Result PollAt Code
-due_answer None = Err Is.NoClient
-due_answer (Some v) = Ok (poll_of v.state)
+due_answer client = answered (λ (v : DnsValue). Ok (poll_of v.state)) client

@@ -14,7 +14,7 @@ const HEADER_LEN: usize = 8;
 const LONGEST: usize = 65_527;
 
 /// A client's datagram: how many bytes it has, where it goes, and where it comes from.
-#[derive(Clone, Copy, Debug, PartialEq, Eq)]
+#[derive(Clone, Copy)]
 pub struct Sending {
     pub len: usize,
     pub remote: IpEndpoint,

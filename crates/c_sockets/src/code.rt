@@ -5,7 +5,7 @@ ghost use Rattle.c_sockets.specs.Codes.{number_of, of_bind, of_send, of_raw_send
 use sockets::{raw, tcp, udp};
 
 /// Why a call is refused.
-#[derive(Clone, Copy, Debug, PartialEq, Eq)]
+#[derive(Clone, Copy)]
 pub enum Code {
     /// The handle has no host.
     NoHost,

@@ -16,7 +16,7 @@ use ip_wire::IpAddress;
 use sockets::{Socket, icmp};
 
 /// A call that answers nothing but whether it was done.
-#[derive(Clone, Copy, Debug)]
+#[derive(Clone, Copy)]
 pub enum Act {
     /// Binds the socket: from now on the messages of this endpoint are for it.
     Bind(icmp::Endpoint),
@@ -60,8 +60,7 @@ fn perform_of(socket: &mut Socket, act: Act) -> Result<(), Code>
 {
     match socket {
         Socket::Icmp(socket) => act_on(socket, act),
-        Socket::Raw(_) | Socket::Udp(_) | Socket::Tcp(_) | Socket::Dhcpv4(_) | Socket::Dns(_) =>
-            Err(Code::WrongKind),
+        _ => Err(Code::WrongKind),
     }
 }
 
@@ -93,8 +92,7 @@ fn send_of(socket: &mut Socket, bytes: &[u8], remote: IpAddress) -> Result<(), C
             Ok(answer) => Ok(answer),
             Err(error) => Err(of_send(error)),
         },
-        Socket::Raw(_) | Socket::Udp(_) | Socket::Tcp(_) | Socket::Dhcpv4(_) | Socket::Dns(_) =>
-            Err(Code::WrongKind),
+        _ => Err(Code::WrongKind),
     }
 }
 
@@ -127,7 +125,6 @@ fn recv_of(socket: &mut Socket, out: &mut [u8]) -> Result<(usize, IpAddress), Co
             Ok(answer) => Ok(answer),
             Err(error) => Err(of_recv(error)),
         },
-        Socket::Raw(_) | Socket::Udp(_) | Socket::Tcp(_) | Socket::Dhcpv4(_) | Socket::Dns(_) =>
-            Err(Code::WrongKind),
+        _ => Err(Code::WrongKind),
     }
 }

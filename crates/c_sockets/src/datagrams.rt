@@ -17,7 +17,7 @@ use sockets::Socket;
 use sockets::udp::{self, UdpMetadata};
 
 /// A call that answers nothing but whether it was done.
-#[derive(Clone, Copy, Debug)]
+#[derive(Clone, Copy)]
 pub enum Act {
     /// Binds the socket to a port, of one own address or of all.
     Bind(IpListenEndpoint),
@@ -67,8 +67,7 @@ fn perform_of(socket: &mut Socket, act: Act) -> Result<(), Code>
 {
     match socket {
         Socket::Udp(socket) => act_on(socket, act),
-        Socket::Raw(_) | Socket::Icmp(_) | Socket::Tcp(_) | Socket::Dhcpv4(_) | Socket::Dns(_) =>
-            Err(Code::WrongKind),
+        _ => Err(Code::WrongKind),
     }
 }
 
@@ -100,8 +99,7 @@ fn send_of(socket: &mut Socket, bytes: &[u8], metadata: UdpMetadata) -> Result<(
             Ok(answer) => Ok(answer),
             Err(error) => Err(of_send(error)),
         },
-        Socket::Raw(_) | Socket::Icmp(_) | Socket::Tcp(_) | Socket::Dhcpv4(_) | Socket::Dns(_) =>
-            Err(Code::WrongKind),
+        _ => Err(Code::WrongKind),
     }
 }
 
@@ -134,7 +132,6 @@ fn recv_of(socket: &mut Socket, out: &mut [u8]) -> Result<(usize, UdpMetadata), 
             Ok(answer) => Ok(answer),
             Err(error) => Err(of_recv(error)),
         },
-        Socket::Raw(_) | Socket::Icmp(_) | Socket::Tcp(_) | Socket::Dhcpv4(_) | Socket::Dns(_) =>
-            Err(Code::WrongKind),
+        _ => Err(Code::WrongKind),
     }
 }

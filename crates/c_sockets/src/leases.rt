@@ -1,6 +1,7 @@
 //! Calls of a client of DHCP.
 ghost use Rattle.std.specs.Prelude.{◌≡◌, Some};
-ghost use Rattle.c_sockets.specs.Leases.{dhcp_answer, dhcp_made, TakesLease, LeaseTaken, SendsLease, LeaseSent, sent_answer, sent_after, told_answer, told_after, due_answer};
+ghost use Rattle.c_sockets.specs.Leases.{dhcp_answer, dhcp_made, TakesLease, LeaseTaken, SendsLease, LeaseSent};
+ghost use Rattle.c_sockets.specs.Leases.{sent_answer, sent_after, told_answer, told_after, due_answer};
 
 use crate::carrying::{Sending, carry, headers};
 use crate::code::Code;

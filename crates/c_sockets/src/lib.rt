@@ -15,4 +15,4 @@ pub mod streams;
 
 pub use carrying::Sending;
 pub use code::Code;
-pub use made::{queue, ring};
+pub use made::{queues, rings};

@@ -28,8 +28,7 @@ fn state_of(socket: &Socket) -> Result<State, Code>
 {
     match socket {
         Socket::Tcp(socket) => Ok(socket.state()),
-        Socket::Raw(_) | Socket::Icmp(_) | Socket::Udp(_) | Socket::Dhcpv4(_) | Socket::Dns(_) =>
-            Err(Code::WrongKind),
+        _ => Err(Code::WrongKind),
     }
 }
 
@@ -54,8 +53,7 @@ fn ends_of(socket: &Socket) -> Result<(IpEndpoint, IpEndpoint), Code>
 {
     match socket {
         Socket::Tcp(socket) => both_ends(socket),
-        Socket::Raw(_) | Socket::Icmp(_) | Socket::Udp(_) | Socket::Dhcpv4(_) | Socket::Dns(_) =>
-            Err(Code::WrongKind),
+        _ => Err(Code::WrongKind),
     }
 }
 
@@ -89,8 +87,7 @@ fn queues_of(socket: &Socket) -> Result<(usize, usize), Code>
 {
     match socket {
         Socket::Tcp(socket) => Ok((socket.recv_queue(), socket.send_queue())),
-        Socket::Raw(_) | Socket::Icmp(_) | Socket::Udp(_) | Socket::Dhcpv4(_) | Socket::Dns(_) =>
-            Err(Code::WrongKind),
+        _ => Err(Code::WrongKind),
     }
 }
 
@@ -116,8 +113,7 @@ fn peek_of(socket: &Socket) -> Result<&[u8], Code>
 {
     match socket {
         Socket::Tcp(socket) => first_bytes(socket),
-        Socket::Raw(_) | Socket::Icmp(_) | Socket::Udp(_) | Socket::Dhcpv4(_) | Socket::Dns(_) =>
-            Err(Code::WrongKind),
+        _ => Err(Code::WrongKind),
     }
 }
 

@@ -35,8 +35,7 @@ fn send_of(socket: &mut Socket, bytes: &[u8]) -> Result<(), Code>
             Ok(answer) => Ok(answer),
             Err(error) => Err(of_raw_send(error)),
         },
-        Socket::Icmp(_) | Socket::Udp(_) | Socket::Tcp(_) | Socket::Dhcpv4(_) | Socket::Dns(_) =>
-            Err(Code::WrongKind),
+        _ => Err(Code::WrongKind),
     }
 }
 
@@ -69,7 +68,6 @@ fn recv_of(socket: &mut Socket, out: &mut [u8]) -> Result<usize, Code>
             Ok(answer) => Ok(answer),
             Err(error) => Err(of_recv(error)),
         },
-        Socket::Icmp(_) | Socket::Udp(_) | Socket::Tcp(_) | Socket::Dhcpv4(_) | Socket::Dns(_) =>
-            Err(Code::WrongKind),
+        _ => Err(Code::WrongKind),
     }
 }

@@ -19,7 +19,7 @@ use sockets::tcp::{self, CongestionControl};
 use sockets::{Context, Socket};
 
 /// A call that answers nothing but whether it was done.
-#[derive(Clone, Copy, Debug)]
+#[derive(Clone, Copy)]
 pub enum Act {
     /// Opens the socket for a connection that a remote opens, to one own address or to any.
     Listen(IpListenEndpoint),
@@ -96,8 +96,7 @@ fn perform_of(socket: &mut Socket, act: Act) -> Result<(), Code>
 {
     match socket {
         Socket::Tcp(socket) => act_on(socket, act),
-        Socket::Raw(_) | Socket::Icmp(_) | Socket::Udp(_) | Socket::Dhcpv4(_) | Socket::Dns(_) =>
-            Err(Code::WrongKind),
+        _ => Err(Code::WrongKind),
     }
 }
 
@@ -137,8 +136,7 @@ fn connect_of<C: Context>(
             Ok(answer) => Ok(answer),
             Err(error) => Err(of_connect(error)),
         },
-        Socket::Raw(_) | Socket::Icmp(_) | Socket::Udp(_) | Socket::Dhcpv4(_) | Socket::Dns(_) =>
-            Err(Code::WrongKind),
+        _ => Err(Code::WrongKind),
     }
 }
 
@@ -165,8 +163,7 @@ fn send_of(socket: &mut Socket, bytes: &[u8]) -> Result<usize, Code>
             Ok(answer) => Ok(answer),
             Err(error) => Err(of_stream_send(error)),
         },
-        Socket::Raw(_) | Socket::Icmp(_) | Socket::Udp(_) | Socket::Dhcpv4(_) | Socket::Dns(_) =>
-            Err(Code::WrongKind),
+        _ => Err(Code::WrongKind),
     }
 }
 
@@ -199,8 +196,7 @@ fn recv_of(socket: &mut Socket, out: &mut [u8]) -> Result<usize, Code>
             Ok(answer) => Ok(answer),
             Err(error) => Err(of_stream_recv(error)),
         },
-        Socket::Raw(_) | Socket::Icmp(_) | Socket::Udp(_) | Socket::Dhcpv4(_) | Socket::Dns(_) =>
-            Err(Code::WrongKind),
+        _ => Err(Code::WrongKind),
     }
 }
 
@@ -224,8 +220,7 @@ fn done_of(socket: &mut Socket, count: usize) -> Result<usize, Code>
 {
     match socket {
         Socket::Tcp(socket) => give_up(socket, count),
-        Socket::Raw(_) | Socket::Icmp(_) | Socket::Udp(_) | Socket::Dhcpv4(_) | Socket::Dns(_) =>
-            Err(Code::WrongKind),
+        _ => Err(Code::WrongKind),
     }
 }
 
