@@ -1,6 +1,7 @@
 -- The steps of an exchange joined: what goes from SND.UNA on is new to the partner, or was taken, and then its answer raises SND.UNA.
-use Rattle.std.proofs.Common.{◌≡◌, ◌⊎◌, inl, inr, ℕ, ◌+◌, ◌-◌, ◌%◌, ◌^◌, ◌<◌, ◌≤◌, ◌==◌, ◌&&◌, nat_lt, Bool, true, false, if◌then◌else◌, List, [], ◌∷◌, ◌++◌, length, slice_get, Option}
-use Rattle.std.proofs.Common.{Some, None, refl, sym, ap, ◌∙◌, subst, arith}
+use Rattle.std.proofs.Common.{◌≡◌, ◌⊎◌, inl, inr, ℕ, ◌+◌, ◌-◌, ◌%◌, ◌^◌, ◌<◌, ◌≤◌, ◌==◌}
+use Rattle.std.proofs.Common.{nat_lt, Bool, true, false, if◌then◌else◌, List, [], ◌∷◌, ◌++◌, length, slice_get, Option}
+use Rattle.std.proofs.Common.{Some, refl, sym, ap, ◌∙◌, subst, arith}
 use Rattle.std.proofs.lemmas.Bool.{eq-eqb, ltb-true, ltb-false, lt-ltb}
 use Rattle.net_base.specs.Ring.{Ring}
 use Rattle.ip_wire.specs.Control.{control_len}
@@ -17,7 +18,6 @@ use Rattle.tcp_tie.specs.Tie.{Past, Keeps, is_finished_in, segment_of}
 use Rattle.tcp_rules.specs.Controls.{is_syn, is_fin, is_rst}
 use Rattle.tcp_rules.specs.Offsets.{past_by, before_by, behind_by, meets_window}
 use Rattle.tcp_rules.specs.OpenOffer.{OpenOffer}
-use Rattle.tcp_rules.specs.Reply.{Reply}
 use Rattle.tcp_rules.specs.State.{State}
 use Rattle.tcp_rules.specs.State.TheVariants as In
 use Rattle.tcp_rules.specs.States.{takes_text}
@@ -35,7 +35,8 @@ use Rattle.tcp_tie.proofs.OfferLaws.{keeps_sent_offer}
 use Rattle.tcp_tie.proofs.PromiseLemmas.{keeps_turned, safe_sockets}
 use Rattle.tcp_rules.proofs.OrderSteps.{clash}
 use Rattle.tcp_progress.specs.Arrivals.{is_synchronized, Counts, IsNearWindow, IsNew, IsAgain, IsAnswered, EndsLastAck, Rises}
-use Rattle.tcp_progress.specs.Exchange.{IsOpen, TookWhatWasSent, HasSpace, text_of, GoesFromUna, offer_comes, MayExchange, MovesOn, left_of, IsTaken, IsTold, HasMoved}
+use Rattle.tcp_progress.specs.Exchange.{IsOpen, TookWhatWasSent, HasSpace, text_of, GoesFromUna, offer_comes}
+use Rattle.tcp_progress.specs.Exchange.{MayExchange, MovesOn, left_of, IsTaken, IsTold, HasMoved}
 use Rattle.tcp_progress.specs.Positions.{LiesWithin}
 use Rattle.tcp_progress.proofs.Acked.{una_rises}
 use Rattle.tcp_progress.proofs.Left.{left_same, lowered}
@@ -454,7 +455,10 @@ module _ (cx cy cz : ContextValue) (v w : TcpValue) (p q : Past) (k : Keeps v p 
     }
 
   pub moved : HasMoved cx cy cz v w o
-  moved = by (new_or_again v w p q k o.segment (length bytes) may.own.synchronized may.theirs.synchronized step goes.number may.some goes.ends may.room may.near)
+  moved =
+      by
+      (new_or_again v w p q k o.segment (length bytes) may.own.synchronized may.theirs.synchronized step goes.number may.some goes.ends may.room
+      may.near)
     where
       answered : IsAgain w o.segment (length bytes) → EndsLastAck w came ⊎ IsAnswered w came → HasMoved cx cy cz v w o
       answered again (inl ends) = inr (inr ends)

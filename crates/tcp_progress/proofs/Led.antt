@@ -1,24 +1,22 @@
 -- The events of an exchange are taken: so it leads on to a pair that events lead to.
-use Rattle.std.proofs.Common.{◌≡◌, ◌⊎◌, inl, inr, ℕ, suc, ◌-◌, ◌<◌, nat_lt, not, ℤ, Bool, true, false, List, [], ◌∷◌, ◌++◌, length, None, refl, sym, ap, ◌∙◌, subst, arith}
+use Rattle.std.proofs.Common.{◌≡◌, ◌⊎◌, inl, inr, ℕ, ◌-◌, ◌<◌, nat_lt, not, ℤ, Bool, true, List, [], ◌∷◌, ◌++◌, length, None, refl, sym, ap, subst, arith}
 use Rattle.std.proofs.lemmas.Bool.{lt-ltb}
 use Rattle.std.proofs.lemmas.Option.{slice_get_within}
-use Rattle.tcp_law.specs.Invariant.{IsInStep}
-use Rattle.tcp_tie.specs.Tie.{Past, Keeps}
+use Rattle.tcp_tie.specs.Tie.{Keeps}
 use Rattle.tcp_rules.specs.OpenOffer.{OpenOffer}
-use Rattle.tcp_pair_model.specs.Sides.{at, other}
 use Rattle.tcp_pair_model.specs.Steps.{Steps, refusal, if_so}
 use Rattle.tcp_pair_model.specs.Value.{new_socket}
-use Rattle.tcp_pair_model.specs.Values.{PairSide, PairValue, new_pair, past_at}
+use Rattle.tcp_pair_model.specs.Values.{PairValue, new_pair, past_at}
 use Rattle.tcp_pair_model.specs.declared.event.PairEvent.{PairEvent}
 use Rattle.tcp_pair_model.specs.declared.event.PairEvent.TheVariants.{Offer, Deliver}
 use Rattle.tcp_pair_model.specs.declared.event.PairRefused.TheVariants.{NoSegment}
 use Rattle.tcp_pair_model.specs.declared.event.Side.{Side}
 use Rattle.tcp_pair_model.specs.declared.event.Side.TheVariants.{A, B}
 use Rattle.tcp_pair_model.proofs.OutcomeLaws.{goes_on as in_pieces}
-use Rattle.tcp_progress.specs.Pair.{HasStream, MayExchangeIn, exchanged_in, next_sent, offered_in, socket_of}
+use Rattle.tcp_progress.specs.Pair.{HasStream, MayExchangeIn, exchanged_in, next_sent, offered_in}
 use Rattle.tcp_progress.specs.Reached.{IsReached}
 use Rattle.tcp_progress.specs.Rounds.{takes, comes}
-use Rattle.tcp_progress.proofs.Pair.{Takes, Tells, Ends, asked_side, partner_after, side_moves, sent, first, reached_keeps, in_step}
+use Rattle.tcp_progress.proofs.Pair.{Takes, Tells, Ends, asked_side, side_moves, sent, first, reached_keeps, in_step}
 
 reached_by : (p new : PairValue) (more : List PairEvent) → IsReached p → Steps p more new → IsReached new
 reached_by p new more r steps = record {

@@ -1,5 +1,5 @@
 -- What an acknowledgement without text leaves unacknowledged: as much less as SND.UNA rises.
-use Rattle.std.proofs.Common.{◌≡◌, inl, inr, ℕ, ◌+◌, ◌-◌, ◌^◌, ◌<◌, ◌≤◌, ◌==◌, ◌&&◌, min, nat_le, nat_lt, not, ℤ, Bool, true, false, if◌then◌else◌, List, [], length, drop}
+use Rattle.std.proofs.Common.{◌≡◌, ℕ, ◌+◌, ◌-◌, ◌<◌, ◌≤◌, ◌==◌, ◌&&◌, min, nat_le, nat_lt, ℤ, Bool, true, false, if◌then◌else◌, List, length, drop}
 use Rattle.std.proofs.Common.{Option, Some, None, refl, sym, ap, ◌∙◌, subst, arith, length-drop}
 use Rattle.std.proofs.lemmas.Bool.{cond_both, eqb-true, eq-eqb, ltb-true, ltb-false}
 use Rattle.net_base.specs.Ring.{Ring, released}
@@ -22,7 +22,8 @@ use Rattle.tcp_pair_model.specs.Blocks.{one_if, unacked}
 use Rattle.tcp_pair_model.specs.Checks.{is_in_window}
 use Rattle.tcp_pair_model.specs.Checks.Check.{Passes}
 use Rattle.tcp_pair_model.specs.Probing.{probe_kept}
-use Rattle.tcp_pair_model.specs.Text.{Texted, texted, with_text, with_bytes_at, taken_in_order, held_early, laid, has_new_text, with_fin, takes_fin, is_at_fin, fin_taken}
+use Rattle.tcp_pair_model.specs.Text.{Texted, texted, with_text, with_bytes_at, taken_in_order, held_early}
+use Rattle.tcp_pair_model.specs.Text.{laid, has_new_text, with_fin, takes_fin, is_at_fin, fin_taken}
 use Rattle.tcp_pair_model.specs.Value.{TcpValue, Arrived, with_block, dropped, unoffered, queued_in, free_in, received_of}
 use Rattle.tcp_tie.proofs.Tied.{if_so, if_not}
 use Rattle.tcp_rules.proofs.ArrivalCases.{acked_cases, acked_open, acked_last, timed}
@@ -58,7 +59,9 @@ owes_none In.Closing = refl
 owes_none In.LastAck = refl
 owes_none In.TimeWait = refl
 
-all_gone : (syn queue after owed by : ℕ) → syn ≡ 0 → owed ≡ 0 → by ≡ syn + queue + 1 → after ≡ queue - min (by - syn) queue → syn + after + owed + by ≡ syn + queue + 1
+all_gone :
+    (syn queue after owed by : ℕ) → syn ≡ 0 → owed ≡ 0 → by ≡ syn + queue + 1 → after ≡ queue - min (by - syn) queue
+    → syn + after + owed + by ≡ syn + queue + 1
 all_gone syn queue after owed by a b c d = omega arith
 
 some_gone :
@@ -239,7 +242,8 @@ module _ (cx : ContextValue) (u : TcpValue) (ip : IpRepr) (header : TcpHeader) (
       Lowered (checked (Passes by) cx u ip header bytes).socket
   lowered_checked no_syn there =
       subst (λ (a : Arrived). Lowered a.socket)
-      (sym (if_so (is_in_window u.block (free_in u) header (length bytes)) (inside cx u ip header bytes by) (passed_outside cx u ip header (length bytes) by) there
+      (sym (if_so (is_in_window u.block (free_in u) header (length bytes)) (inside cx u ip header bytes by)
+      (passed_outside cx u ip header (length bytes) by) there
       ∙ if_not (is_syn header.control) (drawn cx u ip header) (taken cx u ip header bytes by) no_syn))
       lowered_taken
 

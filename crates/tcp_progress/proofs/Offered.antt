@@ -1,8 +1,7 @@
 -- What goes from SND.UNA on: its numbers, its length, and what the offer leaves as it is once it is settled as sent.
-use Rattle.std.proofs.Common.{◌≡◌, inl, inr, ℕ, ◌+◌, ◌-◌, ◌%◌, ◌^◌, ◌<◌, ◌≤◌, ◌==◌, ◌&&◌, min, max, not, ℤ, Bool, true, false, if◌then◌else◌, List, length, take, drop, Option}
+use Rattle.std.proofs.Common.{◌≡◌, ℕ, ◌+◌, ◌-◌, ◌^◌, ◌<◌, ◌≤◌, ◌==◌, ◌&&◌, min, max, not, ℤ, Bool, true, false, if◌then◌else◌, List, length, take, drop}
 use Rattle.std.proofs.Common.{Some, None, refl, sym, ap, ◌∙◌, subst, arith, length-take, length-drop}
 use Rattle.std.proofs.lemmas.Bool.{cond_both}
-use Rattle.net_base.specs.Ring.{Ring}
 use Rattle.ip_wire.specs.Control.{control_len}
 use Rattle.ip_wire.specs.SeqNumber.{SeqNumber}
 use Rattle.ip_wire.specs.Tcp.{header_len}
@@ -14,7 +13,7 @@ use Rattle.tcp_tie.specs.Offers.{Offered}
 use Rattle.tcp_rules.specs.Controls.{is_syn, is_rst}
 use Rattle.tcp_rules.specs.Endpoints.{header_for}
 use Rattle.tcp_rules.specs.EndpointPair.{EndpointPair}
-use Rattle.tcp_rules.specs.Moments.{is_due, is_over, timeout_from}
+use Rattle.tcp_rules.specs.Moments.{is_over, timeout_from}
 use Rattle.tcp_rules.specs.OfferKind.{OfferKind}
 use Rattle.tcp_rules.specs.OfferKind.TheVariants as Kind
 use Rattle.tcp_rules.specs.OpenOffer.{OpenOffer}
@@ -26,10 +25,10 @@ use Rattle.tcp_pair_model.specs.Blocks.{one_if, unacked}
 use Rattle.tcp_pair_model.specs.LossRecovery.{loss_probed}
 use Rattle.tcp_pair_model.specs.Offers.{offer_of, offer_segment, offer_choice, number_at, payload_of}
 use Rattle.tcp_pair_model.specs.Retries.{asked, one_more}
-use Rattle.tcp_pair_model.specs.Rules.{Choice, text_choice, resend_choice, probe_choice, control_for, backed_off_now, owes_syn, fin_goes, sent_places, resends}
+use Rattle.tcp_pair_model.specs.Rules.{Choice, text_choice, resend_choice, probe_choice, control_for, backed_off_now, owes_syn, fin_goes}
 use Rattle.tcp_pair_model.specs.Segments.{hops_of, segment, segment_len, ack_segment, reset_segment, keep_alive_segment}
 use Rattle.tcp_pair_model.specs.Settled.{settled, sent_as, recorded, probed, end_of}
-use Rattle.tcp_pair_model.specs.Value.{TcpValue, Received, with_block, unoffered, queued_in, room_of, window_of}
+use Rattle.tcp_pair_model.specs.Value.{TcpValue, with_block, unoffered, queued_in, room_of, window_of}
 use Rattle.tcp_rules.proofs.OfferCases.{FirstRules, by_rules, begun, probing}
 use Rattle.tcp_rules.proofs.OrderSteps.{clash}
 use Rattle.tcp_progress.proofs.Again.{again_at_una}
@@ -182,7 +181,7 @@ module _ (cx : ContextValue) (v : TcpValue) (syn : v.block.sender.syn_unacked �
       (kind : OfferKind) (pair : EndpointPair) (b : Block) (c : Choice) → StaysBut v.block b → Sends kind
       → ((o : OpenOffer) (queue : List ℕ) → payload_of o kind queue ≡ take o.len (drop o.place queue)) → (c.fin ≡ true → owes_fin b.state ≡ true)
       → Out (offer_choice kind cx (with_block (unoffered v) b) pair c)
-  by_choice kind pair b c stays sends pays fin k e _ = subst (λ (o : OpenOffer). GoesOut v (offer_choice kind cx x pair c).socket o) (one_offer mine k e) out where
+  by_choice kind pair b c stays sends pays fin k e _ = subst (GoesOut v (offer_choice kind cx x pair c).socket) (one_offer mine k e) out where
     x : TcpValue
     x = with_block (unoffered v) b
 

@@ -1,5 +1,6 @@
 -- An exchange of two sockets as events of a pair.
-use Rattle.std.proofs.Common.{◌≡◌, ◌⊎◌, inl, inr, ℕ, suc, ◌+◌, ◌-◌, ◌*◌, ◌%◌, ◌^◌, ◌<◌, ◌≤◌, ◌==◌, ◌&&◌, ℤ, Bool, true, false, if◌then◌else◌, List, [], ◌∷◌, ◌++◌, length, Option, Some, None}
+use Rattle.std.proofs.Common.{◌≡◌, ◌⊎◌, inl, inr, ℕ, suc, ◌+◌, ◌-◌, ◌*◌, ◌%◌, ◌^◌, ◌<◌, ◌≤◌}
+use Rattle.std.proofs.Common.{◌==◌, ◌&&◌, ℤ, Bool, true, false, List, [], ◌∷◌, ◌++◌, length, Option, Some, None}
 use Rattle.std.proofs.Common.{slice_get, refl, sym, ap, ◌∙◌, subst, arith}
 use Rattle.std.proofs.lemmas.Bool.{eq-eqb}
 use Rattle.std.proofs.lemmas.Slice.Eq.{bytes_eq-Decides}
@@ -13,10 +14,9 @@ use Rattle.ip_wire.specs.Seq.{distance_of}
 use Rattle.ip_wire.specs.SeqNumber.{SeqNumber}
 use Rattle.ip_wire.specs.TcpHeader.{TcpHeader}
 use Rattle.tcp_law.specs.Invariant.{IsInStep, IsSilent}
-use Rattle.tcp_law.specs.Side.{Side as Way}
 use Rattle.tcp_law.specs.Side.Phase.{Synchronized}
 use Rattle.tcp_tie.specs.Context.{ContextValue}
-use Rattle.tcp_tie.specs.Endpoints.{GoesBetween, GoesBack, KeepsNames, FallsBack, Forgets, KeepsOrForgets, IsLeftBy}
+use Rattle.tcp_tie.specs.Endpoints.{GoesBetween, GoesBack, IsLeftBy}
 use Rattle.tcp_tie.specs.Tie.{Past, Keeps, IsConnectedAs, core_of, unsent, phase_of}
 use Rattle.tcp_rules.specs.EndpointPair.{EndpointPair}
 use Rattle.tcp_rules.specs.Endpoints.{local_of, remote_of, is_between, is_connected_by}
@@ -30,26 +30,26 @@ use Rattle.tcp_rules.specs.States.{is_answering, is_closed}
 use Rattle.tcp_pair_model.specs.Arrival.{arrives}
 use Rattle.tcp_pair_model.specs.Block.{Block}
 use Rattle.tcp_pair_model.specs.Names.{accepts, accepts_in}
-use Rattle.tcp_pair_model.specs.Offers.{offer_of, payload_of}
+use Rattle.tcp_pair_model.specs.Offers.{offer_of}
 use Rattle.tcp_pair_model.specs.Safe.{IsKept}
 use Rattle.tcp_pair_model.specs.Settled.{settled}
-use Rattle.tcp_pair_model.specs.Sides.{at, other}
-use Rattle.tcp_pair_model.specs.Steps.{Steps, happens, offered_at, handed, comes_to, taken_at}
+use Rattle.tcp_pair_model.specs.Sides.{other}
+use Rattle.tcp_pair_model.specs.Steps.{Steps, happens, offered_at, handed, taken_at}
 use Rattle.tcp_pair_model.specs.Value.{TcpValue, Arrived, new_socket}
 use Rattle.tcp_pair_model.specs.Values.{PairSide, PairValue, new_pair, context_at, and_offer, and_reply, past_at}
 use Rattle.tcp_pair_model.specs.declared.event.PairEvent.{PairEvent}
 use Rattle.tcp_pair_model.specs.declared.event.SentSegment.{SentSegment}
 use Rattle.tcp_pair_model.specs.declared.event.Side.{Side}
 use Rattle.tcp_pair_model.specs.declared.event.Side.TheVariants.{A, B}
-use Rattle.tcp_pair_model.specs.History.{pasts}
 use Rattle.tcp_pair_model.proofs.PairLaws.{new_is_kept, kept_after}
 use Rattle.tcp_tie.proofs.NameLaws.{offer_between_ends, sent_names, answer_back}
 use Rattle.tcp_tie.proofs.PromiseLemmas.{keeps_turned}
 use Rattle.tcp_tie.proofs.Tied.{fits_connected, if_so}
 use Rattle.tcp_rules.proofs.OrderSteps.{clash}
-use Rattle.tcp_progress.specs.Arrivals.{is_synchronized, EndsLastAck}
+use Rattle.tcp_progress.specs.Arrivals.{is_synchronized}
 use Rattle.tcp_progress.specs.Exchange.{GoesFromUna, MayExchange, MovesOn, HasMoved, left_of, text_of, offer_comes}
-use Rattle.tcp_progress.specs.Pair.{HasStream, AreMirrored, MayExchangeIn, MovesIn, Exchanges, context_of, exchanged_in, left_in, next_sent, offered_in, socket_of}
+use Rattle.tcp_progress.specs.Pair.{HasStream, AreMirrored, MayExchangeIn, MovesIn, Exchanges}
+use Rattle.tcp_progress.specs.Pair.{context_of, exchanged_in, left_in, next_sent, offered_in, socket_of}
 use Rattle.tcp_progress.specs.Positions.{LiesWithin}
 use Rattle.tcp_progress.specs.Rounds.{comes}
 use Rattle.tcp_progress.specs.Reached.{IsReached}
@@ -278,7 +278,13 @@ module _ (side : Side) (s r : PairSide) (moment : ℤ) where
               ∙ told.left;
         }))
     by_moves (inr (inr ends)) =
-        inr (inr (record { none = none_answered ends.silent; last = ends.last; closed = ap (λ (t : PairSide). is_closed t.socket.block.state) reaches ∙ ends.closed }))
+        inr
+        (inr
+        (record {
+          none = none_answered ends.silent;
+          last = ends.last;
+          closed = ap (λ (t : PairSide). is_closed t.socket.block.state) reaches ∙ ends.closed;
+        }))
 
     pub side_moves : (p q : Past) (k : Keeps s.socket p r.socket q) → IsInStep k.side k.partner → Takes ⊎ (Tells ⊎ Ends)
     side_moves p q k step = by_moves (goes_on cx cy cx s.socket r.socket p q k o step may)
@@ -307,7 +313,8 @@ pub record Moved (p : PairValue) (side : Side) (moment : ℤ) : Type 0 where
   pub less : HasLess p (exchanged_in p side moment) side
 
 pub pair_moved :
-    (p : PairValue) (side : Side) (moment : ℤ) (o : OpenOffer) (k : Keeps (socket_of p side) (past_at p side) (socket_of p (other side)) (past_at p (other side)))
+    (p : PairValue) (side : Side) (moment : ℤ) (o : OpenOffer)
+    (k : Keeps (socket_of p side) (past_at p side) (socket_of p (other side)) (past_at p (other side)))
     → IsInStep k.side k.partner → MayExchangeIn p side moment o → Moved p side moment
 pair_moved p A moment o k step may = by (side_moves A p.sides.a p.sides.b moment may.mirrored o may.may (past_at p A) (past_at p B) k step) where
   by :
@@ -367,7 +374,8 @@ pair_moved p B moment o k step may = by (side_moves B p.sides.b p.sides.a moment
   }
 
 pub pair_moves :
-    (p : PairValue) (side : Side) (moment : ℤ) (o : OpenOffer) (k : Keeps (socket_of p side) (past_at p side) (socket_of p (other side)) (past_at p (other side)))
+    (p : PairValue) (side : Side) (moment : ℤ) (o : OpenOffer)
+    (k : Keeps (socket_of p side) (past_at p side) (socket_of p (other side)) (past_at p (other side)))
     → IsInStep k.side k.partner → MayExchangeIn p side moment o → MovesIn p side moment
 pair_moves p side moment o k step may = (pair_moved p side moment o k step may).moves
 
@@ -408,7 +416,8 @@ pub reached_kept : (p : PairValue) → IsReached p → IsKept p
 reached_kept p r =
     kept_steps (new_pair (new_socket r.room_a r.ring_a) (new_socket r.room_b r.ring_b)) r.events p
     (new_is_kept (new_socket r.room_a r.ring_a) (new_socket r.room_b r.ring_b)
-    (record { state = refl; waiting = refl; queue = refl; unfinished = refl }) (record { state = refl; waiting = refl; queue = refl; unfinished = refl })) r.steps
+    (record { state = refl; waiting = refl; queue = refl; unfinished = refl })
+    (record { state = refl; waiting = refl; queue = refl; unfinished = refl })) r.steps
 
 pub keeps_of : (p : PairValue) (side : Side) → IsKept p → Keeps (socket_of p side) (past_at p side) (socket_of p (other side)) (past_at p (other side))
 keeps_of p A k = k.sockets
@@ -448,7 +457,9 @@ record HasSome (p : PairValue) (side : Side) : Type 0 where
   una : (socket_of p side).block.sender.una.0 < 2 ^ 32
   next : (socket_of p (other side)).block.receiver.next.0 < 2 ^ 32
 
-has_some : (p : PairValue) (side : Side) (moment : ℤ) (o : OpenOffer) → IsReached p → HasStream (past_at p side) → MayExchangeIn p side moment o → HasSome p side
+has_some :
+    (p : PairValue) (side : Side) (moment : ℤ) (o : OpenOffer) → IsReached p → HasStream (past_at p side) → MayExchangeIn p side moment o
+    → HasSome p side
 has_some p side moment o reached stream may = record { some = enough _ _ may.may.some goes.ends; within = l.within; few = l.few; una = una; next = next } where
   k : Keeps (socket_of p side) (past_at p side) (socket_of p (other side)) (past_at p (other side))
   k = reached_keeps p side reached
@@ -481,7 +492,9 @@ once_more : (n had had_new left left_new more : ℕ) → suc n + had_new ≤ lef
     suc (suc n) + had ≤ left + left
 once_more n had had_new left left_new more a b c d = omega arith
 
-acknowledged_once : (n had had_new left left_new : ℕ) → suc n + had_new ≤ left_new + left_new → left_new + had ≡ left → 1 ≤ had → suc (suc n) + had ≤ left + left
+acknowledged_once :
+    (n had had_new left left_new : ℕ) → suc n + had_new ≤ left_new + left_new → left_new + had ≡ left → 1 ≤ had
+    → suc (suc n) + had ≤ left + left
 acknowledged_once n had had_new left left_new a b c = omega arith
 
 last_one : (had left : ℕ) → had ≤ left → 1 ≤ left → 1 + had ≤ left + left
@@ -504,7 +517,8 @@ before p side moment n h open_still rest (inl t) =
     (below_quarter (had_in p side) (left_in p side) h.within h.few) t.few))
     t.some
 before p side moment n h open_still rest (inr (inl t)) =
-    acknowledged_once n (had_in p side) (had_in (exchanged_in p side moment) side) (left_in p side) (left_in (exchanged_in p side moment) side) rest t.left t.had
+    acknowledged_once n (had_in p side) (had_in (exchanged_in p side moment) side) (left_in p side) (left_in (exchanged_in p side moment) side) rest
+    t.left t.had
 before p side moment n h open_still rest (inr (inr closed)) = absurd (open_still closed)
 
 still_open : (state : State) → is_synchronized state ≡ true → is_closed state ≡ true → ⊥
