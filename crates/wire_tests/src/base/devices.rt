@@ -201,7 +201,10 @@ fn pass(rt: &(impl Abort + AllocGlobal), lengths: &[usize]) {
         assert!(rt; sends(&mut device, *length), "{length} bytes are sent");
     }
     for length in lengths {
-        assert!(rt; next_length(&mut device) == Some(*length), "{length} bytes come");
+        assert!(rt;
+            next_length(&mut device) == Some(*length),
+            "{length} bytes come"
+        );
     }
     assert!(rt; device.refusals() == 0);
 }

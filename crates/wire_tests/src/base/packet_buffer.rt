@@ -205,13 +205,7 @@ fn play(rt: &(impl Abort + AllocGlobal), places: usize, room: usize, steps: &[St
     }
 }
 
-const NO_PACKET: [Step; 5] = [
-    Capacities(2, 16),
-    Resets,
-    IsEmpty,
-    IsFull(false),
-    Counts(0),
-];
+const NO_PACKET: [Step; 5] = [Capacities(2, 16), Resets, IsEmpty, IsFull(false), Counts(0)];
 
 #[test]
 fn begins_with_no_packet(rt: HostRuntime) {

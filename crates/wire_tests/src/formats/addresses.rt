@@ -281,8 +281,22 @@ const HOST: Ipv4Address = Ipv4Address([192, 168, 1, 1]);
 
 const IPV4_KINDS: [Ipv4Kinds; 7] = [
     Ipv4Kinds(HOST, true, false, false, false, false),
-    Ipv4Kinds(Ipv4Address([127, 255, 0, 1]), true, false, false, false, true),
-    Ipv4Kinds(Ipv4Address([240, 0, 0, 1]), true, false, false, false, false),
+    Ipv4Kinds(
+        Ipv4Address([127, 255, 0, 1]),
+        true,
+        false,
+        false,
+        false,
+        true,
+    ),
+    Ipv4Kinds(
+        Ipv4Address([240, 0, 0, 1]),
+        true,
+        false,
+        false,
+        false,
+        false,
+    ),
     Ipv4Kinds(IPV4_MULTICAST_ALL_SYSTEMS, false, true, false, false, false),
     Ipv4Kinds(IPV4_MULTICAST_ALL_ROUTERS, false, true, false, false, false),
     Ipv4Kinds(Ipv4Address::BROADCAST, false, false, true, false, false),

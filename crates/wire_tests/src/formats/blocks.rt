@@ -116,7 +116,11 @@ fn is_held(outer: &str, inner: &Inner) -> Option<bool> {
 const HOLDS: [Holds; 7] = [
     Holds("2001:db8::/48", Inner::Block("2001:db8:0:8000::/49"), true),
     Holds("2001:db8:0:8000::/49", Inner::Block("2001:db8::/48"), false),
-    Holds("2001:db8::/48", Inner::Address("2001:db8::ffff:0:0:0:1"), true),
+    Holds(
+        "2001:db8::/48",
+        Inner::Address("2001:db8::ffff:0:0:0:1"),
+        true,
+    ),
     Holds("2001:db8::/48", Inner::Address("2001:db8:1::"), false),
     Holds("0.0.0.0/0", Inner::Address("2001:db8::ffff:0:0:0:1"), false),
     Holds("0.0.0.0/0", Inner::Block("2001:db8::/48"), false),

@@ -55,9 +55,9 @@ fn reads_raw_addresses_by_medium(rt: HostRuntime) {
 }
 
 /// An address, and whether it is one station's, a group's, all stations'.
-struct Station(EthernetAddress, bool, bool, bool);
+struct AddressKinds(EthernetAddress, bool, bool, bool);
 
-impl Case for Station {
+impl Case for AddressKinds {
     fn holds(&self, _alloc: Global) -> bool {
         let either = HardwareAddress::from(self.0);
         kinds(&self.0) == (self.1, self.2, self.3)
@@ -67,10 +67,10 @@ impl Case for Station {
 
 const GROUP: EthernetAddress = EthernetAddress([1, 0, 0x5e, 0, 0, 1]);
 
-const STATIONS: [Station; 3] = [
-    Station(STATION, true, false, false),
-    Station(GROUP, false, true, false),
-    Station(EthernetAddress::BROADCAST, false, true, true),
+const STATIONS: [AddressKinds; 3] = [
+    AddressKinds(STATION, true, false, false),
+    AddressKinds(GROUP, false, true, false),
+    AddressKinds(EthernetAddress::BROADCAST, false, true, true),
 ];
 
 #[test]

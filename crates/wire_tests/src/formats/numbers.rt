@@ -26,7 +26,10 @@ const CONSTANTS: [Constant; 10] = [
     Constant("255.255.255.255", IpAddress::Ipv4(Ipv4Address::BROADCAST)),
     Constant("ff02::1", IpAddress::Ipv6(IPV6_LINK_LOCAL_ALL_NODES)),
     Constant("ff02::2", IpAddress::Ipv6(IPV6_LINK_LOCAL_ALL_ROUTERS)),
-    Constant("ff02::16", IpAddress::Ipv6(IPV6_LINK_LOCAL_ALL_MLDV2_ROUTERS)),
+    Constant(
+        "ff02::16",
+        IpAddress::Ipv6(IPV6_LINK_LOCAL_ALL_MLDV2_ROUTERS),
+    ),
     Constant("::", IpAddress::Ipv6(Ipv6Address::UNSPECIFIED)),
     Constant("::1", IpAddress::Ipv6(Ipv6Address::LOCALHOST)),
 ];
