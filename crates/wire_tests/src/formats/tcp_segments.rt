@@ -51,7 +51,7 @@ fn lengths(segment: &TcpRepr<'_>) -> (usize, bool, usize, usize) {
 
 /// Whether the bytes are read as a segment of this header, payload and lengths.
 fn is_read(
-    bytes: &[u8],
+    bytes: &[u8; 24],
     header: &TcpHeader,
     payload: &[u8],
     all: (usize, bool, usize, usize),
