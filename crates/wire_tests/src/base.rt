@@ -4,5 +4,4 @@ mod assembler;
 mod devices;
 mod packet_buffer;
 mod ring_buffer;
-mod text;
 mod time;

@@ -4,6 +4,8 @@
 #[cfg(test)]
 mod base;
 #[cfg(test)]
+mod cases;
+#[cfg(test)]
 mod control;
 #[cfg(test)]
 mod formats;

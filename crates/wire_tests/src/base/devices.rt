@@ -1,9 +1,11 @@
 //! What devices answer, and what they say of themselves.
-use crate::base::text::prints;
+use crate::cases::{Case, all, all_hold, prints};
 use net_base::{
     Checksum, ChecksumCapabilities, Device, DeviceCapabilities, IPV4_FRAGMENT_PAYLOAD_ALIGNMENT,
     Instant, Loopback, Medium, PacketMeta, RxToken, TxToken,
 };
+use std::alloc::Global;
+use std::process::Abort;
 
 /// Sends the bytes, by a device that is known by its bound alone.
 fn send_bytes<D: Device>(device: &mut D, bytes: &[u8]) -> bool {
@@ -33,15 +35,25 @@ fn receives(device: &mut Loopback, bytes: &[u8]) -> bool {
     }
 }
 
+/// Whether there is no next frame.
+fn is_silent(device: &mut Loopback) -> bool {
+    device.receive(Instant::ZERO).is_none()
+}
+
 #[test]
 fn loopback_receives_what_it_sent(rt: HostRuntime) {
     let mut device = Loopback::new(rt.alloc(), Medium::Ethernet);
-    assert!(rt; device.receive(Instant::ZERO).is_none());
-    assert!(rt; send_bytes(&mut device, b"first"));
-    assert!(rt; send_bytes(&mut device, b"next one"));
-    assert!(rt; receives(&mut device, b"first"));
-    assert!(rt; next_length(&mut device) == Some(8));
-    assert!(rt; device.receive(Instant::ZERO).is_none());
+    all(
+        &rt,
+        &[
+            is_silent(&mut device),
+            send_bytes(&mut device, b"first"),
+            send_bytes(&mut device, b"next one"),
+            receives(&mut device, b"first"),
+            next_length(&mut device) == Some(8),
+            is_silent(&mut device),
+        ],
+    );
 }
 
 /// Answers the next frame by the leave beside it, while it is read. The answer is the frame's length.
@@ -68,14 +80,19 @@ fn hands_over(device: &mut Loopback, bytes: &[u8]) -> bool {
 #[test]
 fn a_frame_is_answered_while_it_is_read(rt: HostRuntime) {
     let mut device = Loopback::new(rt.alloc(), Medium::Ethernet);
-    assert!(rt; send_bytes(&mut device, b"first"));
-    assert!(rt; answers(&mut device) == Some(5));
-    assert!(rt; hands_over(&mut device, b"ok"));
-    assert!(rt; device.refusals() == 0);
+    all(
+        &rt,
+        &[
+            send_bytes(&mut device, b"first"),
+            answers(&mut device) == Some(5),
+            hands_over(&mut device, b"ok"),
+            device.refusals() == 0,
+        ],
+    );
 }
 
 /// The text of the refusal of a frame that no allocator has room for. The closure doesn't run.
-fn refuses(rt: &HostRuntime, device: &mut Loopback) -> bool {
+fn refuses(alloc: Global, device: &mut Loopback) -> bool {
     let Some(leave) = device.transmit(Instant::ZERO) else {
         return false;
     };
@@ -85,31 +102,41 @@ fn refuses(rt: &HostRuntime, device: &mut Loopback) -> bool {
     });
     match sent {
         Ok(()) => false,
-        Err(refusal) => !ran && prints(rt, &refusal, "the device refused a frame"),
+        Err(refusal) => !ran && prints(alloc, &refusal, "the device refused a frame"),
     }
 }
 
 #[test]
 fn loopback_refuses_before_the_closure_runs(rt: HostRuntime) {
     let mut device = Loopback::new(rt.alloc(), Medium::Ip);
-    assert!(rt; refuses(&rt, &mut device));
-    assert!(rt; device.refusals() == 1);
-    assert!(rt; device.receive(Instant::ZERO).is_none());
-    assert!(rt; send_bytes(&mut device, b"again"));
-    assert!(rt; next_length(&mut device) == Some(5));
+    all(
+        &rt,
+        &[
+            refuses(rt.alloc(), &mut device),
+            device.refusals() == 1,
+            is_silent(&mut device),
+            send_bytes(&mut device, b"again"),
+            next_length(&mut device) == Some(5),
+        ],
+    );
 }
 
 #[test]
 fn capabilities_follow_the_medium(rt: HostRuntime) {
     let ethernet = Loopback::new(rt.alloc(), Medium::Ethernet).capabilities();
-    assert!(rt; ethernet.max_transmission_unit == 65_535);
-    assert!(rt; ethernet.ip_mtu() == 65_521);
-    assert!(rt; ethernet.checksum == ChecksumCapabilities::default());
     let short = DeviceCapabilities {
         max_transmission_unit: 13,
         ..DeviceCapabilities::default()
     };
-    assert!(rt; short.ip_mtu() == 0);
+    all(
+        &rt,
+        &[
+            ethernet.max_transmission_unit == 65_535,
+            ethernet.ip_mtu() == 65_521,
+            ethernet.checksum == ChecksumCapabilities::default(),
+            short.ip_mtu() == 0,
+        ],
+    );
 }
 
 /// The pieces of a datagram on a link of 1500 bytes hold 1480 bytes behind a header of 20.
@@ -120,20 +147,41 @@ fn pieces_hold_eighths(rt: HostRuntime) {
         max_transmission_unit: 1500,
         checksum: ChecksumCapabilities::ignored(),
     };
-    assert!(rt; ip.ip_mtu() == 1500);
-    assert!(rt; ip.max_ipv4_fragment_size(20) == 1480);
-    assert!(rt; ip.max_ipv4_fragment_size(24) == 1472);
-    assert!(rt; IPV4_FRAGMENT_PAYLOAD_ALIGNMENT == 8);
+    all(
+        &rt,
+        &[
+            ip.ip_mtu() == 1500,
+            ip.max_ipv4_fragment_size(20) == 1480,
+            ip.max_ipv4_fragment_size(24) == 1472,
+            IPV4_FRAGMENT_PAYLOAD_ALIGNMENT == 8,
+        ],
+    );
 }
+
+/// Whether checksums are verified, and whether they are written.
+struct Ways(Checksum, bool, bool);
+
+impl Case for Ways {
+    fn holds(&self, _alloc: Global) -> bool {
+        (self.0.rx(), self.0.tx()) == (self.1, self.2)
+    }
+}
+
+const WAYS: [Ways; 4] = [
+    Ways(Checksum::Both, true, true),
+    Ways(Checksum::Rx, true, false),
+    Ways(Checksum::Tx, false, true),
+    Ways(Checksum::None, false, false),
+];
 
 #[test]
 fn checksums_say_which_way(rt: HostRuntime) {
-    assert!(rt; Checksum::Both.rx() && Checksum::Both.tx());
-    assert!(rt; Checksum::Rx.rx() && !Checksum::Rx.tx());
-    assert!(rt; !Checksum::Tx.rx() && Checksum::Tx.tx());
-    assert!(rt; !Checksum::None.rx() && !Checksum::None.tx());
-    assert!(rt; ChecksumCapabilities::default().tcp.rx());
-    assert!(rt; !ChecksumCapabilities::ignored().icmpv6.tx());
+    all_hold(&rt, &WAYS);
+    let (ours, none) = (
+        ChecksumCapabilities::default(),
+        ChecksumCapabilities::ignored(),
+    );
+    all(&rt, &[ours.tcp.rx(), !none.icmpv6.tx()]);
 }
 
 /// Sends a frame of so many bytes.
@@ -146,28 +194,28 @@ fn sends(device: &mut Loopback, length: usize) -> bool {
     }
 }
 
-/// One frame is longer than the capabilities say.
-#[test]
-fn loopback_takes_long_frames(rt: HostRuntime) {
+/// Asserts that frames of these lengths are sent, and then received in order.
+fn pass(rt: &(impl Abort + AllocGlobal), lengths: &[usize]) {
     let mut device = Loopback::new(rt.alloc(), Medium::Ip);
-    let lengths = [0, 1, 1500, 65_535, 70_000];
     for length in lengths {
-        assert!(rt; sends(&mut device, length));
+        assert!(rt; sends(&mut device, *length), "{length} bytes are sent");
     }
     for length in lengths {
-        assert!(rt; next_length(&mut device) == Some(length));
+        assert!(rt;
+            next_length(&mut device) == Some(*length),
+            "{length} bytes come"
+        );
     }
     assert!(rt; device.refusals() == 0);
 }
 
+/// One frame is longer than the capabilities say.
+#[test]
+fn loopback_takes_long_frames(rt: HostRuntime) {
+    pass(&rt, &[0, 1, 1500, 65_535, 70_000]);
+}
+
 #[test]
 fn loopback_takes_many_frames(rt: HostRuntime) {
-    let mut device = Loopback::new(rt.alloc(), Medium::Ip);
-    for _ in 0..300 {
-        assert!(rt; sends(&mut device, 5));
-    }
-    for _ in 0..300 {
-        assert!(rt; next_length(&mut device) == Some(5));
-    }
-    assert!(rt; device.refusals() == 0);
+    pass(&rt, &[5; 300]);
 }

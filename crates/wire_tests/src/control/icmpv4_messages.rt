@@ -1,4 +1,5 @@
 //! ICMPv4 messages as values, and where they are written. `decode` reads and writes them as data.
+use crate::cases::all;
 use control_wire::{
     Icmpv4DstUnreachable, Icmpv4Header, Icmpv4Message, Icmpv4PacketMut, Icmpv4Repr,
     Icmpv4TimeExceeded, icmpv4_field as field, icmpv4_laws,
@@ -18,21 +19,23 @@ const PORT_UNREACHABLE: [u8; 40] = [
     0x00, 0x0c, 0x12, 0x4d, 0xaa, 0x00, 0x00, 0xff,
 ];
 
+/// What it says of that datagram.
+const UNREACHABLE: Icmpv4Header = Icmpv4Header::DstUnreachable {
+    reason: Icmpv4DstUnreachable::PortUnreachable,
+    header: Ipv4Repr {
+        src_addr: Ipv4Address([192, 168, 1, 1]),
+        dst_addr: Ipv4Address([192, 168, 1, 2]),
+        next_header: IpProtocol::Udp,
+        payload_len: 12,
+        hop_limit: 64,
+        ident: 0,
+        dont_frag: true,
+    },
+};
+
 // The checksum of the quoted header is left to the device, and the message's own covers its zeros.
 #[test]
 fn a_checksum_is_left_to_the_device(rt: HostRuntime) {
-    let header = Icmpv4Header::DstUnreachable {
-        reason: Icmpv4DstUnreachable::PortUnreachable,
-        header: Ipv4Repr {
-            src_addr: Ipv4Address([192, 168, 1, 1]),
-            dst_addr: Ipv4Address([192, 168, 1, 2]),
-            next_header: IpProtocol::Udp,
-            payload_len: 12,
-            hop_limit: 64,
-            ident: 0,
-            dont_frag: true,
-        },
-    };
     let checksum_caps = ChecksumCapabilities {
         ipv4: Checksum::Rx,
         ..ChecksumCapabilities::default()
@@ -41,12 +44,12 @@ fn a_checksum_is_left_to_the_device(rt: HostRuntime) {
     wanted[18..20].copy_from_slice(&[0, 0]);
     wanted[2..4].copy_from_slice(&[0x37, 0xe8]);
     let mut bytes = [0xa5; 40];
-    let message = Icmpv4Repr::new(&header, &PORT_UNREACHABLE[28..]);
+    let message = Icmpv4Repr::new(&UNREACHABLE, &PORT_UNREACHABLE[28..]);
     message.emit(
         &mut Icmpv4PacketMut::new_unchecked(&mut bytes),
         &checksum_caps,
     );
-    assert!(rt; bytes == wanted && message.buffer_len() == 40);
+    all(&rt, &[bytes == wanted, message.buffer_len() == 40]);
 }
 
 #[test]
@@ -76,7 +79,7 @@ fn message_is_set(rt: HostRuntime) {
     let mut bytes = [0xa5; 11];
     let mut packet = Icmpv4PacketMut::new_unchecked(&mut bytes);
     packet.data_mut().copy_from_slice(b"abc");
-    assert!(rt; &bytes[..8] == [0xa5; 8].as_slice());
+    let untouched = &bytes[..8] == [0xa5; 8].as_slice();
     let mut packet = Icmpv4PacketMut::new_checked(&mut bytes).expect(&rt, "whole");
     packet.set_msg_type(Icmpv4Message::EchoRequest);
     packet.set_msg_code(0);
@@ -92,17 +95,30 @@ fn message_is_set(rt: HostRuntime) {
         packet.checksum(),
         packet.verify_checksum(),
     );
-    assert!(rt; said == (true, 0, 0x1234, 1, 8, 0x2168, true));
     packet.set_checksum(0xffff);
     let is_right = packet.verify_checksum();
     packet.fill_checksum();
-    assert!(rt; !is_right && &*packet.into_inner() == ODD_REQUEST.as_slice());
+    all(
+        &rt,
+        &[
+            untouched,
+            said == (true, 0, 0x1234, 1, 8, 0x2168, true),
+            !is_right,
+            &*packet.into_inner() == ODD_REQUEST.as_slice(),
+        ],
+    );
 }
 
 // RFC 792.
 #[test]
 fn fields_are_in_their_places(rt: HostRuntime) {
     let places = [field::CHECKSUM, field::ECHO_IDENT, field::ECHO_SEQNO];
-    assert!(rt; [field::TYPE, field::CODE, field::HEADER_END] == [0, 1, 8]);
-    assert!(rt; places == [2..4, 4..6, 6..8] && field::DATA == (8..));
+    all(
+        &rt,
+        &[
+            [field::TYPE, field::CODE, field::HEADER_END] == [0, 1, 8],
+            places == [2..4, 4..6, 6..8],
+            field::DATA == (8..),
+        ],
+    );
 }

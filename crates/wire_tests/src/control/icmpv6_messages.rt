@@ -1,10 +1,13 @@
 //! ICMPv6 messages as values, and where they are written. `decode` reads and writes them as data.
+use crate::cases::{Case, all, all_hold};
 use control_wire::{
     Icmpv6DstUnreachable, Icmpv6Header, Icmpv6Message, Icmpv6Packet, Icmpv6PacketMut,
     Icmpv6ParamProblem, Icmpv6Repr, Icmpv6TimeExceeded, icmpv6_field as field, icmpv6_laws,
 };
 use ip_wire::Ipv6Address;
 use net_base::ChecksumCapabilities;
+use std::alloc::Global;
+use std::process::Abort;
 
 /// fd00::1, which sent the packets that errors are about.
 const LEFT: Ipv6Address = Ipv6Address([0xfd, 0, 0, 0, 0, 0, 0, 0, 0, 0, 0, 0, 0, 0, 0, 1]);
@@ -44,9 +47,15 @@ fn message_is_set(rt: HostRuntime) {
         packet.checksum(),
         packet.verify_checksum(&LEFT, &RIGHT),
     );
-    assert!(rt; said == (true, 0, 0x1234, 0xabcd, 8, 0x1cb3, true));
-    assert!(rt; packet.payload().len() == 4 && packet.payload_mut().len() == 4);
-    assert!(rt; bytes == REQUEST);
+    all(
+        &rt,
+        &[
+            said == (true, 0, 0x1234, 0xabcd, 8, 0x1cb3, true),
+            packet.payload().len() == 4,
+            packet.payload_mut().len() == 4,
+            bytes == REQUEST,
+        ],
+    );
 }
 
 #[test]
@@ -58,52 +67,95 @@ fn sizes_and_pointers_are_set(rt: HostRuntime) {
     packet.set_param_problem_ptr(40);
     let pointer = packet.param_problem_ptr();
     packet.set_checksum(0xbeef);
-    assert!(rt; (mtu, pointer) == (1280, 40));
-    assert!(rt; bytes == [0x80, 0, 0xbe, 0xef, 0, 0, 0, 40, 0xaa, 0, 0, 0xff]);
+    all(
+        &rt,
+        &[
+            (mtu, pointer) == (1280, 40),
+            bytes == [0x80, 0, 0xbe, 0xef, 0, 0, 0, 40, 0xaa, 0, 0, 0xff],
+        ],
+    );
 }
 
 fn is_whole(bytes: &[u8]) -> bool {
     Icmpv6Packet::new_checked(bytes).is_ok()
 }
 
+/// A type, and the length of its header, from 4 to 40 bytes: so many are enough, and one byte less isn't.
+struct Length(u8, usize);
+
+impl Case for Length {
+    fn holds(&self, _alloc: Global) -> bool {
+        let mut bytes = [0; 40];
+        bytes[0] = self.0;
+        match (bytes.get(..self.1), bytes.get(..self.1.wrapping_sub(1))) {
+            (Some(enough), Some(less)) => is_whole(enough) && !is_whole(less),
+            _ => false,
+        }
+    }
+}
+
+const LENGTHS: [Length; 14] = [
+    Length(1, 8),
+    Length(2, 8),
+    Length(3, 8),
+    Length(4, 8),
+    Length(128, 8),
+    Length(129, 8),
+    Length(130, 28),
+    Length(133, 8),
+    Length(134, 16),
+    Length(135, 24),
+    Length(136, 24),
+    Length(137, 40),
+    Length(143, 8),
+    Length(155, 4),
+];
+
+/// A type that no header has.
+struct Unknown(u8);
+
+impl Case for Unknown {
+    fn holds(&self, _alloc: Global) -> bool {
+        let mut bytes = [0; 40];
+        bytes[0] = self.0;
+        !is_whole(&bytes)
+    }
+}
+
+const UNKNOWN: [Unknown; 11] = [
+    Unknown(0),
+    Unknown(5),
+    Unknown(100),
+    Unknown(127),
+    Unknown(131),
+    Unknown(132),
+    Unknown(138),
+    Unknown(142),
+    Unknown(144),
+    Unknown(200),
+    Unknown(255),
+];
+
 #[test]
 fn headers_are_whole(rt: HostRuntime) {
-    let lengths: [(u8, usize); 14] = [
-        (1, 8),
-        (2, 8),
-        (3, 8),
-        (4, 8),
-        (128, 8),
-        (129, 8),
-        (130, 28),
-        (133, 8),
-        (134, 16),
-        (135, 24),
-        (136, 24),
-        (137, 40),
-        (143, 8),
-        (155, 4),
-    ];
-    for (kind, length) in lengths {
-        let mut bytes = [0; 40];
-        bytes[0] = kind;
-        assert!(rt; length >= 4 && length <= 40);
-        assert!(rt; is_whole(&bytes[..length]), "type {kind}");
-        assert!(rt; !is_whole(&bytes[..length - 1]), "type {kind}");
-    }
-    let mut unknown = [0; 40];
-    for kind in [0, 5, 100, 127, 131, 132, 138, 142, 144, 200, 255] {
-        unknown[0] = kind;
-        assert!(rt; !is_whole(&unknown), "type {kind}");
-    }
+    all_hold(&rt, &LENGTHS);
+    all_hold(&rt, &UNKNOWN);
     assert!(rt; !is_whole(&[]));
+}
+
+/// Asserts that the message of each number has that number.
+fn have_numbers(rt: &impl Abort) {
+    for number in 0..=255 {
+        assert!(rt;
+            u8::from(Icmpv6Message::from(number)) == number,
+            "type {number}"
+        );
+    }
 }
 
 #[test]
 fn messages_have_numbers(rt: HostRuntime) {
-    for number in 0..=255 {
-        assert!(rt; u8::from(Icmpv6Message::from(number)) == number);
-    }
+    have_numbers(&rt);
 }
 
 // RFC 4443, section 2.1; RFC 4861, section 4. A known number under the name of an unknown one is the same kind.
@@ -123,36 +175,59 @@ fn kinds_are_told_apart(rt: HostRuntime) {
         Icmpv6Message::Unknown(132).is_ndisc(),
         Icmpv6Message::Unknown(138).is_ndisc(),
     ];
-    assert!(rt; errors == [true, true, false]);
-    assert!(rt; neighbors == [true, true, true, false, false, false, false]);
+    all(
+        &rt,
+        &[
+            errors == [true, true, false],
+            neighbors == [true, true, true, false, false, false, false],
+        ],
+    );
+}
+
+/// The codes of the three reasons of this code.
+fn codes(code: u8) -> [u8; 3] {
+    [
+        u8::from(Icmpv6DstUnreachable::from(code)),
+        u8::from(Icmpv6TimeExceeded::from(code)),
+        u8::from(Icmpv6ParamProblem::from(code)),
+    ]
+}
+
+/// Asserts that each reason of each code has that code.
+fn have_codes(rt: &impl Abort) {
+    for code in 0..=255 {
+        assert!(rt; codes(code) == [code; 3], "code {code}");
+    }
 }
 
 #[test]
 fn reasons_are_codes(rt: HostRuntime) {
-    for code in 0..=255 {
-        assert!(rt; u8::from(Icmpv6DstUnreachable::from(code)) == code);
-        assert!(rt; u8::from(Icmpv6TimeExceeded::from(code)) == code);
-        assert!(rt; u8::from(Icmpv6ParamProblem::from(code)) == code);
-    }
-    assert!(rt; Icmpv6DstUnreachable::from(4) == Icmpv6DstUnreachable::PortUnreachable);
-    assert!(rt; Icmpv6DstUnreachable::from(7) == Icmpv6DstUnreachable::Unknown(7));
-    assert!(rt; Icmpv6TimeExceeded::from(1) == Icmpv6TimeExceeded::FragReassemExceeded);
-    assert!(rt; Icmpv6TimeExceeded::from(2) == Icmpv6TimeExceeded::Unknown(2));
-    assert!(rt; Icmpv6ParamProblem::from(1) == Icmpv6ParamProblem::UnrecognizedNxtHdr);
-    assert!(rt; Icmpv6ParamProblem::from(3) == Icmpv6ParamProblem::Unknown(3));
+    have_codes(&rt);
+    all(
+        &rt,
+        &[
+            Icmpv6DstUnreachable::from(4) == Icmpv6DstUnreachable::PortUnreachable,
+            Icmpv6DstUnreachable::from(7) == Icmpv6DstUnreachable::Unknown(7),
+            Icmpv6TimeExceeded::from(1) == Icmpv6TimeExceeded::FragReassemExceeded,
+            Icmpv6TimeExceeded::from(2) == Icmpv6TimeExceeded::Unknown(2),
+            Icmpv6ParamProblem::from(1) == Icmpv6ParamProblem::UnrecognizedNxtHdr,
+            Icmpv6ParamProblem::from(3) == Icmpv6ParamProblem::Unknown(3),
+        ],
+    );
 }
+
+const REPLIED: Icmpv6Header = Icmpv6Header::EchoReply {
+    ident: 0x1234,
+    seq_no: 0xabcd,
+};
 
 // A header is kept without what it carries.
 #[test]
 fn headers_are_kept(rt: HostRuntime) {
     let caps = ChecksumCapabilities::ignored();
-    let header = Icmpv6Header::EchoReply {
-        ident: 0x1234,
-        seq_no: 0xabcd,
-    };
     let packet = Icmpv6Packet::new_unchecked(&REPLY);
-    assert!(rt; Icmpv6Header::parse(&RIGHT, &LEFT, &packet, &caps) == Ok(header));
-    let repr = Icmpv6Repr::new(&header, &[0xaa, 0x00, 0x00]);
+    let read = Icmpv6Header::parse(&RIGHT, &LEFT, &packet, &caps);
+    let repr = Icmpv6Repr::new(&REPLIED, &[0xaa, 0x00, 0x00]);
     let mut bytes = [0xa5; 11];
     repr.emit(
         &RIGHT,
@@ -160,7 +235,15 @@ fn headers_are_kept(rt: HostRuntime) {
         &mut Icmpv6PacketMut::new_unchecked(&mut bytes),
         &ChecksumCapabilities::default(),
     );
-    assert!(rt; bytes == REPLY && repr.buffer_len() == 11 && repr.header() == header);
+    all(
+        &rt,
+        &[
+            read == Ok(REPLIED),
+            bytes == REPLY,
+            repr.buffer_len() == 11,
+            repr.header() == REPLIED,
+        ],
+    );
 }
 
 #[test]
@@ -177,13 +260,21 @@ fn laws_hold(_rt: HostRuntime) {
 // RFC 4443, sections 2.1, 3 and 4; RFC 4861, section 4.4.
 #[test]
 fn fields_are_in_their_places(rt: HostRuntime) {
-    assert!(rt; [field::TYPE, field::CODE, field::HEADER_END] == [0, 1, 8]);
-    assert!(rt; field::CHECKSUM == (2..4));
-    assert!(rt; field::UNUSED == (4..8));
-    assert!(rt; field::MTU == (4..8));
-    assert!(rt; field::POINTER == (4..8));
-    assert!(rt; field::ECHO_IDENT == (4..6));
-    assert!(rt; field::ECHO_SEQNO == (6..8));
-    assert!(rt; field::ND_FLAGS == 4);
-    assert!(rt; field::TARGET_ADDR == (8..24));
+    let places = [
+        field::CHECKSUM,
+        field::UNUSED,
+        field::MTU,
+        field::POINTER,
+        field::ECHO_IDENT,
+        field::ECHO_SEQNO,
+        field::TARGET_ADDR,
+    ];
+    let bytes = [field::TYPE, field::CODE, field::HEADER_END, field::ND_FLAGS];
+    all(
+        &rt,
+        &[
+            places == [2..4, 4..8, 4..8, 4..8, 4..6, 6..8, 8..24],
+            bytes == [0, 1, 8, 4],
+        ],
+    );
 }

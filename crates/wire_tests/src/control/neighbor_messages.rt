@@ -2,6 +2,7 @@
 ghost use Rattle.std.specs.Prelude.{◌≡◌};
 ghost use Rattle.control_wire.specs.Ndisc.{buffer_len, neighbor_message};
 
+use crate::cases::all;
 use control_wire::{Icmpv6PacketMut, NdiscNeighborFlags, NdiscRepr, icmpv6_laws};
 use ip_wire::{EthernetAddress, Ipv6Address, RawHardwareAddress};
 
@@ -41,8 +42,14 @@ fn an_announcement_is_written(rt: HostRuntime) {
     let mut bytes = [0xff; 24];
     let mut packet = Icmpv6PacketMut::new_unchecked(&mut bytes);
     announcement().emit(&mut packet);
-    assert!(rt; packet.checksum() == 0 && announcement().buffer_len() == 24);
-    assert!(rt; &packet.into_inner()[4..] == &ANNOUNCEMENT[4..]);
+    all(
+        &rt,
+        &[
+            packet.checksum() == 0,
+            announcement().buffer_len() == 24,
+            &packet.into_inner()[4..] == &ANNOUNCEMENT[4..],
+        ],
+    );
 }
 
 #[test]
@@ -64,42 +71,53 @@ fn message(kind: u8, code: u8, options: &[u8; 16]) -> [u8; 40] {
     bytes
 }
 
+fn all_flags() -> NdiscNeighborFlags {
+    NdiscNeighborFlags::ROUTER | NdiscNeighborFlags::SOLICITED | NdiscNeighborFlags::OVERRIDE
+}
+
 #[test]
 fn flags_are_bits(rt: HostRuntime) {
-    let all = NdiscNeighborFlags::ROUTER
-        | NdiscNeighborFlags::SOLICITED
-        | NdiscNeighborFlags::OVERRIDE;
-    assert!(rt; NdiscNeighborFlags::ROUTER.bits() == 0x80);
-    assert!(rt; NdiscNeighborFlags::SOLICITED.bits() == 0x40);
-    assert!(rt; NdiscNeighborFlags::OVERRIDE.bits() == 0x20);
-    assert!(rt; all.contains(NdiscNeighborFlags::SOLICITED));
-    assert!(rt; !NdiscNeighborFlags::OVERRIDE.contains(NdiscNeighborFlags::SOLICITED));
+    all(
+        &rt,
+        &[
+            NdiscNeighborFlags::ROUTER.bits() == 0x80,
+            NdiscNeighborFlags::SOLICITED.bits() == 0x40,
+            NdiscNeighborFlags::OVERRIDE.bits() == 0x20,
+            all_flags().contains(NdiscNeighborFlags::SOLICITED),
+            !NdiscNeighborFlags::OVERRIDE.contains(NdiscNeighborFlags::SOLICITED),
+        ],
+    );
 }
 
 #[test]
 fn other_bits_are_no_flags(rt: HostRuntime) {
     let none = NdiscNeighborFlags::empty();
-    let all = NdiscNeighborFlags::ROUTER
-        | NdiscNeighborFlags::SOLICITED
-        | NdiscNeighborFlags::OVERRIDE;
-    assert!(rt; NdiscNeighborFlags::from_bits_truncate(0x1f) == none);
-    assert!(rt; NdiscNeighborFlags::from_bits_truncate(0xff) == all);
+    all(
+        &rt,
+        &[
+            NdiscNeighborFlags::from_bits_truncate(0x1f) == none,
+            NdiscNeighborFlags::from_bits_truncate(0xff) == all_flags(),
+        ],
+    );
 }
 
 #[test]
 fn flags_are_read_and_written(rt: HostRuntime) {
-    let all = NdiscNeighborFlags::ROUTER
-        | NdiscNeighborFlags::SOLICITED
-        | NdiscNeighborFlags::OVERRIDE;
     let mut bytes = message(136, 0, &NO_OPTIONS);
     let mut packet = Icmpv6PacketMut::new_unchecked(&mut bytes);
-    assert!(rt; packet.neighbor_flags() == all);
+    let read = packet.neighbor_flags();
     packet.set_neighbor_flags(NdiscNeighborFlags::OVERRIDE);
     packet.set_target_addr(host(9));
-    assert!(rt; packet.neighbor_flags() == NdiscNeighborFlags::OVERRIDE);
-    assert!(rt; packet.target_addr() == host(9));
-    assert!(rt; &bytes[4..8] == [0x20, 0xff, 0xff, 0xff].as_slice());
-    assert!(rt; bytes[23] == 9);
+    all(
+        &rt,
+        &[
+            read == all_flags(),
+            packet.neighbor_flags() == NdiscNeighborFlags::OVERRIDE,
+            packet.target_addr() == host(9),
+            &bytes[4..8] == [0x20, 0xff, 0xff, 0xff].as_slice(),
+            bytes[23] == 9,
+        ],
+    );
 }
 
 // Through the conversion of Ethernet's addresses, as a host makes its own.

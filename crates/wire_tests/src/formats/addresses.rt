@@ -1,4 +1,5 @@
 //! Addresses compared, and told apart by their tests.
+use crate::cases::{Case, all, all_hold};
 use crate::formats::texts::ipv6;
 use ip_wire::address_laws::Comparison;
 use ip_wire::{
@@ -8,6 +9,7 @@ use ip_wire::{
     IpVersion, Ipv4Address, Ipv4Cidr, Ipv4FragKey, Ipv6Address, Ipv6Cidr, RawHardwareAddress,
     SeqNumber, address_laws,
 };
+use std::alloc::Global;
 
 const STATION: EthernetAddress = EthernetAddress([0xde, 0xad, 0xbe, 0xef, 0x00, 0x09]);
 
@@ -88,16 +90,22 @@ fn all_less(all: &[Comparison]) -> bool {
 
 #[test]
 fn compares_addresses(rt: HostRuntime) {
-    assert!(rt; all_less(&compared_hardware()));
-    assert!(rt; all_less(&compared_protocols()));
-    assert!(rt; all_less(&compared_addresses()));
-    assert!(rt; all_less(&compared_blocks()));
     let there = IpEndpoint {
         addr: FIRST,
         port: 10,
     };
     let (one, listening) = compared_endpoints(&there);
-    assert!(rt; is_less(&one) && is_less(&listening));
+    all(
+        &rt,
+        &[
+            all_less(&compared_hardware()),
+            all_less(&compared_protocols()),
+            all_less(&compared_addresses()),
+            all_less(&compared_blocks()),
+            is_less(&one),
+            is_less(&listening),
+        ],
+    );
 }
 
 /// Whether two hardware addresses of any kind are equal.
@@ -105,49 +113,74 @@ fn are_equal(left: &RawHardwareAddress, right: &RawHardwareAddress) -> bool {
     address_laws::compare_raw_hardware_addresses(left, right).equal
 }
 
+/// Whether they are equal, in order and by their hashes.
+fn is_equal(said: &Comparison) -> bool {
+    said.equal && said.order.is_eq() && said.hashes.0 == said.hashes.1
+}
+
 #[test]
 fn equal_values_have_equal_hashes(rt: HostRuntime) {
     let (said, _) = compared_endpoints(&HERE);
-    assert!(rt; said.equal && said.order.is_eq() && said.hashes.0 == said.hashes.1);
     // The bytes and not what stands behind them: a zero more is another address.
     let (two, three) = (
         RawHardwareAddress::from_bytes(&[1, 2]),
         RawHardwareAddress::from_bytes(&[1, 2, 0]),
     );
-    assert!(rt; !are_equal(&two, &three));
     let raw = RawHardwareAddress::from(STATION);
-    assert!(rt; are_equal(&raw, &RawHardwareAddress::from(STATION)));
     let next = SeqNumber(7) + 1;
     let (equal, first, second) = address_laws::compare_sequence_numbers(SeqNumber(8), next);
-    assert!(rt; equal && first == second);
+    all(
+        &rt,
+        &[
+            is_equal(&said),
+            !are_equal(&two, &three),
+            are_equal(&raw, &RawHardwareAddress::from(STATION)),
+            equal,
+            first == second,
+        ],
+    );
 }
 
-fn compared_keys(left: &Ipv4FragKey, right: &Ipv4FragKey) -> Comparison {
-    address_laws::compare_fragment_keys(left, right)
+const KEY: Ipv4FragKey = Ipv4FragKey {
+    id: 7,
+    src_addr: Ipv4Address([10, 0, 0, 1]),
+    dst_addr: Ipv4Address([10, 0, 0, 2]),
+    protocol: IpProtocol::Udp,
+};
+
+/// A key that isn't the one above, and comes behind it.
+struct Behind(Ipv4FragKey);
+
+impl Case for Behind {
+    fn holds(&self, _alloc: Global) -> bool {
+        is_less(&address_laws::compare_fragment_keys(&KEY, &self.0))
+    }
 }
+
+const BEHIND: [Behind; 4] = [
+    Behind(Ipv4FragKey { id: 8, ..KEY }),
+    Behind(Ipv4FragKey {
+        src_addr: Ipv4Address([10, 0, 0, 3]),
+        ..KEY
+    }),
+    Behind(Ipv4FragKey {
+        dst_addr: Ipv4Address([10, 0, 0, 3]),
+        ..KEY
+    }),
+    Behind(Ipv4FragKey {
+        protocol: IpProtocol::Icmpv6,
+        ..KEY
+    }),
+];
 
 // RFC 791, section 3.2: pieces of one packet have the same of all four.
 #[test]
 fn tells_cut_packets_apart(rt: HostRuntime) {
-    let key = Ipv4FragKey {
-        id: 7,
-        src_addr: Ipv4Address([10, 0, 0, 1]),
-        dst_addr: Ipv4Address([10, 0, 0, 2]),
-        protocol: IpProtocol::Udp,
-    };
-    let (mut id, mut source, mut destination, mut protocol) = (key, key, key, key);
-    id.id = 8;
-    source.src_addr = Ipv4Address([10, 0, 0, 3]);
-    destination.dst_addr = Ipv4Address([10, 0, 0, 3]);
-    protocol.protocol = IpProtocol::Icmpv6;
-    for other in [id, source, destination, protocol] {
-        assert!(rt; is_less(&compared_keys(&key, &other)), "{other:?}");
-    }
-    let said = compared_keys(&key, &key);
-    assert!(rt; said.equal && said.hashes.0 == said.hashes.1);
+    all_hold(&rt, &BEHIND);
+    let said = address_laws::compare_fragment_keys(&KEY, &KEY);
+    all(&rt, &[said.equal, said.hashes.0 == said.hashes.1]);
 }
 
-#[derive(Drop)]
 enum Kind {
     Loopback,
     Unspecified,
@@ -164,77 +197,124 @@ fn is_of(address: &Ipv6Address, kind: &Kind) -> bool {
     }
 }
 
-/// Whether the address is of a link, and its scope.
-fn reach(address: &Ipv6Address) -> (bool, u8) {
-    (address.is_link_local(), address.x_multicast_scope())
+/// An address, whether it is of the kind, and the kind.
+struct IsOf(Ipv6Address, bool, Kind);
+
+impl Case for IsOf {
+    fn holds(&self, _alloc: Global) -> bool {
+        is_of(&self.0, &self.2) == self.1
+    }
 }
+
+const KINDS: [IsOf; 8] = [
+    IsOf(Ipv6Address::LOCALHOST, true, Kind::Loopback),
+    IsOf(LOCAL, false, Kind::Loopback),
+    IsOf(Ipv6Address::UNSPECIFIED, true, Kind::Unspecified),
+    IsOf(LOCAL, false, Kind::Unspecified),
+    IsOf(IPV6_LINK_LOCAL_ALL_ROUTERS, true, Kind::Multicast),
+    IsOf(LOCAL, false, Kind::Multicast),
+    IsOf(LOCAL, true, Kind::Unicast),
+    IsOf(IPV6_LINK_LOCAL_ALL_MLDV2_ROUTERS, false, Kind::Unicast),
+];
+
+/// An address, whether it is of a link, and its scope.
+struct Reach(Ipv6Address, bool, u8);
+
+impl Case for Reach {
+    fn holds(&self, _alloc: Global) -> bool {
+        (self.0.is_link_local(), self.0.x_multicast_scope()) == (self.1, self.2)
+    }
+}
+
+const REACHES: [Reach; 6] = [
+    Reach(LOCAL, true, 2),
+    Reach(SITE, false, 14),
+    Reach(GLOBAL, false, 14),
+    Reach(Ipv6Address::LOCALHOST, false, 14),
+    Reach(IPV6_LINK_LOCAL_ALL_ROUTERS, false, 2),
+    Reach(WIDE_GROUP, false, 14),
+];
+
+/// fe80::1, fec0::1, 4037::1:800:200e:8c6c and ff3e::1.
+const LOCAL: Ipv6Address = Ipv6Address([0xfe, 0x80, 0, 0, 0, 0, 0, 0, 0, 0, 0, 0, 0, 0, 0, 1]);
+
+const SITE: Ipv6Address = Ipv6Address([0xfe, 0xc0, 0, 0, 0, 0, 0, 0, 0, 0, 0, 0, 0, 0, 0, 1]);
+
+const GLOBAL: Ipv6Address = Ipv6Address([
+    0x40, 0x37, 0, 0, 0, 0, 0, 0, 0, 1, 0x08, 0x00, 0x20, 0x0e, 0x8c, 0x6c,
+]);
+
+const WIDE_GROUP: Ipv6Address = Ipv6Address([0xff, 0x3e, 0, 0, 0, 0, 0, 0, 0, 0, 0, 0, 0, 0, 0, 1]);
 
 #[test]
 fn tells_ipv6_addresses_apart(rt: HostRuntime) {
-    let local = Ipv6Address::new(0xfe80, 0, 0, 0, 0, 0, 0, 1);
-    let site = Ipv6Address::new(0xfec0, 0, 0, 0, 0, 0, 0, 1);
-    let global = Ipv6Address::new(0x4037, 0, 0, 0, 1, 0x800, 0x200e, 0x8c6c);
-    for (address, link_local, scope) in [
-        (local, true, 2),
-        (site, false, 14),
-        (global, false, 14),
-        (Ipv6Address::LOCALHOST, false, 14),
-        (IPV6_LINK_LOCAL_ALL_ROUTERS, false, 2),
-        (Ipv6Address::new(0xff3e, 0, 0, 0, 0, 0, 0, 1), false, 14),
-    ] {
-        assert!(rt; reach(&address) == (link_local, scope), "{address}");
-    }
-    for (address, kind, is_so) in &[
-        (Ipv6Address::LOCALHOST, Kind::Loopback, true),
-        (local, Kind::Loopback, false),
-        (Ipv6Address::UNSPECIFIED, Kind::Unspecified, true),
-        (local, Kind::Unspecified, false),
-        (IPV6_LINK_LOCAL_ALL_ROUTERS, Kind::Multicast, true),
-        (local, Kind::Multicast, false),
-        (local, Kind::Unicast, true),
-        (IPV6_LINK_LOCAL_ALL_MLDV2_ROUTERS, Kind::Unicast, false),
-    ] {
-        assert!(rt; is_of(address, kind) == *is_so, "{address}");
-    }
-    assert!(rt; local.octets()[1] == 0x80);
+    all_hold(&rt, &REACHES);
+    all_hold(&rt, &KINDS);
 }
 
 #[test]
-fn tells_ipv4_addresses_apart(rt: HostRuntime) {
-    let host = Ipv4Address::new(192, 168, 1, 1);
-    for (address, unicast, multicast, broadcast, unspecified, loopback) in [
-        (host, true, false, false, false, false),
-        (
-            Ipv4Address([127, 255, 0, 1]),
-            true,
-            false,
-            false,
-            false,
-            true,
-        ),
-        (
-            Ipv4Address([240, 0, 0, 1]),
-            true,
-            false,
-            false,
-            false,
-            false,
-        ),
-        (IPV4_MULTICAST_ALL_SYSTEMS, false, true, false, false, false),
-        (IPV4_MULTICAST_ALL_ROUTERS, false, true, false, false, false),
-        (Ipv4Address::BROADCAST, false, false, true, false, false),
-        (Ipv4Address::UNSPECIFIED, false, false, false, true, false),
-    ] {
-        let own = (unicast, loopback);
-        assert!(rt;
-            (address.x_is_unicast(), address.is_loopback()) == own,
-            "{address}"
-        );
-        let as_either = (unicast, multicast, broadcast, unspecified, true);
-        assert!(rt; kinds(&IpAddress::from(address)) == as_either, "{address}");
+fn makes_ipv6_addresses(rt: HostRuntime) {
+    let local = Ipv6Address::new(0xfe80, 0, 0, 0, 0, 0, 0, 1);
+    all(
+        &rt,
+        &[
+            local == LOCAL,
+            local.octets()[1] == 0x80,
+            Ipv6Address::new(0xfec0, 0, 0, 0, 0, 0, 0, 1) == SITE,
+            Ipv6Address::new(0xff3e, 0, 0, 0, 0, 0, 0, 1) == WIDE_GROUP,
+        ],
+    );
+}
+
+/// An address, and whether it is one host's, a group's, all hosts', none, and this host's own.
+struct Ipv4Kinds(Ipv4Address, bool, bool, bool, bool, bool);
+
+impl Case for Ipv4Kinds {
+    fn holds(&self, _alloc: Global) -> bool {
+        let own = (self.0.x_is_unicast(), self.0.is_loopback());
+        let as_either = (self.1, self.2, self.3, self.4, true);
+        own == (self.1, self.5) && kinds(&IpAddress::from(self.0)) == as_either
     }
-    assert!(rt; !kinds(&IpAddress::Ipv6(IPV6_LINK_LOCAL_ALL_NODES)).2);
-    assert!(rt; host.octets() == [192, 168, 1, 1]);
+}
+
+const HOST: Ipv4Address = Ipv4Address([192, 168, 1, 1]);
+
+const IPV4_KINDS: [Ipv4Kinds; 7] = [
+    Ipv4Kinds(HOST, true, false, false, false, false),
+    Ipv4Kinds(
+        Ipv4Address([127, 255, 0, 1]),
+        true,
+        false,
+        false,
+        false,
+        true,
+    ),
+    Ipv4Kinds(
+        Ipv4Address([240, 0, 0, 1]),
+        true,
+        false,
+        false,
+        false,
+        false,
+    ),
+    Ipv4Kinds(IPV4_MULTICAST_ALL_SYSTEMS, false, true, false, false, false),
+    Ipv4Kinds(IPV4_MULTICAST_ALL_ROUTERS, false, true, false, false, false),
+    Ipv4Kinds(Ipv4Address::BROADCAST, false, false, true, false, false),
+    Ipv4Kinds(Ipv4Address::UNSPECIFIED, false, false, false, true, false),
+];
+
+#[test]
+fn tells_ipv4_addresses_apart(rt: HostRuntime) {
+    all_hold(&rt, &IPV4_KINDS);
+    let host = Ipv4Address::new(192, 168, 1, 1);
+    all(
+        &rt,
+        &[
+            !kinds(&IpAddress::Ipv6(IPV6_LINK_LOCAL_ALL_NODES)).2,
+            host.octets() == [192, 168, 1, 1],
+            host == HOST,
+        ],
+    );
 }
 
 /// Whether the address is one host's, a group's, all hosts', none, and of IPv4.
@@ -252,26 +332,42 @@ fn kinds(address: &IpAddress) -> (bool, bool, bool, bool, bool) {
 #[test]
 fn gives_solicited_node_addresses(rt: HostRuntime) {
     let address = Ipv6Address::new(0x4037, 0, 0, 0, 1, 0x800, 0x200e, 0x8c6c);
-    assert!(rt; address.x_is_unicast() && !address.is_solicited_node_multicast());
     let solicited = address.solicited_node();
-    assert!(rt; ipv6("ff02::1:ff0e:8c6c") == Some(solicited));
-    assert!(rt; solicited.is_solicited_node_multicast());
-    assert!(rt; Ipv6Cidr::SOLICITED_NODE_PREFIX.contains_addr(&solicited));
+    all(
+        &rt,
+        &[
+            address == GLOBAL,
+            address.x_is_unicast(),
+            !address.is_solicited_node_multicast(),
+            ipv6("ff02::1:ff0e:8c6c") == Some(solicited),
+            solicited.is_solicited_node_multicast(),
+            Ipv6Cidr::SOLICITED_NODE_PREFIX.contains_addr(&solicited),
+        ],
+    );
 }
+
+/// Two addresses, and how many first bits they have in common.
+struct Common(&'static str, &'static str, u8);
+
+impl Case for Common {
+    fn holds(&self, _alloc: Global) -> bool {
+        common_bits(self.0, self.1) == Some(self.2)
+    }
+}
+
+const COMMON: [Common; 6] = [
+    Common("2001:db8::1", "2001:db8::1", 128),
+    Common("2001:db8::1", "2001:db8::2", 126),
+    Common("2001:db8:1::1", "2001:db8:2::1", 46),
+    Common("fe80::1", "2001::1", 0),
+    Common("::", "8000::", 0),
+    Common("2001:db8::", "2001:db9::", 31),
+];
 
 // RFC 6724, section 2.2: the length of the longest prefix that two addresses have in common.
 #[test]
 fn counts_common_first_bits(rt: HostRuntime) {
-    for (one, other, bits) in [
-        ("2001:db8::1", "2001:db8::1", 128),
-        ("2001:db8::1", "2001:db8::2", 126),
-        ("2001:db8:1::1", "2001:db8:2::1", 46),
-        ("fe80::1", "2001::1", 0),
-        ("::", "8000::", 0),
-        ("2001:db8::", "2001:db9::", 31),
-    ] {
-        assert!(rt; common_bits(one, other) == Some(bits), "{one} and {other}");
-    }
+    all_hold(&rt, &COMMON);
 }
 
 fn common_bits(one: &str, other: &str) -> Option<u8> {

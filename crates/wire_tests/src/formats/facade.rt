@@ -1,5 +1,6 @@
 //! The field modules and header lengths under the names by which `ip_wire` passes them on. Their numbers stand in laws, which `laws.rt`
 //! calls; what depends on lengths is a call.
+use crate::cases::all;
 use ip_wire::laws::{fields_are_passed_on, header_lengths};
 use ip_wire::{MAX_WINDOW_SCALE, arp_field, tcp_field, udp_field};
 
@@ -13,7 +14,13 @@ fn fields_stand_where_the_standards_say(rt: HostRuntime) {
         arp_field::THA(6, 4),
         arp_field::TPA(6, 4),
     ];
-    assert!(rt; addresses == [8..14, 14..18, 18..24, 24..28]);
     let rests = [udp_field::PAYLOAD(12), tcp_field::OPTIONS(28)];
-    assert!(rt; rests == [8..12, 20..28] && MAX_WINDOW_SCALE == 14);
+    all(
+        &rt,
+        &[
+            addresses == [8..14, 14..18, 18..24, 24..28],
+            rests == [8..12, 20..28],
+            MAX_WINDOW_SCALE == 14,
+        ],
+    );
 }

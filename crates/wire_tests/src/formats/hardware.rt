@@ -1,7 +1,8 @@
 //! Hardware addresses, their texts and their kinds.
+use crate::cases::{Case, all, all_hold, prints};
 use ip_wire::{Error, EthernetAddress, HardwareAddress, RawHardwareAddress};
 use net_base::Medium;
-use std::test::Fail;
+use std::alloc::Global;
 
 const STATION: EthernetAddress = EthernetAddress([0xde, 0xad, 0xbe, 0xef, 0x00, 0x09]);
 
@@ -15,58 +16,76 @@ fn raw_addresses() -> (RawHardwareAddress, RawHardwareAddress, RawHardwareAddres
 }
 
 #[test]
-fn prints_hardware_addresses(rt: HostRuntime) -> Result<(), Fail> {
-    let shown = format!(in rt.alloc();
-        "{STATION} {} {}",
-        HardwareAddress::Ethernet(STATION),
-        HardwareAddress::Ip
-    )?;
-    assert!(rt; shown.as_str() == "de-ad-be-ef-00-09 de-ad-be-ef-00-09 no hardware addr");
+fn prints_hardware_addresses(rt: HostRuntime) {
+    let alloc = rt.alloc();
     let (raw, few, none) = raw_addresses();
-    let shown = format!(in rt.alloc(); "{raw} {few} {none}")?;
-    assert!(rt; shown.as_str() == "de:ad:be:ef:00:09 0a:ff ");
-    Ok(())
+    let station = HardwareAddress::Ethernet(STATION);
+    all(
+        &rt,
+        &[
+            prints(alloc, &STATION, "de-ad-be-ef-00-09"),
+            prints(alloc, &station, "de-ad-be-ef-00-09"),
+            prints(alloc, &HardwareAddress::Ip, "no hardware addr"),
+            prints(alloc, &raw, "de:ad:be:ef:00:09"),
+            prints(alloc, &few, "0a:ff"),
+            prints(alloc, &none, ""),
+        ],
+    );
+}
+
+/// Whether the address is read so by either medium.
+fn reads(raw: &RawHardwareAddress, ethernet: Result<HardwareAddress, Error>) -> bool {
+    raw.parse(Medium::Ethernet) == ethernet && raw.parse(Medium::Ip) == Err(Error)
 }
 
 #[test]
 fn reads_raw_addresses_by_medium(rt: HostRuntime) {
     let (raw, few, none) = raw_addresses();
-    for (raw, medium, address) in [
-        (
-            raw,
-            Medium::Ethernet,
-            Ok(HardwareAddress::Ethernet(STATION)),
-        ),
-        (raw, Medium::Ip, Err(Error)),
-        (few, Medium::Ethernet, Err(Error)),
-        (few, Medium::Ip, Err(Error)),
-        (none, Medium::Ethernet, Err(Error)),
-        (none, Medium::Ip, Err(Error)),
-    ] {
-        assert!(rt; raw.parse(medium) == address, "{raw} on {medium:?}");
-    }
-    assert!(rt; none.is_empty() && few.len() == 2 && few.as_bytes() == [0x0a, 0xff].as_slice());
+    all(
+        &rt,
+        &[
+            reads(&raw, Ok(HardwareAddress::Ethernet(STATION))),
+            reads(&few, Err(Error)),
+            reads(&none, Err(Error)),
+            none.is_empty(),
+            few.len() == 2,
+            few.as_bytes() == [0x0a, 0xff].as_slice(),
+        ],
+    );
 }
+
+/// An address, and whether it is one station's, a group's, all stations'.
+struct AddressKinds(EthernetAddress, bool, bool, bool);
+
+impl Case for AddressKinds {
+    fn holds(&self, _alloc: Global) -> bool {
+        let either = HardwareAddress::from(self.0);
+        kinds(&self.0) == (self.1, self.2, self.3)
+            && either_kinds(&either) == (self.1, self.3, self.0.as_bytes())
+    }
+}
+
+const GROUP: EthernetAddress = EthernetAddress([1, 0, 0x5e, 0, 0, 1]);
+
+const STATIONS: [AddressKinds; 3] = [
+    AddressKinds(STATION, true, false, false),
+    AddressKinds(GROUP, false, true, false),
+    AddressKinds(EthernetAddress::BROADCAST, false, true, true),
+];
 
 #[test]
 fn tells_hardware_addresses_apart(rt: HostRuntime) {
-    let group = EthernetAddress::from_bytes(&[1, 0, 0x5e, 0, 0, 1]);
-    for (address, unicast, multicast, broadcast) in [
-        (STATION, true, false, false),
-        (group, false, true, false),
-        (EthernetAddress::BROADCAST, false, true, true),
-    ] {
-        assert!(rt;
-            kinds(&address) == (unicast, multicast, broadcast),
-            "{address}"
-        );
-        let either = HardwareAddress::from(address);
-        let wanted = (unicast, broadcast, address.as_bytes());
-        assert!(rt; either_kinds(&either) == wanted, "{address}");
-    }
-    assert!(rt; is_local(&STATION) && !is_local(&group));
+    all_hold(&rt, &STATIONS);
     let none: &[u8] = &[];
-    assert!(rt; either_kinds(&HardwareAddress::Ip) == (false, false, none));
+    all(
+        &rt,
+        &[
+            is_local(&STATION),
+            !is_local(&GROUP),
+            EthernetAddress::from_bytes(&GROUP.0) == GROUP,
+            either_kinds(&HardwareAddress::Ip) == (false, false, none),
+        ],
+    );
 }
 
 /// Whether the address is one station's, a group's, all stations'.

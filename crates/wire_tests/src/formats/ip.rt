@@ -1,4 +1,5 @@
 //! Headers of either family as values.
+use crate::cases::all;
 use crate::formats::ipv6;
 use crate::formats::samples::{HEADER, LEFT, RIGHT, SAID, behind, checksums, first, is_same};
 use ip_wire::{IPV6_LINK_LOCAL_ALL_NODES, IpAddress, IpProtocol, IpRepr, IpVersion};
@@ -20,19 +21,29 @@ fn parts(header: &IpRepr) -> Parts {
 #[test]
 fn ipv4_header_has_parts(rt: HostRuntime) {
     let mut header = IpRepr::new(LEFT, RIGHT, IpProtocol::Udp, 12, 64);
-    assert!(rt; header.buffer_len() == 32);
-    let wanted = (IpVersion::Ipv4, LEFT, RIGHT, IpProtocol::Udp, 64, 20);
-    assert!(rt; parts(&header) == wanted);
+    let (length, parts) = (header.buffer_len(), parts(&header));
     header.set_payload_len(95);
-    assert!(rt; header.payload_len() == 95);
+    all(
+        &rt,
+        &[
+            length == 32,
+            parts == (IpVersion::Ipv4, LEFT, RIGHT, IpProtocol::Udp, 64, 20),
+            header.payload_len() == 95,
+        ],
+    );
 }
 
 #[test]
 fn ipv4_header_is_written(rt: HostRuntime) {
     let mut bytes = [0xa5; 24];
     IpRepr::from(SAID).emit(&mut bytes, &checksums(true));
-    assert!(rt; is_same(first(&bytes, 20), &HEADER));
-    assert!(rt; is_same(behind(&bytes, 20), &[0xa5; 4]));
+    all(
+        &rt,
+        &[
+            is_same(first(&bytes, 20), &HEADER),
+            is_same(behind(&bytes, 20), &[0xa5; 4]),
+        ],
+    );
 }
 
 #[test]

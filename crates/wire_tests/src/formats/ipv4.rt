@@ -4,6 +4,7 @@ ghost use Rattle.ip_wire.specs.IpAddress.TheVariants as Address;
 ghost use Rattle.ip_wire.specs.Ipv4 as Ipv4;
 ghost use Rattle.ip_wire.specs.Udp as Udp;
 
+use crate::cases::all;
 use crate::formats::samples::{DATAGRAM, WITH_OPTION, behind, first, is_same, starts_with};
 use ip_wire::{
     IpAddress, IpProtocol, Ipv4Address, Ipv4FragKey, Ipv4Packet, Ipv4PacketMut, Ipv4Repr,
@@ -30,7 +31,6 @@ const NAMED: Named = (
 const EIGHT: [u8; 8] = [1, 2, 3, 4, 5, 6, 7, 8];
 
 /// A field to be set.
-#[derive(Drop)]
 enum Field {
     NoFlags,
     Version(u8),
@@ -74,33 +74,41 @@ fn set(bytes: &mut [u8], field: &Field) {
     }
 }
 
+const FIELDS: [Field; 15] = [
+    Field::NoFlags,
+    Field::Version(4),
+    Field::HeaderLen(24),
+    Field::Dscp(48),
+    Field::Ecn(1),
+    Field::TotalLen(32),
+    Field::Ident(0x1234),
+    Field::DontFrag(true),
+    Field::MoreFrags(true),
+    Field::FragOffset(0x828),
+    Field::HopLimit(1),
+    Field::NextHeader(IpProtocol::Igmp),
+    Field::Checksum(0x0102),
+    Field::SrcAddr(Ipv4Address([10, 0, 0, 1])),
+    Field::DstAddr(Ipv4Address([224, 0, 0, 22])),
+];
+
+/// Sets these fields.
+fn set_all(bytes: &mut [u8], fields: &[Field]) {
+    for field in fields {
+        set(bytes, field);
+    }
+}
+
+const FRONT: [u8; 20] = [
+    0x46, 0xc1, 0x00, 0x20, 0x12, 0x34, 0x61, 0x05, 0x01, 0x02, 0x01, 0x02, 0x0a, 0x00, 0x00, 0x01,
+    0xe0, 0x00, 0x00, 0x16,
+];
+
 #[test]
 fn ipv4_is_set(rt: HostRuntime) {
     let mut bytes = [0xff; 32];
-    for field in &[
-        Field::NoFlags,
-        Field::Version(4),
-        Field::HeaderLen(24),
-        Field::Dscp(48),
-        Field::Ecn(1),
-        Field::TotalLen(32),
-        Field::Ident(0x1234),
-        Field::DontFrag(true),
-        Field::MoreFrags(true),
-        Field::FragOffset(0x828),
-        Field::HopLimit(1),
-        Field::NextHeader(IpProtocol::Igmp),
-        Field::Checksum(0x0102),
-        Field::SrcAddr(Ipv4Address([10, 0, 0, 1])),
-        Field::DstAddr(Ipv4Address([224, 0, 0, 22])),
-    ] {
-        set(&mut bytes, field);
-    }
-    let front = [
-        0x46, 0xc1, 0x00, 0x20, 0x12, 0x34, 0x61, 0x05, 0x01, 0x02, 0x01, 0x02, 0x0a, 0x00, 0x00,
-        0x01, 0xe0, 0x00, 0x00, 0x16,
-    ];
-    assert!(rt; starts_with(&bytes, &front));
+    set_all(&mut bytes, &FIELDS);
+    assert!(rt; starts_with(&bytes, &FRONT));
 }
 
 fn numbers_in_place(bytes: &mut [u8]) -> Option<Numbers> {
@@ -139,10 +147,14 @@ fn carried_in_place(bytes: &mut [u8], payload: &[u8]) -> Option<(bool, u16, IpPr
 #[test]
 fn ipv4_is_read_where_it_is_written(rt: HostRuntime) {
     let mut bytes = WITH_OPTION;
-    assert!(rt; numbers_in_place(&mut bytes) == Some(NUMBERS));
-    assert!(rt; named_in_place(&mut bytes) == Some(NAMED));
-    let whole = Some((true, 0, IpProtocol::Igmp, 34));
-    assert!(rt; carried_in_place(&mut bytes, &EIGHT) == whole);
+    all(
+        &rt,
+        &[
+            numbers_in_place(&mut bytes) == Some(NUMBERS),
+            named_in_place(&mut bytes) == Some(NAMED),
+            carried_in_place(&mut bytes, &EIGHT) == Some((true, 0, IpProtocol::Igmp, 34)),
+        ],
+    );
 }
 
 /// Fills the payload, and says whether there is a packet.
@@ -159,9 +171,14 @@ fn is_filled(bytes: &mut [u8], byte: u8) -> bool {
 #[test]
 fn ipv4_payload_alone_is_lent(rt: HostRuntime) {
     let mut bytes = WITH_OPTION;
-    assert!(rt; is_filled(&mut bytes, 7));
-    assert!(rt; starts_with(&bytes, first(&WITH_OPTION, 24)));
-    assert!(rt; is_same(behind(&bytes, 24), &[7, 7, 7, 7, 7, 7, 7, 7, 0, 0]));
+    all(
+        &rt,
+        &[
+            is_filled(&mut bytes, 7),
+            starts_with(&bytes, first(&WITH_OPTION, 24)),
+            is_same(behind(&bytes, 24), &[7, 7, 7, 7, 7, 7, 7, 7, 0, 0]),
+        ],
+    );
 }
 
 /// Writes a datagram behind an Ethernet header, each part in its place.
@@ -194,23 +211,25 @@ fn emit_datagram(frame: &mut [u8], ip: &Ipv4Repr, udp: &UdpRepr, payload: &[u8])
     );
 }
 
+const IP: Ipv4Repr = Ipv4Repr {
+    src_addr: Ipv4Address([192, 168, 1, 1]),
+    dst_addr: Ipv4Address([192, 168, 1, 2]),
+    next_header: IpProtocol::Udp,
+    payload_len: 12,
+    hop_limit: 64,
+    ident: 0xc24d,
+    dont_frag: false,
+};
+
+const UDP: UdpRepr = UdpRepr {
+    src_port: 48896,
+    dst_port: 53,
+};
+
 #[test]
 fn frame_is_written_in_place(rt: HostRuntime) {
     let mut frame = [0xa5; 46];
-    let ip = Ipv4Repr {
-        src_addr: Ipv4Address([192, 168, 1, 1]),
-        dst_addr: Ipv4Address([192, 168, 1, 2]),
-        next_header: IpProtocol::Udp,
-        payload_len: 12,
-        hop_limit: 64,
-        ident: 0xc24d,
-        dont_frag: false,
-    };
-    let udp = UdpRepr {
-        src_port: 48896,
-        dst_port: 53,
-    };
-    emit_datagram(&mut frame, &ip, &udp, &[0xaa, 0x00, 0x00, 0xff]);
+    emit_datagram(&mut frame, &IP, &UDP, &[0xaa, 0x00, 0x00, 0xff]);
     assert!(rt; is_same(behind(&frame, 34), &DATAGRAM));
 }
 

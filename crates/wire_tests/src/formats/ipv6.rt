@@ -1,4 +1,5 @@
 //! IPv6 packets, where they are written. `decode` reads and writes them as data.
+use crate::cases::all;
 use crate::formats::samples::{OVER_V6, ends_with, first, starts_with};
 use ip_wire::{IPV6_LINK_LOCAL_ALL_NODES, IpProtocol, Ipv6Address, Ipv6PacketMut};
 
@@ -24,7 +25,11 @@ fn numbers_in_place(bytes: &mut [u8]) -> Option<Numbers> {
 }
 
 /// Whether it is whole, its protocol and addresses, and how long its payload is.
-fn named_in_place(bytes: &mut [u8]) -> Option<(bool, IpProtocol, Ipv6Address, Ipv6Address, usize)> {
+type Named = (bool, IpProtocol, Ipv6Address, Ipv6Address, usize);
+
+const NAMED: Named = (true, IpProtocol::Udp, LOCAL, IPV6_LINK_LOCAL_ALL_NODES, 4);
+
+fn named_in_place(bytes: &mut [u8]) -> Option<Named> {
     let packet = Ipv6PacketMut::new_checked(bytes).ok()?;
     Some((
         packet.check_len().is_ok(),
@@ -36,7 +41,6 @@ fn named_in_place(bytes: &mut [u8]) -> Option<(bool, IpProtocol, Ipv6Address, Ip
 }
 
 /// A field to be set.
-#[derive(Drop)]
 enum Field {
     Version(u8),
     TrafficClass(u8),
@@ -66,25 +70,36 @@ fn set(bytes: &mut [u8], field: &Field) {
     }
 }
 
+const FIELDS: [Field; 8] = [
+    Field::Version(6),
+    Field::TrafficClass(0xfe),
+    Field::FlowLabel(0x12345),
+    Field::PayloadLen(4),
+    Field::NextHeader(IpProtocol::Udp),
+    Field::HopLimit(64),
+    Field::SrcAddr(LOCAL),
+    Field::DstAddr(IPV6_LINK_LOCAL_ALL_NODES),
+];
+
+/// Sets these fields.
+fn set_all(bytes: &mut [u8], fields: &[Field]) {
+    for field in fields {
+        set(bytes, field);
+    }
+}
+
 #[test]
 fn ipv6_is_set(rt: HostRuntime) {
     let mut bytes = [0xff; 46];
-    for field in &[
-        Field::Version(6),
-        Field::TrafficClass(0xfe),
-        Field::FlowLabel(0x12345),
-        Field::PayloadLen(4),
-        Field::NextHeader(IpProtocol::Udp),
-        Field::HopLimit(64),
-        Field::SrcAddr(LOCAL),
-        Field::DstAddr(IPV6_LINK_LOCAL_ALL_NODES),
-    ] {
-        set(&mut bytes, field);
-    }
-    assert!(rt; starts_with(&bytes, first(&OVER_V6, 40)));
-    assert!(rt; numbers_in_place(&mut bytes) == Some(NUMBERS));
-    let named_so = (true, IpProtocol::Udp, LOCAL, IPV6_LINK_LOCAL_ALL_NODES, 4);
-    assert!(rt; named_in_place(&mut bytes) == Some(named_so));
+    set_all(&mut bytes, &FIELDS);
+    all(
+        &rt,
+        &[
+            starts_with(&bytes, first(&OVER_V6, 40)),
+            numbers_in_place(&mut bytes) == Some(NUMBERS),
+            named_in_place(&mut bytes) == Some(NAMED),
+        ],
+    );
 }
 
 /// Fills the payload, and tells the header's length.
@@ -98,7 +113,12 @@ fn filled(bytes: &mut [u8], byte: u8) -> Option<usize> {
 #[test]
 fn ipv6_payload_alone_is_lent(rt: HostRuntime) {
     let mut bytes = OVER_V6;
-    assert!(rt; filled(&mut bytes, 7) == Some(40));
-    assert!(rt; starts_with(&bytes, first(&OVER_V6, 40)));
-    assert!(rt; ends_with(&bytes, &[7, 7, 7, 7, 0, 0]));
+    all(
+        &rt,
+        &[
+            filled(&mut bytes, 7) == Some(40),
+            starts_with(&bytes, first(&OVER_V6, 40)),
+            ends_with(&bytes, &[7, 7, 7, 7, 0, 0]),
+        ],
+    );
 }

@@ -1,4 +1,5 @@
 //! The fragment header of IPv6, where it is written. `decode` reads and writes it as data.
+use crate::cases::all;
 use ip_wire::Ipv6FragmentHeaderMut;
 
 #[test]
@@ -8,14 +9,16 @@ fn fragment_header_is_set(rt: HostRuntime) {
     header.set_frag_offset(0xffff);
     header.set_more_frags(false);
     header.set_ident(1);
-    let set = (
-        header.check_len().is_ok(),
-        header.frag_offset(),
-        header.more_frags(),
-        header.ident(),
+    all(
+        &rt,
+        &[
+            header.check_len().is_ok(),
+            header.frag_offset() == 0x1fff,
+            !header.more_frags(),
+            header.ident() == 1,
+            &header.into_inner()[..2] == [0xff, 0xf8].as_slice(),
+        ],
     );
-    assert!(rt; set == (true, 0x1fff, false, 1));
-    assert!(rt; &header.into_inner()[..2] == [0xff, 0xf8].as_slice());
 }
 
 #[test]

@@ -1,9 +1,11 @@
 //! Ethernet frames and ARP packets, where they are written. `decode` reads and writes them as data.
+use crate::cases::{Case, all, all_hold};
 use crate::formats::samples::{behind, ends_with, first, is_same, starts_with};
 use ip_wire::{
     ArpHardware, ArpOperation, ArpPacketMut, ArpRepr, EthernetAddress, EthernetFrame,
     EthernetFrameMut, EthernetProtocol, EthernetRepr, Ipv4Address, arp_laws,
 };
+use std::alloc::Global;
 
 /// A request from 192.168.1.1 at 02-00-00-00-00-01 for the hardware address of 192.168.1.2, in a
 /// frame to all stations with padding up to 60 bytes.
@@ -35,17 +37,16 @@ fn request(operation: ArpOperation) -> ArpRepr {
 
 #[test]
 fn frames_have_lengths(rt: HostRuntime) {
-    let headers = [
-        EthernetFrame::header_len(),
-        EthernetFrameMut::header_len(),
-        HEADER.buffer_len(),
-    ];
-    assert!(rt; headers == [14; 3]);
-    let frames = [
-        EthernetFrame::buffer_len(46),
-        EthernetFrameMut::buffer_len(46),
-    ];
-    assert!(rt; frames == [60; 2]);
+    all(
+        &rt,
+        &[
+            EthernetFrame::header_len() == 14,
+            EthernetFrameMut::header_len() == 14,
+            HEADER.buffer_len() == 14,
+            EthernetFrame::buffer_len(46) == 60,
+            EthernetFrameMut::buffer_len(46) == 60,
+        ],
+    );
 }
 
 /// Whether the frame is whole, both addresses, and what it carries, where it is written.
@@ -68,14 +69,17 @@ fn frame_is_set(rt: HostRuntime) {
     frame.set_dst_addr(SENDER);
     frame.set_src_addr(EthernetAddress::BROADCAST);
     frame.set_ethertype(EthernetProtocol::Ipv6);
-    assert!(rt; is_same(&frame.into_inner()[12..14], &[0x86, 0xdd]));
+    let kind = is_same(&frame.into_inner()[12..14], &[0x86, 0xdd]);
     let parts = (
         true,
         SENDER,
         EthernetAddress::BROADCAST,
         EthernetProtocol::Ipv6,
     );
-    assert!(rt; frame_parts_in_place(&mut bytes) == Some(parts));
+    all(
+        &rt,
+        &[kind, frame_parts_in_place(&mut bytes) == Some(parts)],
+    );
 }
 
 /// Fills the payload, and says whether there is a frame.
@@ -93,9 +97,14 @@ fn is_filled(bytes: &mut [u8], byte: u8) -> bool {
 fn payload_alone_is_lent(rt: HostRuntime) {
     let mut bytes = [0xa5; 20];
     bytes[..14].copy_from_slice(&FRAME[..14]);
-    assert!(rt; is_filled(&mut bytes, 7));
-    assert!(rt; starts_with(&bytes, first(&FRAME, 14)));
-    assert!(rt; ends_with(&bytes, &[7; 6]));
+    all(
+        &rt,
+        &[
+            is_filled(&mut bytes, 7),
+            starts_with(&bytes, first(&FRAME, 14)),
+            ends_with(&bytes, &[7; 6]),
+        ],
+    );
 }
 
 /// Writes a packet, if there is a place for it.
@@ -124,13 +133,17 @@ type ArpAddresses<'a> = (&'a [u8], &'a [u8], &'a [u8], &'a [u8]);
 fn request_is_written(rt: HostRuntime) {
     let mut bytes = [0xa5; 30];
     emit_arp(&request(ArpOperation::Request), &mut bytes);
-    assert!(rt; starts_with(&bytes, first(behind(&FRAME, 14), 28)));
-    assert!(rt; bytes.last().copied() == Some(0xa5));
-    assert!(rt; request(ArpOperation::Request).buffer_len() == 28);
+    all(
+        &rt,
+        &[
+            starts_with(&bytes, first(behind(&FRAME, 14), 28)),
+            bytes.last().copied() == Some(0xa5),
+            request(ArpOperation::Request).buffer_len() == 28,
+        ],
+    );
 }
 
 /// A number to be set.
-#[derive(Drop)]
 enum Field {
     HardwareType(ArpHardware),
     ProtocolType(EthernetProtocol),
@@ -211,52 +224,77 @@ fn held(bytes: &mut [u8]) -> &[u8] {
     ArpPacketMut::new_unchecked(bytes).into_inner()
 }
 
+const NUMBERS_SET: [Field; 5] = [
+    Field::HardwareType(ArpHardware::Ethernet),
+    Field::ProtocolType(EthernetProtocol::Ipv4),
+    Field::HardwareLen(6),
+    Field::ProtocolLen(4),
+    Field::Operation(ArpOperation::Request),
+];
+
+/// Sets these numbers.
+fn set_all(bytes: &mut [u8], numbers: &[Field]) {
+    for number in numbers {
+        set(bytes, number);
+    }
+}
+
+const HERE: [u8; 4] = [192, 168, 1, 1];
+
+const THERE: [u8; 4] = [192, 168, 1, 2];
+
+const NOBODY: [u8; 6] = [0; 6];
+
 #[test]
 fn packet_is_set(rt: HostRuntime) {
     let mut bytes = [0xff; 28];
-    for number in &[
-        Field::HardwareType(ArpHardware::Ethernet),
-        Field::ProtocolType(EthernetProtocol::Ipv4),
-        Field::HardwareLen(6),
-        Field::ProtocolLen(4),
-        Field::Operation(ArpOperation::Request),
-    ] {
-        set(&mut bytes, number);
-    }
-    assert!(rt; arp_numbers_in_place(&mut bytes) == Some(NUMBERS));
-    let (here, there, nobody) = ([192, 168, 1, 1], [192, 168, 1, 2], [0; 6]);
-    assert!(rt; set_hardware_addresses(&mut bytes, &SENDER.0, &nobody).is_some());
-    assert!(rt; set_protocol_addresses(&mut bytes, &here, &there).is_some());
-    let addresses = (
-        SENDER.0.as_slice(),
-        here.as_slice(),
-        nobody.as_slice(),
-        there.as_slice(),
+    set_all(&mut bytes, &NUMBERS_SET);
+    let addresses: ArpAddresses<'_> = (&SENDER.0, &HERE, &NOBODY, &THERE);
+    all(
+        &rt,
+        &[
+            arp_numbers_in_place(&mut bytes) == Some(NUMBERS),
+            set_hardware_addresses(&mut bytes, &SENDER.0, &NOBODY).is_some(),
+            set_protocol_addresses(&mut bytes, &HERE, &THERE).is_some(),
+            has_addresses(&mut bytes, addresses),
+            starts_with(held(&mut bytes), first(behind(&FRAME, 14), 28)),
+        ],
     );
-    assert!(rt; has_addresses(&mut bytes, addresses));
-    assert!(rt; starts_with(held(&mut bytes), first(behind(&FRAME, 14), 28)));
 }
+
+/// An operation beside a request, and whether they are equal; otherwise the request comes first.
+struct Operation(ArpOperation, bool);
+
+impl Case for Operation {
+    fn holds(&self, _alloc: Global) -> bool {
+        let said = arp_laws::compare_arp_operations(&ArpOperation::Request, &self.0);
+        let follows = if self.1 {
+            said.hashes.0 == said.hashes.1
+        } else {
+            said.order.is_lt()
+        };
+        said.equal == self.1 && follows
+    }
+}
+
+const OPERATIONS: [Operation; 3] = [
+    Operation(ArpOperation::Reply, false),
+    Operation(ArpOperation::Unknown(1), false),
+    Operation(ArpOperation::Request, true),
+];
 
 // RFC 826: a known number under the name of an unknown one is another value.
 #[test]
 fn compares_kinds_and_operations(rt: HostRuntime) {
-    let request = ArpOperation::Request;
-    for (other, are_equal) in [
-        (ArpOperation::Reply, false),
-        (ArpOperation::Unknown(1), false),
-        (request, true),
-    ] {
-        let said = arp_laws::compare_arp_operations(&request, &other);
-        assert!(rt; said.equal == are_equal, "{other:?}");
-        if are_equal {
-            assert!(rt; said.hashes.0 == said.hashes.1);
-        } else {
-            assert!(rt; said.order.is_lt(), "{other:?}");
-        }
-    }
+    all_hold(&rt, &OPERATIONS);
     let kind = ArpHardware::Ethernet;
-    for (other, are_equal) in [(ArpHardware::Unknown(1), false), (kind, true)] {
-        let said = arp_laws::compare_arp_hardware(&kind, &other);
-        assert!(rt; said.equal == are_equal && (are_equal || said.order.is_lt()));
-    }
+    let other = arp_laws::compare_arp_hardware(&kind, &ArpHardware::Unknown(1));
+    all(
+        &rt,
+        &[
+            arp_laws::compare_arp_hardware(&kind, &kind).equal,
+            !other.equal,
+            other.order.is_lt(),
+        ],
+    );
 }

@@ -1,47 +1,67 @@
 //! What versions, protocols, ethertypes and sequence numbers print: names as IANA's registries and tools for captures have them, and
 //! digits where there is no name.
+use crate::cases::{Case, all, all_hold, prints};
 use ip_wire::{EthernetProtocol, IpProtocol, IpVersion, SeqNumber};
-use std::test::Fail;
+use std::alloc::Global;
 
-#[test]
-fn prints_protocols_over_ip(rt: HostRuntime) -> Result<(), Fail> {
-    for (number, name) in [
-        (0, "Hop-by-Hop"),
-        (1, "ICMP"),
-        (2, "IGMP"),
-        (6, "TCP"),
-        (17, "UDP"),
-        (43, "IPv6-Route"),
-        (44, "IPv6-Frag"),
-        (50, "IPsec-ESP"),
-        (51, "IPsec-AH"),
-        (58, "ICMPv6"),
-        (59, "IPv6-NoNxt"),
-        (60, "IPv6-Opts"),
-        (0x0a, "0x0a"),
-        (0xfe, "0xfe"),
-    ] {
-        let shown = IpProtocol::from(number).to_string(rt.alloc())?;
-        assert!(rt; shown.as_str() == name, "{number}");
+/// The number of a protocol over IP, and its text.
+struct Protocol(u8, &'static str);
+
+impl Case for Protocol {
+    fn holds(&self, alloc: Global) -> bool {
+        prints(alloc, &IpProtocol::from(self.0), self.1)
     }
-    Ok(())
 }
 
+const PROTOCOLS: [Protocol; 14] = [
+    Protocol(0, "Hop-by-Hop"),
+    Protocol(1, "ICMP"),
+    Protocol(2, "IGMP"),
+    Protocol(6, "TCP"),
+    Protocol(17, "UDP"),
+    Protocol(43, "IPv6-Route"),
+    Protocol(44, "IPv6-Frag"),
+    Protocol(50, "IPsec-ESP"),
+    Protocol(51, "IPsec-AH"),
+    Protocol(58, "ICMPv6"),
+    Protocol(59, "IPv6-NoNxt"),
+    Protocol(60, "IPv6-Opts"),
+    Protocol(0x0a, "0x0a"),
+    Protocol(0xfe, "0xfe"),
+];
+
 #[test]
-fn prints_versions_ethertypes_and_sequence_numbers(rt: HostRuntime) -> Result<(), Fail> {
-    let versions = format!(in rt.alloc(); "{} {}", IpVersion::Ipv4, IpVersion::Ipv6)?;
-    assert!(rt; versions.as_str() == "IPv4 IPv6");
-    for (number, name) in [
-        (0x0800, "IPv4"),
-        (0x0806, "ARP"),
-        (0x86dd, "IPv6"),
-        (0x8100, "0x8100"),
-        (0x0007, "0x0007"),
-    ] {
-        let shown = EthernetProtocol::from(number).to_string(rt.alloc())?;
-        assert!(rt; shown.as_str() == name, "{number}");
+fn prints_protocols_over_ip(rt: HostRuntime) {
+    all_hold(&rt, &PROTOCOLS);
+}
+
+/// An ethertype, and its text.
+struct Ethertype(u16, &'static str);
+
+impl Case for Ethertype {
+    fn holds(&self, alloc: Global) -> bool {
+        prints(alloc, &EthernetProtocol::from(self.0), self.1)
     }
-    let last = SeqNumber(u32::MAX).to_string(rt.alloc())?;
-    assert!(rt; last.as_str() == "4294967295");
-    Ok(())
+}
+
+const ETHERTYPES: [Ethertype; 5] = [
+    Ethertype(0x0800, "IPv4"),
+    Ethertype(0x0806, "ARP"),
+    Ethertype(0x86dd, "IPv6"),
+    Ethertype(0x8100, "0x8100"),
+    Ethertype(0x0007, "0x0007"),
+];
+
+#[test]
+fn prints_versions_ethertypes_and_sequence_numbers(rt: HostRuntime) {
+    all_hold(&rt, &ETHERTYPES);
+    let alloc = rt.alloc();
+    all(
+        &rt,
+        &[
+            prints(alloc, &IpVersion::Ipv4, "IPv4"),
+            prints(alloc, &IpVersion::Ipv6, "IPv6"),
+            prints(alloc, &SeqNumber(u32::MAX), "4294967295"),
+        ],
+    );
 }

@@ -1,4 +1,5 @@
 //! Options of TCP written one by one. `decode` reads them as data.
+use crate::cases::all;
 use ip_wire::{TcpOption, TcpTimestampGenerator, TcpTimestampRepr};
 use net_base::Instant;
 
@@ -9,24 +10,28 @@ fn writes_options(rt: HostRuntime) {
     let first = buffer;
     let gap = TcpOption::SackRange([None, Some((5500, 6000)), None]);
     let lengths = (size, gap.buffer_len(), gap.emit(&mut buffer));
-    assert!(rt; lengths == (4, 10, 10));
     let second = buffer;
     let unknown = TcpOption::Unknown {
         kind: 0xfd,
         bytes: &[1, 2],
     };
-    assert!(rt; unknown.emit(&mut buffer) == 4);
-    assert!(rt;
-        [first, second, buffer]
-            == [
-                [
-                    2, 4, 0x05, 0xb4, 0xff, 0xff, 0xff, 0xff, 0xff, 0xff, 0xff, 0xff
-                ],
-                [5, 10, 0, 0, 0x15, 0x7c, 0, 0, 0x17, 0x70, 0xff, 0xff],
-                [0xfd, 4, 1, 2, 0x15, 0x7c, 0, 0, 0x17, 0x70, 0xff, 0xff]
-            ]
+    all(
+        &rt,
+        &[
+            lengths == (4, 10, 10),
+            unknown.emit(&mut buffer) == 4,
+            [first, second, buffer] == OPTIONS,
+        ],
     );
 }
+
+const OPTIONS: [[u8; 12]; 3] = [
+    [
+        2, 4, 0x05, 0xb4, 0xff, 0xff, 0xff, 0xff, 0xff, 0xff, 0xff, 0xff,
+    ],
+    [5, 10, 0, 0, 0x15, 0x7c, 0, 0, 0x17, 0x70, 0xff, 0xff],
+    [0xfd, 4, 1, 2, 0x15, 0x7c, 0, 0, 0x17, 0x70, 0xff, 0xff],
+];
 
 // The same options, but for those of `writes_options`.
 #[test]
@@ -41,27 +46,35 @@ fn writes_each_option(rt: HostRuntime) {
     let (two, after_two) = (TcpOption::SackPermitted.emit(&mut buffer), buffer);
     let (one, after_one) = (TcpOption::NoOperation.emit(&mut buffer), buffer);
     let last = TcpOption::EndOfList.emit(&mut buffer);
-    assert!(rt; [ten, three, two, one, last] == [10, 3, 2, 1, 1]);
-    assert!(rt;
-        [after_ten, after_three, after_two, after_one, buffer]
-            == [
-                [8, 10, 1, 2, 3, 4, 5, 6, 7, 8, 0xff, 0xff],
-                [3, 3, 12, 2, 3, 4, 5, 6, 7, 8, 0xff, 0xff],
-                [4, 2, 12, 2, 3, 4, 5, 6, 7, 8, 0xff, 0xff],
-                [1, 2, 12, 2, 3, 4, 5, 6, 7, 8, 0xff, 0xff],
-                [0, 2, 12, 2, 3, 4, 5, 6, 7, 8, 0xff, 0xff]
-            ]
+    all(
+        &rt,
+        &[
+            [ten, three, two, one, last] == [10, 3, 2, 1, 1],
+            [after_ten, after_three, after_two, after_one, buffer] == OTHERS,
+        ],
     );
 }
+
+const OTHERS: [[u8; 12]; 5] = [
+    [8, 10, 1, 2, 3, 4, 5, 6, 7, 8, 0xff, 0xff],
+    [3, 3, 12, 2, 3, 4, 5, 6, 7, 8, 0xff, 0xff],
+    [4, 2, 12, 2, 3, 4, 5, 6, 7, 8, 0xff, 0xff],
+    [1, 2, 12, 2, 3, 4, 5, 6, 7, 8, 0xff, 0xff],
+    [0, 2, 12, 2, 3, 4, 5, 6, 7, 8, 0xff, 0xff],
+];
 
 #[test]
 fn answers_timestamps(rt: HostRuntime) {
     let stamp = TcpTimestampRepr { tsval: 7, tsecr: 1 };
     let now = Instant::from_micros(2_999);
     let generator = TcpTimestampGenerator(0xffff_ffff);
-    assert!(rt; generator.value_at(now) == 1);
-    assert!(rt;
-        stamp.generate_reply(Some(generator), now) == Some(TcpTimestampRepr { tsval: 1, tsecr: 7 })
+    let answer = TcpTimestampRepr { tsval: 1, tsecr: 7 };
+    all(
+        &rt,
+        &[
+            generator.value_at(now) == 1,
+            stamp.generate_reply(Some(generator), now) == Some(answer),
+            stamp.generate_reply(None, now) == None,
+        ],
     );
-    assert!(rt; stamp.generate_reply(None, now) == None);
 }

@@ -1,9 +1,11 @@
 //! Segments with their payload. `decode` reads and writes headers as data.
+use crate::cases::{Case, all_hold};
 use crate::formats::samples::{checksums, is_same};
 use ip_wire::{
     Error, IpAddress, Ipv4Address, SeqNumber, TcpControl, TcpHeader, TcpOptions, TcpPacket,
     TcpPacketMut, TcpRepr,
 };
+use std::alloc::Global;
 
 // A SYN with four bytes of payload.
 pub const SYN_BYTES: [u8; 24] = [
@@ -47,14 +49,24 @@ fn lengths(segment: &TcpRepr<'_>) -> (usize, bool, usize, usize) {
     )
 }
 
-#[test]
-fn reads_a_segment(rt: HostRuntime) -> Result<(), Error> {
+/// Whether the bytes are read as a segment of this header, payload and lengths.
+fn is_read(
+    bytes: &[u8; 24],
+    header: &TcpHeader,
+    payload: &[u8],
+    all: (usize, bool, usize, usize),
+) -> bool {
     let (source, destination) = (IpAddress::Ipv4(ENDS.0), IpAddress::Ipv4(ENDS.1));
-    let packet = TcpPacket::new_unchecked(&SYN_BYTES);
-    let read = TcpRepr::parse(&packet, &source, &destination, &checksums(true))?;
-    assert!(rt; (read.header(), read.payload) == (SYN, PAYLOAD.as_slice()));
-    assert!(rt; lengths(&read) == (5, false, 20, 24));
-    Ok(())
+    let packet = TcpPacket::new_unchecked(bytes);
+    match TcpRepr::parse(&packet, &source, &destination, &checksums(true)) {
+        Ok(read) => { read.header() == *header && read.payload == payload && lengths(&read) == all }
+        Err(Error) => false,
+    }
+}
+
+#[test]
+fn reads_a_segment(rt: HostRuntime) {
+    assert!(rt; is_read(&SYN_BYTES, &SYN, &PAYLOAD, (5, false, 20, 24)));
 }
 
 /// Writes a segment into bytes for it.
@@ -86,23 +98,26 @@ pub const RANGES: [u8; 59] = [
     0x00, 0x00, 0x00, 0x07, 0x00, 0x00, 0x00, 0x09, 0x61, 0x62, 0xff,
 ];
 
+/// A flag, how many numbers it takes, and what it is without PSH.
+struct Flag(TcpControl, usize, TcpControl);
+
+impl Case for Flag {
+    fn holds(&self, _alloc: Global) -> bool {
+        self.0.len() == self.1 && self.0.quash_psh() == self.2
+    }
+}
+
+const FLAGS: [Flag; 5] = [
+    Flag(TcpControl::None, 0, TcpControl::None),
+    Flag(TcpControl::Psh, 0, TcpControl::None),
+    Flag(TcpControl::Syn, 1, TcpControl::Syn),
+    Flag(TcpControl::Fin, 1, TcpControl::Fin),
+    Flag(TcpControl::Rst, 0, TcpControl::Rst),
+];
+
 #[test]
 fn counts_flags(rt: HostRuntime) {
-    for (control, len) in [
-        (TcpControl::None, 0),
-        (TcpControl::Psh, 0),
-        (TcpControl::Syn, 1),
-        (TcpControl::Fin, 1),
-        (TcpControl::Rst, 0),
-    ] {
-        assert!(rt; control.len() == len);
-        let quashed = if control == TcpControl::Psh {
-            TcpControl::None
-        } else {
-            control
-        };
-        assert!(rt; control.quash_psh() == quashed);
-    }
+    all_hold(&rt, &FLAGS);
 }
 
 /// Whether acknowledgements may have ranges, the ranges, and how many numbers the segment takes.
@@ -126,19 +141,30 @@ fn ranges_are_seen(rt: HostRuntime) {
     assert!(rt; acknowledged(&RANGES) == Ok((false, ranges, 3)));
 }
 
+/// A segment with this flag and no payload takes so many numbers, and takes none. One with four bytes takes four more.
+struct Counted(TcpControl, usize, bool);
+
+impl Case for Counted {
+    fn holds(&self, _alloc: Global) -> bool {
+        let header = TcpHeader {
+            control: self.0,
+            ..SYN
+        };
+        let (bare, is_empty, _, _) = lengths(&TcpRepr::new(&header, &[]));
+        let (full, is_none, _, _) = lengths(&TcpRepr::new(&header, &PAYLOAD));
+        (bare, is_empty, full, is_none) == (self.1, self.2, self.1.wrapping_add(4), false)
+    }
+}
+
+const COUNTED: [Counted; 5] = [
+    Counted(TcpControl::None, 0, true),
+    Counted(TcpControl::Psh, 0, true),
+    Counted(TcpControl::Syn, 1, false),
+    Counted(TcpControl::Fin, 1, false),
+    Counted(TcpControl::Rst, 0, false),
+];
+
 #[test]
 fn counts_sequence_numbers(rt: HostRuntime) {
-    for (control, len, empty) in [
-        (TcpControl::None, 0, true),
-        (TcpControl::Psh, 0, true),
-        (TcpControl::Syn, 1, false),
-        (TcpControl::Fin, 1, false),
-        (TcpControl::Rst, 0, false),
-    ] {
-        let header = TcpHeader { control, ..SYN };
-        let (bare, is_empty, _, _) = lengths(&TcpRepr::new(&header, &[]));
-        assert!(rt; (bare, is_empty) == (len, empty));
-        let (full, is_empty, _, _) = lengths(&TcpRepr::new(&header, &PAYLOAD));
-        assert!(rt; (full, is_empty) == (len + 4, false));
-    }
+    all_hold(&rt, &COUNTED);
 }

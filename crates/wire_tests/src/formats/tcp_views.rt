@@ -1,7 +1,9 @@
 //! Views of TCP segments that write in place.
+use crate::cases::all;
 use crate::formats::samples::{LEFT, RIGHT, behind, first, is_same};
 use crate::formats::tcp_segments::{RANGES, SYN_BYTES};
 use ip_wire::{Error, SeqNumber, TcpPacketMut};
+use std::process::Abort;
 
 // The same fields through the writing view, and those of a segment with ranges.
 /// Ports, numbers, the header's length, window, checksum and urgent pointer.
@@ -35,38 +37,99 @@ fn reads_what_it_can_write(rt: HostRuntime) {
     assert!(rt; fields(&mut buffer) == Ok(wanted));
 }
 
+/// Whether the segment's length is right, the numbers it takes, and whether acknowledgements may have ranges.
+type Said = (bool, usize, Result<bool, Error>);
+
+fn said(bytes: &mut [u8]) -> Result<Said, Error> {
+    if bytes.len() > 0xffff {
+        return Err(Error);
+    }
+    let packet = TcpPacketMut::new_checked(bytes)?;
+    Ok((
+        packet.check_len().is_ok(),
+        packet.segment_len(),
+        packet.selective_ack_permitted(),
+    ))
+}
+
+fn ranges(bytes: &mut [u8]) -> Result<[Option<(u32, u32)>; 3], Error> {
+    TcpPacketMut::new_checked(bytes)?.selective_ack_ranges()
+}
+
+/// Whether these are the segment's options and its payload.
+fn carries(bytes: &mut [u8], options: &[u8], payload: &[u8]) -> bool {
+    match TcpPacketMut::new_checked(bytes) {
+        Ok(packet) => packet.options() == options && packet.payload() == payload,
+        Err(Error) => false,
+    }
+}
+
+const ACKNOWLEDGED: [Option<(u32, u32)>; 3] = [
+    Some((8000, 8500)),
+    Some((7000, 7500)),
+    Some((6000, 6500)),
+];
+
 #[test]
-fn reads_behind_the_header(rt: HostRuntime) -> Result<(), Error> {
+fn reads_behind_the_header(rt: HostRuntime) {
     let mut buffer = RANGES;
-    let packet = TcpPacketMut::new_checked(&mut buffer)?;
-    assert!(rt; (packet.check_len(), packet.segment_len()) == (Ok(()), 3));
-    assert!(rt; packet.selective_ack_permitted() == Ok(false));
-    let ranges = [Some((8000, 8500)), Some((7000, 7500)), Some((6000, 6500))];
-    assert!(rt; packet.selective_ack_ranges() == Ok(ranges));
-    assert!(rt; is_same(packet.options(), first(behind(&RANGES, 20), 36)));
-    assert!(rt; is_same(packet.payload(), b"ab\xff"));
-    Ok(())
+    all(
+        &rt,
+        &[
+            said(&mut buffer) == Ok((true, 3, Ok(false))),
+            ranges(&mut buffer) == Ok(ACKNOWLEDGED),
+            carries(&mut buffer, first(behind(&RANGES, 20), 36), b"ab\xff"),
+        ],
+    );
+}
+
+/// Fills the options, and says whether there is a segment.
+fn fills_options(bytes: &mut [u8], byte: u8) -> bool {
+    match TcpPacketMut::new_checked(bytes) {
+        Ok(mut packet) => {
+            packet.options_mut().fill(byte);
+            true
+        }
+        Err(Error) => false,
+    }
+}
+
+/// The same of its payload.
+fn fills_payload(bytes: &mut [u8], byte: u8) -> bool {
+    match TcpPacketMut::new_checked(bytes) {
+        Ok(mut packet) => {
+            packet.payload_mut().fill(byte);
+            true
+        }
+        Err(Error) => false,
+    }
 }
 
 #[test]
-fn writes_through_the_options(rt: HostRuntime) -> Result<(), Error> {
+fn writes_through_the_options(rt: HostRuntime) {
     let mut buffer = RANGES;
-    let mut packet = TcpPacketMut::new_checked(&mut buffer)?;
-    packet.options_mut().fill(1);
-    assert!(rt; is_same(first(&buffer, 20), first(&RANGES, 20)));
-    assert!(rt; is_same(first(behind(&buffer, 20), 36), &[1; 36]));
-    assert!(rt; is_same(behind(&buffer, 56), behind(&RANGES, 56)));
-    Ok(())
+    all(
+        &rt,
+        &[
+            fills_options(&mut buffer, 1),
+            is_same(first(&buffer, 20), first(&RANGES, 20)),
+            is_same(first(behind(&buffer, 20), 36), &[1; 36]),
+            is_same(behind(&buffer, 56), behind(&RANGES, 56)),
+        ],
+    );
 }
 
 #[test]
-fn writes_through_the_payload(rt: HostRuntime) -> Result<(), Error> {
+fn writes_through_the_payload(rt: HostRuntime) {
     let mut buffer = RANGES;
-    let mut packet = TcpPacketMut::new_checked(&mut buffer)?;
-    packet.payload_mut().fill(2);
-    assert!(rt; is_same(first(&buffer, 56), first(&RANGES, 56)));
-    assert!(rt; is_same(behind(&buffer, 56), &[2, 2, 2]));
-    Ok(())
+    all(
+        &rt,
+        &[
+            fills_payload(&mut buffer, 2),
+            is_same(first(&buffer, 56), first(&RANGES, 56)),
+            is_same(behind(&buffer, 56), &[2, 2, 2]),
+        ],
+    );
 }
 
 #[test]
@@ -76,7 +139,6 @@ fn refuses_to_write_too_few_bytes(rt: HostRuntime) {
 }
 
 /// A field to be set.
-#[derive(Drop)]
 enum Field {
     NoFlags,
     Fin(bool),
@@ -106,6 +168,25 @@ fn set(bytes: &mut [u8], field: &Field) {
     let mut packet = TcpPacketMut::new_unchecked(bytes);
     match field {
         Field::NoFlags => packet.clear_flags(),
+        Field::HeaderLen(value) => packet.set_header_len(*value),
+        Field::SrcPort(value) => packet.set_src_port(*value),
+        Field::DstPort(value) => packet.set_dst_port(*value),
+        Field::SeqNumber(value) => packet.set_seq_number(SeqNumber(*value)),
+        Field::AckNumber(value) => packet.set_ack_number(SeqNumber(*value)),
+        Field::WindowLen(value) => packet.set_window_len(*value),
+        Field::UrgentAt(value) => packet.set_urgent_at(*value),
+        Field::Checksum(value) => packet.set_checksum(*value),
+        _ => set_flag(bytes, field),
+    }
+}
+
+/// Sets a flag, if there is a header.
+fn set_flag(bytes: &mut [u8], field: &Field) {
+    if bytes.len() < 20 {
+        return;
+    }
+    let mut packet = TcpPacketMut::new_unchecked(bytes);
+    match field {
         Field::Fin(value) => packet.set_fin(*value),
         Field::Syn(value) => packet.set_syn(*value),
         Field::Rst(value) => packet.set_rst(*value),
@@ -115,14 +196,14 @@ fn set(bytes: &mut [u8], field: &Field) {
         Field::Ece(value) => packet.set_ece(*value),
         Field::Cwr(value) => packet.set_cwr(*value),
         Field::Ns(value) => packet.set_ns(*value),
-        Field::HeaderLen(value) => packet.set_header_len(*value),
-        Field::SrcPort(value) => packet.set_src_port(*value),
-        Field::DstPort(value) => packet.set_dst_port(*value),
-        Field::SeqNumber(value) => packet.set_seq_number(SeqNumber(*value)),
-        Field::AckNumber(value) => packet.set_ack_number(SeqNumber(*value)),
-        Field::WindowLen(value) => packet.set_window_len(*value),
-        Field::UrgentAt(value) => packet.set_urgent_at(*value),
-        Field::Checksum(value) => packet.set_checksum(*value),
+        _ => {}
+    }
+}
+
+/// Sets these fields.
+fn set_all(bytes: &mut [u8], fields: &[Field]) {
+    for field in fields {
+        set(bytes, field);
     }
 }
 
@@ -146,35 +227,42 @@ fn held(bytes: &mut [u8]) -> &[u8] {
     TcpPacketMut::new_unchecked(bytes).into_inner()
 }
 
+const FIELDS: [Field; 13] = [
+    Field::NoFlags,
+    Field::Ack(true),
+    Field::Ns(true),
+    Field::Cwr(true),
+    Field::Fin(true),
+    Field::Fin(false),
+    Field::HeaderLen(24),
+    Field::SrcPort(1),
+    Field::DstPort(2),
+    Field::SeqNumber(0xfffffffe),
+    Field::AckNumber(0x80000001),
+    Field::WindowLen(0xffff),
+    Field::UrgentAt(9),
+];
+
+const WRITTEN: [u8; 24] = [
+    0x00, 0x01, 0x00, 0x02, 0xff, 0xff, 0xff, 0xfe, 0x80, 0x00, 0x00, 0x01, 0x61, 0x90, 0xff, 0xff,
+    0x12, 0x34, 0x00, 0x09, 0xaa, 0x00, 0x00, 0xff,
+];
+
 #[test]
 fn writes_every_field(rt: HostRuntime) {
     let mut buffer = SYN_BYTES;
-    for field in &[
-        Field::NoFlags,
-        Field::Ack(true),
-        Field::Ns(true),
-        Field::Cwr(true),
-        Field::Fin(true),
-        Field::Fin(false),
-        Field::HeaderLen(24),
-        Field::SrcPort(1),
-        Field::DstPort(2),
-        Field::SeqNumber(0xfffffffe),
-        Field::AckNumber(0x80000001),
-        Field::WindowLen(0xffff),
-        Field::UrgentAt(9),
-    ] {
-        set(&mut buffer, field);
-    }
+    set_all(&mut buffer, &FIELDS);
     seal(&mut buffer);
-    assert!(rt; is_right(&mut buffer));
+    let sealed = is_right(&mut buffer);
     set(&mut buffer, &Field::Checksum(0x1234));
-    assert!(rt; !is_right(&mut buffer));
-    let wanted = [
-        0x00, 0x01, 0x00, 0x02, 0xff, 0xff, 0xff, 0xfe, 0x80, 0x00, 0x00, 0x01, 0x61, 0x90, 0xff,
-        0xff, 0x12, 0x34, 0x00, 0x09, 0xaa, 0x00, 0x00, 0xff,
-    ];
-    assert!(rt; is_same(held(&mut buffer), &wanted));
+    all(
+        &rt,
+        &[
+            sealed,
+            !is_right(&mut buffer),
+            is_same(held(&mut buffer), &WRITTEN),
+        ],
+    );
 }
 
 /// The flags from the lowest bit on, where the segment is written.
@@ -196,10 +284,15 @@ fn flags(bytes: &mut [u8]) -> [bool; 9] {
     ]
 }
 
-/// Sets a field, and tells whether the flag of this number is then set.
-fn is_set(bytes: &mut [u8], field: &Field, flag: usize) -> bool {
-    set(bytes, field);
-    flags(bytes).get(flag).copied() == Some(true)
+/// Asserts that each of these fields sets the flag of its number.
+fn set_flags(rt: &impl Abort, bytes: &mut [u8], fields: &[(Field, usize)]) {
+    for (field, flag) in fields {
+        set(bytes, field);
+        assert!(rt;
+            flags(bytes).get(*flag).copied() == Some(true),
+            "flag {flag}"
+        );
+    }
 }
 
 /// The length that the header says it has.
@@ -210,37 +303,42 @@ fn header_len(bytes: &mut [u8]) -> Option<u8> {
     Some(TcpPacketMut::new_unchecked(bytes).header_len())
 }
 
+const LOW: [(Field, usize); 5] = [
+    (Field::Fin(true), 0),
+    (Field::Syn(true), 1),
+    (Field::Rst(true), 2),
+    (Field::Psh(true), 3),
+    (Field::Ack(true), 4),
+];
+
 // RFC 9293, section 3.1, and RFC 3540, section 9: the bits of bytes 12 and 13.
 #[test]
 fn sets_each_flag(rt: HostRuntime) {
     let mut buffer = [0; 20];
-    for (field, flag) in &[
-        (Field::Fin(true), 0),
-        (Field::Syn(true), 1),
-        (Field::Rst(true), 2),
-        (Field::Psh(true), 3),
-        (Field::Ack(true), 4),
-    ] {
-        assert!(rt; is_set(&mut buffer, field, *flag), "flag {flag}");
-    }
+    set_flags(&rt, &mut buffer, &LOW);
     assert!(rt; is_same(first(behind(&buffer, 13), 1), &[0x1f]));
 }
+
+const HIGH: [(Field, usize); 4] = [
+    (Field::Urg(true), 5),
+    (Field::Ece(true), 6),
+    (Field::Cwr(true), 7),
+    (Field::Ns(true), 8),
+];
+
+const CLEARED: [Field; 3] = [Field::Syn(false), Field::Urg(false), Field::HeaderLen(63)];
 
 #[test]
 fn sets_the_other_flags(rt: HostRuntime) {
     let mut buffer = [0; 20];
     buffer[13] = 0x1f;
-    for (field, flag) in &[
-        (Field::Urg(true), 5),
-        (Field::Ece(true), 6),
-        (Field::Cwr(true), 7),
-        (Field::Ns(true), 8),
-    ] {
-        assert!(rt; is_set(&mut buffer, field, *flag), "flag {flag}");
-    }
-    for field in &[Field::Syn(false), Field::Urg(false), Field::HeaderLen(63)] {
-        set(&mut buffer, field);
-    }
-    assert!(rt; header_len(&mut buffer) == Some(60));
-    assert!(rt; is_same(first(behind(&buffer, 12), 2), &[0xf1, 0xdd]));
+    set_flags(&rt, &mut buffer, &HIGH);
+    set_all(&mut buffer, &CLEARED);
+    all(
+        &rt,
+        &[
+            header_len(&mut buffer) == Some(60),
+            is_same(first(behind(&buffer, 12), 2), &[0xf1, 0xdd]),
+        ],
+    );
 }

@@ -1,9 +1,9 @@
 //! Readers of texts for the other tests, and texts of endpoints that one listens at. `decode` reads and prints the others.
+use crate::cases::{all, prints};
 use ip_wire::{
     Error, IpAddress, IpCidr, IpEndpoint, IpListenEndpoint, Ipv4Address, Ipv6Address, Ipv6Cidr,
     address_laws, text,
 };
-use std::test::Fail;
 
 pub fn ipv4(text: &str) -> Option<Ipv4Address> {
     text.parse().ok()
@@ -28,17 +28,34 @@ pub fn ipv6_block(text: &str) -> Option<Ipv6Cidr> {
 }
 
 #[test]
-fn prints_listening_endpoints(rt: HostRuntime) -> Result<(), Fail> {
+fn prints_listening_endpoints(rt: HostRuntime) {
     let there = IpAddress::v6(0xfd00, 0, 0, 0, 0, 0, 0, 1);
     let listening = IpListenEndpoint::from(IpEndpoint::new(there, 53));
-    let shown = format!(in rt.alloc(); "{listening} {} {Error}", at_port(80))?;
-    assert!(rt; shown.as_str() == "fd00::1:53 *:80 wire::Error");
-    assert!(rt; is_specified(&listening) && !is_specified(&IpListenEndpoint::default()));
-    assert!(rt; is_listening(&IpListenEndpoint::from((there, 53)), &listening));
+    let alloc = rt.alloc();
+    all(
+        &rt,
+        &[
+            prints(alloc, &listening, "fd00::1:53"),
+            prints(alloc, &at_port(80), "*:80"),
+            prints(alloc, &Error, "wire::Error"),
+            is_specified(&listening),
+            is_listening(&IpListenEndpoint::from((there, 53)), &listening),
+        ],
+    );
+}
+
+#[test]
+fn an_endpoint_of_port_0_is_none(rt: HostRuntime) {
+    let none = IpListenEndpoint::default();
     let zero = at_port(0);
-    assert!(rt; is_listening(&IpListenEndpoint::default(), &zero));
-    assert!(rt; is_listening(&address_laws::default_listen_endpoint(), &zero));
-    Ok(())
+    all(
+        &rt,
+        &[
+            !is_specified(&none),
+            is_listening(&none, &zero),
+            is_listening(&address_laws::default_listen_endpoint(), &zero),
+        ],
+    );
 }
 
 /// This port of all addresses.

@@ -3,6 +3,7 @@ ghost use Rattle.std.specs.Prelude.{◌≡◌, ◌+◌, ◌<◌, length};
 ghost use Rattle.net_base.specs.Capabilities.{computes};
 ghost use Rattle.ip_wire.specs.Udp as Udp;
 
+use crate::cases::all;
 use crate::formats::samples::{DATAGRAM, LEFT, RIGHT, behind, checksums, first, is_same, put};
 use ip_wire::{IpAddress, UdpPacket, UdpPacketMut, UdpRepr};
 use net_base::ChecksumCapabilities;
@@ -29,8 +30,13 @@ fn datagram_is_set(rt: HostRuntime) {
         packet.len(),
         packet.checksum(),
     );
-    assert!(rt; set == (48896, 53, 12, 0x124d));
-    assert!(rt; is_same(first(packet.into_inner(), 8), first(&DATAGRAM, 8)));
+    all(
+        &rt,
+        &[
+            set == (48896, 53, 12, 0x124d),
+            is_same(first(packet.into_inner(), 8), first(&DATAGRAM, 8)),
+        ],
+    );
 }
 
 /// Whether a datagram, where it is written, is whole, right and carries this payload.
@@ -55,11 +61,10 @@ fn sealed(bytes: &mut [u8]) -> Option<u16> {
 #[test]
 fn checksum_is_filled_in(rt: HostRuntime) {
     let mut bytes = DATAGRAM;
-    assert!(rt; carries(&mut bytes, &PAYLOAD));
-    for at in [6, 7] {
-        put(&mut bytes, at, 0xff);
-    }
-    assert!(rt; sealed(&mut bytes) == Some(0x124d));
+    let carried = carries(&mut bytes, &PAYLOAD);
+    put(&mut bytes, 6, 0xff);
+    put(&mut bytes, 7, 0xff);
+    all(&rt, &[carried, sealed(&mut bytes) == Some(0x124d)]);
 }
 
 /// Fills the payload, and says whether there is a datagram.
@@ -77,9 +82,14 @@ fn is_filled(bytes: &mut [u8], byte: u8) -> bool {
 fn payload_alone_is_lent(rt: HostRuntime) {
     let mut bytes = [0xa5; 14];
     bytes[..12].copy_from_slice(&DATAGRAM);
-    assert!(rt; is_filled(&mut bytes, 7));
-    assert!(rt; is_same(first(&bytes, 8), first(&DATAGRAM, 8)));
-    assert!(rt; is_same(behind(&bytes, 8), &[7, 7, 7, 7, 0xa5, 0xa5]));
+    all(
+        &rt,
+        &[
+            is_filled(&mut bytes, 7),
+            is_same(first(&bytes, 8), first(&DATAGRAM, 8)),
+            is_same(behind(&bytes, 8), &[7, 7, 7, 7, 0xa5, 0xa5]),
+        ],
+    );
 }
 
 /// Writes a datagram with this payload through a closure that copies it.
@@ -108,27 +118,26 @@ fn emit_copy(
     );
 }
 
+/// That datagram is written, with its checksum or without.
+fn emit_sample(bytes: &mut [u8; 12], with_checksum: bool) {
+    emit_copy(
+        bytes,
+        &PORTS,
+        &LEFT,
+        &RIGHT,
+        &PAYLOAD,
+        &checksums(with_checksum),
+    );
+}
+
 #[test]
 fn payload_is_written_in_place(rt: HostRuntime) {
     let mut bytes = [0xa5; 12];
-    emit_copy(
-        &mut bytes,
-        &PORTS,
-        &LEFT,
-        &RIGHT,
-        &PAYLOAD,
-        &checksums(true),
-    );
-    assert!(rt; is_same(&bytes, &DATAGRAM));
-    emit_copy(
-        &mut bytes,
-        &PORTS,
-        &LEFT,
-        &RIGHT,
-        &PAYLOAD,
-        &checksums(false),
-    );
-    assert!(rt; is_same(&bytes[6..8], &[0, 0]), "the device computes it");
+    emit_sample(&mut bytes, true);
+    let whole = is_same(&bytes, &DATAGRAM);
+    emit_sample(&mut bytes, false);
+    // The device computes it.
+    all(&rt, &[whole, is_same(&bytes[6..8], &[0, 0])]);
 }
 
 #[test]
