@@ -19,7 +19,7 @@ pub(crate) fn emit<'a>(alloc: Global, text: &'a str) -> Result<Vec<u8>, Fault<'a
         None => (true, text),
     };
     let mut words = Words::new(text);
-    let format = words.word("format")?;
+    let format = words.word("format");
     match format {
         "ethernet" => emit_ethernet(alloc, &mut words),
         "arp" => emit_arp(alloc, &mut words),
@@ -37,9 +37,9 @@ pub(crate) fn emit<'a>(alloc: Global, text: &'a str) -> Result<Vec<u8>, Fault<'a
 
 fn emit_ethernet<'a>(alloc: Global, words: &mut Words<'a>) -> Result<Vec<u8>, Fault<'a>> {
     let header = EthernetRepr {
-        src_addr: words.station("source")?,
-        dst_addr: words.station("destination")?,
-        ethertype: words.ethertype()?,
+        src_addr: words.station("source"),
+        dst_addr: words.station("destination"),
+        ethertype: words.ethertype(),
     };
     let payload = last_bytes(alloc, words)?;
     let mut bytes = room(alloc, 14 + payload.len())?;
@@ -51,11 +51,11 @@ fn emit_ethernet<'a>(alloc: Global, words: &mut Words<'a>) -> Result<Vec<u8>, Fa
 
 fn emit_arp<'a>(alloc: Global, words: &mut Words<'a>) -> Result<Vec<u8>, Fault<'a>> {
     let packet = ArpRepr::EthernetIpv4 {
-        operation: operation(words)?,
-        source_protocol_addr: words.ipv4("sender")?,
-        source_hardware_addr: words.station("sender's station")?,
-        target_protocol_addr: words.ipv4("target")?,
-        target_hardware_addr: words.station("target's station")?,
+        operation: operation(words),
+        source_protocol_addr: words.ipv4("sender"),
+        source_hardware_addr: words.station("sender's station"),
+        target_protocol_addr: words.ipv4("target"),
+        target_hardware_addr: words.station("target's station"),
     };
     words.end()?;
     let mut bytes = room(alloc, 28)?;
@@ -64,27 +64,30 @@ fn emit_arp<'a>(alloc: Global, words: &mut Words<'a>) -> Result<Vec<u8>, Fault<'
 }
 
 // The number of an operation; with `?` before it the value that has no name.
-fn operation<'a>(words: &mut Words<'a>) -> Result<ArpOperation, Fault<'a>> {
-    let word = words.word("operation")?;
+fn operation(words: &mut Words<'_>) -> ArpOperation {
+    let word = words.word("operation");
     let digits = word.strip_prefix('?').unwrap_or(word);
     match digits.parse().ok() {
-        Some(number) if digits.len() < word.len() => Ok(ArpOperation::Unknown(number)),
-        Some(number) => Ok(ArpOperation::from(number)),
-        None => Err(Fault::No("operation", word)),
+        Some(number) if digits.len() < word.len() => ArpOperation::Unknown(number),
+        Some(number) => ArpOperation::from(number),
+        None => {
+            words.no("operation", word);
+            ArpOperation::Request
+        }
     }
 }
 
 // The fields of an IPv4 header but for its payload's length.
-pub(crate) fn ipv4_fields<'a>(words: &mut Words<'a>) -> Result<Ipv4Repr, Fault<'a>> {
-    Ok(Ipv4Repr {
-        src_addr: words.ipv4("source")?,
-        dst_addr: words.ipv4("destination")?,
-        next_header: words.protocol()?,
-        hop_limit: words.byte("ttl")?,
-        ident: words.short("id")?,
-        dont_frag: words.either("DF", "-", "DF or -")?,
+pub(crate) fn ipv4_fields(words: &mut Words<'_>) -> Ipv4Repr {
+    Ipv4Repr {
+        src_addr: words.ipv4("source"),
+        dst_addr: words.ipv4("destination"),
+        next_header: words.protocol(),
+        hop_limit: words.byte("ttl"),
+        ident: words.short("id"),
+        dont_frag: words.either("DF", "-", "DF or -"),
         payload_len: 0,
-    })
+    }
 }
 
 fn emit_ipv4<'a>(
@@ -92,7 +95,7 @@ fn emit_ipv4<'a>(
     words: &mut Words<'a>,
     is_summed: bool,
 ) -> Result<Vec<u8>, Fault<'a>> {
-    let fields = ipv4_fields(words)?;
+    let fields = ipv4_fields(words);
     let payload = last_bytes(alloc, words)?;
     let payload_len = payload.len();
     if payload_len > MOST - 20 {
@@ -117,9 +120,9 @@ fn emit_piece<'a>(
     words: &mut Words<'a>,
     is_summed: bool,
 ) -> Result<Vec<u8>, Fault<'a>> {
-    let fields = ipv4_fields(words)?;
-    let offset = words.short("offset")?;
-    let more = words.either("more", "last", "more or last")?;
+    let fields = ipv4_fields(words);
+    let offset = words.short("offset");
+    let more = words.either("more", "last", "more or last");
     let payload = last_bytes(alloc, words)?;
     let payload_len = payload.len();
     if payload_len > MOST - 20 {
@@ -138,18 +141,18 @@ fn emit_piece<'a>(
 }
 
 // The fields of an IPv6 header but for its payload's length.
-pub(crate) fn ipv6_fields<'a>(words: &mut Words<'a>) -> Result<Ipv6Repr, Fault<'a>> {
-    Ok(Ipv6Repr {
-        src_addr: words.ipv6("source")?,
-        dst_addr: words.ipv6("destination")?,
-        next_header: words.protocol()?,
-        hop_limit: words.byte("hops")?,
+pub(crate) fn ipv6_fields(words: &mut Words<'_>) -> Ipv6Repr {
+    Ipv6Repr {
+        src_addr: words.ipv6("source"),
+        dst_addr: words.ipv6("destination"),
+        next_header: words.protocol(),
+        hop_limit: words.byte("hops"),
         payload_len: 0,
-    })
+    }
 }
 
 fn emit_ipv6<'a>(alloc: Global, words: &mut Words<'a>) -> Result<Vec<u8>, Fault<'a>> {
-    let fields = ipv6_fields(words)?;
+    let fields = ipv6_fields(words);
     let payload = last_bytes(alloc, words)?;
     let payload_len = payload.len();
     if payload_len > MOST {
@@ -168,9 +171,9 @@ fn emit_ipv6<'a>(alloc: Global, words: &mut Words<'a>) -> Result<Vec<u8>, Fault<
 
 fn emit_fragment<'a>(alloc: Global, words: &mut Words<'a>) -> Result<Vec<u8>, Fault<'a>> {
     let header = Ipv6FragmentRepr {
-        ident: words.long("id")?,
-        frag_offset: words.short("offset")?,
-        more_frags: words.either("more", "last", "more or last")?,
+        ident: words.long("id"),
+        frag_offset: words.short("offset"),
+        more_frags: words.either("more", "last", "more or last"),
     };
     words.end()?;
     let mut bytes = room(alloc, 6)?;
@@ -183,11 +186,11 @@ fn emit_udp<'a>(
     words: &mut Words<'a>,
     is_summed: bool,
 ) -> Result<Vec<u8>, Fault<'a>> {
-    let source = words.address("source")?;
-    let destination = words.address("destination")?;
+    let source = words.address("source");
+    let destination = words.address("destination");
     let header = UdpRepr {
-        src_port: words.short("source port")?,
-        dst_port: words.short("destination port")?,
+        src_port: words.short("source port"),
+        dst_port: words.short("destination port"),
     };
     let payload = last_bytes(alloc, words)?;
     if payload.len() > MOST - 8 {
@@ -211,7 +214,7 @@ fn emit_udp<'a>(
 pub(crate) fn last_bytes<'a>(alloc: Global, words: &mut Words<'a>) -> Result<Vec<u8>, Fault<'a>>
     ensures { IfOk result (λ bytes. length bytes.items ≤ 0xffff) }
 {
-    let bytes = words.bytes(alloc, "pairs of hex digits")?;
+    let bytes = words.bytes(alloc, "pairs of hex digits");
     words.end()?;
     if bytes.len() > MOST {
         return Err(Fault::TooLong);
