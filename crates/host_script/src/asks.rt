@@ -11,8 +11,8 @@ use sockets::Context;
 
 /// Plays `ask H WHAT`, behind which an address may stand.
 pub fn play<'a>(host: &mut Host, words: &mut Words<'a>) -> Result<Answer, Stop<'a>> {
-    words.host()?;
-    let name = words.word("question")?;
+    words.host();
+    let name = words.word("question");
     let inner = host.interface.context();
     let answer = match name {
         "fresh" => is(host.interface.is_fresh()),
@@ -23,13 +23,13 @@ pub fn play<'a>(host: &mut Host, words: &mut Words<'a>) -> Result<Answer, Stop<'
         "waiting" => Answer::Number(host.wire.waiting() as u64),
         "refusals" => Answer::Number(host.wire.refusals()),
         _ => {
-            let address = words.address()?;
+            let address = words.address();
             return match about(inner, name, &address) {
                 Some(answer) => {
                     words.end()?;
                     Ok(answer)
                 }
-                None => Err(Stop::Wrong("question", name)),
+                None => Err(words.or_before(Stop::Wrong("question", name))),
             };
         }
     };

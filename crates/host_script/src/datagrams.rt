@@ -18,27 +18,27 @@ pub fn play<'a>(
     verb: &'a str,
     words: &mut Words<'a>,
 ) -> Result<Answer, Stop<'a>> {
-    words.host()?;
-    let place = words.size()?;
+    words.host();
+    let place = words.size();
     match verb {
         "bind" => {
-            let port = words.short("port")?;
+            let port = words.short("port");
             words.end()?;
             let endpoint = IpListenEndpoint { addr: None, port };
             Ok(bound(host.udp(place)?.bind(endpoint)))
         }
         "ident" => {
-            let ident = words.short("identifier")?;
+            let ident = words.short("identifier");
             words.end()?;
             Ok(bound(host.icmp(place)?.bind(Endpoint::Ident(ident))))
         }
         "errors" => {
-            let endpoint = quoted(words)?;
+            let endpoint = quoted(words);
             words.end()?;
             Ok(bound(host.icmp(place)?.bind(endpoint)))
         }
         "recvfrom" | "peek" => {
-            let most = words.size()?;
+            let most = words.size();
             words.end()?;
             if verb == "peek" {
                 peek(alloc, host.socket(place)?, most)
@@ -51,27 +51,37 @@ pub fn play<'a>(
 }
 
 /// What errors are for an ICMP socket: those about what this port sent.
-fn quoted<'a>(words: &mut Words<'a>) -> Result<Endpoint, Stop<'a>> {
-    match words.word("kind of endpoint")? {
-        "none" => Ok(Endpoint::Unspecified),
-        "udp" => Ok(Endpoint::Udp(listened(words)?)),
-        "tcp" => Ok(Endpoint::Tcp(listened(words)?)),
-        word => Err(Stop::Wrong("kind of endpoint", word)),
+fn quoted(words: &mut Words<'_>) -> Endpoint {
+    let word = words.word("kind of endpoint");
+    match word {
+        "none" => Endpoint::Unspecified,
+        "udp" => Endpoint::Udp(listened(words)),
+        "tcp" => Endpoint::Tcp(listened(words)),
+        _ => {
+            words.wrong("kind of endpoint", word);
+            Endpoint::Unspecified
+        }
     }
 }
 
 /// A port of every address, or an address and a port.
-fn listened<'a>(words: &mut Words<'a>) -> Result<IpListenEndpoint, Stop<'a>> {
-    let word = words.word("port or endpoint")?;
+fn listened(words: &mut Words<'_>) -> IpListenEndpoint {
+    let word = words.word("port or endpoint");
     if let Some(port) = short(word) {
-        return Ok(IpListenEndpoint { addr: None, port });
+        return IpListenEndpoint { addr: None, port };
     }
     match word.parse::<IpEndpoint>() {
-        Ok(endpoint) => Ok(IpListenEndpoint {
+        Ok(endpoint) => IpListenEndpoint {
             addr: Some(endpoint.addr),
             port: endpoint.port,
-        }),
-        Err(_) => Err(Stop::Wrong("port or endpoint", word)),
+        },
+        Err(_) => {
+            words.wrong("port or endpoint", word);
+            IpListenEndpoint {
+                addr: None,
+                port: 0,
+            }
+        }
     }
 }
 
@@ -85,24 +95,20 @@ fn send<'a>(
 ) -> Result<Answer, Stop<'a>> {
     match verb {
         "sendto" => {
-            let (remote, bytes) = (words.endpoint()?, words.bytes()?);
-            words.end()?;
-            let bytes = bytes.decode(alloc)?;
+            let remote = words.endpoint();
+            let bytes = words.last_bytes(alloc)?;
             Ok(sent(
                 host.udp(place)?
                     .send_slice(bytes.as_slice(), UdpMetadata::from(remote)),
             ))
         }
         "sendicmp" => {
-            let (remote, bytes) = (words.address()?, words.bytes()?);
-            words.end()?;
-            let bytes = bytes.decode(alloc)?;
+            let remote = words.address();
+            let bytes = words.last_bytes(alloc)?;
             Ok(sent(host.icmp(place)?.send_slice(bytes.as_slice(), remote)))
         }
         _ => {
-            let bytes = words.bytes()?;
-            words.end()?;
-            let bytes = bytes.decode(alloc)?;
+            let bytes = words.last_bytes(alloc)?;
             let socket = host.raw(place)?;
             if verb == "sendraw" && names_tcp_or_udp(Medium::Ip, bytes.as_slice()) {
                 return Err(Stop::Refused("RawProtocol"));

@@ -14,12 +14,10 @@ pub fn play<'a>(
     verb: &'a str,
     words: &mut Words<'a>,
 ) -> Result<Answer, Stop<'a>> {
-    words.host()?;
+    words.host();
     match verb {
         "frame" | "noise" => {
-            let bytes = words.bytes()?;
-            words.end()?;
-            let frame = bytes.decode(alloc)?;
+            let frame = words.last_bytes(alloc)?;
             let medium = host.wire.capabilities().medium;
             if verb == "noise" && names_tcp_or_udp(medium, frame.as_slice()) {
                 return Err(Stop::Refused("NamesTcpOrUdp"));
@@ -27,17 +25,17 @@ pub fn play<'a>(
             host.wire.comes(frame)?;
         }
         "room" => {
-            let room = words.size()?;
+            let room = words.size();
             words.end()?;
             host.wire.set_room(room);
         }
         "refuse" => {
-            let count = words.number()?;
+            let count = words.number();
             words.end()?;
             host.wire.refuse(count);
         }
         _ => {
-            let count = words.number()?;
+            let count = words.number();
             words.end()?;
             host.wire.set_refused(count);
         }

@@ -10,13 +10,14 @@ use net_base::Instant;
 
 /// Plays a line that polls.
 pub fn play<'a>(host: &mut Host, verb: &'a str, words: &mut Words<'a>) -> Result<Answer, Stop<'a>> {
-    words.host()?;
-    let now = Instant::from_micros(words.micros()?);
+    words.host();
+    let now = Instant::from_micros(words.micros());
+    words.so_far()?;
     if !now.is_moment() {
         return Err(Stop::Refused("Moment"));
     }
     if verb == "poll" {
-        let budget = words.short("budget")?;
+        let budget = words.short("budget");
         words.end()?;
         return Ok(polled(
             host.interface

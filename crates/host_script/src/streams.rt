@@ -16,27 +16,25 @@ pub fn play<'a>(
     verb: &'a str,
     words: &mut Words<'a>,
 ) -> Result<Answer, Stop<'a>> {
-    words.host()?;
-    let place = words.size()?;
+    words.host();
+    let place = words.size();
     match verb {
         "listen" => {
-            let port = words.short("port")?;
+            let port = words.short("port");
             words.end()?;
             Ok(listen(host.tcp(place)?, port))
         }
         "connect" => {
-            let (remote, port) = (words.endpoint()?, words.short("port")?);
+            let (remote, port) = (words.endpoint(), words.short("port"));
             words.end()?;
             connect(host, place, remote, port)
         }
         "send" => {
-            let bytes = words.bytes()?;
-            words.end()?;
-            let bytes = bytes.decode(alloc)?;
+            let bytes = words.last_bytes(alloc)?;
             Ok(send(host.tcp(place)?, bytes.as_slice()))
         }
         "recv" => {
-            let most = words.size()?;
+            let most = words.size();
             words.end()?;
             Ok(recv(alloc, host.tcp(place)?, most)?)
         }

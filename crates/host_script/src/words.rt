@@ -1,5 +1,5 @@
 //! The words of a line, and the classes that they come in.
-ghost use Rattle.std.specs.Prelude.{◌≢◌, Some, IfOk};
+ghost use Rattle.std.specs.Prelude.{◌≢◌, Some};
 
 use crate::stop::Stop;
 use arrayvec::ArrayVec;
@@ -11,22 +11,24 @@ use std::alloc::{AllocError, Global};
 /// How many bytes a word may say by a count behind it.
 const MOST_REPEATED: usize = 1 << 20;
 
-/// What is left of the words of a line, where each two have one blank between them.
+/// What is left of the words of a line, where each two have one blank between them, and why the line isn't taken, if a word before them
+/// says so. Behind that each word is read as something that nobody looks at: `end` says it. So what reads a line goes straight on.
 #[derive(Drop)]
 pub struct Words<'a> {
     rest: Option<&'a str>,
+    stop: Option<Stop<'a>>,
 }
 
 /// The text of bytes, and how often they come.
 #[derive(Drop)]
-pub struct Bytes<'a> {
+struct Bytes<'a> {
     once: HexBytes<'a>,
     times: usize,
 }
 
 impl<'a> Bytes<'a> {
-    /// The bytes in memory of their own.
-    pub fn decode(&self, alloc: Global) -> Result<Vec<u8>, AllocError> {
+    // The bytes in memory of their own.
+    fn decode(&self, alloc: Global) -> Result<Vec<u8>, AllocError> {
         let once = self.once.decode(alloc)?;
         if self.times == 1 {
             return Ok(once);
@@ -42,7 +44,46 @@ impl<'a> Bytes<'a> {
 impl<'a> Words<'a> {
     /// The words of a text.
     pub fn new(text: &'a str) -> Words<'a> {
-        Words { rest: Some(text) }
+        Words {
+            rest: Some(text),
+            stop: None,
+        }
+    }
+
+    // The word that was read last says that the line isn't taken. The first that says so counts.
+    fn note(&mut self, stop: Stop<'a>) {
+        if self.stop.is_none() {
+            self.stop = Some(stop);
+        }
+    }
+
+    /// The word that was read last is none of this class.
+    pub fn wrong(&mut self, class: &'static str, word: &'a str) {
+        self.note(Stop::Wrong(class, word));
+    }
+
+    /// This, where no word before said that the line isn't taken.
+    pub fn or_before(&self, stop: Stop<'a>) -> Stop<'a> {
+        match self.stop {
+            Some(first) => first,
+            None => stop,
+        }
+    }
+
+    /// Whether the line is taken as far as it was read.
+    pub fn so_far(&self) -> Result<(), Stop<'a>> {
+        match self.stop {
+            Some(stop) => Err(stop),
+            None => Ok(()),
+        }
+    }
+
+    /// No word is left, and each that was read is taken.
+    pub fn end(&mut self) -> Result<(), Stop<'a>> {
+        if let Some(word) = self.next() {
+            self.note(Stop::Extra(word));
+        }
+        self.so_far()
     }
 
     /// The next word, if there is one left.
@@ -61,128 +102,134 @@ impl<'a> Words<'a> {
     }
 
     /// The next word, where one of this class is wanted.
-    pub fn word(&mut self, class: &'static str) -> Result<&'a str, Stop<'a>> {
+    pub fn word(&mut self, class: &'static str) -> &'a str {
         match self.next() {
-            Some(word) => Ok(word),
-            None => Err(Stop::Missing(class)),
+            Some(word) => word,
+            None => {
+                self.note(Stop::Missing(class));
+                ""
+            }
         }
     }
 
-    /// No word is left.
-    pub fn end(&mut self) -> Result<(), Stop<'a>> {
-        match self.next() {
-            Some(word) => Err(Stop::Extra(word)),
-            None => Ok(()),
+    // What was found in a word of this class, or else another value.
+    fn found<T: Copy>(
+        &mut self,
+        class: &'static str,
+        word: &'a str,
+        found: Option<T>,
+        other: T,
+    ) -> T {
+        match found {
+            Some(value) => value,
+            None => {
+                self.wrong(class, word);
+                other
+            }
         }
     }
 
     /// The host, which is A.
-    pub fn host(&mut self) -> Result<(), Stop<'a>> {
-        let word = self.word("host")?;
-        if word == "A" {
-            Ok(())
-        } else {
-            Err(Stop::Wrong("host", word))
+    pub fn host(&mut self) {
+        let word = self.word("host");
+        if word != "A" {
+            self.wrong("host", word);
         }
     }
 
     /// A count or a value.
-    pub fn number(&mut self) -> Result<u64, Stop<'a>> {
-        let word = self.word("number")?;
-        number(word).ok_or(Stop::Wrong("number", word))
+    pub fn number(&mut self) -> u64 {
+        let word = self.word("number");
+        self.found("number", word, number(word), 0)
     }
 
     /// A place or a size.
-    pub fn size(&mut self) -> Result<usize, Stop<'a>> {
-        let word = self.word("number")?;
-        size(word).ok_or(Stop::Wrong("number", word))
+    pub fn size(&mut self) -> usize {
+        let word = self.word("number");
+        self.found("number", word, size(word), 0)
     }
 
     /// A port, an identifier or a budget.
-    pub fn short(&mut self, class: &'static str) -> Result<u16, Stop<'a>> {
-        let word = self.word(class)?;
-        short(word).ok_or(Stop::Wrong(class, word))
+    pub fn short(&mut self, class: &'static str) -> u16 {
+        let word = self.word(class);
+        self.found(class, word, short(word), 0)
     }
 
     /// A moment, in microseconds.
-    pub fn micros(&mut self) -> Result<i64, Stop<'a>> {
-        let word = self.word("number")?;
-        micros(word).ok_or(Stop::Wrong("number", word))
+    pub fn micros(&mut self) -> i64 {
+        let word = self.word("number");
+        self.found("number", word, micros(word), 0)
     }
 
     /// A moment, which may lie before 0.
-    pub fn signed_micros(&mut self) -> Result<i64, Stop<'a>> {
-        let word = self.word("number")?;
-        let digits = word.strip_prefix('-').unwrap_or(word);
-        match (is_digits(digits), word.parse::<i64>()) {
-            (true, Ok(micros)) => Ok(micros),
-            _ => Err(Stop::Wrong("number", word)),
-        }
+    pub fn signed_micros(&mut self) -> i64 {
+        let word = self.word("number");
+        self.found("number", word, signed_micros(word), 0)
     }
 
     /// A moment, or none.
-    pub fn until(&mut self) -> Result<Option<i64>, Stop<'a>> {
-        let word = self.word("number")?;
+    pub fn until(&mut self) -> Option<i64> {
+        let word = self.word("number");
         if word == "none" {
-            return Ok(None);
+            return None;
         }
-        match micros(word) {
-            Some(micros) => Ok(Some(micros)),
-            None => Err(Stop::Wrong("number", word)),
-        }
+        Some(self.found("number", word, micros(word), 0))
     }
 
     /// How many microseconds something takes, or none.
-    pub fn span(&mut self) -> Result<Option<u64>, Stop<'a>> {
-        let word = self.word("number")?;
+    pub fn span(&mut self) -> Option<u64> {
+        let word = self.word("number");
         if word == "none" {
-            return Ok(None);
+            return None;
         }
-        match number(word) {
-            Some(micros) => Ok(Some(micros)),
-            None => Err(Stop::Wrong("number", word)),
-        }
+        Some(self.found("number", word, number(word), 0))
     }
 
     /// A hop limit, or none.
-    pub fn hops(&mut self) -> Result<Option<u8>, Stop<'a>>
-        ensures { IfOk result (λ hops. hops ≢ Some 0) }
+    pub fn hops(&mut self) -> Option<u8>
+        ensures { result ≢ Some 0 }
     {
-        let word = self.word("hop limit")?;
+        let word = self.word("hop limit");
         if word == "none" {
-            return Ok(None);
+            return None;
         }
         match byte(word) {
-            None | Some(0) => Err(Stop::Wrong("hop limit", word)),
-            Some(hops) => Ok(Some(hops)),
+            None | Some(0) => {
+                self.wrong("hop limit", word);
+                None
+            }
+            Some(hops) => Some(hops),
         }
     }
 
     /// `on` or `off`.
-    pub fn switch(&mut self) -> Result<bool, Stop<'a>> {
-        match self.word("on or off")? {
-            "on" => Ok(true),
-            "off" => Ok(false),
-            word => Err(Stop::Wrong("on or off", word)),
+    pub fn switch(&mut self) -> bool {
+        let word = self.word("on or off");
+        if word != "on" && word != "off" {
+            self.wrong("on or off", word);
         }
+        word == "on"
     }
 
     /// An address and a port.
-    pub fn endpoint(&mut self) -> Result<IpEndpoint, Stop<'a>> {
-        let word = self.word("endpoint")?;
-        word.parse().ok().ok_or(Stop::Wrong("endpoint", word))
+    pub fn endpoint(&mut self) -> IpEndpoint {
+        let word = self.word("endpoint");
+        let none = IpEndpoint::new(IpAddress::v4(0, 0, 0, 0), 0);
+        self.found("endpoint", word, word.parse::<IpEndpoint>().ok(), none)
     }
 
     /// An address of either family.
-    pub fn address(&mut self) -> Result<IpAddress, Stop<'a>> {
-        let word = self.word("address")?;
-        word.parse().ok().ok_or(Stop::Wrong("address", word))
+    pub fn address(&mut self) -> IpAddress {
+        let word = self.word("address");
+        let none = IpAddress::v4(0, 0, 0, 0);
+        self.found("address", word, word.parse::<IpAddress>().ok(), none)
     }
 
     /// An address with a prefix.
-    pub fn block(&mut self) -> Result<IpCidr, Stop<'a>> {
-        let word = self.word("block")?;
-        word.parse().ok().ok_or(Stop::Wrong("block", word))
+    pub fn block(&mut self) -> IpCidr {
+        let word = self.word("block");
+        let none = IpCidr::default();
+        self.found("block", word, word.parse::<IpCidr>().ok(), none)
     }
 
     /// All words that are left, as at most four blocks.
@@ -190,21 +237,29 @@ impl<'a> Words<'a> {
         let mut found = ArrayVec::new();
         for _ in 0..TABLE_ROOM {
             let Some(word) = self.next() else {
-                return Ok(found);
+                break;
             };
-            let Ok(block) = word.parse() else {
-                return Err(Stop::Wrong("block", word));
-            };
-            let _ = found.try_push(block);
+            match word.parse::<IpCidr>() {
+                Ok(block) => {
+                    let _ = found.try_push(block);
+                }
+                Err(_) => self.wrong("block", word),
+            }
         }
         self.end()?;
         Ok(found)
     }
 
-    /// Bytes in hex, which a count behind `*` may repeat.
-    pub fn bytes(&mut self) -> Result<Bytes<'a>, Stop<'a>> {
-        let word = self.word("bytes")?;
-        read_bytes(word).ok_or(Stop::Wrong("bytes", word))
+    /// The last word, which says bytes in hex, which a count behind `*` may repeat: these bytes.
+    pub fn last_bytes(&mut self, alloc: Global) -> Result<Vec<u8>, Stop<'a>> {
+        let word = self.word("bytes");
+        match read_bytes(word) {
+            Some(bytes) => {
+                self.end()?;
+                Ok(bytes.decode(alloc)?)
+            }
+            None => Err(self.or_before(Stop::Wrong("bytes", word))),
+        }
     }
 }
 
@@ -262,6 +317,14 @@ pub fn short(word: &str) -> Option<u16> {
 /// A number of 8 bits.
 pub fn byte(word: &str) -> Option<u8> {
     if is_digits(word) {
+        word.parse().ok()
+    } else {
+        None
+    }
+}
+
+fn signed_micros(word: &str) -> Option<i64> {
+    if is_digits(word.strip_prefix('-').unwrap_or(word)) {
         word.parse().ok()
     } else {
         None
