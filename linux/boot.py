@@ -5,9 +5,10 @@
 
 The host starts without an address. It has to be configured within five seconds of its clock, ping its router, and ask for names: one
 with an address of each family, one that is an alias of an alias, one that doesn't exist; to fetch a page of 10,000 bytes by the name of
-its host, which is Linux's stack; to renew a lease of two minutes twice; and to be deconfigured once the server is gone. --lose takes so many of 100 frames each way: then it has only to be configured, --rounds times.
-With --others ISC's dhcpd gives the leases, and unbound knows the names. The host's clock is this program's: where nothing is to be carried it goes on to the moment that the host waits for. --record keeps what
-the program read and wrote as the files stdin and stdout.
+its host, which is Linux's stack; to renew a lease of two minutes twice; and to be deconfigured once the server is gone. --lose takes so
+many of 100 frames each way: then it has only to be configured, --rounds times. With --others ISC's dhcpd gives the leases, and unbound
+knows the names. The host's clock is this program's: where nothing is to be carried it goes on to the moment that the host waits for.
+--record keeps what the program read and wrote as the files stdin and stdout.
 """
 import argparse, fcntl, os, random, select, signal, socket, struct, subprocess, sys, tempfile, threading, time
 

@@ -6,8 +6,8 @@
 //     pump [OPTIONS] DEVICE OTHER                                             the same link between two devices
 //
 // -l N, -r N, -h N, -d N: so many of 1000 packets each way are lost, repeated, held back behind the next one, or damaged in a byte;
-// -c N: where the random numbers begin; -s N: the seed of the host, which then has no key; -e MAC: the devices carry Ethernet frames (TAP), and the host has this
-// hardware address; -k FOLDER keeps what the program read and wrote as the files stdin and stdout.
+// -c N: where the random numbers begin; -s N: the seed of the host, which then has no key; -e MAC: the devices carry Ethernet frames (TAP),
+// and the host has this hardware address; -k FOLDER keeps what the program read and wrote as the files stdin and stdout.
 // SIGUSR1 lets the host's clock go on by an hour: each moment at which it wants a turn comes at once; it says when that is done. SIGTERM ends it.
 //
 // A turn is a packet's length (2 bytes), the moment in microseconds (8 bytes) and the packet, all numbers with the low byte first; the

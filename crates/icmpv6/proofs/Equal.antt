@@ -125,7 +125,8 @@ Decides-message (Repr.TimeExceeded r h xs) (Repr.TimeExceeded s k ys) =
           cc in let second : h ≡ k = cc in same.1 (both first (both second e.1)),
     )
 Decides-message (Repr.ParamProblem r p h xs) (Repr.ParamProblem s q k ys) =
-    let same = Decides-and _ _ (Decides-problem r s) (Decides-and _ _ (Decides-eqb p q) (Decides-and _ _ (Decides-v6 h k) (bytes_eq-Decides xs.now ys.now))) in (
+    let behind = Decides-and _ _ (Decides-v6 h k) (bytes_eq-Decides xs.now ys.now) in
+    let same = Decides-and _ _ (Decides-problem r s) (Decides-and _ _ (Decides-eqb p q) behind) in (
       λ yes. both (λ i. Value.ParamProblem ((same.0 yes).0 i) ((same.0 yes).1.0 i) ((same.0 yes).1.1.0 i)) (same.0 yes).1.1.1,
       λ e. let header =
           e.0 in let first : r ≡ s = cc in let place : p ≡ q = cc in let second : h ≡ k = cc in same.1 (both first (both place (both second e.1))),

@@ -5,8 +5,9 @@ use Rattle.std.proofs.lemmas.List.Sums.{count_by-le-length}
 use Rattle.net_base.specs.Device.{Move}
 use Rattle.interface.specs.State.{State}
 use Rattle.interface.specs.Polls.{Polls}
-use Rattle.interface.specs.Kept.{RunsAt, IsCounted}
-use Rattle.interface.specs.Priced.{IsPriced, is_used, sockets_in}
+use Rattle.interface.proofs.Kept.{RunsAt, IsCounted}
+use Rattle.interface.proofs.Kept.{IsPriced}
+use Rattle.interface.specs.Used.{is_used, sockets_in}
 use Rattle.interface.proofs.Priced.{polls_cost}
 use Rattle.interface.proofs.Shapes.{same_length}
 

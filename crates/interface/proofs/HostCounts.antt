@@ -27,7 +27,7 @@ use Rattle.interface.specs.Ingress.{Takes, Replied, is_awaited, sender_of, sende
 use Rattle.interface.specs.State.{State}
 use Rattle.interface.specs.Turn.{Leaves, SendsBy, Answers, TurnsIf, ItemTurns, is_waiting, let_through}
 use Rattle.interface.specs.declared.turn.Turned.{Turned}
-use Rattle.interface.specs.Priced.{IsPriced}
+use Rattle.interface.proofs.Kept.{IsPriced}
 use Rattle.interface.proofs.Runs.{receives_same}
 
 -- what is asked of the count

@@ -9,7 +9,7 @@ use Rattle.interface.proofs.SameHost.{place_same}
 use Rattle.interface.specs.State.{State}
 use Rattle.interface.specs.Ingress.{Takes}
 use Rattle.interface.specs.Polls.{Polls}
-use Rattle.interface.specs.Kept.{IsKept}
+use Rattle.interface.proofs.Kept.{IsKept}
 use Rattle.interface.proofs.Runs.{receives_same}
 use Rattle.interface.proofs.Keep.{polls_keep}
 
@@ -72,5 +72,13 @@ pub settings_so : {D : Type 0} (moves : D → Move → D → Type 0) (t : ℤ) (
 settings_so {D} moves t budget s s' changed polls =
     let old : InnerValue = s.host.inner in
     let kept = hosts_keep moves t (HasSettingsOf old) (arrives_so old) (sends_so old) (begins_so t old) in
-    let start : HasSettingsOf old old = record { hardware = refl; mtu = refl; checksums = refl; isn_key = refl; addresses = refl; any_ip = refl; routes = refl } in
+    let start : HasSettingsOf old old = record {
+      hardware = refl;
+      mtu = refl;
+      checksums = refl;
+      isn_key = refl;
+      addresses = refl;
+      any_ip = refl;
+      routes = refl;
+    } in
     (polls_keep moves t (λ (x : State D). HasSettingsOf old x.host.inner) kept budget s s' changed start polls).0

@@ -12,7 +12,7 @@ use Rattle.interface_egress.specs.declared.way_out.Sent.TheVariants as Outcome
 use Rattle.interface.specs.Polls.{Polls}
 use Rattle.interface.specs.State.{State}
 use Rattle.interface.specs.Idents.{TakesIdents}
-use Rattle.interface.specs.Priced.{sockets_in}
+use Rattle.interface.specs.Used.{sockets_in}
 use Rattle.interface.proofs.HostCounts.{IsHostCount, hosts_priced}
 use Rattle.interface.proofs.Priced.{polls_cost}
 

@@ -16,7 +16,8 @@ use Rattle.interface.specs.State.{State}
 use Rattle.interface.specs.Egress.{EgressStep, behind}
 use Rattle.interface.specs.Ingress.{IngressStep}
 use Rattle.interface.specs.Polls.{Repeats, Polls, begun}
-use Rattle.interface.specs.Kept.{RunsAt, sending_as, IsKept}
+use Rattle.interface.proofs.Kept.{RunsAt, IsKept}
+use Rattle.interface.specs.State.{sending_as}
 use Rattle.interface.proofs.Runs.{runs_so, runs_where, takes_runs, turn_runs}
 
 module _ {D : Type 0} (moves : D → Move → D → Type 0) (t : ℤ) (P : State D → Type 0) (kept : IsKept moves t P) where

@@ -12,6 +12,7 @@ pub mod Rounds
 pub mod Quieted
 pub mod Unchanged
 pub mod Runs
+pub mod Kept
 pub mod Keep
 pub mod Hosts
 pub mod Shapes

@@ -19,8 +19,10 @@ use Rattle.interface.specs.State.{State}
 use Rattle.interface.specs.Egress.{EgressStep, behind}
 use Rattle.interface.specs.Ingress.{IngressStep}
 use Rattle.interface.specs.Polls.{Repeats, Polls, begun}
-use Rattle.interface.specs.Kept.{RunsAt, sending_as}
-use Rattle.interface.specs.Priced.{IsPriced, is_used, sockets_in}
+use Rattle.interface.proofs.Kept.{RunsAt}
+use Rattle.interface.specs.State.{sending_as}
+use Rattle.interface.proofs.Kept.{IsPriced}
+use Rattle.interface.specs.Used.{is_used, sockets_in}
 use Rattle.interface.proofs.Runs.{runs_so, runs_where, takes_runs, turn_runs}
 use Rattle.interface.proofs.Shapes.{shape, trues, sockets_so, one_place, takes_shape}
 

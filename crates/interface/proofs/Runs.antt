@@ -18,7 +18,7 @@ use Rattle.interface.specs.declared.turn.Turned.{Turned}
 use Rattle.interface.proofs.SameHost.{same_where, goes_out_same, place_same}
 use Rattle.interface.specs.State.{State}
 use Rattle.interface.specs.Ingress.{Takes, Receives, Replied, is_awaited, sender_of, sender_with}
-use Rattle.interface.specs.Kept.{RunsAt}
+use Rattle.interface.proofs.Kept.{RunsAt}
 
 pub runs_so : (t : ℤ) (i : InnerValue) → RunsAt t i → at_moment t i ≡ i
 runs_so t i runs = λ k. record i { moment = sym runs.0 k; fresh = sym runs.1 k }

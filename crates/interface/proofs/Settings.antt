@@ -29,8 +29,15 @@ keeps_in i i' same =
     ∙ ap (λ x. record i' { moment = i.moment; hardware = i.hardware; mtu = i.mtu; checksums = i.checksums; isn_key = x }) same.isn_key
     ∙ ap (λ x. record i' { moment = i.moment; hardware = i.hardware; mtu = i.mtu; checksums = i.checksums; isn_key = i.isn_key; addresses = x })
     same.addresses
-    ∙ ap (λ x. record i' { moment = i.moment; hardware = i.hardware; mtu = i.mtu; checksums = i.checksums; isn_key = i.isn_key; addresses = i.addresses; any_ip = x })
-    same.any_ip
+    ∙ ap (λ x. record i' {
+      moment = i.moment;
+      hardware = i.hardware;
+      mtu = i.mtu;
+      checksums = i.checksums;
+      isn_key = i.isn_key;
+      addresses = i.addresses;
+      any_ip = x;
+    }) same.any_ip
     ∙ ap (λ x. record i' {
       moment = i.moment;
       hardware = i.hardware;

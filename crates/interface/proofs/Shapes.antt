@@ -27,7 +27,7 @@ use Rattle.interface_ingress.specs.Handed.{HandsTo, control_v4_places, control_v
 use Rattle.interface_ingress.specs.Reassembled.{taken_in}
 use Rattle.interface.specs.State.{State}
 use Rattle.interface.specs.Ingress.{Takes}
-use Rattle.interface.specs.Priced.{is_used, sockets_in}
+use Rattle.interface.specs.Used.{is_used, sockets_in}
 
 -- which places have sockets
 abbrev pub shape : Places → List Bool

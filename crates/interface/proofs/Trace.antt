@@ -37,7 +37,7 @@ use Rattle.interface.specs.declared.turn.Turned.{Turned}
 use Rattle.interface.specs.State.{State}
 use Rattle.interface.specs.Ingress.{Takes, Replied, is_awaited}
 use Rattle.interface.specs.Polls.{Polls}
-use Rattle.interface.specs.Kept.{RunsAt, IsCounted}
+use Rattle.interface.proofs.Kept.{RunsAt, IsCounted}
 use Rattle.interface.specs.Touches.{Touch, Looks, Leave, Sends, Traced, Does, departed, Silences, second_after}
 use Rattle.interface.proofs.Runs.{receives_same}
 use Rattle.interface.proofs.Count.{polls_count}

@@ -1,21 +1,24 @@
 -- Of the neighbours that are waited for, one comes first.
-use Rattle.std.proofs.Common.{◌≡◌, Bool, true, false, not, cond, if◌then◌else◌, List, [], ◌∷◌, Option, Some, None, refl, subst, arith}
+use Rattle.std.proofs.Common.{◌≡◌, Bool, true, false, not, cond, if◌then◌else◌, List, [], ◌∷◌, Option, Some, None, is_some, refl, ap, subst, ◌∙◌, arith}
 use Rattle.std.specs.Prelude.{ℤ, find}
 use Rattle.std.specs.Cmp.{IsStrictWeakOrder}
-use Rattle.std.specs.List.{filter_map, list_any}
+use Rattle.std.specs.List.{filter_map, fold, list_any}
+use Rattle.std.proofs.lemmas.Bool.{or_parts}
 use Rattle.ip_wire.specs.AddressTests.{is_same_address}
 use Rattle.ip_wire.specs.IpAddress.{IpAddress}
 use Rattle.interface_ingress.specs.Socket.{Socket}
-use Rattle.interface_tables.specs.Best.{is_unbeaten}
+use Rattle.interface_tables.specs.Best.{better_of, is_unbeaten}
 use Rattle.interface_tables.specs.Inner.{InnerValue}
 use Rattle.interface_egress.specs.Departure.{target_of}
 use Rattle.interface_egress.specs.declared.frame.Question.{Question}
 use Rattle.interface_egress.specs.declared.plan.Plan.TheVariants as Way
 use Rattle.interface_egress.specs.declared.socket_meta.Meta.{Meta}
+use Rattle.interface_egress.specs.declared.socket_meta.Waiting.{Waiting}
+use Rattle.interface_egress.specs.declared.socket_set.Item.{Item}
 use Rattle.interface_egress.specs.declared.socket_set.SocketStorage.{SocketStorage}
 use Rattle.interface_egress.specs.declared.way_out.Sent.{Sent}
 use Rattle.interface_egress.specs.declared.way_out.Sent.TheVariants as Outcome
-use Rattle.interface.specs.Awaited.{is_before, comes_before, awaited_in, next_awaited}
+use Rattle.interface.specs.Awaited.{awaited_by, awaited_at, awaited_in, comes_before, is_before, is_marked, is_marked_at, next_awaited}
 use Rattle.interface.specs.Turn.{held, is_given_up}
 use Rattle.interface.specs.declared.awaited.Awaited.{Awaited}
 
@@ -75,3 +78,23 @@ asked_in_turn hop m i to q is =
       not_not : (b : Bool) → not b ≡ false → b ≡ true
       not_not true e = refl
       not_not false e = absurd cc
+
+-- A PASS OVER ALL PLACES
+
+unmarked_by : (i : InnerValue) (w : Option Waiting) → is_some w ≡ false → awaited_by i w ≡ None
+unmarked_by i None is = refl
+unmarked_by i (Some w) is = absurd cc
+
+unmarked : (i : InnerValue) (o : Option (Item Socket)) → is_marked_at o ≡ false → awaited_at i o ≡ None
+unmarked i None is = refl
+unmarked i (Some item) is = unmarked_by i item.meta.waiting is
+
+-- where no socket waits none is found
+pub none_waits : (i : InnerValue) (ps : List (SocketStorage Socket)) → list_any is_marked ps ≡ false →
+    fold (λ (best : Option Awaited) (place : SocketStorage Socket). better_of comes_before best (awaited_in i place)) None ps ≡ None
+none_waits i [] none = refl
+none_waits i (p ∷ ps) none =
+    let parts : (is_marked p ≡ false) × (list_any is_marked ps ≡ false) = or_parts (is_marked p) (list_any is_marked ps) none in
+    ap (λ (o : Option Awaited). fold (λ (best : Option Awaited) (place : SocketStorage Socket). better_of comes_before best (awaited_in i place))
+    (better_of comes_before None o) ps) (unmarked i p.inner parts.0)
+    ∙ none_waits i ps parts.1

@@ -1,5 +1,5 @@
 -- Which neighbour is asked for next, of those that sockets wait for.
-use Rattle.std.specs.Prelude.{ℤ, int_lt, Bool, true, false, List, Option, None, Some}
+use Rattle.std.specs.Prelude.{ℤ, int_lt, Bool, true, false, List, Option, None, Some, is_some}
 use Rattle.std.specs.List.{filter_map}
 use Rattle.ip_wire.specs.IpAddress.{IpAddress}
 use Rattle.interface_tables.specs.Best.{first_best}
@@ -26,6 +26,14 @@ awaited_at i (Some item) = awaited_by i item.meta.waiting
 
 abbrev pub awaited_in : InnerValue → SocketStorage Socket → Option Awaited
 awaited_in i place = awaited_at i place.inner
+
+-- whether a socket waits for a neighbour
+abbrev pub is_marked_at : Option (Item Socket) → Bool
+is_marked_at None = false
+is_marked_at (Some item) = is_some item.meta.waiting
+
+abbrev pub is_marked : SocketStorage Socket → Bool
+is_marked place = is_marked_at place.inner
 
 -- One that was never asked for comes first, of two such the one that was waited for first; else the one that was asked for longer ago.
 abbrev pub is_before : Option ℤ → Option ℤ → ℤ → ℤ → Bool

@@ -4,8 +4,8 @@ use Rattle.std.specs.Borrow.{Fml, RattleType, MutBor, LendsSo}
 use Rattle.interface_egress.specs.Set.{places, is_fixed, set_at}
 use Rattle.interface_egress.specs.declared.socket_set.SocketSet.{SocketSet}
 use Rattle.interface_egress.specs.contracts.socket_set.SocketSet.{the_row as set_row}
-use Rattle.sockets.specs.declared.socket.Socket.{Socket}
-use Rattle.sockets.specs.contracts.socket.Socket.{the_row as socket_row}
+use Rattle.interface_ingress.specs.Socket.{Socket}
+use Rattle.interface_ingress.specs.SocketRow.{the_row as socket_row}
 
 module _ (K : RattleType) (upcast_of : K.Denot → Socket) where
   -- the place ends with the last value behind the reference as its socket, with the mark that it had, and all else as it was

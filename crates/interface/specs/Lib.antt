@@ -12,8 +12,7 @@ pub mod Egress
 pub mod Ingress
 pub mod Polls
 pub mod QuietPoll
-pub mod Kept
-pub mod Priced
+pub mod Used
 pub mod Idents
 pub mod Touches
 pub mod Steady

@@ -6,7 +6,7 @@ use Rattle.interface_tables.specs.Reassembly.{SlotValue}
 use Rattle.interface_egress.specs.declared.socket_set.SocketStorage.{SocketStorage}
 use Rattle.interface_ingress.specs.Socket.{Socket}
 use Rattle.interface_egress.specs.Fragments.{LeftValue}
-use Rattle.interface.specs.Host.{HostValue}
+use Rattle.interface.specs.Host.{HostValue, Sender}
 
 pub record State (D : Type 0) : Type 0 where
   pub device : D
@@ -22,6 +22,10 @@ host inner left slots timeout = record { inner = inner; left = left; slots = slo
 -- the same host and sockets behind a move of the device
 abbrev pub at_device : {D : Type 0} → State D → D → State D
 at_device s device = state device s.host s.places
+
+-- this host as it sends, with these sockets
+abbrev pub sending_as : {D : Type 0} → HostValue → Sender D → List (SocketStorage Socket) → State D
+sending_as h x ps = state x.device (record h { inner = x.inner; left = x.left }) ps
 
 -- what a poll leaves of a host: nothing changed but random words, neighbours and the next identification
 abbrev pub KeepsSettings : InnerValue → InnerValue → Type 0

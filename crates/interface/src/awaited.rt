@@ -1,8 +1,8 @@
 //! Which neighbour is asked for next, of those that sockets wait for.
 ghost use Rattle.std.specs.Prelude.{◌≡◌, None};
-ghost use Rattle.std.specs.List.{fold};
+ghost use Rattle.std.specs.List.{fold, list_any};
 ghost use Rattle.interface_tables.specs.Best.{better_of};
-ghost use Rattle.interface.specs.Awaited.{awaited_by, awaited_in, comes_before, next_awaited, turn_of};
+ghost use Rattle.interface.specs.Awaited.{awaited_by, awaited_in, comes_before, is_marked, next_awaited, turn_of};
 
 use interface_egress::{InterfaceInner, SocketStorage, Waiting};
 use interface_ingress::Socket;
@@ -40,10 +40,30 @@ fn next_awaited(inner: &InterfaceInner, places: &[SocketStorage<Socket>]) -> Opt
 fn first_in_turn(inner: &InterfaceInner, places: &[SocketStorage<Socket>]) -> Option<Awaited>
     ensures { result ≡ fold (λ best place. better_of comes_before best (awaited_in inner.now place)) None places.now }
 {
+    if !some_wait(places) {
+        return None;
+    }
     places.iter().fold(
         None,
         |best, place| better_of(best, awaited_in(inner, place)),
     )
+}
+
+/// Whether a socket waits for a neighbour, which few do.
+fn some_wait(places: &[SocketStorage<Socket>]) -> bool
+    ensures { result ≡ list_any is_marked places.now }
+{
+    places.iter().any(|place| is_marked(place))
+}
+
+/// Whether the socket at a place waits for a neighbour.
+fn is_marked(place: &SocketStorage<Socket>) -> bool
+    ensures { result ≡ is_marked place.now }
+{
+    match &place.inner {
+        Some(item) => item.meta.waiting.is_some(),
+        None => false,
+    }
 }
 
 /// The neighbour that the socket at a place waits for.

@@ -6,7 +6,7 @@ ghost use Rattle.interface.specs.Set.{places, socket_at};
 ghost use Rattle.interface.specs.ByKind.{LendsKind};
 
 use interface_egress::{SocketHandle, SocketSet};
-use sockets::{AnySocket, Socket};
+use interface_ingress::{AnySocket, Socket};
 
 /// Asks a set for a socket of some kind, as `sockets.get_mut_as::<udp::Socket>(handle)`.
 pub trait SocketsByKind {

@@ -18,7 +18,7 @@ ghost use Rattle.interface.specs.State.{State};
 ghost use Rattle.interface.specs.Polls.{Polls};
 ghost use Rattle.interface_egress.specs.Determined.{IsDetermined};
 ghost use Rattle.interface.specs.Idents.{TakesIdents};
-ghost use Rattle.interface.specs.Priced.{sockets_in};
+ghost use Rattle.interface.specs.Used.{sockets_in};
 ghost use Rattle.interface.specs.Steady.{IsSteady};
 ghost use Rattle.interface.specs.Touches.{Traced};
 

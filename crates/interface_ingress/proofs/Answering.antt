@@ -22,7 +22,8 @@ use Rattle.interface_ingress.specs.Answering.{IsEchoV4, IsEchoV6, IsBetweenV4, I
 use Rattle.interface_ingress.specs.Delivered.{Places, first_place, is_connected, segment_place, segment_answer}
 use Rattle.sockets.specs.Socket.{accepts_segment}
 use Rattle.interface_ingress.specs.Handed.{names_nobody, segment_reply}
-use Rattle.interface_ingress.specs.Replies.{is_one_host, source_of_reply, sent_v4, reply_v4, reply_v6, echo_v4, echo_v6, quoted_v4, quoted_v6, error_v4, error_v6}
+use Rattle.interface_ingress.specs.Replies.{is_one_host, source_of_reply, sent_v4, reply_v4, reply_v6}
+use Rattle.interface_ingress.specs.Replies.{echo_v4, echo_v6, quoted_v4, quoted_v6, error_v4, error_v6}
 use Rattle.interface_ingress.specs.Replies.{is_between_hosts, parameter_problem, reason_of}
 
 -- ECHO

@@ -12,7 +12,11 @@ use Rattle.ipv6_headers.specs.declared.headers.Behind.{Behind}
 use Rattle.ipv6_headers.specs.declared.headers.Behind.TheVariants as End
 use Rattle.ipv6_headers.proofs.Bare.{bare_icmpv6, bare_tcp, bare_udp}
 use Rattle.interface_ingress.specs.Handed.{is_known_v6, is_bare}
-use Rattle.interface_ingress.specs.Upper.{IsBare}
+use Rattle.interface_ingress.specs.Upper.{upper_header, upper_payload}
+
+-- no extension header stands between
+abbrev pub IsBare : IpRepr → List ℕ → Type 0
+IsBare ip payload = (upper_header ip payload ≡ ip) × (upper_payload ip payload ≡ payload)
 
 -- a protocol that the host knows stands there at once
 pub known_at_once : (protocol : IpProtocol) (payload : List ℕ) → is_known_v6 protocol ≡ true → go_through protocol payload ≡ End.Upper protocol 0

@@ -45,7 +45,8 @@ use Rattle.socket_base.proofs.Lengths.{Lengths, length-payload}
 use Rattle.socket_base.specs.Packet.{PacketValue, PayloadValue, ControlV4, ControlV6, Bytes, Datagram, Segment, PayloadFits, IsSendable, payload_written}
 use Rattle.socket_base.specs.Widths.{IsPayload}
 use Rattle.interface_ingress.specs.Carried.{IsCarried}
-use Rattle.interface_ingress.specs.Upper.{upper_payload, IsBrought, IsBare}
+use Rattle.interface_ingress.specs.Upper.{upper_payload, IsBrought}
+use Rattle.interface_ingress.proofs.Bare.{IsBare}
 use Rattle.interface_ingress.specs.Handed.{is_known_v6}
 use Rattle.interface_ingress.proofs.Bare.{bare_v4, bare_v6}
 use Rattle.interface_ingress.specs.Incoming.{Arp, Ip4, Ip6, IsPacketV4, IsPacketV6, IsIncoming}

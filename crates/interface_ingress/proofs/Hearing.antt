@@ -15,7 +15,8 @@ use Rattle.ip_wire.specs.Ipv6Address.{Ipv6Address}
 use Rattle.ip_wire.specs.Ipv6Repr.{Ipv6Repr}
 use Rattle.socket_base.specs.Packet.{PacketValue}
 use Rattle.interface_tables.specs.Inner.{InnerValue, is_own, is_address_of, is_own_solicited_node, is_probed, solicits}
-use Rattle.interface_ingress.specs.Heard.{Heard, heard, counts, tells, learned, advertised, replaces, is_asked, told_at, advertisement, answer, heard_at, heard_on}
+use Rattle.interface_ingress.specs.Heard.{Heard, heard, counts, tells, learned, advertised}
+use Rattle.interface_ingress.specs.Heard.{replaces, is_asked, told_at, advertisement, answer, heard_at, heard_on}
 use Rattle.interface_ingress.specs.Heard.{neighbor_heard, with_entries_of}
 
 -- ENTRIES ALONE

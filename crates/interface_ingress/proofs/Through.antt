@@ -8,7 +8,8 @@ use Rattle.ipv6_headers.specs.declared.headers.Behind.{Behind}
 use Rattle.interface_tables.specs.Inner.{InnerValue}
 use Rattle.interface_ingress.specs.Arrives.{Arrived, Hands, HandsUpper}
 use Rattle.interface_ingress.specs.Delivered.{Places}
-use Rattle.interface_ingress.specs.Upper.{upper_header, upper_payload, IsBare}
+use Rattle.interface_ingress.specs.Upper.{upper_header, upper_payload}
+use Rattle.interface_ingress.proofs.Bare.{IsBare}
 
 hands_along : (i : InnerValue) (places : Places) (ip : IpRepr) (payload : List ℕ) (taken : Bool) (upper other : IpRepr) (bytes more : List ℕ) (a : Arrived) →
     upper ≡ other → bytes ≡ more → HandsUpper i places ip payload taken upper bytes a → HandsUpper i places ip payload taken other more a

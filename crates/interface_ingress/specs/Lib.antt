@@ -47,3 +47,4 @@ pub use Rattle.sockets.specs.Polling
 pub use Rattle.sockets.specs.Socket as Sockets
 pub use Rattle.sockets.specs.WellFormed
 pub use Rattle.sockets.specs.declared.socket.Socket
+pub use Rattle.sockets.specs.contracts.socket.Socket as SocketRow

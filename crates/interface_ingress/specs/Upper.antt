@@ -1,5 +1,5 @@
 -- What a packet carries behind its extension headers (RFC 8200, section 4): the bytes of an upper-layer protocol, or none.
-use Rattle.std.specs.Prelude.{◌≡◌, ℕ, List, Option}
+use Rattle.std.specs.Prelude.{ℕ, List, Option}
 use Rattle.net_base.specs.ChecksumCapabilities.{ChecksumCapabilities}
 use Rattle.ip_wire.specs.IpRepr.{IpRepr}
 use Rattle.ip_wire.specs.IpRepr.TheVariants as Ip
@@ -19,7 +19,3 @@ upper_payload (Ip.Ipv6 header) payload = upper_bytes_of payload (go_through head
 -- a packet brings this, or nothing of a known format
 abbrev pub IsBrought : ChecksumCapabilities → IpRepr → List ℕ → Option PayloadValue → Type 0
 IsBrought caps ip payload carried = IsCarriedContent caps (upper_header ip payload) (upper_payload ip payload) carried
-
--- no extension header stands between
-abbrev pub IsBare : IpRepr → List ℕ → Type 0
-IsBare ip payload = (upper_header ip payload ≡ ip) × (upper_payload ip payload ≡ payload)

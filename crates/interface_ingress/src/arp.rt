@@ -2,7 +2,8 @@
 ghost use Rattle.std.specs.Prelude.{◌≡◌};
 ghost use Rattle.std.specs.List.{list_any};
 ghost use Rattle.interface_egress.specs.Inner.{is_address_of};
-ghost use Rattle.interface_ingress.specs.Arp.{is_known, is_sound, is_for_own, is_from_known, counts, teaches, probes, learned, answer_at, arp_arrived, arp_answer};
+ghost use Rattle.interface_ingress.specs.Arp.{is_known, is_sound, is_for_own, is_from_known, counts};
+ghost use Rattle.interface_ingress.specs.Arp.{teaches, probes, learned, answer_at, arp_arrived, arp_answer};
 
 use crate::acquaintance::{knows, seeks};
 use interface_egress::InterfaceInner;

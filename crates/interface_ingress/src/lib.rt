@@ -30,4 +30,6 @@ pub use icmp_reply::{
 pub use incoming::{Incoming, read, read_into};
 pub use reassemble::{keep, release, take_in};
 pub use reply::Reply;
-pub use sockets::{Context, Offer, Packet, PollAt, Socket, addresses, laws as socket_laws, widths};
+pub use sockets::{
+    AnySocket, Context, Offer, Packet, PollAt, Socket, addresses, laws as socket_laws, widths,
+};

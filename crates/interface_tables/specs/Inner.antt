@@ -1,7 +1,7 @@
 -- A host beside its sockets and its slots, as a value: its addresses and tables, and where its packets go (RFC 1122, sections
 -- 3.2.1.3 and 3.3.1; RFC 4291, section 2.8).
 use Rattle.std.specs.Prelude.{ℕ, ◌+◌, ◌/◌, ◌%◌, ◌^◌, ◌==◌, ◌&&◌, ◌||◌, not, nat_lt, Bool, true, false, if◌then◌else◌, ℤ, pos, ◌+ℤ◌, int_lt, List, [], ◌∷◌, ◌++◌}
-use Rattle.std.specs.Prelude.{length, drop, replicate, slice_index, Option, None, Some}
+use Rattle.std.specs.Prelude.{length, take, drop, replicate, slice_index, Option, None, Some}
 use Rattle.std.specs.List.{list_any}
 use Rattle.std.specs.Str.{bytes_eq}
 use Rattle.net_base.specs.ChecksumCapabilities.{ChecksumCapabilities}
@@ -131,10 +131,19 @@ may_come_from i source destination =
 
 -- WAY OUT
 
--- the destination itself in an own network, else the router of the best route
+-- fe80::/64, the form of the link-local addresses (RFC 4291, section 2.5.6)
+abbrev pub is_in_link_prefix : IpAddress → Bool
+is_in_link_prefix (Ip.Ipv4 a) = false
+is_in_link_prefix (Ip.Ipv6 a) = bytes_eq (take 8 a.0) (0xfe ∷ 0x80 ∷ replicate 6 0)
+
+-- The address is a neighbour's: it is in an own network, or a link-local one, which no router passes on (RFC 4861, section 5.1).
+abbrev pub is_on_link : InnerValue → IpAddress → Bool
+is_on_link i address = is_in_own_network i address || is_in_link_prefix address
+
+-- the destination itself on the link, else the router of the best route
 abbrev pub next_hop : InnerValue → IpAddress → Option IpAddress
 next_hop i address =
-    if is_in_own_network i address then Some address else router_of (best_route i.routes address i.moment)
+    if is_on_link i address then Some address else router_of (best_route i.routes address i.moment)
 
 -- the Ethernet address of all stations
 abbrev pub all_stations : EthernetAddress

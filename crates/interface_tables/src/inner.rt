@@ -12,7 +12,7 @@ ghost use Rattle.interface_tables.specs.Neighbor as Neighbors;
 ghost use Rattle.interface_tables.specs.Inner.{is_own, is_address_of, is_in_own_network, is_this, is_broadcast_of, is_local_broadcast, is_all_systems};
 ghost use Rattle.interface_tables.specs.Inner.{is_all_nodes, solicits, solicits_block, is_own_solicited_node, is_probed, is_member_of, is_loopback_in};
 ghost use Rattle.interface_tables.specs.Inner.{is_for_us, is_loopback_of, is_foreign_loopback, may_come_from, next_hop, group_station, link_by, link_address};
-ghost use Rattle.interface_tables.specs.Inner.{is_known_hop, has_neighbor, at_moment, with_next_ident, with_neighbor, with_renewal, with_request, awaited_hop};
+ghost use Rattle.interface_tables.specs.Inner.{is_known_hop, has_neighbor, is_in_link_prefix, is_on_link, at_moment, with_next_ident, with_neighbor, with_renewal, with_request, awaited_hop};
 ghost use Rattle.interface_tables.specs.Inner.{is_crowded, next_request};
 ghost use Rattle.interface_tables.specs.Settings.{refusal, made, unless, first_ident, hardware_refusal, with_hardware, is_stranger, with_addresses};
 ghost use Rattle.interface_tables.specs.Settings.{with_any_ip, with_routes, used};
@@ -34,6 +34,9 @@ use std::marker::Model;
 
 /// How many own addresses, routes and neighbours a host keeps.
 pub const TABLE_ROOM: usize = 4;
+
+/// The first half of each link-local address, `fe80::/64`.
+const LINK_PREFIX: [u8; 8] = [0xfe, 0x80, 0, 0, 0, 0, 0, 0];
 
 /// A host beside its sockets and its slots.
 #[derive(Debug, Drop)]
@@ -239,11 +242,18 @@ impl InterfaceInner {
             || is_loopback_in(addr)
     }
 
-    /// Where a packet for this destination goes next: to itself in an own network, else to a router.
+    /// Whether the address is a neighbour's: it is in an own network, or a link-local one.
+    pub fn is_on_link(&self, addr: &IpAddress) -> bool
+        ensures { result ≡ is_on_link self.now addr.now }
+    {
+        self.in_same_network(addr) || is_in_link_prefix(addr)
+    }
+
+    /// Where a packet for this destination goes next: to itself on the link, else to a router.
     pub fn route(&self, addr: &IpAddress) -> Option<IpAddress>
         ensures { result ≡ next_hop self.now addr.now }
     {
-        if self.in_same_network(addr) {
+        if self.is_on_link(addr) {
             Some(*addr)
         } else {
             self.routes.lookup(addr, self.moment)
@@ -595,6 +605,19 @@ fn is_loopback_in(address: &IpAddress) -> bool
     match address {
         IpAddress::Ipv4(_) => false,
         IpAddress::Ipv6(address) => address.is_loopback(),
+    }
+}
+
+/// Whether this is a link-local address.
+fn is_in_link_prefix(address: &IpAddress) -> bool
+    ensures { result ≡ is_in_link_prefix address.now }
+{
+    match address {
+        IpAddress::Ipv4(_) => false,
+        IpAddress::Ipv6(address) => {
+            let (prefix, _) = address.0.split_at(8);
+            prefix == LINK_PREFIX.as_slice()
+        }
     }
 }
 

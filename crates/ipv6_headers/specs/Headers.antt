@@ -1,6 +1,7 @@
 -- Extension headers (RFC 8200, section 4), one behind the other: what stands behind them, or what becomes of the packet. Places are
 -- those of the payload, pointers those of the packet, whose header has 40 bytes.
-use Rattle.std.specs.Prelude.{ℕ, zero, suc, ◌+◌, ◌*◌, ◌/◌, ◌%◌, ◌≤◌, ◌==◌, nat_le, nat_lt, ◌&&◌, Bool, true, false, if◌then◌else◌, List, [], ◌∷◌, length, drop, slice_index, slice_range, Option, Some, None}
+use Rattle.std.specs.Prelude.{ℕ, zero, suc, ◌+◌, ◌*◌, ◌/◌, ◌%◌, ◌≤◌, ◌==◌, nat_le, nat_lt, ◌&&◌, Bool}
+use Rattle.std.specs.Prelude.{true, false, if◌then◌else◌, List, [], ◌∷◌, length, drop, slice_index, slice_range, Option, Some, None}
 use Rattle.ip_address.specs.Fields.{be16}
 use Rattle.ip_address.specs.Protocol.{protocol_of}
 use Rattle.ip_address.specs.declared.ip.IpProtocol.{IpProtocol}

@@ -17,7 +17,7 @@ use Rattle.interface_egress.specs.declared.socket_set.Item.{Item}
 use Rattle.interface_egress.specs.declared.socket_set.SocketStorage.{SocketStorage}
 use Rattle.interface_egress.specs.Set.{with_socket}
 use Rattle.interface.specs.State.{State}
-use Rattle.interface.specs.Kept.{IsCounted}
+use Rattle.interface.proofs.Kept.{IsCounted}
 use Rattle.interface.specs.Touches.{Touch, Looks, Leave, Sends, Does, DoesAll}
 use Rattle.interface.proofs.Count.{polls_count}
 use Rattle.interface.proofs.Trace.{polls_traced}

@@ -33,7 +33,7 @@ use Rattle.interface.specs.State.{State}
 use Rattle.interface.specs.Turn.{Leaves, SendsBy, Answers, TurnsIf, ItemTurns, PlaceTurns, is_waiting, let_through}
 use Rattle.interface.specs.WayOut.{PieceLeaves}
 use Rattle.interface.specs.declared.turn.Turned.{Turned}
-use Rattle.interface.specs.Kept.{IsCounted}
+use Rattle.interface.proofs.Kept.{IsCounted}
 use Rattle.interface.proofs.Count.{polls_count}
 use Rattle.interface.proofs.Runs.{receives_same}
 use Rattle.lan_port.specs.Port.{PortValue, PortMove}

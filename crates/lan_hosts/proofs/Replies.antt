@@ -37,10 +37,12 @@ use Rattle.interface_ingress.specs.Behind.{Behind}
 use Rattle.interface_ingress.specs.Behind.TheVariants as End
 use Rattle.interface_ingress.specs.Problem.{Problem}
 use Rattle.interface_ingress.specs.Reassembled.{is_control_v6}
-use Rattle.interface_ingress.specs.Handed.{handed_reply, control_v4_reply, control_v6_reply, message_reply, names_nobody, is_known_v4, is_unknown, unread_v6, unread_reply}
+use Rattle.interface_ingress.specs.Handed.{handed_reply, control_v4_reply, control_v6_reply, message_reply}
+use Rattle.interface_ingress.specs.Handed.{names_nobody, is_known_v4, is_unknown, unread_v6, unread_reply}
 use Rattle.interface_ingress.specs.Heard.{neighbor_heard, Heard, heard, heard_on, counts, tells, is_asked, learned, advertised, advertisement, answer}
 use Rattle.interface_ingress.specs.Incoming.{IncomingValue, Arp, Ip4, Ip6}
-use Rattle.interface_ingress.specs.Replies.{echo_v4, sent_v4, source_of_reply, port_unreachable, protocol_unreachable, parameter_problem, is_told, reason_of, reply_v4, reply_v6, error_v6}
+use Rattle.interface_ingress.specs.Replies.{echo_v4, sent_v4, source_of_reply, port_unreachable, protocol_unreachable}
+use Rattle.interface_ingress.specs.Replies.{parameter_problem, is_told, reason_of, reply_v4, reply_v6, error_v6}
 use Rattle.interface_ingress.specs.Replies.{is_between_hosts, quoted_v4, quoted_v6}
 use Rattle.interface_egress.specs.Inner.{InnerValue, context_of}
 use Rattle.interface_ingress.specs.Best.{at_place}
@@ -129,7 +131,8 @@ problem_so i header payload problem pointer =
 
 headers_so : (i : InnerValue) (header : Ipv6Repr) (payload : List ℕ) (taken : Bool) (behind : Behind) → IfMeasured (unread_v6 i header payload taken behind)
 headers_so i header payload taken (End.Problem problem pointer) =
-    if_either ((is_unknown problem && taken) || carries_error header.next_header payload) None (parameter_problem i header payload problem pointer) tt (problem_so i header payload problem pointer)
+    let silent = (is_unknown problem && taken) || carries_error header.next_header payload in
+    if_either silent None (parameter_problem i header payload problem pointer) tt (problem_so i header payload problem pointer)
 headers_so i header payload taken behind = tt
 
 unread_so : (i : InnerValue) (ip : IpRepr) (payload : List ℕ) (taken : Bool) → IfMeasured (unread_reply i ip payload taken)

@@ -1,11 +1,9 @@
 -- When an event isn't taken. The first test that holds says why; the history is read by its tables alone.
 use Rattle.std.specs.Prelude.{◌≡◌, ◌⊎◌, ℕ, ◌+◌, ◌*◌, ◌%◌, ◌^◌, ◌==◌, nat_le, nat_lt, ℤ, int_lt, not, ◌||◌, Bool, true, List, [], ◌∷◌, length, Option, None}
 use Rattle.std.specs.Prelude.{Some}
-use Rattle.std.specs.List.{count_by}
 use Rattle.ip_wire.specs.Fields.{be16}
-use Rattle.interface_egress.specs.Set.{is_free}
-use Rattle.interface_egress.specs.declared.socket_set.SocketStorage.{SocketStorage}
 use Rattle.interface.specs.Settings.{is_moment}
+use Rattle.interface.specs.Used.{sockets_in}
 use Rattle.net_base.specs.Medium.TheVariants as Medium
 use Rattle.lan_frames.specs.Carried.{names_tcp_or_udp}
 use Rattle.lan_frames.specs.Cuts.{ipv4_part}
@@ -21,7 +19,6 @@ use Rattle.lan_history.specs.declared.answer.Refused.TheVariants as For
 use Rattle.lan_history.specs.declared.event.Side.{Side}
 use Rattle.lan_history.specs.declared.event.Side.TheVariants.{A, B}
 use Rattle.lan_history.specs.declared.record.SocketRecord.{SocketRecord}
-use Rattle.sockets.specs.declared.socket.Socket.{Socket}
 use Rattle.lan_hosts.specs.Station.{StationValue, Stations, station, kind_at}
 use Rattle.lan_hosts.specs.Origins.{medium_of, frame_sent}
 
@@ -40,17 +37,10 @@ table tables B = tables.b
 
 -- OF A HOST
 
-abbrev pub is_used : SocketStorage Socket → Bool
-is_used place = not (is_free place)
-
--- how many sockets there are
-abbrev pub socket_count : List (SocketStorage Socket) → ℕ
-socket_count places = count_by is_used places
-
 -- In each pass of a poll each socket may send a datagram, and so may each frame that is taken be answered by one. One number is for
 -- one datagram, so a host stops before it has used all of them.
 abbrev pub may_run_out : StationValue → Table → ℕ → Bool
-may_run_out s t budget = nat_le (2 ^ 16) (t.numbered + budget * (1 + socket_count s.places))
+may_run_out s t budget = nat_le (2 ^ 16) (t.numbered + budget * (1 + sockets_in s.places))
 
 -- no moment, or before the host's last
 abbrev pub is_too_early : StationValue → ℤ → Bool

@@ -9,7 +9,8 @@ ghost use Rattle.lan_frames.specs.Cuts.{ipv4_part};
 ghost use Rattle.lan_hosts.specs.Linking.{CanLinkBy, HasPiece, linked_by};
 ghost use Rattle.lan_hosts.specs.Origins.{medium_of, frame_sent, cut as cut_hosts};
 ghost use Rattle.lan_hosts.specs.Records.{table_next};
-ghost use Rattle.lan_hosts.specs.Refusals.{act_tests, refusal, may_run_out, socket_count};
+ghost use Rattle.interface.specs.Used.{sockets_in};
+ghost use Rattle.lan_hosts.specs.Refusals.{act_tests, refusal, may_run_out};
 ghost use Rattle.lan_hosts.specs.Station.{station};
 ghost use Rattle.lan_hosts.specs.Steps.{Happens};
 
@@ -58,7 +59,7 @@ fn actor(event: &Event) -> Option<Side>
 
 /// How many sockets there are.
 fn socket_count(places: &[SocketStorage<Socket>]) -> usize
-    ensures { result ≡ socket_count places.now }
+    ensures { result ≡ sockets_in places.now }
 {
     let mut count = 0;
     for place in places {

@@ -237,8 +237,8 @@ module _
         (called_opens places h e side p q at v (Call.Connect remote port) kind allowed is k far pairs (connects_to port remote.port)
         (connecting v pair (first_number cx pair)) may (ap (opening_by (Some (Call.Connect remote port))) done) refl refl refl
         (subst (λ (local : ℕ). HasPorts (record { local = local; remote = Some remote.port }) (connecting v pair (first_number cx pair)).block) ports.local
-        (subst (λ (far : ℕ). HasPorts (record { local = pair.local_port; remote = Some far }) (connecting v pair (first_number cx pair)).block) ports.remote_port
-        (ports_connecting v pair (first_number cx pair))))
+        (subst (λ (far : ℕ). HasPorts (record { local = pair.local_port; remote = Some far }) (connecting v pair (first_number cx pair)).block)
+        ports.remote_port (ports_connecting v pair (first_number cx pair))))
         (λ other_pair named. let same : pair ≡ other_pair =
         cc in inl (ap (λ (n : ℕ). Some n) (sym ports.remote_port ∙ ap (λ (x : EndpointPair). x.remote_port) same)))
         (λ rs w b keeps. keeps_connecting v w (no_past rs) b pair (first_number cx pair) keeps state refl (number_small cx pair)))

@@ -1,4 +1,5 @@
 -- Runs of a host by itself.
+pub mod There
 pub mod Paths
 pub mod Calling
 pub mod Polling

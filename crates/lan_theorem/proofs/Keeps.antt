@@ -69,8 +69,8 @@ taken_sent d d' frame is = sym (ap (λ (p : PortValue). p.link.sent) is.1)
 -- WHAT WAS MADE
 
 -- what goes has the form that the link wants
-going_by : (p : Party) (h : IpRepr) (x : PayloadValue) → FitsBehind h x → MadeBy p x → NamesNoPorts (carried_in (upper_header (Ips.normal h) (payload_written sealed h x))) ⊎
-    (CanBeRead h x × MadeBy p (normal_payload x))
+going_by : (p : Party) (h : IpRepr) (x : PayloadValue) → FitsBehind h x → MadeBy p x →
+    NamesNoPorts (carried_in (upper_header (Ips.normal h) (payload_written sealed h x))) ⊎ (CanBeRead h x × MadeBy p (normal_payload x))
 going_by p h (ControlV4 message bytes) fits made = inr (fits, tt)
 going_by p h (ControlV6 message bytes) fits made = inr (fits, tt)
 going_by p h (Bytes bytes) fits made = inl fits

@@ -1,4 +1,6 @@
 -- What the link hands over was made.
+pub mod Rebuilt
+pub mod Asked
 pub mod Behind
 pub mod Hands
 pub mod Contents

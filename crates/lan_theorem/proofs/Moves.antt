@@ -1,4 +1,7 @@
 -- What a host does is a run over packets.
+pub mod Following
+pub mod Coming
+pub mod MadeReplies
 pub mod Places
 pub mod Nets
 pub mod Offering

@@ -11,7 +11,7 @@ use Rattle.lan_hosts.specs.Kinds.Kind.{OfHost}
 use Rattle.lan_hosts.specs.Side.{Side}
 use Rattle.lan_packets.specs.Parties.{Party, Net, party}
 use Rattle.lan_hosts.specs.Port.{LinkEnd, PortValue, PortMove}
-use Rattle.lan_hosts.specs.Refusals.{socket_count}
+use Rattle.interface.specs.Used.{sockets_in}
 use Rattle.lan_hosts.specs.Station.{StationValue, Stations, station, at_port}
 use Rattle.lan_hosts.specs.Steps.{PollsAt, ActsAt}
 use Rattle.lan_hosts.proofs.Growing.{happens_stays}
@@ -57,7 +57,7 @@ module _ (firsts most : Side →
   so_far = count_v4 (j.out side)
 
   abbrev pub then_most : ℕ
-  then_most = so_far + budget * (1 + socket_count s.places)
+  then_most = so_far + budget * (1 + sockets_in s.places)
 
   link : IsLink PortMove theirs L
   link = is_link theirs (j.out (other side)) (j.out side) (firsts side) s.link.sent (firsts (other side)) (station old (other side)).host.inner.ident

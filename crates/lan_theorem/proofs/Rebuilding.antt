@@ -32,7 +32,8 @@ use Rattle.lan_theorem.specs.Hosts.Machine.{Turn}
 use Rattle.lan_theorem.specs.Moves.Made.{MadeBy}
 use Rattle.lan_theorem.specs.Link.Made.{sealed, bytes_of}
 use Rattle.lan_theorem.specs.Link.Frames.{BringsFrom, IsSentV4}
-use Rattle.lan_theorem.specs.Link.Held.{IsPayloadOf, IsRebuiltOf}
+use Rattle.lan_theorem.specs.Link.Held.{IsPayloadOf}
+use Rattle.lan_theorem.proofs.Link.Rebuilt.{IsRebuiltOf}
 use Rattle.lan_theorem.specs.Link.Numbers.{AreFew}
 use Rattle.lan_theorem.specs.Link.Sides.{AreSent, IsHostFrame}
 use Rattle.lan_theorem.proofs.Link.HostFrames.{whole6_uncut}
@@ -73,7 +74,9 @@ module _ (q : Party) (first next : ℕ) (out : List PacketValue) (sent : AreSent
   -- the packet has the protocol of the header
   protocol_is : (h : Ipv4Repr) (payload : List ℕ) (o : IsPayloadOf out h payload) →
       carried_in (upper_header (Ips.normal o.sent.packet.header) (bytes_of o.sent.packet)) ≡ h.next_header
-  protocol_is h payload o = ap (λ (x : IpRepr). carried_in (upper_header (Ips.normal x) (bytes_of o.sent.packet))) o.sent.header ∙ sym (ap (λ (k : Ipv4FragKey). k.protocol) o.key_is)
+  protocol_is h payload o =
+      ap (λ (x : IpRepr). carried_in (upper_header (Ips.normal x) (bytes_of o.sent.packet))) o.sent.header
+      ∙ sym (ap (λ (k : Ipv4FragKey). k.protocol) o.key_is)
 
   named_is : (h : Ipv4Repr) (payload : List ℕ) (o : IsPayloadOf out h payload) → told (carried_in o.sent.packet.header) ≡ h.next_header
   named_is h payload o =
@@ -85,10 +88,9 @@ module _ (q : Party) (first next : ℕ) (out : List PacketValue) (sent : AreSent
   made_of_one h payload o ports = elim (sent.packets o.sent.packet o.sent.among).going.carries [
     | inl none ↦ absurd (not_both (carried_in (upper_header (Ips.normal o.sent.packet.header) (bytes_of o.sent.packet))) none
         (either_is (carried_in (upper_header (Ips.normal o.sent.packet.header) (bytes_of o.sent.packet))) h.next_header (protocol_is h payload o) ports))
-    | inr reads ↦ (
-      reads.0,
-      has_made q o.sent.packet.header o.sent.packet.payload reads.0 (either_is (told (carried_in o.sent.packet.header)) h.next_header (named_is h payload o) ports) reads.1,
-    )
+    | inr reads ↦
+        let known = either_is (told (carried_in o.sent.packet.header)) h.next_header (named_is h payload o) ports in
+        (reads.0, has_made q o.sent.packet.header o.sent.packet.payload reads.0 known reads.1)
   ]
 
   of_made : (h : Ipv4Repr) (payload : List ℕ) → IsRebuiltOf out h payload → NamesPorts h → IsOfMade q h payload

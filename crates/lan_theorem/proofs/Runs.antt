@@ -19,7 +19,8 @@ use Rattle.lan_hosts.specs.Safe.{first_port, net_of}
 use Rattle.lan_hosts.specs.Station.{Stations, station}
 use Rattle.lan_hosts.specs.Steps.{Happens, ActsAt}
 use Rattle.lan_theorem.specs.Moves.Follows.{IsNetOf, Comes, IsNoPoll}
-use Rattle.lan_theorem.specs.Moves.Joined.{first_net, HasCome}
+use Rattle.lan_theorem.specs.Moves.Joined.{first_net}
+use Rattle.lan_theorem.proofs.Moves.Coming.{HasCome}
 use Rattle.lan_theorem.specs.Moves.Fit.{IsFit, AreFit}
 use Rattle.lan_theorem.specs.Moves.Raws.{OfEach}
 use Rattle.lan_theorem.proofs.Moves.Calls.{names}

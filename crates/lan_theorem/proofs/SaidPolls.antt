@@ -29,7 +29,8 @@ use Rattle.interface_ingress.specs.Incoming.{IncomingValue, IsIncoming, IsConten
 use Rattle.interface_ingress.specs.Reassembled.{is_taken_in, taken_in}
 use Rattle.interface.specs.Host.{HostValue, Sender}
 use Rattle.interface.specs.Ingress.{Takes, Replied, is_awaited, sender_of, sender_with}
-use Rattle.interface.specs.Kept.{IsKept, sending_as}
+use Rattle.interface.proofs.Kept.{IsKept}
+use Rattle.interface.specs.State.{sending_as}
 use Rattle.interface.specs.Polls.{begun}
 use Rattle.interface.specs.State.{State, state, at_device}
 use Rattle.interface.specs.Turn.{Leaves, SendsBy, Answers, TurnsIf, ItemTurns, is_waiting, let_through}

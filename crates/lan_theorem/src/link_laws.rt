@@ -28,7 +28,7 @@ ghost use Rattle.lan_hosts.specs.Kinds.Kind.{OfHost};
 ghost use Rattle.lan_hosts.specs.Side.{Side};
 ghost use Rattle.lan_hosts.specs.Port.{PortValue, PortMove};
 ghost use Rattle.lan_hosts.specs.Origins.{medium_of};
-ghost use Rattle.lan_hosts.specs.Refusals.{socket_count};
+ghost use Rattle.interface.specs.Used.{sockets_in};
 ghost use Rattle.lan_hosts.specs.Runs.{Leads, table_in};
 ghost use Rattle.lan_hosts.specs.Station.{Stations, station};
 ghost use Rattle.lan_theorem.specs.Link.Made.{IsIn, BringsMade, IsGoing};
@@ -135,7 +135,7 @@ pub fn numbers_suffice()
         → Leads past old e new
         → kind_of e.event ≡ OfHost side (Polls t budget)
         → count_v4 out ≤ (table_in past side (station old side)).numbered
-        → count_v4 out' ≤ count_v4 out + budget * (1 + socket_count (station old side).places)
+        → count_v4 out' ≤ count_v4 out + budget * (1 + sockets_in (station old side).places)
         → IsTied (medium_of (station old side)) out (station old side).link.sent out' (station new side).link.sent
         → AreFew out' × (count_v4 out' ≤ (table_in (e ∷ past) side (station new side)).numbered) }
     ensures grows { (past : List Entry) (e : Entry) (old new : Stations) (side : Side)

@@ -4,7 +4,13 @@ use Rattle.std.specs.Prelude.{slice_get}
 use Rattle.lan_history.specs.declared.event.Event.{Event}
 use Rattle.lan_history.specs.declared.answer.Answer.{Answer}
 use Rattle.lan_theorem.specs.Runs.{WorldValue, Step, Steps}
-use Rattle.lan_world.specs.Come.{HasRun}
+use Rattle.std.specs.Prelude.{◌≤◌}
+
+-- so many of the events have been taken, and these are left
+pub record HasRun (old : WorldValue) (events : List Event) (place : ℕ) (left : List Event) (now : WorldValue) : Type 0 where
+  pub steps : Steps old (take place events) now
+  pub left_over : drop place events ≡ left
+  pub bound : place ≤ length events
 
 -- where something is left of a list, its first comes next
 record IsNext {X : Type 0} (n : ℕ) (xs : List X) (x : X) (rest : List X) : Type 0 where

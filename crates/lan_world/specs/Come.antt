@@ -1,10 +1,9 @@
 -- What a world keeps: where it came from, how, and what its tables say.
-use Rattle.std.specs.Prelude.{◌≡◌, ℕ, ◌≤◌, List, length, take, drop}
+use Rattle.std.specs.Prelude.{◌≡◌, List}
 use Rattle.lan_history.specs.History.{Entry}
-use Rattle.lan_history.specs.declared.event.Event.{Event}
 use Rattle.lan_theorem.specs.Fresh.{IsFreshWorld}
 use Rattle.lan_theorem.specs.Refusals.{Table, Tables}
-use Rattle.lan_theorem.specs.Runs.{Start, Starts, WorldValue, WorldRun, Steps, unused_both, tables_in}
+use Rattle.lan_theorem.specs.Runs.{Start, Starts, WorldValue, WorldRun, unused_both, tables_in}
 use Rattle.lan_theorem.specs.Station.{StationValue, Stations}
 use Rattle.lan_theorem.specs.Events.{AreTyped}
 
@@ -37,9 +36,3 @@ pub record HasCome (start_a start_b a b : StationValue) (of_a of_b : Table) (his
   pub run : WorldRun history (unused_both (starts_of start_a start_b)) (both a b)
   pub tables : tables of_a of_b ≡ tables_in history (both a b)
   pub typed : AreTyped history
-
--- so many of the events have been taken, and these are left
-pub record HasRun (old : WorldValue) (events : List Event) (place : ℕ) (left : List Event) (now : WorldValue) : Type 0 where
-  pub steps : Steps old (take place events) now
-  pub left_over : drop place events ≡ left
-  pub bound : place ≤ length events

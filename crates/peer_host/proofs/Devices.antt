@@ -27,7 +27,7 @@ use Rattle.interface_ingress.specs.Arrives as Replies
 use Rattle.interface_ingress.specs.Arrives.{ReplyValue}
 use Rattle.interface.specs.Host.{Sender}
 use Rattle.interface.specs.Ingress.{Takes, Replied, is_awaited, sender_of}
-use Rattle.interface.specs.Kept.{IsKept}
+use Rattle.interface.proofs.Kept.{IsKept}
 use Rattle.interface.specs.Polls.{Polls}
 use Rattle.interface.specs.State.{State}
 use Rattle.interface.specs.Turn.{Leaves, SendsBy, Answers, TurnsIf, ItemTurns, PlaceTurns, is_waiting, let_through}

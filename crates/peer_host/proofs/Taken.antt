@@ -4,7 +4,8 @@ use Rattle.net_base.specs.Device.{Move, Took}
 use Rattle.sockets.specs.declared.socket.Socket.{Socket}
 use Rattle.interface_ingress.specs.Delivered.{Places}
 use Rattle.interface.specs.Ingress.{is_read, Takes, Reads}
-use Rattle.interface.specs.Kept.{sending_as, IsKept}
+use Rattle.interface.specs.State.{sending_as}
+use Rattle.interface.proofs.Kept.{IsKept}
 use Rattle.interface.specs.Polls.{Polls, begun}
 use Rattle.interface.specs.State.{State, at_device}
 use Rattle.interface.proofs.Keep.{polls_keep}

@@ -143,7 +143,9 @@ module _ {D : Type 0} (moves : D → Move → D → Type 0) (t : ℤ) (from : St
           more = got.more;
           is = taken;
           bound = got.bound;
-          behind = ap (λ (b : Bool). contents (if b then got.new.received else appended got.new.received (length bytes) (metadata_of ip udp) bytes)) at ∙ got.behind;
+          behind =
+              ap (λ (b : Bool). contents (if b then got.new.received else appended got.new.received (length bytes) (metadata_of ip udp) bytes)) at
+              ∙ got.behind;
           were = got.were;
         }
         by false at = record {

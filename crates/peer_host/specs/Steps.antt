@@ -7,7 +7,7 @@ use Rattle.interface_egress.specs.Fragments.{LeftValue}
 use Rattle.interface_egress.specs.declared.socket_set.SocketStorage.{SocketStorage}
 use Rattle.interface.specs.Host.{HostValue, Sender}
 use Rattle.interface.specs.Ingress.{Takes}
-use Rattle.interface.specs.Kept.{sending_as}
+use Rattle.interface.specs.State.{sending_as}
 use Rattle.interface.specs.Polls.{begun}
 use Rattle.interface.specs.State.{State}
 use Rattle.interface.specs.Turn.{PlaceTurns}

@@ -16,7 +16,8 @@ use Rattle.tcp_model.specs.Offers.{silent, offer_syn, offer_choice, offer_ack, o
 use Rattle.tcp_model.specs.Offers.{backed_off, offer_between, offer_with, offer_of}
 use Rattle.tcp_model.specs.LossRecovery.{loss_probe_moment, loss_probed, loss_probed_by}
 use Rattle.tcp_model.specs.Probing.{probe_started, probe_moment, is_probe_unset, is_probing}
-use Rattle.tcp_model.specs.Quiet.{IsQuiet, AreLater}
+use Rattle.tcp_model.specs.Quiet.{IsQuiet}
+use Rattle.tcp_model.proofs.Later.{AreLater}
 use Rattle.tcp_model.specs.Retries.{gives_up, given_up}
 use Rattle.tcp_model.specs.Rules.{time_wait_end, owes_syn, resends, ack_moment, has_text, text_choice, resend_choice, probe_choice, updates_window}
 use Rattle.tcp_model.specs.Rules.{keep_alive_moment, backed_off_now}

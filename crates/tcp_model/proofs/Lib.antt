@@ -1,3 +1,4 @@
+pub mod Later
 pub mod Waits
 pub mod EchoSteps
 pub mod Numbers

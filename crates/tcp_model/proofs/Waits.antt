@@ -11,7 +11,8 @@ use Rattle.tcp_control.specs.declared.endpoints.EndpointPair.{EndpointPair}
 use Rattle.tcp_model.specs.Due.{wishes, moments, any, earlier_of, earliest, at_moment, poll_open, poll_between, poll_with, poll_of}
 use Rattle.tcp_control.specs.Moments.{is_due, earlier, timeout_from}
 use Rattle.tcp_model.specs.Offers.{silent, first_rules, last_rules, backed_off, offer_between, offer_with, offer_of}
-use Rattle.tcp_model.specs.Quiet.{IsQuiet, AreLater}
+use Rattle.tcp_model.specs.Quiet.{IsQuiet}
+use Rattle.tcp_model.proofs.Later.{AreLater}
 use Rattle.tcp_control.specs.declared.state.State.{State}
 use Rattle.tcp_control.specs.declared.state.State.TheVariants as In
 use Rattle.tcp_model.specs.Probing.{probe_started, probe_moment, with_probe_at}

@@ -1,5 +1,5 @@
 -- A socket that has nothing to offer at a moment.
-use Rattle.std.specs.Prelude.{◌≡◌, ℤ, false, List, [], ◌∷◌, Option}
+use Rattle.std.specs.Prelude.{◌≡◌, false}
 use Rattle.tcp_control.specs.Context.{ContextValue}
 use Rattle.tcp_control.specs.declared.endpoints.EndpointPair.{EndpointPair}
 use Rattle.tcp_control.specs.Moments.{is_due}
@@ -8,11 +8,6 @@ use Rattle.tcp_model.specs.Probing.{is_probe_unset, probe_moment}
 use Rattle.tcp_model.specs.Rules.{time_wait_end, owes_syn, resends, ack_moment, has_text, updates_window, keep_alive_moment}
 use Rattle.tcp_model.specs.Timeout.{timeout_end, is_timeout_unset}
 use Rattle.tcp_model.specs.Value.{TcpValue, queued_in, free_in, room_of}
-
--- none of the moments has come
-abbrev pub AreLater : ℤ → List (Option ℤ) → Type 0
-AreLater now [] = Unit {0}
-AreLater now (moment ∷ more) = (is_due now moment ≡ false) × AreLater now more
 
 -- of a socket between these endpoints that isn't closed: no rule applies at the moment, and none sets a moment
 pub record IsQuiet (cx : ContextValue) (v : TcpValue) (pair : EndpointPair) : Type 0 where

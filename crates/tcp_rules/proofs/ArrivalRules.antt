@@ -31,7 +31,8 @@ use Rattle.tcp_model.specs.Value.{TcpValue, Arrived, with_block, dropped, answer
 use Rattle.tcp_model.specs.declared.block.Block.{Block}
 use Rattle.tcp_model.specs.FirstNumbers.{first_number, draws_number}
 use Rattle.tcp_model.specs.Timestamps.{believed, stamp_taken, echo_taken}
-use Rattle.tcp_rules.specs.Flight.{flight_of, Goes, IsPastAll}
+use Rattle.tcp_rules.specs.Flight.{flight_of, IsPastAll}
+use Rattle.tcp_rules.proofs.Going.{Goes}
 use Rattle.tcp_rules.proofs.Steps.{same, goes_on, anew, una_goes, acked_goes}
 
 same_reply : (b : Block) (mine reply : Reply) → IsPastAll b mine → Some mine ≡ Some reply → IsPastAll b reply

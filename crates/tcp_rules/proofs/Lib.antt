@@ -1,3 +1,4 @@
+mod Going
 mod Steps
 pub mod ArrivalRules
 pub mod OfferRules

@@ -40,12 +40,19 @@ use Rattle.tcp_rules.specs.Events.{Event, Setting, after, led, set as sets, is_p
 use Rattle.tcp_rules.specs.Events.Event.{Comes, Asked, Listens, Connects, Sends, Reads, Closes, Aborts, Sets}
 use Rattle.tcp_rules.specs.Events.Setting.{Timeout, KeepAlive, AckDelay, Nagle, HopLimit, Timestamps, Paused, Retries, Congestion, MinRto}
 use Rattle.tcp_rules.specs.InOrder.{sending_of, IsInOrder}
-use Rattle.tcp_rules.specs.Losses.{AreWithin, Known, known_of, IsKnownRight}
+use Rattle.tcp_rules.specs.Losses.{AreWithin, Known}
 use Rattle.tcp_rules.proofs.ArrivalCases.{timed, by_arrival, Received, Opening, Content, Drawing, acked_open}
 use Rattle.tcp_rules.proofs.CongestionRules.{fin_on, state_past, close_on, unnamed}
 use Rattle.tcp_rules.proofs.OfferCases.{Rules, FirstRules, LastRules, by_rules, begun, probing}
 use Rattle.tcp_rules.proofs.OrderSteps.{clash}
 use Rattle.tcp_rules.proofs.OrderRules.{event_order, new_order}
+
+abbrev pub known_of : Block → Known
+known_of b = record { state = b.state; runs = b.loss.board.runs; top = b.sender.top }
+
+pub record IsKnownRight (k : Known) : Type 0 where
+  pub within : AreWithin k.top k.runs
+  pub listens : is_listening k.state ≡ true → k.runs ≡ no_runs
 
 -- RUNS
 

@@ -27,7 +27,8 @@ use Rattle.tcp_model.specs.Settled.{settled, sent_off, recorded, probed, end_of,
 use Rattle.tcp_model.specs.Timeout.{timeout_end, timeout_started, timed_out}
 use Rattle.tcp_model.specs.Value.{TcpValue, with_block, unoffered, ended, queued_in, free_in, room_of, window_of}
 use Rattle.tcp_model.specs.declared.block.Block.{Block}
-use Rattle.tcp_rules.specs.Flight.{Goes, is_bare}
+use Rattle.tcp_rules.specs.Flight.{is_bare}
+use Rattle.tcp_rules.proofs.Going.{Goes}
 use Rattle.tcp_rules.proofs.Steps.{same, goes_on, goes_from, anew, backs_off, sends, probes, timer_runs}
 
 -- SETTLING

@@ -2,7 +2,8 @@
 use Rattle.std.proofs.Common.{◌≡◌, ℕ, ◌<◌, ◌≤◌, true, false, List, [], ◌∷◌, arith}
 use Rattle.tcp_control.specs.States.{is_listening}
 use Rattle.tcp_model.specs.Value.{TcpValue}
-use Rattle.tcp_rules.specs.Flight.{flight_of, IsArmed, Rises, Goes}
+use Rattle.tcp_rules.specs.Flight.{flight_of, IsArmed, Rises}
+use Rattle.tcp_rules.proofs.Going.{Goes}
 use Rattle.tcp_rules.specs.Runs.{Happening, MayHappen, IsRun, Lasts, after, run}
 use Rattle.tcp_rules.specs.Runs.Happening.{Comes, Asked, Called}
 use Rattle.tcp_rules.proofs.ArrivalRules.{arrival_goes}

@@ -5,7 +5,8 @@ use Rattle.std.proofs.lemmas.Bool.{cond_both, eqb-true}
 use Rattle.tcp_control.specs.States.{is_closed, is_listening}
 use Rattle.tcp_model.specs.Acknowledged.{block_acknowledged, ended_if, in_state, una_moved, state_after_ack}
 use Rattle.tcp_model.specs.declared.block.Block.{Block}
-use Rattle.tcp_rules.specs.Flight.{Flight, flight_of, IsArmed, Rises, Goes}
+use Rattle.tcp_rules.specs.Flight.{Flight, flight_of, IsArmed, Rises}
+use Rattle.tcp_rules.proofs.Going.{Goes}
 
 rises_not : (f : Flight) → Rises f f
 rises_not f = λ _. (omega arith, omega arith)

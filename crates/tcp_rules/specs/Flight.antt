@@ -1,7 +1,6 @@
 -- What a socket has in flight: how far past SND.UNA it was sent, what was ever sent, and the timer of what isn't acknowledged.
 use Rattle.std.specs.Prelude.{◌≡◌, ◌⊎◌, ℕ, ◌+◌, ◌<◌, ◌≤◌, ◌==◌, ℤ, Bool, true, false, Option, is_some}
 use Rattle.ip_wire.specs.TcpControl.TheVariants as Control
-use Rattle.tcp_control.specs.States.{is_listening}
 use Rattle.tcp_control.specs.declared.offer.OfferKind.{OfferKind}
 use Rattle.tcp_control.specs.declared.offer.OfferKind.TheVariants as Kind
 use Rattle.tcp_control.specs.declared.offer.Reply.{Reply}
@@ -29,11 +28,6 @@ IsArmed f = (f.in_flight == 0) ≡ false → is_some f.retransmit_at ≡ true
 -- The highest position that was sent, counted from ISS, never falls, nor does SND.UNA, as long as the latter is counted.
 abbrev pub Rises : Flight → Flight → Type 0
 Rises f g = g.past_iss < 4_294_967_295 → (f.past_iss ≤ g.past_iss) × (f.past_iss + f.top ≤ g.past_iss + g.top)
-
--- one step of a socket; it may begin a connection, or take a listener back
-pub record Goes (old new : Block) : Type 0 where
-  pub armed : IsArmed (flight_of old) → IsArmed (flight_of new)
-  pub rises : is_listening old.state ≡ false → is_listening new.state ≡ false → Rises (flight_of old) (flight_of new)
 
 -- WHERE BARE SEGMENTS LIE
 

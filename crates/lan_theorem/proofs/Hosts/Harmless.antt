@@ -22,7 +22,8 @@ use Rattle.lan_hosts.specs.Station.{Stations, station}
 use Rattle.lan_frames.specs.ChecksumCapabilities.{ChecksumCapabilities}
 use Rattle.lan_frames.specs.Medium.{Medium}
 use Rattle.lan_theorem.specs.Hosts.Damage.{IsHarmless, IsHarmlessFrom, IsHarmlessBy, DamageIsHarmless, WasHarmless, HaveWords, IsNoSegment, BringsNoSegment}
-use Rattle.lan_theorem.specs.Hosts.GoesOn.{GoesOn, IsThere}
+use Rattle.lan_theorem.specs.Hosts.GoesOn.{GoesOn}
+use Rattle.lan_theorem.proofs.Hosts.There.{IsThere}
 use Rattle.lan_theorem.proofs.Hosts.Moving.{goes_on}
 use Rattle.lan_theorem.proofs.Hosts.Staying.{medium_stays, origin_same, origin_there, there_still}
 

@@ -2,7 +2,7 @@
 use Rattle.std.proofs.Common.{◌≡◌, ℕ, ◌-◌, ℤ, Bool, List, ◌++◌, length, sym, ap, ◌∙◌}
 use Rattle.interface.specs.State.{State}
 use Rattle.interface_egress.specs.Departing.{HasSettingsOf}
-use Rattle.interface.specs.Kept.{IsCounted}
+use Rattle.interface.proofs.Kept.{IsCounted}
 use Rattle.interface.specs.Touches.{Touch, departed, Silences}
 use Rattle.interface.proofs.Count.{polls_count}
 use Rattle.interface.proofs.Hosts.{settings_so}

@@ -8,7 +8,7 @@ use Rattle.interface_ingress.specs.AddressTests.{is_in_block, is_unicast, are_of
 use Rattle.interface_ingress.specs.IpAddress.{IpAddress}
 use Rattle.interface.specs.QuietStep.{RoutesStay}
 use Rattle.interface_tables.specs.Best.{first_best}
-use Rattle.interface_tables.specs.Inner.{InnerValue, is_in_own_network}
+use Rattle.interface_tables.specs.Inner.{InnerValue, is_on_link}
 use Rattle.interface_tables.specs.Route.{is_expired, serving, is_longer, router_of, without, without_at}
 use Rattle.interface_tables.specs.declared.route.Route.{Route}
 use Rattle.lan_theorem.specs.Hosts.Quiet.{IsOutside, NoneExpires}
@@ -55,7 +55,7 @@ all_serve address from until (r ∷ rs) up out = (same_serving address from unti
 
 pub routes_stay : (asked : InnerValue) (t : ℤ) → asked.moment ≤ℤ t → NoneExpires asked.moment t asked.routes → RoutesStay asked t
 routes_stay asked t up out address =
-    ap (λ (rs : List Route). if is_in_own_network asked address then Some address else router_of (first_best is_longer rs))
+    ap (λ (rs : List Route). if is_on_link asked address then Some address else router_of (first_best is_longer rs))
     (filter_same (serving address t) (serving address asked.moment) (reverse asked.routes)
     (all_reverse (λ r. serving address t r ≡ serving address asked.moment r) asked.routes (all_serve address asked.moment t asked.routes up out)))
 

@@ -10,7 +10,8 @@ use Rattle.lan_hosts.specs.Side.TheVariants.{A, B}
 use Rattle.lan_hosts.specs.Origins.{frame_of_origin, origins_of, origins, sent_before, is_cut_of, own_frames}
 use Rattle.lan_hosts.specs.Runs.{Starts, start, unused, unused_both, WorldValue, Leads, WorldRun, counts_of, tables_in}
 use Rattle.lan_hosts.specs.Station.{StationValue, Stations, station}
-use Rattle.lan_theorem.specs.Hosts.GoesOn.{GoesOn, AreThere}
+use Rattle.lan_theorem.specs.Hosts.GoesOn.{GoesOn}
+use Rattle.lan_theorem.proofs.Hosts.There.{AreThere}
 use Rattle.lan_theorem.specs.Hosts.HostRuns.{Deed, deed_of, deed_in, deeds, frames_sent, frames_taken, IsHostRun}
 use Rattle.lan_theorem.specs.Hosts.Machine.{Turn, Machine, machine_of, HostRun, room_after, room_behind}
 use Rattle.lan_theorem.proofs.Hosts.Acting.{IsTurn, is_turn, turn_of, step_of}

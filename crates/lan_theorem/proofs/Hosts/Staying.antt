@@ -17,7 +17,8 @@ use Rattle.lan_hosts.specs.Side.{Side}
 use Rattle.lan_hosts.specs.Origins.{medium_of, frame_sent, damaged_in, frame_of_origin, goes_to, origins_of, origins}
 use Rattle.lan_hosts.specs.Refusals.{Tables, is_no_frame, segment_tests, refusal}
 use Rattle.lan_hosts.specs.Station.{Stations, station}
-use Rattle.lan_theorem.specs.Hosts.GoesOn.{GoesOn, IsThere, AreThere}
+use Rattle.lan_theorem.specs.Hosts.GoesOn.{GoesOn}
+use Rattle.lan_theorem.proofs.Hosts.There.{IsThere, AreThere}
 use Rattle.lan_theorem.proofs.Hosts.Acting.{not_refused}
 
 pub among : (k n : ℕ) → not (nat_lt k n) ≡ false → k < n

@@ -37,7 +37,7 @@ use Rattle.interface_ingress.specs.Reassembled.{Slots, taken_in}
 use Rattle.interface_ingress.proofs.Settings.{brings_same}
 use Rattle.interface.specs.Host.{Sender}
 use Rattle.interface.specs.Ingress.{Takes, Replied, is_awaited, sender_of, sender_with}
-use Rattle.interface.specs.Kept.{RunsAt, IsKept}
+use Rattle.interface.proofs.Kept.{RunsAt, IsKept}
 use Rattle.interface.specs.State.{State, at_device}
 use Rattle.interface.specs.Touches.{second_after}
 use Rattle.interface.specs.Turn.{Leaves, SendsBy, Answers, TurnsIf, ItemTurns, is_waiting, let_through}

@@ -31,7 +31,8 @@ use Rattle.lan_frames.specs.declared.part.Part.{Part}
 use Rattle.lan_theorem.specs.Link.Made.{sealed, bytes_of}
 use Rattle.lan_theorem.specs.Link.Frames.{medium_on}
 use Rattle.interface_egress.proofs.Planned.{AsksFrom}
-use Rattle.lan_theorem.specs.Link.Sides.{IsOther, IsAsked, IsBetweenStations, HasSixBytes}
+use Rattle.lan_theorem.specs.Link.Sides.{IsOther, IsBetweenStations, HasSixBytes}
+use Rattle.lan_theorem.proofs.Link.Asked.{IsAsked}
 use Rattle.lan_theorem.proofs.Link.Behind.{carries}
 use Rattle.lan_theorem.proofs.Link.Links.{number_behind}
 

@@ -15,7 +15,7 @@ use Rattle.interface_delivery.specs.IpRepr.TheVariants as Ip
 use Rattle.interface_ingress.specs.Ipv4Address.{Ipv4Address}
 use Rattle.interface_delivery.specs.Ipv4Repr.{Ipv4Repr}
 use Rattle.interface_tables.specs.Best.{at_place}
-use Rattle.interface_tables.specs.Inner.{InnerValue, is_local_broadcast, is_in_own_network, next_hop, link_by, link_of_hop, link_on, link_address}
+use Rattle.interface_tables.specs.Inner.{InnerValue, is_local_broadcast, is_on_link, next_hop, link_by, link_of_hop, link_on, link_address}
 use Rattle.interface_tables.specs.Inner.{group_station, all_stations}
 use Rattle.interface_tables.specs.Neighbor.{CacheValue, lookup, missing, answer_by, place_of, unless_failed, has_failed}
 use Rattle.interface_tables.specs.Route.{best_route, router_of}
@@ -28,7 +28,8 @@ use Rattle.interface_tables.specs.declared.neighbor.Neighbor.{Neighbor}
 use Rattle.interface_egress.specs.Plan.{longest_cut, total_len, cut_if_idle, long_plan, ask_v4, ask_on, may_ask, ask_if, plan_by, never_leaves, plan_of}
 use Rattle.interface_egress.specs.declared.plan.Plan.{Plan}
 use Rattle.interface_egress.specs.declared.plan.Plan.TheVariants as Way
-use Rattle.lan_theorem.specs.Link.Sides.{IsSameKind, IsStation, IsSound, IsAsked}
+use Rattle.lan_theorem.specs.Link.Sides.{IsSameKind, IsStation, IsSound}
+use Rattle.lan_theorem.proofs.Link.Asked.{IsAsked}
 use Rattle.lan_theorem.proofs.Link.Routers.{routers_are}
 
 -- WHAT IS KNOWN OF A NEIGHBOUR
@@ -105,7 +106,7 @@ hops own i (Some hop) sound is =
 
 next_is : (i : InnerValue) (address : IpAddress) → IsSound i → IsIpAddress address → IfSome (next_hop i address) IsIpAddress
 next_is i address sound is =
-    elim (is_in_own_network i address) as (λ b. IfSome (cond b (Some address) (router_of (best_route i.routes address i.moment))) IsIpAddress) [
+    elim (is_on_link i address) as (λ b. IfSome (cond b (Some address) (router_of (best_route i.routes address i.moment))) IsIpAddress) [
       | true ↦ is
       | false ↦ routers_are i.routes sound.routers address i.moment
     ]

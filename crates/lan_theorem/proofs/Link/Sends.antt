@@ -36,7 +36,8 @@ use Rattle.lan_hosts.specs.Port.{PortValue, PortMove}
 use Rattle.lan_theorem.specs.Link.Made.{sealed, IsGoing}
 use Rattle.lan_theorem.specs.Link.Frames.{medium_on, IsOut}
 use Rattle.lan_theorem.specs.Link.Numbers.{and_v4, count_v4, AreNumbered, IsTied}
-use Rattle.lan_theorem.specs.Link.Sides.{Grows, WentOut, AreSent, IsHostFrame, IsOther, IsSound, IsSameKind, IsStation, IsLeft, IsSender, IsAsked}
+use Rattle.lan_theorem.specs.Link.Sides.{Grows, WentOut, AreSent, IsHostFrame, IsOther, IsSound, IsSameKind, IsStation, IsLeft, IsSender}
+use Rattle.lan_theorem.proofs.Link.Asked.{IsAsked}
 use Rattle.lan_theorem.specs.Link.Sides.{IsBetweenStations}
 use Rattle.lan_theorem.proofs.Link.Grown.{all_grow, sent4_grows, frame_grows}
 use Rattle.lan_theorem.proofs.Link.PlanKinds.{PlanKind, plan_kind}

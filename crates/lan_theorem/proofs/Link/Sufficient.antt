@@ -18,7 +18,8 @@ use Rattle.lan_hosts.specs.Side.{Side}
 use Rattle.lan_hosts.specs.Side.TheVariants.{A, B}
 use Rattle.lan_hosts.specs.Origins.{medium_of, begins_datagram}
 use Rattle.lan_hosts.specs.Records.{datagrams_added}
-use Rattle.lan_hosts.specs.Refusals.{Table, socket_count, may_run_out, refusal, table}
+use Rattle.interface.specs.Used.{sockets_in}
+use Rattle.lan_hosts.specs.Refusals.{Table, may_run_out, refusal, table}
 use Rattle.lan_hosts.specs.Runs.{table_in, tables_in, Leads}
 use Rattle.lan_hosts.specs.Station.{Stations, station}
 use Rattle.lan_hosts.proofs.Growing.{tables_go_on, happens_stays}
@@ -55,13 +56,13 @@ module _ (past : List Entry) (e : Entry) (old new : Stations) (side : Side) (lea
   -- A POLL
 
   module _ (t : ℤ) (budget : ℕ) (is : kind_of e.event ≡ OfHost side (Polls t budget)) where
-    room : before + budget * (1 + socket_count (station old side).places) < 2 ^ 16
+    room : before + budget * (1 + sockets_in (station old side).places) < 2 ^ 16
     room =
         let allowed : refusal old (tables_in past old) (OfHost side (Polls t budget)) ≡ None = ap (refusal old (tables_in past old)) (sym is) ∙ leads.allowed in
         let runs : may_run_out (station old side) (table (tables_in past old) side) budget ≡ false = passed _ _ _ allowed in
         let not_out : may_run_out (station old side) (table_in past side (station old side)) budget ≡ false =
         subst (λ (x : Table). may_run_out (station old side) x budget ≡ false) (table_at past old side) runs in
-        enough (2 ^ 16) (before + budget * (1 + socket_count (station old side).places)) not_out
+        enough (2 ^ 16) (before + budget * (1 + sockets_in (station old side).places)) not_out
 
     -- what a poll sends is its host's own
     polled_is : behind ≡ before +
@@ -90,6 +91,6 @@ module _ (past : List Entry) (e : Entry) (old new : Stations) (side : Side) (lea
         omega (arith, all, now)
 
     pub polled_few : (out out' : List PacketValue) → count_v4 out ≤ before →
-        count_v4 out' ≤ count_v4 out + budget * (1 + socket_count (station old side).places)
+        count_v4 out' ≤ count_v4 out + budget * (1 + sockets_in (station old side).places)
         → IsTied (medium_of (station old side)) out (station old side).link.sent out' (station new side).link.sent → AreFew out' × (count_v4 out' ≤ behind)
     polled_few out out' few most tied = (omega (arith, few, most, room), omega (arith, few, tied, more_frames))

@@ -20,11 +20,17 @@ use Rattle.interface_ingress.specs.Reassembled.{bytes_at, rebuilt, released, unc
 use Rattle.interface_ingress.proofs.Settings.{brings_same}
 use Rattle.lan_theorem.specs.Link.Made.{sealed, BringsMade}
 use Rattle.lan_theorem.specs.Link.Frames.{IsFrom, BringsFrom}
-use Rattle.lan_theorem.specs.Link.Held.{IsSlotOf, AreSlotsOf, IsRebuiltOf}
+use Rattle.lan_theorem.specs.Link.Held.{IsSlotOf, AreSlotsOf}
+use Rattle.lan_theorem.proofs.Link.Rebuilt.{IsRebuiltOf}
 use Rattle.lan_theorem.specs.Link.Numbers.{AreFew}
-use Rattle.lan_theorem.specs.Link.Sides.{AreSent, AreFrom, IsReceiver}
+use Rattle.lan_theorem.specs.Link.Sides.{AreSent, IsReceiver}
 use Rattle.lan_theorem.proofs.Link.Hands.{brings_whole}
 use Rattle.lan_theorem.proofs.Link.Slots.{all_more, changed_keeps, freed_is, expired_keep, piece_keeps, piece_brings, piece_rebuilds}
+
+-- each content is of a frame that is brought to a host
+abbrev pub AreFrom : (PayloadValue → Type 0) → List PacketValue → Option IncomingValue → Type 0
+AreFrom made out None = Unit {0}
+AreFrom made out (Some v) = IsFrom made out v
 
 -- WHAT IS READ
 

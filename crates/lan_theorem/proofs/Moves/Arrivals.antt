@@ -38,7 +38,8 @@ use Rattle.lan_packets.specs.Moves as Moves
 use Rattle.lan_packets.specs.Parties as Parties
 use Rattle.lan_packets.specs.Parties.{Party, Net, party, WasMade}
 use Rattle.lan_hosts.specs.Safe.{seen}
-use Rattle.lan_theorem.specs.Moves.Follows.{Reaches, seen_place, sockets_of}
+use Rattle.lan_theorem.specs.Moves.Follows.{seen_place, sockets_of}
+use Rattle.lan_theorem.proofs.Moves.Following.{Reaches}
 use Rattle.lan_theorem.specs.Moves.Made.{Grows, IsMade, datagram_of}
 use Rattle.lan_theorem.proofs.Moves.Nets.{Moved, stays, moves_by, there, grows_to, grows_by}
 use Rattle.lan_theorem.proofs.Moves.Places.{Places, seen_at, seen_set, get_last}

@@ -37,7 +37,7 @@ use Rattle.interface.specs.State.{State}
 use Rattle.interface.specs.Turn.{ItemTurns, TurnsIf, Answers, SendsBy, is_waiting, let_through, is_done}
 use Rattle.interface.specs.declared.turn.Turned.{Turned}
 use Rattle.interface_ingress.specs.IpAddress.{IpAddress}
-use Rattle.interface.specs.Kept.{IsKept}
+use Rattle.interface.proofs.Kept.{IsKept}
 use Rattle.interface.proofs.Keep.{polls_keep}
 use Rattle.lan_theorem.specs.Moves.Fit.{AreNamed}
 use Rattle.lan_theorem.specs.Moves.Raws.{OfItem, OfEach}

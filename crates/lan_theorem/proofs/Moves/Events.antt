@@ -13,7 +13,8 @@ use Rattle.lan_packets.proofs.Extended.{run-append, IsRun-append}
 use Rattle.lan_hosts.specs.Runs.{refusal_in}
 use Rattle.lan_hosts.specs.Station.{StationValue, Stations, station}
 use Rattle.lan_hosts.specs.Steps.{ActsAt}
-use Rattle.lan_theorem.specs.Moves.Follows.{Reaches, sockets_of, IsNetOf, Comes}
+use Rattle.lan_theorem.specs.Moves.Follows.{sockets_of, IsNetOf, Comes}
+use Rattle.lan_theorem.proofs.Moves.Following.{Reaches}
 use Rattle.lan_theorem.specs.Moves.Made.{Grows}
 use Rattle.lan_theorem.proofs.Moves.Calls.{IsCalled, call_is_called, call_allowed, names}
 use Rattle.lan_theorem.proofs.Moves.Nets.{step_of, mine, theirs, either_side, there, grows_not, grows_to, here}

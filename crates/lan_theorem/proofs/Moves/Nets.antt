@@ -8,7 +8,7 @@ use Rattle.lan_packets.specs.Moves.{Move, party_after, history_after, May, Step,
 use Rattle.lan_packets.specs.Parties.{Socket, Datagram, Party, Net, party}
 use Rattle.tcp_tie.specs.Host.{Made}
 use Rattle.lan_packets.proofs.Extended.{run-append, IsRun-append}
-use Rattle.lan_theorem.specs.Moves.Follows.{Reaches}
+use Rattle.lan_theorem.proofs.Moves.Following.{Reaches}
 use Rattle.lan_theorem.specs.Moves.Made.{Grows}
 use Rattle.lan_theorem.proofs.Moves.Places.{get_more}
 

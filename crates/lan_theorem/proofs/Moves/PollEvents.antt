@@ -10,10 +10,11 @@ use Rattle.lan_hosts.specs.Side.{Side}
 use Rattle.lan_packets.specs.Moves.{IsNoCall}
 use Rattle.lan_packets.specs.Parties.{Party, Net, party}
 use Rattle.lan_hosts.specs.Port.{PortValue, PortMove}
-use Rattle.lan_hosts.specs.Refusals.{socket_count}
+use Rattle.interface.specs.Used.{sockets_in}
 use Rattle.lan_hosts.specs.Station.{StationValue, Stations, station, at_port}
 use Rattle.lan_hosts.specs.Steps.{ActsAt}
-use Rattle.lan_theorem.specs.Moves.Follows.{Follows, IsNetOf, Comes, sockets_of}
+use Rattle.lan_theorem.specs.Moves.Follows.{IsNetOf, Comes, sockets_of}
+use Rattle.lan_theorem.proofs.Moves.Following.{Follows}
 use Rattle.lan_theorem.specs.Moves.Fit.{IsFit}
 use Rattle.lan_theorem.specs.Moves.Link.{IsLink}
 use Rattle.lan_theorem.specs.Moves.Raws.{OfEach}
@@ -38,7 +39,7 @@ module _ (net : Net) (old new : Stations) (past : List Entry) (e : Entry) (side 
     Type 0) (link : IsLink PortMove (party net (other side)) L) (of : IsNetOf net old past) (is : kind_of e.event ≡ OfHost side (Polls t budget)) where
   -- how many packets are counted behind it
   abbrev most : ℕ
-  most = n + budget * (1 + socket_count (station old side).places)
+  most = n + budget * (1 + sockets_in (station old side).places)
 
   ended : (p : PortValue) → p.link ≡ (station new side).link → station new (other side) ≡ station old (other side)
       → Follows names side (L most) net (at_port p (station new side)) → Polled net new (e ∷ past) side (L most)

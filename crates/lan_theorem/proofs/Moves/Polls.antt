@@ -15,16 +15,19 @@ use Rattle.interface.specs.Ingress.{is_read, Takes, Reads, Replied, is_awaited, 
 use Rattle.interface.specs.Polls.{Polls, begun}
 use Rattle.interface.specs.State.{State, state, at_device}
 use Rattle.interface.specs.WayOut.{PieceLeaves}
-use Rattle.interface.specs.Kept.{sending_as, IsKept}
-use Rattle.interface.specs.Priced.{IsPriced, sockets_in}
+use Rattle.interface.specs.State.{sending_as}
+use Rattle.interface.proofs.Kept.{IsKept}
+use Rattle.interface.proofs.Kept.{IsPriced}
+use Rattle.interface.specs.Used.{sockets_in}
 use Rattle.interface.proofs.Priced.{polls_cost}
 use Rattle.lan_hosts.specs.Side.{Side}
 use Rattle.lan_hosts.specs.Kinds.{other}
 use Rattle.lan_packets.specs.Parties.{Party, Net, party}
-use Rattle.lan_theorem.specs.Moves.Follows.{Follows, sockets_of}
+use Rattle.lan_theorem.specs.Moves.Follows.{sockets_of}
+use Rattle.lan_theorem.proofs.Moves.Following.{Follows}
 use Rattle.lan_theorem.specs.Moves.Fit.{IsFit}
 use Rattle.lan_theorem.specs.Moves.Link.{IsLink, brought}
-use Rattle.lan_theorem.specs.Moves.Made.{IsMadeReply}
+use Rattle.lan_theorem.proofs.Moves.MadeReplies.{IsMadeReply}
 use Rattle.lan_theorem.specs.Moves.Raws.{OfEach}
 use Rattle.lan_theorem.proofs.Moves.EachSocket.{kept, middle}
 use Rattle.lan_theorem.proofs.Moves.Fits.{fit_runs}

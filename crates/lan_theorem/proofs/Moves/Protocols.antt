@@ -341,9 +341,9 @@ module _ (cx : ContextValue) (ip : IpRepr) (header : TcpHeader) where
       either_arrived (is_in_window v.block (free_in v) header (length bytes)) (inside cx v ip header bytes by) (passed_outside cx v ip header (length bytes) by)
       (inside_tcp v bytes by) (passed_outside_tcp v (length bytes) by)
   checked_tcp Old v bytes =
-      either_arrived (is_in_window v.block (free_in v) header (length bytes)) (with_content cx (with_block v (stamp_taken (heard v.block) header cx.moment)) ip header bytes)
-      (outside cx v ip header)
-      (content_tcp (with_block v (stamp_taken (heard v.block) header cx.moment)) bytes) (outside_tcp v)
+      let stamped : TcpValue = with_block v (stamp_taken (heard v.block) header cx.moment) in
+      either_arrived (is_in_window v.block (free_in v) header (length bytes)) (with_content cx stamped ip header bytes) (outside cx v ip header)
+      (content_tcp stamped bytes) (outside_tcp v)
   checked_tcp Drops v bytes = tt
   checked_tcp Draws v bytes = drawn_tcp v
   checked_tcp Resets v bytes = reset_tcp v (length bytes)

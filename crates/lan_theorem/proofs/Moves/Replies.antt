@@ -27,10 +27,12 @@ use Rattle.interface_ingress.specs.Headers.{go_through, carries_error}
 use Rattle.interface_ingress.specs.Behind.{Behind}
 use Rattle.interface_ingress.specs.Behind.TheVariants as End
 use Rattle.interface_ingress.specs.Heard.{neighbor_heard, Heard, heard, heard_on, counts, tells, learned, advertised, answer, advertisement, is_asked}
-use Rattle.interface_ingress.specs.Replies.{sent_v4, echo_v4, port_unreachable, protocol_unreachable, parameter_problem, is_told, reason_of, source_of_reply, reply_v6, is_between_hosts, quoted_v4}
+use Rattle.interface_ingress.specs.Replies.{sent_v4, echo_v4, port_unreachable, protocol_unreachable, parameter_problem}
+use Rattle.interface_ingress.specs.Replies.{is_told, reason_of, source_of_reply, reply_v6, is_between_hosts, quoted_v4}
 use Rattle.interface_ingress.specs.Replies.{quoted_v6}
 use Rattle.lan_packets.specs.Parties.{Party}
-use Rattle.lan_theorem.specs.Moves.Made.{IsMade, IsMadeReply}
+use Rattle.lan_theorem.specs.Moves.Made.{IsMade}
+use Rattle.lan_theorem.proofs.Moves.MadeReplies.{IsMadeReply}
 
 -- what holds of each control message behind a header that names it
 module _ (Q : PacketValue → Type 0)

@@ -24,8 +24,10 @@ use Rattle.interface_ingress.specs.Upper.{IsBrought}
 use Rattle.lan_hosts.specs.Side.{Side}
 use Rattle.lan_hosts.specs.Kinds.{other}
 use Rattle.lan_packets.specs.Parties.{Party, Net, party, WasMade}
-use Rattle.lan_theorem.specs.Moves.Follows.{Reaches, sockets_of}
-use Rattle.lan_theorem.specs.Moves.Made.{IsMade, IsMadeReply, HandsMade, BringsMade, datagram_of}
+use Rattle.lan_theorem.specs.Moves.Follows.{sockets_of}
+use Rattle.lan_theorem.proofs.Moves.Following.{Reaches}
+use Rattle.lan_theorem.specs.Moves.Made.{IsMade, HandsMade, BringsMade, datagram_of}
+use Rattle.lan_theorem.proofs.Moves.MadeReplies.{IsMadeReply}
 use Rattle.lan_theorem.proofs.Moves.Arrivals.{Answered, packet_delivered_same, icmpv4_delivered_same, icmpv6_delivered_same, nothing, datagram_given}
 use Rattle.lan_theorem.proofs.Moves.Arrivals.{segment_taken}
 use Rattle.lan_theorem.proofs.Moves.Nets.{Moved, stays}

@@ -39,13 +39,14 @@ use Rattle.interface.specs.Host.{HostValue, Sender}
 use Rattle.interface.specs.State.{State, state}
 use Rattle.interface.specs.Turn.{PlaceTurns, ItemTurns, TurnsIf, Answers, SendsBy, Leaves, is_waiting, let_through, is_done, marked, plan_at, waits_until}
 use Rattle.interface.specs.declared.turn.Turned.{Turned}
-use Rattle.interface.specs.Kept.{sending_as}
+use Rattle.interface.specs.State.{sending_as}
 use Rattle.lan_hosts.specs.Side.{Side}
 use Rattle.lan_packets.specs.Moves as Moves
 use Rattle.lan_packets.specs.Parties as Parties
 use Rattle.lan_packets.specs.Parties.{Party, Net, party, datagrams_of}
 use Rattle.lan_hosts.specs.Safe.{seen}
-use Rattle.lan_theorem.specs.Moves.Follows.{Reaches, Follows, seen_place, sockets_of}
+use Rattle.lan_theorem.specs.Moves.Follows.{seen_place, sockets_of}
+use Rattle.lan_theorem.proofs.Moves.Following.{Reaches, Follows}
 use Rattle.lan_theorem.specs.Moves.Fit.{IsFit}
 use Rattle.lan_theorem.specs.Moves.Link.{IsLink}
 use Rattle.lan_theorem.specs.Moves.Made.{Grows, MadeBy, IsMade, IsWide}

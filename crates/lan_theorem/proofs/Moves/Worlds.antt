@@ -27,7 +27,8 @@ use Rattle.lan_hosts.specs.Steps.{Happens, linked}
 use Rattle.lan_hosts.specs.Port.{LinkEnd}
 use Rattle.lan_hosts.specs.Origins.{goes_to}
 use Rattle.lan_theorem.specs.Moves.Follows.{sockets_of, IsNetOf, Comes, IsNoPoll}
-use Rattle.lan_theorem.specs.Moves.Joined.{first_net, HasCome}
+use Rattle.lan_theorem.specs.Moves.Joined.{first_net}
+use Rattle.lan_theorem.proofs.Moves.Coming.{HasCome}
 use Rattle.lan_theorem.proofs.Moves.Calls.{names}
 use Rattle.lan_theorem.proofs.Moves.Events.{call_comes, still_comes}
 use Rattle.lan_theorem.proofs.Moves.Nets.{either_side}

@@ -1,13 +1,8 @@
 -- What never goes back, and what never changes, at an end of the link.
-use Rattle.std.specs.Prelude.{◌≡◌, ◌≤ℤ◌, ◌<◌, ℕ, Bool, true, false, List, [], ◌∷◌, ◌++◌, length}
-use Rattle.std.specs.List.{AllByRecursion}
+use Rattle.std.specs.Prelude.{◌≡◌, ◌≤ℤ◌, ℕ, Bool, true, false, List, ◌++◌, length}
 use Rattle.interface_ingress.specs.HardwareAddress.{HardwareAddress}
 use Rattle.interface_ingress.specs.HardwareAddress.TheVariants as Hardware
-use Rattle.lan_hosts.specs.History.{Entry}
-use Rattle.lan_hosts.specs.Kinds.{Origin, Delivered, Damaged, Noisy, kind_of}
-use Rattle.lan_hosts.specs.Side.{Side}
-use Rattle.lan_hosts.specs.Origins.{origins_of}
-use Rattle.lan_hosts.specs.Station.{StationValue, Stations, station}
+use Rattle.lan_hosts.specs.Station.{StationValue}
 
 -- whether the medium has hardware addresses
 abbrev pub has_addresses : HardwareAddress → Bool
@@ -24,16 +19,3 @@ pub record GoesOn (old new : StationValue) : Type 0 where
   pub medium : has_addresses new.host.inner.hardware ≡ has_addresses old.host.inner.hardware
   pub moment : old.host.inner.moment ≤ℤ new.host.inner.moment
   pub places : length new.places ≡ length old.places
-
--- ORIGINS
-
--- the frame that an origin names is among those that its host sent
-abbrev pub IsThere : Stations → Origin → Type 0
-IsThere hosts (Delivered from k padding) = k < length (station hosts from).link.sent
-IsThere hosts (Damaged from k place word padding) = k < length (station hosts from).link.sent
-IsThere hosts (Noisy to bytes) = Unit {0}
-
--- and so are all that were handed to a host
-abbrev pub AreThere : Stations → Side → List Entry → Type 0
-AreThere hosts side [] = Unit {0}
-AreThere hosts side (e ∷ past) = AllByRecursion (IsThere hosts) (origins_of side (kind_of e.event)) × AreThere hosts side past

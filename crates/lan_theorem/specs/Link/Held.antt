@@ -33,7 +33,3 @@ pub record IsPayloadOf (out : List PacketValue) (header : Ipv4Repr) (bytes : Lis
   pub sent_header : Ipv4Repr
   pub sent : IsSentV4 out sent_header bytes
   pub key_is : Ipv4.key_of header ≡ Ipv4.key_of (Ipv4.normal sent_header)
-
--- so they are, or of neither TCP nor UDP
-abbrev pub IsRebuiltOf : List PacketValue → Ipv4Repr → List ℕ → Type 0
-IsRebuiltOf out header bytes = NamesNoPorts header.next_header ⊎ IsPayloadOf out header bytes

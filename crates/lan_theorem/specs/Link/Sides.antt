@@ -1,5 +1,5 @@
 -- The invariant of two hosts at a link: what each sent, and what waits for it.
-use Rattle.std.specs.Prelude.{◌≡◌, ◌≢◌, ◌⊎◌, ◌%◌, ◌^◌, ◌+◌, ◌<◌, ◌≤◌, ℕ, List, ◌++◌, length, Option, None, Some, IfSome}
+use Rattle.std.specs.Prelude.{◌≡◌, ◌≢◌, ◌⊎◌, ◌%◌, ◌^◌, ◌+◌, ◌<◌, ◌≤◌, ℕ, List, ◌++◌, length, Option, None, IfSome}
 use Rattle.std.specs.List.{AllByRecursion}
 use Rattle.lan_frames.specs.Medium.{Medium}
 use Rattle.interface_ingress.specs.Address.{IsIpAddress}
@@ -11,8 +11,6 @@ use Rattle.sockets.specs.Packet.{PacketValue, PayloadValue}
 use Rattle.interface_tables.specs.Inner.{InnerValue}
 use Rattle.interface_tables.specs.declared.neighbor.Neighbor.{Neighbor}
 use Rattle.interface_tables.specs.declared.route.Route.{Route}
-use Rattle.interface_egress.specs.declared.frame.Question.{Question}
-use Rattle.interface_egress.specs.declared.frame.Question.TheVariants as Query
 use Rattle.interface_egress.specs.Fragments.{LeftValue}
 use Rattle.interface_ingress.specs.Incoming.{IncomingValue, IsIncoming}
 use Rattle.interface_ingress.specs.Reassembled.{Slots}
@@ -23,7 +21,7 @@ use Rattle.interface_ingress.specs.Fields.{be16}
 use Rattle.lan_frames.specs.Parts.{tcp_part, bytes_at}
 use Rattle.lan_frames.specs.declared.part.Part.{Part}
 use Rattle.lan_theorem.specs.Link.Made.{sealed}
-use Rattle.lan_theorem.specs.Link.Frames.{medium_on, IsAmong, IsSentV4, IsSlice, IsWhole6, IsFrom, BringsFrom, AreOut}
+use Rattle.lan_theorem.specs.Link.Frames.{medium_on, IsAmong, IsSentV4, IsSlice, IsWhole6, BringsFrom, AreOut}
 use Rattle.lan_theorem.specs.Link.Held.{AreSlotsOf}
 use Rattle.lan_theorem.specs.Link.Numbers.{count_v4, AreNumbered, IsTied}
 
@@ -33,11 +31,6 @@ use Rattle.lan_theorem.specs.Link.Numbers.{count_v4, AreNumbered, IsTied}
 pub record AreSent (made : PayloadValue → Type 0) (first next : ℕ) (out : List PacketValue) : Type 0 where
   pub packets : AreOut made out
   pub numbered : AreNumbered first out next
-
--- each content is of a frame that is brought to a host
-abbrev pub AreFrom : (PayloadValue → Type 0) → List PacketValue → Option IncomingValue → Type 0
-AreFrom made out None = Unit {0}
-AreFrom made out (Some v) = IsFrom made out v
 
 -- a frame that can't be cut, has no TCP segment, and brings neither TCP nor UDP, whatever padding follows: an ARP packet, or a question
 -- for a neighbour
@@ -110,11 +103,6 @@ pub record IsSender (made : PayloadValue →
   pub frames : AllByRecursion (IsHostFrame (medium_on i.hardware) out) sent
 
 -- WHAT MAY GO
-
--- a question for a neighbour whose address is one
-abbrev pub IsAsked : Question → Type 0
-IsAsked (Query.Arp own source target) = Unit {0}
-IsAsked (Query.Neighbor own source target) = length target.0 ≡ 16
 
 -- an ARP packet between two stations
 abbrev pub IsBetweenStations : ArpRepr → Type 0

@@ -1,17 +1,16 @@
 -- A host's sockets as a party of a net, and a host that runs of moves lead to.
 use Rattle.std.specs.Prelude.{◌≡◌, ℕ, Bool, List, map, Option, Some}
-use Rattle.interface.specs.State.{State}
 use Rattle.interface_egress.specs.Set.{socket_in}
 use Rattle.interface_egress.specs.declared.socket_set.SocketStorage.{SocketStorage}
 use Rattle.sockets.specs.declared.socket.Socket as Sockets
 use Rattle.lan_hosts.specs.Side.{Side}
 use Rattle.lan_hosts.specs.History.{Entry}
-use Rattle.lan_hosts.specs.Kinds.{other, Kind}
+use Rattle.lan_hosts.specs.Kinds.{Kind}
 use Rattle.lan_hosts.specs.Kinds.Act.{Polls}
 use Rattle.lan_hosts.specs.Kinds.Kind.{OfHost}
 use Rattle.lan_packets.specs.Moves.{Step, IsRun, run}
 use Rattle.lan_packets.specs.Parties as Parties
-use Rattle.lan_packets.specs.Parties.{Party, Net, party}
+use Rattle.lan_packets.specs.Parties.{Net, party}
 use Rattle.lan_hosts.specs.Safe.{seen_in}
 use Rattle.lan_hosts.specs.Station.{Stations, station}
 use Rattle.lan_theorem.specs.Moves.Made.{Grows}
@@ -22,22 +21,6 @@ seen_place place = seen_in (socket_in (Some place))
 
 abbrev pub sockets_of : List (SocketStorage Sockets.Socket) → List (Option Parties.Socket)
 sockets_of places = map seen_place places
-
--- moves lead from one net to another, and neither the other host nor the history is touched
-pub record Reaches (names : List ℕ → Bool) (side : Side) (net now : Net) : Type 0 where
-  pub steps : List Step
-  pub may : IsRun names net steps
-  pub ends : run net steps ≡ now
-  pub rests : party now (other side) ≡ party net (other side)
-  pub history : now.history ≡ net.history
-  pub grows : Grows (party net side) (party now side)
-
--- moves of this host lead to a net with these sockets, of which L holds with what was made
-pub record Follows {D : Type 0} (names : List ℕ → Bool) (side : Side) (L : State D → Party → Type 0) (net : Net) (s : State D) : Type 0 where
-  pub now : Net
-  pub reaches : Reaches names side net now
-  pub sockets : (party now side).sockets ≡ sockets_of s.places
-  pub link : L s (party now side)
 
 -- a net has the sockets of both hosts, and their history
 pub record IsNetOf (net : Net) (hosts : Stations) (past : List Entry) : Type 0 where

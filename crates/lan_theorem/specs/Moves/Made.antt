@@ -11,7 +11,6 @@ use Rattle.sockets.specs.Packet.{PacketValue, PayloadValue, ControlV4, ControlV6
 use Rattle.tcp_tie.specs.Host.{Made, made_of, IsAmong}
 use Rattle.interface_delivery.specs.Delivered.{NamesNoPorts}
 use Rattle.interface_delivery.specs.Taken.{IsOffered}
-use Rattle.interface_ingress.specs.Arrives.{ReplyValue, Tells, Answers}
 use Rattle.interface_ingress.specs.Carried.{IsDatagram, IsSegment}
 use Rattle.interface_ingress.specs.Sent.{CanBeRead}
 use Rattle.interface_ingress.specs.Incoming.{IncomingValue, Arp, Ip4, Ip6}
@@ -39,11 +38,6 @@ MadeBy p (Segment header bytes) = IsAmong p.segments (made_of header bytes)
 
 abbrev pub IsMade : Party → PacketValue → Type 0
 IsMade p x = MadeBy p x.payload
-
--- an ARP packet has neither segment nor datagram
-abbrev pub IsMadeReply : Party → ReplyValue → Type 0
-IsMadeReply p (Tells packet) = Unit {0}
-IsMadeReply p (Answers x) = IsMade p x
 
 -- FORM
 

@@ -181,7 +181,8 @@ impl Block {
         requires { IsMoment now }
         ensures { self.new ≡ record self.old { loss = ranges_noted self.old header.now now } }
     {
-        if self.peer.sack {
+        let [first, second, third] = header.options.sack_ranges;
+        if self.peer.sack && (first.is_some() || second.is_some() || third.is_some()) {
             let board = self.noted(&header.options.sack_ranges);
             self.hear_more(board, now);
         }

@@ -1,6 +1,6 @@
 use Rattle.std.proofs.Common.{◌≡◌, ◌≤◌, take}
 use Rattle.std.specs.List.{count_by}
-use Rattle.lan_hosts.specs.Refusals.{is_used}
+use Rattle.interface.specs.Used.{is_used}
 use Rattle.lan_hosts.proofs.event.socket_count.Given as goal
 
 abbrev pub invariant-loop-place : goal.invariant-loop-place

@@ -1,7 +1,7 @@
 use Rattle.std.proofs.Common.{◌≡◌, Some, refl, sym, ap, ◌∙◌}
 use Rattle.std.specs.Prelude.{option_and_then}
 use Rattle.interface_egress.specs.Set.{places, is_fixed, set_at, socket_at}
-use Rattle.sockets.specs.declared.socket.Socket.{Socket}
+use Rattle.interface_ingress.specs.Socket.{Socket}
 use Rattle.interface.proofs.ByKind.{if_lent, as_lent, same_at}
 use Rattle.interface.proofs.by_kind.SocketSetSocketSocketsByKind.get_mut_as.Goals as goal
 

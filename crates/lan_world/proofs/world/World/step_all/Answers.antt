@@ -3,7 +3,7 @@ use Rattle.std.specs.Vec.Iter.{into_iter_items}
 use Rattle.lan_theorem.specs.Refusals.{MayRefuse}
 use Rattle.lan_history.specs.Kinds.{kind_of}
 use Rattle.lan_theorem.specs.Runs.{WorldValue, tables_in}
-use Rattle.lan_world.specs.Come.{HasRun}
+use Rattle.lan_world.proofs.Running.{HasRun}
 use Rattle.lan_world.proofs.Running.{next_is, one_more, starts_stay}
 use Rattle.lan_world.proofs.world.World.step_all.Goals as goal
 use Rattle.lan_world.proofs.world.World.step_all.Goals.{In-Some}

@@ -1,5 +1,5 @@
 use Rattle.std.specs.Vec.Iter.{into_iter_items}
-use Rattle.lan_world.specs.Come.{HasRun}
+use Rattle.lan_world.proofs.Running.{HasRun}
 use Rattle.lan_world.proofs.world.World.step_all.Given as goal
 
 abbrev pub invariant-loop-event : goal.invariant-loop-event

@@ -1,5 +1,5 @@
--- What each thing that a poll does keeps: words of the laws.
-use Rattle.std.specs.Prelude.{◌≡◌, ℕ, ◌+◌, ◌≤◌, ℤ, Bool, false, List, ◌∷◌, ◌++◌, Option, Some}
+-- What each thing that a poll does keeps.
+use Rattle.std.specs.Prelude.{◌≡◌, ℕ, ◌+◌, ◌≤◌, ℤ, Bool, true, false, List, ◌∷◌, ◌++◌, Option, Some}
 use Rattle.net_base.specs.Device.{Move}
 use Rattle.ip_wire.specs.IpAddress.{IpAddress}
 use Rattle.interface_ingress.specs.Socket.{Socket}
@@ -10,13 +10,10 @@ use Rattle.interface.specs.Host.{HostValue, Sender}
 use Rattle.interface.specs.WayOut.{PieceLeaves}
 use Rattle.interface.specs.Turn.{PlaceTurns}
 use Rattle.interface.specs.declared.turn.Turned.{Turned}
-use Rattle.interface.specs.State.{State, state}
+use Rattle.interface.specs.State.{State, sending_as}
 use Rattle.interface.specs.Ingress.{Takes}
 use Rattle.interface.specs.Polls.{begun}
-
--- this host as it sends, with these sockets
-abbrev pub sending_as : {D : Type 0} → HostValue → Sender D → List (SocketStorage Socket) → State D
-sending_as h x ps = state x.device (record h { inner = x.inner; left = x.left }) ps
+use Rattle.interface.specs.Used.{is_used}
 
 -- the host's call runs, at this moment
 abbrev pub RunsAt : ℤ → InnerValue → Type 0
@@ -65,3 +62,16 @@ module _ {D : Type 0} (moves : D → Move → D → Type 0) (t : ℤ) (Q : ℕ �
     pub turns : (turn : Option IpAddress) (n : ℕ) (h : HostValue) (before after : List (SocketStorage Socket)) (p p' : SocketStorage Socket) (x x' : Sender D)
         (turned : Turned) → RunsAt t x.inner
         → Q n (sending_as h x (before ++ p ∷ after)) → PlaceTurns moves turn x p turned x' p' → Q (n + 1) (sending_as h x' (before ++ p' ∷ after))
+
+-- An arrival and a socket's turn each raise the count by one at most, and the piece that waits by `piece`. A free place has no turn.
+module _ {D : Type 0} (moves : D → Move → D → Type 0) (t : ℤ) (piece : ℕ) (Q : ℕ → State D → Type 0) where
+  pub record IsPriced : Type 0 where
+    pub more : (n m : ℕ) (s : State D) → n ≤ m → Q n s → Q m s
+    pub maintenance : (n : ℕ) (s : State D) → Q n s → Q n (begun t s)
+    pub arrivals : (n : ℕ) (s s' : State D) (answer : Option Bool) → RunsAt t s.host.inner → Q n s → Takes moves s answer s' → Q (n + 1) s'
+    pub pieces : (n : ℕ) (h : HostValue) (ps : List (SocketStorage Socket)) (x x' : Sender D) (l : LeftValue) (gone : Bool) → RunsAt t x.inner → x.left ≡ Some l
+        → Q n (sending_as h x ps) → PieceLeaves moves l x gone x' → x'.inner ≡ x.inner → Q (n + piece) (sending_as h x' ps)
+    pub turns : (turn : Option IpAddress) (n : ℕ) (h : HostValue) (before after : List (SocketStorage Socket)) (p p' : SocketStorage Socket) (x x' : Sender D)
+        (turned : Turned) → is_used p ≡ true
+        → RunsAt t x.inner → Q n (sending_as h x (before ++ p ∷ after)) → PlaceTurns moves turn x p turned x' p' →
+        Q (n + 1) (sending_as h x' (before ++ p' ∷ after))
