@@ -2,7 +2,7 @@
 use crate::emit::last_bytes;
 use crate::fault::Fault;
 use crate::room::{MOST, checksums, room};
-use crate::words::{Words, long};
+use crate::words::{Words, number};
 use ip_wire::{SeqNumber, TcpControl, TcpHeader, TcpOptions, TcpPacketMut, TcpTimestampRepr};
 use std::alloc::Global;
 
@@ -66,7 +66,7 @@ fn ack_number(words: &mut Words<'_>) -> Option<SeqNumber> {
     if word == "-" {
         return None;
     }
-    match long(word) {
+    match number(word) {
         Some(number) => Some(SeqNumber(number)),
         None => {
             words.no("ack", word);
@@ -102,11 +102,11 @@ fn with_option(options: TcpOptions, ranges: &mut usize, part: &str) -> Option<Tc
     let (name, value) = part.split_once('=')?;
     match name {
         "mss" => Some(TcpOptions {
-            max_seg_size: Some(u16::try_from(long(value)?).ok()?),
+            max_seg_size: Some(number(value)?),
             ..options
         }),
         "wscale" => Some(TcpOptions {
-            window_scale: Some(u8::try_from(long(value)?).ok()?),
+            window_scale: Some(number(value)?),
             ..options
         }),
         "ts" => {
@@ -139,5 +139,5 @@ fn with_range(options: TcpOptions, ranges: &mut usize, value: &str) -> Option<Tc
 
 fn pair(value: &str) -> Option<(u32, u32)> {
     let (front, back) = value.split_once(':')?;
-    Some((long(front)?, long(back)?))
+    Some((number(front)?, number(back)?))
 }

@@ -3,6 +3,7 @@ use crate::fault::Fault;
 use hex::FromHexError;
 use ip_wire::{EthernetAddress, EthernetProtocol, IpAddress, IpProtocol, Ipv4Address, Ipv6Address};
 use std::alloc::Global;
+use std::str::FromStr;
 
 /// The words that are left of a line, and the first fault in those before them. Behind a fault each word is read as something that nobody
 /// looks at: `end` says the fault. So what reads a line goes straight on.
@@ -86,22 +87,37 @@ impl<'a> Words<'a> {
         }
     }
 
+    // The number that a word of this class is.
+    fn number<T: FromStr + Copy>(&mut self, what: &'static str, other: T) -> T
+    where
+        T::Err: Drop,
+    {
+        let word = self.word(what);
+        self.found(what, word, number(word), other)
+    }
+
+    // What a word of this class says.
+    fn parsed<T: FromStr + Copy>(&mut self, what: &'static str, other: T) -> T
+    where
+        T::Err: Drop,
+    {
+        let word = self.word(what);
+        self.found(what, word, word.parse().ok(), other)
+    }
+
     /// A number up to 255.
     pub(crate) fn byte(&mut self, what: &'static str) -> u8 {
-        let word = self.word(what);
-        self.found(what, word, byte(word), 0)
+        self.number(what, 0)
     }
 
     /// A number up to 65535.
     pub(crate) fn short(&mut self, what: &'static str) -> u16 {
-        let word = self.word(what);
-        self.found(what, word, short(word), 0)
+        self.number(what, 0)
     }
 
     /// A number up to 2^32 - 1.
     pub(crate) fn long(&mut self, what: &'static str) -> u32 {
-        let word = self.word(what);
-        self.found(what, word, long(word), 0)
+        self.number(what, 0)
     }
 
     /// One of two words: whether it is the first.
@@ -115,30 +131,22 @@ impl<'a> Words<'a> {
 
     /// An address of either family.
     pub(crate) fn address(&mut self, what: &'static str) -> IpAddress {
-        let word = self.word(what);
-        let none = IpAddress::Ipv4(Ipv4Address::UNSPECIFIED);
-        self.found(what, word, word.parse::<IpAddress>().ok(), none)
+        self.parsed(what, IpAddress::Ipv4(Ipv4Address::UNSPECIFIED))
     }
 
     /// An IPv4 address.
     pub(crate) fn ipv4(&mut self, what: &'static str) -> Ipv4Address {
-        let word = self.word(what);
-        let found = word.parse::<Ipv4Address>().ok();
-        self.found(what, word, found, Ipv4Address::UNSPECIFIED)
+        self.parsed(what, Ipv4Address::UNSPECIFIED)
     }
 
     /// An IPv6 address.
     pub(crate) fn ipv6(&mut self, what: &'static str) -> Ipv6Address {
-        let word = self.word(what);
-        let found = word.parse::<Ipv6Address>().ok();
-        self.found(what, word, found, Ipv6Address::UNSPECIFIED)
+        self.parsed(what, Ipv6Address::UNSPECIFIED)
     }
 
     /// An Ethernet address.
     pub(crate) fn station(&mut self, what: &'static str) -> EthernetAddress {
-        let word = self.word(what);
-        let found = word.parse::<EthernetAddress>().ok();
-        self.found(what, word, found, EthernetAddress::BROADCAST)
+        self.parsed(what, EthernetAddress::BROADCAST)
     }
 
     /// The number of a protocol; with `?` before it the value that has no name.
@@ -202,30 +210,12 @@ pub(crate) fn bytes_of<'a>(
     }
 }
 
-/// Whether a word has digits alone.
-pub(crate) fn is_number(word: &str) -> bool {
-    word.bytes().all(|b| b.is_ascii_digit())
-}
-
-fn byte(word: &str) -> Option<u8> {
-    if is_number(word) {
-        word.parse().ok()
-    } else {
-        None
-    }
-}
-
-fn short(word: &str) -> Option<u16> {
-    if is_number(word) {
-        word.parse().ok()
-    } else {
-        None
-    }
-}
-
-/// A number up to 2^32 - 1.
-pub(crate) fn long(word: &str) -> Option<u32> {
-    if is_number(word) {
+/// The number that a word of digits alone says, where it has that type.
+pub(crate) fn number<T: FromStr>(word: &str) -> Option<T>
+where
+    T::Err: Drop,
+{
+    if word.bytes().all(|b| b.is_ascii_digit()) {
         word.parse().ok()
     } else {
         None
@@ -237,12 +227,12 @@ fn is_named(word: &str) -> bool {
     !word.starts_with('?')
 }
 
-/// A number up to 255, with or without `?` before it.
+// A number up to 255, with or without `?` before it.
 fn numbered(word: &str) -> Option<u8> {
-    byte(word.strip_prefix('?').unwrap_or(word))
+    number(word.strip_prefix('?').unwrap_or(word))
 }
 
-/// Four hex digits, with or without `?` before them.
+// Four hex digits, with or without `?` before them.
 fn four_digits(word: &str) -> Option<u16> {
     let digits = word.strip_prefix('?').unwrap_or(word);
     if digits.len() != 4 || digits.starts_with('+') {
