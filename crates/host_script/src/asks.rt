@@ -22,19 +22,26 @@ pub fn play<'a>(host: &mut Host, words: &mut Words<'a>) -> Result<Answer, Stop<'
         "hw" => Answer::Station(inner.hardware_addr()),
         "waiting" => Answer::Number(host.wire.waiting() as u64),
         "refusals" => Answer::Number(host.wire.refusals()),
-        _ => {
-            let address = words.address();
-            return match about(inner, name, &address) {
-                Some(answer) => {
-                    words.end()?;
-                    Ok(answer)
-                }
-                None => Err(words.or_before(Stop::Wrong("question", name))),
-            };
-        }
+        _ => return ask_of(inner, name, words),
     };
     words.end()?;
     Ok(answer)
+}
+
+/// Plays a question about an address.
+fn ask_of<'a>(
+    inner: &InterfaceInner,
+    name: &'a str,
+    words: &mut Words<'a>,
+) -> Result<Answer, Stop<'a>> {
+    let address = words.address();
+    match about(inner, name, &address) {
+        Some(answer) => {
+            words.end()?;
+            Ok(answer)
+        }
+        None => Err(words.or_before(Stop::Wrong("question", name))),
+    }
 }
 
 fn is(holds: bool) -> Answer {

@@ -2,6 +2,7 @@
 use crate::answer::Answer;
 use crate::host::Host;
 use crate::stop::Stop;
+use crate::wire::Wire;
 use crate::words::Words;
 use lan_frames::names_tcp_or_udp;
 use net_base::Device;
@@ -16,14 +17,7 @@ pub fn play<'a>(
 ) -> Result<Answer, Stop<'a>> {
     words.host();
     match verb {
-        "frame" | "noise" => {
-            let frame = words.last_bytes(alloc)?;
-            let medium = host.wire.capabilities().medium;
-            if verb == "noise" && names_tcp_or_udp(medium, frame.as_slice()) {
-                return Err(Stop::Refused("NamesTcpOrUdp"));
-            }
-            host.wire.comes(frame)?;
-        }
+        "frame" | "noise" => comes(alloc, &mut host.wire, verb, words)?,
         "room" => {
             let room = words.size();
             words.end()?;
@@ -41,4 +35,19 @@ pub fn play<'a>(
         }
     }
     Ok(Answer::Done)
+}
+
+/// A frame comes. `noise` refuses one that names TCP or UDP, and `frame` none.
+fn comes<'a>(
+    alloc: Global,
+    wire: &mut Wire,
+    verb: &'a str,
+    words: &mut Words<'a>,
+) -> Result<(), Stop<'a>> {
+    let frame = words.last_bytes(alloc)?;
+    let medium = wire.capabilities().medium;
+    if verb == "noise" && names_tcp_or_udp(medium, frame.as_slice()) {
+        return Err(Stop::Refused("NamesTcpOrUdp"));
+    }
+    Ok(wire.comes(frame)?)
 }

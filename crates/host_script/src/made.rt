@@ -1,6 +1,6 @@
 //! The sockets that a script's header asks for.
 use crate::stop::{NO_MEMORY, Stop};
-use crate::words::{Words, byte};
+use crate::words::{Words, number};
 use interface::SocketSet;
 use ip_wire::{IpProtocol, IpVersion};
 use lan_script::{QueueSizes, SocketSpec, StreamSizes};
@@ -67,11 +67,11 @@ fn protocol(words: &mut Words<'_>) -> Option<u8> {
     if word == "any" {
         return None;
     }
-    let number = byte(word);
-    if number.is_none() {
+    let found = number(word);
+    if found.is_none() {
         words.wrong("protocol", word);
     }
-    number
+    found
 }
 
 /// Puts these sockets behind others, in order.

@@ -31,26 +31,27 @@ impl Session {
         if text.is_empty() || text.starts_with('#') {
             return Ok(String::new(alloc));
         }
+        self.take_text(alloc, text)
+    }
+
+    // Takes a line that says something.
+    fn take_text<'a>(&mut self, alloc: Global, text: &'a str) -> Result<String, Stop<'a>> {
         let mut words = Words::new(text);
         let verb = words.word("line");
         match self {
             Session::Begun => {
-                if verb != "world" {
-                    return Err(Stop::Order("`world` comes first", verb));
-                }
-                let header = Header::read(alloc, &mut words)?;
+                let header = begun(alloc, verb, &mut words)?;
                 self.set(Session::Header(header));
                 Ok(String::new(alloc))
             }
-            Session::Header(header) => {
-                if verb != "start" {
-                    header.take(verb, &mut words)?;
-                    return Ok(String::new(alloc));
-                }
-                words.end()?;
-                let host = header.start(alloc)?;
+            Session::Header(header) if verb == "start" => {
+                let host = started(alloc, header, &mut words)?;
                 self.set(Session::Running(host));
                 Ok(String::from_str(alloc, "ok\n")?)
+            }
+            Session::Header(header) => {
+                header.take(verb, &mut words)?;
+                Ok(String::new(alloc))
             }
             Session::Running(host) => go_on(alloc, host, verb, &mut words),
             Session::Ended => Ok(String::new(alloc)),
@@ -75,6 +76,24 @@ fn text_of<'a>(line: &'a [u8]) -> Result<&'a str, Stop<'a>> {
         return Err(Stop::CarriageReturn);
     }
     Ok(text)
+}
+
+// What the first line of a script asks for.
+fn begun<'a>(alloc: Global, verb: &'a str, words: &mut Words<'a>) -> Result<Header, Stop<'a>> {
+    if verb != "world" {
+        return Err(Stop::Order("`world` comes first", verb));
+    }
+    Header::read(alloc, words)
+}
+
+// The host that the header asks for, at the header's end.
+fn started<'a>(
+    alloc: Global,
+    header: &Header,
+    words: &mut Words<'a>,
+) -> Result<Box<Host>, Stop<'a>> {
+    words.end()?;
+    header.start(alloc)
 }
 
 /// Takes a line once the host runs: its answer, and the frames that were sent then.

@@ -19,20 +19,10 @@ pub fn set<'a>(host: &mut Host, words: &mut Words<'a>) -> Result<Answer, Stop<'a
     }
     let socket = host.tcp(place)?;
     match name {
-        "timeout" => {
+        "timeout" | "ack_delay" | "keep_alive" => {
             let span = duration_of(words.span());
             words.end()?;
-            socket.set_timeout(span);
-        }
-        "ack_delay" => {
-            let span = duration_of(words.span());
-            words.end()?;
-            socket.set_ack_delay(span);
-        }
-        "keep_alive" => {
-            let span = duration_of(words.span());
-            words.end()?;
-            socket.set_keep_alive(span);
+            set_span(socket, name, span);
         }
         "nagle" | "pause" => {
             let is_on = words.switch();
@@ -48,6 +38,14 @@ fn duration_of(micros: Option<u64>) -> Option<Duration> {
     match micros {
         Some(micros) => Some(Duration::from_micros(micros)),
         None => None,
+    }
+}
+
+fn set_span(socket: &mut tcp::Socket, name: &str, span: Option<Duration>) {
+    match name {
+        "timeout" => socket.set_timeout(span),
+        "ack_delay" => socket.set_ack_delay(span),
+        _ => socket.set_keep_alive(span),
     }
 }
 
@@ -112,9 +110,9 @@ fn generator(words: &mut Words<'_>) -> Option<TcpTimestampGenerator> {
     if word == "none" {
         return None;
     }
-    match u32::try_from(number(word).unwrap_or(u64::MAX)) {
-        Ok(value) => Some(TcpTimestampGenerator(value)),
-        Err(_) => {
+    match number(word) {
+        Some(value) => Some(TcpTimestampGenerator(value)),
+        None => {
             words.wrong("number", word);
             None
         }

@@ -29,10 +29,7 @@ pub fn play<'a>(
             words.end()?;
             connect(host, place, remote, port)
         }
-        "send" => {
-            let bytes = words.last_bytes(alloc)?;
-            Ok(send(host.tcp(place)?, bytes.as_slice()))
-        }
+        "send" => send(alloc, host, place, words),
         "recv" => {
             let most = words.size();
             words.end()?;
@@ -86,10 +83,16 @@ fn connect<'a>(
     })
 }
 
-fn send(socket: &mut tcp::Socket, bytes: &[u8]) -> Answer {
-    match socket.send_slice(bytes) {
-        Ok(count) => Answer::Count(count),
-        Err(SendError::InvalidState) => Answer::Error("InvalidState"),
+fn send<'a>(
+    alloc: Global,
+    host: &mut Host,
+    place: usize,
+    words: &mut Words<'a>,
+) -> Result<Answer, Stop<'a>> {
+    let bytes = words.last_bytes(alloc)?;
+    match host.tcp(place)?.send_slice(bytes.as_slice()) {
+        Ok(count) => Ok(Answer::Count(count)),
+        Err(SendError::InvalidState) => Ok(Answer::Error("InvalidState")),
     }
 }
 

@@ -7,6 +7,7 @@ use interface::TABLE_ROOM;
 use ip_wire::{IpAddress, IpCidr, IpEndpoint};
 use lan_script::HexBytes;
 use std::alloc::{AllocError, Global};
+use std::str::FromStr;
 
 /// How many bytes a word may say by a count behind it.
 const MOST_REPEATED: usize = 1 << 20;
@@ -137,28 +138,42 @@ impl<'a> Words<'a> {
         }
     }
 
+    // What a word of this class says, where it is a number of this type.
+    fn digits<T: FromStr + Copy>(&mut self, class: &'static str, other: T) -> T
+    where
+        T::Err: Drop,
+    {
+        let word = self.word(class);
+        self.found(class, word, number(word), other)
+    }
+
+    // What a word of this class says.
+    fn parsed<T: FromStr + Copy>(&mut self, class: &'static str, other: T) -> T
+    where
+        T::Err: Drop,
+    {
+        let word = self.word(class);
+        self.found(class, word, word.parse().ok(), other)
+    }
+
     /// A count or a value.
     pub fn number(&mut self) -> u64 {
-        let word = self.word("number");
-        self.found("number", word, number(word), 0)
+        self.digits("number", 0)
     }
 
     /// A place or a size.
     pub fn size(&mut self) -> usize {
-        let word = self.word("number");
-        self.found("number", word, size(word), 0)
+        self.digits("number", 0)
     }
 
     /// A port, an identifier or a budget.
     pub fn short(&mut self, class: &'static str) -> u16 {
-        let word = self.word(class);
-        self.found(class, word, short(word), 0)
+        self.digits(class, 0)
     }
 
     /// A moment, in microseconds.
     pub fn micros(&mut self) -> i64 {
-        let word = self.word("number");
-        self.found("number", word, micros(word), 0)
+        self.digits("number", 0)
     }
 
     /// A moment, which may lie before 0.
@@ -169,20 +184,25 @@ impl<'a> Words<'a> {
 
     /// A moment, or none.
     pub fn until(&mut self) -> Option<i64> {
-        let word = self.word("number");
-        if word == "none" {
-            return None;
-        }
-        Some(self.found("number", word, micros(word), 0))
+        self.unless_none()
     }
 
     /// How many microseconds something takes, or none.
     pub fn span(&mut self) -> Option<u64> {
+        self.unless_none()
+    }
+
+    // A number, or `none`.
+    fn unless_none<T: FromStr + Copy>(&mut self) -> Option<T>
+    where
+        T::Err: Drop,
+    {
         let word = self.word("number");
-        if word == "none" {
-            return None;
+        let found = number(word);
+        if found.is_none() && word != "none" {
+            self.wrong("number", word);
         }
-        Some(self.found("number", word, number(word), 0))
+        found
     }
 
     /// A hop limit, or none.
@@ -193,7 +213,7 @@ impl<'a> Words<'a> {
         if word == "none" {
             return None;
         }
-        match byte(word) {
+        match number(word) {
             None | Some(0) => {
                 self.wrong("hop limit", word);
                 None
@@ -213,23 +233,18 @@ impl<'a> Words<'a> {
 
     /// An address and a port.
     pub fn endpoint(&mut self) -> IpEndpoint {
-        let word = self.word("endpoint");
         let none = IpEndpoint::new(IpAddress::v4(0, 0, 0, 0), 0);
-        self.found("endpoint", word, word.parse::<IpEndpoint>().ok(), none)
+        self.parsed("endpoint", none)
     }
 
     /// An address of either family.
     pub fn address(&mut self) -> IpAddress {
-        let word = self.word("address");
-        let none = IpAddress::v4(0, 0, 0, 0);
-        self.found("address", word, word.parse::<IpAddress>().ok(), none)
+        self.parsed("address", IpAddress::v4(0, 0, 0, 0))
     }
 
     /// An address with a prefix.
     pub fn block(&mut self) -> IpCidr {
-        let word = self.word("block");
-        let none = IpCidr::default();
-        self.found("block", word, word.parse::<IpCidr>().ok(), none)
+        self.parsed("block", IpCidr::default())
     }
 
     /// All words that are left, as at most four blocks.
@@ -270,7 +285,7 @@ fn read_bytes<'a>(word: &'a str) -> Option<Bytes<'a>> {
             times: 1,
         }),
         Some((once, count)) => {
-            let times = size(count)?;
+            let times = number(count)?;
             let len = once.len().checked_mul(times)?;
             if len <= 2 * MOST_REPEATED && times <= MOST_REPEATED {
                 Some(Bytes {
@@ -288,34 +303,11 @@ fn is_digits(word: &str) -> bool {
     word.bytes().all(|b| b.is_ascii_digit())
 }
 
-/// A number of decimal digits.
-pub fn number(word: &str) -> Option<u64> {
-    if is_digits(word) {
-        word.parse().ok()
-    } else {
-        None
-    }
-}
-
-fn size(word: &str) -> Option<usize> {
-    if is_digits(word) {
-        word.parse().ok()
-    } else {
-        None
-    }
-}
-
-/// A number of 16 bits.
-pub fn short(word: &str) -> Option<u16> {
-    if is_digits(word) {
-        word.parse().ok()
-    } else {
-        None
-    }
-}
-
-/// A number of 8 bits.
-pub fn byte(word: &str) -> Option<u8> {
+/// The number that a word of decimal digits alone says, where it has that type.
+pub fn number<T: FromStr>(word: &str) -> Option<T>
+where
+    T::Err: Drop,
+{
     if is_digits(word) {
         word.parse().ok()
     } else {
@@ -325,14 +317,6 @@ pub fn byte(word: &str) -> Option<u8> {
 
 fn signed_micros(word: &str) -> Option<i64> {
     if is_digits(word.strip_prefix('-').unwrap_or(word)) {
-        word.parse().ok()
-    } else {
-        None
-    }
-}
-
-fn micros(word: &str) -> Option<i64> {
-    if is_digits(word) {
         word.parse().ok()
     } else {
         None
