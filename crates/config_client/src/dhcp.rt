@@ -1,6 +1,6 @@
 //! A client of DHCP.
 use crate::context::Host;
-use dhcpv4::{RetryConfig, Socket};
+use dhcpv4::{DhcpOption, OptionsError, RetryConfig, Socket};
 use ip_wire::{EthernetAddress, IpProtocol, IpRepr, Ipv4Address, Ipv4Repr, UdpRepr};
 use net_base::{Duration, Instant};
 use socket_base::{IpPayload, Offer};
@@ -34,6 +34,15 @@ pub(crate) fn answer<W: Write>(
         }
         "arrives" => arrives(alloc, micros, more, client),
         "ports" => client.set_ports(port(first), port(more)),
+        "ask" => {
+            let codes = bytes_of(alloc, rest);
+            let taken = client.set_parameter_request_list(codes.as_slice());
+            writeln!(writer, "{taken:?}")?;
+        }
+        "options" => {
+            let taken = options(alloc, rest, client);
+            writeln!(writer, "{taken:?}")?;
+        }
         _ => return Ok(tell(word, micros, client)),
     }
     Ok(true)
@@ -52,6 +61,39 @@ fn tell(word: &str, micros: u64, client: &mut Socket) -> bool {
         _ => return false,
     }
     true
+}
+
+/// Sets up to two options: of each the code, and what is inside in hexadecimal digits.
+fn options(alloc: Global, text: &str, client: &mut Socket) -> Result<(), OptionsError> {
+    let (code, rest) = text.split_once(' ').unwrap_or((text, ""));
+    let (digits, rest) = rest.split_once(' ').unwrap_or((rest, ""));
+    let (other, more) = rest.split_once(' ').unwrap_or((rest, ""));
+    let (first, second) = (bytes_of(alloc, digits), bytes_of(alloc, more));
+    let one = option_of(code, first.as_slice());
+    let two = option_of(other, second.as_slice());
+    if code.is_empty() {
+        return client.set_outgoing_options(&[]);
+    }
+    if other.is_empty() {
+        return client.set_outgoing_options(&[one]);
+    }
+    client.set_outgoing_options(&[one, two])
+}
+
+/// An option of the code that a text says, and of 0 where it says none.
+fn option_of<'a>(code: &str, data: &'a [u8]) -> DhcpOption<'a> {
+    DhcpOption {
+        kind: code.parse::<u8>().unwrap_or(0),
+        data,
+    }
+}
+
+/// The bytes of hexadecimal digits, and none of any other text.
+fn bytes_of(alloc: Global, digits: &str) -> Vec<u8> {
+    match hex::decode(alloc, digits) {
+        Ok(bytes) => bytes,
+        Err(_) => Vec::new(alloc),
+    }
 }
 
 /// A port by its number, and 0 for any other text.

@@ -4,3 +4,4 @@ pub mod Fixed
 pub mod Held
 pub mod ReadBack
 pub mod Slots
+pub mod Wholes

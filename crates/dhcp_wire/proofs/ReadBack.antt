@@ -1,19 +1,21 @@
 -- A message that was written, read.
-use Rattle.std.proofs.Common.{◌≡◌, ℕ, ◌+◌, ◌≤◌, Bool, true, false, List, [], ◌∷◌, ◌++◌, length, drop, replicate, refl, sym, ◌∙◌, ap, subst, arith}
+use Rattle.std.proofs.Common.{◌≡◌, ℕ, ◌+◌, ◌≤◌, Bool, true, false, List, [], ◌∷◌, ◌++◌, length, drop, replicate, refl, sym, ◌∙◌, ap, subst, arith, append_assoc}
 use Rattle.std.specs.Prelude.{◌==◌, ◌/◌, ◌%◌, if◌then◌else◌, Option, Some, None, IsTrue}
 use Rattle.std.proofs.lemmas.Bool.{and_from}
+use Rattle.std.proofs.lemmas.List.{append-nil}
 use Rattle.ip_address.specs.Fields.{be16, be32}
 use Rattle.dhcp_wire.specs.Dhcp.{IsDhcp, IsMessage, IsEthernet, AreLengths, HasOpcode, type_in}
 use Rattle.dhcp_wire.specs.MessageType.{type_number, opcode_of, op_number}
 use Rattle.dhcp_wire.specs.Options.{OptionValue, options_in, is_area, last_of, seen}
 use Rattle.dhcp_wire.specs.Packet.{IsWhole, overload_number, overload_of, file_area, sname_area, option_of}
 use Rattle.dhcp_wire.specs.Values.{has_length, has_addresses, address_in, number16_in, number32_in, station_in, servers_in}
-use Rattle.dhcp_wire.specs.Written.{slots, padding, written, address_inside, number16_inside, number32_inside, station_inside, addresses_bytes}
+use Rattle.dhcp_wire.specs.Written.{slots, slots_bytes, options_bytes, padding, written, address_inside, number16_inside, number32_inside, station_inside, addresses_bytes}
 use Rattle.dhcp_wire.specs.Written.{addresses_inside}
-use Rattle.dhcp_wire.specs.Normal.{IsValue, normal}
+use Rattle.dhcp_wire.specs.Normal.{IsValue, is_read, normal}
 use Rattle.dhcp_wire.specs.declared.repr.DhcpRepr.{DhcpRepr}
 use Rattle.dhcp_wire.proofs.Fixed.{AreFixed, AreFixed-written}
 use Rattle.dhcp_wire.proofs.Slots.{AreKinds, present, options_bytes-slots, options_in-slots, is_area-slots, look, last_of-present, or_else-none}
+use Rattle.dhcp_wire.proofs.Wholes.{options_in-append, is_area-append, last_of-unread}
 use Rattle.dhcp_wire.proofs.Held.{AreRead, AreRead-servers, address_in-inside, has_length-address, has_addresses-address, number16_in-inside}
 use Rattle.dhcp_wire.proofs.Held.{has_length-number16, number32_in-inside, has_length-number32, station_in-inside, type_in-number}
 
@@ -36,36 +38,51 @@ kinds v = (
   ),
 )
 
-options_in-written : (v : DhcpRepr) (more : List ℕ) → IsValue v → options_in 0 (drop 240 (written v ++ more)) ≡ present (slots v)
+-- the slots, the further options, and what stands behind
+regrouped : (v : DhcpRepr) (rest : List ℕ) → options_bytes v ++ rest ≡ slots_bytes (slots v) ++ (v.additional_options.now ++ rest)
+regrouped v rest = ap (λ xs. xs ++ rest) (options_bytes-slots v) ∙ append_assoc (slots_bytes (slots v)) v.additional_options.now rest
+
+-- the further options of a message
+abbrev further : DhcpRepr → List OptionValue
+further v = options_in 0 v.additional_options.now
+
+options_in-written : (v : DhcpRepr) (more : List ℕ) → IsValue v → options_in 0 (drop 240 (written v ++ more)) ≡ present (slots v) (further v)
 options_in-written v more is =
-    ap (options_in 0) (AreFixed-written v more is).options
-    ∙ ap (λ xs. options_in 0 (xs ++ (255 ∷ (replicate (padding v) 0 ++ more)))) (options_bytes-slots v)
-    ∙ options_in-slots (slots v) (replicate (padding v) 0 ++ more) (kinds v)
+    let zeros : List ℕ = replicate (padding v) 0 ++ more in
+    ap (options_in 0) ((AreFixed-written v more is).options ∙ regrouped v (255 ∷ zeros))
+    ∙ options_in-slots (slots v) (v.additional_options.now ++ (255 ∷ zeros)) (kinds v)
+    ∙ ap (present (slots v)) (options_in-append 0 v.additional_options.now (255 ∷ zeros) is.additional_options.whole ∙ append-nil (further v))
 
 is_area-written : (v : DhcpRepr) (more : List ℕ) → IsValue v → is_area 0 (drop 240 (written v ++ more)) ≡ true
 is_area-written v more is =
-    ap (is_area 0) (AreFixed-written v more is).options
-    ∙ ap (λ xs. is_area 0 (xs ++ (255 ∷ (replicate (padding v) 0 ++ more)))) (options_bytes-slots v)
-    ∙ is_area-slots (slots v) (replicate (padding v) 0 ++ more) (kinds v)
+    let zeros : List ℕ = replicate (padding v) 0 ++ more in
+    ap (is_area 0) ((AreFixed-written v more is).options ∙ regrouped v (255 ∷ zeros))
+    ∙ is_area-slots (slots v) (v.additional_options.now ++ (255 ∷ zeros)) (kinds v)
+    ∙ is_area-append 0 v.additional_options.now (255 ∷ zeros) is.additional_options.whole
+
+-- of a code that a reader looks for the further options say nothing
+last_of-written : (v : DhcpRepr) (kind : ℕ) → IsValue v → is_read kind ≡ true → last_of kind None (present (slots v) (further v)) ≡ look kind None (slots v)
+last_of-written v kind is read =
+    last_of-present kind None (slots v) (further v) ∙ last_of-unread kind (look kind None (slots v)) (further v) read is.additional_options.unread
 
 -- nothing stands in the fields of the file and of the server's name
 overload-none : (v : DhcpRepr) (more : List ℕ) → IsValue v → overload_of (written v ++ more) ≡ 0
 overload-none v more is =
     ap (λ os. overload_number (last_of 52 None os)) (options_in-written v more is)
-    ∙ ap overload_number (last_of-present 52 None (slots v))
+    ∙ ap overload_number (last_of-written v 52 is refl)
 
-option_of-look : (v : DhcpRepr) (more : List ℕ) (kind : ℕ) → IsValue v → option_of kind (written v ++ more) ≡ look kind None (slots v)
-option_of-look v more kind is =
+option_of-look : (v : DhcpRepr) (more : List ℕ) (kind : ℕ) → IsValue v → is_read kind ≡ true → option_of kind (written v ++ more) ≡ look kind None (slots v)
+option_of-look v more kind is read =
     let bytes : List ℕ = written v ++ more in
     ap (λ n. last_of kind (last_of kind (last_of kind None (options_in 0 (drop 240 bytes))) (options_in 0 (file_area n bytes)))
     (options_in 0 (sname_area n bytes))) (overload-none v more is)
     ∙ ap (last_of kind None) (options_in-written v more is)
-    ∙ last_of-present kind None (slots v)
+    ∙ last_of-written v kind is read
 
 -- an option of a message that was written, with what is inside
-option-is : (v : DhcpRepr) (more : List ℕ) (kind : ℕ) (inside : Option (List ℕ)) → IsValue v → look kind None (slots v) ≡ inside →
+option-is : (v : DhcpRepr) (more : List ℕ) (kind : ℕ) (inside : Option (List ℕ)) → IsValue v → is_read kind ≡ true → look kind None (slots v) ≡ inside →
     option_of kind (written v ++ more) ≡ inside
-option-is v more kind inside is looked = option_of-look v more kind is ∙ looked
+option-is v more kind inside is read looked = option_of-look v more kind is read ∙ looked
 
 IsWhole-written : (v : DhcpRepr) (more : List ℕ) → IsValue v → IsWhole (written v ++ more)
 IsWhole-written v more is =
@@ -97,19 +114,19 @@ record AreOptions (v : DhcpRepr) (bytes : List ℕ) : Type 0 where
 
 AreOptions-written : (v : DhcpRepr) (more : List ℕ) → IsValue v → AreOptions v (written v ++ more)
 AreOptions-written v more is = record {
-  message_type = option_of-look v more 53 is;
-  client_identifier = option-is v more 61 _ is (or_else-none _);
-  requested_ip = option-is v more 50 _ is (or_else-none _);
-  max_size = option-is v more 57 _ is (or_else-none _);
-  server_identifier = option-is v more 54 _ is (or_else-none _);
-  host_name = option-is v more 12 _ is (or_else-none _);
-  parameter_request_list = option-is v more 55 _ is (or_else-none _);
-  lease_duration = option-is v more 51 _ is (or_else-none _);
-  renew_duration = option-is v more 58 _ is (or_else-none _);
-  rebind_duration = option-is v more 59 _ is (or_else-none _);
-  subnet_mask = option-is v more 1 _ is (or_else-none _);
-  router = option-is v more 3 _ is (or_else-none _);
-  dns_servers = option-is v more 6 _ is (or_else-none _);
+  message_type = option_of-look v more 53 is refl;
+  client_identifier = option-is v more 61 _ is refl (or_else-none _);
+  requested_ip = option-is v more 50 _ is refl (or_else-none _);
+  max_size = option-is v more 57 _ is refl (or_else-none _);
+  server_identifier = option-is v more 54 _ is refl (or_else-none _);
+  host_name = option-is v more 12 _ is refl (or_else-none _);
+  parameter_request_list = option-is v more 55 _ is refl (or_else-none _);
+  lease_duration = option-is v more 51 _ is refl (or_else-none _);
+  renew_duration = option-is v more 58 _ is refl (or_else-none _);
+  rebind_duration = option-is v more 59 _ is refl (or_else-none _);
+  subnet_mask = option-is v more 1 _ is refl (or_else-none _);
+  router = option-is v more 3 _ is refl (or_else-none _);
+  dns_servers = option-is v more 6 _ is refl (or_else-none _);
 }
 
 AreLengths-options : (v : DhcpRepr) (bytes : List ℕ) → IsValue v → AreOptions v bytes → AreLengths bytes

@@ -1,9 +1,10 @@
 -- What a reader makes of a message that was sent, and what can be sent.
-use Rattle.std.specs.Prelude.{◌≡◌, ℕ, ◌<◌, ◌^◌, Option, Some, None, List, [], ◌∷◌, ◌++◌, length}
+use Rattle.std.specs.Prelude.{◌≡◌, ◌==◌, ◌||◌, ℕ, ◌<◌, ◌^◌, Bool, false, IsTrue, Option, Some, None, List, [], ◌∷◌, ◌++◌, length}
 use Rattle.ip_address.specs.Fields.{IsNumber}
 use Rattle.ip_address.specs.Address.{IsIpv4Address, IsEthernetAddress}
 use Rattle.ip_address.specs.declared.ipv4.Ipv4Address.{Ipv4Address}
 use Rattle.ip_address.specs.declared.ethernet.EthernetAddress.{EthernetAddress}
+use Rattle.dhcp_wire.specs.Options.{OptionValue, are_options, options_in}
 use Rattle.dhcp_wire.specs.declared.repr.DhcpRepr.{DhcpRepr}
 
 -- three addresses, if they are there, before others that aren't
@@ -30,6 +31,21 @@ abbrev pub AreServers : List (Option Ipv4Address) → Type 0
 AreServers (a ∷ b ∷ c ∷ []) = IsAddress a × IsAddress b × IsAddress c
 AreServers _ = ⊥
 
+-- a reader looks for this code: of the network, of names, of what client and server agree on, and of times
+abbrev pub is_read : ℕ → Bool
+is_read kind =
+    (kind == 1) || (kind == 3) || (kind == 6) || (kind == 12) || (kind == 55) || (kind == 50) || (kind == 52) || (kind == 53)
+    || (kind == 54) || (kind == 57) || (kind == 61) || (kind == 51) || (kind == 58) || (kind == 59)
+
+abbrev pub AreUnread : List OptionValue → Type 0
+AreUnread [] = Unit {0}
+AreUnread (o ∷ os) = (is_read o.kind ≡ false) × AreUnread os
+
+-- whole options, none of a code that a reader looks for
+pub record AreFurther (bytes : List ℕ) : Type 0 where
+  pub whole : IsTrue (are_options 0 bytes)
+  pub unread : AreUnread (options_in 0 bytes)
+
 pub record IsValue (v : DhcpRepr) : Type 0 where
   pub transaction_id : v.transaction_id < 2 ^ 32
   pub secs : v.secs < 2 ^ 16
@@ -48,3 +64,4 @@ pub record IsValue (v : DhcpRepr) : Type 0 where
   pub lease_duration : IsNumber (2 ^ 32) v.lease_duration
   pub renew_duration : IsNumber (2 ^ 32) v.renew_duration
   pub rebind_duration : IsNumber (2 ^ 32) v.rebind_duration
+  pub additional_options : AreFurther v.additional_options.now

@@ -33,6 +33,15 @@ is_area zero (b ∷ bytes) = elim (b == 0) [
   | false ↦ elim (b == 255) [ true ↦ true | false ↦ is_area (suc (slice_index bytes 0)) bytes ]
 ]
 
+-- whether bytes are whole options one behind the other, with no pad and no end, the first n bytes skipped
+abbrev pub are_options : ℕ → List ℕ → Bool
+are_options n [] = n == 0
+are_options (suc n) (b ∷ bytes) = are_options n bytes
+are_options zero (b ∷ bytes) = elim (b == 0) [
+  | true ↦ false
+  | false ↦ elim (b == 255) [ true ↦ false | false ↦ are_options (suc (slice_index bytes 0)) bytes ]
+]
+
 -- what is inside the last option of this code, or else what is given
 abbrev pub last_of : ℕ → Option (List ℕ) → List OptionValue → Option (List ℕ)
 last_of kind so_far [] = so_far

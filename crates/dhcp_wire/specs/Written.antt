@@ -1,11 +1,12 @@
 -- A message as it is sent: the fixed fields, the options, their end, and zeros up to 300 bytes, which relay agents may ask
 -- for (RFC 1542, section 2.1).
-use Rattle.std.specs.Prelude.{◌≡◌, ◌==◌, ℕ, ◌+◌, ◌-◌, ◌<◌, ◌^◌, Bool, true, false, if◌then◌else◌, Option, Some, None, List, [], ◌∷◌, ◌++◌, length, replicate}
+use Rattle.std.specs.Prelude.{◌≡◌, ◌==◌, ℕ, ◌+◌, ◌-◌, ◌<◌, ◌^◌, Bool, true, false, IsTrue, if◌then◌else◌, Option, Some, None, List, [], ◌∷◌, ◌++◌, length, replicate}
 use Rattle.std.specs.Int.{w16, w32, to_be_bytes}
 use Rattle.ip_address.specs.declared.ipv4.Ipv4Address.{Ipv4Address}
 use Rattle.ip_address.specs.declared.ethernet.EthernetAddress.{EthernetAddress}
 use Rattle.dhcp_wire.specs.MessageType.{type_number, opcode_of, op_number}
-use Rattle.dhcp_wire.specs.Options.{seen}
+use Rattle.dhcp_wire.specs.Options.{are_options, seen}
+use Rattle.dhcp_wire.specs.declared.option.DhcpOption.{DhcpOption}
 use Rattle.dhcp_wire.specs.declared.repr.DhcpRepr.{DhcpRepr}
 
 -- a code, and what is inside its option where that is sent
@@ -107,8 +108,14 @@ time_bytes v = slots_bytes (time_slots v)
 unfoldable pub network_bytes : DhcpRepr → List ℕ
 network_bytes v = slots_bytes (network_slots v)
 
+-- behind them stand the further options, whose bytes the message holds
 abbrev pub options_bytes : DhcpRepr → List ℕ
-options_bytes v = client_bytes v ++ (name_bytes v ++ (time_bytes v ++ network_bytes v))
+options_bytes v = client_bytes v ++ (name_bytes v ++ (time_bytes v ++ (network_bytes v ++ v.additional_options.now)))
+
+-- the bytes of options one behind the other
+abbrev pub encoded : List DhcpOption → List ℕ
+encoded [] = []
+encoded (o ∷ os) = inside_bytes o.kind (Some o.«data».now) ++ encoded os
 
 -- the byte of the broadcast flag
 abbrev pub flag_byte : Bool → ℕ
@@ -146,7 +153,8 @@ abbrev pub FitsInside : Option (List ℕ) → Type 0
 FitsInside None = Unit {0}
 FitsInside (Some inside) = length inside < 256
 
--- what can be sent: the names fit their options
+-- what can be sent: the names fit their options, and the further ones are whole
 pub record Fits (v : DhcpRepr) : Type 0 where
   pub host_name : FitsInside (seen v.host_name)
   pub parameter_request_list : FitsInside (seen v.parameter_request_list)
+  pub additional_options : IsTrue (are_options 0 v.additional_options.now)

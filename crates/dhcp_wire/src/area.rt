@@ -1,9 +1,34 @@
 //! Areas of options, read in place.
 ghost use Rattle.std.specs.Prelude.{◌≡◌, ◌↔◌, ℕ, ◌<◌, ◌≤◌, IsTrue, IsOk, IfOk, List, length};
-ghost use Rattle.dhcp_wire.specs.Options.{last_of, options_in, is_area, seen};
+ghost use Rattle.dhcp_wire.specs.Options.{last_of, options_in, is_area, are_options, seen};
 
 use crate::field;
 use ip_address::Error;
+
+/// Whether bytes are whole options one behind the other, with no pad and no end.
+#[tactic(auto, using(crate::proofs::Areas::whole_steps))]
+pub(crate) fn are_options(bytes: &[u8]) -> bool
+    ensures { result ≡ are_options 0 bytes.now }
+{
+    let mut rest = bytes;
+    'options: loop {
+        let Some((code, behind)) = rest.split_first() else {
+            return true;
+        };
+        if *code == field::OPT_END || *code == field::OPT_PAD {
+            return false;
+        }
+        let Some((length, inner)) = behind.split_first() else {
+            return false;
+        };
+        let length = *length as usize;
+        if length > inner.len() {
+            return false;
+        }
+        let (_inside, after) = inner.split_at(length);
+        rest = after;
+    }
+}
 
 /// What is inside the last option of a code in an area, or else what was found elsewhere. Refuses
 /// an area with an option that is cut.

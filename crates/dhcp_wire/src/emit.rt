@@ -8,6 +8,7 @@ ghost use Rattle.dhcp_wire.specs.Written.{Fits, FitsInside, inside_bytes, addres
 ghost use Rattle.dhcp_wire.specs.Written.{addresses_inside, client_bytes, name_bytes, time_bytes, network_bytes, flag_byte, unused, front, fixed};
 ghost use Rattle.dhcp_wire.specs.Written.{options_bytes, padding, buffer_len, written};
 
+use crate::area::are_options;
 use crate::field;
 use crate::repr::{DhcpRepr, MAX_DNS_SERVER_COUNT};
 use ip_address::{EthernetAddress, Ipv4Address};
@@ -16,11 +17,13 @@ use ip_address::{EthernetAddress, Ipv4Address};
 const MIN_LEN: usize = 300;
 
 impl<'a> DhcpRepr<'a> {
-    /// Whether the names fit their options, as those that were read do.
+    /// Whether the names fit their options, as those that were read do, and the further options are whole.
     pub fn fits(&self) -> bool
         ensures { IsTrue result ↔ Fits self.now }
     {
-        fits_inside(self.host_name) && fits_inside(self.parameter_request_list)
+        fits_inside(self.host_name)
+            && fits_inside(self.parameter_request_list)
+            && are_options(self.additional_options)
     }
 
     /// The length of the message.
@@ -28,7 +31,8 @@ impl<'a> DhcpRepr<'a> {
         requires { Fits self.now }
         ensures { result ≡ buffer_len self.now }
     {
-        let options = self.client_len() + self.names_len() + self.times_len() + self.network_len();
+        let known = self.client_len() + self.names_len() + self.times_len() + self.network_len();
+        let options = known + self.additional_options.len();
         (field::HEADER_LEN + options + 1).max(MIN_LEN)
     }
 
@@ -92,6 +96,7 @@ impl<'a> DhcpRepr<'a> {
         let at = self.put_names(area, at);
         let at = self.put_times(area, at);
         let at = self.put_network(area, at);
+        let at = put_bytes(area, at, self.additional_options);
         put_end(area, at);
     }
 
@@ -327,6 +332,17 @@ fn put_option(area: &mut [u8], at: usize, kind: u8, inside: &[u8]) -> usize
     let (body, _rest) = rest.split_at_mut(inside.len());
     body.copy_from_slice(inside);
     at + 2 + inside.len()
+}
+
+/// Writes bytes at a place. Answers where they end.
+fn put_bytes(area: &mut [u8], at: usize, bytes: &[u8]) -> usize
+    requires { at + length bytes.now ≤ length area.old }
+    ensures { Extends area.old at area.new result bytes.now }
+{
+    let (_done, rest) = area.split_at_mut(at);
+    let (body, _rest) = rest.split_at_mut(bytes.len());
+    body.copy_from_slice(bytes);
+    at + bytes.len()
 }
 
 fn put_inside(area: &mut [u8], at: usize, kind: u8, inside: Option<&[u8]>) -> usize

@@ -1,5 +1,5 @@
 //! A message as a value.
-ghost use Rattle.std.specs.Prelude.{◌≡◌, ◌↔◌, ◌≤◌, ◌<◌, ℕ, Bool, IsTrue, IsOk, IfOk, Option, Some, None, List, length, slice_index};
+ghost use Rattle.std.specs.Prelude.{◌≡◌, ◌↔◌, ◌≤◌, ◌<◌, ℕ, Bool, IsTrue, IsOk, IfOk, Option, Some, None, List, [], length, slice_index};
 ghost use Rattle.dhcp_wire.specs.Options.{seen};
 ghost use Rattle.dhcp_wire.specs.Packet.{IsWhole, bytes_of, option_of};
 ghost use Rattle.dhcp_wire.specs.Dhcp.{AreLengths, are_network_lengths, are_server_lengths, are_time_lengths, IsEthernet, HasOpcode, IsMessage, IsDhcp};
@@ -60,12 +60,16 @@ pub struct DhcpRepr<'a> {
     pub renew_duration: Option<u32>,
     /// After how many seconds the client asks any server for more.
     pub rebind_duration: Option<u32>,
+    /// The bytes of further options, each its code, its length and what is inside, without pads and end. They go behind
+    /// the others. What is read has none here.
+    pub additional_options: &'a [u8],
 }
 
 impl<'a> DhcpRepr<'a> {
     /// What the message in the bytes says. Its names stay where they are.
     pub fn parse(packet: &DhcpPacket<'a>) -> Result<DhcpRepr<'a>, Error>
         ensures found { IfOk result (λ v. IsDhcp (bytes_of packet.now) v) }
+        ensures plain { IfOk result (λ v. v.additional_options.now ≡ []) }
         ensures only { IsMessage (bytes_of packet.now) → IsOk result }
     {
         packet.check_len()?;
@@ -155,7 +159,8 @@ fn type_in(option: Option<&[u8]>) -> Option<DhcpMessageType>
 fn read<'a>(packet: &DhcpPacket<'a>, message_type: DhcpMessageType) -> DhcpRepr<'a>
     requires is_message { IsMessage (bytes_of packet.now) }
     requires type_is { Some message_type ≡ type_in (option_of 53 (bytes_of packet.now)) }
-    ensures { IsDhcp (bytes_of packet.now) result }
+    ensures read { IsDhcp (bytes_of packet.now) result }
+    ensures plain { result.additional_options.now ≡ [] }
 {
     DhcpRepr {
         message_type,
@@ -179,5 +184,6 @@ fn read<'a>(packet: &DhcpPacket<'a>, message_type: DhcpMessageType) -> DhcpRepr<
         lease_duration: number32_in(packet.option(field::OPT_IP_LEASE_TIME)),
         renew_duration: number32_in(packet.option(field::OPT_RENEWAL_TIME_VALUE)),
         rebind_duration: number32_in(packet.option(field::OPT_REBINDING_TIME_VALUE)),
+        additional_options: &[],
     }
 }

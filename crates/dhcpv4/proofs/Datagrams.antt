@@ -22,11 +22,11 @@ pub record IsDatagram (p : PacketValue) : Type 0 where
   pub carries : p.payload ≡ Datagram udp bytes
   pub protocol : carried_in p.header ≡ Protocol.Udp
 
-of_kind : (kind : Kind) → carried_in (header_for kind) ≡ Protocol.Udp
-of_kind Discover = refl
-of_kind (Request s) = refl
-of_kind (Renew lease) = refl
-of_kind (Rebind lease) = refl
+of_kind : (kind : Kind) (len : ℕ) → carried_in (header_for kind len) ≡ Protocol.Udp
+of_kind Discover len = refl
+of_kind (Request s) len = refl
+of_kind (Renew lease) len = refl
+of_kind (Rebind lease) len = refl
 
 none_some : (p : PacketValue) → (let o : Option PacketValue = None in o) ≡ Some p → ⊥
 none_some p is = cc
@@ -40,7 +40,7 @@ by_turn T.Wait cx v v' answer p offers is = absurd (none_some p (ap (λ (w : Dhc
 by_turn T.GiveUp cx v v' answer p offers is = absurd (none_some p (ap (λ (w : DhcpValue). offered_packet w) (sym offers.1) ∙ is))
 by_turn (T.Send kind) cx v v' answer p offers is =
     subst IsDatagram (some_same _ p (ap (λ (w : DhcpValue). offered_packet w) (sym offers.1.offers) ∙ is))
-    (record { udp = _; bytes = _; carries = refl; protocol = of_kind kind })
+    (record { udp = _; bytes = _; carries = refl; protocol = of_kind kind _ })
 
 pub offered_datagram : (cx : ContextValue) (v v' : DhcpValue) (answer : Offer) (p : PacketValue) → Offers cx v answer v' →
     offered_packet v' ≡ Some p → IsDatagram p

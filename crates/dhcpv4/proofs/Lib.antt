@@ -3,6 +3,8 @@ pub mod Ends
 pub mod Given
 pub mod Masks
 pub mod OneMessage
+pub mod Sent
 pub mod Short
 pub mod Turns
 pub mod Taken
+pub mod TakenOptions

@@ -58,7 +58,7 @@ record IsSame (m n : DhcpRepr) : Type 0 where
 
 -- the first with what the second borrows is the second
 abbrev borrowing : DhcpRepr → DhcpRepr → DhcpRepr
-borrowing m n = record m { host_name = n.host_name; parameter_request_list = n.parameter_request_list }
+borrowing m n = record m { host_name = n.host_name; parameter_request_list = n.parameter_request_list; additional_options = n.additional_options }
 
 same_message : (m n : DhcpRepr) → IsSame m n → borrowing m n ≡ n
 same_message m n is = λ k. record {
@@ -83,6 +83,7 @@ same_message m n is = λ k. record {
   lease_duration = is.lease_duration k;
   renew_duration = is.renew_duration k;
   rebind_duration = is.rebind_duration k;
+  additional_options = n.additional_options;
 }
 
 one_v4 : (a b : Ipv4Address) → a.0 ≡ b.0 → a ≡ b
@@ -119,9 +120,9 @@ read_once bytes m n one other = record {
 }
 
 -- a kind of request is one message
-asked_once : (kind : Kind) (station : EthernetAddress) (number mtu : ℕ) (m n : DhcpRepr) → IsRequest kind station number mtu m →
-    IsRequest kind station number mtu n → IsSame m n
-asked_once kind station number mtu m n one other = record {
+asked_once : (kind : Kind) (station : EthernetAddress) (number mtu : ℕ) (parameters options : List ℕ) (m n : DhcpRepr)
+    → IsRequest kind station number mtu parameters options m → IsRequest kind station number mtu parameters options n → IsSame m n
+asked_once kind station number mtu parameters options m n one other = record {
   message_type = one.message_type ∙ sym other.message_type;
   transaction_id = one.transaction_id ∙ sym other.transaction_id;
   secs = one.secs ∙ sym other.secs;
@@ -232,21 +233,21 @@ unfolding name_bytes
 name_alike m n names codes =
     λ k. inside_bytes 54 (address_inside m.server_identifier) ++ (inside_bytes 12 (names k) ++ (inside_bytes 55 (codes k) ++ []))
 
-options_alike : (m n : DhcpRepr) → seen m.host_name ≡ seen n.host_name → seen m.parameter_request_list ≡ seen n.parameter_request_list →
-    options_bytes m ≡ options_bytes (borrowing m n)
-options_alike m n names codes = λ k.
-    client_alike m n k ++ (name_alike m n names codes k ++ (time_alike m n k ++ network_alike m n k))
+options_alike : (m n : DhcpRepr) → seen m.host_name ≡ seen n.host_name → seen m.parameter_request_list ≡ seen n.parameter_request_list
+    → m.additional_options.now ≡ n.additional_options.now → options_bytes m ≡ options_bytes (borrowing m n)
+options_alike m n names codes further = λ k.
+    client_alike m n k ++ (name_alike m n names codes k ++ (time_alike m n k ++ (network_alike m n k ++ further k)))
 
-written_alike : (m n : DhcpRepr) → seen m.host_name ≡ seen n.host_name → seen m.parameter_request_list ≡ seen n.parameter_request_list →
-    written m ≡ written (borrowing m n)
-written_alike m n names codes =
-    ap (λ (options : List ℕ). fixed m ++ (options ++ (255 ∷ replicate (59 - length options) 0))) (options_alike m n names codes)
+written_alike : (m n : DhcpRepr) → seen m.host_name ≡ seen n.host_name → seen m.parameter_request_list ≡ seen n.parameter_request_list
+    → m.additional_options.now ≡ n.additional_options.now → written m ≡ written (borrowing m n)
+written_alike m n names codes further =
+    ap (λ (options : List ℕ). fixed m ++ (options ++ (255 ∷ replicate (59 - length options) 0))) (options_alike m n names codes further)
 
 -- the socket that offers these bytes
 abbrev offering : ℤ → DhcpValue → Kind → List ℕ → DhcpValue
 offering now v kind bytes = record v {
   offered = Some (record {
-    packet = packet_of (header_for kind) (Datagram (ports_of v.settings) bytes);
+    packet = packet_of (header_for kind (length bytes)) (Datagram (ports_of v.settings) bytes);
     transaction_id = id_of v kind;
     next = next_of now v kind;
   });
@@ -256,10 +257,11 @@ one_sent : (now : ℤ) (mtu : ℕ) (v left right : DhcpValue) (kind : Kind) → 
 one_sent now mtu v left right kind one other =
     let m = one.message in
     let n = other.message in
-    let same = asked_once kind v.station (id_of v kind) mtu m n one.is_request other.is_request in
+    let same = asked_once kind v.station (id_of v kind) mtu v.parameters v.options m n one.is_request other.is_request in
     let bytes : written m ≡ written n =
     written_alike m n (one.is_request.host_name ∙ sym other.is_request.host_name)
     (one.is_request.parameter_request_list ∙ sym other.is_request.parameter_request_list)
+    (one.is_request.additional_options ∙ sym other.is_request.additional_options)
     ∙ ap (λ (x : DhcpRepr). written x) (same_message m n same) in
     one.offers ∙ ap (λ (bs : List ℕ). offering now v kind bs) bytes ∙ sym other.offers
 

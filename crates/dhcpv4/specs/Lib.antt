@@ -1,6 +1,7 @@
 -- What the contracts of this crate speak of.
 pub mod Answers
 pub mod Events
+pub mod Extras
 pub mod Laws
 pub mod Leases
 pub mod Moments

@@ -1,5 +1,5 @@
 -- What the client offers to send, and the state behind it (RFC 2131, sections 4.1 and 4.4.5).
-use Rattle.std.specs.Prelude.{◌≡◌, ℕ, ◌+◌, min, true, false, Some, ℤ, ◌-ℤ◌, unsigned_abs}
+use Rattle.std.specs.Prelude.{◌≡◌, ℕ, ◌+◌, min, true, false, Some, ℤ, ◌-ℤ◌, unsigned_abs, length}
 use Rattle.socket_base.specs.Context.{ContextValue}
 use Rattle.socket_base.specs.Packet.{packet_of, Datagram}
 use Rattle.socket_base.specs.declared.offer.Offer.{Offer}
@@ -57,10 +57,10 @@ next_of now v (Rebind lease) = S.Rebinding lease (later now (lease_wait v now le
 -- a message of this kind is offered
 pub record Sends (now : ℤ) (mtu : ℕ) (v : DhcpValue) (kind : Kind) (v' : DhcpValue) : Type 0 where
   pub message : DhcpRepr
-  pub is_request : IsRequest kind v.station (id_of v kind) mtu message
+  pub is_request : IsRequest kind v.station (id_of v kind) mtu v.parameters v.options message
   pub offers : v' ≡ record v {
     offered = Some (record {
-      packet = packet_of (header_for kind) (Datagram (ports_of v.settings) (written message));
+      packet = packet_of (header_for kind (length (written message))) (Datagram (ports_of v.settings) (written message));
       transaction_id = id_of v kind;
       next = next_of now v kind;
     });

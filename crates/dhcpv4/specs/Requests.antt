@@ -1,5 +1,5 @@
 -- What the client sends (RFC 2131, sections 4.4.1 and 4.4.5 and table 5).
-use Rattle.std.specs.Prelude.{◌≡◌, ℕ, ◌-◌, min, max, Bool, true, false, Option, Some, None, [], ◌∷◌}
+use Rattle.std.specs.Prelude.{◌≡◌, ℕ, ◌+◌, ◌-◌, min, max, Bool, true, false, Option, Some, None, List, [], ◌∷◌}
 use Rattle.ip_wire.specs.EthernetAddress.{EthernetAddress}
 use Rattle.ip_wire.specs.IpProtocol.TheVariants as Protocol
 use Rattle.ip_wire.specs.IpRepr.{IpRepr}
@@ -9,6 +9,7 @@ use Rattle.dhcp_wire.specs.Options.{seen}
 use Rattle.dhcp_wire.specs.declared.message_type.DhcpMessageType.{DhcpMessageType}
 use Rattle.dhcp_wire.specs.declared.message_type.DhcpMessageType.TheVariants as Kinds
 use Rattle.dhcp_wire.specs.declared.repr.DhcpRepr.{DhcpRepr}
+use Rattle.dhcpv4.specs.Extras.{asked_inside}
 use Rattle.dhcpv4.specs.declared.request.Kind.{Kind}
 use Rattle.dhcpv4.specs.declared.request.Kind.TheVariants.{Discover, Request, Renew, Rebind}
 
@@ -57,8 +58,8 @@ server_for (Request s) = Some s.server.identifier
 server_for (Renew lease) = None
 server_for (Rebind lease) = None
 
--- the message of a station. It asks for the subnet mask, routers and servers of names.
-pub record IsRequest (kind : Kind) (station : EthernetAddress) (number mtu : ℕ) (m : DhcpRepr) : Type 0 where
+-- the message of a station. It asks for these codes, if there are any, and carries these further options.
+pub record IsRequest (kind : Kind) (station : EthernetAddress) (number mtu : ℕ) (parameters options : List ℕ) (m : DhcpRepr) : Type 0 where
   pub message_type : m.message_type ≡ type_for kind
   pub transaction_id : m.transaction_id ≡ number
   pub secs : m.secs ≡ 0
@@ -73,29 +74,30 @@ pub record IsRequest (kind : Kind) (station : EthernetAddress) (number mtu : ℕ
   pub requested_ip : m.requested_ip ≡ requested_for kind
   pub client_identifier : m.client_identifier ≡ Some station
   pub server_identifier : m.server_identifier ≡ server_for kind
-  pub parameter_request_list : seen m.parameter_request_list ≡ Some (1 ∷ 3 ∷ 6 ∷ [])
+  pub parameter_request_list : seen m.parameter_request_list ≡ asked_inside parameters
   pub host_name : seen m.host_name ≡ None
   pub dns_servers : m.dns_servers ≡ None ∷ None ∷ None ∷ []
   pub max_size : m.max_size ≡ Some (size_for mtu)
   pub lease_duration : m.lease_duration ≡ None
   pub renew_duration : m.renew_duration ≡ None
   pub rebind_duration : m.rebind_duration ≡ None
+  pub additional_options : m.additional_options.now ≡ options
 
--- the header of a message of 300 bytes behind that of UDP
-abbrev pub header_between : Ipv4Address → Ipv4Address → IpRepr
-header_between source destination = Ip.Ipv4 (record {
+-- the header of a message of so many bytes behind that of UDP
+abbrev pub header_between : Ipv4Address → Ipv4Address → ℕ → IpRepr
+header_between source destination len = Ip.Ipv4 (record {
   src_addr = source;
   dst_addr = destination;
   next_header = Protocol.Udp;
-  payload_len = 308;
+  payload_len = 8 + len;
   hop_limit = 64;
   ident = 0;
   dont_frag = false;
 })
 
 -- to all from no address; for more of a lease from the client's address, to the lease's server or to all
-abbrev pub header_for : Kind → IpRepr
-header_for Discover = header_between no_address all_hosts
-header_for (Request s) = header_between no_address all_hosts
-header_for (Renew lease) = header_between lease.config.address.address lease.config.server.identifier
-header_for (Rebind lease) = header_between lease.config.address.address all_hosts
+abbrev pub header_for : Kind → ℕ → IpRepr
+header_for Discover len = header_between no_address all_hosts len
+header_for (Request s) len = header_between no_address all_hosts len
+header_for (Renew lease) len = header_between lease.config.address.address lease.config.server.identifier len
+header_for (Rebind lease) len = header_between lease.config.address.address all_hosts len

@@ -1,5 +1,5 @@
 -- The socket as a value, and what its calls leave.
-use Rattle.std.specs.Prelude.{ℕ, ◌==◌, ◌&&◌, ◌||◌, Bool, true, false, List, Option, Some, None, is_some, if◌then◌else◌}
+use Rattle.std.specs.Prelude.{ℕ, ◌==◌, ◌&&◌, ◌||◌, Bool, true, false, List, [], ◌∷◌, Option, Some, None, is_some, if◌then◌else◌}
 use Rattle.net_base.specs.RandomWords.{next_state, word}
 use Rattle.net_base.specs.Time.{longest}
 use Rattle.ip_wire.specs.EthernetAddress.{EthernetAddress}
@@ -7,6 +7,8 @@ use Rattle.ip_wire.specs.IpRepr.{IpRepr}
 use Rattle.ip_wire.specs.IpRepr.TheVariants as Ip
 use Rattle.ip_wire.specs.UdpRepr.{UdpRepr}
 use Rattle.socket_base.specs.Packet.{PacketValue, packet_of, Datagram}
+use Rattle.dhcp_wire.specs.Written.{encoded}
+use Rattle.dhcp_wire.specs.declared.option.DhcpOption.{DhcpOption}
 use Rattle.dhcpv4.specs.States.{lease_of}
 use Rattle.dhcpv4.specs.declared.config.RetryConfig.{RetryConfig}
 use Rattle.dhcpv4.specs.declared.config.Settings.{Settings}
@@ -20,11 +22,13 @@ pub record Open : Type 0 where
   pub transaction_id : ℕ
   pub next : ClientState
 
--- The station, the settings, the state, the number that answers have to name, whether there is something to tell, the
--- generator of random words with the next two, and the open offer.
+-- The station, the settings, the codes that it asks for, the bytes of further options, the state, the number that answers have to
+-- name, whether there is something to tell, the generator of random words with the next two, and the open offer.
 pub record DhcpValue : Type 0 where
   pub station : EthernetAddress
   pub settings : Settings
+  pub parameters : List ℕ
+  pub options : List ℕ
   pub state : ClientState
   pub transaction_id : ℕ
   pub changed : Bool
@@ -65,10 +69,13 @@ default_settings = record {
   client_port = 68;
 }
 
+-- at first the client asks for the subnet mask, routers and servers of names
 abbrev pub made : EthernetAddress → ℕ → DhcpValue
 made station seed = record {
   station = station;
   settings = default_settings;
+  parameters = 1 ∷ 3 ∷ 6 ∷ [];
+  options = [];
   state = Init;
   transaction_id = 0;
   changed = true;
@@ -78,13 +85,20 @@ made station seed = record {
   offered = None;
 }
 
--- CALLS. Each of them first settles an open offer as not sent.
+-- CALLS. Each of them first settles an open offer as not sent; one that is refused changes nothing.
 
 abbrev pub unoffered : DhcpValue → DhcpValue
 unoffered v = record v { offered = None }
 
 abbrev pub with_settings : DhcpValue → Settings → DhcpValue
 with_settings v settings = record v { settings = settings; offered = None }
+
+-- where these are taken; else nothing changes
+abbrev pub with_parameters : DhcpValue → List ℕ → Bool → DhcpValue
+with_parameters v codes taken = if taken then record v { parameters = codes; offered = None } else v
+
+abbrev pub with_options : DhcpValue → List DhcpOption → Bool → DhcpValue
+with_options v options taken = if taken then record v { options = encoded options; offered = None } else v
 
 -- begun anew: that a lease is given up is to be told
 abbrev pub begun : DhcpValue → DhcpValue

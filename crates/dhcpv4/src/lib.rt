@@ -5,6 +5,8 @@
 #![tactic(auto)]
 
 mod config;
+mod error;
+mod extras;
 pub mod laws;
 mod lease;
 pub mod moments;
@@ -13,7 +15,10 @@ mod socket;
 mod state;
 
 pub use config::{Config, Event, RetryConfig, ServerInfo, Settings};
-pub use dhcp_wire::{DhcpMessageType, DhcpOpCode, DhcpPacket, DhcpRepr, MAX_DNS_SERVER_COUNT};
+pub use dhcp_wire::{
+    DhcpMessageType, DhcpOpCode, DhcpOption, DhcpPacket, DhcpRepr, MAX_DNS_SERVER_COUNT,
+};
+pub use error::OptionsError;
 pub use lease::Lease;
 pub use request::Kind;
 pub use socket::Socket;

@@ -1,23 +1,22 @@
 //! What the client sends.
-ghost use Rattle.std.specs.Prelude.{◌≡◌};
+ghost use Rattle.std.specs.Prelude.{◌≡◌, ◌≤◌};
 ghost use Rattle.dhcp_wire.specs.Written.{Fits, buffer_len};
 ghost use Rattle.dhcpv4.specs.Requests.{IsRequest, type_for, client_for, broadcast_for, requested_for, server_for, size_for, header_between, header_for};
 ghost use Rattle.dhcp_wire.specs.Normal.{IsAddress};
 ghost use Rattle.ip_wire.specs.Address.{IsIpv4Address, IsEthernetAddress};
 
+use crate::extras::Extras;
 use crate::lease::Lease;
 use crate::state::Requesting;
 use dhcp_wire::{DhcpMessageType, DhcpRepr, MAX_DNS_SERVER_COUNT};
 use ip_wire::{EthernetAddress, IpProtocol, IpRepr, Ipv4Address, Ipv4Repr, UDP_HEADER_LEN};
 
-/// The options that the client asks for: the subnet mask, routers and servers of names.
-const PARAMETERS: &[u8] = &[1, 3, 6];
 /// What may stand before a message in an IP packet, in bytes: the longest IPv4 header, and that of UDP.
 const HEADERS_LEN: usize = 68;
 /// The shortest length that a client may name (RFC 2132, section 9.10).
 const LEAST_SIZE: usize = 576;
-/// How long the client's messages are.
-pub(crate) const MESSAGE_LEN: usize = 300;
+/// How long the client's messages are at most: what each server takes (RFC 2131, section 2).
+pub(crate) const MESSAGE_LEN: usize = 548;
 /// The hop limit of the packets.
 const HOPS: u8 = 64;
 
@@ -35,20 +34,23 @@ pub enum Kind {
 }
 
 impl Kind {
-    /// The message of a station: the answers name its number.
-    pub(crate) fn message(
+    /// The message of a station, with what it carries beside: the answers name its number.
+    pub(crate) fn message<'a>(
         &self,
         station: EthernetAddress,
         transaction_id: u32,
         mtu: usize,
-    ) -> DhcpRepr<'static>
-        ensures request { IsRequest self.now station transaction_id mtu result }
+        extras: &'a Extras,
+    ) -> DhcpRepr<'a>
+        ensures request { IsRequest self.now station transaction_id mtu extras.now.parameters extras.now.options result }
         ensures fits { Fits result }
-        ensures len { buffer_len result ≡ 300 }
+        ensures len { buffer_len result ≤ 548 }
     {
         let requested_ip = self.requested_ip();
         let server_identifier = self.server_identifier();
         has_six_bytes(station);
+        let parameter_request_list = extras.parameters();
+        let additional_options = extras.options();
         DhcpRepr {
             message_type: self.message_type(),
             transaction_id,
@@ -64,13 +66,14 @@ impl Kind {
             requested_ip,
             client_identifier: Some(station),
             server_identifier,
-            parameter_request_list: Some(PARAMETERS),
+            parameter_request_list,
             host_name: None,
             dns_servers: [None; MAX_DNS_SERVER_COUNT],
             max_size: Some(size_for(mtu)),
             lease_duration: None,
             renew_duration: None,
             rebind_duration: None,
+            additional_options,
         }
     }
 
@@ -141,19 +144,25 @@ impl Kind {
         }
     }
 
-    /// The header of its packet.
-    pub(crate) fn header(&self) -> IpRepr
-        ensures { result ≡ header_for self.now }
+    /// The header of its packet, for a message of so many bytes.
+    pub(crate) fn header(&self, len: usize) -> IpRepr
+        requires { len ≤ 548 }
+        ensures { result ≡ header_for self.now len }
     {
         match self {
-            Kind::Discover => header_between(Ipv4Address::UNSPECIFIED, Ipv4Address::BROADCAST),
-            Kind::Request(_) => { header_between(Ipv4Address::UNSPECIFIED, Ipv4Address::BROADCAST) }
+            Kind::Discover => {
+                header_between(Ipv4Address::UNSPECIFIED, Ipv4Address::BROADCAST, len)
+            }
+            Kind::Request(_) => {
+                header_between(Ipv4Address::UNSPECIFIED, Ipv4Address::BROADCAST, len)
+            }
             Kind::Renew(lease) => header_between(
                 lease.config.address.address(),
                 lease.config.server.identifier,
+                len,
             ),
             Kind::Rebind(lease) => {
-                header_between(lease.config.address.address(), Ipv4Address::BROADCAST)
+                header_between(lease.config.address.address(), Ipv4Address::BROADCAST, len)
             }
         }
     }
@@ -177,15 +186,16 @@ fn size_for(mtu: usize) -> u16
     size.min(65_535) as u16
 }
 
-/// The header of a message's packet between these addresses.
-fn header_between(src_addr: Ipv4Address, dst_addr: Ipv4Address) -> IpRepr
-    ensures { result ≡ header_between src_addr dst_addr }
+/// The header of the packet of a message of so many bytes between these addresses.
+fn header_between(src_addr: Ipv4Address, dst_addr: Ipv4Address, len: usize) -> IpRepr
+    requires { len ≤ 548 }
+    ensures { result ≡ header_between src_addr dst_addr len }
 {
     IpRepr::Ipv4(Ipv4Repr {
         src_addr,
         dst_addr,
         next_header: IpProtocol::Udp,
-        payload_len: UDP_HEADER_LEN + MESSAGE_LEN,
+        payload_len: UDP_HEADER_LEN + len,
         hop_limit: HOPS,
         ident: 0,
         dont_frag: false,

@@ -1,19 +1,24 @@
 //! The socket.
-ghost use Rattle.std.specs.Prelude.{◌≡◌, ℕ, IfSome, None};
+ghost use Rattle.std.specs.Prelude.{◌≡◌, ◌≤◌, ◌-◌, ℕ, IfSome, None, is_ok, length};
 ghost use Rattle.net_base.specs.Time.{IsMoment};
 ghost use Rattle.socket_base.specs.Packet.{IsSendable, option_value};
+ghost use Rattle.dhcp_wire.specs.Written.{Fits, buffer_len, written};
+ghost use Rattle.dhcpv4.specs.Extras.{asked_len, room, verdict, list_verdict};
 ghost use Rattle.dhcpv4.specs.Answers.{is_answer, chosen, told, acknowledged, refused, offer_taken, Processed};
 ghost use Rattle.dhcpv4.specs.Events.{event_of, fresh, untold};
 ghost use Rattle.dhcpv4.specs.Offers.{Offers, Sends, next_of, id_of, discover_wait};
 ghost use Rattle.dhcpv4.specs.States.{poll_of};
-ghost use Rattle.dhcpv4.specs.Value.{made, default_retry, settled, begun, with_settings, accepts, offered_packet};
+ghost use Rattle.dhcpv4.specs.Value.{made, default_retry, settled, begun, with_settings, with_parameters, with_options, accepts, offered_packet};
 
 use crate::config::{Event, RetryConfig, ServerInfo, Settings};
+use crate::error::OptionsError;
+use crate::extras::Extras;
 use crate::lease::{Lease, block_of, is_usable, lease_in, server_in};
 use crate::moments::{doubled, first_wait, later, renew_wait, spread};
 use crate::request::{Kind, MESSAGE_LEN};
 use crate::state::{ClientState, Requesting, Selecting, Turn};
-use dhcp_wire::{DhcpMessageType, DhcpPacket, DhcpRepr};
+use arrayvec::ArrayVec;
+use dhcp_wire::{DhcpMessageType, DhcpOption, DhcpPacket, DhcpRepr};
 use ip_wire::{EthernetAddress, IpRepr, Ipv4Address, Ipv4Cidr, UdpRepr};
 use net_base::{Duration, Instant, Rand};
 use socket_base::{Context, IpPayload, Offer, Packet, PollAt};
@@ -32,6 +37,18 @@ fn default_retry() -> RetryConfig
     }
 }
 
+/// The bytes of a message.
+fn message_of(repr: &DhcpRepr<'_>) -> ArrayVec<u8, MESSAGE_LEN>
+    requires fits { Fits repr.now }
+    requires len { buffer_len repr.now ≤ 548 }
+    ensures { result.items ≡ written repr.now }
+{
+    let mut message = ArrayVec::from([0; MESSAGE_LEN]);
+    message.truncate(repr.buffer_len());
+    repr.emit(message.as_mut_slice());
+    message
+}
+
 /// The header of a packet that is offered, and what sending it makes of the socket.
 #[derive(Clone, Copy, Debug)]
 struct Pending {
@@ -45,6 +62,7 @@ struct Pending {
 pub struct Socket {
     station: EthernetAddress,
     settings: Settings,
+    extras: Extras,
     state: ClientState,
     /// The number that answers have to name.
     transaction_id: u32,
@@ -56,7 +74,7 @@ pub struct Socket {
     /// What makes the next wait shorter or longer.
     next_word: u32,
     /// The message of the offered packet.
-    message: [u8; MESSAGE_LEN],
+    message: ArrayVec<u8, MESSAGE_LEN>,
     offered: Option<Pending>,
 }
 
@@ -68,6 +86,8 @@ impl Model for Socket {
     ghost view = { λ s. record {
       station = s.station;
       settings = s.settings;
+      parameters = s.extras.parameters;
+      options = s.extras.options;
       state = s.state;
       transaction_id = s.transaction_id;
       changed = s.changed;
@@ -75,7 +95,7 @@ impl Model for Socket {
           s.random;
       next_id = s.next_id;
       next_word = s.next_word;
-      offered = open_of s.settings s.offered s.message;
+      offered = open_of s.settings s.offered s.message.items;
     } };
 }
 
@@ -96,13 +116,14 @@ impl Socket {
                 server_port: 67,
                 client_port: 68,
             },
+            extras: Extras::new(),
             state: ClientState::Init,
             transaction_id: 0,
             changed: true,
             random,
             next_id,
             next_word,
-            message: [0; MESSAGE_LEN],
+            message: ArrayVec::new(),
             offered: None,
         }
     }
@@ -145,6 +166,30 @@ impl Socket {
         self.offered = None;
         self.settings.server_port = server_port;
         self.settings.client_port = client_port;
+    }
+
+    /// Sets the codes that the client asks for (RFC 2132, section 9.8), at first 1, 3 and 6: the subnet mask, routers and servers of
+    /// names. With no code it asks for none. A list is refused, and nothing changes, where it has more than 255 codes, or where
+    /// it doesn't fit a message of 548 bytes beside the options that were set.
+    pub fn set_parameter_request_list(&mut self, codes: &[u8]) -> Result<(), OptionsError>
+        ensures verdict { result ≡ list_verdict codes.now (length self.old.options) }
+        ensures value { self.new ≡ with_parameters self.old codes.now (is_ok result) }
+    {
+        self.extras.set_parameters(codes)?;
+        self.offered = None;
+        Ok(())
+    }
+
+    /// Sets options that each message carries behind its own, as the name of the client (12), in place of those set before. They are
+    /// refused, and nothing changes, for the first one whose code is reserved, which has more than 255 bytes, or which doesn't
+    /// fit a message of 548 bytes beside the list of codes and those before it.
+    pub fn set_outgoing_options(&mut self, options: &[DhcpOption<'_>]) -> Result<(), OptionsError>
+        ensures verdict { result ≡ verdict (room - asked_len self.old.parameters) options.now }
+        ensures value { self.new ≡ with_options self.old options.now (is_ok result) }
+    {
+        self.extras.set_options(options)?;
+        self.offered = None;
+        Ok(())
     }
 
     /// The state of the client.
@@ -365,10 +410,10 @@ impl Socket {
     {
         let transaction_id = self.id_of(kind);
         let next = self.next_of(now, kind);
-        let message = kind.message(self.station, transaction_id, mtu);
-        message.emit(&mut self.message);
+        let message = kind.message(self.station, transaction_id, mtu, &self.extras);
+        self.message = message_of(&message);
         self.offered = Some(Pending {
-            header: kind.header(),
+            header: kind.header(self.message.as_slice().len()),
             transaction_id,
             next,
         });
@@ -445,7 +490,10 @@ impl Socket {
             src_port: self.settings.client_port,
             dst_port: self.settings.server_port,
         };
-        Some(Packet::new(pending.header, IpPayload::Udp(repr, &self.message)))
+        Some(Packet::new(
+            pending.header,
+            IpPayload::Udp(repr, self.message.as_slice()),
+        ))
     }
 
     /// Says what became of the offered packet: behind one that was sent the client waits for its answer.

@@ -136,6 +136,7 @@ fn answer_to<'a>(message: &DhcpRepr<'_>) -> DhcpRepr<'a>
         lease_duration: Some(600),
         renew_duration: None,
         rebind_duration: None,
+        additional_options: &[],
     }
 }
 

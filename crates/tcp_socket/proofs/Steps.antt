@@ -3,7 +3,7 @@ use Rattle.std.proofs.Common.{◌≡◌, ℕ, ◌-◌, ◌==◌, ◌&&◌, not, 
 use Rattle.std.proofs.Common.{Some, None, is_some, if◌then◌else◌, refl, sym, ap, subst, ◌∙◌, arith}
 use Rattle.std.specs.Prelude.{IfSome}
 use Rattle.std.proofs.lemmas.Bool.Decides.{nat_tests}
-use Rattle.net_base.specs.Ring.{Ring, released}
+use Rattle.net_base.specs.Ring.{Ring}
 use Rattle.ip_wire.specs.IpRepr.{IpRepr}
 use Rattle.held_bytes.specs.Held.{runs_of}
 use Rattle.ip_wire.specs.SeqNumber.{SeqNumber}
@@ -14,7 +14,7 @@ use Rattle.socket_base.specs.Context.{ContextValue}
 use Rattle.socket_base.specs.Packet.{IsSendable, packet_of}
 use Rattle.socket_base.specs.Packet as Carried
 use Rattle.held_bytes.specs.ReceiveMap.{store, front}
-use Rattle.tcp_model.specs.Acknowledged.{acknowledged, block_acknowledged, freed_by, duplicates_after}
+use Rattle.tcp_model.specs.Acknowledged.{acknowledged, duplicates_after}
 use Rattle.tcp_model.specs.Answers.{answer_for}
 use Rattle.tcp_model.specs.Arrival.{outside, finished, with_content, told, echo_heard, taken, checked, received, arrives_in}
 use Rattle.tcp_model.specs.Checks.{is_in_window}
@@ -27,7 +27,7 @@ use Rattle.tcp_model.specs.Segments.{rst_reply}
 use Rattle.tcp_model.specs.States.{is_closed, takes_text}
 use Rattle.tcp_model.specs.Text.{Texted, texted, laid, has_new_text, with_text, with_text_at, with_bytes_at, taken_in_order, held_early, with_fin}
 use Rattle.tcp_model.specs.Timeout.{timeout_restarted}
-use Rattle.tcp_model.specs.Timestamps.{stamp_taken, echo_taken}
+use Rattle.tcp_model.specs.Timestamps.{stamp_taken}
 use Rattle.tcp_model.specs.Offsets.{past_by, before_by}
 use Rattle.tcp_model.specs.Value.{TcpValue, Received, Arrived, received_of, with_block, dropped, answered_with, ended, queued_in, free_in}
 use Rattle.tcp_model.specs.declared.block.Block.{Block}
@@ -158,19 +158,6 @@ rest_leads cx duplicates v w ip header bytes answer socket opened w_is a s =
     let counts = told v header duplicates cx.moment in
     let first = leads_to (λ (x : TcpValue). finished cx x.block (with_text x header bytes) ip header (length bytes)) w counts answer socket w_is a s in
     if_open (is_closed v.block.state) (dropped v) (finished cx counts.block (with_text counts header bytes) ip header (length bytes)) answer socket opened first
-
--- the echo is taken, SND.UNA rises, and what is acknowledged is freed
-pub acknowledged_so : (b b1 b2 : Block) (r : Received) (q q2 : Ring ℕ) (o : Option OpenOffer) (v : TcpValue) (header : TcpHeader) (by n freed : ℕ) (now : ℤ)
-    → value_of b r q o ≡ v → n ≡ length q.queue → freed ≡ freed_by b by n → b1 ≡ echo_taken b header by now → b2 ≡ block_acknowledged b1 by n now
-    → q2 ≡ released q freed → value_of b2 r q2 o ≡ acknowledged (echo_heard v header by now) by now
-acknowledged_so b b1 b2 r q q2 o v header by n freed now is n_is freed_is heard_is acked_is q_is =
-    let left : ℕ → Block = λ k. block_acknowledged (echo_taken b header by now) by k now in
-    ap (λ (x : Block). value_of x r q2 o) acked_is
-    ∙ ap (λ (x : Block). value_of (block_acknowledged x by n now) r q2 o) heard_is
-    ∙ ap (λ (x : Ring ℕ). value_of (left n) r x o) q_is
-    ∙ ap (λ (k : ℕ). value_of (left n) r (released q k) o) freed_is
-    ∙ ap (λ (k : ℕ). value_of (left k) r (released q (freed_by b by k)) o) n_is
-    ∙ ap (λ (x : TcpValue). acknowledged (echo_heard x header by now) by now) is
 
 -- the acknowledgement is taken, then the rest
 pub taken_leads : (cx : ContextValue) (duplicates : ℕ) (v w : TcpValue) (now : ℤ) (ip : IpRepr) (header : TcpHeader) (bytes : List ℕ) (by : ℕ)

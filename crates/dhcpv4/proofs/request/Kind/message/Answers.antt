@@ -1,9 +1,9 @@
 use Rattle.std.proofs.Common.{refl}
-use Rattle.dhcpv4.proofs.Short.{long}
+use Rattle.dhcpv4.proofs.Short.{short}
 use Rattle.dhcpv4.proofs.request.Kind.message.Goals as goal
 
 pub returns-clause-len : goal.returns-clause-len
-returns-clause-len c = long _ (record {
+returns-clause-len c = short _ _ _ (record {
   station = c.args.station;
   client_identifier = refl;
   six = c.has_six_bytes.ensures;
@@ -12,7 +12,9 @@ returns-clause-len c = long _ (record {
   max_size_is = refl;
   server_identifier = c.server_identifier-server_identifier.ensures.width;
   host_name = refl;
-  parameter_request_list = refl;
+  parameter_request_list = c.parameters-parameter_request_list.ensures.inside;
+  additional_options = c.options-additional_options.ensures;
+  extras = c.parameters-parameter_request_list.ensures.extras;
   lease_duration = refl;
   renew_duration = refl;
   rebind_duration = refl;
