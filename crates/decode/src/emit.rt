@@ -1,5 +1,5 @@
 //! Packets written from their fields: links, IP and UDP.
-ghost use Rattle.std.specs.Prelude.{◌≤◌, length, IfOk};
+ghost use Rattle.std.specs.Prelude.{◌≤◌, ◌+◌, length, IfOk};
 
 use crate::emit_control::{emit_icmpv4, emit_icmpv6};
 use crate::emit_tcp::emit_tcp;
@@ -19,12 +19,12 @@ pub(crate) fn emit<'a>(alloc: Global, text: &'a str) -> Result<Vec<u8>, Fault<'a
         None => (true, text),
     };
     let mut words = Words::new(text);
-    let format = words.word("format")?;
+    let format = words.word("format");
     match format {
         "ethernet" => emit_ethernet(alloc, &mut words),
         "arp" => emit_arp(alloc, &mut words),
-        "ipv4" => emit_ipv4(alloc, &mut words, is_summed),
-        "piece" => emit_piece(alloc, &mut words, is_summed),
+        "ipv4" => emit_ipv4(alloc, &mut words, false, is_summed),
+        "piece" => emit_ipv4(alloc, &mut words, true, is_summed),
         "ipv6" => emit_ipv6(alloc, &mut words),
         "fragment" => emit_fragment(alloc, &mut words),
         "udp" => emit_udp(alloc, &mut words, is_summed),
@@ -37,25 +37,22 @@ pub(crate) fn emit<'a>(alloc: Global, text: &'a str) -> Result<Vec<u8>, Fault<'a
 
 fn emit_ethernet<'a>(alloc: Global, words: &mut Words<'a>) -> Result<Vec<u8>, Fault<'a>> {
     let header = EthernetRepr {
-        src_addr: words.station("source")?,
-        dst_addr: words.station("destination")?,
-        ethertype: words.ethertype()?,
+        src_addr: words.station("source"),
+        dst_addr: words.station("destination"),
+        ethertype: words.ethertype(),
     };
-    let payload = last_bytes(alloc, words)?;
-    let mut bytes = room(alloc, 14 + payload.len())?;
-    let (front, rest) = bytes.as_mut_slice().split_at_mut(14);
-    header.emit(&mut EthernetFrameMut::new_unchecked(front));
-    rest.copy_from_slice(payload.as_slice());
+    let mut bytes = with_payload(alloc, 14, words)?;
+    header.emit(&mut EthernetFrameMut::new_unchecked(bytes.as_mut_slice()));
     Ok(bytes)
 }
 
 fn emit_arp<'a>(alloc: Global, words: &mut Words<'a>) -> Result<Vec<u8>, Fault<'a>> {
     let packet = ArpRepr::EthernetIpv4 {
-        operation: operation(words)?,
-        source_protocol_addr: words.ipv4("sender")?,
-        source_hardware_addr: words.station("sender's station")?,
-        target_protocol_addr: words.ipv4("target")?,
-        target_hardware_addr: words.station("target's station")?,
+        operation: operation(words),
+        source_protocol_addr: words.ipv4("sender"),
+        source_hardware_addr: words.station("sender's station"),
+        target_protocol_addr: words.ipv4("target"),
+        target_hardware_addr: words.station("target's station"),
     };
     words.end()?;
     let mut bytes = room(alloc, 28)?;
@@ -64,113 +61,89 @@ fn emit_arp<'a>(alloc: Global, words: &mut Words<'a>) -> Result<Vec<u8>, Fault<'
 }
 
 // The number of an operation; with `?` before it the value that has no name.
-fn operation<'a>(words: &mut Words<'a>) -> Result<ArpOperation, Fault<'a>> {
-    let word = words.word("operation")?;
+fn operation(words: &mut Words<'_>) -> ArpOperation {
+    let word = words.word("operation");
     let digits = word.strip_prefix('?').unwrap_or(word);
     match digits.parse().ok() {
-        Some(number) if digits.len() < word.len() => Ok(ArpOperation::Unknown(number)),
-        Some(number) => Ok(ArpOperation::from(number)),
-        None => Err(Fault::No("operation", word)),
+        Some(number) if digits.len() < word.len() => ArpOperation::Unknown(number),
+        Some(number) => ArpOperation::from(number),
+        None => {
+            words.no("operation", word);
+            ArpOperation::Request
+        }
     }
 }
 
 // The fields of an IPv4 header but for its payload's length.
-pub(crate) fn ipv4_fields<'a>(words: &mut Words<'a>) -> Result<Ipv4Repr, Fault<'a>> {
-    Ok(Ipv4Repr {
-        src_addr: words.ipv4("source")?,
-        dst_addr: words.ipv4("destination")?,
-        next_header: words.protocol()?,
-        hop_limit: words.byte("ttl")?,
-        ident: words.short("id")?,
-        dont_frag: words.either("DF", "-", "DF or -")?,
+pub(crate) fn ipv4_fields(words: &mut Words<'_>) -> Ipv4Repr {
+    Ipv4Repr {
+        src_addr: words.ipv4("source"),
+        dst_addr: words.ipv4("destination"),
+        next_header: words.protocol(),
+        hop_limit: words.byte("ttl"),
+        ident: words.short("id"),
+        dont_frag: words.either("DF", "-", "DF or -"),
         payload_len: 0,
-    })
+    }
 }
 
+// A whole packet, or a piece of one, which says its place.
 fn emit_ipv4<'a>(
     alloc: Global,
     words: &mut Words<'a>,
+    is_piece: bool,
     is_summed: bool,
 ) -> Result<Vec<u8>, Fault<'a>> {
-    let fields = ipv4_fields(words)?;
-    let payload = last_bytes(alloc, words)?;
-    let payload_len = payload.len();
-    if payload_len > MOST - 20 {
+    let fields = ipv4_fields(words);
+    let (offset, more) = if is_piece { place(words) } else { (0, false) };
+    let mut bytes = with_payload(alloc, 20, words)?;
+    if bytes.len() > MOST {
         return Err(Fault::TooLong);
     }
     let header = Ipv4Repr {
-        payload_len,
+        payload_len: bytes.len() - 20,
         ..fields
     };
-    let mut bytes = room(alloc, 20 + payload_len)?;
-    let (front, rest) = bytes.as_mut_slice().split_at_mut(20);
-    header.emit(
-        &mut Ipv4PacketMut::new_unchecked(front),
-        &checksums(is_summed),
-    );
-    rest.copy_from_slice(payload.as_slice());
+    let mut packet = Ipv4PacketMut::new_unchecked(bytes.as_mut_slice());
+    header.emit_piece(&mut packet, offset, more, &checksums(is_summed));
     Ok(bytes)
 }
 
-fn emit_piece<'a>(
-    alloc: Global,
-    words: &mut Words<'a>,
-    is_summed: bool,
-) -> Result<Vec<u8>, Fault<'a>> {
-    let fields = ipv4_fields(words)?;
-    let offset = words.short("offset")?;
-    let more = words.either("more", "last", "more or last")?;
-    let payload = last_bytes(alloc, words)?;
-    let payload_len = payload.len();
-    if payload_len > MOST - 20 {
-        return Err(Fault::TooLong);
-    }
-    let header = Ipv4Repr {
-        payload_len,
-        ..fields
-    };
-    let mut bytes = room(alloc, 20 + payload_len)?;
-    let (front, rest) = bytes.as_mut_slice().split_at_mut(20);
-    let mut packet = Ipv4PacketMut::new_unchecked(front);
-    header.emit_piece(&mut packet, offset, more, &checksums(is_summed));
-    rest.copy_from_slice(payload.as_slice());
-    Ok(bytes)
+// Where a piece stands in its packet, and whether more follow.
+fn place(words: &mut Words<'_>) -> (u16, bool) {
+    let offset = words.short("offset");
+    (offset, words.either("more", "last", "more or last"))
 }
 
 // The fields of an IPv6 header but for its payload's length.
-pub(crate) fn ipv6_fields<'a>(words: &mut Words<'a>) -> Result<Ipv6Repr, Fault<'a>> {
-    Ok(Ipv6Repr {
-        src_addr: words.ipv6("source")?,
-        dst_addr: words.ipv6("destination")?,
-        next_header: words.protocol()?,
-        hop_limit: words.byte("hops")?,
+pub(crate) fn ipv6_fields(words: &mut Words<'_>) -> Ipv6Repr {
+    Ipv6Repr {
+        src_addr: words.ipv6("source"),
+        dst_addr: words.ipv6("destination"),
+        next_header: words.protocol(),
+        hop_limit: words.byte("hops"),
         payload_len: 0,
-    })
+    }
 }
 
 fn emit_ipv6<'a>(alloc: Global, words: &mut Words<'a>) -> Result<Vec<u8>, Fault<'a>> {
-    let fields = ipv6_fields(words)?;
-    let payload = last_bytes(alloc, words)?;
-    let payload_len = payload.len();
-    if payload_len > MOST {
-        return Err(Fault::TooLong);
-    }
+    let fields = ipv6_fields(words);
+    let mut bytes = with_payload(alloc, 40, words)?;
     let header = Ipv6Repr {
-        payload_len,
+        payload_len: bytes.len() - 40,
         ..fields
     };
-    let mut bytes = room(alloc, 40 + payload_len)?;
-    let (front, rest) = bytes.as_mut_slice().split_at_mut(40);
-    header.emit(&mut Ipv6PacketMut::new_unchecked(front));
-    rest.copy_from_slice(payload.as_slice());
+    header.emit(&mut Ipv6PacketMut::new_unchecked(bytes.as_mut_slice()));
     Ok(bytes)
 }
 
 fn emit_fragment<'a>(alloc: Global, words: &mut Words<'a>) -> Result<Vec<u8>, Fault<'a>> {
+    let ident = words.long("id");
+    let (frag_offset, more_frags) = place(words);
     let header = Ipv6FragmentRepr {
-        ident: words.long("id")?,
-        frag_offset: words.short("offset")?,
-        more_frags: words.either("more", "last", "more or last")?,
+        ident,
+        frag_offset,
+        more_frags,
     };
     words.end()?;
     let mut bytes = room(alloc, 6)?;
@@ -183,11 +156,11 @@ fn emit_udp<'a>(
     words: &mut Words<'a>,
     is_summed: bool,
 ) -> Result<Vec<u8>, Fault<'a>> {
-    let source = words.address("source")?;
-    let destination = words.address("destination")?;
+    let source = words.address("source");
+    let destination = words.address("destination");
     let header = UdpRepr {
-        src_port: words.short("source port")?,
-        dst_port: words.short("destination port")?,
+        src_port: words.short("source port"),
+        dst_port: words.short("destination port"),
     };
     let payload = last_bytes(alloc, words)?;
     if payload.len() > MOST - 8 {
@@ -207,11 +180,26 @@ fn emit_udp<'a>(
     Ok(bytes)
 }
 
+// Bytes for a header, so many, and behind them what the packet carries: the line's last word.
+fn with_payload<'a>(
+    alloc: Global,
+    header_len: usize,
+    words: &mut Words<'a>,
+) -> Result<Vec<u8>, Fault<'a>>
+    ensures header { IfOk result (λ bytes. header_len ≤ length bytes.items) }
+    ensures most { IfOk result (λ bytes. length bytes.items ≤ header_len + 0xffff) }
+{
+    let payload = last_bytes(alloc, words)?;
+    let mut bytes = room(alloc, header_len)?;
+    bytes.extend_from_slice(payload.as_slice())?;
+    Ok(bytes)
+}
+
 /// The bytes that a packet carries, which are a line's last word.
 pub(crate) fn last_bytes<'a>(alloc: Global, words: &mut Words<'a>) -> Result<Vec<u8>, Fault<'a>>
     ensures { IfOk result (λ bytes. length bytes.items ≤ 0xffff) }
 {
-    let bytes = words.bytes(alloc, "pairs of hex digits")?;
+    let bytes = words.bytes(alloc, "pairs of hex digits");
     words.end()?;
     if bytes.len() > MOST {
         return Err(Fault::TooLong);

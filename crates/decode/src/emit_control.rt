@@ -1,5 +1,5 @@
 //! Control messages written from their fields.
-ghost use Rattle.std.specs.Prelude.{◌≤◌, length, IfOk, List, ℕ};
+ghost use Rattle.std.specs.Prelude.{◌≤◌, length, List, ℕ};
 ghost use Rattle.ip_wire.specs.Ipv4 as Ipv4;
 ghost use Rattle.ip_wire.specs.Ipv6 as Ipv6;
 ghost use Rattle.control_wire.specs.Icmpv4 as Icmpv4;
@@ -23,33 +23,39 @@ pub(crate) fn emit_icmpv4<'a>(
     words: &mut Words<'a>,
     is_summed: bool,
 ) -> Result<Vec<u8>, Fault<'a>> {
-    let kind = words.word("message")?;
-    let header = header4(kind, words)?;
+    let kind = words.word("message");
+    let header = header4(kind, words);
     let payload = last_bytes(alloc, words)?;
     write4(alloc, &header, payload.as_slice(), is_summed)
 }
 
-fn header4<'a>(kind: &'a str, words: &mut Words<'a>) -> Result<Icmpv4Header, Fault<'a>>
-    ensures { IfOk result (λ header. Icmpv4.Fits header) }
+fn header4<'a>(kind: &'a str, words: &mut Words<'a>) -> Icmpv4Header
+    ensures { Icmpv4.Fits result }
 {
     match kind {
-        "request" => Ok(Icmpv4Header::EchoRequest {
-            ident: words.short("id")?,
-            seq_no: words.short("seq")?,
-        }),
-        "reply" => Ok(Icmpv4Header::EchoReply {
-            ident: words.short("id")?,
-            seq_no: words.short("seq")?,
-        }),
-        "unreachable" => Ok(Icmpv4Header::DstUnreachable {
-            reason: unreachable4(words)?,
-            header: quoted4(words)?,
-        }),
-        "exceeded" => Ok(Icmpv4Header::TimeExceeded {
-            reason: exceeded4(words)?,
-            header: quoted4(words)?,
-        }),
-        _ => Err(Fault::No("message", kind)),
+        "request" => Icmpv4Header::EchoRequest {
+            ident: words.short("id"),
+            seq_no: words.short("seq"),
+        },
+        "reply" => Icmpv4Header::EchoReply {
+            ident: words.short("id"),
+            seq_no: words.short("seq"),
+        },
+        "unreachable" => Icmpv4Header::DstUnreachable {
+            reason: unreachable4(words),
+            header: quoted4(words),
+        },
+        "exceeded" => Icmpv4Header::TimeExceeded {
+            reason: exceeded4(words),
+            header: quoted4(words),
+        },
+        _ => {
+            words.no("message", kind);
+            Icmpv4Header::EchoRequest {
+                ident: 0,
+                seq_no: 0,
+            }
+        }
     }
 }
 
@@ -68,37 +74,38 @@ fn write4<'a>(
     Ok(bytes)
 }
 
-fn unreachable4<'a>(words: &mut Words<'a>) -> Result<Icmpv4DstUnreachable, Fault<'a>> {
-    let (code, is_named) = words.code()?;
-    Ok(if is_named {
+fn unreachable4(words: &mut Words<'_>) -> Icmpv4DstUnreachable {
+    let (code, is_named) = words.code();
+    if is_named {
         Icmpv4DstUnreachable::from(code)
     } else {
         Icmpv4DstUnreachable::Unknown(code)
-    })
+    }
 }
 
-fn exceeded4<'a>(words: &mut Words<'a>) -> Result<Icmpv4TimeExceeded, Fault<'a>> {
-    let (code, is_named) = words.code()?;
-    Ok(if is_named {
+fn exceeded4(words: &mut Words<'_>) -> Icmpv4TimeExceeded {
+    let (code, is_named) = words.code();
+    if is_named {
         Icmpv4TimeExceeded::from(code)
     } else {
         Icmpv4TimeExceeded::Unknown(code)
-    })
+    }
 }
 
 // A quoted header, and how many bytes it says that it carries.
-fn quoted4<'a>(words: &mut Words<'a>) -> Result<Ipv4Repr, Fault<'a>>
-    ensures { IfOk result (λ header. Ipv4.Fits header) }
+fn quoted4(words: &mut Words<'_>) -> Ipv4Repr
+    ensures { Ipv4.Fits result }
 {
-    let fields = ipv4_fields(words)?;
-    let payload_len = usize::from(words.short("length")?);
-    if payload_len > MOST - 20 {
-        return Err(Fault::TooLong);
+    let fields = ipv4_fields(words);
+    let payload_len = usize::from(words.short("length"));
+    let is_long = payload_len > MOST - 20;
+    if is_long {
+        words.note(Fault::TooLong);
     }
-    Ok(Ipv4Repr {
-        payload_len,
+    Ipv4Repr {
+        payload_len: if is_long { 0 } else { payload_len },
         ..fields
-    })
+    }
 }
 
 /// A message of IPv6 between two addresses: an echo, an error with the header that it quotes, or a neighbour message.
@@ -107,9 +114,9 @@ pub(crate) fn emit_icmpv6<'a>(
     words: &mut Words<'a>,
     is_summed: bool,
 ) -> Result<Vec<u8>, Fault<'a>> {
-    let source = words.ipv6("source")?;
-    let destination = words.ipv6("destination")?;
-    let kind = words.word("message")?;
+    let source = words.ipv6("source");
+    let destination = words.ipv6("destination");
+    let kind = words.word("message");
     if kind == "solicit" || kind == "advert" {
         let message = neighbor(alloc, kind, words)?;
         return write6(
@@ -120,7 +127,7 @@ pub(crate) fn emit_icmpv6<'a>(
             is_summed,
         );
     }
-    let header = header6(kind, words)?;
+    let header = header6(kind, words);
     let payload = last_bytes(alloc, words)?;
     write6(
         alloc,
@@ -131,37 +138,43 @@ pub(crate) fn emit_icmpv6<'a>(
     )
 }
 
-fn header6<'a>(kind: &'a str, words: &mut Words<'a>) -> Result<Icmpv6Header, Fault<'a>>
-    ensures fits { IfOk result (λ header. Fits (value_of header)) }
-    ensures carries { IfOk result (λ header. (bytes : List ℕ) → CanCarry (value_of header) bytes) }
+fn header6<'a>(kind: &'a str, words: &mut Words<'a>) -> Icmpv6Header
+    ensures fits { Fits (value_of result) }
+    ensures carries { (bytes : List ℕ) → CanCarry (value_of result) bytes }
 {
     match kind {
-        "request" => Ok(Icmpv6Header::EchoRequest {
-            ident: words.short("id")?,
-            seq_no: words.short("seq")?,
-        }),
-        "reply" => Ok(Icmpv6Header::EchoReply {
-            ident: words.short("id")?,
-            seq_no: words.short("seq")?,
-        }),
-        "unreachable" => Ok(Icmpv6Header::DstUnreachable {
-            reason: unreachable6(words)?,
-            header: quoted6(words)?,
-        }),
-        "toobig" => Ok(Icmpv6Header::PktTooBig {
-            mtu: words.long("mtu")?,
-            header: quoted6(words)?,
-        }),
-        "exceeded" => Ok(Icmpv6Header::TimeExceeded {
-            reason: exceeded6(words)?,
-            header: quoted6(words)?,
-        }),
-        "problem" => Ok(Icmpv6Header::ParamProblem {
-            reason: problem(words)?,
-            pointer: words.long("pointer")?,
-            header: quoted6(words)?,
-        }),
-        _ => Err(Fault::No("message", kind)),
+        "request" => Icmpv6Header::EchoRequest {
+            ident: words.short("id"),
+            seq_no: words.short("seq"),
+        },
+        "reply" => Icmpv6Header::EchoReply {
+            ident: words.short("id"),
+            seq_no: words.short("seq"),
+        },
+        "unreachable" => Icmpv6Header::DstUnreachable {
+            reason: unreachable6(words),
+            header: quoted6(words),
+        },
+        "toobig" => Icmpv6Header::PktTooBig {
+            mtu: words.long("mtu"),
+            header: quoted6(words),
+        },
+        "exceeded" => Icmpv6Header::TimeExceeded {
+            reason: exceeded6(words),
+            header: quoted6(words),
+        },
+        "problem" => Icmpv6Header::ParamProblem {
+            reason: problem(words),
+            pointer: words.long("pointer"),
+            header: quoted6(words),
+        },
+        _ => {
+            words.no("message", kind);
+            Icmpv6Header::EchoRequest {
+                ident: 0,
+                seq_no: 0,
+            }
+        }
     }
 }
 
@@ -193,56 +206,56 @@ fn write6<'a>(
     Ok(bytes)
 }
 
-fn unreachable6<'a>(words: &mut Words<'a>) -> Result<Icmpv6DstUnreachable, Fault<'a>> {
-    let (code, is_named) = words.code()?;
-    Ok(if is_named {
+fn unreachable6(words: &mut Words<'_>) -> Icmpv6DstUnreachable {
+    let (code, is_named) = words.code();
+    if is_named {
         Icmpv6DstUnreachable::from(code)
     } else {
         Icmpv6DstUnreachable::Unknown(code)
-    })
+    }
 }
 
-fn exceeded6<'a>(words: &mut Words<'a>) -> Result<Icmpv6TimeExceeded, Fault<'a>> {
-    let (code, is_named) = words.code()?;
-    Ok(if is_named {
+fn exceeded6(words: &mut Words<'_>) -> Icmpv6TimeExceeded {
+    let (code, is_named) = words.code();
+    if is_named {
         Icmpv6TimeExceeded::from(code)
     } else {
         Icmpv6TimeExceeded::Unknown(code)
-    })
+    }
 }
 
-fn problem<'a>(words: &mut Words<'a>) -> Result<Icmpv6ParamProblem, Fault<'a>> {
-    let (code, is_named) = words.code()?;
-    Ok(if is_named {
+fn problem(words: &mut Words<'_>) -> Icmpv6ParamProblem {
+    let (code, is_named) = words.code();
+    if is_named {
         Icmpv6ParamProblem::from(code)
     } else {
         Icmpv6ParamProblem::Unknown(code)
-    })
+    }
 }
 
 // A quoted header, and how many bytes it says that it carries.
-fn quoted6<'a>(words: &mut Words<'a>) -> Result<Ipv6Repr, Fault<'a>>
-    ensures { IfOk result (λ header. Ipv6.Fits header) }
+fn quoted6(words: &mut Words<'_>) -> Ipv6Repr
+    ensures { Ipv6.Fits result }
 {
-    let fields = ipv6_fields(words)?;
-    let payload_len = usize::from(words.short("length")?);
-    Ok(Ipv6Repr {
+    let fields = ipv6_fields(words);
+    let payload_len = usize::from(words.short("length"));
+    Ipv6Repr {
         payload_len,
         ..fields
-    })
+    }
 }
 
 fn neighbor<'a>(alloc: Global, kind: &str, words: &mut Words<'a>) -> Result<NdiscRepr, Fault<'a>> {
     if kind == "solicit" {
-        let target_addr = words.ipv6("target")?;
+        let target_addr = words.ipv6("target");
         let lladdr = link(alloc, words)?;
         return Ok(NdiscRepr::NeighborSolicit {
             target_addr,
             lladdr,
         });
     }
-    let flags = flags(words.word("flags")?)?;
-    let target_addr = words.ipv6("target")?;
+    let flags = flags(words);
+    let target_addr = words.ipv6("target");
     let lladdr = link(alloc, words)?;
     Ok(NdiscRepr::NeighborAdvert {
         flags,
@@ -252,15 +265,16 @@ fn neighbor<'a>(alloc: Global, kind: &str, words: &mut Words<'a>) -> Result<Ndis
 }
 
 // `-` for none, or letters of R, S and O.
-fn flags<'a>(word: &'a str) -> Result<NdiscNeighborFlags, Fault<'a>> {
+fn flags(words: &mut Words<'_>) -> NdiscNeighborFlags {
+    let word = words.word("flags");
     if word != "-" && !word.bytes().all(|b| matches!(b, b'R' | b'S' | b'O')) {
-        return Err(Fault::No("flags of R S O", word));
+        words.no("flags of R S O", word);
     }
-    Ok(NdiscNeighborFlags {
+    NdiscNeighborFlags {
         router: word.contains('R'),
         solicited: word.contains('S'),
         overrides: word.contains('O'),
-    })
+    }
 }
 
 // A link address in hex, `-` for none.

@@ -2,7 +2,7 @@
 use crate::emit::last_bytes;
 use crate::fault::Fault;
 use crate::room::{MOST, checksums, room};
-use crate::words::{Words, is_number};
+use crate::words::{Words, number};
 use ip_wire::{SeqNumber, TcpControl, TcpHeader, TcpOptions, TcpPacketMut, TcpTimestampRepr};
 use std::alloc::Global;
 
@@ -12,9 +12,9 @@ pub(crate) fn emit_tcp<'a>(
     words: &mut Words<'a>,
     is_summed: bool,
 ) -> Result<Vec<u8>, Fault<'a>> {
-    let source = words.address("source")?;
-    let destination = words.address("destination")?;
-    let header = header(words)?;
+    let source = words.address("source");
+    let destination = words.address("destination");
+    let header = header(words);
     let payload = last_bytes(alloc, words)?;
     let header_len = header.header_len();
     if header_len > 60 || payload.len() > MOST - 60 {
@@ -34,61 +34,62 @@ pub(crate) fn emit_tcp<'a>(
     Ok(bytes)
 }
 
-fn header<'a>(words: &mut Words<'a>) -> Result<TcpHeader, Fault<'a>> {
-    Ok(TcpHeader {
-        src_port: words.short("source port")?,
-        dst_port: words.short("destination port")?,
-        control: control(words.word("flag")?)?,
-        seq_number: SeqNumber(words.long("seq")?),
-        ack_number: ack_number(words.word("ack")?)?,
-        window_len: words.short("window")?,
-        options: options(words.word("options")?)?,
-    })
+fn header(words: &mut Words<'_>) -> TcpHeader {
+    TcpHeader {
+        src_port: words.short("source port"),
+        dst_port: words.short("destination port"),
+        control: control(words),
+        seq_number: SeqNumber(words.long("seq")),
+        ack_number: ack_number(words),
+        window_len: words.short("window"),
+        options: options(words),
+    }
 }
 
-fn control<'a>(word: &'a str) -> Result<TcpControl, Fault<'a>> {
+fn control(words: &mut Words<'_>) -> TcpControl {
+    let word = words.word("flag");
     match word {
-        "-" => Ok(TcpControl::None),
-        "P" => Ok(TcpControl::Psh),
-        "S" => Ok(TcpControl::Syn),
-        "F" => Ok(TcpControl::Fin),
-        "R" => Ok(TcpControl::Rst),
-        _ => Err(Fault::No("flag of - P S F R", word)),
+        "-" => TcpControl::None,
+        "P" => TcpControl::Psh,
+        "S" => TcpControl::Syn,
+        "F" => TcpControl::Fin,
+        "R" => TcpControl::Rst,
+        _ => {
+            words.no("flag of - P S F R", word);
+            TcpControl::None
+        }
     }
 }
 
-fn ack_number<'a>(word: &'a str) -> Result<Option<SeqNumber>, Fault<'a>> {
+fn ack_number(words: &mut Words<'_>) -> Option<SeqNumber> {
+    let word = words.word("ack");
     if word == "-" {
-        return Ok(None);
+        return None;
     }
-    match long(word) {
-        Some(number) => Ok(Some(SeqNumber(number))),
-        None => Err(Fault::No("ack", word)),
-    }
-}
-
-fn long(word: &str) -> Option<u32> {
-    if is_number(word) {
-        word.parse().ok()
-    } else {
-        None
+    match number(word) {
+        Some(number) => Some(SeqNumber(number)),
+        None => {
+            words.no("ack", word);
+            None
+        }
     }
 }
 
 // `-` for none, or options with commas between them.
-fn options<'a>(word: &'a str) -> Result<TcpOptions, Fault<'a>> {
+fn options(words: &mut Words<'_>) -> TcpOptions {
+    let word = words.word("options");
     let mut options = TcpOptions::none();
     if word == "-" {
-        return Ok(options);
+        return options;
     }
     let mut ranges = 0;
     for part in word.split(',') {
         match with_option(options, &mut ranges, part) {
             Some(more) => options = more,
-            None => return Err(Fault::No("option", part)),
+            None => words.no("option", part),
         }
     }
-    Ok(options)
+    options
 }
 
 fn with_option(options: TcpOptions, ranges: &mut usize, part: &str) -> Option<TcpOptions> {
@@ -101,11 +102,11 @@ fn with_option(options: TcpOptions, ranges: &mut usize, part: &str) -> Option<Tc
     let (name, value) = part.split_once('=')?;
     match name {
         "mss" => Some(TcpOptions {
-            max_seg_size: Some(u16::try_from(long(value)?).ok()?),
+            max_seg_size: Some(number(value)?),
             ..options
         }),
         "wscale" => Some(TcpOptions {
-            window_scale: Some(u8::try_from(long(value)?).ok()?),
+            window_scale: Some(number(value)?),
             ..options
         }),
         "ts" => {
@@ -138,5 +139,5 @@ fn with_range(options: TcpOptions, ranges: &mut usize, value: &str) -> Option<Tc
 
 fn pair(value: &str) -> Option<(u32, u32)> {
     let (front, back) = value.split_once(':')?;
-    Some((long(front)?, long(back)?))
+    Some((number(front)?, number(back)?))
 }

@@ -3,7 +3,7 @@ use std::alloc::AllocError;
 use std::fmt;
 
 /// Why a line isn't taken.
-#[derive(Drop)]
+#[derive(Clone, Copy)]
 pub(crate) enum Fault<'a> {
     /// A byte above 127, at this place of the line, counted from 1.
     NotAscii(usize),

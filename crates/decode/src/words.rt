@@ -3,155 +3,191 @@ use crate::fault::Fault;
 use hex::FromHexError;
 use ip_wire::{EthernetAddress, EthernetProtocol, IpAddress, IpProtocol, Ipv4Address, Ipv6Address};
 use std::alloc::Global;
+use std::str::FromStr;
 
-/// The words that are left of a line.
+/// The words that are left of a line, and the first fault in those before them. Behind a fault each word is read as something that nobody
+/// looks at: `end` says the fault. So what reads a line goes straight on.
 #[derive(Drop)]
 pub(crate) struct Words<'a> {
     rest: Option<&'a str>,
+    fault: Option<Fault<'a>>,
 }
 
 impl<'a> Words<'a> {
     pub(crate) fn new(text: &'a str) -> Words<'a> {
-        Words { rest: Some(text) }
+        Words {
+            rest: Some(text),
+            fault: None,
+        }
     }
 
-    /// The next word, which is `what`.
-    pub(crate) fn word(&mut self, what: &'static str) -> Result<&'a str, Fault<'a>> {
-        let Some(text) = self.rest else {
-            return Err(Fault::Missing(what));
-        };
+    /// A fault at the word that was read last. The first one counts.
+    pub(crate) fn note(&mut self, fault: Fault<'a>) {
+        if self.fault.is_none() {
+            self.fault = Some(fault);
+        }
+    }
+
+    /// The word that was read last isn't `what`.
+    pub(crate) fn no(&mut self, what: &'static str, word: &'a str) {
+        self.note(Fault::No(what, word));
+    }
+
+    // The next word, if there is one.
+    fn next(&mut self) -> Option<&'a str> {
+        let text = self.rest?;
         match text.split_once(' ') {
             Some((word, rest)) => {
                 self.rest = Some(rest);
-                Ok(word)
+                Some(word)
             }
             None => {
                 self.rest = None;
-                Ok(text)
+                Some(text)
             }
         }
     }
 
-    /// The end of the line.
+    /// The next word, which is `what`.
+    pub(crate) fn word(&mut self, what: &'static str) -> &'a str {
+        match self.next() {
+            Some(word) => word,
+            None => {
+                self.note(Fault::Missing(what));
+                ""
+            }
+        }
+    }
+
+    /// The end of the line, or the first fault.
     pub(crate) fn end(&mut self) -> Result<(), Fault<'a>> {
-        match self.rest {
-            Some(text) => match text.split_once(' ') {
-                Some((word, _)) => Err(Fault::Extra(word)),
-                None => Err(Fault::Extra(text)),
-            },
+        if let Some(word) = self.next() {
+            self.note(Fault::Extra(word));
+        }
+        match self.fault {
+            Some(fault) => Err(fault),
             None => Ok(()),
         }
     }
 
-    /// A number up to 255.
-    pub(crate) fn byte(&mut self, what: &'static str) -> Result<u8, Fault<'a>> {
-        let word = self.word(what)?;
-        match word.parse().ok() {
-            Some(number) if is_number(word) => Ok(number),
-            _ => Err(Fault::No(what, word)),
+    // What was found in a word of this class, or else another value.
+    fn found<T: Copy>(
+        &mut self,
+        what: &'static str,
+        word: &'a str,
+        found: Option<T>,
+        other: T,
+    ) -> T {
+        match found {
+            Some(value) => value,
+            None => {
+                self.no(what, word);
+                other
+            }
         }
+    }
+
+    // The number that a word of this class is.
+    fn number<T: FromStr + Copy>(&mut self, what: &'static str, other: T) -> T
+    where
+        T::Err: Drop,
+    {
+        let word = self.word(what);
+        self.found(what, word, number(word), other)
+    }
+
+    // What a word of this class says.
+    fn parsed<T: FromStr + Copy>(&mut self, what: &'static str, other: T) -> T
+    where
+        T::Err: Drop,
+    {
+        let word = self.word(what);
+        self.found(what, word, word.parse().ok(), other)
+    }
+
+    /// A number up to 255.
+    pub(crate) fn byte(&mut self, what: &'static str) -> u8 {
+        self.number(what, 0)
     }
 
     /// A number up to 65535.
-    pub(crate) fn short(&mut self, what: &'static str) -> Result<u16, Fault<'a>> {
-        let word = self.word(what)?;
-        match word.parse().ok() {
-            Some(number) if is_number(word) => Ok(number),
-            _ => Err(Fault::No(what, word)),
-        }
+    pub(crate) fn short(&mut self, what: &'static str) -> u16 {
+        self.number(what, 0)
     }
 
     /// A number up to 2^32 - 1.
-    pub(crate) fn long(&mut self, what: &'static str) -> Result<u32, Fault<'a>> {
-        let word = self.word(what)?;
-        match word.parse().ok() {
-            Some(number) if is_number(word) => Ok(number),
-            _ => Err(Fault::No(what, word)),
-        }
+    pub(crate) fn long(&mut self, what: &'static str) -> u32 {
+        self.number(what, 0)
     }
 
     /// One of two words: whether it is the first.
-    pub(crate) fn either(
-        &mut self,
-        yes: &str,
-        no: &str,
-        what: &'static str,
-    ) -> Result<bool, Fault<'a>> {
-        let word = self.word(what)?;
-        if word == yes {
-            return Ok(true);
+    pub(crate) fn either(&mut self, yes: &str, no: &str, what: &'static str) -> bool {
+        let word = self.word(what);
+        if word != yes && word != no {
+            self.no(what, word);
         }
-        if word == no {
-            return Ok(false);
-        }
-        Err(Fault::No(what, word))
+        word == yes
     }
 
     /// An address of either family.
-    pub(crate) fn address(&mut self, what: &'static str) -> Result<IpAddress, Fault<'a>> {
-        let word = self.word(what)?;
-        word.parse().ok().ok_or(Fault::No(what, word))
+    pub(crate) fn address(&mut self, what: &'static str) -> IpAddress {
+        self.parsed(what, IpAddress::Ipv4(Ipv4Address::UNSPECIFIED))
     }
 
     /// An IPv4 address.
-    pub(crate) fn ipv4(&mut self, what: &'static str) -> Result<Ipv4Address, Fault<'a>> {
-        let word = self.word(what)?;
-        word.parse().ok().ok_or(Fault::No(what, word))
+    pub(crate) fn ipv4(&mut self, what: &'static str) -> Ipv4Address {
+        self.parsed(what, Ipv4Address::UNSPECIFIED)
     }
 
     /// An IPv6 address.
-    pub(crate) fn ipv6(&mut self, what: &'static str) -> Result<Ipv6Address, Fault<'a>> {
-        let word = self.word(what)?;
-        word.parse().ok().ok_or(Fault::No(what, word))
+    pub(crate) fn ipv6(&mut self, what: &'static str) -> Ipv6Address {
+        self.parsed(what, Ipv6Address::UNSPECIFIED)
     }
 
     /// An Ethernet address.
-    pub(crate) fn station(&mut self, what: &'static str) -> Result<EthernetAddress, Fault<'a>> {
-        let word = self.word(what)?;
-        word.parse().ok().ok_or(Fault::No(what, word))
+    pub(crate) fn station(&mut self, what: &'static str) -> EthernetAddress {
+        self.parsed(what, EthernetAddress::BROADCAST)
     }
 
     /// The number of a protocol; with `?` before it the value that has no name.
-    pub(crate) fn protocol(&mut self) -> Result<IpProtocol, Fault<'a>> {
-        let word = self.word("protocol")?;
-        match (word.strip_prefix('?'), numbered(word)) {
-            (Some(_), Some(number)) => Ok(IpProtocol::Unknown(number)),
-            (None, Some(number)) => Ok(IpProtocol::from(number)),
-            (_, None) => Err(Fault::No("protocol", word)),
+    pub(crate) fn protocol(&mut self) -> IpProtocol {
+        let word = self.word("protocol");
+        let number = self.found("protocol", word, numbered(word), 0);
+        if is_named(word) {
+            IpProtocol::from(number)
+        } else {
+            IpProtocol::Unknown(number)
         }
     }
 
     /// What a frame carries: four hex digits; with `?` before them the value that has no name.
-    pub(crate) fn ethertype(&mut self) -> Result<EthernetProtocol, Fault<'a>> {
-        let word = self.word("type")?;
-        let digits = word.strip_prefix('?').unwrap_or(word);
-        if digits.len() != 4 || digits.starts_with('+') {
-            return Err(Fault::No("type", word));
-        }
-        match u16::from_str_radix(digits, 16) {
-            Ok(number) if word.len() == 4 => Ok(EthernetProtocol::from(number)),
-            Ok(number) => Ok(EthernetProtocol::Unknown(number)),
-            Err(_) => Err(Fault::No("type", word)),
+    pub(crate) fn ethertype(&mut self) -> EthernetProtocol {
+        let word = self.word("type");
+        let number = self.found("type", word, four_digits(word), 0);
+        if is_named(word) {
+            EthernetProtocol::from(number)
+        } else {
+            EthernetProtocol::Unknown(number)
         }
     }
 
     /// A code; with `?` before it the value that has no name: the code, and whether it has a name.
-    pub(crate) fn code(&mut self) -> Result<(u8, bool), Fault<'a>> {
-        let word = self.word("code")?;
-        match numbered(word) {
-            Some(number) => Ok((number, word.strip_prefix('?').is_none())),
-            None => Err(Fault::No("code", word)),
-        }
+    pub(crate) fn code(&mut self) -> (u8, bool) {
+        let word = self.word("code");
+        let number = self.found("code", word, numbered(word), 0);
+        (number, is_named(word))
     }
 
     /// Bytes in hex, `-` for none.
-    pub(crate) fn bytes(
-        &mut self,
-        alloc: Global,
-        what: &'static str,
-    ) -> Result<Vec<u8>, Fault<'a>> {
-        let word = self.word(what)?;
-        bytes_of(alloc, what, word)
+    pub(crate) fn bytes(&mut self, alloc: Global, what: &'static str) -> Vec<u8> {
+        let word = self.word(what);
+        match bytes_of(alloc, what, word) {
+            Ok(bytes) => bytes,
+            Err(fault) => {
+                self.note(fault);
+                Vec::new(alloc)
+            }
+        }
     }
 }
 
@@ -174,17 +210,33 @@ pub(crate) fn bytes_of<'a>(
     }
 }
 
-/// Whether a word has digits alone.
-pub(crate) fn is_number(word: &str) -> bool {
-    word.bytes().all(|b| b.is_ascii_digit())
-}
-
-/// A number up to 255, with or without `?` before it.
-fn numbered(word: &str) -> Option<u8> {
-    let digits = word.strip_prefix('?').unwrap_or(word);
-    if is_number(digits) {
-        digits.parse().ok()
+/// The number that a word of digits alone says, where it has that type.
+pub(crate) fn number<T: FromStr>(word: &str) -> Option<T>
+where
+    T::Err: Drop,
+{
+    if word.bytes().all(|b| b.is_ascii_digit()) {
+        word.parse().ok()
     } else {
         None
     }
+}
+
+// Whether no `?` stands before the word.
+fn is_named(word: &str) -> bool {
+    !word.starts_with('?')
+}
+
+// A number up to 255, with or without `?` before it.
+fn numbered(word: &str) -> Option<u8> {
+    number(word.strip_prefix('?').unwrap_or(word))
+}
+
+// Four hex digits, with or without `?` before them.
+fn four_digits(word: &str) -> Option<u16> {
+    let digits = word.strip_prefix('?').unwrap_or(word);
+    if digits.len() != 4 || digits.starts_with('+') {
+        return None;
+    }
+    u16::from_str_radix(digits, 16).ok()
 }

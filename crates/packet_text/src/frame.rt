@@ -15,26 +15,27 @@ pub fn describe(
     frame: &[u8],
     text: &mut String,
 ) -> Result<(), AllocError> {
-    let mut out = Out { alloc, text };
+    let mut out = Out::new(alloc, text);
     match medium {
         Medium::Ethernet => put_ethernet(&mut out, frame),
         Medium::Ip => put_ip(&mut out, frame),
     }
+    out.end()
 }
 
-fn put_ethernet(out: &mut Out<'_>, bytes: &[u8]) -> Result<(), AllocError> {
+fn put_ethernet(out: &mut Out<'_>, bytes: &[u8]) {
     let Ok(frame) = EthernetFrame::new_checked(bytes) else {
-        out.put_cut("Ethernet", bytes.len())?;
-        return writeln!(out.text, "");
+        out.put_cut_line("Ethernet", bytes);
+        return;
     };
     let payload = frame.payload();
     if let Ok(header) = EthernetRepr::parse(&frame) {
         writeln!(
-            out.text,
+            out,
             "Ethernet {}; payload {}",
             EthernetText(header),
             payload.len()
-        )?;
+        );
     }
     match frame.ethertype() {
         EthernetProtocol::Arp => put_arp(out, payload),
@@ -44,49 +45,46 @@ fn put_ethernet(out: &mut Out<'_>, bytes: &[u8]) -> Result<(), AllocError> {
     }
 }
 
-fn put_arp(out: &mut Out<'_>, bytes: &[u8]) -> Result<(), AllocError> {
+fn put_arp(out: &mut Out<'_>, bytes: &[u8]) {
     let Ok(packet) = ArpPacket::new_checked(bytes) else {
-        out.put_cut("ARP", bytes.len())?;
-        return writeln!(out.text, "");
+        out.put_cut_line("ARP", bytes);
+        return;
     };
     let length = match ArpRepr::parse(&packet) {
         Ok(header) => {
-            write!(out.text, "ARP {}", ArpText(header))?;
+            write!(out, "ARP {}", ArpText(header));
             header.buffer_len()
         }
         Err(_) => {
-            write!(
-                out.text,
-                "ARP unknown, {}",
-                OperationText(packet.operation())
-            )?;
+            write!(out, "ARP unknown, {}", OperationText(packet.operation()));
             bytes.len()
         }
     };
-    put_arp_fields(out, &packet)?;
-    out.put_some_bytes("padding", bytes.get(length..).unwrap_or(&[]))
+    put_arp_fields(out, &packet);
+    out.put_some_bytes("padding", bytes.get(length..).unwrap_or(&[]));
 }
 
 // The fields as they stand: kinds and lengths of addresses, and the four addresses.
-fn put_arp_fields(out: &mut Out<'_>, packet: &ArpPacket<'_>) -> Result<(), AllocError> {
+fn put_arp_fields(out: &mut Out<'_>, packet: &ArpPacket<'_>) {
     let bytes = packet.into_inner();
     let Ok(packet) = ArpPacket::new_checked(bytes) else {
-        return writeln!(out.text, "");
+        writeln!(out, "");
+        return;
     };
     write!(
-        out.text,
+        out,
         "; hardware {} len {}, {} len {}, addresses ",
         u16::from(packet.hardware_type()),
         packet.hardware_len(),
         EtherText(packet.protocol_type()),
         packet.protocol_len()
-    )?;
-    out.put_hex(packet.source_hardware_addr())?;
-    write!(out.text, " ")?;
-    out.put_hex(packet.source_protocol_addr())?;
-    write!(out.text, " ")?;
-    out.put_hex(packet.target_hardware_addr())?;
-    write!(out.text, " ")?;
-    out.put_hex(packet.target_protocol_addr())?;
-    writeln!(out.text, "")
+    );
+    out.put_hex(packet.source_hardware_addr());
+    write!(out, " ");
+    out.put_hex(packet.source_protocol_addr());
+    write!(out, " ");
+    out.put_hex(packet.target_hardware_addr());
+    write!(out, " ");
+    out.put_hex(packet.target_protocol_addr());
+    writeln!(out, "");
 }

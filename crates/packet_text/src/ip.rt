@@ -11,10 +11,9 @@ use ip_wire::{
     IpAddress, IpProtocol, IpRepr, Ipv4Packet, Ipv4Repr, Ipv6FragmentHeader, Ipv6FragmentRepr,
     Ipv6Packet, Ipv6Repr, UdpPacket, UdpRepr,
 };
-use std::alloc::AllocError;
 
 /// A packet of the family that its first bits say.
-pub(crate) fn put_ip(out: &mut Out<'_>, bytes: &[u8]) -> Result<(), AllocError> {
+pub(crate) fn put_ip(out: &mut Out<'_>, bytes: &[u8]) {
     let found = tested_first(IpRepr::parse(bytes, &all()), IpRepr::parse(bytes, &none()));
     match found {
         Some((is_good, IpRepr::Ipv4(header))) => put_ipv4(out, bytes, is_good, &header),
@@ -25,7 +24,7 @@ pub(crate) fn put_ip(out: &mut Out<'_>, bytes: &[u8]) -> Result<(), AllocError> 
             Some(first) if first / 16 == 6 => put_cut_line(out, "IPv6", bytes),
             Some(first) => {
                 let version = first / 16;
-                writeln!(out.text, "IP unknown, version {version}")?;
+                writeln!(out, "IP unknown, version {version}");
                 out.put_bytes("payload", bytes)
             }
         },
@@ -33,7 +32,7 @@ pub(crate) fn put_ip(out: &mut Out<'_>, bytes: &[u8]) -> Result<(), AllocError> 
 }
 
 /// A packet that Ethernet says is IPv4.
-pub(crate) fn put_ipv4_alone(out: &mut Out<'_>, bytes: &[u8]) -> Result<(), AllocError> {
+pub(crate) fn put_ipv4_alone(out: &mut Out<'_>, bytes: &[u8]) {
     let packet = Ipv4Packet::new_unchecked(bytes);
     let found = tested_first(
         Ipv4Repr::parse(&packet, &all()),
@@ -46,56 +45,51 @@ pub(crate) fn put_ipv4_alone(out: &mut Out<'_>, bytes: &[u8]) -> Result<(), Allo
 }
 
 /// A packet that Ethernet says is IPv6.
-pub(crate) fn put_ipv6_alone(out: &mut Out<'_>, bytes: &[u8]) -> Result<(), AllocError> {
+pub(crate) fn put_ipv6_alone(out: &mut Out<'_>, bytes: &[u8]) {
     let packet = Ipv6Packet::new_unchecked(bytes);
     match Ipv6Repr::parse(&packet) {
         Ok(header) => put_ipv6(out, bytes, &header),
         Err(_) if packet.check_len().is_err() => put_cut_line(out, "IPv6", bytes),
         Err(_) => {
             writeln!(
-                out.text,
+                out,
                 "IPv6 unknown, version {}",
                 bytes.first().copied().unwrap_or(0) / 16
-            )?;
+            );
             out.put_bytes("payload", bytes)
         }
     }
 }
 
-fn put_cut_line(out: &mut Out<'_>, layer: &str, bytes: &[u8]) -> Result<(), AllocError> {
-    out.put_cut(layer, bytes.len())?;
-    writeln!(out.text, "")?;
-    out.put_some_bytes("payload", bytes)
+fn put_cut_line(out: &mut Out<'_>, layer: &str, bytes: &[u8]) {
+    out.put_cut_line(layer, bytes);
+    out.put_some_bytes("payload", bytes);
 }
 
 // Bytes that are no IPv4 packet, and why.
-fn put_no_ipv4(out: &mut Out<'_>, bytes: &[u8]) -> Result<(), AllocError> {
+fn put_no_ipv4(out: &mut Out<'_>, bytes: &[u8]) {
     if bytes.len() < 20 {
-        return put_cut_line(out, "IPv4", bytes);
+        put_cut_line(out, "IPv4", bytes);
+        return;
     }
     let packet = Ipv4Packet::new_unchecked(bytes);
     let (header_len, total_len) = (packet.header_len(), packet.total_len());
     if packet.version() != 4 {
-        write!(out.text, "IPv4 unknown")?;
+        write!(out, "IPv4 unknown");
     } else if header_len < 20 || u16::from(header_len) > total_len {
-        write!(out.text, "IPv4 bad length")?;
+        write!(out, "IPv4 bad length");
     } else {
-        out.put_cut("IPv4", bytes.len())?;
+        out.put_cut("IPv4", bytes.len());
     }
-    put_ipv4_fields(out, bytes)?;
-    out.put_some_bytes("payload", bytes.get(20..).unwrap_or(&[]))
+    put_ipv4_fields(out, bytes);
+    out.put_some_bytes("payload", bytes.get(20..).unwrap_or(&[]));
 }
 
-fn put_ipv4(
-    out: &mut Out<'_>,
-    bytes: &[u8],
-    is_good: bool,
-    header: &Ipv4Repr,
-) -> Result<(), AllocError> {
-    write!(out.text, "IPv4 {}{}", if_bad(is_good), Ipv4Text(*header))?;
-    put_ipv4_fields(out, bytes)?;
+fn put_ipv4(out: &mut Out<'_>, bytes: &[u8], is_good: bool, header: &Ipv4Repr) {
+    write!(out, "IPv4 {}{}", if_bad(is_good), Ipv4Text(*header));
+    put_ipv4_fields(out, bytes);
     let Ok(packet) = Ipv4Packet::new_checked(bytes) else {
-        return Ok(());
+        return;
     };
     let payload = packet.payload();
     if packet.piece().offset == 0 {
@@ -106,71 +100,73 @@ fn put_ipv4(
             &IpAddress::Ipv4(source),
             &IpAddress::Ipv4(destination),
             payload,
-        )?;
+        );
     } else {
-        out.put_bytes("piece", payload)?;
+        out.put_bytes("piece", payload);
     }
     let end = usize::from(packet.total_len());
-    out.put_some_bytes("padding", bytes.get(end..).unwrap_or(&[]))
+    out.put_some_bytes("padding", bytes.get(end..).unwrap_or(&[]));
 }
 
 // The fields as they stand, where there is a header.
-fn put_ipv4_fields(out: &mut Out<'_>, bytes: &[u8]) -> Result<(), AllocError> {
+fn put_ipv4_fields(out: &mut Out<'_>, bytes: &[u8]) {
     if bytes.len() < 20 {
-        return writeln!(out.text, "");
+        writeln!(out, "");
+        return;
     }
     let packet = Ipv4Packet::new_unchecked(bytes);
     let header_len = usize::from(packet.header_len());
     write!(
-        out.text,
+        out,
         "; version {}, header {}, dscp {}, ecn {}, length {}",
         packet.version(),
         header_len,
         packet.dscp(),
         packet.ecn(),
         packet.total_len()
-    )?;
+    );
     write!(
-        out.text,
+        out,
         ", id {}, flags [{}{}], offset {}, checksum 0x{:04x}",
         packet.ident(),
         set(packet.dont_frag(), "DF"),
         set(packet.more_frags(), "+"),
         packet.frag_offset(),
         packet.checksum()
-    )?;
+    );
     if header_len <= bytes.len() {
-        write!(out.text, " {}", good(packet.verify_checksum()))?;
+        write!(out, " {}", good(packet.verify_checksum()));
     }
     if let Some(options) = bytes.get(20..header_len) {
         if !options.is_empty() {
-            write!(out.text, ", options ")?;
-            out.put_hex(options)?;
+            write!(out, ", options ");
+            out.put_hex(options);
         }
     }
-    writeln!(out.text, "")
+    writeln!(out, "");
 }
 
-fn put_ipv6(out: &mut Out<'_>, bytes: &[u8], header: &Ipv6Repr) -> Result<(), AllocError> {
+fn put_ipv6(out: &mut Out<'_>, bytes: &[u8], header: &Ipv6Repr) {
     let Ok(packet) = Ipv6Packet::new_checked(bytes) else {
-        return put_cut_line(out, "IPv6", bytes);
+        put_cut_line(out, "IPv6", bytes);
+        return;
     };
     writeln!(
-        out.text,
+        out,
         "IPv6 {}; version {}, class {}, flow 0x{:05x}, length {}",
         Ipv6Text(*header),
         packet.version(),
         packet.traffic_class(),
         packet.flow_label(),
         packet.payload_len()
-    )?;
-    put_extensions(out, header, packet.payload())?;
+    );
+    put_extensions(out, header, packet.payload());
     let end = packet.total_len();
-    out.put_some_bytes("padding", bytes.get(end..).unwrap_or(&[]))
+    out.put_some_bytes("padding", bytes.get(end..).unwrap_or(&[]));
 }
 
 // Extension headers (RFC 8200, section 4), and what stands behind the last one.
-fn put_extensions(out: &mut Out<'_>, header: &Ipv6Repr, payload: &[u8]) -> Result<(), AllocError> {
+fn put_extensions(out: &mut Out<'_>, header: &Ipv6Repr, payload: &[u8]) {
     let (mut next, mut rest) = (header.next_header, payload);
     for _ in 0..payload.len() {
         if !is_extension(next) {
@@ -178,12 +174,14 @@ fn put_extensions(out: &mut Out<'_>, header: &Ipv6Repr, payload: &[u8]) -> Resul
         }
         let length = extension_len(next, rest);
         let (Some(front), Some(behind)) = (rest.get(..length), rest.get(length..)) else {
-            return put_cut_line(out, "extension", rest);
+            put_cut_line(out, "extension", rest);
+            return;
         };
         let inner = first_byte(front);
-        put_extension(out, next, inner, front)?;
+        put_extension(out, next, inner, front);
         if is_later_piece(next, front) {
-            return out.put_bytes("piece", behind);
+            out.put_bytes("piece", behind);
+            return;
         }
         (next, rest) = (inner, behind);
     }
@@ -194,7 +192,7 @@ fn put_extensions(out: &mut Out<'_>, header: &Ipv6Repr, payload: &[u8]) -> Resul
         &IpAddress::Ipv6(source),
         &IpAddress::Ipv6(destination),
         rest,
-    )
+    );
 }
 
 // What the header says comes next.
@@ -217,28 +215,24 @@ fn extension_len(next: IpProtocol, rest: &[u8]) -> usize {
     }
 }
 
-fn put_extension(
-    out: &mut Out<'_>,
-    kind: IpProtocol,
-    next: IpProtocol,
-    front: &[u8],
-) -> Result<(), AllocError> {
+fn put_extension(out: &mut Out<'_>, kind: IpProtocol, next: IpProtocol, front: &[u8]) {
     if let Some(place) = place_of(kind, front) {
-        return writeln!(
-            out.text,
+        writeln!(
+            out,
             "fragment {}; next {}",
             FragmentText(place),
             ProtocolText(next)
         );
+        return;
     }
     write!(
-        out.text,
+        out,
         "extension {}, next {}, data ",
         ProtocolText(kind),
         ProtocolText(next)
-    )?;
-    out.put_hex(front.get(2..).unwrap_or(&[]))?;
-    writeln!(out.text, "")
+    );
+    out.put_hex(front.get(2..).unwrap_or(&[]));
+    writeln!(out, "");
 }
 
 // What the header of a piece says.
@@ -264,7 +258,7 @@ fn put_carried(
     source: &IpAddress,
     destination: &IpAddress,
     bytes: &[u8],
-) -> Result<(), AllocError>
+)
     requires { version_of source.now ≡ version_of destination.now }
 {
     match (protocol, source, destination) {
@@ -278,38 +272,34 @@ fn put_carried(
     }
 }
 
-fn put_udp(
-    out: &mut Out<'_>,
-    source: &IpAddress,
-    destination: &IpAddress,
-    bytes: &[u8],
-) -> Result<(), AllocError>
+fn put_udp(out: &mut Out<'_>, source: &IpAddress, destination: &IpAddress, bytes: &[u8])
     requires { version_of source.now ≡ version_of destination.now }
 {
     let Ok(packet) = UdpPacket::new_checked(bytes) else {
-        return put_cut_line(out, "UDP", bytes);
+        put_cut_line(out, "UDP", bytes);
+        return;
     };
     let found = tested_first(
         UdpRepr::parse(&packet, source, destination, &all()),
         UdpRepr::parse(&packet, source, destination, &none()),
     );
     match found {
-        Some((is_good, header)) => write!(out.text, "UDP {}{}", if_bad(is_good), UdpText(header))?,
+        Some((is_good, header)) => write!(out, "UDP {}{}", if_bad(is_good), UdpText(header)),
         None => write!(
-            out.text,
+            out,
             "UDP unknown, {} > {}",
             packet.src_port(),
             packet.dst_port()
-        )?,
+        ),
     }
     writeln!(
-        out.text,
+        out,
         "; length {}, checksum 0x{:04x} {}",
         packet.len(),
         packet.checksum(),
         good(packet.verify_checksum(source, destination))
-    )?;
-    out.put_bytes("payload", packet.payload())?;
+    );
+    out.put_bytes("payload", packet.payload());
     let end = usize::from(packet.len());
-    out.put_some_bytes("behind", bytes.get(end..).unwrap_or(&[]))
+    out.put_some_bytes("behind", bytes.get(end..).unwrap_or(&[]));
 }

@@ -2,44 +2,82 @@
 use ip_wire::Error;
 use net_base::ChecksumCapabilities;
 use std::alloc::{AllocError, Global};
+use std::fmt::Display;
 
-/// The text so far, and where more of it finds its memory.
+/// The text so far, and where more of it finds its memory. Where a part of it found none, no more is written, and `end` says so: so
+/// what writes a text goes straight on.
 #[derive(Drop)]
 pub(crate) struct Out<'a> {
-    pub(crate) alloc: Global,
-    pub(crate) text: &'a mut String,
+    alloc: Global,
+    text: &'a mut String,
+    is_short: bool,
 }
 
 impl<'a> Out<'a> {
-    /// A line for bytes: what they are, how many, and the bytes in hex.
-    pub(crate) fn put_bytes(&mut self, what: &str, bytes: &[u8]) -> Result<(), AllocError> {
-        if bytes.is_empty() {
-            return writeln!(self.text, "{what} 0");
+    /// Behind this text.
+    pub(crate) fn new(alloc: Global, text: &'a mut String) -> Out<'a> {
+        Out {
+            alloc,
+            text,
+            is_short: false,
         }
-        let digits = hex::encode(self.alloc, bytes)?;
-        writeln!(self.text, "{what} {}: {digits}", bytes.len())
+    }
+
+    /// Whether there was memory for all of it.
+    pub(crate) fn end(&self) -> Result<(), AllocError> {
+        if self.is_short {
+            Err(AllocError)
+        } else {
+            Ok(())
+        }
+    }
+
+    /// What `write!` and `writeln!` call.
+    pub(crate) fn write_fmt<D: Display + Drop>(&mut self, part: D) {
+        if !self.is_short {
+            self.is_short = self.text.write_fmt(part).is_err();
+        }
+    }
+
+    /// A line for bytes: what they are, how many, and the bytes in hex.
+    pub(crate) fn put_bytes(&mut self, what: &str, bytes: &[u8]) {
+        if bytes.is_empty() {
+            writeln!(self, "{what} 0");
+            return;
+        }
+        match hex::encode(self.alloc, bytes) {
+            Ok(digits) => writeln!(self, "{what} {}: {digits}", bytes.len()),
+            Err(_) => self.is_short = true,
+        }
     }
 
     /// The same, where there are any.
-    pub(crate) fn put_some_bytes(&mut self, what: &str, bytes: &[u8]) -> Result<(), AllocError> {
-        if bytes.is_empty() {
-            return Ok(());
+    pub(crate) fn put_some_bytes(&mut self, what: &str, bytes: &[u8]) {
+        if !bytes.is_empty() {
+            self.put_bytes(what, bytes);
         }
-        self.put_bytes(what, bytes)
     }
 
     /// Bytes in hex inside a line, `-` where there are none.
-    pub(crate) fn put_hex(&mut self, bytes: &[u8]) -> Result<(), AllocError> {
+    pub(crate) fn put_hex(&mut self, bytes: &[u8]) {
         if bytes.is_empty() {
-            return write!(self.text, "-");
+            write!(self, "-");
+            return;
         }
-        let digits = hex::encode(self.alloc, bytes)?;
-        self.text.push_str(digits.as_str())
+        match hex::encode(self.alloc, bytes) {
+            Ok(digits) => write!(self, "{digits}"),
+            Err(_) => self.is_short = true,
+        }
     }
 
     /// A header that ends before its bytes, or whose lengths say more than is there.
-    pub(crate) fn put_cut(&mut self, layer: &str, len: usize) -> Result<(), AllocError> {
-        write!(self.text, "{layer} cut short after {len} bytes")
+    pub(crate) fn put_cut(&mut self, layer: &str, len: usize) {
+        write!(self, "{layer} cut short after {len} bytes");
+    }
+
+    /// The same in a line of its own.
+    pub(crate) fn put_cut_line(&mut self, layer: &str, bytes: &[u8]) {
+        writeln!(self, "{layer} cut short after {} bytes", bytes.len());
     }
 }
 

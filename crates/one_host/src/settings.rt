@@ -10,31 +10,22 @@ use sockets::{Socket, icmp, raw, udp};
 
 /// Plays `set H S NAME VALUE`.
 pub fn set<'a>(host: &mut Host, words: &mut Words<'a>) -> Result<Answer, Stop<'a>> {
-    words.host()?;
-    let place = words.size()?;
-    let name = words.word("setting")?;
+    words.host();
+    let place = words.size();
+    let name = words.word("setting");
+    words.so_far()?;
     if name == "hop_limit" {
         return set_hop_limit(host.socket(place)?, words);
     }
     let socket = host.tcp(place)?;
     match name {
-        "timeout" => {
-            let span = duration_of(words.span()?);
+        "timeout" | "ack_delay" | "keep_alive" => {
+            let span = duration_of(words.span());
             words.end()?;
-            socket.set_timeout(span);
-        }
-        "ack_delay" => {
-            let span = duration_of(words.span()?);
-            words.end()?;
-            socket.set_ack_delay(span);
-        }
-        "keep_alive" => {
-            let span = duration_of(words.span()?);
-            words.end()?;
-            socket.set_keep_alive(span);
+            set_span(socket, name, span);
         }
         "nagle" | "pause" => {
-            let is_on = words.switch()?;
+            let is_on = words.switch();
             words.end()?;
             switch(socket, name, is_on);
         }
@@ -50,6 +41,14 @@ fn duration_of(micros: Option<u64>) -> Option<Duration> {
     }
 }
 
+fn set_span(socket: &mut tcp::Socket, name: &str, span: Option<Duration>) {
+    match name {
+        "timeout" => socket.set_timeout(span),
+        "ack_delay" => socket.set_ack_delay(span),
+        _ => socket.set_keep_alive(span),
+    }
+}
+
 fn switch(socket: &mut tcp::Socket, name: &str, is_on: bool) {
     if name == "nagle" {
         socket.set_nagle_enabled(is_on);
@@ -59,7 +58,7 @@ fn switch(socket: &mut tcp::Socket, name: &str, is_on: bool) {
 }
 
 fn set_hop_limit<'a>(socket: &mut Socket, words: &mut Words<'a>) -> Result<Answer, Stop<'a>> {
-    let hops = words.hops()?;
+    let hops = words.hops();
     words.end()?;
     match socket {
         Socket::Tcp(socket) => socket.set_hop_limit(hops),
@@ -79,16 +78,12 @@ fn set_control<'a>(
 ) -> Result<Answer, Stop<'a>> {
     match name {
         "congestion" => {
-            let control = match words.word("congestion control")? {
-                "none" => CongestionControl::None,
-                "reno" => CongestionControl::Reno,
-                word => return Err(Stop::Wrong("congestion control", word)),
-            };
+            let control = control(words);
             words.end()?;
             socket.set_congestion_control(control);
         }
         "timestamps" => {
-            let generator = generator(words)?;
+            let generator = generator(words);
             words.end()?;
             socket.set_tsval_generator(generator);
         }
@@ -97,26 +92,38 @@ fn set_control<'a>(
     Ok(Answer::Done)
 }
 
+fn control(words: &mut Words<'_>) -> CongestionControl {
+    let word = words.word("congestion control");
+    match word {
+        "none" => CongestionControl::None,
+        "reno" => CongestionControl::Reno,
+        _ => {
+            words.wrong("congestion control", word);
+            CongestionControl::None
+        }
+    }
+}
+
 /// What timestamps begin at, or none.
-fn generator<'a>(words: &mut Words<'a>) -> Result<Option<TcpTimestampGenerator>, Stop<'a>> {
-    let word = words.word("number")?;
+fn generator(words: &mut Words<'_>) -> Option<TcpTimestampGenerator> {
+    let word = words.word("number");
     if word == "none" {
-        return Ok(None);
+        return None;
     }
     match number(word) {
-        Some(value) => match u32::try_from(value) {
-            Ok(value) => Ok(Some(TcpTimestampGenerator(value))),
-            Err(_) => Err(Stop::Wrong("number", word)),
-        },
-        None => Err(Stop::Wrong("number", word)),
+        Some(value) => Some(TcpTimestampGenerator(value)),
+        None => {
+            words.wrong("number", word);
+            None
+        }
     }
 }
 
 /// Plays `get H S NAME`.
 pub fn get<'a>(host: &mut Host, words: &mut Words<'a>) -> Result<Answer, Stop<'a>> {
-    words.host()?;
-    let place = words.size()?;
-    let name = words.word("setting")?;
+    words.host();
+    let place = words.size();
+    let name = words.word("setting");
     words.end()?;
     let found = match host.socket(place)? {
         Socket::Tcp(socket) => get_tcp(socket, name),

@@ -10,31 +10,50 @@ use net_base::Instant;
 
 /// Plays a line that polls.
 pub fn play<'a>(host: &mut Host, verb: &'a str, words: &mut Words<'a>) -> Result<Answer, Stop<'a>> {
-    words.host()?;
-    let now = Instant::from_micros(words.micros()?);
+    words.host();
+    let now = Instant::from_micros(words.micros());
+    words.so_far()?;
     if !now.is_moment() {
         return Err(Stop::Refused("Moment"));
     }
     if verb == "poll" {
-        let budget = words.short("budget")?;
-        words.end()?;
-        return Ok(polled(
-            host.interface
-                .poll(now, &mut host.wire, &mut host.sockets, budget),
-        ));
+        return poll(host, now, words);
     }
     words.end()?;
     Ok(match verb {
-        "egress" => polled(
-            host.interface
-                .poll_egress(now, &mut host.wire, &mut host.sockets),
-        ),
-        "ingress" => took(
-            host.interface
-                .poll_ingress_single(now, &mut host.wire, &mut host.sockets),
-        ),
+        "egress" => egress(host, now),
+        "ingress" => ingress(host, now),
         _ => asked(host, verb, now),
     })
+}
+
+fn poll<'a>(host: &mut Host, now: Instant, words: &mut Words<'a>) -> Result<Answer, Stop<'a>>
+    requires { IsMoment now }
+{
+    let budget = words.short("budget");
+    words.end()?;
+    Ok(polled(
+        host.interface
+            .poll(now, &mut host.wire, &mut host.sockets, budget),
+    ))
+}
+
+fn egress(host: &mut Host, now: Instant) -> Answer
+    requires { IsMoment now }
+{
+    polled(
+        host.interface
+            .poll_egress(now, &mut host.wire, &mut host.sockets),
+    )
+}
+
+fn ingress(host: &mut Host, now: Instant) -> Answer
+    requires { IsMoment now }
+{
+    took(
+        host.interface
+            .poll_ingress_single(now, &mut host.wire, &mut host.sockets),
+    )
 }
 
 /// Plays a line that sends nothing.

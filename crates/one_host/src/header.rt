@@ -2,15 +2,15 @@
 ghost use Rattle.std.specs.Prelude.{◌<◌, IfSome};
 
 use crate::host::Host;
-use crate::made::{read_socket, sockets_of};
-use crate::stop::Stop;
+use crate::made::{add_all, read_socket};
+use crate::stop::{NO_MEMORY, Stop};
 use crate::wire::Wire;
 use crate::words::Words;
 use arrayvec::ArrayVec;
-use interface::{Config, Interface, NewError, TABLE_ROOM};
+use interface::{Config, Interface, NewError, SocketSet, TABLE_ROOM};
 use ip_wire::{EthernetAddress, HardwareAddress, IpAddress, IpCidr};
 use lan_script::SocketSpec;
-use net_base::{ChecksumCapabilities, DeviceCapabilities, Instant, Medium};
+use net_base::{ChecksumCapabilities, DeviceCapabilities, Instant, ManagedSlice, Medium};
 use std::alloc::Global;
 
 /// What a script asks for before its line `start`.
@@ -27,12 +27,16 @@ pub struct Header {
 impl Header {
     /// Reads what stands behind `world`.
     pub fn read<'a>(alloc: Global, words: &mut Words<'a>) -> Result<Header, Stop<'a>> {
-        let medium = match words.word("medium")? {
+        let word = words.word("medium");
+        let medium = match word {
             "eth" => Medium::Ethernet,
             "ip" => Medium::Ip,
-            word => return Err(Stop::Wrong("medium", word)),
+            _ => {
+                words.wrong("medium", word);
+                Medium::Ip
+            }
         };
-        let longest = words.size()?;
+        let longest = words.size();
         words.end()?;
         Ok(Header {
             device: DeviceCapabilities {
@@ -56,24 +60,24 @@ impl Header {
         match verb {
             "socket" => return self.socket(words),
             "seed" => {
-                words.host()?;
-                self.seed = words.number()?;
+                words.host();
+                self.seed = words.number();
             }
             "begins" => {
-                words.host()?;
-                self.begins = Instant::from_micros(words.signed_micros()?);
+                words.host();
+                self.begins = Instant::from_micros(words.signed_micros());
             }
             "mac" => {
-                words.host()?;
-                self.hardware = hardware(words)?;
+                words.host();
+                self.hardware = hardware(words);
             }
             "isn_key" => {
-                words.host()?;
-                self.isn_key = Some(isn_key(words)?);
+                words.host();
+                self.isn_key = Some(isn_key(words));
             }
             "checksums" => {
-                words.host()?;
-                self.device.checksum = checksums(words)?;
+                words.host();
+                self.device.checksum = checksums(words);
             }
             _ => return Err(Stop::Order("`start` comes first", verb)),
         }
@@ -82,28 +86,38 @@ impl Header {
 
     /// One socket more. Those of a host B, which isn't there, are passed over.
     fn socket<'a>(&mut self, words: &mut Words<'a>) -> Result<(), Stop<'a>> {
-        let is_own = match words.word("host")? {
-            "A" => true,
-            "B" => false,
-            word => return Err(Stop::Wrong("host", word)),
-        };
+        let word = words.word("host");
+        if word != "A" && word != "B" {
+            words.wrong("host", word);
+        }
         let spec = read_socket(words)?;
-        if is_own {
+        if word == "A" {
             self.specs.push(spec).map_err(|_| Stop::Refused("Memory"))?;
         }
         Ok(())
     }
 
     /// The host that was asked for, at 192.168.1.1/24 and fd00::1/64.
-    pub fn start(&self, alloc: Global) -> Result<Host, Stop<'static>> {
+    pub fn start(&self, alloc: Global) -> Result<Box<Host>, Stop<'static>> {
+        let mut host = self.bare(alloc)?;
+        add_all(alloc, &mut host.sockets, self.specs.as_slice())?;
+        let _ = host
+            .interface
+            .update_ip_addrs(|addresses| put_blocks(addresses));
+        Ok(host)
+    }
+
+    // The host without its sockets and addresses. (It is on the heap before it gets them: to lend it makes a short proof there.)
+    fn bare(&self, alloc: Global) -> Result<Box<Host>, Stop<'static>> {
         let wire = Wire::new(alloc, self.device);
         let interface = self.interface(alloc, &wire)?;
-        let sockets = sockets_of(alloc, self.specs.as_slice())?;
-        Ok(Host {
+        let sockets = SocketSet::new(ManagedSlice::Owned(Vec::new(alloc)));
+        let host = Host {
             interface,
             sockets,
             wire,
-        })
+        };
+        Box::new(alloc, host).ok().ok_or(NO_MEMORY)
     }
 
     fn interface(&self, alloc: Global, wire: &Wire) -> Result<Interface, Stop<'static>> {
@@ -112,12 +126,10 @@ impl Header {
             hardware_addr: self.hardware,
             isn_key: self.isn_key,
         };
-        let mut interface = match Interface::new(alloc, &config, wire, self.begins) {
-            Ok(interface) => interface,
-            Err(error) => return Err(Stop::Refused(new_error_name(error))),
-        };
-        let _ = interface.update_ip_addrs(|addresses| put_blocks(addresses));
-        Ok(interface)
+        match Interface::new(alloc, &config, wire, self.begins) {
+            Ok(interface) => Ok(interface),
+            Err(error) => Err(Stop::Refused(new_error_name(error))),
+        }
     }
 }
 
@@ -127,21 +139,30 @@ fn put_blocks(addresses: &mut ArrayVec<IpCidr, TABLE_ROOM>) {
 }
 
 /// A hardware address, or `none` of a medium that has none.
-pub fn hardware<'a>(words: &mut Words<'a>) -> Result<HardwareAddress, Stop<'a>> {
-    let word = words.word("hardware address")?;
+pub fn hardware(words: &mut Words<'_>) -> HardwareAddress {
+    let word = words.word("hardware address");
     if word == "none" {
-        return Ok(HardwareAddress::Ip);
+        return HardwareAddress::Ip;
     }
-    match word.parse() {
-        Ok(station) => Ok(HardwareAddress::Ethernet(station)),
-        Err(_) => Err(Stop::Wrong("hardware address", word)),
+    match word.parse::<EthernetAddress>() {
+        Ok(station) => HardwareAddress::Ethernet(station),
+        Err(_) => {
+            words.wrong("hardware address", word);
+            HardwareAddress::Ip
+        }
     }
 }
 
 /// A key of 16 bytes.
-fn isn_key<'a>(words: &mut Words<'a>) -> Result<[u8; 16], Stop<'a>> {
-    let word = words.word("key")?;
-    read_key(word.as_bytes()).ok_or(Stop::Wrong("key", word))
+fn isn_key(words: &mut Words<'_>) -> [u8; 16] {
+    let word = words.word("key");
+    match read_key(word.as_bytes()) {
+        Some(key) => key,
+        None => {
+            words.wrong("key", word);
+            [0; 16]
+        }
+    }
 }
 
 /// The bytes that 32 hexadecimal digits say.
@@ -167,11 +188,11 @@ fn digit(code: u8) -> Option<u8>
 }
 
 /// Whether the host verifies and computes checksums, or leaves them to the device.
-fn checksums<'a>(words: &mut Words<'a>) -> Result<ChecksumCapabilities, Stop<'a>> {
-    if words.switch()? {
-        Ok(ChecksumCapabilities::default())
+fn checksums(words: &mut Words<'_>) -> ChecksumCapabilities {
+    if words.switch() {
+        ChecksumCapabilities::default()
     } else {
-        Ok(ChecksumCapabilities::ignored())
+        ChecksumCapabilities::ignored()
     }
 }
 

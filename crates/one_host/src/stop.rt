@@ -35,6 +35,22 @@ impl<'a> From<AllocError> for Stop<'a> {
 impl<'a> Stop<'a> {
     /// What is written of it behind the line's number.
     pub fn to_text(&self, alloc: Global) -> Result<String, AllocError> {
+        let word = shown(alloc, self.word())?;
+        self.text_with(alloc, word.as_str())
+    }
+
+    // The word that isn't taken, if there is one.
+    fn word(&self) -> &'a str {
+        match *self {
+            Stop::Wrong(_, word) => word,
+            Stop::Extra(word) => word,
+            Stop::Order(_, word) => word,
+            _ => "",
+        }
+    }
+
+    // The text with the word as it is shown.
+    fn text_with(&self, alloc: Global, word: &str) -> Result<String, AllocError> {
         match *self {
             Stop::NotAscii(byte, place) => {
                 format!(in alloc; "bad event: byte {byte} at place {place} is none of ASCII")
@@ -43,18 +59,9 @@ impl<'a> Stop<'a> {
                 String::from_str(alloc, "bad event: a carriage return ends the line")
             }
             Stop::Missing(class) => format!(in alloc; "bad event: no {class}: the line ends"),
-            Stop::Wrong(class, word) => {
-                let word = shown(alloc, word)?;
-                format!(in alloc; "bad event: no {class}: {word}")
-            }
-            Stop::Extra(word) => {
-                let word = shown(alloc, word)?;
-                format!(in alloc; "bad event: a word too many: {word}")
-            }
-            Stop::Order(rule, word) => {
-                let word = shown(alloc, word)?;
-                format!(in alloc; "bad event: {rule}: {word}")
-            }
+            Stop::Wrong(class, _) => format!(in alloc; "bad event: no {class}: {word}"),
+            Stop::Extra(_) => format!(in alloc; "bad event: a word too many: {word}"),
+            Stop::Order(rule, _) => format!(in alloc; "bad event: {rule}: {word}"),
             Stop::Refused(name) => format!(in alloc; "refused {name}"),
         }
     }

@@ -16,27 +16,22 @@ pub fn play<'a>(
     verb: &'a str,
     words: &mut Words<'a>,
 ) -> Result<Answer, Stop<'a>> {
-    words.host()?;
-    let place = words.size()?;
+    words.host();
+    let place = words.size();
     match verb {
         "listen" => {
-            let port = words.short("port")?;
+            let port = words.short("port");
             words.end()?;
             Ok(listen(host.tcp(place)?, port))
         }
         "connect" => {
-            let (remote, port) = (words.endpoint()?, words.short("port")?);
+            let (remote, port) = (words.endpoint(), words.short("port"));
             words.end()?;
             connect(host, place, remote, port)
         }
-        "send" => {
-            let bytes = words.bytes()?;
-            words.end()?;
-            let bytes = bytes.decode(alloc)?;
-            Ok(send(host.tcp(place)?, bytes.as_slice()))
-        }
+        "send" => send(alloc, host, place, words),
         "recv" => {
-            let most = words.size()?;
+            let most = words.size();
             words.end()?;
             Ok(recv(alloc, host.tcp(place)?, most)?)
         }
@@ -88,10 +83,16 @@ fn connect<'a>(
     })
 }
 
-fn send(socket: &mut tcp::Socket, bytes: &[u8]) -> Answer {
-    match socket.send_slice(bytes) {
-        Ok(count) => Answer::Count(count),
-        Err(SendError::InvalidState) => Answer::Error("InvalidState"),
+fn send<'a>(
+    alloc: Global,
+    host: &mut Host,
+    place: usize,
+    words: &mut Words<'a>,
+) -> Result<Answer, Stop<'a>> {
+    let bytes = words.last_bytes(alloc)?;
+    match host.tcp(place)?.send_slice(bytes.as_slice()) {
+        Ok(count) => Ok(Answer::Count(count)),
+        Err(SendError::InvalidState) => Ok(Answer::Error("InvalidState")),
     }
 }
 

@@ -10,7 +10,7 @@ use net_base::{Duration, Instant};
 
 /// Plays a line that sets something of the host.
 pub fn play<'a>(host: &mut Host, verb: &'a str, words: &mut Words<'a>) -> Result<Answer, Stop<'a>> {
-    words.host()?;
+    words.host();
     let interface = &mut host.interface;
     match verb {
         "addrs" => {
@@ -21,18 +21,18 @@ pub fn play<'a>(host: &mut Host, verb: &'a str, words: &mut Words<'a>) -> Result
             }
         }
         "hw" => {
-            let address = hardware(words)?;
+            let address = hardware(words);
             words.end()?;
             Ok(set_hardware(interface, address))
         }
         "any_ip" => {
-            let any = words.switch()?;
+            let any = words.switch();
             words.end()?;
             interface.set_any_ip(any);
             Ok(Answer::Done)
         }
         "reassembly" => {
-            let span = words.span()?;
+            let span = words.span();
             words.end()?;
             match span {
                 Some(micros) => {
@@ -62,18 +62,18 @@ fn routes<'a>(
 ) -> Result<Answer, Stop<'a>> {
     match verb {
         "route" => {
-            let router = words.address()?;
+            let router = words.address();
             words.end()?;
             Ok(interface.update_routes(|routes| default_route(routes, router).0))
         }
         "exchange_route" => {
-            let router = words.address()?;
+            let router = words.address();
             words.end()?;
             Ok(interface.update_routes(|routes| default_route(routes, router).1))
         }
         "add_route" => {
-            let (cidr, via_router) = (words.block()?, words.address()?);
-            let expires_at = moment_of(words.until()?);
+            let (cidr, via_router) = (words.block(), words.address());
+            let expires_at = moment_of(words.until());
             words.end()?;
             let route = Route {
                 cidr,
@@ -84,7 +84,7 @@ fn routes<'a>(
             Ok(interface.update_routes(|routes| added(routes.push(route).is_ok())))
         }
         "drop_route" => {
-            let place = words.size()?;
+            let place = words.size();
             words.end()?;
             Ok(interface.update_routes(|routes| dropped(routes.remove(place))))
         }

@@ -11,8 +11,8 @@ use sockets::Context;
 
 /// Plays `ask H WHAT`, behind which an address may stand.
 pub fn play<'a>(host: &mut Host, words: &mut Words<'a>) -> Result<Answer, Stop<'a>> {
-    words.host()?;
-    let name = words.word("question")?;
+    words.host();
+    let name = words.word("question");
     let inner = host.interface.context();
     let answer = match name {
         "fresh" => is(host.interface.is_fresh()),
@@ -22,19 +22,26 @@ pub fn play<'a>(host: &mut Host, words: &mut Words<'a>) -> Result<Answer, Stop<'
         "hw" => Answer::Station(inner.hardware_addr()),
         "waiting" => Answer::Number(host.wire.waiting() as u64),
         "refusals" => Answer::Number(host.wire.refusals()),
-        _ => {
-            let address = words.address()?;
-            return match about(inner, name, &address) {
-                Some(answer) => {
-                    words.end()?;
-                    Ok(answer)
-                }
-                None => Err(Stop::Wrong("question", name)),
-            };
-        }
+        _ => return ask_of(inner, name, words),
     };
     words.end()?;
     Ok(answer)
+}
+
+/// Plays a question about an address.
+fn ask_of<'a>(
+    inner: &InterfaceInner,
+    name: &'a str,
+    words: &mut Words<'a>,
+) -> Result<Answer, Stop<'a>> {
+    let address = words.address();
+    match about(inner, name, &address) {
+        Some(answer) => {
+            words.end()?;
+            Ok(answer)
+        }
+        None => Err(words.or_before(Stop::Wrong("question", name))),
+    }
 }
 
 fn is(holds: bool) -> Answer {

@@ -38,25 +38,30 @@ pub enum Answer {
 impl Answer {
     /// The line that says it, with its end.
     pub fn to_line(&self, alloc: Global) -> Result<String, AllocError> {
+        let hex = hex_text(alloc, self.bytes())?;
+        self.line_with(alloc, hex.as_str())
+    }
+
+    // The bytes that were read, if there are any.
+    fn bytes(&self) -> &[u8] {
+        match self {
+            Answer::Bytes(bytes) => bytes.as_slice(),
+            Answer::FromEndpoint(_, bytes) => bytes.as_slice(),
+            Answer::FromAddr(_, bytes) => bytes.as_slice(),
+            Answer::Waits(_, _, bytes) => bytes.as_slice(),
+            _ => &[],
+        }
+    }
+
+    // The line with these digits of its bytes.
+    fn line_with(&self, alloc: Global, hex: &str) -> Result<String, AllocError> {
         match self {
             Answer::Done => String::from_str(alloc, "ok\n"),
             Answer::Count(count) => format!(in alloc; "ok {count}\n"),
-            Answer::Bytes(bytes) => {
-                let hex = hex_text(alloc, bytes.as_slice())?;
-                format!(in alloc; "data {hex}\n")
-            }
-            Answer::FromEndpoint(remote, bytes) => {
-                let hex = hex_text(alloc, bytes.as_slice())?;
-                format!(in alloc; "from {remote} {hex}\n")
-            }
-            Answer::FromAddr(remote, bytes) => {
-                let hex = hex_text(alloc, bytes.as_slice())?;
-                format!(in alloc; "from {remote} {hex}\n")
-            }
-            Answer::Waits(remote, own, bytes) => {
-                let hex = hex_text(alloc, bytes.as_slice())?;
-                format!(in alloc; "from {remote} to {own} {hex}\n")
-            }
+            Answer::Bytes(_) => format!(in alloc; "data {hex}\n"),
+            Answer::FromEndpoint(remote, _) => format!(in alloc; "from {remote} {hex}\n"),
+            Answer::FromAddr(remote, _) => format!(in alloc; "from {remote} {hex}\n"),
+            Answer::Waits(remote, own, _) => format!(in alloc; "from {remote} to {own} {hex}\n"),
             Answer::State(state) => format!(in alloc; "state {state}\n"),
             Answer::At(moment) => format!(in alloc; "at {}\n", moment.total_micros()),
             Answer::In(delay) => format!(in alloc; "in {}\n", delay.total_micros()),

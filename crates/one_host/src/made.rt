@@ -1,6 +1,6 @@
 //! The sockets that a script's header asks for.
 use crate::stop::{NO_MEMORY, Stop};
-use crate::words::{Words, byte};
+use crate::words::{Words, number};
 use interface::SocketSet;
 use ip_wire::{IpProtocol, IpVersion};
 use lan_script::{QueueSizes, SocketSpec, StreamSizes};
@@ -13,61 +13,69 @@ const MOST_BYTES: usize = 1 << 30;
 
 const MOST_PACKETS: usize = 1 << 20;
 
+// What is read of a line that asks for no kind of socket.
+const NO_SOCKET: SocketSpec = SocketSpec::Tcp(StreamSizes {
+    receive_bytes: 0,
+    send_bytes: 0,
+});
+
 /// Reads what stands behind `socket H`.
 pub fn read_socket<'a>(words: &mut Words<'a>) -> Result<SocketSpec, Stop<'a>> {
-    let kind = words.word("kind of socket")?;
+    let kind = words.word("kind of socket");
     let spec = match kind {
-        "udp" => SocketSpec::Udp(queue_sizes(words)?),
-        "icmp" => SocketSpec::Icmp(queue_sizes(words)?),
-        "raw" => SocketSpec::Raw(version(words)?, protocol(words)?, queue_sizes(words)?),
+        "udp" => SocketSpec::Udp(queue_sizes(words)),
+        "icmp" => SocketSpec::Icmp(queue_sizes(words)),
+        "raw" => SocketSpec::Raw(version(words), protocol(words), queue_sizes(words)),
         "tcp" => SocketSpec::Tcp(StreamSizes {
-            receive_bytes: words.size()?,
-            send_bytes: words.size()?,
+            receive_bytes: words.size(),
+            send_bytes: words.size(),
         }),
-        _ => return Err(Stop::Wrong("kind of socket", kind)),
+        _ => {
+            words.wrong("kind of socket", kind);
+            NO_SOCKET
+        }
     };
     words.end()?;
     Ok(spec)
 }
 
 /// `RP RB TP TB`.
-fn queue_sizes<'a>(words: &mut Words<'a>) -> Result<QueueSizes, Stop<'a>> {
-    Ok(QueueSizes {
-        receive_packets: words.size()?,
-        receive_bytes: words.size()?,
-        send_packets: words.size()?,
-        send_bytes: words.size()?,
-    })
-}
-
-fn version<'a>(words: &mut Words<'a>) -> Result<Option<IpVersion>, Stop<'a>> {
-    match words.word("version of IP")? {
-        "4" => Ok(Some(IpVersion::Ipv4)),
-        "6" => Ok(Some(IpVersion::Ipv6)),
-        "any" => Ok(None),
-        word => Err(Stop::Wrong("version of IP", word)),
+fn queue_sizes(words: &mut Words<'_>) -> QueueSizes {
+    QueueSizes {
+        receive_packets: words.size(),
+        receive_bytes: words.size(),
+        send_packets: words.size(),
+        send_bytes: words.size(),
     }
 }
 
-fn protocol<'a>(words: &mut Words<'a>) -> Result<Option<u8>, Stop<'a>> {
-    let word = words.word("protocol")?;
+fn version(words: &mut Words<'_>) -> Option<IpVersion> {
+    let word = words.word("version of IP");
+    match word {
+        "4" => Some(IpVersion::Ipv4),
+        "6" => Some(IpVersion::Ipv6),
+        "any" => None,
+        _ => {
+            words.wrong("version of IP", word);
+            None
+        }
+    }
+}
+
+fn protocol(words: &mut Words<'_>) -> Option<u8> {
+    let word = words.word("protocol");
     if word == "any" {
-        return Ok(None);
+        return None;
     }
-    match byte(word) {
-        Some(number) => Ok(Some(number)),
-        None => Err(Stop::Wrong("protocol", word)),
+    let found = number(word);
+    if found.is_none() {
+        words.wrong("protocol", word);
     }
+    found
 }
 
-/// These sockets, in order.
-pub fn sockets_of(alloc: Global, specs: &[SocketSpec]) -> Result<SocketSet<Socket>, Stop<'static>> {
-    let mut sockets = SocketSet::new(ManagedSlice::Owned(Vec::new(alloc)));
-    add_all(alloc, &mut sockets, specs)?;
-    Ok(sockets)
-}
-
-fn add_all(
+/// Puts these sockets behind others, in order.
+pub fn add_all(
     alloc: Global,
     sockets: &mut SocketSet<Socket>,
     specs: &[SocketSpec],

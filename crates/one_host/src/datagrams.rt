@@ -2,7 +2,7 @@
 use crate::answer::Answer;
 use crate::host::Host;
 use crate::stop::Stop;
-use crate::words::{Words, short};
+use crate::words::{Words, number};
 use ip_wire::{IpAddress, IpEndpoint, IpListenEndpoint};
 use lan_frames::names_tcp_or_udp;
 use net_base::Medium;
@@ -18,98 +18,126 @@ pub fn play<'a>(
     verb: &'a str,
     words: &mut Words<'a>,
 ) -> Result<Answer, Stop<'a>> {
-    words.host()?;
-    let place = words.size()?;
+    words.host();
+    let place = words.size();
     match verb {
-        "bind" => {
-            let port = words.short("port")?;
+        "bind" => bind(host, place, words),
+        "ident" => bind_ident(host, place, words),
+        "errors" => bind_errors(host, place, words),
+        "recvfrom" => {
+            let most = words.size();
             words.end()?;
-            let endpoint = IpListenEndpoint { addr: None, port };
-            Ok(bound(host.udp(place)?.bind(endpoint)))
+            receive(alloc, host.socket(place)?, most)
         }
-        "ident" => {
-            let ident = words.short("identifier")?;
+        "peek" => {
+            let most = words.size();
             words.end()?;
-            Ok(bound(host.icmp(place)?.bind(Endpoint::Ident(ident))))
+            peek(alloc, host.socket(place)?, most)
         }
-        "errors" => {
-            let endpoint = quoted(words)?;
-            words.end()?;
-            Ok(bound(host.icmp(place)?.bind(endpoint)))
-        }
-        "recvfrom" | "peek" => {
-            let most = words.size()?;
-            words.end()?;
-            if verb == "peek" {
-                peek(alloc, host.socket(place)?, most)
-            } else {
-                receive(alloc, host.socket(place)?, most)
-            }
-        }
-        _ => send(alloc, host, place, verb, words),
+        "sendto" => send_to(alloc, host, place, words),
+        "sendicmp" => send_icmp(alloc, host, place, words),
+        _ => send_raw(alloc, host, place, verb, words),
     }
 }
 
+fn bind<'a>(host: &mut Host, place: usize, words: &mut Words<'a>) -> Result<Answer, Stop<'a>> {
+    let port = words.short("port");
+    words.end()?;
+    let endpoint = IpListenEndpoint { addr: None, port };
+    Ok(bound(host.udp(place)?.bind(endpoint)))
+}
+
+fn bind_ident<'a>(
+    host: &mut Host,
+    place: usize,
+    words: &mut Words<'a>,
+) -> Result<Answer, Stop<'a>> {
+    let ident = words.short("identifier");
+    words.end()?;
+    Ok(bound(host.icmp(place)?.bind(Endpoint::Ident(ident))))
+}
+
+fn bind_errors<'a>(
+    host: &mut Host,
+    place: usize,
+    words: &mut Words<'a>,
+) -> Result<Answer, Stop<'a>> {
+    let endpoint = quoted(words);
+    words.end()?;
+    Ok(bound(host.icmp(place)?.bind(endpoint)))
+}
+
 /// What errors are for an ICMP socket: those about what this port sent.
-fn quoted<'a>(words: &mut Words<'a>) -> Result<Endpoint, Stop<'a>> {
-    match words.word("kind of endpoint")? {
-        "none" => Ok(Endpoint::Unspecified),
-        "udp" => Ok(Endpoint::Udp(listened(words)?)),
-        "tcp" => Ok(Endpoint::Tcp(listened(words)?)),
-        word => Err(Stop::Wrong("kind of endpoint", word)),
+fn quoted(words: &mut Words<'_>) -> Endpoint {
+    let word = words.word("kind of endpoint");
+    match word {
+        "none" => Endpoint::Unspecified,
+        "udp" => Endpoint::Udp(listened(words)),
+        "tcp" => Endpoint::Tcp(listened(words)),
+        _ => {
+            words.wrong("kind of endpoint", word);
+            Endpoint::Unspecified
+        }
     }
 }
 
 /// A port of every address, or an address and a port.
-fn listened<'a>(words: &mut Words<'a>) -> Result<IpListenEndpoint, Stop<'a>> {
-    let word = words.word("port or endpoint")?;
-    if let Some(port) = short(word) {
-        return Ok(IpListenEndpoint { addr: None, port });
+fn listened(words: &mut Words<'_>) -> IpListenEndpoint {
+    let word = words.word("port or endpoint");
+    if let Some(port) = number(word) {
+        return IpListenEndpoint { addr: None, port };
     }
     match word.parse::<IpEndpoint>() {
-        Ok(endpoint) => Ok(IpListenEndpoint {
+        Ok(endpoint) => IpListenEndpoint {
             addr: Some(endpoint.addr),
             port: endpoint.port,
-        }),
-        Err(_) => Err(Stop::Wrong("port or endpoint", word)),
+        },
+        Err(_) => {
+            words.wrong("port or endpoint", word);
+            IpListenEndpoint {
+                addr: None,
+                port: 0,
+            }
+        }
     }
 }
 
-/// Plays a line that queues bytes.
-fn send<'a>(
+fn send_to<'a>(
+    alloc: Global,
+    host: &mut Host,
+    place: usize,
+    words: &mut Words<'a>,
+) -> Result<Answer, Stop<'a>> {
+    let remote = UdpMetadata::from(words.endpoint());
+    let bytes = words.last_bytes(alloc)?;
+    Ok(sent(host.udp(place)?.send_slice(bytes.as_slice(), remote)))
+}
+
+fn send_icmp<'a>(
+    alloc: Global,
+    host: &mut Host,
+    place: usize,
+    words: &mut Words<'a>,
+) -> Result<Answer, Stop<'a>> {
+    let remote = words.address();
+    let bytes = words.last_bytes(alloc)?;
+    Ok(sent(host.icmp(place)?.send_slice(bytes.as_slice(), remote)))
+}
+
+/// `sendraw` refuses packets that name TCP or UDP, and `sendany` none.
+fn send_raw<'a>(
     alloc: Global,
     host: &mut Host,
     place: usize,
     verb: &'a str,
     words: &mut Words<'a>,
 ) -> Result<Answer, Stop<'a>> {
-    match verb {
-        "sendto" => {
-            let (remote, bytes) = (words.endpoint()?, words.bytes()?);
-            words.end()?;
-            let bytes = bytes.decode(alloc)?;
-            Ok(sent(
-                host.udp(place)?
-                    .send_slice(bytes.as_slice(), UdpMetadata::from(remote)),
-            ))
-        }
-        "sendicmp" => {
-            let (remote, bytes) = (words.address()?, words.bytes()?);
-            words.end()?;
-            let bytes = bytes.decode(alloc)?;
-            Ok(sent(host.icmp(place)?.send_slice(bytes.as_slice(), remote)))
-        }
-        _ => {
-            let bytes = words.bytes()?;
-            words.end()?;
-            let bytes = bytes.decode(alloc)?;
-            let socket = host.raw(place)?;
-            if verb == "sendraw" && names_tcp_or_udp(Medium::Ip, bytes.as_slice()) {
-                return Err(Stop::Refused("RawProtocol"));
-            }
-            Ok(sent_raw(socket.send_slice(bytes.as_slice())))
-        }
+    let bytes = words.last_bytes(alloc)?;
+    let socket = host.raw(place)?;
+    if verb == "sendraw" && names_tcp_or_udp(Medium::Ip, bytes.as_slice()) {
+        return Err(Stop::Refused("RawProtocol"));
     }
+    Ok(sent_raw(socket.send_slice(bytes.as_slice())))
 }
 
 fn bound(answer: Result<(), BindError>) -> Answer {

@@ -31,26 +31,27 @@ impl Session {
         if text.is_empty() || text.starts_with('#') {
             return Ok(String::new(alloc));
         }
+        self.take_text(alloc, text)
+    }
+
+    // Takes a line that says something.
+    fn take_text<'a>(&mut self, alloc: Global, text: &'a str) -> Result<String, Stop<'a>> {
         let mut words = Words::new(text);
-        let verb = words.word("line")?;
+        let verb = words.word("line");
         match self {
             Session::Begun => {
-                if verb != "world" {
-                    return Err(Stop::Order("`world` comes first", verb));
-                }
-                let header = Header::read(alloc, &mut words)?;
+                let header = begun(alloc, verb, &mut words)?;
                 self.set(Session::Header(header));
                 Ok(String::new(alloc))
             }
-            Session::Header(header) => {
-                if verb != "start" {
-                    header.take(verb, &mut words)?;
-                    return Ok(String::new(alloc));
-                }
-                words.end()?;
-                let host = Box::new(alloc, header.start(alloc)?).map_err(AllocError::from)?;
+            Session::Header(header) if verb == "start" => {
+                let host = started(alloc, header, &mut words)?;
                 self.set(Session::Running(host));
                 Ok(String::from_str(alloc, "ok\n")?)
+            }
+            Session::Header(header) => {
+                header.take(verb, &mut words)?;
+                Ok(String::new(alloc))
             }
             Session::Running(host) => go_on(alloc, host, verb, &mut words),
             Session::Ended => Ok(String::new(alloc)),
@@ -77,6 +78,24 @@ fn text_of<'a>(line: &'a [u8]) -> Result<&'a str, Stop<'a>> {
     Ok(text)
 }
 
+// What the first line of a script asks for.
+fn begun<'a>(alloc: Global, verb: &'a str, words: &mut Words<'a>) -> Result<Header, Stop<'a>> {
+    if verb != "world" {
+        return Err(Stop::Order("`world` comes first", verb));
+    }
+    Header::read(alloc, words)
+}
+
+// The host that the header asks for, at the header's end.
+fn started<'a>(
+    alloc: Global,
+    header: &Header,
+    words: &mut Words<'a>,
+) -> Result<Box<Host>, Stop<'a>> {
+    words.end()?;
+    header.start(alloc)
+}
+
 /// Takes a line once the host runs: its answer, and the frames that were sent then.
 fn go_on<'a>(
     alloc: Global,
@@ -96,10 +115,39 @@ fn play<'a>(
     verb: &'a str,
     words: &mut Words<'a>,
 ) -> Result<Answer, Stop<'a>> {
+    match kind_of(verb) {
+        Kind::Stream => streams::play(alloc, host, verb, words),
+        Kind::Datagram => datagrams::play(alloc, host, verb, words),
+        Kind::Set => settings::set(host, words),
+        Kind::Get => settings::get(host, words),
+        Kind::Host => host_lines::play(host, verb, words),
+        Kind::Ask => asks::play(host, words),
+        Kind::Poll => polls::play(host, verb, words),
+        Kind::Device => device_lines::play(alloc, host, verb, words),
+        Kind::Before => Err(Stop::Order("it stands before the host runs", verb)),
+        Kind::None => Err(Stop::Wrong("such line", verb)),
+    }
+}
+
+// What a line is about.
+#[derive(Clone, Copy)]
+enum Kind {
+    Stream,
+    Datagram,
+    Set,
+    Get,
+    Host,
+    Ask,
+    Poll,
+    Device,
+    /// It stands in the header of a script.
+    Before,
+    None,
+}
+
+fn kind_of(verb: &str) -> Kind {
     match verb {
-        "listen" | "connect" | "send" | "recv" | "close" | "abort" | "state" => {
-            streams::play(alloc, host, verb, words)
-        }
+        "listen" | "connect" | "send" | "recv" | "close" | "abort" | "state" => Kind::Stream,
         "bind"
         | "ident"
         | "errors"
@@ -108,9 +156,9 @@ fn play<'a>(
         | "sendraw"
         | "sendany"
         | "recvfrom"
-        | "peek" => datagrams::play(alloc, host, verb, words),
-        "set" => settings::set(host, words),
-        "get" => settings::get(host, words),
+        | "peek" => Kind::Datagram,
+        "set" => Kind::Set,
+        "get" => Kind::Get,
         "addrs"
         | "hw"
         | "route"
@@ -121,18 +169,12 @@ fn play<'a>(
         | "drop_route"
         | "no_routes"
         | "no_route_v4"
-        | "no_route_v6" => host_lines::play(host, verb, words),
-        "ask" => asks::play(host, words),
-        "poll" | "egress" | "ingress" | "maintain" | "pollat" | "delay" => {
-            polls::play(host, verb, words)
-        }
-        "frame" | "noise" | "room" | "refuse" | "refused" => {
-            device_lines::play(alloc, host, verb, words)
-        }
-        "world" | "socket" | "seed" | "mac" | "begins" | "checksums" | "start" => {
-            Err(Stop::Order("it stands before the host runs", verb))
-        }
-        _ => Err(Stop::Wrong("such line", verb)),
+        | "no_route_v6" => Kind::Host,
+        "ask" => Kind::Ask,
+        "poll" | "egress" | "ingress" | "maintain" | "pollat" | "delay" => Kind::Poll,
+        "frame" | "noise" | "room" | "refuse" | "refused" => Kind::Device,
+        "world" | "socket" | "seed" | "mac" | "begins" | "checksums" | "start" => Kind::Before,
+        _ => Kind::None,
     }
 }
 
