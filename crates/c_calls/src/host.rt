@@ -1,5 +1,6 @@
 //! A host: its link, its interface and its sockets.
-ghost use Rattle.std.specs.Prelude.{◌≡◌, length};
+ghost use Rattle.std.specs.Prelude.{◌≡◌, length, slice_set};
+ghost use Rattle.interface.specs.Set.{places, is_fixed, free};
 ghost use Rattle.c_link.specs.Link.{next_len, fetch_answer, fetched};
 ghost use Rattle.c_sockets.specs.Codes.{coded};
 ghost use Rattle.c_calls.specs.Calls.{counted, NewHost, TakesFrame, fetched_from, or_empty, PollsAt, AsksAt, device_of, config_of};
@@ -111,6 +112,21 @@ fn one_more(count: u64) -> u64
     ensures { result ≡ counted count }
 {
     count.saturating_add(1)
+}
+
+/// Why a socket wasn't added: a host's storage grows, so there is no memory. The socket is dropped.
+fn lack_of_memory(_refused: AddError<Socket>) -> Code
+    ensures { result ≡ Code.Memory }
+{
+    Code::Memory
+}
+
+/// Takes a socket out and drops it.
+fn give_up(sockets: &mut SocketSet<Socket>, handle: SocketHandle)
+    ensures after { places sockets.new ≡ slice_set (places sockets.old) handle.0 free }
+    ensures fixed { is_fixed sockets.new ≡ is_fixed sockets.old }
+{
+    let _ = sockets.remove(handle);
 }
 
 impl Host {
@@ -228,7 +244,7 @@ impl Host {
         if is_in_backlog(self.listeners.as_slice(), place) {
             return Err(Code::InBacklog);
         }
-        let _ = self.sockets.remove(handle);
+        give_up(&mut self.sockets, handle);
         Ok(())
     }
 
@@ -238,8 +254,7 @@ impl Host {
     {
         match self.sockets.add(socket) {
             Ok(handle) => Ok(handle.place()),
-            Err(AddError::Full(_)) => Err(Code::Full),
-            Err(AddError::Memory(_)) => Err(Code::Memory),
+            Err(refused) => Err(lack_of_memory(refused)),
         }
     }
 }
