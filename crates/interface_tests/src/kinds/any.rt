@@ -1,4 +1,5 @@
 //! Sockets of all kinds as one type.
+use crate::cases::all;
 use crate::kinds::script::Step::{Settle, Shows, Silent, Waits};
 use crate::kinds::script::{Kind, Step, made, play_at};
 use crate::kinds::udp::{ABC, Call, V4, goes};
@@ -6,21 +7,35 @@ use sockets::{AnySocket, Socket, icmp, raw, udp};
 use std::alloc::Global;
 use std::test::Fail;
 
-/// Of which kinds a new socket is: raw, ICMP, UDP.
-fn kinds(alloc: Global, kind: &Kind) -> Result<[bool; 3], Fail> {
-    let socket = made(alloc, kind)?;
+/// Of which kinds a socket is: raw, ICMP, UDP.
+fn kinds(socket: &Socket) -> [bool; 3] {
+    [
+        <raw::Socket as AnySocket>::downcast(socket).is_some(),
+        <icmp::Socket as AnySocket>::downcast(socket).is_some(),
+        <udp::Socket as AnySocket>::downcast(socket).is_some(),
+    ]
+}
+
+/// Of which kinds new sockets are: a raw one, one of ICMP and one of UDP.
+fn kinds_of_each(alloc: Global) -> Result<[[bool; 3]; 3], Fail> {
     Ok([
-        <raw::Socket as AnySocket>::downcast(&socket).is_some(),
-        <icmp::Socket as AnySocket>::downcast(&socket).is_some(),
-        <udp::Socket as AnySocket>::downcast(&socket).is_some(),
+        kinds(&made(alloc, &Kind::Raw(None, None))?),
+        kinds(&made(alloc, &Kind::Icmp)?),
+        kinds(&made(alloc, &Kind::Udp(64))?),
     ])
 }
 
 #[test]
 fn a_socket_is_of_its_own_kind(rt: HostRuntime) -> Result<(), Fail> {
-    assert!(rt; kinds(rt.alloc(), &Kind::Raw(None, None))? == [true, false, false]);
-    assert!(rt; kinds(rt.alloc(), &Kind::Icmp)? == [false, true, false]);
-    assert!(rt; kinds(rt.alloc(), &Kind::Udp(64))? == [false, false, true]);
+    let said = kinds_of_each(rt.alloc())?;
+    all(
+        &rt,
+        &[
+            said[0] == [true, false, false],
+            said[1] == [false, true, false],
+            said[2] == [false, false, true],
+        ],
+    );
     Ok(())
 }
 

@@ -1,4 +1,5 @@
 //! Calls that no script makes: how a TCP socket begins, what a raw socket takes, and a datagram that is handed out at once.
+use crate::cases::all;
 use crate::kinds::common::make_host;
 use crate::kinds::raw;
 use crate::kinds::udp::{V4, made};
@@ -28,9 +29,16 @@ fn says(socket: &tcp::Socket) -> (bool, bool, bool, bool) {
 #[test]
 fn a_tcp_socket_begins_closed(rt: HostRuntime) -> Result<(), Fail> {
     let mut socket = stream(rt.alloc())?;
-    assert!(rt; says(&socket) == (false, false, true, false));
+    let first = says(&socket);
     let listens = socket.listen(80).is_ok();
-    assert!(rt; listens && says(&socket) == (false, false, true, false));
+    all(
+        &rt,
+        &[
+            first == (false, false, true, false),
+            listens,
+            says(&socket) == (false, false, true, false),
+        ],
+    );
     Ok(())
 }
 

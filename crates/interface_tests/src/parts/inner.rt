@@ -19,11 +19,11 @@ fn host() -> Result<InterfaceInner, Fail> {
 #[test]
 fn numbers_datagrams(rt: HostRuntime) -> Result<(), Fail> {
     let mut host = host()?;
-    assert!(rt; host.take_ident() == 3);
+    let first = host.take_ident();
     for _ in 4..65_535u32 {
         let _ = host.take_ident();
     }
-    assert!(rt; host.take_ident() == 65_535);
-    assert!(rt; host.ident() == 0);
+    let last = host.take_ident();
+    assert!(rt; (first, last, host.ident()) == (3, 65_535, 0));
     Ok(())
 }

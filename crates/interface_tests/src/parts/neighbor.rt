@@ -1,4 +1,5 @@
 //! What a cache of neighbours has beside what a host asks of it.
+use crate::cases::all;
 use interface_tables::{Answer, Cache};
 use ip_wire::{EthernetAddress, HardwareAddress, IpAddress};
 use net_base::{Duration, Instant};
@@ -26,20 +27,32 @@ fn misses<const N: usize>(cache: &Cache<N>, last: u8, now: Instant) -> bool {
 fn renews(rt: HostRuntime) {
     let mut cache: Cache<4> = Cache::new();
     let soon = Instant::from_micros(1_000);
-    cache.fill_with_expiration(host(1), HARDWARE_A, soon);
-    assert!(rt; misses(&cache, 1, soon));
-    cache.reset_expiry_if_existing(host(1), HARDWARE_B, soon);
-    assert!(rt; misses(&cache, 1, soon));
-    cache.reset_expiry_if_existing(host(1), HARDWARE_A, soon);
-    assert!(rt; finds(&cache, 1, soon, HARDWARE_A));
     let last = Instant::from_micros(60_000_999);
-    assert!(rt; finds(&cache, 1, last, HARDWARE_A));
+    cache.fill_with_expiration(host(1), HARDWARE_A, soon);
+    let is_over = misses(&cache, 1, soon);
+    cache.reset_expiry_if_existing(host(1), HARDWARE_B, soon);
+    let is_over_yet = misses(&cache, 1, soon);
+    cache.reset_expiry_if_existing(host(1), HARDWARE_A, soon);
     cache.reset_expiry_if_existing(host(2), HARDWARE_A, soon);
-    assert!(rt; misses(&cache, 2, soon));
+    all(
+        &rt,
+        &[
+            is_over,
+            is_over_yet,
+            finds(&cache, 1, soon, HARDWARE_A),
+            finds(&cache, 1, last, HARDWARE_A),
+            misses(&cache, 2, soon),
+        ],
+    );
 }
 
 #[test]
 fn times_are_a_second_and_a_minute(rt: HostRuntime) {
-    assert!(rt; Cache::<4>::SILENT_TIME == Duration::from_micros(1_000_000));
-    assert!(rt; Cache::<4>::ENTRY_LIFETIME == Duration::from_micros(60_000_000));
+    all(
+        &rt,
+        &[
+            Cache::<4>::SILENT_TIME == Duration::from_micros(1_000_000),
+            Cache::<4>::ENTRY_LIFETIME == Duration::from_micros(60_000_000),
+        ],
+    );
 }

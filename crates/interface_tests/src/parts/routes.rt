@@ -1,7 +1,7 @@
 //! Default routes.
+use crate::cases::all;
 use interface_tables::{Route, Routes};
 use ip_wire::{IpAddress, Ipv4Address, Ipv6Address};
-use std::test::Fail;
 
 /// The router of a route.
 fn router(route: Option<Route>) -> Option<IpAddress> {
@@ -21,17 +21,24 @@ fn defaults(routes: &Routes<2>) -> (Option<IpAddress>, Option<IpAddress>) {
 
 /// Each family has one of its own, which another one of the family replaces.
 #[test]
-fn tells_default_routes(rt: HostRuntime) -> Result<(), Fail> {
+fn tells_default_routes(rt: HostRuntime) {
     let v4 = Ipv4Address::new(192, 168, 1, 1);
     let v6 = Ipv6Address::new(0xfd00, 0, 0, 0, 0, 0, 0, 1);
     let (router4, router6) = (Some(IpAddress::Ipv4(v4)), Some(IpAddress::Ipv6(v6)));
     let mut routes: Routes<2> = Routes::new();
-    assert!(rt; defaults(&routes) == (None, None));
+    let none = defaults(&routes);
     let _ = routes.add_default_ipv6_route(v6);
-    assert!(rt; defaults(&routes) == (None, router6));
+    let one = defaults(&routes);
     let _ = routes.add_default_ipv4_route(v4);
-    assert!(rt; defaults(&routes) == (router4, router6));
+    let two = defaults(&routes);
     let _ = routes.remove_default_ipv6_route();
-    assert!(rt; defaults(&routes) == (router4, None));
-    Ok(())
+    all(
+        &rt,
+        &[
+            none == (None, None),
+            one == (None, router6),
+            two == (router4, router6),
+            defaults(&routes) == (router4, None),
+        ],
+    );
 }

@@ -1,7 +1,7 @@
 //! Tests of a host's set of sockets.
+use crate::cases::all;
 use interface_egress::{AddError, SocketHandle, SocketSet, SocketStorage};
 use net_base::ManagedSlice;
-use std::alloc::AllocError;
 use std::process::Abort;
 
 type Sockets = SocketSet<u32>;
@@ -15,48 +15,59 @@ fn holds(set: &Sockets, handle: SocketHandle, socket: Option<u32>) -> bool {
     set.get(handle).copied() == socket
 }
 
-fn one_place(rt: &HostRuntime) -> Result<Sockets, AllocError> {
-    let storage = Vec::from_array(rt.alloc(), [SocketStorage { inner: None }])?;
-    Ok(SocketSet::new(ManagedSlice::Fixed(storage)))
+fn one_place(rt: &(impl Abort + AllocGlobal)) -> Sockets {
+    let storage = Vec::from_array(rt.alloc(), [SocketStorage { inner: None }]);
+    SocketSet::new(ManagedSlice::Fixed(storage.expect(rt, "memory")))
 }
 
 /// A set of one place: a second socket comes back.
 #[test]
-fn fixed_storage_is_full(rt: HostRuntime) -> Result<(), AllocError> {
-    let mut set = one_place(&rt)?;
+fn fixed_storage_is_full(rt: HostRuntime) {
+    let mut set = one_place(&rt);
     let first = added(&rt, &mut set, 7);
-    assert!(rt; first.place() == 0);
-    assert!(rt; matches!(set.add(8), Err(AddError::Full(8))));
-    assert!(rt; holds(&set, first, Some(7)));
-    Ok(())
+    all(
+        &rt,
+        &[
+            first.place() == 0,
+            matches!(set.add(8), Err(AddError::Full(8))),
+            holds(&set, first, Some(7)),
+        ],
+    );
 }
 
 #[test]
-fn a_removed_socket_is_gone(rt: HostRuntime) -> Result<(), AllocError> {
-    let mut set = one_place(&rt)?;
+fn a_removed_socket_is_gone(rt: HostRuntime) {
+    let mut set = one_place(&rt);
     let first = added(&rt, &mut set, 7);
-    assert!(rt; set.remove(first) == Some(7));
-    assert!(rt; set.remove(first).is_none());
-    assert!(rt; holds(&set, first, None));
-    Ok(())
+    all(
+        &rt,
+        &[
+            set.remove(first) == Some(7),
+            set.remove(first).is_none(),
+            holds(&set, first, None),
+        ],
+    );
 }
 
 #[test]
-fn a_handle_is_printed_by_its_place(rt: HostRuntime) -> Result<(), AllocError> {
-    let mut set = one_place(&rt)?;
-    let text = added(&rt, &mut set, 7).to_string(rt.alloc())?;
-    assert!(rt; text.as_str() == "#0");
-    Ok(())
+fn a_handle_is_printed_by_its_place(rt: HostRuntime) {
+    let mut set = one_place(&rt);
+    let text = added(&rt, &mut set, 7).to_string(rt.alloc());
+    assert!(rt; text.expect(&rt, "memory").as_str() == "#0");
 }
 
 /// The handle of a place is the one that a socket there has.
 #[test]
-fn a_place_has_its_handle(rt: HostRuntime) -> Result<(), AllocError> {
-    let mut set = one_place(&rt)?;
-    assert!(rt; added(&rt, &mut set, 7) == SocketHandle::at(0));
-    assert!(rt; holds(&set, SocketHandle::at(0), Some(7)));
-    assert!(rt; holds(&set, SocketHandle::at(1), None));
-    Ok(())
+fn a_place_has_its_handle(rt: HostRuntime) {
+    let mut set = one_place(&rt);
+    all(
+        &rt,
+        &[
+            added(&rt, &mut set, 7) == SocketHandle::at(0),
+            holds(&set, SocketHandle::at(0), Some(7)),
+            holds(&set, SocketHandle::at(1), None),
+        ],
+    );
 }
 
 /// Storage that grows; a place that becomes free is taken first.
@@ -64,12 +75,19 @@ fn a_place_has_its_handle(rt: HostRuntime) -> Result<(), AllocError> {
 fn owned_storage_grows(rt: HostRuntime) {
     let mut set: Sockets = SocketSet::new(ManagedSlice::Owned(Vec::new(rt.alloc())));
     let (first, second) = (added(&rt, &mut set, 7), added(&rt, &mut set, 8));
-    assert!(rt; first.place() == 0 && second.place() == 1);
-    assert!(rt; set.remove(first) == Some(7));
+    let removed = set.remove(first);
     let third = added(&rt, &mut set, 9);
-    assert!(rt; third.place() == 0);
-    assert!(rt; holds(&set, second, Some(8)));
-    assert!(rt; holds(&set, third, Some(9)));
+    all(
+        &rt,
+        &[
+            first.place() == 0,
+            second.place() == 1,
+            removed == Some(7),
+            third.place() == 0,
+            holds(&set, second, Some(8)),
+            holds(&set, third, Some(9)),
+        ],
+    );
 }
 
 /// Sockets 7 and 9, with an unused place between them.
@@ -100,53 +118,84 @@ fn apart(rt: &(impl Abort + AllocGlobal)) -> TwoSockets {
 fn used_places_in_order(rt: HostRuntime) {
     let apart = apart(&rt);
     let mut sockets = apart.set.iter();
-    assert!(rt; matches!(sockets.next(), Some((handle, 7)) if handle == apart.first));
-    assert!(rt; matches!(sockets.next(), Some((handle, 9)) if handle == apart.last));
-    assert!(rt; sockets.next().is_none() && sockets.next().is_none());
+    all(
+        &rt,
+        &[
+            matches!(sockets.next(), Some((handle, 7)) if handle == apart.first),
+            matches!(sockets.next(), Some((handle, 9)) if handle == apart.last),
+            sockets.next().is_none(),
+            sockets.next().is_none(),
+        ],
+    );
 }
 
-/// Each socket is lent once, at its handle, and keeps what is written.
-#[test]
-fn each_socket_is_lent_in_order(rt: HostRuntime) {
-    let TwoSockets {
-        mut set,
-        first,
-        unused,
-        last,
-    } = apart(&rt);
+/// Adds 10 to each socket, and tells their places as digits.
+fn adds_ten(set: &mut Sockets) -> usize {
     let mut places = 0usize;
     for (handle, socket) in set.iter_mut() {
         places = places.wrapping_mul(10).wrapping_add(handle.place());
         *socket = socket.wrapping_add(10);
     }
-    assert!(rt; places == 2);
-    assert!(rt; holds(&set, first, Some(17)));
-    assert!(rt; holds(&set, last, Some(19)));
-    assert!(rt; holds(&set, unused, None));
+    places
+}
+
+/// Each socket is lent once, at its handle, and keeps what is written.
+#[test]
+fn each_socket_is_lent_in_order(rt: HostRuntime) {
+    let mut apart = apart(&rt);
+    all(
+        &rt,
+        &[
+            adds_ten(&mut apart.set) == 2,
+            holds(&apart.set, apart.first, Some(17)),
+            holds(&apart.set, apart.last, Some(19)),
+            holds(&apart.set, apart.unused, None),
+        ],
+    );
+}
+
+/// Puts its place into each socket.
+fn write_places(set: &mut Sockets) {
+    for (handle, socket) in set {
+        *socket = u32::try_from(handle.place()).unwrap_or(9);
+    }
+}
+
+/// The sockets as digits.
+fn digits(set: &Sockets) -> u32 {
+    let mut sum = 0u32;
+    for (_, socket) in set {
+        sum = sum.wrapping_mul(10).wrapping_add(*socket);
+    }
+    sum
 }
 
 /// A loop over a set goes through its sockets, read or lent.
 #[test]
 fn a_loop_goes_through_a_set(rt: HostRuntime) {
     let mut apart = apart(&rt);
-    for (handle, socket) in &mut apart.set {
-        *socket = u32::try_from(handle.place()).unwrap_or(9);
-    }
-    let mut sum = 0u32;
-    for (_, socket) in &apart.set {
-        sum = sum.wrapping_mul(10).wrapping_add(*socket);
-    }
-    assert!(rt; sum == 2);
-    assert!(rt; holds(&apart.set, apart.last, Some(2)));
+    write_places(&mut apart.set);
+    all(
+        &rt,
+        &[
+            digits(&apart.set) == 2,
+            holds(&apart.set, apart.last, Some(2)),
+        ],
+    );
 }
 
 #[test]
 fn used_handles_in_order(rt: HostRuntime) {
     let apart = apart(&rt);
     let mut handles = apart.set.handles();
-    assert!(rt; handles.next() == Some(apart.first));
-    assert!(rt; handles.next() == Some(apart.last));
-    assert!(rt; handles.next().is_none());
+    all(
+        &rt,
+        &[
+            handles.next() == Some(apart.first),
+            handles.next() == Some(apart.last),
+            handles.next().is_none(),
+        ],
+    );
 }
 
 /// A socket is lent where it stands.
@@ -158,8 +207,13 @@ fn a_socket_is_lent(rt: HostRuntime) {
     {
         *socket = 19;
     }
-    assert!(rt; holds(&apart.set, apart.last, Some(19)));
-    assert!(rt; apart.set.get_mut(apart.unused).is_none());
+    all(
+        &rt,
+        &[
+            holds(&apart.set, apart.last, Some(19)),
+            apart.set.get_mut(apart.unused).is_none(),
+        ],
+    );
 }
 
 /// A socket is updated where it stands.
@@ -171,7 +225,12 @@ fn a_socket_is_updated(rt: HostRuntime) {
         *socket = 1;
         old
     });
-    assert!(rt; old == Some(9));
-    assert!(rt; holds(&apart.set, apart.last, Some(1)));
-    assert!(rt; apart.set.update(apart.unused, |socket| *socket).is_none());
+    all(
+        &rt,
+        &[
+            old == Some(9),
+            holds(&apart.set, apart.last, Some(1)),
+            apart.set.update(apart.unused, |socket| *socket).is_none(),
+        ],
+    );
 }
