@@ -6,6 +6,7 @@ ghost use Rattle.std.specs.Fn.{FnOnceTakesAtMut, FnOnceReturnsAtMut};
 ghost use Rattle.net_base.specs.Packets.{used_room, first};
 ghost use Rattle.ip_address.specs.Text.{endpoint_text};
 ghost use Rattle.ip_address.specs.declared.ip.IpListenEndpoint.{IpListenEndpoint};
+ghost use Rattle.ip_address.specs.declared.ip.IpAddress.TheVariants as Address;
 ghost use Rattle.socket_base.specs.Offers.{IsBefore};
 ghost use Rattle.socket_base.specs.Context.{ContextValue};
 ghost use Rattle.socket_base.specs.Packet.{PacketValue, IsSendable, option_value};
@@ -23,7 +24,7 @@ ghost use Rattle.datagram_sockets.specs.declared.error.RecvError.TheVariants as 
 pub use crate::error::{BindError, RecvError, SendError};
 use crate::header::{DEFAULT_HOP_LIMIT, forget_offer, header_between};
 use crate::queues::Queues;
-use ip_address::{IpAddress, IpEndpoint, IpListenEndpoint, IpProtocol};
+use ip_address::{IpAddress, IpEndpoint, IpListenEndpoint, IpProtocol, Ipv4Address, Ipv6Address};
 use ip_packet::udp::field::HEADER_LEN as UDP_HEADER_LEN;
 use ip_packet::{IpRepr, UdpRepr};
 use net_base::PacketMeta;
@@ -56,6 +57,22 @@ impl From<(IpAddress, u16)> for UdpMetadata {
     ghost from_gives = { λ pair metadata. metadata ≡ metadata_to (record { addr = pair.0; port = pair.1 }) };
 
     fn from(value: (IpAddress, u16)) -> UdpMetadata {
+        UdpMetadata::from(IpEndpoint::from(value))
+    }
+}
+
+impl From<(Ipv4Address, u16)> for UdpMetadata {
+    ghost from_gives = { λ pair metadata. metadata ≡ metadata_to (record { addr = Address.Ipv4 pair.0; port = pair.1 }) };
+
+    fn from(value: (Ipv4Address, u16)) -> UdpMetadata {
+        UdpMetadata::from(IpEndpoint::from(value))
+    }
+}
+
+impl From<(Ipv6Address, u16)> for UdpMetadata {
+    ghost from_gives = { λ pair metadata. metadata ≡ metadata_to (record { addr = Address.Ipv6 pair.0; port = pair.1 }) };
+
+    fn from(value: (Ipv6Address, u16)) -> UdpMetadata {
         UdpMetadata::from(IpEndpoint::from(value))
     }
 }

@@ -9,7 +9,8 @@ use Rattle.dhcp_wire.specs.MessageType.{type_number, opcode_of, op_number}
 use Rattle.dhcp_wire.specs.Options.{OptionValue, options_in, is_area, last_of, seen}
 use Rattle.dhcp_wire.specs.Packet.{IsWhole, overload_number, overload_of, file_area, sname_area, option_of}
 use Rattle.dhcp_wire.specs.Values.{has_length, has_addresses, address_in, number16_in, number32_in, station_in, servers_in}
-use Rattle.dhcp_wire.specs.Written.{slots, slots_bytes, options_bytes, padding, written, address_inside, number16_inside, number32_inside, station_inside, addresses_bytes}
+use Rattle.dhcp_wire.specs.Written.{slots, slots_bytes, options_bytes, padding, written}
+use Rattle.dhcp_wire.specs.Written.{address_inside, number16_inside, number32_inside, station_inside, addresses_bytes}
 use Rattle.dhcp_wire.specs.Written.{addresses_inside}
 use Rattle.dhcp_wire.specs.Normal.{IsValue, is_read, normal}
 use Rattle.dhcp_wire.specs.declared.repr.DhcpRepr.{DhcpRepr}

@@ -113,5 +113,6 @@ four-before a b c d rest = simp append_assoc refl
 pub options_bytes-slots : (v : DhcpRepr) → options_bytes v ≡ slots_bytes (slots v) ++ v.additional_options.now
 unfolding client_bytes name_bytes time_bytes network_bytes
 options_bytes-slots v =
-    four-before (slots_bytes (client_slots v)) (slots_bytes (name_slots v)) (slots_bytes (time_slots v)) (slots_bytes (network_slots v)) v.additional_options.now
+    four-before (slots_bytes (client_slots v)) (slots_bytes (name_slots v)) (slots_bytes (time_slots v)) (slots_bytes (network_slots v))
+    v.additional_options.now
     ∙ ap (λ xs. xs ++ v.additional_options.now) (sym (known-slots v))

@@ -23,7 +23,8 @@ IsBefore n bytes rest = options_in n (bytes ++ rest) ≡ options_in n bytes ++ o
 one-before : (kind n : ℕ) (inner rest : List ℕ) → n ≤ length inner → IsBefore n inner rest
     → option_before kind (n ∷ (inner ++ rest)) (options_in n (inner ++ rest)) ≡ option_before kind (n ∷ inner) (options_in n inner) ++ options_in 0 rest
 one-before kind n inner rest le next =
-    ap (with_length kind (take n (inner ++ rest)) (options_in n (inner ++ rest))) (le-leb n (length (inner ++ rest)) (omega (arith, le, length-append inner rest)))
+    ap (with_length kind (take n (inner ++ rest)) (options_in n (inner ++ rest)))
+    (le-leb n (length (inner ++ rest)) (omega (arith, le, length-append inner rest)))
     ∙ ap (λ xs. with_length kind xs (options_in n (inner ++ rest)) true) (take-append-le n inner rest le)
     ∙ ap (λ os. with_length kind (take n inner) os true) next
     ∙ ap (λ t. with_length kind (take n inner) (options_in n inner) t ++ options_in 0 rest) (sym (le-leb n (length inner) le))

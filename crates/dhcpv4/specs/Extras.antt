@@ -1,5 +1,6 @@
 -- What the messages of the client carry beside its own options (RFC 2131, sections 3.5 and 4.4.1; RFC 2132).
-use Rattle.std.specs.Prelude.{◌≡◌, ◌==◌, ◌||◌, ℕ, ◌+◌, ◌-◌, ◌<◌, ◌≤◌, nat_lt, Bool, IsTrue, if◌then◌else◌, Option, Some, None, Result, Ok, Err, List, [], ◌∷◌, length}
+use Rattle.std.specs.Prelude.{◌≡◌, ◌==◌, ◌||◌, ℕ, ◌+◌, ◌-◌, ◌<◌, ◌≤◌, nat_lt, Bool, IsTrue, if◌then◌else◌}
+use Rattle.std.specs.Prelude.{Option, Some, None, Result, Ok, Err, List, [], ◌∷◌, length}
 use Rattle.dhcp_wire.specs.Options.{are_options}
 use Rattle.dhcp_wire.specs.Written.{inside_bytes}
 use Rattle.dhcp_wire.specs.declared.option.DhcpOption.{DhcpOption}

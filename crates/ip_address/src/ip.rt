@@ -429,6 +429,28 @@ impl From<(IpAddress, u16)> for IpEndpoint {
     }
 }
 
+impl From<(Ipv4Address, u16)> for IpEndpoint {
+    ghost from_gives = { λ pair endpoint. endpoint ≡ record { addr = Address.Ipv4 pair.0; port = pair.1 } };
+
+    fn from(value: (Ipv4Address, u16)) -> IpEndpoint {
+        IpEndpoint {
+            addr: IpAddress::Ipv4(value.0),
+            port: value.1,
+        }
+    }
+}
+
+impl From<(Ipv6Address, u16)> for IpEndpoint {
+    ghost from_gives = { λ pair endpoint. endpoint ≡ record { addr = Address.Ipv6 pair.0; port = pair.1 } };
+
+    fn from(value: (Ipv6Address, u16)) -> IpEndpoint {
+        IpEndpoint {
+            addr: IpAddress::Ipv6(value.0),
+            port: value.1,
+        }
+    }
+}
+
 impl fmt::Display for IpEndpoint {
     ghost output = { λ e. Some (endpoint_text e) };
 
@@ -481,6 +503,28 @@ impl From<(IpAddress, u16)> for IpListenEndpoint {
     fn from(value: (IpAddress, u16)) -> IpListenEndpoint {
         IpListenEndpoint {
             addr: Some(value.0),
+            port: value.1,
+        }
+    }
+}
+
+impl From<(Ipv4Address, u16)> for IpListenEndpoint {
+    ghost from_gives = { λ pair endpoint. endpoint ≡ record { addr = Some (Address.Ipv4 pair.0); port = pair.1 } };
+
+    fn from(value: (Ipv4Address, u16)) -> IpListenEndpoint {
+        IpListenEndpoint {
+            addr: Some(IpAddress::Ipv4(value.0)),
+            port: value.1,
+        }
+    }
+}
+
+impl From<(Ipv6Address, u16)> for IpListenEndpoint {
+    ghost from_gives = { λ pair endpoint. endpoint ≡ record { addr = Some (Address.Ipv6 pair.0); port = pair.1 } };
+
+    fn from(value: (Ipv6Address, u16)) -> IpListenEndpoint {
+        IpListenEndpoint {
+            addr: Some(IpAddress::Ipv6(value.0)),
             port: value.1,
         }
     }
