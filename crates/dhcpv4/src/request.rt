@@ -49,6 +49,8 @@ impl Kind {
         let requested_ip = self.requested_ip();
         let server_identifier = self.server_identifier();
         has_six_bytes(station);
+        let parameter_request_list = extras.parameters();
+        let additional_options = extras.options();
         DhcpRepr {
             message_type: self.message_type(),
             transaction_id,
@@ -64,14 +66,14 @@ impl Kind {
             requested_ip,
             client_identifier: Some(station),
             server_identifier,
-            parameter_request_list: extras.parameters(),
+            parameter_request_list,
             host_name: None,
             dns_servers: [None; MAX_DNS_SERVER_COUNT],
             max_size: Some(size_for(mtu)),
             lease_duration: None,
             renew_duration: None,
             rebind_duration: None,
-            additional_options: extras.options(),
+            additional_options,
         }
     }
 
