@@ -1,3 +1,4 @@
+pub mod NothingHeld
 pub mod FirstNumbers
 pub mod Words
 pub mod SipSteps

@@ -1,8 +1,8 @@
 -- What the remote holds of what was sent past SND.UNA, as its selective acknowledgements say (RFC 2018): the scoreboard of RFC 6675, 3.
 -- It is a set of runs without order, each apart from the others.
-use Rattle.std.specs.Prelude.{ℕ, ◌+◌, ◌-◌, ◌*◌, ◌^◌, nat_le, nat_lt, not, ◌&&◌, ◌||◌, min, max}
+use Rattle.std.specs.Prelude.{ℕ, ◌+◌, ◌-◌, ◌*◌, ◌==◌, nat_le, nat_lt, not, ◌&&◌, ◌||◌, min, max}
 use Rattle.std.specs.Prelude.{Bool, if◌then◌else◌, List, map, replicate, slice_set, Option, Some, None}
-use Rattle.std.specs.List.{fold, list_any, position}
+use Rattle.std.specs.List.{fold, list_any, list_all, position}
 use Rattle.tcp_control.specs.declared.scoreboard.Run.{Run}
 
 abbrev pub no_run : Run
@@ -68,6 +68,14 @@ abbrev pub after_ack : List Run → ℕ → List Run
 after_ack runs by = if reneges runs by then no_runs else map (lowered by) runs
 
 -- WHAT ISN'T HELD
+
+-- it is `no_run`
+abbrev pub is_none : Run → Bool
+is_none r = (r.start == 0) && (r.end == 0)
+
+-- nothing is held: there is no run
+abbrev pub is_empty : List Run → Bool
+is_empty runs = list_all is_none runs
 
 -- so many numbers, as far as 32 bits tell
 abbrev pub sum_of : ℕ → ℕ → ℕ

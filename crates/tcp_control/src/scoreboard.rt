@@ -1,7 +1,7 @@
 //! What the remote holds of what was sent past SND.UNA, as its selective acknowledgements say (RFC 2018): the scoreboard of RFC 6675.
 ghost use Rattle.std.specs.Prelude.{◌≡◌};
 ghost use Rattle.tcp_control.specs.Scoreboard.{is_run, lies_in, meets, hull, lowered, hull_of, apart, without, free_place, placed};
-ghost use Rattle.tcp_control.specs.Scoreboard.{noted, reneges, after_ack, held, held_below, missing};
+ghost use Rattle.tcp_control.specs.Scoreboard.{noted, reneges, after_ack, is_empty, held, held_below, missing};
 ghost use Rattle.tcp_control.specs.Scoreboard.{first_missing, gap_end, runs_above, octets_above, is_lost, lost_end, no_runs, no_run};
 
 /// Positions behind one another, as distances from SND.UNA: the first, and the one behind the last. Where
@@ -122,11 +122,26 @@ impl Scoreboard {
         self.runs.iter().position(|other| !other.is_run())
     }
 
+    /// Whether there is no run, as where nothing was lost: what looks for runs asks this first. The words are
+    /// put together without a branch, so several at a time.
+    fn is_empty(&self) -> bool
+        ensures { result ≡ is_empty self.now.runs }
+    {
+        self.runs
+            .iter()
+            .fold(0, |all, run| all | run.start | run.end)
+            == 0
+    }
+
     /// SND.UNA rose by so much. A run that then begins there was given up by the remote: then none is
     /// believed any more.
+    #[tactic(auto, using(crate::proofs::NothingHeld::none_after_ack))]
     pub fn acknowledge(&mut self, by: u32)
         ensures { self.new.runs ≡ after_ack self.old.runs by }
     {
+        if self.is_empty() {
+            return;
+        }
         if self.reneges(by) {
             *self = Scoreboard::EMPTY;
             return;
@@ -163,16 +178,24 @@ impl Scoreboard {
     }
 
     /// How many positions below this one aren't held.
+    #[tactic(auto, using(crate::proofs::NothingHeld::none_missing))]
     pub fn missing(&self, place: u32) -> u32
         ensures { result ≡ missing self.now.runs place }
     {
+        if self.is_empty() {
+            return place;
+        }
         place.saturating_sub(self.held_below(place))
     }
 
     /// The first position from this one on that isn't held.
+    #[tactic(auto, using(crate::proofs::NothingHeld::first_of_none))]
     pub fn first_missing(&self, place: u32) -> u32
         ensures { result ≡ first_missing self.now.runs place }
     {
+        if self.is_empty() {
+            return place;
+        }
         self.runs.iter().fold(place, |place, run| {
             if run.lies_in(place) { run.end } else { place }
         })
@@ -219,9 +242,13 @@ impl Scoreboard {
 
     /// Whether the position is lost (RFC 6675, 4): so many runs behind it are held, or more than one
     /// less of segments.
+    #[tactic(auto, using(crate::proofs::NothingHeld::none_lost))]
     pub fn is_lost(&self, threshold: u8, mss: u16, place: u32) -> bool
         ensures { result ≡ is_lost self.now.runs threshold mss place }
     {
+        if self.is_empty() {
+            return threshold == 0;
+        }
         threshold <= self.runs_above(place)
             || threshold.saturating_sub(1) as u32 * (mss as u32) < self.octets_above(place)
     }
