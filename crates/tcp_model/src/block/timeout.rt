@@ -107,7 +107,7 @@ impl Block {
     pub fn is_probing(&self, queued: usize) -> bool
         ensures { result ≡ is_probing self.now queued }
     {
-        self.state.sends_text() && self.is_window_small(queued) && self.sender.in_flight == 0
+        self.sender.in_flight == 0 && self.state.sends_text() && self.is_window_small(queued)
     }
 
     /// Forgets the moment of the next probe where the window isn't probed any more.
