@@ -218,9 +218,9 @@ hands_damaged i places ip payload taken a (carried, is, handed) bare =
     let none = nothing_of i.checksums ip payload carried (subst Q straight.1 (subst P straight.0 is)) bare in (
       handed_kept i places ip None a.places tt (subst (λ (c : Option PayloadValue). HandsTo i places ip c a.places) none handed.places_are),
       handed.reply
-      ∙ ap (λ c. answered (limited_reply i places ip payload taken c)) none
-      ∙ ap (λ o. answered (let_go (is_v4 ip) i o)) (no_reply i places ip payload taken bare.0)
-      ∙ ap answered (let_go_none (is_v4 ip) i),
+          ∙ ap (λ c. answered (limited_reply i places ip payload taken c)) none
+          ∙ ap (λ o. answered (let_go (is_v4 ip) i o)) (no_reply i places ip payload taken bare.0)
+          ∙ ap answered (let_go_none (is_v4 ip) i),
     )
 
 damaged_in : (i : InnerValue) (places : Places) (link : Option EthernetRepr) (ip : IpRepr) (payload : List ℕ) (a : Arrived) →

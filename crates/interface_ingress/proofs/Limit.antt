@@ -25,21 +25,43 @@ let_go_none true i = refl
 let_go_none false i = refl
 
 -- where one more may go it goes
+if_allowed : (goes : Bool) (p : PacketValue) → goes ≡ true → (if goes then Some p else None) ≡ Some p
+if_allowed true p is = refl
+if_allowed false p is = absurd (cc is)
+
 pub let_go_same : (unclaimed : Bool) (i : InnerValue) (reply : Option PacketValue) → may_tell i ≡ true → let_go unclaimed i reply ≡ reply
 let_go_same true i None may = refl
-let_go_same true i (Some p) may = by (may_tell i) may where
-  by : (b : Bool) → b ≡ true → (if b then Some p else None) ≡ Some p
-  by true is = refl
-  by false is = absurd (cc is)
+let_go_same true i (Some p) may = if_allowed (may_tell i) p may
 let_go_same false i reply may = refl
 
--- where none may go none does
-pub let_go_nothing : (i : InnerValue) (reply : Option PacketValue) → may_tell i ≡ false → let_go true i reply ≡ None
-let_go_nothing i None not_now = refl
-let_go_nothing i (Some p) not_now = by (may_tell i) not_now where
-  by : (b : Bool) → b ≡ false → (if b then Some p else None) ≡ None
-  by true is = absurd (cc is)
-  by false is = refl
+-- what somebody takes is answered, and nothing is counted
+pub let_go_claimed : (unclaimed : Bool) (i : InnerValue) (reply : Option PacketValue) (after : InnerValue) → unclaimed ≡ false →
+    (let_go unclaimed i reply ≡ reply) × (counted unclaimed i reply after ≡ after)
+let_go_claimed true i reply after is = absurd (cc is)
+let_go_claimed false i reply after is = (refl, refl)
+
+-- what goes is counted
+if_went : (goes : Bool) (q p : PacketValue) (one other : InnerValue) → (if goes then Some q else None) ≡ Some p → (if goes then one else other) ≡ one
+if_went true q p one other is = refl
+if_went false q p one other is = absurd (cc is)
+
+pub let_go_counted : (unclaimed : Bool) (i : InnerValue) (reply : Option PacketValue) (after : InnerValue) (p : PacketValue) → unclaimed ≡ true →
+    let_go unclaimed i reply ≡ Some p → counted unclaimed i reply after ≡ with_error after
+let_go_counted true i None after p is goes = absurd (cc goes)
+let_go_counted true i (Some q) after p is goes = if_went (may_tell i) q p (with_error after) after goes
+let_go_counted false i reply after p is goes = absurd (cc is)
+
+-- where none may go none does, and nothing is counted
+if_stopped : (goes : Bool) (p : PacketValue) (one other : InnerValue) → goes ≡ false →
+    ((if goes then Some p else None) ≡ None) × ((if goes then one else other) ≡ other)
+if_stopped true p one other is = absurd (cc is)
+if_stopped false p one other is = (refl, refl)
+
+pub let_go_nothing : (unclaimed : Bool) (i : InnerValue) (reply : Option PacketValue) (after : InnerValue) → unclaimed ≡ true → may_tell i ≡ false →
+    (let_go unclaimed i reply ≡ None) × (counted unclaimed i reply after ≡ after)
+let_go_nothing true i None after is not_now = (refl, refl)
+let_go_nothing true i (Some p) after is not_now = if_stopped (may_tell i) p (with_error after) after not_now
+let_go_nothing false i reply after is not_now = absurd (cc is)
 
 -- THE HOST
 
