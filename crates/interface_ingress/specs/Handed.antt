@@ -146,7 +146,7 @@ handed_reply i places ip payload taken (Some (Datagram udp bytes)) = datagram_re
 handed_reply i places ip payload taken (Some (Segment header bytes)) = segment_reply i places ip taken header bytes
 handed_reply i places ip payload taken None = unread_reply i ip payload taken
 
--- THE LIMIT on errors and resets that answer what nobody takes (RFC 1812, section 4.3.2.8; RFC 4443, section 2.4 (f); RFC 5961,
+-- THE LIMIT on errors and resets that answer what nobody takes (RFC 1812, section 4.3.2.8; RFC 4443, section 2.4 f; RFC 5961,
 -- section 7): they are counted together. Of an IPv6 packet of which nothing was read its extension headers are told, without limit.
 
 abbrev pub is_v4 : IpRepr → Bool

@@ -1,4 +1,4 @@
--- How often a host tells that nobody takes what came, by an error or a reset (RFC 1812, section 4.3.2.8; RFC 4443, section 2.4 (f);
+-- How often a host tells that nobody takes what came, by an error or a reset (RFC 1812, section 4.3.2.8; RFC 4443, section 2.4 f;
 -- RFC 5961, section 7): sixteen times at once, and eight times a second from then on. Each answer counts for 125 ms; `until` is the
 -- moment up to which those that went are counted, at most two seconds ahead.
 use Rattle.std.specs.Prelude.{ℕ, Bool, true, not, ◌&&◌, ℤ, pos, ◌+ℤ◌, int_lt, List, [], ◌∷◌}

@@ -1,4 +1,4 @@
-//! How often a host answers what nobody takes, by an error or a reset (RFC 1812, section 4.3.2.8; RFC 4443, section 2.4 (f);
+//! How often a host answers what nobody takes, by an error or a reset (RFC 1812, section 4.3.2.8; RFC 4443, section 2.4 f;
 //! RFC 5961, section 7).
 ghost use Rattle.std.specs.Prelude.{◌≡◌, true};
 ghost use Rattle.std.specs.Int.{int_max};

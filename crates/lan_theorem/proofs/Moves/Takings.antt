@@ -95,7 +95,7 @@ module _ (names : List ℕ → Bool) (side : Side) (net now : Net) (r : Reaches 
         record {
           moved = end.moved;
           made = answered_made made_of (limited_reply i places ip payload taken carried)
-          (let_go_so (IsMade made_of) (is_unclaimed i places ip carried) i (handed_reply i places ip payload taken carried) end.made);
+              (let_go_so (IsMade made_of) (is_unclaimed i places ip carried) i (handed_reply i places ip payload taken carried) end.made);
         } in
         subst (λ (o : Option ReplyValue). Ended names side net now a.places o) (sym so.reply) given
 
