@@ -26,7 +26,8 @@ use Rattle.interface_tables.specs.Inner.{InnerValue}
 use Rattle.interface_ingress.specs.Arrives.{Arrived, ArrivesV4, ArrivesV6, ArrivesAs, Brings, Hands, is_direct, sender_of, renewed, renewed_by, answered}
 use Rattle.interface_ingress.specs.Delivered.{Places, given, changed_item, with_change, all_given, with_packet, packet_delivered, with_icmpv4, with_icmpv6}
 use Rattle.interface_ingress.specs.Delivered.{is_taken_raw}
-use Rattle.interface_ingress.specs.Handed.{handed_reply, is_v4, let_go, limited_reply, HandsTo, control_v4_places, control_v6_places, is_known_v4, is_known_v6, unread_v6}
+use Rattle.interface_ingress.specs.Handed.{handed_reply, HandsTo, control_v4_places, control_v6_places, is_known_v4, is_known_v6, unread_v6}
+use Rattle.interface_ingress.specs.Handed.{is_v4, let_go, limited_reply}
 use Rattle.interface_ingress.specs.Replies.{protocol_unreachable}
 use Rattle.interface_ingress.proofs.Limit.{let_go_none}
 use Rattle.interface_ingress.specs.Kept.{kept_by_kind, ports_item, ports_in, with_ports, NamesNoPorts, HaveNoPorts, IsDamaged}

@@ -66,8 +66,8 @@ let_go_nothing false i reply after is not_now = absurd (cc is)
 -- THE HOST
 
 -- what holds of a host holds of it behind an error, if no error changes it
-pub counted_so : (P : InnerValue → Type 0) (unclaimed : Bool) (i : InnerValue) (reply : Option PacketValue) (after : InnerValue) → P after → P (with_error after) →
-    P (counted unclaimed i reply after)
+pub counted_so : (P : InnerValue → Type 0) (unclaimed : Bool) (i : InnerValue) (reply : Option PacketValue) (after : InnerValue) → P after →
+    P (with_error after) → P (counted unclaimed i reply after)
 counted_so P false i reply after so error = so
 counted_so P true i None after so error = so
 counted_so P true i (Some p) after so error = elim (may_tell i) as (λ b. P (if b then with_error after else after)) [ true ↦ error | false ↦ so ]

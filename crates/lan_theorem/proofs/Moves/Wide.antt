@@ -233,8 +233,10 @@ hands_wide : (i : InnerValue) (places : Places) (ip : IpRepr) (payload : List �
 hands_wide i places ip payload taken a (carried, is, so) =
     subst RepliesWide (sym so.reply)
     (answered_wide (limited_reply i places ip payload taken carried)
-    (let_go_so GoesPlain (is_unclaimed i places ip carried) i (handed_reply i places ip payload taken carried) (replied_plain i places ip payload taken carried is))
-    (let_go_so NamesItsPayload (is_unclaimed i places ip carried) i (handed_reply i places ip payload taken carried) (replied_names i places ip payload taken carried)))
+    (let_go_so GoesPlain (is_unclaimed i places ip carried) i (handed_reply i places ip payload taken carried)
+    (replied_plain i places ip payload taken carried is))
+    (let_go_so NamesItsPayload (is_unclaimed i places ip carried) i (handed_reply i places ip payload taken carried)
+    (replied_names i places ip payload taken carried)))
 
 v4_wide : (ours : Bool) (i : InnerValue) (places : Places) (link : Option EthernetRepr) (ip : IpRepr) (payload : List ℕ) (a : Arrived) →
     ArrivesV4 ours i places link ip payload a → RepliesWide a.reply
