@@ -14,7 +14,14 @@ pub keeps_where : (i i' : InnerValue) → i' ≡ i → KeepsSettings i i'
 keeps_where i i' is = subst (λ (x : InnerValue). KeepsSettings i x) (sym is) refl
 
 pub keeps_then : (a b c : InnerValue) → KeepsSettings a b → KeepsSettings b c → KeepsSettings a c
-keeps_then a b c first second = second ∙ ap (λ (x : InnerValue). record x { random = c.random; neighbors = c.neighbors; ident = c.ident }) first
+keeps_then a b c first second =
+    second ∙ ap (λ (x : InnerValue). record x {
+      random = c.random;
+      neighbors =
+          c.neighbors;
+      ident = c.ident;
+      errors_until = c.errors_until;
+    }) first
 
 pub keeps_out : (i i' : InnerValue) → IsSameHost i i' → KeepsSettings i i'
 keeps_out i i' is = subst (λ (x : InnerValue). KeepsSettings i x) (sym is) refl

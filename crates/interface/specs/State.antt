@@ -29,4 +29,4 @@ sending_as h x ps = state x.device (record h { inner = x.inner; left = x.left })
 
 -- what a poll leaves of a host: nothing changed but random words, neighbours and the next identification
 abbrev pub KeepsSettings : InnerValue → InnerValue → Type 0
-KeepsSettings old new = new ≡ record old { random = new.random; neighbors = new.neighbors; ident = new.ident }
+KeepsSettings old new = new ≡ record old { random = new.random; neighbors = new.neighbors; ident = new.ident; errors_until = new.errors_until }

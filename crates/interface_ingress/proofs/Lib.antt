@@ -14,6 +14,7 @@ pub mod Answering
 pub mod Given
 pub mod Sizes
 pub mod Kept
+pub mod Limit
 pub mod Settings
 pub mod OneDatagram
 pub mod OneArrival

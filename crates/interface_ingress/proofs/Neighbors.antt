@@ -19,8 +19,9 @@ use Rattle.interface_ingress.specs.Arp.{teaches, learned, arp_arrived}
 use Rattle.interface_tables.specs.Inner.{InnerValue, context_of}
 use Rattle.interface_tables.specs.Neighbor.{CacheValue}
 use Rattle.interface_ingress.specs.Arrives.{Arrived, ArrivesV4, ArrivesV6, Brings, is_direct, sender_of, renewed, renewed_by}
-use Rattle.interface_ingress.specs.Delivered.{Places, drawn_if, packet_delivered, segment_draws}
-use Rattle.interface_ingress.specs.Handed.{handed_host, message_host, names_nobody, segment_host}
+use Rattle.interface_ingress.specs.Delivered.{Places, drawn_if, is_taken_raw, packet_delivered, segment_draws}
+use Rattle.interface_ingress.specs.Handed.{handed_host, handed_reply, is_unclaimed, limited_host, message_host, names_nobody, segment_host}
+use Rattle.interface_ingress.proofs.Limit.{counted_neighbors}
 use Rattle.interface_ingress.specs.Heard.{neighbor_heard}
 use Rattle.interface_ingress.specs.Reassembled.{is_control_v6}
 use Rattle.interface_ingress.specs.Kept.{RenewsOnly, LearnsOnly}
@@ -40,6 +41,11 @@ segment_neighbors i places ip header bytes =
 -- no control message of IPv6 comes in such a packet
 abbrev IsOther : IpRepr → Type 0
 IsOther ip = carried_in ip ≡ Protocol.Icmpv6 → ⊥
+
+limited_neighbors : (i : InnerValue) (places : Places) (ip : IpRepr) (payload : List ℕ) (taken : Bool) (carried : Option PayloadValue) →
+    (limited_host i places ip payload taken carried).neighbors ≡ (handed_host i places ip carried).neighbors
+limited_neighbors i places ip payload taken carried =
+    counted_neighbors (is_unclaimed i places ip carried) i (handed_reply i places ip payload taken carried) (handed_host i places ip carried)
 
 handed_v4 : (i : InnerValue) (places : Places) (header : Ipv4Repr) (carried : Option PayloadValue) →
     (handed_host i places (Ip.Ipv4 header) carried).neighbors ≡ i.neighbors
@@ -101,15 +107,20 @@ v4_renews : (ours : Bool) (i : InnerValue) (places : Places) (link : Option Ethe
     ArrivesV4 ours i places link (Ip.Ipv4 header) payload a → RenewsOnly i link (sender_of (Ip.Ipv4 header)) a.inner.neighbors
 v4_renews true i places link header payload a (carried, is, handed) =
     renews_along i link (Ip.Ipv4 header) a.inner.neighbors
-    (ap neighbors_in handed.inner ∙ handed_v4 (renewed i link (Ip.Ipv4 header)) (packet_delivered (Ip.Ipv4 header) payload places) header carried)
+    (ap neighbors_in handed.inner
+    ∙ limited_neighbors (renewed i link (Ip.Ipv4 header)) (packet_delivered (Ip.Ipv4 header) payload places) (Ip.Ipv4 header) payload
+    (is_taken_raw (Ip.Ipv4 header) places) carried
+    ∙ handed_v4 (renewed i link (Ip.Ipv4 header)) (packet_delivered (Ip.Ipv4 header) payload places) header carried)
 v4_renews false i places link header payload a h = unrenewed i link (Ip.Ipv4 header) a.inner.neighbors (ap neighbors_in h.inner)
 
 v6_renews : (ours : Bool) (i : InnerValue) (places : Places) (link : Option EthernetRepr) (header : Ipv6Repr) (payload : List ℕ) (a : Arrived) →
     ArrivesV6 ours i places link (Ip.Ipv6 header) payload a → IsOther (Ip.Ipv6 header) → RenewsOnly i link (sender_of (Ip.Ipv6 header)) a.inner.neighbors
 v6_renews true i places link header payload a (carried, is, handed) other =
     renews_along i link (Ip.Ipv6 header) a.inner.neighbors
-    (ap neighbors_in handed.inner ∙
-    handed_v6 (renewed i link (Ip.Ipv6 header)) (packet_delivered (Ip.Ipv6 header) payload places) header carried other)
+    (ap neighbors_in handed.inner
+    ∙ limited_neighbors (renewed i link (Ip.Ipv6 header)) (packet_delivered (Ip.Ipv6 header) payload places) (Ip.Ipv6 header) payload
+    (is_taken_raw (Ip.Ipv6 header) places) carried
+    ∙ handed_v6 (renewed i link (Ip.Ipv6 header)) (packet_delivered (Ip.Ipv6 header) payload places) header carried other)
 v6_renews false i places link header payload a h other = unrenewed i link (Ip.Ipv6 header) a.inner.neighbors (ap neighbors_in h.inner)
 
 pub renews_v4 : (i : InnerValue) (places : Places) (link : Option EthernetRepr) (header : Ipv4Repr) (piece : Ipv4Piece) (payload : List ℕ) (a : Arrived) →

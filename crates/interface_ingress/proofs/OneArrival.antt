@@ -11,7 +11,7 @@ use Rattle.interface_tables.specs.Inner.{InnerValue, context_of}
 use Rattle.interface_ingress.specs.Arrives.{Arrived, Arrives, ArrivesAs, ArrivesV4, ArrivesV6, Brings, Hands, IsHanded, IsSilent, answered, renewed}
 use Rattle.interface_ingress.specs.Arrives.{whole_after}
 use Rattle.interface_ingress.specs.Delivered.{Places, packet_delivered, is_taken_raw}
-use Rattle.interface_ingress.specs.Handed.{handed_host, handed_reply, HandsTo}
+use Rattle.interface_ingress.specs.Handed.{limited_host, limited_reply, HandsTo}
 use Rattle.interface_ingress.proofs.OneDatagram.{one_delivered}
 use Rattle.interface_ingress.specs.Reassembled.{Slots, taken_in}
 use Rattle.interface_ingress.specs.Upper.{upper_header, upper_payload}
@@ -32,10 +32,10 @@ one_handed : (i : InnerValue) (places : Places) (ip : IpRepr) (payload : List �
     IsHanded i places ip payload taken c a → IsHanded i places ip payload taken d b → a ≡ b
 one_handed i places ip payload taken c d a b same one other =
     same_arrived a b
-    (one.inner ∙ ap (λ x. handed_host i places ip x) same ∙ sym other.inner)
+    (one.inner ∙ ap (λ x. limited_host i places ip payload taken x) same ∙ sym other.inner)
     (one_places i places ip c a.places b.places one.places_are
     (subst (λ (x : Option PayloadValue). HandsTo i places ip x b.places) (sym same) other.places_are))
-    (one.reply ∙ ap (λ x. answered (handed_reply i places ip payload taken x)) same ∙ sym other.reply)
+    (one.reply ∙ ap (λ x. answered (limited_reply i places ip payload taken x)) same ∙ sym other.reply)
 
 one_hands : (i : InnerValue) (places : Places) (ip : IpRepr) (payload : List ℕ) (taken : Bool) (a b : Arrived) → Hands i places ip payload taken a →
     Hands i places ip payload taken b → a ≡ b

@@ -16,10 +16,11 @@ use Rattle.interface_ingress.specs.Heard.{neighbor_heard, with_entries_of}
 use Rattle.interface_ingress.proofs.Hearing.{entries-alone}
 use Rattle.interface_ingress.specs.Incoming.{IncomingValue, Arp, Ip4, Ip6}
 use Rattle.interface_ingress.specs.Arp.{teaches, learned, arp_arrived}
-use Rattle.interface_tables.specs.Inner.{InnerValue, context_of}
+use Rattle.interface_tables.specs.Inner.{InnerValue, context_of, with_error}
 use Rattle.interface_ingress.specs.Arrives.{Arrived, ArrivesV4, ArrivesV6, Brings, Hands, is_direct, sender_of, renewed, renewed_by}
 use Rattle.interface_ingress.specs.Delivered.{Places, drawn_if, packet_delivered, is_taken_raw, segment_draws}
-use Rattle.interface_ingress.specs.Handed.{handed_host, message_host, names_nobody, segment_host}
+use Rattle.interface_ingress.specs.Handed.{handed_host, handed_reply, is_unclaimed, limited_host, message_host, names_nobody, segment_host}
+use Rattle.interface_ingress.proofs.Limit.{counted_so}
 use Rattle.interface_ingress.specs.Kept.{HasSameSettings}
 use Rattle.interface_ingress.specs.Reassembled.{is_control_v6}
 
@@ -147,12 +148,36 @@ same_handed i places ip (Some (Datagram udp bytes)) = same_itself i
 same_handed i places ip (Some (Segment header bytes)) = same_segment i places ip header bytes
 same_handed i places ip None = same_itself i
 
+same_error : (i : InnerValue) → HasSameSettings i (with_error i)
+same_error i = record {
+  moment = refl;
+  hardware = refl;
+  mtu = refl;
+  checksums = refl;
+  addresses = refl;
+  isn_key = refl;
+  any_ip = refl;
+  routes = refl;
+  silent =
+      refl;
+  ident = refl;
+  fresh = refl;
+}
+
+same_limited : (i : InnerValue) (places : Places) (ip : IpRepr) (payload : List ℕ) (taken : Bool) (carried : Option PayloadValue) →
+    HasSameSettings i (limited_host i places ip payload taken carried)
+same_limited i places ip payload taken carried =
+    let after = handed_host i places ip carried in
+    let same = same_handed i places ip carried in
+    counted_so (λ (x : InnerValue). HasSameSettings i x) (is_unclaimed i places ip carried) i (handed_reply i places ip payload taken carried) after same
+    (same_then i after (with_error after) same (same_error after))
+
 same_in : (i : InnerValue) (places : Places) (link : Option EthernetRepr) (ip : IpRepr) (payload : List ℕ) (taken : Bool) (a : Arrived) →
     Hands (renewed i link ip) places ip payload taken a → HasSameSettings i a.inner
 same_in i places link ip payload taken a (carried, is, handed) =
-    same_at i (handed_host (renewed i link ip) places ip carried) a.inner handed.inner
-    (same_then i (renewed i link ip) (handed_host (renewed i link ip) places ip carried) (same_renewed i link ip)
-    (same_handed (renewed i link ip) places ip carried))
+    same_at i (limited_host (renewed i link ip) places ip payload taken carried) a.inner handed.inner
+    (same_then i (renewed i link ip) (limited_host (renewed i link ip) places ip payload taken carried) (same_renewed i link ip)
+    (same_limited (renewed i link ip) places ip payload taken carried))
 
 same_v4 : (ours : Bool) (i : InnerValue) (places : Places) (link : Option EthernetRepr) (ip : IpRepr) (payload : List ℕ) (a : Arrived) →
     ArrivesV4 ours i places link ip payload a → HasSameSettings i a.inner

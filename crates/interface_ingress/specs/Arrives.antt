@@ -16,7 +16,7 @@ use Rattle.interface_ingress.specs.Arp.{arp_arrived, arp_answer}
 use Rattle.interface_ingress.specs.Replies.{is_one_host}
 use Rattle.interface_tables.specs.Inner.{InnerValue, is_for_us, with_renewal}
 use Rattle.interface_ingress.specs.Delivered.{Places, is_taken_raw, packet_delivered}
-use Rattle.interface_ingress.specs.Handed.{handed_host, handed_reply, HandsTo}
+use Rattle.interface_ingress.specs.Handed.{limited_host, limited_reply, HandsTo}
 use Rattle.interface_ingress.specs.Reassembled.{Slots, taken_in, place_in, kept, whole_of, released}
 use Rattle.interface_ingress.specs.declared.reply.Reply.{Reply}
 use Rattle.interface_ingress.specs.declared.reply.Reply.TheVariants as Answer
@@ -62,9 +62,9 @@ IfCanGo reply = IfSome reply CanGo
 -- the host, the sockets and the answer after a payload
 pub record IsHanded (i : InnerValue) (places : Places) (ip : IpRepr) (payload : List ℕ) (taken : Bool) (carried : Option PayloadValue)
     (a : Arrived) : Type 0 where
-  pub inner : a.inner ≡ handed_host i places ip carried
+  pub inner : a.inner ≡ limited_host i places ip payload taken carried
   pub places_are : HandsTo i places ip carried a.places
-  pub reply : a.reply ≡ answered (handed_reply i places ip payload taken carried)
+  pub reply : a.reply ≡ answered (limited_reply i places ip payload taken carried)
 
 -- a packet of which these bytes behind this header count
 abbrev pub HandsUpper : InnerValue → Places → IpRepr → List ℕ → Bool → IpRepr → List ℕ → Arrived → Type 0

@@ -1,6 +1,6 @@
 -- What a packet for the host carries, given to sockets and tables, and what is answered at once (RFC 1122, sections 3.2.2, 4.1.3.1
 -- and 4.2.3.9; RFC 4443; RFC 9293, section 3.10.7.1).
-use Rattle.std.specs.Prelude.{◌≡◌, ℕ, ◌+◌, ◌<◌, ◌^◌, ◌||◌, ◌&&◌, Bool, true, false, if◌then◌else◌, List, length, Option, None, Some, is_some}
+use Rattle.std.specs.Prelude.{◌≡◌, ℕ, ◌+◌, ◌<◌, ◌^◌, ◌||◌, ◌&&◌, not, Bool, true, false, if◌then◌else◌, List, length, Option, None, Some, is_some}
 use Rattle.icmpv4.specs.declared.header.Icmpv4Header.{Icmpv4Header}
 use Rattle.icmpv6.specs.Icmpv6 as Icmpv6
 use Rattle.icmpv6.specs.Icmpv6.{MessageValue}
@@ -23,10 +23,10 @@ use Rattle.socket_base.specs.Packet.{PacketValue, PayloadValue, ControlV4, Contr
 use Rattle.interface_ingress.specs.Heard.{neighbor_heard}
 use Rattle.interface_ingress.specs.Reassembled.{is_control_v6}
 use Rattle.interface_ingress.specs.Replies.{echo_v4, echo_v6, port_unreachable, protocol_unreachable, parameter_problem}
-use Rattle.interface_tables.specs.Inner.{InnerValue, context_of, is_local_broadcast}
+use Rattle.interface_tables.specs.Inner.{InnerValue, context_of, is_local_broadcast, may_tell, with_error}
 use Rattle.interface_ingress.specs.Datagrams.{IsDelivered}
 use Rattle.interface_ingress.specs.Delivered.{Places, icmpv4_delivered, icmpv6_delivered, datagram_place, segment_answer, segment_delivered}
-use Rattle.interface_ingress.specs.Delivered.{segment_draws, drawn_if}
+use Rattle.interface_ingress.specs.Delivered.{segment_draws, segment_place, drawn_if}
 
 -- CONTROL MESSAGES
 
@@ -145,6 +145,51 @@ handed_reply i places ip payload taken (Some (Bytes bytes)) = None
 handed_reply i places ip payload taken (Some (Datagram udp bytes)) = datagram_reply i places ip payload taken udp
 handed_reply i places ip payload taken (Some (Segment header bytes)) = segment_reply i places ip taken header bytes
 handed_reply i places ip payload taken None = unread_reply i ip payload taken
+
+-- THE LIMIT on errors and resets that answer what nobody takes (RFC 1812, section 4.3.2.8; RFC 4443, section 2.4 f; RFC 5961,
+-- section 7): they are counted together. Of an IPv6 packet of which nothing was read its extension headers are told, without limit.
+
+abbrev pub is_v4 : IpRepr → Bool
+is_v4 (Ip.Ipv4 header) = true
+is_v4 (Ip.Ipv6 header) = false
+
+-- the segment names two hosts, and no socket takes it
+abbrev pub is_stray : InnerValue → Places → IpRepr → TcpHeader → Bool
+is_stray i places ip header = not (names_nobody i ip) && not (is_some (segment_place ip header places))
+
+-- no socket takes what the packet carries, and an error or a reset may tell so
+abbrev pub is_unclaimed : InnerValue → Places → IpRepr → Option PayloadValue → Bool
+is_unclaimed i places ip (Some (Datagram udp bytes)) = not (is_some (datagram_place (context_of i) ip udp places))
+is_unclaimed i places ip (Some (Segment header bytes)) = is_stray i places ip header
+is_unclaimed i places ip (Some carried) = false
+is_unclaimed i places ip None = is_v4 ip
+
+-- the answer to what nobody takes, where one more may go
+abbrev pub if_it_may : InnerValue → Option PacketValue → Option PacketValue
+if_it_may i None = None
+if_it_may i (Some packet) = if may_tell i then Some packet else None
+
+-- and it is counted where it goes
+abbrev pub counted_in : InnerValue → Option PacketValue → InnerValue → InnerValue
+counted_in i None after = after
+counted_in i (Some packet) after = if may_tell i then with_error after else after
+
+abbrev pub let_go : (unclaimed : Bool) → InnerValue → Option PacketValue → Option PacketValue
+let_go true i reply = if_it_may i reply
+let_go false i reply = reply
+
+abbrev pub counted : (unclaimed : Bool) → InnerValue → Option PacketValue → InnerValue → InnerValue
+counted true i reply after = counted_in i reply after
+counted false i reply after = after
+
+-- the host and the answer, within the limit
+
+abbrev pub limited_host : InnerValue → Places → IpRepr → List ℕ → Bool → Option PayloadValue → InnerValue
+limited_host i places ip payload taken carried =
+    counted (is_unclaimed i places ip carried) i (handed_reply i places ip payload taken carried) (handed_host i places ip carried)
+
+abbrev pub limited_reply : InnerValue → Places → IpRepr → List ℕ → Bool → Option PayloadValue → Option PacketValue
+limited_reply i places ip payload taken carried = let_go (is_unclaimed i places ip carried) i (handed_reply i places ip payload taken carried)
 
 -- the bytes of a message can be sent back
 abbrev pub FitsBack : Option PayloadValue → Type 0

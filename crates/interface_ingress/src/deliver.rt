@@ -1,5 +1,5 @@
 //! What arrived, given to the sockets that it is for.
-ghost use Rattle.std.specs.Prelude.{◌≡◌, ◌<◌, length, is_some, None, Some};
+ghost use Rattle.std.specs.Prelude.{◌≡◌, ◌<◌, length, is_some, not, None, Some};
 ghost use Rattle.std.specs.Option.{ForSome};
 ghost use Rattle.icmpv4.specs.Icmpv4 as Icmpv4;
 ghost use Rattle.icmpv6.specs.Icmpv6 as Icmpv6;
@@ -13,6 +13,7 @@ ghost use Rattle.interface_ingress.specs.Delivered.{is_taken_raw, packet_deliver
 ghost use Rattle.interface_ingress.specs.Delivered.{with_change, with_segment, answer_of, answer_in, answer_at, draws_of, drawn_if, passes, passes_at};
 ghost use Rattle.interface_ingress.specs.Delivered.{changed_at, first_place, is_connected, segment_place, segment_delivered, segment_answer, segment_draws};
 ghost use Rattle.interface_ingress.specs.Delivered.{reset_for};
+ghost use Rattle.interface_ingress.specs.Handed.{if_it_may, counted_in, let_go, counted};
 
 use crate::places::{Arrival, give_all, is_for_any};
 use crate::reply::Reply;
@@ -415,13 +416,23 @@ fn process_at<'a>(
     process_in(inner, &mut places[at], header, segment, reply);
 }
 
-/// The reset that answers a segment which no socket accepts, but for a reset and a segment that a raw socket took.
-fn reset<'a>(header: &IpRepr, segment: &TcpRepr<'_>, is_taken: bool, reply: &mut Option<Reply<'a>>)
+/// The reset that answers a segment which no socket accepts, as far as the limit on errors allows, but for a reset and a segment
+/// that a raw socket took.
+fn reset<'a>(
+    inner: &mut InterfaceInner,
+    header: &IpRepr,
+    segment: &TcpRepr<'_>,
+    is_taken: bool,
+    reply: &mut Option<Reply<'a>>,
+)
     requires { reply.old ≡ None }
-    ensures answer { reply_of reply.new ≡ answered (reset_for header.now (Tcp.header_of segment.now) segment.now.payload.now is_taken) }
+    ensures answer { reply_of reply.new ≡
+        answered (if_it_may inner.old (reset_for header.now (Tcp.header_of segment.now) segment.now.payload.now is_taken)) }
     ensures sendable { IfCanGo (reply_of reply.new) }
+    ensures host { inner.new ≡
+        counted_in inner.old (reset_for header.now (Tcp.header_of segment.now) segment.now.payload.now is_taken) inner.old }
 {
-    if is_taken || segment.control == TcpControl::Rst {
+    if is_taken || segment.control == TcpControl::Rst || !inner.count_error() {
         return;
     }
     let (header, segment) = tcp::Socket::rst_reply(header, segment);
@@ -429,7 +440,7 @@ fn reset<'a>(header: &IpRepr, segment: &TcpRepr<'_>, is_taken: bool, reply: &mut
 }
 
 /// Gives a segment to the socket of its connection, else to the first that accepts it, and writes the packet that answers it: the
-/// socket's, or a reset where no socket accepts it. `is_taken` says that a raw socket took it.
+/// socket's, or a reset where no socket accepts it and the limit on errors allows one. `is_taken` says that a raw socket took it.
 pub fn deliver_segment<'a>(
     inner: &mut InterfaceInner,
     places: &mut [SocketStorage<Socket>],
@@ -440,14 +451,17 @@ pub fn deliver_segment<'a>(
 )
     requires { reply.old ≡ None }
     ensures answer { reply_of reply.new ≡
-        answered (segment_answer (context_of inner.old) header.now (Tcp.header_of segment.now) segment.now.payload.now is_taken places.old) }
+        answered (let_go (not (is_some (segment_place header.now (Tcp.header_of segment.now) places.old))) inner.old
+        (segment_answer (context_of inner.old) header.now (Tcp.header_of segment.now) segment.now.payload.now is_taken places.old)) }
     ensures sendable { IfCanGo (reply_of reply.new) }
     ensures places { places.new ≡ segment_delivered (context_of inner.old) header.now (Tcp.header_of segment.now) segment.now.payload.now places.old }
     ensures host { inner.new ≡
-        drawn_if (segment_draws (context_of inner.old) header.now (Tcp.header_of segment.now) segment.now.payload.now places.old) inner.old }
+        counted (not (is_some (segment_place header.now (Tcp.header_of segment.now) places.old))) inner.old
+        (segment_answer (context_of inner.old) header.now (Tcp.header_of segment.now) segment.now.payload.now is_taken places.old)
+        (drawn_if (segment_draws (context_of inner.old) header.now (Tcp.header_of segment.now) segment.now.payload.now places.old) inner.old) }
 {
     match segment_place(inner, places, header, segment) {
         Some(at) => process_at(inner, places, at, header, segment, reply),
-        None => reset(header, segment, is_taken, reply),
+        None => reset(inner, header, segment, is_taken, reply),
     }
 }

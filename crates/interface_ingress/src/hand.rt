@@ -1,5 +1,5 @@
 //! What a packet for the host carries, given to sockets and tables.
-ghost use Rattle.std.specs.Prelude.{◌≡◌, ◌≢◌, ◌+◌, ◌<◌, ◌≤◌, ◌^◌, length, None, IsTrue, IfSome};
+ghost use Rattle.std.specs.Prelude.{◌≡◌, ◌≢◌, ◌+◌, ◌<◌, ◌≤◌, ◌^◌, length, is_some, not, None, IsTrue, IfSome};
 ghost use Rattle.ip_wire.specs.Ip.{Fits, payload_len_of, carried_in};
 ghost use Rattle.ip_wire.specs.IpProtocol.TheVariants as Protocol;
 ghost use Rattle.ip_wire.specs.Tcp as Tcp;
@@ -10,10 +10,11 @@ ghost use Rattle.interface_ingress.specs.Carried.{carried_of};
 ghost use Rattle.interface_ingress.specs.Read.{IsControl, datagram_of, segment_of};
 ghost use Rattle.interface_egress.specs.Inner.{context_of};
 ghost use Rattle.interface_ingress.specs.Datagrams.{IsDelivered};
+ghost use Rattle.interface_ingress.specs.Delivered.{datagram_place};
 ghost use Rattle.interface_ingress.specs.Handed.{control_v4_places, control_v4_reply, message_host, message_reply, control_v6_host, control_v6_places};
 ghost use Rattle.interface_ingress.specs.Handed.{control_v6_reply, is_for_many, names_nobody, datagram_reply, segment_host, segment_places, segment_reply};
-ghost use Rattle.interface_ingress.specs.Handed.{is_known_v4, is_known_v6, is_unknown, is_bare, unread_v6, unread_reply, handed_host, handed_reply};
-ghost use Rattle.interface_ingress.specs.Handed.{HandsTo, FitsBack};
+ghost use Rattle.interface_ingress.specs.Handed.{is_known_v4, is_known_v6, is_unknown, is_bare, unread_v6, unread_reply};
+ghost use Rattle.interface_ingress.specs.Handed.{is_v4, is_stray, if_it_may, counted_in, let_go, counted, limited_host, limited_reply, HandsTo, FitsBack};
 ghost use Rattle.ipv6_headers.specs.Headers.{StopsWithin, upper_of, upper_bytes_of};
 ghost use Rattle.ip_wire.specs.IpRepr.TheVariants as Ip;
 ghost use Rattle.ip_wire.specs.Ipv6 as Ipv6;
@@ -196,6 +197,45 @@ fn reply_to_unread<'a>(
     }
 }
 
+/// The answer to what nobody takes, if the limit on errors lets it go.
+fn limited<'a>(inner: &mut InterfaceInner, answer: &Option<Packet<'a>>) -> Option<Packet<'a>>
+    requires { IfSome (option_value answer.now) IsSendable }
+    ensures host { inner.new ≡ counted_in inner.old (option_value answer.now) inner.old }
+    ensures reply { option_value result ≡ if_it_may inner.old (option_value answer.now) }
+    ensures sendable { IfSome (option_value result) IsSendable }
+{
+    match answer {
+        Some(packet) => {
+            if inner.count_error() {
+                Some(*packet)
+            } else {
+                None
+            }
+        }
+        None => None,
+    }
+}
+
+/// Answers a packet of which nothing was read: an IPv4 packet as far as the limit on errors allows.
+fn answer_unread<'a>(
+    inner: &mut InterfaceInner,
+    header: &IpRepr,
+    payload: &'a [u8],
+    is_taken: bool,
+) -> Option<Packet<'a>>
+    requires fits { Fits header.now }
+    requires short { length payload.now < 2 ^ 16 }
+    ensures host { inner.new ≡ counted (is_v4 header.now) inner.old (unread_reply inner.old header.now payload.now is_taken) inner.old }
+    ensures reply { option_value result ≡ let_go (is_v4 header.now) inner.old (unread_reply inner.old header.now payload.now is_taken) }
+    ensures sendable { IfSome (option_value result) IsSendable }
+{
+    let answer = reply_to_unread(inner, header, payload, is_taken);
+    match header {
+        IpRepr::Ipv4(_) => limited(inner, &answer),
+        IpRepr::Ipv6(_) => answer,
+    }
+}
+
 /// What counts of a packet: the bytes of an upper-layer protocol, behind a header that names it.
 #[derive(Clone, Copy)]
 struct Upper<'b, 'a> {
@@ -203,9 +243,10 @@ struct Upper<'b, 'a> {
     bytes: &'a [u8],
 }
 
-/// Gives a datagram to the first socket that accepts it. Without one, and where no raw socket took it, an error answers it.
+/// Gives a datagram to the first socket that accepts it. Without one, and where no raw socket took it, an error answers it, as far as
+/// the limit on errors allows.
 fn give_datagram<'a>(
-    inner: &InterfaceInner,
+    inner: &mut InterfaceInner,
     places: &mut [SocketStorage<Socket>],
     header: &IpRepr,
     payload: &'a [u8],
@@ -215,19 +256,25 @@ fn give_datagram<'a>(
 )
     requires fits { Fits header.now }
     requires none { reply.old ≡ None }
-    ensures places { IsDelivered (context_of inner.now) header.now datagram.now.header datagram.now.bytes.now places.old places.new }
-    ensures reply { reply_of reply.new ≡ answered (datagram_reply inner.now places.old header.now payload.now is_taken datagram.now.header) }
+    ensures host { inner.new ≡
+        counted (not (is_some (datagram_place (context_of inner.old) header.now datagram.now.header places.old))) inner.old
+        (datagram_reply inner.old places.old header.now payload.now is_taken datagram.now.header) inner.old }
+    ensures places { IsDelivered (context_of inner.old) header.now datagram.now.header datagram.now.bytes.now places.old places.new }
+    ensures reply { reply_of reply.new ≡
+        answered (let_go (not (is_some (datagram_place (context_of inner.old) header.now datagram.now.header places.old))) inner.old
+        (datagram_reply inner.old places.old header.now payload.now is_taken datagram.now.header)) }
     ensures sendable { IfCanGo (reply_of reply.new) }
 {
     if deliver_datagram(inner, places, header, &datagram.header, datagram.bytes) || is_taken {
         return;
     }
-    *reply = packet_reply(&port_unreachable(inner, header, payload));
+    let error = port_unreachable(inner, header, payload);
+    *reply = packet_reply(&limited(inner, &error));
 }
 
 /// Gives the datagram of a packet to whom it concerns, and answers it.
 fn hand_datagram<'a>(
-    inner: &InterfaceInner,
+    inner: &mut InterfaceInner,
     places: &mut [SocketStorage<Socket>],
     header: &IpRepr,
     payload: &'a [u8],
@@ -238,20 +285,20 @@ fn hand_datagram<'a>(
     requires fits { Fits header.now }
     requires short { length payload.now < 2 ^ 16 }
     requires none { reply.old ≡ None }
-    ensures host { inner.now ≡ handed_host inner.now places.old header.now (datagram_of datagram.now) }
-    ensures places { HandsTo inner.now places.old header.now (datagram_of datagram.now) places.new }
-    ensures reply { reply_of reply.new ≡ answered (handed_reply inner.now places.old header.now payload.now is_taken (datagram_of datagram.now)) }
+    ensures host { inner.new ≡ limited_host inner.old places.old header.now payload.now is_taken (datagram_of datagram.now) }
+    ensures places { HandsTo inner.old places.old header.now (datagram_of datagram.now) places.new }
+    ensures reply { reply_of reply.new ≡ answered (limited_reply inner.old places.old header.now payload.now is_taken (datagram_of datagram.now)) }
     ensures sendable { IfCanGo (reply_of reply.new) }
 {
     match datagram {
         Some(datagram) => give_datagram(inner, places, header, payload, is_taken, datagram, reply),
-        None => *reply = packet_reply(&reply_to_unread(inner, header, payload, is_taken)),
+        None => *reply = packet_reply(&answer_unread(inner, header, payload, is_taken)),
     }
 }
 
 /// Reads the datagram of a packet for the host, gives it to whom it concerns, and answers it.
 fn hand_udp<'a>(
-    inner: &InterfaceInner,
+    inner: &mut InterfaceInner,
     places: &mut [SocketStorage<Socket>],
     header: &IpRepr,
     payload: &'a [u8],
@@ -263,8 +310,8 @@ fn hand_udp<'a>(
     requires fits { Fits header.now }
     requires short { length payload.now < 2 ^ 16 }
     requires none { reply.old ≡ None }
-    ensures hands { HandsUpper inner.now places.old header.now payload.now is_taken upper.now.header.now upper.now.bytes.now
-        (arrived inner.now places.new (reply_of reply.new)) }
+    ensures hands { HandsUpper inner.old places.old header.now payload.now is_taken upper.now.header.now upper.now.bytes.now
+        (arrived inner.new places.new (reply_of reply.new)) }
     ensures sendable { IfCanGo (reply_of reply.new) }
 {
     let datagram = read_udp(upper.header, upper.bytes, &inner.checksum_caps());
@@ -281,9 +328,12 @@ fn give_segment<'a>(
     reply: &mut Option<Reply<'a>>,
 )
     requires { reply.old ≡ None }
-    ensures host { inner.new ≡ segment_host inner.old places.old header.now (Tcp.header_of segment.now) segment.now.payload.now }
+    ensures host { inner.new ≡ counted (is_stray inner.old places.old header.now (Tcp.header_of segment.now)) inner.old
+        (segment_reply inner.old places.old header.now is_taken (Tcp.header_of segment.now) segment.now.payload.now)
+        (segment_host inner.old places.old header.now (Tcp.header_of segment.now) segment.now.payload.now) }
     ensures places { places.new ≡ segment_places inner.old places.old header.now (Tcp.header_of segment.now) segment.now.payload.now }
-    ensures reply { reply_of reply.new ≡ answered (segment_reply inner.old places.old header.now is_taken (Tcp.header_of segment.now) segment.now.payload.now) }
+    ensures reply { reply_of reply.new ≡ answered (let_go (is_stray inner.old places.old header.now (Tcp.header_of segment.now)) inner.old
+        (segment_reply inner.old places.old header.now is_taken (Tcp.header_of segment.now) segment.now.payload.now)) }
     ensures sendable { IfCanGo (reply_of reply.new) }
 {
     if names_nobody(inner, header) {
@@ -305,14 +355,14 @@ fn hand_segment<'a>(
     requires fits { Fits header.now }
     requires short { length payload.now < 2 ^ 16 }
     requires none { reply.old ≡ None }
-    ensures host { inner.new ≡ handed_host inner.old places.old header.now (segment_of segment.now) }
+    ensures host { inner.new ≡ limited_host inner.old places.old header.now payload.now is_taken (segment_of segment.now) }
     ensures places { HandsTo inner.old places.old header.now (segment_of segment.now) places.new }
-    ensures reply { reply_of reply.new ≡ answered (handed_reply inner.old places.old header.now payload.now is_taken (segment_of segment.now)) }
+    ensures reply { reply_of reply.new ≡ answered (limited_reply inner.old places.old header.now payload.now is_taken (segment_of segment.now)) }
     ensures sendable { IfCanGo (reply_of reply.new) }
 {
     match segment {
         Some(segment) => give_segment(inner, places, header, is_taken, segment, reply),
-        None => *reply = packet_reply(&reply_to_unread(inner, header, payload, is_taken)),
+        None => *reply = packet_reply(&answer_unread(inner, header, payload, is_taken)),
     }
 }
 
@@ -352,9 +402,9 @@ fn hand_message<'a>(
     requires short { length payload.now < 2 ^ 16 }
     requires back { FitsBack (carried_of carried.now) }
     requires control { IsControl (carried_of carried.now) }
-    ensures host { inner.new ≡ handed_host inner.old places.old header.now (carried_of carried.now) }
+    ensures host { inner.new ≡ limited_host inner.old places.old header.now payload.now is_taken (carried_of carried.now) }
     ensures places { HandsTo inner.old places.old header.now (carried_of carried.now) places.new }
-    ensures reply { option_value result ≡ handed_reply inner.old places.old header.now payload.now is_taken (carried_of carried.now) }
+    ensures reply { option_value result ≡ limited_reply inner.old places.old header.now payload.now is_taken (carried_of carried.now) }
     ensures sendable { IfSome (option_value result) IsSendable }
 {
     match carried {
@@ -362,7 +412,7 @@ fn hand_message<'a>(
         Some(IpPayload::Icmpv6(message)) => hand_icmpv6(inner, places, header, message),
         Some(IpPayload::Raw(_)) => None,
         Some(IpPayload::Udp(..) | IpPayload::Tcp(_)) => unreachable!(),
-        None => reply_to_unread(inner, header, payload, is_taken),
+        None => answer_unread(inner, header, payload, is_taken),
     }
 }
 

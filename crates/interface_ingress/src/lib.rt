@@ -16,6 +16,7 @@ mod heard;
 mod icmp_reply;
 mod incoming;
 pub mod laws;
+pub mod limit_laws;
 mod places;
 mod reassemble;
 mod reply;

@@ -1,6 +1,7 @@
 pub mod Apart
 pub mod BestOf
 pub mod Changed
+pub mod ErrorLimit
 pub mod Orders
 pub mod Rebuilt
 pub mod Renewed

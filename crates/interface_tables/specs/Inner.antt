@@ -19,6 +19,7 @@ use Rattle.ip_wire.specs.IpCidr.TheVariants as Block
 use Rattle.ip_wire.specs.Ipv4Address.{Ipv4Address}
 use Rattle.ip_wire.specs.Ipv6Address.{Ipv6Address}
 use Rattle.socket_base.specs.Context.{ContextValue}
+use Rattle.interface_tables.specs.ErrorLimit.{may_answer, answered_at}
 use Rattle.interface_tables.specs.Neighbor.{CacheValue, lookup, is_found, filled, renewed, requested, search_room, silent_time, entry_lifetime}
 use Rattle.interface_tables.specs.Route.{best_route, router_of}
 use Rattle.interface_tables.specs.Source.{source_for}
@@ -31,7 +32,7 @@ use Rattle.interface_tables.specs.declared.route.Route.{Route}
 -- The moment of the call that runs, or of the last one; the state of the random words; the hardware address, `Ip` on a medium
 -- that has none; the longest IP packet of a frame; the checksums that the stack handles itself; the key of 16 bytes by which first
 -- numbers of connections are told, if there is one; the own addresses, and whether every address is one; routes and neighbours;
--- the identification of the next IPv4 datagram; and whether nothing ran yet.
+-- the identification of the next IPv4 datagram; the moment up to which errors that went are counted; and whether nothing ran yet.
 pub record InnerValue : Type 0 where
   pub moment : ℤ
   pub random : ℕ
@@ -44,6 +45,7 @@ pub record InnerValue : Type 0 where
   pub routes : List Route
   pub neighbors : CacheValue
   pub ident : ℕ
+  pub errors_until : ℤ
   pub fresh : Bool
 
 -- OWN ADDRESSES
@@ -257,3 +259,13 @@ with_renewal i address hardware = record i { neighbors = renewed i.neighbors add
 -- a neighbour was asked for
 abbrev pub with_request : InnerValue → IpAddress → InnerValue
 with_request i address = record i { neighbors = requested i.neighbors address i.moment }
+
+-- ERRORS AND RESETS that answer what nobody takes
+
+-- one may go now
+abbrev pub may_tell : InnerValue → Bool
+may_tell i = may_answer i.errors_until i.moment
+
+-- one goes now
+abbrev pub with_error : InnerValue → InnerValue
+with_error i = record i { errors_until = answered_at i.errors_until i.moment }

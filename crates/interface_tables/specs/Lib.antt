@@ -1,4 +1,5 @@
 pub mod Best
+pub mod ErrorLimit
 pub mod Inner
 pub mod Neighbor
 pub mod Searches

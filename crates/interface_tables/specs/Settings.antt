@@ -70,6 +70,7 @@ made config device moment = record {
   routes = [];
   neighbors = Neighbors.fresh;
   ident = first_ident (half_word (next_state config.random_seed));
+  errors_until = pos 0;
   fresh = true;
 }
 

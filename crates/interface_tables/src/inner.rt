@@ -1,5 +1,5 @@
 //! A host beside its sockets and its slots: what it answers to sockets, and where its packets go.
-ghost use Rattle.std.specs.Prelude.{◌≡◌, ◌≤◌, List, drop, length, not, is_ok, Some};
+ghost use Rattle.std.specs.Prelude.{◌≡◌, ◌≤◌, if◌then◌else◌, List, drop, length, not, is_ok, Some};
 ghost use Rattle.std.specs.List.{list_any};
 ghost use Rattle.std.specs.Fn.{FnOnceReturnsAtMut};
 ghost use Rattle.net_base.specs.Time.{IsMoment};
@@ -14,7 +14,7 @@ ghost use Rattle.interface_tables.specs.Inner.{is_all_nodes, solicits, solicits_
 ghost use Rattle.interface_tables.specs.Inner.{is_for_us, is_loopback_of, is_foreign_loopback, may_come_from, next_hop, group_station, link_by, link_address};
 ghost use Rattle.interface_tables.specs.Inner.{is_known_hop, has_neighbor, is_in_link_prefix, is_on_link, at_moment};
 ghost use Rattle.interface_tables.specs.Inner.{with_next_ident, with_neighbor, with_renewal, with_request, awaited_hop};
-ghost use Rattle.interface_tables.specs.Inner.{is_crowded, next_request};
+ghost use Rattle.interface_tables.specs.Inner.{is_crowded, next_request, may_tell, with_error};
 ghost use Rattle.interface_tables.specs.Settings.{refusal, made, unless, first_ident, hardware_refusal, with_hardware, is_stranger, with_addresses};
 ghost use Rattle.interface_tables.specs.Settings.{with_any_ip, with_routes, used};
 
@@ -22,7 +22,7 @@ use crate::config::{Config, HardwareAddrError, NewError, NotUnicast, refusal};
 use crate::link::LinkAddress;
 use crate::neighbor::{Answer, Cache, SILENT_MILLIS};
 use crate::route::Routes;
-use crate::source;
+use crate::{error_limit, source};
 use arrayvec::ArrayVec;
 use ip_wire::{
     AddressExt, EthernetAddress, HardwareAddress, IPV4_MULTICAST_ALL_SYSTEMS,
@@ -53,6 +53,7 @@ pub struct InterfaceInner {
     routes: Routes<TABLE_ROOM>,
     neighbor_cache: Cache<TABLE_ROOM>,
     ipv4_id: u16,
+    errors_until: Instant,
     is_fresh: bool,
 }
 
@@ -76,6 +77,7 @@ impl Model for InterfaceInner {
       routes = i.routes;
       neighbors = i.neighbor_cache;
       ident = i.ipv4_id;
+      errors_until = i.errors_until;
       fresh = i.is_fresh;
     } };
 
@@ -108,6 +110,7 @@ impl InterfaceInner {
             routes: Routes::new(),
             neighbor_cache: Cache::new(),
             ipv4_id: if word == 0 { 1 } else { word },
+            errors_until: Instant::ZERO,
             is_fresh: true,
         })
     }
@@ -409,6 +412,21 @@ impl InterfaceInner {
         let ident = self.ipv4_id;
         self.ipv4_id = ident.wrapping_add(1);
         ident
+    }
+}
+
+/// Errors and resets that answer what nobody takes.
+impl InterfaceInner {
+    /// Counts one that goes now, if one may, and says so.
+    pub fn count_error(&mut self) -> bool
+        ensures may { result ≡ may_tell self.old }
+        ensures after { self.new ≡ if may_tell self.old then with_error self.old else self.old }
+    {
+        if !error_limit::may_answer(self.errors_until, self.moment) {
+            return false;
+        }
+        self.errors_until = error_limit::answered_at(self.errors_until, self.moment);
+        true
     }
 }
 

@@ -3,6 +3,8 @@
 #![tactic(auto)]
 
 mod config;
+pub mod error_laws;
+mod error_limit;
 mod fragmentation;
 mod inner;
 pub mod laws;

@@ -4,6 +4,7 @@
 mod by_kind;
 mod common;
 mod hostile;
+mod limit;
 mod made;
 mod replies;
 mod streams;

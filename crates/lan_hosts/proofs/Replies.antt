@@ -37,7 +37,8 @@ use Rattle.interface_ingress.specs.Behind.{Behind}
 use Rattle.interface_ingress.specs.Behind.TheVariants as End
 use Rattle.interface_ingress.specs.Problem.{Problem}
 use Rattle.interface_ingress.specs.Reassembled.{is_control_v6}
-use Rattle.interface_ingress.specs.Handed.{handed_reply, control_v4_reply, control_v6_reply, message_reply}
+use Rattle.interface_ingress.proofs.Limit.{let_go_so}
+use Rattle.interface_ingress.specs.Handed.{handed_reply, is_unclaimed, limited_reply, control_v4_reply, control_v6_reply, message_reply}
 use Rattle.interface_ingress.specs.Handed.{names_nobody, is_known_v4, is_unknown, unread_v6, unread_reply}
 use Rattle.interface_ingress.specs.Heard.{neighbor_heard, Heard, heard, heard_on, counts, tells, is_asked, learned, advertised, advertisement, answer}
 use Rattle.interface_ingress.specs.Incoming.{IncomingValue, Arp, Ip4, Ip6}
@@ -203,7 +204,9 @@ silent_so a none = subst IfReplyMeasured (sym none) tt
 hands_so : (i : InnerValue) (places : Places) (ip : IpRepr) (payload : List ℕ) (taken : Bool) (a : Arrived) → Hands i places ip payload taken a →
     IfReplyMeasured a.reply
 hands_so i places ip payload taken a hands =
-    subst IfReplyMeasured (sym hands.2.reply) (answered_so (handed_reply i places ip payload taken hands.0) (handed_so i places ip payload taken hands.0))
+    subst IfReplyMeasured (sym hands.2.reply)
+    (answered_so (limited_reply i places ip payload taken hands.0)
+    (let_go_so IsMeasured (is_unclaimed i places ip hands.0) i (handed_reply i places ip payload taken hands.0) (handed_so i places ip payload taken hands.0)))
 
 of_v4_so : (ours : Bool) (i : InnerValue) (places : Places) (link : Option EthernetRepr) (ip : IpRepr) (payload : List ℕ) (a : Arrived) →
     ArrivesV4 ours i places link ip payload a → IfReplyMeasured a.reply

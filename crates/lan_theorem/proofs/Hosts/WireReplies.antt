@@ -10,7 +10,8 @@ use Rattle.interface_ingress.specs.ArpRepr.TheVariants as ArpIs
 use Rattle.interface_ingress.specs.Arrives.{Arrived, ArrivesV4, ArrivesV6, Brings, Hands, ReplyValue, Tells, Answers, told, answered, renewed}
 use Rattle.interface_ingress.specs.Delivered.{packet_delivered, is_taken_raw}
 use Rattle.interface_ingress.specs.EthernetRepr.{EthernetRepr}
-use Rattle.interface_ingress.specs.Handed.{handed_reply}
+use Rattle.interface_ingress.specs.Handed.{handed_reply, is_unclaimed, limited_reply}
+use Rattle.interface_ingress.proofs.Limit.{let_go_so}
 use Rattle.interface_ingress.specs.HardwareAddress.{HardwareAddress}
 use Rattle.interface_ingress.specs.HardwareAddress.TheVariants as Hardware
 use Rattle.interface_ingress.specs.Incoming.{IncomingValue, Arp, Ip4, Ip6}
@@ -55,7 +56,9 @@ module _ (May : IpRepr → PayloadValue → Type 0) where
     hands_may : (i : InnerValue) (places : Places) (ip : IpRepr) (payload : List ℕ) (taken : Bool) (a : Arrived) → Hands i places ip payload taken a →
         MayBeReply a.reply
     hands_may i places ip payload taken a (carried, is, so) =
-        subst MayBeReply (sym so.reply) (answered_may (handed_reply i places ip payload taken carried) (replies i places ip payload taken carried))
+        subst MayBeReply (sym so.reply)
+        (answered_may (limited_reply i places ip payload taken carried)
+        (let_go_so MayGo (is_unclaimed i places ip carried) i (handed_reply i places ip payload taken carried) (replies i places ip payload taken carried)))
 
     v4_may : (ours : Bool) (i : InnerValue) (places : Places) (link : Option EthernetRepr) (ip : IpRepr) (payload : List ℕ) (a : Arrived) →
         ArrivesV4 ours i places link ip payload a → MayBeReply a.reply

@@ -29,8 +29,9 @@ use Rattle.interface_egress.specs.Fragments.{LeftValue}
 use Rattle.interface_ingress.specs.Arp as Arps
 use Rattle.interface_ingress.specs.Arp.{arp_arrived}
 use Rattle.interface_ingress.specs.Arrives.{Arrived, ArrivesV4, ArrivesV6, Brings, is_direct, sender_of, renewed, renewed_by}
-use Rattle.interface_ingress.specs.Delivered.{Places, drawn_if, segment_draws, packet_delivered}
-use Rattle.interface_ingress.specs.Handed.{handed_host, message_host, control_v6_host, names_nobody}
+use Rattle.interface_ingress.specs.Delivered.{Places, drawn_if, is_taken_raw, segment_draws, packet_delivered}
+use Rattle.interface_ingress.specs.Handed.{handed_host, handed_reply, is_unclaimed, limited_host, message_host, control_v6_host, names_nobody}
+use Rattle.interface_ingress.proofs.Limit.{counted_so}
 use Rattle.interface_ingress.specs.Reassembled.{is_control_v6}
 use Rattle.interface_ingress.specs.Heard.{neighbor_heard, heard, heard_on, station, learned, advertised, replaces, counts, tells, answer}
 use Rattle.interface_ingress.specs.Incoming.{IncomingValue, Arp, Ip4, Ip6}
@@ -154,18 +155,27 @@ near_handed i places ip (Some (Segment header bytes)) near =
       | false ↦ near_drawn (segment_draws (context_of i) ip header bytes places) i near
     ]
 
+-- an error that goes is counted, and nothing else
+near_limited : (i : InnerValue) (places : Places) (ip : IpRepr) (payload : List ℕ) (taken : Bool) (carried : Option PayloadValue) → AreNear i →
+    AreNear (limited_host i places ip payload taken carried)
+near_limited i places ip payload taken carried near =
+    let after = near_handed i places ip carried near in
+    counted_so AreNear (is_unclaimed i places ip carried) i (handed_reply i places ip payload taken carried) (handed_host i places ip carried) after after
+
 -- ARRIVALS
 
 near_v4 : (ours : Bool) (i : InnerValue) (places : Places) (link : Option EthernetRepr) (ip : IpRepr) (payload : List ℕ) (a : Arrived) → AreNear i →
     ArrivesV4 ours i places link ip payload a → AreNear a.inner
 near_v4 true i places link ip payload a near (carried, is, handed) =
-    subst AreNear (sym handed.inner) (near_handed (renewed i link ip) (packet_delivered ip payload places) ip carried (near_renewed i link ip near))
+    subst AreNear (sym handed.inner)
+    (near_limited (renewed i link ip) (packet_delivered ip payload places) ip payload (is_taken_raw ip places) carried (near_renewed i link ip near))
 near_v4 false i places link ip payload a near is = subst AreNear (sym is.inner) near
 
 near_v6 : (ours : Bool) (i : InnerValue) (places : Places) (link : Option EthernetRepr) (ip : IpRepr) (payload : List ℕ) (a : Arrived) → AreNear i →
     ArrivesV6 ours i places link ip payload a → AreNear a.inner
 near_v6 true i places link ip payload a near (carried, is, handed) =
-    subst AreNear (sym handed.inner) (near_handed (renewed i link ip) (packet_delivered ip payload places) ip carried (near_renewed i link ip near))
+    subst AreNear (sym handed.inner)
+    (near_limited (renewed i link ip) (packet_delivered ip payload places) ip payload (is_taken_raw ip places) carried (near_renewed i link ip near))
 near_v6 false i places link ip payload a near is = subst AreNear (sym is.inner) near
 
 near_arp : (i : InnerValue) (packet : ArpRepr) → AreNear i → AreNear (arp_arrived i packet)

@@ -18,7 +18,8 @@ use Rattle.interface_ingress.specs.Arrives as Replies
 use Rattle.interface_ingress.specs.Arrives.{ReplyValue, Arrived, ArrivesV4, ArrivesV6, Brings, Hands, IsSilent, answered, is_direct, renewed, renewed_by}
 use Rattle.interface_ingress.specs.Arrives.{sender_of}
 use Rattle.interface_ingress.specs.Delivered.{packet_delivered, is_taken_raw, datagram_place, segment_delivered, segment_answer}
-use Rattle.interface_ingress.specs.Handed.{control_v4_places, control_v6_places, names_nobody, handed_reply, HandsTo}
+use Rattle.interface_ingress.specs.Handed.{control_v4_places, control_v6_places, names_nobody, handed_reply, is_unclaimed, limited_reply, HandsTo}
+use Rattle.interface_ingress.proofs.Limit.{let_go_so}
 use Rattle.interface_ingress.specs.Incoming.{IncomingValue, Arp, Ip4, Ip6}
 use Rattle.interface_ingress.specs.Upper.{IsBrought}
 use Rattle.lan_hosts.specs.Side.{Side}
@@ -89,8 +90,13 @@ module _ (names : List ℕ → Bool) (side : Side) (net now : Net) (r : Reaches 
     hands caps a same (carried, is, so) made =
         let end = handed i.checksums carried is (subst (λ (c : ChecksumCapabilities). HandsMade (party net (other side)) c ip payload) (sym same) made)
         a.places so.places_are in
-        let given : Ended names side net now a.places (answered (handed_reply i places ip payload taken carried)) =
-        record { moved = end.moved; made = answered_made (party end.moved.next side) (handed_reply i places ip payload taken carried) end.made } in
+        let made_of = party end.moved.next side in
+        let given : Ended names side net now a.places (answered (limited_reply i places ip payload taken carried)) =
+        record {
+          moved = end.moved;
+          made = answered_made made_of (limited_reply i places ip payload taken carried)
+              (let_go_so (IsMade made_of) (is_unclaimed i places ip carried) i (handed_reply i places ip payload taken carried) end.made);
+        } in
         subst (λ (o : Option ReplyValue). Ended names side net now a.places o) (sym so.reply) given
 
   -- A CONTENT

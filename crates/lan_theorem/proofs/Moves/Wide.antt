@@ -46,7 +46,8 @@ use Rattle.interface_tables.specs.Inner.{InnerValue, context_of, is_for_us}
 use Rattle.interface_ingress.specs.Arrives.{Arrived, ArrivesV4, ArrivesV6, Brings, Hands, ReplyValue, Tells, Answers, told, answered, renewed}
 use Rattle.interface_ingress.specs.Arp.{arp_answer}
 use Rattle.interface_ingress.specs.Delivered.{packet_by, packet_delivered, is_taken_raw}
-use Rattle.interface_ingress.specs.Handed.{handed_reply}
+use Rattle.interface_ingress.specs.Handed.{handed_reply, is_unclaimed, limited_reply}
+use Rattle.interface_ingress.proofs.Limit.{let_go_so}
 use Rattle.interface_ingress.specs.Incoming.{IncomingValue, Arp, Ip4, Ip6}
 use Rattle.interface_ingress.specs.Upper.{upper_header, upper_payload, IsBrought}
 use Rattle.lan_packets.proofs.Queues.{each_first}
@@ -231,8 +232,11 @@ hands_wide : (i : InnerValue) (places : Places) (ip : IpRepr) (payload : List �
     RepliesWide a.reply
 hands_wide i places ip payload taken a (carried, is, so) =
     subst RepliesWide (sym so.reply)
-    (answered_wide (handed_reply i places ip payload taken carried) (replied_plain i places ip payload taken carried is)
-    (replied_names i places ip payload taken carried))
+    (answered_wide (limited_reply i places ip payload taken carried)
+    (let_go_so GoesPlain (is_unclaimed i places ip carried) i (handed_reply i places ip payload taken carried)
+    (replied_plain i places ip payload taken carried is))
+    (let_go_so NamesItsPayload (is_unclaimed i places ip carried) i (handed_reply i places ip payload taken carried)
+    (replied_names i places ip payload taken carried)))
 
 v4_wide : (ours : Bool) (i : InnerValue) (places : Places) (link : Option EthernetRepr) (ip : IpRepr) (payload : List ℕ) (a : Arrived) →
     ArrivesV4 ours i places link ip payload a → RepliesWide a.reply
