@@ -27,9 +27,8 @@ use Rattle.interface_ingress.specs.Arrives.{Arrived, ArrivesV4, ArrivesV6, Arriv
 use Rattle.interface_ingress.specs.Delivered.{Places, given, changed_item, with_change, all_given, with_packet, packet_delivered, with_icmpv4, with_icmpv6}
 use Rattle.interface_ingress.specs.Delivered.{is_taken_raw}
 use Rattle.interface_ingress.specs.Handed.{handed_reply, HandsTo, control_v4_places, control_v6_places, is_known_v4, is_known_v6, unread_v6}
-use Rattle.interface_ingress.specs.Handed.{is_v4, let_go, limited_reply}
+use Rattle.interface_ingress.specs.Handed.{if_it_may, limited_reply}
 use Rattle.interface_ingress.specs.Replies.{protocol_unreachable}
-use Rattle.interface_ingress.proofs.Limit.{let_go_none}
 use Rattle.interface_ingress.specs.Kept.{kept_by_kind, ports_item, ports_in, with_ports, NamesNoPorts, HaveNoPorts, IsDamaged}
 use Rattle.interface_ingress.specs.Reassembled.{Slots, is_taken_in, taken_in, is_piece, uncut, rebuilt, bytes_at, place_in, kept, whole_of}
 
@@ -220,8 +219,7 @@ hands_damaged i places ip payload taken a (carried, is, handed) bare =
       handed_kept i places ip None a.places tt (subst (λ (c : Option PayloadValue). HandsTo i places ip c a.places) none handed.places_are),
       handed.reply
           ∙ ap (λ c. answered (limited_reply i places ip payload taken c)) none
-          ∙ ap (λ o. answered (let_go (is_v4 ip) i o)) (no_reply i places ip payload taken bare.0)
-          ∙ ap answered (let_go_none (is_v4 ip) i),
+          ∙ ap (λ o. answered (if_it_may i o)) (no_reply i places ip payload taken bare.0),
     )
 
 damaged_in : (i : InnerValue) (places : Places) (link : Option EthernetRepr) (ip : IpRepr) (payload : List ℕ) (a : Arrived) →

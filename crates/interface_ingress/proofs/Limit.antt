@@ -19,11 +19,6 @@ pub let_go_so : (P : PacketValue → Type 0) (unclaimed : Bool) (i : InnerValue)
 let_go_so P true i reply so = if_it_may_so P i reply so
 let_go_so P false i reply so = so
 
--- without one nothing goes
-pub let_go_none : (unclaimed : Bool) (i : InnerValue) → let_go unclaimed i None ≡ None
-let_go_none true i = refl
-let_go_none false i = refl
-
 -- where one more may go it goes
 if_allowed : (goes : Bool) (p : PacketValue) → goes ≡ true → (if goes then Some p else None) ≡ Some p
 if_allowed true p is = refl

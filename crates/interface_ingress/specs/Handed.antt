@@ -147,22 +147,18 @@ handed_reply i places ip payload taken (Some (Segment header bytes)) = segment_r
 handed_reply i places ip payload taken None = unread_reply i ip payload taken
 
 -- THE LIMIT on errors and resets that answer what nobody takes (RFC 1812, section 4.3.2.8; RFC 4443, section 2.4 f; RFC 5961,
--- section 7): they are counted together. Of an IPv6 packet of which nothing was read its extension headers are told, without limit.
-
-abbrev pub is_v4 : IpRepr → Bool
-is_v4 (Ip.Ipv4 header) = true
-is_v4 (Ip.Ipv6 header) = false
+-- section 7): they are counted together, and so are problems with extension headers.
 
 -- the segment names two hosts, and no socket takes it
 abbrev pub is_stray : InnerValue → Places → IpRepr → TcpHeader → Bool
 is_stray i places ip header = not (names_nobody i ip) && not (is_some (segment_place ip header places))
 
--- no socket takes what the packet carries, and an error or a reset may tell so
+-- no socket takes what the packet carries, or it carries nothing that was read, and an error or a reset may tell so
 abbrev pub is_unclaimed : InnerValue → Places → IpRepr → Option PayloadValue → Bool
 is_unclaimed i places ip (Some (Datagram udp bytes)) = not (is_some (datagram_place (context_of i) ip udp places))
 is_unclaimed i places ip (Some (Segment header bytes)) = is_stray i places ip header
 is_unclaimed i places ip (Some carried) = false
-is_unclaimed i places ip None = is_v4 ip
+is_unclaimed i places ip None = true
 
 -- the answer to what nobody takes, where one more may go
 abbrev pub if_it_may : InnerValue → Option PacketValue → Option PacketValue

@@ -14,7 +14,7 @@ ghost use Rattle.interface_ingress.specs.Delivered.{datagram_place};
 ghost use Rattle.interface_ingress.specs.Handed.{control_v4_places, control_v4_reply, message_host, message_reply, control_v6_host, control_v6_places};
 ghost use Rattle.interface_ingress.specs.Handed.{control_v6_reply, is_for_many, names_nobody, datagram_reply, segment_host, segment_places, segment_reply};
 ghost use Rattle.interface_ingress.specs.Handed.{is_known_v4, is_known_v6, is_unknown, is_bare, unread_v6, unread_reply};
-ghost use Rattle.interface_ingress.specs.Handed.{is_v4, is_stray, if_it_may, counted_in, let_go, counted, limited_host, limited_reply, HandsTo, FitsBack};
+ghost use Rattle.interface_ingress.specs.Handed.{is_stray, if_it_may, counted_in, let_go, counted, limited_host, limited_reply, HandsTo, FitsBack};
 ghost use Rattle.ipv6_headers.specs.Headers.{StopsWithin, upper_of, upper_bytes_of};
 ghost use Rattle.ip_wire.specs.IpRepr.TheVariants as Ip;
 ghost use Rattle.ip_wire.specs.Ipv6 as Ipv6;
@@ -216,7 +216,7 @@ fn limited<'a>(inner: &mut InterfaceInner, answer: &Option<Packet<'a>>) -> Optio
     }
 }
 
-/// Answers a packet of which nothing was read: an IPv4 packet as far as the limit on errors allows.
+/// Answers a packet of which nothing was read, as far as the limit on errors allows.
 fn answer_unread<'a>(
     inner: &mut InterfaceInner,
     header: &IpRepr,
@@ -225,15 +225,12 @@ fn answer_unread<'a>(
 ) -> Option<Packet<'a>>
     requires fits { Fits header.now }
     requires short { length payload.now < 2 ^ 16 }
-    ensures host { inner.new ≡ counted (is_v4 header.now) inner.old (unread_reply inner.old header.now payload.now is_taken) inner.old }
-    ensures reply { option_value result ≡ let_go (is_v4 header.now) inner.old (unread_reply inner.old header.now payload.now is_taken) }
+    ensures host { inner.new ≡ counted_in inner.old (unread_reply inner.old header.now payload.now is_taken) inner.old }
+    ensures reply { option_value result ≡ if_it_may inner.old (unread_reply inner.old header.now payload.now is_taken) }
     ensures sendable { IfSome (option_value result) IsSendable }
 {
     let answer = reply_to_unread(inner, header, payload, is_taken);
-    match header {
-        IpRepr::Ipv4(_) => limited(inner, &answer),
-        IpRepr::Ipv6(_) => answer,
-    }
+    limited(inner, &answer)
 }
 
 /// What counts of a packet: the bytes of an upper-layer protocol, behind a header that names it.
