@@ -3,8 +3,7 @@ use Rattle.std.proofs.Common.{◌≡◌, Bool, true, false, if◌then◌else◌,
 use Rattle.std.specs.Prelude.{IfSome}
 use Rattle.socket_base.specs.Packet.{PacketValue}
 use Rattle.interface_tables.specs.Inner.{InnerValue, may_tell, with_error}
-use Rattle.interface_tables.specs.Neighbor.{CacheValue}
-use Rattle.interface_ingress.specs.Handed.{if_it_may, counted_in, let_go, counted}
+use Rattle.interface_ingress.specs.Handed.{if_it_may, let_go, counted}
 use Rattle.interface_ingress.specs.Kept.{HasSameSettings}
 
 -- THE ANSWER
