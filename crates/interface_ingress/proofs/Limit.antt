@@ -4,7 +4,6 @@ use Rattle.std.specs.Prelude.{IfSome}
 use Rattle.socket_base.specs.Packet.{PacketValue}
 use Rattle.interface_tables.specs.Inner.{InnerValue, may_tell, with_error}
 use Rattle.interface_ingress.specs.Handed.{if_it_may, let_go, counted}
-use Rattle.interface_ingress.specs.Kept.{HasSameSettings}
 
 -- THE ANSWER
 
