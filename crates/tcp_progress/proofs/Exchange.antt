@@ -305,7 +305,7 @@ far_below : (by waiting written : ℕ) → by ≤ waiting + 1 → waiting ≤ wr
 far_below by waiting written a b c = omega arith
 
 module _ (cx cy cz : ContextValue) (v w : TcpValue) (p q : Past) (k : Keeps v p w q) (o : OpenOffer) (step : IsInStep k.side k.partner)
-    (may : MayExchange cx cy v w o) where
+    (took_theirs : TookWhatWasSent v w) (took_mine : TookWhatWasSent w v) (may : MayExchange cx cy v w o) where
   abbrev bytes : List ℕ
   bytes = text_of v o
 
@@ -336,7 +336,7 @@ module _ (cx cy cz : ContextValue) (v w : TcpValue) (p q : Past) (k : Keeps v p 
   }
 
   counts : Counts w.block o.segment v.block.receiver.next
-  counts = counts_for w v q p turned o.segment may.theirs may.own.synchronized may.heard out.no_syn out.no_reset may.fresh goes.acknowledges
+  counts = counts_for w v q p turned o.segment may.theirs may.own.synchronized took_mine out.no_syn out.no_reset may.fresh goes.acknowledges
 
   -- the answer finds the socket that has sent its offer
   abbrev after : Past
@@ -366,12 +366,12 @@ module _ (cx cy cz : ContextValue) (v w : TcpValue) (p q : Past) (k : Keeps v p 
     heard_back = (arrives cz gone r.reply.header r.reply.segment []).socket
 
     heard : TookWhatWasSent w gone
-    heard = subst (λ (n : SeqNumber). distance_of w.block.sender.una n ≤ w.block.sender.top) (sym out.sent.next) may.heard
+    heard = subst (λ (n : SeqNumber). distance_of w.block.sender.una n ≤ w.block.sender.top) (sym out.sent.next) took_mine
 
     sent : TookWhatWasSent gone w
     sent =
         up_to (distance_of gone.block.sender.una w.block.receiver.next) v.block.sender.top gone.block.sender.top
-        (subst (λ (n : ℕ). n ≤ v.block.sender.top) (sym same_una) may.sent) out.sent.top
+        (subst (λ (n : ℕ). n ≤ v.block.sender.top) (sym same_una) took_theirs) out.sent.top
 
     space : HasSpace gone w
     space =
@@ -469,6 +469,6 @@ module _ (cx cy cz : ContextValue) (v w : TcpValue) (p q : Past) (k : Keeps v p 
       by (inr again) = answered again (again_answered cy w o.header o.segment bytes v.block.receiver.next counts again may.draws)
 
 pub goes_on :
-    (cx cy cz : ContextValue) (v w : TcpValue) (p q : Past) (k : Keeps v p w q) (o : OpenOffer) → IsInStep k.side k.partner → MayExchange cx cy v w o
-    → HasMoved cx cy cz v w o
-goes_on cx cy cz v w p q k o step may = moved cx cy cz v w p q k o step may
+    (cx cy cz : ContextValue) (v w : TcpValue) (p q : Past) (k : Keeps v p w q) (o : OpenOffer) → IsInStep k.side k.partner → TookWhatWasSent v w
+    → TookWhatWasSent w v → MayExchange cx cy v w o → HasMoved cx cy cz v w o
+goes_on cx cy cz v w p q k o step sent heard may = moved cx cy cz v w p q k o step sent heard may

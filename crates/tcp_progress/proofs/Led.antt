@@ -16,7 +16,9 @@ use Rattle.tcp_pair_model.proofs.OutcomeLaws.{goes_on as in_pieces}
 use Rattle.tcp_progress.specs.Pair.{HasStream, MayExchangeIn, exchanged_in, next_sent, offered_in}
 use Rattle.tcp_progress.specs.Reached.{IsReached}
 use Rattle.tcp_progress.specs.Rounds.{takes, comes}
-use Rattle.tcp_progress.proofs.Pair.{Takes, Tells, Ends, asked_side, side_moves, sent, first, reached_keeps, in_step}
+use Rattle.tcp_progress.proofs.Kept.{reached_keeps}
+use Rattle.tcp_progress.proofs.Pair.{Takes, Tells, Ends, asked_side, side_moves, sent, first, in_step}
+use Rattle.tcp_progress.proofs.SentPairs.{TookEach, reached_took}
 
 reached_by : (p new : PairValue) (more : List PairEvent) → IsReached p → Steps p more new → IsReached new
 reached_by p new more r steps = record {
@@ -63,11 +65,14 @@ module _ (p : PairValue) (moment : ℤ) (o : OpenOffer) (r : IsReached p) where
       k : Keeps p.sides.a.socket (past_at p A) p.sides.b.socket (past_at p B)
       k = reached_keeps p A r
 
+      each : TookEach p A
+      each = reached_took p A r may.may.own may.may.theirs
+
       moves : Takes A p.sides.a p.sides.b moment may.mirrored o may.may
           ⊎ (Tells A p.sides.a p.sides.b moment may.mirrored o may.may ⊎ Ends A p.sides.a p.sides.b moment may.mirrored o may.may)
       moves =
           side_moves A p.sides.a p.sides.b moment may.mirrored o may.may (past_at p A) (past_at p B) k
-          (in_step p.sides.a.socket p.sides.b.socket (past_at p A) (past_at p B) k may.may.own.synchronized stream)
+          (in_step p.sides.a.socket p.sides.b.socket (past_at p A) (past_at p B) k may.may.own.synchronized stream) each.sent each.heard
 
       counts : Takes A p.sides.a p.sides.b moment may.mirrored o may.may
           ⊎ (Tells A p.sides.a p.sides.b moment may.mirrored o may.may ⊎ Ends A p.sides.a p.sides.b moment may.mirrored o may.may)
@@ -88,11 +93,14 @@ module _ (p : PairValue) (moment : ℤ) (o : OpenOffer) (r : IsReached p) where
       k : Keeps p.sides.b.socket (past_at p B) p.sides.a.socket (past_at p A)
       k = reached_keeps p B r
 
+      each : TookEach p B
+      each = reached_took p B r may.may.own may.may.theirs
+
       moves : Takes B p.sides.b p.sides.a moment may.mirrored o may.may
           ⊎ (Tells B p.sides.b p.sides.a moment may.mirrored o may.may ⊎ Ends B p.sides.b p.sides.a moment may.mirrored o may.may)
       moves =
           side_moves B p.sides.b p.sides.a moment may.mirrored o may.may (past_at p B) (past_at p A) k
-          (in_step p.sides.b.socket p.sides.a.socket (past_at p B) (past_at p A) k may.may.own.synchronized stream)
+          (in_step p.sides.b.socket p.sides.a.socket (past_at p B) (past_at p A) k may.may.own.synchronized stream) each.sent each.heard
 
       counts : Takes B p.sides.b p.sides.a moment may.mirrored o may.may
           ⊎ (Tells B p.sides.b p.sides.a moment may.mirrored o may.may ⊎ Ends B p.sides.b p.sides.a moment may.mirrored o may.may)

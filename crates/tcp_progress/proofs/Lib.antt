@@ -11,3 +11,10 @@ pub mod Stampless
 pub mod Left
 pub mod Led
 pub mod Opened
+pub mod Shade
+pub mod Comes
+pub mod Asked
+pub mod SentSteps
+pub mod Kept
+pub mod SentEvents
+pub mod SentPairs

@@ -50,7 +50,7 @@ pub record StaysBut (old new : Block) : Type 0 where
 raised : (a b : ℕ) → a ≤ max a b
 raised a b = omega arith
 
-asked_stays : (old b : Block) (now : ℤ) → StaysBut old b → StaysBut old (asked b now)
+pub asked_stays : (old b : Block) (now : ℤ) → StaysBut old b → StaysBut old (asked b now)
 asked_stays old b now s =
     cond_both (is_over now b.timers.counts_from)
     (record b {
@@ -61,10 +61,10 @@ asked_stays old b now s =
     (λ _. record { state = s.state; una = s.una; syn_unacked = s.syn_unacked; past_iss = s.past_iss; top = s.top; next = s.next; recent = s.recent })
     (λ _. s)
 
-abbrev Sends : OfferKind → Type 0
+abbrev pub Sends : OfferKind → Type 0
 Sends kind = (b : Block) (o : OpenOffer) (queued : ℕ) → StaysBut b (sent_as kind b o queued)
 
-text_stays : Sends Kind.Text
+pub text_stays : Sends Kind.Text
 text_stays b o queued = record {
   state = refl;
   una = refl;
@@ -75,7 +75,7 @@ text_stays b o queued = record {
   recent = refl;
 }
 
-again_stays : Sends Kind.FastRetransmission
+pub again_stays : Sends Kind.FastRetransmission
 again_stays b o queued = record {
   state = refl;
   una = refl;
@@ -86,7 +86,7 @@ again_stays b o queued = record {
   recent = refl;
 }
 
-probe_stays : Sends Kind.Probe
+pub probe_stays : Sends Kind.Probe
 probe_stays b o queued =
     asked_stays b (probed b (end_of b o) o.moment) o.moment
     (record {

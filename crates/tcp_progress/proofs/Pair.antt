@@ -31,32 +31,30 @@ use Rattle.tcp_pair_model.specs.Arrival.{arrives}
 use Rattle.tcp_pair_model.specs.Block.{Block}
 use Rattle.tcp_pair_model.specs.Names.{accepts, accepts_in}
 use Rattle.tcp_pair_model.specs.Offers.{offer_of}
-use Rattle.tcp_pair_model.specs.Safe.{IsKept}
 use Rattle.tcp_pair_model.specs.Settled.{settled}
 use Rattle.tcp_pair_model.specs.Sides.{other}
-use Rattle.tcp_pair_model.specs.Steps.{Steps, happens, offered_at, handed, taken_at}
-use Rattle.tcp_pair_model.specs.Value.{TcpValue, Arrived, new_socket}
-use Rattle.tcp_pair_model.specs.Values.{PairSide, PairValue, new_pair, context_at, and_offer, and_reply, past_at}
-use Rattle.tcp_pair_model.specs.declared.event.PairEvent.{PairEvent}
+use Rattle.tcp_pair_model.specs.Steps.{offered_at, handed, taken_at}
+use Rattle.tcp_pair_model.specs.Value.{TcpValue, Arrived}
+use Rattle.tcp_pair_model.specs.Values.{PairSide, PairValue, context_at, and_offer, and_reply, past_at}
 use Rattle.tcp_pair_model.specs.declared.event.SentSegment.{SentSegment}
 use Rattle.tcp_pair_model.specs.declared.event.Side.{Side}
 use Rattle.tcp_pair_model.specs.declared.event.Side.TheVariants.{A, B}
-use Rattle.tcp_pair_model.proofs.PairLaws.{new_is_kept, kept_after}
 use Rattle.tcp_tie.proofs.NameLaws.{offer_between_ends, sent_names, answer_back}
-use Rattle.tcp_tie.proofs.PromiseLemmas.{keeps_turned}
 use Rattle.tcp_tie.proofs.Tied.{fits_connected, if_so}
 use Rattle.tcp_rules.proofs.OrderSteps.{clash}
 use Rattle.tcp_progress.specs.Arrivals.{is_synchronized}
-use Rattle.tcp_progress.specs.Exchange.{GoesFromUna, MayExchange, MovesOn, HasMoved, left_of, text_of, offer_comes}
+use Rattle.tcp_progress.specs.Exchange.{GoesFromUna, MayExchange, MovesOn, HasMoved, TookWhatWasSent, left_of, text_of, offer_comes}
 use Rattle.tcp_progress.specs.Pair.{HasStream, AreMirrored, MayExchangeIn, MovesIn, Exchanges}
 use Rattle.tcp_progress.specs.Pair.{context_of, exchanged_in, left_in, next_sent, offered_in, socket_of}
 use Rattle.tcp_progress.specs.Positions.{LiesWithin}
 use Rattle.tcp_progress.specs.Rounds.{comes}
 use Rattle.tcp_progress.specs.Reached.{IsReached}
 use Rattle.tcp_progress.proofs.Exchange.{goes_on, last_of}
+use Rattle.tcp_progress.proofs.Kept.{reached_keeps}
 use Rattle.tcp_progress.proofs.Left.{left_same}
 use Rattle.tcp_progress.proofs.Offered.{GoesOut, goes_out_of, goes_from_una}
 use Rattle.tcp_progress.proofs.Positions.{connected_in, placed, lies_within, una_small, next_small}
+use Rattle.tcp_progress.proofs.SentPairs.{reached_took}
 
 -- EACH ACCEPTS WHAT THE OTHER SENDS
 
@@ -286,8 +284,10 @@ module _ (side : Side) (s r : PairSide) (moment : ℤ) where
           closed = ap (λ (t : PairSide). is_closed t.socket.block.state) reaches ∙ ends.closed;
         }))
 
-    pub side_moves : (p q : Past) (k : Keeps s.socket p r.socket q) → IsInStep k.side k.partner → Takes ⊎ (Tells ⊎ Ends)
-    side_moves p q k step = by_moves (goes_on cx cy cx s.socket r.socket p q k o step may)
+    pub side_moves :
+        (p q : Past) (k : Keeps s.socket p r.socket q) → IsInStep k.side k.partner → TookWhatWasSent s.socket r.socket → TookWhatWasSent r.socket s.socket
+        → Takes ⊎ (Tells ⊎ Ends)
+    side_moves p q k step sent heard = by_moves (goes_on cx cy cx s.socket r.socket p q k o step sent heard may)
 
 -- OF A PAIR
 
@@ -315,69 +315,75 @@ pub record Moved (p : PairValue) (side : Side) (moment : ℤ) : Type 0 where
 pub pair_moved :
     (p : PairValue) (side : Side) (moment : ℤ) (o : OpenOffer)
     (k : Keeps (socket_of p side) (past_at p side) (socket_of p (other side)) (past_at p (other side)))
-    → IsInStep k.side k.partner → MayExchangeIn p side moment o → Moved p side moment
-pair_moved p A moment o k step may = by (side_moves A p.sides.a p.sides.b moment may.mirrored o may.may (past_at p A) (past_at p B) k step) where
-  by :
-      Takes A p.sides.a p.sides.b moment may.mirrored o may.may
-      ⊎ (Tells A p.sides.a p.sides.b moment may.mirrored o may.may ⊎ Ends A p.sides.a p.sides.b moment may.mirrored o may.may)
-      → Moved p A moment
-  by (inl x) = record {
-    moves = inl x.next;
-    less =
-        subst (λ (n : ℕ). HasLess p (comes n B (next_sent p B) (offered_in p A moment)) A) (sym x.none)
-        (inl (record { more = x.next.by; some = x.next.some; few = x.next.few; una = x.una; next = x.next.moved; left = x.left }));
-  }
-  by (inr (inl x)) = record {
-    moves =
-        inr
-        (inl
-        (subst
-        (λ (n : ℕ).
-        MovesOn p.sides.a.socket.block.sender.una
-        (socket_of (comes n B (next_sent p B) (offered_in p A moment)) A).block.sender.una)
-        (sym x.one) x.una));
-    less =
-        subst (λ (n : ℕ). HasLess p (comes n B (next_sent p B) (offered_in p A moment)) A) (sym x.one)
-        (inr (inl (record { all = x.all; had = x.had; left = x.left })));
-  }
-  by (inr (inr x)) = record {
-    moves = inr (inr (x.last, x.closed));
-    less = subst (λ (n : ℕ). HasLess p (comes n B (next_sent p B) (offered_in p A moment)) A) (sym x.none) (inr (inr x.closed));
-  }
-pair_moved p B moment o k step may = by (side_moves B p.sides.b p.sides.a moment may.mirrored o may.may (past_at p B) (past_at p A) k step) where
-  by :
-      Takes B p.sides.b p.sides.a moment may.mirrored o may.may
-      ⊎ (Tells B p.sides.b p.sides.a moment may.mirrored o may.may ⊎ Ends B p.sides.b p.sides.a moment may.mirrored o may.may)
-      → Moved p B moment
-  by (inl x) = record {
-    moves = inl x.next;
-    less =
-        subst (λ (n : ℕ). HasLess p (comes n A (next_sent p A) (offered_in p B moment)) B) (sym x.none)
-        (inl (record { more = x.next.by; some = x.next.some; few = x.next.few; una = x.una; next = x.next.moved; left = x.left }));
-  }
-  by (inr (inl x)) = record {
-    moves =
-        inr
-        (inl
-        (subst
-        (λ (n : ℕ).
-        MovesOn p.sides.b.socket.block.sender.una
-        (socket_of (comes n A (next_sent p A) (offered_in p B moment)) B).block.sender.una)
-        (sym x.one) x.una));
-    less =
-        subst (λ (n : ℕ). HasLess p (comes n A (next_sent p A) (offered_in p B moment)) B) (sym x.one)
-        (inr (inl (record { all = x.all; had = x.had; left = x.left })));
-  }
-  by (inr (inr x)) = record {
-    moves = inr (inr (x.last, x.closed));
-    less = subst (λ (n : ℕ). HasLess p (comes n A (next_sent p A) (offered_in p B moment)) B) (sym x.none) (inr (inr x.closed));
-  }
+    → IsInStep k.side k.partner → TookWhatWasSent (socket_of p side) (socket_of p (other side))
+    → TookWhatWasSent (socket_of p (other side)) (socket_of p side) → MayExchangeIn p side moment o → Moved p side moment
+pair_moved p A moment o k step sent heard may =
+    by (side_moves A p.sides.a p.sides.b moment may.mirrored o may.may (past_at p A) (past_at p B) k step sent heard)
+  where
+    by :
+        Takes A p.sides.a p.sides.b moment may.mirrored o may.may
+        ⊎ (Tells A p.sides.a p.sides.b moment may.mirrored o may.may ⊎ Ends A p.sides.a p.sides.b moment may.mirrored o may.may)
+        → Moved p A moment
+    by (inl x) = record {
+      moves = inl x.next;
+      less =
+          subst (λ (n : ℕ). HasLess p (comes n B (next_sent p B) (offered_in p A moment)) A) (sym x.none)
+          (inl (record { more = x.next.by; some = x.next.some; few = x.next.few; una = x.una; next = x.next.moved; left = x.left }));
+    }
+    by (inr (inl x)) = record {
+      moves =
+          inr
+          (inl
+          (subst
+          (λ (n : ℕ).
+          MovesOn p.sides.a.socket.block.sender.una
+          (socket_of (comes n B (next_sent p B) (offered_in p A moment)) A).block.sender.una)
+          (sym x.one) x.una));
+      less =
+          subst (λ (n : ℕ). HasLess p (comes n B (next_sent p B) (offered_in p A moment)) A) (sym x.one)
+          (inr (inl (record { all = x.all; had = x.had; left = x.left })));
+    }
+    by (inr (inr x)) = record {
+      moves = inr (inr (x.last, x.closed));
+      less = subst (λ (n : ℕ). HasLess p (comes n B (next_sent p B) (offered_in p A moment)) A) (sym x.none) (inr (inr x.closed));
+    }
+pair_moved p B moment o k step sent heard may =
+    by (side_moves B p.sides.b p.sides.a moment may.mirrored o may.may (past_at p B) (past_at p A) k step sent heard)
+  where
+    by :
+        Takes B p.sides.b p.sides.a moment may.mirrored o may.may
+        ⊎ (Tells B p.sides.b p.sides.a moment may.mirrored o may.may ⊎ Ends B p.sides.b p.sides.a moment may.mirrored o may.may)
+        → Moved p B moment
+    by (inl x) = record {
+      moves = inl x.next;
+      less =
+          subst (λ (n : ℕ). HasLess p (comes n A (next_sent p A) (offered_in p B moment)) B) (sym x.none)
+          (inl (record { more = x.next.by; some = x.next.some; few = x.next.few; una = x.una; next = x.next.moved; left = x.left }));
+    }
+    by (inr (inl x)) = record {
+      moves =
+          inr
+          (inl
+          (subst
+          (λ (n : ℕ).
+          MovesOn p.sides.b.socket.block.sender.una
+          (socket_of (comes n A (next_sent p A) (offered_in p B moment)) B).block.sender.una)
+          (sym x.one) x.una));
+      less =
+          subst (λ (n : ℕ). HasLess p (comes n A (next_sent p A) (offered_in p B moment)) B) (sym x.one)
+          (inr (inl (record { all = x.all; had = x.had; left = x.left })));
+    }
+    by (inr (inr x)) = record {
+      moves = inr (inr (x.last, x.closed));
+      less = subst (λ (n : ℕ). HasLess p (comes n A (next_sent p A) (offered_in p B moment)) B) (sym x.none) (inr (inr x.closed));
+    }
 
 pub pair_moves :
     (p : PairValue) (side : Side) (moment : ℤ) (o : OpenOffer)
     (k : Keeps (socket_of p side) (past_at p side) (socket_of p (other side)) (past_at p (other side)))
-    → IsInStep k.side k.partner → MayExchangeIn p side moment o → MovesIn p side moment
-pair_moves p side moment o k step may = (pair_moved p side moment o k step may).moves
+    → IsInStep k.side k.partner → TookWhatWasSent (socket_of p side) (socket_of p (other side))
+    → TookWhatWasSent (socket_of p (other side)) (socket_of p side) → MayExchangeIn p side moment o → MovesIn p side moment
+pair_moves p side moment o k step sent heard may = (pair_moved p side moment o k step sent heard may).moves
 
 -- IN STEP
 
@@ -408,32 +414,13 @@ in_step v w p q k mine stream = by k.holds.0.sync where
 
 -- WHAT EVENTS LED TO
 
-kept_steps : (p : PairValue) (events : List PairEvent) (new : PairValue) → IsKept p → Steps p events new → IsKept new
-kept_steps p [] new k steps = subst IsKept (sym steps) k
-kept_steps p (event ∷ events) new k steps = kept_steps (happens p event).pair events new (kept_after p event k steps.0) steps.1
-
-pub reached_kept : (p : PairValue) → IsReached p → IsKept p
-reached_kept p r =
-    kept_steps (new_pair (new_socket r.room_a r.ring_a) (new_socket r.room_b r.ring_b)) r.events p
-    (new_is_kept (new_socket r.room_a r.ring_a) (new_socket r.room_b r.ring_b)
-    (record { state = refl; waiting = refl; queue = refl; unfinished = refl })
-    (record { state = refl; waiting = refl; queue = refl; unfinished = refl })) r.steps
-
-pub keeps_of : (p : PairValue) (side : Side) → IsKept p → Keeps (socket_of p side) (past_at p side) (socket_of p (other side)) (past_at p (other side))
-keeps_of p A k = k.sockets
-keeps_of p B k = keeps_turned p.sides.a.socket p.sides.b.socket (past_at p A) (past_at p B) k.sockets
-
--- a side of a pair that events led to, and its partner
-pub reached_keeps : (p : PairValue) (side : Side) → IsReached p →
-    Keeps (socket_of p side) (past_at p side) (socket_of p (other side)) (past_at p (other side))
-reached_keeps p side reached = keeps_of p side (reached_kept p reached)
-
 pub reached_moved : (p : PairValue) (side : Side) (moment : ℤ) (o : OpenOffer) → IsReached p → HasStream (past_at p side) → MayExchangeIn p side moment o →
     Moved p side moment
 reached_moved p side moment o reached stream may =
     let k = reached_keeps p side reached in
+    let each = reached_took p side reached may.may.own may.may.theirs in
     pair_moved p side moment o k
-    (in_step (socket_of p side) (socket_of p (other side)) (past_at p side) (past_at p (other side)) k may.may.own.synchronized stream) may
+    (in_step (socket_of p side) (socket_of p (other side)) (past_at p side) (past_at p (other side)) k may.may.own.synchronized stream) each.sent each.heard may
 
 pub reached_moves : (p : PairValue) (side : Side) (moment : ℤ) (o : OpenOffer) → IsReached p → HasStream (past_at p side) → MayExchangeIn p side moment o →
     MovesIn p side moment

@@ -22,7 +22,7 @@ connected_in In.Listen e = clash (sym e)
 connected_in In.SynSent e = clash (sym e)
 connected_in other e = refl
 
-same_one : (b : Bool) → one_in b ≡ one_if b
+pub same_one : (b : Bool) → one_in b ≡ one_if b
 same_one true = refl
 same_one false = refl
 
@@ -43,7 +43,7 @@ ends s t o counts = by_fin t.took_fin refl where
   by_fin false e = without t.irs s.iss (length (taken_in t)) (length s.written) (one_in t.took_fin) (one_in s.closed) counts
       (Begins-length (taken_in t) s.written o.received) (ap one_in e)
 
-far : (una next all una_number next_number : ℕ) → una ≤ next → next ≤ una + all → all < 2 ^ 30 → una_number ≡ una % 2 ^ 32 → next_number ≡ next % 2 ^ 32
+pub far : (una next all una_number next_number : ℕ) → una ≤ next → next ≤ una + all → all < 2 ^ 30 → una_number ≡ una % 2 ^ 32 → next_number ≡ next % 2 ^ 32
     → una + (next_number + (2 ^ 32 - una_number)) % 2 ^ 32 ≡ next
 far una next all una_number next_number a b c d e = omega arith
 

@@ -66,9 +66,6 @@ pub record MayExchange (cx cy : ContextValue) (v partner : TcpValue) (o : OpenOf
   pub offered : (offer_of cx v).socket.offered ≡ Some o
   pub kind : carries o.kind ≡ true
   pub some : 1 ≤ segment_len o.segment (length (text_of v o))
-  -- each took what the other sent
-  pub sent : TookWhatWasSent v partner
-  pub heard : TookWhatWasSent partner v
   -- the partner has room for a byte, and what it took since lies within a buffer, a SYN and a FIN
   pub room : 1 ≤ free_in partner
   pub near : distance_of v.block.sender.una partner.block.receiver.next ≤ room_of partner.received + 2

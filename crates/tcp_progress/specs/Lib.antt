@@ -7,3 +7,4 @@ pub mod Standstill
 pub mod Again
 pub mod Exchange
 pub mod Pair
+pub mod Sent

@@ -1,5 +1,5 @@
 -- That what the laws ask for is met, on numerals: a pair with room for 64 bytes each way, opened by three segments; then A writes abc.
-use Rattle.std.specs.Prelude.{ℤ, pos, true, List, [], ◌∷◌, Option, slice_get}
+use Rattle.std.specs.Prelude.{ℤ, pos, true, List, [], ◌∷◌, ◌++◌, Option, slice_get}
 use Rattle.tcp_rules.specs.OpenOffer.{OpenOffer}
 use Rattle.tcp_pair_model.specs.Offers.{offer_of}
 use Rattle.tcp_pair_model.specs.declared.event.SentSegment.{SentSegment}
@@ -10,8 +10,9 @@ use Rattle.tcp_pair_model.specs.Examples.{socket, server, port, run}
 use Rattle.tcp_pair_model.specs.Values.{PairValue, new_pair}
 use Rattle.tcp_progress.specs.Pair.{context_of, exchanged_in}
 
-abbrev pub events : List PairEvent
-events =
+-- three segments open a connection
+abbrev pub opening : List PairEvent
+opening =
     Listen B (port 80)
     ∷ Connect A server (port 49_500)
     ∷ Offer A (pos 0) true
@@ -20,9 +21,10 @@ events =
     ∷ Deliver B 0
     ∷ Offer A (pos 0) true
     ∷ Deliver A 1
-    ∷ Send A (97 ∷ 98 ∷ 99 ∷ [])
-    ∷ Offer A (pos 0) true
     ∷ []
+
+abbrev pub events : List PairEvent
+events = opening ++ Send A (97 ∷ 98 ∷ 99 ∷ []) ∷ Offer A (pos 0) true ∷ []
 
 -- the text has gone, and hasn't come
 abbrev pub gone : PairValue

@@ -4,9 +4,10 @@ use Rattle.std.specs.Prelude.{pos, true, [], ◌∷◌, replicate}
 use Rattle.net_base.specs.Ring.{ring}
 use Rattle.tcp_pair_model.specs.Value.{TcpValue, new_socket}
 use Rattle.tcp_pair_model.specs.declared.event.Side.TheVariants.{A, B}
-use Rattle.tcp_pair_model.specs.declared.event.PairEvent.TheVariants.{Listen, Connect, Send, Recv, Offer, Deliver}
-use Rattle.tcp_pair_model.specs.Examples.{server, port, run}
+use Rattle.tcp_pair_model.specs.declared.event.PairEvent.TheVariants.{Send, Recv, Offer, Deliver}
+use Rattle.tcp_pair_model.specs.Examples.{run}
 use Rattle.tcp_pair_model.specs.Values.{PairValue, new_pair}
+use Rattle.tcp_progress.specs.Met.{opening}
 use Rattle.tcp_progress.specs.Rounds.{linked, rounds}
 
 -- room for one byte to receive, and eight to send
@@ -14,17 +15,7 @@ abbrev pub narrow : TcpValue
 narrow = new_socket 1 (ring [] (replicate 8 0) 0)
 
 abbrev pub opened : PairValue
-opened =
-    run (new_pair narrow narrow)
-    (Listen B (port 80)
-    ∷ Connect A server (port 49_500)
-    ∷ Offer A (pos 0) true
-    ∷ Deliver A 0
-    ∷ Offer B (pos 0) true
-    ∷ Deliver B 0
-    ∷ Offer A (pos 0) true
-    ∷ Deliver A 1
-    ∷ [])
+opened = run (new_pair narrow narrow) opening
 
 -- abc one way and xyz the other; each window holds a byte, so that what follows is probes, which cross while both users read
 abbrev pub crossed : PairValue

@@ -1,6 +1,6 @@
 //! That a connection goes on.
 
-ghost use Rattle.std.specs.Prelude.{◌≡◌, ◌⊎◌, ℕ, ◌+◌, ◌*◌, ◌^◌, ◌<◌, ◌≤◌, ℤ, true, false, List, length, Some, None};
+ghost use Rattle.std.specs.Prelude.{◌≡◌, ◌⊎◌, ℕ, ◌+◌, ◌-◌, ◌*◌, ◌^◌, ◌<◌, ◌≤◌, ℤ, true, false, List, length, Some, None};
 ghost use Rattle.ip_wire.specs.IpRepr.{IpRepr};
 ghost use Rattle.ip_wire.specs.Seq.{distance_of};
 ghost use Rattle.ip_wire.specs.SeqNumber.{SeqNumber};
@@ -33,6 +33,7 @@ ghost use Rattle.tcp_progress.specs.Exchange.{GoesFromUna, HasMoved, IsOpen, May
 ghost use Rattle.tcp_progress.specs.Pair.{Exchanges, HasStream, MayExchangeIn, MovesIn, exchanged_in, left_in, socket_of};
 ghost use Rattle.tcp_progress.specs.Positions.{LiesWithin};
 ghost use Rattle.tcp_progress.specs.Reached.{IsReached, Owes};
+ghost use Rattle.tcp_progress.specs.Sent.{SendsAll, sent_in, taken_in};
 ghost use Rattle.tcp_tie.specs.Tie.{Past, Keeps};
 
 /// Whatever happened to two sockets: a side with a SYN, text or a FIN that isn't acknowledged, sent or not, names a moment; and an offer
@@ -125,12 +126,29 @@ pub fn where_all_was_sent_no_more_was_taken()
         → distance_of v.block.sender.una w.block.receiver.next ≤ room_of w.received + 2 }
 {}
 
+/// Whatever happened to two sockets: each segment of a side with a connection lies within what it sent, and its partner can't tell it from
+/// one whose user wrote no more than was sent. So what the other took, with the FIN, is no more than that; its RCV.NXT lies between SND.UNA
+/// and all that was ever sent; and no further than a buffer that holds all that was sent past SND.UNA, a SYN and a FIN.
+pub fn a_side_takes_only_what_was_sent()
+    ensures invariant { (p : PairValue) (side : Side) → IsReached p
+        → SendsAll (socket_of p side) (past_at p side) (socket_of p (other side)) (past_at p (other side)) }
+    ensures taken { (p : PairValue) (side : Side) → IsReached p → is_synchronized (socket_of p side).block.state ≡ true
+        → taken_in p (other side) ≤ sent_in (socket_of p side) (past_at p side) - 1 }
+    ensures sent { (p : PairValue) (side : Side) → IsReached p → IsOpen (socket_of p side).block
+        → is_synchronized (socket_of p (other side)).block.state ≡ true → TookWhatWasSent (socket_of p side) (socket_of p (other side)) }
+    ensures near { (p : PairValue) (side : Side) → IsReached p → IsOpen (socket_of p side).block
+        → is_synchronized (socket_of p (other side)).block.state ≡ true
+        → (socket_of p side).block.sender.top ≤ room_of (socket_of p (other side)).received + 2
+        → distance_of (socket_of p side).block.sender.una (socket_of p (other side)).block.receiver.next
+        ≤ room_of (socket_of p (other side)).received + 2 }
+{}
+
 /// An exchange: a side with nothing in flight, or whose timer has run out, offers text or a FIN, and it comes. Then RCV.NXT of the partner
 /// rises, and its acknowledgement is due; or the partner has it already, and its answer, as soon as it comes, raises SND.UNA; or it ends
 /// LAST-ACK of the partner.
 pub fn an_exchange_goes_on()
     ensures moved { (cx cy cz : ContextValue) (v w : TcpValue) (p q : Past) (k : Keeps v p w q) (o : OpenOffer)
-        → IsInStep k.side k.partner → MayExchange cx cy v w o → HasMoved cx cy cz v w o }
+        → IsInStep k.side k.partner → TookWhatWasSent v w → TookWhatWasSent w v → MayExchange cx cy v w o → HasMoved cx cy cz v w o }
 {}
 
 /// Of two sockets whose streams keep the invariant: they are in step where the side's user hasn't closed it, or wrote something.
@@ -145,7 +163,8 @@ pub fn a_side_with_a_stream_is_in_step()
 pub fn an_exchange_of_a_pair_goes_on()
     ensures kept { (p : PairValue) (side : Side) (moment : ℤ) (o : OpenOffer)
         (k : Keeps (socket_of p side) (past_at p side) (socket_of p (other side)) (past_at p (other side)))
-        → IsInStep k.side k.partner → MayExchangeIn p side moment o → MovesIn p side moment }
+        → IsInStep k.side k.partner → TookWhatWasSent (socket_of p side) (socket_of p (other side))
+        → TookWhatWasSent (socket_of p (other side)) (socket_of p side) → MayExchangeIn p side moment o → MovesIn p side moment }
     ensures reached { (p : PairValue) (side : Side) (moment : ℤ) (o : OpenOffer) → IsReached p → HasStream (past_at p side)
         → MayExchangeIn p side moment o → MovesIn p side moment }
     ensures leads { (p : PairValue) (side : Side) (moment : ℤ) (o : OpenOffer) → IsReached p → HasStream (past_at p side)

@@ -1,0 +1,35 @@
+-- What events led to: a pair that keeps the invariant.
+use Rattle.std.proofs.Common.{List, [], ◌∷◌, refl, sym, subst}
+use Rattle.tcp_tie.specs.Tie.{Keeps}
+use Rattle.tcp_tie.proofs.PromiseLemmas.{keeps_turned}
+use Rattle.tcp_pair_model.specs.Safe.{IsKept}
+use Rattle.tcp_pair_model.specs.Sides.{other}
+use Rattle.tcp_pair_model.specs.Steps.{Steps, happens}
+use Rattle.tcp_pair_model.specs.Value.{new_socket}
+use Rattle.tcp_pair_model.specs.Values.{PairValue, new_pair, past_at}
+use Rattle.tcp_pair_model.specs.declared.event.PairEvent.{PairEvent}
+use Rattle.tcp_pair_model.specs.declared.event.Side.{Side}
+use Rattle.tcp_pair_model.specs.declared.event.Side.TheVariants.{A, B}
+use Rattle.tcp_pair_model.proofs.PairLaws.{new_is_kept, kept_after}
+use Rattle.tcp_progress.specs.Pair.{socket_of}
+use Rattle.tcp_progress.specs.Reached.{IsReached}
+
+kept_steps : (p : PairValue) (events : List PairEvent) (new : PairValue) → IsKept p → Steps p events new → IsKept new
+kept_steps p [] new k steps = subst IsKept (sym steps) k
+kept_steps p (event ∷ events) new k steps = kept_steps (happens p event).pair events new (kept_after p event k steps.0) steps.1
+
+pub reached_kept : (p : PairValue) → IsReached p → IsKept p
+reached_kept p r =
+    kept_steps (new_pair (new_socket r.room_a r.ring_a) (new_socket r.room_b r.ring_b)) r.events p
+    (new_is_kept (new_socket r.room_a r.ring_a) (new_socket r.room_b r.ring_b)
+    (record { state = refl; waiting = refl; queue = refl; unfinished = refl })
+    (record { state = refl; waiting = refl; queue = refl; unfinished = refl })) r.steps
+
+pub keeps_of : (p : PairValue) (side : Side) → IsKept p → Keeps (socket_of p side) (past_at p side) (socket_of p (other side)) (past_at p (other side))
+keeps_of p A k = k.sockets
+keeps_of p B k = keeps_turned p.sides.a.socket p.sides.b.socket (past_at p A) (past_at p B) k.sockets
+
+-- a side of a pair that events led to, and its partner
+pub reached_keeps : (p : PairValue) (side : Side) → IsReached p →
+    Keeps (socket_of p side) (past_at p side) (socket_of p (other side)) (past_at p (other side))
+reached_keeps p side reached = keeps_of p side (reached_kept p reached)
