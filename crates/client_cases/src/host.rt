@@ -1,11 +1,18 @@
-//! What the sockets ask.
+//! What the clients ask.
 ghost use Rattle.net_base.specs.Time.{IsMoment};
 
-use ip_wire::IpAddress;
+use ip_wire::{IpAddress, Ipv4Address, Ipv6Address};
 use net_base::{ChecksumCapabilities, Instant, Rand};
 use socket_base::Context;
 
-/// A host at a moment, with no address that its sockets ask for.
+/// The address of the host, of each family.
+pub(crate) const ADDRESS_V4: Ipv4Address = Ipv4Address([10, 7, 0, 69]);
+
+pub(crate) const ADDRESS_V6: Ipv6Address = Ipv6Address([
+    0xfd, 0, 0, 0, 0, 0, 0, 0, 0, 0, 0, 0, 0, 0, 0, 69,
+]);
+
+/// A host at a moment.
 #[derive(Drop)]
 pub(crate) struct Host {
     pub(crate) now: Instant,
@@ -14,25 +21,33 @@ pub(crate) struct Host {
 }
 
 impl Host {
-    /// A host at this moment, the last one where there is none so late.
-    pub(crate) fn at(micros: u64) -> Host {
+    /// A host whose random words come from a seed.
+    pub(crate) fn new(seed: u64) -> Host {
         Host {
-            now: Instant::from_micros(micros.min(1 << 61) as i64),
-            words: Rand::new(0),
+            now: Instant::ZERO,
+            words: Rand::new(seed),
         }
+    }
+
+    /// Sets the moment, the last one where there is none so late.
+    pub(crate) fn set_now(&mut self, micros: u64) {
+        self.now = Instant::from_micros(micros.min(1 << 61) as i64);
     }
 }
 
 impl Context for Host {
-    ghost use Rattle.std.specs.Prelude.{refl, false, None};
+    ghost use Rattle.std.specs.Prelude.{refl, false, Some, None, Option, ◌∷◌, []};
+    ghost use Rattle.ip_wire.specs.IpAddress.{IpAddress};
+    ghost use Rattle.ip_wire.specs.IpAddress.TheVariants as Ip;
     ghost use Rattle.net_base.specs.RandomWords.{next_state};
     ghost use Rattle.net_base.specs.Capabilities.{all_checksums};
     ghost use Rattle.net_base.specs.Checksum.TheVariants as checksum;
+    ghost use Rattle.client_cases.specs.Source.{source_for};
 
     ghost context = { λ c. record {
       moment = c.now;
       has_ip_addr = λ a. false;
-      source_for = λ a. None;
+      source_for = source_for;
       is_broadcast = λ a. false;
       ip_mtu = 1500;
       checksums =
@@ -51,8 +66,11 @@ impl Context for Host {
         false
     }
 
-    fn get_source_address(&self, _dst_addr: &IpAddress) -> Option<IpAddress> {
-        None
+    fn get_source_address(&self, dst_addr: &IpAddress) -> Option<IpAddress> {
+        match dst_addr {
+            IpAddress::Ipv4(_) => Some(IpAddress::Ipv4(ADDRESS_V4)),
+            IpAddress::Ipv6(_) => Some(IpAddress::Ipv6(ADDRESS_V6)),
+        }
     }
 
     fn is_broadcast(&self, _addr: &IpAddress) -> bool {

@@ -1,38 +1,51 @@
 //! A client of DHCP.
-use crate::context::Host;
-use dhcpv4::{DhcpOption, OptionsError, RetryConfig, Socket};
-use ip_wire::{EthernetAddress, IpProtocol, IpRepr, Ipv4Address, Ipv4Repr, UdpRepr};
-use net_base::{Duration, Instant};
-use socket_base::{IpPayload, Offer};
+use crate::host::Host;
+use crate::packets::{say_offer, v4_header};
+use clients::dhcp::{DhcpOption, OptionsError, RetryConfig, Socket};
+use ip_wire::{EthernetAddress, Ipv4Address, UdpRepr};
+use net_base::Duration;
 use std::alloc::Global;
 use std::io::{self, Write};
 
-/// Answers a line: a word, and for most a moment in microseconds. False: no line begins with that word.
+/// A client whose random words come from a seed.
+pub(crate) fn new(seed: u64) -> Socket {
+    Socket::new(EthernetAddress([2, 0, 0, 0, 0, 7]), seed)
+}
+
+/// Answers a line: a word, for most a moment in microseconds, and more. False: no line begins with that word.
 pub(crate) fn answer<W: Write>(
     alloc: Global,
-    line: &str,
+    word: &str,
+    rest: &str,
+    host: &mut Host,
     client: &mut Socket,
     writer: &mut W,
 ) -> io::Result<bool> {
-    let (word, rest) = line.split_once(' ').unwrap_or((line, ""));
     let (first, more) = rest.split_once(' ').unwrap_or((rest, ""));
     let micros = first.parse::<u64>().unwrap_or(0);
     match word {
-        "offer" => offer(alloc, micros, client, writer)?,
+        "offer" => {
+            host.set_now(micros);
+            let offer = client.offer(host);
+            say_offer(alloc, offer, client.offered(), ':', writer)?;
+        }
         "poll" => {
-            let now = Instant::from_micros(micros.min(1 << 61) as i64);
-            let event = client.poll(now);
+            host.set_now(micros);
+            let event = client.poll(host.now);
             writeln!(writer, "{event:?}")?;
         }
         "when" => {
-            let when = client.poll_at(&Host::at(0));
+            let when = client.poll_at(host);
             writeln!(writer, "{when:?}")?;
         }
         "state" => {
             let state = client.state();
             writeln!(writer, "{state:?}")?;
         }
-        "arrives" => arrives(alloc, micros, more, client),
+        "arrives" => {
+            host.set_now(micros);
+            arrives(alloc, host, client, more);
+        }
         "ports" => client.set_ports(port(first), port(more)),
         "ask" => {
             let codes = bytes_of(alloc, rest);
@@ -51,7 +64,6 @@ pub(crate) fn answer<W: Write>(
 /// Tells the client something. False: no line begins with that word.
 fn tell(word: &str, micros: u64, client: &mut Socket) -> bool {
     match word {
-        "client" => *client = Socket::new(EthernetAddress([2, 0, 0, 0, 0, 7]), micros),
         "retries" => client.set_retry_config(retries(micros)),
         "longest" => client.set_max_lease_duration(Some(Duration::from_micros(micros))),
         "ignore" => client.set_ignore_naks(true),
@@ -112,50 +124,18 @@ fn retries(count: u64) -> RetryConfig {
     }
 }
 
-/// Says what is offered.
-fn offer<W: Write>(
-    alloc: Global,
-    micros: u64,
-    client: &mut Socket,
-    writer: &mut W,
-) -> io::Result<()> {
-    let answer = client.offer(&Host::at(micros));
-    if let Offer::Silent { changed } = answer {
-        return writeln!(writer, "silent {changed}");
-    }
-    let Some(packet) = client.offered() else {
-        return Ok(());
-    };
-    let header = packet.ip_repr();
-    if let IpPayload::Udp(ports, bytes) = packet.payload() {
-        let digits = hex::encode(alloc, bytes)?;
-        let (from, to) = (header.src_addr(), header.dst_addr());
-        let (source, destination) = (ports.src_port, ports.dst_port);
-        return writeln!(writer, "{from}:{source} {to}:{destination} {digits}");
-    }
-    Ok(())
-}
-
 /// A message from 10.7.0.1 arrives.
-fn arrives(alloc: Global, micros: u64, digits: &str, client: &mut Socket) {
+fn arrives(alloc: Global, host: &Host, client: &mut Socket, digits: &str) {
     let Ok(bytes) = hex::decode(alloc, digits) else {
         return;
     };
-    let header = IpRepr::Ipv4(Ipv4Repr {
-        src_addr: Ipv4Address::new(10, 7, 0, 1),
-        dst_addr: Ipv4Address::BROADCAST,
-        next_header: IpProtocol::Udp,
-        payload_len: 8 + bytes.len().min(60_000),
-        hop_limit: 64,
-        ident: 0,
-        dont_frag: false,
-    });
+    let source = Ipv4Address::new(10, 7, 0, 1);
+    let header = v4_header(source, Ipv4Address::BROADCAST, bytes.len());
     let ports = UdpRepr {
         src_port: 67,
         dst_port: 68,
     };
-    let host = Host::at(micros);
-    if client.accepts(&host, &header, &ports) {
-        client.process(&host, &header, &ports, bytes.as_slice());
+    if client.accepts(host, &header, &ports) {
+        client.process(host, &header, &ports, bytes.as_slice());
     }
 }

@@ -1,5 +1,5 @@
 //! Messages of DHCP, read and written.
-use dhcp_wire::{DhcpPacket, DhcpRepr};
+use clients::dhcp::{DhcpPacket, DhcpRepr};
 use std::alloc::Global;
 use std::io::{self, Write};
 

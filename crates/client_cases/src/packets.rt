@@ -1,0 +1,56 @@
+//! Packets to servers and from them.
+use ip_wire::{IpProtocol, IpRepr, Ipv4Address, Ipv4Repr, Ipv6Address, Ipv6Repr};
+use socket_base::{IpPayload, Offer, Packet};
+use std::alloc::Global;
+use std::io::{self, Write};
+
+/// Says what was offered: where from and where to, each an address, this sign and a port, and its bytes.
+pub(crate) fn say_offer<W: Write>(
+    alloc: Global,
+    offer: Offer,
+    offered: Option<Packet<'_>>,
+    sign: char,
+    writer: &mut W,
+) -> io::Result<()> {
+    if let Offer::Silent { changed } = offer {
+        return writeln!(writer, "silent {changed}");
+    }
+    let Some(packet) = offered else {
+        return Ok(());
+    };
+    let header = packet.ip_repr();
+    if let IpPayload::Udp(ports, bytes) = packet.payload() {
+        let digits = hex::encode(alloc, bytes)?;
+        let (from, to) = (header.src_addr(), header.dst_addr());
+        let (source, destination) = (ports.src_port, ports.dst_port);
+        return writeln!(
+            writer,
+            "{from}{sign}{source} {to}{sign}{destination} {digits}"
+        );
+    }
+    Ok(())
+}
+
+/// The header of a datagram of IPv4 with so many bytes.
+pub(crate) fn v4_header(src_addr: Ipv4Address, dst_addr: Ipv4Address, len: usize) -> IpRepr {
+    IpRepr::Ipv4(Ipv4Repr {
+        src_addr,
+        dst_addr,
+        next_header: IpProtocol::Udp,
+        payload_len: 8 + len.min(60_000),
+        hop_limit: 64,
+        ident: 0,
+        dont_frag: false,
+    })
+}
+
+/// The header of a datagram of IPv6 with so many bytes.
+pub(crate) fn v6_header(src_addr: Ipv6Address, dst_addr: Ipv6Address, len: usize) -> IpRepr {
+    IpRepr::Ipv6(Ipv6Repr {
+        src_addr,
+        dst_addr,
+        next_header: IpProtocol::Udp,
+        payload_len: 8 + len.min(60_000),
+        hop_limit: 64,
+    })
+}
