@@ -13,10 +13,11 @@ use Rattle.tcp_pair_model.specs.declared.event.PairRefused.TheVariants.{NoSegmen
 use Rattle.tcp_pair_model.specs.declared.event.Side.{Side}
 use Rattle.tcp_pair_model.specs.declared.event.Side.TheVariants.{A, B}
 use Rattle.tcp_pair_model.proofs.OutcomeLaws.{goes_on as in_pieces}
-use Rattle.tcp_progress.specs.Pair.{HasStream, MayExchangeIn, exchanged_in, next_sent, offered_in}
+use Rattle.tcp_progress.specs.Pair.{AreMirrored, HasStream, MayExchangeIn, exchanged_in, next_sent, offered_in}
 use Rattle.tcp_progress.specs.Reached.{IsReached}
 use Rattle.tcp_progress.specs.Rounds.{takes, comes}
 use Rattle.tcp_progress.proofs.Kept.{reached_keeps}
+use Rattle.tcp_progress.proofs.Mirrored.{mirrored_in}
 use Rattle.tcp_progress.proofs.Pair.{Takes, Tells, Ends, asked_side, side_moves, sent, first, in_step}
 use Rattle.tcp_progress.proofs.SentPairs.{TookEach, reached_took}
 
@@ -59,8 +60,8 @@ module _ (p : PairValue) (moment : ℤ) (o : OpenOffer) (r : IsReached p) where
       (λ one. within (next_sent p B) (next_sent (offered_in p A moment) B) (one_more (next_sent p B) (next_sent (offered_in p A moment) B) one))
       (by_two p A moment r asked
       (within (next_sent p A) (length (asked_side A p.sides.a p.sides.b moment).sent)
-      (slice_get_within (asked_side A p.sides.a p.sides.b moment).sent (next_sent p A) (first A p.sides.a p.sides.b moment may.mirrored o may.may)
-      (sent A p.sides.a p.sides.b moment may.mirrored o may.may))))
+      (slice_get_within (asked_side A p.sides.a p.sides.b moment).sent (next_sent p A) (first A p.sides.a p.sides.b moment mirrored o may.may)
+      (sent A p.sides.a p.sides.b moment mirrored o may.may))))
     where
       k : Keeps p.sides.a.socket (past_at p A) p.sides.b.socket (past_at p B)
       k = reached_keeps p A r
@@ -68,14 +69,17 @@ module _ (p : PairValue) (moment : ℤ) (o : OpenOffer) (r : IsReached p) where
       each : TookEach p A
       each = reached_took p A r may.may.own may.may.theirs
 
-      moves : Takes A p.sides.a p.sides.b moment may.mirrored o may.may
-          ⊎ (Tells A p.sides.a p.sides.b moment may.mirrored o may.may ⊎ Ends A p.sides.a p.sides.b moment may.mirrored o may.may)
+      mirrored : AreMirrored p.sides.a.socket.block p.sides.b.socket.block
+      mirrored = mirrored_in p A r may.may.own.synchronized may.may.theirs.synchronized may.mirrored
+
+      moves : Takes A p.sides.a p.sides.b moment mirrored o may.may
+          ⊎ (Tells A p.sides.a p.sides.b moment mirrored o may.may ⊎ Ends A p.sides.a p.sides.b moment mirrored o may.may)
       moves =
-          side_moves A p.sides.a p.sides.b moment may.mirrored o may.may (past_at p A) (past_at p B) k
+          side_moves A p.sides.a p.sides.b moment mirrored o may.may (past_at p A) (past_at p B) k
           (in_step p.sides.a.socket p.sides.b.socket (past_at p A) (past_at p B) k may.may.own.synchronized stream) each.sent each.heard
 
-      counts : Takes A p.sides.a p.sides.b moment may.mirrored o may.may
-          ⊎ (Tells A p.sides.a p.sides.b moment may.mirrored o may.may ⊎ Ends A p.sides.a p.sides.b moment may.mirrored o may.may)
+      counts : Takes A p.sides.a p.sides.b moment mirrored o may.may
+          ⊎ (Tells A p.sides.a p.sides.b moment mirrored o may.may ⊎ Ends A p.sides.a p.sides.b moment mirrored o may.may)
           → (next_sent (offered_in p A moment) B - next_sent p B ≡ 0) ⊎ (next_sent (offered_in p A moment) B - next_sent p B ≡ 1)
       counts (inl x) = inl x.none
       counts (inr (inl x)) = inr x.one
@@ -87,8 +91,8 @@ module _ (p : PairValue) (moment : ℤ) (o : OpenOffer) (r : IsReached p) where
       (λ one. within (next_sent p A) (next_sent (offered_in p B moment) A) (one_more (next_sent p A) (next_sent (offered_in p B moment) A) one))
       (by_two p B moment r asked
       (within (next_sent p B) (length (asked_side B p.sides.b p.sides.a moment).sent)
-      (slice_get_within (asked_side B p.sides.b p.sides.a moment).sent (next_sent p B) (first B p.sides.b p.sides.a moment may.mirrored o may.may)
-      (sent B p.sides.b p.sides.a moment may.mirrored o may.may))))
+      (slice_get_within (asked_side B p.sides.b p.sides.a moment).sent (next_sent p B) (first B p.sides.b p.sides.a moment mirrored o may.may)
+      (sent B p.sides.b p.sides.a moment mirrored o may.may))))
     where
       k : Keeps p.sides.b.socket (past_at p B) p.sides.a.socket (past_at p A)
       k = reached_keeps p B r
@@ -96,14 +100,17 @@ module _ (p : PairValue) (moment : ℤ) (o : OpenOffer) (r : IsReached p) where
       each : TookEach p B
       each = reached_took p B r may.may.own may.may.theirs
 
-      moves : Takes B p.sides.b p.sides.a moment may.mirrored o may.may
-          ⊎ (Tells B p.sides.b p.sides.a moment may.mirrored o may.may ⊎ Ends B p.sides.b p.sides.a moment may.mirrored o may.may)
+      mirrored : AreMirrored p.sides.b.socket.block p.sides.a.socket.block
+      mirrored = mirrored_in p B r may.may.own.synchronized may.may.theirs.synchronized may.mirrored
+
+      moves : Takes B p.sides.b p.sides.a moment mirrored o may.may
+          ⊎ (Tells B p.sides.b p.sides.a moment mirrored o may.may ⊎ Ends B p.sides.b p.sides.a moment mirrored o may.may)
       moves =
-          side_moves B p.sides.b p.sides.a moment may.mirrored o may.may (past_at p B) (past_at p A) k
+          side_moves B p.sides.b p.sides.a moment mirrored o may.may (past_at p B) (past_at p A) k
           (in_step p.sides.b.socket p.sides.a.socket (past_at p B) (past_at p A) k may.may.own.synchronized stream) each.sent each.heard
 
-      counts : Takes B p.sides.b p.sides.a moment may.mirrored o may.may
-          ⊎ (Tells B p.sides.b p.sides.a moment may.mirrored o may.may ⊎ Ends B p.sides.b p.sides.a moment may.mirrored o may.may)
+      counts : Takes B p.sides.b p.sides.a moment mirrored o may.may
+          ⊎ (Tells B p.sides.b p.sides.a moment mirrored o may.may ⊎ Ends B p.sides.b p.sides.a moment mirrored o may.may)
           → (next_sent (offered_in p B moment) A - next_sent p A ≡ 0) ⊎ (next_sent (offered_in p B moment) A - next_sent p A ≡ 1)
       counts (inl x) = inl x.none
       counts (inr (inl x)) = inr x.one

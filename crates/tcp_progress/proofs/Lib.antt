@@ -18,3 +18,4 @@ pub mod SentSteps
 pub mod Kept
 pub mod SentEvents
 pub mod SentPairs
+pub mod Mirrored

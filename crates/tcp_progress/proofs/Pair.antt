@@ -52,6 +52,7 @@ use Rattle.tcp_progress.specs.Reached.{IsReached}
 use Rattle.tcp_progress.proofs.Exchange.{goes_on, last_of}
 use Rattle.tcp_progress.proofs.Kept.{reached_keeps}
 use Rattle.tcp_progress.proofs.Left.{left_same}
+use Rattle.tcp_progress.proofs.Mirrored.{mirrored_in}
 use Rattle.tcp_progress.proofs.Offered.{GoesOut, goes_out_of, goes_from_una}
 use Rattle.tcp_progress.proofs.Positions.{connected_in, placed, lies_within, una_small, next_small}
 use Rattle.tcp_progress.proofs.SentPairs.{reached_took}
@@ -316,13 +317,14 @@ pub pair_moved :
     (p : PairValue) (side : Side) (moment : ℤ) (o : OpenOffer)
     (k : Keeps (socket_of p side) (past_at p side) (socket_of p (other side)) (past_at p (other side)))
     → IsInStep k.side k.partner → TookWhatWasSent (socket_of p side) (socket_of p (other side))
-    → TookWhatWasSent (socket_of p (other side)) (socket_of p side) → MayExchangeIn p side moment o → Moved p side moment
-pair_moved p A moment o k step sent heard may =
-    by (side_moves A p.sides.a p.sides.b moment may.mirrored o may.may (past_at p A) (past_at p B) k step sent heard)
+    → TookWhatWasSent (socket_of p (other side)) (socket_of p side) → AreMirrored (socket_of p side).block (socket_of p (other side)).block
+    → MayExchangeIn p side moment o → Moved p side moment
+pair_moved p A moment o k step sent heard mirrored may =
+    by (side_moves A p.sides.a p.sides.b moment mirrored o may.may (past_at p A) (past_at p B) k step sent heard)
   where
     by :
-        Takes A p.sides.a p.sides.b moment may.mirrored o may.may
-        ⊎ (Tells A p.sides.a p.sides.b moment may.mirrored o may.may ⊎ Ends A p.sides.a p.sides.b moment may.mirrored o may.may)
+        Takes A p.sides.a p.sides.b moment mirrored o may.may
+        ⊎ (Tells A p.sides.a p.sides.b moment mirrored o may.may ⊎ Ends A p.sides.a p.sides.b moment mirrored o may.may)
         → Moved p A moment
     by (inl x) = record {
       moves = inl x.next;
@@ -347,12 +349,12 @@ pair_moved p A moment o k step sent heard may =
       moves = inr (inr (x.last, x.closed));
       less = subst (λ (n : ℕ). HasLess p (comes n B (next_sent p B) (offered_in p A moment)) A) (sym x.none) (inr (inr x.closed));
     }
-pair_moved p B moment o k step sent heard may =
-    by (side_moves B p.sides.b p.sides.a moment may.mirrored o may.may (past_at p B) (past_at p A) k step sent heard)
+pair_moved p B moment o k step sent heard mirrored may =
+    by (side_moves B p.sides.b p.sides.a moment mirrored o may.may (past_at p B) (past_at p A) k step sent heard)
   where
     by :
-        Takes B p.sides.b p.sides.a moment may.mirrored o may.may
-        ⊎ (Tells B p.sides.b p.sides.a moment may.mirrored o may.may ⊎ Ends B p.sides.b p.sides.a moment may.mirrored o may.may)
+        Takes B p.sides.b p.sides.a moment mirrored o may.may
+        ⊎ (Tells B p.sides.b p.sides.a moment mirrored o may.may ⊎ Ends B p.sides.b p.sides.a moment mirrored o may.may)
         → Moved p B moment
     by (inl x) = record {
       moves = inl x.next;
@@ -382,8 +384,9 @@ pub pair_moves :
     (p : PairValue) (side : Side) (moment : ℤ) (o : OpenOffer)
     (k : Keeps (socket_of p side) (past_at p side) (socket_of p (other side)) (past_at p (other side)))
     → IsInStep k.side k.partner → TookWhatWasSent (socket_of p side) (socket_of p (other side))
-    → TookWhatWasSent (socket_of p (other side)) (socket_of p side) → MayExchangeIn p side moment o → MovesIn p side moment
-pair_moves p side moment o k step sent heard may = (pair_moved p side moment o k step sent heard may).moves
+    → TookWhatWasSent (socket_of p (other side)) (socket_of p side) → AreMirrored (socket_of p side).block (socket_of p (other side)).block
+    → MayExchangeIn p side moment o → MovesIn p side moment
+pair_moves p side moment o k step sent heard mirrored may = (pair_moved p side moment o k step sent heard mirrored may).moves
 
 -- IN STEP
 
@@ -420,7 +423,8 @@ reached_moved p side moment o reached stream may =
     let k = reached_keeps p side reached in
     let each = reached_took p side reached may.may.own may.may.theirs in
     pair_moved p side moment o k
-    (in_step (socket_of p side) (socket_of p (other side)) (past_at p side) (past_at p (other side)) k may.may.own.synchronized stream) each.sent each.heard may
+    (in_step (socket_of p side) (socket_of p (other side)) (past_at p side) (past_at p (other side)) k may.may.own.synchronized stream) each.sent each.heard
+    (mirrored_in p side reached may.may.own.synchronized may.may.theirs.synchronized may.mirrored) may
 
 pub reached_moves : (p : PairValue) (side : Side) (moment : ℤ) (o : OpenOffer) → IsReached p → HasStream (past_at p side) → MayExchangeIn p side moment o →
     MovesIn p side moment

@@ -290,7 +290,7 @@ ready_side p side r =
     (by_steps IsReady event_ready unoffered_ready (new_pair (new_socket r.room_a r.ring_a) (new_socket r.room_b r.ring_b)) r.events p r.steps
     (record { first = new_ready r.room_a r.ring_a; second = new_ready r.room_b r.ring_b }))
 
-some_pair : (names : Option EndpointPair) → is_some names ≡ true → (pair : EndpointPair) × (names ≡ Some pair)
+pub some_pair : (names : Option EndpointPair) → is_some names ≡ true → (pair : EndpointPair) × (names ≡ Some pair)
 some_pair None e = clash (sym e)
 some_pair (Some pair) e = (pair, refl)
 

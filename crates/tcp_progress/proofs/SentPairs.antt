@@ -80,7 +80,7 @@ short_yet count e = by (nat_le (2 ^ 29) count) refl e where
   by true is_so e = absurd (cc)
   by false is_not e = grind (arith, nat_tests)
 
-is_allowed : (p : PairValue) (event : PairEvent) → refusal p event ≡ None → IsAllowed event (at (pasts p.history) (side_of event))
+pub is_allowed : (p : PairValue) (event : PairEvent) → refusal p event ≡ None → IsAllowed event (at (pasts p.history) (side_of event))
 is_allowed p (Listen side endpoint) e = unopened_yet (at (pasts p.history) side).opening e
 is_allowed p (Connect side remote local) e = unopened_yet (at (pasts p.history) side).opening e
 is_allowed p (Send side bytes) e = short_yet (length (at (pasts p.history) side).written + length bytes) e

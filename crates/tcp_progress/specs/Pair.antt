@@ -1,6 +1,7 @@
 -- An exchange as events of a pair: a side is asked, its segment comes, and what answers it comes.
 use Rattle.std.specs.Prelude.{◌≡◌, ◌⊎◌, ℕ, ◌-◌, ◌≤◌, ℤ, true, false, List, [], ◌∷◌, length, Some}
 use Rattle.tcp_tie.specs.Context.{ContextValue}
+use Rattle.tcp_law.specs.Side.Opening.{Passive}
 use Rattle.tcp_tie.specs.Tie.{Past}
 use Rattle.tcp_rules.specs.EndpointPair.{EndpointPair}
 use Rattle.tcp_rules.specs.Endpoints.{local_of, remote_of}
@@ -49,13 +50,18 @@ pub record AreMirrored (b partner : Block) : Type 0 where
   pub local_port : own.local_port ≡ theirs.remote_port
   pub remote_port : own.remote_port ≡ theirs.local_port
 
+-- one of the two listened
+abbrev pub OneListened : PairValue → Side → Type 0
+OneListened p side = ((past_at p side).opening ≡ Passive) ⊎ ((past_at p (other side)).opening ≡ Passive)
+
 -- what a side knows of its host at a moment
 abbrev pub context_of : PairValue → Side → ℤ → ContextValue
 context_of p side moment = context_at side (record (at p.sides side) { moment = moment })
 
--- The side, asked at this moment, offers this for an exchange with the other, whose clock stands still meanwhile.
+-- The side, asked at this moment, offers this for an exchange with the other, whose clock stands still meanwhile. One of them listened, or
+-- their endpoints mirror each other.
 pub record MayExchangeIn (p : PairValue) (side : Side) (moment : ℤ) (o : OpenOffer) : Type 0 where
-  pub mirrored : AreMirrored (socket_of p side).block (socket_of p (other side)).block
+  pub mirrored : OneListened p side ⊎ AreMirrored (socket_of p side).block (socket_of p (other side)).block
   pub may :
       MayExchange (context_of p side moment) (context_at (other side) (at p.sides (other side))) (socket_of p side) (socket_of p (other side)) o
 

@@ -30,7 +30,7 @@ ghost use Rattle.tcp_rules.specs.Timing.{carries};
 ghost use Rattle.tcp_progress.specs.Again.{StartsOver};
 ghost use Rattle.tcp_progress.specs.Arrivals.{is_synchronized, Counts, EndsLastAck, IsNearWindow, IsNew, Rises, IsAgain, IsAnswered, IsShutOut};
 ghost use Rattle.tcp_progress.specs.Exchange.{GoesFromUna, HasMoved, IsOpen, MayExchange, TookWhatWasSent, left_of};
-ghost use Rattle.tcp_progress.specs.Pair.{Exchanges, HasStream, MayExchangeIn, MovesIn, exchanged_in, left_in, socket_of};
+ghost use Rattle.tcp_progress.specs.Pair.{AreMirrored, Exchanges, HasStream, MayExchangeIn, OneListened, MovesIn, exchanged_in, left_in, socket_of};
 ghost use Rattle.tcp_progress.specs.Positions.{LiesWithin};
 ghost use Rattle.tcp_progress.specs.Reached.{IsReached, Owes};
 ghost use Rattle.tcp_progress.specs.Sent.{SendsAll, sent_in, taken_in};
@@ -157,6 +157,14 @@ pub fn a_side_with_a_stream_is_in_step()
         → IsInStep k.side k.partner }
 {}
 
+/// Of a pair that events led to, where one side listened, the endpoints of two connected sides mirror each other: a side that called sends
+/// between its own, and a listener has those of a segment of it. So each accepts what the other sends.
+pub fn endpoints_mirror_each_other()
+    ensures mirrored { (p : PairValue) (side : Side) → IsReached p → is_synchronized (socket_of p side).block.state ≡ true
+        → is_synchronized (socket_of p (other side)).block.state ≡ true → OneListened p side
+        → AreMirrored (socket_of p side).block (socket_of p (other side)).block }
+{}
+
 /// No deadlock, of a pair: a side that has something unacknowledged is asked at a moment at which nothing is in flight or its timer has run
 /// out, and sends text or a FIN. Its segment comes, and what answers it comes. Then RCV.NXT of the other rises, or SND.UNA of the side does,
 /// or the other was in LAST-ACK, which the segment ends.
@@ -164,7 +172,8 @@ pub fn an_exchange_of_a_pair_goes_on()
     ensures kept { (p : PairValue) (side : Side) (moment : ℤ) (o : OpenOffer)
         (k : Keeps (socket_of p side) (past_at p side) (socket_of p (other side)) (past_at p (other side)))
         → IsInStep k.side k.partner → TookWhatWasSent (socket_of p side) (socket_of p (other side))
-        → TookWhatWasSent (socket_of p (other side)) (socket_of p side) → MayExchangeIn p side moment o → MovesIn p side moment }
+        → TookWhatWasSent (socket_of p (other side)) (socket_of p side)
+        → AreMirrored (socket_of p side).block (socket_of p (other side)).block → MayExchangeIn p side moment o → MovesIn p side moment }
     ensures reached { (p : PairValue) (side : Side) (moment : ℤ) (o : OpenOffer) → IsReached p → HasStream (past_at p side)
         → MayExchangeIn p side moment o → MovesIn p side moment }
     ensures leads { (p : PairValue) (side : Side) (moment : ℤ) (o : OpenOffer) → IsReached p → HasStream (past_at p side)

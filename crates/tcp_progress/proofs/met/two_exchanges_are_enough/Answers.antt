@@ -18,17 +18,7 @@ returns-clause-one c = (
   },
   inl refl,
   record {
-    mirrored =
-        record {
-          own = _;
-          theirs = _;
-          named = refl;
-          partner_named = refl;
-          local = refl;
-          remote = refl;
-          local_port = refl;
-          remote_port = refl;
-        };
+    mirrored = inl (inr refl);
     may =
         record {
           own = record { synchronized = refl; acknowledged = refl; opened = leb-true _ _ refl };

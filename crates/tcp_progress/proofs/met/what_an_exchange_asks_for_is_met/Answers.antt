@@ -23,17 +23,7 @@ returns-clause-stream c = inl refl
 
 pub returns-clause-lost : goal.returns-clause-lost
 returns-clause-lost c = record {
-  mirrored =
-      record {
-        own = _;
-        theirs = _;
-        named = refl;
-        partner_named = refl;
-        local = refl;
-        remote = refl;
-        local_port = refl;
-        remote_port = refl;
-      };
+  mirrored = inl (inr refl);
   may =
       record {
         own = record { synchronized = refl; acknowledged = refl; opened = leb-true _ _ refl };
@@ -53,17 +43,7 @@ returns-clause-lost c = record {
 
 pub returns-clause-untold : goal.returns-clause-untold
 returns-clause-untold c = record {
-  mirrored =
-      record {
-        own = _;
-        theirs = _;
-        named = refl;
-        partner_named = refl;
-        local = refl;
-        remote = refl;
-        local_port = refl;
-        remote_port = refl;
-      };
+  mirrored = inl (inr refl);
   may =
       record {
         own = record { synchronized = refl; acknowledged = refl; opened = leb-true _ _ refl };

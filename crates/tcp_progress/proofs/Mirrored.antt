@@ -1,0 +1,641 @@
+-- Each side of a pair sends between its endpoints; a listener's are those of a segment that its partner sent: so the two mirror each other.
+use Rattle.std.proofs.Common.{◌≡◌, ◌⊎◌, inl, inr, ℕ, zero, suc, ◌==◌, ◌&&◌, not, Bool, true, false, if◌then◌else◌, List, [], ◌∷◌, ◌++◌}
+use Rattle.std.proofs.Common.{length, Option, Some, None, Result, Ok, Err, slice_get, refl, sym, ap, ◌∙◌, subst, append-nil}
+use Rattle.std.proofs.lemmas.Bool.{cond_both}
+use Rattle.std.specs.List.{AllByRecursion}
+use Rattle.ip_wire.specs.Ip.{source_of, destination_of}
+use Rattle.ip_wire.specs.IpEndpoint.{IpEndpoint}
+use Rattle.ip_wire.specs.IpListenEndpoint.{IpListenEndpoint}
+use Rattle.ip_wire.specs.IpRepr.{IpRepr}
+use Rattle.ip_wire.specs.IpRepr.TheVariants as Ip
+use Rattle.ip_wire.specs.TcpHeader.{TcpHeader}
+use Rattle.tcp_law.specs.Invariant.{FitsPhase}
+use Rattle.tcp_law.specs.Side.{Side as Half, Phase}
+use Rattle.tcp_law.specs.Side.Phase.{SynSent}
+use Rattle.tcp_law.specs.Side.Opening.{NotYet, Passive, Active}
+use Rattle.tcp_law.proofs.Lists.{AllByRecursion-push}
+use Rattle.tcp_tie.specs.Context.{ContextValue}
+use Rattle.tcp_tie.specs.Endpoints.{GoesBetween, GoesBack, CameBetween, IsFor, KeepsOrForgets, IsLeftBy, IsRenamed}
+use Rattle.tcp_tie.specs.History.{closed_by, closes_in}
+use Rattle.tcp_tie.specs.Side.{Opening}
+use Rattle.tcp_tie.specs.Tie.{Past, Keeps, IsListening, FitsIn, core_of, unsent}
+use Rattle.tcp_tie.proofs.NameLaws.{accepted, arrival_names, answer_back, offer_between_ends, sent_names, withheld_names, close_names, abort_names}
+use Rattle.tcp_tie.proofs.Tied.{if_so}
+use Rattle.tcp_rules.specs.EndpointPair.{EndpointPair}
+use Rattle.tcp_rules.specs.Endpoints.{local_of, remote_of, pair_in}
+use Rattle.tcp_rules.specs.Names.{Names}
+use Rattle.tcp_rules.specs.OpenOffer.{OpenOffer}
+use Rattle.tcp_rules.specs.Reply.{Reply}
+use Rattle.tcp_rules.specs.RecvError.{RecvError}
+use Rattle.tcp_rules.specs.State.{State}
+use Rattle.tcp_rules.specs.State.TheVariants as In
+use Rattle.tcp_rules.specs.States.{is_closed, is_listening, takes_writes}
+use Rattle.tcp_rules.proofs.OrderSteps.{clash}
+use Rattle.tcp_pair_model.specs.Arrival.{arrives}
+use Rattle.tcp_pair_model.specs.Block.{Block}
+use Rattle.tcp_pair_model.specs.Calls.{listening, connected_by, pair_for, found_answer, recv_answer, listen_after, connect_answer}
+use Rattle.tcp_pair_model.specs.Calls.{connect_after, send_answer, send_after, close_after, abort_after}
+use Rattle.tcp_pair_model.specs.FirstNumbers.{number_for}
+use Rattle.tcp_pair_model.specs.History.{pasts, side_of, adds, connect_adds, send_adds, recv_adds}
+use Rattle.tcp_pair_model.specs.Names.{accepts}
+use Rattle.tcp_pair_model.specs.Offers.{offer_of, payload_of}
+use Rattle.tcp_pair_model.specs.Safe.{IsKept}
+use Rattle.tcp_pair_model.specs.Settled.{settled}
+use Rattle.tcp_pair_model.specs.Sides.{Both, at, put, other}
+use Rattle.tcp_pair_model.specs.Steps.{Steps, refusal, happens, acts, acting, reads, set_by, handed, taken_at, connect_says, send_says}
+use Rattle.tcp_pair_model.specs.Value.{TcpValue, new_socket, unoffered}
+use Rattle.tcp_pair_model.specs.Values.{PairSide, PairValue, context_at, new_pair, and_offer, and_reply, past_at, with_segments}
+use Rattle.tcp_pair_model.specs.declared.event.PairAnswer.{PairAnswer}
+use Rattle.tcp_pair_model.specs.declared.event.PairAnswer.TheVariants.{Done, Count, Bytes, Error}
+use Rattle.tcp_pair_model.specs.declared.event.PairEvent.{PairEvent}
+use Rattle.tcp_pair_model.specs.declared.event.PairEvent.TheVariants.{Listen, Connect, Send, Recv, Close, Abort, TcpSetting, Offer, Deliver}
+use Rattle.tcp_pair_model.specs.declared.event.SentSegment.{SentSegment}
+use Rattle.tcp_pair_model.specs.declared.event.Side.{Side}
+use Rattle.tcp_pair_model.specs.declared.event.Side.TheVariants.{A, B}
+use Rattle.tcp_pair_model.specs.declared.event.TcpSetting.{TcpSetting as Setting}
+use Rattle.tcp_pair_model.specs.declared.event.TcpSetting.TheVariants as Set
+use Rattle.tcp_pair_model.proofs.PairLaws.{new_is_kept, kept_after}
+use Rattle.tcp_pair_model.proofs.SideLaws.{IsAllowed}
+use Rattle.tcp_progress.specs.Arrivals.{is_synchronized}
+use Rattle.tcp_progress.specs.Pair.{AreMirrored, OneListened, socket_of}
+use Rattle.tcp_progress.specs.Reached.{IsReached}
+use Rattle.tcp_progress.proofs.Kept.{keeps_of}
+use Rattle.tcp_progress.proofs.Ready.{ready_side, some_pair}
+use Rattle.tcp_progress.proofs.SentPairs.{is_allowed}
+
+-- LISTS
+
+abbrev Among : SentSegment → List SentSegment → Type 0
+Among x [] = ⊥
+Among x (y ∷ ys) = (y ≡ x) ⊎ Among x ys
+
+among_more : (x : SentSegment) (xs ys : List SentSegment) → Among x xs → Among x (xs ++ ys)
+among_more x [] ys a = absurd a
+among_more x (y ∷ xs) ys (inl e) = inl e
+among_more x (y ∷ xs) ys (inr a) = inr (among_more x xs ys a)
+
+among_at : (xs : List SentSegment) (k : ℕ) (x : SentSegment) → slice_get xs k ≡ Some x → Among x xs
+among_at [] k x e = absurd (cc)
+among_at (y ∷ xs) zero x e = inl (let same : y ≡ x = cc in same)
+among_at (y ∷ xs) (suc k) x e = inr (among_at xs k x e)
+
+all_among : (P : SentSegment → Type 0) (xs : List SentSegment) (x : SentSegment) → AllByRecursion P xs → Among x xs → P x
+all_among P [] x all a = absurd a
+all_among P (y ∷ xs) x all (inl e) = subst P e all.0
+all_among P (y ∷ xs) x all (inr a) = all_among P xs x all.1 a
+
+none_among : {A : Type 0} → (xs : List SentSegment) (x : SentSegment) → xs ≡ [] → Among x xs → A
+none_among [] x e a = absurd a
+none_among (y ∷ xs) x e a = absurd (cc)
+
+no_pair : (pair : EndpointPair) → None ≡ Some pair → ⊥
+no_pair pair e = absurd (cc)
+
+one_pair : (a b : EndpointPair) → Some a ≡ Some b → a ≡ b
+one_pair a b e = cc
+
+-- WHERE SEGMENTS GO
+
+record GoesFrom (pair : EndpointPair) (x : SentSegment) : Type 0 where
+  source : source_of x.header ≡ local_of pair.addresses
+  destination : destination_of x.header ≡ remote_of pair.addresses
+  source_port : x.segment.src_port ≡ pair.local_port
+  destination_port : x.segment.dst_port ≡ pair.remote_port
+
+-- a segment that the other side sent came between its endpoints
+record Comes (pair : EndpointPair) (others : List SentSegment) : Type 0 where
+  x : SentSegment
+  among : Among x others
+  came : CameBetween pair x.header x.segment
+
+-- A socket, with what was seen of it and what it sent, and how its partner was opened and what that sent: before it is opened it sends
+-- nothing; one that called sends between its endpoints; one that listened has those of a segment of a partner that called; and where none
+-- called nothing is sent.
+pub record IsDirected (v : TcpValue) (mine : Opening) (sent : List SentSegment) (theirs : Opening) (others : List SentSegment) : Type 0 where
+  unopened : mine ≡ NotYet → (sent ≡ []) × (v.block.names.pair ≡ None)
+  active : mine ≡ Active → (pair : EndpointPair) → v.block.names.pair ≡ Some pair → AllByRecursion (GoesFrom pair) sent
+  passive : mine ≡ Passive → (pair : EndpointPair) → v.block.names.pair ≡ Some pair → (theirs ≡ Active) × Comes pair others
+  none : (mine ≡ Active → ⊥) → (theirs ≡ Active → ⊥) → sent ≡ []
+
+-- what an event of the side does, beside its partner
+record Directs (v : TcpValue) (mine : Opening) (sent : List SentSegment) (new : TcpValue) (after : Opening) (gone : List SentSegment) (theirs : Opening)
+    (others : List SentSegment) : Type 0 where
+  own : IsDirected v mine sent theirs others → ((theirs ≡ Active → ⊥) → (mine ≡ Active → ⊥) → others ≡ []) → IsDirected new after gone theirs others
+  more : List SentSegment
+  grown : gone ≡ sent ++ more
+  stays : mine ≡ Active → after ≡ Active
+
+-- it sends nothing, and its endpoints stay or are forgotten
+still :
+    (v new : TcpValue) (mine after : Opening) (sent : List SentSegment) (theirs : Opening) (others : List SentSegment) → after ≡ mine
+    → (new.block.names.pair ≡ v.block.names.pair) ⊎ (new.block.names.pair ≡ None) → Directs v mine sent new after sent theirs others
+still v new mine after sent theirs others same names = record {
+  own = λ d _. record {
+    unopened = λ first. let it = d.unopened (sym same ∙ first) in (it.0, unnamed names it.1);
+    active = λ called pair e. by names (λ old. d.active (sym same ∙ called) pair old) e;
+    passive = λ listened pair e. by names (λ old. d.passive (sym same ∙ listened) pair old) e;
+    none = λ not theirs_not. d.none (λ e. not (same ∙ e)) theirs_not;
+  };
+  more = [];
+  grown = sym (append-nil sent);
+  stays = λ e. same ∙ e;
+}
+  where
+    unnamed : (new.block.names.pair ≡ v.block.names.pair) ⊎ (new.block.names.pair ≡ None) → v.block.names.pair ≡ None → new.block.names.pair ≡ None
+    unnamed (inl stay) e = stay ∙ e
+    unnamed (inr gone) e = gone
+
+    by :
+        {P : Type 0} {pair : EndpointPair} → (new.block.names.pair ≡ v.block.names.pair) ⊎ (new.block.names.pair ≡ None)
+        → (v.block.names.pair ≡ Some pair → P) → new.block.names.pair ≡ Some pair → P
+    by (inl stay) old e = old (sym stay ∙ e)
+    by {P} {pair} (inr gone) old e = absurd (no_pair pair (sym gone ∙ e))
+
+pairs_kept : (old new : Block) → KeepsOrForgets old new → (new.names.pair ≡ old.names.pair) ⊎ (new.names.pair ≡ None)
+pairs_kept old new (inl keeps) = inl (ap (λ (n : Names). n.pair) keeps.names)
+pairs_kept old new (inr forgets) = inr (ap (λ (n : Names). n.pair) forgets.names)
+
+pairs_left : (old new : Block) → IsLeftBy old new → (new.names.pair ≡ old.names.pair) ⊎ (new.names.pair ≡ None)
+pairs_left old new (inl falls) = inr (ap (λ (n : Names). n.pair) falls.names)
+pairs_left old new (inr rest) = pairs_kept old new rest
+
+-- a socket that called never listens
+not_listening : (state : State) (v w : TcpValue) (p q : Past) (k : Keeps v p w q) → v.block.state ≡ state → is_listening state ≡ true → p.opening ≡ Active → ⊥
+not_listening In.Listen v w p q k at e called =
+    absurd
+    (let f : IsListening (core_of v) (unsent k.side) = subst (λ (state : State). FitsIn state (core_of v) (unsent k.side)) at k.fits in
+    let passive : k.side.opening ≡ Passive = ap (λ (x : Half). x.opening) f.side in
+    let clashes : Passive ≡ Active = sym passive ∙ (ap (λ (p : Past). p.opening) k.past ∙ called) in cc)
+not_listening other v w p q k at e called = clash (sym e)
+
+-- a socket that wasn't opened is CLOSED
+unopened_closed : (v w : TcpValue) (p q : Past) → Keeps v p w q → p.opening ≡ NotYet → is_closed v.block.state ≡ true
+unopened_closed v w p q k first = by v.block.state k.fits where
+  none : k.side.opening ≡ NotYet
+  none = ap (λ (p : Past). p.opening) k.past ∙ first
+
+  by : (state : State) → FitsIn state (core_of v) (unsent k.side) → is_closed state ≡ true
+  by In.Closed f = refl
+  by In.Listen f =
+      absurd (let passive : k.side.opening ≡ Passive = ap (λ (x : Half). x.opening) f.side in let clashes : NotYet ≡ Passive = sym none ∙ passive in cc)
+  by In.SynSent f =
+      let asking : FitsPhase SynSent k.side.opening k.side.irs =
+      subst (λ (phase : Phase). FitsPhase phase k.side.opening k.side.irs) f.phase k.holds.0.well_formed.phase in
+      absurd (let clashes : NotYet ≡ Active = sym none ∙ asking.0 in cc)
+  by other f = absurd (f.once none)
+
+-- an offer goes between the endpoints
+offered :
+    (cx : ContextValue) (v : TcpValue) (mine theirs : Opening) (sent others : List SentSegment) (x : Option OpenOffer) (queue : List ℕ)
+    → (offer_of cx v).socket.offered ≡ x
+    → Directs v mine sent (settled true (offer_of cx v).socket) mine (and_offer sent x queue) theirs others
+offered cx v mine theirs sent others None queue e =
+    still v (settled true (offer_of cx v).socket) mine mine sent theirs others refl
+    (pairs_left v.block (settled true (offer_of cx v).socket).block (sent_names cx v))
+offered cx v mine theirs sent others (Some o) queue e = record {
+  own = λ d back. record {
+    unopened = λ first. absurd (no_pair it.0 (sym (d.unopened first).1 ∙ it.1));
+    active = λ called pair named.
+        AllByRecursion-push (GoesFrom pair) sent gone (d.active called pair (before pair named)) (goes pair (before pair named));
+    passive = λ listened pair named. d.passive listened pair (before pair named);
+    none = λ not theirs_not. absurd (nobody d not theirs_not);
+  };
+  more = gone ∷ [];
+  grown = refl;
+  stays = λ e. e;
+}
+  where
+    gone : SentSegment
+    gone = record { header = o.header; segment = o.segment; bytes = payload_of o o.kind queue }
+
+    it : (pair : EndpointPair) × (v.block.names.pair ≡ Some pair) × GoesBetween pair o
+    it = offer_between_ends cx v o e
+
+    new : TcpValue
+    new = settled true (offer_of cx v).socket
+
+    before : (pair : EndpointPair) → new.block.names.pair ≡ Some pair → v.block.names.pair ≡ Some pair
+    before pair named = by (pairs_left v.block new.block (sent_names cx v)) where
+      by : (new.block.names.pair ≡ v.block.names.pair) ⊎ (new.block.names.pair ≡ None) → v.block.names.pair ≡ Some pair
+      by (inl stay) = sym stay ∙ named
+      by (inr gone) = absurd (no_pair pair (sym gone ∙ named))
+
+    goes : (pair : EndpointPair) → v.block.names.pair ≡ Some pair → GoesFrom pair gone
+    goes pair named =
+        let g = subst (λ (pair : EndpointPair). GoesBetween pair o) (one_pair it.0 pair (sym it.1 ∙ named)) it.2 in
+        record { source = g.source; destination = g.destination; source_port = g.source_port; destination_port = g.destination_port }
+
+    nobody : IsDirected v mine sent theirs others → (mine ≡ Active → ⊥) → (theirs ≡ Active → ⊥) → ⊥
+    nobody d not theirs_not = by mine refl where
+      by : (opening : Opening) → mine ≡ opening → ⊥
+      by NotYet at = no_pair it.0 (sym (d.unopened at).1 ∙ it.1)
+      by Passive at = theirs_not (d.passive at it.0 it.1).0
+      by Active at = not at
+
+-- a segment of the partner comes
+came_in : (ip : IpRepr) (header : TcpHeader) → CameBetween (pair_in ip header) ip header
+came_in (Ip.Ipv4 v) header = record { source = refl; destination = refl; source_port = refl; destination_port = refl }
+came_in (Ip.Ipv6 v) header = record { source = refl; destination = refl; source_port = refl; destination_port = refl }
+
+arrived :
+    (cx : ContextValue) (v w : TcpValue) (p q : Past) (k : Keeps v p w q) (mine theirs : Opening) (sent others : List SentSegment) (x : SentSegment)
+    (answer : Option Reply) → p.opening ≡ mine → Among x others → accepts v.block x.header x.segment ≡ true
+    → (arrives cx v x.header x.segment x.bytes).answer ≡ answer
+    → Directs v mine sent (arrives cx v x.header x.segment x.bytes).socket mine (and_reply sent answer) theirs others
+arrived cx v w p q k mine theirs sent others x answer first among accepts_it replied = record {
+  own = λ d back. record {
+    unopened = λ at. absurd (not_closed d back at);
+    active = λ called pair named. all answer refl d called pair (pair_before pair named called);
+    passive = λ listened pair named. by_names d back listened pair named renamed;
+    none = λ not theirs_not. none_among others x (back theirs_not not) among;
+  };
+  more = reply_list answer;
+  grown = grows answer;
+  stays = λ e. e;
+}
+  where
+    new : TcpValue
+    new = (arrives cx v x.header x.segment x.bytes).socket
+
+    is_for : IsFor v.block x.header x.segment
+    is_for = accepted v.block x.header x.segment accepts_it
+
+    renamed : IsRenamed x.header x.segment v.block new.block
+    renamed = arrival_names cx v x.header x.segment x.bytes
+
+    reply_list : Option Reply → List SentSegment
+    reply_list None = []
+    reply_list (Some reply) = record { header = reply.header; segment = reply.segment; bytes = [] } ∷ []
+
+    grows : (answer : Option Reply) → and_reply sent answer ≡ sent ++ reply_list answer
+    grows None = sym (append-nil sent)
+    grows (Some reply) = refl
+
+    -- where neither called nothing was sent to it
+    not_closed : IsDirected v mine sent theirs others → ((theirs ≡ Active → ⊥) → (mine ≡ Active → ⊥) → others ≡ []) → mine ≡ NotYet → ⊥
+    not_closed d back at = clash (sym (unopened_closed v w p q k (first ∙ at)) ∙ is_for.opened)
+
+    listens_not : mine ≡ Active → is_listening v.block.state ≡ false
+    listens_not called = by (is_listening v.block.state) refl where
+      by : (test : Bool) → is_listening v.block.state ≡ test → test ≡ false
+      by true e = absurd (not_listening v.block.state v w p q k refl e (first ∙ called))
+      by false e = refl
+
+    pair_before : (pair : EndpointPair) → new.block.names.pair ≡ Some pair → mine ≡ Active → v.block.names.pair ≡ Some pair
+    pair_before pair named called = by renamed where
+      by : IsRenamed x.header x.segment v.block new.block → v.block.names.pair ≡ Some pair
+      by (inl opened) = clash (sym opened.listening ∙ listens_not called)
+      by (inr (inl falls)) = absurd (no_pair pair (sym (ap (λ (n : Names). n.pair) falls.names) ∙ named))
+      by (inr (inr (inl keeps))) = sym (ap (λ (n : Names). n.pair) keeps.names) ∙ named
+      by (inr (inr (inr forgets))) = absurd (no_pair pair (sym (ap (λ (n : Names). n.pair) forgets.names) ∙ named))
+
+    all :
+        (a : Option Reply) → answer ≡ a → IsDirected v mine sent theirs others → mine ≡ Active → (pair : EndpointPair) → v.block.names.pair ≡ Some pair
+        → AllByRecursion (GoesFrom pair) (and_reply sent a)
+    all None e d called pair named = d.active called pair named
+    all (Some reply) e d called pair named =
+        AllByRecursion-push (GoesFrom pair) sent (record { header = reply.header; segment = reply.segment; bytes = [] }) (d.active called pair named)
+        (goes_back (is_for.connected (listens_not called)))
+      where
+        back : GoesBack x.header x.segment reply
+        back = answer_back cx v x.header x.segment x.bytes reply (replied ∙ e)
+
+        goes_back :
+            (it : EndpointPair) × (v.block.names.pair ≡ Some it) × CameBetween it x.header x.segment
+            → GoesFrom pair (record { header = reply.header; segment = reply.segment; bytes = [] })
+        goes_back it =
+            let c = subst (λ (pair : EndpointPair). CameBetween pair x.header x.segment) (one_pair it.0 pair (sym it.1 ∙ named)) it.2 in
+            record {
+              source = back.source ∙ c.destination;
+              destination = back.destination ∙ c.source;
+              source_port = back.source_port ∙ c.destination_port;
+              destination_port = back.destination_port ∙ c.source_port;
+            }
+
+    -- a listener is opened by a partner that called
+    by_names :
+        IsDirected v mine sent theirs others → ((theirs ≡ Active → ⊥) → (mine ≡ Active → ⊥) → others ≡ []) → mine ≡ Passive → (pair : EndpointPair)
+        → new.block.names.pair ≡ Some pair → IsRenamed x.header x.segment v.block new.block → (theirs ≡ Active) × Comes pair others
+    by_names d back listened pair named (inl opened) = (
+      called theirs refl,
+      record {
+        x = x;
+        among = among;
+        came =
+            subst (λ (pair : EndpointPair). CameBetween pair x.header x.segment)
+            (one_pair (pair_in x.header x.segment) pair (sym (ap (λ (n : Names). n.pair) opened.names) ∙ named)) (came_in x.header x.segment);
+      },
+    )
+      where
+        not_mine : mine ≡ Active → ⊥
+        not_mine e = absurd (let clashes : Passive ≡ Active = sym listened ∙ e in cc)
+
+        called : (opening : Opening) → theirs ≡ opening → theirs ≡ Active
+        called Active e = e
+        called NotYet e = none_among others x (back (λ (a : theirs ≡ Active). absurd (let clashes : NotYet ≡ Active = sym e ∙ a in cc)) not_mine) among
+        called Passive e = none_among others x (back (λ (a : theirs ≡ Active). absurd (let clashes : Passive ≡ Active = sym e ∙ a in cc)) not_mine) among
+    by_names d back listened pair named (inr (inl falls)) = absurd (no_pair pair (sym (ap (λ (n : Names). n.pair) falls.names) ∙ named))
+    by_names d back listened pair named (inr (inr (inl keeps))) = d.passive listened pair (sym (ap (λ (n : Names). n.pair) keeps.names) ∙ named)
+    by_names d back listened pair named (inr (inr (inr forgets))) = absurd (no_pair pair (sym (ap (λ (n : Names). n.pair) forgets.names) ∙ named))
+
+-- EACH EVENT
+
+send_opening : (bytes : List ℕ) (answer : PairAnswer) (p : Past) → (send_adds bytes answer p).opening ≡ p.opening
+send_opening bytes Done p = refl
+send_opening bytes (Count n) p = refl
+send_opening bytes (Bytes more) p = refl
+send_opening bytes (Error fault) p = refl
+
+recv_opening : (answer : PairAnswer) (p : Past) → (recv_adds answer p).opening ≡ p.opening
+recv_opening Done p = refl
+recv_opening (Count n) p = refl
+recv_opening (Bytes bytes) p = refl
+recv_opening (Error fault) p = refl
+
+close_opening : (closes : Bool) (p : Past) → (closed_by closes p).opening ≡ p.opening
+close_opening true p = refl
+close_opening false p = refl
+
+module _ (s : PairSide) (w : TcpValue) (p q : Past) (others : List SentSegment) (k : Keeps s.socket (with_segments p s.sent) w (with_segments q others)) where
+  abbrev DirectsTo : PairSide → Opening → Type 0
+  DirectsTo new after = Directs s.socket p.opening s.sent new.socket after new.sent q.opening others
+
+  kept : (new : TcpValue) (after : Opening) → after ≡ p.opening → (new.block.names.pair ≡ s.socket.block.names.pair) ⊎ (new.block.names.pair ≡ None) →
+      Directs s.socket p.opening s.sent new after s.sent q.opening others
+  kept new after same names = still s.socket new p.opening after s.sent q.opening others same names
+
+  called_not : p.opening ≡ NotYet → p.opening ≡ Active → ⊥
+  called_not first called = absurd (let clashes : NotYet ≡ Active = sym first ∙ called in cc)
+
+  listens : (endpoint : IpListenEndpoint) (after : Opening) → p.opening ≡ NotYet →
+      Directs s.socket p.opening s.sent (listen_after s.socket endpoint) after s.sent q.opening others
+  listens endpoint after first = record {
+    own = λ d _.
+        let unnamed = none (d.unopened first).1 in
+        record {
+          unopened = λ _. ((d.unopened first).0, unnamed);
+          active = λ _ pair named. absurd (no_pair pair (sym unnamed ∙ named));
+          passive = λ _ pair named. absurd (no_pair pair (sym unnamed ∙ named));
+          none = λ _ _. (d.unopened first).0;
+        };
+    more = [];
+    grown = sym (append-nil s.sent);
+    stays = λ called. absurd (called_not first called);
+  }
+    where
+      none : s.socket.block.names.pair ≡ None → (listen_after s.socket endpoint).block.names.pair ≡ None
+      none e =
+          cond_both (is_closed s.socket.block.state && not (endpoint.port == 0)) (listening s.socket endpoint) (unoffered s.socket)
+          (λ (new : TcpValue). new.block.names.pair ≡ None) (λ _. refl) (λ _. e)
+
+  connected : (names : Option EndpointPair) (number : ℕ) → p.opening ≡ NotYet →
+      Directs s.socket p.opening s.sent (connected_by s.socket names number) (connect_adds (connect_says (found_answer names)) p).opening s.sent q.opening
+      others
+  connected None number first = kept (unoffered s.socket) p.opening refl (inl refl)
+  connected (Some pair) number first = record {
+    own = λ d _. record {
+      unopened = λ (e : Active ≡ NotYet). absurd (cc);
+      active = λ _ it _. subst (λ (xs : List SentSegment). AllByRecursion (GoesFrom it) xs) (sym (d.unopened first).0) tt;
+      passive = λ (e : Active ≡ Passive). absurd (cc);
+      none = λ not _. absurd (not refl);
+    };
+    more = [];
+    grown = sym (append-nil s.sent);
+    stays = λ _. refl;
+  }
+
+  connects : (cx : ContextValue) (remote : IpEndpoint) (local : IpListenEndpoint) → p.opening ≡ NotYet →
+      Directs s.socket p.opening s.sent (connect_after cx s.socket remote local)
+      (connect_adds (connect_says (connect_answer cx s.socket remote local)) p).opening s.sent q.opening others
+  connects cx remote local first =
+      subst (λ new. Directs s.socket p.opening s.sent new (connect_adds (connect_says (connect_answer cx s.socket remote local)) p).opening s.sent q.opening
+      others)
+      (sym (if_so (is_closed s.socket.block.state) (connected_by s.socket (pair_for cx remote local) (number_for cx (pair_for cx remote local)))
+      (unoffered s.socket) closed))
+      (subst (λ r. Directs s.socket p.opening s.sent (connected_by s.socket (pair_for cx remote local) (number_for cx (pair_for cx remote local)))
+      (connect_adds (connect_says r) p).opening s.sent q.opening others)
+      (sym (if_so (is_closed s.socket.block.state) (found_answer (pair_for cx remote local)) _ closed))
+      (connected (pair_for cx remote local) (number_for cx (pair_for cx remote local)) first))
+    where
+      closed : is_closed s.socket.block.state ≡ true
+      closed = unopened_closed s.socket w (with_segments p s.sent) (with_segments q others) k first
+
+  sends : (bytes : List ℕ) → Directs s.socket p.opening s.sent (send_after s.socket bytes)
+      (send_adds bytes (send_says (send_answer s.socket (length bytes))) p).opening s.sent q.opening others
+  sends bytes =
+      kept (send_after s.socket bytes) (send_adds bytes (send_says (send_answer s.socket (length bytes))) p).opening
+      (send_opening bytes (send_says (send_answer s.socket (length bytes))) p)
+      (inl (cond_both (takes_writes s.socket.block.state) _ (unoffered s.socket) (λ (new : TcpValue). new.block.names.pair ≡ s.socket.block.names.pair)
+      (λ _. refl) (λ _. refl)))
+
+  reads_on : (r : Result ℕ RecvError) → DirectsTo (reads s r).side (recv_adds (reads s r).answer p).opening
+  reads_on (Ok n) = kept (reads s (Ok n)).side.socket _ (recv_opening (reads s (Ok n)).answer p) (inl refl)
+  reads_on (Err fault) = kept (unoffered s.socket) _ (recv_opening (reads s (Err fault)).answer p) (inl refl)
+
+  sets : (setting : Setting) → Directs s.socket p.opening s.sent (set_by setting s.socket) p.opening s.sent q.opening others
+  sets (Set.Timeout duration) = kept (set_by (Set.Timeout duration) s.socket) p.opening refl (inl refl)
+  sets (Set.AckDelay duration) = kept (set_by (Set.AckDelay duration) s.socket) p.opening refl (inl refl)
+  sets (Set.KeepAlive interval) = kept (set_by (Set.KeepAlive interval) s.socket) p.opening refl (inl refl)
+  sets (Set.NagleEnabled enabled) = kept (set_by (Set.NagleEnabled enabled) s.socket) p.opening refl (inl refl)
+  sets (Set.HopLimit limit) = kept (set_by (Set.HopLimit limit) s.socket) p.opening refl (inl refl)
+  sets (Set.TsvalGenerator generator) = kept (set_by (Set.TsvalGenerator generator) s.socket) p.opening refl (inl refl)
+  sets (Set.CongestionControl control) = kept (set_by (Set.CongestionControl control) s.socket) p.opening refl (inl refl)
+  sets (Set.PauseSynack paused) = kept (set_by (Set.PauseSynack paused) s.socket) p.opening refl (inl refl)
+  sets (Set.Retries limit) = kept (set_by (Set.Retries limit) s.socket) p.opening refl (inl refl)
+  sets (Set.MinRto duration) = kept (set_by (Set.MinRto duration) s.socket) p.opening refl (inl refl)
+
+  comes_to_it : (side : Side) (n : ℕ) (x : Option SentSegment) → slice_get others n ≡ x → DirectsTo (handed side s x) p.opening
+  comes_to_it side n None e = kept s.socket p.opening refl (inl refl)
+  comes_to_it side n (Some x) e =
+      at (accepts s.socket.block x.header x.segment) refl
+    where
+      at : (test : Bool) → accepts s.socket.block x.header x.segment ≡ test →
+          DirectsTo (if test then taken_at s (arrives (context_at side s) s.socket x.header x.segment x.bytes) else s) p.opening
+      at true takes =
+          arrived (context_at side s) s.socket w (with_segments p s.sent) (with_segments q others) k p.opening q.opening s.sent others x
+          (arrives (context_at side s) s.socket x.header x.segment x.bytes).answer refl (among_at others n x e) takes refl
+      at false not = kept s.socket p.opening refl (inl refl)
+
+  directs : (event : PairEvent) → IsAllowed event p →
+      DirectsTo (acts s others event).side (adds event (acts s others event).answer s.socket.block.state p).opening
+  directs (Listen side endpoint) allowed = listens endpoint _ allowed
+  directs (Connect side remote local) allowed = connects (context_at side s) remote local allowed
+  directs (Send side bytes) allowed = sends bytes
+  directs (Recv side count) allowed = reads_on (recv_answer s.socket count)
+  directs (Close side) allowed =
+      kept (close_after s.socket) _ (close_opening (closes_in s.socket.block.state) p)
+      (pairs_kept s.socket.block (close_after s.socket).block (close_names s.socket))
+  directs (Abort side) allowed = kept (abort_after s.socket) p.opening refl (pairs_kept s.socket.block (abort_after s.socket).block (abort_names s.socket))
+  directs (TcpSetting side setting) allowed = sets setting
+  directs (Offer side moment true) allowed =
+      let cx = context_at side (record s { moment = moment }) in
+      offered cx s.socket p.opening q.opening s.sent others (offer_of cx s.socket).socket.offered (offer_of cx s.socket).socket.queued.queue refl
+  directs (Offer side moment false) allowed =
+      let cx = context_at side (record s { moment = moment }) in
+      kept (settled false (offer_of cx s.socket).socket) p.opening refl
+      (pairs_left s.socket.block (settled false (offer_of cx s.socket).socket).block (withheld_names cx s.socket))
+  directs (Deliver from n) allowed = comes_to_it (other from) n (slice_get others n) refl
+
+-- and its partner
+beside :
+    (v new w : TcpValue) (mine after theirs : Opening) (sent gone others : List SentSegment) → Directs v mine sent new after gone theirs others
+    → IsDirected w theirs others mine sent → IsDirected w theirs others after gone
+beside v new w mine after theirs sent gone others m d = record {
+  unopened = d.unopened;
+  active = d.active;
+  passive = λ listened pair named.
+      let it = d.passive listened pair named in (
+        m.stays it.0,
+        record {
+          x = it.1.x;
+          among = subst (λ (xs : List SentSegment). Among it.1.x xs) (sym m.grown) (among_more it.1.x sent m.more it.1.among);
+          came = it.1.came;
+        },
+      );
+  none = λ not theirs_not. d.none not (λ called. theirs_not (m.stays called));
+}
+
+-- A PAIR
+
+record BothDirected (sides : Both PairSide) (ps : Both Past) : Type 0 where
+  a : IsDirected sides.a.socket ps.a.opening sides.a.sent ps.b.opening sides.b.sent
+  b : IsDirected sides.b.socket ps.b.opening sides.b.sent ps.a.opening sides.a.sent
+
+abbrev DirectedIn : Both PairSide → Both Past → Side → Side → Type 0
+DirectedIn sides ps side partner =
+    IsDirected (at sides side).socket (at ps side).opening (at sides side).sent (at ps partner).opening (at sides partner).sent
+
+side_directed : (sides : Both PairSide) (ps : Both Past) (side : Side) → BothDirected sides ps → DirectedIn sides ps side (other side)
+side_directed sides ps A b = b.a
+side_directed sides ps B b = b.b
+
+partner_directed : (sides : Both PairSide) (ps : Both Past) (side : Side) → BothDirected sides ps → DirectedIn sides ps (other side) side
+partner_directed sides ps A b = b.b
+partner_directed sides ps B b = b.a
+
+put_directed :
+    (side : Side) (sides : Both PairSide) (ps : Both Past) (x : PairSide) (p : Past)
+    → IsDirected x.socket p.opening x.sent (at ps (other side)).opening (at sides (other side)).sent
+    → IsDirected (at sides (other side)).socket (at ps (other side)).opening (at sides (other side)).sent p.opening x.sent
+    → BothDirected (put sides side x) (put ps side p)
+put_directed A sides ps x p own theirs = record { a = own; b = theirs }
+put_directed B sides ps x p own theirs = record { a = theirs; b = own }
+
+directed_after : (p : PairValue) (event : PairEvent) → IsKept p → refusal p event ≡ None → BothDirected p.sides (pasts p.history) →
+    BothDirected (happens p event).pair.sides (pasts (happens p event).pair.history)
+directed_after p event k allowed b =
+    put_directed side p.sides (pasts p.history) (acting p event).side
+    (adds event (acting p event).answer (at p.sides side).socket.block.state (at (pasts p.history) side))
+    (m.own mine theirs.none)
+    (beside _ _ _ _ _ _ _ _ _ m theirs)
+  where
+    side : Side
+    side = side_of event
+
+    mine : DirectedIn p.sides (pasts p.history) side (other side)
+    mine = side_directed p.sides (pasts p.history) side b
+
+    theirs : DirectedIn p.sides (pasts p.history) (other side) side
+    theirs = partner_directed p.sides (pasts p.history) side b
+
+    m : Directs (at p.sides side).socket (at (pasts p.history) side).opening (at p.sides side).sent (acting p event).side.socket
+        (adds event (acting p event).answer (at p.sides side).socket.block.state (at (pasts p.history) side)).opening (acting p event).side.sent
+        (at (pasts p.history) (other side)).opening (at p.sides (other side)).sent
+    m =
+        directs (at p.sides side) (at p.sides (other side)).socket (at (pasts p.history) side) (at (pasts p.history) (other side))
+        (at p.sides (other side)).sent (keeps_of p side k) event (is_allowed p event allowed)
+
+directed_steps : (p : PairValue) (events : List PairEvent) (new : PairValue) → IsKept p → BothDirected p.sides (pasts p.history) → Steps p events new →
+    BothDirected new.sides (pasts new.history)
+directed_steps p [] new k b steps = subst (λ (p : PairValue). BothDirected p.sides (pasts p.history)) (sym steps) b
+directed_steps p (event ∷ events) new k b steps =
+    directed_steps (happens p event).pair events new (kept_after p event k steps.0) (directed_after p event k steps.0 b) steps.1
+
+new_directed : (v : TcpValue) → v.block.names.pair ≡ None → IsDirected v NotYet [] NotYet []
+new_directed v unnamed = record {
+  unopened = λ _. (refl, unnamed);
+  active = λ (e : NotYet ≡ Active). absurd (cc);
+  passive = λ (e : NotYet ≡ Passive). absurd (cc);
+  none = λ _ _. refl;
+}
+
+reached_directed : (p : PairValue) → IsReached p → BothDirected p.sides (pasts p.history)
+reached_directed p r =
+    directed_steps (new_pair (new_socket r.room_a r.ring_a) (new_socket r.room_b r.ring_b)) r.events p
+    (new_is_kept (new_socket r.room_a r.ring_a) (new_socket r.room_b r.ring_b)
+    (record { state = refl; waiting = refl; queue = refl; unfinished = refl })
+    (record { state = refl; waiting = refl; queue = refl; unfinished = refl }))
+    (record { a = new_directed (new_socket r.room_a r.ring_a) refl; b = new_directed (new_socket r.room_b r.ring_b) refl }) r.steps
+
+-- THE ENDPOINTS MIRROR EACH OTHER
+
+mirrored_by :
+    (v w : TcpValue) (mine theirs : Opening) (sent others : List SentSegment) (own far : EndpointPair) → IsDirected v mine sent theirs others
+    → IsDirected w theirs others mine sent → v.block.names.pair ≡ Some own → w.block.names.pair ≡ Some far → mine ≡ Passive
+    → AreMirrored v.block w.block
+mirrored_by v w mine theirs sent others own far d e named partner_named listened =
+    let it = d.passive listened own named in
+    let c = it.1.came in
+    let g = all_among (GoesFrom far) others it.1.x (e.active it.0 far partner_named) it.1.among in
+    record {
+      own = own;
+      theirs = far;
+      named = named;
+      partner_named = partner_named;
+      local = sym c.destination ∙ g.destination;
+      remote = sym c.source ∙ g.source;
+      local_port = sym c.destination_port ∙ g.destination_port;
+      remote_port = sym c.source_port ∙ g.source_port;
+    }
+
+turned : (a b : Block) → AreMirrored a b → AreMirrored b a
+turned a b m = record {
+  own = m.theirs;
+  theirs = m.own;
+  named = m.partner_named;
+  partner_named = m.named;
+  local = sym m.remote;
+  remote = sym m.local;
+  local_port = sym m.remote_port;
+  remote_port = sym m.local_port;
+}
+
+on_open : (state : State) → is_synchronized state ≡ true → (is_closed state ≡ false) × (is_listening state ≡ false)
+on_open In.Closed e = clash (sym e)
+on_open In.Listen e = clash (sym e)
+on_open other e = (refl, refl)
+
+named_in : (p : PairValue) (side : Side) → IsReached p → is_synchronized (socket_of p side).block.state ≡ true →
+    (pair : EndpointPair) × ((socket_of p side).block.names.pair ≡ Some pair)
+named_in p side r on =
+    let it = on_open (socket_of p side).block.state on in
+    some_pair (socket_of p side).block.names.pair ((ready_side p side r).named it.0 it.1)
+
+-- where one of the two listened
+pub reached_mirrored :
+    (p : PairValue) (side : Side) → IsReached p → is_synchronized (socket_of p side).block.state ≡ true
+    → is_synchronized (socket_of p (other side)).block.state ≡ true
+    → ((past_at p side).opening ≡ Passive) ⊎ ((past_at p (other side)).opening ≡ Passive)
+    → AreMirrored (socket_of p side).block (socket_of p (other side)).block
+reached_mirrored p side r mine theirs (inl listened) =
+    let b = reached_directed p r in
+    let own = named_in p side r mine in
+    let far = named_in p (other side) r theirs in
+    mirrored_by (socket_of p side) (socket_of p (other side)) _ _ _ _ own.0 far.0 (side_directed p.sides (pasts p.history) side b)
+    (partner_directed p.sides (pasts p.history) side b) own.1 far.1 listened
+reached_mirrored p side r mine theirs (inr listened) =
+    let b = reached_directed p r in
+    let own = named_in p side r mine in
+    let far = named_in p (other side) r theirs in
+    turned (socket_of p (other side)).block (socket_of p side).block
+    (mirrored_by (socket_of p (other side)) (socket_of p side) _ _ _ _ far.0 own.0 (partner_directed p.sides (pasts p.history) side b)
+    (side_directed p.sides (pasts p.history) side b) far.1 own.1 listened)
+
+-- or they were said to mirror each other
+pub mirrored_in :
+    (p : PairValue) (side : Side) → IsReached p → is_synchronized (socket_of p side).block.state ≡ true
+    → is_synchronized (socket_of p (other side)).block.state ≡ true
+    → OneListened p side ⊎ AreMirrored (socket_of p side).block (socket_of p (other side)).block
+    → AreMirrored (socket_of p side).block (socket_of p (other side)).block
+mirrored_in p side r mine theirs (inl listened) = reached_mirrored p side r mine theirs listened
+mirrored_in p side r mine theirs (inr m) = m
