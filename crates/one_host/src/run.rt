@@ -85,10 +85,8 @@ impl Run {
     // What is written of the line that was begun: why it ends its script, if it does.
     fn answer(&mut self, alloc: Global) -> Result<String, AllocError> {
         let number = self.number;
-        if let Some(place) = self.begun.iter().position(|byte| !byte.is_ascii()) {
+        if let Some((byte, place)) = first_past_ascii(self.begun.as_slice()) {
             self.stop();
-            let byte = self.begun[place];
-            let place = place.saturating_add(1);
             return format!(in alloc;
                 "line {number}: bad event: byte {byte} at place {place} is none of ASCII\n"
             );
@@ -109,4 +107,10 @@ impl Run {
         self.is_over = true;
         self.has_stopped = true;
     }
+}
+
+// The first byte that is none of ASCII, and its place, counted from 1.
+fn first_past_ascii(line: &[u8]) -> Option<(u8, usize)> {
+    let place = line.iter().position(|byte| !byte.is_ascii())?;
+    Some((line[place], place + 1))
 }
