@@ -79,10 +79,21 @@ fn host(alloc: Global, n: u8) -> Result<Host> {
 }
 
 // Two such hosts, in a world in which nothing has happened.
-fn world(alloc: Global) -> Result<Box<World>> {
+fn world(alloc: Global) -> Result<World> {
     let a = host(alloc, 1)?;
     let b = host(alloc, 2)?;
-    Ok(Box::new(alloc, World::new(alloc, a, b)?)?)
+    Ok(World::new(alloc, a, b)?)
+}
+
+// B listens, and A sends its SYN.
+fn open(world: &mut World) -> Result<(), Refused>
+    ensures { IsSafeWorld world.new }
+{
+    world.step(Event::Listen(Side::B, 0, PORT))?;
+    let remote = IpEndpoint::new(address(2), PORT);
+    world.step(Event::Connect(Side::A, 0, remote, 49152))?;
+    world.step(Event::Poll(Side::A, Instant::ZERO, 8))?;
+    Ok(())
 }
 
 // No bytes behind a frame.
@@ -90,27 +101,24 @@ fn no_padding(alloc: Global) -> Bytes {
     Bytes::from_vec(Vec::new(alloc))
 }
 
-// B listens, A's SYN comes to it, and its answer to A, which acknowledges and writes a text.
-fn opening(alloc: Global, text: Bytes) -> Result<Vec<Event>, AllocError> {
-    let remote = IpEndpoint::new(address(2), PORT);
-    vec![in alloc;
-        Event::Listen(Side::B, 0, PORT),
-        Event::Connect(Side::A, 0, remote, 49152),
-        Event::Poll(Side::A, Instant::ZERO, 8),
-        Event::Deliver(Side::A, 0, no_padding(alloc)),
-        Event::Poll(Side::B, Instant::ZERO, 8),
-        Event::Deliver(Side::B, 0, no_padding(alloc)),
-        Event::Poll(Side::A, Instant::ZERO, 8),
-        Event::Send(Side::A, 0, text),
-        Event::Poll(Side::A, Instant::ZERO, 8),
-    ]
-}
-
-// A list of events, up to the first that is refused.
-fn run_all(world: &mut World, events: Vec<Event>) -> Result<(), Refused>
+// The SYN comes to B, and B's answer to A.
+fn answer(alloc: Global, world: &mut World) -> Result<(), Refused>
     ensures { IsSafeWorld world.new }
 {
-    world.run(events).map_err(|(_, refused)| refused)
+    world.step(Event::Deliver(Side::A, 0, no_padding(alloc)))?;
+    world.step(Event::Poll(Side::B, Instant::ZERO, 8))?;
+    world.step(Event::Deliver(Side::B, 0, no_padding(alloc)))?;
+    Ok(())
+}
+
+// A acknowledges, and writes a text.
+fn write(world: &mut World, text: Bytes) -> Result<(), Refused>
+    ensures { IsSafeWorld world.new }
+{
+    world.step(Event::Poll(Side::A, Instant::ZERO, 8))?;
+    world.step(Event::Send(Side::A, 0, text))?;
+    world.step(Event::Poll(Side::A, Instant::ZERO, 8))?;
+    Ok(())
 }
 
 // The link loses A's acknowledgement. It hands the text over twice, at first with bytes behind it.
@@ -139,7 +147,9 @@ pub fn talk(alloc: Global, world: &mut World) -> Result<Option<Bytes>>
 {
     let text = Bytes::from_slice(alloc, b"hello")?;
     let padding = Bytes::from_slice(alloc, b"padding")?;
-    run_all(world, opening(alloc, text)?)?;
+    open(world)?;
+    answer(alloc, world)?;
+    write(world, text)?;
     hand_over(alloc, world, padding)?;
     Ok(read_some(world)?)
 }
