@@ -1,1 +1,1 @@
-pub mod Free
+pub mod Placed

@@ -1,12 +1,32 @@
-use Rattle.std.proofs.Common.{arith, ◌≡◌, ◌<◌, length, None}
+use Rattle.std.proofs.Common.{length}
 use Rattle.sockets.specs.AnySocket.{as_icmp}
 use Rattle.sockets.specs.declared.socket.Socket.TheVariants as Kind
-use Rattle.sockets.specs.Icmp.{send_after}
-use Rattle.c_sockets.proofs.Free.{kept}
+use Rattle.sockets.specs.Icmp.{send_answer, send_after}
+use Rattle.c_sockets.specs.Codes.{coded, of_send}
+use Rattle.c_sockets.proofs.Placed.{unanswered_beyond, kept_beyond, unanswered, kept, answered, became}
 use Rattle.c_sockets.proofs.control.send.Goals as goal
 
-pub returns-in-None-clause-after : goal.returns-in-None-clause-after
-returns-in-None-clause-after c =
-    let within : c.args.place < length c.args.places.now = omega (arith, c.if-place-places.false) in let free : c.index-places-place.result.inner ≡ None = cc in
-    kept c.args.places.now c.args.place c.index-places-place.result within c.index-places-place.is free as_icmp (λ x. Kind.Icmp x)
-    (λ v. send_after v c.args.remote c.args.bytes.now)
+pub returns-then-place-places : goal.returns-then-place-places
+returns-then-place-places c =
+    let places = c.args.places.now in let n = c.args.place in let beyond = c.if-place-places.true in record {
+      answer = unanswered_beyond places n beyond as_icmp (λ v. coded of_send (send_answer v c.args.remote (length c.args.bytes.now)));
+      after = kept_beyond places n beyond as_icmp (λ x. Kind.Icmp x) (λ v. send_after v c.args.remote c.args.bytes.now);
+    }
+
+pub returns-in-Some : goal.returns-in-Some
+returns-in-Some c =
+    let places = c.args.places.now in let n = c.args.place in let at = c.index-places-place.result in let within = c.if-place-places.false in
+    let item = c.in-Some.item in let there = c.in-Some.is in record {
+      answer = answered places n at within as_icmp item there (λ v. coded of_send (send_answer v c.args.remote (length c.args.bytes.now)))
+          c.send_of.result c.send_of.ensures.answer;
+      after = became places n at within as_icmp item there (λ x. Kind.Icmp x) (λ v. send_after v c.args.remote c.args.bytes.now)
+          c.send_of.new.socket c.send_of.ensures.after;
+    }
+
+pub returns-in-None : goal.returns-in-None
+returns-in-None c =
+    let places = c.args.places.now in let n = c.args.place in let at = c.index-places-place.result in let within = c.if-place-places.false in
+    let free = c.in-None.is in record {
+      answer = unanswered places n at within as_icmp free (λ v. coded of_send (send_answer v c.args.remote (length c.args.bytes.now)));
+      after = kept places n at within as_icmp free (λ x. Kind.Icmp x) (λ v. send_after v c.args.remote c.args.bytes.now);
+    }

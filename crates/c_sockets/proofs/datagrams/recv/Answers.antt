@@ -1,16 +1,35 @@
-use Rattle.std.proofs.Common.{arith, ◌≡◌, ◌<◌, length, None}
+use Rattle.std.proofs.Common.{length}
 use Rattle.sockets.specs.AnySocket.{as_udp}
 use Rattle.sockets.specs.declared.socket.Socket.TheVariants as Kind
-use Rattle.sockets.specs.SocketValue.{recv_after, recv_written}
-use Rattle.c_sockets.proofs.Free.{kept, unwritten}
+use Rattle.sockets.specs.SocketValue.{recv_answer, recv_after, recv_written}
+use Rattle.c_sockets.specs.Codes.{coded, of_recv}
+use Rattle.c_sockets.proofs.Placed.{unanswered_beyond, kept_beyond, unwritten_beyond, unanswered, kept, unwritten, answered, became, written}
 use Rattle.c_sockets.proofs.datagrams.recv.Goals as goal
 
-pub returns-in-None-clause-after : goal.returns-in-None-clause-after
-returns-in-None-clause-after c =
-    let within : c.args.place < length c.args.places.now = omega (arith, c.if-place-places.false) in let free : c.index-places-place.result.inner ≡ None = cc in
-    kept c.args.places.now c.args.place c.index-places-place.result within c.index-places-place.is free as_udp (λ x. Kind.Udp x) (λ v. recv_after v)
+pub returns-then-place-places : goal.returns-then-place-places
+returns-then-place-places c =
+    let places = c.args.places.now in let n = c.args.place in let beyond = c.if-place-places.true in record {
+      answer = unanswered_beyond places n beyond as_udp (λ v. coded of_recv (recv_answer v (length c.args.out.now)));
+      after = kept_beyond places n beyond as_udp (λ x. Kind.Udp x) (λ v. recv_after v);
+      read = unwritten_beyond places n beyond as_udp (λ v out. recv_written v out) c.args.out.now;
+    }
 
-pub returns-in-None-clause-read : goal.returns-in-None-clause-read
-returns-in-None-clause-read c =
-    let within : c.args.place < length c.args.places.now = omega (arith, c.if-place-places.false) in let free : c.index-places-place.result.inner ≡ None = cc in
-    unwritten c.args.places.now c.args.place c.index-places-place.result within c.index-places-place.is free as_udp (λ v out. recv_written v out) c.args.out.now
+pub returns-in-Some : goal.returns-in-Some
+returns-in-Some c =
+    let places = c.args.places.now in let n = c.args.place in let at = c.index-places-place.result in let within = c.if-place-places.false in
+    let item = c.in-Some.item in let there = c.in-Some.is in record {
+      answer = answered places n at within as_udp item there (λ v. coded of_recv (recv_answer v (length c.args.out.now)))
+          c.recv_of.result c.recv_of.ensures.answer;
+      after = became places n at within as_udp item there (λ x. Kind.Udp x) (λ v. recv_after v)
+          c.recv_of.new.socket c.recv_of.ensures.after;
+      read = written places n at within as_udp item there (λ v out. recv_written v out) c.args.out.now c.recv_of.new.out c.recv_of.ensures.read;
+    }
+
+pub returns-in-None : goal.returns-in-None
+returns-in-None c =
+    let places = c.args.places.now in let n = c.args.place in let at = c.index-places-place.result in let within = c.if-place-places.false in
+    let free = c.in-None.is in record {
+      answer = unanswered places n at within as_udp free (λ v. coded of_recv (recv_answer v (length c.args.out.now)));
+      after = kept places n at within as_udp free (λ x. Kind.Udp x) (λ v. recv_after v);
+      read = unwritten places n at within as_udp free (λ v out. recv_written v out) c.args.out.now;
+    }
