@@ -8,6 +8,9 @@ use std::alloc::{AllocError, Global};
 use tcp_pair::{Bytes, PairEvent, Side, TcpSetting};
 use tcp_socket::CongestionControl;
 
+/// How many letters a line sends at most.
+const MOST_LETTERS: usize = 1 << 20;
+
 /// How many bytes the receive and the send buffers of A and B hold.
 #[derive(Clone, Copy)]
 pub struct Sizes {
@@ -170,6 +173,9 @@ fn bytes(alloc: Global, words: &mut Words<'_>) -> Result<Vec<u8>, Bad> {
 /// So many letters `a`.
 fn letters(alloc: Global, words: &mut Words<'_>) -> Result<Vec<u8>, Bad> {
     let count = words.size()?;
+    if count > MOST_LETTERS {
+        return Err(words.lacks(Lack::Number));
+    }
     match vec![in alloc; b'a'; count] {
         Ok(bytes) => Ok(bytes),
         Err(_) => Err(words.lacks(Lack::Memory)),

@@ -1,4 +1,4 @@
-//! The users of a pair, its clock and its link.
+//! The users of a pair, and its clock.
 use crate::lines::Todo;
 use net_base::Instant;
 use std::cmp;
