@@ -5,6 +5,7 @@ mod any;
 mod calls;
 mod common;
 mod icmp;
+mod numbers;
 mod raw;
 mod script;
 mod texts;

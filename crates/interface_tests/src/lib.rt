@@ -1,4 +1,4 @@
-//! Tests of sockets, of the interface's parts, and of an interface that polls its sockets, by public calls.
+//! Tests of sockets, of the interface's parts, of an interface that polls its sockets, and of a host on a link of turns, by public calls.
 #![tactic(auto)]
 
 #[cfg(test)]
@@ -7,3 +7,5 @@ mod kinds;
 mod parts;
 #[cfg(test)]
 mod polls;
+#[cfg(test)]
+mod tun;

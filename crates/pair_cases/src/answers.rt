@@ -14,16 +14,28 @@ use tcp_socket::Socket;
 pub fn push_answer(
     alloc: Global,
     text: &mut String,
-    answer: &Result<PairAnswer, PairRefused>,
-    offer: Option<Offer>,
+    answered: &Result<(PairAnswer, Option<Offer>), PairRefused>,
 ) -> Result<(), AllocError> {
-    match answer {
-        Err(refused) => writeln!(text, "= refused {}", refused_name(*refused)),
-        Ok(answer) => match offer {
-            Some(offer) => writeln!(text, "= {}", offer_text(offer)),
-            None => push_said(alloc, text, answer),
-        },
+    match answered {
+        Err(refused) => push_refused(text, *refused),
+        Ok((_, Some(offer))) => writeln!(text, "= {}", offer_text(*offer)),
+        Ok((answer, None)) => push_said(alloc, text, answer),
     }
+}
+
+/// The line of a run: which of the segments that it was to hand over was refused, if one was.
+pub fn push_ended(
+    text: &mut String,
+    ended: Result<(), (usize, PairRefused)>,
+) -> Result<(), AllocError> {
+    match ended {
+        Ok(()) => text.push_str("= done\n"),
+        Err((number, refused)) => writeln!(text, "= refused {} at {number}", refused_name(refused)),
+    }
+}
+
+pub fn push_refused(text: &mut String, refused: PairRefused) -> Result<(), AllocError> {
+    writeln!(text, "= refused {}", refused_name(refused))
 }
 
 fn offer_text(offer: Offer) -> &'static str {

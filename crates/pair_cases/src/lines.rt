@@ -3,10 +3,13 @@ use crate::bad::{Bad, Lack};
 use crate::words::Words;
 use hex::FromHexError;
 use ip_wire::{IpEndpoint, IpListenEndpoint, TcpTimestampGenerator};
-use net_base::Instant;
+use net_base::{Duration, Instant};
 use std::alloc::{AllocError, Global};
 use tcp_pair::{Bytes, PairEvent, Side, TcpSetting};
 use tcp_socket::CongestionControl;
+
+/// How many letters a line sends at most.
+const MOST_LETTERS: usize = 1 << 20;
 
 /// How many bytes the receive and the send buffers of A and B hold.
 #[derive(Clone, Copy)]
@@ -30,6 +33,18 @@ pub enum Todo {
     Offer(Side, Instant, bool),
     /// The segment of this number, of those that the side sent, to the other side.
     Deliver(Side, usize),
+}
+
+/// What a line behind the first says.
+#[derive(Drop)]
+pub enum Line {
+    Event(Todo),
+    /// The segments from this number to that one, of those that the side sent, to the other side, by one run of the pair.
+    Burst(Side, usize, usize),
+    /// The side is asked at this moment until it has nothing more to say.
+    Ask(Side, Instant),
+    /// From now on each new segment comes once and in order, and both users read: all is read within this span.
+    Settle(Duration),
 }
 
 /// A listening or local endpoint of any address.
@@ -71,30 +86,46 @@ pub fn read_sizes(line: &str) -> Result<Sizes, Bad> {
 }
 
 /// What a line behind the first says: nothing where an earlier run wrote it.
-pub fn read_line(alloc: Global, line: &str) -> Result<Option<Todo>, Bad> {
+pub fn read_line(alloc: Global, line: &str) -> Result<Option<Line>, Bad> {
     let mut words = Words::new(line);
     match words.word() {
         ">" => {
-            let todo = event(alloc, &mut words)?;
+            let said = said(alloc, &mut words)?;
             words.end()?;
-            Ok(Some(todo))
+            Ok(Some(said))
         }
         "=" | "sent" | "A" | "B" => Ok(None),
         _ => Err(words.lacks(Lack::Event)),
     }
 }
 
-/// The event that the words of a line name.
-fn event(alloc: Global, words: &mut Words<'_>) -> Result<Todo, Bad> {
-    let verb = words.word();
-    if !is_verb(verb) {
-        return Err(words.lacks(Lack::Verb));
+fn said(alloc: Global, words: &mut Words<'_>) -> Result<Line, Bad> {
+    match words.word() {
+        "burst" => burst(words),
+        "ask" => Ok(Line::Ask(words.side()?, words.moment()?)),
+        "settle" => Ok(Line::Settle(words.span()?)),
+        verb if is_verb(verb) => Ok(Line::Event(event(alloc, verb, words)?)),
+        _ => Err(words.lacks(Lack::Verb)),
     }
+}
+
+fn burst(words: &mut Words<'_>) -> Result<Line, Bad> {
+    let side = words.side()?;
+    let (first, last) = (words.size()?, words.size()?);
+    if last < first {
+        return Err(words.lacks(Lack::Number));
+    }
+    Ok(Line::Burst(side, first, last))
+}
+
+/// The event of this verb and the words behind it.
+fn event(alloc: Global, verb: &str, words: &mut Words<'_>) -> Result<Todo, Bad> {
     let side = words.side()?;
     match verb {
         "listen" => Ok(Todo::Listen(side, words.port()?)),
         "connect" => Ok(Todo::Connect(side, words.endpoint()?, words.port()?)),
         "send" => Ok(Todo::Send(side, bytes(alloc, words)?)),
+        "fill" => Ok(Todo::Send(side, letters(alloc, words)?)),
         "recv" => Ok(Todo::Recv(side, words.size()?)),
         "close" => Ok(Todo::Close(side)),
         "abort" => Ok(Todo::Abort(side)),
@@ -113,7 +144,16 @@ fn offer(side: Side, words: &mut Words<'_>) -> Result<Todo, Bad> {
 fn is_verb(word: &str) -> bool {
     matches!(
         word,
-        "listen" | "connect" | "send" | "recv" | "close" | "abort" | "set" | "offer" | "deliver"
+        "listen"
+            | "connect"
+            | "send"
+            | "fill"
+            | "recv"
+            | "close"
+            | "abort"
+            | "set"
+            | "offer"
+            | "deliver"
     )
 }
 
@@ -130,6 +170,18 @@ fn bytes(alloc: Global, words: &mut Words<'_>) -> Result<Vec<u8>, Bad> {
     }
 }
 
+/// So many letters `a`.
+fn letters(alloc: Global, words: &mut Words<'_>) -> Result<Vec<u8>, Bad> {
+    let count = words.size()?;
+    if count > MOST_LETTERS {
+        return Err(words.lacks(Lack::Number));
+    }
+    match vec![in alloc; b'a'; count] {
+        Ok(bytes) => Ok(bytes),
+        Err(_) => Err(words.lacks(Lack::Memory)),
+    }
+}
+
 /// A setting, named as its setter is without `set_`.
 fn setting(words: &mut Words<'_>) -> Result<TcpSetting, Bad> {
     match words.word() {
@@ -141,16 +193,9 @@ fn setting(words: &mut Words<'_>) -> Result<TcpSetting, Bad> {
         "tsval_generator" => tsval_generator(words),
         "congestion_control" => Ok(TcpSetting::CongestionControl(congestion_control(words)?)),
         "retries" => Ok(TcpSetting::Retries(words.byte_or_none()?)),
-        "min_rto" => min_rto(words),
+        "min_rto" => Ok(TcpSetting::MinRto(words.span()?)),
         "pause_synack" => Ok(TcpSetting::PauseSynack(words.either("on", "off", Lack::On)?)),
         _ => Err(words.lacks(Lack::Setting)),
-    }
-}
-
-fn min_rto(words: &mut Words<'_>) -> Result<TcpSetting, Bad> {
-    match words.duration()? {
-        Some(least) => Ok(TcpSetting::MinRto(least)),
-        None => Err(words.lacks(Lack::Duration)),
     }
 }
 

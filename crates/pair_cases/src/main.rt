@@ -4,12 +4,14 @@
 mod answers;
 mod bad;
 mod beside;
+mod course;
 mod lines;
 mod played;
+mod users;
 mod words;
 
 use crate::bad::{Bad, Lack};
-use crate::lines::{Todo, read_line, read_sizes};
+use crate::lines::{Line, read_line, read_sizes};
 use crate::played::Played;
 use case_files::{Case, ends_line, read_cases};
 use std::alloc::Global;
@@ -110,19 +112,19 @@ fn play_line<W: Write>(
     line: &[u8],
     writer: &mut W,
 ) -> io::Result<Option<Bad>> {
-    let todo = match said(alloc, line) {
-        Ok(Some(todo)) => todo,
+    let said = match said(alloc, line) {
+        Ok(Some(said)) => said,
         Ok(None) => return Ok(None),
         Err(bad) => return Ok(Some(bad)),
     };
     writer.write_all(line)?;
     writer.write_all(b"\n")?;
-    let text = played.take(alloc, &todo)?;
+    let text = played.take(alloc, &said)?;
     writer.write_all(text.as_bytes())?;
     Ok(None)
 }
 
-fn said(alloc: Global, line: &[u8]) -> Result<Option<Todo>, Bad> {
+fn said(alloc: Global, line: &[u8]) -> Result<Option<Line>, Bad> {
     read_line(alloc, text(line)?)
 }
 

@@ -1,17 +1,19 @@
 //! A case as it is played.
-use crate::answers::{push_answer, push_sent, push_side};
+use crate::answers::{push_answer, push_ended, push_refused, push_sent, push_side};
 use crate::beside::{Beside, socket};
-use crate::lines::{Sizes, Todo};
+use crate::lines::{Line, Sizes, Todo};
+use crate::users::Users;
 use socket_base::Offer;
 use std::alloc::{AllocError, Global};
-use tcp_pair::{Pair, PairEvent, PairRefused, Side};
+use tcp_pair::{Pair, PairAnswer, PairRefused, Side};
 
-/// The pair, and a socket beside each of its own.
+/// The pair, a socket beside each of its own, and its users.
 #[derive(Drop)]
 pub struct Played {
-    pair: Pair,
-    a: Beside,
-    b: Beside,
+    pub pair: Pair,
+    pub a: Beside,
+    pub b: Beside,
+    pub users: Users,
 }
 
 impl Played {
@@ -23,29 +25,73 @@ impl Played {
             pair: Pair::new(alloc, a, b),
             a: Beside::new(alloc, Side::A, sizes.a)?,
             b: Beside::new(alloc, Side::B, sizes.b)?,
+            users: Users::new(),
         };
         Box::new(alloc, played).ok()
     }
 
     /// Does what a line says: what is written of it.
-    pub fn take(&mut self, alloc: Global, todo: &Todo) -> Result<String, AllocError> {
-        let sent = (self.pair.sent(Side::A).len(), self.pair.sent(Side::B).len());
-        let answer = self.pair.step(todo.event(alloc)?);
-        let offer = if answer.is_ok() {
-            self.tell(todo)
-        } else {
-            None
-        };
+    pub fn take(&mut self, alloc: Global, line: &Line) -> Result<String, AllocError> {
         let mut text = String::new(alloc);
-        push_answer(alloc, &mut text, &answer, offer)?;
-        push_sent(alloc, &mut text, Side::A, self.pair.sent(Side::A), sent.0)?;
-        push_sent(alloc, &mut text, Side::B, self.pair.sent(Side::B), sent.1)?;
-        self.push_sides(&mut text)?;
+        let sent = self.counts();
+        match line {
+            Line::Event(todo) => {
+                let answered = self.step(alloc, todo);
+                push_answer(alloc, &mut text, &answered)?;
+                self.push_after(alloc, &mut text, sent)?;
+            }
+            Line::Burst(side, first, last) => {
+                let ended = self.burst(alloc, *side, *first, *last);
+                push_ended(&mut text, ended)?;
+                self.push_after(alloc, &mut text, sent)?;
+            }
+            Line::Ask(side, moment) => match self.ask(alloc, *side, *moment) {
+                Ok(count) => writeln!(text, "= sent {count}")?,
+                Err(refused) => push_refused(&mut text, refused)?,
+            },
+            Line::Settle(span) => match self.settle(alloc, *span) {
+                Ok(true) => text.push_str("= all read\n")?,
+                Ok(false) => text.push_str("= not all read\n")?,
+                Err(refused) => push_refused(&mut text, refused)?,
+            },
+        }
         Ok(text)
     }
 
+    /// How many segments A and B sent.
+    fn counts(&self) -> (usize, usize) {
+        (self.pair.sent(Side::A).len(), self.pair.sent(Side::B).len())
+    }
+
+    /// Writes what was sent since there were so many segments, and both sides.
+    fn push_after(
+        &self,
+        alloc: Global,
+        text: &mut String,
+        sent: (usize, usize),
+    ) -> Result<(), AllocError> {
+        push_sent(alloc, text, Side::A, self.pair.sent(Side::A), sent.0)?;
+        push_sent(alloc, text, Side::B, self.pair.sent(Side::B), sent.1)?;
+        let (a, b) = (self.pair.socket(Side::A), self.pair.socket(Side::B));
+        push_side(text, 'A', a, self.a.poll_at(a))?;
+        push_side(text, 'B', b, self.b.poll_at(b))
+    }
+
+    /// Takes the event: the answer, and of an offer what was offered.
+    pub fn step(
+        &mut self,
+        alloc: Global,
+        todo: &Todo,
+    ) -> Result<(PairAnswer, Option<Offer>), PairRefused> {
+        let event = todo.event(alloc).map_err(|_| PairRefused::Memory)?;
+        let answer = self.pair.step(event)?;
+        self.users.note(todo, &answer);
+        let offer = self.tell(todo);
+        Ok((answer, offer))
+    }
+
     /// Tells the socket beside what happens at its side.
-    fn tell(&mut self, todo: &Todo) -> Option<Offer> {
+    pub fn tell(&mut self, todo: &Todo) -> Option<Offer> {
         match todo {
             Todo::Deliver(Side::A, _) => self.b.take(todo, self.pair.sent(Side::A)),
             Todo::Deliver(Side::B, _) => self.a.take(todo, self.pair.sent(Side::B)),
@@ -54,12 +100,6 @@ impl Played {
                 Side::B => self.b.take(todo, &[]),
             },
         }
-    }
-
-    fn push_sides(&self, text: &mut String) -> Result<(), AllocError> {
-        let (a, b) = (self.pair.socket(Side::A), self.pair.socket(Side::B));
-        push_side(text, 'A', a, self.a.poll_at(a))?;
-        push_side(text, 'B', b, self.b.poll_at(b))
     }
 }
 

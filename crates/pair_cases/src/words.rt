@@ -106,6 +106,12 @@ impl<'a> Words<'a> {
         }
     }
 
+    /// A duration in microseconds.
+    pub fn span(&mut self) -> Result<Duration, Bad> {
+        let span = self.duration()?;
+        span.ok_or(self.lacks(Lack::Duration))
+    }
+
     /// A number of 32 bits, or none.
     pub fn word_or_none(&mut self) -> Result<Option<u32>, Bad> {
         let word = self.word();
