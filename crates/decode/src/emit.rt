@@ -1,9 +1,9 @@
 //! Packets written from their fields: links, IP and UDP.
-ghost use Rattle.std.specs.Prelude.{◌≤◌, ◌+◌, length, IfOk};
+ghost use Rattle.std.specs.Prelude.{◌≤◌, ◌+◌, length, IfSome};
 
 use crate::emit_control::{emit_icmpv4, emit_icmpv6};
 use crate::emit_tcp::emit_tcp;
-use crate::fault::Fault;
+use crate::fault::{FAMILIES, Fault, TOO_LONG};
 use crate::room::{MOST, checksums, room};
 use crate::words::Words;
 use ip_wire::{
@@ -19,23 +19,31 @@ pub(crate) fn emit<'a>(alloc: Global, text: &'a str) -> Result<Vec<u8>, Fault<'a
         None => (true, text),
     };
     let mut words = Words::new(text);
-    let format = words.word("format");
-    match format {
-        "ethernet" => emit_ethernet(alloc, &mut words),
-        "arp" => emit_arp(alloc, &mut words),
-        "ipv4" => emit_ipv4(alloc, &mut words, false, is_summed),
-        "piece" => emit_ipv4(alloc, &mut words, true, is_summed),
-        "ipv6" => emit_ipv6(alloc, &mut words),
-        "fragment" => emit_fragment(alloc, &mut words),
-        "udp" => emit_udp(alloc, &mut words, is_summed),
-        "tcp" => emit_tcp(alloc, &mut words, is_summed),
-        "icmpv4" => emit_icmpv4(alloc, &mut words, is_summed),
-        "icmpv6" => emit_icmpv6(alloc, &mut words, is_summed),
-        _ => Err(Fault::No("format", format)),
+    match emit_words(alloc, &mut words, is_summed) {
+        Some(bytes) => Ok(bytes),
+        None => Err(words.fault()),
     }
 }
 
-fn emit_ethernet<'a>(alloc: Global, words: &mut Words<'a>) -> Result<Vec<u8>, Fault<'a>> {
+// The same of its words. Where they have a fault, or there is no memory, there is no packet.
+fn emit_words(alloc: Global, words: &mut Words<'_>, is_summed: bool) -> Option<Vec<u8>> {
+    let format = words.word("format");
+    match format {
+        "ethernet" => emit_ethernet(alloc, words),
+        "arp" => emit_arp(alloc, words),
+        "ipv4" => emit_ipv4(alloc, words, false, is_summed),
+        "piece" => emit_ipv4(alloc, words, true, is_summed),
+        "ipv6" => emit_ipv6(alloc, words),
+        "fragment" => emit_fragment(alloc, words),
+        "udp" => emit_udp(alloc, words, is_summed),
+        "tcp" => emit_tcp(alloc, words, is_summed),
+        "icmpv4" => emit_icmpv4(alloc, words, is_summed),
+        "icmpv6" => emit_icmpv6(alloc, words, is_summed),
+        _ => words.refuse(Fault::no("format", format)),
+    }
+}
+
+fn emit_ethernet(alloc: Global, words: &mut Words<'_>) -> Option<Vec<u8>> {
     let header = EthernetRepr {
         src_addr: words.station("source"),
         dst_addr: words.station("destination"),
@@ -43,10 +51,10 @@ fn emit_ethernet<'a>(alloc: Global, words: &mut Words<'a>) -> Result<Vec<u8>, Fa
     };
     let mut bytes = with_payload(alloc, 14, words)?;
     header.emit(&mut EthernetFrameMut::new_unchecked(bytes.as_mut_slice()));
-    Ok(bytes)
+    Some(bytes)
 }
 
-fn emit_arp<'a>(alloc: Global, words: &mut Words<'a>) -> Result<Vec<u8>, Fault<'a>> {
+fn emit_arp(alloc: Global, words: &mut Words<'_>) -> Option<Vec<u8>> {
     let packet = ArpRepr::EthernetIpv4 {
         operation: operation(words),
         source_protocol_addr: words.ipv4("sender"),
@@ -54,10 +62,12 @@ fn emit_arp<'a>(alloc: Global, words: &mut Words<'a>) -> Result<Vec<u8>, Fault<'
         target_protocol_addr: words.ipv4("target"),
         target_hardware_addr: words.station("target's station"),
     };
-    words.end()?;
+    if !words.end() {
+        return None;
+    }
     let mut bytes = room(alloc, 28)?;
     packet.emit(&mut ArpPacketMut::new_unchecked(bytes.as_mut_slice()));
-    Ok(bytes)
+    Some(bytes)
 }
 
 // The number of an operation; with `?` before it the value that has no name.
@@ -88,17 +98,17 @@ pub(crate) fn ipv4_fields(words: &mut Words<'_>) -> Ipv4Repr {
 }
 
 // A whole packet, or a piece of one, which says its place.
-fn emit_ipv4<'a>(
+fn emit_ipv4(
     alloc: Global,
-    words: &mut Words<'a>,
+    words: &mut Words<'_>,
     is_piece: bool,
     is_summed: bool,
-) -> Result<Vec<u8>, Fault<'a>> {
+) -> Option<Vec<u8>> {
     let fields = ipv4_fields(words);
     let (offset, more) = if is_piece { place(words) } else { (0, false) };
     let mut bytes = with_payload(alloc, 20, words)?;
     if bytes.len() > MOST {
-        return Err(Fault::TooLong);
+        return words.refuse(TOO_LONG);
     }
     let header = Ipv4Repr {
         payload_len: bytes.len() - 20,
@@ -106,7 +116,7 @@ fn emit_ipv4<'a>(
     };
     let mut packet = Ipv4PacketMut::new_unchecked(bytes.as_mut_slice());
     header.emit_piece(&mut packet, offset, more, &checksums(is_summed));
-    Ok(bytes)
+    Some(bytes)
 }
 
 // Where a piece stands in its packet, and whether more follow.
@@ -126,7 +136,7 @@ pub(crate) fn ipv6_fields(words: &mut Words<'_>) -> Ipv6Repr {
     }
 }
 
-fn emit_ipv6<'a>(alloc: Global, words: &mut Words<'a>) -> Result<Vec<u8>, Fault<'a>> {
+fn emit_ipv6(alloc: Global, words: &mut Words<'_>) -> Option<Vec<u8>> {
     let fields = ipv6_fields(words);
     let mut bytes = with_payload(alloc, 40, words)?;
     let header = Ipv6Repr {
@@ -134,10 +144,10 @@ fn emit_ipv6<'a>(alloc: Global, words: &mut Words<'a>) -> Result<Vec<u8>, Fault<
         ..fields
     };
     header.emit(&mut Ipv6PacketMut::new_unchecked(bytes.as_mut_slice()));
-    Ok(bytes)
+    Some(bytes)
 }
 
-fn emit_fragment<'a>(alloc: Global, words: &mut Words<'a>) -> Result<Vec<u8>, Fault<'a>> {
+fn emit_fragment(alloc: Global, words: &mut Words<'_>) -> Option<Vec<u8>> {
     let ident = words.long("id");
     let (frag_offset, more_frags) = place(words);
     let header = Ipv6FragmentRepr {
@@ -145,17 +155,15 @@ fn emit_fragment<'a>(alloc: Global, words: &mut Words<'a>) -> Result<Vec<u8>, Fa
         frag_offset,
         more_frags,
     };
-    words.end()?;
+    if !words.end() {
+        return None;
+    }
     let mut bytes = room(alloc, 6)?;
     header.emit(&mut Ipv6FragmentHeaderMut::new_unchecked(bytes.as_mut_slice()));
-    Ok(bytes)
+    Some(bytes)
 }
 
-fn emit_udp<'a>(
-    alloc: Global,
-    words: &mut Words<'a>,
-    is_summed: bool,
-) -> Result<Vec<u8>, Fault<'a>> {
+fn emit_udp(alloc: Global, words: &mut Words<'_>, is_summed: bool) -> Option<Vec<u8>> {
     let source = words.address("source");
     let destination = words.address("destination");
     let header = UdpRepr {
@@ -164,10 +172,10 @@ fn emit_udp<'a>(
     };
     let payload = last_bytes(alloc, words)?;
     if payload.len() > MOST - 8 {
-        return Err(Fault::TooLong);
+        return words.refuse(TOO_LONG);
     }
     if source.version() != destination.version() {
-        return Err(Fault::Families);
+        return words.refuse(FAMILIES);
     }
     let mut bytes = room(alloc, 8 + payload.len())?;
     header.emit(
@@ -177,32 +185,31 @@ fn emit_udp<'a>(
         payload.as_slice(),
         &checksums(is_summed),
     );
-    Ok(bytes)
+    Some(bytes)
 }
 
 // Bytes for a header, so many, and behind them what the packet carries: the line's last word.
-fn with_payload<'a>(
-    alloc: Global,
-    header_len: usize,
-    words: &mut Words<'a>,
-) -> Result<Vec<u8>, Fault<'a>>
-    ensures header { IfOk result (λ bytes. header_len ≤ length bytes.items) }
-    ensures most { IfOk result (λ bytes. length bytes.items ≤ header_len + 0xffff) }
+fn with_payload(alloc: Global, header_len: usize, words: &mut Words<'_>) -> Option<Vec<u8>>
+    ensures header { IfSome result (λ bytes. header_len ≤ length bytes.items) }
+    ensures most { IfSome result (λ bytes. length bytes.items ≤ header_len + 0xffff) }
 {
     let payload = last_bytes(alloc, words)?;
     let mut bytes = room(alloc, header_len)?;
-    bytes.extend_from_slice(payload.as_slice())?;
-    Ok(bytes)
+    bytes.extend_from_slice(payload.as_slice()).ok()?;
+    Some(bytes)
 }
 
 /// The bytes that a packet carries, which are a line's last word.
-pub(crate) fn last_bytes<'a>(alloc: Global, words: &mut Words<'a>) -> Result<Vec<u8>, Fault<'a>>
-    ensures { IfOk result (λ bytes. length bytes.items ≤ 0xffff) }
+pub(crate) fn last_bytes(alloc: Global, words: &mut Words<'_>) -> Option<Vec<u8>>
+    ensures { IfSome result (λ bytes. length bytes.items ≤ 0xffff) }
 {
     let bytes = words.bytes(alloc, "pairs of hex digits");
-    words.end()?;
-    if bytes.len() > MOST {
-        return Err(Fault::TooLong);
+    if !words.end() {
+        return None;
     }
-    Ok(bytes)
+    if bytes.len() > MOST {
+        words.note(TOO_LONG);
+        return None;
+    }
+    Some(bytes)
 }

@@ -6,7 +6,7 @@ ghost use Rattle.control_wire.specs.Icmpv4 as Icmpv4;
 ghost use Rattle.control_wire.specs.Icmpv6.{Fits, CanCarry, value_of};
 
 use crate::emit::{ipv4_fields, ipv6_fields, last_bytes};
-use crate::fault::Fault;
+use crate::fault::TOO_LONG;
 use crate::room::{MOST, checksums, room};
 use crate::words::Words;
 use control_wire::{
@@ -18,11 +18,11 @@ use ip_wire::{Ipv4Repr, Ipv6Address, Ipv6Repr, RawHardwareAddress};
 use std::alloc::Global;
 
 /// A message of IPv4: an echo, or an error with the header that it quotes.
-pub(crate) fn emit_icmpv4<'a>(
+pub(crate) fn emit_icmpv4(
     alloc: Global,
-    words: &mut Words<'a>,
+    words: &mut Words<'_>,
     is_summed: bool,
-) -> Result<Vec<u8>, Fault<'a>> {
+) -> Option<Vec<u8>> {
     let kind = words.word("message");
     let header = header4(kind, words);
     let payload = last_bytes(alloc, words)?;
@@ -59,19 +59,14 @@ fn header4<'a>(kind: &'a str, words: &mut Words<'a>) -> Icmpv4Header
     }
 }
 
-fn write4<'a>(
-    alloc: Global,
-    header: &Icmpv4Header,
-    payload: &[u8],
-    is_summed: bool,
-) -> Result<Vec<u8>, Fault<'a>>
+fn write4(alloc: Global, header: &Icmpv4Header, payload: &[u8], is_summed: bool) -> Option<Vec<u8>>
     requires fits { Icmpv4.Fits header.now }
     requires small { length payload.now ≤ 0xffff }
 {
     let mut bytes = room(alloc, header.header_len() + payload.len())?;
     let mut packet = Icmpv4PacketMut::new_unchecked(bytes.as_mut_slice());
     header.emit(&mut packet, payload, &checksums(is_summed));
-    Ok(bytes)
+    Some(bytes)
 }
 
 fn unreachable4(words: &mut Words<'_>) -> Icmpv4DstUnreachable {
@@ -100,7 +95,7 @@ fn quoted4(words: &mut Words<'_>) -> Ipv4Repr
     let payload_len = usize::from(words.short("length"));
     let is_long = payload_len > MOST - 20;
     if is_long {
-        words.note(Fault::TooLong);
+        words.note(TOO_LONG);
     }
     Ipv4Repr {
         payload_len: if is_long { 0 } else { payload_len },
@@ -109,33 +104,26 @@ fn quoted4(words: &mut Words<'_>) -> Ipv4Repr
 }
 
 /// A message of IPv6 between two addresses: an echo, an error with the header that it quotes, or a neighbour message.
-pub(crate) fn emit_icmpv6<'a>(
+pub(crate) fn emit_icmpv6(
     alloc: Global,
-    words: &mut Words<'a>,
+    words: &mut Words<'_>,
     is_summed: bool,
-) -> Result<Vec<u8>, Fault<'a>> {
+) -> Option<Vec<u8>> {
     let source = words.ipv6("source");
     let destination = words.ipv6("destination");
+    let ends = (&source, &destination);
     let kind = words.word("message");
     if kind == "solicit" || kind == "advert" {
-        let message = neighbor(alloc, kind, words)?;
-        return write6(
-            alloc,
-            (&source, &destination),
-            &Icmpv6Header::Ndisc(message),
-            &[],
-            is_summed,
-        );
+        let header = Icmpv6Header::Ndisc(neighbor(alloc, kind, words));
+        return if words.end() {
+            write6(alloc, ends, &header, &[], is_summed)
+        } else {
+            None
+        };
     }
     let header = header6(kind, words);
     let payload = last_bytes(alloc, words)?;
-    write6(
-        alloc,
-        (&source, &destination),
-        &header,
-        payload.as_slice(),
-        is_summed,
-    )
+    write6(alloc, ends, &header, payload.as_slice(), is_summed)
 }
 
 fn header6<'a>(kind: &'a str, words: &mut Words<'a>) -> Icmpv6Header
@@ -178,20 +166,21 @@ fn header6<'a>(kind: &'a str, words: &mut Words<'a>) -> Icmpv6Header
     }
 }
 
-fn write6<'a>(
+fn write6(
     alloc: Global,
     ends: (&Ipv6Address, &Ipv6Address),
     header: &Icmpv6Header,
     payload: &[u8],
     is_summed: bool,
-) -> Result<Vec<u8>, Fault<'a>>
+) -> Option<Vec<u8>>
     requires fits { Fits (value_of header.now) }
     requires carried { CanCarry (value_of header.now) payload.now }
     requires small { length payload.now ≤ 0xffff }
 {
     let header_len = header.header_len();
+    // No header has so many bytes.
     if header_len > MOST {
-        return Err(Fault::TooLong);
+        return None;
     }
     let mut bytes = room(alloc, header_len + payload.len())?;
     let mut packet = Icmpv6PacketMut::new_unchecked(bytes.as_mut_slice());
@@ -203,7 +192,7 @@ fn write6<'a>(
         payload,
         &checksums(is_summed),
     );
-    Ok(bytes)
+    Some(bytes)
 }
 
 fn unreachable6(words: &mut Words<'_>) -> Icmpv6DstUnreachable {
@@ -245,23 +234,19 @@ fn quoted6(words: &mut Words<'_>) -> Ipv6Repr
     }
 }
 
-fn neighbor<'a>(alloc: Global, kind: &str, words: &mut Words<'a>) -> Result<NdiscRepr, Fault<'a>> {
+fn neighbor(alloc: Global, kind: &str, words: &mut Words<'_>) -> NdiscRepr {
     if kind == "solicit" {
-        let target_addr = words.ipv6("target");
-        let lladdr = link(alloc, words)?;
-        return Ok(NdiscRepr::NeighborSolicit {
-            target_addr,
-            lladdr,
-        });
+        NdiscRepr::NeighborSolicit {
+            target_addr: words.ipv6("target"),
+            lladdr: link(alloc, words),
+        }
+    } else {
+        NdiscRepr::NeighborAdvert {
+            flags: flags(words),
+            target_addr: words.ipv6("target"),
+            lladdr: link(alloc, words),
+        }
     }
-    let flags = flags(words);
-    let target_addr = words.ipv6("target");
-    let lladdr = link(alloc, words)?;
-    Ok(NdiscRepr::NeighborAdvert {
-        flags,
-        target_addr,
-        lladdr,
-    })
 }
 
 // `-` for none, or letters of R, S and O.
@@ -278,13 +263,14 @@ fn flags(words: &mut Words<'_>) -> NdiscNeighborFlags {
 }
 
 // A link address in hex, `-` for none.
-fn link<'a>(alloc: Global, words: &mut Words<'a>) -> Result<Option<RawHardwareAddress>, Fault<'a>> {
+fn link(alloc: Global, words: &mut Words<'_>) -> Option<RawHardwareAddress> {
     let bytes = last_bytes(alloc, words)?;
-    if bytes.is_empty() {
-        return Ok(None);
-    }
     if bytes.len() > 6 {
-        return Err(Fault::TooLong);
+        words.note(TOO_LONG);
+        return None;
     }
-    Ok(Some(RawHardwareAddress::from_bytes(bytes.as_slice())))
+    if bytes.is_empty() {
+        return None;
+    }
+    Some(RawHardwareAddress::from_bytes(bytes.as_slice()))
 }

@@ -1,27 +1,23 @@
 //! TCP segments written from their fields.
 use crate::emit::last_bytes;
-use crate::fault::Fault;
+use crate::fault::{FAMILIES, TOO_LONG};
 use crate::room::{MOST, checksums, room};
 use crate::words::{Words, number};
 use ip_wire::{SeqNumber, TcpControl, TcpHeader, TcpOptions, TcpPacketMut, TcpTimestampRepr};
 use std::alloc::Global;
 
 /// A segment: addresses, ports, flag, both numbers, window, options and payload.
-pub(crate) fn emit_tcp<'a>(
-    alloc: Global,
-    words: &mut Words<'a>,
-    is_summed: bool,
-) -> Result<Vec<u8>, Fault<'a>> {
+pub(crate) fn emit_tcp(alloc: Global, words: &mut Words<'_>, is_summed: bool) -> Option<Vec<u8>> {
     let source = words.address("source");
     let destination = words.address("destination");
     let header = header(words);
     let payload = last_bytes(alloc, words)?;
     let header_len = header.header_len();
     if header_len > 60 || payload.len() > MOST - 60 {
-        return Err(Fault::TooLong);
+        return words.refuse(TOO_LONG);
     }
     if source.version() != destination.version() {
-        return Err(Fault::Families);
+        return words.refuse(FAMILIES);
     }
     let mut bytes = room(alloc, header_len + payload.len())?;
     header.emit(
@@ -31,7 +27,7 @@ pub(crate) fn emit_tcp<'a>(
         payload.as_slice(),
         &checksums(is_summed),
     );
-    Ok(bytes)
+    Some(bytes)
 }
 
 fn header(words: &mut Words<'_>) -> TcpHeader {

@@ -2,43 +2,81 @@
 use std::alloc::AllocError;
 use std::fmt;
 
-/// Why a line isn't taken.
+/// Why a line isn't taken: what is said of it, and the word that it is about, if there is one.
 #[derive(Clone, Copy)]
-pub(crate) enum Fault<'a> {
-    /// A byte above 127, at this place of the line, counted from 1.
-    NotAscii(usize),
-    /// The line ends with a carriage return.
-    CarriageReturn,
-    /// The line ends before this word.
-    Missing(&'static str),
-    /// The word is not what stands at its place.
-    No(&'static str, &'a str),
-    /// A word behind the last one.
-    Extra(&'a str),
-    /// The packet has more bytes than its length field counts.
-    TooLong,
-    /// The two addresses aren't of one family.
-    Families,
-    NoMemory,
+pub(crate) struct Fault<'a> {
+    said: &'static str,
+    what: &'static str,
+    word: Option<&'a str>,
 }
 
-impl<'a> From<AllocError> for Fault<'a> {
-    fn from(_error: AllocError) -> Fault<'a> {
-        Fault::NoMemory
+/// The line ends with a carriage return.
+pub(crate) const CARRIAGE_RETURN: Fault<'static> = Fault {
+    said: "a carriage return at the line's end",
+    what: "",
+    word: None,
+};
+/// The packet has more bytes than its length field counts.
+pub(crate) const TOO_LONG: Fault<'static> = Fault {
+    said: "more bytes than the length field counts",
+    what: "",
+    word: None,
+};
+/// The two addresses aren't of one family.
+pub(crate) const FAMILIES: Fault<'static> = Fault {
+    said: "addresses of two families",
+    what: "",
+    word: None,
+};
+
+pub(crate) const NO_MEMORY: Fault<'static> = Fault {
+    said: "no memory",
+    what: "",
+    word: None,
+};
+
+impl<'a> Fault<'a> {
+    /// The line ends before this word.
+    pub(crate) fn missing(what: &'static str) -> Fault<'a> {
+        Fault {
+            said: "no word for ",
+            what,
+            word: None,
+        }
+    }
+
+    /// The word is not what stands at its place.
+    pub(crate) fn no(what: &'static str, word: &'a str) -> Fault<'a> {
+        Fault {
+            said: "no ",
+            what,
+            word: Some(word),
+        }
+    }
+
+    /// A word behind the last one.
+    pub(crate) fn extra(word: &'a str) -> Fault<'a> {
+        Fault {
+            said: "a word too many",
+            what: "",
+            word: Some(word),
+        }
+    }
+}
+
+/// Why an answer wasn't written, if it wasn't.
+pub(crate) fn done(written: Result<(), AllocError>) -> Option<Fault<'static>> {
+    match written {
+        Ok(()) => None,
+        Err(_) => Some(NO_MEMORY),
     }
 }
 
 impl<'a> fmt::Display for Fault<'a> {
     fn fmt<W: fmt::Write>(&self, f: &mut fmt::Formatter<W>) -> fmt::Result {
-        match self {
-            Fault::NotAscii(place) => write!(f, "a byte above 127 at place {place}"),
-            Fault::CarriageReturn => write!(f, "a carriage return at the line's end"),
-            Fault::Missing(what) => write!(f, "no word for {what}"),
-            Fault::No(what, word) => write!(f, "no {what}: {}", Shown(word)),
-            Fault::Extra(word) => write!(f, "a word too many: {}", Shown(word)),
-            Fault::TooLong => write!(f, "more bytes than the length field counts"),
-            Fault::Families => write!(f, "addresses of two families"),
-            Fault::NoMemory => write!(f, "no memory"),
+        match self.word {
+            Some(word) => write!(f, "{}{}: {}", self.said, self.what, Shown(word)),
+            None => write!(f, "{}{}", self.said, self.what),
         }
     }
 }
@@ -53,15 +91,21 @@ struct Shown<'a>(&'a str);
 impl<'a> fmt::Display for Shown<'a> {
     fn fmt<W: fmt::Write>(&self, f: &mut fmt::Formatter<W>) -> fmt::Result {
         for byte in self.0.as_bytes().iter().take(SHOWN) {
-            if byte.is_ascii_graphic() {
-                write!(f, "{}", char::from(*byte))?;
-            } else {
-                write!(f, "\\x{byte:02x}")?;
-            }
+            write!(f, "{}", ShownByte(*byte))?;
         }
-        if self.0.len() > SHOWN {
-            write!(f, "..")?;
+        write!(f, "{}", if self.0.len() > SHOWN { ".." } else { "" })
+    }
+}
+
+#[derive(Drop)]
+struct ShownByte(u8);
+
+impl fmt::Display for ShownByte {
+    fn fmt<W: fmt::Write>(&self, f: &mut fmt::Formatter<W>) -> fmt::Result {
+        if self.0.is_ascii_graphic() {
+            write!(f, "{}", char::from(self.0))
+        } else {
+            write!(f, "\\x{:02x}", self.0)
         }
-        Ok(())
     }
 }

@@ -1,6 +1,6 @@
 //! The lines of the input, each answered before the next is read.
 use crate::emit::emit;
-use crate::fault::Fault;
+use crate::fault::{CARRIAGE_RETURN, Fault, done};
 use crate::texts::take_text;
 use crate::words::bytes_of;
 use net_base::Medium;
@@ -9,6 +9,14 @@ use std::alloc::{AllocError, Global};
 use std::io::{self, BufRead, BufReader, Read, Write};
 use std::str;
 
+/// The line that was read last, the medium that was named last, and whether each line was taken.
+#[derive(Drop)]
+struct Lines {
+    line: Vec<u8>,
+    medium: Option<Medium>,
+    all_taken: bool,
+}
+
 /// Answers each line, and says whether each was taken. Where a frame stands before the first medium, nothing more is read.
 pub(crate) fn run<R: Read + Drop, W: Write>(
     alloc: Global,
@@ -16,36 +24,53 @@ pub(crate) fn run<R: Read + Drop, W: Write>(
     writer: &mut W,
 ) -> io::Result<bool> {
     let mut reader = BufReader::new(alloc, reader)?;
-    let mut line = Vec::new(alloc);
-    let mut medium = None;
-    let mut all_taken = true;
+    let mut lines = Lines {
+        line: Vec::new(alloc),
+        medium: None,
+        all_taken: true,
+    };
+    answer_all(alloc, &mut lines, &mut reader, writer)?;
+    writer.flush()?;
+    Ok(lines.all_taken)
+}
+
+fn answer_all<R: BufRead, W: Write>(
+    alloc: Global,
+    lines: &mut Lines,
+    reader: &mut R,
+    writer: &mut W,
+) -> io::Result<()> {
     for number in 1..u64::MAX {
-        line.clear();
-        if reader.read_until(b'\n', &mut line)? == 0 {
+        lines.line.clear();
+        if reader.read_until(b'\n', &mut lines.line)? == 0 {
             if number == 1 {
+                lines.all_taken = false;
                 writer.write_all(b"line 1: bad medium: no word for ip or ethernet\n")?;
-                all_taken = false;
             }
             break;
         }
-        let mut text = String::new(alloc);
-        let taken = take_line(
-            alloc,
-            number,
-            &mut medium,
-            without_end(line.as_slice()),
-            &mut text,
-        )?;
-        writer.write_all(text.as_bytes())?;
-        if !taken {
-            all_taken = false;
-            if medium.is_none() {
-                break;
-            }
+        if !answer(alloc, lines, number, writer)? {
+            break;
         }
     }
-    writer.flush()?;
-    Ok(all_taken)
+    Ok(())
+}
+
+// Answers the line that was read, and says whether more are.
+fn answer<W: Write>(
+    alloc: Global,
+    lines: &mut Lines,
+    number: u64,
+    writer: &mut W,
+) -> io::Result<bool> {
+    let mut text = String::new(alloc);
+    let line = without_end(lines.line.as_slice());
+    let is_taken = take_line(alloc, number, &mut lines.medium, line, &mut text)?;
+    writer.write_all(text.as_bytes())?;
+    if !is_taken {
+        lines.all_taken = false;
+    }
+    Ok(is_taken || lines.medium.is_some())
 }
 
 // A line without the line feed that ends it.
@@ -64,56 +89,71 @@ fn take_line(
     line: &[u8],
     out: &mut String,
 ) -> Result<bool, AllocError> {
-    let (kind, taken) = match text_of(line) {
-        Err(fault) => ("line", Err(fault)),
-        Ok("") => return Ok(true),
-        Ok(text) if text.starts_with('#') => {
+    if let Some(place) = place_above_127(line) {
+        writeln!(
+            out,
+            "line {number}: bad line: a byte above 127 at place {place}"
+        )?;
+        return Ok(false);
+    }
+    let (kind, fault) = match text_of(line) {
+        Some(text) if text.starts_with('#') => {
             writeln!(out, "{text}")?;
             return Ok(true);
         }
-        Ok(text) if medium_of(text).is_some() => {
-            *medium = medium_of(text);
-            return Ok(true);
-        }
-        Ok(text) => take_words(alloc, *medium, text, out),
+        Some(text) => take_words(alloc, medium, text, out),
+        None => ("line", Some(CARRIAGE_RETURN)),
     };
-    match taken {
-        Ok(()) => Ok(true),
-        Err(fault) => {
+    match fault {
+        None => Ok(true),
+        Some(fault) => {
             writeln!(out, "line {number}: bad {kind}: {fault}")?;
             Ok(false)
         }
     }
 }
 
-// Answers a line that is neither empty, a comment nor a medium: its kind, and whether it was taken.
+// The place, counted from 1, of the first byte above 127, unless the line ends with a carriage return.
+fn place_above_127(line: &[u8]) -> Option<usize> {
+    if let [.., b'\r'] = line {
+        return None;
+    }
+    let place = line.iter().position(|byte| *byte > 127)?;
+    Some(place.saturating_add(1))
+}
+
+// A line without bytes above 127 as text, unless it ends with a carriage return.
+fn text_of(line: &[u8]) -> Option<&str> {
+    match str::from_utf8(line) {
+        Ok(text) if !text.ends_with('\r') => Some(text),
+        _ => None,
+    }
+}
+
+// Answers a line that is no comment: its kind, and why it isn't taken, if it isn't.
 fn take_words<'a>(
     alloc: Global,
-    medium: Option<Medium>,
+    medium: &mut Option<Medium>,
     text: &'a str,
     out: &mut String,
-) -> (&'static str, Result<(), Fault<'a>>) {
+) -> (&'static str, Option<Fault<'a>>) {
+    if text.is_empty() {
+        return ("line", None);
+    }
+    if let Some(named) = medium_of(text) {
+        *medium = Some(named);
+        return ("medium", None);
+    }
     if let Some(words) = text.strip_prefix("emit ") {
         return ("emit", take_emit(alloc, words, out));
     }
     if let Some(words) = text.strip_prefix("text ") {
         return ("text", take_text(words, out));
     }
-    match medium {
+    match *medium {
         Some(named) => ("frame", take_frame(alloc, named, text, out)),
-        None => ("medium", Err(Fault::No("ip or ethernet", text))),
+        None => ("medium", Some(Fault::no("ip or ethernet", text))),
     }
-}
-
-// A line as text.
-fn text_of(line: &[u8]) -> Result<&str, Fault<'_>> {
-    if let [.., b'\r'] = line {
-        return Err(Fault::CarriageReturn);
-    }
-    if let Some(place) = line.iter().position(|byte| *byte > 127) {
-        return Err(Fault::NotAscii(place.saturating_add(1)));
-    }
-    str::from_utf8(line).map_err(|_| Fault::NotAscii(0))
 }
 
 fn medium_of(text: &str) -> Option<Medium> {
@@ -129,16 +169,31 @@ fn take_frame<'a>(
     medium: Medium,
     text: &'a str,
     out: &mut String,
-) -> Result<(), Fault<'a>> {
-    let frame = bytes_of(alloc, "pairs of hex digits", text)?;
-    writeln!(out, "frame {}", frame.len())?;
-    describe(alloc, medium, frame.as_slice(), out)?;
-    Ok(())
+) -> Option<Fault<'a>> {
+    match bytes_of(alloc, "pairs of hex digits", text) {
+        Ok(frame) => done(put_frame(alloc, medium, frame.as_slice(), out)),
+        Err(fault) => Some(fault),
+    }
 }
 
-fn take_emit<'a>(alloc: Global, text: &'a str, out: &mut String) -> Result<(), Fault<'a>> {
-    let bytes = emit(alloc, text)?;
-    let digits = hex::encode(alloc, bytes.as_slice())?;
-    writeln!(out, "bytes {}: {digits}", bytes.len())?;
-    Ok(())
+fn put_frame(
+    alloc: Global,
+    medium: Medium,
+    frame: &[u8],
+    out: &mut String,
+) -> Result<(), AllocError> {
+    writeln!(out, "frame {}", frame.len())?;
+    describe(alloc, medium, frame, out)
+}
+
+fn take_emit<'a>(alloc: Global, text: &'a str, out: &mut String) -> Option<Fault<'a>> {
+    match emit(alloc, text) {
+        Ok(bytes) => done(put_bytes(alloc, bytes.as_slice(), out)),
+        Err(fault) => Some(fault),
+    }
+}
+
+fn put_bytes(alloc: Global, bytes: &[u8], out: &mut String) -> Result<(), AllocError> {
+    let digits = hex::encode(alloc, bytes)?;
+    writeln!(out, "bytes {}: {digits}", bytes.len())
 }

@@ -1,13 +1,13 @@
 //! Texts of addresses, blocks and endpoints: read, and printed in the one form that each has.
-use crate::fault::Fault;
+use crate::fault::{Fault, done};
 use ip_wire::{EthernetAddress, IpAddress, IpCidr, IpEndpoint, Ipv4Address, Ipv6Address};
 use std::fmt::Display;
 use std::str::FromStr;
 
-/// Answers a line with what the text is read as. The text is all that stands behind its kind, blanks too.
-pub(crate) fn take_text<'a>(words: &'a str, out: &mut String) -> Result<(), Fault<'a>> {
+/// Answers a line with what the text is read as: why it isn't taken, if it isn't. The text is all that stands behind its kind, blanks too.
+pub(crate) fn take_text<'a>(words: &'a str, out: &mut String) -> Option<Fault<'a>> {
     let Some((kind, text)) = words.split_once(' ') else {
-        return Err(Fault::Missing("text"));
+        return Some(Fault::missing("text"));
     };
     match kind {
         "ipv4" => put::<Ipv4Address>(kind, "IPv4 address", text, out),
@@ -16,7 +16,7 @@ pub(crate) fn take_text<'a>(words: &'a str, out: &mut String) -> Result<(), Faul
         "block" => put::<IpCidr>(kind, "block", text, out),
         "endpoint" => put::<IpEndpoint>(kind, "endpoint", text, out),
         "station" => put::<EthernetAddress>(kind, "Ethernet address", text, out),
-        _ => Err(Fault::No("kind of text", kind)),
+        _ => Some(Fault::no("kind of text", kind)),
     }
 }
 
@@ -26,12 +26,12 @@ fn put<'a, T: FromStr + Display + Drop>(
     class: &'static str,
     text: &'a str,
     out: &mut String,
-) -> Result<(), Fault<'a>>
+) -> Option<Fault<'a>>
 where
     T::Err: Drop,
 {
     match text.parse::<T>() {
-        Ok(value) => Ok(writeln!(out, "{kind} {value}")?),
-        Err(_) => Err(Fault::No(class, text)),
+        Ok(value) => done(writeln!(out, "{kind} {value}")),
+        Err(_) => Some(Fault::no(class, text)),
     }
 }

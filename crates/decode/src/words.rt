@@ -1,12 +1,12 @@
 //! The words of a line, one blank apart, and the classes that they come in.
-use crate::fault::Fault;
+use crate::fault::{Fault, NO_MEMORY};
 use hex::FromHexError;
 use ip_wire::{EthernetAddress, EthernetProtocol, IpAddress, IpProtocol, Ipv4Address, Ipv6Address};
 use std::alloc::Global;
 use std::str::FromStr;
 
 /// The words that are left of a line, and the first fault in those before them. Behind a fault each word is read as something that nobody
-/// looks at: `end` says the fault. So what reads a line goes straight on.
+/// looks at: `fault` says it. So what reads a line goes straight on.
 #[derive(Drop)]
 pub(crate) struct Words<'a> {
     rest: Option<&'a str>,
@@ -30,7 +30,7 @@ impl<'a> Words<'a> {
 
     /// The word that was read last isn't `what`.
     pub(crate) fn no(&mut self, what: &'static str, word: &'a str) {
-        self.note(Fault::No(what, word));
+        self.note(Fault::no(what, word));
     }
 
     // The next word, if there is one.
@@ -53,21 +53,32 @@ impl<'a> Words<'a> {
         match self.next() {
             Some(word) => word,
             None => {
-                self.note(Fault::Missing(what));
+                self.note(Fault::missing(what));
                 ""
             }
         }
     }
 
-    /// The end of the line, or the first fault.
-    pub(crate) fn end(&mut self) -> Result<(), Fault<'a>> {
+    /// Whether this is the end of the line, and no fault was found in it.
+    pub(crate) fn end(&mut self) -> bool {
         if let Some(word) = self.next() {
-            self.note(Fault::Extra(word));
+            self.note(Fault::extra(word));
         }
+        self.fault.is_none()
+    }
+
+    /// The first fault. Where no word has one, there was no memory.
+    pub(crate) fn fault(&self) -> Fault<'a> {
         match self.fault {
-            Some(fault) => Err(fault),
-            None => Ok(()),
+            Some(fault) => fault,
+            None => NO_MEMORY,
         }
+    }
+
+    /// No packet, for this fault.
+    pub(crate) fn refuse(&mut self, fault: Fault<'a>) -> Option<Vec<u8>> {
+        self.note(fault);
+        None
     }
 
     // What was found in a word of this class, or else another value.
@@ -201,12 +212,12 @@ pub(crate) fn bytes_of<'a>(
         return Ok(Vec::new(alloc));
     }
     if word.is_empty() {
-        return Err(Fault::No(what, word));
+        return Err(Fault::no(what, word));
     }
     match hex::decode(alloc, word) {
         Ok(bytes) => Ok(bytes),
-        Err(FromHexError::OutOfMemory) => Err(Fault::NoMemory),
-        Err(_) => Err(Fault::No(what, word)),
+        Err(FromHexError::OutOfMemory) => Err(NO_MEMORY),
+        Err(_) => Err(Fault::no(what, word)),
     }
 }
 
