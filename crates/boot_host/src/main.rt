@@ -8,6 +8,7 @@ mod host;
 mod orders;
 mod page;
 mod pings;
+mod said;
 mod turns;
 
 use anyhow::Result;
