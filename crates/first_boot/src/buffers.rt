@@ -5,11 +5,8 @@ use sockets::udp;
 use std::alloc::Global;
 
 /// A queue of four datagrams, of so many bytes together.
-fn queue<H: Drop>(alloc: Global, bytes: usize) -> Result<PacketBuffer<H>> {
-    let mut places = Vec::new(alloc);
-    for _ in 0..4 {
-        places.push(PacketMetadata::EMPTY)?;
-    }
+fn queue<H: Clone + Drop>(alloc: Global, bytes: usize) -> Result<PacketBuffer<H>> {
+    let places = vec![in alloc; PacketMetadata::EMPTY; 4]?;
     let bytes = vec![in alloc; 0; bytes]?;
     Ok(PacketBuffer::new(ManagedSlice::Fixed(places), ManagedSlice::Fixed(bytes)))
 }

@@ -1,10 +1,11 @@
 //! A host that configures itself.
 ghost use Rattle.net_base.specs.Time.{IsMoment};
 
-use crate::wire::Wire;
+use crate::net::ethernet;
 use anyhow::{Result, anyhow};
 use interface::{Config, Interface, SocketHandle, SocketSet};
 use ip_wire::{EthernetAddress, HardwareAddress, IpAddress, IpCidr, Ipv4Address};
+use lan_port::Port;
 use net_base::{Instant, ManagedSlice};
 use sockets::dhcp::{self, Event};
 use sockets::dns::{self, DnsQueryType};
@@ -20,7 +21,7 @@ const STATION: EthernetAddress = EthernetAddress([2, 0, 0, 0, 0, 1]);
 #[derive(Drop)]
 pub struct Client {
     interface: Interface,
-    pub wire: Wire,
+    pub wire: Port,
     sockets: SocketSet<Socket>,
     dhcp: SocketHandle,
     dns: SocketHandle,
@@ -29,16 +30,10 @@ pub struct Client {
 impl Client {
     /// A host without an address.
     pub fn new(alloc: Global) -> Result<Client> {
+        let wire = Port::new(alloc, ethernet());
+        let interface = bare(alloc, &wire)?;
         let mut sockets = SocketSet::new(ManagedSlice::Owned(Vec::new(alloc)));
-        let dhcp = add(&mut sockets, dhcp::Socket::new(STATION, 1))?;
-        let dns = add(&mut sockets, dns::Socket::new(&[]))?;
-        let wire = Wire::new(alloc);
-        let config = Config {
-            random_seed: 1,
-            hardware_addr: HardwareAddress::Ethernet(STATION),
-            isn_key: None,
-        };
-        let interface = Interface::new(alloc, &config, &wire, Instant::ZERO)?;
+        let (dhcp, dns) = add_both(&mut sockets)?;
         Ok(Client {
             interface,
             wire,
@@ -119,6 +114,23 @@ impl Client {
     pub fn address(&self) -> Option<Ipv4Address> {
         self.interface.ipv4_addr()
     }
+}
+
+/// An interface at the wire, without an address.
+fn bare(alloc: Global, wire: &Port) -> Result<Interface> {
+    let config = Config {
+        random_seed: 1,
+        hardware_addr: HardwareAddress::Ethernet(STATION),
+        isn_key: None,
+    };
+    Ok(Interface::new(alloc, &config, wire, Instant::ZERO)?)
+}
+
+/// Adds a client of DHCP, and one of DNS.
+fn add_both(sockets: &mut SocketSet<Socket>) -> Result<(SocketHandle, SocketHandle)> {
+    let dhcp = add(sockets, dhcp::Socket::new(STATION, 1))?;
+    let dns = add(sockets, dns::Socket::new(&[]))?;
+    Ok((dhcp, dns))
 }
 
 /// Adds a socket to a set that grows.

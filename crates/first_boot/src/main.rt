@@ -6,7 +6,6 @@ mod buffers;
 mod client;
 mod net;
 mod server;
-mod wire;
 
 use anyhow::Result;
 use net::Net;
@@ -15,6 +14,11 @@ use net_base::Duration;
 fn main(rt: HostRuntime) -> Result<()> {
     let alloc = rt.alloc();
     let mut net = Box::new(alloc, Net::new(alloc)?)?;
+    boot(&rt, &mut net)
+}
+
+/// Lets the host boot, and ask for the address of a name.
+fn boot<R: Print>(rt: &R, net: &mut Net) -> Result<()> {
     net.pass(Duration::from_secs(5))?;
     match net.client.address() {
         Some(address) => println!(rt; "after five seconds the host is {address}")?,

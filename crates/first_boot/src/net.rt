@@ -6,8 +6,9 @@ use crate::client::Client;
 use crate::server::Server;
 use anyhow::Result;
 use interface::earlier;
-use net_base::{Duration, Instant};
-use std::alloc::Global;
+use lan_port::Port;
+use net_base::{ChecksumCapabilities, DeviceCapabilities, Duration, Instant, Medium};
+use std::alloc::{AllocError, Global};
 
 /// How many turns are taken at most while time passes.
 const TURNS: u32 = 1000;
@@ -17,8 +18,29 @@ const TURNS: u32 = 1000;
 pub struct Net {
     pub client: Client,
     server: Server,
+    // How many frames of each the wire carried.
+    from_client: usize,
+    from_server: usize,
     now: Instant,
     ghost now_is_a_moment: { IsMoment now },
+}
+
+/// An end of an Ethernet wire.
+pub fn ethernet() -> DeviceCapabilities {
+    DeviceCapabilities {
+        medium: Medium::Ethernet,
+        max_transmission_unit: 1514,
+        checksum: ChecksumCapabilities::default(),
+    }
+}
+
+/// Carries the frames that were sent at one end, behind those that were carried already, to the other end.
+fn carry(from: &Port, carried: &mut usize, to: &mut Port) -> Result<(), AllocError> {
+    for frame in from.sent().iter().skip(*carried) {
+        to.push(frame.clone()?)?;
+    }
+    *carried = from.sent().len();
+    Ok(())
 }
 
 /// The moment that is so much later, if the stack takes it.
@@ -40,6 +62,8 @@ impl Net {
         Ok(Net {
             client,
             server,
+            from_client: 0,
+            from_server: 0,
             now: Instant::ZERO,
         })
     }
@@ -48,14 +72,15 @@ impl Net {
     fn turn(&mut self) -> Result<()> {
         self.client.poll(self.now);
         self.server.poll(self.now);
-        self.client.wire.carry_to(&mut self.server.wire)?;
-        self.server.wire.carry_to(&mut self.client.wire)?;
+        let (client, server) = (&mut self.client.wire, &mut self.server.wire);
+        carry(client, &mut self.from_client, server)?;
+        carry(server, &mut self.from_server, client)?;
         Ok(())
     }
 
     /// When the next turn is due: now where a frame came, else when the first of the hosts wants it.
     fn next(&mut self) -> Option<Instant> {
-        if self.client.wire.has_frame() || self.server.wire.has_frame() {
+        if !self.client.wire.waiting().is_empty() || !self.server.wire.waiting().is_empty() {
             return Some(self.now);
         }
         earlier(self.client.poll_at(self.now), self.server.poll_at(self.now))

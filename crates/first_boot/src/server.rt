@@ -3,10 +3,11 @@ ghost use Rattle.dhcp_wire.specs.Written.{Fits};
 ghost use Rattle.net_base.specs.Time.{IsMoment};
 
 use crate::buffers::datagrams;
-use crate::wire::Wire;
+use crate::net::ethernet;
 use anyhow::{Result, anyhow};
 use interface::{Config, Interface, SocketHandle, SocketSet};
 use ip_wire::{EthernetAddress, HardwareAddress, IpAddress, IpCidr, IpEndpoint, Ipv4Address};
+use lan_port::Port;
 use net_base::{Instant, ManagedSlice};
 use sockets::dhcp::{DhcpMessageType, DhcpPacket, DhcpRepr};
 use sockets::udp::UdpMetadata;
@@ -27,7 +28,7 @@ const RECORD: [u8; 16] = [0xc0, 12, 0, 1, 0, 1, 0, 0, 0, 60, 0, 4, 192, 168, 1, 
 #[derive(Drop)]
 pub struct Server {
     interface: Interface,
-    pub wire: Wire,
+    pub wire: Port,
     sockets: SocketSet<Socket>,
     dhcp: SocketHandle,
     dns: SocketHandle,
@@ -36,19 +37,10 @@ pub struct Server {
 impl Server {
     /// A server at an end of a wire.
     pub fn new(alloc: Global) -> Result<Server> {
+        let wire = Port::new(alloc, ethernet());
+        let interface = addressed(alloc, &wire)?;
         let mut sockets = SocketSet::new(ManagedSlice::Owned(Vec::new(alloc)));
-        let dhcp = add(&mut sockets, datagrams(alloc, 67)?)?;
-        let dns = add(&mut sockets, datagrams(alloc, 53)?)?;
-        let wire = Wire::new(alloc);
-        let config = Config {
-            random_seed: 2,
-            hardware_addr: HardwareAddress::Ethernet(EthernetAddress([2, 0, 0, 0, 0, 2])),
-            isn_key: None,
-        };
-        let mut interface = Interface::new(alloc, &config, &wire, Instant::ZERO)?;
-        let _ = interface.update_ip_addrs(|addresses| {
-            let _ = addresses.try_push(IpCidr::new(IpAddress::Ipv4(ADDRESS), 24));
-        });
+        let (dhcp, dns) = add_both(alloc, &mut sockets)?;
         Ok(Server {
             interface,
             wire,
@@ -80,6 +72,30 @@ impl Server {
     {
         self.interface.poll_at(now, &self.sockets)
     }
+}
+
+/// An interface at the wire, with its address.
+fn addressed(alloc: Global, wire: &Port) -> Result<Interface> {
+    let config = Config {
+        random_seed: 2,
+        hardware_addr: HardwareAddress::Ethernet(EthernetAddress([2, 0, 0, 0, 0, 2])),
+        isn_key: None,
+    };
+    let mut interface = Interface::new(alloc, &config, wire, Instant::ZERO)?;
+    let _ = interface.update_ip_addrs(|addresses| {
+        let _ = addresses.try_push(IpCidr::new(IpAddress::Ipv4(ADDRESS), 24));
+    });
+    Ok(interface)
+}
+
+/// Adds a socket for the clients of DHCP, and one for those of DNS.
+fn add_both(
+    alloc: Global,
+    sockets: &mut SocketSet<Socket>,
+) -> Result<(SocketHandle, SocketHandle)> {
+    let dhcp = add(sockets, datagrams(alloc, 67)?)?;
+    let dns = add(sockets, datagrams(alloc, 53)?)?;
+    Ok((dhcp, dns))
 }
 
 /// Adds a UDP socket to a set that grows.
