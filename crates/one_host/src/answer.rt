@@ -1,17 +1,28 @@
 //! What lines answer, and how it is written.
 use ip_wire::{HardwareAddress, IpAddress, IpEndpoint};
 use lan_script::hex_text;
-use net_base::{Duration, Instant};
+use net_base::Instant;
 use sockets::tcp::State;
 use std::alloc::{AllocError, Global};
+use std::fmt::Display;
 
 /// What a line answers.
 #[derive(Drop)]
 pub enum Answer {
     /// It was done.
     Done,
-    /// So many bytes were taken.
-    Count(usize),
+    /// A word of its own.
+    Says(&'static str),
+    /// The socket or the host refused.
+    Error(&'static str),
+    /// A number behind a word: of bytes that were taken, of microseconds, a value that was asked for.
+    Number(&'static str, u64),
+    /// At this moment.
+    At(Instant),
+    State(State),
+    /// An address behind a word: one that was asked for, a next hop whose hardware address isn't known.
+    Address(&'static str, IpAddress),
+    Station(HardwareAddress),
     /// These bytes were read.
     Bytes(Vec<u8>),
     /// They came from this endpoint, or this address.
@@ -19,23 +30,14 @@ pub enum Answer {
     FromAddr(IpAddress, Vec<u8>),
     /// They came from this endpoint to this own address, and stay.
     Waits(IpEndpoint, IpAddress, Vec<u8>),
-    State(State),
-    /// At this moment; in so long.
-    At(Instant),
-    In(Duration),
-    /// A word of its own.
-    Says(&'static str),
-    /// A value that was asked for: a number, an address, a hardware address.
-    Number(u64),
-    Address(IpAddress),
-    Station(HardwareAddress),
-    /// A next hop whose hardware address isn't known.
-    Unknown(IpAddress),
-    /// The socket or the host refused.
-    Error(&'static str),
 }
 
 impl Answer {
+    /// Whether something holds.
+    pub fn is(holds: bool) -> Answer {
+        Answer::Says(if holds { "yes" } else { "no" })
+    }
+
     /// The line that says it, with its end.
     pub fn to_line(&self, alloc: Global) -> Result<String, AllocError> {
         let hex = hex_text(alloc, self.bytes())?;
@@ -57,26 +59,38 @@ impl Answer {
     fn line_with(&self, alloc: Global, hex: &str) -> Result<String, AllocError> {
         match self {
             Answer::Done => String::from_str(alloc, "ok\n"),
-            Answer::Count(count) => format!(in alloc; "ok {count}\n"),
-            Answer::Bytes(_) => format!(in alloc; "data {hex}\n"),
-            Answer::FromEndpoint(remote, _) => format!(in alloc; "from {remote} {hex}\n"),
-            Answer::FromAddr(remote, _) => format!(in alloc; "from {remote} {hex}\n"),
-            Answer::Waits(remote, own, _) => format!(in alloc; "from {remote} to {own} {hex}\n"),
-            Answer::State(state) => format!(in alloc; "state {state}\n"),
-            Answer::At(moment) => format!(in alloc; "at {}\n", moment.total_micros()),
-            Answer::In(delay) => format!(in alloc; "in {}\n", delay.total_micros()),
             Answer::Says(word) => format!(in alloc; "{word}\n"),
-            Answer::Number(value) => format!(in alloc; "is {value}\n"),
-            Answer::Address(address) => format!(in alloc; "is {address}\n"),
-            Answer::Station(station) => format!(in alloc; "is {station}\n"),
-            Answer::Unknown(hop) => format!(in alloc; "unknown {hop}\n"),
-            Answer::Error(name) => format!(in alloc; "error {name}\n"),
+            Answer::Error(name) => line(alloc, "error", name),
+            Answer::Number(word, value) => line(alloc, word, value),
+            Answer::At(moment) => line(alloc, "at", &moment.total_micros()),
+            Answer::State(state) => line(alloc, "state", state),
+            Answer::Address(word, address) => line(alloc, word, address),
+            Answer::Station(station) => line(alloc, "is", station),
+            Answer::Bytes(_) => line(alloc, "data", &hex),
+            Answer::FromEndpoint(remote, _) => line_from(alloc, remote, hex),
+            Answer::FromAddr(remote, _) => line_from(alloc, remote, hex),
+            Answer::Waits(remote, own, _) => format!(in alloc; "from {remote} to {own} {hex}\n"),
         }
     }
 }
 
-/// The line of a sent frame, with its end.
-pub fn sent_line(alloc: Global, number: u64, frame: &[u8]) -> Result<String, AllocError> {
+// A line of a word, and of a value behind it.
+fn line<D: Display>(alloc: Global, word: &str, value: &D) -> Result<String, AllocError> {
+    format!(in alloc; "{word} {value}\n")
+}
+
+// The line of bytes that came from somewhere.
+fn line_from<D: Display>(alloc: Global, remote: &D, hex: &str) -> Result<String, AllocError> {
+    format!(in alloc; "from {remote} {hex}\n")
+}
+
+/// Puts the line of a sent frame behind a text.
+pub fn put_sent(
+    alloc: Global,
+    text: &mut String,
+    number: u64,
+    frame: &[u8],
+) -> Result<(), AllocError> {
     let hex = hex_text(alloc, frame)?;
-    format!(in alloc; "sent A {number} {hex}\n")
+    write!(text, "sent A {number} {hex}\n")
 }

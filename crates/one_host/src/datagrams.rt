@@ -1,7 +1,6 @@
 //! Lines of UDP, ICMP and raw sockets.
 use crate::answer::Answer;
 use crate::host::Host;
-use crate::stop::Stop;
 use crate::words::{Words, number};
 use ip_wire::{IpAddress, IpEndpoint, IpListenEndpoint};
 use lan_frames::names_tcp_or_udp;
@@ -9,62 +8,47 @@ use net_base::Medium;
 use sockets::icmp::Endpoint;
 use sockets::udp::{BindError, RecvError, SendError, UdpMetadata};
 use sockets::{Socket, icmp, raw, udp};
-use std::alloc::{AllocError, Global};
+use std::alloc::Global;
 
-/// Plays a line of a UDP, an ICMP or a raw socket.
-pub fn play<'a>(
-    alloc: Global,
-    host: &mut Host,
-    verb: &'a str,
-    words: &mut Words<'a>,
-) -> Result<Answer, Stop<'a>> {
+/// The lines of these sockets.
+pub const VERBS: [&str; 9] = [
+    "bind", "ident", "errors", "sendto", "sendicmp", "sendraw", "sendany", "recvfrom", "peek",
+];
+
+/// Plays one of these lines.
+pub fn play(alloc: Global, host: &mut Host, verb: &str, words: &mut Words<'_>) -> Answer {
     words.host();
     let place = words.size();
     match verb {
         "bind" => bind(host, place, words),
-        "ident" => bind_ident(host, place, words),
-        "errors" => bind_errors(host, place, words),
-        "recvfrom" => {
-            let most = words.size();
-            words.end()?;
-            receive(alloc, host.socket(place)?, most)
-        }
-        "peek" => {
-            let most = words.size();
-            words.end()?;
-            peek(alloc, host.socket(place)?, most)
-        }
+        "ident" | "errors" => bind_icmp(host, place, verb, words),
+        "recvfrom" | "peek" => receive(alloc, host, place, verb, words),
         "sendto" => send_to(alloc, host, place, words),
         "sendicmp" => send_icmp(alloc, host, place, words),
         _ => send_raw(alloc, host, place, verb, words),
     }
 }
 
-fn bind<'a>(host: &mut Host, place: usize, words: &mut Words<'a>) -> Result<Answer, Stop<'a>> {
+fn bind(host: &mut Host, place: usize, words: &mut Words<'_>) -> Answer {
     let port = words.short("port");
-    words.end()?;
-    let endpoint = IpListenEndpoint { addr: None, port };
-    Ok(bound(host.udp(place)?.bind(endpoint)))
+    words.end();
+    match host.udp(place, words) {
+        Some(socket) => bound(socket.bind(IpListenEndpoint { addr: None, port })),
+        None => Answer::Done,
+    }
 }
 
-fn bind_ident<'a>(
-    host: &mut Host,
-    place: usize,
-    words: &mut Words<'a>,
-) -> Result<Answer, Stop<'a>> {
-    let ident = words.short("identifier");
-    words.end()?;
-    Ok(bound(host.icmp(place)?.bind(Endpoint::Ident(ident))))
-}
-
-fn bind_errors<'a>(
-    host: &mut Host,
-    place: usize,
-    words: &mut Words<'a>,
-) -> Result<Answer, Stop<'a>> {
-    let endpoint = quoted(words);
-    words.end()?;
-    Ok(bound(host.icmp(place)?.bind(endpoint)))
+fn bind_icmp(host: &mut Host, place: usize, verb: &str, words: &mut Words<'_>) -> Answer {
+    let endpoint = if verb == "ident" {
+        Endpoint::Ident(words.short("identifier"))
+    } else {
+        quoted(words)
+    };
+    words.end();
+    match host.icmp(place, words) {
+        Some(socket) => bound(socket.bind(endpoint)),
+        None => Answer::Done,
+    }
 }
 
 /// What errors are for an ICMP socket: those about what this port sent.
@@ -102,42 +86,39 @@ fn listened(words: &mut Words<'_>) -> IpListenEndpoint {
     }
 }
 
-fn send_to<'a>(
-    alloc: Global,
-    host: &mut Host,
-    place: usize,
-    words: &mut Words<'a>,
-) -> Result<Answer, Stop<'a>> {
+fn send_to(alloc: Global, host: &mut Host, place: usize, words: &mut Words<'_>) -> Answer {
     let remote = UdpMetadata::from(words.endpoint());
-    let bytes = words.last_bytes(alloc)?;
-    Ok(sent(host.udp(place)?.send_slice(bytes.as_slice(), remote)))
+    let bytes = words.last_bytes(alloc);
+    match host.udp(place, words) {
+        Some(socket) => sent(socket.send_slice(bytes.as_slice(), remote)),
+        None => Answer::Done,
+    }
 }
 
-fn send_icmp<'a>(
-    alloc: Global,
-    host: &mut Host,
-    place: usize,
-    words: &mut Words<'a>,
-) -> Result<Answer, Stop<'a>> {
+fn send_icmp(alloc: Global, host: &mut Host, place: usize, words: &mut Words<'_>) -> Answer {
     let remote = words.address();
-    let bytes = words.last_bytes(alloc)?;
-    Ok(sent(host.icmp(place)?.send_slice(bytes.as_slice(), remote)))
+    let bytes = words.last_bytes(alloc);
+    match host.icmp(place, words) {
+        Some(socket) => sent(socket.send_slice(bytes.as_slice(), remote)),
+        None => Answer::Done,
+    }
 }
 
 /// `sendraw` refuses packets that name TCP or UDP, and `sendany` none.
-fn send_raw<'a>(
+fn send_raw(
     alloc: Global,
     host: &mut Host,
     place: usize,
-    verb: &'a str,
-    words: &mut Words<'a>,
-) -> Result<Answer, Stop<'a>> {
-    let bytes = words.last_bytes(alloc)?;
-    let socket = host.raw(place)?;
-    if verb == "sendraw" && names_tcp_or_udp(Medium::Ip, bytes.as_slice()) {
-        return Err(Stop::Refused("RawProtocol"));
+    verb: &str,
+    words: &mut Words<'_>,
+) -> Answer {
+    let bytes = words.last_bytes(alloc);
+    let is_refused = verb == "sendraw" && names_tcp_or_udp(Medium::Ip, bytes.as_slice());
+    match host.raw(place, words) {
+        Some(_) if is_refused => words.refuse("RawProtocol"),
+        Some(socket) => sent_raw(socket.send_slice(bytes.as_slice())),
+        None => Answer::Done,
     }
-    Ok(sent_raw(socket.send_slice(bytes.as_slice())))
 }
 
 fn bound(answer: Result<(), BindError>) -> Answer {
@@ -170,82 +151,107 @@ fn unread(error: RecvError) -> Answer {
     }
 }
 
-/// Reads the first datagram, message or packet, if it has no more bytes than this.
-fn receive<'a>(alloc: Global, socket: &mut Socket, most: usize) -> Result<Answer, Stop<'a>> {
-    match socket {
-        Socket::Udp(socket) => Ok(datagram(alloc, socket, most)?),
-        Socket::Icmp(socket) => Ok(message(alloc, socket, most)?),
-        Socket::Raw(socket) => Ok(packet(alloc, socket, most)?),
-        Socket::Tcp(_) | Socket::Dhcpv4(_) | Socket::Dns(_) => { Err(Stop::Refused("WrongKind")) }
+/// Reads the first datagram, message or packet, if it has no more bytes than the line says, or shows it, and it stays first.
+fn receive(
+    alloc: Global,
+    host: &mut Host,
+    place: usize,
+    verb: &str,
+    words: &mut Words<'_>,
+) -> Answer {
+    let most = words.size();
+    words.end();
+    let Some(socket) = host.socket(place, words) else {
+        return Answer::Done;
+    };
+    match vec![in alloc; 0; most.min(waiting(socket))].ok() {
+        Some(bytes) if verb == "peek" => peek(socket, bytes, words),
+        Some(bytes) => take(socket, bytes, words),
+        None => words.refuse("Memory"),
     }
 }
 
-fn datagram(alloc: Global, socket: &mut udp::Socket, most: usize) -> Result<Answer, AllocError> {
-    let mut bytes = vec![in alloc; 0; most.min(socket.recv_queue())]?;
+// How many bytes wait at a socket of such a kind.
+fn waiting(socket: &Socket) -> usize {
+    match socket {
+        Socket::Udp(socket) => socket.recv_queue(),
+        Socket::Icmp(socket) => socket.recv_queue(),
+        Socket::Raw(socket) => socket.recv_queue(),
+        Socket::Tcp(_) | Socket::Dhcpv4(_) | Socket::Dns(_) => 0,
+    }
+}
+
+fn take(socket: &mut Socket, bytes: Vec<u8>, words: &mut Words<'_>) -> Answer {
+    match socket {
+        Socket::Udp(socket) => datagram(socket, bytes),
+        Socket::Icmp(socket) => message(socket, bytes),
+        Socket::Raw(socket) => packet(socket, bytes),
+        Socket::Tcp(_) | Socket::Dhcpv4(_) | Socket::Dns(_) => words.refuse("WrongKind"),
+    }
+}
+
+fn peek(socket: &mut Socket, bytes: Vec<u8>, words: &mut Words<'_>) -> Answer {
+    match socket {
+        Socket::Udp(socket) => peek_datagram(socket, bytes),
+        Socket::Raw(socket) => peek_packet(socket, bytes),
+        _ => words.refuse("WrongKind"),
+    }
+}
+
+fn datagram(socket: &mut udp::Socket, mut bytes: Vec<u8>) -> Answer {
     match socket.recv_slice(&mut bytes) {
         Ok((count, metadata)) => {
             bytes.truncate(count);
-            Ok(Answer::FromEndpoint(metadata.endpoint, bytes))
+            Answer::FromEndpoint(metadata.endpoint, bytes)
         }
-        Err(error) => Ok(unread(error)),
+        Err(error) => unread(error),
     }
 }
 
-fn message(alloc: Global, socket: &mut icmp::Socket, most: usize) -> Result<Answer, AllocError> {
-    let mut bytes = vec![in alloc; 0; most.min(socket.recv_queue())]?;
+fn message(socket: &mut icmp::Socket, mut bytes: Vec<u8>) -> Answer {
     match socket.recv_slice(&mut bytes) {
         Ok((count, remote)) => {
             bytes.truncate(count);
-            Ok(Answer::FromAddr(remote, bytes))
+            Answer::FromAddr(remote, bytes)
         }
-        Err(error) => Ok(unread(error)),
+        Err(error) => unread(error),
     }
 }
 
-fn packet(alloc: Global, socket: &mut raw::Socket, most: usize) -> Result<Answer, AllocError> {
-    let mut bytes = vec![in alloc; 0; most.min(socket.recv_queue())]?;
-    match socket.recv_slice(&mut bytes) {
+fn packet(socket: &mut raw::Socket, mut bytes: Vec<u8>) -> Answer {
+    let read = socket.recv_slice(&mut bytes);
+    packet_of(read, bytes)
+}
+
+fn packet_of(read: Result<usize, RecvError>, mut bytes: Vec<u8>) -> Answer {
+    match read {
         Ok(count) => {
             bytes.truncate(count);
-            Ok(Answer::Bytes(bytes))
+            Answer::Bytes(bytes)
         }
-        Err(error) => Ok(unread(error)),
+        Err(error) => unread(error),
     }
 }
 
-/// Shows the first datagram or packet, which stays first.
-fn peek<'a>(alloc: Global, socket: &mut Socket, most: usize) -> Result<Answer, Stop<'a>> {
-    match socket {
-        Socket::Udp(socket) => Ok(peek_datagram(alloc, socket, most)?),
-        Socket::Raw(socket) => Ok(peek_packet(alloc, socket, most)?),
-        _ => Err(Stop::Refused("WrongKind")),
-    }
-}
-
-fn peek_datagram(
-    alloc: Global,
-    socket: &mut udp::Socket,
-    most: usize,
-) -> Result<Answer, AllocError> {
-    let mut bytes = vec![in alloc; 0; most.min(socket.recv_queue())]?;
-    let (count, remote, own) = match socket.peek_slice(&mut bytes) {
-        Ok((count, metadata)) => (count, metadata.endpoint, metadata.local_address),
-        Err(error) => return Ok(unread(error)),
-    };
-    bytes.truncate(count);
-    match own {
-        Some(own) => Ok(Answer::Waits(remote, own, bytes)),
-        None => Ok(Answer::FromEndpoint(remote, bytes)),
-    }
-}
-
-fn peek_packet(alloc: Global, socket: &mut raw::Socket, most: usize) -> Result<Answer, AllocError> {
-    let mut bytes = vec![in alloc; 0; most.min(socket.recv_queue())]?;
+fn peek_datagram(socket: &mut udp::Socket, mut bytes: Vec<u8>) -> Answer {
     match socket.peek_slice(&mut bytes) {
-        Ok(count) => {
+        Ok((count, metadata)) => {
             bytes.truncate(count);
-            Ok(Answer::Bytes(bytes))
+            waits(metadata.endpoint, metadata.local_address, bytes)
         }
-        Err(error) => Ok(unread(error)),
+        Err(error) => unread(error),
     }
+}
+
+// A datagram that waits: where it came from, and to which own address, if that is known.
+fn waits(remote: IpEndpoint, own: Option<IpAddress>, bytes: Vec<u8>) -> Answer {
+    match own {
+        Some(own) => Answer::Waits(remote, own, bytes),
+        None => Answer::FromEndpoint(remote, bytes),
+    }
+}
+
+fn peek_packet(socket: &mut raw::Socket, mut bytes: Vec<u8>) -> Answer {
+    let read = socket.peek_slice(&mut bytes);
+    packet_of(read, bytes)
 }

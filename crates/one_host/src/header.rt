@@ -3,7 +3,7 @@ ghost use Rattle.std.specs.Prelude.{◌<◌, IfSome};
 
 use crate::host::Host;
 use crate::made::{add_all, read_socket};
-use crate::stop::{NO_MEMORY, Stop};
+use crate::stop::Stop;
 use crate::wire::Wire;
 use crate::words::Words;
 use arrayvec::ArrayVec;
@@ -26,19 +26,14 @@ pub struct Header {
 
 impl Header {
     /// Reads what stands behind `world`.
-    pub fn read<'a>(alloc: Global, words: &mut Words<'a>) -> Result<Header, Stop<'a>> {
-        let word = words.word("medium");
-        let medium = match word {
-            "eth" => Medium::Ethernet,
-            "ip" => Medium::Ip,
-            _ => {
-                words.wrong("medium", word);
-                Medium::Ip
-            }
-        };
+    pub fn read(alloc: Global, words: &mut Words<'_>) -> Option<Header> {
+        let medium = medium(words);
         let longest = words.size();
-        words.end()?;
-        Ok(Header {
+        words.end();
+        if !words.is_taken() {
+            return None;
+        }
+        Some(Header {
             device: DeviceCapabilities {
                 medium,
                 max_transmission_unit: longest,
@@ -55,8 +50,8 @@ impl Header {
         })
     }
 
-    /// Takes a line of the header but `start`.
-    pub fn take<'a>(&mut self, verb: &'a str, words: &mut Words<'a>) -> Result<(), Stop<'a>> {
+    /// Takes a line of the header but `start`, if there is memory for it.
+    pub fn take<'a>(&mut self, verb: &'a str, words: &mut Words<'a>) -> bool {
         match verb {
             "socket" => return self.socket(words),
             "seed" => {
@@ -79,56 +74,82 @@ impl Header {
                 words.host();
                 self.device.checksum = checksums(words);
             }
-            _ => return Err(Stop::Order("`start` comes first", verb)),
+            _ => words.note(Stop::order("`start` comes first", verb)),
         }
-        words.end()
+        words.end();
+        words.is_taken()
     }
 
     /// One socket more. Those of a host B, which isn't there, are passed over.
-    fn socket<'a>(&mut self, words: &mut Words<'a>) -> Result<(), Stop<'a>> {
+    fn socket(&mut self, words: &mut Words<'_>) -> bool {
         let word = words.word("host");
         if word != "A" && word != "B" {
             words.wrong("host", word);
         }
-        let spec = read_socket(words)?;
-        if word == "A" {
-            self.specs.push(spec).map_err(|_| Stop::Refused("Memory"))?;
+        let spec = read_socket(words);
+        words.end();
+        if words.is_taken() && word == "A" {
+            self.specs.push(spec).is_ok()
+        } else {
+            words.is_taken()
         }
-        Ok(())
     }
 
     /// The host that was asked for, at 192.168.1.1/24 and fd00::1/64.
-    pub fn start(&self, alloc: Global) -> Result<Box<Host>, Stop<'static>> {
-        let mut host = self.bare(alloc)?;
-        add_all(alloc, &mut host.sockets, self.specs.as_slice())?;
-        let _ = host
-            .interface
-            .update_ip_addrs(|addresses| put_blocks(addresses));
-        Ok(host)
+    pub fn start(&self, alloc: Global, words: &mut Words<'_>) -> Option<Box<Host>> {
+        let mut host = self.bare(alloc, words)?;
+        if fill(alloc, &mut host, self.specs.as_slice(), words) {
+            Some(host)
+        } else {
+            None
+        }
     }
 
     // The host without its sockets and addresses. (It is on the heap before it gets them: to lend it makes a short proof there.)
-    fn bare(&self, alloc: Global) -> Result<Box<Host>, Stop<'static>> {
+    fn bare(&self, alloc: Global, words: &mut Words<'_>) -> Option<Box<Host>> {
         let wire = Wire::new(alloc, self.device);
-        let interface = self.interface(alloc, &wire)?;
+        let interface = self.interface(alloc, &wire, words)?;
         let sockets = SocketSet::new(ManagedSlice::Owned(Vec::new(alloc)));
         let host = Host {
             interface,
             sockets,
             wire,
         };
-        Box::new(alloc, host).ok().ok_or(NO_MEMORY)
+        Box::new(alloc, host).ok()
     }
 
-    fn interface(&self, alloc: Global, wire: &Wire) -> Result<Interface, Stop<'static>> {
+    fn interface(&self, alloc: Global, wire: &Wire, words: &mut Words<'_>) -> Option<Interface> {
         let config = Config {
             random_seed: self.seed,
             hardware_addr: self.hardware,
             isn_key: self.isn_key,
         };
         match Interface::new(alloc, &config, wire, self.begins) {
-            Ok(interface) => Ok(interface),
-            Err(error) => Err(Stop::Refused(new_error_name(error))),
+            Ok(interface) => Some(interface),
+            Err(error) => {
+                words.note(Stop::refused(new_error_name(error)));
+                None
+            }
+        }
+    }
+}
+
+// Gives the host its sockets and addresses.
+fn fill(alloc: Global, host: &mut Host, specs: &[SocketSpec], words: &mut Words<'_>) -> bool {
+    let _ = host
+        .interface
+        .update_ip_addrs(|addresses| put_blocks(addresses));
+    add_all(alloc, &mut host.sockets, specs, words)
+}
+
+fn medium(words: &mut Words<'_>) -> Medium {
+    let word = words.word("medium");
+    match word {
+        "eth" => Medium::Ethernet,
+        "ip" => Medium::Ip,
+        _ => {
+            words.wrong("medium", word);
+            Medium::Ip
         }
     }
 }

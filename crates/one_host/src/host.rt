@@ -1,6 +1,7 @@
 //! A host that runs: its interface, its sockets and its device.
-use crate::stop::Stop;
+use crate::stop::{Stop, WRONG_KIND};
 use crate::wire::Wire;
+use crate::words::Words;
 use interface::{Interface, SocketHandle, SocketSet};
 use sockets::{Socket, icmp, raw, tcp, udp};
 
@@ -13,47 +14,61 @@ pub struct Host {
 }
 
 impl Host {
-    /// The socket at this place.
-    pub fn socket<'a>(&mut self, place: usize) -> Result<&mut Socket, Stop<'a>> {
+    /// The socket at this place, where the line is taken so far. If there is none, the words say so.
+    pub fn socket(&mut self, place: usize, words: &mut Words<'_>) -> Option<&mut Socket> {
+        if !words.is_taken() {
+            return None;
+        }
         match self.sockets.get_mut(SocketHandle::at(place)) {
-            Some(socket) => Ok(socket),
-            None => Err(Stop::Refused("NoSocket")),
+            Some(socket) => Some(socket),
+            None => {
+                words.note(Stop::refused("NoSocket"));
+                None
+            }
         }
     }
 
-    /// The TCP socket at this place.
-    pub fn tcp<'a>(&mut self, place: usize) -> Result<&mut tcp::Socket, Stop<'a>> {
-        match self.sockets.get_mut(SocketHandle::at(place)) {
-            Some(Socket::Tcp(socket)) => Ok(socket),
-            Some(_) => Err(Stop::Refused("WrongKind")),
-            None => Err(Stop::Refused("NoSocket")),
+    /// The TCP socket at this place, likewise.
+    pub fn tcp(&mut self, place: usize, words: &mut Words<'_>) -> Option<&mut tcp::Socket> {
+        match self.socket(place, words) {
+            Some(Socket::Tcp(socket)) => Some(socket),
+            _ => {
+                words.note(WRONG_KIND);
+                None
+            }
         }
     }
 
     /// The UDP socket at this place.
-    pub fn udp<'a>(&mut self, place: usize) -> Result<&mut udp::Socket, Stop<'a>> {
-        match self.sockets.get_mut(SocketHandle::at(place)) {
-            Some(Socket::Udp(socket)) => Ok(socket),
-            Some(_) => Err(Stop::Refused("WrongKind")),
-            None => Err(Stop::Refused("NoSocket")),
+    pub fn udp(&mut self, place: usize, words: &mut Words<'_>) -> Option<&mut udp::Socket> {
+        match self.socket(place, words) {
+            Some(Socket::Udp(socket)) => Some(socket),
+            _ => {
+                words.note(WRONG_KIND);
+                None
+            }
         }
     }
 
     /// The ICMP socket at this place.
-    pub fn icmp<'a>(&mut self, place: usize) -> Result<&mut icmp::Socket, Stop<'a>> {
-        match self.sockets.get_mut(SocketHandle::at(place)) {
-            Some(Socket::Icmp(socket)) => Ok(socket),
-            Some(_) => Err(Stop::Refused("WrongKind")),
-            None => Err(Stop::Refused("NoSocket")),
+    pub fn icmp(&mut self, place: usize, words: &mut Words<'_>) -> Option<&mut icmp::Socket> {
+        match self.socket(place, words) {
+            Some(Socket::Icmp(socket)) => Some(socket),
+            _ => {
+                words.note(WRONG_KIND);
+                None
+            }
         }
     }
 
     /// The raw socket at this place.
-    pub fn raw<'a>(&mut self, place: usize) -> Result<&mut raw::Socket, Stop<'a>> {
-        match self.sockets.get_mut(SocketHandle::at(place)) {
-            Some(Socket::Raw(socket)) => Ok(socket),
-            Some(_) => Err(Stop::Refused("WrongKind")),
-            None => Err(Stop::Refused("NoSocket")),
+    pub fn raw(&mut self, place: usize, words: &mut Words<'_>) -> Option<&mut raw::Socket> {
+        match self.socket(place, words) {
+            Some(Socket::Raw(socket)) => Some(socket),
+            _ => {
+                words.note(WRONG_KIND);
+                None
+            }
         }
     }
 }

@@ -2,47 +2,60 @@
 use crate::answer::Answer;
 use crate::header::hardware;
 use crate::host::Host;
-use crate::stop::Stop;
 use crate::words::Words;
 use interface::{HardwareAddrError, Interface, Route, Routes, TABLE_ROOM};
 use ip_wire::{HardwareAddress, IpAddress};
 use net_base::{Duration, Instant};
 
-/// Plays a line that sets something of the host.
-pub fn play<'a>(host: &mut Host, verb: &'a str, words: &mut Words<'a>) -> Result<Answer, Stop<'a>> {
+/// The lines that set something of a host.
+pub const VERBS: [&str; 11] = [
+    "addrs",
+    "hw",
+    "any_ip",
+    "reassembly",
+    "route",
+    "exchange_route",
+    "add_route",
+    "drop_route",
+    "no_routes",
+    "no_route_v4",
+    "no_route_v6",
+];
+
+/// Plays one of these lines.
+pub fn play(host: &mut Host, verb: &str, words: &mut Words<'_>) -> Answer {
     words.host();
     let interface = &mut host.interface;
     match verb {
-        "addrs" => {
-            let blocks = words.blocks()?;
-            match interface.update_ip_addrs(|addresses| *addresses = blocks) {
-                Ok(()) => Ok(Answer::Done),
-                Err(_) => Ok(Answer::Error("NotUnicast")),
-            }
-        }
+        "addrs" => return set_addresses(interface, words),
         "hw" => {
             let address = hardware(words);
-            words.end()?;
-            Ok(set_hardware(interface, address))
+            words.end();
+            if words.is_taken() {
+                return set_hardware(interface, address);
+            }
         }
         "any_ip" => {
             let any = words.switch();
-            words.end()?;
-            interface.set_any_ip(any);
-            Ok(Answer::Done)
-        }
-        "reassembly" => {
-            let span = words.span();
-            words.end()?;
-            match span {
-                Some(micros) => {
-                    interface.set_reassembly_timeout(Duration::from_micros(micros));
-                    Ok(Answer::Done)
-                }
-                None => Err(Stop::Wrong("number", "none")),
+            words.end();
+            if words.is_taken() {
+                interface.set_any_ip(any);
             }
         }
-        _ => routes(interface, verb, words),
+        "reassembly" => set_reassembly_timeout(interface, words),
+        _ => return routes(interface, verb, words),
+    }
+    Answer::Done
+}
+
+fn set_addresses(interface: &mut Interface, words: &mut Words<'_>) -> Answer {
+    let blocks = words.blocks();
+    if !words.is_taken() {
+        return Answer::Done;
+    }
+    match interface.update_ip_addrs(|addresses| *addresses = blocks) {
+        Ok(()) => Answer::Done,
+        Err(_) => Answer::Error("NotUnicast"),
     }
 }
 
@@ -54,45 +67,61 @@ fn set_hardware(interface: &mut Interface, address: HardwareAddress) -> Answer {
     }
 }
 
+fn set_reassembly_timeout(interface: &mut Interface, words: &mut Words<'_>) {
+    let span = words.span();
+    words.end();
+    match span {
+        Some(micros) if words.is_taken() => {
+            interface.set_reassembly_timeout(Duration::from_micros(micros));
+        }
+        Some(_) => {}
+        None => words.wrong("number", "none"),
+    }
+}
+
 /// Plays a line about routes.
-fn routes<'a>(
-    interface: &mut Interface,
-    verb: &'a str,
-    words: &mut Words<'a>,
-) -> Result<Answer, Stop<'a>> {
+fn routes(interface: &mut Interface, verb: &str, words: &mut Words<'_>) -> Answer {
     match verb {
-        "route" => {
+        "route" | "exchange_route" => {
             let router = words.address();
-            words.end()?;
-            Ok(interface.update_routes(|routes| default_route(routes, router).0))
+            words.end();
+            if words.is_taken() {
+                let exchanges = verb == "exchange_route";
+                return interface.update_routes(|routes| default_route(routes, router, exchanges));
+            }
         }
-        "exchange_route" => {
-            let router = words.address();
-            words.end()?;
-            Ok(interface.update_routes(|routes| default_route(routes, router).1))
-        }
-        "add_route" => {
-            let (cidr, via_router) = (words.block(), words.address());
-            let expires_at = moment_of(words.until());
-            words.end()?;
-            let route = Route {
-                cidr,
-                via_router,
-                preferred_until: None,
-                expires_at,
-            };
-            Ok(interface.update_routes(|routes| added(routes.push(route).is_ok())))
-        }
+        "add_route" => return add_route(interface, words),
         "drop_route" => {
             let place = words.size();
-            words.end()?;
-            Ok(interface.update_routes(|routes| dropped(routes.remove(place))))
+            words.end();
+            if words.is_taken() {
+                return interface.update_routes(|routes| dropped(routes.remove(place)));
+            }
         }
         _ => {
-            words.end()?;
-            Ok(interface.update_routes(|routes| no_route(routes, verb)))
+            words.end();
+            if words.is_taken() {
+                return interface.update_routes(|routes| no_route(routes, verb));
+            }
         }
     }
+    Answer::Done
+}
+
+fn add_route(interface: &mut Interface, words: &mut Words<'_>) -> Answer {
+    let (cidr, via_router) = (words.block(), words.address());
+    let expires_at = moment_of(words.until());
+    words.end();
+    if !words.is_taken() {
+        return Answer::Done;
+    }
+    let route = Route {
+        cidr,
+        via_router,
+        preferred_until: None,
+        expires_at,
+    };
+    interface.update_routes(|routes| added(routes.push(route).is_ok()))
 }
 
 fn moment_of(micros: Option<i64>) -> Option<Instant> {
@@ -102,18 +131,16 @@ fn moment_of(micros: Option<i64>) -> Option<Instant> {
     }
 }
 
-/// Makes this the router of all other packets of its family: whether there was room, and the router that it takes the place of.
-fn default_route(routes: &mut Routes<TABLE_ROOM>, router: IpAddress) -> (Answer, Answer) {
+/// Makes this the router of all other packets of its family: whether there was room, or the router that it takes the place of.
+fn default_route(routes: &mut Routes<TABLE_ROOM>, router: IpAddress, exchanges: bool) -> Answer {
     let answer = match router {
         IpAddress::Ipv4(router) => routes.add_default_ipv4_route(router),
         IpAddress::Ipv6(router) => routes.add_default_ipv6_route(router),
     };
     match answer {
-        Ok(old) => (Answer::Done, dropped(old)),
-        Err(_) => (
-            Answer::Error("RouteTableFull"),
-            Answer::Error("RouteTableFull"),
-        ),
+        Ok(old) if exchanges => dropped(old),
+        Ok(_) => Answer::Done,
+        Err(_) => Answer::Error("RouteTableFull"),
     }
 }
 
@@ -128,7 +155,7 @@ fn added(is_added: bool) -> Answer {
 /// The router of the route that was taken out.
 fn dropped(route: Option<Route>) -> Answer {
     match route {
-        Some(route) => Answer::Address(route.via_router),
+        Some(route) => Answer::Address("is", route.via_router),
         None => Answer::Says("none"),
     }
 }

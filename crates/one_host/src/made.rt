@@ -1,12 +1,12 @@
 //! The sockets that a script's header asks for.
-use crate::stop::{NO_MEMORY, Stop};
+use crate::stop::Stop;
 use crate::words::{Words, number};
 use interface::SocketSet;
 use ip_wire::{IpProtocol, IpVersion};
 use lan_script::{QueueSizes, SocketSpec, StreamSizes};
 use net_base::{ManagedSlice, PacketBuffer, PacketMetadata, RingBuffer};
 use sockets::{Socket, icmp, raw, tcp, udp};
-use std::alloc::{AllocError, Global};
+use std::alloc::Global;
 
 /// How many bytes a queue or a buffer may hold, and how many datagrams.
 const MOST_BYTES: usize = 1 << 30;
@@ -20,9 +20,9 @@ const NO_SOCKET: SocketSpec = SocketSpec::Tcp(StreamSizes {
 });
 
 /// Reads what stands behind `socket H`.
-pub fn read_socket<'a>(words: &mut Words<'a>) -> Result<SocketSpec, Stop<'a>> {
+pub fn read_socket(words: &mut Words<'_>) -> SocketSpec {
     let kind = words.word("kind of socket");
-    let spec = match kind {
+    match kind {
         "udp" => SocketSpec::Udp(queue_sizes(words)),
         "icmp" => SocketSpec::Icmp(queue_sizes(words)),
         "raw" => SocketSpec::Raw(version(words), protocol(words), queue_sizes(words)),
@@ -34,9 +34,7 @@ pub fn read_socket<'a>(words: &mut Words<'a>) -> Result<SocketSpec, Stop<'a>> {
             words.wrong("kind of socket", kind);
             NO_SOCKET
         }
-    };
-    words.end()?;
-    Ok(spec)
+    }
 }
 
 /// `RP RB TP TB`.
@@ -74,85 +72,99 @@ fn protocol(words: &mut Words<'_>) -> Option<u8> {
     found
 }
 
-/// Puts these sockets behind others, in order.
+/// Puts these sockets behind others, in order. False: one is refused, which the words then say, or there is no memory for it.
 pub fn add_all(
     alloc: Global,
     sockets: &mut SocketSet<Socket>,
     specs: &[SocketSpec],
-) -> Result<(), Stop<'static>> {
+    words: &mut Words<'_>,
+) -> bool {
     for spec in specs {
-        let socket = socket_of(alloc, *spec)?;
-        if sockets.add(socket).ok().is_none() {
-            return Err(NO_MEMORY);
+        if !add(alloc, sockets, *spec, words) {
+            return false;
         }
     }
-    Ok(())
+    true
 }
 
-fn socket_of(alloc: Global, spec: SocketSpec) -> Result<Socket, Stop<'static>> {
-    Ok(match spec {
+fn add(
+    alloc: Global,
+    sockets: &mut SocketSet<Socket>,
+    spec: SocketSpec,
+    words: &mut Words<'_>,
+) -> bool {
+    if !is_short(spec) {
+        words.note(Stop::refused("Buffers"));
+        return false;
+    }
+    match socket_of(alloc, spec) {
+        Some(socket) => sockets.add(socket).ok().is_some(),
+        None => false,
+    }
+}
+
+// Whether no queue and no buffer is too long.
+fn is_short(spec: SocketSpec) -> bool {
+    match spec {
+        SocketSpec::Udp(sizes) | SocketSpec::Icmp(sizes) | SocketSpec::Raw(_, _, sizes) => {
+            sizes.receive_packets <= MOST_PACKETS
+                && sizes.receive_bytes <= MOST_BYTES
+                && sizes.send_packets <= MOST_PACKETS
+                && sizes.send_bytes <= MOST_BYTES
+        }
+        SocketSpec::Tcp(sizes) => {
+            sizes.receive_bytes <= MOST_BYTES && sizes.send_bytes <= MOST_BYTES
+        }
+    }
+}
+
+// The socket, if there is memory for it.
+fn socket_of(alloc: Global, spec: SocketSpec) -> Option<Socket> {
+    match spec {
         SocketSpec::Udp(sizes) => {
             let (received, queued) = queues(alloc, sizes)?;
-            Socket::Udp(udp::Socket::new(received, queued))
+            Some(Socket::Udp(udp::Socket::new(received, queued)))
         }
         SocketSpec::Icmp(sizes) => {
             let (received, queued) = queues(alloc, sizes)?;
-            Socket::Icmp(icmp::Socket::new(received, queued))
+            Some(Socket::Icmp(icmp::Socket::new(received, queued)))
         }
         SocketSpec::Raw(version, protocol, sizes) => {
             let (received, queued) = queues(alloc, sizes)?;
             let protocol = protocol.map(IpProtocol::from);
-            Socket::Raw(raw::Socket::new(version, protocol, received, queued))
+            Some(Socket::Raw(raw::Socket::new(version, protocol, received, queued)))
         }
-        SocketSpec::Tcp(sizes) => Socket::Tcp(stream(alloc, sizes)?),
-    })
+        SocketSpec::Tcp(sizes) => Some(Socket::Tcp(stream(alloc, sizes)?)),
+    }
 }
 
 /// The queue of what is received, and that of what is to be sent.
-fn queues<H: Drop>(
+fn queues<H: Clone + Drop>(
     alloc: Global,
     sizes: QueueSizes,
-) -> Result<(PacketBuffer<H>, PacketBuffer<H>), Stop<'static>> {
+) -> Option<(PacketBuffer<H>, PacketBuffer<H>)> {
     let received = queue(alloc, sizes.receive_packets, sizes.receive_bytes)?;
     let queued = queue(alloc, sizes.send_packets, sizes.send_bytes)?;
-    Ok((received, queued))
+    Some((received, queued))
 }
 
-fn queue<H: Drop>(
-    alloc: Global,
-    packets: usize,
-    bytes: usize,
-) -> Result<PacketBuffer<H>, Stop<'static>> {
-    if packets > MOST_PACKETS || bytes > MOST_BYTES {
-        return Err(Stop::Refused("Buffers"));
-    }
-    Ok(PacketBuffer::new(
-        ManagedSlice::Fixed(entries(alloc, packets)?),
-        ManagedSlice::Fixed(vec![in alloc; 0; bytes]?),
-    ))
+fn queue<H: Clone + Drop>(alloc: Global, packets: usize, bytes: usize) -> Option<PacketBuffer<H>> {
+    let places = vec![in alloc; PacketMetadata::EMPTY; packets].ok()?;
+    let bytes = vec![in alloc; 0; bytes].ok()?;
+    Some(PacketBuffer::new(ManagedSlice::Fixed(places), ManagedSlice::Fixed(bytes)))
 }
 
-/// So many free entries.
-fn entries<H: Drop>(alloc: Global, count: usize) -> Result<Vec<PacketMetadata<H>>, AllocError> {
-    let mut entries = Vec::with_capacity(alloc, count)?;
-    for _ in 0..count {
-        entries.push(PacketMetadata::EMPTY)?;
-    }
-    Ok(entries)
-}
-
-fn stream(alloc: Global, sizes: StreamSizes) -> Result<tcp::Socket, Stop<'static>> {
-    if sizes.receive_bytes > MOST_BYTES || sizes.send_bytes > MOST_BYTES {
-        return Err(Stop::Refused("Buffers"));
-    }
+fn stream(alloc: Global, sizes: StreamSizes) -> Option<tcp::Socket> {
     let received = buffer(alloc, sizes.receive_bytes)?;
     let queued = buffer(alloc, sizes.send_bytes)?;
-    if !tcp::Socket::fits_buffer(&received) || !tcp::Socket::fits_buffer(&queued) {
-        return Err(Stop::Refused("Buffers"));
+    if tcp::Socket::fits_buffer(&received) && tcp::Socket::fits_buffer(&queued) {
+        Some(tcp::Socket::new(received, queued))
+    } else {
+        None
     }
-    Ok(tcp::Socket::new(received, queued))
 }
 
-fn buffer(alloc: Global, bytes: usize) -> Result<RingBuffer<u8>, AllocError> {
-    Ok(RingBuffer::new(ManagedSlice::Fixed(vec![in alloc; 0; bytes]?)))
+fn buffer(alloc: Global, bytes: usize) -> Option<RingBuffer<u8>> {
+    let bytes = vec![in alloc; 0; bytes].ok()?;
+    Some(RingBuffer::new(ManagedSlice::Fixed(bytes)))
 }

@@ -3,39 +3,50 @@ ghost use Rattle.net_base.specs.Time.{IsMoment};
 
 use crate::answer::Answer;
 use crate::host::Host;
-use crate::stop::Stop;
 use crate::words::Words;
 use interface::{PollIngressSingleResult, PollResult};
 use net_base::Instant;
 
-/// Plays a line that polls.
-pub fn play<'a>(host: &mut Host, verb: &'a str, words: &mut Words<'a>) -> Result<Answer, Stop<'a>> {
+/// The lines that poll a host, or ask when it wants that.
+pub const VERBS: [&str; 6] = ["poll", "egress", "ingress", "maintain", "pollat", "delay"];
+
+/// Plays one of these lines.
+pub fn play(host: &mut Host, verb: &str, words: &mut Words<'_>) -> Answer {
     words.host();
     let now = Instant::from_micros(words.micros());
-    words.so_far()?;
     if !now.is_moment() {
-        return Err(Stop::Refused("Moment"));
+        return words.refuse("Moment");
     }
-    if verb == "poll" {
-        return poll(host, now, words);
+    let budget = budget(verb, words);
+    if !words.is_taken() {
+        return Answer::Done;
     }
-    words.end()?;
-    Ok(match verb {
+    match verb {
+        "poll" => poll(host, now, budget),
         "egress" => egress(host, now),
         "ingress" => ingress(host, now),
         _ => asked(host, verb, now),
-    })
+    }
 }
 
-fn poll<'a>(host: &mut Host, now: Instant, words: &mut Words<'a>) -> Result<Answer, Stop<'a>>
+/// The last word of a line, which `poll` alone has.
+fn budget(verb: &str, words: &mut Words<'_>) -> u16 {
+    let budget = if verb == "poll" {
+        words.short("budget")
+    } else {
+        0
+    };
+    words.end();
+    budget
+}
+
+fn poll(host: &mut Host, now: Instant, budget: u16) -> Answer
     requires { IsMoment now }
 {
-    let budget = words.short("budget");
-    words.end()?;
-    Ok(polled(
+    polled(
         host.interface
             .poll(now, &mut host.wire, &mut host.sockets, budget),
-    ))
+    )
 }
 
 fn egress(host: &mut Host, now: Instant) -> Answer
@@ -66,7 +77,7 @@ fn asked(host: &mut Host, verb: &str, now: Instant) -> Answer
             Answer::Done
         }
         "delay" => match host.interface.poll_delay(now, &host.sockets) {
-            Some(delay) => Answer::In(delay),
+            Some(delay) => Answer::Number("in", delay.total_micros()),
             None => Answer::Says("never"),
         },
         _ => match host.interface.poll_at(now, &host.sockets) {

@@ -2,7 +2,6 @@
 use crate::session::Session;
 use std::alloc::{AllocError, Global};
 use std::io::{self, Write};
-use std::mem::replace;
 
 /// A run of scripts, as far as it has come: each line whose end was read has been played.
 #[derive(Drop)]
@@ -12,7 +11,8 @@ pub struct Run {
     number: u64,
     // What was read of that line.
     begun: Vec<u8>,
-    // Whether a line ended its script before the script's own end.
+    // Whether a line ended this script before its own end, or one of those so far.
+    is_over: bool,
     has_stopped: bool,
 }
 
@@ -23,6 +23,7 @@ impl Run {
             session: Session::Begun,
             number: 1,
             begun: Vec::new(alloc),
+            is_over: false,
             has_stopped: false,
         }
     }
@@ -35,13 +36,17 @@ impl Run {
         writer: &mut W,
     ) -> io::Result<()> {
         for byte in piece {
-            if *byte == b'\n' {
-                self.take_line(alloc, writer)?;
-            } else {
-                self.begun.push(*byte).map_err(AllocError::from)?;
-            }
+            self.take_byte(alloc, *byte, writer)?;
         }
         Ok(())
+    }
+
+    fn take_byte<W: Write>(&mut self, alloc: Global, byte: u8, writer: &mut W) -> io::Result<()> {
+        if byte == b'\n' {
+            self.take_line(alloc, writer)
+        } else {
+            Ok(self.begun.push(byte).map_err(AllocError::from)?)
+        }
     }
 
     /// Takes the end of the text, which ends a line that was begun: the status.
@@ -57,14 +62,9 @@ impl Run {
         if self.begun.as_slice().starts_with(b"== ") {
             return self.begin(writer);
         }
-        match self.session.take_line(alloc, self.begun.as_slice()) {
-            Ok(text) => writer.write_all(text.as_bytes())?,
-            Err(stop) => {
-                let text = stop.to_text(alloc)?;
-                write!(writer, "line {}: {text}\n", self.number)?;
-                self.has_stopped = true;
-                drop(replace(&mut self.session, Session::Ended));
-            }
+        if !self.is_over {
+            let text = self.answer(alloc)?;
+            writer.write_all(text.as_bytes())?;
         }
         self.begun.clear();
         self.number = self.number.saturating_add(1);
@@ -75,9 +75,42 @@ impl Run {
     fn begin<W: Write>(&mut self, writer: &mut W) -> io::Result<()> {
         writer.write_all(self.begun.as_slice())?;
         writer.write_all(b"\n")?;
-        drop(replace(&mut self.session, Session::Begun));
+        self.session.set(Session::Begun);
+        self.is_over = false;
         self.begun.clear();
         self.number = 1;
         Ok(())
     }
+
+    // What is written of the line that was begun: why it ends its script, if it does.
+    fn answer(&mut self, alloc: Global) -> Result<String, AllocError> {
+        let number = self.number;
+        if let Some((byte, place)) = first_past_ascii(self.begun.as_slice()) {
+            self.stop();
+            return format!(in alloc;
+                "line {number}: bad event: byte {byte} at place {place} is none of ASCII\n"
+            );
+        }
+        match self.session.take_line(alloc, self.begun.as_slice()) {
+            Ok(text) => Ok(text),
+            Err(stop) => {
+                let text = stop.to_text(alloc)?;
+                self.stop();
+                format!(in alloc; "line {number}: {text}\n")
+            }
+        }
+    }
+
+    // A line ends the script.
+    fn stop(&mut self) {
+        self.session.set(Session::Begun);
+        self.is_over = true;
+        self.has_stopped = true;
+    }
+}
+
+// The first byte that is none of ASCII, and its place, counted from 1.
+fn first_past_ascii(line: &[u8]) -> Option<(u8, usize)> {
+    let place = line.iter().position(|byte| !byte.is_ascii())?;
+    Some((line[place], place + 1))
 }

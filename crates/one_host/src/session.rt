@@ -1,12 +1,23 @@
 //! A script as far as it has come, line by line.
-use crate::answer::{Answer, sent_line};
+use crate::answer::{Answer, put_sent};
 use crate::header::Header;
 use crate::host::Host;
-use crate::stop::Stop;
+use crate::stop::{CARRIAGE_RETURN, Stop};
 use crate::words::Words;
 use crate::{asks, datagrams, device_lines, host_lines, polls, settings, streams};
 use std::alloc::{AllocError, Global};
 use std::mem::replace;
+
+/// The lines that stand before the host runs.
+const BEFORE: [&str; 7] = [
+    "world",
+    "socket",
+    "seed",
+    "mac",
+    "begins",
+    "checksums",
+    "start",
+];
 
 /// How far a script has come.
 #[derive(Drop)]
@@ -17,83 +28,73 @@ pub enum Session {
     Header(Header),
     /// The host runs.
     Running(Box<Host>),
-    /// A line ended the script.
-    Ended,
 }
 
 impl Session {
-    /// Takes one line, without the byte 0a that ends it: what it writes. A line without bytes, or that begins with `#`, says nothing.
+    /// Takes one line of ASCII, without the byte 0a that ends it: what it writes. A line without bytes, or that begins with `#`, says
+    /// nothing.
     pub fn take_line<'a>(&mut self, alloc: Global, line: &'a [u8]) -> Result<String, Stop<'a>> {
-        if let Session::Ended = self {
-            return Ok(String::new(alloc));
-        }
-        let text = text_of(line)?;
+        let text = match str::from_utf8(line) {
+            Ok(text) if !text.ends_with('\r') => text,
+            _ => return Err(CARRIAGE_RETURN),
+        };
         if text.is_empty() || text.starts_with('#') {
             return Ok(String::new(alloc));
         }
-        self.take_text(alloc, text)
-    }
-
-    // Takes a line that says something.
-    fn take_text<'a>(&mut self, alloc: Global, text: &'a str) -> Result<String, Stop<'a>> {
         let mut words = Words::new(text);
-        let verb = words.word("line");
-        match self {
-            Session::Begun => {
-                let header = begun(alloc, verb, &mut words)?;
-                self.set(Session::Header(header));
-                Ok(String::new(alloc))
-            }
-            Session::Header(header) if verb == "start" => {
-                let host = started(alloc, header, &mut words)?;
-                self.set(Session::Running(host));
-                Ok(String::from_str(alloc, "ok\n")?)
-            }
-            Session::Header(header) => {
-                header.take(verb, &mut words)?;
-                Ok(String::new(alloc))
-            }
-            Session::Running(host) => go_on(alloc, host, verb, &mut words),
-            Session::Ended => Ok(String::new(alloc)),
+        match self.take_words(alloc, &mut words) {
+            Some(text) => Ok(text),
+            None => Err(words.stop()),
         }
     }
 
-    // What comes next. (An assignment would do, but its proof follows each part of the host that it lets go.)
-    fn set(&mut self, next: Session) {
+    // Takes a line that says something. None: it isn't taken.
+    fn take_words(&mut self, alloc: Global, words: &mut Words<'_>) -> Option<String> {
+        let verb = words.word("line");
+        match self {
+            Session::Begun => {
+                let header = begun(alloc, verb, words)?;
+                self.set(Session::Header(header));
+                Some(String::new(alloc))
+            }
+            Session::Header(header) if verb == "start" => {
+                let host = started(alloc, header, words)?;
+                self.set(Session::Running(host));
+                String::from_str(alloc, "ok\n").ok()
+            }
+            Session::Header(header) => {
+                if header.take(verb, words) {
+                    Some(String::new(alloc))
+                } else {
+                    None
+                }
+            }
+            Session::Running(host) => go_on(alloc, host, verb, words),
+        }
+    }
+
+    /// What comes next. (An assignment would do, but its proof follows each part of the host that it lets go.)
+    pub fn set(&mut self, next: Session) {
         drop(replace(self, next));
     }
 }
 
-/// A line as text, where it is of ASCII.
-fn text_of<'a>(line: &'a [u8]) -> Result<&'a str, Stop<'a>> {
-    if let Some(place) = line.iter().position(|byte| !byte.is_ascii()) {
-        return Err(Stop::NotAscii(line[place], place + 1));
-    }
-    let Ok(text) = str::from_utf8(line) else {
-        return Err(Stop::Missing("text"));
-    };
-    if text.ends_with('\r') {
-        return Err(Stop::CarriageReturn);
-    }
-    Ok(text)
-}
-
 // What the first line of a script asks for.
-fn begun<'a>(alloc: Global, verb: &'a str, words: &mut Words<'a>) -> Result<Header, Stop<'a>> {
+fn begun<'a>(alloc: Global, verb: &'a str, words: &mut Words<'a>) -> Option<Header> {
     if verb != "world" {
-        return Err(Stop::Order("`world` comes first", verb));
+        words.note(Stop::order("`world` comes first", verb));
     }
     Header::read(alloc, words)
 }
 
 // The host that the header asks for, at the header's end.
-fn started<'a>(
-    alloc: Global,
-    header: &Header,
-    words: &mut Words<'a>,
-) -> Result<Box<Host>, Stop<'a>> {
-    words.end()?;
-    header.start(alloc)
+fn started(alloc: Global, header: &Header, words: &mut Words<'_>) -> Option<Box<Host>> {
+    words.end();
+    if words.is_taken() {
+        header.start(alloc, words)
+    } else {
+        None
+    }
 }
 
 /// Takes a line once the host runs: its answer, and the frames that were sent then.
@@ -102,90 +103,60 @@ fn go_on<'a>(
     host: &mut Host,
     verb: &'a str,
     words: &mut Words<'a>,
-) -> Result<String, Stop<'a>> {
-    let answer = play(alloc, host, verb, words)?;
-    let mut text = answer.to_line(alloc)?;
-    push_sent(alloc, &mut text, host)?;
-    Ok(text)
-}
-
-fn play<'a>(
-    alloc: Global,
-    host: &mut Host,
-    verb: &'a str,
-    words: &mut Words<'a>,
-) -> Result<Answer, Stop<'a>> {
-    match kind_of(verb) {
-        Kind::Stream => streams::play(alloc, host, verb, words),
-        Kind::Datagram => datagrams::play(alloc, host, verb, words),
-        Kind::Set => settings::set(host, words),
-        Kind::Get => settings::get(host, words),
-        Kind::Host => host_lines::play(host, verb, words),
-        Kind::Ask => asks::play(host, words),
-        Kind::Poll => polls::play(host, verb, words),
-        Kind::Device => device_lines::play(alloc, host, verb, words),
-        Kind::Before => Err(Stop::Order("it stands before the host runs", verb)),
-        Kind::None => Err(Stop::Wrong("such line", verb)),
+) -> Option<String> {
+    let answer = play(alloc, host, verb, words);
+    if words.is_taken() {
+        written(alloc, &answer, host).ok()
+    } else {
+        None
     }
 }
 
-// What a line is about.
-#[derive(Clone, Copy)]
-enum Kind {
-    Stream,
-    Datagram,
-    Set,
-    Get,
-    Host,
-    Ask,
-    Poll,
-    Device,
-    /// It stands in the header of a script.
-    Before,
-    None,
+fn play<'a>(alloc: Global, host: &mut Host, verb: &'a str, words: &mut Words<'a>) -> Answer {
+    if is_one_of(verb, &streams::VERBS) {
+        streams::play(alloc, host, verb, words)
+    } else if is_one_of(verb, &datagrams::VERBS) {
+        datagrams::play(alloc, host, verb, words)
+    } else if is_one_of(verb, &host_lines::VERBS) {
+        host_lines::play(host, verb, words)
+    } else if is_one_of(verb, &polls::VERBS) {
+        polls::play(host, verb, words)
+    } else if is_one_of(verb, &device_lines::VERBS) {
+        device_lines::play(alloc, host, verb, words)
+    } else {
+        play_question(host, verb, words)
+    }
 }
 
-fn kind_of(verb: &str) -> Kind {
+// Plays a line that sets or asks for something, or says that it is none.
+fn play_question<'a>(host: &mut Host, verb: &'a str, words: &mut Words<'a>) -> Answer {
     match verb {
-        "listen" | "connect" | "send" | "recv" | "close" | "abort" | "state" => Kind::Stream,
-        "bind"
-        | "ident"
-        | "errors"
-        | "sendto"
-        | "sendicmp"
-        | "sendraw"
-        | "sendany"
-        | "recvfrom"
-        | "peek" => Kind::Datagram,
-        "set" => Kind::Set,
-        "get" => Kind::Get,
-        "addrs"
-        | "hw"
-        | "route"
-        | "exchange_route"
-        | "any_ip"
-        | "reassembly"
-        | "add_route"
-        | "drop_route"
-        | "no_routes"
-        | "no_route_v4"
-        | "no_route_v6" => Kind::Host,
-        "ask" => Kind::Ask,
-        "poll" | "egress" | "ingress" | "maintain" | "pollat" | "delay" => Kind::Poll,
-        "frame" | "noise" | "room" | "refuse" | "refused" => Kind::Device,
-        "world" | "socket" | "seed" | "mac" | "begins" | "checksums" | "start" => Kind::Before,
-        _ => Kind::None,
+        "set" => settings::set(host, words),
+        "get" => settings::get(host, words),
+        "ask" => asks::play(host, words),
+        _ => {
+            words.note(if is_one_of(verb, &BEFORE) {
+                Stop::order("it stands before the host runs", verb)
+            } else {
+                Stop::wrong("such line", verb)
+            });
+            Answer::Done
+        }
     }
 }
 
-/// Writes a line for each frame that was sent since the last line, and lets them go.
-fn push_sent(alloc: Global, text: &mut String, host: &mut Host) -> Result<(), AllocError> {
+fn is_one_of(verb: &str, verbs: &[&str]) -> bool {
+    verbs.iter().any(|other| *other == verb)
+}
+
+// The line of an answer, and one for each frame that was sent since the last line, which are let go.
+fn written(alloc: Global, answer: &Answer, host: &mut Host) -> Result<String, AllocError> {
+    let mut text = answer.to_line(alloc)?;
     let mut number = host.wire.before();
     for frame in host.wire.sent() {
-        let line = sent_line(alloc, number, frame.as_slice())?;
-        text.push_str(line.as_str())?;
+        put_sent(alloc, &mut text, number, frame.as_slice())?;
         number = number.saturating_add(1);
     }
     host.wire.let_go();
-    Ok(())
+    Ok(text)
 }

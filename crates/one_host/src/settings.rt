@@ -1,7 +1,6 @@
 //! Lines that set what a socket has, or ask for it.
 use crate::answer::Answer;
 use crate::host::Host;
-use crate::stop::Stop;
 use crate::words::{Words, number};
 use ip_wire::TcpTimestampGenerator;
 use net_base::Duration;
@@ -9,29 +8,54 @@ use sockets::tcp::{self, CongestionControl};
 use sockets::{Socket, icmp, raw, udp};
 
 /// Plays `set H S NAME VALUE`.
-pub fn set<'a>(host: &mut Host, words: &mut Words<'a>) -> Result<Answer, Stop<'a>> {
+pub fn set(host: &mut Host, words: &mut Words<'_>) -> Answer {
     words.host();
     let place = words.size();
     let name = words.word("setting");
-    words.so_far()?;
     if name == "hop_limit" {
-        return set_hop_limit(host.socket(place)?, words);
+        return match host.socket(place, words) {
+            Some(socket) => set_hop_limit(socket, words),
+            None => Answer::Done,
+        };
     }
-    let socket = host.tcp(place)?;
+    if let Some(socket) = host.tcp(place, words) {
+        set_tcp(socket, name, words);
+    }
+    Answer::Done
+}
+
+fn set_tcp<'a>(socket: &mut tcp::Socket, name: &'a str, words: &mut Words<'a>) {
     match name {
         "timeout" | "ack_delay" | "keep_alive" => {
             let span = duration_of(words.span());
-            words.end()?;
-            set_span(socket, name, span);
+            words.end();
+            if words.is_taken() {
+                set_span(socket, name, span);
+            }
         }
         "nagle" | "pause" => {
             let is_on = words.switch();
-            words.end()?;
-            switch(socket, name, is_on);
+            words.end();
+            if words.is_taken() {
+                switch(socket, name, is_on);
+            }
         }
-        _ => return set_control(socket, name, words),
+        "congestion" => {
+            let control = control(words);
+            words.end();
+            if words.is_taken() {
+                socket.set_congestion_control(control);
+            }
+        }
+        "timestamps" => {
+            let generator = generator(words);
+            words.end();
+            if words.is_taken() {
+                socket.set_tsval_generator(generator);
+            }
+        }
+        _ => words.wrong("setting", name),
     }
-    Ok(Answer::Done)
 }
 
 fn duration_of(micros: Option<u64>) -> Option<Duration> {
@@ -57,39 +81,19 @@ fn switch(socket: &mut tcp::Socket, name: &str, is_on: bool) {
     }
 }
 
-fn set_hop_limit<'a>(socket: &mut Socket, words: &mut Words<'a>) -> Result<Answer, Stop<'a>> {
+fn set_hop_limit(socket: &mut Socket, words: &mut Words<'_>) -> Answer {
     let hops = words.hops();
-    words.end()?;
+    words.end();
+    if !words.is_taken() {
+        return Answer::Done;
+    }
     match socket {
         Socket::Tcp(socket) => socket.set_hop_limit(hops),
         Socket::Udp(socket) => socket.set_hop_limit(hops),
         Socket::Icmp(socket) => socket.set_hop_limit(hops),
-        Socket::Raw(_) | Socket::Dhcpv4(_) | Socket::Dns(_) => {
-            return Err(Stop::Refused("WrongKind"));
-        }
+        Socket::Raw(_) | Socket::Dhcpv4(_) | Socket::Dns(_) => return words.refuse("WrongKind"),
     }
-    Ok(Answer::Done)
-}
-
-fn set_control<'a>(
-    socket: &mut tcp::Socket,
-    name: &'a str,
-    words: &mut Words<'a>,
-) -> Result<Answer, Stop<'a>> {
-    match name {
-        "congestion" => {
-            let control = control(words);
-            words.end()?;
-            socket.set_congestion_control(control);
-        }
-        "timestamps" => {
-            let generator = generator(words);
-            words.end()?;
-            socket.set_tsval_generator(generator);
-        }
-        _ => return Err(Stop::Wrong("setting", name)),
-    }
-    Ok(Answer::Done)
+    Answer::Done
 }
 
 fn control(words: &mut Words<'_>) -> CongestionControl {
@@ -106,102 +110,126 @@ fn control(words: &mut Words<'_>) -> CongestionControl {
 
 /// What timestamps begin at, or none.
 fn generator(words: &mut Words<'_>) -> Option<TcpTimestampGenerator> {
-    let word = words.word("number");
-    if word == "none" {
-        return None;
-    }
-    match number(word) {
+    match words.unless_none() {
         Some(value) => Some(TcpTimestampGenerator(value)),
-        None => {
-            words.wrong("number", word);
-            None
-        }
+        None => None,
     }
 }
 
 /// Plays `get H S NAME`.
-pub fn get<'a>(host: &mut Host, words: &mut Words<'a>) -> Result<Answer, Stop<'a>> {
+pub fn get(host: &mut Host, words: &mut Words<'_>) -> Answer {
     words.host();
     let place = words.size();
     let name = words.word("setting");
-    words.end()?;
-    let found = match host.socket(place)? {
-        Socket::Tcp(socket) => get_tcp(socket, name),
-        Socket::Udp(socket) => get_udp(socket, name),
-        Socket::Icmp(socket) => get_icmp(socket, name),
-        Socket::Raw(socket) => get_raw(socket, name),
-        Socket::Dhcpv4(_) | Socket::Dns(_) => return Err(Stop::Refused("WrongKind")),
+    words.end();
+    let Some(socket) = host.socket(place, words) else {
+        return Answer::Done;
     };
-    found.ok_or(Stop::Wrong("setting", name))
+    let found = match socket {
+        Socket::Tcp(socket) => get_tcp(socket, name),
+        Socket::Udp(socket) => of_udp(socket).get(name),
+        Socket::Icmp(socket) => of_icmp(socket).get(name),
+        Socket::Raw(socket) => get_raw(socket, name),
+        Socket::Dhcpv4(_) | Socket::Dns(_) => return words.refuse("WrongKind"),
+    };
+    match found {
+        Some(answer) => answer,
+        None => {
+            words.wrong("setting", name);
+            Answer::Done
+        }
+    }
 }
 
-fn is(holds: bool) -> Answer {
-    Answer::Says(if holds { "yes" } else { "no" })
+/// What sockets of all kinds but TCP have.
+#[derive(Clone, Copy)]
+struct Common {
+    can_send: bool,
+    can_recv: bool,
+    send_queue: usize,
+    recv_queue: usize,
+    hop_limit: Option<u8>,
+}
+
+fn of_udp(socket: &udp::Socket) -> Common {
+    Common {
+        can_send: socket.can_send(),
+        can_recv: socket.can_recv(),
+        send_queue: socket.send_queue(),
+        recv_queue: socket.recv_queue(),
+        hop_limit: socket.hop_limit(),
+    }
+}
+
+fn of_icmp(socket: &icmp::Socket) -> Common {
+    Common {
+        can_send: socket.can_send(),
+        can_recv: socket.can_recv(),
+        send_queue: socket.send_queue(),
+        recv_queue: socket.recv_queue(),
+        hop_limit: socket.hop_limit(),
+    }
+}
+
+// A raw socket's packets have their own hop limits.
+fn get_raw(socket: &raw::Socket, name: &str) -> Option<Answer> {
+    if name == "hop_limit" {
+        return None;
+    }
+    let found = Common {
+        can_send: socket.can_send(),
+        can_recv: socket.can_recv(),
+        send_queue: socket.send_queue(),
+        recv_queue: socket.recv_queue(),
+        hop_limit: None,
+    };
+    found.get(name)
+}
+
+impl Common {
+    fn get(self, name: &str) -> Option<Answer> {
+        Some(match name {
+            "can_send" => Answer::is(self.can_send),
+            "can_recv" => Answer::is(self.can_recv),
+            "send_queue" => count(self.send_queue),
+            "recv_queue" => count(self.recv_queue),
+            "hop_limit" => hops(self.hop_limit),
+            _ => return None,
+        })
+    }
 }
 
 fn count(count: usize) -> Answer {
-    Answer::Number(count as u64)
+    Answer::Number("is", count as u64)
 }
 
 fn span(span: Option<Duration>) -> Answer {
     match span {
-        Some(span) => Answer::In(span),
+        Some(span) => Answer::Number("in", span.total_micros()),
         None => Answer::Says("none"),
     }
 }
 
 fn hops(hops: Option<u8>) -> Answer {
     match hops {
-        Some(hops) => Answer::Number(u64::from(hops)),
+        Some(hops) => Answer::Number("is", u64::from(hops)),
         None => Answer::Says("none"),
     }
 }
 
 fn get_tcp(socket: &tcp::Socket, name: &str) -> Option<Answer> {
     Some(match name {
-        "can_send" => is(socket.can_send()),
-        "can_recv" => is(socket.can_recv()),
-        "may_send" => is(socket.may_send()),
-        "may_recv" => is(socket.may_recv()),
+        "can_send" => Answer::is(socket.can_send()),
+        "can_recv" => Answer::is(socket.can_recv()),
+        "may_send" => Answer::is(socket.may_send()),
+        "may_recv" => Answer::is(socket.may_recv()),
         "send_queue" => count(socket.send_queue()),
         "recv_queue" => count(socket.recv_queue()),
         "timeout" => span(socket.timeout()),
         "ack_delay" => span(socket.ack_delay()),
         "keep_alive" => span(socket.keep_alive()),
-        "nagle" => is(socket.nagle_enabled()),
+        "nagle" => Answer::is(socket.nagle_enabled()),
         "hop_limit" => hops(socket.hop_limit()),
-        _ => return None,
-    })
-}
-
-fn get_udp(socket: &udp::Socket, name: &str) -> Option<Answer> {
-    Some(match name {
-        "can_send" => is(socket.can_send()),
-        "can_recv" => is(socket.can_recv()),
-        "send_queue" => count(socket.send_queue()),
-        "recv_queue" => count(socket.recv_queue()),
-        "hop_limit" => hops(socket.hop_limit()),
-        _ => return None,
-    })
-}
-
-fn get_icmp(socket: &icmp::Socket, name: &str) -> Option<Answer> {
-    Some(match name {
-        "can_send" => is(socket.can_send()),
-        "can_recv" => is(socket.can_recv()),
-        "send_queue" => count(socket.send_queue()),
-        "recv_queue" => count(socket.recv_queue()),
-        "hop_limit" => hops(socket.hop_limit()),
-        _ => return None,
-    })
-}
-
-fn get_raw(socket: &raw::Socket, name: &str) -> Option<Answer> {
-    Some(match name {
-        "can_send" => is(socket.can_send()),
-        "can_recv" => is(socket.can_recv()),
-        "send_queue" => count(socket.send_queue()),
-        "recv_queue" => count(socket.recv_queue()),
         _ => return None,
     })
 }

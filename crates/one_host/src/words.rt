@@ -1,7 +1,8 @@
 //! The words of a line, and the classes that they come in.
 ghost use Rattle.std.specs.Prelude.{◌≢◌, Some};
 
-use crate::stop::Stop;
+use crate::answer::Answer;
+use crate::stop::{NO_MEMORY, Stop};
 use arrayvec::ArrayVec;
 use interface::TABLE_ROOM;
 use ip_wire::{IpAddress, IpCidr, IpEndpoint};
@@ -13,7 +14,8 @@ use std::str::FromStr;
 const MOST_REPEATED: usize = 1 << 20;
 
 /// What is left of the words of a line, where each two have one blank between them, and why the line isn't taken, if a word before them
-/// says so. Behind that each word is read as something that nobody looks at: `end` says it. So what reads a line goes straight on.
+/// says so. Behind that each word is read as something that nobody looks at, and so is the line's answer. So what reads a line goes straight
+/// on, and asks `is_taken` before it does anything.
 #[derive(Drop)]
 pub struct Words<'a> {
     rest: Option<&'a str>,
@@ -51,8 +53,8 @@ impl<'a> Words<'a> {
         }
     }
 
-    // The word that was read last says that the line isn't taken. The first that says so counts.
-    fn note(&mut self, stop: Stop<'a>) {
+    /// The line isn't taken. What says so first counts.
+    pub fn note(&mut self, stop: Stop<'a>) {
         if self.stop.is_none() {
             self.stop = Some(stop);
         }
@@ -60,31 +62,33 @@ impl<'a> Words<'a> {
 
     /// The word that was read last is none of this class.
     pub fn wrong(&mut self, class: &'static str, word: &'a str) {
-        self.note(Stop::Wrong(class, word));
+        self.note(Stop::wrong(class, word));
     }
 
-    /// This, where no word before said that the line isn't taken.
-    pub fn or_before(&self, stop: Stop<'a>) -> Stop<'a> {
-        match self.stop {
-            Some(first) => first,
-            None => stop,
-        }
+    /// What the line says isn't done: an answer that nobody looks at.
+    pub fn refuse(&mut self, name: &'static str) -> Answer {
+        self.note(Stop::refused(name));
+        Answer::Done
     }
 
     /// Whether the line is taken as far as it was read.
-    pub fn so_far(&self) -> Result<(), Stop<'a>> {
+    pub fn is_taken(&self) -> bool {
+        self.stop.is_none()
+    }
+
+    /// Why the line isn't taken. Where no word and no refusal says so, there was no memory for its answer.
+    pub fn stop(&self) -> Stop<'a> {
         match self.stop {
-            Some(stop) => Err(stop),
-            None => Ok(()),
+            Some(stop) => stop,
+            None => NO_MEMORY,
         }
     }
 
-    /// No word is left, and each that was read is taken.
-    pub fn end(&mut self) -> Result<(), Stop<'a>> {
+    /// No word is left.
+    pub fn end(&mut self) {
         if let Some(word) = self.next() {
-            self.note(Stop::Extra(word));
+            self.note(Stop::order("a word too many", word));
         }
-        self.so_far()
     }
 
     /// The next word, if there is one left.
@@ -107,7 +111,7 @@ impl<'a> Words<'a> {
         match self.next() {
             Some(word) => word,
             None => {
-                self.note(Stop::Missing(class));
+                self.note(Stop::missing(class));
                 ""
             }
         }
@@ -192,8 +196,8 @@ impl<'a> Words<'a> {
         self.unless_none()
     }
 
-    // A number, or `none`.
-    fn unless_none<T: FromStr + Copy>(&mut self) -> Option<T>
+    /// A number of this type, or none.
+    pub fn unless_none<T: FromStr + Copy>(&mut self) -> Option<T>
     where
         T::Err: Drop,
     {
@@ -248,7 +252,7 @@ impl<'a> Words<'a> {
     }
 
     /// All words that are left, as at most four blocks.
-    pub fn blocks(&mut self) -> Result<ArrayVec<IpCidr, TABLE_ROOM>, Stop<'a>> {
+    pub fn blocks(&mut self) -> ArrayVec<IpCidr, TABLE_ROOM> {
         let mut found = ArrayVec::new();
         for _ in 0..TABLE_ROOM {
             let Some(word) = self.next() else {
@@ -261,19 +265,33 @@ impl<'a> Words<'a> {
                 Err(_) => self.wrong("block", word),
             }
         }
-        self.end()?;
-        Ok(found)
+        self.end();
+        found
     }
 
     /// The last word, which says bytes in hex, which a count behind `*` may repeat: these bytes.
-    pub fn last_bytes(&mut self, alloc: Global) -> Result<Vec<u8>, Stop<'a>> {
+    pub fn last_bytes(&mut self, alloc: Global) -> Vec<u8> {
         let word = self.word("bytes");
-        match read_bytes(word) {
-            Some(bytes) => {
-                self.end()?;
-                Ok(bytes.decode(alloc)?)
+        let bytes = read_bytes(word);
+        if bytes.is_none() {
+            self.wrong("bytes", word);
+        }
+        self.end();
+        match self.decoded(alloc, bytes) {
+            Some(bytes) => bytes,
+            None => {
+                self.note(NO_MEMORY);
+                Vec::new(alloc)
             }
-            None => Err(self.or_before(Stop::Wrong("bytes", word))),
+        }
+    }
+
+    // The bytes of a line that is taken, if there is memory for them.
+    fn decoded(&self, alloc: Global, bytes: Option<Bytes<'_>>) -> Option<Vec<u8>> {
+        if self.is_taken() {
+            bytes?.decode(alloc).ok()
+        } else {
+            None
         }
     }
 }
