@@ -208,7 +208,8 @@ pub(crate) fn last_bytes(alloc: Global, words: &mut Words<'_>) -> Option<Vec<u8>
         return None;
     }
     if bytes.len() > MOST {
-        return words.refuse(TOO_LONG);
+        words.note(TOO_LONG);
+        return None;
     }
     Some(bytes)
 }

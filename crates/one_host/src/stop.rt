@@ -22,6 +22,14 @@ pub const CARRIAGE_RETURN: Stop<'static> = Stop {
     end: "",
 };
 
+/// No memory for what the line says.
+pub const NO_MEMORY: Stop<'static> = Stop {
+    said: "refused ",
+    what: "Memory",
+    word: None,
+    end: "",
+};
+
 /// The socket at a place is of another kind.
 pub const WRONG_KIND: Stop<'static> = Stop {
     said: "refused ",

@@ -2,7 +2,7 @@
 ghost use Rattle.std.specs.Prelude.{◌≢◌, Some};
 
 use crate::answer::Answer;
-use crate::stop::Stop;
+use crate::stop::{NO_MEMORY, Stop};
 use arrayvec::ArrayVec;
 use interface::TABLE_ROOM;
 use ip_wire::{IpAddress, IpCidr, IpEndpoint};
@@ -80,7 +80,7 @@ impl<'a> Words<'a> {
     pub fn stop(&self) -> Stop<'a> {
         match self.stop {
             Some(stop) => stop,
-            None => Stop::refused("Memory"),
+            None => NO_MEMORY,
         }
     }
 
@@ -280,7 +280,7 @@ impl<'a> Words<'a> {
         match self.decoded(alloc, bytes) {
             Some(bytes) => bytes,
             None => {
-                self.note(Stop::refused("Memory"));
+                self.note(NO_MEMORY);
                 Vec::new(alloc)
             }
         }
