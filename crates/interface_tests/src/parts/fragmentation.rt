@@ -34,11 +34,20 @@ impl Goes<Assembler> for Step {
     }
 }
 
+/// Whether the bytes are these, or both are none.
+fn is_same(found: Option<&[u8]>, wanted: Option<&[u8]>) -> bool {
+    match (found, wanted) {
+        (Some(found), Some(wanted)) => found == wanted,
+        (None, None) => true,
+        _ => false,
+    }
+}
+
 /// The same of a step that asks, or resets.
 fn says(packet: &mut Assembler, step: &Step) -> bool {
     match step {
         IsComplete(answer) => packet.is_complete() == *answer,
-        Completed(bytes) => packet.completed() == *bytes,
+        Completed(bytes) => is_same(packet.completed(), *bytes),
         Resets => {
             packet.reset();
             true
@@ -155,7 +164,7 @@ impl<const N: usize> Goes<PacketAssemblerSet<N>> for Call {
                 set.insert(key, at(*micros), bytes, *from, false) == *slot
             }
             HasNone(key, micros) => set.get(key, at(*micros)).is_err(),
-            Holds(slot, bytes) => set.completed(*slot) == *bytes,
+            Holds(slot, bytes) => is_same(set.completed(*slot), *bytes),
             _ => changes(set, self),
         }
     }
