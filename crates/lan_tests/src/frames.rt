@@ -19,26 +19,37 @@ const DATAGRAM: &str = "45000020c24d00004011352cc0a80101c0a80102bf000035000c124d
 /// To 02-00-00-00-00-02 from 02-00-00-00-00-01, but for the EtherType.
 const LINK: &str = "020000000002020000000001";
 
-/// Compares where the bytes of these texts, one behind the other, have a TCP segment of 23 bytes.
-fn check_place(
+/// Whether the bytes of these texts, one behind the other, have a TCP segment of 23 bytes there.
+fn has_place(
     alloc: Global,
     medium: Medium,
     texts: &[&str],
     place: Option<usize>,
-) -> Result<(), Fail> {
+) -> Result<bool, Fail> {
     let mut text = String::new(alloc);
     for part in texts {
         text.push_str(part)?;
     }
     let frame = hex::decode(alloc, text.as_str())?;
-    if tcp_part(medium, frame.as_slice()) != place.map(|at| Part { at, len: 23 }) {
-        return Err(Fail::new(format_args!("of {texts:?}")));
-    }
-    Ok(())
+    Ok(tcp_part(medium, frame.as_slice()) == place.map(|at| Part { at, len: 23 }))
+}
+
+/// A packet, its EtherType, and where a segment begins in it and behind an Ethernet header.
+type Place = (&'static str, &'static str, Option<usize>, Option<usize>);
+
+/// Whether it does, alone and before padding, and in a frame. Another EtherType has none.
+fn is_in_place(alloc: Global, row: &Place) -> Result<bool, Fail> {
+    let (packet, kind, place, framed) = *row;
+    Ok(
+        has_place(alloc, Medium::Ip, &[packet], place)?
+            && has_place(alloc, Medium::Ip, &[packet, "0000"], place)?
+            && has_place(alloc, Medium::Ethernet, &[LINK, kind, packet], framed)?
+            && has_place(alloc, Medium::Ethernet, &[LINK, "0806", packet], None)?,
+    )
 }
 
 /// Packets, their EtherTypes, and where a segment begins in them and behind an Ethernet header.
-static PLACES: [(&str, &str, Option<usize>, Option<usize>); 7] = [
+static PLACES: [Place; 7] = [
     (SEGMENT, "0800", Some(20), Some(34)),
     (SEGMENT_IPV6, "86dd", Some(40), Some(54)),
     (DATAGRAM, "0800", None, None),
@@ -67,12 +78,8 @@ static PLACES: [(&str, &str, Option<usize>, Option<usize>); 7] = [
 /// Padding changes nothing, and another EtherType all.
 #[test]
 fn a_segment_has_its_place(rt: HostRuntime) -> Result<(), Fail> {
-    let alloc = rt.alloc();
-    for &(packet, kind, place, framed) in &PLACES {
-        check_place(alloc, Medium::Ip, &[packet], place)?;
-        check_place(alloc, Medium::Ip, &[packet, "0000"], place)?;
-        check_place(alloc, Medium::Ethernet, &[LINK, kind, packet], framed)?;
-        check_place(alloc, Medium::Ethernet, &[LINK, "0806", packet], None)?;
+    for row in &PLACES {
+        assert!(rt; is_in_place(rt.alloc(), row)?, "{}", row.0);
     }
     Ok(())
 }

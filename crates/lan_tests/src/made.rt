@@ -5,6 +5,7 @@ use ip_wire::{EthernetAddress, HardwareAddress};
 use lan::{Host, Port, World, WorldError};
 use net_base::{ChecksumCapabilities, DeviceCapabilities, Instant, ManagedSlice, Medium};
 use std::alloc::Global;
+use std::mem::replace;
 use std::test::Fail;
 
 /// A device of this medium, whose longest IP packet has so many bytes.
@@ -71,7 +72,10 @@ fn spoil(alloc: Global, a: &mut Host, wrong: &str) -> bool {
     match wrong {
         // The device of the port needn't be that over which the interface was made.
         "its MTU" => {
-            a.port = Port::new(alloc, capabilities(Medium::Ip, 1_499));
+            drop(replace(
+                &mut a.port,
+                Port::new(alloc, capabilities(Medium::Ip, 1_499)),
+            ));
             true
         }
         "a frame waits" => a.port.push(Vec::new(alloc)).is_ok(),
@@ -85,7 +89,11 @@ fn spoil(alloc: Global, a: &mut Host, wrong: &str) -> bool {
 
 fn host_a(alloc: Global, wrong: &str) -> Option<Host> {
     let mut a = host(alloc, 1, described(wrong))?;
-    spoil(alloc, &mut a, wrong).then_some(a)
+    if spoil(alloc, &mut a, wrong) {
+        Some(a)
+    } else {
+        None
+    }
 }
 
 fn host_b(alloc: Global) -> Option<Host> {

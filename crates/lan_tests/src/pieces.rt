@@ -214,10 +214,8 @@ fn has_status(alloc: Global, way: Way, status: u8) -> Result<bool, Fail> {
     Ok(found == status)
 }
 
-#[test]
-fn a_failing_reader_or_writer_is_a_status_of_its_own(rt: HostRuntime) -> Result<(), Fail> {
-    let alloc = rt.alloc();
-    // 26 reads of 7 bytes give the script, and one more its end.
+// 26 reads of 7 bytes give the script, and one more its end.
+fn play_reads(alloc: Global) -> Result<(), Fail> {
     for reads in 0..30usize {
         let way = Way {
             size: 7,
@@ -225,13 +223,27 @@ fn a_failing_reader_or_writer_is_a_status_of_its_own(rt: HostRuntime) -> Result<
             ..WHOLE
         };
         let wanted = if reads < 27 { 2 } else { 0 };
-        assert!(rt; has_status(alloc, way, wanted)?, "after {reads} reads");
+        if !has_status(alloc, way, wanted)? {
+            return Err(Fail::new(format_args!("after {reads} reads")));
+        }
     }
-    // Eight lines are answered with one write each. Behind each of the two reads is a flush.
+    Ok(())
+}
+
+// Eight lines are answered with one write each. Behind each of the two reads is a flush.
+fn play_calls(alloc: Global) -> Result<(), Fail> {
     for calls in 0..13u32 {
         let way = Way { calls, ..WHOLE };
         let wanted = if calls < 10 { 2 } else { 0 };
-        assert!(rt; has_status(alloc, way, wanted)?, "after {calls} calls");
+        if !has_status(alloc, way, wanted)? {
+            return Err(Fail::new(format_args!("after {calls} calls")));
+        }
     }
     Ok(())
+}
+
+#[test]
+fn a_failing_reader_or_writer_is_a_status_of_its_own(rt: HostRuntime) -> Result<(), Fail> {
+    play_reads(rt.alloc())?;
+    play_calls(rt.alloc())
 }

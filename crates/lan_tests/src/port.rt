@@ -1,8 +1,8 @@
 //! The device in memory, with ample memory. What its calls do is proved of it; which buffers it keeps no contract says.
+use crate::cases::{Goes, Life, all_live, first_wrong};
 use lan::Port;
 use net_base::{Device, DeviceCapabilities, Instant, Medium, RxToken};
 use std::alloc::Global;
-use std::test::Fail;
 
 fn ip_port(alloc: Global) -> Port {
     let capabilities = DeviceCapabilities {
@@ -114,57 +114,139 @@ fn answers_all(port: &mut Port, alloc: Global, count: u32) -> bool {
     true
 }
 
-/// Whether each frame that is sent takes room, and one that is refused or added none; without room nothing is taken or sent.
-fn has_room(port: &mut Port, alloc: Global) -> bool {
-    port.set_room(2);
-    sends(port, 0)
-        && port.room() == 1
-        && !port.prepare(1, usize::MAX).is_ok()
-        && refuses(port)
-        && port.room() == 1
-        && sends(port, 0)
-        && is_added(port, alloc, b"piece")
-        && port.room() == 0
-        && comes(port, alloc, 4, b"ping")
-        && port.transmit(Instant::ZERO).is_none()
-        && !is_consumed(port, b"ping")
-        && port.waiting().len() == 1
+/// A call of a port, and what it must answer.
+enum Step {
+    /// The longest packet of its capabilities.
+    HasMtu(usize),
+    /// For so many frames there is room.
+    HasRoom(usize),
+    /// A bound for the frames that are sent.
+    SetsRoom(usize),
+    /// A frame of these bytes comes, in a buffer of this capacity.
+    Comes(usize, &'static [u8]),
+    /// The next frame is taken in its buffer.
+    Takes(usize, &'static [u8]),
+    /// The next frame is consumed.
+    Consumes(&'static [u8]),
+    /// There is no frame to be answered.
+    IsSilent,
+    /// A frame of so many bytes is sent.
+    Sends(usize),
+    /// There is leave to send, and more than any allocator has is refused.
+    Refuses,
+    /// There is no leave to send, nor a frame to take, though so many wait.
+    IsShut(usize),
+    /// So many frames come, and each is answered.
+    Answers(u32),
+    /// Whether so many buffers of so many bytes are there.
+    Prepares(usize, usize, bool),
+    /// The link adds a frame of these bytes.
+    Adds(&'static [u8]),
+    /// So many frames were sent.
+    HasSent(usize),
+    /// So many frames were refused.
+    HasRefused(u64),
 }
 
-/// What a new port does otherwise than it should, if anything.
-fn first_wrong(port: &mut Port, alloc: Global) -> Option<&'static str> {
-    if port.capabilities().ip_mtu() != 1500 || port.room() != usize::MAX {
-        return Some("a port has its capabilities, and room without a bound");
+use Step::{
+    Adds, Answers, Comes, Consumes, HasMtu, HasRefused, HasRoom, HasSent, IsShut, IsSilent,
+    Prepares, Refuses, Sends, SetsRoom, Takes,
+};
+
+impl Goes<Port> for Step {
+    fn goes(&self, alloc: Global, port: &mut Port) -> bool {
+        match self {
+            Comes(capacity, bytes) => comes(port, alloc, *capacity, bytes),
+            Answers(count) => answers_all(port, alloc, *count),
+            Adds(bytes) => is_added(port, alloc, bytes),
+            Sends(length) => sends(port, *length),
+            Refuses => refuses(port),
+            _ => says(port, self) || takes(port, self),
+        }
     }
-    if !(comes(port, alloc, 100, b"one") && comes(port, alloc, 3, b"two")) {
-        return Some("frames come");
-    }
-    if !(is_taken(port, 100, b"one") && is_consumed(port, b"two") && !echo(port)) {
-        return Some("frames are taken in their order, in their buffers");
-    }
-    if !(sends(port, 0) && sends(port, 65_535) && sends(port, 70_000) && sends(port, 1_500)) {
-        return Some("long frames are sent");
-    }
-    if !answers_all(port, alloc, 300) {
-        return Some("many frames are answered");
-    }
-    if !(port.prepare(2, 1_500).is_ok() && sends(port, 1_500) && sends(port, 20)) {
-        return Some("frames are sent in buffers that were prepared");
-    }
-    if port.sent().len() != 306 || port.refusals() != 0 {
-        return Some("each frame is sent, and none refused");
-    }
-    if !has_room(port, alloc) || port.refusals() != 1 {
-        return Some("each sent frame takes room, one that is refused or added takes none");
-    }
-    None
 }
+
+/// Whether the step is one that asks, and goes as it says.
+fn says(port: &Port, step: &Step) -> bool {
+    match step {
+        HasMtu(bytes) => port.capabilities().ip_mtu() == *bytes,
+        HasRoom(frames) => port.room() == *frames,
+        HasSent(count) => port.sent().len() == *count,
+        HasRefused(count) => port.refusals() == *count,
+        _ => false,
+    }
+}
+
+/// Whether the step is one that takes or prepares, and goes as it says.
+fn takes(port: &mut Port, step: &Step) -> bool {
+    match step {
+        SetsRoom(frames) => {
+            port.set_room(*frames);
+            true
+        }
+        Takes(capacity, bytes) => is_taken(port, *capacity, bytes),
+        Consumes(bytes) => is_consumed(port, bytes),
+        IsSilent => !echo(port),
+        IsShut(waiting) => is_shut(port) && port.waiting().len() == *waiting,
+        Prepares(count, capacity, answer) => port.prepare(*count, *capacity).is_ok() == *answer,
+        _ => false,
+    }
+}
+
+/// Whether there is no leave to send, nor a frame to take.
+fn is_shut(port: &mut Port) -> bool {
+    port.transmit(Instant::ZERO).is_none() && port.receive(Instant::ZERO).is_none()
+}
+
+/// A port of bare IP, from its beginning on.
+struct OfIp(&'static [Step]);
+
+impl Life for OfIp {
+    fn stops_at(&self, alloc: Global) -> Option<usize> {
+        first_wrong(alloc, &mut ip_port(alloc), self.0)
+    }
+}
+
+const PORT: OfIp = OfIp(&[
+    // A port has its capabilities, and room without a bound.
+    HasMtu(1500),
+    HasRoom(usize::MAX),
+    // Frames are taken in their order, in their buffers.
+    Comes(100, b"one"),
+    Comes(3, b"two"),
+    Takes(100, b"one"),
+    Consumes(b"two"),
+    IsSilent,
+    // Long frames are sent.
+    Sends(0),
+    Sends(65_535),
+    Sends(70_000),
+    Sends(1_500),
+    // Many frames are answered.
+    Answers(300),
+    // Frames are sent in buffers that were prepared.
+    Prepares(2, 1_500, true),
+    Sends(1_500),
+    Sends(20),
+    // Each frame is sent, and none refused.
+    HasSent(306),
+    HasRefused(0),
+    // Each frame that is sent takes room, and one that is refused or added none; without room nothing is taken or sent.
+    SetsRoom(2),
+    Sends(0),
+    HasRoom(1),
+    Prepares(1, usize::MAX, false),
+    Refuses,
+    HasRoom(1),
+    Sends(0),
+    Adds(b"piece"),
+    HasRoom(0),
+    Comes(4, b"ping"),
+    IsShut(1),
+    HasRefused(1),
+]);
 
 #[test]
-fn a_port_carries_frames(rt: HostRuntime) -> Result<(), Fail> {
-    let mut port = ip_port(rt.alloc());
-    match first_wrong(&mut port, rt.alloc()) {
-        Some(what) => Err(what.into()),
-        None => Ok(()),
-    }
+fn a_port_carries_frames(rt: HostRuntime) {
+    all_live(&rt, &[PORT]);
 }

@@ -1,31 +1,43 @@
 //! Sockets of all kinds as one type.
+use crate::cases::{Goes, Life, all_live, first_wrong};
 use crate::kinds::script::Step::{Settle, Shows, Silent, Waits};
-use crate::kinds::script::{Kind, Step, made, play_at};
+use crate::kinds::script::{Kind, Step, made};
 use crate::kinds::udp::{ABC, Call, V4, goes};
 use sockets::{AnySocket, Socket, icmp, raw, udp};
-use std::alloc::Global;
-use std::test::Fail;
+use std::alloc::{AllocError, Global};
 
-/// Of which kinds a new socket is: raw, ICMP, UDP.
-fn kinds(alloc: Global, kind: &Kind) -> Result<[bool; 3], Fail> {
-    let socket = made(alloc, kind)?;
-    Ok([
-        <raw::Socket as AnySocket>::downcast(&socket).is_some(),
-        <icmp::Socket as AnySocket>::downcast(&socket).is_some(),
-        <udp::Socket as AnySocket>::downcast(&socket).is_some(),
-    ])
+/// A socket of any kind is asked, or played at.
+enum Asked {
+    /// It is a raw one, one of ICMP, one of UDP.
+    Is([bool; 3]),
+    /// It is of UDP, is bound and queues a datagram.
+    Queues,
+    Goes(Step),
 }
 
-#[test]
-fn a_socket_is_of_its_own_kind(rt: HostRuntime) -> Result<(), Fail> {
-    assert!(rt; kinds(rt.alloc(), &Kind::Raw(None, None))? == [true, false, false]);
-    assert!(rt; kinds(rt.alloc(), &Kind::Icmp)? == [false, true, false]);
-    assert!(rt; kinds(rt.alloc(), &Kind::Udp(64))? == [false, false, true]);
-    Ok(())
+use Asked::{Is, Queues};
+
+impl Goes<Socket> for Asked {
+    fn goes(&self, alloc: Global, socket: &mut Socket) -> bool {
+        match self {
+            Is(kinds) => kinds_of(socket) == *kinds,
+            Queues => queues_a_datagram(alloc, socket) == Ok(true),
+            Asked::Goes(step) => step.goes(alloc, socket),
+        }
+    }
+}
+
+/// Of which kinds a socket is: raw, ICMP, UDP.
+fn kinds_of(socket: &Socket) -> [bool; 3] {
+    [
+        <raw::Socket as AnySocket>::downcast(socket).is_some(),
+        <icmp::Socket as AnySocket>::downcast(socket).is_some(),
+        <udp::Socket as AnySocket>::downcast(socket).is_some(),
+    ]
 }
 
 /// Binds the socket, if it is of UDP, and queues a datagram.
-fn queues_a_datagram(alloc: Global, any: &mut Socket) -> Result<bool, Fail> {
+fn queues_a_datagram(alloc: Global, any: &mut Socket) -> Result<bool, AllocError> {
     let Some(socket) = <udp::Socket as AnySocket>::downcast_mut(any) else {
         return Ok(false);
     };
@@ -35,21 +47,41 @@ fn queues_a_datagram(alloc: Global, any: &mut Socket) -> Result<bool, Fail> {
     )
 }
 
-const BEFORE: [Step; 2] = [Waits, Silent(false)];
+/// A new socket, and what it is asked.
+struct OfAnyKind(Kind, &'static [Asked]);
 
-const BEHIND: [Step; 6] = [
-    Shows(ABC),
-    Settle(false),
-    Shows(ABC),
-    Settle(true),
-    Waits,
-    Silent(false),
+impl Life for OfAnyKind {
+    fn stops_at(&self, alloc: Global) -> Option<usize> {
+        match made(alloc, &self.0) {
+            Ok(mut socket) => first_wrong(alloc, &mut socket, self.1),
+            Err(AllocError) => Some(0),
+        }
+    }
+}
+
+const SOCKETS: [OfAnyKind; 4] = [
+    // A socket is of its own kind.
+    OfAnyKind(Kind::Raw(None, None), &[Is([true, false, false])]),
+    OfAnyKind(Kind::Icmp, &[Is([false, true, false])]),
+    OfAnyKind(Kind::Udp(64), &[Is([false, false, true])]),
+    // Any socket offers and settles.
+    OfAnyKind(
+        Kind::Udp(64),
+        &[
+            Asked::Goes(Waits),
+            Asked::Goes(Silent(false)),
+            Queues,
+            Asked::Goes(Shows(ABC)),
+            Asked::Goes(Settle(false)),
+            Asked::Goes(Shows(ABC)),
+            Asked::Goes(Settle(true)),
+            Asked::Goes(Waits),
+            Asked::Goes(Silent(false)),
+        ],
+    ),
 ];
 
 #[test]
-fn any_socket_offers_and_settles(rt: HostRuntime) -> Result<(), Fail> {
-    let mut any = made(rt.alloc(), &Kind::Udp(64))?;
-    play_at(rt.alloc(), &mut any, &BEFORE)?;
-    assert!(rt; queues_a_datagram(rt.alloc(), &mut any)?);
-    play_at(rt.alloc(), &mut any, &BEHIND)
+fn sockets_of_any_kind_live(rt: HostRuntime) {
+    all_live(&rt, &SOCKETS);
 }

@@ -4,8 +4,7 @@ ghost use Rattle.net_base.specs.Time.{IsMoment};
 use ip_wire::IpAddress;
 use net_base::{ChecksumCapabilities, Instant, ManagedSlice, PacketBuffer, PacketMetadata, Rand};
 use sockets::Context;
-use std::alloc::Global;
-use std::test::Fail;
+use std::alloc::{AllocError, Global};
 
 /// A host at a moment.
 #[derive(Drop)]
@@ -82,7 +81,7 @@ pub fn make_host(seed: u64, own: Option<IpAddress>) -> Host {
 }
 
 /// A queue of two entries and so many bytes.
-pub fn queue<H>(alloc: Global, bytes: usize) -> Result<PacketBuffer<H>, Fail>
+pub fn queue<H>(alloc: Global, bytes: usize) -> Result<PacketBuffer<H>, AllocError>
 where
     H: Drop,
 {
@@ -96,6 +95,6 @@ where
 }
 
 /// So many bytes 0.
-pub fn zeros(alloc: Global, count: usize) -> Result<Vec<u8>, Fail> {
-    Ok(vec![in alloc; 0; count]?)
+pub fn zeros(alloc: Global, count: usize) -> Result<Vec<u8>, AllocError> {
+    vec![in alloc; 0; count]
 }

@@ -1,12 +1,12 @@
 //! ICMP sockets.
+use crate::cases::all_live;
 use crate::kinds::common::{queue, zeros};
 use crate::kinds::script::Step::Icmp;
-use crate::kinds::script::{Kind, Step, play};
+use crate::kinds::script::{Kind, Played};
 use control_wire::Icmpv4Repr;
 use ip_wire::{IpAddress, IpProtocol, Ipv4Address, Ipv4Repr};
 use sockets::icmp::{BindError, Endpoint, RecvError, Socket};
-use std::alloc::Global;
-use std::test::Fail;
+use std::alloc::{AllocError, Global};
 
 /// A call of an ICMP socket with its answer.
 pub enum Call {
@@ -22,12 +22,12 @@ use Call::{Bind, Comes, Read};
 /// The reply.
 const REPLY: [u8; 8] = [0x00, 0x00, 0xed, 0xca, 0x12, 0x34, 0x00, 0x01];
 
-pub fn made(alloc: Global) -> Result<Socket, Fail> {
+pub fn made(alloc: Global) -> Result<Socket, AllocError> {
     Ok(Socket::new(queue(alloc, 64)?, queue(alloc, 64)?))
 }
 
 /// Whether a call is answered as it says.
-pub fn goes(alloc: Global, socket: &mut Socket, call: &Call) -> Result<bool, Fail> {
+pub fn goes(alloc: Global, socket: &mut Socket, call: &Call) -> Result<bool, AllocError> {
     match call {
         Bind(endpoint, answer) => Ok(socket.bind(*endpoint) == *answer),
         Comes => {
@@ -64,16 +64,19 @@ const THERE: Ipv4Address = Ipv4Address([192, 168, 1, 2]);
 
 const V4: IpAddress = IpAddress::Ipv4(THERE);
 
-const READ: [Step; 6] = [
-    Icmp(Bind(Endpoint::Ident(0x1234), Ok(()))),
-    Icmp(Comes),
-    Icmp(Comes),
-    Icmp(Read(Ok((8, V4)), &REPLY)),
-    Icmp(Read(Err(RecvError::Truncated), &[0; 4])),
-    Icmp(Read(Err(RecvError::Exhausted), &[0; 4])),
-];
+const READ: Played = Played(
+    Kind::Icmp,
+    &[
+        Icmp(Bind(Endpoint::Ident(0x1234), Ok(()))),
+        Icmp(Comes),
+        Icmp(Comes),
+        Icmp(Read(Ok((8, V4)), &REPLY)),
+        Icmp(Read(Err(RecvError::Truncated), &[0; 4])),
+        Icmp(Read(Err(RecvError::Exhausted), &[0; 4])),
+    ],
+);
 
 #[test]
-fn a_reply_is_read(rt: HostRuntime) -> Result<(), Fail> {
-    play(rt.alloc(), &Kind::Icmp, &READ)
+fn a_reply_is_read(rt: HostRuntime) {
+    all_live(&rt, &[READ]);
 }

@@ -1,14 +1,13 @@
 //! Raw sockets.
+use crate::cases::all_live;
 use crate::kinds::common::{queue, zeros};
-use crate::kinds::script::Step::{Anew, Raw, Shows};
-use crate::kinds::script::{Kind, Shown, Step, play};
+use crate::kinds::script::Step::{Raw, Shows};
+use crate::kinds::script::{Carried, Kind, Played, Shown};
 use ip_wire::{
     IpAddress, IpProtocol, IpRepr, IpVersion, Ipv4Address, Ipv4Repr, Ipv6Address, Ipv6Repr,
 };
-use sockets::IpPayload;
 use sockets::raw::{RecvError, SendError, Socket};
-use std::alloc::Global;
-use std::test::Fail;
+use std::alloc::{AllocError, Global};
 
 /// A call of a raw socket with its answer.
 pub enum Call {
@@ -37,12 +36,12 @@ pub fn made(
     alloc: Global,
     version: Option<IpVersion>,
     protocol: Option<IpProtocol>,
-) -> Result<Socket, Fail> {
+) -> Result<Socket, AllocError> {
     Ok(Socket::new(version, protocol, queue(alloc, 128)?, queue(alloc, 128)?))
 }
 
 /// Whether a call is answered as it says.
-pub fn goes(alloc: Global, socket: &mut Socket, call: &Call) -> Result<bool, Fail> {
+pub fn goes(alloc: Global, socket: &mut Socket, call: &Call) -> Result<bool, AllocError> {
     match call {
         Comes(header, bytes) => {
             socket.process(header, bytes);
@@ -73,7 +72,7 @@ const REQUESTING: Shown = Shown {
     destination: IpAddress::Ipv4(Ipv4Address([192, 168, 1, 2])),
     protocol: IpProtocol::Icmp,
     length: 8,
-    payload: IpPayload::Raw(&ECHO_REQUEST),
+    payload: Carried::Raw(&ECHO_REQUEST),
 };
 
 /// The header of a datagram of 95 bytes from 192.168.0.1 to 192.168.0.199, a worked example of its checksum; the datagram,
@@ -109,31 +108,33 @@ const HEADER_V6: IpRepr = IpRepr::Ipv6(Ipv6Repr {
     hop_limit: 9,
 });
 
-const OF_UDP: Kind = Kind::Raw(Some(IpVersion::Ipv4), Some(IpProtocol::Udp));
-
-const ANY: Kind = Kind::Raw(None, None);
-
-const READ: [Step; 9] = [
-    Raw(Comes(HEADER, &[0xab; 95])),
-    Raw(PeekSlice(Ok(115), &DATAGRAM)),
-    Raw(ReadSlice(Ok(115), &DATAGRAM)),
-    Raw(ReadSlice(Err(RecvError::Exhausted), &[0; 116])),
-    Anew(ANY),
-    Raw(Comes(HEADER_V6, &[0xab, 0xcd])),
-    Raw(PeekSlice(Err(RecvError::Truncated), &[0; 41])),
-    Raw(ReadSlice(Err(RecvError::Truncated), &[0; 41])),
-    Raw(ReadSlice(Err(RecvError::Exhausted), &[0; 41])),
+/// A longer slice keeps its end, and a short one is left as it was. What is written into a lent room is offered.
+const PACKETS: [Played; 3] = [
+    Played(
+        Kind::Raw(Some(IpVersion::Ipv4), Some(IpProtocol::Udp)),
+        &[
+            Raw(Comes(HEADER, &[0xab; 95])),
+            Raw(PeekSlice(Ok(115), &DATAGRAM)),
+            Raw(ReadSlice(Ok(115), &DATAGRAM)),
+            Raw(ReadSlice(Err(RecvError::Exhausted), &[0; 116])),
+        ],
+    ),
+    Played(
+        Kind::Raw(None, None),
+        &[
+            Raw(Comes(HEADER_V6, &[0xab, 0xcd])),
+            Raw(PeekSlice(Err(RecvError::Truncated), &[0; 41])),
+            Raw(ReadSlice(Err(RecvError::Truncated), &[0; 41])),
+            Raw(ReadSlice(Err(RecvError::Exhausted), &[0; 41])),
+        ],
+    ),
+    Played(
+        Kind::Raw(None, None),
+        &[Raw(Write(Ok(33))), Shows(REQUESTING)],
+    ),
 ];
 
-/// A longer slice keeps its end, and a short one is left as it was.
 #[test]
-fn packets_are_read(rt: HostRuntime) -> Result<(), Fail> {
-    play(rt.alloc(), &OF_UDP, &READ)
-}
-
-const WRITTEN: [Step; 2] = [Raw(Write(Ok(33))), Shows(REQUESTING)];
-
-#[test]
-fn what_is_written_into_a_lent_room_is_offered(rt: HostRuntime) -> Result<(), Fail> {
-    play(rt.alloc(), &ANY, &WRITTEN)
+fn packets_are_read_and_written(rt: HostRuntime) {
+    all_live(&rt, &PACKETS);
 }

@@ -1,15 +1,13 @@
 //! Tables of steps, played at a datagram socket.
+use crate::cases::{Goes, Life, first_wrong};
 use crate::kinds::common::make_host;
 use crate::kinds::{icmp, raw, udp};
-use ip_wire::{IpAddress, IpProtocol, IpVersion};
+use ip_wire::{IpAddress, IpProtocol, IpVersion, UdpRepr};
 use sockets::{AnySocket, IpPayload, Offer, Packet, PollAt, Socket};
-use std::alloc::Global;
-use std::test::Fail;
+use std::alloc::{AllocError, Global};
 
 /// A call, or several, with what the socket answers.
 pub enum Step {
-    /// Another socket is played at from here on.
-    Anew(Kind),
     /// A call that only a raw socket has.
     Raw(raw::Call),
     Icmp(icmp::Call),
@@ -41,25 +39,29 @@ pub struct Shown {
     pub destination: IpAddress,
     pub protocol: IpProtocol,
     pub length: usize,
-    pub payload: IpPayload<'static>,
+    pub payload: Carried,
 }
 
-/// Plays these steps at a new socket. The failure is the place of the first step that goes otherwise.
-pub fn play(alloc: Global, kind: &Kind, steps: &[Step]) -> Result<(), Fail> {
-    play_at(alloc, &mut made(alloc, kind)?, steps)
+/// What a packet carries.
+pub enum Carried {
+    /// A datagram from the one port to the other.
+    Udp(u16, u16, &'static [u8]),
+    Raw(&'static [u8]),
 }
 
-/// The same at this socket.
-pub fn play_at(alloc: Global, socket: &mut Socket, steps: &[Step]) -> Result<(), Fail> {
-    for (place, step) in steps.iter().enumerate() {
-        if !goes(alloc, socket, step)? {
-            return Err(place.into());
+/// A new socket, and the steps that are played at it.
+pub struct Played(pub Kind, pub &'static [Step]);
+
+impl Life for Played {
+    fn stops_at(&self, alloc: Global) -> Option<usize> {
+        match made(alloc, &self.0) {
+            Ok(mut socket) => first_wrong(alloc, &mut socket, self.1),
+            Err(AllocError) => Some(0),
         }
     }
-    Ok(())
 }
 
-pub fn made(alloc: Global, kind: &Kind) -> Result<Socket, Fail> {
+pub fn made(alloc: Global, kind: &Kind) -> Result<Socket, AllocError> {
     Ok(match kind {
         Kind::Raw(version, protocol) => raw::made(alloc, *version, *protocol)?.upcast(),
         Kind::Icmp => icmp::made(alloc)?.upcast(),
@@ -67,26 +69,36 @@ pub fn made(alloc: Global, kind: &Kind) -> Result<Socket, Fail> {
     })
 }
 
-/// Whether a step goes as it says. A call that the socket doesn't have doesn't.
-fn goes(alloc: Global, socket: &mut Socket, step: &Step) -> Result<bool, Fail> {
-    match step {
-        Step::Anew(kind) => {
-            *socket = made(alloc, kind)?;
-            Ok(true)
+impl Goes<Socket> for Step {
+    /// A call that the socket doesn't have doesn't go.
+    fn goes(&self, alloc: Global, socket: &mut Socket) -> bool {
+        match self {
+            Step::Raw(call) => goes_raw(alloc, socket, call),
+            Step::Icmp(call) => goes_icmp(alloc, socket, call),
+            Step::Udp(call) => goes_udp(alloc, socket, call),
+            _ => offers(socket, self),
         }
-        Step::Raw(call) => match socket {
-            Socket::Raw(socket) => raw::goes(alloc, socket, call),
-            _ => Ok(false),
-        },
-        Step::Icmp(call) => match socket {
-            Socket::Icmp(socket) => icmp::goes(alloc, socket, call),
-            _ => Ok(false),
-        },
-        Step::Udp(call) => match socket {
-            Socket::Udp(socket) => udp::goes(alloc, socket, call),
-            _ => Ok(false),
-        },
-        _ => Ok(offers(socket, step)),
+    }
+}
+
+fn goes_raw(alloc: Global, socket: &mut Socket, call: &raw::Call) -> bool {
+    match socket {
+        Socket::Raw(socket) => raw::goes(alloc, socket, call) == Ok(true),
+        _ => false,
+    }
+}
+
+fn goes_icmp(alloc: Global, socket: &mut Socket, call: &icmp::Call) -> bool {
+    match socket {
+        Socket::Icmp(socket) => icmp::goes(alloc, socket, call) == Ok(true),
+        _ => false,
+    }
+}
+
+fn goes_udp(alloc: Global, socket: &mut Socket, call: &udp::Call) -> bool {
+    match socket {
+        Socket::Udp(socket) => udp::goes(alloc, socket, call) == Ok(true),
+        _ => false,
     }
 }
 
@@ -134,5 +146,17 @@ fn shows(packet: &Packet<'_>, shown: &Shown) -> bool {
         && header.dst_addr() == shown.destination
         && header.next_header() == shown.protocol
         && header.payload_len() == shown.length
-        && *packet.payload() == shown.payload
+        && carries(packet.payload(), &shown.payload)
+}
+
+fn carries(payload: &IpPayload<'_>, wanted: &Carried) -> bool {
+    match wanted {
+        Carried::Udp(src_port, dst_port, bytes) => *payload
+            == datagram(*src_port, *dst_port, bytes),
+        Carried::Raw(bytes) => *payload == IpPayload::Raw(bytes),
+    }
+}
+
+fn datagram<'a>(src_port: u16, dst_port: u16, bytes: &'a [u8]) -> IpPayload<'a> {
+    IpPayload::Udp(UdpRepr { src_port, dst_port }, bytes)
 }

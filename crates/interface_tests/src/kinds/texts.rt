@@ -1,8 +1,9 @@
 //! The texts of errors.
+use crate::cases::{Life, all_live};
 use sockets::raw;
 use sockets::udp::{BindError, RecvError, SendError};
 use std::alloc::Global;
-use std::test::Fail;
+use std::fmt::Display;
 
 /// Why a datagram socket refused.
 enum Refusal {
@@ -12,36 +13,46 @@ enum Refusal {
     Receive(RecvError),
 }
 
-fn text(alloc: Global, refusal: &Refusal) -> Result<String, Fail> {
-    let text = match refusal {
-        Refusal::Bind(error) => error.to_string(alloc)?,
-        Refusal::Send(error) => error.to_string(alloc)?,
-        Refusal::SendRaw(error) => error.to_string(alloc)?,
-        Refusal::Receive(error) => error.to_string(alloc)?,
-    };
-    Ok(text)
+/// Whether the value's text is this one.
+fn prints<T: Display>(alloc: Global, value: &T, text: &str) -> bool {
+    match value.to_string(alloc) {
+        Ok(found) => found.as_str() == text,
+        Err(_) => false,
+    }
 }
 
-/// Compares the errors' texts with these. The failure is the first text that isn't an error's.
-fn are_named(alloc: Global, named: &[(Refusal, &'static str)]) -> Result<(), Fail> {
-    for (refusal, name) in named {
-        if text(alloc, refusal)?.as_str() != *name {
-            return Err((*name).into());
+fn is_named(alloc: Global, refusal: &Refusal, name: &str) -> bool {
+    match refusal {
+        Refusal::Bind(error) => prints(alloc, error, name),
+        Refusal::Send(error) => prints(alloc, error, name),
+        Refusal::SendRaw(error) => prints(alloc, error, name),
+        Refusal::Receive(error) => prints(alloc, error, name),
+    }
+}
+
+/// A refusal, and its text.
+struct Named(Refusal, &'static str);
+
+impl Life for Named {
+    fn stops_at(&self, alloc: Global) -> Option<usize> {
+        if is_named(alloc, &self.0, self.1) {
+            None
+        } else {
+            Some(0)
         }
     }
-    Ok(())
 }
 
-const NAMES: [(Refusal, &str); 6] = [
-    (Refusal::Bind(BindError::InvalidState), "invalid state"),
-    (Refusal::Send(SendError::BufferFull), "buffer full"),
-    (Refusal::SendRaw(raw::SendError::BufferFull), "buffer full"),
-    (Refusal::Receive(RecvError::Exhausted), "exhausted"),
-    (Refusal::Receive(RecvError::Truncated), "truncated"),
-    (Refusal::Bind(BindError::Unaddressable), "unaddressable"),
+const NAMES: [Named; 6] = [
+    Named(Refusal::Bind(BindError::InvalidState), "invalid state"),
+    Named(Refusal::Send(SendError::BufferFull), "buffer full"),
+    Named(Refusal::SendRaw(raw::SendError::BufferFull), "buffer full"),
+    Named(Refusal::Receive(RecvError::Exhausted), "exhausted"),
+    Named(Refusal::Receive(RecvError::Truncated), "truncated"),
+    Named(Refusal::Bind(BindError::Unaddressable), "unaddressable"),
 ];
 
 #[test]
-fn texts_name_the_errors(rt: HostRuntime) -> Result<(), Fail> {
-    are_named(rt.alloc(), &NAMES)
+fn texts_name_the_errors(rt: HostRuntime) {
+    all_live(&rt, &NAMES);
 }

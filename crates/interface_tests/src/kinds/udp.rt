@@ -1,13 +1,12 @@
 //! UDP sockets.
+use crate::cases::all_live;
 use crate::kinds::common::{queue, zeros};
-use crate::kinds::script::Step::{Anew, Offers, Shows, Silent, Udp};
-use crate::kinds::script::{Kind, Shown, Step, play};
+use crate::kinds::script::Step::{Offers, Shows, Silent, Udp};
+use crate::kinds::script::{Carried, Kind, Played, Shown};
 use ip_wire::{IpAddress, IpEndpoint, IpProtocol, IpRepr, Ipv4Address, Ipv6Address, UdpRepr};
 use net_base::PacketMeta;
-use sockets::IpPayload;
 use sockets::udp::{BindError, RecvError, SendError, Socket, UdpMetadata};
-use std::alloc::Global;
-use std::test::Fail;
+use std::alloc::{AllocError, Global};
 
 /// A call of a UDP socket with its answer. What is sent goes to port 53.
 pub enum Call {
@@ -34,12 +33,12 @@ pub enum Call {
 
 use Call::{Bind, CanReceive, Comes, Peek, PeekSlice, Queued, Read, ReadSlice, SendMany, Write};
 
-pub fn made(alloc: Global, room: usize) -> Result<Socket, Fail> {
+pub fn made(alloc: Global, room: usize) -> Result<Socket, AllocError> {
     Ok(Socket::new(queue(alloc, room)?, queue(alloc, room)?))
 }
 
 /// Whether a call is answered as it says.
-pub fn goes(alloc: Global, socket: &mut Socket, call: &Call) -> Result<bool, Fail> {
+pub fn goes(alloc: Global, socket: &mut Socket, call: &Call) -> Result<bool, AllocError> {
     match call {
         Bind(port, answer) => Ok(bind(socket, *port) == *answer),
         Call::Send(bytes, remote, answer) => Ok(send(socket, bytes, *remote) == *answer),
@@ -133,75 +132,99 @@ const FROM_V4: UdpMetadata = UdpMetadata {
     meta: PacketMeta {},
 };
 
-const PORTS: UdpRepr = UdpRepr {
-    src_port: 48896,
-    dst_port: 53,
-};
-
 /// The packets in which these bytes go to 192.168.1.2.
 pub const ABC: Shown = Shown {
     hops: 64,
     destination: V4,
     protocol: IpProtocol::Udp,
     length: 11,
-    payload: IpPayload::Udp(PORTS, b"abc"),
+    payload: Carried::Udp(48896, 53, b"abc"),
 };
 
-const READING: [Step; 15] = [
-    Udp(Comes),
-    Udp(PeekSlice(Err(RecvError::Truncated), &[0; 4])),
-    Udp(ReadSlice(Err(RecvError::Truncated), &[0; 4])),
-    Udp(PeekSlice(Err(RecvError::Exhausted), &[0; 4])),
-    Udp(CanReceive(false)),
-    Anew(Kind::Udp(64)),
-    Udp(Comes),
-    Udp(Peek(Ok((b"abcdef", FROM_V4)))),
-    Udp(ReadSlice(Ok((6, FROM_V4)), b"abcdef\0\0")),
-    Udp(CanReceive(false)),
-    Anew(Kind::Udp(64)),
-    Udp(Read(Err(RecvError::Exhausted))),
-    Udp(Comes),
-    Udp(Read(Ok((b"abcdef", FROM_V4)))),
-    Udp(CanReceive(false)),
-];
-
 /// A short slice truncates, a longer one keeps its end, and a datagram is lent once.
-#[test]
-fn datagrams_are_read_and_lent(rt: HostRuntime) -> Result<(), Fail> {
-    play(rt.alloc(), &Kind::Udp(64), &READING)
-}
+const READING: [Played; 3] = [
+    Played(
+        Kind::Udp(64),
+        &[
+            Udp(Comes),
+            Udp(PeekSlice(Err(RecvError::Truncated), &[0; 4])),
+            Udp(ReadSlice(Err(RecvError::Truncated), &[0; 4])),
+            Udp(PeekSlice(Err(RecvError::Exhausted), &[0; 4])),
+            Udp(CanReceive(false)),
+        ],
+    ),
+    Played(
+        Kind::Udp(64),
+        &[
+            Udp(Comes),
+            Udp(Peek(Ok((b"abcdef", FROM_V4)))),
+            Udp(ReadSlice(Ok((6, FROM_V4)), b"abcdef\0\0")),
+            Udp(CanReceive(false)),
+        ],
+    ),
+    Played(
+        Kind::Udp(64),
+        &[
+            Udp(Read(Err(RecvError::Exhausted))),
+            Udp(Comes),
+            Udp(Read(Ok((b"abcdef", FROM_V4)))),
+            Udp(CanReceive(false)),
+        ],
+    ),
+];
 
-const ROOM: [Step; 8] = [
-    Udp(Write(b"abc", Err(SendError::Unaddressable))),
-    Udp(Bind(48896, Ok(()))),
-    Udp(Write(&[0; 7], Err(SendError::BufferFull))),
-    Anew(Kind::Udp(6)),
-    Udp(Bind(48896, Ok(()))),
-    Udp(Write(b"abc", Ok(()))),
-    Udp(Queued(3)),
-    Shows(ABC),
+/// A lent room is refused or queued.
+const ROOM: [Played; 2] = [
+    Played(
+        Kind::Udp(6),
+        &[
+            Udp(Write(b"abc", Err(SendError::Unaddressable))),
+            Udp(Bind(48896, Ok(()))),
+            Udp(Write(&[0; 7], Err(SendError::BufferFull))),
+        ],
+    ),
+    Played(
+        Kind::Udp(6),
+        &[
+            Udp(Bind(48896, Ok(()))),
+            Udp(Write(b"abc", Ok(()))),
+            Udp(Queued(3)),
+            Shows(ABC),
+        ],
+    ),
+];
+
+/// What no length holds is dropped.
+const TOO_LONG: [Played; 3] = [
+    Played(
+        Kind::Udp(65_536),
+        &[
+            Udp(Bind(48896, Ok(()))),
+            Udp(SendMany(65_508, V4, Ok(()))),
+            Silent(true),
+        ],
+    ),
+    Played(
+        Kind::Udp(65_536),
+        &[
+            Udp(Bind(48896, Ok(()))),
+            Udp(SendMany(65_508, V6, Ok(()))),
+            Offers,
+        ],
+    ),
+    Played(
+        Kind::Udp(65_536),
+        &[
+            Udp(Bind(48896, Ok(()))),
+            Udp(SendMany(65_507, V4, Ok(()))),
+            Offers,
+        ],
+    ),
 ];
 
 #[test]
-fn a_lent_room_is_refused_or_queued(rt: HostRuntime) -> Result<(), Fail> {
-    play(rt.alloc(), &Kind::Udp(6), &ROOM)
-}
-
-const TOO_LONG: [Step; 11] = [
-    Udp(Bind(48896, Ok(()))),
-    Udp(SendMany(65_508, V4, Ok(()))),
-    Silent(true),
-    Anew(Kind::Udp(65_536)),
-    Udp(Bind(48896, Ok(()))),
-    Udp(SendMany(65_508, V6, Ok(()))),
-    Offers,
-    Anew(Kind::Udp(65_536)),
-    Udp(Bind(48896, Ok(()))),
-    Udp(SendMany(65_507, V4, Ok(()))),
-    Offers,
-];
-
-#[test]
-fn what_no_length_holds_is_dropped(rt: HostRuntime) -> Result<(), Fail> {
-    play(rt.alloc(), &Kind::Udp(65_536), &TOO_LONG)
+fn datagrams_are_read_queued_and_dropped(rt: HostRuntime) {
+    all_live(&rt, &READING);
+    all_live(&rt, &ROOM);
+    all_live(&rt, &TOO_LONG);
 }

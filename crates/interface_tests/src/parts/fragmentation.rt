@@ -1,135 +1,194 @@
 //! Tests of datagrams that are put together from pieces.
+use crate::cases::{Goes, Life, all_live, first_wrong};
 use interface_tables::{AssemblerError, PacketAssembler, PacketAssemblerSet};
 use ip_wire::{IpProtocol, Ipv4Address, Ipv4FragKey};
 use net_base::Instant;
-use std::alloc::AllocError;
+use std::alloc::Global;
 
 type Assembler = PacketAssembler<u8, 16, 4>;
 
-/// Bytes that come again overwrite those that came before.
-#[test]
-fn overlapping_pieces(rt: HostRuntime) {
-    let mut packet: Assembler = PacketAssembler::new();
-    assert!(rt; packet.set_total_size(5).is_ok());
-    assert!(rt; packet.add(b"Rust", 0).is_ok());
-    assert!(rt; !packet.is_complete());
-    assert!(rt; packet.add(b"Rust", 1).is_ok());
-    assert!(rt; packet.completed() == Some(b"RRust".as_slice()));
+type Answer = Result<(), AssemblerError>;
+
+/// A call of a slot, and what it must answer.
+enum Step {
+    /// Bytes come, from this place on.
+    Adds(&'static [u8], usize, Answer),
+    /// The same, and more is to come behind them, or not.
+    Inserts(&'static [u8], usize, bool),
+    HasSize(usize, Answer),
+    IsComplete(bool),
+    Completed(Option<&'static [u8]>),
+    Resets,
 }
 
-/// A piece past the slot's bytes is refused.
-#[test]
-fn pieces_past_the_slot(rt: HostRuntime) {
-    let mut packet: Assembler = PacketAssembler::new();
-    assert!(rt; packet.add(b"Rust", 14) == Err(AssemblerError));
-    assert!(rt; packet.add(b"Rust", usize::MAX) == Err(AssemblerError));
-    assert!(rt; packet.set_total_size(17) == Err(AssemblerError));
-}
+use Step::{Adds, Completed, HasSize, Inserts, IsComplete, Resets};
 
-#[test]
-fn pieces_in_any_order(rt: HostRuntime) {
-    let mut packet: Assembler = PacketAssembler::new();
-    assert!(rt; packet.add(b" is", 6).is_ok());
-    assert!(rt; packet.add(b"Hello!", 0).is_ok());
-    assert!(rt; packet.completed().is_none());
-    assert!(rt; packet.set_total_size(9).is_ok());
-    assert!(rt; packet.completed() == Some(b"Hello! is".as_slice()));
-}
-
-#[test]
-fn one_size_counts(rt: HostRuntime) {
-    let mut packet: Assembler = PacketAssembler::new();
-    assert!(rt; packet.add(b"Hello! is", 0).is_ok());
-    assert!(rt; packet.set_total_size(9).is_ok());
-    assert!(rt; packet.set_total_size(8) == Err(AssemblerError));
-    assert!(rt; packet.is_complete());
-    packet.reset();
-    assert!(rt; packet.completed().is_none());
-}
-
-/// A piece that would leave a fifth run is written and not marked.
-#[test]
-fn too_many_runs(rt: HostRuntime) {
-    let mut packet: Assembler = PacketAssembler::new();
-    for at in 0..5usize {
-        assert!(rt; packet.insert(b"x", 2 * at + 1, true).is_ok());
-    }
-    assert!(rt; packet.insert(b"abcdefghij", 0, true).is_ok());
-    assert!(rt; packet.insert(b"kl", 10, false).is_ok());
-    assert!(rt; packet.completed() == Some(b"abcdefghijkl".as_slice()));
-}
-
-fn key(id: u16, protocol: IpProtocol) -> Ipv4FragKey {
-    Ipv4FragKey {
-        id,
-        src_addr: Ipv4Address([10, 0, 0, 1]),
-        dst_addr: Ipv4Address([10, 0, 0, 2]),
-        protocol,
+impl Goes<Assembler> for Step {
+    fn goes(&self, _alloc: Global, packet: &mut Assembler) -> bool {
+        match self {
+            Adds(bytes, at, answer) => packet.add(bytes, *at) == *answer,
+            Inserts(bytes, at, more) => packet.insert(bytes, *at, *more).is_ok(),
+            HasSize(size, answer) => packet.set_total_size(*size) == *answer,
+            _ => says(packet, self),
+        }
     }
 }
 
-/// At a moment of so many microseconds two bytes of a datagram come, and more are to come.
-fn begins(set: &mut PacketAssemblerSet<2>, key: &Ipv4FragKey, micros: u8) -> Option<usize> {
-    set.insert(key, Instant::from_micros(i64::from(micros)), b"ab", 0, true)
+/// Whether the bytes are these, or both are none.
+fn is_same(found: Option<&[u8]>, wanted: Option<&[u8]>) -> bool {
+    match (found, wanted) {
+        (Some(found), Some(wanted)) => found == wanted,
+        (None, None) => true,
+        _ => false,
+    }
 }
 
-/// A slot for each datagram, also where only the protocol differs: a third one finds none.
-#[test]
-fn slots_are_taken(rt: HostRuntime) -> Result<(), AllocError> {
-    let mut set: PacketAssemblerSet<2> = PacketAssemblerSet::new(rt.alloc())?;
-    let three = key(2, IpProtocol::Udp);
-    assert!(rt; begins(&mut set, &key(1, IpProtocol::Udp), 60) == Some(0));
-    assert!(rt; begins(&mut set, &key(1, IpProtocol::Tcp), 60) == Some(1));
-    assert!(rt; begins(&mut set, &three, 60).is_none());
-    assert!(rt; set.get(&three, Instant::from_micros(60)).is_err());
-    Ok(())
+/// The same of a step that asks, or resets.
+fn says(packet: &mut Assembler, step: &Step) -> bool {
+    match step {
+        IsComplete(answer) => packet.is_complete() == *answer,
+        Completed(bytes) => is_same(packet.completed(), *bytes),
+        Resets => {
+            packet.reset();
+            true
+        }
+        _ => false,
+    }
 }
 
-/// One datagram is whole, and gives up its slot.
-#[test]
-fn a_slot_is_given_up(rt: HostRuntime) -> Result<(), AllocError> {
-    let mut set: PacketAssemblerSet<2> = PacketAssemblerSet::new(rt.alloc())?;
-    let (one, two) = (key(1, IpProtocol::Udp), key(1, IpProtocol::Tcp));
-    assert!(rt; begins(&mut set, &one, 60) == Some(0));
-    assert!(rt; begins(&mut set, &two, 60) == Some(1));
-    let whole = set.insert(&one, Instant::from_micros(60), b"cd", 2, false);
-    assert!(rt; whole == Some(0));
-    assert!(rt; set.completed(0) == Some(b"abcd".as_slice()));
-    assert!(rt; set.completed(1).is_none());
-    set.free(0);
-    assert!(rt; begins(&mut set, &key(2, IpProtocol::Udp), 70) == Some(0));
-    Ok(())
+/// A slot, from its beginning on.
+struct Slot(&'static [Step]);
+
+impl Life for Slot {
+    fn stops_at(&self, alloc: Global) -> Option<usize> {
+        let mut packet: Assembler = PacketAssembler::new();
+        first_wrong(alloc, &mut packet, self.0)
+    }
 }
 
-/// A slot is given up when its moment is over.
+const SLOTS: [Slot; 5] = [
+    // Bytes that come again overwrite those that came before.
+    Slot(&[
+        HasSize(5, Ok(())),
+        Adds(b"Rust", 0, Ok(())),
+        IsComplete(false),
+        Adds(b"Rust", 1, Ok(())),
+        Completed(Some(b"RRust")),
+    ]),
+    // A piece past the slot's bytes is refused.
+    Slot(&[
+        Adds(b"Rust", 14, Err(AssemblerError)),
+        Adds(b"Rust", usize::MAX, Err(AssemblerError)),
+        HasSize(17, Err(AssemblerError)),
+    ]),
+    // Pieces come in any order.
+    Slot(&[
+        Adds(b" is", 6, Ok(())),
+        Adds(b"Hello!", 0, Ok(())),
+        Completed(None),
+        HasSize(9, Ok(())),
+        Completed(Some(b"Hello! is")),
+    ]),
+    // One size counts.
+    Slot(&[
+        Adds(b"Hello! is", 0, Ok(())),
+        HasSize(9, Ok(())),
+        HasSize(8, Err(AssemblerError)),
+        IsComplete(true),
+        Resets,
+        Completed(None),
+    ]),
+    // A piece that would leave a fifth run is written and not marked.
+    Slot(&[
+        Inserts(b"x", 1, true),
+        Inserts(b"x", 3, true),
+        Inserts(b"x", 5, true),
+        Inserts(b"x", 7, true),
+        Inserts(b"x", 9, true),
+        Inserts(b"abcdefghij", 0, true),
+        Inserts(b"kl", 10, false),
+        Completed(Some(b"abcdefghijkl")),
+    ]),
+];
+
 #[test]
-fn a_slot_expires(rt: HostRuntime) -> Result<(), AllocError> {
-    let mut set: PacketAssemblerSet<2> = PacketAssemblerSet::new(rt.alloc())?;
-    let one = key(1, IpProtocol::Udp);
-    assert!(rt; begins(&mut set, &key(2, IpProtocol::Udp), 70) == Some(0));
-    assert!(rt; begins(&mut set, &key(1, IpProtocol::Tcp), 60) == Some(1));
-    set.remove_expired(Instant::from_micros(60));
-    assert!(rt; begins(&mut set, &one, 60).is_none());
-    set.remove_expired(Instant::from_micros(61));
-    assert!(rt; begins(&mut set, &one, 60) == Some(1));
-    Ok(())
+fn slots_live(rt: HostRuntime) {
+    all_live(&rt, &SLOTS);
 }
 
-/// A piece past the slot's bytes is refused, and leaves the slot taken.
-#[test]
-fn a_refused_piece_takes_a_slot(rt: HostRuntime) -> Result<(), AllocError> {
-    let mut set: PacketAssemblerSet<1> = PacketAssemblerSet::new(rt.alloc())?;
-    let (one, two) = (key(1, IpProtocol::Udp), key(2, IpProtocol::Udp));
-    let refused = set.insert(&one, Instant::ZERO, b"ab", 4095, false);
-    assert!(rt; refused == Some(0));
-    let second = set.insert(&two, Instant::ZERO, b"ab", 0, false);
-    assert!(rt; second.is_none());
-    Ok(())
+/// A datagram from 10.0.0.1 to 10.0.0.2.
+const ONE: Ipv4FragKey = Ipv4FragKey {
+    id: 1,
+    src_addr: Ipv4Address([10, 0, 0, 1]),
+    dst_addr: Ipv4Address([10, 0, 0, 2]),
+    protocol: IpProtocol::Udp,
+};
+
+const ONE_OF_TCP: Ipv4FragKey = Ipv4FragKey {
+    protocol: IpProtocol::Tcp,
+    ..ONE
+};
+
+const ZERO: Ipv4FragKey = Ipv4FragKey { id: 0, ..ONE };
+
+const TWO: Ipv4FragKey = Ipv4FragKey { id: 2, ..ONE };
+
+/// A call of slots, and what it must answer. A moment is so many microseconds after the start.
+enum Call {
+    /// At a moment the first two bytes of a datagram come: which slot has it.
+    Begins(Ipv4FragKey, u8, Option<usize>),
+    /// At a moment bytes of a datagram come, from this place on, the last ones.
+    Ends(Ipv4FragKey, u8, &'static [u8], usize, Option<usize>),
+    /// At a moment there is no slot for a datagram.
+    HasNone(Ipv4FragKey, u8),
+    /// The datagram of a slot, if it is whole.
+    Holds(usize, Option<&'static [u8]>),
+    Frees(usize),
+    /// A moment comes.
+    Expires(u8),
+    /// A datagram of no bytes is put together.
+    Assembles(Ipv4FragKey),
+}
+
+use Call::{Assembles, Begins, Ends, Expires, Frees, HasNone, Holds};
+
+fn at(micros: u8) -> Instant {
+    Instant::from_micros(i64::from(micros))
+}
+
+impl<const N: usize> Goes<PacketAssemblerSet<N>> for Call {
+    fn goes(&self, _alloc: Global, set: &mut PacketAssemblerSet<N>) -> bool {
+        match self {
+            Begins(key, micros, slot) => set.insert(key, at(*micros), b"ab", 0, true) == *slot,
+            Ends(key, micros, bytes, from, slot) => {
+                set.insert(key, at(*micros), bytes, *from, false) == *slot
+            }
+            HasNone(key, micros) => set.get(key, at(*micros)).is_err(),
+            Holds(slot, bytes) => is_same(set.completed(*slot), *bytes),
+            _ => changes(set, self),
+        }
+    }
+}
+
+/// The same of a call that answers nothing.
+fn changes<const N: usize>(set: &mut PacketAssemblerSet<N>, call: &Call) -> bool {
+    match call {
+        Frees(slot) if *slot < N => {
+            set.free(*slot);
+            true
+        }
+        Expires(micros) => {
+            set.remove_expired(at(*micros));
+            true
+        }
+        Assembles(key) => assembles(set, key),
+        _ => false,
+    }
 }
 
 /// Whether a datagram of no bytes is put together.
-fn assembles(set: &mut PacketAssemblerSet<1>, id: u16) -> bool {
-    match set.get(&key(id, IpProtocol::Udp), Instant::ZERO) {
+fn assembles<const N: usize>(set: &mut PacketAssemblerSet<N>, key: &Ipv4FragKey) -> bool {
+    match set.get(key, Instant::ZERO) {
         Ok(slot) => {
             slot.assemble().is_none()
                 && slot.set_total_size(0).is_ok()
@@ -139,12 +198,59 @@ fn assembles(set: &mut PacketAssemblerSet<1>, id: u16) -> bool {
     }
 }
 
-/// What was put together is gone: the slot begins anew.
-#[test]
-fn assembles_many(rt: HostRuntime) -> Result<(), AllocError> {
-    let mut set: PacketAssemblerSet<1> = PacketAssemblerSet::new(rt.alloc())?;
-    for id in [0, 0, 1] {
-        assert!(rt; assembles(&mut set, id));
+/// So many slots, from their beginning on.
+struct Slots<const N: usize>(&'static [Call]);
+
+impl<const N: usize> Life for Slots<N> {
+    fn stops_at(&self, alloc: Global) -> Option<usize> {
+        match PacketAssemblerSet::<N>::new(alloc) {
+            Ok(mut set) => first_wrong(alloc, &mut set, self.0),
+            Err(_) => Some(0),
+        }
     }
-    Ok(())
+}
+
+const OF_TWO: [Slots<2>; 3] = [
+    // A slot for each datagram, also where only the protocol differs: a third one finds none.
+    Slots(&[
+        Begins(ONE, 60, Some(0)),
+        Begins(ONE_OF_TCP, 60, Some(1)),
+        Begins(TWO, 60, None),
+        HasNone(TWO, 60),
+    ]),
+    // One datagram is whole, and gives up its slot.
+    Slots(&[
+        Begins(ONE, 60, Some(0)),
+        Begins(ONE_OF_TCP, 60, Some(1)),
+        Ends(ONE, 60, b"cd", 2, Some(0)),
+        Holds(0, Some(b"abcd")),
+        Holds(1, None),
+        Frees(0),
+        Begins(TWO, 70, Some(0)),
+    ]),
+    // A slot is given up when its moment is over.
+    Slots(&[
+        Begins(TWO, 70, Some(0)),
+        Begins(ONE_OF_TCP, 60, Some(1)),
+        Expires(60),
+        Begins(ONE, 60, None),
+        Expires(61),
+        Begins(ONE, 60, Some(1)),
+    ]),
+];
+
+const OF_ONE: [Slots<1>; 2] = [
+    // A piece past the slot's bytes is refused, and leaves the slot taken.
+    Slots(&[
+        Ends(ONE, 0, b"ab", 4095, Some(0)),
+        Ends(TWO, 0, b"ab", 0, None),
+    ]),
+    // What was put together is gone: the slot begins anew.
+    Slots(&[Assembles(ZERO), Assembles(ZERO), Assembles(ONE)]),
+];
+
+#[test]
+fn sets_of_slots_live(rt: HostRuntime) {
+    all_live(&rt, &OF_TWO);
+    all_live(&rt, &OF_ONE);
 }

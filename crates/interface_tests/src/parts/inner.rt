@@ -15,15 +15,20 @@ fn host() -> Result<InterfaceInner, Fail> {
     Ok(InterfaceInner::new(&config, &device, Instant::ZERO).map_err(|_| "a host")?)
 }
 
+/// The first number, the 65,533rd, and the one that follows.
+fn numbers(host: &mut InterfaceInner) -> (u16, u16, u16) {
+    let first = host.take_ident();
+    for _ in 4..65_535u32 {
+        let _ = host.take_ident();
+    }
+    let last = host.take_ident();
+    (first, last, host.ident())
+}
+
 /// The first of seed 0 is 3, by PCG XSH RS with these constants; 65,535 is followed by 0.
 #[test]
 fn numbers_datagrams(rt: HostRuntime) -> Result<(), Fail> {
     let mut host = host()?;
-    assert!(rt; host.take_ident() == 3);
-    for _ in 4..65_535u32 {
-        let _ = host.take_ident();
-    }
-    assert!(rt; host.take_ident() == 65_535);
-    assert!(rt; host.ident() == 0);
+    assert!(rt; numbers(&mut host) == (3, 65_535, 0));
     Ok(())
 }

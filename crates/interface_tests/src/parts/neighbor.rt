@@ -1,45 +1,96 @@
 //! What a cache of neighbours has beside what a host asks of it.
+ghost use Rattle.net_base.specs.Time.{IsMoment};
+
+use crate::cases::{Goes, Life, all, all_live, first_wrong};
 use interface_tables::{Answer, Cache};
 use ip_wire::{EthernetAddress, HardwareAddress, IpAddress};
 use net_base::{Duration, Instant};
+use std::alloc::Global;
 
 const HARDWARE_A: HardwareAddress = HardwareAddress::Ethernet(EthernetAddress([0, 0, 0, 0, 0, 1]));
 
 const HARDWARE_B: HardwareAddress = HardwareAddress::Ethernet(EthernetAddress([0, 0, 0, 0, 0, 2]));
 
+/// So many microseconds after the start.
+fn at(micros: u32) -> Instant
+    ensures { IsMoment result }
+{
+    Instant::from_micros(i64::from(micros))
+}
+
 fn host(last: u8) -> IpAddress {
     IpAddress::v4(10, 0, 0, last)
 }
 
-/// Whether the neighbour is found at this moment, with this hardware address.
-fn finds<const N: usize>(cache: &Cache<N>, last: u8, now: Instant, found: HardwareAddress) -> bool {
-    cache.lookup(&host(last), now) == Answer::Found(found)
+/// A call about the neighbour whose address ends so, at so many microseconds, and what it must answer.
+enum Step {
+    /// It is known until then.
+    Fills(u8, u32, HardwareAddress),
+    /// It is heard again.
+    Renews(u8, u32, HardwareAddress),
+    /// It is found.
+    Finds(u8, u32, HardwareAddress),
+    /// It isn't found.
+    Misses(u8, u32),
 }
 
-/// Whether the neighbour isn't found at this moment.
-fn misses<const N: usize>(cache: &Cache<N>, last: u8, now: Instant) -> bool {
-    cache.lookup(&host(last), now) == Answer::NotFound
+use Step::{Fills, Finds, Misses, Renews};
+
+impl Goes<Cache<4>> for Step {
+    fn goes(&self, _alloc: Global, cache: &mut Cache<4>) -> bool {
+        match self {
+            Fills(last, until, hardware) => {
+                cache.fill_with_expiration(host(*last), *hardware, at(*until));
+                true
+            }
+            Renews(last, now, hardware) => {
+                cache.reset_expiry_if_existing(host(*last), *hardware, at(*now));
+                true
+            }
+            Finds(last, now, hardware) => {
+                cache.lookup(&host(*last), at(*now)) == Answer::Found(*hardware)
+            }
+            Misses(last, now) => cache.lookup(&host(*last), at(*now)) == Answer::NotFound,
+        }
+    }
+}
+
+/// A cache, from its beginning on.
+struct Cached(&'static [Step]);
+
+impl Life for Cached {
+    fn stops_at(&self, alloc: Global) -> Option<usize> {
+        let mut cache: Cache<4> = Cache::new();
+        first_wrong(alloc, &mut cache, self.0)
+    }
 }
 
 /// An expiry of its own, and a renewal for the same hardware address alone.
+const RENEWED: Cached = Cached(&[
+    Fills(1, 1_000, HARDWARE_A),
+    Misses(1, 1_000),
+    Renews(1, 1_000, HARDWARE_B),
+    Misses(1, 1_000),
+    Renews(1, 1_000, HARDWARE_A),
+    Finds(1, 1_000, HARDWARE_A),
+    Finds(1, 60_000_999, HARDWARE_A),
+    Renews(2, 1_000, HARDWARE_A),
+    Misses(2, 1_000),
+]);
+
 #[test]
 fn renews(rt: HostRuntime) {
-    let mut cache: Cache<4> = Cache::new();
-    let soon = Instant::from_micros(1_000);
-    cache.fill_with_expiration(host(1), HARDWARE_A, soon);
-    assert!(rt; misses(&cache, 1, soon));
-    cache.reset_expiry_if_existing(host(1), HARDWARE_B, soon);
-    assert!(rt; misses(&cache, 1, soon));
-    cache.reset_expiry_if_existing(host(1), HARDWARE_A, soon);
-    assert!(rt; finds(&cache, 1, soon, HARDWARE_A));
-    let last = Instant::from_micros(60_000_999);
-    assert!(rt; finds(&cache, 1, last, HARDWARE_A));
-    cache.reset_expiry_if_existing(host(2), HARDWARE_A, soon);
-    assert!(rt; misses(&cache, 2, soon));
+    all_live(&rt, &[RENEWED]);
 }
 
 #[test]
 fn times_are_a_second_and_a_minute(rt: HostRuntime) {
-    assert!(rt; Cache::<4>::SILENT_TIME == Duration::from_micros(1_000_000));
-    assert!(rt; Cache::<4>::ENTRY_LIFETIME == Duration::from_micros(60_000_000));
+    let (silent, lifetime) = (Cache::<4>::SILENT_TIME, Cache::<4>::ENTRY_LIFETIME);
+    all(
+        &rt,
+        &[
+            silent == Duration::from_micros(1_000_000),
+            lifetime == Duration::from_micros(60_000_000),
+        ],
+    );
 }

@@ -1,7 +1,12 @@
 //! Default routes.
+use crate::cases::{Goes, Life, all_live, first_wrong};
 use interface_tables::{Route, Routes};
 use ip_wire::{IpAddress, Ipv4Address, Ipv6Address};
-use std::test::Fail;
+use std::alloc::Global;
+
+const ROUTER4: Ipv4Address = Ipv4Address([192, 168, 1, 1]);
+
+const ROUTER6: Ipv6Address = Ipv6Address([0xfd, 0, 0, 0, 0, 0, 0, 0, 0, 0, 0, 0, 0, 0, 0, 1]);
 
 /// The router of a route.
 fn router(route: Option<Route>) -> Option<IpAddress> {
@@ -11,27 +16,70 @@ fn router(route: Option<Route>) -> Option<IpAddress> {
     }
 }
 
-/// Which routers the default routes lead to, of each family.
-fn defaults(routes: &Routes<2>) -> (Option<IpAddress>, Option<IpAddress>) {
-    (
-        router(routes.get_default_ipv4_route()),
-        router(routes.get_default_ipv6_route()),
-    )
+/// A call of a table of routes, and what it must answer.
+enum Step {
+    Adds4(Ipv4Address),
+    Adds6(Ipv6Address),
+    Removes6,
+    /// The router of the default route of IPv4.
+    Leads4(Option<IpAddress>),
+    /// The same of IPv6.
+    Leads6(Option<IpAddress>),
 }
 
+use Step::{Adds4, Adds6, Leads4, Leads6, Removes6};
+
+impl Goes<Routes<2>> for Step {
+    fn goes(&self, _alloc: Global, routes: &mut Routes<2>) -> bool {
+        match self {
+            Adds4(address) => {
+                let _ = routes.add_default_ipv4_route(*address);
+                true
+            }
+            Adds6(address) => {
+                let _ = routes.add_default_ipv6_route(*address);
+                true
+            }
+            Removes6 => {
+                let _ = routes.remove_default_ipv6_route();
+                true
+            }
+            Leads4(answer) => router(routes.get_default_ipv4_route()) == *answer,
+            Leads6(answer) => router(routes.get_default_ipv6_route()) == *answer,
+        }
+    }
+}
+
+/// A table of routes, from its beginning on.
+struct Table(&'static [Step]);
+
+impl Life for Table {
+    fn stops_at(&self, alloc: Global) -> Option<usize> {
+        let mut routes: Routes<2> = Routes::new();
+        first_wrong(alloc, &mut routes, self.0)
+    }
+}
+
+const V4: Option<IpAddress> = Some(IpAddress::Ipv4(ROUTER4));
+
+const V6: Option<IpAddress> = Some(IpAddress::Ipv6(ROUTER6));
+
 /// Each family has one of its own, which another one of the family replaces.
+const DEFAULTS: Table = Table(&[
+    Leads4(None),
+    Leads6(None),
+    Adds6(ROUTER6),
+    Leads4(None),
+    Leads6(V6),
+    Adds4(ROUTER4),
+    Leads4(V4),
+    Leads6(V6),
+    Removes6,
+    Leads4(V4),
+    Leads6(None),
+]);
+
 #[test]
-fn tells_default_routes(rt: HostRuntime) -> Result<(), Fail> {
-    let v4 = Ipv4Address::new(192, 168, 1, 1);
-    let v6 = Ipv6Address::new(0xfd00, 0, 0, 0, 0, 0, 0, 1);
-    let (router4, router6) = (Some(IpAddress::Ipv4(v4)), Some(IpAddress::Ipv6(v6)));
-    let mut routes: Routes<2> = Routes::new();
-    assert!(rt; defaults(&routes) == (None, None));
-    let _ = routes.add_default_ipv6_route(v6);
-    assert!(rt; defaults(&routes) == (None, router6));
-    let _ = routes.add_default_ipv4_route(v4);
-    assert!(rt; defaults(&routes) == (router4, router6));
-    let _ = routes.remove_default_ipv6_route();
-    assert!(rt; defaults(&routes) == (router4, None));
-    Ok(())
+fn tells_default_routes(rt: HostRuntime) {
+    all_live(&rt, &[DEFAULTS]);
 }

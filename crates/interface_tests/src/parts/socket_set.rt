@@ -1,177 +1,321 @@
 //! Tests of a host's set of sockets.
+use crate::cases::{Goes, Life, all_live, first_wrong};
 use interface_egress::{AddError, SocketHandle, SocketSet, SocketStorage};
 use net_base::ManagedSlice;
-use std::alloc::AllocError;
-use std::process::Abort;
+use std::alloc::Global;
 
 type Sockets = SocketSet<u32>;
 
-/// The handle of a socket that was added.
-fn added(rt: &impl Abort, set: &mut Sockets, socket: u32) -> SocketHandle {
-    set.add(socket).ok().expect(rt, "a place")
+/// A call of a set, and what it must answer. A handle is named by its place.
+enum Step {
+    /// This socket is added, at this place.
+    Adds(u32, usize),
+    /// This socket comes back.
+    Refuses(u32),
+    /// This socket is added, and its handle is printed so.
+    Prints(u32, &'static str),
+    /// The socket of this place is removed.
+    Removes(usize, Option<u32>),
+    Holds(usize, Option<u32>),
+    /// The used places in order with their sockets, and the end.
+    Lists(&'static [(usize, u32)]),
+    /// The used places in order, and the end.
+    Handles(&'static [usize]),
+    /// Each socket is lent and gets ten more, and the places are these digits.
+    AddsTen(usize),
+    /// A loop puts its place into each socket.
+    WritesPlaces,
+    /// A loop reads the sockets, which are these digits.
+    HasDigits(u32),
+    /// The socket of this place is lent, is the first number, and becomes the second.
+    Lends(usize, u32, u32),
+    /// There is nothing to lend at this place.
+    LendsNone(usize),
+    /// The socket of this place is updated and becomes 1. What it was.
+    Updates(usize, Option<u32>),
 }
 
-fn holds(set: &Sockets, handle: SocketHandle, socket: Option<u32>) -> bool {
-    set.get(handle).copied() == socket
-}
+use Step::{
+    Adds, AddsTen, Handles, HasDigits, Holds, Lends, LendsNone, Lists, Prints, Refuses, Removes,
+    Updates, WritesPlaces,
+};
 
-fn one_place(rt: &HostRuntime) -> Result<Sockets, AllocError> {
-    let storage = Vec::from_array(rt.alloc(), [SocketStorage { inner: None }])?;
-    Ok(SocketSet::new(ManagedSlice::Fixed(storage)))
-}
-
-/// A set of one place: a second socket comes back.
-#[test]
-fn fixed_storage_is_full(rt: HostRuntime) -> Result<(), AllocError> {
-    let mut set = one_place(&rt)?;
-    let first = added(&rt, &mut set, 7);
-    assert!(rt; first.place() == 0);
-    assert!(rt; matches!(set.add(8), Err(AddError::Full(8))));
-    assert!(rt; holds(&set, first, Some(7)));
-    Ok(())
-}
-
-#[test]
-fn a_removed_socket_is_gone(rt: HostRuntime) -> Result<(), AllocError> {
-    let mut set = one_place(&rt)?;
-    let first = added(&rt, &mut set, 7);
-    assert!(rt; set.remove(first) == Some(7));
-    assert!(rt; set.remove(first).is_none());
-    assert!(rt; holds(&set, first, None));
-    Ok(())
-}
-
-#[test]
-fn a_handle_is_printed_by_its_place(rt: HostRuntime) -> Result<(), AllocError> {
-    let mut set = one_place(&rt)?;
-    let text = added(&rt, &mut set, 7).to_string(rt.alloc())?;
-    assert!(rt; text.as_str() == "#0");
-    Ok(())
-}
-
-/// The handle of a place is the one that a socket there has.
-#[test]
-fn a_place_has_its_handle(rt: HostRuntime) -> Result<(), AllocError> {
-    let mut set = one_place(&rt)?;
-    assert!(rt; added(&rt, &mut set, 7) == SocketHandle::at(0));
-    assert!(rt; holds(&set, SocketHandle::at(0), Some(7)));
-    assert!(rt; holds(&set, SocketHandle::at(1), None));
-    Ok(())
-}
-
-/// Storage that grows; a place that becomes free is taken first.
-#[test]
-fn owned_storage_grows(rt: HostRuntime) {
-    let mut set: Sockets = SocketSet::new(ManagedSlice::Owned(Vec::new(rt.alloc())));
-    let (first, second) = (added(&rt, &mut set, 7), added(&rt, &mut set, 8));
-    assert!(rt; first.place() == 0 && second.place() == 1);
-    assert!(rt; set.remove(first) == Some(7));
-    let third = added(&rt, &mut set, 9);
-    assert!(rt; third.place() == 0);
-    assert!(rt; holds(&set, second, Some(8)));
-    assert!(rt; holds(&set, third, Some(9)));
-}
-
-/// Sockets 7 and 9, with an unused place between them.
-#[derive(Drop)]
-struct TwoSockets {
-    set: Sockets,
-    first: SocketHandle,
-    unused: SocketHandle,
-    last: SocketHandle,
-}
-
-fn apart(rt: &(impl Abort + AllocGlobal)) -> TwoSockets {
-    let mut set: Sockets = SocketSet::new(ManagedSlice::Owned(Vec::new(rt.alloc())));
-    let first = added(rt, &mut set, 7);
-    let unused = added(rt, &mut set, 8);
-    let last = added(rt, &mut set, 9);
-    assert!(rt; set.remove(unused) == Some(8));
-    TwoSockets {
-        set,
-        first,
-        unused,
-        last,
+impl Goes<Sockets> for Step {
+    fn goes(&self, alloc: Global, set: &mut Sockets) -> bool {
+        match self {
+            Adds(socket, place) => adds(set, *socket, *place),
+            Refuses(socket) => refuses(set, *socket),
+            Prints(socket, text) => prints(alloc, set, *socket, text),
+            Removes(place, socket) => set.remove(SocketHandle::at(*place)) == *socket,
+            _ => reads(set, self) || writes(set, self),
+        }
     }
 }
 
-/// The used places in order, and the end.
-#[test]
-fn used_places_in_order(rt: HostRuntime) {
-    let apart = apart(&rt);
-    let mut sockets = apart.set.iter();
-    assert!(rt; matches!(sockets.next(), Some((handle, 7)) if handle == apart.first));
-    assert!(rt; matches!(sockets.next(), Some((handle, 9)) if handle == apart.last));
-    assert!(rt; sockets.next().is_none() && sockets.next().is_none());
+/// Whether the step is one that reads, and goes as it says.
+fn reads(set: &Sockets, step: &Step) -> bool {
+    match step {
+        Holds(place, socket) => set.get(SocketHandle::at(*place)).copied() == *socket,
+        Lists(sockets) => lists(set, sockets),
+        Handles(places) => has_handles(set, places),
+        HasDigits(digits) => digits_of(set) == *digits,
+        _ => false,
+    }
 }
 
-/// Each socket is lent once, at its handle, and keeps what is written.
-#[test]
-fn each_socket_is_lent_in_order(rt: HostRuntime) {
-    let TwoSockets {
-        mut set,
-        first,
-        unused,
-        last,
-    } = apart(&rt);
+/// Whether the step is one that writes, and goes as it says.
+fn writes(set: &mut Sockets, step: &Step) -> bool {
+    match step {
+        AddsTen(places) => adds_ten(set) == *places,
+        WritesPlaces => {
+            write_places(set);
+            true
+        }
+        Lends(place, from, to) => lends(set, *place, *from, *to),
+        LendsNone(place) => set.get_mut(SocketHandle::at(*place)).is_none(),
+        Updates(place, old) => updated(set, *place) == *old,
+        _ => false,
+    }
+}
+
+fn adds(set: &mut Sockets, socket: u32, place: usize) -> bool {
+    match set.add(socket) {
+        Ok(handle) => handle == SocketHandle::at(place) && handle.place() == place,
+        Err(_) => false,
+    }
+}
+
+fn refuses(set: &mut Sockets, socket: u32) -> bool {
+    match set.add(socket) {
+        Err(AddError::Full(back)) => back == socket,
+        _ => false,
+    }
+}
+
+fn prints(alloc: Global, set: &mut Sockets, socket: u32, text: &str) -> bool {
+    let Ok(handle) = set.add(socket) else {
+        return false;
+    };
+    match handle.to_string(alloc) {
+        Ok(found) => found.as_str() == text,
+        Err(_) => false,
+    }
+}
+
+fn lists(set: &Sockets, wanted: &[(usize, u32)]) -> bool {
+    let mut found = set.iter();
+    for (place, socket) in wanted {
+        match found.next() {
+            Some((handle, lent)) if handle == SocketHandle::at(*place) && *lent == *socket => {}
+            _ => return false,
+        }
+    }
+    found.next().is_none() && found.next().is_none()
+}
+
+fn has_handles(set: &Sockets, wanted: &[usize]) -> bool {
+    let mut found = set.handles();
+    for place in wanted {
+        if found.next() != Some(SocketHandle::at(*place)) {
+            return false;
+        }
+    }
+    found.next().is_none()
+}
+
+/// Adds 10 to each socket, and tells their places as digits.
+fn adds_ten(set: &mut Sockets) -> usize {
     let mut places = 0usize;
     for (handle, socket) in set.iter_mut() {
         places = places.wrapping_mul(10).wrapping_add(handle.place());
         *socket = socket.wrapping_add(10);
     }
-    assert!(rt; places == 2);
-    assert!(rt; holds(&set, first, Some(17)));
-    assert!(rt; holds(&set, last, Some(19)));
-    assert!(rt; holds(&set, unused, None));
+    places
 }
 
-/// A loop over a set goes through its sockets, read or lent.
-#[test]
-fn a_loop_goes_through_a_set(rt: HostRuntime) {
-    let mut apart = apart(&rt);
-    for (handle, socket) in &mut apart.set {
+/// Puts its place into each socket.
+fn write_places(set: &mut Sockets) {
+    for (handle, socket) in set {
         *socket = u32::try_from(handle.place()).unwrap_or(9);
     }
+}
+
+/// The sockets as digits.
+fn digits_of(set: &Sockets) -> u32 {
     let mut sum = 0u32;
-    for (_, socket) in &apart.set {
+    for (_, socket) in set {
         sum = sum.wrapping_mul(10).wrapping_add(*socket);
     }
-    assert!(rt; sum == 2);
-    assert!(rt; holds(&apart.set, apart.last, Some(2)));
+    sum
 }
 
-#[test]
-fn used_handles_in_order(rt: HostRuntime) {
-    let apart = apart(&rt);
-    let mut handles = apart.set.handles();
-    assert!(rt; handles.next() == Some(apart.first));
-    assert!(rt; handles.next() == Some(apart.last));
-    assert!(rt; handles.next().is_none());
-}
-
-/// A socket is lent where it stands.
-#[test]
-fn a_socket_is_lent(rt: HostRuntime) {
-    let mut apart = apart(&rt);
-    if let Some(socket) = apart.set.get_mut(apart.last)
-        && *socket == 9
-    {
-        *socket = 19;
+/// Whether the socket of this place is the one number. It becomes the other.
+fn lends(set: &mut Sockets, place: usize, from: u32, to: u32) -> bool {
+    match set.get_mut(SocketHandle::at(place)) {
+        Some(socket) if *socket == from => {
+            *socket = to;
+            true
+        }
+        _ => false,
     }
-    assert!(rt; holds(&apart.set, apart.last, Some(19)));
-    assert!(rt; apart.set.get_mut(apart.unused).is_none());
 }
 
-/// A socket is updated where it stands.
-#[test]
-fn a_socket_is_updated(rt: HostRuntime) {
-    let mut apart = apart(&rt);
-    let old = apart.set.update(apart.last, |socket| {
+/// What the socket of this place was. It becomes 1.
+fn updated(set: &mut Sockets, place: usize) -> Option<u32> {
+    set.update(SocketHandle::at(place), |socket| {
         let old = *socket;
         *socket = 1;
         old
-    });
-    assert!(rt; old == Some(9));
-    assert!(rt; holds(&apart.set, apart.last, Some(1)));
-    assert!(rt; apart.set.update(apart.unused, |socket| *socket).is_none());
+    })
+}
+
+/// Storage for one socket, or storage that grows.
+enum Storage {
+    OnePlace,
+    Growing,
+}
+
+/// A set, from its beginning on.
+struct Set(Storage, &'static [Step]);
+
+fn made(alloc: Global, storage: &Storage) -> Option<Sockets> {
+    let storage = match storage {
+        Storage::OnePlace => {
+            let one = Vec::from_array(alloc, [SocketStorage { inner: None }]).ok()?;
+            ManagedSlice::Fixed(one)
+        }
+        Storage::Growing => ManagedSlice::Owned(Vec::new(alloc)),
+    };
+    Some(SocketSet::new(storage))
+}
+
+impl Life for Set {
+    fn stops_at(&self, alloc: Global) -> Option<usize> {
+        match made(alloc, &self.0) {
+            Some(mut set) => first_wrong(alloc, &mut set, self.1),
+            None => Some(0),
+        }
+    }
+}
+
+const IN_ONE_PLACE: [Set; 4] = [
+    // A second socket comes back.
+    Set(
+        Storage::OnePlace,
+        &[Adds(7, 0), Refuses(8), Holds(0, Some(7))],
+    ),
+    // A removed socket is gone.
+    Set(
+        Storage::OnePlace,
+        &[
+            Adds(7, 0),
+            Removes(0, Some(7)),
+            Removes(0, None),
+            Holds(0, None),
+        ],
+    ),
+    // A handle is printed by its place.
+    Set(Storage::OnePlace, &[Prints(7, "#0")]),
+    // The handle of a place is the one that a socket there has.
+    Set(
+        Storage::OnePlace,
+        &[Adds(7, 0), Holds(0, Some(7)), Holds(1, None)],
+    ),
+];
+
+/// All but the first have sockets 7 and 9, with an unused place between them.
+const GROWING: [Set; 7] = [
+    // A place that becomes free is taken first.
+    Set(
+        Storage::Growing,
+        &[
+            Adds(7, 0),
+            Adds(8, 1),
+            Removes(0, Some(7)),
+            Adds(9, 0),
+            Holds(1, Some(8)),
+            Holds(0, Some(9)),
+        ],
+    ),
+    // The used places are in order.
+    Set(
+        Storage::Growing,
+        &[
+            Adds(7, 0),
+            Adds(8, 1),
+            Adds(9, 2),
+            Removes(1, Some(8)),
+            Lists(&[(0, 7), (2, 9)]),
+        ],
+    ),
+    // Each socket is lent once, at its handle, and keeps what is written.
+    Set(
+        Storage::Growing,
+        &[
+            Adds(7, 0),
+            Adds(8, 1),
+            Adds(9, 2),
+            Removes(1, Some(8)),
+            AddsTen(2),
+            Holds(0, Some(17)),
+            Holds(2, Some(19)),
+            Holds(1, None),
+        ],
+    ),
+    // A loop goes through its sockets, read or lent.
+    Set(
+        Storage::Growing,
+        &[
+            Adds(7, 0),
+            Adds(8, 1),
+            Adds(9, 2),
+            Removes(1, Some(8)),
+            WritesPlaces,
+            HasDigits(2),
+            Holds(2, Some(2)),
+        ],
+    ),
+    // So are the handles.
+    Set(
+        Storage::Growing,
+        &[
+            Adds(7, 0),
+            Adds(8, 1),
+            Adds(9, 2),
+            Removes(1, Some(8)),
+            Handles(&[0, 2]),
+        ],
+    ),
+    // A socket is lent where it stands.
+    Set(
+        Storage::Growing,
+        &[
+            Adds(7, 0),
+            Adds(8, 1),
+            Adds(9, 2),
+            Removes(1, Some(8)),
+            Lends(2, 9, 19),
+            Holds(2, Some(19)),
+            LendsNone(1),
+        ],
+    ),
+    // A socket is updated where it stands.
+    Set(
+        Storage::Growing,
+        &[
+            Adds(7, 0),
+            Adds(8, 1),
+            Adds(9, 2),
+            Removes(1, Some(8)),
+            Updates(2, Some(9)),
+            Holds(2, Some(1)),
+            Updates(1, None),
+        ],
+    ),
+];
+
+#[test]
+fn sets_live(rt: HostRuntime) {
+    all_live(&rt, &IN_ONE_PLACE);
+    all_live(&rt, &GROWING);
 }

@@ -86,6 +86,12 @@ fn add_address(interface: &mut Interface, address: IpCidr) -> bool {
         .is_ok()
 }
 
+/// Gives it the planned ones.
+fn add_addresses(interface: &mut Interface, plan: &Plan) -> bool {
+    add_address(interface, ipv4(plan.number))
+        && (!plan.has_ipv6 || add_address(interface, ipv6(plan.number)))
+}
+
 fn ipv4(number: u8) -> IpCidr {
     IpCidr::new(IpAddress::v4(192, 168, 1, number), 24)
 }
@@ -99,12 +105,8 @@ fn ipv6(number: u8) -> IpCidr {
 
 /// The planned host's interface at this device.
 pub fn begin<D: Device>(alloc: Global, plan: &Plan, device: &D) -> Result<Interface, Fail> {
-    let Some(mut interface) = bare(alloc, plan, device) else {
-        return Err("an interface".into());
-    };
-    if add_address(&mut interface, ipv4(plan.number))
-        && (!plan.has_ipv6 || add_address(&mut interface, ipv6(plan.number)))
-    {
+    let mut interface = bare(alloc, plan, device).ok_or("an interface")?;
+    if add_addresses(&mut interface, plan) {
         Ok(interface)
     } else {
         Err("its addresses".into())

@@ -6,7 +6,8 @@ use interface::{PollIngressSingleResult, PollResult};
 use lan_port::Port;
 use net_base::{ChecksumCapabilities, Medium, Rand};
 use sockets::Socket;
-use std::alloc::Global;
+use std::alloc::{AllocError, Global};
+use std::mem::replace;
 use std::test::Fail;
 
 /// How many frames come over each medium.
@@ -93,15 +94,27 @@ fn ethertype(packet: &[u8]) -> [u8; 2] {
     }
 }
 
-/// A frame: one of the packets, of which some bytes are others, or whose end is missing, or as it is.
-fn frame(alloc: Global, medium: Medium, words: &mut Rand) -> Result<Vec<u8>, Fail> {
-    let packet = packet(medium, words.rand_u32());
-    let mut frame = Vec::with_capacity(alloc, 128)?;
+/// Writes one of the packets, over Ethernet behind its header.
+fn write(frame: &mut Vec<u8>, medium: Medium, packet: &[u8]) -> Result<(), AllocError> {
     if medium == Medium::Ethernet {
         frame.extend_from_slice(&[2, 0, 0, 0, 0, 1, 2, 0, 0, 0, 0, 2])?;
         frame.extend_from_slice(&ethertype(packet))?;
     }
-    frame.extend_from_slice(packet)?;
+    frame.extend_from_slice(packet)
+}
+
+/// Gives other values to bytes of which a word has none of these bits.
+fn change(frame: &mut [u8], mask: u32, words: &mut Rand) {
+    for byte in frame {
+        let word = words.rand_u32();
+        if word & mask == 0 {
+            *byte = (word >> 24) as u8;
+        }
+    }
+}
+
+/// Changes some bytes, or cuts the end off, or leaves the frame as it is.
+fn damage(frame: &mut Vec<u8>, words: &mut Rand) {
     let kind = words.rand_u32();
     // Every byte, each eighth, each 64th, or none.
     let mask = match kind % 8 {
@@ -110,15 +123,17 @@ fn frame(alloc: Global, medium: Medium, words: &mut Rand) -> Result<Vec<u8>, Fai
         3 | 4 | 5 => 63,
         _ => u32::MAX,
     };
-    for byte in frame.as_mut_slice() {
-        let word = words.rand_u32();
-        if word & mask == 0 {
-            *byte = (word >> 24) as u8;
-        }
-    }
+    change(frame.as_mut_slice(), mask, words);
     if kind / 8 % 8 == 0 {
         frame.truncate((kind / 64 % 96) as usize);
     }
+}
+
+/// A frame: one of the packets, of which some bytes are others, or whose end is missing, or as it is.
+fn frame(alloc: Global, medium: Medium, words: &mut Rand) -> Result<Vec<u8>, AllocError> {
+    let mut frame = Vec::with_capacity(alloc, 128)?;
+    write(&mut frame, medium, packet(medium, words.rand_u32()))?;
+    damage(&mut frame, words);
     Ok(frame)
 }
 
@@ -183,7 +198,7 @@ fn come(
 fn come_all(alloc: Global, medium: Medium, host: &mut Host, seen: &mut Seen) -> Result<(), Fail> {
     let mut words = Rand::new(7);
     for number in 0..FRAMES / AT_A_PORT {
-        host.wire = port(alloc, medium, number);
+        drop(replace(&mut host.wire, port(alloc, medium, number)));
         let first = number.saturating_mul(AT_A_PORT);
         come(alloc, medium, host, &mut words, first, seen)?;
     }
@@ -198,13 +213,17 @@ fn all_seen(alloc: Global, medium: Medium) -> Result<Seen, Fail> {
         ..UDP
     };
     let mut host = Host::new(alloc, &plan)?;
-    if host
-        .add(Socket::Tcp(listening_socket(alloc, 64)?))
-        .is_none()
-    {
-        return Err("a place".into());
-    }
+    listens(alloc, &mut host)?;
     seen_at(alloc, medium, &mut host)
+}
+
+/// Gives the host a TCP socket that listens at port 80.
+fn listens(alloc: Global, host: &mut Host) -> Result<(), Fail> {
+    let socket = listening_socket(alloc, 64)?;
+    match host.add(Socket::Tcp(socket)) {
+        Some(_) => Ok(()),
+        None => Err("a place".into()),
+    }
 }
 
 /// The same at this host.
@@ -221,15 +240,13 @@ fn seen_at(alloc: Global, medium: Medium, host: &mut Host) -> Result<Seen, Fail>
 
 #[test]
 fn hostile_packets_bring_named_results(rt: HostRuntime) -> Result<(), Fail> {
-    let seen = all_seen(rt.alloc(), Medium::Ip)?;
-    assert!(rt; seen.is_ample());
+    assert!(rt; all_seen(rt.alloc(), Medium::Ip)?.is_ample());
     Ok(())
 }
 
 #[test]
 fn hostile_frames_bring_named_results(rt: HostRuntime) -> Result<(), Fail> {
-    let seen = all_seen(rt.alloc(), Medium::Ethernet)?;
-    assert!(rt; seen.is_ample());
+    assert!(rt; all_seen(rt.alloc(), Medium::Ethernet)?.is_ample());
     Ok(())
 }
 
@@ -239,12 +256,7 @@ fn damaged(alloc: Global, words: &mut Rand) -> Result<Vec<u8>, Fail> {
         alloc,
         "45000020000040004011b779c0a80102c0a80101bf00bf00000c124daa0000ff",
     )?;
-    for byte in frame.as_mut_slice() {
-        let word = words.rand_u32();
-        if word % 8 == 0 {
-            *byte = (word >> 24) as u8;
-        }
-    }
+    change(frame.as_mut_slice(), 7, words);
     Ok(frame)
 }
 
@@ -261,10 +273,14 @@ fn are_taken(alloc: Global, host: &mut Host, count: u32) -> Result<bool, Fail> {
     Ok(host.left() == 0)
 }
 
+/// Whether a host takes 2,000.
+fn all_taken(alloc: Global) -> Result<bool, Fail> {
+    let mut host = Host::new(alloc, &UDP)?;
+    are_taken(alloc, &mut host, 2_000)
+}
+
 #[test]
 fn damaged_datagrams_are_taken(rt: HostRuntime) -> Result<(), Fail> {
-    let mut host = Host::new(rt.alloc(), &UDP)?;
-    let taken = are_taken(rt.alloc(), &mut host, 2_000)?;
-    assert!(rt; taken);
+    assert!(rt; all_taken(rt.alloc())?);
     Ok(())
 }

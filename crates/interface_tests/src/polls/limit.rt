@@ -33,38 +33,53 @@ fn is_answered(host: &mut Host, frame: &[u8], now: Instant) -> bool
     host.device.receive(now).is_some()
 }
 
-/// Whether the frame is answered each of so many times.
-fn is_always_answered(host: &mut Host, frame: &[u8], now: Instant, times: u32) -> bool
-    requires { IsMoment now }
-{
-    for _ in 0..times {
-        if !is_answered(host, frame, now) {
+/// At a moment, in microseconds, the frame comes so many times, and is answered each time, or never.
+struct Comes(u32, u32, bool);
+
+/// Sixteen answers go at once, and then one each 125 ms.
+const COMES: [Comes; 7] = [
+    Comes(0, 16, true),
+    Comes(0, 1, false),
+    Comes(124_999, 1, false),
+    Comes(125_000, 1, true),
+    Comes(125_000, 1, false),
+    Comes(2_125_000, 16, true),
+    Comes(2_125_000, 1, false),
+];
+
+fn goes(host: &mut Host, frame: &[u8], step: &Comes) -> bool {
+    for _ in 0..step.1 {
+        if is_answered(host, frame, at(step.0)) != step.2 {
             return false;
         }
     }
     true
 }
 
-/// Sixteen answers go at once, and then one each 125 ms.
-fn is_limited(alloc: Global) -> Result<bool, Fail> {
-    let frame = hex::decode(alloc, DATAGRAM)?;
+/// Whether all go as they say.
+fn go(host: &mut Host, frame: &[u8], steps: &[Comes]) -> bool {
+    for step in steps {
+        if !goes(host, frame, step) {
+            return false;
+        }
+    }
+    true
+}
+
+fn made(alloc: Global) -> Result<Host, Fail> {
     let device = Loopback::new(alloc, Medium::Ip);
     let interface = begin(alloc, &UDP, &device)?;
-    let mut host = Host {
+    Ok(Host {
         device,
         interface,
         sockets: no_sockets(alloc),
-    };
-    let frame = frame.as_slice();
-    Ok(
-        is_always_answered(&mut host, frame, at(0), 16)
-            && !is_answered(&mut host, frame, at(0))
-            && !is_answered(&mut host, frame, at(124_999))
-            && is_answered(&mut host, frame, at(125_000))
-            && !is_answered(&mut host, frame, at(125_000))
-            && is_always_answered(&mut host, frame, at(2_125_000), 16)
-            && !is_answered(&mut host, frame, at(2_125_000)),
-    )
+    })
+}
+
+fn is_limited(alloc: Global) -> Result<bool, Fail> {
+    let frame = hex::decode(alloc, DATAGRAM)?;
+    let mut host = made(alloc)?;
+    Ok(go(&mut host, frame.as_slice(), &COMES))
 }
 
 #[test]

@@ -34,17 +34,26 @@ fn want_of_memory_has_its_name(rt: HostRuntime) -> Result<(), Fail> {
     Ok(())
 }
 
-/// Pieces of a datagram are waited for 60 s, if nothing else was set.
-#[test]
-fn pieces_are_waited_for(rt: HostRuntime) -> Result<(), Fail> {
-    let alloc = rt.alloc();
-    let port = Port::new(alloc, capabilities(Medium::Ip));
-    let config = Config::new(HardwareAddress::Ip);
-    let mut interface = Interface::new(alloc, &config, &port, at(0)).map_err(|_| "an interface")?;
+/// How long pieces are waited for, and how long when 5 s are set.
+fn timeouts(interface: &mut Interface) -> (Duration, Duration) {
     let first = interface.reassembly_timeout();
     interface.set_reassembly_timeout(Duration::from_secs(5));
-    assert!(rt;
-        (first, interface.reassembly_timeout()) == (Duration::from_secs(60), Duration::from_secs(5))
-    );
-    Ok(())
+    (first, interface.reassembly_timeout())
+}
+
+/// The same of a new interface.
+fn first_timeouts(alloc: Global) -> Option<(Duration, Duration)> {
+    let port = Port::new(alloc, capabilities(Medium::Ip));
+    let config = Config::new(HardwareAddress::Ip);
+    match Interface::new(alloc, &config, &port, at(0)) {
+        Ok(mut interface) => Some(timeouts(&mut interface)),
+        Err(_) => None,
+    }
+}
+
+/// Pieces of a datagram are waited for 60 s, if nothing else was set.
+#[test]
+fn pieces_are_waited_for(rt: HostRuntime) {
+    let wanted = (Duration::from_secs(60), Duration::from_secs(5));
+    assert!(rt; first_timeouts(rt.alloc()) == Some(wanted));
 }

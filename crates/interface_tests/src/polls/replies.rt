@@ -38,18 +38,20 @@ fn told(alloc: Global, device: &mut Loopback) -> Result<PollIngressSingleResult,
     Ok(interface.poll_ingress_single(at(0), device, &mut sockets))
 }
 
-/// Whether the reply comes out of a loopback into which the request was put, and took one call.
+/// Whether the one frame, put into a loopback, takes one call, and the other comes out of it.
+fn answers(alloc: Global, device: &mut Loopback, comes: &[u8], goes: &[u8]) -> Result<bool, Fail> {
+    if !put(device, comes) {
+        return Ok(false);
+    }
+    let answer = told(alloc, device)?;
+    Ok(answer == PollIngressSingleResult::SocketStateChanged && is_only(device, goes))
+}
+
+/// Whether the request is answered by the reply.
 fn is_given(alloc: Global) -> Result<bool, Fail> {
     let (comes, goes) = (hex::decode(alloc, REQUEST)?, hex::decode(alloc, REPLY)?);
     let mut device = Loopback::new(alloc, Medium::Ip);
-    if !put(&mut device, comes.as_slice()) {
-        return Ok(false);
-    }
-    let answer = told(alloc, &mut device)?;
-    Ok(
-        answer == PollIngressSingleResult::SocketStateChanged
-            && is_only(&mut device, goes.as_slice()),
-    )
+    answers(alloc, &mut device, comes.as_slice(), goes.as_slice())
 }
 
 #[test]

@@ -142,21 +142,42 @@ fn pass(to: &mut Host, frame: &Vec<u8>) -> bool {
     }
 }
 
+/// A frame on its way: by the word it is lost, comes twice, comes behind the next, or comes.
+fn carry_one(
+    frame: &Vec<u8>,
+    word: u32,
+    lost: &mut usize,
+    held: &mut Option<Vec<u8>>,
+    to: &mut Host,
+) -> Result<bool, Fail> {
+    match word % 8 {
+        0 => {
+            *lost = lost.saturating_add(1);
+            Ok(true)
+        }
+        1 => Ok(pass(to, frame) && pass(to, frame)),
+        2 if held.is_none() => {
+            *held = Some(frame.clone()?);
+            Ok(true)
+        }
+        _ => Ok(pass(to, frame) && pass_held(held, to)),
+    }
+}
+
+/// The frame that was held back comes, if there is one.
+fn pass_held(held: &mut Option<Vec<u8>>, to: &mut Host) -> bool {
+    match held.take() {
+        Some(earlier) => to.comes(earlier),
+        None => true,
+    }
+}
+
 /// Carries the frames that one side sent to the other: of eight one is lost, one comes twice, and one comes behind the next.
 fn carry(from: &mut Side, to: &mut Host, words: &mut Rand) -> Result<bool, Fail> {
     let mut came = true;
     for frame in from.host.wire.sent().get(from.carried..).ok_or("frames")? {
-        match words.rand_u32() % 8 {
-            0 => from.lost = from.lost.saturating_add(1),
-            1 => came = came && pass(to, frame) && pass(to, frame),
-            2 if from.held.is_none() => from.held = Some(frame.clone()?),
-            _ => {
-                came = came && pass(to, frame);
-                if let Some(earlier) = from.held.take() {
-                    came = to.comes(earlier) && came;
-                }
-            }
-        }
+        let word = words.rand_u32();
+        came = carry_one(frame, word, &mut from.lost, &mut from.held, to)? && came;
     }
     from.carried = from.host.wire.sent().len();
     Ok(came)
@@ -241,11 +262,16 @@ impl Transfer {
     }
 }
 
+/// Whether all goes well until both sides have everything.
+fn ends_well(transfer: &mut Transfer) -> Result<bool, Fail> {
+    let went = transfer.opens() && transfer.run(100_000)?;
+    Ok(went && transfer.is_done() && transfer.has_all())
+}
+
 #[test]
 fn all_bytes_arrive_over_a_bad_link(rt: HostRuntime) -> Result<(), Fail> {
     let mut transfer = make_transfer(rt.alloc())?;
-    let went = transfer.opens() && transfer.run(100_000)?;
-    let end = went && transfer.is_done() && transfer.has_all();
+    let end = ends_well(&mut transfer)?;
     assert!(rt; end);
     Ok(())
 }

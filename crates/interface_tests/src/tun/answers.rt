@@ -1,61 +1,125 @@
 //! Answers.
+use crate::cases::{Goes, Life, all_live, first_wrong};
 use net_base::{ChecksumCapabilities, Device, DeviceCapabilities, Instant, Medium, RxToken};
-use std::test::Fail;
+use std::alloc::{AllocError, Global};
 use tun_link::{Drain, write_answer};
 
-fn drain(rt: &HostRuntime) -> Drain {
-    Drain::new(
-        rt.alloc(),
-        DeviceCapabilities {
+/// A call of a link, and what it must answer.
+enum Step {
+    /// Two bytes of this value are sent.
+    Sends(u8),
+    /// The answer with this next moment, in microseconds, is written so.
+    Writes(Option<u32>, &'static [u8]),
+    /// This packet is put where it comes next.
+    Puts(&'static [u8]),
+    /// A packet of so many bytes is.
+    PutsMany(usize),
+    /// The next packet is this one.
+    Receives(&'static [u8]),
+    /// The next packet has so many bytes.
+    ReceivesMany(usize),
+    ReceivesNone,
+    /// So many packets were dropped.
+    HasDropped(u64),
+}
+
+use Step::{HasDropped, Puts, PutsMany, Receives, ReceivesMany, ReceivesNone, Sends, Writes};
+
+impl Goes<Drain> for Step {
+    fn goes(&self, alloc: Global, drain: &mut Drain) -> bool {
+        match self {
+            Sends(byte) => sends(drain, *byte),
+            Writes(micros, bytes) => writes(alloc, drain, *micros, bytes),
+            Puts(bytes) => puts(drain, bytes.to_vec(alloc)),
+            PutsMany(count) => puts(drain, vec![in alloc; 7; *count]),
+            HasDropped(count) => drain.dropped() == *count,
+            _ => receives(drain, self),
+        }
+    }
+}
+
+/// The same of a step that asks for the next packet.
+fn receives(drain: &mut Drain, step: &Step) -> bool {
+    match drain.receive(Instant::ZERO) {
+        Some((packet, _leave)) => is_packet(packet.bytes(), step),
+        None => matches!(step, ReceivesNone),
+    }
+}
+
+fn is_packet(packet: &[u8], step: &Step) -> bool {
+    match step {
+        Receives(bytes) => packet == *bytes,
+        ReceivesMany(count) => packet.len() == *count,
+        _ => false,
+    }
+}
+
+fn sends(drain: &mut Drain, byte: u8) -> bool {
+    match drain.transmit(Instant::ZERO) {
+        Some(token) => drain
+            .send(token, 2, |buffer: &mut [u8]| buffer.fill(byte))
+            .is_ok(),
+        None => false,
+    }
+}
+
+fn writes(alloc: Global, drain: &mut Drain, micros: Option<u32>, bytes: &[u8]) -> bool {
+    let next = match micros {
+        Some(micros) => Some(Instant::from_micros(i64::from(micros))),
+        None => None,
+    };
+    let mut written = Vec::new(alloc);
+    write_answer(drain, &mut written, next).is_ok() && written.as_slice() == bytes
+}
+
+fn puts(drain: &mut Drain, packet: Result<Vec<u8>, AllocError>) -> bool {
+    match packet {
+        Ok(packet) => {
+            drain.put(packet);
+            true
+        }
+        Err(AllocError) => false,
+    }
+}
+
+/// A link whose longest packet has 1500 bytes, from its beginning on.
+struct Link(&'static [Step]);
+
+impl Life for Link {
+    fn stops_at(&self, alloc: Global) -> Option<usize> {
+        let described = DeviceCapabilities {
             medium: Medium::Ip,
             max_transmission_unit: 1500,
             checksum: ChecksumCapabilities::default(),
-        },
-    )
-}
-
-#[test]
-fn an_answer_is_what_was_sent_and_the_next_moment(rt: HostRuntime) -> Result<(), Fail> {
-    let mut drain = drain(&rt);
-    for byte in [7, 9] {
-        if let Some(token) = drain.transmit(Instant::ZERO) {
-            let sent = drain.send(token, 2, |buffer: &mut [u8]| buffer.fill(byte));
-            assert!(rt; sent.is_ok());
-        }
+        };
+        first_wrong(alloc, &mut Drain::new(alloc, described), self.0)
     }
-    let mut written = Vec::new(rt.alloc());
-    write_answer(&mut drain, &mut written, Some(Instant::from_micros(258)))?;
-    let first = [2, 0, 7, 7, 2, 0, 9, 9, 0, 0, 2, 1, 0, 0, 0, 0, 0, 0];
-    assert!(rt; written.as_slice() == first.as_slice());
-    written.truncate(0);
-    write_answer(&mut drain, &mut written, None)?;
-    let never = [0, 0, 255, 255, 255, 255, 255, 255, 255, 255];
-    assert!(rt; written.as_slice() == never.as_slice());
-    Ok(())
 }
 
-#[test]
-fn a_turn_brings_one_packet(rt: HostRuntime) -> Result<(), Fail> {
-    let mut drain = drain(&rt);
-    assert!(rt; drain.receive(Instant::ZERO).is_none());
-    drain.put(b"abc".to_vec(rt.alloc())?);
-    match drain.receive(Instant::ZERO) {
-        Some((packet, _)) => assert!(rt; packet.bytes() == b"abc".as_slice()),
-        None => assert!(rt; false),
-    }
-    assert!(rt; drain.receive(Instant::ZERO).is_none());
-    Ok(())
-}
+const LINKS: [Link; 3] = [
+    // An answer is what was sent and the next moment.
+    Link(&[
+        Sends(7),
+        Sends(9),
+        Writes(
+            Some(258),
+            &[2, 0, 7, 7, 2, 0, 9, 9, 0, 0, 2, 1, 0, 0, 0, 0, 0, 0],
+        ),
+        Writes(None, &[0, 0, 255, 255, 255, 255, 255, 255, 255, 255]),
+    ]),
+    // A turn brings one packet.
+    Link(&[ReceivesNone, Puts(b"abc"), Receives(b"abc"), ReceivesNone]),
+    // A packet that is too long is dropped.
+    Link(&[
+        PutsMany(1501),
+        ReceivesNone,
+        PutsMany(1500),
+        ReceivesMany(1500),
+        HasDropped(1),
+    ]),
+];
 
 #[test]
-fn a_packet_that_is_too_long_is_dropped(rt: HostRuntime) -> Result<(), Fail> {
-    let mut drain = drain(&rt);
-    drain.put(vec![in rt.alloc(); 7; 1501]?);
-    assert!(rt; drain.receive(Instant::ZERO).is_none());
-    drain.put(vec![in rt.alloc(); 7; 1500]?);
-    let longest = drain
-        .receive(Instant::ZERO)
-        .map(|(packet, _)| packet.bytes().len());
-    assert!(rt; (longest, drain.dropped()) == (Some(1500), 1));
-    Ok(())
+fn links_live(rt: HostRuntime) {
+    all_live(&rt, &LINKS);
 }

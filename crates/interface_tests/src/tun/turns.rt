@@ -1,6 +1,7 @@
 //! Turns.
+use crate::cases::{Life, all_live};
 use net_base::Instant;
-use std::test::Fail;
+use std::alloc::Global;
 use tun_link::{TurnError, read_turn};
 
 /// A turn at 258 microseconds with a packet of three bytes, and then a tick at 65,537 microseconds.
@@ -8,32 +9,80 @@ const TWO: [u8; 23] = [
     3, 0, 2, 1, 0, 0, 0, 0, 0, 0, 0x61, 0x62, 0x63, 0, 0, 1, 0, 1, 0, 0, 0, 0, 0,
 ];
 
-#[test]
-fn turns_come_one_after_the_other(rt: HostRuntime) -> Result<(), Fail> {
-    let mut reader = TWO.as_slice();
-    let mut packet = Vec::new(rt.alloc());
-    let first = read_turn(&mut reader, &mut packet, 1500, Instant::ZERO)?;
-    assert!(rt; first == Some(Instant::from_micros(258)));
-    assert!(rt; packet.as_slice() == b"abc".as_slice());
-    let second = read_turn(&mut reader, &mut packet, 1500, Instant::from_micros(258))?;
-    assert!(rt; second == Some(Instant::from_micros(65_537)));
-    assert!(rt; packet.len() == 0);
-    let third = read_turn(&mut reader, &mut packet, 1500, Instant::from_micros(65_537))?;
-    assert!(rt; third == None);
-    Ok(())
+/// A turn is read with packets of at most so many bytes, from this moment on, in microseconds: its moment, and its packet where that is
+/// said.
+struct Turn(
+    usize,
+    u32,
+    Result<Option<u32>, TurnError>,
+    Option<&'static [u8]>,
+);
+
+fn at(micros: u32) -> Instant {
+    Instant::from_micros(i64::from(micros))
 }
 
+/// What is read of a turn.
+fn answer(said: &Result<Option<u32>, TurnError>) -> Result<Option<Instant>, TurnError> {
+    match said {
+        Ok(Some(micros)) => Ok(Some(at(*micros))),
+        Ok(None) => Ok(None),
+        Err(error) => Err(*error),
+    }
+}
+
+/// Whether the next turn is this one.
+fn is_next(reader: &mut &[u8], packet: &mut Vec<u8>, turn: &Turn) -> bool {
+    read_turn(reader, packet, turn.0, at(turn.1)) == answer(&turn.2)
+        && holds(packet.as_slice(), turn.3)
+}
+
+fn holds(packet: &[u8], said: Option<&[u8]>) -> bool {
+    match said {
+        Some(bytes) => packet == bytes,
+        None => true,
+    }
+}
+
+/// The place of the first turn that isn't the next.
+fn first_other(mut reader: &[u8], packet: &mut Vec<u8>, turns: &[Turn]) -> Option<usize> {
+    for (place, turn) in turns.iter().enumerate() {
+        if !is_next(&mut reader, packet, turn) {
+            return Some(place);
+        }
+    }
+    None
+}
+
+/// Bytes, and the turns that they hold.
+struct Bytes(&'static [u8], &'static [Turn]);
+
+impl Life for Bytes {
+    fn stops_at(&self, alloc: Global) -> Option<usize> {
+        first_other(self.0, &mut Vec::new(alloc), self.1)
+    }
+}
+
+const TURNS: [Bytes; 4] = [
+    // They come one after the other.
+    Bytes(
+        &TWO,
+        &[
+            Turn(1500, 0, Ok(Some(258)), Some(b"abc")),
+            Turn(1500, 258, Ok(Some(65_537)), Some(b"")),
+            Turn(1500, 65_537, Ok(None), None),
+        ],
+    ),
+    // Turns that can't be are refused.
+    Bytes(&TWO, &[Turn(2, 0, Err(TurnError::Length), None)]),
+    Bytes(&TWO, &[Turn(3, 259, Err(TurnError::Moment), None)]),
+    Bytes(
+        &[3, 0, 2, 1, 0, 0, 0, 0, 0, 0, 0x61, 0x62],
+        &[Turn(3, 0, Err(TurnError::Cut), None)],
+    ),
+];
+
 #[test]
-fn turns_that_cannot_be_are_refused(rt: HostRuntime) -> Result<(), Fail> {
-    let mut packet = Vec::new(rt.alloc());
-    let mut reader = TWO.as_slice();
-    assert!(rt; read_turn(&mut reader, &mut packet, 2, Instant::ZERO) == Err(TurnError::Length));
-    let mut reader = TWO.as_slice();
-    assert!(rt;
-        read_turn(&mut reader, &mut packet, 3, Instant::from_micros(259)) == Err(TurnError::Moment)
-    );
-    let (cut, _) = TWO.split_at(12);
-    let mut reader = cut;
-    assert!(rt; read_turn(&mut reader, &mut packet, 3, Instant::ZERO) == Err(TurnError::Cut));
-    Ok(())
+fn turns_are_read(rt: HostRuntime) {
+    all_live(&rt, &TURNS);
 }
