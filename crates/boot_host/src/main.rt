@@ -8,7 +8,6 @@ mod host;
 mod orders;
 mod page;
 mod pings;
-mod said;
 mod turns;
 
 use anyhow::Result;

@@ -45,34 +45,29 @@ impl Orders {
 /// The questions of some lines, the last one first.
 fn questions(alloc: Global, text: &[u8]) -> Result<Vec<Question>> {
     let mut found = Vec::new(alloc);
-    put_questions(alloc, text, &mut found)?;
+    for line in text.split(|b| *b == b'\n') {
+        if let Ok(line) = str::from_utf8(line) {
+            if let Some(question) = question_of(alloc, line)? {
+                found.insert(0, question)?;
+            }
+        }
+    }
     Ok(found)
 }
 
-fn put_questions(alloc: Global, text: &[u8], found: &mut Vec<Question>) -> Result<()> {
-    for line in text.split(|b| *b == b'\n') {
-        if let Some((word, name)) = parts(line) {
-            found.insert(0, question_of(alloc, word, name)?)?;
-        }
-    }
-    Ok(())
-}
-
-/// The two parts of a line, if it has them.
-fn parts(line: &[u8]) -> Option<(&str, &str)> {
-    str::from_utf8(line).ok()?.split_once(' ')
-}
-
-/// The question of a line.
-fn question_of(alloc: Global, word: &str, name: &str) -> Result<Question> {
+/// The question of a line, if it has one.
+fn question_of(alloc: Global, line: &str) -> Result<Option<Question>> {
+    let Some((word, name)) = line.split_once(' ') else {
+        return Ok(None);
+    };
     let kind = match word {
         "A" | "GET" => DnsQueryType::A,
         "AAAA" => DnsQueryType::Aaaa,
         _ => bail!("no such question"),
     };
-    Ok(Question {
+    Ok(Some(Question {
         name: String::from_str(alloc, name)?,
         kind,
         fetches: word == "GET",
-    })
+    }))
 }

@@ -11,7 +11,7 @@ pub const ROOM: usize = 4096;
 const REQUEST: &[u8] = b"GET / HTTP/1.0\r\n\r\n";
 
 /// A page on its way.
-#[derive(Clone, Copy)]
+#[derive(Clone, Copy, Debug)]
 pub struct Page {
     asked: bool,
     count: u64,

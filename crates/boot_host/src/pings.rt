@@ -1,4 +1,5 @@
 //! Echo requests, and what answers them.
+use anyhow::Result;
 use control_wire::{Icmpv4Packet, Icmpv4PacketMut, Icmpv4Repr};
 use ip_wire::{IpAddress, Ipv4Address};
 use net_base::ChecksumCapabilities;
@@ -7,8 +8,8 @@ use sockets::icmp;
 /// The identifier of the requests.
 pub const IDENT: u16 = 1;
 
-/// Sends an echo request, if there is room for it.
-pub fn ping(socket: &mut icmp::Socket, remote: Ipv4Address, seq_no: u16) {
+/// Sends an echo request.
+pub fn ping(socket: &mut icmp::Socket, remote: Ipv4Address, seq_no: u16) -> Result<()> {
     let request = Icmpv4Repr::EchoRequest {
         ident: IDENT,
         seq_no,
@@ -19,7 +20,7 @@ pub fn ping(socket: &mut icmp::Socket, remote: Ipv4Address, seq_no: u16) {
         &mut Icmpv4PacketMut::new_unchecked(&mut message),
         &ChecksumCapabilities::default(),
     );
-    let _ = socket.send_slice(&message, IpAddress::Ipv4(remote));
+    Ok(socket.send_slice(&message, IpAddress::Ipv4(remote))?)
 }
 
 /// Reads the next message: whether it answers a request.
