@@ -588,7 +588,7 @@ fn is_this(other: Option<Ipv4Address>, address: &Ipv4Address) -> bool
     ensures { result ≡ is_this other address.now }
 {
     match other {
-        Some(other) => address.0 == other.0,
+        Some(other) => u32::from_le_bytes(address.0) == u32::from_le_bytes(other.0),
         None => false,
     }
 }
