@@ -1,3 +1,4 @@
+mod CubicLaws
 pub mod FirstNumbers
 pub mod Words
 pub mod SipSteps

@@ -5,6 +5,7 @@
 #![tactic(auto)]
 
 pub mod controls;
+mod cubic;
 pub mod endpoints;
 mod error;
 mod first_numbers;
@@ -18,6 +19,7 @@ mod sip;
 mod state;
 mod states;
 
+pub use cubic::{Cubic, Epoch, cubes, cubic_laws, decreased};
 pub use endpoints::{AddressPair, EndpointPair};
 pub use error::{ConnectError, ListenError, RecvError, SendError};
 pub use first_numbers::{first_number, first_numbers_rise};
