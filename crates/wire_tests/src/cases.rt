@@ -1,7 +1,7 @@
-//! How a test asserts: it says all that must hold at once, or hands over a table of cases. A branch is dear to prove, and so is a local:
-//! an assertion costs a test both, and a table that is a constant costs it one local.
+//! How a test asserts: it says all that must hold at once, or hands over a table of cases, or of lives. A branch is dear to prove, and so
+//! is a local: an assertion costs a test both, and a table that is a constant costs it one local. Dearest is what a test owns and calls.
 use std::alloc::Global;
-use std::fmt::Display;
+use std::fmt::{Debug, Display};
 use std::process::Abort;
 
 /// A case of a table: a call, and what it must answer.
@@ -10,10 +10,49 @@ pub trait Case {
     fn holds(&self, alloc: Global) -> bool;
 }
 
+/// Statements by their numbers, from 0 on. In arms of a `match` each costs some 0.4 s to prove, one behind the other twice to four times that.
+pub trait Statements {
+    /// Whether the statement of this number holds, if there is one.
+    fn holds_at(&self, alloc: Global, place: usize) -> Option<bool>;
+}
+
+/// A call of a value that lives on, and what it must answer.
+pub trait Goes<T> {
+    /// Whether the call answers as the step says.
+    fn goes(&self, alloc: Global, value: &mut T) -> bool;
+}
+
+/// A value from its beginning on, with a table of steps.
+pub trait Life {
+    /// The place of the first step that goes otherwise than it says, counted from 0. Want of memory at the beginning is step 0.
+    fn stops_at(&self, alloc: Global) -> Option<usize>;
+}
+
 /// Asserts that all of these hold. The failure names the first that doesn't, counted from 0.
 pub fn all(rt: &impl Abort, said: &[bool]) {
     for (place, holds) in said.iter().enumerate() {
         assert!(rt; *holds, "statement {place}");
+    }
+}
+
+/// The number of the first of so many statements that doesn't hold, or of one too many.
+fn wrong_at<S: Statements>(alloc: Global, group: &S, count: usize) -> Option<usize> {
+    for place in 0..count {
+        if group.holds_at(alloc, place) != Some(true) {
+            return Some(place);
+        }
+    }
+    match group.holds_at(alloc, count) {
+        Some(_) => Some(count),
+        None => None,
+    }
+}
+
+/// Asserts that each group has so many statements, and that each holds. The failure names the group and the first that doesn't, counted
+/// from 0.
+pub fn all_said<S: Statements>(rt: &(impl Abort + AllocGlobal), groups: &[(&str, S, usize)]) {
+    for (name, group, count) in groups {
+        assert_eq!(rt; wrong_at(rt.alloc(), group, *count), None, "{name}");
     }
 }
 
@@ -24,9 +63,34 @@ pub fn all_hold<C: Case>(rt: &(impl Abort + AllocGlobal), cases: &[C]) {
     }
 }
 
+/// Asserts that each life goes as its steps say. The failure names the first that doesn't, counted from 0, and its step.
+pub fn all_live<L: Life>(rt: &(impl Abort + AllocGlobal), lives: &[L]) {
+    for (place, life) in lives.iter().enumerate() {
+        assert_eq!(rt; life.stops_at(rt.alloc()), None, "life {place}");
+    }
+}
+
+/// Where the steps stop.
+pub fn first_wrong<T, S: Goes<T>>(alloc: Global, value: &mut T, steps: &[S]) -> Option<usize> {
+    for (place, step) in steps.iter().enumerate() {
+        if !step.goes(alloc, value) {
+            return Some(place);
+        }
+    }
+    None
+}
+
 /// Whether the value's text is this one.
 pub fn prints<T: Display>(alloc: Global, value: &T, text: &str) -> bool {
     match value.to_string(alloc) {
+        Ok(found) => found.as_str() == text,
+        Err(_) => false,
+    }
+}
+
+/// The same of its text for debugging.
+pub fn shows<T: Debug>(alloc: Global, value: &T, text: &str) -> bool {
+    match format!(in alloc; "{value:?}") {
         Ok(found) => found.as_str() == text,
         Err(_) => false,
     }

@@ -1,8 +1,11 @@
-//! Tests of the base of the stack, of addresses and of packet formats, as a user of `net_base`, `ip_wire` and `control_wire` sees them.
+//! Tests of the base of the stack, of addresses and of packet formats, as a user of `net_base`, `ip_wire` and `control_wire` sees them, and
+//! of files of cases.
 #![tactic(auto)]
 
 #[cfg(test)]
 mod base;
+#[cfg(test)]
+mod case_texts;
 #[cfg(test)]
 mod cases;
 #[cfg(test)]

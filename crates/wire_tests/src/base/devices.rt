@@ -1,11 +1,12 @@
 //! What devices answer, and what they say of themselves.
-use crate::cases::{Case, all, all_hold, prints};
+use crate::cases::{
+    Case, Goes, Life, Statements, all, all_hold, all_live, all_said, first_wrong, prints,
+};
 use net_base::{
     Checksum, ChecksumCapabilities, Device, DeviceCapabilities, IPV4_FRAGMENT_PAYLOAD_ALIGNMENT,
     Instant, Loopback, Medium, PacketMeta, RxToken, TxToken,
 };
 use std::alloc::Global;
-use std::process::Abort;
 
 /// Sends the bytes, by a device that is known by its bound alone.
 fn send_bytes<D: Device>(device: &mut D, bytes: &[u8]) -> bool {
@@ -40,22 +41,6 @@ fn is_silent(device: &mut Loopback) -> bool {
     device.receive(Instant::ZERO).is_none()
 }
 
-#[test]
-fn loopback_receives_what_it_sent(rt: HostRuntime) {
-    let mut device = Loopback::new(rt.alloc(), Medium::Ethernet);
-    all(
-        &rt,
-        &[
-            is_silent(&mut device),
-            send_bytes(&mut device, b"first"),
-            send_bytes(&mut device, b"next one"),
-            receives(&mut device, b"first"),
-            next_length(&mut device) == Some(8),
-            is_silent(&mut device),
-        ],
-    );
-}
-
 /// Answers the next frame by the leave beside it, while it is read. The answer is the frame's length.
 fn answers(device: &mut Loopback) -> Option<usize> {
     let (token, mut leave) = device.receive(Instant::ZERO)?;
@@ -77,20 +62,6 @@ fn hands_over(device: &mut Loopback, bytes: &[u8]) -> bool {
     }
 }
 
-#[test]
-fn a_frame_is_answered_while_it_is_read(rt: HostRuntime) {
-    let mut device = Loopback::new(rt.alloc(), Medium::Ethernet);
-    all(
-        &rt,
-        &[
-            send_bytes(&mut device, b"first"),
-            answers(&mut device) == Some(5),
-            hands_over(&mut device, b"ok"),
-            device.refusals() == 0,
-        ],
-    );
-}
-
 /// The text of the refusal of a frame that no allocator has room for. The closure doesn't run.
 fn refuses(alloc: Global, device: &mut Loopback) -> bool {
     let Some(leave) = device.transmit(Instant::ZERO) else {
@@ -106,56 +77,35 @@ fn refuses(alloc: Global, device: &mut Loopback) -> bool {
     }
 }
 
-#[test]
-fn loopback_refuses_before_the_closure_runs(rt: HostRuntime) {
-    let mut device = Loopback::new(rt.alloc(), Medium::Ip);
-    all(
-        &rt,
-        &[
-            refuses(rt.alloc(), &mut device),
-            device.refusals() == 1,
-            is_silent(&mut device),
-            send_bytes(&mut device, b"again"),
-            next_length(&mut device) == Some(5),
-        ],
-    );
-}
-
-#[test]
-fn capabilities_follow_the_medium(rt: HostRuntime) {
-    let ethernet = Loopback::new(rt.alloc(), Medium::Ethernet).capabilities();
+fn capabilities_follow_the_medium(alloc: Global, place: usize) -> Option<bool> {
+    let ethernet = Loopback::new(alloc, Medium::Ethernet).capabilities();
     let short = DeviceCapabilities {
         max_transmission_unit: 13,
         ..DeviceCapabilities::default()
     };
-    all(
-        &rt,
-        &[
-            ethernet.max_transmission_unit == 65_535,
-            ethernet.ip_mtu() == 65_521,
-            ethernet.checksum == ChecksumCapabilities::default(),
-            short.ip_mtu() == 0,
-        ],
-    );
+    Some(match place {
+        0 => ethernet.max_transmission_unit == 65_535,
+        1 => ethernet.ip_mtu() == 65_521,
+        2 => ethernet.checksum == ChecksumCapabilities::default(),
+        3 => short.ip_mtu() == 0,
+        _ => return None,
+    })
 }
 
 /// The pieces of a datagram on a link of 1500 bytes hold 1480 bytes behind a header of 20.
-#[test]
-fn pieces_hold_eighths(rt: HostRuntime) {
+fn pieces_hold_eighths(place: usize) -> Option<bool> {
     let ip = DeviceCapabilities {
         medium: Medium::Ip,
         max_transmission_unit: 1500,
         checksum: ChecksumCapabilities::ignored(),
     };
-    all(
-        &rt,
-        &[
-            ip.ip_mtu() == 1500,
-            ip.max_ipv4_fragment_size(20) == 1480,
-            ip.max_ipv4_fragment_size(24) == 1472,
-            IPV4_FRAGMENT_PAYLOAD_ALIGNMENT == 8,
-        ],
-    );
+    Some(match place {
+        0 => ip.ip_mtu() == 1500,
+        1 => ip.max_ipv4_fragment_size(20) == 1480,
+        2 => ip.max_ipv4_fragment_size(24) == 1472,
+        3 => IPV4_FRAGMENT_PAYLOAD_ALIGNMENT == 8,
+        _ => return None,
+    })
 }
 
 /// Whether checksums are verified, and whether they are written.
@@ -194,28 +144,140 @@ fn sends(device: &mut Loopback, length: usize) -> bool {
     }
 }
 
-/// Asserts that frames of these lengths are sent, and then received in order.
-fn pass(rt: &(impl Abort + AllocGlobal), lengths: &[usize]) {
-    let mut device = Loopback::new(rt.alloc(), Medium::Ip);
+/// Whether frames of these lengths are sent, and then received in order.
+fn pass(device: &mut Loopback, lengths: &[usize]) -> bool {
     for length in lengths {
-        assert!(rt; sends(&mut device, *length), "{length} bytes are sent");
+        if !sends(device, *length) {
+            return false;
+        }
     }
     for length in lengths {
-        assert!(rt;
-            next_length(&mut device) == Some(*length),
-            "{length} bytes come"
-        );
+        if next_length(device) != Some(*length) {
+            return false;
+        }
     }
-    assert!(rt; device.refusals() == 0);
+    true
 }
 
-/// One frame is longer than the capabilities say.
-#[test]
-fn loopback_takes_long_frames(rt: HostRuntime) {
-    pass(&rt, &[0, 1, 1500, 65_535, 70_000]);
+/// A call of a loopback, and what it must answer.
+enum Step {
+    /// There is no next frame.
+    IsSilent,
+    /// A frame of these bytes is sent.
+    Sends(&'static [u8]),
+    /// The next frame is this one.
+    Receives(&'static [u8]),
+    /// The same, and it is handed over.
+    HandsOver(&'static [u8]),
+    /// The next frame has so many bytes.
+    HasNext(usize),
+    /// The next frame, of so many bytes, is answered by one that says `ok`.
+    Answers(usize),
+    /// A frame that no memory holds is refused.
+    Refuses,
+    /// So many frames were refused.
+    Refused(u64),
+    /// Frames of these lengths are sent and received.
+    Passes(&'static [usize]),
 }
 
+use Step::{Answers, HandsOver, HasNext, IsSilent, Passes, Receives, Refused, Refuses, Sends};
+
+impl Goes<Loopback> for Step {
+    fn goes(&self, alloc: Global, device: &mut Loopback) -> bool {
+        match self {
+            Sends(frame) => send_bytes(device, frame),
+            Answers(length) => answers(device) == Some(*length),
+            Refuses => refuses(alloc, device),
+            Refused(count) => device.refusals() == *count,
+            Passes(lengths) => pass(device, lengths),
+            _ => comes(device, self),
+        }
+    }
+}
+
+/// Whether a step that asks for the next frame goes as it says.
+fn comes(device: &mut Loopback, step: &Step) -> bool {
+    match step {
+        IsSilent => is_silent(device),
+        Receives(frame) => receives(device, frame),
+        HandsOver(frame) => hands_over(device, frame),
+        HasNext(length) => next_length(device) == Some(*length),
+        _ => false,
+    }
+}
+
+/// A loopback of a medium, from its beginning on.
+struct Looped(Medium, &'static [Step]);
+
+impl Life for Looped {
+    fn stops_at(&self, alloc: Global) -> Option<usize> {
+        first_wrong(alloc, &mut Loopback::new(alloc, self.0), self.1)
+    }
+}
+
+const LIVES: [Looped; 5] = [
+    // It receives what it sent.
+    Looped(
+        Medium::Ethernet,
+        &[
+            IsSilent,
+            Sends(b"first"),
+            Sends(b"next one"),
+            Receives(b"first"),
+            HasNext(8),
+            IsSilent,
+        ],
+    ),
+    // A frame is answered while it is read.
+    Looped(
+        Medium::Ethernet,
+        &[Sends(b"first"), Answers(5), HandsOver(b"ok"), Refused(0)],
+    ),
+    // It refuses before the closure runs.
+    Looped(
+        Medium::Ip,
+        &[Refuses, Refused(1), IsSilent, Sends(b"again"), HasNext(5)],
+    ),
+    // One frame is longer than the capabilities say.
+    Looped(
+        Medium::Ip,
+        &[Passes(&[0, 1, 1500, 65_535, 70_000]), Refused(0)],
+    ),
+    // It takes many frames.
+    Looped(Medium::Ip, &[Passes(&[5; 300]), Refused(0)]),
+];
+
 #[test]
-fn loopback_takes_many_frames(rt: HostRuntime) {
-    pass(&rt, &[5; 300]);
+fn loopbacks_live(rt: HostRuntime) {
+    all_live(&rt, &LIVES);
+}
+
+/// The groups of statements.
+enum Of {
+    CapabilitiesFollowTheMedium,
+    PiecesHoldEighths,
+}
+
+impl Statements for Of {
+    fn holds_at(&self, alloc: Global, place: usize) -> Option<bool> {
+        match self {
+            Of::CapabilitiesFollowTheMedium => capabilities_follow_the_medium(alloc, place),
+            Of::PiecesHoldEighths => pieces_hold_eighths(place),
+        }
+    }
+}
+
+const STATEMENTS: [(&str, Of, usize); 2] = [
+    (
+        "capabilities follow the medium",
+        Of::CapabilitiesFollowTheMedium,
+        4,
+    ),
+    ("pieces hold eighths", Of::PiecesHoldEighths, 4),
+];
+
+#[test]
+fn statements_hold(rt: HostRuntime) {
+    all_said(&rt, &STATEMENTS);
 }

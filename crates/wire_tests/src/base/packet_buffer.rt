@@ -2,15 +2,16 @@
 ghost use Rattle.std.specs.Prelude.{◌≡◌, ℕ, List, length, IfOk, OnOk, OnErr, Some};
 ghost use Rattle.net_base.specs.Packets.{first, unpadded, without_first};
 
-use crate::cases::all;
+use crate::cases;
+use crate::cases::{Life, all_live, first_wrong};
 use net_base::{Empty, Full, ManagedSlice, PacketBuffer, PacketMetadata, container_laws};
-use std::process::Abort;
+use std::alloc::{AllocError, Global};
 
 /// A queue with so many places and room for so many bytes.
-fn queue_of(rt: &(impl Abort + AllocGlobal), places: usize, room: usize) -> PacketBuffer<u16> {
-    let entries = vec![in rt.alloc(); PacketMetadata::EMPTY; places].expect(rt, "memory");
-    let bytes = vec![in rt.alloc(); 0; room].expect(rt, "memory");
-    PacketBuffer::new(ManagedSlice::Fixed(entries), ManagedSlice::Fixed(bytes))
+fn queue_of(alloc: Global, places: usize, room: usize) -> Result<PacketBuffer<u16>, AllocError> {
+    let entries = vec![in alloc; PacketMetadata::EMPTY; places]?;
+    let bytes = vec![in alloc; 0; room]?;
+    Ok(PacketBuffer::new(ManagedSlice::Fixed(entries), ManagedSlice::Fixed(bytes)))
 }
 
 fn put(queue: &mut PacketBuffer<u16>, header: u16, bytes: &[u8]) -> bool {
@@ -139,21 +140,25 @@ enum Step {
     Settles(usize),
     /// There is nothing to read, to let go or to copy.
     HasNone,
+    /// Its text for debugging is this one.
+    Prints(&'static str),
 }
 
 use Step::{
     Capacities, Copied, Copies, Counts, Discards, Gives, GivesUp, HasNone, IsEmpty, IsFull, Keeps,
-    Puts, Reads, Refuses, Resets, Settles, Shows, Writes,
+    Prints, Puts, Reads, Refuses, Resets, Settles, Shows, Writes,
 };
 
-/// Whether the step goes as it says.
-fn goes(queue: &mut PacketBuffer<u16>, step: &Step) -> bool {
-    match step {
-        Puts(header, bytes) => put(queue, *header, bytes),
-        Refuses(header, bytes) => !put(queue, *header, bytes),
-        Shows(header, bytes) => shows(queue, *header, bytes),
-        Gives(header, bytes) => gives(queue, *header, bytes),
-        _ => says(queue, step),
+impl cases::Goes<PacketBuffer<u16>> for Step {
+    fn goes(&self, alloc: Global, queue: &mut PacketBuffer<u16>) -> bool {
+        match self {
+            Puts(header, bytes) => put(queue, *header, bytes),
+            Refuses(header, bytes) => !put(queue, *header, bytes),
+            Shows(header, bytes) => shows(queue, *header, bytes),
+            Gives(header, bytes) => gives(queue, *header, bytes),
+            Prints(text) => cases::shows(alloc, queue, text),
+            _ => says(queue, self),
+        }
     }
 }
 
@@ -197,21 +202,42 @@ fn copies(queue: &mut PacketBuffer<u16>, step: &Step) -> bool {
     }
 }
 
-/// Asserts that each step of the life of a queue with so many places, and room for so many bytes, goes as it says.
-fn play(rt: &(impl Abort + AllocGlobal), places: usize, room: usize, steps: &[Step]) {
-    let mut queue = queue_of(rt, places, room);
-    for (place, step) in steps.iter().enumerate() {
-        assert!(rt; goes(&mut queue, step), "step {place}");
+/// A queue with so many places and room for so many bytes, from its beginning on.
+struct Queue(usize, usize, &'static [Step]);
+
+impl Life for Queue {
+    fn stops_at(&self, alloc: Global) -> Option<usize> {
+        match queue_of(alloc, self.0, self.1) {
+            Ok(mut queue) => first_wrong(alloc, &mut queue, self.2),
+            Err(_) => Some(0),
+        }
     }
 }
 
-const NO_PACKET: [Step; 5] = [Capacities(2, 16), Resets, IsEmpty, IsFull(false), Counts(0)];
+const LIVES: [Queue; 12] = [
+    Queue(2, 16, &NO_PACKET),
+    Queue(4, 16, &PADDED),
+    Queue(2, 16, &NO_ROOM),
+    Queue(4, 16, &NO_ROOM_BEHIND_PADDING),
+    Queue(2, 16, &KEPT),
+    Queue(2, 4, &WRITTEN),
+    Queue(4, 16, &REFUSED),
+    Queue(4, 16, &GIVEN_UP),
+    Queue(4, 8, &READ),
+    Queue(3, 8, &COPIED),
+    Queue(4, 8, &[HasNone]),
+    Queue(1, 2, &PRINTED),
+];
 
 #[test]
-fn begins_with_no_packet(rt: HostRuntime) {
-    play(&rt, 2, 16, &NO_PACKET);
+fn queues_live(rt: HostRuntime) {
+    all_live(&rt, &LIVES);
 }
 
+/// It begins with no packet.
+const NO_PACKET: [Step; 5] = [Capacities(2, 16), Resets, IsEmpty, IsFull(false), Counts(0)];
+
+/// It pads at the end.
 const PADDED: [Step; 21] = [
     IsEmpty,
     Puts(1, b"abcdef"),
@@ -237,11 +263,7 @@ const PADDED: [Step; 21] = [
     Counts(0),
 ];
 
-#[test]
-fn pads_at_the_end(rt: HostRuntime) {
-    play(&rt, 4, 16, &PADDED);
-}
-
+/// It refuses what has no room.
 const NO_ROOM: [Step; 11] = [
     Refuses(1, b"0123456789abcdefg"),
     Puts(1, b"abcdef"),
@@ -257,11 +279,7 @@ const NO_ROOM: [Step; 11] = [
     Gives(3, b"ab"),
 ];
 
-#[test]
-fn refuses_what_has_no_room(rt: HostRuntime) {
-    play(&rt, 2, 16, &NO_ROOM);
-}
-
+/// It refuses what the padding leaves no room for.
 const NO_ROOM_BEHIND_PADDING: [Step; 11] = [
     Puts(1, b"abcd"),
     Puts(2, b"12345678"),
@@ -276,11 +294,7 @@ const NO_ROOM_BEHIND_PADDING: [Step; 11] = [
     Gives(4, b"efgh"),
 ];
 
-#[test]
-fn refuses_what_the_padding_leaves_no_room_for(rt: HostRuntime) {
-    play(&rt, 4, 16, &NO_ROOM_BEHIND_PADDING);
-}
-
+/// It stays as it is where it refuses.
 const KEPT: [Step; 13] = [
     Puts(1, b"abcdef"),
     // There is no room for so many bytes, and then no entry.
@@ -298,11 +312,7 @@ const KEPT: [Step; 13] = [
     Capacities(2, 16),
 ];
 
-#[test]
-fn keeps_the_queue_where_it_refuses(rt: HostRuntime) {
-    play(&rt, 2, 16, &KEPT);
-}
-
+/// It queues what closures write.
 const WRITTEN: [Step; 5] = [
     Writes(3, Ok(3)),
     Writes(4, Err(Full)),
@@ -311,12 +321,7 @@ const WRITTEN: [Step; 5] = [
     IsEmpty,
 ];
 
-#[test]
-fn queues_what_closures_write(rt: HostRuntime) {
-    play(&rt, 2, 4, &WRITTEN);
-}
-
-/// The first packet has two bytes of padding before it.
+/// What a closure refused stays. The first packet has two bytes of padding before it.
 const REFUSED: [Step; 9] = [
     Puts(1, b"abcdef"),
     Puts(2, b"12345678"),
@@ -329,12 +334,7 @@ const REFUSED: [Step; 9] = [
     Shows(7, b"Wxy"),
 ];
 
-#[test]
-fn keeps_what_a_closure_refused(rt: HostRuntime) {
-    play(&rt, 4, 16, &REFUSED);
-}
-
-/// The first packet has two bytes of padding before it.
+/// What a closure took is given up. The first packet has two bytes of padding before it.
 const GIVEN_UP: [Step; 9] = [
     Puts(1, b"abcdef"),
     Puts(2, b"12345678"),
@@ -347,11 +347,7 @@ const GIVEN_UP: [Step; 9] = [
     GivesUp(Err(Empty)),
 ];
 
-#[test]
-fn gives_up_what_a_closure_took(rt: HostRuntime) {
-    play(&rt, 4, 16, &GIVEN_UP);
-}
-
+/// Packets are read where they lie.
 const READ: [Step; 8] = [
     Copies(1, b"abcde", Ok(())),
     Copies(2, b"fg", Ok(())),
@@ -364,11 +360,7 @@ const READ: [Step; 8] = [
     Counts(0),
 ];
 
-#[test]
-fn reads_packets_where_they_lie(rt: HostRuntime) {
-    play(&rt, 4, 8, &READ);
-}
-
+/// Packets are copied.
 const COPIED: [Step; 11] = [
     Copies(1, b"abcde", Ok(())),
     Copies(2, b"fghi", Err(Full)),
@@ -383,24 +375,11 @@ const COPIED: [Step; 11] = [
     Counts(0),
 ];
 
-#[test]
-fn copies_packets(rt: HostRuntime) {
-    play(&rt, 3, 8, &COPIED);
-}
-
-#[test]
-fn an_empty_queue_has_nothing_to_read(rt: HostRuntime) {
-    play(&rt, 4, 8, &[HasNone]);
-}
-
-#[test]
-fn prints_what_it_holds(rt: HostRuntime) {
-    let mut queue = queue_of(&rt, 1, 2);
-    let is_put = put(&mut queue, 7, b"a");
-    let text = format!(in rt.alloc(); "{queue:?}").expect(&rt, "memory");
-    let wanted = concat!(
+/// It prints what it holds.
+const PRINTED: [Step; 2] = [
+    Puts(7, b"a"),
+    Prints(concat!(
         "PacketBuffer { metadata: RingBuffer { storage: [PacketMetadata { size: 1, header: Some(7) }], read_at: 0, length: 1 }, ",
         "payload: RingBuffer { storage: [97, 0], read_at: 0, length: 1 } }"
-    );
-    all(&rt, &[is_put, text.as_str() == wanted]);
-}
+    )),
+];

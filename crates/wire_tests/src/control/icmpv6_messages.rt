@@ -1,13 +1,12 @@
 //! ICMPv6 messages as values, and where they are written. `decode` reads and writes them as data.
-use crate::cases::{Case, all, all_hold};
+use crate::cases::{Case, Statements, all, all_hold, all_said};
 use control_wire::{
     Icmpv6DstUnreachable, Icmpv6Header, Icmpv6Message, Icmpv6Packet, Icmpv6PacketMut,
     Icmpv6ParamProblem, Icmpv6Repr, Icmpv6TimeExceeded, icmpv6_field as field, icmpv6_laws,
 };
-use ip_wire::Ipv6Address;
+use ip_wire::{Error, Ipv6Address};
 use net_base::ChecksumCapabilities;
 use std::alloc::Global;
-use std::process::Abort;
 
 /// fd00::1, which sent the packets that errors are about.
 const LEFT: Ipv6Address = Ipv6Address([0xfd, 0, 0, 0, 0, 0, 0, 0, 0, 0, 0, 0, 0, 0, 0, 1]);
@@ -25,68 +24,145 @@ const REPLY: [u8; 11] = [
     0x81, 0x00, 0x1c, 0xb3, 0x12, 0x34, 0xab, 0xcd, 0xaa, 0x00, 0x00,
 ];
 
-// Fields are set one by one, and read where they are written.
-#[test]
-fn message_is_set(rt: HostRuntime) {
-    let mut bytes = [0xff; 12];
-    let mut packet = Icmpv6PacketMut::new_unchecked(&mut bytes);
-    packet.set_msg_type(Icmpv6Message::EchoRequest);
-    packet.set_msg_code(0);
-    packet.clear_reserved();
-    packet.set_echo_ident(0x1234);
-    packet.set_echo_seq_no(0xabcd);
-    packet.into_inner()[8..].copy_from_slice(&[0xaa, 0x00, 0x00, 0xff]);
-    let mut packet = Icmpv6PacketMut::new_checked(&mut bytes).expect(&rt, "whole");
-    packet.fill_checksum(&LEFT, &RIGHT);
-    let said = (
-        packet.msg_type() == Icmpv6Message::EchoRequest,
+/// A field to be set.
+enum Field {
+    Type(Icmpv6Message),
+    Code(u8),
+    Reserved,
+    Ident(u16),
+    SeqNo(u16),
+    Mtu(u32),
+    Pointer(u32),
+    Checksum(u16),
+    /// The checksum is filled in.
+    Sealed,
+}
+
+/// Sets a field, if there is a header.
+fn set(bytes: &mut [u8], field: &Field) {
+    if bytes.len() < 8 || bytes.len() > 0xffff {
+        return;
+    }
+    let mut packet = Icmpv6PacketMut::new_unchecked(bytes);
+    match field {
+        Field::Type(value) => packet.set_msg_type(*value),
+        Field::Code(value) => packet.set_msg_code(*value),
+        Field::Reserved => packet.clear_reserved(),
+        Field::Ident(value) => packet.set_echo_ident(*value),
+        Field::SeqNo(value) => packet.set_echo_seq_no(*value),
+        Field::Mtu(value) => packet.set_pkt_too_big_mtu(*value),
+        Field::Pointer(value) => packet.set_param_problem_ptr(*value),
+        Field::Checksum(value) => packet.set_checksum(*value),
+        Field::Sealed => packet.fill_checksum(&LEFT, &RIGHT),
+    }
+}
+
+/// Sets these fields.
+fn set_all(bytes: &mut [u8], fields: &[Field]) {
+    for field in fields {
+        set(bytes, field);
+    }
+}
+
+const FIELDS: [Field; 6] = [
+    Field::Type(Icmpv6Message::EchoRequest),
+    Field::Code(0),
+    Field::Reserved,
+    Field::Ident(0x1234),
+    Field::SeqNo(0xabcd),
+    Field::Sealed,
+];
+
+/// Type, code, identifier, number, the header's length, the checksum, whether it is right, and how long the payload is.
+type Said = (Icmpv6Message, u8, u16, u16, usize, u16, bool, usize);
+
+const SAID: Said = (
+    Icmpv6Message::EchoRequest,
+    0,
+    0x1234,
+    0xabcd,
+    8,
+    0x1cb3,
+    true,
+    4,
+);
+
+fn said(bytes: &mut [u8]) -> Option<Said> {
+    if bytes.len() < 8 || bytes.len() > 0xffff {
+        return None;
+    }
+    let packet = Icmpv6PacketMut::new_checked(bytes).ok()?;
+    Some((
+        packet.msg_type(),
         packet.msg_code(),
         packet.echo_ident(),
         packet.echo_seq_no(),
         packet.header_len(),
         packet.checksum(),
         packet.verify_checksum(&LEFT, &RIGHT),
-    );
+        packet.payload().len(),
+    ))
+}
+/// The size and the pointer, and how many bytes of payload are lent.
+fn lent(bytes: &mut [u8]) -> Option<(u32, u32, usize)> {
+    if bytes.len() < 8 {
+        return None;
+    }
+    let mut packet = Icmpv6PacketMut::new_checked(bytes).ok()?;
+    let read = (packet.pkt_too_big_mtu(), packet.param_problem_ptr());
+    Some((read.0, read.1, packet.payload_mut().len()))
+}
+
+/// The bytes that the view holds.
+fn held(bytes: &mut [u8]) -> &[u8] {
+    Icmpv6PacketMut::new_unchecked(bytes).into_inner()
+}
+
+// Fields are set one by one, and read where they are written.
+#[test]
+fn message_is_set(rt: HostRuntime) {
+    let mut bytes = [0xff; 12];
+    bytes[8..].copy_from_slice(&[0xaa, 0x00, 0x00, 0xff]);
+    set_all(&mut bytes, &FIELDS);
     all(
         &rt,
         &[
-            said == (true, 0, 0x1234, 0xabcd, 8, 0x1cb3, true),
-            packet.payload().len() == 4,
-            packet.payload_mut().len() == 4,
-            bytes == REQUEST,
+            said(&mut bytes) == Some(SAID),
+            held(&mut bytes) == REQUEST.as_slice(),
         ],
     );
 }
 
-#[test]
-fn sizes_and_pointers_are_set(rt: HostRuntime) {
+const OTHERS: [Field; 2] = [Field::Pointer(40), Field::Checksum(0xbeef)];
+
+fn sizes_and_pointers_are_set(place: usize) -> Option<bool> {
     let mut bytes = REQUEST;
-    let mut packet = Icmpv6PacketMut::new_unchecked(&mut bytes);
-    packet.set_pkt_too_big_mtu(1280);
-    let mtu = packet.pkt_too_big_mtu();
-    packet.set_param_problem_ptr(40);
-    let pointer = packet.param_problem_ptr();
-    packet.set_checksum(0xbeef);
-    all(
-        &rt,
-        &[
-            (mtu, pointer) == (1280, 40),
-            bytes == [0x80, 0, 0xbe, 0xef, 0, 0, 0, 40, 0xaa, 0, 0, 0xff],
-        ],
-    );
+    set(&mut bytes, &Field::Mtu(1280));
+    let mtu = lent(&mut bytes) == Some((1280, 1280, 4));
+    set_all(&mut bytes, &OTHERS);
+    Some(match place {
+        0 => mtu,
+        1 => lent(&mut bytes) == Some((40, 40, 4)),
+        2 => bytes == [0x80, 0, 0xbe, 0xef, 0, 0, 0, 40, 0xaa, 0, 0, 0xff],
+        _ => return None,
+    })
 }
 
 fn is_whole(bytes: &[u8]) -> bool {
     Icmpv6Packet::new_checked(bytes).is_ok()
 }
 
-/// A type, and the length of its header, from 4 to 40 bytes: so many are enough, and one byte less isn't.
+/// A type, and the length of its header, from 4 to 40 bytes: so many are enough, and one byte less isn't. 0 stands for a type that no
+/// header has.
 struct Length(u8, usize);
 
 impl Case for Length {
     fn holds(&self, _alloc: Global) -> bool {
         let mut bytes = [0; 40];
         bytes[0] = self.0;
+        if self.1 == 0 {
+            return !is_whole(&bytes);
+        }
         match (bytes.get(..self.1), bytes.get(..self.1.wrapping_sub(1))) {
             (Some(enough), Some(less)) => is_whole(enough) && !is_whole(less),
             _ => false,
@@ -94,7 +170,7 @@ impl Case for Length {
     }
 }
 
-const LENGTHS: [Length; 14] = [
+const LENGTHS: [Length; 25] = [
     Length(1, 8),
     Length(2, 8),
     Length(3, 8),
@@ -109,80 +185,57 @@ const LENGTHS: [Length; 14] = [
     Length(137, 40),
     Length(143, 8),
     Length(155, 4),
-];
-
-/// A type that no header has.
-struct Unknown(u8);
-
-impl Case for Unknown {
-    fn holds(&self, _alloc: Global) -> bool {
-        let mut bytes = [0; 40];
-        bytes[0] = self.0;
-        !is_whole(&bytes)
-    }
-}
-
-const UNKNOWN: [Unknown; 11] = [
-    Unknown(0),
-    Unknown(5),
-    Unknown(100),
-    Unknown(127),
-    Unknown(131),
-    Unknown(132),
-    Unknown(138),
-    Unknown(142),
-    Unknown(144),
-    Unknown(200),
-    Unknown(255),
+    Length(0, 0),
+    Length(5, 0),
+    Length(100, 0),
+    Length(127, 0),
+    Length(131, 0),
+    Length(132, 0),
+    Length(138, 0),
+    Length(142, 0),
+    Length(144, 0),
+    Length(200, 0),
+    Length(255, 0),
 ];
 
 #[test]
 fn headers_are_whole(rt: HostRuntime) {
     all_hold(&rt, &LENGTHS);
-    all_hold(&rt, &UNKNOWN);
     assert!(rt; !is_whole(&[]));
 }
 
-/// Asserts that the message of each number has that number.
-fn have_numbers(rt: &impl Abort) {
+/// Whether messages and reasons of each number have that number.
+fn have_numbers() -> bool {
     for number in 0..=255 {
-        assert!(rt;
-            u8::from(Icmpv6Message::from(number)) == number,
-            "type {number}"
-        );
+        if u8::from(Icmpv6Message::from(number)) != number || codes(number) != [number; 3] {
+            return false;
+        }
+    }
+    true
+}
+
+/// Whether a message is an error, and whether it is one about neighbours.
+struct Kind(Icmpv6Message, bool, bool);
+
+impl Case for Kind {
+    fn holds(&self, _alloc: Global) -> bool {
+        (self.0.is_error(), self.0.is_ndisc()) == (self.1, self.2)
     }
 }
 
-#[test]
-fn messages_have_numbers(rt: HostRuntime) {
-    have_numbers(&rt);
-}
-
 // RFC 4443, section 2.1; RFC 4861, section 4. A known number under the name of an unknown one is the same kind.
-#[test]
-fn kinds_are_told_apart(rt: HostRuntime) {
-    let errors = [
-        Icmpv6Message::ParamProblem.is_error(),
-        Icmpv6Message::Unknown(127).is_error(),
-        Icmpv6Message::EchoRequest.is_error(),
-    ];
-    let neighbors = [
-        Icmpv6Message::NeighborSolicit.is_ndisc(),
-        Icmpv6Message::Redirect.is_ndisc(),
-        Icmpv6Message::Unknown(135).is_ndisc(),
-        Icmpv6Message::EchoReply.is_ndisc(),
-        Icmpv6Message::MldReport.is_ndisc(),
-        Icmpv6Message::Unknown(132).is_ndisc(),
-        Icmpv6Message::Unknown(138).is_ndisc(),
-    ];
-    all(
-        &rt,
-        &[
-            errors == [true, true, false],
-            neighbors == [true, true, true, false, false, false, false],
-        ],
-    );
-}
+const KINDS: [Kind; 10] = [
+    Kind(Icmpv6Message::ParamProblem, true, false),
+    Kind(Icmpv6Message::Unknown(127), true, false),
+    Kind(Icmpv6Message::EchoRequest, false, false),
+    Kind(Icmpv6Message::NeighborSolicit, false, true),
+    Kind(Icmpv6Message::Redirect, false, true),
+    Kind(Icmpv6Message::Unknown(135), false, true),
+    Kind(Icmpv6Message::EchoReply, false, false),
+    Kind(Icmpv6Message::MldReport, false, false),
+    Kind(Icmpv6Message::Unknown(132), false, false),
+    Kind(Icmpv6Message::Unknown(138), false, false),
+];
 
 /// The codes of the three reasons of this code.
 fn codes(code: u8) -> [u8; 3] {
@@ -193,27 +246,17 @@ fn codes(code: u8) -> [u8; 3] {
     ]
 }
 
-/// Asserts that each reason of each code has that code.
-fn have_codes(rt: &impl Abort) {
-    for code in 0..=255 {
-        assert!(rt; codes(code) == [code; 3], "code {code}");
-    }
-}
-
-#[test]
-fn reasons_are_codes(rt: HostRuntime) {
-    have_codes(&rt);
-    all(
-        &rt,
-        &[
-            Icmpv6DstUnreachable::from(4) == Icmpv6DstUnreachable::PortUnreachable,
-            Icmpv6DstUnreachable::from(7) == Icmpv6DstUnreachable::Unknown(7),
-            Icmpv6TimeExceeded::from(1) == Icmpv6TimeExceeded::FragReassemExceeded,
-            Icmpv6TimeExceeded::from(2) == Icmpv6TimeExceeded::Unknown(2),
-            Icmpv6ParamProblem::from(1) == Icmpv6ParamProblem::UnrecognizedNxtHdr,
-            Icmpv6ParamProblem::from(3) == Icmpv6ParamProblem::Unknown(3),
-        ],
-    );
+fn numbers_and_codes_are_kept(place: usize) -> Option<bool> {
+    Some(match place {
+        0 => have_numbers(),
+        1 => Icmpv6DstUnreachable::from(4) == Icmpv6DstUnreachable::PortUnreachable,
+        2 => Icmpv6DstUnreachable::from(7) == Icmpv6DstUnreachable::Unknown(7),
+        3 => Icmpv6TimeExceeded::from(1) == Icmpv6TimeExceeded::FragReassemExceeded,
+        4 => Icmpv6TimeExceeded::from(2) == Icmpv6TimeExceeded::Unknown(2),
+        5 => Icmpv6ParamProblem::from(1) == Icmpv6ParamProblem::UnrecognizedNxtHdr,
+        6 => Icmpv6ParamProblem::from(3) == Icmpv6ParamProblem::Unknown(3),
+        _ => return None,
+    })
 }
 
 const REPLIED: Icmpv6Header = Icmpv6Header::EchoReply {
@@ -221,29 +264,34 @@ const REPLIED: Icmpv6Header = Icmpv6Header::EchoReply {
     seq_no: 0xabcd,
 };
 
-// A header is kept without what it carries.
-#[test]
-fn headers_are_kept(rt: HostRuntime) {
-    let caps = ChecksumCapabilities::ignored();
+/// The header that the reply is read as.
+fn read() -> Result<Icmpv6Header, Error> {
     let packet = Icmpv6Packet::new_unchecked(&REPLY);
-    let read = Icmpv6Header::parse(&RIGHT, &LEFT, &packet, &caps);
-    let repr = Icmpv6Repr::new(&REPLIED, &[0xaa, 0x00, 0x00]);
+    Icmpv6Header::parse(&RIGHT, &LEFT, &packet, &ChecksumCapabilities::ignored())
+}
+
+/// The bytes that are written of it.
+fn written() -> [u8; 11] {
     let mut bytes = [0xa5; 11];
-    repr.emit(
+    Icmpv6Repr::new(&REPLIED, &[0xaa, 0x00, 0x00]).emit(
         &RIGHT,
         &LEFT,
         &mut Icmpv6PacketMut::new_unchecked(&mut bytes),
         &ChecksumCapabilities::default(),
     );
-    all(
-        &rt,
-        &[
-            read == Ok(REPLIED),
-            bytes == REPLY,
-            repr.buffer_len() == 11,
-            repr.header() == REPLIED,
-        ],
-    );
+    bytes
+}
+
+/// A header is kept without what it carries.
+fn headers_are_kept(place: usize) -> Option<bool> {
+    let repr = Icmpv6Repr::new(&REPLIED, &[0xaa, 0x00, 0x00]);
+    Some(match place {
+        0 => read() == Ok(REPLIED),
+        1 => written() == REPLY,
+        2 => repr.buffer_len() == 11,
+        3 => repr.header() == REPLIED,
+        _ => return None,
+    })
 }
 
 #[test]
@@ -277,4 +325,37 @@ fn fields_are_in_their_places(rt: HostRuntime) {
             bytes == [0, 1, 8, 4],
         ],
     );
+}
+
+/// The groups of statements.
+enum Of {
+    SizesAndPointersAreSet,
+    NumbersAndCodesAreKept,
+    HeadersAreKept,
+}
+
+impl Statements for Of {
+    fn holds_at(&self, _alloc: Global, place: usize) -> Option<bool> {
+        match self {
+            Of::SizesAndPointersAreSet => sizes_and_pointers_are_set(place),
+            Of::NumbersAndCodesAreKept => numbers_and_codes_are_kept(place),
+            Of::HeadersAreKept => headers_are_kept(place),
+        }
+    }
+}
+
+const STATEMENTS: [(&str, Of, usize); 3] = [
+    ("sizes and pointers are set", Of::SizesAndPointersAreSet, 3),
+    ("numbers and codes are kept", Of::NumbersAndCodesAreKept, 7),
+    ("headers are kept", Of::HeadersAreKept, 4),
+];
+
+#[test]
+fn statements_hold(rt: HostRuntime) {
+    all_said(&rt, &STATEMENTS);
+}
+
+#[test]
+fn tables_hold(rt: HostRuntime) {
+    all_hold(&rt, &KINDS);
 }

@@ -1,5 +1,5 @@
 //! Addresses compared, and told apart by their tests.
-use crate::cases::{Case, all, all_hold};
+use crate::cases::{Case, Statements, all, all_hold, all_said};
 use crate::formats::texts::ipv6;
 use ip_wire::address_laws::Comparison;
 use ip_wire::{
@@ -88,24 +88,22 @@ fn all_less(all: &[Comparison]) -> bool {
     true
 }
 
-#[test]
-fn compares_addresses(rt: HostRuntime) {
-    let there = IpEndpoint {
-        addr: FIRST,
-        port: 10,
-    };
-    let (one, listening) = compared_endpoints(&there);
-    all(
-        &rt,
-        &[
-            all_less(&compared_hardware()),
-            all_less(&compared_protocols()),
-            all_less(&compared_addresses()),
-            all_less(&compared_blocks()),
-            is_less(&one),
-            is_less(&listening),
-        ],
-    );
+/// The endpoint behind that one.
+const THERE: IpEndpoint = IpEndpoint {
+    addr: FIRST,
+    port: 10,
+};
+
+fn compares_addresses(place: usize) -> Option<bool> {
+    Some(match place {
+        0 => all_less(&compared_hardware()),
+        1 => all_less(&compared_protocols()),
+        2 => all_less(&compared_addresses()),
+        3 => all_less(&compared_blocks()),
+        4 => is_less(&compared_endpoints(&THERE).0),
+        5 => is_less(&compared_endpoints(&THERE).1),
+        _ => return None,
+    })
 }
 
 /// Whether two hardware addresses of any kind are equal.
@@ -118,27 +116,33 @@ fn is_equal(said: &Comparison) -> bool {
     said.equal && said.order.is_eq() && said.hashes.0 == said.hashes.1
 }
 
-#[test]
-fn equal_values_have_equal_hashes(rt: HostRuntime) {
-    let (said, _) = compared_endpoints(&HERE);
-    // The bytes and not what stands behind them: a zero more is another address.
-    let (two, three) = (
-        RawHardwareAddress::from_bytes(&[1, 2]),
-        RawHardwareAddress::from_bytes(&[1, 2, 0]),
-    );
-    let raw = RawHardwareAddress::from(STATION);
+/// Whether the raw addresses of two and of three bytes are equal.
+fn are_equal_raw(left: &[u8; 2], right: &[u8; 3]) -> bool {
+    are_equal(
+        &RawHardwareAddress::from_bytes(left),
+        &RawHardwareAddress::from_bytes(right),
+    )
+}
+
+/// Whether 8 and the number behind 7 are equal, and their hashes.
+fn compared_numbers() -> (bool, bool) {
     let next = SeqNumber(7) + 1;
     let (equal, first, second) = address_laws::compare_sequence_numbers(SeqNumber(8), next);
-    all(
-        &rt,
-        &[
-            is_equal(&said),
-            !are_equal(&two, &three),
-            are_equal(&raw, &RawHardwareAddress::from(STATION)),
-            equal,
-            first == second,
-        ],
-    );
+    (equal, first == second)
+}
+
+fn equal_values_have_equal_hashes(place: usize) -> Option<bool> {
+    Some(match place {
+        0 => is_equal(&compared_endpoints(&HERE).0),
+        // The bytes and not what stands behind them: a zero more is another address.
+        1 => !are_equal_raw(&[1, 2], &[1, 2, 0]),
+        2 => are_equal(
+            &RawHardwareAddress::from(STATION),
+            &RawHardwareAddress::from(STATION),
+        ),
+        3 => compared_numbers() == (true, true),
+        _ => return None,
+    })
 }
 
 const KEY: Ipv4FragKey = Ipv4FragKey {
@@ -246,24 +250,15 @@ const GLOBAL: Ipv6Address = Ipv6Address([
 
 const WIDE_GROUP: Ipv6Address = Ipv6Address([0xff, 0x3e, 0, 0, 0, 0, 0, 0, 0, 0, 0, 0, 0, 0, 0, 1]);
 
-#[test]
-fn tells_ipv6_addresses_apart(rt: HostRuntime) {
-    all_hold(&rt, &REACHES);
-    all_hold(&rt, &KINDS);
-}
-
-#[test]
-fn makes_ipv6_addresses(rt: HostRuntime) {
+fn makes_ipv6_addresses(place: usize) -> Option<bool> {
     let local = Ipv6Address::new(0xfe80, 0, 0, 0, 0, 0, 0, 1);
-    all(
-        &rt,
-        &[
-            local == LOCAL,
-            local.octets()[1] == 0x80,
-            Ipv6Address::new(0xfec0, 0, 0, 0, 0, 0, 0, 1) == SITE,
-            Ipv6Address::new(0xff3e, 0, 0, 0, 0, 0, 0, 1) == WIDE_GROUP,
-        ],
-    );
+    Some(match place {
+        0 => local == LOCAL,
+        1 => local.octets()[1] == 0x80,
+        2 => Ipv6Address::new(0xfec0, 0, 0, 0, 0, 0, 0, 1) == SITE,
+        3 => Ipv6Address::new(0xff3e, 0, 0, 0, 0, 0, 0, 1) == WIDE_GROUP,
+        _ => return None,
+    })
 }
 
 /// An address, and whether it is one host's, a group's, all hosts', none, and this host's own.
@@ -303,18 +298,14 @@ const IPV4_KINDS: [Ipv4Kinds; 7] = [
     Ipv4Kinds(Ipv4Address::UNSPECIFIED, false, false, false, true, false),
 ];
 
-#[test]
-fn tells_ipv4_addresses_apart(rt: HostRuntime) {
-    all_hold(&rt, &IPV4_KINDS);
+fn tells_ipv4_addresses_apart(place: usize) -> Option<bool> {
     let host = Ipv4Address::new(192, 168, 1, 1);
-    all(
-        &rt,
-        &[
-            !kinds(&IpAddress::Ipv6(IPV6_LINK_LOCAL_ALL_NODES)).2,
-            host.octets() == [192, 168, 1, 1],
-            host == HOST,
-        ],
-    );
+    Some(match place {
+        0 => !kinds(&IpAddress::Ipv6(IPV6_LINK_LOCAL_ALL_NODES)).2,
+        1 => host.octets() == [192, 168, 1, 1],
+        2 => host == HOST,
+        _ => return None,
+    })
 }
 
 /// Whether the address is one host's, a group's, all hosts', none, and of IPv4.
@@ -328,22 +319,19 @@ fn kinds(address: &IpAddress) -> (bool, bool, bool, bool, bool) {
     )
 }
 
-// RFC 4291, section 2.7.1: the solicited-node address of 4037::01:800:200e:8c6c.
-#[test]
-fn gives_solicited_node_addresses(rt: HostRuntime) {
+/// RFC 4291, section 2.7.1: the solicited-node address of 4037::01:800:200e:8c6c.
+fn gives_solicited_node_addresses(place: usize) -> Option<bool> {
     let address = Ipv6Address::new(0x4037, 0, 0, 0, 1, 0x800, 0x200e, 0x8c6c);
     let solicited = address.solicited_node();
-    all(
-        &rt,
-        &[
-            address == GLOBAL,
-            address.x_is_unicast(),
-            !address.is_solicited_node_multicast(),
-            ipv6("ff02::1:ff0e:8c6c") == Some(solicited),
-            solicited.is_solicited_node_multicast(),
-            Ipv6Cidr::SOLICITED_NODE_PREFIX.contains_addr(&solicited),
-        ],
-    );
+    Some(match place {
+        0 => address == GLOBAL,
+        1 => address.x_is_unicast(),
+        2 => !address.is_solicited_node_multicast(),
+        3 => ipv6("ff02::1:ff0e:8c6c") == Some(solicited),
+        4 => solicited.is_solicited_node_multicast(),
+        5 => Ipv6Cidr::SOLICITED_NODE_PREFIX.contains_addr(&solicited),
+        _ => return None,
+    })
 }
 
 /// Two addresses, and how many first bits they have in common.
@@ -355,6 +343,7 @@ impl Case for Common {
     }
 }
 
+// RFC 6724, section 2.2: the length of the longest prefix that two addresses have in common.
 const COMMON: [Common; 6] = [
     Common("2001:db8::1", "2001:db8::1", 128),
     Common("2001:db8::1", "2001:db8::2", 126),
@@ -364,12 +353,56 @@ const COMMON: [Common; 6] = [
     Common("2001:db8::", "2001:db9::", 31),
 ];
 
-// RFC 6724, section 2.2: the length of the longest prefix that two addresses have in common.
-#[test]
-fn counts_common_first_bits(rt: HostRuntime) {
-    all_hold(&rt, &COMMON);
-}
-
 fn common_bits(one: &str, other: &str) -> Option<u8> {
     Some(ipv6(one)?.common_prefix_len(&ipv6(other)?))
+}
+
+/// The groups of statements.
+enum Of {
+    ComparesAddresses,
+    EqualValuesHaveEqualHashes,
+    MakesIpv6Addresses,
+    TellsIpv4AddressesApart,
+    GivesSolicitedNodeAddresses,
+}
+
+impl Statements for Of {
+    fn holds_at(&self, _alloc: Global, place: usize) -> Option<bool> {
+        match self {
+            Of::ComparesAddresses => compares_addresses(place),
+            Of::EqualValuesHaveEqualHashes => equal_values_have_equal_hashes(place),
+            Of::MakesIpv6Addresses => makes_ipv6_addresses(place),
+            Of::TellsIpv4AddressesApart => tells_ipv4_addresses_apart(place),
+            Of::GivesSolicitedNodeAddresses => gives_solicited_node_addresses(place),
+        }
+    }
+}
+
+const STATEMENTS: [(&str, Of, usize); 5] = [
+    ("compares addresses", Of::ComparesAddresses, 6),
+    (
+        "equal values have equal hashes",
+        Of::EqualValuesHaveEqualHashes,
+        4,
+    ),
+    ("makes ipv6 addresses", Of::MakesIpv6Addresses, 4),
+    ("tells ipv4 addresses apart", Of::TellsIpv4AddressesApart, 3),
+    (
+        "gives solicited node addresses",
+        Of::GivesSolicitedNodeAddresses,
+        6,
+    ),
+];
+
+#[test]
+fn statements_hold(rt: HostRuntime) {
+    all_said(&rt, &STATEMENTS);
+}
+
+#[test]
+fn tables_hold(rt: HostRuntime) {
+    all_hold(&rt, &REACHES);
+    all_hold(&rt, &KINDS);
+    all_hold(&rt, &IPV4_KINDS);
+    all_hold(&rt, &COMMON);
 }

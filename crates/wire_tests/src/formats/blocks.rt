@@ -1,5 +1,5 @@
 //! Blocks of addresses, their masks and their ends.
-use crate::cases::{Case, all, all_hold};
+use crate::cases::{Case, Statements, all_hold, all_said};
 use crate::formats::texts::{block, either};
 use ip_wire::{
     AddressExt, Error, IPV6_LINK_LOCAL_ALL_NODES, IpAddress, IpCidr, Ipv4Address, Ipv4Cidr,
@@ -26,20 +26,17 @@ fn last(block: &Ipv4Cidr) -> Option<Ipv4Address> {
 
 const MASK: Ipv4Address = Ipv4Address([255, 255, 255, 192]);
 
-// RFC 4632 and RFC 919: blocks, their masks and their ends.
-#[test]
-fn ipv4_blocks_have_ends(rt: HostRuntime) {
+/// RFC 4632 and RFC 919: blocks, their masks and their ends.
+fn ipv4_blocks_have_ends(place: usize) -> Option<bool> {
     let block = of_26_bits();
     let two = Ipv4Cidr::new(Ipv4Address([10, 0, 0, 1]), 31);
-    all(
-        &rt,
-        &[
-            parts(&block) == (MASK, WITHIN, 26),
-            block.network() == Ipv4Cidr::new(Ipv4Address([192, 168, 1, 64]), 26),
-            last(&block) == Some(Ipv4Address([192, 168, 1, 127])),
-            last(&two) == None,
-        ],
-    );
+    Some(match place {
+        0 => parts(&block) == (MASK, WITHIN, 26),
+        1 => block.network() == Ipv4Cidr::new(Ipv4Address([192, 168, 1, 64]), 26),
+        2 => last(&block) == Some(Ipv4Address([192, 168, 1, 127])),
+        3 => last(&two) == None,
+        _ => return None,
+    })
 }
 
 /// Whether the address with this last byte is in the block of 192.168.1.64 to 192.168.1.127.
@@ -58,37 +55,30 @@ const HELD: [Held; 4] = [
     Held(128, false),
 ];
 
-#[test]
-fn holds_the_right_ipv4_addresses(rt: HostRuntime) {
-    all_hold(&rt, &HELD);
+fn holds_the_right_ipv4_addresses(place: usize) -> Option<bool> {
     let (block, whole) = (of_26_bits(), Ipv4Cidr::new(Ipv4Address::UNSPECIFIED, 0));
-    all(
-        &rt,
-        &[
-            whole.contains_subnet(&block),
-            !block.contains_subnet(&whole),
-            whole.contains_addr(&Ipv4Address::BROADCAST),
-        ],
-    );
+    Some(match place {
+        0 => whole.contains_subnet(&block),
+        1 => !block.contains_subnet(&whole),
+        2 => whole.contains_addr(&Ipv4Address::BROADCAST),
+        _ => return None,
+    })
 }
 
 fn is_made_of(mask: Ipv4Address, wanted: Result<Ipv4Cidr, Error>) -> bool {
     Ipv4Cidr::from_netmask(WITHIN, mask) == wanted
 }
 
-#[test]
-fn makes_blocks_of_netmasks(rt: HostRuntime) {
+fn makes_blocks_of_netmasks(place: usize) -> Option<bool> {
     let mask = Ipv4Address([255, 255, 254, 0]);
-    all(
-        &rt,
-        &[
-            mask.prefix_len() == Some(23),
-            is_made_of(mask, Ok(Ipv4Cidr::new(WITHIN, 23))),
-            is_made_of(Ipv4Address::UNSPECIFIED, Err(Error)),
-            is_made_of(Ipv4Address([255, 0, 255, 0]), Err(Error)),
-            is_made_of(Ipv4Address([0, 255, 0, 0]), Err(Error)),
-        ],
-    );
+    Some(match place {
+        0 => mask.prefix_len() == Some(23),
+        1 => is_made_of(mask, Ok(Ipv4Cidr::new(WITHIN, 23))),
+        2 => is_made_of(Ipv4Address::UNSPECIFIED, Err(Error)),
+        3 => is_made_of(Ipv4Address([255, 0, 255, 0]), Err(Error)),
+        4 => is_made_of(Ipv4Address([0, 255, 0, 0]), Err(Error)),
+        _ => return None,
+    })
 }
 
 /// A block, an address or a block, and whether the one holds the other.
@@ -127,19 +117,15 @@ const HOLDS: [Holds; 7] = [
     Holds("::/0", Inner::Block("2001:db8::/48"), true),
 ];
 
-#[test]
-fn holds_the_right_ipv6_addresses(rt: HostRuntime) {
-    all_hold(&rt, &HOLDS);
+fn holds_the_right_ipv6_addresses(place: usize) -> Option<bool> {
     let none = Ipv4Cidr::new(Ipv4Address::UNSPECIFIED, 0);
     let whole = Ipv6Cidr::new(Ipv6Address::UNSPECIFIED, 0);
-    all(
-        &rt,
-        &[
-            whole.contains_addr(&IPV6_LINK_LOCAL_ALL_NODES),
-            block("0.0.0.0/0") == Some(IpCidr::from(none)),
-            block("::/0") == Some(IpCidr::from(whole)),
-        ],
-    );
+    Some(match place {
+        0 => whole.contains_addr(&IPV6_LINK_LOCAL_ALL_NODES),
+        1 => block("0.0.0.0/0") == Some(IpCidr::from(none)),
+        2 => block("::/0") == Some(IpCidr::from(whole)),
+        _ => return None,
+    })
 }
 
 /// How many ones an address has, if they come before all zeros.
@@ -152,17 +138,62 @@ fn bits(text: &str) -> Option<u8> {
     Some(block(text)?.prefix_len())
 }
 
-#[test]
-fn counts_the_bits_of_masks(rt: HostRuntime) {
+fn counts_the_bits_of_masks(place: usize) -> Option<bool> {
     let inside = IpAddress::v6(0x2001, 0xdb8, 0, 0xffff, 0, 0, 0, 1);
-    all(
-        &rt,
-        &[
-            either("2001:db8::ffff:0:0:0:1") == Some(inside),
-            IpCidr::new(inside, 48).address() == inside,
-            bits("2001:db8::/48") == Some(48),
-            ones("ffff:ff80::") == Some(25),
-            ones("2001:db8::ffff:0:0:0:1") == None,
-        ],
-    );
+    Some(match place {
+        0 => either("2001:db8::ffff:0:0:0:1") == Some(inside),
+        1 => IpCidr::new(inside, 48).address() == inside,
+        2 => bits("2001:db8::/48") == Some(48),
+        3 => ones("ffff:ff80::") == Some(25),
+        4 => ones("2001:db8::ffff:0:0:0:1") == None,
+        _ => return None,
+    })
+}
+
+/// The groups of statements.
+enum Of {
+    Ipv4BlocksHaveEnds,
+    HoldsTheRightIpv4Addresses,
+    MakesBlocksOfNetmasks,
+    HoldsTheRightIpv6Addresses,
+    CountsTheBitsOfMasks,
+}
+
+impl Statements for Of {
+    fn holds_at(&self, _alloc: Global, place: usize) -> Option<bool> {
+        match self {
+            Of::Ipv4BlocksHaveEnds => ipv4_blocks_have_ends(place),
+            Of::HoldsTheRightIpv4Addresses => holds_the_right_ipv4_addresses(place),
+            Of::MakesBlocksOfNetmasks => makes_blocks_of_netmasks(place),
+            Of::HoldsTheRightIpv6Addresses => holds_the_right_ipv6_addresses(place),
+            Of::CountsTheBitsOfMasks => counts_the_bits_of_masks(place),
+        }
+    }
+}
+
+const STATEMENTS: [(&str, Of, usize); 5] = [
+    ("ipv4 blocks have ends", Of::Ipv4BlocksHaveEnds, 4),
+    (
+        "holds the right ipv4 addresses",
+        Of::HoldsTheRightIpv4Addresses,
+        3,
+    ),
+    ("makes blocks of netmasks", Of::MakesBlocksOfNetmasks, 5),
+    (
+        "holds the right ipv6 addresses",
+        Of::HoldsTheRightIpv6Addresses,
+        3,
+    ),
+    ("counts the bits of masks", Of::CountsTheBitsOfMasks, 5),
+];
+
+#[test]
+fn statements_hold(rt: HostRuntime) {
+    all_said(&rt, &STATEMENTS);
+}
+
+#[test]
+fn tables_hold(rt: HostRuntime) {
+    all_hold(&rt, &HELD);
+    all_hold(&rt, &HOLDS);
 }

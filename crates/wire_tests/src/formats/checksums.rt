@@ -1,7 +1,8 @@
 //! The Internet checksum over bytes from outside.
-use crate::cases::all;
+use crate::cases::{Statements, all, all_said};
 use crate::formats::samples::{LEFT, RIGHT, behind, first};
 use ip_wire::{IpAddress, IpProtocol, checksum};
+use std::alloc::Global;
 
 fn sum(bytes: &[u8]) -> u16 {
     checksum::data(bytes)
@@ -17,21 +18,22 @@ fn added(first: u16, second: u16) -> u16 {
 
 const EXAMPLE: [u8; 8] = [0x00, 0x01, 0xf2, 0x03, 0xf4, 0xf5, 0xf6, 0xf7];
 
-// RFC 1071, section 3: the sum of these bytes is 2ddf0, which folds to ddf2.
-#[test]
-fn sums_the_example(rt: HostRuntime) {
-    all(
-        &rt,
-        &[
-            sum(&EXAMPLE) == 0xddf2,
-            sum(first(&EXAMPLE, 7)) == 0xdcfb,
-            sum(&[]) == 0,
-            sum(&[0xff; 64]) == 0xffff,
-            sum_of_both(sum(first(&EXAMPLE, 2)), sum(behind(&EXAMPLE, 2))) == 0xddf2,
-            added(added(0x0001, 0xf203), added(0xf4f5, 0xf6f7)) == 0xddf2,
-            added(0xffff, 0xffff) == 0xffff,
-        ],
-    );
+/// RFC 1071, section 3: the sum of these bytes is 2ddf0, which folds to ddf2.
+struct SumsTheExample;
+
+impl Statements for SumsTheExample {
+    fn holds_at(&self, _alloc: Global, place: usize) -> Option<bool> {
+        Some(match place {
+            0 => sum(&EXAMPLE) == 0xddf2,
+            1 => sum(first(&EXAMPLE, 7)) == 0xdcfb,
+            2 => sum(&[]) == 0,
+            3 => sum(&[0xff; 64]) == 0xffff,
+            4 => sum_of_both(sum(first(&EXAMPLE, 2)), sum(behind(&EXAMPLE, 2))) == 0xddf2,
+            5 => added(added(0x0001, 0xf203), added(0xf4f5, 0xf6f7)) == 0xddf2,
+            6 => added(0xffff, 0xffff) == 0xffff,
+            _ => return None,
+        })
+    }
 }
 
 #[test]
@@ -69,4 +71,9 @@ fn holds_over_packets(rt: HostRuntime) {
             sum_of_both(of_message, sum(&MESSAGE)) == 0xffff,
         ],
     );
+}
+
+#[test]
+fn statements_hold(rt: HostRuntime) {
+    all_said(&rt, &[("sums the example", SumsTheExample, 7)]);
 }

@@ -1,5 +1,5 @@
 //! Hardware addresses, their texts and their kinds.
-use crate::cases::{Case, all, all_hold, prints};
+use crate::cases::{Case, Statements, all_hold, all_said, prints};
 use ip_wire::{Error, EthernetAddress, HardwareAddress, RawHardwareAddress};
 use net_base::Medium;
 use std::alloc::Global;
@@ -15,22 +15,18 @@ fn raw_addresses() -> (RawHardwareAddress, RawHardwareAddress, RawHardwareAddres
     )
 }
 
-#[test]
-fn prints_hardware_addresses(rt: HostRuntime) {
-    let alloc = rt.alloc();
+fn prints_hardware_addresses(alloc: Global, place: usize) -> Option<bool> {
     let (raw, few, none) = raw_addresses();
     let station = HardwareAddress::Ethernet(STATION);
-    all(
-        &rt,
-        &[
-            prints(alloc, &STATION, "de-ad-be-ef-00-09"),
-            prints(alloc, &station, "de-ad-be-ef-00-09"),
-            prints(alloc, &HardwareAddress::Ip, "no hardware addr"),
-            prints(alloc, &raw, "de:ad:be:ef:00:09"),
-            prints(alloc, &few, "0a:ff"),
-            prints(alloc, &none, ""),
-        ],
-    );
+    Some(match place {
+        0 => prints(alloc, &STATION, "de-ad-be-ef-00-09"),
+        1 => prints(alloc, &station, "de-ad-be-ef-00-09"),
+        2 => prints(alloc, &HardwareAddress::Ip, "no hardware addr"),
+        3 => prints(alloc, &raw, "de:ad:be:ef:00:09"),
+        4 => prints(alloc, &few, "0a:ff"),
+        5 => prints(alloc, &none, ""),
+        _ => return None,
+    })
 }
 
 /// Whether the address is read so by either medium.
@@ -38,20 +34,17 @@ fn reads(raw: &RawHardwareAddress, ethernet: Result<HardwareAddress, Error>) -> 
     raw.parse(Medium::Ethernet) == ethernet && raw.parse(Medium::Ip) == Err(Error)
 }
 
-#[test]
-fn reads_raw_addresses_by_medium(rt: HostRuntime) {
+fn reads_raw_addresses_by_medium(place: usize) -> Option<bool> {
     let (raw, few, none) = raw_addresses();
-    all(
-        &rt,
-        &[
-            reads(&raw, Ok(HardwareAddress::Ethernet(STATION))),
-            reads(&few, Err(Error)),
-            reads(&none, Err(Error)),
-            none.is_empty(),
-            few.len() == 2,
-            few.as_bytes() == [0x0a, 0xff].as_slice(),
-        ],
-    );
+    Some(match place {
+        0 => reads(&raw, Ok(HardwareAddress::Ethernet(STATION))),
+        1 => reads(&few, Err(Error)),
+        2 => reads(&none, Err(Error)),
+        3 => none.is_empty(),
+        4 => few.len() == 2,
+        5 => few.as_bytes() == [0x0a, 0xff].as_slice(),
+        _ => return None,
+    })
 }
 
 /// An address, and whether it is one station's, a group's, all stations'.
@@ -73,19 +66,15 @@ const STATIONS: [AddressKinds; 3] = [
     AddressKinds(EthernetAddress::BROADCAST, false, true, true),
 ];
 
-#[test]
-fn tells_hardware_addresses_apart(rt: HostRuntime) {
-    all_hold(&rt, &STATIONS);
+fn tells_hardware_addresses_apart(place: usize) -> Option<bool> {
     let none: &[u8] = &[];
-    all(
-        &rt,
-        &[
-            is_local(&STATION),
-            !is_local(&GROUP),
-            EthernetAddress::from_bytes(&GROUP.0) == GROUP,
-            either_kinds(&HardwareAddress::Ip) == (false, false, none),
-        ],
-    );
+    Some(match place {
+        0 => is_local(&STATION),
+        1 => !is_local(&GROUP),
+        2 => EthernetAddress::from_bytes(&GROUP.0) == GROUP,
+        3 => either_kinds(&HardwareAddress::Ip) == (false, false, none),
+        _ => return None,
+    })
 }
 
 /// Whether the address is one station's, a group's, all stations'.
@@ -108,4 +97,45 @@ fn either_kinds(address: &HardwareAddress) -> (bool, bool, &[u8]) {
 
 fn is_local(address: &EthernetAddress) -> bool {
     address.is_local()
+}
+
+/// The groups of statements.
+enum Of {
+    PrintsHardwareAddresses,
+    ReadsRawAddressesByMedium,
+    TellsHardwareAddressesApart,
+}
+
+impl Statements for Of {
+    fn holds_at(&self, alloc: Global, place: usize) -> Option<bool> {
+        match self {
+            Of::PrintsHardwareAddresses => prints_hardware_addresses(alloc, place),
+            Of::ReadsRawAddressesByMedium => reads_raw_addresses_by_medium(place),
+            Of::TellsHardwareAddressesApart => tells_hardware_addresses_apart(place),
+        }
+    }
+}
+
+const STATEMENTS: [(&str, Of, usize); 3] = [
+    ("prints hardware addresses", Of::PrintsHardwareAddresses, 6),
+    (
+        "reads raw addresses by medium",
+        Of::ReadsRawAddressesByMedium,
+        6,
+    ),
+    (
+        "tells hardware addresses apart",
+        Of::TellsHardwareAddressesApart,
+        4,
+    ),
+];
+
+#[test]
+fn statements_hold(rt: HostRuntime) {
+    all_said(&rt, &STATEMENTS);
+}
+
+#[test]
+fn tables_hold(rt: HostRuntime) {
+    all_hold(&rt, &STATIONS);
 }

@@ -4,13 +4,14 @@ ghost use Rattle.ip_wire.specs.IpAddress.TheVariants as Address;
 ghost use Rattle.ip_wire.specs.Ipv4 as Ipv4;
 ghost use Rattle.ip_wire.specs.Udp as Udp;
 
-use crate::cases::all;
+use crate::cases::{Statements, all_said};
 use crate::formats::samples::{DATAGRAM, WITH_OPTION, behind, first, is_same, starts_with};
 use ip_wire::{
     IpAddress, IpProtocol, Ipv4Address, Ipv4FragKey, Ipv4Packet, Ipv4PacketMut, Ipv4Repr,
     UdpPacketMut, UdpRepr,
 };
 use net_base::{Checksum, ChecksumCapabilities};
+use std::alloc::Global;
 
 /// Numbers in the order of a header: version, header length, class, congestion, total length, identification, offset, hops.
 type Numbers = (u8, u8, u8, u8, u16, u16, u16, u8);
@@ -144,17 +145,14 @@ fn carried_in_place(bytes: &mut [u8], payload: &[u8]) -> Option<(bool, u16, IpPr
     Some((is_whole, checksum, protocol, packet.into_inner().len()))
 }
 
-#[test]
-fn ipv4_is_read_where_it_is_written(rt: HostRuntime) {
+fn ipv4_is_read_where_it_is_written(place: usize) -> Option<bool> {
     let mut bytes = WITH_OPTION;
-    all(
-        &rt,
-        &[
-            numbers_in_place(&mut bytes) == Some(NUMBERS),
-            named_in_place(&mut bytes) == Some(NAMED),
-            carried_in_place(&mut bytes, &EIGHT) == Some((true, 0, IpProtocol::Igmp, 34)),
-        ],
-    );
+    Some(match place {
+        0 => numbers_in_place(&mut bytes) == Some(NUMBERS),
+        1 => named_in_place(&mut bytes) == Some(NAMED),
+        2 => carried_in_place(&mut bytes, &EIGHT) == Some((true, 0, IpProtocol::Igmp, 34)),
+        _ => return None,
+    })
 }
 
 /// Fills the payload, and says whether there is a packet.
@@ -168,17 +166,15 @@ fn is_filled(bytes: &mut [u8], byte: u8) -> bool {
     }
 }
 
-#[test]
-fn ipv4_payload_alone_is_lent(rt: HostRuntime) {
+fn ipv4_payload_alone_is_lent(place: usize) -> Option<bool> {
     let mut bytes = WITH_OPTION;
-    all(
-        &rt,
-        &[
-            is_filled(&mut bytes, 7),
-            starts_with(&bytes, first(&WITH_OPTION, 24)),
-            is_same(behind(&bytes, 24), &[7, 7, 7, 7, 7, 7, 7, 7, 0, 0]),
-        ],
-    );
+    let filled = is_filled(&mut bytes, 7);
+    Some(match place {
+        0 => filled,
+        1 => starts_with(&bytes, first(&WITH_OPTION, 24)),
+        2 => is_same(behind(&bytes, 24), &[7, 7, 7, 7, 7, 7, 7, 7, 0, 0]),
+        _ => return None,
+    })
 }
 
 /// Writes a datagram behind an Ethernet header, each part in its place.
@@ -254,4 +250,33 @@ fn pieces_have_one_key(rt: HostRuntime) {
         None => (false, 0, IpProtocol::Tcp),
     };
     assert!(rt; said == (true, 0xc24d, IpProtocol::Udp));
+}
+
+/// The groups of statements.
+enum Of {
+    Ipv4IsReadWhereItIsWritten,
+    Ipv4PayloadAloneIsLent,
+}
+
+impl Statements for Of {
+    fn holds_at(&self, _alloc: Global, place: usize) -> Option<bool> {
+        match self {
+            Of::Ipv4IsReadWhereItIsWritten => ipv4_is_read_where_it_is_written(place),
+            Of::Ipv4PayloadAloneIsLent => ipv4_payload_alone_is_lent(place),
+        }
+    }
+}
+
+const STATEMENTS: [(&str, Of, usize); 2] = [
+    (
+        "ipv4 is read where it is written",
+        Of::Ipv4IsReadWhereItIsWritten,
+        3,
+    ),
+    ("ipv4 payload alone is lent", Of::Ipv4PayloadAloneIsLent, 3),
+];
+
+#[test]
+fn statements_hold(rt: HostRuntime) {
+    all_said(&rt, &STATEMENTS);
 }

@@ -1,7 +1,8 @@
 //! IPv6 packets, where they are written. `decode` reads and writes them as data.
-use crate::cases::all;
+use crate::cases::{Statements, all_said};
 use crate::formats::samples::{OVER_V6, ends_with, first, starts_with};
 use ip_wire::{IPV6_LINK_LOCAL_ALL_NODES, IpProtocol, Ipv6Address, Ipv6PacketMut};
+use std::alloc::Global;
 
 pub const LOCAL: Ipv6Address = Ipv6Address([0xfe, 0x80, 0, 0, 0, 0, 0, 0, 0, 0, 0, 0, 0, 0, 0, 1]);
 
@@ -88,18 +89,15 @@ fn set_all(bytes: &mut [u8], fields: &[Field]) {
     }
 }
 
-#[test]
-fn ipv6_is_set(rt: HostRuntime) {
+fn ipv6_is_set(place: usize) -> Option<bool> {
     let mut bytes = [0xff; 46];
     set_all(&mut bytes, &FIELDS);
-    all(
-        &rt,
-        &[
-            starts_with(&bytes, first(&OVER_V6, 40)),
-            numbers_in_place(&mut bytes) == Some(NUMBERS),
-            named_in_place(&mut bytes) == Some(NAMED),
-        ],
-    );
+    Some(match place {
+        0 => starts_with(&bytes, first(&OVER_V6, 40)),
+        1 => numbers_in_place(&mut bytes) == Some(NUMBERS),
+        2 => named_in_place(&mut bytes) == Some(NAMED),
+        _ => return None,
+    })
 }
 
 /// Fills the payload, and tells the header's length.
@@ -110,15 +108,38 @@ fn filled(bytes: &mut [u8], byte: u8) -> Option<usize> {
     Some(len)
 }
 
-#[test]
-fn ipv6_payload_alone_is_lent(rt: HostRuntime) {
+fn ipv6_payload_alone_is_lent(place: usize) -> Option<bool> {
     let mut bytes = OVER_V6;
-    all(
-        &rt,
-        &[
-            filled(&mut bytes, 7) == Some(40),
-            starts_with(&bytes, first(&OVER_V6, 40)),
-            ends_with(&bytes, &[7, 7, 7, 7, 0, 0]),
-        ],
-    );
+    let length = filled(&mut bytes, 7);
+    Some(match place {
+        0 => length == Some(40),
+        1 => starts_with(&bytes, first(&OVER_V6, 40)),
+        2 => ends_with(&bytes, &[7, 7, 7, 7, 0, 0]),
+        _ => return None,
+    })
+}
+
+/// The groups of statements.
+enum Of {
+    Ipv6IsSet,
+    Ipv6PayloadAloneIsLent,
+}
+
+impl Statements for Of {
+    fn holds_at(&self, _alloc: Global, place: usize) -> Option<bool> {
+        match self {
+            Of::Ipv6IsSet => ipv6_is_set(place),
+            Of::Ipv6PayloadAloneIsLent => ipv6_payload_alone_is_lent(place),
+        }
+    }
+}
+
+const STATEMENTS: [(&str, Of, usize); 2] = [
+    ("ipv6 is set", Of::Ipv6IsSet, 3),
+    ("ipv6 payload alone is lent", Of::Ipv6PayloadAloneIsLent, 3),
+];
+
+#[test]
+fn statements_hold(rt: HostRuntime) {
+    all_said(&rt, &STATEMENTS);
 }

@@ -1,5 +1,5 @@
 //! Ethernet frames and ARP packets, where they are written. `decode` reads and writes them as data.
-use crate::cases::{Case, all, all_hold};
+use crate::cases::{Case, Statements, all, all_hold, all_said};
 use crate::formats::samples::{behind, ends_with, first, is_same, starts_with};
 use ip_wire::{
     ArpHardware, ArpOperation, ArpPacketMut, ArpRepr, EthernetAddress, EthernetFrame,
@@ -35,18 +35,15 @@ fn request(operation: ArpOperation) -> ArpRepr {
     }
 }
 
-#[test]
-fn frames_have_lengths(rt: HostRuntime) {
-    all(
-        &rt,
-        &[
-            EthernetFrame::header_len() == 14,
-            EthernetFrameMut::header_len() == 14,
-            HEADER.buffer_len() == 14,
-            EthernetFrame::buffer_len(46) == 60,
-            EthernetFrameMut::buffer_len(46) == 60,
-        ],
-    );
+fn frames_have_lengths(place: usize) -> Option<bool> {
+    Some(match place {
+        0 => EthernetFrame::header_len() == 14,
+        1 => EthernetFrameMut::header_len() == 14,
+        2 => HEADER.buffer_len() == 14,
+        3 => EthernetFrame::buffer_len(46) == 60,
+        4 => EthernetFrameMut::buffer_len(46) == 60,
+        _ => return None,
+    })
 }
 
 /// Whether the frame is whole, both addresses, and what it carries, where it is written.
@@ -62,23 +59,34 @@ fn frame_parts_in_place(
     ))
 }
 
-#[test]
-fn frame_is_set(rt: HostRuntime) {
-    let mut bytes = [0xa5; 20];
-    let mut frame = EthernetFrameMut::new_unchecked(&mut bytes);
+/// Sets addresses and kind of a frame.
+fn set_frame(bytes: &mut [u8; 20]) {
+    let mut frame = EthernetFrameMut::new_unchecked(bytes);
     frame.set_dst_addr(SENDER);
     frame.set_src_addr(EthernetAddress::BROADCAST);
     frame.set_ethertype(EthernetProtocol::Ipv6);
-    let kind = is_same(&frame.into_inner()[12..14], &[0x86, 0xdd]);
-    let parts = (
-        true,
-        SENDER,
-        EthernetAddress::BROADCAST,
-        EthernetProtocol::Ipv6,
-    );
+}
+
+/// The bytes that the view holds.
+fn held_frame(bytes: &mut [u8]) -> &[u8] {
+    EthernetFrameMut::new_unchecked(bytes).into_inner()
+}
+
+const PARTS: (bool, EthernetAddress, EthernetAddress, EthernetProtocol) = (
+    true,
+    SENDER,
+    EthernetAddress::BROADCAST,
+    EthernetProtocol::Ipv6,
+);
+
+#[test]
+fn frame_is_set(rt: HostRuntime) {
+    let mut bytes = [0xa5; 20];
+    set_frame(&mut bytes);
+    let kind = is_same(first(behind(held_frame(&mut bytes), 12), 2), &[0x86, 0xdd]);
     all(
         &rt,
-        &[kind, frame_parts_in_place(&mut bytes) == Some(parts)],
+        &[kind, frame_parts_in_place(&mut bytes) == Some(PARTS)],
     );
 }
 
@@ -93,18 +101,16 @@ fn is_filled(bytes: &mut [u8], byte: u8) -> bool {
     }
 }
 
-#[test]
-fn payload_alone_is_lent(rt: HostRuntime) {
+fn payload_alone_is_lent(place: usize) -> Option<bool> {
     let mut bytes = [0xa5; 20];
     bytes[..14].copy_from_slice(&FRAME[..14]);
-    all(
-        &rt,
-        &[
-            is_filled(&mut bytes, 7),
-            starts_with(&bytes, first(&FRAME, 14)),
-            ends_with(&bytes, &[7; 6]),
-        ],
-    );
+    let filled = is_filled(&mut bytes, 7);
+    Some(match place {
+        0 => filled,
+        1 => starts_with(&bytes, first(&FRAME, 14)),
+        2 => ends_with(&bytes, &[7; 6]),
+        _ => return None,
+    })
 }
 
 /// Writes a packet, if there is a place for it.
@@ -129,18 +135,15 @@ const NUMBERS: ArpNumbers = (
 /// The four addresses of a packet, in their order.
 type ArpAddresses<'a> = (&'a [u8], &'a [u8], &'a [u8], &'a [u8]);
 
-#[test]
-fn request_is_written(rt: HostRuntime) {
+fn request_is_written(place: usize) -> Option<bool> {
     let mut bytes = [0xa5; 30];
     emit_arp(&request(ArpOperation::Request), &mut bytes);
-    all(
-        &rt,
-        &[
-            starts_with(&bytes, first(behind(&FRAME, 14), 28)),
-            bytes.last().copied() == Some(0xa5),
-            request(ArpOperation::Request).buffer_len() == 28,
-        ],
-    );
+    Some(match place {
+        0 => starts_with(&bytes, first(behind(&FRAME, 14), 28)),
+        1 => bytes.last().copied() == Some(0xa5),
+        2 => request(ArpOperation::Request).buffer_len() == 28,
+        _ => return None,
+    })
 }
 
 /// A number to be set.
@@ -245,21 +248,19 @@ const THERE: [u8; 4] = [192, 168, 1, 2];
 
 const NOBODY: [u8; 6] = [0; 6];
 
-#[test]
-fn packet_is_set(rt: HostRuntime) {
+fn packet_is_set(place: usize) -> Option<bool> {
     let mut bytes = [0xff; 28];
     set_all(&mut bytes, &NUMBERS_SET);
-    let addresses: ArpAddresses<'_> = (&SENDER.0, &HERE, &NOBODY, &THERE);
-    all(
-        &rt,
-        &[
-            arp_numbers_in_place(&mut bytes) == Some(NUMBERS),
-            set_hardware_addresses(&mut bytes, &SENDER.0, &NOBODY).is_some(),
-            set_protocol_addresses(&mut bytes, &HERE, &THERE).is_some(),
-            has_addresses(&mut bytes, addresses),
-            starts_with(held(&mut bytes), first(behind(&FRAME, 14), 28)),
-        ],
-    );
+    let hardware = set_hardware_addresses(&mut bytes, &SENDER.0, &NOBODY).is_some();
+    let protocol = set_protocol_addresses(&mut bytes, &HERE, &THERE).is_some();
+    Some(match place {
+        0 => hardware,
+        1 => protocol,
+        2 => arp_numbers_in_place(&mut bytes) == Some(NUMBERS),
+        3 => has_addresses(&mut bytes, (&SENDER.0, &HERE, &NOBODY, &THERE)),
+        4 => starts_with(held(&mut bytes), first(behind(&FRAME, 14), 28)),
+        _ => return None,
+    })
 }
 
 /// An operation beside a request, and whether they are equal; otherwise the request comes first.
@@ -283,18 +284,57 @@ const OPERATIONS: [Operation; 3] = [
     Operation(ArpOperation::Request, true),
 ];
 
-// RFC 826: a known number under the name of an unknown one is another value.
-#[test]
-fn compares_kinds_and_operations(rt: HostRuntime) {
-    all_hold(&rt, &OPERATIONS);
+/// RFC 826: a known number under the name of an unknown one is another value.
+fn compares_kinds_and_operations(place: usize) -> Option<bool> {
     let kind = ArpHardware::Ethernet;
     let other = arp_laws::compare_arp_hardware(&kind, &ArpHardware::Unknown(1));
-    all(
-        &rt,
-        &[
-            arp_laws::compare_arp_hardware(&kind, &kind).equal,
-            !other.equal,
-            other.order.is_lt(),
-        ],
-    );
+    Some(match place {
+        0 => arp_laws::compare_arp_hardware(&kind, &kind).equal,
+        1 => !other.equal,
+        2 => other.order.is_lt(),
+        _ => return None,
+    })
+}
+
+/// The groups of statements.
+enum Of {
+    FramesHaveLengths,
+    PayloadAloneIsLent,
+    RequestIsWritten,
+    PacketIsSet,
+    ComparesKindsAndOperations,
+}
+
+impl Statements for Of {
+    fn holds_at(&self, _alloc: Global, place: usize) -> Option<bool> {
+        match self {
+            Of::FramesHaveLengths => frames_have_lengths(place),
+            Of::PayloadAloneIsLent => payload_alone_is_lent(place),
+            Of::RequestIsWritten => request_is_written(place),
+            Of::PacketIsSet => packet_is_set(place),
+            Of::ComparesKindsAndOperations => compares_kinds_and_operations(place),
+        }
+    }
+}
+
+const STATEMENTS: [(&str, Of, usize); 5] = [
+    ("frames have lengths", Of::FramesHaveLengths, 5),
+    ("payload alone is lent", Of::PayloadAloneIsLent, 3),
+    ("request is written", Of::RequestIsWritten, 3),
+    ("packet is set", Of::PacketIsSet, 5),
+    (
+        "compares kinds and operations",
+        Of::ComparesKindsAndOperations,
+        3,
+    ),
+];
+
+#[test]
+fn statements_hold(rt: HostRuntime) {
+    all_said(&rt, &STATEMENTS);
+}
+
+#[test]
+fn tables_hold(rt: HostRuntime) {
+    all_hold(&rt, &OPERATIONS);
 }

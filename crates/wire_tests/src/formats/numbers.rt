@@ -1,5 +1,5 @@
 //! Constants, numbers in network order and sequence numbers.
-use crate::cases::{Case, all, all_hold};
+use crate::cases::{Case, Statements, all_hold, all_said};
 use crate::formats::texts::{either, ipv6_block};
 use ip_wire::{
     IPV4_MIN_MTU, IPV4_MULTICAST_ALL_ROUTERS, IPV4_MULTICAST_ALL_SYSTEMS,
@@ -18,6 +18,7 @@ impl Case for Constant {
     }
 }
 
+// IANA's registries of multicast addresses; RFC 791, 8200, 4291 and 3810.
 const CONSTANTS: [Constant; 10] = [
     Constant("224.0.0.1", IpAddress::Ipv4(IPV4_MULTICAST_ALL_SYSTEMS)),
     Constant("224.0.0.2", IpAddress::Ipv4(IPV4_MULTICAST_ALL_ROUTERS)),
@@ -34,48 +35,30 @@ const CONSTANTS: [Constant; 10] = [
     Constant("::1", IpAddress::Ipv6(Ipv6Address::LOCALHOST)),
 ];
 
-// IANA's registries of multicast addresses; RFC 791, 8200, 4291 and 3810.
-#[test]
-fn constants_have_their_values(rt: HostRuntime) {
-    all_hold(&rt, &CONSTANTS);
-    address_laws::hardware_constants();
-    address_laws::address_tests();
-    address_laws::hardware_tests();
-    address_laws::ipv4_constants();
-    address_laws::ipv6_constants();
-}
-
-#[test]
-fn prefixes_have_their_values(rt: HostRuntime) {
+fn prefixes_have_their_values(place: usize) -> Option<bool> {
     let (solicited, local) = address_laws::ipv6_prefixes();
-    all(
-        &rt,
-        &[
-            ipv6_block("fe80::/10") == Some(local),
-            ipv6_block("ff02::1:ff00:0/104") == Some(solicited),
-            IpCidr::from(local).address() == IpAddress::from(local.address()),
-            IpCidr::from(solicited).address() == IpAddress::from(solicited.address()),
-            IPV4_MIN_MTU == 576,
-            IPV6_MIN_MTU == 1280,
-            MAX_HARDWARE_ADDRESS_LEN == 6,
-        ],
-    );
+    Some(match place {
+        0 => ipv6_block("fe80::/10") == Some(local),
+        1 => ipv6_block("ff02::1:ff00:0/104") == Some(solicited),
+        2 => IpCidr::from(local).address() == IpAddress::from(local.address()),
+        3 => IpCidr::from(solicited).address() == IpAddress::from(solicited.address()),
+        4 => IPV4_MIN_MTU == 576,
+        5 => IPV6_MIN_MTU == 1280,
+        6 => MAX_HARDWARE_ADDRESS_LEN == 6,
+        _ => return None,
+    })
 }
 
-#[test]
-fn reads_and_writes_in_network_order(rt: HostRuntime) {
+fn reads_and_writes_in_network_order(place: usize) -> Option<bool> {
     let mut bytes = [0; 8];
     network_order::write_u16(&mut bytes, 1, 0x1234);
     network_order::write_u32(&mut bytes, 3, 0x5678_9abc);
-    network_order::written_numbers_are_read();
-    all(
-        &rt,
-        &[
-            bytes == [0, 0x12, 0x34, 0x56, 0x78, 0x9a, 0xbc, 0],
-            network_order::read_u16(&bytes, 2) == 0x3456,
-            network_order::read_u32(&bytes, 1) == 0x1234_5678,
-        ],
-    );
+    Some(match place {
+        0 => bytes == [0, 0x12, 0x34, 0x56, 0x78, 0x9a, 0xbc, 0],
+        1 => network_order::read_u16(&bytes, 2) == 0x3456,
+        2 => network_order::read_u32(&bytes, 1) == 0x1234_5678,
+        _ => return None,
+    })
 }
 
 const LAST: SeqNumber = SeqNumber(0xffff_ffff);
@@ -101,23 +84,18 @@ const BEFORE: [Before; 5] = [
     Before(HALF, FIRST, true),
 ];
 
-// Numbers on both sides of the point where they go round.
-#[test]
-fn goes_round(rt: HostRuntime) {
-    seq_number::sum_comes_after();
-    all_hold(&rt, &BEFORE);
+/// Numbers on both sides of the point where they go round.
+fn goes_round(place: usize) -> Option<bool> {
     let mut moved = LAST;
     moved += 1;
-    all(
-        &rt,
-        &[
-            LAST + 3 == SeqNumber(2),
-            FIRST - 1 == LAST,
-            LAST.max(FIRST) == FIRST,
-            LAST.min(FIRST) == LAST,
-            moved == FIRST,
-        ],
-    );
+    Some(match place {
+        0 => LAST + 3 == SeqNumber(2),
+        1 => FIRST - 1 == LAST,
+        2 => LAST.max(FIRST) == FIRST,
+        3 => LAST.min(FIRST) == LAST,
+        4 => moved == FIRST,
+        _ => return None,
+    })
 }
 
 #[test]
@@ -137,4 +115,49 @@ fn begins_at_zero(rt: HostRuntime) {
         address_laws::default_sequence_number(),
     ];
     assert!(rt; firsts == [SeqNumber(0); 2]);
+}
+
+/// The groups of statements.
+enum Of {
+    PrefixesHaveTheirValues,
+    ReadsAndWritesInNetworkOrder,
+    GoesRound,
+}
+
+impl Statements for Of {
+    fn holds_at(&self, _alloc: Global, place: usize) -> Option<bool> {
+        match self {
+            Of::PrefixesHaveTheirValues => prefixes_have_their_values(place),
+            Of::ReadsAndWritesInNetworkOrder => reads_and_writes_in_network_order(place),
+            Of::GoesRound => goes_round(place),
+        }
+    }
+}
+
+const STATEMENTS: [(&str, Of, usize); 3] = [
+    ("prefixes have their values", Of::PrefixesHaveTheirValues, 7),
+    (
+        "reads and writes in network order",
+        Of::ReadsAndWritesInNetworkOrder,
+        3,
+    ),
+    ("goes round", Of::GoesRound, 5),
+];
+
+#[test]
+fn statements_hold(rt: HostRuntime) {
+    all_said(&rt, &STATEMENTS);
+}
+
+#[test]
+fn tables_hold(rt: HostRuntime) {
+    all_hold(&rt, &CONSTANTS);
+    address_laws::hardware_constants();
+    address_laws::address_tests();
+    address_laws::hardware_tests();
+    address_laws::ipv4_constants();
+    address_laws::ipv6_constants();
+    network_order::written_numbers_are_read();
+    seq_number::sum_comes_after();
+    all_hold(&rt, &BEFORE);
 }

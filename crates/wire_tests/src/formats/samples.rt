@@ -44,13 +44,6 @@ pub const SAID: Ipv4Repr = Ipv4Repr {
     dont_frag: true,
 };
 
-/// That header, and zeros for its payload.
-pub fn captured() -> [u8; 115] {
-    let mut frame = [0; 115];
-    frame[..20].copy_from_slice(&HEADER);
-    frame
-}
-
 pub fn starts_with(bytes: &[u8], front: &[u8]) -> bool {
     bytes.starts_with(front)
 }

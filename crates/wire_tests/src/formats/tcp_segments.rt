@@ -115,11 +115,6 @@ const FLAGS: [Flag; 5] = [
     Flag(TcpControl::Rst, 0, TcpControl::Rst),
 ];
 
-#[test]
-fn counts_flags(rt: HostRuntime) {
-    all_hold(&rt, &FLAGS);
-}
-
 /// Whether acknowledgements may have ranges, the ranges, and how many numbers the segment takes.
 type Acknowledged = (bool, [Option<(u32, u32)>; 3], usize);
 
@@ -165,6 +160,7 @@ const COUNTED: [Counted; 5] = [
 ];
 
 #[test]
-fn counts_sequence_numbers(rt: HostRuntime) {
+fn tables_hold(rt: HostRuntime) {
+    all_hold(&rt, &FLAGS);
     all_hold(&rt, &COUNTED);
 }

@@ -1,8 +1,9 @@
 //! Views of TCP segments that write in place.
-use crate::cases::all;
+use crate::cases::{Statements, all, all_said};
 use crate::formats::samples::{LEFT, RIGHT, behind, first, is_same};
 use crate::formats::tcp_segments::{RANGES, SYN_BYTES};
 use ip_wire::{Error, SeqNumber, TcpPacketMut};
+use std::alloc::Global;
 use std::process::Abort;
 
 // The same fields through the writing view, and those of a segment with ranges.
@@ -70,17 +71,14 @@ const ACKNOWLEDGED: [Option<(u32, u32)>; 3] = [
     Some((6000, 6500)),
 ];
 
-#[test]
-fn reads_behind_the_header(rt: HostRuntime) {
+fn reads_behind_the_header(place: usize) -> Option<bool> {
     let mut buffer = RANGES;
-    all(
-        &rt,
-        &[
-            said(&mut buffer) == Ok((true, 3, Ok(false))),
-            ranges(&mut buffer) == Ok(ACKNOWLEDGED),
-            carries(&mut buffer, first(behind(&RANGES, 20), 36), b"ab\xff"),
-        ],
-    );
+    Some(match place {
+        0 => said(&mut buffer) == Ok((true, 3, Ok(false))),
+        1 => ranges(&mut buffer) == Ok(ACKNOWLEDGED),
+        2 => carries(&mut buffer, first(behind(&RANGES, 20), 36), b"ab\xff"),
+        _ => return None,
+    })
 }
 
 /// Fills the options, and says whether there is a segment.
@@ -105,31 +103,27 @@ fn fills_payload(bytes: &mut [u8], byte: u8) -> bool {
     }
 }
 
-#[test]
-fn writes_through_the_options(rt: HostRuntime) {
+fn writes_through_the_options(place: usize) -> Option<bool> {
     let mut buffer = RANGES;
-    all(
-        &rt,
-        &[
-            fills_options(&mut buffer, 1),
-            is_same(first(&buffer, 20), first(&RANGES, 20)),
-            is_same(first(behind(&buffer, 20), 36), &[1; 36]),
-            is_same(behind(&buffer, 56), behind(&RANGES, 56)),
-        ],
-    );
+    let filled = fills_options(&mut buffer, 1);
+    Some(match place {
+        0 => filled,
+        1 => is_same(first(&buffer, 20), first(&RANGES, 20)),
+        2 => is_same(first(behind(&buffer, 20), 36), &[1; 36]),
+        3 => is_same(behind(&buffer, 56), behind(&RANGES, 56)),
+        _ => return None,
+    })
 }
 
-#[test]
-fn writes_through_the_payload(rt: HostRuntime) {
+fn writes_through_the_payload(place: usize) -> Option<bool> {
     let mut buffer = RANGES;
-    all(
-        &rt,
-        &[
-            fills_payload(&mut buffer, 2),
-            is_same(first(&buffer, 56), first(&RANGES, 56)),
-            is_same(behind(&buffer, 56), &[2, 2, 2]),
-        ],
-    );
+    let filled = fills_payload(&mut buffer, 2);
+    Some(match place {
+        0 => filled,
+        1 => is_same(first(&buffer, 56), first(&RANGES, 56)),
+        2 => is_same(behind(&buffer, 56), &[2, 2, 2]),
+        _ => return None,
+    })
 }
 
 #[test]
@@ -248,21 +242,18 @@ const WRITTEN: [u8; 24] = [
     0x12, 0x34, 0x00, 0x09, 0xaa, 0x00, 0x00, 0xff,
 ];
 
-#[test]
-fn writes_every_field(rt: HostRuntime) {
+fn writes_every_field(place: usize) -> Option<bool> {
     let mut buffer = SYN_BYTES;
     set_all(&mut buffer, &FIELDS);
     seal(&mut buffer);
     let sealed = is_right(&mut buffer);
     set(&mut buffer, &Field::Checksum(0x1234));
-    all(
-        &rt,
-        &[
-            sealed,
-            !is_right(&mut buffer),
-            is_same(held(&mut buffer), &WRITTEN),
-        ],
-    );
+    Some(match place {
+        0 => sealed,
+        1 => !is_right(&mut buffer),
+        2 => is_same(held(&mut buffer), &WRITTEN),
+        _ => return None,
+    })
 }
 
 /// The flags from the lowest bit on, where the segment is written.
@@ -341,4 +332,35 @@ fn sets_the_other_flags(rt: HostRuntime) {
             is_same(first(behind(&buffer, 12), 2), &[0xf1, 0xdd]),
         ],
     );
+}
+
+/// The groups of statements.
+enum Of {
+    ReadsBehindTheHeader,
+    WritesThroughTheOptions,
+    WritesThroughThePayload,
+    WritesEveryField,
+}
+
+impl Statements for Of {
+    fn holds_at(&self, _alloc: Global, place: usize) -> Option<bool> {
+        match self {
+            Of::ReadsBehindTheHeader => reads_behind_the_header(place),
+            Of::WritesThroughTheOptions => writes_through_the_options(place),
+            Of::WritesThroughThePayload => writes_through_the_payload(place),
+            Of::WritesEveryField => writes_every_field(place),
+        }
+    }
+}
+
+const STATEMENTS: [(&str, Of, usize); 4] = [
+    ("reads behind the header", Of::ReadsBehindTheHeader, 3),
+    ("writes through the options", Of::WritesThroughTheOptions, 4),
+    ("writes through the payload", Of::WritesThroughThePayload, 3),
+    ("writes every field", Of::WritesEveryField, 3),
+];
+
+#[test]
+fn statements_hold(rt: HostRuntime) {
+    all_said(&rt, &STATEMENTS);
 }

@@ -1,13 +1,10 @@
 //! Readers of texts for the other tests, and texts of endpoints that one listens at. `decode` reads and prints the others.
-use crate::cases::{all, prints};
+use crate::cases::{Statements, all_said, prints};
 use ip_wire::{
-    Error, IpAddress, IpCidr, IpEndpoint, IpListenEndpoint, Ipv4Address, Ipv6Address, Ipv6Cidr,
-    address_laws, text,
+    Error, IpAddress, IpCidr, IpEndpoint, IpListenEndpoint, Ipv6Address, Ipv6Cidr, address_laws,
+    text,
 };
-
-pub fn ipv4(text: &str) -> Option<Ipv4Address> {
-    text.parse().ok()
-}
+use std::alloc::Global;
 
 pub fn ipv6(text: &str) -> Option<Ipv6Address> {
     text.parse().ok()
@@ -27,35 +24,28 @@ pub fn ipv6_block(text: &str) -> Option<Ipv6Cidr> {
     text.parse().ok()
 }
 
-#[test]
-fn prints_listening_endpoints(rt: HostRuntime) {
+fn prints_listening_endpoints(alloc: Global, place: usize) -> Option<bool> {
     let there = IpAddress::v6(0xfd00, 0, 0, 0, 0, 0, 0, 1);
     let listening = IpListenEndpoint::from(IpEndpoint::new(there, 53));
-    let alloc = rt.alloc();
-    all(
-        &rt,
-        &[
-            prints(alloc, &listening, "fd00::1:53"),
-            prints(alloc, &at_port(80), "*:80"),
-            prints(alloc, &Error, "wire::Error"),
-            is_specified(&listening),
-            is_listening(&IpListenEndpoint::from((there, 53)), &listening),
-        ],
-    );
+    Some(match place {
+        0 => prints(alloc, &listening, "fd00::1:53"),
+        1 => prints(alloc, &at_port(80), "*:80"),
+        2 => prints(alloc, &Error, "wire::Error"),
+        3 => is_specified(&listening),
+        4 => is_listening(&IpListenEndpoint::from((there, 53)), &listening),
+        _ => return None,
+    })
 }
 
-#[test]
-fn an_endpoint_of_port_0_is_none(rt: HostRuntime) {
+fn an_endpoint_of_port_0_is_none(place: usize) -> Option<bool> {
     let none = IpListenEndpoint::default();
     let zero = at_port(0);
-    all(
-        &rt,
-        &[
-            !is_specified(&none),
-            is_listening(&none, &zero),
-            is_listening(&address_laws::default_listen_endpoint(), &zero),
-        ],
-    );
+    Some(match place {
+        0 => !is_specified(&none),
+        1 => is_listening(&none, &zero),
+        2 => is_listening(&address_laws::default_listen_endpoint(), &zero),
+        _ => return None,
+    })
 }
 
 /// This port of all addresses.
@@ -77,4 +67,37 @@ fn states_its_laws(_rt: HostRuntime) {
     text::one_reading();
     address_laws::number_reads_back();
     address_laws::is_total_order::<IpEndpoint>();
+}
+
+/// The groups of statements.
+enum Of {
+    PrintsListeningEndpoints,
+    AnEndpointOfPort0IsNone,
+}
+
+impl Statements for Of {
+    fn holds_at(&self, alloc: Global, place: usize) -> Option<bool> {
+        match self {
+            Of::PrintsListeningEndpoints => prints_listening_endpoints(alloc, place),
+            Of::AnEndpointOfPort0IsNone => an_endpoint_of_port_0_is_none(place),
+        }
+    }
+}
+
+const STATEMENTS: [(&str, Of, usize); 2] = [
+    (
+        "prints listening endpoints",
+        Of::PrintsListeningEndpoints,
+        5,
+    ),
+    (
+        "an endpoint of port 0 is none",
+        Of::AnEndpointOfPort0IsNone,
+        3,
+    ),
+];
+
+#[test]
+fn statements_hold(rt: HostRuntime) {
+    all_said(&rt, &STATEMENTS);
 }

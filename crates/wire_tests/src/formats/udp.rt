@@ -3,10 +3,11 @@ ghost use Rattle.std.specs.Prelude.{◌≡◌, ◌+◌, ◌<◌, length};
 ghost use Rattle.net_base.specs.Capabilities.{computes};
 ghost use Rattle.ip_wire.specs.Udp as Udp;
 
-use crate::cases::all;
+use crate::cases::{Statements, all, all_said};
 use crate::formats::samples::{DATAGRAM, LEFT, RIGHT, behind, checksums, first, is_same, put};
-use ip_wire::{IpAddress, UdpPacket, UdpPacketMut, UdpRepr};
+use ip_wire::{IpAddress, Ipv6Address, UdpPacket, UdpPacketMut, UdpRepr};
 use net_base::ChecksumCapabilities;
+use std::alloc::Global;
 
 /// The ports of the datagram of the samples, and its payload.
 const PORTS: UdpRepr = UdpRepr {
@@ -16,25 +17,50 @@ const PORTS: UdpRepr = UdpRepr {
 
 const PAYLOAD: [u8; 4] = [0xaa, 0x00, 0x00, 0xff];
 
-#[test]
-fn datagram_is_set(rt: HostRuntime) {
-    let mut bytes = [0xff; 12];
-    let mut packet = UdpPacketMut::new_unchecked(&mut bytes);
-    packet.set_src_port(48896);
-    packet.set_dst_port(53);
-    packet.set_len(12);
-    packet.set_checksum(0x124d);
-    let set = (
+/// Ports, length and checksum.
+type Fields = (u16, u16, u16, u16);
+
+const FIELDS: Fields = (48896, 53, 12, 0x124d);
+
+/// Sets them, if there is a header.
+fn set(bytes: &mut [u8], fields: Fields) {
+    if bytes.len() < 8 {
+        return;
+    }
+    let mut packet = UdpPacketMut::new_unchecked(bytes);
+    packet.set_src_port(fields.0);
+    packet.set_dst_port(fields.1);
+    packet.set_len(fields.2);
+    packet.set_checksum(fields.3);
+}
+
+fn said(bytes: &mut [u8]) -> Option<Fields> {
+    if bytes.len() < 8 {
+        return None;
+    }
+    let packet = UdpPacketMut::new_unchecked(bytes);
+    Some((
         packet.src_port(),
         packet.dst_port(),
         packet.len(),
         packet.checksum(),
-    );
+    ))
+}
+
+/// The bytes that the view holds.
+fn held(bytes: &mut [u8]) -> &[u8] {
+    UdpPacketMut::new_unchecked(bytes).into_inner()
+}
+
+#[test]
+fn datagram_is_set(rt: HostRuntime) {
+    let mut bytes = [0xff; 12];
+    set(&mut bytes, FIELDS);
     all(
         &rt,
         &[
-            set == (48896, 53, 12, 0x124d),
-            is_same(first(packet.into_inner(), 8), first(&DATAGRAM, 8)),
+            said(&mut bytes) == Some(FIELDS),
+            is_same(first(held(&mut bytes), 8), first(&DATAGRAM, 8)),
         ],
     );
 }
@@ -78,18 +104,20 @@ fn is_filled(bytes: &mut [u8], byte: u8) -> bool {
     }
 }
 
-#[test]
-fn payload_alone_is_lent(rt: HostRuntime) {
-    let mut bytes = [0xa5; 14];
-    bytes[..12].copy_from_slice(&DATAGRAM);
-    all(
-        &rt,
-        &[
-            is_filled(&mut bytes, 7),
-            is_same(first(&bytes, 8), first(&DATAGRAM, 8)),
-            is_same(behind(&bytes, 8), &[7, 7, 7, 7, 0xa5, 0xa5]),
-        ],
-    );
+struct PayloadAloneIsLent;
+
+impl Statements for PayloadAloneIsLent {
+    fn holds_at(&self, _alloc: Global, place: usize) -> Option<bool> {
+        let mut bytes = [0xa5; 14];
+        bytes[..12].copy_from_slice(&DATAGRAM);
+        let filled = is_filled(&mut bytes, 7);
+        Some(match place {
+            0 => filled,
+            1 => is_same(first(&bytes, 8), first(&DATAGRAM, 8)),
+            2 => is_same(behind(&bytes, 8), &[7, 7, 7, 7, 0xa5, 0xa5]),
+            _ => return None,
+        })
+    }
 }
 
 /// Writes a datagram with this payload through a closure that copies it.
@@ -140,33 +168,49 @@ fn payload_is_written_in_place(rt: HostRuntime) {
     all(&rt, &[whole, is_same(&bytes[6..8], &[0, 0])]);
 }
 
-#[test]
-fn closure_finds_what_the_buffer_held(rt: HostRuntime) {
-    let left = IpAddress::v6(0x2001, 0xdb8, 0, 0, 0, 0, 0, 1);
-    let right = IpAddress::v6(0x2001, 0xdb8, 0, 0, 0, 0, 0, 2);
-    let mut bytes = [
-        0xff, 0xff, 0xff, 0xff, 0xff, 0xff, 0xff, 0xff, 1, 2, 3, 4, 0,
-    ];
-    let mut packet = UdpPacketMut::new_unchecked(&mut bytes);
-    let header = UdpRepr {
-        src_port: 5353,
-        dst_port: 53,
-    };
+const LEFT6: IpAddress = IpAddress::Ipv6(Ipv6Address([
+    0x20, 0x01, 0x0d, 0xb8, 0, 0, 0, 0, 0, 0, 0, 0, 0, 0, 0, 1,
+]));
+
+const RIGHT6: IpAddress = IpAddress::Ipv6(Ipv6Address([
+    0x20, 0x01, 0x0d, 0xb8, 0, 0, 0, 0, 0, 0, 0, 0, 0, 0, 0, 2,
+]));
+
+const OVER_IPV6: UdpRepr = UdpRepr {
+    src_port: 5353,
+    dst_port: 53,
+};
+
+/// Writes a datagram over IPv6 whose payload was there, but for its last byte.
+fn emit_last(bytes: &mut [u8; 13]) {
     let last = |place: &mut [u8]| {
         if let Some(byte) = place.last_mut() {
             *byte = 5;
         }
     };
-    header.emit_with(
-        &mut packet,
-        &left,
-        &right,
+    OVER_IPV6.emit_with(
+        &mut UdpPacketMut::new_unchecked(bytes),
+        &LEFT6,
+        &RIGHT6,
         5,
         last,
         &ChecksumCapabilities::default(),
     );
+}
+
+#[test]
+fn closure_finds_what_the_buffer_held(rt: HostRuntime) {
+    let mut bytes = [
+        0xff, 0xff, 0xff, 0xff, 0xff, 0xff, 0xff, 0xff, 1, 2, 3, 4, 0,
+    ];
+    emit_last(&mut bytes);
     let want = [
         0x14, 0xe9, 0x00, 0x35, 0x00, 0x0d, 0x86, 0x3b, 1, 2, 3, 4, 5,
     ];
     assert!(rt; is_same(&bytes, &want));
+}
+
+#[test]
+fn statements_hold(rt: HostRuntime) {
+    all_said(&rt, &[("payload alone is lent", PayloadAloneIsLent, 3)]);
 }
