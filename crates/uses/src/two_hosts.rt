@@ -93,7 +93,7 @@ fn no_padding(alloc: Global) -> Bytes {
 // B listens, A's SYN comes to it, and its answer to A, which acknowledges and writes a text.
 fn opening(alloc: Global, text: Bytes) -> Result<Vec<Event>, AllocError> {
     let remote = IpEndpoint::new(address(2), PORT);
-    vec![in alloc;
+    let events = vec![in alloc;
         Event::Listen(Side::B, 0, PORT),
         Event::Connect(Side::A, 0, remote, 49152),
         Event::Poll(Side::A, Instant::ZERO, 8),
@@ -103,7 +103,8 @@ fn opening(alloc: Global, text: Bytes) -> Result<Vec<Event>, AllocError> {
         Event::Poll(Side::A, Instant::ZERO, 8),
         Event::Send(Side::A, 0, text),
         Event::Poll(Side::A, Instant::ZERO, 8),
-    ]
+    ]?;
+    Ok(events)
 }
 
 // A list of events, up to the first that is refused.
