@@ -11,7 +11,7 @@ returns-in-Ipv4-Ipv4 c =
     let other : (length c.octets-in-Ipv4-Ipv4.result ≡ 4) × IsBytes c.octets-in-Ipv4-Ipv4.result = search rules in
     let tells = from_le_bytes-tells c.octets.result c.octets-in-Ipv4-Ipv4.result one.0 other.0 one.1 other.1 in
     let numbers : nat_eq c.from_le_bytes.result c.from_le_bytes-in-Ipv4-Ipv4.result ≡ bytes_eq c.octets.result c.octets-in-Ipv4-Ipv4.result =
-      rw (c.from_le_bytes.ensures, c.from_le_bytes-in-Ipv4-Ipv4.ensures) tells in
+    rw (c.from_le_bytes.ensures, c.from_le_bytes-in-Ipv4-Ipv4.ensures) tells in
     let bytes : bytes_eq c.octets.result c.octets-in-Ipv4-Ipv4.result ≡ is_same_address c.args.one.now c.args.other.now =
-      rw (c.octets.ensures, c.octets-in-Ipv4-Ipv4.ensures, c.in-Ipv4-Ipv4.is-0, c.in-Ipv4-Ipv4.is-1) refl in
+    rw (c.octets.ensures, c.octets-in-Ipv4-Ipv4.ensures, c.in-Ipv4-Ipv4.is-0, c.in-Ipv4-Ipv4.is-1) refl in
     numbers ∙ bytes
