@@ -60,6 +60,9 @@ impl Block {
         let sent = (self.sender.top as usize).min(queued.saturating_add(
             self.sender.syn_unacked as usize,
         ));
+        if sent as u32 <= end {
+            return end;
+        }
         end.max(self.loss.board.first_missing(end).min(sent as u32))
     }
 
