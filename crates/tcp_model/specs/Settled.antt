@@ -77,10 +77,19 @@ syn_went b o = record b {
   receiver = record b.receiver { mss = or_mss o.segment.options.max_seg_size };
 }
 
+-- With selective acknowledgements the retransmission timer starts anew at each segment that goes again in recovery, so that it doesn't run
+-- out before that one can be acknowledged (RFC 6675, 6).
+abbrev pub timer_rearmed : Block → Option ℤ
+timer_rearmed b = if b.peer.sack && b.reno.recovers then None else b.timers.retransmit_at
+
 -- something went again, up to so far past SND.UNA: what is timed isn't any more (RFC 6298, 3)
 abbrev pub resent : Block → ℕ → Block
-resent b end =
-    record b { sender = record b.sender { resend = false }; loss = loss_resent b end; round_trip = round_trip.untimed b.round_trip }
+resent b end = record b {
+  sender = record b.sender { resend = false };
+  timers = record b.timers { retransmit_at = timer_rearmed b };
+  loss = loss_resent b end;
+  round_trip = round_trip.untimed b.round_trip;
+}
 
 -- a probe went that ends so far past SND.UNA, where SND.NXT stays; the next one waits twice as long (3.8.6.1)
 abbrev pub probed : Block → ℕ → ℤ → Block

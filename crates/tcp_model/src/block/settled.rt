@@ -94,11 +94,14 @@ impl Block {
         self.keep_probe(queued);
     }
 
-    /// Something went again, up to so far past SND.UNA.
+    /// Something went again, up to so far past SND.UNA. In recovery the timer is to start anew.
     fn resent(&mut self, end: u32)
         ensures { self.new ≡ resent self.old end }
     {
         self.lose_resent(end);
+        if self.peer.sack && self.reno.recovers() {
+            self.timers.retransmit_at = None;
+        }
         self.sender.resend = false;
         self.round_trip.forget_sample();
     }
