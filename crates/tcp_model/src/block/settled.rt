@@ -98,10 +98,10 @@ impl Block {
     fn resent(&mut self, end: u32)
         ensures { self.new ≡ resent self.old end }
     {
-        self.lose_resent(end);
-        if self.peer.sack && self.reno.recovers() {
+        if self.reno.recovers() && self.is_first_lost() {
             self.timers.retransmit_at = None;
         }
+        self.lose_resent(end);
         self.sender.resend = false;
         self.round_trip.forget_sample();
     }
