@@ -51,6 +51,9 @@ const SHORTEST_TIMEOUT: u16 = 10;
 
 const MOST_TIMEOUT: u16 = 60_000;
 
+/// The timeout lies above the smoothed round trip by this at least, or by the least timeout.
+const MOST_SLACK: u16 = 200;
+
 /// A loss probe waits no less, in microseconds.
 const LEAST_PROBE_WAIT: u64 = 20_000;
 
@@ -217,7 +220,7 @@ fn timeout_of(least: u16, estimate: &Estimate) -> u16
     requires { (estimate.now.smoothed < 2 ^ 52) × (estimate.now.variation < 2 ^ 52) }
     ensures { result ≡ timeout_of least estimate.now }
 {
-    (estimate.smoothed + (4 * estimate.variation).max(1))
+    (estimate.smoothed + (4 * estimate.variation).max(least.min(MOST_SLACK) as u64))
         .max(least as u64)
         .min(MOST_TIMEOUT as u64) as u16
 }
@@ -249,17 +252,18 @@ pub fn timeouts()
     ensures timed { advanced (advanced (timing fresh 10 (pos 0)) 4 (pos 500_000)) 6 (pos 801_999) ≡ measured fresh 801 }
 {}
 
-/// Runs on numerals with a least timeout of 200 ms: the first timeout is a second, then it follows round
-/// trips of 100 ms down to the least, and each more costs the doubling. What may be set lies between 10
-/// ms and a minute.
+/// Runs on numerals with a least timeout of 200 ms: the first timeout is a second, then it lies 200 ms
+/// above round trips of 100 ms, however steady they are, and each more costs the doubling. What may be
+/// set lies between 10 ms and a minute.
 pub fn least_timeouts()
     ensures first { (with_least 200_000 fresh).timeout ≡ 1000 }
     ensures one { measured (with_least 200_000 fresh) 100 ≡
         record fresh { estimate = Some (record { smoothed = 100; variation = 50 }); timeout = 300; least = 200 } }
-    ensures two { (measured (measured (with_least 200_000 fresh) 100) 100).timeout ≡ 248 }
-    ensures three { (measured (measured (measured (with_least 200_000 fresh) 100) 100) 100).timeout ≡ 208 }
-    ensures four { (measured (measured (measured (measured (with_least 200_000 fresh) 100) 100) 100) 100).timeout ≡ 200 }
-    ensures steady { (timeout_of 10 (record { smoothed = 100; variation = 0 })) ≡ 101 }
+    ensures two { (measured (measured (with_least 200_000 fresh) 100) 100).timeout ≡ 300 }
+    ensures moved { (measured (measured (with_least 200_000 fresh) 100) 300).timeout ≡ 473 }
+    ensures short { (measured (with_least 200_000 fresh) 1).timeout ≡ 201 }
+    ensures steady { (timeout_of 10 (record { smoothed = 100; variation = 0 })) ≡ 110 }
+    ensures long { (timeout_of 1000 (record { smoothed = 1300; variation = 0 })) ≡ 1500 }
     ensures doubled { (backed_off (measured (with_least 200_000 fresh) 100)).timeout ≡ 600 }
     ensures raised { (with_least 5_000_000 fresh).timeout ≡ 5000 }
     ensures late { (begun_late (with_least 200_000 fresh)).timeout ≡ 3000 }
