@@ -54,6 +54,14 @@ smoothed (Some e) millis =
       variation = (3 * e.variation + distance e.smoothed millis) / 4;
     }
 
+-- SRTT, 0 where no round trip is known
+abbrev pub srtt_by : Option Estimate → ℕ
+srtt_by None = 0
+srtt_by (Some e) = e.smoothed
+
+abbrev pub srtt : RoundTripValue → ℕ
+srtt r = srtt_by r.estimate
+
 -- the timeout that they give, where the clock counts milliseconds (2.3 to 2.5)
 abbrev pub timeout_of : ℕ → Estimate → ℕ
 timeout_of least e = min most_timeout (max least (e.smoothed + max 1 (4 * e.variation)))

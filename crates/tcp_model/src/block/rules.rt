@@ -121,7 +121,9 @@ impl Block {
         let size = size.min(self.peer.window.saturating_sub(flight) as usize);
         match self.settings.congestion_control {
             CongestionControl::None => size,
-            CongestionControl::Reno => { size.min(self.congestion_room() as usize) }
+            CongestionControl::Reno | CongestionControl::Cubic => {
+                size.min(self.congestion_room() as usize)
+            }
         }
     }
 
