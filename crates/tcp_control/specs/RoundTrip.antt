@@ -54,6 +54,14 @@ smoothed (Some e) millis =
       variation = (3 * e.variation + distance e.smoothed millis) / 4;
     }
 
+-- SRTT, 0 where no round trip is known
+abbrev pub srtt_by : Option Estimate → ℕ
+srtt_by None = 0
+srtt_by (Some e) = e.smoothed
+
+abbrev pub srtt : RoundTripValue → ℕ
+srtt r = srtt_by r.estimate
+
 -- By how much the timeout lies above SRTT at least, G of 2.3: on a steady link RTTVAR falls to nothing, and an acknowledgement that the
 -- remote delays, or that a queue holds up, must not come too late. It is 200 milliseconds, or the least timeout, if that is shorter.
 abbrev pub slack : ℕ → ℕ

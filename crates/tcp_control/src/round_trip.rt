@@ -1,8 +1,8 @@
 //! The retransmission timeout (RFC 6298), in whole milliseconds.
 ghost use Rattle.std.specs.Prelude.{◌≡◌, ◌<◌, ◌≤◌, ◌^◌, ◌*◌, pos, Some};
 ghost use Rattle.net_base.specs.Time.{IsMoment};
-ghost use Rattle.tcp_control.specs.RoundTrip.{IsTimed, shortest_timeout, most_timeout, fresh, least_of, probe_wait, with_least, smoothed, timeout_of, measured};
-ghost use Rattle.tcp_control.specs.RoundTrip.{millis_between, advanced, is_reached, echoed, timing, untimed, begun_late, backed_off};
+ghost use Rattle.tcp_control.specs.RoundTrip.{IsTimed, shortest_timeout, most_timeout, fresh, least_of, probe_wait, with_least, smoothed, timeout_of};
+ghost use Rattle.tcp_control.specs.RoundTrip.{srtt, measured, millis_between, advanced, is_reached, echoed, timing, untimed, begun_late, backed_off};
 
 use net_base::{Duration, Instant};
 use std::marker::Model;
@@ -88,6 +88,17 @@ impl RoundTrip {
         ensures value { result ≡ self.now.least * 1000 }
     {
         Duration::from_millis(self.least as u64)
+    }
+
+    /// The smoothed round trip in milliseconds, 0 where none is known.
+    pub fn smoothed(&self) -> u64
+        ensures value { result ≡ srtt self.now }
+        ensures small { result < 2 ^ 52 }
+    {
+        match self.estimate {
+            None => 0,
+            Some(estimate) => estimate.smoothed,
+        }
     }
 
     /// How long a loss probe waits, in microseconds, where a round trip is known. `alone` says that no more
@@ -226,7 +237,7 @@ fn timeout_of(least: u16, estimate: &Estimate) -> u16
 }
 
 /// The whole milliseconds from one moment to another, none where that isn't later.
-fn millis_between(since: Instant, now: Instant) -> u64
+pub(crate) fn millis_between(since: Instant, now: Instant) -> u64
     requires { IsMoment since × IsMoment now }
     ensures value { result ≡ millis_between since now }
     ensures small { result < 2 ^ 52 }

@@ -17,7 +17,7 @@ use Rattle.tcp_control.specs.Offsets.{behind_by, past_by, before_by}
 use Rattle.tcp_control.specs.Reno as reno
 use Rattle.tcp_control.specs.Reno.{RenoValue}
 use Rattle.tcp_control.specs.RoundTrip as round_trip
-use Rattle.tcp_control.specs.RoundTrip.{RoundTripValue}
+use Rattle.tcp_control.specs.RoundTrip.{RoundTripValue, srtt}
 use Rattle.tcp_control.specs.States.{is_closed, is_time_wait, owes_fin, after_ack, after_ack_of_fin}
 use Rattle.tcp_model.specs.LossRecovery.{loss_acked, ranges_noted, is_first_lost, is_lost_again, is_lost_at}
 use Rattle.tcp_model.specs.Timestamps.{stamp_taken}
@@ -57,6 +57,10 @@ round_trip_after b by now =
     if acks_own_syn b by && b.sender.syn_lost then round_trip.begun_late (round_trip.advanced b.round_trip by now)
     else round_trip.advanced b.round_trip by now
 
+-- SRTT behind it
+abbrev pub srtt_after : Block → ℕ → ℤ → ℕ
+srtt_after b by now = srtt (round_trip.advanced b.round_trip by now)
+
 -- PARTIAL ACKNOWLEDGEMENTS (RFC 6582, 3.2, step 3)
 
 -- something new is acknowledged in fast recovery
@@ -82,12 +86,12 @@ abbrev pub recovery_after : Block → ℕ → ℕ → RenoValue
 recovery_after b by queued = if is_partial b by then partly_after b by queued else reno.recovered b.reno
 
 -- a connection begins with its first window; in fast recovery an acknowledgement is partial, or ends it; else the window grows by what is
--- acknowledged
-abbrev pub reno_after : Block → ℕ → ℕ → RenoValue
-reno_after b by queued =
+-- acknowledged now
+abbrev pub reno_after : Block → ℕ → ℕ → ℤ → RenoValue
+reno_after b by queued now =
     if acks_own_syn b by then reno.started b.reno b.sender.syn_lost
     else if acks_in_recovery b by then recovery_after b by queued
-    else reno.acknowledged b.reno (freed_by b by queued)
+    else reno.acknowledged b.reno (freed_by b by queued) now (srtt_after b by now)
 
 -- SND.UNA rises: sender, retransmission timer, round trip and congestion. After a partial acknowledgement the segment at SND.UNA is to
 -- go again at once, unless it did.
@@ -102,7 +106,7 @@ una_risen b by queued now = record b {
         retransmit_after b.timers by (b.sender.in_flight - by) (b.sender.partial && is_blind b by) now (round_trip_after b by now);
   };
   round_trip = round_trip_after b by now;
-  reno = reno_after b by queued;
+  reno = reno_after b by queued now;
 }
 
 abbrev pub una_moved : Block → ℕ → ℕ → ℤ → Block

@@ -121,6 +121,8 @@ pub enum CongestionControl {
     None,
     /// As RFC 5681 says.
     Reno,
+    /// As RFC 9438 says.
+    Cubic,
 }
 
 /// Loss recovery by selective acknowledgements (RFC 6675; RFC 8985). Counts are distances from SND.UNA.

@@ -165,7 +165,7 @@ impl Block {
     /// What round trip and congestion control learn of this. A connection begins with its first window.
     fn time_una(&mut self, by: u32, queued: usize, now: Instant)
         requires { IsMoment now }
-        ensures { self.new ≡ record self.old { round_trip = round_trip_after self.old by now; reno = reno_after self.old by queued } }
+        ensures { self.new ≡ record self.old { round_trip = round_trip_after self.old by now; reno = reno_after self.old by queued now } }
     {
         let freed = self.freed_by(by, queued);
         self.round_trip.advance(by, now);
@@ -173,7 +173,8 @@ impl Block {
             if self.acks_in_recovery(by) {
                 self.recover_una(by, freed, queued);
             } else {
-                self.reno.acknowledged(freed);
+                self.reno
+                    .acknowledged(freed, now, self.round_trip.smoothed());
             }
             return;
         }

@@ -122,8 +122,10 @@ impl Block {
         let size = size.min(self.peer.window.saturating_sub(flight) as usize);
         match self.settings.congestion_control {
             CongestionControl::None => size,
-            CongestionControl::Reno if self.takes_behind_flight(size) => size,
-            CongestionControl::Reno => size.min(self.congestion_room() as usize),
+            _ if self.takes_behind_flight(size) => size,
+            CongestionControl::Reno | CongestionControl::Cubic => {
+                size.min(self.congestion_room() as usize)
+            }
         }
     }
 
