@@ -57,6 +57,6 @@ pub not_sent : (i : InnerValue) (places : Places) (protocol : IpProtocol) (sourc
 not_sent i places protocol source destination bytes mtu none =
     ap (λ (b : Bool). if is_own i source && b then with_path i destination mtu else i) none ∙ never (is_own i source)
   where
-  never : (own : Bool) → (if own && false then with_path i destination mtu else i) ≡ i
-  never true = refl
-  never false = refl
+    never : (own : Bool) → (if own && false then with_path i destination mtu else i) ≡ i
+    never true = refl
+    never false = refl

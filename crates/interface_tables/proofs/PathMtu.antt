@@ -128,11 +128,11 @@ module _ {X : Type 0} (t : X → Bool) where
       let some = position-Some t xs at y is in
       find-set t xs at y (place xs at is) some.0 passes
     where
-    place : (xs : List X) (at : ℕ) → position t xs ≡ Some at → at ≡ position_or_len t xs
-    place xs at = by (nat_lt (position_or_len t xs) (length xs)) where
-      by : (b : Bool) → cond b (Some (position_or_len t xs)) None ≡ Some at → at ≡ position_or_len t xs
-      by true is = cc
-      by false is = absurd (let no = is in cc)
+      place : (xs : List X) (at : ℕ) → position t xs ≡ Some at → at ≡ position_or_len t xs
+      place xs at = by (nat_lt (position_or_len t xs) (length xs)) where
+        by : (b : Bool) → cond b (Some (position_or_len t xs)) None ≡ Some at → at ≡ position_or_len t xs
+        by true is = cc
+        by false is = absurd (let no = is in cc)
 
 -- ENTRIES
 
@@ -206,8 +206,8 @@ never_up paths address told now later whole since early = by (is_news paths addr
       subst (λ (n : ℕ). n ≤ mtu_towards paths address later whole) (sym (counts paths address told now later whole is early))
       (omega (arith, less, more))
     where
-    lt_by : (a b : ℕ) → nat_lt a b ≡ true → a < b
-    lt_by a b is = grind (arith, nat_tests)
+      lt_by : (a b : ℕ) → nat_lt a b ≡ true → a < b
+      lt_by a b is = grind (arith, nat_tests)
   by false is =
       subst (λ (ps : List Path). mtu_towards ps address later whole ≤ mtu_towards paths address later whole)
       (sym (nothing_else paths address told now whole is)) (omega arith)
