@@ -420,7 +420,7 @@ fn hand_message<'a>(
     ensures sendable { IfSome (option_value result) IsSendable }
 {
     match carried {
-        Some(IpPayload::Icmpv4(message)) => { hand_icmpv4(inner, places, header, payload, message) }
+        Some(IpPayload::Icmpv4(message)) => hand_icmpv4(inner, places, header, payload, message),
         Some(IpPayload::Icmpv6(message)) => hand_icmpv6(inner, places, header, message),
         Some(IpPayload::Raw(_)) => None,
         Some(IpPayload::Udp(..) | IpPayload::Tcp(_)) => unreachable!(),
