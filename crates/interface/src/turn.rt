@@ -12,6 +12,7 @@ ghost use Rattle.interface.specs.Turn.{is_known, is_heard, is_waiting, is_given_
 ghost use Rattle.interface.specs.Turn.{turned_by, Leaves, Sends, Turns, PlaceTurns};
 ghost use Rattle.interface_egress.specs.Meta.{freed};
 
+use crate::remote::remote_of;
 use interface_egress::{
     Fragmenter, InterfaceInner, Item, Meta, Plan, Sent, SocketStorage, dispatch_by, plan_for,
 };
@@ -19,6 +20,7 @@ use interface_ingress::addresses::is_same_address;
 use interface_ingress::socket_laws::unsent_is_offered_again;
 use interface_ingress::widths::fields_have_widths;
 use interface_ingress::{Context, Offer, Packet, Socket};
+use interface_tables::Look;
 use ip_wire::IpAddress;
 use net_base::{Device, Duration, Instant};
 
@@ -71,7 +73,9 @@ pub fn take_turn<D: Device>(
         return Turned::Next(false);
     }
     unsent_is_offered_again();
-    match item.socket.offer(inner) {
+    let remote = remote_of(&item.socket);
+    let offer = item.socket.offer(&Look::towards(inner, &remote));
+    match offer {
         Offer::Silent { changed } => {
             item.meta.unmark();
             Turned::Next(changed)
