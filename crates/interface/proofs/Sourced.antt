@@ -44,14 +44,21 @@ source_sendable (Ip.Ipv6 v) (Some (Address.Ipv4 a)) x is = is
 source_sendable (Ip.Ipv4 v) None x is = is
 source_sendable (Ip.Ipv6 v) None x is = is
 
-sendable_if : (b : Bool) (h : IpRepr) (s : Option IpAddress) (x : PayloadValue) → IsSendable (packet_of h x) → IsSendable (packet_of (if b then h else with_source h s) x)
-sendable_if true h s x is = is
-sendable_if false h s x is = source_sendable h s x is
+-- what holds of a packet with any source holds of it as it leaves
+pub as_sourced : (Q : IpRepr → PayloadValue → Type 0) → ((h : IpRepr) (s : Option IpAddress) (x : PayloadValue) → Q h x → Q (with_source h s) x) →
+    (i : InnerValue) (p : PacketValue) → Q p.header p.payload → Q (sourced_header i p) p.payload
+as_sourced Q law i p holds = by (is_raw p.payload || may_come_from i (source_of p.header) (destination_of p.header)) where
+  chosen : Option IpAddress
+  chosen = source_for i.addresses (destination_of p.header)
+
+  by : (b : Bool) → Q (if b then p.header else with_source p.header chosen) p.payload
+  by true = holds
+  by false = law p.header chosen p.payload holds
 
 pub sourced_sendable : (i : InnerValue) (p : PacketValue) → IsSendable p → IsSendable (sourced i p)
-sourced_sendable i p is =
-    sendable_if (is_raw p.payload || may_come_from i (source_of p.header) (destination_of p.header)) p.header (source_for i.addresses (destination_of p.header)) p.payload is
+sourced_sendable i p is = as_sourced (λ h x. IsSendable (packet_of h x)) source_sendable i p is
 
+-- the turn of a socket whose packet left, or stays
 pub sends_from : {D : Type 0} (moves : D → Move → D → Type 0) (turn : Option IpAddress) (s s' : Sender D) (p : PacketValue)
     (item item' : Item Socket) (changed : Bool) (turned : Turned) (sent : Sent) (now until : ℤ) (destination : IpAddress)
     → now ≡ s.inner.moment → IsWellFormed p → HasLeft moves turn s item.meta p sent until destination s'

@@ -1,19 +1,12 @@
 -- A socket's turn is a move, or none.
 use Rattle.std.proofs.Common.{◌≡◌, ℕ, Bool, true, false, inl, inr, List, [], ◌∷◌, ◌++◌, length, Option, Some, None, IfSome, refl, sym, ap, ◌∙◌, subst, arith}
 use Rattle.std.proofs.Common.{append-nil, ◌+◌}
-use Rattle.std.specs.Prelude.{◌||◌, if◌then◌else◌, slice_set, slice_index_or}
-use Rattle.interface_delivery.specs.Ip.{source_of, destination_of}
-use Rattle.interface_delivery.specs.IpRepr.{IpRepr}
-use Rattle.interface_delivery.specs.IpRepr.TheVariants as Ip
-use Rattle.interface_delivery.specs.Ipv4Repr.{Ipv4Repr}
-use Rattle.interface_delivery.specs.Ipv6Repr.{Ipv6Repr}
+use Rattle.std.specs.Prelude.{slice_set, slice_index_or}
+use Rattle.interface_delivery.specs.Ip.{destination_of}
 use Rattle.interface_ingress.specs.IpAddress.{IpAddress}
-use Rattle.interface_ingress.specs.IpAddress.TheVariants as Address
-use Rattle.interface_ingress.specs.Ipv4Address.{Ipv4Address}
-use Rattle.interface_ingress.specs.Ipv6Address.{Ipv6Address}
 use Rattle.lan_frames.specs.Device.{Move}
 use Rattle.sockets.specs.Context.{ContextValue}
-use Rattle.sockets.specs.Packet.{PacketValue, PayloadValue, ControlV4, ControlV6, Bytes, Datagram, Segment}
+use Rattle.sockets.specs.Packet.{PacketValue}
 use Rattle.sockets.specs.WellFormed.{IsWellFormed}
 use Rattle.sockets.specs.Offer as Answer
 use Rattle.sockets.specs.Offer.TheVariants as Offer
@@ -36,8 +29,7 @@ use Rattle.sockets.specs.Socket.{Offers, offered_by, settled}
 use Rattle.sockets.specs.declared.socket.Socket.{Socket}
 use Rattle.sockets.specs.declared.socket.Socket.TheVariants as Is
 use Rattle.sockets.proofs.AnyKind.{has_packet}
-use Rattle.interface_tables.specs.Inner.{InnerValue, context_of, may_come_from}
-use Rattle.interface_tables.specs.Source.{source_for}
+use Rattle.interface_tables.specs.Inner.{context_of}
 use Rattle.interface_egress.specs.Meta.{unmarked}
 use Rattle.interface_egress.specs.declared.socket_meta.Meta.{Meta}
 use Rattle.interface_egress.specs.declared.socket_set.Item.{Item}
@@ -46,7 +38,7 @@ use Rattle.interface_egress.specs.declared.way_out.Sent.{Sent}
 use Rattle.interface.specs.Host.{HostValue, Sender}
 use Rattle.interface.specs.State.{State, state}
 use Rattle.interface.specs.Turn.{PlaceTurns, ItemTurns, TurnsIf, Answers, SendsBy, Leaves, is_waiting, let_through, is_done, marked, plan_at, waits_until}
-use Rattle.interface.specs.Turn.{SendsAs, is_raw, with_source, sourced}
+use Rattle.interface.specs.Turn.{SendsAs}
 use Rattle.interface.specs.declared.turn.Turned.{Turned}
 use Rattle.interface.specs.State.{sending_as}
 use Rattle.lan_hosts.specs.Side.{Side}
@@ -58,9 +50,10 @@ use Rattle.lan_theorem.specs.Moves.Follows.{seen_place, sockets_of}
 use Rattle.lan_theorem.proofs.Moves.Following.{Reaches, Follows}
 use Rattle.lan_theorem.specs.Moves.Fit.{IsFit}
 use Rattle.lan_theorem.specs.Moves.Link.{IsLink}
-use Rattle.lan_theorem.specs.Moves.Made.{Grows, MadeBy, IsMade, IsWide, FitsBehind}
+use Rattle.lan_theorem.specs.Moves.Made.{Grows, MadeBy, IsMade, IsWide}
 use Rattle.lan_theorem.specs.Moves.Raws.{OfItem}
 use Rattle.lan_theorem.proofs.Moves.Nets.{Moved, stays, moves_by, there, grows_to, grows_not, grows_by}
+use Rattle.lan_theorem.proofs.Moves.Sourced.{sourced_wide}
 use Rattle.lan_theorem.proofs.Moves.Offering.{if_some, some_so, takes_one, message_made, udp_made, tcp_made}
 use Rattle.lan_theorem.proofs.Moves.Places.{Places, get-middle, set-middle, same-middle}
 use Rattle.lan_theorem.proofs.Moves.Wide.{offered_wide}
@@ -70,47 +63,6 @@ abbrev pub holding : Meta → Socket → SocketStorage Socket
 holding m s = record { inner = Some (record { meta = m; socket = s }) }
 
 -- AN OFFER
-
--- another source changes nothing of what the header names
-fits_v4 : (v : Ipv4Repr) (a : Ipv4Address) (x : PayloadValue) → FitsBehind (Ip.Ipv4 v) x → FitsBehind (Ip.Ipv4 (record v { src_addr = a })) x
-fits_v4 v a (ControlV4 message bytes) fits = fits
-fits_v4 v a (ControlV6 message bytes) fits = fits
-fits_v4 v a (Bytes bytes) fits = fits
-fits_v4 v a (Datagram udp bytes) fits = fits
-fits_v4 v a (Segment tcp bytes) fits = fits
-
-fits_v6 : (v : Ipv6Repr) (a : Ipv6Address) (x : PayloadValue) → FitsBehind (Ip.Ipv6 v) x → FitsBehind (Ip.Ipv6 (record v { src_addr = a })) x
-fits_v6 v a (ControlV4 message bytes) fits = fits
-fits_v6 v a (ControlV6 message bytes) fits = fits
-fits_v6 v a (Bytes bytes) fits = fits
-fits_v6 v a (Datagram udp bytes) fits = fits
-fits_v6 v a (Segment tcp bytes) fits = fits
-
-fits_source : (h : IpRepr) (s : Option IpAddress) (x : PayloadValue) → FitsBehind h x → FitsBehind (with_source h s) x
-fits_source (Ip.Ipv4 v) (Some (Address.Ipv4 a)) x fits = fits_v4 v a x fits
-fits_source (Ip.Ipv6 v) (Some (Address.Ipv6 a)) x fits = fits_v6 v a x fits
-fits_source (Ip.Ipv4 v) (Some (Address.Ipv6 a)) x fits = fits
-fits_source (Ip.Ipv6 v) (Some (Address.Ipv4 a)) x fits = fits
-fits_source (Ip.Ipv4 v) None x fits = fits
-fits_source (Ip.Ipv6 v) None x fits = fits
-
-fits_if : (b : Bool) (h : IpRepr) (s : Option IpAddress) (x : PayloadValue) → FitsBehind h x →
-    FitsBehind (if b then h else with_source h s) x
-fits_if true h s x fits = fits
-fits_if false h s x fits = fits_source h s x fits
-
--- a packet that leaves from the source that is chosen for it
-sourced_wide : (i : InnerValue) (p : PacketValue) → IsWide p → IsWellFormed (sourced i p) → IsWide (sourced i p)
-sourced_wide i p wide formed = record {
-  offered = record {
-    packet = record { len = formed.sendable.len; payload = λ fits. formed.sendable.payload };
-    header = formed.header;
-    payload = wide.offered.payload;
-  };
-  fits =
-      fits_if (is_raw p.payload || may_come_from i (source_of p.header) (destination_of p.header)) p.header
-      (source_for i.addresses (destination_of p.header)) p.payload wide.fits;
-}
 
 -- a packet is wide, once its fields are of their widths
 abbrev CanBeWide : PacketValue → Type 0
