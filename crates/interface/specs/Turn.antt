@@ -130,12 +130,15 @@ with_source (Ip.Ipv4 v) (Some (Address.Ipv4 a)) = Ip.Ipv4 (record v { src_addr =
 with_source (Ip.Ipv6 v) (Some (Address.Ipv6 a)) = Ip.Ipv6 (record v { src_addr = a })
 with_source header source = header
 
+-- the source stays: a raw socket's, and one that can be a source
+abbrev pub keeps_source : InnerValue → PacketValue → Bool
+keeps_source i p = is_raw p.payload || may_come_from i (source_of p.header) (destination_of p.header)
+
 -- A packet whose source can't be one leaves from the address that is chosen for its destination, if there is one (RFC 1122,
 -- sections 3.2.1.3 and 3.3.4.3).
 abbrev pub sourced_header : InnerValue → PacketValue → IpRepr
 sourced_header i p =
-    if is_raw p.payload || may_come_from i (source_of p.header) (destination_of p.header) then p.header
-    else with_source p.header (source_for i.addresses (destination_of p.header))
+    if keeps_source i p then p.header else with_source p.header (source_for i.addresses (destination_of p.header))
 
 abbrev pub sourced : InnerValue → PacketValue → PacketValue
 sourced i p = record p { header = sourced_header i p }
