@@ -33,7 +33,8 @@ use Rattle.interface.specs.Awaited.{turn_of}
 use Rattle.interface.specs.Host.{Sender}
 use Rattle.interface.specs.Pass.{Pass, Passed, passed}
 use Rattle.interface.specs.WayOut.{Clears, Egress, PieceLeaves}
-use Rattle.interface.specs.Turn.{Leaves, SendsAs, SendsBy, Answers, TurnsIf, ItemTurns, PlaceTurns, is_waiting, let_through, turned_by, settled_by, plan_at, held_at}
+use Rattle.interface.specs.Turn.{Leaves, SendsAs, SendsBy, Answers, TurnsIf, ItemTurns, PlaceTurns, is_waiting, let_through, turned_by, settled_by}
+use Rattle.interface.specs.Turn.{plan_at, held_at}
 use Rattle.interface.specs.Turn.{outcome_by, waits_until}
 use Rattle.interface.specs.declared.turn.Turned.{Turned}
 use Rattle.interface.specs.declared.turn.Turned.TheVariants as Turn

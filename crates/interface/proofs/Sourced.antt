@@ -141,11 +141,16 @@ pub sends_from : {D : Type 0} (moves : D → Move → D → Type 0) (turn : Opti
     → item' ≡ settled_by sent now until destination item → turned ≡ turned_by sent changed
     → SendsBy moves turn (Some p) s item changed turned s' item'
 sends_from moves turn s s' p item item' changed turned sent now until destination at formed left is by = (
-    left.0, left.1, formed, (
-      sent, left.2, by,
-      is ∙ ap (λ (m : ℤ). settled_by sent m until destination item) at
-      ∙ ap (λ (m : ℤ). settled_by sent s.inner.moment m destination item) left.4
-      ∙ ap (λ (a : IpAddress). settled_by sent s.inner.moment (waits_until (plan_at s left.0) s'.inner) a item) left.5,
-      left.3,
-    ),
+  left.0,
+  left.1,
+  formed,
+  (
+    sent,
+    left.2,
+    by,
+    is ∙ ap (λ (m : ℤ). settled_by sent m until destination item) at
+        ∙ ap (λ (m : ℤ). settled_by sent s.inner.moment m destination item) left.4
+        ∙ ap (λ (a : IpAddress). settled_by sent s.inner.moment (waits_until (plan_at s left.0) s'.inner) a item) left.5,
+    left.3,
+  ),
 )

@@ -144,8 +144,8 @@ fn let_leave<D: Device>(
     packet: &Packet<'_>,
 ) -> Left
     requires sendable { IsSendable (packet_value packet.now) }
-    ensures left { HasLeft D.moves turn (sender device.old inner.old fragmenter.old) meta.now (packet_value packet.now) result.sent result.until result.destination
-        (sender device.new inner.new fragmenter.new) }
+    ensures left { HasLeft D.moves turn (sender device.old inner.old fragmenter.old) meta.now (packet_value packet.now)
+        result.sent result.until result.destination (sender device.new inner.new fragmenter.new) }
     ensures capabilities { D.described device.new ≡ D.described device.old }
 {
     let leaving = sourced(inner, packet);
