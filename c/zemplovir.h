@@ -315,8 +315,9 @@ uint32_t zv_tcp_set_hop_limit(zv_host *host, size_t socket, uint8_t limit);
  * connection is opened, and 16 later. */
 uint32_t zv_tcp_set_retries(zv_host *host, size_t socket, uint16_t limit);
 
-/* Whether what is sent is held back where congestion may be, as RFC 5681 says: 0 for no. */
-uint32_t zv_tcp_set_congestion_control(zv_host *host, size_t socket, uint8_t enabled);
+/* How what is sent is held back where congestion may be: 0 for not at all, 2 as RFC 9438 (CUBIC) says, each other number as RFC 5681
+ * (Reno) does. A new socket has Reno. */
+uint32_t zv_tcp_set_congestion_control(zv_host *host, size_t socket, uint8_t control);
 
 /* Whether segments carry timestamps (RFC 7323), 0 for no; they begin with `first`. */
 uint32_t zv_tcp_set_timestamps(zv_host *host, size_t socket, uint8_t enabled, uint32_t first);

@@ -23,9 +23,7 @@ pub fn is_same_address(one: &IpAddress, other: &IpAddress) -> bool
     ensures { result ≡ is_same_address one.now other.now }
 {
     match (one, other) {
-        (IpAddress::Ipv4(one), IpAddress::Ipv4(other)) => {
-            u32::from_le_bytes(one.octets()) == u32::from_le_bytes(other.octets())
-        }
+        (IpAddress::Ipv4(one), IpAddress::Ipv4(other)) => one.octets() == other.octets(),
         (IpAddress::Ipv6(one), IpAddress::Ipv6(other)) => one.octets() == other.octets(),
         _ => false,
     }
