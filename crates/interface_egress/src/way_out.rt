@@ -157,7 +157,7 @@ fn send_first<D: Device>(
         result device.new inner.new fragmenter.new }
     ensures capabilities { D.described device.new ≡ D.described device.old }
 {
-    let cut = cut_from(inner, &IpAddress::Ipv4(header.dst_addr));
+    let cut = cut_from(inner, IpAddress::Ipv4(header.dst_addr));
     let header = Ipv4Repr {
         ident: inner.ident(),
         dont_frag: false,
@@ -183,19 +183,19 @@ pub fn send_next<D: Device>(
     ensures out { IfSome fragmenter.old (λ l. PieceGoesOut D.moves device.old inner.now l result device.new fragmenter.new) }
     ensures capabilities { D.described device.new ≡ D.described device.old }
 {
-    let cut = cut_from(inner, &fragmenter.destination());
+    let cut = cut_from(inner, fragmenter.destination());
     fragmenter.send_next(device, token, &cut)
 }
 
 /// How pieces go from this host to this destination.
-fn cut_from(inner: &InterfaceInner, destination: &IpAddress) -> Cut
-    ensures value { result ≡ record { from = inner.now.hardware; mtu = mtu_to inner.now destination.now; checksums = inner.now.checksums } }
+fn cut_from(inner: &InterfaceInner, destination: IpAddress) -> Cut
+    ensures value { result ≡ record { from = inner.now.hardware; mtu = mtu_to inner.now destination; checksums = inner.now.checksums } }
     ensures low { 576 ≤ result.mtu }
     ensures high { result.mtu ≤ 65535 }
 {
     Cut {
         from: inner.hardware_addr(),
-        mtu: inner.mtu_to(destination),
+        mtu: inner.mtu_to(&destination),
         checksums: inner.checksum_caps(),
     }
 }

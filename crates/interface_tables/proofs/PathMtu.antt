@@ -34,9 +34,11 @@ mtu_between (Some p) address now whole =
     × (cond b (narrowed address p.told whole) whole ≤ whole)) [ true ↦ between address p.told whole | false ↦ (omega arith, omega arith) ]
 
 pub mtu_least : (paths : List Path) (address : IpAddress) (now : ℤ) (whole : ℕ) → min whole (least_mtu address) ≤ mtu_towards paths address now whole
+unfolding mtu_towards
 mtu_least paths address now whole = (mtu_between (path_to paths address) address now whole).0
 
 pub mtu_within : (paths : List Path) (address : IpAddress) (now : ℤ) (whole : ℕ) → mtu_towards paths address now whole ≤ whole
+unfolding mtu_towards
 mtu_within paths address now whole = (mtu_between (path_to paths address) address now whole).1
 
 least_low : (address : IpAddress) → 576 ≤ least_mtu address
@@ -68,6 +70,7 @@ stays_by (Some p) address now later whole since before = by (int_lt now p.until)
 pub mtu_stays : (paths : List Path) (address : IpAddress) (now later : ℤ) (whole : ℕ) → now ≤ℤ later
     → ((until : ℤ) → end_towards paths address now ≡ Some until → later <ℤ until)
     → mtu_towards paths address later whole ≡ mtu_towards paths address now whole
+unfolding mtu_towards end_towards
 mtu_stays paths address now later whole since before = stays_by (path_to paths address) address now later whole since before
 
 -- SEARCHES
@@ -160,11 +163,13 @@ path_entered paths new = at_first (leads_to new.destination) (entered paths new)
 
 lowered_is : (paths : List Path) (address : IpAddress) (told : ℕ) (now : ℤ) (whole : ℕ) (b : Bool) → is_news paths address told now whole ≡ b →
     lowered paths address told now whole ≡ cond b (entered paths (heard_of address told now)) paths
+unfolding lowered
 lowered_is paths address told now whole b is = ap (λ (b : Bool). cond b (entered paths (heard_of address told now)) paths) is
 
 heard_mtu : (paths : List Path) (address : IpAddress) (told : ℕ) (now later : ℤ) (whole : ℕ) (b : Bool) → is_news paths address told now whole ≡ true
     → int_lt later (now +ℤ pos path_time) ≡ b
     → mtu_towards (lowered paths address told now whole) address later whole ≡ cond b (narrowed address told whole) whole
+unfolding mtu_towards
 heard_mtu paths address told now later whole b news is =
     ap (λ (ps : List Path). mtu_towards ps address later whole) (lowered_is paths address told now whole true news)
     ∙ ap (λ (o : Option Path). mtu_by o address later whole) (path_entered paths (heard_of address told now))
@@ -194,6 +199,11 @@ later_most (Some p) address now later whole since = by (int_lt later p.until) re
       subst (λ (b : Bool). cond b (narrowed address p.told whole) whole ≤ narrowed address p.told whole) (sym lives) (omega arith)
   by false is = (mtu_between (Some p) address now whole).1
 
+later_mtu : (paths : List Path) (address : IpAddress) (now later : ℤ) (whole : ℕ) → now ≤ℤ later →
+    mtu_towards paths address now whole ≤ mtu_towards paths address later whole
+unfolding mtu_towards
+later_mtu paths address now later whole since = later_most (path_to paths address) address now later whole since
+
 pub never_up : (paths : List Path) (address : IpAddress) (told : ℕ) (now later : ℤ) (whole : ℕ) → now ≤ℤ later → later <ℤ (now +ℤ pos path_time)
     → mtu_towards (lowered paths address told now whole) address later whole ≤ mtu_towards paths address later whole
 never_up paths address told now later whole since early = by (is_news paths address told now whole) refl where
@@ -202,7 +212,7 @@ never_up paths address told now later whole since early = by (is_news paths addr
   by true is =
       let less : narrowed address told whole < mtu_towards paths address now whole =
       lt_by (narrowed address told whole) (mtu_towards paths address now whole) is in
-      let more = later_most (path_to paths address) address now later whole since in
+      let more = later_mtu paths address now later whole since in
       subst (λ (n : ℕ). n ≤ mtu_towards paths address later whole) (sym (counts paths address told now later whole is early))
       (omega (arith, less, more))
     where
@@ -237,6 +247,7 @@ other_by paths new other None is apart (inr none) = absurd (let no = none in cc)
 others_by : (paths : List Path) (address other : IpAddress) (told : ℕ) (now later : ℤ) (whole : ℕ) → is_same_address address other ≡ false
     → nat_lt (length paths) path_room ≡ true ⊎ is_some (place_of paths address) ≡ true
     → mtu_towards (lowered paths address told now whole) other later whole ≡ mtu_towards paths other later whole
+unfolding mtu_towards lowered
 others_by paths address other told now later whole apart room =
     elim (is_news paths address told now whole) as (λ b. mtu_towards (cond b (entered paths (heard_of address told now)) paths) other later whole ≡
     mtu_towards paths other later whole) [
@@ -292,6 +303,7 @@ entered_few paths new few = by (place_of paths new.destination) where
 
 pub lowered_few : (paths : List Path) (address : IpAddress) (told : ℕ) (now : ℤ) (whole : ℕ) → length paths ≤ path_room →
     length (lowered paths address told now whole) ≤ path_room
+unfolding lowered
 lowered_few paths address told now whole few =
     elim (is_news paths address told now whole) as (λ b. length (cond b (entered paths (heard_of address told now)) paths) ≤ path_room) [
       | true ↦ entered_few paths (heard_of address told now) few

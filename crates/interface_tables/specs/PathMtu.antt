@@ -47,7 +47,7 @@ abbrev pub mtu_by : Option Path → IpAddress → ℤ → ℕ → ℕ
 mtu_by None address now whole = whole
 mtu_by (Some p) address now whole = if int_lt now p.until then narrowed address p.told whole else whole
 
-abbrev pub mtu_towards : List Path → IpAddress → ℤ → ℕ → ℕ
+unfoldable pub mtu_towards : List Path → IpAddress → ℤ → ℕ → ℕ
 mtu_towards paths address now whole = mtu_by (path_to paths address) address now whole
 
 -- when what is known of a path ends, if something is
@@ -55,7 +55,7 @@ abbrev pub end_by : Option Path → ℤ → Option ℤ
 end_by None now = None
 end_by (Some p) now = if int_lt now p.until then Some p.until else None
 
-abbrev pub end_towards : List Path → IpAddress → ℤ → Option ℤ
+unfoldable pub end_towards : List Path → IpAddress → ℤ → Option ℤ
 end_towards paths address now = end_by (path_to paths address) now
 
 -- WHAT A MESSAGE CHANGES
@@ -84,6 +84,6 @@ abbrev pub is_news : List Path → IpAddress → ℕ → ℤ → ℕ → Bool
 is_news paths address told now whole = nat_lt (narrowed address told whole) (mtu_towards paths address now whole)
 
 -- the table behind a message that tells this of a destination, now
-abbrev pub lowered : List Path → IpAddress → ℕ → ℤ → ℕ → List Path
+unfoldable pub lowered : List Path → IpAddress → ℕ → ℤ → ℕ → List Path
 lowered paths address told now whole =
     if is_news paths address told now whole then entered paths (heard_of address told now) else paths

@@ -46,6 +46,7 @@ pub fn others_stay()
 /// Law: a host at a device of 1500 bytes is told at moment 0 that the path to fd00::2 carries 1400, a second later 1300, and a second later
 /// 1350 (RFC 8201, section 4: a node doesn't increase its estimate in response to a Packet Too Big message). It is told 68, too: no path
 /// carries less than 1280. What is told of 10.0.0.2 counts from 576 on.
+#[tactic(auto, unfolding(crate::specs::PathMtu::lowered, crate::specs::PathMtu::mtu_towards))]
 pub fn told_by_hand()
     ensures first { let six : IpAddress = Address.Ipv6 (record { 0 = 0xfd ∷ replicate 14 0 ++ (2 ∷ []) }) in
         mtu_towards (lowered [] six 1400 (pos 0) 1500) six (pos 599_999_999) 1500 ≡ 1400 }

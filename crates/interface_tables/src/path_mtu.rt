@@ -72,6 +72,7 @@ impl Paths {
     }
 
     /// How long a packet to this destination may be, where a frame carries `whole` bytes.
+    #[tactic(auto, unfolding(crate::specs::PathMtu::mtu_towards))]
     pub fn mtu_towards(&self, address: &IpAddress, now: Instant, whole: usize) -> usize
         ensures { result ≡ mtu_towards self.now address.now now whole }
     {
@@ -82,6 +83,7 @@ impl Paths {
     }
 
     /// When what is known of the path to this destination ends, if something is.
+    #[tactic(auto, unfolding(crate::specs::PathMtu::end_towards))]
     pub fn end_towards(&self, address: &IpAddress, now: Instant) -> Option<Instant>
         ensures { result ≡ end_towards self.now address.now now }
     {
@@ -92,6 +94,7 @@ impl Paths {
     }
 
     /// Takes in that the path to this destination carries a packet of so many bytes, where that is less than was known.
+    #[tactic(auto, unfolding(crate::specs::PathMtu::lowered))]
     pub fn lower(&mut self, address: IpAddress, told: usize, now: Instant, whole: usize)
         requires { IsMoment now }
         ensures { self.new ≡ lowered self.old address told now whole }
