@@ -1,0 +1,2 @@
+pub mod TcpRests
+pub mod Rests

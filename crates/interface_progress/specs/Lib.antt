@@ -1,0 +1,3 @@
+pub mod Patience
+pub mod Moves
+pub mod OfUse
