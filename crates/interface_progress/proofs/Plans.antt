@@ -75,7 +75,7 @@ module _ (i : InnerValue) (address : IpAddress) where
       ap (λ (h : HardwareAddress). is_known_on h i hop) is ∙ by_answer (lookup i.neighbors hop i.moment) hop e
 
   on_medium : (hardware : HardwareAddress) → i.hardware ≡ hardware → is_known (link_on hardware i address) ≡ false → has_neighbor i address ≡ false
-  on_medium Hardware.Ip is e = clash e
+  on_medium Hardware.Ip is = λ e. clash e
   on_medium (Hardware.Ethernet own) is =
       cond_both (is_local_broadcast i address) (Link.Known (Hardware.Ethernet all_stations))
       (if is_multicast address then Link.Known (Hardware.Ethernet (group_station address)) else link_of_hop i (next_hop i address))
