@@ -5,3 +5,9 @@ pub mod Plans
 pub mod Turns
 pub mod Passes
 pub mod Polled
+pub mod Ways
+pub mod OurTurn
+pub mod Goes
+pub mod InTurn
+pub mod Readers
+pub mod Excluded

@@ -18,7 +18,7 @@ use Rattle.interface.specs.declared.turn.Turned.TheVariants as Turn
 use Rattle.interface.proofs.Due.{AllLater}
 use Rattle.interface_progress.specs.Moves.{AreMoves}
 use Rattle.interface_progress.specs.OfUse.{Stirs}
-use Rattle.interface_progress.specs.Patience.{ArePatient}
+use Rattle.interface_progress.specs.Patience.{IsItemPatient, ArePatient}
 use Rattle.interface_progress.proofs.Walks.{joined, stirs_before, stirs_behind}
 use Rattle.interface_progress.proofs.Turns.{Calm, Ends, place_ends}
 
@@ -65,10 +65,10 @@ module _ {D : Type 0} (moves : D → Move → D → Type 0) where
     pub left : e.sender.left ≡ s.left
     pub done : Done s.inner e.changed e.places
 
-  record PassEnds (s : Sender D) (before : List (SocketStorage Socket)) (changed : Bool) (e : Passed D) : Type 0 where
-    all : List Move
-    are : AreMoves moves all s.device e.sender.device
-    what : Stirs all ⊎ (s.left ≡ None → Done s.inner changed before → CalmPass s e)
+  pub record PassEnds (s : Sender D) (before : List (SocketStorage Socket)) (changed : Bool) (ps : List (SocketStorage Socket)) (e : Passed D) : Type 0 where
+    pub all : List Move
+    pub are : AreMoves moves all s.device e.sender.device
+    pub what : Stirs all ⊎ (s.left ≡ None → ArePatient ps → Done s.inner changed before → CalmPass s e)
 
   done_next : (i : InnerValue) (c b : Bool) (before : List (SocketStorage Socket)) (p : SocketStorage Socket) → Done i c before
       → (b ≡ true) ⊎ IsEarlier i.moment (place_instant i p) → Done i (c || b) (before ++ p ∷ [])
@@ -83,21 +83,22 @@ module _ {D : Type 0} (moves : D → Move → D → Type 0) where
   stops_not b c same = cc
 
   module _ (turn : Option IpAddress) where
-    pass_ends : (s : Sender D) (before : List (SocketStorage Socket)) (changed : Bool) (ps : List (SocketStorage Socket)) (e : Passed D) → ArePatient ps
-        → Pass moves turn s before changed ps e → PassEnds s before changed e
-    pass_ends s before changed [] e patient ends = record {
+    pub pass_ends : (s : Sender D) (before : List (SocketStorage Socket)) (changed : Bool) (ps : List (SocketStorage Socket)) (e : Passed D)
+        → Pass moves turn s before changed ps e → PassEnds s before changed ps e
+    pass_ends s before changed [] e ends = record {
       all = [];
       are = ap (λ (x : Passed D). x.sender.device) ends;
-      what = inr (λ none done. record {
+      what = inr (λ none patient done. record {
         inner = ap (λ (x : Passed D). x.sender.inner) ends;
         left = ap (λ (x : Passed D). x.sender.left) ends;
         done = subst (λ (x : Passed D). Done s.inner x.changed x.places) (sym ends) done;
       });
     }
-    pass_ends s before changed (p ∷ ps) e patient (inl goes) =
-        let took : Ends moves s goes.1 (Turn.Next goes.0) goes.2.inner = place_ends moves turn s goes.1 p goes.2 (Turn.Next goes.0) patient.0 goes.3 in
-        let rest : PassEnds goes.1 (before ++ goes.2 ∷ []) (changed || goes.0) e =
-        pass_ends goes.1 (before ++ goes.2 ∷ []) (changed || goes.0) ps e patient.1 goes.4 in
+    pass_ends s before changed (p ∷ ps) e (inl goes) =
+        let took : Ends moves (IsItemPatient p.inner) s goes.1 (Turn.Next goes.0) goes.2.inner =
+        place_ends moves (IsItemPatient p.inner) turn s goes.1 p goes.2 (Turn.Next goes.0) (λ q. q) goes.3 in
+        let rest : PassEnds goes.1 (before ++ goes.2 ∷ []) (changed || goes.0) ps e =
+        pass_ends goes.1 (before ++ goes.2 ∷ []) (changed || goes.0) ps e goes.4 in
         record {
           all = took.all ++ rest.all;
           are = joined moves took.all rest.all s.device goes.1.device e.sender.device took.are rest.are;
@@ -105,13 +106,13 @@ module _ {D : Type 0} (moves : D → Move → D → Type 0) where
         }
       where
         calms : (b : Bool) (mid : Sender D) (p' : SocketStorage Socket) → Calm moves s mid (Turn.Next b) p'.inner → Done s.inner changed before
-            → (mid.left ≡ None → Done mid.inner (changed || b) (before ++ p' ∷ []) → CalmPass mid e) → s.left ≡ None → CalmPass s e
-        calms b mid p' calm done more none =
+            → (mid.left ≡ None → ArePatient ps → Done mid.inner (changed || b) (before ++ p' ∷ []) → CalmPass mid e) → s.left ≡ None → ArePatient ps → CalmPass s e
+        calms b mid p' calm done more none patient =
             let this : (b ≡ true) ⊎ IsEarlier s.inner.moment (place_instant s.inner p') =
             subst (λ (c : Bool). (c ≡ true) ⊎ IsEarlier s.inner.moment (place_instant s.inner p')) (next_is b calm.changed calm.next) calm.done in
             let so : Done mid.inner (changed || b) (before ++ p' ∷ []) =
             subst (λ (i : InnerValue). Done i (changed || b) (before ++ p' ∷ [])) (sym calm.inner) (done_next s.inner changed b before p' done this) in
-            let later : CalmPass mid e = more (calm.left ∙ none) so in
+            let later : CalmPass mid e = more (calm.left ∙ none) patient so in
             record {
               inner = later.inner ∙ calm.inner;
               left = later.left ∙ calm.left;
@@ -119,36 +120,38 @@ module _ {D : Type 0} (moves : D → Move → D → Type 0) where
             }
 
         both : (xs ys : List Move) (b : Bool) (mid : Sender D) (p' : SocketStorage Socket)
-            → Stirs xs ⊎ (s.left ≡ None → Calm moves s mid (Turn.Next b) p'.inner)
-            → Stirs ys ⊎ (mid.left ≡ None → Done mid.inner (changed || b) (before ++ p' ∷ []) → CalmPass mid e)
-            → Stirs (xs ++ ys) ⊎ (s.left ≡ None → Done s.inner changed before → CalmPass s e)
+            → Stirs xs ⊎ (s.left ≡ None → IsItemPatient p.inner → Calm moves s mid (Turn.Next b) p'.inner)
+            → Stirs ys ⊎ (mid.left ≡ None → ArePatient ps → Done mid.inner (changed || b) (before ++ p' ∷ []) → CalmPass mid e)
+            → Stirs (xs ++ ys) ⊎ (s.left ≡ None → ArePatient (p ∷ ps) → Done s.inner changed before → CalmPass s e)
         both xs ys b mid p' (inl stirs) more = inl (stirs_before xs ys stirs)
         both xs ys b mid p' (inr calm) (inl stirs) = inl (stirs_behind xs ys stirs)
-        both xs ys b mid p' (inr calm) (inr more) = inr (λ none done. calms b mid p' (calm none) done more none)
-    pass_ends s before changed (p ∷ ps) e patient (inr stops) =
-        let took : Ends moves s stops.1 (Turn.Stop stops.0) stops.2.inner = place_ends moves turn s stops.1 p stops.2 (Turn.Stop stops.0) patient.0 stops.3 in
+        both xs ys b mid p' (inr calm) (inr more) = inr (λ none patient done. calms b mid p' (calm none patient.0) done more none patient.1)
+    pass_ends s before changed (p ∷ ps) e (inr stops) =
+        let took : Ends moves (IsItemPatient p.inner) s stops.1 (Turn.Stop stops.0) stops.2.inner =
+        place_ends moves (IsItemPatient p.inner) turn s stops.1 p stops.2 (Turn.Stop stops.0) (λ q. q) stops.3 in
         record {
           all = took.all;
           are = subst (λ (d : D). AreMoves moves took.all s.device d) (sym (ap (λ (x : Passed D). x.sender.device) stops.4)) took.are;
           what = never stops.0 took.all stops.1 stops.2 took.what;
         }
       where
-        never : (b : Bool) (xs : List Move) (mid : Sender D) (p' : SocketStorage Socket) → Stirs xs ⊎ (s.left ≡ None → Calm moves s mid (Turn.Stop b) p'.inner)
-            → Stirs xs ⊎ (s.left ≡ None → Done s.inner changed before → CalmPass s e)
+        never : (b : Bool) (xs : List Move) (mid : Sender D) (p' : SocketStorage Socket)
+            → Stirs xs ⊎ (s.left ≡ None → IsItemPatient p.inner → Calm moves s mid (Turn.Stop b) p'.inner)
+            → Stirs xs ⊎ (s.left ≡ None → ArePatient (p ∷ ps) → Done s.inner changed before → CalmPass s e)
         never b xs mid p' (inl stirs) = inl stirs
-        never b xs mid p' (inr calm) = inr (λ none done. absurd (stops_not b (calm none).changed (calm none).next))
+        never b xs mid p' (inr calm) = inr (λ none patient done. absurd (stops_not b (calm none patient.0).changed (calm none patient.0).next))
 
   -- THE PIECE THAT WAITS, AND THEN THE SOCKETS
 
-  pub record StepEnds (s : Sender D) (e : Passed D) : Type 0 where
+  pub record StepEnds (s : Sender D) (ps : List (SocketStorage Socket)) (e : Passed D) : Type 0 where
     pub all : List Move
     pub are : AreMoves moves all s.device e.sender.device
-    pub what : Stirs all ⊎ ((s.left ≡ None) × CalmPass s e)
+    pub what : Stirs all ⊎ ((s.left ≡ None) × (ArePatient ps → CalmPass s e))
 
-  record PieceEnds (s mid : Sender D) (clear : Bool) : Type 0 where
-    all : List Move
-    are : AreMoves moves all s.device mid.device
-    what : Stirs all ⊎ ((clear ≡ true) × (mid ≡ s) × (s.left ≡ None))
+  pub record PieceEnds (s mid : Sender D) (clear : Bool) : Type 0 where
+    pub all : List Move
+    pub are : AreMoves moves all s.device mid.device
+    pub what : Stirs all ⊎ ((clear ≡ true) × (mid ≡ s) × (s.left ≡ None))
 
   piece_goes : (l : LeftValue) (s mid : Sender D) (between : D) (gone : Bool) → moves s.device (Allowed true) between
       → PieceGoesOut moves between s.inner l gone mid.device mid.left → PieceEnds s mid gone
@@ -167,12 +170,12 @@ module _ {D : Type 0} (moves : D → Move → D → Type 0) where
   piece_leaves l s mid gone (inl stays) = record { all = Allowed false ∷ []; are = (mid.device, stays.0, refl); what = inl (inr refl) }
   piece_leaves l s mid gone (inr goes) = piece_goes l s mid goes.0 gone goes.1 goes.2
 
-  clears : (left : Option LeftValue) (s mid : Sender D) (clear : Bool) → s.left ≡ left → Clears moves left s clear mid → PieceEnds s mid clear
+  pub clears : (left : Option LeftValue) (s mid : Sender D) (clear : Bool) → s.left ≡ left → Clears moves left s clear mid → PieceEnds s mid clear
   clears None s mid clear is goes = record { all = []; are = ap (λ (x : Sender D). x.device) goes.1; what = inr (goes.0, goes.1, is) }
   clears (Some l) s mid clear is goes = piece_leaves l s mid clear goes.0
 
-  pub egress_ends : (s : Sender D) (ps : List (SocketStorage Socket)) (e : Passed D) → ArePatient ps → Egress moves s ps e → StepEnds s e
-  egress_ends s ps e patient (inl waits) =
+  pub egress_ends : (s : Sender D) (ps : List (SocketStorage Socket)) (e : Passed D) → Egress moves s ps e → StepEnds s ps e
+  egress_ends s ps e (inl waits) =
       let piece : PieceEnds s waits.0 false = clears s.left s waits.0 false refl waits.1 in
       record {
         all = piece.all;
@@ -180,12 +183,12 @@ module _ {D : Type 0} (moves : D → Move → D → Type 0) where
         what = stirs piece.all waits.0 piece.what;
       }
     where
-      stirs : (xs : List Move) (mid : Sender D) → Stirs xs ⊎ ((false ≡ true) × (mid ≡ s) × (s.left ≡ None)) → Stirs xs ⊎ ((s.left ≡ None) × CalmPass s e)
+      stirs : (xs : List Move) (mid : Sender D) → Stirs xs ⊎ ((false ≡ true) × (mid ≡ s) × (s.left ≡ None)) → Stirs xs ⊎ ((s.left ≡ None) × (ArePatient ps → CalmPass s e))
       stirs xs mid (inl so) = inl so
       stirs xs mid (inr clear) = absurd (let clash : false ≡ true = clear.0 in cc)
-  egress_ends s ps e patient (inr goes) =
+  egress_ends s ps e (inr goes) =
       let piece : PieceEnds s goes.0 true = clears s.left s goes.0 true refl goes.1 in
-      let rest : PassEnds goes.0 [] false e = pass_ends (turn_of goes.0.inner ps) goes.0 [] false ps e patient goes.2 in
+      let rest : PassEnds goes.0 [] false ps e = pass_ends (turn_of goes.0.inner ps) goes.0 [] false ps e goes.2 in
       record {
         all = piece.all ++ rest.all;
         are = joined moves piece.all rest.all s.device goes.0.device e.sender.device piece.are rest.are;
@@ -193,11 +196,12 @@ module _ {D : Type 0} (moves : D → Move → D → Type 0) where
       }
     where
       both : (xs ys : List Move) (mid : Sender D) → Stirs xs ⊎ ((true ≡ true) × (mid ≡ s) × (s.left ≡ None))
-          → Stirs ys ⊎ (mid.left ≡ None → Done mid.inner false [] → CalmPass mid e) → Stirs (xs ++ ys) ⊎ ((s.left ≡ None) × CalmPass s e)
+          → Stirs ys ⊎ (mid.left ≡ None → ArePatient ps → Done mid.inner false [] → CalmPass mid e)
+          → Stirs (xs ++ ys) ⊎ ((s.left ≡ None) × (ArePatient ps → CalmPass s e))
       both xs ys mid (inl so) more = inl (stirs_before xs ys so)
       both xs ys mid (inr clear) (inl so) = inl (stirs_behind xs ys so)
       both xs ys mid (inr clear) (inr more) =
-          inr (clear.2, subst (λ (x : Sender D). CalmPass x e) clear.1 (more (ap (λ (x : Sender D). x.left) clear.1 ∙ clear.2) (inr tt)))
+          inr (clear.2, λ patient. subst (λ (x : Sender D). CalmPass x e) clear.1 (more (ap (λ (x : Sender D). x.left) clear.1 ∙ clear.2) patient (inr tt)))
 
   -- nothing changed, and no piece waits: no socket is due
   pub calm_instant : (s : Sender D) (e : Passed D) → s.left ≡ None → e.changed ≡ false → CalmPass s e

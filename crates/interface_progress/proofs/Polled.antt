@@ -50,12 +50,12 @@ told_none false is = refl
 module _ {D : Type 0} (moves : D → Move → D → Type 0) (t : ℤ) where
   -- THE WAY IN, of which no frame was read
 
-  record InEnds (s s' : State D) : Type 0 where
-    all : List Move
-    are : AreMoves moves all s.device s'.device
-    inner : at_moment t s'.host.inner ≡ at_moment t s.host.inner
-    left : s'.host.left ≡ s.host.left
-    places : s'.places ≡ s.places
+  pub record InEnds (s s' : State D) : Type 0 where
+    pub all : List Move
+    pub are : AreMoves moves all s.device s'.device
+    pub inner : at_moment t s'.host.inner ≡ at_moment t s.host.inner
+    pub left : s'.host.left ≡ s.host.left
+    pub places : s'.places ≡ s.places
 
   in_ends : (n : ℕ) (s s' : State D) (c c' : Bool) → c' ≡ false → Repeats (IngressStep moves t) n s c s' c' → InEnds s s'
   in_ends zero s s' c c' none steps = record {
@@ -99,20 +99,20 @@ module _ {D : Type 0} (moves : D → Move → D → Type 0) (t : ℤ) where
   step_ends : (s s' : State D) → ArePatient s.places → EgressStep moves t s None s' → PollEnds s s'
   step_ends s s' patient step =
       let e : Passed D = step.0 in
-      let ends : StepEnds moves (sending t s) e = egress_ends moves (sending t s) s.places e patient step.1 in
+      let ends : StepEnds moves (sending t s) s.places e = egress_ends moves (sending t s) s.places e step.1 in
       record {
         all = ends.all;
         are = subst (λ (d : D). AreMoves moves ends.all s.device d) (sym (ap (λ (x : State D). x.device) step.2)) ends.are;
         what = both ends.all ends.what;
       }
     where
-      both : (xs : List Move) → Stirs xs ⊎ ((s.host.left ≡ None) × CalmPass moves (sending t s) step.0) → Stirs xs ⊎ CalmPoll s s'
+      both : (xs : List Move) → Stirs xs ⊎ ((s.host.left ≡ None) × (ArePatient s.places → CalmPass moves (sending t s) step.0)) → Stirs xs ⊎ CalmPoll s s'
       both xs (inl stirs) = inl stirs
       both xs (inr calm) = inr (record {
-        inner = ap (λ (x : State D). x.host.inner) step.2 ∙ calm.1.inner;
-        left = ap (λ (x : State D). x.host.left) step.2 ∙ calm.1.left;
+        inner = ap (λ (x : State D). x.host.inner) step.2 ∙ (calm.1 patient).inner;
+        left = ap (λ (x : State D). x.host.left) step.2 ∙ (calm.1 patient).left;
         later = subst (λ (x : State D). IsEarlier t (poll_instant x.host.inner x.host.left x.places)) (sym step.2)
-            (calm_instant moves (sending t s) step.0 calm.0 (told_none step.0.changed step.3) calm.1);
+            (calm_instant moves (sending t s) step.0 calm.0 (told_none step.0.changed step.3) (calm.1 patient));
       })
 
   out_ends : (n : ℕ) (s s' : State D) (c : Bool) → ArePatient s.places → Repeats (EgressStep moves t) (suc n) s c s' false → PollEnds s s'

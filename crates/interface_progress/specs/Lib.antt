@@ -1,3 +1,5 @@
 pub mod Patience
 pub mod Moves
 pub mod OfUse
+pub mod Queued
+pub mod Excluded
