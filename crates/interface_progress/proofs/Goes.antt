@@ -113,8 +113,11 @@ module _ {D : Type 0} (moves : D → Move → D → Type 0) where
             ap (λ (all : List Place). slice_get all k) (tail.1 ∙ append_assoc before (p' ∷ []) tail.0)
             ∙ ap (λ (n : ℕ). slice_get (before ++ p' ∷ tail.0) n) is ∙ stands_at before tail.0 p' in
             inr (record {
-              sent = (s.inner.ident, sends_before (frame_under s.inner s.inner.ident to p) xs ys
-                  (subst (λ (frame : List ℕ). Sends frame xs) (same_frame s.inner s.inner to p (same_where s.inner s.inner refl)) went.sent));
+              sent = (
+                s.inner.ident,
+                sends_before (frame_under s.inner s.inner.ident to p) xs ys
+                    (subst (λ (frame : List ℕ). Sends frame xs) (same_frame s.inner s.inner to p (same_where s.inner s.inner refl)) went.sent),
+              );
               formed = went.formed;
               new = went.new;
               stands = here ∙ ap (λ (o : Option (Item Socket)). Some (record { inner = o })) went.stands;
@@ -143,8 +146,11 @@ module _ {D : Type 0} (moves : D → Move → D → Type 0) where
         → (list_any is_refused (xs ++ ys) ≡ true) ⊎ WentFrom i k v to p (xs ++ ys) answer places
     as_before i j k xs ys answer places same (inl refused) = inl (refused_behind xs ys refused)
     as_before i j k xs ys answer places same (inr went) = inr (record {
-      sent = (went.sent.0, sends_behind (frame_under i went.sent.0 to p) xs ys
-          (subst (λ (frame : List ℕ). Sends frame ys) (under_still i j went.sent.0 to p same) went.sent.1));
+      sent = (
+        went.sent.0,
+        sends_behind (frame_under i went.sent.0 to p) xs ys
+            (subst (λ (frame : List ℕ). Sends frame ys) (under_still i j went.sent.0 to p same) went.sent.1),
+      );
       formed = went.formed;
       new = went.new;
       stands = went.stands;
@@ -161,13 +167,13 @@ module _ {D : Type 0} (moves : D → Move → D → Type 0) where
         at_our_place turn s goes.1 before changed goes.0 goes.2 ps k e can
         (our_turn moves turn s goes.1 v d to p can more queued meta goes.2 (Turn.Next goes.0) ready
         (subst (λ (place : Place). Rattle.interface.specs.Turn.PlaceTurns moves turn s place (Turn.Next goes.0) goes.1 goes.2)
-        (let same : Some q ≡ Some ours = stands in cc) goes.3))
+        (let same : Some q ≡ Some ours = stands in let at : q ≡ ours = cc in at) goes.3))
         (is ∙ (let none : (m : ℕ) → m + 0 ≡ m = λ m. omega arith in none (length before))) goes.4
     pass_goes turn s before changed (q ∷ ps) zero k e stands is can ready (inr stops) =
         stopped turn s stops.1 stops.0 stops.2 k e can
         (our_turn moves turn s stops.1 v d to p can more queued meta stops.2 (Turn.Stop stops.0) ready
         (subst (λ (place : Place). Rattle.interface.specs.Turn.PlaceTurns moves turn s place (Turn.Stop stops.0) stops.1 stops.2)
-        (let same : Some q ≡ Some ours = stands in cc) stops.3))
+        (let same : Some q ≡ Some ours = stands in let at : q ≡ ours = cc in at) stops.3))
         (ap (λ (x : Passed D). x.sender.device) stops.4)
     pass_goes turn s before changed (q ∷ ps) (suc n) k e stands is can ready (inl goes) =
         let took : Ends moves (IsItemPatient q.inner) s goes.1 (Turn.Next goes.0) goes.2.inner =

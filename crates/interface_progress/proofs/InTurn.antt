@@ -101,8 +101,14 @@ module _ {D : Type 0} (moves : D → Move → D → Type 0) (t : ℤ) where
   gone_behind : (i j : InnerValue) (to : HardwareAddress) (p : PacketValue) (xs ys : List Move) → IsSameHost i j → Gone j to p ys → Gone i to p (xs ++ ys)
   gone_behind i j to p xs ys same (inl refused) = inl (refused_behind xs ys refused)
   gone_behind i j to p xs ys same (inr went) =
-      inr ((went.0.0, sends_behind (frame_under i went.0.0 to p) xs ys
-      (subst (λ (frame : List ℕ). Sends frame ys) (under_still i j went.0.0 to p same) went.0.1)), went.1)
+      inr (
+        (
+          went.0.0,
+          sends_behind (frame_under i went.0.0 to p) xs ys
+              (subst (λ (frame : List ℕ). Sends frame ys) (under_still i j went.0.0 to p same) went.0.1),
+        ),
+        went.1,
+      )
 
   module _ (n : ℕ) (d : Queued) (more : List Queued) (to : HardwareAddress) (p : PacketValue) where
     abbrev Out : State D → State D → Type 0

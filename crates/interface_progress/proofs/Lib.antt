@@ -11,3 +11,4 @@ pub mod Goes
 pub mod InTurn
 pub mod Readers
 pub mod Excluded
+pub mod Reached

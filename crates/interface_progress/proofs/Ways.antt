@@ -103,7 +103,7 @@ never_at c moment to = by (int_lt moment c.silent) where
   by false is = is
 
 at_entry : (o : Option Neighbor) (c c' : CacheValue) (moment : ℤ) (to : HardwareAddress) → IsAt to (answer_by o c moment) → IsAt to (answer_by o c' moment)
-at_entry None c c' moment to is = absurd (never_at c moment to is)
+at_entry None c c' moment to = λ is. absurd (never_at c moment to is)
 at_entry (Some entry) c c' moment to = by (int_lt moment entry.expires_at) where
   by : (test : Bool) → IsAt to (if test then Known.Found entry.hardware_addr else missing c moment)
       → IsAt to (if test then Known.Found entry.hardware_addr else missing c' moment)

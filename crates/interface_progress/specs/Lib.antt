@@ -3,3 +3,4 @@ pub mod Moves
 pub mod OfUse
 pub mod Queued
 pub mod Excluded
+pub mod Reached
