@@ -1,5 +1,5 @@
 -- A host without a socket is polled for nothing by a rule that never rests.
-use Rattle.std.proofs.Common.{◌≡◌, ℕ, ◌≤◌, Bool, true, false, ◌||◌, inl, inr, ◌⊎◌, ℤ, pos, ◌<ℤ◌, List, [], ◌∷◌, Option, Some, None, refl, sym, ap, ◌∙◌, subst, arith}
+use Rattle.std.proofs.Common.{◌≡◌, Bool, true, false, ◌||◌, inl, inr, ◌⊎◌, ℤ, pos, ◌<ℤ◌, List, [], ◌∷◌, Option, Some, None, refl, sym, ap, ◌∙◌, subst, arith}
 use Rattle.std.specs.List.{list_any}
 use Rattle.net_base.specs.Device.{Move, Empty}
 use Rattle.interface_ingress.specs.Socket.{Socket}
@@ -7,7 +7,7 @@ use Rattle.interface_tables.specs.Inner.{InnerValue, at_moment}
 use Rattle.interface_egress.specs.Fragments.{LeftValue}
 use Rattle.interface_egress.specs.declared.socket_set.SocketStorage.{SocketStorage}
 use Rattle.interface.specs.Egress.{EgressStep, sending}
-use Rattle.interface.specs.Host.{HostValue, sender, maintained}
+use Rattle.interface.specs.Host.{HostValue, maintained}
 use Rattle.interface.specs.Ingress.{IngressStep}
 use Rattle.interface.specs.Pass.{passed}
 use Rattle.interface.specs.Polls.{Polls, begun}

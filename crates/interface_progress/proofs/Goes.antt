@@ -1,5 +1,6 @@
 -- A pass over the sockets, and a step of the way out, in which the first datagram of a UDP socket goes.
-use Rattle.std.proofs.Common.{◌≡◌, ℕ, zero, suc, ◌+◌, Bool, true, false, ◌||◌, ◌⊎◌, inl, inr, ℤ, List, [], ◌∷◌, ◌++◌, length, drop, Option, Some, None, refl, sym, ap, ◌∙◌}
+use Rattle.std.proofs.Common.{◌≡◌, ℕ, zero, suc, ◌+◌, Bool, true, false, ◌||◌, ◌⊎◌, inl, inr, ℤ, List, [], ◌∷◌, ◌++◌, length, Option, Some, None, refl, sym, ap}
+use Rattle.std.proofs.Common.{◌∙◌}
 use Rattle.std.proofs.Common.{subst, arith, append_assoc, append-nil, length-append}
 use Rattle.std.specs.Prelude.{slice_get}
 use Rattle.std.specs.List.{list_any}
@@ -14,24 +15,23 @@ use Rattle.interface_ingress.specs.Socket.{Socket}
 use Rattle.interface_ingress.specs.Socket.TheVariants as Kind
 use Rattle.interface_tables.specs.Inner.{InnerValue, at_moment}
 use Rattle.interface_egress.specs.Fragments.{LeftValue, next_departure}
-use Rattle.interface_egress.specs.GoesOut.{PieceGoesOut, frame_len_of}
-use Rattle.interface_egress.specs.Set.{unmarked}
+use Rattle.interface_egress.specs.GoesOut.{frame_len_of}
 use Rattle.interface_egress.specs.declared.socket_meta.Meta.{Meta}
 use Rattle.interface_egress.specs.declared.socket_set.Item.{Item}
 use Rattle.interface_egress.specs.declared.socket_set.SocketStorage.{SocketStorage}
 use Rattle.interface.specs.Awaited.{turn_of}
 use Rattle.interface.specs.Egress.{EgressStep, sending, if_changed}
 use Rattle.interface.specs.Host.{Sender}
-use Rattle.interface.specs.Pass.{Pass, Passed, passed}
+use Rattle.interface.specs.Pass.{Pass, Passed}
 use Rattle.interface.specs.SameHost.{IsSameHost}
 use Rattle.interface.specs.State.{State}
 use Rattle.interface.specs.Turn.{is_waiting}
 use Rattle.interface.specs.WayOut.{PieceLeaves, Clears, Egress}
 use Rattle.interface.specs.declared.turn.Turned.TheVariants as Turn
-use Rattle.interface.proofs.SameHost.{same_where, same_then, place_same}
+use Rattle.interface.proofs.SameHost.{same_where, place_same}
 use Rattle.interface_progress.specs.Moves.{AreMoves, is_refused}
 use Rattle.interface_progress.specs.Patience.{IsItemPatient}
-use Rattle.interface_progress.specs.Queued.{CanGo, HasTurn, Sends, SendsPacket, frame_under, WentFrom, GoesAtOnce}
+use Rattle.interface_progress.specs.Queued.{CanGo, HasTurn, Sends, frame_under, WentFrom, GoesAtOnce}
 use Rattle.interface_progress.proofs.Walks.{joined, refused_before, refused_behind, sends_before, sends_behind}
 use Rattle.interface_progress.proofs.Ways.{can_still, waits_still, same_frame, under_still}
 use Rattle.interface_progress.proofs.Turns.{Ends, place_ends}
@@ -66,7 +66,8 @@ module _ {D : Type 0} (moves : D → Move → D → Type 0) where
   or_first false b e = absurd (let clash : false ≡ true = e in cc)
 
   -- the places before stay, and what changed stays said
-  kept : (turn : Option IpAddress) (s : Sender D) (before : List Place) (changed : Bool) (ps : List Place) (e : Passed D) → Pass moves turn s before changed ps e
+  kept : (turn : Option IpAddress) (s : Sender D) (before : List Place) (changed : Bool) (ps : List Place) (e : Passed D)
+      → Pass moves turn s before changed ps e
       → (more : List Place) × (e.places ≡ before ++ more)
   kept turn s before changed [] e ends = ([], ap (λ (x : Passed D). x.places) ends ∙ sym (append-nil before))
   kept turn s before changed (p ∷ ps) e (inl goes) =
@@ -74,7 +75,8 @@ module _ {D : Type 0} (moves : D → Move → D → Type 0) where
       (goes.2 ∷ more.0, more.1 ∙ append_assoc before (goes.2 ∷ []) more.0)
   kept turn s before changed (p ∷ ps) e (inr stops) = (stops.2 ∷ ps, ap (λ (x : Passed D). x.places) stops.4)
 
-  said : (turn : Option IpAddress) (s : Sender D) (before : List Place) (changed : Bool) (ps : List Place) (e : Passed D) → Pass moves turn s before changed ps e
+  said : (turn : Option IpAddress) (s : Sender D) (before : List Place) (changed : Bool) (ps : List Place) (e : Passed D)
+      → Pass moves turn s before changed ps e
       → changed ≡ true → e.changed ≡ true
   said turn s before changed [] e ends is = ap (λ (x : Passed D). x.changed) ends ∙ is
   said turn s before changed (p ∷ ps) e (inl goes) is =

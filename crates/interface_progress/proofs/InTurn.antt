@@ -1,5 +1,6 @@
 -- A poll in which a datagram that is queued behind others goes.
-use Rattle.std.proofs.Common.{◌≡◌, ℕ, zero, suc, ◌+◌, ◌<◌, Bool, true, false, ◌||◌, ◌⊎◌, inl, inr, ℤ, List, [], ◌∷◌, ◌++◌, length, drop, Option, Some, None, refl, sym, ap, ◌∙◌}
+use Rattle.std.proofs.Common.{◌≡◌, ℕ, zero, suc, ◌+◌, ◌<◌, Bool, true, false, ◌||◌, ◌⊎◌, inl, inr, ℤ, List, [], ◌∷◌, ◌++◌, length, drop, Option, Some, None}
+use Rattle.std.proofs.Common.{refl, sym, ap, ◌∙◌}
 use Rattle.std.proofs.Common.{subst, arith}
 use Rattle.std.specs.List.{list_any, AllByRecursion}
 use Rattle.net_base.specs.Device.{Move, Empty}
@@ -14,7 +15,6 @@ use Rattle.interface_tables.specs.Inner.{InnerValue, at_moment}
 use Rattle.interface_egress.specs.declared.socket_set.SocketStorage.{SocketStorage}
 use Rattle.interface.specs.Egress.{EgressStep, sending}
 use Rattle.interface.specs.Ingress.{IngressStep}
-use Rattle.interface.specs.Pass.{Passed}
 use Rattle.interface.specs.Polls.{Repeats, Polls, begun}
 use Rattle.interface.specs.QuietPoll.{HasNoFrame}
 use Rattle.interface.specs.SameHost.{IsSameHost}
@@ -86,7 +86,8 @@ module _ {D : Type 0} (moves : D → Move → D → Type 0) (t : ℤ) where
       let is : s'.host.inner ≡ step.0.sender.inner = ap (λ (x : State D). x.host.inner) step.2 in
       subst (λ (i : InnerValue). IsSameHost (at_moment t s.host.inner) (at_moment t i)) (sym is) (ap (at_moment t) same)
 
-  ways_still : (i j : InnerValue) (settings : UdpSettings) (ds : List Queued) → IsSameHost i j → AllByRecursion (HasWay i settings) ds → AllByRecursion (HasWay j settings) ds
+  ways_still : (i j : InnerValue) (settings : UdpSettings) (ds : List Queued) → IsSameHost i j → AllByRecursion (HasWay i settings) ds
+      → AllByRecursion (HasWay j settings) ds
   ways_still i j settings [] same ways = tt
   ways_still i j settings (d ∷ ds) same ways =
       ((ways.0.0, ways.0.1, can_still i j settings d ways.0.0 ways.0.1 same ways.0.2), ways_still i j settings ds same ways.1)
@@ -122,7 +123,8 @@ module _ {D : Type 0} (moves : D → Move → D → Type 0) (t : ℤ) where
         step_goes moves t s s' None n v d more to p turn queued can ends.0 in
         record { all = one.all; are = one.are; what = by one.all one.what }
       where
-        by : (xs : List Move) → (list_any is_refused xs ≡ true) ⊎ WentFrom (at_moment t s.host.inner) n v to p xs None s'.places → Gone (at_moment t s.host.inner) to p xs
+        by : (xs : List Move) → (list_any is_refused xs ≡ true) ⊎ WentFrom (at_moment t s.host.inner) n v to p xs None s'.places
+            → Gone (at_moment t s.host.inner) to p xs
         by xs (inl refused) = inl refused
         by xs (inr went) = absurd (none_told true went.told)
     now_goes m s s' c c' v turn queued can (inr goes) =
@@ -187,7 +189,8 @@ module _ {D : Type 0} (moves : D → Move → D → Type 0) (t : ℤ) where
             record {
               all = xs ++ rest.all;
               are = joined moves xs rest.all s.device goes.1.device s'.device are rest.are;
-              what = gone_behind (at_moment t s.host.inner) (at_moment t goes.1.host.inner) to p xs rest.all (behind_same s goes.1 (Some goes.0) goes.2) rest.what;
+              what = gone_behind (at_moment t s.host.inner) (at_moment t goes.1.host.inner) to p xs rest.all
+                  (behind_same s goes.1 (Some goes.0) goes.2) rest.what;
             }
 
   pub poll_goes : (budget : ℕ) (s s' : State D) (changed : Bool) (n : ℕ) (v : UdpValue) (before : List Queued) (d : Queued) (more : List Queued)

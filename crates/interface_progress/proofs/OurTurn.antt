@@ -1,16 +1,15 @@
 -- The turn of a UDP socket whose first datagram can go.
-use Rattle.std.proofs.Common.{◌≡◌, ℕ, Bool, true, false, ◌&&◌, if◌then◌else◌, ◌⊎◌, inl, inr, ℤ, List, [], ◌∷◌, drop, Option, Some, None, is_some, refl, sym, ap, ◌∙◌, subst}
+use Rattle.std.proofs.Common.{◌≡◌, ℕ, Bool, true, false, ◌⊎◌, inl, inr, List, [], ◌∷◌, drop, Option, Some, None, is_some, refl, sym, ap, ◌∙◌, subst}
 use Rattle.std.specs.Prelude.{slice_get}
 use Rattle.std.specs.List.{list_any}
 use Rattle.net_base.specs.Device.{Move, Allowed, Emitted, Denied}
-use Rattle.net_base.specs.Packets.{Packets, contents, first, unpadded, without_first}
+use Rattle.net_base.specs.Packets.{contents, first, unpadded}
 use Rattle.net_containers.proofs.PacketLaws.{first-contents, contents-without_first, contents-unpadded}
 use Rattle.ip_wire.specs.HardwareAddress.{HardwareAddress}
 use Rattle.ip_wire.specs.Ip.{destination_of}
 use Rattle.ip_wire.specs.IpAddress.{IpAddress}
-use Rattle.sockets.specs.Offers.{IsFound, IsOnly, OffersFirst, answer_with, left_with}
+use Rattle.sockets.specs.Offers.{IsFound, OffersFirst, answer_with, left_with}
 use Rattle.sockets.specs.SocketValue as Datagrams
-use Rattle.sockets.specs.Udp as Udps
 use Rattle.sockets.specs.Udp.{UdpValue, TakesDatagram}
 use Rattle.sockets.specs.UdpMetadata.{UdpMetadata}
 use Rattle.interface_ingress.specs.Offer as Answer
@@ -21,11 +20,9 @@ use Rattle.interface_ingress.specs.Socket.TheVariants as Kind
 use Rattle.interface_ingress.specs.Sockets as Sockets
 use Rattle.interface_ingress.specs.Sockets.{settled}
 use Rattle.interface_ingress.specs.WellFormed.{IsWellFormed}
-use Rattle.interface_tables.specs.Inner.{InnerValue, context_of}
-use Rattle.interface_egress.specs.Departure.{Departure, Whole}
-use Rattle.interface_egress.specs.Fragments.{LeftValue}
+use Rattle.interface_tables.specs.Inner.{context_of}
+use Rattle.interface_egress.specs.Departure.{Whole}
 use Rattle.interface_egress.specs.GoesOut.{GoesOut, Went, numbered, frame_of, frame_len_of}
-use Rattle.interface_egress.specs.Set.{unmarked}
 use Rattle.interface_egress.specs.declared.plan.Plan.{Plan}
 use Rattle.interface_egress.specs.declared.plan.Plan.TheVariants as Way
 use Rattle.interface_egress.specs.declared.socket_meta.Meta.{Meta}
@@ -34,7 +31,8 @@ use Rattle.interface_egress.specs.declared.socket_set.SocketStorage.{SocketStora
 use Rattle.interface_egress.specs.declared.way_out.Sent.{Sent}
 use Rattle.interface_egress.specs.declared.way_out.Sent.TheVariants as Outcome
 use Rattle.interface.specs.Host.{Sender}
-use Rattle.interface.specs.Turn.{is_waiting, let_through, waits_until, held, outcome_by, plan_at, settled_by, turned_by, Leaves, SendsBy, Answers, TurnsIf, ItemTurns}
+use Rattle.interface.specs.Turn.{is_waiting, let_through, waits_until, held, outcome_by, plan_at, settled_by, turned_by, Leaves, SendsBy, Answers, TurnsIf}
+use Rattle.interface.specs.Turn.{ItemTurns}
 use Rattle.interface.specs.Turn.{PlaceTurns}
 use Rattle.interface.specs.declared.turn.Turned.{Turned}
 use Rattle.interface.specs.declared.turn.Turned.TheVariants as Turn
@@ -119,7 +117,8 @@ module _ {D : Type 0} (moves : D → Move → D → Type 0) (turn : Option IpAdd
         (goes_by_plan x.inner (is_some x.left) v.settings d to p can) goes.2 in
         went goes.0 sent goes.1 out.0 next became
 
-  sends : (item' : Item Socket) (turned : Turned) (meta : Meta) → SendsBy moves turn (Some p) x (record { meta = meta; socket = Kind.Udp offering }) false turned x' item'
+  sends : (item' : Item Socket) (turned : Turned) (meta : Meta)
+      → SendsBy moves turn (Some p) x (record { meta = meta; socket = Kind.Udp offering }) false turned x' item'
       → OurEnds turned (Some item')
   sends item' turned meta goes = leaves item' turned meta goes.4 goes.0 goes.1 goes.2 goes.3
 
@@ -140,7 +139,8 @@ module _ {D : Type 0} (moves : D → Move → D → Type 0) (turn : Option IpAdd
     is_first : first v.queued ≡ Some d
     is_first = first-contents v.queued ∙ ap (λ (all : List (UdpMetadata × List ℕ)). slice_get all 0) queued
 
-    asks : (item' : Item Socket) (turned : Turned) (meta : Meta) (s : Socket) (answer : Answer.Offer) → Sockets.Offers (context_of x.inner) (Kind.Udp v) answer s
+    asks : (item' : Item Socket) (turned : Turned) (meta : Meta) (s : Socket) (answer : Answer.Offer)
+        → Sockets.Offers (context_of x.inner) (Kind.Udp v) answer s
         → Answers moves turn answer x (record { meta = meta; socket = s }) turned x' item' → OurEnds turned (Some item')
     asks item' turned meta (Kind.Udp v') answer given goes =
         let first_offer : OffersFirst (TakesDatagram (context_of x.inner)) v (Some d) answer v' =

@@ -1,5 +1,6 @@
 -- A pass over the sockets, and a step of the way out.
-use Rattle.std.proofs.Common.{◌≡◌, Bool, true, false, ◌||◌, ◌⊎◌, inl, inr, ℤ, int_lt, if◌then◌else◌, List, [], ◌∷◌, ◌++◌, Option, Some, None, refl, sym, ap, ◌∙◌, subst, arith}
+use Rattle.std.proofs.Common.{◌≡◌, Bool, true, false, ◌||◌, ◌⊎◌, inl, inr, ℤ, int_lt, if◌then◌else◌, List, [], ◌∷◌, ◌++◌, Option, Some, None, refl, sym, ap}
+use Rattle.std.proofs.Common.{◌∙◌, subst}
 use Rattle.net_base.specs.Device.{Move, Allowed, Emitted, Denied}
 use Rattle.ip_wire.specs.IpAddress.{IpAddress}
 use Rattle.interface_ingress.specs.Socket.{Socket}
@@ -10,10 +11,9 @@ use Rattle.interface_egress.specs.declared.socket_set.SocketStorage.{SocketStora
 use Rattle.interface.specs.Awaited.{turn_of}
 use Rattle.interface.specs.Host.{Sender}
 use Rattle.interface.specs.Instant.{earlier, place_instant, soonest, poll_instant}
-use Rattle.interface.specs.Pass.{Pass, Passed, passed}
+use Rattle.interface.specs.Pass.{Pass, Passed}
 use Rattle.interface.specs.QuietStep.{IsEarlier}
 use Rattle.interface.specs.WayOut.{PieceLeaves, Clears, Egress}
-use Rattle.interface.specs.declared.turn.Turned.{Turned}
 use Rattle.interface.specs.declared.turn.Turned.TheVariants as Turn
 use Rattle.interface.proofs.Due.{AllLater}
 use Rattle.interface_progress.specs.Moves.{AreMoves}
@@ -106,7 +106,8 @@ module _ {D : Type 0} (moves : D → Move → D → Type 0) where
         }
       where
         calms : (b : Bool) (mid : Sender D) (p' : SocketStorage Socket) → Calm moves s mid (Turn.Next b) p'.inner → Done s.inner changed before
-            → (mid.left ≡ None → ArePatient ps → Done mid.inner (changed || b) (before ++ p' ∷ []) → CalmPass mid e) → s.left ≡ None → ArePatient ps → CalmPass s e
+            → (mid.left ≡ None → ArePatient ps → Done mid.inner (changed || b) (before ++ p' ∷ []) → CalmPass mid e) → s.left ≡ None → ArePatient ps
+            → CalmPass s e
         calms b mid p' calm done more none patient =
             let this : (b ≡ true) ⊎ IsEarlier s.inner.moment (place_instant s.inner p') =
             subst (λ (c : Bool). (c ≡ true) ⊎ IsEarlier s.inner.moment (place_instant s.inner p')) (next_is b calm.changed calm.next) calm.done in
@@ -183,7 +184,8 @@ module _ {D : Type 0} (moves : D → Move → D → Type 0) where
         what = stirs piece.all waits.0 piece.what;
       }
     where
-      stirs : (xs : List Move) (mid : Sender D) → Stirs xs ⊎ ((false ≡ true) × (mid ≡ s) × (s.left ≡ None)) → Stirs xs ⊎ ((s.left ≡ None) × (ArePatient ps → CalmPass s e))
+      stirs : (xs : List Move) (mid : Sender D) → Stirs xs ⊎ ((false ≡ true) × (mid ≡ s) × (s.left ≡ None))
+          → Stirs xs ⊎ ((s.left ≡ None) × (ArePatient ps → CalmPass s e))
       stirs xs mid (inl so) = inl so
       stirs xs mid (inr clear) = absurd (let clash : false ≡ true = clear.0 in cc)
   egress_ends s ps e (inr goes) =

@@ -1,5 +1,5 @@
 -- What is known where a packet's plan is to wait.
-use Rattle.std.proofs.Common.{◌≡◌, ℕ, ◌+◌, Bool, true, false, if◌then◌else◌, ℤ, pos, ◌+ℤ◌, int_lt, Option, Some, None, refl, sym, ap, ◌∙◌, subst, arith}
+use Rattle.std.proofs.Common.{◌≡◌, ◌+◌, Bool, true, false, if◌then◌else◌, ℤ, pos, ◌+ℤ◌, int_lt, Option, Some, None, refl, sym, ap, ◌∙◌, arith}
 use Rattle.std.specs.Prelude.{nat_le}
 use Rattle.std.proofs.lemmas.Bool.{cond_both}
 use Rattle.ip_wire.specs.AddressTests.{is_multicast}
@@ -20,13 +20,12 @@ use Rattle.interface_tables.specs.declared.link.LinkAddress.{LinkAddress}
 use Rattle.interface_tables.specs.declared.link.LinkAddress.TheVariants as Link
 use Rattle.interface_tables.specs.declared.neighbor.Answer.{Answer}
 use Rattle.interface_tables.specs.declared.neighbor.Answer.TheVariants as Known
-use Rattle.interface_egress.specs.Plan.{total_len, longest_cut, cut_if_idle, long_plan, plan_to, ask_v4, ask_from, ask_on, may_ask, ask_if, plan_by}
+use Rattle.interface_egress.specs.Plan.{total_len, longest_cut, cut_if_idle, long_plan, ask_v4, ask_from, ask_on, may_ask, ask_if, plan_by}
 use Rattle.interface_egress.specs.Plan.{never_leaves, plan_of}
-use Rattle.interface_egress.specs.declared.frame.Question.{Question}
 use Rattle.interface_egress.specs.declared.frame.Question.TheVariants as Query
 use Rattle.interface_egress.specs.declared.plan.Plan.{Plan}
 use Rattle.interface_egress.specs.declared.plan.Plan.TheVariants as Way
-use Rattle.interface.specs.Turn.{waits_until, is_other, is_out_of_turn}
+use Rattle.interface.specs.Turn.{waits_until, is_out_of_turn}
 
 abbrev pub is_to_wait : Plan → Bool
 is_to_wait Way.NoRoute = true

@@ -1,5 +1,6 @@
 -- A poll: a frame goes or is refused, or something changes, or nothing is due any more.
-use Rattle.std.proofs.Common.{◌≡◌, ℕ, zero, suc, ◌+◌, ◌≤◌, Bool, true, false, ◌||◌, ◌⊎◌, inl, inr, ℤ, List, [], ◌∷◌, ◌++◌, Option, Some, None, refl, sym, ap, ◌∙◌, subst, arith}
+use Rattle.std.proofs.Common.{◌≡◌, ℕ, zero, suc, ◌+◌, ◌≤◌, Bool, true, false, ◌||◌, ◌⊎◌, inl, inr, ℤ, List, [], ◌∷◌, ◌++◌, Option, Some, None, refl, sym, ap}
+use Rattle.std.proofs.Common.{◌∙◌, subst, arith}
 use Rattle.net_base.specs.Device.{Move, Took, Empty}
 use Rattle.interface_ingress.specs.Socket.{Socket}
 use Rattle.interface_tables.specs.Inner.{InnerValue, at_moment}
@@ -15,7 +16,7 @@ use Rattle.interface.specs.State.{State}
 use Rattle.interface_progress.specs.Moves.{AreMoves}
 use Rattle.interface_progress.specs.OfUse.{Stirs, IsOfUse, IsDue, Acts}
 use Rattle.interface_progress.specs.Patience.{ArePatient}
-use Rattle.interface_progress.proofs.Walks.{joined, stirs_before, stirs_behind}
+use Rattle.interface_progress.proofs.Walks.{joined, stirs_behind}
 use Rattle.interface_progress.proofs.Passes.{CalmPass, StepEnds, egress_ends, calm_instant}
 
 or_true : (a b : Bool) → a ≡ true → (a || b) ≡ true
@@ -159,6 +160,7 @@ module _ {D : Type 0} (moves : D → Move → D → Type 0) (t : ℤ) where
     where
       by : (xs : List Move) → Stirs xs ⊎ CalmPoll s s' → Stirs xs ⊎ (s'.places ≡ s.places → ⊥)
       by xs (inl stirs) = inl stirs
-      by xs (inr calm) = inr (λ same. due (subst (λ (ps : List (SocketStorage Socket)). IsEarlier t (poll_instant (at_moment t s.host.inner) s.host.left ps)) same
+      by xs (inr calm) = inr
+          (λ same. due (subst (λ (ps : List (SocketStorage Socket)). IsEarlier t (poll_instant (at_moment t s.host.inner) s.host.left ps)) same
           (subst (λ (l : Option LeftValue). IsEarlier t (poll_instant (at_moment t s.host.inner) l s'.places)) calm.left
           (subst (λ (i : InnerValue). IsEarlier t (poll_instant i s'.host.left s'.places)) calm.inner calm.later))))

@@ -1,37 +1,36 @@
 -- A datagram in a frame reaches the socket that it is for.
-use Rattle.std.proofs.Common.{◌≡◌, ℕ, ◌+◌, Bool, true, false, not, if◌then◌else◌, cond, ℤ, List, [], ◌∷◌, ◌++◌, length, map, Option, Some, None, refl, sym, ap, ◌∙◌, subst}
+use Rattle.std.proofs.Common.{◌≡◌, ℕ, ◌+◌, Bool, true, false, not, if◌then◌else◌, cond, ℤ, List, [], ◌∷◌, ◌++◌, length, map, Option, Some, None, refl, ap, ◌∙◌}
+use Rattle.std.proofs.Common.{subst}
 use Rattle.std.specs.Prelude.{zero, suc, slice_get, slice_set, position, nat_lt}
 use Rattle.core.specs.List.{prefix_len, position_or_len}
 use Rattle.std.proofs.lemmas.Bool.{cond_both}
 use Rattle.net_base.specs.Device.{Move, Took}
-use Rattle.net_base.specs.Packets.{Packets, contents, is_full_for, appended}
+use Rattle.net_base.specs.Packets.{contents, is_full_for, appended}
 use Rattle.net_containers.proofs.PacketLaws.{contents-appended}
 use Rattle.net_base.specs.ChecksumCapabilities.{ChecksumCapabilities}
 use Rattle.ip_address.specs.declared.hardware.HardwareAddress.{HardwareAddress}
 use Rattle.ip_address.specs.declared.ip.IpAddress.{IpAddress}
-use Rattle.ip_packet.specs.Ip.{destination_of}
 use Rattle.ip_packet.specs.declared.ip.repr.IpRepr.{IpRepr}
 use Rattle.ip_packet.specs.declared.ip.repr.IpRepr.TheVariants as Ip
 use Rattle.ip_packet.specs.declared.udp.repr.UdpRepr.{UdpRepr}
 use Rattle.ip_wire.specs.declared.ethernet.repr.EthernetRepr.{EthernetRepr}
 use Rattle.sockets.specs.Udp.{UdpValue, process_after, metadata_of}
-use Rattle.sockets.specs.UdpMetadata.{UdpMetadata}
 use Rattle.sockets.specs.Socket.{accepts_packet, accepts_datagram}
 use Rattle.interface_ingress.specs.Context.{ContextValue}
 use Rattle.interface_ingress.specs.Packet.{PayloadValue, Datagram}
 use Rattle.interface_ingress.specs.Socket.{Socket}
 use Rattle.interface_ingress.specs.Socket.TheVariants as Kind
-use Rattle.interface_ingress.specs.Arrives.{Arrived, ArrivesAs, Brings, Hands, renewed, renewed_by, is_direct, sender_of, whole_after}
+use Rattle.interface_ingress.specs.Arrives.{Arrived, Brings, Hands, renewed, renewed_by, is_direct, sender_of, whole_after}
 use Rattle.interface_ingress.specs.Carried.{IsCarriedContent}
 use Rattle.interface_ingress.specs.Datagrams.{GivenIn, GivenAt}
 use Rattle.interface_ingress.specs.Delivered.{with_change, given, passes, passes_in, packet_delivered, with_packet, is_taken_raw, datagram_place}
 use Rattle.interface_ingress.specs.Handed.{HandsTo}
-use Rattle.interface_ingress.specs.Incoming.{IncomingValue, Ip4, Ip6, IsContent}
-use Rattle.interface_ingress.specs.Reassembled.{Slots, is_taken_in, taken_in}
+use Rattle.interface_ingress.specs.Incoming.{IncomingValue, IsContent}
+use Rattle.interface_ingress.specs.Reassembled.{Slots}
 use Rattle.interface_ingress.specs.Sent.{uncut}
-use Rattle.interface_ingress.specs.Upper.{IsBrought, upper_header, upper_payload}
+use Rattle.interface_ingress.specs.Upper.{upper_header, upper_payload}
 use Rattle.interface_ingress.proofs.OneContent.{one-content, one-carried-content}
-use Rattle.interface_tables.specs.Inner.{InnerValue, at_moment, context_of, is_for_us, with_renewal}
+use Rattle.interface_tables.specs.Inner.{InnerValue, at_moment, context_of, with_renewal}
 use Rattle.interface_egress.specs.declared.socket_meta.Meta.{Meta}
 use Rattle.interface_egress.specs.declared.socket_set.Item.{Item}
 use Rattle.interface_egress.specs.declared.socket_set.SocketStorage.{SocketStorage}
@@ -140,7 +139,8 @@ module _ (i : InnerValue) (places : Places) (link : Option EthernetRepr) (ip : I
       let became : place ≡ queued =
       ap (λ (o : Option (Item Socket)). record { inner = o }) goes.1.2
       ∙ ap (λ (s : Socket). record { inner = Some (record { meta = meta; socket = s }) }) goes.1.1 in
-      ap (λ (ps : Places). slice_get ps m) goes.2 ∙ get_set then_places m (udp_place meta w) place stands_then ∙ ap (λ (x : SocketStorage Socket). Some x) became
+      ap (λ (ps : Places). slice_get ps m) goes.2 ∙ get_set then_places m (udp_place meta w) place stands_then
+      ∙ ap (λ (x : SocketStorage Socket). Some x) became
 
   handed : (a : Arrived) → Hands then_host then_places ip payload (is_taken_raw ip places) a → slice_get a.places m ≡ Some queued
   handed a hands =
@@ -158,7 +158,8 @@ module _ (i : InnerValue) (places : Places) (link : Option EthernetRepr) (ip : I
       given_to (context_of then_host) a.places
       (subst (λ (o : Option (SocketStorage Socket)). GivenIn (context_of then_host) ip udp bytes m o then_places a.places) stands_then here)
 
-brought : (i : InnerValue) (places : Places) (link : Option EthernetRepr) (ip : IpRepr) (payload : List ℕ) (udp : UdpRepr) (bytes : List ℕ) (m : ℕ) (meta : Meta)
+brought : (i : InnerValue) (places : Places) (link : Option EthernetRepr) (ip : IpRepr) (payload : List ℕ) (udp : UdpRepr) (bytes : List ℕ) (m : ℕ)
+    (meta : Meta)
     (w : UdpValue) → IsFor i places link ip payload udp bytes m meta w → (timeout : ℕ) (slots : Slots) (a : Arrived)
     → Brings i places (whole_after i timeout slots (Some (uncut link ip payload))) a
     → slice_get a.places m ≡ Some (udp_place meta (process_after w ip udp bytes))
@@ -169,7 +170,8 @@ brought i places link (Ip.Ipv6 header) payload udp bytes m meta w is timeout slo
     handed i places link (Ip.Ipv6 header) payload udp bytes m meta w is a
     (subst (λ (ours : Bool). Rattle.interface_ingress.specs.Arrives.ArrivesV6 ours i places link (Ip.Ipv6 header) payload a) is.ours goes)
 
-pub reached : {D : Type 0} (moves : D → Move → D → Type 0) (t : ℤ) (s s' : State D) (frame : List ℕ) (link : Option EthernetRepr) (ip : IpRepr) (payload : List ℕ)
+pub reached : {D : Type 0} (moves : D → Move → D → Type 0) (t : ℤ) (s s' : State D) (frame : List ℕ) (link : Option EthernetRepr) (ip : IpRepr)
+    (payload : List ℕ)
     (udp : UdpRepr) (bytes : List ℕ) (m : ℕ) (meta : Meta) (w : UdpValue)
     → ((other : List ℕ) (d : D) → moves s.device (Took other) d → other ≡ frame)
     → IsContent s.host.inner.hardware s.host.inner.checksums frame (Some (uncut link ip payload))

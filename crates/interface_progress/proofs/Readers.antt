@@ -1,18 +1,17 @@
 -- What another host reads of a datagram that went.
-use Rattle.std.proofs.Common.{◌≡◌, ◌≢◌, ℕ, ◌+◌, ◌^◌, ◌≤◌, Bool, true, false, if◌then◌else◌, List, ◌++◌, length, Option, Some, None, refl, sym, ap, ◌∙◌, subst}
+use Rattle.std.proofs.Common.{◌≡◌, ◌≢◌, ℕ, ◌+◌, ◌^◌, false, List, length, Option, Some, None, refl, sym, ap, ◌∙◌, subst}
 use Rattle.std.specs.Prelude.{nat_lt}
 use Rattle.std.proofs.lemmas.Bool.{cond_both}
 use Rattle.ip_address.specs.declared.ip.IpAddress.{IpAddress}
 use Rattle.ip_address.specs.declared.ip.IpAddress.TheVariants as Address
-use Rattle.ip_address.specs.declared.ip.IpProtocol.{IpProtocol}
 use Rattle.ip_address.specs.declared.ip.IpProtocol.TheVariants as Protocol
 use Rattle.ip_address.specs.declared.hardware.HardwareAddress.{HardwareAddress}
 use Rattle.ip_packet.specs.Ip as Ips
-use Rattle.ip_packet.specs.Ip.{carried_in, destination_of}
+use Rattle.ip_packet.specs.Ip.{carried_in}
 use Rattle.ip_packet.specs.declared.ip.repr.IpRepr.{IpRepr}
 use Rattle.ip_packet.specs.declared.ip.repr.IpRepr.TheVariants as Ip
 use Rattle.sockets.specs.Header.{header_between, hops}
-use Rattle.sockets.specs.Udp.{UdpSettings, source_for, header_from, header_for, datagram_behind}
+use Rattle.sockets.specs.Udp.{UdpSettings, source_for, header_from}
 use Rattle.sockets.specs.UdpMetadata.{UdpMetadata}
 use Rattle.socket_base.specs.Packet.{PacketValue, PayloadValue, ControlV4, ControlV6, Bytes, Datagram, Segment, payload_written}
 use Rattle.socket_base.specs.WellFormed.{IsWellFormed, HasWidths}
@@ -22,11 +21,10 @@ use Rattle.interface_ingress.specs.Upper.{IsBrought}
 use Rattle.interface_tables.specs.Inner.{InnerValue, context_of}
 use Rattle.interface_egress.specs.Departure.{Whole}
 use Rattle.interface_egress.specs.GoesOut.{numbered}
-use Rattle.interface_egress.specs.Plan.{plan_of, total_len}
+use Rattle.interface_egress.specs.Plan.{plan_of}
 use Rattle.interface_egress.specs.declared.plan.Plan.TheVariants as Way
-use Rattle.interface_delivery.specs.Taken.{Reader, CanRead, IsRead, IsCarriedTo, IsOffered}
+use Rattle.interface_delivery.specs.Taken.{Reader, CanRead, IsRead, IsOffered}
 use Rattle.interface_delivery.specs.Taken as Taken
-use Rattle.interface_delivery.specs.Delivered.{read_of}
 use Rattle.interface_delivery.proofs.Arrives.{arrives}
 use Rattle.interface_delivery.proofs.Offered.{writes, carried}
 use Rattle.interface_progress.specs.Queued.{CanGo, with_ident, ports_of, FindsDatagram}
@@ -85,12 +83,14 @@ between (Address.Ipv6 source) (Address.Ipv6 destination) len limit h =
     cond_both (nat_lt len (2 ^ 16))
     (Some (Ip.Ipv6 (record { src_addr = source; dst_addr = destination; next_header = Protocol.Udp; payload_len = len; hop_limit = limit }))) None
     (λ (o : Option IpRepr). CarriesUdp o h)
-    (λ _. some_carries (Ip.Ipv6 (record { src_addr = source; dst_addr = destination; next_header = Protocol.Udp; payload_len = len; hop_limit = limit })) h refl)
+    (λ _. some_carries (Ip.Ipv6
+    (record { src_addr = source; dst_addr = destination; next_header = Protocol.Udp; payload_len = len; hop_limit = limit })) h refl)
     (λ _. none_carries h)
 between (Address.Ipv4 source) (Address.Ipv6 destination) len limit h = none_carries h
 between (Address.Ipv6 source) (Address.Ipv4 destination) len limit h = none_carries h
 
-from : (o : Option IpAddress) (settings : UdpSettings) (destination : IpAddress) (size : ℕ) (h : IpRepr) → CarriesUdp (header_from o settings destination size) h
+from : (o : Option IpAddress) (settings : UdpSettings) (destination : IpAddress) (size : ℕ) (h : IpRepr)
+    → CarriesUdp (header_from o settings destination size) h
 from None settings destination size h = none_carries h
 from (Some source) settings destination size h = between source destination (8 + size) (hops settings.hop_limit) h
 
@@ -107,8 +107,11 @@ module _ (i : InnerValue) (ident : ℕ) (settings : UdpSettings) (d : UdpMetadat
 
   pub is_read : IsRead (with_ident i ident) (Whole to (numbered (with_ident i ident) p)) reader
   is_read padding =
-      arrives (with_ident i ident) reader.hardware reader.checksums (Whole to (numbered (with_ident i ident) p)) padding reads.sealed
-      (reads.medium, writes (with_ident i ident) p wide (offered p formed) (let short = can.short in let most = wide.mtu in omega (Rattle.std.proofs.Common.arith, short, most)))
+      arrives (with_ident i ident) reader.hardware reader.checksums (Whole to (numbered (with_ident i ident) p)) padding reads.sealed (
+        reads.medium,
+        writes (with_ident i ident) p wide (offered p formed)
+            (let short = can.short in let most = wide.mtu in omega (Rattle.std.proofs.Common.arith, short, most)),
+      )
 
   is_datagram : p.payload ≡ Datagram (ports_of settings d) d.1
   is_datagram = ap (λ (q : PacketValue). q.payload) can.takes.1

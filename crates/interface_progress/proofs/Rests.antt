@@ -6,10 +6,8 @@ use Rattle.ip_wire.specs.IpAddress.{IpAddress}
 use Rattle.ip_wire.specs.IpRepr.{IpRepr}
 use Rattle.sockets.specs.Context.{ContextValue}
 use Rattle.sockets.specs.Polling.{IsBefore}
-use Rattle.sockets.specs.Offer as Answer
 use Rattle.sockets.specs.Offer.TheVariants as Offer
 use Rattle.sockets.specs.Packet.{PacketValue}
-use Rattle.sockets.specs.PollAt.{PollAt}
 use Rattle.sockets.specs.PollAt.TheVariants as At
 use Rattle.sockets.specs.Offers.{OffersFirst, OffersBy, answer_with}
 use Rattle.sockets.specs.SocketValue as Datagrams
@@ -24,7 +22,7 @@ use Rattle.net_base.specs.Packets.{first}
 use Rattle.dhcpv4.specs.Moments.{earlier}
 use Rattle.dhcpv4.specs.Offers as DhcpOffers
 use Rattle.dhcpv4.specs.States as DhcpStates
-use Rattle.dhcpv4.specs.Value.{DhcpValue, unoffered}
+use Rattle.dhcpv4.specs.Value.{DhcpValue}
 use Rattle.dhcpv4.specs.declared.lease.Lease.{Lease}
 use Rattle.dhcpv4.specs.declared.request.Kind.TheVariants.{Discover, Request, Renew, Rebind}
 use Rattle.dhcpv4.specs.declared.state.ClientState.{ClientState}
@@ -101,7 +99,8 @@ module _ (cx : ContextValue) (v v' : DhcpValue) where
       cond_both (int_lt now s.retry_at) Does.Wait (Does.Send Discover) (λ (t : Turn). Silent t → now <ℤ s.retry_at)
       (λ soon _. to_come now s.retry_at soon) (λ _ asks. sent Discover asks) offers
   state_rests now retries (Client.Requesting s) offers =
-      cond_both (int_lt now s.retry_at) Does.Wait (if nat_le retries s.retry then Does.GiveUp else Does.Send (Request s)) (λ (t : Turn). Silent t → now <ℤ s.retry_at)
+      cond_both (int_lt now s.retry_at) Does.Wait (if nat_le retries s.retry then Does.GiveUp else Does.Send (Request s))
+      (λ (t : Turn). Silent t → now <ℤ s.retry_at)
       (λ soon _. to_come now s.retry_at soon)
       (λ _. cond_both (nat_le retries s.retry) Does.GiveUp (Does.Send (Request s)) (λ (t : Turn). Silent t → now <ℤ s.retry_at)
       (λ _ asks. given_up asks) (λ _ asks. sent (Request s) asks)) offers
@@ -140,7 +139,8 @@ module _ (cx : ContextValue) (v v' : DnsValue) where
   to_server : {X : Type 0} (server : Option IpAddress) (q : Query) → IsSilent (DnsOffers.sent_to server cx v q) → X
   to_server {X} None q offers = goes_on offers
   to_server {X} (Some server) q offers =
-      with_header (DnsOffers.header_between (cx.source_for server) server (Rattle.std.specs.Prelude.length v.message) (DnsOffers.hops v.hop_limit)) cx.moment server q offers
+      with_header (DnsOffers.header_between (cx.source_for server) server (Rattle.std.specs.Prelude.length v.message)
+      (DnsOffers.hops v.hop_limit)) cx.moment server q offers
 
   query_rests : (q : Query) → IsSilent (DnsOffers.turn_of cx v q) → cx.moment <ℤ DnsTurns.due_at q
   query_rests q =

@@ -1,11 +1,10 @@
 -- A TCP socket that was silent isn't due any more.
-use Rattle.std.proofs.Common.{◌≡◌, ℕ, zero, suc, ◌+◌, ◌*◌, ◌<◌, ◌≤◌, ◌==◌, min, Bool, true, false, ◌||◌, ◌&&◌, not, is_none, if◌then◌else◌, ℤ, pos, ◌+ℤ◌, ◌<ℤ◌}
+use Rattle.std.proofs.Common.{◌≡◌, ℕ, zero, suc, ◌+◌, ◌<◌, ◌≤◌, ◌==◌, min, Bool, true, false, ◌||◌, ◌&&◌, not, is_none, if◌then◌else◌, ℤ, pos, ◌+ℤ◌, ◌<ℤ◌}
 use Rattle.std.proofs.Common.{int_lt, int_le, Option, Some, None, List, [], ◌∷◌, refl, sym, ap, ◌∙◌, subst, arith}
 use Rattle.std.proofs.lemmas.Bool.{cond_both}
 use Rattle.net_base.specs.Time.{last_moment}
 use Rattle.tcp_control.specs.Offers.{IsBefore, Offered, offered_as}
 use Rattle.tcp_control.specs.Context.{ContextValue}
-use Rattle.tcp_control.specs.Offer as Answers
 use Rattle.tcp_control.specs.Offer.TheVariants as Answer
 use Rattle.tcp_control.specs.PollAt.{PollAt}
 use Rattle.tcp_control.specs.PollAt.TheVariants as At
@@ -15,7 +14,7 @@ use Rattle.tcp_control.specs.Moments.{is_due, later, timeout_from}
 use Rattle.tcp_control.specs.States.{is_closed, sends_text}
 use Rattle.tcp_model.specs.declared.block.Block.{Block}
 use Rattle.tcp_model.specs.declared.block.Settings.{Settings}
-use Rattle.tcp_model.specs.Due.{wishes, moments, any, earlier_of, earliest, at_moment, poll_open, poll_between, poll_with, poll_of}
+use Rattle.tcp_model.specs.Due.{wishes, moments, any, earlier_of, earliest, at_moment, poll_open, poll_with, poll_of}
 use Rattle.tcp_model.specs.LossRecovery.{loss_probe_moment, loss_probed, loss_probed_by}
 use Rattle.tcp_model.specs.Offers.{silent, offer_syn, offer_choice, offer_ack, offer_keep_alive, offer_held_back, offer_reset, first_rules, last_rules}
 use Rattle.tcp_model.specs.Offers.{backed_off, offer_between, offer_with, offer_of}
@@ -172,7 +171,8 @@ module _ (cx : ContextValue) (pair : EndpointPair) where
     timeout_later =
         ap (λ (runs : Bool). is_due cx.moment (if runs then end_by retried.timers.timeout_since retried.settings.timeout else None)) same_runs
         ∙ ap (λ (since : Option ℤ). is_due cx.moment (if timeout_runs v.block (queued_in v) then end_by since retried.settings.timeout else None)) same_since
-        ∙ ap (λ (s : Settings). is_due cx.moment (if timeout_runs v.block (queued_in v) then end_by started.timers.timeout_since s.timeout else None)) same_settings
+        ∙ ap (λ (s : Settings). is_due cx.moment
+        (if timeout_runs v.block (queued_in v) then end_by started.timers.timeout_since s.timeout else None)) same_settings
         ∙ ends_later cx.moment (timeout_runs v.block (queued_in v)) v.block.timers.timeout_since v.block.settings.timeout patient no_timeout
 
     probe_set : is_probe_unset set (queued_in v) ≡ false
@@ -181,7 +181,8 @@ module _ (cx : ContextValue) (pair : EndpointPair) where
     is_open : poll_of cx.ip_mtu (with_block v set) ≡ poll_open cx.ip_mtu (with_block v set) pair
     is_open =
         ap (λ (names : Option EndpointPair). poll_with names cx.ip_mtu (with_block v set)) same_names
-        ∙ ap (λ (closed : Bool). if closed then (if set.sender.reset_due then At.Now else At.Ingress) else poll_open cx.ip_mtu (with_block v set) pair) still_alive
+        ∙ ap (λ (closed : Bool). if closed then (if set.sender.reset_due then At.Now else At.Ingress) else poll_open cx.ip_mtu
+        (with_block v set) pair) still_alive
 
     module _ (syn : owes_syn retried ≡ false) (again : resends retried ≡ false)
         (text : has_text retried pair.addresses cx.ip_mtu v.queued ≡ false) where

@@ -1,5 +1,6 @@
 -- A socket's turn: a frame goes or is refused, or the socket changes, or it isn't due any more.
-use Rattle.std.proofs.Common.{◌≡◌, ℕ, Bool, true, false, not, ◌&&◌, if◌then◌else◌, ◌⊎◌, inl, inr, ℤ, ◌<ℤ◌, int_lt, List, [], ◌∷◌, Option, Some, None, is_some, refl, sym, ap, ◌∙◌}
+use Rattle.std.proofs.Common.{◌≡◌, ℕ, Bool, true, false, not, ◌&&◌, if◌then◌else◌, ◌⊎◌, inl, inr, ℤ, ◌<ℤ◌, int_lt, List, [], ◌∷◌, Option, Some, None, is_some}
+use Rattle.std.proofs.Common.{refl, sym, ap, ◌∙◌}
 use Rattle.std.proofs.Common.{subst, arith}
 use Rattle.net_base.specs.Device.{Move, Allowed, Emitted, Denied}
 use Rattle.ip_wire.specs.IpAddress.{IpAddress}
@@ -18,21 +19,20 @@ use Rattle.interface_egress.specs.Departure as Departures
 use Rattle.interface_egress.specs.Departure.{Departure}
 use Rattle.interface_egress.specs.GoesOut.{GoesOut, Asked, Went, WasCut, numbered, cut_of, frame_of, frame_len_of}
 use Rattle.interface_egress.specs.Fragments.{LeftValue, next_departure}
-use Rattle.interface_egress.specs.Meta.{neighbor_by, waits_by, poll_by, freed, unmarked, since_by}
-use Rattle.interface_egress.specs.Plan.{plan_of}
+use Rattle.interface_egress.specs.Meta.{neighbor_by, waits_by, freed, since_by}
 use Rattle.interface_egress.specs.declared.frame.Question.{Question}
 use Rattle.interface_egress.specs.declared.plan.Plan.{Plan}
 use Rattle.interface_egress.specs.declared.plan.Plan.TheVariants as Way
-use Rattle.interface_egress.specs.declared.socket_meta.Meta.{Meta}
 use Rattle.interface_egress.specs.declared.socket_meta.Waiting.{Waiting}
 use Rattle.interface_egress.specs.declared.socket_set.Item.{Item}
 use Rattle.interface_egress.specs.declared.socket_set.SocketStorage.{SocketStorage}
 use Rattle.interface_egress.specs.declared.way_out.Sent.{Sent}
 use Rattle.interface_egress.specs.declared.way_out.Sent.TheVariants as Outcome
 use Rattle.interface.specs.Host.{Sender}
-use Rattle.interface.specs.Instant.{instant_of, item_instant, instant_in, place_instant}
+use Rattle.interface.specs.Instant.{instant_of, item_instant, instant_in}
 use Rattle.interface.specs.QuietStep.{IsEarlier}
-use Rattle.interface.specs.Turn.{is_known, is_waiting, let_through, waits_until, is_given_up, is_out_of_turn, settled_by, turned_by, plan_at, Leaves, SendsBy, Answers}
+use Rattle.interface.specs.Turn.{is_known, is_waiting, let_through, waits_until, is_given_up, is_out_of_turn, settled_by, turned_by, plan_at, Leaves, SendsBy}
+use Rattle.interface.specs.Turn.{Answers}
 use Rattle.interface.specs.Turn.{TurnsIf, ItemTurns, PlaceTurns, outcome_by, held}
 use Rattle.interface.specs.declared.turn.Turned.{Turned}
 use Rattle.interface.specs.declared.turn.Turned.TheVariants as Turn
@@ -40,7 +40,7 @@ use Rattle.std.specs.List.{list_any}
 use Rattle.interface_progress.specs.Moves.{AreMoves, is_refused}
 use Rattle.interface_progress.specs.OfUse.{Stirs}
 use Rattle.interface_progress.specs.Patience.{IsPatient, IsItemPatient}
-use Rattle.interface_progress.proofs.Plans.{is_to_wait, is_busy, Facts, plan_facts, waits_later, out_of_turn_waits}
+use Rattle.interface_progress.proofs.Plans.{is_to_wait, Facts, plan_facts, waits_later, out_of_turn_waits}
 use Rattle.interface_progress.proofs.Rests.{rests}
 
 clash : {X : Type 0} → true ≡ false → X
@@ -128,7 +128,8 @@ module _ {D : Type 0} (moves : D → Move → D → Type 0) where
       Gets plan sent = (turned ≡ turned_by sent changed) ×
           (item' ≡ settled_by sent x.inner.moment (waits_until plan x'.inner) (destination_of p.header) item)
 
-      calm_dropped : (plan : Plan) (sent : Sent) → sent ≡ Outcome.Dropped → Gets plan sent → x'.inner ≡ x.inner → x'.left ≡ x.left → Calm x x' turned (Some item')
+      calm_dropped : (plan : Plan) (sent : Sent) → sent ≡ Outcome.Dropped → Gets plan sent → x'.inner ≡ x.inner → x'.left ≡ x.left
+          → Calm x x' turned (Some item')
       calm_dropped plan sent is gets inner left = record {
         inner = inner;
         left = left;
@@ -174,21 +175,24 @@ module _ {D : Type 0} (moves : D → Move → D → Type 0) where
         stays : x'.device ≡ mid → moves x.device (Allowed true) x'.device
         stays is = subst (λ (d : D). moves x.device (Allowed true) d) (sym is) leave
 
-        asked : (q : Question) (sent : Sent) → Asked moves mid x.inner q sent x'.device x'.inner → turned ≡ turned_by sent changed → Ends Q x x' turned (Some item')
+        asked : (q : Question) (sent : Sent) → Asked moves mid x.inner q sent x'.device x'.inner → turned ≡ turned_by sent changed
+            → Ends Q x x' turned (Some item')
         asked q Outcome.Waits goes next = went (frame_of x.inner (Departures.Asks q)) changed goes.0.0 next
         asked q Outcome.Refused goes next = was_refused (frame_len_of x.inner (Departures.Asks q)) goes.0
         asked q Outcome.Gone goes next = absurd goes
         asked q Outcome.Dropped goes next = absurd goes
         asked q Outcome.Busy goes next = absurd goes
 
-        whole : (d : Departure) (sent : Sent) → Went moves mid x.inner p.header d sent x'.device x'.inner → turned ≡ turned_by sent changed → Ends Q x x' turned (Some item')
+        whole : (d : Departure) (sent : Sent) → Went moves mid x.inner p.header d sent x'.device x'.inner → turned ≡ turned_by sent changed
+            → Ends Q x x' turned (Some item')
         whole d Outcome.Gone goes next = went (frame_of x.inner d) true goes.0.0 next
         whole d Outcome.Refused goes next = was_refused (frame_len_of x.inner d) goes.0
         whole d Outcome.Waits goes next = absurd goes
         whole d Outcome.Dropped goes next = absurd goes
         whole d Outcome.Busy goes next = absurd goes
 
-        cut : (c : LeftValue) (sent : Sent) → WasCut moves mid x.inner x.left c sent x'.device x'.inner x'.left → turned ≡ turned_by sent changed → Ends Q x x' turned (Some item')
+        cut : (c : LeftValue) (sent : Sent) → WasCut moves mid x.inner x.left c sent x'.device x'.inner x'.left → turned ≡ turned_by sent changed
+            → Ends Q x x' turned (Some item')
         cut c Outcome.Gone goes next = went (frame_of x.inner (next_departure x.inner.mtu c)) true goes.0.0 next
         cut c Outcome.Refused goes next = was_refused (frame_len_of x.inner (next_departure x.inner.mtu c)) goes.0
         cut c Outcome.Waits goes next = absurd goes
@@ -272,5 +276,6 @@ module _ {D : Type 0} (moves : D → Move → D → Type 0) where
     item_ends None (Some item') turned patient goes = absurd goes
     item_ends (Some item) None turned patient goes = absurd goes
 
-    pub place_ends : (p p' : SocketStorage Socket) (turned : Turned) → (Q → IsItemPatient p.inner) → PlaceTurns moves turn x p turned x' p' → Ends Q x x' turned p'.inner
+    pub place_ends : (p p' : SocketStorage Socket) (turned : Turned) → (Q → IsItemPatient p.inner) → PlaceTurns moves turn x p turned x' p'
+        → Ends Q x x' turned p'.inner
     place_ends p p' turned patient goes = item_ends p.inner p'.inner turned patient goes

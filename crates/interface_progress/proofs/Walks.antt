@@ -1,5 +1,5 @@
 -- Moves, one behind the other.
-use Rattle.std.proofs.Common.{◌≡◌, ℕ, Bool, true, false, ◌||◌, ◌⊎◌, inl, inr, List, [], ◌∷◌, ◌++◌, refl, subst}
+use Rattle.std.proofs.Common.{◌≡◌, ℕ, Bool, true, false, ◌||◌, inl, inr, List, [], ◌∷◌, ◌++◌, refl, subst}
 use Rattle.std.specs.List.{list_any}
 use Rattle.net_base.specs.Device.{Move}
 use Rattle.interface_progress.specs.Moves.{AreMoves, is_sent, is_refused}

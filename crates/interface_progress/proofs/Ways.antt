@@ -1,10 +1,8 @@
 -- What a step of the way out leaves of the way of a datagram.
-use Rattle.std.proofs.Common.{◌≡◌, ℕ, ◌≤◌, Bool, true, false, not, ◌&&◌, if◌then◌else◌, ℤ, int_lt, List, Option, Some, None, refl, sym, ap, ◌∙◌, subst, arith}
-use Rattle.std.specs.Prelude.{nat_le}
-use Rattle.std.proofs.lemmas.Bool.{cond_both, le-leb}
+use Rattle.std.proofs.Common.{◌≡◌, ℕ, Bool, true, false, if◌then◌else◌, ℤ, int_lt, List, Option, Some, None, refl, sym, ap, ◌∙◌, subst}
+use Rattle.std.proofs.lemmas.Bool.{le-leb}
 use Rattle.net_base.specs.ChecksumCapabilities.{ChecksumCapabilities}
 use Rattle.ip_wire.specs.AddressTests.{is_multicast}
-use Rattle.ip_wire.specs.EthernetAddress.{EthernetAddress}
 use Rattle.ip_wire.specs.HardwareAddress.{HardwareAddress}
 use Rattle.ip_wire.specs.HardwareAddress.TheVariants as Hardware
 use Rattle.ip_wire.specs.Ip.{destination_of}
@@ -16,7 +14,7 @@ use Rattle.sockets.specs.UdpMetadata.{UdpMetadata}
 use Rattle.interface_ingress.specs.Packet.{PacketValue}
 use Rattle.interface_tables.specs.Best.{at_place}
 use Rattle.interface_tables.specs.Inner.{InnerValue, is_local_broadcast, next_hop, link_by, link_of_hop, link_on, link_address, all_stations, group_station}
-use Rattle.interface_tables.specs.Inner.{is_known_on, is_known_hop, has_neighbor}
+use Rattle.interface_tables.specs.Inner.{is_known_on, is_known_hop}
 use Rattle.interface_tables.specs.Neighbor.{CacheValue, lookup, missing, answer_by, place_of, unless_failed, has_failed, is_found}
 use Rattle.interface_tables.specs.declared.link.LinkAddress.{LinkAddress}
 use Rattle.interface_tables.specs.declared.link.LinkAddress.TheVariants as Link
@@ -27,14 +25,12 @@ use Rattle.interface_tables.specs.declared.neighbor.Search.{Search}
 use Rattle.interface_egress.specs.Departure.{Whole, frame_from}
 use Rattle.interface_egress.specs.GoesOut.{frame_of, numbered, numbered_header}
 use Rattle.interface_egress.specs.Meta.{neighbor_by, waits_by}
-use Rattle.interface_egress.specs.Plan.{total_len, never_leaves, long_plan, plan_by, plan_of}
-use Rattle.interface_egress.specs.declared.plan.Plan.{Plan}
+use Rattle.interface_egress.specs.Plan.{total_len, long_plan, plan_by, plan_of}
 use Rattle.interface_egress.specs.declared.plan.Plan.TheVariants as Way
 use Rattle.interface_egress.specs.declared.socket_meta.Meta.{Meta}
-use Rattle.interface_egress.specs.declared.socket_meta.Waiting.{Waiting}
 use Rattle.interface.specs.SameHost.{IsSameHost}
 use Rattle.interface.specs.Turn.{is_known, is_waiting}
-use Rattle.interface_progress.specs.Queued.{CanGo, HasWay, with_ident, frame_under}
+use Rattle.interface_progress.specs.Queued.{CanGo, with_ident, frame_under}
 
 clash : {X : Type 0} → true ≡ false → X
 clash {X} e = absurd cc
@@ -44,7 +40,8 @@ clash {X} e = absurd cc
 abbrev with_searches : CacheValue → ℤ → List Search → CacheValue
 with_searches c silent searches = record c { silent = silent; searches = searches }
 
-found_test : (test : Bool) (hardware : HardwareAddress) (c : CacheValue) (moment : ℤ) → is_found (if test then Known.Found hardware else missing c moment) ≡ test
+found_test : (test : Bool) (hardware : HardwareAddress) (c : CacheValue) (moment : ℤ)
+    → is_found (if test then Known.Found hardware else missing c moment) ≡ test
 found_test true hardware c moment = refl
 found_test false hardware c moment = by (int_lt moment c.silent) where
   by : (early : Bool) → is_found (if early then Known.RateLimited else Known.NotFound) ≡ false
@@ -161,7 +158,8 @@ module _ (i : InnerValue) (ident : ℕ) (silent : ℤ) (searches : List Search) 
   heard_still None = refl
   heard_still (Some address) = neighbor_still (next_hop i address)
 
-  go_still : (settings : UdpSettings) (d : UdpMetadata × List ℕ) (to : HardwareAddress) (p : PacketValue) → CanGo i settings d to p → CanGo later settings d to p
+  go_still : (settings : UdpSettings) (d : UdpMetadata × List ℕ) (to : HardwareAddress) (p : PacketValue) → CanGo i settings d to p
+      → CanGo later settings d to p
   go_still settings d to p can = record {
     takes = can.takes;
     may = can.may;
@@ -196,14 +194,17 @@ same_number : (i j : InnerValue) → i.ident ≡ j.ident → (h : IpRepr) → nu
 same_number i j is (Ip.Ipv4 v) = ap (λ (n : ℕ). Ip.Ipv4 (record v { ident = n; dont_frag = false })) is
 same_number i j is (Ip.Ipv6 v) = refl
 
-pub same_frame : (i j : InnerValue) (to : HardwareAddress) (p : PacketValue) → IsSameHost i j → frame_of j (Whole to (numbered j p)) ≡ frame_under i j.ident to p
+pub same_frame : (i j : InnerValue) (to : HardwareAddress) (p : PacketValue) → IsSameHost i j
+    → frame_of j (Whole to (numbered j p)) ≡ frame_under i j.ident to p
 same_frame i j to p same =
     ap (λ (h : IpRepr). frame_of j (Whole to (record p { header = h }))) (same_number j (with_ident i j.ident) refl p.header)
     ∙ ap (λ (own : HardwareAddress). frame_from own j.checksums (Whole to (numbered (with_ident i j.ident) p))) (ap (λ (x : InnerValue). x.hardware) same)
-    ∙ ap (λ (caps : ChecksumCapabilities). frame_from i.hardware caps (Whole to (numbered (with_ident i j.ident) p))) (ap (λ (x : InnerValue). x.checksums) same)
+    ∙ ap (λ (caps : ChecksumCapabilities). frame_from i.hardware caps (Whole to (numbered (with_ident i j.ident) p)))
+    (ap (λ (x : InnerValue). x.checksums) same)
 
 pub under_still : (i j : InnerValue) (ident : ℕ) (to : HardwareAddress) (p : PacketValue) → IsSameHost i j → frame_under j ident to p ≡ frame_under i ident to p
 under_still i j ident to p same =
-    ap (λ (h : IpRepr). frame_of (with_ident j ident) (Whole to (record p { header = h }))) (same_number (with_ident j ident) (with_ident i ident) refl p.header)
+    ap (λ (h : IpRepr). frame_of (with_ident j ident) (Whole to (record p { header = h })))
+    (same_number (with_ident j ident) (with_ident i ident) refl p.header)
     ∙ ap (λ (own : HardwareAddress). frame_from own j.checksums (Whole to (numbered (with_ident i ident) p))) (ap (λ (x : InnerValue). x.hardware) same)
     ∙ ap (λ (caps : ChecksumCapabilities). frame_from i.hardware caps (Whole to (numbered (with_ident i ident) p))) (ap (λ (x : InnerValue). x.checksums) same)
