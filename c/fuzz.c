@@ -224,7 +224,7 @@ static void call(zv_host *host, int which)
     case 34: code = zv_tcp_set_nagle(host, socket, (uint8_t)choice(256)); break;
     case 35: code = zv_tcp_set_hop_limit(host, socket, (uint8_t)choice(256)); break;
     case 36: code = zv_tcp_set_retries(host, socket, (uint16_t)choice(65536)); break;
-    case 37: code = zv_tcp_set_congestion_control(host, socket, (uint8_t)choice(2)); break;
+    case 37: code = zv_tcp_set_congestion_control(host, socket, (uint8_t)choice(3)); break;
     case 38: code = zv_tcp_set_timestamps(host, socket, (uint8_t)choice(2), (uint32_t)any_number()); break;
     case 39: code = zv_tcp_pause_synack(host, socket, choice(8) == 0); break;
     case 40: code = choice(2) ? zv_icmp_new(host, choice(8), some_size(), &count) : zv_icmp_bind(host, socket, (uint16_t)choice(8)); break;

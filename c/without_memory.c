@@ -177,7 +177,7 @@ static void set_sockets(zv_host *host, size_t udp, size_t tcp, size_t icmp)
     DO(zv_tcp_set_nagle(host, tcp, 1));
     DO(zv_tcp_set_hop_limit(host, tcp, 64));
     DO(zv_tcp_set_retries(host, tcp, 16));
-    DO(zv_tcp_set_congestion_control(host, tcp, 1));
+    DO(zv_tcp_set_congestion_control(host, tcp, ZV_CONGESTION_CUBIC));
     DO(zv_tcp_set_timestamps(host, tcp, 1, 7));
     DO(zv_tcp_pause_synack(host, tcp, 0));
     DO(zv_tcp_state(host, tcp, &state));

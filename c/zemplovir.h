@@ -324,9 +324,15 @@ uint32_t zv_tcp_set_hop_limit(zv_host *host, size_t socket, uint8_t limit);
  * connection is opened, and 16 later. */
 uint32_t zv_tcp_set_retries(zv_host *host, size_t socket, uint16_t limit);
 
-/* Whether what is sent is held back where congestion may be, as RFC 5681 says: 0 for no. It begins anew with each call. A new socket holds
- * back. */
-uint32_t zv_tcp_set_congestion_control(zv_host *host, size_t socket, uint8_t enabled);
+/* How what is sent is held back where congestion may be. */
+enum {
+    ZV_CONGESTION_NONE = 0, /* not at all */
+    ZV_CONGESTION_RENO = 1, /* as RFC 5681 says, which is what a new socket has */
+    ZV_CONGESTION_CUBIC = 2 /* as RFC 9438 says */
+};
+
+/* Sets how, and starts it anew. A number above 2 stands for Reno. */
+uint32_t zv_tcp_set_congestion_control(zv_host *host, size_t socket, uint8_t control);
 
 /* Whether segments carry timestamps (RFC 7323), 0 for no, which is what a new socket has; they begin with `first`. Set it before the
  * connection is opened. */

@@ -212,7 +212,7 @@ module _ (cx : ContextValue) (ip : IpRepr) (header : TcpHeader) (bytes : List �
 
 limit_least : (control : CongestionControl) (window size : ℕ) → congestion_limit control window size ≤ size
 limit_least Avoids.None window size = omega arith
-limit_least Avoids.Reno window size = omega arith
+limit_least other window size = omega arith
 
 window_least : (b : Block) (size : ℕ) → window_limit b size ≤ size
 window_least b size =
