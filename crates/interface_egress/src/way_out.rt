@@ -6,7 +6,7 @@ ghost use Rattle.interface_egress.specs.Plan.{CanBeCut};
 ghost use Rattle.interface_tables.specs.Inner.{mtu_to};
 ghost use Rattle.ip_wire.specs.IpAddress.TheVariants as Address;
 ghost use Rattle.interface_egress.specs.Departure as Departures;
-ghost use Rattle.interface_egress.specs.GoesOut.{GoesOut, PieceGoesOut, Asked, Went, WasCut, numbered_header, numbered, after_header, cut_of};
+ghost use Rattle.interface_egress.specs.GoesOut.{GoesOut, PieceGoesOut, Asked, Went, WasCut, numbered_v4, numbered_header, numbered, after_header, cut_of};
 
 use crate::fill::send;
 use crate::fragmenter::{Cut, Fragmenter};
@@ -158,11 +158,7 @@ fn send_first<D: Device>(
     ensures capabilities { D.described device.new ≡ D.described device.old }
 {
     let cut = cut_from(inner, IpAddress::Ipv4(header.dst_addr));
-    let header = Ipv4Repr {
-        ident: inner.ident(),
-        dont_frag: false,
-        ..*header
-    };
+    let header = numbered_v4(inner, header);
     let packet = numbered(inner, packet);
     if !fragmenter.send_first(device, token, &cut, to, &header, &packet) {
         return Sent::Refused;
@@ -207,6 +203,17 @@ fn numbered<'a>(inner: &InterfaceInner, packet: &Packet<'a>) -> Packet<'a>
     ensures fits { IsSendable (packet_value result) }
 {
     Packet::new(numbered_header(inner, &packet.ip_repr()), *packet.payload())
+}
+
+/// The header of a datagram with the host's next number.
+fn numbered_v4(inner: &InterfaceInner, header: &Ipv4Repr) -> Ipv4Repr
+    ensures { result ≡ numbered_v4 inner.now header.now }
+{
+    Ipv4Repr {
+        ident: inner.ident(),
+        dont_frag: false,
+        ..*header
+    }
 }
 
 /// The header with the host's next number, if it is one of IPv4.
