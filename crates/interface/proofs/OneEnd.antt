@@ -34,7 +34,8 @@ use Rattle.interface.specs.Awaited.{turn_of}
 use Rattle.interface.specs.Host.{Sender}
 use Rattle.interface.specs.Pass.{Pass, Passed, passed}
 use Rattle.interface.specs.WayOut.{Clears, Egress, PieceLeaves}
-use Rattle.interface.specs.Turn.{Leaves, SendsBy, Answers, TurnsIf, ItemTurns, PlaceTurns, is_waiting, let_through, turned_by, settled_by, plan_at, held_at}
+use Rattle.interface.specs.Turn.{Leaves, SendsAs, SendsBy, Answers, TurnsIf, ItemTurns, PlaceTurns, is_waiting, let_through, turned_by, settled_by}
+use Rattle.interface.specs.Turn.{plan_at, held_at}
 use Rattle.interface.specs.Turn.{outcome_by, waits_until}
 use Rattle.interface.specs.declared.turn.Turned.{Turned}
 use Rattle.interface.specs.declared.turn.Turned.TheVariants as Turn
@@ -156,10 +157,9 @@ module _ (one_offer : OneOffer) {D : Type 0} (moves : D → Move → D → Type 
     abbrev SameTurn : {A : Type 0} → Turned → Sender D → A → Turned → Sender D → A → Type 0
     SameTurn a y p b z q = (a ≡ b) × (y ≡ z) × (p ≡ q)
 
-    one_sends : (o : Option PacketValue) (x y z : Sender D) (item m n : Item Socket) (changed : Bool) (a b : Turned) → Det x.device
-        → SendsBy moves turn o x item changed a y m → SendsBy moves turn o x item changed b z n → SameTurn a y m b z n
-    one_sends None x y z item m n changed a b det one two = absurd one
-    one_sends (Some p) x y z item m n changed a b det one two =
+    one_as : (p : PacketValue) (x y z : Sender D) (item m n : Item Socket) (changed : Bool) (a b : Turned) → Det x.device
+        → SendsAs moves turn p x item changed a y m → SendsAs moves turn p x item changed b z n → SameTurn a y m b z n
+    one_as p x y z item m n changed a b det one two =
         let same = one_leaves x y z item.meta p one.0 two.0 det one.1 two.1 in (
           one.2 ∙ ap (λ (s : Sent). turned_by s changed) same.0 ∙ sym two.2,
           same.1,
@@ -167,10 +167,18 @@ module _ (one_offer : OneOffer) {D : Type 0} (moves : D → Move → D → Type 
               ∙ ap (λ (v : Sender D). settled_by two.0 x.inner.moment (waits_until (plan_at x p) v.inner) (destination_of p.header) item) same.1 ∙ sym two.3,
         )
 
+    one_sends : (o : Option PacketValue) (x y z : Sender D) (item m n : Item Socket) (changed : Bool) (a b : Turned) → Det x.device
+        → SendsBy moves turn o x item changed a y m → SendsBy moves turn o x item changed b z n → SameTurn a y m b z n
+    one_sends None x y z item m n changed a b det one two = absurd one
+    one_sends (Some p) x y z item m n changed a b det one two =
+        let same : two.0 ≡ one.0 = two.1 ∙ sym one.1 in
+        one_as one.0 x y z item m n changed a b det one.3
+        (subst (λ (q : PacketValue). SendsAs moves turn q x item changed b z n) same two.3)
+
     det_sends : (o : Option PacketValue) (x y : Sender D) (item m : Item Socket) (changed : Bool) (a : Turned) → SendsBy moves turn o x item changed a y m →
         Det x.device → Det y.device
     det_sends None x y item m changed a one det = absurd one
-    det_sends (Some p) x y item m changed a one det = det_leaves x y item.meta p one.0 one.1 det
+    det_sends (Some p) x y item m changed a one det = det_leaves x y item.meta one.0 one.3.0 one.3.1 det
 
     one_answers : (answer : Answer.Offer) (x y z : Sender D) (item m n : Item Socket) (a b : Turned) → Det x.device
         → Answers moves turn answer x item a y m → Answers moves turn answer x item b z n → SameTurn a y m b z n

@@ -77,7 +77,7 @@ module _ {D : Type 0} (moves : D → Move → D → Type 0) (turn : Option IpAdd
       → SendsBy moves turn o s item changed turned s' item' → said turned ≡ false → IsUnchanged before item'.socket
   sends_same None changed before item item' turned same_offered sends quiet = absurd sends
   sends_same (Some p) changed before item item' turned same_offered sends quiet =
-      kept (waits_until (plan_at s p) s'.inner) sends.0 changed before item item' turned p same_offered sends.2 sends.3 quiet
+      kept (waits_until (plan_at s sends.0) s'.inner) sends.3.0 changed before item item' turned sends.0 same_offered sends.3.2 sends.3.3 quiet
 
   asks_same : (item item' : Item Socket) (turned : Turned) → Asks moves turn s item turned s' item' → said turned ≡ false → IsUnchanged item.socket item'.socket
   asks_same item item' turned a quiet = by a.0 a.2 a.3 where

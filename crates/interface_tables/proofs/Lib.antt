@@ -6,3 +6,4 @@ pub mod Orders
 pub mod PathMtu
 pub mod Rebuilt
 pub mod Renewed
+pub mod FourBytes

@@ -619,7 +619,9 @@ fn is_this(other: Option<Ipv4Address>, address: &Ipv4Address) -> bool
     ensures { result ≡ is_this other address.now }
 {
     match other {
-        Some(other) => address.0 == other.0,
+        Some(other) => {
+            u32::from_le_bytes(address.octets()) == u32::from_le_bytes(other.octets())
+        }
         None => false,
     }
 }

@@ -71,7 +71,7 @@ module _ (turn : Option IpAddress) where
   offer_waits : (o : Option PacketValue) (x x' : Sender PortValue) (item item' : Item Socket) (changed : Bool) (turned : Turned) →
       SendsBy PortMove turn o x item changed turned x' item' → Waits x'.device ≡ Waits x.device
   offer_waits None x x' item item' changed turned sends = absurd sends
-  offer_waits (Some p) x x' item item' changed turned sends = leaves_waits x x' item.meta p sends.0 sends.1
+  offer_waits (Some p) x x' item item' changed turned sends = leaves_waits x x' item.meta sends.0 sends.3.0 sends.3.1
 
   answer_waits : (answer : Answer.Offer) (x x' : Sender PortValue) (item item' : Item Socket) (turned : Turned) →
       Answers PortMove turn answer x item turned x' item' → Waits x'.device ≡ Waits x.device

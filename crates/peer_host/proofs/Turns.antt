@@ -62,7 +62,7 @@ module _ {D : Type 0} (moves : D → Move → D → Type 0) (asked : Option IpAd
       → Offers cx s (Offer.Packet changed) item.socket → W s → SendsBy moves asked packet x item changed turned x' item' → W item'.socket
   sends x x' s item item' cx changed turned None offers holds is = absurd is
   sends x x' s item item' cx changed turned (Some packet) offers holds is =
-      subst (λ (i : Item Socket). W i.socket) (sym is.3) (law.offers cx s item.socket (Offer.Packet changed) (is_done is.0) offers holds)
+      subst (λ (i : Item Socket). W i.socket) (sym is.3.3) (law.offers cx s item.socket (Offer.Packet changed) (is_done is.3.0) offers holds)
 
   answers : (x x' : Sender D) (s : Socket) (item item' : Item Socket) (cx : ContextValue) (answer : Answer.Offer) (turned : Turned)
       → Offers cx s answer item.socket → W s → Answers moves asked answer x item turned x' item' → W item'.socket

@@ -169,9 +169,10 @@ module _ {D E : Type 0} (f : D → E) (moves : D → Move → D → Type 0) (oth
         → Leads x.device y.device (SendsBy others turn o (on_sender x) item changed a (on_sender y) m)
     sends None x y item m changed a one = absurd one
     sends (Some p) x y item m changed a one =
-        so x.device y.device (Leaves others turn (on_sender x) item.meta p one.0 (on_sender y))
-        (SendsBy others turn (Some p) (on_sender x) item changed a (on_sender y) m) (λ n. (one.0, n, one.2, one.3, one.4))
-        (leaves x y item.meta p one.0 one.1)
+        so x.device y.device (Leaves others turn (on_sender x) item.meta one.0 one.3.0 (on_sender y))
+        (SendsBy others turn (Some p) (on_sender x) item changed a (on_sender y) m)
+        (λ n. (one.0, one.1, one.2, (one.3.0, n, one.3.2, one.3.3, one.3.4)))
+        (leaves x y item.meta one.0 one.3.0 one.3.1)
 
     same_device : (x y : Sender D) → y ≡ x → y.device ≡ x.device
     same_device x y is = ap (λ (v : Sender D). v.device) is

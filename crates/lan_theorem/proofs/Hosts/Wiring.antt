@@ -45,6 +45,7 @@ use Rattle.interface.specs.Turn.{Leaves, SendsBy, Answers, TurnsIf, ItemTurns, i
 use Rattle.interface.specs.WayOut.{PieceLeaves}
 use Rattle.interface.specs.declared.turn.Turned.{Turned}
 use Rattle.interface.proofs.Keep.{polls_keep}
+use Rattle.interface.proofs.Sourced.{as_sourced}
 use Rattle.lan_hosts.specs.Port.{LinkEnd, PortValue, PortMove}
 use Rattle.lan_hosts.specs.Station.{StationValue, at_port}
 use Rattle.lan_hosts.specs.Steps.{PollsAt}
@@ -416,7 +417,9 @@ module _ (T : List ℕ → Bool) (May : IpRepr → PayloadValue → Type 0) (W :
     so_sent : (o : Option PacketValue) (item item' : Item Socket) (changed : Bool) (turned : Turned) →
         ((p : PacketValue) → o ≡ Some p → May p.header p.payload) → SendsBy PortMove turn o x item changed turned x' item' → Next
     so_sent None item item' changed turned may sends = absurd sends
-    so_sent (Some p) item item' changed turned may sends = so_leaves item.meta p sends.0 sends.4 (may p refl) sends.1
+    so_sent (Some p) item item' changed turned may sends =
+        so_leaves item.meta sends.0 sends.3.0 sends.3.4
+        (subst (λ (q : PacketValue). May q.header q.payload) (sym sends.1) (as_sourced May test.sourced x.inner p (may p refl))) sends.3.1
 
     so_answers : (answer : Answer.Offer) (item item' : Item Socket) (turned : Turned) →
         ((p : PacketValue) → offered_by item.socket ≡ Some p → May p.header p.payload) → Answers PortMove turn answer x item turned x' item' → Next

@@ -199,7 +199,7 @@ module _ (W : Socket → Type 0) where
           W item.socket → SendsBy moves turn packet x item changes turned x' item' → W item'.socket
       sends turn x x' item item' changes turned None holds is = absurd is
       sends turn x x' item item' changes turned (Some packet) holds is =
-          subst (λ (i : Item Socket). W i.socket) (sym is.3) (law.settles (is_done is.0) item.socket holds)
+          subst (λ (i : Item Socket). W i.socket) (sym is.3.3) (law.settles (is_done is.3.0) item.socket holds)
 
       answers : (turn : Option IpAddress) (x x' : Sender D) (item item' : Item Socket) (answer : Answer.Offer) (turned : Turned) → W item.socket →
           Answers moves turn answer x item turned x' item' → W item'.socket

@@ -38,6 +38,7 @@ use Rattle.interface.specs.Host.{HostValue, Sender}
 use Rattle.interface.specs.State.{State, state}
 use Rattle.interface.specs.Remote.{context_for}
 use Rattle.interface.specs.Turn.{PlaceTurns, ItemTurns, TurnsIf, Answers, SendsBy, Leaves, is_waiting, let_through, is_done, marked, plan_at, waits_until}
+use Rattle.interface.specs.Turn.{SendsAs}
 use Rattle.interface.specs.declared.turn.Turned.{Turned}
 use Rattle.interface.specs.State.{sending_as}
 use Rattle.lan_hosts.specs.Side.{Side}
@@ -52,6 +53,7 @@ use Rattle.lan_theorem.specs.Moves.Link.{IsLink}
 use Rattle.lan_theorem.specs.Moves.Made.{Grows, MadeBy, IsMade, IsWide}
 use Rattle.lan_theorem.specs.Moves.Raws.{OfItem}
 use Rattle.lan_theorem.proofs.Moves.Nets.{Moved, stays, moves_by, there, grows_to, grows_not, grows_by}
+use Rattle.lan_theorem.proofs.Moves.Sourced.{sourced_wide}
 use Rattle.lan_theorem.proofs.Moves.Offering.{if_some, some_so, takes_one, message_made, udp_made, tcp_made}
 use Rattle.lan_theorem.proofs.Moves.Places.{Places, get-middle, set-middle, same-middle}
 use Rattle.lan_theorem.proofs.Moves.Wide.{offered_wide}
@@ -268,9 +270,11 @@ module _ {D : Type 0} (moves : D → Move → D → Type 0) (turn_of : Option Ip
       SendsBy moves turn_of packet x (record item { socket = offered }) changed turned x' item'
       → Now (At x (Some item)) → Next (At x' (Some item'))
   sends x x' item item' offered changed turned None is wide fit offers goes f = absurd goes
-  sends x x' item item' offered changed turned (Some packet) is wide fit offers goes f =
+  sends x x' item item' offered changed turned (Some packet) is wide fit offers sending f =
+      let leaving = sending.0 in
+      let goes : SendsAs moves turn_of leaving x (record item { socket = offered }) changed turned x' item' = sending.3 in
       let sent = goes.0 in
-      let meta = marked sent x.inner.moment (waits_until (plan_at x packet) x'.inner) (destination_of packet.header) item.meta in
+      let meta = marked sent x.inner.moment (waits_until (plan_at x leaving) x'.inner) (destination_of leaving.header) item.meta in
       let places = before ++ holding meta (settled (is_done sent) offered) ∷ after in
       let given = gives names side net f.now f.reaches before after item.meta meta (context_for x.inner item.socket) item.socket offered (Offer.Packet changed)
       (is_done sent) fit offers f.sockets in
@@ -279,8 +283,10 @@ module _ {D : Type 0} (moves : D → Move → D → Type 0) (turn_of : Option Ip
         now = on.now;
         reaches = on.reaches;
         sockets = on.sockets;
-        link = leaves x x' places (party given.moved.next side) item.meta packet sent (wide goes.4)
-            (λ done. some_so (offered_by offered) (IsMade (party given.moved.next side)) packet (sym is) (given.made done)) goes.1 on.link;
+        link = leaves x x' places (party given.moved.next side) item.meta leaving sent
+            (subst IsWide (sym sending.1) (sourced_wide x.inner packet (wide sending.2) (subst IsWellFormed sending.1 goes.4)))
+            (λ done. subst (IsMade (party given.moved.next side)) (sym sending.1)
+            (some_so (offered_by offered) (IsMade (party given.moved.next side)) packet (sym is) (given.made done))) goes.1 on.link;
       } in
       subst (λ (i : Item Socket). Next (At x' (Some i))) (sym goes.3) told
 
