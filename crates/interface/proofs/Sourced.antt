@@ -70,7 +70,7 @@ if_other : (b : Bool) (h other : IpRepr) → b ≡ false → (if b then h else o
 if_other true h other is = absurd cc
 if_other false h other is = refl
 
-with_header : (p : PacketValue) (h : IpRepr) → PacketValue
+abbrev with_header : (p : PacketValue) (h : IpRepr) → PacketValue
 with_header p h = record p { header = h }
 
 same_destination : (h : IpRepr) (s : Option IpAddress) → destination_of (with_source h s) ≡ destination_of h
