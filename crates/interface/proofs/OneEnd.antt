@@ -10,7 +10,7 @@ use Rattle.interface_ingress.specs.Offer as Answer
 use Rattle.interface_ingress.specs.Offer.TheVariants as Offer
 use Rattle.interface_ingress.specs.Sockets.{Offers, offered_by}
 use Rattle.interface_ingress.specs.Socket.{Socket}
-use Rattle.interface_tables.specs.Inner.{InnerValue, context_of}
+use Rattle.interface_tables.specs.Inner.{InnerValue}
 use Rattle.interface_egress.specs.declared.socket_meta.Meta.{Meta}
 use Rattle.interface_egress.specs.declared.socket_set.Item.{Item}
 use Rattle.interface_egress.specs.declared.socket_set.SocketStorage.{SocketStorage}
@@ -18,7 +18,7 @@ use Rattle.interface_egress.specs.Departing.{SendsOnce, departure_by, was_taken}
 use Rattle.interface_egress.specs.Departure as Departures
 use Rattle.interface_egress.specs.Departure.{Departure}
 use Rattle.interface_egress.specs.Determined.{IsDetermined}
-use Rattle.interface_egress.specs.Fragments.{LeftValue, next_departure}
+use Rattle.interface_egress.specs.Fragments.{LeftValue, departure_from}
 use Rattle.interface_egress.specs.GoesOut.{GoesOut, PieceGoesOut, Departs, frame_of, frame_len_of}
 use Rattle.interface_egress.specs.Plan.{plan_of}
 use Rattle.interface_egress.specs.declared.way_out.Sent.{Sent}
@@ -29,6 +29,7 @@ use Rattle.interface_ingress.proofs.OneContent.{one-content}
 use Rattle.interface_ingress.specs.Arrives as Replies
 use Rattle.interface_ingress.specs.Arrives.{ReplyValue, Arrived, ArrivesAs}
 use Rattle.interface_ingress.proofs.OneArrival.{one_arrives_as}
+use Rattle.interface.specs.Remote.{context_for}
 use Rattle.interface.specs.Awaited.{turn_of}
 use Rattle.interface.specs.Host.{Sender}
 use Rattle.interface.specs.Pass.{Pass, Passed, passed}
@@ -196,7 +197,7 @@ module _ (one_offer : OneOffer) {D : Type 0} (moves : D → Move → D → Type 
         → TurnsIf moves turn waits x item a y m → TurnsIf moves turn waits x item b z n → SameTurn a y m b z n
     one_turn true x y z item m n a b det one two = (one.0 ∙ sym two.0, one.1 ∙ sym two.1, one.2 ∙ sym two.2)
     one_turn false x y z item m n a b det one two =
-        let same = one_offer (context_of x.inner) item.socket two.1 one.1 two.0 one.0 two.2 one.2 in
+        let same = one_offer (context_for x.inner item.socket) item.socket two.1 one.1 two.0 one.0 two.2 one.2 in
         let again : Answers moves turn one.0 x (record item { socket = one.1 }) b z n =
         subst (λ (s : Socket). Answers moves turn one.0 x (record item { socket = s }) b z n) same.1
         (subst (λ (answer : Answer.Offer). Answers moves turn answer x (record item { socket = two.1 }) b z n) same.0 two.3) in
@@ -275,14 +276,14 @@ module _ (one_offer : OneOffer) {D : Type 0} (moves : D → Move → D → Type 
       let mids : two.0 ≡ one.0 = det.one_end two.0 one.0 (Allowed true) two.1 one.1 in
       let again : PieceGoesOut moves one.0 x.inner l b z.device z.left = subst (λ (d : D). PieceGoesOut moves d x.inner l b z.device z.left) mids two.2 in
       let here : Det one.0 = steady.stays x.device one.0 (Allowed true) det one.1 in
-      let low = short_of one.0 y.device x.inner (next_departure x.inner.mtu l) a (piece_sends moves one.0 y.device x.inner l y.left a one.2) in
+      let low = short_of one.0 y.device x.inner (departure_from x.inner l) a (piece_sends moves one.0 y.device x.inner l y.left a one.2) in
       let same = one_piece moves longest one.0 here x.inner l low a b y.device z.device y.left z.left one.2 again in
       (same.0, same_sender y z same.1 (i ∙ sym j) same.2)
 
   det_piece_leaves : (l : LeftValue) (x y : Sender D) (a : Bool) → PieceLeaves moves l x a y → Det x.device → Det y.device
   det_piece_leaves l x y a (inl one) det = steady.stays x.device y.device (Allowed false) det one.0
   det_piece_leaves l x y a (inr one) det =
-      det_of one.0 y.device x.inner (next_departure x.inner.mtu l) a (piece_sends moves one.0 y.device x.inner l y.left a one.2)
+      det_of one.0 y.device x.inner (departure_from x.inner l) a (piece_sends moves one.0 y.device x.inner l y.left a one.2)
       (steady.stays x.device one.0 (Allowed true) det one.1)
 
   one_clears : (l : Option LeftValue) (x y z : Sender D) (a b : Bool) → Det x.device → Clears moves l x a y → Clears moves l x b z → (a ≡ b) × (y ≡ z)

@@ -10,7 +10,7 @@ use Rattle.ip_wire.specs.IpRepr.TheVariants as Ip
 use Rattle.interface_ingress.specs.Packet.{PacketValue, PayloadValue, ControlV4, ControlV6, Bytes, Datagram, Segment}
 use Rattle.interface_ingress.specs.Offer as Answer
 use Rattle.interface_ingress.specs.Offer.TheVariants as Offer
-use Rattle.interface_tables.specs.Inner.{InnerValue, context_of, has_neighbor, may_come_from, is_crowded, next_request}
+use Rattle.interface_tables.specs.Inner.{InnerValue, has_neighbor, may_come_from, is_crowded, next_request}
 use Rattle.interface_tables.specs.Source.{source_for}
 use Rattle.interface_egress.specs.Departure.{target_of}
 use Rattle.interface_egress.specs.Meta.{silent_time, neighbor_of, waits, freed, missed, has_waited, unmarked}
@@ -27,6 +27,7 @@ use Rattle.interface_egress.specs.declared.plan.Plan.TheVariants as Way
 use Rattle.interface_egress.specs.declared.way_out.Sent.{Sent}
 use Rattle.interface_egress.specs.declared.way_out.Sent.TheVariants as Outcome
 use Rattle.interface.specs.Host.{Sender}
+use Rattle.interface.specs.Remote.{context_for}
 use Rattle.interface.specs.declared.turn.Turned.{Turned}
 use Rattle.interface.specs.declared.turn.Turned.TheVariants as Turn
 
@@ -203,7 +204,7 @@ module _ {D : Type 0} (moves : D → Move → D → Type 0) (turn : Option IpAdd
 
   abbrev pub Asks : Sender D → Item Socket → Turned → Sender D → Item Socket → Type 0
   Asks s item turned s' item' =
-      (answer : Answer.Offer) × (offered : Socket) × Offers (context_of s.inner) item.socket answer offered
+      (answer : Answer.Offer) × (offered : Socket) × Offers (context_for s.inner item.socket) item.socket answer offered
       × Answers answer s (record item { socket = offered }) turned s' item'
 
   abbrev pub TurnsIf : Bool → Sender D → Item Socket → Turned → Sender D → Item Socket → Type 0

@@ -13,6 +13,7 @@ ghost use Rattle.interface.specs.Turn.{is_raw, with_source, sourced_header, sour
 ghost use Rattle.interface.specs.Turn.{turned_by, Leaves, HasLeft, Sends, Turns, PlaceTurns};
 ghost use Rattle.interface_egress.specs.Meta.{freed};
 
+use crate::remote::remote_of;
 use interface_egress::{
     Fragmenter, InterfaceInner, Item, Meta, Plan, Sent, SocketStorage, dispatch_by, plan_for,
 };
@@ -20,6 +21,7 @@ use interface_ingress::addresses::is_same_address;
 use interface_ingress::socket_laws::unsent_is_offered_again;
 use interface_ingress::widths::fields_have_widths;
 use interface_ingress::{Context, IpPayload, Offer, Packet, Socket};
+use interface_tables::Look;
 use ip_wire::{IpAddress, IpRepr, Ipv4Repr, Ipv6Repr};
 use net_base::{Device, Duration, Instant};
 
@@ -72,7 +74,9 @@ pub fn take_turn<D: Device>(
         return Turned::Next(false);
     }
     unsent_is_offered_again();
-    match item.socket.offer(inner) {
+    let remote = remote_of(&item.socket);
+    let offer = item.socket.offer(&Look::towards(inner, &remote));
+    match offer {
         Offer::Silent { changed } => {
             item.meta.unmark();
             Turned::Next(changed)

@@ -17,6 +17,8 @@ mod icmp_reply;
 mod incoming;
 pub mod laws;
 pub mod limit_laws;
+mod path;
+pub mod path_laws;
 mod places;
 mod reassemble;
 mod reply;

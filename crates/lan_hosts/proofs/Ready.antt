@@ -16,7 +16,7 @@ use Rattle.interface_egress.specs.Departure as Departures
 use Rattle.ip_wire.specs.IpAddress.{IpAddress}
 use Rattle.interface_egress.specs.Departure.{Departure}
 use Rattle.interface_egress.specs.declared.socket_meta.Meta.{Meta}
-use Rattle.interface_egress.specs.Fragments.{LeftValue, next_departure}
+use Rattle.interface_egress.specs.Fragments.{LeftValue, departure_from}
 use Rattle.interface_egress.specs.GoesOut.{GoesOut, PieceGoesOut, Departs, frame_of, frame_len_of}
 use Rattle.interface_egress.specs.Plan.{plan_of}
 use Rattle.interface_egress.specs.declared.way_out.Sent.{Sent}
@@ -128,7 +128,7 @@ module _ (most refusals : ℕ) where
   so_piece : (n : ℕ) (l : LeftValue) (gone : Bool) (d d' : PortValue) (i : InnerValue) (l' : Option LeftValue) → n + 1 ≤ most →
       PieceGoesOut PortMove d i l gone d' l' → So n d i → So (n + 1) d' i
   so_piece n l gone d d' i l' within goes so =
-      so_sends n (next_departure i.mtu l) gone d d' i within (piece_short i l so.low) (piece_sends PortMove d d' i l l' gone goes) so
+      so_sends n (departure_from i l) gone d d' i within (piece_short i l so.low) (piece_sends PortMove d d' i l l' gone goes) so
 
   -- ARRIVALS
 

@@ -17,7 +17,7 @@ use Rattle.sockets.specs.declared.socket.Socket.TheVariants as Is
 use Rattle.sockets.proofs.AnyKind.{has_packet}
 use Rattle.tcp_model.specs.OpenOffer.{OpenOffer}
 use Rattle.tcp_model.specs.Offers.{packet_with}
-use Rattle.interface.specs.Inner.{context_of}
+use Rattle.interface.specs.Remote.{context_for}
 use Rattle.interface_egress.specs.declared.socket_set.Item.{Item}
 use Rattle.interface_egress.specs.declared.socket_set.SocketStorage.{SocketStorage}
 use Rattle.interface.specs.Host.{Sender}
@@ -75,7 +75,7 @@ module _ {D : Type 0} (moves : D → Move → D → Type 0) (asked : Option IpAd
       TurnsIf moves asked waits x (let_through x.inner item) turned x' item' → W item'.socket
   turns true x x' item item' turned holds is = subst (λ (i : Item Socket). W i.socket) (sym is.2) holds
   turns false x x' item item' turned holds (answer, offered, offers, is) =
-      answers x x' item.socket (record (let_through x.inner item) { socket = offered }) item' (context_of x.inner) answer turned offers holds is
+      answers x x' item.socket (record (let_through x.inner item) { socket = offered }) item' (context_for x.inner item.socket) answer turned offers holds is
 
   items : (x x' : Sender D) (o o' : Option (Item Socket)) (turned : Turned) → ItemTurns moves asked o x turned x' o' → HoldsItem W o → HoldsItem W o'
   items x x' None None turned is holds = holds

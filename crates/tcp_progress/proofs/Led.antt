@@ -34,7 +34,7 @@ reached_by p new more r steps = record {
 abbrev IsTaken : PairValue → Side → ℕ → Type 0
 IsTaken p from k = refusal p (Deliver from k) ≡ None
 
-by_two :
+pub by_two :
     (p : PairValue) (side : Side) (moment : ℤ) → IsReached p → refusal p (Offer side moment true) ≡ None
     → IsTaken (takes p (Offer side moment true)) side (next_sent p side) → IsReached (offered_in p side moment)
 by_two p side moment r asked comes =
@@ -47,7 +47,7 @@ by_answer p from k n (inr one) there r =
     subst (λ (n : ℕ). IsReached (comes n from k p)) (sym one)
     (reached_by p (takes p (Deliver from k)) (Deliver from k ∷ []) r (there one, refl))
 
-within : (k n : ℕ) → k < n → if_so (not (nat_lt k n)) NoSegment ≡ None
+pub within : (k n : ℕ) → k < n → if_so (not (nat_lt k n)) NoSegment ≡ None
 within k n less = ap (λ (t : Bool). if_so (not t) NoSegment) (lt-ltb k n less)
 
 one_more : (k n : ℕ) → n - k ≡ 1 → k < n

@@ -19,3 +19,8 @@ pub mod Kept
 pub mod SentEvents
 pub mod SentPairs
 pub mod Mirrored
+pub mod SynOffer
+pub mod Shakes
+pub mod AckOffer
+pub mod ShakeSteps
+pub mod Shaken

@@ -588,7 +588,7 @@ mirrored_by v w mine theirs sent others own far d e named partner_named listened
       remote_port = sym c.source_port ∙ g.source_port;
     }
 
-turned : (a b : Block) → AreMirrored a b → AreMirrored b a
+pub turned : (a b : Block) → AreMirrored a b → AreMirrored b a
 turned a b m = record {
   own = m.theirs;
   theirs = m.own;

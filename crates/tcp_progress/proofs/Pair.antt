@@ -69,7 +69,7 @@ all_four : (a b c d : Bool) → a ≡ true → b ≡ true → c ≡ true → d �
 all_four a b c d e f g h = ap (λ (t : Bool). t && (b && (c && d))) e ∙ (ap (λ (t : Bool). t && (c && d)) f ∙ (ap (λ (t : Bool). t && d) g ∙ h))
 
 -- a segment between the endpoints of a connection
-between :
+pub between :
     (pair : EndpointPair) (ip : IpRepr) (header : TcpHeader) → local_of pair.addresses ≡ destination_of ip → remote_of pair.addresses ≡ source_of ip
     → pair.local_port ≡ header.dst_port → pair.remote_port ≡ header.src_port → is_between pair ip header ≡ true
 between pair ip header a b c d =

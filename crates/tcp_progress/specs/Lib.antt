@@ -8,3 +8,4 @@ pub mod Again
 pub mod Exchange
 pub mod Pair
 pub mod Sent
+pub mod Handshake

@@ -47,8 +47,8 @@ pub all_left : (b : Block) (acks : List Acked) → b.sender.partial ≡ true →
     → (after_all acks b).timers.retransmit_at ≡ b.timers.retransmit_at
 all_left b [] partial are = refl
 all_left b (ack ∷ more) partial are =
-    all_left (una_moved b ack.by ack.queued ack.moment) more (or_left b.sender.partial (is_blind b ack.by) partial) are.1.1
-    ∙ one_left b ack partial are.0 are.1.0
+    all_left (una_moved b ack.by ack.queued ack.moment) more (or_left b.sender.partial (is_blind b ack.by) partial) are.2
+    ∙ one_left b ack partial are.0 are.1
 
 kept_unless : (recovers lost : Bool) (old : Option ℤ) → lost ≡ false → (if recovers && lost then None else old) ≡ old
 kept_unless true true old p = let no = p in absurd (cc)

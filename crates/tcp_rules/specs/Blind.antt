@@ -1,5 +1,5 @@
 -- Blind acknowledgements in a row: none of them says what else of a recovery is lost (RFC 6582, 3.2, step 3).
-use Rattle.std.specs.Prelude.{◌≡◌, ℕ, ◌-◌, ◌==◌, ◌×◌, ℤ, true, false, List, [], ◌∷◌}
+use Rattle.std.specs.Prelude.{◌≡◌, ℕ, ◌-◌, ◌==◌, ℤ, true, false, List, [], ◌∷◌}
 use Rattle.tcp_model.specs.Acknowledged.{is_blind, una_moved}
 use Rattle.tcp_model.specs.declared.block.Block.{Block}
 

@@ -1,0 +1,253 @@
+-- Where the own SYN is acknowledged, nothing is queued and an acknowledgement is due, it goes alone; and when no rule ends a connection
+-- that opens.
+use Rattle.std.proofs.Common.{◌≡◌, ◌⊎◌, inl, inr, ℕ, ◌+◌, ◌%◌, ◌^◌, ◌<◌, ◌≤◌, ◌==◌, ◌&&◌, ◌||◌, not, ℤ, Bool, true, false, if◌then◌else◌, List, []}
+use Rattle.std.proofs.Common.{◌∷◌, length, Option, Some, None, is_some, refl, sym, ap, ◌∙◌, subst, arith}
+use Rattle.net_base.specs.Ring.{Ring}
+use Rattle.ip_wire.specs.Control.{control_len}
+use Rattle.ip_wire.specs.SeqNumber.{SeqNumber}
+use Rattle.ip_wire.specs.Tcp.{header_len}
+use Rattle.ip_wire.specs.TcpHeader.{TcpHeader}
+use Rattle.tcp_tie.specs.Context.{ContextValue}
+use Rattle.tcp_tie.specs.Offers.{Offered}
+use Rattle.tcp_rules.specs.Acks.{IsDueBy, OffersAck}
+use Rattle.tcp_rules.specs.EndpointPair.{EndpointPair}
+use Rattle.tcp_rules.specs.Endpoints.{header_for}
+use Rattle.tcp_rules.specs.Ends.{GoesOn}
+use Rattle.tcp_rules.specs.Moments.{is_due}
+use Rattle.tcp_rules.specs.OfferKind.{OfferKind}
+use Rattle.tcp_rules.specs.OfferKind.TheVariants as Kind
+use Rattle.tcp_rules.specs.OpenOffer.{OpenOffer}
+use Rattle.tcp_rules.specs.State.{State}
+use Rattle.tcp_rules.specs.State.TheVariants as In
+use Rattle.tcp_rules.specs.States.{is_answering, is_closed, is_opening, is_time_wait, keeps_alive, owes_fin, sends_syn, sends_text}
+use Rattle.tcp_rules.specs.Timing.{carries}
+use Rattle.tcp_model.specs.Timeout.{end_by, waits_for_remote}
+use Rattle.tcp_pair_model.specs.Block.{Block}
+use Rattle.tcp_pair_model.specs.Blocks.{one_if, unacked}
+use Rattle.tcp_pair_model.specs.LossRecovery.{loss_probed}
+use Rattle.tcp_pair_model.specs.Offers.{offer_of, offer_ack, offer_choice, payload_of}
+use Rattle.tcp_pair_model.specs.Probing.{is_window_small, probe_moment}
+use Rattle.tcp_pair_model.specs.Retries.{reaches, retries_of}
+use Rattle.tcp_pair_model.specs.Rules.{Choice, ack_moment, backed_off_now, keep_alive_moment, owes_syn, probe_choice, resend_choice, text_choice}
+use Rattle.tcp_pair_model.specs.Segments.{ack_segment, hops_of, segment_len}
+use Rattle.tcp_pair_model.specs.Settled.{settled}
+use Rattle.tcp_pair_model.specs.Value.{TcpValue, with_block, unoffered, queued_in, window_of}
+use Rattle.tcp_rules.proofs.AckRules.{goes_when_due}
+use Rattle.tcp_rules.proofs.OfferCases.{FirstRules, by_rules, begun, probing}
+use Rattle.tcp_rules.proofs.OrderSteps.{clash}
+use Rattle.tcp_progress.specs.Exchange.{text_of}
+use Rattle.tcp_progress.proofs.Again.{again_at_una}
+use Rattle.tcp_progress.proofs.Offered.{GoesOut, goes_out_of}
+use Rattle.tcp_progress.proofs.Shakes.{IsPlain}
+
+not_second : (a b : Bool) → b ≡ false → (a && b) ≡ false
+not_second true b e = e
+not_second false b e = refl
+
+neither : (a b : Bool) → a ≡ false → b ≡ false → (a || b) ≡ false
+neither a b e f = ap (λ (t : Bool). t || b) e ∙ f
+
+-- NO RULE ENDS IT
+
+module _ (cx : ContextValue) (v : TcpValue) (timeout : v.block.settings.timeout ≡ None) where
+  in_time : (state : State) → v.block.state ≡ state → is_due cx.moment (if is_some v.block.settings.timeout && (not (is_closed v.block.state
+      || is_time_wait v.block.state) && waits_for_remote v.block (queued_in v)) then end_by v.block.timers.timeout_since v.block.settings.timeout else None) ≡ false
+  in_time state at =
+      ap (λ (t : Option ℕ). is_due cx.moment (if is_some t && (not (is_closed v.block.state || is_time_wait v.block.state)
+      && waits_for_remote v.block (queued_in v)) then end_by v.block.timers.timeout_since t else None)) timeout
+
+  -- in SYN-RECEIVED, before the first timeout
+  pub answering_goes_on : v.block.state ≡ In.SynReceived → reaches v.block.settings.opening_retries 1 ≡ false → v.block.sender.timeouts ≡ 0 → GoesOn cx v
+  answering_goes_on at tries none = record {
+    lasts = ap (λ (state : State). is_due cx.moment (if is_time_wait state then v.block.timers.time_wait_ends else None)) at;
+    in_time = in_time In.SynReceived at;
+    alive = ap is_closed at;
+    tries =
+        neither (is_due cx.moment v.block.timers.retransmit_at && reaches (retries_of v.block) (v.block.sender.timeouts + 1)) _
+        (not_second (is_due cx.moment v.block.timers.retransmit_at) (reaches (retries_of v.block) (v.block.sender.timeouts + 1))
+        (ap (λ (n : ℕ). reaches (retries_of v.block) (n + 1)) none
+        ∙ (ap (λ (state : State). reaches (if is_opening state || is_answering state then v.block.settings.opening_retries else v.block.settings.retries) 1) at
+        ∙ tries)))
+        (ap (λ (t : Bool). t && (is_due cx.moment v.block.timers.counts_from && reaches v.block.settings.retries v.block.sender.unanswered))
+        (ap (λ (state : State). is_due cx.moment (if sends_text state && (is_window_small v.block (queued_in v)
+        && (v.block.sender.in_flight == 0)) then v.block.timers.probe_at else None)
+        || is_due cx.moment (if keeps_alive state && (v.block.sender.in_flight == 0) then v.block.settings.keep_alive_at else None)) at));
+  }
+
+  -- in ESTABLISHED, where nothing is unanswered and no timer runs
+  pub open_goes_on :
+      v.block.state ≡ In.Established → v.block.timers.retransmit_at ≡ None → reaches v.block.settings.retries 0 ≡ false
+      → v.block.sender.unanswered ≡ 0 → GoesOn cx v
+  open_goes_on at timer tries none = record {
+    lasts = ap (λ (state : State). is_due cx.moment (if is_time_wait state then v.block.timers.time_wait_ends else None)) at;
+    in_time = in_time In.Established at;
+    alive = ap is_closed at;
+    tries =
+        neither (is_due cx.moment v.block.timers.retransmit_at && reaches (retries_of v.block) (v.block.sender.timeouts + 1)) _
+        (ap (λ (t : Option ℤ). is_due cx.moment t && reaches (retries_of v.block) (v.block.sender.timeouts + 1)) timer)
+        (not_second (is_due cx.moment (probe_moment v.block (queued_in v)) || is_due cx.moment (keep_alive_moment v.block)) _
+        (not_second (is_due cx.moment v.block.timers.counts_from) (reaches v.block.settings.retries v.block.sender.unanswered)
+        (ap (reaches v.block.settings.retries) none ∙ tries)));
+  }
+
+-- THE ACKNOWLEDGEMENT
+
+pub record AckGoes (v : TcpValue) (o : Offered TcpValue) : Type 0 where
+  pub k : OpenOffer
+  pub offered : o.socket.offered ≡ Some k
+  pub number : k.segment.seq_number ≡ v.block.sender.una
+  pub acknowledges : k.segment.ack_number ≡ Some v.block.receiver.next
+  pub plain : IsPlain k.segment
+  pub bare : payload_of k k.kind o.socket.queued.queue ≡ []
+  pub state : (settled true o.socket).block.state ≡ v.block.state
+  pub una : (settled true o.socket).block.sender.una ≡ v.block.sender.una
+  pub next : (settled true o.socket).block.receiver.next ≡ v.block.receiver.next
+
+abbrev carries_in : Option OpenOffer → Bool
+carries_in None = true
+carries_in (Some o) = carries o.kind
+
+number_is : (a b : SeqNumber) → a.0 ≡ b.0 → a ≡ b
+number_is a b e = ap (λ (n : ℕ). same n) e where
+  same : ℕ → SeqNumber
+  same n = record { 0 = n }
+
+at_una : (una top old : ℕ) → una ≡ old → old < 2 ^ 32 → top ≡ 0 → (una + top) % 2 ^ 32 ≡ old
+at_una una top old e f g = omega arith
+
+-- what the rules of an acknowledgement read of a block
+record Alike (cx : ContextValue) (old b : Block) : Type 0 where
+  state : b.state ≡ old.state
+  una : b.sender.una ≡ old.sender.una
+  syn_unacked : b.sender.syn_unacked ≡ old.sender.syn_unacked
+  top : b.sender.top ≡ old.sender.top
+  next : b.receiver.next ≡ old.receiver.next
+  due : is_due cx.moment (ack_moment b) ≡ true
+
+module _ (cx : ContextValue) (v : TcpValue) (own : EndpointPair) (named : v.block.names.pair ≡ Some own) (on : GoesOn cx v)
+    (at : v.block.state ≡ In.Established) (syn : v.block.sender.syn_unacked ≡ false) (none : v.block.sender.in_flight ≡ 0) (top : v.block.sender.top ≡ 0)
+    (queue : v.queued.queue ≡ []) (took : v.block.receiver.took_syn ≡ true) (due : IsDueBy cx.moment v.block) (small : v.block.sender.una.0 < 2 ^ 32) where
+  abbrev Either : Offered TcpValue → Type 0
+  Either o = ((k : OpenOffer) → o.socket.offered ≡ Some k → carries k.kind ≡ true) ⊎ AckGoes v o
+
+  no_pair : (pair : EndpointPair) → None ≡ Some pair → ⊥
+  no_pair pair e = absurd (cc)
+
+  by_choice : (kind : OfferKind) (x : TcpValue) (pair : EndpointPair) (c : Choice) → carries kind ≡ true → Either (offer_choice kind cx x pair c)
+  by_choice kind x pair c it = inl (λ k e. sym (ap carries_in e) ∙ it)
+
+  no_syn_due : (b : Block) → b.sender.syn_unacked ≡ v.block.sender.syn_unacked → owes_syn b ≡ false
+  no_syn_due b same =
+      not_second (sends_syn b.state && not (is_answering b.state && b.settings.synack_paused)) (b.sender.syn_unacked && (b.sender.in_flight == 0))
+      (ap (λ (t : Bool). t && (b.sender.in_flight == 0)) (same ∙ syn))
+
+  ack_goes : (pair : EndpointPair) (b : Block) → Alike cx v.block b → AckGoes v (offer_ack Kind.Ack cx (with_block (unoffered v) b) pair)
+  ack_goes pair b same = record {
+    k =
+        record {
+          kind = Kind.Ack;
+          moment = cx.moment;
+          header = header_for pair.addresses (hops_of b.settings.hop_limit) (header_len header + 0);
+          segment = header;
+          place = 0;
+          len = 0;
+        };
+    offered = refl;
+    number = number_is header.seq_number v.block.sender.una
+        (at_una b.sender.una.0 b.sender.top v.block.sender.una.0 (ap (λ (n : SeqNumber). n.0) same.una) small (same.top ∙ top));
+    acknowledges = ap Some same.next;
+    plain = record { no_reset = refl; none = refl };
+    bare = refl;
+    state = same.state;
+    una = same.una;
+    next = same.next;
+  }
+    where
+      header : TcpHeader
+      header = ack_segment b pair cx.moment (window_of (with_block (unoffered v) b))
+
+  first : (pair : EndpointPair) (b : Block) → Alike cx v.block b → FirstRules cx pair Either (with_block (unoffered v) b)
+  first pair b same = record {
+    syn = λ owes. clash (sym owes ∙ no_syn_due b same.syn_unacked);
+    again = λ _ _. by_choice Kind.FastRetransmission w pair (resend_choice b pair.addresses cx.ip_mtu v.queued) refl;
+    text = λ _ _. by_choice Kind.Text w pair (text_choice b pair.addresses cx.ip_mtu v.queued) refl;
+    last = λ _.
+        record {
+          probe = λ _ _. by_choice Kind.Probe x pair probe_choice refl;
+          held_back = λ _ _. by_choice Kind.Text x pair (text_choice x.block pair.addresses cx.ip_mtu v.queued) refl;
+          ack = λ _.
+              inr
+              (ack_goes pair x.block
+              (record { state = same.state; una = same.una; syn_unacked = same.syn_unacked; top = same.top; next = same.next; due = same.due }));
+          update = λ not _. clash (sym same.due ∙ not);
+          keep_alive = λ not _. clash (sym same.due ∙ not);
+          quiet = λ not. clash (sym same.due ∙ not);
+        };
+  }
+    where
+      w : TcpValue
+      w = with_block (unoffered v) b
+
+      x : TcpValue
+      x = probing cx w
+
+  is_due_now : is_due cx.moment (ack_moment v.block) ≡ true
+  is_due_now = ap (λ (t : Bool). is_due cx.moment (if t then v.block.timers.ack_at else None)) took ∙ due
+
+  either : Either (offer_of cx v)
+  either =
+      by_rules cx v Either
+      (record {
+        nobody = λ unnamed. absurd (no_pair own (sym unnamed ∙ named));
+        time_wait = λ it. clash (sym it ∙ on.lasts);
+        timeout = λ it. clash (sym it ∙ on.in_time);
+        closed = λ it. clash (sym it ∙ on.alive);
+        reset = λ pair it _. clash (sym it ∙ on.alive);
+        falls = λ _ it _. clash (sym it ∙ on.tries);
+        over = λ _ it _. clash (sym it ∙ on.tries);
+        backs = λ pair _ _ _.
+            first pair (backed_off_now (begun cx v))
+            (record { state = refl; una = refl; syn_unacked = refl; top = refl; next = refl; due = is_due_now });
+        probes = λ pair _ _ _ _.
+            first pair (loss_probed (begun cx v)) (record { state = refl; una = refl; syn_unacked = refl; top = refl; next = refl; due = is_due_now });
+        goes = λ pair _ _ _.
+            first pair (begun cx v) (record { state = refl; una = refl; syn_unacked = refl; top = refl; next = refl; due = is_due_now });
+      })
+
+  nothing_left : unacked v.block (queued_in v) ≡ 0
+  nothing_left =
+      ap (λ (t : Bool). one_if t + queued_in v + one_if (owes_fin v.block.state)) syn
+      ∙ (ap (λ (xs : List ℕ). 0 + length xs + one_if (owes_fin v.block.state)) queue ∙ ap (λ (state : State). 0 + 0 + one_if (owes_fin state)) at)
+
+  none_of : (xs : List ℕ) (more : ℕ) → length xs + more ≤ 0 → xs ≡ []
+  none_of [] more e = refl
+  none_of (x ∷ xs) more e = absurd (omega arith)
+
+  nor_more : (len more : ℕ) → len + more ≤ 0 → more ≡ 0
+  nor_more len more e = omega arith
+
+  pub ack_goes_out : AckGoes v (offer_of cx v)
+  ack_goes_out = by either where
+    it : OffersAck (offer_of cx v).socket v.block
+    it = goes_when_due cx v own named took on due
+
+    by : Either (offer_of cx v) → AckGoes v (offer_of cx v)
+    by (inr a) = a
+    by (inl every) =
+        let k = it.offer in
+        let carried = every k it.offered in
+        let out : GoesOut v (offer_of cx v).socket k = goes_out_of cx v k syn it.offered carried in
+        let less : segment_len k.segment (length (text_of v k)) ≤ 0 =
+        subst (λ (n : ℕ). segment_len k.segment (length (text_of v k)) ≤ n) nothing_left out.ends in
+        record {
+          k = k;
+          offered = it.offered;
+          number = number_is k.segment.seq_number v.block.sender.una (again_at_una cx v k small syn (inl none) it.offered carried);
+          acknowledges = out.acknowledges;
+          plain = record { no_reset = out.no_reset; none = nor_more (length (text_of v k)) (control_len k.segment.control) less };
+          bare =
+              ap (λ (queued : Ring ℕ). payload_of k k.kind queued.queue) out.queued ∙ none_of (text_of v k) (control_len k.segment.control) less;
+          state = out.sent.state;
+          una = out.sent.una;
+          next = out.sent.next;
+        }

@@ -1,0 +1,311 @@
+-- The segments of a handshake that come: LISTEN takes a SYN, SYN-SENT its answer, and SYN-RECEIVED the acknowledgement of that.
+use Rattle.std.proofs.Common.{◌≡◌, ℕ, ◌+◌, ◌-◌, ◌%◌, ◌^◌, ◌<◌, ◌≤◌, ◌==◌, ◌&&◌, ◌||◌, nat_lt, not, ℤ, Bool, true, false, if◌then◌else◌, List, []}
+use Rattle.std.proofs.Common.{length, drop, Option, Some, None, is_some, refl, sym, ap, ◌∙◌, subst, arith, length-drop}
+use Rattle.std.proofs.lemmas.Bool.{cond_both, eq-eqb}
+use Rattle.ip_wire.specs.Control.{control_len}
+use Rattle.ip_wire.specs.IpRepr.{IpRepr}
+use Rattle.ip_wire.specs.Seq.{distance_of}
+use Rattle.ip_wire.specs.SeqNumber.{SeqNumber}
+use Rattle.ip_wire.specs.TcpControl.{TcpControl}
+use Rattle.ip_wire.specs.TcpControl.TheVariants as Control
+use Rattle.ip_wire.specs.TcpHeader.{TcpHeader}
+use Rattle.tcp_tie.specs.Context.{ContextValue}
+use Rattle.tcp_rules.specs.Controls.{is_syn, is_fin, is_rst, is_zero}
+use Rattle.tcp_rules.specs.Endpoints.{pair_in}
+use Rattle.tcp_rules.specs.Offsets.{past_by, before_by, behind_by, meets_window}
+use Rattle.tcp_rules.specs.State.{State}
+use Rattle.tcp_rules.specs.State.TheVariants as In
+use Rattle.tcp_rules.specs.States.{is_answering, is_closed, owes_fin, after_ack, after_ack_of_fin, takes_text}
+use Rattle.tcp_model.specs.Opening.{acks_syn, answering, connected, crossed, is_first_syn, syn_answered}
+use Rattle.tcp_model.specs.Timeout.{timeout_restarted}
+use Rattle.tcp_pair_model.specs.Acknowledged.{counted, duplicates_after, names_window, ranges_taken, windowed, state_after_ack}
+use Rattle.tcp_pair_model.specs.Answers.{drawn, answer_for}
+use Rattle.tcp_pair_model.specs.Arrival.{arrives, arrives_in, challenges_syn, checked, continued, draws_first, echo_heard, finished, inside, is_void_syn, passed_outside}
+use Rattle.tcp_pair_model.specs.Arrival.{received, reset_comes, taken, told, with_content}
+use Rattle.tcp_pair_model.specs.Block.{Block}
+use Rattle.tcp_pair_model.specs.Blocks.{unacked}
+use Rattle.tcp_pair_model.specs.Checks.{Check, acknowledgement_check, opening_check, synchronized_check, is_in_window}
+use Rattle.tcp_pair_model.specs.Checks.Check.{Passes, Resets}
+use Rattle.tcp_pair_model.specs.FirstNumbers.{first_number, draws_number}
+use Rattle.tcp_pair_model.specs.Probing.{probe_kept}
+use Rattle.tcp_pair_model.specs.Segments.{rst_reply, segment_len}
+use Rattle.tcp_pair_model.specs.Text.{Texted, texted, with_text, with_bytes_at, has_new_text, with_fin, takes_fin, fin_taken}
+use Rattle.tcp_pair_model.specs.Timestamps.{believed, is_outdated, stamp_taken, uses_stamps}
+use Rattle.tcp_pair_model.specs.Value.{TcpValue, Arrived, with_block, answered_with, dropped, unoffered, ended, queued_in, free_in}
+use Rattle.tcp_tie.proofs.Tied.{if_so, if_not}
+use Rattle.tcp_rules.proofs.ArrivalCases.{acked_cases, acked_open}
+use Rattle.tcp_rules.proofs.OrderSteps.{clash}
+use Rattle.tcp_progress.proofs.Taken.{Begins, begins}
+
+and_not : (a b : Bool) → a ≡ false → (a && b) ≡ false
+and_not a b e = ap (λ (t : Bool). t && b) e
+
+not_second : (a b : Bool) → b ≡ false → (a && b) ≡ false
+not_second true b e = e
+not_second false b e = refl
+
+-- LISTEN
+
+pub record Answering (w : TcpValue) (ip : IpRepr) (header : TcpHeader) (a : Arrived) : Type 0 where
+  pub state : a.socket.block.state ≡ In.SynReceived
+  pub named : a.socket.block.names.pair ≡ Some (pair_in ip header)
+  pub syn_unacked : a.socket.block.sender.syn_unacked ≡ true
+  pub in_flight : a.socket.block.sender.in_flight ≡ 0
+  pub top : a.socket.block.sender.top ≡ 0
+  pub timeouts : a.socket.block.sender.timeouts ≡ 0
+  pub next : a.socket.block.receiver.next ≡ behind_by header.seq_number 1
+  pub took_syn : a.socket.block.receiver.took_syn ≡ true
+  pub timeout : a.socket.block.settings.timeout ≡ w.block.settings.timeout
+  pub paused : a.socket.block.settings.synack_paused ≡ w.block.settings.synack_paused
+  pub stamps : a.socket.block.settings.timestamps ≡ w.block.settings.timestamps
+  pub retries : a.socket.block.settings.opening_retries ≡ w.block.settings.opening_retries
+
+pub listener_takes :
+    (cx : ContextValue) (w : TcpValue) (ip : IpRepr) (header : TcpHeader) (bytes : List ℕ) → w.block.state ≡ In.Listen → header.control ≡ Control.Syn
+    → header.ack_number ≡ None → is_zero header.options.max_seg_size ≡ false → Answering w ip header (arrives cx w ip header bytes)
+listener_takes cx w ip header bytes at syn none named =
+    subst (Answering w ip header) (sym path)
+    (record {
+      state = refl;
+      named = refl;
+      syn_unacked = refl;
+      in_flight = refl;
+      top = refl;
+      timeouts = refl;
+      next = refl;
+      took_syn = refl;
+      timeout = refl;
+      paused = refl;
+      stamps = refl;
+      retries = refl;
+    })
+  where
+    u : TcpValue
+    u = unoffered w
+
+    it : Arrived
+    it = record {
+      socket = with_block u (timeout_restarted (believed (answering u.block ip header (first_number cx (pair_in ip header))) cx.moment) cx.moment 0);
+      answer = None;
+      draws = draws_number cx;
+    }
+
+    first : is_first_syn header ≡ true
+    first =
+        ap (λ (control : TcpControl). is_syn control && not (is_some header.ack_number)) syn
+        ∙ ap (λ (number : Option SeqNumber). not (is_some number)) none
+
+    path : arrives cx w ip header bytes ≡ it
+    path =
+        if_not (is_void_syn header) (dropped u) (arrives_in w.block.state cx u ip header bytes)
+        (not_second (is_syn header.control) (is_zero header.options.max_seg_size) named)
+        ∙ (ap (λ (state : State). arrives_in state cx u ip header bytes) at ∙ if_so (is_first_syn header) it (dropped u) first)
+
+-- SYN-SENT
+
+pub record Connecting (v : TcpValue) (header : TcpHeader) (now : ℤ) (a : Arrived) : Type 0 where
+  pub state : a.socket.block.state ≡ In.Established
+  pub named : a.socket.block.names.pair ≡ v.block.names.pair
+  pub una : a.socket.block.sender.una ≡ behind_by v.block.sender.una 1
+  pub syn_unacked : a.socket.block.sender.syn_unacked ≡ false
+  pub in_flight : a.socket.block.sender.in_flight ≡ v.block.sender.in_flight - 1
+  pub top : a.socket.block.sender.top ≡ v.block.sender.top - 1
+  pub unanswered : a.socket.block.sender.unanswered ≡ 0
+  pub timer : v.block.sender.in_flight ≤ 1 → a.socket.block.timers.retransmit_at ≡ None
+  pub next : a.socket.block.receiver.next ≡ behind_by header.seq_number 1
+  pub took_syn : a.socket.block.receiver.took_syn ≡ true
+  pub due : a.socket.block.timers.ack_at ≡ Some now
+  pub timeout : a.socket.block.settings.timeout ≡ v.block.settings.timeout
+  pub retries : a.socket.block.settings.retries ≡ v.block.settings.retries
+  pub queued : a.socket.queued ≡ v.queued
+
+pub caller_takes :
+    (cx : ContextValue) (v : TcpValue) (ip : IpRepr) (header : TcpHeader) (bytes : List ℕ) (number : SeqNumber) → v.block.state ≡ In.SynSent
+    → header.control ≡ Control.Syn → header.ack_number ≡ Some number → distance_of v.block.sender.una number ≡ 1
+    → is_zero header.options.max_seg_size ≡ false → Connecting v header cx.moment (arrives cx v ip header bytes)
+caller_takes cx v ip header bytes number at syn acknowledges one named =
+    subst (Connecting v header cx.moment) (sym path)
+    (record {
+      state = refl;
+      named = refl;
+      una = refl;
+      syn_unacked = and_false v.block.sender.syn_unacked;
+      in_flight = refl;
+      top = refl;
+      unanswered = refl;
+      timer = λ few. if_so (v.block.sender.in_flight - 1 == 0) None _ (eq-eqb (v.block.sender.in_flight - 1) 0 (none_left v.block.sender.in_flight few));
+      next = refl;
+      took_syn = refl;
+      due = refl;
+      timeout = refl;
+      retries = refl;
+      queued = refl;
+    })
+  where
+    and_false : (t : Bool) → (t && false) ≡ false
+    and_false true = refl
+    and_false false = refl
+
+    none_left : (n : ℕ) → n ≤ 1 → n - 1 ≡ 0
+    none_left n e = omega arith
+
+    u : TcpValue
+    u = unoffered v
+
+    with_it : Block → Arrived
+    with_it b = dropped (with_block u (timeout_restarted (believed b cx.moment) cx.moment (queued_in u)))
+
+    some : is_some header.ack_number ≡ true
+    some = ap (λ (n : Option SeqNumber). is_some n) acknowledges
+
+    right : (is_some header.ack_number && not (acks_syn v.block.sender.una header.ack_number)) ≡ false
+    right =
+        ap (λ (n : Option SeqNumber). is_some n && not (acks_syn v.block.sender.una n)) acknowledges
+        ∙ ap (λ (t : Bool). not t) (eq-eqb (distance_of v.block.sender.una number) 1 one)
+
+    path : arrives cx v ip header bytes ≡ with_it (connected u.block header cx.moment)
+    path =
+        if_not (is_void_syn header) (dropped u) (arrives_in v.block.state cx u ip header bytes)
+        (not_second (is_syn header.control) (is_zero header.options.max_seg_size) named)
+        ∙ (ap (λ (state : State). arrives_in state cx u ip header bytes) at
+        ∙ (if_not (is_rst header.control) (if acks_syn v.block.sender.una header.ack_number then dropped (ended u) else dropped u)
+        (if is_some header.ack_number && not (acks_syn v.block.sender.una header.ack_number) then answered_with u (rst_reply ip header (length bytes))
+        else if is_syn header.control then with_it (if is_some header.ack_number then connected u.block header cx.moment else crossed u.block header)
+        else dropped u)
+        (ap is_rst syn)
+        ∙ (if_not (is_some header.ack_number && not (acks_syn v.block.sender.una header.ack_number)) (answered_with u (rst_reply ip header (length bytes)))
+        (if is_syn header.control then with_it (if is_some header.ack_number then connected u.block header cx.moment else crossed u.block header)
+        else dropped u) right
+        ∙ (if_so (is_syn header.control) (with_it (if is_some header.ack_number then connected u.block header cx.moment else crossed u.block header))
+        (dropped u) (ap is_syn syn)
+        ∙ ap with_it (if_so (is_some header.ack_number) (connected u.block header cx.moment) (crossed u.block header) some)))))
+
+-- NO TEXT AND NO FIN
+
+no_bytes : (n : ℕ) (xs : List ℕ) → length xs ≡ 0 → (length (drop n xs) == 0) ≡ true
+no_bytes n xs e = eq-eqb (length (drop n xs)) 0 (none (length (drop n xs)) (length xs) (length-drop n xs) e) where
+  none : (len all : ℕ) → len ≡ all - n → all ≡ 0 → len ≡ 0
+  none len all e f = omega arith
+
+module _ (cx : ContextValue) (x : TcpValue) (ip : IpRepr) (header : TcpHeader) (no_fin : is_fin header.control ≡ false) where
+  plain : with_content cx x ip header [] ≡ answer_for cx (with_block x (probe_kept x.block (queued_in x))) ip header 0 false None
+  plain =
+      ap (λ (t : Texted). finished cx x.block t ip header 0)
+      (if_not (takes_text x.block.state && has_new_text x place rest) (with_bytes_at x place rest) (texted x 0 false None)
+      (not_second (takes_text x.block.state) (has_new_text x place rest)
+      (ap (λ (t : Bool). not t && nat_lt place (free_in x)) (no_bytes (before_by x.block.receiver.next header.seq_number) [] refl))))
+      ∙ ap (λ (b : Block). answer_for cx (with_block x (probe_kept b (queued_in x))) ip header 0 false None)
+      (if_not (takes_fin x.block header 0 0) (fin_taken x.block cx.moment) x.block (and_not (is_fin header.control) _ no_fin))
+    where
+      place : ℕ
+      place = past_by x.block.receiver.next header.seq_number
+
+      rest : List ℕ
+      rest = drop (before_by x.block.receiver.next header.seq_number) []
+
+-- SYN-RECEIVED
+
+pub record Opens (w : TcpValue) (a : Arrived) : Type 0 where
+  pub state : a.socket.block.state ≡ In.Established
+  pub una : a.socket.block.sender.una ≡ behind_by w.block.sender.una 1
+  pub next : a.socket.block.receiver.next ≡ w.block.receiver.next
+
+-- a bare acknowledgement
+pub record IsPlain (header : TcpHeader) : Type 0 where
+  pub no_reset : is_rst header.control ≡ false
+  pub none : control_len header.control ≡ 0
+
+without : (control : TcpControl) → control_len control ≡ 0 → (is_syn control ≡ false) × (is_fin control ≡ false)
+without Control.None e = (refl, refl)
+without Control.Psh e = (refl, refl)
+without Control.Syn e = absurd (omega (arith, e))
+without Control.Fin e = absurd (omega (arith, e))
+without Control.Rst e = (refl, refl)
+
+at_itself : (n : ℕ) → n < 2 ^ 32 → (n + (2 ^ 32 - n)) % 2 ^ 32 ≡ 0
+at_itself n e = omega arith
+
+at_first : (n : ℕ) → n < 2 ^ 32 → (n + (2 ^ 32 - n)) % 2 ^ 32 < 2 ^ 31
+at_first n e = omega arith
+
+module _ (cx : ContextValue) (w : TcpValue) (ip : IpRepr) (header : TcpHeader) (number : SeqNumber) (at : w.block.state ≡ In.SynReceived)
+    (p : IsPlain header) (begins_at : header.seq_number ≡ w.block.receiver.next) (small : w.block.receiver.next.0 < 2 ^ 32)
+    (acknowledges : header.ack_number ≡ Some number) (one : distance_of w.block.sender.una number ≡ 1) (stampless : uses_stamps w.block ≡ false) where
+  abbrev u : TcpValue
+  u = unoffered w
+
+  no_syn : is_syn header.control ≡ false
+  no_syn = (without header.control p.none).0
+
+  passes : acknowledgement_check w.block header.ack_number ≡ Passes 1
+  passes =
+      ap (acknowledgement_check w.block) acknowledges
+      ∙ (if_so (is_answering w.block.state) (opening_check (distance_of w.block.sender.una number))
+      (synchronized_check w.block (past_by w.block.sender.una number) (before_by w.block.sender.una number)) (ap is_answering at)
+      ∙ if_so (distance_of w.block.sender.una number == 1) (Passes 1) Resets (eq-eqb (distance_of w.block.sender.una number) 1 one))
+
+  there : is_in_window w.block (free_in w) header 0 ≡ true
+  there =
+      ap (λ (d : ℕ). meets_window d (past_by w.block.receiver.next header.seq_number) (segment_len header 0) (free_in w)) (it.before ∙ none)
+      ∙ (ap (λ (d : ℕ). meets_window 0 d (segment_len header 0) (free_in w)) it.past
+      ∙ ap (λ (size : ℕ). meets_window 0 0 (0 + size) (free_in w)) p.none)
+    where
+      near : distance_of header.seq_number w.block.receiver.next < 2 ^ 31
+      near = subst (λ (n : SeqNumber). distance_of n w.block.receiver.next < 2 ^ 31) (sym begins_at) (at_first w.block.receiver.next.0 small)
+
+      none : distance_of header.seq_number w.block.receiver.next ≡ 0
+      none = subst (λ (n : SeqNumber). distance_of n w.block.receiver.next ≡ 0) (sym begins_at) (at_itself w.block.receiver.next.0 small)
+
+      it : Begins w.block.receiver.next header.seq_number
+      it =
+          begins w.block.receiver.next header.seq_number (subst (λ (n : SeqNumber). n.0 < 2 ^ 32) (sym begins_at) small) small near
+
+  neither : (a b c d : Bool) → a ≡ false → c ≡ false → ((a && b) || (c && d)) ≡ false
+  neither a b c d e f = ap (λ (t : Bool). (t && b) || (c && d)) e ∙ ap (λ (t : Bool). t && d) f
+
+  path : arrives cx w ip header [] ≡ taken cx u ip header [] 1
+  path =
+      if_not (is_void_syn header) (dropped u) (arrives_in w.block.state cx u ip header [])
+      (and_not (is_syn header.control) (is_zero header.options.max_seg_size) no_syn)
+      ∙ (ap (λ (state : State). arrives_in state cx u ip header []) at
+      ∙ (if_not (is_rst header.control) (reset_comes cx u ip header 0)
+      (if draws_first w.block header cx.moment then drawn cx u ip header else checked (acknowledgement_check w.block header.ack_number) cx u ip header [])
+      p.no_reset
+      ∙ (if_not (draws_first w.block header cx.moment) (drawn cx u ip header) (checked (acknowledgement_check w.block header.ack_number) cx u ip header [])
+      (neither (uses_stamps w.block) (is_outdated w.block header cx.moment) (is_syn header.control) (not (is_answering w.block.state)) stampless no_syn)
+      ∙ (ap (λ (check : Check). checked check cx u ip header []) passes
+      ∙ (if_so (is_in_window w.block (free_in w) header 0) (inside cx u ip header [] 1) (passed_outside cx u ip header 0 1) there
+      ∙ if_not (is_syn header.control) (drawn cx u ip header) (taken cx u ip header [] 1) no_syn)))))
+
+  abbrev heard_of : TcpValue
+  heard_of = echo_heard u header 1 cx.moment
+
+  opened : state_after_ack heard_of.block 1 (queued_in heard_of) ≡ In.Established
+  opened =
+      ap (λ (state : State). if owes_fin state && (1 == unacked heard_of.block (queued_in heard_of)) then after_ack_of_fin state else after_ack state) at
+
+  by_told : (x : TcpValue) → x.block.state ≡ In.Established → x.block.sender.una ≡ behind_by w.block.sender.una 1
+      → x.block.receiver.next ≡ w.block.receiver.next → (duplicates : ℕ) → Opens w (with_content cx (told x header duplicates cx.moment) ip header [])
+  by_told x state una next duplicates =
+      subst (Opens w) (sym (plain cx (told x header duplicates cx.moment) ip header (without header.control p.none).1))
+      (cond_both (names_window x.block header) (windowed x.block header) x.block
+      (λ (b : Block). Opens w (answer_for cx (kept_by (with_block x (told_by b))) ip header 0 false None))
+      (λ _. record { state = state; una = una; next = next })
+      (λ _. record { state = state; una = una; next = next }))
+    where
+      told_by : Block → Block
+      told_by b = timeout_restarted (counted (ranges_taken (stamp_taken b header cx.moment) header cx.moment) duplicates) cx.moment (queued_in x)
+
+      kept_by : TcpValue → TcpValue
+      kept_by y = with_block y (probe_kept y.block (queued_in y))
+
+  pub opens : Opens w (arrives cx w ip header [])
+  opens =
+      subst (Opens w) (sym path)
+      (acked_cases heard_of 1 cx.moment (λ (x : TcpValue). Opens w (continued cx u.block x ip header [] 1))
+      (λ closed. clash (sym closed ∙ ap is_closed opened))
+      (λ alive.
+      let x = acked_open heard_of 1 cx.moment in
+      subst (Opens w)
+      (sym (if_not (is_closed x.block.state) (dropped x) (with_content cx (told x header (duplicates_after u.block header 0 1) cx.moment) ip header []) alive))
+      (by_told x opened refl refl (duplicates_after u.block header 0 1))))

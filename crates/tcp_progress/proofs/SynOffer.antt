@@ -1,0 +1,172 @@
+-- A SYN that is to go is offered, with the acknowledgement of the other's SYN if that came.
+use Rattle.std.proofs.Common.{◌≡◌, inl, inr, ℕ, ◌+◌, ◌==◌, ◌&&◌, not, ℤ, Bool, true, false, if◌then◌else◌, List, [], Option, Some, None, refl, sym, ap, ◌∙◌}
+use Rattle.std.proofs.lemmas.Bool.{eq-eqb}
+use Rattle.ip_wire.specs.SeqNumber.{SeqNumber}
+use Rattle.ip_wire.specs.Tcp.{header_len}
+use Rattle.ip_wire.specs.TcpControl.TheVariants as Control
+use Rattle.ip_wire.specs.TcpHeader.{TcpHeader}
+use Rattle.tcp_model.specs.AddressPair.{AddressPair}
+use Rattle.tcp_model.specs.AddressPair.TheVariants as Pair
+use Rattle.tcp_model.specs.declared.block.Stamps.{Stamps}
+use Rattle.tcp_tie.specs.Context.{ContextValue}
+use Rattle.tcp_tie.specs.Offers.{Offered}
+use Rattle.tcp_rules.specs.Controls.{is_zero}
+use Rattle.tcp_rules.specs.EndpointPair.{EndpointPair}
+use Rattle.tcp_rules.specs.Endpoints.{header_for, ip_header_len}
+use Rattle.tcp_rules.specs.Ends.{GoesOn}
+use Rattle.tcp_rules.specs.Moments.{is_due}
+use Rattle.tcp_rules.specs.OfferKind.TheVariants as Kind
+use Rattle.tcp_rules.specs.OpenOffer.{OpenOffer}
+use Rattle.tcp_rules.specs.State.{State}
+use Rattle.tcp_rules.specs.States.{is_answering, sends_syn}
+use Rattle.tcp_pair_model.specs.Block.{Block}
+use Rattle.tcp_pair_model.specs.LossRecovery.{loss_probed}
+use Rattle.tcp_pair_model.specs.Offers.{offer_of, offer_syn, payload_of}
+use Rattle.tcp_pair_model.specs.Rules.{owes_syn, backed_off_now}
+use Rattle.tcp_pair_model.specs.Segments.{hops_of, mss_for, next_if_heard, syn_segment}
+use Rattle.tcp_pair_model.specs.Settled.{recorded, settled}
+use Rattle.tcp_pair_model.specs.Timestamps.{stamps_begun, value_by}
+use Rattle.tcp_pair_model.specs.Value.{TcpValue, with_block, unoffered, free_in, room_of}
+use Rattle.tcp_tie.proofs.Tied.{if_so}
+use Rattle.tcp_rules.proofs.OfferCases.{FirstRules, by_rules, begun}
+use Rattle.tcp_rules.proofs.OrderSteps.{clash}
+use Rattle.tcp_progress.specs.Again.{StartsOver}
+
+-- the SYN of a socket, and the socket once it has gone
+pub record SynGoes (v : TcpValue) (o : Offered TcpValue) : Type 0 where
+  pub k : OpenOffer
+  pub offered : o.socket.offered ≡ Some k
+  pub control : k.segment.control ≡ Control.Syn
+  pub number : k.segment.seq_number ≡ v.block.sender.una
+  pub acknowledges : k.segment.ack_number ≡ next_if_heard v.block
+  pub named : is_zero k.segment.options.max_seg_size ≡ false
+  pub bare : (queue : List ℕ) → payload_of k k.kind queue ≡ []
+  pub state : (settled true o.socket).block.state ≡ v.block.state
+  pub names : (settled true o.socket).block.names ≡ v.block.names
+  pub una : (settled true o.socket).block.sender.una ≡ v.block.sender.una
+  pub syn_unacked : (settled true o.socket).block.sender.syn_unacked ≡ v.block.sender.syn_unacked
+  pub next : (settled true o.socket).block.receiver.next ≡ v.block.receiver.next
+  pub took_syn : (settled true o.socket).block.receiver.took_syn ≡ v.block.receiver.took_syn
+  pub timeout : (settled true o.socket).block.settings.timeout ≡ v.block.settings.timeout
+  pub retries : (settled true o.socket).block.settings.retries ≡ v.block.settings.retries
+  pub queued : (settled true o.socket).queued ≡ v.queued
+  -- the first SYN begins the timestamps that are set
+  pub stampless : v.block.sender.top ≡ 0 → v.block.settings.timestamps ≡ None → (settled true o.socket).block.stamps.generator ≡ None
+
+-- what the rules for a SYN read of a block
+record Alike (old b : Block) : Type 0 where
+  state : b.state ≡ old.state
+  names : b.names ≡ old.names
+  una : b.sender.una ≡ old.sender.una
+  syn_unacked : b.sender.syn_unacked ≡ old.sender.syn_unacked
+  top : b.sender.top ≡ old.sender.top
+  next : b.receiver.next ≡ old.receiver.next
+  took_syn : b.receiver.took_syn ≡ old.receiver.took_syn
+  paused : b.settings.synack_paused ≡ old.settings.synack_paused
+  stamps : b.settings.timestamps ≡ old.settings.timestamps
+  timeout : b.settings.timeout ≡ old.settings.timeout
+  retries : b.settings.retries ≡ old.settings.retries
+  none : b.sender.in_flight ≡ 0
+
+all_three : (a b c : Bool) → a ≡ true → b ≡ true → c ≡ true → (a && (b && c)) ≡ true
+all_three a b c e f g = ap (λ (t : Bool). t && (b && c)) e ∙ (ap (λ (t : Bool). t && c) f ∙ g)
+
+-- a packet of 1500 bytes has room for text, whatever its addresses
+some_text : (addresses : AddressPair) → (mss_for 1500 (ip_header_len addresses) == 0) ≡ false
+some_text (Pair.Ipv4 local remote) = refl
+some_text (Pair.Ipv6 local remote) = refl
+
+-- the first SYN begins the timestamps that are set
+begun_stamps : (b : Block) (now : ℤ) → b.sender.top ≡ 0 → b.settings.timestamps ≡ None → (stamps_begun b now).generator ≡ None
+begun_stamps b now first none =
+    ap (λ (s : Stamps). s.generator)
+    (if_so (b.sender.top == 0)
+    (record b.stamps { generator = b.settings.timestamps; first = value_by b.settings.timestamps now }) b.stamps
+    (eq-eqb b.sender.top 0 first))
+    ∙ none
+
+module _ (cx : ContextValue) (v : TcpValue) (mtu : cx.ip_mtu ≡ 1500) (on : GoesOn cx v)
+    (sends : (sends_syn v.block.state && not (is_answering v.block.state && v.block.settings.synack_paused)) ≡ true)
+    (syn : v.block.sender.syn_unacked ≡ true) (over : StartsOver cx v) where
+  no_pair : (pair : EndpointPair) → None ≡ Some pair → ⊥
+  no_pair pair e = absurd (cc)
+
+  owes : (b : Block) → Alike v.block b → owes_syn b ≡ true
+  owes b same =
+      all_three (sends_syn b.state && not (is_answering b.state && b.settings.synack_paused)) b.sender.syn_unacked (b.sender.in_flight == 0)
+      (ap (λ (state : State). sends_syn state && not (is_answering state && b.settings.synack_paused)) same.state
+      ∙ (ap (λ (paused : Bool). sends_syn v.block.state && not (is_answering v.block.state && paused)) same.paused ∙ sends))
+      (same.syn_unacked ∙ syn) (eq-eqb b.sender.in_flight 0 same.none)
+
+  abbrev mine : EndpointPair → Block → TcpHeader
+  mine pair b = syn_segment b pair cx.moment cx.ip_mtu (room_of v.received) (free_in v)
+
+  abbrev opened_by : EndpointPair → Block → OpenOffer
+  opened_by pair b = record {
+    kind = Kind.Syn;
+    moment = cx.moment;
+    header = header_for pair.addresses (hops_of b.settings.hop_limit) (header_len (mine pair b) + 0);
+    segment = mine pair b;
+    place = 0;
+    len = 0;
+  }
+
+  goes : (pair : EndpointPair) (b : Block) → Alike v.block b → SynGoes v (offer_syn cx (with_block (unoffered v) b) pair)
+  goes pair b same = record {
+    k = opened_by pair b;
+    offered = refl;
+    control = refl;
+    number = same.una;
+    acknowledges =
+        ap (λ (took : Bool). if took then Some b.receiver.next else None) same.took_syn
+        ∙ ap (λ (next : SeqNumber). if v.block.receiver.took_syn then Some next else None) same.next;
+    named = ap (λ (mtu : ℕ). mss_for mtu (ip_header_len pair.addresses) == 0) mtu ∙ some_text pair.addresses;
+    bare = λ queue. refl;
+    state = same.state;
+    names = same.names;
+    una = same.una;
+    syn_unacked = same.syn_unacked;
+    next = same.next;
+    took_syn = same.took_syn;
+    timeout = same.timeout;
+    retries = same.retries;
+    queued = refl;
+    stampless = λ first none.
+        begun_stamps (recorded b (opened_by pair b) (room_of v.received)) cx.moment (same.top ∙ first) (same.stamps ∙ none);
+  }
+
+  first : (pair : EndpointPair) (b : Block) → Alike v.block b → FirstRules cx pair (SynGoes v) (with_block (unoffered v) b)
+  first pair b same = record {
+    syn = λ _. goes pair b same;
+    again = λ not _. clash (sym (owes b same) ∙ not);
+    text = λ not _. clash (sym (owes b same) ∙ not);
+    last = λ not. clash (sym (owes b same) ∙ not);
+  }
+
+  not_due : is_due cx.moment v.block.timers.retransmit_at ≡ false → v.block.sender.in_flight ≡ 0
+  not_due not = by over where
+    by : StartsOver cx v → v.block.sender.in_flight ≡ 0
+    by (inl none) = none
+    by (inr due) = clash (sym due ∙ not)
+
+  pub syn_goes : (pair : EndpointPair) → v.block.names.pair ≡ Some pair → SynGoes v (offer_of cx v)
+  syn_goes own named =
+      by_rules cx v (SynGoes v)
+      (record {
+        nobody = λ none. absurd (no_pair own (sym none ∙ named));
+        time_wait = λ due. clash (sym due ∙ on.lasts);
+        timeout = λ due. clash (sym due ∙ on.in_time);
+        closed = λ closed. clash (sym closed ∙ on.alive);
+        reset = λ pair closed _. clash (sym closed ∙ on.alive);
+        falls = λ _ over _. clash (sym over ∙ on.tries);
+        over = λ _ over _. clash (sym over ∙ on.tries);
+        backs = λ pair _ _ _.
+            first pair (backed_off_now (begun cx v))
+            (record { state = refl; names = refl; una = refl; syn_unacked = refl; top = refl; next = refl; took_syn = refl; paused = refl; stamps = refl; timeout = refl; retries = refl; none = refl });
+        probes = λ pair _ _ not _.
+            first pair (loss_probed (begun cx v))
+            (record { state = refl; names = refl; una = refl; syn_unacked = refl; top = refl; next = refl; took_syn = refl; paused = refl; stamps = refl; timeout = refl; retries = refl; none = not_due not });
+        goes = λ pair _ _ not.
+            first pair (begun cx v)
+            (record { state = refl; names = refl; una = refl; syn_unacked = refl; top = refl; next = refl; took_syn = refl; paused = refl; stamps = refl; timeout = refl; retries = refl; none = not_due not });
+      })

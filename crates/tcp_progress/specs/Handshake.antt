@@ -1,0 +1,64 @@
+-- The handshake of three segments (RFC 9293, 3.5): one side calls, the other listens; a SYN, its answer, and the acknowledgement of that.
+use Rattle.std.specs.Prelude.{◌≡◌, ◌^◌, ◌<◌, ℤ, true, false, Option, Some, None}
+use Rattle.tcp_rules.specs.Endpoints.{remote_of, takes_address}
+use Rattle.tcp_rules.specs.EndpointPair.{EndpointPair}
+use Rattle.tcp_rules.specs.Ends.{GoesOn}
+use Rattle.tcp_rules.specs.State.TheVariants as In
+use Rattle.tcp_pair_model.specs.Block.{Block}
+use Rattle.tcp_pair_model.specs.Retries.{reaches}
+use Rattle.tcp_pair_model.specs.Sides.{other}
+use Rattle.tcp_pair_model.specs.Steps.{refusal}
+use Rattle.tcp_pair_model.specs.Values.{PairValue}
+use Rattle.tcp_pair_model.specs.declared.event.PairEvent.TheVariants.{Offer}
+use Rattle.tcp_pair_model.specs.declared.event.Side.{Side}
+use Rattle.tcp_progress.specs.Again.{StartsOver}
+use Rattle.tcp_progress.specs.Pair.{context_of, offered_in, socket_of}
+
+-- the caller is asked at this moment, and its SYN comes
+abbrev pub called_in : PairValue → Side → ℤ → PairValue
+called_in p side first = offered_in p side first
+
+-- then the listener, and its answer comes
+abbrev pub answered_in : PairValue → Side → ℤ → ℤ → PairValue
+answered_in p side first second = offered_in (called_in p side first) (other side) second
+
+-- then the caller again, and its acknowledgement comes
+abbrev pub shaken_in : PairValue → Side → ℤ → ℤ → ℤ → PairValue
+shaken_in p side first second third = offered_in (answered_in p side first second) side third
+
+-- a caller has no user timeout, and gives up after a question at least
+pub record CallsOn (b : Block) : Type 0 where
+  pub timeout : b.settings.timeout ≡ None
+  pub tries : reaches b.settings.retries 0 ≡ false
+
+-- a listener has no user timeout, doesn't hold its answer back, sends no timestamps, and gives up after two timeouts at least
+pub record ListensOn (b : Block) : Type 0 where
+  pub timeout : b.settings.timeout ≡ None
+  pub unpaused : b.settings.synack_paused ≡ false
+  pub stampless : b.settings.timestamps ≡ None
+  pub tries : reaches b.settings.opening_retries 1 ≡ false
+
+-- The side calls its partner, which listens there; and no moment lies before the last one of the side that is asked.
+pub record MayShake (p : PairValue) (side : Side) (first second third : ℤ) : Type 0 where
+  pub calls : (socket_of p side).block.state ≡ In.SynSent
+  pub listens : (socket_of p (other side)).block.state ≡ In.Listen
+  -- on the port and the address that are called
+  pub own : EndpointPair
+  pub named : (socket_of p side).block.names.pair ≡ Some own
+  pub port : (socket_of p (other side)).block.names.listen.port ≡ own.remote_port
+  pub address : takes_address (socket_of p (other side)).block.names.listen.addr (remote_of own.addresses) ≡ true
+  -- the SYN didn't go, or its timer has run out, but not for the last time
+  pub over : StartsOver (context_of p side first) (socket_of p side)
+  pub goes : GoesOn (context_of p side first) (socket_of p side)
+  pub caller : CallsOn (socket_of p side).block
+  pub listener : ListensOn (socket_of p (other side)).block
+  pub at_first : refusal p (Offer side first true) ≡ None
+  pub at_second : refusal (called_in p side first) (Offer (other side) second true) ≡ None
+  pub at_third : refusal (answered_in p side first second) (Offer side third true) ≡ None
+
+-- both sides are open, and each knows that its SYN came
+pub record AreOpened (p : PairValue) (side : Side) : Type 0 where
+  pub own : (socket_of p side).block.state ≡ In.Established
+  pub theirs : (socket_of p (other side)).block.state ≡ In.Established
+  pub una : (socket_of p side).block.sender.una ≡ (socket_of p (other side)).block.receiver.next
+  pub partner_una : (socket_of p (other side)).block.sender.una ≡ (socket_of p side).block.receiver.next
