@@ -1,12 +1,13 @@
 -- The turn of a UDP socket whose first datagram can go.
 use Rattle.std.proofs.Common.{◌≡◌, ℕ, Bool, true, false, ◌⊎◌, inl, inr, List, [], ◌∷◌, drop, Option, Some, None, is_some, refl, sym, ap, ◌∙◌, subst}
-use Rattle.std.specs.Prelude.{slice_get}
+use Rattle.std.specs.Prelude.{slice_get, ◌||◌, not}
 use Rattle.std.specs.List.{list_any}
 use Rattle.net_base.specs.Device.{Move, Allowed, Emitted, Denied}
 use Rattle.net_base.specs.Packets.{contents, first, unpadded}
 use Rattle.net_containers.proofs.PacketLaws.{first-contents, contents-without_first, contents-unpadded}
 use Rattle.ip_wire.specs.HardwareAddress.{HardwareAddress}
-use Rattle.ip_wire.specs.Ip.{destination_of}
+use Rattle.ip_wire.specs.AddressTests.{is_unspecified}
+use Rattle.ip_wire.specs.Ip.{source_of, destination_of}
 use Rattle.ip_wire.specs.IpAddress.{IpAddress}
 use Rattle.sockets.specs.Offers.{IsFound, OffersFirst, answer_with, left_with}
 use Rattle.sockets.specs.SocketValue as Datagrams
@@ -20,9 +21,10 @@ use Rattle.interface_ingress.specs.Socket.TheVariants as Kind
 use Rattle.interface_ingress.specs.Sockets as Sockets
 use Rattle.interface_ingress.specs.Sockets.{settled}
 use Rattle.interface_ingress.specs.WellFormed.{IsWellFormed}
-use Rattle.interface_tables.specs.Inner.{context_of}
+use Rattle.interface_tables.specs.Inner.{InnerValue, context_of, is_foreign_loopback, may_come_from}
 use Rattle.interface_egress.specs.Departure.{Whole}
 use Rattle.interface_egress.specs.GoesOut.{GoesOut, Went, numbered, frame_of, frame_len_of}
+use Rattle.interface_egress.specs.Plan.{never_leaves}
 use Rattle.interface_egress.specs.declared.plan.Plan.{Plan}
 use Rattle.interface_egress.specs.declared.plan.Plan.TheVariants as Way
 use Rattle.interface_egress.specs.declared.socket_meta.Meta.{Meta}
@@ -32,16 +34,29 @@ use Rattle.interface_egress.specs.declared.way_out.Sent.{Sent}
 use Rattle.interface_egress.specs.declared.way_out.Sent.TheVariants as Outcome
 use Rattle.interface.specs.Host.{Sender}
 use Rattle.interface.specs.Turn.{is_waiting, let_through, waits_until, held, outcome_by, plan_at, settled_by, turned_by, Leaves, SendsBy, Answers, TurnsIf}
-use Rattle.interface.specs.Turn.{ItemTurns}
-use Rattle.interface.specs.Turn.{PlaceTurns}
+use Rattle.interface.specs.Turn.{ItemTurns, PlaceTurns, SendsAs, is_raw, keeps_source}
 use Rattle.interface.specs.declared.turn.Turned.{Turned}
 use Rattle.interface.specs.declared.turn.Turned.TheVariants as Turn
+use Rattle.interface.proofs.Sourced.{sourced_stays}
 use Rattle.interface_progress.specs.Moves.{AreMoves, is_refused}
 use Rattle.interface_progress.specs.Queued.{CanGo, Sends}
 use Rattle.interface_progress.proofs.Ways.{goes_by_plan}
 
 abbrev no_one : Option Sent
 no_one = None
+
+-- what may leave has a source that can be one, and keeps it
+keeps_by : (nowhere foreign raw may : Bool) → (nowhere || (foreign || not may)) ≡ false → (raw || may) ≡ true
+keeps_by false false true true e = refl
+keeps_by false false false true e = refl
+keeps_by false false raw false e = absurd (let never : true ≡ false = e in cc)
+keeps_by false true raw may e = absurd (let never : true ≡ false = e in cc)
+keeps_by true foreign raw may e = absurd (let never : true ≡ false = e in cc)
+
+keeps : (i : InnerValue) (p : PacketValue) → never_leaves i p.header ≡ false → keeps_source i p ≡ true
+keeps i p may =
+    keeps_by (is_unspecified (destination_of p.header)) (is_foreign_loopback i (destination_of p.header)) (is_raw p.payload)
+    (may_come_from i (source_of p.header) (destination_of p.header)) may
 
 module _ {D : Type 0} (moves : D → Move → D → Type 0) (turn : Option IpAddress) (x x' : Sender D) (v : UdpValue) (d : UdpMetadata × List ℕ)
     (to : HardwareAddress) (p : PacketValue) (can : CanGo x.inner v.settings d to p) where
@@ -120,7 +135,12 @@ module _ {D : Type 0} (moves : D → Move → D → Type 0) (turn : Option IpAdd
   sends : (item' : Item Socket) (turned : Turned) (meta : Meta)
       → SendsBy moves turn (Some p) x (record { meta = meta; socket = Kind.Udp offering }) false turned x' item'
       → OurEnds turned (Some item')
-  sends item' turned meta goes = leaves item' turned meta goes.4 goes.0 goes.1 goes.2 goes.3
+  sends item' turned meta goes =
+      let offering_item : Item Socket = record { meta = meta; socket = Kind.Udp offering } in
+      let same : goes.0 ≡ p = goes.1 ∙ sourced_stays x.inner p (keeps x.inner p can.may) in
+      let as_it_is : SendsAs moves turn p x offering_item false turned x' item' =
+      subst (λ (q : PacketValue). SendsAs moves turn q x offering_item false turned x' item') same goes.3 in
+      leaves item' turned meta as_it_is.4 as_it_is.0 as_it_is.1 as_it_is.2 as_it_is.3
 
   -- the socket offers this packet and no other
   offers : (item' : Item Socket) (turned : Turned) (meta : Meta) (v' : UdpValue) (answer : Answer.Offer) (o : Option PacketValue) → v'.offered ≡ o

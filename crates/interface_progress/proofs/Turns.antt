@@ -250,7 +250,8 @@ module _ {D : Type 0} (moves : D → Move → D → Type 0) where
     sends : (o : Option PacketValue) (item item' : Item Socket) (changed : Bool) (turned : Turned) → SendsBy moves turn o x item changed turned x' item'
         → Ends Q x x' turned (Some item')
     sends None item item' changed turned goes = absurd goes
-    sends (Some p) item item' changed turned goes = leaves p item item' changed turned goes.0 goes.1 (goes.2, goes.3)
+    sends (Some p) item item' changed turned goes =
+        leaves goes.0 item item' changed turned goes.3.0 goes.3.1 (goes.3.2, goes.3.3)
 
     answers : (answer : Answer.Offer) (before : Socket) (item item' : Item Socket) (turned : Turned) → (Q → IsPatient before)
         → Sockets.Offers (context_of x.inner) before answer item.socket → Answers moves turn answer x item turned x' item' → Ends Q x x' turned (Some item')
