@@ -60,12 +60,19 @@ fn has_sent(place: &SocketStorage<Socket>, quoted: &Quoted<'_>) -> bool
     }
 }
 
+/// Whether some socket sent the quoted segment.
+fn some_has_sent(places: &[SocketStorage<Socket>], quoted: &Quoted<'_>) -> bool
+    ensures { result ≡ list_any (passes (has_sent quoted.now.source quoted.now.destination quoted.now.bytes.now)) places.now }
+{
+    places.iter().any(|place| has_sent(place, quoted))
+}
+
 /// Whether a socket sent the quoted packet, as far as the host keeps that.
 fn was_sent(places: &[SocketStorage<Socket>], quoted: &Quoted<'_>) -> bool
     ensures { result ≡ was_sent places.now quoted.now.protocol quoted.now.source quoted.now.destination quoted.now.bytes.now }
 {
     match quoted.protocol {
-        IpProtocol::Tcp => places.iter().any(|place| has_sent(place, quoted)),
+        IpProtocol::Tcp => some_has_sent(places, quoted),
         _ => true,
     }
 }

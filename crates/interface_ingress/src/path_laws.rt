@@ -1,6 +1,6 @@
 //! What messages that tell of paths can do to a host, whoever wrote them.
 ghost use Rattle.std.specs.Prelude.{◌≡◌, ℕ, List, false};
-ghost use Rattle.icmpv4.specs.Icmpv4Header.{Icmpv4Header};
+ghost use Rattle.icmpv4.specs.declared.header.Icmpv4Header.{Icmpv4Header};
 ghost use Rattle.icmpv6.specs.Icmpv6.{MessageValue};
 ghost use Rattle.ip_wire.specs.IpAddress.{IpAddress};
 ghost use Rattle.ip_wire.specs.IpProtocol.{IpProtocol};

@@ -14,7 +14,7 @@ use Rattle.interface_ingress.specs.Packet.{PacketValue}
 use Rattle.interface_ingress.specs.Socket.{Socket}
 use Rattle.interface_ingress.specs.Socket.TheVariants as Kind
 use Rattle.interface_tables.specs.Inner.{InnerValue, at_moment}
-use Rattle.interface_egress.specs.Fragments.{LeftValue, next_departure}
+use Rattle.interface_egress.specs.Fragments.{LeftValue, departure_from}
 use Rattle.interface_egress.specs.GoesOut.{frame_len_of}
 use Rattle.interface_egress.specs.declared.socket_meta.Meta.{Meta}
 use Rattle.interface_egress.specs.declared.socket_set.Item.{Item}
@@ -215,7 +215,7 @@ module _ {D : Type 0} (moves : D → Move → D → Type 0) where
     piece_refused : (l : LeftValue) (s mid : Sender D) → PieceLeaves moves l s false mid → Refused s.device mid.device
     piece_refused l s mid (inl stays) = record { all = Allowed false ∷ []; are = (mid.device, stays.0, refl); what = refl }
     piece_refused l s mid (inr goes) = record {
-      all = Allowed true ∷ Denied (frame_len_of s.inner (next_departure s.inner.mtu l)) ∷ [];
+      all = Allowed true ∷ Denied (frame_len_of s.inner (departure_from s.inner l)) ∷ [];
       are = (goes.0, goes.1, (mid.device, goes.2.0, refl));
       what = refl;
     }

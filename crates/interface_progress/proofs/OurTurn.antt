@@ -1,6 +1,7 @@
 -- The turn of a UDP socket whose first datagram can go.
-use Rattle.std.proofs.Common.{◌≡◌, ℕ, Bool, true, false, ◌⊎◌, inl, inr, List, [], ◌∷◌, drop, Option, Some, None, is_some, refl, sym, ap, ◌∙◌, subst}
-use Rattle.std.specs.Prelude.{slice_get, ◌||◌, not}
+use Rattle.std.proofs.Common.{◌≡◌, ℕ, Bool, true, false, not, ◌||◌, if◌then◌else◌, ◌⊎◌, inl, inr, List, [], ◌∷◌, drop, Option, Some, None, is_some, refl, sym}
+use Rattle.std.proofs.Common.{ap, ◌∙◌, subst}
+use Rattle.std.specs.Prelude.{slice_get}
 use Rattle.std.specs.List.{list_any}
 use Rattle.net_base.specs.Device.{Move, Allowed, Emitted, Denied}
 use Rattle.net_base.specs.Packets.{contents, first, unpadded}
@@ -21,10 +22,10 @@ use Rattle.interface_ingress.specs.Socket.TheVariants as Kind
 use Rattle.interface_ingress.specs.Sockets as Sockets
 use Rattle.interface_ingress.specs.Sockets.{settled}
 use Rattle.interface_ingress.specs.WellFormed.{IsWellFormed}
-use Rattle.interface_tables.specs.Inner.{InnerValue, context_of, is_foreign_loopback, may_come_from}
+use Rattle.interface_tables.specs.Inner.{is_foreign_loopback, may_come_from}
+use Rattle.interface_tables.specs.Source.{source_for}
 use Rattle.interface_egress.specs.Departure.{Whole}
 use Rattle.interface_egress.specs.GoesOut.{GoesOut, Went, numbered, frame_of, frame_len_of}
-use Rattle.interface_egress.specs.Plan.{never_leaves}
 use Rattle.interface_egress.specs.declared.plan.Plan.{Plan}
 use Rattle.interface_egress.specs.declared.plan.Plan.TheVariants as Way
 use Rattle.interface_egress.specs.declared.socket_meta.Meta.{Meta}
@@ -34,10 +35,12 @@ use Rattle.interface_egress.specs.declared.way_out.Sent.{Sent}
 use Rattle.interface_egress.specs.declared.way_out.Sent.TheVariants as Outcome
 use Rattle.interface.specs.Host.{Sender}
 use Rattle.interface.specs.Turn.{is_waiting, let_through, waits_until, held, outcome_by, plan_at, settled_by, turned_by, Leaves, SendsBy, Answers, TurnsIf}
-use Rattle.interface.specs.Turn.{ItemTurns, PlaceTurns, SendsAs, is_raw, keeps_source}
+use Rattle.interface.specs.Turn.{ItemTurns}
+use Rattle.interface.specs.Turn.{PlaceTurns, SendsAs, is_raw, with_source, sourced}
+use Rattle.interface.specs.Remote.{context_for}
+use Rattle.std.proofs.lemmas.Bool.{or_parts}
 use Rattle.interface.specs.declared.turn.Turned.{Turned}
 use Rattle.interface.specs.declared.turn.Turned.TheVariants as Turn
-use Rattle.interface.proofs.Sourced.{sourced_stays}
 use Rattle.interface_progress.specs.Moves.{AreMoves, is_refused}
 use Rattle.interface_progress.specs.Queued.{CanGo, Sends}
 use Rattle.interface_progress.proofs.Ways.{goes_by_plan}
@@ -45,18 +48,13 @@ use Rattle.interface_progress.proofs.Ways.{goes_by_plan}
 abbrev no_one : Option Sent
 no_one = None
 
--- what may leave has a source that can be one, and keeps it
-keeps_by : (nowhere foreign raw may : Bool) → (nowhere || (foreign || not may)) ≡ false → (raw || may) ≡ true
-keeps_by false false true true e = refl
-keeps_by false false false true e = refl
-keeps_by false false raw false e = absurd (let never : true ≡ false = e in cc)
-keeps_by false true raw may e = absurd (let never : true ≡ false = e in cc)
-keeps_by true foreign raw may e = absurd (let never : true ≡ false = e in cc)
+not_false : (b : Bool) → not b ≡ false → b ≡ true
+not_false true e = refl
+not_false false e = absurd (let clash : true ≡ false = e in cc)
 
-keeps : (i : InnerValue) (p : PacketValue) → never_leaves i p.header ≡ false → keeps_source i p ≡ true
-keeps i p may =
-    keeps_by (is_unspecified (destination_of p.header)) (is_foreign_loopback i (destination_of p.header)) (is_raw p.payload)
-    (may_come_from i (source_of p.header) (destination_of p.header)) may
+or_other : (a b : Bool) → b ≡ true → (a || b) ≡ true
+or_other true b e = refl
+or_other false b e = e
 
 module _ {D : Type 0} (moves : D → Move → D → Type 0) (turn : Option IpAddress) (x x' : Sender D) (v : UdpValue) (d : UdpMetadata × List ℕ)
     (to : HardwareAddress) (p : PacketValue) (can : CanGo x.inner v.settings d to p) where
@@ -132,19 +130,30 @@ module _ {D : Type 0} (moves : D → Move → D → Type 0) (turn : Option IpAdd
         (goes_by_plan x.inner (is_some x.left) v.settings d to p can) goes.2 in
         went goes.0 sent goes.1 out.0 next became
 
+  -- it leaves from its source
+  source_stays : sourced x.inner p ≡ p
+  source_stays =
+      let leaves_not : (is_foreign_loopback x.inner (destination_of p.header)
+      || not (may_come_from x.inner (source_of p.header) (destination_of p.header))) ≡ false =
+      (or_parts (is_unspecified (destination_of p.header)) _ can.may).1 in
+      let may : may_come_from x.inner (source_of p.header) (destination_of p.header) ≡ true =
+      not_false (may_come_from x.inner (source_of p.header) (destination_of p.header))
+      (or_parts (is_foreign_loopback x.inner (destination_of p.header)) _ leaves_not).1 in
+      ap (λ (keeps : Bool). record p { header = if keeps then p.header else with_source p.header (source_for x.inner.addresses (destination_of p.header)) })
+      (or_other (is_raw p.payload) (may_come_from x.inner (source_of p.header) (destination_of p.header)) may)
+
   sends : (item' : Item Socket) (turned : Turned) (meta : Meta)
       → SendsBy moves turn (Some p) x (record { meta = meta; socket = Kind.Udp offering }) false turned x' item'
       → OurEnds turned (Some item')
   sends item' turned meta goes =
-      let offering_item : Item Socket = record { meta = meta; socket = Kind.Udp offering } in
-      let same : goes.0 ≡ p = goes.1 ∙ sourced_stays x.inner p (keeps x.inner p can.may) in
-      let as_it_is : SendsAs moves turn p x offering_item false turned x' item' =
-      subst (λ (q : PacketValue). SendsAs moves turn q x offering_item false turned x' item') same goes.3 in
-      leaves item' turned meta as_it_is.4 as_it_is.0 as_it_is.1 as_it_is.2 as_it_is.3
+      let done : SendsAs moves turn p x (record { meta = meta; socket = Kind.Udp offering }) false turned x' item' =
+      subst (λ (q : PacketValue). SendsAs moves turn q x (record { meta = meta; socket = Kind.Udp offering }) false turned x' item')
+      (goes.1 ∙ source_stays) goes.3 in
+      leaves item' turned meta done.4 done.0 done.1 done.2 done.3
 
   -- the socket offers this packet and no other
   offers : (item' : Item Socket) (turned : Turned) (meta : Meta) (v' : UdpValue) (answer : Answer.Offer) (o : Option PacketValue) → v'.offered ≡ o
-      → IsFound (TakesDatagram (context_of x.inner) v.settings d) o → answer ≡ answer_with o → v' ≡ left_with o v
+      → IsFound (TakesDatagram (context_for x.inner (Kind.Udp v)) v.settings d) o → answer ≡ answer_with o → v' ≡ left_with o v
       → Answers moves turn answer x (record { meta = meta; socket = Kind.Udp v' }) turned x' item' → OurEnds turned (Some item')
   offers item' turned meta v' answer None is found says left goes = absurd (found p can.takes)
   offers item' turned meta v' answer (Some q) is found says left goes =
@@ -160,11 +169,11 @@ module _ {D : Type 0} (moves : D → Move → D → Type 0) (turn : Option IpAdd
     is_first = first-contents v.queued ∙ ap (λ (all : List (UdpMetadata × List ℕ)). slice_get all 0) queued
 
     asks : (item' : Item Socket) (turned : Turned) (meta : Meta) (s : Socket) (answer : Answer.Offer)
-        → Sockets.Offers (context_of x.inner) (Kind.Udp v) answer s
+        → Sockets.Offers (context_for x.inner (Kind.Udp v)) (Kind.Udp v) answer s
         → Answers moves turn answer x (record { meta = meta; socket = s }) turned x' item' → OurEnds turned (Some item')
     asks item' turned meta (Kind.Udp v') answer given goes =
-        let first_offer : OffersFirst (TakesDatagram (context_of x.inner)) v (Some d) answer v' =
-        subst (λ (o : Option (UdpMetadata × List ℕ)). OffersFirst (TakesDatagram (context_of x.inner)) v o answer v') is_first given in
+        let first_offer : OffersFirst (TakesDatagram (context_for x.inner (Kind.Udp v))) v (Some d) answer v' =
+        subst (λ (o : Option (UdpMetadata × List ℕ)). OffersFirst (TakesDatagram (context_for x.inner (Kind.Udp v))) v o answer v') is_first given in
         offers item' turned meta v' answer v'.offered refl first_offer.0 first_offer.1 first_offer.2 goes
     asks item' turned meta (Kind.Raw w) answer given goes = absurd given
     asks item' turned meta (Kind.Icmp w) answer given goes = absurd given

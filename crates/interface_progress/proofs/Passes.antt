@@ -1,11 +1,11 @@
 -- A pass over the sockets, and a step of the way out.
-use Rattle.std.proofs.Common.{◌≡◌, Bool, true, false, ◌||◌, ◌⊎◌, inl, inr, ℤ, int_lt, if◌then◌else◌, List, [], ◌∷◌, ◌++◌, Option, Some, None, refl, sym, ap}
+use Rattle.std.proofs.Common.{◌≡◌, Bool, true, false, ◌||◌, ◌⊎◌, inl, inr, ℤ, List, [], ◌∷◌, ◌++◌, Option, Some, None, refl, sym, ap}
 use Rattle.std.proofs.Common.{◌∙◌, subst}
 use Rattle.net_base.specs.Device.{Move, Allowed, Emitted, Denied}
 use Rattle.ip_wire.specs.IpAddress.{IpAddress}
 use Rattle.interface_ingress.specs.Socket.{Socket}
 use Rattle.interface_tables.specs.Inner.{InnerValue}
-use Rattle.interface_egress.specs.Fragments.{LeftValue, next_departure}
+use Rattle.interface_egress.specs.Fragments.{LeftValue, departure_from}
 use Rattle.interface_egress.specs.GoesOut.{PieceGoesOut, frame_of, frame_len_of}
 use Rattle.interface_egress.specs.declared.socket_set.SocketStorage.{SocketStorage}
 use Rattle.interface.specs.Awaited.{turn_of}
@@ -20,18 +20,9 @@ use Rattle.interface_progress.specs.Moves.{AreMoves}
 use Rattle.interface_progress.specs.OfUse.{Stirs}
 use Rattle.interface_progress.specs.Patience.{IsItemPatient, ArePatient}
 use Rattle.interface_progress.proofs.Walks.{joined, stirs_before, stirs_behind}
-use Rattle.interface_progress.proofs.Turns.{Calm, Ends, place_ends}
+use Rattle.interface_progress.proofs.Turns.{earlier_later, Calm, Ends, place_ends}
 
 -- ALL PLACES ARE LATER
-
-both_later : (t a b : ℤ) (test : Bool) → IsEarlier t (Some a) → IsEarlier t (Some b) → IsEarlier t (Some (if test then b else a))
-both_later t a b true one two = two
-both_later t a b false one two = one
-
-earlier_later : (t : ℤ) (a b : Option ℤ) → IsEarlier t a → IsEarlier t b → IsEarlier t (earlier a b)
-earlier_later t None b one two = two
-earlier_later t (Some a) None one two = one
-earlier_later t (Some a) (Some b) one two = both_later t a b (int_lt b a) one two
 
 module _ (t : ℤ) (i : InnerValue) where
   from_best : (best : Option ℤ) (ps : List (SocketStorage Socket)) → IsEarlier t best → AllLater t i ps
@@ -157,12 +148,12 @@ module _ {D : Type 0} (moves : D → Move → D → Type 0) where
   piece_goes : (l : LeftValue) (s mid : Sender D) (between : D) (gone : Bool) → moves s.device (Allowed true) between
       → PieceGoesOut moves between s.inner l gone mid.device mid.left → PieceEnds s mid gone
   piece_goes l s mid between true leave goes = record {
-    all = Allowed true ∷ Emitted (frame_of s.inner (next_departure s.inner.mtu l)) ∷ [];
+    all = Allowed true ∷ Emitted (frame_of s.inner (departure_from s.inner l)) ∷ [];
     are = (between, leave, (mid.device, goes.0.0, refl));
     what = inl (inl refl);
   }
   piece_goes l s mid between false leave goes = record {
-    all = Allowed true ∷ Denied (frame_len_of s.inner (next_departure s.inner.mtu l)) ∷ [];
+    all = Allowed true ∷ Denied (frame_len_of s.inner (departure_from s.inner l)) ∷ [];
     are = (between, leave, (mid.device, goes.0, refl));
     what = inl (inr refl);
   }

@@ -13,7 +13,7 @@ use Rattle.ip_wire.specs.IpRepr.{IpRepr}
 use Rattle.ip_wire.specs.IpRepr.TheVariants as Ip
 use Rattle.ip_wire.specs.Ipv4Address.{Ipv4Address}
 use Rattle.interface_tables.specs.Inner.{InnerValue, is_local_broadcast, next_hop, next_request, link_by, link_of_hop, link_on, link_address, all_stations}
-use Rattle.interface_tables.specs.Inner.{group_station, is_known_on, is_known_hop, has_neighbor}
+use Rattle.interface_tables.specs.Inner.{group_station, is_known_on, is_known_hop, has_neighbor, mtu_to}
 use Rattle.interface_tables.specs.Neighbor.{lookup, is_found}
 use Rattle.interface_tables.specs.Source.{source_v4, source_v6}
 use Rattle.interface_tables.specs.declared.link.LinkAddress.{LinkAddress}
@@ -130,7 +130,8 @@ module _ (i : InnerValue) (busy : Bool) (h : IpRepr) where
     asks false hop = waits Way.NoRoute refl
 
   by_link : (l : LinkAddress) → link_address i (destination_of h) ≡ l → P (plan_by l i busy h)
-  by_link (Link.Known to) is = cond_both (nat_le (total_len h) i.mtu) (Way.Go to) (long_plan busy to h) P (λ _. goes to) (λ _. long to h)
+  by_link (Link.Known to) is = cond_both (nat_le (total_len h) (mtu_to i (destination_of h))) (Way.Go to) (long_plan busy to h) P (λ _. goes to)
+      (λ _. long to h)
   by_link Link.NoRoute is = waits (unknown_by i (destination_of h) Link.NoRoute is refl) Way.NoRoute refl
   by_link Link.Silent is = waits (unknown_by i (destination_of h) Link.Silent is refl) Way.Wait refl
   by_link Link.Unanswered is = drops

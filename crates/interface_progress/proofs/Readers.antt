@@ -1,5 +1,5 @@
 -- What another host reads of a datagram that went.
-use Rattle.std.proofs.Common.{◌≡◌, ◌≢◌, ℕ, ◌+◌, ◌^◌, false, List, length, Option, Some, None, refl, sym, ap, ◌∙◌, subst}
+use Rattle.std.proofs.Common.{◌≡◌, ◌≢◌, ℕ, ◌+◌, ◌^◌, ◌≤◌, arith, false, List, length, Option, Some, None, refl, sym, ap, ◌∙◌, subst}
 use Rattle.std.specs.Prelude.{nat_lt}
 use Rattle.std.proofs.lemmas.Bool.{cond_both}
 use Rattle.ip_address.specs.declared.ip.IpAddress.{IpAddress}
@@ -7,7 +7,7 @@ use Rattle.ip_address.specs.declared.ip.IpAddress.TheVariants as Address
 use Rattle.ip_address.specs.declared.ip.IpProtocol.TheVariants as Protocol
 use Rattle.ip_address.specs.declared.hardware.HardwareAddress.{HardwareAddress}
 use Rattle.ip_packet.specs.Ip as Ips
-use Rattle.ip_packet.specs.Ip.{carried_in}
+use Rattle.ip_packet.specs.Ip.{carried_in, destination_of}
 use Rattle.ip_packet.specs.declared.ip.repr.IpRepr.{IpRepr}
 use Rattle.ip_packet.specs.declared.ip.repr.IpRepr.TheVariants as Ip
 use Rattle.sockets.specs.Header.{header_between, hops}
@@ -18,10 +18,11 @@ use Rattle.socket_base.specs.WellFormed.{IsWellFormed, HasWidths}
 use Rattle.socket_base.specs.Widths.{IsPayload}
 use Rattle.interface_ingress.specs.Sent.{CanBeRead, normal_payload}
 use Rattle.interface_ingress.specs.Upper.{IsBrought}
-use Rattle.interface_tables.specs.Inner.{InnerValue, context_of}
+use Rattle.interface_tables.specs.Inner.{InnerValue, context_of, mtu_to}
+use Rattle.interface_tables.proofs.PathMtu.{mtu_within}
 use Rattle.interface_egress.specs.Departure.{Whole}
 use Rattle.interface_egress.specs.GoesOut.{numbered}
-use Rattle.interface_egress.specs.Plan.{plan_of}
+use Rattle.interface_egress.specs.Plan.{plan_of, total_len}
 use Rattle.interface_egress.specs.declared.plan.Plan.TheVariants as Way
 use Rattle.interface_delivery.specs.Taken.{Reader, CanRead, IsRead, IsOffered}
 use Rattle.interface_delivery.specs.Taken as Taken
@@ -43,6 +44,9 @@ offered p formed = record {
   header = formed.header;
   payload = payload_widths p.payload formed.payload;
 }
+
+short_enough : (len path most : ℕ) → len ≤ path → path ≤ most → most ≤ 65535 → len ≤ 65535
+short_enough len path most one two three = omega arith
 
 -- THE HEADER OF A DATAGRAM
 
@@ -110,7 +114,8 @@ module _ (i : InnerValue) (ident : ℕ) (settings : UdpSettings) (d : UdpMetadat
       arrives (with_ident i ident) reader.hardware reader.checksums (Whole to (numbered (with_ident i ident) p)) padding reads.sealed (
         reads.medium,
         writes (with_ident i ident) p wide (offered p formed)
-            (let short = can.short in let most = wide.mtu in omega (Rattle.std.proofs.Common.arith, short, most)),
+            (short_enough (total_len p.header) (mtu_to i (destination_of p.header)) i.mtu can.short
+            (mtu_within i.paths (destination_of p.header) i.moment i.mtu) wide.mtu),
       )
 
   is_datagram : p.payload ≡ Datagram (ports_of settings d) d.1

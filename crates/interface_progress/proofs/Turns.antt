@@ -14,11 +14,19 @@ use Rattle.interface_ingress.specs.Polling.{IsBefore}
 use Rattle.interface_ingress.specs.Sockets as Sockets
 use Rattle.interface_ingress.specs.Sockets.{offered_by, poll_of, settled}
 use Rattle.interface_ingress.specs.Socket.{Socket}
-use Rattle.interface_tables.specs.Inner.{InnerValue, context_of, has_neighbor}
+use Rattle.interface_tables.specs.Inner.{InnerValue, context_towards, path_end, has_neighbor}
+use Rattle.interface_tables.specs.PathMtu as Paths
+use Rattle.interface_tables.specs.PathMtu.{path_to, end_towards}
+use Rattle.interface_tables.specs.declared.path_mtu.Path.{Path}
+use Rattle.interface_ingress.specs.Context.{ContextValue}
+use Rattle.interface_ingress.specs.TcpSocket.{remote_in}
+use Rattle.interface_ingress.specs.Socket.TheVariants as Kind
+use Rattle.interface_ingress.proofs.AnyKind.{same}
+use Rattle.tcp_model.specs.declared.block.Names.{Names}
 use Rattle.interface_egress.specs.Departure as Departures
 use Rattle.interface_egress.specs.Departure.{Departure}
 use Rattle.interface_egress.specs.GoesOut.{GoesOut, Asked, Went, WasCut, numbered, cut_of, frame_of, frame_len_of}
-use Rattle.interface_egress.specs.Fragments.{LeftValue, next_departure}
+use Rattle.interface_egress.specs.Fragments.{LeftValue, departure_from}
 use Rattle.interface_egress.specs.Meta.{neighbor_by, waits_by, freed, since_by}
 use Rattle.interface_egress.specs.declared.frame.Question.{Question}
 use Rattle.interface_egress.specs.declared.plan.Plan.{Plan}
@@ -29,7 +37,8 @@ use Rattle.interface_egress.specs.declared.socket_set.SocketStorage.{SocketStora
 use Rattle.interface_egress.specs.declared.way_out.Sent.{Sent}
 use Rattle.interface_egress.specs.declared.way_out.Sent.TheVariants as Outcome
 use Rattle.interface.specs.Host.{Sender}
-use Rattle.interface.specs.Instant.{instant_of, item_instant, instant_in}
+use Rattle.interface.specs.Instant.{earlier, instant_of, own_instant, item_instant, instant_in}
+use Rattle.interface.specs.Remote.{address_in, remote_of, context_for, end_by}
 use Rattle.interface.specs.QuietStep.{IsEarlier}
 use Rattle.interface.specs.Turn.{is_known, is_waiting, let_through, waits_until, is_given_up, is_out_of_turn, settled_by, turned_by, plan_at, Leaves, SendsBy}
 use Rattle.interface.specs.Turn.{Answers}
@@ -60,12 +69,52 @@ both_true : (a b : Bool) → a ≡ false → b ≡ true → (not a && b) ≡ tru
 both_true true b e f = clash e
 both_true false b e f = f
 
+both_later : (t a b : ℤ) (test : Bool) → IsEarlier t (Some a) → IsEarlier t (Some b) → IsEarlier t (Some (if test then b else a))
+both_later t a b true one two = two
+both_later t a b false one two = one
+
+pub earlier_later : (t : ℤ) (a b : Option ℤ) → IsEarlier t a → IsEarlier t b → IsEarlier t (earlier a b)
+earlier_later t None b one two = two
+earlier_later t (Some a) None one two = one
+earlier_later t (Some a) (Some b) one two = both_later t a b (int_lt b a) one two
+
+-- what is known of a path ends later, if at all
+end_later : (o : Option Path) (now : ℤ) → IsEarlier now (Paths.end_by o now)
+end_later None now = tt
+end_later (Some p) now = by (int_lt now p.until) refl where
+  by : (b : Bool) → int_lt now p.until ≡ b → IsEarlier now (if b then Some p.until else None)
+  by true is = until_later now p.until is
+  by false is = tt
+
+path_later : (i : InnerValue) (address : IpAddress) → IsEarlier i.moment (path_end i address)
+unfolding end_towards
+path_later i address = end_later (path_to i.paths address) i.moment
+
+remote_later : (i : InnerValue) (o : Option IpAddress) → IsEarlier i.moment (end_by i o)
+remote_later i None = tt
+remote_later i (Some address) = path_later i address
+
+item_later : (i : InnerValue) (item : Item Socket) → IsEarlier i.moment (own_instant i item) → IsEarlier i.moment (item_instant i item)
+item_later i item own = earlier_later i.moment (end_by i (remote_of item.socket)) (own_instant i item) (remote_later i (remote_of item.socket)) own
+
+-- a connection that changed nothing has its remote
+remote_stays : (cx : ContextValue) (s s' : Socket) → Sockets.Offers cx s (Offer.Silent false) s' → remote_of s' ≡ remote_of s
+remote_stays cx (Kind.Tcp v) (Kind.Tcp v') offers =
+    ap (λ (names : Names). address_in (remote_in names.pair)) (same (Kind.Tcp v) (Kind.Tcp v') cx (Offer.Silent false) offers refl).names
+remote_stays cx (Kind.Raw v) (Kind.Raw v') offers = refl
+remote_stays cx (Kind.Icmp v) (Kind.Icmp v') offers = refl
+remote_stays cx (Kind.Udp v) (Kind.Udp v') offers = refl
+remote_stays cx (Kind.Dhcpv4 v) (Kind.Dhcpv4 v') offers = refl
+remote_stays cx (Kind.Dns v) (Kind.Dns v') offers = refl
+remote_stays cx s s' offers = absurd offers
+
 -- one that is marked, and waits until a moment that is still to come
 marked_later : (i : InnerValue) (socket : Socket) (w : Waiting) → has_neighbor i w.neighbor ≡ false → int_lt i.moment w.silent_until ≡ true
     → IsEarlier i.moment (item_instant i (record { meta = record { waiting = Some w }; socket = socket }))
 marked_later i socket w unknown soon =
-    subst (λ (test : Bool). IsEarlier i.moment (instant_of (if test then At.Time w.silent_until else poll_of (context_of i) socket)))
-    (sym (both_true (has_neighbor i w.neighbor) (int_lt i.moment w.silent_until) unknown soon)) (until_later i.moment w.silent_until soon)
+    item_later i (record { meta = record { waiting = Some w }; socket = socket })
+    (subst (λ (test : Bool). IsEarlier i.moment (instant_of (if test then At.Time w.silent_until else poll_of (context_for i socket) socket)))
+    (sym (both_true (has_neighbor i w.neighbor) (int_lt i.moment w.silent_until) unknown soon)) (until_later i.moment w.silent_until soon))
 
 waiting_later : (i : InnerValue) (socket : Socket) (w : Option Waiting) → waits_by w (is_known i (neighbor_by w)) i.moment ≡ true
     → IsEarlier i.moment (item_instant i (record { meta = freed (record { waiting = w }) (is_known i (neighbor_by w)); socket = socket }))
@@ -193,8 +242,8 @@ module _ {D : Type 0} (moves : D → Move → D → Type 0) where
 
         cut : (c : LeftValue) (sent : Sent) → WasCut moves mid x.inner x.left c sent x'.device x'.inner x'.left → turned ≡ turned_by sent changed
             → Ends Q x x' turned (Some item')
-        cut c Outcome.Gone goes next = went (frame_of x.inner (next_departure x.inner.mtu c)) true goes.0.0 next
-        cut c Outcome.Refused goes next = was_refused (frame_len_of x.inner (next_departure x.inner.mtu c)) goes.0
+        cut c Outcome.Gone goes next = went (frame_of x.inner (departure_from x.inner c)) true goes.0.0 next
+        cut c Outcome.Refused goes next = was_refused (frame_len_of x.inner (departure_from x.inner c)) goes.0
         cut c Outcome.Waits goes next = absurd goes
         cut c Outcome.Dropped goes next = absurd goes
         cut c Outcome.Busy goes next = absurd goes
@@ -250,17 +299,21 @@ module _ {D : Type 0} (moves : D → Move → D → Type 0) where
     sends : (o : Option PacketValue) (item item' : Item Socket) (changed : Bool) (turned : Turned) → SendsBy moves turn o x item changed turned x' item'
         → Ends Q x x' turned (Some item')
     sends None item item' changed turned goes = absurd goes
-    sends (Some p) item item' changed turned goes =
-        leaves goes.0 item item' changed turned goes.3.0 goes.3.1 (goes.3.2, goes.3.3)
+    sends (Some p) item item' changed turned goes = leaves goes.0 item item' changed turned goes.3.0 goes.3.1 (goes.3.2, goes.3.3)
 
     answers : (answer : Answer.Offer) (before : Socket) (item item' : Item Socket) (turned : Turned) → (Q → IsPatient before)
-        → Sockets.Offers (context_of x.inner) before answer item.socket → Answers moves turn answer x item turned x' item' → Ends Q x x' turned (Some item')
+        → Sockets.Offers (context_for x.inner before) before answer item.socket → Answers moves turn answer x item turned x' item'
+        → Ends Q x x' turned (Some item')
     answers (Offer.Packet changed) before item item' turned patient offers goes = sends (offered_by item.socket) item item' changed turned goes
     answers (Offer.Silent true) before item item' turned patient offers goes = still turned (Some item') true goes.1 goes.0 (λ _. inl refl)
     answers (Offer.Silent false) before item item' turned patient offers goes =
         still turned (Some item') false goes.1 goes.0
         (λ q. inr (subst (λ (it : Item Socket). IsEarlier x.inner.moment (item_instant x.inner it)) (sym goes.2)
-        (earlier_of x.inner.moment (poll_of (context_of x.inner) item.socket) (rests (context_of x.inner) before item.socket (patient q) offers))))
+        (item_later x.inner (record { meta = record { waiting = None }; socket = item.socket })
+        (subst (λ (to : Option IpAddress). IsEarlier x.inner.moment (instant_of (poll_of (context_towards x.inner to) item.socket)))
+        (sym (remote_stays (context_for x.inner before) before item.socket offers))
+        (earlier_of x.inner.moment (poll_of (context_for x.inner before) item.socket)
+        (rests (context_for x.inner before) before item.socket (patient q) offers))))))
 
     turns_if : (waits : Bool) (item item' : Item Socket) (turned : Turned) → (Q → IsPatient item.socket) → is_waiting x.inner item.meta ≡ waits
         → TurnsIf moves turn waits x (let_through x.inner item) turned x' item' → Ends Q x x' turned (Some item')

@@ -14,6 +14,7 @@ use Rattle.sockets.specs.UdpMetadata.{UdpMetadata}
 use Rattle.interface_ingress.specs.Packet.{PacketValue}
 use Rattle.interface_tables.specs.Best.{at_place}
 use Rattle.interface_tables.specs.Inner.{InnerValue, is_local_broadcast, next_hop, link_by, link_of_hop, link_on, link_address, all_stations, group_station}
+use Rattle.interface_tables.specs.Inner.{mtu_to}
 use Rattle.interface_tables.specs.Inner.{is_known_on, is_known_hop}
 use Rattle.interface_tables.specs.Neighbor.{CacheValue, lookup, missing, answer_by, place_of, unless_failed, has_failed, is_found}
 use Rattle.interface_tables.specs.declared.link.LinkAddress.{LinkAddress}
@@ -188,7 +189,7 @@ pub goes_by_plan : (i : InnerValue) (busy : Bool) (settings : UdpSettings) (d : 
 goes_by_plan i busy settings d to p can =
     ap (λ (never : Bool). if never then Way.Drop else plan_by (link_address i (destination_of p.header)) i busy p.header) can.may
     ∙ ap (λ (l : LinkAddress). plan_by l i busy p.header) can.known
-    ∙ ap (λ (fits : Bool). if fits then Way.Go to else long_plan busy to p.header) (le-leb (total_len p.header) i.mtu can.short)
+    ∙ ap (λ (fits : Bool). if fits then Way.Go to else long_plan busy to p.header) (le-leb (total_len p.header) (mtu_to i (destination_of p.header)) can.short)
 
 same_number : (i j : InnerValue) → i.ident ≡ j.ident → (h : IpRepr) → numbered_header i h ≡ numbered_header j h
 same_number i j is (Ip.Ipv4 v) = ap (λ (n : ℕ). Ip.Ipv4 (record v { ident = n; dont_frag = false })) is

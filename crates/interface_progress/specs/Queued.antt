@@ -15,7 +15,7 @@ use Rattle.interface_ingress.specs.Socket.{Socket}
 use Rattle.interface_ingress.specs.Socket.TheVariants as Kind
 use Rattle.interface_ingress.specs.Upper.{IsBrought}
 use Rattle.interface_ingress.specs.WellFormed.{IsWellFormed}
-use Rattle.interface_tables.specs.Inner.{InnerValue, context_of, link_address}
+use Rattle.interface_tables.specs.Inner.{InnerValue, context_of, link_address, mtu_to}
 use Rattle.interface_tables.specs.declared.link.LinkAddress.TheVariants as Link
 use Rattle.interface_egress.specs.Departure.{Whole}
 use Rattle.interface_egress.specs.GoesOut.{frame_of, numbered}
@@ -27,12 +27,12 @@ use Rattle.interface.specs.Turn.{is_waiting}
 use Rattle.interface_progress.specs.Moves.{AreMoves, is_refused}
 
 -- This packet takes a datagram of a socket with these settings; it may leave the host, which knows that the frame goes to this hardware
--- address; and it fits one frame.
+-- address; and it fits one frame, and the path to its destination.
 pub record CanGo (i : InnerValue) (settings : UdpSettings) (d : UdpMetadata × List ℕ) (to : HardwareAddress) (p : PacketValue) : Type 0 where
   pub takes : TakesDatagram (context_of i) settings d p
   pub may : never_leaves i p.header ≡ false
   pub known : link_address i (destination_of p.header) ≡ Link.Known to
-  pub short : total_len p.header ≤ i.mtu
+  pub short : total_len p.header ≤ mtu_to i (destination_of p.header)
 
 -- some packet takes it so
 abbrev pub HasWay : InnerValue → UdpSettings → UdpMetadata × List ℕ → Type 0
