@@ -1,4 +1,4 @@
-use Rattle.std.proofs.Common.{rules, ◌≡◌, Option, Some, sym, subst}
+use Rattle.std.proofs.Common.{rules, ◌≡◌, Bool, Option, Some, sym, subst}
 use Rattle.interface_ingress.specs.Packet.{PacketValue, packet_value}
 use Rattle.interface_ingress.specs.Sockets.{offered_by}
 use Rattle.interface_ingress.specs.WellFormed.{IsWellFormed}
