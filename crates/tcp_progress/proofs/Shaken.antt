@@ -159,7 +159,7 @@ may_call p side first second third r m =
     }
 
 -- a moment that may come isn't before the last one
-comes_later : (last moment : ℤ) → refused_if (not (may_come last moment)) Moment ≡ None → is_due moment (Some last) ≡ true
+pub comes_later : (last moment : ℤ) → refused_if (not (may_come last moment)) Moment ≡ None → is_due moment (Some last) ≡ true
 comes_later last moment e = third (int_le (pos 0) moment) (int_le moment (pos last_moment)) (int_le last moment) (so (may_come last moment) e) where
   so : (t : Bool) → refused_if (not t) Moment ≡ None → t ≡ true
   so true e = refl
