@@ -7,7 +7,6 @@ use Rattle.tcp_rules.specs.Events.{Event, after, led}
 use Rattle.tcp_rules.specs.Events.Event.{Listens}
 use Rattle.tcp_rules.specs.States.{is_closed}
 use Rattle.tcp_pair_model.specs.Calls.{listening}
-use Rattle.tcp_pair_model.specs.Sides.{at}
 use Rattle.tcp_pair_model.specs.Value.{TcpValue, new_socket, unoffered}
 use Rattle.tcp_pair_model.specs.Values.{PairValue, new_pair}
 use Rattle.tcp_pair_model.specs.declared.event.Side.{Side}

@@ -1,17 +1,13 @@
 -- An exchange goes on whatever the side offers.
-use Rattle.std.proofs.Common.{◌≡◌, ◌⊎◌, inl, inr, ℕ, ◌+◌, ◌≤◌, ◌&&◌, ◌||◌, not, ℤ, Bool, true, false, Option, Some, None, refl, sym, ap, ◌∙◌, subst, arith}
+use Rattle.std.proofs.Common.{◌≡◌, ◌⊎◌, inl, inr, ℕ, ◌+◌, ◌≤◌, ℤ, true, false, Option, None, refl, sym, ap, ◌∙◌, subst, arith}
 use Rattle.ip_wire.specs.TcpTimestampRepr.{TcpTimestampRepr}
 use Rattle.tcp_tie.specs.Context.{ContextValue}
-use Rattle.tcp_rules.specs.EndpointPair.{EndpointPair}
 use Rattle.tcp_rules.specs.InOrder.{has_all}
-use Rattle.tcp_rules.specs.OpenOffer.{OpenOffer}
 use Rattle.tcp_rules.specs.State.{State}
 use Rattle.tcp_rules.specs.State.TheVariants as In
 use Rattle.tcp_rules.specs.States.{owes_fin, sends_text}
-use Rattle.tcp_rules.specs.Timing.{IsTimedRight, timing_of}
 use Rattle.tcp_rules.proofs.OrderSteps.{clash}
 use Rattle.tcp_rules.proofs.TimingRules.{led_timing}
-use Rattle.tcp_pair_model.specs.Block.{Block}
 use Rattle.tcp_pair_model.specs.Blocks.{one_if}
 use Rattle.tcp_pair_model.specs.Offers.{offer_of}
 use Rattle.tcp_pair_model.specs.Sides.{other}
@@ -23,7 +19,7 @@ use Rattle.tcp_pair_model.specs.declared.event.PairEvent.TheVariants.{Offer}
 use Rattle.tcp_pair_model.specs.declared.event.Side.{Side}
 use Rattle.tcp_progress.specs.Again.{StartsOver}
 use Rattle.tcp_progress.specs.Arrivals.{is_synchronized}
-use Rattle.tcp_progress.specs.Exchange.{MayExchange, left_of}
+use Rattle.tcp_progress.specs.Exchange.{left_of}
 use Rattle.tcp_progress.specs.Pair.{HasStream, MayExchangeIn, MovesIn, context_of, exchanged_in, socket_of}
 use Rattle.tcp_progress.specs.Reached.{IsReached}
 use Rattle.tcp_progress.specs.Restart.{HasRunOut, IsIdle, MayGoOn, MaySend, Sends}

@@ -1,17 +1,15 @@
 -- Where nothing is in flight, or its timer has run out, text or a FIN goes, as far as both windows let it.
-use Rattle.std.proofs.Common.{◌≡◌, ◌⊎◌, inl, inr, ℕ, zero, suc, ◌+◌, ◌-◌, ◌%◌, ◌<◌, ◌≤◌, ◌==◌, ◌&&◌, ◌||◌, nat_le, nat_lt, not, min, max, ℤ, Bool, true, false}
+use Rattle.std.proofs.Common.{◌≡◌, ◌⊎◌, inl, inr, ℕ, zero, suc, ◌+◌, ◌-◌, ◌%◌, ◌<◌, ◌≤◌, ◌==◌, ◌&&◌, ◌||◌, nat_le, nat_lt, not, min, max, Bool, true, false}
 use Rattle.std.proofs.Common.{if◌then◌else◌, List, [], ◌∷◌, length, take, drop, Option, Some, None, refl, sym, ap, ◌∙◌, subst, arith, length-take, length-drop}
-use Rattle.std.proofs.lemmas.Bool.{cond_both, eqb-true, eq-eqb, ne_eqb, le-leb, lt-ltb, le-ltb, ltb-true, ltb-false}
-use Rattle.net_base.specs.Ring.{Ring, until_end}
+use Rattle.std.proofs.lemmas.Bool.{cond_both, eq-eqb, ne_eqb, le-leb, lt-ltb, le-ltb, ltb-true, ltb-false}
+use Rattle.net_base.specs.Ring.{until_end}
 use Rattle.ip_wire.specs.Control.{control_len}
 use Rattle.ip_wire.specs.Tcp.{header_len}
-use Rattle.ip_wire.specs.TcpControl.{TcpControl}
 use Rattle.ip_wire.specs.TcpControl.TheVariants as Control
 use Rattle.ip_wire.specs.TcpHeader.{TcpHeader}
 use Rattle.tcp_tie.specs.Context.{ContextValue}
 use Rattle.tcp_tie.specs.Offers.{Offered}
 use Rattle.tcp_tie.proofs.Tied.{if_so, if_not}
-use Rattle.tcp_model.specs.AddressPair.{AddressPair}
 use Rattle.tcp_model.specs.Reno as reno
 use Rattle.tcp_model.specs.Reno.{RenoValue}
 use Rattle.tcp_model.specs.Run.{Run}
@@ -21,7 +19,6 @@ use Rattle.tcp_model.specs.declared.block.CongestionControl.{CongestionControl}
 use Rattle.tcp_model.specs.declared.block.CongestionControl.TheVariants as Congestion
 use Rattle.tcp_rules.specs.EndpointPair.{EndpointPair}
 use Rattle.tcp_rules.specs.Endpoints.{header_for}
-use Rattle.tcp_rules.specs.Ends.{GoesOn}
 use Rattle.tcp_rules.specs.Moments.{is_due}
 use Rattle.tcp_rules.specs.OfferKind.{OfferKind}
 use Rattle.tcp_rules.specs.OfferKind.TheVariants as Kind
@@ -31,7 +28,8 @@ use Rattle.tcp_rules.specs.Timing.{carries}
 use Rattle.tcp_pair_model.specs.Block.{Block}
 use Rattle.tcp_pair_model.specs.Blocks.{one_if, unacked}
 use Rattle.tcp_pair_model.specs.LossRecovery.{fills_hole, hole_len, is_lost_at, loss_probe_moment, loss_probed, loss_probed_by, next_hole, pipe}
-use Rattle.tcp_pair_model.specs.Offers.{backed_off, first_rules, last_rules, number_at, offer_choice, offer_of, offer_reset, offer_syn, offer_with, payload_of, silent}
+use Rattle.tcp_pair_model.specs.Offers.{backed_off, first_rules, last_rules, number_at, offer_choice, offer_of, offer_reset, offer_syn, offer_with}
+use Rattle.tcp_pair_model.specs.Offers.{payload_of, silent}
 use Rattle.tcp_pair_model.specs.Retries.{given_up, gives_up}
 use Rattle.tcp_pair_model.specs.Rules.{Choice, backed_off_now, beyond, congestion_limit, congestion_room, control_for, fills_enough, fin_goes, has_text}
 use Rattle.tcp_pair_model.specs.Rules.{is_sendable, may_be_small, next_place, owes_syn, ready, resend_choice, resend_from, resends, sent_places, size_limit}

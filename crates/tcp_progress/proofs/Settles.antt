@@ -1,22 +1,22 @@
 -- Rounds of one way get through.
-use Rattle.std.proofs.Common.{◌≡◌, ◌⊎◌, inl, inr, ℕ, zero, suc, ◌+◌, ◌-◌, ◌*◌, ◌^◌, ◌<◌, ◌≤◌, ◌==◌, ◌||◌, not, min, ℤ, Bool, true, false, if◌then◌else◌, List, []}
-use Rattle.std.proofs.Common.{◌∷◌, ◌++◌, length, drop, Option, Some, None, Result, Ok, Err, refl, sym, ap, ◌∙◌, subst, arith, append-nil, length-append, length-drop}
+use Rattle.std.proofs.Common.{◌≡◌, inl, inr, ℕ, zero, suc, ◌+◌, ◌-◌, ◌*◌, ◌^◌, ◌<◌, ◌≤◌, ◌==◌, ◌||◌, not, min, ℤ, Bool, true, false, if◌then◌else◌, List, []}
+use Rattle.std.proofs.Common.{◌∷◌, ◌++◌, length, drop, Option, Some, None, Result, Ok, Err, refl, sym, ap, ◌∙◌, subst, arith}
+use Rattle.std.proofs.Common.{append-nil, length-append, length-drop}
 use Rattle.std.proofs.lemmas.Bool.{cond_both, eqb-true, eq-eqb}
 use Rattle.ip_wire.specs.Seq.{distance_of}
 use Rattle.ip_wire.specs.SeqNumber.{SeqNumber}
-use Rattle.tcp_tie.specs.Tie.{Past, Keeps}
+use Rattle.tcp_tie.specs.Tie.{Past}
 use Rattle.tcp_rules.specs.RecvError.{RecvError}
 use Rattle.tcp_rules.specs.States.{is_closed, owes_fin, takes_text}
 use Rattle.tcp_rules.proofs.OrderSteps.{clash}
 use Rattle.tcp_pair_model.specs.Block.{Block}
 use Rattle.tcp_pair_model.specs.Blocks.{one_if}
-use Rattle.tcp_pair_model.specs.Calls.{nothing_left, or_count, recv_answer, recv_refusal}
-use Rattle.tcp_pair_model.specs.History.{pasts}
+use Rattle.tcp_pair_model.specs.Calls.{nothing_left, or_count, recv_answer}
 use Rattle.tcp_pair_model.specs.Safe.{IsStreamSafe, read, taken_in, written}
 use Rattle.tcp_pair_model.specs.Sides.{at, other}
 use Rattle.tcp_pair_model.specs.Steps.{reads}
 use Rattle.tcp_pair_model.specs.Value.{queued_in}
-use Rattle.tcp_pair_model.specs.Values.{PairSide, PairValue, past_at}
+use Rattle.tcp_pair_model.specs.Values.{PairSide, PairValue}
 use Rattle.tcp_pair_model.specs.declared.event.PairEvent.TheVariants.{Deliver, Offer, Recv}
 use Rattle.tcp_pair_model.specs.declared.event.Side.{Side}
 use Rattle.tcp_pair_model.specs.declared.event.Side.TheVariants.{A, B}
@@ -166,59 +166,78 @@ round p side r m = record {
     may : MayExchangeIn x side t k
     may = may_exchange x side t rx m.goes_on
 
-settles : (n : ℕ) (p : PairValue) (side : Side) → IsReached p → MaySettle (suc n) p side → left_in p side + left_in p side ≤ n + had_in p side →
-    IsDone p (settled_in n p side) side
-settles zero p side r m e = by (left_in p side == 0) refl where
-  by : (t : Bool) → (left_in p side == 0) ≡ t → IsDone p p side
-  by true z = record { reached = r; none = eqb-true (left_in p side) 0 z; same = refl }
-  by false z =
-      let h = (round p side r (m.0 (some_left (left_in p side) z))).some in
-      absurd
-      (too_few (had_in p side) (left_in p side) e (within h.within) (some_left (left_in p side) z))
-    where
-      within : had_in (read_in p side) side ≤ left_in (read_in p side) side → had_in p side ≤ left_in p side
-      within w = subst (λ (n : ℕ). n ≤ left_in p side) (read_had p side) (subst (λ (n : ℕ). had_in (read_in p side) side ≤ n) (read_left p side) w)
-settles (suc n) p side r m e = at (left_in p side == 0) refl where
+-- after the first of several rounds, where the others get through
+after_round :
+    (n : ℕ) (p : PairValue) (side : Side) → left_in p side + left_in p side ≤ suc n + had_in p side → Round p side → MaySettle (suc n) (resumed_in p side) side
+    → (left_in (resumed_in p side) side + left_in (resumed_in p side) side ≤ n + had_in (resumed_in p side) side
+    → IsDone (resumed_in p side) (settled_in n (resumed_in p side) side) side)
+    → IsDone (resumed_in p side) (settled_in n (resumed_in p side) side) side
+after_round n p side e it rest others = by it.less where
   q : PairValue
   q = resumed_in p side
 
-  goes_on : Round p side → MaySettle (suc n) q side → IsDone q (settled_in n q side) side
-  goes_on it rest = by it.less where
-    start : left_in (read_in p side) side + left_in (read_in p side) side ≤ suc n + had_in (read_in p side) side
-    start = equal (left_in (read_in p side) side) (left_in p side) (had_in (read_in p side) side) (had_in p side) (read_left p side) (read_had p side) e where
-      equal : (a b c d : ℕ) → a ≡ b → c ≡ d → b + b ≤ suc n + d → a + a ≤ suc n + c
-      equal a b c d x y z = omega arith
+  x : PairValue
+  x = read_in p side
 
-    by : HasLess (read_in p side) q side → IsDone q (settled_in n q side) side
-    by (inl t) =
-        settles n q side it.reached rest
-        (taken_once n (had_in (read_in p side) side) (had_in q side) (left_in (read_in p side) side) (left_in q side) t.more start t.left
-        (ap (λ (n : SeqNumber). distance_of n (socket_of q (other side)).block.receiver.next) t.una
-        ∙ (ap (λ (n : SeqNumber). distance_of (socket_of (read_in p side) side).block.sender.una n) t.next
-        ∙ further (socket_of (read_in p side) side).block.sender.una.0 (socket_of (read_in p side) (other side)).block.receiver.next.0 t.more
-        it.some.una it.some.next
-        (below_quarter (had_in (read_in p side) side) (left_in (read_in p side) side) it.some.within it.some.few) t.few))
-        t.some)
-    by (inr (inl t)) =
-        settles n q side it.reached rest
-        (told_once n (had_in (read_in p side) side) (had_in q side) (left_in (read_in p side) side) (left_in q side) start t.left t.had)
-    by (inr (inr closed)) = last (left_in q side == 0) refl where
-      last : (t : Bool) → (left_in q side == 0) ≡ t → IsDone q (settled_in n q side) side
-      last true z =
-          let none = eqb-true (left_in q side) 0 z in
-          subst (λ (x : PairValue). IsDone q x side) (sym (stays n q side none)) (record { reached = it.reached; none = none; same = refl })
-      last false z =
-          let m = rest.0 (some_left (left_in q side) z) in
-          absurd
-          (still_open (socket_of (read_in q side) (other side)).block.state m.goes_on.theirs.synchronized
-          (ap (λ (b : Block). is_closed b.state) (read_partner q side) ∙ closed))
+  start : left_in x side + left_in x side ≤ suc n + had_in x side
+  start = equal (left_in x side) (left_in p side) (had_in x side) (had_in p side) (read_left p side) (read_had p side) e where
+    equal : (a b c d : ℕ) → a ≡ b → c ≡ d → b + b ≤ suc n + d → a + a ≤ suc n + c
+    equal a b c d x y z = omega arith
 
-  at : (t : Bool) → (left_in p side == 0) ≡ t → IsDone p (if t then p else settled_in n q side) side
+  last : is_closed (socket_of q (other side)).block.state ≡ true → (t : Bool) → (left_in q side == 0) ≡ t → IsDone q (settled_in n q side) side
+  last closed true z =
+      let none = eqb-true (left_in q side) 0 z in
+      subst (λ (x : PairValue). IsDone q x side) (sym (stays n q side none)) (record { reached = it.reached; none = none; same = refl })
+  last closed false z =
+      let m = rest.0 (some_left (left_in q side) z) in
+      absurd
+      (still_open (socket_of (read_in q side) (other side)).block.state m.goes_on.theirs.synchronized
+      (ap (λ (b : Block). is_closed b.state) (read_partner q side) ∙ closed))
+
+  by : HasLess x q side → IsDone q (settled_in n q side) side
+  by (inl t) =
+      others
+      (taken_once n (had_in x side) (had_in q side) (left_in x side) (left_in q side) t.more start t.left
+      (ap (λ (n : SeqNumber). distance_of n (socket_of q (other side)).block.receiver.next) t.una
+      ∙ (ap (λ (n : SeqNumber). distance_of (socket_of x side).block.sender.una n) t.next
+      ∙ further (socket_of x side).block.sender.una.0 (socket_of x (other side)).block.receiver.next.0 t.more it.some.una it.some.next
+      (below_quarter (had_in x side) (left_in x side) it.some.within it.some.few) t.few))
+      t.some)
+  by (inr (inl t)) = others (told_once n (had_in x side) (had_in q side) (left_in x side) (left_in q side) start t.left t.had)
+  by (inr (inr closed)) = last closed (left_in q side == 0) refl
+
+none_more : (p : PairValue) (side : Side) → IsReached p → (1 ≤ left_in p side → MayRound p side) → left_in p side + left_in p side ≤ 0 + had_in p side →
+    IsDone p p side
+none_more p side r m e = by (left_in p side == 0) refl where
+  within : had_in (read_in p side) side ≤ left_in (read_in p side) side → had_in p side ≤ left_in p side
+  within w = subst (λ (n : ℕ). n ≤ left_in p side) (read_had p side) (subst (λ (n : ℕ). had_in (read_in p side) side ≤ n) (read_left p side) w)
+
+  by : (t : Bool) → (left_in p side == 0) ≡ t → IsDone p p side
+  by true z = record { reached = r; none = eqb-true (left_in p side) 0 z; same = refl }
+  by false z =
+      let some = some_left (left_in p side) z in
+      absurd (too_few (had_in p side) (left_in p side) e (within (round p side r (m some)).some.within) some)
+
+one_more :
+    (n : ℕ) (p : PairValue) (side : Side) → IsReached p → MaySettle (suc (suc n)) p side → left_in p side + left_in p side ≤ suc n + had_in p side
+    → (IsReached (resumed_in p side) → MaySettle (suc n) (resumed_in p side) side
+    → left_in (resumed_in p side) side + left_in (resumed_in p side) side ≤ n + had_in (resumed_in p side) side
+    → IsDone (resumed_in p side) (settled_in n (resumed_in p side) side) side)
+    → IsDone p (settled_in (suc n) p side) side
+one_more n p side r m e others = at (left_in p side == 0) refl where
+  at : (t : Bool) → (left_in p side == 0) ≡ t → IsDone p (if t then p else settled_in n (resumed_in p side) side) side
   at true z = record { reached = r; none = eqb-true (left_in p side) 0 z; same = refl }
   at false z =
       let some = some_left (left_in p side) z in
-      let d = goes_on (round p side r (m.0 some)) (m.1 some) in
+      let it = round p side r (m.0 some) in
+      let d = after_round n p side e it (m.1 some) (λ f. others it.reached (m.1 some) f) in
       record { reached = d.reached; none = d.none; same = d.same ∙ resumed_written p side }
+
+settles : (n : ℕ) (p : PairValue) (side : Side) → IsReached p → MaySettle (suc n) p side → left_in p side + left_in p side ≤ n + had_in p side →
+    IsDone p (settled_in n p side) side
+settles zero p side r m e = none_more p side r m.0 e
+settles (suc n) p side r m e =
+    one_more n p side r m e (λ reached rest f. settles n (resumed_in p side) side reached rest f)
 
 pub done : (p : PairValue) (side : Side) → IsReached p → MaySettle (suc (2 * left_in p side)) p side → IsDone p (settled_in (2 * left_in p side) p side) side
 done p side r m = settles (2 * left_in p side) p side r m (twice (left_in p side) (had_in p side)) where
@@ -234,9 +253,11 @@ all_taken p side safe none = by safe.prefix.0 safe.prefix.1 where
   front = taken_in p (other side)
 
   empty : queued_in (socket_of p side) ≡ 0
-  empty = middle (one_if (socket_of p side).block.sender.syn_unacked) (queued_in (socket_of p side)) (one_if (owes_fin (socket_of p side).block.state)) none where
-    middle : (a b c : ℕ) → a + b + c ≡ 0 → b ≡ 0
-    middle a b c e = omega arith
+  empty =
+      middle (one_if (socket_of p side).block.sender.syn_unacked) (queued_in (socket_of p side)) (one_if (owes_fin (socket_of p side).block.state)) none
+    where
+      middle : (a b c : ℕ) → a + b + c ≡ 0 → b ≡ 0
+      middle a b c e = omega arith
 
   by : (rest : List ℕ) → taken_in p (other side) ++ rest ≡ written p side → taken_in p (other side) ≡ written p side
   by [] e = sym (append-nil front) ∙ e

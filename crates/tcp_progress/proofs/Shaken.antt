@@ -1,8 +1,7 @@
 -- A handshake of a pair that events led to.
-use Rattle.std.proofs.Common.{◌≡◌, ◌⊎◌, inl, inr, ℕ, suc, ◌+◌, ◌%◌, ◌^◌, ◌<◌, ◌≤◌, ◌&&◌, int_le, pos, not, ℤ, Bool, true, false, List, [], length, Option, Some, None}
-use Rattle.std.proofs.Common.{slice_get, refl, sym, ap, ◌∙◌, subst, arith}
+use Rattle.std.proofs.Common.{◌≡◌, ◌⊎◌, inl, inr, ℕ, ◌+◌, ◌^◌, ◌<◌, ◌≤◌, ◌&&◌, int_le, pos, not, ℤ, Bool, true, false, List, [], length, Option, Some, None}
+use Rattle.std.proofs.Common.{slice_get, refl, sym, ap, ◌∙◌, subst}
 use Rattle.std.proofs.lemmas.Option.{slice_get_within}
-use Rattle.ip_wire.specs.SeqNumber.{SeqNumber}
 use Rattle.net_base.specs.Time.{last_moment}
 use Rattle.tcp_law.specs.Side.{Side as Half}
 use Rattle.tcp_law.specs.Side.Opening.{Passive}

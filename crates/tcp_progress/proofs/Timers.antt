@@ -1,6 +1,6 @@
 -- The retransmission timer of a socket runs out within a minute, and the pause between drawn answers lasts a second at most.
-use Rattle.std.proofs.Common.{◌≡◌, ℕ, ◌+◌, ◌-◌, ◌*◌, ◌<◌, ◌≤◌, ◌==◌, ◌&&◌, nat_le, nat_lt, not, min, max, ℤ, pos, ◌+ℤ◌, ◌≤ℤ◌, Bool, true, false, if◌then◌else◌}
-use Rattle.std.proofs.Common.{List, length, take, Option, Some, None, is_some, is_none, refl, sym, ap, ◌∙◌, subst, arith}
+use Rattle.std.proofs.Common.{◌≡◌, ℕ, ◌+◌, ◌-◌, ◌*◌, ◌≤◌, ◌==◌, ◌&&◌, nat_le, nat_lt, not, min, max, ℤ, pos, ◌+ℤ◌, ◌≤ℤ◌, Bool, true, false, if◌then◌else◌}
+use Rattle.std.proofs.Common.{List, length, take, Option, Some, None, is_some, is_none, refl, sym, subst, arith}
 use Rattle.std.proofs.lemmas.Bool.{cond_both}
 use Rattle.std.proofs.lemmas.Int.{ints}
 use Rattle.net_base.specs.Ring.{Ring, anchored, enqueued}
@@ -19,18 +19,18 @@ use Rattle.tcp_rules.specs.OfferKind.TheVariants as Kind
 use Rattle.tcp_rules.specs.OpenOffer.{OpenOffer}
 use Rattle.tcp_rules.specs.State.TheVariants as In
 use Rattle.tcp_rules.specs.States.{is_closed, is_opening, is_time_wait, takes_writes, after_close}
-use Rattle.tcp_pair_model.specs.Acknowledged.{retransmit_after, round_trip_after, una_moved, windowed, acks_own_syn, is_partial}
+use Rattle.tcp_pair_model.specs.Acknowledged.{round_trip_after, una_moved, windowed, acks_own_syn, is_partial}
 use Rattle.tcp_pair_model.specs.Arrival.{arrives, waiting_anew}
 use Rattle.tcp_pair_model.specs.Block.{Block}
 use Rattle.tcp_pair_model.specs.Blocks.{fresh_block}
-use Rattle.tcp_pair_model.specs.Calls.{listening, connecting, connected_by, pair_for, sent_more}
+use Rattle.tcp_pair_model.specs.Calls.{listening, connected_by, pair_for, sent_more}
 use Rattle.tcp_pair_model.specs.FirstNumbers.{number_for}
 use Rattle.tcp_pair_model.specs.LossRecovery.{loss_probed}
 use Rattle.tcp_pair_model.specs.Offers.{number_at, offer_choice, offer_of, offer_segment}
 use Rattle.tcp_pair_model.specs.Retries.{heard, asked, one_more}
 use Rattle.tcp_pair_model.specs.Rules.{Choice, backed_off_now, control_for, probe_choice, resend_choice, text_choice}
 use Rattle.tcp_pair_model.specs.Segments.{ack_segment, hops_of, keep_alive_segment, reset_segment, segment, syn_segment}
-use Rattle.tcp_pair_model.specs.Settled.{end_of, nxt_moved, past_held, probed, recorded, resent, sent_as, settled, syn_went, went}
+use Rattle.tcp_pair_model.specs.Settled.{end_of, nxt_moved, probed, recorded, resent, sent_as, settled, syn_went, went}
 use Rattle.tcp_pair_model.specs.Timestamps.{echo_of, echo_taken, stamp_taken, timed_by, timed_with}
 use Rattle.tcp_pair_model.specs.Value.{TcpValue, Arrived, with_block, unoffered, ended, free_in, new_socket, queued_in, room_of, window_of}
 use Rattle.tcp_model.specs.Opening.{took_syn}
@@ -54,13 +54,14 @@ measured_good r millis g = record { least = g.least; timeout = below _ } where
 
 advanced_good : (r : RoundTripValue) (by : ℕ) (now : ℤ) → IsGood r → IsGood (round_trip.advanced r by now)
 advanced_good r by now g =
-    elim r.sample as (λ sample. IsGood (round_trip.advanced_with r by now sample))
-    [ None ↦ g
-    | Some s ↦
-        cond_both (nat_le s.ends by) (round_trip.measured r (round_trip.millis_between s.since now))
-        (record r { sample = Some (record s { ends = s.ends - by }) }) IsGood
-        (λ _. measured_good r (round_trip.millis_between s.since now) g)
-        (λ _. record { least = g.least; timeout = g.timeout }) ]
+    elim r.sample as (λ sample. IsGood (round_trip.advanced_with r by now sample)) [
+      | None ↦ g
+      | Some s ↦
+          cond_both (nat_le s.ends by) (round_trip.measured r (round_trip.millis_between s.since now))
+          (record r { sample = Some (record s { ends = s.ends - by }) }) IsGood
+          (λ _. measured_good r (round_trip.millis_between s.since now) g)
+          (λ _. record { least = g.least; timeout = g.timeout })
+    ]
 
 late_good : (r : RoundTripValue) → IsGood r → IsGood (round_trip.begun_late r)
 late_good r g = record { least = g.least; timeout = at (is_none r.estimate) } where
@@ -97,10 +98,10 @@ set_good duration r e = record { least = least_good duration; timeout = both (le
 -- WHAT IS NEAR
 
 -- of these four of a block
-pub record IsBounded (now : ℤ) (r : RoundTripValue) (timer pause : Option ℤ) : Type 0 where
+pub record IsBounded (now : ℤ) (r : RoundTripValue) (runs_out draws_from : Option ℤ) : Type 0 where
   pub good : IsGood r
-  pub timer : IsNear now 60_000_000 timer
-  pub pause : IsNear now 1_000_000 pause
+  pub timer : IsNear now 60_000_000 runs_out
+  pub pause : IsNear now 1_000_000 draws_from
 
 abbrev pub Bounded : ℤ → Block → Type 0
 Bounded now b = IsBounded now b.round_trip b.timers.retransmit_at b.timers.draws_from
@@ -213,9 +214,10 @@ module _ (cx : ContextValue) (ip : IpRepr) (header : TcpHeader) (bytes : List �
 
 timing_good : (r : RoundTripValue) (ends : ℕ) (now : ℤ) → IsGood r → IsGood (round_trip.timing r ends now)
 timing_good r ends now g =
-    elim r.sample as (λ sample. IsGood (round_trip.timing_with r ends now sample))
-    [ None ↦ record { least = g.least; timeout = g.timeout }
-    | Some s ↦ g ]
+    elim r.sample as (λ sample. IsGood (round_trip.timing_with r ends now sample)) [
+      | None ↦ record { least = g.least; timeout = g.timeout }
+      | Some s ↦ g
+    ]
 
 module _ (now : ℤ) (b : Block) (o : OpenOffer) (queued : ℕ) (same : o.moment ≡ now) (h : Bounded now b) where
   nxt_good : IsGood (nxt_moved b (end_of b o) queued o.moment).round_trip

@@ -4,7 +4,7 @@ ghost use Rattle.std.specs.Prelude.{◌≡◌, suc, ◌*◌, pos, [], ◌∷◌,
 ghost use Rattle.tcp_progress.specs.Arrivals.{Counts, IsNew, IsAgain};
 ghost use Rattle.tcp_pair_model.specs.Values.{past_at};
 ghost use Rattle.tcp_pair_model.specs.declared.event.Side.TheVariants.{A};
-ghost use Rattle.tcp_progress.specs.Handshake.{AreOpened, MayShake, shaken_in};
+ghost use Rattle.tcp_progress.specs.Handshake.{MayShake};
 ghost use Rattle.tcp_progress.specs.Met.{called, unheard, gone, come, told, text, late, later, again_in};
 ghost use Rattle.tcp_progress.specs.Pair.{Exchanges, HasStream, MayExchangeIn, MovesIn, exchanged_in, left_in};
 ghost use Rattle.tcp_progress.specs.Reached.{IsReached, Owes};
@@ -41,7 +41,6 @@ pub fn what_a_handshake_asks_for_is_met()
     ensures reached { IsReached unheard }
     ensures first { MayShake called A (pos 0) (pos 0) (pos 0) }
     ensures lost { MayShake unheard A late late late }
-    ensures opens { AreOpened (shaken_in unheard A late late late) A }
 {}
 
 /// Rounds of one way are met where three bytes have gone and were lost, of default sockets.

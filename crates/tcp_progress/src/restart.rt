@@ -1,8 +1,6 @@
 //! That a side which starts over sends of itself.
 
-ghost use Rattle.std.specs.Prelude.{◌≡◌, ℤ, true, Some, None};
-ghost use Rattle.tcp_tie.specs.Context.{ContextValue};
-ghost use Rattle.tcp_pair_model.specs.Sides.{at};
+ghost use Rattle.std.specs.Prelude.{◌≡◌, ℤ, true, None};
 ghost use Rattle.tcp_pair_model.specs.Steps.{refusal};
 ghost use Rattle.tcp_pair_model.specs.Values.{PairValue, past_at};
 ghost use Rattle.tcp_pair_model.specs.declared.event.PairEvent.TheVariants.{Offer};

@@ -55,6 +55,3 @@ returns-clause-lost c = record {
   at_second = refl;
   at_third = refl;
 }
-
-pub returns-clause-opens : goal.returns-clause-opens
-returns-clause-opens c = record { own = refl; theirs = refl; una = refl; partner_una = refl }
