@@ -45,10 +45,11 @@ static size_t any_size(void)
     }
 }
 
-/* A size that is mostly small: what memory is taken for. */
+/* A size that is mostly small: what memory is taken for. None is a gigabyte, whose zeros would take most of the time. */
 static size_t some_size(void)
 {
-    return choice(16) == 0 ? any_size() : (size_t)choice(5000);
+    const size_t size = choice(16) == 0 ? any_size() : (size_t)choice(5000);
+    return size >> 30 == 1 ? SIZE_MAX : size;
 }
 
 static uint64_t any_number(void)
@@ -61,6 +62,10 @@ static uint64_t any_number(void)
     }
 }
 
+/* The host that the next calls are of. */
+static int caller;
+
+/* An address, mostly that of the other host. */
 static zv_address any_address(void)
 {
     zv_address address = {0, {0}};
@@ -68,7 +73,7 @@ static zv_address any_address(void)
     for (int i = 0; i < 16; i++)
         address.bytes[i] = (uint8_t)choice(256);
     if (choice(4) != 0) {
-        const uint8_t near[4] = {192, 168, 1, (uint8_t)(1 + choice(3))};
+        const uint8_t near[4] = {192, 168, 1, (uint8_t)(choice(4) == 0 ? 1 + choice(3) : caller == 0 ? 2 : 1)};
         memset(address.bytes, 0, sizeof address.bytes);
         if (address.family == 4) {
             memcpy(address.bytes, near, sizeof near);
@@ -83,8 +88,19 @@ static zv_address any_address(void)
 
 static zv_endpoint any_endpoint(void)
 {
-    zv_endpoint endpoint = {any_address(), (uint16_t)(choice(4) == 0 ? choice(65536) : 7)};
+    zv_endpoint endpoint = {any_address(), (uint16_t)(choice(8) == 0 ? choice(65536) : 7)};
     return endpoint;
+}
+
+/* An address and a port of a socket, mostly such that something comes to it. */
+static zv_address own_address(void)
+{
+    return choice(4) == 0 ? any_address() : zv_any();
+}
+
+static uint16_t own_port(void)
+{
+    return (uint16_t)(choice(4) == 0 ? choice(10) : 7);
 }
 
 static void fail(const char *why, uint64_t number)
@@ -111,9 +127,22 @@ static void make(zv_host *host, int which)
         .frames = choice(8) == 0 ? some_size() : 32,
         .keyed = (uint8_t)choice(3),
     };
-    zv_address own = zv_ipv4(192, 168, 1, (uint8_t)(which + 1));
+    const zv_address own = zv_ipv4(192, 168, 1, (uint8_t)(which + 1));
+    zv_address other = {6, {0xfe, 0x80, 0}};
+    other.bytes[15] = (uint8_t)(which + 1);
     check(zv_host_new(host, &settings, choice(16) == 0 ? (int64_t)any_number() : clock_of[which]));
     check(zv_address_add(host, &own, 24));
+    check(zv_address_add(host, &other, 64));
+}
+
+/* The place of a TCP socket, from this one on, if there is one. */
+static size_t stream_from(zv_host *host, size_t place)
+{
+    uint8_t state;
+    for (size_t i = 0; i < SOCKETS; i++)
+        if (zv_tcp_state(host, (place + i) % SOCKETS, &state) == ZV_OK)
+            return (place + i) % SOCKETS;
+    return place;
 }
 
 /* One call, of any kind. */
@@ -126,24 +155,27 @@ static void call(zv_host *host, int which)
     size_t length = (size_t)choice(MOST);
     int64_t at = 0;
     zv_endpoint remote = any_endpoint(), local = any_endpoint();
-    zv_address address = any_address(), network = any_address();
+    zv_address address = any_address(), network = any_address(), own = own_address();
     zv_counts counts;
     zv_lease lease;
     zv_addresses found;
     static uint16_t port;
     uint32_t code = ZV_OK;
+    const uint64_t what = choice(72);
+    if (((what > 13 && what < 40) || what > 65) && choice(8) != 0)
+        socket = stream_from(host, socket);
     if (choice(64) == 0)
         length = choice(sizeof bytes);
     for (size_t i = 0; i < 8 && i < length; i++)
         bytes[i] = (uint8_t)choice(256);
-    switch (choice(66)) {
+    switch (what) {
     case 0: code = zv_address_add(host, &address, (uint8_t)choice(140)); break;
     case 1: code = zv_address_remove(host, &address); break;
     case 2: code = zv_route_add(host, &network, (uint8_t)choice(140), &address); break;
     case 3: code = zv_route_remove(host, &network, (uint8_t)choice(140)); break;
     case 4: code = zv_udp_new(host, choice(16), some_size(), &count); break;
-    case 5: code = zv_udp_bind(host, socket, &address, (uint16_t)choice(10)); break;
-    case 6: case 7: case 8: code = zv_udp_send(host, socket, bytes, length, &remote, &address); break;
+    case 5: code = zv_udp_bind(host, socket, &own, own_port()); break;
+    case 6: case 7: case 8: code = zv_udp_send(host, socket, bytes, length, &remote, &own); break;
     case 9: case 10:
         code = zv_udp_recv(host, socket, bytes, length, &count, &remote, &address);
         if (code == ZV_OK && count > length)
@@ -151,10 +183,14 @@ static void call(zv_host *host, int which)
         break;
     case 11: code = zv_udp_set_hop_limit(host, socket, (uint8_t)choice(256)); break;
     case 12: code = zv_udp_close(host, socket); break;
-    case 13: code = zv_tcp_new(host, some_size(), some_size(), &count); break;
-    case 14: case 15: code = zv_tcp_listen(host, socket, &address, (uint16_t)choice(10)); break;
-    case 16: case 17: code = zv_tcp_connect(host, socket, &remote, &address, (uint16_t)choice(10)); break;
-    case 18: case 19: case 20:
+    case 13: code = zv_tcp_new(host, choice(32) == 0 ? any_size() : some_size(), some_size(), &count); break;
+    case 14: case 15: code = zv_tcp_listen(host, socket, &own, own_port()); break;
+    case 16: case 17: case 66: case 67:
+        if (zv_tcp_state(host, socket, &byte) == ZV_OK && byte == ZV_LISTEN && choice(4) != 0)
+            check(zv_tcp_close(host, socket));
+        code = zv_tcp_connect(host, socket, &remote, &own, (uint16_t)(choice(8) == 0 ? 0 : 49152 + choice(64)));
+        break;
+    case 18: case 19: case 20: case 68: case 69:
         code = zv_tcp_send(host, socket, bytes, length, &count);
         if (code == ZV_OK && count > length)
             fail("more bytes than there are", count);
@@ -173,7 +209,7 @@ static void call(zv_host *host, int which)
             fail("more bytes given up than lent", length);
         break;
     case 25: code = zv_tcp_done(host, socket, any_size(), &count); break;
-    case 26: code = zv_tcp_close(host, socket); break;
+    case 26: case 70: case 71: code = zv_tcp_close(host, socket); break;
     case 27: code = zv_tcp_abort(host, socket); break;
     case 28:
         code = zv_tcp_state(host, socket, &byte);
@@ -182,15 +218,15 @@ static void call(zv_host *host, int which)
         break;
     case 29: code = zv_tcp_peer(host, socket, &local, &remote); break;
     case 30: code = zv_tcp_queues(host, socket, &count, &other); break;
-    case 31: code = zv_tcp_set_timeout(host, socket, any_number()); break;
+    case 31: code = zv_tcp_set_timeout(host, socket, choice(4) == 0 ? any_number() : UINT64_MAX); break;
     case 32: code = zv_tcp_set_keep_alive(host, socket, any_number()); break;
     case 33: code = zv_tcp_set_ack_delay(host, socket, any_number()); break;
     case 34: code = zv_tcp_set_nagle(host, socket, (uint8_t)choice(256)); break;
     case 35: code = zv_tcp_set_hop_limit(host, socket, (uint8_t)choice(256)); break;
     case 36: code = zv_tcp_set_retries(host, socket, (uint16_t)choice(65536)); break;
-    case 37: code = zv_tcp_set_congestion_control(host, socket, (uint8_t)choice(2)); break;
+    case 37: code = zv_tcp_set_congestion_control(host, socket, (uint8_t)choice(3)); break;
     case 38: code = zv_tcp_set_timestamps(host, socket, (uint8_t)choice(2), (uint32_t)any_number()); break;
-    case 39: code = zv_tcp_pause_synack(host, socket, (uint8_t)choice(2)); break;
+    case 39: code = zv_tcp_pause_synack(host, socket, choice(8) == 0); break;
     case 40: code = choice(2) ? zv_icmp_new(host, choice(8), some_size(), &count) : zv_icmp_bind(host, socket, (uint16_t)choice(8)); break;
     case 41: code = zv_icmp_send(host, socket, bytes, length, &address); break;
     case 42: code = zv_icmp_recv(host, socket, bytes, length, &count, &address); break;
@@ -202,13 +238,12 @@ static void call(zv_host *host, int which)
     case 46:
         code = choice(8) == 0 ? zv_socket_remove(host, socket) : zv_counters(host, &counts);
         break;
-    case 47: code = zv_listener_new(host, &address, (uint16_t)choice(10), &count); break;
+    case 47: code = zv_listener_new(host, &own, own_port(), &count); break;
     case 48: case 49: code = zv_listener_add(host, choice(4), socket); break;
     case 50: code = choice(4) ? zv_listener_accept(host, choice(4), &count) : zv_listener_add_keeper(host, choice(4), socket); break;
     case 51: code = choice(16) ? zv_listener_give_back(host, choice(4), socket) : zv_listener_remove(host, any_size()); break;
     case 52:
-        code = choice(2) ? zv_icmp_bind_udp(host, socket, &address, (uint16_t)choice(10))
-                         : zv_icmp_bind_tcp(host, socket, &address, (uint16_t)choice(10));
+        code = choice(2) ? zv_icmp_bind_udp(host, socket, &own, own_port()) : zv_icmp_bind_tcp(host, socket, &own, own_port());
         break;
     case 53: code = zv_icmp_set_hop_limit(host, socket, (uint8_t)choice(256)); break;
     case 56: code = zv_tcp_set_min_rto(host, socket, any_number()); break;
@@ -220,7 +255,11 @@ static void call(zv_host *host, int which)
         if (code == ZV_OK && count > length)
             fail("more bytes than the buffer has", count);
         break;
-    case 61: code = choice(2) ? zv_dhcp_poll_at(host, &at) : zv_dns_poll_at(host, &at); break;
+    case 61:
+        code = choice(4) == 0 ? zv_dhcp_poll(host, choice(8) == 0 ? (int64_t)any_number() : clock_of[which], &lease)
+               : choice(2)    ? zv_dhcp_poll_at(host, &at)
+                              : zv_dns_poll_at(host, &at);
+        break;
     case 62:
         code = zv_dns_new(host, &address, &network, &remote.address);
         memcpy(bytes, "www.example.test", 16);
@@ -305,6 +344,7 @@ static void step(zv_host *hosts)
 {
     int which = (int)choice(HOSTS);
     uint8_t changed = 0;
+    caller = which;
     switch (choice(8)) {
     case 0: case 1: case 2:
         clock_of[which] += (int64_t)choice(choice(64) == 0 ? 100000000 : 20000);

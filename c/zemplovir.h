@@ -45,7 +45,7 @@ enum {
     ZV_EMPTY = 10,        /* nothing waits */
     ZV_TRUNCATED = 11,    /* the datagram is longer than the buffer, and is gone */
     ZV_FINISHED = 12,     /* the remote has closed its way, and all that it sent was read */
-    ZV_TOO_SHORT = 13,    /* the frame is longer than the buffer, and stays */
+    ZV_TOO_SHORT = 13,    /* what is to go, a frame or a client's message, is longer than the buffer, and stays */
     ZV_TOO_LONG = 14,     /* the frame is longer than 65,549 bytes, or a stream's buffer than 2^30 */
     ZV_TABLE_FULL = 15,   /* there are four addresses or routes already, or sixteen listeners */
     ZV_NOT_FOUND = 16,    /* the address or the route isn't there */
@@ -57,7 +57,7 @@ enum {
     ZV_IN_BACKLOG = 22,    /* a listener has the socket */
     ZV_NO_CLIENT = 23,     /* the host has no such client */
     ZV_QUERY_PENDING = 24, /* the query has no answer yet */
-    ZV_NAME_TOO_LONG = 25, /* the name has more than 255 bytes */
+    ZV_NAME_TOO_LONG = 25, /* the name has more than 255 bytes as it is sent, so more than 253 as a text */
     ZV_INVALID_NAME = 26,  /* a label of the name has no bytes, or more than 63, or the name is no text in UTF-8 */
     ZV_QUERY_FAILED = 27   /* no server gave an address, or nothing was asked */
 };
@@ -79,7 +79,7 @@ static inline const char *zv_strerror(uint32_t code)
     case ZV_EMPTY: return "nothing waits";
     case ZV_TRUNCATED: return "datagram longer than the buffer, and gone";
     case ZV_FINISHED: return "the stream is read to its end";
-    case ZV_TOO_SHORT: return "buffer too short for the frame, which stays";
+    case ZV_TOO_SHORT: return "buffer too short for what is to go, which stays";
     case ZV_TOO_LONG: return "too long";
     case ZV_TABLE_FULL: return "table full";
     case ZV_NOT_FOUND: return "not found";
@@ -111,6 +111,7 @@ static inline zv_address zv_ipv4(uint8_t a, uint8_t b, uint8_t c, uint8_t d)
     return address;
 }
 
+/* No address: any own one, or the one that the host chooses. 0.0.0.0 and :: don't stand for that: they are addresses as others are. */
 static inline zv_address zv_any(void)
 {
     zv_address address = {0, {0}};
@@ -158,18 +159,18 @@ uint32_t zv_host_new(zv_host *host, const zv_settings *settings, int64_t now);
 /* Gives all memory of the host back, that of its sockets too. The handle is empty then, and may be used for another host. */
 uint32_t zv_host_free(zv_host *host);
 
-/* Adds an own address with the length of its network's prefix, as 24; at most four. All neighbours are forgotten.
- * ZV_BAD_ARGUMENT, ZV_TABLE_FULL, ZV_NOT_UNICAST. */
+/* Adds an own address with the length of its network's prefix, as 24; at most four. One that is there already is there twice then. All
+ * neighbours are forgotten. ZV_BAD_ARGUMENT, ZV_TABLE_FULL, ZV_NOT_UNICAST. */
 uint32_t zv_address_add(zv_host *host, const zv_address *address, uint8_t prefix);
 
 /* Takes an own address out. All neighbours are forgotten. ZV_BAD_ARGUMENT, ZV_NOT_FOUND. */
 uint32_t zv_address_remove(zv_host *host, const zv_address *address);
 
 /* Adds a route: packets for the network go to the router. A prefix of 0 is the default route. At most four.
- * ZV_BAD_ARGUMENT, ZV_TABLE_FULL. */
+ * ZV_BAD_ARGUMENT (also where network and router are of two families), ZV_TABLE_FULL. */
 uint32_t zv_route_add(zv_host *host, const zv_address *network, uint8_t prefix, const zv_address *router);
 
-/* Takes the first route of exactly this network out. ZV_BAD_ARGUMENT, ZV_NOT_FOUND. */
+/* Takes the first route out whose network and prefix were given as these. ZV_BAD_ARGUMENT, ZV_NOT_FOUND. */
 uint32_t zv_route_remove(zv_host *host, const zv_address *network, uint8_t prefix);
 
 /* Sets the station's address. ZV_MEDIUM, ZV_NOT_UNICAST. */
@@ -194,10 +195,9 @@ uint32_t zv_frame_out(zv_host *host, uint8_t *frame, size_t length, size_t *coun
 /* How many bytes the first frame has that is to go. ZV_EMPTY. */
 uint32_t zv_frame_out_length(zv_host *host, size_t *count);
 
-/* Takes in at most `budget` of the frames that came, and goes over the sockets at most `budget` times for what they have to send. While
- * as many frames are to go as may, none comes and none goes: fetch them, and poll again. Then each listener sees how far the sockets of its
- * backlog came. `changed` is 1 where the state or a queue of a
- * socket may have changed, else 0. ZV_MOMENT. */
+/* Takes in at most `budget` of the frames that came, and goes over the sockets at most `budget` times for what they have to send. While as
+ * many frames are to go as may, none comes and none goes: fetch them, and poll again. Then each listener sees how far the sockets of its
+ * backlog came. `changed` is 1 where the state or a queue of a socket may have changed, else 0. ZV_MOMENT. */
 uint32_t zv_poll(zv_host *host, int64_t now, uint16_t budget, uint8_t *changed);
 
 /* When the host wants to be polled: nothing has to be done before, unless a frame comes or a socket is called. INT64_MAX for never; a
@@ -221,8 +221,9 @@ uint32_t zv_udp_new(zv_host *host, size_t packets, size_t bytes, size_t *socket)
 uint32_t zv_udp_bind(zv_host *host, size_t socket, const zv_address *address, uint16_t port);
 
 /* Queues a datagram, which a poll sends. It goes from the own address `local`; with zv_any from the one that the socket is bound to, or
- * that the host chooses. One for which there is no own address of its family is dropped later, in silence.
- * ZV_BAD_ARGUMENT, ZV_UNADDRESSABLE, ZV_FULL. */
+ * that the host chooses. One that is longer than a frame takes goes in pieces over IPv4, if it has at most 4,068 bytes; a longer one is
+ * dropped later, in silence, and so is one for which there is no own address of its family.
+ * ZV_BAD_ARGUMENT, ZV_UNADDRESSABLE (the socket is unbound, or the remote's port 0 or its address unspecified), ZV_FULL. */
 uint32_t zv_udp_send(zv_host *host, size_t socket, const uint8_t *bytes, size_t length, const zv_endpoint *remote, const zv_address *local);
 
 /* Copies the first datagram to the buffer; says its length, where it came from, and the own address that it was sent to. One that is
@@ -259,14 +260,18 @@ uint32_t zv_tcp_new(zv_host *host, size_t received, size_t queued, size_t *socke
  * several at a time, let several sockets listen, or make a listener. ZV_BAD_ARGUMENT, ZV_UNADDRESSABLE (port 0), ZV_INVALID_STATE (it is open). */
 uint32_t zv_tcp_listen(zv_host *host, size_t socket, const zv_address *address, uint16_t port);
 
-/* Opens a connection from a port, of an own address or, with zv_any, of the one that the host chooses.
- * ZV_BAD_ARGUMENT, ZV_UNADDRESSABLE, ZV_INVALID_STATE (it is open). */
+/* Opens a connection from a port, of an own address or, with zv_any, of the one that the host chooses. It is open once zv_tcp_state says
+ * ZV_ESTABLISHED, and has failed where that says ZV_CLOSED. No port is chosen by the host: name one from 49152 on, another each time.
+ * ZV_BAD_ARGUMENT, ZV_UNADDRESSABLE (a port is 0, the remote's address unspecified, or no own address of its family), ZV_INVALID_STATE (the
+ * socket is open). */
 uint32_t zv_tcp_connect(zv_host *host, size_t socket, const zv_endpoint *remote, const zv_address *address, uint16_t port);
 
-/* Queues as many of the bytes as there is room for, perhaps none, and says how many. ZV_INVALID_STATE. */
+/* Queues as many of the bytes as there is room for, perhaps none, and says how many. ZV_INVALID_STATE (the connection isn't open yet, or its
+ * way out is closed). */
 uint32_t zv_tcp_send(zv_host *host, size_t socket, const uint8_t *bytes, size_t length, size_t *count);
 
-/* Copies waiting bytes to the buffer, perhaps none, and says how many. ZV_FINISHED, ZV_INVALID_STATE. */
+/* Copies waiting bytes to the buffer, perhaps none, and says how many. ZV_FINISHED, ZV_INVALID_STATE (nothing waits, and the connection isn't
+ * open yet, or ended by a reset or a timeout). */
 uint32_t zv_tcp_recv(zv_host *host, size_t socket, uint8_t *bytes, size_t length, size_t *count);
 
 /* Lends the first waiting bytes, as many as lie behind one another: they stand where `bytes` points to until the next call with this
@@ -277,10 +282,12 @@ uint32_t zv_tcp_peek(zv_host *host, size_t socket, const uint8_t **bytes, size_t
  * ZV_FINISHED, ZV_INVALID_STATE. */
 uint32_t zv_tcp_done(zv_host *host, size_t socket, size_t wanted, size_t *count);
 
-/* Closes the way out: what is queued still goes, and then the end of the stream. The remote may still send. */
+/* Closes the way out: what is queued still goes, and then the end of the stream. The remote may still send. A socket that listens, or whose
+ * connection isn't answered yet, is closed at once. */
 uint32_t zv_tcp_close(zv_host *host, size_t socket);
 
-/* Ends the connection. The next poll sends a reset, if there is a remote that waits for one. */
+/* Ends the connection. The next poll sends a reset, if there is a remote that waits for one; none goes where the socket is opened again
+ * before. */
 uint32_t zv_tcp_abort(zv_host *host, size_t socket);
 
 /* The state of the connection. */
@@ -292,20 +299,22 @@ uint32_t zv_tcp_peer(zv_host *host, size_t socket, zv_endpoint *local, zv_endpoi
 /* How many bytes wait to be read, and how many are queued that aren't acknowledged. */
 uint32_t zv_tcp_queues(zv_host *host, size_t socket, size_t *received, size_t *queued);
 
+/* SETTINGS of TCP. They stay as they are when the socket is opened again. */
+
 /* How long the remote may be silent while something waits for it, in microseconds. UINT64_MAX for ever, which is what a new socket has. */
 uint32_t zv_tcp_set_timeout(zv_host *host, size_t socket, uint64_t micros);
 
-/* The interval of keep-alives in microseconds. UINT64_MAX for none, which is what a new socket has. */
+/* The interval of keep-alives in microseconds, of which the first goes at once. UINT64_MAX for none, which is what a new socket has. */
 uint32_t zv_tcp_set_keep_alive(zv_host *host, size_t socket, uint64_t micros);
 
-/* The delay of an acknowledgement in microseconds. UINT64_MAX for none. */
+/* The delay of an acknowledgement in microseconds. UINT64_MAX for none. A new socket has 10 ms. */
 uint32_t zv_tcp_set_ack_delay(zv_host *host, size_t socket, uint64_t micros);
 
-/* How long a segment waits for its acknowledgement at least until it goes again, in microseconds, from 10 ms to a minute. A new socket has
- * a second (RFC 6298); Linux has 200 ms. */
+/* How long a segment waits for its acknowledgement at least until it goes again, in microseconds, whole milliseconds of which count: 10 ms
+ * where it is less, a minute where it is more. A new socket has a second (RFC 6298); Linux has 200 ms. */
 uint32_t zv_tcp_set_min_rto(zv_host *host, size_t socket, uint64_t micros);
 
-/* Whether small segments wait while others are in flight: 0 for no. */
+/* Whether small segments wait while others are in flight: 0 for no. A new socket lets them wait. */
 uint32_t zv_tcp_set_nagle(zv_host *host, size_t socket, uint8_t enabled);
 
 /* The hop limit of what is sent, 0 for the usual 64. */
@@ -315,13 +324,21 @@ uint32_t zv_tcp_set_hop_limit(zv_host *host, size_t socket, uint8_t limit);
  * connection is opened, and 16 later. */
 uint32_t zv_tcp_set_retries(zv_host *host, size_t socket, uint16_t limit);
 
-/* Whether what is sent is held back where congestion may be, as RFC 5681 says: 0 for no. */
-uint32_t zv_tcp_set_congestion_control(zv_host *host, size_t socket, uint8_t enabled);
+/* How what is sent is held back where congestion may be. */
+enum {
+    ZV_CONGESTION_NONE = 0, /* not at all */
+    ZV_CONGESTION_RENO = 1, /* as RFC 5681 says, which is what a new socket has */
+    ZV_CONGESTION_CUBIC = 2 /* as RFC 9438 says */
+};
 
-/* Whether segments carry timestamps (RFC 7323), 0 for no; they begin with `first`. */
+/* Sets how, and starts it anew. A number above 2 stands for Reno. */
+uint32_t zv_tcp_set_congestion_control(zv_host *host, size_t socket, uint8_t control);
+
+/* Whether segments carry timestamps (RFC 7323), 0 for no, which is what a new socket has; they begin with `first`. Set it before the
+ * connection is opened. */
 uint32_t zv_tcp_set_timestamps(zv_host *host, size_t socket, uint8_t enabled, uint32_t first);
 
-/* Whether the answer to a SYN waits until this is set to 0. */
+/* Whether the answer to a SYN waits until this is set to 0, which is what a new socket has. */
 uint32_t zv_tcp_pause_synack(zv_host *host, size_t socket, uint8_t paused);
 
 /* LISTENERS with a backlog: sockets that listen at one port in turn. A socket comes from zv_tcp_new and stays the listener's until the
@@ -367,7 +384,8 @@ uint32_t zv_icmp_bind_tcp(zv_host *host, size_t socket, const zv_address *addres
 /* Sets the hop limit of what is sent, 0 for the usual 64. */
 uint32_t zv_icmp_set_hop_limit(zv_host *host, size_t socket, uint8_t limit);
 
-/* Queues a message, from its type on. Its checksum is written when it is sent. ZV_BAD_ARGUMENT, ZV_UNADDRESSABLE, ZV_FULL. */
+/* Queues a message, from its type on; the socket needn't be bound. Its checksum is written when it is sent. What is no message of ICMP for
+ * the remote's family is dropped later, in silence. ZV_BAD_ARGUMENT, ZV_UNADDRESSABLE (the remote is unspecified), ZV_FULL. */
 uint32_t zv_icmp_send(zv_host *host, size_t socket, const uint8_t *bytes, size_t length, const zv_address *remote);
 
 /* Copies the first message to the buffer, and says its length and where it came from. One that is longer than the buffer is gone
@@ -380,7 +398,8 @@ uint32_t zv_icmp_recv(zv_host *host, size_t socket, uint8_t *bytes, size_t lengt
  * of so many bytes together, each way, and says its place. ZV_BAD_ARGUMENT (family), ZV_MEMORY. */
 uint32_t zv_raw_new(zv_host *host, uint8_t family, uint16_t protocol, size_t packets, size_t bytes, size_t *socket);
 
-/* Queues a packet with its IP header, whose checksum is written when it is sent. ZV_FULL. */
+/* Queues a packet with its IP header, which is written anew when it is sent, with its checksum and without options. What is no packet of the
+ * socket's family and protocol is dropped later, in silence. ZV_FULL. */
 uint32_t zv_raw_send(zv_host *host, size_t socket, const uint8_t *bytes, size_t length);
 
 /* Copies the first packet to the buffer, its IP header first, and says its length. One that is longer than the buffer is gone
@@ -413,7 +432,8 @@ uint32_t zv_dhcp_new(zv_host *host, uint64_t seed);
 uint32_t zv_dhcp_recv(zv_host *host, const uint8_t *bytes, size_t length, const zv_endpoint *remote, const zv_address *local);
 
 /* Copies the message that is due at the moment of the last poll: how many bytes it has, where to, and from where. It is open until
- * zv_dhcp_sent, or any other call of the client. ZV_EMPTY, ZV_TOO_SHORT (a message has 300 bytes). */
+ * zv_dhcp_sent, or any other call of the client. A client whose time is up begins anew, also with ZV_EMPTY.
+ * ZV_EMPTY, ZV_TOO_SHORT (a message has 300 bytes). */
 uint32_t zv_dhcp_send(zv_host *host, uint8_t *bytes, size_t length, size_t *count, zv_endpoint *remote, zv_endpoint *local);
 
 /* Says whether the message went: behind one that did the client waits for its answer. 0 for no. */
@@ -436,13 +456,14 @@ uint32_t zv_dns_ask(zv_host *host, const uint8_t *name, size_t length, uint8_t f
 uint32_t zv_dns_recv(zv_host *host, const uint8_t *bytes, size_t length, const zv_endpoint *remote, const zv_endpoint *local);
 
 /* Copies the query that is due at the moment of the last poll: how many bytes it has, where to, and from where. It is open until
- * zv_dns_sent, or any other call of the client. ZV_EMPTY, ZV_TOO_SHORT. */
+ * zv_dns_sent, or any other call of the client. A client whose time is up turns to the next server, also with ZV_EMPTY.
+ * ZV_EMPTY, ZV_TOO_SHORT (a query has at most 271 bytes). */
 uint32_t zv_dns_send(zv_host *host, uint8_t *bytes, size_t length, size_t *count, zv_endpoint *remote, zv_endpoint *local);
 
 /* Says whether the query went: behind one that did the client waits for its answer. 0 for no. */
 uint32_t zv_dns_sent(zv_host *host, uint8_t sent);
 
-/* The addresses that were found, told once. ZV_QUERY_PENDING, ZV_QUERY_FAILED. */
+/* The addresses that were found. They are told once, and so is that none were. ZV_QUERY_PENDING, ZV_QUERY_FAILED. */
 uint32_t zv_dns_result(zv_host *host, zv_addresses *addresses);
 
 /* When the client has something to send, INT64_MAX for never. */

@@ -45,7 +45,7 @@ errors! {
     10 Exhausted "nothing waits"
     11 Truncated "datagram longer than the buffer, and gone"
     12 Finished "the stream is read to its end"
-    13 TooShort "buffer too short for the frame, which stays"
+    13 TooShort "buffer too short for what is to go, which stays"
     14 TooLong "too long"
     15 TableFull "table full"
     16 NotFound "not found"

@@ -129,7 +129,7 @@ extern "C" {
     pub fn zv_tcp_set_nagle(host: *mut Host, socket: usize, enabled: u8) -> u32;
     pub fn zv_tcp_set_hop_limit(host: *mut Host, socket: usize, limit: u8) -> u32;
     pub fn zv_tcp_set_retries(host: *mut Host, socket: usize, limit: u16) -> u32;
-    pub fn zv_tcp_set_congestion_control(host: *mut Host, socket: usize, enabled: u8) -> u32;
+    pub fn zv_tcp_set_congestion_control(host: *mut Host, socket: usize, control: u8) -> u32;
     pub fn zv_tcp_set_timestamps(host: *mut Host, socket: usize, enabled: u8, first: u32) -> u32;
     pub fn zv_tcp_pause_synack(host: *mut Host, socket: usize, paused: u8) -> u32;
     pub fn zv_listener_new(host: *mut Host, address: *const Address, port: u16, listener: *mut usize) -> u32;

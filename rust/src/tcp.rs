@@ -36,6 +36,17 @@ const STATES: [State; 11] = [
     State::TimeWait,
 ];
 
+/// How what is sent is held back where congestion may be.
+#[derive(Clone, Copy, Debug, PartialEq, Eq)]
+pub enum CongestionControl {
+    /// Not at all.
+    None,
+    /// As RFC 5681 says.
+    Reno,
+    /// As RFC 9438 says.
+    Cubic,
+}
+
 /// A TCP socket of an interface.
 pub struct Socket<'a> {
     pub(crate) interface: &'a mut Interface,
@@ -178,9 +189,14 @@ impl Socket<'_> {
         done(unsafe { ffi::zv_tcp_set_retries(&mut self.interface.host, self.handle.0, limit) })
     }
 
-    /// Whether what is sent is held back where congestion may be, as RFC 5681 says.
-    pub fn set_congestion_control(&mut self, enabled: bool) -> Result<()> {
-        done(unsafe { ffi::zv_tcp_set_congestion_control(&mut self.interface.host, self.handle.0, enabled.into()) })
+    /// How what is sent is held back where congestion may be. A new socket has Reno.
+    pub fn set_congestion_control(&mut self, control: CongestionControl) -> Result<()> {
+        let control = match control {
+            CongestionControl::None => 0,
+            CongestionControl::Reno => 1,
+            CongestionControl::Cubic => 2,
+        };
+        done(unsafe { ffi::zv_tcp_set_congestion_control(&mut self.interface.host, self.handle.0, control) })
     }
 
     /// Timestamps, which begin with this number, or none.

@@ -79,7 +79,7 @@ module _ {D : Type 0} (moves : D → Move → D → Type 0) (t : ℤ) (Q : ℕ �
 
     offers : (o : Option PacketValue) (item item' : Item Socket) (changed : Bool) (turned : Turned) → SendsBy moves turn o x item changed turned x' item' → Next
     offers None item item' changed turned sends = absurd sends
-    offers (Some p) item item' changed turned sends = leaves item.meta p sends.0 sends.1
+    offers (Some p) item item' changed turned sends = leaves item.meta sends.0 sends.3.0 sends.3.1
 
     answers : (answer : Answer.Offer) (item item' : Item Socket) (turned : Turned) → Answers moves turn answer x item turned x' item' → Next
     answers (Offer.Silent changed) item item' turned is = rests is.1

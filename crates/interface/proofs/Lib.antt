@@ -23,3 +23,4 @@ pub mod Idents
 pub mod Trace
 pub mod OneEnd
 pub mod ByKind
+pub mod Sourced

@@ -10,7 +10,7 @@ use Rattle.interface_ingress.specs.Offer as Answer
 use Rattle.interface_ingress.specs.Offer.TheVariants as Offer
 use Rattle.interface_ingress.specs.Sockets.{Offers, offered_by}
 use Rattle.interface_ingress.specs.Socket.{Socket}
-use Rattle.interface_tables.specs.Inner.{InnerValue, context_of}
+use Rattle.interface_tables.specs.Inner.{InnerValue}
 use Rattle.interface_egress.specs.declared.socket_meta.Meta.{Meta}
 use Rattle.interface_egress.specs.declared.socket_set.Item.{Item}
 use Rattle.interface_egress.specs.declared.socket_set.SocketStorage.{SocketStorage}
@@ -18,7 +18,7 @@ use Rattle.interface_egress.specs.Departing.{SendsOnce, departure_by, was_taken}
 use Rattle.interface_egress.specs.Departure as Departures
 use Rattle.interface_egress.specs.Departure.{Departure}
 use Rattle.interface_egress.specs.Determined.{IsDetermined}
-use Rattle.interface_egress.specs.Fragments.{LeftValue, next_departure}
+use Rattle.interface_egress.specs.Fragments.{LeftValue, departure_from}
 use Rattle.interface_egress.specs.GoesOut.{GoesOut, PieceGoesOut, Departs, frame_of, frame_len_of}
 use Rattle.interface_egress.specs.Plan.{plan_of}
 use Rattle.interface_egress.specs.declared.way_out.Sent.{Sent}
@@ -29,11 +29,13 @@ use Rattle.interface_ingress.proofs.OneContent.{one-content}
 use Rattle.interface_ingress.specs.Arrives as Replies
 use Rattle.interface_ingress.specs.Arrives.{ReplyValue, Arrived, ArrivesAs}
 use Rattle.interface_ingress.proofs.OneArrival.{one_arrives_as}
+use Rattle.interface.specs.Remote.{context_for}
 use Rattle.interface.specs.Awaited.{turn_of}
 use Rattle.interface.specs.Host.{Sender}
 use Rattle.interface.specs.Pass.{Pass, Passed, passed}
 use Rattle.interface.specs.WayOut.{Clears, Egress, PieceLeaves}
-use Rattle.interface.specs.Turn.{Leaves, SendsBy, Answers, TurnsIf, ItemTurns, PlaceTurns, is_waiting, let_through, turned_by, settled_by, plan_at, held_at}
+use Rattle.interface.specs.Turn.{Leaves, SendsAs, SendsBy, Answers, TurnsIf, ItemTurns, PlaceTurns, is_waiting, let_through, turned_by, settled_by}
+use Rattle.interface.specs.Turn.{plan_at, held_at}
 use Rattle.interface.specs.Turn.{outcome_by, waits_until}
 use Rattle.interface.specs.declared.turn.Turned.{Turned}
 use Rattle.interface.specs.declared.turn.Turned.TheVariants as Turn
@@ -155,10 +157,9 @@ module _ (one_offer : OneOffer) {D : Type 0} (moves : D → Move → D → Type 
     abbrev SameTurn : {A : Type 0} → Turned → Sender D → A → Turned → Sender D → A → Type 0
     SameTurn a y p b z q = (a ≡ b) × (y ≡ z) × (p ≡ q)
 
-    one_sends : (o : Option PacketValue) (x y z : Sender D) (item m n : Item Socket) (changed : Bool) (a b : Turned) → Det x.device
-        → SendsBy moves turn o x item changed a y m → SendsBy moves turn o x item changed b z n → SameTurn a y m b z n
-    one_sends None x y z item m n changed a b det one two = absurd one
-    one_sends (Some p) x y z item m n changed a b det one two =
+    one_as : (p : PacketValue) (x y z : Sender D) (item m n : Item Socket) (changed : Bool) (a b : Turned) → Det x.device
+        → SendsAs moves turn p x item changed a y m → SendsAs moves turn p x item changed b z n → SameTurn a y m b z n
+    one_as p x y z item m n changed a b det one two =
         let same = one_leaves x y z item.meta p one.0 two.0 det one.1 two.1 in (
           one.2 ∙ ap (λ (s : Sent). turned_by s changed) same.0 ∙ sym two.2,
           same.1,
@@ -166,10 +167,18 @@ module _ (one_offer : OneOffer) {D : Type 0} (moves : D → Move → D → Type 
               ∙ ap (λ (v : Sender D). settled_by two.0 x.inner.moment (waits_until (plan_at x p) v.inner) (destination_of p.header) item) same.1 ∙ sym two.3,
         )
 
+    one_sends : (o : Option PacketValue) (x y z : Sender D) (item m n : Item Socket) (changed : Bool) (a b : Turned) → Det x.device
+        → SendsBy moves turn o x item changed a y m → SendsBy moves turn o x item changed b z n → SameTurn a y m b z n
+    one_sends None x y z item m n changed a b det one two = absurd one
+    one_sends (Some p) x y z item m n changed a b det one two =
+        let same : two.0 ≡ one.0 = two.1 ∙ sym one.1 in
+        one_as one.0 x y z item m n changed a b det one.3
+        (subst (λ (q : PacketValue). SendsAs moves turn q x item changed b z n) same two.3)
+
     det_sends : (o : Option PacketValue) (x y : Sender D) (item m : Item Socket) (changed : Bool) (a : Turned) → SendsBy moves turn o x item changed a y m →
         Det x.device → Det y.device
     det_sends None x y item m changed a one det = absurd one
-    det_sends (Some p) x y item m changed a one det = det_leaves x y item.meta p one.0 one.1 det
+    det_sends (Some p) x y item m changed a one det = det_leaves x y item.meta one.0 one.3.0 one.3.1 det
 
     one_answers : (answer : Answer.Offer) (x y z : Sender D) (item m n : Item Socket) (a b : Turned) → Det x.device
         → Answers moves turn answer x item a y m → Answers moves turn answer x item b z n → SameTurn a y m b z n
@@ -188,7 +197,7 @@ module _ (one_offer : OneOffer) {D : Type 0} (moves : D → Move → D → Type 
         → TurnsIf moves turn waits x item a y m → TurnsIf moves turn waits x item b z n → SameTurn a y m b z n
     one_turn true x y z item m n a b det one two = (one.0 ∙ sym two.0, one.1 ∙ sym two.1, one.2 ∙ sym two.2)
     one_turn false x y z item m n a b det one two =
-        let same = one_offer (context_of x.inner) item.socket two.1 one.1 two.0 one.0 two.2 one.2 in
+        let same = one_offer (context_for x.inner item.socket) item.socket two.1 one.1 two.0 one.0 two.2 one.2 in
         let again : Answers moves turn one.0 x (record item { socket = one.1 }) b z n =
         subst (λ (s : Socket). Answers moves turn one.0 x (record item { socket = s }) b z n) same.1
         (subst (λ (answer : Answer.Offer). Answers moves turn answer x (record item { socket = two.1 }) b z n) same.0 two.3) in
@@ -267,14 +276,14 @@ module _ (one_offer : OneOffer) {D : Type 0} (moves : D → Move → D → Type 
       let mids : two.0 ≡ one.0 = det.one_end two.0 one.0 (Allowed true) two.1 one.1 in
       let again : PieceGoesOut moves one.0 x.inner l b z.device z.left = subst (λ (d : D). PieceGoesOut moves d x.inner l b z.device z.left) mids two.2 in
       let here : Det one.0 = steady.stays x.device one.0 (Allowed true) det one.1 in
-      let low = short_of one.0 y.device x.inner (next_departure x.inner.mtu l) a (piece_sends moves one.0 y.device x.inner l y.left a one.2) in
+      let low = short_of one.0 y.device x.inner (departure_from x.inner l) a (piece_sends moves one.0 y.device x.inner l y.left a one.2) in
       let same = one_piece moves longest one.0 here x.inner l low a b y.device z.device y.left z.left one.2 again in
       (same.0, same_sender y z same.1 (i ∙ sym j) same.2)
 
   det_piece_leaves : (l : LeftValue) (x y : Sender D) (a : Bool) → PieceLeaves moves l x a y → Det x.device → Det y.device
   det_piece_leaves l x y a (inl one) det = steady.stays x.device y.device (Allowed false) det one.0
   det_piece_leaves l x y a (inr one) det =
-      det_of one.0 y.device x.inner (next_departure x.inner.mtu l) a (piece_sends moves one.0 y.device x.inner l y.left a one.2)
+      det_of one.0 y.device x.inner (departure_from x.inner l) a (piece_sends moves one.0 y.device x.inner l y.left a one.2)
       (steady.stays x.device one.0 (Allowed true) det one.1)
 
   one_clears : (l : Option LeftValue) (x y z : Sender D) (a b : Bool) → Det x.device → Clears moves l x a y → Clears moves l x b z → (a ≡ b) × (y ≡ z)

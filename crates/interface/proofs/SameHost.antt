@@ -71,7 +71,7 @@ module _ {D : Type 0} (moves : D → Move → D → Type 0) where
     sends_same : (o : Option PacketValue) (item item' : Item Socket) (changed : Bool) (turned : Turned) → SendsBy moves turn o s item changed turned s' item' →
         IsSameHost s.inner s'.inner
     sends_same None item item' changed turned sends = absurd sends
-    sends_same (Some p) item item' changed turned sends = leaves_same item.meta p sends.0 sends.1
+    sends_same (Some p) item item' changed turned sends = leaves_same item.meta sends.0 sends.3.0 sends.3.1
 
     answers_same : (answer : Answer.Offer) (item item' : Item Socket) (turned : Turned) → Answers moves turn answer s item turned s' item' →
         IsSameHost s.inner s'.inner

@@ -21,6 +21,7 @@ keeps_then a b c first second =
           c.neighbors;
       ident = c.ident;
       errors_until = c.errors_until;
+      paths = c.paths;
     }) first
 
 pub keeps_out : (i i' : InnerValue) → IsSameHost i i' → KeepsSettings i i'

@@ -10,11 +10,11 @@ use Rattle.interface_ingress.proofs.AnyKind.{same}
 use Rattle.interface_ingress.specs.Sockets.{Offers, offered_by, settled, IsSameButForPlaces}
 use Rattle.interface_ingress.specs.Socket.{Socket}
 use Rattle.interface_ingress.specs.Socket.TheVariants as Kind
-use Rattle.interface_tables.specs.Inner.{context_of}
 use Rattle.interface_egress.specs.declared.socket_set.Item.{Item}
 use Rattle.interface_egress.specs.declared.socket_set.SocketStorage.{SocketStorage}
 use Rattle.interface_egress.specs.declared.way_out.Sent.{Sent}
 use Rattle.interface_egress.specs.declared.way_out.Sent.TheVariants as Outcome
+use Rattle.interface.specs.Remote.{context_for}
 use Rattle.interface.specs.Awaited.{turn_of}
 use Rattle.interface.specs.Host.{Sender}
 use Rattle.interface.specs.Pass.{Pass, Passed}
@@ -77,18 +77,18 @@ module _ {D : Type 0} (moves : D → Move → D → Type 0) (turn : Option IpAdd
       → SendsBy moves turn o s item changed turned s' item' → said turned ≡ false → IsUnchanged before item'.socket
   sends_same None changed before item item' turned same_offered sends quiet = absurd sends
   sends_same (Some p) changed before item item' turned same_offered sends quiet =
-      kept (waits_until (plan_at s p) s'.inner) sends.0 changed before item item' turned p same_offered sends.2 sends.3 quiet
+      kept (waits_until (plan_at s sends.0) s'.inner) sends.3.0 changed before item item' turned sends.0 same_offered sends.3.2 sends.3.3 quiet
 
   asks_same : (item item' : Item Socket) (turned : Turned) → Asks moves turn s item turned s' item' → said turned ≡ false → IsUnchanged item.socket item'.socket
   asks_same item item' turned a quiet = by a.0 a.2 a.3 where
-    by : (answer : Answer.Offer) → Offers (context_of s.inner) item.socket answer a.1 →
+    by : (answer : Answer.Offer) → Offers (context_for s.inner item.socket) item.socket answer a.1 →
         Answers moves turn answer s (record item { socket = a.1 }) turned s' item' → IsUnchanged item.socket item'.socket
     by (Offer.Silent changed) offers answers =
         subst (λ (x : Item Socket). IsUnchanged item.socket x.socket) (sym answers.2)
-        (same item.socket a.1 (context_of s.inner) (Offer.Silent changed) offers (sym (ap said answers.0) ∙ quiet))
+        (same item.socket a.1 (context_for s.inner item.socket) (Offer.Silent changed) offers (sym (ap said answers.0) ∙ quiet))
     by (Offer.Packet changed) offers answers =
         sends_same (offered_by a.1) changed item.socket (record item { socket = a.1 }) item' turned
-        (λ off. same item.socket a.1 (context_of s.inner) (Offer.Packet changed) offers off) answers quiet
+        (λ off. same item.socket a.1 (context_for s.inner item.socket) (Offer.Packet changed) offers off) answers quiet
 
   turns_same : (waits : Bool) (item item' : Item Socket) (turned : Turned) → TurnsIf moves turn waits s item turned s' item' → said turned ≡ false →
       IsUnchanged item.socket item'.socket

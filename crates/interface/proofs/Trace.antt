@@ -20,7 +20,7 @@ use Rattle.interface_egress.specs.declared.socket_set.SocketStorage.{SocketStora
 use Rattle.interface_egress.specs.Departure as Departures
 use Rattle.interface_egress.specs.Departure.{Departure, frame_from, len_from, target_of}
 use Rattle.interface_egress.specs.Emits.{Emits}
-use Rattle.interface_egress.specs.Fragments.{LeftValue, next_departure}
+use Rattle.interface_egress.specs.Fragments.{LeftValue, departure_from}
 use Rattle.interface_egress.specs.GoesOut.{GoesOut, PieceGoesOut, Departs, Asked, Went, WasCut, numbered, cut_of, after_header}
 use Rattle.interface_egress.specs.Plan.{plan_of}
 use Rattle.interface_egress.specs.declared.frame.Question.{Question}
@@ -135,8 +135,8 @@ module _ {D : Type 0} (moves : D → Move → D → Type 0) (t : ℤ) (d0 : D) (
   so_told packet false d d' i goes so = so_refused (Departures.Tells packet) d d' i i goes refl so
 
   so_piece : (l : LeftValue) (gone : Bool) (d d' : D) (i : InnerValue) (l' : Option LeftValue) → PieceGoesOut moves d i l gone d' l' → So d i → To d' i
-  so_piece l true d d' i l' goes so = so_sends (next_departure i.mtu l) true d d' i i goes.0 refl refl (λ ts silence. silence) so
-  so_piece l false d d' i l' goes so = so_refused (next_departure i.mtu l) d d' i i goes.0 refl so
+  so_piece l true d d' i l' goes so = so_sends (departure_from i l) true d d' i i goes.0 refl refl (λ ts silence. silence) so
+  so_piece l false d d' i l' goes so = so_refused (departure_from i l) d d' i i goes.0 refl so
 
   so_asked : (q : Question) (sent : Sent) (d d' : D) (i i' : InnerValue) → i.moment ≡ t → MayAsk i → Asked moves d i q sent d' i' → So d i → To d' i'
   so_asked q Outcome.Waits d d' i i' now may goes so =
@@ -165,8 +165,8 @@ module _ {D : Type 0} (moves : D → Move → D → Type 0) (t : ℤ) (d0 : D) (
   so_cut : (c : LeftValue) (sent : Sent) (d d' : D) (i i' : InnerValue) (l l' : Option LeftValue) → WasCut moves d i l c sent d' i' l' → So d i → To d' i'
   so_cut c Outcome.Gone d d' i i' l l' goes so =
       to_where d' d' (with_next_ident i) i' refl goes.1
-      (so_host (n + 1) d' i (with_next_ident i) refl refl refl (so_sends (next_departure i.mtu c) true d d' i i goes.0 refl refl (λ ts silence. silence) so))
-  so_cut c Outcome.Refused d d' i i' l l' goes so = so_refused (next_departure i.mtu c) d d' i i' goes.0 goes.1 so
+      (so_host (n + 1) d' i (with_next_ident i) refl refl refl (so_sends (departure_from i c) true d d' i i goes.0 refl refl (λ ts silence. silence) so))
+  so_cut c Outcome.Refused d d' i i' l l' goes so = so_refused (departure_from i c) d d' i i' goes.0 goes.1 so
   so_cut c Outcome.Waits d d' i i' l l' goes so = absurd goes
   so_cut c Outcome.Dropped d d' i i' l l' goes so = absurd goes
   so_cut c Outcome.Busy d d' i i' l l' goes so = absurd goes
@@ -243,7 +243,7 @@ module _ {D : Type 0} (moves : D → Move → D → Type 0) (t : ℤ) (d0 : D) (
     so_sent : (o : Option PacketValue) (item item' : Item Socket) (changed : Bool) (turned : Turned) →
         SendsBy moves turn o x item changed turned x' item' → Next
     so_sent None item item' changed turned sends = absurd sends
-    so_sent (Some p) item item' changed turned sends = so_leaves item.meta p sends.0 sends.1
+    so_sent (Some p) item item' changed turned sends = so_leaves item.meta sends.0 sends.3.0 sends.3.1
 
     so_answers : (answer : Answer.Offer) (item item' : Item Socket) (turned : Turned) → Answers moves turn answer x item turned x' item' → Next
     so_answers (Offer.Silent changed) item item' turned answers = so_same answers.1

@@ -3,13 +3,14 @@ use Rattle.std.specs.Prelude.{ℤ, pos, int_lt, if◌then◌else◌, List, Optio
 use Rattle.std.specs.List.{fold}
 use Rattle.interface_ingress.specs.PollAt.{PollAt}
 use Rattle.interface_ingress.specs.PollAt.TheVariants as At
-use Rattle.interface_tables.specs.Inner.{InnerValue, context_of}
+use Rattle.interface_tables.specs.Inner.{InnerValue}
 use Rattle.interface_egress.specs.Meta.{poll_at}
 use Rattle.interface_egress.specs.declared.socket_set.Item.{Item}
 use Rattle.interface_egress.specs.declared.socket_set.SocketStorage.{SocketStorage}
 use Rattle.interface_ingress.specs.Sockets.{poll_of}
 use Rattle.interface_ingress.specs.Socket.{Socket}
 use Rattle.interface_egress.specs.Fragments.{LeftValue}
+use Rattle.interface.specs.Remote.{remote_of, context_for, end_by}
 use Rattle.interface.specs.Turn.{is_heard}
 
 -- at once is the moment 0
@@ -28,9 +29,13 @@ earlier None other = other
 earlier (Some a) other = earlier_than a other
 
 -- a socket that waits for a neighbour is asked again when its waiting ends
+abbrev pub own_instant : InnerValue → Item Socket → Option ℤ
+own_instant i item =
+    instant_of (poll_at item.meta (poll_of (context_for i item.socket) item.socket) (is_heard i item.meta) i.moment)
+
+-- and a connection when what is known of the path to its remote ends: from then on its segments may be longer
 abbrev pub item_instant : InnerValue → Item Socket → Option ℤ
-item_instant i item =
-    instant_of (poll_at item.meta (poll_of (context_of i) item.socket) (is_heard i item.meta) i.moment)
+item_instant i item = earlier (end_by i (remote_of item.socket)) (own_instant i item)
 
 abbrev pub instant_in : InnerValue → Option (Item Socket) → Option ℤ
 instant_in i None = None

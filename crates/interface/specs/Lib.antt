@@ -1,5 +1,6 @@
 pub mod Host
 pub mod Awaited
+pub mod Remote
 pub mod Turn
 pub mod Pass
 pub mod WayOut

@@ -27,6 +27,13 @@ at_device s device = state device s.host s.places
 abbrev pub sending_as : {D : Type 0} → HostValue → Sender D → List (SocketStorage Socket) → State D
 sending_as h x ps = state x.device (record h { inner = x.inner; left = x.left }) ps
 
--- what a poll leaves of a host: nothing changed but random words, neighbours and the next identification
+-- what a poll leaves of a host: nothing changed but random words, neighbours, the next identification, the errors that are counted, and what
+-- was told of paths
 abbrev pub KeepsSettings : InnerValue → InnerValue → Type 0
-KeepsSettings old new = new ≡ record old { random = new.random; neighbors = new.neighbors; ident = new.ident; errors_until = new.errors_until }
+KeepsSettings old new = new ≡ record old {
+  random = new.random;
+  neighbors = new.neighbors;
+  ident = new.ident;
+  errors_until = new.errors_until;
+  paths = new.paths;
+}

@@ -1,13 +1,17 @@
 -- A socket's turn: it is asked for a packet, which goes out, or stays with it.
-use Rattle.std.specs.Prelude.{◌≡◌, ℕ, ℤ, pos, ◌+ℤ◌, not, ◌&&◌, Bool, true, false, if◌then◌else◌, ◌⊎◌, Option, None, Some, is_some}
+use Rattle.std.specs.Prelude.{◌≡◌, ℕ, ℤ, pos, ◌+ℤ◌, not, ◌&&◌, ◌||◌, Bool, true, false, if◌then◌else◌, ◌⊎◌, Option, None, Some, is_some}
 use Rattle.net_base.specs.Device.{Move, Allowed}
 use Rattle.ip_wire.specs.AddressTests.{is_same_address}
-use Rattle.ip_wire.specs.Ip.{destination_of}
+use Rattle.ip_wire.specs.Ip.{source_of, destination_of}
 use Rattle.ip_wire.specs.IpAddress.{IpAddress}
-use Rattle.interface_ingress.specs.Packet.{PacketValue}
+use Rattle.ip_wire.specs.IpAddress.TheVariants as Address
+use Rattle.ip_wire.specs.IpRepr.{IpRepr}
+use Rattle.ip_wire.specs.IpRepr.TheVariants as Ip
+use Rattle.interface_ingress.specs.Packet.{PacketValue, PayloadValue, ControlV4, ControlV6, Bytes, Datagram, Segment}
 use Rattle.interface_ingress.specs.Offer as Answer
 use Rattle.interface_ingress.specs.Offer.TheVariants as Offer
-use Rattle.interface_tables.specs.Inner.{InnerValue, context_of, has_neighbor, is_crowded, next_request}
+use Rattle.interface_tables.specs.Inner.{InnerValue, has_neighbor, may_come_from, is_crowded, next_request}
+use Rattle.interface_tables.specs.Source.{source_for}
 use Rattle.interface_egress.specs.Departure.{target_of}
 use Rattle.interface_egress.specs.Meta.{silent_time, neighbor_of, waits, freed, missed, has_waited, unmarked}
 use Rattle.interface_egress.specs.declared.socket_meta.Meta.{Meta}
@@ -23,6 +27,7 @@ use Rattle.interface_egress.specs.declared.plan.Plan.TheVariants as Way
 use Rattle.interface_egress.specs.declared.way_out.Sent.{Sent}
 use Rattle.interface_egress.specs.declared.way_out.Sent.TheVariants as Outcome
 use Rattle.interface.specs.Host.{Sender}
+use Rattle.interface.specs.Remote.{context_for}
 use Rattle.interface.specs.declared.turn.Turned.{Turned}
 use Rattle.interface.specs.declared.turn.Turned.TheVariants as Turn
 
@@ -110,6 +115,35 @@ turned_by Outcome.Waits changed = Turn.Next changed
 turned_by Outcome.Busy changed = Turn.Next changed
 turned_by Outcome.Refused changed = Turn.Stop changed
 
+-- WHERE A PACKET COMES FROM
+
+-- a raw socket's packet has the header that was written
+abbrev pub is_raw : PayloadValue → Bool
+is_raw (Bytes bytes) = true
+is_raw (ControlV4 message bytes) = false
+is_raw (ControlV6 message bytes) = false
+is_raw (Datagram udp bytes) = false
+is_raw (Segment tcp bytes) = false
+
+-- the header with another source of its family
+abbrev pub with_source : IpRepr → Option IpAddress → IpRepr
+with_source (Ip.Ipv4 v) (Some (Address.Ipv4 a)) = Ip.Ipv4 (record v { src_addr = a })
+with_source (Ip.Ipv6 v) (Some (Address.Ipv6 a)) = Ip.Ipv6 (record v { src_addr = a })
+with_source header source = header
+
+-- the source stays: a raw socket's, and one that can be a source
+abbrev pub keeps_source : InnerValue → PacketValue → Bool
+keeps_source i p = is_raw p.payload || may_come_from i (source_of p.header) (destination_of p.header)
+
+-- A packet whose source can't be one leaves from the address that is chosen for its destination, if there is one (RFC 1122,
+-- sections 3.2.1.3 and 3.3.4.3).
+abbrev pub sourced_header : InnerValue → PacketValue → IpRepr
+sourced_header i p =
+    if keeps_source i p then p.header else with_source p.header (source_for i.addresses (destination_of p.header))
+
+abbrev pub sourced : InnerValue → PacketValue → PacketValue
+sourced i p = record p { header = sourced_header i p }
+
 -- THE TURN
 
 abbrev pub plan_at : {D : Type 0} → Sender D → PacketValue → Plan
@@ -141,12 +175,23 @@ module _ {D : Type 0} (moves : D → Move → D → Type 0) (turn : Option IpAdd
   abbrev pub Leaves : Sender D → Meta → PacketValue → Sent → Sender D → Type 0
   Leaves s m p sent s' = Rests s m p sent s' ⊎ Admits s m p sent s'
 
-  -- the packet of the open offer, which is one that can be sent, leaves, and the socket is told what became of it
+  -- a packet left from its source, or stays: what became of it, until when it waits, and where it was to go
+  abbrev pub HasLeft : Sender D → Meta → PacketValue → Sent → ℤ → IpAddress → Sender D → Type 0
+  HasLeft s m p sent until destination s' =
+      (leaving : PacketValue) × (leaving ≡ sourced s.inner p) × Leaves s m leaving sent s' × IsWellFormed leaving
+      × (until ≡ waits_until (plan_at s leaving) s'.inner) × (destination ≡ destination_of leaving.header)
+
+  -- the packet leaves, and its socket is told what became of it
+  abbrev pub SendsAs : PacketValue → Sender D → Item Socket → Bool → Turned → Sender D → Item Socket → Type 0
+  SendsAs p s item changed turned s' item' =
+      (sent : Sent) × Leaves s item.meta p sent s' × (turned ≡ turned_by sent changed)
+      × (item' ≡ settled_by sent s.inner.moment (waits_until (plan_at s p) s'.inner) (destination_of p.header) item) × IsWellFormed p
+
+  -- the packet of the open offer, which is one that can be sent, leaves from its source
   abbrev pub SendsBy : Option PacketValue → Sender D → Item Socket → Bool → Turned → Sender D → Item Socket → Type 0
   SendsBy None s item changed turned s' item' = ⊥
   SendsBy (Some p) s item changed turned s' item' =
-      (sent : Sent) × Leaves s item.meta p sent s' × (turned ≡ turned_by sent changed)
-      × (item' ≡ settled_by sent s.inner.moment (waits_until (plan_at s p) s'.inner) (destination_of p.header) item) × IsWellFormed p
+      (leaving : PacketValue) × (leaving ≡ sourced s.inner p) × IsWellFormed p × SendsAs leaving s item changed turned s' item'
 
   abbrev pub Sends : Sender D → Item Socket → Bool → Turned → Sender D → Item Socket → Type 0
   Sends s item changed turned s' item' = SendsBy (offered_by item.socket) s item changed turned s' item'
@@ -159,7 +204,7 @@ module _ {D : Type 0} (moves : D → Move → D → Type 0) (turn : Option IpAdd
 
   abbrev pub Asks : Sender D → Item Socket → Turned → Sender D → Item Socket → Type 0
   Asks s item turned s' item' =
-      (answer : Answer.Offer) × (offered : Socket) × Offers (context_of s.inner) item.socket answer offered
+      (answer : Answer.Offer) × (offered : Socket) × Offers (context_for s.inner item.socket) item.socket answer offered
       × Answers answer s (record item { socket = offered }) turned s' item'
 
   abbrev pub TurnsIf : Bool → Sender D → Item Socket → Turned → Sender D → Item Socket → Type 0

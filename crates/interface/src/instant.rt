@@ -1,10 +1,14 @@
 //! When an interface wants to be polled.
 ghost use Rattle.std.specs.Prelude.{◌≡◌};
-ghost use Rattle.interface.specs.Instant.{instant_of, earlier_than, earlier, item_instant, place_instant, poll_instant};
+ghost use Rattle.interface.specs.Instant.{instant_of, earlier_than, earlier, own_instant, item_instant, place_instant, poll_instant};
+ghost use Rattle.interface.specs.Remote.{remote_of};
 
+use crate::remote::{end_by, remote_of};
 use crate::turn::is_known;
 use interface_egress::{Fragmenter, InterfaceInner, Item, SocketStorage};
 use interface_ingress::{Context, PollAt, Socket};
+use interface_tables::Look;
+use ip_wire::IpAddress;
 use net_base::Instant;
 
 /// When the interface wants to be polled: at once where a piece waits, else when the first of its sockets wants it.
@@ -34,14 +38,29 @@ pub fn place_instant(inner: &InterfaceInner, place: &SocketStorage<Socket>) -> O
     }
 }
 
-/// When a socket wants to be polled. One that waits for a neighbour is asked again when its waiting ends.
+/// When a socket wants to be polled. One that waits for a neighbour is asked again when its waiting ends, and a connection when what is
+/// known of the path to its remote ends.
 fn item_instant(inner: &InterfaceInner, item: &Item<Socket>) -> Option<Instant>
     ensures { result ≡ item_instant inner.now item.now }
 {
+    let remote = remote_of(&item.socket);
+    earlier(end_by(inner, &remote), own_instant(inner, item, &remote))
+}
+
+/// When a socket with this remote wants to be polled itself.
+fn own_instant(
+    inner: &InterfaceInner,
+    item: &Item<Socket>,
+    remote: &Option<IpAddress>,
+) -> Option<Instant>
+    requires { remote.now ≡ remote_of item.now.socket }
+    ensures { result ≡ own_instant inner.now item.now }
+{
     let known = is_known(inner, item.meta.neighbor());
+    let look = Look::towards(inner, remote);
     instant_of(
         item.meta
-            .poll_at(item.socket.poll_at(inner), known, inner.now()),
+            .poll_at(item.socket.poll_at(&look), known, inner.now()),
     )
 }
 

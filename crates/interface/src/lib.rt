@@ -11,6 +11,7 @@ mod instant;
 mod passes;
 mod poll;
 pub mod poll_laws;
+mod remote;
 mod step;
 mod turn;
 

@@ -2,16 +2,19 @@
 ghost use Rattle.std.specs.Prelude.{◌≡◌, ℕ, ◌+◌, ◌*◌, ℤ, Bool, true, false, List, length, Some, None};
 ghost use Rattle.std.specs.List.{filter_map, list_any};
 ghost use Rattle.ip_wire.specs.AddressTests.{is_same_address};
+ghost use Rattle.ip_wire.specs.Ip.{source_of, destination_of};
 ghost use Rattle.ip_wire.specs.IpAddress.{IpAddress};
 ghost use Rattle.interface_egress.specs.Inner.{InnerValue};
+ghost use Rattle.interface_egress.specs.Source.{source_for};
 ghost use Rattle.interface_egress.specs.Departure.{target_of};
 ghost use Rattle.interface_egress.specs.declared.frame.Question.{Question};
 ghost use Rattle.interface_egress.specs.declared.plan.Plan.TheVariants as Way;
 ghost use Rattle.interface_egress.specs.declared.socket_meta.Meta.{Meta};
 ghost use Rattle.interface_egress.specs.declared.socket_set.SocketStorage.{SocketStorage};
+ghost use Rattle.interface_ingress.specs.Packet.{PacketValue};
 ghost use Rattle.interface_ingress.specs.Socket.{Socket};
 ghost use Rattle.interface.specs.Awaited.{awaited_in, comes_before, next_awaited};
-ghost use Rattle.interface.specs.Turn.{held};
+ghost use Rattle.interface.specs.Turn.{held, keeps_source, sourced};
 ghost use Rattle.interface.specs.declared.awaited.Awaited.{Awaited};
 ghost use Rattle.interface_egress.specs.Departing.{HasSettingsOf};
 ghost use Rattle.interface.specs.State.{State};
@@ -50,6 +53,22 @@ pub fn neighbors_are_asked_in_turn()
     ensures in_turn { (hop : IpAddress) (m : Meta) (i : InnerValue) (to : IpAddress) (q : Question)
         → held (Some hop) m i to (Way.Ask q) ≡ None
         → is_same_address hop (target_of q) ≡ true }
+{}
+
+/// Law: another source changes nothing else of a packet. A source that can be one stays, and so does a raw socket's; in place of
+/// another comes the address that is chosen for the destination, and where none can be chosen it stays, and the packet never leaves
+/// (`interface_egress::laws::sources_are_hosts`).
+pub fn sources_are_chosen()
+    ensures same { (i : InnerValue) (p : PacketValue)
+        → (destination_of (sourced i p).header ≡ destination_of p.header) × ((sourced i p).payload ≡ p.payload) }
+    ensures stays { (i : InnerValue) (p : PacketValue) → keeps_source i p ≡ true → sourced i p ≡ p }
+    ensures chosen { (i : InnerValue) (p : PacketValue) (a : IpAddress)
+        → keeps_source i p ≡ false
+        → source_for i.addresses (destination_of p.header) ≡ Some a
+        → source_of (sourced i p).header ≡ a }
+    ensures none { (i : InnerValue) (p : PacketValue)
+        → source_for i.addresses (destination_of p.header) ≡ None
+        → sourced i p ≡ p }
 {}
 
 /// Law: a poll takes at most one identification for each frame that it may take and each turn of a socket: one for each step of its

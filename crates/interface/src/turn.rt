@@ -2,24 +2,27 @@
 ghost use Rattle.std.specs.Prelude.{◌≡◌, is_some};
 ghost use Rattle.net_base.specs.Time.{IsMoment};
 ghost use Rattle.ip_wire.specs.Ip.{destination_of};
-ghost use Rattle.interface_ingress.specs.Packet.{packet_value};
+ghost use Rattle.interface_ingress.specs.Packet.{packet_value, payload_value, IsSendable};
 ghost use Rattle.interface_ingress.specs.Offer.TheVariants as Answer;
 ghost use Rattle.interface_ingress.specs.Offers.{HasPacket};
 ghost use Rattle.interface_ingress.specs.Sockets.{offered_by, IfSendable};
 ghost use Rattle.interface_egress.specs.Plan.{IsPacket, plan_of};
 ghost use Rattle.interface.specs.Host.{sender};
 ghost use Rattle.interface.specs.Turn.{is_known, is_heard, is_waiting, is_given_up, is_other, is_out_of_turn, held, waits_until, is_done, marked, settled_by};
-ghost use Rattle.interface.specs.Turn.{turned_by, Leaves, Sends, Turns, PlaceTurns};
+ghost use Rattle.interface.specs.Turn.{is_raw, with_source, sourced_header, sourced};
+ghost use Rattle.interface.specs.Turn.{turned_by, Leaves, HasLeft, Sends, Turns, PlaceTurns};
 ghost use Rattle.interface_egress.specs.Meta.{freed};
 
+use crate::remote::remote_of;
 use interface_egress::{
     Fragmenter, InterfaceInner, Item, Meta, Plan, Sent, SocketStorage, dispatch_by, plan_for,
 };
 use interface_ingress::addresses::is_same_address;
 use interface_ingress::socket_laws::unsent_is_offered_again;
 use interface_ingress::widths::fields_have_widths;
-use interface_ingress::{Context, Offer, Packet, Socket};
-use ip_wire::IpAddress;
+use interface_ingress::{Context, IpPayload, Offer, Packet, Socket};
+use interface_tables::Look;
+use ip_wire::{IpAddress, IpRepr, Ipv4Repr, Ipv6Repr};
 use net_base::{Device, Duration, Instant};
 
 /// How long a packet waits for a route, in milliseconds.
@@ -71,7 +74,9 @@ pub fn take_turn<D: Device>(
         return Turned::Next(false);
     }
     unsent_is_offered_again();
-    match item.socket.offer(inner) {
+    let remote = remote_of(&item.socket);
+    let offer = item.socket.offer(&Look::towards(inner, &remote));
+    match offer {
         Offer::Silent { changed } => {
             item.meta.unmark();
             Turned::Next(changed)
@@ -119,16 +124,91 @@ fn send_offered<D: Device>(
         unreachable!()
     };
     fields_have_widths(&packet);
-    let header = packet.ip_repr();
+    let left = let_leave(turn, inner, fragmenter, device, &item.meta, &packet);
+    settle(item, left.sent, now, left.until, left.destination);
+    turned_by(left.sent, changed)
+}
+
+/// What became of a packet that was to leave.
+#[derive(Clone, Copy)]
+struct Left {
+    sent: Sent,
+    /// Until when it waits, if it does.
+    until: Instant,
+    destination: IpAddress,
+}
+
+/// Lets a packet leave from its source, if the device gives leave.
+fn let_leave<D: Device>(
+    turn: Option<IpAddress>,
+    inner: &mut InterfaceInner,
+    fragmenter: &mut Fragmenter,
+    device: &mut D,
+    meta: &Meta,
+    packet: &Packet<'_>,
+) -> Left
+    requires sendable { IsSendable (packet_value packet.now) }
+    ensures left { HasLeft D.moves turn (sender device.old inner.old fragmenter.old) meta.now (packet_value packet.now)
+        result.sent result.until result.destination (sender device.new inner.new fragmenter.new) }
+    ensures capabilities { D.described device.new ≡ D.described device.old }
+{
+    let leaving = sourced(inner, packet);
+    fields_have_widths(&leaving);
+    let header = leaving.ip_repr();
     let destination = header.dst_addr();
     let plan = plan_for(inner, fragmenter.is_waiting(), &header);
-    let held = held(turn, &item.meta, inner, &destination, &plan);
-    let sent = send_packet(
-        turn, inner, fragmenter, device, &item.meta, &packet, plan, held,
-    );
-    let until = waits_until(&plan, inner);
-    settle(item, sent, now, until, destination);
-    turned_by(sent, changed)
+    let held = held(turn, meta, inner, &destination, &plan);
+    let sent = send_packet(turn, inner, fragmenter, device, meta, &leaving, plan, held);
+    Left {
+        sent,
+        until: waits_until(&plan, inner),
+        destination,
+    }
+}
+
+/// The packet from the address that is chosen for its destination, where its own source can't be one.
+fn sourced<'a>(inner: &InterfaceInner, packet: &Packet<'a>) -> Packet<'a>
+    requires { IsSendable (packet_value packet.now) }
+    ensures value { packet_value result ≡ sourced inner.now (packet_value packet.now) }
+    ensures fits { IsSendable (packet_value result) }
+{
+    Packet::new(sourced_header(inner, packet), *packet.payload())
+}
+
+/// The header of a packet as it leaves.
+fn sourced_header(inner: &InterfaceInner, packet: &Packet<'_>) -> IpRepr
+    ensures { result ≡ sourced_header inner.now (packet_value packet.now) }
+{
+    let header = packet.ip_repr();
+    let destination = header.dst_addr();
+    if is_raw(packet.payload()) || inner.may_come_from(&header.src_addr(), &destination) {
+        return header;
+    }
+    with_source(&header, &inner.get_source_address(&destination))
+}
+
+/// Whether a raw socket wrote the packet's header.
+fn is_raw(payload: &IpPayload<'_>) -> bool
+    ensures { result ≡ is_raw (payload_value payload.now) }
+{
+    matches!(payload, IpPayload::Raw(_))
+}
+
+/// The header with another source of its family.
+fn with_source(header: &IpRepr, source: &Option<IpAddress>) -> IpRepr
+    ensures { result ≡ with_source header.now source.now }
+{
+    match (header, source) {
+        (IpRepr::Ipv4(header), Some(IpAddress::Ipv4(source))) => IpRepr::Ipv4(Ipv4Repr {
+            src_addr: *source,
+            ..*header
+        }),
+        (IpRepr::Ipv6(header), Some(IpAddress::Ipv6(source))) => IpRepr::Ipv6(Ipv6Repr {
+            src_addr: *source,
+            ..*header
+        }),
+        (header, _) => *header,
+    }
 }
 
 /// Sends a packet that isn't held, if the device gives leave. Without leave it counts as refused.

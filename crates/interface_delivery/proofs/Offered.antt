@@ -15,7 +15,7 @@ use Rattle.interface_egress.specs.Inner.{InnerValue}
 use Rattle.interface_ingress.specs.Sent.{CanBeRead, AreSealed}
 use Rattle.interface_ingress.proofs.FramesArrive.{payload-brought}
 use Rattle.interface_egress.specs.Departure.{Departure, Asks, Whole}
-use Rattle.interface_egress.specs.Fragments.{LeftValue, piece_room, next_piece, next_departure, left_after}
+use Rattle.interface_egress.specs.Fragments.{LeftValue, piece_room, next_piece, departure_from, cut_mtu, left_after}
 use Rattle.interface_egress.specs.GoesOut.{GoesOut, PieceGoesOut, Departs, numbered_v4, numbered_header, numbered, cut_of}
 use Rattle.interface_egress.specs.Plan.{longest_cut, total_len, plan_of, IsPacket}
 use Rattle.interface_egress.specs.declared.frame.Question.{Question}
@@ -127,8 +127,9 @@ later_piece mtu l half = record {
 
 pub later : {D : Type 0} (moves : D → Move → D → Type 0) (old new : D) (i : InnerValue) (l : LeftValue) (l' : Option LeftValue) (reader : Reader) →
     IsHalfSent l → PieceGoesOut moves old i l true new l' → CanRead i l.to reader
-    → Arrives moves old i (next_departure i.mtu l) reader new
-later moves old new i l l' reader half goes can = taken moves old new i (next_departure i.mtu l) reader goes.0 can.sealed (can.medium, later_piece i.mtu l half)
+    → Arrives moves old i (departure_from i l) reader new
+later moves old new i l l' reader half goes can =
+    taken moves old new i (departure_from i l) reader goes.0 can.sealed (can.medium, later_piece (cut_mtu i l) l half)
 
 pub begun_half : (i : InnerValue) (busy : Bool) (p : PacketValue) (to : HardwareAddress) (v : Ipv4Repr) → HasWidths i → IsOffered p →
     plan_of i busy p.header ≡ Way.Cut to v → IsHalfSent (cut_of i to v p)
@@ -157,13 +158,13 @@ pub first : {D : Type 0} (moves : D → Move → D →
     Type 0) (old new : D) (i i' : InnerValue) (l l' : Option LeftValue) (busy : Bool) (p : PacketValue) (to : HardwareAddress) (v : Ipv4Repr)
     (reader : Reader) → HasWidths i → IsOffered p
     → plan_of i busy p.header ≡ Way.Cut to v → GoesOut moves old i l p (plan_of i busy p.header) Outcome.Gone new i' l' → CanRead i to reader
-    → Arrives moves old i (next_departure i.mtu (cut_of i to v p)) reader new
+    → Arrives moves old i (departure_from i (cut_of i to v p)) reader new
 first moves old new i i' l l' busy p to v reader wide offered plan goes can =
     let went : GoesOut moves old i l p (Way.Cut to v) Outcome.Gone new i' l' =
     subst (λ (x : Plan). GoesOut moves old i l p x Outcome.Gone new i' l') plan goes in
-    taken moves old new i (next_departure i.mtu (cut_of i to v p)) reader went.0 can.sealed (
+    taken moves old new i (departure_from i (cut_of i to v p)) reader went.0 can.sealed (
       can.medium,
-      later_piece i.mtu (cut_of i to v p) (begun_half i busy p to v wide offered plan),
+      later_piece (cut_mtu i (cut_of i to v p)) (cut_of i to v p) (begun_half i busy p to v wide offered plan),
     )
 
 left_by : (mtu : ℕ) (l : LeftValue) (b : Bool) → nat_lt (l.at + piece_room mtu) (length l.payload) ≡ b → IsHalfSent l →

@@ -16,6 +16,7 @@ use Rattle.ip_packet.specs.declared.ip.repr.IpRepr.TheVariants as Ip
 use Rattle.interface_ingress.specs.Ipv4Address.{Ipv4Address}
 use Rattle.ip_packet.specs.declared.ipv4.repr.Ipv4Repr.{Ipv4Repr}
 use Rattle.interface_ingress.specs.Best.{at_place}
+use Rattle.interface_egress.specs.Inner.{mtu_to}
 use Rattle.interface_egress.specs.Inner.{InnerValue, is_local_broadcast, next_hop, link_by, link_of_hop, link_on, link_address, group_station, all_stations}
 use Rattle.interface_ingress.specs.Neighbor.{CacheValue, lookup, missing, answer_by, place_of, unless_failed, has_failed}
 use Rattle.interface_egress.specs.Source.{source_v4}
@@ -162,7 +163,7 @@ ask_if_by own i hop true = ask_by own i.hardware i hop
 ask_if_by own i hop false = tt
 
 by_link : (own : HardwareAddress) (i : InnerValue) (busy : Bool) (h : IpRepr) (l : LinkAddress) → LinkStays own l → PlanStays own (plan_by l i busy h)
-by_link own i busy h (Link.Known to) is = to_by own to busy h (nat_le (total_len h) i.mtu) is
+by_link own i busy h (Link.Known to) is = to_by own to busy h (nat_le (total_len h) (mtu_to i (destination_of h))) is
 by_link own i busy h Link.NoRoute is = tt
 by_link own i busy h Link.Silent is = tt
 by_link own i busy h Link.Unanswered is = tt

@@ -10,7 +10,7 @@ ghost use Rattle.interface_egress.specs.Inner.{InnerValue};
 ghost use Rattle.interface_ingress.specs.Incoming.{IncomingValue, IsContent};
 ghost use Rattle.interface_ingress.specs.Sent.{AreSealed, CanBeRead};
 ghost use Rattle.interface_egress.specs.Departure.{Departure, Asks, Tells, Whole};
-ghost use Rattle.interface_egress.specs.Fragments.{LeftValue, next_departure, left_after};
+ghost use Rattle.interface_egress.specs.Fragments.{LeftValue, departure_from, left_after};
 ghost use Rattle.interface_egress.specs.Plan.{plan_of};
 ghost use Rattle.interface_egress.specs.GoesOut.{GoesOut, PieceGoesOut, Departs, frame_of, numbered, cut_of};
 ghost use Rattle.interface_egress.specs.declared.frame.Question.{Question};
@@ -81,12 +81,12 @@ pub fn pieces_arrive<D: Device>()
         → plan_of i busy p.header ≡ Way.Cut to header
         → GoesOut D.moves old i l p (plan_of i busy p.header) Outcome.Gone new i' l'
         → CanRead i to reader
-        → Arrives D.moves old i (next_departure i.mtu (cut_of i to header p)) reader new }
+        → Arrives D.moves old i (departure_from i (cut_of i to header p)) reader new }
     ensures later { (old new : D) (i : InnerValue) (l : LeftValue) (l' : Option LeftValue) (reader : Reader)
         → IsHalfSent l
         → PieceGoesOut D.moves old i l true new l'
         → CanRead i l.to reader
-        → Arrives D.moves old i (next_departure i.mtu l) reader new }
+        → Arrives D.moves old i (departure_from i l) reader new }
     ensures begun { (i : InnerValue) (busy : Bool) (p : PacketValue) (to : HardwareAddress) (header : Ipv4Repr)
         → HasWidths i
         → IsOffered p

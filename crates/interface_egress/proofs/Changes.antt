@@ -8,7 +8,7 @@ use Rattle.ip_wire.specs.Ipv4Repr.{Ipv4Repr}
 use Rattle.socket_base.specs.Packet.{PacketValue}
 use Rattle.interface_tables.specs.Inner.{InnerValue}
 use Rattle.interface_egress.specs.Departure.{Departure, Asks, Whole}
-use Rattle.interface_egress.specs.Fragments.{LeftValue, next_departure}
+use Rattle.interface_egress.specs.Fragments.{LeftValue, departure_from}
 use Rattle.interface_egress.specs.Plan.{plan_of}
 use Rattle.interface_egress.specs.GoesOut.{GoesOut, PieceGoesOut, Asked, Went, WasCut, numbered, numbered_header, cut_of, after_header}
 use Rattle.interface_egress.specs.Departing.{departure_by, SendsOnce, was_taken, host_after, left_behind, number_in, number_in_header, HasSettingsOf}
@@ -62,7 +62,7 @@ module _ {D : Type 0} (moves : D → Move → D → Type 0) (old new : D) (i i' 
       (λ to v header long short idle goes. was_cut to v sent header goes)
 
 pub piece_sends : {D : Type 0} (moves : D → Move → D → Type 0) (old new : D) (i : InnerValue) (l : LeftValue) (l' : Option LeftValue) (taken : Bool)
-    → PieceGoesOut moves old i l taken new l' → SendsOnce moves old i (Some (next_departure i.mtu l)) taken new
+    → PieceGoesOut moves old i l taken new l' → SendsOnce moves old i (Some (departure_from i l)) taken new
 piece_sends moves old new i l l' true goes = goes.0
 piece_sends moves old new i l l' false goes = goes.0
 
@@ -96,4 +96,4 @@ next_number i busy p d =
     (λ is. absurd cc) (λ is. absurd cc) (λ is. absurd cc) (λ is. absurd cc)
     (λ q may from is. subst (HasNumber i) (some_is (Asks q) d is) tt)
     (λ to short is. subst (HasNumber i) (some_is (Whole to (numbered i p)) d is) (header_number i p.header))
-    (λ to v header long short idle is. subst (HasNumber i) (some_is (next_departure i.mtu (cut_of i to v p)) d is) refl)
+    (λ to v header long short idle is. subst (HasNumber i) (some_is (departure_from i (cut_of i to v p)) d is) refl)

@@ -9,6 +9,7 @@ pub mod ReadBack
 pub mod LastThree
 pub mod EmitsAt
 pub mod PieceOut
+pub mod FirstOut
 pub mod OneWay
 pub mod Leaving
 pub mod Lent

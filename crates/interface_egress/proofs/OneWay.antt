@@ -6,7 +6,7 @@ use Rattle.interface_tables.specs.Inner.{InnerValue, with_next_ident, with_reque
 use Rattle.interface_egress.specs.Departure.{Departure, Asks, Whole, target_of}
 use Rattle.interface_egress.specs.Departing.{departure_by}
 use Rattle.interface_egress.specs.Determined.{IsDetermined}
-use Rattle.interface_egress.specs.Fragments.{LeftValue, next_departure, left_after}
+use Rattle.interface_egress.specs.Fragments.{LeftValue, departure_from, left_from}
 use Rattle.interface_egress.specs.GoesOut.{GoesOut, PieceGoesOut, Departs, Stays, Asked, Went, WasCut, frame_of, frame_len_of, numbered, cut_of, after_header}
 use Rattle.interface_egress.specs.declared.frame.Question.{Question}
 use Rattle.interface_egress.specs.declared.way_out.Sent.{Sent}
@@ -64,7 +64,7 @@ module _ {D : Type 0} (moves : D → Move → D → Type 0) (longest : ℕ) (old
     went p d Outcome.Busy new j k goes same = absurd goes
 
     was_cut : (c : LeftValue) (sent : Sent) (new : D) (j : InnerValue) (k : Option LeftValue) → WasCut moves old i l c sent new j k →
-        Sends (next_departure i.mtu c) Outcome.Gone (with_next_ident i) (left_after i.mtu c) sent new j k
+        Sends (departure_from i c) Outcome.Gone (with_next_ident i) (left_from i c) sent new j k
     was_cut c Outcome.Gone new j k goes = (true, refl, goes.0, goes.1, goes.2)
     was_cut c Outcome.Refused new j k goes = (false, refl, goes.0, goes.1, goes.2)
     was_cut c Outcome.Waits new j k goes = absurd goes
@@ -92,20 +92,20 @@ module _ {D : Type 0} (moves : D → Move → D → Type 0) (longest : ℕ) (old
         (went p d t other j' k' two.0 two.1)
     one_way p (Way.Cut to v) short s t new other j j' k k' one two =
         let c : LeftValue = cut_of i to v p in
-        same_sends (next_departure i.mtu c) (short (next_departure i.mtu c) refl) Outcome.Gone (with_next_ident i) (left_after i.mtu c) s t new other j j' k k'
+        same_sends (departure_from i c) (short (departure_from i c) refl) Outcome.Gone (with_next_ident i) (left_from i c) s t new other j j' k k'
         (was_cut c s new j k one) (was_cut c t other j' k' two)
 
   abbrev PieceSends : LeftValue → Bool → D → Option LeftValue → Type 0
-  PieceSends c taken new k = Departs moves old i (next_departure i.mtu c) taken new × (k ≡ cond taken (left_after i.mtu c) (Some c))
+  PieceSends c taken new k = Departs moves old i (departure_from i c) taken new × (k ≡ cond taken (left_from i c) (Some c))
 
   piece : (c : LeftValue) (taken : Bool) (new : D) (k : Option LeftValue) → PieceGoesOut moves old i c taken new k → PieceSends c taken new k
   piece c true new k goes = goes
   piece c false new k goes = goes
 
-  pub one_piece : (c : LeftValue) → frame_len_of i (next_departure i.mtu c) ≤ longest → (x y : Bool) (new other : D) (k k' : Option LeftValue)
+  pub one_piece : (c : LeftValue) → frame_len_of i (departure_from i c) ≤ longest → (x y : Bool) (new other : D) (k k' : Option LeftValue)
       → PieceGoesOut moves old i c x new k → PieceGoesOut moves old i c y other k' → (x ≡ y) × (new ≡ other) × (k ≡ k')
   one_piece c short x y new other k k' one two =
       let went = piece c x new k one in
       let again = piece c y other k' two in
-      let same = one_send (next_departure i.mtu c) short x y new other went.0 again.0 in
-      (same.0, same.1, went.1 ∙ ap (λ (b : Bool). cond b (left_after i.mtu c) (Some c)) same.0 ∙ sym again.1)
+      let same = one_send (departure_from i c) short x y new other went.0 again.0 in
+      (same.0, same.1, went.1 ∙ ap (λ (b : Bool). cond b (left_from i c) (Some c)) same.0 ∙ sym again.1)

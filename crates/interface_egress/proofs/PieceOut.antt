@@ -1,7 +1,9 @@
 -- A later piece on its way out.
 use Rattle.std.proofs.Common.{◌≡◌, Bool, true, false, cond, Option, Some, None, IfSome, subst}
 use Rattle.net_base.specs.Device.{Move}
-use Rattle.interface_tables.specs.Inner.{InnerValue}
+use Rattle.ip_wire.specs.IpAddress.{IpAddress}
+use Rattle.ip_wire.specs.IpAddress.TheVariants as Address
+use Rattle.interface_tables.specs.Inner.{InnerValue, mtu_to}
 use Rattle.interface_egress.specs.Emits.{Emits}
 use Rattle.interface_egress.specs.Departure.{piece_frame, piece_frame_len}
 use Rattle.interface_egress.specs.Fragments.{LeftValue, next_piece, left_after}
@@ -15,20 +17,32 @@ WentBy moves old new sent cut l =
 abbrev pub LeftBy : Bool → Option LeftValue → Cut → LeftValue → Type 0
 LeftBy sent after cut l = after ≡ cond sent (left_after cut.mtu l) (Some l)
 
-abbrev pub cut_of_host : InnerValue → Cut
-cut_of_host i = record { from = i.hardware; mtu = i.mtu; checksums = i.checksums }
+abbrev pub cut_of_host : InnerValue → IpAddress → Cut
+cut_of_host i destination = record { from = i.hardware; mtu = mtu_to i destination; checksums = i.checksums }
 
-joined : {D : Type 0} (moves : D → Move → D → Type 0) (old new : D) (i : InnerValue) (o after : Option LeftValue) (sent : Bool)
-    → IfSome o (WentBy moves old new sent (cut_of_host i)) → IfSome o (LeftBy sent after (cut_of_host i)) →
+-- a datagram for this destination
+abbrev pub GoesTo : IpAddress → LeftValue → Type 0
+GoesTo destination l = destination ≡ Address.Ipv4 l.header.dst_addr
+
+one_joined : {D : Type 0} (moves : D → Move → D → Type 0) (old new : D) (i : InnerValue) (l : LeftValue) (after : Option LeftValue) (sent : Bool)
+    → WentBy moves old new sent (cut_of_host i (Address.Ipv4 l.header.dst_addr)) l → LeftBy sent after (cut_of_host i (Address.Ipv4 l.header.dst_addr)) l →
+    PieceGoesOut moves old i l sent new after
+one_joined moves old new i l after true went left = (went, left)
+one_joined moves old new i l after false went left = (went, left)
+
+joined : {D : Type 0} (moves : D → Move → D → Type 0) (old new : D) (i : InnerValue) (to : IpAddress) (o after : Option LeftValue) (sent : Bool)
+    → IfSome o (GoesTo to) → IfSome o (WentBy moves old new sent (cut_of_host i to)) → IfSome o (LeftBy sent after (cut_of_host i to)) →
     IfSome o (λ l. PieceGoesOut moves old i l sent new after)
-joined moves old new i None after sent went left = went
-joined moves old new i (Some l) after true went left = (went, left)
-joined moves old new i (Some l) after false went left = (went, left)
+joined moves old new i to None after sent goes went left = went
+joined moves old new i to (Some l) after sent goes went left =
+    one_joined moves old new i l after sent
+    (subst (λ (a : IpAddress). WentBy moves old new sent (cut_of_host i a) l) goes went)
+    (subst (λ (a : IpAddress). LeftBy sent after (cut_of_host i a) l) goes left)
 
-pub piece_out : {D : Type 0} (moves : D → Move → D → Type 0) (old new : D) (i : InnerValue) (o after : Option LeftValue) (cut : Cut) (sent : Bool) →
-    cut ≡ cut_of_host i
+pub piece_out : {D : Type 0} (moves : D → Move → D → Type 0) (old new : D) (i : InnerValue) (to : IpAddress) (o after : Option LeftValue) (cut : Cut)
+    (sent : Bool) → cut ≡ cut_of_host i to → IfSome o (GoesTo to)
     → IfSome o (WentBy moves old new sent cut) → IfSome o (LeftBy sent after cut) → IfSome o (λ l. PieceGoesOut moves old i l sent new after)
-piece_out moves old new i o after cut sent same went left =
-    joined moves old new i o after sent
+piece_out moves old new i to o after cut sent same goes went left =
+    joined moves old new i to o after sent goes
     (subst (λ (c : Cut). IfSome o (WentBy moves old new sent c)) same went)
     (subst (λ (c : Cut). IfSome o (LeftBy sent after c)) same left)

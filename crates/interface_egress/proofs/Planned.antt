@@ -15,6 +15,8 @@ use Rattle.ip_wire.specs.IpRepr.TheVariants as Ip
 use Rattle.ip_wire.specs.Ipv4Address.{Ipv4Address}
 use Rattle.ip_wire.specs.Ipv4Repr.{Ipv4Repr}
 use Rattle.socket_base.specs.Packet.{PacketValue, IsSendable}
+use Rattle.interface_tables.proofs.PathMtu.{mtu_within}
+use Rattle.interface_tables.specs.Inner.{mtu_to}
 use Rattle.interface_tables.specs.Inner.{InnerValue, is_local_broadcast, next_hop, link_by, link_of_hop, link_on, link_address, group_station, all_stations}
 use Rattle.interface_tables.specs.Neighbor.{CacheValue, lookup, missing, answer_by, place_of, unless_failed, has_failed}
 use Rattle.interface_tables.specs.Best.{at_place}
@@ -103,24 +105,29 @@ AsksFrom hardware (Query.Neighbor own source target) = hardware ≡ Hardware.Eth
 module _ (i : InnerValue) (busy : Bool) (h : IpRepr) (P : Plan →
     Type 0) (out : P Way.Drop) (none : P Way.NoRoute) (wait : P Way.Wait) (held : P Way.Busy) (ask : (q : Question) → MayAsk i → AsksFrom i.hardware q →
     P (Way.Ask q)) (go : (to : HardwareAddress) → total_len h ≤ i.mtu → P (Way.Go to)) (cut : (to : HardwareAddress) (v : Ipv4Repr) → h ≡ Ip.Ipv4 v →
-    i.mtu < 20 + v.payload_len → 20 + v.payload_len ≤ longest_cut → busy ≡ false → P (Way.Cut to v)) where
-  cut_by : (to : HardwareAddress) (v : Ipv4Repr) → h ≡ Ip.Ipv4 v → i.mtu < 20 + v.payload_len → 20 + v.payload_len ≤ longest_cut → (b : Bool) → busy ≡ b →
+    mtu_to i (Address.Ipv4 v.dst_addr) < 20 + v.payload_len → 20 + v.payload_len ≤ longest_cut → busy ≡ false → P (Way.Cut to v)) where
+  cut_by : (to : HardwareAddress) (v : Ipv4Repr) → h ≡ Ip.Ipv4 v → mtu_to i (Address.Ipv4 v.dst_addr) < 20 + v.payload_len →
+      20 + v.payload_len ≤ longest_cut → (b : Bool) → busy ≡ b →
       P (cut_if_idle b to v)
   cut_by to v is long short true e = held
   cut_by to v is long short false e = cut to v is long short e
 
-  short_by : (to : HardwareAddress) (v : Ipv4Repr) → h ≡ Ip.Ipv4 v → i.mtu < 20 + v.payload_len → (b : Bool) → nat_le (20 + v.payload_len) longest_cut ≡ b →
+  short_by : (to : HardwareAddress) (v : Ipv4Repr) → h ≡ Ip.Ipv4 v → mtu_to i (Address.Ipv4 v.dst_addr) < 20 + v.payload_len → (b : Bool) →
+      nat_le (20 + v.payload_len) longest_cut ≡ b →
       P (cond b (cut_if_idle busy to v) Way.Drop)
   short_by to v is long true e = cut_by to v is long (le_by (20 + v.payload_len) longest_cut e) busy refl
   short_by to v is long false e = out
 
-  long_by : (to : HardwareAddress) (k : IpRepr) → h ≡ k → i.mtu < total_len k → P (long_plan busy to k)
+  long_by : (to : HardwareAddress) (k : IpRepr) → h ≡ k → mtu_to i (destination_of k) < total_len k → P (long_plan busy to k)
   long_by to (Ip.Ipv4 v) is long = short_by to v is long (nat_le (20 + v.payload_len) longest_cut) refl
   long_by to (Ip.Ipv6 v) is long = out
 
-  to_by : (to : HardwareAddress) (b : Bool) → nat_le (total_len h) i.mtu ≡ b → P (cond b (Way.Go to) (long_plan busy to h))
-  to_by to true e = go to (le_by (total_len h) i.mtu e)
-  to_by to false e = long_by to h refl (lt_by (total_len h) i.mtu e)
+  to_by : (to : HardwareAddress) (b : Bool) → nat_le (total_len h) (mtu_to i (destination_of h)) ≡ b → P (cond b (Way.Go to) (long_plan busy to h))
+  to_by to true e =
+      let short = le_by (total_len h) (mtu_to i (destination_of h)) e in
+      let within = mtu_within i.paths (destination_of h) i.moment i.mtu in
+      go to (omega (arith, short, within))
+  to_by to false e = long_by to h refl (lt_by (total_len h) (mtu_to i (destination_of h)) e)
 
   ask_v4_by : (own : EthernetAddress) (o : Option Ipv4Address) (hop : Ipv4Address) → MayAsk i → i.hardware ≡ Hardware.Ethernet own → P (ask_v4 own o hop)
   ask_v4_by own None hop may from = none
@@ -139,7 +146,7 @@ module _ (i : InnerValue) (busy : Bool) (h : IpRepr) (P : Plan →
   ask_by false hop may = none
 
   link_cases : (l : LinkAddress) → link_address i (destination_of h) ≡ l → P (plan_by l i busy h)
-  link_cases (Link.Known to) is = to_by to (nat_le (total_len h) i.mtu) refl
+  link_cases (Link.Known to) is = to_by to (nat_le (total_len h) (mtu_to i (destination_of h))) refl
   link_cases Link.NoRoute is = none
   link_cases Link.Silent is = wait
   link_cases Link.Unanswered is = out
@@ -170,9 +177,9 @@ len_of_v4 : (h : IpRepr) (v : Ipv4Repr) → h ≡ Ip.Ipv4 v → 20 + v.payload_l
 len_of_v4 h v is short = rw is (omega arith)
 
 pub planned_can_be_carried : (i : InnerValue) (left : Option LeftValue) (p : PacketValue) → i.mtu ≤ 65535 → IsPacket p →
-    CanBeCarried i.mtu left p (plan_of i (is_some left) p.header)
+    CanBeCarried i left p (plan_of i (is_some left) p.header)
 planned_can_be_carried i left p high is =
-    plan_cases i (is_some left) p.header (CanBeCarried i.mtu left p) tt tt tt tt (λ q may from. tt)
+    plan_cases i (is_some left) p.header (CanBeCarried i left p) tt tt tt tt (λ q may from. tt)
     (λ to short. sendable_by p is (omega (arith, high, short)))
     (λ to v header long short idle. record {
       header = header;

@@ -9,7 +9,7 @@ use Rattle.socket_base.specs.Packet.{PacketValue}
 use Rattle.interface_tables.specs.Inner.{InnerValue, with_request}
 use Rattle.interface_tables.specs.Neighbor.{CacheValue}
 use Rattle.interface_egress.specs.Departure.{Departure, Asks, Tells, Whole, Part, target_of}
-use Rattle.interface_egress.specs.Fragments.{LeftValue, next_departure, left_after}
+use Rattle.interface_egress.specs.Fragments.{LeftValue, departure_from, left_from}
 use Rattle.interface_egress.specs.GoesOut.{Departs, numbered, cut_of}
 use Rattle.interface_egress.specs.declared.way_out.Sent.{Sent}
 use Rattle.interface_egress.specs.declared.way_out.Sent.TheVariants as Outcome
@@ -20,7 +20,7 @@ use Rattle.interface_egress.specs.declared.plan.Plan.TheVariants as Way
 abbrev pub departure_by : InnerValue → PacketValue → Plan → Option Departure
 departure_by i p (Way.Ask question) = Some (Asks question)
 departure_by i p (Way.Go to) = Some (Whole to (numbered i p))
-departure_by i p (Way.Cut to v) = Some (next_departure i.mtu (cut_of i to v p))
+departure_by i p (Way.Cut to v) = Some (departure_from i (cut_of i to v p))
 departure_by i p _ = None
 
 -- how many bytes a frame of the medium has before its packet
@@ -48,7 +48,7 @@ host_after plan sent header i = record i { ident = ident_after sent header i.ide
 
 -- what is left to send
 abbrev pub left_behind : InnerValue → PacketValue → Plan → Sent → Option LeftValue → Option LeftValue
-left_behind i p (Way.Cut to v) Outcome.Gone l = left_after i.mtu (cut_of i to v p)
+left_behind i p (Way.Cut to v) Outcome.Gone l = left_from i (cut_of i to v p)
 left_behind i p plan sent l = l
 
 -- AT THE DEVICE

@@ -4,6 +4,8 @@ use Rattle.ip_wire.specs.HardwareAddress.{HardwareAddress}
 use Rattle.ip_wire.specs.Ipv4Repr.{Ipv4Repr}
 use Rattle.net_base.specs.ChecksumCapabilities.{ChecksumCapabilities}
 use Rattle.socket_base.specs.Packet.{PacketValue, payload_written}
+use Rattle.ip_wire.specs.IpAddress.TheVariants as Address
+use Rattle.interface_tables.specs.Inner.{InnerValue, mtu_to}
 use Rattle.interface_tables.specs.Pieces.{Piece, piece_at}
 use Rattle.interface_egress.specs.Departure.{Departure, Part}
 use Rattle.interface_egress.specs.declared.fragmenter.Left.{Left}
@@ -27,6 +29,10 @@ left_value (Some l) bytes = Some (half_sent l bytes)
 abbrev pub begun : ChecksumCapabilities → HardwareAddress → Ipv4Repr → PacketValue → LeftValue
 begun caps to header p = record { header = header; to = to; payload = payload_written caps p.header p.payload; at = 0 }
 
+-- how long a packet of its next piece may be, as the path to its destination is known then
+abbrev pub cut_mtu : InnerValue → LeftValue → ℕ
+cut_mtu i l = mtu_to i (Address.Ipv4 l.header.dst_addr)
+
 -- the most payload of a piece behind a header of 20 bytes, in whole units of 8 bytes
 abbrev pub piece_room : ℕ → ℕ
 piece_room mtu = (mtu - 20) / 8 * 8
@@ -42,6 +48,16 @@ next_departure mtu l = Part l.to l.header (next_piece mtu l)
 abbrev pub left_after : ℕ → LeftValue → Option LeftValue
 left_after mtu l =
     if nat_lt (l.at + piece_room mtu) (length l.payload) then Some (record l { at = l.at + piece_room mtu }) else None
+
+-- the piece that goes next from a host, and what is left behind it
+abbrev pub piece_from : InnerValue → LeftValue → Piece
+piece_from i l = next_piece (cut_mtu i l) l
+
+abbrev pub departure_from : InnerValue → LeftValue → Departure
+departure_from i l = next_departure (cut_mtu i l) l
+
+abbrev pub left_from : InnerValue → LeftValue → Option LeftValue
+left_from i l = left_after (cut_mtu i l) l
 
 -- the same of the place in it
 abbrev pub rest_of : ℕ → Left → Option Left

@@ -10,7 +10,7 @@ use Rattle.socket_base.specs.Packet.{PacketValue}
 use Rattle.interface_tables.specs.Inner.{InnerValue, with_next_ident, with_request}
 use Rattle.interface_egress.specs.Emits.{Emits}
 use Rattle.interface_egress.specs.Departure.{Departure, Asks, Whole, frame_from, len_from, target_of}
-use Rattle.interface_egress.specs.Fragments.{LeftValue, begun, next_departure, left_after}
+use Rattle.interface_egress.specs.Fragments.{LeftValue, begun, departure_from, left_from}
 use Rattle.interface_egress.specs.declared.frame.Question.{Question}
 use Rattle.interface_egress.specs.declared.way_out.Sent.{Sent}
 use Rattle.interface_egress.specs.declared.way_out.Sent.TheVariants as Outcome
@@ -70,8 +70,8 @@ Went moves old i header d _ new i' = ⊥
 -- a datagram whose first piece the device took has its number, and the rest is left
 abbrev pub WasCut : {D : Type 0} → (D → Move → D → Type 0) → D → InnerValue → Option LeftValue → LeftValue → Sent → D → InnerValue → Option LeftValue → Type 0
 WasCut moves old i l c Outcome.Gone new i' l' =
-    Departs moves old i (next_departure i.mtu c) true new × (i' ≡ with_next_ident i) × (l' ≡ left_after i.mtu c)
-WasCut moves old i l c Outcome.Refused new i' l' = Departs moves old i (next_departure i.mtu c) false new × (i' ≡ i) × (l' ≡ l)
+    Departs moves old i (departure_from i c) true new × (i' ≡ with_next_ident i) × (l' ≡ left_from i c)
+WasCut moves old i l c Outcome.Refused new i' l' = Departs moves old i (departure_from i c) false new × (i' ≡ i) × (l' ≡ l)
 WasCut moves old i l c _ new i' l' = ⊥
 
 -- A refused frame changes nothing but the device. What is dropped, waits or finds the host busy asks nothing of the device.
@@ -87,5 +87,5 @@ GoesOut moves old i l p (Way.Cut to v) sent new i' l' = WasCut moves old i l (cu
 
 -- the next piece of a datagram that is half sent, which has its number already
 abbrev pub PieceGoesOut : {D : Type 0} → (D → Move → D → Type 0) → D → InnerValue → LeftValue → Bool → D → Option LeftValue → Type 0
-PieceGoesOut moves old i l true new l' = Departs moves old i (next_departure i.mtu l) true new × (l' ≡ left_after i.mtu l)
-PieceGoesOut moves old i l false new l' = Departs moves old i (next_departure i.mtu l) false new × (l' ≡ Some l)
+PieceGoesOut moves old i l true new l' = Departs moves old i (departure_from i l) true new × (l' ≡ left_from i l)
+PieceGoesOut moves old i l false new l' = Departs moves old i (departure_from i l) false new × (l' ≡ Some l)

@@ -13,7 +13,7 @@ use Rattle.ip_wire.specs.Ipv4Address.{Ipv4Address}
 use Rattle.ip_wire.specs.Ipv4Repr.{Ipv4Repr}
 use Rattle.ip_wire.specs.EthernetAddress.{EthernetAddress}
 use Rattle.socket_base.specs.Packet.{PacketValue, PayloadFits, IsSendable, payload_len}
-use Rattle.interface_tables.specs.Inner.{InnerValue, is_foreign_loopback, may_come_from, link_address}
+use Rattle.interface_tables.specs.Inner.{InnerValue, is_foreign_loopback, may_come_from, link_address, mtu_to}
 use Rattle.interface_tables.specs.Source.{source_v4, source_v6, source_for}
 use Rattle.interface_tables.specs.declared.link.LinkAddress.{LinkAddress}
 use Rattle.interface_tables.specs.declared.link.LinkAddress.TheVariants as Link
@@ -29,7 +29,7 @@ longest_cut = 4096
 abbrev pub total_len : IpRepr → ℕ
 total_len header = header_len_in header + payload_len_of header
 
--- a datagram that is too long for one frame goes in pieces, one after the other
+-- a datagram that is too long for one frame, or for the path to its destination, goes in pieces, one after the other
 abbrev pub cut_if_idle : Bool → HardwareAddress → Ipv4Repr → Plan
 cut_if_idle busy to v = if busy then Way.Busy else Way.Cut to v
 
@@ -66,7 +66,7 @@ abbrev pub ask_if : Bool → InnerValue → IpAddress → Plan
 ask_if may i hop = if may then ask_on i.hardware i hop else Way.NoRoute
 
 abbrev pub plan_by : LinkAddress → InnerValue → Bool → IpRepr → Plan
-plan_by (Link.Known to) i busy header = plan_to to i.mtu busy header
+plan_by (Link.Known to) i busy header = plan_to to (mtu_to i (destination_of header)) busy header
 plan_by Link.NoRoute i busy header = Way.NoRoute
 plan_by Link.Silent i busy header = Way.Wait
 plan_by Link.Unanswered i busy header = Way.Drop
@@ -80,7 +80,7 @@ never_leaves i header =
     || (is_foreign_loopback i (destination_of header) || not (may_come_from i (source_of header) (destination_of header)))
 
 -- In this order: a packet that never leaves is dropped, and so is one whose next hop doesn't answer; one whose next hop isn't known
--- waits, or asks; then its length counts. The host is busy while pieces of a datagram wait.
+-- waits, or asks; then its length counts, and how long a packet the path to its destination carries. The host is busy while pieces of a datagram wait.
 abbrev pub plan_of : InnerValue → Bool → IpRepr → Plan
 plan_of i busy header =
     if never_leaves i header then Way.Drop
@@ -91,7 +91,7 @@ pub record IsPacket (p : PacketValue) : Type 0 where
   pub len : payload_len_of p.header ≡ payload_len p.payload
   pub payload : Ips.Fits p.header → PayloadFits p.header p.payload
 
--- a datagram that is cut: its payload fits the buffer, and not one frame, and no other one is half sent
+-- a datagram that is cut: its payload fits the buffer, and not one packet of this length, and no other one is half sent
 pub record CanBeCut (mtu : ℕ) (left : Option LeftValue) (p : PacketValue) (v : Ipv4Repr) : Type 0 where
   pub header : p.header ≡ Ip.Ipv4 v
   pub sendable : IsSendable p
@@ -100,7 +100,7 @@ pub record CanBeCut (mtu : ℕ) (left : Option LeftValue) (p : PacketValue) (v :
   pub idle : left ≡ None
 
 -- what is to be done with the packet can be done
-abbrev pub CanBeCarried : ℕ → Option LeftValue → PacketValue → Plan → Type 0
-CanBeCarried mtu left p (Way.Go to) = IsSendable p
-CanBeCarried mtu left p (Way.Cut to v) = CanBeCut mtu left p v
-CanBeCarried mtu left p _ = Unit {0}
+abbrev pub CanBeCarried : InnerValue → Option LeftValue → PacketValue → Plan → Type 0
+CanBeCarried i left p (Way.Go to) = IsSendable p
+CanBeCarried i left p (Way.Cut to v) = CanBeCut (mtu_to i (Address.Ipv4 v.dst_addr)) left p v
+CanBeCarried i left p _ = Unit {0}

@@ -2,6 +2,7 @@
 ghost use Rattle.std.specs.Prelude.{◌≡◌, ◌+◌, ◌-◌, ◌<◌, ◌≤◌, ◌^◌, ◌++◌, if◌then◌else◌, length, take, drop, is_some, IsSome, IfSome, IfOk, None, Some};
 ghost use Rattle.std.specs.Option.{ForSome};
 ghost use Rattle.socket_base.specs.Packet.{packet_value, payload_len, payload_written, PayloadFits, IsSendable};
+ghost use Rattle.ip_wire.specs.IpAddress.TheVariants as Address;
 ghost use Rattle.ip_wire.specs.IpRepr.TheVariants as Ip;
 ghost use Rattle.interface_tables.specs.Pieces.{piece_at};
 ghost use Rattle.interface_egress.specs.Emits.{Emits};
@@ -10,7 +11,7 @@ ghost use Rattle.interface_egress.specs.Fragments.{LeftValue, half_sent, left_va
 
 use crate::fill::send;
 use crate::frame::Piece;
-use ip_wire::{HardwareAddress, IPV4_HEADER_LEN, Ipv4Repr};
+use ip_wire::{HardwareAddress, IPV4_HEADER_LEN, IpAddress, Ipv4Repr};
 use net_base::{ChecksumCapabilities, Device, IPV4_FRAGMENT_PAYLOAD_ALIGNMENT};
 use socket_base::Packet;
 use std::alloc::{AllocError, Global};
@@ -72,6 +73,17 @@ impl Fragmenter {
         ensures { result ≡ is_some self.now }
     {
         self.left.is_some()
+    }
+
+    /// Where the datagram goes whose pieces wait.
+    pub fn destination(&self) -> IpAddress
+        requires { IsSome self.now }
+        ensures { IfSome self.now (λ l. result ≡ Address.Ipv4 l.header.dst_addr) }
+    {
+        let Some(left) = self.left else {
+            unreachable!()
+        };
+        IpAddress::Ipv4(left.header.dst_addr)
     }
 
     /// Sends the first piece of a datagram that is too long for one frame. Says whether the device took it; then the rest

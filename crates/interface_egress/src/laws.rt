@@ -19,7 +19,7 @@ ghost use Rattle.socket_base.specs.Packet.{PacketValue, IsSendable, payload_len,
 ghost use Rattle.interface_tables.specs.Inner.{InnerValue};
 ghost use Rattle.interface_tables.specs.Pieces.{Piece, IsSliceOf};
 ghost use Rattle.interface_egress.specs.Departure.{Departure, Tells, ether_for, packet_frame, piece_frame, arp_link, arp_frame};
-ghost use Rattle.interface_egress.specs.Fragments.{LeftValue, piece_room, next_departure, pieces_from};
+ghost use Rattle.interface_egress.specs.Fragments.{LeftValue, piece_room, departure_from, pieces_from};
 ghost use Rattle.interface_egress.specs.Plan.{never_leaves, plan_of};
 ghost use Rattle.interface_egress.specs.GoesOut.{GoesOut, PieceGoesOut, frame_len_of};
 ghost use Rattle.interface_egress.specs.Departing.{departure_by, link_room, ident_after, silent_after, SendsOnce, was_taken, host_after, left_behind};
@@ -38,7 +38,7 @@ pub fn frames_are_short()
         → departure_by i p (plan_of i busy p.header) ≡ Some d
         → frame_len_of i d ≤ link_room i.hardware + i.mtu }
     ensures piece { (i : InnerValue) (l : LeftValue) → 576 ≤ i.mtu
-        → frame_len_of i (next_departure i.mtu l) ≤ link_room i.hardware + i.mtu }
+        → frame_len_of i (departure_from i l) ≤ link_room i.hardware + i.mtu }
     ensures arp { (i : InnerValue) (own : EthernetAddress) (packet : ArpRepr) → 576 ≤ i.mtu → i.hardware ≡ Hardware.Ethernet own
         → frame_len_of i (Tells packet) ≤ link_room i.hardware + i.mtu }
 {}
@@ -62,7 +62,7 @@ pub fn one_send_at_most<D: Device>()
         → SendsOnce D.moves old i (departure_by i p (plan_of i busy p.header)) (was_taken sent) new }
     ensures piece { (old new : D) (i : InnerValue) (l : LeftValue) (l' : Option LeftValue) (taken : Bool)
         → PieceGoesOut D.moves old i l taken new l'
-        → SendsOnce D.moves old i (Some (next_departure i.mtu l)) taken new }
+        → SendsOnce D.moves old i (Some (departure_from i l)) taken new }
     ensures host { (old new : D) (i i' : InnerValue) (l l' : Option LeftValue) (busy : Bool) (p : PacketValue) (sent : Sent)
         → GoesOut D.moves old i l p (plan_of i busy p.header) sent new i' l'
         → i' ≡ host_after (plan_of i busy p.header) sent p.header i }

@@ -34,13 +34,13 @@ pub fn plan_for(inner: &InterfaceInner, busy: bool, header: &IpRepr) -> Plan
     ensures value { result ≡ plan_of inner.now busy header.now }
     ensures mtu { inner.now.mtu ≤ 65535 }
 {
-    let mtu = inner.mtu();
+    let _mtu = inner.mtu();
     if never_leaves(inner, header) {
         return Plan::Drop;
     }
     let destination = header.dst_addr();
     match inner.link_address(&destination) {
-        LinkAddress::Known(to) => plan_to(to, mtu, busy, header),
+        LinkAddress::Known(to) => plan_to(to, inner.mtu_to(&destination), busy, header),
         LinkAddress::NoRoute => Plan::NoRoute,
         LinkAddress::Silent => Plan::Wait,
         LinkAddress::Unanswered => Plan::Drop,
@@ -79,7 +79,7 @@ fn is_within(header: &IpRepr, mtu: usize) -> bool
     }
 }
 
-/// The packet is too long for one frame.
+/// The packet is too long for one frame, or for the path to its destination.
 fn long_plan(to: HardwareAddress, busy: bool, header: &IpRepr) -> Plan
     ensures { result ≡ long_plan busy to header.now }
 {

@@ -3,15 +3,17 @@ ghost use Rattle.std.specs.Prelude.{◌≡◌, ◌+◌, ◌<◌, ◌≤◌, ◌^
 ghost use Rattle.socket_base.specs.Packet.{packet_value, IsSendable};
 ghost use Rattle.interface_egress.specs.Plan.{plan_of, IsPacket, CanBeCarried};
 ghost use Rattle.interface_egress.specs.Plan.{CanBeCut};
+ghost use Rattle.interface_tables.specs.Inner.{mtu_to};
+ghost use Rattle.ip_wire.specs.IpAddress.TheVariants as Address;
 ghost use Rattle.interface_egress.specs.Departure as Departures;
-ghost use Rattle.interface_egress.specs.GoesOut.{GoesOut, PieceGoesOut, Asked, Went, WasCut, numbered_header, numbered, after_header, cut_of};
+ghost use Rattle.interface_egress.specs.GoesOut.{GoesOut, PieceGoesOut, Asked, Went, WasCut, numbered_v4, numbered_header, numbered, after_header, cut_of};
 
 use crate::fill::send;
 use crate::fragmenter::{Cut, Fragmenter};
 use crate::frame::{Question, Whole, ask};
 use crate::plan::{Plan, plan_for};
 use interface_tables::InterfaceInner;
-use ip_wire::{HardwareAddress, IpRepr, Ipv4Repr};
+use ip_wire::{HardwareAddress, IpAddress, IpRepr, Ipv4Repr};
 use net_base::Device;
 use socket_base::{Context, Packet};
 
@@ -78,7 +80,7 @@ fn carry<D: Device>(
     plan: Plan,
 ) -> Sent
     requires room { D.refused device.old + 1 < 2 ^ 64 }
-    requires fits { CanBeCarried inner.old.mtu fragmenter.old (packet_value packet.now) plan }
+    requires fits { CanBeCarried inner.old fragmenter.old (packet_value packet.now) plan }
     ensures out { GoesOut D.moves device.old inner.old fragmenter.old (packet_value packet.now) plan result device.new inner.new fragmenter.new }
     ensures capabilities { D.described device.new ≡ D.described device.old }
 {
@@ -150,17 +152,13 @@ fn send_first<D: Device>(
     packet: &Packet<'_>,
 ) -> Sent
     requires room { D.refused device.old + 1 < 2 ^ 64 }
-    requires fits { CanBeCut inner.old.mtu fragmenter.old (packet_value packet.now) header.now }
+    requires fits { CanBeCut (mtu_to inner.old (Address.Ipv4 header.now.dst_addr)) fragmenter.old (packet_value packet.now) header.now }
     ensures out { WasCut D.moves device.old inner.old fragmenter.old (cut_of inner.old to header.now (packet_value packet.now))
         result device.new inner.new fragmenter.new }
     ensures capabilities { D.described device.new ≡ D.described device.old }
 {
-    let cut = cut_from(inner);
-    let header = Ipv4Repr {
-        ident: inner.ident(),
-        dont_frag: false,
-        ..*header
-    };
+    let cut = cut_from(inner, IpAddress::Ipv4(header.dst_addr));
+    let header = numbered_v4(inner, header);
     let packet = numbered(inner, packet);
     if !fragmenter.send_first(device, token, &cut, to, &header, &packet) {
         return Sent::Refused;
@@ -181,18 +179,19 @@ pub fn send_next<D: Device>(
     ensures out { IfSome fragmenter.old (λ l. PieceGoesOut D.moves device.old inner.now l result device.new fragmenter.new) }
     ensures capabilities { D.described device.new ≡ D.described device.old }
 {
-    fragmenter.send_next(device, token, &cut_from(inner))
+    let cut = cut_from(inner, fragmenter.destination());
+    fragmenter.send_next(device, token, &cut)
 }
 
-/// How pieces go from this host.
-fn cut_from(inner: &InterfaceInner) -> Cut
-    ensures value { result ≡ record { from = inner.now.hardware; mtu = inner.now.mtu; checksums = inner.now.checksums } }
+/// How pieces go from this host to this destination.
+fn cut_from(inner: &InterfaceInner, destination: IpAddress) -> Cut
+    ensures value { result ≡ record { from = inner.now.hardware; mtu = mtu_to inner.now destination; checksums = inner.now.checksums } }
     ensures low { 576 ≤ result.mtu }
     ensures high { result.mtu ≤ 65535 }
 {
     Cut {
         from: inner.hardware_addr(),
-        mtu: inner.mtu(),
+        mtu: inner.mtu_to(&destination),
         checksums: inner.checksum_caps(),
     }
 }
@@ -204,6 +203,17 @@ fn numbered<'a>(inner: &InterfaceInner, packet: &Packet<'a>) -> Packet<'a>
     ensures fits { IsSendable (packet_value result) }
 {
     Packet::new(numbered_header(inner, &packet.ip_repr()), *packet.payload())
+}
+
+/// The header of a datagram with the host's next number.
+fn numbered_v4(inner: &InterfaceInner, header: &Ipv4Repr) -> Ipv4Repr
+    ensures { result ≡ numbered_v4 inner.now header.now }
+{
+    Ipv4Repr {
+        ident: inner.ident(),
+        dont_frag: false,
+        ..*header
+    }
 }
 
 /// The header with the host's next number, if it is one of IPv4.

@@ -15,6 +15,7 @@ pub mod Given
 pub mod Sizes
 pub mod Kept
 pub mod Limit
+pub mod PathTold
 pub mod Settings
 pub mod OneDatagram
 pub mod OneArrival

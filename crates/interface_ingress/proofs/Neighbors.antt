@@ -22,6 +22,7 @@ use Rattle.interface_ingress.specs.Arrives.{Arrived, ArrivesV4, ArrivesV6, Bring
 use Rattle.interface_ingress.specs.Delivered.{Places, drawn_if, is_taken_raw, packet_delivered, segment_draws}
 use Rattle.interface_ingress.specs.Handed.{handed_host, handed_reply, is_unclaimed, limited_host, message_host, names_nobody, segment_host}
 use Rattle.interface_ingress.proofs.Limit.{counted_neighbors}
+use Rattle.interface_ingress.proofs.PathTold.{path_v4_so, path_v6_so}
 use Rattle.interface_ingress.specs.Heard.{neighbor_heard}
 use Rattle.interface_ingress.specs.Reassembled.{is_control_v6}
 use Rattle.interface_ingress.specs.Kept.{RenewsOnly, LearnsOnly}
@@ -43,43 +44,45 @@ abbrev IsOther : IpRepr → Type 0
 IsOther ip = carried_in ip ≡ Protocol.Icmpv6 → ⊥
 
 limited_neighbors : (i : InnerValue) (places : Places) (ip : IpRepr) (payload : List ℕ) (taken : Bool) (carried : Option PayloadValue) →
-    (limited_host i places ip payload taken carried).neighbors ≡ (handed_host i places ip carried).neighbors
+    (limited_host i places ip payload taken carried).neighbors ≡ (handed_host i places ip payload carried).neighbors
 limited_neighbors i places ip payload taken carried =
-    counted_neighbors (is_unclaimed i places ip carried) i (handed_reply i places ip payload taken carried) (handed_host i places ip carried)
+    counted_neighbors (is_unclaimed i places ip carried) i (handed_reply i places ip payload taken carried) (handed_host i places ip payload carried)
 
-handed_v4 : (i : InnerValue) (places : Places) (header : Ipv4Repr) (carried : Option PayloadValue) →
-    (handed_host i places (Ip.Ipv4 header) carried).neighbors ≡ i.neighbors
-handed_v4 i places header (Some (ControlV4 message bytes)) = refl
-handed_v4 i places header (Some (ControlV6 message bytes)) = refl
-handed_v4 i places header (Some (Bytes bytes)) = refl
-handed_v4 i places header (Some (Datagram udp bytes)) = refl
-handed_v4 i places header (Some (Segment tcp bytes)) = segment_neighbors i places (Ip.Ipv4 header) tcp bytes
-handed_v4 i places header None = refl
+handed_v4 : (i : InnerValue) (places : Places) (header : Ipv4Repr) (payload : List ℕ) (carried : Option PayloadValue) →
+    (handed_host i places (Ip.Ipv4 header) payload carried).neighbors ≡ i.neighbors
+handed_v4 i places header payload (Some (ControlV4 message bytes)) =
+    path_v4_so (λ (x : InnerValue). x.neighbors ≡ i.neighbors) i refl (λ address told. refl) places payload message bytes
+handed_v4 i places header payload (Some (ControlV6 message bytes)) = refl
+handed_v4 i places header payload (Some (Bytes bytes)) = refl
+handed_v4 i places header payload (Some (Datagram udp bytes)) = refl
+handed_v4 i places header payload (Some (Segment tcp bytes)) = segment_neighbors i places (Ip.Ipv4 header) tcp bytes
+handed_v4 i places header payload None = refl
 
 -- neighbour messages count right behind the IPv6 header alone
 not_control : (protocol : IpProtocol) → (protocol ≡ Protocol.Icmpv6 → ⊥) → is_control_v6 protocol ≡ false
 not_control Protocol.Icmpv6 other = absurd (other refl)
 not_control protocol other = refl
 
-message_neighbors : (i : InnerValue) (header : Ipv6Repr) (message : Icmpv6.MessageValue) → IsOther (Ip.Ipv6 header) →
-    (message_host i header message).neighbors ≡ i.neighbors
-message_neighbors i header (Icmpv6.Ndisc message) other =
+message_neighbors : (i : InnerValue) (places : Places) (header : Ipv6Repr) (message : Icmpv6.MessageValue) (bytes : List ℕ) → IsOther (Ip.Ipv6 header) →
+    (message_host i places header message bytes).neighbors ≡ i.neighbors
+message_neighbors i places header (Icmpv6.Ndisc message) bytes other =
     ap (λ b. (if b then (neighbor_heard i header message).inner else i).neighbors) (not_control header.next_header other)
-message_neighbors i header (Icmpv6.DstUnreachable reason about) other = refl
-message_neighbors i header (Icmpv6.PktTooBig mtu about) other = refl
-message_neighbors i header (Icmpv6.TimeExceeded reason about) other = refl
-message_neighbors i header (Icmpv6.ParamProblem reason pointer about) other = refl
-message_neighbors i header (Icmpv6.EchoRequest ident seq_no) other = refl
-message_neighbors i header (Icmpv6.EchoReply ident seq_no) other = refl
+message_neighbors i places header (Icmpv6.DstUnreachable reason about) bytes other = refl
+message_neighbors i places header (Icmpv6.PktTooBig mtu about) bytes other =
+    path_v6_so (λ (x : InnerValue). x.neighbors ≡ i.neighbors) i refl (λ address told. refl) places (Icmpv6.PktTooBig mtu about) bytes
+message_neighbors i places header (Icmpv6.TimeExceeded reason about) bytes other = refl
+message_neighbors i places header (Icmpv6.ParamProblem reason pointer about) bytes other = refl
+message_neighbors i places header (Icmpv6.EchoRequest ident seq_no) bytes other = refl
+message_neighbors i places header (Icmpv6.EchoReply ident seq_no) bytes other = refl
 
-handed_v6 : (i : InnerValue) (places : Places) (header : Ipv6Repr) (carried : Option PayloadValue) → IsOther (Ip.Ipv6 header) →
-    (handed_host i places (Ip.Ipv6 header) carried).neighbors ≡ i.neighbors
-handed_v6 i places header (Some (ControlV4 message bytes)) other = refl
-handed_v6 i places header (Some (ControlV6 message bytes)) other = message_neighbors i header message other
-handed_v6 i places header (Some (Bytes bytes)) other = refl
-handed_v6 i places header (Some (Datagram udp bytes)) other = refl
-handed_v6 i places header (Some (Segment tcp bytes)) other = segment_neighbors i places (Ip.Ipv6 header) tcp bytes
-handed_v6 i places header None other = refl
+handed_v6 : (i : InnerValue) (places : Places) (header : Ipv6Repr) (payload : List ℕ) (carried : Option PayloadValue) → IsOther (Ip.Ipv6 header) →
+    (handed_host i places (Ip.Ipv6 header) payload carried).neighbors ≡ i.neighbors
+handed_v6 i places header payload (Some (ControlV4 message bytes)) other = refl
+handed_v6 i places header payload (Some (ControlV6 message bytes)) other = message_neighbors i places header message bytes other
+handed_v6 i places header payload (Some (Bytes bytes)) other = refl
+handed_v6 i places header payload (Some (Datagram udp bytes)) other = refl
+handed_v6 i places header payload (Some (Segment tcp bytes)) other = segment_neighbors i places (Ip.Ipv6 header) tcp bytes
+handed_v6 i places header payload None other = refl
 
 unrenewed : (i : InnerValue) (link : Option EthernetRepr) (ip : IpRepr) (n : CacheValue) → n ≡ i.neighbors → RenewsOnly i link (sender_of ip) n
 unrenewed i None ip n same = same
@@ -110,7 +113,7 @@ v4_renews true i places link header payload a (carried, is, handed) =
     (ap neighbors_in handed.inner
     ∙ limited_neighbors (renewed i link (Ip.Ipv4 header)) (packet_delivered (Ip.Ipv4 header) payload places) (Ip.Ipv4 header) payload
     (is_taken_raw (Ip.Ipv4 header) places) carried
-    ∙ handed_v4 (renewed i link (Ip.Ipv4 header)) (packet_delivered (Ip.Ipv4 header) payload places) header carried)
+    ∙ handed_v4 (renewed i link (Ip.Ipv4 header)) (packet_delivered (Ip.Ipv4 header) payload places) header payload carried)
 v4_renews false i places link header payload a h = unrenewed i link (Ip.Ipv4 header) a.inner.neighbors (ap neighbors_in h.inner)
 
 v6_renews : (ours : Bool) (i : InnerValue) (places : Places) (link : Option EthernetRepr) (header : Ipv6Repr) (payload : List ℕ) (a : Arrived) →
@@ -120,7 +123,7 @@ v6_renews true i places link header payload a (carried, is, handed) other =
     (ap neighbors_in handed.inner
     ∙ limited_neighbors (renewed i link (Ip.Ipv6 header)) (packet_delivered (Ip.Ipv6 header) payload places) (Ip.Ipv6 header) payload
     (is_taken_raw (Ip.Ipv6 header) places) carried
-    ∙ handed_v6 (renewed i link (Ip.Ipv6 header)) (packet_delivered (Ip.Ipv6 header) payload places) header carried other)
+    ∙ handed_v6 (renewed i link (Ip.Ipv6 header)) (packet_delivered (Ip.Ipv6 header) payload places) header payload carried other)
 v6_renews false i places link header payload a h other = unrenewed i link (Ip.Ipv6 header) a.inner.neighbors (ap neighbors_in h.inner)
 
 pub renews_v4 : (i : InnerValue) (places : Places) (link : Option EthernetRepr) (header : Ipv4Repr) (piece : Ipv4Piece) (payload : List ℕ) (a : Arrived) →

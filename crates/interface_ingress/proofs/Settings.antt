@@ -1,6 +1,7 @@
 -- A host's settings, which no arrival changes.
 use Rattle.std.proofs.Common.{◌≡◌, Bool, true, false, if◌then◌else◌, List, refl, sym, ◌∙◌, subst}
 use Rattle.std.specs.Prelude.{ℕ, Option, Some, None}
+use Rattle.icmpv4.specs.declared.header.Icmpv4Header.{Icmpv4Header}
 use Rattle.icmpv6.specs.Icmpv6 as Icmpv6
 use Rattle.icmpv6.specs.Ndisc.{NeighborMessage}
 use Rattle.ip_wire.specs.IpAddress.{IpAddress}
@@ -16,11 +17,13 @@ use Rattle.interface_ingress.specs.Heard.{neighbor_heard, with_entries_of}
 use Rattle.interface_ingress.proofs.Hearing.{entries-alone}
 use Rattle.interface_ingress.specs.Incoming.{IncomingValue, Arp, Ip4, Ip6}
 use Rattle.interface_ingress.specs.Arp.{teaches, learned, arp_arrived}
-use Rattle.interface_tables.specs.Inner.{InnerValue, context_of, with_error}
+use Rattle.interface_tables.specs.Inner.{InnerValue, context_of, with_error, with_path}
 use Rattle.interface_ingress.specs.Arrives.{Arrived, ArrivesV4, ArrivesV6, Brings, Hands, is_direct, sender_of, renewed, renewed_by}
 use Rattle.interface_ingress.specs.Delivered.{Places, drawn_if, packet_delivered, is_taken_raw, segment_draws}
 use Rattle.interface_ingress.specs.Handed.{handed_host, handed_reply, is_unclaimed, limited_host, message_host, names_nobody, segment_host}
+use Rattle.interface_ingress.specs.PathTold.{path_host_v4, path_host_v6}
 use Rattle.interface_ingress.proofs.Limit.{counted_so}
+use Rattle.interface_ingress.proofs.PathTold.{path_v4_so, path_v6_so}
 use Rattle.interface_ingress.specs.Kept.{HasSameSettings}
 use Rattle.interface_ingress.specs.Reassembled.{is_control_v6}
 
@@ -126,27 +129,53 @@ same_heard i header message =
       fresh = refl;
     })
 
-same_message : (i : InnerValue) (header : Ipv6Repr) (message : Icmpv6.MessageValue) → HasSameSettings i (message_host i header message)
-same_message i header (Icmpv6.DstUnreachable reason about) = same_itself i
-same_message i header (Icmpv6.PktTooBig mtu about) = same_itself i
-same_message i header (Icmpv6.TimeExceeded reason about) = same_itself i
-same_message i header (Icmpv6.ParamProblem reason pointer about) = same_itself i
-same_message i header (Icmpv6.EchoRequest ident seq_no) = same_itself i
-same_message i header (Icmpv6.EchoReply ident seq_no) = same_itself i
-same_message i header (Icmpv6.Ndisc message) =
+same_told : (i : InnerValue) (address : IpAddress) (told : ℕ) → HasSameSettings i (with_path i address told)
+same_told i address told = record {
+  moment = refl;
+  hardware = refl;
+  mtu = refl;
+  checksums = refl;
+  addresses = refl;
+  isn_key = refl;
+  any_ip = refl;
+  routes = refl;
+  silent =
+      refl;
+  ident = refl;
+  fresh = refl;
+}
+
+same_path_v4 : (i : InnerValue) (places : Places) (payload : List ℕ) (message : Icmpv4Header) (bytes : List ℕ) →
+    HasSameSettings i (path_host_v4 i places payload message bytes)
+same_path_v4 i = path_v4_so (HasSameSettings i) i (same_itself i) (same_told i)
+
+same_path_v6 : (i : InnerValue) (places : Places) (message : Icmpv6.MessageValue) (bytes : List ℕ) → HasSameSettings i (path_host_v6 i places message bytes)
+same_path_v6 i = path_v6_so (HasSameSettings i) i (same_itself i) (same_told i)
+
+same_message : (i : InnerValue) (places : Places) (header : Ipv6Repr) (message : Icmpv6.MessageValue) (bytes : List ℕ) →
+    HasSameSettings i (message_host i places header message bytes)
+same_message i places header (Icmpv6.DstUnreachable reason about) bytes = same_itself i
+same_message i places header (Icmpv6.PktTooBig mtu about) bytes = same_path_v6 i places (Icmpv6.PktTooBig mtu about) bytes
+same_message i places header (Icmpv6.TimeExceeded reason about) bytes = same_itself i
+same_message i places header (Icmpv6.ParamProblem reason pointer about) bytes = same_itself i
+same_message i places header (Icmpv6.EchoRequest ident seq_no) bytes = same_itself i
+same_message i places header (Icmpv6.EchoReply ident seq_no) bytes = same_itself i
+same_message i places header (Icmpv6.Ndisc message) bytes =
     elim (is_control_v6 header.next_header) as (λ b. HasSameSettings i (if b then (neighbor_heard i header message).inner else i)) [
       | true ↦ same_heard i header message
       | false ↦ same_itself i
     ]
 
-same_handed : (i : InnerValue) (places : Places) (ip : IpRepr) (carried : Option PayloadValue) → HasSameSettings i (handed_host i places ip carried)
-same_handed i places ip (Some (ControlV4 message bytes)) = same_itself i
-same_handed i places (Ip.Ipv4 header) (Some (ControlV6 message bytes)) = same_itself i
-same_handed i places (Ip.Ipv6 header) (Some (ControlV6 message bytes)) = same_message i header message
-same_handed i places ip (Some (Bytes bytes)) = same_itself i
-same_handed i places ip (Some (Datagram udp bytes)) = same_itself i
-same_handed i places ip (Some (Segment header bytes)) = same_segment i places ip header bytes
-same_handed i places ip None = same_itself i
+same_handed : (i : InnerValue) (places : Places) (ip : IpRepr) (payload : List ℕ) (carried : Option PayloadValue) →
+    HasSameSettings i (handed_host i places ip payload carried)
+same_handed i places (Ip.Ipv4 header) payload (Some (ControlV4 message bytes)) = same_path_v4 i places payload message bytes
+same_handed i places (Ip.Ipv6 header) payload (Some (ControlV4 message bytes)) = same_itself i
+same_handed i places (Ip.Ipv4 header) payload (Some (ControlV6 message bytes)) = same_itself i
+same_handed i places (Ip.Ipv6 header) payload (Some (ControlV6 message bytes)) = same_message i places header message bytes
+same_handed i places ip payload (Some (Bytes bytes)) = same_itself i
+same_handed i places ip payload (Some (Datagram udp bytes)) = same_itself i
+same_handed i places ip payload (Some (Segment header bytes)) = same_segment i places ip header bytes
+same_handed i places ip payload None = same_itself i
 
 same_error : (i : InnerValue) → HasSameSettings i (with_error i)
 same_error i = record {
@@ -167,8 +196,8 @@ same_error i = record {
 same_limited : (i : InnerValue) (places : Places) (ip : IpRepr) (payload : List ℕ) (taken : Bool) (carried : Option PayloadValue) →
     HasSameSettings i (limited_host i places ip payload taken carried)
 same_limited i places ip payload taken carried =
-    let after = handed_host i places ip carried in
-    let same = same_handed i places ip carried in
+    let after = handed_host i places ip payload carried in
+    let same = same_handed i places ip payload carried in
     counted_so (λ (x : InnerValue). HasSameSettings i x) (is_unclaimed i places ip carried) i (handed_reply i places ip payload taken carried) after same
     (same_then i after (with_error after) same (same_error after))
 

@@ -25,6 +25,7 @@ use Rattle.interface_ingress.specs.Reassembled.{is_control_v6}
 use Rattle.interface_ingress.specs.Replies.{echo_v4, echo_v6, port_unreachable, protocol_unreachable, parameter_problem}
 use Rattle.interface_tables.specs.Inner.{InnerValue, context_of, is_local_broadcast, may_tell, with_error}
 use Rattle.interface_ingress.specs.Datagrams.{IsDelivered}
+use Rattle.interface_ingress.specs.PathTold.{path_host_v4, path_host_v6}
 use Rattle.interface_ingress.specs.Delivered.{Places, icmpv4_delivered, icmpv6_delivered, datagram_place, segment_answer, segment_delivered}
 use Rattle.interface_ingress.specs.Delivered.{segment_draws, segment_place, drawn_if}
 
@@ -33,6 +34,10 @@ use Rattle.interface_ingress.specs.Delivered.{segment_draws, segment_place, draw
 abbrev pub control_v4_places : IpRepr → Icmpv4Header → List ℕ → Places → Places
 control_v4_places (Ip.Ipv4 header) message bytes places = icmpv4_delivered header message bytes places
 control_v4_places (Ip.Ipv6 header) message bytes places = places
+
+abbrev pub control_v4_host : InnerValue → Places → IpRepr → List ℕ → Icmpv4Header → List ℕ → InnerValue
+control_v4_host i places (Ip.Ipv4 header) payload message bytes = path_host_v4 i places payload message bytes
+control_v4_host i places (Ip.Ipv6 header) payload message bytes = i
 
 abbrev pub control_v4_reply : InnerValue → IpRepr → Icmpv4Header → List ℕ → Option PacketValue
 control_v4_reply i (Ip.Ipv4 header) message bytes = echo_v4 i header message bytes
@@ -43,17 +48,18 @@ control_v6_places (Ip.Ipv4 header) message bytes places = places
 control_v6_places (Ip.Ipv6 header) message bytes places = icmpv6_delivered header message bytes places
 
 -- A neighbour message tells of its sender, and may be answered. It stands right behind the IPv6 header (RFC 6980 for fragment headers).
-abbrev pub message_host : InnerValue → Ipv6Repr → MessageValue → InnerValue
-message_host i header (Icmpv6.Ndisc message) = if is_control_v6 header.next_header then (neighbor_heard i header message).inner else i
-message_host i header message = i
+-- Packet too big tells of a path.
+abbrev pub message_host : InnerValue → Places → Ipv6Repr → MessageValue → List ℕ → InnerValue
+message_host i places header (Icmpv6.Ndisc message) bytes = if is_control_v6 header.next_header then (neighbor_heard i header message).inner else i
+message_host i places header message bytes = path_host_v6 i places message bytes
 
 abbrev pub message_reply : InnerValue → Ipv6Repr → MessageValue → List ℕ → Option PacketValue
 message_reply i header (Icmpv6.Ndisc message) bytes = if is_control_v6 header.next_header then (neighbor_heard i header message).reply else None
 message_reply i header message bytes = echo_v6 i header message bytes
 
-abbrev pub control_v6_host : InnerValue → IpRepr → MessageValue → InnerValue
-control_v6_host i (Ip.Ipv4 header) message = i
-control_v6_host i (Ip.Ipv6 header) message = message_host i header message
+abbrev pub control_v6_host : InnerValue → Places → IpRepr → MessageValue → List ℕ → InnerValue
+control_v6_host i places (Ip.Ipv4 header) message bytes = i
+control_v6_host i places (Ip.Ipv6 header) message bytes = message_host i places header message bytes
 
 abbrev pub control_v6_reply : InnerValue → IpRepr → MessageValue → List ℕ → Option PacketValue
 control_v6_reply i (Ip.Ipv4 header) message bytes = None
@@ -125,10 +131,11 @@ unread_reply i (Ip.Ipv6 header) payload taken = unread_v6 i header payload taken
 
 -- ALL. `taken` says that a raw socket took the packet.
 
-abbrev pub handed_host : InnerValue → Places → IpRepr → Option PayloadValue → InnerValue
-handed_host i places ip (Some (ControlV6 message bytes)) = control_v6_host i ip message
-handed_host i places ip (Some (Segment header bytes)) = segment_host i places ip header bytes
-handed_host i places ip carried = i
+abbrev pub handed_host : InnerValue → Places → IpRepr → List ℕ → Option PayloadValue → InnerValue
+handed_host i places ip payload (Some (ControlV4 message bytes)) = control_v4_host i places ip payload message bytes
+handed_host i places ip payload (Some (ControlV6 message bytes)) = control_v6_host i places ip message bytes
+handed_host i places ip payload (Some (Segment header bytes)) = segment_host i places ip header bytes
+handed_host i places ip payload carried = i
 
 abbrev pub HandsTo : InnerValue → Places → IpRepr → Option PayloadValue → Places → Type 0
 HandsTo i places ip (Some (ControlV4 message bytes)) places' = places' ≡ control_v4_places ip message bytes places
@@ -182,7 +189,7 @@ counted false i reply after = after
 
 abbrev pub limited_host : InnerValue → Places → IpRepr → List ℕ → Bool → Option PayloadValue → InnerValue
 limited_host i places ip payload taken carried =
-    counted (is_unclaimed i places ip carried) i (handed_reply i places ip payload taken carried) (handed_host i places ip carried)
+    counted (is_unclaimed i places ip carried) i (handed_reply i places ip payload taken carried) (handed_host i places ip payload carried)
 
 abbrev pub limited_reply : InnerValue → Places → IpRepr → List ℕ → Bool → Option PayloadValue → Option PacketValue
 limited_reply i places ip payload taken carried = let_go (is_unclaimed i places ip carried) i (handed_reply i places ip payload taken carried)

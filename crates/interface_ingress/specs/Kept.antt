@@ -68,7 +68,7 @@ IsDamaged caps ip payload =
 
 -- HOSTS
 
--- everything of the host is the same but its neighbours and its random words
+-- everything of the host is the same but its neighbours, its random words, the errors that it counts, and what it was told of paths
 pub record HasSameSettings (i i' : InnerValue) : Type 0 where
   pub moment : i'.moment ≡ i.moment
   pub hardware : i'.hardware ≡ i.hardware

@@ -12,6 +12,7 @@ pub mod Answering
 pub mod Delivered
 pub mod Datagrams
 pub mod Reassembled
+pub mod PathTold
 pub mod Handed
 pub mod Arrives
 pub mod Kept
@@ -45,6 +46,7 @@ pub use Rattle.sockets.specs.Packet
 pub use Rattle.sockets.specs.PollAt
 pub use Rattle.sockets.specs.Polling
 pub use Rattle.sockets.specs.Socket as Sockets
+pub use Rattle.sockets.specs.TcpSocket
 pub use Rattle.sockets.specs.WellFormed
 pub use Rattle.sockets.specs.declared.socket.Socket
 pub use Rattle.sockets.specs.contracts.socket.Socket as SocketRow

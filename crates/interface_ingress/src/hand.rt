@@ -11,7 +11,8 @@ ghost use Rattle.interface_ingress.specs.Read.{IsControl, datagram_of, segment_o
 ghost use Rattle.interface_egress.specs.Inner.{context_of};
 ghost use Rattle.interface_ingress.specs.Datagrams.{IsDelivered};
 ghost use Rattle.interface_ingress.specs.Delivered.{datagram_place};
-ghost use Rattle.interface_ingress.specs.Handed.{control_v4_places, control_v4_reply, message_host, message_reply, control_v6_host, control_v6_places};
+ghost use Rattle.interface_ingress.specs.Handed.{control_v4_host, control_v4_places, control_v4_reply};
+ghost use Rattle.interface_ingress.specs.Handed.{message_host, message_reply, control_v6_host, control_v6_places};
 ghost use Rattle.interface_ingress.specs.Handed.{control_v6_reply, is_for_many, names_nobody, datagram_reply, segment_host, segment_places, segment_reply};
 ghost use Rattle.interface_ingress.specs.Handed.{is_known_v4, is_known_v6, is_unknown, is_bare, unread_v6, unread_reply};
 ghost use Rattle.interface_ingress.specs.Handed.{is_stray, if_it_may, counted_in, let_go, counted, limited_host, limited_reply, HandsTo, FitsBack};
@@ -26,6 +27,7 @@ use crate::heard::hear;
 use crate::icmp_reply::{
     echo_ipv4, echo_ipv6, parameter_problem, port_unreachable, protocol_unreachable,
 };
+use crate::path::{hear_of_path_v4, hear_of_path_v6};
 use crate::reassemble::is_control;
 use crate::reply::{Reply, packet_reply};
 use icmpv4::Icmpv4Repr;
@@ -36,33 +38,40 @@ use ipv6_headers::{Behind, Problem, carries_error, go_through};
 use sockets::addresses::{is_multicast, is_unspecified};
 use sockets::{Context, IpPayload, Packet, Socket};
 
-/// Gives an ICMPv4 message to the sockets that accept it, and answers it.
+/// Gives an ICMPv4 message, which these bytes are, to the sockets that accept it, takes in what it tells of a path, and answers it.
 fn hand_icmpv4<'a>(
-    inner: &InterfaceInner,
+    inner: &mut InterfaceInner,
     places: &mut [SocketStorage<Socket>],
     header: &IpRepr,
+    bytes: &[u8],
     message: &Icmpv4Repr<'a>,
 ) -> Option<Packet<'a>>
     requires { 28 + length (Icmpv4.payload_of message.now) < 2 ^ 16 }
+    ensures host { inner.new ≡
+        control_v4_host inner.old places.old header.now bytes.now (Icmpv4.header_of message.now) (Icmpv4.payload_of message.now) }
     ensures places { places.new ≡ control_v4_places header.now (Icmpv4.header_of message.now) (Icmpv4.payload_of message.now) places.old }
-    ensures reply { option_value result ≡ control_v4_reply inner.now header.now (Icmpv4.header_of message.now) (Icmpv4.payload_of message.now) }
+    ensures reply { option_value result ≡ control_v4_reply inner.old header.now (Icmpv4.header_of message.now) (Icmpv4.payload_of message.now) }
     ensures sendable { IfSome (option_value result) IsSendable }
 {
     let IpRepr::Ipv4(header) = header else {
         return None;
     };
+    let answer = echo_ipv4(inner, header, message);
+    hear_of_path_v4(inner, places, bytes, message);
     deliver_icmpv4(places, header, message);
-    echo_ipv4(inner, header, message)
+    answer
 }
 
-/// Learns from a neighbour message right behind the IPv6 header, and answers it and an echo request.
+/// Learns from a neighbour message right behind the IPv6 header and from what tells of a path, and answers neighbour messages and echo
+/// requests.
 fn answer_icmpv6<'a>(
     inner: &mut InterfaceInner,
+    places: &[SocketStorage<Socket>],
     header: &Ipv6Repr,
     message: &Icmpv6Repr<'a>,
 ) -> Option<Packet<'a>>
     requires { 8 + length (Icmpv6.carried_by message.now) < 2 ^ 16 }
-    ensures host { inner.new ≡ message_host inner.old header.now (Icmpv6.value_of (Icmpv6.header_of message.now)) }
+    ensures host { inner.new ≡ message_host inner.old places.now header.now (Icmpv6.value_of (Icmpv6.header_of message.now)) (Icmpv6.carried_by message.now) }
     ensures reply { option_value result ≡ message_reply inner.old header.now (Icmpv6.value_of (Icmpv6.header_of message.now)) (Icmpv6.carried_by message.now) }
     ensures sendable { IfSome (option_value result) IsSendable }
 {
@@ -74,7 +83,11 @@ fn answer_icmpv6<'a>(
                 None
             }
         }
-        _ => echo_ipv6(inner, header, message),
+        _ => {
+            let answer = echo_ipv6(inner, header, message);
+            hear_of_path_v6(inner, places, message);
+            answer
+        }
     }
 }
 
@@ -86,7 +99,8 @@ fn hand_icmpv6<'a>(
     message: &Icmpv6Repr<'a>,
 ) -> Option<Packet<'a>>
     requires { 8 + length (Icmpv6.carried_by message.now) < 2 ^ 16 }
-    ensures host { inner.new ≡ control_v6_host inner.old header.now (Icmpv6.value_of (Icmpv6.header_of message.now)) }
+    ensures host { inner.new ≡
+        control_v6_host inner.old places.old header.now (Icmpv6.value_of (Icmpv6.header_of message.now)) (Icmpv6.carried_by message.now) }
     ensures places { places.new ≡ control_v6_places header.now (Icmpv6.value_of (Icmpv6.header_of message.now)) (Icmpv6.carried_by message.now) places.old }
     ensures reply { option_value result ≡
         control_v6_reply inner.old header.now (Icmpv6.value_of (Icmpv6.header_of message.now)) (Icmpv6.carried_by message.now) }
@@ -95,8 +109,9 @@ fn hand_icmpv6<'a>(
     let IpRepr::Ipv6(header) = header else {
         return None;
     };
+    let answer = answer_icmpv6(inner, places, header, message);
     deliver_icmpv6(places, header, message);
-    answer_icmpv6(inner, header, message)
+    answer
 }
 
 /// Whether a packet for this destination is for all hosts of a network, or for a group.
@@ -405,7 +420,7 @@ fn hand_message<'a>(
     ensures sendable { IfSome (option_value result) IsSendable }
 {
     match carried {
-        Some(IpPayload::Icmpv4(message)) => hand_icmpv4(inner, places, header, message),
+        Some(IpPayload::Icmpv4(message)) => hand_icmpv4(inner, places, header, payload, message),
         Some(IpPayload::Icmpv6(message)) => hand_icmpv6(inner, places, header, message),
         Some(IpPayload::Raw(_)) => None,
         Some(IpPayload::Udp(..) | IpPayload::Tcp(_)) => unreachable!(),

@@ -17,6 +17,8 @@ mod icmp_reply;
 mod incoming;
 pub mod laws;
 pub mod limit_laws;
+mod path;
+pub mod path_laws;
 mod places;
 mod reassemble;
 mod reply;
@@ -32,5 +34,6 @@ pub use incoming::{Incoming, read, read_into};
 pub use reassemble::{keep, release, take_in};
 pub use reply::Reply;
 pub use sockets::{
-    AnySocket, Context, Offer, Packet, PollAt, Socket, addresses, laws as socket_laws, widths,
+    AnySocket, Context, IpPayload, Offer, Packet, PollAt, Socket, addresses, laws as socket_laws,
+    widths,
 };

@@ -12,17 +12,17 @@ pub fn the_limit_stops_errors_alone()
     ensures claimed { (i : InnerValue) (places : Places) (ip : IpRepr) (payload : List ℕ) (taken : Bool) (carried : Option PayloadValue)
         → is_unclaimed i places ip carried ≡ false
         → (limited_reply i places ip payload taken carried ≡ handed_reply i places ip payload taken carried)
-        × (limited_host i places ip payload taken carried ≡ handed_host i places ip carried) }
+        × (limited_host i places ip payload taken carried ≡ handed_host i places ip payload carried) }
     ensures goes { (i : InnerValue) (places : Places) (ip : IpRepr) (payload : List ℕ) (taken : Bool) (carried : Option PayloadValue)
         → may_tell i ≡ true
         → limited_reply i places ip payload taken carried ≡ handed_reply i places ip payload taken carried }
     ensures counts { (i : InnerValue) (places : Places) (ip : IpRepr) (payload : List ℕ) (taken : Bool) (carried : Option PayloadValue) (p : PacketValue)
         → is_unclaimed i places ip carried ≡ true
         → limited_reply i places ip payload taken carried ≡ Some p
-        → limited_host i places ip payload taken carried ≡ with_error (handed_host i places ip carried) }
+        → limited_host i places ip payload taken carried ≡ with_error (handed_host i places ip payload carried) }
     ensures stops { (i : InnerValue) (places : Places) (ip : IpRepr) (payload : List ℕ) (taken : Bool) (carried : Option PayloadValue)
         → is_unclaimed i places ip carried ≡ true
         → may_tell i ≡ false
         → (limited_reply i places ip payload taken carried ≡ None)
-        × (limited_host i places ip payload taken carried ≡ handed_host i places ip carried) }
+        × (limited_host i places ip payload taken carried ≡ handed_host i places ip payload carried) }
 {}

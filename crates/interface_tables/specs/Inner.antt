@@ -21,18 +21,21 @@ use Rattle.ip_wire.specs.Ipv6Address.{Ipv6Address}
 use Rattle.socket_base.specs.Context.{ContextValue}
 use Rattle.interface_tables.specs.ErrorLimit.{may_answer, answered_at}
 use Rattle.interface_tables.specs.Neighbor.{CacheValue, lookup, is_found, filled, renewed, requested, search_room, silent_time, entry_lifetime}
+use Rattle.interface_tables.specs.PathMtu.{mtu_towards, end_towards, lowered}
 use Rattle.interface_tables.specs.Route.{best_route, router_of}
 use Rattle.interface_tables.specs.Source.{source_for}
 use Rattle.interface_tables.specs.declared.link.LinkAddress.{LinkAddress}
 use Rattle.interface_tables.specs.declared.link.LinkAddress.TheVariants as Link
 use Rattle.interface_tables.specs.declared.neighbor.Answer.{Answer}
 use Rattle.interface_tables.specs.declared.neighbor.Answer.TheVariants as Known
+use Rattle.interface_tables.specs.declared.path_mtu.Path.{Path}
 use Rattle.interface_tables.specs.declared.route.Route.{Route}
 
 -- The moment of the call that runs, or of the last one; the state of the random words; the hardware address, `Ip` on a medium
 -- that has none; the longest IP packet of a frame; the checksums that the stack handles itself; the key of 16 bytes by which first
 -- numbers of connections are told, if there is one; the own addresses, and whether every address is one; routes and neighbours;
--- the identification of the next IPv4 datagram; the moment up to which errors that went are counted; and whether nothing ran yet.
+-- the identification of the next IPv4 datagram; the moment up to which errors that went are counted; what was told of paths; and
+-- whether nothing ran yet.
 pub record InnerValue : Type 0 where
   pub moment : ℤ
   pub random : ℕ
@@ -46,6 +49,7 @@ pub record InnerValue : Type 0 where
   pub neighbors : CacheValue
   pub ident : ℕ
   pub errors_until : ℤ
+  pub paths : List Path
   pub fresh : Bool
 
 -- OWN ADDRESSES
@@ -214,6 +218,20 @@ is_crowded i = not (nat_lt (length i.neighbors.searches) search_room)
 abbrev pub next_request : InnerValue → ℤ
 next_request i = if int_lt i.moment i.neighbors.silent then i.neighbors.silent else i.moment +ℤ pos silent_time
 
+-- PATHS
+
+-- how long a packet to a destination may be: as long as a frame carries, or as the path there was told to carry
+abbrev pub mtu_to : InnerValue → IpAddress → ℕ
+mtu_to i address = mtu_towards i.paths address i.moment i.mtu
+
+-- when what is known of the path to a destination ends, if something is
+abbrev pub path_end : InnerValue → IpAddress → Option ℤ
+path_end i address = end_towards i.paths address i.moment
+
+-- a message told now that the path to a destination carries so many bytes
+abbrev pub with_path : InnerValue → IpAddress → ℕ → InnerValue
+with_path i address told = record i { paths = lowered i.paths address told i.moment i.mtu }
+
 -- WHAT SOCKETS SEE
 
 abbrev pub context_of : InnerValue → ContextValue
@@ -227,6 +245,16 @@ context_of i = record {
   isn_key = i.isn_key;
   random = i.random;
 }
+
+-- how long a packet may be of a socket that sends to this destination alone, or to several
+abbrev pub mtu_by_destination : InnerValue → Option IpAddress → ℕ
+mtu_by_destination i None = i.mtu
+mtu_by_destination i (Some address) = mtu_to i address
+
+-- What such a socket sees when it is asked for a packet, or when it wants to be polled. It draws no random word of the host's then: those
+-- that it sees begin at 0.
+abbrev pub context_towards : InnerValue → Option IpAddress → ContextValue
+context_towards i destination = record (context_of i) { ip_mtu = mtu_by_destination i destination; random = 0 }
 
 -- a random word was drawn
 abbrev pub drawn : InnerValue → InnerValue

@@ -1,7 +1,9 @@
 pub mod Best
 pub mod ErrorLimit
 pub mod Inner
+pub mod Looks
 pub mod Neighbor
+pub mod PathMtu
 pub mod Searches
 pub mod Pieces
 pub mod Reassembly

@@ -71,6 +71,7 @@ made config device moment = record {
   neighbors = Neighbors.fresh;
   ident = first_ident (half_word (next_state config.random_seed));
   errors_until = pos 0;
+  paths = [];
   fresh = true;
 }
 

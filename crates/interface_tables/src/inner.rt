@@ -14,13 +14,14 @@ ghost use Rattle.interface_tables.specs.Inner.{is_all_nodes, solicits, solicits_
 ghost use Rattle.interface_tables.specs.Inner.{is_for_us, is_loopback_of, is_foreign_loopback, may_come_from, next_hop, group_station, link_by, link_address};
 ghost use Rattle.interface_tables.specs.Inner.{is_known_hop, has_neighbor, is_in_link_prefix, is_on_link, at_moment};
 ghost use Rattle.interface_tables.specs.Inner.{with_next_ident, with_neighbor, with_renewal, with_request, awaited_hop};
-ghost use Rattle.interface_tables.specs.Inner.{is_crowded, next_request, may_tell, with_error};
+ghost use Rattle.interface_tables.specs.Inner.{is_crowded, next_request, may_tell, with_error, mtu_to, path_end, with_path};
 ghost use Rattle.interface_tables.specs.Settings.{refusal, made, unless, first_ident, hardware_refusal, with_hardware, is_stranger, with_addresses};
 ghost use Rattle.interface_tables.specs.Settings.{with_any_ip, with_routes, used};
 
 use crate::config::{Config, HardwareAddrError, NewError, NotUnicast, refusal};
 use crate::link::LinkAddress;
 use crate::neighbor::{Answer, Cache, SILENT_MILLIS};
+use crate::path_mtu::Paths;
 use crate::route::Routes;
 use crate::{error_limit, source};
 use arrayvec::ArrayVec;
@@ -54,6 +55,7 @@ pub struct InterfaceInner {
     neighbor_cache: Cache<TABLE_ROOM>,
     ipv4_id: u16,
     errors_until: Instant,
+    paths: Paths,
     is_fresh: bool,
 }
 
@@ -78,6 +80,7 @@ impl Model for InterfaceInner {
       neighbors = i.neighbor_cache;
       ident = i.ipv4_id;
       errors_until = i.errors_until;
+      paths = i.paths;
       fresh = i.is_fresh;
     } };
 
@@ -111,6 +114,7 @@ impl InterfaceInner {
             neighbor_cache: Cache::new(),
             ipv4_id: if word == 0 { 1 } else { word },
             errors_until: Instant::ZERO,
+            paths: Paths::new(),
             is_fresh: true,
         })
     }
@@ -430,6 +434,33 @@ impl InterfaceInner {
     }
 }
 
+/// Paths.
+impl InterfaceInner {
+    /// How long a packet to this destination may be.
+    #[tactic(auto, using(crate::proofs::PathMtu::mtu_low, crate::proofs::PathMtu::mtu_within))]
+    pub fn mtu_to(&self, addr: &IpAddress) -> usize
+        ensures value { result ≡ mtu_to self.now addr.now }
+        ensures low { 576 ≤ result }
+        ensures high { result ≤ 65535 }
+    {
+        self.paths.mtu_towards(addr, self.moment, self.ip_mtu)
+    }
+
+    /// When what is known of the path to this destination ends, if something is.
+    pub fn path_end(&self, addr: &IpAddress) -> Option<Instant>
+        ensures { result ≡ path_end self.now addr.now }
+    {
+        self.paths.end_towards(addr, self.moment)
+    }
+
+    /// Takes in that the path to this destination carries packets of so many bytes.
+    pub fn lower_path(&mut self, addr: IpAddress, told: usize)
+        ensures { self.new ≡ with_path self.old addr told }
+    {
+        self.paths.lower(addr, told, self.moment, self.ip_mtu);
+    }
+}
+
 /// Settings.
 impl InterfaceInner {
     /// Begins a call that polls, at this moment.
@@ -588,7 +619,9 @@ fn is_this(other: Option<Ipv4Address>, address: &Ipv4Address) -> bool
     ensures { result ≡ is_this other address.now }
 {
     match other {
-        Some(other) => address.0 == other.0,
+        Some(other) => {
+            u32::from_le_bytes(address.octets()) == u32::from_le_bytes(other.octets())
+        }
         None => false,
     }
 }

@@ -12,3 +12,4 @@ pub mod Ipv6Texts
 pub mod Families
 pub mod OneReading
 pub mod Printed
+pub mod FourBytes

@@ -1,8 +1,9 @@
 -- Laws of word sums and of their folding to 16 bits.
-use Rattle.std.proofs.Common.{◌≡◌, ◌≢◌, ℕ, ◌+◌, ◌-◌, ◌*◌, ◌/◌, ◌%◌, ◌^◌, ◌<◌, ◌≤◌, List, [], ◌∷◌, ◌++◌, length, zero, suc, refl, sym, ◌∙◌, ap, arith, ◌↔◌, take}
-use Rattle.std.proofs.Common.{drop, length-append}
+use Rattle.std.proofs.Common.{◌≡◌, ◌≢◌, Bool, true, false, ℕ, ◌+◌, ◌-◌, ◌*◌, ◌/◌, ◌%◌, ◌^◌, ◌<◌, ◌≤◌, List, [], ◌∷◌, ◌++◌, length, zero, suc}
+use Rattle.std.proofs.Common.{refl, sym, ◌∙◌, ap, arith, ◌↔◌, take, drop, length-append}
 use Rattle.std.proofs.lemmas.List.{take-append-drop}
-use Rattle.std.specs.Int.{w32, w64, from_le_bytes, to_be_bytes}
+use Rattle.std.specs.Int.{w32, w64, w128, from_bool, from_le_bytes, to_be_bytes}
+use Rattle.std.specs.Bool.{FalseIff}
 use Rattle.ip_address.specs.Pseudo.{pseudo_v6}
 use Rattle.ip_address.specs.Sum.{word_sum, folded, ChecksumHolds}
 use Rattle.ip_address.specs.Fields.{be16, put16}
@@ -76,29 +77,76 @@ low_first-fours x y front bytes tail first second taken left len =
     let parts : 256 * (x + y) ≡ 256 * low_first front + 256 * low_first tail = omega arith in
     ap folded parts ∙ folded-both _ _ _ _ (folded-low_first front) (folded-low_first tail) ∙ ap folded sums
 
--- a step of the sum over the first eight bytes of the rest
-pub low_first-step : (total x : ℕ) (front rest tail : List ℕ) (all : ℕ) → x ≡ from_le_bytes w64 front → front ≡ take 8 rest → tail ≡ drop 8 rest →
-    length tail + 8 ≡ length rest
-    → folded (256 * total + word_sum rest) ≡ all → folded (256 * (total + x) + word_sum tail) ≡ all
-low_first-step total x front rest tail all is first last len before =
-    let joined : front ++ tail ≡ rest = rw (first, last) (take-append-drop 8 rest) in
-    let eight : length front ≡ 8 = let e : length (front ++ tail) ≡ length rest = ap length joined in omega (arith, length-append front tail) in
-    let number : x ≡ low_first front = is ∙ from_le_bytes-low_first front eight in
+-- sixteen bytes as the number that they make with the least significant first
+from_le_bytes_16-low_first : (bytes : List ℕ) → length bytes ≡ 16 → from_le_bytes w128 bytes ≡ low_first bytes
+from_le_bytes_16-low_first (a ∷ b ∷ c ∷ d ∷ e ∷ f ∷ g ∷ h ∷ i ∷ j ∷ k ∷ l ∷ m ∷ n ∷ o ∷ p ∷ []) len = omega arith
+from_le_bytes_16-low_first _ len = absurd (omega arith)
+
+-- the first eight bytes added to the rest, whose sum low bytes first folds as its words do
+pub low_first-eights : (x y : ℕ) (front bytes tail : List ℕ) → x ≡ from_le_bytes w64 front → folded (256 * y) ≡ folded (word_sum tail) → front ≡ take 8 bytes →
+    tail ≡ drop 8 bytes → length tail + 8 ≡ length bytes
+    → folded (256 * (x + y)) ≡ folded (word_sum bytes)
+low_first-eights x y front bytes tail first second taken left len =
+    let joined : front ++ tail ≡ bytes = rw (taken, left) (take-append-drop 8 bytes) in
+    let eight : length front ≡ 8 = let e : length (front ++ tail) ≡ length bytes = ap length joined in omega (arith, length-append front tail) in
+    let number : x ≡ low_first front = first ∙ from_le_bytes-low_first front eight in
     let split : word_sum (front ++ tail) ≡ word_sum front + word_sum tail = word_sum-append front tail (rw eight refl) in
+    let sums : word_sum front + word_sum tail ≡ word_sum bytes = sym split ∙ ap word_sum joined in
+    let parts : 256 * (x + y) ≡ 256 * low_first front + 256 * y = omega arith in
+    ap folded parts ∙ folded-both _ _ _ _ (folded-low_first front) second ∙ ap folded sums
+
+-- a carry is at most one
+pub from_bool-le : (carry : Bool) → from_bool carry ≤ 1
+from_bool-le true = omega arith
+from_bool-le false = omega arith
+
+-- what is kept of a sum of two numbers of 128 bits, and its carry
+pub carried : (a b kept : ℕ) (carry : Bool) → a < 2 ^ 128 → b < 2 ^ 128 → kept ≡ (a + b) % 2 ^ 128 → FalseIff carry (a + b < 2 ^ 128)
+    → kept + 2 ^ 128 * from_bool carry ≡ a + b
+carried a b kept true x y is over = omega (arith, over)
+carried a b kept false x y is over = omega (arith, over)
+
+-- a carry out of 128 bits counts as one, since 2^128 is 1 modulo 65535
+folded-carried : (kept carry n : ℕ) → carry ≤ n → folded (256 * (kept + n) + 65535 * (256 * (carry * ((2 ^ 128 - 1) / 65535)))) ≡ folded (256 * (kept + n))
+folded-carried kept carry n le = folded-more (256 * (kept + n)) (256 * (carry * ((2 ^ 128 - 1) / 65535))) ((2 ^ 128 - 1) / 65535) (omega arith)
+
+-- a step of the sum over the first sixteen bytes of the rest: what is kept of it and its carry
+pub low_first-step : (total carries x kept carry : ℕ) (front rest tail : List ℕ) (all : ℕ) → x ≡ from_le_bytes w128 front → kept + 2 ^ 128 * carry ≡ total + x →
+    front ≡ take 16 rest → tail ≡ drop 16 rest → length tail + 16 ≡ length rest
+    → folded (256 * (total + carries) + word_sum rest) ≡ all → folded (256 * (kept + (carries + carry)) + word_sum tail) ≡ all
+low_first-step total carries x kept carry front rest tail all is carried first last len before =
+    let joined : front ++ tail ≡ rest = rw (first, last) (take-append-drop 16 rest) in
+    let sixteen : length front ≡ 16 = let e : length (front ++ tail) ≡ length rest = ap length joined in omega (arith, length-append front tail) in
+    let number : x ≡ low_first front = is ∙ from_le_bytes_16-low_first front sixteen in
+    let split : word_sum (front ++ tail) ≡ word_sum front + word_sum tail = word_sum-append front tail (rw sixteen refl) in
     let sums : word_sum rest ≡ word_sum front + word_sum tail = sym (ap word_sum joined) ∙ split in
-    let left : 256 * (total + x) + word_sum tail ≡ 256 * low_first front + (256 * total + word_sum tail) = omega arith in
-    let right : word_sum front + (256 * total + word_sum tail) ≡ 256 * total + word_sum rest = omega arith in
-    ap folded left
-    ∙ folded-alike (256 * low_first front) (word_sum front) (256 * total + word_sum tail) (folded-low_first front)
+    let more : 256 * (total + carries + x) ≡ 256 * (kept + (carries + carry)) + 65535 * (256 * (carry * ((2 ^ 128 - 1) / 65535))) = omega arith in
+    let one : folded (256 * (total + carries + x)) ≡ folded (256 * (kept + (carries + carry))) =
+    ap folded more ∙ folded-carried kept carry (carries + carry) (omega arith) in
+    let left : 256 * (total + carries + x) + word_sum tail ≡ 256 * low_first front + (256 * (total + carries) + word_sum tail) = omega arith in
+    let right : word_sum front + (256 * (total + carries) + word_sum tail) ≡ 256 * (total + carries) + word_sum rest = omega arith in
+    folded-alike (256 * (kept + (carries + carry))) (256 * (total + carries + x)) (word_sum tail) (sym one)
+    ∙ ap folded left
+    ∙ folded-alike (256 * low_first front) (word_sum front) (256 * (total + carries) + word_sum tail) (folded-low_first front)
     ∙ ap folded right ∙ before
 
--- the last step, over fewer than eight bytes
-pub low_first-last : (total x : ℕ) (rest : List ℕ) (all : ℕ) → folded (256 * x) ≡ folded (word_sum rest)
-    → folded (256 * total + word_sum rest) ≡ all → folded (256 * (total + x)) ≡ all
-low_first-last total x rest all is before =
-    let left : 256 * (total + x) ≡ 256 * x + 256 * total = omega arith in
-    let right : word_sum rest + 256 * total ≡ 256 * total + word_sum rest = omega arith in
-    ap folded left ∙ folded-alike (256 * x) (word_sum rest) (256 * total) is
+-- sums that fold alike do so 256 times over
+folded-times : (k a b : ℕ) → folded a ≡ folded b → folded (k * a) ≡ folded (k * b)
+folded-times zero a b same = ap folded (omega arith)
+folded-times (suc k) a b same =
+    let left : suc k * a ≡ a + k * a = omega arith in
+    let right : b + k * b ≡ suc k * b = omega arith in
+    ap folded left ∙ folded-both a b (k * a) (k * b) same (folded-times k a b same) ∙ ap folded right
+
+-- the last step, over fewer than sixteen bytes
+pub low_first-last : (total carries x result : ℕ) (rest : List ℕ) (all : ℕ) → folded (256 * x) ≡ folded (word_sum rest) →
+    folded result ≡ folded (total + (carries + x))
+    → folded (256 * (total + carries) + word_sum rest) ≡ all → folded (256 * result) ≡ all
+low_first-last total carries x result rest all is added before =
+    let left : 256 * (total + (carries + x)) ≡ 256 * x + 256 * (total + carries) = omega arith in
+    let right : word_sum rest + 256 * (total + carries) ≡ 256 * (total + carries) + word_sum rest = omega arith in
+    folded-times 256 result (total + (carries + x)) added
+    ∙ ap folded left ∙ folded-alike (256 * x) (word_sum rest) (256 * (total + carries)) is
     ∙ ap folded right ∙ before
 
 -- a sum that folds to 65535 is a positive multiple of 65535, and only such a sum does

@@ -126,21 +126,37 @@ fn words_of_eight(bytes: &[u8]) -> u32
 }
 
 /// The sum of the words with their bytes exchanged, which saves exchanging them in each word: since
-/// 65536 is 1 modulo 65535, it is enough to exchange the bytes of the folded sum.
+/// 65536 is 1 modulo 65535, it is enough to exchange the bytes of the folded sum. 2^128 is 1, too: so
+/// carries are counted, and count as much at the end.
 fn sum_low_first(bytes: &[u8]) -> u128
     ensures { folded (256 * result) ≡ folded (word_sum bytes.now) }
 {
     let mut total: u128 = 0;
+    let mut carries: u64 = 0;
     let mut rest = bytes;
-    while let Some((front, tail)) = rest.split_first_chunk::<8>() {
-        total += u64::from_le_bytes(*front) as u128;
+    while let Some((front, tail)) = rest.split_first_chunk::<16>() {
+        let (sum, carry) = total.overflowing_add(u128::from_le_bytes(*front));
+        total = sum;
+        carries += carry as u64;
         rest = tail;
     }
-    total + sum_of_end(rest) as u128
+    add_u128(total, carries as u128 + sum_of_end(rest))
+}
+
+/// The same for fewer than sixteen bytes.
+fn sum_of_end(bytes: &[u8]) -> u128
+    requires { length bytes.now < 16 }
+    ensures sum { folded (256 * result) ≡ folded (word_sum bytes.now) }
+    ensures room { result < 2 ^ 66 }
+{
+    match bytes.split_first_chunk::<8>() {
+        Some((front, tail)) => u64::from_le_bytes(*front) as u128 + sum_below_eight(tail) as u128,
+        None => sum_below_eight(bytes) as u128,
+    }
 }
 
 /// The same for fewer than eight bytes.
-fn sum_of_end(bytes: &[u8]) -> u64
+fn sum_below_eight(bytes: &[u8]) -> u64
     requires { length bytes.now < 8 }
     ensures { folded (256 * result) ≡ folded (word_sum bytes.now) }
 {
@@ -190,6 +206,14 @@ const fn fold_u32(total: u32) -> u16
     ensures { result ≡ folded total }
 {
     add((total / 0x1_0000) as u16, (total % 0x1_0000) as u16)
+}
+
+/// The one's complement sum of two numbers of 128 bits.
+const fn add_u128(a: u128, b: u128) -> u128
+    ensures { folded result ≡ folded (a + b) }
+{
+    let (sum, carry) = a.overflowing_add(b);
+    sum + carry as u128
 }
 
 /// The one's complement sum of two numbers of 64 bits.

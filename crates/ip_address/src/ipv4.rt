@@ -50,7 +50,7 @@ impl Ipv4Address {
         ensures value { result ≡ is_unspecified_v4 self.now }
         ensures meaning { IsTrue result ↔ IsUnspecifiedV4 self.now }
     {
-        self.0 == [0; 4]
+        self.to_bits() == 0
     }
 
     /// Whether this is an address by which a host reaches itself.
@@ -74,7 +74,7 @@ impl Ipv4Address {
         ensures value { result ≡ is_broadcast_v4 self.now }
         ensures meaning { IsTrue result ↔ IsBroadcastV4 self.now }
     {
-        self.0 == [255; 4]
+        self.to_bits() == u32::MAX
     }
 
     /// The address as a number, its first byte the most significant.

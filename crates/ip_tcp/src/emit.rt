@@ -1,5 +1,5 @@
 //! Options written.
-ghost use Rattle.std.specs.Prelude.{◌≡◌, ℕ, ◌+◌, ◌-◌, ◌*◌, ◌<◌, ◌≤◌, ◌==◌, ◌++◌, Option, IsSome, List, length, take, drop, replicate, if◌then◌else◌};
+ghost use Rattle.std.specs.Prelude.{◌≡◌, ℕ, ◌+◌, ◌-◌, ◌*◌, ◌<◌, ◌≤◌, ◌==◌, ◌++◌, Option, IsSome, List, [], ◌∷◌, length, take, drop, replicate, if◌then◌else◌};
 ghost use Rattle.ip_address.specs.Extends.{Extends};
 ghost use Rattle.ip_tcp.specs.Options.{value_of, option_bytes, options_bytes, ranges_bytes, FitsOption, size_options, scale_options, permitted_options};
 ghost use Rattle.ip_tcp.specs.Options.{range_options, stamp_options, sack_options, sack_room, options_room, padded, options_area};
@@ -99,17 +99,12 @@ fn spell_unknown(slot: &mut [u8], kind: u8, bytes: &[u8])
     body.copy_from_slice(bytes);
 }
 
-/// How many bytes ranges take, closed up.
-fn ranges_len(ranges: &[Option<(u32, u32)>]) -> usize
-    requires { length ranges.now ≤ 3 }
-    ensures exact { result ≡ length (ranges_bytes ranges.now) }
-    ensures small { result ≤ 8 * length ranges.now }
+/// How many bytes a range takes, if it is one.
+fn range_len(range: &Option<(u32, u32)>) -> usize
+    ensures exact { result ≡ length (ranges_bytes (range.now ∷ [])) }
+    ensures small { result ≤ 8 }
 {
-    match ranges.split_first() {
-        None => 0,
-        Some((None, rest)) => ranges_len(rest),
-        Some((Some(_), rest)) => 8 + ranges_len(rest),
-    }
+    if range.is_some() { 8 } else { 0 }
 }
 
 /// How many bytes three ranges take, closed up.
@@ -117,7 +112,8 @@ fn three_len(ranges: &[Option<(u32, u32)>; 3]) -> usize
     ensures exact { result ≡ length (ranges_bytes ranges.now) }
     ensures small { result ≤ 24 }
 {
-    ranges_len(ranges)
+    let [first, second, third] = ranges;
+    range_len(first) + range_len(second) + range_len(third)
 }
 
 /// Writes ranges, closed up, over the whole of `body`.

@@ -16,7 +16,7 @@ use Rattle.interface_egress.specs.Departure as Departures
 use Rattle.ip_wire.specs.IpAddress.{IpAddress}
 use Rattle.interface_egress.specs.Departure.{Departure}
 use Rattle.interface_egress.specs.declared.socket_meta.Meta.{Meta}
-use Rattle.interface_egress.specs.Fragments.{LeftValue, next_departure}
+use Rattle.interface_egress.specs.Fragments.{LeftValue, departure_from}
 use Rattle.interface_egress.specs.GoesOut.{GoesOut, PieceGoesOut, Departs, frame_of, frame_len_of}
 use Rattle.interface_egress.specs.Plan.{plan_of}
 use Rattle.interface_egress.specs.declared.way_out.Sent.{Sent}
@@ -128,7 +128,7 @@ module _ (most refusals : ℕ) where
   so_piece : (n : ℕ) (l : LeftValue) (gone : Bool) (d d' : PortValue) (i : InnerValue) (l' : Option LeftValue) → n + 1 ≤ most →
       PieceGoesOut PortMove d i l gone d' l' → So n d i → So (n + 1) d' i
   so_piece n l gone d d' i l' within goes so =
-      so_sends n (next_departure i.mtu l) gone d d' i within (piece_short i l so.low) (piece_sends PortMove d d' i l l' gone goes) so
+      so_sends n (departure_from i l) gone d d' i within (piece_short i l so.low) (piece_sends PortMove d d' i l l' gone goes) so
 
   -- ARRIVALS
 
@@ -196,7 +196,7 @@ module _ (most refusals : ℕ) where
     so_sent : (o : Option PacketValue) (item item' : Item Socket) (changed : Bool) (turned : Turned) →
         SendsBy PortMove turn o x item changed turned x' item' → Next
     so_sent None item item' changed turned sends = absurd sends
-    so_sent (Some p) item item' changed turned sends = so_leaves item.meta p sends.0 sends.4.sendable.len sends.1
+    so_sent (Some p) item item' changed turned sends = so_leaves item.meta sends.0 sends.3.0 sends.3.4.sendable.len sends.3.1
 
     so_answers : (answer : Answer.Offer) (item item' : Item Socket) (turned : Turned) → Answers PortMove turn answer x item turned x' item' → Next
     so_answers (Offer.Silent changed) item item' turned answers = so_stays answers.1

@@ -28,6 +28,7 @@ fn tcp_setting(name: &str) -> Option<TcpSetting> {
         "hop-limit-9" => TcpSetting::HopLimit(Some(9)),
         "hop-limit-0" => TcpSetting::HopLimit(Some(0)),
         "reno" => TcpSetting::CongestionControl(CongestionControl::Reno),
+        "cubic" => TcpSetting::CongestionControl(CongestionControl::Cubic),
         "timestamps" => TcpSetting::TsvalGenerator(Some(TcpTimestampGenerator(7))),
         "pause-synack" => TcpSetting::PauseSynack(true),
         _ => return None,
@@ -71,6 +72,8 @@ set no-nagle
 set hop-limit-9
 > ok
 set reno
+> ok
+set cubic
 > ok
 set timestamps
 > ok

@@ -13,7 +13,7 @@ use Rattle.interface_tables.specs.Slots.{without_expired}
 use Rattle.interface_egress.specs.Departing.{HasSettingsOf, SendsOnce, departure_by, was_taken}
 use Rattle.interface_egress.specs.Departure.{Departure, Tells}
 use Rattle.interface_egress.specs.Emits.{Emits}
-use Rattle.interface_egress.specs.Fragments.{LeftValue, next_departure}
+use Rattle.interface_egress.specs.Fragments.{LeftValue, departure_from}
 use Rattle.interface_egress.specs.GoesOut.{Departs, GoesOut, PieceGoesOut, frame_of, frame_len_of}
 use Rattle.interface_egress.specs.Plan.{plan_of}
 use Rattle.interface_egress.specs.declared.way_out.Sent.{Sent}
@@ -260,7 +260,7 @@ module _ (q : Party) (others base : List PacketValue) (first : ℕ) (before : Li
       let sender : IsSender (MadeBy p) first s.host.inner (Some c) s.device.link.sent l.out =
       subst (λ (o : Option LeftValue). IsSender (MadeBy p) first s.host.inner o s.device.link.sent l.out) is l.sender in
       let waits : d.link.waiting ≡ s.device.link.waiting =
-      once_waits s.device d s.host.inner (Some (next_departure s.host.inner.mtu c)) gone
+      once_waits s.device d s.host.inner (Some (departure_from s.host.inner c)) gone
       (piece_sends PortMove s.device d s.host.inner c left gone goes_out) in
       went_so 0 n s p d s.host.inner left s.places l (omega arith) waits refl refl
       (piece_keeps (MadeBy p) first l.out s.host.inner c s.device sender gone d left goes_out)

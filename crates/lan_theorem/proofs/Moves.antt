@@ -15,6 +15,7 @@ pub mod Events
 pub mod PollEvents
 pub mod Worlds
 pub mod EachSocket
+pub mod Sourced
 pub mod EachRun
 pub mod Queued
 pub mod RawQueues

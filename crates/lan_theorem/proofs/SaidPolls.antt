@@ -15,7 +15,7 @@ use Rattle.sockets.specs.declared.socket.Socket.{Socket}
 use Rattle.interface_tables.specs.Inner.{InnerValue}
 use Rattle.interface_egress.specs.Departure.{Tells}
 use Rattle.interface_egress.specs.Departing.{departure_by, was_taken}
-use Rattle.interface_egress.specs.Fragments.{LeftValue, next_departure}
+use Rattle.interface_egress.specs.Fragments.{LeftValue, departure_from}
 use Rattle.interface_egress.specs.GoesOut.{GoesOut, frame_of, frame_len_of}
 use Rattle.interface_egress.specs.Plan.{plan_of}
 use Rattle.interface_egress.specs.declared.socket_meta.Meta.{Meta}
@@ -71,7 +71,7 @@ module _ (turn : Option IpAddress) where
   offer_waits : (o : Option PacketValue) (x x' : Sender PortValue) (item item' : Item Socket) (changed : Bool) (turned : Turned) →
       SendsBy PortMove turn o x item changed turned x' item' → Waits x'.device ≡ Waits x.device
   offer_waits None x x' item item' changed turned sends = absurd sends
-  offer_waits (Some p) x x' item item' changed turned sends = leaves_waits x x' item.meta p sends.0 sends.1
+  offer_waits (Some p) x x' item item' changed turned sends = leaves_waits x x' item.meta sends.0 sends.3.0 sends.3.1
 
   answer_waits : (answer : Answer.Offer) (x x' : Sender PortValue) (item item' : Item Socket) (turned : Turned) →
       Answers PortMove turn answer x item turned x' item' → Waits x'.device ≡ Waits x.device
@@ -93,7 +93,7 @@ module _ (turn : Option IpAddress) where
 piece_waits : (l : LeftValue) (x x' : Sender PortValue) (gone : Bool) → PieceLeaves PortMove l x gone x' → Waits x'.device ≡ Waits x.device
 piece_waits l x x' gone (inl denied) = leave_waits x.device x'.device false denied.0
 piece_waits l x x' gone (inr goes) =
-    once_waits goes.0 x'.device x.inner (Some (next_departure x.inner.mtu l)) gone (piece_sends PortMove goes.0 x'.device x.inner l x'.left gone goes.2)
+    once_waits goes.0 x'.device x.inner (Some (departure_from x.inner l)) gone (piece_sends PortMove goes.0 x'.device x.inner l x'.left gone goes.2)
     ∙ leave_waits x.device goes.0 true goes.1
 
 replied_waits : (awaited : Bool) (reply : Option ReplyValue) (x x' : Sender PortValue) → Replied PortMove awaited reply x x' → Waits x'.device ≡ Waits x.device

@@ -30,10 +30,10 @@ pub fn play(alloc: Global, host: &mut Host, verb: &str, words: &mut Words<'_>) -
 }
 
 fn bind(host: &mut Host, place: usize, words: &mut Words<'_>) -> Answer {
-    let port = words.short("port");
+    let endpoint = listened(words);
     words.end();
     match host.udp(place, words) {
-        Some(socket) => bound(socket.bind(IpListenEndpoint { addr: None, port })),
+        Some(socket) => bound(socket.bind(endpoint)),
         None => Answer::Done,
     }
 }

@@ -101,6 +101,7 @@ fn control(words: &mut Words<'_>) -> CongestionControl {
     match word {
         "none" => CongestionControl::None,
         "reno" => CongestionControl::Reno,
+        "cubic" => CongestionControl::Cubic,
         _ => {
             words.wrong("congestion control", word);
             CongestionControl::None

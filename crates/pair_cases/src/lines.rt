@@ -208,9 +208,10 @@ fn tsval_generator(words: &mut Words<'_>) -> Result<TcpSetting, Bad> {
 }
 
 fn congestion_control(words: &mut Words<'_>) -> Result<CongestionControl, Bad> {
-    Ok(if words.either("reno", "none", Lack::Reno)? {
-        CongestionControl::Reno
-    } else {
-        CongestionControl::None
-    })
+    match words.word() {
+        "none" => Ok(CongestionControl::None),
+        "reno" => Ok(CongestionControl::Reno),
+        "cubic" => Ok(CongestionControl::Cubic),
+        _ => Err(words.lacks(Lack::Reno)),
+    }
 }

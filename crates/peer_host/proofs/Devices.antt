@@ -119,7 +119,7 @@ module _ {D : Type 0} (moves : D → Move → D → Type 0) (Q : D → Type 0) (
     sends : (o : Option PacketValue) (item item' : Item Socket) (changed : Bool) (turned : Turned) → SendsBy moves turn o x item changed turned x' item' →
         Q x'.device
     sends None item item' changed turned is = absurd is
-    sends (Some p) item item' changed turned is = leaves item.meta p is.0 is.1
+    sends (Some p) item item' changed turned is = leaves item.meta is.0 is.3.0 is.3.1
 
     answers : (answer : Answer.Offer) (item item' : Item Socket) (turned : Turned) → Answers moves turn answer x item turned x' item' → Q x'.device
     answers (Offer.Silent changed) item item' turned is = unmoved is.1

@@ -17,7 +17,7 @@ use Rattle.sockets.specs.declared.socket.Socket.TheVariants as Is
 use Rattle.sockets.proofs.AnyKind.{has_packet}
 use Rattle.tcp_model.specs.OpenOffer.{OpenOffer}
 use Rattle.tcp_model.specs.Offers.{packet_with}
-use Rattle.interface.specs.Inner.{context_of}
+use Rattle.interface.specs.Remote.{context_for}
 use Rattle.interface_egress.specs.declared.socket_set.Item.{Item}
 use Rattle.interface_egress.specs.declared.socket_set.SocketStorage.{SocketStorage}
 use Rattle.interface.specs.Host.{Sender}
@@ -62,7 +62,7 @@ module _ {D : Type 0} (moves : D → Move → D → Type 0) (asked : Option IpAd
       → Offers cx s (Offer.Packet changed) item.socket → W s → SendsBy moves asked packet x item changed turned x' item' → W item'.socket
   sends x x' s item item' cx changed turned None offers holds is = absurd is
   sends x x' s item item' cx changed turned (Some packet) offers holds is =
-      subst (λ (i : Item Socket). W i.socket) (sym is.3) (law.offers cx s item.socket (Offer.Packet changed) (is_done is.0) offers holds)
+      subst (λ (i : Item Socket). W i.socket) (sym is.3.3) (law.offers cx s item.socket (Offer.Packet changed) (is_done is.3.0) offers holds)
 
   answers : (x x' : Sender D) (s : Socket) (item item' : Item Socket) (cx : ContextValue) (answer : Answer.Offer) (turned : Turned)
       → Offers cx s answer item.socket → W s → Answers moves asked answer x item turned x' item' → W item'.socket
@@ -75,7 +75,7 @@ module _ {D : Type 0} (moves : D → Move → D → Type 0) (asked : Option IpAd
       TurnsIf moves asked waits x (let_through x.inner item) turned x' item' → W item'.socket
   turns true x x' item item' turned holds is = subst (λ (i : Item Socket). W i.socket) (sym is.2) holds
   turns false x x' item item' turned holds (answer, offered, offers, is) =
-      answers x x' item.socket (record (let_through x.inner item) { socket = offered }) item' (context_of x.inner) answer turned offers holds is
+      answers x x' item.socket (record (let_through x.inner item) { socket = offered }) item' (context_for x.inner item.socket) answer turned offers holds is
 
   items : (x x' : Sender D) (o o' : Option (Item Socket)) (turned : Turned) → ItemTurns moves asked o x turned x' o' → HoldsItem W o → HoldsItem W o'
   items x x' None None turned is holds = holds

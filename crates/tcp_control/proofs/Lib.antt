@@ -1,3 +1,5 @@
+mod CubicLaws
+mod CongestionLaws
 pub mod NothingHeld
 pub mod FirstNumbers
 pub mod Words

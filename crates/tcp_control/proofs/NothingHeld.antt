@@ -5,7 +5,8 @@ use Rattle.std.proofs.lemmas.Bool.{and_parts, and_right, cond-false, eqb-true, n
 use Rattle.std.proofs.lemmas.Nat.{le_or_l, le_or_r}
 use Rattle.std.specs.Int.RustNames.{bit_or}
 use Rattle.std.specs.List.{fold}
-use Rattle.tcp_control.specs.Scoreboard.{is_none, is_empty, no_run, sum_of, held_below, missing, first_missing, reneges, after_ack, lies_in, lowered, runs_above, octets_above, is_lost}
+use Rattle.tcp_control.specs.Scoreboard.{is_none, is_empty, no_run, sum_of, held_below, missing, first_missing, reneges, after_ack, lies_in, lowered}
+use Rattle.tcp_control.specs.Scoreboard.{runs_above, octets_above, is_lost}
 use Rattle.tcp_control.specs.declared.scoreboard.Run.{Run}
 
 -- WHAT THE WORDS PUT TOGETHER SAY

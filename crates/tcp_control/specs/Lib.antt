@@ -1,5 +1,6 @@
 pub mod States
 pub mod Reno
+pub mod Cubic
 pub mod RoundTrip
 pub mod Scoreboard
 pub mod Moments

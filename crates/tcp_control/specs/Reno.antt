@@ -1,6 +1,9 @@
 -- Congestion control by slow start, congestion avoidance, fast retransmit and fast recovery (RFC 5681), which a partial
--- acknowledgement doesn't end (RFC 6582). All counts are bytes.
-use Rattle.std.specs.Prelude.{ℕ, ◌+◌, ◌-◌, ◌*◌, ◌/◌, ◌^◌, ◌==◌, ◌≤◌, nat_le, nat_lt, min, max, Bool, true, false, if◌then◌else◌}
+-- acknowledgement doesn't end (RFC 6582). CUBIC (RFC 9438) differs in congestion avoidance and at a loss alone. All counts are bytes.
+use Rattle.std.specs.Prelude.{ℕ, ◌+◌, ◌-◌, ◌*◌, ◌/◌, ◌==◌, ◌≤◌, nat_le, nat_lt, min, max, ℤ, pos, Bool, true, false, if◌then◌else◌, Option, None, Some}
+use Rattle.tcp_control.specs.Cubic as cubic
+use Rattle.tcp_control.specs.Cubic.{CubicValue}
+pub use Rattle.tcp_control.specs.Cubic.{most}
 
 pub record RenoValue : Type 0 where
   pub mss : ℕ  -- SMSS
@@ -8,10 +11,7 @@ pub record RenoValue : Type 0 where
   pub ssthresh : ℕ
   pub recovers : Bool  -- in fast recovery (3.2)
   pub timed_out : Bool  -- the retransmission timer ran out, and no new data was acknowledged since
-
--- neither cwnd nor ssthresh rises above it
-abbrev pub most : ℕ
-most = 2 ^ 30
+  pub cubic : Option CubicValue  -- what CUBIC knows, where it is set
 
 -- the bounds of a connection's numbers
 pub record IsBounded (r : RenoValue) : Type 0 where
@@ -21,9 +21,12 @@ pub record IsBounded (r : RenoValue) : Type 0 where
   pub ssthresh_low : 1 ≤ r.ssthresh
   pub ssthresh_high : r.ssthresh ≤ most
 
--- of a new connection
+-- of a new connection, with CUBIC or without
+abbrev pub fresh_with : Option CubicValue → RenoValue
+fresh_with c = record { mss = 1024; cwnd = 2048; ssthresh = most; recovers = false; timed_out = false; cubic = c }
+
 abbrev pub fresh : RenoValue
-fresh = record { mss = 1024; cwnd = 2048; ssthresh = most; recovers = false; timed_out = false }
+fresh = fresh_with None
 
 abbrev pub with_mss : RenoValue → ℕ → RenoValue
 with_mss r mss = record r { mss = mss }
@@ -40,13 +43,46 @@ started r lost = record r { cwnd = (if lost then r.mss else first_window r.mss);
 abbrev pub growth : RenoValue → ℕ → ℕ
 growth r count = if nat_lt r.cwnd r.ssthresh then min count r.mss else max 1 (r.mss * r.mss / r.cwnd)
 
--- what ssthresh becomes at a loss, with so much in flight (3.1, equation 4)
-abbrev pub halved : RenoValue → ℕ → ℕ
-halved r flight = min most (max (flight / 2) (2 * r.mss))
+-- what CUBIC counts in congestion avoidance, where so many bytes are acknowledged now
+abbrev pub avoided : Option CubicValue → RenoValue → ℕ → ℤ → Option CubicValue
+avoided None r count now = None
+avoided (Some c) r count now = Some (cubic.avoided c r.mss r.cwnd count now)
+
+abbrev pub counted : RenoValue → ℕ → ℤ → Option CubicValue
+counted r count now = if nat_lt r.cwnd r.ssthresh then r.cubic else avoided r.cubic r count now
+
+-- cwnd where so many bytes are acknowledged, and a round trip takes so many milliseconds: in slow start and without CUBIC it grows as above
+abbrev pub grown : Option CubicValue → RenoValue → ℕ → ℤ → ℕ → ℕ
+grown None r count now rtt = min most (r.cwnd + growth r count)
+grown (Some c) r count now rtt = cubic.window_in r.mss r.cwnd c.w_max c.epoch now rtt
+
+abbrev pub widened : RenoValue → ℕ → ℤ → ℕ → ℕ
+widened r count now rtt =
+    if nat_lt r.cwnd r.ssthresh then min most (r.cwnd + growth r count) else grown (counted r count now) r count now rtt
 
 -- so many bytes were acknowledged, outside of fast recovery (3.1)
-abbrev pub acknowledged : RenoValue → ℕ → RenoValue
-acknowledged r count = if count == 0 then r else record r { cwnd = min most (r.cwnd + growth r count); timed_out = false }
+abbrev pub acknowledged : RenoValue → ℕ → ℤ → ℕ → RenoValue
+acknowledged r count now rtt =
+    if count == 0 then r
+    else record r { cwnd = widened r count now rtt; timed_out = false; cubic = counted r count now }
+
+-- what ssthresh becomes at a loss, with so much in flight: half of that (3.1, equation 4), and with CUBIC 7/10 (RFC 9438, 4.6)
+abbrev pub lowered_by : Option CubicValue → ℕ → ℕ → ℕ
+lowered_by None mss flight = min most (max (flight / 2) (2 * mss))
+lowered_by (Some c) mss flight = cubic.decreased mss flight
+
+abbrev pub lowered : RenoValue → ℕ → ℕ
+lowered r flight = lowered_by r.cubic r.mss flight
+
+-- what CUBIC keeps of a loss at this window
+abbrev pub loss_at : Option CubicValue → ℕ → Option CubicValue
+loss_at None cwnd = None
+loss_at (Some c) cwnd = Some (cubic.lost c cwnd)
+
+-- and of a timeout
+abbrev pub timeout_at : Option CubicValue → ℕ → Option CubicValue
+timeout_at None cwnd = None
+timeout_at (Some c) cwnd = Some (cubic.timed_out c cwnd)
 
 -- In fast recovery so many were, but not all that was sent when it began: the window shrinks by them, to no less than a segment, and
 -- grows by one where at least one was acknowledged (RFC 6582, 3.2, step 3, partial acknowledgements).
@@ -63,9 +99,10 @@ abbrev pub lost : RenoValue → ℕ → RenoValue
 lost r flight =
     if r.timed_out then r
     else record r {
-      ssthresh = halved r (min flight r.cwnd);
-      cwnd = min most (halved r (min flight r.cwnd) + 3 * r.mss);
+      ssthresh = lowered r (min flight r.cwnd);
+      cwnd = min most (lowered r (min flight r.cwnd) + 3 * r.mss);
       recovers = true;
+      cubic = loss_at r.cubic r.cwnd;
     }
 
 -- A segment was lost, where selective acknowledgements say what is still on its way: the window is the threshold at once, and doesn't
@@ -73,7 +110,12 @@ lost r flight =
 abbrev pub reduced : RenoValue → ℕ → RenoValue
 reduced r flight =
     if r.timed_out then r
-    else record r { ssthresh = halved r (min flight r.cwnd); cwnd = halved r (min flight r.cwnd); recovers = true }
+    else record r {
+      ssthresh = lowered r (min flight r.cwnd);
+      cwnd = lowered r (min flight r.cwnd);
+      recovers = true;
+      cubic = loss_at r.cubic r.cwnd;
+    }
 
 -- a duplicate beyond the third came: in recovery alone, which a timeout ends (3.2, step 4)
 abbrev pub inflated : RenoValue → RenoValue
@@ -83,8 +125,37 @@ inflated r = if r.recovers then record r { cwnd = min most (r.cwnd + r.mss) } el
 abbrev pub timed_out : RenoValue → ℕ → RenoValue
 timed_out r flight =
     record r {
-      ssthresh = (if r.timed_out then r.ssthresh else halved r flight);
+      ssthresh = if r.timed_out then r.ssthresh else lowered r flight;
       cwnd = r.mss;
       recovers = false;
       timed_out = true;
+      cubic = if r.timed_out then r.cubic else timeout_at r.cubic r.cwnd;
     }
+
+-- A RUN WITH CUBIC
+
+-- a window of a hundred segments at the threshold
+abbrev pub hundred_segments : RenoValue
+hundred_segments = record (fresh_with (Some cubic.fresh)) { mss = 1460; cwnd = 146_000; ssthresh = 146_000 }
+
+-- and one of them is lost
+abbrev pub after_loss : RenoValue
+after_loss = record {
+  mss = 1460;
+  cwnd = 102_200;
+  ssthresh = 102_200;
+  recovers = true;
+  timed_out = false;
+  cubic = Some (record { w_max = 146_000; cwnd_prior = 146_000; epoch = None });
+}
+
+-- and the next acknowledged segment begins a stage
+abbrev pub in_stage : RenoValue
+in_stage = record {
+  mss = 1460;
+  cwnd = 102_211;
+  ssthresh = 102_200;
+  recovers = false;
+  timed_out = false;
+  cubic = Some (record { w_max = 146_000; cwnd_prior = 146_000; epoch = Some (record { since = pos 0; k = 4217; w_est = 102_211 }) });
+}

@@ -54,9 +54,22 @@ smoothed (Some e) millis =
       variation = (3 * e.variation + distance e.smoothed millis) / 4;
     }
 
--- the timeout that they give, where the clock counts milliseconds (2.3 to 2.5)
+-- SRTT, 0 where no round trip is known
+abbrev pub srtt_by : Option Estimate → ℕ
+srtt_by None = 0
+srtt_by (Some e) = e.smoothed
+
+abbrev pub srtt : RoundTripValue → ℕ
+srtt r = srtt_by r.estimate
+
+-- By how much the timeout lies above SRTT at least, G of 2.3: on a steady link RTTVAR falls to nothing, and an acknowledgement that the
+-- remote delays, or that a queue holds up, must not come too late. It is 200 milliseconds, or the least timeout, if that is shorter.
+abbrev pub slack : ℕ → ℕ
+slack least = min least 200
+
+-- the timeout that they give (2.3 to 2.5)
 abbrev pub timeout_of : ℕ → Estimate → ℕ
-timeout_of least e = min most_timeout (max least (e.smoothed + max 1 (4 * e.variation)))
+timeout_of least e = min most_timeout (max least (e.smoothed + max (slack least) (4 * e.variation)))
 
 -- a round trip of so many milliseconds was measured
 abbrev pub measured : RoundTripValue → ℕ → RoundTripValue

@@ -5,6 +5,7 @@
 #![tactic(auto)]
 
 pub mod controls;
+mod cubic;
 pub mod endpoints;
 mod error;
 mod first_numbers;
@@ -18,11 +19,12 @@ mod sip;
 mod state;
 mod states;
 
+pub use cubic::{cubes, cubic_laws};
 pub use endpoints::{AddressPair, EndpointPair};
 pub use error::{ConnectError, ListenError, RecvError, SendError};
 pub use first_numbers::{first_number, first_numbers_rise};
 pub use offer::{OfferKind, OpenOffer, Reply};
-pub use reno::{Reno, congestion_laws, congestion_windows};
+pub use reno::{Reno, congestion_laws, congestion_windows, cubic_congestion};
 pub use round_trip::{RoundTrip, least_timeouts, timeouts};
 pub use scoreboard::{Run, Scoreboard};
 pub use sip::{sip_hash, sip_hashes};

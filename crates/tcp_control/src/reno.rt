@@ -1,9 +1,15 @@
 //! Congestion control by slow start, congestion avoidance, fast retransmit and fast recovery (RFC 5681), which
-//! a partial acknowledgement doesn't end (RFC 6582).
-ghost use Rattle.std.specs.Prelude.{◌≡◌, ◌≤◌, ℕ, true, false};
-ghost use Rattle.tcp_control.specs.Reno.{RenoValue, IsBounded, fresh, with_mss, first_window, started, growth, halved, acknowledged, partly, recovered, lost};
-ghost use Rattle.tcp_control.specs.Reno.{reduced, inflated, timed_out};
+//! a partial acknowledgement doesn't end (RFC 6582), and with CUBIC (RFC 9438), where that is set.
+ghost use Rattle.std.specs.Prelude.{◌≡◌, ◌≤◌, ◌<◌, ◌^◌, ◌*◌, ◌/◌, ◌+◌, ℕ, ℤ, pos, min, max, nat_lt, true, false, Option, Some, None};
+ghost use Rattle.net_base.specs.Time.{IsMoment};
+ghost use Rattle.tcp_control.specs.Reno.{RenoValue, IsBounded, fresh, fresh_with, with_mss, first_window, started, growth, lowered, acknowledged, partly};
+ghost use Rattle.tcp_control.specs.Reno.{recovered, lost, reduced, inflated, timed_out, most, counted, widened, loss_at, timeout_at};
+ghost use Rattle.tcp_control.specs.Reno.{hundred_segments, after_loss, in_stage};
+ghost use Rattle.tcp_control.specs.Cubic as cubic;
+ghost use Rattle.tcp_control.specs.Cubic.{CubicValue};
 
+use crate::cubic::{Cubic, decreased};
+use net_base::Instant;
 use std::marker::Model;
 
 /// Neither the congestion window nor the slow start threshold rises above it.
@@ -24,6 +30,7 @@ pub struct Reno {
     ssthresh: u32,
     recovers: bool,
     timed_out: bool,
+    cubic: Option<Cubic>,
 }
 
 impl Model for Reno {
@@ -31,11 +38,18 @@ impl Model for Reno {
 
     ghost Value = { RenoValue };
 
-    ghost view = { λ r. record { mss = r.mss; cwnd = r.cwnd; ssthresh = r.ssthresh; recovers = r.recovers; timed_out = r.timed_out } };
+    ghost view = { λ r. record { mss = r.mss; cwnd = r.cwnd; ssthresh = r.ssthresh; recovers = r.recovers; timed_out = r.timed_out; cubic = r.cubic } };
 
-    ghost invariant = { λ r. IsBounded (record { mss = r.mss; cwnd = r.cwnd; ssthresh = r.ssthresh; recovers = r.recovers; timed_out = r.timed_out }) };
+    ghost invariant = { λ r. IsBounded (record {
+      mss = r.mss;
+      cwnd = r.cwnd;
+      ssthresh = r.ssthresh;
+      recovers = r.recovers;
+      timed_out = r.timed_out;
+      cubic = r.cubic;
+    }) };
 
-    ghost inverse = { λ v. record { mss = v.mss; cwnd = v.cwnd; ssthresh = v.ssthresh; recovers = v.recovers; timed_out = v.timed_out } };
+    ghost inverse = { λ v. record { mss = v.mss; cwnd = v.cwnd; ssthresh = v.ssthresh; recovers = v.recovers; timed_out = v.timed_out; cubic = v.cubic } };
 }
 
 impl Reno {
@@ -49,6 +63,21 @@ impl Reno {
             ssthresh: MOST,
             recovers: false,
             timed_out: false,
+            cubic: None,
+        }
+    }
+
+    /// The same with CUBIC, which knows nothing yet.
+    pub const fn with_cubic() -> Reno
+        ensures { result ≡ fresh_with (Some cubic.fresh) }
+    {
+        Reno {
+            mss: FIRST_MSS,
+            cwnd: FIRST_WINDOW,
+            ssthresh: MOST,
+            recovers: false,
+            timed_out: false,
+            cubic: Some(Cubic::new()),
         }
     }
 
@@ -94,13 +123,49 @@ impl Reno {
         self.mss
     }
 
-    /// So many bytes were acknowledged, outside of fast recovery.
-    pub fn acknowledged(&mut self, count: usize)
-        ensures { self.new ≡ acknowledged self.old count }
+    /// So many bytes were acknowledged now, outside of fast recovery, where a round trip takes so many
+    /// milliseconds.
+    pub fn acknowledged(&mut self, count: usize, now: Instant, rtt: u64)
+        requires moment { IsMoment now }
+        requires round_trip { rtt < 2 ^ 52 }
+        ensures { self.new ≡ acknowledged self.old count now rtt }
     {
         if count != 0 {
-            self.cwnd = (self.cwnd + self.growth(count)).min(MOST);
+            let cubic = self.counted(count, now);
+            self.cwnd = self.widened(&cubic, count, now, rtt);
+            self.cubic = cubic;
             self.timed_out = false;
+        }
+    }
+
+    /// What CUBIC counts where so many bytes are acknowledged now.
+    fn counted(&self, count: usize, now: Instant) -> Option<Cubic>
+        requires { IsMoment now }
+        ensures { result ≡ counted self.now count now }
+    {
+        if self.is_slow() {
+            return self.cubic;
+        }
+        match self.cubic {
+            None => None,
+            Some(mut cubic) => {
+                cubic.avoid(self.mss, self.cwnd, count, now);
+                Some(cubic)
+            }
+        }
+    }
+
+    /// The window where so many bytes are acknowledged now.
+    fn widened(&self, cubic: &Option<Cubic>, count: usize, now: Instant, rtt: u64) -> u32
+        requires moment { IsMoment now }
+        requires round_trip { rtt < 2 ^ 52 }
+        requires counted { cubic.now ≡ counted self.now count now }
+        ensures value { result ≡ widened self.now count now rtt }
+        ensures small { (1 ≤ result) × (result ≤ most) }
+    {
+        match cubic {
+            Some(cubic) if !self.is_slow() => cubic.window(self.mss, self.cwnd, now, rtt),
+            _ => self.grown(count),
         }
     }
 
@@ -131,7 +196,8 @@ impl Reno {
         if self.timed_out {
             return;
         }
-        self.ssthresh = self.halved(flight.min(self.cwnd));
+        self.cubic = loss_at(&self.cubic, self.cwnd);
+        self.ssthresh = self.lowered(flight.min(self.cwnd));
         self.cwnd = (self.ssthresh + 3 * self.mss as u32).min(MOST);
         self.recovers = true;
     }
@@ -143,9 +209,10 @@ impl Reno {
     {
         let counts = !self.timed_out;
         if counts {
-            let half = self.halved(flight.min(self.cwnd));
-            self.ssthresh = half;
-            self.cwnd = half;
+            let lower = self.lowered(flight.min(self.cwnd));
+            self.cubic = loss_at(&self.cubic, self.cwnd);
+            self.ssthresh = lower;
+            self.cwnd = lower;
             self.recovers = true;
         }
     }
@@ -164,19 +231,35 @@ impl Reno {
         ensures { self.new ≡ timed_out self.old flight }
     {
         if !self.timed_out {
-            self.ssthresh = self.halved(flight);
+            self.ssthresh = self.lowered(flight);
+            self.cubic = timeout_at(&self.cubic, self.cwnd);
         }
         self.cwnd = self.mss as u32;
         self.recovers = false;
         self.timed_out = true;
     }
 
-    /// How much the window grows by where so many bytes are acknowledged.
+    /// Whether the window grows by slow start.
+    const fn is_slow(&self) -> bool
+        ensures { result ≡ nat_lt self.now.cwnd self.now.ssthresh }
+    {
+        self.cwnd < self.ssthresh
+    }
+
+    /// The window in slow start, and without CUBIC, where so many bytes are acknowledged.
+    fn grown(&self, count: usize) -> u32
+        ensures value { result ≡ min most (self.now.cwnd + growth self.now count) }
+        ensures small { (1 ≤ result) × (result ≤ most) }
+    {
+        self.cwnd.saturating_add(self.growth(count)).min(MOST)
+    }
+
+    /// How much the window grows by without CUBIC where so many bytes are acknowledged.
     fn growth(&self, count: usize) -> u32
         ensures value { result ≡ growth self.now count }
         ensures small { result ≤ 4_294_836_225 }
     {
-        if self.cwnd < self.ssthresh {
+        if self.is_slow() {
             count.min(self.mss as usize) as u32
         } else {
             (self.mss as u32 * self.mss as u32 / self.cwnd).max(1)
@@ -184,10 +267,42 @@ impl Reno {
     }
 
     /// What the threshold becomes at a loss.
-    fn halved(&self, flight: u32) -> u32
-        ensures { result ≡ halved self.now flight }
+    fn lowered(&self, flight: u32) -> u32
+        ensures value { result ≡ lowered self.now flight }
+        ensures small { (1 ≤ result) × (result ≤ most) }
     {
-        (flight / 2).max(2 * self.mss as u32).min(MOST)
+        match self.cubic {
+            None => (flight / 2).max(2 * self.mss as u32).min(MOST),
+            Some(_) => decreased(self.mss, flight),
+        }
+    }
+}
+
+/// What CUBIC keeps of a loss at this window.
+fn loss_at(cubic: &Option<Cubic>, cwnd: u32) -> Option<Cubic>
+    requires { cwnd ≤ most }
+    ensures { result ≡ loss_at cubic.now cwnd }
+{
+    match *cubic {
+        None => None,
+        Some(mut cubic) => {
+            cubic.lose(cwnd);
+            Some(cubic)
+        }
+    }
+}
+
+/// What it keeps of a timeout.
+fn timeout_at(cubic: &Option<Cubic>, cwnd: u32) -> Option<Cubic>
+    requires { cwnd ≤ most }
+    ensures { result ≡ timeout_at cubic.now cwnd }
+{
+    match *cubic {
+        None => None,
+        Some(mut cubic) => {
+            cubic.time_out(cwnd);
+            Some(cubic)
+        }
     }
 }
 
@@ -201,8 +316,9 @@ fn first_window(mss: u16) -> u32
 /// Runs on numerals: slow start, a loss with half of the window in flight, the end of recovery, and a
 /// timeout twice.
 pub fn congestion_windows()
-    ensures slow_start { acknowledged (acknowledged fresh 1024) 5000 ≡ record fresh { cwnd = 4096 } }
-    ensures avoidance { acknowledged (record fresh { cwnd = 4096; ssthresh = 4096 }) 1024 ≡ record fresh { cwnd = 4352; ssthresh = 4096 } }
+    ensures slow_start { (now : ℤ) (rtt : ℕ) → acknowledged (acknowledged fresh 1024 now rtt) 5000 now rtt ≡ record fresh { cwnd = 4096 } }
+    ensures avoidance { (now : ℤ) (rtt : ℕ)
+        → acknowledged (record fresh { cwnd = 4096; ssthresh = 4096 }) 1024 now rtt ≡ record fresh { cwnd = 4352; ssthresh = 4096 } }
     ensures loss { lost (record fresh { cwnd = 32768 }) 16384 ≡ record fresh { cwnd = 11264; ssthresh = 8192; recovers = true } }
     ensures recovery { recovered (inflated (lost (record fresh { cwnd = 32768 }) 16384)) ≡ record fresh { cwnd = 8192; ssthresh = 8192 } }
     ensures limited { lost (record fresh { cwnd = 8192 }) 10_240 ≡ record fresh { cwnd = 7168; ssthresh = 4096; recovers = true } }
@@ -222,6 +338,32 @@ pub fn congestion_laws()
     ensures third { (r : RenoValue) (flight other : ℕ) → lost (timed_out r flight) other ≡ timed_out r flight }
     ensures further { (r : RenoValue) (flight : ℕ) → inflated (timed_out r flight) ≡ timed_out r flight }
     ensures one_segment { (r : RenoValue) (flight : ℕ) → (timed_out r flight).cwnd ≡ r.mss }
-    ensures nothing { (r : RenoValue) → acknowledged r 0 ≡ r }
+    ensures nothing { (r : RenoValue) (now : ℤ) (rtt : ℕ) → acknowledged r 0 now rtt ≡ r }
     ensures second { (r : RenoValue) (flight other : ℕ) → (timed_out (timed_out r flight) other).ssthresh ≡ (timed_out r flight).ssthresh }
+{}
+
+/// With CUBIC: 7/10 is what a loss leaves, however it is known, and what CUBIC keeps of it is the window at the
+/// loss; slow start is alike, and so is the window after a timeout; and without it congestion avoidance is
+/// Reno's. A run of a hundred segments: the loss, and an acknowledged segment at once and two seconds later.
+#[tactic(auto, unfolding(crate::specs::Cubic::cube_root))]
+pub fn cubic_congestion()
+    ensures reduced { (r : RenoValue) (c : CubicValue) (flight : ℕ)
+        → reduced (record r { timed_out = false; cubic = Some c }) flight ≡ record r {
+          timed_out = false;
+          ssthresh = cubic.decreased r.mss (min flight r.cwnd);
+          cwnd = cubic.decreased r.mss (min flight r.cwnd);
+          recovers = true;
+          cubic = Some (cubic.lost c r.cwnd);
+        } }
+    ensures third { (r : RenoValue) (c : CubicValue) (flight : ℕ)
+        → (lost (record r { timed_out = false; cubic = Some c }) flight).ssthresh ≡ cubic.decreased r.mss (min flight r.cwnd) }
+    ensures timeout { (r : RenoValue) (c : CubicValue) (flight : ℕ)
+        → (timed_out (record r { timed_out = false; cubic = Some c }) flight).ssthresh ≡ cubic.decreased r.mss flight }
+    ensures slow_start { (r : RenoValue) (count : ℕ) (now : ℤ) (rtt : ℕ) → r.cwnd < r.ssthresh
+        → (acknowledged r count now rtt).cwnd ≡ (acknowledged (record r { cubic = None }) count now rtt).cwnd }
+    ensures without { (r : RenoValue) (count : ℕ) (now : ℤ) (rtt : ℕ) → 1 ≤ count
+        → (acknowledged (record r { cubic = None }) count now rtt).cwnd ≡ min most (r.cwnd + growth r count) }
+    ensures loss { reduced hundred_segments 146_000 ≡ after_loss }
+    ensures first { acknowledged (recovered after_loss) 1460 (pos 0) 100 ≡ in_stage }
+    ensures later { (acknowledged in_stage 1460 (pos 2_000_000) 100).cwnd ≡ 102_757 }
 {}

@@ -1,8 +1,8 @@
 //! The retransmission timeout (RFC 6298), in whole milliseconds.
 ghost use Rattle.std.specs.Prelude.{◌≡◌, ◌<◌, ◌≤◌, ◌^◌, ◌*◌, pos, Some};
 ghost use Rattle.net_base.specs.Time.{IsMoment};
-ghost use Rattle.tcp_control.specs.RoundTrip.{IsTimed, shortest_timeout, most_timeout, fresh, least_of, probe_wait, with_least, smoothed, timeout_of, measured};
-ghost use Rattle.tcp_control.specs.RoundTrip.{millis_between, advanced, is_reached, echoed, timing, untimed, begun_late, backed_off};
+ghost use Rattle.tcp_control.specs.RoundTrip.{IsTimed, shortest_timeout, most_timeout, fresh, least_of, probe_wait, with_least, smoothed, timeout_of};
+ghost use Rattle.tcp_control.specs.RoundTrip.{srtt, measured, millis_between, advanced, is_reached, echoed, timing, untimed, begun_late, backed_off};
 
 use net_base::{Duration, Instant};
 use std::marker::Model;
@@ -51,6 +51,9 @@ const SHORTEST_TIMEOUT: u16 = 10;
 
 const MOST_TIMEOUT: u16 = 60_000;
 
+/// The timeout lies above the smoothed round trip by this at least, or by the least timeout.
+const MOST_SLACK: u16 = 200;
+
 /// A loss probe waits no less, in microseconds.
 const LEAST_PROBE_WAIT: u64 = 20_000;
 
@@ -85,6 +88,17 @@ impl RoundTrip {
         ensures value { result ≡ self.now.least * 1000 }
     {
         Duration::from_millis(self.least as u64)
+    }
+
+    /// The smoothed round trip in milliseconds, 0 where none is known.
+    pub fn smoothed(&self) -> u64
+        ensures value { result ≡ srtt self.now }
+        ensures small { result < 2 ^ 52 }
+    {
+        match self.estimate {
+            None => 0,
+            Some(estimate) => estimate.smoothed,
+        }
     }
 
     /// How long a loss probe waits, in microseconds, where a round trip is known. `alone` says that no more
@@ -217,13 +231,13 @@ fn timeout_of(least: u16, estimate: &Estimate) -> u16
     requires { (estimate.now.smoothed < 2 ^ 52) × (estimate.now.variation < 2 ^ 52) }
     ensures { result ≡ timeout_of least estimate.now }
 {
-    (estimate.smoothed + (4 * estimate.variation).max(1))
+    (estimate.smoothed + (4 * estimate.variation).max(least.min(MOST_SLACK) as u64))
         .max(least as u64)
         .min(MOST_TIMEOUT as u64) as u16
 }
 
 /// The whole milliseconds from one moment to another, none where that isn't later.
-fn millis_between(since: Instant, now: Instant) -> u64
+pub(crate) fn millis_between(since: Instant, now: Instant) -> u64
     requires { IsMoment since × IsMoment now }
     ensures value { result ≡ millis_between since now }
     ensures small { result < 2 ^ 52 }
@@ -249,17 +263,18 @@ pub fn timeouts()
     ensures timed { advanced (advanced (timing fresh 10 (pos 0)) 4 (pos 500_000)) 6 (pos 801_999) ≡ measured fresh 801 }
 {}
 
-/// Runs on numerals with a least timeout of 200 ms: the first timeout is a second, then it follows round
-/// trips of 100 ms down to the least, and each more costs the doubling. What may be set lies between 10
-/// ms and a minute.
+/// Runs on numerals with a least timeout of 200 ms: the first timeout is a second, then it lies 200 ms
+/// above round trips of 100 ms, however steady they are, and each more costs the doubling. What may be
+/// set lies between 10 ms and a minute.
 pub fn least_timeouts()
     ensures first { (with_least 200_000 fresh).timeout ≡ 1000 }
     ensures one { measured (with_least 200_000 fresh) 100 ≡
         record fresh { estimate = Some (record { smoothed = 100; variation = 50 }); timeout = 300; least = 200 } }
-    ensures two { (measured (measured (with_least 200_000 fresh) 100) 100).timeout ≡ 248 }
-    ensures three { (measured (measured (measured (with_least 200_000 fresh) 100) 100) 100).timeout ≡ 208 }
-    ensures four { (measured (measured (measured (measured (with_least 200_000 fresh) 100) 100) 100) 100).timeout ≡ 200 }
-    ensures steady { (timeout_of 10 (record { smoothed = 100; variation = 0 })) ≡ 101 }
+    ensures two { (measured (measured (with_least 200_000 fresh) 100) 100).timeout ≡ 300 }
+    ensures moved { (measured (measured (with_least 200_000 fresh) 100) 300).timeout ≡ 473 }
+    ensures short { (measured (with_least 200_000 fresh) 1).timeout ≡ 201 }
+    ensures steady { (timeout_of 10 (record { smoothed = 100; variation = 0 })) ≡ 110 }
+    ensures long { (timeout_of 1000 (record { smoothed = 1300; variation = 0 })) ≡ 1500 }
     ensures doubled { (backed_off (measured (with_least 200_000 fresh) 100)).timeout ≡ 600 }
     ensures raised { (with_least 5_000_000 fresh).timeout ≡ 5000 }
     ensures late { (begun_late (with_least 200_000 fresh)).timeout ≡ 3000 }

@@ -17,9 +17,9 @@ use Rattle.tcp_control.specs.Offsets.{behind_by, past_by, before_by}
 use Rattle.tcp_control.specs.Reno as reno
 use Rattle.tcp_control.specs.Reno.{RenoValue}
 use Rattle.tcp_control.specs.RoundTrip as round_trip
-use Rattle.tcp_control.specs.RoundTrip.{RoundTripValue}
+use Rattle.tcp_control.specs.RoundTrip.{RoundTripValue, srtt}
 use Rattle.tcp_control.specs.States.{is_closed, is_time_wait, owes_fin, after_ack, after_ack_of_fin}
-use Rattle.tcp_model.specs.LossRecovery.{loss_acked, ranges_noted, is_first_lost, is_lost_again}
+use Rattle.tcp_model.specs.LossRecovery.{loss_acked, ranges_noted, is_first_lost, is_lost_again, is_lost_at}
 use Rattle.tcp_model.specs.Timestamps.{stamp_taken}
 use Rattle.tcp_model.specs.Value.{TcpValue, queued_in}
 
@@ -42,7 +42,7 @@ sender_moved s by = record s {
 }
 
 -- A new acknowledgement restarts the retransmission timer, or ends it where nothing is in flight (RFC 6298, 5.2 and 5.3). A further
--- partial acknowledgement of one recovery leaves it as it runs (RFC 6582, 3.2, step 3).
+-- blind one of one recovery leaves it as it runs (RFC 6582, 3.2, step 3).
 abbrev pub retransmit_after : Timers → ℕ → ℕ → Bool → ℤ → RoundTripValue → Option ℤ
 retransmit_after t by flight stays now r =
     if by == 0 then t.retransmit_at else if flight == 0 then None else if stays then t.retransmit_at else Some (timeout_from now r)
@@ -57,6 +57,10 @@ round_trip_after b by now =
     if acks_own_syn b by && b.sender.syn_lost then round_trip.begun_late (round_trip.advanced b.round_trip by now)
     else round_trip.advanced b.round_trip by now
 
+-- SRTT behind it
+abbrev pub srtt_after : Block → ℕ → ℤ → ℕ
+srtt_after b by now = srtt (round_trip.advanced b.round_trip by now)
+
 -- PARTIAL ACKNOWLEDGEMENTS (RFC 6582, 3.2, step 3)
 
 -- something new is acknowledged in fast recovery
@@ -67,6 +71,12 @@ acks_in_recovery b by = b.reno.recovers && not (by == 0)
 abbrev pub is_partial : Block → ℕ → Bool
 is_partial b by = acks_in_recovery b by && nat_lt (by + 1) b.sender.recover
 
+-- It is a blind one where no range says that the segment which then stands at SND.UNA is lost: without selective acknowledgements, and
+-- where more was lost than the remote can hold runs of. So a loss of many segments is mended by one segment a round trip only until the
+-- timer runs out.
+abbrev pub is_blind : Block → ℕ → Bool
+is_blind b by = is_partial b by && not (b.peer.sack && is_lost_at b by)
+
 -- what a partial acknowledgement makes of so many bytes: with selective acknowledgements the window stays (RFC 6675, 5)
 abbrev pub partly_after : Block → ℕ → ℕ → RenoValue
 partly_after b by queued = if b.peer.sack then b.reno else reno.partly b.reno (freed_by b by queued)
@@ -76,27 +86,27 @@ abbrev pub recovery_after : Block → ℕ → ℕ → RenoValue
 recovery_after b by queued = if is_partial b by then partly_after b by queued else reno.recovered b.reno
 
 -- a connection begins with its first window; in fast recovery an acknowledgement is partial, or ends it; else the window grows by what is
--- acknowledged
-abbrev pub reno_after : Block → ℕ → ℕ → RenoValue
-reno_after b by queued =
+-- acknowledged now
+abbrev pub reno_after : Block → ℕ → ℕ → ℤ → RenoValue
+reno_after b by queued now =
     if acks_own_syn b by then reno.started b.reno b.sender.syn_lost
     else if acks_in_recovery b by then recovery_after b by queued
-    else reno.acknowledged b.reno (freed_by b by queued)
+    else reno.acknowledged b.reno (freed_by b by queued) now (srtt_after b by now)
 
 -- SND.UNA rises: sender, retransmission timer, round trip and congestion. After a partial acknowledgement the segment at SND.UNA is to
--- go again at once, unless it did. Only without selective acknowledgements the timer doesn't start again at each one.
+-- go again at once, unless it did.
 abbrev pub una_risen : Block → ℕ → ℕ → ℤ → Block
 una_risen b by queued now = record b {
   sender = record (sender_moved b.sender by) {
     resend = (b.sender.resend && (by == 0)) || (is_partial b by && (b.loss.resent - by == 0));
-    partial = b.sender.partial || (is_partial b by && not b.peer.sack);
+    partial = b.sender.partial || is_blind b by;
   };
   timers = record b.timers {
     retransmit_at =
-        retransmit_after b.timers by (b.sender.in_flight - by) (b.sender.partial && is_partial b by) now (round_trip_after b by now);
+        retransmit_after b.timers by (b.sender.in_flight - by) (b.sender.partial && is_blind b by) now (round_trip_after b by now);
   };
   round_trip = round_trip_after b by now;
-  reno = reno_after b by queued;
+  reno = reno_after b by queued now;
 }
 
 abbrev pub una_moved : Block → ℕ → ℕ → ℤ → Block

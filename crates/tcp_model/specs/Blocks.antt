@@ -12,10 +12,14 @@ use Rattle.tcp_model.specs.declared.block.Sender.{Sender}
 use Rattle.tcp_model.specs.declared.block.Settings.{Settings}
 use Rattle.tcp_model.specs.declared.block.Stamps.{Stamps}
 use Rattle.tcp_model.specs.declared.block.Timers.{Timers}
+use Rattle.tcp_model.specs.declared.block.CongestionControl.{CongestionControl}
 use Rattle.tcp_model.specs.declared.block.CongestionControl.TheVariants as Congestion
 use Rattle.tcp_control.specs.declared.state.State.TheVariants as In
 use Rattle.tcp_control.specs.Offsets.{behind_by}
 use Rattle.tcp_control.specs.Reno as reno
+use Rattle.tcp_control.specs.Reno.{RenoValue}
+use Rattle.tcp_control.specs.Cubic as cubic
+use Rattle.tcp_control.specs.Cubic.{CubicValue}
 use Rattle.tcp_control.specs.RoundTrip as round_trip
 use Rattle.tcp_control.specs.Scoreboard.{no_runs}
 use Rattle.tcp_control.specs.States.{owes_fin}
@@ -116,6 +120,15 @@ default_settings = record {
   min_rto = 1_000_000;
 }
 
+-- what CUBIC knows at the start, where it is set
+abbrev pub cubic_of : CongestionControl → Option CubicValue
+cubic_of Congestion.Cubic = Some cubic.fresh
+cubic_of other = None
+
+-- congestion control as it starts
+abbrev pub fresh_window : CongestionControl → RenoValue
+fresh_window control = reno.fresh_with (cubic_of control)
+
 -- no connection, and nothing left of an earlier one
 abbrev pub fresh_block : Settings → Block
 fresh_block settings = record {
@@ -127,7 +140,7 @@ fresh_block settings = record {
   stamps = fresh_stamps;
   timers = fresh_timers;
   round_trip = round_trip.with_least settings.min_rto round_trip.fresh;
-  reno = reno.fresh;
+  reno = fresh_window settings.congestion_control;
   loss = fresh_loss;
   settings = settings;
 }

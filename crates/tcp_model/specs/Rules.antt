@@ -46,7 +46,7 @@ size_limit b addresses ip_mtu = max 1 (min b.peer.mss (min ip_mtu 65_535 - ip_he
 
 abbrev pub congestion_limit : CongestionControl → ℕ → ℕ → ℕ
 congestion_limit Congestion.None cwnd size = size
-congestion_limit Congestion.Reno cwnd size = min cwnd size
+congestion_limit other cwnd size = min cwnd size
 
 -- limited transmit: the first two duplicates let a segment each go beyond the congestion window, where a third would begin recovery
 -- (RFC 3042)

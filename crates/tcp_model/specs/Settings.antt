@@ -10,6 +10,7 @@ use Rattle.tcp_control.specs.Reno as reno
 use Rattle.tcp_control.specs.Reno.{RenoValue}
 use Rattle.tcp_control.specs.RoundTrip.{with_least}
 use Rattle.tcp_control.specs.States.{takes_writes, takes_text}
+use Rattle.tcp_model.specs.Blocks.{fresh_window}
 use Rattle.tcp_model.specs.Timeout.{timeout_kept}
 use Rattle.tcp_model.specs.Value.{TcpValue, with_block, unoffered, queued_in}
 
@@ -59,13 +60,14 @@ set_min_rto v duration =
     })
 
 -- congestion control as it starts, with the remote's MSS if that is known
-abbrev pub fresh_reno : Block → RenoValue
-fresh_reno b = if b.receiver.took_syn then reno.with_mss reno.fresh b.peer.mss else reno.fresh
+abbrev pub fresh_reno : Block → CongestionControl → RenoValue
+fresh_reno b control =
+    if b.receiver.took_syn then reno.with_mss (fresh_window control) b.peer.mss else fresh_window control
 
 abbrev pub set_congestion_control : TcpValue → CongestionControl → TcpValue
 set_congestion_control v control =
     with_block (with_settings v (record v.block.settings { congestion_control = control }))
-    (record v.block { settings = record v.block.settings { congestion_control = control }; reno = fresh_reno v.block })
+    (record v.block { settings = record v.block.settings { congestion_control = control }; reno = fresh_reno v.block control })
 
 -- GETTERS
 

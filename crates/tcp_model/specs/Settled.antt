@@ -11,7 +11,7 @@ use Rattle.tcp_model.specs.Blocks.{one_if, forgotten, own_shift, edge_after}
 use Rattle.tcp_control.specs.Controls.{is_syn, or_mss}
 use Rattle.tcp_control.specs.Moments.{later_by, timeout_from}
 use Rattle.tcp_control.specs.Scoreboard.{first_missing}
-use Rattle.tcp_model.specs.LossRecovery.{probe_armed, loss_resent}
+use Rattle.tcp_model.specs.LossRecovery.{probe_armed, loss_resent, is_first_lost}
 use Rattle.tcp_model.specs.Probing.{probe_kept}
 use Rattle.tcp_model.specs.Retries.{asked}
 use Rattle.tcp_control.specs.RoundTrip as round_trip
@@ -77,10 +77,19 @@ syn_went b o = record b {
   receiver = record b.receiver { mss = or_mss o.segment.options.max_seg_size };
 }
 
+-- The retransmission timer starts anew at each segment that goes again in recovery, so that it doesn't run out before that one can be
+-- acknowledged (RFC 6675, 6), as long as ranges say that the one at SND.UNA is lost.
+abbrev pub timer_rearmed : Block → Option ℤ
+timer_rearmed b = if b.reno.recovers && is_first_lost b then None else b.timers.retransmit_at
+
 -- something went again, up to so far past SND.UNA: what is timed isn't any more (RFC 6298, 3)
 abbrev pub resent : Block → ℕ → Block
-resent b end =
-    record b { sender = record b.sender { resend = false }; loss = loss_resent b end; round_trip = round_trip.untimed b.round_trip }
+resent b end = record b {
+  sender = record b.sender { resend = false };
+  timers = record b.timers { retransmit_at = timer_rearmed b };
+  loss = loss_resent b end;
+  round_trip = round_trip.untimed b.round_trip;
+}
 
 -- a probe went that ends so far past SND.UNA, where SND.NXT stays; the next one waits twice as long (3.8.6.1)
 abbrev pub probed : Block → ℕ → ℤ → Block

@@ -34,7 +34,7 @@ pub struct Sender {
     /// How much is to be acknowledged until it is more than `recover` (RFC 6582), the highest position that
     /// was sent when fast recovery began, or the timer ran out.
     pub recover: u32,
-    /// Whether a partial acknowledgement came since fast recovery began.
+    /// Whether a blind partial acknowledgement came since fast recovery began.
     pub partial: bool,
     /// Whether a SYN of its own went again.
     pub syn_lost: bool,
@@ -121,6 +121,8 @@ pub enum CongestionControl {
     None,
     /// As RFC 5681 says.
     Reno,
+    /// As RFC 9438 says.
+    Cubic,
 }
 
 /// Loss recovery by selective acknowledgements (RFC 6675; RFC 8985). Counts are distances from SND.UNA.

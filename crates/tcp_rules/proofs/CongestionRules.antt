@@ -21,9 +21,9 @@ use Rattle.tcp_control.specs.declared.offer.OfferKind.TheVariants as Kind
 use Rattle.tcp_control.specs.declared.offer.OpenOffer.{OpenOffer}
 use Rattle.tcp_control.specs.declared.state.State.{State}
 use Rattle.tcp_control.specs.declared.state.State.TheVariants as In
-use Rattle.tcp_model.specs.Acknowledged.{acks_fin, state_after_ack, freed_by, reno_after, reno_counted, duplicates_after}
+use Rattle.tcp_model.specs.Acknowledged.{acks_fin, state_after_ack, freed_by, reno_after, srtt_after, reno_counted, duplicates_after}
 use Rattle.tcp_model.specs.Arrival.{arrives}
-use Rattle.tcp_model.specs.Blocks.{one_if}
+use Rattle.tcp_model.specs.Blocks.{one_if, fresh_window}
 use Rattle.tcp_model.specs.Calls.{listening, connected_by, pair_for, sent_more}
 use Rattle.tcp_model.specs.Checks.{falls_back}
 use Rattle.tcp_model.specs.Offers.{offer_of}
@@ -31,6 +31,7 @@ use Rattle.tcp_model.specs.Opening.{took_syn}
 use Rattle.tcp_model.specs.LossRecovery.{loss_probed, probes_tail}
 use Rattle.tcp_model.specs.Retries.{asked, one_more}
 use Rattle.tcp_model.specs.Rules.{backed_off_now}
+use Rattle.tcp_model.specs.Timestamps.{echo_taken}
 use Rattle.tcp_model.specs.Settled.{sent_off, sent_as, recorded, probed, end_of}
 use Rattle.tcp_model.specs.Value.{TcpValue, Arrived, with_block, unoffered, ended, new_socket, queued_in, room_of}
 use Rattle.tcp_model.specs.declared.block.Block.{Block}
@@ -41,7 +42,7 @@ use Rattle.tcp_rules.specs.Events.{Event, Setting, after, led, set, is_past}
 use Rattle.tcp_rules.specs.Events.Event.{Comes, Asked, Listens, Connects, Sends, Reads, Closes, Aborts, Sets}
 use Rattle.tcp_rules.specs.Events.Setting.{Timeout, KeepAlive, AckDelay, Nagle, HopLimit, Timestamps, Paused, Retries, Congestion, MinRto}
 use Rattle.tcp_rules.specs.InOrder.{sending_of, IsInOrder}
-use Rattle.tcp_rules.proofs.ArrivalCases.{by_arrival, Received, Opening, Content, Drawing, acked_open}
+use Rattle.tcp_rules.proofs.ArrivalCases.{by_arrival, Received, Opening, Content, Drawing, acked_open, timed}
 use Rattle.tcp_rules.proofs.OfferCases.{Rules, FirstRules, LastRules, by_rules, begun, probing}
 use Rattle.tcp_rules.proofs.OrderRules.{event_order, new_order}
 use Rattle.tcp_rules.proofs.OrderSteps.{clash}
@@ -76,7 +77,12 @@ counted_both P r sack begins again count flight reduces loses inflates stays =
 pub out_reduced : (r : RenoValue) (syn : Bool) (flight : ℕ) → Out r syn → Out (reno.reduced r flight) syn
 out_reduced r syn flight out =
     cond_both r.timed_out r
-    (record r { ssthresh = reno.halved r (min flight r.cwnd); cwnd = reno.halved r (min flight r.cwnd); recovers = true }) (λ (x : RenoValue). Out x syn)
+    (record r {
+      ssthresh = reno.lowered r (min flight r.cwnd);
+      cwnd = reno.lowered r (min flight r.cwnd);
+      recovers = true;
+      cubic = reno.loss_at r.cubic r.cwnd;
+    }) (λ (x : RenoValue). Out x syn)
     (λ _. out)
     (λ not e. clash (sym e ∙ not))
 
@@ -84,7 +90,12 @@ out_counted : (r : RenoValue) (syn sack begins again : Bool) (count flight : ℕ
 out_counted r syn sack begins again count flight out =
     counted_both (λ (x : RenoValue). Out x syn) r sack begins again count flight (out_reduced r syn flight out)
     (cond_both r.timed_out r
-    (record r { ssthresh = reno.halved r (min flight r.cwnd); cwnd = min reno.most (reno.halved r (min flight r.cwnd) + 3 * r.mss); recovers = true })
+    (record r {
+      ssthresh = reno.lowered r (min flight r.cwnd);
+      cwnd = min reno.most (reno.lowered r (min flight r.cwnd) + 3 * r.mss);
+      recovers = true;
+      cubic = reno.loss_at r.cubic r.cwnd;
+    })
     (λ (x : RenoValue). Out x syn)
     (λ _. out)
     (λ not e. clash (sym e ∙ not)))
@@ -94,33 +105,33 @@ out_counted r syn sack begins again count flight out =
     out
 
 -- what an acknowledgement makes of it, where so many bytes are queued, and so much is to be acknowledged until it is more than `recover`
-abbrev pub acked_reno : RenoValue → Bool → Bool → Bool → ℕ → ℕ → ℕ → RenoValue
-acked_reno r sack syn lost by queued recover =
+abbrev pub acked_reno : RenoValue → Bool → Bool → Bool → ℕ → ℕ → ℕ → ℤ → ℕ → RenoValue
+acked_reno r sack syn lost by queued recover now rtt =
     if syn && not (by == 0) then reno.started r lost
     else if r.recovers && not (by == 0)
     then (if (r.recovers && not (by == 0)) && nat_lt (by + 1) recover
     then (if sack then r else reno.partly r (min (by - one_if syn) queued)) else reno.recovered r)
-    else reno.acknowledged r (min (by - one_if syn) queued)
+    else reno.acknowledged r (min (by - one_if syn) queued) now rtt
 
 -- a part of it, and all: both alike
-acked_both : (P : RenoValue → Type 0) (r : RenoValue) (sack syn lost : Bool) (by queued recover : ℕ)
+acked_both : (P : RenoValue → Type 0) (r : RenoValue) (sack syn lost : Bool) (by queued recover : ℕ) (now : ℤ) (rtt : ℕ)
     → ((syn && not (by == 0)) ≡ true → P (reno.started r lost))
     → (r.recovers ≡ true → P r)
     → (r.recovers ≡ true → P (reno.partly r (min (by - one_if syn) queued)))
     → (r.recovers ≡ true → P (reno.recovered r))
-    → P (reno.acknowledged r (min (by - one_if syn) queued))
-    → P (acked_reno r sack syn lost by queued recover)
-acked_both P r sack syn lost by queued recover starts stays part whole grows =
+    → P (reno.acknowledged r (min (by - one_if syn) queued) now rtt)
+    → P (acked_reno r sack syn lost by queued recover now rtt)
+acked_both P r sack syn lost by queued recover now rtt starts stays part whole grows =
     cond_both (syn && not (by == 0)) (reno.started r lost)
     (if r.recovers && not (by == 0)
     then (if (r.recovers && not (by == 0)) && nat_lt (by + 1) recover
     then (if sack then r else reno.partly r (min (by - one_if syn) queued)) else reno.recovered r)
-    else reno.acknowledged r (min (by - one_if syn) queued))
+    else reno.acknowledged r (min (by - one_if syn) queued) now rtt)
     P starts
     (λ _.
     cond_both (r.recovers && not (by == 0))
     (if (r.recovers && not (by == 0)) && nat_lt (by + 1) recover then (if sack then r else reno.partly r (min (by - one_if syn) queued)) else reno.recovered r)
-    (reno.acknowledged r (min (by - one_if syn) queued)) P
+    (reno.acknowledged r (min (by - one_if syn) queued) now rtt) P
     (λ recovers.
     cond_both ((r.recovers && not (by == 0)) && nat_lt (by + 1) recover) (if sack then r else reno.partly r (min (by - one_if syn) queued)) (reno.recovered r) P
     (λ _.
@@ -129,27 +140,36 @@ acked_both P r sack syn lost by queued recover starts stays part whole grows =
     (λ _. whole (left_true r.recovers (not (by == 0)) recovers)))
     (λ _. grows))
 
-out_acked : (r : RenoValue) (sack syn lost : Bool) (by queued recover : ℕ) → Out r syn → Out (acked_reno r sack syn lost by queued recover) (syn && (by == 0))
-out_acked r sack syn lost by queued recover out =
-    acked_both (λ (x : RenoValue). Out x (syn && (by == 0))) r sack syn lost by queued recover
+out_acked : (r : RenoValue) (sack syn lost : Bool) (by queued recover : ℕ) (now : ℤ) (rtt : ℕ) → Out r syn
+    → Out (acked_reno r sack syn lost by queued recover now rtt) (syn && (by == 0))
+out_acked r sack syn lost by queued recover now rtt out =
+    acked_both (λ (x : RenoValue). Out x (syn && (by == 0))) r sack syn lost by queued recover now rtt
     (λ acks e. clash (no_both syn (not (by == 0)) (out e).2 acks))
     (λ recovers e. clash (sym recovers ∙ (out e).1))
     (λ recovers e. clash (sym recovers ∙ (out e).1))
     (λ _ e. clash (sym e))
     (cond_both (min (by - one_if syn) queued == 0) r
-    (record r { cwnd = min reno.most (r.cwnd + reno.growth r (min (by - one_if syn) queued)); timed_out = false })
+    (record r {
+      cwnd = reno.widened r (min (by - one_if syn) queued) now rtt;
+      timed_out = false;
+      cubic = reno.counted r (min (by - one_if syn) queued) now;
+    })
     (λ (x : RenoValue). Out x (syn && (by == 0)))
     (λ _ e. let old = out e in (old.0, old.1, not_and syn (by == 0) old.2))
     (λ _ e. clash (sym e)))
 
 -- no timeout counts, so none does behind it
-quiet_acked : (r : RenoValue) (sack syn lost : Bool) (by queued recover : ℕ) → r.timed_out ≡ false →
-    (acked_reno r sack syn lost by queued recover).timed_out ≡ false
-quiet_acked r sack syn lost by queued recover quiet =
-    acked_both (λ (x : RenoValue). x.timed_out ≡ false) r sack syn lost by queued recover
+quiet_acked : (r : RenoValue) (sack syn lost : Bool) (by queued recover : ℕ) (now : ℤ) (rtt : ℕ) → r.timed_out ≡ false →
+    (acked_reno r sack syn lost by queued recover now rtt).timed_out ≡ false
+quiet_acked r sack syn lost by queued recover now rtt quiet =
+    acked_both (λ (x : RenoValue). x.timed_out ≡ false) r sack syn lost by queued recover now rtt
     (λ _. quiet) (λ _. quiet) (λ _. quiet) (λ _. refl)
     (cond_both (min (by - one_if syn) queued == 0) r
-    (record r { cwnd = min reno.most (r.cwnd + reno.growth r (min (by - one_if syn) queued)); timed_out = false })
+    (record r {
+      cwnd = reno.widened r (min (by - one_if syn) queued) now rtt;
+      timed_out = false;
+      cubic = reno.counted r (min (by - one_if syn) queued) now;
+    })
     (λ (x : RenoValue). x.timed_out ≡ false) (λ _. quiet) (λ _. refl))
 
 state_on : (state : State) → is_past state ≡ true → (is_listening (after_ack state) ≡ false) × (is_listening (after_ack_of_fin state) ≡ false)
@@ -210,26 +230,27 @@ module _ (cx : ContextValue) (ip : IpRepr) (header : TcpHeader) (bytes : List �
 
   acked_held : (u : TcpValue) (by : ℕ) → IsHeld (control_of u.block) → is_past u.block.state ≡ true → IsHeld (control_of (acked_open u by cx.moment).block)
   acked_held u by h past =
-      held (reno_after u.block by (queued_in u)) (u.block.sender.syn_unacked && (by == 0)) (state_after_ack u.block by (queued_in u))
+      held (reno_after u.block by (queued_in u) cx.moment) (u.block.sender.syn_unacked && (by == 0)) (state_after_ack u.block by (queued_in u))
       (out_acked u.block.reno u.block.peer.sack u.block.sender.syn_unacked u.block.sender.syn_lost by (queued_in u)
-      u.block.sender.recover h.window) (state_past u by past)
+      u.block.sender.recover cx.moment (srtt_after u.block by cx.moment) h.window) (state_past u by past)
 
   heeded_held : (u : TcpValue) (by : ℕ) (begins again : Bool) → IsHeld (control_of u.block) → is_past u.block.state ≡ true
       → IsHeld (record {
         reno =
-            reno_counted (reno_after u.block by (queued_in u)) u.block.peer.sack (duplicates_after u.block header (length bytes) by)
+            reno_counted (reno_after u.block by (queued_in u) cx.moment) u.block.peer.sack (duplicates_after u.block header (length bytes) by)
             (u.block.sender.in_flight - by) begins again;
         syn_unacked = u.block.sender.syn_unacked && (by == 0);
         state = state_after_ack u.block by (queued_in u);
       })
   heeded_held u by begins again h past =
       held
-      (reno_counted (reno_after u.block by (queued_in u)) u.block.peer.sack (duplicates_after u.block header (length bytes) by)
+      (reno_counted (reno_after u.block by (queued_in u) cx.moment) u.block.peer.sack (duplicates_after u.block header (length bytes) by)
       (u.block.sender.in_flight - by) begins again)
       (u.block.sender.syn_unacked && (by == 0)) (state_after_ack u.block by (queued_in u))
-      (out_counted (reno_after u.block by (queued_in u)) (u.block.sender.syn_unacked && (by == 0)) u.block.peer.sack begins again
+      (out_counted (reno_after u.block by (queued_in u) cx.moment) (u.block.sender.syn_unacked && (by == 0)) u.block.peer.sack begins again
       (duplicates_after u.block header (length bytes) by) (u.block.sender.in_flight - by)
-      (out_acked u.block.reno u.block.peer.sack u.block.sender.syn_unacked u.block.sender.syn_lost by (queued_in u) u.block.sender.recover h.window))
+      (out_acked u.block.reno u.block.peer.sack u.block.sender.syn_unacked u.block.sender.syn_lost by (queued_in u)
+      u.block.sender.recover cx.moment (srtt_after u.block by cx.moment) h.window))
       (state_past u by past)
 
   held_received : (u : TcpValue) → IsHeld (control_of u.block) → is_past u.block.state ≡ true → Received cx ip header bytes Held u
@@ -240,11 +261,13 @@ module _ (cx : ContextValue) (ip : IpRepr) (header : TcpHeader) (bytes : List �
     falls = λ _ _ _. fresh_held u u.block.names.listen;
     ends = λ _ _ _. closed_held u h;
     closes = λ by _ _.
-        held (reno_after u.block by (queued_in u)) (u.block.sender.syn_unacked && (by == 0)) In.Closed
-        (out_acked u.block.reno u.block.peer.sack u.block.sender.syn_unacked u.block.sender.syn_lost by (queued_in u) u.block.sender.recover h.window) refl;
-    taken = λ by _ _. held_content _ (heeded_held u by _ _ h past);
-    taken_window = λ by _ _. held_content _ (heeded_held u by _ _ h past);
-    news = λ by _ _. held_drawing _ (acked_held u by h past);
+        let w = timed cx.moment header u by in
+        held (reno_after w.block by (queued_in w) cx.moment) (w.block.sender.syn_unacked && (by == 0)) In.Closed
+        (out_acked w.block.reno w.block.peer.sack w.block.sender.syn_unacked w.block.sender.syn_lost by (queued_in w)
+        w.block.sender.recover cx.moment (srtt_after w.block by cx.moment) h.window) refl;
+    taken = λ by _ _. held_content _ (heeded_held (timed cx.moment header u by) by _ _ h past);
+    taken_window = λ by _ _. held_content _ (heeded_held (timed cx.moment header u by) by _ _ h past);
+    news = λ by _ _. held_drawing _ (acked_held (timed cx.moment header u by) by h past);
     outside = held_drawing _ h;
     old = λ _. held_content _ h;
   }
@@ -267,7 +290,7 @@ module _ (cx : ContextValue) (ip : IpRepr) (header : TcpHeader) (bytes : List �
           window = λ e.
               clash (sym e ∙ quiet_acked (reno.with_mss u.block.reno (or_mss header.options.max_seg_size))
               (took_syn u.block header).peer.sack u.block.sender.syn_unacked u.block.sender.syn_lost 1
-              0 u.block.sender.recover quiet);
+              0 u.block.sender.recover cx.moment (srtt_after (echo_taken (took_syn u.block header) header 1 cx.moment) 1 cx.moment) quiet);
           listens = λ e. clash (sym e);
         };
     crosses = λ at _.
@@ -408,8 +431,8 @@ set_held v (Paused paused) h = h
 set_held v (Retries limit) h = h
 set_held v (MinRto duration) h = h
 set_held v (Congestion control) h = record { window = λ e. clash (sym e ∙ fresh); listens = λ _. fresh } where
-  fresh : (if v.block.receiver.took_syn then reno.with_mss reno.fresh v.block.peer.mss else reno.fresh).timed_out ≡ false
-  fresh = cond_both v.block.receiver.took_syn (reno.with_mss reno.fresh v.block.peer.mss) reno.fresh (λ (r : RenoValue). r.timed_out ≡
+  fresh : (if v.block.receiver.took_syn then reno.with_mss (fresh_window control) v.block.peer.mss else fresh_window control).timed_out ≡ false
+  fresh = cond_both v.block.receiver.took_syn (reno.with_mss (fresh_window control) v.block.peer.mss) (fresh_window control) (λ (r : RenoValue). r.timed_out ≡
       false) (λ _. refl) (λ _. refl)
 
 connected_held : (v : TcpValue) (names : Option EndpointPair) (number : ℕ) → IsHeld (control_of v.block) →
@@ -501,7 +524,12 @@ never_falls v h out p falls = at v.block.sender.syn_unacked refl where
 reduced_stays : (r : RenoValue) (flight : ℕ) → r.timed_out ≡ true → (reno.reduced r flight).timed_out ≡ true
 reduced_stays r flight e =
     cond_both r.timed_out r
-    (record r { ssthresh = reno.halved r (min flight r.cwnd); cwnd = reno.halved r (min flight r.cwnd); recovers = true })
+    (record r {
+      ssthresh = reno.lowered r (min flight r.cwnd);
+      cwnd = reno.lowered r (min flight r.cwnd);
+      recovers = true;
+      cubic = reno.loss_at r.cubic r.cwnd;
+    })
     (λ (x : RenoValue). x.timed_out ≡ true) (λ _. e) (λ _. e)
 
 module _ (cx : ContextValue) (ip : IpRepr) (header : TcpHeader) (bytes : List ℕ) (v : TcpValue) (h : IsHeld (control_of v.block))
@@ -516,14 +544,21 @@ module _ (cx : ContextValue) (ip : IpRepr) (header : TcpHeader) (bytes : List �
   stays_drawing x s = record { answers = λ _. s; pauses = s }
 
   -- the acknowledgement frees nothing, or bytes
-  acked_stays : (by : ℕ) → ((reno_after v.block by (queued_in v)).timed_out ≡ true) ⊎
-      (length (drop (freed_by v.block by (queued_in v)) v.queued.queue) < queued_in v)
-  acked_stays by =
+  abbrev window_by : ℕ → ℕ → RenoValue
+  window_by by rtt =
+      acked_reno v.block.reno v.block.peer.sack v.block.sender.syn_unacked v.block.sender.syn_lost by (queued_in v) v.block.sender.recover cx.moment rtt
+
+  acked_stays : (by rtt : ℕ) → ((window_by by rtt).timed_out ≡ true) ⊎ (length (drop (freed_by v.block by (queued_in v)) v.queued.queue) < queued_in v)
+  acked_stays by rtt =
       acked_both (λ (r : RenoValue). (r.timed_out ≡ true) ⊎ (length (drop (freed_by v.block by (queued_in v)) v.queued.queue) < queued_in v))
-      v.block.reno v.block.peer.sack v.block.sender.syn_unacked v.block.sender.syn_lost by (queued_in v) v.block.sender.recover
+      v.block.reno v.block.peer.sack v.block.sender.syn_unacked v.block.sender.syn_lost by (queued_in v) v.block.sender.recover cx.moment rtt
       (λ _. inl out) (λ _. inl out) (λ _. inl out) (λ recovers. clash (sym recovers ∙ (h.window out).1))
       (cond_both (freed_by v.block by (queued_in v) == 0) v.block.reno
-      (record v.block.reno { cwnd = min reno.most (v.block.reno.cwnd + reno.growth v.block.reno (freed_by v.block by (queued_in v))); timed_out = false })
+      (record v.block.reno {
+        cwnd = reno.widened v.block.reno (freed_by v.block by (queued_in v)) cx.moment rtt;
+        timed_out = false;
+        cubic = reno.counted v.block.reno (freed_by v.block by (queued_in v)) cx.moment;
+      })
       (λ (r : RenoValue). (r.timed_out ≡ true) ⊎ (length (drop (freed_by v.block by (queued_in v)) v.queued.queue) < queued_in v))
       (λ _. inl out)
       (λ some. inr (shorter v.queued.queue by (one_if v.block.sender.syn_unacked) some)))
@@ -533,21 +568,29 @@ module _ (cx : ContextValue) (ip : IpRepr) (header : TcpHeader) (bytes : List �
   counted_stays r count flight sack begins again e =
       counted_both (λ (x : RenoValue). x.timed_out ≡ true) r sack begins again count flight (reduced_stays r flight e)
       (cond_both r.timed_out r
-      (record r { ssthresh = reno.halved r (min flight r.cwnd); cwnd = min reno.most (reno.halved r (min flight r.cwnd) + 3 * r.mss); recovers = true })
+      (record r {
+        ssthresh = reno.lowered r (min flight r.cwnd);
+        cwnd = min reno.most (reno.lowered r (min flight r.cwnd) + 3 * r.mss);
+        recovers = true;
+        cubic = reno.loss_at r.cubic r.cwnd;
+      })
       (λ (x : RenoValue). x.timed_out ≡ true) (λ _. e) (λ _. e))
       (cond_both r.recovers (record r { cwnd = min reno.most (r.cwnd + r.mss) }) r (λ (x : RenoValue). x.timed_out ≡ true) (λ _. e) (λ _. e))
       e
 
-  heeded_stays : (by : ℕ) (begins again : Bool)
-      → ((reno_counted (reno_after v.block by (queued_in v)) v.block.peer.sack (duplicates_after v.block header (length bytes) by)
+  heeded_stays : (by rtt : ℕ) (begins again : Bool)
+      → ((reno_counted (window_by by rtt) v.block.peer.sack (duplicates_after v.block header (length bytes) by)
       (v.block.sender.in_flight - by) begins again).timed_out ≡ true)
       ⊎ (length (drop (freed_by v.block by (queued_in v)) v.queued.queue) < queued_in v)
-  heeded_stays by begins again =
+  heeded_stays by rtt begins again =
       ⊎_elim
       (λ e.
-      inl (counted_stays (reno_after v.block by (queued_in v)) (duplicates_after v.block header (length bytes) by) (v.block.sender.in_flight - by)
+      inl (counted_stays (window_by by rtt) (duplicates_after v.block header (length bytes) by) (v.block.sender.in_flight - by)
       v.block.peer.sack begins again e))
-      (λ less. inr less) (acked_stays by)
+      (λ less. inr less) (acked_stays by rtt)
+
+  abbrev heard : ℕ → ℕ
+  heard by = srtt_after (timed cx.moment header v by).block by cx.moment
 
   stays_received : IsInOrder (sending_of v) → Received cx ip header bytes StaysBy (unoffered v)
   stays_received p = record {
@@ -556,10 +599,10 @@ module _ (cx : ContextValue) (ip : IpRepr) (header : TcpHeader) (bytes : List �
     draws = stays_drawing _ (inl out);
     falls = λ _ _ falls. never_falls v h out p falls;
     ends = λ _ _ _. inl out;
-    closes = λ by _ _. acked_stays by;
-    taken = λ by _ _. stays_content _ (heeded_stays by _ _);
-    taken_window = λ by _ _. stays_content _ (heeded_stays by _ _);
-    news = λ by _ _. stays_drawing _ (acked_stays by);
+    closes = λ by _ _. acked_stays by (heard by);
+    taken = λ by _ _. stays_content _ (heeded_stays by (heard by) _ _);
+    taken_window = λ by _ _. stays_content _ (heeded_stays by (heard by) _ _);
+    news = λ by _ _. stays_drawing _ (acked_stays by (heard by));
     outside = stays_drawing _ (inl out);
     old = λ _. stays_content _ (inl out);
   }

@@ -21,3 +21,4 @@ pub mod EdgeMarks
 pub mod EdgeMoves
 pub mod LossRules
 pub mod StampRules
+pub mod BlindRules

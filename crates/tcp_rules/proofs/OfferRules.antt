@@ -23,7 +23,7 @@ use Rattle.tcp_model.specs.Retries.{asked, one_more, gives_up, given_up}
 use Rattle.tcp_model.specs.Rules.{control_for, time_wait_end, owes_syn, resends, ack_moment, has_text, text_choice, resend_choice, probe_choice, updates_window}
 use Rattle.tcp_model.specs.Rules.{keep_alive_moment, backed_off_now}
 use Rattle.tcp_model.specs.Segments.{hops_of, segment, ack_segment, syn_segment, reset_segment, keep_alive_segment}
-use Rattle.tcp_model.specs.Settled.{settled, sent_off, recorded, probed, end_of, sent_as}
+use Rattle.tcp_model.specs.Settled.{settled, sent_off, recorded, probed, end_of, sent_as, timer_rearmed}
 use Rattle.tcp_model.specs.Timeout.{timeout_end, timeout_started, timed_out}
 use Rattle.tcp_model.specs.Value.{TcpValue, with_block, unoffered, ended, queued_in, free_in, room_of, window_of}
 use Rattle.tcp_model.specs.declared.block.Block.{Block}
@@ -46,7 +46,7 @@ asked_goes old b now goes =
 sent_goes : (kind : OfferKind) (b : Block) (o : OpenOffer) (queued : ℕ) → Goes b (sent_as kind b o queued)
 sent_goes Kind.Reset b o queued = same b (sent_as Kind.Reset b o queued) refl
 sent_goes Kind.Syn b o queued = sends b (sent_as Kind.Syn b o queued) (end_of b o) refl refl (timer_runs b.timers.retransmit_at _)
-sent_goes Kind.FastRetransmission b o queued = sends b (sent_as Kind.FastRetransmission b o queued) (end_of b o) refl refl (timer_runs b.timers.retransmit_at _)
+sent_goes Kind.FastRetransmission b o queued = sends b (sent_as Kind.FastRetransmission b o queued) (end_of b o) refl refl (timer_runs (timer_rearmed b) _)
 sent_goes Kind.Text b o queued = sends b (sent_as Kind.Text b o queued) (end_of b o) refl refl (timer_runs b.timers.retransmit_at _)
 sent_goes Kind.Probe b o queued =
     asked_goes b (probed b (end_of b o) o.moment) o.moment (probes b (probed b (end_of b o) o.moment) (end_of b o) refl refl refl refl)

@@ -26,7 +26,7 @@ use Rattle.tcp_control.specs.declared.offer.OfferKind.TheVariants as Kind
 use Rattle.tcp_control.specs.declared.offer.OpenOffer.{OpenOffer}
 use Rattle.tcp_control.specs.declared.state.State.{State}
 use Rattle.tcp_control.specs.declared.state.State.TheVariants as In
-use Rattle.tcp_model.specs.Acknowledged.{acks_fin, state_after_ack, freed_by, windowed, is_partial}
+use Rattle.tcp_model.specs.Acknowledged.{acks_fin, state_after_ack, freed_by, windowed, is_blind}
 use Rattle.tcp_model.specs.Arrival.{arrives, waiting_anew}
 use Rattle.tcp_model.specs.Blocks.{one_if, unacked}
 use Rattle.tcp_model.specs.Calls.{listening, connecting, connected_by, pair_for, sent_more}
@@ -88,7 +88,7 @@ acked_order u by now p past news alive = at (acks_fin u.block by (queued_in u)) 
 
   moment : Option ℤ
   moment =
-      if u.block.sender.partial && is_partial u.block by then u.block.timers.retransmit_at else Some (timeout_from now (acked_open u by now).block.round_trip)
+      if u.block.sender.partial && is_blind u.block by then u.block.timers.retransmit_at else Some (timeout_from now (acked_open u by now).block.round_trip)
 
   at :
       (fin : Bool) → acks_fin u.block by (queued_in u) ≡ fin → is_closed (if fin then after_ack_of_fin u.block.state else after_ack u.block.state) ≡ false
@@ -137,7 +137,7 @@ module _ (cx : ContextValue) (ip : IpRepr) (header : TcpHeader) (bytes : List �
     ends = λ _ _ _. closed_order (sending_of u) false p;
     closes = λ by passes _.
         last_order (sending_of u) (behind_by u.block.sender.una by).0 by (length (drop (freed_by u.block by (queued_in u)) u.queued.queue))
-        (if u.block.sender.partial && is_partial u.block by then u.block.timers.retransmit_at else Some
+        (if u.block.sender.partial && is_blind u.block by then u.block.timers.retransmit_at else Some
         (timeout_from cx.moment (acked_open (timed cx.moment header u by) by cx.moment).block.round_trip)) p (small_number u.block.sender.una by)
         (syn_gone (sending_of u) by p (passes_news u.block header.ack_number by passes));
     taken = λ by passes alive.
@@ -212,7 +212,7 @@ module _ (cx : ContextValue) (ip : IpRepr) (header : TcpHeader) (bytes : List �
 
 limit_least : (control : CongestionControl) (window size : ℕ) → congestion_limit control window size ≤ size
 limit_least Avoids.None window size = omega arith
-limit_least Avoids.Reno window size = omega arith
+limit_least other window size = omega arith
 
 window_least : (b : Block) (size : ℕ) → window_limit b size ≤ size
 window_least b size =

@@ -24,12 +24,15 @@ use Rattle.tcp_control.specs.declared.offer.OpenOffer.{OpenOffer}
 use Rattle.tcp_control.specs.declared.round_trip.Sample.{Sample}
 use Rattle.tcp_control.specs.declared.state.State.{State}
 use Rattle.tcp_control.specs.declared.state.State.TheVariants as In
-use Rattle.tcp_model.specs.Acknowledged.{state_after_ack, acks_own_syn, round_trip_after, reno_after, reno_counted, duplicates_after, begins_recovery}
+use Rattle.tcp_model.specs.Acknowledged.{state_after_ack, acks_own_syn, round_trip_after, reno_after, srtt_after, reno_counted}
+use Rattle.tcp_model.specs.Acknowledged.{duplicates_after, begins_recovery}
 use Rattle.tcp_model.specs.Acknowledged.{ranges_taken, windowed}
 use Rattle.tcp_model.specs.LossRecovery.{hole_len, is_lost_at, is_lost_again, loss_probed, probes_tail}
 use Rattle.tcp_model.proofs.Holes.{again_sent, hole_least}
 use Rattle.tcp_model.specs.Arrival.{arrives}
-use Rattle.tcp_model.specs.Blocks.{one_if}
+use Rattle.tcp_model.specs.Blocks.{one_if, fresh_window}
+use Rattle.tcp_model.specs.declared.block.CongestionControl.{CongestionControl}
+use Rattle.tcp_model.specs.declared.block.CongestionControl.TheVariants as Avoids
 use Rattle.tcp_model.specs.Calls.{listening, connected_by, pair_for, sent_more}
 use Rattle.tcp_model.specs.Offers.{offer_of, number_at}
 use Rattle.tcp_model.specs.Opening.{took_syn}
@@ -60,21 +63,21 @@ right_true : (a b : Bool) → (a && b) ≡ true → b ≡ true
 right_true true b e = e
 right_true false b e = clash (sym e)
 
-lasts_acked : (r : RenoValue) (sack syn lost : Bool) (by queued recover : ℕ) → Lasts r recover →
-    Lasts (acked_reno r sack syn lost by queued recover) (recover - by)
-lasts_acked r sack syn lost by queued recover lasts =
+lasts_acked : (r : RenoValue) (sack syn lost : Bool) (by queued recover : ℕ) (now : ℤ) (rtt : ℕ) → Lasts r recover →
+    Lasts (acked_reno r sack syn lost by queued recover now rtt) (recover - by)
+lasts_acked r sack syn lost by queued recover now rtt lasts =
     cond_both (syn && not (by == 0)) (reno.started r lost)
     (if r.recovers && not (by == 0)
     then (if (r.recovers && not (by == 0)) && nat_lt (by + 1) recover then (if sack then r else reno.partly r (min (by - one_if syn) queued))
     else reno.recovered r)
-    else reno.acknowledged r (min (by - one_if syn) queued))
+    else reno.acknowledged r (min (by - one_if syn) queued) now rtt)
     (λ (x : RenoValue). Lasts x (recover - by))
     (λ _ e. clash (sym e))
     (λ _.
     cond_both (r.recovers && not (by == 0))
     (if (r.recovers && not (by == 0)) && nat_lt (by + 1) recover then (if sack then r else reno.partly r (min (by - one_if syn) queued))
     else reno.recovered r)
-    (reno.acknowledged r (min (by - one_if syn) queued)) (λ (x : RenoValue). Lasts x (recover - by))
+    (reno.acknowledged r (min (by - one_if syn) queued) now rtt) (λ (x : RenoValue). Lasts x (recover - by))
     (λ _.
     cond_both ((r.recovers && not (by == 0)) && nat_lt (by + 1) recover) (if sack then r else reno.partly r (min (by - one_if syn) queued)) (reno.recovered r)
     (λ (x : RenoValue). Lasts x (recover - by))
@@ -82,7 +85,11 @@ lasts_acked r sack syn lost by queued recover lasts =
     (λ _ e. clash (sym e)))
     (λ none.
     cond_both (min (by - one_if syn) queued == 0) r
-    (record r { cwnd = min reno.most (r.cwnd + reno.growth r (min (by - one_if syn) queued)); timed_out = false })
+    (record r {
+      cwnd = reno.widened r (min (by - one_if syn) queued) now rtt;
+      timed_out = false;
+      cubic = reno.counted r (min (by - one_if syn) queued) now;
+    })
     (λ (x : RenoValue). Lasts x (recover - by))
     (λ _ e. stays r.recovers none e lasts) (λ _ e. stays r.recovers none e lasts)))
   where
@@ -207,9 +214,15 @@ paced : (r : Recovery) → Lasts r.reno r.recover → is_listening r.state ≡ f
 paced r lasts not f = record { lasts = lasts; listens = λ e. clash (sym e ∙ not); least = f.least; timeout = f.timeout }
 
 -- one that begins with nothing in recovery
-fresh_paced : (state : State) (recover duration : ℕ) →
-    IsPaced (record { state = state; reno = reno.fresh; recover = recover; round_trip = round_trip.with_least duration round_trip.fresh; min_rto = duration })
-fresh_paced state recover duration =
+fresh_paced : (state : State) (control : CongestionControl) (recover duration : ℕ) →
+    IsPaced (record {
+      state = state;
+      reno = fresh_window control;
+      recover = recover;
+      round_trip = round_trip.with_least duration round_trip.fresh;
+      min_rto = duration;
+    })
+fresh_paced state control recover duration =
     let f = fine_set round_trip.fresh duration in record { lasts = λ e. clash (sym e); listens = λ _. refl; least = f.least; timeout = f.timeout }
 
 asked_paced : (b : Block) (now : ℤ) → IsPaced (recovery_of b) → IsPaced (recovery_of (asked b now))
@@ -262,24 +275,25 @@ module _ (cx : ContextValue) (ip : IpRepr) (header : TcpHeader) (bytes : List �
   acked_paced : (b : Block) (by queued : ℕ) (state : State) → IsPaced (recovery_of b) → is_listening state ≡ false
       → IsPaced (record {
         state = state;
-        reno = reno_after b by queued;
+        reno = reno_after b by queued cx.moment;
         recover = b.sender.recover - by;
         round_trip = round_trip_after b by cx.moment;
         min_rto = b.settings.min_rto;
       })
   acked_paced b by queued state p not =
-      paced _ (lasts_acked b.reno b.peer.sack b.sender.syn_unacked b.sender.syn_lost by queued b.sender.recover p.lasts) not
+      paced _
+      (lasts_acked b.reno b.peer.sack b.sender.syn_unacked b.sender.syn_lost by queued b.sender.recover cx.moment (srtt_after b by cx.moment) p.lasts) not
       (fine_acked b by cx.moment (fine_of (recovery_of b) p))
 
   echo_paced : (b : Block) (by : ℕ) → IsPaced (recovery_of b) → is_listening b.state ≡ false → IsPaced (recovery_of (echo_taken b header by cx.moment))
   echo_paced b by p not =
       paced _ p.lasts not (fine_echo b.round_trip by b.settings.min_rto (echo_of b header cx.moment) (fine_of (recovery_of b) p))
 
-  heeded_paced : (u : TcpValue) (by : ℕ) (begins again : Bool) → (again ≡ true → (reno_after u.block by (queued_in u)).recovers ≡ true)
+  heeded_paced : (u : TcpValue) (by : ℕ) (begins again : Bool) → (again ≡ true → (reno_after u.block by (queued_in u) cx.moment).recovers ≡ true)
       → IsPaced (recovery_of u.block) → is_past u.block.state ≡ true
       → IsPaced (record {
         state = state_after_ack u.block by (queued_in u);
-        reno = reno_counted (reno_after u.block by (queued_in u)) u.block.peer.sack (duplicates_after u.block header (length bytes) by)
+        reno = reno_counted (reno_after u.block by (queued_in u) cx.moment) u.block.peer.sack (duplicates_after u.block header (length bytes) by)
             (u.block.sender.in_flight - by) begins again;
         recover = if begins then min (u.block.sender.top - by + 1) 4_294_967_295 else u.block.sender.recover - by;
         round_trip = round_trip_after u.block by cx.moment;
@@ -287,9 +301,10 @@ module _ (cx : ContextValue) (ip : IpRepr) (header : TcpHeader) (bytes : List �
       })
   heeded_paced u by begins again only p past =
       paced _
-      (lasts_counted (reno_after u.block by (queued_in u)) u.block.peer.sack begins again (duplicates_after u.block header (length bytes) by)
+      (lasts_counted (reno_after u.block by (queued_in u) cx.moment) u.block.peer.sack begins again (duplicates_after u.block header (length bytes) by)
       (u.block.sender.in_flight - by) (u.block.sender.top - by) (u.block.sender.recover - by) only
-      (lasts_acked u.block.reno u.block.peer.sack u.block.sender.syn_unacked u.block.sender.syn_lost by (queued_in u) u.block.sender.recover p.lasts))
+      (lasts_acked u.block.reno u.block.peer.sack u.block.sender.syn_unacked u.block.sender.syn_lost by (queued_in u)
+      u.block.sender.recover cx.moment (srtt_after u.block by cx.moment) p.lasts))
       (state_past u by past) (fine_acked u.block by cx.moment (fine_of (recovery_of u.block) p))
 
   -- the block as its duplicates are counted
@@ -307,7 +322,7 @@ module _ (cx : ContextValue) (ip : IpRepr) (header : TcpHeader) (bytes : List �
     stays = p;
     refuses = p;
     draws = paced_drawing u p;
-    falls = λ _ _ _. fresh_paced In.Listen 0 u.block.settings.min_rto;
+    falls = λ _ _ _. fresh_paced In.Listen u.block.settings.congestion_control 0 u.block.settings.min_rto;
     ends = λ _ _ _. closed_paced u p;
     closes = λ by _ _. acked_paced (echo_taken u.block header by cx.moment) by (queued_in u) In.Closed (heard_paced by) refl;
     taken = λ by _ _.
@@ -412,7 +427,7 @@ module _ (cx : ContextValue) where
     timeout = λ _. (paced _ k.lasts refl (fine_of _ k), inr refl);
     closed = λ _. (k, inr refl);
     reset = λ _ closed _. (k, inl (not_listening v.block.state closed));
-    falls = λ _ _ _. (fresh_paced In.Listen 0 v.block.settings.min_rto, inr refl);
+    falls = λ _ _ _. (fresh_paced In.Listen v.block.settings.congestion_control 0 v.block.settings.min_rto, inr refl);
     over = λ _ _ _. (paced _ k.lasts refl (fine_of _ k), inr refl);
     backs = λ pair named _ _.
         paced_first pair (with_block (unoffered v) (backed_off_now (begun cx v))) (backed_paced v k (unnamed v pair p named)) (unnamed v pair p named);
@@ -450,14 +465,14 @@ set_paced v (Retries limit) p = p
 set_paced v (MinRto duration) p =
     let f = fine_set v.block.round_trip duration in record { lasts = p.lasts; listens = p.listens; least = f.least; timeout = f.timeout }
 set_paced v (Congestion control) p = record { lasts = λ e. clash (sym e ∙ none); listens = λ _. none; least = p.least; timeout = p.timeout } where
-  none : (if v.block.receiver.took_syn then reno.with_mss reno.fresh v.block.peer.mss else reno.fresh).recovers ≡ false
-  none = cond_both v.block.receiver.took_syn (reno.with_mss reno.fresh v.block.peer.mss) reno.fresh (λ (r : RenoValue). r.recovers ≡
+  none : (if v.block.receiver.took_syn then reno.with_mss (fresh_window control) v.block.peer.mss else fresh_window control).recovers ≡ false
+  none = cond_both v.block.receiver.took_syn (reno.with_mss (fresh_window control) v.block.peer.mss) (fresh_window control) (λ (r : RenoValue). r.recovers ≡
       false) (λ _. refl) (λ _. refl)
 
 connected_paced : (v : TcpValue) (names : Option EndpointPair) (number : ℕ) → IsPaced (recovery_of v.block) →
     IsPaced (recovery_of (connected_by v names number).block)
 connected_paced v None number p = p
-connected_paced v (Some pair) number p = fresh_paced In.SynSent 0 v.block.settings.min_rto
+connected_paced v (Some pair) number p = fresh_paced In.SynSent v.block.settings.congestion_control 0 v.block.settings.min_rto
 
 event_paced : (v : TcpValue) (it : Event) → IsInOrder (sending_of v) → IsPaced (recovery_of v.block) → IsPaced (recovery_of (after v it).block)
 event_paced v (Comes cx ip header bytes) p k = paced_arrival cx ip header bytes v k
@@ -466,7 +481,7 @@ event_paced v (Asked cx true) p k =
 event_paced v (Asked cx false) p k = (paced_offer cx v p k).0
 event_paced v (Listens endpoint) p k =
     cond_both (is_closed v.block.state && not (endpoint.port == 0)) (listening v endpoint) (unoffered v) (λ (w : TcpValue). IsPaced (recovery_of w.block))
-    (λ _. fresh_paced In.Listen 0 v.block.settings.min_rto) (λ _. k)
+    (λ _. fresh_paced In.Listen v.block.settings.congestion_control 0 v.block.settings.min_rto) (λ _. k)
 event_paced v (Connects cx remote local) p k =
     cond_both (is_closed v.block.state) (connected_by v (pair_for cx remote local) (number_for cx (pair_for cx remote local))) (unoffered v)
     (λ (w : TcpValue). IsPaced (recovery_of w.block))
@@ -490,7 +505,7 @@ led_paced v [] p k = k
 led_paced v (it ∷ more) p k = led_paced (after v it) more (event_order v it p) (event_paced v it p k)
 
 run_paced : (capacity : ℕ) (queued : Ring ℕ) (events : List Event) → IsPaced (recovery_of (led (new_socket capacity queued) events).block)
-run_paced capacity queued events = led_paced (new_socket capacity queued) events (new_order capacity queued) (fresh_paced In.Closed 0 1_000_000)
+run_paced capacity queued events = led_paced (new_socket capacity queued) events (new_order capacity queued) (fresh_paced In.Closed Avoids.Reno 0 1_000_000)
 
 pub led_lasts : (capacity : ℕ) (queued : Ring ℕ) (events : List Event)
     → (led (new_socket capacity queued) events).block.reno.recovers ≡ true → 1 ≤ (led (new_socket capacity queued) events).block.sender.recover

@@ -40,7 +40,7 @@ record Leaves (b : Block) : Type 0 where
 
 leaves_with : (control : CongestionControl) (window room : ℕ) → (bound : ℕ) × ((size : ℕ) → congestion_limit control window (min room size) ≡ min bound size)
 leaves_with Congestion.None window room = (room, λ size. refl)
-leaves_with Congestion.Reno window room = (min window room, λ size. both window room size) where
+leaves_with other window room = (min window room, λ size. both window room size) where
   both : (a b c : ℕ) → min a (min b c) ≡ min (min a b) c
   both a b c = omega arith
 

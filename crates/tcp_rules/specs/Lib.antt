@@ -13,6 +13,7 @@ pub mod Waiting
 pub mod Congestion
 pub mod Timing
 pub mod Recovery
+pub mod Blind
 pub mod Losses
 pub mod Stamps
 pub use Rattle.tcp_control.specs.Controls

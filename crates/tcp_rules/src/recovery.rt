@@ -1,14 +1,18 @@
 //! Fast recovery, what goes again, and the least retransmission timeout.
 
-ghost use Rattle.std.specs.Prelude.{◌≡◌, ◌≤◌, ℕ, true, false, List, Some};
+ghost use Rattle.std.specs.Prelude.{◌≡◌, ◌≤◌, ℕ, ℤ, true, false, List, Some};
 ghost use Rattle.net_base.specs.Ring.{Ring};
 ghost use Rattle.tcp_model.specs.Context.{ContextValue};
 ghost use Rattle.tcp_control.specs.RoundTrip.{least_of};
 ghost use Rattle.tcp_control.specs.declared.offer.OfferKind.TheVariants as Kind;
 ghost use Rattle.tcp_control.specs.declared.offer.OpenOffer.{OpenOffer};
+ghost use Rattle.tcp_model.specs.Acknowledged.{is_blind, una_moved};
+ghost use Rattle.tcp_model.specs.LossRecovery.{is_first_lost};
 ghost use Rattle.tcp_model.specs.Offers.{offer_of};
-ghost use Rattle.tcp_model.specs.Settled.{end_of};
+ghost use Rattle.tcp_model.specs.Settled.{end_of, sent_as};
 ghost use Rattle.tcp_model.specs.Value.{TcpValue, new_socket};
+ghost use Rattle.tcp_model.specs.declared.block.Block.{Block};
+ghost use Rattle.tcp_rules.specs.Blind.{Acked, AreBlind, after_all};
 ghost use Rattle.tcp_rules.specs.Events.{Event, led};
 ghost use Rattle.tcp_rules.specs.InOrder.{IsInOrder, sending_of};
 ghost use Rattle.tcp_rules.specs.Recovery.{IsPaced, recovery_of};
@@ -27,4 +31,14 @@ pub fn what_goes_again_was_sent()
     ensures again { (cx : ContextValue) (v : TcpValue) (o : OpenOffer) → IsInOrder (sending_of v) → v.block.sender.syn_unacked ≡ false
         → (offer_of cx v).socket.offered ≡ Some o → o.kind ≡ Kind.FastRetransmission
         → end_of (offer_of cx v).socket.block o ≤ v.block.sender.top }
+{}
+
+/// Blind acknowledgements don't put the timer off, however many come: behind the first one, which is on record, it runs out when it
+/// would have without them. Nor does what goes again between them put it off.
+pub fn blind_acknowledgements_leave_the_timer()
+    ensures first { (b : Block) (ack : Acked) → is_blind b ack.by ≡ true → (una_moved b ack.by ack.queued ack.moment).sender.partial ≡ true }
+    ensures leave { (b : Block) (acks : List Acked) → b.sender.partial ≡ true → AreBlind acks b
+        → (after_all acks b).timers.retransmit_at ≡ b.timers.retransmit_at }
+    ensures again { (b : Block) (o : OpenOffer) (queued : ℕ) (moment : ℤ) → is_first_lost b ≡ false → b.timers.retransmit_at ≡ Some moment
+        → (sent_as Kind.FastRetransmission b o queued).timers.retransmit_at ≡ Some moment }
 {}

@@ -53,7 +53,7 @@ control_small Control.Rst = omega arith
 
 congestion_small : (control : CongestionControl) (cwnd size : ℕ) → congestion_limit control cwnd size ≤ size
 congestion_small Congestion.None cwnd size = omega arith
-congestion_small Congestion.Reno cwnd size = omega arith
+congestion_small other cwnd size = omega arith
 
 pub window_small : (b : Block) (size : ℕ) → window_limit b size ≤ size
 window_small b size =

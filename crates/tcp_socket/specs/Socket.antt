@@ -1,9 +1,12 @@
 -- What holds of each socket, and what its getters give.
-use Rattle.std.specs.Prelude.{ℕ, ◌≤◌, nat_le, ◌&&◌, Bool, length, true, false, Option, Some, None, IfSome, Result, Ok, Err}
+use Rattle.std.specs.Prelude.{ℕ, ◌≤◌, nat_le, nat_lt, ◌==◌, ◌&&◌, Bool, length, true, false, Option, Some, None, IfSome, Result, Ok, Err}
 use Rattle.net_base.specs.Ring.{Ring}
 use Rattle.net_base.specs.Time.{IsMoment}
+use Rattle.ip_wire.specs.AddressTests.{is_same_address}
 use Rattle.ip_wire.specs.IpEndpoint.{IpEndpoint}
+use Rattle.ip_wire.specs.SeqNumber.{SeqNumber}
 use Rattle.tcp_model.specs.Endpoints.{local_of, remote_of}
+use Rattle.tcp_model.specs.Offsets.{before_by, past_by}
 use Rattle.tcp_model.specs.Rules.{unbroken}
 use Rattle.tcp_model.specs.States.{takes_writes}
 use Rattle.tcp_model.specs.Unsettled.{EndsNear}
@@ -45,6 +48,21 @@ local_in (Some pair) = Some (record { addr = local_of pair.addresses; port = pai
 abbrev pub remote_in : Option EndpointPair → Option IpEndpoint
 remote_in None = None
 remote_in (Some pair) = Some (record { addr = remote_of pair.addresses; port = pair.remote_port })
+
+-- the connection is between these endpoints
+abbrev pub is_pair : Option EndpointPair → (local remote : IpEndpoint) → Bool
+is_pair None local remote = false
+is_pair (Some pair) local remote =
+    is_same_address (local_of pair.addresses) local.addr && (is_same_address (remote_of pair.addresses) remote.addr
+    && ((pair.local_port == local.port) && (pair.remote_port == remote.port)))
+
+-- a segment that begins at this number was sent and isn't acknowledged: SND.UNA ≤ SEG.SEQ, and SEG.SEQ is before what was never sent
+abbrev pub is_unacked_at : Block → SeqNumber → Bool
+is_unacked_at b number = (before_by b.sender.una number == 0) && nat_lt (past_by b.sender.una number) b.sender.top
+
+-- such a segment of a connection between these endpoints
+abbrev pub has_sent : Block → (local remote : IpEndpoint) → SeqNumber → Bool
+has_sent b local remote number = is_pair b.names.pair local remote && is_unacked_at b number
 
 -- whether the user may send, as an answer
 abbrev pub if_open : Bool → Result (Unit {0}) SendError

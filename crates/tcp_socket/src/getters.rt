@@ -3,12 +3,13 @@ ghost use Rattle.std.specs.Prelude.{◌≡◌, ◌+◌, ◌*◌, length, is_some
 ghost use Rattle.tcp_model.specs.States.{takes_writes, is_listening};
 ghost use Rattle.tcp_model.specs.Settings.{is_open, is_active, can_send, can_recv, may_recv};
 ghost use Rattle.tcp_model.specs.Value.{room_of};
-ghost use Rattle.tcp_socket.specs.Socket.{local_in, remote_in};
+ghost use Rattle.tcp_socket.specs.Socket.{local_in, remote_in, is_pair, is_unacked_at, has_sent};
 
 use crate::Socket;
-use ip_wire::{IpEndpoint, IpListenEndpoint};
+use ip_wire::{IpEndpoint, IpListenEndpoint, SeqNumber};
 use net_base::Duration;
-use tcp_model::{CongestionControl, State};
+use socket_base::addresses::is_same_address;
+use tcp_model::{Block, CongestionControl, EndpointPair, State, before_by, past_by};
 
 impl Socket {
     /// The state of the connection.
@@ -186,4 +187,33 @@ impl Socket {
     {
         self.block.settings.timestamps.is_some()
     }
+
+    /// Whether a segment that begins at this number was sent between these endpoints, and isn't acknowledged.
+    pub fn has_sent(&self, local: &IpEndpoint, remote: &IpEndpoint, number: SeqNumber) -> bool
+        ensures { result ≡ has_sent self.now.block local.now remote.now number }
+    {
+        is_pair(&self.block.names.pair, local, remote) && is_unacked_at(&self.block, number)
+    }
+}
+
+/// Whether a connection is between these endpoints.
+fn is_pair(pair: &Option<EndpointPair>, local: &IpEndpoint, remote: &IpEndpoint) -> bool
+    ensures { result ≡ is_pair pair.now local.now remote.now }
+{
+    match pair {
+        Some(pair) => {
+            is_same_address(&pair.addresses.local(), &local.addr)
+                && is_same_address(&pair.addresses.remote(), &remote.addr)
+                && pair.local_port == local.port
+                && pair.remote_port == remote.port
+        }
+        None => false,
+    }
+}
+
+/// Whether a segment that begins at this number was sent and isn't acknowledged.
+fn is_unacked_at(block: &Block, number: SeqNumber) -> bool
+    ensures { result ≡ is_unacked_at block.now number }
+{
+    before_by(block.sender.una, number) == 0 && past_by(block.sender.una, number) < block.sender.top
 }

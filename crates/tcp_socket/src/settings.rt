@@ -7,7 +7,7 @@ ghost use Rattle.tcp_model.specs.Value.{unoffered};
 use crate::Socket;
 use ip_wire::TcpTimestampGenerator;
 use net_base::{Duration, Instant};
-use tcp_model::{CongestionControl, Reno};
+use tcp_model::CongestionControl;
 
 impl Socket {
     /// Forgets the start of the user timeout where it doesn't run any more.
@@ -112,7 +112,7 @@ impl Socket {
     {
         self.offered = None;
         self.block.settings.congestion_control = congestion_control;
-        let mut reno = Reno::new();
+        let mut reno = congestion_control.fresh_window();
         if self.block.receiver.took_syn {
             reno.set_mss(self.block.peer.mss);
         }

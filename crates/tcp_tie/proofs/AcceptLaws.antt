@@ -1,5 +1,5 @@
 -- Which segments are acceptable, and how much a socket sends at once.
-use Rattle.std.proofs.Common.{◌≡◌, ◌↔◌, ◌⊎◌, inl, inr, ℕ, zero, suc, ◌+◌, ◌-◌, ◌^◌, ◌<◌, ◌≤◌, ◌==◌, ◌&&◌, not, nat_lt, min, max, Bool, true, false}
+use Rattle.std.proofs.Common.{◌≡◌, ◌≢◌, ◌↔◌, ◌⊎◌, inl, inr, ℕ, zero, suc, ◌+◌, ◌-◌, ◌^◌, ◌<◌, ◌≤◌, ◌==◌, ◌&&◌, not, nat_lt, min, max, Bool, true, false}
 use Rattle.std.proofs.Common.{if◌then◌else◌, List, length, Option, Some, None, is_some, refl, sym, ap, ◌∙◌, subst, arith}
 use Rattle.std.proofs.lemmas.Bool.{and_parts, cond_both}
 use Rattle.std.proofs.lemmas.Bool.Decides.{nat_tests}
@@ -234,11 +234,11 @@ reset_ignored cx v ip header bytes rst other_reset =
 -- the congestion window can only lower a count
 lowered : (control : CongestionControl) (cwnd size : ℕ) → congestion_limit control cwnd size ≤ size
 lowered Congestion.None cwnd size = omega arith
-lowered Congestion.Reno cwnd size = omega arith
+lowered other cwnd size = omega arith
 
-reno_limit : (control : CongestionControl) (cwnd size : ℕ) → control ≡ Congestion.Reno → congestion_limit control cwnd size ≤ cwnd
-reno_limit Congestion.Reno cwnd size e = omega arith
-reno_limit Congestion.None cwnd size e = absurd (cc)
+held_limit : (control : CongestionControl) (cwnd size : ℕ) → control ≢ Congestion.None → congestion_limit control cwnd size ≤ cwnd
+held_limit Congestion.None cwnd size e = absurd (e refl)
+held_limit other cwnd size e = omega arith
 
 min_both : (a b : ℕ) → (min a b ≤ a) × (min a b ≤ b)
 min_both a b = (omega arith, omega arith)
@@ -255,9 +255,9 @@ module _ (b : Block) (addresses : AddressPair) (mtu : ℕ) (queued : Ring ℕ) w
       below_parts _ _ _ (lowered b.settings.congestion_control (congestion_room b) (min (b.peer.window - b.sender.in_flight) size))
       (min_both (b.peer.window - b.sender.in_flight) size).0
 
-  pub text_in_congestion : b.settings.congestion_control ≡ Congestion.Reno →
+  pub text_in_congestion : b.settings.congestion_control ≢ Congestion.None →
       (text_choice b addresses mtu queued).len ≤ congestion_room b
-  text_in_congestion e = reno_limit b.settings.congestion_control (congestion_room b)
+  text_in_congestion e = held_limit b.settings.congestion_control (congestion_room b)
       (min (b.peer.window - b.sender.in_flight) size) e
 
   text_in_size : (text_choice b addresses mtu queued).len ≤ size_limit b addresses mtu

@@ -147,7 +147,7 @@ fin_place b queued end e = let both = and_parts (owes_fin b.state) (end == queue
 -- what may go is no longer than what is left
 limited_by : (control : CongestionControl) (cwnd window size : ℕ) → congestion_limit control cwnd (min window size) ≤ size
 limited_by Congestion.None cwnd window size = omega arith
-limited_by Congestion.Reno cwnd window size = omega arith
+limited_by other cwnd window size = omega arith
 
 limited : (b : Block) (size : ℕ) → window_limit b size ≤ size
 limited b size = limited_by b.settings.congestion_control (congestion_room b) (b.peer.window - b.sender.in_flight) size

@@ -1,6 +1,6 @@
 //! Which segments are acceptable, and how much a socket sends at once.
 
-ghost use Rattle.std.specs.Prelude.{◌≡◌, ◌↔◌, ◌+◌, ◌-◌, ◌^◌, ◌≤◌, ℕ, max, true, false, List};
+ghost use Rattle.std.specs.Prelude.{◌≡◌, ◌≢◌, ◌↔◌, ◌+◌, ◌-◌, ◌^◌, ◌≤◌, ℕ, max, true, false, List};
 ghost use Rattle.ip_wire.specs.IpRepr.{IpRepr};
 ghost use Rattle.ip_wire.specs.TcpHeader.{TcpHeader};
 ghost use Rattle.net_base.specs.Ring.{Ring};
@@ -43,7 +43,7 @@ pub fn text_keeps_to_the_limits()
     ensures remote { (b : Block) (addresses : AddressPair) (mtu : ℕ) (queued : Ring ℕ)
         → (text_choice b addresses mtu queued).len ≤ b.peer.window - b.sender.in_flight }
     ensures congestion { (b : Block) (addresses : AddressPair) (mtu : ℕ) (queued : Ring ℕ)
-        → b.settings.congestion_control ≡ Congestion.Reno
+        → b.settings.congestion_control ≢ Congestion.None
         → (text_choice b addresses mtu queued).len ≤ congestion_room b }
     ensures payload { (b : Block) (addresses : AddressPair) (mtu : ℕ) (queued : Ring ℕ)
         → (text_choice b addresses mtu queued).len ≤ max 1 (b.peer.mss - stamp_len b) }

@@ -15,6 +15,8 @@ use Rattle.ip_wire.specs.IpAddress.{IpAddress}
 use Rattle.ip_wire.specs.IpAddress.TheVariants as Is
 use Rattle.ip_wire.specs.IpListenEndpoint.{IpListenEndpoint}
 use Rattle.ip_wire.specs.TcpTimestampGenerator.{TcpTimestampGenerator}
+use Rattle.tcp_control.specs.contracts.cubic.CubicPartialEq.TheImpl as Cubed
+use Rattle.tcp_control.specs.contracts.cubic.EpochPartialEq.TheImpl as Staged
 use Rattle.tcp_control.specs.contracts.endpoints.AddressPairPartialEq.TheImpl as Addresses
 use Rattle.tcp_control.specs.contracts.endpoints.EndpointPairPartialEq.TheImpl as Pair
 use Rattle.tcp_control.specs.contracts.offer.OfferKindPartialEq.TheImpl as Kind
@@ -27,6 +29,7 @@ use Rattle.tcp_control.specs.contracts.round_trip.SamplePartialEq.TheImpl as Sam
 use Rattle.tcp_control.specs.contracts.scoreboard.RunPartialEq.TheImpl as Ran
 use Rattle.tcp_control.specs.contracts.scoreboard.ScoreboardPartialEq.TheImpl as Board
 use Rattle.tcp_control.specs.contracts.state.StatePartialEq.TheImpl as States
+use Rattle.tcp_control.specs.declared.cubic.Epoch.{Epoch}
 use Rattle.tcp_control.specs.declared.endpoints.AddressPair.{AddressPair}
 use Rattle.tcp_control.specs.declared.endpoints.AddressPair.TheVariants as Both
 use Rattle.tcp_control.specs.declared.endpoints.EndpointPair.{EndpointPair}
@@ -38,6 +41,7 @@ use Rattle.tcp_control.specs.declared.round_trip.Sample.{Sample}
 use Rattle.tcp_control.specs.declared.scoreboard.Run.{Run}
 use Rattle.tcp_control.specs.declared.scoreboard.Scoreboard.{Scoreboard}
 use Rattle.tcp_control.specs.declared.state.State.{State}
+use Rattle.tcp_control.specs.Cubic.{CubicValue}
 use Rattle.tcp_control.specs.Reno.{RenoValue}
 use Rattle.tcp_control.specs.RoundTrip.{RoundTripValue}
 use Rattle.tcp_model.specs.contracts.block.BlockPartialEq.TheImpl as Blocks
@@ -149,18 +153,49 @@ Decides-reply a b =
       λ e. all.1 (both (ap (λ (v : Reply). v.header) e) (ap (λ (v : Reply). v.segment) e)),
     )
 
+Decides-epoch : (a b : Epoch) → Decides (Staged.ghosts.eq a b) (a ≡ b)
+Decides-epoch a b =
+    let from_k = Decides-and _ _ (Decides-eqb a.k b.k) (Decides-eqb a.w_est b.w_est) in
+    let all = Decides-and _ _ (Decides-int_eq a.since b.since) (from_k) in (
+      λ yes.
+          let parts = all.0 yes in
+          λ i. record { since = parts.0 i; k = parts.1.0 i; w_est = parts.1.1 i },
+      λ e. all.1 (both (ap (λ (v : Epoch). v.since) e) (both (ap (λ (v : Epoch). v.k) e) (ap (λ (v : Epoch). v.w_est) e))),
+    )
+
+Decides-cubic : (a b : CubicValue) → Decides (Cubed.ghosts.eq a b) (a ≡ b)
+Decides-cubic a b =
+    let from_prior =
+    Decides-and _ _ (Decides-eqb a.cwnd_prior b.cwnd_prior) (Decides-option (λ x y. Staged.ghosts.eq x y) Decides-epoch a.epoch b.epoch) in
+    let all = Decides-and _ _ (Decides-eqb a.w_max b.w_max) (from_prior) in (
+      λ yes.
+          let parts = all.0 yes in
+          λ i. record { w_max = parts.0 i; cwnd_prior = parts.1.0 i; epoch = parts.1.1 i },
+      λ e. all.1 (both (ap (λ (v : CubicValue). v.w_max) e) (both (ap (λ (v : CubicValue). v.cwnd_prior) e) (ap (λ (v : CubicValue). v.epoch) e))),
+    )
+
 pub Decides-reno : (a b : RenoValue) → Decides (Window.ghosts.eq a b) (a ≡ b)
 Decides-reno a b =
-    let from_recovers = Decides-and _ _ (booleans_Decides a.recovers b.recovers) (booleans_Decides a.timed_out b.timed_out) in
+    let from_timed_out =
+    Decides-and _ _ (booleans_Decides a.timed_out b.timed_out) (Decides-option (λ x y. Cubed.ghosts.eq x y) Decides-cubic a.cubic b.cubic) in
+    let from_recovers = Decides-and _ _ (booleans_Decides a.recovers b.recovers) (from_timed_out) in
     let from_ssthresh = Decides-and _ _ (Decides-eqb a.ssthresh b.ssthresh) (from_recovers) in
     let from_cwnd = Decides-and _ _ (Decides-eqb a.cwnd b.cwnd) (from_ssthresh) in
     let all = Decides-and _ _ (Decides-eqb a.mss b.mss) (from_cwnd) in (
       λ yes.
           let parts = all.0 yes in
-          λ i. record { mss = parts.0 i; cwnd = parts.1.0 i; ssthresh = parts.1.1.0 i; recovers = parts.1.1.1.0 i; timed_out = parts.1.1.1.1 i },
+          λ i. record {
+            mss = parts.0 i;
+            cwnd = parts.1.0 i;
+            ssthresh = parts.1.1.0 i;
+            recovers = parts.1.1.1.0 i;
+            timed_out = parts.1.1.1.1.0 i;
+            cubic = parts.1.1.1.1.1 i;
+          },
       λ e. all.1 (both (ap (λ (v : RenoValue). v.mss) e)
           (both (ap (λ (v : RenoValue). v.cwnd) e)
-          (both (ap (λ (v : RenoValue). v.ssthresh) e) (both (ap (λ (v : RenoValue). v.recovers) e) (ap (λ (v : RenoValue). v.timed_out) e))))),
+          (both (ap (λ (v : RenoValue). v.ssthresh) e)
+          (both (ap (λ (v : RenoValue). v.recovers) e) (both (ap (λ (v : RenoValue). v.timed_out) e) (ap (λ (v : RenoValue). v.cubic) e)))))),
     )
 
 Decides-estimate : (a b : Estimate) → Decides (Estimated.ghosts.eq a b) (a ≡ b)

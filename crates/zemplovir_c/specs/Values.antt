@@ -101,9 +101,9 @@ moment_or_never (Some moment) = moment
 abbrev pub byte_or_none : ℕ → Option ℕ
 byte_or_none n = if nat_le 256 n then None else Some n
 
--- 0 for none, else Reno's
+-- 0 for none, 2 for CUBIC's, else Reno's
 abbrev pub control_of : ℕ → CongestionControl
-control_of n = if is_on n then Control.Reno else Control.None
+control_of n = if n == 2 then Control.Cubic else if is_on n then Control.Reno else Control.None
 
 -- 0 for none, else they begin with this number
 abbrev pub generator_of : ℕ → ℕ → Option TcpTimestampGenerator

@@ -23,10 +23,15 @@ fn is_on(number: u8) -> bool
     number != 0
 }
 
+/// The number of CUBIC's congestion control.
+const CUBIC: u8 = 2;
+
 fn control_of(number: u8) -> CongestionControl
     ensures { result ≡ control_of number }
 {
-    if is_on(number) {
+    if number == CUBIC {
+        CongestionControl::Cubic
+    } else if is_on(number) {
         CongestionControl::Reno
     } else {
         CongestionControl::None
@@ -171,20 +176,20 @@ pub extern "C" fn zv_tcp_set_retries(
     tcp_act(alloc, handle, socket, Act::Retries(byte_or_none(limit)))
 }
 
-/// Whether what is sent is held back where congestion may be.
+/// How what is sent is held back where congestion may be.
 #[unsafe(no_mangle)]
 pub extern "C" fn zv_tcp_set_congestion_control(
     alloc: Global,
     handle: &mut Handle,
     socket: usize,
-    enabled: u8,
+    control: u8,
 ) -> u32
-    ensures answer { result ≡ answer_by handle.old.inside (λ host. answer_at as_tcp (act_answer (To.Congestion (control_of enabled))) host.places socket) }
+    ensures answer { result ≡ answer_by handle.old.inside (λ host. answer_at as_tcp (act_answer (To.Congestion (control_of control))) host.places socket) }
     ensures after { handle.new.inside ≡
         after_by handle.old.inside
-        (λ host. record host { places = after_at as_tcp Kind.Tcp (act_after (To.Congestion (control_of enabled))) host.places socket }) }
+        (λ host. record host { places = after_at as_tcp Kind.Tcp (act_after (To.Congestion (control_of control))) host.places socket }) }
 {
-    tcp_act(alloc, handle, socket, Act::Congestion(control_of(enabled)))
+    tcp_act(alloc, handle, socket, Act::Congestion(control_of(control)))
 }
 
 /// Whether segments carry timestamps, which begin with this number.

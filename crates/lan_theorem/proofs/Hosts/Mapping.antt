@@ -11,7 +11,7 @@ use Rattle.interface_egress.specs.declared.socket_set.Item.{Item}
 use Rattle.interface_egress.specs.declared.socket_set.SocketStorage.{SocketStorage}
 use Rattle.interface_egress.specs.Departure as Departures
 use Rattle.interface_egress.specs.Departure.{Departure}
-use Rattle.interface_egress.specs.Fragments.{LeftValue, next_departure}
+use Rattle.interface_egress.specs.Fragments.{LeftValue, departure_from}
 use Rattle.interface_egress.specs.GoesOut.{GoesOut, PieceGoesOut, Departs, Asked, Went, WasCut, frame_of, frame_len_of, numbered, cut_of}
 use Rattle.interface_egress.specs.Plan.{plan_of}
 use Rattle.interface_egress.specs.declared.plan.Plan.{Plan}
@@ -116,9 +116,9 @@ module _ {D E : Type 0} (f : D → E) (moves : D → Move → D → Type 0) (oth
   was_cut : (old new : D) (i i' : InnerValue) (l l' : Option LeftValue) (c : LeftValue) (sent : Sent) → WasCut moves old i l c sent new i' l' →
       Leads old new (WasCut others (f old) i l c sent (f new) i' l')
   was_cut old new i i' l l' c Outcome.Gone goes =
-      departs_and old new i (next_departure i.mtu c) true (WasCut others (f old) i l c Outcome.Gone (f new) i' l') (λ x. (x, goes.1, goes.2)) goes.0
+      departs_and old new i (departure_from i c) true (WasCut others (f old) i l c Outcome.Gone (f new) i' l') (λ x. (x, goes.1, goes.2)) goes.0
   was_cut old new i i' l l' c Outcome.Refused goes =
-      departs_and old new i (next_departure i.mtu c) false (WasCut others (f old) i l c Outcome.Refused (f new) i' l') (λ x. (x, goes.1, goes.2)) goes.0
+      departs_and old new i (departure_from i c) false (WasCut others (f old) i l c Outcome.Refused (f new) i' l') (λ x. (x, goes.1, goes.2)) goes.0
   was_cut old new i i' l l' c Outcome.Waits goes = absurd goes
   was_cut old new i i' l l' c Outcome.Dropped goes = absurd goes
   was_cut old new i i' l l' c Outcome.Busy goes = absurd goes
@@ -146,9 +146,9 @@ module _ {D E : Type 0} (f : D → E) (moves : D → Move → D → Type 0) (oth
   piece_out : (old new : D) (i : InnerValue) (l : LeftValue) (gone : Bool) (l' : Option LeftValue) → PieceGoesOut moves old i l gone new l' →
       Leads old new (PieceGoesOut others (f old) i l gone (f new) l')
   piece_out old new i l true l' goes =
-      departs_and old new i (next_departure i.mtu l) true (PieceGoesOut others (f old) i l true (f new) l') (λ x. (x, goes.1)) goes.0
+      departs_and old new i (departure_from i l) true (PieceGoesOut others (f old) i l true (f new) l') (λ x. (x, goes.1)) goes.0
   piece_out old new i l false l' goes =
-      departs_and old new i (next_departure i.mtu l) false (PieceGoesOut others (f old) i l false (f new) l') (λ x. (x, goes.1)) goes.0
+      departs_and old new i (departure_from i l) false (PieceGoesOut others (f old) i l false (f new) l') (λ x. (x, goes.1)) goes.0
 
   -- TURNS
 
@@ -169,9 +169,10 @@ module _ {D E : Type 0} (f : D → E) (moves : D → Move → D → Type 0) (oth
         → Leads x.device y.device (SendsBy others turn o (on_sender x) item changed a (on_sender y) m)
     sends None x y item m changed a one = absurd one
     sends (Some p) x y item m changed a one =
-        so x.device y.device (Leaves others turn (on_sender x) item.meta p one.0 (on_sender y))
-        (SendsBy others turn (Some p) (on_sender x) item changed a (on_sender y) m) (λ n. (one.0, n, one.2, one.3, one.4))
-        (leaves x y item.meta p one.0 one.1)
+        so x.device y.device (Leaves others turn (on_sender x) item.meta one.0 one.3.0 (on_sender y))
+        (SendsBy others turn (Some p) (on_sender x) item changed a (on_sender y) m)
+        (λ n. (one.0, one.1, one.2, (one.3.0, n, one.3.2, one.3.3, one.3.4)))
+        (leaves x y item.meta one.0 one.3.0 one.3.1)
 
     same_device : (x y : Sender D) → y ≡ x → y.device ≡ x.device
     same_device x y is = ap (λ (v : Sender D). v.device) is

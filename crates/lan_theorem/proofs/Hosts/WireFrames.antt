@@ -1,5 +1,5 @@
 -- Frames on Ethernet that are no requests: each but a question's, by its EtherType, and by what stands behind that.
-use Rattle.std.proofs.Common.{◌≡◌, ℕ, ◌+◌, Bool, true, false, List, ◌++◌, length, refl, sym, ◌∙◌, ap, arith, length-append, append_assoc}
+use Rattle.std.proofs.Common.{◌≡◌, ℕ, ◌+◌, Bool, true, false, List, ◌++◌, length, Option, refl, sym, ◌∙◌, ap, arith, length-append, append_assoc}
 use Rattle.std.specs.Int.{w16, to_be_bytes}
 use Rattle.ip_address.specs.Protocol.{ether_number}
 use Rattle.interface_egress.specs.Arp as Arps
@@ -13,6 +13,8 @@ use Rattle.interface_ingress.specs.EthernetProtocol.TheVariants as Ether
 use Rattle.interface_ingress.specs.Fields.{be16}
 use Rattle.interface_ingress.specs.HardwareAddress.{HardwareAddress}
 use Rattle.interface_ingress.specs.HardwareAddress.TheVariants as Hardware
+use Rattle.interface_ingress.specs.IpAddress.{IpAddress}
+use Rattle.interface.specs.Turn.{with_source}
 use Rattle.interface_delivery.specs.IpRepr.{IpRepr}
 use Rattle.interface_delivery.specs.IpRepr.TheVariants as Ip
 use Rattle.interface_delivery.specs.Ipv4 as Ipv4
@@ -31,13 +33,15 @@ use Rattle.lan_theorem.proofs.Link.Behind.{with_len}
 use Rattle.lan_theorem.proofs.Link.Links.{number_behind, addresses}
 use Rattle.lan_theorem.proofs.Link.Spelled.{length_v4, length_v6}
 
--- What is known of a test of frames: no answer in ARP passes, no frame of IPv4, and none of an IPv6 packet that may go.
+-- What is known of a test of frames: no answer in ARP passes, no frame of IPv4, and none of an IPv6 packet that may go, from whatever
+-- source.
 pub record IsTest (T : List ℕ → Bool) (May : IpRepr → PayloadValue → Type 0) : Type 0 where
   pub told : (link rest : List ℕ) → length link ≡ 14 → be16 (link ++ rest) 12 ≡ 0x0806 → be16 rest 6 ≡ 2 → T (link ++ rest) ≡ false
   pub four : (link rest : List ℕ) → be16 (link ++ rest) 12 ≡ 0x0800 → T (link ++ rest) ≡ false
   pub six : (link : List ℕ) (v : Ipv6Repr) (x : PayloadValue) → length link ≡ 14
       → be16 (link ++ (Ipv6.written v ++ payload_written sealed (Ip.Ipv6 v) x)) 12 ≡ 0x86dd → Ipv6.IsValue v → May (Ip.Ipv6 v) x
       → T (link ++ (Ipv6.written v ++ payload_written sealed (Ip.Ipv6 v) x)) ≡ false
+  pub sourced : (h : IpRepr) (s : Option IpAddress) (x : PayloadValue) → May h x → May (with_source h s) x
 
 -- an answer in ARP
 abbrev pub IsReply : ArpRepr → Type 0

@@ -7,9 +7,11 @@ use Rattle.interface_ingress.specs.Fields.{be16}
 use Rattle.interface_ingress.specs.Icmpv4Header.{Icmpv4Header}
 use Rattle.interface_ingress.specs.Icmpv6 as Icmpv6
 use Rattle.interface_ingress.specs.Icmpv6.{MessageValue}
+use Rattle.interface_ingress.specs.IpAddress.{IpAddress}
 use Rattle.interface_ingress.specs.IpProtocol.{IpProtocol}
 use Rattle.interface_ingress.specs.IpProtocol.TheVariants as Protocol
 use Rattle.interface_ingress.specs.Sent.{IsV4}
+use Rattle.interface.specs.Turn.{with_source}
 use Rattle.interface_delivery.specs.Ip.{carried_in}
 use Rattle.interface_delivery.specs.IpRepr.{IpRepr}
 use Rattle.interface_delivery.specs.IpRepr.TheVariants as Ip
@@ -55,6 +57,7 @@ use Rattle.lan_theorem.proofs.Moves.EachSocket.{IsOfSockets}
 use Rattle.lan_theorem.proofs.Moves.Offering.{takes_one}
 use Rattle.lan_theorem.proofs.Moves.Places.{Places}
 use Rattle.lan_theorem.proofs.Moves.Protocols.{offered_names}
+use Rattle.lan_theorem.proofs.Moves.Sourced.{sourced_v4, sourced_carries}
 
 -- NUMBERS
 
@@ -97,6 +100,7 @@ request_test = record {
   six = λ link v x len is value may.
       let frame : List ℕ = link ++ (Ipv6.written v ++ payload_written sealed (Ip.Ipv6 v) x) in
       other_type (be16 frame 12) 0x0806 0x86dd (be16 frame 20 == 1) is refl;
+  sourced = λ h s x may. tt;
 }
 
 -- SOLICITATIONS
@@ -164,6 +168,13 @@ module _ (link : List ℕ) (v : Ipv6Repr) (len : length link ≡ 14) (value : Ip
       let x : PayloadValue = Segment header bytes in
       other_next (be16 (frame_of x) 12 == 0x86dd) (slice_index (frame_of x) 20) Protocol.Tcp (slice_index (frame_of x) 54 == 135) (next x) may refl
 
+asks_nobody_from : (h : IpRepr) (s : Option IpAddress) (x : PayloadValue) → AsksNobody h x → AsksNobody (with_source h s) x
+asks_nobody_from h s (ControlV4 message bytes) may = sourced_v4 h s may
+asks_nobody_from h s (ControlV6 message bytes) may = may
+asks_nobody_from h s (Bytes bytes) may = absurd may
+asks_nobody_from h s (Datagram udp bytes) may = sourced_carries h s ∙ may
+asks_nobody_from h s (Segment header bytes) may = sourced_carries h s ∙ may
+
 pub asks_test : IsTest asks AsksNobody
 asks_test = record {
   told = λ link rest len arp reply.
@@ -178,6 +189,7 @@ asks_test = record {
       let frame : List ℕ = link ++ (Ipv6.written v ++ payload_written sealed (Ip.Ipv6 v) x) in
       neither (is_request frame) (is_solicitation frame) (other_type (be16 frame 12) 0x0806 0x86dd (be16 frame 20 == 1) is refl)
       (solicits_none link v len value x may);
+  sourced = asks_nobody_from;
 }
 
 -- SOCKETS

@@ -16,10 +16,10 @@ use Rattle.interface_delivery.specs.Delivered.{IsWritable}
 use Rattle.interface_delivery.specs.Taken.{IsOffered, IsHalfSent}
 use Rattle.interface_delivery.specs.Widths.{IsPayload}
 use Rattle.interface_delivery.proofs.Offered.{writes, begun_half, left_half}
-use Rattle.interface_tables.specs.Inner.{InnerValue, context_of, with_next_ident, with_request}
+use Rattle.interface_tables.specs.Inner.{InnerValue, with_next_ident, with_request}
 use Rattle.interface_egress.specs.Departure.{Tells, Whole, arp_frame, packet_frame, packet_frame_len, piece_frame, piece_frame_len, question_frame}
 use Rattle.interface_egress.specs.Departure.{target_of}
-use Rattle.interface_egress.specs.Fragments.{LeftValue, piece_room, next_piece, next_departure, left_after}
+use Rattle.interface_egress.specs.Fragments.{LeftValue, piece_room, piece_from, departure_from, cut_mtu, left_after, left_from}
 use Rattle.interface_egress.specs.GoesOut.{GoesOut, Asked, Went, WasCut, PieceGoesOut, Departs, Stays, numbered, after_header, cut_of}
 use Rattle.interface_egress.specs.Plan.{plan_of}
 use Rattle.interface_egress.specs.declared.frame.Question.{Question}
@@ -40,10 +40,12 @@ use Rattle.interface.specs.Ingress.{Takes, Replied, is_awaited, sender_of, sende
 use Rattle.interface.proofs.Kept.{RunsAt, IsKept}
 use Rattle.interface.specs.State.{State, at_device}
 use Rattle.interface.specs.Touches.{second_after}
+use Rattle.interface.specs.Remote.{context_for}
 use Rattle.interface.specs.Turn.{Leaves, SendsBy, Answers, TurnsIf, ItemTurns, is_waiting, let_through}
 use Rattle.interface.specs.WayOut.{PieceLeaves}
 use Rattle.interface.specs.declared.turn.Turned.{Turned}
 use Rattle.interface.proofs.Keep.{polls_keep}
+use Rattle.interface.proofs.Sourced.{as_sourced}
 use Rattle.lan_hosts.specs.Port.{LinkEnd, PortValue, PortMove}
 use Rattle.lan_hosts.specs.Station.{StationValue, at_port}
 use Rattle.lan_hosts.specs.Steps.{PollsAt}
@@ -274,11 +276,11 @@ module _ (T : List ℕ → Bool) (May : IpRepr → PayloadValue → Type 0) (W :
   so_went to p Outcome.Busy d d' i i' l w same may goes so = absurd goes
 
   -- the frame of a piece that went
-  so_piece : (c : LeftValue) (d d' : PortValue) (i : InnerValue) (l : Option LeftValue) → IsLeftSo c → Departs PortMove d i (next_departure i.mtu c) true d' →
+  so_piece : (c : LeftValue) (d d' : PortValue) (i : InnerValue) (l : Option LeftValue) → IsLeftSo c → Departs PortMove d i (departure_from i c) true d' →
       So d i l → So d' i l
   so_piece c d d' i l left goes so =
       let caps : i.checksums ≡ sealed = so.sound.checksums in
-      let piece = next_piece i.mtu c in
+      let piece = piece_from i c in
       let len : length (piece_frame sealed i.hardware c.to c.header piece) ≡ piece_frame_len i.hardware c.to piece =
       subst (λ (k : ChecksumCapabilities). length (piece_frame k i.hardware c.to c.header piece) ≡ piece_frame_len i.hardware c.to piece) caps goes.1 in
       let quiet : T (piece_frame i.checksums i.hardware c.to c.header piece) ≡ false =
@@ -289,8 +291,8 @@ module _ (T : List ℕ → Bool) (May : IpRepr → PayloadValue → Type 0) (W :
   so_cut : (c : LeftValue) (sent : Sent) (d d' : PortValue) (i i' : InnerValue) (l l' : Option LeftValue) → IsLeftSo c → WasCut PortMove d i l c sent d' i' l' →
       So d i l → So d' i' l'
   so_cut c Outcome.Gone d d' i i' l l' left goes so =
-      so_where d' (with_next_ident i) i' (left_after i.mtu c) l' goes.1 goes.2
-      (so_left d' (with_next_ident i) l (left_after i.mtu c) (rest_so i.mtu c left)
+      so_where d' (with_next_ident i) i' (left_from i c) l' goes.1 goes.2
+      (so_left d' (with_next_ident i) l (left_from i c) (rest_so (cut_mtu i c) c left)
       (so_host d' i (with_next_ident i) l (next_sound i so.sound) refl refl (so_piece c d d' i l left goes.0 so)))
   so_cut c Outcome.Refused d d' i i' l l' left goes so =
       so_where d' i i' l l' goes.1 goes.2 (so_device d d' i l (ap (λ (x : PortValue). x.link.sent) goes.0.0) so)
@@ -390,8 +392,8 @@ module _ (T : List ℕ → Bool) (May : IpRepr → PayloadValue → Type 0) (W :
         by : (gone : Bool) → PieceGoesOut PortMove goes.0 x.inner c gone x'.device x'.left → So goes.0 x.inner x.left → So x'.device x.inner x'.left
         by true out so =
             let left : IsLeftSo c = subst (λ (o : Option LeftValue). IfSome o IsLeftSo) is so.left in
-            so_where x'.device x.inner x.inner (left_after x.inner.mtu c) x'.left refl out.1
-            (so_left x'.device x.inner x.left (left_after x.inner.mtu c) (rest_so x.inner.mtu c left)
+            so_where x'.device x.inner x.inner (left_from x.inner c) x'.left refl out.1
+            (so_left x'.device x.inner x.left (left_from x.inner c) (rest_so (cut_mtu x.inner c) c left)
             (so_piece c goes.0 x'.device x.inner x.left left out.0 so))
         by false out so =
             so_where x'.device x.inner x.inner x.left x'.left refl (out.1 ∙ sym is)
@@ -415,7 +417,9 @@ module _ (T : List ℕ → Bool) (May : IpRepr → PayloadValue → Type 0) (W :
     so_sent : (o : Option PacketValue) (item item' : Item Socket) (changed : Bool) (turned : Turned) →
         ((p : PacketValue) → o ≡ Some p → May p.header p.payload) → SendsBy PortMove turn o x item changed turned x' item' → Next
     so_sent None item item' changed turned may sends = absurd sends
-    so_sent (Some p) item item' changed turned may sends = so_leaves item.meta p sends.0 sends.4 (may p refl) sends.1
+    so_sent (Some p) item item' changed turned may sends =
+        so_leaves item.meta sends.0 sends.3.0 sends.3.4
+        (subst (λ (q : PacketValue). May q.header q.payload) (sym sends.1) (as_sourced May test.sourced x.inner p (may p refl))) sends.3.1
 
     so_answers : (answer : Answer.Offer) (item item' : Item Socket) (turned : Turned) →
         ((p : PacketValue) → offered_by item.socket ≡ Some p → May p.header p.payload) → Answers PortMove turn answer x item turned x' item' → Next
@@ -426,7 +430,7 @@ module _ (T : List ℕ → Bool) (May : IpRepr → PayloadValue → Type 0) (W :
     so_turns true item item' turned holds turns = so_same turns.1
     so_turns false item item' turned holds turns =
         so_answers turns.0 (record item { socket = turns.1 }) item' turned
-        (λ p is. offers (context_of x.inner) item.socket turns.1 turns.0 p holds turns.2 is) turns.3
+        (λ p is. offers (context_for x.inner item.socket) item.socket turns.1 turns.0 p holds turns.2 is) turns.3
 
     so_item : (o o' : Option (Item Socket)) (turned : Turned) → OfItem W o → ItemTurns PortMove turn o x turned x' o' → Next
     so_item None None turned holds turns = so_same turns.1

@@ -15,7 +15,7 @@ use Rattle.interface_delivery.specs.IpRepr.TheVariants as Ip
 use Rattle.interface_ingress.specs.Ipv4Address.{Ipv4Address}
 use Rattle.interface_delivery.specs.Ipv4Repr.{Ipv4Repr}
 use Rattle.interface_tables.specs.Best.{at_place}
-use Rattle.interface_tables.specs.Inner.{InnerValue, is_local_broadcast, is_on_link, next_hop, link_by, link_of_hop, link_on, link_address}
+use Rattle.interface_tables.specs.Inner.{InnerValue, mtu_to, is_local_broadcast, is_on_link, next_hop, link_by, link_of_hop, link_on, link_address}
 use Rattle.interface_tables.specs.Inner.{group_station, all_stations}
 use Rattle.interface_tables.specs.Neighbor.{CacheValue, lookup, missing, answer_by, place_of, unless_failed, has_failed}
 use Rattle.interface_tables.specs.Route.{best_route, router_of}
@@ -158,7 +158,7 @@ ask_if_by own i hop true is = ask_by own i.hardware i hop is
 ask_if_by own i hop false is = tt
 
 by_link : (own : HardwareAddress) (i : InnerValue) (busy : Bool) (h : IpRepr) (l : LinkAddress) → LinkKind own l → PlanKind own (plan_by l i busy h)
-by_link own i busy h (Link.Known to) is = to_by own to busy h (nat_le (total_len h) i.mtu) is
+by_link own i busy h (Link.Known to) is = to_by own to busy h (nat_le (total_len h) (mtu_to i (destination_of h))) is
 by_link own i busy h Link.NoRoute is = tt
 by_link own i busy h Link.Silent is = tt
 by_link own i busy h Link.Unanswered is = tt

@@ -18,7 +18,7 @@ use Rattle.sockets.specs.Packet.{PacketValue, PayloadValue, packet_of, payload_w
 use Rattle.interface_tables.specs.Inner.{InnerValue, with_next_ident, with_request}
 use Rattle.interface_egress.specs.Departure.{Asks, Tells, Whole, question_frame, arp_frame, packet_frame, packet_frame_len, piece_frame, piece_frame_len}
 use Rattle.interface_egress.specs.Departure.{target_of}
-use Rattle.interface_egress.specs.Fragments.{LeftValue, piece_room, next_piece, next_departure, left_after}
+use Rattle.interface_egress.specs.Fragments.{LeftValue, piece_room, piece_from, departure_from, cut_mtu, left_from}
 use Rattle.interface_egress.specs.GoesOut.{GoesOut, Asked, Went, WasCut, PieceGoesOut, Departs, Stays, numbered_header, numbered, after_header, cut_of}
 use Rattle.interface_egress.specs.Emits.{Emits}
 use Rattle.interface_egress.specs.Plan.{total_len, longest_cut, plan_of}
@@ -261,44 +261,44 @@ module _ (made : PayloadValue →
         to = kind;
       }
 
-      cut_rest : (b : Bool) → IfSome (cond b (Some (record c { at = c.at + piece_room i.mtu })) None) IsHalfSent →
-          IfSome (cond b (Some (record c { at = c.at + piece_room i.mtu })) None) (IsLeft i.hardware more)
+      cut_rest : (b : Bool) → IfSome (cond b (Some (record c { at = c.at + piece_room (cut_mtu i c) })) None) IsHalfSent →
+          IfSome (cond b (Some (record c { at = c.at + piece_room (cut_mtu i c) })) None) (IsLeft i.hardware more)
       cut_rest true is = record { sent = cut_left.sent; half = is; to = kind }
       cut_rest false is = tt
 
-      cut_sender : (d' : PortValue) → Departs PortMove d i (next_departure i.mtu c) true d' →
-          IsSender made first (with_next_ident i) (left_after i.mtu c) d'.link.sent more
+      cut_sender : (d' : PortValue) → Departs PortMove d i (departure_from i c) true d' →
+          IsSender made first (with_next_ident i) (left_from i c) d'.link.sent more
       cut_sender d' departs =
           let caps : i.checksums ≡ sealed = s.sound.checksums in
           let all_len : total_len p.header ≤ 65535 = subst (λ (h : IpRepr). total_len h ≤ 65535) (sym header) (omega (arith, short)) in
           let are = are_more all_len in
-          let len : length (piece_frame sealed i.hardware to c.header (next_piece i.mtu c)) ≡ piece_frame_len i.hardware to (next_piece i.mtu c) =
-          subst (λ (k : ChecksumCapabilities). length (piece_frame k i.hardware to c.header (next_piece i.mtu c)) ≡
-          piece_frame_len i.hardware to (next_piece i.mtu c)) caps departs.1 in
-          let frame : IsHostFrame (medium_on i.hardware) more (piece_frame i.checksums i.hardware to c.header (next_piece i.mtu c)) =
-          subst (λ (k : ChecksumCapabilities). IsHostFrame (medium_on i.hardware) more (piece_frame k i.hardware to c.header (next_piece i.mtu c))) (sym caps)
-          (piece_frame_is i.hardware more i.mtu c cut_left len) in
+          let len : length (piece_frame sealed i.hardware to c.header (piece_from i c)) ≡ piece_frame_len i.hardware to (piece_from i c) =
+          subst (λ (k : ChecksumCapabilities). length (piece_frame k i.hardware to c.header (piece_from i c)) ≡
+          piece_frame_len i.hardware to (piece_from i c)) caps departs.1 in
+          let frame : IsHostFrame (medium_on i.hardware) more (piece_frame i.checksums i.hardware to c.header (piece_from i c)) =
+          subst (λ (k : ChecksumCapabilities). IsHostFrame (medium_on i.hardware) more (piece_frame k i.hardware to c.header (piece_from i c))) (sym caps)
+          (piece_frame_is i.hardware more (cut_mtu i c) c cut_left len) in
           record {
             sound = next_sound i s.sound;
             are_sent = record { packets = are.packets; numbered = subst (λ (h : IpRepr). AreNumbered first more (after_header h i).ident) header are.numbered };
-            left_is = cut_rest (nat_lt (c.at + piece_room i.mtu) (length c.payload)) (left_half i.mtu c half);
+            left_is = cut_rest (nat_lt (c.at + piece_room (cut_mtu i c)) (length c.payload)) (left_half (cut_mtu i c) c half);
             frames = subst (λ (fs : List (List ℕ)). AllByRecursion (IsHostFrame (medium_on i.hardware) more) fs)
-                (sym (emitted d d' (piece_frame i.checksums i.hardware to c.header (next_piece i.mtu c))
-                (piece_frame_len i.hardware to (next_piece i.mtu c)) departs))
-                (frames_more (piece_frame i.checksums i.hardware to c.header (next_piece i.mtu c)) frame);
+                (sym (emitted d d' (piece_frame i.checksums i.hardware to c.header (piece_from i c))
+                (piece_frame_len i.hardware to (piece_from i c)) departs))
+                (frames_more (piece_frame i.checksums i.hardware to c.header (piece_from i c)) frame);
           }
 
-      cut_tied : (d' : PortValue) → Departs PortMove d i (next_departure i.mtu c) true d' → IsTied (medium_on i.hardware) out d.link.sent more d'.link.sent
+      cut_tied : (d' : PortValue) → Departs PortMove d i (departure_from i c) true d' → IsTied (medium_on i.hardware) out d.link.sent more d'.link.sent
       cut_tied d' departs =
           let caps : i.checksums ≡ sealed = s.sound.checksums in
-          let frame : List ℕ = piece_frame sealed i.hardware to c.header (next_piece i.mtu c) in
-          let len : length frame ≡ piece_frame_len i.hardware to (next_piece i.mtu c) =
-          subst (λ (k : ChecksumCapabilities). length (piece_frame k i.hardware to c.header (next_piece i.mtu c)) ≡
-          piece_frame_len i.hardware to (next_piece i.mtu c)) caps departs.1 in
-          let one : worth (begins_datagram (medium_on i.hardware) frame) ≡ 1 = ap worth (piece_begins i.hardware more i.mtu c cut_left len refl) in
+          let frame : List ℕ = piece_frame sealed i.hardware to c.header (piece_from i c) in
+          let len : length frame ≡ piece_frame_len i.hardware to (piece_from i c) =
+          subst (λ (k : ChecksumCapabilities). length (piece_frame k i.hardware to c.header (piece_from i c)) ≡
+          piece_frame_len i.hardware to (piece_from i c)) caps departs.1 in
+          let one : worth (begins_datagram (medium_on i.hardware) frame) ≡ 1 = ap worth (piece_begins i.hardware more (cut_mtu i c) c cut_left len refl) in
           tied_frame (medium_on i.hardware) out more d.link.sent d'.link.sent frame
-          (emitted d d' (piece_frame i.checksums i.hardware to c.header (next_piece i.mtu c)) (piece_frame_len i.hardware to (next_piece i.mtu c)) departs
-          ∙ ap (λ (k : ChecksumCapabilities). d.link.sent ++ piece_frame k i.hardware to c.header (next_piece i.mtu c) ∷ []) caps)
+          (emitted d d' (piece_frame i.checksums i.hardware to c.header (piece_from i c)) (piece_frame_len i.hardware to (piece_from i c)) departs
+          ∙ ap (λ (k : ChecksumCapabilities). d.link.sent ++ piece_frame k i.hardware to c.header (piece_from i c) ∷ []) caps)
           (omega (arith, one, one_at_most))
 
       was_cut : (sent : Sent) (d' : PortValue) (i' : InnerValue) (l' : Option LeftValue) → WasCut PortMove d i l c sent d' i' l' →
@@ -308,11 +308,11 @@ module _ (made : PayloadValue →
         grows = grows_more;
         count = one_at_most;
         tied = tied_on i.hardware i'.hardware out more d.link.sent d'.link.sent (ap (λ (x : InnerValue). x.hardware) goes.1) (cut_tied d' goes.0);
-        sender = same_sender made first more (with_next_ident i) i' (left_after i.mtu c) l' d'.link.sent d'.link.sent goes.1 goes.2 refl (cut_sender d' goes.0);
+        sender = same_sender made first more (with_next_ident i) i' (left_from i c) l' d'.link.sent d'.link.sent goes.1 goes.2 refl (cut_sender d' goes.0);
       }
       was_cut Outcome.Refused d' i' l' goes =
           unchanged made first 1 out i i' l l' d.link.sent d'.link.sent goes.1 goes.2
-          (denied d d' [] (piece_frame_len i.hardware to (next_piece i.mtu c)) goes.0) s
+          (denied d d' [] (piece_frame_len i.hardware to (piece_from i c)) goes.0) s
       was_cut Outcome.Dropped d' i' l' goes = absurd goes
       was_cut Outcome.Waits d' i' l' goes = absurd goes
       was_cut Outcome.Busy d' i' l' goes = absurd goes
@@ -362,7 +362,7 @@ module _ (made : PayloadValue →
   cut_not p to v Outcome.Gone d' i' l' unsent goes = absurd (unsent refl)
   cut_not p to v Outcome.Refused d' i' l' unsent goes =
       unchanged made first 1 out i i' l l' d.link.sent d'.link.sent goes.1 goes.2
-      (denied d d' [] (piece_frame_len i.hardware to (next_piece i.mtu (cut_of i to v p))) goes.0) s
+      (denied d d' [] (piece_frame_len i.hardware to (piece_from i (cut_of i to v p))) goes.0) s
   cut_not p to v Outcome.Dropped d' i' l' unsent goes = absurd goes
   cut_not p to v Outcome.Waits d' i' l' unsent goes = absurd goes
   cut_not p to v Outcome.Busy d' i' l' unsent goes = absurd goes
@@ -433,23 +433,24 @@ rest_by hardware out mtu c false left is = tt
 
 module _ (made : PayloadValue →
     Type 0) (first : ℕ) (out : List PacketValue) (i : InnerValue) (c : LeftValue) (d : PortValue) (s : IsSender made first i (Some c) d.link.sent out) where
-  piece_sender : (d' : PortValue) → Departs PortMove d i (next_departure i.mtu c) true d' → IsSender made first i (left_after i.mtu c) d'.link.sent out
+  piece_sender : (d' : PortValue) → Departs PortMove d i (departure_from i c) true d' → IsSender made first i (left_from i c) d'.link.sent out
   piece_sender d' departs =
       let caps : i.checksums ≡ sealed = s.sound.checksums in
       let left : IsLeft i.hardware out c = s.left_is in
-      let len : length (piece_frame sealed i.hardware c.to c.header (next_piece i.mtu c)) ≡ piece_frame_len i.hardware c.to (next_piece i.mtu c) =
-      subst (λ (k : ChecksumCapabilities). length (piece_frame k i.hardware c.to c.header (next_piece i.mtu c)) ≡
-      piece_frame_len i.hardware c.to (next_piece i.mtu c)) caps departs.1 in
-      let frame : IsHostFrame (medium_on i.hardware) out (piece_frame i.checksums i.hardware c.to c.header (next_piece i.mtu c)) =
-      subst (λ (k : ChecksumCapabilities). IsHostFrame (medium_on i.hardware) out (piece_frame k i.hardware c.to c.header (next_piece i.mtu c))) (sym caps)
-      (piece_frame_is i.hardware out i.mtu c left len) in
+      let len : length (piece_frame sealed i.hardware c.to c.header (piece_from i c)) ≡ piece_frame_len i.hardware c.to (piece_from i c) =
+      subst (λ (k : ChecksumCapabilities). length (piece_frame k i.hardware c.to c.header (piece_from i c)) ≡
+      piece_frame_len i.hardware c.to (piece_from i c)) caps departs.1 in
+      let frame : IsHostFrame (medium_on i.hardware) out (piece_frame i.checksums i.hardware c.to c.header (piece_from i c)) =
+      subst (λ (k : ChecksumCapabilities). IsHostFrame (medium_on i.hardware) out (piece_frame k i.hardware c.to c.header (piece_from i c))) (sym caps)
+      (piece_frame_is i.hardware out (cut_mtu i c) c left len) in
       record {
         sound = s.sound;
         are_sent = s.are_sent;
-        left_is = rest_by i.hardware out i.mtu c (nat_lt (c.at + piece_room i.mtu) (length c.payload)) left (left_half i.mtu c left.half);
+        left_is = rest_by i.hardware out (cut_mtu i c) c
+            (nat_lt (c.at + piece_room (cut_mtu i c)) (length c.payload)) left (left_half (cut_mtu i c) c left.half);
         frames = subst (λ (fs : List (List ℕ)). AllByRecursion (IsHostFrame (medium_on i.hardware) out) fs)
             (sym (ap (λ (x : PortValue). x.link.sent) departs.0))
-            (all_more (IsHostFrame (medium_on i.hardware) out) d.link.sent (piece_frame i.checksums i.hardware c.to c.header (next_piece i.mtu c))
+            (all_more (IsHostFrame (medium_on i.hardware) out) d.link.sent (piece_frame i.checksums i.hardware c.to c.header (piece_from i c))
             s.frames frame);
       }
 
@@ -457,8 +458,8 @@ module _ (made : PayloadValue →
   pub piece_keeps : (gone : Bool) (d' : PortValue) (l' : Option LeftValue) → PieceGoesOut PortMove d i c gone d' l' →
       WentOut made first 0 out d.link.sent i l' d'.link.sent
   piece_keeps true d' l' goes =
-      one_frame made first 0 out i l' d.link.sent d'.link.sent (piece_frame i.checksums i.hardware c.to c.header (next_piece i.mtu c))
+      one_frame made first 0 out i l' d.link.sent d'.link.sent (piece_frame i.checksums i.hardware c.to c.header (piece_from i c))
       (ap (λ (x : PortValue). x.link.sent) goes.0.0)
-      (same_sender made first out i i (left_after i.mtu c) l' d'.link.sent d'.link.sent refl goes.1 refl (piece_sender d' goes.0))
+      (same_sender made first out i i (left_from i c) l' d'.link.sent d'.link.sent refl goes.1 refl (piece_sender d' goes.0))
   piece_keeps false d' l' goes =
       unchanged made first 0 out i i (Some c) l' d.link.sent d'.link.sent refl goes.1 (ap (λ (x : PortValue). x.link.sent) goes.0.0) s

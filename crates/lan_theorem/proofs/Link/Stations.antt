@@ -32,6 +32,7 @@ use Rattle.interface_ingress.specs.Arrives.{Arrived, ArrivesV4, ArrivesV6, Bring
 use Rattle.interface_ingress.specs.Delivered.{Places, drawn_if, is_taken_raw, segment_draws, packet_delivered}
 use Rattle.interface_ingress.specs.Handed.{handed_host, handed_reply, is_unclaimed, limited_host, message_host, control_v6_host, names_nobody}
 use Rattle.interface_ingress.proofs.Limit.{counted_so}
+use Rattle.interface_ingress.proofs.PathTold.{path_v4_so, path_v6_so}
 use Rattle.interface_ingress.specs.Reassembled.{is_control_v6}
 use Rattle.interface_ingress.specs.Heard.{neighbor_heard, heard, heard_on, station, learned, advertised, replaces, counts, tells, answer}
 use Rattle.interface_ingress.specs.Incoming.{IncomingValue, Arp, Ip4, Ip6}
@@ -122,34 +123,40 @@ near_heard (Hardware.Ethernet own) i header (Advertisement flags target link) ne
     elim (tells header flags target link) as (λ b. AreNear (cond b (heard (advertised i flags target link) None) (heard i None)).inner)
     [ true ↦ near_advertised i flags target link near | false ↦ near ]
 
-near_message : (i : InnerValue) (header : Ipv6Repr) (message : MessageValue) → AreNear i → AreNear (message_host i header message)
-near_message i header (Icmpv6.Ndisc message) near =
+near_message : (i : InnerValue) (places : Places) (header : Ipv6Repr) (message : MessageValue) (bytes : List ℕ) → AreNear i →
+    AreNear (message_host i places header message bytes)
+near_message i places header (Icmpv6.Ndisc message) bytes near =
     elim (is_control_v6 header.next_header) as (λ b. AreNear (cond b (neighbor_heard i header message).inner i)) [
       | true ↦ near_heard i.hardware i header message near
       | false ↦ near
     ]
-near_message i header (Icmpv6.DstUnreachable reason quoted) near = near
-near_message i header (Icmpv6.PktTooBig mtu quoted) near = near
-near_message i header (Icmpv6.TimeExceeded reason quoted) near = near
-near_message i header (Icmpv6.ParamProblem reason pointer quoted) near = near
-near_message i header (Icmpv6.EchoRequest ident sequence) near = near
-near_message i header (Icmpv6.EchoReply ident sequence) near = near
+near_message i places header (Icmpv6.DstUnreachable reason quoted) bytes near = near
+near_message i places header (Icmpv6.PktTooBig mtu quoted) bytes near =
+    path_v6_so AreNear i near (λ address told. near) places (Icmpv6.PktTooBig mtu quoted) bytes
+near_message i places header (Icmpv6.TimeExceeded reason quoted) bytes near = near
+near_message i places header (Icmpv6.ParamProblem reason pointer quoted) bytes near = near
+near_message i places header (Icmpv6.EchoRequest ident sequence) bytes near = near
+near_message i places header (Icmpv6.EchoReply ident sequence) bytes near = near
 
-near_control : (i : InnerValue) (ip : IpRepr) (message : MessageValue) → AreNear i → AreNear (control_v6_host i ip message)
-near_control i (Ip.Ipv4 header) message near = near
-near_control i (Ip.Ipv6 header) message near = near_message i header message near
+near_control : (i : InnerValue) (places : Places) (ip : IpRepr) (message : MessageValue) (bytes : List ℕ) → AreNear i →
+    AreNear (control_v6_host i places ip message bytes)
+near_control i places (Ip.Ipv4 header) message bytes near = near
+near_control i places (Ip.Ipv6 header) message bytes near = near_message i places header message bytes near
 
 near_drawn : (b : Bool) (i : InnerValue) → AreNear i → AreNear (drawn_if b i)
 near_drawn true i near = near
 near_drawn false i near = near
 
-near_handed : (i : InnerValue) (places : Places) (ip : IpRepr) (carried : Option PayloadValue) → AreNear i → AreNear (handed_host i places ip carried)
-near_handed i places ip None near = near
-near_handed i places ip (Some (ControlV4 message bytes)) near = near
-near_handed i places ip (Some (ControlV6 message bytes)) near = near_control i ip message near
-near_handed i places ip (Some (Bytes bytes)) near = near
-near_handed i places ip (Some (Datagram udp bytes)) near = near
-near_handed i places ip (Some (Segment header bytes)) near =
+near_handed : (i : InnerValue) (places : Places) (ip : IpRepr) (payload : List ℕ) (carried : Option PayloadValue) → AreNear i →
+    AreNear (handed_host i places ip payload carried)
+near_handed i places ip payload None near = near
+near_handed i places (Ip.Ipv4 header) payload (Some (ControlV4 message bytes)) near =
+    path_v4_so AreNear i near (λ address told. near) places payload message bytes
+near_handed i places (Ip.Ipv6 header) payload (Some (ControlV4 message bytes)) near = near
+near_handed i places ip payload (Some (ControlV6 message bytes)) near = near_control i places ip message bytes near
+near_handed i places ip payload (Some (Bytes bytes)) near = near
+near_handed i places ip payload (Some (Datagram udp bytes)) near = near
+near_handed i places ip payload (Some (Segment header bytes)) near =
     elim (names_nobody i ip) as (λ b. AreNear (cond b i (drawn_if (segment_draws (context_of i) ip header bytes places) i))) [
       | true ↦ near
       | false ↦ near_drawn (segment_draws (context_of i) ip header bytes places) i near
@@ -159,8 +166,9 @@ near_handed i places ip (Some (Segment header bytes)) near =
 near_limited : (i : InnerValue) (places : Places) (ip : IpRepr) (payload : List ℕ) (taken : Bool) (carried : Option PayloadValue) → AreNear i →
     AreNear (limited_host i places ip payload taken carried)
 near_limited i places ip payload taken carried near =
-    let after = near_handed i places ip carried near in
-    counted_so AreNear (is_unclaimed i places ip carried) i (handed_reply i places ip payload taken carried) (handed_host i places ip carried) after after
+    let after = near_handed i places ip payload carried near in
+    counted_so AreNear (is_unclaimed i places ip carried) i (handed_reply i places ip payload taken carried) (handed_host i places ip payload carried)
+    after after
 
 -- ARRIVALS
 

@@ -34,6 +34,7 @@ use Rattle.interface.specs.Host.{Sender}
 use Rattle.interface.specs.Ingress.{Takes}
 use Rattle.interface.specs.Polls.{Polls}
 use Rattle.interface.specs.State.{State}
+use Rattle.interface.specs.Remote.{context_for}
 use Rattle.interface.specs.Turn.{ItemTurns, TurnsIf, Answers, SendsBy, is_waiting, let_through, is_done}
 use Rattle.interface.specs.declared.turn.Turned.{Turned}
 use Rattle.interface_ingress.specs.IpAddress.{IpAddress}
@@ -198,7 +199,7 @@ module _ (W : Socket → Type 0) where
           W item.socket → SendsBy moves turn packet x item changes turned x' item' → W item'.socket
       sends turn x x' item item' changes turned None holds is = absurd is
       sends turn x x' item item' changes turned (Some packet) holds is =
-          subst (λ (i : Item Socket). W i.socket) (sym is.3) (law.settles (is_done is.0) item.socket holds)
+          subst (λ (i : Item Socket). W i.socket) (sym is.3.3) (law.settles (is_done is.3.0) item.socket holds)
 
       answers : (turn : Option IpAddress) (x x' : Sender D) (item item' : Item Socket) (answer : Answer.Offer) (turned : Turned) → W item.socket →
           Answers moves turn answer x item turned x' item' → W item'.socket
@@ -210,7 +211,7 @@ module _ (W : Socket → Type 0) where
       turns turn true x x' item item' turned holds is = subst (λ (i : Item Socket). W i.socket) (sym is.2) holds
       turns turn false x x' item item' turned holds (answer, offered, offers, is) =
           answers turn x x' (record (let_through x.inner item) { socket = offered }) item' answer turned
-          (law.offers (context_of x.inner) item.socket offered answer offers holds) is
+          (law.offers (context_for x.inner item.socket) item.socket offered answer offers holds) is
 
       items : (turn : Option IpAddress) (x x' : Sender D) (o o' : Option (Item Socket)) (turned : Turned) → OfItem W o →
           ItemTurns moves turn o x turned x' o' → OfItem W o'

@@ -29,7 +29,6 @@ use Rattle.sockets.specs.Socket.{Offers, offered_by, settled}
 use Rattle.sockets.specs.declared.socket.Socket.{Socket}
 use Rattle.sockets.specs.declared.socket.Socket.TheVariants as Is
 use Rattle.sockets.proofs.AnyKind.{has_packet}
-use Rattle.interface_tables.specs.Inner.{context_of}
 use Rattle.interface_egress.specs.Meta.{unmarked}
 use Rattle.interface_egress.specs.declared.socket_meta.Meta.{Meta}
 use Rattle.interface_egress.specs.declared.socket_set.Item.{Item}
@@ -37,7 +36,9 @@ use Rattle.interface_egress.specs.declared.socket_set.SocketStorage.{SocketStora
 use Rattle.interface_egress.specs.declared.way_out.Sent.{Sent}
 use Rattle.interface.specs.Host.{HostValue, Sender}
 use Rattle.interface.specs.State.{State, state}
+use Rattle.interface.specs.Remote.{context_for}
 use Rattle.interface.specs.Turn.{PlaceTurns, ItemTurns, TurnsIf, Answers, SendsBy, Leaves, is_waiting, let_through, is_done, marked, plan_at, waits_until}
+use Rattle.interface.specs.Turn.{SendsAs}
 use Rattle.interface.specs.declared.turn.Turned.{Turned}
 use Rattle.interface.specs.State.{sending_as}
 use Rattle.lan_hosts.specs.Side.{Side}
@@ -52,6 +53,7 @@ use Rattle.lan_theorem.specs.Moves.Link.{IsLink}
 use Rattle.lan_theorem.specs.Moves.Made.{Grows, MadeBy, IsMade, IsWide}
 use Rattle.lan_theorem.specs.Moves.Raws.{OfItem}
 use Rattle.lan_theorem.proofs.Moves.Nets.{Moved, stays, moves_by, there, grows_to, grows_not, grows_by}
+use Rattle.lan_theorem.proofs.Moves.Sourced.{sourced_wide}
 use Rattle.lan_theorem.proofs.Moves.Offering.{if_some, some_so, takes_one, message_made, udp_made, tcp_made}
 use Rattle.lan_theorem.proofs.Moves.Places.{Places, get-middle, set-middle, same-middle}
 use Rattle.lan_theorem.proofs.Moves.Wide.{offered_wide}
@@ -248,13 +250,14 @@ module _ {D : Type 0} (moves : D → Move → D → Type 0) (turn_of : Option Ip
   }
 
   silent : (x x' : Sender D) (item item' : Item Socket) (offered : Socket) (changed : Bool) (turned : Turned) → IsFit item.socket →
-      Offers (context_of x.inner) item.socket (Offer.Silent changed) offered
+      Offers (context_for x.inner item.socket) item.socket (Offer.Silent changed) offered
       → Answers moves turn_of (Offer.Silent changed) x (record item { socket = offered }) turned x' item' → Now (At x (Some item)) → Now (At x' (Some item'))
   silent x x' item item' offered changed turned fit offers answers f =
-      let given = gives names side net f.now f.reaches before after item.meta unmarked (context_of x.inner) item.socket offered (Offer.Silent changed) false
+      let cx = context_for x.inner item.socket in
+      let given = gives names side net f.now f.reaches before after item.meta unmarked cx item.socket offered (Offer.Silent changed) false
       fit offers f.sockets in
       let same : settled false offered ≡ offered =
-      unsettled offered (none_offered (offered_by offered) changed (has_packet item.socket offered (context_of x.inner) (Offer.Silent changed) offers)) in
+      unsettled offered (none_offered (offered_by offered) changed (has_packet item.socket offered cx (Offer.Silent changed) offers)) in
       let still : Now (At x (Some (record { meta = unmarked; socket = offered }))) =
       subst (λ (s : Socket). Now (At x (Some (record { meta = unmarked; socket = s })))) same
       (moved_on x (Some item) (before ++ holding unmarked (settled false offered) ∷ after) f given.moved) in
@@ -263,29 +266,33 @@ module _ {D : Type 0} (moves : D → Move → D → Type 0) (turn_of : Option Ip
 
   sends : (x x' : Sender D) (item item' : Item Socket) (offered : Socket) (changed : Bool) (turned : Turned) (packet : Option PacketValue) →
       packet ≡ offered_by offered → IfSome packet CanBeWide → IsFit item.socket
-      → Offers (context_of x.inner) item.socket (Offer.Packet changed) offered →
+      → Offers (context_for x.inner item.socket) item.socket (Offer.Packet changed) offered →
       SendsBy moves turn_of packet x (record item { socket = offered }) changed turned x' item'
       → Now (At x (Some item)) → Next (At x' (Some item'))
   sends x x' item item' offered changed turned None is wide fit offers goes f = absurd goes
-  sends x x' item item' offered changed turned (Some packet) is wide fit offers goes f =
+  sends x x' item item' offered changed turned (Some packet) is wide fit offers sending f =
+      let leaving = sending.0 in
+      let goes : SendsAs moves turn_of leaving x (record item { socket = offered }) changed turned x' item' = sending.3 in
       let sent = goes.0 in
-      let meta = marked sent x.inner.moment (waits_until (plan_at x packet) x'.inner) (destination_of packet.header) item.meta in
+      let meta = marked sent x.inner.moment (waits_until (plan_at x leaving) x'.inner) (destination_of leaving.header) item.meta in
       let places = before ++ holding meta (settled (is_done sent) offered) ∷ after in
-      let given = gives names side net f.now f.reaches before after item.meta meta (context_of x.inner) item.socket offered (Offer.Packet changed)
+      let given = gives names side net f.now f.reaches before after item.meta meta (context_for x.inner item.socket) item.socket offered (Offer.Packet changed)
       (is_done sent) fit offers f.sockets in
       let on = moved_on x (Some item) places f given.moved in
       let told : Next (sending_as h x' places) = record {
         now = on.now;
         reaches = on.reaches;
         sockets = on.sockets;
-        link = leaves x x' places (party given.moved.next side) item.meta packet sent (wide goes.4)
-            (λ done. some_so (offered_by offered) (IsMade (party given.moved.next side)) packet (sym is) (given.made done)) goes.1 on.link;
+        link = leaves x x' places (party given.moved.next side) item.meta leaving sent
+            (subst IsWide (sym sending.1) (sourced_wide x.inner packet (wide sending.2) (subst IsWellFormed sending.1 goes.4)))
+            (λ done. subst (IsMade (party given.moved.next side)) (sym sending.1)
+            (some_so (offered_by offered) (IsMade (party given.moved.next side)) packet (sym is) (given.made done))) goes.1 on.link;
       } in
       subst (λ (i : Item Socket). Next (At x' (Some i))) (sym goes.3) told
 
   asks : (x x' : Sender D) (item item' : Item Socket) (answer : Answer.Offer) (offered : Socket) (turned : Turned)
       → IfSome (offered_by offered) CanBeWide → IsFit item.socket
-      → Offers (context_of x.inner) item.socket answer offered → Answers moves turn_of answer x (record item { socket = offered }) turned x' item'
+      → Offers (context_for x.inner item.socket) item.socket answer offered → Answers moves turn_of answer x (record item { socket = offered }) turned x' item'
       → Now (At x (Some item)) → Next (At x' (Some item'))
   asks x x' item item' (Offer.Silent changed) offered turned wide fit offers answers f =
       uncounted (At x' (Some item')) (silent x x' item item' offered changed turned fit offers answers f)
@@ -300,7 +307,8 @@ module _ {D : Type 0} (moves : D → Move → D → Type 0) (turn_of : Option Ip
   turns false x x' item item' turned asked fit f =
       let through = let_through x.inner item in
       asks x x' through item' asked.0 asked.1 turned
-      (if_some (offered_by asked.1) CanBeWide (λ p is formed. offered_wide (context_of x.inner) item.socket asked.1 asked.0 p fit asked.2 is formed))
+      (if_some (offered_by asked.1) CanBeWide
+      (λ p is formed. offered_wide (context_for x.inner item.socket) item.socket asked.1 asked.0 p fit asked.2 is formed))
       fit asked.2 asked.3
       (stays_put x x (Some item) (Some through) refl refl f)
 

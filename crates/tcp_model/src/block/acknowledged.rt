@@ -5,7 +5,7 @@ ghost use Rattle.tcp_model.specs.Acknowledged.{freed_by, sender_moved, retransmi
 ghost use Rattle.tcp_model.specs.Acknowledged.{recovery_after, reno_after, una_moved, acks_fin, state_after_ack, in_state, block_acknowledged, scaled};
 ghost use Rattle.tcp_model.specs.Acknowledged.{acks_no_less, or_number, names_window, windowed, window_set, end_past, highest_end, sacked_by, ranges_taken};
 ghost use Rattle.tcp_model.specs.Acknowledged.{tells_of_loss, is_duplicate, duplicates_after, is_third, begins_recovery};
-ghost use Rattle.tcp_model.specs.Acknowledged.{partly_after, una_risen, reno_counted, counted};
+ghost use Rattle.tcp_model.specs.Acknowledged.{is_blind, partly_after, una_risen, reno_counted, counted};
 
 use crate::{Block, State};
 use ip_wire::{MAX_WINDOW_SCALE, SeqNumber, TcpHeader};
@@ -89,16 +89,26 @@ impl Block {
         requires partial { partial ≡ is_partial self.old by }
         ensures { self.new ≡ una_risen self.old by queued now }
     {
-        let again = self.sender.partial && partial;
+        let blind = self.is_blind(by, partial);
+        let again = self.sender.partial && blind;
         let first = partial && self.loss.resent.saturating_sub(by) == 0;
         self.time_una(by, queued, now);
         self.move_sender(by);
         self.sender.resend = self.sender.resend || first;
-        self.sender.partial = self.sender.partial || partial && !self.peer.sack;
+        self.sender.partial = self.sender.partial || blind;
         self.timers.retransmit_at = self.retransmit_after(by, again, now);
     }
 
-    /// The moment of the retransmission timer after SND.UNA rose by so much. It stays after a partial
+    /// Whether no range says of a partial acknowledgement that the segment which then stands at SND.UNA
+    /// is lost.
+    fn is_blind(&self, by: u32, partial: bool) -> bool
+        requires { partial ≡ is_partial self.now by }
+        ensures { result ≡ is_blind self.now by }
+    {
+        partial && !(self.peer.sack && self.is_lost_at(by))
+    }
+
+    /// The moment of the retransmission timer after SND.UNA rose by so much. It stays after a blind
     /// acknowledgement that isn't the first.
     fn retransmit_after(&self, by: u32, stays: bool, now: Instant) -> Option<Instant>
         requires { IsMoment now }
@@ -155,7 +165,7 @@ impl Block {
     /// What round trip and congestion control learn of this. A connection begins with its first window.
     fn time_una(&mut self, by: u32, queued: usize, now: Instant)
         requires { IsMoment now }
-        ensures { self.new ≡ record self.old { round_trip = round_trip_after self.old by now; reno = reno_after self.old by queued } }
+        ensures { self.new ≡ record self.old { round_trip = round_trip_after self.old by now; reno = reno_after self.old by queued now } }
     {
         let freed = self.freed_by(by, queued);
         self.round_trip.advance(by, now);
@@ -163,7 +173,8 @@ impl Block {
             if self.acks_in_recovery(by) {
                 self.recover_una(by, freed, queued);
             } else {
-                self.reno.acknowledged(freed);
+                self.reno
+                    .acknowledged(freed, now, self.round_trip.smoothed());
             }
             return;
         }

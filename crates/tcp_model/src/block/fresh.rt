@@ -1,7 +1,7 @@
 //! A fresh control block, and what follows from its fields.
 ghost use Rattle.std.specs.Prelude.{◌≡◌, ◌+◌, ◌*◌, ◌≤◌, ◌^◌};
-ghost use Rattle.tcp_model.specs.Blocks.{default_settings, fresh_sender, fresh_block, forgotten, unacked, nxt, top, past_top, own_scale, scale_for, field_of};
-ghost use Rattle.tcp_model.specs.Blocks.{own_shift, window_field, told_of, least_step, is_worth_telling, edge_after, announced};
+ghost use Rattle.tcp_model.specs.Blocks.{default_settings, fresh_window, fresh_sender, fresh_block, forgotten, unacked, nxt, top, past_top};
+ghost use Rattle.tcp_model.specs.Blocks.{own_scale, scale_for, field_of, own_shift, window_field, told_of, least_step, is_worth_telling, edge_after, announced};
 
 use crate::{
     Block, CongestionControl, Loss, Names, Peer, Receiver, Reno, RoundTrip, Sender, Settings,
@@ -84,6 +84,18 @@ impl Settings {
     }
 }
 
+impl CongestionControl {
+    /// Congestion control as it starts.
+    pub const fn fresh_window(self) -> Reno
+        ensures { result ≡ fresh_window self }
+    {
+        match self {
+            CongestionControl::None | CongestionControl::Reno => Reno::new(),
+            CongestionControl::Cubic => Reno::with_cubic(),
+        }
+    }
+}
+
 impl Block {
     /// No connection, and nothing left of an earlier one.
     pub fn new(settings: Settings) -> Block
@@ -130,7 +142,7 @@ impl Block {
                 timeout_since: None,
             },
             round_trip,
-            reno: Reno::new(),
+            reno: settings.congestion_control.fresh_window(),
             loss: Loss::NONE,
             settings,
         }

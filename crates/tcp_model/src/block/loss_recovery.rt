@@ -199,7 +199,7 @@ impl Block {
     }
 
     /// Whether a position that isn't held is lost.
-    fn is_lost_at(&self, place: u32) -> bool
+    pub(crate) fn is_lost_at(&self, place: u32) -> bool
         ensures { result ≡ is_lost_at self.now place }
     {
         self.loss

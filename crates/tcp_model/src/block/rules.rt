@@ -1,4 +1,5 @@
 //! What a socket offers: a test for each rule, and what the rules for text may send.
+ghost use Rattle.std.specs.Bool.{OnTrue};
 ghost use Rattle.std.specs.Prelude.{◌≡◌, ◌+◌, ◌≤◌, ◌<◌, ◌^◌, min};
 ghost use Rattle.tcp_model.specs.Rules.{time_wait_end, owes_syn, resends, ack_moment, Choice, stamp_len, size_limit, congestion_limit, beyond, window_limit};
 ghost use Rattle.tcp_model.specs.Rules.{next_place, fin_goes, text_of_size, ready, may_be_small, fills_enough, is_sendable, sends_choice, sent_places};
@@ -121,8 +122,21 @@ impl Block {
         let size = size.min(self.peer.window.saturating_sub(flight) as usize);
         match self.settings.congestion_control {
             CongestionControl::None => size,
-            CongestionControl::Reno => { size.min(self.congestion_room() as usize) }
+            _ if self.takes_behind_flight(size) => size,
+            CongestionControl::Reno | CongestionControl::Cubic => {
+                size.min(self.congestion_room() as usize)
+            }
         }
+    }
+
+    /// Whether the congestion window has room for so much behind all that is in flight. Outside of
+    /// recovery no more is on its way.
+    fn takes_behind_flight(&self, size: usize) -> bool
+        ensures { OnTrue result (size ≤ congestion_room self.now) }
+    {
+        !self.reno.recovers()
+            && (self.sender.in_flight as u64).saturating_add(size as u64)
+                <= self.reno.window() as u64
     }
 
     /// How much the congestion window lets go beyond what is on its way.

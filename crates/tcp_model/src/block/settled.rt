@@ -60,6 +60,9 @@ impl Block {
         let sent = (self.sender.top as usize).min(queued.saturating_add(
             self.sender.syn_unacked as usize,
         ));
+        if sent as u32 <= end {
+            return end;
+        }
         end.max(self.loss.board.first_missing(end).min(sent as u32))
     }
 
@@ -94,10 +97,13 @@ impl Block {
         self.keep_probe(queued);
     }
 
-    /// Something went again, up to so far past SND.UNA.
+    /// Something went again, up to so far past SND.UNA. In recovery the timer is to start anew.
     fn resent(&mut self, end: u32)
         ensures { self.new ≡ resent self.old end }
     {
+        if self.reno.recovers() && self.is_first_lost() {
+            self.timers.retransmit_at = None;
+        }
         self.lose_resent(end);
         self.sender.resend = false;
         self.round_trip.forget_sample();

@@ -11,4 +11,4 @@ carry-requires-clause-fits g c =
     let left = c.args.fragmenter.now in
     let p = packet_value c.args.packet.now in
     let short : i.mtu ≤ 65535 = subst (λ (n : ℕ). n ≤ 65535) c.mtu-mtu.ensures.value c.mtu-mtu.ensures.high in
-    subst (λ (plan : Plan). CanBeCarried i.mtu left p plan) (sym c.requires.plan) (planned_can_be_carried i left p short c.requires.packet)
+    subst (λ (plan : Plan). CanBeCarried i left p plan) (sym c.requires.plan) (planned_can_be_carried i left p short c.requires.packet)

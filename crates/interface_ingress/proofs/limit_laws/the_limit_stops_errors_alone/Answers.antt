@@ -4,7 +4,7 @@ use Rattle.interface_ingress.proofs.limit_laws.the_limit_stops_errors_alone.Goal
 
 pub returns-clause-claimed : goal.returns-clause-claimed
 returns-clause-claimed c = λ i places ip payload taken carried is.
-    let_go_claimed (is_unclaimed i places ip carried) i (handed_reply i places ip payload taken carried) (handed_host i places ip carried) is
+    let_go_claimed (is_unclaimed i places ip carried) i (handed_reply i places ip payload taken carried) (handed_host i places ip payload carried) is
 
 pub returns-clause-goes : goal.returns-clause-goes
 returns-clause-goes c = λ i places ip payload taken carried may.
@@ -12,8 +12,8 @@ returns-clause-goes c = λ i places ip payload taken carried may.
 
 pub returns-clause-counts : goal.returns-clause-counts
 returns-clause-counts c = λ i places ip payload taken carried p is goes.
-    let_go_counted (is_unclaimed i places ip carried) i (handed_reply i places ip payload taken carried) (handed_host i places ip carried) p is goes
+    let_go_counted (is_unclaimed i places ip carried) i (handed_reply i places ip payload taken carried) (handed_host i places ip payload carried) p is goes
 
 pub returns-clause-stops : goal.returns-clause-stops
 returns-clause-stops c = λ i places ip payload taken carried is not_now.
-    let_go_nothing (is_unclaimed i places ip carried) i (handed_reply i places ip payload taken carried) (handed_host i places ip carried) is not_now
+    let_go_nothing (is_unclaimed i places ip carried) i (handed_reply i places ip payload taken carried) (handed_host i places ip payload carried) is not_now

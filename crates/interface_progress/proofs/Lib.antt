@@ -1,0 +1,14 @@
+pub mod TcpRests
+pub mod Rests
+pub mod Walks
+pub mod Plans
+pub mod Turns
+pub mod Passes
+pub mod Polled
+pub mod Ways
+pub mod OurTurn
+pub mod Goes
+pub mod InTurn
+pub mod Readers
+pub mod Excluded
+pub mod Reached

@@ -1,0 +1,6 @@
+pub mod Patience
+pub mod Moves
+pub mod OfUse
+pub mod Queued
+pub mod Excluded
+pub mod Reached

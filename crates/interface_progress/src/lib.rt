@@ -1,0 +1,8 @@
+//! A host goes on: no poll is for nothing.
+#![tactic(auto)]
+
+pub mod arrivals;
+pub mod datagrams;
+pub mod excluded;
+pub mod polls;
+pub mod rest;
