@@ -90,7 +90,7 @@ module _ (b : Block) (none : b.sender.in_flight ≡ 0) where
 
     by : (control : CongestionControl) (limit : ℕ) → b.reno.cwnd ≤ limit → congestion_limit control limit (min (b.peer.window - b.sender.in_flight) size) ≡ size
     by Congestion.None limit e = less b.sender.in_flight none
-    by Congestion.Reno limit e = ap (min limit) (less b.sender.in_flight none) ∙ lower b.reno.cwnd limit cwnd e
+    by other limit e = ap (min limit) (less b.sender.in_flight none) ∙ lower b.reno.cwnd limit cwnd e
 
 -- WHAT GOES
 

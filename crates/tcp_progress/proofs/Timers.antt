@@ -19,13 +19,13 @@ use Rattle.tcp_rules.specs.OfferKind.TheVariants as Kind
 use Rattle.tcp_rules.specs.OpenOffer.{OpenOffer}
 use Rattle.tcp_rules.specs.State.TheVariants as In
 use Rattle.tcp_rules.specs.States.{is_closed, is_opening, is_time_wait, takes_writes, after_close}
-use Rattle.tcp_pair_model.specs.Acknowledged.{round_trip_after, una_moved, windowed, acks_own_syn, is_partial}
+use Rattle.tcp_pair_model.specs.Acknowledged.{round_trip_after, una_moved, windowed, acks_own_syn, is_blind}
 use Rattle.tcp_pair_model.specs.Arrival.{arrives, waiting_anew}
 use Rattle.tcp_pair_model.specs.Block.{Block}
 use Rattle.tcp_pair_model.specs.Blocks.{fresh_block}
 use Rattle.tcp_pair_model.specs.Calls.{listening, connected_by, pair_for, sent_more}
 use Rattle.tcp_pair_model.specs.FirstNumbers.{number_for}
-use Rattle.tcp_pair_model.specs.LossRecovery.{loss_probed}
+use Rattle.tcp_pair_model.specs.LossRecovery.{is_first_lost, loss_probed}
 use Rattle.tcp_pair_model.specs.Offers.{number_at, offer_choice, offer_of, offer_segment}
 use Rattle.tcp_pair_model.specs.Retries.{heard, asked, one_more}
 use Rattle.tcp_pair_model.specs.Rules.{Choice, backed_off_now, control_for, probe_choice, resend_choice, text_choice}
@@ -133,16 +133,16 @@ moved_near b by queued now h = record {
   timer =
       cond_both (by == 0) b.timers.retransmit_at
       (if b.sender.in_flight - by == 0 then None
-      else if b.sender.partial && is_partial b by then b.timers.retransmit_at else Some (timeout_from now (round_trip_after b by now)))
+      else if b.sender.partial && is_blind b by then b.timers.retransmit_at else Some (timeout_from now (round_trip_after b by now)))
       (IsNear now 60_000_000)
       (λ _. h.timer)
       (λ _.
       cond_both (b.sender.in_flight - by == 0) None
-      (if b.sender.partial && is_partial b by then b.timers.retransmit_at else Some (timeout_from now (round_trip_after b by now)))
+      (if b.sender.partial && is_blind b by then b.timers.retransmit_at else Some (timeout_from now (round_trip_after b by now)))
       (IsNear now 60_000_000)
       (λ _. tt)
       (λ _.
-      cond_both (b.sender.partial && is_partial b by) b.timers.retransmit_at (Some (timeout_from now (round_trip_after b by now)))
+      cond_both (b.sender.partial && is_blind b by) b.timers.retransmit_at (Some (timeout_from now (round_trip_after b by now)))
       (IsNear now 60_000_000)
       (λ _. h.timer)
       (λ _. timeout_near now (round_trip_after b by now) good)));
@@ -260,7 +260,13 @@ sent_near : (now : ℤ) (kind : OfferKind) (b : Block) (o : OpenOffer) (queued :
 sent_near now Kind.Reset b o queued same h = h
 sent_near now Kind.Syn b o queued same h = went_near now (syn_went b o) o queued same h
 sent_near now Kind.FastRetransmission b o queued same h =
-    went_near now (resent b (end_of b o)) o queued same (record { good = untimed_good b.round_trip h.good; timer = h.timer; pause = h.pause })
+    went_near now (resent b (end_of b o)) o queued same
+    (record {
+      good = untimed_good b.round_trip h.good;
+      timer =
+          cond_both (b.reno.recovers && is_first_lost b) None b.timers.retransmit_at (IsNear now 60_000_000) (λ _. tt) (λ _. h.timer);
+      pause = h.pause;
+    })
 sent_near now Kind.Text b o queued same h = went_near now b o queued same h
 sent_near now Kind.Probe b o queued same h =
     asked_near now b o queued same h (probed b (end_of b o) o.moment) (record { good = doubled b.round_trip h.good; timer = h.timer; pause = h.pause })
