@@ -21,7 +21,7 @@ use Rattle.tcp_rules.specs.State.{State}
 use Rattle.tcp_rules.specs.State.TheVariants as In
 use Rattle.tcp_rules.specs.States.{is_answering, is_closed, is_opening, is_time_wait, keeps_alive, owes_fin, sends_syn, sends_text}
 use Rattle.tcp_rules.specs.Timing.{carries}
-use Rattle.tcp_model.specs.Timeout.{end_by, waits_for_remote}
+use Rattle.tcp_model.specs.Timeout.{end_by, timeout_end, waits_for_remote}
 use Rattle.tcp_pair_model.specs.Block.{Block}
 use Rattle.tcp_pair_model.specs.Blocks.{one_if, unacked}
 use Rattle.tcp_pair_model.specs.LossRecovery.{loss_probed}
@@ -50,9 +50,8 @@ neither a b e f = ap (λ (t : Bool). t || b) e ∙ f
 -- NO RULE ENDS IT
 
 module _ (cx : ContextValue) (v : TcpValue) (timeout : v.block.settings.timeout ≡ None) where
-  in_time : (state : State) → v.block.state ≡ state → is_due cx.moment (if is_some v.block.settings.timeout && (not (is_closed v.block.state
-      || is_time_wait v.block.state) && waits_for_remote v.block (queued_in v)) then end_by v.block.timers.timeout_since v.block.settings.timeout else None) ≡ false
-  in_time state at =
+  none_due : is_due cx.moment (timeout_end v.block (queued_in v)) ≡ false
+  none_due =
       ap (λ (t : Option ℕ). is_due cx.moment (if is_some t && (not (is_closed v.block.state || is_time_wait v.block.state)
       && waits_for_remote v.block (queued_in v)) then end_by v.block.timers.timeout_since t else None)) timeout
 
@@ -60,7 +59,7 @@ module _ (cx : ContextValue) (v : TcpValue) (timeout : v.block.settings.timeout 
   pub answering_goes_on : v.block.state ≡ In.SynReceived → reaches v.block.settings.opening_retries 1 ≡ false → v.block.sender.timeouts ≡ 0 → GoesOn cx v
   answering_goes_on at tries none = record {
     lasts = ap (λ (state : State). is_due cx.moment (if is_time_wait state then v.block.timers.time_wait_ends else None)) at;
-    in_time = in_time In.SynReceived at;
+    in_time = none_due;
     alive = ap is_closed at;
     tries =
         neither (is_due cx.moment v.block.timers.retransmit_at && reaches (retries_of v.block) (v.block.sender.timeouts + 1)) _
@@ -80,7 +79,7 @@ module _ (cx : ContextValue) (v : TcpValue) (timeout : v.block.settings.timeout 
       → v.block.sender.unanswered ≡ 0 → GoesOn cx v
   open_goes_on at timer tries none = record {
     lasts = ap (λ (state : State). is_due cx.moment (if is_time_wait state then v.block.timers.time_wait_ends else None)) at;
-    in_time = in_time In.Established at;
+    in_time = none_due;
     alive = ap is_closed at;
     tries =
         neither (is_due cx.moment v.block.timers.retransmit_at && reaches (retries_of v.block) (v.block.sender.timeouts + 1)) _

@@ -21,7 +21,7 @@ use Rattle.tcp_progress.proofs.Mirrored.{mirrored_in}
 use Rattle.tcp_progress.proofs.Pair.{Takes, Tells, Ends, asked_side, side_moves, sent, first, in_step}
 use Rattle.tcp_progress.proofs.SentPairs.{TookEach, reached_took}
 
-reached_by : (p new : PairValue) (more : List PairEvent) → IsReached p → Steps p more new → IsReached new
+pub reached_by : (p new : PairValue) (more : List PairEvent) → IsReached p → Steps p more new → IsReached new
 reached_by p new more r steps = record {
   room_a = r.room_a;
   room_b = r.room_b;

@@ -24,3 +24,9 @@ pub mod Shakes
 pub mod AckOffer
 pub mod ShakeSteps
 pub mod Shaken
+pub mod Resumes
+pub mod Leads
+pub mod OfItself
+pub mod Settles
+pub mod Timers
+pub mod PairTimers

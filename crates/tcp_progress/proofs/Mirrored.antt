@@ -605,7 +605,7 @@ on_open In.Closed e = clash (sym e)
 on_open In.Listen e = clash (sym e)
 on_open other e = (refl, refl)
 
-named_in : (p : PairValue) (side : Side) → IsReached p → is_synchronized (socket_of p side).block.state ≡ true →
+pub named_in : (p : PairValue) (side : Side) → IsReached p → is_synchronized (socket_of p side).block.state ≡ true →
     (pair : EndpointPair) × ((socket_of p side).block.names.pair ≡ Some pair)
 named_in p side r on =
     let it = on_open (socket_of p side).block.state on in

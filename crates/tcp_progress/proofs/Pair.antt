@@ -436,19 +436,19 @@ reached_moves p side moment o reached stream may = (reached_moved p side moment 
 abbrev pub had_in : PairValue → Side → ℕ
 had_in p side = distance_of (socket_of p side).block.sender.una (socket_of p (other side)).block.receiver.next
 
-further : (una next more : ℕ) → una < 2 ^ 32 → next < 2 ^ 32 → (next + (2 ^ 32 - una)) % 2 ^ 32 < 2 ^ 30 → more < 2 ^ 30
+pub further : (una next more : ℕ) → una < 2 ^ 32 → next < 2 ^ 32 → (next + (2 ^ 32 - una)) % 2 ^ 32 < 2 ^ 30 → more < 2 ^ 30
     → ((next + more) % 2 ^ 32 + (2 ^ 32 - una)) % 2 ^ 32 ≡ (next + (2 ^ 32 - una)) % 2 ^ 32 + more
 further una next more a b c d = omega arith
 
 -- what an exchange asks for says of what isn't acknowledged
-record HasSome (p : PairValue) (side : Side) : Type 0 where
-  some : 1 ≤ left_in p side
-  within : had_in p side ≤ left_in p side
-  few : left_in p side < 2 ^ 30
-  una : (socket_of p side).block.sender.una.0 < 2 ^ 32
-  next : (socket_of p (other side)).block.receiver.next.0 < 2 ^ 32
+pub record HasSome (p : PairValue) (side : Side) : Type 0 where
+  pub some : 1 ≤ left_in p side
+  pub within : had_in p side ≤ left_in p side
+  pub few : left_in p side < 2 ^ 30
+  pub una : (socket_of p side).block.sender.una.0 < 2 ^ 32
+  pub next : (socket_of p (other side)).block.receiver.next.0 < 2 ^ 32
 
-has_some :
+pub has_some :
     (p : PairValue) (side : Side) (moment : ℤ) (o : OpenOffer) → IsReached p → HasStream (past_at p side) → MayExchangeIn p side moment o
     → HasSome p side
 has_some p side moment o reached stream may = record { some = enough _ _ may.may.some goes.ends; within = l.within; few = l.few; una = una; next = next } where
@@ -491,7 +491,7 @@ acknowledged_once n had had_new left left_new a b c = omega arith
 last_one : (had left : ℕ) → had ≤ left → 1 ≤ left → 1 + had ≤ left + left
 last_one had left a b = omega arith
 
-below_quarter : (had left : ℕ) → had ≤ left → left < 2 ^ 30 → had < 2 ^ 30
+pub below_quarter : (had left : ℕ) → had ≤ left → left < 2 ^ 30 → had < 2 ^ 30
 below_quarter had left a b = omega arith
 
 -- one exchange before others
@@ -512,7 +512,7 @@ before p side moment n h open_still rest (inr (inl t)) =
     t.left t.had
 before p side moment n h open_still rest (inr (inr closed)) = absurd (open_still closed)
 
-still_open : (state : State) → is_synchronized state ≡ true → is_closed state ≡ true → ⊥
+pub still_open : (state : State) → is_synchronized state ≡ true → is_closed state ≡ true → ⊥
 still_open state past closed = absurd (let clashes : true ≡ false = sym closed ∙ not_closed state past in cc)
 
 fits : (p : PairValue) (side : Side) (x : ℤ × OpenOffer) (more : List (ℤ × OpenOffer)) → Exchanges p side (x ∷ more) →

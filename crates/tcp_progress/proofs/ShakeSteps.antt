@@ -14,7 +14,7 @@ use Rattle.tcp_tie.specs.Context.{ContextValue}
 use Rattle.tcp_tie.specs.Endpoints.{CameBetween, GoesBetween}
 use Rattle.tcp_tie.proofs.NameLaws.{offer_between_ends}
 use Rattle.tcp_rules.specs.EndpointPair.{EndpointPair}
-use Rattle.tcp_rules.specs.Endpoints.{is_bare, is_connected_by, pair_in, remote_of, takes_address, is_between}
+use Rattle.tcp_rules.specs.Endpoints.{is_bare, is_connected_by, pair_in, remote_of, takes_address}
 use Rattle.tcp_rules.specs.Ends.{GoesOn}
 use Rattle.tcp_rules.specs.Moments.{is_due}
 use Rattle.tcp_rules.specs.Names.{Names}
@@ -29,7 +29,6 @@ use Rattle.tcp_pair_model.specs.Names.{accepts, accepts_in}
 use Rattle.tcp_pair_model.specs.Offers.{offer_of}
 use Rattle.tcp_pair_model.specs.Retries.{reaches}
 use Rattle.tcp_pair_model.specs.Settled.{settled}
-use Rattle.tcp_pair_model.specs.Timestamps.{uses_stamps}
 use Rattle.tcp_pair_model.specs.Value.{TcpValue}
 use Rattle.tcp_rules.proofs.OrderSteps.{clash}
 use Rattle.tcp_progress.specs.Again.{StartsOver}

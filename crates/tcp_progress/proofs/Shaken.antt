@@ -1,8 +1,7 @@
 -- A handshake of a pair that events led to.
-use Rattle.std.proofs.Common.{◌≡◌, ◌⊎◌, inl, inr, ℕ, suc, ◌+◌, ◌%◌, ◌^◌, ◌<◌, ◌≤◌, ◌&&◌, int_le, pos, not, ℤ, Bool, true, false, List, [], length, Option, Some, None}
-use Rattle.std.proofs.Common.{slice_get, refl, sym, ap, ◌∙◌, subst, arith}
+use Rattle.std.proofs.Common.{◌≡◌, ◌⊎◌, inl, inr, ℕ, ◌+◌, ◌^◌, ◌<◌, ◌≤◌, ◌&&◌, int_le, pos, not, ℤ, Bool, true, false, List, [], length, Option, Some, None}
+use Rattle.std.proofs.Common.{slice_get, refl, sym, ap, ◌∙◌, subst}
 use Rattle.std.proofs.lemmas.Option.{slice_get_within}
-use Rattle.ip_wire.specs.SeqNumber.{SeqNumber}
 use Rattle.net_base.specs.Time.{last_moment}
 use Rattle.tcp_law.specs.Side.{Side as Half}
 use Rattle.tcp_law.specs.Side.Opening.{Passive}
@@ -159,7 +158,7 @@ may_call p side first second third r m =
     }
 
 -- a moment that may come isn't before the last one
-comes_later : (last moment : ℤ) → refused_if (not (may_come last moment)) Moment ≡ None → is_due moment (Some last) ≡ true
+pub comes_later : (last moment : ℤ) → refused_if (not (may_come last moment)) Moment ≡ None → is_due moment (Some last) ≡ true
 comes_later last moment e = third (int_le (pos 0) moment) (int_le moment (pos last_moment)) (int_le last moment) (so (may_come last moment) e) where
   so : (t : Bool) → refused_if (not t) Moment ≡ None → t ≡ true
   so true e = refl

@@ -1,5 +1,5 @@
 -- A SYN that is to go is offered, with the acknowledgement of the other's SYN if that came.
-use Rattle.std.proofs.Common.{◌≡◌, inl, inr, ℕ, ◌+◌, ◌==◌, ◌&&◌, not, ℤ, Bool, true, false, if◌then◌else◌, List, [], Option, Some, None, refl, sym, ap, ◌∙◌}
+use Rattle.std.proofs.Common.{◌≡◌, inl, inr, ℕ, ◌+◌, ◌==◌, ◌&&◌, not, ℤ, Bool, true, false, if◌then◌else◌, List, [], Some, None, refl, sym, ap, ◌∙◌}
 use Rattle.std.proofs.lemmas.Bool.{eq-eqb}
 use Rattle.ip_wire.specs.SeqNumber.{SeqNumber}
 use Rattle.ip_wire.specs.Tcp.{header_len}
@@ -162,11 +162,50 @@ module _ (cx : ContextValue) (v : TcpValue) (mtu : cx.ip_mtu ≡ 1500) (on : Goe
         over = λ _ over _. clash (sym over ∙ on.tries);
         backs = λ pair _ _ _.
             first pair (backed_off_now (begun cx v))
-            (record { state = refl; names = refl; una = refl; syn_unacked = refl; top = refl; next = refl; took_syn = refl; paused = refl; stamps = refl; timeout = refl; retries = refl; none = refl });
+            (record {
+              state = refl;
+              names = refl;
+              una = refl;
+              syn_unacked = refl;
+              top = refl;
+              next = refl;
+              took_syn = refl;
+              paused = refl;
+              stamps = refl;
+              timeout = refl;
+              retries = refl;
+              none = refl;
+            });
         probes = λ pair _ _ not _.
             first pair (loss_probed (begun cx v))
-            (record { state = refl; names = refl; una = refl; syn_unacked = refl; top = refl; next = refl; took_syn = refl; paused = refl; stamps = refl; timeout = refl; retries = refl; none = not_due not });
+            (record {
+              state = refl;
+              names = refl;
+              una = refl;
+              syn_unacked = refl;
+              top = refl;
+              next = refl;
+              took_syn = refl;
+              paused = refl;
+              stamps = refl;
+              timeout = refl;
+              retries = refl;
+              none = not_due not;
+            });
         goes = λ pair _ _ not.
             first pair (begun cx v)
-            (record { state = refl; names = refl; una = refl; syn_unacked = refl; top = refl; next = refl; took_syn = refl; paused = refl; stamps = refl; timeout = refl; retries = refl; none = not_due not });
+            (record {
+              state = refl;
+              names = refl;
+              una = refl;
+              syn_unacked = refl;
+              top = refl;
+              next = refl;
+              took_syn = refl;
+              paused = refl;
+              stamps = refl;
+              timeout = refl;
+              retries = refl;
+              none = not_due not;
+            });
       })

@@ -1,5 +1,5 @@
 -- The handshake of three segments (RFC 9293, 3.5): one side calls, the other listens; a SYN, its answer, and the acknowledgement of that.
-use Rattle.std.specs.Prelude.{◌≡◌, ◌^◌, ◌<◌, ℤ, true, false, Option, Some, None}
+use Rattle.std.specs.Prelude.{◌≡◌, ℤ, true, false, Some, None}
 use Rattle.tcp_rules.specs.Endpoints.{remote_of, takes_address}
 use Rattle.tcp_rules.specs.EndpointPair.{EndpointPair}
 use Rattle.tcp_rules.specs.Ends.{GoesOn}

@@ -9,3 +9,6 @@ pub mod Exchange
 pub mod Pair
 pub mod Sent
 pub mod Handshake
+pub mod Restart
+pub mod Settle
+pub mod Near

@@ -23,6 +23,16 @@ opening =
     ∷ Deliver A 1
     ∷ []
 
+-- B listens and A calls; and A's SYN went, and was lost
+abbrev pub calling : List PairEvent
+calling = Listen B (port 80) ∷ Connect A server (port 49_500) ∷ []
+
+abbrev pub called : PairValue
+called = run (new_pair socket socket) calling
+
+abbrev pub unheard : PairValue
+unheard = run called (Offer A (pos 0) true ∷ [])
+
 abbrev pub events : List PairEvent
 events = opening ++ Send A (97 ∷ 98 ∷ 99 ∷ []) ∷ Offer A (pos 0) true ∷ []
 

@@ -1,6 +1,6 @@
 //! That a handshake opens a connection.
 
-ghost use Rattle.std.specs.Prelude.{◌≡◌, ℤ, None};
+ghost use Rattle.std.specs.Prelude.{ℤ};
 ghost use Rattle.tcp_pair_model.specs.Sides.{other};
 ghost use Rattle.tcp_pair_model.specs.Values.{PairValue};
 ghost use Rattle.tcp_pair_model.specs.declared.event.Side.{Side};

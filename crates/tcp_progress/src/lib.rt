@@ -4,4 +4,7 @@
 pub mod handshake;
 pub mod laws;
 pub mod met;
+pub mod near;
+pub mod restart;
+pub mod settle;
 pub mod standstill;

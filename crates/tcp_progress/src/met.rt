@@ -1,12 +1,14 @@
 //! What the laws ask for is met, on numerals.
 
-ghost use Rattle.std.specs.Prelude.{◌≡◌, [], ◌∷◌, length, IfSome};
+ghost use Rattle.std.specs.Prelude.{◌≡◌, suc, ◌*◌, pos, [], ◌∷◌, length, IfSome};
 ghost use Rattle.tcp_progress.specs.Arrivals.{Counts, IsNew, IsAgain};
 ghost use Rattle.tcp_pair_model.specs.Values.{past_at};
 ghost use Rattle.tcp_pair_model.specs.declared.event.Side.TheVariants.{A};
-ghost use Rattle.tcp_progress.specs.Met.{gone, come, told, text, late, later, again_in};
+ghost use Rattle.tcp_progress.specs.Handshake.{MayShake};
+ghost use Rattle.tcp_progress.specs.Met.{called, unheard, gone, come, told, text, late, later, again_in};
 ghost use Rattle.tcp_progress.specs.Pair.{Exchanges, HasStream, MayExchangeIn, MovesIn, exchanged_in, left_in};
 ghost use Rattle.tcp_progress.specs.Reached.{IsReached, Owes};
+ghost use Rattle.tcp_progress.specs.Settle.{MaySettle};
 
 /// Three bytes that have gone: their side waits, and they count and are new to the other; once they have come, they are old to it.
 pub fn what_the_laws_ask_for_is_met()
@@ -32,4 +34,16 @@ pub fn two_exchanges_are_enough()
     ensures one { IfSome (again_in gone) (λ o. Exchanges gone A ((late, o) ∷ [])) }
     ensures some { left_in gone A ≡ 3 }
     ensures none { left_in (exchanged_in told A later) A ≡ 0 }
+{}
+
+/// A handshake is met where the SYN is to go, and where it was lost and its timer has run out; both of default sockets.
+pub fn what_a_handshake_asks_for_is_met()
+    ensures reached { IsReached unheard }
+    ensures first { MayShake called A (pos 0) (pos 0) (pos 0) }
+    ensures lost { MayShake unheard A late late late }
+{}
+
+/// Rounds of one way are met where three bytes have gone and were lost, of default sockets.
+pub fn what_rounds_ask_for_is_met()
+    ensures settles { MaySettle (suc (2 * left_in gone A)) gone A }
 {}

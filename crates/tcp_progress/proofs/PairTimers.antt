@@ -1,0 +1,141 @@
+-- Of each pair that events led to, what a side waits for of itself lies near its clock.
+use Rattle.std.proofs.Common.{◌≡◌, ℕ, ℤ, pos, ◌+ℤ◌, ◌≤ℤ◌, int_le, int_lt, true, false, List, [], ◌∷◌, Option, Some, None, Result, Ok, Err, slice_get}
+use Rattle.std.proofs.Common.{refl, sym, subst, arith}
+use Rattle.std.proofs.lemmas.Bool.{cond_both}
+use Rattle.std.proofs.lemmas.Int.{ints}
+use Rattle.tcp_rules.specs.Events.Event.{Comes, Asked, Listens, Connects, Sends, Reads, Closes, Aborts, Sets}
+use Rattle.tcp_rules.specs.Events.Setting.{Timeout, KeepAlive, AckDelay, Nagle, HopLimit, Timestamps, Paused, Retries, Congestion, MinRto}
+use Rattle.tcp_rules.specs.RecvError.{RecvError}
+use Rattle.tcp_pair_model.specs.Arrival.{arrives}
+use Rattle.tcp_pair_model.specs.Calls.{recv_answer}
+use Rattle.tcp_pair_model.specs.History.{side_of}
+use Rattle.tcp_pair_model.specs.Names.{accepts}
+use Rattle.tcp_pair_model.specs.Sides.{Both, at, put, other}
+use Rattle.tcp_pair_model.specs.Steps.{Steps, acting, acts, handed, happens, limit_of, reads, refusal, set_by, taken_at}
+use Rattle.tcp_pair_model.specs.Value.{TcpValue, new_socket}
+use Rattle.tcp_pair_model.specs.Values.{PairSide, PairValue, context_at, new_pair}
+use Rattle.tcp_pair_model.specs.declared.event.PairEvent.{PairEvent}
+use Rattle.tcp_pair_model.specs.declared.event.PairEvent.TheVariants.{Listen, Connect, Send, Recv, Close, Abort, TcpSetting, Offer, Deliver}
+use Rattle.tcp_pair_model.specs.declared.event.SentSegment.{SentSegment}
+use Rattle.tcp_pair_model.specs.declared.event.Side.{Side}
+use Rattle.tcp_pair_model.specs.declared.event.Side.TheVariants.{A, B}
+use Rattle.tcp_pair_model.specs.declared.event.TcpSetting.{TcpSetting as Setting}
+use Rattle.tcp_pair_model.specs.declared.event.TcpSetting.TheVariants as Set
+use Rattle.tcp_progress.specs.Near.{IsNear}
+use Rattle.tcp_progress.specs.Pair.{socket_of}
+use Rattle.tcp_progress.specs.Reached.{IsReached}
+use Rattle.tcp_progress.specs.Settle.{restart_by, restart_in}
+use Rattle.tcp_progress.proofs.Shaken.{comes_later}
+use Rattle.tcp_progress.proofs.Timers.{Bounded, event_near, later_near, new_near}
+
+abbrev NearSide : PairSide → Type 0
+NearSide s = Bounded s.moment s.socket.block
+
+le_of : (a b : ℤ) → int_le a b ≡ true → a ≤ℤ b
+le_of a b e = grind arith
+
+-- the clock of the side doesn't go back
+abbrev GoesOn : PairSide → PairEvent → Type 0
+GoesOn s (Offer side moment sent) = s.moment ≤ℤ moment
+GoesOn s other = Unit {0}
+
+weakened : (s : PairSide) (moment : ℤ) → s.moment ≤ℤ moment → NearSide s → Bounded moment s.socket.block
+weakened s moment e h = record {
+  good = h.good;
+  timer = later_near s.moment moment 60_000_000 s.socket.block.timers.retransmit_at e h.timer;
+  pause = later_near s.moment moment 1_000_000 s.socket.block.timers.draws_from e h.pause;
+}
+
+by_read : (s : PairSide) (r : Result ℕ RecvError) → NearSide s → NearSide (reads s r).side
+by_read s (Ok n) h = event_near s.moment s.socket (Reads n) tt h
+by_read s (Err fault) h = h
+
+by_setting : (now : ℤ) (setting : Setting) (v : TcpValue) → Bounded now v.block → Bounded now (set_by setting v).block
+by_setting now (Set.Timeout duration) v h = event_near now v (Sets (Timeout duration)) tt h
+by_setting now (Set.AckDelay duration) v h = event_near now v (Sets (AckDelay duration)) tt h
+by_setting now (Set.KeepAlive interval) v h = event_near now v (Sets (KeepAlive interval)) tt h
+by_setting now (Set.NagleEnabled enabled) v h = event_near now v (Sets (Nagle enabled)) tt h
+by_setting now (Set.HopLimit limit) v h = event_near now v (Sets (HopLimit (limit_of limit))) tt h
+by_setting now (Set.TsvalGenerator generator) v h = event_near now v (Sets (Timestamps generator)) tt h
+by_setting now (Set.CongestionControl control) v h = event_near now v (Sets (Congestion control)) tt h
+by_setting now (Set.PauseSynack paused) v h = event_near now v (Sets (Paused paused)) tt h
+by_setting now (Set.Retries limit) v h = event_near now v (Sets (Retries limit)) tt h
+by_setting now (Set.MinRto duration) v h = event_near now v (Sets (MinRto duration)) tt h
+
+by_delivery : (side : Side) (s : PairSide) (x : Option SentSegment) → NearSide s → NearSide (handed side s x)
+by_delivery side s None h = h
+by_delivery side s (Some x) h =
+    cond_both (accepts s.socket.block x.header x.segment) (taken_at s (arrives (context_at side s) s.socket x.header x.segment x.bytes)) s NearSide
+    (λ _. event_near s.moment s.socket (Comes (context_at side s) x.header x.segment x.bytes) refl h)
+    (λ _. h)
+
+by_act : (s : PairSide) (others : List SentSegment) (event : PairEvent) → GoesOn s event → NearSide s → NearSide (acts s others event).side
+by_act s others (Listen side endpoint) e h = event_near s.moment s.socket (Listens endpoint) tt h
+by_act s others (Connect side remote local) e h = event_near s.moment s.socket (Connects (context_at side s) remote local) tt h
+by_act s others (Send side bytes) e h = event_near s.moment s.socket (Sends bytes) tt h
+by_act s others (Recv side count) e h = by_read s (recv_answer s.socket count) h
+by_act s others (Close side) e h = event_near s.moment s.socket Closes tt h
+by_act s others (Abort side) e h = event_near s.moment s.socket Aborts tt h
+by_act s others (TcpSetting side setting) e h = by_setting s.moment setting s.socket h
+by_act s others (Offer side moment true) e h =
+    event_near moment s.socket (Asked (context_at side (record s { moment = moment })) true) refl (weakened s moment e h)
+by_act s others (Offer side moment false) e h =
+    event_near moment s.socket (Asked (context_at side (record s { moment = moment })) false) refl (weakened s moment e h)
+by_act s others (Deliver from k) e h = by_delivery (other from) s (slice_get others k) h
+
+record BothNear (both : Both PairSide) : Type 0 where
+  a : NearSide both.a
+  b : NearSide both.b
+
+near_of : (both : Both PairSide) (side : Side) → BothNear both → NearSide (at both side)
+near_of both A n = n.a
+near_of both B n = n.b
+
+by_put : (both : Both PairSide) (side : Side) (new : PairSide) → BothNear both → NearSide new → BothNear (put both side new)
+by_put both A new n h = record { a = h; b = n.b }
+by_put both B new n h = record { a = n.a; b = h }
+
+-- an event that is taken
+goes_on : (p : PairValue) (event : PairEvent) → refusal p event ≡ None → GoesOn (at p.sides (side_of event)) event
+goes_on p (Offer side moment sent) e =
+    le_of (at p.sides side).moment moment (comes_later (at p.sides side).moment moment e)
+goes_on p (Listen side endpoint) e = tt
+goes_on p (Connect side remote local) e = tt
+goes_on p (Send side bytes) e = tt
+goes_on p (Recv side count) e = tt
+goes_on p (Close side) e = tt
+goes_on p (Abort side) e = tt
+goes_on p (TcpSetting side setting) e = tt
+goes_on p (Deliver from k) e = tt
+
+by_event : (p : PairValue) (event : PairEvent) → refusal p event ≡ None → BothNear p.sides → BothNear (happens p event).pair.sides
+by_event p event e n =
+    by_put p.sides (side_of event) (acting p event).side n
+    (by_act (at p.sides (side_of event)) (at p.sides (other (side_of event))).sent event (goes_on p event e) (near_of p.sides (side_of event) n))
+
+by_steps : (old : PairValue) (events : List PairEvent) (new : PairValue) → Steps old events new → BothNear old.sides → BothNear new.sides
+by_steps old [] new is n = subst (λ (p : PairValue). BothNear p.sides) (sym is) n
+by_steps old (event ∷ events) new s n = by_steps (happens old event).pair events new s.1 (by_event old event s.0 n)
+
+reached_near : (p : PairValue) (side : Side) → IsReached p → NearSide (at p.sides side)
+reached_near p side r =
+    near_of p.sides side
+    (by_steps (new_pair (new_socket r.room_a r.ring_a) (new_socket r.room_b r.ring_b)) r.events p r.steps
+    (record { a = new_near (pos 0) r.room_a r.ring_a; b = new_near (pos 0) r.room_b r.ring_b }))
+
+pub timer_near : (p : PairValue) (side : Side) → IsReached p → IsNear (at p.sides side).moment 60_000_000 (socket_of p side).block.timers.retransmit_at
+timer_near p side r = (reached_near p side r).timer
+
+pub pause_near : (p : PairValue) (side : Side) → IsReached p → IsNear (at p.sides side).moment 1_000_000 (socket_of p side).block.timers.draws_from
+pause_near p side r = (reached_near p side r).pause
+
+now_within : (now : ℤ) → now ≤ℤ (now +ℤ pos 60_000_000)
+now_within now = first_of (omega (arith, ints), grind (arith, ints))
+
+restart_near : (now : ℤ) (timer : Option ℤ) → IsNear now 60_000_000 timer → restart_by now timer ≤ℤ (now +ℤ pos 60_000_000)
+restart_near now None n = now_within now
+restart_near now (Some m) n =
+    cond_both (int_lt now m) m now (λ (t : ℤ). t ≤ℤ (now +ℤ pos 60_000_000)) (λ _. n) (λ _. now_within now)
+
+pub restart_soon : (p : PairValue) (side : Side) → IsReached p → restart_in p side ≤ℤ ((at p.sides side).moment +ℤ pos 60_000_000)
+restart_soon p side r = restart_near (at p.sides side).moment (socket_of p side).block.timers.retransmit_at (timer_near p side r)

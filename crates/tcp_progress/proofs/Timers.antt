@@ -1,0 +1,392 @@
+-- The retransmission timer of a socket runs out within a minute, and the pause between drawn answers lasts a second at most.
+use Rattle.std.proofs.Common.{◌≡◌, ℕ, ◌+◌, ◌-◌, ◌*◌, ◌≤◌, ◌==◌, ◌&&◌, nat_le, nat_lt, not, min, max, ℤ, pos, ◌+ℤ◌, ◌≤ℤ◌, Bool, true, false, if◌then◌else◌}
+use Rattle.std.proofs.Common.{List, length, take, Option, Some, None, is_some, is_none, refl, sym, subst, arith}
+use Rattle.std.proofs.lemmas.Bool.{cond_both}
+use Rattle.std.proofs.lemmas.Int.{ints}
+use Rattle.net_base.specs.Ring.{Ring, anchored, enqueued}
+use Rattle.ip_wire.specs.IpRepr.{IpRepr}
+use Rattle.ip_wire.specs.Tcp.{header_len}
+use Rattle.ip_wire.specs.TcpHeader.{TcpHeader}
+use Rattle.tcp_tie.specs.Context.{ContextValue}
+use Rattle.tcp_tie.specs.Offers.{Offered}
+use Rattle.tcp_model.specs.RoundTrip as round_trip
+use Rattle.tcp_model.specs.RoundTrip.{RoundTripValue, least_of}
+use Rattle.tcp_rules.specs.EndpointPair.{EndpointPair}
+use Rattle.tcp_rules.specs.Endpoints.{header_for}
+use Rattle.tcp_rules.specs.Moments.{is_over, timeout_from}
+use Rattle.tcp_rules.specs.OfferKind.{OfferKind}
+use Rattle.tcp_rules.specs.OfferKind.TheVariants as Kind
+use Rattle.tcp_rules.specs.OpenOffer.{OpenOffer}
+use Rattle.tcp_rules.specs.State.TheVariants as In
+use Rattle.tcp_rules.specs.States.{is_closed, is_opening, is_time_wait, takes_writes, after_close}
+use Rattle.tcp_pair_model.specs.Acknowledged.{round_trip_after, una_moved, windowed, acks_own_syn, is_blind}
+use Rattle.tcp_pair_model.specs.Arrival.{arrives, waiting_anew}
+use Rattle.tcp_pair_model.specs.Block.{Block}
+use Rattle.tcp_pair_model.specs.Blocks.{fresh_block}
+use Rattle.tcp_pair_model.specs.Calls.{listening, connected_by, pair_for, sent_more}
+use Rattle.tcp_pair_model.specs.FirstNumbers.{number_for}
+use Rattle.tcp_pair_model.specs.LossRecovery.{is_first_lost, loss_probed}
+use Rattle.tcp_pair_model.specs.Offers.{number_at, offer_choice, offer_of, offer_segment}
+use Rattle.tcp_pair_model.specs.Retries.{heard, asked, one_more}
+use Rattle.tcp_pair_model.specs.Rules.{Choice, backed_off_now, control_for, probe_choice, resend_choice, text_choice}
+use Rattle.tcp_pair_model.specs.Segments.{ack_segment, hops_of, keep_alive_segment, reset_segment, segment, syn_segment}
+use Rattle.tcp_pair_model.specs.Settled.{end_of, nxt_moved, probed, recorded, resent, sent_as, settled, syn_went, went}
+use Rattle.tcp_pair_model.specs.Timestamps.{echo_of, echo_taken, stamp_taken, timed_by, timed_with}
+use Rattle.tcp_pair_model.specs.Value.{TcpValue, Arrived, with_block, unoffered, ended, free_in, new_socket, queued_in, room_of, window_of}
+use Rattle.tcp_model.specs.Opening.{took_syn}
+use Rattle.tcp_rules.specs.Events.{Event, after}
+use Rattle.tcp_rules.specs.Events.Event.{Comes, Asked, Listens, Connects, Sends, Reads, Closes, Aborts, Sets}
+use Rattle.tcp_rules.specs.Events.Setting.{Timeout, KeepAlive, AckDelay, Nagle, HopLimit, Timestamps, Paused, Retries, Congestion, MinRto}
+use Rattle.tcp_rules.proofs.ArrivalCases.{by_arrival, Received, Opening, Content, Drawing, acked_open, heeded, timed}
+use Rattle.tcp_rules.proofs.OfferCases.{FirstRules, by_rules, begun, probing}
+use Rattle.tcp_progress.specs.Near.{IsNear}
+
+-- THE TIMEOUT
+
+pub record IsGood (r : RoundTripValue) : Type 0 where
+  pub least : r.least ≤ 60_000
+  pub timeout : r.timeout ≤ 60_000
+
+measured_good : (r : RoundTripValue) (millis : ℕ) → IsGood r → IsGood (round_trip.measured r millis)
+measured_good r millis g = record { least = g.least; timeout = below _ } where
+  below : (n : ℕ) → min 60_000 n ≤ 60_000
+  below n = omega arith
+
+advanced_good : (r : RoundTripValue) (by : ℕ) (now : ℤ) → IsGood r → IsGood (round_trip.advanced r by now)
+advanced_good r by now g =
+    elim r.sample as (λ sample. IsGood (round_trip.advanced_with r by now sample)) [
+      | None ↦ g
+      | Some s ↦
+          cond_both (nat_le s.ends by) (round_trip.measured r (round_trip.millis_between s.since now))
+          (record r { sample = Some (record s { ends = s.ends - by }) }) IsGood
+          (λ _. measured_good r (round_trip.millis_between s.since now) g)
+          (λ _. record { least = g.least; timeout = g.timeout })
+    ]
+
+late_good : (r : RoundTripValue) → IsGood r → IsGood (round_trip.begun_late r)
+late_good r g = record { least = g.least; timeout = at (is_none r.estimate) } where
+  at : (first : Bool) → (if first then max 3000 r.least else r.timeout) ≤ 60_000
+  at true = more r.least g.least where
+    more : (n : ℕ) → n ≤ 60_000 → max 3000 n ≤ 60_000
+    more n e = omega arith
+  at false = g.timeout
+
+after_good : (b : Block) (by : ℕ) (now : ℤ) → IsGood b.round_trip → IsGood (round_trip_after b by now)
+after_good b by now g =
+    cond_both (acks_own_syn b by && b.sender.syn_lost) (round_trip.begun_late (round_trip.advanced b.round_trip by now))
+    (round_trip.advanced b.round_trip by now) IsGood
+    (λ _. late_good (round_trip.advanced b.round_trip by now) (advanced_good b.round_trip by now g))
+    (λ _. advanced_good b.round_trip by now g)
+
+echo_good : (r : RoundTripValue) (by : ℕ) (echo : Option ℕ) → IsGood r → IsGood (timed_by r by echo)
+echo_good r by echo g = cond_both (by == 0) r (timed_with r by echo) IsGood (λ _. g) (λ _. at echo) where
+  at : (echo : Option ℕ) → IsGood (timed_with r by echo)
+  at None = g
+  at (Some millis) =
+      cond_both (round_trip.is_reached r.sample by) (round_trip.measured r millis) r IsGood (λ _. measured_good r millis g) (λ _. g)
+
+least_good : (duration : ℕ) → least_of duration ≤ 60_000
+least_good duration = below _ where
+  below : (n : ℕ) → min 60_000 n ≤ 60_000
+  below n = omega arith
+
+set_good : (duration : ℕ) (r : RoundTripValue) → r.timeout ≤ 60_000 → IsGood (round_trip.with_least duration r)
+set_good duration r e = record { least = least_good duration; timeout = both (least_of duration) r.timeout (least_good duration) e } where
+  both : (a b : ℕ) → a ≤ 60_000 → b ≤ 60_000 → max a b ≤ 60_000
+  both a b e f = omega arith
+
+-- WHAT IS NEAR
+
+-- of these four of a block
+pub record IsBounded (now : ℤ) (r : RoundTripValue) (runs_out draws_from : Option ℤ) : Type 0 where
+  pub good : IsGood r
+  pub timer : IsNear now 60_000_000 runs_out
+  pub pause : IsNear now 1_000_000 draws_from
+
+abbrev pub Bounded : ℤ → Block → Type 0
+Bounded now b = IsBounded now b.round_trip b.timers.retransmit_at b.timers.draws_from
+
+timeout_near : (now : ℤ) (r : RoundTripValue) → IsGood r → IsNear now 60_000_000 (Some (timeout_from now r))
+timeout_near now r g = by r.timeout g.timeout where
+  by : (n : ℕ) → n ≤ 60_000 → (now +ℤ pos (n * 1000)) ≤ℤ (now +ℤ pos 60_000_000)
+  by n e = more (n * 1000) 60_000_000 (thousand n e) where
+    thousand : (n : ℕ) → n ≤ 60_000 → n * 1000 ≤ 60_000_000
+    thousand n e = omega arith
+
+    more : (a b : ℕ) → a ≤ b → (now +ℤ pos a) ≤ℤ (now +ℤ pos b)
+    more a b e = first_of (omega (arith, ints), grind (arith, ints))
+
+pub later_near : (old now : ℤ) (duration : ℕ) (at : Option ℤ) → old ≤ℤ now → IsNear old duration at → IsNear now duration at
+later_near old now duration None e n = tt
+later_near old now duration (Some m) e n = by m n where
+  by : (m : ℤ) → m ≤ℤ (old +ℤ pos duration) → m ≤ℤ (now +ℤ pos duration)
+  by m f = first_of (omega (arith, ints), grind (arith, ints))
+
+fresh_near : (now : ℤ) (b : Block) → Bounded now (fresh_block b.settings)
+fresh_near now b = record { good = set_good b.settings.min_rto round_trip.fresh (first 1000 refl); timer = tt; pause = tt } where
+  first : (n : ℕ) → n ≡ 1000 → n ≤ 60_000
+  first n e = omega arith
+
+moved_near : (b : Block) (by queued : ℕ) (now : ℤ) → Bounded now b → Bounded now (una_moved b by queued now)
+moved_near b by queued now h = record {
+  good = good;
+  timer =
+      cond_both (by == 0) b.timers.retransmit_at
+      (if b.sender.in_flight - by == 0 then None
+      else if b.sender.partial && is_blind b by then b.timers.retransmit_at else Some (timeout_from now (round_trip_after b by now)))
+      (IsNear now 60_000_000)
+      (λ _. h.timer)
+      (λ _.
+      cond_both (b.sender.in_flight - by == 0) None
+      (if b.sender.partial && is_blind b by then b.timers.retransmit_at else Some (timeout_from now (round_trip_after b by now)))
+      (IsNear now 60_000_000)
+      (λ _. tt)
+      (λ _.
+      cond_both (b.sender.partial && is_blind b by) b.timers.retransmit_at (Some (timeout_from now (round_trip_after b by now)))
+      (IsNear now 60_000_000)
+      (λ _. h.timer)
+      (λ _. timeout_near now (round_trip_after b by now) good)));
+  pause = h.pause;
+}
+  where
+    good : IsGood (round_trip_after b by now)
+    good = after_good b by now h.good
+
+echoed_near : (b : Block) (header : TcpHeader) (by : ℕ) (now : ℤ) → Bounded now b → Bounded now (echo_taken b header by now)
+echoed_near b header by now h =
+    record { good = echo_good b.round_trip by (echo_of b header now) h.good; timer = h.timer; pause = h.pause }
+
+-- A SEGMENT COMES
+
+module _ (cx : ContextValue) (ip : IpRepr) (header : TcpHeader) (bytes : List ℕ) where
+  abbrev NearAfter : Arrived → Type 0
+  NearAfter a = Bounded cx.moment a.socket.block
+
+  same : (now : ℤ) → IsNear now 1_000_000 (Some (now +ℤ pos 1_000_000))
+  same now = by (now +ℤ pos 1_000_000) where
+    by : (m : ℤ) → m ≤ℤ m
+    by m = grind arith
+
+  near_drawing : (x : TcpValue) → Bounded cx.moment x.block → Drawing cx ip header bytes NearAfter x
+  near_drawing x h =
+      record { answers = λ _. record { good = h.good; timer = h.timer; pause = same cx.moment }; pauses = h }
+
+  near_content : (x : TcpValue) → Bounded cx.moment x.block → Content cx ip header bytes NearAfter x
+  near_content x h =
+      record { plain = h; fin = λ _ _. h; ordered = λ _ _ _ _. h; ordered_fin = λ _ _ _ _. h; early = λ _ _ _ _. h }
+
+  risen : (u : TcpValue) (by : ℕ) → Bounded cx.moment u.block → Bounded cx.moment (acked_open (timed cx.moment header u by) by cx.moment).block
+  risen u by h =
+      moved_near (echo_taken u.block header by cx.moment) by (queued_in u) cx.moment (echoed_near u.block header by cx.moment h)
+
+  near_received : (u : TcpValue) → Bounded cx.moment u.block → Received cx ip header bytes NearAfter u
+  near_received u h = record {
+    stays = h;
+    refuses = h;
+    draws = near_drawing u h;
+    falls = λ _ _ _. fresh_near cx.moment u.block;
+    ends = λ _ _ _. h;
+    closes = λ by _ _. risen u by h;
+    taken = λ by _ _. near_content (heeded cx.moment header (length bytes) u by (acked_open (timed cx.moment header u by) by cx.moment).block) (risen u by h);
+    taken_window = λ by _ _.
+        near_content (heeded cx.moment header (length bytes) u by (windowed (acked_open (timed cx.moment header u by) by cx.moment).block header))
+        (risen u by h);
+    news = λ by _ _. near_drawing (waiting_anew (acked_open (timed cx.moment header u by) by cx.moment) header cx.moment) (risen u by h);
+    outside = near_drawing (waiting_anew u header cx.moment) h;
+    old = λ _. near_content (with_block u (stamp_taken (heard u.block) header cx.moment)) h;
+  }
+
+  near_opening : (u : TcpValue) → Bounded cx.moment u.block → Opening cx ip header bytes NearAfter u
+  near_opening u h = record {
+    opens = λ _ _. h;
+    refuses = h;
+    ends = λ _. h;
+    connects = λ _ _.
+        moved_near (echo_taken (took_syn u.block header) header 1 cx.moment) 1 0 cx.moment (echoed_near (took_syn u.block header) header 1 cx.moment h);
+    crosses = λ _ _. h;
+  }
+
+  near_arrival : (v : TcpValue) → Bounded cx.moment v.block → Bounded cx.moment (arrives cx v ip header bytes).socket.block
+  near_arrival v h =
+      by_arrival cx ip header bytes NearAfter v h (λ _. near_opening (unoffered v) h) (λ _. near_received (unoffered v) h)
+
+-- AN OFFER
+
+timing_good : (r : RoundTripValue) (ends : ℕ) (now : ℤ) → IsGood r → IsGood (round_trip.timing r ends now)
+timing_good r ends now g =
+    elim r.sample as (λ sample. IsGood (round_trip.timing_with r ends now sample)) [
+      | None ↦ record { least = g.least; timeout = g.timeout }
+      | Some s ↦ g
+    ]
+
+module _ (now : ℤ) (b : Block) (o : OpenOffer) (queued : ℕ) (same : o.moment ≡ now) (h : Bounded now b) where
+  nxt_good : IsGood (nxt_moved b (end_of b o) queued o.moment).round_trip
+  nxt_good =
+      cond_both (nat_lt b.sender.top (end_of b o)) (round_trip.timing b.round_trip (end_of b o) o.moment) b.round_trip IsGood
+      (λ _. timing_good b.round_trip (end_of b o) o.moment h.good)
+      (λ _. h.good)
+
+  went_near : Bounded now (went b o queued)
+  went_near = record {
+    good = nxt_good;
+    timer =
+        cond_both (is_some b.timers.retransmit_at) b.timers.retransmit_at
+        (Some (timeout_from o.moment (nxt_moved b (end_of b o) queued o.moment).round_trip)) (IsNear now 60_000_000)
+        (λ _. h.timer)
+        (λ _.
+        subst (λ (t : ℤ). IsNear t 60_000_000 (Some (timeout_from o.moment (nxt_moved b (end_of b o) queued o.moment).round_trip))) same
+        (timeout_near o.moment (nxt_moved b (end_of b o) queued o.moment).round_trip nxt_good));
+    pause = h.pause;
+  }
+
+  asked_near : (b : Block) → Bounded now b → Bounded now (asked b o.moment)
+  asked_near b h =
+      cond_both (is_over o.moment b.timers.counts_from)
+      (record b {
+        sender = record b.sender { unanswered = one_more b.sender.unanswered };
+        timers = record b.timers { counts_from = Some (timeout_from o.moment b.round_trip) };
+      })
+      b (Bounded now) (λ _. h) (λ _. h)
+
+doubled : (r : RoundTripValue) → IsGood r → IsGood (round_trip.backed_off r)
+doubled r g = record { least = g.least; timeout = below _ } where
+  below : (n : ℕ) → min 60_000 n ≤ 60_000
+  below n = omega arith
+
+untimed_good : (r : RoundTripValue) → IsGood r → IsGood (round_trip.untimed r)
+untimed_good r g = record { least = g.least; timeout = g.timeout }
+
+sent_near : (now : ℤ) (kind : OfferKind) (b : Block) (o : OpenOffer) (queued : ℕ) → o.moment ≡ now → Bounded now b → Bounded now (sent_as kind b o queued)
+sent_near now Kind.Reset b o queued same h = h
+sent_near now Kind.Syn b o queued same h = went_near now (syn_went b o) o queued same h
+sent_near now Kind.FastRetransmission b o queued same h =
+    went_near now (resent b (end_of b o)) o queued same
+    (record {
+      good = untimed_good b.round_trip h.good;
+      timer =
+          cond_both (b.reno.recovers && is_first_lost b) None b.timers.retransmit_at (IsNear now 60_000_000) (λ _. tt) (λ _. h.timer);
+      pause = h.pause;
+    })
+sent_near now Kind.Text b o queued same h = went_near now b o queued same h
+sent_near now Kind.Probe b o queued same h =
+    asked_near now b o queued same h (probed b (end_of b o) o.moment) (record { good = doubled b.round_trip h.good; timer = h.timer; pause = h.pause })
+sent_near now Kind.KeepAlive b o queued same h = asked_near now b o queued same h b h
+sent_near now Kind.Ack b o queued same h = h
+sent_near now Kind.WindowUpdate b o queued same h = h
+
+module _ (cx : ContextValue) (v : TcpValue) (h : Bounded cx.moment v.block) where
+  abbrev Both : Offered TcpValue → Type 0
+  Both o = Bounded cx.moment (settled true o.socket).block × Bounded cx.moment o.socket.block
+
+  by_segment :
+      (kind : OfferKind) (x : TcpValue) (pair : EndpointPair) (header : TcpHeader) (place len : ℕ) → Bounded cx.moment x.block
+      → Both (offer_segment kind cx x pair header place len)
+  by_segment kind x pair header place len g = (sent_near cx.moment kind (recorded x.block k (room_of x.received)) k (queued_in x) refl g, g) where
+    k : OpenOffer
+    k = record {
+      kind = kind;
+      moment = cx.moment;
+      header = header_for pair.addresses (hops_of x.block.settings.hop_limit) (header_len header + len);
+      segment = header;
+      place = place;
+      len = len;
+    }
+
+  by_choice : (kind : OfferKind) (x : TcpValue) (pair : EndpointPair) (c : Choice) → Bounded cx.moment x.block → Both (offer_choice kind cx x pair c)
+  by_choice kind x pair c g =
+      by_segment kind x pair (segment x.block pair cx.moment (window_of x) (control_for c (queued_in x)) (number_at x.block c.place)) c.place c.len g
+
+  near_first : (pair : EndpointPair) (b : Block) → Bounded cx.moment b → FirstRules cx pair Both (with_block (unoffered v) b)
+  near_first pair b g = record {
+    syn = λ _. by_segment Kind.Syn w pair (syn_segment b pair cx.moment cx.ip_mtu (room_of v.received) (free_in v)) 0 0 g;
+    again = λ _ _. by_choice Kind.FastRetransmission w pair (resend_choice b pair.addresses cx.ip_mtu v.queued) g;
+    text = λ _ _. by_choice Kind.Text w pair (text_choice b pair.addresses cx.ip_mtu v.queued) g;
+    last = λ _.
+        record {
+          probe = λ _ _. by_choice Kind.Probe x pair probe_choice g;
+          held_back = λ _ _. by_choice Kind.Text x pair (text_choice x.block pair.addresses cx.ip_mtu v.queued) g;
+          ack = λ _. by_segment Kind.Ack x pair (ack_segment x.block pair cx.moment (window_of x)) 0 0 g;
+          update = λ _ _. by_segment Kind.WindowUpdate x pair (ack_segment x.block pair cx.moment (window_of x)) 0 0 g;
+          keep_alive = λ _ _. by_segment Kind.KeepAlive x pair (keep_alive_segment x.block pair cx.moment (window_of x)) 0 1 g;
+          quiet = λ _. (g, g);
+        };
+  }
+    where
+      w : TcpValue
+      w = with_block (unoffered v) b
+
+      x : TcpValue
+      x = probing cx w
+
+  near_offer : Both (offer_of cx v)
+  near_offer =
+      by_rules cx v Both
+      (record {
+        nobody = λ _. (h, h);
+        time_wait = λ _. (h, h);
+        timeout = λ _. (h, h);
+        closed = λ _. (h, h);
+        reset = λ pair _ _. by_segment Kind.Reset (unoffered v) pair (reset_segment v.block pair cx.moment (window_of v)) 0 0 h;
+        falls = λ _ _ _. (fresh_near cx.moment v.block, fresh_near cx.moment v.block);
+        over = λ _ _ _. (h, h);
+        backs = λ pair _ _ _.
+            near_first pair (backed_off_now (begun cx v))
+            (record { good = untimed_good (round_trip.backed_off v.block.round_trip) (doubled v.block.round_trip h.good); timer = tt; pause = h.pause });
+        probes = λ pair _ _ _ _. near_first pair (loss_probed (begun cx v)) h;
+        goes = λ pair _ _ _. near_first pair (begun cx v) h;
+      })
+
+-- EVENTS
+
+connected_near : (now : ℤ) (v : TcpValue) (names : Option EndpointPair) (number : ℕ) → Bounded now v.block → Bounded now (connected_by v names number).block
+connected_near now v None number h = h
+connected_near now v (Some pair) number h = fresh_near now v.block
+
+-- the moment of an event, if it has one
+abbrev pub IsAt : ℤ → Event → Type 0
+IsAt now (Comes cx ip header bytes) = cx.moment ≡ now
+IsAt now (Asked cx sent) = cx.moment ≡ now
+IsAt now other = Unit {0}
+
+abbrev BoundedIn : ℤ → TcpValue → Type 0
+BoundedIn now v = Bounded now v.block
+
+pub event_near : (now : ℤ) (v : TcpValue) (it : Event) → IsAt now it → BoundedIn now v → BoundedIn now (after v it)
+event_near now v (Comes cx ip header bytes) at h =
+    subst (λ (t : ℤ). BoundedIn t (after v (Comes cx ip header bytes))) at
+    (near_arrival cx ip header bytes v (subst (λ (t : ℤ). Bounded t v.block) (sym at) h))
+event_near now v (Asked cx true) at h =
+    subst (λ (t : ℤ). BoundedIn t (after v (Asked cx true))) at (near_offer cx v (subst (λ (t : ℤ). Bounded t v.block) (sym at) h)).0
+event_near now v (Asked cx false) at h =
+    subst (λ (t : ℤ). BoundedIn t (after v (Asked cx false))) at (near_offer cx v (subst (λ (t : ℤ). Bounded t v.block) (sym at) h)).1
+event_near now v (Listens endpoint) at h =
+    cond_both (is_closed v.block.state && not (endpoint.port == 0)) (listening v endpoint) (unoffered v) (BoundedIn now)
+    (λ _. fresh_near now v.block) (λ _. h)
+event_near now v (Connects cx remote local) at h =
+    cond_both (is_closed v.block.state) (connected_by v (pair_for cx remote local) (number_for cx (pair_for cx remote local))) (unoffered v) (BoundedIn now)
+    (λ _. connected_near now v (pair_for cx remote local) (number_for cx (pair_for cx remote local)) h) (λ _. h)
+event_near now v (Sends bytes) at h =
+    cond_both (takes_writes v.block.state) (sent_more v (enqueued (anchored v.queued) (take (min (length bytes) (length v.queued.free)) bytes))) (unoffered v)
+    (BoundedIn now) (λ _. h) (λ _. h)
+event_near now v (Reads count) at h = h
+event_near now v Closes at h =
+    cond_both (is_opening v.block.state) (ended (unoffered v)) (with_block (unoffered v) (record v.block { state = after_close v.block.state }))
+    (BoundedIn now) (λ _. h) (λ _. h)
+event_near now v Aborts at h =
+    cond_both (is_time_wait v.block.state) (ended (unoffered v))
+    (with_block (unoffered v) (record v.block { state = In.Closed; sender = record v.block.sender { reset_due = is_some v.block.names.pair } }))
+    (BoundedIn now) (λ _. h) (λ _. h)
+event_near now v (Sets (Timeout duration)) at h = h
+event_near now v (Sets (KeepAlive interval)) at h = h
+event_near now v (Sets (AckDelay duration)) at h = h
+event_near now v (Sets (Nagle enabled)) at h = h
+event_near now v (Sets (HopLimit limit)) at h = h
+event_near now v (Sets (Timestamps generator)) at h = h
+event_near now v (Sets (Paused paused)) at h = h
+event_near now v (Sets (Retries limit)) at h = h
+event_near now v (Sets (Congestion control)) at h = h
+event_near now v (Sets (MinRto duration)) at h =
+    record { good = set_good duration v.block.round_trip h.good.timeout; timer = h.timer; pause = h.pause }
+
+pub new_near : (now : ℤ) (room : ℕ) (ring : Ring ℕ) → Bounded now (new_socket room ring).block
+new_near now room ring = fresh_near now (new_socket room ring).block

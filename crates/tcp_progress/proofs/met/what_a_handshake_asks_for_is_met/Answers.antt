@@ -1,0 +1,57 @@
+use Rattle.std.proofs.Common.{inl, inr, refl}
+use Rattle.net_base.specs.Ring.{ring}
+use Rattle.std.specs.Prelude.{[], ◌∷◌, ◌++◌, pos, true, replicate}
+use Rattle.tcp_model.specs.AddressPair.TheVariants as Pair
+use Rattle.tcp_rules.specs.EndpointPair.{EndpointPair}
+use Rattle.tcp_pair_model.specs.Values.{address_of}
+use Rattle.tcp_pair_model.specs.declared.event.PairEvent.TheVariants.{Offer}
+use Rattle.tcp_pair_model.specs.declared.event.Side.TheVariants.{A, B}
+use Rattle.tcp_progress.specs.Met.{calling}
+use Rattle.tcp_progress.proofs.met.what_a_handshake_asks_for_is_met.Goals as goal
+
+abbrev own : EndpointPair
+own = record { addresses = Pair.Ipv4 (address_of A) (address_of B); local_port = 49_500; remote_port = 80 }
+
+pub returns-clause-reached : goal.returns-clause-reached
+returns-clause-reached c = record {
+  room_a = 64;
+  room_b = 64;
+  ring_a = ring [] (replicate 64 0) 0;
+  ring_b = ring [] (replicate 64 0) 0;
+  events = calling ++ Offer A (pos 0) true ∷ [];
+  steps = (refl, (refl, (refl, refl)));
+}
+
+pub returns-clause-first : goal.returns-clause-first
+returns-clause-first c = record {
+  calls = refl;
+  listens = refl;
+  own = own;
+  named = refl;
+  port = refl;
+  address = refl;
+  over = inl refl;
+  goes = record { lasts = refl; in_time = refl; alive = refl; tries = refl };
+  caller = record { timeout = refl; tries = refl };
+  listener = record { timeout = refl; unpaused = refl; stampless = refl; tries = refl };
+  at_first = refl;
+  at_second = refl;
+  at_third = refl;
+}
+
+pub returns-clause-lost : goal.returns-clause-lost
+returns-clause-lost c = record {
+  calls = refl;
+  listens = refl;
+  own = own;
+  named = refl;
+  port = refl;
+  address = refl;
+  over = inr refl;
+  goes = record { lasts = refl; in_time = refl; alive = refl; tries = refl };
+  caller = record { timeout = refl; tries = refl };
+  listener = record { timeout = refl; unpaused = refl; stampless = refl; tries = refl };
+  at_first = refl;
+  at_second = refl;
+  at_third = refl;
+}

@@ -1,0 +1,72 @@
+-- A side that starts over at SND.UNA sends of itself, where both windows let it (RFC 9293, 3.7.4 and 3.8; RFC 5681, 3.1; RFC 6298, 5.4).
+use Rattle.std.specs.Prelude.{◌≡◌, ◌⊎◌, ℕ, ◌+◌, ◌≤◌, min, max, ℤ, true, false, if◌then◌else◌, length, Some}
+use Rattle.ip_wire.specs.Seq.{distance_of}
+use Rattle.tcp_tie.specs.Context.{ContextValue}
+use Rattle.tcp_rules.specs.Ends.{GoesOn}
+use Rattle.tcp_rules.specs.Moments.{is_due}
+use Rattle.tcp_rules.specs.OpenOffer.{OpenOffer}
+use Rattle.tcp_rules.specs.Reply.{Reply}
+use Rattle.tcp_rules.specs.Timing.{carries}
+use Rattle.tcp_pair_model.specs.Answers.{may_draw}
+use Rattle.tcp_pair_model.specs.Block.{Block}
+use Rattle.tcp_pair_model.specs.Offers.{offer_of}
+use Rattle.tcp_pair_model.specs.Rules.{resends}
+use Rattle.tcp_pair_model.specs.Segments.{segment_len, stamp_of}
+use Rattle.tcp_pair_model.specs.Sides.{at, other}
+use Rattle.tcp_pair_model.specs.Timestamps.{comes_older}
+use Rattle.tcp_pair_model.specs.Value.{TcpValue, free_in, queued_in, room_of}
+use Rattle.tcp_pair_model.specs.Values.{PairValue, context_at}
+use Rattle.tcp_pair_model.specs.declared.event.Side.{Side}
+use Rattle.tcp_progress.specs.Exchange.{HasSpace, IsOpen, left_of, offer_comes, text_of}
+use Rattle.tcp_progress.specs.Pair.{AreMirrored, OneListened, context_of, socket_of}
+
+-- nothing is in flight, and nothing is to go again at once
+abbrev pub IsIdle : TcpValue → Type 0
+IsIdle v = (v.block.sender.in_flight ≡ 0) × (resends v.block ≡ false)
+
+-- something is in flight, and its timer has run out
+abbrev pub HasRunOut : ContextValue → TcpValue → Type 0
+HasRunOut cx v = (1 ≤ v.block.sender.in_flight) × (is_due cx.moment v.block.timers.retransmit_at ≡ true)
+
+-- the congestion window then: a segment, where the timer ran out
+abbrev pub first_cwnd : ContextValue → Block → ℕ
+first_cwnd cx b = if is_due cx.moment b.timers.retransmit_at then b.reno.mss else b.reno.cwnd
+
+-- a full segment, or all that is queued
+abbrev pub worth_sending : TcpValue → ℕ
+worth_sending v = min (max 1 v.block.peer.mss) (queued_in v)
+
+-- A side with its connection that owes text or a FIN, and starts over: the window of the remote and that of congestion control take a full
+-- segment, or all that is queued.
+pub record MaySend (cx : ContextValue) (v : TcpValue) : Type 0 where
+  pub own : IsOpen v.block
+  pub owes : 1 ≤ left_of v
+  pub over : IsIdle v ⊎ HasRunOut cx v
+  pub goes : GoesOn cx v
+  pub window : worth_sending v ≤ v.block.peer.window
+  pub cwnd : worth_sending v ≤ first_cwnd cx v.block
+
+-- it offers a part of its send queue, with text or a FIN
+pub record Sends (cx : ContextValue) (v : TcpValue) : Type 0 where
+  pub o : OpenOffer
+  pub offered : (offer_of cx v).socket.offered ≡ Some o
+  pub kind : carries o.kind ≡ true
+  pub some : 1 ≤ segment_len o.segment (length (text_of v o))
+
+-- The side may send at this moment, and its partner is as an exchange asks for: nothing is said of what is offered.
+pub record MayGoOn (p : PairValue) (side : Side) (moment : ℤ) : Type 0 where
+  pub mirrored : OneListened p side ⊎ AreMirrored (socket_of p side).block (socket_of p (other side)).block
+  pub sends : MaySend (context_of p side moment) (socket_of p side)
+  pub theirs : IsOpen (socket_of p (other side)).block
+  -- the partner has room for a byte, and what it took since lies within a buffer, a SYN and a FIN
+  pub room : 1 ≤ free_in (socket_of p (other side))
+  pub near : distance_of (socket_of p side).block.sender.una (socket_of p (other side)).block.receiver.next ≤ room_of (socket_of p (other side)).received + 2
+  -- it may answer, and the answer lies inside the window
+  pub draws : may_draw (at p.sides (other side)).moment (socket_of p (other side)).block.timers.draws_from ≡ true
+  pub space : HasSpace (socket_of p side) (socket_of p (other side))
+  -- neither segment has a timestamp that is older than TS.Recent
+  pub fresh : comes_older (stamp_of (socket_of p side).block moment) (socket_of p (other side)).block.peer.recent ≡ false
+  pub answer_fresh :
+      (o : OpenOffer) (reply : Reply) → (offer_of (context_of p side moment) (socket_of p side)).socket.offered ≡ Some o
+      → (offer_comes (context_at (other side) (at p.sides (other side))) (socket_of p (other side)) (socket_of p side) o).answer ≡ Some reply
+      → comes_older reply.segment.options.timestamp (socket_of p side).block.peer.recent ≡ false

@@ -1,0 +1,42 @@
+-- One way of a connection: rounds in which the partner's user reads, and the side has an exchange at the moment that its timer names.
+use Rattle.std.specs.Prelude.{◌≡◌, ℕ, zero, suc, ◌^◌, ◌≤◌, ◌==◌, ℤ, true, if◌then◌else◌, Option, Some, None}
+use Rattle.tcp_pair_model.specs.Sides.{at, other}
+use Rattle.tcp_pair_model.specs.Steps.{refusal}
+use Rattle.tcp_pair_model.specs.Values.{PairValue, past_at}
+use Rattle.tcp_pair_model.specs.declared.event.PairEvent.TheVariants.{Offer, Recv}
+use Rattle.tcp_pair_model.specs.declared.event.Side.{Side}
+use Rattle.tcp_progress.specs.Pair.{HasStream, exchanged_in, left_in, socket_of}
+use Rattle.tcp_progress.specs.Restart.{MayGoOn}
+use Rattle.tcp_progress.specs.Rounds.{later_of, takes}
+
+-- when a side starts over: now, or when its timer runs out
+abbrev pub restart_by : ℤ → Option ℤ → ℤ
+restart_by now None = now
+restart_by now (Some moment) = later_of now moment
+
+abbrev pub restart_in : PairValue → Side → ℤ
+restart_in p side = restart_by (at p.sides side).moment (socket_of p side).block.timers.retransmit_at
+
+-- the partner's user reads all that waits
+abbrev pub read_in : PairValue → Side → PairValue
+read_in p side = takes p (Recv (other side) (2 ^ 30))
+
+-- and the side has an exchange at its moment
+abbrev pub resumed_in : PairValue → Side → PairValue
+resumed_in p side = exchanged_in (read_in p side) side (restart_in p side)
+
+-- so many rounds, as long as something isn't acknowledged
+abbrev pub settled_in : ℕ → PairValue → Side → PairValue
+settled_in zero p side = p
+settled_in (suc n) p side = if left_in p side == 0 then p else settled_in n (resumed_in p side) side
+
+-- In a round the side may send at its moment, which is one that may come, and its partner is as an exchange asks for.
+pub record MayRound (p : PairValue) (side : Side) : Type 0 where
+  pub stream : HasStream (past_at (read_in p side) side)
+  pub goes_on : MayGoOn (read_in p side) side (restart_in p side)
+  pub comes : refusal (read_in p side) (Offer side (restart_in p side) true) ≡ None
+
+-- it may in each of so many rounds, as long as something isn't acknowledged
+abbrev pub MaySettle : ℕ → PairValue → Side → Type 0
+MaySettle zero p side = Unit {0}
+MaySettle (suc n) p side = (1 ≤ left_in p side → MayRound p side) × (1 ≤ left_in p side → MaySettle n (resumed_in p side) side)
