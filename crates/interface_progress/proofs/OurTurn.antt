@@ -20,7 +20,6 @@ use Rattle.interface_ingress.specs.Packet.{PacketValue}
 use Rattle.interface_ingress.specs.Socket.{Socket}
 use Rattle.interface_ingress.specs.Socket.TheVariants as Kind
 use Rattle.interface_ingress.specs.Sockets as Sockets
-use Rattle.interface_ingress.specs.Sockets.{settled}
 use Rattle.interface_ingress.specs.WellFormed.{IsWellFormed}
 use Rattle.interface_tables.specs.Inner.{is_foreign_loopback, may_come_from}
 use Rattle.interface_tables.specs.Source.{source_for}
