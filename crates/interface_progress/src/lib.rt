@@ -4,5 +4,6 @@
 pub mod arrivals;
 pub mod datagrams;
 pub mod excluded;
+pub mod pieces;
 pub mod polls;
 pub mod rest;
