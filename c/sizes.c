@@ -1,4 +1,6 @@
-/* What a host and its sockets ask malloc for. Link it with -Wl,--wrap=malloc,--wrap=realloc,--wrap=free. */
+/* What a host and its sockets ask malloc for, and that frames which come and go ask for nothing once as many have waited as ever do: it ends
+ * with status 1 where they do. Link it with -Wl,--wrap=malloc,--wrap=realloc.
+ */
 #include "zemplovir.h"
 
 #include <stdio.h>
@@ -39,7 +41,7 @@ static void say(const char *what, uint32_t code)
     asked = calls = largest = 0;
 }
 
-int main(void)
+static void made(void)
 {
     const zv_settings settings = {.medium = ZV_ETHERNET, .hardware = {2, 0, 0, 0, 0, 1}, .mtu = 1514, .seed = 1, .frames = 16};
     const zv_address own = zv_ipv4(192, 168, 1, 1), any = zv_any();
@@ -52,5 +54,60 @@ int main(void)
         say(i == 0 ? "a UDP socket with 4 places and 4 KB each way, and the table's first place" : "one more, and the table where it grows",
             zv_udp_new(&host, 4, 4096, &socket));
     say("a TCP socket with 4 KB each way", zv_tcp_new(&host, 4096, 4096, &socket));
-    return zv_host_free(&host) == ZV_OK ? 0 : 1;
+    zv_host_free(&host);
+}
+
+/* Two hosts, each of which sends the other datagrams of all lengths. */
+static zv_host hosts[2];
+static size_t udp[2];
+
+static void begin(void)
+{
+    const zv_address any = zv_any();
+    for (int i = 0; i < 2; i++) {
+        const zv_settings settings = {
+            .medium = ZV_ETHERNET, .hardware = {2, 0, 0, 0, 0, (uint8_t)(i + 1)}, .mtu = 1514, .seed = 1, .frames = 16};
+        const zv_address own = zv_ipv4(192, 168, 1, (uint8_t)(i + 1));
+        zv_host_new(&hosts[i], &settings, 0);
+        zv_address_add(&hosts[i], &own, 24);
+        zv_udp_new(&hosts[i], 4, 8192, &udp[i]);
+        zv_udp_bind(&hosts[i], udp[i], &any, 7);
+    }
+}
+
+/* So many turns of both. Answers how many datagrams came. */
+static size_t turns(int64_t from, int64_t to)
+{
+    static uint8_t bytes[1472], frame[1514];
+    size_t length, came = 0;
+    uint8_t changed;
+    zv_endpoint remote;
+    zv_address local = zv_any();
+    for (int64_t turn = from; turn < to; turn++)
+        for (int i = 0; i < 2; i++) {
+            const zv_endpoint other = {zv_ipv4(192, 168, 1, (uint8_t)(2 - i)), 7};
+            const zv_address any = zv_any();
+            zv_udp_send(&hosts[i], udp[i], bytes, (size_t)(turn * 7919 % 1473), &other, &any);
+            zv_poll(&hosts[i], turn * 1000, 16, &changed);
+            while (zv_frame_out(&hosts[i], frame, sizeof frame, &length) == ZV_OK)
+                zv_frame_in(&hosts[1 - i], frame, length);
+            zv_poll(&hosts[1 - i], turn * 1000, 16, &changed);
+            while (zv_udp_recv(&hosts[1 - i], udp[1 - i], bytes, sizeof bytes, &length, &remote, &local) == ZV_OK)
+                came++;
+        }
+    return came;
+}
+
+int main(void)
+{
+    made();
+    begin();
+    size_t came = turns(0, 2000);
+    printf("%zu datagrams: %zu bytes in %zu calls\n", came, asked, calls);
+    asked = calls = 0;
+    came = turns(2000, 20000);
+    printf("%zu more: %zu bytes in %zu calls\n", came, asked, calls);
+    for (int i = 0; i < 2; i++)
+        zv_host_free(&hosts[i]);
+    return came == 36000 && calls == 0 ? 0 : 1;
 }

@@ -1,12 +1,13 @@
 #!/usr/bin/env python3
 """The program `host` beside Linux's own stack over the same bad link, in a network namespace of its own:
 
-    badlink.py PUMP HOST [SEEDS [BYTES]]
+    badlink.py PUMP HOST [SEEDS [BYTES [TRIPS]]]
 
-For each kind of link and each of so many seeds (5) a stream of so many bytes (200,000) is echoed: first by the host, over a TUN
-device, then by a program over Linux's own stack, between two TUN devices, of which the other one is in a namespace within. PUMP is
-linux/pump.c, built; it loses, repeats, holds back and damages the packets of both by the same chances, whose random numbers begin with
-the seed. It prints a table.
+For each round trip (a list of milliseconds, 0 alone where none is given), each kind of link and each of so many seeds (5) a stream of so many
+bytes (200,000) is echoed: first by the host, over a TUN device, then by a program over Linux's own stack, between two TUN devices, of which
+the other one is in a namespace within. PUMP is linux/pump.c, built; it loses, repeats, holds back, damages and delays the packets of both by
+the same chances, whose random numbers begin with the seed. A round trip is the pump's delay, half of it each way. It prints a table for each,
+with the quotient of the medians.
 """
 import os, random, select, socket, statistics, subprocess, sys, time
 
@@ -22,10 +23,27 @@ LINKS = (
     ("5% lost", ("-l", "50")),
     ("10% lost", ("-l", "100")),
     ("10% repeated", ("-r", "100")),
+    ("bursts of 2 lost", ("-b", "2")),
+    ("bursts of 10 lost", ("-b", "10")),
+    ("bursts of 40 lost", ("-b", "40")),
+    ("1% held back", ("-h", "10")),
     ("10% held back", ("-h", "100")),
+    ("25% held back", ("-h", "250")),
+    ("up to 5 ms later", ("-j", "5000")),
     ("5% damaged", ("-d", "50")),
     ("3% lost, 3% repeated, 3% held back, 3% damaged", ("-l", "30", "-r", "30", "-h", "30", "-d", "30")),
 )
+
+# A link of 10 Mbit/s, whose queue has room for so many bandwidth-delay products: where there is a delay.
+QUEUES = (("10 Mbit/s, a queue of one product", 1.0), ("10 Mbit/s, a queue of a quarter", 0.25))
+
+
+def links(trip):
+    """The kinds of link with this round trip in milliseconds."""
+    delay = ("-t", str(trip * 500)) if trip else ()
+    queues = [(name, ("-m", "10000", "-q", str(int(1250 * trip * part)))) for name, part in QUEUES] if trip else []
+    return [(name, (*options, *delay)) for name, options in (*LINKS, *queues)]
+
 
 # echoes of streams and of datagrams over Linux's own stack
 ECHO = f"""
@@ -77,6 +95,12 @@ def said(took):
     return f"{len(came)} of {len(took)}; {statistics.median(came):.2f} s, {max(came):.2f} s"
 
 
+def quotient(host, linux):
+    """The host's median beside Linux's."""
+    host, linux = ([it for it in took if it is not None] for took in (host, linux))
+    return f"{statistics.median(host) / statistics.median(linux):.2f}" if host and linux else "none"
+
+
 def tried(started, size):
     took = stream(size)
     end(started)
@@ -107,18 +131,23 @@ def end(started):
         it.wait()
 
 
-def main():
-    pump, program = sys.argv[1], sys.argv[2]
-    seeds, size = (int(it) for it in (sys.argv[3:] + ["5", "200000"][len(sys.argv) - 3:])[:2])
-    print(f"a stream of {size} bytes for each of {seeds} seeds, there and back: how many came whole; the median, the longest\n")
-    print("| Link, each way | The host | Linux's own stack |\n|---|---|---|")
-    for name, options in LINKS:
+def table(pump, program, seeds, size, trip):
+    print("| Link, each way | The host | Linux's own stack | quotient |\n|---|---|---|---|")
+    for name, options in links(trip):
         host, linux = [], []
         for seed in range(seeds):
             chance = ("-c", str(random.Random(seed).getrandbits(64)))
             host.append(tried([start(pump, program, *options, *chance, "-s", str(seed))], size))
             linux.append(tried(linux_beyond(pump, *options, *chance), size))
-        print(f"| {name} | {said(host)} | {said(linux)} |", flush=True)
+        print(f"| {name} | {said(host)} | {said(linux)} | {quotient(host, linux)} |", flush=True)
+
+
+def main():
+    pump, program = sys.argv[1], sys.argv[2]
+    seeds, size, trips = (sys.argv[3:] + ["5", "200000", "0"][len(sys.argv) - 3:])[:3]
+    for trip in map(int, trips.split(",")):
+        print(f"\na stream of {size} bytes for each of {seeds} seeds, there and back, a round trip of {trip} ms: how many came whole; median, longest\n")
+        table(pump, program, int(seeds), int(size), trip)
 
 
 if __name__ == "__main__":

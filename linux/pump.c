@@ -6,6 +6,8 @@
 //     pump [OPTIONS] DEVICE OTHER                                             the same link between two devices
 //
 // -l N, -r N, -h N, -d N: so many of 1000 packets each way are lost, repeated, held back behind the next one, or damaged in a byte;
+// -b N: two of 1000 begin a time in which so many are lost; -t N: each takes so many microseconds; -j N: up to so many more by chance;
+// -m N: so many kbit/s each way; -q N: of the bytes that then wait for the link so many at most, and a packet that doesn't fit is lost;
 // -c N: where the random numbers begin; -s N: the seed of the host, which then has no key; -e MAC: the devices carry Ethernet frames (TAP),
 // and the host has this hardware address; -k FOLDER keeps what the program read and wrote as the files stdin and stdout.
 // SIGUSR1 lets the host's clock go on by an hour: each moment at which it wants a turn comes at once; it says when that is done. SIGTERM ends it.
@@ -33,13 +35,15 @@
 enum { MOST = 65536, HEAD = 10, HOUR = 3600 };
 typedef unsigned char byte;
 static int kind = IFF_TUN, tun = -1, other = -1, host = -1;
-static uint64_t lose, repeat, hold, damage, chance = 1, seed, ahead, turns, carried[2];
+static uint64_t lose, repeat, hold, damage, burst, delay, jitter, rate, queue, chance = 1, seed, ahead, turns, carried[2];
 static byte key[16];
 static int seeded;
 static struct ether_addr station;
 static FILE *said, *answered;
 static volatile sig_atomic_t ends, skips;
 static struct { byte bytes[MOST]; int len; } held[2];  // what goes behind the next packet, each way
+static struct flying { struct flying *next; uint64_t at; int len; byte bytes[]; } *flying[2];  // what is on its way, the first first
+static uint64_t bursting[2], link_free[2];  // how many more are lost, and when the link has sent what waits
 
 static void stop(const char *why) { perror(why); exit(1); }
 static void on_signal(int number) { if (number == SIGUSR1) skips = 1; else ends = 1; }
@@ -76,11 +80,42 @@ static void give(int way, const byte *packet, int len) {
     else if (write(way == 0 ? other : tun, packet, len) < 0) {}  // a device that is down takes nothing
 }
 
+// A packet goes: at once, or it waits for the link and then is on its way.
+static void send_on(int way, const byte *packet, int len) {
+    uint64_t at = now();
+    if (!delay && !jitter && !rate) { give(way, packet, len); return; }
+    if (rate) {
+        if (link_free[way] < at) link_free[way] = at;
+        if (queue && (link_free[way] - at) * rate / 8000 + len > queue) return;
+        at = link_free[way] += len * 8000ull / rate;
+    }
+    struct flying *it = malloc(sizeof *it + len), **place = &flying[way];
+    it->at = at + delay + (jitter ? random_below(jitter) : 0), it->len = len;
+    memcpy(it->bytes, packet, len);
+    while (*place && (*place)->at <= it->at) place = &(*place)->next;
+    it->next = *place, *place = it;
+}
+
+// Gives what has come by now; when the next one comes.
+static uint64_t land(void) {
+    for (int way = 0; way < 2; way++)
+        while (flying[way] && flying[way]->at <= now()) {
+            struct flying *it = flying[way];
+            flying[way] = it->next;
+            give(way, it->bytes, it->len);
+            free(it);
+        }
+    uint64_t first = flying[0] ? flying[0]->at : UINT64_MAX;
+    return flying[1] && flying[1]->at < first ? flying[1]->at : first;
+}
+
 // What becomes of a packet on its way.
 static void carry(int way, const byte *packet, int len) {
     static byte before[2][MOST], changed[2][MOST];
     int behind = held[way].len;
     uint64_t dice = lose + repeat + hold + damage ? random_below(1000) : 1000;
+    if (burst && !bursting[way] && random_below(1000) < 2) bursting[way] = burst;
+    if (bursting[way]) { bursting[way]--; return; }
     memcpy(before[way], held[way].bytes, behind);
     held[way].len = 0;
     if (dice >= lose && dice < lose + hold) {
@@ -88,10 +123,10 @@ static void carry(int way, const byte *packet, int len) {
     } else if (dice >= lose) {
         memcpy(changed[way], packet, len);
         if (dice < lose + hold + damage) changed[way][random_below(len)] ^= 1 + random_below(255);
-        give(way, changed[way], len);
-        if (dice >= lose + hold + damage && dice < lose + hold + damage + repeat) give(way, changed[way], len);
+        send_on(way, changed[way], len);
+        if (dice >= lose + hold + damage && dice < lose + hold + damage + repeat) send_on(way, changed[way], len);
     }
-    if (behind) give(way, before[way], behind);
+    if (behind) send_on(way, before[way], behind);
 }
 
 static uint64_t number(const byte *from, int len) {
@@ -180,13 +215,18 @@ int main(int count, char **words) {
     int option;
     char path[4096];
     if (getrandom(&seed, sizeof seed, 0) < 0 || getrandom(key, sizeof key, 0) < 0) stop("getrandom");
-    while ((option = getopt(count, words, "l:r:h:d:c:s:k:e:")) != -1) {
+    while ((option = getopt(count, words, "l:r:h:d:b:t:j:m:q:c:s:k:e:")) != -1) {
         uint64_t value = optarg ? strtoull(optarg, 0, 10) : 0;
         switch (option) {
         case 'l': lose = value; break;
         case 'r': repeat = value; break;
         case 'h': hold = value; break;
         case 'd': damage = value; break;
+        case 'b': burst = value; break;
+        case 't': delay = value; break;
+        case 'j': jitter = value; break;
+        case 'm': rate = value; break;
+        case 'q': queue = value; break;
         case 'c': chance = value | 1; break;
         case 's': seed = value, seeded = 1; break;
         case 'e': kind = IFF_TAP; if (!ether_aton_r(optarg, &station)) stop(optarg); break;
@@ -211,9 +251,11 @@ int main(int count, char **words) {
     if (other >= 0) epoll_ctl(waiting, EPOLL_CTL_ADD, other, &of_other);
     printf("pump: ready\n"), fflush(stdout);
     while (!ends) {
-        uint64_t at = now(), wait = next_turn > at ? next_turn - at : 0;
+        uint64_t next = land(), at = now();
+        if (next_turn < next) next = next_turn;
+        uint64_t wait = next > at ? next - at : 0;
         struct timespec until = {wait / 1000000, wait % 1000000 * 1000};
-        int come = epoll_pwait2(waiting, ready, 2, next_turn == UINT64_MAX ? 0 : &until, 0);
+        int come = epoll_pwait2(waiting, ready, 2, next == UINT64_MAX ? 0 : &until, 0);
         for (int i = 0; i < come; i++) pass(ready[i].data.fd, ready[i].data.fd == tun ? 0 : 1);
         if (host >= 0 && next_turn <= now()) next_turn = take_turn((const byte *)"", 0);
         if (skips && host >= 0) skips = 0, skip_an_hour();

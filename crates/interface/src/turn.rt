@@ -6,9 +6,10 @@ ghost use Rattle.interface_ingress.specs.Packet.{packet_value, payload_value, Is
 ghost use Rattle.interface_ingress.specs.Offer.TheVariants as Answer;
 ghost use Rattle.interface_ingress.specs.Offers.{HasPacket};
 ghost use Rattle.interface_ingress.specs.WellFormed.{IsWellFormed};
-ghost use Rattle.interface_ingress.specs.Sockets.{offered_by, IfSendable};
+ghost use Rattle.interface_ingress.specs.Sockets.{Offers, offered_by, IfSendable};
 ghost use Rattle.interface_egress.specs.Plan.{IsPacket, plan_of};
 ghost use Rattle.interface.specs.Host.{sender};
+ghost use Rattle.interface.specs.Remote.{context_for};
 ghost use Rattle.interface.specs.Turn.{is_known, is_heard, is_waiting, is_given_up, is_other, is_out_of_turn, held, waits_until, is_done, marked, settled_by};
 ghost use Rattle.interface.specs.Turn.{is_raw, keeps_source, with_source, sourced_header, sourced};
 ghost use Rattle.interface.specs.Turn.{turned_by, Leaves, LeavesAs, HasLeft, Sends, Turns, PlaceTurns};
@@ -75,15 +76,23 @@ pub fn take_turn<D: Device>(
         return Turned::Next(false);
     }
     unsent_is_offered_again();
-    let remote = remote_of(&item.socket);
-    let offer = item.socket.offer(&Look::towards(inner, &remote));
-    match offer {
+    match ask(inner, item) {
         Offer::Silent { changed } => {
             item.meta.unmark();
             Turned::Next(changed)
         }
         Offer::Packet { changed } => send_offered(turn, inner, fragmenter, device, item, changed),
     }
+}
+
+/// Asks a socket for a packet. It sees the host as it is towards the one destination of what it sends, if there is one.
+fn ask(inner: &InterfaceInner, item: &mut Item<Socket>) -> Offer
+    ensures offers { Offers (context_for inner.now item.old.socket) item.old.socket result item.new.socket }
+    ensures rest { item.new ≡ record item.old { socket = item.new.socket } }
+    ensures sendable { IfSendable (offered_by item.new.socket) }
+{
+    let remote = remote_of(&item.socket);
+    item.socket.offer(&Look::towards(inner, &remote))
 }
 
 /// Whether the socket waits for its neighbour. Its mark goes where that is known.

@@ -41,6 +41,9 @@ use Rattle.interface_progress.proofs.OurTurn.{Ours, OurEnds, our_turn}
 abbrev Place : Type 0
 Place = SocketStorage Socket
 
+abbrev place_with : Option (Item Socket) → Place
+place_with o = record { inner = o }
+
 abbrev no_place : Option Place
 no_place = None
 
@@ -122,7 +125,7 @@ module _ {D : Type 0} (moves : D → Move → D → Type 0) where
               );
               formed = went.formed;
               new = went.new;
-              stands = here ∙ ap (λ (o : Option (Item Socket)). Some (record { inner = o })) went.stands;
+              stands = here ∙ ap (λ (o : Option (Item Socket)). Some (place_with o)) went.stands;
               settings = went.settings;
               rest = went.rest;
               told = ap if_changed (said turn mid (before ++ p' ∷ []) (changed || b) ps e goes (or_true changed b (next_is b true went.next)));

@@ -10,5 +10,5 @@ pub mod OurTurn
 pub mod Goes
 pub mod InTurn
 pub mod Readers
-pub mod Excluded
+pub mod NeverRests
 pub mod Reached

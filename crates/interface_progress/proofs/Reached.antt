@@ -2,7 +2,7 @@
 use Rattle.std.proofs.Common.{◌≡◌, ℕ, ◌+◌, Bool, true, false, not, if◌then◌else◌, cond, ℤ, List, [], ◌∷◌, ◌++◌, length, map, Option, Some, None, refl, ap, ◌∙◌}
 use Rattle.std.proofs.Common.{subst}
 use Rattle.std.specs.Prelude.{zero, suc, slice_get, slice_set, position, nat_lt}
-use Rattle.core.specs.List.{prefix_len, position_or_len}
+use Rattle.std.specs.List.{prefix_len, position_or_len}
 use Rattle.std.proofs.lemmas.Bool.{cond_both}
 use Rattle.net_base.specs.Device.{Move, Took}
 use Rattle.net_base.specs.Packets.{contents, is_full_for, appended}
@@ -41,6 +41,9 @@ use Rattle.interface_progress.specs.Reached.{IsFor, udp_place}
 
 abbrev Places : Type 0
 Places = List (SocketStorage Socket)
+
+abbrev place_with : Option (Item Socket) → SocketStorage Socket
+place_with o = record { inner = o }
 
 abbrev no_place : Option (SocketStorage Socket)
 no_place = None
@@ -95,7 +98,7 @@ module _ (cx : ContextValue) (ip : IpRepr) (udp : UdpRepr) (payload : List ℕ) 
 
   place_takes : (place : SocketStorage Socket) → passes takes (raw place) ≡ passes takes place
   place_takes place = by place.inner where
-    by : (o : Option (Item Socket)) → passes_in takes (raw (record { inner = o })).inner ≡ passes_in takes o
+    by : (o : Option (Item Socket)) → passes_in takes (raw (place_with o)).inner ≡ passes_in takes o
     by None = refl
     by (Some item) = socket_takes item.socket
 
@@ -137,8 +140,7 @@ module _ (i : InnerValue) (places : Places) (link : Option EthernetRepr) (ip : I
   given_to cx places' goes =
       let place : SocketStorage Socket = goes.0 in
       let became : place ≡ queued =
-      ap (λ (o : Option (Item Socket)). record { inner = o }) goes.1.2
-      ∙ ap (λ (s : Socket). record { inner = Some (record { meta = meta; socket = s }) }) goes.1.1 in
+      ap place_with goes.1.2 ∙ ap (λ (s : Socket). place_with (Some (record { meta = meta; socket = s }))) goes.1.1 in
       ap (λ (ps : Places). slice_get ps m) goes.2 ∙ get_set then_places m (udp_place meta w) place stands_then
       ∙ ap (λ (x : SocketStorage Socket). Some x) became
 

@@ -1,5 +1,5 @@
 -- A TCP socket that was silent isn't due any more.
-use Rattle.std.proofs.Common.{◌≡◌, ℕ, zero, suc, ◌+◌, ◌<◌, ◌≤◌, ◌==◌, min, Bool, true, false, ◌||◌, ◌&&◌, not, is_none, if◌then◌else◌, ℤ, pos, ◌+ℤ◌, ◌<ℤ◌}
+use Rattle.std.proofs.Common.{◌≡◌, ℕ, zero, suc, ◌≤◌, ◌==◌, min, Bool, true, false, ◌||◌, ◌&&◌, not, is_none, if◌then◌else◌, ℤ, pos, ◌+ℤ◌, ◌<ℤ◌}
 use Rattle.std.proofs.Common.{int_lt, int_le, Option, Some, None, List, [], ◌∷◌, refl, sym, ap, ◌∙◌, subst, arith}
 use Rattle.std.proofs.lemmas.Bool.{cond_both}
 use Rattle.net_base.specs.Time.{last_moment}

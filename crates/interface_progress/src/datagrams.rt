@@ -23,7 +23,7 @@ use net_base::Device;
 /// Law: in one step of the way out the first datagram in the queue of a UDP socket goes, whatever other sockets wait for and whatever they
 /// send, unless the device refuses in that step; the socket then has the datagrams behind it. And in a poll that finds no frame at its device
 /// each datagram goes that has fewer before it in the queue than the poll has steps. The host knows the hardware address of the next hop of
-/// those datagrams, each fits one frame, and the socket isn't waiting for another neighbour.
+/// those datagrams, each fits one frame and the path to its destination, and the socket isn't waiting for another neighbour.
 pub fn queued_datagrams_go<D: Device>()
     ensures at_once { (t : ℤ) (s s' : State D) (answer : Option Bool) (n : ℕ) (v : UdpValue) (d : UdpMetadata × List ℕ)
         (more : List (UdpMetadata × List ℕ)) (to : HardwareAddress) (p : PacketValue)

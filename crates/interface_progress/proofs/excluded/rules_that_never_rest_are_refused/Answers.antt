@@ -1,4 +1,4 @@
-use Rattle.interface_progress.proofs.Excluded.{always_now, as_polled}
+use Rattle.interface_progress.proofs.NeverRests.{always_now, as_polled}
 use Rattle.interface_progress.proofs.excluded.rules_that_never_rest_are_refused.Goals as goal
 
 pub returns-clause-always_now : goal.returns-clause-always_now
