@@ -1,5 +1,5 @@
 -- A packet with the source that is chosen for it is one that can be sent, and what stays of it; a socket's turn from its parts.
-use Rattle.std.proofs.Common.{◌≡◌, ℤ, Bool, true, false, List, Option, None, Some, refl, sym, ap, ◌∙◌}
+use Rattle.std.proofs.Common.{◌≡◌, ℤ, Bool, true, false, List, Option, None, Some, refl, ap, ◌∙◌}
 use Rattle.std.specs.Prelude.{if◌then◌else◌}
 use Rattle.net_base.specs.Device.{Move}
 use Rattle.ip_wire.specs.AddressTests.{is_unspecified}
@@ -18,11 +18,10 @@ use Rattle.interface_tables.specs.Inner.{InnerValue}
 use Rattle.interface_tables.specs.Source.{source_for, source_v4, source_v6, in_v4}
 use Rattle.interface_ingress.specs.Socket.{Socket}
 use Rattle.interface_ingress.specs.WellFormed.{IsWellFormed}
-use Rattle.interface_egress.specs.declared.socket_meta.Meta.{Meta}
 use Rattle.interface_egress.specs.declared.socket_set.Item.{Item}
 use Rattle.interface_egress.specs.declared.way_out.Sent.{Sent}
 use Rattle.interface.specs.Host.{Sender}
-use Rattle.interface.specs.Turn.{keeps_source, with_source, sourced_header, sourced, waits_until, plan_at, settled_by, turned_by, LeavesAs, HasLeft, SendsBy}
+use Rattle.interface.specs.Turn.{keeps_source, with_source, sourced_header, sourced, waits_until, plan_at, settled_by, turned_by, HasLeft, SendsBy}
 use Rattle.interface.specs.declared.turn.Turned.{Turned}
 
 fits_v4 : (v : Ipv4Repr) (a : Ipv4Address) (x : PayloadValue) → PayloadFits (Ip.Ipv4 v) x → PayloadFits (Ip.Ipv4 (record v { src_addr = a })) x
@@ -135,18 +134,6 @@ sourced_none i p is = ap (with_header p) (by (keeps_source i p)) where
 
 -- A TURN
 
--- a packet that keeps its source leaves from it
-pub left_as_is : {D : Type 0} (moves : D → Move → D → Type 0) (turn : Option IpAddress) (s s' : Sender D) (m : Meta) (p : PacketValue)
-    (sent : Sent) (until : ℤ) (destination : IpAddress)
-    → keeps_source s.inner p ≡ true → LeavesAs moves turn s m p sent until destination s' → HasLeft moves turn s m p sent until destination s'
-left_as_is moves turn s s' m p sent until destination keeps leaves = (p, sym (sourced_stays s.inner p keeps), leaves)
-
--- another leaves from the source that is chosen for it
-pub left_sourced : {D : Type 0} (moves : D → Move → D → Type 0) (turn : Option IpAddress) (s s' : Sender D) (m : Meta) (p leaving : PacketValue)
-    (sent : Sent) (until : ℤ) (destination : IpAddress)
-    → leaving ≡ sourced s.inner p → LeavesAs moves turn s m leaving sent until destination s' → HasLeft moves turn s m p sent until destination s'
-left_sourced moves turn s s' m p leaving sent until destination is leaves = (leaving, is, leaves)
-
 -- the turn of a socket whose packet left, or stays
 pub sends_from : {D : Type 0} (moves : D → Move → D → Type 0) (turn : Option IpAddress) (s s' : Sender D) (p : PacketValue)
     (item item' : Item Socket) (changed : Bool) (turned : Turned) (sent : Sent) (now until : ℤ) (destination : IpAddress)
@@ -159,11 +146,11 @@ sends_from moves turn s s' p item item' changed turned sent now until destinatio
   formed,
   (
     sent,
-    left.2,
+    left.2.0,
     by,
     is ∙ ap (λ (m : ℤ). settled_by sent m until destination item) at
-        ∙ ap (λ (m : ℤ). settled_by sent s.inner.moment m destination item) left.4
-        ∙ ap (λ (a : IpAddress). settled_by sent s.inner.moment (waits_until (plan_at s left.0) s'.inner) a item) left.5,
-    left.3,
+        ∙ ap (λ (m : ℤ). settled_by sent s.inner.moment m destination item) left.2.2
+        ∙ ap (λ (a : IpAddress). settled_by sent s.inner.moment (waits_until (plan_at s left.0) s'.inner) a item) left.2.3,
+    left.2.1,
   ),
 )
