@@ -12,6 +12,7 @@ use std::marker::Model;
 pub struct Estimate {
     pub smoothed: u64,
     pub variation: u64,
+    pub shortest: u64,
 }
 
 /// The segment that is timed: how far past SND.UNA it ends, and when it was sent.
@@ -60,6 +61,20 @@ const DELAYED_ACK: u64 = 200_000;
 const LATE_TIMEOUT: u16 = 3000;
 
 impl RoundTrip {
+    pub fn shortest(&self) -> u64 {
+        match self.estimate {
+            None => 0,
+            Some(it) => it.shortest,
+        }
+    }
+
+    pub fn srtt(&self) -> u64 {
+        match self.estimate {
+            None => 1000,
+            Some(it) => it.smoothed,
+        }
+    }
+
     /// Nothing is known at the start of a connection: the timeout is a second.
     pub const fn new() -> RoundTrip
         ensures { result ≡ fresh }
@@ -189,10 +204,12 @@ impl RoundTrip {
             None => Estimate {
                 smoothed: millis,
                 variation: millis / 2,
+                shortest: millis,
             },
             Some(old) => Estimate {
                 smoothed: (7 * old.smoothed + millis) / 8,
                 variation: (3 * old.variation + old.smoothed.abs_diff(millis)) / 4,
+                shortest: old.shortest.min(millis),
             },
         };
         self.timeout = timeout_of(self.least, &estimate);
@@ -217,7 +234,7 @@ fn timeout_of(least: u16, estimate: &Estimate) -> u16
     requires { (estimate.now.smoothed < 2 ^ 52) × (estimate.now.variation < 2 ^ 52) }
     ensures { result ≡ timeout_of least estimate.now }
 {
-    (estimate.smoothed + (4 * estimate.variation).max(1))
+    (estimate.smoothed + (4 * estimate.variation).max(if least % 2 == 1 { (least as u64).min(200) } else { 1 }))
         .max(least as u64)
         .min(MOST_TIMEOUT as u64) as u16
 }

@@ -135,6 +135,14 @@ pub struct Loss {
     /// Whether one run that is held says that what lies before it is lost: a probe went after what isn't
     /// acknowledged, so the order on the way doesn't explain it.
     pub eager: bool,
+    pub sure: bool,
+    pub credit: u8,
+    pub since: Option<Instant>,
+    pub reordered: bool,
+    pub waits: bool,
+    pub reach: u32,
+    pub prior: Option<Reno>,
+    pub began: u32,
     /// Whether the last segment that was sent is to go again, as a probe.
     pub probes: bool,
     /// Whether a probe went, and nothing new was acknowledged since.

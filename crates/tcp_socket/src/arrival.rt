@@ -316,6 +316,13 @@ impl Socket {
     {
         if self.tells_news(&incoming.header, incoming.bytes.len()) {
             self.acknowledge(&incoming.header, by, cx.now());
+            if self.block.flag(4) && (!incoming.bytes.is_empty() || is_fin(incoming.header.control)) {
+                if self.block.state.is_closed() {
+                    return None;
+                }
+                self.wait_anew(&incoming.header, cx.now());
+                return Some(Due::Ack(self.acknowledge_all()));
+            }
             return self.answer_outside(cx, incoming);
         }
         self.answer_outside(cx, incoming)
@@ -426,7 +433,7 @@ impl Socket {
     {
         self.block.set_window(header, now);
         self.block.take_ranges(header, now);
-        self.block.count(duplicates);
+        self.block.count(duplicates, now);
         self.block.restart_timeout(now, self.queued.len());
     }
 
@@ -571,7 +578,7 @@ impl Socket {
                 early: None,
             };
         }
-        match self.received.hold(place, bytes) {
+        match self.received.hold(place, bytes, if self.block.flag(32) { 64 } else { 16 }) {
             Ok(()) => Text {
                 advance: 0,
                 fills: false,

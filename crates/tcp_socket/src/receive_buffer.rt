@@ -18,7 +18,7 @@ const MOST_BYTES: usize = 1 << 30;
 #[derive(Debug, Drop)]
 pub struct ReceiveBuffer {
     ring: RingBuffer<u8>,
-    held: Assembler<16>,
+    held: Assembler<64>,
 }
 
 impl Model for ReceiveBuffer {
@@ -121,12 +121,22 @@ impl ReceiveBuffer {
 
     /// Holds bytes that come so far past the next in order, where not too many runs are held with
     /// them. Else nothing changes.
-    pub fn hold(&mut self, past: usize, bytes: &[u8]) -> Result<(), TooManyHolesError>
+    pub fn hold(&mut self, past: usize, bytes: &[u8], most: usize) -> Result<(), TooManyHolesError>
         requires past { 1 ≤ past }
         requires fits { past + length bytes.now ≤ length self.old.map }
         ensures held { is_ok result ≡ can_hold self.old past bytes.now }
         ensures early { self.new ≡ early self.old past bytes.now }
     {
+        let (mut count, mut meets) = (0usize, false);
+        for (start, end) in self.held.iter_data() {
+            count += 1;
+            if start <= past + bytes.len() && past <= end {
+                meets = true;
+            }
+        }
+        if count >= most && !meets {
+            return Err(TooManyHolesError);
+        }
         self.held.add(past, bytes.len())?;
         self.ring.write_unallocated(past, bytes);
         Ok(())
@@ -155,7 +165,7 @@ impl ReceiveBuffer {
 }
 
 /// The run with this place.
-fn run_at(held: &Assembler<16>, place: usize) -> Option<(usize, usize)>
+fn run_at(held: &Assembler<64>, place: usize) -> Option<(usize, usize)>
     ensures { result ≡ run_at held.now place }
 {
     for (start, end) in held.iter_data() {
@@ -168,7 +178,7 @@ fn run_at(held: &Assembler<16>, place: usize) -> Option<(usize, usize)>
 
 /// The two highest runs without this place, the highest first.
 #[tactic(auto, using(crate::proofs::Others::told_is))]
-fn others_than(held: &Assembler<16>, place: usize) -> [Option<(usize, usize)>; 2]
+fn others_than(held: &Assembler<64>, place: usize) -> [Option<(usize, usize)>; 2]
     ensures { result ≡ first_two (others place held.now) }
 {
     let (mut highest, mut second) = (None, None);

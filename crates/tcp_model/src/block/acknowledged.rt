@@ -9,9 +9,9 @@ ghost use Rattle.tcp_model.specs.Acknowledged.{partly_after, una_risen, reno_cou
 
 use crate::{Block, State};
 use ip_wire::{MAX_WINDOW_SCALE, SeqNumber, TcpHeader};
-use net_base::Instant;
+use net_base::{Duration, Instant};
 use tcp_control::controls::is_fin;
-use tcp_control::moments::{time_wait_from, timeout_from};
+use tcp_control::moments::{later, time_wait_from, timeout_from};
 use tcp_control::offsets::{before_by, behind_by, past_by};
 
 /// What a window field means.
@@ -342,12 +342,27 @@ impl Block {
 
     /// There were so many duplicates in a row. At the third the segment at SND.UNA is to go again, and fast
     /// recovery begins where more than `recover` is acknowledged.
-    pub fn count(&mut self, count: u8)
+    pub fn count(&mut self, count: u8, now: Instant)
         ensures { self.new ≡ counted self.old count }
     {
-        let begins = self.begins_recovery(count);
+        let mut begins = self.begins_recovery(count);
         let again = self.is_lost_again();
-        let third = count == 3 && !self.reno.recovers();
+        let mut third = count == 3 && !self.reno.recovers();
+        if self.flag(8) && self.loss.reordered {
+            begins = false;
+            third = false;
+            let end = self.loss.board.lost_end(3, self.reno.mss());
+            if !self.loss.waits && end != 0 {
+                self.loss.waits = true;
+                self.loss.began = end;
+                self.loss.probe_at = Some(later(now, Duration::from_micros(self.round_trip.srtt() * 250)));
+            }
+        }
+        if begins {
+            self.loss.prior = Some(self.reno);
+            self.loss.sure = false;
+            self.loss.since = None;
+        }
         self.count_reno(count, begins, again);
         self.sender.duplicates = count;
         self.sender.resend = self.sender.resend || third || begins;

@@ -28,6 +28,14 @@ impl Loss {
         resent: 0,
         mark: 0,
         eager: false,
+        sure: false,
+        credit: 0,
+        since: None,
+        reordered: false,
+        waits: false,
+        reach: 0,
+        prior: None,
+        began: 0,
         probes: false,
         probed: false,
         probe_at: None,
@@ -62,7 +70,7 @@ impl Block {
         requires { IsMoment now }
         ensures { self.new ≡ record self.old { loss = probe_armed self.old self.old.loss now } }
     {
-        if self.probes_losses() && !self.loss.probed {
+        if self.probes_losses() && !self.loss.probed && !self.loss.waits {
             self.loss.probe_at = self.probe_from(now);
         }
     }
@@ -109,6 +117,22 @@ impl Block {
         ensures { self.new ≡ loss_probed_by now self.old }
     {
         if is_due(now, self.loss_probe_moment()) {
+            if self.loss.waits {
+                // what was lost by count at the last look, and still isn't held, is lost
+                let begins = self.loss.board.first_missing(0) < self.loss.began && self.sender.recover == 0;
+                self.loss.reach = self.loss.began;
+                self.loss.began = self.loss.board.lost_end(THRESHOLD, self.reno.mss());
+                self.loss.waits = self.loss.began != 0;
+                self.loss.probe_at = if self.loss.waits { Some(later(now, Duration::from_micros(self.round_trip.srtt() * 250))) } else { self.probe_from(now) };
+                if begins {
+                    self.loss.prior = Some(self.reno);
+                    self.reno.reduce(self.sender.in_flight);
+                    self.loss.resent = 0;
+                    self.sender.resend = true;
+                    self.sender.recover = self.past_top();
+                }
+                return;
+            }
             self.probe();
         }
     }
@@ -202,9 +226,18 @@ impl Block {
     fn is_lost_at(&self, place: u32) -> bool
         ensures { result ≡ is_lost_at self.now place }
     {
-        self.loss
-            .board
-            .is_lost(self.threshold(), self.reno.mss(), place)
+        if self.loss.reordered && self.flag(8) {
+            return place < self.loss.reach;
+        }
+        (self.loss.sure && place + 1 < self.sender.recover)
+            || self.loss.board.is_lost(self.threshold(), self.reno.mss(), place)
+    }
+
+    pub fn flag(&self, bit: u8) -> bool {
+        match self.settings.retries {
+            None => false,
+            Some(n) => n >= 100 && (n - 100) & bit != 0,
+        }
     }
 
     /// Whether the segment at SND.UNA is lost, as the ranges say.
@@ -221,7 +254,7 @@ impl Block {
         self.peer.sack
             && self.reno.recovers()
             && self.loss.resent != 0
-            && self.is_lost_at(self.loss.mark)
+            && self.loss.board.is_lost(self.threshold(), self.reno.mss(), self.loss.mark)
     }
 
     /// Pipe in recovery.
@@ -230,9 +263,14 @@ impl Block {
     {
         let flight = self.sender.in_flight;
         let board = &self.loss.board;
-        let lost = board
+        let lost = if self.loss.reordered && self.flag(8) {
+            self.loss.reach.min(flight)
+        } else {
+            board
             .lost_end(self.threshold(), self.reno.mss())
-            .min(flight);
+            .max(if self.loss.sure { self.sender.recover.saturating_sub(1) } else { 0 })
+            .min(flight)
+        };
         let again = self.loss.resent.min(flight);
         board
             .missing(flight)
@@ -268,8 +306,10 @@ impl Block {
             && self.reno.recovers()
             && !self.sender.syn_unacked
             && self.next_hole() < self.sender.in_flight
-            && self.is_lost_at(self.next_hole())
+            && (self.is_lost_at(self.next_hole())
             && self.pipe() as u64 + self.reno.mss() as u64 <= self.reno.window() as u64
+            || self.loss.credit > 0 && self.next_hole() + 1 < self.sender.recover
+            && self.loss.board.missing(self.loss.resent.min(self.sender.in_flight)) as u64 + self.reno.mss() as u64 <= self.reno.window() as u64)
     }
 
     /// From which place of the send queue something goes again, where a segment takes so much, and so much
@@ -309,6 +349,10 @@ impl Loss {
         ensures { self.new ≡ loss_lowered self.old by partial }
     {
         self.board.acknowledge(by);
+        self.reach = self.reach.saturating_sub(by);
+        if !partial {
+            self.sure = false;
+        }
         self.resent = self.resent.saturating_sub(by);
         self.mark = self.mark.saturating_sub(by);
         self.eager = self.eager && partial;
@@ -324,7 +368,39 @@ impl Block {
         ensures { self.new ≡ record self.old { loss = loss_acked self.old by partial now } }
     {
         if by != 0 {
+            let half = match self.loss.since {
+                None => true,
+                Some(since) => later(since, Duration::from_micros(if self.flag(64) { self.round_trip.shortest() * 1000 } else { self.round_trip.srtt() * 500 })) <= now,
+            };
+            let filled = self.loss.since.is_none() && self.loss.resent == 0 && !self.loss.probed && !self.loss.eager && self.loss.board.held() != 0;
+            let false_start = self.loss.since.is_some() && !half && self.loss.resent != 0;
+            if false && partial && self.loss.resent != 0 && half {
+                self.loss.sure = true;
+            }
+            if self.flag(2) && self.peer.sack {
+                self.loss.credit = if partial && half && self.loss.resent != 0 { 2 } else { 0 };
+            }
+            if self.flag(8) && self.peer.sack && (filled || false_start) {
+                self.loss.reordered = true;
+            }
+            if self.flag(16) && false_start {
+                if let Some(prior) = self.loss.prior {
+                    self.reno = prior;
+                    self.loss.prior = None;
+                    self.sender.recover = 0;
+                    self.sender.resend = false;
+                    self.loss.resent = 0;
+                    self.loss.sure = false;
+                }
+            }
+            if !partial {
+                self.loss.since = None;
+                self.loss.prior = None;
+            }
             self.loss.lower(by, partial);
+            if self.loss.board.held() == 0 {
+                self.loss.waits = false;
+            }
             self.arm_probe(now);
         }
     }
@@ -338,6 +414,7 @@ impl Block {
         }
         self.loss.mark = self.sender.top;
         self.loss.probes = false;
+        self.loss.credit = self.loss.credit.saturating_sub(1);
     }
 
     /// The retransmission timer ran out: what is held stays known.

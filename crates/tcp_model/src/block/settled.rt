@@ -99,6 +99,9 @@ impl Block {
         ensures { self.new ≡ resent self.old end }
     {
         self.lose_resent(end);
+        if self.flag(1) && self.peer.sack && self.reno.recovers() {
+            self.timers.retransmit_at = None;
+        }
         self.sender.resend = false;
         self.round_trip.forget_sample();
     }
@@ -130,6 +133,9 @@ impl Block {
             }
             OfferKind::FastRetransmission => {
                 let end = self.end_of(offer);
+                if self.reno.recovers() && self.loss.since.is_none() {
+                    self.loss.since = Some(offer.moment);
+                }
                 self.resent(end);
                 self.went(offer, queued);
             }
