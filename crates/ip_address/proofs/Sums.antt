@@ -82,30 +82,18 @@ from_le_bytes_16-low_first : (bytes : List ℕ) → length bytes ≡ 16 → from
 from_le_bytes_16-low_first (a ∷ b ∷ c ∷ d ∷ e ∷ f ∷ g ∷ h ∷ i ∷ j ∷ k ∷ l ∷ m ∷ n ∷ o ∷ p ∷ []) len = omega arith
 from_le_bytes_16-low_first _ len = absurd (omega arith)
 
--- a step of the sum over the first eight bytes of the rest
-pub low_first-step : (total x : ℕ) (front rest tail : List ℕ) (all : ℕ) → x ≡ from_le_bytes w64 front → front ≡ take 8 rest → tail ≡ drop 8 rest →
-    length tail + 8 ≡ length rest
-    → folded (256 * total + word_sum rest) ≡ all → folded (256 * (total + x) + word_sum tail) ≡ all
-low_first-step total x front rest tail all is first last len before =
-    let joined : front ++ tail ≡ rest = rw (first, last) (take-append-drop 8 rest) in
-    let eight : length front ≡ 8 = let e : length (front ++ tail) ≡ length rest = ap length joined in omega (arith, length-append front tail) in
-    let number : x ≡ low_first front = is ∙ from_le_bytes-low_first front eight in
+-- the first eight bytes added to the rest, whose sum low bytes first folds as its words do
+pub low_first-eights : (x y : ℕ) (front bytes tail : List ℕ) → x ≡ from_le_bytes w64 front → folded (256 * y) ≡ folded (word_sum tail) → front ≡ take 8 bytes →
+    tail ≡ drop 8 bytes → length tail + 8 ≡ length bytes
+    → folded (256 * (x + y)) ≡ folded (word_sum bytes)
+low_first-eights x y front bytes tail first second taken left len =
+    let joined : front ++ tail ≡ bytes = rw (taken, left) (take-append-drop 8 bytes) in
+    let eight : length front ≡ 8 = let e : length (front ++ tail) ≡ length bytes = ap length joined in omega (arith, length-append front tail) in
+    let number : x ≡ low_first front = first ∙ from_le_bytes-low_first front eight in
     let split : word_sum (front ++ tail) ≡ word_sum front + word_sum tail = word_sum-append front tail (rw eight refl) in
-    let sums : word_sum rest ≡ word_sum front + word_sum tail = sym (ap word_sum joined) ∙ split in
-    let left : 256 * (total + x) + word_sum tail ≡ 256 * low_first front + (256 * total + word_sum tail) = omega arith in
-    let right : word_sum front + (256 * total + word_sum tail) ≡ 256 * total + word_sum rest = omega arith in
-    ap folded left
-    ∙ folded-alike (256 * low_first front) (word_sum front) (256 * total + word_sum tail) (folded-low_first front)
-    ∙ ap folded right ∙ before
-
--- its last step, over fewer than eight bytes
-pub low_first-end : (total x : ℕ) (rest : List ℕ) (all : ℕ) → folded (256 * x) ≡ folded (word_sum rest)
-    → folded (256 * total + word_sum rest) ≡ all → folded (256 * (total + x)) ≡ all
-low_first-end total x rest all is before =
-    let left : 256 * (total + x) ≡ 256 * x + 256 * total = omega arith in
-    let right : word_sum rest + 256 * total ≡ 256 * total + word_sum rest = omega arith in
-    ap folded left ∙ folded-alike (256 * x) (word_sum rest) (256 * total) is
-    ∙ ap folded right ∙ before
+    let sums : word_sum front + word_sum tail ≡ word_sum bytes = sym split ∙ ap word_sum joined in
+    let parts : 256 * (x + y) ≡ 256 * low_first front + 256 * y = omega arith in
+    ap folded parts ∙ folded-both _ _ _ _ (folded-low_first front) second ∙ ap folded sums
 
 -- a carry is at most one
 pub from_bool-le : (carry : Bool) → from_bool carry ≤ 1
@@ -174,7 +162,7 @@ folded-times (suc k) a b same =
     let right : b + k * b ≡ suc k * b = omega arith in
     ap folded left ∙ folded-both a b (k * a) (k * b) same (folded-times k a b same) ∙ ap folded right
 
--- the last step, over fewer than 64 bytes
+-- the last step, over fewer than sixteen bytes
 pub low_first-last : (total carries x result : ℕ) (rest : List ℕ) (all : ℕ) → folded (256 * x) ≡ folded (word_sum rest) →
     folded result ≡ folded (total + (carries + x))
     → folded (256 * (total + carries) + word_sum rest) ≡ all → folded (256 * result) ≡ all

@@ -138,6 +138,10 @@ fn sum_low_first(bytes: &[u8]) -> u128
         (total, carries) = add_block(total, carries, front);
         rest = tail;
     }
+    while let Some((part, tail)) = rest.split_first_chunk::<16>() {
+        (total, carries) = add_quarter(total, carries, part);
+        rest = tail;
+    }
     add_u128(total, carries as u128 + sum_of_end(rest))
 }
 
@@ -181,19 +185,16 @@ fn add_quarter(total: u128, carries: u64, bytes: &[u8]) -> (u128, u64)
     }
 }
 
-/// The sum of fewer than 64 bytes.
+/// The sum of fewer than sixteen bytes.
 fn sum_of_end(bytes: &[u8]) -> u128
-    requires { length bytes.now < 64 }
+    requires { length bytes.now < 16 }
     ensures sum { folded (256 * result) ≡ folded (word_sum bytes.now) }
-    ensures room { result < 2 ^ 72 }
+    ensures room { result < 2 ^ 66 }
 {
-    let mut total: u128 = 0;
-    let mut rest = bytes;
-    while let Some((front, tail)) = rest.split_first_chunk::<8>() {
-        total += u64::from_le_bytes(*front) as u128;
-        rest = tail;
+    match bytes.split_first_chunk::<8>() {
+        Some((front, tail)) => u64::from_le_bytes(*front) as u128 + sum_below_eight(tail) as u128,
+        None => sum_below_eight(bytes) as u128,
     }
-    total + sum_below_eight(rest) as u128
 }
 
 /// The same for fewer than eight bytes.

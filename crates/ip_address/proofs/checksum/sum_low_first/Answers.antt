@@ -10,5 +10,14 @@ loop-front-preserved c = (
   omega arith,
 )
 
+pub loop-part-preserved : goal.loop-part-preserved
+loop-part-preserved c =
+    let some = c.in-Some-split_first_chunk in (
+      low_first-block _ _ 16 some.part.now c.loop-part.rest.now _ _ c.add_quarter.ensures.sum some.ensures.cases.0 some.ensures.cases.1
+          some.ensures.cases.2 refl c.loop-part.invariant.0,
+      omega (arith, some.ensures.cases.2),
+      omega arith,
+    )
+
 pub returns : goal.returns
-returns c = low_first-last _ _ _ _ c.loop-front.rest.now _ c.sum_of_end.ensures.sum c.add_u128.ensures c.loop-front.invariant.0
+returns c = low_first-last _ _ _ _ c.loop-part.rest.now _ c.sum_of_end.ensures.sum c.add_u128.ensures c.loop-part.invariant.0
