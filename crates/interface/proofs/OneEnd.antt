@@ -135,12 +135,15 @@ module _ (one_offer : OneOffer) {D : Type 0} (moves : D → Move → D → Type 
         (s ≡ t) × (y ≡ z)
     one_leaves x y z m p s t det (inl a) (inl b) =
         let given : a.0 ≡ b.0 = one_given x.inner.moment a.0 b.0 x.device y.device z.device det a.1 b.1 in
-        let again : moves x.device (Allowed x.inner.moment a.0) z.device = subst (λ (g : Bool). moves x.device (Allowed x.inner.moment g) z.device) (sym given) b.1 in (
+        let again : moves x.device (Allowed x.inner.moment a.0) z.device = subst (λ (g : Bool). moves x.device (Allowed x.inner.moment g) z.device)
+        (sym given) b.1 in (
           same_sent s t (sym a.4 ∙ ap (λ (g : Bool). outcome_by g (held_at moves turn x m p)) given ∙ b.4),
           same_sender y z (det.one_end y.device z.device (Allowed x.inner.moment a.0) a.1 again) (a.2 ∙ sym b.2) (a.3 ∙ sym b.3),
         )
-    one_leaves x y z m p s t det (inl a) (inr b) = absurd (rests_or_goes x.inner.moment a.0 (held_at moves turn x m p) s x.device y.device b.0 det a.1 a.4 b.1 b.3)
-    one_leaves x y z m p s t det (inr a) (inl b) = absurd (rests_or_goes x.inner.moment b.0 (held_at moves turn x m p) t x.device z.device a.0 det b.1 b.4 a.1 a.3)
+    one_leaves x y z m p s t det (inl a) (inr b) = absurd
+        (rests_or_goes x.inner.moment a.0 (held_at moves turn x m p) s x.device y.device b.0 det a.1 a.4 b.1 b.3)
+    one_leaves x y z m p s t det (inr a) (inl b) = absurd
+        (rests_or_goes x.inner.moment b.0 (held_at moves turn x m p) t x.device z.device a.0 det b.1 b.4 a.1 a.3)
     one_leaves x y z m p s t det (inr a) (inr b) =
         let mids : b.0 ≡ a.0 = det.one_end b.0 a.0 (Allowed x.inner.moment true) b.1 a.1 in
         let two : GoesOut moves a.0 x.inner x.left p (plan_of x.inner (is_some x.left) p.header) t z.device z.inner z.left =
@@ -371,7 +374,8 @@ module _ (one_offer : OneOffer) {D : Type 0} (moves : D → Move → D → Type 
   one_takes o s r (Some true) None det one two = absurd (det.looks o.host.inner.moment one.1 r.device one.0 one.2 two.0)
   one_takes o s r (Some false) (Some false) det one two =
       let frames = det.one_frame o.host.inner.moment r.device s.device two.0 one.0 two.1 one.1 in
-      let again : moves o.device (Took o.host.inner.moment one.0) r.device = subst (λ (f : List ℕ). moves o.device (Took o.host.inner.moment f) r.device) frames two.1 in
+      let again : moves o.device (Took o.host.inner.moment one.0) r.device = subst
+      (λ (f : List ℕ). moves o.device (Took o.host.inner.moment f) r.device) frames two.1 in
       (refl, one.3 ∙ ap (at_device o) (det.one_end s.device r.device (Took o.host.inner.moment one.0) one.1 again) ∙ sym two.3)
   one_takes o s r (Some false) (Some true) det one two =
       let frames = det.one_frame o.host.inner.moment s.device two.1 one.0 two.0 one.1 two.2 in
@@ -381,7 +385,8 @@ module _ (one_offer : OneOffer) {D : Type 0} (moves : D → Move → D → Type 
       absurd (both_read (is_read one.0) one.3 (ap is_read frames ∙ two.2))
   one_takes o s r (Some true) (Some true) det one two =
       let frames : two.0 ≡ one.0 = det.one_frame o.host.inner.moment two.1 one.1 two.0 one.0 two.2 one.2 in
-      let took : moves o.device (Took o.host.inner.moment one.0) two.1 = subst (λ (f : List ℕ). moves o.device (Took o.host.inner.moment f) two.1) frames two.2 in
+      let took : moves o.device (Took o.host.inner.moment one.0) two.1 = subst
+      (λ (f : List ℕ). moves o.device (Took o.host.inner.moment f) two.1) frames two.2 in
       let mids : two.1 ≡ one.1 = det.one_end two.1 one.1 (Took o.host.inner.moment one.0) took one.2 in
       let again : Reads moves one.0 (at_device o one.1) r =
       subst (λ (f : List ℕ). Reads moves f (at_device o one.1) r) frames (subst (λ (d : D). Reads moves two.0 (at_device o d) r) mids two.4) in

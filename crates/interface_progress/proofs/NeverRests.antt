@@ -23,7 +23,8 @@ Nowhere = Unit {0}
 
 -- NOTHING STIRS
 
-only_looked : (test : Move → Bool) → ((t : ℤ) → test (Empty t) ≡ false) → (all : List Move) (old new : Nowhere) → AreMoves Lonely all old new → list_any test all ≡ false
+only_looked : (test : Move → Bool) → ((t : ℤ) → test (Empty t) ≡ false) → (all : List Move) (old new : Nowhere) → AreMoves Lonely all old new →
+    list_any test all ≡ false
 only_looked test none [] old new are = refl
 only_looked test none (m ∷ more) old new are =
     ap (λ (first : Bool). first || list_any test more) (ap test are.1.1 ∙ none are.1.0) ∙ only_looked test none more are.0 new are.2

@@ -269,7 +269,8 @@ module _ {D : Type 0} (moves : D → Move → D → Type 0) where
         out (Way.Go to) sent facts goes gets = whole (Departures.Whole to (numbered x.inner p)) sent goes.0 gets.0
         out (Way.Cut to v) sent facts goes gets = cut (cut_of x.inner to v p) sent goes gets.0
 
-      held_ends : (plan : Plan) (sent : Sent) (given_up other : Bool) → moves x.device (Allowed x.inner.moment true) x'.device → (other ≡ true → is_to_wait plan ≡ true)
+      held_ends : (plan : Plan) (sent : Sent) (given_up other : Bool) → moves x.device (Allowed x.inner.moment true) x'.device →
+          (other ≡ true → is_to_wait plan ≡ true)
           → Facts x.inner (is_some x.left) p.header plan
           → (if given_up then Some Outcome.Dropped else if other then Some Outcome.Waits else None) ≡ Some sent
           → Gets plan sent → x'.inner ≡ x.inner → x'.left ≡ x.left → Ends Q x x' turned (Some item')

@@ -134,7 +134,8 @@ polls_stay s s' t budget changed p =
     let from : State PortValue = record { device = p.port; host = s.host; places = s.places } in
     let to : State PortValue = record { device = p.port_after; host = s'.host; places = s'.places } in
     let trace = polls_traced PortMove t budget from to changed p.polls in
-    let path : Follows p.port.link p.port_after.link = follows_path t s.host.inner.hardware s.host.inner.checksums trace.touches p.port p.port_after trace.path in
+    let path : Follows p.port.link p.port_after.link =
+    follows_path t s.host.inner.hardware s.host.inner.checksums trace.touches p.port p.port_after trace.path in
     record {
       link = subst (λ (x : LinkEnd). Follows x s'.link) p.before (subst (λ (x : LinkEnd). Follows p.port.link x) p.after path);
       places = (polls_count PortMove t (λ (n : ℕ) (x : State PortValue). Unit {0}) (counts_nothing t) budget 0 from to changed tt p.polls).2;

@@ -157,7 +157,8 @@ module _ (q : Party) (others base : List PacketValue) (first : ℕ) (before : Li
   pub looks : (s : State PortValue) (p : Party) (d : PortValue) → PortMove s.device (Empty s.host.inner.moment) d → L n s p → L n (at_device s d) p
   looks s p d move l = same_device s p d move.0 l
 
-  pub leave : (s : State PortValue) (p : Party) (given : Bool) (d : PortValue) → PortMove s.device (Allowed s.host.inner.moment given) d → L n s p → L n (at_device s d) p
+  pub leave : (s : State PortValue) (p : Party) (given : Bool) (d : PortValue) → PortMove s.device (Allowed s.host.inner.moment given) d → L n s p →
+      L n (at_device s d) p
   leave s p given d move l = same_device s p d move.0 l
 
   -- A FRAME IS TAKEN
@@ -167,18 +168,22 @@ module _ (q : Party) (others base : List PacketValue) (first : ℕ) (before : Li
   waits_first s p frame d move l =
       subst (λ (w : List (List ℕ)). IsReceiver (MadeBy q) others s.host.inner s.host.slots w) (taken_frame s.host.inner.moment s.device d frame move) l.receiver
 
-  pub skips : (s : State PortValue) (p : Party) (frame : List ℕ) (d : PortValue) → PortMove s.device (Took s.host.inner.moment frame) d → L n s p → L n (at_device s d) p
+  pub skips : (s : State PortValue) (p : Party) (frame : List ℕ) (d : PortValue) → PortMove s.device (Took s.host.inner.moment frame) d → L n s p →
+      L n (at_device s d) p
   skips s p frame d move l = record {
     out = l.out;
     more = l.more;
-    sender = subst (λ (w : List (List ℕ)). IsSender (MadeBy p) first s.host.inner s.host.left w l.out) (sym (taken_sent s.host.inner.moment s.device d frame move)) l.sender;
+    sender = subst (λ (w : List (List ℕ)). IsSender (MadeBy p) first s.host.inner s.host.left w l.out)
+        (sym (taken_sent s.host.inner.moment s.device d frame move)) l.sender;
     receiver = skipped_keeps (MadeBy q) others s.host.inner s.host.slots frame d.link.waiting (waits_first s p frame d move l);
     count = l.count;
-    tied = subst (λ (w : List (List ℕ)). IsTied (medium_on s.host.inner.hardware) base before l.out w) (sym (taken_sent s.host.inner.moment s.device d frame move)) l.tied;
+    tied = subst (λ (w : List (List ℕ)). IsTied (medium_on s.host.inner.hardware) base before l.out w)
+        (sym (taken_sent s.host.inner.moment s.device d frame move)) l.tied;
   }
 
   module _ (start next : ℕ) (other : IsOther q start next others) where
-    pub brings : (s : State PortValue) (p : Party) (frame : List ℕ) (d : PortValue) (content : Option IncomingValue) → PortMove s.device (Took s.host.inner.moment frame) d →
+    pub brings : (s : State PortValue) (p : Party) (frame : List ℕ) (d : PortValue) (content : Option IncomingValue) →
+        PortMove s.device (Took s.host.inner.moment frame) d →
         IsContent s.host.inner.hardware s.host.inner.checksums frame content → L n s p
         → Moves.BringsMade q s.host.inner.checksums (whole_after s.host.inner s.host.timeout s.host.slots (taken_in s.host.inner content))
     brings s p frame d content move is l =
@@ -202,7 +207,8 @@ module _ (q : Party) (others base : List PacketValue) (first : ℕ) (before : Li
       count = l.count;
       tied = tied_on s.host.inner.hardware a.inner.hardware base l.out before d.link.sent
           (brings_same s.host.inner s.places (whole_after s.host.inner s.host.timeout s.host.slots (taken_in s.host.inner content)) a arrives.1).hardware
-          (subst (λ (w : List (List ℕ)). IsTied (medium_on s.host.inner.hardware) base before l.out w) (sym (taken_sent s.host.inner.moment s.device d frame move)) l.tied);
+          (subst (λ (w : List (List ℕ)). IsTied (medium_on s.host.inner.hardware) base before l.out w)
+          (sym (taken_sent s.host.inner.moment s.device d frame move)) l.tied);
     }
 
   -- SOMETHING LEAVES

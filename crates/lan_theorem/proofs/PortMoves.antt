@@ -23,7 +23,8 @@ one_end here one other (Allowed t leave) a b = a.0 ∙ sym b.0
 one_end here one other (Emitted frame) a b = a ∙ sym b
 one_end here one other (Denied len) a b = a.0 ∙ sym b.0
 
-one_frame : (here : PortValue) (t : ℤ) (one other : PortValue) (frame again : List ℕ) → PortMove here (Took t frame) one → PortMove here (Took t again) other → frame ≡ again
+one_frame : (here : PortValue) (t : ℤ) (one other : PortValue) (frame again : List ℕ) → PortMove here (Took t frame) one →
+    PortMove here (Took t again) other → frame ≡ again
 one_frame here t one other frame again a b =
     head_is frame again one.link.waiting other.link.waiting (ap (λ (p : PortValue). p.link.waiting) (sym a.1 ∙ b.1))
 

@@ -234,7 +234,8 @@ module _ {D E : Type 0} (f : D → E) (moves : D → Move → D → Type 0) (oth
   piece_leaves : (l : LeftValue) (x y : Sender D) (gone : Bool) → PieceLeaves moves l x gone y →
       Leads x.device y.device (PieceLeaves others l (on_sender x) gone (on_sender y))
   piece_leaves l x y gone (inl a) =
-      so x.device y.device (others (f x.device) (Allowed x.inner.moment false) (f y.device)) (PieceLeaves others l (on_sender x) gone (on_sender y)) (λ n. inl (n, a.1, a.2))
+      so x.device y.device (others (f x.device) (Allowed x.inner.moment false) (f y.device)) (PieceLeaves others l (on_sender x) gone (on_sender y))
+      (λ n. inl (n, a.1, a.2))
       (moves_so x.device y.device (Allowed x.inner.moment false) a.0)
   piece_leaves l x y gone (inr a) =
       both x.device a.0 y.device (others (f x.device) (Allowed x.inner.moment true) (f a.0)) (PieceGoesOut others (f a.0) x.inner l gone (f y.device) y.left)
@@ -295,16 +296,19 @@ module _ {D E : Type 0} (f : D → E) (moves : D → Move → D → Type 0) (oth
 
   takes : (s s' : State D) (answer : Option Bool) → Takes moves s answer s' → Leads s.device s'.device (Takes others (on_state s) answer (on_state s'))
   takes s s' None one =
-      so s.device s'.device (others (f s.device) (Empty s.host.inner.moment) (f s'.device)) (Takes others (on_state s) None (on_state s')) (λ n. (n, ap on_state one.1))
+      so s.device s'.device (others (f s.device) (Empty s.host.inner.moment) (f s'.device)) (Takes others (on_state s) None (on_state s'))
+      (λ n. (n, ap on_state one.1))
       (moves_so s.device s'.device (Empty s.host.inner.moment) one.0)
   takes s s' (Some false) one =
       so s.device s'.device (others (f s.device) (Took s.host.inner.moment one.0) (f s'.device)) (Takes others (on_state s) (Some false) (on_state s'))
       (λ n. (one.0, n, one.2, ap on_state one.3))
       (moves_so s.device s'.device (Took s.host.inner.moment one.0) one.1)
   takes s s' (Some true) one =
-      both s.device one.1 s'.device (others (f s.device) (Took s.host.inner.moment one.0) (f one.1)) (Receives others one.4.0 (on_state (at_device s one.1)) (on_state s'))
+      both s.device one.1 s'.device (others (f s.device) (Took s.host.inner.moment one.0) (f one.1))
+      (Receives others one.4.0 (on_state (at_device s one.1)) (on_state s'))
       (Takes others (on_state s) (Some true) (on_state s'))
-      (λ n g. (one.0, f one.1, n, one.3, (one.4.0, one.4.1, g))) (moves_so s.device one.1 (Took s.host.inner.moment one.0) one.2) (receives one.4.0 (at_device s one.1) s' one.4.2)
+      (λ n g. (one.0, f one.1, n, one.3, (one.4.0, one.4.1, g))) (moves_so s.device one.1 (Took s.host.inner.moment one.0) one.2)
+      (receives one.4.0 (at_device s one.1) s' one.4.2)
 
   -- STEPS
 

@@ -91,7 +91,8 @@ module _ (refusals longest : ℕ) where
       (subst (λ (n : ℕ). n ≤ refusals) (sym refused) after.0, subst (λ (fs : List (List ℕ)). total fs ≤ longest) (sym sent) after.1)
 
   down : (old new : PortValue) (m : Move) → PortMove old m new → After new → After old
-  down old new (Took t frame) goes after = after_same old new (ap (λ (x : PortValue). x.link.refusals) goes.1) (ap (λ (x : PortValue). x.link.sent) goes.1) after
+  down old new (Took t frame) goes after = after_same old new (ap (λ (x : PortValue). x.link.refusals) goes.1)
+      (ap (λ (x : PortValue). x.link.sent) goes.1) after
   down old new (Empty t) goes after =
       after_same old new (sym (ap (λ (x : PortValue). x.link.refusals) goes.0)) (sym (ap (λ (x : PortValue). x.link.sent) goes.0)) after
   down old new (Allowed t leave) goes after =
