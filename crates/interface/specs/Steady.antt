@@ -5,9 +5,9 @@ use Rattle.interface_egress.specs.Determined.{IsDetermined}
 
 -- a frame that is sent or refused is of at most this length
 abbrev pub IsShort : ℕ → Move → Type 0
-IsShort longest (Took frame) = Unit {0}
-IsShort longest Empty = Unit {0}
-IsShort longest (Allowed given) = Unit {0}
+IsShort longest (Took t frame) = Unit {0}
+IsShort longest (Empty t) = Unit {0}
+IsShort longest (Allowed t given) = Unit {0}
 IsShort longest (Emitted frame) = length frame ≤ longest
 IsShort longest (Denied len) = len ≤ longest
 

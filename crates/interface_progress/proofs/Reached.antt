@@ -175,7 +175,7 @@ brought i places link (Ip.Ipv6 header) payload udp bytes m meta w is timeout slo
 pub reached : {D : Type 0} (moves : D → Move → D → Type 0) (t : ℤ) (s s' : State D) (frame : List ℕ) (link : Option EthernetRepr) (ip : IpRepr)
     (payload : List ℕ)
     (udp : UdpRepr) (bytes : List ℕ) (m : ℕ) (meta : Meta) (w : UdpValue)
-    → ((other : List ℕ) (d : D) → moves s.device (Took other) d → other ≡ frame)
+    → ((other : List ℕ) (d : D) → moves s.device (Took t other) d → other ≡ frame)
     → IsContent s.host.inner.hardware s.host.inner.checksums frame (Some (uncut link ip payload))
     → IsFor (at_moment t s.host.inner) s.places link ip payload udp bytes m meta w
     → IngressStep moves t s (Some true) s'

@@ -156,13 +156,13 @@ module _ {D E : Type 0} (f : D → E) (moves : D → Move → D → Type 0) (oth
     leaves : (x y : Sender D) (mark : Meta) (p : PacketValue) (sent : Sent) → Leaves moves turn x mark p sent y →
         Leads x.device y.device (Leaves others turn (on_sender x) mark p sent (on_sender y))
     leaves x y mark p sent (inl a) =
-        so x.device y.device (others (f x.device) (Allowed a.0) (f y.device)) (Leaves others turn (on_sender x) mark p sent (on_sender y))
+        so x.device y.device (others (f x.device) (Allowed x.inner.moment a.0) (f y.device)) (Leaves others turn (on_sender x) mark p sent (on_sender y))
         (λ n. inl (a.0, n, a.2, a.3, a.4))
-        (moves_so x.device y.device (Allowed a.0) a.1)
+        (moves_so x.device y.device (Allowed x.inner.moment a.0) a.1)
     leaves x y mark p sent (inr a) =
-        both x.device a.0 y.device (others (f x.device) (Allowed true) (f a.0))
+        both x.device a.0 y.device (others (f x.device) (Allowed x.inner.moment true) (f a.0))
         (GoesOut others (f a.0) x.inner x.left p (plan_of x.inner (is_some x.left) p.header) sent (f y.device) y.inner y.left)
-        (Leaves others turn (on_sender x) mark p sent (on_sender y)) (λ n g. inr (f a.0, n, g, a.3)) (moves_so x.device a.0 (Allowed true) a.1)
+        (Leaves others turn (on_sender x) mark p sent (on_sender y)) (λ n g. inr (f a.0, n, g, a.3)) (moves_so x.device a.0 (Allowed x.inner.moment true) a.1)
         (goes_out a.0 y.device x.inner y.inner x.left y.left p (plan_of x.inner (is_some x.left) p.header) sent a.2)
 
     sends : (o : Option PacketValue) (x y : Sender D) (item m : Item Socket) (changed : Bool) (a : Turned) → SendsBy moves turn o x item changed a y m
@@ -234,12 +234,13 @@ module _ {D E : Type 0} (f : D → E) (moves : D → Move → D → Type 0) (oth
   piece_leaves : (l : LeftValue) (x y : Sender D) (gone : Bool) → PieceLeaves moves l x gone y →
       Leads x.device y.device (PieceLeaves others l (on_sender x) gone (on_sender y))
   piece_leaves l x y gone (inl a) =
-      so x.device y.device (others (f x.device) (Allowed false) (f y.device)) (PieceLeaves others l (on_sender x) gone (on_sender y)) (λ n. inl (n, a.1, a.2))
-      (moves_so x.device y.device (Allowed false) a.0)
+      so x.device y.device (others (f x.device) (Allowed x.inner.moment false) (f y.device)) (PieceLeaves others l (on_sender x) gone (on_sender y))
+      (λ n. inl (n, a.1, a.2))
+      (moves_so x.device y.device (Allowed x.inner.moment false) a.0)
   piece_leaves l x y gone (inr a) =
-      both x.device a.0 y.device (others (f x.device) (Allowed true) (f a.0)) (PieceGoesOut others (f a.0) x.inner l gone (f y.device) y.left)
+      both x.device a.0 y.device (others (f x.device) (Allowed x.inner.moment true) (f a.0)) (PieceGoesOut others (f a.0) x.inner l gone (f y.device) y.left)
       (PieceLeaves others l (on_sender x) gone (on_sender y))
-      (λ n g. inr (f a.0, n, g)) (moves_so x.device a.0 (Allowed true) a.1) (piece_out a.0 y.device x.inner l gone y.left a.2)
+      (λ n g. inr (f a.0, n, g)) (moves_so x.device a.0 (Allowed x.inner.moment true) a.1) (piece_out a.0 y.device x.inner l gone y.left a.2)
 
   clears : (l : Option LeftValue) (x y : Sender D) (clear : Bool) → Clears moves l x clear y →
       Leads x.device y.device (Clears others l (on_sender x) clear (on_sender y))
@@ -295,16 +296,19 @@ module _ {D E : Type 0} (f : D → E) (moves : D → Move → D → Type 0) (oth
 
   takes : (s s' : State D) (answer : Option Bool) → Takes moves s answer s' → Leads s.device s'.device (Takes others (on_state s) answer (on_state s'))
   takes s s' None one =
-      so s.device s'.device (others (f s.device) Empty (f s'.device)) (Takes others (on_state s) None (on_state s')) (λ n. (n, ap on_state one.1))
-      (moves_so s.device s'.device Empty one.0)
+      so s.device s'.device (others (f s.device) (Empty s.host.inner.moment) (f s'.device)) (Takes others (on_state s) None (on_state s'))
+      (λ n. (n, ap on_state one.1))
+      (moves_so s.device s'.device (Empty s.host.inner.moment) one.0)
   takes s s' (Some false) one =
-      so s.device s'.device (others (f s.device) (Took one.0) (f s'.device)) (Takes others (on_state s) (Some false) (on_state s'))
+      so s.device s'.device (others (f s.device) (Took s.host.inner.moment one.0) (f s'.device)) (Takes others (on_state s) (Some false) (on_state s'))
       (λ n. (one.0, n, one.2, ap on_state one.3))
-      (moves_so s.device s'.device (Took one.0) one.1)
+      (moves_so s.device s'.device (Took s.host.inner.moment one.0) one.1)
   takes s s' (Some true) one =
-      both s.device one.1 s'.device (others (f s.device) (Took one.0) (f one.1)) (Receives others one.4.0 (on_state (at_device s one.1)) (on_state s'))
+      both s.device one.1 s'.device (others (f s.device) (Took s.host.inner.moment one.0) (f one.1))
+      (Receives others one.4.0 (on_state (at_device s one.1)) (on_state s'))
       (Takes others (on_state s) (Some true) (on_state s'))
-      (λ n g. (one.0, f one.1, n, one.3, (one.4.0, one.4.1, g))) (moves_so s.device one.1 (Took one.0) one.2) (receives one.4.0 (at_device s one.1) s' one.4.2)
+      (λ n g. (one.0, f one.1, n, one.3, (one.4.0, one.4.1, g))) (moves_so s.device one.1 (Took s.host.inner.moment one.0) one.2)
+      (receives one.4.0 (at_device s one.1) s' one.4.2)
 
   -- STEPS
 
