@@ -21,7 +21,7 @@ use Rattle.tcp_control.specs.declared.state.State.TheVariants as In
 use Rattle.tcp_model.specs.Acknowledged.{acknowledged, block_acknowledged, acks_fin, in_state, una_moved, state_after_ack, ended_if, names_window, windowed}
 use Rattle.tcp_model.specs.Acknowledged.{duplicates_after}
 use Rattle.tcp_model.specs.Answers.{may_draw, with_draw, drawn, acked, answer_for}
-use Rattle.tcp_model.specs.Arrival.{arrives, arrives_in, is_void_syn, outside, tells_news, passed_outside, waiting_anew, inside, taken, told, with_content}
+use Rattle.tcp_model.specs.Arrival.{arrives, arrives_in, is_void_syn, outside, tells_news, has_length, comes_again, passed_outside, waiting_anew, inside, taken, told, with_content}
 use Rattle.tcp_model.specs.Arrival.{continued, finished, checked, reset_comes, echo_heard, takes_reset, challenges_reset, draws_first}
 use Rattle.tcp_model.specs.Calls.{listening, send_after, close_after}
 use Rattle.tcp_model.specs.Checks.{Check, acknowledgement_check, is_in_window, falls_back, taken_down}
@@ -251,26 +251,36 @@ module _ (cx : ContextValue) (v : TcpValue) (ip : IpRepr) (header : TcpHeader) (
     other true = drawn_moves cx v v ip header refl
     other false = undrawn cx v (taken cx v ip header bytes by) (taken_pause cx v ip header bytes by)
 
-  outside_moves : (w : TcpValue) → pause_of w ≡ pause_of v → Moves cx v (not (is_closed w.block.state)) (outside cx w ip header)
-  outside_moves w same = by (is_closed w.block.state) where
-    by : (closed : Bool) → Moves cx v (not closed) (if closed then dropped w else drawn cx (waiting_anew w header cx.moment) ip header)
-    by true = undrawn cx v (dropped w) same
-    by false = drawn_moves cx v (waiting_anew w header cx.moment) ip header same
+  outside_moves : (w : TcpValue) (again : Bool) → pause_of w ≡ pause_of v
+      → Moves cx v (not again && not (is_closed w.block.state)) (outside cx w ip header again)
+  outside_moves w again same = by (is_closed w.block.state) again where
+    x : TcpValue
+    x = waiting_anew w header cx.moment
+
+    by : (closed again : Bool)
+        → Moves cx v (not again && not closed) (if closed then dropped w else if again then acked cx x ip header no_ranges else drawn cx x ip header)
+    by true true = undrawn cx v (dropped w) same
+    by true false = undrawn cx v (dropped w) same
+    by false true = undrawn cx v (acked cx x ip header no_ranges) same
+    by false false = drawn_moves cx v x ip header same
 
   -- whether a segment outside the window draws an answer
   abbrev Draws_outside : ℕ → Bool → Bool
   Draws_outside by tells =
-      if tells then not (is_closed (block_acknowledged v.block by (queued_in v) cx.moment).state) else not (is_closed v.block.state)
+      if tells then not (has_length header (length bytes)) && not (is_closed (block_acknowledged v.block by (queued_in v) cx.moment).state)
+      else not (is_closed v.block.state)
 
   passed_outside_moves : (by : ℕ) (tells : Bool)
       → Moves cx v (Draws_outside by tells)
-      (if tells then outside cx (acknowledged (echo_heard v header by cx.moment) by cx.moment) ip header else outside cx v ip header)
+      (if tells then outside cx (acknowledged (echo_heard v header by cx.moment) by cx.moment) ip header (has_length header (length bytes))
+      else outside cx v ip header false)
   passed_outside_moves by true =
       let timed : TcpValue = echo_heard v header by cx.moment in
       let told_of : TcpValue = acknowledged timed by cx.moment in
-      subst (λ (state : State). Moves cx v (not (is_closed state)) (outside cx told_of ip header)) (echo_ends v header by cx.moment)
-      (outside_moves told_of (acknowledged_pause timed by cx.moment))
-  passed_outside_moves by false = outside_moves v refl
+      let again : Bool = has_length header (length bytes) in
+      subst (λ (state : State). Moves cx v (not again && not (is_closed state)) (outside cx told_of ip header again)) (echo_ends v header by cx.moment)
+      (outside_moves told_of again (acknowledged_pause timed by cx.moment))
+  passed_outside_moves by false = outside_moves v false refl
 
   passed_moves : (by : ℕ) (meets : Bool)
       → Moves cx v (if meets then is_syn header.control else Draws_outside by (tells_news v header (length bytes)))
@@ -278,11 +288,14 @@ module _ (cx : ContextValue) (v : TcpValue) (ip : IpRepr) (header : TcpHeader) (
   passed_moves by true = inside_moves by
   passed_moves by false = passed_outside_moves by (tells_news v header (length bytes))
 
+  abbrev Again : Bool
+  Again = comes_again v header (length bytes)
+
   old_moves : (meets : Bool)
-      → Moves cx v (not meets && not (is_closed v.block.state))
-      (if meets then with_content cx (with_block v (stamp_taken (heard v.block) header cx.moment)) ip header bytes else outside cx v ip header)
+      → Moves cx v (not meets && (not Again && not (is_closed v.block.state)))
+      (if meets then with_content cx (with_block v (stamp_taken (heard v.block) header cx.moment)) ip header bytes else outside cx v ip header Again)
   old_moves true = undrawn cx v _ (content_pause cx (with_block v (stamp_taken (heard v.block) header cx.moment)) ip header bytes)
-  old_moves false = outside_moves v refl
+  old_moves false = outside_moves v Again refl
 
   checked_moves : (check : Check) → Moves cx v (draws_by check cx v header (length bytes)) (checked check cx v ip header bytes)
   checked_moves (Passes by) = passed_moves by (is_in_window v.block (free_in v) header (length bytes))

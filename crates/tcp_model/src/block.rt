@@ -201,7 +201,7 @@ mod timeout;
 mod timestamps;
 
 pub use checks::Verdict;
-pub use opening::{is_first_syn, is_void_syn};
+pub use opening::{has_length, is_first_syn, is_void_syn};
 pub use rules::{PROBE, Part};
 pub use segments::{reply_to, rst_reply};
 pub use text::numbers_of;

@@ -15,7 +15,7 @@ use Rattle.tcp_rules.specs.State.TheVariants as In
 use Rattle.tcp_pair_model.specs.Acknowledged.{acknowledged, names_window, windowed, duplicates_after}
 use Rattle.tcp_pair_model.specs.Answers.{drawn, may_draw, with_draw, acked, answer_for}
 use Rattle.tcp_pair_model.specs.Arrival.{arrives, arrives_in, is_void_syn, received, reset_comes, challenges_syn, checked, inside, taken, told, with_content}
-use Rattle.tcp_pair_model.specs.Arrival.{passed_outside, outside, tells_news, waiting_anew}
+use Rattle.tcp_pair_model.specs.Arrival.{passed_outside, outside, tells_news, has_length, waiting_anew}
 use Rattle.tcp_pair_model.specs.Checks.{Check, acknowledgement_check, opening_check, synchronized_check, is_in_window, lies_before}
 use Rattle.tcp_pair_model.specs.Checks.Check.{Passes, Drops, Draws}
 use Rattle.tcp_pair_model.specs.Probing.{probe_kept}

@@ -21,7 +21,7 @@ use Rattle.tcp_law.specs.ReceiveMap.{store, front}
 use Rattle.tcp_pair_model.specs.Acknowledged.{acknowledged, acks_fin, state_after_ack, names_window, windowed, duplicates_after}
 use Rattle.tcp_pair_model.specs.Answers.{drawn, may_draw, with_draw, acked, answer_for, delayed, sooner, ack_moment_after}
 use Rattle.tcp_pair_model.specs.Arrival.{arrives, checked, inside, taken, continued, told, with_content, finished, passed_outside}
-use Rattle.tcp_pair_model.specs.Arrival.{outside, tells_news, waiting_anew}
+use Rattle.tcp_pair_model.specs.Arrival.{outside, tells_news, has_length, waiting_anew}
 use Rattle.tcp_pair_model.specs.Checks.{is_in_window, lies_before}
 use Rattle.tcp_pair_model.specs.Checks.Check.{Passes}
 use Rattle.tcp_pair_model.specs.Probing.{probe_kept}

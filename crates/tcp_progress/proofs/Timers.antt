@@ -169,7 +169,7 @@ module _ (cx : ContextValue) (ip : IpRepr) (header : TcpHeader) (bytes : List �
 
   near_drawing : (x : TcpValue) → Bounded cx.moment x.block → Drawing cx ip header bytes NearAfter x
   near_drawing x h =
-      record { answers = λ _. record { good = h.good; timer = h.timer; pause = same cx.moment }; pauses = h }
+      record { answers = λ _. record { good = h.good; timer = h.timer; pause = same cx.moment }; at_once = h; pauses = h }
 
   near_content : (x : TcpValue) → Bounded cx.moment x.block → Content cx ip header bytes NearAfter x
   near_content x h =

@@ -15,7 +15,7 @@ use Rattle.tcp_control.specs.declared.state.State.TheVariants as In
 use Rattle.tcp_control.specs.Endpoints.{pair_in}
 use Rattle.tcp_model.specs.Acknowledged.{acknowledged, duplicates_after, names_window, windowed, ranges_taken, counted}
 use Rattle.tcp_model.specs.Answers.{drawn, may_draw, with_draw, acked, answer_for, ranges_held}
-use Rattle.tcp_model.specs.Arrival.{waiting_anew, outside, passed_outside, tells_news, with_content, told, taken, inside, checked, takes_reset}
+use Rattle.tcp_model.specs.Arrival.{waiting_anew, outside, passed_outside, tells_news, has_length, comes_again, with_content, told, taken, inside, checked, takes_reset}
 use Rattle.tcp_model.specs.Arrival.{challenges_reset, reset_comes, draws_first, echo_heard, received, arrives_in, arrives, is_void_syn}
 use Rattle.tcp_model.specs.Calls.{listening}
 use Rattle.tcp_model.specs.Checks.{Check, acknowledgement_check, is_in_window, taken_down, falls_back}
@@ -136,11 +136,14 @@ module _ (cx : ContextValue) (ip : IpRepr) (header : TcpHeader) where
       let heeds = told_leaves w (duplicates_after v.block header (length bytes) by) in
       by_content v.block heeded bytes (goes_on v.block w.block heeded.block goes heeds.0 heeds.1))
 
-  by_outside : (old : Block) (w : TcpValue) → Goes old w.block → Sound old (outside cx w ip header)
-  by_outside old w goes =
-      cond_both (is_closed w.block.state) (dropped w) (drawn cx (waiting_anew w header cx.moment) ip header) (Sound old)
+  by_outside : (old : Block) (w : TcpValue) (again : Bool) → Goes old w.block → Sound old (outside cx w ip header again)
+  by_outside old w again goes =
+      let x = waiting_anew w header cx.moment in
+      let leaves = goes_on old w.block x.block goes refl refl in
+      cond_both (is_closed w.block.state) (dropped w) (if again then acked cx x ip header no_ranges else drawn cx x ip header) (Sound old)
       (λ _. by_dropped old w goes)
-      (λ _. by_drawn old (waiting_anew w header cx.moment) (goes_on old w.block (waiting_anew w header cx.moment).block goes refl refl))
+      (λ _. cond_both again (acked cx x ip header no_ranges) (drawn cx x ip header) (Sound old) (λ _. by_acked old x no_ranges leaves)
+      (λ _. by_drawn old x leaves))
 
   by_checked : (check : Check) (v : TcpValue) (bytes : List ℕ) → Sound v.block (checked check cx v ip header bytes)
   by_checked (Passes by) v bytes =
@@ -151,21 +154,23 @@ module _ (cx : ContextValue) (ip : IpRepr) (header : TcpHeader) where
       (λ _. draws v)
       (λ _. by_taken v bytes by))
       (λ _.
-      cond_both (tells_news v header (length bytes)) (outside cx (acknowledged (echo_heard v header by cx.moment) by cx.moment) ip header)
-      (outside cx v ip header) (Sound v.block)
+      let again = has_length header (length bytes) in
+      cond_both (tells_news v header (length bytes)) (outside cx (acknowledged (echo_heard v header by cx.moment) by cx.moment) ip header again)
+      (outside cx v ip header false) (Sound v.block)
       (λ _.
       let timed = echo_heard v header by cx.moment in
       let w = acknowledged timed by cx.moment in
-      by_outside v.block w (from_echo v.block w.block by (acked_goes timed.block by (queued_in v) cx.moment)))
-      (λ _. by_outside v.block v (same v.block v.block refl)))
+      by_outside v.block w again (from_echo v.block w.block by (acked_goes timed.block by (queued_in v) cx.moment)))
+      (λ _. by_outside v.block v false (same v.block v.block refl)))
   by_checked Old v bytes =
+      let again = comes_again v header (length bytes) in
       cond_both (is_in_window v.block (free_in v) header (length bytes))
       (with_content cx (with_block v (stamp_taken (heard v.block) header cx.moment)) ip header bytes)
-      (outside cx v ip header) (Sound v.block)
+      (outside cx v ip header again) (Sound v.block)
       (λ _.
       let heard_of = stamp_taken (heard v.block) header cx.moment in
       by_content v.block (with_block v heard_of) bytes (same v.block heard_of refl))
-      (λ _. by_outside v.block v (same v.block v.block refl))
+      (λ _. by_outside v.block v again (same v.block v.block refl))
   by_checked Drops v bytes = stays v
   by_checked Draws v bytes = draws v
   by_checked Resets v bytes = by_reset v (length bytes)

@@ -220,7 +220,7 @@ module _ (cx : ContextValue) (ip : IpRepr) (header : TcpHeader) (bytes : List �
   }
 
   held_drawing : (x : TcpValue) → IsHeld (control_of x.block) → Drawing cx ip header bytes Held x
-  held_drawing x h = record { answers = λ _. h; pauses = h }
+  held_drawing x h = record { answers = λ _. h; at_once = h; pauses = h }
 
   fresh_held : (u : TcpValue) (endpoint : IpListenEndpoint) → IsHeld (control_of (listening u endpoint).block)
   fresh_held u endpoint = record { window = λ e. clash (sym e); listens = λ _. refl }
@@ -541,7 +541,7 @@ module _ (cx : ContextValue) (ip : IpRepr) (header : TcpHeader) (bytes : List �
   stays_content x s = record { plain = s; fin = λ _ _. s; ordered = λ _ _ _ _. s; ordered_fin = λ _ _ _ _. s; early = λ _ _ _ _. s }
 
   stays_drawing : (x : TcpValue) → StaysBy (record { socket = x; answer = None; draws = false }) → Drawing cx ip header bytes StaysBy x
-  stays_drawing x s = record { answers = λ _. s; pauses = s }
+  stays_drawing x s = record { answers = λ _. s; at_once = s; pauses = s }
 
   -- the acknowledgement frees nothing, or bytes
   abbrev window_by : ℕ → ℕ → RenoValue

@@ -192,7 +192,7 @@ module _ (cx : ContextValue) (ip : IpRepr) (header : TcpHeader) (bytes : List �
   }
 
   right_drawing : (x : TcpValue) → IsKnownRight (known_of x.block) → Drawing cx ip header bytes Right x
-  right_drawing x k = record { answers = λ _. k; pauses = k }
+  right_drawing x k = record { answers = λ _. k; at_once = k; pauses = k }
 
   acked_right : (b : Block) (by queued : ℕ) (state : State) → IsKnownRight (known_of b) → is_listening state ≡ false
       → IsKnownRight (record {

@@ -126,7 +126,7 @@ module _ (cx : ContextValue) (ip : IpRepr) (header : TcpHeader) (bytes : List �
   }
 
   order_drawing : (x : TcpValue) → IsInOrder (sending_of x) → Drawing cx ip header bytes Order x
-  order_drawing x p = record { answers = λ _. p; pauses = p }
+  order_drawing x p = record { answers = λ _. p; at_once = p; pauses = p }
 
   order_received : (u : TcpValue) → IsInOrder (sending_of u) → is_past u.block.state ≡ true → Received cx ip header bytes Order u
   order_received u p past = record {

@@ -267,7 +267,7 @@ module _ (cx : ContextValue) (ip : IpRepr) (header : TcpHeader) (bytes : List �
   }
 
   paced_drawing : (x : TcpValue) → IsPaced (recovery_of x.block) → Drawing cx ip header bytes Paced x
-  paced_drawing x p = record { answers = λ _. p; pauses = p }
+  paced_drawing x p = record { answers = λ _. p; at_once = p; pauses = p }
 
   closed_paced : (u : TcpValue) → IsPaced (recovery_of u.block) → IsPaced (recovery_of (ended u).block)
   closed_paced u p = paced _ p.lasts refl (fine_of _ p)

@@ -204,7 +204,7 @@ module _ (cx : ContextValue) (ip : IpRepr) (header : TcpHeader) (bytes : List �
   }
 
   right_drawing : (x : TcpValue) → IsTimedRight (timing_of x.block) → Drawing cx ip header bytes Right x
-  right_drawing x t = record { answers = λ _. t; pauses = t }
+  right_drawing x t = record { answers = λ _. t; at_once = t; pauses = t }
 
   right_received : (u : TcpValue) → IsTimedRight (timing_of u.block) → is_past u.block.state ≡ true → Received cx ip header bytes Right u
   right_received u t past = record {
