@@ -20,6 +20,7 @@ use Rattle.tcp_control.specs.States.{is_closed, is_answering, is_time_wait}
 use Rattle.tcp_model.specs.Text.{Texted, with_text, with_fin}
 use Rattle.tcp_model.specs.Timeout.{timeout_restarted}
 use Rattle.tcp_model.specs.Timestamps.{stamp_taken, echo_taken, is_stale}
+use Rattle.tcp_model.specs.Undo.{undone}
 use Rattle.tcp_model.specs.Value.{TcpValue, Arrived, with_block, dropped, answered_with, unoffered, queued_in, free_in, room_of}
 
 -- a FIN that comes again in TIME-WAIT restarts it
@@ -50,9 +51,9 @@ has_length header size = not (segment_len header size == 0)
 abbrev pub comes_again : TcpValue → TcpHeader → ℕ → Bool
 comes_again v header size = tells_news v header size && has_length header size
 
--- the round trip that the echo of a segment tells of
+-- The round trip that the echo of a segment tells of. Where it says that nothing was lost, that is undone first.
 abbrev pub echo_heard : TcpValue → TcpHeader → ℕ → ℤ → TcpValue
-echo_heard v header by now = with_block v (echo_taken v.block header by now)
+echo_heard v header by now = with_block v (echo_taken (undone v.block header by (queued_in v) now) header by now)
 
 -- Outside the window, with an acknowledgement that passes. The acknowledgement of a segment that lies just before the window is taken,
 -- since the remote may have nothing else to say it in: all that it sends may be old here.

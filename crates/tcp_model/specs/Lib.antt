@@ -12,6 +12,7 @@ pub mod Calls
 pub mod Settings
 pub mod Opening
 pub mod Checks
+pub mod Undo
 pub mod LossRecovery
 pub mod Acknowledged
 pub mod Text

@@ -143,6 +143,16 @@ pub struct Loss {
     pub probed: bool,
     /// When a probe goes, if nothing new is acknowledged.
     pub probe_at: Option<Instant>,
+    /// What the window was before this loss, until something new is acknowledged.
+    pub undo: Option<Undo>,
+}
+
+/// What is undone where a loss wasn't one (RFC 4015).
+#[derive(Clone, Copy, Debug, PartialEq, Eq)]
+pub struct Undo {
+    pub reno: Reno,
+    /// When something first went again.
+    pub since: Option<Instant>,
 }
 
 /// What the user set. A new connection keeps it.
@@ -199,6 +209,7 @@ mod settled;
 mod text;
 mod timeout;
 mod timestamps;
+mod undo;
 
 pub use checks::Verdict;
 pub use opening::{has_length, is_first_syn, is_void_syn};

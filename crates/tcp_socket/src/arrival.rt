@@ -456,6 +456,7 @@ impl Socket {
     {
         let queued = self.queued.len();
         let freed = self.block.freed_by(by, queued);
+        self.block.undo_loss(header, by, queued, now);
         self.block.take_echo(header, by, now);
         self.block.acknowledge(by, queued, now);
         self.queued.dequeue_allocated(freed);
