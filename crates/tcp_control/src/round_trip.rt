@@ -251,7 +251,7 @@ fn timeout_of(least: u16, estimate: &Estimate) -> u16
 }
 
 /// The whole milliseconds from one moment to another, none where that isn't later.
-pub fn millis_between(since: Instant, now: Instant) -> u64
+pub(crate) fn millis_between(since: Instant, now: Instant) -> u64
     requires { IsMoment since × IsMoment now }
     ensures value { result ≡ millis_between since now }
     ensures small { result < 2 ^ 52 }

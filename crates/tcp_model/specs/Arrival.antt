@@ -20,7 +20,7 @@ use Rattle.tcp_control.specs.States.{is_closed, is_answering, is_time_wait}
 use Rattle.tcp_model.specs.Text.{Texted, with_text, with_fin}
 use Rattle.tcp_model.specs.Timeout.{timeout_restarted}
 use Rattle.tcp_model.specs.Timestamps.{stamp_taken, echo_taken, is_stale}
-use Rattle.tcp_model.specs.Undo.{undone}
+use Rattle.tcp_model.specs.Undone.{undone}
 use Rattle.tcp_model.specs.Value.{TcpValue, Arrived, with_block, dropped, answered_with, unoffered, queued_in, free_in, room_of}
 
 -- a FIN that comes again in TIME-WAIT restarts it

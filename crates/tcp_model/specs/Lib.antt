@@ -15,6 +15,7 @@ pub mod Checks
 pub mod Undo
 pub mod LossRecovery
 pub mod Acknowledged
+pub mod Undone
 pub mod Text
 pub mod Answers
 pub mod Arrival

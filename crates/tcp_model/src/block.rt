@@ -151,8 +151,10 @@ pub struct Loss {
 #[derive(Clone, Copy, Debug, PartialEq, Eq)]
 pub struct Undo {
     pub reno: Reno,
-    /// When something first went again.
-    pub since: Option<Instant>,
+    /// Before this moment no answer comes to what first went again.
+    pub until: Option<Instant>,
+    /// Its timestamp.
+    pub stamp: u32,
 }
 
 /// What the user set. A new connection keeps it.

@@ -1,13 +1,14 @@
 //! A loss that wasn't one is undone.
-ghost use Rattle.std.specs.Prelude.{◌≡◌, ◌≤◌, ◌^◌, true, IfSome};
+ghost use Rattle.std.specs.Prelude.{◌≡◌, ◌≤◌, ◌^◌, true};
 ghost use Rattle.net_base.specs.Time.{IsMoment};
-ghost use Rattle.tcp_model.specs.Undo.{undo_begun, undo_since, undo_watched, is_too_soon, is_echo_older, answers_first, is_needless, undone_if, undone};
+ghost use Rattle.tcp_model.specs.Undo.{undo_begun, undo_sent};
+ghost use Rattle.tcp_model.specs.Undone.{is_echo_before, answers_first, answers_undo, is_needless, undone_if, undone};
 
-use crate::{Block, Loss, Undo};
-use ip_wire::TcpHeader;
+use super::timestamps::{is_older, value_by};
+use crate::{Block, Undo};
+use ip_wire::{TcpHeader, TcpTimestampRepr};
 use net_base::{Duration, Instant};
 use tcp_control::moments::later;
-use tcp_control::{RoundTrip, millis_between};
 
 impl Block {
     /// Recovery begins, or the timer runs out: what the window was, unless a loss is being mended already.
@@ -19,35 +20,47 @@ impl Block {
         } else {
             Some(Undo {
                 reno: self.reno,
-                since: None,
+                until: None,
+                stamp: 0,
             })
         }
     }
 
-    /// Whether a segment that makes SND.UNA rise by so much says that nothing was lost.
-    fn is_needless(&self, header: &TcpHeader, by: u32, now: Instant) -> bool
+    /// Something goes. The first of it since recovery began, or the timer ran out, goes again.
+    pub fn mark_undo(&mut self, now: Instant)
         requires { IsMoment now }
-        ensures { result ≡ is_needless self.now header.now by now }
+        ensures { self.new ≡ record self.old { loss = record self.old.loss { undo = undo_sent self.old self.old.loss.undo now } } }
     {
-        if by == 0 {
-            return false;
-        }
-        match &self.loss.undo {
-            None => false,
-            Some(undo) => answers_first(&self.round_trip, self.echo_of(header, now), now, undo.since),
+        if let Some(undo) = self.loss.undo {
+            if undo.until.is_none() {
+                let shortest = Duration::from_micros(self.round_trip.shortest() * 1000);
+                self.loss.undo = Some(Undo {
+                    reno: undo.reno,
+                    until: Some(later(now, shortest)),
+                    stamp: value_by(self.stamps.generator, now),
+                });
+            }
         }
     }
 
-    /// Undoes what was done at a loss that wasn't one, where a segment that makes SND.UNA rise by so much
-    /// says so.
-    pub fn undo_loss(&mut self, header: &TcpHeader, by: u32, queued: usize, now: Instant)
-        requires moment { IsMoment now }
-        requires queued { queued ≤ 2 ^ 30 }
-        ensures { self.new ≡ undone self.old header.now by queued now }
+    /// Whether what acknowledges something new answers what was sent first.
+    fn answers_undo(&self, header: &TcpHeader, now: Instant) -> bool
+        ensures { result ≡ answers_undo self.now.loss.undo self.now header.now now }
     {
-        if self.is_needless(header, by, now) {
-            self.undo(queued);
+        match &self.loss.undo {
+            None => false,
+            Some(undo) => {
+                let before = self.uses_stamps() && is_echo_before(header.options.timestamp, undo.stamp);
+                answers_first(undo.until, before, now)
+            }
         }
+    }
+
+    /// Whether a segment that makes SND.UNA rise by so much, over text, says that nothing was lost.
+    fn is_needless(&self, header: &TcpHeader, by: u32, queued: usize, now: Instant) -> bool
+        ensures { result ≡ is_needless self.now header.now by queued now }
+    {
+        self.freed_by(by, queued) != 0 && self.answers_undo(header, now)
     }
 
     /// The window is as it was, recovery is over, nothing is to go again, and all that was sent of the send
@@ -65,54 +78,35 @@ impl Block {
         self.sender.recover = 0;
         self.loss.resent = 0;
     }
-}
 
-impl Loss {
-    /// Something goes. The first of it since recovery began, or the timer ran out, goes again.
-    pub fn watch_undo(&mut self, now: Instant)
-        ensures { self.new ≡ undo_watched self.old now }
+    /// Undoes what was done at a loss that wasn't one, where a segment that makes SND.UNA rise by so much
+    /// says so.
+    pub fn undo_loss(&mut self, header: &TcpHeader, by: u32, queued: usize, now: Instant)
+        requires { queued ≤ 2 ^ 30 }
+        ensures { self.new ≡ undone self.old header.now by queued now }
     {
-        if let Some(undo) = self.undo {
-            self.undo = Some(Undo {
-                reno: undo.reno,
-                since: undo.since.or(Some(now)),
-            });
+        if self.is_needless(header, by, queued, now) {
+            self.undo(queued);
         }
     }
 }
 
-/// Whether what acknowledges something new at this moment answers what was sent first.
-fn answers_first(
-    round_trip: &RoundTrip,
-    echo: Option<u32>,
-    now: Instant,
-    since: Option<Instant>,
-) -> bool
-    requires moment { IsMoment now }
-    requires since { IfSome since IsMoment }
-    ensures { result ≡ answers_first round_trip.now echo now since }
-{
-    match since {
-        None => true,
-        Some(since) => is_too_soon(round_trip, since, now) || is_echo_older(echo, since, now),
-    }
-}
-
-/// Whether what went again so recently couldn't be answered as soon.
-fn is_too_soon(round_trip: &RoundTrip, since: Instant, now: Instant) -> bool
-    requires { IsMoment since }
-    ensures { result ≡ is_too_soon round_trip.now since now }
-{
-    now < later(since, Duration::from_micros(round_trip.shortest() * 1000))
-}
-
-/// Whether an echo is of a timestamp that was older by a millisecond or more when something went again.
-fn is_echo_older(echo: Option<u32>, since: Instant, now: Instant) -> bool
-    requires { IsMoment since × IsMoment now }
-    ensures { result ≡ is_echo_older echo since now }
+/// Whether an echo is of a timestamp before this one.
+fn is_echo_before(echo: Option<TcpTimestampRepr>, stamp: u32) -> bool
+    ensures { result ≡ is_echo_before echo stamp }
 {
     match echo {
         None => false,
-        Some(millis) => millis_between(since, now) + 1 < millis as u64,
+        Some(echo) => is_older(echo.tsecr, stamp),
+    }
+}
+
+/// Whether what comes before this moment, or has such an echo, answers what was sent first.
+fn answers_first(until: Option<Instant>, before: bool, now: Instant) -> bool
+    ensures { result ≡ answers_first until before now }
+{
+    match until {
+        None => true,
+        Some(until) => now < until || before,
     }
 }
