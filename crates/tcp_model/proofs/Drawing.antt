@@ -42,6 +42,7 @@ use Rattle.tcp_model.specs.Text.{Texted, texted, with_text, with_text_at, with_b
 use Rattle.tcp_model.specs.Text.{fin_taken}
 use Rattle.tcp_model.specs.Timeout.{timeout_end, timeout_started, timed_out}
 use Rattle.tcp_model.specs.Timestamps.{stamp_taken, echo_taken}
+use Rattle.tcp_model.specs.Undone.{undone}
 use Rattle.tcp_model.specs.Value.{TcpValue, Arrived, with_block, dropped, answered_with, unoffered, ended, queued_in, free_in, room_of}
 use Rattle.tcp_model.specs.declared.block.Block.{Block}
 
@@ -191,7 +192,8 @@ echo_ends : (v : TcpValue) (header : TcpHeader) (by : ℕ) (now : ℤ)
     → (acknowledged (echo_heard v header by now) by now).block.state ≡ (block_acknowledged v.block by (queued_in v) now).state
 echo_ends v header by now = either (is_closed (state_after_ack v.block by (queued_in v))) where
   either : (ends : Bool)
-      → (ended_if ends (in_state (una_moved (echo_taken v.block header by now) by (queued_in v) now) (state_after_ack v.block by (queued_in v)) now)).state
+      → (ended_if ends (in_state (una_moved (echo_taken (undone v.block header by (queued_in v) now) header by now) by (queued_in v) now)
+      (state_after_ack v.block by (queued_in v)) now)).state
       ≡ (ended_if ends (in_state (una_moved v.block by (queued_in v) now) (state_after_ack v.block by (queued_in v)) now)).state
   either true = refl
   either false = refl

@@ -211,7 +211,7 @@ mod settled;
 mod text;
 mod timeout;
 mod timestamps;
-mod undo;
+mod undoing;
 
 pub use checks::Verdict;
 pub use opening::{has_length, is_first_syn, is_void_syn};
