@@ -517,7 +517,7 @@ module _ (cx : ContextValue) (v : TcpValue) (header : TcpHeader) (bytes : List �
   pub again_undrawn : (by : ℕ) → (draws_by (Passes by) cx v header (length bytes) ≡ false) × (draws_by Old cx v header (length bytes) ≡ false)
   again_undrawn by = (
     undrawn_if (is_in_window v.block (free_in v) header (length bytes)) (tells_news v header (length bytes)) (has_length header (length bytes))
-    (is_syn header.control) (is_closed (block_acknowledged v.block by (queued_in v) cx.moment).state) (is_closed v.block.state) again_outside tells has,
+        (is_syn header.control) (is_closed (block_acknowledged v.block by (queued_in v) cx.moment).state) (is_closed v.block.state) again_outside tells has,
     undrawn_old (is_in_window v.block (free_in v) header (length bytes)) (comes_again v header (length bytes)) (is_closed v.block.state) again,
   )
 

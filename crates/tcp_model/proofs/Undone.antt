@@ -2,7 +2,6 @@
 use Rattle.std.proofs.Common.{◌≡◌, ℕ, ◌+◌, ◌==◌, not, ◌&&◌, max, min, ℤ, Bool, true, false, Option, Some, None, refl, sym, ap, ◌∙◌, subst}
 use Rattle.ip_wire.specs.TcpHeader.{TcpHeader}
 use Rattle.tcp_control.specs.Reno as reno
-use Rattle.tcp_control.specs.Reno.{RenoValue}
 use Rattle.tcp_model.specs.Acknowledged.{freed_by}
 use Rattle.tcp_model.specs.Blocks.{one_if}
 use Rattle.tcp_model.specs.Undone.{answers_undo, is_needless, prior_of, undone_if, undone}

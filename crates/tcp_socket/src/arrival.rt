@@ -24,8 +24,9 @@ use ip_wire::{IpRepr, SeqNumber, TcpHeader, TcpRepr};
 use net_base::Instant;
 use socket_base::Context;
 use tcp_model::{
-    EndpointPair, Reply, State, Verdict, before_by, first_number, has_length, is_fin, is_first_syn, is_rst,
-    is_syn, is_void_syn, next_draw_from, numbers_of, past_by, reply_to, rst_reply, time_wait_from,
+    EndpointPair, Reply, State, Verdict, before_by, first_number, has_length, is_fin, is_first_syn,
+    is_rst, is_syn, is_void_syn, next_draw_from, numbers_of, past_by, reply_to, rst_reply,
+    time_wait_from,
 };
 
 /// A segment with what it came in. Functions that are called from several places get copies of it, so

@@ -50,7 +50,8 @@ impl Block {
         match &self.loss.undo {
             None => false,
             Some(undo) => {
-                let before = self.uses_stamps() && is_echo_before(header.options.timestamp, undo.stamp);
+                let before = self.uses_stamps()
+                    && is_echo_before(header.options.timestamp, undo.stamp);
                 answers_first(undo.until, before, now)
             }
         }
