@@ -21,17 +21,17 @@ use Rattle.tcp_control.specs.declared.offer.OfferKind.TheVariants as Kind
 use Rattle.tcp_control.specs.declared.offer.OpenOffer.{OpenOffer}
 use Rattle.tcp_control.specs.declared.state.State.{State}
 use Rattle.tcp_control.specs.declared.state.State.TheVariants as In
-use Rattle.tcp_model.specs.Acknowledged.{acks_fin, state_after_ack, freed_by, reno_after, srtt_after, reno_counted, duplicates_after}
+use Rattle.tcp_model.specs.Acknowledged.{acks_fin, state_after_ack, freed_by, reno_after, srtt_after, reno_counted, duplicates_after, begins_recovery, ranges_taken}
 use Rattle.tcp_model.specs.Arrival.{arrives}
 use Rattle.tcp_model.specs.Blocks.{one_if, fresh_window}
 use Rattle.tcp_model.specs.Calls.{listening, connected_by, pair_for, sent_more}
 use Rattle.tcp_model.specs.Checks.{falls_back}
 use Rattle.tcp_model.specs.Offers.{offer_of}
 use Rattle.tcp_model.specs.Opening.{took_syn}
-use Rattle.tcp_model.specs.LossRecovery.{loss_probed, probes_tail}
+use Rattle.tcp_model.specs.LossRecovery.{is_lost_again, loss_probed, probes_tail}
 use Rattle.tcp_model.specs.Retries.{asked, one_more}
 use Rattle.tcp_model.specs.Rules.{backed_off_now}
-use Rattle.tcp_model.specs.Timestamps.{echo_taken}
+use Rattle.tcp_model.specs.Timestamps.{stamp_taken, echo_taken}
 use Rattle.tcp_model.specs.Undone.{is_needless, prior_of}
 use Rattle.tcp_model.proofs.Undone.{undone_cases, needless_frees}
 use Rattle.tcp_model.specs.Settled.{sent_off, sent_as, recorded, probed, end_of}
@@ -255,6 +255,10 @@ module _ (cx : ContextValue) (ip : IpRepr) (header : TcpHeader) (bytes : List �
       u.block.sender.recover cx.moment (srtt_after u.block by cx.moment) h.window))
       (state_past u by past)
 
+  -- the block as its duplicates are counted
+  abbrev noted : Block → Block
+  noted b = ranges_taken (stamp_taken b header cx.moment) header cx.moment
+
   -- a loss that is undone is over
   heard_held : (u : TcpValue) (by : ℕ) → IsHeld (control_of u.block) → IsHeld (control_of (timed cx.moment header u by).block)
   heard_held u by h =
@@ -273,8 +277,14 @@ module _ (cx : ContextValue) (ip : IpRepr) (header : TcpHeader) (bytes : List �
         held (reno_after w.block by (queued_in w) cx.moment) (w.block.sender.syn_unacked && (by == 0)) In.Closed
         (out_acked w.block.reno w.block.peer.sack w.block.sender.syn_unacked w.block.sender.syn_lost by (queued_in w)
         w.block.sender.recover cx.moment (srtt_after w.block by cx.moment) (heard_held u by h).window) refl;
-    taken = λ by _ _. held_content _ (heeded_held (timed cx.moment header u by) by _ _ _ (heard_held u by h) past);
-    taken_window = λ by _ _. held_content _ (heeded_held (timed cx.moment header u by) by _ _ _ (heard_held u by h) past);
+    taken = λ by _ _.
+        let b : Block = noted (acked_open (timed cx.moment header u by) by cx.moment).block in
+        let count = duplicates_after u.block header (length bytes) by in
+        held_content _ (heeded_held (timed cx.moment header u by) by count (begins_recovery b count) (is_lost_again b) (heard_held u by h) past);
+    taken_window = λ by _ _.
+        let b : Block = noted (windowed (acked_open (timed cx.moment header u by) by cx.moment).block header) in
+        let count = duplicates_after u.block header (length bytes) by in
+        held_content _ (heeded_held (timed cx.moment header u by) by count (begins_recovery b count) (is_lost_again b) (heard_held u by h) past);
     news = λ by _ _. held_drawing _ (acked_held (timed cx.moment header u by) by (heard_held u by h) past);
     outside = held_drawing _ h;
     old = λ _. held_content _ h;

@@ -139,7 +139,7 @@ module _ (cx : ContextValue) (ip : IpRepr) (header : TcpHeader) (bytes : List �
             upto u.block.sender.in_flight u.block.sender.top (one_if u.block.sender.syn_unacked + queued_in u) (one_if (owes_fin u.block.state)) (p.within on);
         opening = p.opening;
         opened = p.opened;
-        acked = λ all. clash (sym (none (by - one_if u.block.sender.syn_unacked) (queued_in u) ((p.acked all).2).2) ∙ frees);
+        acked = λ all. clash (sym (none (by - one_if u.block.sender.syn_unacked) (queued_in u) (p.acked all).2) ∙ frees);
         took = p.took;
         listens = p.listens;
       })

@@ -1,5 +1,5 @@
 -- A loss that was none leaves the congestion window as it was.
-use Rattle.std.proofs.Common.{◌≡◌, ℕ, ◌+◌, ◌*◌, ◌==◌, ◌&&◌, ◌||◌, nat_lt, not, min, ℤ, Bool, true, false, if◌then◌else◌, List, [], ◌∷◌, Option, Some, None, is_some}
+use Rattle.std.proofs.Common.{◌≡◌, ℕ, ◌+◌, ◌==◌, ◌&&◌, ◌||◌, nat_lt, not, min, ℤ, Bool, true, false, if◌then◌else◌, List, [], ◌∷◌, Option, Some, None, is_some}
 use Rattle.std.proofs.Common.{refl, sym, ap, ◌∙◌, subst}
 use Rattle.std.proofs.lemmas.Bool.{cond_both}
 use Rattle.ip_wire.specs.TcpHeader.{TcpHeader}
@@ -10,12 +10,12 @@ use Rattle.tcp_control.specs.Scoreboard.{held}
 use Rattle.tcp_control.specs.declared.offer.OfferKind.{OfferKind}
 use Rattle.tcp_control.specs.declared.offer.OfferKind.TheVariants as Kind
 use Rattle.tcp_control.specs.declared.offer.OpenOffer.{OpenOffer}
-use Rattle.tcp_model.specs.Acknowledged.{begins_recovery, is_lost_again, reno_counted, counted, ranges_taken}
+use Rattle.tcp_model.specs.Acknowledged.{begins_recovery, reno_counted, counted, ranges_taken}
 use Rattle.tcp_model.specs.LossRecovery.{probes_losses, probe_from, probe_armed, loss_probe_moment, loss_probed, loss_probed_by, probes_tail, heard_more, all_noted}
-use Rattle.tcp_model.specs.LossRecovery.{ranges_noted, with_board}
+use Rattle.tcp_model.specs.LossRecovery.{is_lost_again, with_board}
 use Rattle.tcp_model.specs.Retries.{asked}
 use Rattle.tcp_model.specs.Rules.{backed_off_now}
-use Rattle.tcp_model.specs.Settled.{sent_as, end_of, probed, went}
+use Rattle.tcp_model.specs.Settled.{sent_as, end_of, nxt_moved, timer_started, probed, resent, syn_went, went}
 use Rattle.tcp_model.specs.Undo.{undo_begun, undo_marked, undo_sent}
 use Rattle.tcp_model.specs.Undone.{is_needless, undone, undone_if, prior_of}
 use Rattle.tcp_model.specs.declared.block.Block.{Block}
@@ -98,15 +98,18 @@ module _ (window : RenoValue) where
   -- whatever was to go again before
   went_kept : (b : Block) (o : OpenOffer) (queued : ℕ) → IsKept window b → IsKept window (went b o queued)
   went_kept b o queued k = record {
-    undo = armed_kept _ _ o.moment (sent_kept _ b.loss.undo o.moment k.undo);
+    undo = armed_kept c (record c.loss { undo = undo_sent c b.loss.undo o.moment }) o.moment (sent_kept c b.loss.undo o.moment k.undo);
     reno = k.reno;
     syn = k.syn;
   }
+    where
+      c : Block
+      c = timer_started (nxt_moved b (end_of b o) queued o.moment) o.moment
 
   goes_kept : (kind : OfferKind) (b : Block) (o : OpenOffer) (queued : ℕ) → IsKept window b → IsKept window (sent_as kind b o queued)
   goes_kept Kind.Reset b o queued k = record { undo = k.undo; reno = k.reno; syn = k.syn }
-  goes_kept Kind.Syn b o queued k = went_kept _ o queued (record { undo = k.undo; reno = k.reno; syn = k.syn })
-  goes_kept Kind.FastRetransmission b o queued k = went_kept _ o queued (record { undo = k.undo; reno = k.reno; syn = k.syn })
+  goes_kept Kind.Syn b o queued k = went_kept (syn_went b o) o queued (record { undo = k.undo; reno = k.reno; syn = k.syn })
+  goes_kept Kind.FastRetransmission b o queued k = went_kept (resent b (end_of b o)) o queued (record { undo = k.undo; reno = k.reno; syn = k.syn })
   goes_kept Kind.Text b o queued k = went_kept b o queued k
   goes_kept Kind.Probe b o queued k = asked_kept (probed b (end_of b o) o.moment) o.moment (record { undo = k.undo; reno = k.reno; syn = k.syn })
   goes_kept Kind.KeepAlive b o queued k = asked_kept b o.moment k
