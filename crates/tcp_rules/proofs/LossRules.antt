@@ -192,7 +192,7 @@ module _ (cx : ContextValue) (ip : IpRepr) (header : TcpHeader) (bytes : List �
   }
 
   right_drawing : (x : TcpValue) → IsKnownRight (known_of x.block) → Drawing cx ip header bytes Right x
-  right_drawing x k = record { answers = λ _. k; pauses = k }
+  right_drawing x k = record { answers = λ _. k; at_once = k; pauses = k }
 
   acked_right : (b : Block) (by queued : ℕ) (state : State) → IsKnownRight (known_of b) → is_listening state ≡ false
       → IsKnownRight (record {
@@ -218,7 +218,7 @@ module _ (cx : ContextValue) (ip : IpRepr) (header : TcpHeader) (bytes : List �
     draws = right_drawing u k;
     falls = λ _ _ _. record { within = within_nothing 0 16; listens = λ _. refl };
     ends = λ _ _ _. right _ k.within refl;
-    closes = λ by _ _. acked_right (echo_taken u.block header by cx.moment) by (queued_in u) In.Closed (echoed by) refl;
+    closes = λ by _ _. acked_right (timed cx.moment header u by).block by (queued_in u) In.Closed (echoed by) refl;
     taken = λ by _ _.
         right_content _
         (heeded_right u by (stamp_taken (acked_open (timed cx.moment header u by) by cx.moment).block header cx.moment) refl (within_now by) past);
@@ -228,20 +228,20 @@ module _ (cx : ContextValue) (ip : IpRepr) (header : TcpHeader) (bytes : List �
         past);
     news = λ by _ _.
         right_drawing _
-        (acked_right (echo_taken u.block header by cx.moment) by (queued_in u) (state_after_ack u.block by (queued_in u)) (echoed by) (state_past u by past));
+        (acked_right (timed cx.moment header u by).block by (queued_in u) (state_after_ack u.block by (queued_in u)) (echoed by) (state_past u by past));
     outside = right_drawing _ k;
     old = λ _. right_content _ k;
   }
     where
       -- a round trip by an echo changes nothing of it
-      echoed : (by : ℕ) → IsKnownRight (known_of (echo_taken u.block header by cx.moment))
+      echoed : (by : ℕ) → IsKnownRight (known_of (timed cx.moment header u by).block)
       echoed by = k
 
       within_now : (by : ℕ) → AreWithin (u.block.sender.top - by)
-          (loss_acked (una_risen (echo_taken u.block header by cx.moment) by (queued_in u) cx.moment) by
-          (is_partial (echo_taken u.block header by cx.moment) by) cx.moment).board.runs
+          (loss_acked (una_risen (timed cx.moment header u by).block by (queued_in u) cx.moment) by
+          (is_partial (timed cx.moment header u by).block by) cx.moment).board.runs
       within_now by =
-          within_acked (echo_taken u.block header by cx.moment) by (queued_in u) (is_partial (echo_taken u.block header by cx.moment) by) cx.moment k.within
+          within_acked (timed cx.moment header u by).block by (queued_in u) (is_partial (timed cx.moment header u by).block by) cx.moment k.within
 
   right_opening : (u : TcpValue) → IsKnownRight (known_of u.block) → Opening cx ip header bytes Right u
   right_opening u k = record {
