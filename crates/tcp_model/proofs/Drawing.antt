@@ -164,7 +164,7 @@ text_pause v place bytes =
     Kept t = pause_of t.socket ≡ pause_of v
 
     held : Kept (held_early v place (laid v place bytes))
-    held = cond_both (nat_le (length (runs_of (laid v place bytes))) 16) _ (texted v 0 false None) Kept (λ _. refl) (λ _. refl)
+    held = cond_both (nat_le (length (runs_of (laid v place bytes))) 32) _ (texted v 0 false None) Kept (λ _. refl) (λ _. refl)
 
 answer_pause : (cx : ContextValue) (v : TcpValue) (ip : IpRepr) (header : TcpHeader) (size : ℕ) (fills : Bool) (early : Option ℕ) →
     Keeps (pause_of v) (answer_for cx v ip header size fills early)

@@ -137,7 +137,7 @@ module _ (cx : ContextValue) (ip : IpRepr) (header : TcpHeader) where
       (λ _.
       cond_both (place == 0) (taken_in_order v map) (held_early v place map) (Same v)
       (λ _. refl)
-      (λ _. cond_both (nat_le (length (runs_of map)) 16)
+      (λ _. cond_both (nat_le (length (runs_of map)) 32)
       (texted (record v { received = received_of v.received.waiting map v.received.start }) 0 false (Some place)) (texted v 0 false None) (Same v)
       (λ _. refl) (λ _. refl)))
       (λ _. refl)

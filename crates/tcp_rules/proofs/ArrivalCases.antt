@@ -214,7 +214,7 @@ module _ (cx : ContextValue) (ip : IpRepr) (header : TcpHeader) (bytes : List 鈩
       (位 f. c.ordered_fin map (store-length x.received.map place rest) (fin_parts x.block (length (front map)) f).0 takes)
       (c.ordered map (store-length x.received.map place rest) takes (some_bytes (before_by x.block.receiver.next header.seq_number) bytes some)))
       (位 past.
-      cond_both (nat_le (length (runs_of map)) 16) (texted (held x map) 0 false (Some place)) (texted x 0 false None) (Finishing x.block)
+      cond_both (nat_le (length (runs_of map)) 32) (texted (held x map) 0 false (Some place)) (texted x 0 false None) (Finishing x.block)
       (位 _. by_early x map place past (c.early map place (store-length x.received.map place rest) takes))
       (位 _. plain)))
       (位 _. plain)

@@ -102,7 +102,7 @@ finish_leads cx next b b2 r q o v w advance fills early ip header size n now ans
 
 state_held : (v : TcpValue) (place : ℕ) (map : List (Option ℕ)) → (held_early v place map).socket.block.state ≡ v.block.state
 state_held v place map =
-    elim (nat_le (length (runs_of map)) 16) as
+    elim (nat_le (length (runs_of map)) 32) as
     (λ t. (if t then texted (record v { received = received_of v.received.waiting map v.received.start }) 0 false (Some place) else texted v 0 false
     None).socket.block.state ≡ v.block.state) [ true ↦ refl | false ↦ refl ]
 
