@@ -1,6 +1,6 @@
 -- What a segment that comes does to what is in flight, and where its answer lies.
 use Rattle.std.proofs.Common.{◌≡◌, inl, inr, ℕ, zero, suc, ◌-◌, min, ℤ, ◌==◌, ◌&&◌, nat_le, not, Bool, true, false, if◌then◌else◌, List, Option, Some, None, is_some, length}
-use Rattle.std.proofs.Common.{drop, refl, sym, ap, ◌∙◌, subst}
+use Rattle.std.proofs.Common.{drop, refl, sym, ap, ◌∙◌, subst, arith}
 use Rattle.std.proofs.lemmas.Bool.{cond_both}
 use Rattle.held_bytes.specs.Held.{runs_of}
 use Rattle.ip_wire.specs.IpRepr.{IpRepr}
@@ -138,8 +138,9 @@ module _ (cx : ContextValue) (ip : IpRepr) (header : TcpHeader) where
       plain = let goes = acked_goes (echo_taken b header by cx.moment) by queued cx.moment in record { armed = goes.armed; rises = goes.rises }
 
       none : (syn : Bool) → (min (0 - one_if syn) queued == 0) ≡ true
-      none true = refl
-      none false = refl
+      none syn = ap (λ (n : ℕ). n == 0) (least (one_if syn)) where
+        least : (n : ℕ) → min (0 - n) queued ≡ 0
+        least n = omega arith
 
       moved : (n : ℕ) → (min (n - one_if b.sender.syn_unacked) queued == 0) ≡ false → (n == 0) ≡ false
       moved zero e = clash (sym (none b.sender.syn_unacked) ∙ e)
