@@ -44,7 +44,7 @@ store-length (entry ∷ map) zero [] = refl
 store-length (entry ∷ map) zero (byte ∷ bytes) = ap suc (store-length map zero bytes)
 
 -- a number with one before it isn't 0
-suc_not : (n : ℕ) → (suc n == 0) ≡ false
+pub suc_not : (n : ℕ) → (suc n == 0) ≡ false
 suc_not n = at (suc n == 0) refl where
   at : (t : Bool) → (suc n == 0) ≡ t → t ≡ false
   at true is = let none = eqb-true (suc n) 0 is in absurd (omega arith)

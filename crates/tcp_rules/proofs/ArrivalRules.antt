@@ -1,6 +1,6 @@
 -- What a segment that comes does to what is in flight, and where its answer lies.
 use Rattle.std.proofs.Common.{◌≡◌, inl, inr, ℕ, zero, suc, ◌-◌, min, ℤ, ◌==◌, ◌&&◌, nat_le, not, Bool, true, false, if◌then◌else◌, List, Option, Some, None, is_some, length}
-use Rattle.std.proofs.Common.{drop, refl, sym, ap, ◌∙◌, subst}
+use Rattle.std.proofs.Common.{drop, refl, sym, ap, ◌∙◌, subst, arith}
 use Rattle.std.proofs.lemmas.Bool.{cond_both}
 use Rattle.held_bytes.specs.Held.{runs_of}
 use Rattle.ip_wire.specs.IpRepr.{IpRepr}
@@ -39,6 +39,7 @@ use Rattle.tcp_model.proofs.Undone.{undone_by, undone_cases}
 use Rattle.tcp_model.specs.declared.block.Undo.{Undo}
 use Rattle.tcp_rules.specs.Flight.{flight_of, IsArmed, IsPastAll}
 use Rattle.tcp_rules.proofs.Going.{Goes}
+use Rattle.tcp_rules.proofs.ArrivalCases.{suc_not}
 use Rattle.tcp_rules.proofs.OrderSteps.{clash}
 use Rattle.tcp_rules.proofs.Steps.{same, goes_on, anew, una_goes, acked_goes}
 
@@ -138,12 +139,13 @@ module _ (cx : ContextValue) (ip : IpRepr) (header : TcpHeader) where
       plain = let goes = acked_goes (echo_taken b header by cx.moment) by queued cx.moment in record { armed = goes.armed; rises = goes.rises }
 
       none : (syn : Bool) → (min (0 - one_if syn) queued == 0) ≡ true
-      none true = refl
-      none false = refl
+      none syn = ap (λ (n : ℕ). n == 0) (least (one_if syn)) where
+        least : (n : ℕ) → min (0 - n) queued ≡ 0
+        least n = omega arith
 
       moved : (n : ℕ) → (min (n - one_if b.sender.syn_unacked) queued == 0) ≡ false → (n == 0) ≡ false
       moved zero e = clash (sym (none b.sender.syn_unacked) ∙ e)
-      moved (suc n) e = refl
+      moved (suc n) e = suc_not n
 
       never : (a : Bool) → (a && false) ≡ false
       never true = refl
@@ -177,8 +179,12 @@ module _ (cx : ContextValue) (ip : IpRepr) (header : TcpHeader) where
             (λ _. refl)))
 
         at : (ends : Bool) → Goes b (ended_if ends (in_state (una_moved c by queued cx.moment) (state_after_ack c by queued) cx.moment))
-        at true = record { armed = λ _. runs; rises = (una_goes c by queued cx.moment (una_moved c by queued cx.moment) refl).rises }
-        at false = record { armed = λ _. runs; rises = (una_goes c by queued cx.moment (una_moved c by queued cx.moment) refl).rises }
+        at true =
+            let new = ended_if true (in_state (una_moved c by queued cx.moment) (state_after_ack c by queued) cx.moment) in
+            record { armed = λ _. runs; rises = (una_goes c by queued cx.moment new refl).rises }
+        at false =
+            let new = ended_if false (in_state (una_moved c by queued cx.moment) (state_after_ack c by queued) cx.moment) in
+            record { armed = λ _. runs; rises = (una_goes c by queued cx.moment new refl).rises }
 
   by_taken : (v : TcpValue) (bytes : List ℕ) (by : ℕ) → Sound v.block (taken cx v ip header bytes by)
   by_taken v bytes by =

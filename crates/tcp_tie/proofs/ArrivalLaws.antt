@@ -16,7 +16,8 @@ use Rattle.tcp_model.specs.State.{State}
 use Rattle.tcp_model.specs.State.TheVariants as In
 use Rattle.tcp_model.specs.declared.block.Block.{Block}
 use Rattle.tcp_model.specs.Acknowledged.{acknowledged, duplicates_after, names_window, windowed, ranges_taken, counted}
-use Rattle.tcp_model.specs.Answers.{drawn}
+use Rattle.tcp_model.specs.Answers.{acked, drawn}
+use Rattle.tcp_model.specs.Segments.{no_ranges}
 use Rattle.tcp_model.specs.Arrival.{waiting_anew, outside, passed_outside, tells_news, has_length, comes_again, with_content, told, taken, inside, checked, takes_reset}
 use Rattle.tcp_model.specs.Arrival.{challenges_reset, reset_comes, challenges_syn, draws_first, echo_heard, received, arrives_in, arrives, is_void_syn}
 use Rattle.tcp_model.specs.Checks.{Check, opening_check, synchronized_check, acknowledgement_check, is_in_window, taken_down}
@@ -33,7 +34,7 @@ use Rattle.tcp_tie.specs.History.{with_answer}
 use Rattle.tcp_tie.proofs.Tied.{Tied, fits_connected, is_connected, keeps_by}
 use Rattle.tcp_tie.proofs.ArrivalMoves.{IsAcceptable}
 use Rattle.tcp_tie.proofs.AckLaws.{IsAcked, acks}
-use Rattle.tcp_tie.proofs.TextLaws.{Led, data_control, no_reset_control, led_drawn, led_content}
+use Rattle.tcp_tie.proofs.TextLaws.{Led, data_control, no_reset_control, led_acked, led_drawn, led_content}
 use Rattle.tcp_tie.proofs.OpeningLaws.{state_phase, led_opens, led_takes_answer, led_reset, tied_down}
 
 not_answering : (state : State) → is_answering state ≡ false → phase_of state ≡ SynReceived → ⊥

@@ -1,5 +1,5 @@
 -- Which segments a socket takes, where its own segments go, and what becomes of its endpoints.
-use Rattle.std.proofs.Common.{◌≡◌, ◌≢◌, ◌⊎◌, inl, inr, ℕ, ◌+◌, ◌==◌, ◌&&◌, nat_lt, nat_le, not, ℤ, Bool, true, false, if◌then◌else◌, List, [], ◌∷◌, Option}
+use Rattle.std.proofs.Common.{◌≡◌, inl, inr, ℕ, ◌+◌, ◌==◌, ◌&&◌, nat_le, not, ℤ, Bool, true, false, if◌then◌else◌, List, Option}
 use Rattle.std.proofs.Common.{Some, None, is_some, length, drop, refl, sym, ap, ◌∙◌, subst}
 use Rattle.std.proofs.lemmas.Bool.{and_parts, cond_both, eqb-true}
 use Rattle.std.proofs.lemmas.Slice.Eq.{bytes_eq-Decides}
@@ -35,11 +35,10 @@ use Rattle.tcp_model.specs.Acknowledged.{names_window, windowed, ranges_taken, c
 use Rattle.tcp_model.specs.Answers.{drawn, may_draw, with_draw, acked, answer_for, ranges_held}
 use Rattle.tcp_model.specs.Arrival.{waiting_anew, outside, passed_outside, tells_news, has_length, comes_again, finished, with_content, told, taken, inside, checked, takes_reset}
 use Rattle.tcp_model.specs.Arrival.{challenges_reset, reset_comes, draws_first, echo_heard, received, arrives_in, arrives, is_void_syn}
-use Rattle.tcp_model.specs.Blocks.{unacked, no_names}
 use Rattle.tcp_model.specs.Calls.{listening, connecting, close_after, abort_after}
 use Rattle.tcp_model.specs.Checks.{Check, acknowledgement_check, is_in_window, taken_down, falls_back}
 use Rattle.tcp_model.specs.Checks.Check.{Passes, Old, Drops, Draws, Resets}
-use Rattle.tcp_model.specs.Controls.{is_syn, is_fin, is_rst}
+use Rattle.tcp_model.specs.Controls.{is_syn, is_rst}
 use Rattle.tcp_model.specs.Moments.{is_due, is_over, timeout_from}
 use Rattle.tcp_model.specs.Endpoints.{local_of, remote_of, pair_in, addresses_in, header_for, is_between, is_connected_by, is_bare, takes_address}
 use Rattle.tcp_model.specs.Names.{accepts_in, accepts}
