@@ -1,5 +1,5 @@
 -- What an arrival leaves as it was: words of the laws.
-use Rattle.std.specs.Prelude.{◌≡◌, ◌⊎◌, ℕ, List, map, Option, None, Some}
+use Rattle.std.specs.Prelude.{◌≡◌, ◌⊎◌, ℕ, false, List, map, Option, None, Some}
 use Rattle.ip_wire.specs.Ip.{carried_in}
 use Rattle.ip_wire.specs.IpProtocol.{IpProtocol}
 use Rattle.ip_wire.specs.IpProtocol.TheVariants as Protocol
@@ -22,6 +22,7 @@ use Rattle.interface_ingress.specs.Arp.{learned}
 use Rattle.interface_tables.specs.Inner.{InnerValue}
 use Rattle.interface_tables.specs.Neighbor.{CacheValue, renewed}
 use Rattle.interface_ingress.specs.Delivered.{Places}
+use Rattle.interface_ingress.specs.Reassembled.{is_piece_v6}
 
 -- SOCKETS
 
@@ -51,11 +52,13 @@ with_ports places = map ports_in places
 abbrev pub NamesNoPorts : IpProtocol → Type 0
 NamesNoPorts protocol = (protocol ≡ Protocol.Tcp → ⊥) × (protocol ≡ Protocol.Udp → ⊥)
 
--- an ARP packet, or an IP packet, or a piece of one, that carries neither TCP nor UDP, behind extension headers either
+-- an ARP packet, or an IP packet, or a piece of one, that carries neither TCP nor UDP, behind extension headers either; no piece of
+-- IPv6 says what its datagram carries
 abbrev pub HasNoPorts : IncomingValue → Type 0
 HasNoPorts (Arp link packet) = Unit {0}
 HasNoPorts (Ip4 link header piece payload) = NamesNoPorts header.next_header
-HasNoPorts (Ip6 link header payload) = NamesNoPorts (carried_in (upper_header (Ip.Ipv6 header) payload))
+HasNoPorts (Ip6 link header payload) =
+    NamesNoPorts (carried_in (upper_header (Ip.Ipv6 header) payload)) × (is_piece_v6 header payload ≡ false)
 
 abbrev pub HaveNoPorts : Option IncomingValue → Type 0
 HaveNoPorts None = Unit {0}
