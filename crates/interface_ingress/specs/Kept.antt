@@ -52,17 +52,20 @@ with_ports places = map ports_in places
 abbrev pub NamesNoPorts : IpProtocol → Type 0
 NamesNoPorts protocol = (protocol ≡ Protocol.Tcp → ⊥) × (protocol ≡ Protocol.Udp → ⊥)
 
--- an ARP packet, or an IP packet, or a piece of one, that carries neither TCP nor UDP, behind extension headers either; no piece of
--- IPv6 says what its datagram carries
+-- an ARP packet, or an IP packet, or a piece of one, that carries neither TCP nor UDP, behind extension headers either
 abbrev pub HasNoPorts : IncomingValue → Type 0
 HasNoPorts (Arp link packet) = Unit {0}
 HasNoPorts (Ip4 link header piece payload) = NamesNoPorts header.next_header
-HasNoPorts (Ip6 link header payload) =
-    NamesNoPorts (carried_in (upper_header (Ip.Ipv6 header) payload)) × (is_piece_v6 header payload ≡ false)
+HasNoPorts (Ip6 link header payload) = NamesNoPorts (carried_in (upper_header (Ip.Ipv6 header) payload))
 
 abbrev pub HaveNoPorts : Option IncomingValue → Type 0
 HaveNoPorts None = Unit {0}
 HaveNoPorts (Some v) = HasNoPorts v
+
+-- no piece of an IPv6 datagram: what that carries another piece may say (RFC 8200, section 4.5)
+abbrev pub IsNoPieceV6 : Option IncomingValue → Type 0
+IsNoPieceV6 (Some (Ip6 link header payload)) = is_piece_v6 header payload ≡ false
+IsNoPieceV6 content = Unit {0}
 
 -- a packet of protocol TCP whose payload is no segment
 abbrev pub IsDamaged : ChecksumCapabilities → IpRepr → List ℕ → Type 0

@@ -1,5 +1,5 @@
 -- Which packet a frame carries, as far as its first bytes say.
-use Rattle.std.specs.Prelude.{◌≢◌, ℕ, ◌/◌, Bool, true, false, ◌&&◌, ◌||◌, ◌==◌, List, drop, slice_index}
+use Rattle.std.specs.Prelude.{◌≡◌, ◌≢◌, ℕ, ◌/◌, Bool, true, false, ◌&&◌, ◌||◌, ◌==◌, List, drop, slice_index}
 use Rattle.net_devices.specs.Capabilities.{frame_header}
 use Rattle.net_devices.specs.declared.capabilities.Medium.{Medium}
 use Rattle.net_devices.specs.declared.capabilities.Medium.TheVariants.{Ethernet, Ip}
@@ -21,6 +21,10 @@ is_tcp_or_udp protocol = (protocol == 6) || (protocol == 17)
 
 abbrev pub IsNeither : IpProtocol → Type 0
 IsNeither protocol = (protocol ≢ Protocol.Tcp) × (protocol ≢ Protocol.Udp)
+
+-- what stands behind extension headers is neither, and no piece of a datagram
+abbrev pub IsNeitherBehind : Behind → Type 0
+IsNeitherBehind behind = IsNeither (upper_of behind) × (is_piece behind ≡ false)
 
 abbrev pub has_ports : IpProtocol → Bool
 has_ports Protocol.Tcp = true
