@@ -12,6 +12,7 @@ pub mod Answering
 pub mod Delivered
 pub mod Datagrams
 pub mod Reassembled
+pub mod Parts
 pub mod PathTold
 pub mod Handed
 pub mod Arrives

@@ -7,3 +7,4 @@ pub mod PathMtu
 pub mod Rebuilt
 pub mod Renewed
 pub mod FourBytes
+pub mod InParts
