@@ -86,7 +86,7 @@ module _ (q : Party) (first next : ℕ) (out : List PacketValue) (sent : AreSent
   made_of_one : (h : Ipv4Repr) (payload : List ℕ) (o : IsPayloadOf out h payload) → NamesPorts h →
       CanBeRead o.sent.packet.header o.sent.packet.payload × HasMade q (normal_payload o.sent.packet.payload)
   made_of_one h payload o ports = elim (sent.packets o.sent.packet o.sent.among).going.carries [
-    | inl none ↦ absurd (not_both (carried_in (upper_header (Ips.normal o.sent.packet.header) (bytes_of o.sent.packet))) none
+    | inl none ↦ absurd (not_both (carried_in (upper_header (Ips.normal o.sent.packet.header) (bytes_of o.sent.packet))) none.0
         (either_is (carried_in (upper_header (Ips.normal o.sent.packet.header) (bytes_of o.sent.packet))) h.next_header (protocol_is h payload o) ports))
     | inr reads ↦
         let known = either_is (told (carried_in o.sent.packet.header)) h.next_header (named_is h payload o) ports in
