@@ -4,7 +4,7 @@ router between the program `host` and a client in a namespace within:
 
     path.py PUMP HOST [FOLDER [tap]]
 
-Datagrams and pings of up to 4,000 bytes there and back; then, by either family, a megabyte through the stream echo while the link behind the
+Datagrams and pings of up to 4,000 bytes there and back by IPv4, and a datagram of 2,000 that comes in pieces by IPv6; then, by either family, a megabyte through the stream echo while the link behind the
 router is lowered to 1,280 bytes: Linux's router says so (RFC 8201; by IPv4 it cuts, since the host lets it), and from then on no longer packet
 may come. PUMP is linux/pump.c, built. `tap` makes the host's link one of Ethernet frames. FOLDER keeps what went over the device (path.pcap),
 if tshark is there, which then looks for what is malformed or has a wrong checksum.
@@ -148,8 +148,31 @@ def sizes(client, at):
 
 
 def pings(client, at):
+    """By IPv6 a host asks for its router at the first packet, and what answers that one doesn't wait."""
     with within(client.pid):
+        if ":" in at:
+            with socket.socket(talk.family(at), socket.SOCK_DGRAM) as it:
+                it.sendto(b"who is there", (at, 7))
+            time.sleep(1)
+            return talk.pings(3, 56, at)
         return all([talk.pings(3, size, at) for size in (56, 1473, 2000, 4000)])
+
+
+def rebuilt(client, at):
+    """A datagram in pieces for a port at which nobody is: what says so quotes its front, so the host had all of it."""
+    set_mtu(client, 1500)
+    with within(client.pid):
+        out, heard = socket.socket(talk.family(at), socket.SOCK_DGRAM), socket.socket(talk.family(at), socket.SOCK_RAW, socket.IPPROTO_ICMPV6)
+    sent = os.urandom(2000)
+    with out, heard:
+        out.sendto(sent, (at, 9))
+        heard.settimeout(2)
+        try:
+            while (said := heard.recv(65536))[:2] != b"\1\4":
+                pass
+        except OSError:
+            said = b""
+    return say(f"a datagram of {len(sent)} bytes in pieces is rebuilt{talk.named(at)}", sent[:1000] in said)
 
 
 def main():
@@ -158,8 +181,8 @@ def main():
     taken = hostile.capture(folder)
     client = set_up()
     well = []
-    for at in (OURS, OURS6):
-        well += [hostile.tried(it, client, at) for it in (pings, sizes, lowered)]
+    for at, trials in ((OURS, (pings, sizes, lowered)), (OURS6, (pings, rebuilt, lowered))):
+        well += [hostile.tried(it, client, at) for it in trials]
     wrong = hostile.refused()
     well.append(say(f"Linux found {wrong} packets with a wrong header or checksum", wrong == 0))
     if taken:
