@@ -8,3 +8,4 @@ pub mod Rebuilt
 pub mod Renewed
 pub mod FourBytes
 pub mod InParts
+pub mod Keys
