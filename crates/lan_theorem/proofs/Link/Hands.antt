@@ -9,6 +9,7 @@ use Rattle.interface_delivery.specs.Ip.{carried_in, source_of, destination_of}
 use Rattle.interface_ingress.specs.IpAddress.{IpAddress}
 use Rattle.interface_ingress.specs.IpAddress.TheVariants as Address
 use Rattle.interface_ingress.specs.IpProtocol.{IpProtocol}
+use Rattle.interface_ingress.specs.IpProtocol.TheVariants as Protocol
 use Rattle.ip_address.specs.Protocol.{protocol_number, protocol_of}
 use Rattle.interface_delivery.specs.IpRepr.{IpRepr}
 use Rattle.interface_delivery.specs.IpRepr.TheVariants as Ip
@@ -35,6 +36,10 @@ use Rattle.lan_theorem.specs.Link.Made.{sealed, IsWholeV6, CarriesNone, WasMade,
 use Rattle.lan_theorem.specs.Link.Frames.{IsSentV4, IsSentV6, IsFrom, IsOut, AreOut}
 use Rattle.lan_theorem.proofs.Link.Behind.{sealed_both}
 use Rattle.lan_theorem.proofs.Link.Whole6.{known_whole}
+
+-- what a header names, written and read
+abbrev told : IpProtocol → IpProtocol
+told p = protocol_of (protocol_number p)
 
 module _ (made : PayloadValue → Type 0) where
   -- PROTOCOLS
@@ -77,13 +82,17 @@ module _ (made : PayloadValue → Type 0) where
   hands_sent p is = hands_by p is is.going.carries
 
   -- a header that names what is carried stands right before it
+  by_name : (protocol : IpProtocol) (v : Ipv6Repr) (bytes : List ℕ) → v.next_header ≡ protocol → is_known_v6 (told protocol) ≡ true →
+      IsWholeV6 (Ip.Ipv6 (Ipv6.normal v)) bytes
+  by_name protocol v bytes is known = known_whole (Ipv6.normal v) bytes (ap (λ (p : IpProtocol). is_known_v6 (told p)) is ∙ known)
+
   named_whole : (h : IpRepr) (x : PayloadValue) (bytes : List ℕ) → CanBeRead h x → IsWholeV6 (Ips.normal h) bytes
   named_whole (Ip.Ipv4 v) x bytes can = tt
   named_whole (Ip.Ipv6 v) (ControlV4 message carried) bytes can = absurd can.2
-  named_whole (Ip.Ipv6 v) (ControlV6 message carried) bytes can = known_whole (Ipv6.normal v) bytes (ap (λ (p : IpProtocol). is_known_v6 (protocol_of (protocol_number p))) can.0)
+  named_whole (Ip.Ipv6 v) (ControlV6 message carried) bytes can = by_name Protocol.Icmpv6 v bytes can.0 refl
   named_whole (Ip.Ipv6 v) (Bytes carried) bytes can = absurd can
-  named_whole (Ip.Ipv6 v) (Datagram udp carried) bytes can = known_whole (Ipv6.normal v) bytes (ap (λ (p : IpProtocol). is_known_v6 (protocol_of (protocol_number p))) can.0)
-  named_whole (Ip.Ipv6 v) (Segment header carried) bytes can = known_whole (Ipv6.normal v) bytes (ap (λ (p : IpProtocol). is_known_v6 (protocol_of (protocol_number p))) can.0)
+  named_whole (Ip.Ipv6 v) (Datagram udp carried) bytes can = by_name Protocol.Udp v bytes can.0 refl
+  named_whole (Ip.Ipv6 v) (Segment header carried) bytes can = by_name Protocol.Tcp v bytes can.0 refl
 
   whole_by : (p : PacketValue) → CarriesNone (Ips.normal p.header) (bytes_of p) ⊎ (CanBeRead p.header p.payload × made (normal_payload p.payload)) →
       IsWholeV6 (Ips.normal p.header) (bytes_of p)

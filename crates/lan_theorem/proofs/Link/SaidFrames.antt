@@ -347,7 +347,8 @@ more_said medium frames rest of fact s =
     record { place = s.place; frame = s.frame; frame_is = get_more frames rest s.place s.frame s.frame_is; carries = s.carries }
 
 -- each frame of a host says what its own frames say
-pub own_so : (made : PayloadValue → Type 0) (out : List PacketValue) → AreOut made out → (medium : Medium) (before frames : List (List ℕ)) → AllByRecursion (IsHostFrame medium out) frames →
+pub own_so : (made : PayloadValue → Type 0) (out : List PacketValue) → AreOut made out → (medium : Medium) (before frames : List (List ℕ)) →
+    AllByRecursion (IsHostFrame medium out) frames →
     AllByRecursion (FrameSo (IsSaid medium (before ++ frames)) medium) frames
 own_so made out are medium before [] all = tt
 own_so made out are medium before (frame ∷ frames) all = (

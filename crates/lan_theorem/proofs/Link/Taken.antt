@@ -15,8 +15,8 @@ use Rattle.interface_tables.specs.Slots.{changed_at, without_datagram, without_e
 use Rattle.interface_ingress.specs.Arrives.{Arrived, ArrivesAs, slots_after, whole_after}
 use Rattle.interface_ingress.specs.Delivered.{Places}
 use Rattle.interface_ingress.specs.Incoming.{IncomingValue, Arp, Ip4, Ip6, IsIncoming, IsContent}
-use Rattle.interface_ingress.specs.Reassembled.{Slots, PieceValue, is_piece, is_piece_v6, part_v4, is_unfit, is_same_datagram, is_taken_in, taken_in, given_up_at}
-use Rattle.interface_ingress.specs.Reassembled.{place_of, place_in, with_part, with_piece, kept, bytes_at, rebuilt, released, uncut}
+use Rattle.interface_ingress.specs.Reassembled.{Slots, PieceValue, is_piece, is_piece_v6, part_v4, is_unfit, is_same_datagram, is_taken_in, taken_in}
+use Rattle.interface_ingress.specs.Reassembled.{given_up_at, place_of, place_in, with_part, with_piece, kept, bytes_at, rebuilt, released, uncut}
 use Rattle.interface_ingress.proofs.Settings.{brings_same}
 use Rattle.lan_theorem.specs.Link.Made.{sealed, BringsMade}
 use Rattle.lan_theorem.specs.Link.Frames.{IsFrom, BringsFrom}
