@@ -15,6 +15,7 @@ use Rattle.interface_tables.specs.Slots.{changed_at, without_datagram, without_e
 use Rattle.interface_ingress.specs.Arrives.{Arrived, ArrivesAs, slots_after, whole_after}
 use Rattle.interface_ingress.specs.Delivered.{Places}
 use Rattle.interface_ingress.specs.Incoming.{IncomingValue, Arp, Ip4, Ip6, IsIncoming, IsContent}
+use Rattle.interface_ingress.specs.Kept.{IsNoPieceV6}
 use Rattle.interface_ingress.specs.Reassembled.{Slots, PieceValue, is_piece, is_piece_v6, part_v4, is_unfit, is_same_datagram, is_taken_in, taken_in}
 use Rattle.interface_ingress.specs.Reassembled.{given_up_at, place_of, place_in, with_part, with_piece, kept, bytes_at, rebuilt, released, uncut}
 use Rattle.interface_ingress.proofs.Settings.{brings_same}
@@ -42,6 +43,14 @@ pub content_from : (made : PayloadValue → Type 0) (out : List PacketValue) (ha
 content_from made out hardware caps frame None are brings is = tt
 content_from made out hardware caps frame (Some v) are brings is = brings v (subst (λ (c : ChecksumCapabilities). IsIncoming hardware c frame v) are is)
 
+-- no packet of IPv6 is a piece
+pub whole_from : (made : PayloadValue → Type 0) (out : List PacketValue) (content : Option IncomingValue) → AreFrom made out content → IsNoPieceV6 content
+whole_from made out None from = tt
+whole_from made out (Some (Arp link packet)) from = tt
+whole_from made out (Some (Ip4 link h p x)) from = tt
+whole_from made out (Some (Ip6 link h x)) (inl whole) = whole.0
+whole_from made out (Some (Ip6 link h x)) (inr piece) = absurd piece
+
 -- what a host takes in of it is so too
 pub taken_from : (made : PayloadValue → Type 0) (out : List PacketValue) (i : InnerValue) (content : Option IncomingValue) → AreFrom made out content →
     AreFrom made out (taken_in i content)
@@ -51,10 +60,8 @@ taken_from made out i (Some v) from = elim (is_taken_in i v) as (λ b. AreFrom m
 module _ (made : PayloadValue → Type 0) (first : ℕ) (out : List PacketValue) (next : ℕ) (sent : AreSent made first next out) (few : AreFew out) where
   -- SLOTS
 
-  -- no packet of IPv6 is a piece
   whole6_from : (link : Option EthernetRepr) (h : Ipv6Repr) (x : List ℕ) → IsFrom made out (Ip6 link h x) → is_piece_v6 h x ≡ false
-  whole6_from link h x (inl whole) = whole.0
-  whole6_from link h x (inr piece) = absurd piece
+  whole6_from link h x from = whole_from made out (Some (Ip6 link h x)) from
 
   module _ (i : InnerValue) (timeout : ℕ) (slots : Slots) (link : Option EthernetRepr) (h : Ipv4Repr) (p : Ipv4Piece) (x : List ℕ)
       (from : IsFrom made out (Ip4 link h p x)) (are : AreSlotsOf out slots) where
