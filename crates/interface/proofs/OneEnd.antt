@@ -1,6 +1,6 @@
 -- At a device whose moves are determined a poll has one end.
 use Rattle.std.proofs.Common.{◌≡◌, ◌≤◌, ℕ, zero, suc, ℤ, Bool, true, false, ◌||◌, ◌&&◌, inl, inr, List, [], ◌∷◌, ◌++◌, Option, Some, None, is_some, refl, sym}
-use Rattle.std.proofs.Common.{ap, ◌∙◌, subst}
+use Rattle.std.proofs.Common.{ap, ◌∙◌, subst, arith}
 use Rattle.net_base.specs.Device.{Move, Took, Empty, Allowed, Emitted, Denied}
 use Rattle.ip_wire.specs.Ip.{destination_of}
 use Rattle.ip_wire.specs.IpAddress.{IpAddress}
@@ -72,9 +72,22 @@ module _ (one_offer : OneOffer) {D : Type 0} (moves : D → Move → D → Type 
 
   -- ONE FRAME
 
-  short_of : (old new : D) (i : InnerValue) (d : Departure) (taken : Bool) → Departs moves old i d taken new → frame_len_of i d ≤ longest
-  short_of old new i d true goes = subst (λ (n : ℕ). n ≤ longest) goes.1 (steady.short old new (Emitted (frame_of i d)) goes.0)
-  short_of old new i d false goes = steady.short old new (Denied (frame_len_of i d)) goes
+  -- frames of any length are taken or refused
+  of_length : (n : ℕ) (here : D) → Det here → IsDetermined moves n here
+  of_length n here det = record {
+    one_end = det.one_end;
+    one_frame = det.one_frame;
+    looks = det.looks;
+    gives = det.gives;
+    takes = λ one other frame short a b. steady.clear here one other frame det a b;
+  }
+
+  abbrev len_by : InnerValue → Option Departure → ℕ
+  len_by i None = 0
+  len_by i (Some d) = frame_len_of i d
+
+  as_long : (i : InnerValue) (o : Option Departure) (d : Departure) → o ≡ Some d → frame_len_of i d ≤ len_by i o
+  as_long i o d is = subst (λ (x : Option Departure). frame_len_of i d ≤ len_by i x) (sym is) (omega arith)
 
   det_of : (old new : D) (i : InnerValue) (d : Departure) (taken : Bool) → Departs moves old i d taken new → Det old → Det new
   det_of old new i d true goes det = steady.stays old new (Emitted (frame_of i d)) det goes.0
@@ -89,18 +102,16 @@ module _ (one_offer : OneOffer) {D : Type 0} (moves : D → Move → D → Type 
   det_out old new i i' l l' p busy sent goes =
       det_once old new i (departure_by i p (plan_of i busy p.header)) (was_taken sent) (changes moves old new i i' l l' p busy sent goes).0
 
-  differ : (old new other : D) (i : InnerValue) (d : Departure) → frame_len_of i d ≤ longest → Det old → Departs moves old i d true new →
-      Departs moves old i d false other → ⊥
-  differ old new other i d low det went denied =
-      det.takes new other (frame_of i d) (subst (λ (n : ℕ). n ≤ longest) (sym went.1) low) went.0
-      (subst (λ (n : ℕ). moves old (Denied n) other) (sym went.1) denied)
+  differ : (old new other : D) (i : InnerValue) (d : Departure) → Det old → Departs moves old i d true new → Departs moves old i d false other → ⊥
+  differ old new other i d det went denied =
+      steady.clear old new other (frame_of i d) det went.0 (subst (λ (n : ℕ). moves old (Denied n) other) (sym went.1) denied)
 
-  one_sent : (d : Departure) (old new other : D) (i : InnerValue) (a b : Bool) → frame_len_of i d ≤ longest → Det old → Departs moves old i d a new →
+  one_sent : (d : Departure) (old new other : D) (i : InnerValue) (a b : Bool) → Det old → Departs moves old i d a new →
       Departs moves old i d b other → new ≡ other
-  one_sent d old new other i true true low det one two = det.one_end new other (Emitted (frame_of i d)) one.0 two.0
-  one_sent d old new other i false false low det one two = det.one_end new other (Denied (frame_len_of i d)) one two
-  one_sent d old new other i true false low det one two = absurd (differ old new other i d low det one two)
-  one_sent d old new other i false true low det one two = absurd (differ old other new i d low det two one)
+  one_sent d old new other i true true det one two = det.one_end new other (Emitted (frame_of i d)) one.0 two.0
+  one_sent d old new other i false false det one two = det.one_end new other (Denied (frame_len_of i d)) one two
+  one_sent d old new other i true false det one two = absurd (differ old new other i d det one two)
+  one_sent d old new other i false true det one two = absurd (differ old other new i d det two one)
 
   abbrev SameOut : Sent → D → InnerValue → Option LeftValue → Sent → D → InnerValue → Option LeftValue → Type 0
   SameOut s new j k t other j' k' = (s ≡ t) × (new ≡ other) × (j ≡ j') × (k ≡ k')
@@ -109,10 +120,8 @@ module _ (one_offer : OneOffer) {D : Type 0} (moves : D → Move → D → Type 
       → GoesOut moves old i l p (plan_of i busy p.header) s new j k → GoesOut moves old i l p (plan_of i busy p.header) t other j' k' →
       SameOut s new j k t other j' k'
   one_out old new other i j j' l k k' p busy s t det one two =
-      let once = (changes moves old new i j l k p busy s one).0 in
-      one_way moves longest old det i l p (plan_of i busy p.header)
-      (λ d is. short_of old new i d (was_taken s) (subst (λ (o : Option Departure). SendsOnce moves old i o (was_taken s) new) is once)) s t new other j j'
-      k k' one two
+      let o : Option Departure = departure_by i p (plan_of i busy p.header) in
+      one_way moves (len_by i o) old (of_length (len_by i o) old det) i l p (plan_of i busy p.header) (as_long i o) s t new other j j' k k' one two
 
   -- TURNS
 
@@ -279,8 +288,8 @@ module _ (one_offer : OneOffer) {D : Type 0} (moves : D → Move → D → Type 
       let mids : two.0 ≡ one.0 = det.one_end two.0 one.0 (Allowed x.inner.moment true) two.1 one.1 in
       let again : PieceGoesOut moves one.0 x.inner l b z.device z.left = subst (λ (d : D). PieceGoesOut moves d x.inner l b z.device z.left) mids two.2 in
       let here : Det one.0 = steady.stays x.device one.0 (Allowed x.inner.moment true) det one.1 in
-      let low = short_of one.0 y.device x.inner (departure_from x.inner l) a (piece_sends moves one.0 y.device x.inner l y.left a one.2) in
-      let same = one_piece moves longest one.0 here x.inner l low a b y.device z.device y.left z.left one.2 again in
+      let n : ℕ = frame_len_of x.inner (departure_from x.inner l) in
+      let same = one_piece moves n one.0 (of_length n one.0 here) x.inner l (omega arith) a b y.device z.device y.left z.left one.2 again in
       (same.0, same_sender y z same.1 (i ∙ sym j) same.2)
 
   det_piece_leaves : (l : LeftValue) (x y : Sender D) (a : Bool) → PieceLeaves moves l x a y → Det x.device → Det y.device
@@ -329,8 +338,7 @@ module _ (one_offer : OneOffer) {D : Type 0} (moves : D → Move → D → Type 
       Replied moves awaited reply x z → y ≡ z
   one_replied awaited None x y z det one two = one ∙ sym two
   one_replied awaited (Some (Replies.Tells packet)) x y z det one two =
-      let low = short_of x.device y.device x.inner (Departures.Tells packet) one.0 one.1 in
-      same_sender y z (one_sent (Departures.Tells packet) x.device y.device z.device x.inner one.0 two.0 low det one.1 two.1) (one.2 ∙
+      same_sender y z (one_sent (Departures.Tells packet) x.device y.device z.device x.inner one.0 two.0 det one.1 two.1) (one.2 ∙
       sym two.2) (one.3 ∙ sym two.3)
   one_replied awaited (Some (Replies.Answers p)) x y z det (inl one) (inl two) = one.0 ∙ sym two.0
   one_replied awaited (Some (Replies.Answers p)) x y z det (inl one) (inr two) = absurd (both_read (awaited && would_ask x p) one.1 two.3)

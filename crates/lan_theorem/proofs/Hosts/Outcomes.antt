@@ -5,12 +5,12 @@ use Rattle.lan_frames.specs.Device.{Move, Took, Empty, Allowed, Emitted, Denied}
 use Rattle.interface.specs.Polls.{Polls}
 use Rattle.interface.specs.State.{State, state}
 use Rattle.interface_egress.specs.Determined.{IsDetermined}
-use Rattle.interface.specs.Steady.{IsShort, IsSteady}
+use Rattle.interface.specs.Steady.{IsSteady}
 use Rattle.interface.proofs.OneEnd.{OneOffer, one_poll}
 use Rattle.lan_hosts.specs.Port.{LinkEnd, PortValue, PortMove, has_leave}
 use Rattle.lan_hosts.specs.Station.{StationValue, at_port}
 use Rattle.lan_hosts.specs.Steps.{PollsAt}
-use Rattle.lan_theorem.proofs.Hosts.Mapping.{IsMapped, polls_there}
+use Rattle.interface.proofs.Mapping.{IsMapped, polls_there}
 
 -- AN END OF THE LINK AS A DEVICE
 
@@ -48,15 +48,8 @@ module _ (longest : ℕ) where
     takes = λ one other frame short a b. b;
   }
 
-  link_short : (old new : LinkEnd) (m : Move) → LinkMove longest old m new → IsShort longest m
-  link_short old new (Took t frame) goes = tt
-  link_short old new (Empty t) goes = tt
-  link_short old new (Allowed t given) goes = tt
-  link_short old new (Emitted frame) goes = goes.1
-  link_short old new (Denied len) goes = absurd goes
-
   link_steady : IsSteady (LinkMove longest) longest
-  link_steady = record { stays = λ old new m det goes. link_determined new; short = link_short }
+  link_steady = record { stays = λ old new m det goes. link_determined new; clear = λ here one other frame det a b. b }
 
 -- A PORT THAT DENIES NOTHING
 

@@ -1,11 +1,11 @@
 -- A poll at one device is a poll at another, where each of its moves is one there.
 use Rattle.std.proofs.Common.{◌≡◌, ℕ, zero, suc, ℤ, Bool, true, false, ◌||◌, inl, inr, List, [], ◌∷◌, ◌++◌, Option, Some, None, is_some, sym, ap, subst}
-use Rattle.lan_frames.specs.Device.{Move, Took, Empty, Allowed, Emitted, Denied}
-use Rattle.sockets.specs.Packet.{PacketValue}
-use Rattle.sockets.specs.Offer as Answer
-use Rattle.sockets.specs.Offer.TheVariants as Offer
-use Rattle.sockets.specs.Socket.{offered_by}
-use Rattle.sockets.specs.declared.socket.Socket.{Socket}
+use Rattle.net_base.specs.Device.{Move, Took, Empty, Allowed, Emitted, Denied}
+use Rattle.interface_ingress.specs.Packet.{PacketValue}
+use Rattle.interface_ingress.specs.Offer as Answer
+use Rattle.interface_ingress.specs.Offer.TheVariants as Offer
+use Rattle.interface_ingress.specs.Sockets.{offered_by}
+use Rattle.interface_ingress.specs.Socket.{Socket}
 use Rattle.interface_tables.specs.Inner.{InnerValue}
 use Rattle.interface_egress.specs.declared.socket_set.Item.{Item}
 use Rattle.interface_egress.specs.declared.socket_set.SocketStorage.{SocketStorage}
@@ -18,11 +18,11 @@ use Rattle.interface_egress.specs.declared.plan.Plan.{Plan}
 use Rattle.interface_egress.specs.declared.plan.Plan.TheVariants as Way
 use Rattle.interface_egress.specs.declared.way_out.Sent.{Sent}
 use Rattle.interface_egress.specs.declared.way_out.Sent.TheVariants as Outcome
-use Rattle.interface_delivery.specs.IpRepr.{IpRepr}
+use Rattle.ip_wire.specs.IpRepr.{IpRepr}
 use Rattle.interface_ingress.specs.Arrives as Replies
 use Rattle.interface_ingress.specs.Arrives.{ReplyValue}
 use Rattle.interface_ingress.specs.Incoming.{IncomingValue}
-use Rattle.interface_ingress.specs.IpAddress.{IpAddress}
+use Rattle.ip_wire.specs.IpAddress.{IpAddress}
 use Rattle.interface_egress.specs.declared.frame.Question.{Question}
 use Rattle.interface_egress.specs.declared.socket_meta.Meta.{Meta}
 use Rattle.interface.specs.Awaited.{turn_of}
