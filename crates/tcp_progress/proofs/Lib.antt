@@ -30,3 +30,5 @@ pub mod OfItself
 pub mod Settles
 pub mod Timers
 pub mod PairTimers
+pub mod WindowSteps
+pub mod WindowPairs

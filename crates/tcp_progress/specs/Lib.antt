@@ -12,3 +12,4 @@ pub mod Handshake
 pub mod Restart
 pub mod Settle
 pub mod Near
+pub mod Windows

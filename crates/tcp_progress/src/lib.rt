@@ -8,3 +8,4 @@ pub mod near;
 pub mod restart;
 pub mod settle;
 pub mod standstill;
+pub mod windows;
