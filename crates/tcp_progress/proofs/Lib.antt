@@ -32,3 +32,5 @@ pub mod Timers
 pub mod PairTimers
 pub mod WindowSteps
 pub mod WindowPairs
+pub mod Calm
+pub mod Ways

@@ -13,3 +13,4 @@ pub mod Restart
 pub mod Settle
 pub mod Near
 pub mod Windows
+pub mod BothWays
