@@ -5,7 +5,7 @@ use Rattle.std.proofs.lemmas.Bool.{cond_both}
 use Rattle.ip_wire.specs.IpRepr.{IpRepr}
 use Rattle.ip_wire.specs.Tcp.{header_len}
 use Rattle.ip_wire.specs.TcpHeader.{TcpHeader}
-use Rattle.tcp_law.specs.ReceiveMap.{front}
+use Rattle.tcp_law.specs.ReceiveMap.{front, behind}
 use Rattle.tcp_tie.specs.Context.{ContextValue}
 use Rattle.tcp_tie.specs.Offers.{Offered}
 use Rattle.tcp_rules.specs.EndpointPair.{EndpointPair}
@@ -29,11 +29,13 @@ use Rattle.tcp_pair_model.specs.LossRecovery.{loss_probed}
 use Rattle.tcp_pair_model.specs.Offers.{number_at, offer_choice, offer_of, offer_segment}
 use Rattle.tcp_pair_model.specs.Retries.{asked, heard, one_more}
 use Rattle.tcp_pair_model.specs.Rules.{Choice, backed_off_now, control_for, probe_choice, resend_choice, text_choice}
-use Rattle.tcp_pair_model.specs.Segments.{ack_segment, hops_of, keep_alive_segment, reset_segment, segment, syn_segment}
+use Rattle.tcp_pair_model.specs.Segments.{ack_segment, hops_of, keep_alive_segment, reset_segment, segment, stamp_by, stamp_of, syn_segment}
 use Rattle.tcp_pair_model.specs.Settled.{end_of, probed, recorded, sent_as, settled}
 use Rattle.tcp_pair_model.specs.Timestamps.{stamp_taken}
 use Rattle.tcp_pair_model.specs.Value.{TcpValue, Arrived, with_block, unoffered, free_in, queued_in, room_of, window_of}
 use Rattle.tcp_progress.specs.Sent.{is_early}
+use Rattle.tcp_progress.proofs.Stampless.{stamp_in}
+use Rattle.tcp_progress.proofs.WindowSteps.{as_large}
 
 -- what waits for the other, and what came
 pub record Load : Type 0 where
@@ -42,6 +44,8 @@ pub record Load : Type 0 where
   pub queued : ℕ
   pub waiting : ℕ
   pub took_fin : Bool
+  pub room : ℕ
+  pub stamps : Bool
 
 abbrev pub load_of : TcpValue → Load
 load_of v = record {
@@ -50,6 +54,8 @@ load_of v = record {
   queued = queued_in v;
   waiting = length v.received.waiting;
   took_fin = v.block.receiver.took_fin;
+  room = room_of v.received;
+  stamps = v.block.peer.timestamps;
 }
 
 -- no connection is opened, none that is over comes back, no more waits for the other, and no less came
@@ -58,6 +64,9 @@ pub record IsCalm (old new : Load) : Type 0 where
   pub closed : is_closed old.state ≡ true → is_closed new.state ≡ true
   pub left : new.syn + new.queued + one_if (owes_fin new.state) ≤ old.syn + old.queued + one_if (owes_fin old.state)
   pub came : old.waiting + one_if old.took_fin ≤ new.waiting + one_if new.took_fin
+  pub syn : new.syn ≤ old.syn
+  pub room : new.room ≡ old.room
+  pub stamps : new.stamps ≡ old.stamps
 
 same_load : (n : ℕ) → n ≤ n
 same_load n = omega arith
@@ -66,7 +75,7 @@ upto : (a b c : ℕ) → a ≤ b → b ≤ c → a ≤ c
 upto a b c e f = omega arith
 
 pub calm : (x : Load) → IsCalm x x
-calm x = record { early = λ e. e; closed = λ e. e; left = same_load _; came = same_load _ }
+calm x = record { early = λ e. e; closed = λ e. e; left = same_load _; came = same_load _; syn = same_load x.syn; room = refl; stamps = refl }
 
 pub then_calm : (x y z : Load) → IsCalm x y → IsCalm y z → IsCalm x z
 then_calm x y z c d = record {
@@ -74,6 +83,9 @@ then_calm x y z c d = record {
   closed = λ e. d.closed (c.closed e);
   left = upto (z.syn + z.queued + one_if (owes_fin z.state)) (y.syn + y.queued + one_if (owes_fin y.state)) (x.syn + x.queued + one_if (owes_fin x.state)) d.left c.left;
   came = upto (x.waiting + one_if x.took_fin) (y.waiting + one_if y.took_fin) (z.waiting + one_if z.took_fin) c.came d.came;
+  syn = upto z.syn y.syn x.syn d.syn c.syn;
+  room = d.room ∙ c.room;
+  stamps = d.stamps ∙ c.stamps;
 }
 
 -- the connection is over
@@ -83,6 +95,9 @@ ended_calm x = record {
   closed = λ _. refl;
   left = less x.syn x.queued (one_if (owes_fin x.state));
   came = same_load _;
+  syn = same_load x.syn;
+  room = refl;
+  stamps = refl;
 }
   where
     less : (a b c : ℕ) → a + b + 0 ≤ a + b + c
@@ -177,6 +192,10 @@ drop_less n xs = subst (λ (m : ℕ). m ≤ length xs) (sym (length-drop n xs)) 
   less : (a b : ℕ) → a - b ≤ a
   less a b = omega arith
 
+-- no timestamp
+pub no_stamp : (b : Block) (now : ℤ) → b.peer.timestamps ≡ false → stamp_of b now ≡ None
+no_stamp b now none = ap (λ (t : Bool). if t then stamp_by b.stamps.generator now b.peer.recent else None) none
+
 -- A SEGMENT COMES
 
 module _ (cx : ContextValue) (ip : IpRepr) (header : TcpHeader) (bytes : List ℕ) (v : TcpValue) (late : is_early v.block.state ≡ false) where
@@ -195,6 +214,9 @@ module _ (cx : ContextValue) (ip : IpRepr) (header : TcpHeader) (bytes : List �
     closed = fin_closed x.state;
     left = less x.syn x.queued (one_if (owes_fin (after_fin x.state))) (one_if (owes_fin x.state)) (after_fin_owes x.state);
     came = more x.waiting (one_if x.took_fin) (one_most x.took_fin);
+    syn = same_load x.syn;
+    room = refl;
+    stamps = refl;
   }
     where
       less : (a b c d : ℕ) → c ≤ d → a + b + c ≤ a + b + d
@@ -203,26 +225,49 @@ module _ (cx : ContextValue) (ip : IpRepr) (header : TcpHeader) (bytes : List �
       more : (a b : ℕ) → b ≤ 1 → a + b ≤ a + 1
       more a b e = omega arith
 
-  text_calm : (x : Load) (waiting : ℕ) → x.waiting ≤ waiting → IsCalm x (record x { waiting = waiting })
-  text_calm x waiting e = record { early = λ e. e; closed = λ e. e; left = same_load _; came = more x.waiting waiting (one_if x.took_fin) e } where
-    more : (a b c : ℕ) → a ≤ b → a + c ≤ b + c
-    more a b c e = omega arith
+  text_calm : (x : Load) (waiting room : ℕ) → x.waiting ≤ waiting → room ≡ x.room → IsCalm x (record x { waiting = waiting; room = room })
+  text_calm x waiting room e whole = record {
+    early = λ e. e;
+    closed = λ e. e;
+    left = same_load _;
+    came = more x.waiting waiting (one_if x.took_fin) e;
+    syn = same_load x.syn;
+    room = whole;
+    stamps = refl;
+  }
+    where
+      more : (a b c : ℕ) → a ≤ b → a + c ≤ b + c
+      more a b c e = omega arith
 
   longer : (xs ys : List ℕ) → length xs ≤ length (xs ++ ys)
   longer xs ys = subst (λ (n : ℕ). length xs ≤ n) (sym (length-append xs ys)) (more (length xs) (length ys)) where
     more : (a b : ℕ) → a ≤ a + b
     more a b = omega arith
 
+  in_order : (x : TcpValue) (map : List (Option ℕ)) → length map ≡ free_in x → IsCalm (load_of x)
+      (record (load_of x) {
+        waiting = length (x.received.waiting ++ front map);
+        room = length (x.received.waiting ++ front map) + length (behind map);
+      })
+  in_order x map is =
+      text_calm (load_of x) (length (x.received.waiting ++ front map)) (length (x.received.waiting ++ front map) + length (behind map))
+      (longer x.received.waiting (front map)) (as_large map x.received.waiting (free_in x) is)
+
   calm_content : (x : TcpValue) → Since x → Content cx ip header bytes Calmly x
   calm_content x c = record {
     plain = c;
     fin = λ _ _. then_calm (load_of v) (load_of x) _ c (fin_calm (load_of x));
-    ordered = λ map _ _ _. then_calm (load_of v) (load_of x) _ c (text_calm (load_of x) _ (longer x.received.waiting (front map)));
-    ordered_fin = λ map _ _ _.
-        let t = text_calm (load_of x) (length (x.received.waiting ++ front map)) (longer x.received.waiting (front map)) in
-        then_calm (load_of v) (record (load_of x) { waiting = length (x.received.waiting ++ front map) }) _ (then_calm (load_of v) (load_of x) _ c t)
-        (fin_calm (record (load_of x) { waiting = length (x.received.waiting ++ front map) }));
-    early = λ map _ _ _. c;
+    ordered = λ map is _ _. then_calm (load_of v) (load_of x) _ c (in_order x map is);
+    ordered_fin = λ map is _ _.
+        let y : Load = record (load_of x) {
+          waiting = length (x.received.waiting ++ front map);
+          room = length (x.received.waiting ++ front map) + length (behind map);
+        } in
+        then_calm (load_of v) y _ (then_calm (load_of v) (load_of x) y c (in_order x map is)) (fin_calm y);
+    early = λ map _ is _.
+        then_calm (load_of v) (load_of x) _ c
+        (text_calm (load_of x) (length x.received.waiting) (length x.received.waiting + length map) (same_load _)
+        (ap (λ (n : ℕ). length x.received.waiting + n) is));
   }
 
   acked_calm : (by : ℕ) → Since (acked_open (timed cx.moment header (unoffered v) by) by cx.moment)
@@ -235,6 +280,9 @@ module _ (cx : ContextValue) (ip : IpRepr) (header : TcpHeader) (bytes : List �
         (less_syn v.block.sender.syn_unacked (by == 0)) (drop_less (freed_by v.block by (queued_in v)) v.queued.queue)
         (acked_owes v.block by (queued_in v));
     came = same_load _;
+    syn = less_syn v.block.sender.syn_unacked (by == 0);
+    room = refl;
+    stamps = refl;
   }
     where
       less : (a b c d e f : ℕ) → a ≤ d → b ≤ e → c ≤ f → a + b + c ≤ d + e + f
@@ -274,6 +322,46 @@ module _ (cx : ContextValue) (ip : IpRepr) (header : TcpHeader) (bytes : List �
 
   pub arrival_calm : IsCalm (load_of v) (load_of (arrives cx v ip header bytes).socket)
   arrival_calm = by_arrival cx ip header bytes Calmly v (calm _) (λ _. calm_opening) (λ _. calm_received)
+
+-- where timestamps weren't agreed on no answer has one
+module _ (cx : ContextValue) (ip : IpRepr) (header : TcpHeader) (bytes : List ℕ) where
+  abbrev Bare : Arrived → Type 0
+  Bare a = stamp_in a.answer ≡ None
+
+  bare_drawing : (x : TcpValue) → x.block.peer.timestamps ≡ false → Drawing cx ip header bytes Bare x
+  bare_drawing x none = record { answers = λ _. no_stamp x.block cx.moment none; pauses = refl }
+
+  bare_content : (x : TcpValue) → x.block.peer.timestamps ≡ false → Content cx ip header bytes Bare x
+  bare_content x none = record {
+    plain = refl;
+    fin = λ _ _. refl;
+    ordered = λ _ _ _ _. refl;
+    ordered_fin = λ _ _ _ _. refl;
+    early = λ _ _ _ _. no_stamp x.block cx.moment none;
+  }
+
+  bare_received : (u : TcpValue) → u.block.peer.timestamps ≡ false → Received cx ip header bytes Bare u
+  bare_received u none = record {
+    stays = refl;
+    refuses = refl;
+    draws = bare_drawing u none;
+    falls = λ _ _ _. refl;
+    ends = λ _ _ _. refl;
+    closes = λ _ _ _. refl;
+    taken = λ by _ _. bare_content (heeded cx.moment header (length bytes) u by (acked_open (timed cx.moment header u by) by cx.moment).block) none;
+    taken_window = λ by _ _.
+        bare_content (heeded cx.moment header (length bytes) u by (windowed (acked_open (timed cx.moment header u by) by cx.moment).block header)) none;
+    news = λ by _ _. bare_drawing (waiting_anew (acked_open (timed cx.moment header u by) by cx.moment) header cx.moment) none;
+    outside = bare_drawing (waiting_anew u header cx.moment) none;
+    old = λ _. bare_content (with_block u (stamp_taken (heard u.block) header cx.moment)) none;
+  }
+
+  pub answer_bare : (v : TcpValue) → v.block.peer.timestamps ≡ false → stamp_in (arrives cx v ip header bytes).answer ≡ None
+  answer_bare v none =
+      by_arrival cx ip header bytes Bare v refl
+      (λ _.
+      record { opens = λ _ _. refl; refuses = refl; ends = λ _. refl; connects = λ _ _. refl; crosses = λ _ _. refl })
+      (λ _. bare_received (unoffered v) none)
 
 -- AN OFFER
 

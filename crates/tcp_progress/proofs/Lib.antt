@@ -34,3 +34,4 @@ pub mod WindowSteps
 pub mod WindowPairs
 pub mod Calm
 pub mod Ways
+pub mod Talks

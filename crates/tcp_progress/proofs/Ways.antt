@@ -25,7 +25,7 @@ use Rattle.tcp_pair_model.specs.Names.{accepts}
 use Rattle.tcp_pair_model.specs.Safe.{read, written}
 use Rattle.tcp_pair_model.specs.Sides.{at, other}
 use Rattle.tcp_pair_model.specs.Steps.{handed, reads, recv_fault, taken_at}
-use Rattle.tcp_pair_model.specs.Value.{TcpValue, queued_in}
+use Rattle.tcp_pair_model.specs.Value.{TcpValue, queued_in, room_of}
 use Rattle.tcp_pair_model.specs.Values.{PairSide, PairValue, context_at, past_at}
 use Rattle.tcp_pair_model.specs.declared.event.PairAnswer.{PairAnswer}
 use Rattle.tcp_pair_model.specs.declared.event.PairAnswer.TheVariants.{Done, Count, Bytes, Error}
@@ -46,27 +46,32 @@ use Rattle.tcp_progress.proofs.Kept.{reached_keeps}
 use Rattle.tcp_progress.proofs.OfItself.{leads_of_itself, may_exchange, sends_in}
 use Rattle.tcp_progress.proofs.Pair.{HasLess, HasSome, HasTaken, HasTold, below_quarter, further, had_in, has_some, in_step, reached_moved, still_open}
 use Rattle.tcp_progress.proofs.Positions.{IsPlaced, lies_within, placed, same_one}
+use Rattle.tcp_progress.proofs.WindowPairs.{read_room}
 use Rattle.tcp_progress.proofs.Settles.{read_all, read_had, read_left, read_partner, read_reached, some_left}
 
 -- WHAT A TURN LEAVES
 
 -- a side with its partner: no more isn't acknowledged, no less was taken, and nothing was written
-record SideCalm (p q : PairValue) (side : Side) : Type 0 where
-  early : is_early (socket_of p side).block.state ≡ false → is_early (socket_of q side).block.state ≡ false
-  closed : is_closed (socket_of p side).block.state ≡ true → is_closed (socket_of q side).block.state ≡ true
-  left : left_in q side ≤ left_in p side
-  taken : taken_in p side ≤ taken_in q side
-  written : written q side ≡ written p side
-  ended : (past_at q side).closed ≡ (past_at p side).closed
+pub record SideCalm (p q : PairValue) (side : Side) : Type 0 where
+  pub early : is_early (socket_of p side).block.state ≡ false → is_early (socket_of q side).block.state ≡ false
+  pub closed : is_closed (socket_of p side).block.state ≡ true → is_closed (socket_of q side).block.state ≡ true
+  pub left : left_in q side ≤ left_in p side
+  pub taken : taken_in p side ≤ taken_in q side
+  pub written : written q side ≡ written p side
+  pub ended : (past_at q side).closed ≡ (past_at p side).closed
+  pub opening : (past_at q side).opening ≡ (past_at p side).opening
+  pub acked : (socket_of p side).block.sender.syn_unacked ≡ false → (socket_of q side).block.sender.syn_unacked ≡ false
+  pub room : room_of (socket_of q side).received ≡ room_of (socket_of p side).received
+  pub stamps : (socket_of q side).block.peer.timestamps ≡ (socket_of p side).block.peer.timestamps
 
-record BothCalm (p q : PairValue) : Type 0 where
-  a : SideCalm p q A
-  b : SideCalm p q B
+pub record BothCalm (p q : PairValue) : Type 0 where
+  pub a : SideCalm p q A
+  pub b : SideCalm p q B
 
-abbrev IsLate : PairValue → Type 0
+abbrev pub IsLate : PairValue → Type 0
 IsLate p = (is_early p.sides.a.socket.block.state ≡ false) × (is_early p.sides.b.socket.block.state ≡ false)
 
-late_after : (p q : PairValue) → BothCalm p q → IsLate p → IsLate q
+pub late_after : (p q : PairValue) → BothCalm p q → IsLate p → IsLate q
 late_after p q c late = (c.a.early late.0, c.b.early late.1)
 
 same : (n : ℕ) → n ≤ n
@@ -76,7 +81,18 @@ upto : (a b c : ℕ) → a ≤ b → b ≤ c → a ≤ c
 upto a b c e f = omega arith
 
 still_calm : (p : PairValue) (side : Side) → SideCalm p p side
-still_calm p side = record { early = λ e. e; closed = λ e. e; left = same _; taken = same _; written = refl; ended = refl }
+still_calm p side = record {
+  early = λ e. e;
+  closed = λ e. e;
+  left = same _;
+  taken = same _;
+  written = refl;
+  ended = refl;
+  opening = refl;
+  acked = λ e. e;
+  room = refl;
+  stamps = refl;
+}
 
 next_calm : (p q r : PairValue) (side : Side) → SideCalm p q side → SideCalm q r side → SideCalm p r side
 next_calm p q r side c d = record {
@@ -86,10 +102,19 @@ next_calm p q r side c d = record {
   taken = upto (taken_in p side) (taken_in q side) (taken_in r side) c.taken d.taken;
   written = d.written ∙ c.written;
   ended = d.ended ∙ c.ended;
+  opening = d.opening ∙ c.opening;
+  acked = λ e. d.acked (c.acked e);
+  room = d.room ∙ c.room;
+  stamps = d.stamps ∙ c.stamps;
 }
 
 both_next : (p q r : PairValue) → BothCalm p q → BothCalm q r → BothCalm p r
 both_next p q r c d = record { a = next_calm p q r A c.a d.a; b = next_calm p q r B c.b d.b }
+
+acks : (old new : Bool) → one_if new ≤ one_if old → old ≡ false → new ≡ false
+acks true new e f = clash f
+acks false true e f = absurd (omega arith)
+acks false false e f = refl
 
 side_calm : (p q : PairValue) (side : Side) → at (pasts q.history) side ≡ at (pasts p.history) side →
     IsCalm (load_of (socket_of p side)) (load_of (socket_of q side)) → SideCalm p q side
@@ -105,6 +130,10 @@ side_calm p q side past c = record {
       (one_if (socket_of p side).block.receiver.took_fin) (one_if (socket_of q side).block.receiver.took_fin) c.came);
   written = ap (λ (x : Past). x.written) past;
   ended = ap (λ (x : Past). x.closed) past;
+  opening = ap (λ (x : Past). x.opening) past;
+  acked = acks (socket_of p side).block.sender.syn_unacked (socket_of q side).block.sender.syn_unacked c.syn;
+  room = c.room;
+  stamps = c.stamps;
 }
   where
     more :
@@ -169,11 +198,16 @@ exchanged p side moment late =
     (all_come (next_sent r (other side) - next_sent p (other side)) (other side) (next_sent p (other side)) r (late_after p r second late))
 
 -- a user reads: what was taken stays
-recv_written : (answer : PairAnswer) (p : Past) → ((recv_adds answer p).written ≡ p.written) × ((recv_adds answer p).closed ≡ p.closed)
-recv_written Done p = (refl, refl)
-recv_written (Count n) p = (refl, refl)
-recv_written (Bytes bytes) p = (refl, refl)
-recv_written (Error fault) p = (refl, refl)
+record Same (p q : Past) : Type 0 where
+  written : q.written ≡ p.written
+  closed : q.closed ≡ p.closed
+  opening : q.opening ≡ p.opening
+
+recv_same : (answer : PairAnswer) (p : Past) → Same p (recv_adds answer p)
+recv_same Done p = record { written = refl; closed = refl; opening = refl }
+recv_same (Count n) p = record { written = refl; closed = refl; opening = refl }
+recv_same (Bytes bytes) p = record { written = refl; closed = refl; opening = refl }
+recv_same (Error fault) p = record { written = refl; closed = refl; opening = refl }
 
 refused_adds : (fault : RecvError) (p : Past) → recv_adds (recv_fault fault) p ≡ p
 refused_adds Refuses.InvalidState p = refl
@@ -182,12 +216,14 @@ refused_adds Refuses.Finished p = refl
 record Reading (s : PairSide) (p : Past) (r : Result ℕ RecvError) : Type 0 where
   block : (reads s r).side.socket.block ≡ s.socket.block
   queue : queued_in (reads s r).side.socket ≡ queued_in s.socket
+  room : room_of (reads s r).side.socket.received ≡ room_of s.socket.received
   taken : length (p.read ++ s.socket.received.waiting) ≤ length ((recv_adds (reads s r).answer p).read ++ (reads s r).side.socket.received.waiting)
 
 reading : (s : PairSide) (p : Past) (r : Result ℕ RecvError) → Reading s p r
 reading s p (Ok n) = record {
   block = refl;
   queue = refl;
+  room = read_room s.socket.received.waiting s.socket.received.map n;
   taken =
       by (length p.read) (length s.socket.received.waiting) (length-append p.read s.socket.received.waiting)
       (length-append (p.read ++ take n s.socket.received.waiting) (drop n s.socket.received.waiting))
@@ -201,6 +237,7 @@ reading s p (Ok n) = record {
 reading s p (Err fault) = record {
   block = refl;
   queue = refl;
+  room = refl;
   taken =
       subst (λ (x : Past). length (p.read ++ s.socket.received.waiting) ≤ length (x.read ++ s.socket.received.waiting)) (sym (refused_adds fault p)) (same _);
 }
@@ -208,8 +245,8 @@ reading s p (Err fault) = record {
 by_reading :
     (p q : PairValue) (side : Side) → (socket_of q side).block ≡ (socket_of p side).block → queued_in (socket_of q side) ≡ queued_in (socket_of p side)
     → length (read p side ++ (socket_of p side).received.waiting) ≤ length (read q side ++ (socket_of q side).received.waiting)
-    → written q side ≡ written p side → (past_at q side).closed ≡ (past_at p side).closed → SideCalm p q side
-by_reading p q side block queue taken written ended = record {
+    → room_of (socket_of q side).received ≡ room_of (socket_of p side).received → Same (past_at p side) (past_at q side) → SideCalm p q side
+by_reading p q side block queue taken room past = record {
   early = λ e. ap (λ (b : Block). is_early b.state) block ∙ e;
   closed = λ e. ap (λ (b : Block). is_closed b.state) block ∙ e;
   left =
@@ -219,32 +256,36 @@ by_reading p q side block queue taken written ended = record {
       more (length (read p side ++ (socket_of p side).received.waiting)) (length (read q side ++ (socket_of q side).received.waiting))
       (one_if (socket_of p side).block.receiver.took_fin) (one_if (socket_of q side).block.receiver.took_fin)
       (ap (λ (b : Block). one_if b.receiver.took_fin) block) taken;
-  written = written;
-  ended = ended;
+  written = past.written;
+  ended = past.closed;
+  opening = past.opening;
+  acked = λ e. ap (λ (b : Block). b.sender.syn_unacked) block ∙ e;
+  room = room;
+  stamps = ap (λ (b : Block). b.peer.timestamps) block;
 }
   where
     more : (a b c d : ℕ) → d ≡ c → a ≤ b → a + c ≤ b + d
     more a b c d e f = omega arith
 
-read_calm : (p : PairValue) (side : Side) → BothCalm p (read_in p side)
+pub read_calm : (p : PairValue) (side : Side) → BothCalm p (read_in p side)
 read_calm p A =
     let r = recv_answer p.sides.b.socket (2 ^ 30) in
     let x = reading p.sides.b (at (pasts p.history) B) r in
-    let adds = recv_written (reads p.sides.b r).answer (at (pasts p.history) B) in
+    let adds = recv_same (reads p.sides.b r).answer (at (pasts p.history) B) in
     record {
       a = side_calm p (read_in p A) A refl (calm (load_of p.sides.a.socket));
-      b = by_reading p (read_in p A) B x.block x.queue x.taken adds.0 adds.1;
+      b = by_reading p (read_in p A) B x.block x.queue x.taken x.room (record { written = adds.written; closed = adds.closed; opening = adds.opening });
     }
 read_calm p B =
     let r = recv_answer p.sides.a.socket (2 ^ 30) in
     let x = reading p.sides.a (at (pasts p.history) A) r in
-    let adds = recv_written (reads p.sides.a r).answer (at (pasts p.history) A) in
+    let adds = recv_same (reads p.sides.a r).answer (at (pasts p.history) A) in
     record {
-      a = by_reading p (read_in p B) A x.block x.queue x.taken adds.0 adds.1;
+      a = by_reading p (read_in p B) A x.block x.queue x.taken x.room (record { written = adds.written; closed = adds.closed; opening = adds.opening });
       b = side_calm p (read_in p B) B refl (calm (load_of p.sides.b.socket));
     }
 
-of_side : (p q : PairValue) (side : Side) → BothCalm p q → SideCalm p q side
+pub of_side : (p q : PairValue) (side : Side) → BothCalm p q → SideCalm p q side
 of_side p q A c = c.a
 of_side p q B c = c.b
 
@@ -307,31 +348,31 @@ balance p side r stream mine theirs = record {
 
 -- A TURN
 
-on_late : (state : State) → is_synchronized state ≡ true → is_early state ≡ false
+pub on_late : (state : State) → is_synchronized state ≡ true → is_early state ≡ false
 on_late In.Closed e = clash (sym e)
 on_late In.Listen e = clash (sym e)
 on_late In.SynSent e = clash (sym e)
 on_late In.SynReceived e = clash (sym e)
 on_late other e = refl
 
-late_on : (state : State) → is_early state ≡ false → is_closed state ≡ false → is_synchronized state ≡ true
+pub late_on : (state : State) → is_early state ≡ false → is_closed state ≡ false → is_synchronized state ≡ true
 late_on In.Closed e f = clash f
 late_on In.Listen e f = clash e
 late_on In.SynSent e f = clash e
 late_on In.SynReceived e f = clash e
 late_on other e f = refl
 
-abbrev IsOver : PairValue → Side → Type 0
+abbrev pub IsOver : PairValue → Side → Type 0
 IsOver p side = is_closed (socket_of p side).block.state ≡ true
 
 -- there was nothing to do; or there is less to do; or the partner's connection is over
-abbrev Leaves : PairValue → PairValue → Side → Type 0
+abbrev pub Leaves : PairValue → PairValue → Side → Type 0
 Leaves p q side = ((left_in p side ≡ 0) × (q ≡ p)) ⊎ ((to_do_for q side < to_do_for p side) ⊎ IsOver q (other side))
 
-record Turned (p q : PairValue) (side : Side) : Type 0 where
-  reached : IsReached q
-  calm : BothCalm p q
-  leaves : Leaves p q side
+pub record Turned (p q : PairValue) (side : Side) : Type 0 where
+  pub reached : IsReached q
+  pub calm : BothCalm p q
+  pub leaves : Leaves p q side
 
 total_same : (p q : PairValue) (side : Side) → BothCalm p q → total_in q side ≡ total_in p side
 total_same p q side c =
@@ -339,11 +380,11 @@ total_same p q side c =
     ap (λ (xs : List ℕ). length xs + one_if (past_at q side).closed) it.written
     ∙ ap (λ (t : Bool). length (written p side) + one_if t) it.ended
 
-stream_still : (p q : PairValue) (side : Side) → BothCalm p q → HasStream (past_at p side) → HasStream (past_at q side)
+pub stream_still : (p q : PairValue) (side : Side) → BothCalm p q → HasStream (past_at p side) → HasStream (past_at q side)
 stream_still p q side c (inl unclosed) = inl ((of_side p q side c).ended ∙ unclosed)
 stream_still p q side c (inr wrote) = inr (subst (λ (xs : List ℕ). 1 ≤ length xs) (sym (of_side p q side c).written) wrote)
 
-late_of : (p : PairValue) (side : Side) → is_early (socket_of p side).block.state ≡ false → is_early (socket_of p (other side)).block.state ≡ false → IsLate p
+pub late_of : (p : PairValue) (side : Side) → is_early (socket_of p side).block.state ≡ false → is_early (socket_of p (other side)).block.state ≡ false → IsLate p
 late_of p A mine theirs = (mine, theirs)
 late_of p B mine theirs = (theirs, mine)
 
@@ -444,7 +485,7 @@ module _ (p : PairValue) (side : Side) (r : IsReached p) (m : MayRound p side) w
 nothing_turns : (p : PairValue) (side : Side) → left_in p side ≡ 0 → turn_in p side ≡ p
 nothing_turns p side none = ap (λ (t : Bool). if t then p else resumed_in p side) (eq-eqb (left_in p side) 0 none)
 
-turned : (p : PairValue) (side : Side) → IsReached p → MayTurn p side → Turned p (turn_in p side) side
+pub turned : (p : PairValue) (side : Side) → IsReached p → MayTurn p side → Turned p (turn_in p side) side
 turned p side r m = at (left_in p side == 0) refl where
   at : (none : Bool) → (left_in p side == 0) ≡ none → Turned p (if none then p else resumed_in p side) side
   at true e = record {

@@ -82,6 +82,17 @@ before_close In.Established e = clash (sym e)
 before_close In.CloseWait e = clash (sym e)
 before_close other e = e
 
+-- what is read is free again
+pub read_room :
+    (waiting : List ℕ) (map : List (Option ℕ)) (n : ℕ) → length (drop n waiting) + length (map ++ space (length (take n waiting))) ≡
+    length waiting + length map
+read_room waiting map n =
+    by (length waiting) (length map) (length-drop n waiting) (length-append map (space (length (take n waiting))))
+    (length-space (length (take n waiting)) ∙ length-take n waiting)
+  where
+    by : (waiting free : ℕ) {left both more : ℕ} → left ≡ waiting - n → both ≡ free + more → more ≡ min n waiting → left + both ≡ waiting + free
+    by waiting free a b c = omega arith
+
 module _ (own theirs : ℕ) (s : PairSide) (others : List SentSegment) (order : IsInOrder (sending_of s.socket)) (whole : IsWhole s.socket)
     (heard : AllByRecursion (IsTold theirs) others) (h : SideFits own theirs s) where
   abbrev v : TcpValue
@@ -123,15 +134,8 @@ module _ (own theirs : ℕ) (s : PairSide) (others : List SentSegment) (order : 
 
   read_fits : (r : Result ℕ RecvError) → SideFits own theirs (reads s r).side
   read_fits (Err fault) = called (record s { socket = unoffered v }) h.fit refl
-  read_fits (Ok n) = called (record s { socket = recv_after v n }) (with_room own theirs (fit_of v) _ room h.fit) refl where
-    room : length (drop n v.received.waiting) + length (v.received.map ++ space (length (take n v.received.waiting))) ≡ room_of v.received
-    room =
-        by (length v.received.waiting) (length v.received.map) (length-drop n v.received.waiting)
-        (length-append v.received.map (space (length (take n v.received.waiting))))
-        (length-space (length (take n v.received.waiting)) ∙ length-take n v.received.waiting)
-      where
-        by : (waiting free : ℕ) {left both more : ℕ} → left ≡ waiting - n → both ≡ free + more → more ≡ min n waiting → left + both ≡ waiting + free
-        by waiting free a b c = omega arith
+  read_fits (Ok n) =
+      called (record s { socket = recv_after v n }) (with_room own theirs (fit_of v) _ (read_room v.received.waiting v.received.map n) h.fit) refl
 
   closes : SideFits own theirs (acts s others (Close A)).side
   closes =

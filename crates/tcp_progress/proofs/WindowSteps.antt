@@ -375,7 +375,7 @@ with_window own theirs f window fits h =
     record { room = h.room; window = fits; scale = h.scale; before = h.before; short = h.short }
 
 -- text in order moves from the free places to those that wait
-as_large : (map : List (Option ℕ)) (waiting : List ℕ) (free : ℕ) → length map ≡ free → length (waiting ++ front map) + length (behind map) ≡ length waiting + free
+pub as_large : (map : List (Option ℕ)) (waiting : List ℕ) (free : ℕ) → length map ≡ free → length (waiting ++ front map) + length (behind map) ≡ length waiting + free
 as_large map waiting free is = by (length waiting) (length (front map)) (length (behind map)) (length-append waiting (front map)) (front_behind map) is where
   by : (waiting front behind : ℕ) {both whole : ℕ} → both ≡ waiting + front → front + behind ≡ whole → whole ≡ free → both + behind ≡ waiting + free
   by waiting front behind a b c = omega arith

@@ -14,3 +14,4 @@ pub mod Settle
 pub mod Near
 pub mod Windows
 pub mod BothWays
+pub mod Talking
