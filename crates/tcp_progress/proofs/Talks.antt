@@ -42,7 +42,7 @@ use Rattle.tcp_progress.proofs.Ready.{ready_side}
 use Rattle.tcp_progress.proofs.Settles.{empty_after, read_reached, some_left}
 use Rattle.tcp_progress.proofs.Stampless.{stamp_in, stampless}
 use Rattle.tcp_progress.proofs.WindowPairs.{near_in}
-use Rattle.tcp_progress.proofs.Ways.{BothCalm, IsLate, SideCalm, Turned, late_after, late_on, of_side, on_late, read_calm, stream_still, turned}
+use Rattle.tcp_progress.proofs.Ways.{BothCalm, IsLate, SideCalm, Turned, done_round, late_after, late_on, nothing_turns, of_side, on_late, read_calm, stream_still, turned}
 
 -- WHAT STAYS
 
@@ -360,3 +360,16 @@ talks n p r s talk =
       listened = s.listened;
     })
     (record { a = s.minutes_a; b = s.minutes_b }) talk
+
+-- where nothing is left to do nothing is asked for
+pub done_talks : (n : ℕ) (p : PairValue) → left_in p A ≡ 0 → left_in p B ≡ 0 → MayTalk n p
+done_talks zero p a b = tt
+done_talks (suc n) p a b =
+    let turn = nothing_turns p A a in (
+      λ some. nothing (left_in p A) a some,
+      λ some. nothing (left_in (turn_in p A) B) (ap (λ (x : PairValue). left_in x B) turn ∙ b) some,
+      subst (MayTalk n) (sym (done_round p (a, b))) (done_talks n p a b),
+    )
+  where
+    nothing : {X : Type 0} (m : ℕ) → m ≡ 0 → 1 ≤ m → X
+    nothing m e f = absurd (omega arith)

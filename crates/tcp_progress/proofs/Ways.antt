@@ -482,7 +482,7 @@ module _ (p : PairValue) (side : Side) (r : IsReached p) (m : MayRound p side) w
   resumed : Turned p q side
   resumed = record { reached = reached; calm = whole; leaves = leaves (reached_moved x side t o rx m.stream may).less }
 
-nothing_turns : (p : PairValue) (side : Side) → left_in p side ≡ 0 → turn_in p side ≡ p
+pub nothing_turns : (p : PairValue) (side : Side) → left_in p side ≡ 0 → turn_in p side ≡ p
 nothing_turns p side none = ap (λ (t : Bool). if t then p else resumed_in p side) (eq-eqb (left_in p side) 0 none)
 
 pub turned : (p : PairValue) (side : Side) → IsReached p → MayTurn p side → Turned p (turn_in p side) side
@@ -505,7 +505,7 @@ to_do_falls p q side c =
     by : (new left all total came taken : ℕ) → new ≤ left → all ≡ total → taken ≤ came → new + (all - came) ≤ left + (total - taken)
     by new left all total came taken a b c = omega arith
 
-abbrev IsDone : PairValue → Type 0
+abbrev pub IsDone : PairValue → Type 0
 IsDone p = IsThrough p A × IsThrough p B
 
 -- nothing is left to do, or there is less, or a connection is over
@@ -597,7 +597,7 @@ over_done p over first second =
     turn_round (inl a) = inr a
     turn_round (inr b) = inl b
 
-done_round : (p : PairValue) → IsDone p → round_in p ≡ p
+pub done_round : (p : PairValue) → IsDone p → round_in p ≡ p
 done_round p d =
     let first = nothing_turns p A d.0 in
     ap (λ (x : PairValue). turn_in x B) first ∙ nothing_turns p B d.1
