@@ -1,11 +1,11 @@
 //! A host that configures itself.
 ghost use Rattle.net_base.specs.Time.{IsMoment};
 
-use crate::net::ethernet;
+use crate::host::{add, bare};
+use crate::wire::Wire;
 use anyhow::{Result, anyhow};
-use interface::{Config, Interface, SocketHandle, SocketSet};
-use ip_wire::{EthernetAddress, HardwareAddress, IpAddress, IpCidr, Ipv4Address};
-use lan_port::Port;
+use interface::{Interface, SocketHandle, SocketSet};
+use ip_wire::{EthernetAddress, IpAddress, IpCidr, Ipv4Address};
 use net_base::{Instant, ManagedSlice};
 use sockets::dhcp::{self, Event};
 use sockets::dns::{self, DnsQueryType};
@@ -15,13 +15,13 @@ use std::alloc::Global;
 /// How many frames a poll takes in, and how often it goes over the sockets, at most.
 const BUDGET: u16 = 16;
 /// The Ethernet address of the host.
-const STATION: EthernetAddress = EthernetAddress([2, 0, 0, 0, 0, 1]);
+const STATION: EthernetAddress = EthernetAddress([2, 0, 0, 0, 0, 2]);
 
 /// A host at its end of the wire, with a client of DHCP and one of DNS among its sockets.
 #[derive(Drop)]
 pub struct Client {
     interface: Interface,
-    pub wire: Port,
+    pub wire: Wire,
     sockets: SocketSet<Socket>,
     dhcp: SocketHandle,
     dns: SocketHandle,
@@ -30,8 +30,8 @@ pub struct Client {
 impl Client {
     /// A host without an address.
     pub fn new(alloc: Global) -> Result<Client> {
-        let wire = Port::new(alloc, ethernet());
-        let interface = bare(alloc, &wire)?;
+        let wire = Wire::new(alloc);
+        let interface = bare(alloc, &wire, 2)?;
         let mut sockets = SocketSet::new(ManagedSlice::Owned(Vec::new(alloc)));
         let (dhcp, dns) = add_both(&mut sockets)?;
         Ok(Client {
@@ -116,28 +116,11 @@ impl Client {
     }
 }
 
-/// An interface at the wire, without an address.
-fn bare(alloc: Global, wire: &Port) -> Result<Interface> {
-    let config = Config {
-        random_seed: 1,
-        hardware_addr: HardwareAddress::Ethernet(STATION),
-        isn_key: None,
-    };
-    Ok(Interface::new(alloc, &config, wire, Instant::ZERO)?)
-}
-
 /// Adds a client of DHCP, and one of DNS.
 fn add_both(sockets: &mut SocketSet<Socket>) -> Result<(SocketHandle, SocketHandle)> {
-    let dhcp = add(sockets, dhcp::Socket::new(STATION, 1))?;
-    let dns = add(sockets, dns::Socket::new(&[]))?;
+    let dhcp = add(sockets, dhcp::Socket::new(STATION, 1).upcast())?;
+    let dns = add(sockets, dns::Socket::new(&[]).upcast())?;
     Ok((dhcp, dns))
-}
-
-/// Adds a socket to a set that grows.
-fn add<S: AnySocket>(sockets: &mut SocketSet<Socket>, socket: S) -> Result<SocketHandle> {
-    sockets
-        .add(socket.upcast())
-        .map_err(|_| anyhow!("no memory for a socket"))
 }
 
 /// Sets the one address of an interface, or none.

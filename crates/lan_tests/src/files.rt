@@ -1,5 +1,5 @@
-//! Texts, and what is read of them.
-use crate::{Case, Fault, read_cases};
+//! Files of cases: texts, and what is read of them.
+use case_files::{Case, Fault, read_cases};
 use std::alloc::Global;
 use std::test::Fail;
 

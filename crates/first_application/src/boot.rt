@@ -1,8 +1,5 @@
 //! A first boot: a host without an address asks for one by DHCP, and for the address of a name by DNS. A server at the other end of
 //! the wire answers.
-#![tactic(auto)]
-
-mod buffers;
 mod client;
 mod net;
 mod server;
@@ -10,15 +7,15 @@ mod server;
 use anyhow::Result;
 use net::Net;
 use net_base::Duration;
+use std::alloc::Global;
 
-fn main(rt: HostRuntime) -> Result<()> {
-    let alloc = rt.alloc();
+/// Lets a host boot, and ask for the address of a name.
+pub fn boot<R: Print>(rt: &R, alloc: Global) -> Result<()> {
     let mut net = Box::new(alloc, Net::new(alloc)?)?;
-    boot(&rt, &mut net)
+    ask(rt, &mut net)
 }
 
-/// Lets the host boot, and ask for the address of a name.
-fn boot<R: Print>(rt: &R, net: &mut Net) -> Result<()> {
+fn ask<R: Print>(rt: &R, net: &mut Net) -> Result<()> {
     net.pass(Duration::from_secs(5))?;
     match net.client.address() {
         Some(address) => println!(rt; "after five seconds the host is {address}")?,

@@ -3,11 +3,11 @@ ghost use Rattle.dhcp_wire.specs.Written.{Fits};
 ghost use Rattle.net_base.specs.Time.{IsMoment};
 
 use crate::buffers::datagrams;
-use crate::net::ethernet;
-use anyhow::{Result, anyhow};
-use interface::{Config, Interface, SocketHandle, SocketSet};
-use ip_wire::{EthernetAddress, HardwareAddress, IpAddress, IpCidr, IpEndpoint, Ipv4Address};
-use lan_port::Port;
+use crate::host::{add, addressed};
+use crate::wire::Wire;
+use anyhow::Result;
+use interface::{Interface, SocketHandle, SocketSet};
+use ip_wire::{IpAddress, IpEndpoint, Ipv4Address};
 use net_base::{Instant, ManagedSlice};
 use sockets::dhcp::{DhcpMessageType, DhcpPacket, DhcpRepr};
 use sockets::udp::UdpMetadata;
@@ -28,7 +28,7 @@ const RECORD: [u8; 16] = [0xc0, 12, 0, 1, 0, 1, 0, 0, 0, 60, 0, 4, 192, 168, 1, 
 #[derive(Drop)]
 pub struct Server {
     interface: Interface,
-    pub wire: Port,
+    pub wire: Wire,
     sockets: SocketSet<Socket>,
     dhcp: SocketHandle,
     dns: SocketHandle,
@@ -37,8 +37,8 @@ pub struct Server {
 impl Server {
     /// A server at an end of a wire.
     pub fn new(alloc: Global) -> Result<Server> {
-        let wire = Port::new(alloc, ethernet());
-        let interface = addressed(alloc, &wire)?;
+        let wire = Wire::new(alloc);
+        let interface = addressed(alloc, &wire, 1)?;
         let mut sockets = SocketSet::new(ManagedSlice::Owned(Vec::new(alloc)));
         let (dhcp, dns) = add_both(alloc, &mut sockets)?;
         Ok(Server {
@@ -74,35 +74,14 @@ impl Server {
     }
 }
 
-/// An interface at the wire, with its address.
-fn addressed(alloc: Global, wire: &Port) -> Result<Interface> {
-    let config = Config {
-        random_seed: 2,
-        hardware_addr: HardwareAddress::Ethernet(EthernetAddress([2, 0, 0, 0, 0, 2])),
-        isn_key: None,
-    };
-    let mut interface = Interface::new(alloc, &config, wire, Instant::ZERO)?;
-    let _ = interface.update_ip_addrs(|addresses| {
-        let _ = addresses.try_push(IpCidr::new(IpAddress::Ipv4(ADDRESS), 24));
-    });
-    Ok(interface)
-}
-
 /// Adds a socket for the clients of DHCP, and one for those of DNS.
 fn add_both(
     alloc: Global,
     sockets: &mut SocketSet<Socket>,
 ) -> Result<(SocketHandle, SocketHandle)> {
-    let dhcp = add(sockets, datagrams(alloc, 67)?)?;
-    let dns = add(sockets, datagrams(alloc, 53)?)?;
+    let dhcp = add(sockets, Socket::Udp(datagrams(alloc, 67)?))?;
+    let dns = add(sockets, Socket::Udp(datagrams(alloc, 53)?))?;
     Ok((dhcp, dns))
-}
-
-/// Adds a UDP socket to a set that grows.
-fn add(sockets: &mut SocketSet<Socket>, socket: udp::Socket) -> Result<SocketHandle> {
-    sockets
-        .add(Socket::Udp(socket))
-        .map_err(|_| anyhow!("no memory for a socket"))
 }
 
 /// Offers the address to a client that asks for offers, and acknowledges it to one that takes it.

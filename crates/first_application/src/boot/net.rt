@@ -1,14 +1,13 @@
 //! A host and a server on a wire, and their clock.
-ghost use Rattle.std.specs.Prelude.{IfSome};
 ghost use Rattle.net_base.specs.Time.{IsMoment};
 
-use crate::client::Client;
-use crate::server::Server;
+use crate::boot::client::Client;
+use crate::boot::server::Server;
+use crate::net::later;
 use anyhow::Result;
 use interface::earlier;
-use lan_port::Port;
-use net_base::{ChecksumCapabilities, DeviceCapabilities, Duration, Instant, Medium};
-use std::alloc::{AllocError, Global};
+use net_base::{Duration, Instant};
+use std::alloc::Global;
 
 /// How many turns are taken at most while time passes.
 const TURNS: u32 = 1000;
@@ -18,40 +17,8 @@ const TURNS: u32 = 1000;
 pub struct Net {
     pub client: Client,
     server: Server,
-    // How many frames of each the wire carried.
-    from_client: usize,
-    from_server: usize,
     now: Instant,
     ghost now_is_a_moment: { IsMoment now },
-}
-
-/// An end of an Ethernet wire.
-pub fn ethernet() -> DeviceCapabilities {
-    DeviceCapabilities {
-        medium: Medium::Ethernet,
-        max_transmission_unit: 1514,
-        checksum: ChecksumCapabilities::default(),
-    }
-}
-
-/// Carries the frames that were sent at one end, behind those that were carried already, to the other end.
-fn carry(from: &Port, carried: &mut usize, to: &mut Port) -> Result<(), AllocError> {
-    for frame in from.sent().iter().skip(*carried) {
-        to.push(frame.clone()?)?;
-    }
-    *carried = from.sent().len();
-    Ok(())
-}
-
-/// The moment that is so much later, if the stack takes it.
-fn later(moment: Instant, by: Duration) -> Option<Instant>
-    ensures { IfSome result IsMoment }
-{
-    if !moment.fits_add(by) {
-        return None;
-    }
-    let sum = moment + by;
-    if sum.is_moment() { Some(sum) } else { None }
 }
 
 impl Net {
@@ -62,8 +29,6 @@ impl Net {
         Ok(Net {
             client,
             server,
-            from_client: 0,
-            from_server: 0,
             now: Instant::ZERO,
         })
     }
@@ -72,15 +37,14 @@ impl Net {
     fn turn(&mut self) -> Result<()> {
         self.client.poll(self.now);
         self.server.poll(self.now);
-        let (client, server) = (&mut self.client.wire, &mut self.server.wire);
-        carry(client, &mut self.from_client, server)?;
-        carry(server, &mut self.from_server, client)?;
+        self.client.wire.carry_to(&mut self.server.wire)?;
+        self.server.wire.carry_to(&mut self.client.wire)?;
         Ok(())
     }
 
     /// When the next turn is due: now where a frame came, else when the first of the hosts wants it.
     fn next(&mut self) -> Option<Instant> {
-        if !self.client.wire.waiting().is_empty() || !self.server.wire.waiting().is_empty() {
+        if self.client.wire.has_frame() || self.server.wire.has_frame() {
             return Some(self.now);
         }
         earlier(self.client.poll_at(self.now), self.server.poll_at(self.now))
