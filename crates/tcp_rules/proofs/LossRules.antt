@@ -78,7 +78,7 @@ within_lowered by top (r ∷ rs) h = (nearer r.end top by h.0, within_lowered by
 
 within_after : (rs : List Run) (by top : ℕ) → AreWithin top rs → AreWithin (top - by) (after_ack rs by)
 within_after rs by top h =
-    cond_both (reneges rs by) no_runs (map (lowered by) rs) (AreWithin (top - by)) (λ _. within_nothing (top - by) 16) (λ _. within_lowered by top rs h)
+    cond_both (reneges rs by) no_runs (map (lowered by) rs) (AreWithin (top - by)) (λ _. within_nothing (top - by) 32) (λ _. within_lowered by top rs h)
 
 within_without : (top : ℕ) (rs : List Run) (run : Run) → AreWithin top rs → AreWithin top (without rs run)
 within_without top [] run h = tt
@@ -217,7 +217,7 @@ module _ (cx : ContextValue) (ip : IpRepr) (header : TcpHeader) (bytes : List �
     stays = k;
     refuses = k;
     draws = right_drawing u k;
-    falls = λ _ _ _. record { within = within_nothing 0 16; listens = λ _. refl };
+    falls = λ _ _ _. record { within = within_nothing 0 32; listens = λ _. refl };
     ends = λ _ _ _. right _ k.within refl;
     closes = λ by _ _. acked_right (timed cx.moment header u by).block by (queued_in u) In.Closed (echoed by) refl;
     taken = λ by _ _.
@@ -247,7 +247,7 @@ module _ (cx : ContextValue) (ip : IpRepr) (header : TcpHeader) (bytes : List �
   right_opening : (u : TcpValue) → IsKnownRight (known_of u.block) → Opening cx ip header bytes Right u
   right_opening u k = record {
     opens = λ at _.
-        record { within = subst (AreWithin 0) (sym (k.listens (ap is_listening at))) (within_nothing 0 16); listens = λ e. clash (sym e) };
+        record { within = subst (AreWithin 0) (sym (k.listens (ap is_listening at))) (within_nothing 0 32); listens = λ e. clash (sym e) };
     refuses = k;
     ends = λ _. right _ k.within refl;
     connects = λ at _.
@@ -328,7 +328,7 @@ module _ (cx : ContextValue) where
     timeout = λ _. (right _ k.within refl, inr refl);
     closed = λ _. (k, inr refl);
     reset = λ _ closed _. (k, inl (not_listening v.block.state closed));
-    falls = λ _ _ _. (record { within = within_nothing 0 16; listens = λ _. refl }, inr refl);
+    falls = λ _ _ _. (record { within = within_nothing 0 32; listens = λ _. refl }, inr refl);
     over = λ _ _ _. (right _ k.within refl, inr refl);
     backs = λ pair named _ _. right_first pair (with_block (unoffered v) (backed_off_now (begun cx v))) k (unnamed v pair p named);
     probes = λ pair named _ _ _. right_first pair (with_block (unoffered v) (loss_probed (begun cx v))) k (unnamed v pair p named);
@@ -367,7 +367,7 @@ set_right v (Congestion control) k = k
 connected_right : (v : TcpValue) (names : Option EndpointPair) (number : ℕ) → IsKnownRight (known_of v.block) →
     IsKnownRight (known_of (connected_by v names number).block)
 connected_right v None number k = k
-connected_right v (Some pair) number k = record { within = within_nothing 0 16; listens = λ _. refl }
+connected_right v (Some pair) number k = record { within = within_nothing 0 32; listens = λ _. refl }
 
 event_right : (v : TcpValue) (it : Event) → IsInOrder (sending_of v) → IsKnownRight (known_of v.block) → IsKnownRight (known_of (after v it).block)
 event_right v (Comes cx ip header bytes) p k = right_arrival cx ip header bytes v k
@@ -376,7 +376,7 @@ event_right v (Asked cx true) p k =
 event_right v (Asked cx false) p k = (right_offer cx v p k).0
 event_right v (Listens endpoint) p k =
     cond_both (is_closed v.block.state && not (endpoint.port == 0)) (listening v endpoint) (unoffered v) (λ (w : TcpValue). IsKnownRight (known_of w.block))
-    (λ _. record { within = within_nothing 0 16; listens = λ _. refl }) (λ _. k)
+    (λ _. record { within = within_nothing 0 32; listens = λ _. refl }) (λ _. k)
 event_right v (Connects cx remote local) p k =
     cond_both (is_closed v.block.state) (connected_by v (pair_for cx remote local) (number_for cx (pair_for cx remote local))) (unoffered v)
     (λ (w : TcpValue). IsKnownRight (known_of w.block))
@@ -403,7 +403,7 @@ pub led_held : (capacity : ℕ) (queued : Ring ℕ) (events : List Event)
     → AreWithin (led (new_socket capacity queued) events).block.sender.top (led (new_socket capacity queued) events).block.loss.board.runs
 led_held capacity queued events =
     (led_right (new_socket capacity queued) events (new_order capacity queued)
-    (record { within = within_nothing 0 16; listens = λ _. refl })).within
+    (record { within = within_nothing 0 32; listens = λ _. refl })).within
 
 -- PROBES
 
