@@ -146,11 +146,11 @@ sends_from moves turn s s' p item item' changed turned sent now until destinatio
   formed,
   (
     sent,
-    left.2,
+    left.2.0,
     by,
     is ∙ ap (λ (m : ℤ). settled_by sent m until destination item) at
-        ∙ ap (λ (m : ℤ). settled_by sent s.inner.moment m destination item) left.4
-        ∙ ap (λ (a : IpAddress). settled_by sent s.inner.moment (waits_until (plan_at s left.0) s'.inner) a item) left.5,
-    left.3,
+        ∙ ap (λ (m : ℤ). settled_by sent s.inner.moment m destination item) left.2.2
+        ∙ ap (λ (a : IpAddress). settled_by sent s.inner.moment (waits_until (plan_at s left.0) s'.inner) a item) left.2.3,
+    left.2.1,
   ),
 )

@@ -175,11 +175,16 @@ module _ {D : Type 0} (moves : D → Move → D → Type 0) (turn : Option IpAdd
   abbrev pub Leaves : Sender D → Meta → PacketValue → Sent → Sender D → Type 0
   Leaves s m p sent s' = Rests s m p sent s' ⊎ Admits s m p sent s'
 
-  -- a packet left from its source, or stays: what became of it, until when it waits, and where it was to go
+  -- a packet left, or stays: what became of it, until when it waits, and where it was to go
+  abbrev pub LeavesAs : Sender D → Meta → PacketValue → Sent → ℤ → IpAddress → Sender D → Type 0
+  LeavesAs s m leaving sent until destination s' =
+      Leaves s m leaving sent s' × IsWellFormed leaving
+      × (until ≡ waits_until (plan_at s leaving) s'.inner) × (destination ≡ destination_of leaving.header)
+
+  -- the same from its source
   abbrev pub HasLeft : Sender D → Meta → PacketValue → Sent → ℤ → IpAddress → Sender D → Type 0
   HasLeft s m p sent until destination s' =
-      (leaving : PacketValue) × (leaving ≡ sourced s.inner p) × Leaves s m leaving sent s' × IsWellFormed leaving
-      × (until ≡ waits_until (plan_at s leaving) s'.inner) × (destination ≡ destination_of leaving.header)
+      (leaving : PacketValue) × (leaving ≡ sourced s.inner p) × LeavesAs s m leaving sent until destination s'
 
   -- the packet leaves, and its socket is told what became of it
   abbrev pub SendsAs : PacketValue → Sender D → Item Socket → Bool → Turned → Sender D → Item Socket → Type 0

@@ -5,13 +5,14 @@ ghost use Rattle.ip_wire.specs.Ip.{destination_of};
 ghost use Rattle.interface_ingress.specs.Packet.{packet_value, payload_value, IsSendable};
 ghost use Rattle.interface_ingress.specs.Offer.TheVariants as Answer;
 ghost use Rattle.interface_ingress.specs.Offers.{HasPacket};
+ghost use Rattle.interface_ingress.specs.WellFormed.{IsWellFormed};
 ghost use Rattle.interface_ingress.specs.Sockets.{Offers, offered_by, IfSendable};
 ghost use Rattle.interface_egress.specs.Plan.{IsPacket, plan_of};
 ghost use Rattle.interface.specs.Host.{sender};
 ghost use Rattle.interface.specs.Remote.{context_for};
 ghost use Rattle.interface.specs.Turn.{is_known, is_heard, is_waiting, is_given_up, is_other, is_out_of_turn, held, waits_until, is_done, marked, settled_by};
-ghost use Rattle.interface.specs.Turn.{is_raw, with_source, sourced_header, sourced};
-ghost use Rattle.interface.specs.Turn.{turned_by, Leaves, HasLeft, Sends, Turns, PlaceTurns};
+ghost use Rattle.interface.specs.Turn.{is_raw, keeps_source, with_source, sourced_header, sourced};
+ghost use Rattle.interface.specs.Turn.{turned_by, Leaves, LeavesAs, HasLeft, Sends, Turns, PlaceTurns};
 ghost use Rattle.interface_egress.specs.Meta.{freed};
 
 use crate::remote::remote_of;
@@ -147,8 +148,32 @@ struct Left {
     destination: IpAddress,
 }
 
-/// Lets a packet leave from its source, if the device gives leave.
+/// Lets a packet leave from its source, if the device gives leave. One that keeps its source isn't copied.
 fn let_leave<D: Device>(
+    turn: Option<IpAddress>,
+    inner: &mut InterfaceInner,
+    fragmenter: &mut Fragmenter,
+    device: &mut D,
+    meta: &Meta,
+    packet: &Packet<'_>,
+) -> Left
+    requires sendable { IsSendable (packet_value packet.now) }
+    requires formed { IsWellFormed (packet_value packet.now) }
+    ensures left { HasLeft D.moves turn (sender device.old inner.old fragmenter.old) meta.now (packet_value packet.now)
+        result.sent result.until result.destination (sender device.new inner.new fragmenter.new) }
+    ensures capabilities { D.described device.new ≡ D.described device.old }
+{
+    if keeps_source(inner, packet) {
+        leave_as_is(turn, inner, fragmenter, device, meta, packet)
+    } else {
+        leave_sourced(turn, inner, fragmenter, device, meta, packet)
+    }
+}
+
+/// Lets a packet leave from the address that is chosen for its destination. It stands apart, so that its copy isn't made ready where
+/// none is needed.
+#[inline(never)]
+fn leave_sourced<D: Device>(
     turn: Option<IpAddress>,
     inner: &mut InterfaceInner,
     fragmenter: &mut Fragmenter,
@@ -163,16 +188,42 @@ fn let_leave<D: Device>(
 {
     let leaving = sourced(inner, packet);
     fields_have_widths(&leaving);
+    leave_as_is(turn, inner, fragmenter, device, meta, &leaving)
+}
+
+/// Lets a packet leave as it is.
+fn leave_as_is<D: Device>(
+    turn: Option<IpAddress>,
+    inner: &mut InterfaceInner,
+    fragmenter: &mut Fragmenter,
+    device: &mut D,
+    meta: &Meta,
+    leaving: &Packet<'_>,
+) -> Left
+    requires sendable { IsSendable (packet_value leaving.now) }
+    requires formed { IsWellFormed (packet_value leaving.now) }
+    ensures left { LeavesAs D.moves turn (sender device.old inner.old fragmenter.old) meta.now (packet_value leaving.now)
+        result.sent result.until result.destination (sender device.new inner.new fragmenter.new) }
+    ensures capabilities { D.described device.new ≡ D.described device.old }
+{
     let header = leaving.ip_repr();
     let destination = header.dst_addr();
     let plan = plan_for(inner, fragmenter.is_waiting(), &header);
     let held = held(turn, meta, inner, &destination, &plan);
-    let sent = send_packet(turn, inner, fragmenter, device, meta, &leaving, plan, held);
+    let sent = send_packet(turn, inner, fragmenter, device, meta, leaving, plan, held);
     Left {
         sent,
         until: waits_until(&plan, inner),
         destination,
     }
+}
+
+/// Whether the packet's source stays: a raw socket's does, and one that can be a source.
+fn keeps_source(inner: &InterfaceInner, packet: &Packet<'_>) -> bool
+    ensures { result ≡ keeps_source inner.now (packet_value packet.now) }
+{
+    let header = packet.ip_repr();
+    is_raw(packet.payload()) || inner.may_come_from(&header.src_addr(), &header.dst_addr())
 }
 
 /// The packet from the address that is chosen for its destination, where its own source can't be one.
@@ -189,11 +240,10 @@ fn sourced_header(inner: &InterfaceInner, packet: &Packet<'_>) -> IpRepr
     ensures { result ≡ sourced_header inner.now (packet_value packet.now) }
 {
     let header = packet.ip_repr();
-    let destination = header.dst_addr();
-    if is_raw(packet.payload()) || inner.may_come_from(&header.src_addr(), &destination) {
+    if keeps_source(inner, packet) {
         return header;
     }
-    with_source(&header, &inner.get_source_address(&destination))
+    with_source(&header, &inner.get_source_address(&header.dst_addr()))
 }
 
 /// Whether a raw socket wrote the packet's header.
