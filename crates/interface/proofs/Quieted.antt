@@ -41,13 +41,13 @@ module _ {D : Type 0} (moves : D → Move → D → Type 0) (t : ℤ) where
   -- THE WAY IN
 
   abbrev Looks : State D → State D → Type 0
-  Looks s s' = ((s'.device ≡ s.device) ⊎ moves s.device Empty s'.device) × (s' ≡ at_device s s'.device)
+  Looks s s' = ((s'.device ≡ s.device) ⊎ moves s.device (Empty t) s'.device) × (s' ≡ at_device s s'.device)
 
-  took_none : (s mid : State D) (b : Bool) → HasNoFrame moves s.device → Takes moves s (Some b) mid → ⊥
+  took_none : (s mid : State D) (b : Bool) → HasNoFrame moves s.host.inner.moment s.device → Takes moves s (Some b) mid → ⊥
   took_none s mid true none takes = none takes.0 takes.1 takes.2
   took_none s mid false none takes = none takes.0 mid.device takes.1
 
-  quiet_in : (n : ℕ) (s s' : State D) (c c' : Bool) → s.host ≡ maintained t s.host → HasNoFrame moves s.device → Repeats (IngressStep moves t) n s c s' c'
+  quiet_in : (n : ℕ) (s s' : State D) (c c' : Bool) → s.host ≡ maintained t s.host → HasNoFrame moves t s.device → Repeats (IngressStep moves t) n s c s' c'
       → Looks s s' × (c' ≡ c)
   quiet_in zero s s' c c' kept none steps =
       ((inl (ap (λ (x : State D). x.device) steps.0), steps.0 ∙ ap (at_device s) (sym (ap (λ (x : State D). x.device) steps.0))), steps.1)
@@ -91,7 +91,7 @@ module _ {D : Type 0} (moves : D → Move → D → Type 0) (t : ℤ) where
 
 pub quiet_poll : (due : DueAsBefore) {D : Type 0} (moves : D → Move → D →
     Type 0) (t : ℤ) (asked : InnerValue) (last : ℤ) (budget : ℕ) (s s' : State D) (changed : Bool)
-    → s.host.inner ≡ at_moment last asked → IsEarly asked s.host.left s.places t → HasNoFrame moves s.device → Polls moves t budget s changed s'
+    → s.host.inner ≡ at_moment last asked → IsEarly asked s.host.left s.places t → HasNoFrame moves t s.device → Polls moves t budget s changed s'
     → IsQuietPoll moves asked t s changed s'
 quiet_poll due {D} moves t asked last budget s s' changed is early none polls =
     let entry = quiet_in moves t budget (begun t s) polls.0 false polls.1 (sym (maintained_once t s.host)) none polls.2 in
@@ -101,7 +101,7 @@ quiet_poll due {D} moves t asked last budget s s' changed is early none polls =
     let exit = quiet_out moves t due asked t budget (state polls.0.device (maintained t s.host) s.places) s' polls.1 changed refl (ap (at_moment t) is)
     early steps in
     record {
-      device = subst (λ (d : D). (d ≡ s.device) ⊎ moves s.device Empty d) (sym (ap (λ (x : State D). x.device) exit.0)) entry.0.0;
+      device = subst (λ (d : D). (d ≡ s.device) ⊎ moves s.device (Empty t) d) (sym (ap (λ (x : State D). x.device) exit.0)) entry.0.0;
       changed_none = exit.2 ∙ entry.1;
       host = ap (λ (x : State D). x.host) exit.0;
       instant = exit.1;

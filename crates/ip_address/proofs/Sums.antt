@@ -110,25 +110,49 @@ carried a b kept false x y is over = omega (arith, over)
 folded-carried : (kept carry n : ℕ) → carry ≤ n → folded (256 * (kept + n) + 65535 * (256 * (carry * ((2 ^ 128 - 1) / 65535)))) ≡ folded (256 * (kept + n))
 folded-carried kept carry n le = folded-more (256 * (kept + n)) (256 * (carry * ((2 ^ 128 - 1) / 65535))) ((2 ^ 128 - 1) / 65535) (omega arith)
 
--- a step of the sum over the first sixteen bytes of the rest: what is kept of it and its carry
-pub low_first-step : (total carries x kept carry : ℕ) (front rest tail : List ℕ) (all : ℕ) → x ≡ from_le_bytes w128 front → kept + 2 ^ 128 * carry ≡ total + x →
-    front ≡ take 16 rest → tail ≡ drop 16 rest → length tail + 16 ≡ length rest
-    → folded (256 * (total + carries) + word_sum rest) ≡ all → folded (256 * (kept + (carries + carry)) + word_sum tail) ≡ all
-low_first-step total carries x kept carry front rest tail all is carried first last len before =
-    let joined : front ++ tail ≡ rest = rw (first, last) (take-append-drop 16 rest) in
-    let sixteen : length front ≡ 16 = let e : length (front ++ tail) ≡ length rest = ap length joined in omega (arith, length-append front tail) in
+-- no bytes add nothing
+word_sum-none : (bytes : List ℕ) → length bytes ≡ 0 → word_sum bytes ≡ 0
+word_sum-none [] len = refl
+word_sum-none (b ∷ bytes) len = absurd (omega arith)
+
+-- sixteen bytes added: what is kept of the sum and its carry
+pub low_first-added : (total carries x kept carry : ℕ) (front bytes tail : List ℕ) → x ≡ from_le_bytes w128 front → kept + 2 ^ 128 * carry ≡ total + x →
+    front ≡ take 16 bytes → tail ≡ drop 16 bytes → length tail + 16 ≡ length bytes → length bytes ≡ 16
+    → folded (256 * (kept + (carries + carry))) ≡ folded (256 * (total + carries) + word_sum bytes)
+low_first-added total carries x kept carry front bytes tail is carried first last left len =
+    let joined : front ++ tail ≡ bytes = rw (first, last) (take-append-drop 16 bytes) in
+    let sixteen : length front ≡ 16 = let e : length (front ++ tail) ≡ length bytes = ap length joined in omega (arith, length-append front tail) in
     let number : x ≡ low_first front = is ∙ from_le_bytes_16-low_first front sixteen in
-    let split : word_sum (front ++ tail) ≡ word_sum front + word_sum tail = word_sum-append front tail (rw sixteen refl) in
-    let sums : word_sum rest ≡ word_sum front + word_sum tail = sym (ap word_sum joined) ∙ split in
-    let more : 256 * (total + carries + x) ≡ 256 * (kept + (carries + carry)) + 65535 * (256 * (carry * ((2 ^ 128 - 1) / 65535))) = omega arith in
-    let one : folded (256 * (total + carries + x)) ≡ folded (256 * (kept + (carries + carry))) =
-    ap folded more ∙ folded-carried kept carry (carries + carry) (omega arith) in
-    let left : 256 * (total + carries + x) + word_sum tail ≡ 256 * low_first front + (256 * (total + carries) + word_sum tail) = omega arith in
-    let right : word_sum front + (256 * (total + carries) + word_sum tail) ≡ 256 * (total + carries) + word_sum rest = omega arith in
-    folded-alike (256 * (kept + (carries + carry))) (256 * (total + carries + x)) (word_sum tail) (sym one)
-    ∙ ap folded left
-    ∙ folded-alike (256 * low_first front) (word_sum front) (256 * (total + carries) + word_sum tail) (folded-low_first front)
-    ∙ ap folded right ∙ before
+    let split : word_sum bytes ≡ word_sum front + word_sum tail = sym (ap word_sum joined) ∙ word_sum-append front tail (rw sixteen refl) in
+    let none : word_sum tail ≡ 0 = word_sum-none tail (omega arith) in
+    let more : 256 * (kept + (carries + carry)) + 65535 * (256 * (carry * ((2 ^ 128 - 1) / 65535))) ≡ 256 * low_first front + 256 * (total + carries) = omega arith in
+    let right : word_sum front + 256 * (total + carries) ≡ 256 * (total + carries) + word_sum bytes = omega arith in
+    sym (folded-carried kept carry (carries + carry) (omega arith))
+    ∙ ap folded more
+    ∙ folded-alike (256 * low_first front) (word_sum front) (256 * (total + carries)) (folded-low_first front)
+    ∙ ap folded right
+
+-- a front of the bytes added, and then the rest of them
+pub low_first-parts : (before first second n : ℕ) (front bytes back : List ℕ) → folded (256 * first) ≡ folded (256 * before + word_sum front)
+    → folded (256 * second) ≡ folded (256 * first + word_sum back) → front ≡ take n bytes → back ≡ drop n bytes → length front % 2 ≡ 0
+    → folded (256 * second) ≡ folded (256 * before + word_sum bytes)
+low_first-parts before first second n front bytes back one other taken left even =
+    let joined : front ++ back ≡ bytes = rw (taken, left) (take-append-drop n bytes) in
+    let split : word_sum bytes ≡ word_sum front + word_sum back = sym (ap word_sum joined) ∙ word_sum-append front back even in
+    let right : 256 * before + word_sum front + word_sum back ≡ 256 * before + word_sum bytes = omega arith in
+    other ∙ folded-alike (256 * first) (256 * before + word_sum front) (word_sum back) one ∙ ap folded right
+
+-- a step of the sum over the first bytes of the rest
+pub low_first-block : (before after n : ℕ) (front rest tail : List ℕ) (all : ℕ) → folded (256 * after) ≡ folded (256 * before + word_sum front)
+    → front ≡ take n rest → tail ≡ drop n rest → length tail + n ≡ length rest → n % 2 ≡ 0
+    → folded (256 * before + word_sum rest) ≡ all → folded (256 * after + word_sum tail) ≡ all
+low_first-block before after n front rest tail all is first last len whole known =
+    let joined : front ++ tail ≡ rest = rw (first, last) (take-append-drop n rest) in
+    let counted : length front ≡ n = let e : length (front ++ tail) ≡ length rest = ap length joined in omega (arith, length-append front tail) in
+    let even : length front % 2 ≡ 0 = rw counted whole in
+    let split : word_sum rest ≡ word_sum front + word_sum tail = sym (ap word_sum joined) ∙ word_sum-append front tail even in
+    let right : 256 * before + word_sum front + word_sum tail ≡ 256 * before + word_sum rest = omega arith in
+    folded-alike (256 * after) (256 * before + word_sum front) (word_sum tail) is ∙ ap folded right ∙ known
 
 -- sums that fold alike do so 256 times over
 folded-times : (k a b : ℕ) → folded a ≡ folded b → folded (k * a) ≡ folded (k * b)

@@ -134,16 +134,58 @@ fn sum_low_first(bytes: &[u8]) -> u128
     let mut total: u128 = 0;
     let mut carries: u64 = 0;
     let mut rest = bytes;
-    while let Some((front, tail)) = rest.split_first_chunk::<16>() {
-        let (sum, carry) = total.overflowing_add(u128::from_le_bytes(*front));
-        total = sum;
-        carries += carry as u64;
+    while let Some((front, tail)) = rest.split_first_chunk::<64>() {
+        (total, carries) = add_block(total, carries, front);
+        rest = tail;
+    }
+    while let Some((part, tail)) = rest.split_first_chunk::<16>() {
+        (total, carries) = add_quarter(total, carries, part);
         rest = tail;
     }
     add_u128(total, carries as u128 + sum_of_end(rest))
 }
 
-/// The same for fewer than sixteen bytes.
+/// The sum and its carries with 64 bytes added. A step of the loop takes as many, since it isn't
+/// unrolled.
+fn add_block(total: u128, carries: u64, bytes: &[u8; 64]) -> (u128, u64)
+    requires { carries + 4 < 2 ^ 64 }
+    ensures sum { folded (256 * (result.0 + result.1)) ≡ folded (256 * (total + carries) + word_sum bytes.now) }
+    ensures room { result.1 ≤ carries + 4 }
+{
+    let (front, back) = bytes.split_at(32);
+    let (total, carries) = add_half(total, carries, front);
+    add_half(total, carries, back)
+}
+
+/// The same with 32 bytes.
+fn add_half(total: u128, carries: u64, bytes: &[u8]) -> (u128, u64)
+    requires half { length bytes.now ≡ 32 }
+    requires counted { carries + 2 < 2 ^ 64 }
+    ensures sum { folded (256 * (result.0 + result.1)) ≡ folded (256 * (total + carries) + word_sum bytes.now) }
+    ensures room { result.1 ≤ carries + 2 }
+{
+    let (front, back) = bytes.split_at(16);
+    let (total, carries) = add_quarter(total, carries, front);
+    add_quarter(total, carries, back)
+}
+
+/// The same with sixteen bytes.
+fn add_quarter(total: u128, carries: u64, bytes: &[u8]) -> (u128, u64)
+    requires quarter { length bytes.now ≡ 16 }
+    requires counted { carries + 1 < 2 ^ 64 }
+    ensures sum { folded (256 * (result.0 + result.1)) ≡ folded (256 * (total + carries) + word_sum bytes.now) }
+    ensures room { result.1 ≤ carries + 1 }
+{
+    match bytes.split_first_chunk::<16>() {
+        Some((front, _)) => {
+            let (sum, carry) = total.overflowing_add(u128::from_le_bytes(*front));
+            (sum, carries + carry as u64)
+        }
+        None => unreachable!(),
+    }
+}
+
+/// The sum of fewer than sixteen bytes.
 fn sum_of_end(bytes: &[u8]) -> u128
     requires { length bytes.now < 16 }
     ensures sum { folded (256 * result) ≡ folded (word_sum bytes.now) }

@@ -1,15 +1,23 @@
-use Rattle.std.proofs.Common.{arith}
-use Rattle.ip_address.proofs.Sums.{carried, from_bool-le, low_first-step, low_first-last}
+use Rattle.std.proofs.Common.{refl, arith}
+use Rattle.ip_address.proofs.Sums.{low_first-block, low_first-last}
 use Rattle.ip_address.proofs.checksum.sum_low_first.Goals as goal
 
 pub loop-front-preserved : goal.loop-front-preserved
 loop-front-preserved c = (
-  low_first-step _ _ _ _ _ _ c.loop-front.rest.now _ _ c.from_le_bytes.ensures
-      (carried _ _ _ _ (omega arith) (omega arith) c.overflowing_add-sum.ensures.value c.overflowing_add-sum.ensures.overflow)
-      c.in-Some.ensures.cases.0 c.in-Some.ensures.cases.1 c.in-Some.ensures.cases.2 c.loop-front.invariant.0,
-  let one = from_bool-le c.overflowing_add-sum.result.1 in omega (arith, c.in-Some.ensures.cases.2),
+  low_first-block _ _ 64 c.in-Some.front.now c.loop-front.rest.now _ _ c.add_block.ensures.sum c.in-Some.ensures.cases.0 c.in-Some.ensures.cases.1
+      c.in-Some.ensures.cases.2 refl c.loop-front.invariant.0,
+  omega (arith, c.in-Some.ensures.cases.2),
   omega arith,
 )
 
+pub loop-part-preserved : goal.loop-part-preserved
+loop-part-preserved c =
+    let some = c.in-Some-split_first_chunk in (
+      low_first-block _ _ 16 some.part.now c.loop-part.rest.now _ _ c.add_quarter.ensures.sum some.ensures.cases.0 some.ensures.cases.1
+          some.ensures.cases.2 refl c.loop-part.invariant.0,
+      omega (arith, some.ensures.cases.2),
+      omega arith,
+    )
+
 pub returns : goal.returns
-returns c = low_first-last _ _ _ _ c.loop-front.rest.now _ c.sum_of_end.ensures.sum c.add_u128.ensures c.loop-front.invariant.0
+returns c = low_first-last _ _ _ _ c.loop-part.rest.now _ c.sum_of_end.ensures.sum c.add_u128.ensures c.loop-part.invariant.0
