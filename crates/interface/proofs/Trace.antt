@@ -239,7 +239,7 @@ module _ {D : Type 0} (moves : D → Move → D → Type 0) (t : ℤ) (d0 : D) (
     so_leaves : (m : Meta) (p : PacketValue) (sent : Sent) → Leaves moves turn x m p sent x' → Next
     so_leaves m p sent (inl rests) = so_where x'.device x'.device x.inner x'.inner refl rests.2 (so_leave rests.0 x.device x'.device x.inner now rests.1 so)
     so_leaves m p sent (inr goes) =
-        so_out goes.0 x'.device x.inner x'.inner x.left x'.left p (is_some x.left) sent now goes.2 (so_leave true x.device goes.0 x.inner goes.1 so)
+        so_out goes.0 x'.device x.inner x'.inner x.left x'.left p (is_some x.left) sent now goes.2 (so_leave true x.device goes.0 x.inner now goes.1 so)
 
     so_sent : (o : Option PacketValue) (item item' : Item Socket) (changed : Bool) (turned : Turned) →
         SendsBy moves turn o x item changed turned x' item' → Next

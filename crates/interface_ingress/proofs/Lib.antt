@@ -11,6 +11,7 @@ pub mod Taught
 pub mod AtPlace
 pub mod Segments
 pub mod Answering
+pub mod OwnSources
 pub mod Given
 pub mod Sizes
 pub mod Kept
