@@ -11,7 +11,6 @@ pub mod Taught
 pub mod AtPlace
 pub mod Segments
 pub mod Answering
-pub mod OwnSources
 pub mod Given
 pub mod Sizes
 pub mod Kept

@@ -3,26 +3,20 @@ ghost use Rattle.std.specs.Prelude.{◌≡◌, ◌<◌, ℕ, Bool, false, true, 
 ghost use Rattle.icmpv4.specs.declared.message.Icmpv4DstUnreachable.{Icmpv4DstUnreachable};
 ghost use Rattle.icmpv4.specs.declared.header.Icmpv4Header.{Icmpv4Header};
 ghost use Rattle.icmpv6.specs.Icmpv6 as Icmpv6;
-ghost use Rattle.ip_wire.specs.AddressTests.{is_unicast_v6, is_loopback_v6};
-ghost use Rattle.ip_wire.specs.Ip.{source_of, destination_of};
-ghost use Rattle.ip_wire.specs.IpAddress.TheVariants as Address;
 ghost use Rattle.ip_wire.specs.IpRepr.{IpRepr};
-ghost use Rattle.ip_wire.specs.Ipv4Address.{Ipv4Address};
-ghost use Rattle.ip_wire.specs.Ipv6Address.{Ipv6Address};
 ghost use Rattle.ip_wire.specs.Ipv4Repr.{Ipv4Repr};
 ghost use Rattle.ip_wire.specs.Ipv6Repr.{Ipv6Repr};
 ghost use Rattle.ip_wire.specs.TcpHeader.{TcpHeader};
 ghost use Rattle.sockets.specs.Packet.{PacketValue};
-ghost use Rattle.sockets.specs.TcpSegments.{rst_reply};
 ghost use Rattle.sockets.specs.Socket.{accepts_segment};
-ghost use Rattle.interface_egress.specs.Inner.{InnerValue, is_own, is_for_us};
+ghost use Rattle.interface_egress.specs.Inner.{InnerValue};
 ghost use Rattle.interface_egress.specs.declared.socket_set.SocketStorage.{SocketStorage};
 ghost use Rattle.sockets.specs.declared.socket.Socket.{Socket};
 ghost use Rattle.interface_ingress.specs.Answering.{IsEchoV4, IsEchoV6, IsBetweenV4, IsBetweenV6, IsToldOf};
 ghost use Rattle.ipv6_headers.specs.declared.headers.Problem.{Problem};
 ghost use Rattle.interface_ingress.specs.Delivered.{Places, passes, first_place, is_connected, segment_place};
 ghost use Rattle.interface_ingress.specs.Handed.{names_nobody, segment_reply};
-ghost use Rattle.interface_ingress.specs.Replies.{echo_v4, echo_v6, error_v4, error_v6, parameter_problem, is_one_host, reply_v4, reply_v6};
+ghost use Rattle.interface_ingress.specs.Replies.{echo_v4, echo_v6, error_v4, error_v6, parameter_problem};
 
 /// Law: a control message that isn't one of neighbours is answered by an echo reply or not at all: no error answers an error. An
 /// echo reply has its request's data, identifier and number, and goes to who asked.
@@ -45,23 +39,6 @@ pub fn errors_are_between_hosts()
         → parameter_problem i header payload problem pointer ≡ Some p → IsToldOf problem header }
     ensures segment { (i : InnerValue) (places : Places) (ip : IpRepr) (taken : Bool) (header : TcpHeader) (bytes : List ℕ) (p : PacketValue)
         → segment_reply i places ip taken header bytes ≡ Some p → names_nobody i ip ≡ false }
-{}
-
-/// Law: what a host answers at once to a packet for one host leaves from an own address, the one to which the packet was sent. (`::1` is no
-/// own address as long as it isn't set, and a packet from or to it is then not taken in. An echo request for many is answered from an own address
-/// by the rules for sources.)
-pub fn answers_leave_from_own_addresses()
-    ensures ipv4 { (i : InnerValue) (header : Ipv4Repr) (message : Icmpv4Header) (bytes : List ℕ) (p : PacketValue)
-        → is_one_host i header.dst_addr ≡ true
-        → reply_v4 i header message bytes ≡ Some p → source_of p.header ≡ Address.Ipv4 header.dst_addr }
-    ensures ipv6 { (i : InnerValue) (header : Ipv6Repr) (message : Icmpv6.MessageValue) (bytes : List ℕ)
-        → is_unicast_v6 header.dst_addr ≡ true
-        → source_of (reply_v6 i header message bytes).header ≡ Address.Ipv6 header.dst_addr }
-    ensures reset { (ip : IpRepr) (header : TcpHeader) (size : ℕ) → source_of (rst_reply ip header size).header ≡ destination_of ip }
-    ensures own_v4 { (i : InnerValue) (a : Ipv4Address)
-        → is_for_us i (Address.Ipv4 a) ≡ true → is_one_host i a ≡ true → is_own i (Address.Ipv4 a) ≡ true }
-    ensures own_v6 { (i : InnerValue) (a : Ipv6Address)
-        → is_for_us i (Address.Ipv6 a) ≡ true → is_unicast_v6 a ≡ true → is_loopback_v6 a ≡ false → is_own i (Address.Ipv6 a) ≡ true }
 {}
 
 /// Law: a segment goes to a socket that accepts it, and where there is one that has its connection, to the first such.
