@@ -82,7 +82,7 @@ module _ (one_offer : OneOffer) {D : Type 0} (moves : D → Move → D → Type 
     takes = λ one other frame short a b. steady.clear here one other frame det a b;
   }
 
-  len_by : InnerValue → Option Departure → ℕ
+  abbrev len_by : InnerValue → Option Departure → ℕ
   len_by i None = 0
   len_by i (Some d) = frame_len_of i d
 

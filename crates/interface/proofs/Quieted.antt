@@ -2,7 +2,7 @@
 use Rattle.std.proofs.Common.{◌≡◌, ℕ, zero, suc, ℤ, Bool, true, false, ◌⊎◌, inl, inr, if◌then◌else◌, List, [], ◌∷◌, Option, Some, None, refl, sym, ap, ◌∙◌}
 use Rattle.std.proofs.Common.{subst}
 use Rattle.net_base.specs.Device.{Move, Empty}
-use Rattle.ip_wire.specs.Ipv4FragKey.{Ipv4FragKey}
+use Rattle.interface_tables.specs.declared.key.FragKey.{FragKey}
 use Rattle.interface_tables.specs.Inner.{InnerValue, at_moment}
 use Rattle.interface_tables.specs.Reassembly.{SlotValue, freed}
 use Rattle.interface_tables.specs.Slots.{is_expired, unless_expired, without_expired}
@@ -19,20 +19,20 @@ use Rattle.interface.specs.QuietPoll.{HasNoFrame, IsQuietPoll}
 
 -- SLOTS: those that were freed aren't freed again
 
-freed_once : (t : ℤ) (s : SlotValue Ipv4FragKey) → unless_expired t (unless_expired t s) ≡ unless_expired t s
+freed_once : (t : ℤ) (s : SlotValue FragKey) → unless_expired t (unless_expired t s) ≡ unless_expired t s
 freed_once t s = by (is_expired t s) refl where
   by : (test : Bool) → is_expired t s ≡ test → unless_expired t (if test then freed s else s) ≡ (if test then freed s else s)
   by true is = refl
   by false is = ap (λ (b : Bool). if b then freed s else s) is
 
-freed_all : (t : ℤ) (slots : List (SlotValue Ipv4FragKey)) → without_expired (without_expired slots t) t ≡ without_expired slots t
+freed_all : (t : ℤ) (slots : List (SlotValue FragKey)) → without_expired (without_expired slots t) t ≡ without_expired slots t
 freed_all t [] = refl
 freed_all t (s ∷ slots) =
-    ap (λ (x : SlotValue Ipv4FragKey). x ∷ without_expired (without_expired slots t) t) (freed_once t s) ∙
-    ap (λ (xs : List (SlotValue Ipv4FragKey)). unless_expired t s ∷ xs) (freed_all t slots)
+    ap (λ (x : SlotValue FragKey). x ∷ without_expired (without_expired slots t) t) (freed_once t s) ∙
+    ap (λ (xs : List (SlotValue FragKey)). unless_expired t s ∷ xs) (freed_all t slots)
 
 pub maintained_once : (t : ℤ) (h : HostValue) → maintained t (maintained t h) ≡ maintained t h
-maintained_once t h = ap (λ (slots : List (SlotValue Ipv4FragKey)). record (maintained t h) { slots = slots }) (freed_all t h.slots)
+maintained_once t h = ap (λ (slots : List (SlotValue FragKey)). record (maintained t h) { slots = slots }) (freed_all t h.slots)
 
 some_false : (b : Bool) → Some b ≡ if_changed false → ⊥
 some_false b is = cc

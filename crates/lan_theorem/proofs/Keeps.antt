@@ -3,11 +3,9 @@ use Rattle.std.proofs.Common.{◌≡◌, ◌⊎◌, inl, inr, ℕ, ◌+◌, ◌�
 use Rattle.lan_frames.specs.ChecksumCapabilities.{ChecksumCapabilities}
 use Rattle.lan_frames.specs.Device.{Took, Empty, Allowed}
 use Rattle.interface_delivery.specs.Ip as Ips
-use Rattle.interface_delivery.specs.Ip.{carried_in}
 use Rattle.interface_delivery.specs.IpRepr.{IpRepr}
 use Rattle.interface_delivery.specs.IpRepr.TheVariants as Ip
 use Rattle.sockets.specs.Packet.{PacketValue, PayloadValue, ControlV4, ControlV6, Bytes, Datagram, Segment, payload_written}
-use Rattle.interface_ingress.specs.Upper.{upper_header}
 use Rattle.interface_tables.specs.Inner.{InnerValue, at_moment}
 use Rattle.interface_tables.specs.Slots.{without_expired}
 use Rattle.interface_egress.specs.Departing.{HasSettingsOf, SendsOnce, departure_by, was_taken}
@@ -24,7 +22,6 @@ use Rattle.interface_ingress.specs.Delivered.{Places}
 use Rattle.interface_ingress.specs.Incoming.{IncomingValue, Arp, Ip4, Ip6, IsContent}
 use Rattle.interface_ingress.specs.Reassembled.{Slots, taken_in}
 use Rattle.interface_ingress.specs.Sent.{CanBeRead, normal_payload}
-use Rattle.interface_delivery.specs.Delivered.{NamesNoPorts}
 use Rattle.interface.specs.Polls.{begun}
 use Rattle.interface.specs.Turn.{is_done}
 use Rattle.interface_ingress.specs.ArpRepr.{ArpRepr}
@@ -37,7 +34,7 @@ use Rattle.tcp_tie.specs.Host.{made_of}
 use Rattle.lan_theorem.specs.Moves.Made as Moves
 use Rattle.lan_theorem.specs.Moves.Made.{Grows, MadeBy, IsMade, IsWide, FitsBehind, datagram_of}
 use Rattle.lan_theorem.specs.Link.Made as Links
-use Rattle.lan_theorem.specs.Link.Made.{sealed, IsGoing}
+use Rattle.lan_theorem.specs.Link.Made.{sealed, CarriesNone, IsGoing}
 use Rattle.lan_theorem.specs.Link.Frames.{medium_on}
 use Rattle.lan_theorem.specs.Link.Numbers.{IsTied}
 use Rattle.lan_theorem.proofs.Link.Begun.{tied_trans, tied_on}
@@ -70,7 +67,7 @@ taken_sent t d d' frame is = sym (ap (λ (p : PortValue). p.link.sent) is.1)
 
 -- what goes has the form that the link wants
 going_by : (p : Party) (h : IpRepr) (x : PayloadValue) → FitsBehind h x → MadeBy p x →
-    NamesNoPorts (carried_in (upper_header (Ips.normal h) (payload_written sealed h x))) ⊎ (CanBeRead h x × MadeBy p (normal_payload x))
+    CarriesNone (Ips.normal h) (payload_written sealed h x) ⊎ (CanBeRead h x × MadeBy p (normal_payload x))
 going_by p h (ControlV4 message bytes) fits made = inr (fits, tt)
 going_by p h (ControlV6 message bytes) fits made = inr (fits, tt)
 going_by p h (Bytes bytes) fits made = inl fits

@@ -1,6 +1,6 @@
 //! Tests of datagrams that are put together from pieces.
 use crate::cases::{Goes, Life, all_live, first_wrong};
-use interface_tables::{AssemblerError, PacketAssembler, PacketAssemblerSet};
+use interface_tables::{FragKey, AssemblerError, PacketAssembler, PacketAssemblerSet};
 use ip_wire::{IpProtocol, Ipv4Address, Ipv4FragKey};
 use net_base::Instant;
 use std::alloc::Global;
@@ -117,37 +117,39 @@ fn slots_live(rt: HostRuntime) {
 }
 
 /// A datagram from 10.0.0.1 to 10.0.0.2.
-const ONE: Ipv4FragKey = Ipv4FragKey {
+const FIRST: Ipv4FragKey = Ipv4FragKey {
     id: 1,
     src_addr: Ipv4Address([10, 0, 0, 1]),
     dst_addr: Ipv4Address([10, 0, 0, 2]),
     protocol: IpProtocol::Udp,
 };
 
-const ONE_OF_TCP: Ipv4FragKey = Ipv4FragKey {
+const ONE: FragKey = FragKey::Ipv4(FIRST);
+
+const ONE_OF_TCP: FragKey = FragKey::Ipv4(Ipv4FragKey {
     protocol: IpProtocol::Tcp,
-    ..ONE
-};
+    ..FIRST
+});
 
-const ZERO: Ipv4FragKey = Ipv4FragKey { id: 0, ..ONE };
+const ZERO: FragKey = FragKey::Ipv4(Ipv4FragKey { id: 0, ..FIRST });
 
-const TWO: Ipv4FragKey = Ipv4FragKey { id: 2, ..ONE };
+const TWO: FragKey = FragKey::Ipv4(Ipv4FragKey { id: 2, ..FIRST });
 
 /// A call of slots, and what it must answer. A moment is so many microseconds after the start.
 enum Call {
     /// At a moment the first two bytes of a datagram come: which slot has it.
-    Begins(Ipv4FragKey, u8, Option<usize>),
+    Begins(FragKey, u8, Option<usize>),
     /// At a moment bytes of a datagram come, from this place on, the last ones.
-    Ends(Ipv4FragKey, u8, &'static [u8], usize, Option<usize>),
+    Ends(FragKey, u8, &'static [u8], usize, Option<usize>),
     /// At a moment there is no slot for a datagram.
-    HasNone(Ipv4FragKey, u8),
+    HasNone(FragKey, u8),
     /// The datagram of a slot, if it is whole.
     Holds(usize, Option<&'static [u8]>),
     Frees(usize),
     /// A moment comes.
     Expires(u8),
     /// A datagram of no bytes is put together.
-    Assembles(Ipv4FragKey),
+    Assembles(FragKey),
 }
 
 use Call::{Assembles, Begins, Ends, Expires, Frees, HasNone, Holds};
@@ -187,7 +189,7 @@ fn changes<const N: usize>(set: &mut PacketAssemblerSet<N>, call: &Call) -> bool
 }
 
 /// Whether a datagram of no bytes is put together.
-fn assembles<const N: usize>(set: &mut PacketAssemblerSet<N>, key: &Ipv4FragKey) -> bool {
+fn assembles<const N: usize>(set: &mut PacketAssemblerSet<N>, key: &FragKey) -> bool {
     match set.get(key, Instant::ZERO) {
         Ok(slot) => {
             slot.assemble().is_none()
