@@ -87,9 +87,7 @@ module _ (one_offer : OneOffer) {D : Type 0} (moves : D → Move → D → Type 
   len_by i (Some d) = frame_len_of i d
 
   as_long : (i : InnerValue) (o : Option Departure) (d : Departure) → o ≡ Some d → frame_len_of i d ≤ len_by i o
-  as_long i o d is = subst (λ (x : Option Departure). frame_len_of i d ≤ len_by i x) (sym is) (itself (frame_len_of i d)) where
-    itself : (n : ℕ) → n ≤ n
-    itself n = omega arith
+  as_long i o d is = subst (λ (x : Option Departure). frame_len_of i d ≤ len_by i x) (sym is) (omega arith)
 
   det_of : (old new : D) (i : InnerValue) (d : Departure) (taken : Bool) → Departs moves old i d taken new → Det old → Det new
   det_of old new i d true goes det = steady.stays old new (Emitted (frame_of i d)) det goes.0
