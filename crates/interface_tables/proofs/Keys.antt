@@ -4,11 +4,9 @@ use Rattle.std.specs.Bool.{Decides}
 use Rattle.std.proofs.lemmas.Bool.Decides.{Decides-and, Decides-eqb}
 use Rattle.std.proofs.lemmas.Slice.Eq.{bytes_eq-Decides}
 use Rattle.ip_address.proofs.Keys.{Decides-key}
-use Rattle.ip_wire.specs.Ipv4FragKey.{Ipv4FragKey}
 use Rattle.interface_tables.specs.Slots.{IsTest}
 use Rattle.interface_tables.specs.contracts.key.FragKeyPartialEq.TheImpl as Key
 use Rattle.interface_tables.specs.contracts.key.Ipv6FragKeyPartialEq.TheImpl as Key6
-use Rattle.interface_tables.specs.declared.key.FragKey.{FragKey}
 use Rattle.interface_tables.specs.declared.key.FragKey.TheVariants as Keys
 use Rattle.interface_tables.specs.declared.key.Ipv6FragKey.{Ipv6FragKey}
 

@@ -1,5 +1,5 @@
 -- Slots, each of another datagram: a finite map from keys to what came, of as many keys as there are slots (RFC 815).
-use Rattle.std.specs.Prelude.{◌≡◌, ℕ, Bool, true, ◌&&◌, not, if◌then◌else◌, false, ℤ, int_lt, List, [], ◌∷◌, map, slice_set, replicate, find, position, Option, None}
+use Rattle.std.specs.Prelude.{◌≡◌, ℕ, Bool, true, ◌&&◌, not, if◌then◌else◌, false, ℤ, int_lt, List, map, slice_set, replicate, find, position, Option, None}
 use Rattle.std.specs.Prelude.{Some}
 use Rattle.std.specs.List.{AllPairs}
 use Rattle.interface_tables.specs.Best.{at_place}

@@ -281,14 +281,24 @@ fn fits(offset: usize, len: usize, size: usize) -> bool
 fn meets<const N: usize>(held: &Assembler<N>, start: usize, end: usize) -> bool
     ensures { result ≡ meets held.now start end }
 {
-    held.iter_data().any(|run| run.0 < end && start < run.1)
+    for (first, behind) in held.iter_data() {
+        if first < end && start < behind {
+            return true;
+        }
+    }
+    false
 }
 
 /// Whether all of these places are in one run.
 fn covers<const N: usize>(held: &Assembler<N>, start: usize, end: usize) -> bool
     ensures { result ≡ covers held.now start end }
 {
-    held.iter_data().any(|run| run.0 <= start && end <= run.1)
+    for (first, behind) in held.iter_data() {
+        if first <= start && end <= behind {
+            return true;
+        }
+    }
+    false
 }
 
 /// Whether these bytes stand there from the offset on.
@@ -299,7 +309,10 @@ fn repeats(bytes: &[u8], offset: usize, front: &[u8], piece: &[u8]) -> bool
     let (_, rest) = bytes.split_at(offset);
     let (there, _) = rest.split_at(front.len() + piece.len());
     let (begin, end) = there.split_at(front.len());
-    begin == front && end == piece
+    if begin != front {
+        return false;
+    }
+    end == piece
 }
 
 /// Writes a piece that lies in two parts over the bytes from the offset on.

@@ -4,7 +4,7 @@ ghost use Rattle.interface_tables.specs.Best.{at_place};
 ghost use Rattle.std.specs.Option.{ForSome, option_copied};
 ghost use Rattle.interface_tables.specs.Reassembly.{placed, freed, is_free, is_key, is_of, place_for};
 ghost use Rattle.interface_tables.specs.Slots.{free_slots, opened, with_slot_for, changed_at, completed_at, is_expired, unless_expired, without_expired};
-ghost use Rattle.interface_tables.specs.Slots.{with_piece_of, overlaps_datagram, without_datagram};
+ghost use Rattle.interface_tables.specs.Slots.{with_piece_of, slot_of, overlaps_datagram, without_datagram};
 
 use crate::fragmentation::{AssemblerFullError, PacketAssembler};
 use crate::key::FragKey;
@@ -102,7 +102,7 @@ impl<const N: usize> PacketAssemblerSet<N> {
         requires { offset + length (front.now ++ piece.now) ≤ REASSEMBLY_SIZE }
         ensures { result ≡ overlaps_datagram ⟦<FragKey as PartialEq>⟧.eq self.now key.now (front.now ++ piece.now) offset }
     {
-        match self.assemblers.iter().find(|slot| slot.is_of(key)) {
+        match slot_of(self.assemblers.as_slice(), key) {
             Some(slot) => slot.overlaps(front, piece, offset),
             None => false,
         }
@@ -177,6 +177,13 @@ fn place_of(slots: &[Slot], key: &FragKey) -> Option<usize>
     ensures in_range { ForSome result (λ at. at < length slots.now) }
 {
     slots.iter().position(|slot| slot.is_of(key))
+}
+
+/// The slot of this datagram.
+fn slot_of<'a>(slots: &'a [Slot], key: &FragKey) -> Option<&'a Slot>
+    ensures { option_copied result ≡ slot_of ⟦<FragKey as PartialEq>⟧.eq slots.now key.now }
+{
+    slots.iter().find(|slot| slot.is_of(key))
 }
 
 /// Where the first free slot is.

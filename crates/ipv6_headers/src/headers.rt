@@ -20,6 +20,9 @@ const PAYLOAD_LENGTH_AT: usize = 4;
 /// The most that the payload length field can say.
 const LONGEST_PAYLOAD: usize = 65_535;
 
+/// Where a fragment header has its offset field.
+const OFFSET_AT: usize = 2;
+
 /// The length of a fragment header, and the unit in which the others say theirs.
 pub(crate) const UNIT: usize = 8;
 
@@ -230,7 +233,7 @@ fn piece_step(at: usize, rest: &[u8]) -> Step
     if at + piece_offset(rest) + (rest.len() - UNIT) > LONGEST_PAYLOAD {
         return Step::Stops(Behind::Problem {
             problem: Problem::Field,
-            pointer: HEADER_LEN + at + 2,
+            pointer: HEADER_LEN + at + OFFSET_AT,
         });
     }
     Step::Stops(Behind::Piece { at })

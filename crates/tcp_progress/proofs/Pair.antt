@@ -237,6 +237,7 @@ module _ (side : Side) (s r : PairSide) (moment : ℤ) where
       pub next : MovesOn r.socket.block.receiver.next partner_after.socket.block.receiver.next
       pub una : asked_side.socket.block.sender.una ≡ s.socket.block.sender.una
       pub left : left_of asked_side.socket ≡ left_of s.socket
+      pub state : asked_side.socket.block.state ≡ s.socket.block.state
 
     pub record Tells : Type 0 where
       pub one : length partner_after.sent - length r.sent ≡ 1
@@ -261,6 +262,7 @@ module _ (side : Side) (s r : PairSide) (moment : ℤ) where
           left =
               left_same s.socket asked_side.socket
               (record { state = out.sent.state; syn_unacked = out.sent.syn_unacked; queued = out.sent_queued });
+          state = out.sent.state;
         })
     by_moves (inr (inl told)) =
         inr
@@ -300,6 +302,7 @@ pub record HasTaken (p new : PairValue) (side : Side) : Type 0 where
   pub una : (socket_of new side).block.sender.una ≡ (socket_of p side).block.sender.una
   pub next : (socket_of new (other side)).block.receiver.next ≡ behind_by (socket_of p (other side)).block.receiver.next more
   pub left : left_in new side ≡ left_in p side
+  pub state : (socket_of new side).block.state ≡ (socket_of p side).block.state
 
 pub record HasTold (p new : PairValue) (side : Side) : Type 0 where
   pub all : (socket_of new side).block.sender.una ≡ (socket_of new (other side)).block.receiver.next
@@ -330,7 +333,7 @@ pair_moved p A moment o k step sent heard mirrored may =
       moves = inl x.next;
       less =
           subst (λ (n : ℕ). HasLess p (comes n B (next_sent p B) (offered_in p A moment)) A) (sym x.none)
-          (inl (record { more = x.next.by; some = x.next.some; few = x.next.few; una = x.una; next = x.next.moved; left = x.left }));
+          (inl (record { more = x.next.by; some = x.next.some; few = x.next.few; una = x.una; next = x.next.moved; left = x.left; state = x.state }));
     }
     by (inr (inl x)) = record {
       moves =
@@ -360,7 +363,7 @@ pair_moved p B moment o k step sent heard mirrored may =
       moves = inl x.next;
       less =
           subst (λ (n : ℕ). HasLess p (comes n A (next_sent p A) (offered_in p B moment)) B) (sym x.none)
-          (inl (record { more = x.next.by; some = x.next.some; few = x.next.few; una = x.una; next = x.next.moved; left = x.left }));
+          (inl (record { more = x.next.by; some = x.next.some; few = x.next.few; una = x.una; next = x.next.moved; left = x.left; state = x.state }));
     }
     by (inr (inl x)) = record {
       moves =
