@@ -1,7 +1,6 @@
 -- What the link hands over was made.
 pub mod Rebuilt
 pub mod Asked
-pub mod Keys
 pub mod Whole6
 pub mod Behind
 pub mod Hands

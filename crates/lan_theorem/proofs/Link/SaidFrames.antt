@@ -3,7 +3,7 @@ use Rattle.std.proofs.Common.{◌≡◌, ◌⊎◌, inl, inr, ℕ, zero, suc, �
 use Rattle.std.proofs.Common.{Some, None, refl, sym, ◌∙◌, ap, subst, append_assoc, append-nil, arith}
 use Rattle.std.specs.Prelude.{slice_get}
 use Rattle.std.specs.List.{AllByRecursion}
-use Rattle.std.proofs.lemmas.List.{drop_at, length-drop}
+use Rattle.std.proofs.lemmas.List.{drop_at}
 use Rattle.lan_frames.specs.Medium.{Medium}
 use Rattle.lan_frames.specs.Medium.TheVariants as Medium
 use Rattle.lan_frames.specs.Capabilities.{frame_header}
@@ -36,7 +36,7 @@ use Rattle.lan_theorem.proofs.Link.Behind.{with_len, packet_of_slice, piece_of_s
 use Rattle.lan_theorem.proofs.Link.HostFrames.{whole6_uncut}
 use Rattle.lan_theorem.proofs.Link.Hands.{whole_sent}
 use Rattle.lan_theorem.proofs.Link.Noise.{noise_names_neither}
-use Rattle.lan_theorem.proofs.Link.SlotFacts.{PieceSo, ContentSo}
+use Rattle.lan_theorem.proofs.Link.SlotFacts.{ContentSo}
 use Rattle.lan_theorem.proofs.Link.Whole6.{known_whole}
 
 -- BYTES OF A SLICE

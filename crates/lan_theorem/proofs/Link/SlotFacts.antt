@@ -1,7 +1,7 @@
 -- A slot holds of a datagram what the pieces that came said of it, and nothing else.
-use Rattle.std.proofs.Common.{◌≡◌, ◌⊎◌, inl, inr, ℕ, zero, suc, ◌+◌, ◌-◌, ◌<◌, ◌≤◌, ◌^◌, Bool, true, false, cond, List, [], ◌∷◌, ◌++◌, length, take, drop}
+use Rattle.std.proofs.Common.{◌≡◌, ◌⊎◌, inl, inr, ℕ, zero, suc, ◌+◌, ◌-◌, ◌<◌, ◌≤◌, ◌^◌, Bool, true, false, cond, List, [], ◌∷◌, length, take, drop}
 use Rattle.std.proofs.Common.{Option, Some, None, refl, sym, ◌∙◌, ap, subst, append_assoc, arith}
-use Rattle.std.specs.Prelude.{ℤ, slice_get, nat_le, nat_lt, is_some, position, ◌&&◌}
+use Rattle.std.specs.Prelude.{ℤ, slice_get, nat_le, nat_lt, is_some, position}
 use Rattle.std.specs.List.{AllByRecursion}
 use Rattle.std.proofs.lemmas.List.{length-take-le}
 use Rattle.std.proofs.lemmas.Bool.Decides.{nat_tests}
@@ -23,7 +23,7 @@ use Rattle.interface_tables.specs.declared.key.FragKey.{FragKey}
 use Rattle.interface_tables.specs.declared.key.FragKey.TheVariants as Keys
 use Rattle.interface_tables.specs.Reassembly.{SlotValue, freed, taken, placed, overwritten, marked, completed, with_piece, with_total, takes_total, is_complete}
 use Rattle.interface_tables.specs.Reassembly.{ends_at, is_free, is_of, place_for}
-use Rattle.interface_tables.specs.Slots.{changed, changed_at, completed_in, opened, is_expired, unless_expired, without_expired}
+use Rattle.interface_tables.specs.Slots.{changed_at, completed_in, opened, is_expired, unless_expired, without_expired}
 use Rattle.interface_tables.specs.Slots.{without_datagram}
 use Rattle.interface_tables.proofs.Apart.{placed-key, opened-key}
 use Rattle.interface_ingress.specs.Arrives.{slots_after, whole_after}
@@ -32,7 +32,7 @@ use Rattle.interface_ingress.specs.Reassembled.{Slots, PieceValue, is_piece, is_
 use Rattle.interface_ingress.specs.Reassembled.{place_in, with_part, with_piece as with_part_in, kept, bytes_at, rebuilt, released, uncut}
 use Rattle.interface_delivery.specs.Delivered.{NamesNoPorts}
 use Rattle.lan_theorem.specs.Said.{Fact, ByteAt, EndsAt, IsOf, Says}
-use Rattle.lan_theorem.proofs.Link.Keys.{key_test}
+use Rattle.interface_tables.proofs.Keys.{key_test}
 use Rattle.lan_theorem.proofs.Link.Slots.{all_at, all_map, changed_keeps, changed_there}
 use Rattle.lan_theorem.proofs.Link.Whole6.{kept_whole}
 

@@ -25,7 +25,7 @@ use Rattle.lan_theorem.specs.Link.Made.{HandsMade, BringsMade, bytes_of}
 use Rattle.lan_theorem.specs.Link.Frames.{IsSentV4, IsPieceOf, IsFrom, AreOut}
 use Rattle.lan_theorem.specs.Link.Numbers.{AreNumbered, AreFew}
 use Rattle.lan_theorem.specs.Link.Held.{HoldsSent, IsOfKey, IsSlotOf, AreSlotsOf}
-use Rattle.lan_theorem.proofs.Link.Keys.{key_test}
+use Rattle.interface_tables.proofs.Keys.{key_test}
 use Rattle.lan_theorem.proofs.Link.Rebuilt.{IsRebuiltOf}
 use Rattle.lan_theorem.proofs.Link.Hands.{hands_none, hands_v4}
 use Rattle.lan_theorem.proofs.Link.Numbers.{one_number}
