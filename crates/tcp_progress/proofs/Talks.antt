@@ -1,36 +1,32 @@
 -- What a turn asks for follows from the beginning, but for what MaySpeak has.
-use Rattle.std.proofs.Common.{◌≡◌, ◌⊎◌, inl, inr, ℕ, zero, suc, ◌+◌, ◌*◌, ◌^◌, ◌<◌, ◌≤◌, ◌-◌, ◌==◌, ◌&&◌, not, ℤ, pos, ◌+ℤ◌, ◌≤ℤ◌, int_le, int_lt}
-use Rattle.std.proofs.Common.{Bool, true, false, if◌then◌else◌, List, [], length, Option, Some, None, Result, Ok, Err, is_some, slice_get, refl, sym, ap, ◌∙◌, subst, arith}
+use Rattle.std.proofs.Common.{◌≡◌, ◌⊎◌, inl, inr, ℕ, zero, suc, ◌+◌, ◌*◌, ◌^◌, ◌≤◌, ◌-◌, ◌==◌, ◌&&◌, not, ℤ, pos, ◌+ℤ◌, ◌≤ℤ◌, int_le, int_lt}
+use Rattle.std.proofs.Common.{Bool, true, false, length, Option, Some, None, Result, Ok, Err, is_some, slice_get, refl, sym, ap, ◌∙◌, subst, arith}
 use Rattle.std.proofs.lemmas.Bool.{cond_both, eqb-true}
 use Rattle.std.proofs.lemmas.Int.{ints}
 use Rattle.net_base.specs.Time.{last_moment}
 use Rattle.ip_wire.specs.TcpTimestampRepr.{TcpTimestampRepr}
 use Rattle.tcp_rules.specs.Moments.{is_due}
-use Rattle.tcp_rules.specs.OpenOffer.{OpenOffer}
 use Rattle.tcp_rules.specs.RecvError.{RecvError}
-use Rattle.tcp_rules.specs.Reply.{Reply}
-use Rattle.tcp_rules.specs.States.{is_closed}
 use Rattle.tcp_rules.proofs.OrderSteps.{clash}
 use Rattle.tcp_pair_model.specs.Arrival.{arrives}
 use Rattle.tcp_pair_model.specs.Calls.{recv_answer}
 use Rattle.tcp_pair_model.specs.Names.{accepts}
-use Rattle.tcp_pair_model.specs.Rules.{resends}
 use Rattle.tcp_pair_model.specs.Sides.{at, other}
 use Rattle.tcp_pair_model.specs.Steps.{handed, if_so, may_come, reads, refusal, taken_at}
 use Rattle.tcp_pair_model.specs.Timestamps.{comes_older}
 use Rattle.tcp_pair_model.specs.Value.{TcpValue, free_in, room_of}
 use Rattle.tcp_pair_model.specs.Values.{PairSide, PairValue, context_at, past_at}
-use Rattle.tcp_pair_model.specs.declared.event.PairEvent.TheVariants.{Deliver, Offer, Recv}
+use Rattle.tcp_pair_model.specs.declared.event.PairEvent.TheVariants.{Deliver, Offer}
 use Rattle.tcp_pair_model.specs.declared.event.PairRefused.TheVariants.{Moment}
 use Rattle.tcp_pair_model.specs.declared.event.SentSegment.{SentSegment}
 use Rattle.tcp_pair_model.specs.declared.event.Side.{Side}
 use Rattle.tcp_pair_model.specs.declared.event.Side.TheVariants.{A, B}
 use Rattle.tcp_progress.specs.Arrivals.{is_synchronized}
-use Rattle.tcp_progress.specs.BothWays.{MayRounds, MayTurn, bound, round_in, rounds_in, turn_in}
+use Rattle.tcp_progress.specs.BothWays.{MayRounds, MayTurn, turn_in}
 use Rattle.tcp_progress.specs.Exchange.{IsOpen, left_of, offer_comes, text_of}
 use Rattle.tcp_progress.specs.Pair.{HasStream, OneListened, context_of, exchanged_in, left_in, next_sent, offered_in, socket_of}
 use Rattle.tcp_progress.specs.Reached.{IsReached}
-use Rattle.tcp_progress.specs.Restart.{HasRunOut, IsIdle, MayGoOn}
+use Rattle.tcp_progress.specs.Restart.{HasRunOut, IsIdle}
 use Rattle.tcp_progress.specs.Rounds.{comes, later_of, takes}
 use Rattle.tcp_progress.specs.Sent.{is_early}
 use Rattle.tcp_progress.specs.Settle.{MayRound, read_in, restart_by, restart_in, resumed_in}
@@ -40,9 +36,9 @@ use Rattle.tcp_progress.proofs.Opened.{is_open}
 use Rattle.tcp_progress.proofs.PairTimers.{restart_soon}
 use Rattle.tcp_progress.proofs.Ready.{ready_side}
 use Rattle.tcp_progress.proofs.Settles.{empty_after, read_reached, some_left}
-use Rattle.tcp_progress.proofs.Stampless.{stamp_in, stampless}
+use Rattle.tcp_progress.proofs.Stampless.{stampless}
 use Rattle.tcp_progress.proofs.WindowPairs.{near_in}
-use Rattle.tcp_progress.proofs.Ways.{BothCalm, IsLate, SideCalm, Turned, done_round, late_after, late_on, nothing_turns, of_side, on_late, read_calm, stream_still, turned}
+use Rattle.tcp_progress.proofs.Ways.{BothCalm, IsLate, done_round, late_after, late_on, nothing_turns, of_side, on_late, read_calm, stream_still, turned}
 
 -- WHAT STAYS
 
@@ -174,7 +170,8 @@ offer_clock p B moment = (refl, refl)
 
 exchange_clock : (p : PairValue) (side : Side) (moment : ℤ) (of : Side) → clock (exchanged_in p side moment) of ≡ clock (takes p (Offer side moment true)) of
 exchange_clock p side moment of =
-    all_clock (next_sent (offered_in p side moment) (other side) - next_sent p (other side)) (other side) (next_sent p (other side)) (offered_in p side moment) of
+    all_clock (next_sent (offered_in p side moment) (other side) - next_sent p (other side)) (other side) (next_sent p (other side))
+    (offered_in p side moment) of
     ∙ come_clock (takes p (Offer side moment true)) side (next_sent p side) of
 
 read_moment : (s : PairSide) (r : Result ℕ RecvError) → (reads s r).side.moment ≡ s.moment
