@@ -292,11 +292,11 @@ of_side p q B c = c.b
 -- WHAT IS TAKEN
 
 -- what isn't acknowledged and what was taken, together, are what the partner has past SND.UNA, and all that was written
-record Balance (p : PairValue) (side : Side) : Type 0 where
-  sum : left_in p side + taken_in p (other side) ≡ had_in p side + total_in p side
-  within : had_in p side ≤ left_in p side
+pub record Balance (p : PairValue) (side : Side) : Type 0 where
+  pub sum : left_in p side + taken_in p (other side) ≡ had_in p side + total_in p side
+  pub within : had_in p side ≤ left_in p side
 
-balance :
+pub balance :
     (p : PairValue) (side : Side) → IsReached p → HasStream (past_at p side) → is_synchronized (socket_of p side).block.state ≡ true
     → is_synchronized (socket_of p (other side)).block.state ≡ true → Balance p side
 balance p side r stream mine theirs = record {
@@ -607,10 +607,10 @@ done_rounds : (n : ℕ) (p : PairValue) → IsDone p → rounds_in n p ≡ p
 done_rounds zero p d = refl
 done_rounds (suc n) p d = ap (λ (x : PairValue). rounds_in n x) (done_round p d) ∙ done_rounds n p d
 
-record Ended (p q : PairValue) : Type 0 where
-  reached : IsReached q
-  calm : BothCalm p q
-  done : IsDone q
+pub record Ended (p q : PairValue) : Type 0 where
+  pub reached : IsReached q
+  pub calm : BothCalm p q
+  pub done : IsDone q
 
 ended_here : (n : ℕ) (p q : PairValue) → IsReached q → BothCalm p q → IsDone q → Ended p (rounds_in n q)
 ended_here n p q r c d = subst (λ (x : PairValue). Ended p x) (sym (done_rounds n q d)) (record { reached = r; calm = c; done = d })
@@ -652,10 +652,10 @@ gets (suc n) p r m e = from_round n p r m e (λ reached more few. gets n (round_
 -- THE LAW
 
 module _ (p : PairValue) (r : IsReached p) (m : MayRounds (suc (bound p)) p) where
-  abbrev last : PairValue
+  abbrev pub last : PairValue
   last = rounds_in (bound p) p
 
-  ends : Ended p last
+  pub ends : Ended p last
   ends = gets (bound p) p r m (same _)
 
   pub leads : IsReached last

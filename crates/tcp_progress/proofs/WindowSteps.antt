@@ -1,13 +1,11 @@
 -- What each event of a socket leaves of the windows: what it announces fits its buffer, and what it sent fits the partner's.
-use Rattle.std.proofs.Common.{◌≡◌, ◌⊎◌, inl, inr, ℕ, zero, suc, ◌+◌, ◌-◌, ◌*◌, ◌/◌, ◌^◌, ◌<◌, ◌≤◌, ◌==◌, ◌&&◌, ◌||◌, nat_lt, not, min, max, ℤ, Bool}
+use Rattle.std.proofs.Common.{◌≡◌, ◌⊎◌, inl, inr, ℕ, ◌+◌, ◌-◌, ◌*◌, ◌^◌, ◌<◌, ◌≤◌, ◌==◌, ◌&&◌, ◌||◌, nat_lt, not, min, max, ℤ, Bool}
 use Rattle.std.proofs.Common.{true, false, if◌then◌else◌, List, ◌++◌, length, drop, Option, Some, None, is_some, refl, sym, ap, ◌∙◌, subst, arith}
 use Rattle.std.proofs.Common.{length-append, length-drop}
 use Rattle.std.proofs.lemmas.Bool.{cond_both, eqb-true, ltb-true}
-use Rattle.std.proofs.lemmas.Nat.{pow_pos}
 use Rattle.tcp_law.specs.ReceiveMap.{space, front, behind}
 use Rattle.ip_wire.specs.Control.{control_len}
 use Rattle.ip_wire.specs.IpRepr.{IpRepr}
-use Rattle.ip_wire.specs.Options.{capped}
 use Rattle.ip_wire.specs.Seq.{distance_of}
 use Rattle.ip_wire.specs.SeqNumber.{SeqNumber}
 use Rattle.ip_wire.specs.Tcp.{header_len}
@@ -33,7 +31,7 @@ use Rattle.tcp_rules.specs.State.{State}
 use Rattle.tcp_rules.specs.State.TheVariants as In
 use Rattle.tcp_rules.specs.States.{is_closed, is_answering, sends_syn, sends_text, takes_text, keeps_alive, owes_fin, after_ack, after_ack_of_fin, after_fin}
 use Rattle.tcp_rules.proofs.ArrivalCases.{by_arrival, Received, Opening, Content, Drawing, acked_open, heeded, timed}
-use Rattle.tcp_rules.proofs.EdgeSteps.{front_behind, own_distance, told_near}
+use Rattle.tcp_rules.proofs.EdgeSteps.{front_behind, own_distance}
 use Rattle.tcp_rules.proofs.OfferCases.{FirstRules, LastRules, by_rules, begun, probing}
 use Rattle.tcp_rules.proofs.OrderRules.{control_least}
 use Rattle.tcp_rules.proofs.OrderSteps.{clash, distance_at_most}
@@ -43,7 +41,7 @@ use Rattle.tcp_pair_model.specs.Answers.{acked, drawn, may_draw, with_draw}
 use Rattle.tcp_pair_model.specs.Arrival.{arrives, arrives_in, challenges_reset, checked, draws_first, echo_heard, inside, is_void_syn, outside}
 use Rattle.tcp_pair_model.specs.Arrival.{passed_outside, received, reset_comes, taken, takes_reset, tells_news, waiting_anew}
 use Rattle.tcp_pair_model.specs.Block.{Block}
-use Rattle.tcp_pair_model.specs.Blocks.{announced, is_worth_telling, one_if, own_scale, own_shift, scale_for, shift_of, unacked, window_field}
+use Rattle.tcp_pair_model.specs.Blocks.{one_if, own_scale, unacked}
 use Rattle.tcp_pair_model.specs.Calls.{listening}
 use Rattle.tcp_pair_model.specs.Checks.{Check, acknowledgement_check, falls_back, is_in_window, opening_check, synchronized_check, taken_down}
 use Rattle.tcp_pair_model.specs.Checks.Check.{Passes, Resets}
