@@ -449,16 +449,27 @@ impl Socket {
         self.block.restart_timeout(now, self.queued.len());
     }
 
+    /// The echo of a segment is taken that makes SND.UNA rise by so much. A loss that it says was none is
+    /// undone first.
+    fn hear_echo(&mut self, header: &TcpHeader, by: u32, now: Instant)
+        requires unoffered { self.old.offered ≡ None }
+        requires moment { IsMoment now }
+        ensures { self.new ≡ echo_heard self.old header.now by now }
+    {
+        let queued = self.queued.len();
+        self.block.undo_loss(header, by, queued, now);
+        self.block.take_echo(header, by, now);
+    }
+
     /// The echo of a segment is taken, SND.UNA rises by so much, and what is acknowledged is freed.
     fn acknowledge(&mut self, header: &TcpHeader, by: u32, now: Instant)
         requires unoffered { self.old.offered ≡ None }
         requires moment { IsMoment now }
         ensures { self.new ≡ acknowledged (echo_heard self.old header.now by now) by now }
     {
+        self.hear_echo(header, by, now);
         let queued = self.queued.len();
         let freed = self.block.freed_by(by, queued);
-        self.block.undo_loss(header, by, queued, now);
-        self.block.take_echo(header, by, now);
         self.block.acknowledge(by, queued, now);
         self.queued.dequeue_allocated(freed);
     }
