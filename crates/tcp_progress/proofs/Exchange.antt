@@ -466,7 +466,7 @@ module _ (cx cy cz : ContextValue) (v w : TcpValue) (p q : Past) (k : Keeps v p 
 
       by : IsNew w o.segment (length bytes) ⊎ IsAgain w o.segment (length bytes) → HasMoved cx cy cz v w o
       by (inl new) = inl (is_taken (next_rises cy w o.header o.segment bytes v.block.receiver.next counts new))
-      by (inr again) = answered again (again_answered cy w o.header o.segment bytes v.block.receiver.next counts again may.draws)
+      by (inr again) = answered again (again_answered cy w o.header o.segment bytes v.block.receiver.next counts again)
 
 pub goes_on :
     (cx cy cz : ContextValue) (v w : TcpValue) (p q : Past) (k : Keeps v p w q) (o : OpenOffer) → IsInStep k.side k.partner → TookWhatWasSent v w

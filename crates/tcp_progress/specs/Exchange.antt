@@ -9,7 +9,6 @@ use Rattle.tcp_rules.specs.Offsets.{behind_by}
 use Rattle.tcp_rules.specs.OpenOffer.{OpenOffer}
 use Rattle.tcp_rules.specs.Reply.{Reply}
 use Rattle.tcp_rules.specs.Timing.{carries}
-use Rattle.tcp_pair_model.specs.Answers.{may_draw}
 use Rattle.tcp_pair_model.specs.Arrival.{arrives}
 use Rattle.tcp_pair_model.specs.Block.{Block}
 use Rattle.tcp_pair_model.specs.Blocks.{top, unacked}
@@ -69,9 +68,7 @@ pub record MayExchange (cx cy : ContextValue) (v partner : TcpValue) (o : OpenOf
   -- the partner has room for a byte, and what it took since lies within a buffer, a SYN and a FIN
   pub room : 1 ≤ free_in partner
   pub near : distance_of v.block.sender.una partner.block.receiver.next ≤ room_of partner.received + 2
-  -- it may answer: its last drawn answer lies a second back
-  pub draws : may_draw cy.moment partner.block.timers.draws_from ≡ true
-  -- and the answer lies inside the window
+  -- the answer lies inside the window
   pub space : HasSpace v partner
   -- neither segment has a timestamp that is older than TS.Recent
   pub fresh : comes_older o.segment.options.timestamp partner.block.peer.recent ≡ false

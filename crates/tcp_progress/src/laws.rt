@@ -68,11 +68,10 @@ pub fn text_in_order_raises_rcv_nxt()
         → Counts v.block header number → IsNew v header (length bytes) → Rises cx v header (length bytes) (arrives cx v ip header bytes) }
 {}
 
-/// A segment that was taken already is answered at once with RCV.NXT, past all that was ever sent, unless the last answer was drawn within
-/// the second before; or its acknowledgement ends LAST-ACK.
+/// A segment that was taken already is answered at once with RCV.NXT, past all that was ever sent; or its acknowledgement ends LAST-ACK.
 pub fn old_text_is_answered()
     ensures answered { (cx : ContextValue) (v : TcpValue) (ip : IpRepr) (header : TcpHeader) (bytes : List ℕ) (number : SeqNumber)
-        → Counts v.block header number → IsAgain v header (length bytes) → may_draw cx.moment v.block.timers.draws_from ≡ true
+        → Counts v.block header number → IsAgain v header (length bytes)
         → EndsLastAck v (arrives cx v ip header bytes) ⊎ IsAnswered v (arrives cx v ip header bytes) }
 {}
 

@@ -25,6 +25,7 @@ use Rattle.tcp_model.specs.Arrival.{arrives}
 use Rattle.tcp_model.specs.Calls.{listening, connected_by, pair_for, sent_more}
 use Rattle.tcp_model.specs.FirstNumbers.{number_for}
 use Rattle.tcp_model.specs.Timestamps.{stamp_taken, echo_taken}
+use Rattle.tcp_model.specs.Undo.{undo_sent}
 use Rattle.tcp_model.specs.LossRecovery.{with_board, probe_from, probes_losses, probe_armed, run_within, run_of}
 use Rattle.tcp_model.specs.LossRecovery.{range_noted, all_noted, heard_more, ranges_noted}
 use Rattle.tcp_model.specs.LossRecovery.{loss_lowered, loss_acked, loss_probed}
@@ -192,7 +193,7 @@ module _ (cx : ContextValue) (ip : IpRepr) (header : TcpHeader) (bytes : List �
   }
 
   right_drawing : (x : TcpValue) → IsKnownRight (known_of x.block) → Drawing cx ip header bytes Right x
-  right_drawing x k = record { answers = λ _. k; pauses = k }
+  right_drawing x k = record { answers = λ _. k; at_once = k; pauses = k }
 
   acked_right : (b : Block) (by queued : ℕ) (state : State) → IsKnownRight (known_of b) → is_listening state ≡ false
       → IsKnownRight (record {
@@ -218,7 +219,7 @@ module _ (cx : ContextValue) (ip : IpRepr) (header : TcpHeader) (bytes : List �
     draws = right_drawing u k;
     falls = λ _ _ _. record { within = within_nothing 0 16; listens = λ _. refl };
     ends = λ _ _ _. right _ k.within refl;
-    closes = λ by _ _. acked_right (echo_taken u.block header by cx.moment) by (queued_in u) In.Closed (echoed by) refl;
+    closes = λ by _ _. acked_right (timed cx.moment header u by).block by (queued_in u) In.Closed (echoed by) refl;
     taken = λ by _ _.
         right_content _
         (heeded_right u by (stamp_taken (acked_open (timed cx.moment header u by) by cx.moment).block header cx.moment) refl (within_now by) past);
@@ -228,20 +229,20 @@ module _ (cx : ContextValue) (ip : IpRepr) (header : TcpHeader) (bytes : List �
         past);
     news = λ by _ _.
         right_drawing _
-        (acked_right (echo_taken u.block header by cx.moment) by (queued_in u) (state_after_ack u.block by (queued_in u)) (echoed by) (state_past u by past));
+        (acked_right (timed cx.moment header u by).block by (queued_in u) (state_after_ack u.block by (queued_in u)) (echoed by) (state_past u by past));
     outside = right_drawing _ k;
     old = λ _. right_content _ k;
   }
     where
       -- a round trip by an echo changes nothing of it
-      echoed : (by : ℕ) → IsKnownRight (known_of (echo_taken u.block header by cx.moment))
+      echoed : (by : ℕ) → IsKnownRight (known_of (timed cx.moment header u by).block)
       echoed by = k
 
       within_now : (by : ℕ) → AreWithin (u.block.sender.top - by)
-          (loss_acked (una_risen (echo_taken u.block header by cx.moment) by (queued_in u) cx.moment) by
-          (is_partial (echo_taken u.block header by cx.moment) by) cx.moment).board.runs
+          (loss_acked (una_risen (timed cx.moment header u by).block by (queued_in u) cx.moment) by
+          (is_partial (timed cx.moment header u by).block by) cx.moment).board.runs
       within_now by =
-          within_acked (echo_taken u.block header by cx.moment) by (queued_in u) (is_partial (echo_taken u.block header by cx.moment) by) cx.moment k.within
+          within_acked (timed cx.moment header u by).block by (queued_in u) (is_partial (timed cx.moment header u by).block by) cx.moment k.within
 
   right_opening : (u : TcpValue) → IsKnownRight (known_of u.block) → Opening cx ip header bytes Right u
   right_opening u k = record {
@@ -285,13 +286,17 @@ went_right b l c end now same not k =
 abbrev moved : Block → OpenOffer → ℕ → Block
 moved b o queued = timer_started (nxt_moved b (end_of b o) queued o.moment) o.moment
 
+-- what goes again is known by its moment
+abbrev marked : Block → OpenOffer → Loss
+marked c o = record c.loss { undo = undo_sent c c.loss.undo o.moment }
+
 sent_right : (kind : OfferKind) (b : Block) (o : OpenOffer) (queued : ℕ) → is_listening b.state ≡ false → IsKnownRight (known_of b) →
     IsKnownRight (known_of (sent_as kind b o queued))
 sent_right Kind.Reset b o queued not k = right _ k.within refl
-sent_right Kind.Syn b o queued not k = went_right b b.loss (moved (syn_went b o) o queued) (end_of b o) o.moment refl not k
+sent_right Kind.Syn b o queued not k = went_right b (marked (moved (syn_went b o) o queued) o) (moved (syn_went b o) o queued) (end_of b o) o.moment refl not k
 sent_right Kind.FastRetransmission b o queued not k =
-    went_right b (resent b (end_of b o)).loss (moved (resent b (end_of b o)) o queued) (end_of b o) o.moment refl not k
-sent_right Kind.Text b o queued not k = went_right b b.loss (moved b o queued) (end_of b o) o.moment refl not k
+    let c = moved (resent b (end_of b o)) o queued in went_right b (marked c o) c (end_of b o) o.moment refl not k
+sent_right Kind.Text b o queued not k = went_right b (marked (moved b o queued) o) (moved b o queued) (end_of b o) o.moment refl not k
 sent_right Kind.Probe b o queued not k =
     asked_right (probed b (end_of b o) o.moment) o.moment
     (right _ (within_more b.sender.top (max b.sender.top (end_of b o)) b.loss.board.runs (at_most b.sender.top (end_of b o)) k.within) not)
@@ -418,10 +423,10 @@ asked_probe b now =
 
 pub probed_once : (kind : OfferKind) (b : Block) (o : OpenOffer) (queued : ℕ) → b.loss.probed ≡ true
     → (sent_as kind b o queued).loss.probe_at ≡ b.loss.probe_at
-probed_once Kind.Syn b o queued e = armed_not (moved (syn_went b o) o queued) b.loss o.moment e
+probed_once Kind.Syn b o queued e = armed_not (moved (syn_went b o) o queued) (marked (moved (syn_went b o) o queued) o) o.moment e
 probed_once Kind.FastRetransmission b o queued e =
-    armed_not (moved (resent b (end_of b o)) o queued) (resent b (end_of b o)).loss o.moment e
-probed_once Kind.Text b o queued e = armed_not (moved b o queued) b.loss o.moment e
+    let c = moved (resent b (end_of b o)) o queued in armed_not c (marked c o) o.moment e
+probed_once Kind.Text b o queued e = armed_not (moved b o queued) (marked (moved b o queued) o) o.moment e
 probed_once Kind.Probe b o queued e = asked_probe (probed b (end_of b o) o.moment) o.moment
 probed_once Kind.KeepAlive b o queued e = asked_probe b o.moment
 probed_once other b o queued e = refl

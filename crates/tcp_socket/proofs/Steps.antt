@@ -195,7 +195,8 @@ old_leads cx b b1 b2 r q o v now ip header bytes answer socket is window heard_i
     in
     let second : Leads (checked Old cx (value_of b r q o) ip header bytes) answer socket =
     so_leads (is_in_window b (length r.map) header (length bytes)) (with_content cx (value_of (stamp_taken (heard b) header cx.moment) r q o) ip header bytes)
-    (outside cx (value_of b r q o) ip header) answer socket window first
+    (outside cx (value_of b r q o) ip header (comes_again (value_of b r q o) header (length bytes))) answer socket window
+    first
     in
     subst (λ (x : TcpValue). Leads (checked Old cx x ip header bytes) answer socket) is second
 

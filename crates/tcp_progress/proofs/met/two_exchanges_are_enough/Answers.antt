@@ -29,7 +29,6 @@ returns-clause-one c = (
           some = leb-true _ _ refl;
           room = leb-true _ _ refl;
           near = leb-true _ _ refl;
-          draws = refl;
           space = inl refl;
           fresh = refl;
           answer_fresh = stampless _ _ refl;
