@@ -1,5 +1,5 @@
 -- What an arrival and an offer leave of a connection: no more isn't acknowledged, and no less was taken.
-use Rattle.std.proofs.Common.{◌≡◌, ◌⊎◌, inl, inr, ℕ, ◌+◌, ◌-◌, ◌≤◌, ◌==◌, ◌&&◌, not, ℤ, Bool, true, false, if◌then◌else◌, List, [], ◌++◌, length, drop}
+use Rattle.std.proofs.Common.{◌≡◌, ℕ, ◌+◌, ◌-◌, ◌≤◌, ◌==◌, ◌&&◌, ℤ, Bool, true, false, if◌then◌else◌, List, ◌++◌, length, drop}
 use Rattle.std.proofs.Common.{Option, Some, None, refl, sym, ap, ◌∙◌, subst, arith, length-append, length-drop}
 use Rattle.std.proofs.lemmas.Bool.{cond_both}
 use Rattle.ip_wire.specs.IpRepr.{IpRepr}
@@ -10,7 +10,6 @@ use Rattle.tcp_tie.specs.Context.{ContextValue}
 use Rattle.tcp_tie.specs.Offers.{Offered}
 use Rattle.tcp_rules.specs.EndpointPair.{EndpointPair}
 use Rattle.tcp_rules.specs.Endpoints.{header_for}
-use Rattle.tcp_rules.specs.Events.{is_past}
 use Rattle.tcp_rules.specs.Moments.{is_over, timeout_from}
 use Rattle.tcp_rules.specs.OfferKind.{OfferKind}
 use Rattle.tcp_rules.specs.OfferKind.TheVariants as Kind
@@ -26,11 +25,11 @@ use Rattle.tcp_pair_model.specs.Arrival.{arrives, waiting_anew}
 use Rattle.tcp_pair_model.specs.Block.{Block}
 use Rattle.tcp_pair_model.specs.Blocks.{one_if}
 use Rattle.tcp_pair_model.specs.LossRecovery.{loss_probed}
-use Rattle.tcp_pair_model.specs.Offers.{number_at, offer_choice, offer_of, offer_segment}
+use Rattle.tcp_pair_model.specs.Offers.{number_at, offer_of}
 use Rattle.tcp_pair_model.specs.Retries.{asked, heard, one_more}
-use Rattle.tcp_pair_model.specs.Rules.{Choice, backed_off_now, control_for, probe_choice, resend_choice, text_choice}
-use Rattle.tcp_pair_model.specs.Segments.{ack_segment, hops_of, keep_alive_segment, reset_segment, segment, stamp_by, stamp_of, syn_segment}
-use Rattle.tcp_pair_model.specs.Settled.{end_of, probed, recorded, sent_as, settled}
+use Rattle.tcp_pair_model.specs.Rules.{backed_off_now, control_for, probe_choice}
+use Rattle.tcp_pair_model.specs.Segments.{hops_of, keep_alive_segment, segment, stamp_by, stamp_of}
+use Rattle.tcp_pair_model.specs.Settled.{end_of, probed, recorded, settled}
 use Rattle.tcp_pair_model.specs.Timestamps.{stamp_taken}
 use Rattle.tcp_pair_model.specs.Value.{TcpValue, Arrived, with_block, unoffered, free_in, queued_in, room_of, window_of}
 use Rattle.tcp_progress.specs.Sent.{is_early}
@@ -81,7 +80,9 @@ pub then_calm : (x y z : Load) → IsCalm x y → IsCalm y z → IsCalm x z
 then_calm x y z c d = record {
   early = λ e. d.early (c.early e);
   closed = λ e. d.closed (c.closed e);
-  left = upto (z.syn + z.queued + one_if (owes_fin z.state)) (y.syn + y.queued + one_if (owes_fin y.state)) (x.syn + x.queued + one_if (owes_fin x.state)) d.left c.left;
+  left =
+      upto (z.syn + z.queued + one_if (owes_fin z.state)) (y.syn + y.queued + one_if (owes_fin y.state))
+      (x.syn + x.queued + one_if (owes_fin x.state)) d.left c.left;
   came = upto (x.waiting + one_if x.took_fin) (y.waiting + one_if y.took_fin) (z.waiting + one_if z.took_fin) c.came d.came;
   syn = upto z.syn y.syn x.syn d.syn c.syn;
   room = d.room ∙ c.room;
@@ -388,7 +389,8 @@ module _ (cx : ContextValue) (v : TcpValue) (late : is_early v.block.state ≡ f
     len = len;
   }
 
-  calm_first : (pair : EndpointPair) (b : Block) → IsCalm (load_of v) (load_of (with_block (unoffered v) b)) → FirstRules cx pair Calm (with_block (unoffered v) b)
+  calm_first : (pair : EndpointPair) (b : Block) → IsCalm (load_of v) (load_of (with_block (unoffered v) b)) →
+      FirstRules cx pair Calm (with_block (unoffered v) b)
   calm_first pair b c = record {
     syn = λ _. c;
     again = λ _ _. c;

@@ -30,6 +30,8 @@ pub mod OfItself
 pub mod Settles
 pub mod Timers
 pub mod PairTimers
+pub mod Short
+pub mod Fields
 pub mod WindowSteps
 pub mod WindowPairs
 pub mod Calm

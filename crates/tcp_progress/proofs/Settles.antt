@@ -13,7 +13,7 @@ use Rattle.tcp_pair_model.specs.Block.{Block}
 use Rattle.tcp_pair_model.specs.Blocks.{one_if}
 use Rattle.tcp_pair_model.specs.Calls.{nothing_left, or_count, recv_answer}
 use Rattle.tcp_pair_model.specs.Safe.{IsStreamSafe, read, taken_in, written}
-use Rattle.tcp_pair_model.specs.Sides.{at, other}
+use Rattle.tcp_pair_model.specs.Sides.{other}
 use Rattle.tcp_pair_model.specs.Steps.{reads}
 use Rattle.tcp_pair_model.specs.Value.{queued_in}
 use Rattle.tcp_pair_model.specs.Values.{PairSide, PairValue}

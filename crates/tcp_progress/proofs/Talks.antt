@@ -1,47 +1,47 @@
 -- What a turn asks for follows from the beginning, but for what MaySpeak has.
-use Rattle.std.proofs.Common.{◌≡◌, ◌⊎◌, inl, inr, ℕ, zero, suc, ◌+◌, ◌*◌, ◌^◌, ◌<◌, ◌≤◌, ◌-◌, ◌==◌, ◌&&◌, not, ℤ, pos, ◌+ℤ◌, ◌≤ℤ◌, int_le, int_lt}
-use Rattle.std.proofs.Common.{Bool, true, false, if◌then◌else◌, List, [], length, Option, Some, None, Result, Ok, Err, is_some, slice_get, refl, sym, ap, ◌∙◌, subst, arith}
+use Rattle.std.proofs.Common.{◌≡◌, ◌⊎◌, inl, inr, ℕ, zero, suc, ◌+◌, ◌*◌, ◌^◌, ◌≤◌, ◌-◌, ◌==◌, ◌&&◌, not, ℤ, pos, ◌+ℤ◌, ◌≤ℤ◌, int_le, int_lt}
+use Rattle.std.proofs.Common.{Bool, true, false, List, ◌++◌, length, length-append, Option, Some, None, Result, Ok, Err, is_some, slice_get, refl, sym, ap, ◌∙◌, subst, arith}
 use Rattle.std.proofs.lemmas.Bool.{cond_both, eqb-true}
 use Rattle.std.proofs.lemmas.Int.{ints}
 use Rattle.net_base.specs.Time.{last_moment}
 use Rattle.ip_wire.specs.TcpTimestampRepr.{TcpTimestampRepr}
 use Rattle.tcp_rules.specs.Moments.{is_due}
-use Rattle.tcp_rules.specs.OpenOffer.{OpenOffer}
 use Rattle.tcp_rules.specs.RecvError.{RecvError}
-use Rattle.tcp_rules.specs.Reply.{Reply}
-use Rattle.tcp_rules.specs.States.{is_closed}
 use Rattle.tcp_rules.proofs.OrderSteps.{clash}
 use Rattle.tcp_pair_model.specs.Arrival.{arrives}
 use Rattle.tcp_pair_model.specs.Calls.{recv_answer}
+use Rattle.tcp_pair_model.specs.Blocks.{one_if}
 use Rattle.tcp_pair_model.specs.Names.{accepts}
-use Rattle.tcp_pair_model.specs.Rules.{resends}
+use Rattle.tcp_pair_model.specs.Safe.{taken_in as taken_list, written}
 use Rattle.tcp_pair_model.specs.Sides.{at, other}
 use Rattle.tcp_pair_model.specs.Steps.{handed, if_so, may_come, reads, refusal, taken_at}
 use Rattle.tcp_pair_model.specs.Timestamps.{comes_older}
 use Rattle.tcp_pair_model.specs.Value.{TcpValue, free_in, room_of}
 use Rattle.tcp_pair_model.specs.Values.{PairSide, PairValue, context_at, past_at}
-use Rattle.tcp_pair_model.specs.declared.event.PairEvent.TheVariants.{Deliver, Offer, Recv}
+use Rattle.tcp_pair_model.specs.declared.event.PairEvent.TheVariants.{Deliver, Offer}
 use Rattle.tcp_pair_model.specs.declared.event.PairRefused.TheVariants.{Moment}
 use Rattle.tcp_pair_model.specs.declared.event.SentSegment.{SentSegment}
 use Rattle.tcp_pair_model.specs.declared.event.Side.{Side}
 use Rattle.tcp_pair_model.specs.declared.event.Side.TheVariants.{A, B}
 use Rattle.tcp_progress.specs.Arrivals.{is_synchronized}
-use Rattle.tcp_progress.specs.BothWays.{MayRounds, MayTurn, bound, round_in, rounds_in, turn_in}
+use Rattle.tcp_progress.specs.BothWays.{MayRounds, MayTurn, bound, rounds_in, turn_in}
 use Rattle.tcp_progress.specs.Exchange.{IsOpen, left_of, offer_comes, text_of}
 use Rattle.tcp_progress.specs.Pair.{HasStream, OneListened, context_of, exchanged_in, left_in, next_sent, offered_in, socket_of}
 use Rattle.tcp_progress.specs.Reached.{IsReached}
-use Rattle.tcp_progress.specs.Restart.{HasRunOut, IsIdle, MayGoOn}
+use Rattle.tcp_progress.specs.Restart.{HasRunOut, IsIdle}
 use Rattle.tcp_progress.specs.Rounds.{comes, later_of, takes}
 use Rattle.tcp_progress.specs.Sent.{is_early}
 use Rattle.tcp_progress.specs.Settle.{MayRound, read_in, restart_by, restart_in, resumed_in}
 use Rattle.tcp_progress.specs.Talking.{AreTalking, HasMinutes, MaySpeak, MayTalk, SpeaksIn}
 use Rattle.tcp_progress.proofs.Calm.{answer_bare, no_stamp}
 use Rattle.tcp_progress.proofs.Opened.{is_open}
+use Rattle.tcp_progress.proofs.Pair.{had_in}
 use Rattle.tcp_progress.proofs.PairTimers.{restart_soon}
 use Rattle.tcp_progress.proofs.Ready.{ready_side}
-use Rattle.tcp_progress.proofs.Settles.{empty_after, read_reached, some_left}
-use Rattle.tcp_progress.proofs.Stampless.{stamp_in, stampless}
-use Rattle.tcp_progress.proofs.Ways.{BothCalm, IsLate, SideCalm, Turned, done_round, late_after, late_on, nothing_turns, of_side, on_late, read_calm, stream_still, turned}
+use Rattle.tcp_progress.proofs.Settles.{empty_after, read_reached, safe_side, some_left}
+use Rattle.tcp_progress.proofs.Stampless.{stampless}
+use Rattle.tcp_progress.proofs.Ways.{Balance, BothCalm, Ended, IsLate, balance, done_round, ends, late_after, late_on, nothing_turns, of_side, on_late, read_calm}
+use Rattle.tcp_progress.proofs.Ways.{stream_still, through, turned}
 
 -- WHAT STAYS
 
@@ -173,7 +173,8 @@ offer_clock p B moment = (refl, refl)
 
 exchange_clock : (p : PairValue) (side : Side) (moment : ℤ) (of : Side) → clock (exchanged_in p side moment) of ≡ clock (takes p (Offer side moment true)) of
 exchange_clock p side moment of =
-    all_clock (next_sent (offered_in p side moment) (other side) - next_sent p (other side)) (other side) (next_sent p (other side)) (offered_in p side moment) of
+    all_clock (next_sent (offered_in p side moment) (other side) - next_sent p (other side)) (other side) (next_sent p (other side))
+    (offered_in p side moment) of
     ∙ come_clock (takes p (Offer side moment true)) side (next_sent p side) of
 
 read_moment : (s : PairSide) (r : Result ℕ RecvError) → (reads s r).side.moment ≡ s.moment
@@ -370,3 +371,50 @@ done_talks (suc n) p a b =
   where
     nothing : {X : Type 0} (m : ℕ) → m ≡ 0 → 1 ≤ m → X
     nothing m e f = absurd (omega arith)
+
+-- THE END OF A STREAM
+
+text_first :
+    (left text fin had written closed : ℕ) → left + (text + fin) ≡ had + (written + closed) → had ≤ left → left ≡ 0 → text ≤ written → closed ≡ 1 → 1 ≤ fin
+text_first left text fin had written closed a b c d e = omega arith
+
+-- what was taken begins what was written
+taken_least : (p : PairValue) (side : Side) → IsReached p → length (taken_list p (other side)) ≤ length (written p side)
+taken_least p side r = let safe = safe_side p side r in shorter safe.prefix.0 safe.prefix.1 where
+  less : (a b c : ℕ) → a ≡ b + c → b ≤ a
+  less a b c e = omega arith
+
+  shorter : (rest : List ℕ) → taken_list p (other side) ++ rest ≡ written p side → length (taken_list p (other side)) ≤ length (written p side)
+  shorter rest e =
+      less (length (written p side)) (length (taken_list p (other side))) (length rest) (sym (ap length e) ∙ length-append (taken_list p (other side)) rest)
+
+some_taken : (t : Bool) → 1 ≤ one_if t → t ≡ true
+some_taken true e = refl
+some_taken false e = absurd (omega arith)
+
+pub fin_taken :
+    (p : PairValue) (r : IsReached p) (s : AreTalking (suc (bound p)) p) (talk : MayTalk (suc (bound p)) p) (side : Side)
+    → is_synchronized (socket_of (rounds_in (bound p) p) side).block.state ≡ true
+    → is_synchronized (socket_of (rounds_in (bound p) p) (other side)).block.state ≡ true → (past_at p side).closed ≡ true
+    → (socket_of (rounds_in (bound p) p) (other side)).block.receiver.took_fin ≡ true
+fin_taken p r s talk side mine theirs closed =
+    some_taken (socket_of q (other side)).block.receiver.took_fin
+    (text_first (left_in q side) (length (taken_list q (other side))) (one_if (socket_of q (other side)).block.receiver.took_fin) (had_in q side)
+    (length (written q side)) (one_if (past_at q side).closed) b.sum b.within (through p r m side) (taken_least q side it.reached)
+    (ap one_if ((of_side p q side it.calm).ended ∙ closed)))
+  where
+    q : PairValue
+    q = rounds_in (bound p) p
+
+    m : MayRounds (suc (bound p)) p
+    m = talks (suc (bound p)) p r s talk
+
+    it : Ended p q
+    it = ends p r m
+
+    stream : (side : Side) → HasStream (past_at p side)
+    stream A = s.a.stream
+    stream B = s.b.stream
+
+    b : Balance q side
+    b = balance q side it.reached (stream_still p q side it.calm (stream side)) mine theirs

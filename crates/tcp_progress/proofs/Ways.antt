@@ -1,12 +1,12 @@
 -- Both ways of a connection get through: a side's turn brings its own way on, and leaves the other where it is or further.
-use Rattle.std.proofs.Common.{◌≡◌, ◌⊎◌, inl, inr, ℕ, zero, suc, ◌+◌, ◌-◌, ◌*◌, ◌^◌, ◌<◌, ◌≤◌, ◌==◌, min, ℤ, Bool, true, false, if◌then◌else◌}
-use Rattle.std.proofs.Common.{List, [], ◌∷◌, ◌++◌, length, take, drop, Option, Some, None, Result, Ok, Err, slice_get, refl, sym, ap, ◌∙◌, subst, arith}
+use Rattle.std.proofs.Common.{◌≡◌, ◌⊎◌, inl, inr, ℕ, zero, suc, ◌+◌, ◌-◌, ◌^◌, ◌<◌, ◌≤◌, ◌==◌, min, ℤ, Bool, true, false, if◌then◌else◌}
+use Rattle.std.proofs.Common.{List, ◌++◌, length, take, drop, Option, Some, None, Result, Ok, Err, slice_get, refl, sym, ap, ◌∙◌, subst, arith}
 use Rattle.std.proofs.Common.{length-append, length-take, length-drop}
 use Rattle.std.proofs.lemmas.Bool.{cond_both, eqb-true, eq-eqb}
 use Rattle.ip_wire.specs.Seq.{distance_of}
 use Rattle.ip_wire.specs.SeqNumber.{SeqNumber}
 use Rattle.tcp_law.specs.Invariant.{IsInStep}
-use Rattle.tcp_law.specs.Side.{Side as Half, taken_in as bytes_in, rcv_next, send_end, one_if as one_in}
+use Rattle.tcp_law.specs.Side.{taken_in as bytes_in, one_if as one_in}
 use Rattle.tcp_tie.specs.Tie.{Past, Keeps, core_of}
 use Rattle.tcp_tie.proofs.PromiseLemmas.{Shows, shows}
 use Rattle.tcp_rules.specs.OpenOffer.{OpenOffer}
@@ -29,7 +29,7 @@ use Rattle.tcp_pair_model.specs.Value.{TcpValue, queued_in, room_of}
 use Rattle.tcp_pair_model.specs.Values.{PairSide, PairValue, context_at, past_at}
 use Rattle.tcp_pair_model.specs.declared.event.PairAnswer.{PairAnswer}
 use Rattle.tcp_pair_model.specs.declared.event.PairAnswer.TheVariants.{Done, Count, Bytes, Error}
-use Rattle.tcp_pair_model.specs.declared.event.PairEvent.TheVariants.{Deliver, Offer, Recv}
+use Rattle.tcp_pair_model.specs.declared.event.PairEvent.TheVariants.{Deliver, Offer}
 use Rattle.tcp_pair_model.specs.declared.event.SentSegment.{SentSegment}
 use Rattle.tcp_pair_model.specs.declared.event.Side.{Side}
 use Rattle.tcp_pair_model.specs.declared.event.Side.TheVariants.{A, B}
@@ -47,7 +47,7 @@ use Rattle.tcp_progress.proofs.OfItself.{leads_of_itself, may_exchange, sends_in
 use Rattle.tcp_progress.proofs.Pair.{HasLess, HasSome, HasTaken, HasTold, below_quarter, further, had_in, has_some, in_step, reached_moved, still_open}
 use Rattle.tcp_progress.proofs.Positions.{IsPlaced, lies_within, placed, same_one}
 use Rattle.tcp_progress.proofs.WindowPairs.{read_room}
-use Rattle.tcp_progress.proofs.Settles.{read_all, read_had, read_left, read_partner, read_reached, some_left}
+use Rattle.tcp_progress.proofs.Settles.{read_all, read_partner, read_reached, some_left}
 
 -- WHAT A TURN LEAVES
 
@@ -292,11 +292,11 @@ of_side p q B c = c.b
 -- WHAT IS TAKEN
 
 -- what isn't acknowledged and what was taken, together, are what the partner has past SND.UNA, and all that was written
-record Balance (p : PairValue) (side : Side) : Type 0 where
-  sum : left_in p side + taken_in p (other side) ≡ had_in p side + total_in p side
-  within : had_in p side ≤ left_in p side
+pub record Balance (p : PairValue) (side : Side) : Type 0 where
+  pub sum : left_in p side + taken_in p (other side) ≡ had_in p side + total_in p side
+  pub within : had_in p side ≤ left_in p side
 
-balance :
+pub balance :
     (p : PairValue) (side : Side) → IsReached p → HasStream (past_at p side) → is_synchronized (socket_of p side).block.state ≡ true
     → is_synchronized (socket_of p (other side)).block.state ≡ true → Balance p side
 balance p side r stream mine theirs = record {
@@ -384,7 +384,8 @@ pub stream_still : (p q : PairValue) (side : Side) → BothCalm p q → HasStrea
 stream_still p q side c (inl unclosed) = inl ((of_side p q side c).ended ∙ unclosed)
 stream_still p q side c (inr wrote) = inr (subst (λ (xs : List ℕ). 1 ≤ length xs) (sym (of_side p q side c).written) wrote)
 
-pub late_of : (p : PairValue) (side : Side) → is_early (socket_of p side).block.state ≡ false → is_early (socket_of p (other side)).block.state ≡ false → IsLate p
+pub late_of : (p : PairValue) (side : Side) → is_early (socket_of p side).block.state ≡ false →
+    is_early (socket_of p (other side)).block.state ≡ false → IsLate p
 late_of p A mine theirs = (mine, theirs)
 late_of p B mine theirs = (theirs, mine)
 
@@ -606,10 +607,10 @@ done_rounds : (n : ℕ) (p : PairValue) → IsDone p → rounds_in n p ≡ p
 done_rounds zero p d = refl
 done_rounds (suc n) p d = ap (λ (x : PairValue). rounds_in n x) (done_round p d) ∙ done_rounds n p d
 
-record Ended (p q : PairValue) : Type 0 where
-  reached : IsReached q
-  calm : BothCalm p q
-  done : IsDone q
+pub record Ended (p q : PairValue) : Type 0 where
+  pub reached : IsReached q
+  pub calm : BothCalm p q
+  pub done : IsDone q
 
 ended_here : (n : ℕ) (p q : PairValue) → IsReached q → BothCalm p q → IsDone q → Ended p (rounds_in n q)
 ended_here n p q r c d = subst (λ (x : PairValue). Ended p x) (sym (done_rounds n q d)) (record { reached = r; calm = c; done = d })
@@ -651,10 +652,10 @@ gets (suc n) p r m e = from_round n p r m e (λ reached more few. gets n (round_
 -- THE LAW
 
 module _ (p : PairValue) (r : IsReached p) (m : MayRounds (suc (bound p)) p) where
-  abbrev last : PairValue
+  abbrev pub last : PairValue
   last = rounds_in (bound p) p
 
-  ends : Ended p last
+  pub ends : Ended p last
   ends = gets (bound p) p r m (same _)
 
   pub leads : IsReached last

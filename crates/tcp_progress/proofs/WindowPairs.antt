@@ -5,11 +5,9 @@ use Rattle.std.proofs.lemmas.Bool.{cond_both}
 use Rattle.std.specs.List.{AllByRecursion}
 use Rattle.tcp_law.specs.ReceiveMap.{space}
 use Rattle.ip_wire.specs.Seq.{distance_of}
-use Rattle.net_base.specs.Ring.{Ring, anchored, cleared, enqueued}
+use Rattle.net_base.specs.Ring.{Ring, anchored, enqueued}
 use Rattle.tcp_law.proofs.Lists.{AllByRecursion-at, AllByRecursion-push}
 use Rattle.tcp_tie.proofs.CallMoves.{length-space}
-use Rattle.tcp_tie.specs.Context.{ContextValue}
-use Rattle.tcp_tie.specs.Tie.{Keeps}
 use Rattle.tcp_rules.specs.EndpointPair.{EndpointPair}
 use Rattle.tcp_rules.specs.Events.{is_past}
 use Rattle.tcp_rules.specs.InOrder.{sending_of, IsInOrder}
@@ -21,15 +19,14 @@ use Rattle.tcp_rules.specs.State.TheVariants as In
 use Rattle.tcp_rules.specs.States.{after_close, is_closed, is_opening, is_time_wait, owes_fin, takes_writes}
 use Rattle.tcp_rules.proofs.OrderSteps.{clash}
 use Rattle.tcp_pair_model.specs.Arrival.{arrives}
-use Rattle.tcp_pair_model.specs.Blocks.{one_if, own_scale, unacked}
+use Rattle.tcp_pair_model.specs.Blocks.{one_if, unacked}
 use Rattle.tcp_pair_model.specs.Calls.{connected_by, listening, pair_for, recv_answer, recv_after, sent_more}
 use Rattle.tcp_pair_model.specs.FirstNumbers.{number_for}
 use Rattle.tcp_pair_model.specs.History.{side_of}
 use Rattle.tcp_pair_model.specs.Names.{accepts}
 use Rattle.tcp_pair_model.specs.Offers.{offer_of, payload_of}
-use Rattle.tcp_pair_model.specs.Settled.{settled}
 use Rattle.tcp_pair_model.specs.Sides.{Both, at, put, other}
-use Rattle.tcp_pair_model.specs.Steps.{Steps, acting, acts, handed, happens, reads, refusal, set_by, taken_at}
+use Rattle.tcp_pair_model.specs.Steps.{Steps, acting, acts, handed, happens, reads, set_by, taken_at}
 use Rattle.tcp_pair_model.specs.Value.{TcpValue, Arrived, ended, free_in, new_socket, queued_in, room_of, unoffered, with_block}
 use Rattle.tcp_pair_model.specs.Values.{PairSide, PairValue, and_offer, and_reply, context_at, new_pair}
 use Rattle.tcp_pair_model.specs.declared.event.PairEvent.{PairEvent}
@@ -43,14 +40,15 @@ use Rattle.tcp_progress.specs.Arrivals.{is_synchronized}
 use Rattle.tcp_progress.specs.Exchange.{FitsBuffer, IsOpen}
 use Rattle.tcp_progress.specs.Pair.{socket_of}
 use Rattle.tcp_progress.specs.Reached.{IsReached}
-use Rattle.tcp_progress.specs.Windows.{Announces, KeepsToWindow, IsTold, HasTold}
+use Rattle.tcp_progress.specs.Windows.{KeepsToWindow, IsTold, HasTold}
 use Rattle.tcp_progress.proofs.Kept.{reached_by, reached_keeps}
 use Rattle.tcp_progress.proofs.Positions.{placed}
 use Rattle.tcp_progress.proofs.Ready.{ready_side}
 use Rattle.tcp_progress.proofs.SentEvents.{anchored_queue}
 use Rattle.tcp_progress.proofs.SentPairs.{reached_near}
-use Rattle.tcp_progress.proofs.WindowSteps.{AnnouncesIn, IsFit, IsShort, OffersIn, arrival_out, closed_fit, fit_of, fresh_fit, is_before, moved_on, offer_out}
-use Rattle.tcp_progress.proofs.WindowSteps.{with_room, with_sent, wrote_short}
+use Rattle.tcp_progress.proofs.Short.{IsShort, wrote_short}
+use Rattle.tcp_progress.proofs.WindowSteps.{AnnouncesIn, IsFit, OffersIn, arrival_out, closed_fit, fit_of, fresh_fit, is_before, moved_on, offer_out}
+use Rattle.tcp_progress.proofs.WindowSteps.{with_room, with_sent}
 
 -- A SIDE
 
@@ -181,7 +179,8 @@ module _ (own theirs : ℕ) (s : PairSide) (others : List SentSegment) (order : 
   handed_fits : (side : Side) (found : Option SentSegment) → ((x : SentSegment) → found ≡ Some x → IsTold theirs x) → SideFits own theirs (handed side s found)
   handed_fits side None tells = h
   handed_fits side (Some x) tells =
-      cond_both (accepts v.block x.header x.segment) (taken_at s a) s (SideFits own theirs) (λ _. record { fit = out.0; told = replied a.answer out.1 }) (λ _. h)
+      cond_both (accepts v.block x.header x.segment) (taken_at s a) s (SideFits own theirs)
+      (λ _. record { fit = out.0; told = replied a.answer out.1 }) (λ _. h)
     where
       a : Arrived
       a = arrives (context_at side s) v x.header x.segment x.bytes

@@ -1,13 +1,11 @@
 -- What each event of a socket leaves of the windows: what it announces fits its buffer, and what it sent fits the partner's.
-use Rattle.std.proofs.Common.{◌≡◌, ◌⊎◌, inl, inr, ℕ, zero, suc, ◌+◌, ◌-◌, ◌*◌, ◌/◌, ◌^◌, ◌<◌, ◌≤◌, ◌==◌, ◌&&◌, ◌||◌, nat_lt, not, min, max, ℤ, Bool}
-use Rattle.std.proofs.Common.{true, false, if◌then◌else◌, List, [], ◌∷◌, ◌++◌, length, take, drop, Option, Some, None, is_some, refl, sym, ap, ◌∙◌, subst, arith}
-use Rattle.std.proofs.Common.{length-append, length-take, length-drop}
+use Rattle.std.proofs.Common.{◌≡◌, ◌⊎◌, inl, inr, ℕ, ◌+◌, ◌-◌, ◌*◌, ◌^◌, ◌<◌, ◌≤◌, ◌==◌, ◌&&◌, ◌||◌, nat_lt, not, min, max, ℤ, Bool}
+use Rattle.std.proofs.Common.{true, false, if◌then◌else◌, List, ◌++◌, length, drop, Option, Some, None, is_some, refl, sym, ap, ◌∙◌, subst, arith}
+use Rattle.std.proofs.Common.{length-append, length-drop}
 use Rattle.std.proofs.lemmas.Bool.{cond_both, eqb-true, ltb-true}
-use Rattle.std.proofs.lemmas.Nat.{pow_pos}
 use Rattle.tcp_law.specs.ReceiveMap.{space, front, behind}
 use Rattle.ip_wire.specs.Control.{control_len}
 use Rattle.ip_wire.specs.IpRepr.{IpRepr}
-use Rattle.ip_wire.specs.Options.{capped}
 use Rattle.ip_wire.specs.Seq.{distance_of}
 use Rattle.ip_wire.specs.SeqNumber.{SeqNumber}
 use Rattle.ip_wire.specs.Tcp.{header_len}
@@ -32,135 +30,38 @@ use Rattle.tcp_rules.specs.Reply.{Reply}
 use Rattle.tcp_rules.specs.State.{State}
 use Rattle.tcp_rules.specs.State.TheVariants as In
 use Rattle.tcp_rules.specs.States.{is_closed, is_answering, sends_syn, sends_text, takes_text, keeps_alive, owes_fin, after_ack, after_ack_of_fin, after_fin}
-use Rattle.tcp_rules.proofs.ArrivalCases.{by_arrival, acked_cases, Received, Opening, Content, Drawing, acked_open, heeded, timed}
-use Rattle.tcp_rules.proofs.EdgeSteps.{front_behind, own_distance, told_near}
+use Rattle.tcp_rules.proofs.ArrivalCases.{by_arrival, Received, Opening, Content, Drawing, acked_open, heeded, timed}
+use Rattle.tcp_rules.proofs.EdgeSteps.{front_behind, own_distance}
 use Rattle.tcp_rules.proofs.OfferCases.{FirstRules, LastRules, by_rules, begun, probing}
 use Rattle.tcp_rules.proofs.OrderRules.{control_least}
 use Rattle.tcp_rules.proofs.OrderSteps.{clash, distance_at_most}
 use Rattle.tcp_model.proofs.Holes.{again_sent, hole_least}
-use Rattle.tcp_model.specs.Opening.{took_syn}
 use Rattle.tcp_model.specs.Undone.{is_needless}
 use Rattle.tcp_pair_model.specs.Acknowledged.{acknowledged, acks_fin, freed_by, scaled, state_after_ack, windowed}
 use Rattle.tcp_pair_model.specs.Answers.{acked, drawn, may_draw, with_draw}
-use Rattle.tcp_pair_model.specs.Arrival.{arrives, arrives_in, challenges_reset, challenges_syn, checked, draws_first, echo_heard, inside, is_void_syn, outside}
+use Rattle.tcp_pair_model.specs.Arrival.{arrives, arrives_in, challenges_reset, checked, draws_first, echo_heard, inside, is_void_syn, outside}
 use Rattle.tcp_pair_model.specs.Arrival.{has_length, passed_outside, received, reset_comes, taken, takes_reset, tells_news, waiting_anew}
 use Rattle.tcp_pair_model.specs.Block.{Block}
-use Rattle.tcp_pair_model.specs.Blocks.{announced, is_worth_telling, one_if, own_scale, own_shift, scale_for, shift_of, unacked, window_field}
+use Rattle.tcp_pair_model.specs.Blocks.{one_if, own_scale, unacked}
 use Rattle.tcp_pair_model.specs.Calls.{listening}
 use Rattle.tcp_pair_model.specs.Checks.{Check, acknowledgement_check, falls_back, is_in_window, opening_check, synchronized_check, taken_down}
-use Rattle.tcp_pair_model.specs.Checks.Check.{Passes, Drops, Resets}
+use Rattle.tcp_pair_model.specs.Checks.Check.{Passes, Resets}
 use Rattle.tcp_pair_model.specs.LossRecovery.{hole_len, loss_probed}
 use Rattle.tcp_pair_model.specs.Offers.{number_at, offer_choice, offer_of, offer_segment}
 use Rattle.tcp_pair_model.specs.Probing.{is_probing}
 use Rattle.tcp_pair_model.specs.Retries.{asked, heard, one_more}
 use Rattle.tcp_pair_model.specs.Rules.{Choice, backed_off_now, congestion_limit, control_for, fin_goes, next_place, owes_syn, probe_choice, resend_choice}
-use Rattle.tcp_pair_model.specs.Rules.{sent_places, size_limit, text_choice, unbroken, updates_window, window_limit, congestion_room}
-use Rattle.tcp_pair_model.specs.Segments.{ack_segment, hops_of, keep_alive_segment, no_ranges, reset_segment, segment, syn_segment}
-use Rattle.tcp_pair_model.specs.Settled.{end_of, past_held, probed, recorded, resent, sent_as, settled, syn_went}
+use Rattle.tcp_pair_model.specs.Rules.{sent_places, size_limit, text_choice, unbroken, congestion_room}
+use Rattle.tcp_pair_model.specs.Segments.{hops_of, keep_alive_segment, no_ranges, segment, syn_segment}
+use Rattle.tcp_pair_model.specs.Settled.{end_of, probed, recorded, settled}
 use Rattle.tcp_pair_model.specs.Timestamps.{stamp_taken}
 use Rattle.tcp_pair_model.specs.Value.{TcpValue, Arrived, with_block, unoffered, dropped, ended, queued_in, free_in, room_of, window_of}
 use Rattle.tcp_model.specs.declared.block.CongestionControl.{CongestionControl}
 use Rattle.tcp_model.specs.declared.block.CongestionControl.TheVariants as Avoids
 use Rattle.tcp_progress.specs.Windows.{Announces}
-
--- WHAT WAS SENT
-
--- Of so much in flight and ever sent, where so much waits to be acknowledged: the text fits so many positions and the SYN, and with the FIN
--- it is one more.
-pub record IsShort (most syn queued out ever : ℕ) : Type 0 where
-  pub text : min ever (syn + queued) ≤ suc most
-  pub flight : min out (syn + queued) ≤ suc most
-  pub top : ever ≤ suc (suc most)
-
-none_short : (most syn queued : ℕ) → IsShort most syn queued 0 0
-none_short most syn queued = record { text = omega arith; flight = omega arith; top = omega arith }
-
--- SND.UNA rises
-acked_short :
-    (most syn queued flight top less left by : ℕ) → less ≤ syn → left ≤ queued → IsShort most syn queued flight top
-    → IsShort most less left (flight - by) (top - by)
-acked_short most syn queued flight top less left by a b s = record {
-  text = cut top s.text;
-  flight = cut flight s.flight;
-  top = below top s.top;
-}
-  where
-    cut : (n : ℕ) → min n (syn + queued) ≤ suc most → min (n - by) (less + left) ≤ suc most
-    cut n e = omega arith
-
-    below : (n : ℕ) → n ≤ suc (suc most) → n - by ≤ suc (suc most)
-    below n e = omega arith
-
--- SND.NXT goes back
-back_short : (most syn queued flight top : ℕ) → IsShort most syn queued flight top → IsShort most syn queued 0 top
-back_short most syn queued flight top s = record { text = s.text; flight = omega arith; top = s.top }
-
--- all that was sent is in flight
-undone_short :
-    (most syn queued flight top : ℕ) → IsShort most syn queued flight top → IsShort most syn queued (max flight (min top (syn + queued))) top
-undone_short most syn queued flight top s = record { text = s.text; flight = two s.flight s.text; top = s.top } where
-  two : min flight (syn + queued) ≤ suc most → min top (syn + queued) ≤ suc most → min (max flight (min top (syn + queued))) (syn + queued) ≤ suc most
-  two a b = omega arith
-
--- the user writes more, where no FIN was asked for
-pub wrote_short :
-    (most syn queued more flight top : ℕ) → top ≤ syn + queued → flight ≤ syn + queued → IsShort most syn queued flight top
-    → IsShort most syn (queued + more) flight top
-wrote_short most syn queued more flight top a b s = record { text = cut top a s.text; flight = cut flight b s.flight; top = s.top } where
-  cut : (n : ℕ) → n ≤ syn + queued → min n (syn + queued) ≤ suc most → min n (syn + (queued + more)) ≤ suc most
-  cut n a e = omega arith
-
--- a segment goes that ends here
-record EndsShort (most syn queued end : ℕ) : Type 0 where
-  text : min end (syn + queued) ≤ suc most
-  whole : end ≤ suc (suc most)
-
-probed_short :
-    (most syn queued flight top end : ℕ) → EndsShort most syn queued end → IsShort most syn queued flight top → IsShort most syn queued flight (max top end)
-probed_short most syn queued flight top end e s = record { text = two s.text e.text; flight = s.flight; top = larger s.top e.whole } where
-  two : min top (syn + queued) ≤ suc most → min end (syn + queued) ≤ suc most → min (max top end) (syn + queued) ≤ suc most
-  two a b = omega arith
-
-  larger : top ≤ suc (suc most) → end ≤ suc (suc most) → max top end ≤ suc (suc most)
-  larger a b = omega arith
-
-went_short :
-    (most syn queued flight top end missing : ℕ) → EndsShort most syn queued end → IsShort most syn queued flight top
-    → IsShort most syn queued (max flight (max end (min missing (min top (syn + queued))))) (max top end)
-went_short most syn queued flight top end missing e s =
-    let p = probed_short most syn queued flight top end e s in
-    record { text = p.text; flight = three flight end top s.flight e.text s.text; top = p.top }
-  where
-    three : (flight end top : ℕ) → min flight (syn + queued) ≤ suc most → min end (syn + queued) ≤ suc most → min top (syn + queued) ≤ suc most
-        → min (max flight (max end (min missing (min top (syn + queued))))) (syn + queued) ≤ suc most
-    three flight end top a b c = omega arith
-
--- WHERE IT ENDS
-
-first_ends : (most syn queued end : ℕ) → end ≡ 1 → EndsShort most syn queued end
-first_ends most syn queued end e = record { text = omega arith; whole = omega arith }
-
-text_ends :
-    (most syn queued owed flight window d len control : ℕ) → syn ≤ 1 → d ≤ syn + (flight - syn) → len ≤ window - flight → window ≤ most → control ≤ 0
-    → flight ≤ syn + queued + owed → owed ≤ 1 → min flight (syn + queued) ≤ suc most → EndsShort most syn queued (d + (len + control))
-text_ends most syn queued owed flight window d len control a b c e f g h i = record { text = omega arith; whole = omega arith }
-
-fin_ends :
-    (most syn queued flight window d len control : ℕ) → syn ≤ 1 → d ≤ syn + (flight - syn) → len ≤ window - flight → window ≤ most → control ≤ 1
-    → flight - syn + len ≡ queued → min flight (syn + queued) ≤ suc most → EndsShort most syn queued (d + (len + control))
-fin_ends most syn queued flight window d len control a b c e f g h = record { text = omega arith; whole = omega arith }
-
-again_ends :
-    (most syn queued top d place len control : ℕ) → syn ≤ 1 → d ≤ syn + place → place + (len + control) ≤ top - syn → min top (syn + queued) ≤ suc most
-    → top ≤ suc (suc most) → EndsShort most syn queued (d + (len + control))
-again_ends most syn queued top d place len control a b c e f = record { text = omega arith; whole = omega arith }
-
-probe_ends : (most syn queued d control : ℕ) → 1 ≤ most → syn ≤ 1 → d ≤ syn + 0 → control ≤ 0 → EndsShort most syn queued (d + (1 + control))
-probe_ends most syn queued d control a b c e = record { text = omega arith; whole = omega arith }
-
-one_at_most : (t : Bool) → one_if t ≤ 1
-one_at_most true = omega arith
-one_at_most false = omega arith
+use Rattle.tcp_progress.proofs.Fields.{field_fits, heard_fits, plain_announces, reset_announces}
+use Rattle.tcp_progress.proofs.Short.{EndsShort, IsShort, acked_short, again_ends, back_short, fin_ends, first_ends, none_short, one_at_most, probe_ends}
+use Rattle.tcp_progress.proofs.Short.{probed_short, text_ends, undone_short, went_short}
 
 -- A SOCKET
 
@@ -231,69 +132,6 @@ fresh_fit own theirs state room syn queued same not = record {
   scale = λ e. clash (sym e ∙ not);
   before = λ _. refl;
   short = none_short (max 1 theirs) syn queued;
-}
-
--- WINDOW FIELDS
-
-scale_most : (most count : ℕ) → scale_for most count ≤ most
-scale_most zero count = omega arith
-scale_most (suc most) count =
-    let less = scale_most most (count / 2) in
-    cond_both (nat_lt count (2 ^ 16)) 0 (suc (scale_for most (count / 2))) (λ (n : ℕ). n ≤ suc most) (λ _. omega arith) (λ _. omega (arith, less))
-
-capped_own : (capacity : ℕ) → capped (own_scale capacity) ≡ own_scale capacity
-capped_own capacity = by (own_scale capacity) (scale_most 14 capacity) where
-  by : (n : ℕ) → n ≤ 14 → min n 14 ≡ n
-  by n e = omega arith
-
--- what a field says of a window that fits
-heard_fits : (theirs : ℕ) (scale : Option ℕ) (field : ℕ) → scale ≡ Some (own_scale theirs) → field * 2 ^ own_scale theirs ≤ theirs → scaled scale field ≤ theirs
-heard_fits theirs scale field is fits =
-    subst (λ (s : Option ℕ). scaled s field ≤ theirs) (sym is)
-    (subst (λ (n : ℕ). field * 2 ^ n ≤ theirs) (sym (capped_own theirs)) fits)
-
-upto : (a b c : ℕ) → a ≤ b → b ≤ c → a ≤ c
-upto a b c e f = omega arith
-
--- the field of a segment fits the own buffer
-field_fits :
-    (b : Block) (capacity free waiting own n : ℕ) → b.peer.scale ≡ Some n → waiting + free ≡ capacity → capacity ≡ own
-    → window_field b capacity (announced b capacity free waiting) * 2 ^ own_scale own ≤ own
-field_fits b capacity free waiting own n is whole same =
-    subst (λ (m : ℕ). field * 2 ^ own_scale m ≤ m) same
-    (subst (λ (m : ℕ). field * 2 ^ m ≤ capacity) (ap (λ (s : Option ℕ). shift_of s (own_scale capacity)) is)
-    (upto (field * unit) space_told capacity (told_near space_told unit 0 (pow_pos (own_shift b capacity)) (omega arith) (omega arith)).0 within))
-  where
-    space_told : ℕ
-    space_told = announced b capacity free waiting
-
-    unit : ℕ
-    unit = 2 ^ own_shift b capacity
-
-    field : ℕ
-    field = window_field b capacity space_told
-
-    part : (a b c : ℕ) → a + b ≡ c → b ≤ c
-    part a b c e = omega arith
-
-    lesser : (a b c d : ℕ) → a + b ≡ c → min d b ≤ c
-    lesser a b c d e = omega arith
-
-    within : space_told ≤ capacity
-    within =
-        cond_both ((waiting == 0) || is_worth_telling b capacity free) free (min b.receiver.edge free) (λ (n : ℕ). n ≤ capacity)
-        (λ _. part waiting free capacity whole) (λ _. lesser waiting free capacity b.receiver.edge whole)
-
--- a segment that isn't a SYN
-plain_announces :
-    (own : ℕ) (header : TcpHeader) → is_syn header.control ≡ false → header.window_len * 2 ^ own_scale own ≤ own → Announces own header
-plain_announces own header plain fits = record { syn = λ e. clash (sym e ∙ plain); later = λ _ _. fits }
-
--- a reset
-reset_announces : (own : ℕ) (header : TcpHeader) → header.control ≡ Control.Rst → Announces own header
-reset_announces own header is = record {
-  syn = λ e. clash (sym e ∙ ap is_syn is);
-  later = λ _ e. clash (sym (ap is_rst is) ∙ e);
 }
 
 -- STATES
@@ -383,7 +221,8 @@ with_window own theirs f window fits h =
     record { room = h.room; window = fits; scale = h.scale; before = h.before; short = h.short }
 
 -- text in order moves from the free places to those that wait
-pub as_large : (map : List (Option ℕ)) (waiting : List ℕ) (free : ℕ) → length map ≡ free → length (waiting ++ front map) + length (behind map) ≡ length waiting + free
+pub as_large : (map : List (Option ℕ)) (waiting : List ℕ) (free : ℕ) → length map ≡ free →
+    length (waiting ++ front map) + length (behind map) ≡ length waiting + free
 as_large map waiting free is = by (length waiting) (length (front map)) (length (behind map)) (length-append waiting (front map)) (front_behind map) is where
   by : (waiting front behind : ℕ) {both whole : ℕ} → both ≡ waiting + front → front + behind ≡ whole → whole ≡ free → both + behind ≡ waiting + free
   by waiting front behind a b c = omega arith
@@ -445,7 +284,8 @@ module _ (cx : ContextValue) (ip : IpRepr) (header : TcpHeader) (bytes : List �
       (λ _. undone_short (max 1 theirs) (one_if u.block.sender.syn_unacked) (queued_in u) u.block.sender.in_flight u.block.sender.top h.short)
       (λ _. h.short))
 
-  acked_fit : (u : TcpValue) (by : ℕ) → IsFit own theirs (fit_of u) → Scaled u → IsFit own theirs (fit_of (acked_open (timed cx.moment header u by) by cx.moment))
+  acked_fit : (u : TcpValue) (by : ℕ) → IsFit own theirs (fit_of u) → Scaled u →
+      IsFit own theirs (fit_of (acked_open (timed cx.moment header u by) by cx.moment))
   acked_fit u by h scaled = record {
     room = h.room;
     window = h.window;
@@ -585,7 +425,8 @@ module _ (cx : ContextValue) (ip : IpRepr) (header : TcpHeader) (bytes : List �
       Out
       (λ on. clash (sym on ∙ no_rst))
       (λ _.
-      cond_both (draws_first u.block header cx.moment) (drawn cx u ip header) (checked (acknowledgement_check u.block header.ack_number) cx u ip header bytes) Out
+      cond_both (draws_first u.block header cx.moment) (drawn cx u ip header)
+      (checked (acknowledgement_check u.block header.ack_number) cx u ip header bytes) Out
       (λ _. drawn_out u h scaled)
       (λ not_first. answering_out u syn (must_answer _ (is_syn header.control) (is_answering u.block.state) syn not_first) h scaled header.ack_number))
     where
@@ -780,14 +621,16 @@ module _ (cx : ContextValue) (own theirs : ℕ) (v : TcpValue) where
         (went_short (max 1 theirs) (one_if b.sender.syn_unacked) (queued_in v) b.sender.in_flight b.sender.top end missing e h.short)
 
     -- the segment of a part of the send queue
-    part_announces : (c : Choice) → is_past b.state ≡ true → Announces own (segment b pair cx.moment (window_of x) (control_for c (queued_in v)) (number_at b c.place))
+    part_announces : (c : Choice) → is_past b.state ≡ true →
+        Announces own (segment b pair cx.moment (window_of x) (control_for c (queued_in v)) (number_at b c.place))
     part_announces c past = plain_announces own _ (no_syn_for c (queued_in v)) (bare past) where
       bare : is_past b.state ≡ true → window_of x * 2 ^ own_scale own ≤ own
       bare past = field_fits b (room_of v.received) (free_in v) (length v.received.waiting) own (own_scale theirs) (h.scale past) refl h.room
 
     by_text : is_past b.state ≡ true → Both (offer_choice Kind.Text cx x pair (text_choice b pair.addresses cx.ip_mtu v.queued))
     by_text past =
-        (went_fit _ _ (text_short own theirs x h small pair.addresses cx.ip_mtu within), h, part_announces (text_choice b pair.addresses cx.ip_mtu v.queued) past)
+        let c = text_choice b pair.addresses cx.ip_mtu v.queued in
+        (went_fit _ _ (text_short own theirs x h small pair.addresses cx.ip_mtu within), h, part_announces c past)
 
     by_again : is_past b.state ≡ true → Both (offer_choice Kind.FastRetransmission cx x pair (resend_choice b pair.addresses cx.ip_mtu v.queued))
     by_again past =

@@ -1,7 +1,6 @@
 -- Both ways of a connection: rounds in which each side has its turn, and both users read.
 use Rattle.std.specs.Prelude.{◌≡◌, ℕ, zero, suc, ◌+◌, ◌-◌, ◌≤◌, ◌==◌, if◌then◌else◌, length}
 use Rattle.tcp_pair_model.specs.Blocks.{one_if}
-use Rattle.tcp_pair_model.specs.Safe.{read, written}
 use Rattle.tcp_pair_model.specs.Sides.{other}
 use Rattle.tcp_pair_model.specs.Values.{PairValue, past_at}
 use Rattle.tcp_pair_model.specs.declared.event.Side.{Side}
