@@ -207,7 +207,7 @@ module _ (cx : ContextValue) (ip : IpRepr) (header : TcpHeader) (bytes : List �
   Since x = IsCalm (load_of v) (load_of x)
 
   calm_drawing : (x : TcpValue) → Since x → Drawing cx ip header bytes Calmly x
-  calm_drawing x c = record { answers = λ _. c; pauses = c }
+  calm_drawing x c = record { answers = λ _. c; at_once = c; pauses = c }
 
   fin_calm : (x : Load) → IsCalm x (record x { state = after_fin x.state; took_fin = true })
   fin_calm x = record {
@@ -330,7 +330,7 @@ module _ (cx : ContextValue) (ip : IpRepr) (header : TcpHeader) (bytes : List �
   Bare a = stamp_in a.answer ≡ None
 
   bare_drawing : (x : TcpValue) → x.block.peer.timestamps ≡ false → Drawing cx ip header bytes Bare x
-  bare_drawing x none = record { answers = λ _. no_stamp x.block cx.moment none; pauses = refl }
+  bare_drawing x none = record { answers = λ _. no_stamp x.block cx.moment none; at_once = no_stamp x.block cx.moment none; pauses = refl }
 
   bare_content : (x : TcpValue) → x.block.peer.timestamps ≡ false → Content cx ip header bytes Bare x
   bare_content x none = record {

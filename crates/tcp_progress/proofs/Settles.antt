@@ -26,8 +26,7 @@ use Rattle.tcp_progress.specs.Pair.{MayExchangeIn, left_in, next_sent, offered_i
 use Rattle.tcp_progress.specs.Reached.{IsReached}
 use Rattle.tcp_progress.specs.Rounds.{comes, takes}
 use Rattle.tcp_progress.specs.Settle.{MayRound, MaySettle, read_in, restart_in, resumed_in, settled_in}
-use Rattle.tcp_progress.proofs.Kept.{reached_keeps, reached_kept}
-use Rattle.tcp_progress.proofs.Led.{reached_by}
+use Rattle.tcp_progress.proofs.Kept.{reached_by, reached_keeps, reached_kept}
 use Rattle.tcp_progress.proofs.OfItself.{leads_of_itself, may_exchange, sends_in}
 use Rattle.tcp_progress.proofs.Pair.{HasLess, HasSome, below_quarter, further, had_in, has_some, reached_moved, still_open}
 

@@ -34,6 +34,13 @@ acked_short most syn queued flight top less left by a b s = record {
 pub back_short : (most syn queued flight top : ℕ) → IsShort most syn queued flight top → IsShort most syn queued 0 top
 back_short most syn queued flight top s = record { text = s.text; flight = omega arith; top = s.top }
 
+-- all that was sent is in flight
+pub undone_short :
+    (most syn queued flight top : ℕ) → IsShort most syn queued flight top → IsShort most syn queued (max flight (min top (syn + queued))) top
+undone_short most syn queued flight top s = record { text = s.text; flight = two s.flight s.text; top = s.top } where
+  two : min flight (syn + queued) ≤ suc most → min top (syn + queued) ≤ suc most → min (max flight (min top (syn + queued))) (syn + queued) ≤ suc most
+  two a b = omega arith
+
 -- the user writes more, where no FIN was asked for
 pub wrote_short :
     (most syn queued more flight top : ℕ) → top ≤ syn + queued → flight ≤ syn + queued → IsShort most syn queued flight top

@@ -40,7 +40,6 @@ use Rattle.tcp_progress.proofs.PairTimers.{restart_soon}
 use Rattle.tcp_progress.proofs.Ready.{ready_side}
 use Rattle.tcp_progress.proofs.Settles.{empty_after, read_reached, safe_side, some_left}
 use Rattle.tcp_progress.proofs.Stampless.{stampless}
-use Rattle.tcp_progress.proofs.WindowPairs.{near_in}
 use Rattle.tcp_progress.proofs.Ways.{Balance, BothCalm, Ended, IsLate, balance, done_round, ends, late_after, late_on, nothing_turns, of_side, on_late, read_calm}
 use Rattle.tcp_progress.proofs.Ways.{stream_still, through, turned}
 
@@ -312,8 +311,6 @@ module _ (n : ℕ) (p : PairValue) (side : Side) (r : IsReached p) (s : BothStay
               };
           theirs = other_open;
           room = free;
-          near = near_in x side rx own theirs (of x (other side) sx).room;
-          draws = speaks.draws;
           space = speaks.space;
           fresh =
               ap (λ (stamp : Option TcpTimestampRepr). comes_older stamp w.block.peer.recent) (no_stamp v.block t (of x side sx).stampless);

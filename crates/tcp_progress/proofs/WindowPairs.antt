@@ -27,7 +27,7 @@ use Rattle.tcp_pair_model.specs.Names.{accepts}
 use Rattle.tcp_pair_model.specs.Offers.{offer_of, payload_of}
 use Rattle.tcp_pair_model.specs.Sides.{Both, at, put, other}
 use Rattle.tcp_pair_model.specs.Steps.{Steps, acting, acts, handed, happens, reads, set_by, taken_at}
-use Rattle.tcp_pair_model.specs.Value.{TcpValue, Arrived, ended, new_socket, queued_in, room_of, unoffered, with_block}
+use Rattle.tcp_pair_model.specs.Value.{TcpValue, Arrived, ended, free_in, new_socket, queued_in, room_of, unoffered, with_block}
 use Rattle.tcp_pair_model.specs.Values.{PairSide, PairValue, and_offer, and_reply, context_at, new_pair}
 use Rattle.tcp_pair_model.specs.declared.event.PairEvent.{PairEvent}
 use Rattle.tcp_pair_model.specs.declared.event.PairEvent.TheVariants.{Listen, Connect, Send, Recv, Close, Abort, TcpSetting, Offer, Deliver}
@@ -37,12 +37,11 @@ use Rattle.tcp_pair_model.specs.declared.event.Side.TheVariants.{A, B}
 use Rattle.tcp_pair_model.specs.declared.event.TcpSetting.{TcpSetting as Setting}
 use Rattle.tcp_pair_model.specs.declared.event.TcpSetting.TheVariants as Set
 use Rattle.tcp_progress.specs.Arrivals.{is_synchronized}
-use Rattle.tcp_progress.specs.Exchange.{IsOpen}
+use Rattle.tcp_progress.specs.Exchange.{FitsBuffer, IsOpen}
 use Rattle.tcp_progress.specs.Pair.{socket_of}
 use Rattle.tcp_progress.specs.Reached.{IsReached}
 use Rattle.tcp_progress.specs.Windows.{KeepsToWindow, IsTold, HasTold}
-use Rattle.tcp_progress.proofs.Kept.{reached_keeps}
-use Rattle.tcp_progress.proofs.Led.{reached_by}
+use Rattle.tcp_progress.proofs.Kept.{reached_by, reached_keeps}
 use Rattle.tcp_progress.proofs.Positions.{placed}
 use Rattle.tcp_progress.proofs.Ready.{ready_side}
 use Rattle.tcp_progress.proofs.SentEvents.{anchored_queue}
@@ -309,3 +308,13 @@ near_in p side r mine theirs some =
   where
     larger : (top room : ℕ) → 1 ≤ room → top ≤ max 1 room + 2 → top ≤ room + 2
     larger top room a b = omega arith
+
+-- of a partner with room for a byte
+pub fits_in :
+    (p : PairValue) (side : Side) → IsReached p → IsOpen (socket_of p side).block → IsOpen (socket_of p (other side)).block
+    → 1 ≤ free_in (socket_of p (other side)) → FitsBuffer (socket_of p side) (socket_of p (other side))
+fits_in p side r mine theirs some =
+    near_in p side r mine theirs.synchronized (more (length (socket_of p (other side)).received.waiting) (free_in (socket_of p (other side))) some)
+  where
+    more : (waiting free : ℕ) → 1 ≤ free → 1 ≤ waiting + free
+    more waiting free e = omega arith

@@ -36,10 +36,11 @@ use Rattle.tcp_rules.proofs.OfferCases.{FirstRules, LastRules, by_rules, begun, 
 use Rattle.tcp_rules.proofs.OrderRules.{control_least}
 use Rattle.tcp_rules.proofs.OrderSteps.{clash, distance_at_most}
 use Rattle.tcp_model.proofs.Holes.{again_sent, hole_least}
+use Rattle.tcp_model.specs.Undone.{is_needless}
 use Rattle.tcp_pair_model.specs.Acknowledged.{acknowledged, acks_fin, freed_by, scaled, state_after_ack, windowed}
 use Rattle.tcp_pair_model.specs.Answers.{acked, drawn, may_draw, with_draw}
 use Rattle.tcp_pair_model.specs.Arrival.{arrives, arrives_in, challenges_reset, checked, draws_first, echo_heard, inside, is_void_syn, outside}
-use Rattle.tcp_pair_model.specs.Arrival.{passed_outside, received, reset_comes, taken, takes_reset, tells_news, waiting_anew}
+use Rattle.tcp_pair_model.specs.Arrival.{has_length, passed_outside, received, reset_comes, taken, takes_reset, tells_news, waiting_anew}
 use Rattle.tcp_pair_model.specs.Block.{Block}
 use Rattle.tcp_pair_model.specs.Blocks.{one_if, own_scale, unacked}
 use Rattle.tcp_pair_model.specs.Calls.{listening}
@@ -60,7 +61,7 @@ use Rattle.tcp_model.specs.declared.block.CongestionControl.TheVariants as Avoid
 use Rattle.tcp_progress.specs.Windows.{Announces}
 use Rattle.tcp_progress.proofs.Fields.{field_fits, heard_fits, plain_announces, reset_announces}
 use Rattle.tcp_progress.proofs.Short.{EndsShort, IsShort, acked_short, again_ends, back_short, fin_ends, first_ends, none_short, one_at_most, probe_ends}
-use Rattle.tcp_progress.proofs.Short.{probed_short, text_ends, went_short}
+use Rattle.tcp_progress.proofs.Short.{probed_short, text_ends, undone_short, went_short}
 
 -- A SOCKET
 
@@ -247,6 +248,7 @@ module _ (cx : ContextValue) (ip : IpRepr) (header : TcpHeader) (bytes : List �
   drawing : (x : TcpValue) → IsFit own theirs (fit_of x) → Scaled x → Drawing cx ip header bytes Out x
   drawing x h scaled = record {
     answers = λ _. (h, plain_announces own _ refl (told x h scaled));
+    at_once = (h, plain_announces own _ refl (told x h scaled));
     pauses = (h, tt);
   }
 
@@ -271,6 +273,17 @@ module _ (cx : ContextValue) (ip : IpRepr) (header : TcpHeader) (bytes : List �
         );
   }
 
+  -- a loss that is undone: all that was sent is in flight again
+  undone_fit : (u : TcpValue) (by : ℕ) → IsFit own theirs (fit_of u) → IsFit own theirs (fit_of (timed cx.moment header u by))
+  undone_fit u by h =
+      with_sent own theirs (fit_of u) (one_if u.block.sender.syn_unacked) (queued_in u) (timed cx.moment header u by).block.sender.in_flight
+      u.block.sender.top h
+      (cond_both (is_needless u.block header by (queued_in u) cx.moment)
+      (max u.block.sender.in_flight (min u.block.sender.top (one_if u.block.sender.syn_unacked + queued_in u))) u.block.sender.in_flight
+      (λ (flight : ℕ). IsShort (max 1 theirs) (one_if u.block.sender.syn_unacked) (queued_in u) flight u.block.sender.top)
+      (λ _. undone_short (max 1 theirs) (one_if u.block.sender.syn_unacked) (queued_in u) u.block.sender.in_flight u.block.sender.top h.short)
+      (λ _. h.short))
+
   acked_fit : (u : TcpValue) (by : ℕ) → IsFit own theirs (fit_of u) → Scaled u →
       IsFit own theirs (fit_of (acked_open (timed cx.moment header u by) by cx.moment))
   acked_fit u by h scaled = record {
@@ -279,9 +292,9 @@ module _ (cx : ContextValue) (ip : IpRepr) (header : TcpHeader) (bytes : List �
     scale = λ _. scaled;
     before = λ e. h.before (before_acked u.block by (queued_in u) e);
     short =
-        acked_short (max 1 theirs) (one_if u.block.sender.syn_unacked) (queued_in u) u.block.sender.in_flight u.block.sender.top
-        (one_if (u.block.sender.syn_unacked && (by == 0))) (length (drop (freed_by u.block by (queued_in u)) u.queued.queue)) by
-        (less_syn u.block.sender.syn_unacked (by == 0)) (drop_less (freed_by u.block by (queued_in u)) u.queued.queue) h.short;
+        acked_short (max 1 theirs) (one_if u.block.sender.syn_unacked) (queued_in u) (timed cx.moment header u by).block.sender.in_flight
+        u.block.sender.top (one_if (u.block.sender.syn_unacked && (by == 0))) (length (drop (freed_by u.block by (queued_in u)) u.queued.queue)) by
+        (less_syn u.block.sender.syn_unacked (by == 0)) (drop_less (freed_by u.block by (queued_in u)) u.queued.queue) (undone_fit u by h).short;
   }
 
   -- a reset takes it down
@@ -373,10 +386,13 @@ module _ (cx : ContextValue) (ip : IpRepr) (header : TcpHeader) (bytes : List �
       cond_both (may_draw cx.moment x.block.timers.draws_from) (acked cx (with_draw x cx.moment) ip header no_ranges) (dropped x) Out
       (λ may. d.answers may) (λ _. d.pauses)
 
-  outside_out : (x : TcpValue) → IsFit own theirs (fit_of x) → Scaled x → Out (outside cx x ip header)
-  outside_out x h scaled =
-      cond_both (is_closed x.block.state) (dropped x) (drawn cx (waiting_anew x header cx.moment) ip header) Out
-      (λ _. (h, tt)) (λ _. drawn_out (waiting_anew x header cx.moment) h scaled)
+  outside_out : (x : TcpValue) (again : Bool) → IsFit own theirs (fit_of x) → Scaled x → Out (outside cx x ip header again)
+  outside_out x again h scaled =
+      let y = waiting_anew x header cx.moment in
+      cond_both (is_closed x.block.state) (dropped x) (if again then acked cx y ip header no_ranges else drawn cx y ip header) Out
+      (λ _. (h, tt))
+      (λ _.
+      cond_both again (acked cx y ip header no_ranges) (drawn cx y ip header) Out (λ _. (drawing y h scaled).at_once) (λ _. drawn_out y h scaled))
 
   passed_out : (u : TcpValue) (by : ℕ) → is_syn header.control ≡ true → is_answering u.block.state ≡ true → IsFit own theirs (fit_of u) → Scaled u →
       Out (checked (Passes by) cx u ip header bytes)
@@ -385,9 +401,10 @@ module _ (cx : ContextValue) (ip : IpRepr) (header : TcpHeader) (bytes : List �
       (λ _.
       cond_both (is_syn header.control) (drawn cx u ip header) (taken cx u ip header bytes by) Out (λ _. drawn_out u h scaled) (λ off. clash (sym syn ∙ off)))
       (λ _.
-      cond_both (tells_news u header (length bytes)) (outside cx (acknowledged (echo_heard u header by cx.moment) by cx.moment) ip header)
-      (outside cx u ip header) Out
-      (λ news. clash (sym (and_first (not (is_answering u.block.state)) _ news) ∙ ap not answering)) (λ _. outside_out u h scaled))
+      cond_both (tells_news u header (length bytes))
+      (outside cx (acknowledged (echo_heard u header by cx.moment) by cx.moment) ip header (has_length header (length bytes)))
+      (outside cx u ip header false) Out
+      (λ news. clash (sym (and_first (not (is_answering u.block.state)) _ news) ∙ ap not answering)) (λ _. outside_out u false h scaled))
 
   answering_out : (u : TcpValue) → is_syn header.control ≡ true → is_answering u.block.state ≡ true → IsFit own theirs (fit_of u) → Scaled u →
       (ack : Option SeqNumber) → Out (checked (acknowledgement_check u.block ack) cx u ip header bytes)

@@ -1,9 +1,8 @@
 -- What both ways of a connection ask for at the beginning, and what in each turn.
-use Rattle.std.specs.Prelude.{◌≡◌, ℕ, zero, suc, ◌*◌, ◌≤◌, ℤ, pos, ◌+ℤ◌, ◌≤ℤ◌, true, false}
+use Rattle.std.specs.Prelude.{◌≡◌, ℕ, zero, suc, ◌*◌, ◌≤◌, ℤ, pos, ◌+ℤ◌, ◌≤ℤ◌, false}
 use Rattle.net_base.specs.Time.{last_moment}
 use Rattle.tcp_rules.specs.Ends.{GoesOn}
 use Rattle.tcp_rules.specs.States.{is_closed}
-use Rattle.tcp_pair_model.specs.Answers.{may_draw}
 use Rattle.tcp_pair_model.specs.Rules.{resends}
 use Rattle.tcp_pair_model.specs.Sides.{at, other}
 use Rattle.tcp_pair_model.specs.Value.{room_of}
@@ -49,8 +48,7 @@ pub record MaySpeak (p : PairValue) (side : Side) (moment : ℤ) : Type 0 where
   pub cwnd : worth_sending (socket_of p side) ≤ first_cwnd (context_of p side moment) (socket_of p side).block
   -- where nothing is in flight, nothing is to go again at once
   pub idle : (socket_of p side).block.sender.in_flight ≡ 0 → resends (socket_of p side).block ≡ false
-  -- the other may answer, and what it answers lies inside the window
-  pub draws : may_draw (at p.sides (other side)).moment (socket_of p (other side)).block.timers.draws_from ≡ true
+  -- what the other answers lies inside the window
   pub space : HasSpace (socket_of p side) (socket_of p (other side))
 
 -- of a side that owes something, once the other's user has read

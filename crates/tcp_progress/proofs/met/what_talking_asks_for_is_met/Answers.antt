@@ -24,7 +24,6 @@ first = record {
   window = leb-true _ _ refl;
   cwnd = leb-true _ _ refl;
   idle = λ none. refl;
-  draws = refl;
   space = inr (ltb-true _ _ refl);
 }
 
@@ -35,7 +34,6 @@ second = record {
   window = leb-true _ _ refl;
   cwnd = leb-true _ _ refl;
   idle = λ none. refl;
-  draws = refl;
   space = inl refl;
 }
 
@@ -46,7 +44,6 @@ third = record {
   window = leb-true _ _ refl;
   cwnd = leb-true _ _ refl;
   idle = λ none. refl;
-  draws = refl;
   space = inl refl;
 }
 
