@@ -13,8 +13,9 @@ use Rattle.interface_tables.specs.Reassembly.{place_for}
 use Rattle.interface_tables.specs.Slots.{overlaps_datagram, without_datagram}
 use Rattle.interface_ingress.specs.Arrives.{slots_after, whole_after}
 use Rattle.interface_ingress.specs.Incoming.{IncomingValue, Arp, Ip4, Ip6}
-use Rattle.interface_ingress.specs.Reassembled.{Slots, PieceValue, part_of, part_v4, part_behind, behind_headers, is_piece, is_same_datagram, is_strict, is_unfit}
-use Rattle.interface_ingress.specs.Reassembled.{is_within, place_of, place_in, kept, with_piece, with_part, rebuilt, rebuilt_v6, bytes_at, whole_of, released}
+use Rattle.interface_ingress.specs.Reassembled.{Slots, PieceValue, part_of, part_v4, part_behind, behind_headers, is_piece, is_same_datagram, is_strict}
+use Rattle.interface_ingress.specs.Reassembled.{is_unfit, is_within, place_of, place_in, kept, with_piece, with_part, bytes_at}
+use Rattle.interface_ingress.specs.Reassembled.{rebuilt, rebuilt_v6, whole_of, released}
 
 -- A PIECE THAT OVERLAPS
 
