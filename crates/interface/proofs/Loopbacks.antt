@@ -15,11 +15,13 @@ one_end here one other (Allowed t given) a b = a.0 ∙ sym b.0
 one_end here one other (Emitted frame) a b = a ∙ sym b
 one_end here one other (Denied len) a b = a ∙ sym b
 
-one_frame : (here : LoopbackValue) (t : ℤ) (one other : LoopbackValue) (frame again : List ℕ) → LoopbackMove here (Took t frame) one → LoopbackMove here (Took t again) other →
+one_frame : (here : LoopbackValue) (t : ℤ) (one other : LoopbackValue) (frame again : List ℕ) → LoopbackMove here (Took t frame) one →
+    LoopbackMove here (Took t again) other →
     frame ≡ again
 one_frame here t one other frame again a b = head_is frame again one.queue other.queue (ap (λ (l : LoopbackValue). l.queue) (sym a.1 ∙ b.1))
 
-looks : (here : LoopbackValue) (t : ℤ) (one other : LoopbackValue) (frame : List ℕ) → LoopbackMove here (Took t frame) one → LoopbackMove here (Empty t) other → ⊥
+looks : (here : LoopbackValue) (t : ℤ) (one other : LoopbackValue) (frame : List ℕ) → LoopbackMove here (Took t frame) one →
+    LoopbackMove here (Empty t) other → ⊥
 looks here t one other frame a b = none_waits frame one.queue (ap (λ (l : LoopbackValue). l.queue) (sym a.1) ∙ b.1 a.0)
 
 gives : (here : LoopbackValue) (t : ℤ) (one other : LoopbackValue) → LoopbackMove here (Allowed t true) one → LoopbackMove here (Allowed t false) other → ⊥

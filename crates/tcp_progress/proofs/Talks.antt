@@ -1,6 +1,7 @@
 -- What a turn asks for follows from the beginning, but for what MaySpeak has.
 use Rattle.std.proofs.Common.{◌≡◌, ◌⊎◌, inl, inr, ℕ, zero, suc, ◌+◌, ◌*◌, ◌^◌, ◌≤◌, ◌-◌, ◌==◌, ◌&&◌, not, ℤ, pos, ◌+ℤ◌, ◌≤ℤ◌, int_le, int_lt}
-use Rattle.std.proofs.Common.{Bool, true, false, List, ◌++◌, length, length-append, Option, Some, None, Result, Ok, Err, is_some, slice_get, refl, sym, ap, ◌∙◌, subst, arith}
+use Rattle.std.proofs.Common.{Bool, true, false, List, ◌++◌, length, length-append, Option, Some, None, Result, Ok, Err, is_some, slice_get, refl}
+use Rattle.std.proofs.Common.{sym, ap, ◌∙◌, subst, arith}
 use Rattle.std.proofs.lemmas.Bool.{cond_both, eqb-true}
 use Rattle.std.proofs.lemmas.Int.{ints}
 use Rattle.net_base.specs.Time.{last_moment}
@@ -40,7 +41,8 @@ use Rattle.tcp_progress.proofs.PairTimers.{restart_soon}
 use Rattle.tcp_progress.proofs.Ready.{ready_side}
 use Rattle.tcp_progress.proofs.Settles.{empty_after, read_reached, safe_side, some_left}
 use Rattle.tcp_progress.proofs.Stampless.{stampless}
-use Rattle.tcp_progress.proofs.Ways.{Balance, BothCalm, Ended, IsLate, balance, done_round, ends, late_after, late_on, nothing_turns, of_side, on_late, read_calm}
+use Rattle.tcp_progress.proofs.Ways.{Balance, BothCalm, Ended, IsLate, balance, done_round, ends, late_after, late_on, nothing_turns, of_side}
+use Rattle.tcp_progress.proofs.Ways.{on_late, read_calm}
 use Rattle.tcp_progress.proofs.Ways.{stream_still, through, turned}
 
 -- WHAT STAYS

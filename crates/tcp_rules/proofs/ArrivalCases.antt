@@ -17,7 +17,8 @@ use Rattle.tcp_model.specs.Acknowledged.{acknowledged, duplicates_after, names_w
 use Rattle.tcp_model.specs.Acknowledged.{una_moved, state_after_ack, freed_by}
 use Rattle.tcp_model.specs.Blocks.{forgotten}
 use Rattle.tcp_model.specs.Answers.{drawn, may_draw, with_draw, acked, answer_for, ranges_held, ack_due}
-use Rattle.tcp_model.specs.Arrival.{waiting_anew, outside, passed_outside, tells_news, has_length, comes_again, finished, with_content, told, taken, inside, checked, continued}
+use Rattle.tcp_model.specs.Arrival.{waiting_anew, outside, passed_outside, tells_news, has_length, comes_again, finished, with_content, told, taken}
+use Rattle.tcp_model.specs.Arrival.{inside, checked, continued}
 use Rattle.tcp_model.specs.Arrival.{takes_reset, challenges_reset, reset_comes, draws_first, echo_heard, received, arrives_in, arrives, is_void_syn}
 use Rattle.tcp_model.specs.Calls.{listening}
 use Rattle.tcp_model.specs.Checks.{Check, acknowledgement_check, is_in_window, taken_down, falls_back}

@@ -21,7 +21,8 @@ use Rattle.tcp_control.specs.declared.offer.OfferKind.TheVariants as Kind
 use Rattle.tcp_control.specs.declared.offer.OpenOffer.{OpenOffer}
 use Rattle.tcp_control.specs.declared.state.State.{State}
 use Rattle.tcp_control.specs.declared.state.State.TheVariants as In
-use Rattle.tcp_model.specs.Acknowledged.{acks_fin, state_after_ack, freed_by, reno_after, srtt_after, reno_counted, duplicates_after, begins_recovery, ranges_taken, windowed}
+use Rattle.tcp_model.specs.Acknowledged.{acks_fin, state_after_ack, freed_by, reno_after, srtt_after, reno_counted, duplicates_after, begins_recovery}
+use Rattle.tcp_model.specs.Acknowledged.{ranges_taken, windowed}
 use Rattle.tcp_model.specs.Arrival.{arrives}
 use Rattle.tcp_model.specs.Blocks.{one_if, fresh_window}
 use Rattle.tcp_model.specs.Calls.{listening, connected_by, pair_for, sent_more}

@@ -107,7 +107,8 @@ echo_right : (b : Block) (header : TcpHeader) (by : ℕ) (now : ℤ) → IsTimed
 echo_right b header by now t not = right _ (echo_in b.round_trip by b.sender.in_flight (echo_of b header now) t.timed) t.sent not
 
 -- a loss that is undone leaves what is timed in flight
-undone_right : (b : Block) (header : TcpHeader) (by queued : ℕ) (now : ℤ) → IsTimedRight (timing_of b) → IsTimedRight (timing_of (undone b header by queued now))
+undone_right : (b : Block) (header : TcpHeader) (by queued : ℕ) (now : ℤ) → IsTimedRight (timing_of b) →
+    IsTimedRight (timing_of (undone b header by queued now))
 undone_right b header by queued now t =
     undone_cases b header by queued now (λ (c : Block). IsTimedRight (timing_of c)) t
     (λ undo _ _. record {

@@ -11,7 +11,8 @@ use Rattle.tcp_control.specs.declared.offer.OfferKind.{OfferKind}
 use Rattle.tcp_control.specs.declared.offer.OfferKind.TheVariants as Kind
 use Rattle.tcp_control.specs.declared.offer.OpenOffer.{OpenOffer}
 use Rattle.tcp_model.specs.Acknowledged.{begins_recovery, reno_counted, counted, ranges_taken}
-use Rattle.tcp_model.specs.LossRecovery.{probes_losses, probe_from, probe_armed, loss_probe_moment, loss_probed, loss_probed_by, probes_tail, heard_more, all_noted}
+use Rattle.tcp_model.specs.LossRecovery.{probes_losses, probe_from, probe_armed, loss_probe_moment, loss_probed, loss_probed_by, probes_tail}
+use Rattle.tcp_model.specs.LossRecovery.{heard_more, all_noted}
 use Rattle.tcp_model.specs.LossRecovery.{is_lost_again, with_board}
 use Rattle.tcp_model.specs.Retries.{asked}
 use Rattle.tcp_model.specs.Rules.{backed_off_now}
