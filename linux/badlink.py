@@ -1,13 +1,14 @@
 #!/usr/bin/env python3
 """The program `host` beside Linux's own stack over the same bad link, in a network namespace of its own:
 
-    badlink.py PUMP HOST [SEEDS [BYTES [TRIPS]]]
+    badlink.py PUMP HOST [SEEDS [BYTES [TRIPS [WORD]]]]
 
 For each round trip (a list of milliseconds, 0 alone where none is given), each kind of link and each of so many seeds (5) a stream of so many
 bytes (200,000) is echoed: first by the host, over a TUN device, then by a program over Linux's own stack, between two TUN devices, of which
 the other one is in a namespace within. PUMP is linux/pump.c, built; it loses, repeats, holds back, damages and delays the packets of both by
-the same chances, whose random numbers begin with the seed. A round trip is the pump's delay, half of it each way. It prints a table for each,
-with the quotient of the medians.
+the same chances, whose random numbers begin with the seed. A round trip is the pump's delay, half of it each way. It prints one table, with
+the quotients of the medians and of the longest, and in how many rows the medians' one is at most 1.0 and at most 1.5. With a word only the
+kinds of link with this word in their name are tried.
 """
 import os, random, select, socket, statistics, subprocess, sys, time
 
@@ -95,10 +96,14 @@ def said(took):
     return f"{len(came)} of {len(took)}; {statistics.median(came):.2f} s, {max(came):.2f} s"
 
 
-def quotient(host, linux):
-    """The host's median beside Linux's."""
+def quotient(of, host, linux):
+    """The host's median, or its longest, beside Linux's; none where no stream came whole."""
     host, linux = ([it for it in took if it is not None] for took in (host, linux))
-    return f"{statistics.median(host) / statistics.median(linux):.2f}" if host and linux else "none"
+    return of(host) / of(linux) if host and linux else None
+
+
+def shown(quotient):
+    return "none" if quotient is None else f"{quotient:.2f}"
 
 
 def tried(started, size):
@@ -131,23 +136,35 @@ def end(started):
         it.wait()
 
 
-def table(pump, program, seeds, size, trip):
-    print("| Link, each way | The host | Linux's own stack | quotient |\n|---|---|---|---|")
-    for name, options in links(trip):
-        host, linux = [], []
-        for seed in range(seeds):
-            chance = ("-c", str(random.Random(seed).getrandbits(64)))
-            host.append(tried([start(pump, program, *options, *chance, "-s", str(seed))], size))
-            linux.append(tried(linux_beyond(pump, *options, *chance), size))
-        print(f"| {name} | {said(host)} | {said(linux)} | {quotient(host, linux)} |", flush=True)
+def row(pump, program, seeds, size, trip, name, options):
+    """Prints a row; the quotient of its medians, by its name."""
+    host, linux = [], []
+    for seed in range(seeds):
+        chance = ("-c", str(random.Random(seed).getrandbits(64)))
+        host.append(tried([start(pump, program, *options, *chance, "-s", str(seed))], size))
+        linux.append(tried(linux_beyond(pump, *options, *chance), size))
+    medians, longest = (quotient(of, host, linux) for of in (statistics.median, max))
+    print(f"| {trip} ms | {name} | {said(host)} | {said(linux)} | {shown(medians)} | {shown(longest)} |", flush=True)
+    return f"{name} at {trip} ms", medians
+
+
+def summary(rows):
+    """In how many rows the host is as quick as Linux, or half as quick again, and in which it isn't."""
+    known = [(name, it) for name, it in rows if it is not None]
+    within = [sum(it <= most for _, it in known) for most in (1.0, 1.5)]
+    print(f"\nof {len(rows)} rows the medians' quotient is at most 1.0 in {within[0]}, and at most 1.5 in {within[1]}")
+    above = sorted(((it, name) for name, it in known if it > 1.5), reverse=True)
+    if above:
+        print("above 1.5: " + ", ".join(f"{name} ({it:.2f})" for it, name in above))
 
 
 def main():
     pump, program = sys.argv[1], sys.argv[2]
-    seeds, size, trips = (sys.argv[3:] + ["5", "200000", "0"][len(sys.argv) - 3:])[:3]
-    for trip in map(int, trips.split(",")):
-        print(f"\na stream of {size} bytes for each of {seeds} seeds, there and back, a round trip of {trip} ms: how many came whole; median, longest\n")
-        table(pump, program, int(seeds), int(size), trip)
+    seeds, size, trips, word = (sys.argv[3:] + ["5", "200000", "0", ""][len(sys.argv) - 3:])[:4]
+    print(f"\na stream of {size} bytes for each of {seeds} seeds, there and back: how many came whole; median, longest\n")
+    print("| Round trip | Link, each way | The host | Linux's own stack | medians | longest |\n|---|---|---|---|---|---|")
+    summary([row(pump, program, int(seeds), int(size), trip, name, options)
+             for trip in map(int, trips.split(",")) for name, options in links(trip) if word in name])
 
 
 if __name__ == "__main__":

@@ -266,17 +266,23 @@ def by_ab(count, at_once):
 def capture(folder):
     if not folder or not shutil.which("tshark"):
         return None
-    ran = subprocess.Popen(["tshark", "-q", "-i", "zemplovir", "-w", f"{folder}/hostile.pcap"], stdout=subprocess.DEVNULL, stderr=subprocess.DEVNULL)
-    time.sleep(2)
+    file = f"{folder}/hostile.pcap"
+    ran = subprocess.Popen(["tshark", "-q", "-i", "zemplovir", "-w", file], stdout=subprocess.DEVNULL, stderr=subprocess.DEVNULL)
+    end = time.monotonic() + 60
+    while time.monotonic() < end and not (os.path.exists(file) and os.path.getsize(file)):
+        time.sleep(0.1)
+    time.sleep(1)
     return ran
 
 
 def looked_at(file):
     """What tshark says of the packets that the host sent."""
-    bad = f"ip.src == {OURS} && (_ws.malformed || ip.checksum.status == 0 || tcp.checksum.status == 0 || udp.checksum.status == 0 || icmp.checksum.status == 0)"
+    ours = f"(ip.src#1 == {OURS} || ipv6.src#1 == {OURS6})"
+    wrong_sums = " || ".join(f"{name}.checksum.status == 0" for name in ("ip", "tcp", "udp", "icmp", "icmpv6"))
+    bad = f"{ours} && (_ws.malformed || {wrong_sums})"
     options = [it for name in ("ip", "tcp", "udp") for it in ("-o", f"{name}.check_checksum:TRUE")]
     count = lambda words: len(subprocess.run(["tshark", "-r", file, *options, "-Y", words], capture_output=True, text=True).stdout.splitlines())
-    all_of_it, wrong = count(f"ip.src == {OURS}"), count(bad)
+    all_of_it, wrong = count(ours), count(bad)
     return say(f"tshark: {all_of_it} packets of the host, {wrong} malformed or with a wrong checksum", all_of_it > 0 and wrong == 0)
 
 

@@ -7,7 +7,7 @@ use crate::page::{self, Page};
 use crate::pings::{IDENT, ping, pong};
 use anyhow::{Result, anyhow};
 use interface::{Config, Interface, SocketHandle, SocketSet, earlier};
-use ip_wire::{HardwareAddress, IpAddress, IpCidr, Ipv4Address};
+use ip_wire::{EthernetAddress, HardwareAddress, IpAddress, IpCidr, Ipv4Address};
 use net_base::{ChecksumCapabilities, DeviceCapabilities, Duration, Instant, ManagedSlice, Medium};
 use sockets::dhcp::{self, Event};
 use sockets::dns::{self, GetQueryResultError};
@@ -18,23 +18,62 @@ use tun_link::Drain;
 /// How many frames a poll takes in, and how often it goes over the sockets, at most.
 const BUDGET: u16 = 16;
 
+/// The handle of each of a host's sockets.
+#[derive(Clone, Copy)]
+struct Handles {
+    dhcp: SocketHandle,
+    dns: SocketHandle,
+    pings: SocketHandle,
+    stream: SocketHandle,
+}
+
 /// A host, what it has to ask, and whom.
 #[derive(Drop)]
 pub struct Host {
     interface: Interface,
     pub drain: Drain,
     sockets: SocketSet<Socket>,
-    dhcp: SocketHandle,
-    dns: SocketHandle,
-    pings: SocketHandle,
+    handles: Handles,
     router: Option<Ipv4Address>,
     /// When the router is pinged next, if it hasn't answered.
     ping_at: Option<Instant>,
     count: u16,
     questions: Vec<Question>,
     asked: Option<Question>,
-    stream: SocketHandle,
     page: Option<Page>,
+}
+
+/// An interface at this device, without an address.
+fn bare(
+    alloc: Global,
+    station: EthernetAddress,
+    seed: u64,
+    drain: &Drain,
+    now: Instant,
+) -> Result<Interface>
+    requires { IsMoment now }
+{
+    let config = Config {
+        random_seed: seed,
+        hardware_addr: HardwareAddress::Ethernet(station),
+        isn_key: None,
+    };
+    Ok(Interface::new(alloc, &config, drain, now)?)
+}
+
+/// Adds a socket of each kind.
+fn add_all(
+    alloc: Global,
+    station: EthernetAddress,
+    seed: u64,
+    sockets: &mut SocketSet<Socket>,
+) -> Result<Handles> {
+    Ok(Handles {
+        dhcp: add(sockets, dhcp::Socket::new(station, seed))?,
+        dns: add(sockets, dns::Socket::new(&[]))?,
+        pings: add(sockets, pings(alloc, IDENT)?)?,
+        stream: add(sockets, stream(alloc, page::ROOM)?)?,
+    })
 }
 
 impl Host {
@@ -42,36 +81,20 @@ impl Host {
     pub fn new(alloc: Global, orders: Orders, now: Instant) -> Result<Host>
         requires { IsMoment now }
     {
-        let mut sockets = SocketSet::new(ManagedSlice::Owned(Vec::new(alloc)));
-        let Orders {
-            station,
-            seed,
-            questions,
-        } = orders;
-        let dhcp = add(&mut sockets, dhcp::Socket::new(station, seed))?;
-        let dns = add(&mut sockets, dns::Socket::new(&[]))?;
-        let pings = add(&mut sockets, pings(alloc, IDENT)?)?;
-        let stream = add(&mut sockets, stream(alloc, page::ROOM)?)?;
         let drain = Drain::new(alloc, capabilities());
-        let config = Config {
-            random_seed: seed,
-            hardware_addr: HardwareAddress::Ethernet(station),
-            isn_key: None,
-        };
-        let interface = Interface::new(alloc, &config, &drain, now)?;
+        let interface = bare(alloc, orders.station, orders.seed, &drain, now)?;
+        let mut sockets = SocketSet::new(ManagedSlice::Owned(Vec::new(alloc)));
+        let handles = add_all(alloc, orders.station, orders.seed, &mut sockets)?;
         Ok(Host {
             interface,
             drain,
             sockets,
-            dhcp,
-            dns,
-            pings,
+            handles,
             router: None,
             ping_at: None,
             count: 0,
-            questions,
+            questions: orders.questions,
             asked: None,
-            stream,
             page: None,
         })
     }
@@ -107,7 +130,7 @@ impl Host {
 
     /// Does what the client of DHCP tells.
     fn configure<R: Eprint>(&mut self, rt: &R, now: Instant) -> Result<()> {
-        let event = match self.sockets.get_mut(self.dhcp) {
+        let event = match self.sockets.get_mut(self.handles.dhcp) {
             Some(Socket::Dhcpv4(socket)) => socket.poll(now),
             _ => None,
         };
@@ -144,14 +167,14 @@ impl Host {
     }
 
     fn set_servers(&mut self, servers: &[IpAddress]) {
-        if let Some(Socket::Dns(socket)) = self.sockets.get_mut(self.dns) {
+        if let Some(Socket::Dns(socket)) = self.sockets.get_mut(self.handles.dns) {
             socket.update_servers(servers);
         }
     }
 
     /// Whether the router answered.
     fn hear<R: Eprint>(&mut self, rt: &R, now: Instant) -> Result<()> {
-        let heard = match self.sockets.get_mut(self.pings) {
+        let heard = match self.sockets.get_mut(self.handles.pings) {
             Some(Socket::Icmp(socket)) => pong(socket),
             _ => false,
         };
@@ -167,7 +190,7 @@ impl Host {
         let Some(question) = &self.asked else {
             return Ok(());
         };
-        let Some(Socket::Dns(socket)) = self.sockets.get_mut(self.dns) else {
+        let Some(Socket::Dns(socket)) = self.sockets.get_mut(self.handles.dns) else {
             return Ok(());
         };
         let name = question.name.as_str();
@@ -192,7 +215,7 @@ impl Host {
 
     /// Turns to the host whose page is fetched.
     fn fetch(&mut self, address: IpAddress) {
-        if let Some(Socket::Tcp(socket)) = self.sockets.get_mut(self.stream) {
+        if let Some(Socket::Tcp(socket)) = self.sockets.get_mut(self.handles.stream) {
             let remote = (address, page::PORT);
             if socket
                 .connect(&mut self.interface, remote, page::OWN_PORT)
@@ -208,7 +231,7 @@ impl Host {
         let Some(mut page) = self.page else {
             return Ok(());
         };
-        let Some(Socket::Tcp(socket)) = self.sockets.get_mut(self.stream) else {
+        let Some(Socket::Tcp(socket)) = self.sockets.get_mut(self.handles.stream) else {
             return Ok(());
         };
         match page.read(socket) {
@@ -240,7 +263,7 @@ impl Host {
         if now < at {
             return;
         }
-        if let Some(Socket::Icmp(socket)) = self.sockets.get_mut(self.pings) {
+        if let Some(Socket::Icmp(socket)) = self.sockets.get_mut(self.handles.pings) {
             let _ = ping(socket, router, self.count);
         }
         self.count = self.count.wrapping_add(1);
@@ -256,7 +279,7 @@ impl Host {
         let Some(question) = self.questions.pop() else {
             return;
         };
-        if let Some(Socket::Dns(socket)) = self.sockets.get_mut(self.dns) {
+        if let Some(Socket::Dns(socket)) = self.sockets.get_mut(self.handles.dns) {
             let _ = socket.start_query(&mut self.interface, question.name.as_str(), question.kind);
         }
         self.asked = Some(question);

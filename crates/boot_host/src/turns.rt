@@ -1,9 +1,11 @@
 //! The run of the host: turns that are read, taken, and answered.
+ghost use Rattle.net_base.specs.Time.{IsMoment};
+
 use crate::host::Host;
 use crate::orders::Orders;
 use anyhow::Result;
 use net_base::Instant;
-use std::io;
+use std::io::{self, Read};
 use tun_link::{read_turn, write_answer};
 
 /// The longest frame that a turn brings, in bytes.
@@ -14,18 +16,33 @@ const LONGEST: usize = 65_535;
 pub fn serve<R: Input + Print + Eprint + AllocGlobal>(rt: &R) -> Result<()> {
     let alloc = rt.alloc();
     let mut reader = rt.reader();
-    let mut writer = io::writer(rt);
     let mut first = Vec::new(alloc);
-    let Some(begin) = read_turn(&mut reader, &mut first, LONGEST, Instant::ZERO)? else {
-        return Ok(());
-    };
-    let mut host = Host::new(alloc, Orders::read(alloc, first.as_slice())?, begin)?;
+    match read_turn(&mut reader, &mut first, LONGEST, Instant::ZERO)? {
+        Some(begin) => {
+            let orders = Orders::read(alloc, first.as_slice())?;
+            let mut host = Box::new(alloc, Host::new(alloc, orders, begin)?)?;
+            take_turns(rt, &mut reader, &mut host, begin)
+        }
+        None => Ok(()),
+    }
+}
+
+/// The turns behind the first one.
+fn take_turns<R: Print + Eprint + AllocGlobal, B: Read>(
+    rt: &R,
+    reader: &mut B,
+    host: &mut Host,
+    begin: Instant,
+) -> Result<()>
+    requires { IsMoment begin }
+{
+    let mut writer = io::writer(rt);
     write_answer(&mut host.drain, &mut writer, Some(begin))?;
     let mut last = begin;
     for _ in 0..u64::MAX {
-        let mut frame = Vec::new(alloc);
-        let Some(now) = read_turn(&mut reader, &mut frame, LONGEST, last)? else {
-            return Ok(());
+        let mut frame = Vec::new(rt.alloc());
+        let Some(now) = read_turn(reader, &mut frame, LONGEST, last)? else {
+            break;
         };
         host.turn(rt, frame, now)?;
         let next = host.next(now);

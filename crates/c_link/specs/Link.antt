@@ -64,8 +64,8 @@ abbrev pub has_leave : LinkValue → Bool
 has_leave link = nat_lt (length link.sent) link.most && gives_tokens link.refusals
 
 abbrev pub LinkMove : LinkValue → Move → LinkValue → Type 0
-LinkMove old (Took frame) new = IsTrue (has_leave old) × (old ≡ record new { waiting = frame ∷ new.waiting })
-LinkMove old Empty new = (new ≡ old) × (IsTrue (has_leave old) → old.waiting ≡ [])
-LinkMove old (Allowed leave) new = (new ≡ old) × (leave ≡ has_leave old)
+LinkMove old (Took t frame) new = IsTrue (has_leave old) × (old ≡ record new { waiting = frame ∷ new.waiting })
+LinkMove old (Empty t) new = (new ≡ old) × (IsTrue (has_leave old) → old.waiting ≡ [])
+LinkMove old (Allowed t leave) new = (new ≡ old) × (leave ≡ has_leave old)
 LinkMove old (Emitted frame) new = new ≡ record old { sent = old.sent ++ frame ∷ [] }
 LinkMove old (Denied _) new = new ≡ record old { refusals = old.refusals + 1 }

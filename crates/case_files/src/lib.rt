@@ -12,8 +12,6 @@
 mod cases;
 mod fault;
 mod lines;
-#[cfg(test)]
-mod tests;
 
 pub use cases::{Case, read_cases};
 pub use fault::Fault;

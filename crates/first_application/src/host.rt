@@ -19,7 +19,7 @@ pub fn address(number: u8) -> IpAddress {
 }
 
 /// An interface at the wire, without an address.
-fn bare(alloc: Global, wire: &Wire, number: u8) -> Result<Interface> {
+pub fn bare(alloc: Global, wire: &Wire, number: u8) -> Result<Interface> {
     let config = Config {
         random_seed: u64::from(number),
         hardware_addr: HardwareAddress::Ethernet(EthernetAddress([2, 0, 0, 0, 0, number])),
@@ -44,11 +44,12 @@ fn set_router(interface: &mut Interface, router: Ipv4Address) -> bool {
         .is_ok()
 }
 
-/// Sets its address, and a router.
-fn set_addresses(interface: &mut Interface, number: u8) -> Result<()> {
+/// An interface at the wire, with its address and a router.
+pub fn addressed(alloc: Global, wire: &Wire, number: u8) -> Result<Interface> {
+    let mut interface = bare(alloc, wire, number)?;
     let router = Ipv4Address::new(192, 168, 1, 254);
-    if set_address(interface, number) && set_router(interface, router) {
-        Ok(())
+    if set_address(&mut interface, number) && set_router(&mut interface, router) {
+        Ok(interface)
     } else {
         Err(anyhow!("no host's address, or no room for a route"))
     }
@@ -63,7 +64,7 @@ struct Handles {
 }
 
 /// Adds a socket to a set that grows.
-fn add(sockets: &mut SocketSet<Socket>, socket: Socket) -> Result<SocketHandle> {
+pub fn add(sockets: &mut SocketSet<Socket>, socket: Socket) -> Result<SocketHandle> {
     sockets
         .add(socket)
         .map_err(|_| anyhow!("no memory for a socket"))
@@ -90,11 +91,10 @@ pub struct Host {
 impl Host {
     /// The host with this number, whose sockets are at this port.
     pub fn new(alloc: Global, number: u8, port: u16) -> Result<Host> {
+        let wire = Wire::new(alloc);
+        let interface = addressed(alloc, &wire, number)?;
         let mut sockets = SocketSet::new(ManagedSlice::Owned(Vec::new(alloc)));
         let handles = add_all(alloc, &mut sockets, port)?;
-        let wire = Wire::new(alloc);
-        let mut interface = bare(alloc, &wire, number)?;
-        set_addresses(&mut interface, number)?;
         Ok(Host {
             interface,
             wire,

@@ -1,6 +1,7 @@
-//! A first application: two hosts on a wire. One echoes, the other sends it a datagram, a text and a ping.
+//! A first application: two hosts on a wire. One echoes, the other sends it a datagram, a text and a ping. Then a host boots.
 #![tactic(auto)]
 
+mod boot;
 mod buffers;
 mod client;
 mod host;
@@ -19,7 +20,7 @@ fn main(rt: HostRuntime) -> Result<()> {
     println!(rt; "{}", ask(alloc, &mut net)?)?;
     println!(rt; "{}", talk(alloc, &mut net)?)?;
     println!(rt; "{}", ping(alloc, &mut net)?)?;
-    Ok(())
+    boot::boot(&rt, alloc)
 }
 
 /// The client sends a datagram, and reads what comes back within a second.

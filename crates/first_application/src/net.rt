@@ -23,7 +23,7 @@ pub struct Net {
 }
 
 /// The moment that is so much later, if the stack takes it.
-fn later(moment: Instant, by: Duration) -> Option<Instant>
+pub fn later(moment: Instant, by: Duration) -> Option<Instant>
     ensures { IfSome result IsMoment }
 {
     if !moment.fits_add(by) {

@@ -22,5 +22,8 @@ pub mod HostCounts
 pub mod Idents
 pub mod Trace
 pub mod OneEnd
+pub mod Mapping
+pub mod Unrefused
+pub mod Loopbacks
 pub mod ByKind
 pub mod Sourced

@@ -1,6 +1,6 @@
 -- At a device whose moves are determined a poll has one end.
 use Rattle.std.proofs.Common.{◌≡◌, ◌≤◌, ℕ, zero, suc, ℤ, Bool, true, false, ◌||◌, ◌&&◌, inl, inr, List, [], ◌∷◌, ◌++◌, Option, Some, None, is_some, refl, sym}
-use Rattle.std.proofs.Common.{ap, ◌∙◌, subst}
+use Rattle.std.proofs.Common.{ap, ◌∙◌, subst, arith}
 use Rattle.net_base.specs.Device.{Move, Took, Empty, Allowed, Emitted, Denied}
 use Rattle.ip_wire.specs.Ip.{destination_of}
 use Rattle.ip_wire.specs.IpAddress.{IpAddress}
@@ -72,9 +72,22 @@ module _ (one_offer : OneOffer) {D : Type 0} (moves : D → Move → D → Type 
 
   -- ONE FRAME
 
-  short_of : (old new : D) (i : InnerValue) (d : Departure) (taken : Bool) → Departs moves old i d taken new → frame_len_of i d ≤ longest
-  short_of old new i d true goes = subst (λ (n : ℕ). n ≤ longest) goes.1 (steady.short old new (Emitted (frame_of i d)) goes.0)
-  short_of old new i d false goes = steady.short old new (Denied (frame_len_of i d)) goes
+  -- frames of any length are taken or refused
+  of_length : (n : ℕ) (here : D) → Det here → IsDetermined moves n here
+  of_length n here det = record {
+    one_end = det.one_end;
+    one_frame = det.one_frame;
+    looks = det.looks;
+    gives = det.gives;
+    takes = λ one other frame short a b. steady.clear here one other frame det a b;
+  }
+
+  abbrev len_by : InnerValue → Option Departure → ℕ
+  len_by i None = 0
+  len_by i (Some d) = frame_len_of i d
+
+  as_long : (i : InnerValue) (o : Option Departure) (d : Departure) → o ≡ Some d → frame_len_of i d ≤ len_by i o
+  as_long i o d is = subst (λ (x : Option Departure). frame_len_of i d ≤ len_by i x) (sym is) (omega arith)
 
   det_of : (old new : D) (i : InnerValue) (d : Departure) (taken : Bool) → Departs moves old i d taken new → Det old → Det new
   det_of old new i d true goes det = steady.stays old new (Emitted (frame_of i d)) det goes.0
@@ -89,18 +102,16 @@ module _ (one_offer : OneOffer) {D : Type 0} (moves : D → Move → D → Type 
   det_out old new i i' l l' p busy sent goes =
       det_once old new i (departure_by i p (plan_of i busy p.header)) (was_taken sent) (changes moves old new i i' l l' p busy sent goes).0
 
-  differ : (old new other : D) (i : InnerValue) (d : Departure) → frame_len_of i d ≤ longest → Det old → Departs moves old i d true new →
-      Departs moves old i d false other → ⊥
-  differ old new other i d low det went denied =
-      det.takes new other (frame_of i d) (subst (λ (n : ℕ). n ≤ longest) (sym went.1) low) went.0
-      (subst (λ (n : ℕ). moves old (Denied n) other) (sym went.1) denied)
+  differ : (old new other : D) (i : InnerValue) (d : Departure) → Det old → Departs moves old i d true new → Departs moves old i d false other → ⊥
+  differ old new other i d det went denied =
+      steady.clear old new other (frame_of i d) det went.0 (subst (λ (n : ℕ). moves old (Denied n) other) (sym went.1) denied)
 
-  one_sent : (d : Departure) (old new other : D) (i : InnerValue) (a b : Bool) → frame_len_of i d ≤ longest → Det old → Departs moves old i d a new →
+  one_sent : (d : Departure) (old new other : D) (i : InnerValue) (a b : Bool) → Det old → Departs moves old i d a new →
       Departs moves old i d b other → new ≡ other
-  one_sent d old new other i true true low det one two = det.one_end new other (Emitted (frame_of i d)) one.0 two.0
-  one_sent d old new other i false false low det one two = det.one_end new other (Denied (frame_len_of i d)) one two
-  one_sent d old new other i true false low det one two = absurd (differ old new other i d low det one two)
-  one_sent d old new other i false true low det one two = absurd (differ old other new i d low det two one)
+  one_sent d old new other i true true det one two = det.one_end new other (Emitted (frame_of i d)) one.0 two.0
+  one_sent d old new other i false false det one two = det.one_end new other (Denied (frame_len_of i d)) one two
+  one_sent d old new other i true false det one two = absurd (differ old new other i d det one two)
+  one_sent d old new other i false true det one two = absurd (differ old other new i d det two one)
 
   abbrev SameOut : Sent → D → InnerValue → Option LeftValue → Sent → D → InnerValue → Option LeftValue → Type 0
   SameOut s new j k t other j' k' = (s ≡ t) × (new ≡ other) × (j ≡ j') × (k ≡ k')
@@ -109,50 +120,51 @@ module _ (one_offer : OneOffer) {D : Type 0} (moves : D → Move → D → Type 
       → GoesOut moves old i l p (plan_of i busy p.header) s new j k → GoesOut moves old i l p (plan_of i busy p.header) t other j' k' →
       SameOut s new j k t other j' k'
   one_out old new other i j j' l k k' p busy s t det one two =
-      let once = (changes moves old new i j l k p busy s one).0 in
-      one_way moves longest old det i l p (plan_of i busy p.header)
-      (λ d is. short_of old new i d (was_taken s) (subst (λ (o : Option Departure). SendsOnce moves old i o (was_taken s) new) is once)) s t new other j j'
-      k k' one two
+      let o : Option Departure = departure_by i p (plan_of i busy p.header) in
+      one_way moves (len_by i o) old (of_length (len_by i o) old det) i l p (plan_of i busy p.header) (as_long i o) s t new other j j' k k' one two
 
   -- TURNS
 
   module _ (turn : Option IpAddress) where
-    one_given : (g h : Bool) (x y z : D) → Det x → moves x (Allowed g) y → moves x (Allowed h) z → g ≡ h
-    one_given true true x y z det one two = refl
-    one_given false false x y z det one two = refl
-    one_given true false x y z det one two = absurd (det.gives y z one two)
-    one_given false true x y z det one two = absurd (det.gives z y two one)
+    one_given : (at : ℤ) (g h : Bool) (x y z : D) → Det x → moves x (Allowed at g) y → moves x (Allowed at h) z → g ≡ h
+    one_given at true true x y z det one two = refl
+    one_given at false false x y z det one two = refl
+    one_given at true false x y z det one two = absurd (det.gives at y z one two)
+    one_given at false true x y z det one two = absurd (det.gives at z y two one)
 
     same_sent : (s t : Sent) → Some s ≡ Some t → s ≡ t
     same_sent s t is = cc
 
-    rests_or_goes : (g : Bool) (h : Option Sent) (s : Sent) (x y mid : D) → Det x → moves x (Allowed g) y → outcome_by g h ≡ Some s →
-        moves x (Allowed true) mid → h ≡ None → ⊥
-    rests_or_goes false h s x y mid det rests is goes none = det.gives mid y goes rests
-    rests_or_goes true h s x y mid det rests is goes none = let off = sym none ∙ is in cc
+    rests_or_goes : (at : ℤ) (g : Bool) (h : Option Sent) (s : Sent) (x y mid : D) → Det x → moves x (Allowed at g) y → outcome_by g h ≡ Some s →
+        moves x (Allowed at true) mid → h ≡ None → ⊥
+    rests_or_goes at false h s x y mid det rests is goes none = det.gives at mid y goes rests
+    rests_or_goes at true h s x y mid det rests is goes none = let off = sym none ∙ is in cc
 
     one_leaves : (x y z : Sender D) (m : Meta) (p : PacketValue) (s t : Sent) → Det x.device → Leaves moves turn x m p s y → Leaves moves turn x m p t z →
         (s ≡ t) × (y ≡ z)
     one_leaves x y z m p s t det (inl a) (inl b) =
-        let given : a.0 ≡ b.0 = one_given a.0 b.0 x.device y.device z.device det a.1 b.1 in
-        let again : moves x.device (Allowed a.0) z.device = subst (λ (g : Bool). moves x.device (Allowed g) z.device) (sym given) b.1 in (
+        let given : a.0 ≡ b.0 = one_given x.inner.moment a.0 b.0 x.device y.device z.device det a.1 b.1 in
+        let again : moves x.device (Allowed x.inner.moment a.0) z.device = subst (λ (g : Bool). moves x.device (Allowed x.inner.moment g) z.device)
+        (sym given) b.1 in (
           same_sent s t (sym a.4 ∙ ap (λ (g : Bool). outcome_by g (held_at moves turn x m p)) given ∙ b.4),
-          same_sender y z (det.one_end y.device z.device (Allowed a.0) a.1 again) (a.2 ∙ sym b.2) (a.3 ∙ sym b.3),
+          same_sender y z (det.one_end y.device z.device (Allowed x.inner.moment a.0) a.1 again) (a.2 ∙ sym b.2) (a.3 ∙ sym b.3),
         )
-    one_leaves x y z m p s t det (inl a) (inr b) = absurd (rests_or_goes a.0 (held_at moves turn x m p) s x.device y.device b.0 det a.1 a.4 b.1 b.3)
-    one_leaves x y z m p s t det (inr a) (inl b) = absurd (rests_or_goes b.0 (held_at moves turn x m p) t x.device z.device a.0 det b.1 b.4 a.1 a.3)
+    one_leaves x y z m p s t det (inl a) (inr b) = absurd
+        (rests_or_goes x.inner.moment a.0 (held_at moves turn x m p) s x.device y.device b.0 det a.1 a.4 b.1 b.3)
+    one_leaves x y z m p s t det (inr a) (inl b) = absurd
+        (rests_or_goes x.inner.moment b.0 (held_at moves turn x m p) t x.device z.device a.0 det b.1 b.4 a.1 a.3)
     one_leaves x y z m p s t det (inr a) (inr b) =
-        let mids : b.0 ≡ a.0 = det.one_end b.0 a.0 (Allowed true) b.1 a.1 in
+        let mids : b.0 ≡ a.0 = det.one_end b.0 a.0 (Allowed x.inner.moment true) b.1 a.1 in
         let two : GoesOut moves a.0 x.inner x.left p (plan_of x.inner (is_some x.left) p.header) t z.device z.inner z.left =
         subst (λ (d : D). GoesOut moves d x.inner x.left p (plan_of x.inner (is_some x.left) p.header) t z.device z.inner z.left) mids b.2 in
         let same = one_out a.0 y.device z.device x.inner y.inner z.inner x.left y.left z.left p (is_some x.left) s t
-        (steady.stays x.device a.0 (Allowed true) det a.1) a.2 two in
+        (steady.stays x.device a.0 (Allowed x.inner.moment true) det a.1) a.2 two in
         (same.0, same_sender y z same.1 same.2 same.3)
 
     det_leaves : (x y : Sender D) (m : Meta) (p : PacketValue) (s : Sent) → Leaves moves turn x m p s y → Det x.device → Det y.device
-    det_leaves x y m p s (inl a) det = steady.stays x.device y.device (Allowed a.0) det a.1
+    det_leaves x y m p s (inl a) det = steady.stays x.device y.device (Allowed x.inner.moment a.0) det a.1
     det_leaves x y m p s (inr a) det =
-        det_out a.0 y.device x.inner y.inner x.left y.left p (is_some x.left) s a.2 (steady.stays x.device a.0 (Allowed true) det a.1)
+        det_out a.0 y.device x.inner y.inner x.left y.left p (is_some x.left) s a.2 (steady.stays x.device a.0 (Allowed x.inner.moment true) det a.1)
 
     abbrev SameTurn : {A : Type 0} → Turned → Sender D → A → Turned → Sender D → A → Type 0
     SameTurn a y p b z q = (a ≡ b) × (y ≡ z) × (p ≡ q)
@@ -269,22 +281,22 @@ module _ (one_offer : OneOffer) {D : Type 0} (moves : D → Move → D → Type 
   one_piece_leaves : (l : LeftValue) (x y z : Sender D) (a b : Bool) → Det x.device → y.inner ≡ x.inner → z.inner ≡ x.inner → PieceLeaves moves l x a y →
       PieceLeaves moves l x b z → (a ≡ b) × (y ≡ z)
   one_piece_leaves l x y z a b det i j (inl one) (inl two) =
-      (one.1 ∙ sym two.1, same_sender y z (det.one_end y.device z.device (Allowed false) one.0 two.0) (i ∙ sym j) (one.2 ∙ sym two.2))
-  one_piece_leaves l x y z a b det i j (inl one) (inr two) = absurd (det.gives two.0 y.device two.1 one.0)
-  one_piece_leaves l x y z a b det i j (inr one) (inl two) = absurd (det.gives one.0 z.device one.1 two.0)
+      (one.1 ∙ sym two.1, same_sender y z (det.one_end y.device z.device (Allowed x.inner.moment false) one.0 two.0) (i ∙ sym j) (one.2 ∙ sym two.2))
+  one_piece_leaves l x y z a b det i j (inl one) (inr two) = absurd (det.gives x.inner.moment two.0 y.device two.1 one.0)
+  one_piece_leaves l x y z a b det i j (inr one) (inl two) = absurd (det.gives x.inner.moment one.0 z.device one.1 two.0)
   one_piece_leaves l x y z a b det i j (inr one) (inr two) =
-      let mids : two.0 ≡ one.0 = det.one_end two.0 one.0 (Allowed true) two.1 one.1 in
+      let mids : two.0 ≡ one.0 = det.one_end two.0 one.0 (Allowed x.inner.moment true) two.1 one.1 in
       let again : PieceGoesOut moves one.0 x.inner l b z.device z.left = subst (λ (d : D). PieceGoesOut moves d x.inner l b z.device z.left) mids two.2 in
-      let here : Det one.0 = steady.stays x.device one.0 (Allowed true) det one.1 in
-      let low = short_of one.0 y.device x.inner (departure_from x.inner l) a (piece_sends moves one.0 y.device x.inner l y.left a one.2) in
-      let same = one_piece moves longest one.0 here x.inner l low a b y.device z.device y.left z.left one.2 again in
+      let here : Det one.0 = steady.stays x.device one.0 (Allowed x.inner.moment true) det one.1 in
+      let n : ℕ = frame_len_of x.inner (departure_from x.inner l) in
+      let same = one_piece moves n one.0 (of_length n one.0 here) x.inner l (omega arith) a b y.device z.device y.left z.left one.2 again in
       (same.0, same_sender y z same.1 (i ∙ sym j) same.2)
 
   det_piece_leaves : (l : LeftValue) (x y : Sender D) (a : Bool) → PieceLeaves moves l x a y → Det x.device → Det y.device
-  det_piece_leaves l x y a (inl one) det = steady.stays x.device y.device (Allowed false) det one.0
+  det_piece_leaves l x y a (inl one) det = steady.stays x.device y.device (Allowed x.inner.moment false) det one.0
   det_piece_leaves l x y a (inr one) det =
       det_of one.0 y.device x.inner (departure_from x.inner l) a (piece_sends moves one.0 y.device x.inner l y.left a one.2)
-      (steady.stays x.device one.0 (Allowed true) det one.1)
+      (steady.stays x.device one.0 (Allowed x.inner.moment true) det one.1)
 
   one_clears : (l : Option LeftValue) (x y z : Sender D) (a b : Bool) → Det x.device → Clears moves l x a y → Clears moves l x b z → (a ≡ b) × (y ≡ z)
   one_clears None x y z a b det one two = (one.0 ∙ sym two.0, one.1 ∙ sym two.1)
@@ -326,8 +338,7 @@ module _ (one_offer : OneOffer) {D : Type 0} (moves : D → Move → D → Type 
       Replied moves awaited reply x z → y ≡ z
   one_replied awaited None x y z det one two = one ∙ sym two
   one_replied awaited (Some (Replies.Tells packet)) x y z det one two =
-      let low = short_of x.device y.device x.inner (Departures.Tells packet) one.0 one.1 in
-      same_sender y z (one_sent (Departures.Tells packet) x.device y.device z.device x.inner one.0 two.0 low det one.1 two.1) (one.2 ∙
+      same_sender y z (one_sent (Departures.Tells packet) x.device y.device z.device x.inner one.0 two.0 det one.1 two.1) (one.2 ∙
       sym two.2) (one.3 ∙ sym two.3)
   one_replied awaited (Some (Replies.Answers p)) x y z det (inl one) (inl two) = one.0 ∙ sym two.0
   one_replied awaited (Some (Replies.Answers p)) x y z det (inl one) (inr two) = absurd (both_read (awaited && would_ask x p) one.1 two.3)
@@ -364,36 +375,38 @@ module _ (one_offer : OneOffer) {D : Type 0} (moves : D → Move → D → Type 
 
   one_takes : (o s r : State D) (a b : Option Bool) → Det o.device → Takes moves o a s → Takes moves o b r → SameStep a s b r
   one_takes o s r None None det one two =
-      (refl, one.1 ∙ ap (at_device o) (det.one_end s.device r.device Empty one.0 two.0) ∙ sym two.1)
-  one_takes o s r None (Some false) det one two = absurd (det.looks r.device s.device two.0 two.1 one.0)
-  one_takes o s r None (Some true) det one two = absurd (det.looks two.1 s.device two.0 two.2 one.0)
-  one_takes o s r (Some false) None det one two = absurd (det.looks s.device r.device one.0 one.1 two.0)
-  one_takes o s r (Some true) None det one two = absurd (det.looks one.1 r.device one.0 one.2 two.0)
+      (refl, one.1 ∙ ap (at_device o) (det.one_end s.device r.device (Empty o.host.inner.moment) one.0 two.0) ∙ sym two.1)
+  one_takes o s r None (Some false) det one two = absurd (det.looks o.host.inner.moment r.device s.device two.0 two.1 one.0)
+  one_takes o s r None (Some true) det one two = absurd (det.looks o.host.inner.moment two.1 s.device two.0 two.2 one.0)
+  one_takes o s r (Some false) None det one two = absurd (det.looks o.host.inner.moment s.device r.device one.0 one.1 two.0)
+  one_takes o s r (Some true) None det one two = absurd (det.looks o.host.inner.moment one.1 r.device one.0 one.2 two.0)
   one_takes o s r (Some false) (Some false) det one two =
-      let frames = det.one_frame r.device s.device two.0 one.0 two.1 one.1 in
-      let again : moves o.device (Took one.0) r.device = subst (λ (f : List ℕ). moves o.device (Took f) r.device) frames two.1 in
-      (refl, one.3 ∙ ap (at_device o) (det.one_end s.device r.device (Took one.0) one.1 again) ∙ sym two.3)
+      let frames = det.one_frame o.host.inner.moment r.device s.device two.0 one.0 two.1 one.1 in
+      let again : moves o.device (Took o.host.inner.moment one.0) r.device = subst
+      (λ (f : List ℕ). moves o.device (Took o.host.inner.moment f) r.device) frames two.1 in
+      (refl, one.3 ∙ ap (at_device o) (det.one_end s.device r.device (Took o.host.inner.moment one.0) one.1 again) ∙ sym two.3)
   one_takes o s r (Some false) (Some true) det one two =
-      let frames = det.one_frame s.device two.1 one.0 two.0 one.1 two.2 in
+      let frames = det.one_frame o.host.inner.moment s.device two.1 one.0 two.0 one.1 two.2 in
       absurd (both_read (is_read two.0) two.3 (ap is_read (sym frames) ∙ one.2))
   one_takes o s r (Some true) (Some false) det one two =
-      let frames = det.one_frame one.1 r.device one.0 two.0 one.2 two.1 in
+      let frames = det.one_frame o.host.inner.moment one.1 r.device one.0 two.0 one.2 two.1 in
       absurd (both_read (is_read one.0) one.3 (ap is_read frames ∙ two.2))
   one_takes o s r (Some true) (Some true) det one two =
-      let frames : two.0 ≡ one.0 = det.one_frame two.1 one.1 two.0 one.0 two.2 one.2 in
-      let took : moves o.device (Took one.0) two.1 = subst (λ (f : List ℕ). moves o.device (Took f) two.1) frames two.2 in
-      let mids : two.1 ≡ one.1 = det.one_end two.1 one.1 (Took one.0) took one.2 in
+      let frames : two.0 ≡ one.0 = det.one_frame o.host.inner.moment two.1 one.1 two.0 one.0 two.2 one.2 in
+      let took : moves o.device (Took o.host.inner.moment one.0) two.1 = subst
+      (λ (f : List ℕ). moves o.device (Took o.host.inner.moment f) two.1) frames two.2 in
+      let mids : two.1 ≡ one.1 = det.one_end two.1 one.1 (Took o.host.inner.moment one.0) took one.2 in
       let again : Reads moves one.0 (at_device o one.1) r =
       subst (λ (f : List ℕ). Reads moves f (at_device o one.1) r) frames (subst (λ (d : D). Reads moves two.0 (at_device o d) r) mids two.4) in
-      (refl, one_reads one.0 (at_device o one.1) s r (steady.stays o.device one.1 (Took one.0) det one.2) one.4 again)
+      (refl, one_reads one.0 (at_device o one.1) s r (steady.stays o.device one.1 (Took o.host.inner.moment one.0) det one.2) one.4 again)
 
   det_takes : (o s : State D) (a : Option Bool) → Takes moves o a s → Det o.device → Det s.device
-  det_takes o s None one det = steady.stays o.device s.device Empty det one.0
-  det_takes o s (Some false) one det = steady.stays o.device s.device (Took one.0) det one.1
+  det_takes o s None one det = steady.stays o.device s.device (Empty o.host.inner.moment) det one.0
+  det_takes o s (Some false) one det = steady.stays o.device s.device (Took o.host.inner.moment one.0) det one.1
   det_takes o s (Some true) one det =
       let receives = one.4.2 in
       det_replied (is_awaited receives.0) receives.0.reply (sender_with moves (at_device o one.1) receives.0) (sender_of moves s) receives.3
-      (steady.stays o.device one.1 (Took one.0) det one.2)
+      (steady.stays o.device one.1 (Took o.host.inner.moment one.0) det one.2)
 
   -- STEPS
 

@@ -2,7 +2,7 @@
 use Rattle.std.proofs.Common.{◌≡◌, ℕ, zero, suc, ℤ, Bool, true, false, ◌⊎◌, inl, inr, if◌then◌else◌, List, [], ◌∷◌, Option, Some, None, refl, sym, ap, ◌∙◌}
 use Rattle.std.proofs.Common.{subst}
 use Rattle.net_base.specs.Device.{Move, Empty}
-use Rattle.ip_wire.specs.Ipv4FragKey.{Ipv4FragKey}
+use Rattle.interface_tables.specs.declared.key.FragKey.{FragKey}
 use Rattle.interface_tables.specs.Inner.{InnerValue, at_moment}
 use Rattle.interface_tables.specs.Reassembly.{SlotValue, freed}
 use Rattle.interface_tables.specs.Slots.{is_expired, unless_expired, without_expired}
@@ -19,20 +19,20 @@ use Rattle.interface.specs.QuietPoll.{HasNoFrame, IsQuietPoll}
 
 -- SLOTS: those that were freed aren't freed again
 
-freed_once : (t : ℤ) (s : SlotValue Ipv4FragKey) → unless_expired t (unless_expired t s) ≡ unless_expired t s
+freed_once : (t : ℤ) (s : SlotValue FragKey) → unless_expired t (unless_expired t s) ≡ unless_expired t s
 freed_once t s = by (is_expired t s) refl where
   by : (test : Bool) → is_expired t s ≡ test → unless_expired t (if test then freed s else s) ≡ (if test then freed s else s)
   by true is = refl
   by false is = ap (λ (b : Bool). if b then freed s else s) is
 
-freed_all : (t : ℤ) (slots : List (SlotValue Ipv4FragKey)) → without_expired (without_expired slots t) t ≡ without_expired slots t
+freed_all : (t : ℤ) (slots : List (SlotValue FragKey)) → without_expired (without_expired slots t) t ≡ without_expired slots t
 freed_all t [] = refl
 freed_all t (s ∷ slots) =
-    ap (λ (x : SlotValue Ipv4FragKey). x ∷ without_expired (without_expired slots t) t) (freed_once t s) ∙
-    ap (λ (xs : List (SlotValue Ipv4FragKey)). unless_expired t s ∷ xs) (freed_all t slots)
+    ap (λ (x : SlotValue FragKey). x ∷ without_expired (without_expired slots t) t) (freed_once t s) ∙
+    ap (λ (xs : List (SlotValue FragKey)). unless_expired t s ∷ xs) (freed_all t slots)
 
 pub maintained_once : (t : ℤ) (h : HostValue) → maintained t (maintained t h) ≡ maintained t h
-maintained_once t h = ap (λ (slots : List (SlotValue Ipv4FragKey)). record (maintained t h) { slots = slots }) (freed_all t h.slots)
+maintained_once t h = ap (λ (slots : List (SlotValue FragKey)). record (maintained t h) { slots = slots }) (freed_all t h.slots)
 
 some_false : (b : Bool) → Some b ≡ if_changed false → ⊥
 some_false b is = cc
@@ -41,13 +41,13 @@ module _ {D : Type 0} (moves : D → Move → D → Type 0) (t : ℤ) where
   -- THE WAY IN
 
   abbrev Looks : State D → State D → Type 0
-  Looks s s' = ((s'.device ≡ s.device) ⊎ moves s.device Empty s'.device) × (s' ≡ at_device s s'.device)
+  Looks s s' = ((s'.device ≡ s.device) ⊎ moves s.device (Empty t) s'.device) × (s' ≡ at_device s s'.device)
 
-  took_none : (s mid : State D) (b : Bool) → HasNoFrame moves s.device → Takes moves s (Some b) mid → ⊥
+  took_none : (s mid : State D) (b : Bool) → HasNoFrame moves s.host.inner.moment s.device → Takes moves s (Some b) mid → ⊥
   took_none s mid true none takes = none takes.0 takes.1 takes.2
   took_none s mid false none takes = none takes.0 mid.device takes.1
 
-  quiet_in : (n : ℕ) (s s' : State D) (c c' : Bool) → s.host ≡ maintained t s.host → HasNoFrame moves s.device → Repeats (IngressStep moves t) n s c s' c'
+  quiet_in : (n : ℕ) (s s' : State D) (c c' : Bool) → s.host ≡ maintained t s.host → HasNoFrame moves t s.device → Repeats (IngressStep moves t) n s c s' c'
       → Looks s s' × (c' ≡ c)
   quiet_in zero s s' c c' kept none steps =
       ((inl (ap (λ (x : State D). x.device) steps.0), steps.0 ∙ ap (at_device s) (sym (ap (λ (x : State D). x.device) steps.0))), steps.1)
@@ -91,7 +91,7 @@ module _ {D : Type 0} (moves : D → Move → D → Type 0) (t : ℤ) where
 
 pub quiet_poll : (due : DueAsBefore) {D : Type 0} (moves : D → Move → D →
     Type 0) (t : ℤ) (asked : InnerValue) (last : ℤ) (budget : ℕ) (s s' : State D) (changed : Bool)
-    → s.host.inner ≡ at_moment last asked → IsEarly asked s.host.left s.places t → HasNoFrame moves s.device → Polls moves t budget s changed s'
+    → s.host.inner ≡ at_moment last asked → IsEarly asked s.host.left s.places t → HasNoFrame moves t s.device → Polls moves t budget s changed s'
     → IsQuietPoll moves asked t s changed s'
 quiet_poll due {D} moves t asked last budget s s' changed is early none polls =
     let entry = quiet_in moves t budget (begun t s) polls.0 false polls.1 (sym (maintained_once t s.host)) none polls.2 in
@@ -101,7 +101,7 @@ quiet_poll due {D} moves t asked last budget s s' changed is early none polls =
     let exit = quiet_out moves t due asked t budget (state polls.0.device (maintained t s.host) s.places) s' polls.1 changed refl (ap (at_moment t) is)
     early steps in
     record {
-      device = subst (λ (d : D). (d ≡ s.device) ⊎ moves s.device Empty d) (sym (ap (λ (x : State D). x.device) exit.0)) entry.0.0;
+      device = subst (λ (d : D). (d ≡ s.device) ⊎ moves s.device (Empty t) d) (sym (ap (λ (x : State D). x.device) exit.0)) entry.0.0;
       changed_none = exit.2 ∙ entry.1;
       host = ap (λ (x : State D). x.host) exit.0;
       instant = exit.1;

@@ -2,7 +2,7 @@
 use Rattle.std.proofs.Common.{◌≡◌, ℕ, ◌+◌, ◌*◌, ◌≤◌, length, arith, ℤ, Bool, true, false, int_lt, inl, inr, List, [], ◌∷◌, Option, Some, None, is_some, refl}
 use Rattle.std.proofs.Common.{sym, ap, ◌∙◌, subst}
 use Rattle.net_base.specs.ChecksumCapabilities.{ChecksumCapabilities}
-use Rattle.net_base.specs.Device.{Move}
+use Rattle.net_base.specs.Device.{Move, Took, Empty, Allowed}
 use Rattle.ip_wire.specs.HardwareAddress.{HardwareAddress}
 use Rattle.ip_wire.specs.IpAddress.{IpAddress}
 use Rattle.ip_wire.specs.IpRepr.{IpRepr}
@@ -77,7 +77,7 @@ module _ {D : Type 0} (moves : D → Move → D → Type 0) (t : ℤ) (d0 : D) (
         checksums = checksums ∙ so.checksums;
       }
 
-  so_looks : (found : Option (List ℕ)) (d d' : D) (i : InnerValue) → Does moves i0.hardware i0.checksums (Looks found) d d' → So d i → So d' i
+  so_looks : (found : Option (List ℕ)) (d d' : D) (i : InnerValue) → Does moves t i0.hardware i0.checksums (Looks found) d d' → So d i → So d' i
   so_looks found d d' i does so =
       record {
         touches = Looks found ∷ so.touches;
@@ -89,11 +89,11 @@ module _ {D : Type 0} (moves : D → Move → D → Type 0) (t : ℤ) (d0 : D) (
             so.checksums;
       }
 
-  so_leave : (given : Bool) (d d' : D) (i : InnerValue) → Does moves i0.hardware i0.checksums (Leave given) d d' → So d i → So d' i
-  so_leave given d d' i does so =
+  so_leave : (given : Bool) (d d' : D) (i : InnerValue) → i.moment ≡ t → moves d (Allowed i.moment given) d' → So d i → So d' i
+  so_leave given d d' i now does so =
       record {
         touches = Leave given ∷ so.touches;
-        path = (d, so.path, does);
+        path = (d, so.path, subst (λ (m : ℤ). moves d (Allowed m given) d') now does);
         sends = so.sends;
         silence = so.silence;
         hardware = so.hardware;
@@ -103,7 +103,7 @@ module _ {D : Type 0} (moves : D → Move → D → Type 0) (t : ℤ) (d0 : D) (
 
   -- what a host sends is what the one that began sends
   as_begun : (x : Departure) (taken : Bool) (d d' : D) (i : InnerValue) → i.hardware ≡ i0.hardware → i.checksums ≡ i0.checksums → Departs moves d i x taken d' →
-      Does moves i0.hardware i0.checksums (Sends x taken) d d'
+      Does moves t i0.hardware i0.checksums (Sends x taken) d d'
   as_begun x taken d d' i hardware checksums goes =
       subst (λ (own : HardwareAddress). Emits moves d (frame_from own i0.checksums x) (len_from own x) taken d') hardware
       (subst (λ (caps : ChecksumCapabilities). Emits moves d (frame_from i.hardware caps x) (len_from i.hardware x) taken d') checksums goes)
@@ -205,28 +205,29 @@ module _ {D : Type 0} (moves : D → Move → D → Type 0) (t : ℤ) (d0 : D) (
   so_takes : (s s' : State D) (answer : Option Bool) → RunsAt t s.host.inner → SoAt s → Takes moves s answer s' → ToAt s'
   so_takes s s' None runs so takes =
       so_where s'.device s'.device s.host.inner s'.host.inner refl (ap (λ (x : State D). x.host.inner) takes.1)
-      (so_looks None s.device s'.device s.host.inner takes.0 so)
+      (so_looks None s.device s'.device s.host.inner (subst (λ (m : ℤ). moves s.device (Empty m) s'.device) runs.0 takes.0) so)
   so_takes s s' (Some false) runs so takes =
       so_where s'.device s'.device s.host.inner s'.host.inner refl (ap (λ (x : State D). x.host.inner) takes.3)
-      (so_looks (Some takes.0) s.device s'.device s.host.inner takes.1 so)
+      (so_looks (Some takes.0) s.device s'.device s.host.inner (subst (λ (m : ℤ). moves s.device (Took m takes.0) s'.device) runs.0 takes.1) so)
   so_takes s s' (Some true) runs so takes =
       let reads = takes.4 in
       let i : InnerValue = s.host.inner in
       let j : InnerValue = reads.2.0.inner in
       let same : HasSameSettings i j = (receives_same moves reads.0 (record s { device = takes.1 }) s' reads.2).0 in
-      let took : So takes.1 i = so_looks (Some takes.0) s.device takes.1 i takes.2 so in
+      let took : So takes.1 i = so_looks (Some takes.0) s.device takes.1 i (subst (λ (m : ℤ). moves s.device (Took m takes.0) takes.1) runs.0 takes.2) so in
       so_replied (is_awaited reads.2.0) reads.2.0.reply (record { device = takes.1; inner = j; left = s.host.left })
       (record { device = s'.device; inner = s'.host.inner; left = s'.host.left })
       (same.moment ∙ runs.0) reads.2.3 (so_host n takes.1 i j same.hardware same.checksums same.silent took)
 
   -- THE WAY OUT
 
-  so_piece_leaves : (l : LeftValue) (x x' : Sender D) (gone : Bool) → PieceLeaves moves l x gone x' → x'.inner ≡ x.inner → So x.device x.inner →
-      To x'.device x'.inner
-  so_piece_leaves l x x' gone (inl stays) is so = so_where x'.device x'.device x.inner x'.inner refl is (so_leave false x.device x'.device x.inner stays.0 so)
-  so_piece_leaves l x x' gone (inr goes) is so =
+  so_piece_leaves : (l : LeftValue) (x x' : Sender D) (gone : Bool) → x.inner.moment ≡ t → PieceLeaves moves l x gone x' → x'.inner ≡ x.inner →
+      So x.device x.inner → To x'.device x'.inner
+  so_piece_leaves l x x' gone now (inl stays) is so =
+      so_where x'.device x'.device x.inner x'.inner refl is (so_leave false x.device x'.device x.inner now stays.0 so)
+  so_piece_leaves l x x' gone now (inr goes) is so =
       to_where x'.device x'.device x.inner x'.inner refl is
-      (so_piece l gone goes.0 x'.device x.inner x'.left goes.2 (so_leave true x.device goes.0 x.inner goes.1 so))
+      (so_piece l gone goes.0 x'.device x.inner x'.left goes.2 (so_leave true x.device goes.0 x.inner now goes.1 so))
 
   module _ (turn : Option IpAddress) (x x' : Sender D) (now : x.inner.moment ≡ t) (so : So x.device x.inner) where
     abbrev Next : Type 0
@@ -236,9 +237,9 @@ module _ {D : Type 0} (moves : D → Move → D → Type 0) (t : ℤ) (d0 : D) (
     so_same is = so_where x.device x'.device x.inner x'.inner (ap (λ (y : Sender D). y.device) is) (ap (λ (y : Sender D). y.inner) is) so
 
     so_leaves : (m : Meta) (p : PacketValue) (sent : Sent) → Leaves moves turn x m p sent x' → Next
-    so_leaves m p sent (inl rests) = so_where x'.device x'.device x.inner x'.inner refl rests.2 (so_leave rests.0 x.device x'.device x.inner rests.1 so)
+    so_leaves m p sent (inl rests) = so_where x'.device x'.device x.inner x'.inner refl rests.2 (so_leave rests.0 x.device x'.device x.inner now rests.1 so)
     so_leaves m p sent (inr goes) =
-        so_out goes.0 x'.device x.inner x'.inner x.left x'.left p (is_some x.left) sent now goes.2 (so_leave true x.device goes.0 x.inner goes.1 so)
+        so_out goes.0 x'.device x.inner x'.inner x.left x'.left p (is_some x.left) sent now goes.2 (so_leave true x.device goes.0 x.inner now goes.1 so)
 
     so_sent : (o : Option PacketValue) (item item' : Item Socket) (changed : Bool) (turned : Turned) →
         SendsBy moves turn o x item changed turned x' item' → Next
@@ -271,7 +272,7 @@ module _ {D : Type 0} (moves : D → Move → D → Type 0) (t : ℤ) (d0 : D) (
     more = λ n m s up so. so_more moves t d0 i0 n n m s.device s.host.inner up so;
     maintenance = λ n s so. so_host moves t d0 i0 n n s.device s.host.inner (at_moment t s.host.inner) refl refl refl so;
     arrivals = λ n s s' answer runs so takes. so_takes moves t d0 i0 n s s' answer runs so takes;
-    pieces = λ n h ps x x' l gone runs is so leaves same. so_piece_leaves moves t d0 i0 n l x x' gone leaves same so;
+    pieces = λ n h ps x x' l gone runs is so leaves same. so_piece_leaves moves t d0 i0 n l x x' gone runs.0 leaves same so;
     turns = λ turn n h before after p p' x x' turned runs so turns. so_place moves t d0 i0 n turn x x' runs.0 so p p' turned turns;
   }
 

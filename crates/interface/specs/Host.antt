@@ -1,6 +1,6 @@
 -- A host as a value, but for its sockets.
 use Rattle.std.specs.Prelude.{ℕ, ℤ, List, Option}
-use Rattle.ip_wire.specs.Ipv4FragKey.{Ipv4FragKey}
+use Rattle.interface_tables.specs.declared.key.FragKey.{FragKey}
 use Rattle.interface_tables.specs.Inner.{InnerValue, at_moment}
 use Rattle.interface_tables.specs.Reassembly.{SlotValue}
 use Rattle.interface_tables.specs.Slots.{without_expired}
@@ -11,7 +11,7 @@ use Rattle.interface_egress.specs.Fragments.{LeftValue}
 pub record HostValue : Type 0 where
   pub inner : InnerValue
   pub left : Option LeftValue
-  pub slots : List (SlotValue Ipv4FragKey)
+  pub slots : List (SlotValue FragKey)
   pub timeout : ℕ
 
 -- a call that polls begins at a moment

@@ -63,13 +63,13 @@ module _ {D : Type 0} (moves : D → Move → D → Type 0) where
   Reads frame s s' =
       (content : Option IncomingValue) × IsContent s.host.inner.hardware s.host.inner.checksums frame content × Receives content s s'
 
-  -- No frame came; or one that isn't read; or one that is.
+  -- At the host's moment no frame came; or one that isn't read; or one that is.
   abbrev pub Takes : State D → Option Bool → State D → Type 0
-  Takes s None s' = moves s.device Empty s'.device × (s' ≡ at_device s s'.device)
+  Takes s None s' = moves s.device (Empty s.host.inner.moment) s'.device × (s' ≡ at_device s s'.device)
   Takes s (Some false) s' =
-      (frame : List ℕ) × moves s.device (Took frame) s'.device × (is_read frame ≡ false) × (s' ≡ at_device s s'.device)
+      (frame : List ℕ) × moves s.device (Took s.host.inner.moment frame) s'.device × (is_read frame ≡ false) × (s' ≡ at_device s s'.device)
   Takes s (Some true) s' =
-      (frame : List ℕ) × (mid : D) × moves s.device (Took frame) mid × (is_read frame ≡ true) × Reads frame (at_device s mid) s'
+      (frame : List ℕ) × (mid : D) × moves s.device (Took s.host.inner.moment frame) mid × (is_read frame ≡ true) × Reads frame (at_device s mid) s'
 
   -- a call begins with maintenance
   abbrev pub IngressStep : ℤ → State D → Option Bool → State D → Type 0

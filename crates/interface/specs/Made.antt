@@ -2,7 +2,7 @@
 use Rattle.std.specs.Prelude.{◌≡◌, ℕ, ℤ, ◌-ℤ◌, int_lt, true, if◌then◌else◌, IsTrue, List, [], Option, None, Some, Result, Err, MatchResult}
 use Rattle.std.specs.Int.RustNames.{unsigned_abs}
 use Rattle.std.specs.List.{AllByRecursion}
-use Rattle.ip_wire.specs.Ipv4FragKey.{Ipv4FragKey}
+use Rattle.interface_tables.specs.declared.key.FragKey.{FragKey}
 use Rattle.net_base.specs.DeviceCapabilities.{DeviceCapabilities}
 use Rattle.interface_tables.specs.Inner.{InnerValue}
 use Rattle.interface_tables.specs.Reassembly.{SlotValue, is_free}
@@ -35,11 +35,11 @@ abbrev pub Makes : Config → DeviceCapabilities → ℤ → Result HostValue Ne
 Makes config device moment result = MadeUnless (refusal config device moment) (new_host config device moment) result
 
 -- nothing came in pieces, and nothing is half sent
-abbrev pub IsIdle : Option LeftValue → List (SlotValue Ipv4FragKey) → Type 0
+abbrev pub IsIdle : Option LeftValue → List (SlotValue FragKey) → Type 0
 IsIdle left slots = (left ≡ None) × AllByRecursion (λ s. is_free s ≡ true) slots
 
 -- an interface at which nothing ran yet is idle, and knows no neighbour
-abbrev pub IsIdleIfFresh : InnerValue → Option LeftValue → List (SlotValue Ipv4FragKey) → Type 0
+abbrev pub IsIdleIfFresh : InnerValue → Option LeftValue → List (SlotValue FragKey) → Type 0
 IsIdleIfFresh i left slots = IsTrue i.fresh → IsIdle left slots × (i.neighbors.entries ≡ [])
 
 abbrev pub with_inner : HostValue → InnerValue → HostValue

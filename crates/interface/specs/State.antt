@@ -1,6 +1,6 @@
 -- A device, the host at it, and its sockets.
 use Rattle.std.specs.Prelude.{◌≡◌, ℕ, List, Option}
-use Rattle.ip_wire.specs.Ipv4FragKey.{Ipv4FragKey}
+use Rattle.interface_tables.specs.declared.key.FragKey.{FragKey}
 use Rattle.interface_tables.specs.Inner.{InnerValue}
 use Rattle.interface_tables.specs.Reassembly.{SlotValue}
 use Rattle.interface_egress.specs.declared.socket_set.SocketStorage.{SocketStorage}
@@ -16,7 +16,7 @@ pub record State (D : Type 0) : Type 0 where
 abbrev pub state : {D : Type 0} → D → HostValue → List (SocketStorage Socket) → State D
 state device host places = record { device = device; host = host; places = places }
 
-abbrev pub host : InnerValue → Option LeftValue → List (SlotValue Ipv4FragKey) → ℕ → HostValue
+abbrev pub host : InnerValue → Option LeftValue → List (SlotValue FragKey) → ℕ → HostValue
 host inner left slots timeout = record { inner = inner; left = left; slots = slots; timeout = timeout }
 
 -- the same host and sockets behind a move of the device

@@ -46,12 +46,12 @@ Silences t (Part to header piece ∷ ds) before after = Silences t ds before aft
 
 -- AT THE DEVICE
 
-module _ {D : Type 0} (moves : D → Move → D → Type 0) (own : HardwareAddress) (caps : ChecksumCapabilities) where
-  -- one move, of a host with this hardware address and these checksums
+module _ {D : Type 0} (moves : D → Move → D → Type 0) (t : ℤ) (own : HardwareAddress) (caps : ChecksumCapabilities) where
+  -- one move in a call at this moment, of a host with this hardware address and these checksums
   abbrev pub Does : Touch → D → D → Type 0
-  Does (Looks None) old new = moves old Empty new
-  Does (Looks (Some frame)) old new = moves old (Took frame) new
-  Does (Leave given) old new = moves old (Allowed given) new
+  Does (Looks None) old new = moves old (Empty t) new
+  Does (Looks (Some frame)) old new = moves old (Took t frame) new
+  Does (Leave given) old new = moves old (Allowed t given) new
   Does (Sends d taken) old new = Emits moves old (frame_from own caps d) (len_from own d) taken new
 
   -- one after the other, the newest first
@@ -63,7 +63,7 @@ module _ {D : Type 0} (moves : D → Move → D → Type 0) (own : HardwareAddre
 -- became of the silence.
 pub record Traced {D : Type 0} (moves : D → Move → D → Type 0) (t : ℤ) (most : ℕ) (d : D) (i : InnerValue) (d' : D) (i' : InnerValue) : Type 0 where
   pub touches : List Touch
-  pub path : DoesAll moves i.hardware i.checksums touches d d'
+  pub path : DoesAll moves t i.hardware i.checksums touches d d'
   pub sends : sends_in touches ≤ most
   pub silence : Silences t (departed touches) i.neighbors.silent i'.neighbors.silent
   pub hardware : i'.hardware ≡ i.hardware

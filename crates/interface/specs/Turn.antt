@@ -162,13 +162,13 @@ module _ {D : Type 0} (moves : D → Move → D → Type 0) (turn : Option IpAdd
   -- the device gives no leave to send, which is as if it refused; or the packet doesn't go
   abbrev pub Rests : Sender D → Meta → PacketValue → Sent → Sender D → Type 0
   Rests s m p sent s' =
-      (given : Bool) × moves s.device (Allowed given) s'.device × (s'.inner ≡ s.inner) × (s'.left ≡ s.left)
+      (given : Bool) × moves s.device (Allowed s.inner.moment given) s'.device × (s'.inner ≡ s.inner) × (s'.left ≡ s.left)
       × (outcome_by given (held_at s m p) ≡ Some sent)
 
   -- it gives leave, and the packet goes its way out
   abbrev pub Admits : Sender D → Meta → PacketValue → Sent → Sender D → Type 0
   Admits s m p sent s' =
-      (mid : D) × moves s.device (Allowed true) mid
+      (mid : D) × moves s.device (Allowed s.inner.moment true) mid
       × GoesOut moves mid s.inner s.left p (plan_at s p) sent s'.device s'.inner s'.left
       × (held_at s m p ≡ None)
 

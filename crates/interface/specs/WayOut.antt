@@ -13,8 +13,8 @@ module _ {D : Type 0} (moves : D → Move → D → Type 0) where
   -- the piece goes, or the device gives no leave or refuses it
   abbrev pub PieceLeaves : LeftValue → Sender D → Bool → Sender D → Type 0
   PieceLeaves l s gone s' =
-      (moves s.device (Allowed false) s'.device × (gone ≡ false) × (s'.left ≡ s.left))
-      ⊎ ((mid : D) × moves s.device (Allowed true) mid × PieceGoesOut moves mid s.inner l gone s'.device s'.left)
+      (moves s.device (Allowed s.inner.moment false) s'.device × (gone ≡ false) × (s'.left ≡ s.left))
+      ⊎ ((mid : D) × moves s.device (Allowed s.inner.moment true) mid × PieceGoesOut moves mid s.inner l gone s'.device s'.left)
 
   -- nothing waits to go before the sockets' packets any more, or it couldn't go
   abbrev pub Clears : Option LeftValue → Sender D → Bool → Sender D → Type 0

@@ -62,7 +62,7 @@ impl Interface {
             (state device.new self.new (places sockets.new)) }
         ensures unchanged { result ≡ PollResult.None → AreUnchanged (places sockets.old) (places sockets.new) }
         ensures quiet { (asked : InnerValue) → self.old.inner ≡ at_moment self.old.inner.moment asked
-            → IsEarly asked self.old.left (places sockets.old) timestamp → HasNoFrame D.moves device.old
+            → IsEarly asked self.old.left (places sockets.old) timestamp → HasNoFrame D.moves timestamp device.old
             → IsQuietPoll D.moves asked timestamp (state device.old self.old (places sockets.old)) (is_change result)
             (state device.new self.new (places sockets.new)) }
         ensures settings { HasSettingsOf self.old.inner self.new.inner }

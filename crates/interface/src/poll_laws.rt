@@ -1,6 +1,7 @@
 //! What follows from the definitions, for whoever reasons about runs of hosts.
 ghost use Rattle.std.specs.Prelude.{◌≡◌, ℕ, ◌+◌, ◌*◌, ℤ, Bool, true, false, List, length, Some, None};
 ghost use Rattle.std.specs.List.{filter_map, list_any};
+ghost use Rattle.net_base.specs.Loopback.{LoopbackValue, LoopbackMove};
 ghost use Rattle.ip_wire.specs.AddressTests.{is_same_address};
 ghost use Rattle.ip_wire.specs.Ip.{source_of, destination_of};
 ghost use Rattle.ip_wire.specs.IpAddress.{IpAddress};
@@ -86,6 +87,18 @@ pub fn one_outcome<D: Device>()
         → IsDetermined D.moves longest s.device
         → Polls D.moves t budget s changed left
         → Polls D.moves t budget s other right
+        → (left ≡ right) × (changed ≡ other) }
+{
+    one_offer();
+}
+
+/// Law: a poll at a loopback that refuses no frame, for want of memory, has one end.
+pub fn polls_at_loopbacks_have_one_end()
+    ensures { (t : ℤ) (budget : ℕ) (s left right : State LoopbackValue) (changed other : Bool)
+        → left.device.refusals ≡ s.device.refusals
+        → right.device.refusals ≡ s.device.refusals
+        → Polls LoopbackMove t budget s changed left
+        → Polls LoopbackMove t budget s other right
         → (left ≡ right) × (changed ≡ other) }
 {
     one_offer();

@@ -29,8 +29,8 @@ use Rattle.interface_ingress.specs.Delivered.{is_taken_raw}
 use Rattle.interface_ingress.specs.Handed.{handed_reply, HandsTo, control_v4_places, control_v6_places, is_known_v4, is_known_v6, unread_v6}
 use Rattle.interface_ingress.specs.Handed.{if_it_may, limited_reply}
 use Rattle.interface_ingress.specs.Replies.{protocol_unreachable}
-use Rattle.interface_ingress.specs.Kept.{kept_by_kind, ports_item, ports_in, with_ports, NamesNoPorts, HaveNoPorts, IsDamaged}
-use Rattle.interface_ingress.specs.Reassembled.{Slots, is_taken_in, taken_in, is_piece, uncut, rebuilt, bytes_at, place_in, kept, whole_of}
+use Rattle.interface_ingress.specs.Kept.{kept_by_kind, ports_item, ports_in, with_ports, NamesNoPorts, HaveNoPorts, IsNoPieceV6, IsDamaged}
+use Rattle.interface_ingress.specs.Reassembled.{Slots, is_taken_in, taken_in, is_piece, uncut, rebuilt, rebuilt_v6, bytes_at, place_in, kept, whole_of}
 
 -- SOCKETS OF OTHER KINDS
 
@@ -159,21 +159,28 @@ rebuilt_kept link header (Some bytes) bare =
     elim (nat_lt (length bytes) (2 ^ 16 - 20)) as
     (λ b. HaveNoPorts (if b then Some (Ip4 link (record header { payload_len = length bytes }) uncut bytes) else None)) [ true ↦ bare | false ↦ tt ]
 
-whole_kept : (slots : Slots) (at : Option ℕ) (content : Option IncomingValue) → HaveNoPorts content → HaveNoPorts (whole_of slots at content)
-whole_kept slots at None bare = tt
-whole_kept slots at (Some (Arp link packet)) bare = bare
-whole_kept slots at (Some (Ip6 link header payload)) bare = bare
-whole_kept slots at (Some (Ip4 link header piece payload)) bare =
+taken_in_whole : (i : InnerValue) (content : Option IncomingValue) → IsNoPieceV6 content → IsNoPieceV6 (taken_in i content)
+taken_in_whole i None whole = tt
+taken_in_whole i (Some v) whole = elim (is_taken_in i v) as (λ b. IsNoPieceV6 (if b then Some v else None)) [ true ↦ whole | false ↦ tt ]
+
+whole_kept : (slots : Slots) (at : Option ℕ) (content : Option IncomingValue) → HaveNoPorts content → IsNoPieceV6 content →
+    HaveNoPorts (whole_of slots at content)
+whole_kept slots at None bare whole = tt
+whole_kept slots at (Some (Arp link packet)) bare whole = bare
+whole_kept slots at (Some (Ip6 link header payload)) bare whole =
+    subst (λ b. HaveNoPorts (if b then rebuilt_v6 link header (bytes_at at slots) else Some (Ip6 link header payload))) (sym whole) bare
+whole_kept slots at (Some (Ip4 link header piece payload)) bare whole =
     elim (is_piece piece) as (λ b. HaveNoPorts (if b then rebuilt link header (bytes_at at slots) else Some (Ip4 link header piece payload))) [
       | true ↦ rebuilt_kept link header (bytes_at at slots) bare
       | false ↦ bare
     ]
 
 pub arrives_kept : (i : InnerValue) (timeout : ℕ) (slots : Slots) (places : Places) (content : Option IncomingValue) (slots' : Slots) (a : Arrived) →
-    ArrivesAs i timeout slots places content slots' a → HaveNoPorts content → with_ports a.places ≡ with_ports places
-arrives_kept i timeout slots places content slots' a h bare =
+    ArrivesAs i timeout slots places content slots' a → HaveNoPorts content → IsNoPieceV6 content → with_ports a.places ≡ with_ports places
+arrives_kept i timeout slots places content slots' a h bare whole =
     brings_kept i places _ a h.1
-    (whole_kept (kept i timeout slots (taken_in i content)) (place_in slots (taken_in i content)) (taken_in i content) (taken_in_kept i content bare))
+    (whole_kept (kept i timeout slots (taken_in i content)) (place_in slots (taken_in i content)) (taken_in i content) (taken_in_kept i content bare)
+    (taken_in_whole i content whole))
 
 -- A SEGMENT THAT IS NONE
 

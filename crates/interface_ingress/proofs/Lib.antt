@@ -21,3 +21,4 @@ pub mod OneDatagram
 pub mod OneArrival
 pub mod Neighbors
 pub use Rattle.sockets.proofs.AnyKind
+pub mod PieceSlots

@@ -1,5 +1,5 @@
 -- What an arrival leaves as it was: words of the laws.
-use Rattle.std.specs.Prelude.{◌≡◌, ◌⊎◌, ℕ, List, map, Option, None, Some}
+use Rattle.std.specs.Prelude.{◌≡◌, ◌⊎◌, ℕ, false, List, map, Option, None, Some}
 use Rattle.ip_wire.specs.Ip.{carried_in}
 use Rattle.ip_wire.specs.IpProtocol.{IpProtocol}
 use Rattle.ip_wire.specs.IpProtocol.TheVariants as Protocol
@@ -22,6 +22,7 @@ use Rattle.interface_ingress.specs.Arp.{learned}
 use Rattle.interface_tables.specs.Inner.{InnerValue}
 use Rattle.interface_tables.specs.Neighbor.{CacheValue, renewed}
 use Rattle.interface_ingress.specs.Delivered.{Places}
+use Rattle.interface_ingress.specs.Reassembled.{is_piece_v6}
 
 -- SOCKETS
 
@@ -60,6 +61,11 @@ HasNoPorts (Ip6 link header payload) = NamesNoPorts (carried_in (upper_header (I
 abbrev pub HaveNoPorts : Option IncomingValue → Type 0
 HaveNoPorts None = Unit {0}
 HaveNoPorts (Some v) = HasNoPorts v
+
+-- no piece of an IPv6 datagram: what that carries another piece may say (RFC 8200, section 4.5)
+abbrev pub IsNoPieceV6 : Option IncomingValue → Type 0
+IsNoPieceV6 (Some (Ip6 link header payload)) = is_piece_v6 header payload ≡ false
+IsNoPieceV6 content = Unit {0}
 
 -- a packet of protocol TCP whose payload is no segment
 abbrev pub IsDamaged : ChecksumCapabilities → IpRepr → List ℕ → Type 0

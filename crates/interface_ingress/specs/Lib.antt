@@ -12,9 +12,11 @@ pub mod Answering
 pub mod Delivered
 pub mod Datagrams
 pub mod Reassembled
+pub mod Parts
 pub mod PathTold
 pub mod Handed
 pub mod Arrives
+pub mod PieceRows
 pub mod Kept
 pub use Rattle.icmpv4.specs.declared.header.Icmpv4Header
 pub use Rattle.icmpv6.specs.Icmpv6

@@ -1,7 +1,7 @@
--- A frame's content, of which a piece of an IPv4 datagram goes to a slot until the datagram is whole (RFC 791, section 3.2).
-use Rattle.std.specs.Prelude.{ℕ, ◌==◌, ◌&&◌, ◌||◌, not, ◌+◌, ◌-◌, ◌^◌, nat_le, nat_lt, min, Bool, true, false, if◌then◌else◌, ℤ, pos, ◌+ℤ◌, List, length}
-use Rattle.std.specs.Prelude.{Option, None, Some, is_some}
-use Rattle.ip_address.specs.contracts.ipv4.Ipv4FragKeyPartialEq.TheImpl as Keys
+-- A frame's content, of which a piece of a datagram goes to a slot until the datagram is whole (RFC 791, section 3.2; RFC 8200,
+-- section 4.5).
+use Rattle.std.specs.Prelude.{ℕ, ◌==◌, ◌&&◌, ◌||◌, not, ◌+◌, ◌-◌, ◌^◌, nat_le, nat_lt, min, Bool, true, false, if◌then◌else◌, ℤ, pos, ◌+ℤ◌}
+use Rattle.std.specs.Prelude.{List, [], ◌∷◌, ◌++◌, length, drop, slice_index, slice_range, Option, None, Some, is_some}
 use Rattle.net_base.specs.Time.{last_moment}
 use Rattle.ip_wire.specs.AddressTests.{is_ethernet_broadcast, is_ethernet_multicast, is_same_hardware, is_unicast_v6, is_unspecified_v4, is_unspecified_v6}
 use Rattle.ip_wire.specs.declared.ethernet.repr.EthernetRepr.{EthernetRepr}
@@ -11,19 +11,26 @@ use Rattle.ip_wire.specs.IpAddress.TheVariants as Address
 use Rattle.ip_wire.specs.IpProtocol.{IpProtocol}
 use Rattle.ip_wire.specs.IpProtocol.TheVariants as Protocol
 use Rattle.ip_wire.specs.Ipv4.{key_of}
+use Rattle.ip_wire.specs.Fields.{be32}
 use Rattle.ip_wire.specs.Ipv4Address.{Ipv4Address}
-use Rattle.ip_wire.specs.Ipv4FragKey.{Ipv4FragKey}
 use Rattle.ip_wire.specs.Ipv4Piece.{Ipv4Piece}
 use Rattle.ip_wire.specs.Ipv4Repr.{Ipv4Repr}
 use Rattle.ip_wire.specs.Ipv6Repr.{Ipv6Repr}
 use Rattle.interface_ingress.specs.Incoming.{IncomingValue, Arp, Ip4, Ip6}
 use Rattle.interface_ingress.specs.Replies.{is_one_host}
+use Rattle.ipv6_headers.specs.Headers as Headers
+use Rattle.ipv6_headers.specs.Headers.{go_through, piece_offset, has_more}
+use Rattle.ipv6_headers.specs.declared.headers.Behind.{Behind}
+use Rattle.ipv6_headers.specs.declared.headers.Behind.TheVariants as End
+use Rattle.interface_tables.specs.contracts.key.FragKeyPartialEq.TheImpl as Key
+use Rattle.interface_tables.specs.declared.key.FragKey.{FragKey}
+use Rattle.interface_tables.specs.declared.key.FragKey.TheVariants as Keys
 use Rattle.interface_tables.specs.Inner.{InnerValue, is_own_solicited_node, is_foreign_loopback}
 use Rattle.interface_tables.specs.Reassembly.{SlotValue, freed, place_for}
-use Rattle.interface_tables.specs.Slots.{changed_at, completed_at, with_piece_of, without_datagram}
+use Rattle.interface_tables.specs.Slots.{changed_at, completed_at, with_piece_of, overlaps_datagram, without_datagram}
 
 abbrev pub Slots : Type 0
-Slots = List (SlotValue Ipv4FragKey)
+Slots = List (SlotValue FragKey)
 
 -- WHAT IS LISTENED TO
 
@@ -72,17 +79,78 @@ taken_in i (Some v) = if is_taken_in i v then Some v else None
 
 -- PIECES
 
--- more of the datagram follows, or some of it comes before
+-- A piece of a datagram: of which, where its bytes stand in a slot, whether more come behind them, and the bytes.
+pub record PieceValue : Type 0 where
+  pub key : FragKey
+  pub offset : ℕ
+  pub more : Bool
+  pub bytes : List ℕ
+
+-- IPV4: more of the datagram follows, or some of it comes before
+
 abbrev pub is_piece : Ipv4Piece → Bool
 is_piece piece = piece.more || not (piece.offset == 0)
 
--- a piece lies within the bytes of a slot
-abbrev pub is_within : Ipv4Piece → List ℕ → Bool
-is_within piece payload = nat_le (piece.offset + length payload) 4096
+abbrev pub part_v4 : Ipv4Repr → Ipv4Piece → List ℕ → PieceValue
+part_v4 header piece payload = record { key = Keys.Ipv4 (key_of header); offset = piece.offset; more = piece.more; bytes = payload }
 
--- two pieces are of one datagram: identification, addresses and protocol are the same
-abbrev pub is_same_datagram : Ipv4FragKey → Ipv4FragKey → Bool
-is_same_datagram = Keys.ghosts.eq
+-- IPV6 (RFC 8200, section 4.5): `rest` is the packet's payload from its fragment header on. A slot holds a fragment header before the
+-- datagram's bytes, as of one that is whole, with the first piece's next header: that of no other piece counts.
+
+abbrev pub key_v6 : Ipv6Repr → List ℕ → FragKey
+key_v6 header rest = Keys.Ipv6 (record { id = be32 rest 4; src_addr = header.src_addr; dst_addr = header.dst_addr })
+
+abbrev pub whole_header : List ℕ → List ℕ
+whole_header rest = slice_index rest 0 ∷ 0 ∷ 0 ∷ 0 ∷ slice_range rest 4 8
+
+abbrev pub is_first : List ℕ → Bool
+is_first rest = piece_offset rest == 0
+
+abbrev pub front_of : List ℕ → List ℕ
+front_of rest = if is_first rest then whole_header rest else []
+
+abbrev pub offset_of : List ℕ → ℕ
+offset_of rest = if is_first rest then 0 else 8 + piece_offset rest
+
+abbrev pub part_v6 : Ipv6Repr → List ℕ → PieceValue
+part_v6 header rest = record { key = key_v6 header rest; offset = offset_of rest; more = has_more rest; bytes = front_of rest ++ drop 8 rest }
+
+abbrev pub part_behind : Ipv6Repr → List ℕ → Behind → Option PieceValue
+part_behind header payload (End.Piece at) = Some (part_v6 header (drop at payload))
+part_behind header payload end = None
+
+abbrev pub behind_headers : Ipv6Repr → List ℕ → Behind
+behind_headers header payload = go_through header.next_header payload
+
+-- which piece a packet is, if it is one
+
+abbrev pub part_in : IncomingValue → Option PieceValue
+part_in (Arp link packet) = None
+part_in (Ip4 link header piece payload) = if is_piece piece then Some (part_v4 header piece payload) else None
+part_in (Ip6 link header payload) = part_behind header payload (behind_headers header payload)
+
+abbrev pub part_of : Option IncomingValue → Option PieceValue
+part_of None = None
+part_of (Some v) = part_in v
+
+-- SLOTS
+
+-- a piece lies within the bytes of a slot
+abbrev pub is_within : PieceValue → Bool
+is_within p = nat_le (p.offset + length p.bytes) 4096
+
+-- two pieces are of one datagram: identification and addresses are the same, in IPv4 also the protocol
+abbrev pub is_same_datagram : FragKey → FragKey → Bool
+is_same_datagram = Key.ghosts.eq
+
+-- pieces of an IPv6 datagram don't overlap (RFC 5722, section 4; RFC 8200, section 4.5)
+abbrev pub is_strict : FragKey → Bool
+is_strict (Keys.Ipv4 key) = false
+is_strict (Keys.Ipv6 key) = true
+
+-- no slot's bytes hold the piece, or it overlaps others though it may not: the datagram is given up
+abbrev pub is_unfit : Slots → PieceValue → Bool
+is_unfit slots p = not (is_within p) || (is_strict p.key && overlaps_datagram is_same_datagram slots p.key p.bytes p.offset)
 
 -- when a slot is given up that is taken now, after a time that counts as at most 2^61 microseconds
 abbrev pub given_up_at : InnerValue → ℕ → ℤ
@@ -92,36 +160,31 @@ given_up_at i timeout = i.moment +ℤ pos (min timeout last_moment)
 abbrev pub runs_kept : ℕ
 runs_kept = 4
 
--- the place of the slot that a packet's piece goes to, if it is one, a slot's bytes hold it, and there is a slot
-abbrev pub place_of : Slots → Ipv4Repr → Ipv4Piece → List ℕ → Option ℕ
-place_of slots header piece payload =
-    if is_piece piece && is_within piece payload then place_for is_same_datagram slots (key_of header) else None
+-- the place of the slot that a piece goes to, if it fits, and there is a slot
+abbrev pub place_of : Slots → Option PieceValue → Option ℕ
+place_of slots None = None
+place_of slots (Some p) = if is_unfit slots p then None else place_for is_same_datagram slots p.key
 
 abbrev pub place_in : Slots → Option IncomingValue → Option ℕ
-place_in slots (Some (Ip4 link header piece payload)) = place_of slots header piece payload
-place_in slots content = None
+place_in slots content = place_of slots (part_of content)
 
--- the slots with a piece; the datagram of one that no slot's bytes hold is given up
-abbrev pub with_piece_in : InnerValue → ℕ → Slots → Ipv4Repr → Ipv4Piece → List ℕ → Slots
-with_piece_in i timeout slots header piece payload =
-    if is_within piece payload
-    then with_piece_of runs_kept is_same_datagram slots (key_of header) (given_up_at i timeout) payload piece.offset piece.more
-    else without_datagram is_same_datagram slots (key_of header)
+-- the slots with a piece, or without its datagram
+abbrev pub with_part : InnerValue → ℕ → Slots → PieceValue → Slots
+with_part i timeout slots p = with_piece_of runs_kept is_same_datagram slots p.key (given_up_at i timeout) p.bytes p.offset p.more
 
--- the slots with a packet's piece, if it is one
-abbrev pub with_piece : InnerValue → ℕ → Slots → Ipv4Repr → Ipv4Piece → List ℕ → Slots
-with_piece i timeout slots header piece payload =
-    if is_piece piece then with_piece_in i timeout slots header piece payload else slots
+abbrev pub with_piece : InnerValue → ℕ → Slots → Option PieceValue → Slots
+with_piece i timeout slots None = slots
+with_piece i timeout slots (Some p) = if is_unfit slots p then without_datagram is_same_datagram slots p.key else with_part i timeout slots p
 
 abbrev pub kept : InnerValue → ℕ → Slots → Option IncomingValue → Slots
-kept i timeout slots (Some (Ip4 link header piece payload)) = with_piece i timeout slots header piece payload
-kept i timeout slots content = slots
+kept i timeout slots content = with_piece i timeout slots (part_of content)
 
 abbrev pub bytes_at : Option ℕ → Slots → Option (List ℕ)
 bytes_at None slots = None
 bytes_at (Some at) slots = completed_at at slots
 
--- a whole datagram
+-- WHOLE DATAGRAMS
+
 abbrev pub uncut : Ipv4Piece
 uncut = record { offset = 0; more = false }
 
@@ -131,10 +194,22 @@ rebuilt link header None = None
 rebuilt link header (Some bytes) =
     if nat_lt (length bytes) (2 ^ 16 - 20) then Some (Ip4 link (record header { payload_len = length bytes }) uncut bytes) else None
 
+-- behind a fragment header
+abbrev pub rebuilt_v6 : Option EthernetRepr → Ipv6Repr → Option (List ℕ) → Option IncomingValue
+rebuilt_v6 link header None = None
+rebuilt_v6 link header (Some bytes) =
+    if nat_lt (length bytes) (2 ^ 16) then Some (Ip6 link (record header { next_header = Protocol.Ipv6Frag; payload_len = length bytes }) bytes) else None
+
+-- an IPv6 packet is a piece
+abbrev pub is_piece_v6 : Ipv6Repr → List ℕ → Bool
+is_piece_v6 header payload = Headers.is_piece (behind_headers header payload)
+
 -- The content, where it is no piece. A piece brings the datagram that it completes, with the header of that piece, or nothing.
 abbrev pub whole_of : Slots → Option ℕ → Option IncomingValue → Option IncomingValue
 whole_of slots at (Some (Ip4 link header piece payload)) =
     if is_piece piece then rebuilt link header (bytes_at at slots) else Some (Ip4 link header piece payload)
+whole_of slots at (Some (Ip6 link header payload)) =
+    if is_piece_v6 header payload then rebuilt_v6 link header (bytes_at at slots) else Some (Ip6 link header payload)
 whole_of slots at content = content
 
 -- the slots where a datagram that was completed at this place has been taken in

@@ -16,7 +16,7 @@ use crate::deliver::deliver_packet;
 use crate::hand::hand;
 use crate::icmp_reply::is_one_host;
 use crate::incoming::Incoming;
-use crate::reassemble::{bytes_at, is_piece, rebuilt};
+use crate::reassemble::{bytes_at, is_piece, is_piece_v6, rebuilt, rebuilt_v6};
 use crate::reply::{Reply, arp_reply};
 use interface_egress::{InterfaceInner, PacketAssemblerSet, SocketStorage};
 use ip_wire::{AddressExt, EthernetRepr, HardwareAddress, IpAddress, IpRepr, Ipv4Repr, Ipv6Repr};
@@ -189,6 +189,16 @@ pub fn bring<'a, const N: usize>(
             },
         ) if is_piece(*piece) => {
             let datagram = rebuilt(link, header, &bytes_at(slots, place));
+            bring_rebuilt(inner, places, &datagram, reply);
+        }
+        Some(
+            Incoming::Ipv6 {
+                link,
+                header,
+                payload,
+            },
+        ) if is_piece_v6(header, payload) => {
+            let datagram = rebuilt_v6(link, header, &bytes_at(slots, place));
             bring_rebuilt(inner, places, &datagram, reply);
         }
         Some(incoming) => bring_in(inner, places, incoming, reply),

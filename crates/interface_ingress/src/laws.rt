@@ -12,7 +12,7 @@ ghost use Rattle.interface_ingress.specs.Incoming.{IncomingValue, Arp, Ip4, Ip6}
 ghost use Rattle.interface_egress.specs.Inner.{InnerValue};
 ghost use Rattle.interface_ingress.specs.Arrives.{Arrived, Arrives, ArrivesAs, Brings};
 ghost use Rattle.interface_ingress.specs.Delivered.{Places};
-ghost use Rattle.interface_ingress.specs.Kept.{with_ports, HaveNoPorts, IsDamaged, HasSameSettings, RenewsOnly, LearnsOnly};
+ghost use Rattle.interface_ingress.specs.Kept.{with_ports, HaveNoPorts, IsNoPieceV6, IsDamaged, HasSameSettings, RenewsOnly, LearnsOnly};
 ghost use Rattle.interface_ingress.specs.Reassembled.{Slots};
 
 /// Law: a whole packet of protocol TCP whose payload is no segment leaves every TCP and UDP socket as it was, and isn't answered.
@@ -28,12 +28,13 @@ pub fn damaged_segment()
 {}
 
 /// Law: an ARP packet, and an IP packet that carries neither TCP nor UDP, leave every TCP and UDP socket as it was; so does a
-/// piece of such a packet, whatever it completes.
+/// piece of such an IPv4 packet, whatever it completes.
 pub fn other_protocols()
     ensures whole { (i : InnerValue) (places : Places) (content : Option IncomingValue) (a : Arrived)
         → Brings i places content a → HaveNoPorts content → with_ports a.places ≡ with_ports places }
     ensures any { (i : InnerValue) (timeout : ℕ) (slots : Slots) (places : Places) (content : Option IncomingValue) (after : Slots) (a : Arrived)
-        → ArrivesAs i timeout slots places content after a → HaveNoPorts content → with_ports a.places ≡ with_ports places }
+        → ArrivesAs i timeout slots places content after a → HaveNoPorts content → IsNoPieceV6 content
+        → with_ports a.places ≡ with_ports places }
 {}
 
 /// Law: what arrives changes of a host, beside its sockets and slots, its neighbours and its random words alone.

@@ -19,6 +19,7 @@ pub mod laws;
 pub mod limit_laws;
 mod path;
 pub mod path_laws;
+pub mod piece_laws;
 mod places;
 mod reassemble;
 mod reply;

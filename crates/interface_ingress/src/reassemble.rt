@@ -1,21 +1,25 @@
 //! What the host takes in of a frame's content, and datagrams that come in pieces (RFC 791, section 3.2).
-ghost use Rattle.std.specs.Prelude.{◌≡◌, ◌<◌, ◌≤◌, length, Some};
+ghost use Rattle.std.specs.Prelude.{◌≡◌, ◌<◌, ◌≤◌, ◌^◌, length, Some};
 ghost use Rattle.std.specs.Option.{ForSome, option_copied};
 ghost use Rattle.net_base.specs.Time.{IsMoment};
 ghost use Rattle.ip_wire.specs.AddressTests.{is_same_hardware};
 ghost use Rattle.ip_wire.specs.HardwareAddress.TheVariants as Hardware;
 ghost use Rattle.interface_ingress.specs.Incoming.{AreMeasured, content_of, incoming_value};
 ghost use Rattle.interface_ingress.specs.Reassembled.{is_heard, is_sender, is_control_v6, is_probe, is_sender_v6, is_astray, is_taken_in, taken_in, is_piece};
-ghost use Rattle.interface_ingress.specs.Reassembled.{is_within, given_up_at, place_of, place_in, with_piece, kept, bytes_at, rebuilt, released};
+ghost use Rattle.interface_ingress.specs.Reassembled.{is_piece_v6, behind_headers, part_v4, part_v6, part_behind, whole_header, is_within, is_strict};
+ghost use Rattle.interface_ingress.specs.Reassembled.{is_unfit, given_up_at, place_of, place_in, with_piece, kept, bytes_at, rebuilt, rebuilt_v6, released};
+ghost use Rattle.interface_ingress.specs.Parts.{front_bytes, part_value};
 
 use crate::icmp_reply::is_one_host;
 use crate::incoming::Incoming;
 use interface_egress::{InterfaceInner, PacketAssemblerSet};
-use interface_tables::REASSEMBLY_SIZE;
+use interface_tables::{FragKey, Ipv6FragKey, REASSEMBLY_SIZE};
+use ip_address::network_order::read_u32;
 use ip_wire::{
     AddressExt, EthernetAddress, EthernetRepr, HardwareAddress, IPV4_HEADER_LEN, IpAddress,
     IpProtocol, Ipv4Address, Ipv4Piece, Ipv4Repr, Ipv6Repr,
 };
+use ipv6_headers::{Behind, go_through, has_more, piece_offset};
 use net_base::{Duration, Instant};
 use sockets::Context;
 
@@ -24,6 +28,9 @@ const LONGEST: u64 = 1 << 61;
 
 /// How many lengths a header's field can say.
 const LENGTHS: usize = 1 << 16;
+
+/// How many bytes a fragment header has.
+const FRAGMENT_HEADER_LEN: usize = 8;
 
 /// The hop limit of a packet that no router passed on.
 const UNROUTED: u8 = 255;
@@ -146,21 +153,128 @@ fn is_astray(inner: &InterfaceInner, source: &IpAddress, destination: &IpAddress
     inner.is_foreign_loopback(source) || inner.is_foreign_loopback(destination)
 }
 
-/// Whether a packet is one piece of its datagram.
+/// Whether an IPv4 packet is one piece of its datagram.
 pub(crate) fn is_piece(piece: Ipv4Piece) -> bool
     ensures { result ≡ is_piece piece }
 {
     piece.more || piece.offset != 0
 }
 
-/// Whether a piece lies within the bytes of a slot.
-fn is_within(piece: Ipv4Piece, payload: &[u8]) -> bool
-    ensures { result ≡ is_within piece payload.now }
+/// Whether an IPv6 packet is one piece of its datagram.
+pub(crate) fn is_piece_v6(header: &Ipv6Repr, payload: &[u8]) -> bool
+    requires { length payload.now < 2 ^ 16 }
+    ensures { result ≡ is_piece_v6 header.now payload.now }
 {
-    match (piece.offset as usize).checked_add(payload.len()) {
+    match go_through(header.next_header, payload) {
+        Behind::Piece { .. } => true,
+        _ => false,
+    }
+}
+
+/// A piece of a datagram: of which, where its bytes stand in a slot, whether more come behind them, and the bytes, which lie in two
+/// parts.
+#[derive(Clone, Copy)]
+pub(crate) struct Part<'a> {
+    key: FragKey,
+    offset: usize,
+    more: bool,
+    front: Option<[u8; FRAGMENT_HEADER_LEN]>,
+    bytes: &'a [u8],
+}
+
+impl Part<'_> {
+    /// The first part of the bytes.
+    fn front(&self) -> &[u8]
+        ensures { result.now ≡ front_bytes self.now.front }
+    {
+        match &self.front {
+            Some(front) => front,
+            None => &[],
+        }
+    }
+}
+
+/// An IPv4 packet as the piece that it is.
+fn part_v4<'a>(header: &Ipv4Repr, piece: Ipv4Piece, payload: &'a [u8]) -> Part<'a>
+    ensures { part_value result ≡ part_v4 header.now piece payload.now }
+{
+    Part {
+        key: FragKey::Ipv4(header.key()),
+        offset: piece.offset as usize,
+        more: piece.more,
+        front: None,
+        bytes: payload,
+    }
+}
+
+/// An IPv6 packet as the piece that it is. `rest` is its payload from its fragment header on.
+fn part_v6<'a>(header: &Ipv6Repr, rest: &'a [u8]) -> Part<'a>
+    requires { 8 ≤ length rest.now }
+    ensures { part_value result ≡ part_v6 header.now rest.now }
+{
+    let (_header, bytes) = rest.split_at(FRAGMENT_HEADER_LEN);
+    let key = FragKey::Ipv6(Ipv6FragKey {
+        id: read_u32(rest, 4),
+        src_addr: header.src_addr,
+        dst_addr: header.dst_addr,
+    });
+    let more = has_more(rest);
+    let at = piece_offset(rest);
+    if at == 0 {
+        Part {
+            key,
+            offset: 0,
+            more,
+            front: Some(whole_header(rest)),
+            bytes,
+        }
+    } else {
+        Part {
+            key,
+            offset: FRAGMENT_HEADER_LEN + at,
+            more,
+            front: None,
+            bytes,
+        }
+    }
+}
+
+/// The fragment header that stands in a slot: of a whole datagram, with the first piece's next header.
+fn whole_header(rest: &[u8]) -> [u8; FRAGMENT_HEADER_LEN]
+    requires { 8 ≤ length rest.now }
+    ensures { result ≡ whole_header rest.now }
+{
+    [rest[0], 0, 0, 0, rest[4], rest[5], rest[6], rest[7]]
+}
+
+/// Whether a piece lies within the bytes of a slot.
+fn is_within(part: &Part<'_>) -> bool
+    ensures { result ≡ is_within (part_value part.now) }
+{
+    match part.offset.checked_add(part.front().len() + part.bytes.len()) {
         Some(end) => end <= REASSEMBLY_SIZE,
         None => false,
     }
+}
+
+/// Whether pieces of such a datagram may not overlap.
+fn is_strict(key: &FragKey) -> bool
+    ensures { result ≡ is_strict key.now }
+{
+    match key {
+        FragKey::Ipv4(_) => false,
+        FragKey::Ipv6(_) => true,
+    }
+}
+
+/// Whether no slot's bytes hold a piece, or it overlaps others though it may not.
+fn is_unfit<const N: usize>(slots: &PacketAssemblerSet<N>, part: &Part<'_>) -> bool
+    ensures { result ≡ is_unfit slots.now (part_value part.now) }
+{
+    if !is_within(part) {
+        return true;
+    }
+    is_strict(&part.key) && slots.overlaps(&part.key, part.front(), part.bytes, part.offset)
 }
 
 /// When a slot is given up that is taken now.
@@ -171,13 +285,15 @@ fn given_up_at(inner: &InterfaceInner, timeout: Duration) -> Instant
 }
 
 /// Takes a piece into its datagram's slot, and returns the place of the slot. Other content changes nothing. A slot that is
-/// taken for it is given up after this time. The datagram of a piece that ends past a slot's bytes is given up.
+/// taken for it is given up after this time. The datagram is given up of a piece that ends past a slot's bytes, and of one of IPv6
+/// that overlaps others.
 pub fn keep<const N: usize>(
     inner: &InterfaceInner,
     slots: &mut PacketAssemblerSet<N>,
     timeout: Duration,
     content: Option<&Incoming<'_>>,
 ) -> Option<usize>
+    requires measured { AreMeasured (content_of (option_copied content)) }
     ensures place { result ≡ place_in slots.old (content_of (option_copied content.entry)) }
     ensures in_range { ForSome result (λ at. at < N) }
     ensures after { slots.new ≡ kept inner.now timeout slots.old (content_of (option_copied content.entry)) }
@@ -190,37 +306,65 @@ pub fn keep<const N: usize>(
                 payload,
                 ..
             },
-        ) => { keep_piece(inner, slots, timeout, header, *piece, payload) }
+        ) if is_piece(*piece) => {
+            keep_part(inner, slots, timeout, &part_v4(header, *piece, payload))
+        }
+        Some(
+            Incoming::Ipv6 {
+                header,
+                payload,
+                ..
+            },
+        ) => keep_v6(inner, slots, timeout, header, payload),
         _ => None,
     }
 }
 
-/// Takes a packet's piece into its datagram's slot, if it is one and the slot's bytes hold it.
-fn keep_piece<const N: usize>(
+/// Takes an IPv6 packet into its datagram's slot, if it is a piece.
+fn keep_v6<const N: usize>(
     inner: &InterfaceInner,
     slots: &mut PacketAssemblerSet<N>,
     timeout: Duration,
-    header: &Ipv4Repr,
-    piece: Ipv4Piece,
+    header: &Ipv6Repr,
     payload: &[u8],
 ) -> Option<usize>
-    ensures place { result ≡ place_of slots.old header.now piece payload.now }
+    requires { length payload.now < 2 ^ 16 }
+    ensures place { result ≡ place_of slots.old (part_behind header.now payload.now (behind_headers header.now payload.now)) }
     ensures in_range { ForSome result (λ at. at < N) }
-    ensures after { slots.new ≡ with_piece inner.now timeout slots.old header.now piece payload.now }
+    ensures after { slots.new ≡
+        with_piece inner.now timeout slots.old (part_behind header.now payload.now (behind_headers header.now payload.now)) }
 {
-    if !is_piece(piece) {
+    match go_through(header.next_header, payload) {
+        Behind::Piece { at } => {
+            let (_headers, rest) = payload.split_at(at);
+            keep_part(inner, slots, timeout, &part_v6(header, rest))
+        }
+        _ => None,
+    }
+}
+
+/// Takes a piece into its datagram's slot, or gives its datagram up.
+fn keep_part<const N: usize>(
+    inner: &InterfaceInner,
+    slots: &mut PacketAssemblerSet<N>,
+    timeout: Duration,
+    part: &Part<'_>,
+) -> Option<usize>
+    ensures place { result ≡ place_of slots.old (Some (part_value part.now)) }
+    ensures in_range { ForSome result (λ at. at < N) }
+    ensures after { slots.new ≡ with_piece inner.now timeout slots.old (Some (part_value part.now)) }
+{
+    if is_unfit(slots, part) {
+        slots.remove(&part.key);
         return None;
     }
-    if !is_within(piece, payload) {
-        slots.remove(&header.key());
-        return None;
-    }
-    slots.insert(
-        &header.key(),
+    slots.insert_behind(
+        &part.key,
         given_up_at(inner, timeout),
-        payload,
-        piece.offset as usize,
-        piece.more,
+        part.front(),
+        part.bytes,
+        part.offset,
+        part.more,
     )
 }
 
@@ -241,6 +385,29 @@ pub(crate) fn rebuilt<'a>(
                 ..*header
             },
             piece: UNCUT,
+            payload: bytes,
+        }),
+        _ => None,
+    }
+}
+
+/// The same of IPv6, where a fragment header stands before the datagram's bytes.
+pub(crate) fn rebuilt_v6<'a>(
+    link: &Option<EthernetRepr>,
+    header: &Ipv6Repr,
+    bytes: &Option<&'a [u8]>,
+) -> Option<Incoming<'a>>
+    ensures content { content_of result ≡ rebuilt_v6 link.now header.now (option_copied bytes.now) }
+    ensures measured { AreMeasured (content_of result) }
+{
+    match *bytes {
+        Some(bytes) if bytes.len() < LENGTHS => Some(Incoming::Ipv6 {
+            link: *link,
+            header: Ipv6Repr {
+                next_header: IpProtocol::Ipv6Frag,
+                payload_len: bytes.len(),
+                ..*header
+            },
             payload: bytes,
         }),
         _ => None,

@@ -216,9 +216,9 @@ module _ {D : Type 0} (moves : D → Move → D → Type 0) where
       what : list_any is_refused all ≡ true
 
     piece_refused : (l : LeftValue) (s mid : Sender D) → PieceLeaves moves l s false mid → Refused s.device mid.device
-    piece_refused l s mid (inl stays) = record { all = Allowed false ∷ []; are = (mid.device, stays.0, refl); what = refl }
+    piece_refused l s mid (inl stays) = record { all = Allowed s.inner.moment false ∷ []; are = (mid.device, stays.0, refl); what = refl }
     piece_refused l s mid (inr goes) = record {
-      all = Allowed true ∷ Denied (frame_len_of s.inner (departure_from s.inner l)) ∷ [];
+      all = Allowed s.inner.moment true ∷ Denied (frame_len_of s.inner (departure_from s.inner l)) ∷ [];
       are = (goes.0, goes.1, (mid.device, goes.2.0, refl));
       what = refl;
     }

@@ -40,7 +40,7 @@ below_none n is = absurd (omega arith)
 module _ {D : Type 0} (moves : D → Move → D → Type 0) (t : ℤ) where
   -- THE WAY IN
 
-  alone : (n : ℕ) (s s' : State D) (c c' : Bool) → HasNoFrame moves s.device → Repeats (IngressStep moves t) n s c s' c' → InEnds moves t s s'
+  alone : (n : ℕ) (s s' : State D) (c c' : Bool) → HasNoFrame moves t s.device → Repeats (IngressStep moves t) n s c s' c' → InEnds moves t s s'
   alone zero s s' c c' none steps = record {
     all = [];
     are = ap (λ (x : State D). x.device) steps.0;
@@ -49,7 +49,7 @@ module _ {D : Type 0} (moves : D → Move → D → Type 0) (t : ℤ) where
     places = ap (λ (x : State D). x.places) steps.0;
   }
   alone (suc n) s s' c c' none (inl ends) = record {
-    all = Empty ∷ [];
+    all = Empty t ∷ [];
     are = (s'.device, ends.0.0, refl);
     inner = ap (λ (x : State D). at_moment t x.host.inner) ends.0.1;
     left = ap (λ (x : State D). x.host.left) ends.0.1;
@@ -196,7 +196,7 @@ module _ {D : Type 0} (moves : D → Move → D → Type 0) (t : ℤ) where
   pub poll_goes : (budget : ℕ) (s s' : State D) (changed : Bool) (n : ℕ) (v : UdpValue) (before : List Queued) (d : Queued) (more : List Queued)
       (to : HardwareAddress) (p : PacketValue) → HasTurn (at_moment t s.host.inner) s.places n v → contents v.queued ≡ before ++ d ∷ more
       → length before < budget → AllByRecursion (HasWay (at_moment t s.host.inner) v.settings) before → CanGo (at_moment t s.host.inner) v.settings d to p
-      → HasNoFrame moves s.device → Polls moves t budget s changed s' → GoesInTurn moves (at_moment t s.host.inner) to p s.device s'.device
+      → HasNoFrame moves t s.device → Polls moves t budget s changed s' → GoesInTurn moves (at_moment t s.host.inner) to p s.device s'.device
   poll_goes budget s s' changed n v before d more to p turn queued short ways can none polls =
       let mid : State D = polls.0 in
       let entry : InEnds moves t (begun t s) mid = alone budget (begun t s) mid false polls.1 none polls.2 in

@@ -23,14 +23,15 @@ Nowhere = Unit {0}
 
 -- NOTHING STIRS
 
-only_looked : (test : Move → Bool) → test Empty ≡ false → (all : List Move) (old new : Nowhere) → AreMoves Lonely all old new → list_any test all ≡ false
+only_looked : (test : Move → Bool) → ((t : ℤ) → test (Empty t) ≡ false) → (all : List Move) (old new : Nowhere) → AreMoves Lonely all old new →
+    list_any test all ≡ false
 only_looked test none [] old new are = refl
 only_looked test none (m ∷ more) old new are =
-    ap (λ (first : Bool). first || list_any test more) (ap test are.1 ∙ none) ∙ only_looked test none more are.0 new are.2
+    ap (λ (first : Bool). first || list_any test more) (ap test are.1.1 ∙ none are.1.0) ∙ only_looked test none more are.0 new are.2
 
 still : (all : List Move) (old new : Nowhere) → AreMoves Lonely all old new → Stirs all → ⊥
-still all old new are (inl sent) = let clash : true ≡ false = sym sent ∙ only_looked is_sent refl all old new are in cc
-still all old new are (inr refused) = let clash : true ≡ false = sym refused ∙ only_looked is_refused refl all old new are in cc
+still all old new are (inl sent) = let clash : true ≡ false = sym sent ∙ only_looked is_sent (λ t. refl) all old new are in cc
+still all old new are (inr refused) = let clash : true ≡ false = sym refused ∙ only_looked is_refused (λ t. refl) all old new are in cc
 
 -- A POLL
 
@@ -45,7 +46,7 @@ module _ (t : ℤ) (given : HostValue) where
   after = state tt (maintained t idle) []
 
   looks : IngressStep Lonely t (begun t before) None after
-  looks = (refl, ap (λ (h : HostValue). state {D = Nowhere} tt h []) (sym (maintained_once t idle)))
+  looks = ((t, refl), ap (λ (h : HostValue). state {D = Nowhere} tt h []) (sym (maintained_once t idle)))
 
   sends_nothing : EgressStep Lonely t after None after
   sends_nothing = (passed (sending t after) [] false, inr (sending t after, (refl, refl), refl), refl, refl)

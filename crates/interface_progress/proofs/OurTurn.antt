@@ -86,12 +86,12 @@ module _ {D : Type 0} (moves : D → Move → D → Type 0) (turn : Option IpAdd
     abbrev offered_item : Item Socket
     offered_item = record { meta = meta; socket = Kind.Udp offering }
 
-    went : (mid : D) (sent : Sent) → moves x.device (Allowed true) mid
+    went : (mid : D) (sent : Sent) → moves x.device (Allowed x.inner.moment true) mid
         → Went moves mid x.inner p.header (Whole to (numbered x.inner p)) sent x'.device x'.inner
         → turned ≡ turned_by sent false → item' ≡ settled_by sent x.inner.moment (waits_until (plan_at x p) x'.inner) (destination_of p.header) offered_item
         → OurEnds turned (Some item')
     went mid Outcome.Gone leave goes next became = record {
-      all = Allowed true ∷ Emitted (frame_of x.inner (Whole to (numbered x.inner p))) ∷ [];
+      all = Allowed x.inner.moment true ∷ Emitted (frame_of x.inner (Whole to (numbered x.inner p))) ∷ [];
       are = (mid, leave, (x'.device, goes.0.0, refl));
       what = inr (record {
         sent = inr (inl refl);
@@ -104,7 +104,7 @@ module _ {D : Type 0} (moves : D → Move → D → Type 0) (turn : Option IpAdd
       });
     }
     went mid Outcome.Refused leave goes next became = record {
-      all = Allowed true ∷ Denied (frame_len_of x.inner (Whole to (numbered x.inner p))) ∷ [];
+      all = Allowed x.inner.moment true ∷ Denied (frame_len_of x.inner (Whole to (numbered x.inner p))) ∷ [];
       are = (mid, leave, (x'.device, goes.0, refl));
       what = inl refl;
     }
@@ -112,9 +112,9 @@ module _ {D : Type 0} (moves : D → Move → D → Type 0) (turn : Option IpAdd
     went mid Outcome.Dropped leave goes next became = absurd goes
     went mid Outcome.Busy leave goes next became = absurd goes
 
-    rests : (given : Bool) (sent : Sent) → moves x.device (Allowed given) x'.device
+    rests : (given : Bool) (sent : Sent) → moves x.device (Allowed x.inner.moment given) x'.device
         → outcome_by given (held turn meta x.inner (destination_of p.header) (Way.Go to)) ≡ Some sent → OurEnds turned (Some item')
-    rests false sent move is = record { all = Allowed false ∷ []; are = (x'.device, move, refl); what = inl refl }
+    rests false sent move is = record { all = Allowed x.inner.moment false ∷ []; are = (x'.device, move, refl); what = inl refl }
     rests true sent move is = absurd (let never : no_one ≡ Some sent = is in cc)
 
     leaves : (sent : Sent) → Leaves moves turn x meta p sent x' → turned ≡ turned_by sent false

@@ -145,21 +145,21 @@ module _ {D : Type 0} (moves : D → Move → D → Type 0) where
     pub are : AreMoves moves all s.device mid.device
     pub what : Stirs all ⊎ ((clear ≡ true) × (mid ≡ s) × (s.left ≡ None))
 
-  piece_goes : (l : LeftValue) (s mid : Sender D) (between : D) (gone : Bool) → moves s.device (Allowed true) between
+  piece_goes : (l : LeftValue) (s mid : Sender D) (between : D) (gone : Bool) → moves s.device (Allowed s.inner.moment true) between
       → PieceGoesOut moves between s.inner l gone mid.device mid.left → PieceEnds s mid gone
   piece_goes l s mid between true leave goes = record {
-    all = Allowed true ∷ Emitted (frame_of s.inner (departure_from s.inner l)) ∷ [];
+    all = Allowed s.inner.moment true ∷ Emitted (frame_of s.inner (departure_from s.inner l)) ∷ [];
     are = (between, leave, (mid.device, goes.0.0, refl));
     what = inl (inl refl);
   }
   piece_goes l s mid between false leave goes = record {
-    all = Allowed true ∷ Denied (frame_len_of s.inner (departure_from s.inner l)) ∷ [];
+    all = Allowed s.inner.moment true ∷ Denied (frame_len_of s.inner (departure_from s.inner l)) ∷ [];
     are = (between, leave, (mid.device, goes.0, refl));
     what = inl (inr refl);
   }
 
   piece_leaves : (l : LeftValue) (s mid : Sender D) (gone : Bool) → PieceLeaves moves l s gone mid → PieceEnds s mid gone
-  piece_leaves l s mid gone (inl stays) = record { all = Allowed false ∷ []; are = (mid.device, stays.0, refl); what = inl (inr refl) }
+  piece_leaves l s mid gone (inl stays) = record { all = Allowed s.inner.moment false ∷ []; are = (mid.device, stays.0, refl); what = inl (inr refl) }
   piece_leaves l s mid gone (inr goes) = piece_goes l s mid goes.0 gone goes.1 goes.2
 
   pub clears : (left : Option LeftValue) (s mid : Sender D) (clear : Bool) → s.left ≡ left → Clears moves left s clear mid → PieceEnds s mid clear

@@ -67,7 +67,7 @@ module _ {D : Type 0} (moves : D → Move → D → Type 0) (t : ℤ) where
     places = ap (λ (x : State D). x.places) steps.0;
   }
   in_ends (suc n) s s' c c' none (inl ends) = record {
-    all = Empty ∷ [];
+    all = Empty t ∷ [];
     are = (s'.device, ends.0.0, refl);
     inner = ap (λ (x : State D). at_moment t x.host.inner) ends.0.1;
     left = ap (λ (x : State D). x.host.left) ends.0.1;
@@ -78,7 +78,7 @@ module _ {D : Type 0} (moves : D → Move → D → Type 0) (t : ℤ) where
     by true step rest more = clash (sym (grows (IngressStep moves t) n goes.1 s' (c || true) c' rest (or_other c true refl)) ∙ none)
     by false step rest more =
         record {
-          all = Took step.0 ∷ more.all;
+          all = Took t step.0 ∷ more.all;
           are = (goes.1.device, step.1, more.are);
           inner = more.inner ∙ ap (λ (x : State D). at_moment t x.host.inner) step.3;
           left = more.left ∙ ap (λ (x : State D). x.host.left) step.3;

@@ -10,6 +10,7 @@ use Rattle.net_containers.proofs.PacketLaws.{contents-appended}
 use Rattle.net_base.specs.ChecksumCapabilities.{ChecksumCapabilities}
 use Rattle.ip_address.specs.declared.hardware.HardwareAddress.{HardwareAddress}
 use Rattle.ip_address.specs.declared.ip.IpAddress.{IpAddress}
+use Rattle.ip_address.specs.declared.ip.IpProtocol.TheVariants as Protocol
 use Rattle.ip_packet.specs.declared.ip.repr.IpRepr.{IpRepr}
 use Rattle.ip_packet.specs.declared.ip.repr.IpRepr.TheVariants as Ip
 use Rattle.ip_packet.specs.declared.udp.repr.UdpRepr.{UdpRepr}
@@ -25,8 +26,12 @@ use Rattle.interface_ingress.specs.Carried.{IsCarriedContent}
 use Rattle.interface_ingress.specs.Datagrams.{GivenIn, GivenAt}
 use Rattle.interface_ingress.specs.Delivered.{with_change, given, passes, passes_in, packet_delivered, with_packet, is_taken_raw, datagram_place}
 use Rattle.interface_ingress.specs.Handed.{HandsTo}
-use Rattle.interface_ingress.specs.Incoming.{IncomingValue, IsContent}
-use Rattle.interface_ingress.specs.Reassembled.{Slots}
+use Rattle.interface_ingress.specs.Behind.{Behind}
+use Rattle.interface_ingress.specs.Behind.TheVariants as End
+use Rattle.interface_ingress.specs.Headers as Headers
+use Rattle.interface_ingress.specs.Headers.{upper_of}
+use Rattle.interface_ingress.specs.Incoming.{IncomingValue, Ip6, IsContent}
+use Rattle.interface_ingress.specs.Reassembled.{Slots, behind_headers, place_in, kept, bytes_at, rebuilt_v6}
 use Rattle.interface_ingress.specs.Sent.{uncut}
 use Rattle.interface_ingress.specs.Upper.{upper_header, upper_payload}
 use Rattle.interface_ingress.proofs.OneContent.{one-content, one-carried-content}
@@ -160,6 +165,13 @@ module _ (i : InnerValue) (places : Places) (link : Option EthernetRepr) (ip : I
       given_to (context_of then_host) a.places
       (subst (λ (o : Option (SocketStorage Socket)). GivenIn (context_of then_host) ip udp bytes m o then_places a.places) stands_then here)
 
+-- no piece has UDP behind its headers
+no_piece : (behind : Behind) → upper_of behind ≡ Protocol.Udp → Headers.is_piece behind ≡ false
+no_piece (End.Piece at) udp = absurd cc
+no_piece (End.Upper protocol at) udp = refl
+no_piece (End.Problem problem pointer) udp = refl
+no_piece End.Nothing udp = refl
+
 brought : (i : InnerValue) (places : Places) (link : Option EthernetRepr) (ip : IpRepr) (payload : List ℕ) (udp : UdpRepr) (bytes : List ℕ) (m : ℕ)
     (meta : Meta)
     (w : UdpValue) → IsFor i places link ip payload udp bytes m meta w → (timeout : ℕ) (slots : Slots) (a : Arrived)
@@ -169,13 +181,18 @@ brought i places link (Ip.Ipv4 header) payload udp bytes m meta w is timeout slo
     handed i places link (Ip.Ipv4 header) payload udp bytes m meta w is a
     (subst (λ (ours : Bool). Rattle.interface_ingress.specs.Arrives.ArrivesV4 ours i places link (Ip.Ipv4 header) payload a) is.ours goes)
 brought i places link (Ip.Ipv6 header) payload udp bytes m meta w is timeout slots a goes =
+    let content : Option IncomingValue = Some (Ip6 link header payload) in
+    let arrives : Brings i places content a =
+    subst (λ (piece : Bool). Brings i places
+    (if piece then rebuilt_v6 link header (bytes_at (place_in slots content) (kept i timeout slots content)) else content) a)
+    (no_piece (behind_headers header payload) is.carries.protocol) goes in
     handed i places link (Ip.Ipv6 header) payload udp bytes m meta w is a
-    (subst (λ (ours : Bool). Rattle.interface_ingress.specs.Arrives.ArrivesV6 ours i places link (Ip.Ipv6 header) payload a) is.ours goes)
+    (subst (λ (ours : Bool). Rattle.interface_ingress.specs.Arrives.ArrivesV6 ours i places link (Ip.Ipv6 header) payload a) is.ours arrives)
 
 pub reached : {D : Type 0} (moves : D → Move → D → Type 0) (t : ℤ) (s s' : State D) (frame : List ℕ) (link : Option EthernetRepr) (ip : IpRepr)
     (payload : List ℕ)
     (udp : UdpRepr) (bytes : List ℕ) (m : ℕ) (meta : Meta) (w : UdpValue)
-    → ((other : List ℕ) (d : D) → moves s.device (Took other) d → other ≡ frame)
+    → ((other : List ℕ) (d : D) → moves s.device (Took t other) d → other ≡ frame)
     → IsContent s.host.inner.hardware s.host.inner.checksums frame (Some (uncut link ip payload))
     → IsFor (at_moment t s.host.inner) s.places link ip payload udp bytes m meta w
     → IngressStep moves t s (Some true) s'

@@ -162,10 +162,10 @@ module _ {D : Type 0} (moves : D → Move → D → Type 0) where
     }
 
     -- it gave leave, and no frame went
-    admitted : (turned : Turned) (o : Option (Item Socket)) (b : Bool) → moves x.device (Allowed true) x'.device → turned ≡ Turn.Next b
+    admitted : (turned : Turned) (o : Option (Item Socket)) (b : Bool) → moves x.device (Allowed x.inner.moment true) x'.device → turned ≡ Turn.Next b
         → (x.left ≡ None → Calm x x' turned o) → Ends Q x x' turned o
     admitted turned o b leave next calm = record {
-      all = Allowed true ∷ [];
+      all = Allowed x.inner.moment true ∷ [];
       are = (x'.device, leave, refl);
       what = inr (λ none _. calm none);
       stops = inr (b, next);
@@ -204,10 +204,10 @@ module _ {D : Type 0} (moves : D → Move → D → Type 0) where
                 (marked_later x.inner (settled false item.socket) (mark (waits_until plan x.inner)) (facts.unknown waits) (waits_later plan x.inner waits)));
           }
 
-      module _ (mid : D) (leave : moves x.device (Allowed true) mid) where
+      module _ (mid : D) (leave : moves x.device (Allowed x.inner.moment true) mid) where
         went : (frame : List ℕ) (b : Bool) → moves mid (Emitted frame) x'.device → turned ≡ Turn.Next b → Ends Q x x' turned (Some item')
         went frame b move next = record {
-          all = Allowed true ∷ Emitted frame ∷ [];
+          all = Allowed x.inner.moment true ∷ Emitted frame ∷ [];
           are = (mid, leave, (x'.device, move, refl));
           what = inl (inl refl);
           stops = inr (b, next);
@@ -215,14 +215,14 @@ module _ {D : Type 0} (moves : D → Move → D → Type 0) where
 
         was_refused : (len : ℕ) → moves mid (Denied len) x'.device → Ends Q x x' turned (Some item')
         was_refused len move = record {
-          all = Allowed true ∷ Denied len ∷ [];
+          all = Allowed x.inner.moment true ∷ Denied len ∷ [];
           are = (mid, leave, (x'.device, move, refl));
           what = inl (inr refl);
           stops = inl refl;
         }
 
-        stays : x'.device ≡ mid → moves x.device (Allowed true) x'.device
-        stays is = subst (λ (d : D). moves x.device (Allowed true) d) (sym is) leave
+        stays : x'.device ≡ mid → moves x.device (Allowed x.inner.moment true) x'.device
+        stays is = subst (λ (d : D). moves x.device (Allowed x.inner.moment true) d) (sym is) leave
 
         asked : (q : Question) (sent : Sent) → Asked moves mid x.inner q sent x'.device x'.inner → turned ≡ turned_by sent changed
             → Ends Q x x' turned (Some item')
@@ -269,7 +269,8 @@ module _ {D : Type 0} (moves : D → Move → D → Type 0) where
         out (Way.Go to) sent facts goes gets = whole (Departures.Whole to (numbered x.inner p)) sent goes.0 gets.0
         out (Way.Cut to v) sent facts goes gets = cut (cut_of x.inner to v p) sent goes gets.0
 
-      held_ends : (plan : Plan) (sent : Sent) (given_up other : Bool) → moves x.device (Allowed true) x'.device → (other ≡ true → is_to_wait plan ≡ true)
+      held_ends : (plan : Plan) (sent : Sent) (given_up other : Bool) → moves x.device (Allowed x.inner.moment true) x'.device →
+          (other ≡ true → is_to_wait plan ≡ true)
           → Facts x.inner (is_some x.left) p.header plan
           → (if given_up then Some Outcome.Dropped else if other then Some Outcome.Waits else None) ≡ Some sent
           → Gets plan sent → x'.inner ≡ x.inner → x'.left ≡ x.left → Ends Q x x' turned (Some item')
@@ -286,10 +287,10 @@ module _ {D : Type 0} (moves : D → Move → D → Type 0) where
 
       leaves : (sent : Sent) → Leaves moves turn x item.meta p sent x' → Gets (plan_at x p) sent → Ends Q x x' turned (Some item')
       leaves sent (inl rests) gets = by rests.0 rests.1 rests.4 where
-        by : (given : Bool) → moves x.device (Allowed given) x'.device
+        by : (given : Bool) → moves x.device (Allowed x.inner.moment given) x'.device
             → outcome_by given (held turn item.meta x.inner (destination_of p.header) (plan_at x p)) ≡ Some sent
             → Ends Q x x' turned (Some item')
-        by false move is = record { all = Allowed false ∷ []; are = (x'.device, move, refl); what = inl (inr refl); stops = inl refl }
+        by false move is = record { all = Allowed x.inner.moment false ∷ []; are = (x'.device, move, refl); what = inl (inr refl); stops = inl refl }
         by true move is =
             held_ends (plan_at x p) sent (is_given_up item.meta x.inner (destination_of p.header) (plan_at x p)) (is_out_of_turn turn (plan_at x p)) move
             (out_of_turn_waits turn (plan_at x p)) (plan_facts x.inner (is_some x.left) p.header) is gets rests.2 rests.3

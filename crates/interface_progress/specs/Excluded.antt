@@ -12,7 +12,7 @@ use Rattle.interface_progress.specs.Patience.{ArePatient}
 
 -- a device that is only looked at, and never has a frame
 abbrev pub Lonely : Unit {0} → Move → Unit {0} → Type 0
-Lonely old m new = m ≡ Empty
+Lonely old m new = (t : ℤ) × (m ≡ Empty t)
 
 -- when a host wants to be polled, by its tables, the datagram that is half sent, and its sockets
 abbrev pub Rule : Type 0

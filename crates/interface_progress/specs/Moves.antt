@@ -10,16 +10,16 @@ module _ {D : Type 0} (moves : D → Move → D → Type 0) where
 
 -- a frame went
 abbrev pub is_sent : Move → Bool
-is_sent (Took frame) = false
-is_sent Empty = false
-is_sent (Allowed given) = false
+is_sent (Took t frame) = false
+is_sent (Empty t) = false
+is_sent (Allowed t given) = false
 is_sent (Emitted frame) = true
 is_sent (Denied len) = false
 
 -- the device gave no leave to send a frame, or refused one
 abbrev pub is_refused : Move → Bool
-is_refused (Took frame) = false
-is_refused Empty = false
-is_refused (Allowed given) = not given
+is_refused (Took t frame) = false
+is_refused (Empty t) = false
+is_refused (Allowed t given) = not given
 is_refused (Emitted frame) = false
 is_refused (Denied len) = true

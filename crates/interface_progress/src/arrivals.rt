@@ -23,7 +23,7 @@ use net_base::Device;
 pub fn datagrams_reach_their_socket<D: Device>()
     ensures reaches { (t : ℤ) (s s' : State D) (frame : List ℕ) (link : Option EthernetRepr) (ip : IpRepr) (payload : List ℕ) (udp : UdpRepr)
         (bytes : List ℕ) (m : ℕ) (meta : Meta) (w : UdpValue)
-        → ((other : List ℕ) (d : D) → D.moves s.device (Took other) d → other ≡ frame)
+        → ((other : List ℕ) (d : D) → D.moves s.device (Took t other) d → other ≡ frame)
         → IsContent s.host.inner.hardware s.host.inner.checksums frame (Some (uncut link ip payload))
         → IsFor (at_moment t s.host.inner) s.places link ip payload udp bytes m meta w
         → IngressStep D.moves t s (Some true) s'

@@ -39,7 +39,7 @@ pub fn queued_datagrams_go<D: Device>()
         → length before < budget
         → AllByRecursion (HasWay (at_moment t s.host.inner) v.settings) before
         → CanGo (at_moment t s.host.inner) v.settings d to p
-        → HasNoFrame D.moves s.device
+        → HasNoFrame D.moves t s.device
         → Polls D.moves t budget s changed s'
         → GoesInTurn D.moves (at_moment t s.host.inner) to p s.device s'.device }
 {}

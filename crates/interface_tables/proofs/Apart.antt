@@ -13,8 +13,8 @@ use Rattle.std.proofs.lemmas.Option.{slice_get-get_or}
 use Rattle.interface_tables.specs.Best.{at_place}
 use Rattle.interface_tables.specs.Reassembly.{SlotValue, fresh, freed, taken, placed, with_piece, with_end, with_total, takes_end, takes_piece, takes_total}
 use Rattle.interface_tables.specs.Reassembly.{overwritten, marked, is_free, is_key, is_of, or_else, place_for}
-use Rattle.interface_tables.specs.Slots.{changed, changed_at, opened, with_piece_of, is_expired, unless_expired, without_expired, slot_of, AreOthers, AreApart}
-use Rattle.interface_tables.specs.Slots.{IsTest, map_some}
+use Rattle.interface_tables.specs.Slots.{changed, changed_at, opened, with_piece_of, without_datagram, is_expired, unless_expired, without_expired}
+use Rattle.interface_tables.specs.Slots.{slot_of, AreOthers, AreApart, IsTest, map_some}
 
 -- SEARCHES
 
@@ -280,3 +280,46 @@ module _ {K : Type 0} (holes : ℕ) (same : K → K → Bool) (test : IsTest sam
 
   pub piece_apart : AreApart slots → AreApart (with_piece_of holes same slots key expires piece offset more)
   piece_apart apart = apart_changed same test slots key (λ s. placed holes (opened same key expires s) piece offset more) piece-key (fresh 0) apart
+
+-- A DATAGRAM THAT IS GIVEN UP
+
+module _ {K : Type 0} (same : K → K → Bool) (test : IsTest same) (slots : List (SlotValue K)) (key : K) where
+  abbrev d : SlotValue K
+  d = fresh 0
+
+  abbrev left_at : ℕ → List (SlotValue K)
+  left_at at = slice_set slots at (freed (get_or slots at d))
+
+  freed_at-is : (at : ℕ) → at < length slots → changed_at freed (Some at) slots ≡ left_at at
+  freed_at-is at within = ap (λ o. changed freed (Some at) o slots) (slice_get-get_or slots at d within)
+
+  none_at : (at : ℕ) → position (is_of same key) slots ≡ Some at → AreApart slots → (k : ℕ) (e : SlotValue K) → k < length (left_at at) →
+      is_of same key (get_or (left_at at) k e) ≡ false
+  none_at at found apart k e within =
+      let place : IsPlace same test slots key at e = is_place-own same test slots key at e found in
+      let inside : k < length slots = omega (arith, length-set slots at (freed (get_or slots at d)), within) in
+      elim (cases_eq k at) [
+        | inl here ↦ subst (λ (n : ℕ). is_of same key (get_or (left_at at) n e) ≡ false) (sym here)
+            (ap (is_of same key) (get_or-set_same slots at (freed (get_or slots at d)) e place.within))
+        | inr other ↦ ap (is_of same key) (get_or-set_other slots at k (freed (get_or slots at d)) e other) ∙ place.others apart k other inside
+      ]
+
+  pub given_up_own : AreApart slots → slot_of same (without_datagram same slots key) key ≡ None
+  given_up_own apart =
+      elim (position (is_of same key) slots) as (λ p. position (is_of same key) slots ≡ p → slot_of same (changed_at freed p slots) key ≡ None) [
+        | None ↦ λ e. find_none (is_of same key) slots (λ k c within. position-None (is_of same key) slots k c e within)
+        | Some at ↦ λ e.
+            let place : IsPlace same test slots key at d = is_place-own same test slots key at d e in
+            ap (λ ss. slot_of same ss key) (freed_at-is at place.within) ∙ find_none (is_of same key) (left_at at) (none_at at e apart)
+      ] refl
+
+  pub given_up_other : (other : K) → (key ≡ other → ⊥) → slot_of same (without_datagram same slots key) other ≡ slot_of same slots other
+  given_up_other other ne =
+      elim (position (is_of same key) slots) as
+      (λ p. position (is_of same key) slots ≡ p → slot_of same (changed_at freed p slots) other ≡ slot_of same slots other) [
+        | None ↦ λ e. refl
+        | Some at ↦ λ e.
+            let place : IsPlace same test slots key at d = is_place-own same test slots key at d e in
+            ap (λ ss. slot_of same ss other) (freed_at-is at place.within)
+            ∙ find_past (is_of same other) slots at (freed (get_or slots at d)) d (place.own other ne) refl
+      ] refl

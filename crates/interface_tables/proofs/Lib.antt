@@ -7,3 +7,5 @@ pub mod PathMtu
 pub mod Rebuilt
 pub mod Renewed
 pub mod FourBytes
+pub mod InParts
+pub mod Keys

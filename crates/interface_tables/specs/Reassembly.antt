@@ -1,7 +1,9 @@
 -- Datagrams that are put together from their pieces (RFC 791, section 3.2; RFC 815): what a slot holds of one datagram, and
 -- what a piece makes of it.
-use Rattle.std.specs.Prelude.{ℕ, ◌+◌, ◌==◌, nat_le, ◌&&◌, ◌||◌, Bool, true, false, if◌then◌else◌, ℤ, pos, List, [], ◌++◌, length, take, drop, position}
+use Rattle.std.specs.Prelude.{ℕ, ◌+◌, ◌==◌, nat_le, nat_lt, ◌&&◌, ◌||◌, not, Bool, true, false, if◌then◌else◌, ℤ, pos, List, [], ◌++◌, length, take, drop, position}
 use Rattle.std.specs.Prelude.{replicate, Option, None, Some, is_none, refl}
+use Rattle.std.specs.List.{list_any}
+use Rattle.std.specs.Str.{bytes_eq}
 use Rattle.std.specs.Coded.{Coded, code_by, coded×, coded_list, coded_option, coded_ℕ, coded_ℤ}
 use Rattle.net_containers.specs.Assembler.{added, front}
 
@@ -28,6 +30,13 @@ overwritten bytes offset piece = take offset bytes ++ piece ++ drop (offset + le
 -- the runs with the places of a piece, where they aren't more than an assembler keeps
 abbrev pub marked : ℕ → List (ℕ × ℕ) → ℕ → ℕ → List (ℕ × ℕ)
 marked holes runs offset size = if nat_le (length (added runs offset size)) holes then added runs offset size else runs
+
+-- some of the places from `start` to `end` are in a run, and all of them are in one
+abbrev pub meets : List (ℕ × ℕ) → (start end : ℕ) → Bool
+meets runs start end = list_any (λ r. nat_lt r.0 end && nat_lt start r.1) runs
+
+abbrev pub covers : List (ℕ × ℕ) → (start end : ℕ) → Bool
+covers runs start end = list_any (λ r. nat_le r.0 start && nat_le end r.1) runs
 
 -- the datagram ends here
 abbrev pub ends_at : Option ℕ → ℕ → Bool
@@ -95,6 +104,14 @@ module _ {K : Type 0} where
   abbrev pub placed : ℕ → SlotValue K → List ℕ → ℕ → Bool → SlotValue K
   placed holes s piece offset more =
       if takes_end s piece offset more then with_piece holes (with_end s piece offset more) piece offset else s
+
+  -- the piece came before, each byte of it
+  abbrev pub repeats : SlotValue K → List ℕ → ℕ → Bool
+  repeats s piece offset = covers s.runs offset (offset + length piece) && bytes_eq (take (length piece) (drop offset s.bytes)) piece
+
+  -- some of its places came before, and not as they are in it
+  abbrev pub overlaps : SlotValue K → List ℕ → ℕ → Bool
+  overlaps s piece offset = meets s.runs offset (offset + length piece) && not (repeats s piece offset)
 
   -- WHOLE DATAGRAMS
 

@@ -1,9 +1,9 @@
 -- Slots, each of another datagram: a finite map from keys to what came, of as many keys as there are slots (RFC 815).
-use Rattle.std.specs.Prelude.{◌≡◌, ℕ, Bool, true, ◌&&◌, not, if◌then◌else◌, ℤ, int_lt, List, [], ◌∷◌, map, slice_set, replicate, find, position, Option, None}
+use Rattle.std.specs.Prelude.{◌≡◌, ℕ, Bool, true, ◌&&◌, not, if◌then◌else◌, false, ℤ, int_lt, List, map, slice_set, replicate, find, position, Option, None}
 use Rattle.std.specs.Prelude.{Some}
 use Rattle.std.specs.List.{AllPairs}
 use Rattle.interface_tables.specs.Best.{at_place}
-use Rattle.interface_tables.specs.Reassembly.{SlotValue, fresh, freed, taken, placed, completed, is_free, is_of, place_for}
+use Rattle.interface_tables.specs.Reassembly.{SlotValue, fresh, freed, taken, placed, overlaps, completed, is_free, is_of, place_for}
 
 module _ {K : Type 0} where
   -- ONE SLOT
@@ -53,15 +53,23 @@ module _ {K : Type 0} where
   with_piece_of holes same slots key expires piece offset more =
       changed_at (λ s. placed holes (opened same key expires s) piece offset more) (place_for same slots key) slots
 
+  -- what came of a datagram
+  abbrev pub slot_of : (K → K → Bool) → List (SlotValue K) → K → Option (SlotValue K)
+  slot_of same slots key = find (is_of same key) slots
+
+  -- a piece of the datagram overlaps what came of it
+  abbrev pub overlaps_in : Option (SlotValue K) → List ℕ → ℕ → Bool
+  overlaps_in None piece offset = false
+  overlaps_in (Some s) piece offset = overlaps s piece offset
+
+  abbrev pub overlaps_datagram : (K → K → Bool) → List (SlotValue K) → K → List ℕ → ℕ → Bool
+  overlaps_datagram same slots key piece offset = overlaps_in (slot_of same slots key) piece offset
+
   -- a datagram is given up: its slot, if it has one, is free
   abbrev pub without_datagram : (K → K → Bool) → List (SlotValue K) → K → List (SlotValue K)
   without_datagram same slots key = changed_at freed (position (is_of same key) slots) slots
 
   -- THE MAP
-
-  -- what came of a datagram
-  abbrev pub slot_of : (K → K → Bool) → List (SlotValue K) → K → Option (SlotValue K)
-  slot_of same slots key = find (is_of same key) slots
 
   -- no two slots are of one datagram
   abbrev pub AreOthers : SlotValue K → SlotValue K → Type 0

@@ -1,7 +1,8 @@
 //! Datagrams that are put together from their pieces (RFC 791, section 3.2; RFC 815).
-ghost use Rattle.std.specs.Prelude.{◌≡◌, ◌+◌, ◌≤◌, ◌↔◌, nat_le, length, IsTrue, is_ok, Some, codes};
+ghost use Rattle.std.specs.Prelude.{◌≡◌, ◌+◌, ◌≤◌, ◌↔◌, ◌++◌, nat_le, length, take, drop, IsTrue, is_ok, Some, codes};
+ghost use Rattle.std.specs.Str.{bytes_eq};
 ghost use Rattle.std.specs.Option.{option_copied};
-ghost use Rattle.interface_tables.specs.Reassembly.{is_known_as, overwritten};
+ghost use Rattle.interface_tables.specs.Reassembly.{is_known_as, overwritten, meets, covers};
 
 use net_base::{Assembler, Instant};
 use std::fmt;
@@ -61,7 +62,7 @@ impl<K, const SIZE: usize, const HOLES: usize> Model for PacketAssembler<K, SIZE
 
 impl<K: Drop, const SIZE: usize, const HOLES: usize> PacketAssembler<K, SIZE, HOLES> {
     ghost use Rattle.interface_tables.specs.Reassembly.{empty, fresh, freed, taken, is_free, takes_total, with_total, takes_piece, with_piece, is_complete};
-    ghost use Rattle.interface_tables.specs.Reassembly.{completed, placed, is_placed};
+    ghost use Rattle.interface_tables.specs.Reassembly.{completed, placed, is_placed, overlaps};
 
     /// A free slot.
     pub fn new() -> PacketAssembler<K, SIZE, HOLES>
@@ -112,11 +113,25 @@ impl<K: Drop, const SIZE: usize, const HOLES: usize> PacketAssembler<K, SIZE, HO
         ensures after { self.new ≡ with_piece HOLES self.old piece.now offset }
         ensures ok { is_ok result ≡ takes_piece self.old piece.now offset }
     {
-        if !fits(offset, piece.len(), self.buffer.as_slice().len()) {
+        self.add_behind(&[], piece, offset)
+    }
+
+    /// The same of a piece that lies in two parts.
+    pub fn add_behind(
+        &mut self,
+        front: &[u8],
+        piece: &[u8],
+        offset: usize,
+    ) -> Result<(), AssemblerError>
+        ensures after { self.new ≡ with_piece HOLES self.old (front.now ++ piece.now) offset }
+        ensures ok { is_ok result ≡ takes_piece self.old (front.now ++ piece.now) offset }
+    {
+        let len = front.len() + piece.len();
+        if !fits(offset, len, self.buffer.as_slice().len()) {
             return Err(AssemblerError);
         }
-        write_at(&mut self.buffer, offset, piece);
-        let _ = self.assembler.add(offset, piece.len());
+        write_behind(&mut self.buffer, offset, front, piece);
+        let _ = self.assembler.add(offset, len);
         Ok(())
     }
 
@@ -130,16 +145,43 @@ impl<K: Drop, const SIZE: usize, const HOLES: usize> PacketAssembler<K, SIZE, HO
         ensures after { self.new ≡ placed HOLES self.old piece.now offset more_frags }
         ensures ok { is_ok result ≡ is_placed self.old piece.now offset more_frags }
     {
+        self.insert_behind(&[], piece, offset, more_frags)
+    }
+
+    /// The same of a piece that lies in two parts.
+    pub fn insert_behind(
+        &mut self,
+        front: &[u8],
+        piece: &[u8],
+        offset: usize,
+        more_frags: bool,
+    ) -> Result<(), AssemblerError>
+        ensures after { self.new ≡ placed HOLES self.old (front.now ++ piece.now) offset more_frags }
+        ensures ok { is_ok result ≡ is_placed self.old (front.now ++ piece.now) offset more_frags }
+    {
         if more_frags {
-            return self.add(piece, offset);
+            return self.add_behind(front, piece, offset);
         }
-        if !fits(offset, piece.len(), self.buffer.as_slice().len()) {
+        let len = front.len() + piece.len();
+        if !fits(offset, len, self.buffer.as_slice().len()) {
             return Err(AssemblerError);
         }
-        match self.set_total_size(offset + piece.len()) {
-            Ok(()) => self.add(piece, offset),
+        match self.set_total_size(offset + len) {
+            Ok(()) => self.add_behind(front, piece, offset),
             Err(error) => Err(error),
         }
+    }
+
+    /// Whether some of a piece that lies in two parts came before, and not as it is now.
+    pub fn overlaps(&self, front: &[u8], piece: &[u8], offset: usize) -> bool
+        requires { offset + length (front.now ++ piece.now) ≤ SIZE }
+        ensures { result ≡ overlaps self.now (front.now ++ piece.now) offset }
+    {
+        let end = offset + (front.len() + piece.len());
+        if !meets(&self.assembler, offset, end) {
+            return false;
+        }
+        !(covers(&self.assembler, offset, end) && repeats(&self.buffer, offset, front, piece))
     }
 
     /// Whether every byte of the datagram came.
@@ -233,6 +275,53 @@ fn fits(offset: usize, len: usize, size: usize) -> bool
         Some(end) => end <= size,
         None => false,
     }
+}
+
+/// Whether some of these places are in a run.
+fn meets<const N: usize>(held: &Assembler<N>, start: usize, end: usize) -> bool
+    ensures { result ≡ meets held.now start end }
+{
+    for (first, behind) in held.iter_data() {
+        if first < end && start < behind {
+            return true;
+        }
+    }
+    false
+}
+
+/// Whether all of these places are in one run.
+fn covers<const N: usize>(held: &Assembler<N>, start: usize, end: usize) -> bool
+    ensures { result ≡ covers held.now start end }
+{
+    for (first, behind) in held.iter_data() {
+        if first <= start && end <= behind {
+            return true;
+        }
+    }
+    false
+}
+
+/// Whether these bytes stand there from the offset on.
+fn repeats(bytes: &[u8], offset: usize, front: &[u8], piece: &[u8]) -> bool
+    requires { offset + length (front.now ++ piece.now) ≤ length bytes.now }
+    ensures { result ≡ bytes_eq (take (length (front.now ++ piece.now)) (drop offset bytes.now)) (front.now ++ piece.now) }
+{
+    let (_, rest) = bytes.split_at(offset);
+    let (there, _) = rest.split_at(front.len() + piece.len());
+    let (begin, end) = there.split_at(front.len());
+    if begin != front {
+        return false;
+    }
+    end == piece
+}
+
+/// Writes a piece that lies in two parts over the bytes from the offset on.
+fn write_behind(bytes: &mut [u8], offset: usize, front: &[u8], piece: &[u8])
+    requires { offset + length (front.now ++ piece.now) ≤ length bytes.old }
+    ensures { bytes.new ≡ overwritten bytes.old offset (front.now ++ piece.now) }
+{
+    write_at(bytes, offset, front);
+    write_at(bytes, offset + front.len(), piece);
 }
 
 /// Writes a piece over the bytes from the offset on.

@@ -1,5 +1,5 @@
 //! What follows from the definitions.
-ghost use Rattle.std.specs.Prelude.{◌≡◌, ℕ, ℤ, ◌+◌, ◌<◌, ◌≤◌, ◌++◌, Bool, List, length, drop, pos, Some};
+ghost use Rattle.std.specs.Prelude.{◌≡◌, ℕ, ℤ, ◌+◌, ◌<◌, ◌≤◌, ◌++◌, Bool, List, length, drop, pos, Some, None};
 ghost use Rattle.net_containers.specs.Assembler.{AreRuns, added};
 ghost use Rattle.held_bytes.specs.Held.{map_from};
 ghost use Rattle.interface_tables.specs.Best.{at_place};
@@ -7,8 +7,10 @@ ghost use Rattle.interface_tables.specs.Neighbor.{lookup, filled};
 ghost use Rattle.interface_tables.specs.Searches.{nobody, twice, thrice, answer};
 ghost use Rattle.interface_tables.specs.declared.neighbor.Answer.TheVariants as Known;
 ghost use Rattle.interface_tables.specs.Reassembly.{SlotValue, freed, taken, placed, place_for, overwritten, marked, completed};
-ghost use Rattle.interface_tables.specs.Slots.{opened, changed_at, with_piece_of, without_expired, slot_of, AreApart, IsTest, map_some};
+ghost use Rattle.interface_tables.specs.Slots.{opened, changed_at, with_piece_of, without_datagram, without_expired, slot_of, AreApart, IsTest, map_some};
 ghost use Rattle.interface_tables.specs.Pieces.{Piece, piece_at, IsSliceOf, HoldsSlicesOf};
+
+use crate::key::FragKey;
 
 /// Law: a slot that took in pieces of one payload alone gives that payload when it is complete, whatever their order, number
 /// and overlap.
@@ -50,7 +52,7 @@ pub fn unmarked_bytes_do_not_count()
 {}
 
 /// Law: slots are a map from keys to what came of each datagram. A piece changes what came of its own datagram, and of no
-/// other; and no two slots are ever of one datagram.
+/// other; one that is given up has no slot; and no two slots are ever of one datagram.
 pub fn slots_are_a_map<K>()
     ensures own { (holes : ℕ) (same : K → K → Bool) (slots : List (SlotValue K)) (key : K) (expires : ℤ) (piece : List ℕ) (offset : ℕ) (more : Bool)
         → IsTest same → slot_of same (with_piece_of holes same slots key expires piece offset more) key
@@ -60,6 +62,15 @@ pub fn slots_are_a_map<K>()
         → slot_of same (with_piece_of holes same slots key expires piece offset more) other ≡ slot_of same slots other }
     ensures apart { (holes : ℕ) (same : K → K → Bool) (slots : List (SlotValue K)) (key : K) (expires : ℤ) (piece : List ℕ) (offset : ℕ) (more : Bool)
         → IsTest same → AreApart slots → AreApart (with_piece_of holes same slots key expires piece offset more) }
+    ensures given_up { (same : K → K → Bool) (slots : List (SlotValue K)) (key : K) → IsTest same → AreApart slots
+        → slot_of same (without_datagram same slots key) key ≡ None }
+    ensures others_stay { (same : K → K → Bool) (slots : List (SlotValue K)) (key : K) → IsTest same → (other : K) → (key ≡ other → ⊥)
+        → slot_of same (without_datagram same slots key) other ≡ slot_of same slots other }
     ensures freed { (slots : List (SlotValue K)) (at : ℕ) → AreApart slots → AreApart (changed_at freed (Some at) slots) }
     ensures expired { (slots : List (SlotValue K)) (moment : ℤ) → AreApart slots → AreApart (without_expired slots moment) }
+{}
+
+/// Law: keys of pieces are compared whole.
+pub fn keys_are_tested()
+    ensures { IsTest ⟦<FragKey as PartialEq>⟧.eq }
 {}

@@ -1,13 +1,13 @@
 //! Slots for datagrams that come in pieces, each of another datagram (RFC 815).
-ghost use Rattle.std.specs.Prelude.{◌≡◌, ◌↔◌, ◌≤◌, ◌<◌, length, position, None, Some, IfOk, IsErr};
+ghost use Rattle.std.specs.Prelude.{◌≡◌, ◌↔◌, ◌≤◌, ◌<◌, ◌+◌, ◌++◌, length, position, None, Some, IfOk, IsErr};
 ghost use Rattle.interface_tables.specs.Best.{at_place};
 ghost use Rattle.std.specs.Option.{ForSome, option_copied};
 ghost use Rattle.interface_tables.specs.Reassembly.{placed, freed, is_free, is_key, is_of, place_for};
 ghost use Rattle.interface_tables.specs.Slots.{free_slots, opened, with_slot_for, changed_at, completed_at, is_expired, unless_expired, without_expired};
-ghost use Rattle.interface_tables.specs.Slots.{with_piece_of, without_datagram};
+ghost use Rattle.interface_tables.specs.Slots.{with_piece_of, slot_of, overlaps_datagram, without_datagram};
 
 use crate::fragmentation::{AssemblerFullError, PacketAssembler};
-use ip_wire::Ipv4FragKey;
+use crate::key::FragKey;
 use net_base::Instant;
 use std::alloc::{AllocError, Global};
 use std::marker::Model;
@@ -17,9 +17,9 @@ pub const REASSEMBLY_SIZE: usize = 4096;
 
 const REASSEMBLY_RUNS: usize = 4;
 
-type Slot = PacketAssembler<Ipv4FragKey, REASSEMBLY_SIZE, REASSEMBLY_RUNS>;
+type Slot = PacketAssembler<FragKey, REASSEMBLY_SIZE, REASSEMBLY_RUNS>;
 
-/// The pieces of at most `N` IPv4 datagrams of at most 4096 bytes each, in at most 4 runs each.
+/// The pieces of at most `N` datagrams of at most 4096 bytes each, in at most 4 runs each.
 #[derive(Debug, Drop)]
 pub struct PacketAssemblerSet<const N: usize> {
     assemblers: Vec<Slot>,
@@ -27,10 +27,10 @@ pub struct PacketAssemblerSet<const N: usize> {
 
 impl<const N: usize> Model for PacketAssemblerSet<N> {
     ghost use Rattle.std.specs.Prelude.{◌≡◌, List, length};
-    ghost use Rattle.ip_wire.specs.Ipv4FragKey.{Ipv4FragKey};
+    ghost use Rattle.interface_tables.specs.declared.key.FragKey.{FragKey};
     ghost use Rattle.interface_tables.specs.Reassembly.{SlotValue};
 
-    ghost Value = { List (SlotValue Ipv4FragKey) };
+    ghost Value = { List (SlotValue FragKey) };
 
     ghost view = { λ s. s.assemblers.items };
 
@@ -53,15 +53,33 @@ impl<const N: usize> PacketAssemblerSet<N> {
     /// one, which is given up after the moment; without one, the piece is dropped. Answers the slot's place.
     pub fn insert(
         &mut self,
-        key: &Ipv4FragKey,
+        key: &FragKey,
         expires_at: Instant,
         piece: &[u8],
         offset: usize,
         more_frags: bool,
     ) -> Option<usize>
-        ensures place { result ≡ place_for ⟦<Ipv4FragKey as PartialEq>⟧.eq self.old key.now }
+        ensures place { result ≡ place_for ⟦<FragKey as PartialEq>⟧.eq self.old key.now }
         ensures in_range { ForSome result (λ at. at < N) }
-        ensures after { self.new ≡ with_piece_of 4 ⟦<Ipv4FragKey as PartialEq>⟧.eq self.old key.now expires_at piece.now offset more_frags }
+        ensures after { self.new ≡ with_piece_of 4 ⟦<FragKey as PartialEq>⟧.eq self.old key.now expires_at piece.now offset more_frags }
+    {
+        self.insert_behind(key, expires_at, &[], piece, offset, more_frags)
+    }
+
+    /// The same of a piece that lies in two parts.
+    pub fn insert_behind(
+        &mut self,
+        key: &FragKey,
+        expires_at: Instant,
+        front: &[u8],
+        piece: &[u8],
+        offset: usize,
+        more_frags: bool,
+    ) -> Option<usize>
+        ensures place { result ≡ place_for ⟦<FragKey as PartialEq>⟧.eq self.old key.now }
+        ensures in_range { ForSome result (λ at. at < N) }
+        ensures after { self.new ≡
+            with_piece_of 4 ⟦<FragKey as PartialEq>⟧.eq self.old key.now expires_at (front.now ++ piece.now) offset more_frags }
     {
         let place = self.place_for(key);
         if let Some(at) = place {
@@ -70,6 +88,7 @@ impl<const N: usize> PacketAssemblerSet<N> {
                 at,
                 key,
                 expires_at,
+                front,
                 piece,
                 offset,
                 more_frags,
@@ -78,15 +97,26 @@ impl<const N: usize> PacketAssemblerSet<N> {
         place
     }
 
+    /// Whether a piece of this datagram, which lies in two parts, overlaps what came of it.
+    pub fn overlaps(&self, key: &FragKey, front: &[u8], piece: &[u8], offset: usize) -> bool
+        requires { offset + length (front.now ++ piece.now) ≤ REASSEMBLY_SIZE }
+        ensures { result ≡ overlaps_datagram ⟦<FragKey as PartialEq>⟧.eq self.now key.now (front.now ++ piece.now) offset }
+    {
+        match slot_of(self.assemblers.as_slice(), key) {
+            Some(slot) => slot.overlaps(front, piece, offset),
+            None => false,
+        }
+    }
+
     /// The slot of this datagram; one that has none yet gets a free one, which is given up after the moment.
     pub fn get(
         &mut self,
-        key: &Ipv4FragKey,
+        key: &FragKey,
         expires_at: Instant,
     ) -> Result<&mut Slot, AssemblerFullError>
-        ensures full { IsErr result ↔ (place_for ⟦<Ipv4FragKey as PartialEq>⟧.eq self.old key.now ≡ None) }
-        ensures lent { IfOk result (λ slot. Some slot.now ≡ at_place (place_for ⟦<Ipv4FragKey as PartialEq>⟧.eq self.old key.now)
-            (with_slot_for ⟦<Ipv4FragKey as PartialEq>⟧.eq self.old key.now expires_at)) }
+        ensures full { IsErr result ↔ (place_for ⟦<FragKey as PartialEq>⟧.eq self.old key.now ≡ None) }
+        ensures lent { IfOk result (λ slot. Some slot.now ≡ at_place (place_for ⟦<FragKey as PartialEq>⟧.eq self.old key.now)
+            (with_slot_for ⟦<FragKey as PartialEq>⟧.eq self.old key.now expires_at)) }
     {
         match self.place_for(key) {
             Some(at) => {
@@ -114,8 +144,8 @@ impl<const N: usize> PacketAssemblerSet<N> {
     }
 
     /// Gives up this datagram, if it has a slot.
-    pub fn remove(&mut self, key: &Ipv4FragKey)
-        ensures { self.new ≡ without_datagram ⟦<Ipv4FragKey as PartialEq>⟧.eq self.old key.now }
+    pub fn remove(&mut self, key: &FragKey)
+        ensures { self.new ≡ without_datagram ⟦<FragKey as PartialEq>⟧.eq self.old key.now }
     {
         if let Some(at) = place_of(self.assemblers.as_slice(), key) {
             free_at(self.assemblers.as_mut_slice(), at);
@@ -130,8 +160,8 @@ impl<const N: usize> PacketAssemblerSet<N> {
     }
 
     /// The place of this datagram's slot: its own, else the first free one.
-    fn place_for(&self, key: &Ipv4FragKey) -> Option<usize>
-        ensures place { result ≡ place_for ⟦<Ipv4FragKey as PartialEq>⟧.eq self.now key.now }
+    fn place_for(&self, key: &FragKey) -> Option<usize>
+        ensures place { result ≡ place_for ⟦<FragKey as PartialEq>⟧.eq self.now key.now }
         ensures in_range { ForSome result (λ at. at < N) }
     {
         match place_of(self.assemblers.as_slice(), key) {
@@ -142,11 +172,18 @@ impl<const N: usize> PacketAssemblerSet<N> {
 }
 
 /// Where the slot of this datagram is.
-fn place_of(slots: &[Slot], key: &Ipv4FragKey) -> Option<usize>
-    ensures place { result ≡ position (is_of ⟦<Ipv4FragKey as PartialEq>⟧.eq key.now) slots.now }
+fn place_of(slots: &[Slot], key: &FragKey) -> Option<usize>
+    ensures place { result ≡ position (is_of ⟦<FragKey as PartialEq>⟧.eq key.now) slots.now }
     ensures in_range { ForSome result (λ at. at < length slots.now) }
 {
     slots.iter().position(|slot| slot.is_of(key))
+}
+
+/// The slot of this datagram.
+fn slot_of<'a>(slots: &'a [Slot], key: &FragKey) -> Option<&'a Slot>
+    ensures { option_copied result ≡ slot_of ⟦<FragKey as PartialEq>⟧.eq slots.now key.now }
+{
+    slots.iter().find(|slot| slot.is_of(key))
 }
 
 /// Where the first free slot is.
@@ -168,8 +205,8 @@ fn completed_in(slots: &[Slot], at: usize) -> Option<&[u8]>
 }
 
 /// A slot that isn't the datagram's yet becomes it.
-fn open(slot: &mut Slot, key: &Ipv4FragKey, expires_at: Instant)
-    ensures { slot.new ≡ opened ⟦<Ipv4FragKey as PartialEq>⟧.eq key.now expires_at slot.old }
+fn open(slot: &mut Slot, key: &FragKey, expires_at: Instant)
+    ensures { slot.new ≡ opened ⟦<FragKey as PartialEq>⟧.eq key.now expires_at slot.old }
 {
     if !slot.is_of(key) {
         slot.take(*key, expires_at);
@@ -181,17 +218,26 @@ fn open(slot: &mut Slot, key: &Ipv4FragKey, expires_at: Instant)
 fn put_at(
     slots: &mut [Slot],
     at: usize,
-    key: &Ipv4FragKey,
+    key: &FragKey,
     expires_at: Instant,
+    front: &[u8],
     piece: &[u8],
     offset: usize,
     more_frags: bool,
 )
     requires { at < length slots.old }
-    ensures { slots.new ≡ changed_at (λ s. placed 4 (opened ⟦<Ipv4FragKey as PartialEq>⟧.eq key.now expires_at s) piece.now offset more_frags)
+    ensures { slots.new ≡ changed_at (λ s. placed 4 (opened ⟦<FragKey as PartialEq>⟧.eq key.now expires_at s) (front.now ++ piece.now) offset more_frags)
         (Some at) slots.old }
 {
-    put(&mut slots[at], key, expires_at, piece, offset, more_frags);
+    put(
+        &mut slots[at],
+        key,
+        expires_at,
+        front,
+        piece,
+        offset,
+        more_frags,
+    );
 }
 
 /// Frees the slot at this place.
@@ -206,16 +252,17 @@ fn free_at(slots: &mut [Slot], at: usize)
 /// Takes a piece of this datagram into a slot.
 fn put(
     slot: &mut Slot,
-    key: &Ipv4FragKey,
+    key: &FragKey,
     expires_at: Instant,
+    front: &[u8],
     piece: &[u8],
     offset: usize,
     more_frags: bool,
 )
-    ensures { slot.new ≡ placed 4 (opened ⟦<Ipv4FragKey as PartialEq>⟧.eq key.now expires_at slot.old) piece.now offset more_frags }
+    ensures { slot.new ≡ placed 4 (opened ⟦<FragKey as PartialEq>⟧.eq key.now expires_at slot.old) (front.now ++ piece.now) offset more_frags }
 {
     open(slot, key, expires_at);
-    let _ = slot.insert(piece, offset, more_frags);
+    let _ = slot.insert_behind(front, piece, offset, more_frags);
 }
 
 /// Frees the slots whose moment has passed.

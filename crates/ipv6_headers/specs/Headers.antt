@@ -1,6 +1,6 @@
 -- Extension headers (RFC 8200, section 4), one behind the other: what stands behind them, or what becomes of the packet. Places are
 -- those of the payload, pointers those of the packet, whose header has 40 bytes.
-use Rattle.std.specs.Prelude.{ℕ, zero, suc, ◌+◌, ◌*◌, ◌/◌, ◌%◌, ◌≤◌, ◌==◌, nat_le, nat_lt, ◌&&◌, Bool}
+use Rattle.std.specs.Prelude.{ℕ, zero, suc, ◌+◌, ◌-◌, ◌*◌, ◌/◌, ◌%◌, ◌≤◌, ◌==◌, nat_le, nat_lt, ◌&&◌, not, Bool}
 use Rattle.std.specs.Prelude.{true, false, if◌then◌else◌, List, [], ◌∷◌, length, drop, slice_index, slice_range, Option, Some, None}
 use Rattle.ip_address.specs.Fields.{be16}
 use Rattle.ip_address.specs.Protocol.{protocol_of}
@@ -60,12 +60,25 @@ routing_step at rest =
 abbrev pub is_atomic : List ℕ → Bool
 is_atomic rest = (be16 rest 2 / 8 == 0) && (be16 rest 2 % 2 == 0)
 
--- a fragment header (section 4.5)
-abbrev pub fragment_step : (named_at : ℕ) → List ℕ → Step
-fragment_step named_at rest =
-    if nat_le 8 (length rest)
-    then (if is_atomic rest then Way.Goes 8 else Way.Stops (End.Problem Told.NextHeader named_at))
-    else Way.Stops End.Nothing
+-- where the bytes of a piece stand in its datagram, and whether more come behind them
+abbrev pub piece_offset : List ℕ → ℕ
+piece_offset rest = be16 rest 2 / 8 * 8
+
+abbrev pub has_more : List ℕ → Bool
+has_more rest = be16 rest 2 % 2 == 1
+
+-- A piece ends at a multiple of 8 bytes unless it is the last one, and within the longest payload; else its source is told of the
+-- payload length field, or of the offset (section 4.5).
+abbrev pub piece_step : (at : ℕ) → List ℕ → Step
+piece_step at rest =
+    if has_more rest && not (length rest % 8 == 0) then Way.Stops (End.Problem Told.Field 4)
+    else if nat_lt 65535 (at + piece_offset rest + (length rest - 8)) then Way.Stops (End.Problem Told.Field (40 + at + 2))
+    else Way.Stops (End.Piece at)
+
+-- a fragment header (section 4.5): what has one and is whole is gone on with
+abbrev pub fragment_step : (at : ℕ) → List ℕ → Step
+fragment_step at rest =
+    if nat_le 8 (length rest) then (if is_atomic rest then Way.Goes 8 else piece_step at rest) else Way.Stops End.Nothing
 
 abbrev pub unknown_step : (named_at : ℕ) → Step
 unknown_step named_at = Way.Stops (End.Problem Told.NextHeader named_at)
@@ -76,7 +89,7 @@ abbrev pub step_at : IpProtocol → (named_at at : ℕ) → List ℕ → Step
 step_at Protocol.HopByHop named_at at rest = if at == 0 then options_step at rest else unknown_step named_at
 step_at Protocol.Ipv6Opts named_at at rest = options_step at rest
 step_at Protocol.Ipv6Route named_at at rest = routing_step at rest
-step_at Protocol.Ipv6Frag named_at at rest = fragment_step named_at rest
+step_at Protocol.Ipv6Frag named_at at rest = fragment_step at rest
 step_at Protocol.Ipv6NoNxt named_at at rest = Way.Stops End.Nothing
 step_at Protocol.Icmpv6 named_at at rest = Way.Stops (End.Upper Protocol.Icmpv6 at)
 step_at Protocol.Tcp named_at at rest = Way.Stops (End.Upper Protocol.Tcp at)
@@ -105,6 +118,11 @@ upper_of end = Protocol.Ipv6NoNxt
 abbrev pub upper_bytes_of : List ℕ → Behind → List ℕ
 upper_bytes_of payload (End.Upper protocol at) = drop at payload
 upper_bytes_of payload end = []
+
+-- a piece of a datagram stands there
+abbrev pub is_piece : Behind → Bool
+is_piece (End.Piece at) = true
+is_piece end = false
 
 -- ERRORS. A control message of a type below 128 tells of an error (RFC 4443, section 2.1), and none answers it (section 2.4 e),
 -- whatever stands in the headers before it.
@@ -141,6 +159,7 @@ carries_error protocol payload = error_within (suc (length payload)) protocol pa
 
 abbrev pub StopsWithin : (size : ℕ) → Behind → Type 0
 StopsWithin size (End.Upper protocol at) = at ≤ size
+StopsWithin size (End.Piece at) = at + 8 ≤ size
 StopsWithin size (End.Problem problem pointer) = pointer ≤ 40 + size
 StopsWithin size end = Unit {0}
 

@@ -1,7 +1,7 @@
 //! Extension headers, one behind the other (RFC 8200, section 4).
 ghost use Rattle.std.specs.Prelude.{◌≡◌, ℕ, ◌+◌, ◌<◌, ◌≤◌, ◌^◌, length};
 ghost use Rattle.ipv6_headers.specs.Headers.{is_extension, extension_len, go_through, step_at, options_step, routing_step, fragment_step, asked_step};
-ghost use Rattle.ipv6_headers.specs.Headers.{refused_by, is_whole, is_atomic, StopsWithin, GoesWithin};
+ghost use Rattle.ipv6_headers.specs.Headers.{refused_by, is_whole, is_atomic, piece_step, piece_offset, has_more, StopsWithin, GoesWithin};
 ghost use Rattle.ipv6_headers.specs.Options.{AsksWithin};
 
 use crate::options::{Options, asked_by};
@@ -13,6 +13,15 @@ const HEADER_LEN: usize = 40;
 
 /// Where a packet's header has its next header field.
 const NEXT_HEADER_AT: usize = 6;
+
+/// Where a packet's header has its payload length field.
+const PAYLOAD_LENGTH_AT: usize = 4;
+
+/// The most that the payload length field can say.
+const LONGEST_PAYLOAD: usize = 65_535;
+
+/// Where a fragment header has its offset field.
+const OFFSET_AT: usize = 2;
 
 /// The length of a fragment header, and the unit in which the others say theirs.
 pub(crate) const UNIT: usize = 8;
@@ -35,6 +44,8 @@ pub enum Problem {
 pub enum Behind {
     /// This protocol, from this place of the payload on.
     Upper { protocol: IpProtocol, at: usize },
+    /// A piece of a datagram, whose fragment header begins at this place of the payload.
+    Piece { at: usize },
     /// Nothing, and nothing is told: the packet ends, or its headers run past it, or an option says so.
     Nothing,
     /// The packet is dropped, and its source is told of what stands at this place of the packet.
@@ -100,7 +111,7 @@ fn step_at(protocol: IpProtocol, named_at: usize, at: usize, rest: &[u8]) -> Ste
         IpProtocol::HopByHop if at == 0 => options_step(at, rest),
         IpProtocol::Ipv6Opts => options_step(at, rest),
         IpProtocol::Ipv6Route => routing_step(at, rest),
-        IpProtocol::Ipv6Frag => fragment_step(named_at, rest),
+        IpProtocol::Ipv6Frag => fragment_step(at, rest),
         IpProtocol::Ipv6NoNxt => Step::Stops(Behind::Nothing),
         IpProtocol::Icmpv6 | IpProtocol::Tcp | IpProtocol::Udp => {
             Step::Stops(Behind::Upper { protocol, at })
@@ -190,10 +201,11 @@ fn routing_step(at: usize, rest: &[u8]) -> Step
     }
 }
 
-/// A fragment header: a datagram that is whole in one piece is gone on with.
-fn fragment_step(named_at: usize, rest: &[u8]) -> Step
-    ensures value { result ≡ fragment_step named_at rest.now }
-    ensures within { (at : ℕ) → named_at ≤ 40 + at → GoesWithin at (length rest.now) result }
+/// A fragment header: what has one and is whole is gone on with.
+fn fragment_step(at: usize, rest: &[u8]) -> Step
+    requires { at + length rest.now < 2 ^ 16 }
+    ensures value { result ≡ fragment_step at rest.now }
+    ensures within { GoesWithin at (length rest.now) result }
 {
     if rest.len() < UNIT {
         return Step::Stops(Behind::Nothing);
@@ -201,11 +213,47 @@ fn fragment_step(named_at: usize, rest: &[u8]) -> Step
     if is_atomic(rest) {
         Step::Goes(UNIT)
     } else {
-        Step::Stops(Behind::Problem {
-            problem: Problem::NextHeader,
-            pointer: named_at,
-        })
+        piece_step(at, rest)
     }
+}
+
+/// A fragment header of a piece: one that isn't the last is of whole units, and none ends past the longest payload.
+fn piece_step(at: usize, rest: &[u8]) -> Step
+    requires whole { 8 ≤ length rest.now }
+    requires short { at + length rest.now < 2 ^ 16 }
+    ensures value { result ≡ piece_step at rest.now }
+    ensures within { GoesWithin at (length rest.now) result }
+{
+    if has_more(rest) && rest.len() % UNIT != 0 {
+        return Step::Stops(Behind::Problem {
+            problem: Problem::Field,
+            pointer: PAYLOAD_LENGTH_AT,
+        });
+    }
+    if at + piece_offset(rest) + (rest.len() - UNIT) > LONGEST_PAYLOAD {
+        return Step::Stops(Behind::Problem {
+            problem: Problem::Field,
+            pointer: HEADER_LEN + at + OFFSET_AT,
+        });
+    }
+    Step::Stops(Behind::Piece { at })
+}
+
+/// Where the bytes behind a fragment header stand in their datagram.
+pub fn piece_offset(rest: &[u8]) -> usize
+    requires { 8 ≤ length rest.now }
+    ensures value { result ≡ piece_offset rest.now }
+    ensures short { result < 2 ^ 16 }
+{
+    read_u16(rest, 2) as usize / UNIT * UNIT
+}
+
+/// Whether more of the datagram come behind what this fragment header stands before.
+pub fn has_more(rest: &[u8]) -> bool
+    requires { 8 ≤ length rest.now }
+    ensures { result ≡ has_more rest.now }
+{
+    read_u16(rest, 2) % 2 == 1
 }
 
 /// Whether a fragment header has no offset, and says that no piece follows (RFC 6946).

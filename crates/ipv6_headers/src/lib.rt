@@ -7,5 +7,5 @@ mod headers;
 mod options;
 
 pub use errors::carries_error;
-pub use headers::{Behind, Problem, go_through, is_extension};
+pub use headers::{Behind, Problem, go_through, has_more, is_extension, piece_offset};
 pub use options::{Options, asked_by};

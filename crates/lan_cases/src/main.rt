@@ -1,4 +1,4 @@
-//! Plays the scripts of a file that has many, each in a world of its own, and writes what each answers.
+//! Plays the script on standard input, or the scripts of a file that has many, each in a world of its own, and writes what each answers.
 #![tactic(auto)]
 
 ghost use Rattle.std.specs.Prelude.{◌≢◌, List, ℕ, IfOk};
@@ -8,13 +8,24 @@ ghost use Rattle.lan_cases.specs.Cases.{case_text};
 
 use case_files::{Case, read_cases};
 use std::alloc::Global;
-use std::io::{self, Read, Write};
+use std::io::{self, BufRead, BufReader, Read, Write};
 use std::process::ExitCode;
 
 fn main(rt: HostRuntime) -> ExitCode {
-    let ended = play(rt.alloc(), &mut rt.reader(), &mut io::writer(&rt));
+    let ended = run(rt.alloc(), rt.reader(), &mut io::writer(&rt));
     // A reader or a writer failed, or no memory was left.
     ExitCode::from(ended.unwrap_or(2))
+}
+
+/// Plays what the reader gives: a file of cases where its first line is empty, a comment or a name, as no script's is; else a script.
+fn run<R: Read + Drop, W: Write>(alloc: Global, reader: R, writer: &mut W) -> io::Result<u8> {
+    let mut reader = BufReader::new(alloc, reader)?;
+    let has_cases = matches!(reader.fill_buf()?.first(), Some(b'=' | b'#' | b'\n'));
+    if has_cases {
+        play(alloc, &mut reader, writer)
+    } else {
+        Ok(lan::replay(alloc, &mut reader, writer))
+    }
 }
 
 /// Plays each case that the reader gives. The status is 0 where each script came to an end of its own; 1 where the text is no file of

@@ -89,7 +89,7 @@ at_rest side = record {
   };
   stamps = record fresh_stamps { believed_until = Some (pos 2_073_600_000_000) };
   timers = fresh_timers;
-  round_trip = record { estimate = Some (record { smoothed = 0; variation = 0 }); timeout = 1000; least = 1000; sample = None };
+  round_trip = record { estimate = Some (record { smoothed = 0; variation = 0; shortest = 0 }); timeout = 1000; least = 1000; sample = None };
   reno = record { mss = 1460; cwnd = 14_600; ssthresh = 1_073_741_824; recovers = false; timed_out = false; cubic = None };
   loss = fresh_loss;
   settings = default_settings;

@@ -2,7 +2,7 @@
 //! `lan_examples::excluded` has those of the sockets' field.
 #![tactic(auto)]
 
-ghost use Rattle.std.specs.Prelude.{◌≡◌, ◌≢◌, ◌≤◌, ◌<◌, ℕ, ℤ, pos, List, [], ◌∷◌, length, slice_get, Some, None};
+ghost use Rattle.std.specs.Prelude.{◌≡◌, ◌≢◌, ◌≤◌, ◌<◌, ℕ, ℤ, pos, List, [], ◌∷◌, length, slice_get, Option, Some, None};
 ghost use Rattle.lan_theorem.specs.Ipv4.{key_of};
 ghost use Rattle.lan_theorem.specs.IpProtocol.TheVariants as Protocol;
 ghost use Rattle.lan_theorem.specs.Ipv4Repr.{Ipv4Repr};
@@ -17,7 +17,8 @@ ghost use Rattle.lan_theorem.specs.Question.TheVariants as Query;
 ghost use Rattle.lan_hosts.specs.Departure.{Asks, Tells, Whole, arp_request, solicitation, solicited_station};
 ghost use Rattle.lan_hosts.specs.Arrives.{Arrived, ReplyValue};
 ghost use Rattle.lan_hosts.specs.Delivered.{Places};
-ghost use Rattle.lan_theorem.specs.Kept.{with_ports};
+ghost use Rattle.lan_theorem.specs.Kept.{with_ports, IsNoPieceV6};
+ghost use Rattle.lan_hosts.specs.Incoming.{IncomingValue, IsContent};
 ghost use Rattle.lan_hosts.specs.Reassembled.{Slots};
 ghost use Rattle.lan_hosts.specs.Inner.{InnerValue};
 ghost use Rattle.lan_hosts.specs.History.{Entry};
@@ -138,7 +139,7 @@ pub fn bad_payloads_are_excluded()
 {}
 
 /// `made`: a host rebuilds a UDP datagram though the other host never had a UDP socket; or a payload too short for a datagram, or of TCP too
-/// short for a segment, which no socket makes, whatever bytes a raw socket queued.
+/// short for a segment, which no socket makes, whatever bytes a raw socket queued; or a frame that waits is a piece of an IPv6 datagram.
 pub fn bad_makers_are_excluded()
     ensures without_a_socket { (w : WorldValue) (side : Side) (header : Ipv4Repr) (payload : List ℕ)
         → Rebuilds (station w.hosts side) header payload
@@ -153,6 +154,11 @@ pub fn bad_makers_are_excluded()
         → Rebuilds (station w.hosts side) header payload
         → header.next_header ≡ Protocol.Tcp
         → length payload < 20
+        → RebuiltWasMade w → ⊥ }
+    ensures piece_of_ipv6 { (w : WorldValue) (side : Side) (place : ℕ) (frame : List ℕ) (content : Option IncomingValue)
+        → slice_get (station w.hosts side).link.waiting place ≡ Some frame
+        → IsContent (station w.hosts side).host.inner.hardware (station w.hosts side).host.inner.checksums frame content
+        → (IsNoPieceV6 content → ⊥)
         → RebuiltWasMade w → ⊥ }
 {}
 

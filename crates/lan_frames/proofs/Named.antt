@@ -6,8 +6,9 @@ use Rattle.ip_address.specs.Protocol.{protocol_number, protocol_of, ether_number
 use Rattle.ip_address.specs.declared.ip.IpProtocol.{IpProtocol}
 use Rattle.ip_address.proofs.Numbers.{protocol_number-protocol_of, ether_number-ether_of}
 use Rattle.ip_packet.specs.Ipv6.{payload_of}
-use Rattle.ipv6_headers.specs.Headers.{go_through, upper_of}
-use Rattle.lan_frames.specs.Carried.{IsNeither, is_tcp_or_udp, has_ports}
+use Rattle.ipv6_headers.specs.Headers.{go_through, upper_of, is_piece}
+use Rattle.ipv6_headers.specs.declared.headers.Behind.{Behind}
+use Rattle.lan_frames.specs.Carried.{IsNeither, IsNeitherBehind, is_tcp_or_udp, has_ports, may_have_ports}
 
 number_is : (n m : ℕ) (p : IpProtocol) → p ≡ protocol_of n → protocol_number p ≡ m → n ≡ m
 number_is n m p is number = sym (protocol_number-protocol_of n) ∙ ap protocol_number (sym is) ∙ number
@@ -50,13 +51,26 @@ pub neither_first : (n m protocol : ℕ) (other : Bool) (p : IpProtocol) → n �
     p ≡ protocol_of protocol → IsNeither p
 neither_first n m protocol other p is none of = neither protocol p (left_none (eqb n m) (is_tcp_or_udp protocol) other (same_number n m is) none) of
 
-pub neither_second : (n m : ℕ) (other : Bool) (p : IpProtocol) → n ≡ m → other || (eqb n m && has_ports p) ≡ false → IsNeither p
-neither_second n m other p is none = no_ports p (right_none (eqb n m) (has_ports p) other (same_number n m is) none)
+left_false : (x y : Bool) → x || y ≡ false → x ≡ false
+left_false true y none = cc
+left_false false y none = refl
+
+right_false : (x y : Bool) → x || y ≡ false → y ≡ false
+right_false true y none = cc
+right_false false y none = none
+
+-- nothing behind extension headers that has ports, or may have them
+pub neither_there : (b : Behind) → may_have_ports b ≡ false → IsNeitherBehind b
+neither_there b none =
+    (no_ports (upper_of b) (left_false (has_ports (upper_of b)) (is_piece b) none), right_false (has_ports (upper_of b)) (is_piece b) none)
+
+pub neither_second : (n m : ℕ) (other : Bool) (b : Behind) → n ≡ m → other || (eqb n m && may_have_ports b) ≡ false → IsNeitherBehind b
+neither_second n m other b is none = neither_there b (right_none (eqb n m) (may_have_ports b) other (same_number n m is) none)
 
 -- what stands behind extension headers, by the header that the packet's names
 pub behind_named : (packet : List ℕ) (p : IpProtocol) → p ≡ protocol_of (slice_index packet 6)
-    → IsNeither (upper_of (go_through (protocol_of (slice_index packet 6)) (payload_of packet))) → IsNeither (upper_of (go_through p (payload_of packet)))
-behind_named packet p is neither_there = subst (λ (q : IpProtocol). IsNeither (upper_of (go_through q (payload_of packet)))) (sym is) neither_there
+    → IsNeitherBehind (go_through (protocol_of (slice_index packet 6)) (payload_of packet)) → IsNeitherBehind (go_through p (payload_of packet))
+behind_named packet p is there = subst (λ (q : IpProtocol). IsNeitherBehind (go_through q (payload_of packet))) (sym is) there
 
 -- an EtherType is told by its number
 pub ether_is : (n m : ℕ) → ether_of n ≡ ether_of m → n ≡ m

@@ -15,14 +15,15 @@ ghost use Rattle.ip_tcp.specs.Tcp.{IsChecked, IsTcp};
 ghost use Rattle.ip_tcp.specs.declared.header.TcpHeader.{TcpHeader};
 ghost use Rattle.ip_wire.specs.Ethernet as ethernet;
 ghost use Rattle.ip_wire.specs.declared.ethernet.repr.EthernetRepr.{EthernetRepr};
-ghost use Rattle.lan_frames.specs.Carried.{names_tcp_or_udp, IsNeither};
-ghost use Rattle.ipv6_headers.specs.Headers.{go_through, upper_of};
+ghost use Rattle.lan_frames.specs.Carried.{names_tcp_or_udp, IsNeither, IsNeitherBehind};
+ghost use Rattle.ipv6_headers.specs.Headers.{go_through};
 ghost use Rattle.lan_frames.specs.Cuts.{ipv4_part, first_piece, second_piece};
 ghost use Rattle.lan_frames.specs.Parts.{bytes_at, damaged};
 ghost use Rattle.lan_frames.specs.Slices.{Slice, IsSliceOf, IsLinkHeader, frame_of_slice, front_of, back_of};
 ghost use Rattle.lan_frames.specs.declared.part.Part.{Part};
 
-/// Law: bytes that name neither TCP nor UDP are no packet of either, on either medium, behind extension headers either.
+/// Law: bytes that name neither TCP nor UDP are no packet of either, on either medium, behind extension headers either; and no piece of
+/// an IPv6 datagram.
 pub fn names_neither()
     ensures ipv4 { (bytes : List ℕ) (tested : Bool) (v : Ipv4Repr)
         → names_tcp_or_udp Ip bytes ≡ false
@@ -31,7 +32,7 @@ pub fn names_neither()
     ensures ipv6 { (bytes : List ℕ) (v : Ipv6Repr)
         → names_tcp_or_udp Ip bytes ≡ false
         → ipv6.IsIpv6 bytes v
-        → IsNeither (upper_of (go_through v.next_header (ipv6.payload_of bytes))) }
+        → IsNeitherBehind (go_through v.next_header (ipv6.payload_of bytes)) }
     ensures ethernet_ipv4 { (bytes : List ℕ) (tested : Bool) (e : EthernetRepr) (v : Ipv4Repr)
         → names_tcp_or_udp Ethernet bytes ≡ false
         → ethernet.IsEthernet bytes e
@@ -43,7 +44,7 @@ pub fn names_neither()
         → ethernet.IsEthernet bytes e
         → e.ethertype ≡ ether.Ipv6
         → ipv6.IsIpv6 (ethernet.payload_of bytes) v
-        → IsNeither (upper_of (go_through v.next_header (ipv6.payload_of (ethernet.payload_of bytes)))) }
+        → IsNeitherBehind (go_through v.next_header (ipv6.payload_of (ethernet.payload_of bytes))) }
 {}
 
 /// Law: a segment whose checksum holds isn't read once the link exchanged one of its words for a

@@ -10,7 +10,7 @@ use ipv6_headers::{Behind, go_through};
 use net_devices::Medium;
 
 /// Whether bytes say that they carry TCP or UDP, where an IPv4 header has its protocol, and behind the
-/// extension headers of IPv6. Bytes that are too short say neither.
+/// extension headers of IPv6, or are a piece of an IPv6 datagram, which may carry them. Bytes that are too short say neither.
 pub fn names_tcp_or_udp(medium: Medium, bytes: &[u8]) -> bool
     ensures { result ≡ names_tcp_or_udp medium bytes.now }
 {
@@ -28,7 +28,7 @@ pub fn names_tcp_or_udp(medium: Medium, bytes: &[u8]) -> bool
     }
 }
 
-/// Whether an IPv6 packet has TCP or UDP behind its extension headers, if there are any.
+/// Whether an IPv6 packet has TCP, UDP or a piece of a datagram behind its extension headers, if there are any.
 fn has_ports_behind(packet: &[u8]) -> bool
     ensures { result ≡ has_ports_behind packet.now }
 {
@@ -37,7 +37,8 @@ fn has_ports_behind(packet: &[u8]) -> bool
         Behind::Upper {
             protocol: IpProtocol::Tcp | IpProtocol::Udp,
             ..
-        } => true,
+        }
+        | Behind::Piece { .. } => true,
         _ => false,
     }
 }

@@ -69,24 +69,24 @@ follows_sent : (old new : LinkEnd) (frame : List ℕ) → new.sent ≡ old.sent 
 follows_sent old new frame sent said = record { added = frame ∷ []; sent = sent; capabilities = said }
 
 follows_move : (old new : PortValue) (m : Move) → PortMove old m new → Follows old.link new.link
-follows_move old new (Took frame) is =
+follows_move old new (Took t frame) is =
     follows_none old.link new.link (ap (λ (x : PortValue). x.link.sent) (sym is.1)) (ap (λ (x : PortValue). x.link.capabilities) (sym is.1))
-follows_move old new Empty is = follows_same old new is.0
-follows_move old new (Allowed leave) is = follows_same old new is.0
+follows_move old new (Empty t) is = follows_same old new is.0
+follows_move old new (Allowed t leave) is = follows_same old new is.0
 follows_move old new (Emitted frame) is =
     follows_sent old.link new.link frame (ap (λ (x : PortValue). x.link.sent) is) (ap (λ (x : PortValue). x.link.capabilities) is)
 follows_move old new (Denied len) is =
     follows_none old.link new.link (ap (λ (x : PortValue). x.link.sent) is.0) (ap (λ (x : PortValue). x.link.capabilities) is.0)
 
-module _ (own : HardwareAddress) (caps : ChecksumCapabilities) where
-  follows_touch : (x : Touch) (old new : PortValue) → Does PortMove own caps x old new → Follows old.link new.link
-  follows_touch (Looks None) old new does = follows_move old new Empty does
-  follows_touch (Looks (Some frame)) old new does = follows_move old new (Took frame) does
-  follows_touch (Leave given) old new does = follows_move old new (Allowed given) does
+module _ (t : ℤ) (own : HardwareAddress) (caps : ChecksumCapabilities) where
+  follows_touch : (x : Touch) (old new : PortValue) → Does PortMove t own caps x old new → Follows old.link new.link
+  follows_touch (Looks None) old new does = follows_move old new (Empty t) does
+  follows_touch (Looks (Some frame)) old new does = follows_move old new (Took t frame) does
+  follows_touch (Leave given) old new does = follows_move old new (Allowed t given) does
   follows_touch (Sends d true) old new does = follows_move old new (Emitted _) does.0
   follows_touch (Sends d false) old new does = follows_move old new (Denied _) does
 
-  follows_path : (xs : List Touch) (old new : PortValue) → DoesAll PortMove own caps xs old new → Follows old.link new.link
+  follows_path : (xs : List Touch) (old new : PortValue) → DoesAll PortMove t own caps xs old new → Follows old.link new.link
   follows_path [] old new is = follows_same old new is
   follows_path (x ∷ xs) old new all =
       follows_then old.link all.0.link new.link (follows_path xs old all.0 all.1) (follows_touch x all.0 new all.2)
@@ -134,7 +134,8 @@ polls_stay s s' t budget changed p =
     let from : State PortValue = record { device = p.port; host = s.host; places = s.places } in
     let to : State PortValue = record { device = p.port_after; host = s'.host; places = s'.places } in
     let trace = polls_traced PortMove t budget from to changed p.polls in
-    let path : Follows p.port.link p.port_after.link = follows_path s.host.inner.hardware s.host.inner.checksums trace.touches p.port p.port_after trace.path in
+    let path : Follows p.port.link p.port_after.link =
+    follows_path t s.host.inner.hardware s.host.inner.checksums trace.touches p.port p.port_after trace.path in
     record {
       link = subst (λ (x : LinkEnd). Follows x s'.link) p.before (subst (λ (x : LinkEnd). Follows p.port.link x) p.after path);
       places = (polls_count PortMove t (λ (n : ℕ) (x : State PortValue). Unit {0}) (counts_nothing t) budget 0 from to changed tt p.polls).2;

@@ -80,7 +80,7 @@ module _ (most refusals : ℕ) where
     none_refused = so.none_refused;
   }
 
-  so_took : (n : ℕ) (d d' : PortValue) (i : InnerValue) (frame : List ℕ) → PortMove d (Took frame) d' → So n d i → So n d' i
+  so_took : (n : ℕ) (d d' : PortValue) (i : InnerValue) (frame : List ℕ) → PortMove d (Took i.moment frame) d' → So n d i → So n d' i
   so_took n d d' i frame took so =
       so_port n d d' i (ap (λ (x : PortValue). x.size) (sym took.1)) (ap (λ (x : PortValue). x.ready) (sym took.1))
       (ap (λ (x : PortValue). x.link.refusals) (sym took.1)) so

@@ -45,12 +45,12 @@ abbrev pub ready_after : PortValue → ℕ → ℕ
 ready_after port len = ready_left port.ready port.size len
 
 abbrev pub PortMove : PortValue → Move → PortValue → Type 0
-PortMove old (Took frame) new =
+PortMove old (Took t frame) new =
     IsTrue (has_leave old.link)
     × (old ≡ record new { link = record new.link { waiting = frame ∷ new.link.waiting } })
-PortMove old Empty new =
+PortMove old (Empty t) new =
     (new ≡ old) × (IsTrue (has_leave old.link) → old.link.waiting ≡ [])
-PortMove old (Allowed leave) new = (new ≡ old) × (leave ≡ has_leave old.link)
+PortMove old (Allowed t leave) new = (new ≡ old) × (leave ≡ has_leave old.link)
 PortMove old (Emitted frame) new =
     new
     ≡ record old {

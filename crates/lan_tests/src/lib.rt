@@ -3,7 +3,8 @@
 //!
 //! Scripts are cases of the program `lan_cases`; here is what only Rust can say. `steps` has a world take the events of such a text one by
 //! one, and names the frames that matter alone: what goes on behind a refusal (`going_on`), what no script says (`settings`, `bounds`), and
-//! what an event does that finds no memory (`memory`). `pieces` has readers and writers that give little, or fail.
+//! what an event does that finds no memory (`memory`). `pieces` has readers and writers that give little, or fail;
+//! `files`, files of cases.
 #![tactic(auto)]
 
 #[cfg(test)]
@@ -12,6 +13,8 @@ mod bounds;
 mod cases;
 #[cfg(test)]
 mod common;
+#[cfg(test)]
+mod files;
 #[cfg(test)]
 mod frames;
 #[cfg(test)]

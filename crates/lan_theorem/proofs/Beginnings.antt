@@ -6,10 +6,10 @@ use Rattle.lan_frames.specs.Medium.{Medium}
 use Rattle.lan_frames.specs.Medium.TheVariants as Medium
 use Rattle.interface_ingress.specs.HardwareAddress.{HardwareAddress}
 use Rattle.interface_ingress.specs.HardwareAddress.TheVariants as Hardware
-use Rattle.ip_address.specs.declared.ipv4.Ipv4FragKey.{Ipv4FragKey}
 use Rattle.sockets.specs.Packet.{PacketValue, PayloadValue}
 use Rattle.interface_tables.specs.Inner.{InnerValue}
 use Rattle.interface_tables.specs.Reassembly.{SlotValue, is_free}
+use Rattle.interface_tables.specs.declared.key.FragKey.{FragKey}
 use Rattle.interface_tables.specs.Settings.{is_of_medium, is_mtu}
 use Rattle.interface_tables.specs.declared.neighbor.Neighbor.{Neighbor}
 use Rattle.interface_egress.specs.Fragments.{LeftValue}
@@ -43,7 +43,7 @@ medium_by (Hardware.Ethernet own) Medium.Ip is = absurd cc
 mtu_by : (n : ℕ) → is_mtu n ≡ true → n ≤ 65535
 mtu_by n is = grind (arith, nat_tests)
 
-free_slot : (out : List PacketValue) (s : SlotValue Ipv4FragKey) (key : Option Ipv4FragKey) → s.key ≡ key → is_free s ≡ true → IsSlotOf out s
+free_slot : (out : List PacketValue) (s : SlotValue FragKey) (key : Option FragKey) → s.key ≡ key → is_free s ≡ true → IsSlotOf out s
 free_slot out s None is free = λ k some. absurd (let e : None ≡ Some k = sym is ∙ some in cc)
 free_slot out s (Some own) is free = absurd cc
 

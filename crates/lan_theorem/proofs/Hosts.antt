@@ -19,7 +19,6 @@ pub mod Going
 pub mod Routes
 pub mod Quieting
 pub mod QuietRuns
-pub mod Mapping
 pub mod Outcomes
 pub mod OneRoute
 pub mod OneWorld

@@ -3,11 +3,9 @@ use Rattle.std.proofs.Common.{◌≡◌, ◌⊎◌, inl, inr, ℕ, ◌+◌, ◌�
 use Rattle.lan_frames.specs.ChecksumCapabilities.{ChecksumCapabilities}
 use Rattle.lan_frames.specs.Device.{Took, Empty, Allowed}
 use Rattle.interface_delivery.specs.Ip as Ips
-use Rattle.interface_delivery.specs.Ip.{carried_in}
 use Rattle.interface_delivery.specs.IpRepr.{IpRepr}
 use Rattle.interface_delivery.specs.IpRepr.TheVariants as Ip
 use Rattle.sockets.specs.Packet.{PacketValue, PayloadValue, ControlV4, ControlV6, Bytes, Datagram, Segment, payload_written}
-use Rattle.interface_ingress.specs.Upper.{upper_header}
 use Rattle.interface_tables.specs.Inner.{InnerValue, at_moment}
 use Rattle.interface_tables.specs.Slots.{without_expired}
 use Rattle.interface_egress.specs.Departing.{HasSettingsOf, SendsOnce, departure_by, was_taken}
@@ -24,7 +22,6 @@ use Rattle.interface_ingress.specs.Delivered.{Places}
 use Rattle.interface_ingress.specs.Incoming.{IncomingValue, Arp, Ip4, Ip6, IsContent}
 use Rattle.interface_ingress.specs.Reassembled.{Slots, taken_in}
 use Rattle.interface_ingress.specs.Sent.{CanBeRead, normal_payload}
-use Rattle.interface_delivery.specs.Delivered.{NamesNoPorts}
 use Rattle.interface.specs.Polls.{begun}
 use Rattle.interface.specs.Turn.{is_done}
 use Rattle.interface_ingress.specs.ArpRepr.{ArpRepr}
@@ -37,7 +34,7 @@ use Rattle.tcp_tie.specs.Host.{made_of}
 use Rattle.lan_theorem.specs.Moves.Made as Moves
 use Rattle.lan_theorem.specs.Moves.Made.{Grows, MadeBy, IsMade, IsWide, FitsBehind, datagram_of}
 use Rattle.lan_theorem.specs.Link.Made as Links
-use Rattle.lan_theorem.specs.Link.Made.{sealed, IsGoing}
+use Rattle.lan_theorem.specs.Link.Made.{sealed, CarriesNone, IsGoing}
 use Rattle.lan_theorem.specs.Link.Frames.{medium_on}
 use Rattle.lan_theorem.specs.Link.Numbers.{IsTied}
 use Rattle.lan_theorem.proofs.Link.Begun.{tied_trans, tied_on}
@@ -60,17 +57,17 @@ pub once_waits : (d d' : PortValue) (i : InnerValue) (o : Option Departure) (gon
 once_waits d d' i None gone is = ap (λ (p : PortValue). p.link.waiting) is
 once_waits d d' i (Some x) gone is = waits_same d d' (frame_of i x) (frame_len_of i x) gone is
 
-pub taken_frame : (d d' : PortValue) (frame : List ℕ) → PortMove d (Took frame) d' → d.link.waiting ≡ frame ∷ d'.link.waiting
-taken_frame d d' frame is = ap (λ (p : PortValue). p.link.waiting) is.1
+pub taken_frame : (t : ℤ) (d d' : PortValue) (frame : List ℕ) → PortMove d (Took t frame) d' → d.link.waiting ≡ frame ∷ d'.link.waiting
+taken_frame t d d' frame is = ap (λ (p : PortValue). p.link.waiting) is.1
 
-taken_sent : (d d' : PortValue) (frame : List ℕ) → PortMove d (Took frame) d' → d'.link.sent ≡ d.link.sent
-taken_sent d d' frame is = sym (ap (λ (p : PortValue). p.link.sent) is.1)
+taken_sent : (t : ℤ) (d d' : PortValue) (frame : List ℕ) → PortMove d (Took t frame) d' → d'.link.sent ≡ d.link.sent
+taken_sent t d d' frame is = sym (ap (λ (p : PortValue). p.link.sent) is.1)
 
 -- WHAT WAS MADE
 
 -- what goes has the form that the link wants
 going_by : (p : Party) (h : IpRepr) (x : PayloadValue) → FitsBehind h x → MadeBy p x →
-    NamesNoPorts (carried_in (upper_header (Ips.normal h) (payload_written sealed h x))) ⊎ (CanBeRead h x × MadeBy p (normal_payload x))
+    CarriesNone (Ips.normal h) (payload_written sealed h x) ⊎ (CanBeRead h x × MadeBy p (normal_payload x))
 going_by p h (ControlV4 message bytes) fits made = inr (fits, tt)
 going_by p h (ControlV6 message bytes) fits made = inr (fits, tt)
 going_by p h (Bytes bytes) fits made = inl fits
@@ -154,31 +151,36 @@ module _ (q : Party) (others base : List PacketValue) (first : ℕ) (before : Li
   same_device : (s : State PortValue) (p : Party) (d : PortValue) → d ≡ s.device → L n s p → L n (at_device s d) p
   same_device s p d same l = subst (λ (x : PortValue). L n (at_device s x) p) (sym same) l
 
-  pub looks : (s : State PortValue) (p : Party) (d : PortValue) → PortMove s.device Empty d → L n s p → L n (at_device s d) p
+  pub looks : (s : State PortValue) (p : Party) (d : PortValue) → PortMove s.device (Empty s.host.inner.moment) d → L n s p → L n (at_device s d) p
   looks s p d move l = same_device s p d move.0 l
 
-  pub leave : (s : State PortValue) (p : Party) (given : Bool) (d : PortValue) → PortMove s.device (Allowed given) d → L n s p → L n (at_device s d) p
+  pub leave : (s : State PortValue) (p : Party) (given : Bool) (d : PortValue) → PortMove s.device (Allowed s.host.inner.moment given) d → L n s p →
+      L n (at_device s d) p
   leave s p given d move l = same_device s p d move.0 l
 
   -- A FRAME IS TAKEN
 
-  waits_first : (s : State PortValue) (p : Party) (frame : List ℕ) (d : PortValue) → PortMove s.device (Took frame) d → L n s p →
+  waits_first : (s : State PortValue) (p : Party) (frame : List ℕ) (d : PortValue) → PortMove s.device (Took s.host.inner.moment frame) d → L n s p →
       IsReceiver (MadeBy q) others s.host.inner s.host.slots (frame ∷ d.link.waiting)
   waits_first s p frame d move l =
-      subst (λ (w : List (List ℕ)). IsReceiver (MadeBy q) others s.host.inner s.host.slots w) (taken_frame s.device d frame move) l.receiver
+      subst (λ (w : List (List ℕ)). IsReceiver (MadeBy q) others s.host.inner s.host.slots w) (taken_frame s.host.inner.moment s.device d frame move) l.receiver
 
-  pub skips : (s : State PortValue) (p : Party) (frame : List ℕ) (d : PortValue) → PortMove s.device (Took frame) d → L n s p → L n (at_device s d) p
+  pub skips : (s : State PortValue) (p : Party) (frame : List ℕ) (d : PortValue) → PortMove s.device (Took s.host.inner.moment frame) d → L n s p →
+      L n (at_device s d) p
   skips s p frame d move l = record {
     out = l.out;
     more = l.more;
-    sender = subst (λ (w : List (List ℕ)). IsSender (MadeBy p) first s.host.inner s.host.left w l.out) (sym (taken_sent s.device d frame move)) l.sender;
+    sender = subst (λ (w : List (List ℕ)). IsSender (MadeBy p) first s.host.inner s.host.left w l.out)
+        (sym (taken_sent s.host.inner.moment s.device d frame move)) l.sender;
     receiver = skipped_keeps (MadeBy q) others s.host.inner s.host.slots frame d.link.waiting (waits_first s p frame d move l);
     count = l.count;
-    tied = subst (λ (w : List (List ℕ)). IsTied (medium_on s.host.inner.hardware) base before l.out w) (sym (taken_sent s.device d frame move)) l.tied;
+    tied = subst (λ (w : List (List ℕ)). IsTied (medium_on s.host.inner.hardware) base before l.out w)
+        (sym (taken_sent s.host.inner.moment s.device d frame move)) l.tied;
   }
 
   module _ (start next : ℕ) (other : IsOther q start next others) where
-    pub brings : (s : State PortValue) (p : Party) (frame : List ℕ) (d : PortValue) (content : Option IncomingValue) → PortMove s.device (Took frame) d →
+    pub brings : (s : State PortValue) (p : Party) (frame : List ℕ) (d : PortValue) (content : Option IncomingValue) →
+        PortMove s.device (Took s.host.inner.moment frame) d →
         IsContent s.host.inner.hardware s.host.inner.checksums frame content → L n s p
         → Moves.BringsMade q s.host.inner.checksums (whole_after s.host.inner s.host.timeout s.host.slots (taken_in s.host.inner content))
     brings s p frame d content move is l =
@@ -187,14 +189,14 @@ module _ (q : Party) (others base : List PacketValue) (first : ℕ) (before : Li
         (waits_first s p frame d move l) is)
 
     pub takes : (s : State PortValue) (p : Party) (frame : List ℕ) (d : PortValue) (content : Option IncomingValue) (slots : Slots) (a : Arrived)
-        (places : Places) → PortMove s.device (Took frame) d
+        (places : Places) → PortMove s.device (Took s.host.inner.moment frame) d
         → IsContent s.host.inner.hardware s.host.inner.checksums frame content →
         ArrivesAs s.host.inner s.host.timeout s.host.slots s.places content slots a → L n s p
         → L n (state d (record s.host { inner = a.inner; slots = slots }) places) p
     takes s p frame d content slots a places move is arrives l = record {
       out = l.out;
       more = l.more;
-      sender = subst (λ (w : List (List ℕ)). IsSender (MadeBy p) first a.inner s.host.left w l.out) (sym (taken_sent s.device d frame move))
+      sender = subst (λ (w : List (List ℕ)). IsSender (MadeBy p) first a.inner s.host.left w l.out) (sym (taken_sent s.host.inner.moment s.device d frame move))
           (arrival_keeps_sender (MadeBy p) first l.out s.host.inner s.host.left s.device.link.sent s.places
           (whole_after s.host.inner s.host.timeout s.host.slots (taken_in s.host.inner content)) a arrives.1 l.sender);
       receiver = taken_keeps (MadeBy q) start others next other.sent other.few s.host.inner s.host.timeout s.host.slots s.places frame d.link.waiting content
@@ -202,7 +204,8 @@ module _ (q : Party) (others base : List PacketValue) (first : ℕ) (before : Li
       count = l.count;
       tied = tied_on s.host.inner.hardware a.inner.hardware base l.out before d.link.sent
           (brings_same s.host.inner s.places (whole_after s.host.inner s.host.timeout s.host.slots (taken_in s.host.inner content)) a arrives.1).hardware
-          (subst (λ (w : List (List ℕ)). IsTied (medium_on s.host.inner.hardware) base before l.out w) (sym (taken_sent s.device d frame move)) l.tied);
+          (subst (λ (w : List (List ℕ)). IsTied (medium_on s.host.inner.hardware) base before l.out w)
+          (sym (taken_sent s.host.inner.moment s.device d frame move)) l.tied);
     }
 
   -- SOMETHING LEAVES

@@ -1,6 +1,7 @@
 -- What the link hands over was made.
 pub mod Rebuilt
 pub mod Asked
+pub mod Whole6
 pub mod Behind
 pub mod Hands
 pub mod Contents

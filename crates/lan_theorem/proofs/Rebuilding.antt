@@ -1,5 +1,5 @@
 -- What a host rebuilds, the other host made and sent; and no damage did harm.
-use Rattle.std.proofs.Common.{◌≡◌, ◌⊎◌, inl, inr, ℕ, zero, suc, if◌then◌else◌, Bool, true, false, List, [], ◌∷◌, ◌++◌, length, take, drop, Option, Some, None}
+use Rattle.std.proofs.Common.{◌≡◌, ◌⊎◌, inl, inr, ℕ, zero, suc, if◌then◌else◌, Bool, true, false, List, [], ◌∷◌, length, take, drop, Some, None}
 use Rattle.std.proofs.Common.{sym, ◌∙◌, ap, subst, arith}
 use Rattle.std.specs.List.{AllByRecursion}
 use Rattle.lan_frames.specs.ChecksumCapabilities.{ChecksumCapabilities}
@@ -41,10 +41,10 @@ use Rattle.lan_theorem.proofs.Link.Numbers.{one_number}
 use Rattle.lan_theorem.proofs.Link.SaidFrames.{IsSliceFrame, TakenSo, slice_frame, carries_slice, slice_is_of}
 use Rattle.lan_theorem.proofs.Link.SlotFacts.{PieceSo, rebuilds_so}
 use Rattle.lan_theorem.proofs.Link.Slots.{all_at}
-use Rattle.lan_theorem.proofs.Link.Taken.{taken_rebuilds}
+use Rattle.lan_theorem.proofs.Link.Taken.{content_from, whole_from, taken_rebuilds}
 use Rattle.lan_theorem.specs.Events.{AreTyped}
 use Rattle.lan_theorem.specs.Joins.{Receives}
-use Rattle.lan_theorem.specs.Rebuilt.{NamesPorts, Rebuilds, HasMade, IsOfMade, RebuiltWasMade}
+use Rattle.lan_theorem.specs.Rebuilt.{NamesPorts, Rebuilds, BringsNoPieceV6, HasMade, IsOfMade, RebuiltWasMade}
 use Rattle.lan_theorem.specs.Said.{Fact, IsOf, Carries, IsSaid, AreFramesOf, by_side, RebuiltWasSent}
 use Rattle.lan_theorem.specs.Hosts.Damage.{DamageIsHarmless}
 use Rattle.lan_theorem.proofs.Beginnings.{firsts}
@@ -86,7 +86,7 @@ module _ (q : Party) (first next : ℕ) (out : List PacketValue) (sent : AreSent
   made_of_one : (h : Ipv4Repr) (payload : List ℕ) (o : IsPayloadOf out h payload) → NamesPorts h →
       CanBeRead o.sent.packet.header o.sent.packet.payload × HasMade q (normal_payload o.sent.packet.payload)
   made_of_one h payload o ports = elim (sent.packets o.sent.packet o.sent.among).going.carries [
-    | inl none ↦ absurd (not_both (carried_in (upper_header (Ips.normal o.sent.packet.header) (bytes_of o.sent.packet))) none
+    | inl none ↦ absurd (not_both (carried_in (upper_header (Ips.normal o.sent.packet.header) (bytes_of o.sent.packet))) none.0
         (either_is (carried_in (upper_header (Ips.normal o.sent.packet.header) (bytes_of o.sent.packet))) h.next_header (protocol_is h payload o) ports))
     | inr reads ↦
         let known = either_is (told (carried_in o.sent.packet.header)) h.next_header (named_is h payload o) ports in
@@ -140,6 +140,14 @@ module _ (q : Party) (first next : ℕ) (out : List PacketValue) (sent : AreSent
     said_is m frame fact (inr (inl f)) c = absurd (let e : None ≡ Some c.part = sym (whole6_uncut out frame m f) ∙ c.there in cc)
     said_is m frame fact (inr (inr f)) c = absurd (let e : None ≡ Some c.part = sym f.uncut ∙ c.there in cc)
 
+-- no frame that waits is a piece of IPv6
+no_piece_waits : (q : Party) (out : List PacketValue) (s : StationValue) → Receives q out s → BringsNoPieceV6 s
+no_piece_waits q out s receives place frame content waits is =
+    let brings : BringsFrom (MadeBy q) out s.host.inner.hardware frame =
+    all_at (BringsFrom (MadeBy q) out s.host.inner.hardware) s.link.waiting place frame receives.waits waits in
+    whole_from (MadeBy q) out content
+    (content_from (MadeBy q) out s.host.inner.hardware s.host.inner.checksums frame content receives.checksums brings is)
+
 pub rebuilt_made : (starts : Starts) → IsFreshWorld starts → (history : List Entry) (hosts : Stations) → AreTyped history →
     WorldRun history (unused_both starts) hosts
     → RebuiltWasMade (record { hosts = hosts; starts = starts; history = history })
@@ -156,6 +164,7 @@ rebuilt_made starts fresh history hosts typed ran =
           let few : AreFew (w.joined.out (other side)) = (let a = w.joined.counted (other side) in let b = w.few (other side) in omega (arith, a, b)) in
           rebuilt_of (party came.net (other side)) _ _ (w.joined.out (other side)) (w.joined.sends (other side)).are_sent few (station hosts side)
           (w.joined.receives side) h payload r;
+      none_of_v6 = λ side. no_piece_waits (party came.net (other side)) (w.joined.out (other side)) (station hosts side) (w.joined.receives side);
     }
 
 -- IT WAS SENT

@@ -59,14 +59,14 @@ goes_waits : (d d' : PortValue) (i i' : InnerValue) (l l' : Option LeftValue) (p
 goes_waits d d' i i' l l' p sent goes =
     once_waits d d' i (departure_by i p (plan_of i (is_some l) p.header)) (was_taken sent) (changes PortMove d d' i i' l l' p (is_some l) sent goes).0
 
-leave_waits : (d d' : PortValue) (given : Bool) → PortMove d (Allowed given) d' → Waits d' ≡ Waits d
-leave_waits d d' given move = ap Waits move.0
+leave_waits : (t : ℤ) (d d' : PortValue) (given : Bool) → PortMove d (Allowed t given) d' → Waits d' ≡ Waits d
+leave_waits t d d' given move = ap Waits move.0
 
 module _ (turn : Option IpAddress) where
   leaves_waits : (x x' : Sender PortValue) (m : Meta) (p : PacketValue) (sent : Sent) → Leaves PortMove turn x m p sent x' → Waits x'.device ≡ Waits x.device
-  leaves_waits x x' m p sent (inl rests) = leave_waits x.device x'.device rests.0 rests.1
+  leaves_waits x x' m p sent (inl rests) = leave_waits x.inner.moment x.device x'.device rests.0 rests.1
   leaves_waits x x' m p sent (inr admits) =
-      goes_waits admits.0 x'.device x.inner x'.inner x.left x'.left p sent admits.2 ∙ leave_waits x.device admits.0 true admits.1
+      goes_waits admits.0 x'.device x.inner x'.inner x.left x'.left p sent admits.2 ∙ leave_waits x.inner.moment x.device admits.0 true admits.1
 
   offer_waits : (o : Option PacketValue) (x x' : Sender PortValue) (item item' : Item Socket) (changed : Bool) (turned : Turned) →
       SendsBy PortMove turn o x item changed turned x' item' → Waits x'.device ≡ Waits x.device
@@ -91,10 +91,10 @@ module _ (turn : Option IpAddress) where
   turn_waits (Some item) (Some item') x x' turned is = if_waits (is_waiting x.inner item.meta) x x' (let_through x.inner item) item' turned is
 
 piece_waits : (l : LeftValue) (x x' : Sender PortValue) (gone : Bool) → PieceLeaves PortMove l x gone x' → Waits x'.device ≡ Waits x.device
-piece_waits l x x' gone (inl denied) = leave_waits x.device x'.device false denied.0
+piece_waits l x x' gone (inl denied) = leave_waits x.inner.moment x.device x'.device false denied.0
 piece_waits l x x' gone (inr goes) =
     once_waits goes.0 x'.device x.inner (Some (departure_from x.inner l)) gone (piece_sends PortMove goes.0 x'.device x.inner l x'.left gone goes.2)
-    ∙ leave_waits x.device goes.0 true goes.1
+    ∙ leave_waits x.inner.moment x.device goes.0 true goes.1
 
 replied_waits : (awaited : Bool) (reply : Option ReplyValue) (x x' : Sender PortValue) → Replied PortMove awaited reply x x' → Waits x'.device ≡ Waits x.device
 replied_waits awaited None x x' is = ap (λ (y : Sender PortValue). Waits y.device) is
@@ -140,13 +140,13 @@ module _ (S : Ipv4FragKey → Fact → Type 0) (medium : Medium) where
   takes_keep s s' None h takes = subst P (sym takes.1) (at_same s s'.device (ap Waits takes.0.0) h)
   takes_keep s s' (Some false) h takes =
       let first : AllByRecursion (TakenSo S medium) (takes.0 ∷ Waits s'.device) =
-      subst (AllByRecursion (TakenSo S medium)) (taken_frame s.device s'.device takes.0 takes.1) h.waits in
+      subst (AllByRecursion (TakenSo S medium)) (taken_frame s.host.inner.moment s.device s'.device takes.0 takes.1) h.waits in
       subst P (sym takes.3) (record { hardware = h.hardware; checksums = h.checksums; slots_are = h.slots_are; waits = first.1 })
   takes_keep s s' (Some true) h takes =
       let mid : PortValue = takes.1 in
       let reads = takes.4 in
       let first : AllByRecursion (TakenSo S medium) (takes.0 ∷ Waits mid) =
-      subst (AllByRecursion (TakenSo S medium)) (taken_frame s.device mid takes.0 takes.2) h.waits in
+      subst (AllByRecursion (TakenSo S medium)) (taken_frame s.host.inner.moment s.device mid takes.0 takes.2) h.waits in
       let same = receives_same PortMove reads.0 (at_device s mid) s' reads.2 in
       let so : ContentSo S (taken_in s.host.inner reads.0) =
       taken_by s.host.inner reads.0 (content_by s.host.inner takes.0 reads.0 h.hardware h.checksums first.0 reads.1) in

@@ -22,7 +22,7 @@ use Rattle.lan_hosts.specs.Answer.{Answer}
 use Rattle.lan_hosts.specs.Refused.TheVariants as For
 use Rattle.lan_hosts.specs.Side.{Side}
 use Rattle.lan_hosts.specs.Side.TheVariants.{A, B}
-use Rattle.lan_packets.specs.Parties.{Net}
+use Rattle.lan_packets.specs.Parties.{Net, party}
 use Rattle.lan_hosts.specs.Port.{added, arrived}
 use Rattle.lan_hosts.specs.Fresh.{IsFreshWorld}
 use Rattle.lan_hosts.specs.Origins.{medium_of, frame_sent, frame_of_origin, goes_to, sent_before, is_cut_of, own_frames}
@@ -37,6 +37,7 @@ use Rattle.lan_theorem.specs.Events.{HasWord, IsTyped, AreTyped}
 use Rattle.lan_theorem.specs.Hosts.Damage.{BringsNoSegment}
 use Rattle.lan_theorem.specs.Hosts.GoesOn.{GoesOn}
 use Rattle.lan_theorem.specs.Joins.{AreJoined}
+use Rattle.lan_theorem.specs.Moves.Made.{MadeBy}
 use Rattle.lan_theorem.specs.Link.Made.{sealed}
 use Rattle.lan_theorem.specs.Link.Frames.{medium_on}
 use Rattle.lan_theorem.specs.Link.Sides.{IsHostFrame}
@@ -317,7 +318,8 @@ module _ (m : Medium) (firsts most most' : Side → ℕ) (net net' : Net) (past 
 
       fresh : AllByRecursion (FrameSo (S side) m) (more side)
       fresh = subst (λ (xs : List (List ℕ)). AllByRecursion (FrameSo (IsSaid m xs) m) (more side)) (sym own)
-          (own_so (j'.out side) m (own_frames side past s.link.sent) (more side) (all_behind (IsHostFrame m (j'.out side)) s.link.sent (more side) all))
+          (own_so (MadeBy (party net' side)) (j'.out side) (j'.sends side).are_sent.packets m (own_frames side past s.link.sent) (more side)
+          (all_behind (IsHostFrame m (j'.out side)) s.link.sent (more side) all))
 
       sent : AllByRecursion (FrameSo (S side) m) s'.link.sent
       sent = subst (AllByRecursion (FrameSo (S side) m)) (sym (on side).sent) (all_both (FrameSo (S side) m) s.link.sent (more side) (raised side).sent fresh)

@@ -12,6 +12,8 @@ use Rattle.interface_delivery.specs.IpRepr.{IpRepr}
 use Rattle.interface_delivery.specs.IpRepr.TheVariants as Ip
 use Rattle.interface_delivery.specs.Ipv4Piece.{Ipv4Piece}
 use Rattle.interface_delivery.specs.Ipv4Repr.{Ipv4Repr}
+use Rattle.interface_delivery.specs.Ipv6Repr.{Ipv6Repr}
+use Rattle.interface_ingress.specs.IpProtocol.TheVariants as Protocol
 use Rattle.lan_hosts.specs.ArpOperation.TheVariants as Operation
 use Rattle.interface_ingress.specs.ArpRepr.{ArpRepr}
 use Rattle.interface_ingress.specs.ArpRepr.TheVariants as ArpIs
@@ -24,7 +26,8 @@ use Rattle.interface_ingress.specs.Arrives as Replies
 use Rattle.interface_ingress.specs.Arrives.{Arrived, ArrivesV4, ArrivesV6, Brings, told, answered, whole_after}
 use Rattle.interface_ingress.specs.Delivered.{Places}
 use Rattle.interface_ingress.specs.Incoming.{IncomingValue, Arp, Ip4, Ip6, IsIncoming, IsContent}
-use Rattle.interface_ingress.specs.Reassembled.{Slots, is_piece, is_taken_in, taken_in, bytes_at, kept, place_in, rebuilt, uncut, whole_of}
+use Rattle.interface_ingress.specs.Reassembled.{Slots, is_piece, is_piece_v6, is_taken_in, taken_in, bytes_at, kept, place_in, rebuilt, rebuilt_v6}
+use Rattle.interface_ingress.specs.Reassembled.{uncut, whole_of}
 use Rattle.lan_theorem.specs.Link.Sides.{IsStation, HasSixBytes, IsBetweenStations}
 
 -- WHICH CONTENT IS ANSWERED SO
@@ -81,13 +84,29 @@ piece_never slots at link h p x l q =
     elim (is_piece p) as (λ b. cond b (rebuilt link h (bytes_at at slots)) (Some (Ip4 link h p x)) ≡ Some (Arp l q) →
     ⊥) [ true ↦ λ is. never_arp link h (bytes_at at slots) l q is | false ↦ λ is. cc ]
 
+short6_arp : (link : Option EthernetRepr) (h : Ipv6Repr) (bytes : List ℕ) (b : Bool) (l : EthernetRepr) (q : ArpRepr) →
+    cond b (Some (Ip6 link (record h { next_header = Protocol.Ipv6Frag; payload_len = length bytes }) bytes)) None ≡ Some (Arp l q) → ⊥
+short6_arp link h bytes true l q is = cc
+short6_arp link h bytes false l q is = cc
+
+never6_arp : (link : Option EthernetRepr) (h : Ipv6Repr) (o : Option (List ℕ)) (l : EthernetRepr) (q : ArpRepr) → rebuilt_v6 link h o ≡ Some (Arp l q) → ⊥
+never6_arp link h None l q is = cc
+never6_arp link h (Some bytes) l q is = short6_arp link h bytes (nat_lt (length bytes) (2 ^ 16)) l q is
+
+piece6_never : (slots : Slots) (at : Option ℕ) (link : Option EthernetRepr) (h : Ipv6Repr) (x : List ℕ) (l : EthernetRepr) (q : ArpRepr) →
+    whole_of slots at (Some (Ip6 link h x)) ≡ Some (Arp l q) → ⊥
+piece6_never slots at link h x l q =
+    elim (is_piece_v6 h x) as (λ b. cond b (rebuilt_v6 link h (bytes_at at slots)) (Some (Ip6 link h x)) ≡ Some (Arp l q) →
+    ⊥) [ true ↦ λ is. never6_arp link h (bytes_at at slots) l q is | false ↦ λ is. cc ]
+
 whole_arp : (i : InnerValue) (timeout : ℕ) (slots : Slots) (content : Option IncomingValue) (l : EthernetRepr) (q : ArpRepr) →
     whole_after i timeout slots content ≡ Some (Arp l q) → content ≡ Some (Arp l q)
 whole_arp i timeout slots None l q is = is
 whole_arp i timeout slots (Some (Arp link packet)) l q is = is
 whole_arp i timeout slots (Some (Ip4 link h p x)) l q is =
     absurd (piece_never (kept i timeout slots (Some (Ip4 link h p x))) (place_in slots (Some (Ip4 link h p x))) link h p x l q is)
-whole_arp i timeout slots (Some (Ip6 link h x)) l q is = is
+whole_arp i timeout slots (Some (Ip6 link h x)) l q is =
+    absurd (piece6_never (kept i timeout slots (Some (Ip6 link h x))) (place_in slots (Some (Ip6 link h x))) link h x l q is)
 
 taken_if : (v : IncomingValue) (b : Bool) (l : EthernetRepr) (q : ArpRepr) → cond b (Some v) None ≡ Some (Arp l q) → Some v ≡ Some (Arp l q)
 taken_if v true l q is = is

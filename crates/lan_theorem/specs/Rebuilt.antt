@@ -11,6 +11,7 @@ use Rattle.sockets.specs.Packet.{PacketValue, PayloadValue, Datagram, Segment}
 use Rattle.tcp_tie.specs.Host.{made_of, IsAmong}
 use Rattle.interface_ingress.specs.Arrives.{whole_after}
 use Rattle.interface_ingress.specs.Incoming.{IncomingValue, Ip4, IsContent}
+use Rattle.interface_ingress.specs.Kept.{IsNoPieceV6}
 use Rattle.interface_ingress.specs.Reassembled.{is_piece, uncut}
 use Rattle.interface_ingress.specs.Sent.{CanBeRead, normal_payload}
 use Rattle.lan_frames.specs.Carried.{names_tcp_or_udp}
@@ -46,6 +47,11 @@ pub record Rebuilds (s : StationValue) (h : Ipv4Repr) (payload : List ℕ) : Typ
   pub ports : NamesPorts h
   pub whole : taken_next s (Some (Ip4 link h piece slice)) ≡ Some (Ip4 link (record h { payload_len = length payload }) uncut payload)
 
+-- no frame that waits for a host brings a piece of an IPv6 datagram
+abbrev pub BringsNoPieceV6 : StationValue → Type 0
+BringsNoPieceV6 s = (place : ℕ) (frame : List ℕ) (content : Option IncomingValue) → slice_get s.link.waiting place ≡ Some frame
+    → IsContent s.host.inner.hardware s.host.inner.checksums frame content → IsNoPieceV6 content
+
 -- a segment or a datagram, and this host made it
 abbrev pub HasMade : Party → PayloadValue → Type 0
 HasMade p (Datagram udp bytes) = WasMade p (datagram_of udp bytes)
@@ -64,7 +70,7 @@ pub record IsOfMade (q : Party) (h : Ipv4Repr) (payload : List ℕ) : Type 0 whe
   pub made : HasMade q (normal_payload packet.payload)
 
 -- Moves over packets lead from fresh hosts to these sockets by this history, and say what each host made on the way. Whatever a host
--- rebuilds when it takes a frame next, the other one made.
+-- rebuilds of IPv4 when it takes a frame next, the other one made; and of IPv6 it rebuilds nothing.
 pub record RebuiltWasMade (w : WorldValue) : Type 0 where
   pub net : Net
   pub steps : List Step
@@ -72,3 +78,4 @@ pub record RebuiltWasMade (w : WorldValue) : Type 0 where
   pub ends : run (first_net w.starts) steps ≡ net
   pub of : IsNetOf net w.hosts w.history
   pub rebuilt : (side : Side) (h : Ipv4Repr) (payload : List ℕ) → Rebuilds (station w.hosts side) h payload → IsOfMade (party net (other side)) h payload
+  pub none_of_v6 : (side : Side) → BringsNoPieceV6 (station w.hosts side)

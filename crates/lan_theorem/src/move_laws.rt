@@ -2,10 +2,8 @@
 ghost use Rattle.std.specs.Prelude.{◌≡◌, ◌∷◌, Bool, IfSome, List, Option, Some, ℕ};
 ghost use Rattle.sockets.specs.Raw as Raws;
 ghost use Rattle.sockets.specs.Raw.{RawValue};
-ghost use Rattle.interface_delivery.specs.Delivered.{NamesNoPorts};
-ghost use Rattle.interface_ingress.specs.Upper.{upper_header};
-ghost use Rattle.lan_theorem.specs.Link.Made.{bytes_of};
-ghost use Rattle.interface_delivery.specs.Ip.{carried_in, normal};
+ghost use Rattle.lan_theorem.specs.Link.Made.{CarriesNone, bytes_of};
+ghost use Rattle.interface_delivery.specs.Ip.{normal};
 ghost use Rattle.interface_delivery.specs.IpRepr.{IpRepr};
 ghost use Rattle.lan_hosts.specs.Arrives.{Answers, Arrived, Brings};
 ghost use Rattle.lan_hosts.specs.Delivered.{Places};
@@ -45,8 +43,8 @@ pub fn events_are_moves()
         → Comes (names_tcp_or_udp Medium.Ip) net new (e ∷ past) }
 {}
 
-/// Law: wherever two hosts came from a fresh start, no raw socket of theirs has a packet of TCP or UDP in its queue. A packet that such
-/// a socket offers carries neither to whoever reads it, behind extension headers either.
+/// Law: wherever two hosts came from a fresh start, no raw socket of theirs has a packet of TCP or UDP in its queue, nor a piece of an
+/// IPv6 datagram. A packet that such a socket offers is neither to whoever reads it, behind extension headers either.
 pub fn raw_sockets_send_no_tcp_or_udp()
     ensures queues { (starts : Starts) (history : List Entry) (hosts : Stations) (side : Side)
         → IsFreshWorld starts
@@ -56,7 +54,7 @@ pub fn raw_sockets_send_no_tcp_or_udp()
         → QueuesForeign (Is.Raw v)
         → Raws.Offers cx v answer v'
         → v'.offered ≡ Some p
-        → NamesNoPorts (carried_in (upper_header (normal p.header) (bytes_of p))) }
+        → CarriesNone (normal p.header) (bytes_of p) }
 {}
 
 /// Law: the header of each packet that a socket offers, and of each that a host answers, names what the packet carries: TCP, UDP, or the

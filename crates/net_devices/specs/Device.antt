@@ -1,14 +1,14 @@
 -- The moves of a device: what one call on it did with frames.
-use Rattle.std.specs.Prelude.{ℕ, ◌+◌, ◌^◌, Bool, nat_lt, List, map}
+use Rattle.std.specs.Prelude.{ℕ, ◌+◌, ◌^◌, ℤ, Bool, nat_lt, List, map}
 use Rattle.std.specs.Global.{Vec}
 
 pub data Move : Type 0 where
-  -- `receive` handed out this frame, with leave to send one
-  Took : List ℕ → Move
-  -- `receive` handed out nothing
-  Empty : Move
-  -- `transmit` gave leave to send a frame, or refused it
-  Allowed : Bool → Move
+  -- `receive`, called with this moment, handed out this frame, with leave to send one
+  Took : ℤ → List ℕ → Move
+  -- `receive`, called with this moment, handed out nothing
+  Empty : ℤ → Move
+  -- `transmit`, called with this moment, gave leave to send a frame, or refused it
+  Allowed : ℤ → Bool → Move
   -- `send` sent this frame
   Emitted : List ℕ → Move
   -- `send` refused a frame of this length

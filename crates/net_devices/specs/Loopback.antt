@@ -17,10 +17,10 @@ loopback_capabilities l =
     record { medium = l.medium; max_transmission_unit = 65535; checksum = all_checksums Both }
 
 abbrev pub LoopbackMove : LoopbackValue → Move → LoopbackValue → Type 0
-LoopbackMove old (Took frame) new =
+LoopbackMove old (Took t frame) new =
     IsTrue (gives_tokens old.refusals) × (old ≡ record new { queue = frame ∷ new.queue })
-LoopbackMove old Empty new =
+LoopbackMove old (Empty t) new =
     (new ≡ old) × (IsTrue (gives_tokens old.refusals) → old.queue ≡ [])
-LoopbackMove old (Allowed leave) new = (new ≡ old) × (leave ≡ gives_tokens old.refusals)
+LoopbackMove old (Allowed t leave) new = (new ≡ old) × (leave ≡ gives_tokens old.refusals)
 LoopbackMove old (Emitted frame) new = new ≡ record old { queue = old.queue ++ frame ∷ [] }
 LoopbackMove old (Denied _) new = new ≡ record old { refusals = old.refusals + 1 }

@@ -61,22 +61,22 @@ pub trait Device {
 
     ghost described: { Self → DeviceCapabilities };
 
-    /// The next frame that came, with leave to send one.
+    /// The next frame that came, with leave to send one. `timestamp` is the moment of the call.
     ///
     /// There is none while the count of refusals can't rise any more.
     fn receive(&mut self, timestamp: Instant) -> Option<(Self::RxToken, Self::TxToken)>
         ensures moves { MatchOption result
-            (moves self.old Empty self.new)
-            (λ tokens. moves self.old (Took (Self.RxToken.frame tokens.0)) self.new) }
+            (moves self.old (Empty timestamp) self.new)
+            (λ tokens. moves self.old (Took timestamp (Self.RxToken.frame tokens.0)) self.new) }
         ensures refusals { refused self.new ≡ refused self.old }
         ensures capabilities { described self.new ≡ described self.old }
         ensures works { OnSome result (refused self.old + 1 < 2 ^ 64) };
 
-    /// Leave to send one frame.
+    /// Leave to send one frame. `timestamp` is the moment of the call.
     ///
     /// There is none while the count of refusals can't rise any more.
     fn transmit(&mut self, timestamp: Instant) -> Option<Self::TxToken>
-        ensures moves { moves self.old (Allowed (is_some result)) self.new }
+        ensures moves { moves self.old (Allowed timestamp (is_some result)) self.new }
         ensures refusals { refused self.new ≡ refused self.old }
         ensures capabilities { described self.new ≡ described self.old }
         ensures works { OnSome result (refused self.old + 1 < 2 ^ 64) };

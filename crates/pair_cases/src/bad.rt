@@ -2,35 +2,10 @@
 use std::alloc::{AllocError, Global};
 use std::str;
 
-/// What a line lacks.
-#[derive(Clone, Copy, Debug, PartialEq, Eq)]
-pub enum Lack {
-    Sockets,
-    A,
-    B,
-    Event,
-    Verb,
-    Side,
-    Number,
-    Port,
-    Moment,
-    Endpoint,
-    Duration,
-    Bytes,
-    Setting,
-    Sent,
-    On,
-    Reno,
-    End,
-    Text,
-    Buffers,
-    Memory,
-}
-
-/// What a line lacks, and which word stands there: the first is 1.
-#[derive(Clone, Copy, Debug, PartialEq, Eq)]
+/// What a line lacks, and which word stands there: the first is 1, and 0 is all of the line.
+#[derive(Clone, Copy)]
 pub struct Bad {
-    lack: Lack,
+    lack: &'static str,
     word: usize,
 }
 
@@ -38,13 +13,13 @@ pub struct Bad {
 const MOST_SHOWN: usize = 40;
 
 impl Bad {
-    pub fn new(lack: Lack, word: usize) -> Bad {
+    pub fn new(lack: &'static str, word: usize) -> Bad {
         Bad { lack, word }
     }
 
     /// What is written of it, of the line that it is about.
     pub fn to_text(self, alloc: Global, line: &[u8]) -> Result<String, AllocError> {
-        let name = name(self.lack);
+        let name = self.lack;
         match str::from_utf8(line) {
             Ok(line) => {
                 let shown = shown(alloc, self.shown_of(line))?;
@@ -66,7 +41,7 @@ impl Bad {
                 None => "",
             };
         }
-        if self.lack == Lack::End {
+        if self.lack == "end" {
             return rest;
         }
         match rest.split_once(' ') {
@@ -82,29 +57,4 @@ fn shown(alloc: Global, word: &str) -> Result<String, AllocError> {
         text.push(c)?;
     }
     Ok(text)
-}
-
-fn name(lack: Lack) -> &'static str {
-    match lack {
-        Lack::Sockets => "sockets",
-        Lack::A => "A",
-        Lack::B => "B",
-        Lack::Event => ">",
-        Lack::Verb => "event",
-        Lack::Side => "side",
-        Lack::Number => "number",
-        Lack::Port => "port",
-        Lack::Moment => "moment",
-        Lack::Endpoint => "endpoint",
-        Lack::Duration => "duration",
-        Lack::Bytes => "bytes",
-        Lack::Setting => "setting",
-        Lack::Sent => "sent",
-        Lack::On => "on",
-        Lack::Reno => "reno",
-        Lack::End => "end",
-        Lack::Text => "text",
-        Lack::Buffers => "buffers",
-        Lack::Memory => "memory",
-    }
 }

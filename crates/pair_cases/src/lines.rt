@@ -1,5 +1,5 @@
 //! What a line of a case says.
-use crate::bad::{Bad, Lack};
+use crate::bad::Bad;
 use crate::words::Words;
 use hex::FromHexError;
 use ip_wire::{IpEndpoint, IpListenEndpoint, TcpTimestampGenerator};
@@ -76,69 +76,72 @@ impl Todo {
 /// The sizes of a line `sockets A RX TX B RX TX`.
 pub fn read_sizes(line: &str) -> Result<Sizes, Bad> {
     let mut words = Words::new(line);
-    words.exactly("sockets", Lack::Sockets)?;
-    words.exactly("A", Lack::A)?;
-    let a = (words.size()?, words.size()?);
-    words.exactly("B", Lack::B)?;
-    let b = (words.size()?, words.size()?);
-    words.end()?;
-    Ok(Sizes { a, b })
+    words.exactly("sockets");
+    words.exactly("A");
+    let a = (words.size(), words.size());
+    words.exactly("B");
+    let b = (words.size(), words.size());
+    match words.end() {
+        None => Ok(Sizes { a, b }),
+        Some(bad) => Err(bad),
+    }
 }
 
 /// What a line behind the first says: nothing where an earlier run wrote it.
 pub fn read_line(alloc: Global, line: &str) -> Result<Option<Line>, Bad> {
     let mut words = Words::new(line);
     match words.word() {
-        ">" => {
-            let said = said(alloc, &mut words)?;
-            words.end()?;
-            Ok(Some(said))
-        }
+        ">" => read_event(alloc, &mut words),
         "=" | "sent" | "A" | "B" => Ok(None),
-        _ => Err(words.lacks(Lack::Event)),
+        _ => Err(Bad::new(">", 1)),
     }
 }
 
-fn said(alloc: Global, words: &mut Words<'_>) -> Result<Line, Bad> {
-    match words.word() {
+fn read_event(alloc: Global, words: &mut Words<'_>) -> Result<Option<Line>, Bad> {
+    let said = said(alloc, words);
+    match words.end() {
+        None => Ok(Some(said)),
+        Some(bad) => Err(bad),
+    }
+}
+
+fn said(alloc: Global, words: &mut Words<'_>) -> Line {
+    let verb = words.word();
+    match verb {
         "burst" => burst(words),
-        "ask" => Ok(Line::Ask(words.side()?, words.moment()?)),
-        "settle" => Ok(Line::Settle(words.span()?)),
-        verb if is_verb(verb) => Ok(Line::Event(event(alloc, verb, words)?)),
-        _ => Err(words.lacks(Lack::Verb)),
+        "ask" => Line::Ask(words.side(), words.moment()),
+        "settle" => Line::Settle(words.span()),
+        _ => Line::Event(event(alloc, verb, words)),
     }
 }
 
-fn burst(words: &mut Words<'_>) -> Result<Line, Bad> {
-    let side = words.side()?;
-    let (first, last) = (words.size()?, words.size()?);
+fn burst(words: &mut Words<'_>) -> Line {
+    let side = words.side();
+    let (first, last) = (words.size(), words.size());
     if last < first {
-        return Err(words.lacks(Lack::Number));
+        words.lacks("number");
     }
-    Ok(Line::Burst(side, first, last))
+    Line::Burst(side, first, last)
 }
 
 /// The event of this verb and the words behind it.
-fn event(alloc: Global, verb: &str, words: &mut Words<'_>) -> Result<Todo, Bad> {
-    let side = words.side()?;
-    match verb {
-        "listen" => Ok(Todo::Listen(side, words.port()?)),
-        "connect" => Ok(Todo::Connect(side, words.endpoint()?, words.port()?)),
-        "send" => Ok(Todo::Send(side, bytes(alloc, words)?)),
-        "fill" => Ok(Todo::Send(side, letters(alloc, words)?)),
-        "recv" => Ok(Todo::Recv(side, words.size()?)),
-        "close" => Ok(Todo::Close(side)),
-        "abort" => Ok(Todo::Abort(side)),
-        "set" => Ok(Todo::Set(side, setting(words)?)),
-        "offer" => offer(side, words),
-        _ => Ok(Todo::Deliver(side, words.size()?)),
+fn event(alloc: Global, verb: &str, words: &mut Words<'_>) -> Todo {
+    if !is_verb(verb) {
+        words.lacks("event");
     }
-}
-
-fn offer(side: Side, words: &mut Words<'_>) -> Result<Todo, Bad> {
-    let moment = words.moment()?;
-    let sent = words.either("sent", "unsent", Lack::Sent)?;
-    Ok(Todo::Offer(side, moment, sent))
+    let side = words.side();
+    match verb {
+        "listen" => Todo::Listen(side, words.port()),
+        "connect" => Todo::Connect(side, words.endpoint(), words.port()),
+        "send" => Todo::Send(side, bytes(alloc, words)),
+        "fill" => Todo::Send(side, letters(alloc, words)),
+        "recv" => Todo::Recv(side, words.size()),
+        "close" => Todo::Close(side),
+        "abort" => Todo::Abort(side),
+        "set" => Todo::Set(side, setting(words)),
+        "offer" => Todo::Offer(side, words.moment(), words.either("sent", "unsent")),
+        _ => Todo::Deliver(side, words.size()),
+    }
 }
 
 fn is_verb(word: &str) -> bool {
@@ -158,60 +161,70 @@ fn is_verb(word: &str) -> bool {
 }
 
 /// The bytes of a word: pairs of hex digits, or `-` for none.
-fn bytes(alloc: Global, words: &mut Words<'_>) -> Result<Vec<u8>, Bad> {
+fn bytes(alloc: Global, words: &mut Words<'_>) -> Vec<u8> {
     let word = words.word();
     if word == "-" {
-        return Ok(Vec::new(alloc));
+        return Vec::new(alloc);
     }
     match hex::decode(alloc, word) {
-        Ok(bytes) => Ok(bytes),
-        Err(FromHexError::OutOfMemory) => Err(words.lacks(Lack::Memory)),
-        Err(_) => Err(words.lacks(Lack::Bytes)),
+        Ok(bytes) => return bytes,
+        Err(FromHexError::OutOfMemory) => words.lacks("memory"),
+        Err(_) => words.lacks("bytes"),
     }
+    Vec::new(alloc)
 }
 
 /// So many letters `a`.
-fn letters(alloc: Global, words: &mut Words<'_>) -> Result<Vec<u8>, Bad> {
-    let count = words.size()?;
+fn letters(alloc: Global, words: &mut Words<'_>) -> Vec<u8> {
+    let count = words.size();
     if count > MOST_LETTERS {
-        return Err(words.lacks(Lack::Number));
+        words.lacks("number");
+        return Vec::new(alloc);
     }
     match vec![in alloc; b'a'; count] {
-        Ok(bytes) => Ok(bytes),
-        Err(_) => Err(words.lacks(Lack::Memory)),
+        Ok(bytes) => bytes,
+        Err(_) => {
+            words.lacks("memory");
+            Vec::new(alloc)
+        }
     }
 }
 
 /// A setting, named as its setter is without `set_`.
-fn setting(words: &mut Words<'_>) -> Result<TcpSetting, Bad> {
+fn setting(words: &mut Words<'_>) -> TcpSetting {
     match words.word() {
-        "timeout" => Ok(TcpSetting::Timeout(words.duration()?)),
-        "ack_delay" => Ok(TcpSetting::AckDelay(words.duration()?)),
-        "keep_alive" => Ok(TcpSetting::KeepAlive(words.duration()?)),
-        "nagle_enabled" => Ok(TcpSetting::NagleEnabled(words.either("on", "off", Lack::On)?)),
-        "hop_limit" => Ok(TcpSetting::HopLimit(words.byte_or_none()?)),
-        "tsval_generator" => tsval_generator(words),
-        "congestion_control" => Ok(TcpSetting::CongestionControl(congestion_control(words)?)),
-        "retries" => Ok(TcpSetting::Retries(words.byte_or_none()?)),
-        "min_rto" => Ok(TcpSetting::MinRto(words.span()?)),
-        "pause_synack" => Ok(TcpSetting::PauseSynack(words.either("on", "off", Lack::On)?)),
-        _ => Err(words.lacks(Lack::Setting)),
+        "timeout" => TcpSetting::Timeout(words.duration()),
+        "ack_delay" => TcpSetting::AckDelay(words.duration()),
+        "keep_alive" => TcpSetting::KeepAlive(words.duration()),
+        "nagle_enabled" => TcpSetting::NagleEnabled(words.either("on", "off")),
+        "hop_limit" => TcpSetting::HopLimit(words.number_or_none()),
+        "tsval_generator" => tsval_generator(words.number_or_none()),
+        "congestion_control" => TcpSetting::CongestionControl(congestion_control(words)),
+        "retries" => TcpSetting::Retries(words.number_or_none()),
+        "min_rto" => TcpSetting::MinRto(words.span()),
+        "pause_synack" => TcpSetting::PauseSynack(words.either("on", "off")),
+        _ => {
+            words.lacks("setting");
+            TcpSetting::NagleEnabled(true)
+        }
     }
 }
 
-fn tsval_generator(words: &mut Words<'_>) -> Result<TcpSetting, Bad> {
-    let generator = match words.word_or_none()? {
+fn tsval_generator(offset: Option<u32>) -> TcpSetting {
+    TcpSetting::TsvalGenerator(match offset {
         None => None,
         Some(offset) => Some(TcpTimestampGenerator(offset)),
-    };
-    Ok(TcpSetting::TsvalGenerator(generator))
+    })
 }
 
-fn congestion_control(words: &mut Words<'_>) -> Result<CongestionControl, Bad> {
+fn congestion_control(words: &mut Words<'_>) -> CongestionControl {
     match words.word() {
-        "none" => Ok(CongestionControl::None),
-        "reno" => Ok(CongestionControl::Reno),
-        "cubic" => Ok(CongestionControl::Cubic),
-        _ => Err(words.lacks(Lack::Reno)),
+        "none" => CongestionControl::None,
+        "reno" => CongestionControl::Reno,
+        "cubic" => CongestionControl::Cubic,
+        _ => {
+            words.lacks("reno");
+            CongestionControl::None
+        }
     }
 }

@@ -10,7 +10,7 @@ mod played;
 mod users;
 mod words;
 
-use crate::bad::{Bad, Lack};
+use crate::bad::Bad;
 use crate::lines::{Line, read_line, read_sizes};
 use crate::played::Played;
 use case_files::{Case, ends_line, read_cases};
@@ -77,7 +77,7 @@ fn made(alloc: Global, line: &[u8]) -> Result<Box<Played>, Bad> {
     let sizes = read_sizes(text(line)?)?;
     match Played::new(alloc, &sizes) {
         Some(played) => Ok(played),
-        None => Err(Bad::new(Lack::Buffers, 0)),
+        None => Err(Bad::new("buffers", 0)),
     }
 }
 
@@ -131,6 +131,6 @@ fn said(alloc: Global, line: &[u8]) -> Result<Option<Line>, Bad> {
 fn text(line: &[u8]) -> Result<&str, Bad> {
     match str::from_utf8(line) {
         Ok(text) => Ok(text),
-        Err(_) => Err(Bad::new(Lack::Text, 0)),
+        Err(_) => Err(Bad::new("text", 0)),
     }
 }

@@ -1,15 +1,18 @@
 //! The words of a line.
-use crate::bad::{Bad, Lack};
-use ip_wire::IpEndpoint;
+use crate::bad::Bad;
+use ip_wire::{IpAddress, IpEndpoint, Ipv4Address};
 use net_base::{Duration, Instant};
+use std::str::FromStr;
 use tcp_pair::Side;
 
-/// What is left of the words of a text, which one blank each keeps apart.
+/// What is left of the words of a text, which one blank each keeps apart, and what the line lacks first. Behind that each word is read as
+/// something that nobody looks at. So what reads a line goes straight on.
 #[derive(Drop)]
 pub struct Words<'a> {
     rest: Option<&'a str>,
     /// How many words were taken.
     taken: usize,
+    bad: Option<Bad>,
 }
 
 impl<'a> Words<'a> {
@@ -17,6 +20,7 @@ impl<'a> Words<'a> {
         Words {
             rest: Some(text),
             taken: 0,
+            bad: None,
         }
     }
 
@@ -38,160 +42,130 @@ impl<'a> Words<'a> {
         }
     }
 
-    /// The word that was taken last lacks this.
-    pub fn lacks(&self, lack: Lack) -> Bad {
-        Bad::new(lack, self.taken)
+    /// The word that was taken last lacks this. What a line lacks first counts.
+    pub fn lacks(&mut self, lack: &'static str) {
+        if self.bad.is_none() {
+            self.bad = Some(Bad::new(lack, self.taken));
+        }
     }
 
-    /// No word is left.
-    pub fn end(&mut self) -> Result<(), Bad> {
-        if self.rest.is_none() {
-            return Ok(());
+    /// No word is left: what the line lacks, if anything.
+    pub fn end(&mut self) -> Option<Bad> {
+        if self.rest.is_some() {
+            let _ = self.word();
+            self.lacks("end");
         }
-        let _ = self.word();
-        Err(self.lacks(Lack::End))
+        self.bad
     }
 
     /// This word.
-    pub fn exactly(&mut self, wanted: &str, lack: Lack) -> Result<(), Bad> {
-        if self.word() == wanted {
-            Ok(())
-        } else {
-            Err(self.lacks(lack))
+    pub fn exactly(&mut self, wanted: &'static str) {
+        if self.word() != wanted {
+            self.lacks(wanted);
         }
     }
 
-    pub fn side(&mut self) -> Result<Side, Bad> {
+    // What was found in the word that was taken last, or else another value.
+    fn found<T: Copy>(&mut self, lack: &'static str, found: Option<T>, other: T) -> T {
+        match found {
+            Some(value) => value,
+            None => {
+                self.lacks(lack);
+                other
+            }
+        }
+    }
+
+    pub fn side(&mut self) -> Side {
         match self.word() {
-            "A" => Ok(Side::A),
-            "B" => Ok(Side::B),
-            _ => Err(self.lacks(Lack::Side)),
+            "A" => Side::A,
+            "B" => Side::B,
+            _ => {
+                self.lacks("side");
+                Side::A
+            }
         }
     }
 
-    pub fn size(&mut self) -> Result<usize, Bad> {
-        let size = size(self.word());
-        size.ok_or(self.lacks(Lack::Number))
+    pub fn size(&mut self) -> usize {
+        let size = number(self.word());
+        self.found("number", size, 0)
     }
 
-    pub fn port(&mut self) -> Result<u16, Bad> {
-        let port = port(self.word());
-        port.ok_or(self.lacks(Lack::Port))
+    pub fn port(&mut self) -> u16 {
+        let port = number(self.word());
+        self.found("port", port, 0)
     }
 
     /// A moment in microseconds, also one before 0.
-    pub fn moment(&mut self) -> Result<Instant, Bad> {
-        match micros(self.word()) {
-            Some(micros) => Ok(Instant::from_micros(micros)),
-            None => Err(self.lacks(Lack::Moment)),
-        }
+    pub fn moment(&mut self) -> Instant {
+        let micros = micros(self.word());
+        Instant::from_micros(self.found("moment", micros, 0))
     }
 
-    pub fn endpoint(&mut self) -> Result<IpEndpoint, Bad> {
-        match self.word().parse::<IpEndpoint>() {
-            Ok(endpoint) => Ok(endpoint),
-            Err(()) => Err(self.lacks(Lack::Endpoint)),
-        }
+    pub fn endpoint(&mut self) -> IpEndpoint {
+        let endpoint = self.word().parse::<IpEndpoint>().ok();
+        let none = IpEndpoint::new(IpAddress::Ipv4(Ipv4Address::UNSPECIFIED), 0);
+        self.found("endpoint", endpoint, none)
     }
 
     /// A duration in microseconds, or none.
-    pub fn duration(&mut self) -> Result<Option<Duration>, Bad> {
+    pub fn duration(&mut self) -> Option<Duration> {
         let word = self.word();
         if word == "none" {
-            return Ok(None);
+            return None;
         }
-        match span(word) {
-            Some(micros) => Ok(Some(Duration::from_micros(micros))),
-            None => Err(self.lacks(Lack::Duration)),
-        }
+        let micros = number(word);
+        Some(Duration::from_micros(self.found("duration", micros, 0)))
     }
 
     /// A duration in microseconds.
-    pub fn span(&mut self) -> Result<Duration, Bad> {
-        let span = self.duration()?;
-        span.ok_or(self.lacks(Lack::Duration))
+    pub fn span(&mut self) -> Duration {
+        let span = self.duration();
+        self.found("duration", span, Duration::ZERO)
     }
 
-    /// A number of 32 bits, or none.
-    pub fn word_or_none(&mut self) -> Result<Option<u32>, Bad> {
+    /// A number of this type, or none.
+    pub fn number_or_none<T: FromStr + Copy>(&mut self) -> Option<T>
+    where
+        T::Err: Drop,
+    {
         let word = self.word();
         if word == "none" {
-            return Ok(None);
+            return None;
         }
-        match number(word) {
-            Some(number) => Ok(Some(number)),
-            None => Err(self.lacks(Lack::Number)),
+        let found = number(word);
+        if found.is_none() {
+            self.lacks("number");
         }
-    }
-
-    /// A byte's number, or none.
-    pub fn byte_or_none(&mut self) -> Result<Option<u8>, Bad> {
-        let word = self.word();
-        if word == "none" {
-            return Ok(None);
-        }
-        match byte(word) {
-            Some(byte) => Ok(Some(byte)),
-            None => Err(self.lacks(Lack::Number)),
-        }
+        found
     }
 
     /// One of two words: whether it is the first, which a line lacks that has neither.
-    pub fn either(&mut self, yes: &str, no: &str, lack: Lack) -> Result<bool, Bad> {
+    pub fn either(&mut self, yes: &'static str, no: &'static str) -> bool {
         let word = self.word();
-        if word == yes {
-            Ok(true)
-        } else if word == no {
-            Ok(false)
-        } else {
-            Err(self.lacks(lack))
+        if word != yes && word != no {
+            self.lacks(yes);
         }
+        word == yes
     }
 }
 
-/// A word of digits alone, of which there is one at least.
+/// The number that a word of digits alone says, where it has that type.
+fn number<T: FromStr>(word: &str) -> Option<T>
+where
+    T::Err: Drop,
+{
+    if is_digits(word) {
+        word.parse().ok()
+    } else {
+        None
+    }
+}
+
+/// A word of digits alone.
 fn is_digits(word: &str) -> bool {
-    !word.is_empty() && word.bytes().all(|byte| byte.is_ascii_digit())
-}
-
-fn size(word: &str) -> Option<usize> {
-    if is_digits(word) {
-        word.parse().ok()
-    } else {
-        None
-    }
-}
-
-fn port(word: &str) -> Option<u16> {
-    if is_digits(word) {
-        word.parse().ok()
-    } else {
-        None
-    }
-}
-
-fn span(word: &str) -> Option<u64> {
-    if is_digits(word) {
-        word.parse().ok()
-    } else {
-        None
-    }
-}
-
-fn number(word: &str) -> Option<u32> {
-    if is_digits(word) {
-        word.parse().ok()
-    } else {
-        None
-    }
-}
-
-fn byte(word: &str) -> Option<u8> {
-    if is_digits(word) {
-        word.parse().ok()
-    } else {
-        None
-    }
+    word.bytes().all(|byte| byte.is_ascii_digit())
 }
 
 fn micros(word: &str) -> Option<i64> {

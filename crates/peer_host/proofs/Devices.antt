@@ -83,9 +83,9 @@ module _ {D : Type 0} (moves : D → Move → D → Type 0) (Q : D → Type 0) (
   piece_goes d d' i l false l' is holds = keeps d d' (Denied _) is.0 holds
 
   piece_leaves : (l : LeftValue) (x x' : Sender D) (gone : Bool) → PieceLeaves moves l x gone x' → Q x.device → Q x'.device
-  piece_leaves l x x' gone (inl stays) holds = keeps x.device x'.device (Allowed false) stays.0 holds
+  piece_leaves l x x' gone (inl stays) holds = keeps x.device x'.device (Allowed x.inner.moment false) stays.0 holds
   piece_leaves l x x' gone (inr (mid, leave, out)) holds =
-      piece_goes mid x'.device x.inner l gone x'.left out (keeps x.device mid (Allowed true) leave holds)
+      piece_goes mid x'.device x.inner l gone x'.left out (keeps x.device mid (Allowed x.inner.moment true) leave holds)
 
   -- A FRAME COMES
 
@@ -98,20 +98,20 @@ module _ {D : Type 0} (moves : D → Move → D → Type 0) (Q : D → Type 0) (
       goes x.device x'.device x.inner x'.inner x.left x'.left p (plan_of x.inner (is_some x.left) p.header) answers.0 answers.1 holds
 
   takes : (s s' : State D) (answer : Option Bool) → Takes moves s answer s' → Q s.device → Q s'.device
-  takes s s' None is holds = keeps s.device s'.device Empty is.0 holds
-  takes s s' (Some false) is holds = keeps s.device s'.device (Took is.0) is.1 holds
+  takes s s' None is holds = keeps s.device s'.device (Empty s.host.inner.moment) is.0 holds
+  takes s s' (Some false) is holds = keeps s.device s'.device (Took s.host.inner.moment is.0) is.1 holds
   takes s s' (Some true) (frame, mid, took, read, (content, reads, receives)) holds =
       replied (is_awaited receives.0) receives.0.reply (record { device = mid; inner = receives.0.inner; left = s.host.left }) (sender_of moves s') receives.3
-      (keeps s.device mid (Took frame) took holds)
+      (keeps s.device mid (Took s.host.inner.moment frame) took holds)
 
   -- A TURN
 
   module _ (turn : Option IpAddress) (x x' : Sender D) (holds : Q x.device) where
     leaves : (m : Meta) (p : PacketValue) (sent : Sent) → Leaves moves turn x m p sent x' → Q x'.device
-    leaves m p sent (inl rests) = keeps x.device x'.device (Allowed rests.0) rests.1 holds
+    leaves m p sent (inl rests) = keeps x.device x'.device (Allowed x.inner.moment rests.0) rests.1 holds
     leaves m p sent (inr (mid, leave, out, free)) =
         goes mid x'.device x.inner x'.inner x.left x'.left p (plan_of x.inner (is_some x.left) p.header) sent out
-        (keeps x.device mid (Allowed true) leave holds)
+        (keeps x.device mid (Allowed x.inner.moment true) leave holds)
 
     unmoved : x' ≡ x → Q x'.device
     unmoved is = same x.device x'.device (ap (λ (y : Sender D). y.device) is) holds

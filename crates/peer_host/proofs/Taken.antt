@@ -23,7 +23,8 @@ module _ {D : Type 0} (moves : D → Move → D → Type 0) (t : ℤ) (from : St
   further : (s s' : State D) → Reaches moves t from s → Step moves t s s' → Reaches moves t from s'
   further s s' so step = record { count = suc so.count; steps = (s, so.steps, step) }
 
-  reads : (s s' : State D) (frame : List ℕ) (mid : D) → moves s.device (Took frame) mid → is_read frame ≡ true → Reads moves frame (at_device s mid) s' →
+  reads : (s s' : State D) (frame : List ℕ) (mid : D) → moves s.device (Took s.host.inner.moment frame) mid → is_read frame ≡ true →
+      Reads moves frame (at_device s mid) s' →
       At s → HoldsAt W s'.places n
   reads s s' frame mid took read (content, is, receives) at =
       subst (λ (places : Places). HoldsAt W places n) (sym receives.2)

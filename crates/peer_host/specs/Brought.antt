@@ -34,7 +34,7 @@ module _ {D : Type 0} (moves : D → Move → D → Type 0) (moment : ℤ) (from
     pub reached : Reaches moves moment from host
     pub frame : List ℕ
     pub after : D
-    pub took : moves host.device (Took frame) after
+    pub took : moves host.device (Took host.host.inner.moment frame) after
     pub content : Option IncomingValue
     pub reads : IsContent host.host.inner.hardware host.host.inner.checksums frame content
     pub brings : IsPacket (whole_in host content) ip payload

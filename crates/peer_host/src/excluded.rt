@@ -31,14 +31,14 @@ pub fn bad_streams_are_excluded<D: Device>()
     ensures for_another { (t : ℤ) (s : State D) (v : TcpValue) (cx : ContextValue) (ip : IpRepr) (header : TcpHeader) (bytes : List ℕ)
         → accepts v.block ip header ≡ false → IsOfPoll D.moves t s v (Comes cx ip header bytes) → ⊥ }
     ensures no_frame { (t : ℤ) (s : State D) (ip : IpRepr) (header : TcpHeader) (bytes : List ℕ)
-        → ((d d' : D) (frame : List ℕ) → D.moves d (Took frame) d' → ⊥) → SegmentCame D.moves t s ip header bytes → ⊥ }
+        → ((at : ℤ) (d d' : D) (frame : List ℕ) → D.moves d (Took at frame) d' → ⊥) → SegmentCame D.moves t s ip header bytes → ⊥ }
 {}
 
 /// No datagram is read that came in no frame, to another port, from another one, with a checksum that doesn't hold where the host tests
 /// it, or with other bytes; and no poll loses one that waits, or puts another before it.
 pub fn bad_datagrams_are_excluded<D: Device>()
     ensures no_frame { (t : ℤ) (s : State D) (port : ℕ) (d : UdpMetadata × List ℕ)
-        → ((d d' : D) (frame : List ℕ) → D.moves d (Took frame) d' → ⊥) → WasReceived D.moves t s port d → ⊥ }
+        → ((at : ℤ) (d d' : D) (frame : List ℕ) → D.moves d (Took at frame) d' → ⊥) → WasReceived D.moves t s port d → ⊥ }
     ensures other_port { (t : ℤ) (s : State D) (port : ℕ) (d : UdpMetadata × List ℕ) (w : WasReceived D.moves t s port d)
         → w.udp.dst_port ≢ port → ⊥ }
     ensures other_sender { (t : ℤ) (s : State D) (port : ℕ) (d : UdpMetadata × List ℕ) (w : WasReceived D.moves t s port d)

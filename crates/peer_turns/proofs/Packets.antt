@@ -22,9 +22,9 @@ waits_on : (packet : List ℕ) (d d' : DrainValue) → d'.waiting ≡ d.waiting 
 waits_on packet d d' same holds frame some = holds frame (sym same ∙ some)
 
 moves_keep : (packet : List ℕ) (d d' : DrainValue) (m : Move) → DrainMove d m d' → IsOf packet d → IsOf packet d'
-moves_keep packet d d' (Took taken) is holds = none_waits packet d' (ap (λ (x : DrainValue). x.waiting) is.2)
-moves_keep packet d d' Empty is holds = waits_on packet d d' (ap (λ (x : DrainValue). x.waiting) is.0) holds
-moves_keep packet d d' (Allowed leave) is holds = waits_on packet d d' (ap (λ (x : DrainValue). x.waiting) is.0) holds
+moves_keep packet d d' (Took t taken) is holds = none_waits packet d' (ap (λ (x : DrainValue). x.waiting) is.2)
+moves_keep packet d d' (Empty t) is holds = waits_on packet d d' (ap (λ (x : DrainValue). x.waiting) is.0) holds
+moves_keep packet d d' (Allowed t leave) is holds = waits_on packet d d' (ap (λ (x : DrainValue). x.waiting) is.0) holds
 moves_keep packet d d' (Emitted sent) is holds = waits_on packet d d' (ap (λ (x : DrainValue). x.waiting) is) holds
 moves_keep packet d d' (Denied len) is holds = waits_on packet d d' (ap (λ (x : DrainValue). x.waiting) is) holds
 

@@ -132,6 +132,10 @@ timed_out r flight =
       cubic = if r.timed_out then r.cubic else timeout_at r.cubic r.cwnd;
     }
 
+-- a loss that wasn't one is undone: the window is what it was before it (RFC 4015, 3.2)
+abbrev pub restored : RenoValue → RenoValue → RenoValue
+restored r prior = record r { cwnd = prior.cwnd; ssthresh = prior.ssthresh; recovers = false; timed_out = false; cubic = prior.cubic }
+
 -- A RUN WITH CUBIC
 
 -- a window of a hundred segments at the threshold

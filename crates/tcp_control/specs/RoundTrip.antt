@@ -25,7 +25,7 @@ most_timeout = 60_000
 
 -- The estimates lie below 2^52, the timeout isn't below the least that is set, and the segment that is timed was sent at a moment.
 pub record IsTimed (r : RoundTripValue) : Type 0 where
-  pub estimate : IfSome r.estimate (λ e. (e.smoothed < 2 ^ 52) × (e.variation < 2 ^ 52))
+  pub estimate : IfSome r.estimate (λ e. (e.smoothed < 2 ^ 52) × ((e.variation < 2 ^ 52) × (e.shortest < 2 ^ 52)))
   pub least : shortest_timeout ≤ r.least
   pub timeout : (r.least ≤ r.timeout) × (r.timeout ≤ most_timeout)
   pub sample : IfSome r.sample (λ s. IsMoment s.since)
@@ -45,13 +45,14 @@ with_least duration r = record r { least = least_of duration; timeout = max (lea
 abbrev pub distance : ℕ → ℕ → ℕ
 distance a b = (a - b) + (b - a)
 
--- SRTT and RTTVAR after a round trip of so many milliseconds (2.2 and 2.3)
+-- SRTT and RTTVAR after a round trip of so many milliseconds (2.2 and 2.3), and the shortest one
 abbrev pub smoothed : Option Estimate → ℕ → Estimate
-smoothed None millis = record { smoothed = millis; variation = millis / 2 }
+smoothed None millis = record { smoothed = millis; variation = millis / 2; shortest = millis }
 smoothed (Some e) millis =
     record {
       smoothed = (7 * e.smoothed + millis) / 8;
       variation = (3 * e.variation + distance e.smoothed millis) / 4;
+      shortest = min e.shortest millis;
     }
 
 -- SRTT, 0 where no round trip is known
@@ -119,6 +120,14 @@ begun_late r = record r { timeout = if is_none r.estimate then max 3000 r.least 
 -- the timer ran out: the timeout is doubled (5.5)
 abbrev pub backed_off : RoundTripValue → RoundTripValue
 backed_off r = record r { timeout = min most_timeout (2 * r.timeout) }
+
+-- the shortest round trip that was measured, 0 where none was
+abbrev pub shortest_by : Option Estimate → ℕ
+shortest_by None = 0
+shortest_by (Some e) = e.shortest
+
+abbrev pub shortest : RoundTripValue → ℕ
+shortest r = shortest_by r.estimate
 
 -- LOSS PROBES
 

@@ -8,9 +8,9 @@ use Rattle.tcp_control.specs.declared.scoreboard.Run.{Run}
 abbrev pub no_run : Run
 no_run = record { start = 0; end = 0 }
 
--- there is room for sixteen
+-- there is room for thirty-two
 abbrev pub no_runs : List Run
-no_runs = replicate 16 no_run
+no_runs = replicate 32 no_run
 
 -- it has a position
 abbrev pub is_run : Run → Bool

@@ -3,7 +3,7 @@
 ghost use Rattle.std.specs.Prelude.{◌≡◌, ◌≤◌, ◌<◌, ◌^◌, ◌*◌, ◌/◌, ◌+◌, ℕ, ℤ, pos, min, max, nat_lt, true, false, Option, Some, None};
 ghost use Rattle.net_base.specs.Time.{IsMoment};
 ghost use Rattle.tcp_control.specs.Reno.{RenoValue, IsBounded, fresh, fresh_with, with_mss, first_window, started, growth, lowered, acknowledged, partly};
-ghost use Rattle.tcp_control.specs.Reno.{recovered, lost, reduced, inflated, timed_out, most, counted, widened, loss_at, timeout_at};
+ghost use Rattle.tcp_control.specs.Reno.{recovered, restored, lost, reduced, inflated, timed_out, most, counted, widened, loss_at, timeout_at};
 ghost use Rattle.tcp_control.specs.Reno.{hundred_segments, after_loss, in_stage};
 ghost use Rattle.tcp_control.specs.Cubic as cubic;
 ghost use Rattle.tcp_control.specs.Cubic.{CubicValue};
@@ -116,6 +116,13 @@ impl Reno {
         self.recovers
     }
 
+    /// Whether the retransmission timer ran out, and nothing new was acknowledged since.
+    pub const fn has_timed_out(&self) -> bool
+        ensures { result ≡ self.now.timed_out }
+    {
+        self.timed_out
+    }
+
     /// The largest payload of a segment.
     pub const fn mss(&self) -> u16
         ensures { result ≡ self.now.mss }
@@ -224,6 +231,17 @@ impl Reno {
         if self.recovers {
             self.cwnd = (self.cwnd + self.mss as u32).min(MOST);
         }
+    }
+
+    /// A loss that wasn't one is undone: the window is what it was before.
+    pub fn restore(&mut self, prior: &Reno)
+        ensures { self.new ≡ restored self.old prior.now }
+    {
+        self.cwnd = prior.cwnd;
+        self.ssthresh = prior.ssthresh;
+        self.recovers = false;
+        self.timed_out = false;
+        self.cubic = prior.cubic;
     }
 
     /// The retransmission timer ran out while so much was in flight.

@@ -2,16 +2,17 @@
 ghost use Rattle.std.specs.Prelude.{◌≡◌, ◌<◌, ◌≤◌, ◌^◌, ◌*◌, pos, Some};
 ghost use Rattle.net_base.specs.Time.{IsMoment};
 ghost use Rattle.tcp_control.specs.RoundTrip.{IsTimed, shortest_timeout, most_timeout, fresh, least_of, probe_wait, with_least, smoothed, timeout_of};
-ghost use Rattle.tcp_control.specs.RoundTrip.{srtt, measured, millis_between, advanced, is_reached, echoed, timing, untimed, begun_late, backed_off};
+ghost use Rattle.tcp_control.specs.RoundTrip.{srtt, shortest, measured, millis_between, advanced, is_reached, echoed, timing, untimed, begun_late, backed_off};
 
 use net_base::{Duration, Instant};
 use std::marker::Model;
 
-/// The smoothed round trip and its variation, in milliseconds.
+/// The smoothed round trip, its variation and the shortest one, in milliseconds.
 #[derive(Clone, Copy, Debug, PartialEq, Eq)]
 pub struct Estimate {
     pub smoothed: u64,
     pub variation: u64,
+    pub shortest: u64,
 }
 
 /// The segment that is timed: how far past SND.UNA it ends, and when it was sent.
@@ -98,6 +99,17 @@ impl RoundTrip {
         match self.estimate {
             None => 0,
             Some(estimate) => estimate.smoothed,
+        }
+    }
+
+    /// The shortest round trip that was measured, in milliseconds, 0 where none was.
+    pub fn shortest(&self) -> u64
+        ensures value { result ≡ shortest self.now }
+        ensures small { result < 2 ^ 52 }
+    {
+        match self.estimate {
+            None => 0,
+            Some(estimate) => estimate.shortest,
         }
     }
 
@@ -203,10 +215,12 @@ impl RoundTrip {
             None => Estimate {
                 smoothed: millis,
                 variation: millis / 2,
+                shortest: millis,
             },
             Some(old) => Estimate {
                 smoothed: (7 * old.smoothed + millis) / 8,
                 variation: (3 * old.variation + old.smoothed.abs_diff(millis)) / 4,
+                shortest: old.shortest.min(millis),
             },
         };
         self.timeout = timeout_of(self.least, &estimate);
@@ -258,7 +272,7 @@ pub fn timeouts()
     ensures last { (backed_off (backed_off (backed_off (backed_off (backed_off (backed_off fresh)))))).timeout ≡ 60_000 }
     ensures short { (measured fresh 100).timeout ≡ 1000 }
     ensures long { (measured fresh 801).timeout ≡ 2401 }
-    ensures second { measured (measured fresh 801) 700 ≡ record fresh { estimate = Some (record { smoothed = 788; variation = 325 }); timeout = 2088 } }
+    ensures second { measured (measured fresh 801) 700 ≡ record fresh { estimate = Some (record { smoothed = 788; variation = 325; shortest = 700 }); timeout = 2088 } }
     ensures whole { millis_between (pos 1_500) (pos 4_499) ≡ 2 }
     ensures timed { advanced (advanced (timing fresh 10 (pos 0)) 4 (pos 500_000)) 6 (pos 801_999) ≡ measured fresh 801 }
 {}
@@ -269,12 +283,12 @@ pub fn timeouts()
 pub fn least_timeouts()
     ensures first { (with_least 200_000 fresh).timeout ≡ 1000 }
     ensures one { measured (with_least 200_000 fresh) 100 ≡
-        record fresh { estimate = Some (record { smoothed = 100; variation = 50 }); timeout = 300; least = 200 } }
+        record fresh { estimate = Some (record { smoothed = 100; variation = 50; shortest = 100 }); timeout = 300; least = 200 } }
     ensures two { (measured (measured (with_least 200_000 fresh) 100) 100).timeout ≡ 300 }
     ensures moved { (measured (measured (with_least 200_000 fresh) 100) 300).timeout ≡ 473 }
     ensures short { (measured (with_least 200_000 fresh) 1).timeout ≡ 201 }
-    ensures steady { (timeout_of 10 (record { smoothed = 100; variation = 0 })) ≡ 110 }
-    ensures long { (timeout_of 1000 (record { smoothed = 1300; variation = 0 })) ≡ 1500 }
+    ensures steady { (timeout_of 10 (record { smoothed = 100; variation = 0; shortest = 100 })) ≡ 110 }
+    ensures long { (timeout_of 1000 (record { smoothed = 1300; variation = 0; shortest = 1300 })) ≡ 1500 }
     ensures doubled { (backed_off (measured (with_least 200_000 fresh) 100)).timeout ≡ 600 }
     ensures raised { (with_least 5_000_000 fresh).timeout ≡ 5000 }
     ensures late { (begun_late (with_least 200_000 fresh)).timeout ≡ 3000 }

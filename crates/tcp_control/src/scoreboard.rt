@@ -15,7 +15,7 @@ pub struct Run {
 /// What the remote holds past SND.UNA, in no order. What doesn't fit isn't noted.
 #[derive(Clone, Copy, Debug, PartialEq, Eq)]
 pub struct Scoreboard {
-    pub runs: [Run; 16],
+    pub runs: [Run; 32],
 }
 
 impl Run {
@@ -72,7 +72,7 @@ impl Run {
 impl Scoreboard {
     /// Nothing is held.
     pub const EMPTY: Scoreboard = Scoreboard {
-        runs: [Run::NONE; 16],
+        runs: [Run::NONE; 32],
     };
 
     /// The remote said that it holds this run, too.

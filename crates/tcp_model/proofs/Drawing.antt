@@ -1,5 +1,5 @@
 -- Drawn answers lie a second apart.
-use Rattle.std.proofs.Common.{◌≡◌, ℕ, ◌≤◌, ◌&&◌, ◌||◌, not, Bool, true, false, if◌then◌else◌, List, [], ◌∷◌, ◌++◌, length, nat_le, ◌==◌, Option, Some, None}
+use Rattle.std.proofs.Common.{◌≡◌, ℕ, ◌+◌, ◌≤◌, ◌&&◌, ◌||◌, not, Bool, true, false, if◌then◌else◌, List, [], ◌∷◌, ◌++◌, length, nat_le, ◌==◌, Option, Some, None}
 use Rattle.std.proofs.Common.{is_some, ℤ, pos, ◌+ℤ◌, ◌≤ℤ◌, int_le, refl, sym, ap, ◌∙◌, subst, arith}
 use Rattle.std.proofs.lemmas.Bool.{cond_both}
 use Rattle.std.proofs.lemmas.Bool.Decides.{nat_tests}
@@ -21,16 +21,16 @@ use Rattle.tcp_control.specs.declared.state.State.TheVariants as In
 use Rattle.tcp_model.specs.Acknowledged.{acknowledged, block_acknowledged, acks_fin, in_state, una_moved, state_after_ack, ended_if, names_window, windowed}
 use Rattle.tcp_model.specs.Acknowledged.{duplicates_after}
 use Rattle.tcp_model.specs.Answers.{may_draw, with_draw, drawn, acked, answer_for}
-use Rattle.tcp_model.specs.Arrival.{arrives, arrives_in, is_void_syn, outside, tells_news, passed_outside, waiting_anew, inside, taken, told, with_content}
+use Rattle.tcp_model.specs.Arrival.{arrives, arrives_in, is_void_syn, outside, tells_news, has_length, comes_again, passed_outside, waiting_anew, inside, taken, told, with_content}
 use Rattle.tcp_model.specs.Arrival.{continued, finished, checked, reset_comes, echo_heard, takes_reset, challenges_reset, draws_first}
 use Rattle.tcp_model.specs.Calls.{listening, send_after, close_after}
-use Rattle.tcp_model.specs.Checks.{Check, acknowledgement_check, is_in_window, falls_back, taken_down}
+use Rattle.tcp_model.specs.Checks.{Check, acknowledgement_check, is_in_window, lies_before, falls_back, taken_down}
 use Rattle.tcp_model.specs.Checks.Check.{Passes, Old, Drops, Draws, Resets}
 use Rattle.tcp_model.specs.LossRecovery.{loss_probe_moment, loss_probed, loss_probed_by}
 use Rattle.tcp_model.specs.Offers.{silent, offer_of, offer_with, offer_between, offer_reset, first_rules, last_rules, backed_off, offer_syn, offer_choice}
 use Rattle.tcp_model.specs.Offers.{offer_ack, offer_keep_alive, offer_held_back}
 use Rattle.tcp_model.specs.Opening.{opens, takes_answer, is_first_syn, acks_syn, connected, crossed}
-use Rattle.tcp_model.specs.Pauses.{Happening, Lasts, IsOneConnection, AreApart, after, drawn_moments, is_drawing, draws_in, draws_any, draws_by, pause_of}
+use Rattle.tcp_model.specs.Pauses.{Happening, Lasts, IsOneConnection, AreApart, after, drawn_moments, is_drawing, draws_in, draws_any, draws_by, pause_of, IsAnsweredAtOnce}
 use Rattle.tcp_model.specs.Pauses.Happening.{Comes, Asked, Called}
 use Rattle.tcp_model.specs.Probing.{probe_moment, probe_started}
 use Rattle.tcp_model.specs.Retries.{heard, asked, gives_up, given_up}
@@ -42,6 +42,7 @@ use Rattle.tcp_model.specs.Text.{Texted, texted, with_text, with_text_at, with_b
 use Rattle.tcp_model.specs.Text.{fin_taken}
 use Rattle.tcp_model.specs.Timeout.{timeout_end, timeout_started, timed_out}
 use Rattle.tcp_model.specs.Timestamps.{stamp_taken, echo_taken}
+use Rattle.tcp_model.specs.Undone.{undone}
 use Rattle.tcp_model.specs.Value.{TcpValue, Arrived, with_block, dropped, answered_with, unoffered, ended, queued_in, free_in, room_of}
 use Rattle.tcp_model.specs.declared.block.Block.{Block}
 
@@ -163,7 +164,7 @@ text_pause v place bytes =
     Kept t = pause_of t.socket ≡ pause_of v
 
     held : Kept (held_early v place (laid v place bytes))
-    held = cond_both (nat_le (length (runs_of (laid v place bytes))) 16) _ (texted v 0 false None) Kept (λ _. refl) (λ _. refl)
+    held = cond_both (nat_le (length (runs_of (laid v place bytes))) 32) _ (texted v 0 false None) Kept (λ _. refl) (λ _. refl)
 
 answer_pause : (cx : ContextValue) (v : TcpValue) (ip : IpRepr) (header : TcpHeader) (size : ℕ) (fills : Bool) (early : Option ℕ) →
     Keeps (pause_of v) (answer_for cx v ip header size fills early)
@@ -191,7 +192,8 @@ echo_ends : (v : TcpValue) (header : TcpHeader) (by : ℕ) (now : ℤ)
     → (acknowledged (echo_heard v header by now) by now).block.state ≡ (block_acknowledged v.block by (queued_in v) now).state
 echo_ends v header by now = either (is_closed (state_after_ack v.block by (queued_in v))) where
   either : (ends : Bool)
-      → (ended_if ends (in_state (una_moved (echo_taken v.block header by now) by (queued_in v) now) (state_after_ack v.block by (queued_in v)) now)).state
+      → (ended_if ends (in_state (una_moved (echo_taken (undone v.block header by (queued_in v) now) header by now) by (queued_in v) now)
+      (state_after_ack v.block by (queued_in v)) now)).state
       ≡ (ended_if ends (in_state (una_moved v.block by (queued_in v) now) (state_after_ack v.block by (queued_in v)) now)).state
   either true = refl
   either false = refl
@@ -251,26 +253,36 @@ module _ (cx : ContextValue) (v : TcpValue) (ip : IpRepr) (header : TcpHeader) (
     other true = drawn_moves cx v v ip header refl
     other false = undrawn cx v (taken cx v ip header bytes by) (taken_pause cx v ip header bytes by)
 
-  outside_moves : (w : TcpValue) → pause_of w ≡ pause_of v → Moves cx v (not (is_closed w.block.state)) (outside cx w ip header)
-  outside_moves w same = by (is_closed w.block.state) where
-    by : (closed : Bool) → Moves cx v (not closed) (if closed then dropped w else drawn cx (waiting_anew w header cx.moment) ip header)
-    by true = undrawn cx v (dropped w) same
-    by false = drawn_moves cx v (waiting_anew w header cx.moment) ip header same
+  outside_moves : (w : TcpValue) (again : Bool) → pause_of w ≡ pause_of v
+      → Moves cx v (not again && not (is_closed w.block.state)) (outside cx w ip header again)
+  outside_moves w again same = by (is_closed w.block.state) again where
+    x : TcpValue
+    x = waiting_anew w header cx.moment
+
+    by : (closed again : Bool)
+        → Moves cx v (not again && not closed) (if closed then dropped w else if again then acked cx x ip header no_ranges else drawn cx x ip header)
+    by true true = undrawn cx v (dropped w) same
+    by true false = undrawn cx v (dropped w) same
+    by false true = undrawn cx v (acked cx x ip header no_ranges) same
+    by false false = drawn_moves cx v x ip header same
 
   -- whether a segment outside the window draws an answer
   abbrev Draws_outside : ℕ → Bool → Bool
   Draws_outside by tells =
-      if tells then not (is_closed (block_acknowledged v.block by (queued_in v) cx.moment).state) else not (is_closed v.block.state)
+      if tells then not (has_length header (length bytes)) && not (is_closed (block_acknowledged v.block by (queued_in v) cx.moment).state)
+      else not (is_closed v.block.state)
 
   passed_outside_moves : (by : ℕ) (tells : Bool)
       → Moves cx v (Draws_outside by tells)
-      (if tells then outside cx (acknowledged (echo_heard v header by cx.moment) by cx.moment) ip header else outside cx v ip header)
+      (if tells then outside cx (acknowledged (echo_heard v header by cx.moment) by cx.moment) ip header (has_length header (length bytes))
+      else outside cx v ip header false)
   passed_outside_moves by true =
       let timed : TcpValue = echo_heard v header by cx.moment in
       let told_of : TcpValue = acknowledged timed by cx.moment in
-      subst (λ (state : State). Moves cx v (not (is_closed state)) (outside cx told_of ip header)) (echo_ends v header by cx.moment)
-      (outside_moves told_of (acknowledged_pause timed by cx.moment))
-  passed_outside_moves by false = outside_moves v refl
+      let again : Bool = has_length header (length bytes) in
+      subst (λ (state : State). Moves cx v (not again && not (is_closed state)) (outside cx told_of ip header again)) (echo_ends v header by cx.moment)
+      (outside_moves told_of again (acknowledged_pause timed by cx.moment))
+  passed_outside_moves by false = outside_moves v false refl
 
   passed_moves : (by : ℕ) (meets : Bool)
       → Moves cx v (if meets then is_syn header.control else Draws_outside by (tells_news v header (length bytes)))
@@ -278,11 +290,14 @@ module _ (cx : ContextValue) (v : TcpValue) (ip : IpRepr) (header : TcpHeader) (
   passed_moves by true = inside_moves by
   passed_moves by false = passed_outside_moves by (tells_news v header (length bytes))
 
+  abbrev Again : Bool
+  Again = comes_again v header (length bytes)
+
   old_moves : (meets : Bool)
-      → Moves cx v (not meets && not (is_closed v.block.state))
-      (if meets then with_content cx (with_block v (stamp_taken (heard v.block) header cx.moment)) ip header bytes else outside cx v ip header)
+      → Moves cx v (not meets && (not Again && not (is_closed v.block.state)))
+      (if meets then with_content cx (with_block v (stamp_taken (heard v.block) header cx.moment)) ip header bytes else outside cx v ip header Again)
   old_moves true = undrawn cx v _ (content_pause cx (with_block v (stamp_taken (heard v.block) header cx.moment)) ip header bytes)
-  old_moves false = outside_moves v refl
+  old_moves false = outside_moves v Again refl
 
   checked_moves : (check : Check) → Moves cx v (draws_by check cx v header (length bytes)) (checked check cx v ip header bytes)
   checked_moves (Passes by) = passed_moves by (is_in_window v.block (free_in v) header (length bytes))
@@ -395,7 +410,8 @@ acknowledged_open b by queued now takes =
 
 pub closed_draws : (cx : ContextValue) (v : TcpValue) (header : TcpHeader) (bytes : List ℕ) (by : ℕ) → takes_text v.block.state ≡ true → free_in v ≡ 0
     → 1 ≤ segment_len header (length bytes) → is_rst header.control ≡ false → is_void_syn header ≡ false
-    → acknowledgement_check v.block header.ack_number ≡ Passes by → is_drawing cx v header bytes ≡ true
+    → acknowledgement_check v.block header.ack_number ≡ Passes by
+    → is_drawing cx v header bytes ≡ (draws_first v.block header cx.moment || not (comes_again v header (length bytes)))
 closed_draws cx v header bytes by takes closed long no_reset sized passes =
     ap (λ (void : Bool). not void && draws_in v.block.state cx v header (length bytes)) sized ∙ (in_text v.block.state takes ∙ any)
   where
@@ -408,24 +424,102 @@ closed_draws cx v header bytes by takes closed long no_reset sized passes =
     out : is_in_window v.block (free_in v) header (length bytes) ≡ false
     out = ap (λ (space : ℕ). is_in_window v.block space header (length bytes)) closed ∙ nothing_meets v.block header (length bytes) long
 
-    either : (tells : Bool) →
-        (if tells then not (is_closed (block_acknowledged v.block by (queued_in v) cx.moment).state) else not (is_closed v.block.state)) ≡ true
-    either true = ap not (acknowledged_open v.block by (queued_in v) cx.moment takes)
-    either false = ap not (is_open v.block.state takes)
+    ends : Bool
+    ends = is_closed (block_acknowledged v.block by (queued_in v) cx.moment).state
 
-    passed : draws_by (acknowledgement_check v.block header.ack_number) cx v header (length bytes) ≡ true
+    either : (tells has : Bool) → (if tells then not has && not ends else not (is_closed v.block.state)) ≡ not (tells && has)
+    either true true = refl
+    either true false = ap not (acknowledged_open v.block by (queued_in v) cx.moment takes)
+    either false has = ap not (is_open v.block.state takes)
+
+    passed : draws_by (acknowledgement_check v.block header.ack_number) cx v header (length bytes) ≡ not (comes_again v header (length bytes))
     passed =
         ap (λ (check : Check). draws_by check cx v header (length bytes)) passes
-        ∙ (if_not (is_in_window v.block (free_in v) header (length bytes)) (is_syn header.control) _ out ∙ either (tells_news v header (length bytes)))
+        ∙ (if_not (is_in_window v.block (free_in v) header (length bytes)) (is_syn header.control) _ out
+        ∙ either (tells_news v header (length bytes)) (has_length header (length bytes)))
 
-    so : (syn t : Bool) → t ≡ true → (if syn then true else t) ≡ true
-    so true t e = refl
-    so false t e = e
+    so : (first t n : Bool) → t ≡ n → (if first then true else t) ≡ (first || n)
+    so true t n e = refl
+    so false t n e = e
 
-    any : draws_any cx v header (length bytes) ≡ true
+    any : draws_any cx v header (length bytes) ≡ (draws_first v.block header cx.moment || not (comes_again v header (length bytes)))
     any =
         if_not (is_rst header.control) (not (takes_reset v.block header) && challenges_reset v header (length bytes)) _ no_reset
-        ∙ so (draws_first v.block header cx.moment) _ passed
+        ∙ so (draws_first v.block header cx.moment) _ _ passed
+
+-- WHAT COMES AGAIN
+
+-- it doesn't meet the window
+before_meets_not : (before past len space room : ℕ) → (not (before == 0) && (nat_le len before && nat_le before room)) ≡ true
+    → meets_window before past len space ≡ false
+before_meets_not before past len space room e = grind (arith, nat_tests, e)
+
+and_left : (a b : Bool) → (a && b) ≡ true → a ≡ true
+and_left true b e = refl
+and_left false b e = absurd (cc)
+
+and_right : (a b : Bool) → (a && b) ≡ true → b ≡ true
+and_right true b e = e
+and_right false b e = absurd (cc)
+
+module _ (cx : ContextValue) (v : TcpValue) (header : TcpHeader) (bytes : List ℕ) (again : comes_again v header (length bytes) ≡ true) where
+  tells : tells_news v header (length bytes) ≡ true
+  tells = and_left (tells_news v header (length bytes)) (has_length header (length bytes)) again
+
+  has : has_length header (length bytes) ≡ true
+  has = and_right (tells_news v header (length bytes)) (has_length header (length bytes)) again
+
+  again_outside : is_in_window v.block (free_in v) header (length bytes) ≡ false
+  again_outside =
+      before_meets_not (before_by v.block.receiver.next header.seq_number) (past_by v.block.receiver.next header.seq_number)
+      (segment_len header (length bytes)) (free_in v) (room_of v.received + 2)
+      (and_right (not (is_answering v.block.state)) (lies_before v.block (room_of v.received) header (length bytes)) tells)
+
+  -- at once, outside the window
+  at_once : (w : TcpValue) (ip : IpRepr) → pause_of w ≡ pause_of v → is_closed w.block.state ≡ false
+      → IsAnsweredAtOnce v (outside cx w ip header true)
+  at_once w ip same open_yet =
+      cond_both (is_closed w.block.state) (dropped w) (acked cx (waiting_anew w header cx.moment) ip header no_ranges) (IsAnsweredAtOnce v)
+      (λ closed. absurd (let clash : true ≡ false = sym closed ∙ open_yet in cc))
+      (λ _. (refl, same))
+
+  pub again_passes : (ip : IpRepr) (by : ℕ) → is_closed (block_acknowledged v.block by (queued_in v) cx.moment).state ≡ false
+      → IsAnsweredAtOnce v (checked (Passes by) cx v ip header bytes)
+  again_passes ip by open_yet =
+      let timed : TcpValue = echo_heard v header by cx.moment in
+      let w : TcpValue = acknowledged timed by cx.moment in
+      subst (IsAnsweredAtOnce v)
+      (sym (if_not (is_in_window v.block (free_in v) header (length bytes)) (inside cx v ip header bytes by) (passed_outside cx v ip header (length bytes) by)
+      again_outside
+      ∙ (if_so (tells_news v header (length bytes)) (outside cx w ip header (has_length header (length bytes))) (outside cx v ip header false) tells
+      ∙ ap (outside cx w ip header) has)))
+      (at_once w ip (acknowledged_pause timed by cx.moment) (ap is_closed (echo_ends v header by cx.moment) ∙ open_yet))
+
+  pub again_old : (ip : IpRepr) → is_closed v.block.state ≡ false → IsAnsweredAtOnce v (checked Old cx v ip header bytes)
+  again_old ip open_yet =
+      subst (IsAnsweredAtOnce v)
+      (sym (if_not (is_in_window v.block (free_in v) header (length bytes)) _ (outside cx v ip header (comes_again v header (length bytes))) again_outside
+      ∙ ap (outside cx v ip header) again))
+      (at_once v ip refl open_yet)
+
+  undrawn_if : (meets tells_of has_of syn ends closed : Bool) → meets ≡ false → tells_of ≡ true → has_of ≡ true
+      → (if meets then syn else if tells_of then not has_of && not ends else not closed) ≡ false
+  undrawn_if false true true syn ends closed e f g = refl
+  undrawn_if true tells_of has_of syn ends closed e f g = absurd (cc)
+  undrawn_if false false has_of syn ends closed e f g = absurd (cc)
+  undrawn_if false true false syn ends closed e f g = absurd (cc)
+
+  undrawn_old : (meets both closed : Bool) → both ≡ true → (not meets && (not both && not closed)) ≡ false
+  undrawn_old true both closed e = refl
+  undrawn_old false true closed e = refl
+  undrawn_old false false closed e = absurd (cc)
+
+  pub again_undrawn : (by : ℕ) → (draws_by (Passes by) cx v header (length bytes) ≡ false) × (draws_by Old cx v header (length bytes) ≡ false)
+  again_undrawn by = (
+    undrawn_if (is_in_window v.block (free_in v) header (length bytes)) (tells_news v header (length bytes)) (has_length header (length bytes))
+        (is_syn header.control) (is_closed (block_acknowledged v.block by (queued_in v) cx.moment).state) (is_closed v.block.state) again_outside tells has,
+    undrawn_old (is_in_window v.block (free_in v) header (length bytes)) (comes_again v header (length bytes)) (is_closed v.block.state) again,
+  )
 
 -- RUNS
 

@@ -7,3 +7,4 @@ pub mod Idle
 pub mod Resets
 pub mod Drawing
 pub mod Holes
+pub mod Undone

@@ -21,6 +21,7 @@ use Rattle.tcp_control.specs.RoundTrip.{RoundTripValue, srtt}
 use Rattle.tcp_control.specs.States.{is_closed, is_time_wait, owes_fin, after_ack, after_ack_of_fin}
 use Rattle.tcp_model.specs.LossRecovery.{loss_acked, ranges_noted, is_first_lost, is_lost_again, is_lost_at}
 use Rattle.tcp_model.specs.Timestamps.{stamp_taken}
+use Rattle.tcp_model.specs.Undo.{undo_begun}
 use Rattle.tcp_model.specs.Value.{TcpValue, queued_in}
 
 -- how many bytes of the send queue are acknowledged
@@ -248,6 +249,9 @@ counted b count = record b {
     recover = if begins_recovery b count then past_top b else b.sender.recover;
     partial = b.sender.partial && not (begins_recovery b count);
   };
-  loss = record b.loss { resent = if starts_again b count then 0 else b.loss.resent };
+  loss = record b.loss {
+    resent = if starts_again b count then 0 else b.loss.resent;
+    undo = if begins_recovery b count then undo_begun b else b.loss.undo;
+  };
   reno = reno_counted b.reno b.peer.sack count b.sender.in_flight (begins_recovery b count) (is_lost_again b);
 }

@@ -1,5 +1,5 @@
 -- A segment comes (RFC 9293, 3.10.7).
-use Rattle.std.specs.Prelude.{ℕ, ◌==◌, not, ◌&&◌, ◌||◌, ℤ, Bool, if◌then◌else◌, List, length, Option, Some}
+use Rattle.std.specs.Prelude.{ℕ, ◌==◌, not, ◌&&◌, ◌||◌, ℤ, Bool, false, if◌then◌else◌, List, length, Option, Some}
 use Rattle.ip_wire.specs.IpRepr.{IpRepr}
 use Rattle.ip_wire.specs.TcpHeader.{TcpHeader}
 use Rattle.tcp_control.specs.Context.{ContextValue}
@@ -7,7 +7,7 @@ use Rattle.tcp_model.specs.declared.block.Block.{Block}
 use Rattle.tcp_control.specs.declared.state.State.{State}
 use Rattle.tcp_control.specs.declared.state.State.TheVariants as In
 use Rattle.tcp_model.specs.Acknowledged.{acknowledged, window_set, ranges_taken, counted, duplicates_after}
-use Rattle.tcp_model.specs.Answers.{drawn, answer_for}
+use Rattle.tcp_model.specs.Answers.{acked, drawn, answer_for}
 use Rattle.tcp_model.specs.Checks.{Check, acknowledgement_check, is_in_window, lies_before, taken_down}
 use Rattle.tcp_model.specs.Checks.Check.{Passes, Old, Drops, Draws, Resets}
 use Rattle.tcp_control.specs.Controls.{is_syn, is_fin, is_rst, is_zero}
@@ -15,11 +15,12 @@ use Rattle.tcp_control.specs.Moments.{time_wait_from}
 use Rattle.tcp_model.specs.Opening.{opens, takes_answer}
 use Rattle.tcp_model.specs.Probing.{probe_kept}
 use Rattle.tcp_model.specs.Retries.{heard}
-use Rattle.tcp_model.specs.Segments.{rst_reply}
+use Rattle.tcp_model.specs.Segments.{no_ranges, segment_len, rst_reply}
 use Rattle.tcp_control.specs.States.{is_closed, is_answering, is_time_wait}
 use Rattle.tcp_model.specs.Text.{Texted, with_text, with_fin}
 use Rattle.tcp_model.specs.Timeout.{timeout_restarted}
 use Rattle.tcp_model.specs.Timestamps.{stamp_taken, echo_taken, is_stale}
+use Rattle.tcp_model.specs.Undone.{undone}
 use Rattle.tcp_model.specs.Value.{TcpValue, Arrived, with_block, dropped, answered_with, unoffered, queued_in, free_in, room_of}
 
 -- a FIN that comes again in TIME-WAIT restarts it
@@ -31,25 +32,35 @@ abbrev pub waiting_anew : TcpValue → TcpHeader → ℤ → TcpValue
 waiting_anew v header now =
     with_block v (record v.block { timers = record v.block.timers { time_wait_ends = time_wait_after v.block header now } })
 
--- outside the window: an answer may be drawn
-abbrev pub outside : ContextValue → TcpValue → IpRepr → TcpHeader → Arrived
-outside cx v ip header =
-    if is_closed v.block.state then dropped v else drawn cx (waiting_anew v header cx.moment) ip header
+-- Outside the window: an answer may be drawn. What comes again is answered at once, since its acknowledgement may be lost (3.10.7.4); the
+-- pause is for challenges (RFC 5961, 7).
+abbrev pub outside : ContextValue → TcpValue → IpRepr → TcpHeader → Bool → Arrived
+outside cx v ip header again =
+    if is_closed v.block.state then dropped v
+    else if again then acked cx (waiting_anew v header cx.moment) ip header no_ranges
+    else drawn cx (waiting_anew v header cx.moment) ip header
 
 -- a segment whose text is old, past SYN-RECEIVED: its acknowledgement may be new
 abbrev pub tells_news : TcpValue → TcpHeader → ℕ → Bool
 tells_news v header size = not (is_answering v.block.state) && lies_before v.block (room_of v.received) header size
 
--- the round trip that the echo of a segment tells of
+-- it has text or a FIN (a SYN is challenged before)
+abbrev pub has_length : TcpHeader → ℕ → Bool
+has_length header size = not (segment_len header size == 0)
+
+abbrev pub comes_again : TcpValue → TcpHeader → ℕ → Bool
+comes_again v header size = tells_news v header size && has_length header size
+
+-- The round trip that the echo of a segment tells of. Where it says that nothing was lost, that is undone first.
 abbrev pub echo_heard : TcpValue → TcpHeader → ℕ → ℤ → TcpValue
-echo_heard v header by now = with_block v (echo_taken v.block header by now)
+echo_heard v header by now = with_block v (echo_taken (undone v.block header by (queued_in v) now) header by now)
 
 -- Outside the window, with an acknowledgement that passes. The acknowledgement of a segment that lies just before the window is taken,
 -- since the remote may have nothing else to say it in: all that it sends may be old here.
 abbrev pub passed_outside : ContextValue → TcpValue → IpRepr → TcpHeader → ℕ → ℕ → Arrived
 passed_outside cx v ip header size by =
-    if tells_news v header size then outside cx (acknowledged (echo_heard v header by cx.moment) by cx.moment) ip header
-    else outside cx v ip header
+    if tells_news v header size then outside cx (acknowledged (echo_heard v header by cx.moment) by cx.moment) ip header (has_length header size)
+    else outside cx v ip header false
 
 -- its text was taken: then its FIN is, and it may be answered. `old` is the block before the text.
 abbrev pub finished : ContextValue → Block → Texted → IpRepr → TcpHeader → ℕ → Arrived
@@ -89,7 +100,7 @@ checked (Passes by) cx v ip header bytes =
     else passed_outside cx v ip header (length bytes) by
 checked Old cx v ip header bytes =
     if is_in_window v.block (free_in v) header (length bytes) then with_content cx (with_block v (stamp_taken (heard v.block) header cx.moment)) ip header bytes
-    else outside cx v ip header
+    else outside cx v ip header (comes_again v header (length bytes))
 checked Drops cx v ip header bytes = dropped v
 checked Draws cx v ip header bytes = drawn cx v ip header
 checked Resets cx v ip header bytes = answered_with v (rst_reply ip header (length bytes))

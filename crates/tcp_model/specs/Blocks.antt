@@ -100,6 +100,7 @@ fresh_loss = record {
   probes = false;
   probed = false;
   probe_at = None;
+  undo = None;
 }
 
 -- Nothing is set: the delay of an acknowledgement is 10 milliseconds, a connection gives up after more than three minutes while it is

@@ -12,8 +12,10 @@ pub mod Calls
 pub mod Settings
 pub mod Opening
 pub mod Checks
+pub mod Undo
 pub mod LossRecovery
 pub mod Acknowledged
+pub mod Undone
 pub mod Text
 pub mod Answers
 pub mod Arrival

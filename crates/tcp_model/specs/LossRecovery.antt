@@ -11,6 +11,7 @@ use Rattle.tcp_control.specs.Scoreboard.{is_run, no_run, noted, after_ack, held,
 use Rattle.tcp_control.specs.States.{sends_text}
 use Rattle.tcp_control.specs.declared.scoreboard.Run.{Run}
 use Rattle.tcp_model.specs.Blocks.{fresh_loss, past_top}
+use Rattle.tcp_model.specs.Undo.{undo_begun}
 use Rattle.tcp_model.specs.declared.block.Block.{Block}
 use Rattle.tcp_model.specs.declared.block.Loss.{Loss}
 
@@ -136,6 +137,7 @@ loss_lowered l by partial = record l {
   eager = l.eager && partial;
   probes = false;
   probed = false;
+  undo = None;
 }
 
 -- `b` is the block as it is then, but for this
@@ -150,9 +152,9 @@ loss_resent b end = record b.loss {
   probes = false;
 }
 
--- the retransmission timer ran out: what is held stays known (RFC 6675, 5.1)
-abbrev pub loss_timed_out : Loss → Loss
-loss_timed_out l = record fresh_loss { board = l.board }
+-- the retransmission timer ran out: what is held stays known (RFC 6675, 5.1), and so does what the window was before
+abbrev pub loss_timed_out : Block → Loss
+loss_timed_out b = record fresh_loss { board = b.loss.board; undo = if b.sender.syn_unacked then None else undo_begun b }
 
 -- A probe is due. Where nothing is held, nor was lost, the last segment is to go again (RFC 8985, 7.3). Else what isn't held is lost, and
 -- what went again, too, since nothing came of it for two round trips: the segment at SND.UNA is to go again (RFC 8985, 6.2, step 5).
@@ -171,6 +173,7 @@ loss_probed b = record b {
     probes = probes_tail b;
     probed = true;
     probe_at = None;
+    undo = if not (probes_tail b) && (b.sender.recover == 0) then undo_begun b else b.loss.undo;
   };
   reno = if probes_tail b then b.reno else reno.reduced b.reno b.sender.in_flight;
 }

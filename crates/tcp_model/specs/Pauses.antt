@@ -8,21 +8,23 @@ use Rattle.tcp_control.specs.States.{is_closed, is_listening}
 use Rattle.tcp_control.specs.declared.state.State.{State}
 use Rattle.tcp_control.specs.declared.state.State.TheVariants as In
 use Rattle.tcp_model.specs.Acknowledged.{block_acknowledged}
-use Rattle.tcp_model.specs.Arrival.{arrives, is_void_syn, tells_news, takes_reset, challenges_reset, draws_first}
+use Rattle.tcp_model.specs.Arrival.{arrives, is_void_syn, tells_news, has_length, comes_again, takes_reset, challenges_reset, draws_first}
 use Rattle.tcp_model.specs.Checks.{Check, acknowledgement_check, is_in_window}
 use Rattle.tcp_model.specs.Checks.Check.{Passes, Old, Draws}
 use Rattle.tcp_model.specs.Offers.{offer_of}
 use Rattle.tcp_model.specs.Settled.{settled}
-use Rattle.tcp_model.specs.Value.{TcpValue, queued_in, free_in}
+use Rattle.tcp_model.specs.Value.{TcpValue, Arrived, queued_in, free_in}
 
--- A segment draws an answer where it acknowledges what may not be, and where it lies outside the window and its acknowledgement doesn't end
--- LAST-ACK (RFC 9293, 3.10.7.4, first and fifth).
+-- A segment draws an answer where it acknowledges what may not be, and where it lies outside the window, isn't one that comes again, and its
+-- acknowledgement doesn't end LAST-ACK (RFC 9293, 3.10.7.4, first and fifth).
 abbrev pub draws_by : Check → ContextValue → TcpValue → TcpHeader → ℕ → Bool
 draws_by (Passes by) cx v header size =
     if is_in_window v.block (free_in v) header size then is_syn header.control
-    else if tells_news v header size then not (is_closed (block_acknowledged v.block by (queued_in v) cx.moment).state)
+    else if tells_news v header size
+    then not (has_length header size) && not (is_closed (block_acknowledged v.block by (queued_in v) cx.moment).state)
     else not (is_closed v.block.state)
-draws_by Old cx v header size = not (is_in_window v.block (free_in v) header size) && not (is_closed v.block.state)
+draws_by Old cx v header size =
+    not (is_in_window v.block (free_in v) header size) && (not (comes_again v header size) && not (is_closed v.block.state))
 draws_by Draws cx v header size = true
 draws_by check cx v header size = false
 
@@ -46,6 +48,10 @@ is_drawing cx v header bytes = not (is_void_syn header) && draws_in v.block.stat
 -- before it no answer is drawn
 abbrev pub pause_of : TcpValue → Option ℤ
 pause_of v = v.block.timers.draws_from
+
+-- A segment that comes again is answered at once: it draws no answer, and begins no pause.
+abbrev pub IsAnsweredAtOnce : TcpValue → Arrived → Type 0
+IsAnsweredAtOnce v a = (is_some a.answer ≡ true) × (pause_of a.socket ≡ pause_of v)
 
 -- RUNS OF A SOCKET
 

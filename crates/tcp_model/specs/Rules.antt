@@ -175,6 +175,6 @@ backed_off_now b = record b {
   };
   timers = record b.timers { retransmit_at = None };
   round_trip = round_trip.untimed (round_trip.backed_off b.round_trip);
-  loss = loss_timed_out b.loss;
+  loss = loss_timed_out b;
   reno = if b.sender.syn_unacked then b.reno else reno.timed_out b.reno b.sender.in_flight;
 }

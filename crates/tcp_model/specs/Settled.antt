@@ -16,6 +16,7 @@ use Rattle.tcp_model.specs.Probing.{probe_kept}
 use Rattle.tcp_model.specs.Retries.{asked}
 use Rattle.tcp_control.specs.RoundTrip as round_trip
 use Rattle.tcp_model.specs.Timestamps.{stamps_begun}
+use Rattle.tcp_model.specs.Undo.{undo_sent}
 use Rattle.tcp_model.specs.Value.{TcpValue, with_block, unoffered, queued_in, room_of}
 
 -- The right edge of the window after a segment announced it, of a receive buffer with this capacity. A SYN's field isn't shifted and may not
@@ -62,9 +63,9 @@ timer_started b now =
       };
     }
 
--- a loss probe goes some time from now (RFC 8985, 7.2)
+-- a loss probe goes some time from now (RFC 8985, 7.2), and what goes again is known by its moment
 abbrev pub loss_watched : Block → ℤ → Block
-loss_watched b now = record b { loss = probe_armed b b.loss now }
+loss_watched b now = record b { loss = probe_armed b (record b.loss { undo = undo_sent b b.loss.undo now }) now }
 
 -- a segment from the send queue, or a SYN, went
 abbrev pub went : Block → OpenOffer → ℕ → Block

@@ -29,10 +29,10 @@ is_holding v = not (length (runs_of v.received.map) == 0)
 abbrev pub laid : TcpValue → ℕ → List ℕ → List (Option ℕ)
 laid v place bytes = store v.received.map place bytes
 
--- bytes that are held out of order; at most sixteen runs are
+-- bytes that are held out of order; at most thirty-two runs are
 abbrev pub held_early : TcpValue → ℕ → List (Option ℕ) → Texted
 held_early v place map =
-    if nat_le (length (runs_of map)) 16
+    if nat_le (length (runs_of map)) 32
     then texted (record v { received = received_of v.received.waiting map v.received.start }) 0 false (Some place)
     else texted v 0 false None
 

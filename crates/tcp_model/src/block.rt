@@ -143,6 +143,18 @@ pub struct Loss {
     pub probed: bool,
     /// When a probe goes, if nothing new is acknowledged.
     pub probe_at: Option<Instant>,
+    /// What the window was before this loss, until something new is acknowledged.
+    pub undo: Option<Undo>,
+}
+
+/// What is undone where a loss wasn't one (RFC 4015).
+#[derive(Clone, Copy, Debug, PartialEq, Eq)]
+pub struct Undo {
+    pub reno: Reno,
+    /// Before this moment no answer comes to what first went again.
+    pub until: Option<Instant>,
+    /// Its timestamp.
+    pub stamp: u32,
 }
 
 /// What the user set. A new connection keeps it.
@@ -199,9 +211,10 @@ mod settled;
 mod text;
 mod timeout;
 mod timestamps;
+mod undoing;
 
 pub use checks::Verdict;
-pub use opening::{is_first_syn, is_void_syn};
+pub use opening::{has_length, is_first_syn, is_void_syn};
 pub use rules::{PROBE, Part};
 pub use segments::{reply_to, rst_reply};
 pub use text::numbers_of;

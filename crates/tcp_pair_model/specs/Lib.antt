@@ -21,6 +21,7 @@ pub use Rattle.tcp_model.specs.Segments
 pub use Rattle.tcp_model.specs.Settled
 pub use Rattle.tcp_model.specs.Text
 pub use Rattle.tcp_model.specs.Timestamps
+pub use Rattle.tcp_model.specs.Undone
 pub use Rattle.tcp_model.specs.FirstNumbers
 pub use Rattle.tcp_model.specs.Value
 pub use Rattle.tcp_model.specs.declared.block.Block

@@ -15,7 +15,7 @@ use Rattle.tcp_rules.specs.State.TheVariants as In
 use Rattle.tcp_pair_model.specs.Acknowledged.{acknowledged, names_window, windowed, duplicates_after}
 use Rattle.tcp_pair_model.specs.Answers.{drawn, may_draw, with_draw, acked, answer_for}
 use Rattle.tcp_pair_model.specs.Arrival.{arrives, arrives_in, is_void_syn, received, reset_comes, challenges_syn, checked, inside, taken, told, with_content}
-use Rattle.tcp_pair_model.specs.Arrival.{passed_outside, outside, tells_news, waiting_anew}
+use Rattle.tcp_pair_model.specs.Arrival.{passed_outside, outside, tells_news, has_length, waiting_anew}
 use Rattle.tcp_pair_model.specs.Checks.{Check, acknowledgement_check, opening_check, synchronized_check, is_in_window, lies_before}
 use Rattle.tcp_pair_model.specs.Checks.Check.{Passes, Drops, Draws}
 use Rattle.tcp_pair_model.specs.Probing.{probe_kept}
@@ -137,7 +137,7 @@ module _ (cx : ContextValue) (ip : IpRepr) (header : TcpHeader) where
       (λ _.
       cond_both (place == 0) (taken_in_order v map) (held_early v place map) (Same v)
       (λ _. refl)
-      (λ _. cond_both (nat_le (length (runs_of map)) 16)
+      (λ _. cond_both (nat_le (length (runs_of map)) 32)
       (texted (record v { received = received_of v.received.waiting map v.received.start }) 0 false (Some place)) (texted v 0 false None) (Same v)
       (λ _. refl) (λ _. refl)))
       (λ _. refl)
@@ -191,13 +191,15 @@ module _ (cx : ContextValue) (u : TcpValue) (ip : IpRepr) (header : TcpHeader) (
       ap (λ (s : Sender). s.una) (content_keeps cx ip header (told w header (duplicates_after u.block header (length bytes) by) cx.moment) bytes)
       ∙ (told_keeps cx ip header w (duplicates_after u.block header (length bytes) by) cx.moment ∙ moves_una heard_of by cx.moment))
 
-  moved_outside : Moved (outside cx (acknowledged (echo_heard u header by cx.moment) by cx.moment) ip header)
-  moved_outside =
+  moved_outside : (again : Bool) → Moved (outside cx (acknowledged (echo_heard u header by cx.moment) by cx.moment) ip header again)
+  moved_outside again =
       let heard_of = echo_heard u header by cx.moment in
       let w = acknowledged heard_of by cx.moment in
-      cond_both (is_closed w.block.state) (dropped w) (drawn cx (waiting_anew w header cx.moment) ip header) Moved
+      let x = waiting_anew w header cx.moment in
+      cond_both (is_closed w.block.state) (dropped w) (if again then acked cx x ip header no_ranges else drawn cx x ip header) Moved
       (λ _. moves_una heard_of by cx.moment)
-      (λ _. ap (λ (s : Sender). s.una) (drawn_keeps cx ip header (waiting_anew w header cx.moment)) ∙ moves_una heard_of by cx.moment)
+      (λ _. cond_both again (acked cx x ip header no_ranges) (drawn cx x ip header) Moved (λ _. moves_una heard_of by cx.moment)
+      (λ _. ap (λ (s : Sender). s.una) (drawn_keeps cx ip header x) ∙ moves_una heard_of by cx.moment))
 
   moved_checked : is_syn header.control ≡ false → is_answering u.block.state ≡ false → IsNearWindow u header (length bytes) →
       Moved (checked (Passes by) cx u ip header bytes)
@@ -212,10 +214,13 @@ module _ (cx : ContextValue) (u : TcpValue) (ip : IpRepr) (header : TcpHeader) (
       before out (inl in_window) = clash (sym in_window ∙ out)
       before out (inr old) =
           subst Moved
-          (sym (if_so (tells_news u header (length bytes)) (outside cx (acknowledged (echo_heard u header by cx.moment) by cx.moment) ip header)
-          (outside cx u ip header)
+          (sym (if_so (tells_news u header (length bytes)) (outside cx (acknowledged (echo_heard u header by cx.moment) by cx.moment) ip header again)
+          (outside cx u ip header false)
           (ap (λ (t : Bool). not t && lies_before u.block (room_of u.received) header (length bytes)) past ∙ old)))
-          moved_outside
+          (moved_outside again)
+        where
+          again : Bool
+          again = has_length header (length bytes)
 
 pub una_rises :
     (cx : ContextValue) (v : TcpValue) (ip : IpRepr) (header : TcpHeader) (bytes : List ℕ) (number : SeqNumber) → Counts v.block header number

@@ -233,7 +233,7 @@ module _ (cx : ContextValue) (ip : IpRepr) (header : TcpHeader) (bytes : List �
   After a = EarlyBy a.socket × IsBareReply a.answer × CountedBy a.socket
 
   drawing : (x : TcpValue) → EarlyBy x → CountedBy x → Drawing cx ip header bytes After x
-  drawing x early counts = record { answers = λ _. (early, refl, counts); pauses = (early, tt, counts) }
+  drawing x early counts = record { answers = λ _. (early, refl, counts); at_once = (early, refl, counts); pauses = (early, tt, counts) }
 
   fin_counts : (x : TcpValue) → CountedBy x → takes_text x.block.state ≡ true → is_synchronized v.block.state ≡ true →
       (one_if x.block.sender.syn_unacked + queued_in x + one_if (owes_fin (after_fin x.block.state)) - x.block.sender.top ≡ unsent_in v) × (end_in x ≡ end_in v)

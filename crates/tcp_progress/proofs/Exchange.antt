@@ -35,7 +35,7 @@ use Rattle.tcp_tie.proofs.OfferLaws.{keeps_sent_offer}
 use Rattle.tcp_tie.proofs.PromiseLemmas.{keeps_turned, safe_sockets}
 use Rattle.tcp_rules.proofs.OrderSteps.{clash}
 use Rattle.tcp_progress.specs.Arrivals.{is_synchronized, Counts, IsNearWindow, IsNew, IsAgain, IsAnswered, EndsLastAck, Rises}
-use Rattle.tcp_progress.specs.Exchange.{IsOpen, TookWhatWasSent, HasSpace, text_of, GoesFromUna, offer_comes}
+use Rattle.tcp_progress.specs.Exchange.{FitsBuffer, IsOpen, TookWhatWasSent, HasSpace, text_of, GoesFromUna, offer_comes}
 use Rattle.tcp_progress.specs.Exchange.{MayExchange, MovesOn, left_of, IsTaken, IsTold, HasMoved}
 use Rattle.tcp_progress.specs.Positions.{LiesWithin}
 use Rattle.tcp_progress.proofs.Acked.{una_rises}
@@ -305,7 +305,7 @@ far_below : (by waiting written : ℕ) → by ≤ waiting + 1 → waiting ≤ wr
 far_below by waiting written a b c = omega arith
 
 module _ (cx cy cz : ContextValue) (v w : TcpValue) (p q : Past) (k : Keeps v p w q) (o : OpenOffer) (step : IsInStep k.side k.partner)
-    (took_theirs : TookWhatWasSent v w) (took_mine : TookWhatWasSent w v) (may : MayExchange cx cy v w o) where
+    (took_theirs : TookWhatWasSent v w) (fits : FitsBuffer v w) (took_mine : TookWhatWasSent w v) (may : MayExchange cx cy v w o) where
   abbrev bytes : List ℕ
   bytes = text_of v o
 
@@ -458,7 +458,7 @@ module _ (cx cy cz : ContextValue) (v w : TcpValue) (p q : Past) (k : Keeps v p 
   moved =
       by
       (new_or_again v w p q k o.segment (length bytes) may.own.synchronized may.theirs.synchronized step goes.number may.some goes.ends may.room
-      may.near)
+      fits)
     where
       answered : IsAgain w o.segment (length bytes) → EndsLastAck w came ⊎ IsAnswered w came → HasMoved cx cy cz v w o
       answered again (inl ends) = inr (inr ends)
@@ -466,9 +466,9 @@ module _ (cx cy cz : ContextValue) (v w : TcpValue) (p q : Past) (k : Keeps v p 
 
       by : IsNew w o.segment (length bytes) ⊎ IsAgain w o.segment (length bytes) → HasMoved cx cy cz v w o
       by (inl new) = inl (is_taken (next_rises cy w o.header o.segment bytes v.block.receiver.next counts new))
-      by (inr again) = answered again (again_answered cy w o.header o.segment bytes v.block.receiver.next counts again may.draws)
+      by (inr again) = answered again (again_answered cy w o.header o.segment bytes v.block.receiver.next counts again)
 
 pub goes_on :
     (cx cy cz : ContextValue) (v w : TcpValue) (p q : Past) (k : Keeps v p w q) (o : OpenOffer) → IsInStep k.side k.partner → TookWhatWasSent v w
-    → TookWhatWasSent w v → MayExchange cx cy v w o → HasMoved cx cy cz v w o
-goes_on cx cy cz v w p q k o step sent heard may = moved cx cy cz v w p q k o step sent heard may
+    → FitsBuffer v w → TookWhatWasSent w v → MayExchange cx cy v w o → HasMoved cx cy cz v w o
+goes_on cx cy cz v w p q k o step sent fits heard may = moved cx cy cz v w p q k o step sent fits heard may

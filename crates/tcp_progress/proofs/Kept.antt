@@ -1,5 +1,5 @@
 -- What events led to: a pair that keeps the invariant.
-use Rattle.std.proofs.Common.{List, [], ◌∷◌, refl, sym, subst}
+use Rattle.std.proofs.Common.{List, [], ◌∷◌, ◌++◌, refl, sym, subst}
 use Rattle.tcp_tie.specs.Tie.{Keeps}
 use Rattle.tcp_tie.proofs.PromiseLemmas.{keeps_turned}
 use Rattle.tcp_pair_model.specs.Safe.{IsKept}
@@ -10,6 +10,7 @@ use Rattle.tcp_pair_model.specs.Values.{PairValue, new_pair, past_at}
 use Rattle.tcp_pair_model.specs.declared.event.PairEvent.{PairEvent}
 use Rattle.tcp_pair_model.specs.declared.event.Side.{Side}
 use Rattle.tcp_pair_model.specs.declared.event.Side.TheVariants.{A, B}
+use Rattle.tcp_pair_model.proofs.OutcomeLaws.{goes_on as in_pieces}
 use Rattle.tcp_pair_model.proofs.PairLaws.{new_is_kept, kept_after}
 use Rattle.tcp_progress.specs.Pair.{socket_of}
 use Rattle.tcp_progress.specs.Reached.{IsReached}
@@ -33,3 +34,13 @@ keeps_of p B k = keeps_turned p.sides.a.socket p.sides.b.socket (past_at p A) (p
 pub reached_keeps : (p : PairValue) (side : Side) → IsReached p →
     Keeps (socket_of p side) (past_at p side) (socket_of p (other side)) (past_at p (other side))
 reached_keeps p side reached = keeps_of p side (reached_kept p reached)
+
+pub reached_by : (p new : PairValue) (more : List PairEvent) → IsReached p → Steps p more new → IsReached new
+reached_by p new more r steps = record {
+  room_a = r.room_a;
+  room_b = r.room_b;
+  ring_a = r.ring_a;
+  ring_b = r.ring_b;
+  events = r.events ++ more;
+  steps = in_pieces (new_pair (new_socket r.room_a r.ring_a) (new_socket r.room_b r.ring_b)) p new r.events more r.steps steps;
+}

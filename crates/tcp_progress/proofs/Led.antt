@@ -12,24 +12,14 @@ use Rattle.tcp_pair_model.specs.declared.event.PairEvent.TheVariants.{Offer, Del
 use Rattle.tcp_pair_model.specs.declared.event.PairRefused.TheVariants.{NoSegment}
 use Rattle.tcp_pair_model.specs.declared.event.Side.{Side}
 use Rattle.tcp_pair_model.specs.declared.event.Side.TheVariants.{A, B}
-use Rattle.tcp_pair_model.proofs.OutcomeLaws.{goes_on as in_pieces}
 use Rattle.tcp_progress.specs.Pair.{AreMirrored, HasStream, MayExchangeIn, exchanged_in, next_sent, offered_in}
 use Rattle.tcp_progress.specs.Reached.{IsReached}
 use Rattle.tcp_progress.specs.Rounds.{takes, comes}
-use Rattle.tcp_progress.proofs.Kept.{reached_keeps}
+use Rattle.tcp_progress.proofs.Kept.{reached_by, reached_keeps}
 use Rattle.tcp_progress.proofs.Mirrored.{mirrored_in}
 use Rattle.tcp_progress.proofs.Pair.{Takes, Tells, Ends, asked_side, side_moves, sent, first, in_step}
 use Rattle.tcp_progress.proofs.SentPairs.{TookEach, reached_took}
-
-pub reached_by : (p new : PairValue) (more : List PairEvent) → IsReached p → Steps p more new → IsReached new
-reached_by p new more r steps = record {
-  room_a = r.room_a;
-  room_b = r.room_b;
-  ring_a = r.ring_a;
-  ring_b = r.ring_b;
-  events = r.events ++ more;
-  steps = in_pieces (new_pair (new_socket r.room_a r.ring_a) (new_socket r.room_b r.ring_b)) p new r.events more r.steps steps;
-}
+use Rattle.tcp_progress.proofs.WindowPairs.{fits_in}
 
 abbrev IsTaken : PairValue → Side → ℕ → Type 0
 IsTaken p from k = refusal p (Deliver from k) ≡ None
@@ -76,7 +66,8 @@ module _ (p : PairValue) (moment : ℤ) (o : OpenOffer) (r : IsReached p) where
           ⊎ (Tells A p.sides.a p.sides.b moment mirrored o may.may ⊎ Ends A p.sides.a p.sides.b moment mirrored o may.may)
       moves =
           side_moves A p.sides.a p.sides.b moment mirrored o may.may (past_at p A) (past_at p B) k
-          (in_step p.sides.a.socket p.sides.b.socket (past_at p A) (past_at p B) k may.may.own.synchronized stream) each.sent each.heard
+          (in_step p.sides.a.socket p.sides.b.socket (past_at p A) (past_at p B) k may.may.own.synchronized stream) each.sent
+          (fits_in p A r may.may.own may.may.theirs may.may.room) each.heard
 
       counts : Takes A p.sides.a p.sides.b moment mirrored o may.may
           ⊎ (Tells A p.sides.a p.sides.b moment mirrored o may.may ⊎ Ends A p.sides.a p.sides.b moment mirrored o may.may)
@@ -107,7 +98,8 @@ module _ (p : PairValue) (moment : ℤ) (o : OpenOffer) (r : IsReached p) where
           ⊎ (Tells B p.sides.b p.sides.a moment mirrored o may.may ⊎ Ends B p.sides.b p.sides.a moment mirrored o may.may)
       moves =
           side_moves B p.sides.b p.sides.a moment mirrored o may.may (past_at p B) (past_at p A) k
-          (in_step p.sides.b.socket p.sides.a.socket (past_at p B) (past_at p A) k may.may.own.synchronized stream) each.sent each.heard
+          (in_step p.sides.b.socket p.sides.a.socket (past_at p B) (past_at p A) k may.may.own.synchronized stream) each.sent
+          (fits_in p B r may.may.own may.may.theirs may.may.room) each.heard
 
       counts : Takes B p.sides.b p.sides.a moment mirrored o may.may
           ⊎ (Tells B p.sides.b p.sides.a moment mirrored o may.may ⊎ Ends B p.sides.b p.sides.a moment mirrored o may.may)

@@ -150,7 +150,7 @@ module _ (cx : ContextValue) (ip : IpRepr) (header : TcpHeader) where
       (λ _.
       cond_both (place == 0) (taken_in_order v map) (held_early v place map) (Left v)
       (λ _. plain)
-      (λ _. cond_both (nat_le (length (runs_of map)) 16)
+      (λ _. cond_both (nat_le (length (runs_of map)) 32)
       (texted (record v { received = received_of v.received.waiting map v.received.start }) 0 false (Some place)) (texted v 0 false None) (Left v)
       (λ _. record { state = refl; syn_unacked = refl; queued = refl }) (λ _. record { state = refl; syn_unacked = refl; queued = refl })))
       (λ _. record { state = refl; syn_unacked = refl; queued = refl })

@@ -30,3 +30,10 @@ pub mod OfItself
 pub mod Settles
 pub mod Timers
 pub mod PairTimers
+pub mod Short
+pub mod Fields
+pub mod WindowSteps
+pub mod WindowPairs
+pub mod Calm
+pub mod Ways
+pub mod Talks

@@ -92,8 +92,6 @@ may_exchange p side moment r m =
             kind = s.kind;
             some = s.some;
             room = m.room;
-            near = m.near;
-            draws = m.draws;
             space = m.space;
             fresh =
                 ap (λ (stamp : Option TcpTimestampRepr). comes_older stamp (socket_of p (other side)).block.peer.recent) s.stamp ∙ m.fresh;

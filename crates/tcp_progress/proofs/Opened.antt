@@ -77,7 +77,7 @@ module _ (cx : ContextValue) (ip : IpRepr) (header : TcpHeader) (bytes : List �
   Has b = b.sender.syn_unacked ≡ false → 1 ≤ b.sender.past_iss
 
   drawing_counts : (x : TcpValue) → Has x.block → Drawing cx ip header bytes CountsAfter x
-  drawing_counts x has = record { answers = λ _ _ acked. has acked; pauses = λ _ acked. has acked }
+  drawing_counts x has = record { answers = λ _ _ acked. has acked; at_once = λ _ acked. has acked; pauses = λ _ acked. has acked }
 
   content_counts : (x : TcpValue) → Has x.block → Content cx ip header bytes CountsAfter x
   content_counts x has = record {

@@ -43,7 +43,7 @@ use Rattle.tcp_tie.proofs.NameLaws.{offer_between_ends, sent_names, answer_back}
 use Rattle.tcp_tie.proofs.Tied.{fits_connected, if_so}
 use Rattle.tcp_rules.proofs.OrderSteps.{clash}
 use Rattle.tcp_progress.specs.Arrivals.{is_synchronized}
-use Rattle.tcp_progress.specs.Exchange.{GoesFromUna, MayExchange, MovesOn, HasMoved, TookWhatWasSent, left_of, text_of, offer_comes}
+use Rattle.tcp_progress.specs.Exchange.{FitsBuffer, GoesFromUna, MayExchange, MovesOn, HasMoved, TookWhatWasSent, left_of, text_of, offer_comes}
 use Rattle.tcp_progress.specs.Pair.{HasStream, AreMirrored, MayExchangeIn, MovesIn, Exchanges}
 use Rattle.tcp_progress.specs.Pair.{context_of, exchanged_in, left_in, next_sent, offered_in, socket_of}
 use Rattle.tcp_progress.specs.Positions.{LiesWithin}
@@ -55,6 +55,7 @@ use Rattle.tcp_progress.proofs.Left.{left_same}
 use Rattle.tcp_progress.proofs.Mirrored.{mirrored_in}
 use Rattle.tcp_progress.proofs.Offered.{GoesOut, goes_out_of, goes_from_una}
 use Rattle.tcp_progress.proofs.Positions.{connected_in, placed, lies_within, una_small, next_small}
+use Rattle.tcp_progress.proofs.WindowPairs.{fits_in}
 use Rattle.tcp_progress.proofs.SentPairs.{reached_took}
 
 -- EACH ACCEPTS WHAT THE OTHER SENDS
@@ -237,6 +238,7 @@ module _ (side : Side) (s r : PairSide) (moment : ℤ) where
       pub next : MovesOn r.socket.block.receiver.next partner_after.socket.block.receiver.next
       pub una : asked_side.socket.block.sender.una ≡ s.socket.block.sender.una
       pub left : left_of asked_side.socket ≡ left_of s.socket
+      pub state : asked_side.socket.block.state ≡ s.socket.block.state
 
     pub record Tells : Type 0 where
       pub one : length partner_after.sent - length r.sent ≡ 1
@@ -261,6 +263,7 @@ module _ (side : Side) (s r : PairSide) (moment : ℤ) where
           left =
               left_same s.socket asked_side.socket
               (record { state = out.sent.state; syn_unacked = out.sent.syn_unacked; queued = out.sent_queued });
+          state = out.sent.state;
         })
     by_moves (inr (inl told)) =
         inr
@@ -286,9 +289,9 @@ module _ (side : Side) (s r : PairSide) (moment : ℤ) where
         }))
 
     pub side_moves :
-        (p q : Past) (k : Keeps s.socket p r.socket q) → IsInStep k.side k.partner → TookWhatWasSent s.socket r.socket → TookWhatWasSent r.socket s.socket
-        → Takes ⊎ (Tells ⊎ Ends)
-    side_moves p q k step sent heard = by_moves (goes_on cx cy cx s.socket r.socket p q k o step sent heard may)
+        (p q : Past) (k : Keeps s.socket p r.socket q) → IsInStep k.side k.partner → TookWhatWasSent s.socket r.socket → FitsBuffer s.socket r.socket
+        → TookWhatWasSent r.socket s.socket → Takes ⊎ (Tells ⊎ Ends)
+    side_moves p q k step sent fits heard = by_moves (goes_on cx cy cx s.socket r.socket p q k o step sent fits heard may)
 
 -- OF A PAIR
 
@@ -300,6 +303,7 @@ pub record HasTaken (p new : PairValue) (side : Side) : Type 0 where
   pub una : (socket_of new side).block.sender.una ≡ (socket_of p side).block.sender.una
   pub next : (socket_of new (other side)).block.receiver.next ≡ behind_by (socket_of p (other side)).block.receiver.next more
   pub left : left_in new side ≡ left_in p side
+  pub state : (socket_of new side).block.state ≡ (socket_of p side).block.state
 
 pub record HasTold (p new : PairValue) (side : Side) : Type 0 where
   pub all : (socket_of new side).block.sender.una ≡ (socket_of new (other side)).block.receiver.next
@@ -317,10 +321,11 @@ pub pair_moved :
     (p : PairValue) (side : Side) (moment : ℤ) (o : OpenOffer)
     (k : Keeps (socket_of p side) (past_at p side) (socket_of p (other side)) (past_at p (other side)))
     → IsInStep k.side k.partner → TookWhatWasSent (socket_of p side) (socket_of p (other side))
-    → TookWhatWasSent (socket_of p (other side)) (socket_of p side) → AreMirrored (socket_of p side).block (socket_of p (other side)).block
+    → FitsBuffer (socket_of p side) (socket_of p (other side)) → TookWhatWasSent (socket_of p (other side)) (socket_of p side)
+    → AreMirrored (socket_of p side).block (socket_of p (other side)).block
     → MayExchangeIn p side moment o → Moved p side moment
-pair_moved p A moment o k step sent heard mirrored may =
-    by (side_moves A p.sides.a p.sides.b moment mirrored o may.may (past_at p A) (past_at p B) k step sent heard)
+pair_moved p A moment o k step sent fits heard mirrored may =
+    by (side_moves A p.sides.a p.sides.b moment mirrored o may.may (past_at p A) (past_at p B) k step sent fits heard)
   where
     by :
         Takes A p.sides.a p.sides.b moment mirrored o may.may
@@ -330,7 +335,7 @@ pair_moved p A moment o k step sent heard mirrored may =
       moves = inl x.next;
       less =
           subst (λ (n : ℕ). HasLess p (comes n B (next_sent p B) (offered_in p A moment)) A) (sym x.none)
-          (inl (record { more = x.next.by; some = x.next.some; few = x.next.few; una = x.una; next = x.next.moved; left = x.left }));
+          (inl (record { more = x.next.by; some = x.next.some; few = x.next.few; una = x.una; next = x.next.moved; left = x.left; state = x.state }));
     }
     by (inr (inl x)) = record {
       moves =
@@ -349,8 +354,8 @@ pair_moved p A moment o k step sent heard mirrored may =
       moves = inr (inr (x.last, x.closed));
       less = subst (λ (n : ℕ). HasLess p (comes n B (next_sent p B) (offered_in p A moment)) A) (sym x.none) (inr (inr x.closed));
     }
-pair_moved p B moment o k step sent heard mirrored may =
-    by (side_moves B p.sides.b p.sides.a moment mirrored o may.may (past_at p B) (past_at p A) k step sent heard)
+pair_moved p B moment o k step sent fits heard mirrored may =
+    by (side_moves B p.sides.b p.sides.a moment mirrored o may.may (past_at p B) (past_at p A) k step sent fits heard)
   where
     by :
         Takes B p.sides.b p.sides.a moment mirrored o may.may
@@ -360,7 +365,7 @@ pair_moved p B moment o k step sent heard mirrored may =
       moves = inl x.next;
       less =
           subst (λ (n : ℕ). HasLess p (comes n A (next_sent p A) (offered_in p B moment)) B) (sym x.none)
-          (inl (record { more = x.next.by; some = x.next.some; few = x.next.few; una = x.una; next = x.next.moved; left = x.left }));
+          (inl (record { more = x.next.by; some = x.next.some; few = x.next.few; una = x.una; next = x.next.moved; left = x.left; state = x.state }));
     }
     by (inr (inl x)) = record {
       moves =
@@ -384,9 +389,10 @@ pub pair_moves :
     (p : PairValue) (side : Side) (moment : ℤ) (o : OpenOffer)
     (k : Keeps (socket_of p side) (past_at p side) (socket_of p (other side)) (past_at p (other side)))
     → IsInStep k.side k.partner → TookWhatWasSent (socket_of p side) (socket_of p (other side))
-    → TookWhatWasSent (socket_of p (other side)) (socket_of p side) → AreMirrored (socket_of p side).block (socket_of p (other side)).block
+    → FitsBuffer (socket_of p side) (socket_of p (other side)) → TookWhatWasSent (socket_of p (other side)) (socket_of p side)
+    → AreMirrored (socket_of p side).block (socket_of p (other side)).block
     → MayExchangeIn p side moment o → MovesIn p side moment
-pair_moves p side moment o k step sent heard mirrored may = (pair_moved p side moment o k step sent heard mirrored may).moves
+pair_moves p side moment o k step sent fits heard mirrored may = (pair_moved p side moment o k step sent fits heard mirrored may).moves
 
 -- IN STEP
 
@@ -423,7 +429,8 @@ reached_moved p side moment o reached stream may =
     let k = reached_keeps p side reached in
     let each = reached_took p side reached may.may.own may.may.theirs in
     pair_moved p side moment o k
-    (in_step (socket_of p side) (socket_of p (other side)) (past_at p side) (past_at p (other side)) k may.may.own.synchronized stream) each.sent each.heard
+    (in_step (socket_of p side) (socket_of p (other side)) (past_at p side) (past_at p (other side)) k may.may.own.synchronized stream) each.sent
+    (fits_in p side reached may.may.own may.may.theirs may.may.room) each.heard
     (mirrored_in p side reached may.may.own.synchronized may.may.theirs.synchronized may.mirrored) may
 
 pub reached_moves : (p : PairValue) (side : Side) (moment : ℤ) (o : OpenOffer) → IsReached p → HasStream (past_at p side) → MayExchangeIn p side moment o →

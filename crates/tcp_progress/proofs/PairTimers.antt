@@ -31,7 +31,7 @@ use Rattle.tcp_progress.proofs.Timers.{Bounded, event_near, later_near, new_near
 abbrev NearSide : PairSide → Type 0
 NearSide s = Bounded s.moment s.socket.block
 
-le_of : (a b : ℤ) → int_le a b ≡ true → a ≤ℤ b
+pub le_of : (a b : ℤ) → int_le a b ≡ true → a ≤ℤ b
 le_of a b e = grind arith
 
 -- the clock of the side doesn't go back

@@ -113,7 +113,7 @@ module _ (cx : ContextValue) (ip : IpRepr) (header : TcpHeader) (bytes : List �
   NamedAfter a = Named a.socket
 
   named_drawing : (x : TcpValue) → is_some x.block.names.pair ≡ true → Drawing cx ip header bytes NamedAfter x
-  named_drawing x some = record { answers = λ _ _ _. some; pauses = λ _ _. some }
+  named_drawing x some = record { answers = λ _ _ _. some; at_once = λ _ _. some; pauses = λ _ _. some }
 
   named_content : (x : TcpValue) → is_some x.block.names.pair ≡ true → Content cx ip header bytes NamedAfter x
   named_content x some = record {

@@ -153,7 +153,7 @@ offer_of_one P Q leads (Some o) queue h = leads (segment_in o queue) h
 
 -- CALLS
 
-anchored_queue : (r : Ring ℕ) → (anchored r).queue ≡ r.queue
+pub anchored_queue : (r : Ring ℕ) → (anchored r).queue ≡ r.queue
 anchored_queue r =
     cond_both (length r.queue == 0) (cleared r) r (λ (ring : Ring ℕ). ring.queue ≡ r.queue)
     (λ e. sym (empty r.queue (eqb-true (length r.queue) 0 e)))

@@ -13,7 +13,7 @@ use Rattle.tcp_pair_model.specs.Block.{Block}
 use Rattle.tcp_pair_model.specs.Blocks.{one_if}
 use Rattle.tcp_pair_model.specs.Calls.{nothing_left, or_count, recv_answer}
 use Rattle.tcp_pair_model.specs.Safe.{IsStreamSafe, read, taken_in, written}
-use Rattle.tcp_pair_model.specs.Sides.{at, other}
+use Rattle.tcp_pair_model.specs.Sides.{other}
 use Rattle.tcp_pair_model.specs.Steps.{reads}
 use Rattle.tcp_pair_model.specs.Value.{queued_in}
 use Rattle.tcp_pair_model.specs.Values.{PairSide, PairValue}
@@ -26,8 +26,7 @@ use Rattle.tcp_progress.specs.Pair.{MayExchangeIn, left_in, next_sent, offered_i
 use Rattle.tcp_progress.specs.Reached.{IsReached}
 use Rattle.tcp_progress.specs.Rounds.{comes, takes}
 use Rattle.tcp_progress.specs.Settle.{MayRound, MaySettle, read_in, restart_in, resumed_in, settled_in}
-use Rattle.tcp_progress.proofs.Kept.{reached_keeps, reached_kept}
-use Rattle.tcp_progress.proofs.Led.{reached_by}
+use Rattle.tcp_progress.proofs.Kept.{reached_by, reached_keeps, reached_kept}
 use Rattle.tcp_progress.proofs.OfItself.{leads_of_itself, may_exchange, sends_in}
 use Rattle.tcp_progress.proofs.Pair.{HasLess, HasSome, below_quarter, further, had_in, has_some, reached_moved, still_open}
 
@@ -38,11 +37,11 @@ same_block : (s : PairSide) (r : Result ℕ RecvError) → (reads s r).side.sock
 same_block s (Ok count) = refl
 same_block s (Err fault) = refl
 
-read_partner : (p : PairValue) (side : Side) → (socket_of (read_in p side) (other side)).block ≡ (socket_of p (other side)).block
+pub read_partner : (p : PairValue) (side : Side) → (socket_of (read_in p side) (other side)).block ≡ (socket_of p (other side)).block
 read_partner p A = same_block p.sides.b (recv_answer p.sides.b.socket (2 ^ 30))
 read_partner p B = same_block p.sides.a (recv_answer p.sides.a.socket (2 ^ 30))
 
-read_left : (p : PairValue) (side : Side) → left_in (read_in p side) side ≡ left_in p side
+pub read_left : (p : PairValue) (side : Side) → left_in (read_in p side) side ≡ left_in p side
 read_left p A = refl
 read_left p B = refl
 
@@ -50,12 +49,12 @@ read_una : (p : PairValue) (side : Side) → (socket_of (read_in p side) side).b
 read_una p A = refl
 read_una p B = refl
 
-read_had : (p : PairValue) (side : Side) → had_in (read_in p side) side ≡ had_in p side
+pub read_had : (p : PairValue) (side : Side) → had_in (read_in p side) side ≡ had_in p side
 read_had p side =
     ap (λ (n : SeqNumber). distance_of n (socket_of (read_in p side) (other side)).block.receiver.next) (read_una p side)
     ∙ ap (λ (b : Block). distance_of (socket_of p side).block.sender.una b.receiver.next) (read_partner p side)
 
-read_reached : (p : PairValue) (side : Side) → IsReached p → IsReached (read_in p side)
+pub read_reached : (p : PairValue) (side : Side) → IsReached p → IsReached (read_in p side)
 read_reached p side r = reached_by p (read_in p side) (Recv (other side) (2 ^ 30) ∷ []) r (refl, refl)
 
 -- all that waits is read
@@ -96,7 +95,7 @@ offer_written : (p : PairValue) (side : Side) (moment : ℤ) → written (takes 
 offer_written p A moment = refl
 offer_written p B moment = refl
 
-read_written : (p : PairValue) (side : Side) → written (read_in p side) side ≡ written p side
+pub read_written : (p : PairValue) (side : Side) → written (read_in p side) side ≡ written p side
 read_written p A = refl
 read_written p B = refl
 
@@ -134,7 +133,7 @@ stays : (n : ℕ) (p : PairValue) (side : Side) → left_in p side ≡ 0 → set
 stays zero p side e = refl
 stays (suc n) p side e = ap (λ (t : Bool). if t then p else settled_in n (resumed_in p side) side) (eq-eqb (left_in p side) 0 e)
 
-some_left : (n : ℕ) → (n == 0) ≡ false → 1 ≤ n
+pub some_left : (n : ℕ) → (n == 0) ≡ false → 1 ≤ n
 some_left zero e = clash e
 some_left (suc n) e = omega arith
 
@@ -247,7 +246,7 @@ done p side r m = settles (2 * left_in p side) p side r m (twice (left_in p side
 -- ALL IS READ
 
 -- where all is acknowledged, all was taken
-all_taken : (p : PairValue) (side : Side) → IsStreamSafe p side → left_in p side ≡ 0 → taken_in p (other side) ≡ written p side
+pub all_taken : (p : PairValue) (side : Side) → IsStreamSafe p side → left_in p side ≡ 0 → taken_in p (other side) ≡ written p side
 all_taken p side safe none = by safe.prefix.0 safe.prefix.1 where
   front : List ℕ
   front = taken_in p (other side)
@@ -269,12 +268,12 @@ all_taken p side safe none = by safe.prefix.0 safe.prefix.1 where
       too_long : (all taken rest queued : ℕ) → all ≡ taken + suc rest → queued ≡ 0 → all - queued ≤ taken → ⊥
       too_long all taken rest queued a b c = absurd (omega arith)
 
-safe_side : (p : PairValue) (side : Side) → IsReached p → IsStreamSafe p side
+pub safe_side : (p : PairValue) (side : Side) → IsReached p → IsStreamSafe p side
 safe_side p A r = (kept_is_safe p (reached_kept p r)).from_a
 safe_side p B r = (kept_is_safe p (reached_kept p r)).from_b
 
 -- what waits is part of what was written
-few_wait : (p : PairValue) (side : Side) → IsReached p → length (socket_of p (other side)).received.waiting ≤ 2 ^ 30
+pub few_wait : (p : PairValue) (side : Side) → IsReached p → length (socket_of p (other side)).received.waiting ≤ 2 ^ 30
 few_wait p side r =
     let k = reached_keeps p side r in
     let safe = safe_side p side r in
@@ -286,22 +285,20 @@ few_wait p side r =
     small : (read waiting rest taken all : ℕ) → taken ≡ read + waiting → taken + rest ≡ all → all < 2 ^ 29 → waiting ≤ 2 ^ 30
     small read waiting rest taken all a b c = omega arith
 
-empty_after : (p : PairValue) (side : Side) → IsReached p → (socket_of (read_in p side) (other side)).received.waiting ≡ []
+pub empty_after : (p : PairValue) (side : Side) → IsReached p → (socket_of (read_in p side) (other side)).received.waiting ≡ []
 empty_after p A r = none_waits p.sides.b (few_wait p A r)
 empty_after p B r = none_waits p.sides.a (few_wait p B r)
 
+-- where all is acknowledged, the partner's user reads all that was written
+pub read_all : (p : PairValue) (side : Side) → IsReached p → left_in p side ≡ 0 → read (read_in p side) (other side) ≡ written p side
+read_all p side r none =
+    sym (append-nil (read x (other side)))
+    ∙ (ap (λ (xs : List ℕ). read x (other side) ++ xs) (sym (empty_after p side r))
+    ∙ (all_taken x side (safe_side x side (read_reached p side r)) (read_left p side ∙ none) ∙ read_written p side))
+  where
+    x : PairValue
+    x = read_in p side
+
 pub all_read : (p : PairValue) (side : Side) → IsReached p → MaySettle (suc (2 * left_in p side)) p side →
     read (read_in (settled_in (2 * left_in p side) p side) side) (other side) ≡ written p side
-all_read p side r m =
-    sym (append-nil (read x (other side)))
-    ∙ (ap (λ (xs : List ℕ). read x (other side) ++ xs) (sym (empty_after q side d.reached))
-    ∙ (all_taken x side (safe_side x side (read_reached q side d.reached)) (read_left q side ∙ d.none) ∙ (read_written q side ∙ d.same)))
-  where
-    q : PairValue
-    q = settled_in (2 * left_in p side) p side
-
-    x : PairValue
-    x = read_in q side
-
-    d : IsDone p q side
-    d = done p side r m
+all_read p side r m = let d = done p side r m in read_all (settled_in (2 * left_in p side) p side) side d.reached d.none ∙ d.same

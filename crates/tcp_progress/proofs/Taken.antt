@@ -21,7 +21,7 @@ use Rattle.tcp_law.specs.ReceiveMap.{store, front}
 use Rattle.tcp_pair_model.specs.Acknowledged.{acknowledged, acks_fin, state_after_ack, names_window, windowed, duplicates_after}
 use Rattle.tcp_pair_model.specs.Answers.{drawn, may_draw, with_draw, acked, answer_for, delayed, sooner, ack_moment_after}
 use Rattle.tcp_pair_model.specs.Arrival.{arrives, checked, inside, taken, continued, told, with_content, finished, passed_outside}
-use Rattle.tcp_pair_model.specs.Arrival.{outside, tells_news, waiting_anew}
+use Rattle.tcp_pair_model.specs.Arrival.{outside, tells_news, has_length, waiting_anew}
 use Rattle.tcp_pair_model.specs.Checks.{is_in_window, lies_before}
 use Rattle.tcp_pair_model.specs.Checks.Check.{Passes}
 use Rattle.tcp_pair_model.specs.Probing.{probe_kept}
@@ -473,34 +473,30 @@ same_top : (una by top : ℕ) → by ≤ top → ((una + by) % 2 ^ 32 + (top - b
 same_top una by top e = omega arith
 
 module _ (cx : ContextValue) (u : TcpValue) (ip : IpRepr) (header : TcpHeader) (bytes : List ℕ) (by : ℕ)
-    (may : may_draw cx.moment u.block.timers.draws_from ≡ true) (past : is_synchronized u.block.state ≡ true) (sent : by ≤ u.block.sender.top) where
+    (past : is_synchronized u.block.state ≡ true) (sent : by ≤ u.block.sender.top) where
   abbrev Answered : Arrived → Type 0
   Answered a = EndsLastAck u a ⊎ IsAnswered u a
 
-  answered_outside : Answered (outside cx (acknowledged (timed cx.moment header u by) by cx.moment) ip header)
+  answered_outside : Answered (outside cx (acknowledged (timed cx.moment header u by) by cx.moment) ip header true)
   answered_outside =
-      acked_cases (timed cx.moment header u by) by cx.moment (λ (w : TcpValue). Answered (outside cx w ip header))
+      acked_cases (timed cx.moment header u by) by cx.moment (λ (w : TcpValue). Answered (outside cx w ip header true))
       (λ closed. inl (record { last = last_of u.block.state (acks_fin u.block by (queued_in u)) past closed; closed = refl; silent = refl }))
       (λ alive.
       let x = acked_open (timed cx.moment header u by) by cx.moment in
       let y = waiting_anew x header cx.moment in
-      cond_both (is_closed x.block.state) (dropped x) (drawn cx y ip header) Answered
+      cond_both (is_closed x.block.state) (dropped x) (acked cx y ip header no_ranges) Answered
       (λ closed. clash (sym closed ∙ alive))
-      (λ _.
-      cond_both (may_draw cx.moment u.block.timers.draws_from) (acked cx (with_draw y cx.moment) ip header no_ranges) (dropped y) Answered
       (λ _.
       inr
       (record {
-        reply = reply_to ip (hops_of u.block.settings.hop_limit)
-            (sack_segment (with_draw y cx.moment).block (pair_in ip header) cx.moment (window_of (with_draw y cx.moment)) no_ranges);
+        reply = reply_to ip (hops_of u.block.settings.hop_limit) (sack_segment y.block (pair_in ip header) cx.moment (window_of y) no_ranges);
         answer = refl;
         acknowledges = refl;
         bare = refl;
         same = ap number (same_top u.block.sender.una.0 by u.block.sender.top sent);
         plain = refl;
         next = refl;
-      }))
-      (λ no. clash (sym may ∙ no))))
+      })))
 
 answered_too : (v : TcpValue) (a : Arrived) → EndsLastAck (unoffered v) a ⊎ IsAnswered (unoffered v) a → EndsLastAck v a ⊎ IsAnswered v a
 answered_too v a (inl ends) = inl (record { last = ends.last; closed = ends.closed; silent = ends.silent })
@@ -508,22 +504,28 @@ answered_too v a (inr r) =
     inr
     (record { reply = r.reply; answer = r.answer; acknowledges = r.acknowledges; bare = r.bare; same = r.same; plain = r.plain; next = r.next })
 
+some_eqb : (n : ℕ) → 1 ≤ n → (n == 0) ≡ false
+some_eqb n e = ne_eqb n 0 (none n e) where
+  none : (m : ℕ) → 1 ≤ m → m ≡ 0 → ⊥
+  none m f g = absurd (omega arith)
+
 pub again_answered :
     (cx : ContextValue) (v : TcpValue) (ip : IpRepr) (header : TcpHeader) (bytes : List ℕ) (number : SeqNumber) → Counts v.block header number
-    → IsAgain v header (length bytes) → may_draw cx.moment v.block.timers.draws_from ≡ true
+    → IsAgain v header (length bytes)
     → EndsLastAck v (arrives cx v ip header bytes) ⊎ IsAnswered v (arrives cx v ip header bytes)
-again_answered cx v ip header bytes number c n may =
+again_answered cx v ip header bytes number c n =
     let by = distance_of v.block.sender.una number in
     let u = unoffered v in
+    let w = acknowledged (timed cx.moment header u by) by cx.moment in
     subst (λ (a : Arrived). EndsLastAck v a ⊎ IsAnswered v a)
     (sym (comes_to cx v ip header bytes number c
     ∙ (if_not (is_in_window v.block (free_in v) header (length bytes)) (inside cx u ip header bytes by) (passed_outside cx u ip header (length bytes) by)
     (again_is_outside v header (length bytes) n)
-    ∙ if_so (tells_news u header (length bytes)) (outside cx (acknowledged (timed cx.moment header u by) by cx.moment) ip header) (outside cx u ip header)
+    ∙ (if_so (tells_news u header (length bytes)) (outside cx w ip header (has_length header (length bytes))) (outside cx u ip header false)
     (ap (λ (t : Bool). not t && lies_before v.block (room_of v.received) header (length bytes)) (not_answering v.block.state c.synchronized) ∙
-    again_lies_before v header (length bytes) n))))
-    (answered_too v (outside cx (acknowledged (timed cx.moment header u by) by cx.moment) ip header)
-    (answered_outside cx u ip header bytes by may c.synchronized c.sent))
+    again_lies_before v header (length bytes) n)
+    ∙ ap (outside cx w ip header) (ap not (some_eqb (segment_len header (length bytes)) n.some))))))
+    (answered_too v (outside cx w ip header true) (answered_outside cx u ip header bytes by c.synchronized c.sent))
 
 -- WHAT A CLOSED WINDOW SHUTS OUT
 
@@ -566,7 +568,7 @@ alive_in other e = refl
 
 shut_drawn :
     (cx : ContextValue) (u : TcpValue) (ip : IpRepr) (header : TcpHeader) → may_draw cx.moment u.block.timers.draws_from ≡ true
-    → is_closed u.block.state ≡ false → IsAnswered u (outside cx u ip header)
+    → is_closed u.block.state ≡ false → IsAnswered u (outside cx u ip header false)
 shut_drawn cx u ip header may alive =
     let y = waiting_anew u header cx.moment in
     cond_both (is_closed u.block.state) (dropped u) (drawn cx y ip header) (IsAnswered u) (λ closed. clash (sym closed ∙ alive))
@@ -591,12 +593,13 @@ pub shut_answered :
 shut_answered cx v ip header bytes number c n may =
     let by = distance_of v.block.sender.una number in
     let u = unoffered v in
-    let r : IsAnswered u (outside cx u ip header) = shut_drawn cx u ip header may (alive_in v.block.state c.synchronized) in
+    let r : IsAnswered u (outside cx u ip header false) = shut_drawn cx u ip header may (alive_in v.block.state c.synchronized) in
     subst (IsAnswered v)
     (sym (comes_to cx v ip header bytes number c
     ∙ (if_not (is_in_window v.block (free_in v) header (length bytes)) (inside cx u ip header bytes by) (passed_outside cx u ip header (length bytes) by)
     (shut_is_outside v header (length bytes) n)
-    ∙ if_not (tells_news u header (length bytes)) (outside cx (acknowledged (timed cx.moment header u by) by cx.moment) ip header) (outside cx u ip header)
+    ∙ if_not (tells_news u header (length bytes))
+    (outside cx (acknowledged (timed cx.moment header u by) by cx.moment) ip header (has_length header (length bytes))) (outside cx u ip header false)
     (ap (λ (t : Bool). not t && lies_before v.block (room_of v.received) header (length bytes)) (not_answering v.block.state c.synchronized) ∙
     shut_not_before v header (length bytes) n))))
     (record {

@@ -32,6 +32,7 @@ use Rattle.tcp_pair_model.specs.Rules.{Choice, backed_off_now, control_for, prob
 use Rattle.tcp_pair_model.specs.Segments.{ack_segment, hops_of, keep_alive_segment, reset_segment, segment, syn_segment}
 use Rattle.tcp_pair_model.specs.Settled.{end_of, nxt_moved, probed, recorded, resent, sent_as, settled, syn_went, went}
 use Rattle.tcp_pair_model.specs.Timestamps.{echo_of, echo_taken, stamp_taken, timed_by, timed_with}
+use Rattle.tcp_pair_model.specs.Undone.{undone}
 use Rattle.tcp_pair_model.specs.Value.{TcpValue, Arrived, with_block, unoffered, ended, free_in, new_socket, queued_in, room_of, window_of}
 use Rattle.tcp_model.specs.Opening.{took_syn}
 use Rattle.tcp_rules.specs.Events.{Event, after}
@@ -169,7 +170,7 @@ module _ (cx : ContextValue) (ip : IpRepr) (header : TcpHeader) (bytes : List �
 
   near_drawing : (x : TcpValue) → Bounded cx.moment x.block → Drawing cx ip header bytes NearAfter x
   near_drawing x h =
-      record { answers = λ _. record { good = h.good; timer = h.timer; pause = same cx.moment }; pauses = h }
+      record { answers = λ _. record { good = h.good; timer = h.timer; pause = same cx.moment }; at_once = h; pauses = h }
 
   near_content : (x : TcpValue) → Bounded cx.moment x.block → Content cx ip header bytes NearAfter x
   near_content x h =
@@ -177,7 +178,9 @@ module _ (cx : ContextValue) (ip : IpRepr) (header : TcpHeader) (bytes : List �
 
   risen : (u : TcpValue) (by : ℕ) → Bounded cx.moment u.block → Bounded cx.moment (acked_open (timed cx.moment header u by) by cx.moment).block
   risen u by h =
-      moved_near (echo_taken u.block header by cx.moment) by (queued_in u) cx.moment (echoed_near u.block header by cx.moment h)
+      moved_near (timed cx.moment header u by).block by (queued_in u) cx.moment
+      (echoed_near (undone u.block header by (queued_in u) cx.moment) header by cx.moment
+      (record { good = h.good; timer = h.timer; pause = h.pause }))
 
   near_received : (u : TcpValue) → Bounded cx.moment u.block → Received cx ip header bytes NearAfter u
   near_received u h = record {

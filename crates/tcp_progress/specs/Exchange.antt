@@ -9,7 +9,6 @@ use Rattle.tcp_rules.specs.Offsets.{behind_by}
 use Rattle.tcp_rules.specs.OpenOffer.{OpenOffer}
 use Rattle.tcp_rules.specs.Reply.{Reply}
 use Rattle.tcp_rules.specs.Timing.{carries}
-use Rattle.tcp_pair_model.specs.Answers.{may_draw}
 use Rattle.tcp_pair_model.specs.Arrival.{arrives}
 use Rattle.tcp_pair_model.specs.Block.{Block}
 use Rattle.tcp_pair_model.specs.Blocks.{top, unacked}
@@ -37,6 +36,10 @@ pub record MovesOn (old new : SeqNumber) : Type 0 where
 -- RCV.NXT of the partner lies within what the side ever sent
 abbrev pub TookWhatWasSent : TcpValue → TcpValue → Type 0
 TookWhatWasSent v partner = distance_of v.block.sender.una partner.block.receiver.next ≤ v.block.sender.top
+
+-- and what it took past SND.UNA is no longer than its buffer, a SYN and a FIN
+abbrev pub FitsBuffer : TcpValue → TcpValue → Type 0
+FitsBuffer v partner = distance_of v.block.sender.una partner.block.receiver.next ≤ room_of partner.received + 2
 
 -- all that the partner ever sent came, or there is room behind it in the window, so that a bare acknowledgement lies inside
 abbrev pub HasSpace : TcpValue → TcpValue → Type 0
@@ -66,12 +69,9 @@ pub record MayExchange (cx cy : ContextValue) (v partner : TcpValue) (o : OpenOf
   pub offered : (offer_of cx v).socket.offered ≡ Some o
   pub kind : carries o.kind ≡ true
   pub some : 1 ≤ segment_len o.segment (length (text_of v o))
-  -- the partner has room for a byte, and what it took since lies within a buffer, a SYN and a FIN
+  -- the partner has room for a byte
   pub room : 1 ≤ free_in partner
-  pub near : distance_of v.block.sender.una partner.block.receiver.next ≤ room_of partner.received + 2
-  -- it may answer: its last drawn answer lies a second back
-  pub draws : may_draw cy.moment partner.block.timers.draws_from ≡ true
-  -- and the answer lies inside the window
+  -- the answer lies inside the window
   pub space : HasSpace v partner
   -- neither segment has a timestamp that is older than TS.Recent
   pub fresh : comes_older o.segment.options.timestamp partner.block.peer.recent ≡ false

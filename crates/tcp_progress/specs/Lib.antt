@@ -12,3 +12,6 @@ pub mod Handshake
 pub mod Restart
 pub mod Settle
 pub mod Near
+pub mod Windows
+pub mod BothWays
+pub mod Talking

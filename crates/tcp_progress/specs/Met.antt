@@ -62,3 +62,9 @@ later = pos 20_000_000
 
 abbrev pub told : PairValue
 told = exchanged_in gone A late
+
+-- both users wrote three bytes, which went and were lost
+abbrev pub both_gone : PairValue
+both_gone =
+    run (new_pair socket socket)
+    (opening ++ Send A (97 ∷ 98 ∷ 99 ∷ []) ∷ Send B (120 ∷ 121 ∷ 122 ∷ []) ∷ Offer A (pos 0) true ∷ Offer B (pos 0) true ∷ [])

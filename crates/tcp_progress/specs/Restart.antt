@@ -7,7 +7,6 @@ use Rattle.tcp_rules.specs.Moments.{is_due}
 use Rattle.tcp_rules.specs.OpenOffer.{OpenOffer}
 use Rattle.tcp_rules.specs.Reply.{Reply}
 use Rattle.tcp_rules.specs.Timing.{carries}
-use Rattle.tcp_pair_model.specs.Answers.{may_draw}
 use Rattle.tcp_pair_model.specs.Block.{Block}
 use Rattle.tcp_pair_model.specs.Offers.{offer_of}
 use Rattle.tcp_pair_model.specs.Rules.{resends}
@@ -58,11 +57,9 @@ pub record MayGoOn (p : PairValue) (side : Side) (moment : ℤ) : Type 0 where
   pub mirrored : OneListened p side ⊎ AreMirrored (socket_of p side).block (socket_of p (other side)).block
   pub sends : MaySend (context_of p side moment) (socket_of p side)
   pub theirs : IsOpen (socket_of p (other side)).block
-  -- the partner has room for a byte, and what it took since lies within a buffer, a SYN and a FIN
+  -- the partner has room for a byte
   pub room : 1 ≤ free_in (socket_of p (other side))
-  pub near : distance_of (socket_of p side).block.sender.una (socket_of p (other side)).block.receiver.next ≤ room_of (socket_of p (other side)).received + 2
-  -- it may answer, and the answer lies inside the window
-  pub draws : may_draw (at p.sides (other side)).moment (socket_of p (other side)).block.timers.draws_from ≡ true
+  -- the answer lies inside the window
   pub space : HasSpace (socket_of p side) (socket_of p (other side))
   -- neither segment has a timestamp that is older than TS.Recent
   pub fresh : comes_older (stamp_of (socket_of p side).block moment) (socket_of p (other side)).block.peer.recent ≡ false

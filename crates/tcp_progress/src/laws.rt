@@ -29,7 +29,7 @@ ghost use Rattle.tcp_rules.specs.OpenOffer.{OpenOffer};
 ghost use Rattle.tcp_rules.specs.Timing.{carries};
 ghost use Rattle.tcp_progress.specs.Again.{StartsOver};
 ghost use Rattle.tcp_progress.specs.Arrivals.{is_synchronized, Counts, EndsLastAck, IsNearWindow, IsNew, Rises, IsAgain, IsAnswered, IsShutOut};
-ghost use Rattle.tcp_progress.specs.Exchange.{GoesFromUna, HasMoved, IsOpen, MayExchange, TookWhatWasSent, left_of};
+ghost use Rattle.tcp_progress.specs.Exchange.{FitsBuffer, GoesFromUna, HasMoved, IsOpen, MayExchange, TookWhatWasSent, left_of};
 ghost use Rattle.tcp_progress.specs.Pair.{AreMirrored, Exchanges, HasStream, MayExchangeIn, OneListened, MovesIn, exchanged_in, left_in, socket_of};
 ghost use Rattle.tcp_progress.specs.Positions.{LiesWithin};
 ghost use Rattle.tcp_progress.specs.Reached.{IsReached, Owes};
@@ -68,11 +68,10 @@ pub fn text_in_order_raises_rcv_nxt()
         → Counts v.block header number → IsNew v header (length bytes) → Rises cx v header (length bytes) (arrives cx v ip header bytes) }
 {}
 
-/// A segment that was taken already is answered at once with RCV.NXT, past all that was ever sent, unless the last answer was drawn within
-/// the second before; or its acknowledgement ends LAST-ACK.
+/// A segment that was taken already is answered at once with RCV.NXT, past all that was ever sent; or its acknowledgement ends LAST-ACK.
 pub fn old_text_is_answered()
     ensures answered { (cx : ContextValue) (v : TcpValue) (ip : IpRepr) (header : TcpHeader) (bytes : List ℕ) (number : SeqNumber)
-        → Counts v.block header number → IsAgain v header (length bytes) → may_draw cx.moment v.block.timers.draws_from ≡ true
+        → Counts v.block header number → IsAgain v header (length bytes)
         → EndsLastAck v (arrives cx v ip header bytes) ⊎ IsAnswered v (arrives cx v ip header bytes) }
 {}
 
@@ -148,7 +147,8 @@ pub fn a_side_takes_only_what_was_sent()
 /// LAST-ACK of the partner.
 pub fn an_exchange_goes_on()
     ensures moved { (cx cy cz : ContextValue) (v w : TcpValue) (p q : Past) (k : Keeps v p w q) (o : OpenOffer)
-        → IsInStep k.side k.partner → TookWhatWasSent v w → TookWhatWasSent w v → MayExchange cx cy v w o → HasMoved cx cy cz v w o }
+        → IsInStep k.side k.partner → TookWhatWasSent v w → FitsBuffer v w → TookWhatWasSent w v → MayExchange cx cy v w o
+        → HasMoved cx cy cz v w o }
 {}
 
 /// Of two sockets whose streams keep the invariant: they are in step where the side's user hasn't closed it, or wrote something.
@@ -172,7 +172,7 @@ pub fn an_exchange_of_a_pair_goes_on()
     ensures kept { (p : PairValue) (side : Side) (moment : ℤ) (o : OpenOffer)
         (k : Keeps (socket_of p side) (past_at p side) (socket_of p (other side)) (past_at p (other side)))
         → IsInStep k.side k.partner → TookWhatWasSent (socket_of p side) (socket_of p (other side))
-        → TookWhatWasSent (socket_of p (other side)) (socket_of p side)
+        → FitsBuffer (socket_of p side) (socket_of p (other side)) → TookWhatWasSent (socket_of p (other side)) (socket_of p side)
         → AreMirrored (socket_of p side).block (socket_of p (other side)).block → MayExchangeIn p side moment o → MovesIn p side moment }
     ensures reached { (p : PairValue) (side : Side) (moment : ℤ) (o : OpenOffer) → IsReached p → HasStream (past_at p side)
         → MayExchangeIn p side moment o → MovesIn p side moment }

@@ -1,6 +1,7 @@
 //! Laws of two sockets: a connection goes on.
 #![tactic(auto)]
 
+pub mod both_ways;
 pub mod handshake;
 pub mod laws;
 pub mod met;
@@ -8,3 +9,4 @@ pub mod near;
 pub mod restart;
 pub mod settle;
 pub mod standstill;
+pub mod windows;

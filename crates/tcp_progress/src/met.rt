@@ -1,14 +1,16 @@
 //! What the laws ask for is met, on numerals.
 
 ghost use Rattle.std.specs.Prelude.{◌≡◌, suc, ◌*◌, pos, [], ◌∷◌, length, IfSome};
+ghost use Rattle.tcp_progress.specs.BothWays.{bound};
 ghost use Rattle.tcp_progress.specs.Arrivals.{Counts, IsNew, IsAgain};
 ghost use Rattle.tcp_pair_model.specs.Values.{past_at};
 ghost use Rattle.tcp_pair_model.specs.declared.event.Side.TheVariants.{A};
 ghost use Rattle.tcp_progress.specs.Handshake.{MayShake};
-ghost use Rattle.tcp_progress.specs.Met.{called, unheard, gone, come, told, text, late, later, again_in};
+ghost use Rattle.tcp_progress.specs.Met.{both_gone, called, unheard, gone, come, told, text, late, later, again_in};
 ghost use Rattle.tcp_progress.specs.Pair.{Exchanges, HasStream, MayExchangeIn, MovesIn, exchanged_in, left_in};
 ghost use Rattle.tcp_progress.specs.Reached.{IsReached, Owes};
 ghost use Rattle.tcp_progress.specs.Settle.{MaySettle};
+ghost use Rattle.tcp_progress.specs.Talking.{AreTalking, MayTalk};
 
 /// Three bytes that have gone: their side waits, and they count and are new to the other; once they have come, they are old to it.
 pub fn what_the_laws_ask_for_is_met()
@@ -46,4 +48,11 @@ pub fn what_a_handshake_asks_for_is_met()
 /// Rounds of one way are met where three bytes have gone and were lost, of default sockets.
 pub fn what_rounds_ask_for_is_met()
     ensures settles { MaySettle (suc (2 * left_in gone A)) gone A }
+{}
+
+/// Both ways at once are met where three bytes of each side have gone and were lost, of default sockets: twelve rounds are enough.
+pub fn what_talking_asks_for_is_met()
+    ensures enough { bound both_gone ≡ 12 }
+    ensures talking { AreTalking 13 both_gone }
+    ensures turns { MayTalk 13 both_gone }
 {}

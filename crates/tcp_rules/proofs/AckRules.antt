@@ -150,7 +150,7 @@ module _ (cx : ContextValue) (v : TcpValue) (ip : IpRepr) (header : TcpHeader) (
       again at d = subst (λ (delay : Option ℕ). IsDueWithin at (delayed cx.moment delay)) delay d
 
   due_drawing : (x : TcpValue) → x.block.receiver.next ≡ v.block.receiver.next → Drawing cx ip header bytes Due x
-  due_drawing x next = record { answers = λ _ _ moved. absurd (moved next); pauses = λ _ moved. absurd (moved next) }
+  due_drawing x next = record { answers = λ _ _ moved. absurd (moved next); at_once = λ _ moved. absurd (moved next); pauses = λ _ moved. absurd (moved next) }
 
   due_received : Received cx ip header bytes Due (unoffered v)
   due_received = record {
@@ -193,7 +193,7 @@ module _ (cx : ContextValue) (v : TcpValue) (ip : IpRepr) (header : TcpHeader) (
     }
 
     stays_drawing : (x : TcpValue) → IsDueBy t x.block → Drawing cx ip header bytes Stays x
-    stays_drawing x due = record { answers = λ _. inr (inl refl); pauses = inr (inr due) }
+    stays_drawing x due = record { answers = λ _. inr (inl refl); at_once = inr (inl refl); pauses = inr (inr due) }
 
     stays_received : IsDueBy t v.block → Received cx ip header bytes Stays (unoffered v)
     stays_received due = record {

@@ -17,7 +17,8 @@ use Rattle.tcp_model.specs.Acknowledged.{acknowledged, duplicates_after, names_w
 use Rattle.tcp_model.specs.Acknowledged.{una_moved, state_after_ack, freed_by}
 use Rattle.tcp_model.specs.Blocks.{forgotten}
 use Rattle.tcp_model.specs.Answers.{drawn, may_draw, with_draw, acked, answer_for, ranges_held, ack_due}
-use Rattle.tcp_model.specs.Arrival.{waiting_anew, outside, passed_outside, tells_news, finished, with_content, told, taken, inside, checked, continued}
+use Rattle.tcp_model.specs.Arrival.{waiting_anew, outside, passed_outside, tells_news, has_length, comes_again, finished, with_content, told, taken}
+use Rattle.tcp_model.specs.Arrival.{inside, checked, continued}
 use Rattle.tcp_model.specs.Arrival.{takes_reset, challenges_reset, reset_comes, draws_first, echo_heard, received, arrives_in, arrives, is_void_syn}
 use Rattle.tcp_model.specs.Calls.{listening}
 use Rattle.tcp_model.specs.Checks.{Check, acknowledgement_check, is_in_window, taken_down, falls_back}
@@ -44,7 +45,7 @@ store-length (entry ∷ map) zero [] = refl
 store-length (entry ∷ map) zero (byte ∷ bytes) = ap suc (store-length map zero bytes)
 
 -- a number with one before it isn't 0
-suc_not : (n : ℕ) → (suc n == 0) ≡ false
+pub suc_not : (n : ℕ) → (suc n == 0) ≡ false
 suc_not n = at (suc n == 0) refl where
   at : (t : Bool) → (suc n == 0) ≡ t → t ≡ false
   at true is = let none = eqb-true (suc n) 0 is in absurd (omega arith)
@@ -94,9 +95,10 @@ heeded now header size u by b =
     (queued_in (acked_open (timed now header u by) by now)))
 
 module _ (cx : ContextValue) (ip : IpRepr) (header : TcpHeader) (bytes : List ℕ) (Q : Arrived → Type 0) where
-  -- a segment that is answered, unless the last answer is too near
+  -- a segment that is answered, at once or unless the last answer is too near
   pub record Drawing (x : TcpValue) : Type 0 where
     pub answers : may_draw cx.moment x.block.timers.draws_from ≡ true → Q (acked cx (with_draw x cx.moment) ip header no_ranges)
+    pub at_once : Q (acked cx x ip header no_ranges)
     pub pauses : Q (dropped x)
 
   -- an acknowledgement is due after it
@@ -213,7 +215,7 @@ module _ (cx : ContextValue) (ip : IpRepr) (header : TcpHeader) (bytes : List �
       (λ f. c.ordered_fin map (store-length x.received.map place rest) (fin_parts x.block (length (front map)) f).0 takes)
       (c.ordered map (store-length x.received.map place rest) takes (some_bytes (before_by x.block.receiver.next header.seq_number) bytes some)))
       (λ past.
-      cond_both (nat_le (length (runs_of map)) 16) (texted (held x map) 0 false (Some place)) (texted x 0 false None) (Finishing x.block)
+      cond_both (nat_le (length (runs_of map)) 32) (texted (held x map) 0 false (Some place)) (texted x 0 false None) (Finishing x.block)
       (λ _. by_early x map place past (c.early map place (store-length x.received.map place rest) takes))
       (λ _. plain)))
       (λ _. plain)
@@ -230,21 +232,28 @@ module _ (cx : ContextValue) (ip : IpRepr) (header : TcpHeader) (bytes : List �
       plain : Finishing x.block (texted x 0 false None)
       plain = by_fin x.block (texted x 0 false None) refl (λ f. let parts = fin_parts x.block 0 f in c.fin parts.0 parts.1) c.plain
 
-  by_outside : (x : TcpValue) → Q (dropped x) → Drawing (waiting_anew x header cx.moment) → Q (outside cx x ip header)
-  by_outside x stays d =
-      cond_both (is_closed x.block.state) (dropped x) (drawn cx (waiting_anew x header cx.moment) ip header) Q
+  by_answered : (x : TcpValue) (again : Bool) → Drawing x → Q (if again then acked cx x ip header no_ranges else drawn cx x ip header)
+  by_answered x true d = d.at_once
+  by_answered x false d = by_drawn x d
+
+  by_outside : (x : TcpValue) (again : Bool) → Q (dropped x) → Drawing (waiting_anew x header cx.moment) → Q (outside cx x ip header again)
+  by_outside x again stays d =
+      let y = waiting_anew x header cx.moment in
+      cond_both (is_closed x.block.state) (dropped x) (if again then acked cx y ip header no_ranges else drawn cx y ip header) Q
       (λ _. stays)
-      (λ _. by_drawn (waiting_anew x header cx.moment) d)
+      (λ _. by_answered y again d)
 
   by_news : (u : TcpValue) (by : ℕ) → Received u → acknowledgement_check u.block header.ack_number ≡ Passes by →
-      Q (outside cx (acknowledged (timed cx.moment header u by) by cx.moment) ip header)
+      Q (outside cx (acknowledged (timed cx.moment header u by) by cx.moment) ip header (has_length header (length bytes)))
   by_news u by r passes =
-      acked_cases (timed cx.moment header u by) by cx.moment (λ (w : TcpValue). Q (outside cx w ip header)) (r.closes by passes)
+      let again = has_length header (length bytes) in
+      acked_cases (timed cx.moment header u by) by cx.moment (λ (w : TcpValue). Q (outside cx w ip header again)) (r.closes by passes)
       (λ alive.
       let x = acked_open (timed cx.moment header u by) by cx.moment in
-      cond_both (is_closed x.block.state) (dropped x) (drawn cx (waiting_anew x header cx.moment) ip header) Q
+      let y = waiting_anew x header cx.moment in
+      cond_both (is_closed x.block.state) (dropped x) (if again then acked cx y ip header no_ranges else drawn cx y ip header) Q
       (λ closed. absurd (let clash : true ≡ false = sym closed ∙ alive in cc))
-      (λ _. by_drawn (waiting_anew x header cx.moment) (r.news by passes alive)))
+      (λ _. by_answered y again (r.news by passes alive)))
 
   by_taken : (u : TcpValue) (by : ℕ) → Received u → acknowledgement_check u.block header.ack_number ≡ Passes by → Q (taken cx u ip header bytes by)
   by_taken u by r passes =
@@ -268,15 +277,17 @@ module _ (cx : ContextValue) (ip : IpRepr) (header : TcpHeader) (bytes : List �
       (λ _. by_drawn u r.draws)
       (λ _. by_taken u by r passes))
       (λ _.
-      cond_both (tells_news u header (length bytes)) (outside cx (acknowledged (timed cx.moment header u by) by cx.moment) ip header) (outside cx u ip header) Q
+      cond_both (tells_news u header (length bytes))
+      (outside cx (acknowledged (timed cx.moment header u by) by cx.moment) ip header (has_length header (length bytes)))
+      (outside cx u ip header false) Q
       (λ _. by_news u by r passes)
-      (λ _. by_outside u r.stays r.outside))
+      (λ _. by_outside u false r.stays r.outside))
   by_checked Old u r old =
       cond_both (is_in_window u.block (free_in u) header (length bytes))
       (with_content cx (with_block u (stamp_taken (heard u.block) header cx.moment)) ip header bytes)
-      (outside cx u ip header) Q
+      (outside cx u ip header (comes_again u header (length bytes))) Q
       (λ _. by_content (with_block u (stamp_taken (heard u.block) header cx.moment)) (r.old old))
-      (λ _. by_outside u r.stays r.outside)
+      (λ _. by_outside u (comes_again u header (length bytes)) r.stays r.outside)
   by_checked Drops u r e = r.stays
   by_checked Draws u r e = by_drawn u r.draws
   by_checked Resets u r e = r.refuses

@@ -1,6 +1,7 @@
 -- What a segment that comes does to what is in flight, and where its answer lies.
-use Rattle.std.proofs.Common.{◌≡◌, inl, inr, ℕ, ◌==◌, ◌&&◌, nat_le, not, Bool, true, false, if◌then◌else◌, List, Option, Some, None, is_some, length}
-use Rattle.std.proofs.Common.{drop, refl, sym, ap, ◌∙◌, subst}
+use Rattle.std.proofs.Common.{◌≡◌, inl, inr, ℕ, zero, suc, ◌-◌, min, ℤ, ◌==◌, ◌&&◌, nat_le, not, Bool, true, false, if◌then◌else◌, List, Option, Some}
+use Rattle.std.proofs.Common.{None, is_some, length}
+use Rattle.std.proofs.Common.{drop, refl, sym, ap, ◌∙◌, subst, arith}
 use Rattle.std.proofs.lemmas.Bool.{cond_both}
 use Rattle.held_bytes.specs.Held.{runs_of}
 use Rattle.ip_wire.specs.IpRepr.{IpRepr}
@@ -13,9 +14,13 @@ use Rattle.tcp_control.specs.declared.offer.Reply.{Reply}
 use Rattle.tcp_control.specs.declared.state.State.{State}
 use Rattle.tcp_control.specs.declared.state.State.TheVariants as In
 use Rattle.tcp_control.specs.Endpoints.{pair_in}
+use Rattle.tcp_control.specs.Moments.{timeout_from}
+use Rattle.tcp_model.specs.Blocks.{one_if}
 use Rattle.tcp_model.specs.Acknowledged.{acknowledged, duplicates_after, names_window, windowed, ranges_taken, counted}
+use Rattle.tcp_model.specs.Acknowledged.{block_acknowledged, freed_by, una_moved, ended_if, in_state, state_after_ack, is_blind, round_trip_after}
 use Rattle.tcp_model.specs.Answers.{drawn, may_draw, with_draw, acked, answer_for, ranges_held}
-use Rattle.tcp_model.specs.Arrival.{waiting_anew, outside, passed_outside, tells_news, with_content, told, taken, inside, checked, takes_reset}
+use Rattle.tcp_model.specs.Arrival.{waiting_anew, outside, passed_outside, tells_news, has_length, comes_again, with_content, told, taken, inside}
+use Rattle.tcp_model.specs.Arrival.{checked, takes_reset}
 use Rattle.tcp_model.specs.Arrival.{challenges_reset, reset_comes, draws_first, echo_heard, received, arrives_in, arrives, is_void_syn}
 use Rattle.tcp_model.specs.Calls.{listening}
 use Rattle.tcp_model.specs.Checks.{Check, acknowledgement_check, is_in_window, taken_down, falls_back}
@@ -31,8 +36,13 @@ use Rattle.tcp_model.specs.Value.{TcpValue, Arrived, with_block, dropped, answer
 use Rattle.tcp_model.specs.declared.block.Block.{Block}
 use Rattle.tcp_model.specs.FirstNumbers.{first_number, draws_number}
 use Rattle.tcp_model.specs.Timestamps.{believed, stamp_taken, echo_taken}
-use Rattle.tcp_rules.specs.Flight.{flight_of, IsPastAll}
+use Rattle.tcp_model.specs.Undone.{undone}
+use Rattle.tcp_model.proofs.Undone.{undone_by, undone_cases}
+use Rattle.tcp_model.specs.declared.block.Undo.{Undo}
+use Rattle.tcp_rules.specs.Flight.{flight_of, IsArmed, IsPastAll}
 use Rattle.tcp_rules.proofs.Going.{Goes}
+use Rattle.tcp_rules.proofs.ArrivalCases.{suc_not}
+use Rattle.tcp_rules.proofs.OrderSteps.{clash}
 use Rattle.tcp_rules.proofs.Steps.{same, goes_on, anew, una_goes, acked_goes}
 
 same_reply : (b : Block) (mine reply : Reply) → IsPastAll b mine → Some mine ≡ Some reply → IsPastAll b reply
@@ -83,7 +93,7 @@ module _ (cx : ContextValue) (ip : IpRepr) (header : TcpHeader) where
       cond_both (place == 0) (taken_in_order v (laid v place bytes)) (held_early v place (laid v place bytes)) (λ (t : Texted). Leaves v.block t.socket.block)
       (λ _. (refl, refl))
       (λ _.
-      cond_both (nat_le (length (runs_of (laid v place bytes))) 16)
+      cond_both (nat_le (length (runs_of (laid v place bytes))) 32)
       (texted (record v { received = received_of v.received.waiting (laid v place bytes) v.received.start }) 0 false (Some place)) (texted v 0 false None)
       (λ (t : Texted). Leaves v.block t.socket.block)
       (λ _. (refl, refl))
@@ -120,27 +130,84 @@ module _ (cx : ContextValue) (ip : IpRepr) (header : TcpHeader) where
       (λ _. (refl, refl))
       (λ _. (refl, refl))
 
-  -- an echo leaves what is in flight
-  from_echo : (old new : Block) (by : ℕ) → Goes (echo_taken old header by cx.moment) new → Goes old new
-  from_echo old new by goes = record { armed = goes.armed; rises = goes.rises }
+  -- An echo leaves what is in flight. Where a loss is undone all is in flight that was sent, and what is left of it has a timer.
+  heard_goes : (b : Block) (by queued : ℕ)
+      → Goes b (block_acknowledged (echo_taken (undone b header by queued cx.moment) header by cx.moment) by queued cx.moment)
+  heard_goes b by queued =
+      undone_cases b header by queued cx.moment
+      (λ (c : Block). Goes b (block_acknowledged (echo_taken c header by cx.moment) by queued cx.moment)) plain anew_armed
+    where
+      plain : Goes b (block_acknowledged (echo_taken b header by cx.moment) by queued cx.moment)
+      plain = let goes = acked_goes (echo_taken b header by cx.moment) by queued cx.moment in record { armed = goes.armed; rises = goes.rises }
+
+      none : (syn : Bool) → (min (0 - one_if syn) queued == 0) ≡ true
+      none syn = ap (λ (n : ℕ). n == 0) (least (one_if syn)) where
+        least : (n : ℕ) → min (0 - n) queued ≡ 0
+        least n = omega arith
+
+      moved : (n : ℕ) → (min (n - one_if b.sender.syn_unacked) queued == 0) ≡ false → (n == 0) ≡ false
+      moved zero e = clash (sym (none b.sender.syn_unacked) ∙ e)
+      moved (suc n) e = suc_not n
+
+      never : (a : Bool) → (a && false) ≡ false
+      never true = refl
+      never false = refl
+
+      anew_armed : (u : Undo) → b.loss.undo ≡ Some u → (freed_by b by queued == 0) ≡ false
+          → Goes b (block_acknowledged (echo_taken (undone_by u b queued) header by cx.moment) by queued cx.moment)
+      anew_armed u some frees = at (is_closed (state_after_ack (undone_by u b queued) by queued)) where
+        c : Block
+        c = echo_taken (undone_by u b queued) header by cx.moment
+
+        goes : Goes c (block_acknowledged c by queued cx.moment)
+        goes = acked_goes c by queued cx.moment
+
+        runs : IsArmed (flight_of (una_moved c by queued cx.moment))
+        runs left =
+            cond_both (by == 0) c.timers.retransmit_at
+            (if c.sender.in_flight - by == 0 then None
+            else if c.sender.partial && is_blind c by then c.timers.retransmit_at else Some (timeout_from cx.moment (round_trip_after c by cx.moment)))
+            (λ (timer : Option ℤ). is_some timer ≡ true)
+            (λ still. clash (sym still ∙ moved by frees))
+            (λ _.
+            cond_both (c.sender.in_flight - by == 0) None
+            (if c.sender.partial && is_blind c by then c.timers.retransmit_at else Some (timeout_from cx.moment (round_trip_after c by cx.moment)))
+            (λ (timer : Option ℤ). is_some timer ≡ true)
+            (λ all. clash (sym all ∙ left))
+            (λ _.
+            cond_both (c.sender.partial && is_blind c by) c.timers.retransmit_at (Some (timeout_from cx.moment (round_trip_after c by cx.moment)))
+            (λ (timer : Option ℤ). is_some timer ≡ true)
+            (λ blind. clash (sym blind ∙ never c.sender.partial))
+            (λ _. refl)))
+
+        at : (ends : Bool) → Goes b (ended_if ends (in_state (una_moved c by queued cx.moment) (state_after_ack c by queued) cx.moment))
+        at true =
+            let new = ended_if true (in_state (una_moved c by queued cx.moment) (state_after_ack c by queued) cx.moment) in
+            record { armed = λ _. runs; rises = (una_goes c by queued cx.moment new refl).rises }
+        at false =
+            let new = ended_if false (in_state (una_moved c by queued cx.moment) (state_after_ack c by queued) cx.moment) in
+            record { armed = λ _. runs; rises = (una_goes c by queued cx.moment new refl).rises }
 
   by_taken : (v : TcpValue) (bytes : List ℕ) (by : ℕ) → Sound v.block (taken cx v ip header bytes by)
   by_taken v bytes by =
       let timed = echo_heard v header by cx.moment in
       let w = acknowledged timed by cx.moment in
       let heeded = told w header (duplicates_after v.block header (length bytes) by) cx.moment in
-      let goes = from_echo v.block w.block by (acked_goes timed.block by (queued_in v) cx.moment) in
+      let goes = heard_goes v.block by (queued_in v) in
       cond_both (is_closed w.block.state) (dropped w) (with_content cx heeded ip header bytes) (Sound v.block)
       (λ _. by_dropped v.block w goes)
       (λ _.
       let heeds = told_leaves w (duplicates_after v.block header (length bytes) by) in
       by_content v.block heeded bytes (goes_on v.block w.block heeded.block goes heeds.0 heeds.1))
 
-  by_outside : (old : Block) (w : TcpValue) → Goes old w.block → Sound old (outside cx w ip header)
-  by_outside old w goes =
-      cond_both (is_closed w.block.state) (dropped w) (drawn cx (waiting_anew w header cx.moment) ip header) (Sound old)
+  by_outside : (old : Block) (w : TcpValue) (again : Bool) → Goes old w.block → Sound old (outside cx w ip header again)
+  by_outside old w again goes =
+      let x = waiting_anew w header cx.moment in
+      let leaves = goes_on old w.block x.block goes refl refl in
+      cond_both (is_closed w.block.state) (dropped w) (if again then acked cx x ip header no_ranges else drawn cx x ip header) (Sound old)
       (λ _. by_dropped old w goes)
-      (λ _. by_drawn old (waiting_anew w header cx.moment) (goes_on old w.block (waiting_anew w header cx.moment).block goes refl refl))
+      (λ _. cond_both again (acked cx x ip header no_ranges) (drawn cx x ip header) (Sound old) (λ _. by_acked old x no_ranges leaves)
+      (λ _. by_drawn old x leaves))
 
   by_checked : (check : Check) (v : TcpValue) (bytes : List ℕ) → Sound v.block (checked check cx v ip header bytes)
   by_checked (Passes by) v bytes =
@@ -151,21 +218,23 @@ module _ (cx : ContextValue) (ip : IpRepr) (header : TcpHeader) where
       (λ _. draws v)
       (λ _. by_taken v bytes by))
       (λ _.
-      cond_both (tells_news v header (length bytes)) (outside cx (acknowledged (echo_heard v header by cx.moment) by cx.moment) ip header)
-      (outside cx v ip header) (Sound v.block)
+      let again = has_length header (length bytes) in
+      cond_both (tells_news v header (length bytes)) (outside cx (acknowledged (echo_heard v header by cx.moment) by cx.moment) ip header again)
+      (outside cx v ip header false) (Sound v.block)
       (λ _.
       let timed = echo_heard v header by cx.moment in
       let w = acknowledged timed by cx.moment in
-      by_outside v.block w (from_echo v.block w.block by (acked_goes timed.block by (queued_in v) cx.moment)))
-      (λ _. by_outside v.block v (same v.block v.block refl)))
+      by_outside v.block w again (heard_goes v.block by (queued_in v)))
+      (λ _. by_outside v.block v false (same v.block v.block refl)))
   by_checked Old v bytes =
+      let again = comes_again v header (length bytes) in
       cond_both (is_in_window v.block (free_in v) header (length bytes))
       (with_content cx (with_block v (stamp_taken (heard v.block) header cx.moment)) ip header bytes)
-      (outside cx v ip header) (Sound v.block)
+      (outside cx v ip header again) (Sound v.block)
       (λ _.
       let heard_of = stamp_taken (heard v.block) header cx.moment in
       by_content v.block (with_block v heard_of) bytes (same v.block heard_of refl))
-      (λ _. by_outside v.block v (same v.block v.block refl))
+      (λ _. by_outside v.block v again (same v.block v.block refl))
   by_checked Drops v bytes = stays v
   by_checked Draws v bytes = draws v
   by_checked Resets v bytes = by_reset v (length bytes)

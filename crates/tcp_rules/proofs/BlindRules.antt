@@ -1,7 +1,6 @@
 -- Blind acknowledgements leave the retransmission timer as it runs, and so does what goes again between them.
 use Rattle.std.proofs.Common.{◌≡◌, ℕ, ◌-◌, ◌==◌, ◌&&◌, ◌||◌, ℤ, Bool, true, false, if◌then◌else◌, Option, Some, None, is_some, List, [], ◌∷◌}
-use Rattle.std.proofs.Common.{refl, sym, ◌∙◌, ap}
-use Rattle.tcp_control.specs.Moments.{timeout_from}
+use Rattle.std.proofs.Common.{refl, ◌∙◌}
 use Rattle.tcp_control.specs.declared.offer.OfferKind.TheVariants as Kind
 use Rattle.tcp_control.specs.declared.offer.OpenOffer.{OpenOffer}
 use Rattle.tcp_model.specs.Acknowledged.{is_blind, una_moved}

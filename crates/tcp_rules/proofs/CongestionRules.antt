@@ -21,17 +21,20 @@ use Rattle.tcp_control.specs.declared.offer.OfferKind.TheVariants as Kind
 use Rattle.tcp_control.specs.declared.offer.OpenOffer.{OpenOffer}
 use Rattle.tcp_control.specs.declared.state.State.{State}
 use Rattle.tcp_control.specs.declared.state.State.TheVariants as In
-use Rattle.tcp_model.specs.Acknowledged.{acks_fin, state_after_ack, freed_by, reno_after, srtt_after, reno_counted, duplicates_after}
+use Rattle.tcp_model.specs.Acknowledged.{acks_fin, state_after_ack, freed_by, reno_after, srtt_after, reno_counted, duplicates_after, begins_recovery}
+use Rattle.tcp_model.specs.Acknowledged.{ranges_taken, windowed}
 use Rattle.tcp_model.specs.Arrival.{arrives}
 use Rattle.tcp_model.specs.Blocks.{one_if, fresh_window}
 use Rattle.tcp_model.specs.Calls.{listening, connected_by, pair_for, sent_more}
 use Rattle.tcp_model.specs.Checks.{falls_back}
 use Rattle.tcp_model.specs.Offers.{offer_of}
 use Rattle.tcp_model.specs.Opening.{took_syn}
-use Rattle.tcp_model.specs.LossRecovery.{loss_probed, probes_tail}
+use Rattle.tcp_model.specs.LossRecovery.{is_lost_again, loss_probed, probes_tail}
 use Rattle.tcp_model.specs.Retries.{asked, one_more}
 use Rattle.tcp_model.specs.Rules.{backed_off_now}
-use Rattle.tcp_model.specs.Timestamps.{echo_taken}
+use Rattle.tcp_model.specs.Timestamps.{stamp_taken, echo_taken}
+use Rattle.tcp_model.specs.Undone.{is_needless, prior_of}
+use Rattle.tcp_model.proofs.Undone.{undone_cases, needless_frees}
 use Rattle.tcp_model.specs.Settled.{sent_off, sent_as, recorded, probed, end_of}
 use Rattle.tcp_model.specs.Value.{TcpValue, Arrived, with_block, unoffered, ended, new_socket, queued_in, room_of}
 use Rattle.tcp_model.specs.declared.block.Block.{Block}
@@ -220,7 +223,7 @@ module _ (cx : ContextValue) (ip : IpRepr) (header : TcpHeader) (bytes : List �
   }
 
   held_drawing : (x : TcpValue) → IsHeld (control_of x.block) → Drawing cx ip header bytes Held x
-  held_drawing x h = record { answers = λ _. h; pauses = h }
+  held_drawing x h = record { answers = λ _. h; at_once = h; pauses = h }
 
   fresh_held : (u : TcpValue) (endpoint : IpListenEndpoint) → IsHeld (control_of (listening u endpoint).block)
   fresh_held u endpoint = record { window = λ e. clash (sym e); listens = λ _. refl }
@@ -234,24 +237,34 @@ module _ (cx : ContextValue) (ip : IpRepr) (header : TcpHeader) (bytes : List �
       (out_acked u.block.reno u.block.peer.sack u.block.sender.syn_unacked u.block.sender.syn_lost by (queued_in u)
       u.block.sender.recover cx.moment (srtt_after u.block by cx.moment) h.window) (state_past u by past)
 
-  heeded_held : (u : TcpValue) (by : ℕ) (begins again : Bool) → IsHeld (control_of u.block) → is_past u.block.state ≡ true
+  heeded_held : (u : TcpValue) (by count : ℕ) (begins again : Bool) → IsHeld (control_of u.block) → is_past u.block.state ≡ true
       → IsHeld (record {
         reno =
-            reno_counted (reno_after u.block by (queued_in u) cx.moment) u.block.peer.sack (duplicates_after u.block header (length bytes) by)
+            reno_counted (reno_after u.block by (queued_in u) cx.moment) u.block.peer.sack count
             (u.block.sender.in_flight - by) begins again;
         syn_unacked = u.block.sender.syn_unacked && (by == 0);
         state = state_after_ack u.block by (queued_in u);
       })
-  heeded_held u by begins again h past =
+  heeded_held u by count begins again h past =
       held
-      (reno_counted (reno_after u.block by (queued_in u) cx.moment) u.block.peer.sack (duplicates_after u.block header (length bytes) by)
+      (reno_counted (reno_after u.block by (queued_in u) cx.moment) u.block.peer.sack count
       (u.block.sender.in_flight - by) begins again)
       (u.block.sender.syn_unacked && (by == 0)) (state_after_ack u.block by (queued_in u))
       (out_counted (reno_after u.block by (queued_in u) cx.moment) (u.block.sender.syn_unacked && (by == 0)) u.block.peer.sack begins again
-      (duplicates_after u.block header (length bytes) by) (u.block.sender.in_flight - by)
+      count (u.block.sender.in_flight - by)
       (out_acked u.block.reno u.block.peer.sack u.block.sender.syn_unacked u.block.sender.syn_lost by (queued_in u)
       u.block.sender.recover cx.moment (srtt_after u.block by cx.moment) h.window))
       (state_past u by past)
+
+  -- the block as its duplicates are counted
+  abbrev noted : Block → Block
+  noted b = ranges_taken (stamp_taken b header cx.moment) header cx.moment
+
+  -- a loss that is undone is over
+  heard_held : (u : TcpValue) (by : ℕ) → IsHeld (control_of u.block) → IsHeld (control_of (timed cx.moment header u by).block)
+  heard_held u by h =
+      undone_cases u.block header by (queued_in u) cx.moment (λ (c : Block). IsHeld (control_of c)) h
+      (λ undo _ _. record { window = λ e. clash (sym e); listens = λ _. refl })
 
   held_received : (u : TcpValue) → IsHeld (control_of u.block) → is_past u.block.state ≡ true → Received cx ip header bytes Held u
   held_received u h past = record {
@@ -264,10 +277,16 @@ module _ (cx : ContextValue) (ip : IpRepr) (header : TcpHeader) (bytes : List �
         let w = timed cx.moment header u by in
         held (reno_after w.block by (queued_in w) cx.moment) (w.block.sender.syn_unacked && (by == 0)) In.Closed
         (out_acked w.block.reno w.block.peer.sack w.block.sender.syn_unacked w.block.sender.syn_lost by (queued_in w)
-        w.block.sender.recover cx.moment (srtt_after w.block by cx.moment) h.window) refl;
-    taken = λ by _ _. held_content _ (heeded_held (timed cx.moment header u by) by _ _ h past);
-    taken_window = λ by _ _. held_content _ (heeded_held (timed cx.moment header u by) by _ _ h past);
-    news = λ by _ _. held_drawing _ (acked_held (timed cx.moment header u by) by h past);
+        w.block.sender.recover cx.moment (srtt_after w.block by cx.moment) (heard_held u by h).window) refl;
+    taken = λ by _ _.
+        let b : Block = noted (acked_open (timed cx.moment header u by) by cx.moment).block in
+        let count = duplicates_after u.block header (length bytes) by in
+        held_content _ (heeded_held (timed cx.moment header u by) by count (begins_recovery b count) (is_lost_again b) (heard_held u by h) past);
+    taken_window = λ by _ _.
+        let b : Block = noted (windowed (acked_open (timed cx.moment header u by) by cx.moment).block header) in
+        let count = duplicates_after u.block header (length bytes) by in
+        held_content _ (heeded_held (timed cx.moment header u by) by count (begins_recovery b count) (is_lost_again b) (heard_held u by h) past);
+    news = λ by _ _. held_drawing _ (acked_held (timed cx.moment header u by) by (heard_held u by h) past);
     outside = held_drawing _ h;
     old = λ _. held_content _ h;
   }
@@ -541,15 +560,19 @@ module _ (cx : ContextValue) (ip : IpRepr) (header : TcpHeader) (bytes : List �
   stays_content x s = record { plain = s; fin = λ _ _. s; ordered = λ _ _ _ _. s; ordered_fin = λ _ _ _ _. s; early = λ _ _ _ _. s }
 
   stays_drawing : (x : TcpValue) → StaysBy (record { socket = x; answer = None; draws = false }) → Drawing cx ip header bytes StaysBy x
-  stays_drawing x s = record { answers = λ _. s; pauses = s }
+  stays_drawing x s = record { answers = λ _. s; at_once = s; pauses = s }
 
-  -- the acknowledgement frees nothing, or bytes
+  -- it undoes the timeout, or not
+  abbrev window_if : Bool → ℕ → ℕ → RenoValue
+  window_if needless by rtt =
+      acked_reno (if needless then prior_of v.block.loss.undo v.block.reno else v.block.reno) v.block.peer.sack v.block.sender.syn_unacked
+      v.block.sender.syn_lost by (queued_in v) (if needless then 0 else v.block.sender.recover) cx.moment rtt
+
   abbrev window_by : ℕ → ℕ → RenoValue
-  window_by by rtt =
-      acked_reno v.block.reno v.block.peer.sack v.block.sender.syn_unacked v.block.sender.syn_lost by (queued_in v) v.block.sender.recover cx.moment rtt
+  window_by by rtt = window_if (is_needless v.block header by (queued_in v) cx.moment) by rtt
 
-  acked_stays : (by rtt : ℕ) → ((window_by by rtt).timed_out ≡ true) ⊎ (length (drop (freed_by v.block by (queued_in v)) v.queued.queue) < queued_in v)
-  acked_stays by rtt =
+  taken_stays : (by rtt : ℕ) → ((window_if false by rtt).timed_out ≡ true) ⊎ (length (drop (freed_by v.block by (queued_in v)) v.queued.queue) < queued_in v)
+  taken_stays by rtt =
       acked_both (λ (r : RenoValue). (r.timed_out ≡ true) ⊎ (length (drop (freed_by v.block by (queued_in v)) v.queued.queue) < queued_in v))
       v.block.reno v.block.peer.sack v.block.sender.syn_unacked v.block.sender.syn_lost by (queued_in v) v.block.sender.recover cx.moment rtt
       (λ _. inl out) (λ _. inl out) (λ _. inl out) (λ recovers. clash (sym recovers ∙ (h.window out).1))
@@ -562,6 +585,15 @@ module _ (cx : ContextValue) (ip : IpRepr) (header : TcpHeader) (bytes : List �
       (λ (r : RenoValue). (r.timed_out ≡ true) ⊎ (length (drop (freed_by v.block by (queued_in v)) v.queued.queue) < queued_in v))
       (λ _. inl out)
       (λ some. inr (shorter v.queued.queue by (one_if v.block.sender.syn_unacked) some)))
+
+  -- the acknowledgement frees nothing, or bytes, as it does where the timeout is undone
+  acked_stays : (by rtt : ℕ) → ((window_by by rtt).timed_out ≡ true) ⊎ (length (drop (freed_by v.block by (queued_in v)) v.queued.queue) < queued_in v)
+  acked_stays by rtt = either (is_needless v.block header by (queued_in v) cx.moment) refl where
+    either : (needless : Bool) → is_needless v.block header by (queued_in v) cx.moment ≡ needless
+        → ((window_if needless by rtt).timed_out ≡ true) ⊎ (length (drop (freed_by v.block by (queued_in v)) v.queued.queue) < queued_in v)
+    either true e =
+        inr (shorter v.queued.queue by (one_if v.block.sender.syn_unacked) (needless_frees v.block header by (queued_in v) cx.moment e))
+    either false e = taken_stays by rtt
 
   counted_stays : (r : RenoValue) (count flight : ℕ) (sack begins again : Bool) → r.timed_out ≡ true →
       (reno_counted r sack count flight begins again).timed_out ≡ true
@@ -580,13 +612,13 @@ module _ (cx : ContextValue) (ip : IpRepr) (header : TcpHeader) (bytes : List �
 
   heeded_stays : (by rtt : ℕ) (begins again : Bool)
       → ((reno_counted (window_by by rtt) v.block.peer.sack (duplicates_after v.block header (length bytes) by)
-      (v.block.sender.in_flight - by) begins again).timed_out ≡ true)
+      ((timed cx.moment header v by).block.sender.in_flight - by) begins again).timed_out ≡ true)
       ⊎ (length (drop (freed_by v.block by (queued_in v)) v.queued.queue) < queued_in v)
   heeded_stays by rtt begins again =
       ⊎_elim
       (λ e.
-      inl (counted_stays (window_by by rtt) (duplicates_after v.block header (length bytes) by) (v.block.sender.in_flight - by)
-      v.block.peer.sack begins again e))
+      inl (counted_stays (window_by by rtt) (duplicates_after v.block header (length bytes) by)
+      ((timed cx.moment header v by).block.sender.in_flight - by) v.block.peer.sack begins again e))
       (λ less. inr less) (acked_stays by rtt)
 
   abbrev heard : ℕ → ℕ

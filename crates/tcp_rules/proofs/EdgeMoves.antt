@@ -182,6 +182,7 @@ module _ (edge named : ℕ) (cx : ContextValue) (ip : IpRepr) (header : TcpHeade
       Drawing cx ip header bytes Arrives x
   moves_drawing x same on p = record {
     answers = λ _. answers (with_draw x cx.moment) same on p no_ranges;
+    at_once = answers x same on p no_ranges;
     pauses = keeps edge named v small x same p;
   }
 

@@ -72,7 +72,7 @@ module _ (capacity f : ℕ) (cx : ContextValue) (ip : IpRepr) (header : TcpHeade
       (less capacity f (f - risen v.block x.block) (edge_of x) p (minus_least f (risen v.block x.block)))
 
   edge_drawing : (x : TcpValue) → IsEdge capacity f (edge_of x) → Drawing cx ip header bytes Arrives x
-  edge_drawing x p = record { answers = λ _. answers (with_draw x cx.moment) no_ranges p; pauses = keeps x p }
+  edge_drawing x p = record { answers = λ _. answers (with_draw x cx.moment) no_ranges p; at_once = answers x no_ranges p; pauses = keeps x p }
 
   -- so much is taken
   rises : (w : TcpValue) (n : ℕ) → v.block.receiver.took_syn ≡ true → v.block.receiver.next.0 < 2 ^ 32 → n ≤ capacity + 1 →

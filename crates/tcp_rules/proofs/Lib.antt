@@ -22,3 +22,4 @@ pub mod EdgeMoves
 pub mod LossRules
 pub mod StampRules
 pub mod BlindRules
+pub mod UndoRules

@@ -25,6 +25,7 @@ use Rattle.tcp_model.specs.Arrival.{arrives}
 use Rattle.tcp_model.specs.Calls.{listening, connected_by, pair_for, sent_more}
 use Rattle.tcp_model.specs.FirstNumbers.{number_for}
 use Rattle.tcp_model.specs.Timestamps.{stamp_taken, echo_taken}
+use Rattle.tcp_model.specs.Undo.{undo_sent}
 use Rattle.tcp_model.specs.LossRecovery.{with_board, probe_from, probes_losses, probe_armed, run_within, run_of}
 use Rattle.tcp_model.specs.LossRecovery.{range_noted, all_noted, heard_more, ranges_noted}
 use Rattle.tcp_model.specs.LossRecovery.{loss_lowered, loss_acked, loss_probed}
@@ -77,7 +78,7 @@ within_lowered by top (r ∷ rs) h = (nearer r.end top by h.0, within_lowered by
 
 within_after : (rs : List Run) (by top : ℕ) → AreWithin top rs → AreWithin (top - by) (after_ack rs by)
 within_after rs by top h =
-    cond_both (reneges rs by) no_runs (map (lowered by) rs) (AreWithin (top - by)) (λ _. within_nothing (top - by) 16) (λ _. within_lowered by top rs h)
+    cond_both (reneges rs by) no_runs (map (lowered by) rs) (AreWithin (top - by)) (λ _. within_nothing (top - by) 32) (λ _. within_lowered by top rs h)
 
 within_without : (top : ℕ) (rs : List Run) (run : Run) → AreWithin top rs → AreWithin top (without rs run)
 within_without top [] run h = tt
@@ -192,7 +193,7 @@ module _ (cx : ContextValue) (ip : IpRepr) (header : TcpHeader) (bytes : List �
   }
 
   right_drawing : (x : TcpValue) → IsKnownRight (known_of x.block) → Drawing cx ip header bytes Right x
-  right_drawing x k = record { answers = λ _. k; pauses = k }
+  right_drawing x k = record { answers = λ _. k; at_once = k; pauses = k }
 
   acked_right : (b : Block) (by queued : ℕ) (state : State) → IsKnownRight (known_of b) → is_listening state ≡ false
       → IsKnownRight (record {
@@ -216,9 +217,9 @@ module _ (cx : ContextValue) (ip : IpRepr) (header : TcpHeader) (bytes : List �
     stays = k;
     refuses = k;
     draws = right_drawing u k;
-    falls = λ _ _ _. record { within = within_nothing 0 16; listens = λ _. refl };
+    falls = λ _ _ _. record { within = within_nothing 0 32; listens = λ _. refl };
     ends = λ _ _ _. right _ k.within refl;
-    closes = λ by _ _. acked_right (echo_taken u.block header by cx.moment) by (queued_in u) In.Closed (echoed by) refl;
+    closes = λ by _ _. acked_right (timed cx.moment header u by).block by (queued_in u) In.Closed (echoed by) refl;
     taken = λ by _ _.
         right_content _
         (heeded_right u by (stamp_taken (acked_open (timed cx.moment header u by) by cx.moment).block header cx.moment) refl (within_now by) past);
@@ -228,25 +229,25 @@ module _ (cx : ContextValue) (ip : IpRepr) (header : TcpHeader) (bytes : List �
         past);
     news = λ by _ _.
         right_drawing _
-        (acked_right (echo_taken u.block header by cx.moment) by (queued_in u) (state_after_ack u.block by (queued_in u)) (echoed by) (state_past u by past));
+        (acked_right (timed cx.moment header u by).block by (queued_in u) (state_after_ack u.block by (queued_in u)) (echoed by) (state_past u by past));
     outside = right_drawing _ k;
     old = λ _. right_content _ k;
   }
     where
       -- a round trip by an echo changes nothing of it
-      echoed : (by : ℕ) → IsKnownRight (known_of (echo_taken u.block header by cx.moment))
+      echoed : (by : ℕ) → IsKnownRight (known_of (timed cx.moment header u by).block)
       echoed by = k
 
       within_now : (by : ℕ) → AreWithin (u.block.sender.top - by)
-          (loss_acked (una_risen (echo_taken u.block header by cx.moment) by (queued_in u) cx.moment) by
-          (is_partial (echo_taken u.block header by cx.moment) by) cx.moment).board.runs
+          (loss_acked (una_risen (timed cx.moment header u by).block by (queued_in u) cx.moment) by
+          (is_partial (timed cx.moment header u by).block by) cx.moment).board.runs
       within_now by =
-          within_acked (echo_taken u.block header by cx.moment) by (queued_in u) (is_partial (echo_taken u.block header by cx.moment) by) cx.moment k.within
+          within_acked (timed cx.moment header u by).block by (queued_in u) (is_partial (timed cx.moment header u by).block by) cx.moment k.within
 
   right_opening : (u : TcpValue) → IsKnownRight (known_of u.block) → Opening cx ip header bytes Right u
   right_opening u k = record {
     opens = λ at _.
-        record { within = subst (AreWithin 0) (sym (k.listens (ap is_listening at))) (within_nothing 0 16); listens = λ e. clash (sym e) };
+        record { within = subst (AreWithin 0) (sym (k.listens (ap is_listening at))) (within_nothing 0 32); listens = λ e. clash (sym e) };
     refuses = k;
     ends = λ _. right _ k.within refl;
     connects = λ at _.
@@ -285,13 +286,17 @@ went_right b l c end now same not k =
 abbrev moved : Block → OpenOffer → ℕ → Block
 moved b o queued = timer_started (nxt_moved b (end_of b o) queued o.moment) o.moment
 
+-- what goes again is known by its moment
+abbrev marked : Block → OpenOffer → Loss
+marked c o = record c.loss { undo = undo_sent c c.loss.undo o.moment }
+
 sent_right : (kind : OfferKind) (b : Block) (o : OpenOffer) (queued : ℕ) → is_listening b.state ≡ false → IsKnownRight (known_of b) →
     IsKnownRight (known_of (sent_as kind b o queued))
 sent_right Kind.Reset b o queued not k = right _ k.within refl
-sent_right Kind.Syn b o queued not k = went_right b b.loss (moved (syn_went b o) o queued) (end_of b o) o.moment refl not k
+sent_right Kind.Syn b o queued not k = went_right b (marked (moved (syn_went b o) o queued) o) (moved (syn_went b o) o queued) (end_of b o) o.moment refl not k
 sent_right Kind.FastRetransmission b o queued not k =
-    went_right b (resent b (end_of b o)).loss (moved (resent b (end_of b o)) o queued) (end_of b o) o.moment refl not k
-sent_right Kind.Text b o queued not k = went_right b b.loss (moved b o queued) (end_of b o) o.moment refl not k
+    let c = moved (resent b (end_of b o)) o queued in went_right b (marked c o) c (end_of b o) o.moment refl not k
+sent_right Kind.Text b o queued not k = went_right b (marked (moved b o queued) o) (moved b o queued) (end_of b o) o.moment refl not k
 sent_right Kind.Probe b o queued not k =
     asked_right (probed b (end_of b o) o.moment) o.moment
     (right _ (within_more b.sender.top (max b.sender.top (end_of b o)) b.loss.board.runs (at_most b.sender.top (end_of b o)) k.within) not)
@@ -323,7 +328,7 @@ module _ (cx : ContextValue) where
     timeout = λ _. (right _ k.within refl, inr refl);
     closed = λ _. (k, inr refl);
     reset = λ _ closed _. (k, inl (not_listening v.block.state closed));
-    falls = λ _ _ _. (record { within = within_nothing 0 16; listens = λ _. refl }, inr refl);
+    falls = λ _ _ _. (record { within = within_nothing 0 32; listens = λ _. refl }, inr refl);
     over = λ _ _ _. (right _ k.within refl, inr refl);
     backs = λ pair named _ _. right_first pair (with_block (unoffered v) (backed_off_now (begun cx v))) k (unnamed v pair p named);
     probes = λ pair named _ _ _. right_first pair (with_block (unoffered v) (loss_probed (begun cx v))) k (unnamed v pair p named);
@@ -362,7 +367,7 @@ set_right v (Congestion control) k = k
 connected_right : (v : TcpValue) (names : Option EndpointPair) (number : ℕ) → IsKnownRight (known_of v.block) →
     IsKnownRight (known_of (connected_by v names number).block)
 connected_right v None number k = k
-connected_right v (Some pair) number k = record { within = within_nothing 0 16; listens = λ _. refl }
+connected_right v (Some pair) number k = record { within = within_nothing 0 32; listens = λ _. refl }
 
 event_right : (v : TcpValue) (it : Event) → IsInOrder (sending_of v) → IsKnownRight (known_of v.block) → IsKnownRight (known_of (after v it).block)
 event_right v (Comes cx ip header bytes) p k = right_arrival cx ip header bytes v k
@@ -371,7 +376,7 @@ event_right v (Asked cx true) p k =
 event_right v (Asked cx false) p k = (right_offer cx v p k).0
 event_right v (Listens endpoint) p k =
     cond_both (is_closed v.block.state && not (endpoint.port == 0)) (listening v endpoint) (unoffered v) (λ (w : TcpValue). IsKnownRight (known_of w.block))
-    (λ _. record { within = within_nothing 0 16; listens = λ _. refl }) (λ _. k)
+    (λ _. record { within = within_nothing 0 32; listens = λ _. refl }) (λ _. k)
 event_right v (Connects cx remote local) p k =
     cond_both (is_closed v.block.state) (connected_by v (pair_for cx remote local) (number_for cx (pair_for cx remote local))) (unoffered v)
     (λ (w : TcpValue). IsKnownRight (known_of w.block))
@@ -398,7 +403,7 @@ pub led_held : (capacity : ℕ) (queued : Ring ℕ) (events : List Event)
     → AreWithin (led (new_socket capacity queued) events).block.sender.top (led (new_socket capacity queued) events).block.loss.board.runs
 led_held capacity queued events =
     (led_right (new_socket capacity queued) events (new_order capacity queued)
-    (record { within = within_nothing 0 16; listens = λ _. refl })).within
+    (record { within = within_nothing 0 32; listens = λ _. refl })).within
 
 -- PROBES
 
@@ -418,10 +423,10 @@ asked_probe b now =
 
 pub probed_once : (kind : OfferKind) (b : Block) (o : OpenOffer) (queued : ℕ) → b.loss.probed ≡ true
     → (sent_as kind b o queued).loss.probe_at ≡ b.loss.probe_at
-probed_once Kind.Syn b o queued e = armed_not (moved (syn_went b o) o queued) b.loss o.moment e
+probed_once Kind.Syn b o queued e = armed_not (moved (syn_went b o) o queued) (marked (moved (syn_went b o) o queued) o) o.moment e
 probed_once Kind.FastRetransmission b o queued e =
-    armed_not (moved (resent b (end_of b o)) o queued) (resent b (end_of b o)).loss o.moment e
-probed_once Kind.Text b o queued e = armed_not (moved b o queued) b.loss o.moment e
+    let c = moved (resent b (end_of b o)) o queued in armed_not c (marked c o) o.moment e
+probed_once Kind.Text b o queued e = armed_not (moved b o queued) (marked (moved b o queued) o) o.moment e
 probed_once Kind.Probe b o queued e = asked_probe (probed b (end_of b o) o.moment) o.moment
 probed_once Kind.KeepAlive b o queued e = asked_probe b o.moment
 probed_once other b o queued e = refl

@@ -48,6 +48,7 @@ use Rattle.tcp_model.specs.declared.block.CongestionControl.{CongestionControl}
 use Rattle.tcp_model.specs.declared.block.CongestionControl.TheVariants as Avoids
 use Rattle.tcp_model.specs.FirstNumbers.{first_number, number_for}
 use Rattle.tcp_model.specs.Timestamps.{believed, stamp_taken}
+use Rattle.tcp_model.proofs.Undone.{undone_cases}
 use Rattle.tcp_model.proofs.Numbers.{number_small, number_for_small}
 use Rattle.tcp_control.specs.Endpoints.{pair_in}
 use Rattle.tcp_rules.specs.Events.{Event, Setting, after, led, set, is_past}
@@ -126,7 +127,30 @@ module _ (cx : ContextValue) (ip : IpRepr) (header : TcpHeader) (bytes : List �
   }
 
   order_drawing : (x : TcpValue) → IsInOrder (sending_of x) → Drawing cx ip header bytes Order x
-  order_drawing x p = record { answers = λ _. p; pauses = p }
+  order_drawing x p = record { answers = λ _. p; at_once = p; pauses = p }
+
+  -- a loss that is undone leaves what is in flight within what may be
+  heard_order : (u : TcpValue) (by : ℕ) → IsInOrder (sending_of u) → IsInOrder (sending_of (timed cx.moment header u by))
+  heard_order u by p =
+      undone_cases u.block header by (queued_in u) cx.moment (λ (c : Block). IsInOrder (sending_of (with_block u c))) p
+      (λ undo _ frees. record {
+        number = p.number;
+        within = λ on.
+            upto u.block.sender.in_flight u.block.sender.top (one_if u.block.sender.syn_unacked + queued_in u) (one_if (owes_fin u.block.state)) (p.within on);
+        opening = p.opening;
+        opened = p.opened;
+        acked = λ all. clash (sym (none (by - one_if u.block.sender.syn_unacked) (queued_in u) (p.acked all).2) ∙ frees);
+        took = p.took;
+        listens = p.listens;
+      })
+    where
+      upto : (flight top all fin : ℕ) → flight ≤ all + fin → max flight (min top all) ≤ all + fin
+      upto flight top all fin e = omega arith
+
+      none : (n queued : ℕ) → queued ≡ 0 → (min n queued == 0) ≡ true
+      none n queued e = ap (λ (m : ℕ). m == 0) (least n queued e) where
+        least : (n queued : ℕ) → queued ≡ 0 → min n queued ≡ 0
+        least n queued e = omega arith
 
   order_received : (u : TcpValue) → IsInOrder (sending_of u) → is_past u.block.state ≡ true → Received cx ip header bytes Order u
   order_received u p past = record {
@@ -136,21 +160,23 @@ module _ (cx : ContextValue) (ip : IpRepr) (header : TcpHeader) (bytes : List �
     falls = λ _ _ _. order_listens u u.block.names.listen;
     ends = λ _ _ _. closed_order (sending_of u) false p;
     closes = λ by passes _.
-        last_order (sending_of u) (behind_by u.block.sender.una by).0 by (length (drop (freed_by u.block by (queued_in u)) u.queued.queue))
-        (if u.block.sender.partial && is_blind u.block by then u.block.timers.retransmit_at else Some
-        (timeout_from cx.moment (acked_open (timed cx.moment header u by) by cx.moment).block.round_trip)) p (small_number u.block.sender.una by)
+        last_order (sending_of (timed cx.moment header u by)) (behind_by u.block.sender.una by).0 by
+        (length (drop (freed_by u.block by (queued_in u)) u.queued.queue))
+        (if u.block.sender.partial && is_blind (timed cx.moment header u by).block by then u.block.timers.retransmit_at else Some
+        (timeout_from cx.moment (acked_open (timed cx.moment header u by) by cx.moment).block.round_trip)) (heard_order u by p)
+            (small_number u.block.sender.una by)
         (syn_gone (sending_of u) by p (passes_news u.block header.ack_number by passes));
     taken = λ by passes alive.
         order_content (heeded cx.moment header (length bytes) u by (acked_open (timed cx.moment header u by) by cx.moment).block)
-        (acked_order (timed cx.moment header u by) by cx.moment p past (passes_news u.block header.ack_number by passes) alive)
+        (acked_order (timed cx.moment header u by) by cx.moment (heard_order u by p) past (passes_news u.block header.ack_number by passes) alive)
         (syn_gone (sending_of u) by p (passes_news u.block header.ack_number by passes));
     taken_window = λ by passes alive.
         order_content (heeded cx.moment header (length bytes) u by (windowed (acked_open (timed cx.moment header u by) by cx.moment).block header))
-        (acked_order (timed cx.moment header u by) by cx.moment p past (passes_news u.block header.ack_number by passes) alive)
+        (acked_order (timed cx.moment header u by) by cx.moment (heard_order u by p) past (passes_news u.block header.ack_number by passes) alive)
         (syn_gone (sending_of u) by p (passes_news u.block header.ack_number by passes));
     news = λ by passes alive.
         order_drawing (waiting_anew (acked_open (timed cx.moment header u by) by cx.moment) header cx.moment)
-        (acked_order (timed cx.moment header u by) by cx.moment p past (passes_news u.block header.ack_number by passes) alive);
+        (acked_order (timed cx.moment header u by) by cx.moment (heard_order u by p) past (passes_news u.block header.ack_number by passes) alive);
     outside = order_drawing (waiting_anew u header cx.moment) p;
     old = λ old.
         order_content (with_block u (stamp_taken (heard u.block) header cx.moment)) p (syn_gone_old (sending_of u) p (old_news u.block header.ack_number old));

@@ -43,6 +43,8 @@ use Rattle.tcp_model.specs.Value.{TcpValue, Arrived, with_block, unoffered, ende
 use Rattle.tcp_model.specs.declared.block.Block.{Block}
 use Rattle.tcp_model.specs.FirstNumbers.{number_for}
 use Rattle.tcp_model.specs.Timestamps.{stamp_taken, echo_taken, echo_of, stamp_taken, timed_by, timed_with}
+use Rattle.tcp_model.specs.Undone.{undone}
+use Rattle.tcp_model.proofs.Undone.{undone_by, undone_cases}
 use Rattle.tcp_rules.specs.Events.{Event, Setting, after, led, set, is_past}
 use Rattle.tcp_rules.specs.Events.Event.{Comes, Asked, Listens, Connects, Sends, Reads, Closes, Aborts, Sets}
 use Rattle.tcp_rules.specs.Events.Setting.{Timeout, KeepAlive, AckDelay, Nagle, HopLimit, Timestamps, Paused, Retries, MinRto, Congestion}
@@ -267,7 +269,7 @@ module _ (cx : ContextValue) (ip : IpRepr) (header : TcpHeader) (bytes : List �
   }
 
   paced_drawing : (x : TcpValue) → IsPaced (recovery_of x.block) → Drawing cx ip header bytes Paced x
-  paced_drawing x p = record { answers = λ _. p; pauses = p }
+  paced_drawing x p = record { answers = λ _. p; at_once = p; pauses = p }
 
   closed_paced : (u : TcpValue) → IsPaced (recovery_of u.block) → IsPaced (recovery_of (ended u).block)
   closed_paced u p = paced _ p.lasts refl (fine_of _ p)
@@ -289,19 +291,25 @@ module _ (cx : ContextValue) (ip : IpRepr) (header : TcpHeader) (bytes : List �
   echo_paced b by p not =
       paced _ p.lasts not (fine_echo b.round_trip by b.settings.min_rto (echo_of b header cx.moment) (fine_of (recovery_of b) p))
 
-  heeded_paced : (u : TcpValue) (by : ℕ) (begins again : Bool) → (again ≡ true → (reno_after u.block by (queued_in u) cx.moment).recovers ≡ true)
+  undone_paced : (b : Block) (by queued : ℕ) → IsPaced (recovery_of b) → is_listening b.state ≡ false
+      → IsPaced (recovery_of (undone b header by queued cx.moment))
+  undone_paced b by queued p not =
+      undone_cases b header by queued cx.moment (λ (c : Block). IsPaced (recovery_of c)) p
+      (λ u _ _. paced (recovery_of (undone_by u b queued)) (λ e. clash (sym e)) not (fine_of (recovery_of b) p))
+
+  heeded_paced : (u : TcpValue) (by count : ℕ) (begins again : Bool) → (again ≡ true → (reno_after u.block by (queued_in u) cx.moment).recovers ≡ true)
       → IsPaced (recovery_of u.block) → is_past u.block.state ≡ true
       → IsPaced (record {
         state = state_after_ack u.block by (queued_in u);
-        reno = reno_counted (reno_after u.block by (queued_in u) cx.moment) u.block.peer.sack (duplicates_after u.block header (length bytes) by)
+        reno = reno_counted (reno_after u.block by (queued_in u) cx.moment) u.block.peer.sack count
             (u.block.sender.in_flight - by) begins again;
         recover = if begins then min (u.block.sender.top - by + 1) 4_294_967_295 else u.block.sender.recover - by;
         round_trip = round_trip_after u.block by cx.moment;
         min_rto = u.block.settings.min_rto;
       })
-  heeded_paced u by begins again only p past =
+  heeded_paced u by count begins again only p past =
       paced _
-      (lasts_counted (reno_after u.block by (queued_in u) cx.moment) u.block.peer.sack begins again (duplicates_after u.block header (length bytes) by)
+      (lasts_counted (reno_after u.block by (queued_in u) cx.moment) u.block.peer.sack begins again count
       (u.block.sender.in_flight - by) (u.block.sender.top - by) (u.block.sender.recover - by) only
       (lasts_acked u.block.reno u.block.peer.sack u.block.sender.syn_unacked u.block.sender.syn_lost by (queued_in u)
       u.block.sender.recover cx.moment (srtt_after u.block by cx.moment) p.lasts))
@@ -324,27 +332,31 @@ module _ (cx : ContextValue) (ip : IpRepr) (header : TcpHeader) (bytes : List �
     draws = paced_drawing u p;
     falls = λ _ _ _. fresh_paced In.Listen u.block.settings.congestion_control 0 u.block.settings.min_rto;
     ends = λ _ _ _. closed_paced u p;
-    closes = λ by _ _. acked_paced (echo_taken u.block header by cx.moment) by (queued_in u) In.Closed (heard_paced by) refl;
+    closes = λ by _ _. acked_paced (timed cx.moment header u by).block by (queued_in u) In.Closed (heard_paced by) refl;
     taken = λ by _ _.
         let b : Block = noted (acked_open (timed cx.moment header u by) by cx.moment).block in
         paced_content _
-        (heeded_paced (timed cx.moment header u by) by (begins_recovery b (duplicates_after u.block header (length bytes) by)) (is_lost_again b) (lost_in b)
+        (heeded_paced (timed cx.moment header u by) by (duplicates_after u.block header (length bytes) by) (begins_recovery b
+            (duplicates_after u.block header (length bytes) by)) (is_lost_again b) (lost_in b)
         (heard_paced by) past);
     taken_window = λ by _ _.
         let b : Block = noted (windowed (acked_open (timed cx.moment header u by) by cx.moment).block header) in
         paced_content _
-        (heeded_paced (timed cx.moment header u by) by (begins_recovery b (duplicates_after u.block header (length bytes) by)) (is_lost_again b) (lost_in b)
+        (heeded_paced (timed cx.moment header u by) by (duplicates_after u.block header (length bytes) by) (begins_recovery b
+            (duplicates_after u.block header (length bytes) by)) (is_lost_again b) (lost_in b)
         (heard_paced by) past);
     news = λ by _ _.
         paced_drawing _
-        (acked_paced (echo_taken u.block header by cx.moment) by (queued_in u)
+        (acked_paced (timed cx.moment header u by).block by (queued_in u)
         (state_after_ack u.block by (queued_in u)) (heard_paced by) (state_past u by past));
     outside = paced_drawing _ p;
     old = λ _. paced_content _ p;
   }
     where
-      heard_paced : (by : ℕ) → IsPaced (recovery_of (echo_taken u.block header by cx.moment))
-      heard_paced by = echo_paced u.block by p (past_listening u.block.state past)
+      heard_paced : (by : ℕ) → IsPaced (recovery_of (timed cx.moment header u by).block)
+      heard_paced by =
+          let not = past_listening u.block.state past in
+          echo_paced (undone u.block header by (queued_in u) cx.moment) by (undone_paced u.block by (queued_in u) p not) not
 
   paced_opening : (u : TcpValue) → IsPaced (recovery_of u.block) → Opening cx ip header bytes Paced u
   paced_opening u p = record {

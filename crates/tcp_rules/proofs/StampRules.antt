@@ -60,7 +60,7 @@ module _ (cx : ContextValue) (v : TcpValue) (ip : IpRepr) (header : TcpHeader) (
   }
 
   drawing : (x : TcpValue) → RisesRecent v.block x.block cx.moment → Drawing cx ip header bytes Kept x
-  drawing x r = record { answers = λ _. inr r; pauses = inr r }
+  drawing x r = record { answers = λ _. inr r; at_once = inr r; pauses = inr r }
 
   on_arrival : Received cx ip header bytes Kept (unoffered v)
   on_arrival = record {

@@ -61,7 +61,7 @@ module _ (cx : ContextValue) (ip : IpRepr) (header : TcpHeader) (bytes : List �
   }
 
   waits_drawing : (x : TcpValue) → x.block.state ≡ In.TimeWait → Drawing cx ip header bytes Waits x
-  waits_drawing x at = record { answers = λ _. at; pauses = at }
+  waits_drawing x at = record { answers = λ _. at; at_once = at; pauses = at }
 
   state_waits : (u : TcpValue) (by : ℕ) → u.block.state ≡ In.TimeWait → state_after_ack u.block by (queued_in u) ≡ In.TimeWait
   state_waits u by at =

@@ -39,6 +39,8 @@ use Rattle.tcp_model.specs.Value.{TcpValue, Arrived, with_block, unoffered, ende
 use Rattle.tcp_model.specs.declared.block.Block.{Block}
 use Rattle.tcp_model.specs.FirstNumbers.{number_for}
 use Rattle.tcp_model.specs.Timestamps.{echo_taken, echo_of, timed_by, timed_with}
+use Rattle.tcp_model.specs.Undone.{undone}
+use Rattle.tcp_model.proofs.Undone.{undone_cases}
 use Rattle.tcp_rules.specs.Events.{Event, Setting, after, led, set, is_past}
 use Rattle.tcp_rules.specs.Events.Event.{Comes, Asked, Listens, Connects, Sends, Reads, Closes, Aborts, Sets}
 use Rattle.tcp_rules.specs.Events.Setting.{Timeout, KeepAlive, AckDelay, Nagle, HopLimit, Timestamps, Paused, Retries, Congestion, MinRto}
@@ -103,6 +105,27 @@ right t timed sent not = record { timed = timed; sent = sent; listens = λ e. cl
 echo_right : (b : Block) (header : TcpHeader) (by : ℕ) (now : ℤ) → IsTimedRight (timing_of b) → is_listening b.state ≡ false
     → IsTimedRight (timing_of (echo_taken b header by now))
 echo_right b header by now t not = right _ (echo_in b.round_trip by b.sender.in_flight (echo_of b header now) t.timed) t.sent not
+
+-- a loss that is undone leaves what is timed in flight
+undone_right : (b : Block) (header : TcpHeader) (by queued : ℕ) (now : ℤ) → IsTimedRight (timing_of b) →
+    IsTimedRight (timing_of (undone b header by queued now))
+undone_right b header by queued now t =
+    undone_cases b header by queued now (λ (c : Block). IsTimedRight (timing_of c)) t
+    (λ undo _ _. record {
+      timed = longer b.round_trip.sample t.timed;
+      sent = upto b.sender.in_flight b.sender.top (one_if b.sender.syn_unacked + queued) t.sent;
+      listens = t.listens;
+    })
+  where
+    longer : (sample : Option Sample) → In_flight b.sender.in_flight sample
+        → In_flight (max b.sender.in_flight (min b.sender.top (one_if b.sender.syn_unacked + queued))) sample
+    longer None e = tt
+    longer (Some s) e = (e.0, at_most s.ends b.sender.in_flight _ e.1) where
+      at_most : (a b c : ℕ) → a ≤ b → a ≤ max b c
+      at_most a b c e = omega arith
+
+    upto : (flight top all : ℕ) → flight ≤ top → max flight (min top all) ≤ top
+    upto flight top all e = omega arith
 
 less_sent : (flight top by : ℕ) → flight ≤ top → flight - by ≤ top - by
 less_sent flight top by e = omega arith
@@ -204,7 +227,7 @@ module _ (cx : ContextValue) (ip : IpRepr) (header : TcpHeader) (bytes : List �
   }
 
   right_drawing : (x : TcpValue) → IsTimedRight (timing_of x.block) → Drawing cx ip header bytes Right x
-  right_drawing x t = record { answers = λ _. t; pauses = t }
+  right_drawing x t = record { answers = λ _. t; at_once = t; pauses = t }
 
   right_received : (u : TcpValue) → IsTimedRight (timing_of u.block) → is_past u.block.state ≡ true → Received cx ip header bytes Right u
   right_received u t past = record {
@@ -213,7 +236,7 @@ module _ (cx : ContextValue) (ip : IpRepr) (header : TcpHeader) (bytes : List �
     draws = right_drawing u t;
     falls = λ _ _ _. record { timed = tt; sent = nothing_sent _; listens = λ _. refl };
     ends = λ _ _ _. right _ t.timed t.sent refl;
-    closes = λ by _ _. acked_right (echo_taken u.block header by cx.moment) by cx.moment In.Closed (heard_right by) refl;
+    closes = λ by _ _. acked_right (timed cx.moment header u by).block by cx.moment In.Closed (heard_right by) refl;
     taken = λ by _ _. right_content _ (left_right by);
     taken_window = λ by _ _. right_content _ (left_right by);
     news = λ by _ _. right_drawing _ (left_right by);
@@ -221,13 +244,15 @@ module _ (cx : ContextValue) (ip : IpRepr) (header : TcpHeader) (bytes : List �
     old = λ _. right_content _ t;
   }
     where
-      heard_right : (by : ℕ) → IsTimedRight (timing_of (echo_taken u.block header by cx.moment))
-      heard_right by = echo_right u.block header by cx.moment t (past_listening u.block.state past)
+      heard_right : (by : ℕ) → IsTimedRight (timing_of (timed cx.moment header u by).block)
+      heard_right by =
+          echo_right (undone u.block header by (queued_in u) cx.moment) header by cx.moment (undone_right u.block header by (queued_in u) cx.moment t)
+          (past_listening u.block.state past)
 
       left_right : (by : ℕ)
           → IsTimedRight (timing_of (acked_open (timed cx.moment header u by) by cx.moment).block)
       left_right by =
-          acked_right (echo_taken u.block header by cx.moment) by cx.moment (state_after_ack u.block by (queued_in u)) (heard_right by) (state_past u by past)
+          acked_right (timed cx.moment header u by).block by cx.moment (state_after_ack u.block by (queued_in u)) (heard_right by) (state_past u by past)
 
   right_opening : (u : TcpValue) → IsTimedRight (timing_of u.block) → Opening cx ip header bytes Right u
   right_opening u t = record {

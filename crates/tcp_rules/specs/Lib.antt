@@ -14,6 +14,7 @@ pub mod Congestion
 pub mod Timing
 pub mod Recovery
 pub mod Blind
+pub mod Undoing
 pub mod Losses
 pub mod Stamps
 pub use Rattle.tcp_control.specs.Controls

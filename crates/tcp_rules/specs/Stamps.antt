@@ -1,5 +1,5 @@
 -- What a segment makes of TS.Recent (RFC 7323, 4.3), and which segments are too old (5.3).
-use Rattle.std.specs.Prelude.{◌≡◌, ◌⊎◌, ℤ, true, false, Option, Some}
+use Rattle.std.specs.Prelude.{◌≡◌, ◌⊎◌, ℤ, true, false, Some}
 use Rattle.ip_wire.specs.TcpHeader.{TcpHeader}
 use Rattle.ip_wire.specs.TcpTimestampRepr.{TcpTimestampRepr}
 use Rattle.tcp_control.specs.States.{is_listening}

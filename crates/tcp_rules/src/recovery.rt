@@ -1,12 +1,15 @@
 //! Fast recovery, what goes again, and the least retransmission timeout.
 
-ghost use Rattle.std.specs.Prelude.{◌≡◌, ◌≤◌, ℕ, ℤ, true, false, List, Some};
+ghost use Rattle.std.specs.Prelude.{◌≡◌, ◌≤◌, ◌||◌, ℕ, ℤ, true, false, List, Some};
 ghost use Rattle.net_base.specs.Ring.{Ring};
 ghost use Rattle.tcp_model.specs.Context.{ContextValue};
 ghost use Rattle.tcp_control.specs.RoundTrip.{least_of};
 ghost use Rattle.tcp_control.specs.declared.offer.OfferKind.TheVariants as Kind;
 ghost use Rattle.tcp_control.specs.declared.offer.OpenOffer.{OpenOffer};
-ghost use Rattle.tcp_model.specs.Acknowledged.{is_blind, una_moved};
+ghost use Rattle.ip_wire.specs.TcpHeader.{TcpHeader};
+ghost use Rattle.tcp_model.specs.Acknowledged.{is_blind, una_moved, begins_recovery, counted};
+ghost use Rattle.tcp_model.specs.Rules.{backed_off_now};
+ghost use Rattle.tcp_model.specs.Undone.{is_needless, undone};
 ghost use Rattle.tcp_model.specs.LossRecovery.{is_first_lost};
 ghost use Rattle.tcp_model.specs.Offers.{offer_of};
 ghost use Rattle.tcp_model.specs.Settled.{end_of, sent_as};
@@ -16,6 +19,7 @@ ghost use Rattle.tcp_rules.specs.Blind.{Acked, AreBlind, after_all};
 ghost use Rattle.tcp_rules.specs.Events.{Event, led};
 ghost use Rattle.tcp_rules.specs.InOrder.{IsInOrder, sending_of};
 ghost use Rattle.tcp_rules.specs.Recovery.{IsPaced, recovery_of};
+ghost use Rattle.tcp_rules.specs.Undoing.{Between, with_all};
 
 /// Of each socket that events lead to: fast recovery lasts only until more is acknowledged than was sent when it began, and the
 /// retransmission timeout isn't below the least that the user set.
@@ -41,4 +45,20 @@ pub fn blind_acknowledgements_leave_the_timer()
         → (after_all acks b).timers.retransmit_at ≡ b.timers.retransmit_at }
     ensures again { (b : Block) (o : OpenOffer) (queued : ℕ) (moment : ℤ) → is_first_lost b ≡ false → b.timers.retransmit_at ≡ Some moment
         → (sent_as Kind.FastRetransmission b o queued).timers.retransmit_at ≡ Some moment }
+{}
+
+/// A loss that was none leaves the congestion window as it was, of Reno and of CUBIC, whatever went and came between: where recovery began,
+/// or the timer ran out, and the first acknowledgement of text since then answers what was sent first (RFC 4015). Nothing of it is to go
+/// again then, and no more has to be acknowledged before recovery may begin again.
+pub fn a_loss_that_was_none_is_undone()
+    ensures recovery { (b : Block) (count : ℕ) (between : List Between) (header : TcpHeader) (by queued : ℕ) (now : ℤ) → b.sender.syn_unacked ≡ false
+        → (b.reno.recovers || b.reno.timed_out) ≡ false → begins_recovery b count ≡ true
+        → is_needless (with_all between (counted b count)) header by queued now ≡ true
+        → (undone (with_all between (counted b count)) header by queued now).reno ≡ b.reno }
+    ensures timeout { (b : Block) (between : List Between) (header : TcpHeader) (by queued : ℕ) (now : ℤ) → b.sender.syn_unacked ≡ false
+        → (b.reno.recovers || b.reno.timed_out) ≡ false
+        → is_needless (with_all between (backed_off_now b)) header by queued now ≡ true
+        → (undone (with_all between (backed_off_now b)) header by queued now).reno ≡ b.reno }
+    ensures over { (b : Block) (header : TcpHeader) (by queued : ℕ) (now : ℤ) → is_needless b header by queued now ≡ true
+        → ((undone b header by queued now).sender.resend ≡ false) × ((undone b header by queued now).sender.recover ≡ 0) }
 {}

@@ -16,7 +16,7 @@ use Rattle.tcp_model.specs.State.{State}
 use Rattle.tcp_model.specs.State.TheVariants as In
 use Rattle.tcp_model.specs.Acknowledged.{acknowledged, duplicates_after}
 use Rattle.tcp_model.specs.Answers.{may_draw, with_draw, acked, drawn, answer_for, run_at, others, first_two, numbers_of, ranges_held}
-use Rattle.tcp_model.specs.Arrival.{waiting_anew, outside, tells_news, passed_outside, finished, with_content, told, continued, taken, inside, checked}
+use Rattle.tcp_model.specs.Arrival.{waiting_anew, outside, tells_news, has_length, comes_again, passed_outside, finished, with_content, told, continued, taken, inside, checked}
 use Rattle.tcp_model.specs.Arrival.{takes_reset, challenges_reset, reset_comes, draws_first, echo_heard, received, arrives_in, is_void_syn, arrives}
 use Rattle.tcp_model.specs.Checks.{Check, acknowledgement_check, is_in_window, taken_down}
 use Rattle.tcp_model.specs.Checks.Check.{Passes, Old, Drops, Draws, Resets}
@@ -107,16 +107,19 @@ quick_drawn cx v ip header =
     quick_if (may_draw cx.moment v.block.timers.draws_from) (acked cx (with_draw v cx.moment) ip header no_ranges) (dropped v)
     (quick_acked cx (with_draw v cx.moment) ip header no_ranges (few_ranges None None None)) (quick_dropped v)
 
-quick_outside : (cx : ContextValue) (v : TcpValue) (ip : IpRepr) (header : TcpHeader) → IsQuick (outside cx v ip header)
-quick_outside cx v ip header =
-    let again = waiting_anew v header cx.moment in
-    quick_if (is_closed v.block.state) (dropped v) (drawn cx again ip header) (quick_dropped v) (quick_drawn cx again ip header)
+quick_outside : (cx : ContextValue) (v : TcpValue) (ip : IpRepr) (header : TcpHeader) (again : Bool) → IsQuick (outside cx v ip header again)
+quick_outside cx v ip header again =
+    let w = waiting_anew v header cx.moment in
+    let open_yet : Arrived = if again then acked cx w ip header no_ranges else drawn cx w ip header in
+    quick_if (is_closed v.block.state) (dropped v) open_yet (quick_dropped v)
+    (quick_if again (acked cx w ip header no_ranges) (drawn cx w ip header) (quick_acked cx w ip header no_ranges (few_ranges None None None))
+    (quick_drawn cx w ip header))
 
 quick_passed_outside : (cx : ContextValue) (v : TcpValue) (ip : IpRepr) (header : TcpHeader) (size by : ℕ) → IsQuick (passed_outside cx v ip header size by)
 quick_passed_outside cx v ip header size by =
     let told_of = acknowledged (echo_heard v header by cx.moment) by cx.moment in
-    quick_if (tells_news v header size) (outside cx told_of ip header) (outside cx v ip header) (quick_outside cx told_of ip header)
-    (quick_outside cx v ip header)
+    quick_if (tells_news v header size) (outside cx told_of ip header (has_length header size)) (outside cx v ip header false)
+    (quick_outside cx told_of ip header (has_length header size)) (quick_outside cx v ip header false)
 
 quick_answer : (cx : ContextValue) (v : TcpValue) (ip : IpRepr) (header : TcpHeader) (size : ℕ) (fills : Bool) (early : Option ℕ) →
     IsQuick (answer_for cx v ip header size fills early)
@@ -148,8 +151,9 @@ quick_checked (Passes by) cx v ip header bytes =
     (quick_inside cx v ip header bytes by) (quick_passed_outside cx v ip header (length bytes) by)
 quick_checked Old cx v ip header bytes =
     let heard_of = with_block v (stamp_taken (heard v.block) header cx.moment) in
-    quick_if (is_in_window v.block (free_in v) header (length bytes)) (with_content cx heard_of ip header bytes) (outside cx v ip header)
-    (quick_content cx heard_of ip header bytes) (quick_outside cx v ip header)
+    let again = comes_again v header (length bytes) in
+    quick_if (is_in_window v.block (free_in v) header (length bytes)) (with_content cx heard_of ip header bytes) (outside cx v ip header again)
+    (quick_content cx heard_of ip header bytes) (quick_outside cx v ip header again)
 quick_checked Drops cx v ip header bytes = quick_dropped v
 quick_checked Draws cx v ip header bytes = quick_drawn cx v ip header
 quick_checked Resets cx v ip header bytes = quick_reset v ip header (length bytes)

@@ -158,7 +158,7 @@ pub record Does_store (v : Received) (bytes : List ℕ) (laid new : Ring ℕ) (r
 
 pub does_store : {E : Type 0} (r : Ring ℕ) (held : List (ℕ × ℕ)) (v : Received) (bytes : List ℕ) (n : ℕ) (laid new : Ring ℕ) (answer : Result ℕ E)
     (runs : List (ℕ × ℕ)) (count : ℕ) → received r held ≡ v → IsHeldBy r held → length bytes ≤ length v.map → n ≡ min (length bytes) (length r.free - 0) →
-    laid ≡ overwritten r 0 (take n bytes) → IsErr answer ↔ ((0 < 0) × (16 < length (added held 0 (length bytes)))) →
+    laid ≡ overwritten r 0 (take n bytes) → IsErr answer ↔ ((0 < 0) × (32 < length (added held 0 (length bytes)))) →
     IfOk answer (λ k. (k ≡ front (added held 0 (length bytes))) × (runs ≡ without_front (added held 0 (length bytes)))) → count ≡ result_unwrap_or answer 0 →
     Does_store v bytes laid new runs count
 does_store r held v bytes n laid new answer runs count is by fits n_is laid_is refused ok count_is =
@@ -177,7 +177,7 @@ does_store r held v bytes n laid new answer runs count is by fits n_is laid_is r
 
 -- the calls that hold bytes early, and where they are refused
 pub refused_early : (r : Ring ℕ) (held : List (ℕ × ℕ)) (v : Received) (past : ℕ) (bytes : List ℕ) → received r held ≡ v → IsHeldBy r held → 1 ≤ past →
-    past + length bytes ≤ length v.map → IsUnion held past (length bytes) (added held past (length bytes)) → 16 < length (added held past (length bytes)) →
+    past + length bytes ≤ length v.map → IsUnion held past (length bytes) (added held past (length bytes)) → 32 < length (added held past (length bytes)) →
     buffer.can_hold v past bytes ≡ false
 refused_early r held v past bytes is by far fits union many =
     rw (← is, (holds_early r held past bytes by far (room r held v (past + length bytes) is fits) union).runs) (grind (arith, nat_tests, many))
@@ -193,13 +193,13 @@ pub record Does_hold (v : Received) (past : ℕ) (bytes : List ℕ) (laid : Ring
 
 pub does_hold : (r : Ring ℕ) (held : List (ℕ × ℕ)) (v : Received) (past : ℕ) (bytes : List ℕ) (n : ℕ) (laid : Ring ℕ) (runs : List (ℕ × ℕ)) →
     received r held ≡ v → IsHeldBy r held → 1 ≤ past → past + length bytes ≤ length v.map → IsUnion held past (length bytes) (added held past (length bytes)) →
-    (16 < length (added held past (length bytes)) → ⊥) → n ≡ min (length bytes) (length r.free - past) → laid ≡ overwritten r past (take n bytes) →
+    (32 < length (added held past (length bytes)) → ⊥) → n ≡ min (length bytes) (length r.free - past) → laid ≡ overwritten r past (take n bytes) →
     runs ≡ added held past (length bytes) → Does_hold v past bytes laid runs
 does_hold r held v past bytes n laid runs is by far fits union few n_is laid_is runs_is =
     let fits' = room r held v (past + length bytes) is fits in
     let h = holds_early r held past bytes by far fits' union in
     let laid_at : laid ≡ overwritten r past bytes = laid_is ∙ all_written r past n bytes fits' n_is in
-    let short : length (added held past (length bytes)) ≤ 16 = omega (arith, few) in
+    let short : length (added held past (length bytes)) ≤ 32 = omega (arith, few) in
     let test : buffer.can_hold (received r held) past bytes ≡ true = rw h.runs (grind (arith, nat_tests, short)) in
     let value : received (overwritten r past bytes) (added held past (length bytes)) ≡
     record (received r held) { map = store (received r held).map past bytes } =

@@ -16,7 +16,7 @@ use Rattle.socket_base.specs.Packet as Carried
 use Rattle.held_bytes.specs.ReceiveMap.{store, front}
 use Rattle.tcp_model.specs.Acknowledged.{acknowledged, duplicates_after}
 use Rattle.tcp_model.specs.Answers.{answer_for}
-use Rattle.tcp_model.specs.Arrival.{outside, finished, with_content, told, echo_heard, taken, checked, received, arrives_in}
+use Rattle.tcp_model.specs.Arrival.{outside, passed_outside, tells_news, has_length, comes_again, finished, with_content, told, echo_heard, taken, checked, received, arrives_in}
 use Rattle.tcp_model.specs.Checks.{is_in_window}
 use Rattle.tcp_model.specs.Checks.Check.{Old}
 use Rattle.tcp_model.specs.Controls.{is_syn, is_rst}
@@ -102,7 +102,7 @@ finish_leads cx next b b2 r q o v w advance fills early ip header size n now ans
 
 state_held : (v : TcpValue) (place : ℕ) (map : List (Option ℕ)) → (held_early v place map).socket.block.state ≡ v.block.state
 state_held v place map =
-    elim (nat_le (length (runs_of map)) 16) as
+    elim (nat_le (length (runs_of map)) 32) as
     (λ t. (if t then texted (record v { received = received_of v.received.waiting map v.received.start }) 0 false (Some place) else texted v 0 false
     None).socket.block.state ≡ v.block.state) [ true ↦ refl | false ↦ refl ]
 
@@ -195,9 +195,29 @@ old_leads cx b b1 b2 r q o v now ip header bytes answer socket is window heard_i
     in
     let second : Leads (checked Old cx (value_of b r q o) ip header bytes) answer socket =
     so_leads (is_in_window b (length r.map) header (length bytes)) (with_content cx (value_of (stamp_taken (heard b) header cx.moment) r q o) ip header bytes)
-    (outside cx (value_of b r q o) ip header) answer socket window first
+    (outside cx (value_of b r q o) ip header (comes_again (value_of b r q o) header (length bytes))) answer socket window
+    first
     in
     subst (λ (x : TcpValue). Leads (checked Old cx x ip header bytes) answer socket) is second
+
+-- outside the window, with an acknowledgement that is taken
+pub outside_leads : (cx : ContextValue) (v w : TcpValue) (now : ℤ) (ip : IpRepr) (header : TcpHeader) (size by : ℕ) (tells again : Bool)
+    (answer : Option Reply) (socket : TcpValue)
+    → tells ≡ true → tells ≡ tells_news v header size → again ≡ has_length header size → now ≡ cx.moment
+    → w ≡ acknowledged (echo_heard v header by now) by now
+    → answer ≡ (outside cx w ip header again).answer → socket ≡ (outside cx w ip header again).socket
+    → Leads (passed_outside cx v ip header size by) answer socket
+outside_leads cx v w now ip header size by tells again answer socket is tells_is again_is now_is w_is a s =
+    let told_of : TcpValue = acknowledged (echo_heard v header by cx.moment) by cx.moment in
+    let acked : w ≡ told_of = w_is ∙ ap (λ (m : ℤ). acknowledged (echo_heard v header by m) by m) now_is in
+    let first : Leads (outside cx w ip header (has_length header size)) answer socket =
+    subst (λ (b : Bool). Leads (outside cx w ip header b) answer socket) again_is (record { answer = a; socket = s })
+    in
+    let second : Leads (outside cx told_of ip header (has_length header size)) answer socket =
+    leads_to (λ (x : TcpValue). outside cx x ip header (has_length header size)) w told_of answer socket acked first.answer first.socket
+    in
+    so_leads (tells_news v header size) (outside cx told_of ip header (has_length header size)) (outside cx v ip header false) answer socket
+    (sym tells_is ∙ is) second
 
 third : (rst refuses syn : Bool) (a b c d : Arrived) → rst ≡ false → refuses ≡ false → syn ≡ true →
     c.socket ≡ (if rst then a else if refuses then b else if syn then c else d).socket

@@ -32,7 +32,7 @@ in_order r bytes =
 
 -- so many runs of bytes out of order are kept
 abbrev pub most_runs : ℕ
-most_runs = 16
+most_runs = 32
 
 -- bytes past RCV.NXT by so much, held where there aren't too many runs with them
 abbrev pub can_hold : Received → ℕ → List ℕ → Bool

@@ -6,7 +6,7 @@ ghost use Rattle.socket_base.specs.Packet.{IsSendable};
 ghost use Rattle.ip_wire.specs.Tcp.{header_of};
 ghost use Rattle.tcp_model.specs.Acknowledged.{acknowledged};
 ghost use Rattle.tcp_model.specs.Answers.{ack_recorded, drawn, ranges_held, answer_for};
-ghost use Rattle.tcp_model.specs.Arrival.{waiting_anew, outside, tells_news, passed_outside, finished, told};
+ghost use Rattle.tcp_model.specs.Arrival.{waiting_anew, outside, tells_news, comes_again, passed_outside, finished, told};
 ghost use Rattle.tcp_model.specs.Arrival.{echo_heard, taken, inside, checked, challenges_reset};
 ghost use Rattle.tcp_model.specs.Arrival.{reset_comes, received, is_void_syn, arrives_in, arrives};
 ghost use Rattle.tcp_model.specs.Checks.{acknowledgement_check, taken_down};
@@ -24,8 +24,9 @@ use ip_wire::{IpRepr, SeqNumber, TcpHeader, TcpRepr};
 use net_base::Instant;
 use socket_base::Context;
 use tcp_model::{
-    EndpointPair, Reply, State, Verdict, before_by, first_number, is_fin, is_first_syn, is_rst,
-    is_syn, is_void_syn, next_draw_from, numbers_of, past_by, reply_to, rst_reply, time_wait_from,
+    EndpointPair, Reply, State, Verdict, before_by, first_number, has_length, is_fin, is_first_syn,
+    is_rst, is_syn, is_void_syn, next_draw_from, numbers_of, past_by, reply_to, rst_reply,
+    time_wait_from,
 };
 
 /// A segment with what it came in. Functions that are called from several places get copies of it, so
@@ -302,7 +303,8 @@ impl Socket {
             self.block.take_stamp(&incoming.header, cx.now());
             self.take_content(cx, incoming)
         } else {
-            self.answer_outside(cx, incoming)
+            let again = self.comes_again(incoming);
+            self.answer_outside(cx, incoming, again)
         }
     }
 
@@ -316,9 +318,18 @@ impl Socket {
     {
         if self.tells_news(&incoming.header, incoming.bytes.len()) {
             self.acknowledge(&incoming.header, by, cx.now());
-            return self.answer_outside(cx, incoming);
+            let again = has_length(&incoming.header, incoming.bytes.len());
+            return self.answer_outside(cx, incoming, again);
         }
-        self.answer_outside(cx, incoming)
+        self.answer_outside(cx, incoming, false)
+    }
+
+    /// Whether a segment with text or a FIN lies just before the window.
+    fn comes_again(&self, incoming: &Incoming<'_>) -> bool
+        ensures { result ≡ comes_again self.now incoming.now.header (length incoming.now.bytes.now) }
+    {
+        let (header, size) = (&incoming.header, incoming.bytes.len());
+        self.tells_news(header, size) && has_length(header, size)
     }
 
     /// Whether a segment outside the window lies just before it, past SYN-RECEIVED.
@@ -332,17 +343,25 @@ impl Socket {
                 .lies_before(self.received.capacity(), header, size)
     }
 
-    /// Outside the window an answer may be drawn.
-    fn answer_outside<C: Context>(&mut self, cx: &C, incoming: &Incoming<'_>) -> Option<Due>
+    /// Outside the window an answer may be drawn. What comes again is answered at once.
+    fn answer_outside<C: Context>(
+        &mut self,
+        cx: &C,
+        incoming: &Incoming<'_>,
+        again: bool,
+    ) -> Option<Due>
         requires unoffered { self.old.offered ≡ None }
         ensures answer { answer_of result (C.context cx.now).moment self.new incoming.now.ip_repr.now incoming.now.header (length incoming.now.bytes.now) ≡
-            (outside (C.context cx.now) self.old incoming.now.ip_repr.now incoming.now.header).answer }
-        ensures socket { self.new ≡ (outside (C.context cx.now) self.old incoming.now.ip_repr.now incoming.now.header).socket }
+            (outside (C.context cx.now) self.old incoming.now.ip_repr.now incoming.now.header again).answer }
+        ensures socket { self.new ≡ (outside (C.context cx.now) self.old incoming.now.ip_repr.now incoming.now.header again).socket }
     {
         if self.block.state.is_closed() {
             return None;
         }
         self.wait_anew(&incoming.header, cx.now());
+        if again {
+            return Some(Due::Ack(self.acknowledge_all()));
+        }
         self.draw(cx, incoming)
     }
 
@@ -430,15 +449,27 @@ impl Socket {
         self.block.restart_timeout(now, self.queued.len());
     }
 
+    /// The echo of a segment is taken that makes SND.UNA rise by so much. A loss that it says was none is
+    /// undone first.
+    fn hear_echo(&mut self, header: &TcpHeader, by: u32, now: Instant)
+        requires unoffered { self.old.offered ≡ None }
+        requires moment { IsMoment now }
+        ensures { self.new ≡ echo_heard self.old header.now by now }
+    {
+        let queued = self.queued.len();
+        self.block.undo_loss(header, by, queued, now);
+        self.block.take_echo(header, by, now);
+    }
+
     /// The echo of a segment is taken, SND.UNA rises by so much, and what is acknowledged is freed.
     fn acknowledge(&mut self, header: &TcpHeader, by: u32, now: Instant)
         requires unoffered { self.old.offered ≡ None }
         requires moment { IsMoment now }
         ensures { self.new ≡ acknowledged (echo_heard self.old header.now by now) by now }
     {
+        self.hear_echo(header, by, now);
         let queued = self.queued.len();
         let freed = self.block.freed_by(by, queued);
-        self.block.take_echo(header, by, now);
         self.block.acknowledge(by, queued, now);
         self.queued.dequeue_allocated(freed);
     }

@@ -18,7 +18,7 @@ const MOST_BYTES: usize = 1 << 30;
 #[derive(Debug, Drop)]
 pub struct ReceiveBuffer {
     ring: RingBuffer<u8>,
-    held: Assembler<16>,
+    held: Assembler<32>,
 }
 
 impl Model for ReceiveBuffer {
@@ -155,7 +155,7 @@ impl ReceiveBuffer {
 }
 
 /// The run with this place.
-fn run_at(held: &Assembler<16>, place: usize) -> Option<(usize, usize)>
+fn run_at(held: &Assembler<32>, place: usize) -> Option<(usize, usize)>
     ensures { result ≡ run_at held.now place }
 {
     for (start, end) in held.iter_data() {
@@ -168,7 +168,7 @@ fn run_at(held: &Assembler<16>, place: usize) -> Option<(usize, usize)>
 
 /// The two highest runs without this place, the highest first.
 #[tactic(auto, using(crate::proofs::Others::told_is))]
-fn others_than(held: &Assembler<16>, place: usize) -> [Option<(usize, usize)>; 2]
+fn others_than(held: &Assembler<32>, place: usize) -> [Option<(usize, usize)>; 2]
     ensures { result ≡ first_two (others place held.now) }
 {
     let (mut highest, mut second) = (None, None);

@@ -1,6 +1,6 @@
 -- Which segments are acceptable, and how much a socket sends at once.
 use Rattle.std.proofs.Common.{◌≡◌, ◌≢◌, ◌↔◌, ◌⊎◌, inl, inr, ℕ, zero, suc, ◌+◌, ◌-◌, ◌^◌, ◌<◌, ◌≤◌, ◌==◌, ◌&&◌, not, nat_lt, min, max, Bool, true, false}
-use Rattle.std.proofs.Common.{if◌then◌else◌, List, length, Option, Some, None, is_some, refl, sym, ap, ◌∙◌, subst, arith}
+use Rattle.std.proofs.Common.{if◌then◌else◌, List, length, None, is_some, refl, sym, ap, ◌∙◌, subst, arith}
 use Rattle.std.proofs.lemmas.Bool.{and_parts, cond_both}
 use Rattle.std.proofs.lemmas.Bool.Decides.{nat_tests}
 use Rattle.ip_wire.specs.IpRepr.{IpRepr}
@@ -25,10 +25,10 @@ use Rattle.tcp_model.specs.Checks.{acknowledgement_check, is_in_window, taken_do
 use Rattle.tcp_model.specs.Controls.{is_syn, is_rst}
 use Rattle.tcp_model.specs.Endpoints.{ip_header_len, pair_in}
 use Rattle.tcp_model.specs.Offsets.{past_by, before_by, meets_window}
-use Rattle.tcp_model.specs.Opening.{is_first_syn, opens, answering, takes_answer, acks_syn, syn_answered}
+use Rattle.tcp_model.specs.Opening.{is_first_syn, answering, acks_syn, syn_answered}
 use Rattle.tcp_model.specs.LossRecovery.{again_place, hole_len}
 use Rattle.tcp_model.specs.Rules.{text_choice, resend_choice, stamp_len, size_limit}
-use Rattle.tcp_model.specs.Rules.{window_limit, congestion_limit, unbroken, next_place, congestion_room, sent_places}
+use Rattle.tcp_model.specs.Rules.{congestion_limit, unbroken, next_place, congestion_room, sent_places}
 use Rattle.tcp_model.specs.Segments.{no_ranges, segment_len, rst_reply}
 use Rattle.tcp_model.specs.States.{is_time_wait}
 use Rattle.tcp_model.specs.Timeout.{timeout_restarted}
@@ -38,7 +38,7 @@ use Rattle.tcp_model.specs.Timestamps.{believed}
 use Rattle.tcp_model.proofs.Positions.{offsets_nearest}
 use Rattle.tcp_tie.specs.Acceptance.{Meets, reset_counts_in, reset_counts, IsIgnored}
 use Rattle.tcp_tie.specs.Tie.{core_of}
-use Rattle.tcp_tie.proofs.Tied.{if_so, if_not}
+use Rattle.tcp_tie.proofs.Tied.{if_not}
 
 -- THE WINDOW
 

@@ -1,5 +1,5 @@
 -- Each call of a user, by its answer, keeps the invariant.
-use Rattle.std.proofs.Common.{◌≡◌, ◌≢◌, ℕ, zero, suc, ◌+◌, ◌%◌, ◌^◌, ◌<◌, ◌==◌, ◌&&◌, ◌||◌, not, min, Bool, true, false, if◌then◌else◌, List, [], ◌∷◌, ◌++◌}
+use Rattle.std.proofs.Common.{◌≡◌, ◌≢◌, ℕ, ◌^◌, ◌<◌, ◌==◌, ◌&&◌, ◌||◌, not, min, Bool, true, false, if◌then◌else◌, List, [], ◌∷◌, ◌++◌}
 use Rattle.std.proofs.Common.{length, take, Option, Some, None, Result, Ok, Err, is_ok, refl, sym, ap, ◌∙◌, subst, arith, append-nil}
 use Rattle.std.proofs.lemmas.Bool.{cond_both, eqb-true}
 use Rattle.ip_wire.specs.IpEndpoint.{IpEndpoint}
@@ -8,23 +8,20 @@ use Rattle.net_base.specs.Ring.{Ring, anchored, cleared, enqueued}
 use Rattle.socket_base.specs.Context.{ContextValue}
 use Rattle.tcp_law.specs.Side.Opening.{NotYet, Passive, Active}
 use Rattle.tcp_model.specs.EndpointPair.{EndpointPair}
-use Rattle.tcp_model.specs.ConnectError.{ConnectError}
 use Rattle.tcp_model.specs.ConnectError.TheVariants as Connect
 use Rattle.tcp_model.specs.ListenError.{ListenError}
 use Rattle.tcp_model.specs.ListenError.TheVariants as Listen
-use Rattle.tcp_model.specs.RecvError.{RecvError}
 use Rattle.tcp_model.specs.RecvError.TheVariants as Recv
-use Rattle.tcp_model.specs.SendError.{SendError}
 use Rattle.tcp_model.specs.SendError.TheVariants as Send
 use Rattle.tcp_model.specs.OpenOffer.{OpenOffer}
-use Rattle.tcp_model.specs.Calls.{listening, connecting, listens_on, found_answer, pair_for, connected_by, sent_more, listen_after, connect_after, send_answer}
-use Rattle.tcp_model.specs.Calls.{send_after, recv_answer, recv_refusal, nothing_left, or_count}
+use Rattle.tcp_model.specs.Calls.{listening, listens_on, found_answer, pair_for, connected_by, sent_more, listen_after, connect_after, send_answer}
+use Rattle.tcp_model.specs.Calls.{send_after, recv_answer, nothing_left, or_count}
 use Rattle.tcp_model.specs.Offers.{offered_packet, packet_with}
 use Rattle.tcp_model.specs.States.{is_closed, takes_writes, takes_text}
 use Rattle.tcp_model.specs.Value.{TcpValue, unoffered}
 use Rattle.tcp_model.specs.FirstNumbers.{first_number, number_for}
 use Rattle.tcp_model.proofs.Numbers.{number_small}
-use Rattle.tcp_tie.specs.History.{listened, called, listen_opens, connect_opens, opened_by, bytes_taken, with_written, with_offer, with_packet}
+use Rattle.tcp_tie.specs.History.{listen_opens, connect_opens, opened_by, bytes_taken, with_written, with_offer, with_packet}
 use Rattle.tcp_tie.specs.Promises.{KeepsAlone}
 use Rattle.tcp_tie.specs.Tie.{Past, Keeps}
 use Rattle.tcp_tie.proofs.CallLaws.{keeps_listening, keeps_connecting, keeps_same}

@@ -16,8 +16,9 @@ use Rattle.tcp_model.specs.State.{State}
 use Rattle.tcp_model.specs.State.TheVariants as In
 use Rattle.tcp_model.specs.declared.block.Block.{Block}
 use Rattle.tcp_model.specs.Acknowledged.{acknowledged, duplicates_after, names_window, windowed, ranges_taken, counted}
-use Rattle.tcp_model.specs.Answers.{drawn}
-use Rattle.tcp_model.specs.Arrival.{waiting_anew, outside, passed_outside, tells_news, with_content, told, taken, inside, checked, takes_reset}
+use Rattle.tcp_model.specs.Answers.{acked, drawn}
+use Rattle.tcp_model.specs.Segments.{no_ranges}
+use Rattle.tcp_model.specs.Arrival.{waiting_anew, outside, passed_outside, tells_news, has_length, comes_again, with_content, told, taken, inside, checked, takes_reset}
 use Rattle.tcp_model.specs.Arrival.{challenges_reset, reset_comes, challenges_syn, draws_first, echo_heard, received, arrives_in, arrives, is_void_syn}
 use Rattle.tcp_model.specs.Checks.{Check, opening_check, synchronized_check, acknowledgement_check, is_in_window, taken_down}
 use Rattle.tcp_model.specs.Checks.Check.{Passes, Old, Drops, Draws, Resets}
@@ -33,7 +34,7 @@ use Rattle.tcp_tie.specs.History.{with_answer}
 use Rattle.tcp_tie.proofs.Tied.{Tied, fits_connected, is_connected, keeps_by}
 use Rattle.tcp_tie.proofs.ArrivalMoves.{IsAcceptable}
 use Rattle.tcp_tie.proofs.AckLaws.{IsAcked, acks}
-use Rattle.tcp_tie.proofs.TextLaws.{Led, data_control, no_reset_control, led_drawn, led_content}
+use Rattle.tcp_tie.proofs.TextLaws.{Led, data_control, no_reset_control, led_acked, led_drawn, led_content}
 use Rattle.tcp_tie.proofs.OpeningLaws.{state_phase, led_opens, led_takes_answer, led_reset, tied_down}
 
 not_answering : (state : State) → is_answering state ≡ false → phase_of state ≡ SynReceived → ⊥
@@ -106,11 +107,15 @@ module _ (cx : ContextValue) (v : TcpValue) (ip : IpRepr) (header : TcpHeader) (
 
     -- outside the window
     led_outside : (w : TcpValue) → Tied (core_of w) p t → (is_closed w.block.state ≡ false → is_connected w.block.state ≡ true) →
-        Led p t (outside cx w ip header)
-    led_outside w tied on =
-        cond_both (is_closed w.block.state) (dropped w) (drawn cx (waiting_anew w header cx.moment) ip header) (λ (a : Arrived). Led p t a)
+        (again : Bool) → Led p t (outside cx w ip header again)
+    led_outside w tied on again =
+        let x = waiting_anew w header cx.moment in
+        cond_both (is_closed w.block.state) (dropped w) (if again then acked cx x ip header no_ranges else drawn cx x ip header) (λ (a : Arrived). Led p t a)
         (λ _. tied)
-        (λ open_yet. led_drawn cx (waiting_anew w header cx.moment) ip header p t (on open_yet) tied)
+        (λ open_yet.
+        cond_both again (acked cx x ip header no_ranges) (drawn cx x ip header) (λ (a : Arrived). Led p t a)
+        (λ _. led_acked cx x ip header no_ranges p t (on open_yet) tied)
+        (λ _. led_drawn cx x ip header p t (on open_yet) tied))
 
     module _ (by : ℕ) (n : SeqNumber) (e : header.ack_number ≡ Some n) (distance : by ≡ distance_of v.block.sender.una n) (ok : IsAcceptable (core_of v) by)
         (no_rst : is_rst header.control ≡ false) where
@@ -140,21 +145,25 @@ module _ (cx : ContextValue) (v : TcpValue) (ip : IpRepr) (header : TcpHeader) (
           (λ _. led_drawn cx v ip header p t connected r)
           led_taken)
           (λ _.
-          cond_both (tells_news v header (length bytes)) (outside cx (acknowledged (timed by) by cx.moment) ip header) (outside cx v ip header)
+          let again = has_length header (length bytes) in
+          cond_both (tells_news v header (length bytes)) (outside cx (acknowledged (timed by) by cx.moment) ip header again) (outside cx v ip header false)
           (λ (a : Arrived). Led p t a)
-          (λ _. led_outside (acknowledged (timed by) by cx.moment) acked_now.tied (λ open_yet. (acked_now.running open_yet).0))
-          (λ _. led_outside v r (λ _. connected)))
+          (λ _. led_outside (acknowledged (timed by) by cx.moment) acked_now.tied (λ open_yet. (acked_now.running open_yet).0) again)
+          (λ _. led_outside v r (λ _. connected) false))
 
     -- its acknowledgement is old
     led_old : is_rst header.control ≡ false → is_syn header.control ≡ false → v.block.sender.syn_unacked ≡ false → Led p t (checked Old cx v ip header bytes)
     led_old no_rst no_syn acked =
         cond_both (is_in_window v.block (free_in v) header (length bytes))
         (with_content cx (with_block v (stamp_taken (heard v.block) header cx.moment)) ip header bytes)
-        (outside cx v ip header)
+        (outside cx v ip header again)
         (λ (a : Arrived). Led p t a)
         (λ _. led_content cx (with_block v (stamp_taken (heard v.block) header cx.moment)) ip header bytes p t comes
         (data_control header.control no_rst no_syn) connected acked r)
-        (λ _. led_outside v r (λ _. connected))
+        (λ _. led_outside v r (λ _. connected) again)
+      where
+        again : Bool
+        again = comes_again v header (length bytes)
 
     -- in SYN-RECEIVED
     led_opening :

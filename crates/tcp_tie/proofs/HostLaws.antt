@@ -10,7 +10,6 @@ use Rattle.socket_base.specs.Context.{ContextValue}
 use Rattle.tcp_law.specs.Alone.{AreResets}
 use Rattle.tcp_law.specs.Segment.{Segment}
 use Rattle.tcp_law.specs.Segment.Control.{Rst}
-use Rattle.tcp_model.specs.EndpointPair.{EndpointPair}
 use Rattle.tcp_model.specs.OpenOffer.{OpenOffer}
 use Rattle.tcp_model.specs.Reply.{Reply}
 use Rattle.tcp_model.specs.Arrival.{arrives}

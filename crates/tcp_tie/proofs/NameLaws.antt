@@ -1,5 +1,5 @@
 -- Which segments a socket takes, where its own segments go, and what becomes of its endpoints.
-use Rattle.std.proofs.Common.{◌≡◌, ◌≢◌, ◌⊎◌, inl, inr, ℕ, ◌+◌, ◌==◌, ◌&&◌, nat_lt, nat_le, not, ℤ, Bool, true, false, if◌then◌else◌, List, [], ◌∷◌, Option}
+use Rattle.std.proofs.Common.{◌≡◌, inl, inr, ℕ, ◌+◌, ◌==◌, ◌&&◌, nat_le, not, ℤ, Bool, true, false, if◌then◌else◌, List, Option}
 use Rattle.std.proofs.Common.{Some, None, is_some, length, drop, refl, sym, ap, ◌∙◌, subst}
 use Rattle.std.proofs.lemmas.Bool.{and_parts, cond_both, eqb-true}
 use Rattle.std.proofs.lemmas.Slice.Eq.{bytes_eq-Decides}
@@ -33,13 +33,12 @@ use Rattle.tcp_model.specs.State.TheVariants as In
 use Rattle.tcp_model.specs.Acknowledged.{acknowledged, block_acknowledged, state_after_ack, acks_fin, una_moved, in_state, ended_if, duplicates_after}
 use Rattle.tcp_model.specs.Acknowledged.{names_window, windowed, ranges_taken, counted}
 use Rattle.tcp_model.specs.Answers.{drawn, may_draw, with_draw, acked, answer_for, ranges_held}
-use Rattle.tcp_model.specs.Arrival.{waiting_anew, outside, passed_outside, tells_news, finished, with_content, told, taken, inside, checked, takes_reset}
+use Rattle.tcp_model.specs.Arrival.{waiting_anew, outside, passed_outside, tells_news, has_length, comes_again, finished, with_content, told, taken, inside, checked, takes_reset}
 use Rattle.tcp_model.specs.Arrival.{challenges_reset, reset_comes, draws_first, echo_heard, received, arrives_in, arrives, is_void_syn}
-use Rattle.tcp_model.specs.Blocks.{unacked, no_names}
 use Rattle.tcp_model.specs.Calls.{listening, connecting, close_after, abort_after}
 use Rattle.tcp_model.specs.Checks.{Check, acknowledgement_check, is_in_window, taken_down, falls_back}
 use Rattle.tcp_model.specs.Checks.Check.{Passes, Old, Drops, Draws, Resets}
-use Rattle.tcp_model.specs.Controls.{is_syn, is_fin, is_rst}
+use Rattle.tcp_model.specs.Controls.{is_syn, is_rst}
 use Rattle.tcp_model.specs.Moments.{is_due, is_over, timeout_from}
 use Rattle.tcp_model.specs.Endpoints.{local_of, remote_of, pair_in, addresses_in, header_for, is_between, is_connected_by, is_bare, takes_address}
 use Rattle.tcp_model.specs.Names.{accepts_in, accepts}
@@ -243,7 +242,7 @@ module _ (cx : ContextValue) (ip : IpRepr) (header : TcpHeader) where
       cond_both (place == 0) (taken_in_order v (laid v place bytes)) (held_early v place (laid v place bytes)) (λ (t : Texted). Stays v.block t.socket.block)
       (λ _. (refl, refl))
       (λ _.
-      cond_both (nat_le (length (runs_of (laid v place bytes))) 16)
+      cond_both (nat_le (length (runs_of (laid v place bytes))) 32)
       (texted (record v { received = received_of v.received.waiting (laid v place bytes) v.received.start }) 0 false (Some place)) (texted v 0 false None)
       (λ (t : Texted). Stays v.block t.socket.block)
       (λ _. (refl, refl))
@@ -323,13 +322,16 @@ module _ (cx : ContextValue) (ip : IpRepr) (header : TcpHeader) where
       let heeds = told_stays w (duplicates_after v.block header (length bytes) by) in
       named_content v.block heeded bytes (then_keeps v.block w.block heeded.block kept (keeps w.block heeded.block heeds.0 heeds.1)))
 
-  named_outside : (old : Block) (w : TcpValue) → KeepsOrForgets old w.block → Named old (outside cx w ip header)
-  named_outside old w names =
-      cond_both (is_closed w.block.state) (dropped w) (drawn cx (waiting_anew w header cx.moment) ip header) (λ (a : Arrived). Named old a)
+  named_outside : (old : Block) (w : TcpValue) (again : Bool) → KeepsOrForgets old w.block → Named old (outside cx w ip header again)
+  named_outside old w again names =
+      let x = waiting_anew w header cx.moment in
+      cond_both (is_closed w.block.state) (dropped w) (if again then acked cx x ip header no_ranges else drawn cx x ip header) (λ (a : Arrived). Named old a)
       (λ _. named_dropped old w names)
       (λ open_yet.
       let kept = open_keeps old w.block open_yet names in
-      named_drawn old (waiting_anew w header cx.moment) (record { names = kept.names; listening = kept.listening }))
+      cond_both again (acked cx x ip header no_ranges) (drawn cx x ip header) (λ (a : Arrived). Named old a)
+      (λ _. named_acked old x no_ranges (record { names = kept.names; listening = kept.listening }))
+      (λ _. named_drawn old x (record { names = kept.names; listening = kept.listening })))
 
   abbrev Renamed : Block → Arrived → Type 0
   Renamed old a = IsRenamed ip header old a.socket.block × ((reply : Reply) → a.answer ≡ Some reply → GoesBack ip header reply)
@@ -362,19 +364,21 @@ module _ (cx : ContextValue) (ip : IpRepr) (header : TcpHeader) where
       (λ _. draws_named v)
       (λ _. named_taken v bytes by))
       (λ _.
-      cond_both (tells_news v header (length bytes)) (outside cx (acknowledged (timed v by) by cx.moment) ip header) (outside cx v ip header)
+      let again = has_length header (length bytes) in
+      cond_both (tells_news v header (length bytes)) (outside cx (acknowledged (timed v by) by cx.moment) ip header again) (outside cx v ip header false)
       (λ (a : Arrived). Named v.block a)
-      (λ _. named_outside v.block (acknowledged (timed v by) by cx.moment) (timed_names v by))
-      (λ _. named_outside v.block v (inl (keeps v.block v.block refl refl))))
+      (λ _. named_outside v.block (acknowledged (timed v by) by cx.moment) again (timed_names v by))
+      (λ _. named_outside v.block v false (inl (keeps v.block v.block refl refl))))
   named_checked Old v bytes =
+      let again = comes_again v header (length bytes) in
       cond_both (is_in_window v.block (free_in v) header (length bytes))
       (with_content cx (with_block v (stamp_taken (heard v.block) header cx.moment)) ip header bytes)
-      (outside cx v ip header)
+      (outside cx v ip header again)
       (λ (a : Arrived). Named v.block a)
       (λ _.
       let heard_of = stamp_taken (heard v.block) header cx.moment in
       named_content v.block (with_block v heard_of) bytes (keeps v.block heard_of refl refl))
-      (λ _. named_outside v.block v (inl (keeps v.block v.block refl refl)))
+      (λ _. named_outside v.block v again (inl (keeps v.block v.block refl refl)))
   named_checked Drops v bytes = stays_named v
   named_checked Draws v bytes = draws_named v
   named_checked Resets v bytes = named_reset v (length bytes)

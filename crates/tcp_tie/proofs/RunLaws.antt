@@ -1,5 +1,5 @@
 -- Each run of two fresh sockets is safe, both ways.
-use Rattle.std.proofs.Common.{◌≡◌, ℕ, Bool, true, false, List, [], ◌∷◌}
+use Rattle.std.proofs.Common.{true, false, List, [], ◌∷◌}
 use Rattle.tcp_law.specs.Alone.{AreResets}
 use Rattle.tcp_law.specs.Segment.{Segment}
 use Rattle.tcp_model.specs.Value.{TcpValue}

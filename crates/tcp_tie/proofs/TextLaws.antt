@@ -167,7 +167,7 @@ module _ (v : TcpValue) (header : TcpHeader) (bytes : List ℕ) (p : Past) (t : 
       let held : Tied (with_received (core_of v) v.block.receiver.next.0 v.received.waiting map_with) p t =
       move v.block.receiver.next.0 v.received.waiting map_with takes some still
       (sym (append-nil v.received.waiting) ∙ ap (λ (more : List ℕ). v.received.waiting ++ more) (sym gap)) (sym (behind-gap map_with gap)) in
-      cond_both (nat_le (length (runs_of map_with)) 16)
+      cond_both (nat_le (length (runs_of map_with)) 32)
       (texted (record v { received = received_of v.received.waiting map_with v.received.start }) 0 false (Some past))
       (texted v 0 false None)
       (λ (x : Texted). IsTexted (core_of v) p t x)

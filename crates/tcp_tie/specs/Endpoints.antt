@@ -12,7 +12,6 @@ use Rattle.tcp_model.specs.Controls.{is_rst}
 use Rattle.tcp_model.specs.Endpoints.{local_of, remote_of, pair_in}
 use Rattle.tcp_model.specs.Opening.{is_first_syn}
 use Rattle.tcp_model.specs.States.{is_closed, is_listening, is_answering}
-use Rattle.tcp_model.specs.Value.{TcpValue}
 
 -- WHERE SEGMENTS GO
 

@@ -52,9 +52,9 @@ fn opening(alloc: Global) -> Result<Vec<PairEvent>, AllocError> {
 fn opened(alloc: Global) -> Result<Pair>
     ensures { IfOk result IsSafe }
 {
+    let events = opening(alloc)?;
     let a = socket(alloc)?;
     let b = socket(alloc)?;
-    let events = opening(alloc)?;
     let mut pair = Pair::new(alloc, a, b);
     match pair.run(events) {
         Ok(()) => Ok(pair),
@@ -222,12 +222,23 @@ fn show_end(rt: &HostRuntime, pair: &Pair, read: &[u8]) -> Result<()> {
 }
 
 fn main(rt: HostRuntime) -> Result<()> {
-    let mut pair = opened(rt.alloc())?;
+    let mut pair = Box::new(rt.alloc(), opened(rt.alloc())?)?;
+    transfer(&rt, &mut pair)
+}
+
+/// The transfer between two connected sockets, to its end.
+fn transfer(rt: &HostRuntime, pair: &mut Pair) -> Result<()> {
     let mut users = Users {
         written: 0,
         read: Vec::new(rt.alloc()),
         read_all: false,
     };
+    take_turns(rt, pair, &mut users)?;
+    show_end(rt, pair, users.read.as_slice())
+}
+
+/// A turn each tenth of a second, at most for a minute.
+fn take_turns(rt: &HostRuntime, pair: &mut Pair, users: &mut Users) -> Result<()> {
     let mut link = Link {
         of_a: 0,
         of_b: 0,
@@ -235,10 +246,10 @@ fn main(rt: HostRuntime) -> Result<()> {
     };
     for tick in 0..600_u16 {
         let now = i64::from(tick) * 100_000;
-        turn(&rt, &mut pair, &mut users, &mut link, now)?;
-        if is_over(&pair) {
+        turn(rt, pair, users, &mut link, now)?;
+        if is_over(pair) {
             break;
         }
     }
-    show_end(&rt, &pair, users.read.as_slice())
+    Ok(())
 }

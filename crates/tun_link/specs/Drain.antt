@@ -77,9 +77,9 @@ fresh_drain capabilities = record {
 }
 
 abbrev pub DrainMove : DrainValue → Move → DrainValue → Type 0
-DrainMove old (Took packet) new =
+DrainMove old (Took t packet) new =
     IsTrue (gives_tokens old.refusals) × (old.waiting ≡ Some packet) × (new ≡ record old { waiting = None })
-DrainMove old Empty new = (new ≡ old) × (IsTrue (gives_tokens old.refusals) → old.waiting ≡ None)
-DrainMove old (Allowed leave) new = (new ≡ old) × (leave ≡ gives_tokens old.refusals)
+DrainMove old (Empty t) new = (new ≡ old) × (IsTrue (gives_tokens old.refusals) → old.waiting ≡ None)
+DrainMove old (Allowed t leave) new = (new ≡ old) × (leave ≡ gives_tokens old.refusals)
 DrainMove old (Emitted packet) new = new ≡ gone packet old
 DrainMove old (Denied _) new = new ≡ record old { refusals = old.refusals + 1 }

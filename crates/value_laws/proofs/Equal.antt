@@ -54,6 +54,7 @@ use Rattle.tcp_model.specs.contracts.block.SenderPartialEq.TheImpl as Sending
 use Rattle.tcp_model.specs.contracts.block.SettingsPartialEq.TheImpl as Set
 use Rattle.tcp_model.specs.contracts.block.StampsPartialEq.TheImpl as Stamped
 use Rattle.tcp_model.specs.contracts.block.TimersPartialEq.TheImpl as Timed
+use Rattle.tcp_model.specs.contracts.block.UndoPartialEq.TheImpl as Undoing
 use Rattle.tcp_model.specs.contracts.block.checks.VerdictPartialEq.TheImpl as Judged
 use Rattle.tcp_model.specs.contracts.block.rules.PartPartialEq.TheImpl as Parted
 use Rattle.tcp_model.specs.declared.block.Block.{Block}
@@ -66,6 +67,7 @@ use Rattle.tcp_model.specs.declared.block.Sender.{Sender}
 use Rattle.tcp_model.specs.declared.block.Settings.{Settings}
 use Rattle.tcp_model.specs.declared.block.Stamps.{Stamps}
 use Rattle.tcp_model.specs.declared.block.Timers.{Timers}
+use Rattle.tcp_model.specs.declared.block.Undo.{Undo}
 use Rattle.tcp_model.specs.declared.block.checks.Verdict.{Verdict}
 use Rattle.tcp_model.specs.declared.block.rules.Part.{Part}
 
@@ -200,11 +202,13 @@ Decides-reno a b =
 
 Decides-estimate : (a b : Estimate) → Decides (Estimated.ghosts.eq a b) (a ≡ b)
 Decides-estimate a b =
-    let all = Decides-and _ _ (Decides-eqb a.smoothed b.smoothed) (Decides-eqb a.variation b.variation) in (
+    let from_variation = Decides-and _ _ (Decides-eqb a.variation b.variation) (Decides-eqb a.shortest b.shortest) in
+    let all = Decides-and _ _ (Decides-eqb a.smoothed b.smoothed) (from_variation) in (
       λ yes.
           let parts = all.0 yes in
-          λ i. record { smoothed = parts.0 i; variation = parts.1 i },
-      λ e. all.1 (both (ap (λ (v : Estimate). v.smoothed) e) (ap (λ (v : Estimate). v.variation) e)),
+          λ i. record { smoothed = parts.0 i; variation = parts.1.0 i; shortest = parts.1.1 i },
+      λ e. all.1 (both (ap (λ (v : Estimate). v.smoothed) e)
+          (both (ap (λ (v : Estimate). v.variation) e) (ap (λ (v : Estimate). v.shortest) e))),
     )
 
 Decides-sample : (a b : Sample) → Decides (Sampled.ghosts.eq a b) (a ≡ b)
@@ -455,10 +459,23 @@ Decides-scoreboard a b =
     let all = slice_eq-Decides {E = λ x y. Ran.ghosts.eq x y} Decides-run a.runs b.runs (Board.ghosts.eq a b) refl in
     (λ yes. λ i. record { runs = all.0 yes i }, λ e. all.1 (ap (λ (v : Scoreboard). v.runs) e))
 
+pub Decides-undo : (a b : Undo) → Decides (Undoing.ghosts.eq a b) (a ≡ b)
+Decides-undo a b =
+    let from_until =
+    Decides-and _ _ (Decides-option (λ (x y : ℤ). int_eq x y) Decides-int_eq a.until b.until) (Decides-eqb a.stamp b.stamp) in
+    let all = Decides-and _ _ (Decides-reno a.reno b.reno) (from_until) in (
+      λ yes.
+          let parts = all.0 yes in
+          λ i. record { reno = parts.0 i; until = parts.1.0 i; stamp = parts.1.1 i },
+      λ e. all.1 (both (ap (λ (v : Undo). v.reno) e) (both (ap (λ (v : Undo). v.until) e) (ap (λ (v : Undo). v.stamp) e))),
+    )
+
 pub Decides-loss : (a b : Loss) → Decides (Lost.ghosts.eq a b) (a ≡ b)
 Decides-loss a b =
-    let from_probed =
-    Decides-and _ _ (booleans_Decides a.probed b.probed) (Decides-option (λ (x y : ℤ). int_eq x y) Decides-int_eq a.probe_at b.probe_at) in
+    let from_probe_at =
+    Decides-and _ _ (Decides-option (λ (x y : ℤ). int_eq x y) Decides-int_eq a.probe_at b.probe_at)
+    (Decides-option (λ x y. Undoing.ghosts.eq x y) Decides-undo a.undo b.undo) in
+    let from_probed = Decides-and _ _ (booleans_Decides a.probed b.probed) (from_probe_at) in
     let from_probes = Decides-and _ _ (booleans_Decides a.probes b.probes) (from_probed) in
     let from_eager = Decides-and _ _ (booleans_Decides a.eager b.eager) (from_probes) in
     let from_mark = Decides-and _ _ (Decides-eqb a.mark b.mark) (from_eager) in
@@ -473,13 +490,15 @@ Decides-loss a b =
             eager = parts.1.1.1.0 i;
             probes = parts.1.1.1.1.0 i;
             probed = parts.1.1.1.1.1.0 i;
-            probe_at = parts.1.1.1.1.1.1 i;
+            probe_at = parts.1.1.1.1.1.1.0 i;
+            undo = parts.1.1.1.1.1.1.1 i;
           },
       λ e. all.1 (both (ap (λ (v : Loss). v.board) e)
           (both (ap (λ (v : Loss). v.resent) e)
           (both (ap (λ (v : Loss). v.mark) e)
           (both (ap (λ (v : Loss). v.eager) e)
-          (both (ap (λ (v : Loss). v.probes) e) (both (ap (λ (v : Loss). v.probed) e) (ap (λ (v : Loss). v.probe_at) e))))))),
+          (both (ap (λ (v : Loss). v.probes) e)
+          (both (ap (λ (v : Loss). v.probed) e) (both (ap (λ (v : Loss). v.probe_at) e) (ap (λ (v : Loss). v.undo) e)))))))),
     )
 
 -- the control block is compared whole

@@ -2,3 +2,4 @@ mod Equal
 pub mod Told
 pub mod InterfaceEqual
 pub mod Begins
+pub mod Drains

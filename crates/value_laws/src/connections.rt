@@ -14,6 +14,7 @@ ghost use Rattle.tcp_model.specs.State.{State};
 ghost use Rattle.tcp_model.specs.declared.block.Block.{Block};
 ghost use Rattle.tcp_model.specs.declared.block.CongestionControl.{CongestionControl};
 ghost use Rattle.tcp_model.specs.declared.block.Loss.{Loss};
+ghost use Rattle.tcp_model.specs.declared.block.Undo.{Undo};
 ghost use Rattle.tcp_model.specs.declared.block.Names.{Names};
 ghost use Rattle.tcp_model.specs.declared.block.Peer.{Peer};
 ghost use Rattle.tcp_model.specs.declared.block.Receiver.{Receiver};
@@ -28,7 +29,7 @@ use std::fmt::Display;
 use tcp_model::{
     AddressPair, Block, CongestionControl, EndpointPair, Loss, Names, OfferKind, OpenOffer, PROBE,
     Part, Peer, Receiver, Reno, Reply, RoundTrip, Run, Scoreboard, Sender, Settings, Stamps, State,
-    Timers, Verdict,
+    Timers, Undo, Verdict,
 };
 
 /// Law: `==` of a control block, and of each part of it, says whether they are the same.
@@ -44,6 +45,7 @@ pub fn blocks_are_equated()
     ensures reno { (a b : RenoValue) → IsTrue (⟦<Reno as PartialEq>⟧.eq a b) ↔ (a ≡ b) }
     ensures run { (a b : Run) → IsTrue (⟦<Run as PartialEq>⟧.eq a b) ↔ (a ≡ b) }
     ensures scoreboard { (a b : Scoreboard) → IsTrue (⟦<Scoreboard as PartialEq>⟧.eq a b) ↔ (a ≡ b) }
+    ensures undo { (a b : Undo) → IsTrue (⟦<Undo as PartialEq>⟧.eq a b) ↔ (a ≡ b) }
     ensures loss { (a b : Loss) → IsTrue (⟦<Loss as PartialEq>⟧.eq a b) ↔ (a ≡ b) }
     ensures congestion { (a b : CongestionControl) → IsTrue (⟦<CongestionControl as PartialEq>⟧.eq a b) ↔ (a ≡ b) }
     ensures settings { (a b : Settings) → IsTrue (⟦<Settings as PartialEq>⟧.eq a b) ↔ (a ≡ b) }

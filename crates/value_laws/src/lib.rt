@@ -10,6 +10,7 @@ pub mod connections;
 pub mod containers;
 pub mod control;
 pub mod datagrams;
+pub mod device_laws;
 pub mod history_equal;
 pub mod history_values;
 pub mod host_polls;

@@ -1,7 +1,7 @@
 //! Tests of datagrams that are put together from pieces.
 use crate::cases::{Goes, Life, all_live, first_wrong};
-use interface_tables::{AssemblerError, PacketAssembler, PacketAssemblerSet};
-use ip_wire::{IpProtocol, Ipv4Address, Ipv4FragKey};
+use interface_tables::{AssemblerError, FragKey, Ipv6FragKey, PacketAssembler, PacketAssemblerSet};
+use ip_wire::{IpProtocol, Ipv4Address, Ipv4FragKey, Ipv6Address};
 use net_base::Instant;
 use std::alloc::Global;
 
@@ -18,10 +18,12 @@ enum Step {
     HasSize(usize, Answer),
     IsComplete(bool),
     Completed(Option<&'static [u8]>),
+    /// Whether bytes in two parts would overlap what came, from this place on.
+    Overlaps(&'static [u8], &'static [u8], usize, bool),
     Resets,
 }
 
-use Step::{Adds, Completed, HasSize, Inserts, IsComplete, Resets};
+use Step::{Adds, Completed, HasSize, Inserts, IsComplete, Overlaps, Resets};
 
 impl Goes<Assembler> for Step {
     fn goes(&self, _alloc: Global, packet: &mut Assembler) -> bool {
@@ -48,6 +50,12 @@ fn says(packet: &mut Assembler, step: &Step) -> bool {
     match step {
         IsComplete(answer) => packet.is_complete() == *answer,
         Completed(bytes) => is_same(packet.completed(), *bytes),
+        Overlaps(front, bytes, at, answer) => {
+            front.len() <= 4
+                && bytes.len() <= 4
+                && *at <= 8
+                && packet.overlaps(front, bytes, *at) == *answer
+        }
         Resets => {
             packet.reset();
             true
@@ -66,7 +74,7 @@ impl Life for Slot {
     }
 }
 
-const SLOTS: [Slot; 5] = [
+const SLOTS: [Slot; 6] = [
     // Bytes that come again overwrite those that came before.
     Slot(&[
         HasSize(5, Ok(())),
@@ -98,6 +106,18 @@ const SLOTS: [Slot; 5] = [
         Resets,
         Completed(None),
     ]),
+    // What touches, and what came as it is, overlaps nothing; another byte, or a new place beside one that came, does.
+    Slot(&[
+        Inserts(b"abcd", 4, true),
+        Overlaps(b"", b"wxyz", 0, false),
+        Overlaps(b"", b"wxyz", 8, false),
+        Overlaps(b"ab", b"cd", 4, false),
+        Overlaps(b"", b"bc", 5, false),
+        Overlaps(b"", b"abce", 4, true),
+        Overlaps(b"xb", b"cd", 4, true),
+        Overlaps(b"cd", b"ef", 6, true),
+        Overlaps(b"xx", b"xa", 1, true),
+    ]),
     // A piece that would leave a fifth run is written and not marked.
     Slot(&[
         Inserts(b"x", 1, true),
@@ -117,37 +137,53 @@ fn slots_live(rt: HostRuntime) {
 }
 
 /// A datagram from 10.0.0.1 to 10.0.0.2.
-const ONE: Ipv4FragKey = Ipv4FragKey {
+const FIRST: Ipv4FragKey = Ipv4FragKey {
     id: 1,
     src_addr: Ipv4Address([10, 0, 0, 1]),
     dst_addr: Ipv4Address([10, 0, 0, 2]),
     protocol: IpProtocol::Udp,
 };
 
-const ONE_OF_TCP: Ipv4FragKey = Ipv4FragKey {
+const ONE: FragKey = FragKey::Ipv4(FIRST);
+
+const ONE_OF_TCP: FragKey = FragKey::Ipv4(Ipv4FragKey {
     protocol: IpProtocol::Tcp,
-    ..ONE
+    ..FIRST
+});
+
+const ZERO: FragKey = FragKey::Ipv4(Ipv4FragKey { id: 0, ..FIRST });
+
+/// The same number of an IPv6 datagram, and another.
+const ONE_OF_V6: FragKey = FragKey::Ipv6(FIRST_OF_V6);
+
+const TWO_OF_V6: FragKey = FragKey::Ipv6(Ipv6FragKey {
+    id: 0x0100_0001,
+    ..FIRST_OF_V6
+});
+
+const FIRST_OF_V6: Ipv6FragKey = Ipv6FragKey {
+    id: 1,
+    src_addr: Ipv6Address([0xfd, 0, 0, 0, 0, 0, 0, 0, 0, 0, 0, 0, 0, 0, 0, 1]),
+    dst_addr: Ipv6Address([0xfd, 0, 0, 0, 0, 0, 0, 0, 0, 0, 0, 0, 0, 0, 0, 2]),
 };
 
-const ZERO: Ipv4FragKey = Ipv4FragKey { id: 0, ..ONE };
-
-const TWO: Ipv4FragKey = Ipv4FragKey { id: 2, ..ONE };
+const TWO: FragKey = FragKey::Ipv4(Ipv4FragKey { id: 2, ..FIRST });
 
 /// A call of slots, and what it must answer. A moment is so many microseconds after the start.
 enum Call {
     /// At a moment the first two bytes of a datagram come: which slot has it.
-    Begins(Ipv4FragKey, u8, Option<usize>),
+    Begins(FragKey, u8, Option<usize>),
     /// At a moment bytes of a datagram come, from this place on, the last ones.
-    Ends(Ipv4FragKey, u8, &'static [u8], usize, Option<usize>),
+    Ends(FragKey, u8, &'static [u8], usize, Option<usize>),
     /// At a moment there is no slot for a datagram.
-    HasNone(Ipv4FragKey, u8),
+    HasNone(FragKey, u8),
     /// The datagram of a slot, if it is whole.
     Holds(usize, Option<&'static [u8]>),
     Frees(usize),
     /// A moment comes.
     Expires(u8),
     /// A datagram of no bytes is put together.
-    Assembles(Ipv4FragKey),
+    Assembles(FragKey),
 }
 
 use Call::{Assembles, Begins, Ends, Expires, Frees, HasNone, Holds};
@@ -187,7 +223,7 @@ fn changes<const N: usize>(set: &mut PacketAssemblerSet<N>, call: &Call) -> bool
 }
 
 /// Whether a datagram of no bytes is put together.
-fn assembles<const N: usize>(set: &mut PacketAssemblerSet<N>, key: &Ipv4FragKey) -> bool {
+fn assembles<const N: usize>(set: &mut PacketAssemblerSet<N>, key: &FragKey) -> bool {
     match set.get(key, Instant::ZERO) {
         Ok(slot) => {
             slot.assemble().is_none()
@@ -210,13 +246,22 @@ impl<const N: usize> Life for Slots<N> {
     }
 }
 
-const OF_TWO: [Slots<2>; 3] = [
+const OF_TWO: [Slots<2>; 4] = [
     // A slot for each datagram, also where only the protocol differs: a third one finds none.
     Slots(&[
         Begins(ONE, 60, Some(0)),
         Begins(ONE_OF_TCP, 60, Some(1)),
         Begins(TWO, 60, None),
         HasNone(TWO, 60),
+    ]),
+    // Datagrams of both families have slots of their own.
+    Slots(&[
+        Begins(ONE, 60, Some(0)),
+        Begins(ONE_OF_V6, 60, Some(1)),
+        HasNone(TWO_OF_V6, 60),
+        Ends(ONE_OF_V6, 60, b"cd", 2, Some(1)),
+        Holds(0, None),
+        Holds(1, Some(b"abcd")),
     ]),
     // One datagram is whole, and gives up its slot.
     Slots(&[

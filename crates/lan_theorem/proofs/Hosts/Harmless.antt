@@ -6,6 +6,7 @@ use Rattle.interface_ingress.specs.EthernetRepr.{EthernetRepr}
 use Rattle.interface_ingress.proofs.Kept.{brings_damaged_v4, brings_damaged_v6}
 use Rattle.interface_ingress.specs.Arrives.{Arrived, Brings, whole_after}
 use Rattle.interface_ingress.specs.Delivered.{Places}
+use Rattle.interface_ingress.specs.Handed.{is_known_v6}
 use Rattle.interface_ingress.specs.Incoming.{IncomingValue, Arp, Ip4, Ip6, IsIncoming, IsContent}
 use Rattle.interface_ingress.specs.Kept.{with_ports}
 use Rattle.interface_ingress.specs.Reassembled.{Slots, uncut, is_taken_in, taken_in, kept, place_in, whole_of}
@@ -23,6 +24,7 @@ use Rattle.lan_frames.specs.ChecksumCapabilities.{ChecksumCapabilities}
 use Rattle.lan_frames.specs.Medium.{Medium}
 use Rattle.lan_theorem.specs.Hosts.Damage.{IsHarmless, IsHarmlessFrom, IsHarmlessBy, DamageIsHarmless, WasHarmless, HaveWords, IsNoSegment, BringsNoSegment}
 use Rattle.lan_theorem.specs.Hosts.GoesOn.{GoesOn}
+use Rattle.lan_theorem.proofs.Link.Whole6.{known_whole, whole_is}
 use Rattle.lan_theorem.proofs.Hosts.There.{IsThere}
 use Rattle.lan_theorem.proofs.Hosts.Moving.{goes_on}
 use Rattle.lan_theorem.proofs.Hosts.Staying.{medium_stays, origin_same, origin_there, there_still}
@@ -50,7 +52,10 @@ module _ (i : InnerValue) (timeout : ℕ) (slots : Slots) (places : Places) (a :
   taken true (Arp link packet) bad brings = absurd bad
   taken true (Ip4 link header piece payload) bad brings =
       brings_damaged_v4 i places link header uncut payload a (whole_v4 link header piece payload bad.0 brings) bad.1
-  taken true (Ip6 link header payload) bad brings = brings_damaged_v6 i places link header payload a brings bad
+  taken true (Ip6 link header payload) bad brings =
+      let content : Option IncomingValue = Some (Ip6 link header payload) in
+      let whole = whole_is link header payload (known_whole header payload (ap is_known_v6 bad.0)) (kept i timeout slots content) (place_in slots content) in
+      brings_damaged_v6 i places link header payload a (subst (λ (o : Option IncomingValue). Brings i places o a) whole brings) bad
 
   content_harmless : (content : Option IncomingValue) → ((v : IncomingValue) → content ≡ Some v → IsNoSegment i.checksums v) →
       Brought (taken_in i content) → Harmless

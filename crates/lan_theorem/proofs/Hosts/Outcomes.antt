@@ -5,28 +5,28 @@ use Rattle.lan_frames.specs.Device.{Move, Took, Empty, Allowed, Emitted, Denied}
 use Rattle.interface.specs.Polls.{Polls}
 use Rattle.interface.specs.State.{State, state}
 use Rattle.interface_egress.specs.Determined.{IsDetermined}
-use Rattle.interface.specs.Steady.{IsShort, IsSteady}
+use Rattle.interface.specs.Steady.{IsSteady}
 use Rattle.interface.proofs.OneEnd.{OneOffer, one_poll}
 use Rattle.lan_hosts.specs.Port.{LinkEnd, PortValue, PortMove, has_leave}
 use Rattle.lan_hosts.specs.Station.{StationValue, at_port}
 use Rattle.lan_hosts.specs.Steps.{PollsAt}
-use Rattle.lan_theorem.proofs.Hosts.Mapping.{IsMapped, polls_there}
+use Rattle.interface.proofs.Mapping.{IsMapped, polls_there}
 
 -- AN END OF THE LINK AS A DEVICE
 
 -- the moves of a port that denies nothing, and takes frames of at most this length
 abbrev pub LinkMove : ℕ → LinkEnd → Move → LinkEnd → Type 0
-LinkMove longest old (Took frame) new = IsTrue (has_leave old) × (old ≡ record new { waiting = frame ∷ new.waiting })
-LinkMove longest old Empty new = (new ≡ old) × (IsTrue (has_leave old) → old.waiting ≡ [])
-LinkMove longest old (Allowed leave) new = (new ≡ old) × (leave ≡ has_leave old)
+LinkMove longest old (Took t frame) new = IsTrue (has_leave old) × (old ≡ record new { waiting = frame ∷ new.waiting })
+LinkMove longest old (Empty t) new = (new ≡ old) × (IsTrue (has_leave old) → old.waiting ≡ [])
+LinkMove longest old (Allowed t leave) new = (new ≡ old) × (leave ≡ has_leave old)
 LinkMove longest old (Emitted frame) new = (new ≡ record old { sent = old.sent ++ frame ∷ []; room = old.room - 1 }) × (length frame ≤ longest)
 LinkMove longest old (Denied len) new = ⊥
 
 module _ (longest : ℕ) where
   link_end : (here one other : LinkEnd) (m : Move) → LinkMove longest here m one → LinkMove longest here m other → one ≡ other
-  link_end here one other (Took frame) a b = ap (λ (l : LinkEnd). record l { waiting = drop 1 l.waiting }) (sym a.1 ∙ b.1)
-  link_end here one other Empty a b = a.0 ∙ sym b.0
-  link_end here one other (Allowed leave) a b = a.0 ∙ sym b.0
+  link_end here one other (Took t frame) a b = ap (λ (l : LinkEnd). record l { waiting = drop 1 l.waiting }) (sym a.1 ∙ b.1)
+  link_end here one other (Empty t) a b = a.0 ∙ sym b.0
+  link_end here one other (Allowed t leave) a b = a.0 ∙ sym b.0
   link_end here one other (Emitted frame) a b = a.0 ∙ sym b.0
   link_end here one other (Denied len) a b = absurd a
 
@@ -42,21 +42,14 @@ module _ (longest : ℕ) where
   link_determined : (here : LinkEnd) → IsDetermined (LinkMove longest) longest here
   link_determined here = record {
     one_end = link_end here;
-    one_frame = λ one other frame again a b. head_is frame again one.waiting other.waiting (ap (λ (l : LinkEnd). l.waiting) (sym a.1 ∙ b.1));
-    looks = λ one other frame a b. some_none frame one.waiting (ap (λ (l : LinkEnd). l.waiting) (sym a.1) ∙ b.1 a.0);
-    gives = λ one other a b. on_off (has_leave here) a.1 b.1;
+    one_frame = λ t one other frame again a b. head_is frame again one.waiting other.waiting (ap (λ (l : LinkEnd). l.waiting) (sym a.1 ∙ b.1));
+    looks = λ t one other frame a b. some_none frame one.waiting (ap (λ (l : LinkEnd). l.waiting) (sym a.1) ∙ b.1 a.0);
+    gives = λ t one other a b. on_off (has_leave here) a.1 b.1;
     takes = λ one other frame short a b. b;
   }
 
-  link_short : (old new : LinkEnd) (m : Move) → LinkMove longest old m new → IsShort longest m
-  link_short old new (Took frame) goes = tt
-  link_short old new Empty goes = tt
-  link_short old new (Allowed given) goes = tt
-  link_short old new (Emitted frame) goes = goes.1
-  link_short old new (Denied len) goes = absurd goes
-
   link_steady : IsSteady (LinkMove longest) longest
-  link_steady = record { stays = λ old new m det goes. link_determined new; short = link_short }
+  link_steady = record { stays = λ old new m det goes. link_determined new; clear = λ here one other frame det a b. b }
 
 -- A PORT THAT DENIES NOTHING
 
@@ -78,9 +71,9 @@ module _ (refusals longest : ℕ) where
   After p = (p.link.refusals ≤ refusals) × (total p.link.sent ≤ longest)
 
   up : (old new : PortValue) (m : Move) → PortMove old m new → Before old → Before new
-  up old new (Took frame) goes before = subst (λ (n : ℕ). refusals ≤ n) (ap (λ (x : PortValue). x.link.refusals) goes.1) before
-  up old new Empty goes before = subst (λ (n : ℕ). refusals ≤ n) (sym (ap (λ (x : PortValue). x.link.refusals) goes.0)) before
-  up old new (Allowed leave) goes before = subst (λ (n : ℕ). refusals ≤ n) (sym (ap (λ (x : PortValue). x.link.refusals) goes.0)) before
+  up old new (Took t frame) goes before = subst (λ (n : ℕ). refusals ≤ n) (ap (λ (x : PortValue). x.link.refusals) goes.1) before
+  up old new (Empty t) goes before = subst (λ (n : ℕ). refusals ≤ n) (sym (ap (λ (x : PortValue). x.link.refusals) goes.0)) before
+  up old new (Allowed t leave) goes before = subst (λ (n : ℕ). refusals ≤ n) (sym (ap (λ (x : PortValue). x.link.refusals) goes.0)) before
   up old new (Emitted frame) goes before = subst (λ (n : ℕ). refusals ≤ n) (sym (ap (λ (x : PortValue). x.link.refusals) goes)) before
   up old new (Denied len) goes before =
       let more : new.link.refusals ≡ old.link.refusals + 1 = ap (λ (x : PortValue). x.link.refusals) goes.0 in
@@ -91,10 +84,11 @@ module _ (refusals longest : ℕ) where
       (subst (λ (n : ℕ). n ≤ refusals) (sym refused) after.0, subst (λ (fs : List (List ℕ)). total fs ≤ longest) (sym sent) after.1)
 
   down : (old new : PortValue) (m : Move) → PortMove old m new → After new → After old
-  down old new (Took frame) goes after = after_same old new (ap (λ (x : PortValue). x.link.refusals) goes.1) (ap (λ (x : PortValue). x.link.sent) goes.1) after
-  down old new Empty goes after =
+  down old new (Took t frame) goes after = after_same old new (ap (λ (x : PortValue). x.link.refusals) goes.1)
+      (ap (λ (x : PortValue). x.link.sent) goes.1) after
+  down old new (Empty t) goes after =
       after_same old new (sym (ap (λ (x : PortValue). x.link.refusals) goes.0)) (sym (ap (λ (x : PortValue). x.link.sent) goes.0)) after
-  down old new (Allowed leave) goes after =
+  down old new (Allowed t leave) goes after =
       after_same old new (sym (ap (λ (x : PortValue). x.link.refusals) goes.0)) (sym (ap (λ (x : PortValue). x.link.sent) goes.0)) after
   down old new (Emitted frame) goes after =
       let sent : total new.link.sent ≡ total old.link.sent + length frame = ap (λ (x : PortValue). total x.link.sent) goes ∙ total_more old.link.sent frame in
@@ -106,9 +100,9 @@ module _ (refusals longest : ℕ) where
       (omega (arith, more, low), subst (λ (fs : List (List ℕ)). total fs ≤ longest) (ap (λ (x : PortValue). x.link.sent) goes.0) after.1)
 
   there : (old new : PortValue) (m : Move) → PortMove old m new → Before old → After new → LinkMove longest old.link m new.link
-  there old new (Took frame) goes before after = (goes.0, ap (λ (x : PortValue). x.link) goes.1)
-  there old new Empty goes before after = (ap (λ (x : PortValue). x.link) goes.0, goes.1)
-  there old new (Allowed leave) goes before after = (ap (λ (x : PortValue). x.link) goes.0, goes.1)
+  there old new (Took t frame) goes before after = (goes.0, ap (λ (x : PortValue). x.link) goes.1)
+  there old new (Empty t) goes before after = (ap (λ (x : PortValue). x.link) goes.0, goes.1)
+  there old new (Allowed t leave) goes before after = (ap (λ (x : PortValue). x.link) goes.0, goes.1)
   there old new (Emitted frame) goes before after =
       let sent : total new.link.sent ≡ total old.link.sent + length frame = ap (λ (x : PortValue). total x.link.sent) goes ∙ total_more old.link.sent frame in
       let low = after.1 in

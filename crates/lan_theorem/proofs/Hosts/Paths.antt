@@ -1,5 +1,5 @@
 -- What a list of touches makes of a port.
-use Rattle.std.proofs.Common.{◌≡◌, ℕ, ◌+◌, ◌-◌, true, false, List, [], ◌∷◌, ◌++◌, length, Some, None, refl, sym, ap, ◌∙◌, append_assoc, append-nil, arith}
+use Rattle.std.proofs.Common.{◌≡◌, ℕ, ◌+◌, ◌-◌, ℤ, true, false, List, [], ◌∷◌, ◌++◌, length, Some, None, refl, sym, ap, ◌∙◌, append_assoc, append-nil, arith}
 use Rattle.interface_egress.specs.Departure.{Departure}
 use Rattle.interface_egress.specs.GoesOut.{frame_of}
 use Rattle.interface.specs.Touches.{Touch, Looks, Leave, Sends, departed, Does, DoesAll}
@@ -23,8 +23,8 @@ module _ (i : InnerValue) where
     pub room : p'.link.room ≡ p.link.room - length (departed ts)
     pub capabilities : p'.link.capabilities ≡ p.link.capabilities
 
-  abbrev By : Touch → PortValue → PortValue → Type 0
-  By x p p' = Does PortMove i.hardware i.checksums x p p'
+  abbrev By : ℤ → Touch → PortValue → PortValue → Type 0
+  By t x p p' = Does PortMove t i.hardware i.checksums x p p'
 
   same_path : (ts : List Touch) (p q : PortValue) → q ≡ p → IsPath ts p p → IsPath ts p q
   same_path ts p q is path = record {
@@ -51,13 +51,13 @@ module _ (i : InnerValue) where
   one_more : (ds : List Departure) (d : Departure) → length ds + 1 ≡ length (d ∷ ds)
   one_more ds d = omega arith
 
-  further : (x : Touch) (ts : List Touch) (p q r : PortValue) → IsPath ts p q → By x q r → IsPath (x ∷ ts) p r
-  further (Looks None) ts p q r path step =
+  further : (t : ℤ) (x : Touch) (ts : List Touch) (p q r : PortValue) → IsPath ts p q → By t x q r → IsPath (x ∷ ts) p r
+  further t (Looks None) ts p q r path step =
       let same = step.0 in
       still ts (Looks None ∷ ts) p q r (ap (λ (x : PortValue). x.link.waiting) same) (ap (λ (x : PortValue). x.link.sent) same)
       (ap (λ (x : PortValue). x.link.room) same)
       (ap (λ (x : PortValue). x.link.capabilities) same) refl refl path
-  further (Looks (Some frame)) ts p q r path step =
+  further t (Looks (Some frame)) ts p q r path step =
       let same = step.1 in
       record {
         waiting =
@@ -66,12 +66,12 @@ module _ (i : InnerValue) where
         room = sym (ap (λ (x : PortValue). x.link.room) same) ∙ path.room;
         capabilities = sym (ap (λ (x : PortValue). x.link.capabilities) same) ∙ path.capabilities;
       }
-  further (Leave given) ts p q r path step =
+  further t (Leave given) ts p q r path step =
       let same = step.0 in
       still ts (Leave given ∷ ts) p q r (ap (λ (x : PortValue). x.link.waiting) same) (ap (λ (x : PortValue). x.link.sent) same)
       (ap (λ (x : PortValue). x.link.room) same)
       (ap (λ (x : PortValue). x.link.capabilities) same) refl refl path
-  further (Sends d true) ts p q r path step =
+  further t (Sends d true) ts p q r path step =
       let same = step.0 in
       record {
         waiting = path.waiting ∙ ap (λ (xs : List (List ℕ)). looked ts ++ xs) (sym (ap (λ (x : PortValue). x.link.waiting) same));
@@ -83,7 +83,7 @@ module _ (i : InnerValue) where
             ∙ ap (λ (n : ℕ). p.link.room - n) (one_more (departed ts) d);
         capabilities = ap (λ (x : PortValue). x.link.capabilities) same ∙ path.capabilities;
       }
-  further (Sends d false) ts p q r path step =
+  further t (Sends d false) ts p q r path step =
       let same = step.0 in
       still ts (Sends d false ∷ ts) p q r (ap (λ (x : PortValue). x.link.waiting) same) (ap (λ (x : PortValue). x.link.sent) same)
       (ap (λ (x : PortValue). x.link.room) same)
@@ -92,7 +92,7 @@ module _ (i : InnerValue) where
   no_less : (a : ℕ) → a ≡ a - 0
   no_less a = omega arith
 
-  pub path_of : (ts : List Touch) (p p' : PortValue) → DoesAll PortMove i.hardware i.checksums ts p p' → IsPath ts p p'
-  path_of [] p p' is =
+  pub path_of : (t : ℤ) (ts : List Touch) (p p' : PortValue) → DoesAll PortMove t i.hardware i.checksums ts p p' → IsPath ts p p'
+  path_of t [] p p' is =
       same_path [] p p' is (record { waiting = refl; sent = sym (append-nil p.link.sent); room = no_less p.link.room; capabilities = refl })
-  path_of (x ∷ ts) p p' steps = further x ts p steps.0 p' (path_of ts p steps.0 steps.1) steps.2
+  path_of t (x ∷ ts) p p' steps = further t x ts p steps.0 p' (path_of t ts p steps.0 steps.1) steps.2

@@ -40,7 +40,7 @@ nothing t = record {
 pub polled : (s s' : StationValue) (moment : ℤ) (budget : ℕ) (changed : Bool) → PollsAt s moment budget changed s' → IsPolled s moment s'
 polled s s' moment budget changed at =
     let traced = polls_traced PortMove moment budget (at_port at.port s) (at_port at.port_after s') changed at.polls in
-    let path = path_of s.host.inner traced.touches at.port at.port_after traced.path in
+    let path = path_of s.host.inner moment traced.touches at.port at.port_after traced.path in
     let counted = polls_count PortMove moment Nothing (nothing moment) budget 0 (at_port at.port s) (at_port at.port_after s') changed tt at.polls in
     record {
       touches = traced.touches;

@@ -117,13 +117,13 @@ module _ (due : DueAsBefore) (asked : InnerValue) (asked_at : ℤ) (answer : Opt
       routes = routes_stay asked m after outside;
     }
 
-    no_frame : (p : PortValue) → p.link ≡ s.link → HasNoFrame PortMove p
+    no_frame : (p : PortValue) → p.link ≡ s.link → HasNoFrame PortMove m p
     no_frame p at frame q took =
         let some : frame ∷ q.link.waiting ≡ [] =
         sym (ap (λ (x : PortValue). x.link.waiting) took.1) ∙ ap (λ (x : LinkEnd). x.waiting) at ∙ held.waiting in
         absurd (cc)
 
-    same_port : (p q : PortValue) → (q ≡ p) ⊎ PortMove p Rattle.lan_frames.specs.Device.Empty q → q ≡ p
+    same_port : (p q : PortValue) → (q ≡ p) ⊎ PortMove p (Rattle.lan_frames.specs.Device.Empty m) q → q ≡ p
     same_port p q (inl is) = is
     same_port p q (inr looks) = looks.0
 

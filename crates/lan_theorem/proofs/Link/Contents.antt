@@ -14,7 +14,7 @@ use Rattle.lan_frames.specs.Slices.{Slice, IsSliceOf, bytes_of_slice}
 use Rattle.lan_theorem.specs.Link.Made.{sealed, bytes_of, HandsMade}
 use Rattle.lan_theorem.specs.Link.Frames.{medium_on, IsSlice, IsWhole6, IsFrom, BringsFrom, AreOut}
 use Rattle.lan_theorem.proofs.Link.Behind.{with_len, packet_of_slice, piece_of_slice, count_of_slice, read_slice, read_v6, read_behind4, read_behind6}
-use Rattle.lan_theorem.proofs.Link.Hands.{hands_sent}
+use Rattle.lan_theorem.proofs.Link.Hands.{hands_sent, whole_sent}
 
 -- SLICES
 
@@ -45,8 +45,10 @@ module _ (made : PayloadValue → Type 0) (hardware : HardwareAddress) (out : Li
       let joined : frame ++ padding ≡ f.link ++ (w ++ padding) = ap (λ (b : List ℕ). b ++ padding) f.frame_is ∙ append_assoc f.link w padding in
       let found = read_behind6 (w ++ padding) (Ipv6.normal f.header) f.bytes (read_v6 f.header f.bytes padding f.sent.value f.sent.fits f.sent.len)
       hardware f.link v f.is_link (subst (λ (b : List ℕ). IsIncoming hardware sealed b v) joined is) in
+      let whole = whole_sent made out f.header f.bytes all f.sent in
       let of_packet : HandsMade made (Ips.normal f.sent.packet.header) (bytes_of f.sent.packet) =
       hands_sent made f.sent.packet (all f.sent.packet f.sent.among) in
       let of_header : HandsMade made (Ip.Ipv6 (Ipv6.normal f.header)) (bytes_of f.sent.packet) =
       subst (λ (ip : IpRepr). HandsMade made (Ips.normal ip) (bytes_of f.sent.packet)) f.sent.header of_packet in
-      subst (IsFrom made out) (sym found.1) (inl (subst (λ (b : List ℕ). HandsMade made (Ip.Ipv6 (Ipv6.normal f.header)) b) (sym f.sent.bytes_are) of_header))
+      subst (IsFrom made out) (sym found.1)
+      (inl (whole, subst (λ (b : List ℕ). HandsMade made (Ip.Ipv6 (Ipv6.normal f.header)) b) (sym f.sent.bytes_are) of_header))

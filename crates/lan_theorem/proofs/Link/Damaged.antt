@@ -58,7 +58,7 @@ module _ (made : PayloadValue → Type 0) where
   pub segment_checked : (p : PacketValue) → IsOut made p → carried_in (Ips.normal p.header) ≡ Protocol.Tcp →
       Tcp.IsChecked (source_of (Ips.normal p.header)) (destination_of (Ips.normal p.header)) (bytes_of p)
   segment_checked p is tcp = elim is.going.carries [
-    | inl none ↦ absurd (none.0 (ap carried_in (bare_where (Ips.normal p.header) (bytes_of p) Protocol.Tcp tcp refl).0 ∙ tcp))
+    | inl none ↦ absurd (none.0.0 (ap carried_in (bare_where (Ips.normal p.header) (bytes_of p) Protocol.Tcp tcp refl).0 ∙ tcp))
     | inr reads ↦ checked_by p.header (normal_payload p.payload) (bytes_of p) tcp
         (payload-arrives sealed sealed p.header p.payload (is.going.offered.packet.payload is.fits) reads.0 sealed_both)
   ]

@@ -26,6 +26,7 @@ use Rattle.interface_delivery.specs.Ipv4.{header_len_of}
 use Rattle.interface_ingress.specs.EthernetRepr.{EthernetRepr}
 use Rattle.sockets.specs.Packet.{PacketValue, PayloadValue}
 use Rattle.interface_ingress.specs.Incoming.{IncomingValue, Ip4, Ip6, IsIncoming, IsPacketV4, IsPacketV6}
+use Rattle.interface_ingress.specs.Handed.{is_known_v6}
 use Rattle.interface_ingress.specs.Kept.{IsDamaged}
 use Rattle.interface_ingress.specs.Reassembled.{uncut}
 use Rattle.interface_ingress.proofs.FramesArrive.{piece-arrives}
@@ -41,6 +42,7 @@ use Rattle.lan_theorem.proofs.Link.Behind.{ether_front, said, none_left}
 use Rattle.lan_theorem.proofs.Link.Damaged.{put_behind, put_len, segment_checked, hands_damaged, no_segment}
 use Rattle.lan_theorem.proofs.Link.HostFrames.{other_version}
 use Rattle.lan_theorem.proofs.Link.Spelled.{length_v4, length_v6}
+use Rattle.lan_theorem.proofs.Link.Whole6.{known_whole}
 
 -- TESTS
 
@@ -167,7 +169,9 @@ bad_from : (made : PayloadValue → Type 0) (out : List PacketValue) (v : Incomi
 bad_from made out v (inl b) =
     subst (IsFrom made out) (sym b.value_is)
     (inl (λ cut. absurd (let e : true ≡ false = sym cut ∙ refl in cc), hands_damaged made (Ip.Ipv4 b.header) b.payload b.bad))
-bad_from made out v (inr b) = subst (IsFrom made out) (sym b.value_is) (inl (hands_damaged made (Ip.Ipv6 b.header) b.payload b.bad))
+bad_from made out v (inr b) =
+    subst (IsFrom made out) (sym b.value_is)
+    (inl (known_whole b.header b.payload (ap is_known_v6 b.bad.0), hands_damaged made (Ip.Ipv6 b.header) b.payload b.bad))
 
 module _ (made : PayloadValue → Type 0) (hardware : HardwareAddress) (out : List PacketValue) (all : AreOut made out) (frame : List ℕ) (part : Part)
     (place word : ℕ) where

@@ -8,15 +8,16 @@ use Rattle.interface_delivery.specs.IpRepr.TheVariants as Ip
 use Rattle.interface_delivery.specs.Ipv4Piece.{Ipv4Piece}
 use Rattle.interface_delivery.specs.Ipv4Repr.{Ipv4Repr}
 use Rattle.interface_delivery.specs.Ipv6Repr.{Ipv6Repr}
-use Rattle.ip_address.specs.declared.ipv4.Ipv4FragKey.{Ipv4FragKey}
 use Rattle.sockets.specs.Packet.{PacketValue, PayloadValue, ControlV4, ControlV6, Bytes, Datagram, Segment}
 use Rattle.interface_tables.specs.Inner.{InnerValue}
 use Rattle.interface_tables.specs.Reassembly.{SlotValue}
+use Rattle.interface_tables.specs.declared.key.FragKey.{FragKey}
+use Rattle.interface_tables.specs.declared.key.FragKey.TheVariants as Keys
 use Rattle.interface_ingress.specs.Incoming.{IncomingValue, Arp, Ip4, Ip6}
 use Rattle.interface_ingress.specs.Reassembled.{Slots}
 use Rattle.lan_theorem.specs.Link.Made.{WasMade, HandsMade, IsGoing}
 use Rattle.lan_theorem.specs.Link.Frames.{IsSentV4, IsSentV6, IsPieceOf, IsFrom, BringsFrom}
-use Rattle.lan_theorem.specs.Link.Held.{IsSlotOf}
+use Rattle.lan_theorem.specs.Link.Held.{IsOfKey, IsSlotOf}
 use Rattle.lan_theorem.specs.Link.Sides.{Grows, IsHostFrame, IsReceiver, AreSent}
 
 module _ {X : Type 0} (P Q : X → Type 0) (grows : (x : X) → P x → Q x) where
@@ -76,18 +77,19 @@ module _ (out out' : List PacketValue) (grows : Grows out out') where
       }))
   frame_grows medium frame (inr (inr f)) = inr (inr f)
 
-  slot_grows : (s : SlotValue Ipv4FragKey) → IsSlotOf out s → IsSlotOf out' s
-  slot_grows s is key key_is = elim (is key key_is) [
-    | inl none ↦ inl none
-    | inr held ↦ inr (record {
-      sent_header = held.sent_header;
-      bytes = held.bytes;
-      sent = sent4_grows held.sent_header held.bytes held.sent;
-      key_is =
-          held.key_is;
-      holds = held.holds;
-    })
-  ]
+  key_grows : (key : FragKey) (s : SlotValue FragKey) → IsOfKey out key s → IsOfKey out' key s
+  key_grows (Keys.Ipv4 key) s (inl none) = inl none
+  key_grows (Keys.Ipv4 key) s (inr held) = inr (record {
+    sent_header = held.sent_header;
+    bytes = held.bytes;
+    sent = sent4_grows held.sent_header held.bytes held.sent;
+    key_is = held.key_is;
+    holds = held.holds;
+  })
+  key_grows (Keys.Ipv6 key) s never = absurd never
+
+  slot_grows : (s : SlotValue FragKey) → IsSlotOf out s → IsSlotOf out' s
+  slot_grows s is key key_is = key_grows key s (is key key_is)
 
   piece_grows : (h : Ipv4Repr) (p : Ipv4Piece) (x : List ℕ) → IsPieceOf out h p x → IsPieceOf out' h p x
   piece_grows h p x piece =
@@ -117,7 +119,7 @@ module _ (out out' : List PacketValue) (grows : Grows out out') where
     from_grows (Arp link packet) from = inl tt
     from_grows (Ip4 link h p x) (inl whole) = inl (whole.0, hands_grow (Ip.Ipv4 h) x whole.1)
     from_grows (Ip4 link h p x) (inr piece) = inr (piece_grows h p x piece)
-    from_grows (Ip6 link h x) (inl whole) = inl (hands_grow (Ip.Ipv6 h) x whole)
+    from_grows (Ip6 link h x) (inl whole) = inl (whole.0, hands_grow (Ip.Ipv6 h) x whole.1)
     from_grows (Ip6 link h x) (inr piece) = absurd piece
 
     brings_grow : (hardware : HardwareAddress) (frame : List ℕ) → BringsFrom made out hardware frame → BringsFrom made' out' hardware frame

@@ -8,12 +8,17 @@ use Rattle.interface_delivery.specs.Ip as Ips
 use Rattle.interface_delivery.specs.Ip.{carried_in, source_of, destination_of}
 use Rattle.interface_ingress.specs.IpAddress.{IpAddress}
 use Rattle.interface_ingress.specs.IpAddress.TheVariants as Address
+use Rattle.interface_ingress.specs.IpProtocol.{IpProtocol}
+use Rattle.interface_ingress.specs.IpProtocol.TheVariants as Protocol
+use Rattle.ip_address.specs.Protocol.{protocol_number, protocol_of}
 use Rattle.interface_delivery.specs.IpRepr.{IpRepr}
 use Rattle.interface_delivery.specs.IpRepr.TheVariants as Ip
 use Rattle.interface_delivery.specs.Ipv4 as Ipv4
 use Rattle.ip_address.specs.declared.ipv4.Ipv4FragKey.{Ipv4FragKey}
 use Rattle.interface_delivery.specs.Ipv4Piece.{Ipv4Piece}
 use Rattle.interface_delivery.specs.Ipv4Repr.{Ipv4Repr}
+use Rattle.interface_delivery.specs.Ipv6 as Ipv6
+use Rattle.interface_delivery.specs.Ipv6Repr.{Ipv6Repr}
 use Rattle.ip_tcp.specs.Tcp as Tcp
 use Rattle.interface_delivery.specs.Udp as Udp
 use Rattle.interface_ingress.specs.EthernetRepr.{EthernetRepr}
@@ -21,14 +26,20 @@ use Rattle.sockets.specs.Packet.{PacketValue, PayloadValue, ControlV4, ControlV6
 use Rattle.interface_tables.specs.Pieces as Pieces
 use Rattle.interface_ingress.specs.Upper.{upper_header, upper_payload, IsBrought}
 use Rattle.interface_ingress.specs.Incoming.{IncomingValue, Arp, Ip4, Ip6}
-use Rattle.interface_ingress.specs.Reassembled.{is_piece}
+use Rattle.interface_ingress.specs.Handed.{is_known_v6}
+use Rattle.interface_ingress.specs.Reassembled.{is_piece, is_piece_v6}
 use Rattle.interface_ingress.specs.Sent.{CanBeRead, normal_payload}
 use Rattle.interface_ingress.proofs.FramesArrive.{payload-brought}
 use Rattle.interface_ingress.proofs.OneContent.{one-carried-content}
 use Rattle.interface_delivery.specs.Delivered.{NamesNoPorts}
-use Rattle.lan_theorem.specs.Link.Made.{sealed, WasMade, HandsMade, BringsMade, bytes_of}
-use Rattle.lan_theorem.specs.Link.Frames.{IsSentV4, IsFrom, IsOut, AreOut}
+use Rattle.lan_theorem.specs.Link.Made.{sealed, IsWholeV6, CarriesNone, WasMade, HandsMade, BringsMade, bytes_of}
+use Rattle.lan_theorem.specs.Link.Frames.{IsSentV4, IsSentV6, IsFrom, IsOut, AreOut}
 use Rattle.lan_theorem.proofs.Link.Behind.{sealed_both}
+use Rattle.lan_theorem.proofs.Link.Whole6.{known_whole}
+
+-- what a header names, written and read
+abbrev told : IpProtocol → IpProtocol
+told p = protocol_of (protocol_number p)
 
 module _ (made : PayloadValue → Type 0) where
   -- PROTOCOLS
@@ -54,9 +65,9 @@ module _ (made : PayloadValue → Type 0) where
   same_some : {A : Type 0} (x y : A) → Some x ≡ Some y → x ≡ y
   same_some x y same = cc
 
-  hands_by : (p : PacketValue) → IsOut made p → NamesNoPorts (carried_in (upper_header (Ips.normal p.header) (bytes_of p))) ⊎
+  hands_by : (p : PacketValue) → IsOut made p → CarriesNone (Ips.normal p.header) (bytes_of p) ⊎
       (CanBeRead p.header p.payload × made (normal_payload p.payload)) → HandsMade made (Ips.normal p.header) (bytes_of p)
-  hands_by p is (inl none) = hands_none (Ips.normal p.header) (bytes_of p) none
+  hands_by p is (inl none) = hands_none (Ips.normal p.header) (bytes_of p) none.0
   hands_by p is (inr reads) = λ x carried.
       let read : IsBrought sealed (Ips.normal p.header) (bytes_of p) (Some (normal_payload p.payload)) =
       payload-brought sealed sealed p.header p.payload (is.going.offered.packet.payload is.fits) reads.0 sealed_both in
@@ -69,6 +80,32 @@ module _ (made : PayloadValue → Type 0) where
   -- what is read behind the header of a packet that was sent was made
   pub hands_sent : (p : PacketValue) → IsOut made p → HandsMade made (Ips.normal p.header) (bytes_of p)
   hands_sent p is = hands_by p is is.going.carries
+
+  -- a header that names what is carried stands right before it
+  by_name : (protocol : IpProtocol) (v : Ipv6Repr) (bytes : List ℕ) → v.next_header ≡ protocol → is_known_v6 (told protocol) ≡ true →
+      IsWholeV6 (Ip.Ipv6 (Ipv6.normal v)) bytes
+  by_name protocol v bytes is known = known_whole (Ipv6.normal v) bytes (ap (λ (p : IpProtocol). is_known_v6 (told p)) is ∙ known)
+
+  named_whole : (h : IpRepr) (x : PayloadValue) (bytes : List ℕ) → CanBeRead h x → IsWholeV6 (Ips.normal h) bytes
+  named_whole (Ip.Ipv4 v) x bytes can = tt
+  named_whole (Ip.Ipv6 v) (ControlV4 message carried) bytes can = absurd can.2
+  named_whole (Ip.Ipv6 v) (ControlV6 message carried) bytes can = by_name Protocol.Icmpv6 v bytes can.0 refl
+  named_whole (Ip.Ipv6 v) (Bytes carried) bytes can = absurd can
+  named_whole (Ip.Ipv6 v) (Datagram udp carried) bytes can = by_name Protocol.Udp v bytes can.0 refl
+  named_whole (Ip.Ipv6 v) (Segment header carried) bytes can = by_name Protocol.Tcp v bytes can.0 refl
+
+  whole_by : (p : PacketValue) → CarriesNone (Ips.normal p.header) (bytes_of p) ⊎ (CanBeRead p.header p.payload × made (normal_payload p.payload)) →
+      IsWholeV6 (Ips.normal p.header) (bytes_of p)
+  whole_by p (inl none) = none.1
+  whole_by p (inr reads) = named_whole p.header p.payload (bytes_of p) reads.0
+
+  -- no packet of IPv6 that was sent is a piece
+  pub whole_sent : (out : List PacketValue) (v : Ipv6Repr) (bytes : List ℕ) → AreOut made out → IsSentV6 out v bytes → is_piece_v6 (Ipv6.normal v) bytes ≡ false
+  whole_sent out v bytes all sent =
+      let of_packet : IsWholeV6 (Ips.normal sent.packet.header) (bytes_of sent.packet) = whole_by sent.packet (all sent.packet sent.among).going.carries in
+      let of_header : IsWholeV6 (Ip.Ipv6 (Ipv6.normal v)) (bytes_of sent.packet) =
+      subst (λ (ip : IpRepr). IsWholeV6 (Ips.normal ip) (bytes_of sent.packet)) sent.header of_packet in
+      subst (λ (b : List ℕ). IsWholeV6 (Ip.Ipv6 (Ipv6.normal v)) b) (sym sent.bytes_are) of_header
 
   -- KEYS
 
@@ -139,5 +176,5 @@ module _ (made : PayloadValue → Type 0) where
       let none = whole link h p x refl in
       subst (λ (b : List ℕ). HandsMade made (Ip.Ipv4 h) b) (sym (all_of_it piece.bytes x p none piece.slice))
       (hands_v4 out piece.sent_header h piece.bytes all piece.sent piece.key)
-  brings_whole out (Ip6 link h x) all (inl made_whole) whole = made_whole
+  brings_whole out (Ip6 link h x) all (inl made_whole) whole = made_whole.1
   brings_whole out (Ip6 link h x) all (inr piece) whole = absurd piece

@@ -24,17 +24,18 @@ use Rattle.interface_ingress.specs.Incoming as Content
 use Rattle.interface_delivery.specs.Ip.{carried_in}
 use Rattle.interface_ingress.proofs.Bare.{bare_v6}
 use Rattle.interface_ingress.specs.Handed.{is_known_v6}
-use Rattle.interface_delivery.specs.Delivered.{NamesNoPorts, HasNoPorts}
+use Rattle.interface_delivery.specs.Delivered.{NamesNoPorts}
 use Rattle.lan_frames.specs.Carried.{packet_in}
 use Rattle.lan_frames.specs.Parts.{may_carry, is_ipv4, is_ipv6, is_uncut, payload_v4, payload_v6}
 use Rattle.lan_frames.specs.declared.part.Part.{Part}
 use Rattle.lan_theorem.specs.Link.Made.{sealed, bytes_of}
 use Rattle.lan_theorem.specs.Link.Frames.{medium_on}
 use Rattle.interface_egress.proofs.Planned.{AsksFrom}
-use Rattle.lan_theorem.specs.Link.Sides.{IsOther, IsBetweenStations, HasSixBytes}
+use Rattle.lan_theorem.specs.Link.Sides.{IsOther, BringsNone, IsBetweenStations, HasSixBytes}
 use Rattle.lan_theorem.proofs.Link.Asked.{IsAsked}
 use Rattle.lan_theorem.proofs.Link.Behind.{carries}
 use Rattle.lan_theorem.proofs.Link.Links.{number_behind}
+use Rattle.lan_theorem.proofs.Link.Whole6.{known_whole}
 
 -- TESTS THAT FAIL
 
@@ -64,8 +65,8 @@ arp_other link rest len here there = record {
   brings = λ hardware padding v on is. reads hardware padding v on is;
 } where
   on_ethernet : (own : EthernetAddress) (padding : List ℕ) (v : IncomingValue) → IsIncoming (Hardware.Ethernet own) sealed (link ++ (rest ++ padding)) v →
-      HasNoPorts v
-  on_ethernet own padding (Content.Arp l packet) is = tt
+      BringsNone v
+  on_ethernet own padding (Content.Arp l packet) is = (tt, tt)
   on_ethernet own padding (Content.Ip4 None h p x) is = absurd is
   on_ethernet own padding (Content.Ip4 (Some l) h p x) is =
       absurd (let e = carries link (rest ++ padding) 0x0806 l Ether.Ipv4 len (ap (λ (n : ℕ). n == 0x0806) here) is.0 in cc)
@@ -74,7 +75,7 @@ arp_other link rest len here there = record {
       absurd (let e = carries link (rest ++ padding) 0x0806 l Ether.Ipv6 len (ap (λ (n : ℕ). n == 0x0806) here) is.0 in cc)
 
   reads : (hardware : HardwareAddress) (padding : List ℕ) (v : IncomingValue) → medium_on hardware ≡ Medium.Ethernet →
-      IsIncoming hardware sealed ((link ++ rest) ++ padding) v → HasNoPorts v
+      IsIncoming hardware sealed ((link ++ rest) ++ padding) v → BringsNone v
   reads (Hardware.Ethernet own) padding v on is =
       on_ethernet own padding v (subst (λ (b : List ℕ). IsIncoming (Hardware.Ethernet own) sealed b v) (append_assoc link rest padding) is)
   reads Hardware.Ip padding v on is = absurd cc
@@ -128,8 +129,8 @@ control_other link packet len here there names still = record {
   not_ports p is = (λ tcp. cc, λ udp. cc)
 
   on_ethernet : (own : EthernetAddress) (padding : List ℕ) (v : IncomingValue) → IsIncoming (Hardware.Ethernet own) sealed (link ++ (packet ++ padding)) v →
-      HasNoPorts v
-  on_ethernet own padding (Content.Arp l a) is = tt
+      BringsNone v
+  on_ethernet own padding (Content.Arp l a) is = (tt, tt)
   on_ethernet own padding (Content.Ip4 None h p x) is = absurd is
   on_ethernet own padding (Content.Ip4 (Some l) h p x) is =
       absurd (let e = carries link (packet ++ padding) 0x86dd l Ether.Ipv4 len (ap (λ (n : ℕ). n == 0x86dd) here) is.0 in cc)
@@ -137,10 +138,10 @@ control_other link packet len here there names still = record {
   on_ethernet own padding (Content.Ip6 (Some l) h x) is =
       let names : h.next_header ≡ Protocol.Icmpv6 = is.1.format.protocol ∙
       ap (λ (b : List ℕ). protocol_of (slice_index b 6)) (drop_at link (packet ++ padding) 14 len) ∙ ap protocol_of (still padding) in
-      not_ports _ (ap carried_in (bare_v6 h x (ap is_known_v6 names)).0 ∙ names)
+      (not_ports _ (ap carried_in (bare_v6 h x (ap is_known_v6 names)).0 ∙ names), known_whole h x (ap is_known_v6 names))
 
   reads : (hardware : HardwareAddress) (padding : List ℕ) (v : IncomingValue) → medium_on hardware ≡ Medium.Ethernet →
-      IsIncoming hardware sealed ((link ++ packet) ++ padding) v → HasNoPorts v
+      IsIncoming hardware sealed ((link ++ packet) ++ padding) v → BringsNone v
   reads (Hardware.Ethernet own) padding v on is =
       on_ethernet own padding v (subst (λ (b : List ℕ). IsIncoming (Hardware.Ethernet own) sealed b v) (append_assoc link packet padding) is)
   reads Hardware.Ip padding v on is = absurd cc

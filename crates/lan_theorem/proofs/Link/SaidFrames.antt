@@ -3,7 +3,7 @@ use Rattle.std.proofs.Common.{◌≡◌, ◌⊎◌, inl, inr, ℕ, zero, suc, �
 use Rattle.std.proofs.Common.{Some, None, refl, sym, ◌∙◌, ap, subst, append_assoc, append-nil, arith}
 use Rattle.std.specs.Prelude.{slice_get}
 use Rattle.std.specs.List.{AllByRecursion}
-use Rattle.std.proofs.lemmas.List.{drop_at, length-drop}
+use Rattle.std.proofs.lemmas.List.{drop_at}
 use Rattle.lan_frames.specs.Medium.{Medium}
 use Rattle.lan_frames.specs.Medium.TheVariants as Medium
 use Rattle.lan_frames.specs.Capabilities.{frame_header}
@@ -18,7 +18,8 @@ use Rattle.interface_ingress.specs.EthernetRepr.{EthernetRepr}
 use Rattle.sockets.specs.Packet.{PacketValue, PayloadValue}
 use Rattle.interface_tables.specs.Settings.{is_of_medium}
 use Rattle.interface_ingress.specs.Incoming.{IncomingValue, Arp, Ip4, Ip6, IsPacketV4, IsIncoming}
-use Rattle.interface_ingress.specs.Reassembled.{is_piece, uncut}
+use Rattle.interface_ingress.specs.Handed.{is_known_v6}
+use Rattle.interface_ingress.specs.Reassembled.{is_piece, is_piece_v6, uncut}
 use Rattle.interface_ingress.proofs.OneContent.{one-incoming}
 use Rattle.interface_delivery.specs.Delivered.{HasNoPorts}
 use Rattle.lan_frames.specs.Carried.{packet_in, names_tcp_or_udp}
@@ -28,13 +29,15 @@ use Rattle.lan_frames.specs.declared.part.Part.{Part}
 use Rattle.lan_frames.proofs.Slicing.{first-slice, second-slice, ipv4_part-slice, IsSliceOf-front, IsSliceOf-back}
 use Rattle.lan_theorem.specs.Hosts.Damage.{BringsNoSegment, IsNoSegment}
 use Rattle.lan_theorem.specs.Link.Made.{sealed}
-use Rattle.lan_theorem.specs.Link.Frames.{medium_on, IsSlice, IsWhole6, IsLinkHeader6}
-use Rattle.lan_theorem.specs.Link.Sides.{IsHostFrame, IsOther}
+use Rattle.lan_theorem.specs.Link.Frames.{medium_on, IsSlice, IsWhole6, IsLinkHeader6, AreOut}
+use Rattle.lan_theorem.specs.Link.Sides.{IsHostFrame, BringsNone}
 use Rattle.lan_theorem.specs.Said.{Fact, ByteAt, EndsAt, IsOf, Says, Carries, IsSaid}
 use Rattle.lan_theorem.proofs.Link.Behind.{with_len, packet_of_slice, piece_of_slice, count_of_slice, read_slice, read_v6, read_behind4, read_behind6}
 use Rattle.lan_theorem.proofs.Link.HostFrames.{whole6_uncut}
+use Rattle.lan_theorem.proofs.Link.Hands.{whole_sent}
 use Rattle.lan_theorem.proofs.Link.Noise.{noise_names_neither}
-use Rattle.lan_theorem.proofs.Link.SlotFacts.{PieceSo, ContentSo}
+use Rattle.lan_theorem.proofs.Link.SlotFacts.{ContentSo}
+use Rattle.lan_theorem.proofs.Link.Whole6.{known_whole}
 
 -- BYTES OF A SLICE
 
@@ -112,29 +115,29 @@ pub record IsSliceFrame (medium : Medium) (frame : List ℕ) : Type 0 where
 abbrev pub IsNoPiece : IncomingValue → Type 0
 IsNoPiece (Arp link packet) = Unit {0}
 IsNoPiece (Ip4 link h p x) = (is_piece p ≡ false) ⊎ HasNoPorts (Ip4 link h p x)
-IsNoPiece (Ip6 link h x) = Unit {0}
+IsNoPiece (Ip6 link h x) = is_piece_v6 h x ≡ false
 
--- a frame that can't be cut, and brings no piece of TCP or UDP, whatever padding follows
+-- a frame that can't be cut, and brings no piece of TCP or UDP, nor any of IPv6, whatever padding follows
 pub record IsForeign (medium : Medium) (frame : List ℕ) : Type 0 where
   pub uncut : ipv4_part medium frame ≡ None
   pub brings : (hardware : HardwareAddress) (padding : List ℕ) (v : IncomingValue) → medium_on hardware ≡ medium →
       IsIncoming hardware sealed (frame ++ padding) v → IsNoPiece v
 
-no_ports : (v : IncomingValue) → HasNoPorts v → IsNoPiece v
+no_ports : (v : IncomingValue) → BringsNone v → IsNoPiece v
 no_ports (Arp link packet) none = tt
-no_ports (Ip4 link h p x) none = inr none
-no_ports (Ip6 link h x) none = tt
+no_ports (Ip4 link h p x) none = inr none.0
+no_ports (Ip6 link h x) none = none.1
 
-whole6_none : (out : List PacketValue) (medium : Medium) (frame : List ℕ) → IsWhole6 medium out frame →
+whole6_none : (made : PayloadValue → Type 0) (out : List PacketValue) → AreOut made out → (medium : Medium) (frame : List ℕ) → IsWhole6 medium out frame →
     (hardware : HardwareAddress) (padding : List ℕ) (v : IncomingValue) → medium_on hardware ≡ medium →
     IsIncoming hardware sealed (frame ++ padding) v → IsNoPiece v
-whole6_none out medium frame f hardware padding v same is =
+whole6_none made out all medium frame f hardware padding v same is =
     let w : List ℕ = Ipv6.written f.header ++ f.bytes in
     let joined : frame ++ padding ≡ f.link ++ (w ++ padding) = ap (λ (b : List ℕ). b ++ padding) f.frame_is ∙ append_assoc f.link w padding in
     let found = read_behind6 (w ++ padding) (Ipv6.normal f.header) f.bytes (read_v6 f.header f.bytes padding f.sent.value f.sent.fits f.sent.len)
     hardware f.link v (subst (λ (m : Medium). IsLinkHeader6 m f.link) (sym same) f.is_link)
     (subst (λ (b : List ℕ). IsIncoming hardware sealed b v) joined is) in
-    subst IsNoPiece (sym found.1) tt
+    subst IsNoPiece (sym found.1) (whole_sent made out f.header f.bytes all f.sent)
 
 abbrev pub slice_frame : (out : List PacketValue) (medium : Medium) (frame : List ℕ) → IsSlice medium out frame → IsSliceFrame medium frame
 slice_frame out medium frame f =
@@ -153,11 +156,12 @@ slice_frame out medium frame f =
     }
 
 -- a host's frame is one of these two
-pub either_frame : (out : List PacketValue) (medium : Medium) (frame : List ℕ) → IsHostFrame medium out frame → IsSliceFrame medium frame ⊎
-    IsForeign medium frame
-either_frame out medium frame (inl f) = inl (slice_frame out medium frame f)
-either_frame out medium frame (inr (inl f)) = inr (record { uncut = whole6_uncut out frame medium f; brings = whole6_none out medium frame f })
-either_frame out medium frame (inr (inr f)) =
+pub either_frame : (made : PayloadValue → Type 0) (out : List PacketValue) → AreOut made out → (medium : Medium) (frame : List ℕ) →
+    IsHostFrame medium out frame → IsSliceFrame medium frame ⊎ IsForeign medium frame
+either_frame made out all medium frame (inl f) = inl (slice_frame out medium frame f)
+either_frame made out all medium frame (inr (inl f)) =
+    inr (record { uncut = whole6_uncut out frame medium f; brings = whole6_none made out all medium frame f })
+either_frame made out all medium frame (inr (inr f)) =
     inr (record { uncut = f.uncut; brings = λ hardware padding v same is. no_ports v (f.brings hardware padding v same is) })
 
 module _ (medium : Medium) (frame : List ℕ) (f : IsSliceFrame medium frame) where
@@ -279,7 +283,7 @@ no_piece_so : (S : Ipv4FragKey → Fact → Type 0) (v : IncomingValue) → IsNo
 no_piece_so S (Arp link packet) none = tt
 no_piece_so S (Ip4 link h p x) (inl whole) = λ cut. absurd (let e : true ≡ false = sym cut ∙ whole in cc)
 no_piece_so S (Ip4 link h p x) (inr none) = λ cut. inl none
-no_piece_so S (Ip6 link h x) none = tt
+no_piece_so S (Ip6 link h x) none = none
 
 module _ (S : Ipv4FragKey → Fact → Type 0) (medium : Medium) where
   pub delivered_so : (frame padding : List ℕ) → FrameSo S medium frame → TakenSo S medium (frame ++ padding)
@@ -297,7 +301,7 @@ module _ (S : Ipv4FragKey → Fact → Type 0) (medium : Medium) where
   no_segment : (v : IncomingValue) → IsNoSegment sealed v → IsNoPiece v
   no_segment (Arp link packet) none = tt
   no_segment (Ip4 link h p x) none = inl (ap is_piece none.0)
-  no_segment (Ip6 link h x) none = tt
+  no_segment (Ip6 link h x) none = known_whole h x (ap is_known_v6 none.0)
 
   pub damaged_so : (frame : List ℕ) → BringsNoSegment medium frame → TakenSo S medium frame
   damaged_so frame none hardware v same is = no_piece_so S v (no_segment v (none hardware v (medium_of_hardware hardware medium same) is))
@@ -343,13 +347,14 @@ more_said medium frames rest of fact s =
     record { place = s.place; frame = s.frame; frame_is = get_more frames rest s.place s.frame s.frame_is; carries = s.carries }
 
 -- each frame of a host says what its own frames say
-pub own_so : (out : List PacketValue) (medium : Medium) (before frames : List (List ℕ)) → AllByRecursion (IsHostFrame medium out) frames →
+pub own_so : (made : PayloadValue → Type 0) (out : List PacketValue) → AreOut made out → (medium : Medium) (before frames : List (List ℕ)) →
+    AllByRecursion (IsHostFrame medium out) frames →
     AllByRecursion (FrameSo (IsSaid medium (before ++ frames)) medium) frames
-own_so out medium before [] all = tt
-own_so out medium before (frame ∷ frames) all = (
-  by (either_frame out medium frame all.0),
+own_so made out are medium before [] all = tt
+own_so made out are medium before (frame ∷ frames) all = (
+  by (either_frame made out are medium frame all.0),
   subst (λ (xs : List (List ℕ)). AllByRecursion (FrameSo (IsSaid medium xs) medium) frames) (append_assoc before (frame ∷ []) frames)
-      (own_so out medium (before ++ frame ∷ []) frames all.1),
+      (own_so made out are medium (before ++ frame ∷ []) frames all.1),
 ) where
   by : IsSliceFrame medium frame ⊎ IsForeign medium frame → FrameSo (IsSaid medium (before ++ frame ∷ frames)) medium frame
   by (inl f) = inl (record {
@@ -378,7 +383,7 @@ module _ (S T : Ipv4FragKey → Fact → Type 0) (up : (key : Ipv4FragKey) (fact
   content_up : (v : IncomingValue) → ContentSo S (Some v) → ContentSo T (Some v)
   content_up (Arp link packet) so = tt
   content_up (Ip4 link h p x) so = λ cut. elim (so cut) [ inl none ↦ inl none | inr says ↦ inr (λ fact is. up (Ipv4.key_of h) fact (says fact is)) ]
-  content_up (Ip6 link h x) so = tt
+  content_up (Ip6 link h x) so = so
 
   pub taken_up : (frames : List (List ℕ)) → AllByRecursion (TakenSo S medium) frames → AllByRecursion (TakenSo T medium) frames
   taken_up [] all = tt

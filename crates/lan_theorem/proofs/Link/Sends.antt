@@ -8,8 +8,7 @@ use Rattle.interface_ingress.specs.Address.{IsIpAddress}
 use Rattle.interface_ingress.specs.HardwareAddress.{HardwareAddress}
 use Rattle.interface_ingress.specs.HardwareAddress.TheVariants as Hardware
 use Rattle.interface_delivery.specs.Ip as Ips
-use Rattle.interface_ingress.specs.Upper.{upper_header}
-use Rattle.interface_delivery.specs.Ip.{carried_in, destination_of}
+use Rattle.interface_delivery.specs.Ip.{destination_of}
 use Rattle.interface_delivery.specs.IpRepr.{IpRepr}
 use Rattle.interface_delivery.specs.IpRepr.TheVariants as Ip
 use Rattle.interface_delivery.specs.Ipv4Repr.{Ipv4Repr}
@@ -28,12 +27,12 @@ use Rattle.interface_egress.specs.declared.way_out.Sent.{Sent}
 use Rattle.interface_egress.specs.declared.way_out.Sent.TheVariants as Outcome
 use Rattle.interface_egress.proofs.Planned.{AsksFrom, plan_cases}
 use Rattle.interface_ingress.specs.Sent.{CanBeRead, normal_payload}
-use Rattle.interface_delivery.specs.Delivered.{NamesNoPorts, IsWritable}
+use Rattle.interface_delivery.specs.Delivered.{IsWritable}
 use Rattle.interface_delivery.specs.Taken.{HasWidths, IsHalfSent}
 use Rattle.interface_delivery.proofs.Offered.{writes, readable, begun_half, left_half}
 use Rattle.lan_hosts.specs.Origins.{begins_datagram}
 use Rattle.lan_hosts.specs.Port.{PortValue, PortMove}
-use Rattle.lan_theorem.specs.Link.Made.{sealed, IsGoing}
+use Rattle.lan_theorem.specs.Link.Made.{sealed, CarriesNone, IsGoing}
 use Rattle.lan_theorem.specs.Link.Frames.{medium_on, IsOut}
 use Rattle.lan_theorem.specs.Link.Numbers.{and_v4, count_v4, AreNumbered, IsTied}
 use Rattle.lan_theorem.specs.Link.Sides.{Grows, WentOut, AreSent, IsHostFrame, IsOther, IsSound, IsSameKind, IsStation, IsLeft, IsSender}
@@ -57,9 +56,9 @@ denied d d' frame len is = ap (λ (p : PortValue). p.link.sent) is.0
 -- NUMBERS
 
 module _ (made : PayloadValue → Type 0) (i : InnerValue) where
-  carries_number : (h : IpRepr) (x : PayloadValue) → NamesNoPorts (carried_in (upper_header (Ips.normal h) (payload_written sealed h x)))
+  carries_number : (h : IpRepr) (x : PayloadValue) → CarriesNone (Ips.normal h) (payload_written sealed h x)
       ⊎ (CanBeRead h x × made (normal_payload x))
-      → NamesNoPorts (carried_in (upper_header (Ips.normal (numbered_header i h)) (payload_written sealed (numbered_header i h) x)))
+      → CarriesNone (Ips.normal (numbered_header i h)) (payload_written sealed (numbered_header i h) x)
       ⊎ (CanBeRead (numbered_header i h) x × made (normal_payload x))
   carries_number (Ip.Ipv4 v) x (inl none) = inl none
   carries_number (Ip.Ipv4 v) x (inr reads) = inr (readable i (Ip.Ipv4 v) x reads.0, reads.1)

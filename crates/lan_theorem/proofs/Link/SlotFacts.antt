@@ -1,7 +1,7 @@
 -- A slot holds of a datagram what the pieces that came said of it, and nothing else.
-use Rattle.std.proofs.Common.{◌≡◌, ◌⊎◌, inl, inr, ℕ, zero, suc, ◌+◌, ◌-◌, ◌<◌, ◌≤◌, ◌^◌, Bool, true, false, cond, List, [], ◌∷◌, ◌++◌, length, take, drop}
+use Rattle.std.proofs.Common.{◌≡◌, ◌⊎◌, inl, inr, ℕ, zero, suc, ◌+◌, ◌-◌, ◌<◌, ◌≤◌, ◌^◌, Bool, true, false, cond, List, [], ◌∷◌, length, take, drop}
 use Rattle.std.proofs.Common.{Option, Some, None, refl, sym, ◌∙◌, ap, subst, append_assoc, arith}
-use Rattle.std.specs.Prelude.{ℤ, slice_get, nat_le, nat_lt, is_some, position, ◌&&◌}
+use Rattle.std.specs.Prelude.{ℤ, slice_get, nat_le, nat_lt, is_some, position}
 use Rattle.std.specs.List.{AllByRecursion}
 use Rattle.std.proofs.lemmas.List.{length-take-le}
 use Rattle.std.proofs.lemmas.Bool.Decides.{nat_tests}
@@ -19,18 +19,22 @@ use Rattle.interface_delivery.specs.Ipv4Repr.{Ipv4Repr}
 use Rattle.interface_ingress.specs.EthernetRepr.{EthernetRepr}
 use Rattle.interface_tables.specs.Best.{at_place}
 use Rattle.interface_tables.specs.Inner.{InnerValue}
+use Rattle.interface_tables.specs.declared.key.FragKey.{FragKey}
+use Rattle.interface_tables.specs.declared.key.FragKey.TheVariants as Keys
 use Rattle.interface_tables.specs.Reassembly.{SlotValue, freed, taken, placed, overwritten, marked, completed, with_piece, with_total, takes_total, is_complete}
 use Rattle.interface_tables.specs.Reassembly.{ends_at, is_free, is_of, place_for}
-use Rattle.interface_tables.specs.Slots.{changed, changed_at, completed_in, opened, is_expired, unless_expired, without_expired, with_piece_of}
+use Rattle.interface_tables.specs.Slots.{changed_at, completed_in, opened, is_expired, unless_expired, without_expired}
 use Rattle.interface_tables.specs.Slots.{without_datagram}
 use Rattle.interface_tables.proofs.Apart.{placed-key, opened-key}
 use Rattle.interface_ingress.specs.Arrives.{slots_after, whole_after}
 use Rattle.interface_ingress.specs.Incoming.{IncomingValue, Arp, Ip4, Ip6}
-use Rattle.interface_ingress.specs.Reassembled.{Slots, is_piece, is_within, is_same_datagram, runs_kept, given_up_at, place_in, kept, bytes_at, rebuilt}
-use Rattle.interface_ingress.specs.Reassembled.{released, uncut}
+use Rattle.interface_ingress.specs.Reassembled.{Slots, PieceValue, is_piece, is_piece_v6, part_v4, is_unfit, is_same_datagram, runs_kept, given_up_at, place_of}
+use Rattle.interface_ingress.specs.Reassembled.{place_in, with_part, with_piece as with_part_in, kept, bytes_at, rebuilt, released, uncut}
 use Rattle.interface_delivery.specs.Delivered.{NamesNoPorts}
 use Rattle.lan_theorem.specs.Said.{Fact, ByteAt, EndsAt, IsOf, Says}
-use Rattle.lan_theorem.proofs.Link.Slots.{all_at, all_map, changed_keeps, changed_there, key_test}
+use Rattle.interface_tables.proofs.Keys.{key_test}
+use Rattle.lan_theorem.proofs.Link.Slots.{all_at, all_map, changed_keeps, changed_there}
+use Rattle.lan_theorem.proofs.Link.Whole6.{kept_whole}
 
 -- A RECEIVE MAP
 
@@ -181,15 +185,19 @@ module _ {K : Type 0} (Q : Fact → Type 0) where
   pub completed_only : (s : SlotValue K) (bytes : List ℕ) → HoldsOnly Q s → completed s ≡ Some bytes → (fact : Fact) → IsOf bytes fact → Q fact
   completed_only s bytes h done = completed_by s bytes (is_complete s) h refl done
 
--- ALL SLOTS: S says what is so of the datagram with a key
+-- ALL SLOTS: S says what is so of the IPv4 datagram with a key; no slot is of IPv6
 
-abbrev pub SlotSo : (Ipv4FragKey → Fact → Type 0) → SlotValue Ipv4FragKey → Type 0
-SlotSo S s = (key : Ipv4FragKey) → s.key ≡ Some key → NamesNoPorts key.protocol ⊎ HoldsOnly (S key) s
+abbrev pub OfKeySo : (Ipv4FragKey → Fact → Type 0) → FragKey → SlotValue FragKey → Type 0
+OfKeySo S (Keys.Ipv4 key) s = NamesNoPorts key.protocol ⊎ HoldsOnly (S key) s
+OfKeySo S (Keys.Ipv6 key) s = ⊥
+
+abbrev pub SlotSo : (Ipv4FragKey → Fact → Type 0) → SlotValue FragKey → Type 0
+SlotSo S s = (key : FragKey) → s.key ≡ Some key → OfKeySo S key s
 
 abbrev pub SlotsSo : (Ipv4FragKey → Fact → Type 0) → Slots → Type 0
 SlotsSo S slots = AllByRecursion (SlotSo S) slots
 
--- a piece of TCP or UDP says what is so
+-- a piece of TCP or UDP says what is so, and no packet of IPv6 is a piece
 abbrev pub PieceSo : (Ipv4FragKey → Fact → Type 0) → Ipv4Repr → Ipv4Piece → List ℕ → Type 0
 PieceSo S h p x = is_piece p ≡ true → NamesNoPorts h.next_header ⊎ ((fact : Fact) → Says p x fact → S (Ipv4.key_of h) fact)
 
@@ -197,10 +205,10 @@ abbrev pub ContentSo : (Ipv4FragKey → Fact → Type 0) → Option IncomingValu
 ContentSo S None = Unit {0}
 ContentSo S (Some (Arp link packet)) = Unit {0}
 ContentSo S (Some (Ip4 link h p x)) = PieceSo S h p x
-ContentSo S (Some (Ip6 link h x)) = Unit {0}
+ContentSo S (Some (Ip6 link h x)) = is_piece_v6 h x ≡ false
 
 abbrev pub Slot : Type 0
-Slot = SlotValue Ipv4FragKey
+Slot = SlotValue FragKey
 
 module _ (S : Ipv4FragKey → Fact → Type 0) where
   freed_so : (s : Slot) → SlotSo S (freed s)
@@ -215,38 +223,41 @@ module _ (S : Ipv4FragKey → Fact → Type 0) where
 
   module _ (h : Ipv4Repr) (p : Ipv4Piece) (x : List ℕ) (expires : ℤ) (from : NamesNoPorts h.next_header ⊎
       ((fact : Fact) → Says p x fact → S (Ipv4.key_of h) fact)) where
+    abbrev own : FragKey
+    own = Keys.Ipv4 (Ipv4.key_of h)
+
     abbrev Holding : Slot → Type 0
     Holding s = NamesNoPorts h.next_header ⊎ HoldsOnly (S (Ipv4.key_of h)) s
 
-    opened_so : (s : Slot) → SlotSo S s → Holding (opened is_same_datagram (Ipv4.key_of h) expires s)
+    opened_so : (s : Slot) → SlotSo S s → Holding (opened is_same_datagram own expires s)
     opened_so s is =
-        elim (is_of is_same_datagram (Ipv4.key_of h) s) as (λ b. (cond b s (taken (Ipv4.key_of h) expires s)).key ≡ Some (Ipv4.key_of h) →
-        Holding (cond b s (taken (Ipv4.key_of h) expires s))) [
-          | true ↦ λ key. is (Ipv4.key_of h) key
-          | false ↦ λ key. inr (taken_only (S (Ipv4.key_of h)) (Ipv4.key_of h) expires s)
-        ] (opened-key is_same_datagram key_test (Ipv4.key_of h) expires s)
+        elim (is_of is_same_datagram own s) as (λ b. (cond b s (taken own expires s)).key ≡ Some own →
+        Holding (cond b s (taken own expires s))) [
+          | true ↦ λ key. is own key
+          | false ↦ λ key. inr (taken_only (S (Ipv4.key_of h)) own expires s)
+        ] (opened-key is_same_datagram key_test own expires s)
 
     abbrev put : Slot → Slot
-    put s = placed runs_kept (opened is_same_datagram (Ipv4.key_of h) expires s) x p.offset p.more
+    put s = placed runs_kept (opened is_same_datagram own expires s) x p.offset p.more
 
-    put_key : (s : Slot) → (put s).key ≡ Some (Ipv4.key_of h)
-    put_key s = placed-key runs_kept (opened is_same_datagram (Ipv4.key_of h) expires s) x p.offset p.more ∙
-        opened-key is_same_datagram key_test (Ipv4.key_of h) expires s
+    put_key : (s : Slot) → (put s).key ≡ Some own
+    put_key s = placed-key runs_kept (opened is_same_datagram own expires s) x p.offset p.more ∙
+        opened-key is_same_datagram key_test own expires s
 
     put_by : (s : Slot) → NamesNoPorts h.next_header ⊎ ((fact : Fact) → Says p x fact → S (Ipv4.key_of h) fact) →
-        Holding (opened is_same_datagram (Ipv4.key_of h) expires s) → Holding (put s)
+        Holding (opened is_same_datagram own expires s) → Holding (put s)
     put_by s (inl none) holds = inl none
     put_by s (inr so) (inl none) = inl none
-    put_by s (inr so) (inr holds) = inr (placed_only (S (Ipv4.key_of h)) (opened is_same_datagram (Ipv4.key_of h) expires s) p x holds so)
+    put_by s (inr so) (inr holds) = inr (placed_only (S (Ipv4.key_of h)) (opened is_same_datagram own expires s) p x holds so)
 
     put_so : (s : Slot) → SlotSo S s → SlotSo S (put s)
     put_so s is key key_is =
-        let e : Some (Ipv4.key_of h) ≡ Some key = sym (put_key s) ∙ key_is in
-        let same : Ipv4.key_of h ≡ key = cc in
-        subst (λ (k : Ipv4FragKey). NamesNoPorts k.protocol ⊎ HoldsOnly (S k) (put s)) same (put_by s from (opened_so s is))
+        let e : Some own ≡ Some key = sym (put_key s) ∙ key_is in
+        let same : own ≡ key = cc in
+        subst (λ (k : FragKey). OfKeySo S k (put s)) same (put_by s from (opened_so s is))
 
-    piece_keeps : (slots : Slots) → SlotsSo S slots → SlotsSo S (changed_at put (place_for is_same_datagram slots (Ipv4.key_of h)) slots)
-    piece_keeps slots are = changed_keeps (SlotSo S) put (place_for is_same_datagram slots (Ipv4.key_of h)) slots put_so are
+    piece_keeps : (slots : Slots) → SlotsSo S slots → SlotsSo S (changed_at put (place_for is_same_datagram slots own) slots)
+    piece_keeps slots are = changed_keeps (SlotSo S) put (place_for is_same_datagram slots own) slots put_so are
 
     -- what is complete at the place of the piece
     abbrev Complete : List ℕ → Type 0
@@ -261,9 +272,9 @@ module _ (S : Ipv4FragKey → Fact → Type 0) where
     complete_at slots at None bytes are is done = absurd cc
     complete_at slots at (Some s) bytes are is done =
         let there = changed_there put at (at_place (Some at) slots) slots s refl is in
-        let key : s.key ≡ Some (Ipv4.key_of h) = ap (λ (t : Slot). t.key) there.1 ∙ put_key there.0 in
+        let key : s.key ≡ Some own = ap (λ (t : Slot). t.key) there.1 ∙ put_key there.0 in
         let now : SlotsSo S (changed_at put (Some at) slots) = changed_keeps (SlotSo S) put (Some at) slots put_so are in
-        complete_by s bytes (all_at (SlotSo S) (changed_at put (Some at) slots) at s now is (Ipv4.key_of h) key) done
+        complete_by s bytes (all_at (SlotSo S) (changed_at put (Some at) slots) at s now is own key) done
 
     complete : (slots : Slots) (place : Option ℕ) (bytes : List ℕ) → SlotsSo S slots → bytes_at place (changed_at put place slots) ≡ Some bytes → Complete bytes
     complete slots None bytes are done = absurd cc
@@ -271,21 +282,25 @@ module _ (S : Ipv4FragKey → Fact → Type 0) where
 
   -- A CONTENT
 
-  kept_piece : (i : InnerValue) (timeout : ℕ) (slots : Slots) (h : Ipv4Repr) (p : Ipv4Piece) (x : List ℕ) (cut within : Bool) → is_piece p ≡ cut →
-      PieceSo S h p x → SlotsSo S slots
-      → SlotsSo S (cond cut (cond within (with_piece_of runs_kept is_same_datagram slots (Ipv4.key_of h) (given_up_at i timeout) x p.offset p.more)
-      (without_datagram is_same_datagram slots (Ipv4.key_of h))) slots)
-  kept_piece i timeout slots h p x true true is from are = piece_keeps h p x (given_up_at i timeout) (from is) slots are
-  kept_piece i timeout slots h p x true false is from are =
-      changed_keeps (SlotSo S) freed (position (is_of is_same_datagram (Ipv4.key_of h)) slots) slots (λ s is. freed_so s) are
-  kept_piece i timeout slots h p x false within is from are = are
+  module _ (i : InnerValue) (timeout : ℕ) (slots : Slots) (h : Ipv4Repr) (p : Ipv4Piece) (x : List ℕ) (from : PieceSo S h p x) (are : SlotsSo S slots) where
+    abbrev part : PieceValue
+    part = part_v4 h p x
+
+    kept_part : (unfit : Bool) → is_piece p ≡ true →
+        SlotsSo S (cond unfit (without_datagram is_same_datagram slots part.key) (with_part i timeout slots part))
+    kept_part true is = changed_keeps (SlotSo S) freed (position (is_of is_same_datagram part.key) slots) slots (λ s so. freed_so s) are
+    kept_part false is = piece_keeps h p x (given_up_at i timeout) (from is) slots are
+
+    kept_cut : (cut : Bool) → is_piece p ≡ cut → SlotsSo S (with_part_in i timeout slots (cond cut (Some part) None))
+    kept_cut true is = kept_part (is_unfit slots part) is
+    kept_cut false is = are
 
   kept_so : (i : InnerValue) (timeout : ℕ) (slots : Slots) (content : Option IncomingValue) → ContentSo S content → SlotsSo S slots →
       SlotsSo S (kept i timeout slots content)
   kept_so i timeout slots None from are = are
   kept_so i timeout slots (Some (Arp link packet)) from are = are
-  kept_so i timeout slots (Some (Ip4 link h p x)) from are = kept_piece i timeout slots h p x (is_piece p) (is_within p x) refl from are
-  kept_so i timeout slots (Some (Ip6 link h x)) from are = are
+  kept_so i timeout slots (Some (Ip4 link h p x)) from are = kept_cut i timeout slots h p x from are (is_piece p) refl
+  kept_so i timeout slots (Some (Ip6 link h x)) from are = subst (SlotsSo S) (sym (kept_whole link h x from i timeout slots)) are
 
   released_so : (place : Option ℕ) (slots : Slots) → SlotsSo S slots → SlotsSo S (released place slots)
   released_so place slots are =
@@ -301,16 +316,24 @@ module _ (S : Ipv4FragKey → Fact → Type 0) where
 
   -- WHAT IS REBUILT
 
-  rebuilds_by : (i : InnerValue) (timeout : ℕ) (slots : Slots) (h : Ipv4Repr) (p : Ipv4Piece) (x bytes : List ℕ) (cut within : Bool) → is_piece p ≡ cut →
-      cut ≡ true → PieceSo S h p x → SlotsSo S slots
-      → bytes_at (cond (cut && within) (place_for is_same_datagram slots (Ipv4.key_of h)) None)
-      (cond cut (cond within (with_piece_of runs_kept is_same_datagram slots (Ipv4.key_of h) (given_up_at i timeout) x p.offset p.more)
-      (without_datagram is_same_datagram slots (Ipv4.key_of h))) slots) ≡ Some bytes
-      → NamesNoPorts h.next_header ⊎ ((fact : Fact) → IsOf bytes fact → S (Ipv4.key_of h) fact)
-  rebuilds_by i timeout slots h p x bytes true false is cut from are done = absurd cc
-  rebuilds_by i timeout slots h p x bytes true true is cut from are done =
-      complete h p x (given_up_at i timeout) (from is) slots (place_for is_same_datagram slots (Ipv4.key_of h)) bytes are done
-  rebuilds_by i timeout slots h p x bytes false within is cut from are done = absurd cc
+  module _ (i : InnerValue) (timeout : ℕ) (slots : Slots) (h : Ipv4Repr) (p : Ipv4Piece) (x bytes : List ℕ) (from : PieceSo S h p x)
+      (are : SlotsSo S slots) where
+    abbrev piece_in : PieceValue
+    piece_in = part_v4 h p x
+
+    abbrev IsSo : Type 0
+    IsSo = NamesNoPorts h.next_header ⊎ ((fact : Fact) → IsOf bytes fact → S (Ipv4.key_of h) fact)
+
+    rebuilds_fit : (unfit : Bool) → is_piece p ≡ true →
+        bytes_at (cond unfit None (place_for is_same_datagram slots piece_in.key))
+        (cond unfit (without_datagram is_same_datagram slots piece_in.key) (with_part i timeout slots piece_in)) ≡ Some bytes → IsSo
+    rebuilds_fit true is done = absurd cc
+    rebuilds_fit false is done = complete h p x (given_up_at i timeout) (from is) slots (place_for is_same_datagram slots piece_in.key) bytes are done
+
+    rebuilds_by : (cut : Bool) → is_piece p ≡ cut → cut ≡ true →
+        bytes_at (place_of slots (cond cut (Some piece_in) None)) (with_part_in i timeout slots (cond cut (Some piece_in) None)) ≡ Some bytes → IsSo
+    rebuilds_by true is cut done = rebuilds_fit (is_unfit slots piece_in) is done
+    rebuilds_by false is cut done = absurd cc
 
   short_bytes : (link l : Option EthernetRepr) (h g : Ipv4Repr) (p : Ipv4Piece) (found bytes : List ℕ) (b : Bool) →
       cond b (Some (Ip4 link (record h { payload_len = length found }) uncut found)) None ≡ Some (Ip4 l g p bytes) → Some found ≡ Some bytes
@@ -333,7 +356,7 @@ module _ (S : Ipv4FragKey → Fact → Type 0) where
       → whole_after i timeout slots (Some (Ip4 link h p x)) ≡ Some (Ip4 l g r bytes) → NamesNoPorts h.next_header ⊎
       ((fact : Fact) → IsOf bytes fact → S (Ipv4.key_of h) fact)
   rebuilds_so i timeout slots link l h g p r x bytes are from cut whole =
-      rebuilds_by i timeout slots h p x bytes (is_piece p) (is_within p x) refl cut from are
+      rebuilds_by i timeout slots h p x bytes from are (is_piece p) refl cut
       (whole_bytes (kept i timeout slots (Some (Ip4 link h p x))) (place_in slots (Some (Ip4 link h p x))) link l h g p r x bytes (is_piece p) cut whole)
 
 -- LESS AND MORE
@@ -349,13 +372,17 @@ only_up Q R up s h = record {
 }
 
 module _ (S T : Ipv4FragKey → Fact → Type 0) (up : (key : Ipv4FragKey) (fact : Fact) → S key fact → T key fact) where
+  key_up : (key : FragKey) (s : Slot) → OfKeySo S key s → OfKeySo T key s
+  key_up (Keys.Ipv4 key) s (inl none) = inl none
+  key_up (Keys.Ipv4 key) s (inr holds) = inr (only_up (S key) (T key) (up key) s holds)
+  key_up (Keys.Ipv6 key) s never = absurd never
+
   pub slots_up : (slots : Slots) → SlotsSo S slots → SlotsSo T slots
   slots_up [] all = tt
-  slots_up (s ∷ slots) all =
-      (λ key is. elim (all.0 key is) [ inl none ↦ inl none | inr holds ↦ inr (only_up (S key) (T key) (up key) s holds) ], slots_up slots all.1)
+  slots_up (s ∷ slots) all = (λ key is. key_up key s (all.0 key is), slots_up slots all.1)
 
 -- a slot that is free
-free_so : (S : Ipv4FragKey → Fact → Type 0) (s : Slot) (key : Option Ipv4FragKey) → s.key ≡ key → is_free s ≡ true → SlotSo S s
+free_so : (S : Ipv4FragKey → Fact → Type 0) (s : Slot) (key : Option FragKey) → s.key ≡ key → is_free s ≡ true → SlotSo S s
 free_so S s None is free = λ k some. absurd (let e : None ≡ Some k = sym is ∙ some in cc)
 free_so S s (Some own) is free = absurd cc
 

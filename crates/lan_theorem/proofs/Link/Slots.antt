@@ -3,7 +3,6 @@ use Rattle.std.proofs.Common.{◌≡◌, ◌⊎◌, inl, inr, ℕ, zero, suc, �
 use Rattle.std.proofs.Common.{ap, subst}
 use Rattle.std.specs.Prelude.{ℤ, map, slice_get, slice_set, nat_lt}
 use Rattle.std.specs.List.{AllByRecursion}
-use Rattle.ip_address.proofs.Keys.{Decides-key}
 use Rattle.interface_delivery.specs.Ipv4 as Ipv4
 use Rattle.ip_address.specs.declared.ipv4.Ipv4FragKey.{Ipv4FragKey}
 use Rattle.interface_delivery.specs.Ipv4Piece.{Ipv4Piece}
@@ -13,8 +12,10 @@ use Rattle.interface_ingress.specs.EthernetRepr.{EthernetRepr}
 use Rattle.sockets.specs.Packet.{PacketValue, PayloadValue}
 use Rattle.interface_tables.specs.Best.{at_place}
 use Rattle.interface_tables.specs.Pieces as Pieces
+use Rattle.interface_tables.specs.declared.key.FragKey.{FragKey}
+use Rattle.interface_tables.specs.declared.key.FragKey.TheVariants as Keys
 use Rattle.interface_tables.specs.Reassembly.{SlotValue, freed, taken, placed, completed, is_of, place_for}
-use Rattle.interface_tables.specs.Slots.{changed, changed_at, completed_in, opened, is_expired, unless_expired, without_expired, IsTest}
+use Rattle.interface_tables.specs.Slots.{changed, changed_at, completed_in, opened, is_expired, unless_expired, without_expired}
 use Rattle.interface_tables.proofs.Apart.{placed-key, opened-key}
 use Rattle.interface_tables.proofs.Rebuilt.{HoldsSlicesOf-taken, HoldsSlicesOf-placed, completed-payload}
 use Rattle.interface_ingress.specs.Incoming.{Ip4}
@@ -23,7 +24,8 @@ use Rattle.interface_delivery.specs.Delivered.{NamesNoPorts}
 use Rattle.lan_theorem.specs.Link.Made.{HandsMade, BringsMade, bytes_of}
 use Rattle.lan_theorem.specs.Link.Frames.{IsSentV4, IsPieceOf, IsFrom, AreOut}
 use Rattle.lan_theorem.specs.Link.Numbers.{AreNumbered, AreFew}
-use Rattle.lan_theorem.specs.Link.Held.{HoldsSent, IsSlotOf, AreSlotsOf}
+use Rattle.lan_theorem.specs.Link.Held.{HoldsSent, IsOfKey, IsSlotOf, AreSlotsOf}
+use Rattle.interface_tables.proofs.Keys.{key_test}
 use Rattle.lan_theorem.proofs.Link.Rebuilt.{IsRebuiltOf}
 use Rattle.lan_theorem.proofs.Link.Hands.{hands_none, hands_v4}
 use Rattle.lan_theorem.proofs.Link.Numbers.{one_number}
@@ -55,14 +57,10 @@ set_at [] k x y is = absurd cc
 set_at (z ∷ xs) zero x y is = refl
 set_at (z ∷ xs) (suc k) x y is = set_at xs k x y is
 
--- the test of keys tells equal keys
-pub key_test : IsTest is_same_datagram
-key_test a b = Decides-key a b
-
 -- CHANGES
 
 abbrev Slot : Type 0
-Slot = SlotValue Ipv4FragKey
+Slot = SlotValue FragKey
 
 module _ (P : Slot → Type 0) (f : Slot → Slot) where
   changed_by : (place : Option ℕ) (o : Option Slot) (slots : Slots) → at_place place slots ≡ o → ((s : Slot) → P s → P (f s)) → AllByRecursion P slots →
@@ -106,21 +104,24 @@ module _ (made : PayloadValue → Type 0) (first : ℕ) (out : List PacketValue)
 
   module _ (link : Option EthernetRepr) (h : Ipv4Repr) (p : Ipv4Piece) (x : List ℕ) (expires : ℤ) (cut : is_piece p ≡
       true) (from : IsFrom made out (Ip4 link h p x)) where
+    abbrev own : FragKey
+    own = Keys.Ipv4 (Ipv4.key_of h)
+
     opened_holds : (s : Slot) → IsSlotOf out s → IsPieceOf out h p x → NamesNoPorts h.next_header ⊎
-        HoldsSent out (Ipv4.key_of h) (opened is_same_datagram (Ipv4.key_of h) expires s)
+        HoldsSent out (Ipv4.key_of h) (opened is_same_datagram own expires s)
     opened_holds s is piece =
-        elim (is_of is_same_datagram (Ipv4.key_of h) s) as (λ b. (cond b s (taken (Ipv4.key_of h) expires s)).key ≡ Some (Ipv4.key_of h) →
-        NamesNoPorts h.next_header ⊎ HoldsSent out (Ipv4.key_of h) (cond b s (taken (Ipv4.key_of h) expires s))) [
-          | true ↦ λ key. is (Ipv4.key_of h) key
+        elim (is_of is_same_datagram own s) as (λ b. (cond b s (taken own expires s)).key ≡ Some own →
+        NamesNoPorts h.next_header ⊎ HoldsSent out (Ipv4.key_of h) (cond b s (taken own expires s))) [
+          | true ↦ λ key. is own key
           | false ↦ λ key. inr (record {
             sent_header = piece.sent_header;
             bytes = piece.bytes;
             sent = piece.sent;
             key_is = piece.key;
             holds =
-                HoldsSlicesOf-taken runs_kept piece.bytes (Ipv4.key_of h) expires s;
+                HoldsSlicesOf-taken runs_kept piece.bytes own expires s;
           })
-        ] (opened-key is_same_datagram key_test (Ipv4.key_of h) expires s)
+        ] (opened-key is_same_datagram key_test own expires s)
 
     placed_holds : (o : Slot) → IsPieceOf out h p x → HoldsSent out (Ipv4.key_of h) o → HoldsSent out (Ipv4.key_of h) (placed runs_kept o x p.offset p.more)
     placed_holds o piece held =
@@ -138,23 +139,23 @@ module _ (made : PayloadValue → Type 0) (first : ℕ) (out : List PacketValue)
         }
 
     abbrev put : Slot → Slot
-    put s = placed runs_kept (opened is_same_datagram (Ipv4.key_of h) expires s) x p.offset p.more
+    put s = placed runs_kept (opened is_same_datagram own expires s) x p.offset p.more
 
-    put_key : (s : Slot) → (put s).key ≡ Some (Ipv4.key_of h)
-    put_key s = placed-key runs_kept (opened is_same_datagram (Ipv4.key_of h) expires s) x p.offset p.more ∙
-        opened-key is_same_datagram key_test (Ipv4.key_of h) expires s
+    put_key : (s : Slot) → (put s).key ≡ Some own
+    put_key s = placed-key runs_kept (opened is_same_datagram own expires s) x p.offset p.more ∙
+        opened-key is_same_datagram key_test own expires s
 
     put_by : (s : Slot) → IsFrom made out (Ip4 link h p x) → IsSlotOf out s → NamesNoPorts h.next_header ⊎ HoldsSent out (Ipv4.key_of h) (put s)
     put_by s (inl made_whole) is = inl (made_whole.0 cut)
     put_by s (inr piece) is =
-        elim (opened_holds s is piece) [ inl none ↦ inl none | inr held ↦ inr (placed_holds (opened is_same_datagram (Ipv4.key_of h) expires s) piece held) ]
+        elim (opened_holds s is piece) [ inl none ↦ inl none | inr held ↦ inr (placed_holds (opened is_same_datagram own expires s) piece held) ]
 
     -- a slot that the piece comes to is one still
     put_is : (s : Slot) → IsSlotOf out s → IsSlotOf out (put s)
     put_is s is key key_is =
-        let e : Some (Ipv4.key_of h) ≡ Some key = sym (put_key s) ∙ key_is in
-        let same : Ipv4.key_of h ≡ key = cc in
-        subst (λ (k : Ipv4FragKey). NamesNoPorts k.protocol ⊎ HoldsSent out k (put s)) same (put_by s from is)
+        let e : Some own ≡ Some key = sym (put_key s) ∙ key_is in
+        let same : own ≡ key = cc in
+        subst (λ (k : FragKey). IsOfKey out k (put s)) same (put_by s from is)
 
     -- what is complete at the place of the piece is the payload of one packet
     complete_by : (s : Slot) (bytes : List ℕ) → NamesNoPorts h.next_header ⊎ HoldsSent out (Ipv4.key_of h) s → completed s ≡ Some bytes →
@@ -169,9 +170,9 @@ module _ (made : PayloadValue → Type 0) (first : ℕ) (out : List PacketValue)
     complete_at slots at None bytes are_slots is done = absurd cc
     complete_at slots at (Some s) bytes are_slots is done =
         let there = changed_there put at (at_place (Some at) slots) slots s refl is in
-        let key : s.key ≡ Some (Ipv4.key_of h) = ap (λ (t : Slot). t.key) there.1 ∙ put_key there.0 in
+        let key : s.key ≡ Some own = ap (λ (t : Slot). t.key) there.1 ∙ put_key there.0 in
         let now : AreSlotsOf out (changed_at put (Some at) slots) = changed_keeps (IsSlotOf out) put (Some at) slots put_is are_slots in
-        complete_by s bytes (all_at (IsSlotOf out) (changed_at put (Some at) slots) at s now is (Ipv4.key_of h) key) done
+        complete_by s bytes (all_at (IsSlotOf out) (changed_at put (Some at) slots) at s now is own key) done
 
     complete : (slots : Slots) (place : Option ℕ) (bytes : List ℕ) → AreSlotsOf out slots → bytes_at place (changed_at put place slots) ≡ Some bytes →
         IsRebuiltOf out h bytes
@@ -191,18 +192,18 @@ module _ (made : PayloadValue → Type 0) (first : ℕ) (out : List PacketValue)
         (λ b. BringsMade made (cond b (Some (Ip4 link (record h { payload_len = length bytes }) uncut bytes)) None))
         [ true ↦ hands bytes refl | false ↦ tt ]
 
-    pub piece_keeps : (slots : Slots) → AreSlotsOf out slots → AreSlotsOf out (changed_at put (place_for is_same_datagram slots (Ipv4.key_of h)) slots)
-    piece_keeps slots are_slots = changed_keeps (IsSlotOf out) put (place_for is_same_datagram slots (Ipv4.key_of h)) slots put_is are_slots
+    pub piece_keeps : (slots : Slots) → AreSlotsOf out slots → AreSlotsOf out (changed_at put (place_for is_same_datagram slots own) slots)
+    piece_keeps slots are_slots = changed_keeps (IsSlotOf out) put (place_for is_same_datagram slots own) slots put_is are_slots
 
     pub piece_brings : (slots : Slots) → AreSlotsOf out slots
         → BringsMade made (rebuilt link h
-        (bytes_at (place_for is_same_datagram slots (Ipv4.key_of h)) (changed_at put (place_for is_same_datagram slots (Ipv4.key_of h)) slots)))
+        (bytes_at (place_for is_same_datagram slots own) (changed_at put (place_for is_same_datagram slots own) slots)))
     piece_brings slots are_slots =
-        let place = place_for is_same_datagram slots (Ipv4.key_of h) in
+        let place = place_for is_same_datagram slots own in
         rebuilt_made (bytes_at place (changed_at put place slots)) (λ bytes done. hands_by bytes (complete slots place bytes are_slots done))
 
     -- the payload that is rebuilt when the piece comes
     pub piece_rebuilds : (slots : Slots) (bytes : List ℕ) → AreSlotsOf out slots
-        → bytes_at (place_for is_same_datagram slots (Ipv4.key_of h)) (changed_at put (place_for is_same_datagram slots (Ipv4.key_of h)) slots) ≡ Some bytes →
+        → bytes_at (place_for is_same_datagram slots own) (changed_at put (place_for is_same_datagram slots own) slots) ≡ Some bytes →
         IsRebuiltOf out h bytes
-    piece_rebuilds slots bytes are_slots done = complete slots (place_for is_same_datagram slots (Ipv4.key_of h)) bytes are_slots done
+    piece_rebuilds slots bytes are_slots done = complete slots (place_for is_same_datagram slots own) bytes are_slots done

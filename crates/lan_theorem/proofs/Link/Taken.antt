@@ -1,22 +1,23 @@
 -- A host takes a frame: what it brings, whole or rebuilt, was made.
-use Rattle.std.proofs.Common.{◌≡◌, ℕ, ◌-◌, ◌^◌, Bool, true, false, cond, List, [], ◌∷◌, ◌++◌, length, Option, Some, None, refl, sym, ◌∙◌, ap, subst}
-use Rattle.std.specs.Prelude.{ℤ, ◌&&◌, is_some, nat_lt, position}
+use Rattle.std.proofs.Common.{◌≡◌, inl, inr, ℕ, ◌-◌, ◌^◌, Bool, true, false, cond, List, [], ◌∷◌, ◌++◌, length, Option, Some, None, refl, sym, ◌∙◌, ap, subst}
+use Rattle.std.specs.Prelude.{ℤ, is_some, nat_lt, position}
 use Rattle.std.specs.List.{AllByRecursion}
 use Rattle.interface_ingress.specs.HardwareAddress.{HardwareAddress}
-use Rattle.interface_delivery.specs.Ipv4 as Ipv4
 use Rattle.interface_delivery.specs.Ipv4Piece.{Ipv4Piece}
 use Rattle.interface_delivery.specs.Ipv4Repr.{Ipv4Repr}
+use Rattle.interface_delivery.specs.Ipv6Repr.{Ipv6Repr}
 use Rattle.interface_ingress.specs.EthernetRepr.{EthernetRepr}
 use Rattle.lan_frames.specs.ChecksumCapabilities.{ChecksumCapabilities}
 use Rattle.sockets.specs.Packet.{PacketValue, PayloadValue}
 use Rattle.interface_tables.specs.Inner.{InnerValue}
 use Rattle.interface_tables.specs.Reassembly.{freed, is_of, place_for}
-use Rattle.interface_tables.specs.Slots.{changed_at, with_piece_of, without_datagram, without_expired}
+use Rattle.interface_tables.specs.Slots.{changed_at, without_datagram, without_expired}
 use Rattle.interface_ingress.specs.Arrives.{Arrived, ArrivesAs, slots_after, whole_after}
 use Rattle.interface_ingress.specs.Delivered.{Places}
 use Rattle.interface_ingress.specs.Incoming.{IncomingValue, Arp, Ip4, Ip6, IsIncoming, IsContent}
-use Rattle.interface_ingress.specs.Reassembled.{Slots, is_piece, is_within, is_same_datagram, runs_kept, is_taken_in, taken_in, given_up_at, place_in, kept}
-use Rattle.interface_ingress.specs.Reassembled.{bytes_at, rebuilt, released, uncut}
+use Rattle.interface_ingress.specs.Kept.{IsNoPieceV6}
+use Rattle.interface_ingress.specs.Reassembled.{Slots, PieceValue, is_piece, is_piece_v6, part_v4, is_unfit, is_same_datagram, is_taken_in, taken_in}
+use Rattle.interface_ingress.specs.Reassembled.{given_up_at, place_of, place_in, with_part, with_piece, kept, bytes_at, rebuilt, released, uncut}
 use Rattle.interface_ingress.proofs.Settings.{brings_same}
 use Rattle.lan_theorem.specs.Link.Made.{sealed, BringsMade}
 use Rattle.lan_theorem.specs.Link.Frames.{IsFrom, BringsFrom}
@@ -26,6 +27,7 @@ use Rattle.lan_theorem.specs.Link.Numbers.{AreFew}
 use Rattle.lan_theorem.specs.Link.Sides.{AreSent, IsReceiver}
 use Rattle.lan_theorem.proofs.Link.Hands.{brings_whole}
 use Rattle.lan_theorem.proofs.Link.Slots.{all_more, changed_keeps, freed_is, expired_keep, piece_keeps, piece_brings, piece_rebuilds}
+use Rattle.lan_theorem.proofs.Link.Whole6.{kept_whole, whole_is}
 
 -- each content is of a frame that is brought to a host
 abbrev pub AreFrom : (PayloadValue → Type 0) → List PacketValue → Option IncomingValue → Type 0
@@ -41,6 +43,14 @@ pub content_from : (made : PayloadValue → Type 0) (out : List PacketValue) (ha
 content_from made out hardware caps frame None are brings is = tt
 content_from made out hardware caps frame (Some v) are brings is = brings v (subst (λ (c : ChecksumCapabilities). IsIncoming hardware c frame v) are is)
 
+-- no packet of IPv6 is a piece
+pub whole_from : (made : PayloadValue → Type 0) (out : List PacketValue) (content : Option IncomingValue) → AreFrom made out content → IsNoPieceV6 content
+whole_from made out None from = tt
+whole_from made out (Some (Arp link packet)) from = tt
+whole_from made out (Some (Ip4 link h p x)) from = tt
+whole_from made out (Some (Ip6 link h x)) (inl whole) = whole.0
+whole_from made out (Some (Ip6 link h x)) (inr piece) = absurd piece
+
 -- what a host takes in of it is so too
 pub taken_from : (made : PayloadValue → Type 0) (out : List PacketValue) (i : InnerValue) (content : Option IncomingValue) → AreFrom made out content →
     AreFrom made out (taken_in i content)
@@ -50,23 +60,30 @@ taken_from made out i (Some v) from = elim (is_taken_in i v) as (λ b. AreFrom m
 module _ (made : PayloadValue → Type 0) (first : ℕ) (out : List PacketValue) (next : ℕ) (sent : AreSent made first next out) (few : AreFew out) where
   -- SLOTS
 
-  kept_piece : (i : InnerValue) (timeout : ℕ) (slots : Slots) (link : Option EthernetRepr) (h : Ipv4Repr) (p : Ipv4Piece) (x : List ℕ) (cut within : Bool) →
-      is_piece p ≡ cut → IsFrom made out (Ip4 link h p x) → AreSlotsOf out slots
-      → AreSlotsOf out (cond cut
-      (cond within (with_piece_of runs_kept is_same_datagram slots (Ipv4.key_of h) (given_up_at i timeout) x p.offset p.more)
-      (without_datagram is_same_datagram slots (Ipv4.key_of h))) slots)
-  kept_piece i timeout slots link h p x true true is from are =
-      piece_keeps made first out next sent.numbered few sent.packets link h p x (given_up_at i timeout) is from slots are
-  kept_piece i timeout slots link h p x true false is from are =
-      changed_keeps (IsSlotOf out) freed (position (is_of is_same_datagram (Ipv4.key_of h)) slots) slots (λ s is. freed_is out s) are
-  kept_piece i timeout slots link h p x false within is from are = are
+  whole6_from : (link : Option EthernetRepr) (h : Ipv6Repr) (x : List ℕ) → IsFrom made out (Ip6 link h x) → is_piece_v6 h x ≡ false
+  whole6_from link h x from = whole_from made out (Some (Ip6 link h x)) from
+
+  module _ (i : InnerValue) (timeout : ℕ) (slots : Slots) (link : Option EthernetRepr) (h : Ipv4Repr) (p : Ipv4Piece) (x : List ℕ)
+      (from : IsFrom made out (Ip4 link h p x)) (are : AreSlotsOf out slots) where
+    abbrev part : PieceValue
+    part = part_v4 h p x
+
+    kept_part : (unfit : Bool) → is_piece p ≡ true →
+        AreSlotsOf out (cond unfit (without_datagram is_same_datagram slots part.key) (with_part i timeout slots part))
+    kept_part true is = changed_keeps (IsSlotOf out) freed (position (is_of is_same_datagram part.key) slots) slots (λ s so. freed_is out s) are
+    kept_part false is = piece_keeps made first out next sent.numbered few sent.packets link h p x (given_up_at i timeout) is from slots are
+
+    kept_cut : (cut : Bool) → is_piece p ≡ cut → AreSlotsOf out (with_piece i timeout slots (cond cut (Some part) None))
+    kept_cut true is = kept_part (is_unfit slots part) is
+    kept_cut false is = are
 
   kept_keeps : (i : InnerValue) (timeout : ℕ) (slots : Slots) (content : Option IncomingValue) → AreFrom made out content → AreSlotsOf out slots →
       AreSlotsOf out (kept i timeout slots content)
   kept_keeps i timeout slots None from are = are
   kept_keeps i timeout slots (Some (Arp link packet)) from are = are
-  kept_keeps i timeout slots (Some (Ip4 link h p x)) from are = kept_piece i timeout slots link h p x (is_piece p) (is_within p x) refl from are
-  kept_keeps i timeout slots (Some (Ip6 link h x)) from are = are
+  kept_keeps i timeout slots (Some (Ip4 link h p x)) from are = kept_cut i timeout slots link h p x from are (is_piece p) refl
+  kept_keeps i timeout slots (Some (Ip6 link h x)) from are =
+      subst (AreSlotsOf out) (sym (kept_whole link h x (whole6_from link h x from) i timeout slots)) are
 
   released_keeps : (place : Option ℕ) (slots : Slots) → AreSlotsOf out slots → AreSlotsOf out (released place slots)
   released_keeps place slots are =
@@ -83,26 +100,35 @@ module _ (made : PayloadValue → Type 0) (first : ℕ) (out : List PacketValue)
 
   -- WHAT IS WHOLE
 
-  whole_piece : (i : InnerValue) (timeout : ℕ) (slots : Slots) (link : Option EthernetRepr) (h : Ipv4Repr) (p : Ipv4Piece) (x : List ℕ) (cut within : Bool) →
-      is_piece p ≡ cut → IsFrom made out (Ip4 link h p x) → AreSlotsOf out slots
-      → BringsMade made (cond cut
-      (rebuilt link h (bytes_at (cond (cut && within) (place_for is_same_datagram slots (Ipv4.key_of h)) None)
-      (cond cut (cond within (with_piece_of runs_kept is_same_datagram slots (Ipv4.key_of h) (given_up_at i timeout) x p.offset p.more)
-      (without_datagram is_same_datagram slots (Ipv4.key_of h))) slots)))
-      (Some (Ip4 link h p x)))
-  whole_piece i timeout slots link h p x true false is from are = tt
-  whole_piece i timeout slots link h p x true true is from are =
-      piece_brings made first out next sent.numbered few sent.packets link h p x (given_up_at i timeout) is from slots are
-  whole_piece i timeout slots link h p x false within is from are =
-      brings_whole made out (Ip4 link h p x) sent.packets from (λ l g q y same. let e : p ≡ q = cc in subst (λ (r : Ipv4Piece). is_piece r ≡ false) e is)
+  module _ (i : InnerValue) (timeout : ℕ) (slots : Slots) (link : Option EthernetRepr) (h : Ipv4Repr) (p : Ipv4Piece) (x : List ℕ)
+      (from : IsFrom made out (Ip4 link h p x)) (are : AreSlotsOf out slots) where
+    abbrev piece_in : PieceValue
+    piece_in = part_v4 h p x
+
+    whole_fit : (unfit : Bool) → is_piece p ≡ true
+        → BringsMade made (rebuilt link h (bytes_at (cond unfit None (place_for is_same_datagram slots piece_in.key))
+        (cond unfit (without_datagram is_same_datagram slots piece_in.key) (with_part i timeout slots piece_in))))
+    whole_fit true is = tt
+    whole_fit false is = piece_brings made first out next sent.numbered few sent.packets link h p x (given_up_at i timeout) is from slots are
+
+    whole_cut : (cut : Bool) → is_piece p ≡ cut
+        → BringsMade made (cond cut
+        (rebuilt link h (bytes_at (place_of slots (cond cut (Some piece_in) None)) (with_piece i timeout slots (cond cut (Some piece_in) None))))
+        (Some (Ip4 link h p x)))
+    whole_cut true is = whole_fit (is_unfit slots piece_in) is
+    whole_cut false is =
+        brings_whole made out (Ip4 link h p x) sent.packets from (λ l g q y same. let e : p ≡ q = cc in subst (λ (r : Ipv4Piece). is_piece r ≡ false) e is)
 
   -- what is whole after a frame brings what was made
   pub whole_made : (i : InnerValue) (timeout : ℕ) (slots : Slots) (content : Option IncomingValue) → AreFrom made out content → AreSlotsOf out slots →
       BringsMade made (whole_after i timeout slots content)
   whole_made i timeout slots None from are = tt
   whole_made i timeout slots (Some (Arp link packet)) from are = tt
-  whole_made i timeout slots (Some (Ip4 link h p x)) from are = whole_piece i timeout slots link h p x (is_piece p) (is_within p x) refl from are
-  whole_made i timeout slots (Some (Ip6 link h x)) from are = brings_whole made out (Ip6 link h x) sent.packets from (λ l g q y same. absurd cc)
+  whole_made i timeout slots (Some (Ip4 link h p x)) from are = whole_cut i timeout slots link h p x from are (is_piece p) refl
+  whole_made i timeout slots (Some (Ip6 link h x)) from are =
+      let content : Option IncomingValue = Some (Ip6 link h x) in
+      subst (BringsMade made) (sym (whole_is link h x (whole6_from link h x from) (kept i timeout slots content) (place_in slots content)))
+      (brings_whole made out (Ip6 link h x) sent.packets from (λ l g q y same. absurd cc))
 
   -- A FRAME IS TAKEN
 
@@ -135,15 +161,23 @@ module _ (made : PayloadValue → Type 0) (first : ℕ) (out : List PacketValue)
 
   -- WHAT IS REBUILT
 
-  rebuilds_by : (i : InnerValue) (timeout : ℕ) (slots : Slots) (link : Option EthernetRepr) (h : Ipv4Repr) (p : Ipv4Piece) (x bytes : List ℕ)
-      (cut within : Bool) → is_piece p ≡ cut → cut ≡ true → IsFrom made out (Ip4 link h p x) → AreSlotsOf out slots
-      → bytes_at (cond (cut && within) (place_for is_same_datagram slots (Ipv4.key_of h)) None)
-      (cond cut (cond within (with_piece_of runs_kept is_same_datagram slots (Ipv4.key_of h) (given_up_at i timeout) x p.offset p.more)
-      (without_datagram is_same_datagram slots (Ipv4.key_of h))) slots) ≡ Some bytes → IsRebuiltOf out h bytes
-  rebuilds_by i timeout slots link h p x bytes true false is cut from are done = absurd cc
-  rebuilds_by i timeout slots link h p x bytes true true is cut from are done =
-      piece_rebuilds made first out next sent.numbered few sent.packets link h p x (given_up_at i timeout) is from slots bytes are done
-  rebuilds_by i timeout slots link h p x bytes false within is cut from are done = absurd cc
+  module _ (i : InnerValue) (timeout : ℕ) (slots : Slots) (link : Option EthernetRepr) (h : Ipv4Repr) (p : Ipv4Piece) (x bytes : List ℕ)
+      (from : IsFrom made out (Ip4 link h p x)) (are : AreSlotsOf out slots) where
+    abbrev piece_of : PieceValue
+    piece_of = part_v4 h p x
+
+    rebuilds_fit : (unfit : Bool) → is_piece p ≡ true →
+        bytes_at (cond unfit None (place_for is_same_datagram slots piece_of.key))
+        (cond unfit (without_datagram is_same_datagram slots piece_of.key) (with_part i timeout slots piece_of)) ≡ Some bytes → IsRebuiltOf out h bytes
+    rebuilds_fit true is done = absurd cc
+    rebuilds_fit false is done =
+        piece_rebuilds made first out next sent.numbered few sent.packets link h p x (given_up_at i timeout) is from slots bytes are done
+
+    rebuilds_by : (cut : Bool) → is_piece p ≡ cut → cut ≡ true →
+        bytes_at (place_of slots (cond cut (Some piece_of) None)) (with_piece i timeout slots (cond cut (Some piece_of) None)) ≡ Some bytes →
+        IsRebuiltOf out h bytes
+    rebuilds_by true is cut done = rebuilds_fit (is_unfit slots piece_of) is done
+    rebuilds_by false is cut done = absurd cc
 
   short_bytes : (link l : Option EthernetRepr) (h g : Ipv4Repr) (p : Ipv4Piece) (found bytes : List ℕ) (b : Bool) →
       cond b (Some (Ip4 link (record h { payload_len = length found }) uncut found)) None ≡ Some (Ip4 l g p bytes) → Some found ≡ Some bytes
@@ -167,7 +201,7 @@ module _ (made : PayloadValue → Type 0) (first : ℕ) (out : List PacketValue)
       whole_after i timeout slots (Some (Ip4 link h p x)) ≡ Some (Ip4 l g r bytes) → IsRebuiltOf out h bytes
   taken_rebuilds i timeout slots frame rest link l h g p r x bytes receiver is cut whole =
       let from = content_from made out i.hardware i.checksums frame (Some (Ip4 link h p x)) receiver.checksums receiver.waits.0 is in
-      rebuilds_by i timeout slots link h p x bytes (is_piece p) (is_within p x) refl cut from receiver.slots_are
+      rebuilds_by i timeout slots link h p x bytes from receiver.slots_are (is_piece p) refl cut
       (whole_bytes (kept i timeout slots (Some (Ip4 link h p x))) (place_in slots (Some (Ip4 link h p x))) link l h g p r x bytes (is_piece p) cut whole)
 
 -- OTHER STEPS OF THE RECEIVER

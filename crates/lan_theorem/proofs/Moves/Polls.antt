@@ -96,7 +96,8 @@ module _ {D : Type 0} (moves : D → Move → D → Type 0) (t : ℤ) (names : L
   replied n g ps x x' p awaited (Some (Replies.Answers packet)) tell wide made (inr (sent, goes, formed, free)) holds =
       link.goes n (sending_as g x ps) p packet sent x'.device x'.inner x'.left (wide formed) (λ done. made) goes holds
 
-  read : (n : ℕ) (s s' : State D) (frame : List ℕ) (mid : D) → moves s.device (Took frame) mid → is_read frame ≡ true → Reads moves frame (at_device s mid) s' →
+  read : (n : ℕ) (s s' : State D) (frame : List ℕ) (mid : D) → moves s.device (Took s.host.inner.moment frame) mid → is_read frame ≡ true →
+      Reads moves frame (at_device s mid) s' →
       At n s → At (n + 1) s'
   read n s s' frame mid took reads (content, is, receives) f =
       let a = receives.0 in

@@ -32,7 +32,8 @@ use Rattle.tcp_model.specs.AddressPair.{AddressPair}
 use Rattle.tcp_model.specs.AddressPair.TheVariants as Pair
 use Rattle.tcp_model.specs.Acknowledged.{acknowledged, duplicates_after}
 use Rattle.tcp_model.specs.Answers.{drawn, may_draw, with_draw, acked, answer_for, ranges_held}
-use Rattle.tcp_model.specs.Arrival.{waiting_anew, outside, passed_outside, tells_news, finished, with_content, told, taken, inside, checked, takes_reset}
+use Rattle.tcp_model.specs.Arrival.{waiting_anew, outside, passed_outside, tells_news, has_length, comes_again, finished, with_content, told, taken}
+use Rattle.tcp_model.specs.Arrival.{inside, checked, takes_reset}
 use Rattle.tcp_model.specs.Arrival.{challenges_reset, reset_comes, draws_first, echo_heard, received, arrives_in, arrives, is_void_syn}
 use Rattle.tcp_model.specs.Calls.{listening}
 use Rattle.tcp_model.specs.Checks.{Check, acknowledgement_check, is_in_window, taken_down, falls_back}
@@ -326,15 +327,17 @@ module _ (cx : ContextValue) (ip : IpRepr) (header : TcpHeader) where
   inside_tcp v bytes by =
       either_arrived (is_syn header.control) (drawn cx v ip header) (taken cx v ip header bytes by) (drawn_tcp v) (taken_tcp v bytes by)
 
-  outside_tcp : (v : TcpValue) → AnswersTcp (outside cx v ip header)
-  outside_tcp v =
-      either_arrived (is_closed v.block.state) (dropped v) (drawn cx (waiting_anew v header cx.moment) ip header) tt
-      (drawn_tcp (waiting_anew v header cx.moment))
+  outside_tcp : (v : TcpValue) (again : Bool) → AnswersTcp (outside cx v ip header again)
+  outside_tcp v again =
+      let w = waiting_anew v header cx.moment in
+      either_arrived (is_closed v.block.state) (dropped v) (if again then acked cx w ip header no_ranges else drawn cx w ip header) tt
+      (either_arrived again (acked cx w ip header no_ranges) (drawn cx w ip header) (acked_tcp w no_ranges) (drawn_tcp w))
 
   passed_outside_tcp : (v : TcpValue) (size by : ℕ) → AnswersTcp (passed_outside cx v ip header size by)
   passed_outside_tcp v size by =
       let w = acknowledged (echo_heard v header by cx.moment) by cx.moment in
-      either_arrived (tells_news v header size) (outside cx w ip header) (outside cx v ip header) (outside_tcp w) (outside_tcp v)
+      let again = has_length header size in
+      either_arrived (tells_news v header size) (outside cx w ip header again) (outside cx v ip header false) (outside_tcp w again) (outside_tcp v false)
 
   checked_tcp : (check : Check) (v : TcpValue) (bytes : List ℕ) → AnswersTcp (checked check cx v ip header bytes)
   checked_tcp (Passes by) v bytes =
@@ -342,8 +345,9 @@ module _ (cx : ContextValue) (ip : IpRepr) (header : TcpHeader) where
       (inside_tcp v bytes by) (passed_outside_tcp v (length bytes) by)
   checked_tcp Old v bytes =
       let stamped : TcpValue = with_block v (stamp_taken (heard v.block) header cx.moment) in
-      either_arrived (is_in_window v.block (free_in v) header (length bytes)) (with_content cx stamped ip header bytes) (outside cx v ip header)
-      (content_tcp stamped bytes) (outside_tcp v)
+      let again = comes_again v header (length bytes) in
+      either_arrived (is_in_window v.block (free_in v) header (length bytes)) (with_content cx stamped ip header bytes) (outside cx v ip header again)
+      (content_tcp stamped bytes) (outside_tcp v again)
   checked_tcp Drops v bytes = tt
   checked_tcp Draws v bytes = drawn_tcp v
   checked_tcp Resets v bytes = reset_tcp v (length bytes)

@@ -4,7 +4,7 @@ use Rattle.std.specs.Prelude.{◌+◌, ◌/◌, ◌&&◌, ◌==◌, slice_index,
 use Rattle.std.specs.List.{AllByRecursion}
 use Rattle.interface_ingress.specs.Icmpv4Header.{Icmpv4Header}
 use Rattle.interface_ingress.specs.Icmpv6.{MessageValue}
-use Rattle.interface_delivery.specs.Ip.{carried_in, header_len_in, normal, written, IsIp}
+use Rattle.interface_delivery.specs.Ip.{header_len_in, normal, written, IsIp}
 use Rattle.ip_address.proofs.Numbers.{protocol_number-protocol_of}
 use Rattle.ip_address.specs.Protocol.{protocol_number, protocol_of}
 use Rattle.interface_ingress.specs.IpProtocol.{IpProtocol}
@@ -20,9 +20,8 @@ use Rattle.net_containers.specs.Packets.{contents, first}
 use Rattle.sockets.specs.Context.{ContextValue}
 use Rattle.sockets.specs.Packet.{PacketValue, PayloadValue, payload_written}
 use Rattle.interface_delivery.specs.Ipv6.{payload_of}
-use Rattle.interface_ingress.specs.Upper.{upper_header}
-use Rattle.interface_ingress.specs.Headers.{go_through, upper_of}
-use Rattle.lan_theorem.specs.Link.Made.{sealed, bytes_of}
+use Rattle.interface_ingress.specs.Headers.{go_through}
+use Rattle.lan_theorem.specs.Link.Made.{sealed, CarriesNone, bytes_of}
 use Rattle.sockets.specs.Offer as Answer
 use Rattle.sockets.specs.Offers.{IsFound, IsOnly, OffersFirst}
 use Rattle.sockets.specs.Raw as Raws
@@ -34,7 +33,7 @@ use Rattle.sockets.specs.declared.socket.Socket.{Socket}
 use Rattle.sockets.specs.declared.socket.Socket.TheVariants as Is
 use Rattle.interface_ingress.specs.Datagrams.{TakesDatagram}
 use Rattle.interface_ingress.specs.Delivered.{with_packet, with_icmpv4, with_icmpv6, with_segment}
-use Rattle.lan_frames.specs.Carried.{names_tcp_or_udp, is_tcp_or_udp, has_ports_behind}
+use Rattle.lan_frames.specs.Carried.{IsNeitherBehind, names_tcp_or_udp, is_tcp_or_udp, has_ports_behind}
 use Rattle.lan_frames.proofs.Named.{neither_first, neither_second, behind_named}
 use Rattle.lan_hosts.specs.Call as Call
 use Rattle.lan_hosts.specs.Call.{SocketCall}
@@ -163,28 +162,31 @@ read_so : (p : IpProtocol) (n : ℕ) → p ≡ protocol_of n → protocol_of (pr
 read_so p n is = ap (λ (q : IpProtocol). protocol_of (protocol_number q)) is ∙ ap protocol_of (protocol_number-protocol_of n) ∙ sym is
 
 foreign_header : (h : IpRepr) (bytes : List ℕ) → names_tcp_or_udp Medium.Ip bytes ≡ false → IsIp false bytes h →
-    NamesNoPorts (carried_in (upper_header (normal h) (carried_by h bytes)))
+    CarriesNone (normal h) (carried_by h bytes)
 foreign_header (Ip.Ipv4 v) bytes none is =
-    subst NamesNoPorts (sym (read_so v.next_header (slice_index bytes 9) is.protocol))
-    (neither_first (slice_index bytes 0 / 16) 4 (slice_index bytes 9) ((slice_index bytes 0 / 16 == 6) && has_ports_behind bytes) v.next_header
-    is.version none is.protocol)
+    (
+      subst NamesNoPorts (sym (read_so v.next_header (slice_index bytes 9) is.protocol))
+          (neither_first (slice_index bytes 0 / 16) 4 (slice_index bytes 9) ((slice_index bytes 0 / 16 == 6) && has_ports_behind bytes) v.next_header
+          is.version none is.protocol),
+      tt,
+    )
 foreign_header (Ip.Ipv6 v) bytes none is =
-    subst (λ (q : IpProtocol). NamesNoPorts (upper_of (go_through q (payload_of bytes)))) (sym (read_so v.next_header (slice_index bytes 6) is.protocol))
+    subst (λ (q : IpProtocol). IsNeitherBehind (go_through q (payload_of bytes))) (sym (read_so v.next_header (slice_index bytes 6) is.protocol))
     (behind_named bytes v.next_header is.protocol
     (neither_second (slice_index bytes 0 / 16) 6 ((slice_index bytes 0 / 16 == 4) && is_tcp_or_udp (slice_index bytes 9)) _ is.version none))
 
 foreign_first : (o : Option (Unit {0} × List ℕ)) (v v' : RawValue) (answer : Answer.Offer) (p : PacketValue) → first v.queued ≡ o → QueuesForeign (Is.Raw v) →
     OffersFirst Raws.TakesPacket v o answer v' → v'.offered ≡ Some p
-    → NamesNoPorts (carried_in (upper_header (normal p.header) (bytes_of p)))
+    → CarriesNone (normal p.header) (bytes_of p)
 foreign_first None v v' answer p is holds offers open_so =
     let none : v'.offered ≡ None = ap (λ (w : RawValue). w.offered) offers.1 in
     absurd (let clash : None ≡ Some p = sym none ∙ open_so in cc)
 foreign_first (Some q) v v' answer p is holds offers open_so =
     let only : IsOnly (Raws.TakesPacket v.settings q) p = subst (IsFound (Raws.TakesPacket v.settings q)) open_so offers.0 in
-    subst (λ (x : PayloadValue). NamesNoPorts (carried_in (upper_header (normal p.header) (payload_written sealed p.header x))))
+    subst (λ (x : PayloadValue). CarriesNone (normal p.header) (payload_written sealed p.header x))
     (sym (ap (λ (x : PacketValue). x.payload) only.takes.carried))
     (foreign_header p.header q.1 (each_first IsForeign v.queued q is holds) only.takes.read)
 
 pub offered_foreign : (cx : ContextValue) (v v' : RawValue) (answer : Answer.Offer) (p : PacketValue) → QueuesForeign (Is.Raw v) → Raws.Offers cx v answer v' →
-    v'.offered ≡ Some p → NamesNoPorts (carried_in (upper_header (normal p.header) (bytes_of p)))
+    v'.offered ≡ Some p → CarriesNone (normal p.header) (bytes_of p)
 offered_foreign cx v v' answer p holds offers open_so = foreign_first (first v.queued) v v' answer p refl holds offers open_so

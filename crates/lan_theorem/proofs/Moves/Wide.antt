@@ -17,10 +17,8 @@ use Rattle.interface_ingress.specs.ArpRepr.{ArpRepr}
 use Rattle.net_containers.specs.Packets.{first}
 use Rattle.sockets.specs.Context.{ContextValue}
 use Rattle.sockets.specs.Packet.{PacketValue, PayloadValue, ControlV4, ControlV6, Bytes, Datagram, Segment, packet_of, payload_written}
-use Rattle.interface_delivery.specs.Delivered.{NamesNoPorts}
 use Rattle.interface_delivery.specs.Ip as Ips
-use Rattle.interface_delivery.specs.Ip.{carried_in}
-use Rattle.lan_theorem.specs.Link.Made.{sealed}
+use Rattle.lan_theorem.specs.Link.Made.{sealed, CarriesNone}
 use Rattle.interface_delivery.specs.Widths.{IsPayload}
 use Rattle.sockets.specs.Offer as Answer
 use Rattle.sockets.specs.WellFormed.{AreFields, HasWidths, IsWellFormed}
@@ -160,7 +158,7 @@ offered_fits cx (Is.Raw v) (Is.Raw v') answer p fit offers is named widths =
     let took = takes_one Raws.TakesPacket v (first v.queued) answer v' p offers is in
     let carried = ap (λ (x : PacketValue). x.payload) took.1.carried in
     subst (FitsBehind p.header) (sym carried)
-    (subst (λ (x : PayloadValue). NamesNoPorts (carried_in (upper_header (Ips.normal p.header) (payload_written sealed p.header x)))) carried
+    (subst (λ (x : PayloadValue). CarriesNone (Ips.normal p.header) (payload_written sealed p.header x)) carried
     (offered_foreign cx v v' answer p fit.0 offers is))
 offered_fits cx (Is.Icmp v) (Is.Icmp v') answer p fit offers is named widths =
     let took = takes_one (Icmps.TakesMessage cx) v (first v.queued) answer v' p offers is in

@@ -1,6 +1,6 @@
 -- What a host made, and what a frame brings of it. `made` says what TCP segments and UDP datagrams the host made, with the header
 -- that a reader makes of it.
-use Rattle.std.specs.Prelude.{◌≡◌, ◌⊎◌, ℕ, true, List, slice_get, Option, None, Some}
+use Rattle.std.specs.Prelude.{◌≡◌, ◌⊎◌, ℕ, true, false, List, slice_get, Option, None, Some}
 use Rattle.lan_frames.specs.Capabilities.{all_checksums}
 use Rattle.lan_frames.specs.Checksum.TheVariants as Checksum
 use Rattle.lan_frames.specs.ChecksumCapabilities.{ChecksumCapabilities}
@@ -12,7 +12,7 @@ use Rattle.sockets.specs.Packet.{PacketValue, PayloadValue, ControlV4, ControlV6
 use Rattle.interface_ingress.specs.Carried.{IsCarried}
 use Rattle.interface_ingress.specs.Upper.{upper_header, upper_payload}
 use Rattle.interface_ingress.specs.Incoming.{IncomingValue, Arp, Ip4, Ip6}
-use Rattle.interface_ingress.specs.Reassembled.{is_piece}
+use Rattle.interface_ingress.specs.Reassembled.{is_piece, is_piece_v6}
 use Rattle.interface_ingress.specs.Sent.{CanBeRead, normal_payload}
 use Rattle.interface_delivery.specs.Delivered.{NamesNoPorts}
 use Rattle.interface_delivery.specs.Taken.{IsOffered}
@@ -24,6 +24,15 @@ IsIn made x = (k : ℕ) × (slice_get made k ≡ Some x)
 -- every checksum is written and tested
 abbrev pub sealed : ChecksumCapabilities
 sealed = all_checksums Checksum.Both
+
+-- an IPv6 packet is no piece of a datagram: another piece may say what that carries (RFC 8200, section 4.5)
+abbrev pub IsWholeV6 : IpRepr → List ℕ → Type 0
+IsWholeV6 (Ip.Ipv4 header) payload = Unit {0}
+IsWholeV6 (Ip.Ipv6 header) payload = is_piece_v6 header payload ≡ false
+
+-- neither TCP nor UDP, behind extension headers either, nor a piece of IPv6 that may carry them
+abbrev pub CarriesNone : IpRepr → List ℕ → Type 0
+CarriesNone ip payload = NamesNoPorts (carried_in (upper_header ip payload)) × IsWholeV6 ip payload
 
 module _ (made : PayloadValue → Type 0) where
   -- a segment or a datagram was made; of anything else nothing is asked
@@ -45,17 +54,17 @@ module _ (made : PayloadValue → Type 0) where
   BringsMade (Some (Ip4 link header piece payload)) = HandsMade (Ip.Ipv4 header) payload
   BringsMade (Some (Ip6 link header payload)) = HandsMade (Ip.Ipv6 header) payload
 
-  -- A content that brings what was made, and is no piece of a datagram of TCP or UDP
+  -- A content that brings what was made, and is no piece of an IPv4 datagram of TCP or UDP, nor any of an IPv6 datagram
   abbrev pub IsWholeMade : IncomingValue → Type 0
   IsWholeMade (Arp link packet) = Unit {0}
   IsWholeMade (Ip4 link header piece payload) = (is_piece piece ≡ true → NamesNoPorts header.next_header) × HandsMade (Ip.Ipv4 header) payload
-  IsWholeMade (Ip6 link header payload) = HandsMade (Ip.Ipv6 header) payload
+  IsWholeMade (Ip6 link header payload) = (is_piece_v6 header payload ≡ false) × HandsMade (Ip.Ipv6 header) payload
 
-  -- A packet that a host sends: its lengths fit, its fields are numbers of their widths, and it carries neither TCP nor UDP, or what the
-  -- host made.
+  -- A packet that a host sends: its lengths fit, its fields are numbers of their widths, and it carries neither TCP nor UDP and is no piece
+  -- of IPv6, or it carries what the host made.
   pub record IsGoing (p : PacketValue) : Type 0 where
     pub offered : IsOffered p
-    pub carries : NamesNoPorts (carried_in (upper_header (Ips.normal p.header) (payload_written sealed p.header p.payload)))
+    pub carries : CarriesNone (Ips.normal p.header) (payload_written sealed p.header p.payload)
         ⊎ (CanBeRead p.header p.payload × made (normal_payload p.payload))
 
 -- the bytes behind a packet's IP header

@@ -1,5 +1,5 @@
 -- The invariant of two hosts at a link: what each sent, and what waits for it.
-use Rattle.std.specs.Prelude.{◌≡◌, ◌≢◌, ◌⊎◌, ◌%◌, ◌^◌, ◌+◌, ◌<◌, ◌≤◌, ℕ, List, ◌++◌, length, Option, None, IfSome}
+use Rattle.std.specs.Prelude.{◌≡◌, ◌≢◌, ◌⊎◌, ◌%◌, ◌^◌, ◌+◌, ◌<◌, ◌≤◌, ℕ, List, ◌++◌, length, Option, None, Some, IfSome}
 use Rattle.std.specs.List.{AllByRecursion}
 use Rattle.lan_frames.specs.Medium.{Medium}
 use Rattle.interface_ingress.specs.Address.{IsIpAddress}
@@ -14,6 +14,7 @@ use Rattle.interface_tables.specs.declared.route.Route.{Route}
 use Rattle.interface_egress.specs.Fragments.{LeftValue}
 use Rattle.interface_ingress.specs.Incoming.{IncomingValue, IsIncoming}
 use Rattle.interface_ingress.specs.Reassembled.{Slots}
+use Rattle.interface_ingress.specs.Kept.{IsNoPieceV6}
 use Rattle.interface_delivery.specs.Delivered.{HasNoPorts}
 use Rattle.interface_delivery.specs.Taken.{HasWidths, IsHalfSent}
 use Rattle.lan_frames.specs.Cuts.{ipv4_part}
@@ -32,13 +33,17 @@ pub record AreSent (made : PayloadValue → Type 0) (first next : ℕ) (out : Li
   pub packets : AreOut made out
   pub numbered : AreNumbered first out next
 
+-- a content of neither TCP nor UDP, and no piece of IPv6 that may carry them
+abbrev pub BringsNone : IncomingValue → Type 0
+BringsNone v = HasNoPorts v × IsNoPieceV6 (Some v)
+
 -- a frame that can't be cut, has no TCP segment, and brings neither TCP nor UDP, whatever padding follows: an ARP packet, or a question
 -- for a neighbour
 pub record IsOther (medium : Medium) (frame : List ℕ) : Type 0 where
   pub uncut : ipv4_part medium frame ≡ None
   pub no_segment : tcp_part medium frame ≡ None
   pub brings : (hardware : HardwareAddress) (padding : List ℕ) (v : IncomingValue) → medium_on hardware ≡ medium →
-      IsIncoming hardware sealed (frame ++ padding) v → HasNoPorts v
+      IsIncoming hardware sealed (frame ++ padding) v → BringsNone v
 
 -- a frame that a host sent, or that the link made of one by a cut
 abbrev pub IsHostFrame : Medium → List PacketValue → List ℕ → Type 0

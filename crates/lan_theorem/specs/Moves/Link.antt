@@ -50,22 +50,25 @@ module _ {D : Type 0} (moves : D → Move → D → Type 0) where
     pub more : (n m : ℕ) (s : State D) (p : Party) → n ≤ m → L n s p → L m s p
     pub grown : (n : ℕ) (s : State D) (places : List (SocketStorage Socket)) (p p' : Party) → Grows p p' → L n s p → L n (state s.device s.host places) p'
     pub maintenance : (n : ℕ) (t : ℤ) (s : State D) (p : Party) → L n s p → L n (begun t s) p
-    pub looks : (n : ℕ) (s : State D) (p : Party) (d : D) → moves s.device Empty d → L n s p → L n (at_device s d) p
-    pub skips : (n : ℕ) (s : State D) (p : Party) (frame : List ℕ) (d : D) → moves s.device (Took frame) d → is_read frame ≡ false → L n s p →
+    pub looks : (n : ℕ) (s : State D) (p : Party) (d : D) → moves s.device (Empty s.host.inner.moment) d → L n s p → L n (at_device s d) p
+    pub skips : (n : ℕ) (s : State D) (p : Party) (frame : List ℕ) (d : D) → moves s.device (Took s.host.inner.moment frame) d → is_read frame ≡ false →
+        L n s p →
         L n (at_device s d) p
     pub brings :
-        (n : ℕ) (s : State D) (p : Party) (frame : List ℕ) (d : D) (content : Option IncomingValue) → moves s.device (Took frame) d → is_read frame ≡ true
+        (n : ℕ) (s : State D) (p : Party) (frame : List ℕ) (d : D) (content : Option IncomingValue) → moves s.device (Took s.host.inner.moment frame) d →
+        is_read frame ≡ true
         → IsContentAt s frame content → L n s p → BringsMade q s.host.inner.checksums (brought s content)
     pub takes :
         (n : ℕ) (s : State D) (p : Party) (frame : List ℕ) (d : D) (content : Option IncomingValue) (slots : Slots) (a : Arrived) →
-        moves s.device (Took frame) d
+        moves s.device (Took s.host.inner.moment frame) d
         → is_read frame ≡ true → IsContentAt s frame content → ArrivesAt s content slots a → L n s p → L n (arrived_at s d slots a) p
-    pub leave : (n : ℕ) (s : State D) (p : Party) (given : Bool) (d : D) → moves s.device (Allowed given) d → L n s p → L n (at_device s d) p
+    pub leave : (n : ℕ) (s : State D) (p : Party) (given : Bool) (d : D) → moves s.device (Allowed s.host.inner.moment given) d → L n s p →
+        L n (at_device s d) p
     -- an ARP packet answers one that was taken
     pub tells :
         (n : ℕ) (s : State D) (p : Party) (frame : List ℕ) (d0 : D) (content : Option IncomingValue) (slots : Slots) (a : Arrived) (packet : ArpRepr)
         (gone : Bool) (d : D)
-        → moves s.device (Took frame) d0 → is_read frame ≡ true → IsContentAt s frame content → ArrivesAt s content slots a →
+        → moves s.device (Took s.host.inner.moment frame) d0 → is_read frame ≡ true → IsContentAt s frame content → ArrivesAt s content slots a →
         a.reply ≡ Some (Replies.Tells packet)
         → Departs moves d0 a.inner (Departures.Tells packet) gone d → L n (arrived_at s d0 slots a) p → L n (at_device (arrived_at s d0 slots a) d) p
     -- a packet's way out; one that is done with was made

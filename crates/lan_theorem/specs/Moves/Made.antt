@@ -2,14 +2,13 @@
 use Rattle.std.specs.Prelude.{ℕ, List, Option, None, Some}
 use Rattle.lan_frames.specs.ChecksumCapabilities.{ChecksumCapabilities}
 use Rattle.interface_delivery.specs.Ip as Ips
-use Rattle.interface_delivery.specs.Ip.{carried_in}
 use Rattle.interface_delivery.specs.IpRepr.{IpRepr}
 use Rattle.interface_delivery.specs.IpRepr.TheVariants as Ip
 use Rattle.ip_tcp.specs.declared.header.TcpHeader.{TcpHeader}
 use Rattle.interface_delivery.specs.UdpRepr.{UdpRepr}
 use Rattle.sockets.specs.Packet.{PacketValue, PayloadValue, ControlV4, ControlV6, Bytes, Datagram, Segment}
 use Rattle.tcp_tie.specs.Host.{Made, made_of, IsAmong}
-use Rattle.interface_delivery.specs.Delivered.{NamesNoPorts}
+use Rattle.lan_theorem.specs.Link.Made.{CarriesNone}
 use Rattle.interface_delivery.specs.Taken.{IsOffered}
 use Rattle.interface_ingress.specs.Carried.{IsDatagram, IsSegment}
 use Rattle.interface_ingress.specs.Sent.{CanBeRead}
@@ -41,9 +40,10 @@ IsMade p x = MadeBy p x.payload
 
 -- FORM
 
--- the header names what is carried, whose fields are numbers of their widths; bytes carry neither TCP nor UDP, behind extension headers either
+-- the header names what is carried, whose fields are numbers of their widths; bytes carry neither TCP nor UDP, behind extension headers
+-- either, and are no piece of IPv6
 abbrev pub FitsBehind : IpRepr → PayloadValue → Type 0
-FitsBehind header (Bytes bytes) = NamesNoPorts (carried_in (upper_header (Ips.normal header) bytes))
+FitsBehind header (Bytes bytes) = CarriesNone (Ips.normal header) bytes
 FitsBehind header payload = CanBeRead header payload
 
 -- a packet that can be sent, and read by another host

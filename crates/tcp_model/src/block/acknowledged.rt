@@ -359,6 +359,9 @@ impl Block {
         let begins = self.begins_recovery(count);
         let again = self.is_lost_again();
         let third = count == 3 && !self.reno.recovers();
+        if begins {
+            self.loss.undo = self.undo_begun();
+        }
         self.count_reno(count, begins, again);
         self.sender.duplicates = count;
         self.sender.resend = self.sender.resend || third || begins;

@@ -31,6 +31,7 @@ impl Loss {
         probes: false,
         probed: false,
         probe_at: None,
+        undo: None,
     };
 }
 
@@ -90,6 +91,9 @@ impl Block {
         ensures { self.new ≡ loss_probed self.old }
     {
         let tail = self.probes_tail();
+        if !tail && self.sender.recover == 0 {
+            self.loss.undo = self.undo_begun();
+        }
         if !tail {
             self.reno.reduce(self.sender.in_flight);
             self.loss.resent = 0;
@@ -314,6 +318,7 @@ impl Loss {
         self.eager = self.eager && partial;
         self.probes = false;
         self.probed = false;
+        self.undo = None;
     }
 }
 
@@ -340,13 +345,19 @@ impl Block {
         self.loss.probes = false;
     }
 
-    /// The retransmission timer ran out: what is held stays known.
+    /// The retransmission timer ran out: what is held stays known, and what the window was before.
     pub fn lose_all(&mut self)
-        ensures { self.new ≡ record self.old { loss = loss_timed_out self.old.loss } }
+        ensures { self.new ≡ record self.old { loss = loss_timed_out self.old } }
     {
         let board = self.loss.board;
+        let undo = if self.sender.syn_unacked {
+            None
+        } else {
+            self.undo_begun()
+        };
         self.loss = Loss::NONE;
         self.loss.board = board;
+        self.loss.undo = undo;
     }
 }
 

@@ -3,7 +3,7 @@ ghost use Rattle.std.specs.Prelude.{◌≡◌, ◌≤◌, ◌^◌, ◌==◌, ◌
 ghost use Rattle.net_base.specs.Time.{IsMoment};
 ghost use Rattle.tcp_control.specs.Controls.{is_syn, is_fin, is_rst, or_mss, is_zero, or_recent};
 ghost use Rattle.tcp_model.specs.Opening.{peer_of, took_syn, is_first_syn, answering, acks_syn, connected, crossed, syn_answered};
-ghost use Rattle.tcp_model.specs.Arrival.{is_void_syn};
+ghost use Rattle.tcp_model.specs.Arrival.{is_void_syn, has_length};
 
 use super::acknowledged::or_number;
 use super::fresh::DEFAULT_MSS;
@@ -18,6 +18,13 @@ pub fn is_void_syn(header: &TcpHeader) -> bool
     ensures { result ≡ is_void_syn header.now }
 {
     is_syn(header.control) && is_zero(header.options.max_seg_size)
+}
+
+/// Whether a segment has text or a FIN.
+pub fn has_length(header: &TcpHeader, size: usize) -> bool
+    ensures { result ≡ has_length header.now size }
+{
+    size != 0 || header.control.len() != 0
 }
 
 fn is_zero(mss: Option<u16>) -> bool

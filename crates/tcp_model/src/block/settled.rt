@@ -93,6 +93,7 @@ impl Block {
         let end = self.end_of(offer);
         self.move_nxt(end, queued, offer.moment);
         self.start_timer(offer.moment);
+        self.mark_undo(offer.moment);
         self.arm_probe(offer.moment);
         self.keep_probe(queued);
     }

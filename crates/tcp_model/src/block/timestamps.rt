@@ -12,7 +12,7 @@ use tcp_control::moments::{is_over, stamp_end_from};
 use tcp_control::offsets::past_by;
 
 /// What a clock says, 0 without one.
-fn value_by(generator: Option<TcpTimestampGenerator>, now: Instant) -> u32
+pub(super) fn value_by(generator: Option<TcpTimestampGenerator>, now: Instant) -> u32
     requires { IsMoment now }
     ensures { result ≡ value_by generator now }
 {
@@ -23,7 +23,7 @@ fn value_by(generator: Option<TcpTimestampGenerator>, now: Instant) -> u32
 }
 
 /// Whether a timestamp is older than another, by less than 2^31.
-fn is_older(stamp: u32, than: u32) -> bool
+pub(super) fn is_older(stamp: u32, than: u32) -> bool
     ensures { result ≡ is_older stamp than }
 {
     past_by(SeqNumber(stamp), SeqNumber(than)) != 0

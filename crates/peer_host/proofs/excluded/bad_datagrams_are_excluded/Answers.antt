@@ -4,7 +4,7 @@ use Rattle.peer_host.proofs.excluded.bad_datagrams_are_excluded.Goals as goal
 
 pub returns-clause-no_frame : goal.returns-clause-no_frame
 returns-clause-no_frame g c = λ t s port d none w.
-    none w.came.came.0.host.device w.came.came.0.after w.came.came.0.frame w.came.came.0.took
+    none w.came.came.0.host.host.inner.moment w.came.came.0.host.device w.came.came.0.after w.came.came.0.frame w.came.came.0.took
 
 pub returns-clause-other_port : goal.returns-clause-other_port
 returns-clause-other_port g c = λ t s port d w other. other w.to_port

@@ -15,4 +15,4 @@ returns-clause-for_another g c = λ t s v cx ip header bytes refused is. let cla
 
 pub returns-clause-no_frame : goal.returns-clause-no_frame
 returns-clause-no_frame g c = λ t s ip header bytes none came.
-    none came.came.0.host.device came.came.0.after came.came.0.frame came.came.0.took
+    none came.came.0.host.host.inner.moment came.came.0.host.device came.came.0.after came.came.0.frame came.came.0.took

@@ -34,8 +34,6 @@ first = record {
             };
         theirs = record { synchronized = refl; acknowledged = refl; opened = leb-true _ _ refl };
         room = leb-true _ _ refl;
-        near = leb-true _ _ refl;
-        draws = refl;
         space = inl refl;
         fresh = refl;
         answer_fresh = λ o reply offered answer. stampless _ _ (subst (HasNoStamp (read_in gone A)) offered refl) reply answer;
@@ -60,8 +58,6 @@ second = record {
             };
         theirs = record { synchronized = refl; acknowledged = refl; opened = leb-true _ _ refl };
         room = leb-true _ _ refl;
-        near = leb-true _ _ refl;
-        draws = refl;
         space = inl refl;
         fresh = refl;
         answer_fresh = λ o reply offered answer. stampless _ _ (subst (HasNoStamp (read_in (resumed_in gone A) A)) offered refl) reply answer;

@@ -1,6 +1,7 @@
 use Rattle.value_laws.proofs.Equal.{Decides-block, Decides-congestion, Decides-loss, Decides-names}
 use Rattle.value_laws.proofs.Equal.{Decides-peer, Decides-receiver, Decides-reno, Decides-round_trip}
 use Rattle.value_laws.proofs.Equal.{Decides-run, Decides-scoreboard, Decides-sender, Decides-settings, Decides-stamps, Decides-state, Decides-timers}
+use Rattle.value_laws.proofs.Equal.{Decides-undo}
 use Rattle.value_laws.proofs.connections.blocks_are_equated.Goals as goal
 
 pub returns : goal.returns
@@ -16,6 +17,7 @@ returns c = record {
   reno = Decides-reno;
   run = Decides-run;
   scoreboard = Decides-scoreboard;
+  undo = Decides-undo;
   loss = Decides-loss;
   congestion = Decides-congestion;
   settings = Decides-settings;

@@ -1,0 +1,162 @@
+//! The server: it has one address to give, and one name to tell of.
+ghost use Rattle.dhcp_wire.specs.Written.{Fits};
+ghost use Rattle.net_base.specs.Time.{IsMoment};
+
+use crate::buffers::datagrams;
+use crate::host::{add, addressed};
+use crate::wire::Wire;
+use anyhow::Result;
+use interface::{Interface, SocketHandle, SocketSet};
+use ip_wire::{IpAddress, IpEndpoint, Ipv4Address};
+use net_base::{Instant, ManagedSlice};
+use sockets::dhcp::{DhcpMessageType, DhcpPacket, DhcpRepr};
+use sockets::udp::UdpMetadata;
+use sockets::{Socket, udp};
+use std::alloc::Global;
+
+/// How many frames a poll takes in, and how often it goes over the sockets, at most.
+const BUDGET: u16 = 16;
+/// Its own address.
+const ADDRESS: Ipv4Address = Ipv4Address([192, 168, 1, 1]);
+/// The address that it gives.
+const GIVEN: Ipv4Address = Ipv4Address([192, 168, 1, 50]);
+/// What stands behind the question of an answer: one record of the name that was asked for, with the address 192.168.1.80 for a
+/// minute.
+const RECORD: [u8; 16] = [0xc0, 12, 0, 1, 0, 1, 0, 0, 0, 60, 0, 4, 192, 168, 1, 80];
+
+/// A host at its end of the wire, and its sockets.
+#[derive(Drop)]
+pub struct Server {
+    interface: Interface,
+    pub wire: Wire,
+    sockets: SocketSet<Socket>,
+    dhcp: SocketHandle,
+    dns: SocketHandle,
+}
+
+impl Server {
+    /// A server at an end of a wire.
+    pub fn new(alloc: Global) -> Result<Server> {
+        let wire = Wire::new(alloc);
+        let interface = addressed(alloc, &wire, 1)?;
+        let mut sockets = SocketSet::new(ManagedSlice::Owned(Vec::new(alloc)));
+        let (dhcp, dns) = add_both(alloc, &mut sockets)?;
+        Ok(Server {
+            interface,
+            wire,
+            sockets,
+            dhcp,
+            dns,
+        })
+    }
+
+    /// Takes in what came, answers, and sends the answers.
+    pub fn poll(&mut self, now: Instant)
+        requires { IsMoment now }
+    {
+        self.interface
+            .poll(now, &mut self.wire, &mut self.sockets, BUDGET);
+        if let Some(Socket::Udp(socket)) = self.sockets.get_mut(self.dhcp) {
+            give(socket);
+        }
+        if let Some(Socket::Udp(socket)) = self.sockets.get_mut(self.dns) {
+            tell(socket);
+        }
+        self.interface
+            .poll(now, &mut self.wire, &mut self.sockets, BUDGET);
+    }
+
+    /// When it wants to be polled.
+    pub fn poll_at(&mut self, now: Instant) -> Option<Instant>
+        requires { IsMoment now }
+    {
+        self.interface.poll_at(now, &self.sockets)
+    }
+}
+
+/// Adds a socket for the clients of DHCP, and one for those of DNS.
+fn add_both(
+    alloc: Global,
+    sockets: &mut SocketSet<Socket>,
+) -> Result<(SocketHandle, SocketHandle)> {
+    let dhcp = add(sockets, Socket::Udp(datagrams(alloc, 67)?))?;
+    let dns = add(sockets, Socket::Udp(datagrams(alloc, 53)?))?;
+    Ok((dhcp, dns))
+}
+
+/// Offers the address to a client that asks for offers, and acknowledges it to one that takes it.
+fn give(socket: &mut udp::Socket) {
+    let mut request = [0; 600];
+    let Ok((len, _)) = socket.recv_slice(&mut request) else {
+        return;
+    };
+    let (request, _) = request.split_at(len.min(600));
+    let Ok(message) = DhcpRepr::parse(&DhcpPacket::new_unchecked(request)) else {
+        return;
+    };
+    let mut reply = [0; 300];
+    let answer = answer_to(&message);
+    if answer.buffer_len() == 300 {
+        answer.emit(&mut reply);
+        let _ = socket.send_slice(&reply, to(Ipv4Address::BROADCAST, 68));
+    }
+}
+
+/// What is answered to a client.
+fn answer_to<'a>(message: &DhcpRepr<'_>) -> DhcpRepr<'a>
+    ensures { Fits result }
+{
+    DhcpRepr {
+        message_type: match message.message_type {
+            DhcpMessageType::Discover => DhcpMessageType::Offer,
+            _ => DhcpMessageType::Ack,
+        },
+        transaction_id: message.transaction_id,
+        secs: 0,
+        client_hardware_address: message.client_hardware_address,
+        client_ip: Ipv4Address::UNSPECIFIED,
+        your_ip: GIVEN,
+        server_ip: ADDRESS,
+        relay_agent_ip: Ipv4Address::UNSPECIFIED,
+        broadcast: true,
+        router: Some(ADDRESS),
+        subnet_mask: Some(Ipv4Address([255, 255, 255, 0])),
+        requested_ip: None,
+        client_identifier: None,
+        server_identifier: Some(ADDRESS),
+        parameter_request_list: None,
+        host_name: None,
+        dns_servers: [Some(ADDRESS), None, None],
+        max_size: None,
+        lease_duration: Some(600),
+        renew_duration: None,
+        rebind_duration: None,
+        additional_options: &[],
+    }
+}
+
+/// Answers a query with the record.
+fn tell(socket: &mut udp::Socket) {
+    let mut message = [0; 316];
+    let (query, _) = message.split_at_mut(300);
+    let Ok((len, from)) = socket.recv_slice(query) else {
+        return;
+    };
+    if len < 12 || len > 300 {
+        return;
+    }
+    message[2] = 0x81;
+    message[3] = 0x80;
+    message[7] = 1;
+    message[len..len + 16].copy_from_slice(&RECORD);
+    let (answer, _) = message.split_at(len + 16);
+    let _ = socket.send_slice(answer, from);
+}
+
+/// Where an answer goes.
+fn to(address: Ipv4Address, port: u16) -> UdpMetadata {
+    UdpMetadata::from(IpEndpoint {
+        addr: IpAddress::Ipv4(address),
+        port,
+    })
+}

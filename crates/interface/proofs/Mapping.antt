@@ -1,0 +1,337 @@
+-- A poll at one device is a poll at another, where each of its moves is one there.
+use Rattle.std.proofs.Common.{◌≡◌, ℕ, zero, suc, ℤ, Bool, true, false, ◌||◌, inl, inr, List, [], ◌∷◌, ◌++◌, Option, Some, None, is_some, sym, ap, subst}
+use Rattle.net_base.specs.Device.{Move, Took, Empty, Allowed, Emitted, Denied}
+use Rattle.interface_ingress.specs.Packet.{PacketValue}
+use Rattle.interface_ingress.specs.Offer as Answer
+use Rattle.interface_ingress.specs.Offer.TheVariants as Offer
+use Rattle.interface_ingress.specs.Sockets.{offered_by}
+use Rattle.interface_ingress.specs.Socket.{Socket}
+use Rattle.interface_tables.specs.Inner.{InnerValue}
+use Rattle.interface_egress.specs.declared.socket_set.Item.{Item}
+use Rattle.interface_egress.specs.declared.socket_set.SocketStorage.{SocketStorage}
+use Rattle.interface_egress.specs.Departure as Departures
+use Rattle.interface_egress.specs.Departure.{Departure}
+use Rattle.interface_egress.specs.Fragments.{LeftValue, departure_from}
+use Rattle.interface_egress.specs.GoesOut.{GoesOut, PieceGoesOut, Departs, Asked, Went, WasCut, frame_of, frame_len_of, numbered, cut_of}
+use Rattle.interface_egress.specs.Plan.{plan_of}
+use Rattle.interface_egress.specs.declared.plan.Plan.{Plan}
+use Rattle.interface_egress.specs.declared.plan.Plan.TheVariants as Way
+use Rattle.interface_egress.specs.declared.way_out.Sent.{Sent}
+use Rattle.interface_egress.specs.declared.way_out.Sent.TheVariants as Outcome
+use Rattle.ip_wire.specs.IpRepr.{IpRepr}
+use Rattle.interface_ingress.specs.Arrives as Replies
+use Rattle.interface_ingress.specs.Arrives.{ReplyValue}
+use Rattle.interface_ingress.specs.Incoming.{IncomingValue}
+use Rattle.ip_wire.specs.IpAddress.{IpAddress}
+use Rattle.interface_egress.specs.declared.frame.Question.{Question}
+use Rattle.interface_egress.specs.declared.socket_meta.Meta.{Meta}
+use Rattle.interface.specs.Awaited.{turn_of}
+use Rattle.interface.specs.Host.{Sender, sender}
+use Rattle.interface.specs.Pass.{Pass, Passed, passed}
+use Rattle.interface.specs.WayOut.{Clears, Egress, PieceLeaves}
+use Rattle.interface.specs.Turn.{Leaves, SendsBy, Answers, TurnsIf, ItemTurns, PlaceTurns, is_waiting, let_through}
+use Rattle.interface.specs.declared.turn.Turned.{Turned}
+use Rattle.interface.specs.declared.turn.Turned.TheVariants as Turn
+use Rattle.interface.specs.State.{State, state, at_device}
+use Rattle.interface.specs.Egress.{EgressStep, sending}
+use Rattle.interface.specs.Ingress.{IngressStep, Takes, Receives, Replied, is_awaited, sender_of, sender_with}
+use Rattle.interface.specs.Polls.{Repeats, Polls, begun}
+
+-- How moves of one device are moves of another: what holds of the devices before is kept, and what holds of those behind held before.
+pub record IsMapped {D E : Type 0} (f : D → E) (moves : D → Move → D → Type 0) (others : E → Move → E → Type 0) (Before After : D → Type 0) : Type 0 where
+  pub up : (old new : D) (m : Move) → moves old m new → Before old → Before new
+  pub down : (old new : D) (m : Move) → moves old m new → After new → After old
+  pub there : (old new : D) (m : Move) → moves old m new → Before old → After new → others (f old) m (f new)
+
+module _ {D E : Type 0} (f : D → E) (moves : D → Move → D → Type 0) (others : E → Move → E → Type 0) (Before After : D →
+    Type 0) (mapped : IsMapped f moves others Before After) where
+  -- between two devices something holds at the other device
+  record Leads (old new : D) (R : Type 0) : Type 0 where
+    there : Before old → After new → R
+    up : Before old → Before new
+    down : After new → After old
+
+  -- COMBINED
+
+  stays : (old new : D) (R : Type 0) → new ≡ old → R → Leads old new R
+  stays old new R is so = record { there = λ b a. so; up = subst Before (sym is); down = subst After is }
+
+  moves_so : (old new : D) (m : Move) → moves old m new → Leads old new (others (f old) m (f new))
+  moves_so old new m goes = record { there = mapped.there old new m goes; up = mapped.up old new m goes; down = mapped.down old new m goes }
+
+  so : (old new : D) (R S : Type 0) → (R → S) → Leads old new R → Leads old new S
+  so old new R S by leads = record { there = λ b a. by (leads.there b a); up = leads.up; down = leads.down }
+
+  both : (old mid new : D) (Q R S : Type 0) → (Q → R → S) → Leads old mid Q → Leads mid new R → Leads old new S
+  both old mid new Q R S by first second = record {
+    there = λ b a. by (first.there b (second.down a)) (second.there (first.up b) a);
+    up = λ b. second.up (first.up b);
+    down = λ a. first.down (second.down a);
+  }
+
+  -- VALUES
+
+  abbrev pub on_sender : Sender D → Sender E
+  on_sender x = sender (f x.device) x.inner x.left
+
+  abbrev pub on_state : State D → State E
+  on_state s = state (f s.device) s.host s.places
+
+  abbrev pub on_passed : Passed D → Passed E
+  on_passed e = passed (on_sender e.sender) e.places e.changed
+
+  -- A FRAME
+
+  departs : (old new : D) (i : InnerValue) (d : Departure) (taken : Bool) → Departs moves old i d taken new →
+      Leads old new (Departs others (f old) i d taken (f new))
+  departs old new i d true goes =
+      so old new (others (f old) (Emitted (frame_of i d)) (f new)) (Departs others (f old) i d true (f new)) (λ x. (x, goes.1))
+      (moves_so old new (Emitted (frame_of i d)) goes.0)
+  departs old new i d false goes = moves_so old new (Denied (frame_len_of i d)) goes
+
+  departs_and : (old new : D) (i : InnerValue) (d : Departure) (taken : Bool) (S : Type 0) → (Departs others (f old) i d taken (f new) → S) →
+      Departs moves old i d taken new → Leads old new S
+  departs_and old new i d taken S by goes = so old new (Departs others (f old) i d taken (f new)) S by (departs old new i d taken goes)
+
+  -- A PACKET'S WAY OUT
+
+  asked : (old new : D) (i i' : InnerValue) (q : Question) (sent : Sent) → Asked moves old i q sent new i' →
+      Leads old new (Asked others (f old) i q sent (f new) i')
+  asked old new i i' q Outcome.Waits goes =
+      departs_and old new i (Departures.Asks q) true (Asked others (f old) i q Outcome.Waits (f new) i') (λ x. (x, goes.1)) goes.0
+  asked old new i i' q Outcome.Refused goes =
+      departs_and old new i (Departures.Asks q) false (Asked others (f old) i q Outcome.Refused (f new) i') (λ x. (x, goes.1)) goes.0
+  asked old new i i' q Outcome.Gone goes = absurd goes
+  asked old new i i' q Outcome.Dropped goes = absurd goes
+  asked old new i i' q Outcome.Busy goes = absurd goes
+
+  went : (old new : D) (i i' : InnerValue) (h : IpRepr) (d : Departure) (sent : Sent) → Went moves old i h d sent new i' →
+      Leads old new (Went others (f old) i h d sent (f new) i')
+  went old new i i' h d Outcome.Gone goes = departs_and old new i d true (Went others (f old) i h d Outcome.Gone (f new) i') (λ x. (x, goes.1)) goes.0
+  went old new i i' h d Outcome.Refused goes = departs_and old new i d false (Went others (f old) i h d Outcome.Refused (f new) i') (λ x. (x, goes.1)) goes.0
+  went old new i i' h d Outcome.Waits goes = absurd goes
+  went old new i i' h d Outcome.Dropped goes = absurd goes
+  went old new i i' h d Outcome.Busy goes = absurd goes
+
+  was_cut : (old new : D) (i i' : InnerValue) (l l' : Option LeftValue) (c : LeftValue) (sent : Sent) → WasCut moves old i l c sent new i' l' →
+      Leads old new (WasCut others (f old) i l c sent (f new) i' l')
+  was_cut old new i i' l l' c Outcome.Gone goes =
+      departs_and old new i (departure_from i c) true (WasCut others (f old) i l c Outcome.Gone (f new) i' l') (λ x. (x, goes.1, goes.2)) goes.0
+  was_cut old new i i' l l' c Outcome.Refused goes =
+      departs_and old new i (departure_from i c) false (WasCut others (f old) i l c Outcome.Refused (f new) i' l') (λ x. (x, goes.1, goes.2)) goes.0
+  was_cut old new i i' l l' c Outcome.Waits goes = absurd goes
+  was_cut old new i i' l l' c Outcome.Dropped goes = absurd goes
+  was_cut old new i i' l l' c Outcome.Busy goes = absurd goes
+
+  goes_out : (old new : D) (i i' : InnerValue) (l l' : Option LeftValue) (p : PacketValue) (plan : Plan) (sent : Sent) →
+      GoesOut moves old i l p plan sent new i' l'
+      → Leads old new (GoesOut others (f old) i l p plan sent (f new) i' l')
+  goes_out old new i i' l l' p Way.Drop sent goes =
+      stays old new (GoesOut others (f old) i l p Way.Drop sent (f new) i' l') goes.1.0 (goes.0, (ap f goes.1.0, goes.1.1, goes.1.2))
+  goes_out old new i i' l l' p Way.NoRoute sent goes =
+      stays old new (GoesOut others (f old) i l p Way.NoRoute sent (f new) i' l') goes.1.0 (goes.0, (ap f goes.1.0, goes.1.1, goes.1.2))
+  goes_out old new i i' l l' p Way.Wait sent goes =
+      stays old new (GoesOut others (f old) i l p Way.Wait sent (f new) i' l') goes.1.0 (goes.0, (ap f goes.1.0, goes.1.1, goes.1.2))
+  goes_out old new i i' l l' p Way.Busy sent goes =
+      stays old new (GoesOut others (f old) i l p Way.Busy sent (f new) i' l') goes.1.0 (goes.0, (ap f goes.1.0, goes.1.1, goes.1.2))
+  goes_out old new i i' l l' p (Way.Ask question) sent goes =
+      so old new (Asked others (f old) i question sent (f new) i') (GoesOut others (f old) i l p (Way.Ask question) sent (f new) i' l') (λ x. (x, goes.1))
+      (asked old new i i' question sent goes.0)
+  goes_out old new i i' l l' p (Way.Go to) sent goes =
+      so old new (Went others (f old) i p.header (Departures.Whole to (numbered i p)) sent (f new) i')
+      (GoesOut others (f old) i l p (Way.Go to) sent (f new) i' l') (λ x. (x, goes.1))
+      (went old new i i' p.header (Departures.Whole to (numbered i p)) sent goes.0)
+  goes_out old new i i' l l' p (Way.Cut to v) sent goes = was_cut old new i i' l l' (cut_of i to v p) sent goes
+
+  piece_out : (old new : D) (i : InnerValue) (l : LeftValue) (gone : Bool) (l' : Option LeftValue) → PieceGoesOut moves old i l gone new l' →
+      Leads old new (PieceGoesOut others (f old) i l gone (f new) l')
+  piece_out old new i l true l' goes =
+      departs_and old new i (departure_from i l) true (PieceGoesOut others (f old) i l true (f new) l') (λ x. (x, goes.1)) goes.0
+  piece_out old new i l false l' goes =
+      departs_and old new i (departure_from i l) false (PieceGoesOut others (f old) i l false (f new) l') (λ x. (x, goes.1)) goes.0
+
+  -- TURNS
+
+  module _ (turn : Option IpAddress) where
+    leaves : (x y : Sender D) (mark : Meta) (p : PacketValue) (sent : Sent) → Leaves moves turn x mark p sent y →
+        Leads x.device y.device (Leaves others turn (on_sender x) mark p sent (on_sender y))
+    leaves x y mark p sent (inl a) =
+        so x.device y.device (others (f x.device) (Allowed x.inner.moment a.0) (f y.device)) (Leaves others turn (on_sender x) mark p sent (on_sender y))
+        (λ n. inl (a.0, n, a.2, a.3, a.4))
+        (moves_so x.device y.device (Allowed x.inner.moment a.0) a.1)
+    leaves x y mark p sent (inr a) =
+        both x.device a.0 y.device (others (f x.device) (Allowed x.inner.moment true) (f a.0))
+        (GoesOut others (f a.0) x.inner x.left p (plan_of x.inner (is_some x.left) p.header) sent (f y.device) y.inner y.left)
+        (Leaves others turn (on_sender x) mark p sent (on_sender y)) (λ n g. inr (f a.0, n, g, a.3)) (moves_so x.device a.0 (Allowed x.inner.moment true) a.1)
+        (goes_out a.0 y.device x.inner y.inner x.left y.left p (plan_of x.inner (is_some x.left) p.header) sent a.2)
+
+    sends : (o : Option PacketValue) (x y : Sender D) (item m : Item Socket) (changed : Bool) (a : Turned) → SendsBy moves turn o x item changed a y m
+        → Leads x.device y.device (SendsBy others turn o (on_sender x) item changed a (on_sender y) m)
+    sends None x y item m changed a one = absurd one
+    sends (Some p) x y item m changed a one =
+        so x.device y.device (Leaves others turn (on_sender x) item.meta one.0 one.3.0 (on_sender y))
+        (SendsBy others turn (Some p) (on_sender x) item changed a (on_sender y) m)
+        (λ n. (one.0, one.1, one.2, (one.3.0, n, one.3.2, one.3.3, one.3.4)))
+        (leaves x y item.meta one.0 one.3.0 one.3.1)
+
+    same_device : (x y : Sender D) → y ≡ x → y.device ≡ x.device
+    same_device x y is = ap (λ (v : Sender D). v.device) is
+
+    answers : (answer : Answer.Offer) (x y : Sender D) (item m : Item Socket) (a : Turned) → Answers moves turn answer x item a y m
+        → Leads x.device y.device (Answers others turn answer (on_sender x) item a (on_sender y) m)
+    answers (Offer.Silent changed) x y item m a one =
+        stays x.device y.device (Answers others turn (Offer.Silent changed) (on_sender x) item a (on_sender y) m) (same_device x y one.1) (
+          one.0,
+          ap on_sender one.1,
+          one.2,
+        )
+    answers (Offer.Packet changed) x y item m a one = sends (offered_by item.socket) x y item m changed a one
+
+    turns_if : (waits : Bool) (x y : Sender D) (item m : Item Socket) (a : Turned) → TurnsIf moves turn waits x item a y m
+        → Leads x.device y.device (TurnsIf others turn waits (on_sender x) item a (on_sender y) m)
+    turns_if true x y item m a one =
+        stays x.device y.device (TurnsIf others turn true (on_sender x) item a (on_sender y) m) (same_device x y one.1) (one.0, ap on_sender one.1, one.2)
+    turns_if false x y item m a one =
+        so x.device y.device (Answers others turn one.0 (on_sender x) (record item { socket = one.1 }) a (on_sender y) m)
+        (TurnsIf others turn false (on_sender x) item a (on_sender y) m)
+        (λ n. (one.0, one.1, one.2, n)) (answers one.0 x y (record item { socket = one.1 }) m a one.3)
+
+    item_turns : (o p : Option (Item Socket)) (x y : Sender D) (a : Turned) → ItemTurns moves turn o x a y p →
+        Leads x.device y.device (ItemTurns others turn o (on_sender x) a (on_sender y) p)
+    item_turns None None x y a one =
+        stays x.device y.device (ItemTurns others turn None (on_sender x) a (on_sender y) None) (same_device x y one.1) (one.0, ap on_sender one.1)
+    item_turns (Some item) (Some m) x y a one = turns_if (is_waiting x.inner item.meta) x y (let_through x.inner item) m a one
+    item_turns None (Some m) x y a one = absurd one
+    item_turns (Some item) None x y a one = absurd one
+
+    place_turns : (o p : SocketStorage Socket) (x y : Sender D) (a : Turned) → PlaceTurns moves turn x o a y p →
+        Leads x.device y.device (PlaceTurns others turn (on_sender x) o a (on_sender y) p)
+    place_turns o p x y a one = item_turns o.inner p.inner x y a one
+
+  -- THE WAY OUT
+
+  abbrev Places : Type 0
+  Places = List (SocketStorage Socket)
+
+  pass : (turn : Option IpAddress) (ps before : Places) (x : Sender D) (changed : Bool) (e : Passed D) → Pass moves turn x before changed ps e →
+      Leads x.device e.sender.device (Pass others turn (on_sender x) before changed ps (on_passed e))
+  pass turn [] before x changed e one =
+      stays x.device e.sender.device (Pass others turn (on_sender x) before changed [] (on_passed e)) (ap (λ (v : Passed D). v.sender.device) one)
+      (ap on_passed one)
+  pass turn (p ∷ ps) before x changed e (inl a) =
+      both x.device a.1.device e.sender.device (PlaceTurns others turn (on_sender x) p (Turn.Next a.0) (on_sender a.1) a.2)
+      (Pass others turn (on_sender a.1) (before ++ a.2 ∷ []) (changed || a.0) ps (on_passed e))
+      (Pass others turn (on_sender x) before changed (p ∷ ps) (on_passed e))
+      (λ n g. inl (a.0, on_sender a.1, a.2, n, g)) (place_turns turn p a.2 x a.1 (Turn.Next a.0) a.3)
+      (pass turn ps (before ++ a.2 ∷ []) a.1 (changed || a.0) e a.4)
+  pass turn (p ∷ ps) before x changed e (inr a) =
+      both x.device a.1.device e.sender.device (PlaceTurns others turn (on_sender x) p (Turn.Stop a.0) (on_sender a.1) a.2)
+      (on_passed e ≡ passed (on_sender a.1) (before ++ a.2 ∷ ps) (changed || a.0)) (Pass others turn (on_sender x) before changed (p ∷ ps) (on_passed e))
+      (λ n g. inr (a.0, on_sender a.1, a.2, n, g)) (place_turns turn p a.2 x a.1 (Turn.Stop a.0) a.3)
+      (stays a.1.device e.sender.device (on_passed e ≡ passed (on_sender a.1) (before ++ a.2 ∷ ps) (changed || a.0))
+      (ap (λ (v : Passed D). v.sender.device) a.4) (ap on_passed a.4))
+
+  piece_leaves : (l : LeftValue) (x y : Sender D) (gone : Bool) → PieceLeaves moves l x gone y →
+      Leads x.device y.device (PieceLeaves others l (on_sender x) gone (on_sender y))
+  piece_leaves l x y gone (inl a) =
+      so x.device y.device (others (f x.device) (Allowed x.inner.moment false) (f y.device)) (PieceLeaves others l (on_sender x) gone (on_sender y))
+      (λ n. inl (n, a.1, a.2))
+      (moves_so x.device y.device (Allowed x.inner.moment false) a.0)
+  piece_leaves l x y gone (inr a) =
+      both x.device a.0 y.device (others (f x.device) (Allowed x.inner.moment true) (f a.0)) (PieceGoesOut others (f a.0) x.inner l gone (f y.device) y.left)
+      (PieceLeaves others l (on_sender x) gone (on_sender y))
+      (λ n g. inr (f a.0, n, g)) (moves_so x.device a.0 (Allowed x.inner.moment true) a.1) (piece_out a.0 y.device x.inner l gone y.left a.2)
+
+  clears : (l : Option LeftValue) (x y : Sender D) (clear : Bool) → Clears moves l x clear y →
+      Leads x.device y.device (Clears others l (on_sender x) clear (on_sender y))
+  clears None x y clear one =
+      stays x.device y.device (Clears others None (on_sender x) clear (on_sender y)) (same_device None x y one.1) (one.0, ap on_sender one.1)
+  clears (Some l) x y clear one =
+      so x.device y.device (PieceLeaves others l (on_sender x) clear (on_sender y)) (Clears others (Some l) (on_sender x) clear (on_sender y)) (λ n. (n, one.1))
+      (piece_leaves l x y clear one.0)
+
+  egress : (x : Sender D) (ps : Places) (e : Passed D) → Egress moves x ps e → Leads x.device e.sender.device (Egress others (on_sender x) ps (on_passed e))
+  egress x ps e (inl a) =
+      both x.device a.0.device e.sender.device (Clears others x.left (on_sender x) false (on_sender a.0)) (on_passed e ≡ passed (on_sender a.0) ps false)
+      (Egress others (on_sender x) ps (on_passed e))
+      (λ n g. inl (on_sender a.0, n, g)) (clears x.left x a.0 false a.1)
+      (stays a.0.device e.sender.device (on_passed e ≡ passed (on_sender a.0) ps false) (ap (λ (v : Passed D). v.sender.device) a.2) (ap on_passed a.2))
+  egress x ps e (inr a) =
+      both x.device a.0.device e.sender.device (Clears others x.left (on_sender x) true (on_sender a.0))
+      (Pass others (turn_of a.0.inner ps) (on_sender a.0) [] false ps (on_passed e)) (Egress others (on_sender x) ps (on_passed e))
+      (λ n g. inr (on_sender a.0, n, g)) (clears x.left x a.0 true a.1) (pass (turn_of a.0.inner ps) ps [] a.0 false e a.2)
+
+  out_step : (t : ℤ) (s s' : State D) (answer : Option Bool) → EgressStep moves t s answer s' →
+      Leads s.device s'.device (EgressStep others t (on_state s) answer (on_state s'))
+  out_step t s s' answer one =
+      both s.device one.0.sender.device s'.device (Egress others (on_sender (sending t s)) s.places (on_passed one.0)) (on_state s' ≡
+      on_state (Rattle.interface.specs.Egress.behind s.host one.0))
+      (EgressStep others t (on_state s) answer (on_state s')) (λ n g. (on_passed one.0, n, g, one.3)) (egress (sending t s) s.places one.0 one.1)
+      (stays one.0.sender.device s'.device (on_state s' ≡ on_state (Rattle.interface.specs.Egress.behind s.host one.0)) (ap (λ (v : State D). v.device) one.2)
+      (ap on_state one.2))
+
+  -- THE WAY IN
+
+  replied : (awaited : Bool) (reply : Option ReplyValue) (x y : Sender D) → Replied moves awaited reply x y →
+      Leads x.device y.device (Replied others awaited reply (on_sender x) (on_sender y))
+  replied awaited None x y one = stays x.device y.device (Replied others awaited None (on_sender x) (on_sender y)) (same_device None x y one) (ap on_sender one)
+  replied awaited (Some (Replies.Tells packet)) x y one =
+      so x.device y.device (Departs others (f x.device) x.inner (Departures.Tells packet) one.0 (f y.device))
+      (Replied others awaited (Some (Replies.Tells packet)) (on_sender x) (on_sender y))
+      (λ n. (one.0, n, one.2, one.3)) (departs x.device y.device x.inner (Departures.Tells packet) one.0 one.1)
+  replied awaited (Some (Replies.Answers p)) x y (inl held) =
+      stays x.device y.device (Replied others awaited (Some (Replies.Answers p)) (on_sender x) (on_sender y)) (same_device None x y held.0)
+      (inl (ap on_sender held.0, held.1))
+  replied awaited (Some (Replies.Answers p)) x y (inr one) =
+      so x.device y.device (GoesOut others (f x.device) x.inner x.left p (plan_of x.inner (is_some x.left) p.header) one.0 (f y.device) y.inner y.left)
+      (Replied others awaited (Some (Replies.Answers p)) (on_sender x) (on_sender y)) (λ n. inr (one.0, n, one.2, one.3))
+      (goes_out x.device y.device x.inner y.inner x.left y.left p (plan_of x.inner (is_some x.left) p.header) one.0 one.1)
+
+  receives : (content : Option IncomingValue) (s s' : State D) → Receives moves content s s' →
+      Leads s.device s'.device (Receives others content (on_state s) (on_state s'))
+  receives content s s' one =
+      so s.device s'.device (Replied others (is_awaited one.0) one.0.reply (on_sender (sender_with moves s one.0)) (on_sender (sender_of moves s')))
+      (Receives others content (on_state s) (on_state s'))
+      (λ n. (one.0, one.1, one.2, n, one.4)) (replied (is_awaited one.0) one.0.reply (sender_with moves s one.0) (sender_of moves s') one.3)
+
+  takes : (s s' : State D) (answer : Option Bool) → Takes moves s answer s' → Leads s.device s'.device (Takes others (on_state s) answer (on_state s'))
+  takes s s' None one =
+      so s.device s'.device (others (f s.device) (Empty s.host.inner.moment) (f s'.device)) (Takes others (on_state s) None (on_state s'))
+      (λ n. (n, ap on_state one.1))
+      (moves_so s.device s'.device (Empty s.host.inner.moment) one.0)
+  takes s s' (Some false) one =
+      so s.device s'.device (others (f s.device) (Took s.host.inner.moment one.0) (f s'.device)) (Takes others (on_state s) (Some false) (on_state s'))
+      (λ n. (one.0, n, one.2, ap on_state one.3))
+      (moves_so s.device s'.device (Took s.host.inner.moment one.0) one.1)
+  takes s s' (Some true) one =
+      both s.device one.1 s'.device (others (f s.device) (Took s.host.inner.moment one.0) (f one.1))
+      (Receives others one.4.0 (on_state (at_device s one.1)) (on_state s'))
+      (Takes others (on_state s) (Some true) (on_state s'))
+      (λ n g. (one.0, f one.1, n, one.3, (one.4.0, one.4.1, g))) (moves_so s.device one.1 (Took s.host.inner.moment one.0) one.2)
+      (receives one.4.0 (at_device s one.1) s' one.4.2)
+
+  -- STEPS
+
+  module _ (step : State D → Option Bool → State D → Type 0) (step' : State E → Option Bool → State E → Type 0)
+      (steps : (s s' : State D) (answer : Option Bool) → step s answer s' → Leads s.device s'.device (step' (on_state s) answer (on_state s'))) where
+    repeats : (n : ℕ) (s s' : State D) (c c' : Bool) → Repeats step n s c s' c' → Leads s.device s'.device (Repeats step' n (on_state s) c (on_state s') c')
+    repeats zero s s' c c' one =
+        stays s.device s'.device (Repeats step' zero (on_state s) c (on_state s') c') (ap (λ (v : State D). v.device) one.0) (ap on_state one.0, one.1)
+    repeats (suc n) s s' c c' (inl a) =
+        so s.device s'.device (step' (on_state s) None (on_state s')) (Repeats step' (suc n) (on_state s) c (on_state s') c') (λ x. inl (x, a.1))
+        (steps s s' None a.0)
+    repeats (suc n) s s' c c' (inr a) =
+        both s.device a.1.device s'.device (step' (on_state s) (Some a.0) (on_state a.1)) (Repeats step' n (on_state a.1) (c || a.0) (on_state s') c')
+        (Repeats step' (suc n) (on_state s) c (on_state s') c')
+        (λ x y. inr (a.0, on_state a.1, x, y)) (steps s a.1 (Some a.0) a.2) (repeats n a.1 s' (c || a.0) c' a.3)
+
+  pub polls_there : (t : ℤ) (budget : ℕ) (s s' : State D) (changed : Bool) → Polls moves t budget s changed s' → Before s.device → After s'.device →
+      Polls others t budget (on_state s) changed (on_state s')
+  polls_there t budget s s' changed polls before after =
+      let first = repeats (IngressStep moves t) (IngressStep others t) (λ x y answer one. takes (begun t x) y answer one) budget (begun t s) polls.0 false
+      polls.1 polls.2 in
+      let second = repeats (EgressStep moves t) (EgressStep others t) (out_step t) budget polls.0 s' polls.1 changed polls.3 in
+      let leads = both s.device polls.0.device s'.device (Repeats (IngressStep others t) budget (on_state (begun t s)) false (on_state polls.0) polls.1)
+      (Repeats (EgressStep others t) budget (on_state polls.0) polls.1 (on_state s') changed) (Polls others t budget (on_state s) changed (on_state s'))
+      (λ x y. (on_state polls.0, polls.1, x, y)) first second in
+      leads.there before after

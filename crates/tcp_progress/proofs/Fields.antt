@@ -1,0 +1,76 @@
+-- What window fields say of a receive buffer, own or the partner's.
+use Rattle.std.proofs.Common.{◌≡◌, ℕ, zero, suc, ◌+◌, ◌*◌, ◌/◌, ◌^◌, ◌≤◌, ◌==◌, ◌||◌, nat_lt, min, false, Option, Some, sym, ap, ◌∙◌, subst, arith}
+use Rattle.std.proofs.lemmas.Bool.{cond_both}
+use Rattle.std.proofs.lemmas.Nat.{pow_pos}
+use Rattle.ip_wire.specs.Options.{capped}
+use Rattle.ip_wire.specs.TcpControl.TheVariants as Control
+use Rattle.ip_wire.specs.TcpHeader.{TcpHeader}
+use Rattle.tcp_rules.specs.Controls.{is_syn, is_rst}
+use Rattle.tcp_rules.proofs.EdgeSteps.{told_near}
+use Rattle.tcp_rules.proofs.OrderSteps.{clash}
+use Rattle.tcp_pair_model.specs.Acknowledged.{scaled}
+use Rattle.tcp_pair_model.specs.Block.{Block}
+use Rattle.tcp_pair_model.specs.Blocks.{announced, is_worth_telling, own_scale, own_shift, scale_for, shift_of, window_field}
+use Rattle.tcp_progress.specs.Windows.{Announces}
+
+scale_most : (most count : ℕ) → scale_for most count ≤ most
+scale_most zero count = omega arith
+scale_most (suc most) count =
+    let less = scale_most most (count / 2) in
+    cond_both (nat_lt count (2 ^ 16)) 0 (suc (scale_for most (count / 2))) (λ (n : ℕ). n ≤ suc most) (λ _. omega arith) (λ _. omega (arith, less))
+
+capped_own : (capacity : ℕ) → capped (own_scale capacity) ≡ own_scale capacity
+capped_own capacity = by (own_scale capacity) (scale_most 14 capacity) where
+  by : (n : ℕ) → n ≤ 14 → min n 14 ≡ n
+  by n e = omega arith
+
+-- what a field says of a window that fits
+pub heard_fits :
+    (theirs : ℕ) (scale : Option ℕ) (field : ℕ) → scale ≡ Some (own_scale theirs) → field * 2 ^ own_scale theirs ≤ theirs → scaled scale field ≤ theirs
+heard_fits theirs scale field is fits =
+    subst (λ (s : Option ℕ). scaled s field ≤ theirs) (sym is)
+    (subst (λ (n : ℕ). field * 2 ^ n ≤ theirs) (sym (capped_own theirs)) fits)
+
+upto : (a b c : ℕ) → a ≤ b → b ≤ c → a ≤ c
+upto a b c e f = omega arith
+
+-- the field of a segment fits the own buffer
+pub field_fits :
+    (b : Block) (capacity free waiting own n : ℕ) → b.peer.scale ≡ Some n → waiting + free ≡ capacity → capacity ≡ own
+    → window_field b capacity (announced b capacity free waiting) * 2 ^ own_scale own ≤ own
+field_fits b capacity free waiting own n is whole same =
+    subst (λ (m : ℕ). field * 2 ^ own_scale m ≤ m) same
+    (subst (λ (m : ℕ). field * 2 ^ m ≤ capacity) (ap (λ (s : Option ℕ). shift_of s (own_scale capacity)) is)
+    (upto (field * unit) space_told capacity (told_near space_told unit 0 (pow_pos (own_shift b capacity)) (omega arith) (omega arith)).0 within))
+  where
+    space_told : ℕ
+    space_told = announced b capacity free waiting
+
+    unit : ℕ
+    unit = 2 ^ own_shift b capacity
+
+    field : ℕ
+    field = window_field b capacity space_told
+
+    part : (a b c : ℕ) → a + b ≡ c → b ≤ c
+    part a b c e = omega arith
+
+    lesser : (a b c d : ℕ) → a + b ≡ c → min d b ≤ c
+    lesser a b c d e = omega arith
+
+    within : space_told ≤ capacity
+    within =
+        cond_both ((waiting == 0) || is_worth_telling b capacity free) free (min b.receiver.edge free) (λ (n : ℕ). n ≤ capacity)
+        (λ _. part waiting free capacity whole) (λ _. lesser waiting free capacity b.receiver.edge whole)
+
+-- a segment that isn't a SYN
+pub plain_announces :
+    (own : ℕ) (header : TcpHeader) → is_syn header.control ≡ false → header.window_len * 2 ^ own_scale own ≤ own → Announces own header
+plain_announces own header plain fits = record { syn = λ e. clash (sym e ∙ plain); later = λ _ _. fits }
+
+-- a reset
+pub reset_announces : (own : ℕ) (header : TcpHeader) → header.control ≡ Control.Rst → Announces own header
+reset_announces own header is = record {
+  syn = λ e. clash (sym e ∙ ap is_syn is);
+  later = λ _ e. clash (sym (ap is_rst is) ∙ e);
+}

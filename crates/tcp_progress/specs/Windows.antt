@@ -1,0 +1,28 @@
+-- The windows of two sides: what each segment says of the own one, and that the other keeps to it (RFC 9293, 3.8.6; RFC 7323, 2).
+use Rattle.std.specs.Prelude.{◌≡◌, ℕ, ◌+◌, ◌*◌, ◌^◌, ◌≤◌, max, true, false, Some}
+use Rattle.std.specs.List.{AllByRecursion}
+use Rattle.ip_wire.specs.TcpHeader.{TcpHeader}
+use Rattle.tcp_rules.specs.Controls.{is_syn, is_rst}
+use Rattle.tcp_pair_model.specs.Blocks.{own_scale}
+use Rattle.tcp_pair_model.specs.Value.{TcpValue, room_of}
+use Rattle.tcp_pair_model.specs.Values.{PairSide}
+use Rattle.tcp_pair_model.specs.declared.event.SentSegment.{SentSegment}
+
+-- A segment announces no more than a receive buffer of this capacity holds. A SYN, whose field isn't shifted, names the shift of all others;
+-- of a reset no window is read.
+pub record Announces (capacity : ℕ) (header : TcpHeader) : Type 0 where
+  pub syn : is_syn header.control ≡ true → (header.window_len ≤ capacity) × (header.options.window_scale ≡ Some (own_scale capacity))
+  pub later : is_syn header.control ≡ false → is_rst header.control ≡ false → header.window_len * 2 ^ own_scale capacity ≤ capacity
+
+abbrev pub IsTold : ℕ → SentSegment → Type 0
+IsTold capacity x = Announces capacity x.segment
+
+-- so does each segment that a side ever sent, of its own buffer
+abbrev pub HasTold : PairSide → Type 0
+HasTold s = AllByRecursion (IsTold (room_of s.socket.received)) s.sent
+
+-- What a side knows of its partner's window, and what it ever sent past SND.UNA, fit the partner's buffer: but for the byte that probes a
+-- closed window, the SYN and the FIN.
+pub record KeepsToWindow (v partner : TcpValue) : Type 0 where
+  pub window : v.block.peer.window ≤ room_of partner.received
+  pub sent : v.block.sender.top ≤ max 1 (room_of partner.received) + 2

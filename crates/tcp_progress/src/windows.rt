@@ -1,0 +1,25 @@
+//! That each side keeps to the other's window.
+
+ghost use Rattle.std.specs.Prelude.{◌≡◌, ◌+◌, ◌≤◌, true};
+ghost use Rattle.ip_wire.specs.Seq.{distance_of};
+ghost use Rattle.tcp_pair_model.specs.Sides.{at, other};
+ghost use Rattle.tcp_pair_model.specs.Value.{room_of};
+ghost use Rattle.tcp_pair_model.specs.Values.{PairValue};
+ghost use Rattle.tcp_pair_model.specs.declared.event.Side.{Side};
+ghost use Rattle.tcp_progress.specs.Arrivals.{is_synchronized};
+ghost use Rattle.tcp_progress.specs.Exchange.{IsOpen};
+ghost use Rattle.tcp_progress.specs.Pair.{socket_of};
+ghost use Rattle.tcp_progress.specs.Reached.{IsReached};
+ghost use Rattle.tcp_progress.specs.Windows.{HasTold, KeepsToWindow};
+
+/// Whatever happened to two sockets: no segment of a side announces more than its receive buffer holds; and the other sends no further past
+/// SND.UNA than that buffer reaches, but for a byte that probes it, the SYN and the FIN. So what a side took, past all that the other knows
+/// of, is no longer than its buffer, a SYN and a FIN.
+pub fn a_side_keeps_to_the_windows()
+    ensures told { (p : PairValue) (side : Side) → IsReached p → HasTold (at p.sides side) }
+    ensures keeps { (p : PairValue) (side : Side) → IsReached p → KeepsToWindow (socket_of p side) (socket_of p (other side)) }
+    ensures near { (p : PairValue) (side : Side) → IsReached p → IsOpen (socket_of p side).block
+        → is_synchronized (socket_of p (other side)).block.state ≡ true → 1 ≤ room_of (socket_of p (other side)).received
+        → distance_of (socket_of p side).block.sender.una (socket_of p (other side)).block.receiver.next
+        ≤ room_of (socket_of p (other side)).received + 2 }
+{}
