@@ -304,6 +304,7 @@ fn give_datagram<'a>(
     reply: &mut Option<Reply<'a>>,
 )
     requires fits { Fits header.now }
+    requires short { length payload.now < 2 ^ 16 }
     requires none { reply.old ≡ None }
     ensures host { inner.new ≡
         counted (not (is_some (datagram_place (context_of inner.old) header.now datagram.now.header places.old))) inner.old
