@@ -119,6 +119,7 @@ fn arrive_ipv6<'a>(
 }
 
 /// Takes in what a frame carries, and writes what answers it.
+#[inline(always)]
 fn bring_in<'a>(
     inner: &mut InterfaceInner,
     places: &mut [SocketStorage<Socket>],

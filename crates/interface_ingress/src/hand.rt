@@ -19,6 +19,7 @@ ghost use Rattle.interface_ingress.specs.Handed.{is_stray, if_it_may, counted_in
 ghost use Rattle.ipv6_headers.specs.Headers.{StopsWithin, upper_of, upper_bytes_of};
 ghost use Rattle.ip_wire.specs.IpRepr.TheVariants as Ip;
 ghost use Rattle.ip_wire.specs.Ipv6 as Ipv6;
+ghost use Rattle.interface_ingress.specs.Replies.{port_unreachable};
 ghost use Rattle.interface_ingress.specs.Arrives.{Hands, HandsUpper, IfCanGo, answered, arrived, reply_of};
 
 use crate::carried::{ReadDatagram, read_payload, read_tcp, read_udp};
@@ -248,11 +249,47 @@ fn answer_unread<'a>(
     limited(inner, &answer)
 }
 
+/// Answers a packet of which nothing was read, in a place of its own: so its packet isn't made ready where all was read.
+#[inline(never)]
+fn reply_unread<'a>(
+    inner: &mut InterfaceInner,
+    header: &IpRepr,
+    payload: &'a [u8],
+    is_taken: bool,
+    reply: &mut Option<Reply<'a>>,
+)
+    requires fits { Fits header.now }
+    requires short { length payload.now < 2 ^ 16 }
+    ensures host { inner.new ≡ counted_in inner.old (unread_reply inner.old header.now payload.now is_taken) inner.old }
+    ensures reply { reply_of reply.new ≡ answered (if_it_may inner.old (unread_reply inner.old header.now payload.now is_taken)) }
+    ensures sendable { IfCanGo (reply_of reply.new) }
+{
+    *reply = packet_reply(&answer_unread(inner, header, payload, is_taken));
+}
+
 /// What counts of a packet: the bytes of an upper-layer protocol, behind a header that names it.
 #[derive(Clone, Copy)]
 struct Upper<'b, 'a> {
     header: &'b IpRepr,
     bytes: &'a [u8],
+}
+
+/// Answers a datagram that nobody takes, as far as the limit on errors allows, in a place of its own as well.
+#[inline(never)]
+fn reply_unreached<'a>(
+    inner: &mut InterfaceInner,
+    header: &IpRepr,
+    payload: &'a [u8],
+    reply: &mut Option<Reply<'a>>,
+)
+    requires fits { Fits header.now }
+    requires short { length payload.now < 2 ^ 16 }
+    ensures host { inner.new ≡ counted_in inner.old (port_unreachable inner.old header.now payload.now) inner.old }
+    ensures reply { reply_of reply.new ≡ answered (if_it_may inner.old (port_unreachable inner.old header.now payload.now)) }
+    ensures sendable { IfCanGo (reply_of reply.new) }
+{
+    let error = port_unreachable(inner, header, payload);
+    *reply = packet_reply(&limited(inner, &error));
 }
 
 /// Gives a datagram to the first socket that accepts it. Without one, and where no raw socket took it, an error answers it, as far as
@@ -280,8 +317,7 @@ fn give_datagram<'a>(
     if deliver_datagram(inner, places, header, &datagram.header, datagram.bytes) || is_taken {
         return;
     }
-    let error = port_unreachable(inner, header, payload);
-    *reply = packet_reply(&limited(inner, &error));
+    reply_unreached(inner, header, payload, reply);
 }
 
 /// Gives the datagram of a packet to whom it concerns, and answers it.
@@ -304,7 +340,7 @@ fn hand_datagram<'a>(
 {
     match datagram {
         Some(datagram) => give_datagram(inner, places, header, payload, is_taken, datagram, reply),
-        None => *reply = packet_reply(&answer_unread(inner, header, payload, is_taken)),
+        None => reply_unread(inner, header, payload, is_taken, reply),
     }
 }
 
@@ -374,7 +410,7 @@ fn hand_segment<'a>(
 {
     match segment {
         Some(segment) => give_segment(inner, places, header, is_taken, segment, reply),
-        None => *reply = packet_reply(&answer_unread(inner, header, payload, is_taken)),
+        None => reply_unread(inner, header, payload, is_taken, reply),
     }
 }
 
@@ -430,6 +466,7 @@ fn hand_message<'a>(
 
 /// Reads what counts of a packet for the host that carries neither a datagram nor a segment, gives it to whom it concerns, and
 /// answers it.
+#[inline(never)]
 fn hand_control<'a>(
     inner: &mut InterfaceInner,
     places: &mut [SocketStorage<Socket>],
@@ -437,7 +474,8 @@ fn hand_control<'a>(
     payload: &'a [u8],
     is_taken: bool,
     upper: &Upper<'_, 'a>,
-) -> Option<Reply<'a>>
+    reply: &mut Option<Reply<'a>>,
+)
     requires udp { carried_in upper.now.header.now ≢ Protocol.Udp }
     requires tcp { carried_in upper.now.header.now ≢ Protocol.Tcp }
     requires fits { Fits header.now }
@@ -446,11 +484,11 @@ fn hand_control<'a>(
     requires len { length upper.now.bytes.now ≤ payload_len_of upper.now.header.now }
     requires upper_short { length upper.now.bytes.now < 2 ^ 16 }
     ensures hands { HandsUpper inner.old places.old header.now payload.now is_taken upper.now.header.now upper.now.bytes.now
-        (arrived inner.new places.new (reply_of result)) }
-    ensures sendable { IfCanGo (reply_of result) }
+        (arrived inner.new places.new (reply_of reply.new)) }
+    ensures sendable { IfCanGo (reply_of reply.new) }
 {
     let carried = read_payload(upper.header, upper.bytes, &inner.checksum_caps());
-    packet_reply(&hand_message(inner, places, header, payload, is_taken, &carried))
+    *reply = packet_reply(&hand_message(inner, places, header, payload, is_taken, &carried));
 }
 
 /// Reads what counts of a packet for the host, gives it to whom it concerns, and writes what answers it.
@@ -479,7 +517,7 @@ fn hand_upper<'a>(
     match upper.header.next_header() {
         IpProtocol::Udp => hand_udp(inner, places, header, payload, is_taken, upper, reply),
         IpProtocol::Tcp => hand_tcp(inner, places, header, payload, is_taken, upper, reply),
-        _ => *reply = hand_control(inner, places, header, payload, is_taken, upper),
+        _ => hand_control(inner, places, header, payload, is_taken, upper, reply),
     }
 }
 

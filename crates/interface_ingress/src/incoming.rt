@@ -117,6 +117,7 @@ fn read_arp<'a>(link: EthernetRepr, bytes: &'a [u8], content: &mut Option<Incomi
 }
 
 /// The IPv4 packet behind this link header, or without one.
+#[inline(always)]
 fn read_ipv4<'a>(
     link: Option<EthernetRepr>,
     bytes: &'a [u8],

@@ -251,7 +251,10 @@ fn whole_header(rest: &[u8]) -> [u8; FRAGMENT_HEADER_LEN]
 fn is_within(part: &Part<'_>) -> bool
     ensures { result ≡ is_within (part_value part.now) }
 {
-    match part.offset.checked_add(part.front().len() + part.bytes.len()) {
+    match part
+        .offset
+        .checked_add(part.front().len() + part.bytes.len())
+    {
         Some(end) => end <= REASSEMBLY_SIZE,
         None => false,
     }

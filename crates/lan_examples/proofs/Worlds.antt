@@ -116,7 +116,7 @@ abbrev reading : TcpValue
 reading = record {
   block = record (at_rest B) {
     receiver = record (at_rest B).receiver { next = number 7; edge = 5; last_ack = number 7 };
-    timers = record fresh_timers { draws_from = Some (pos 1_000_000) };
+    timers = fresh_timers;
   };
   received = received_of [] (space 8) 3;
   queued = ring [] (replicate 8 0) 0;

@@ -164,7 +164,7 @@ module _ (cx : ContextValue) (ip : IpRepr) (header : TcpHeader) (bytes : List â„
         (length (drop (freed_by u.block by (queued_in u)) u.queued.queue))
         (if u.block.sender.partial && is_blind (timed cx.moment header u by).block by then u.block.timers.retransmit_at else Some
         (timeout_from cx.moment (acked_open (timed cx.moment header u by) by cx.moment).block.round_trip)) (heard_order u by p)
-            (small_number u.block.sender.una by)
+        (small_number u.block.sender.una by)
         (syn_gone (sending_of u) by p (passes_news u.block header.ack_number by passes));
     taken = Î» by passes alive.
         order_content (heeded cx.moment header (length bytes) u by (acked_open (timed cx.moment header u by) by cx.moment).block)

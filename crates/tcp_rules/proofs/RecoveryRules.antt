@@ -337,13 +337,13 @@ module _ (cx : ContextValue) (ip : IpRepr) (header : TcpHeader) (bytes : List �
         let b : Block = noted (acked_open (timed cx.moment header u by) by cx.moment).block in
         paced_content _
         (heeded_paced (timed cx.moment header u by) by (duplicates_after u.block header (length bytes) by) (begins_recovery b
-            (duplicates_after u.block header (length bytes) by)) (is_lost_again b) (lost_in b)
+        (duplicates_after u.block header (length bytes) by)) (is_lost_again b) (lost_in b)
         (heard_paced by) past);
     taken_window = λ by _ _.
         let b : Block = noted (windowed (acked_open (timed cx.moment header u by) by cx.moment).block header) in
         paced_content _
         (heeded_paced (timed cx.moment header u by) by (duplicates_after u.block header (length bytes) by) (begins_recovery b
-            (duplicates_after u.block header (length bytes) by)) (is_lost_again b) (lost_in b)
+        (duplicates_after u.block header (length bytes) by)) (is_lost_again b) (lost_in b)
         (heard_paced by) past);
     news = λ by _ _.
         paced_drawing _

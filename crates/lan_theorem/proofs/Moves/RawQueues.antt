@@ -163,13 +163,12 @@ read_so p n is = ap (λ (q : IpProtocol). protocol_of (protocol_number q)) is �
 
 foreign_header : (h : IpRepr) (bytes : List ℕ) → names_tcp_or_udp Medium.Ip bytes ≡ false → IsIp false bytes h →
     CarriesNone (normal h) (carried_by h bytes)
-foreign_header (Ip.Ipv4 v) bytes none is =
-    (
-      subst NamesNoPorts (sym (read_so v.next_header (slice_index bytes 9) is.protocol))
-          (neither_first (slice_index bytes 0 / 16) 4 (slice_index bytes 9) ((slice_index bytes 0 / 16 == 6) && has_ports_behind bytes) v.next_header
-          is.version none is.protocol),
-      tt,
-    )
+foreign_header (Ip.Ipv4 v) bytes none is = (
+  subst NamesNoPorts (sym (read_so v.next_header (slice_index bytes 9) is.protocol))
+      (neither_first (slice_index bytes 0 / 16) 4 (slice_index bytes 9) ((slice_index bytes 0 / 16 == 6) && has_ports_behind bytes) v.next_header
+      is.version none is.protocol),
+  tt,
+)
 foreign_header (Ip.Ipv6 v) bytes none is =
     subst (λ (q : IpProtocol). IsNeitherBehind (go_through q (payload_of bytes))) (sym (read_so v.next_header (slice_index bytes 6) is.protocol))
     (behind_named bytes v.next_header is.protocol
