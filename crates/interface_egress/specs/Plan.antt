@@ -79,11 +79,21 @@ never_leaves i header =
     is_unspecified (destination_of header)
     || (is_foreign_loopback i (destination_of header) || not (may_come_from i (source_of header) (destination_of header)))
 
+-- the same where `here` says whether the packet may come from its source
+abbrev pub stays : InnerValue → Bool → IpAddress → Bool
+stays i here destination = is_unspecified destination || (is_foreign_loopback i destination || not here)
+
 -- In this order: a packet that never leaves is dropped, and so is one whose next hop doesn't answer; one whose next hop isn't known
 -- waits, or asks; then its length counts, and how long a packet the path to its destination carries. The host is busy while pieces of a datagram wait.
 abbrev pub plan_of : InnerValue → Bool → IpRepr → Plan
 plan_of i busy header =
     if never_leaves i header then Way.Drop
+    else plan_by (link_address i (destination_of header)) i busy header
+
+-- the same where `here` says whether the packet may come from its source
+abbrev pub plan_from : InnerValue → Bool → Bool → IpRepr → Plan
+plan_from i here busy header =
+    if stays i here (destination_of header) then Way.Drop
     else plan_by (link_address i (destination_of header)) i busy header
 
 -- a packet whose header says its length, and which can be sent where that fits its field

@@ -19,7 +19,7 @@ pub use interface_tables::{
     Config, HardwareAddrError, InterfaceInner, LinkAddress, NewError, NotUnicast,
     PacketAssemblerSet, Route, RouteTableFull, Routes, TABLE_ROOM,
 };
-pub use plan::{Plan, plan_for};
+pub use plan::{Plan, plan_for, plan_from};
 pub use socket_meta::{Meta, Waiting};
 pub use socket_set::{
     AddError, Handles, Item, Iter, IterMut, SocketHandle, SocketSet, SocketStorage,
