@@ -11,6 +11,7 @@ use Rattle.ip_wire.specs.IpRepr.{IpRepr}
 use Rattle.ip_wire.specs.IpRepr.TheVariants as Ip
 use Rattle.ip_wire.specs.Ipv4Address.{Ipv4Address}
 use Rattle.ip_wire.specs.EthernetAddress.{EthernetAddress}
+use Rattle.ip_wire.specs.Protocol.{protocol_number, protocol_of}
 use Rattle.ipv6_headers.specs.Headers.{is_extension}
 use Rattle.socket_base.specs.Packet.{PacketValue, PayloadFits, IsSendable, payload_len}
 use Rattle.interface_tables.specs.Inner.{InnerValue, is_foreign_loopback, may_come_from, link_address, mtu_to}
@@ -29,11 +30,11 @@ longest_cut = 4096
 abbrev pub total_len : IpRepr → ℕ
 total_len header = header_len_in header + payload_len_of header
 
--- An extension header stands behind the IPv6 header, as a raw socket alone sends one. Some belong before the fragment header of
--- each piece (RFC 8200, section 4.5), and so what has any isn't cut.
+-- An extension header stands behind the IPv6 header, as its number says; a raw socket alone sends one. Some belong before the
+-- fragment header of each piece (RFC 8200, section 4.5), and so what has any isn't cut.
 abbrev pub has_extensions : IpRepr → Bool
 has_extensions (Ip.Ipv4 v) = false
-has_extensions (Ip.Ipv6 v) = is_extension v.next_header
+has_extensions (Ip.Ipv6 v) = is_extension (protocol_of (protocol_number v.next_header))
 
 abbrev pub can_be_cut : IpRepr → Bool
 can_be_cut header = nat_le (total_len header) longest_cut && not (has_extensions header)

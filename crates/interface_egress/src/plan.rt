@@ -4,7 +4,7 @@ ghost use Rattle.interface_egress.specs.Plan.{longest_cut, total_len, has_extens
 
 use crate::frame::Question;
 use interface_tables::{InterfaceInner, LinkAddress};
-use ip_wire::{EthernetAddress, HardwareAddress, IpAddress, IpRepr, Ipv4Address};
+use ip_wire::{EthernetAddress, HardwareAddress, IpAddress, IpProtocol, IpRepr, Ipv4Address};
 use ipv6_headers::is_extension;
 use socket_base::Context;
 use socket_base::addresses::is_unspecified;
@@ -108,7 +108,7 @@ fn has_extensions(header: &IpRepr) -> bool
 {
     match header {
         IpRepr::Ipv4(_) => false,
-        IpRepr::Ipv6(header) => is_extension(header.next_header),
+        IpRepr::Ipv6(header) => is_extension(IpProtocol::from(u8::from(header.next_header))),
     }
 }
 
