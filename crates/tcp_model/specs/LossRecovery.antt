@@ -108,11 +108,23 @@ pipe b =
 abbrev pub next_hole : Block → ℕ
 next_hole b = first_missing b.loss.board.runs b.loss.resent
 
--- it is lost, and the window lets a segment go there (RFC 6675, 5, step C)
+-- it is lost, and the window has room for a segment beside Pipe (RFC 6675, 5, step C)
+abbrev pub mends_lost : Block → Bool
+mends_lost b = is_lost_at b (next_hole b) && nat_le (pipe b + b.reno.mss) b.reno.cwnd
+
+-- What was sent when the recovery began, and isn't held though a segment that went again later is acknowledged, is lost (RFC 8985, 6.2). For
+-- each such acknowledgement two segments of it go, as in slow start (RFC 6937, 3), while the window has room beside what went again.
+abbrev pub mends_credited : Block → Bool
+mends_credited b =
+    not (b.loss.credit == 0)
+    && (nat_lt (next_hole b + 1) b.sender.recover
+    && nat_le (missing b.loss.board.runs (min b.loss.resent b.sender.in_flight) + b.reno.mss) b.reno.cwnd)
+
+-- by either of the two a segment goes there
 abbrev pub fills_hole : Block → Bool
 fills_hole b =
     b.peer.sack && (b.reno.recovers && (not b.sender.syn_unacked
-    && (nat_lt (next_hole b) b.sender.in_flight && (is_lost_at b (next_hole b) && nat_le (pipe b + b.reno.mss) b.reno.cwnd))))
+    && (nat_lt (next_hole b) b.sender.in_flight && (mends_lost b || mends_credited b))))
 
 -- From which place of the send queue something goes again, where a segment takes so much and so much was sent: the segment at SND.UNA, the
 -- last one as a probe, or the next hole.
@@ -133,6 +145,7 @@ abbrev pub loss_lowered : Loss → ℕ → Bool → Loss
 loss_lowered l by partial = record l {
   board = record { runs = after_ack l.board.runs by };
   resent = l.resent - by;
+  credit = if partial && not (l.resent == 0) then 2 else 0;
   mark = l.mark - by;
   eager = l.eager && partial;
   probes = false;
@@ -148,6 +161,7 @@ loss_acked b by partial now = if by == 0 then b.loss else probe_armed b (loss_lo
 abbrev pub loss_resent : Block → ℕ → Loss
 loss_resent b end = record b.loss {
   resent = if b.reno.recovers && (b.sender.resend || not b.loss.probes) then max b.loss.resent end else b.loss.resent;
+  credit = b.loss.credit - 1;
   mark = b.sender.top;
   probes = false;
 }

@@ -78,6 +78,7 @@ impl Block {
         self.sender.resend = false;
         self.sender.recover = 0;
         self.loss.resent = 0;
+        self.loss.credit = 0;
     }
 
     /// Undoes what was done at a loss that wasn't one, where a segment that makes SND.UNA rise by so much
