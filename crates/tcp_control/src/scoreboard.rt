@@ -177,6 +177,13 @@ impl Scoreboard {
         })
     }
 
+    /// How many positions from this one on are held.
+    pub fn held_from(&self, place: u32) -> u32
+        ensures { result ≡ held_from self.now.runs place }
+    {
+        self.held().saturating_sub(self.held_below(place))
+    }
+
     /// How many positions below this one aren't held.
     #[tactic(auto, using(crate::proofs::NothingHeld::none_missing))]
     pub fn missing(&self, place: u32) -> u32

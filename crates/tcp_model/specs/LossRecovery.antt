@@ -1,5 +1,5 @@
 -- Loss recovery by selective acknowledgements (RFC 6675), and loss probes (RFC 8985, 7). Places are distances from SND.UNA.
-use Rattle.std.specs.Prelude.{ℕ, ◌+◌, ◌-◌, ◌==◌, nat_le, nat_lt, not, ◌&&◌, ◌||◌, min, max}
+use Rattle.std.specs.Prelude.{ℕ, ◌+◌, ◌-◌, ◌*◌, ◌==◌, nat_le, nat_lt, not, ◌&&◌, ◌||◌, min, max}
 use Rattle.std.specs.Prelude.{ℤ, Bool, true, false, if◌then◌else◌, List, [], ◌∷◌, Option, Some, None}
 use Rattle.ip_wire.specs.SeqNumber.{SeqNumber}
 use Rattle.ip_wire.specs.TcpHeader.{TcpHeader}
@@ -7,7 +7,7 @@ use Rattle.tcp_control.specs.Moments.{later, is_due}
 use Rattle.tcp_control.specs.Offsets.{past_by}
 use Rattle.tcp_control.specs.Reno as reno
 use Rattle.tcp_control.specs.RoundTrip.{probe_wait}
-use Rattle.tcp_control.specs.Scoreboard.{is_run, no_run, noted, after_ack, held, missing, first_missing, gap_end, is_lost, lost_end, sum_of}
+use Rattle.tcp_control.specs.Scoreboard.{is_run, no_run, noted, after_ack, held, missing, first_missing, gap_end, held_from, is_lost, lost_end, sum_of}
 use Rattle.tcp_control.specs.States.{sends_text}
 use Rattle.tcp_control.specs.declared.scoreboard.Run.{Run}
 use Rattle.tcp_model.specs.Blocks.{fresh_loss, past_top}
@@ -84,9 +84,14 @@ is_lost_at b place = is_lost b.loss.board.runs (threshold b) b.reno.mss place
 abbrev pub is_first_lost : Block → Bool
 is_first_lost b = b.peer.sack && is_lost_at b 0
 
--- what went again is lost once more: what was first sent after it is held
+-- what was first sent from this position on is held, so much of it that what went before and isn't held is lost (RFC 8985, 6.2, with as
+-- many segments of what was sent later in place of a time)
+abbrev pub is_passed : Block → ℕ → Bool
+is_passed b place = nat_lt ((threshold b - 1) * b.reno.mss) (held_from b.loss.board.runs place)
+
+-- what went again is lost once more
 abbrev pub is_lost_again : Block → Bool
-is_lost_again b = b.peer.sack && (b.reno.recovers && (not (b.loss.resent == 0) && is_lost_at b b.loss.mark))
+is_lost_again b = b.peer.sack && (b.reno.recovers && (not (b.loss.resent == 0) && is_passed b b.loss.mark))
 
 -- WHAT MAY GO
 

@@ -6,7 +6,7 @@ ghost use Rattle.tcp_model.specs.LossRecovery.{with_board, after_wait, probe_fro
 ghost use Rattle.tcp_model.specs.LossRecovery.{range_noted, all_noted};
 ghost use Rattle.tcp_model.specs.LossRecovery.{heard_more, ranges_noted, threshold, is_lost_at, is_first_lost, is_lost_again};
 ghost use Rattle.tcp_model.specs.LossRecovery.{pipe_in_recovery, pipe, next_hole};
-ghost use Rattle.tcp_model.specs.LossRecovery.{mends_lost, mends_credited};
+ghost use Rattle.tcp_model.specs.LossRecovery.{is_passed, mends_lost, mends_credited};
 ghost use Rattle.tcp_model.specs.LossRecovery.{fills_hole, again_place, hole_len, loss_lowered, loss_acked, loss_resent, loss_timed_out, probes_tail};
 ghost use Rattle.tcp_model.specs.LossRecovery.{loss_probed, loss_probed_by};
 
@@ -199,7 +199,9 @@ impl Block {
 
 impl Block {
     fn threshold(&self) -> u8
-        ensures { result ≡ threshold self.now }
+        ensures value { result ≡ threshold self.now }
+        ensures low { 1 ≤ result }
+        ensures high { result ≤ 3 }
     {
         if self.loss.eager { 1 } else { THRESHOLD }
     }
@@ -220,6 +222,14 @@ impl Block {
         self.peer.sack && self.is_lost_at(0)
     }
 
+    /// Whether so much is held of what was first sent from this position on that what went before is lost.
+    pub(crate) fn is_passed(&self, place: u32) -> bool
+        ensures { result ≡ is_passed self.now place }
+    {
+        let few = (self.threshold() - 1) as u32 * self.reno.mss() as u32;
+        few < self.loss.board.held_from(place)
+    }
+
     /// Whether what went again is lost once more: what was first sent after it is held.
     pub fn is_lost_again(&self) -> bool
         ensures { result ≡ is_lost_again self.now }
@@ -227,7 +237,7 @@ impl Block {
         self.peer.sack
             && self.reno.recovers()
             && self.loss.resent != 0
-            && self.is_lost_at(self.loss.mark)
+            && self.is_passed(self.loss.mark)
     }
 
     /// Pipe in recovery.
