@@ -1,5 +1,5 @@
 -- Loss recovery by selective acknowledgements (RFC 6675), and loss probes (RFC 8985, 7). Places are distances from SND.UNA.
-use Rattle.std.specs.Prelude.{ℕ, ◌+◌, ◌-◌, ◌*◌, ◌==◌, nat_le, nat_lt, not, ◌&&◌, ◌||◌, min, max}
+use Rattle.std.specs.Prelude.{ℕ, ◌+◌, ◌-◌, ◌*◌, ◌/◌, ◌==◌, nat_le, nat_lt, not, ◌&&◌, ◌||◌, min, max}
 use Rattle.std.specs.Prelude.{ℤ, Bool, true, false, if◌then◌else◌, List, [], ◌∷◌, Option, Some, None}
 use Rattle.ip_wire.specs.SeqNumber.{SeqNumber}
 use Rattle.ip_wire.specs.TcpHeader.{TcpHeader}
@@ -118,12 +118,16 @@ abbrev pub mends_lost : Block → Bool
 mends_lost b = is_lost_at b (next_hole b) && nat_le (pipe b + b.reno.mss) b.reno.cwnd
 
 -- What was sent when the recovery began, and isn't held though a segment that went again later is acknowledged, is lost (RFC 8985, 6.2). For
--- each such acknowledgement two segments of it go, as in slow start (RFC 6937, 3), while the window has room beside what went again.
+-- each such acknowledgement two segments of it go, as in slow start (RFC 6937, 3), while the window has room beside what went again; the
+-- second of them takes no more than half of the window.
+abbrev pub credited_window : Block → ℕ
+credited_window b = if b.loss.credit == 1 then b.reno.cwnd / 2 else b.reno.cwnd
+
 abbrev pub mends_credited : Block → Bool
 mends_credited b =
     not (b.loss.credit == 0)
     && (nat_lt (next_hole b + 1) b.sender.recover
-    && nat_le (missing b.loss.board.runs (min b.loss.resent b.sender.in_flight) + b.reno.mss) b.reno.cwnd)
+    && nat_le (missing b.loss.board.runs (min b.loss.resent b.sender.in_flight) + b.reno.mss) (credited_window b))
 
 -- by either of the two a segment goes there
 abbrev pub fills_hole : Block → Bool

@@ -1,6 +1,6 @@
 -- A loss that wasn't one is undone (RFC 3522 and 4015; RFC 8985, 6.2, step 2): the congestion window is kept as it was before, until the
 -- first acknowledgement of something new.
-use Rattle.std.specs.Prelude.{◌*◌, ◌||◌, ℤ, if◌then◌else◌, Option, Some, None, is_some}
+use Rattle.std.specs.Prelude.{◌*◌, ◌==◌, ◌||◌, ℤ, if◌then◌else◌, Option, Some, None, is_some}
 use Rattle.tcp_control.specs.Moments.{later}
 use Rattle.tcp_control.specs.RoundTrip.{shortest}
 use Rattle.tcp_model.specs.Timestamps.{value_by}

@@ -6,7 +6,7 @@ ghost use Rattle.tcp_model.specs.LossRecovery.{with_board, after_wait, probe_fro
 ghost use Rattle.tcp_model.specs.LossRecovery.{range_noted, all_noted};
 ghost use Rattle.tcp_model.specs.LossRecovery.{heard_more, ranges_noted, threshold, is_lost_at, is_first_lost, is_lost_again};
 ghost use Rattle.tcp_model.specs.LossRecovery.{pipe_in_recovery, pipe, next_hole};
-ghost use Rattle.tcp_model.specs.LossRecovery.{is_passed, mends_lost, mends_credited};
+ghost use Rattle.tcp_model.specs.LossRecovery.{is_passed, mends_lost, credited_window, mends_credited};
 ghost use Rattle.tcp_model.specs.LossRecovery.{fills_hole, again_place, hole_len, loss_lowered, loss_acked, loss_resent, loss_timed_out, probes_tail};
 ghost use Rattle.tcp_model.specs.LossRecovery.{loss_probed, loss_probed_by};
 
@@ -284,6 +284,18 @@ impl Block {
             && self.pipe() as u64 + self.reno.mss() as u64 <= self.reno.window() as u64
     }
 
+    /// How much of the congestion window what goes again for a partial acknowledgement takes: the second
+    /// segment no more than half.
+    fn credited_window(&self) -> u32
+        ensures { result ≡ credited_window self.now }
+    {
+        if self.loss.credit == 1 {
+            self.reno.window() / 2
+        } else {
+            self.reno.window()
+        }
+    }
+
     /// Whether the next hole was sent before this recovery began, a partial acknowledgement lets a segment
     /// go there, and the congestion window has room for it beside what went again.
     fn mends_credited(&self) -> bool
@@ -296,7 +308,7 @@ impl Block {
             .loss
             .board
             .missing(self.loss.resent.min(self.sender.in_flight));
-        again as u64 + self.reno.mss() as u64 <= self.reno.window() as u64
+        again as u64 + self.reno.mss() as u64 <= self.credited_window() as u64
     }
 
     /// Whether a segment goes into the next hole.
