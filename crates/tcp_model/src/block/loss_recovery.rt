@@ -359,11 +359,7 @@ impl Loss {
         ensures { self.new ≡ loss_lowered self.old by partial }
     {
         self.board.acknowledge(by);
-        self.credit = if partial && self.resent != 0 {
-            2
-        } else {
-            0
-        };
+        self.credit = if partial && self.resent != 0 { 2 } else { 0 };
         self.resent = self.resent.saturating_sub(by);
         self.mark = self.mark.saturating_sub(by);
         self.eager = self.eager && partial;
