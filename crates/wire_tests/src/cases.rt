@@ -61,3 +61,16 @@ pub fn prints<T: Display>(alloc: Global, value: &T, text: &str) -> bool {
         Err(_) => false,
     }
 }
+
+/// Asserts that the value of each number has this text. The failure names the number.
+pub fn all_named<T: From<u8> + Display + Copy>(
+    rt: &(impl Abort + AllocGlobal),
+    names: &[(u8, &'static str)],
+) {
+    for (number, name) in names {
+        assert!(rt;
+            prints(rt.alloc(), &T::from(*number), name),
+            "number {number}"
+        );
+    }
+}
