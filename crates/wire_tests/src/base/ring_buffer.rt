@@ -81,7 +81,7 @@ fn says(ring: &RingBuffer<u8>, step: &Step) -> bool {
 fn writes(ring: &mut RingBuffer<u8>, step: &Step) -> bool {
     match step {
         WritesAhead(offset, bytes, count) => ring.write_unallocated(*offset, bytes) == *count,
-        HoldsAhead(offset, size, bytes) => &*ring.get_unallocated(*offset, *size) == *bytes,
+        HoldsAhead(offset, size, bytes) => holds_ahead(ring, *offset, *size, bytes),
         TakesOver(count) => takes_over(ring, *count),
         LetsGo(count) => lets_go(ring, *count),
         Clears => {
@@ -96,7 +96,7 @@ fn writes(ring: &mut RingBuffer<u8>, step: &Step) -> bool {
 fn lends(ring: &mut RingBuffer<u8>, step: &Step) -> bool {
     match step {
         WritesThree => writes_three(ring),
-        Lends(size, bytes) => &*ring.dequeue_many(*size) == *bytes,
+        Lends(size, bytes) => lends_part(ring, *size, bytes),
         WritesTwo(room) => writes_two(ring) == (2, *room),
         Refuses => writes_and_refuses(ring) == Ok(Err(7)),
         Gives(first, rest) => {
@@ -134,6 +134,18 @@ fn lets_go(ring: &mut RingBuffer<u8>, count: usize) -> bool {
     } else {
         false
     }
+}
+
+/// Whether these bytes were written ahead.
+fn holds_ahead(ring: &mut RingBuffer<u8>, offset: usize, size: usize, bytes: &[u8]) -> bool {
+    let part = ring.get_unallocated(offset, size);
+    &*part == bytes
+}
+
+/// Whether these bytes are lent, and let go.
+fn lends_part(ring: &mut RingBuffer<u8>, size: usize, bytes: &[u8]) -> bool {
+    let part = ring.dequeue_many(size);
+    &*part == bytes
 }
 
 /// Writes three bytes into a part that the ring lends.

@@ -176,8 +176,8 @@ struct Scaled(u64, u32, u64, u64);
 impl Case for Scaled {
     fn holds(&self, _alloc: Global) -> bool {
         let length = Duration::from_micros(self.0);
-        let wanted = (Duration::from_micros(self.2), Duration::from_micros(self.3));
-        scaled_by(length, self.1) == Some(wanted) && scaled_in_place(length, self.1) == Some(wanted)
+        let wanted = Some((Duration::from_micros(self.2), Duration::from_micros(self.3)));
+        scaled_by(length, self.1) == wanted && scaled_in_place(length, self.1) == wanted
     }
 }
 
