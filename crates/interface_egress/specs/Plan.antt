@@ -1,5 +1,5 @@
 -- What is to be done with a packet that wants to go out.
-use Rattle.std.specs.Prelude.{◌≡◌, ℕ, ◌+◌, ◌<◌, ◌≤◌, nat_le, ◌||◌, not, Bool, false, if◌then◌else◌, Option, None, Some}
+use Rattle.std.specs.Prelude.{◌≡◌, ℕ, ◌+◌, ◌<◌, ◌≤◌, nat_le, ◌&&◌, ◌||◌, not, Bool, false, if◌then◌else◌, Option, None, Some}
 use Rattle.ip_wire.specs.AddressTests.{is_unspecified}
 use Rattle.ip_wire.specs.HardwareAddress.{HardwareAddress}
 use Rattle.ip_wire.specs.HardwareAddress.TheVariants as Hardware
@@ -10,8 +10,9 @@ use Rattle.ip_wire.specs.IpAddress.TheVariants as Address
 use Rattle.ip_wire.specs.IpRepr.{IpRepr}
 use Rattle.ip_wire.specs.IpRepr.TheVariants as Ip
 use Rattle.ip_wire.specs.Ipv4Address.{Ipv4Address}
-use Rattle.ip_wire.specs.Ipv4Repr.{Ipv4Repr}
 use Rattle.ip_wire.specs.EthernetAddress.{EthernetAddress}
+use Rattle.ip_wire.specs.Protocol.{protocol_number, protocol_of}
+use Rattle.ipv6_headers.specs.Headers.{is_extension}
 use Rattle.socket_base.specs.Packet.{PacketValue, PayloadFits, IsSendable, payload_len}
 use Rattle.interface_tables.specs.Inner.{InnerValue, is_foreign_loopback, may_come_from, link_address, mtu_to}
 use Rattle.interface_tables.specs.Source.{source_v4, source_v6, source_for}
@@ -29,13 +30,21 @@ longest_cut = 4096
 abbrev pub total_len : IpRepr → ℕ
 total_len header = header_len_in header + payload_len_of header
 
+-- What has extension headers, as the number in its IPv6 header says, isn't cut: some belong before the fragment header of each
+-- piece (RFC 8200, section 4.5). A raw socket alone sends such a packet.
+abbrev pub has_extensions : IpRepr → Bool
+has_extensions (Ip.Ipv4 v) = false
+has_extensions (Ip.Ipv6 v) = is_extension (protocol_of (protocol_number v.next_header))
+
+abbrev pub can_be_cut : IpRepr → Bool
+can_be_cut header = nat_le (total_len header) longest_cut && not (has_extensions header)
+
 -- a datagram that is too long for one frame, or for the path to its destination, goes in pieces, one after the other
-abbrev pub cut_if_idle : Bool → HardwareAddress → Ipv4Repr → Plan
-cut_if_idle busy to v = if busy then Way.Busy else Way.Cut to v
+abbrev pub cut_if_idle : Bool → HardwareAddress → Plan
+cut_if_idle busy to = if busy then Way.Busy else Way.Cut to
 
 abbrev pub long_plan : Bool → HardwareAddress → IpRepr → Plan
-long_plan busy to (Ip.Ipv4 v) = if nat_le (20 + v.payload_len) longest_cut then cut_if_idle busy to v else Way.Drop
-long_plan busy to (Ip.Ipv6 v) = Way.Drop
+long_plan busy to header = if can_be_cut header then cut_if_idle busy to else Way.Drop
 
 abbrev pub plan_to : HardwareAddress → ℕ → Bool → IpRepr → Plan
 plan_to to mtu busy header = if nat_le (total_len header) mtu then Way.Go to else long_plan busy to header
@@ -72,19 +81,26 @@ plan_by Link.Silent i busy header = Way.Wait
 plan_by Link.Unanswered i busy header = Way.Drop
 plan_by (Link.Unknown hop) i busy header = ask_if (may_ask i hop) i hop
 
--- A packet never leaves that is for the unspecified address or for a loopback address that isn't here, or whose source can't be
--- one.
+-- A packet never leaves that is for the unspecified address or for a loopback address that isn't here, or that may not come from
+-- its source, as `here` says.
+abbrev pub stays : InnerValue → Bool → IpAddress → Bool
+stays i here destination = is_unspecified destination || (is_foreign_loopback i destination || not here)
+
+abbrev pub comes_from_here : InnerValue → IpRepr → Bool
+comes_from_here i header = may_come_from i (source_of header) (destination_of header)
+
 abbrev pub never_leaves : InnerValue → IpRepr → Bool
-never_leaves i header =
-    is_unspecified (destination_of header)
-    || (is_foreign_loopback i (destination_of header) || not (may_come_from i (source_of header) (destination_of header)))
+never_leaves i header = stays i (comes_from_here i header) (destination_of header)
 
 -- In this order: a packet that never leaves is dropped, and so is one whose next hop doesn't answer; one whose next hop isn't known
 -- waits, or asks; then its length counts, and how long a packet the path to its destination carries. The host is busy while pieces of a datagram wait.
-abbrev pub plan_of : InnerValue → Bool → IpRepr → Plan
-plan_of i busy header =
-    if never_leaves i header then Way.Drop
+abbrev pub plan_from : InnerValue → Bool → Bool → IpRepr → Plan
+plan_from i here busy header =
+    if stays i here (destination_of header) then Way.Drop
     else plan_by (link_address i (destination_of header)) i busy header
+
+abbrev pub plan_of : InnerValue → Bool → IpRepr → Plan
+plan_of i busy header = plan_from i (comes_from_here i header) busy header
 
 -- a packet whose header says its length, and which can be sent where that fits its field
 pub record IsPacket (p : PacketValue) : Type 0 where
@@ -92,15 +108,14 @@ pub record IsPacket (p : PacketValue) : Type 0 where
   pub payload : Ips.Fits p.header → PayloadFits p.header p.payload
 
 -- a datagram that is cut: its payload fits the buffer, and not one packet of this length, and no other one is half sent
-pub record CanBeCut (mtu : ℕ) (left : Option LeftValue) (p : PacketValue) (v : Ipv4Repr) : Type 0 where
-  pub header : p.header ≡ Ip.Ipv4 v
+pub record CanBeCut (mtu : ℕ) (left : Option LeftValue) (p : PacketValue) : Type 0 where
   pub sendable : IsSendable p
-  pub short : 20 + v.payload_len ≤ longest_cut
-  pub long : mtu < 20 + v.payload_len
+  pub short : total_len p.header ≤ longest_cut
+  pub long : mtu < total_len p.header
   pub idle : left ≡ None
 
 -- what is to be done with the packet can be done
 abbrev pub CanBeCarried : InnerValue → Option LeftValue → PacketValue → Plan → Type 0
 CanBeCarried i left p (Way.Go to) = IsSendable p
-CanBeCarried i left p (Way.Cut to v) = CanBeCut (mtu_to i (Address.Ipv4 v.dst_addr)) left p v
+CanBeCarried i left p (Way.Cut to) = CanBeCut (mtu_to i (destination_of p.header)) left p
 CanBeCarried i left p _ = Unit {0}

@@ -14,12 +14,12 @@ mod way_out;
 
 pub use fill::{Fill, send};
 pub use fragmenter::{Cut, Fragmenter, Left, MAX_CUT_PAYLOAD};
-pub use frame::{ArpFrame, Piece, Question, ask};
+pub use frame::{ArpFrame, CutHeader, Piece, Question, ask};
 pub use interface_tables::{
     Config, HardwareAddrError, InterfaceInner, LinkAddress, NewError, NotUnicast,
     PacketAssemblerSet, Route, RouteTableFull, Routes, TABLE_ROOM,
 };
-pub use plan::{Plan, plan_for};
+pub use plan::{Plan, plan_for, plan_from};
 pub use socket_meta::{Meta, Waiting};
 pub use socket_set::{
     AddError, Handles, Item, Iter, IterMut, SocketHandle, SocketSet, SocketStorage,

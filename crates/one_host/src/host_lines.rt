@@ -6,13 +6,15 @@ use crate::words::Words;
 use interface::{HardwareAddrError, Interface, Route, Routes, TABLE_ROOM};
 use ip_wire::{HardwareAddress, IpAddress};
 use net_base::{Duration, Instant};
+use std::alloc::Global;
 
 /// The lines that set something of a host.
-pub const VERBS: [&str; 11] = [
+pub const VERBS: [&str; 12] = [
     "addrs",
     "hw",
     "any_ip",
     "reassembly",
+    "slots",
     "route",
     "exchange_route",
     "add_route",
@@ -23,7 +25,7 @@ pub const VERBS: [&str; 11] = [
 ];
 
 /// Plays one of these lines.
-pub fn play(host: &mut Host, verb: &str, words: &mut Words<'_>) -> Answer {
+pub fn play(alloc: Global, host: &mut Host, verb: &str, words: &mut Words<'_>) -> Answer {
     words.host();
     let interface = &mut host.interface;
     match verb {
@@ -43,6 +45,7 @@ pub fn play(host: &mut Host, verb: &str, words: &mut Words<'_>) -> Answer {
             }
         }
         "reassembly" => set_reassembly_timeout(interface, words),
+        "slots" => return set_reassembly_slots(alloc, interface, words),
         _ => return routes(interface, verb, words),
     }
     Answer::Done
@@ -77,6 +80,19 @@ fn set_reassembly_timeout(interface: &mut Interface, words: &mut Words<'_>) {
         Some(_) => {}
         None => words.wrong("number", "none"),
     }
+}
+
+fn set_reassembly_slots(
+    alloc: Global,
+    interface: &mut Interface,
+    words: &mut Words<'_>,
+) -> Answer {
+    let count = words.size();
+    words.end();
+    if words.is_taken() && interface.set_reassembly_slots(alloc, count).is_err() {
+        return words.refuse("Memory");
+    }
+    Answer::Done
 }
 
 /// Plays a line about routes.
