@@ -8,12 +8,10 @@ use sockets::udp::UdpMetadata;
 use sockets::{IpPayload, Packet, raw, tcp, udp};
 use std::alloc::{AllocError, Global};
 
-fn ring(alloc: Global) -> Result<RingBuffer<u8>, AllocError> {
-    Ok(RingBuffer::new(ManagedSlice::Fixed(vec![in alloc; 0u8; 64]?)))
-}
-
 fn stream(alloc: Global) -> Result<tcp::Socket, AllocError> {
-    Ok(tcp::Socket::new(ring(alloc)?, ring(alloc)?))
+    let rx = RingBuffer::new(ManagedSlice::Fixed(vec![in alloc; 0u8; 64]?));
+    let tx = RingBuffer::new(ManagedSlice::Fixed(vec![in alloc; 0u8; 64]?));
+    Ok(tcp::Socket::new(rx, tx))
 }
 
 /// Whether a connection exists or is opened, whether bytes may come, whether Nagle's rule holds, whether segments have timestamps.
