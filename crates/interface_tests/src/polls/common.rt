@@ -160,7 +160,7 @@ impl Host {
     /// The planned host, at moment 0; on the heap, where lending it is cheap to prove.
     pub fn new(alloc: Global, plan: &Plan) -> Result<Box<Host>, Fail> {
         let mut host = Box::new(alloc, Host::bare(alloc, plan)?)?;
-        host.gets(planned_socket(alloc, plan));
+        host.handle = host.add(planned_socket(alloc, plan)?);
         Ok(host)
     }
 
@@ -175,13 +175,6 @@ impl Host {
             handle: None,
             now: 0,
         })
-    }
-
-    /// Takes its socket, if there is one: without it, nothing goes as it must.
-    fn gets(&mut self, socket: Result<Socket, Fail>) {
-        if let Ok(socket) = socket {
-            self.handle = self.add(socket);
-        }
     }
 
     /// Adds a socket to its set.
