@@ -23,7 +23,7 @@ use Rattle.lan_hosts.specs.Sets.{with_room, asked}
 use Rattle.lan_hosts.specs.Station.{StationValue, Stations, station, at_port}
 use Rattle.tcp_model.specs.State as States
 use Rattle.lan_theorem.specs.Moves.Made.{Grows, MadeBy}
-use Rattle.lan_theorem.specs.Link.Frames.{medium_on}
+use Rattle.lan_theorem.specs.Link.Frames.{Outgoing, medium_on}
 use Rattle.lan_theorem.specs.Link.Numbers.{count_v4}
 use Rattle.lan_theorem.specs.Link.Sides.{IsSound, IsSender, IsReceiver}
 use Rattle.lan_theorem.specs.Link.Sides as Links
@@ -53,13 +53,13 @@ joins_grow firsts most hosts net next grows j = record {
 
 -- ONE HOST CHANGED
 
-abbrev outs : Side → List PacketValue → List PacketValue → List PacketValue
+abbrev outs : Side → List Outgoing → List Outgoing → List Outgoing
 outs A a b = a
 outs B a b = b
 
 -- what is said of the host that acted; it may have sent more packets, so many of IPv4 at most
-pub record HasActed (p q : Party) (first most : ℕ) (out others : List PacketValue) (s s' : StationValue) : Type 0 where
-  pub out_after : List PacketValue
+pub record HasActed (p q : Party) (first most : ℕ) (out others : List Outgoing) (s s' : StationValue) : Type 0 where
+  pub out_after : List Outgoing
   pub more : Links.Grows out out_after
   pub medium : medium_on s'.host.inner.hardware ≡ medium_on s.host.inner.hardware
   pub device : s'.link.capabilities.medium ≡ s.link.capabilities.medium
@@ -73,7 +73,7 @@ module _ (firsts most most' : Side → ℕ) (hosts new : Stations) (net : Net) (
       (station new side)
 
   -- the other host's parts are as they were, but for what the first one sent
-  rested : (p q : Party) (first : ℕ) (own out out' : List PacketValue) (s s' : StationValue) → s' ≡ s → Links.Grows out out' → Sends p first s own →
+  rested : (p q : Party) (first : ℕ) (own out out' : List Outgoing) (s s' : StationValue) → s' ≡ s → Links.Grows out out' → Sends p first s own →
       Receives q out s → Sends p first s' own × Receives q out' s'
   rested p q first own out out' s s' same more sends receives = (
     subst (λ (x : StationValue). Sends p first x own) (sym same) sends,
@@ -134,7 +134,7 @@ pub record IsSettled (s s' : StationValue) : Type 0 where
   pub ident : s'.host.inner.ident ≡ s.host.inner.ident
   pub sound : IsSound s.host.inner → IsSound s'.host.inner
 
-pub settled_acts : (p q : Party) (first most : ℕ) (out others : List PacketValue) (s s' : StationValue) → IsSettled s s' → Sends p first s out →
+pub settled_acts : (p q : Party) (first most : ℕ) (out others : List Outgoing) (s s' : StationValue) → IsSettled s s' → Sends p first s out →
     Receives q others s → count_v4 out ≤ most → HasActed p q first most out others s s'
 settled_acts p q first most out others s s' is sends receives few =
     let sound : IsSound s'.host.inner = is.sound sends.sound in
@@ -219,7 +219,7 @@ call_settled s s' i call answer found is = place_settled s s' i (slice_get s.pla
 -- A POLL
 
 -- what holds of the host behind a poll, at whatever port
-pub polled_acts : (p q : Party) (first most n : ℕ) (out others : List PacketValue) (before : List (List ℕ)) (s s' : StationValue) (port : PortValue) →
+pub polled_acts : (p q : Party) (first most n : ℕ) (out others : List Outgoing) (before : List (List ℕ)) (s s' : StationValue) (port : PortValue) →
     port.link ≡ s'.link → medium_on s'.host.inner.hardware ≡ medium_on s.host.inner.hardware → s'.link.capabilities.medium ≡ s.link.capabilities.medium
     → (l : IsLinked q others out first before n (at_port port s') p) → count_v4 l.out ≤ most → HasActed p q first most out others s s'
 polled_acts p q first most n out others before s s' port end medium device l few = record {

@@ -31,7 +31,7 @@ use Rattle.lan_theorem.specs.Hosts.HostRuns.{IsHostRun, frames_sent}
 use Rattle.lan_theorem.specs.Hosts.Machine.{Turn}
 use Rattle.lan_theorem.specs.Moves.Made.{MadeBy}
 use Rattle.lan_theorem.specs.Link.Made.{sealed, bytes_of}
-use Rattle.lan_theorem.specs.Link.Frames.{BringsFrom, IsSentV4}
+use Rattle.lan_theorem.specs.Link.Frames.{Outgoing, BringsFrom, IsSentV4}
 use Rattle.lan_theorem.specs.Link.Held.{IsPayloadOf}
 use Rattle.lan_theorem.proofs.Link.Rebuilt.{IsRebuiltOf}
 use Rattle.lan_theorem.specs.Link.Numbers.{AreFew}
@@ -70,7 +70,7 @@ has_made q header (Bytes bytes) named ports made = absurd named
 has_made q header (Datagram udp bytes) named ports made = made
 has_made q header (Segment header' bytes) named ports made = made
 
-module _ (q : Party) (first next : ℕ) (out : List PacketValue) (sent : AreSent (MadeBy q) first next out) where
+module _ (q : Party) (first next : ℕ) (out : List Outgoing) (sent : AreSent (MadeBy q) first next out) where
   -- the packet has the protocol of the header
   protocol_is : (h : Ipv4Repr) (payload : List ℕ) (o : IsPayloadOf out h payload) →
       carried_in (upper_header (Ips.normal o.sent.packet.header) (bytes_of o.sent.packet)) ≡ h.next_header
@@ -141,7 +141,7 @@ module _ (q : Party) (first next : ℕ) (out : List PacketValue) (sent : AreSent
     said_is m frame fact (inr (inr f)) c = absurd (let e : None ≡ Some c.part = sym f.uncut ∙ c.there in cc)
 
 -- no frame that waits is a piece of IPv6
-no_piece_waits : (q : Party) (out : List PacketValue) (s : StationValue) → Receives q out s → BringsNoPieceV6 s
+no_piece_waits : (q : Party) (out : List Outgoing) (s : StationValue) → Receives q out s → BringsNoPieceV6 s
 no_piece_waits q out s receives place frame content waits is =
     let brings : BringsFrom (MadeBy q) out s.host.inner.hardware frame =
     all_at (BringsFrom (MadeBy q) out s.host.inner.hardware) s.link.waiting place frame receives.waits waits in

@@ -36,6 +36,7 @@ use Rattle.lan_theorem.proofs.Beginnings.{firsts, none_yet, first_joined}
 use Rattle.lan_theorem.proofs.Events.{plain_joins}
 use Rattle.lan_theorem.proofs.PolledJoins as Polled
 use Rattle.lan_theorem.proofs.Settings.{setting_joins}
+use Rattle.lan_theorem.specs.Link.Frames.{Outgoing}
 
 -- how many IPv4 datagrams a host has numbered
 abbrev pub numbered_by : List Entry → Stations → Side → ℕ
@@ -89,7 +90,7 @@ module _ (starts : Starts) (net : Net) (old new : Stations) (past : List Entry) 
     few_out = let a = w.joined.counted (other side) in let b = w.few (other side) in omega (arith, a, b)
 
     module _ (fit : OfEach IsFit (station old side).places) where
-      abbrev out_after : List PacketValue
+      abbrev out_after : List Outgoing
       out_after = (Polled.linked_after (firsts starts) w.most old new net past e w.joined of side t budget is few_out acts fit).out
 
       abbrev most' : Side → ℕ

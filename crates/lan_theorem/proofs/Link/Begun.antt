@@ -21,7 +21,7 @@ use Rattle.lan_frames.specs.declared.part.Part.{Part}
 use Rattle.lan_frames.specs.Slices.{bytes_of_slice}
 use Rattle.lan_hosts.specs.Origins.{begins_datagram}
 use Rattle.lan_theorem.specs.Link.Made.{sealed}
-use Rattle.lan_theorem.specs.Link.Frames.{medium_on, IsSlice}
+use Rattle.lan_theorem.specs.Link.Frames.{Outgoing, medium_on, IsSlice}
 use Rattle.lan_theorem.specs.Link.Numbers.{and_v4, count_v4, IsTied}
 use Rattle.lan_theorem.specs.Link.Sides.{IsSameKind, IsLeft}
 use Rattle.lan_theorem.proofs.Link.Behind.{with_len, packet_of_slice, read_slice}
@@ -30,7 +30,7 @@ use Rattle.lan_theorem.proofs.Link.Spelled.{whole4, piece_slice}
 
 -- A SLICE
 
-module _ (medium : Medium) (out : List PacketValue) (frame : List ℕ) (f : IsSlice medium out frame) where
+module _ (medium : Medium) (out : List Outgoing) (frame : List ℕ) (f : IsSlice medium out frame) where
   abbrev spelled : List ℕ
   spelled = Ipv4.written_piece true (with_len f.header f.slice.count) f.slice.at f.slice.more ++ bytes_of_slice f.bytes f.slice
 
@@ -67,7 +67,7 @@ whole_begins own to (Ip.Ipv4 v) x n same w len =
 whole_begins own to (Ip.Ipv6 v) x n same w len = omega arith
 
 -- the first piece of one that is cut
-pub piece_begins : (own : HardwareAddress) (out : List PacketValue) (mtu : ℕ) (l : LeftValue) → IsLeft own out l →
+pub piece_begins : (own : HardwareAddress) (out : List Outgoing) (mtu : ℕ) (l : LeftValue) → IsLeft own out l →
     length (piece_frame sealed own l.to l.header (next_piece mtu l)) ≡ piece_frame_len own l.to (next_piece mtu l)
     → l.at ≡ 0 → begins_datagram (medium_on own) (piece_frame sealed own l.to l.header (next_piece mtu l)) ≡ true
 piece_begins own out mtu l left len first =
@@ -76,21 +76,21 @@ piece_begins own out mtu l left len first =
 
 -- TIES
 
-pub tied_same : (medium : Medium) (out : List PacketValue) (sent sent' : List (List ℕ)) → sent' ≡ sent → IsTied medium out sent out sent'
+pub tied_same : (medium : Medium) (out : List Outgoing) (sent sent' : List (List ℕ)) → sent' ≡ sent → IsTied medium out sent out sent'
 tied_same medium out sent sent' is = omega (arith, ap (count_by (begins_datagram medium)) is)
 
 -- a packet with its first frame, or a frame alone
-pub tied_frame : (medium : Medium) (out out' : List PacketValue) (sent sent' : List (List ℕ)) (frame : List ℕ) → sent' ≡ sent ++ frame ∷ []
+pub tied_frame : (medium : Medium) (out out' : List Outgoing) (sent sent' : List (List ℕ)) (frame : List ℕ) → sent' ≡ sent ++ frame ∷ []
     → count_v4 out' ≤ count_v4 out + worth (begins_datagram medium frame) → IsTied medium out sent out' sent'
 tied_frame medium out out' sent sent' frame is few =
     let more : count_by (begins_datagram medium) sent' ≡ count_by (begins_datagram medium) sent + worth (begins_datagram medium frame) =
     ap (count_by (begins_datagram medium)) is ∙ sum_by_push (λ (x : List ℕ). worth (begins_datagram medium x)) sent frame in
     omega (arith, more, few)
 
-pub tied_trans : (medium : Medium) (out mid out' : List PacketValue) (sent between sent' : List (List ℕ)) → IsTied medium out sent mid between →
+pub tied_trans : (medium : Medium) (out mid out' : List Outgoing) (sent between sent' : List (List ℕ)) → IsTied medium out sent mid between →
     IsTied medium mid between out' sent' → IsTied medium out sent out' sent'
 tied_trans medium out mid out' sent between sent' one two = omega (arith, one, two)
 
-pub tied_on : (own own' : HardwareAddress) (out out' : List PacketValue) (sent sent' : List (List ℕ)) → own' ≡ own →
+pub tied_on : (own own' : HardwareAddress) (out out' : List Outgoing) (sent sent' : List (List ℕ)) → own' ≡ own →
     IsTied (medium_on own) out sent out' sent' → IsTied (medium_on own') out sent out' sent'
 tied_on own own' out out' sent sent' same tied = subst (λ (h : HardwareAddress). IsTied (medium_on h) out sent out' sent') (sym same) tied

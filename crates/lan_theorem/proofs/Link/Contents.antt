@@ -12,7 +12,7 @@ use Rattle.interface_tables.proofs.Rebuilt.{Begins-take}
 use Rattle.interface_ingress.specs.Incoming.{IsIncoming}
 use Rattle.lan_frames.specs.Slices.{Slice, IsSliceOf, bytes_of_slice}
 use Rattle.lan_theorem.specs.Link.Made.{sealed, bytes_of, HandsMade}
-use Rattle.lan_theorem.specs.Link.Frames.{medium_on, IsSlice, IsWhole6, IsFrom, BringsFrom, AreOut}
+use Rattle.lan_theorem.specs.Link.Frames.{Outgoing, medium_on, IsSlice, IsWhole6, IsFrom, BringsFrom, AreOut}
 use Rattle.lan_theorem.proofs.Link.Behind.{with_len, packet_of_slice, piece_of_slice, count_of_slice, read_slice, read_v6, read_behind4, read_behind6}
 use Rattle.lan_theorem.proofs.Link.Hands.{hands_sent, whole_sent}
 
@@ -24,7 +24,7 @@ slice_of bytes s within = record {
   last = λ none. ap (λ (n : ℕ). s.at + n) (count_of_slice bytes s within) ∙ within.last none;
 }
 
-module _ (made : PayloadValue → Type 0) (hardware : HardwareAddress) (out : List PacketValue) where
+module _ (made : PayloadValue → Type 0) (hardware : HardwareAddress) (out : List Outgoing) where
   -- the frame of a slice, with padding, carries that slice
   pub slice_brings : (frame padding : List ℕ) → IsSlice (medium_on hardware) out frame → BringsFrom made out hardware (frame ++ padding)
   slice_brings frame padding f v is =

@@ -35,7 +35,7 @@ use Rattle.lan_frames.specs.Parts.{may_carry, is_ipv4, is_ipv6, is_uncut, payloa
 use Rattle.lan_frames.specs.declared.part.Part.{Part}
 use Rattle.lan_frames.specs.Slices.{IsLinkHeader, bytes_of_slice}
 use Rattle.lan_theorem.specs.Link.Made.{sealed, bytes_of}
-use Rattle.lan_theorem.specs.Link.Frames.{medium_on, IsSlice, IsWhole6, IsLinkHeader6, IsFrom, BringsFrom, AreOut}
+use Rattle.lan_theorem.specs.Link.Frames.{Outgoing, medium_on, IsSlice, IsWhole6, IsLinkHeader6, IsFrom, BringsFrom, AreOut}
 use Rattle.lan_theorem.specs.Link.Sides.{IsHostFrame, IsDamage}
 use Rattle.lan_theorem.proofs.Link.Behind.{sealed_both, with_len, value_with, count_of_slice, piece_of_slice, read_slice, read_v6, read_behind4, read_behind6}
 use Rattle.lan_theorem.proofs.Link.Behind.{ether_front, said, none_left}
@@ -165,7 +165,7 @@ IsBad v = IsBad4 v ⊎ IsBad6 v
 abbrev pub BringsBad : HardwareAddress → List ℕ → Type 0
 BringsBad hardware frame = (v : IncomingValue) → IsIncoming hardware sealed frame v → IsBad v
 
-bad_from : (made : PayloadValue → Type 0) (out : List PacketValue) (v : IncomingValue) → IsBad v → IsFrom made out v
+bad_from : (made : PayloadValue → Type 0) (out : List Outgoing) (v : IncomingValue) → IsBad v → IsFrom made out v
 bad_from made out v (inl b) =
     subst (IsFrom made out) (sym b.value_is)
     (inl (λ cut. absurd (let e : true ≡ false = sym cut ∙ refl in cc), hands_damaged made (Ip.Ipv4 b.header) b.payload b.bad))
@@ -173,7 +173,7 @@ bad_from made out v (inr b) =
     subst (IsFrom made out) (sym b.value_is)
     (inl (known_whole b.header b.payload (ap is_known_v6 b.bad.0), hands_damaged made (Ip.Ipv6 b.header) b.payload b.bad))
 
-module _ (made : PayloadValue → Type 0) (hardware : HardwareAddress) (out : List PacketValue) (all : AreOut made out) (frame : List ℕ) (part : Part)
+module _ (made : PayloadValue → Type 0) (hardware : HardwareAddress) (out : List Outgoing) (all : AreOut made out) (frame : List ℕ) (part : Part)
     (place word : ℕ) where
   module _ (f : IsSlice (medium_on hardware) out frame) (is_part : tcp_part (medium_on hardware) frame ≡ Some part) where
     abbrev w : List ℕ

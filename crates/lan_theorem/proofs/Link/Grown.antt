@@ -16,7 +16,7 @@ use Rattle.interface_tables.specs.declared.key.FragKey.TheVariants as Keys
 use Rattle.interface_ingress.specs.Incoming.{IncomingValue, Arp, Ip4, Ip6}
 use Rattle.interface_ingress.specs.Reassembled.{Slots}
 use Rattle.lan_theorem.specs.Link.Made.{WasMade, HandsMade, IsGoing}
-use Rattle.lan_theorem.specs.Link.Frames.{IsSentV4, IsSentV6, IsPieceOf, IsFrom, BringsFrom}
+use Rattle.lan_theorem.specs.Link.Frames.{Outgoing, IsSentV4, IsSentV6, IsPieceOf, IsFrom, BringsFrom}
 use Rattle.lan_theorem.specs.Link.Held.{IsOfKey, IsSlotOf}
 use Rattle.lan_theorem.specs.Link.Sides.{Grows, IsHostFrame, IsReceiver, AreSent}
 
@@ -27,7 +27,7 @@ module _ {X : Type 0} (P Q : X → Type 0) (grows : (x : X) → P x → Q x) whe
 
 -- WHAT WAS SENT
 
-module _ (out out' : List PacketValue) (grows : Grows out out') where
+module _ (out out' : List Outgoing) (grows : Grows out out') where
   pub sent4_grows : (v : Ipv4Repr) (bytes : List ℕ) → IsSentV4 out v bytes → IsSentV4 out' v bytes
   sent4_grows v bytes s = record {
     packet = s.packet;
@@ -140,7 +140,7 @@ module _ (made made' : PayloadValue → Type 0) (more : (x : PayloadValue) → m
     carries = elim going.carries [ inl none ↦ inl none | inr reads ↦ inr (reads.0, more _ reads.1) ];
   }
 
-  pub sent_grows : (first next : ℕ) (out : List PacketValue) → AreSent made first next out → AreSent made' first next out
+  pub sent_grows : (first next : ℕ) (out : List Outgoing) → AreSent made first next out → AreSent made' first next out
   sent_grows first next out sent = record {
     packets = λ p among. let is = sent.packets p among in record { going = going_grows p is.going; fits = is.fits };
     numbered = sent.numbered;

@@ -33,7 +33,7 @@ use Rattle.interface_ingress.proofs.FramesArrive.{payload-brought}
 use Rattle.interface_ingress.proofs.OneContent.{one-carried-content}
 use Rattle.interface_delivery.specs.Delivered.{NamesNoPorts}
 use Rattle.lan_theorem.specs.Link.Made.{sealed, IsWholeV6, CarriesNone, WasMade, HandsMade, BringsMade, bytes_of}
-use Rattle.lan_theorem.specs.Link.Frames.{IsSentV4, IsSentV6, IsFrom, IsOut, AreOut}
+use Rattle.lan_theorem.specs.Link.Frames.{Outgoing, IsSentV4, IsSentV6, IsFrom, IsOut, AreOut}
 use Rattle.lan_theorem.proofs.Link.Behind.{sealed_both}
 use Rattle.lan_theorem.proofs.Link.Whole6.{known_whole}
 
@@ -100,7 +100,7 @@ module _ (made : PayloadValue → Type 0) where
   whole_by p (inr reads) = named_whole p.header p.payload (bytes_of p) reads.0
 
   -- no packet of IPv6 that was sent is a piece
-  pub whole_sent : (out : List PacketValue) (v : Ipv6Repr) (bytes : List ℕ) → AreOut made out → IsSentV6 out v bytes → is_piece_v6 (Ipv6.normal v) bytes ≡ false
+  pub whole_sent : (out : List Outgoing) (v : Ipv6Repr) (bytes : List ℕ) → AreOut made out → IsSentV6 out v bytes → is_piece_v6 (Ipv6.normal v) bytes ≡ false
   whole_sent out v bytes all sent =
       let of_packet : IsWholeV6 (Ips.normal sent.packet.header) (bytes_of sent.packet) = whole_by sent.packet (all sent.packet sent.among).going.carries in
       let of_header : IsWholeV6 (Ip.Ipv6 (Ipv6.normal v)) (bytes_of sent.packet) =
@@ -138,7 +138,7 @@ module _ (made : PayloadValue → Type 0) where
     hands_by_key hands (Bytes bytes) is = tt
 
   -- what a host sent as IPv4, behind a header of its key
-  pub hands_v4 : (out : List PacketValue) (v h : Ipv4Repr) (bytes : List ℕ) → AreOut made out → IsSentV4 out v bytes →
+  pub hands_v4 : (out : List Outgoing) (v h : Ipv4Repr) (bytes : List ℕ) → AreOut made out → IsSentV4 out v bytes →
       Ipv4.key_of h ≡ Ipv4.key_of (Ipv4.normal v) → HandsMade made (Ip.Ipv4 h) bytes
   hands_v4 out v h bytes all sent same =
       let of_packet : HandsMade made (Ips.normal sent.packet.header) (bytes_of sent.packet) = hands_sent sent.packet (all sent.packet sent.among) in
@@ -168,7 +168,7 @@ module _ (made : PayloadValue → Type 0) where
       Begins-whole payload bytes (subst (λ (n : ℕ). Begins payload (drop n bytes)) zero slice.slice) (omega (arith, count, zero))
 
   -- a content that is no piece brings what was made
-  pub brings_whole : (out : List PacketValue) (v : IncomingValue) → AreOut made out → IsFrom made out v →
+  pub brings_whole : (out : List Outgoing) (v : IncomingValue) → AreOut made out → IsFrom made out v →
       ((link : Option EthernetRepr) (h : Ipv4Repr) (p : Ipv4Piece) (x : List ℕ) → v ≡ Ip4 link h p x → is_piece p ≡ false) → BringsMade made (Some v)
   brings_whole out (Arp link packet) all from whole = tt
   brings_whole out (Ip4 link h p x) all (inl made_whole) whole = made_whole.1

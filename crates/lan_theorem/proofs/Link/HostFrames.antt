@@ -14,7 +14,7 @@ use Rattle.lan_frames.specs.Carried.{packet_in, names_tcp_or_udp}
 use Rattle.lan_frames.specs.Cuts.{ipv4_part, first_piece, second_piece}
 use Rattle.lan_frames.specs.Parts.{may_carry, is_ipv4, payload_v4}
 use Rattle.lan_frames.specs.declared.part.Part.{Part}
-use Rattle.lan_theorem.specs.Link.Frames.{medium_on, IsWhole6, BringsFrom, AreOut}
+use Rattle.lan_theorem.specs.Link.Frames.{Outgoing, medium_on, IsWhole6, BringsFrom, AreOut}
 use Rattle.lan_theorem.specs.Link.Sides.{IsHostFrame}
 use Rattle.lan_theorem.proofs.Link.Behind.{ether_front, said, none_left}
 use Rattle.lan_theorem.proofs.Link.Contents.{slice_brings, whole6_brings}
@@ -23,7 +23,7 @@ use Rattle.lan_theorem.proofs.Link.Noise.{noise_names_neither, whole_where_none}
 
 -- HANDED OVER
 
-module _ (made : PayloadValue → Type 0) (hardware : HardwareAddress) (out : List PacketValue) where
+module _ (made : PayloadValue → Type 0) (hardware : HardwareAddress) (out : List Outgoing) where
   -- a host's frame, or a piece that the link made, with any padding
   pub host_frame_brings : (frame padding : List ℕ) → AreOut made out → IsHostFrame (medium_on hardware) out frame →
       BringsFrom made out hardware (frame ++ padding)
@@ -58,7 +58,7 @@ other_version v rest =
 number_other : (n : ℕ) → n ≡ 0x86dd → n == 0x0800 ≡ false
 number_other n is = rw is refl
 
-module _ (out : List PacketValue) (frame : List ℕ) where
+module _ (out : List Outgoing) (frame : List ℕ) where
   pub whole6_uncut : (medium : Medium) → IsWhole6 medium out frame → ipv4_part medium frame ≡ None
   whole6_uncut Medium.Ethernet f =
       let packet : List ℕ = Ipv6.written f.header ++ f.bytes in
@@ -75,7 +75,7 @@ no_part : (o : Option Part) (part : Part) → o ≡ None → o ≡ Some part →
 no_part o part none some = cc
 
 -- both pieces of a frame that can be cut are frames of its host's packets
-pub cut_is_host : (medium : Medium) (out : List PacketValue) (frame : List ℕ) (part : Part) (at : ℕ) → IsHostFrame medium out frame →
+pub cut_is_host : (medium : Medium) (out : List Outgoing) (frame : List ℕ) (part : Part) (at : ℕ) → IsHostFrame medium out frame →
     ipv4_part medium frame ≡ Some part → at ≤ part.len → at % 8 ≡ 0
     → IsHostFrame medium out (first_piece medium frame at) × IsHostFrame medium out (second_piece medium frame at)
 cut_is_host medium out frame part at (inl f) is within unit =

@@ -29,7 +29,7 @@ use Rattle.lan_frames.specs.declared.part.Part.{Part}
 use Rattle.lan_frames.proofs.Slicing.{first-slice, second-slice, ipv4_part-slice, IsSliceOf-front, IsSliceOf-back}
 use Rattle.lan_theorem.specs.Hosts.Damage.{BringsNoSegment, IsNoSegment}
 use Rattle.lan_theorem.specs.Link.Made.{sealed}
-use Rattle.lan_theorem.specs.Link.Frames.{medium_on, IsSlice, IsWhole6, IsLinkHeader6, AreOut}
+use Rattle.lan_theorem.specs.Link.Frames.{Outgoing, medium_on, IsSlice, IsWhole6, IsLinkHeader6, AreOut}
 use Rattle.lan_theorem.specs.Link.Sides.{IsHostFrame, BringsNone}
 use Rattle.lan_theorem.specs.Said.{Fact, ByteAt, EndsAt, IsOf, Says, Carries, IsSaid}
 use Rattle.lan_theorem.proofs.Link.Behind.{with_len, packet_of_slice, piece_of_slice, count_of_slice, read_slice, read_v6, read_behind4, read_behind6}
@@ -128,7 +128,7 @@ no_ports (Arp link packet) none = tt
 no_ports (Ip4 link h p x) none = inr none.0
 no_ports (Ip6 link h x) none = none.1
 
-whole6_none : (made : PayloadValue → Type 0) (out : List PacketValue) → AreOut made out → (medium : Medium) (frame : List ℕ) → IsWhole6 medium out frame →
+whole6_none : (made : PayloadValue → Type 0) (out : List Outgoing) → AreOut made out → (medium : Medium) (frame : List ℕ) → IsWhole6 medium out frame →
     (hardware : HardwareAddress) (padding : List ℕ) (v : IncomingValue) → medium_on hardware ≡ medium →
     IsIncoming hardware sealed (frame ++ padding) v → IsNoPiece v
 whole6_none made out all medium frame f hardware padding v same is =
@@ -139,7 +139,7 @@ whole6_none made out all medium frame f hardware padding v same is =
     (subst (λ (b : List ℕ). IsIncoming hardware sealed b v) joined is) in
     subst IsNoPiece (sym found.1) (whole_sent made out f.header f.bytes all f.sent)
 
-abbrev pub slice_frame : (out : List PacketValue) (medium : Medium) (frame : List ℕ) → IsSlice medium out frame → IsSliceFrame medium frame
+abbrev pub slice_frame : (out : List Outgoing) (medium : Medium) (frame : List ℕ) → IsSlice medium out frame → IsSliceFrame medium frame
 slice_frame out medium frame f =
     record {
       link = f.link;
@@ -156,7 +156,7 @@ slice_frame out medium frame f =
     }
 
 -- a host's frame is one of these two
-pub either_frame : (made : PayloadValue → Type 0) (out : List PacketValue) → AreOut made out → (medium : Medium) (frame : List ℕ) →
+pub either_frame : (made : PayloadValue → Type 0) (out : List Outgoing) → AreOut made out → (medium : Medium) (frame : List ℕ) →
     IsHostFrame medium out frame → IsSliceFrame medium frame ⊎ IsForeign medium frame
 either_frame made out all medium frame (inl f) = inl (slice_frame out medium frame f)
 either_frame made out all medium frame (inr (inl f)) =
@@ -347,7 +347,7 @@ more_said medium frames rest of fact s =
     record { place = s.place; frame = s.frame; frame_is = get_more frames rest s.place s.frame s.frame_is; carries = s.carries }
 
 -- each frame of a host says what its own frames say
-pub own_so : (made : PayloadValue → Type 0) (out : List PacketValue) → AreOut made out → (medium : Medium) (before frames : List (List ℕ)) →
+pub own_so : (made : PayloadValue → Type 0) (out : List Outgoing) → AreOut made out → (medium : Medium) (before frames : List (List ℕ)) →
     AllByRecursion (IsHostFrame medium out) frames →
     AllByRecursion (FrameSo (IsSaid medium (before ++ frames)) medium) frames
 own_so made out are medium before [] all = tt

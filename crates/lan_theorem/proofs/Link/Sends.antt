@@ -33,7 +33,7 @@ use Rattle.interface_delivery.proofs.Offered.{writes, readable, begun_half, left
 use Rattle.lan_hosts.specs.Origins.{begins_datagram}
 use Rattle.lan_hosts.specs.Port.{PortValue, PortMove}
 use Rattle.lan_theorem.specs.Link.Made.{sealed, CarriesNone, IsGoing}
-use Rattle.lan_theorem.specs.Link.Frames.{medium_on, IsOut}
+use Rattle.lan_theorem.specs.Link.Frames.{Outgoing, medium_on, IsOut}
 use Rattle.lan_theorem.specs.Link.Numbers.{and_v4, count_v4, AreNumbered, IsTied}
 use Rattle.lan_theorem.specs.Link.Sides.{Grows, WentOut, AreSent, IsHostFrame, IsOther, IsSound, IsSameKind, IsStation, IsLeft, IsSender}
 use Rattle.lan_theorem.proofs.Link.Asked.{IsAsked}
@@ -76,7 +76,7 @@ module _ (made : PayloadValue → Type 0) (i : InnerValue) where
         fits = w.sendable.header;
       }
 
-numbers_after : (first : ℕ) (out : List PacketValue) (i : InnerValue) (h : IpRepr) (x : PayloadValue) → AreNumbered first out i.ident →
+numbers_after : (first : ℕ) (out : List Outgoing) (i : InnerValue) (h : IpRepr) (x : PayloadValue) → AreNumbered first out i.ident →
     AreNumbered first (packet_of (numbered_header i h) x ∷ out) (after_header h i).ident
 numbers_after first out i (Ip.Ipv4 v) x are = (are, refl)
 numbers_after first out i (Ip.Ipv6 v) x are = are
@@ -118,14 +118,14 @@ to_address : (h : IpRepr) → Ips.IsValue h → IsIpAddress (destination_of h)
 to_address (Ip.Ipv4 v) is = is.destination
 to_address (Ip.Ipv6 v) is = is.destination
 
-same_sender : (made : PayloadValue → Type 0) (first : ℕ) (out : List PacketValue) (i i' : InnerValue) (l l' : Option LeftValue) (sent sent' : List (List ℕ)) →
+same_sender : (made : PayloadValue → Type 0) (first : ℕ) (out : List Outgoing) (i i' : InnerValue) (l l' : Option LeftValue) (sent sent' : List (List ℕ)) →
     i' ≡ i → l' ≡ l → sent' ≡ sent → IsSender made first i l sent out → IsSender made first i' l' sent' out
 same_sender made first out i i' l l' sent sent' a b c s =
     subst (λ (x : InnerValue). IsSender made first x l' sent' out) (sym a)
     (subst (λ (x : Option LeftValue). IsSender made first i x sent' out) (sym b) (subst (λ (x : List (List ℕ)). IsSender made first i l x out) (sym c) s))
 
 unchanged : (made : PayloadValue →
-    Type 0) (first most : ℕ) (out : List PacketValue) (i i' : InnerValue) (l l' : Option LeftValue) (sent sent' : List (List ℕ)) → i' ≡ i → l' ≡ l →
+    Type 0) (first most : ℕ) (out : List Outgoing) (i i' : InnerValue) (l l' : Option LeftValue) (sent sent' : List (List ℕ)) → i' ≡ i → l' ≡ l →
     sent' ≡ sent → IsSender made first i l sent out → WentOut made first most out sent i' l' sent'
 unchanged made first most out i i' l l' sent sent' a b c s = record {
   out_after = out;
@@ -136,7 +136,7 @@ unchanged made first most out i i' l l' sent sent' a b c s = record {
 }
 
 -- one more frame, of no packet that is new
-one_frame : (made : PayloadValue → Type 0) (first most : ℕ) (out : List PacketValue) (i' : InnerValue) (l' : Option LeftValue) (sent sent' : List (List ℕ))
+one_frame : (made : PayloadValue → Type 0) (first most : ℕ) (out : List Outgoing) (i' : InnerValue) (l' : Option LeftValue) (sent sent' : List (List ℕ))
     (frame : List ℕ) → sent' ≡ sent ++ frame ∷ [] → IsSender made first i' l' sent' out → WentOut made first most out sent i' l' sent'
 one_frame made first most out i' l' sent sent' frame is s = record {
   out_after = out;
@@ -146,20 +146,20 @@ one_frame made first most out i' l' sent sent' frame is s = record {
   sender = s;
 }
 
-left_grows : (hardware : HardwareAddress) (out out' : List PacketValue) (l : Option LeftValue) → Grows out out' → IfSome l (IsLeft hardware out) →
+left_grows : (hardware : HardwareAddress) (out out' : List Outgoing) (l : Option LeftValue) → Grows out out' → IfSome l (IsLeft hardware out) →
     IfSome l (IsLeft hardware out')
 left_grows hardware out out' None grows is = tt
 left_grows hardware out out' (Some l) grows is = record { sent = sent4_grows out out' grows l.header l.payload is.sent; half = is.half; to = is.to }
 
-pub left_to : (out : List PacketValue) (hardware hardware' : HardwareAddress) (l : Option LeftValue) → hardware' ≡ hardware → IfSome l (IsLeft hardware out) →
+pub left_to : (out : List Outgoing) (hardware hardware' : HardwareAddress) (l : Option LeftValue) → hardware' ≡ hardware → IfSome l (IsLeft hardware out) →
     IfSome l (IsLeft hardware' out)
 left_to out hardware hardware' l same is = subst (λ (h : HardwareAddress). IfSome l (IsLeft h out)) (sym same) is
 
 module _ (made : PayloadValue →
-    Type 0) (first : ℕ) (out : List PacketValue) (i : InnerValue) (l : Option LeftValue) (d : PortValue) (s : IsSender made first i l d.link.sent out) where
+    Type 0) (first : ℕ) (out : List Outgoing) (i : InnerValue) (l : Option LeftValue) (d : PortValue) (s : IsSender made first i l d.link.sent out) where
   -- the packet is of `out` from now on
   module _ (p : PacketValue) (going : IsGoing made p) where
-    abbrev more : List PacketValue
+    abbrev more : List Outgoing
     more = numbered i p ∷ out
 
     grows_more : Grows out more
@@ -424,14 +424,14 @@ module _ (made : PayloadValue →
 
 -- PIECES
 
-rest_by : (hardware : HardwareAddress) (out : List PacketValue) (mtu : ℕ) (c : LeftValue) (b : Bool) → IsLeft hardware out c
+rest_by : (hardware : HardwareAddress) (out : List Outgoing) (mtu : ℕ) (c : LeftValue) (b : Bool) → IsLeft hardware out c
     → IfSome (cond b (Some (record c { at = c.at + piece_room mtu })) None) IsHalfSent →
     IfSome (cond b (Some (record c { at = c.at + piece_room mtu })) None) (IsLeft hardware out)
 rest_by hardware out mtu c true left is = record { sent = left.sent; half = is; to = left.to }
 rest_by hardware out mtu c false left is = tt
 
 module _ (made : PayloadValue →
-    Type 0) (first : ℕ) (out : List PacketValue) (i : InnerValue) (c : LeftValue) (d : PortValue) (s : IsSender made first i (Some c) d.link.sent out) where
+    Type 0) (first : ℕ) (out : List Outgoing) (i : InnerValue) (c : LeftValue) (d : PortValue) (s : IsSender made first i (Some c) d.link.sent out) where
   piece_sender : (d' : PortValue) → Departs PortMove d i (departure_from i c) true d' → IsSender made first i (left_from i c) d'.link.sent out
   piece_sender d' departs =
       let caps : i.checksums ≡ sealed = s.sound.checksums in

@@ -18,7 +18,7 @@ use Rattle.interface_egress.specs.Fragments.{LeftValue, piece_room, next_piece}
 use Rattle.interface_delivery.specs.Delivered.{IsWritable}
 use Rattle.interface_delivery.proofs.Arrives.{length-written}
 use Rattle.lan_theorem.specs.Link.Made.{sealed, bytes_of}
-use Rattle.lan_theorem.specs.Link.Frames.{medium_on, IsSlice, IsWhole6}
+use Rattle.lan_theorem.specs.Link.Frames.{Outgoing, medium_on, IsSlice, IsWhole6}
 use Rattle.lan_theorem.specs.Link.Sides.{IsSameKind, IsHostFrame, IsLeft}
 use Rattle.lan_theorem.proofs.Link.Behind.{with_len}
 use Rattle.lan_theorem.proofs.Link.Links.{link4, link6}
@@ -41,7 +41,7 @@ front link w bytes l n m all header rest = omega (arith, all, header, rest, leng
 sent_len : (p : PacketValue) → IsWritable p → length (bytes_of p) ≡ payload_len p.payload
 sent_len p w = sym (length-written sealed p w) ∙ w.sendable.len
 
-module _ (own to : HardwareAddress) (same : IsSameKind own to) (out : List PacketValue) where
+module _ (own to : HardwareAddress) (same : IsSameKind own to) (out : List Outgoing) where
   -- the slice that begins the packet
   pub whole4 : (v : Ipv4Repr) (x : PayloadValue) → IsWritable (packet_of (Ip.Ipv4 v) x) →
       length (packet_frame sealed own to (packet_of (Ip.Ipv4 v) x)) ≡ packet_frame_len own to (packet_of (Ip.Ipv4 v) x)
@@ -115,7 +115,7 @@ ended : (a b : ℕ) → nat_lt a b ≡ false → b ≤ a
 ended a b none = grind (arith, nat_tests)
 
 -- the next piece of what is left, from where that begins
-pub piece_slice : (own : HardwareAddress) (out : List PacketValue) (mtu : ℕ) (l : LeftValue) → IsLeft own out l →
+pub piece_slice : (own : HardwareAddress) (out : List Outgoing) (mtu : ℕ) (l : LeftValue) → IsLeft own out l →
     length (piece_frame sealed own l.to l.header (next_piece mtu l)) ≡ piece_frame_len own l.to (next_piece mtu l)
     → (f : IsSlice (medium_on own) out (piece_frame sealed own l.to l.header (next_piece mtu l))) × (f.slice.at ≡ l.at)
 piece_slice own out mtu l left len =
@@ -153,7 +153,7 @@ piece_slice own out mtu l left len =
       refl,
     )
 
-pub piece_frame_is : (own : HardwareAddress) (out : List PacketValue) (mtu : ℕ) (l : LeftValue) → IsLeft own out l →
+pub piece_frame_is : (own : HardwareAddress) (out : List Outgoing) (mtu : ℕ) (l : LeftValue) → IsLeft own out l →
     length (piece_frame sealed own l.to l.header (next_piece mtu l)) ≡ piece_frame_len own l.to (next_piece mtu l)
     → IsHostFrame (medium_on own) out (piece_frame sealed own l.to l.header (next_piece mtu l))
 piece_frame_is own out mtu l left len = inl (piece_slice own out mtu l left len).0

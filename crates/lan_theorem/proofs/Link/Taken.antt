@@ -20,7 +20,7 @@ use Rattle.interface_ingress.specs.Reassembled.{Slots, PieceValue, is_piece, is_
 use Rattle.interface_ingress.specs.Reassembled.{given_up_at, place_of, place_in, with_part, with_piece, kept, bytes_at, rebuilt, released, uncut}
 use Rattle.interface_ingress.proofs.Settings.{brings_same}
 use Rattle.lan_theorem.specs.Link.Made.{sealed, BringsMade}
-use Rattle.lan_theorem.specs.Link.Frames.{IsFrom, BringsFrom}
+use Rattle.lan_theorem.specs.Link.Frames.{Outgoing, IsFrom, BringsFrom}
 use Rattle.lan_theorem.specs.Link.Held.{IsSlotOf, AreSlotsOf}
 use Rattle.lan_theorem.proofs.Link.Rebuilt.{IsRebuiltOf}
 use Rattle.lan_theorem.specs.Link.Numbers.{AreFew}
@@ -30,21 +30,21 @@ use Rattle.lan_theorem.proofs.Link.Slots.{all_more, changed_keeps, freed_is, exp
 use Rattle.lan_theorem.proofs.Link.Whole6.{kept_whole, whole_is}
 
 -- each content is of a frame that is brought to a host
-abbrev pub AreFrom : (PayloadValue → Type 0) → List PacketValue → Option IncomingValue → Type 0
+abbrev pub AreFrom : (PayloadValue → Type 0) → List Outgoing → Option IncomingValue → Type 0
 AreFrom made out None = Unit {0}
 AreFrom made out (Some v) = IsFrom made out v
 
 -- WHAT IS READ
 
 -- the content of a frame is what the frame brings
-pub content_from : (made : PayloadValue → Type 0) (out : List PacketValue) (hardware : HardwareAddress) (caps : ChecksumCapabilities) (frame : List ℕ)
+pub content_from : (made : PayloadValue → Type 0) (out : List Outgoing) (hardware : HardwareAddress) (caps : ChecksumCapabilities) (frame : List ℕ)
     (content : Option IncomingValue)
     → caps ≡ sealed → BringsFrom made out hardware frame → IsContent hardware caps frame content → AreFrom made out content
 content_from made out hardware caps frame None are brings is = tt
 content_from made out hardware caps frame (Some v) are brings is = brings v (subst (λ (c : ChecksumCapabilities). IsIncoming hardware c frame v) are is)
 
 -- no packet of IPv6 is a piece
-pub whole_from : (made : PayloadValue → Type 0) (out : List PacketValue) (content : Option IncomingValue) → AreFrom made out content → IsNoPieceV6 content
+pub whole_from : (made : PayloadValue → Type 0) (out : List Outgoing) (content : Option IncomingValue) → AreFrom made out content → IsNoPieceV6 content
 whole_from made out None from = tt
 whole_from made out (Some (Arp link packet)) from = tt
 whole_from made out (Some (Ip4 link h p x)) from = tt
@@ -52,12 +52,12 @@ whole_from made out (Some (Ip6 link h x)) (inl whole) = whole.0
 whole_from made out (Some (Ip6 link h x)) (inr piece) = absurd piece
 
 -- what a host takes in of it is so too
-pub taken_from : (made : PayloadValue → Type 0) (out : List PacketValue) (i : InnerValue) (content : Option IncomingValue) → AreFrom made out content →
+pub taken_from : (made : PayloadValue → Type 0) (out : List Outgoing) (i : InnerValue) (content : Option IncomingValue) → AreFrom made out content →
     AreFrom made out (taken_in i content)
 taken_from made out i None from = tt
 taken_from made out i (Some v) from = elim (is_taken_in i v) as (λ b. AreFrom made out (cond b (Some v) None)) [ true ↦ from | false ↦ tt ]
 
-module _ (made : PayloadValue → Type 0) (first : ℕ) (out : List PacketValue) (next : ℕ) (sent : AreSent made first next out) (few : AreFew out) where
+module _ (made : PayloadValue → Type 0) (first : ℕ) (out : List Outgoing) (next : ℕ) (sent : AreSent made first next out) (few : AreFew out) where
   -- SLOTS
 
   whole6_from : (link : Option EthernetRepr) (h : Ipv6Repr) (x : List ℕ) → IsFrom made out (Ip6 link h x) → is_piece_v6 h x ≡ false
@@ -206,7 +206,7 @@ module _ (made : PayloadValue → Type 0) (first : ℕ) (out : List PacketValue)
 
 -- OTHER STEPS OF THE RECEIVER
 
-module _ (made : PayloadValue → Type 0) (out : List PacketValue) where
+module _ (made : PayloadValue → Type 0) (out : List Outgoing) where
   -- a frame that isn't read
   pub skipped_keeps : (i : InnerValue) (slots : Slots) (frame : List ℕ) (rest : List (List ℕ)) → IsReceiver made out i slots (frame ∷ rest) →
       IsReceiver made out i slots rest
