@@ -4,13 +4,12 @@ use Rattle.net_base.specs.Device.{Move}
 use Rattle.ip_wire.specs.HardwareAddress.{HardwareAddress}
 use Rattle.ip_wire.specs.IpRepr.{IpRepr}
 use Rattle.ip_wire.specs.IpRepr.TheVariants as Ip
-use Rattle.ip_wire.specs.Ipv4Repr.{Ipv4Repr}
 use Rattle.socket_base.specs.Packet.{PacketValue}
 use Rattle.interface_tables.specs.Inner.{InnerValue}
-use Rattle.interface_egress.specs.Departure.{Departure, Asks, Whole}
+use Rattle.interface_egress.specs.Departure.{Departure, Asks, Whole, number_of}
 use Rattle.interface_egress.specs.Fragments.{LeftValue, departure_from}
 use Rattle.interface_egress.specs.Plan.{plan_of}
-use Rattle.interface_egress.specs.GoesOut.{GoesOut, PieceGoesOut, Asked, Went, WasCut, numbered, numbered_header, cut_of, after_header}
+use Rattle.interface_egress.specs.GoesOut.{GoesOut, PieceGoesOut, Asked, Went, WasCut, numbered, numbered_header, cut_header, cut_of, after_header}
 use Rattle.interface_egress.specs.Departing.{departure_by, SendsOnce, was_taken, host_after, left_behind, number_in, number_in_header, HasSettingsOf}
 use Rattle.interface_egress.specs.declared.way_out.Sent.{Sent}
 use Rattle.interface_egress.specs.declared.way_out.Sent.TheVariants as Outcome
@@ -42,13 +41,12 @@ module _ {D : Type 0} (moves : D → Move → D → Type 0) (old new : D) (i i' 
   went to Outcome.Dropped goes same = absurd goes
   went to Outcome.Busy goes same = absurd goes
 
-  was_cut : (to : HardwareAddress) (v : Ipv4Repr) (sent : Sent) → p.header ≡ Ip.Ipv4 v → WasCut moves old i l (cut_of i to v p) sent new i' l' →
-      Changes (Way.Cut to v) sent
-  was_cut to v Outcome.Gone is goes = (goes.0, goes.1 ∙ ap (λ (h : IpRepr). host_after (Way.Cut to v) Outcome.Gone h i) (sym is), goes.2)
-  was_cut to v Outcome.Refused is goes = (goes.0, goes.1, goes.2)
-  was_cut to v Outcome.Waits is goes = absurd goes
-  was_cut to v Outcome.Dropped is goes = absurd goes
-  was_cut to v Outcome.Busy is goes = absurd goes
+  was_cut : (to : HardwareAddress) (sent : Sent) → WasCut moves old i l (cut_of i to p) sent new i' l' → Changes (Way.Cut to) sent
+  was_cut to Outcome.Gone goes = goes
+  was_cut to Outcome.Refused goes = goes
+  was_cut to Outcome.Waits goes = absurd goes
+  was_cut to Outcome.Dropped goes = absurd goes
+  was_cut to Outcome.Busy goes = absurd goes
 
   pub changes : (busy : Bool) (sent : Sent) → GoesOut moves old i l p (plan_of i busy p.header) sent new i' l' → Changes (plan_of i busy p.header) sent
   changes busy sent =
@@ -59,7 +57,7 @@ module _ {D : Type 0} (moves : D → Move → D → Type 0) (old new : D) (i i' 
       (λ goes. subst (Changes Way.Busy) (sym goes.0) goes.1)
       (λ q may from goes. asked q sent goes.0 goes.1)
       (λ to short goes. went to sent goes.0 goes.1)
-      (λ to v header long short idle goes. was_cut to v sent header goes)
+      (λ to long short bare idle goes. was_cut to sent goes)
 
 pub piece_sends : {D : Type 0} (moves : D → Move → D → Type 0) (old new : D) (i : InnerValue) (l : LeftValue) (l' : Option LeftValue) (taken : Bool)
     → PieceGoesOut moves old i l taken new l' → SendsOnce moves old i (Some (departure_from i l)) taken new
@@ -86,6 +84,10 @@ header_number : (i : InnerValue) (h : IpRepr) → IfSome (number_in_header (numb
 header_number i (Ip.Ipv4 v) = refl
 header_number i (Ip.Ipv6 v) = tt
 
+cut_number : (i : InnerValue) (h : IpRepr) → number_of (cut_header i h) ≡ i.ident
+cut_number i (Ip.Ipv4 v) = refl
+cut_number i (Ip.Ipv6 v) = refl
+
 some_is : (x d : Departure) → (let o : Option Departure = Some x in o) ≡ Some d → x ≡ d
 some_is x d is = cc
 
@@ -96,4 +98,4 @@ next_number i busy p d =
     (λ is. absurd cc) (λ is. absurd cc) (λ is. absurd cc) (λ is. absurd cc)
     (λ q may from is. subst (HasNumber i) (some_is (Asks q) d is) tt)
     (λ to short is. subst (HasNumber i) (some_is (Whole to (numbered i p)) d is) (header_number i p.header))
-    (λ to v header long short idle is. subst (HasNumber i) (some_is (departure_from i (cut_of i to v p)) d is) refl)
+    (λ to long short bare idle is. subst (HasNumber i) (some_is (departure_from i (cut_of i to p)) d is) (cut_number i p.header))

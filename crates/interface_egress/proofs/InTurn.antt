@@ -10,7 +10,7 @@ use Rattle.interface_tables.proofs.Rebuilt.{IsSliceOf-piece_at, piece_at-then}
 use Rattle.interface_egress.specs.Fragments.{LeftValue, piece_room, next_piece, left_after, pieces_from}
 
 abbrev moved : ℕ → LeftValue → LeftValue
-moved mtu l = record l { at = l.at + piece_room mtu }
+moved mtu l = record l { at = l.at + piece_room l.header mtu }
 
 abbrev left_by : Bool → LeftValue → Option LeftValue
 left_by b l = cond b (Some l) None
@@ -26,18 +26,18 @@ abbrev LiesIn : List ℕ → Option LeftValue → Type 0
 LiesIn payload None = Unit {0}
 LiesIn payload (Some l) = (l.payload ≡ payload) × (l.at ≤ length payload)
 
-lies-after : (mtu : ℕ) (payload : List ℕ) (l : LeftValue) (b : Bool) → l.payload ≡ payload → nat_lt (l.at + piece_room mtu) (length l.payload) ≡ b →
+lies-after : (mtu : ℕ) (payload : List ℕ) (l : LeftValue) (b : Bool) → l.payload ≡ payload → nat_lt (l.at + piece_room l.header mtu) (length l.payload) ≡ b →
     LiesIn payload (left_by b (moved mtu l))
 lies-after mtu payload l true same is =
-    (same, rw (sym same) (let h : l.at + piece_room mtu < length l.payload = lt_by (l.at + piece_room mtu) (length l.payload) is in omega arith))
+    (same, rw (sym same) (let h : l.at + piece_room l.header mtu < length l.payload = lt_by (l.at + piece_room l.header mtu) (length l.payload) is in omega arith))
 lies-after mtu payload l false same is = tt
 
 slices-of : (mtu n : ℕ) (payload : List ℕ) (o : Option LeftValue) → LiesIn payload o → AllByRecursion (IsSliceOf payload) (pieces_from n mtu o)
 slices-of mtu n payload None lies = tt
 slices-of mtu zero payload (Some l) lies = tt
 slices-of mtu (suc n) payload (Some l) lies = (
-  subst (λ bytes. IsSliceOf bytes (next_piece mtu l)) lies.0 (IsSliceOf-piece_at (piece_room mtu) l.payload l.at (rw lies.0 lies.1)),
-  slices-of mtu n payload (left_after mtu l) (lies-after mtu payload l (nat_lt (l.at + piece_room mtu) (length l.payload)) lies.0 refl),
+  subst (λ bytes. IsSliceOf bytes (next_piece mtu l)) lies.0 (IsSliceOf-piece_at (piece_room l.header mtu) l.payload l.at (rw lies.0 lies.1)),
+  slices-of mtu n payload (left_after mtu l) (lies-after mtu payload l (nat_lt (l.at + piece_room l.header mtu) (length l.payload)) lies.0 refl),
 )
 
 pub slices : (mtu n : ℕ) (l : LeftValue) → l.at ≤ length l.payload → AllByRecursion (IsSliceOf l.payload) (pieces_from n mtu (Some l))
@@ -55,7 +55,7 @@ unit-after mtu l false whole = tt
 units-of : (mtu n : ℕ) (o : Option LeftValue) → IsUnit o → AllByRecursion (λ (p : Piece). p.offset % 8 ≡ 0) (pieces_from n mtu o)
 units-of mtu n None whole = tt
 units-of mtu zero (Some l) whole = tt
-units-of mtu (suc n) (Some l) whole = (whole, units-of mtu n (left_after mtu l) (unit-after mtu l (nat_lt (l.at + piece_room mtu) (length l.payload)) whole))
+units-of mtu (suc n) (Some l) whole = (whole, units-of mtu n (left_after mtu l) (unit-after mtu l (nat_lt (l.at + piece_room l.header mtu) (length l.payload)) whole))
 
 pub units : (mtu n : ℕ) (l : LeftValue) → l.at % 8 ≡ 0 → AllByRecursion (λ (p : Piece). p.offset % 8 ≡ 0) (pieces_from n mtu (Some l))
 units mtu n l whole = units-of mtu n (Some l) whole
@@ -68,26 +68,26 @@ bytes_left (Some l) = drop l.at l.payload
 -- so many pieces hold them
 abbrev Holds : ℕ → ℕ → Option LeftValue → Type 0
 Holds mtu n None = Unit {0}
-Holds mtu n (Some l) = length l.payload ≤ l.at + n * piece_room mtu
+Holds mtu n (Some l) = length l.payload ≤ l.at + n * piece_room l.header mtu
 
-holds-after : (mtu n : ℕ) (l : LeftValue) (b : Bool) → length l.payload ≤ l.at + suc n * piece_room mtu → Holds mtu n (left_by b (moved mtu l))
+holds-after : (mtu n : ℕ) (l : LeftValue) (b : Bool) → length l.payload ≤ l.at + suc n * piece_room l.header mtu → Holds mtu n (left_by b (moved mtu l))
 holds-after mtu n l true enough = omega arith
 holds-after mtu n l false enough = tt
 
-bytes-after : (mtu : ℕ) (l : LeftValue) (b : Bool) → nat_lt (l.at + piece_room mtu) (length l.payload) ≡ b →
-    bytes_left (left_by b (moved mtu l)) ≡ drop (l.at + piece_room mtu) l.payload
+bytes-after : (mtu : ℕ) (l : LeftValue) (b : Bool) → nat_lt (l.at + piece_room l.header mtu) (length l.payload) ≡ b →
+    bytes_left (left_by b (moved mtu l)) ≡ drop (l.at + piece_room l.header mtu) l.payload
 bytes-after mtu l true is = refl
-bytes-after mtu l false is = sym (drop_all (l.at + piece_room mtu) l.payload (le_by (l.at + piece_room mtu) (length l.payload) is))
+bytes-after mtu l false is = sym (drop_all (l.at + piece_room l.header mtu) l.payload (le_by (l.at + piece_room l.header mtu) (length l.payload) is))
 
 turn-of : (mtu n : ℕ) (o : Option LeftValue) → Holds mtu n o → flat_map (λ (p : Piece). p.bytes) (pieces_from n mtu o) ≡ bytes_left o
 turn-of mtu n None enough = refl
 turn-of mtu zero (Some l) enough = sym (drop_all l.at l.payload (omega arith))
 turn-of mtu (suc n) (Some l) enough =
-    let later : Bool = nat_lt (l.at + piece_room mtu) (length l.payload) in
+    let later : Bool = nat_lt (l.at + piece_room l.header mtu) (length l.payload) in
     ap (λ (rest : List ℕ). (next_piece mtu l).bytes ++ rest) (turn-of mtu n (left_after mtu l) (holds-after mtu n l later enough) ∙
     bytes-after mtu l later refl)
-    ∙ piece_at-then (piece_room mtu) l.payload l.at
+    ∙ piece_at-then (piece_room l.header mtu) l.payload l.at
 
-pub in_turn : (mtu n : ℕ) (l : LeftValue) → length l.payload ≤ l.at + n * piece_room mtu →
+pub in_turn : (mtu n : ℕ) (l : LeftValue) → length l.payload ≤ l.at + n * piece_room l.header mtu →
     flat_map (λ (p : Piece). p.bytes) (pieces_from n mtu (Some l)) ≡ drop l.at l.payload
 in_turn mtu n l enough = turn-of mtu n (Some l) enough

@@ -90,8 +90,8 @@ module _ {D : Type 0} (moves : D → Move → D → Type 0) (longest : ℕ) (old
         let d : Departure = Whole to (numbered i p) in
         same_sends d (short d refl) Outcome.Gone (after_header p.header i) l s t new other j j' k k' (went p d s new j k one.0 one.1)
         (went p d t other j' k' two.0 two.1)
-    one_way p (Way.Cut to v) short s t new other j j' k k' one two =
-        let c : LeftValue = cut_of i to v p in
+    one_way p (Way.Cut to) short s t new other j j' k k' one two =
+        let c : LeftValue = cut_of i to p in
         same_sends (departure_from i c) (short (departure_from i c) refl) Outcome.Gone (with_next_ident i) (left_from i c) s t new other j j' k k'
         (was_cut c s new j k one) (was_cut c t other j' k' two)
 

@@ -2,17 +2,16 @@
 use Rattle.std.proofs.Common.{◌≡◌, Bool, true, false, cond, Option, Some, None, IfSome, subst}
 use Rattle.net_base.specs.Device.{Move}
 use Rattle.ip_wire.specs.IpAddress.{IpAddress}
-use Rattle.ip_wire.specs.IpAddress.TheVariants as Address
 use Rattle.interface_tables.specs.Inner.{InnerValue, mtu_to}
 use Rattle.interface_egress.specs.Emits.{Emits}
-use Rattle.interface_egress.specs.Departure.{piece_frame, piece_frame_len}
+use Rattle.interface_egress.specs.Departure.{destination_in, piece_frame, piece_frame_len}
 use Rattle.interface_egress.specs.Fragments.{LeftValue, next_piece, left_after}
 use Rattle.interface_egress.specs.GoesOut.{PieceGoesOut}
 use Rattle.interface_egress.specs.declared.fragmenter.Cut.{Cut}
 
 abbrev pub WentBy : {D : Type 0} → (D → Move → D → Type 0) → D → D → Bool → Cut → LeftValue → Type 0
 WentBy moves old new sent cut l =
-    Emits moves old (piece_frame cut.checksums cut.from l.to l.header (next_piece cut.mtu l)) (piece_frame_len cut.from l.to (next_piece cut.mtu l)) sent new
+    Emits moves old (piece_frame cut.checksums cut.from l.to l.header (next_piece cut.mtu l)) (piece_frame_len cut.from l.to l.header (next_piece cut.mtu l)) sent new
 
 abbrev pub LeftBy : Bool → Option LeftValue → Cut → LeftValue → Type 0
 LeftBy sent after cut l = after ≡ cond sent (left_after cut.mtu l) (Some l)
@@ -22,10 +21,10 @@ cut_of_host i destination = record { from = i.hardware; mtu = mtu_to i destinati
 
 -- a datagram for this destination
 abbrev pub GoesTo : IpAddress → LeftValue → Type 0
-GoesTo destination l = destination ≡ Address.Ipv4 l.header.dst_addr
+GoesTo destination l = destination ≡ destination_in l.header
 
 one_joined : {D : Type 0} (moves : D → Move → D → Type 0) (old new : D) (i : InnerValue) (l : LeftValue) (after : Option LeftValue) (sent : Bool)
-    → WentBy moves old new sent (cut_of_host i (Address.Ipv4 l.header.dst_addr)) l → LeftBy sent after (cut_of_host i (Address.Ipv4 l.header.dst_addr)) l →
+    → WentBy moves old new sent (cut_of_host i (destination_in l.header)) l → LeftBy sent after (cut_of_host i (destination_in l.header)) l →
     PieceGoesOut moves old i l sent new after
 one_joined moves old new i l after true went left = (went, left)
 one_joined moves old new i l after false went left = (went, left)

@@ -1,6 +1,6 @@
 -- What is known where a packet has a plan.
 use Rattle.std.proofs.Common.{◌≡◌, ℕ, ◌+◌, ◌<◌, ◌≤◌, Bool, true, false, cond, if◌then◌else◌, Option, Some, None, is_some, refl, arith}
-use Rattle.std.specs.Prelude.{ℤ, int_lt, nat_le}
+use Rattle.std.specs.Prelude.{ℤ, int_lt, nat_le, ◌&&◌, not}
 use Rattle.std.proofs.lemmas.Bool.Decides.{nat_tests}
 use Rattle.ip_wire.specs.AddressTests.{is_multicast}
 use Rattle.ip_wire.specs.EthernetAddress.{EthernetAddress}
@@ -13,7 +13,6 @@ use Rattle.ip_wire.specs.IpAddress.TheVariants as Address
 use Rattle.ip_wire.specs.IpRepr.{IpRepr}
 use Rattle.ip_wire.specs.IpRepr.TheVariants as Ip
 use Rattle.ip_wire.specs.Ipv4Address.{Ipv4Address}
-use Rattle.ip_wire.specs.Ipv4Repr.{Ipv4Repr}
 use Rattle.socket_base.specs.Packet.{PacketValue, IsSendable}
 use Rattle.interface_tables.proofs.PathMtu.{mtu_within}
 use Rattle.interface_tables.specs.Inner.{mtu_to}
@@ -27,7 +26,7 @@ use Rattle.interface_tables.specs.declared.neighbor.Answer.{Answer}
 use Rattle.interface_tables.specs.declared.neighbor.Answer.TheVariants as Known
 use Rattle.interface_tables.specs.declared.neighbor.Neighbor.{Neighbor}
 use Rattle.interface_egress.specs.Fragments.{LeftValue}
-use Rattle.interface_egress.specs.Plan.{longest_cut, total_len, cut_if_idle, long_plan, ask_v4, ask_from, ask_on, may_ask, ask_if, plan_by, never_leaves}
+use Rattle.interface_egress.specs.Plan.{longest_cut, total_len, has_extensions, cut_if_idle, long_plan, ask_v4, ask_from, ask_on, may_ask, ask_if, plan_by, never_leaves}
 use Rattle.interface_egress.specs.Plan.{plan_of, IsPacket, CanBeCarried}
 use Rattle.interface_egress.specs.declared.frame.Question.{Question}
 use Rattle.interface_egress.specs.declared.frame.Question.TheVariants as Query
@@ -104,30 +103,26 @@ AsksFrom hardware (Query.Neighbor own source target) = hardware ≡ Hardware.Eth
 
 module _ (i : InnerValue) (busy : Bool) (h : IpRepr) (P : Plan →
     Type 0) (out : P Way.Drop) (none : P Way.NoRoute) (wait : P Way.Wait) (held : P Way.Busy) (ask : (q : Question) → MayAsk i → AsksFrom i.hardware q →
-    P (Way.Ask q)) (go : (to : HardwareAddress) → total_len h ≤ i.mtu → P (Way.Go to)) (cut : (to : HardwareAddress) (v : Ipv4Repr) → h ≡ Ip.Ipv4 v →
-    mtu_to i (Address.Ipv4 v.dst_addr) < 20 + v.payload_len → 20 + v.payload_len ≤ longest_cut → busy ≡ false → P (Way.Cut to v)) where
-  cut_by : (to : HardwareAddress) (v : Ipv4Repr) → h ≡ Ip.Ipv4 v → mtu_to i (Address.Ipv4 v.dst_addr) < 20 + v.payload_len →
-      20 + v.payload_len ≤ longest_cut → (b : Bool) → busy ≡ b →
-      P (cut_if_idle b to v)
-  cut_by to v is long short true e = held
-  cut_by to v is long short false e = cut to v is long short e
+    P (Way.Ask q)) (go : (to : HardwareAddress) → total_len h ≤ i.mtu → P (Way.Go to)) (cut : (to : HardwareAddress) →
+    mtu_to i (destination_of h) < total_len h → total_len h ≤ longest_cut → has_extensions h ≡ false → busy ≡ false → P (Way.Cut to)) where
+  cut_by : (to : HardwareAddress) → mtu_to i (destination_of h) < total_len h → total_len h ≤ longest_cut → has_extensions h ≡ false → (b : Bool) →
+      busy ≡ b → P (cut_if_idle b to)
+  cut_by to long short bare true e = held
+  cut_by to long short bare false e = cut to long short bare e
 
-  short_by : (to : HardwareAddress) (v : Ipv4Repr) → h ≡ Ip.Ipv4 v → mtu_to i (Address.Ipv4 v.dst_addr) < 20 + v.payload_len → (b : Bool) →
-      nat_le (20 + v.payload_len) longest_cut ≡ b →
-      P (cond b (cut_if_idle busy to v) Way.Drop)
-  short_by to v is long true e = cut_by to v is long (le_by (20 + v.payload_len) longest_cut e) busy refl
-  short_by to v is long false e = out
-
-  long_by : (to : HardwareAddress) (k : IpRepr) → h ≡ k → mtu_to i (destination_of k) < total_len k → P (long_plan busy to k)
-  long_by to (Ip.Ipv4 v) is long = short_by to v is long (nat_le (20 + v.payload_len) longest_cut) refl
-  long_by to (Ip.Ipv6 v) is long = out
+  long_by : (to : HardwareAddress) → mtu_to i (destination_of h) < total_len h → (a b : Bool) → nat_le (total_len h) longest_cut ≡ a →
+      has_extensions h ≡ b → P (cond (a && not b) (cut_if_idle busy to) Way.Drop)
+  long_by to long true false e bare = cut_by to long (le_by (total_len h) longest_cut e) bare busy refl
+  long_by to long true true e has = out
+  long_by to long false b e has = out
 
   to_by : (to : HardwareAddress) (b : Bool) → nat_le (total_len h) (mtu_to i (destination_of h)) ≡ b → P (cond b (Way.Go to) (long_plan busy to h))
   to_by to true e =
       let short = le_by (total_len h) (mtu_to i (destination_of h)) e in
       let within = mtu_within i.paths (destination_of h) i.moment i.mtu in
       go to (omega (arith, short, within))
-  to_by to false e = long_by to h refl (lt_by (total_len h) (mtu_to i (destination_of h)) e)
+  to_by to false e =
+      long_by to (lt_by (total_len h) (mtu_to i (destination_of h)) e) (nat_le (total_len h) longest_cut) (has_extensions h) refl refl
 
   ask_v4_by : (own : EthernetAddress) (o : Option Ipv4Address) (hop : Ipv4Address) → MayAsk i → i.hardware ≡ Hardware.Ethernet own → P (ask_v4 own o hop)
   ask_v4_by own None hop may from = none
@@ -173,19 +168,14 @@ none_by : (left : Option LeftValue) → is_some left ≡ false → left ≡ None
 none_by None is = refl
 none_by (Some l) is = absurd cc
 
-len_of_v4 : (h : IpRepr) (v : Ipv4Repr) → h ≡ Ip.Ipv4 v → 20 + v.payload_len ≤ longest_cut → total_len h ≤ 65535
-len_of_v4 h v is short = rw is (omega arith)
-
 pub planned_can_be_carried : (i : InnerValue) (left : Option LeftValue) (p : PacketValue) → i.mtu ≤ 65535 → IsPacket p →
     CanBeCarried i left p (plan_of i (is_some left) p.header)
 planned_can_be_carried i left p high is =
     plan_cases i (is_some left) p.header (CanBeCarried i left p) tt tt tt tt (λ q may from. tt)
     (λ to short. sendable_by p is (omega (arith, high, short)))
-    (λ to v header long short idle. record {
-      header = header;
-      sendable = sendable_by p is (len_of_v4 p.header v header short);
+    (λ to long short bare idle. record {
+      sendable = sendable_by p is (omega (arith, short));
       short = short;
-      long =
-          long;
+      long = long;
       idle = none_by left idle;
     })

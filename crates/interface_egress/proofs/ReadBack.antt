@@ -1,5 +1,5 @@
 -- What was sent in a frame is read in it.
-use Rattle.std.proofs.Common.{◌≡◌, ℕ, ◌+◌, ◌-◌, ◌%◌, ◌^◌, ◌<◌, ◌≤◌, Bool, IsTrue, List, [], ◌++◌, length, drop, take, length-append, append_assoc, refl, sym}
+use Rattle.std.proofs.Common.{◌≡◌, ℕ, ◌+◌, ◌-◌, ◌/◌, ◌%◌, ◌^◌, ◌<◌, ◌≤◌, Bool, IsTrue, List, [], ◌++◌, length, drop, take, length-append, append_assoc, refl, sym}
 use Rattle.std.proofs.Common.{subst, ap, ◌∙◌, arith}
 use Rattle.std.proofs.lemmas.List.{take_at, drop_at}
 use Rattle.std.specs.Int.{w16, to_be_bytes}
@@ -23,13 +23,21 @@ use Rattle.ip_wire.specs.IpRepr.{IpRepr}
 use Rattle.ip_wire.specs.IpRepr.TheVariants as Ip
 use Rattle.ip_wire.specs.Ipv4 as Ipv4
 use Rattle.ip_wire.specs.Ipv4Repr.{Ipv4Repr}
+use Rattle.ip_wire.specs.Ipv6 as Ipv6
+use Rattle.ip_wire.specs.Ipv6Repr.{Ipv6Repr}
+use Rattle.ip_wire.specs.Fragment as Fragment
+use Rattle.ip_wire.specs.declared.ipv6_fragment.repr.Ipv6FragmentRepr.{Ipv6FragmentRepr}
 use Rattle.ip_wire.proofs.EthernetLaws.{IsEthernet-written}
 use Rattle.ip_wire.proofs.ArpLaws.{IsArp-written}
 use Rattle.ip_packet.proofs.IpLaws.{IsIp-written}
 use Rattle.ip_packet.proofs.Ipv4Laws.{reads-back}
+use Rattle.ip_packet.proofs.Ipv6Laws.{IsIpv6-written, payload_of-written}
+use Rattle.ip_wire.proofs.FragmentLaws.{IsFragment-written}
 use Rattle.socket_base.specs.Packet.{PacketValue, IsSendable, payload_len, payload_written}
 use Rattle.interface_tables.specs.Pieces.{Piece}
-use Rattle.interface_egress.specs.Departure.{ether_for, packet_frame, piece_frame, arp_link, arp_frame}
+use Rattle.interface_egress.specs.Departure.{ether_for, ether_in, packet_frame, piece_v6, fragment_header, piece_header, piece_frame, arp_link, arp_frame}
+use Rattle.interface_egress.specs.declared.frame.CutHeader.{CutHeader}
+use Rattle.interface_egress.specs.declared.frame.CutHeader.TheVariants as Cut
 
 -- THE LINK HEADER
 
@@ -61,6 +69,14 @@ again : (h : IpRepr) → ether_of (ether_number (ether_for h)) ≡ ether_for h
 again (Ip.Ipv4 v) = refl
 again (Ip.Ipv6 v) = refl
 
+small_piece : (h : CutHeader) → ether_number (ether_in h) < 2 ^ 16
+small_piece (Cut.Ipv4 v) = omega arith
+small_piece (Cut.Ipv6 v number) = omega arith
+
+again_piece : (h : CutHeader) → ether_of (ether_number (ether_in h)) ≡ ether_in h
+again_piece (Cut.Ipv4 v) = refl
+again_piece (Cut.Ipv6 v number) = refl
+
 pub link-packet : (caps : ChecksumCapabilities) (own to : EthernetAddress) (p : PacketValue) (padding : List ℕ) → IsEthernetAddress own → IsEthernetAddress to
     → Ethernet.IsEthernet (packet_frame caps (Hardware.Ethernet own) (Hardware.Ethernet to) p ++ padding) (link_value own to (ether_for p.header))
     × (Ethernet.payload_of (packet_frame caps (Hardware.Ethernet own) (Hardware.Ethernet to) p ++ padding) ≡
@@ -69,15 +85,14 @@ link-packet caps own to p padding is_own is_to =
     framed (link_value own to (ether_for p.header)) (Ips.written (computes caps.ipv4) p.header ++ payload_written caps p.header p.payload) padding
     (record { source = is_own; destination = is_to; carried = small p.header }) (again p.header)
 
-pub link-piece : (caps : ChecksumCapabilities) (own to : EthernetAddress) (header : Ipv4Repr) (p : Piece) (padding : List ℕ) → IsEthernetAddress own →
+pub link-piece : (caps : ChecksumCapabilities) (own to : EthernetAddress) (header : CutHeader) (p : Piece) (padding : List ℕ) → IsEthernetAddress own →
     IsEthernetAddress to
-    → Ethernet.IsEthernet (piece_frame caps (Hardware.Ethernet own) (Hardware.Ethernet to) header p ++ padding) (link_value own to Ether.Ipv4)
+    → Ethernet.IsEthernet (piece_frame caps (Hardware.Ethernet own) (Hardware.Ethernet to) header p ++ padding) (link_value own to (ether_in header))
     × (Ethernet.payload_of (piece_frame caps (Hardware.Ethernet own) (Hardware.Ethernet to) header p ++ padding) ≡
     piece_frame caps Hardware.Ip Hardware.Ip header p ++ padding)
 link-piece caps own to header p padding is_own is_to =
-    framed (link_value own to Ether.Ipv4) (Ipv4.written_piece (computes caps.ipv4) (record header { payload_len = length p.bytes }) p.offset p.more ++
-    p.bytes) padding
-    (record { source = is_own; destination = is_to; carried = small (Ip.Ipv4 header) }) refl
+    framed (link_value own to (ether_in header)) (piece_header caps header p ++ p.bytes) padding
+    (record { source = is_own; destination = is_to; carried = small_piece header }) (again_piece header)
 
 pub arp-read : (packet : ArpRepr) (padding : List ℕ) → Arps.IsValue packet
     → Ethernet.IsEthernet (arp_frame packet ++ padding) (arp_link packet) × Arps.IsArp (Ethernet.payload_of (arp_frame packet ++ padding)) (Arps.normal packet)
@@ -119,9 +134,9 @@ packet-read caps tested p padding sendable value len both =
 pub piece-read : (caps : ChecksumCapabilities) (tested : Bool) (header : Ipv4Repr) (p : Piece) (padding : List ℕ) → Ipv4.IsValue header →
     20 + length p.bytes < 2 ^ 16 → p.offset < 2 ^ 16 → p.offset % 8 ≡ 0
     → (IsTrue tested → IsTrue (computes caps.ipv4))
-    → Ipv4.IsIpv4 tested (piece_frame caps Hardware.Ip Hardware.Ip header p ++ padding) (Ipv4.normal (record header { payload_len = length p.bytes }))
-    × (Ipv4.piece_of (piece_frame caps Hardware.Ip Hardware.Ip header p ++ padding) ≡ record { offset = p.offset; more = p.more })
-    × (Ipv4.payload_of (piece_frame caps Hardware.Ip Hardware.Ip header p ++ padding) ≡ p.bytes)
+    → Ipv4.IsIpv4 tested (piece_frame caps Hardware.Ip Hardware.Ip (Cut.Ipv4 header) p ++ padding) (Ipv4.normal (record header { payload_len = length p.bytes }))
+    × (Ipv4.piece_of (piece_frame caps Hardware.Ip Hardware.Ip (Cut.Ipv4 header) p ++ padding) ≡ record { offset = p.offset; more = p.more })
+    × (Ipv4.payload_of (piece_frame caps Hardware.Ip Hardware.Ip (Cut.Ipv4 header) p ++ padding) ≡ p.bytes)
 piece-read caps tested header p padding value fits short whole both =
     let v : Ipv4Repr = record header { payload_len = length p.bytes } in
     let w : List ℕ = Ipv4.written_piece (computes caps.ipv4) v p.offset p.more in
@@ -146,4 +161,41 @@ piece-read caps tested header p padding value fits short whole both =
           ∙ ap (λ (n : ℕ). take n (drop 20 (w ++ (p.bytes ++ padding)))) size
           ∙ ap (take (length p.bytes)) (drop_at w (p.bytes ++ padding) 20 len)
           ∙ take_at p.bytes padding (length p.bytes) refl,
+    )
+
+-- a place is of 13 bits
+same_place : (p : Piece) (number : ℕ) → p.offset < 2 ^ 16 →
+    Fragment.normal (record { frag_offset = p.offset / 8; more_frags = p.more; ident = number }) ≡ record {
+      frag_offset = p.offset / 8;
+      more_frags = p.more;
+      ident = number;
+    }
+same_place p number within =
+    ap (λ (n : ℕ). let v : Ipv6FragmentRepr = record { frag_offset = n; more_frags = p.more; ident = number } in v)
+    (let small : p.offset / 8 % 2 ^ 13 ≡ p.offset / 8 = omega (arith, within) in small)
+
+pub piece-read6 : (caps : ChecksumCapabilities) (header : Ipv6Repr) (number : ℕ) (p : Piece) (padding : List ℕ) → Ipv6.IsValue header →
+    number < 2 ^ 32 → 8 + length p.bytes < 2 ^ 16 → p.offset < 2 ^ 16
+    → Ipv6.IsIpv6 (piece_frame caps Hardware.Ip Hardware.Ip (Cut.Ipv6 header number) p ++ padding) (Ipv6.normal (piece_v6 header p))
+    × (Ipv6.payload_of (piece_frame caps Hardware.Ip Hardware.Ip (Cut.Ipv6 header number) p ++ padding) ≡
+    fragment_header header.next_header number p ++ p.bytes)
+    × Fragment.IsFragment (drop 2 (fragment_header header.next_header number p ++ p.bytes))
+    (record { frag_offset = p.offset / 8; more_frags = p.more; ident = number })
+piece-read6 caps header number p padding value small fits within =
+    let v : Ipv6Repr = piece_v6 header p in
+    let w : List ℕ = Ipv6.written v in
+    let front : List ℕ = fragment_header header.next_header number p in
+    let place : Ipv6FragmentRepr = record { frag_offset = p.offset / 8; more_frags = p.more; ident = number } in
+    let joined : ((w ++ front) ++ p.bytes) ++ padding ≡ w ++ ((front ++ p.bytes) ++ padding) =
+    ap (λ (bytes : List ℕ). bytes ++ padding) (append_assoc w front p.bytes) ∙ append_assoc w (front ++ p.bytes) padding in
+    let long : length (front ++ p.bytes) ≡ 8 + length p.bytes = omega (arith, length-append front p.bytes) in
+    let value_of_v : Ipv6.IsValue v =
+    record { source = value.source; destination = value.destination; protocol = omega arith; hops = value.hops } in
+    let enough : v.payload_len ≤ length ((front ++ p.bytes) ++ padding) = omega (arith, long, length-append (front ++ p.bytes) padding) in (
+      subst (λ (frame : List ℕ). Ipv6.IsIpv6 frame (Ipv6.normal v)) (sym joined) (IsIpv6-written v ((front ++ p.bytes) ++ padding) fits value_of_v enough),
+      ap Ipv6.payload_of joined
+          ∙ payload_of-written v ((front ++ p.bytes) ++ padding) fits value_of_v
+          ∙ take_at (front ++ p.bytes) padding (8 + length p.bytes) long,
+      subst (Fragment.IsFragment (drop 2 (front ++ p.bytes))) (same_place p number within)
+          (IsFragment-written place p.bytes (record { offset = omega (arith, within); identification = small })),
     )

@@ -13,7 +13,7 @@ pub asked_late : (i : InnerValue) (busy : Bool) (header : IpRepr) (question : Qu
 asked_late i busy header question =
     plan_cases i busy header (λ plan. plan ≡ Way.Ask question → int_lt i.moment i.neighbors.silent ≡ false)
     (λ is. absurd cc) (λ is. absurd cc) (λ is. absurd cc) (λ is. absurd cc) (λ q may from is. may) (λ to short is. absurd cc)
-    (λ to v header long short idle is. absurd cc)
+    (λ to long short bare idle is. absurd cc)
 
 pub numbers-differ : (first j k : ℕ) → j < 2 ^ 16 → k < 2 ^ 16 → (first + j) % 2 ^ 16 ≡ (first + k) % 2 ^ 16 → j ≡ k
 numbers-differ first j k low high same = omega arith

@@ -8,7 +8,7 @@ use Rattle.ip_wire.specs.IpRepr.TheVariants as Ip
 use Rattle.socket_base.specs.Packet.{PacketValue}
 use Rattle.interface_tables.specs.Inner.{InnerValue, with_request}
 use Rattle.interface_tables.specs.Neighbor.{CacheValue}
-use Rattle.interface_egress.specs.Departure.{Departure, Asks, Tells, Whole, Part, target_of}
+use Rattle.interface_egress.specs.Departure.{Departure, Asks, Tells, Whole, Part, target_of, number_of}
 use Rattle.interface_egress.specs.Fragments.{LeftValue, departure_from, left_from}
 use Rattle.interface_egress.specs.GoesOut.{Departs, numbered, cut_of}
 use Rattle.interface_egress.specs.declared.way_out.Sent.{Sent}
@@ -20,7 +20,7 @@ use Rattle.interface_egress.specs.declared.plan.Plan.TheVariants as Way
 abbrev pub departure_by : InnerValue → PacketValue → Plan → Option Departure
 departure_by i p (Way.Ask question) = Some (Asks question)
 departure_by i p (Way.Go to) = Some (Whole to (numbered i p))
-departure_by i p (Way.Cut to v) = Some (departure_from i (cut_of i to v p))
+departure_by i p (Way.Cut to) = Some (departure_from i (cut_of i to p))
 departure_by i p _ = None
 
 -- how many bytes a frame of the medium has before its packet
@@ -28,10 +28,15 @@ abbrev pub link_room : HardwareAddress → ℕ
 link_room Hardware.Ip = 0
 link_room (Hardware.Ethernet own) = 14
 
--- the next identification
-abbrev pub ident_after : Sent → IpRepr → ℕ → ℕ
-ident_after Outcome.Gone (Ip.Ipv4 v) ident = (ident + 1) % 2 ^ 16
-ident_after _ header ident = ident
+-- the next identification: a packet of IPv4 takes one, and one of IPv6 that is cut
+abbrev pub ident_behind : Plan → IpRepr → ℕ → ℕ
+ident_behind (Way.Cut to) header ident = (ident + 1) % 2 ^ 16
+ident_behind plan (Ip.Ipv4 v) ident = (ident + 1) % 2 ^ 16
+ident_behind plan (Ip.Ipv6 v) ident = ident
+
+abbrev pub ident_after : Plan → Sent → IpRepr → ℕ → ℕ
+ident_after plan Outcome.Gone header ident = ident_behind plan header ident
+ident_after plan _ header ident = ident
 
 -- the neighbours behind a request that went, with its silence
 abbrev pub neighbors_after : Plan → Sent → InnerValue → CacheValue
@@ -44,11 +49,11 @@ silent_after plan sent i = (neighbors_after plan sent i).silent
 
 -- the host behind a packet's way out: all stays but its next identification, its silence, and which neighbours it looks for
 abbrev pub host_after : Plan → Sent → IpRepr → InnerValue → InnerValue
-host_after plan sent header i = record i { ident = ident_after sent header i.ident; neighbors = neighbors_after plan sent i }
+host_after plan sent header i = record i { ident = ident_after plan sent header i.ident; neighbors = neighbors_after plan sent i }
 
 -- what is left to send
 abbrev pub left_behind : InnerValue → PacketValue → Plan → Sent → Option LeftValue → Option LeftValue
-left_behind i p (Way.Cut to v) Outcome.Gone l = left_from i (cut_of i to v p)
+left_behind i p (Way.Cut to) Outcome.Gone l = left_from i (cut_of i to p)
 left_behind i p plan sent l = l
 
 -- AT THE DEVICE
@@ -73,7 +78,7 @@ abbrev pub number_in : Departure → Option ℕ
 number_in (Asks question) = None
 number_in (Tells packet) = None
 number_in (Whole to p) = number_in_header p.header
-number_in (Part to header piece) = Some header.ident
+number_in (Part to header piece) = Some (number_of header)
 
 -- SETTINGS
 

@@ -1,5 +1,5 @@
 -- The frames that leave a host, as bytes.
-use Rattle.std.specs.Prelude.{ℕ, ◌+◌, List, [], ◌∷◌, ◌++◌, length, drop, replicate, Some}
+use Rattle.std.specs.Prelude.{ℕ, ◌+◌, ◌/◌, List, [], ◌∷◌, ◌++◌, length, drop, replicate, Some}
 use Rattle.net_base.specs.Capabilities.{computes}
 use Rattle.net_base.specs.ChecksumCapabilities.{ChecksumCapabilities}
 use Rattle.control_wire.specs.Icmpv6 as Icmpv6
@@ -19,27 +19,32 @@ use Rattle.ip_wire.specs.HardwareAddress.TheVariants as Hardware
 use Rattle.ip_wire.specs.Ip as Ips
 use Rattle.ip_wire.specs.Ip.{header_len_in}
 use Rattle.ip_wire.specs.IpAddress.{IpAddress}
+use Rattle.ip_wire.specs.Fragment as Fragment
 use Rattle.ip_wire.specs.IpAddress.TheVariants as Address
+use Rattle.ip_wire.specs.IpProtocol.{IpProtocol}
 use Rattle.ip_wire.specs.IpProtocol.TheVariants as Protocol
 use Rattle.ip_wire.specs.IpRepr.{IpRepr}
 use Rattle.ip_wire.specs.IpRepr.TheVariants as Ip
 use Rattle.ip_wire.specs.Ipv4.{written_piece}
 use Rattle.ip_wire.specs.Ipv4Address.{Ipv4Address}
-use Rattle.ip_wire.specs.Ipv4Repr.{Ipv4Repr}
+use Rattle.ip_wire.specs.Ipv6 as Ipv6
 use Rattle.ip_wire.specs.Ipv6Address.{Ipv6Address}
 use Rattle.ip_wire.specs.Ipv6Repr.{Ipv6Repr}
+use Rattle.ip_wire.specs.Protocol.{protocol_number}
 use Rattle.socket_base.specs.Packet.{PacketValue, ControlV6, packet_of, payload_len, payload_written}
 use Rattle.interface_tables.specs.Pieces as Pieces
+use Rattle.interface_egress.specs.declared.frame.CutHeader.{CutHeader}
+use Rattle.interface_egress.specs.declared.frame.CutHeader.TheVariants as Cut
 use Rattle.interface_egress.specs.declared.frame.Question.{Question}
 use Rattle.interface_egress.specs.declared.frame.Question.TheVariants as Query
 
--- What leaves in one frame: a question for a neighbour, an ARP packet that answers one, a packet, or a piece of an IPv4
--- datagram with this header. The hardware address is that of the frame's receiver.
+-- What leaves in one frame: a question for a neighbour, an ARP packet that answers one, a packet, or a piece of a datagram
+-- with this header. The hardware address is that of the frame's receiver.
 pub data Departure : Type 0 where
   Asks : Question → Departure
   Tells : ArpRepr → Departure
   Whole : HardwareAddress → PacketValue → Departure
-  Part : HardwareAddress → Ipv4Repr → Pieces.Piece → Departure
+  Part : HardwareAddress → CutHeader → Pieces.Piece → Departure
 
 -- THE LINK HEADER
 
@@ -68,13 +73,49 @@ packet_frame caps from to p =
 abbrev pub packet_frame_len : HardwareAddress → HardwareAddress → PacketValue → ℕ
 packet_frame_len from to p = link_len from to + (header_len_in p.header + payload_len p.payload)
 
--- a piece of a datagram with this header (RFC 791, section 3.2): the header has length, offset and more-fragments of the piece
-abbrev pub piece_frame : ChecksumCapabilities → HardwareAddress → HardwareAddress → Ipv4Repr → Pieces.Piece → List ℕ
-piece_frame caps from to header p =
-    link_header from to Ether.Ipv4 ++ (written_piece (computes caps.ipv4) (record header { payload_len = length p.bytes }) p.offset p.more ++ p.bytes)
+-- PIECES
 
-abbrev pub piece_frame_len : HardwareAddress → HardwareAddress → Pieces.Piece → ℕ
-piece_frame_len from to p = link_len from to + (20 + length p.bytes)
+-- the family, and the destination, of a datagram that goes in pieces
+abbrev pub ether_in : CutHeader → EthernetProtocol
+ether_in (Cut.Ipv4 v) = Ether.Ipv4
+ether_in (Cut.Ipv6 v number) = Ether.Ipv6
+
+abbrev pub destination_in : CutHeader → IpAddress
+destination_in (Cut.Ipv4 v) = Address.Ipv4 v.dst_addr
+destination_in (Cut.Ipv6 v number) = Address.Ipv6 v.dst_addr
+
+-- its identification
+abbrev pub number_of : CutHeader → ℕ
+number_of (Cut.Ipv4 v) = v.ident
+number_of (Cut.Ipv6 v number) = number
+
+-- how many bytes stand before a piece's bytes
+abbrev pub piece_header_len : CutHeader → ℕ
+piece_header_len (Cut.Ipv4 v) = 20
+piece_header_len (Cut.Ipv6 v number) = 48
+
+-- the IPv6 header of a piece: it has the piece's length, and names the fragment header
+abbrev pub piece_v6 : Ipv6Repr → Pieces.Piece → Ipv6Repr
+piece_v6 header p = record header { next_header = Protocol.Ipv6Frag; payload_len = 8 + length p.bytes }
+
+-- the fragment header of a piece (RFC 8200, section 4.5): what the datagram carries, a reserved byte, offset, more-fragments and
+-- identification
+abbrev pub fragment_header : IpProtocol → (number : ℕ) → Pieces.Piece → List ℕ
+fragment_header carried number p =
+    protocol_number carried ∷ 0 ∷ Fragment.written (record { frag_offset = p.offset / 8; more_frags = p.more; ident = number })
+
+-- The headers of a piece. That of IPv4 has length, offset and more-fragments of the piece (RFC 791, section 3.2); behind that of
+-- IPv6 stands the fragment header.
+abbrev pub piece_header : ChecksumCapabilities → CutHeader → Pieces.Piece → List ℕ
+piece_header caps (Cut.Ipv4 v) p = written_piece (computes caps.ipv4) (record v { payload_len = length p.bytes }) p.offset p.more
+piece_header caps (Cut.Ipv6 v number) p = Ipv6.written (piece_v6 v p) ++ fragment_header v.next_header number p
+
+-- a piece of a datagram with this header
+abbrev pub piece_frame : ChecksumCapabilities → HardwareAddress → HardwareAddress → CutHeader → Pieces.Piece → List ℕ
+piece_frame caps from to header p = link_header from to (ether_in header) ++ (piece_header caps header p ++ p.bytes)
+
+abbrev pub piece_frame_len : HardwareAddress → HardwareAddress → CutHeader → Pieces.Piece → ℕ
+piece_frame_len from to header p = link_len from to + (piece_header_len header + length p.bytes)
 
 -- QUESTIONS AND ANSWERS FOR NEIGHBOURS
 
@@ -138,4 +179,4 @@ abbrev pub len_from : HardwareAddress → Departure → ℕ
 len_from own (Asks question) = question_len question
 len_from own (Tells packet) = 42
 len_from own (Whole to p) = packet_frame_len own to p
-len_from own (Part to header p) = piece_frame_len own to p
+len_from own (Part to header p) = piece_frame_len own to header p

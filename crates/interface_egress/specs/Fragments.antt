@@ -1,18 +1,17 @@
--- A datagram that is half sent (RFC 791, section 3.2).
+-- A datagram that is half sent (RFC 791, section 3.2; RFC 8200, section 4.5).
 use Rattle.std.specs.Prelude.{ℕ, ◌+◌, ◌-◌, ◌*◌, ◌/◌, suc, zero, nat_lt, if◌then◌else◌, List, [], ◌∷◌, length, take, Option, None, Some}
 use Rattle.ip_wire.specs.HardwareAddress.{HardwareAddress}
-use Rattle.ip_wire.specs.Ipv4Repr.{Ipv4Repr}
 use Rattle.net_base.specs.ChecksumCapabilities.{ChecksumCapabilities}
 use Rattle.socket_base.specs.Packet.{PacketValue, payload_written}
-use Rattle.ip_wire.specs.IpAddress.TheVariants as Address
 use Rattle.interface_tables.specs.Inner.{InnerValue, mtu_to}
 use Rattle.interface_tables.specs.Pieces.{Piece, piece_at}
-use Rattle.interface_egress.specs.Departure.{Departure, Part}
+use Rattle.interface_egress.specs.Departure.{Departure, Part, destination_in, piece_header_len}
 use Rattle.interface_egress.specs.declared.fragmenter.Left.{Left}
+use Rattle.interface_egress.specs.declared.frame.CutHeader.{CutHeader}
 
 -- its header, where its frames go, its payload, and how many bytes of that went
 pub record LeftValue : Type 0 where
-  pub header : Ipv4Repr
+  pub header : CutHeader
   pub to : HardwareAddress
   pub payload : List ℕ
   pub at : ℕ
@@ -26,20 +25,20 @@ left_value None bytes = None
 left_value (Some l) bytes = Some (half_sent l bytes)
 
 -- a packet of which nothing went yet, as a datagram with this header
-abbrev pub begun : ChecksumCapabilities → HardwareAddress → Ipv4Repr → PacketValue → LeftValue
+abbrev pub begun : ChecksumCapabilities → HardwareAddress → CutHeader → PacketValue → LeftValue
 begun caps to header p = record { header = header; to = to; payload = payload_written caps p.header p.payload; at = 0 }
 
 -- how long a packet of its next piece may be, as the path to its destination is known then
 abbrev pub cut_mtu : InnerValue → LeftValue → ℕ
-cut_mtu i l = mtu_to i (Address.Ipv4 l.header.dst_addr)
+cut_mtu i l = mtu_to i (destination_in l.header)
 
--- the most payload of a piece behind a header of 20 bytes, in whole units of 8 bytes
-abbrev pub piece_room : ℕ → ℕ
-piece_room mtu = (mtu - 20) / 8 * 8
+-- the most payload of a piece behind its headers, in whole units of 8 bytes
+abbrev pub piece_room : CutHeader → (mtu : ℕ) → ℕ
+piece_room header mtu = (mtu - piece_header_len header) / 8 * 8
 
 -- the piece that goes next, where the longest packet is of this length
 abbrev pub next_piece : ℕ → LeftValue → Piece
-next_piece mtu l = piece_at (piece_room mtu) l.payload l.at
+next_piece mtu l = piece_at (piece_room l.header mtu) l.payload l.at
 
 abbrev pub next_departure : ℕ → LeftValue → Departure
 next_departure mtu l = Part l.to l.header (next_piece mtu l)
@@ -47,7 +46,7 @@ next_departure mtu l = Part l.to l.header (next_piece mtu l)
 -- what is left behind it
 abbrev pub left_after : ℕ → LeftValue → Option LeftValue
 left_after mtu l =
-    if nat_lt (l.at + piece_room mtu) (length l.payload) then Some (record l { at = l.at + piece_room mtu }) else None
+    if nat_lt (l.at + piece_room l.header mtu) (length l.payload) then Some (record l { at = l.at + piece_room l.header mtu }) else None
 
 -- the piece that goes next from a host, and what is left behind it
 abbrev pub piece_from : InnerValue → LeftValue → Piece
@@ -61,7 +60,7 @@ left_from i l = left_after (cut_mtu i l) l
 
 -- the same of the place in it
 abbrev pub rest_of : ℕ → Left → Option Left
-rest_of mtu l = if nat_lt (l.at + piece_room mtu) l.len then Some (record l { at = l.at + piece_room mtu }) else None
+rest_of mtu l = if nat_lt (l.at + piece_room l.header mtu) l.len then Some (record l { at = l.at + piece_room l.header mtu }) else None
 
 -- the next pieces of what is left, so many of them at most
 abbrev pub pieces_from : ℕ → ℕ → Option LeftValue → List Piece

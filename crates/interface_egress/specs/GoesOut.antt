@@ -1,5 +1,5 @@
--- What becomes of a packet on its way out, at a device that may refuse a frame (RFC 791, section 3.2; RFC 1122, section
--- 2.3.2; RFC 4861, section 7.2.2).
+-- What becomes of a packet on its way out, at a device that may refuse a frame (RFC 791, section 3.2; RFC 8200, section 4.5;
+-- RFC 1122, section 2.3.2; RFC 4861, section 7.2.2).
 use Rattle.std.specs.Prelude.{◌≡◌, ℕ, Bool, true, false, List, Option, Some}
 use Rattle.net_base.specs.Device.{Move}
 use Rattle.ip_wire.specs.HardwareAddress.{HardwareAddress}
@@ -11,6 +11,8 @@ use Rattle.interface_tables.specs.Inner.{InnerValue, with_next_ident, with_reque
 use Rattle.interface_egress.specs.Emits.{Emits}
 use Rattle.interface_egress.specs.Departure.{Departure, Asks, Whole, frame_from, len_from, target_of}
 use Rattle.interface_egress.specs.Fragments.{LeftValue, begun, departure_from, left_from}
+use Rattle.interface_egress.specs.declared.frame.CutHeader.{CutHeader}
+use Rattle.interface_egress.specs.declared.frame.CutHeader.TheVariants as Cut
 use Rattle.interface_egress.specs.declared.frame.Question.{Question}
 use Rattle.interface_egress.specs.declared.way_out.Sent.{Sent}
 use Rattle.interface_egress.specs.declared.way_out.Sent.TheVariants as Outcome
@@ -28,7 +30,7 @@ frame_len_of i d = len_from i.hardware d
 abbrev pub Departs : {D : Type 0} → (D → Move → D → Type 0) → D → InnerValue → Departure → Bool → D → Type 0
 Departs moves old i d gone new = Emits moves old (frame_of i d) (frame_len_of i d) gone new
 
--- NUMBERS: every IPv4 datagram takes the next identification, and may be cut
+-- NUMBERS: every IPv4 datagram takes the next identification, and may be cut; one of IPv6 takes it where it is cut
 
 abbrev pub numbered_v4 : InnerValue → Ipv4Repr → Ipv4Repr
 numbered_v4 i v = record v { ident = i.ident; dont_frag = false }
@@ -40,14 +42,18 @@ numbered_header i (Ip.Ipv6 v) = Ip.Ipv6 v
 abbrev pub numbered : InnerValue → PacketValue → PacketValue
 numbered i p = record p { header = numbered_header i p.header }
 
--- the host behind a packet that went
+-- the host behind a packet that went whole
 abbrev pub after_header : IpRepr → InnerValue → InnerValue
 after_header (Ip.Ipv4 v) i = with_next_ident i
 after_header (Ip.Ipv6 v) i = i
 
 -- a datagram of which the first piece is to go
-abbrev pub cut_of : InnerValue → HardwareAddress → Ipv4Repr → PacketValue → LeftValue
-cut_of i to v p = begun i.checksums to (numbered_v4 i v) (numbered i p)
+abbrev pub cut_header : InnerValue → IpRepr → CutHeader
+cut_header i (Ip.Ipv4 v) = Cut.Ipv4 (numbered_v4 i v)
+cut_header i (Ip.Ipv6 v) = Cut.Ipv6 v i.ident
+
+abbrev pub cut_of : InnerValue → HardwareAddress → PacketValue → LeftValue
+cut_of i to p = begun i.checksums to (cut_header i p.header) (numbered i p)
 
 -- THE WAY OUT
 
@@ -83,7 +89,7 @@ GoesOut moves old i l p Way.Wait sent new i' l' = (sent ≡ Outcome.Waits) × St
 GoesOut moves old i l p Way.Busy sent new i' l' = (sent ≡ Outcome.Busy) × Stays old i l new i' l'
 GoesOut moves old i l p (Way.Ask question) sent new i' l' = Asked moves old i question sent new i' × (l' ≡ l)
 GoesOut moves old i l p (Way.Go to) sent new i' l' = Went moves old i p.header (Whole to (numbered i p)) sent new i' × (l' ≡ l)
-GoesOut moves old i l p (Way.Cut to v) sent new i' l' = WasCut moves old i l (cut_of i to v p) sent new i' l'
+GoesOut moves old i l p (Way.Cut to) sent new i' l' = WasCut moves old i l (cut_of i to p) sent new i' l'
 
 -- the next piece of a datagram that is half sent, which has its number already
 abbrev pub PieceGoesOut : {D : Type 0} → (D → Move → D → Type 0) → D → InnerValue → LeftValue → Bool → D → Option LeftValue → Type 0

@@ -1,5 +1,5 @@
 -- What is to be done with a packet that wants to go out.
-use Rattle.std.specs.Prelude.{◌≡◌, ℕ, ◌+◌, ◌<◌, ◌≤◌, nat_le, ◌||◌, not, Bool, false, if◌then◌else◌, Option, None, Some}
+use Rattle.std.specs.Prelude.{◌≡◌, ℕ, ◌+◌, ◌<◌, ◌≤◌, nat_le, ◌&&◌, ◌||◌, not, Bool, false, if◌then◌else◌, Option, None, Some}
 use Rattle.ip_wire.specs.AddressTests.{is_unspecified}
 use Rattle.ip_wire.specs.HardwareAddress.{HardwareAddress}
 use Rattle.ip_wire.specs.HardwareAddress.TheVariants as Hardware
@@ -10,8 +10,9 @@ use Rattle.ip_wire.specs.IpAddress.TheVariants as Address
 use Rattle.ip_wire.specs.IpRepr.{IpRepr}
 use Rattle.ip_wire.specs.IpRepr.TheVariants as Ip
 use Rattle.ip_wire.specs.Ipv4Address.{Ipv4Address}
-use Rattle.ip_wire.specs.Ipv4Repr.{Ipv4Repr}
 use Rattle.ip_wire.specs.EthernetAddress.{EthernetAddress}
+use Rattle.ip_wire.specs.Protocol.{protocol_number, protocol_of}
+use Rattle.ipv6_headers.specs.Headers.{is_extension}
 use Rattle.socket_base.specs.Packet.{PacketValue, PayloadFits, IsSendable, payload_len}
 use Rattle.interface_tables.specs.Inner.{InnerValue, is_foreign_loopback, may_come_from, link_address, mtu_to}
 use Rattle.interface_tables.specs.Source.{source_v4, source_v6, source_for}
@@ -29,13 +30,21 @@ longest_cut = 4096
 abbrev pub total_len : IpRepr → ℕ
 total_len header = header_len_in header + payload_len_of header
 
+-- An extension header stands behind the IPv6 header, as its number says; a raw socket alone sends one. Some belong before the
+-- fragment header of each piece (RFC 8200, section 4.5), and so what has any isn't cut.
+abbrev pub has_extensions : IpRepr → Bool
+has_extensions (Ip.Ipv4 v) = false
+has_extensions (Ip.Ipv6 v) = is_extension (protocol_of (protocol_number v.next_header))
+
+abbrev pub can_be_cut : IpRepr → Bool
+can_be_cut header = nat_le (total_len header) longest_cut && not (has_extensions header)
+
 -- a datagram that is too long for one frame, or for the path to its destination, goes in pieces, one after the other
-abbrev pub cut_if_idle : Bool → HardwareAddress → Ipv4Repr → Plan
-cut_if_idle busy to v = if busy then Way.Busy else Way.Cut to v
+abbrev pub cut_if_idle : Bool → HardwareAddress → Plan
+cut_if_idle busy to = if busy then Way.Busy else Way.Cut to
 
 abbrev pub long_plan : Bool → HardwareAddress → IpRepr → Plan
-long_plan busy to (Ip.Ipv4 v) = if nat_le (20 + v.payload_len) longest_cut then cut_if_idle busy to v else Way.Drop
-long_plan busy to (Ip.Ipv6 v) = Way.Drop
+long_plan busy to header = if can_be_cut header then cut_if_idle busy to else Way.Drop
 
 abbrev pub plan_to : HardwareAddress → ℕ → Bool → IpRepr → Plan
 plan_to to mtu busy header = if nat_le (total_len header) mtu then Way.Go to else long_plan busy to header
@@ -92,15 +101,14 @@ pub record IsPacket (p : PacketValue) : Type 0 where
   pub payload : Ips.Fits p.header → PayloadFits p.header p.payload
 
 -- a datagram that is cut: its payload fits the buffer, and not one packet of this length, and no other one is half sent
-pub record CanBeCut (mtu : ℕ) (left : Option LeftValue) (p : PacketValue) (v : Ipv4Repr) : Type 0 where
-  pub header : p.header ≡ Ip.Ipv4 v
+pub record CanBeCut (mtu : ℕ) (left : Option LeftValue) (p : PacketValue) : Type 0 where
   pub sendable : IsSendable p
-  pub short : 20 + v.payload_len ≤ longest_cut
-  pub long : mtu < 20 + v.payload_len
+  pub short : total_len p.header ≤ longest_cut
+  pub long : mtu < total_len p.header
   pub idle : left ≡ None
 
 -- what is to be done with the packet can be done
 abbrev pub CanBeCarried : InnerValue → Option LeftValue → PacketValue → Plan → Type 0
 CanBeCarried i left p (Way.Go to) = IsSendable p
-CanBeCarried i left p (Way.Cut to v) = CanBeCut (mtu_to i (Address.Ipv4 v.dst_addr)) left p v
+CanBeCarried i left p (Way.Cut to) = CanBeCut (mtu_to i (destination_of p.header)) left p
 CanBeCarried i left p _ = Unit {0}

@@ -2,16 +2,14 @@
 ghost use Rattle.std.specs.Prelude.{◌≡◌, ◌+◌, ◌-◌, ◌<◌, ◌≤◌, ◌^◌, ◌++◌, if◌then◌else◌, length, take, drop, is_some, IsSome, IfSome, IfOk, None, Some};
 ghost use Rattle.std.specs.Option.{ForSome};
 ghost use Rattle.socket_base.specs.Packet.{packet_value, payload_len, payload_written, PayloadFits, IsSendable};
-ghost use Rattle.ip_wire.specs.IpAddress.TheVariants as Address;
-ghost use Rattle.ip_wire.specs.IpRepr.TheVariants as Ip;
 ghost use Rattle.interface_tables.specs.Pieces.{piece_at};
 ghost use Rattle.interface_egress.specs.Emits.{Emits};
-ghost use Rattle.interface_egress.specs.Departure.{piece_frame, piece_frame_len};
+ghost use Rattle.interface_egress.specs.Departure.{destination_in, piece_header_len, piece_frame, piece_frame_len};
 ghost use Rattle.interface_egress.specs.Fragments.{LeftValue, half_sent, left_value, piece_room, next_piece, left_after, begun, rest_of};
 
 use crate::fill::send;
-use crate::frame::Piece;
-use ip_wire::{HardwareAddress, IPV4_HEADER_LEN, IpAddress, Ipv4Repr};
+use crate::frame::{CutHeader, Piece};
+use ip_wire::{HardwareAddress, IpAddress};
 use net_base::{ChecksumCapabilities, Device, IPV4_FRAGMENT_PAYLOAD_ALIGNMENT};
 use socket_base::Packet;
 use std::alloc::{AllocError, Global};
@@ -24,7 +22,7 @@ pub const MAX_CUT_PAYLOAD: usize = 4_076;
 /// went.
 #[derive(Clone, Copy, Debug, PartialEq, Eq)]
 pub struct Left {
-    header: Ipv4Repr,
+    header: CutHeader,
     to: HardwareAddress,
     len: usize,
     at: usize,
@@ -78,39 +76,39 @@ impl Fragmenter {
     /// Where the datagram goes whose pieces wait.
     pub fn destination(&self) -> IpAddress
         requires { IsSome self.now }
-        ensures { IfSome self.now (λ l. result ≡ Address.Ipv4 l.header.dst_addr) }
+        ensures { IfSome self.now (λ l. result ≡ destination_in l.header) }
     {
         let Some(left) = self.left else {
             unreachable!()
         };
-        IpAddress::Ipv4(left.header.dst_addr)
+        left.header.dst_addr()
     }
 
     /// Sends the first piece of a datagram that is too long for one frame. Says whether the device took it; then the rest
-    /// waits. The packet is the datagram with this header.
+    /// waits. The packet is the datagram, and this its header with its identification.
     pub fn send_first<D: Device>(
         &mut self,
         device: &mut D,
         token: D::TxToken,
         cut: &Cut,
         to: HardwareAddress,
-        header: &Ipv4Repr,
+        header: &CutHeader,
         packet: &Packet<'_>,
     ) -> bool
         requires room { D.refused device.old + 1 < 2 ^ 64 }
         requires idle { self.old ≡ None }
-        requires same { (packet_value packet.now).header ≡ Ip.Ipv4 header.now }
         requires fits { IsSendable (packet_value packet.now) }
-        requires len { header.now.payload_len ≤ MAX_CUT_PAYLOAD }
+        requires len { payload_len (packet_value packet.now).payload ≤ MAX_CUT_PAYLOAD }
         requires mtu { (576 ≤ cut.now.mtu) × (cut.now.mtu ≤ 65535) }
-        requires long { cut.now.mtu < 20 + header.now.payload_len }
+        requires some { 0 < payload_len (packet_value packet.now).payload }
         ensures emits { let l : LeftValue = begun cut.now.checksums to header.now (packet_value packet.now) in
             let p = next_piece cut.now.mtu l in
-            Emits D.moves device.old (piece_frame cut.now.checksums cut.now.from to header.now p) (piece_frame_len cut.now.from to p) result device.new }
+            Emits D.moves device.old (piece_frame cut.now.checksums cut.now.from to header.now p) (piece_frame_len cut.now.from to header.now p)
+            result device.new }
         ensures left { self.new ≡ (if result then left_after cut.now.mtu (begun cut.now.checksums to header.now (packet_value packet.now)) else None) }
         ensures capabilities { D.described device.new ≡ D.described device.old }
     {
-        let len = header.payload_len;
+        let len = packet.payload().buffer_len();
         write_payload(self.buffer.as_mut_slice(), packet, &cut.checksums);
         let left = Left {
             header: *header,
@@ -132,7 +130,7 @@ impl Fragmenter {
         requires mtu { (576 ≤ cut.now.mtu) × (cut.now.mtu ≤ 65535) }
         ensures emits { IfSome self.old (λ l. Emits D.moves device.old
             (piece_frame cut.now.checksums cut.now.from l.to l.header (next_piece cut.now.mtu l))
-            (piece_frame_len cut.now.from l.to (next_piece cut.now.mtu l)) result device.new) }
+            (piece_frame_len cut.now.from l.to l.header (next_piece cut.now.mtu l)) result device.new) }
         ensures left { IfSome self.old (λ l. self.new ≡ (if result then left_after cut.now.mtu l else Some l)) }
         ensures capabilities { D.described device.new ≡ D.described device.old }
     {
@@ -163,7 +161,7 @@ fn send_waiting<D: Device>(
     requires mtu { cut.now.mtu ≤ 65535 }
     ensures emits { IfSome (left_value left.now buffer.now) (λ l. Emits D.moves device.old
         (piece_frame cut.now.checksums cut.now.from l.to l.header (next_piece cut.now.mtu l))
-        (piece_frame_len cut.now.from l.to (next_piece cut.now.mtu l)) result device.new) }
+        (piece_frame_len cut.now.from l.to l.header (next_piece cut.now.mtu l)) result device.new) }
     ensures capabilities { D.described device.new ≡ D.described device.old }
 {
     match left {
@@ -187,7 +185,7 @@ fn send_left<D: Device>(
     requires mtu { cut.now.mtu ≤ 65535 }
     ensures emits { let l : LeftValue = half_sent left.now buffer.now in
         Emits D.moves device.old (piece_frame cut.now.checksums cut.now.from l.to l.header (next_piece cut.now.mtu l))
-        (piece_frame_len cut.now.from l.to (next_piece cut.now.mtu l)) result device.new }
+        (piece_frame_len cut.now.from l.to l.header (next_piece cut.now.mtu l)) result device.new }
     ensures capabilities { D.described device.new ≡ D.described device.old }
 {
     send_piece(device, token, cut, left, &buffer[..left.len])
@@ -205,12 +203,12 @@ fn send_piece<D: Device>(
     requires at { left.now.at < length payload.now }
     requires len { length payload.now ≤ MAX_CUT_PAYLOAD }
     requires mtu { cut.now.mtu ≤ 65535 }
-    ensures emits { let p = piece_at (piece_room cut.now.mtu) payload.now left.now.at in
+    ensures emits { let p = piece_at (piece_room left.now.header cut.now.mtu) payload.now left.now.at in
         Emits D.moves device.old (piece_frame cut.now.checksums cut.now.from left.now.to left.now.header p)
-        (piece_frame_len cut.now.from left.now.to p) result device.new }
+        (piece_frame_len cut.now.from left.now.to left.now.header p) result device.new }
     ensures capabilities { D.described device.new ≡ D.described device.old }
 {
-    let room = piece_room(cut.mtu);
+    let room = piece_room(&left.header, cut.mtu);
     let piece = Piece {
         from: cut.from,
         to: left.to,
@@ -224,10 +222,10 @@ fn send_piece<D: Device>(
 }
 
 /// The most payload of a piece, in whole units of 8 bytes.
-fn piece_room(mtu: usize) -> usize
-    ensures { result ≡ piece_room mtu }
+fn piece_room(header: &CutHeader, mtu: usize) -> usize
+    ensures { result ≡ piece_room header.now mtu }
 {
-    mtu.saturating_sub(IPV4_HEADER_LEN) / IPV4_FRAGMENT_PAYLOAD_ALIGNMENT
+    mtu.saturating_sub(header.piece_header_len()) / IPV4_FRAGMENT_PAYLOAD_ALIGNMENT
         * IPV4_FRAGMENT_PAYLOAD_ALIGNMENT
 }
 
@@ -246,7 +244,7 @@ fn rest_of(left: &Left, mtu: usize) -> Option<Left>
     requires { (left.now.at < MAX_CUT_PAYLOAD) × (mtu ≤ 65535) }
     ensures { result ≡ rest_of mtu left.now }
 {
-    let at = left.at + piece_room(mtu);
+    let at = left.at + piece_room(&left.header, mtu);
     if at < left.len {
         Some(Left { at, ..*left })
     } else {

@@ -1,17 +1,19 @@
 //! The frames that leave a host.
-ghost use Rattle.std.specs.Prelude.{◌≡◌, ◌+◌, ◌<◌, ◌^◌, length};
+ghost use Rattle.std.specs.Prelude.{◌≡◌, ◌+◌, ◌<◌, ◌^◌, ◌++◌, length};
 ghost use Rattle.ip_wire.specs.Address.{solicited_of};
 ghost use Rattle.socket_base.specs.Packet.{packet_value, packet_of, payload_value, IsSendable};
 ghost use Rattle.interface_egress.specs.Emits.{Emits};
 ghost use Rattle.interface_egress.specs.Departure.{link_header, link_len, ether_for, packet_frame, packet_frame_len, piece_frame, piece_frame_len, arp_frame};
+ghost use Rattle.interface_egress.specs.Departure.{ether_in, destination_in, piece_header_len, piece_v6, fragment_header, piece_header};
 ghost use Rattle.interface_egress.specs.Departure.{arp_request, solicited_node, solicited_station, solicitation, question_frame, question_len, target_of};
 
 use crate::fill::{Fill, send};
 use control_wire::{Icmpv6Repr, NdiscRepr};
 use ip_wire::{
     ArpOperation, ArpPacketMut, ArpRepr, ETHERNET_HEADER_LEN, EthernetAddress, EthernetFrameMut,
-    EthernetProtocol, EthernetRepr, HardwareAddress, IpAddress, IpProtocol, IpRepr, Ipv4Address,
-    Ipv4PacketMut, Ipv4Repr, Ipv6Address, Ipv6Repr, RawHardwareAddress,
+    EthernetProtocol, EthernetRepr, HardwareAddress, IPV4_HEADER_LEN, IPV6_HEADER_LEN, IpAddress,
+    IpProtocol, IpRepr, Ipv4Address, Ipv4PacketMut, Ipv4Repr, Ipv6Address, Ipv6FragmentHeaderMut,
+    Ipv6FragmentRepr, Ipv6PacketMut, Ipv6Repr, RawHardwareAddress,
 };
 use net_base::{ChecksumCapabilities, Device};
 use socket_base::{IpPayload, Packet};
@@ -45,6 +47,50 @@ impl Question {
     }
 }
 
+/// The bytes of a fragment header.
+const FRAGMENT_HEADER_LEN: usize = 8;
+
+/// The header of a datagram that goes in pieces, with the identification that they share.
+#[derive(Clone, Copy, Debug, PartialEq, Eq)]
+pub enum CutHeader {
+    /// Of IPv4, which has it.
+    Ipv4(Ipv4Repr),
+    /// Of IPv6, and beside it the identification of the fragment headers.
+    Ipv6(Ipv6Repr, u32),
+}
+
+impl CutHeader {
+    /// Where the datagram goes.
+    pub fn dst_addr(&self) -> IpAddress
+        ensures { result ≡ destination_in self.now }
+    {
+        match self {
+            CutHeader::Ipv4(header) => IpAddress::Ipv4(header.dst_addr),
+            CutHeader::Ipv6(header, _) => IpAddress::Ipv6(header.dst_addr),
+        }
+    }
+
+    /// How many bytes stand before a piece's bytes.
+    pub fn piece_header_len(&self) -> usize
+        ensures { result ≡ piece_header_len self.now }
+    {
+        match self {
+            CutHeader::Ipv4(_) => IPV4_HEADER_LEN,
+            CutHeader::Ipv6(..) => IPV6_HEADER_LEN + FRAGMENT_HEADER_LEN,
+        }
+    }
+
+    /// What a frame of a piece is said to carry.
+    fn ether(&self) -> EthernetProtocol
+        ensures { result ≡ ether_in self.now }
+    {
+        match self {
+            CutHeader::Ipv4(_) => EthernetProtocol::Ipv4,
+            CutHeader::Ipv6(..) => EthernetProtocol::Ipv6,
+        }
+    }
+}
+
 /// A frame that carries an ARP packet.
 #[derive(Clone, Copy, Debug, PartialEq, Eq)]
 pub struct ArpFrame {
@@ -61,13 +107,13 @@ pub(crate) struct Whole<'a> {
     pub checksums: ChecksumCapabilities,
 }
 
-/// A frame that carries a piece of an IPv4 datagram.
+/// A frame that carries a piece of a datagram.
 #[derive(Clone, Copy, Debug, PartialEq, Eq)]
 pub struct Piece<'a> {
     pub from: HardwareAddress,
     pub to: HardwareAddress,
-    /// The datagram's header; the payload's length is the piece's.
-    pub header: Ipv4Repr,
+    /// The datagram's header.
+    pub header: CutHeader,
     /// Where the piece stands in the datagram's payload.
     pub offset: u16,
     /// Whether more pieces follow.
@@ -127,25 +173,73 @@ impl<'a> Fill for Whole<'a> {
 impl<'a> Fill for Piece<'a> {
     ghost filled = { λ p. piece_frame p.checksums p.from p.to p.header (record { offset = p.offset; more = p.more; bytes = p.bytes.now }) };
 
-    ghost len = { λ p. piece_frame_len p.from p.to (record { offset = p.offset; more = p.more; bytes = p.bytes.now }) };
+    ghost len = { λ p. piece_frame_len p.from p.to p.header (record { offset = p.offset; more = p.more; bytes = p.bytes.now }) };
 
-    ghost fits = { λ p. 20 + length p.bytes.now < 2 ^ 16 };
+    ghost fits = { λ p. piece_header_len p.header + length p.bytes.now < 2 ^ 16 };
 
     fn frame_len(&self) -> usize {
-        link_len(&self.from, &self.to) + (self.header.buffer_len() + self.bytes.len())
+        link_len(&self.from, &self.to) + (self.header.piece_header_len() + self.bytes.len())
     }
 
     fn fill(&self, buffer: &mut [u8]) {
         let (front, rest) = buffer.split_at_mut(link_len(&self.from, &self.to));
-        write_link(&self.from, &self.to, EthernetProtocol::Ipv4, front);
-        let (head, body) = rest.split_at_mut(self.header.buffer_len());
+        write_link(&self.from, &self.to, self.header.ether(), front);
+        let (head, body) = rest.split_at_mut(self.header.piece_header_len());
+        match &self.header {
+            CutHeader::Ipv4(header) => self.write_v4(header, head),
+            CutHeader::Ipv6(header, number) => self.write_v6(header, *number, head),
+        }
+        body.copy_from_slice(self.bytes);
+    }
+}
+
+impl Piece<'_> {
+    /// Writes the header of a piece of IPv4.
+    fn write_v4(&self, header: &Ipv4Repr, head: &mut [u8])
+        requires room { length head.old ≡ 20 }
+        requires fits { 20 + length self.now.bytes.now < 2 ^ 16 }
+        ensures { head.new ≡ piece_header self.now.checksums (CutHeader.Ipv4 header.now)
+            (record { offset = self.now.offset; more = self.now.more; bytes = self.now.bytes.now }) }
+    {
         let header = Ipv4Repr {
             payload_len: self.bytes.len(),
-            ..self.header
+            ..*header
         };
         let mut packet = Ipv4PacketMut::new_unchecked(head);
         header.emit_piece(&mut packet, self.offset, self.more, &self.checksums);
-        body.copy_from_slice(self.bytes);
+    }
+
+    /// Writes the IPv6 header of a piece, and its fragment header.
+    fn write_v6(&self, header: &Ipv6Repr, number: u32, head: &mut [u8])
+        requires room { length head.old ≡ 48 }
+        requires fits { 48 + length self.now.bytes.now < 2 ^ 16 }
+        ensures { head.new ≡ piece_header self.now.checksums (CutHeader.Ipv6 header.now number)
+            (record { offset = self.now.offset; more = self.now.more; bytes = self.now.bytes.now }) }
+    {
+        let (front, rest) = head.split_at_mut(IPV6_HEADER_LEN);
+        let outer = Ipv6Repr {
+            next_header: IpProtocol::Ipv6Frag,
+            payload_len: FRAGMENT_HEADER_LEN + self.bytes.len(),
+            ..*header
+        };
+        outer.emit(&mut Ipv6PacketMut::new_unchecked(front));
+        self.write_fragment(header.next_header, number, rest);
+    }
+
+    /// Writes the fragment header of a piece.
+    fn write_fragment(&self, carried: IpProtocol, number: u32, buffer: &mut [u8])
+        requires room { length buffer.old ≡ 8 }
+        ensures { buffer.new ≡ fragment_header carried number
+            (record { offset = self.now.offset; more = self.now.more; bytes = self.now.bytes.now }) }
+    {
+        let place = Ipv6FragmentRepr {
+            frag_offset: self.offset / 8,
+            more_frags: self.more,
+            ident: number,
+        };
+        let (front, rest) = buffer.split_at_mut(2);
+        front.copy_from_slice(&[carried.into(), 0]);
+        place.emit(&mut Ipv6FragmentHeaderMut::new_unchecked(rest));
     }
 }
 

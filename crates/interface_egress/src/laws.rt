@@ -1,5 +1,5 @@
 //! What follows from the definitions of what goes out.
-ghost use Rattle.std.specs.Prelude.{◌≡◌, ℕ, ◌+◌, ◌*◌, ◌%◌, ◌^◌, ◌<◌, ◌≤◌, Bool, false, List, ◌++◌, length, take, drop, int_lt, Option, Some, IfSome, IsTrue};
+ghost use Rattle.std.specs.Prelude.{◌≡◌, ℕ, ◌+◌, ◌*◌, ◌/◌, ◌%◌, ◌^◌, ◌<◌, ◌≤◌, Bool, false, List, ◌++◌, length, take, drop, int_lt, Option, Some, IfSome, IsTrue};
 ghost use Rattle.std.specs.List.{AllByRecursion, flat_map};
 ghost use Rattle.net_base.specs.Capabilities.{computes};
 ghost use Rattle.net_base.specs.ChecksumCapabilities.{ChecksumCapabilities};
@@ -7,18 +7,20 @@ ghost use Rattle.ip_wire.specs.Address.{IsEthernetAddress};
 ghost use Rattle.ip_wire.specs.Arp as Arps;
 ghost use Rattle.ip_wire.specs.declared.arp.repr.ArpRepr.{ArpRepr};
 ghost use Rattle.ip_wire.specs.Ethernet as Ethernet;
+ghost use Rattle.ip_wire.specs.Fragment as Fragment;
 ghost use Rattle.ip_wire.specs.EthernetAddress.{EthernetAddress};
-ghost use Rattle.ip_wire.specs.EthernetProtocol.TheVariants as Ether;
 ghost use Rattle.ip_wire.specs.HardwareAddress.{HardwareAddress};
 ghost use Rattle.ip_wire.specs.HardwareAddress.TheVariants as Hardware;
 ghost use Rattle.ip_wire.specs.Ip as Ips;
 ghost use Rattle.ip_wire.specs.Ipv4 as Ipv4;
+ghost use Rattle.ip_wire.specs.Ipv6 as Ipv6;
 ghost use Rattle.ip_wire.specs.IpRepr.{IpRepr};
 ghost use Rattle.ip_wire.specs.Ipv4Repr.{Ipv4Repr};
+ghost use Rattle.ip_wire.specs.Ipv6Repr.{Ipv6Repr};
 ghost use Rattle.socket_base.specs.Packet.{PacketValue, IsSendable, payload_len, payload_written};
 ghost use Rattle.interface_tables.specs.Inner.{InnerValue};
 ghost use Rattle.interface_tables.specs.Pieces.{Piece, IsSliceOf};
-ghost use Rattle.interface_egress.specs.Departure.{Departure, Tells, ether_for, packet_frame, piece_frame, arp_link, arp_frame};
+ghost use Rattle.interface_egress.specs.Departure.{Departure, Tells, ether_for, ether_in, packet_frame, piece_v6, fragment_header, piece_frame, arp_link, arp_frame};
 ghost use Rattle.interface_egress.specs.Fragments.{LeftValue, piece_room, departure_from, pieces_from};
 ghost use Rattle.interface_egress.specs.Plan.{never_leaves, plan_of};
 ghost use Rattle.interface_egress.specs.GoesOut.{GoesOut, PieceGoesOut, frame_len_of};
@@ -26,6 +28,8 @@ ghost use Rattle.interface_egress.specs.Departing.{departure_by, link_room, iden
 ghost use Rattle.interface_egress.specs.Departing.{HasSettingsOf, number_in};
 ghost use Rattle.interface_egress.specs.Determined.{IsDetermined};
 ghost use Rattle.interface_egress.specs.declared.way_out.Sent.{Sent};
+ghost use Rattle.interface_egress.specs.declared.frame.CutHeader.{CutHeader};
+ghost use Rattle.interface_egress.specs.declared.frame.CutHeader.TheVariants as Cut;
 ghost use Rattle.interface_egress.specs.declared.frame.Question.{Question};
 ghost use Rattle.interface_egress.specs.declared.plan.Plan.TheVariants as Way;
 
@@ -50,7 +54,7 @@ pub fn pieces_are_slices()
         → AllByRecursion (IsSliceOf l.payload) (pieces_from n mtu (Some l)) }
     ensures units { (mtu n : ℕ) (l : LeftValue) → l.at % 8 ≡ 0
         → AllByRecursion (λ p. p.offset % 8 ≡ 0) (pieces_from n mtu (Some l)) }
-    ensures in_turn { (mtu n : ℕ) (l : LeftValue) → length l.payload ≤ l.at + n * piece_room mtu
+    ensures in_turn { (mtu n : ℕ) (l : LeftValue) → length l.payload ≤ l.at + n * piece_room l.header mtu
         → flat_map (λ p. p.bytes) (pieces_from n mtu (Some l)) ≡ drop l.at l.payload }
 {}
 
@@ -105,11 +109,12 @@ pub fn next_number_goes()
         → IfSome (number_in d) (λ n. n ≡ i.ident) }
 {}
 
-/// Law: an IPv4 packet takes the next identification as its frame, or its first piece, is accepted; nothing else takes one.
+/// Law: an IPv4 packet takes the next identification as its frame, or its first piece, is accepted, and an IPv6 packet as its first
+/// piece is accepted; nothing else takes one.
 pub fn numbers_step<D: Device>()
     ensures { (old new : D) (i i' : InnerValue) (l l' : Option LeftValue) (busy : Bool) (p : PacketValue) (sent : Sent)
         → GoesOut D.moves old i l p (plan_of i busy p.header) sent new i' l'
-        → i'.ident ≡ ident_after sent p.header i.ident }
+        → i'.ident ≡ ident_after (plan_of i busy p.header) sent p.header i.ident }
 {}
 
 /// Law: fewer than 65,536 identifications in a row differ.
@@ -143,19 +148,26 @@ pub fn frames_read_back()
         → Ips.IsIp tested (packet_frame caps Hardware.Ip Hardware.Ip p ++ padding) (Ips.normal p.header)
         × (take (payload_len p.payload) (drop (Ips.header_len_in p.header) (packet_frame caps Hardware.Ip Hardware.Ip p ++ padding))
         ≡ payload_written caps p.header p.payload) }
-    ensures piece_link { (caps : ChecksumCapabilities) (own to : EthernetAddress) (header : Ipv4Repr) (p : Piece) (padding : List ℕ)
+    ensures piece_link { (caps : ChecksumCapabilities) (own to : EthernetAddress) (header : CutHeader) (p : Piece) (padding : List ℕ)
         → IsEthernetAddress own → IsEthernetAddress to
         → Ethernet.IsEthernet (piece_frame caps (Hardware.Ethernet own) (Hardware.Ethernet to) header p ++ padding)
-        (record { src_addr = own; dst_addr = to; ethertype = Ether.Ipv4 })
+        (record { src_addr = own; dst_addr = to; ethertype = ether_in header })
         × (Ethernet.payload_of (piece_frame caps (Hardware.Ethernet own) (Hardware.Ethernet to) header p ++ padding)
         ≡ piece_frame caps Hardware.Ip Hardware.Ip header p ++ padding) }
     ensures piece { (caps : ChecksumCapabilities) (tested : Bool) (header : Ipv4Repr) (p : Piece) (padding : List ℕ)
         → Ipv4.IsValue header → 20 + length p.bytes < 2 ^ 16 → p.offset < 2 ^ 16 → p.offset % 8 ≡ 0
         → (IsTrue tested → IsTrue (computes caps.ipv4))
-        → Ipv4.IsIpv4 tested (piece_frame caps Hardware.Ip Hardware.Ip header p ++ padding)
+        → Ipv4.IsIpv4 tested (piece_frame caps Hardware.Ip Hardware.Ip (Cut.Ipv4 header) p ++ padding)
         (Ipv4.normal (record header { payload_len = length p.bytes }))
-        × (Ipv4.piece_of (piece_frame caps Hardware.Ip Hardware.Ip header p ++ padding) ≡ record { offset = p.offset; more = p.more })
-        × (Ipv4.payload_of (piece_frame caps Hardware.Ip Hardware.Ip header p ++ padding) ≡ p.bytes) }
+        × (Ipv4.piece_of (piece_frame caps Hardware.Ip Hardware.Ip (Cut.Ipv4 header) p ++ padding) ≡ record { offset = p.offset; more = p.more })
+        × (Ipv4.payload_of (piece_frame caps Hardware.Ip Hardware.Ip (Cut.Ipv4 header) p ++ padding) ≡ p.bytes) }
+    ensures piece_v6 { (caps : ChecksumCapabilities) (header : Ipv6Repr) (number : ℕ) (p : Piece) (padding : List ℕ)
+        → Ipv6.IsValue header → number < 2 ^ 32 → 8 + length p.bytes < 2 ^ 16 → p.offset < 2 ^ 16
+        → Ipv6.IsIpv6 (piece_frame caps Hardware.Ip Hardware.Ip (Cut.Ipv6 header number) p ++ padding) (Ipv6.normal (piece_v6 header p))
+        × (Ipv6.payload_of (piece_frame caps Hardware.Ip Hardware.Ip (Cut.Ipv6 header number) p ++ padding)
+        ≡ fragment_header header.next_header number p ++ p.bytes)
+        × Fragment.IsFragment (drop 2 (fragment_header header.next_header number p ++ p.bytes))
+        (record { frag_offset = p.offset / 8; more_frags = p.more; ident = number }) }
     ensures arp { (packet : ArpRepr) (padding : List ℕ) → Arps.IsValue packet
         → Ethernet.IsEthernet (arp_frame packet ++ padding) (arp_link packet)
         × Arps.IsArp (Ethernet.payload_of (arp_frame packet ++ padding)) (Arps.normal packet) }

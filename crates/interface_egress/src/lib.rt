@@ -14,7 +14,7 @@ mod way_out;
 
 pub use fill::{Fill, send};
 pub use fragmenter::{Cut, Fragmenter, Left, MAX_CUT_PAYLOAD};
-pub use frame::{ArpFrame, Piece, Question, ask};
+pub use frame::{ArpFrame, CutHeader, Piece, Question, ask};
 pub use interface_tables::{
     Config, HardwareAddrError, InterfaceInner, LinkAddress, NewError, NotUnicast,
     PacketAssemblerSet, Route, RouteTableFull, Routes, TABLE_ROOM,

@@ -1,13 +1,16 @@
 //! What is to be done with a packet that wants to go out.
 ghost use Rattle.std.specs.Prelude.{◌≡◌, ◌≤◌, nat_le};
-ghost use Rattle.interface_egress.specs.Plan.{total_len, long_plan, plan_to, ask_v4, ask_on, may_ask, ask_if, plan_by, never_leaves, plan_of};
+ghost use Rattle.interface_egress.specs.Plan.{longest_cut, total_len, has_extensions, can_be_cut, long_plan, plan_to, ask_v4, ask_on, may_ask, ask_if, plan_by, never_leaves, plan_of};
 
-use crate::fragmenter::MAX_CUT_PAYLOAD;
 use crate::frame::Question;
 use interface_tables::{InterfaceInner, LinkAddress};
-use ip_wire::{EthernetAddress, HardwareAddress, IpAddress, IpRepr, Ipv4Address, Ipv4Repr};
+use ip_wire::{EthernetAddress, HardwareAddress, IpAddress, IpProtocol, IpRepr, Ipv4Address};
+use ipv6_headers::is_extension;
 use socket_base::Context;
 use socket_base::addresses::is_unspecified;
+
+/// The longest datagram that is cut.
+const LONGEST_CUT: usize = 4_096;
 
 /// What is to be done with a packet.
 #[derive(Clone, Copy, Debug, PartialEq, Eq)]
@@ -24,8 +27,8 @@ pub enum Plan {
     Ask(Question),
     /// It goes to this hardware address.
     Go(HardwareAddress),
-    /// It goes there in pieces, as a datagram with this header.
-    Cut(HardwareAddress, Ipv4Repr),
+    /// It goes there in pieces.
+    Cut(HardwareAddress),
 }
 
 /// What is to be done with a packet of this header. `busy` says that pieces of a datagram wait. A packet that goes whole is
@@ -83,11 +86,29 @@ fn is_within(header: &IpRepr, mtu: usize) -> bool
 fn long_plan(to: HardwareAddress, busy: bool, header: &IpRepr) -> Plan
     ensures { result ≡ long_plan busy to header.now }
 {
+    if !can_be_cut(header) {
+        Plan::Drop
+    } else if busy {
+        Plan::Busy
+    } else {
+        Plan::Cut(to)
+    }
+}
+
+/// Whether a packet may go in pieces.
+fn can_be_cut(header: &IpRepr) -> bool
+    ensures { result ≡ can_be_cut header.now }
+{
+    is_within(header, LONGEST_CUT) && !has_extensions(header)
+}
+
+/// Whether an extension header stands behind the IPv6 header.
+fn has_extensions(header: &IpRepr) -> bool
+    ensures { result ≡ has_extensions header.now }
+{
     match header {
-        IpRepr::Ipv4(v) if v.payload_len <= MAX_CUT_PAYLOAD => {
-            if busy { Plan::Busy } else { Plan::Cut(to, *v) }
-        }
-        _ => Plan::Drop,
+        IpRepr::Ipv4(_) => false,
+        IpRepr::Ipv6(header) => is_extension(IpProtocol::from(u8::from(header.next_header))),
     }
 }
 

@@ -4,13 +4,13 @@ ghost use Rattle.socket_base.specs.Packet.{packet_value, IsSendable};
 ghost use Rattle.interface_egress.specs.Plan.{plan_of, IsPacket, CanBeCarried};
 ghost use Rattle.interface_egress.specs.Plan.{CanBeCut};
 ghost use Rattle.interface_tables.specs.Inner.{mtu_to};
-ghost use Rattle.ip_wire.specs.IpAddress.TheVariants as Address;
+ghost use Rattle.ip_wire.specs.Ip.{destination_of};
 ghost use Rattle.interface_egress.specs.Departure as Departures;
-ghost use Rattle.interface_egress.specs.GoesOut.{GoesOut, PieceGoesOut, Asked, Went, WasCut, numbered_v4, numbered_header, numbered, after_header, cut_of};
+ghost use Rattle.interface_egress.specs.GoesOut.{GoesOut, PieceGoesOut, Asked, Went, WasCut, numbered_header, numbered, after_header, cut_header, cut_of};
 
 use crate::fill::send;
 use crate::fragmenter::{Cut, Fragmenter};
-use crate::frame::{Question, Whole, ask};
+use crate::frame::{CutHeader, Question, Whole, ask};
 use crate::plan::{Plan, plan_for};
 use interface_tables::InterfaceInner;
 use ip_wire::{HardwareAddress, IpAddress, IpRepr, Ipv4Repr};
@@ -90,7 +90,7 @@ fn carry<D: Device>(
         Plan::Busy => Sent::Busy,
         Plan::Ask(question) => send_question(inner, device, token, &question),
         Plan::Go(to) => send_whole(inner, device, token, to, packet),
-        Plan::Cut(to, header) => send_first(inner, fragmenter, device, token, to, &header, packet),
+        Plan::Cut(to) => send_first(inner, fragmenter, device, token, to, packet),
     }
 }
 
@@ -148,17 +148,17 @@ fn send_first<D: Device>(
     device: &mut D,
     token: D::TxToken,
     to: HardwareAddress,
-    header: &Ipv4Repr,
     packet: &Packet<'_>,
 ) -> Sent
     requires room { D.refused device.old + 1 < 2 ^ 64 }
-    requires fits { CanBeCut (mtu_to inner.old (Address.Ipv4 header.now.dst_addr)) fragmenter.old (packet_value packet.now) header.now }
-    ensures out { WasCut D.moves device.old inner.old fragmenter.old (cut_of inner.old to header.now (packet_value packet.now))
+    requires fits { CanBeCut (mtu_to inner.old (destination_of (packet_value packet.now).header)) fragmenter.old (packet_value packet.now) }
+    ensures out { WasCut D.moves device.old inner.old fragmenter.old (cut_of inner.old to (packet_value packet.now))
         result device.new inner.new fragmenter.new }
     ensures capabilities { D.described device.new ≡ D.described device.old }
 {
-    let cut = cut_from(inner, IpAddress::Ipv4(header.dst_addr));
-    let header = numbered_v4(inner, header);
+    let header = packet.ip_repr();
+    let cut = cut_from(inner, header.dst_addr());
+    let header = cut_header(inner, &header);
     let packet = numbered(inner, packet);
     if !fragmenter.send_first(device, token, &cut, to, &header, &packet) {
         return Sent::Refused;
@@ -205,14 +205,17 @@ fn numbered<'a>(inner: &InterfaceInner, packet: &Packet<'a>) -> Packet<'a>
     Packet::new(numbered_header(inner, &packet.ip_repr()), *packet.payload())
 }
 
-/// The header of a datagram with the host's next number.
-fn numbered_v4(inner: &InterfaceInner, header: &Ipv4Repr) -> Ipv4Repr
-    ensures { result ≡ numbered_v4 inner.now header.now }
+/// The header of a datagram that goes in pieces, with the host's next number.
+fn cut_header(inner: &InterfaceInner, header: &IpRepr) -> CutHeader
+    ensures { result ≡ cut_header inner.now header.now }
 {
-    Ipv4Repr {
-        ident: inner.ident(),
-        dont_frag: false,
-        ..*header
+    match header {
+        IpRepr::Ipv4(header) => CutHeader::Ipv4(Ipv4Repr {
+            ident: inner.ident(),
+            dont_frag: false,
+            ..*header
+        }),
+        IpRepr::Ipv6(header) => CutHeader::Ipv6(*header, u32::from(inner.ident())),
     }
 }
 
@@ -228,7 +231,7 @@ fn numbered_header(inner: &InterfaceInner, header: &IpRepr) -> IpRepr
     numbered
 }
 
-/// A packet of this header went.
+/// A packet of this header went whole.
 fn take_number(inner: &mut InterfaceInner, header: &IpRepr)
     ensures { inner.new ≡ after_header header.now inner.old }
 {
