@@ -1,12 +1,12 @@
 -- The identifications that a poll takes.
-use Rattle.std.proofs.Common.{◌≡◌, ℕ, suc, ◌+◌, ◌*◌, ◌%◌, ◌^◌, ◌≤◌, arith, Bool, refl, ap, ◌∙◌}
+use Rattle.std.proofs.Common.{◌≡◌, ℕ, suc, ◌+◌, ◌*◌, ◌%◌, ◌^◌, ◌≤◌, arith, Bool, true, false, cond, refl, ap, ◌∙◌}
 use Rattle.std.specs.Prelude.{ℤ}
 use Rattle.std.proofs.Math.Nat.{mul-le-mul_left}
 use Rattle.net_base.specs.Device.{Move}
 use Rattle.ip_wire.specs.IpRepr.{IpRepr}
-use Rattle.ip_wire.specs.IpRepr.TheVariants as Ip
 use Rattle.interface_tables.specs.Inner.{InnerValue, at_moment}
-use Rattle.interface_egress.specs.Departing.{ident_after}
+use Rattle.interface_egress.specs.Departing.{takes_number, ident_after}
+use Rattle.interface_egress.specs.declared.plan.Plan.{Plan}
 use Rattle.interface_egress.specs.declared.way_out.Sent.{Sent}
 use Rattle.interface_egress.specs.declared.way_out.Sent.TheVariants as Outcome
 use Rattle.interface.specs.Polls.{Polls}
@@ -34,20 +34,23 @@ module _ (i : InnerValue) where
   none : (n : ℕ) (j j' : InnerValue) → j'.ident ≡ j.ident → Taken n j → Taken (n + 1) j'
   none n j j' is taken = more n (n + 1) j' (omega arith) (same n j j' is taken)
 
-  by_outcome : (n : ℕ) (j j' : InnerValue) (sent : Sent) (h : IpRepr) → j'.ident ≡ ident_after sent h j.ident → Taken n j → Taken (n + 1) j'
-  by_outcome n j j' Outcome.Gone (Ip.Ipv4 v) is taken = one n j j' is taken
-  by_outcome n j j' Outcome.Gone (Ip.Ipv6 v) is taken = none n j j' is taken
-  by_outcome n j j' Outcome.Dropped h is taken = none n j j' is taken
-  by_outcome n j j' Outcome.Waits h is taken = none n j j' is taken
-  by_outcome n j j' Outcome.Busy h is taken = none n j j' is taken
-  by_outcome n j j' Outcome.Refused h is taken = none n j j' is taken
+  gone : (n : ℕ) (j j' : InnerValue) (takes : Bool) → j'.ident ≡ cond takes ((j.ident + 1) % 2 ^ 16) j.ident → Taken n j → Taken (n + 1) j'
+  gone n j j' true is taken = one n j j' is taken
+  gone n j j' false is taken = none n j j' is taken
+
+  by_outcome : (n : ℕ) (j j' : InnerValue) (plan : Plan) (sent : Sent) (h : IpRepr) → j'.ident ≡ ident_after plan sent h j.ident → Taken n j → Taken (n + 1) j'
+  by_outcome n j j' plan Outcome.Gone h is taken = gone n j j' (takes_number plan h) is taken
+  by_outcome n j j' plan Outcome.Dropped h is taken = none n j j' is taken
+  by_outcome n j j' plan Outcome.Waits h is taken = none n j j' is taken
+  by_outcome n j j' plan Outcome.Busy h is taken = none n j j' is taken
+  by_outcome n j j' plan Outcome.Refused h is taken = none n j j' is taken
 
   counted : (t : ℤ) → IsHostCount t Taken
   counted t = record {
     more = more;
     begins = λ n j taken. same n j (at_moment t j) refl taken;
     arrives = λ n j j' settings taken. same n j j' settings.ident taken;
-    goes = λ n j j' plan sent h is taken. by_outcome n j j' sent h (ap (λ (x : InnerValue). x.ident) is) taken;
+    goes = λ n j j' plan sent h is taken. by_outcome n j j' plan sent h (ap (λ (x : InnerValue). x.ident) is) taken;
   }
 
 pub polls_take : {D : Type 0} (moves : D → Move → D → Type 0) (t : ℤ) (budget : ℕ) (s s' : State D) (changed : Bool) → Polls moves t budget s changed s'

@@ -141,7 +141,7 @@ module _ {D E : Type 0} (f : D → E) (moves : D → Move → D → Type 0) (oth
       so old new (Went others (f old) i p.header (Departures.Whole to (numbered i p)) sent (f new) i')
       (GoesOut others (f old) i l p (Way.Go to) sent (f new) i' l') (λ x. (x, goes.1))
       (went old new i i' p.header (Departures.Whole to (numbered i p)) sent goes.0)
-  goes_out old new i i' l l' p (Way.Cut to v) sent goes = was_cut old new i i' l l' (cut_of i to v p) sent goes
+  goes_out old new i i' l l' p (Way.Cut to) sent goes = was_cut old new i i' l l' (cut_of i to p) sent goes
 
   piece_out : (old new : D) (i : InnerValue) (l : LeftValue) (gone : Bool) (l' : Option LeftValue) → PieceGoesOut moves old i l gone new l' →
       Leads old new (PieceGoesOut others (f old) i l gone (f new) l')

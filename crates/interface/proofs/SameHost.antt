@@ -51,7 +51,7 @@ after_same Way.NoRoute sent h i = refl
 after_same Way.Wait sent h i = refl
 after_same Way.Busy sent h i = refl
 after_same (Way.Go to) sent h i = refl
-after_same (Way.Cut to v) sent h i = refl
+after_same (Way.Cut to) sent h i = refl
 
 module _ {D : Type 0} (moves : D → Move → D → Type 0) where
   pub goes_out_same : (old new : D) (i i' : InnerValue) (l l' : Option LeftValue) (p : PacketValue) (busy : Bool) (sent : Sent)

@@ -181,7 +181,7 @@ module _ {D : Type 0} (moves : D → Move → D → Type 0) (t : ℤ) (d0 : D) (
       (λ goes so. so_where d d' i i' goes.1.0 goes.1.1 so)
       (λ q may from goes so. so_asked q sent d d' i i' now may goes.0 so)
       (λ to short goes so. so_went to p sent d d' i i' goes.0 so)
-      (λ to v header long short idle goes so. so_cut (cut_of i to v p) sent d d' i i' l l' goes so)
+      (λ to long short bare idle goes so. so_cut (cut_of i to p) sent d d' i i' l l' goes so)
 
   -- ARRIVALS
 

@@ -1,6 +1,6 @@
 -- What left in a frame is read in it.
-use Rattle.std.proofs.Common.{◌≡◌, ℕ, zero, suc, ◌+◌, ◌<◌, List, [], ◌∷◌, ◌++◌, length, drop, replicate, None, refl, sym, ◌∙◌, length-append, length-drop}
-use Rattle.std.proofs.Common.{arith}
+use Rattle.std.proofs.Common.{◌≡◌, ℕ, zero, suc, ◌+◌, ◌<◌, List, [], ◌∷◌, ◌++◌, length, drop, replicate, Some, None, refl, sym, ◌∙◌, length-append, length-drop}
+use Rattle.std.proofs.Common.{append_assoc, subst, arith}
 use Rattle.std.proofs.lemmas.List.{get_or-drop}
 use Rattle.std.specs.List.{AllByRecursion}
 use Rattle.net_base.specs.ChecksumCapabilities.{ChecksumCapabilities}
@@ -21,6 +21,10 @@ use Rattle.ip_packet.specs.Ip as Ips
 use Rattle.ip_packet.specs.declared.ip.repr.IpRepr.{IpRepr}
 use Rattle.ip_packet.specs.declared.ip.repr.IpRepr.TheVariants as Ip
 use Rattle.ip_packet.specs.Ipv4 as Ipv4
+use Rattle.ip_packet.specs.Ipv6 as Ipv6
+use Rattle.ip_packet.specs.declared.ipv6.repr.Ipv6Repr.{Ipv6Repr}
+use Rattle.interface_ingress.specs.Ethernet as Ethernet
+use Rattle.interface_ingress.specs.EthernetRepr.{EthernetRepr}
 use Rattle.ip_packet.specs.declared.ipv4.piece.Ipv4Piece.{Ipv4Piece}
 use Rattle.ip_packet.specs.declared.ipv4.repr.Ipv4Repr.{Ipv4Repr}
 use Rattle.interface_ingress.specs.Ipv4Address.{Ipv4Address}
@@ -35,7 +39,9 @@ use Rattle.interface_ingress.specs.Sent as Sent
 use Rattle.interface_ingress.specs.Sent.{CanFrame, AreSealed}
 use Rattle.interface_ingress.proofs.FramesArrive.{packet-arrives, piece-arrives, arp-arrives}
 use Rattle.interface_egress.specs.Departure.{Departure, Asks, Tells, Whole, Part, packet_frame, piece_frame, question_frame, arp_frame, arp_link, arp_request}
-use Rattle.interface_egress.specs.Departure.{every_station, solicited_node, solicited_station, solicitation}
+use Rattle.interface_egress.specs.Departure.{every_station, solicited_node, solicited_station, solicitation, piece_v6, fragment_header}
+use Rattle.interface_egress.specs.declared.frame.CutHeader.{CutHeader}
+use Rattle.interface_egress.specs.declared.frame.CutHeader.TheVariants as Cut
 use Rattle.interface_egress.specs.GoesOut.{frame_of}
 use Rattle.interface_egress.specs.declared.frame.Question.{Question}
 use Rattle.interface_egress.specs.declared.frame.Question.TheVariants as Query
@@ -105,21 +111,67 @@ cut_value header p value =
 abbrev place_of : Piece → Ipv4Piece
 place_of p = record { offset = p.offset; more = p.more }
 
-pub piece : (own to other : HardwareAddress) (sender receiver : ChecksumCapabilities) (header : Ipv4Repr) (p : Piece) (padding : List ℕ) →
+abbrev ReadsPiece : HardwareAddress → HardwareAddress → HardwareAddress → ChecksumCapabilities → ChecksumCapabilities → List ℕ → CutHeader → Piece → Type 0
+ReadsPiece own to other sender receiver padding header p =
+    IsIncoming other receiver (piece_frame sender own to header p ++ padding) (piece_read own to header p)
+
+piece4 : (own to other : HardwareAddress) (sender receiver : ChecksumCapabilities) (header : Ipv4Repr) (p : Piece) (padding : List ℕ) →
     AreSealed sender receiver
-    → IsOfMedium other own → IsOfMedium other to → IsWritablePiece header p
-    → IsIncoming other receiver (piece_frame sender own to header p ++ padding) (piece_read own to header p)
-piece (Hardware.Ethernet own) (Hardware.Ethernet to) (Hardware.Ethernet other) sender receiver header p padding sealed from receives w =
+    → IsOfMedium other own → IsOfMedium other to → IsWritablePiece (Cut.Ipv4 header) p → ReadsPiece own to other sender receiver padding (Cut.Ipv4 header) p
+piece4 (Hardware.Ethernet own) (Hardware.Ethernet to) (Hardware.Ethernet other) sender receiver header p padding sealed from receives w =
     piece-arrives (Hardware.Ethernet other) sender receiver (link_of (Hardware.Ethernet own) (Hardware.Ethernet to) Ether.Ipv4) (cut_header header p)
     (place_of p) p.bytes padding
     (can_frame own to other (Ip.Ipv4 header) from receives) w.short (cut_value header p w.header_is) refl w.within w.unit sealed
-piece (Hardware.Ethernet own) Hardware.Ip (Hardware.Ethernet other) sender receiver header p padding sealed from receives w = absurd receives
-piece Hardware.Ip to (Hardware.Ethernet other) sender receiver header p padding sealed from receives w = absurd from
-piece (Hardware.Ethernet own) to Hardware.Ip sender receiver header p padding sealed from receives w = absurd from
-piece Hardware.Ip (Hardware.Ethernet to) Hardware.Ip sender receiver header p padding sealed from receives w = absurd receives
-piece Hardware.Ip Hardware.Ip Hardware.Ip sender receiver header p padding sealed from receives w =
+piece4 (Hardware.Ethernet own) Hardware.Ip (Hardware.Ethernet other) sender receiver header p padding sealed from receives w = absurd receives
+piece4 Hardware.Ip to (Hardware.Ethernet other) sender receiver header p padding sealed from receives w = absurd from
+piece4 (Hardware.Ethernet own) to Hardware.Ip sender receiver header p padding sealed from receives w = absurd from
+piece4 Hardware.Ip (Hardware.Ethernet to) Hardware.Ip sender receiver header p padding sealed from receives w = absurd receives
+piece4 Hardware.Ip Hardware.Ip Hardware.Ip sender receiver header p padding sealed from receives w =
     piece-arrives Hardware.Ip sender receiver None (cut_header header p) (place_of p) p.bytes padding tt w.short (cut_value header p w.header_is) refl w.within
     w.unit sealed
+
+module _ (sender receiver : ChecksumCapabilities) (header : Ipv6Repr) (number : ℕ) (p : Piece) (padding : List ℕ) (sealed : AreSealed sender receiver)
+    (w : IsWritablePiece (Cut.Ipv6 header number) p) where
+  abbrev v : Ipv6Repr
+  v = piece_v6 header p
+
+  abbrev front : List ℕ
+  front = fragment_header header.next_header number p
+
+  value6 : Ipv6.IsValue v
+  value6 = record { source = w.header_is.0.source; destination = w.header_is.0.destination; protocol = omega arith; hops = w.header_is.0.hops }
+
+  long6 : v.payload_len ≡ length (front ++ p.bytes)
+  long6 = omega (arith, length-append front p.bytes)
+
+  fits6 : Ipv6.Fits v
+  fits6 = omega (arith, w.short)
+
+  split6 : (Ipv6.written v ++ front) ++ p.bytes ≡ Ipv6.written v ++ (front ++ p.bytes)
+  split6 = append_assoc (Ipv6.written v) front p.bytes
+
+  piece6 : (own to other : HardwareAddress) → IsOfMedium other own → IsOfMedium other to →
+      ReadsPiece own to other sender receiver padding (Cut.Ipv6 header number) p
+  piece6 (Hardware.Ethernet own) (Hardware.Ethernet to) (Hardware.Ethernet other) from receives =
+      let link : EthernetRepr = record { src_addr = own; dst_addr = to; ethertype = Ether.Ipv6 } in
+      subst (λ (b : List ℕ). IsIncoming (Hardware.Ethernet other) receiver ((Ethernet.written link ++ b) ++ padding) (Heard.Ip6 (Some link) (Ipv6.normal v)
+      (front ++ p.bytes))) (sym split6)
+      (packet-arrives (Hardware.Ethernet other) sender receiver (Some link) (Ip.Ipv6 v) (front ++ p.bytes) padding
+      (can_frame own to other (Ip.Ipv6 v) from receives) fits6 value6 long6 sealed)
+  piece6 (Hardware.Ethernet own) Hardware.Ip (Hardware.Ethernet other) from receives = absurd receives
+  piece6 Hardware.Ip to (Hardware.Ethernet other) from receives = absurd from
+  piece6 (Hardware.Ethernet own) to Hardware.Ip from receives = absurd from
+  piece6 Hardware.Ip (Hardware.Ethernet to) Hardware.Ip from receives = absurd receives
+  piece6 Hardware.Ip Hardware.Ip Hardware.Ip from receives =
+      subst (λ (b : List ℕ). IsIncoming Hardware.Ip receiver (b ++ padding) (Heard.Ip6 None (Ipv6.normal v) (front ++ p.bytes))) (sym split6)
+      (packet-arrives Hardware.Ip sender receiver None (Ip.Ipv6 v) (front ++ p.bytes) padding tt fits6 value6 long6 sealed)
+
+pub piece : (own to other : HardwareAddress) (sender receiver : ChecksumCapabilities) (header : CutHeader) (p : Piece) (padding : List ℕ) →
+    AreSealed sender receiver
+    → IsOfMedium other own → IsOfMedium other to → IsWritablePiece header p → ReadsPiece own to other sender receiver padding header p
+piece own to other sender receiver (Cut.Ipv4 header) p padding sealed from receives w = piece4 own to other sender receiver header p padding sealed from receives w
+piece own to other sender receiver (Cut.Ipv6 header number) p padding sealed from receives w =
+    piece6 sender receiver header number p padding sealed w own to other from receives
 
 -- QUESTIONS AND ANSWERS
 

@@ -11,6 +11,7 @@ use Rattle.interface_ingress.specs.Sent.{AreSealed}
 use Rattle.interface_ingress.proofs.OneContent.{one-content}
 use Rattle.interface_egress.specs.Departure.{Departure, Asks, Tells, Whole, Part}
 use Rattle.interface_egress.specs.GoesOut.{frame_of}
+use Rattle.interface_egress.specs.declared.frame.CutHeader.TheVariants as Cut
 use Rattle.interface_egress.specs.declared.frame.Question.TheVariants as Query
 use Rattle.interface_delivery.specs.Delivered.{CanArrive, packet_read, read_from, read_of, protocol_read, protocol_sent, NamesNoPorts, HasNoPorts, SendsNoPorts}
 use Rattle.interface_ingress.proofs.Bare.{bare_v6}
@@ -30,7 +31,8 @@ names own caps (Asks (Query.Arp from source target)) = refl
 names own caps (Asks (Query.Neighbor from source target)) = refl
 names own caps (Tells packet) = refl
 names own caps (Whole to p) = packet_names caps own to p.header p.payload
-names own caps (Part to header p) = refl
+names own caps (Part to (Cut.Ipv4 header) p) = refl
+names own caps (Part to (Cut.Ipv6 header number) p) = refl
 
 packet_free : (caps : ChecksumCapabilities) (own to : HardwareAddress) (h : IpRepr) (x : PayloadValue) → SendsNoPorts caps (Whole to (packet_of h x)) →
     HasNoPorts (packet_read caps own to (packet_of h x))
@@ -46,7 +48,8 @@ is_free own caps (Asks (Query.Neighbor from source target)) free =
     subst (λ (h : IpRepr). NamesNoPorts (carried_in h)) (sym straight.0) (λ is. absurd cc, λ is. absurd cc)
 is_free own caps (Tells packet) free = tt
 is_free own caps (Whole to p) free = packet_free caps own to p.header p.payload free
-is_free own caps (Part to header p) free = free
+is_free own caps (Part to (Cut.Ipv4 header) p) free = free
+is_free own caps (Part to (Cut.Ipv6 header number) p) free = free
 
 some_is : (x y : IncomingValue) → (let o : Option IncomingValue = Some x in o) ≡ Some y → x ≡ y
 some_is x y is = cc

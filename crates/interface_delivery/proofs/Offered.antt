@@ -14,16 +14,16 @@ use Rattle.socket_base.specs.Packet.{payload_written}
 use Rattle.interface_egress.specs.Inner.{InnerValue}
 use Rattle.interface_ingress.specs.Sent.{CanBeRead, AreSealed}
 use Rattle.interface_ingress.proofs.FramesArrive.{payload-brought}
-use Rattle.interface_egress.specs.Departure.{Departure, Asks, Whole}
+use Rattle.interface_egress.specs.Departure.{Departure, Asks, Whole, piece_header_len}
 use Rattle.interface_egress.specs.Fragments.{LeftValue, piece_room, next_piece, departure_from, cut_mtu, left_after}
-use Rattle.interface_egress.specs.GoesOut.{GoesOut, PieceGoesOut, Departs, numbered_v4, numbered_header, numbered, cut_of}
-use Rattle.interface_egress.specs.Plan.{longest_cut, total_len, plan_of, IsPacket}
+use Rattle.interface_egress.specs.GoesOut.{GoesOut, PieceGoesOut, Departs, numbered_v4, numbered_header, numbered, cut_header, cut_of}
+use Rattle.interface_egress.specs.Plan.{longest_cut, total_len, has_extensions, plan_of, IsPacket}
 use Rattle.interface_egress.specs.declared.frame.Question.{Question}
 use Rattle.interface_egress.specs.declared.plan.Plan.{Plan}
 use Rattle.interface_egress.specs.declared.plan.Plan.TheVariants as Way
 use Rattle.interface_egress.specs.declared.way_out.Sent.TheVariants as Outcome
 use Rattle.interface_egress.proofs.Planned.{plan_cases}
-use Rattle.interface_delivery.specs.Delivered.{CanArrive, IsWritable, IsWritablePiece}
+use Rattle.interface_delivery.specs.Delivered.{CanArrive, IsCutValue, IsWritable, IsWritablePiece}
 use Rattle.interface_delivery.specs.Taken.{Reader, CanRead, Arrives, IsCarriedTo, HasWidths, IsOffered, IsHalfSent}
 use Rattle.interface_delivery.proofs.Arrives.{arrives, length-written}
 
@@ -74,20 +74,17 @@ go_short i busy h to =
     (λ is. absurd cc) (λ is. absurd cc) (λ is. absurd cc) (λ is. absurd cc)
     (λ q may from is. absurd cc)
     (λ other short is. short)
-    (λ other v header long short idle is. absurd cc)
+    (λ other long short bare idle is. absurd cc)
 
-cut_is : (to other : HardwareAddress) (v w : Ipv4Repr) → Way.Cut other w ≡ Way.Cut to v → w ≡ v
-cut_is to other v w is = cc
-
-pub cut_short : (i : InnerValue) (busy : Bool) (h : IpRepr) (to : HardwareAddress) (v : Ipv4Repr) → plan_of i busy h ≡ Way.Cut to v → (h ≡ Ip.Ipv4 v) ×
-    (20 + v.payload_len ≤ longest_cut)
-cut_short i busy h to v =
-    plan_cases i busy h (λ plan. plan ≡ Way.Cut to v → (h ≡ Ip.Ipv4 v) × (20 + v.payload_len ≤ longest_cut))
+-- what is cut is no longer than a datagram that is, and has no extension headers
+pub cut_short : (i : InnerValue) (busy : Bool) (h : IpRepr) (to : HardwareAddress) → plan_of i busy h ≡ Way.Cut to → (total_len h ≤ longest_cut) ×
+    (has_extensions h ≡ false)
+cut_short i busy h to =
+    plan_cases i busy h (λ plan. plan ≡ Way.Cut to → (total_len h ≤ longest_cut) × (has_extensions h ≡ false))
     (λ is. absurd cc) (λ is. absurd cc) (λ is. absurd cc) (λ is. absurd cc)
     (λ q may from is. absurd cc)
     (λ other short is. absurd cc)
-    (λ other w header long short idle is. subst (λ (x : Ipv4Repr). (h ≡ Ip.Ipv4 x) ×
-    (20 + x.payload_len ≤ longest_cut)) (cut_is to other v w is) (header, short))
+    (λ other long short bare idle is. (short, bare))
 
 -- THE DEVICE
 
@@ -120,7 +117,7 @@ carried i busy p to reader wide offered plan can reads =
 later_piece : (mtu : ℕ) (l : LeftValue) → IsHalfSent l → IsWritablePiece l.header (next_piece mtu l)
 later_piece mtu l half = record {
   header_is = half.header_is;
-  short = omega (arith, half.short, length-take {A = ℕ} (piece_room mtu) (drop l.at l.payload), length-drop {A = ℕ} l.at l.payload);
+  short = omega (arith, half.short, length-take {A = ℕ} (piece_room l.header mtu) (drop l.at l.payload), length-drop {A = ℕ} l.at l.payload);
   within = omega (arith, half.short, half.within);
   unit = half.unit;
 }
@@ -131,51 +128,57 @@ pub later : {D : Type 0} (moves : D → Move → D → Type 0) (old new : D) (i 
 later moves old new i l l' reader half goes can =
     taken moves old new i (departure_from i l) reader goes.0 can.sealed (can.medium, later_piece (cut_mtu i l) l half)
 
-pub begun_half : (i : InnerValue) (busy : Bool) (p : PacketValue) (to : HardwareAddress) (v : Ipv4Repr) → HasWidths i → IsOffered p →
-    plan_of i busy p.header ≡ Way.Cut to v → IsHalfSent (cut_of i to v p)
-begun_half i busy p to v wide offered plan =
-    let short = cut_short i busy p.header to v plan in
-    let w : IsWritable (numbered i p) = writes i p wide offered (rw short.0 (omega (arith, short.1))) in
-    let len : Ips.payload_len_of (numbered_header i p.header) ≡ length (payload_written i.checksums (numbered_header i p.header) p.payload) =
-    length-written i.checksums (numbered i p) w in
-    let header : Ips.IsValue (Ip.Ipv4 v) = subst Ips.IsValue short.0 offered.header in
-    let size : v.payload_len ≡ Ips.payload_len_of (numbered_header i p.header) = ap (λ (h : IpRepr). Ips.payload_len_of (numbered_header i h)) (sym short.0) in
+-- the header of what is cut
+cut_value : (i : InnerValue) (h : IpRepr) → HasWidths i → Ips.IsValue h → IsCutValue (cut_header i h)
+cut_value i (Ip.Ipv4 v) wide value = record {
+  source = value.source;
+  destination = value.destination;
+  identification = wide.ident;
+  protocol = value.protocol;
+  hops = value.hops;
+}
+cut_value i (Ip.Ipv6 v) wide value = (value, omega (arith, wide.ident))
+
+cut_room : (i : InnerValue) (h : IpRepr) (n : ℕ) → total_len h ≤ longest_cut → Ips.payload_len_of (numbered_header i h) ≡ n →
+    piece_header_len (cut_header i h) + n < 2 ^ 16
+cut_room i (Ip.Ipv4 v) n short len = omega (arith, short, len)
+cut_room i (Ip.Ipv6 v) n short len = omega (arith, short, len)
+
+pub begun_half : (i : InnerValue) (busy : Bool) (p : PacketValue) (to : HardwareAddress) → HasWidths i → IsOffered p →
+    plan_of i busy p.header ≡ Way.Cut to → IsHalfSent (cut_of i to p)
+begun_half i busy p to wide offered plan =
+    let short = (cut_short i busy p.header to plan).0 in
+    let w : IsWritable (numbered i p) = writes i p wide offered (omega (arith, short)) in
     record {
-      header_is = record {
-        source = header.source;
-        destination = header.destination;
-        identification = wide.ident;
-        protocol = header.protocol;
-        hops =
-            header.hops;
-      };
-      short = omega (arith, len, size, short.1);
+      header_is = cut_value i p.header wide offered.header;
+      short = cut_room i p.header (length (payload_written i.checksums (numbered_header i p.header) p.payload)) short
+          (length-written i.checksums (numbered i p) w);
       within = omega arith;
       unit = refl;
     }
 
 pub first : {D : Type 0} (moves : D → Move → D →
-    Type 0) (old new : D) (i i' : InnerValue) (l l' : Option LeftValue) (busy : Bool) (p : PacketValue) (to : HardwareAddress) (v : Ipv4Repr)
+    Type 0) (old new : D) (i i' : InnerValue) (l l' : Option LeftValue) (busy : Bool) (p : PacketValue) (to : HardwareAddress)
     (reader : Reader) → HasWidths i → IsOffered p
-    → plan_of i busy p.header ≡ Way.Cut to v → GoesOut moves old i l p (plan_of i busy p.header) Outcome.Gone new i' l' → CanRead i to reader
-    → Arrives moves old i (departure_from i (cut_of i to v p)) reader new
-first moves old new i i' l l' busy p to v reader wide offered plan goes can =
-    let went : GoesOut moves old i l p (Way.Cut to v) Outcome.Gone new i' l' =
+    → plan_of i busy p.header ≡ Way.Cut to → GoesOut moves old i l p (plan_of i busy p.header) Outcome.Gone new i' l' → CanRead i to reader
+    → Arrives moves old i (departure_from i (cut_of i to p)) reader new
+first moves old new i i' l l' busy p to reader wide offered plan goes can =
+    let went : GoesOut moves old i l p (Way.Cut to) Outcome.Gone new i' l' =
     subst (λ (x : Plan). GoesOut moves old i l p x Outcome.Gone new i' l') plan goes in
-    taken moves old new i (departure_from i (cut_of i to v p)) reader went.0 can.sealed (
+    taken moves old new i (departure_from i (cut_of i to p)) reader went.0 can.sealed (
       can.medium,
-      later_piece (cut_mtu i (cut_of i to v p)) (cut_of i to v p) (begun_half i busy p to v wide offered plan),
+      later_piece (cut_mtu i (cut_of i to p)) (cut_of i to p) (begun_half i busy p to wide offered plan),
     )
 
-left_by : (mtu : ℕ) (l : LeftValue) (b : Bool) → nat_lt (l.at + piece_room mtu) (length l.payload) ≡ b → IsHalfSent l →
-    IfSome (cond b (Some (record l { at = l.at + piece_room mtu })) None) IsHalfSent
+left_by : (mtu : ℕ) (l : LeftValue) (b : Bool) → nat_lt (l.at + piece_room l.header mtu) (length l.payload) ≡ b → IsHalfSent l →
+    IfSome (cond b (Some (record l { at = l.at + piece_room l.header mtu })) None) IsHalfSent
 left_by mtu l true is half =
-    let more : l.at + piece_room mtu < length l.payload = grind (arith, nat_tests) in
+    let more : l.at + piece_room l.header mtu < length l.payload = grind (arith, nat_tests) in
     record { header_is = half.header_is; short = half.short; within = omega (arith, more); unit = omega (arith, half.unit) }
 left_by mtu l false is half = tt
 
 pub left_half : (mtu : ℕ) (l : LeftValue) → IsHalfSent l → IfSome (left_after mtu l) IsHalfSent
-left_half mtu l half = left_by mtu l (nat_lt (l.at + piece_room mtu) (length l.payload)) refl half
+left_half mtu l half = left_by mtu l (nat_lt (l.at + piece_room l.header mtu) (length l.payload)) refl half
 
 -- QUESTIONS
 

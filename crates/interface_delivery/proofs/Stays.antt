@@ -12,9 +12,7 @@ use Rattle.ip_packet.specs.Ip.{destination_of}
 use Rattle.interface_ingress.specs.IpAddress.{IpAddress}
 use Rattle.interface_ingress.specs.IpAddress.TheVariants as Address
 use Rattle.ip_packet.specs.declared.ip.repr.IpRepr.{IpRepr}
-use Rattle.ip_packet.specs.declared.ip.repr.IpRepr.TheVariants as Ip
 use Rattle.interface_ingress.specs.Ipv4Address.{Ipv4Address}
-use Rattle.ip_packet.specs.declared.ipv4.repr.Ipv4Repr.{Ipv4Repr}
 use Rattle.interface_ingress.specs.Best.{at_place}
 use Rattle.interface_egress.specs.Inner.{mtu_to}
 use Rattle.interface_egress.specs.Inner.{InnerValue, is_local_broadcast, next_hop, link_by, link_of_hop, link_on, link_address, group_station, all_stations}
@@ -25,7 +23,7 @@ use Rattle.interface_ingress.specs.LinkAddress.TheVariants as Link
 use Rattle.interface_ingress.specs.Answer.{Answer}
 use Rattle.interface_ingress.specs.Answer.TheVariants as Known
 use Rattle.interface_egress.specs.Neighbor.{Neighbor}
-use Rattle.interface_egress.specs.Plan.{longest_cut, total_len, cut_if_idle, long_plan, ask_v4, ask_on, may_ask, ask_if, plan_by, never_leaves, plan_of}
+use Rattle.interface_egress.specs.Plan.{can_be_cut, total_len, cut_if_idle, long_plan, ask_v4, ask_on, may_ask, ask_if, plan_by, never_leaves, plan_of}
 use Rattle.interface_egress.specs.declared.plan.Plan.{Plan}
 use Rattle.interface_egress.specs.declared.plan.Plan.TheVariants as Way
 use Rattle.interface_delivery.specs.Delivered.{IsOfMedium, AreOfOneMedium}
@@ -52,7 +50,7 @@ LinkStays own (Link.Unknown hop) = Unit {0}
 
 abbrev PlanStays : HardwareAddress → Plan → Type 0
 PlanStays own (Way.Go to) = IsOfMedium own to
-PlanStays own (Way.Cut to v) = IsOfMedium own to
+PlanStays own (Way.Cut to) = IsOfMedium own to
 PlanStays own Way.Drop = Unit {0}
 PlanStays own Way.NoRoute = Unit {0}
 PlanStays own Way.Wait = Unit {0}
@@ -133,17 +131,16 @@ link_stays (Hardware.Ethernet own) i address is stays =
 
 -- EACH PLAN
 
-idle_by : (own to : HardwareAddress) (v : Ipv4Repr) (b : Bool) → IsOfMedium own to → PlanStays own (cut_if_idle b to v)
-idle_by own to v true is = tt
-idle_by own to v false is = is
+idle_by : (own to : HardwareAddress) (b : Bool) → IsOfMedium own to → PlanStays own (cut_if_idle b to)
+idle_by own to true is = tt
+idle_by own to false is = is
 
-short_by : (own to : HardwareAddress) (v : Ipv4Repr) (busy b : Bool) → IsOfMedium own to → PlanStays own (cond b (cut_if_idle busy to v) Way.Drop)
-short_by own to v busy true is = idle_by own to v busy is
-short_by own to v busy false is = tt
+short_by : (own to : HardwareAddress) (busy b : Bool) → IsOfMedium own to → PlanStays own (cond b (cut_if_idle busy to) Way.Drop)
+short_by own to busy true is = idle_by own to busy is
+short_by own to busy false is = tt
 
 long_stays : (own to : HardwareAddress) (busy : Bool) (h : IpRepr) → IsOfMedium own to → PlanStays own (long_plan busy to h)
-long_stays own to busy (Ip.Ipv4 v) is = short_by own to v busy (nat_le (20 + v.payload_len) longest_cut) is
-long_stays own to busy (Ip.Ipv6 v) is = tt
+long_stays own to busy h is = short_by own to busy (can_be_cut h) is
 
 to_by : (own to : HardwareAddress) (busy : Bool) (h : IpRepr) (b : Bool) → IsOfMedium own to → PlanStays own (cond b (Way.Go to) (long_plan busy to h))
 to_by own to busy h true is = is
@@ -179,9 +176,9 @@ pub go_stays : (i : InnerValue) (busy : Bool) (h : IpRepr) (to : HardwareAddress
     plan_of i busy h ≡ Way.Go to → IsOfMedium i.hardware to
 go_stays i busy h to knows is plan = subst (PlanStays i.hardware) plan (plan_stays i busy h knows is)
 
-pub cut_stays : (i : InnerValue) (busy : Bool) (h : IpRepr) (to : HardwareAddress) (v : Ipv4Repr) → KnowsItsMedium i → IsIpAddress (destination_of h) →
-    plan_of i busy h ≡ Way.Cut to v → IsOfMedium i.hardware to
-cut_stays i busy h to v knows is plan = subst (PlanStays i.hardware) plan (plan_stays i busy h knows is)
+pub cut_stays : (i : InnerValue) (busy : Bool) (h : IpRepr) (to : HardwareAddress) → KnowsItsMedium i → IsIpAddress (destination_of h) →
+    plan_of i busy h ≡ Way.Cut to → IsOfMedium i.hardware to
+cut_stays i busy h to knows is plan = subst (PlanStays i.hardware) plan (plan_stays i busy h knows is)
 
 -- TWO HOSTS
 

@@ -1,5 +1,5 @@
 -- What another host of the same medium reads in the frame of a departure.
-use Rattle.std.specs.Prelude.{◌≡◌, ◌+◌, ◌%◌, ◌^◌, ◌<◌, length, Option, None, Some}
+use Rattle.std.specs.Prelude.{◌≡◌, ◌+◌, ◌%◌, ◌^◌, ◌<◌, ◌++◌, length, Option, None, Some}
 use Rattle.net_base.specs.ChecksumCapabilities.{ChecksumCapabilities}
 use Rattle.interface_ingress.specs.Address.{IsEthernetAddress, IsIpv4Address, IsIpv6Address}
 use Rattle.interface_egress.specs.Arp as Arps
@@ -14,7 +14,7 @@ use Rattle.interface_ingress.specs.IpProtocol.{IpProtocol}
 use Rattle.interface_ingress.specs.IpProtocol.TheVariants as Protocol
 use Rattle.ip_packet.specs.declared.ip.repr.IpRepr.TheVariants as Ip
 use Rattle.ip_packet.specs.Ipv4 as Ipv4
-use Rattle.ip_packet.specs.declared.ipv4.repr.Ipv4Repr.{Ipv4Repr}
+use Rattle.ip_packet.specs.Ipv6 as Ipv6
 use Rattle.socket_base.specs.Packet.{PacketValue, IsSendable, payload_written}
 use Rattle.socket_base.specs.Widths.{IsPayload}
 use Rattle.interface_egress.specs.Inner.{InnerValue}
@@ -23,6 +23,9 @@ use Rattle.interface_ingress.specs.Incoming.{IncomingValue, Arp, Ip4, Ip6}
 use Rattle.interface_ingress.specs.Sent.{ether_for, uncut}
 use Rattle.interface_ingress.specs.Upper.{upper_header}
 use Rattle.interface_egress.specs.Departure.{Departure, Asks, Tells, Whole, Part, arp_link, arp_request, solicited_station, solicitation}
+use Rattle.interface_egress.specs.Departure.{piece_header_len, piece_v6, fragment_header}
+use Rattle.interface_egress.specs.declared.frame.CutHeader.{CutHeader}
+use Rattle.interface_egress.specs.declared.frame.CutHeader.TheVariants as Cut
 use Rattle.interface_egress.specs.declared.frame.Question.{Question}
 use Rattle.interface_egress.specs.declared.frame.Question.TheVariants as Query
 
@@ -46,13 +49,18 @@ link_of from to carried = None
 abbrev pub packet_read : ChecksumCapabilities → HardwareAddress → HardwareAddress → PacketValue → IncomingValue
 packet_read caps own to p = uncut (link_of own to (ether_for p.header)) (Ips.normal p.header) (payload_written caps p.header p.payload)
 
--- a piece has the datagram's header but for the length, which is its own, and says its place and whether more follow
-abbrev pub piece_read : HardwareAddress → HardwareAddress → Ipv4Repr → Pieces.Piece → IncomingValue
-piece_read own to header p = Ip4
+-- A piece of IPv4 has the datagram's header but for the length, which is its own, and says its place and whether more follow. One of
+-- IPv6 says them in its fragment header, before its bytes.
+abbrev pub piece_read : HardwareAddress → HardwareAddress → CutHeader → Pieces.Piece → IncomingValue
+piece_read own to (Cut.Ipv4 header) p = Ip4
     (link_of own to Ether.Ipv4)
     (Ipv4.normal (record header { payload_len = length p.bytes }))
     (record { offset = p.offset; more = p.more })
     p.bytes
+piece_read own to (Cut.Ipv6 header number) p = Ip6
+    (link_of own to Ether.Ipv6)
+    (Ipv6.normal (piece_v6 header p))
+    (fragment_header header.next_header number p ++ p.bytes)
 
 abbrev pub question_read : ChecksumCapabilities → Question → IncomingValue
 question_read caps (Query.Arp own source target) =
@@ -87,10 +95,15 @@ pub record IsWritable (p : PacketValue) : Type 0 where
   pub header : Ips.IsValue p.header
   pub payload : IsPayload p.payload
 
+-- each field is a number of its width
+abbrev pub IsCutValue : CutHeader → Type 0
+IsCutValue (Cut.Ipv4 header) = Ipv4.IsValue header
+IsCutValue (Cut.Ipv6 header number) = Ipv6.IsValue header × (number < 2 ^ 32)
+
 -- a piece of a datagram with this header, in units of 8 bytes
-pub record IsWritablePiece (header : Ipv4Repr) (p : Pieces.Piece) : Type 0 where
-  pub header_is : Ipv4.IsValue header
-  pub short : 20 + length p.bytes < 2 ^ 16
+pub record IsWritablePiece (header : CutHeader) (p : Pieces.Piece) : Type 0 where
+  pub header_is : IsCutValue header
+  pub short : piece_header_len header + length p.bytes < 2 ^ 16
   pub within : p.offset < 2 ^ 16
   pub unit : p.offset % 8 ≡ 0
 
@@ -114,13 +127,18 @@ protocol_read (Arp link packet) = None
 protocol_read (Ip4 link header piece payload) = Some header.next_header
 protocol_read (Ip6 link header payload) = Some header.next_header
 
+-- what the packet of a piece carries: of IPv6 a fragment header
+abbrev pub piece_protocol : CutHeader → IpProtocol
+piece_protocol (Cut.Ipv4 header) = (Ipv4.normal header).next_header
+piece_protocol (Cut.Ipv6 header number) = Protocol.Ipv6Frag
+
 -- what the packet of a departure carries
 abbrev pub protocol_sent : Departure → Option IpProtocol
 protocol_sent (Asks (Query.Arp own source target)) = None
 protocol_sent (Asks (Query.Neighbor own source target)) = Some Protocol.Icmpv6
 protocol_sent (Tells packet) = None
 protocol_sent (Whole to p) = Some (carried_in (Ips.normal p.header))
-protocol_sent (Part to header p) = Some (Ipv4.normal header).next_header
+protocol_sent (Part to header p) = Some (piece_protocol header)
 
 -- neither TCP nor UDP
 abbrev pub NamesNoPorts : IpProtocol → Type 0
@@ -132,9 +150,15 @@ HasNoPorts (Arp link packet) = Unit {0}
 HasNoPorts (Ip4 link header piece payload) = NamesNoPorts header.next_header
 HasNoPorts (Ip6 link header payload) = NamesNoPorts (carried_in (upper_header (Ip.Ipv6 header) payload))
 
+-- the packet of a piece names neither, behind its extension headers either
+abbrev pub PieceHasNoPorts : CutHeader → Pieces.Piece → Type 0
+PieceHasNoPorts (Cut.Ipv4 header) p = NamesNoPorts (Ipv4.normal header).next_header
+PieceHasNoPorts (Cut.Ipv6 header number) p =
+    NamesNoPorts (carried_in (upper_header (Ip.Ipv6 (Ipv6.normal (piece_v6 header p))) (fragment_header header.next_header number p ++ p.bytes)))
+
 -- a question, an answer to one, or a packet, or a piece of one, that carries neither
 abbrev pub SendsNoPorts : ChecksumCapabilities → Departure → Type 0
 SendsNoPorts caps (Asks question) = Unit {0}
 SendsNoPorts caps (Tells packet) = Unit {0}
 SendsNoPorts caps (Whole to p) = NamesNoPorts (carried_in (upper_header (Ips.normal p.header) (payload_written caps p.header p.payload)))
-SendsNoPorts caps (Part to header p) = NamesNoPorts (Ipv4.normal header).next_header
+SendsNoPorts caps (Part to header p) = PieceHasNoPorts header p

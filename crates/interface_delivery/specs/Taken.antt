@@ -4,18 +4,17 @@ use Rattle.net_base.specs.ChecksumCapabilities.{ChecksumCapabilities}
 use Rattle.net_base.specs.Device.{Move, Emitted}
 use Rattle.interface_ingress.specs.HardwareAddress.{HardwareAddress}
 use Rattle.ip_packet.specs.Ip as Ips
-use Rattle.ip_packet.specs.Ipv4 as Ipv4
 use Rattle.socket_base.specs.Packet.{PacketValue, payload_written}
 use Rattle.socket_base.specs.Widths.{IsPayload}
 use Rattle.interface_egress.specs.Inner.{InnerValue}
 use Rattle.interface_ingress.specs.Incoming.{IsContent}
 use Rattle.interface_ingress.specs.Upper.{IsBrought}
 use Rattle.interface_ingress.specs.Sent.{AreSealed, normal_payload}
-use Rattle.interface_egress.specs.Departure.{Departure}
+use Rattle.interface_egress.specs.Departure.{Departure, piece_header_len}
 use Rattle.interface_egress.specs.Fragments.{LeftValue}
 use Rattle.interface_egress.specs.GoesOut.{frame_of}
 use Rattle.interface_egress.specs.Plan.{IsPacket}
-use Rattle.interface_delivery.specs.Delivered.{AreOfOneMedium, read_of}
+use Rattle.interface_delivery.specs.Delivered.{AreOfOneMedium, IsCutValue, read_of}
 
 -- a host that may read what another one sends: its hardware address, and the checksums that it tests
 pub record Reader : Type 0 where
@@ -58,7 +57,7 @@ pub record IsOffered (p : PacketValue) : Type 0 where
 
 -- a datagram that is half sent, up to a whole unit of 8 bytes, and whose header is one
 pub record IsHalfSent (l : LeftValue) : Type 0 where
-  pub header_is : Ipv4.IsValue l.header
-  pub short : 20 + length l.payload < 2 ^ 16
+  pub header_is : IsCutValue l.header
+  pub short : piece_header_len l.header + length l.payload < 2 ^ 16
   pub within : l.at ≤ length l.payload
   pub unit : l.at % 8 ≡ 0

@@ -4,7 +4,6 @@ ghost use Rattle.net_base.specs.ChecksumCapabilities.{ChecksumCapabilities};
 ghost use Rattle.interface_ingress.specs.Address.{IsIpAddress};
 ghost use Rattle.interface_ingress.specs.HardwareAddress.{HardwareAddress};
 ghost use Rattle.ip_packet.specs.Ip.{destination_of};
-ghost use Rattle.ip_packet.specs.declared.ipv4.repr.Ipv4Repr.{Ipv4Repr};
 ghost use Rattle.socket_base.specs.Packet.{PacketValue};
 ghost use Rattle.interface_egress.specs.Inner.{InnerValue};
 ghost use Rattle.interface_ingress.specs.Incoming.{IncomingValue, IsContent};
@@ -74,24 +73,24 @@ pub fn offered_packets_arrive<D: Device>()
 /// Law: the pieces of an offered packet that is too long arrive, the first one as it is cut and the others in turn, each at its
 /// place in the payload, with the datagram's identification, and whether more follow.
 pub fn pieces_arrive<D: Device>()
-    ensures first { (old new : D) (i i' : InnerValue) (l l' : Option LeftValue) (busy : Bool) (p : PacketValue) (to : HardwareAddress) (header : Ipv4Repr)
+    ensures first { (old new : D) (i i' : InnerValue) (l l' : Option LeftValue) (busy : Bool) (p : PacketValue) (to : HardwareAddress)
         (reader : Reader)
         → HasWidths i
         → IsOffered p
-        → plan_of i busy p.header ≡ Way.Cut to header
+        → plan_of i busy p.header ≡ Way.Cut to
         → GoesOut D.moves old i l p (plan_of i busy p.header) Outcome.Gone new i' l'
         → CanRead i to reader
-        → Arrives D.moves old i (departure_from i (cut_of i to header p)) reader new }
+        → Arrives D.moves old i (departure_from i (cut_of i to p)) reader new }
     ensures later { (old new : D) (i : InnerValue) (l : LeftValue) (l' : Option LeftValue) (reader : Reader)
         → IsHalfSent l
         → PieceGoesOut D.moves old i l true new l'
         → CanRead i l.to reader
         → Arrives D.moves old i (departure_from i l) reader new }
-    ensures begun { (i : InnerValue) (busy : Bool) (p : PacketValue) (to : HardwareAddress) (header : Ipv4Repr)
+    ensures begun { (i : InnerValue) (busy : Bool) (p : PacketValue) (to : HardwareAddress)
         → HasWidths i
         → IsOffered p
-        → plan_of i busy p.header ≡ Way.Cut to header
-        → IsHalfSent (cut_of i to header p) }
+        → plan_of i busy p.header ≡ Way.Cut to
+        → IsHalfSent (cut_of i to p) }
     ensures left { (mtu : ℕ) (l : LeftValue) → IsHalfSent l → IfSome (left_after mtu l) IsHalfSent }
 {}
 
@@ -120,10 +119,10 @@ pub fn frames_stay_on_the_medium()
         → IsIpAddress (destination_of p.header)
         → plan_of i busy p.header ≡ Way.Go to
         → IsOfMedium i.hardware to }
-    ensures cut { (i : InnerValue) (busy : Bool) (p : PacketValue) (to : HardwareAddress) (header : Ipv4Repr)
+    ensures cut { (i : InnerValue) (busy : Bool) (p : PacketValue) (to : HardwareAddress)
         → KnowsItsMedium i
         → IsIpAddress (destination_of p.header)
-        → plan_of i busy p.header ≡ Way.Cut to header
+        → plan_of i busy p.header ≡ Way.Cut to
         → IsOfMedium i.hardware to }
     ensures readers { (own to other : HardwareAddress) → IsOfMedium other own → IsOfMedium own to → AreOfOneMedium own to other }
 {}

@@ -1,5 +1,5 @@
 -- Words of the laws: which frame a plan sends, and what a host is after it.
-use Rattle.std.specs.Prelude.{◌≡◌, ℕ, ◌+◌, ◌%◌, ◌^◌, ℤ, Bool, true, false, Option, None, Some}
+use Rattle.std.specs.Prelude.{◌≡◌, ℕ, ◌+◌, ◌%◌, ◌^◌, ℤ, Bool, true, false, if◌then◌else◌, Option, None, Some}
 use Rattle.net_base.specs.Device.{Move}
 use Rattle.ip_wire.specs.HardwareAddress.{HardwareAddress}
 use Rattle.ip_wire.specs.HardwareAddress.TheVariants as Hardware
@@ -28,14 +28,15 @@ abbrev pub link_room : HardwareAddress → ℕ
 link_room Hardware.Ip = 0
 link_room (Hardware.Ethernet own) = 14
 
--- the next identification: a packet of IPv4 takes one, and one of IPv6 that is cut
-abbrev pub ident_behind : Plan → IpRepr → ℕ → ℕ
-ident_behind (Way.Cut to) header ident = (ident + 1) % 2 ^ 16
-ident_behind plan (Ip.Ipv4 v) ident = (ident + 1) % 2 ^ 16
-ident_behind plan (Ip.Ipv6 v) ident = ident
+-- a packet of IPv4 takes an identification, and one of IPv6 that is cut
+abbrev pub takes_number : Plan → IpRepr → Bool
+takes_number (Way.Cut to) header = true
+takes_number plan (Ip.Ipv4 v) = true
+takes_number plan (Ip.Ipv6 v) = false
 
+-- the next identification
 abbrev pub ident_after : Plan → Sent → IpRepr → ℕ → ℕ
-ident_after plan Outcome.Gone header ident = ident_behind plan header ident
+ident_after plan Outcome.Gone header ident = if takes_number plan header then (ident + 1) % 2 ^ 16 else ident
 ident_after plan _ header ident = ident
 
 -- the neighbours behind a request that went, with its silence

@@ -30,8 +30,8 @@ longest_cut = 4096
 abbrev pub total_len : IpRepr → ℕ
 total_len header = header_len_in header + payload_len_of header
 
--- An extension header stands behind the IPv6 header, as its number says; a raw socket alone sends one. Some belong before the
--- fragment header of each piece (RFC 8200, section 4.5), and so what has any isn't cut.
+-- What has extension headers, as the number in its IPv6 header says, isn't cut: some belong before the fragment header of each
+-- piece (RFC 8200, section 4.5). A raw socket alone sends such a packet.
 abbrev pub has_extensions : IpRepr → Bool
 has_extensions (Ip.Ipv4 v) = false
 has_extensions (Ip.Ipv6 v) = is_extension (protocol_of (protocol_number v.next_header))

@@ -20,7 +20,7 @@ use Rattle.interface_tables.specs.declared.link.LinkAddress.{LinkAddress}
 use Rattle.interface_tables.specs.declared.link.LinkAddress.TheVariants as Link
 use Rattle.interface_tables.specs.declared.neighbor.Answer.{Answer}
 use Rattle.interface_tables.specs.declared.neighbor.Answer.TheVariants as Known
-use Rattle.interface_egress.specs.Plan.{total_len, longest_cut, cut_if_idle, long_plan, ask_v4, ask_from, ask_on, may_ask, ask_if, plan_by}
+use Rattle.interface_egress.specs.Plan.{total_len, can_be_cut, cut_if_idle, long_plan, ask_v4, ask_from, ask_on, may_ask, ask_if, plan_by}
 use Rattle.interface_egress.specs.Plan.{never_leaves, plan_of}
 use Rattle.interface_egress.specs.declared.frame.Question.TheVariants as Query
 use Rattle.interface_egress.specs.declared.plan.Plan.{Plan}
@@ -34,7 +34,7 @@ is_to_wait (Way.Ask question) = true
 is_to_wait Way.Drop = false
 is_to_wait Way.Busy = false
 is_to_wait (Way.Go to) = false
-is_to_wait (Way.Cut to v) = false
+is_to_wait (Way.Cut to) = false
 
 abbrev pub is_busy : Plan → Bool
 is_busy Way.NoRoute = false
@@ -43,7 +43,7 @@ is_busy (Way.Ask question) = false
 is_busy Way.Drop = false
 is_busy Way.Busy = true
 is_busy (Way.Go to) = false
-is_busy (Way.Cut to v) = false
+is_busy (Way.Cut to) = false
 
 pub record Facts (i : InnerValue) (busy : Bool) (h : IpRepr) (plan : Plan) : Type 0 where
   pub unknown : is_to_wait plan ≡ true → has_neighbor i (destination_of h) ≡ false
@@ -100,11 +100,10 @@ module _ (i : InnerValue) (busy : Bool) (h : IpRepr) where
   goes : (to : HardwareAddress) → P (Way.Go to)
   goes to = record { unknown = λ e. clash (sym e); idle = λ _. refl }
 
-  long : (to : HardwareAddress) (k : IpRepr) → P (long_plan busy to k)
-  long to (Ip.Ipv6 v) = drops
-  long to (Ip.Ipv4 v) =
-      cond_both (nat_le (20 + v.payload_len) longest_cut) (cut_if_idle busy to v) Way.Drop P
-      (λ _. cond_both busy Way.Busy (Way.Cut to v) P
+  long : (to : HardwareAddress) → P (long_plan busy to h)
+  long to =
+      cond_both (can_be_cut h) (cut_if_idle busy to) Way.Drop P
+      (λ _. cond_both busy Way.Busy (Way.Cut to) P
       (λ is. record { unknown = λ e. clash (sym e); idle = λ no. clash (sym is ∙ no) })
       (λ _. record { unknown = λ e. clash (sym e); idle = λ _. refl }))
       (λ _. drops)
@@ -131,7 +130,7 @@ module _ (i : InnerValue) (busy : Bool) (h : IpRepr) where
 
   by_link : (l : LinkAddress) → link_address i (destination_of h) ≡ l → P (plan_by l i busy h)
   by_link (Link.Known to) is = cond_both (nat_le (total_len h) (mtu_to i (destination_of h))) (Way.Go to) (long_plan busy to h) P (λ _. goes to)
-      (λ _. long to h)
+      (λ _. long to)
   by_link Link.NoRoute is = waits (unknown_by i (destination_of h) Link.NoRoute is refl) Way.NoRoute refl
   by_link Link.Silent is = waits (unknown_by i (destination_of h) Link.Silent is refl) Way.Wait refl
   by_link Link.Unanswered is = drops
@@ -159,7 +158,7 @@ waits_later (Way.Ask question) i e = next_later i
 waits_later Way.Drop i e = clash (sym e)
 waits_later Way.Busy i e = clash (sym e)
 waits_later (Way.Go to) i e = clash (sym e)
-waits_later (Way.Cut to v) i e = clash (sym e)
+waits_later (Way.Cut to) i e = clash (sym e)
 
 -- what is out of turn waits
 pub out_of_turn_waits : (turn : Option IpAddress) (plan : Plan) → is_out_of_turn turn plan ≡ true → is_to_wait plan ≡ true
@@ -169,4 +168,4 @@ out_of_turn_waits turn Way.Wait e = refl
 out_of_turn_waits turn Way.Drop e = clash (sym e)
 out_of_turn_waits turn Way.Busy e = clash (sym e)
 out_of_turn_waits turn (Way.Go to) e = clash (sym e)
-out_of_turn_waits turn (Way.Cut to v) e = clash (sym e)
+out_of_turn_waits turn (Way.Cut to) e = clash (sym e)

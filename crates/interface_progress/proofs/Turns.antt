@@ -267,7 +267,7 @@ module _ {D : Type 0} (moves : D → Move → D → Type 0) where
             (λ none. clash (facts.idle (none_busy none)))
         out (Way.Ask q) sent facts goes gets = asked q sent goes.0 gets.0
         out (Way.Go to) sent facts goes gets = whole (Departures.Whole to (numbered x.inner p)) sent goes.0 gets.0
-        out (Way.Cut to v) sent facts goes gets = cut (cut_of x.inner to v p) sent goes gets.0
+        out (Way.Cut to) sent facts goes gets = cut (cut_of x.inner to p) sent goes gets.0
 
       held_ends : (plan : Plan) (sent : Sent) (given_up other : Bool) → moves x.device (Allowed x.inner.moment true) x'.device →
           (other ≡ true → is_to_wait plan ≡ true)

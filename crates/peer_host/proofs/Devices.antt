@@ -76,7 +76,7 @@ module _ {D : Type 0} (moves : D → Move → D → Type 0) (Q : D → Type 0) (
   goes d d' i i' l l' p Way.Busy sent is holds = same d d' is.1.0 holds
   goes d d' i i' l l' p (Way.Ask q) sent is holds = asked d d' i i' q sent is.0 holds
   goes d d' i i' l l' p (Way.Go to) sent is holds = went d d' i i' p.header (Departures.Whole to (numbered i p)) sent is.0 holds
-  goes d d' i i' l l' p (Way.Cut to v) sent is holds = was_cut d d' i i' l l' (cut_of i to v p) sent is holds
+  goes d d' i i' l l' p (Way.Cut to) sent is holds = was_cut d d' i i' l l' (cut_of i to p) sent is holds
 
   piece_goes : (d d' : D) (i : InnerValue) (l : LeftValue) (gone : Bool) (l' : Option LeftValue) → PieceGoesOut moves d i l gone d' l' → Q d → Q d'
   piece_goes d d' i l true l' is holds = keeps d d' (Emitted _) is.0.0 holds

@@ -1,5 +1,5 @@
 -- When values of an interface are equal, by the laws of their addresses, headers and packets.
-use Rattle.std.proofs.Common.{◌≡◌, refl, ap, ap₂}
+use Rattle.std.proofs.Common.{◌≡◌, ℕ, refl, ap, ap₂}
 use Rattle.std.specs.Bool.{Decides}
 use Rattle.std.proofs.lemmas.Bool.Decides.{Decides-and}
 use Rattle.std.proofs.lemmas.Slice.Eq.{bytes_eq-Decides}
@@ -9,6 +9,7 @@ use Rattle.ip_wire.specs.IpAddress.{IpAddress}
 use Rattle.ip_wire.specs.Ipv4Address.{Ipv4Address}
 use Rattle.ip_wire.specs.Ipv4Repr.{Ipv4Repr}
 use Rattle.ip_wire.specs.Ipv6Address.{Ipv6Address}
+use Rattle.ip_wire.specs.Ipv6Repr.{Ipv6Repr}
 use Rattle.ip_wire.specs.declared.arp.repr.ArpRepr.{ArpRepr}
 use Rattle.interface_tables.specs.contracts.link.LinkAddressPartialEq.TheImpl as Links
 use Rattle.interface_tables.specs.contracts.neighbor.AnswerPartialEq.TheImpl as Answers
@@ -19,11 +20,14 @@ use Rattle.interface_tables.specs.declared.neighbor.Answer.TheVariants as Known
 use Rattle.interface_egress.specs.contracts.fragmenter.CutPartialEq.TheImpl as Cuts
 use Rattle.interface_egress.specs.contracts.fragmenter.LeftPartialEq.TheImpl as Lefts
 use Rattle.interface_egress.specs.contracts.frame.ArpFramePartialEq.TheImpl as Frames
+use Rattle.interface_egress.specs.contracts.frame.CutHeaderPartialEq.TheImpl as Headers
 use Rattle.interface_egress.specs.contracts.frame.QuestionPartialEq.TheImpl as Questions
 use Rattle.interface_egress.specs.contracts.plan.PlanPartialEq.TheImpl as Plans
 use Rattle.interface_egress.specs.declared.fragmenter.Cut.{Cut}
 use Rattle.interface_egress.specs.declared.fragmenter.Left.{Left}
 use Rattle.interface_egress.specs.declared.frame.ArpFrame.{ArpFrame}
+use Rattle.interface_egress.specs.declared.frame.CutHeader.{CutHeader}
+use Rattle.interface_egress.specs.declared.frame.CutHeader.TheVariants as Cutting
 use Rattle.interface_egress.specs.declared.frame.Question.{Question}
 use Rattle.interface_egress.specs.declared.frame.Question.TheVariants as Asks
 use Rattle.interface_egress.specs.declared.plan.Plan.{Plan}
@@ -76,7 +80,7 @@ Decides-question (Asks.Neighbor o s t) (Asks.Neighbor p u v) =
 Decides-question a b = (λ yes. absurd (cc), λ e. absurd (cc))
 
 pub Decides-plan : ((a b : HardwareAddress) → Decides (Plans.ghosts.eq (Planned.Go a) (Planned.Go b)) (a ≡ b))
-    → ((to tu : HardwareAddress) (h k : Ipv4Repr) → Decides (Plans.ghosts.eq (Planned.Cut to h) (Planned.Cut tu k)) ((to ≡ tu) × (h ≡ k)))
+    → ((a b : HardwareAddress) → Decides (Plans.ghosts.eq (Planned.Cut a) (Planned.Cut b)) (a ≡ b))
     → (a b : Plan) → Decides (Plans.ghosts.eq a b) (a ≡ b)
 Decides-plan hardware cut Planned.Drop Planned.Drop = (λ yes. refl, λ e. refl)
 Decides-plan hardware cut Planned.NoRoute Planned.NoRoute = (λ yes. refl, λ e. refl)
@@ -86,10 +90,20 @@ Decides-plan hardware cut (Planned.Ask a) (Planned.Ask b) =
     let same = Decides-question a b in (λ yes. ap Planned.Ask (same.0 yes), λ e. same.1 (cc))
 Decides-plan hardware cut (Planned.Go a) (Planned.Go b) =
     let same = hardware a b in (λ yes. ap Planned.Go (same.0 yes), λ e. same.1 (cc))
-Decides-plan hardware cut (Planned.Cut a h) (Planned.Cut b k) =
-    let same = cut a b h k in
-    (λ yes. ap₂ Planned.Cut (same.0 yes).0 (same.0 yes).1, λ e. let first : a ≡ b = cc in let second : h ≡ k = cc in same.1 (both first second))
+Decides-plan hardware cut (Planned.Cut a) (Planned.Cut b) =
+    let same = cut a b in (λ yes. ap Planned.Cut (same.0 yes), λ e. same.1 (cc))
 Decides-plan hardware cut a b = (λ yes. absurd (cc), λ e. absurd (cc))
+
+-- the header of a datagram that goes in pieces, by what `==` of a packet's header says
+pub Decides-header : ((h k : Ipv4Repr) → Decides (Headers.ghosts.eq (Cutting.Ipv4 h) (Cutting.Ipv4 k)) (h ≡ k))
+    → ((h k : Ipv6Repr) (m n : ℕ) → Decides (Headers.ghosts.eq (Cutting.Ipv6 h m) (Cutting.Ipv6 k n)) ((h ≡ k) × (m ≡ n)))
+    → (a b : CutHeader) → Decides (Headers.ghosts.eq a b) (a ≡ b)
+Decides-header four six (Cutting.Ipv4 h) (Cutting.Ipv4 k) =
+    let same = four h k in (λ yes. ap Cutting.Ipv4 (same.0 yes), λ e. same.1 (cc))
+Decides-header four six (Cutting.Ipv6 h m) (Cutting.Ipv6 k n) =
+    let same = six h k m n in
+    (λ yes. ap₂ Cutting.Ipv6 (same.0 yes).0 (same.0 yes).1, λ e. let first : h ≡ k = cc in let second : m ≡ n = cc in same.1 (both first second))
+Decides-header four six a b = (λ yes. absurd (cc), λ e. absurd (cc))
 
 -- a frame with an ARP packet is that packet
 pub Decides-arp_frame : ((a b : ArpFrame) → Decides (Frames.ghosts.eq a b) (a.packet ≡ b.packet))

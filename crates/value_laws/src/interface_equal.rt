@@ -4,12 +4,12 @@ ghost use Rattle.std.specs.Hash as fed;
 ghost use Rattle.std.specs.Ordering.{nat_cmp};
 ghost use Rattle.interface_egress.specs.declared.frame.Piece.{Piece};
 
-use interface_egress::{ArpFrame, Cut, Left, Piece, Plan, Question, Sent, SocketHandle};
+use interface_egress::{ArpFrame, Cut, CutHeader, Left, Piece, Plan, Question, Sent, SocketHandle};
 use interface_tables::{
     Answer, AssemblerError, AssemblerFullError, HardwareAddrError, LinkAddress, NewError,
     NotUnicast, RouteTableFull,
 };
-use ip_wire::{address_laws, arp_laws, ipv4_laws};
+use ip_wire::{address_laws, arp_laws, ipv4_laws, ipv6_laws};
 use net_base::device_laws;
 use std::hash::Hash;
 
@@ -49,19 +49,20 @@ pub fn plans_are_equated()
     ensures plans { (a b : Plan) → IsTrue (⟦<Plan as PartialEq>⟧.eq a b) ↔ (a ≡ b) }
 {
     address_laws::hardware_tests();
-    ipv4_laws::ipv4_equal();
 }
 
-/// Law: `==` says of two frames with ARP packets, of how two datagrams are cut, and of what is left of them, whether they are
-/// the same.
+/// Law: `==` says of two frames with ARP packets, of how two datagrams are cut, of their headers, and of what is left of them,
+/// whether they are the same.
 pub fn cuts_are_equated()
     ensures arp { (a b : ArpFrame) → IsTrue (⟦<ArpFrame as PartialEq>⟧.eq a b) ↔ (a ≡ b) }
     ensures cuts { (a b : Cut) → IsTrue (⟦<Cut as PartialEq>⟧.eq a b) ↔ (a ≡ b) }
+    ensures headers { (a b : CutHeader) → IsTrue (⟦<CutHeader as PartialEq>⟧.eq a b) ↔ (a ≡ b) }
     ensures left { (a b : Left) → IsTrue (⟦<Left as PartialEq>⟧.eq a b) ↔ (a ≡ b) }
 {
     address_laws::hardware_tests();
     arp_laws::arp_equal();
     ipv4_laws::ipv4_equal();
+    ipv6_laws::ipv6_equal();
     device_laws::capabilities_are_equated();
 }
 
@@ -74,5 +75,6 @@ pub fn frames_are_equated<'a>()
 {
     address_laws::hardware_tests();
     ipv4_laws::ipv4_equal();
+    ipv6_laws::ipv6_equal();
     device_laws::capabilities_are_equated();
 }

@@ -6,5 +6,5 @@ use Rattle.interface_progress.proofs.pieces.pieces_fit_their_paths.Goals as goal
 pub returns : goal.returns
 returns c = record {
   goes = λ i l. refl;
-  fits = λ i l least. omega (arith, least, length-take (piece_room (cut_mtu i l)) (drop l.at l.payload));
+  fits = λ i l least. omega (arith, least, length-take (piece_room l.header (cut_mtu i l)) (drop l.at l.payload));
 }

@@ -1,5 +1,5 @@
 use Rattle.std.proofs.lemmas.Bool.Decides.{Decides-and, Decides-eqb}
-use Rattle.value_laws.proofs.InterfaceEqual.{Decides-arp_frame, Decides-cut, Decides-left}
+use Rattle.value_laws.proofs.InterfaceEqual.{Decides-arp_frame, Decides-cut, Decides-header, Decides-left}
 use Rattle.value_laws.proofs.Told.{by_other}
 use Rattle.value_laws.proofs.interface_equal.cuts_are_equated.Goals as goal
 
@@ -13,10 +13,14 @@ returns-clause-cuts c =
     Decides-and _ _ (Decides-eqb a.mtu b.mtu) (c.capabilities_are_equated.ensures.checksums a.checksums b.checksums)
     ))
 
+pub returns-clause-headers : goal.returns-clause-headers
+returns-clause-headers c =
+    Decides-header c.ipv4_equal.ensures.header (λ h k m n. Decides-and _ _ (c.ipv6_equal.ensures h k) (Decides-eqb m n))
+
 pub returns-clause-left : goal.returns-clause-left
 returns-clause-left c =
     let hardware = c.hardware_tests.ensures in
-    Decides-left (λ a b. Decides-and _ _ (c.ipv4_equal.ensures.header a.header b.header) (
+    Decides-left (λ a b. Decides-and _ _ (returns-clause-headers c a.header b.header) (
     Decides-and _ _ (by_other _ _ (hardware.equal a.to b.to) (hardware.same a.to b.to)) (
     Decides-and _ _ (Decides-eqb a.len b.len) (Decides-eqb a.at b.at)
     )

@@ -1,4 +1,3 @@
-use Rattle.std.proofs.lemmas.Bool.Decides.{Decides-and}
 use Rattle.value_laws.proofs.InterfaceEqual.{Decides-question, Decides-plan}
 use Rattle.value_laws.proofs.Told.{by_other}
 use Rattle.value_laws.proofs.interface_equal.plans_are_equated.Goals as goal
@@ -10,4 +9,4 @@ pub returns-clause-plans : goal.returns-clause-plans
 returns-clause-plans c =
     let hardware = c.hardware_tests.ensures in
     Decides-plan (λ a b. by_other _ _ (hardware.equal a b) (hardware.same a b))
-    (λ a b h k. Decides-and _ _ (by_other _ _ (hardware.equal a b) (hardware.same a b)) (c.ipv4_equal.ensures.header h k))
+    (λ a b. by_other _ _ (hardware.equal a b) (hardware.same a b))
