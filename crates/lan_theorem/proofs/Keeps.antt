@@ -39,7 +39,7 @@ use Rattle.lan_theorem.specs.Link.Frames.{Outgoing, medium_on}
 use Rattle.lan_theorem.specs.Link.Numbers.{IsTied}
 use Rattle.lan_theorem.proofs.Link.Begun.{tied_trans, tied_on}
 use Rattle.lan_theorem.specs.Link.Sides.{IsSender, IsReceiver, IsSound, HasSixBytes, IsStation, WentOut}
-use Rattle.lan_theorem.proofs.Link.Grown.{sent_grows}
+use Rattle.lan_theorem.proofs.Link.Grown.{sent_grows, more_out}
 use Rattle.lan_theorem.proofs.Link.Sends.{goes_keeps, unsent_keeps, piece_keeps, tells_keeps}
 use Rattle.lan_theorem.proofs.Link.Stations.{arrival_keeps_sender, sender_settled}
 use Rattle.lan_theorem.proofs.Link.Taken.{taken_was_made, taken_keeps, skipped_keeps, expired_receiver, receiver_same}
@@ -215,7 +215,7 @@ module _ (q : Party) (others base : List Outgoing) (first : ℕ) (before : List 
       → WentOut (MadeBy p) first k l.out s.device.link.sent i left d.link.sent → L m (state d (record s.host { inner = i; left = left }) places) p
   went_so k m s p d i left places l room waits caps hardware went = record {
     out = went.out_after;
-    more = λ x among. went.grows x (l.more x among);
+    more = more_out _ _ _ l.more went.grows;
     sender = went.sender;
     receiver = subst (λ (w : List (List ℕ)). IsReceiver (MadeBy q) others i s.host.slots w) (sym waits)
         (receiver_same (MadeBy q) others s.host.inner i s.host.slots s.device.link.waiting caps hardware l.receiver);
@@ -286,7 +286,7 @@ module _ (q : Party) (others base : List Outgoing) (first : ℕ) (before : List 
       let went = tells_keeps (MadeBy p) first l.out a.inner s.host.left d0 l.sender packet gone d station between.1 departs in
       record {
         out = went.out_after;
-        more = λ x among. went.grows x (l.more x among);
+        more = more_out _ _ _ l.more went.grows;
         sender = went.sender;
         receiver = subst (λ (w : List (List ℕ)). IsReceiver (MadeBy q) others a.inner slots w) (sym waits) l.receiver;
         count = let c = went.count in let b = l.count in omega (arith, c, b);

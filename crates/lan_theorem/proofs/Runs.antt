@@ -27,7 +27,7 @@ use Rattle.lan_theorem.proofs.Moves.Calls.{names}
 use Rattle.lan_theorem.proofs.Moves.Fits.{worlds_fit}
 use Rattle.lan_theorem.proofs.Moves.Nets.{either_side}
 use Rattle.lan_theorem.proofs.Moves.Worlds.{rest_comes, first_of, came_safe}
-use Rattle.lan_theorem.specs.Link.Numbers.{count_v4, AreFew}
+use Rattle.lan_theorem.specs.Link.Numbers.{count_numbered, AreFew}
 use Rattle.lan_theorem.proofs.Link.Sufficient.{numbers_grow, polled_few}
 use Rattle.lan_theorem.specs.Events.{IsTyped, AreTyped}
 use Rattle.lan_theorem.specs.Joins.{AreJoined, IsPlain}
@@ -94,20 +94,20 @@ module _ (starts : Starts) (net : Net) (old new : Stations) (past : List Entry) 
       out_after = (Polled.linked_after (firsts starts) w.most old new net past e w.joined of side t budget is few_out acts fit).out
 
       abbrev most' : Side → ℕ
-      most' = exchanged w.most side (count_v4 out_after)
+      most' = exchanged w.most side (count_numbered out_after)
 
       all_few : AreFew out_after → (x : Side) → most' x < 2 ^ 16
-      all_few few = either_side side (λ x. most' x < 2 ^ 16) (omega (arith, few, exchanged_here w.most side (count_v4 out_after)))
-          (let b = w.few (other side) in omega (arith, b, exchanged_there w.most side (count_v4 out_after)))
+      all_few few = either_side side (λ x. most' x < 2 ^ 16) (omega (arith, few, exchanged_here w.most side (count_numbered out_after)))
+          (let b = w.few (other side) in omega (arith, b, exchanged_there w.most side (count_numbered out_after)))
 
-      polled_numbered : count_v4 out_after ≤ numbered_by (e ∷ past) new side → (x : Side) → most' x ≤ numbered_by (e ∷ past) new x
-      polled_numbered up = either_side side (λ x. most' x ≤ numbered_by (e ∷ past) new x) (omega (arith, up, exchanged_here w.most side (count_v4 out_after)))
-          (let b = grows (other side) in omega (arith, b, exchanged_there w.most side (count_v4 out_after)))
+      polled_numbered : count_numbered out_after ≤ numbered_by (e ∷ past) new side → (x : Side) → most' x ≤ numbered_by (e ∷ past) new x
+      polled_numbered up = either_side side (λ x. most' x ≤ numbered_by (e ∷ past) new x) (omega (arith, up, exchanged_here w.most side (count_numbered out_after)))
+          (let b = grows (other side) in omega (arith, b, exchanged_there w.most side (count_numbered out_after)))
 
-      suffice : AreFew out_after × (count_v4 out_after ≤ numbered_by (e ∷ past) new side)
+      suffice : AreFew out_after × (count_numbered out_after ≤ numbered_by (e ∷ past) new side)
       suffice =
           let linked = Polled.linked_after (firsts starts) w.most old new net past e w.joined of side t budget is few_out acts fit in
-          let up : count_v4 (w.joined.out side) ≤ numbered_by past old side =
+          let up : count_numbered (w.joined.out side) ≤ numbered_by past old side =
           (let a = w.joined.counted side in let b = w.numbered side in omega (arith, a, b)) in
           polled_few past e old new side leads t budget is (w.joined.out side) out_after up linked.count
           (Polled.tied_after (firsts starts) w.most old new net past e w.joined of side t budget is few_out acts fit)
@@ -118,7 +118,7 @@ module _ (starts : Starts) (net : Net) (old new : Stations) (past : List Entry) 
         record {
           most = most';
           joined = Polled.polled_joins (firsts starts) w.most old new net past e w.joined of side t budget is few_out acts fit most'
-              (omega (arith, exchanged_there w.most side (count_v4 out_after))) (omega (arith, exchanged_here w.most side (count_v4 out_after)));
+              (omega (arith, exchanged_there w.most side (count_numbered out_after))) (omega (arith, exchanged_here w.most side (count_numbered out_after)));
           few = all_few suffice.0;
           numbered = polled_numbered suffice.1;
         },

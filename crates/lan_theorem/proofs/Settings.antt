@@ -28,12 +28,13 @@ use Rattle.lan_hosts.specs.Sets.{SetsTo, Configures, RoutedIf, has_route_room}
 use Rattle.lan_hosts.specs.Station.{StationValue, Stations, station}
 use Rattle.lan_theorem.specs.Moves.Made.{MadeBy}
 use Rattle.lan_theorem.specs.Link.Frames.{Outgoing, medium_on, BringsFrom}
-use Rattle.lan_theorem.specs.Link.Numbers.{count_v4}
+use Rattle.lan_theorem.specs.Link.Numbers.{count_numbered}
 use Rattle.lan_theorem.proofs.Link.Routers.{added_routers}
 use Rattle.lan_theorem.specs.Link.Sides.{RoutersAre, IsSound, IsSameKind, IsLeft, IsHostFrame}
 use Rattle.lan_theorem.specs.Events.{HasRange}
 use Rattle.lan_theorem.specs.Joins.{Sends, Receives, AreJoined}
 use Rattle.lan_theorem.proofs.Acts.{IsSettled, HasActed, settled_acts, acted_joins}
+use Rattle.lan_theorem.proofs.Link.Grown.{same_out}
 
 -- SETTINGS THAT LEAVE THE HARDWARE ADDRESS
 
@@ -128,7 +129,7 @@ left_kind own address out None is = tt
 left_kind own address out (Some l) is = record { sent = is.sent; half = is.half; to = same_kind own address l.to is.to }
 
 module _ (p q : Party) (first most : ℕ) (out others : List Outgoing) (s : StationValue) (sends : Sends p first s out) (receives : Receives q others s)
-    (few : count_v4 out ≤ most) where
+    (few : count_numbered out ≤ most) where
   abbrev with_station_address : EthernetAddress → StationValue
   with_station_address address = record s { host = with_inner s.host (record s.host.inner { hardware = Hardware.Ethernet address }) }
 
@@ -136,7 +137,7 @@ module _ (p q : Party) (first most : ℕ) (out others : List Outgoing) (s : Stat
       HasActed p q first most out others s (with_station_address address)
   address_acts own address is six = record {
     out_after = out;
-    more = λ x among. among;
+    more = same_out _;
     medium = ap medium_on (sym is);
     device = refl;
     sends = record {

@@ -9,7 +9,7 @@ use Rattle.lan_packets.specs.Parties.{Party, Net, party}
 use Rattle.lan_hosts.specs.Station.{StationValue, Stations, station}
 use Rattle.lan_theorem.specs.Moves.Made.{MadeBy}
 use Rattle.lan_theorem.specs.Link.Frames.{Outgoing, medium_on}
-use Rattle.lan_theorem.specs.Link.Numbers.{count_v4}
+use Rattle.lan_theorem.specs.Link.Numbers.{count_numbered}
 use Rattle.lan_theorem.specs.Link.Sides.{IsSender, IsReceiver}
 
 -- a host that sends: its own packets, and the frames of them
@@ -27,7 +27,7 @@ pub record AreJoined (firsts most : Side → ℕ) (hosts : Stations) (net : Net)
   pub device : (side : Side) → (station hosts side).link.capabilities.medium ≡ medium_on (station hosts side).host.inner.hardware
   pub sends : (side : Side) → Sends (party net side) (firsts side) (station hosts side) (out side)
   pub receives : (side : Side) → Receives (party net (other side)) (out (other side)) (station hosts side)
-  pub counted : (side : Side) → count_v4 (out side) ≤ most side
+  pub counted : (side : Side) → count_numbered (out side) ≤ most side
 
 -- an event that is neither a poll nor a setting
 abbrev pub IsPlain : Kind → Type 0

@@ -7,7 +7,7 @@ use Rattle.lan_hosts.specs.Port.{PortValue}
 use Rattle.lan_packets.specs.Parties.{Party}
 use Rattle.lan_theorem.specs.Moves.Made.{MadeBy}
 use Rattle.lan_theorem.specs.Link.Frames.{Outgoing, medium_on}
-use Rattle.lan_theorem.specs.Link.Numbers.{count_v4, AreFew, IsTied}
+use Rattle.lan_theorem.specs.Link.Numbers.{count_numbered, AreFew, IsTied}
 use Rattle.lan_theorem.specs.Link.Sides.{Grows, AreSent, IsSender, IsReceiver}
 
 -- what the other host `q` sent stays as it is
@@ -22,5 +22,5 @@ pub record IsLinked (q : Party) (others base : List Outgoing) (first : ℕ) (bef
   pub more : Grows base out
   pub sender : IsSender (MadeBy p) first s.host.inner s.host.left s.device.link.sent out
   pub receiver : IsReceiver (MadeBy q) others s.host.inner s.host.slots s.device.link.waiting
-  pub count : count_v4 out ≤ n
+  pub count : count_numbered out ≤ n
   pub tied : IsTied (medium_on s.host.inner.hardware) base before out s.device.link.sent

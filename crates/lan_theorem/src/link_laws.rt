@@ -32,8 +32,8 @@ ghost use Rattle.interface.specs.Used.{sockets_in};
 ghost use Rattle.lan_hosts.specs.Runs.{Leads, table_in};
 ghost use Rattle.lan_hosts.specs.Station.{Stations, station};
 ghost use Rattle.lan_theorem.specs.Link.Made.{IsIn, BringsMade, IsGoing};
-ghost use Rattle.lan_theorem.specs.Link.Frames.{Outgoing, medium_on, IsAmong, BringsFrom, AreOut};
-ghost use Rattle.lan_theorem.specs.Link.Numbers.{AreNumbered, AreFew, IsTied, count_v4};
+ghost use Rattle.lan_theorem.specs.Link.Frames.{Outgoing, medium_on, IsAmong, IsNumbered, BringsFrom, AreOut};
+ghost use Rattle.lan_theorem.specs.Link.Numbers.{AreNumbered, AreFew, IsTied, count_numbered};
 ghost use Rattle.lan_theorem.specs.Link.Sides.{AreSent, IsHostFrame, IsDamage, IsReceiver, IsSender, IsStation, IsBetweenStations, WentOut};
 
 /// Law: what the link hands over to a host brings to its TCP and UDP sockets what the other host made, or a piece of what it sent, at
@@ -62,7 +62,7 @@ pub fn frames_bring_what_was_made()
 {}
 
 /// Law: a host to which such frames are handed over takes one, and what it brings, whole or rebuilt of pieces, was made. What is
-/// rebuilt is one packet's payload, since the other host gave each IPv4 packet a number of its own. The host stays one of which this
+/// rebuilt is one packet's payload, since the other host gave each packet of IPv4, and each of IPv6 that it cut, a number of its own. The host stays one of which this
 /// can be said.
 pub fn what_is_taken_was_made()
     ensures brings { (made : List PayloadValue) (first next : ℕ) (out : List Outgoing) (i : InnerValue) (timeout : ℕ) (slots : Slots) (frame : List ℕ)
@@ -85,9 +85,10 @@ pub fn what_is_taken_was_made()
         → IsReceiver (IsIn made) out i (without_expired slots moment) waiting }
 {}
 
-/// Law: among fewer than 65,536 IPv4 packets one number is for one packet.
+/// Law: among fewer than 65,536 packets that have a number one number is for one packet: one of IPv4 has that of its header, and one of
+/// IPv6 that was cut has that of its pieces.
 pub fn one_number()
-    ensures { (first next : ℕ) (out : List Outgoing) (p q : PacketValue) (v w : Ipv4Repr)
+    ensures ipv4 { (first next : ℕ) (out : List Outgoing) (p q : PacketValue) (v w : Ipv4Repr)
         → AreNumbered first out next
         → AreFew out
         → IsAmong p out
@@ -95,6 +96,12 @@ pub fn one_number()
         → p.header ≡ Ip.Ipv4 v
         → q.header ≡ Ip.Ipv4 w
         → v.ident ≡ w.ident
+        → p ≡ q }
+    ensures any { (first next : ℕ) (out : List Outgoing) (p q : PacketValue) (number : ℕ)
+        → AreNumbered first out next
+        → AreFew out
+        → IsNumbered p number out
+        → IsNumbered q number out
         → p ≡ q }
 {}
 
@@ -127,17 +134,17 @@ pub fn what_leaves_was_made()
         → IsSender (IsIn made) first a.inner l sent out }
 {}
 
-/// Law: a poll that isn't refused leaves a host with fewer packets of IPv4 than there are numbers, where it had no more of them than its
+/// Law: a poll that isn't refused leaves a host with fewer packets that have a number than there are numbers, where it had no more of them than its
 /// history numbered, took no more in the poll than one for each frame that it took and each socket's turn, and each of them has a first
 /// frame. Then it has no more of them than its history numbers now. What a history numbered only grows.
 pub fn numbers_suffice()
     ensures polled { (past : List Entry) (e : Entry) (old new : Stations) (side : Side) (t : ℤ) (budget : ℕ) (out out' : List Outgoing)
         → Leads past old e new
         → kind_of e.event ≡ OfHost side (Polls t budget)
-        → count_v4 out ≤ (table_in past side (station old side)).numbered
-        → count_v4 out' ≤ count_v4 out + budget * (1 + sockets_in (station old side).places)
+        → count_numbered out ≤ (table_in past side (station old side)).numbered
+        → count_numbered out' ≤ count_numbered out + budget * (1 + sockets_in (station old side).places)
         → IsTied (medium_of (station old side)) out (station old side).link.sent out' (station new side).link.sent
-        → AreFew out' × (count_v4 out' ≤ (table_in (e ∷ past) side (station new side)).numbered) }
+        → AreFew out' × (count_numbered out' ≤ (table_in (e ∷ past) side (station new side)).numbered) }
     ensures grows { (past : List Entry) (e : Entry) (old new : Stations) (side : Side)
         → Leads past old e new
         → (table_in past side (station old side)).numbered ≤ (table_in (e ∷ past) side (station new side)).numbered }

@@ -23,7 +23,7 @@ use Rattle.lan_hosts.specs.Refusals.{Table, may_run_out, refusal, table}
 use Rattle.lan_hosts.specs.Runs.{table_in, tables_in, Leads}
 use Rattle.lan_hosts.specs.Station.{Stations, station}
 use Rattle.lan_hosts.proofs.Growing.{tables_go_on, happens_stays}
-use Rattle.lan_theorem.specs.Link.Numbers.{count_v4, AreFew, IsTied}
+use Rattle.lan_theorem.specs.Link.Numbers.{count_numbered, AreFew, IsTied}
 use Rattle.lan_theorem.proofs.Link.Begun.{worth}
 use Rattle.lan_theorem.specs.Link.Frames.{Outgoing}
 
@@ -91,7 +91,7 @@ module _ (past : List Entry) (e : Entry) (old new : Stations) (side : Side) (lea
         ∙ ap (λ (fs : List (List ℕ)). before + count_by begins fs) rest in
         omega (arith, all, now)
 
-    pub polled_few : (out out' : List Outgoing) → count_v4 out ≤ before →
-        count_v4 out' ≤ count_v4 out + budget * (1 + sockets_in (station old side).places)
-        → IsTied (medium_of (station old side)) out (station old side).link.sent out' (station new side).link.sent → AreFew out' × (count_v4 out' ≤ behind)
+    pub polled_few : (out out' : List Outgoing) → count_numbered out ≤ before →
+        count_numbered out' ≤ count_numbered out + budget * (1 + sockets_in (station old side).places)
+        → IsTied (medium_of (station old side)) out (station old side).link.sent out' (station new side).link.sent → AreFew out' × (count_numbered out' ≤ behind)
     polled_few out out' few most tied = (omega (arith, few, most, room), omega (arith, few, tied, more_frames))

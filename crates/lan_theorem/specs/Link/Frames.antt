@@ -1,5 +1,5 @@
 -- The frames that a host sends, and those that the link makes of them.
-use Rattle.std.specs.Prelude.{◌≡◌, ◌⊎◌, ◌%◌, ◌^◌, ◌+◌, ◌<◌, ℕ, true, false, List, [], ◌∷◌, ◌++◌, length, Option, Some}
+use Rattle.std.specs.Prelude.{◌≡◌, ◌⊎◌, ◌%◌, ◌^◌, ◌+◌, ◌<◌, ◌≤◌, ℕ, true, false, List, [], ◌∷◌, ◌++◌, length, Option, Some}
 use Rattle.std.specs.Int.{w32, to_be_bytes}
 use Rattle.lan_frames.specs.Medium.{Medium}
 use Rattle.ip_address.specs.Protocol.{protocol_number}
@@ -121,6 +121,7 @@ pub record IsPiece6 (medium : Medium) (out : List Outgoing) (frame : List ℕ) :
   pub cut : IsCutV6 out header number bytes
   pub is_link : IsLinkHeader6 medium link
   pub within : Pieces.IsSliceOf bytes piece
+  pub room : piece.offset + length piece.bytes ≤ length bytes
   pub unit : piece.offset % 8 ≡ 0
   pub units : piece.more ≡ true → length piece.bytes % 8 ≡ 0
   pub frame_is : frame ≡ link ++ (Ipv6.written (piece_v6 header piece) ++ (fragment_header header.next_header number piece ++ piece.bytes))
