@@ -27,3 +27,4 @@ pub mod Unrefused
 pub mod Loopbacks
 pub mod ByKind
 pub mod Sourced
+pub mod FreeSlots

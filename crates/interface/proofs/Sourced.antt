@@ -1,5 +1,5 @@
 -- A packet with the source that is chosen for it is one that can be sent, and what stays of it; a socket's turn from its parts.
-use Rattle.std.proofs.Common.{◌≡◌, ℤ, Bool, true, false, List, Option, None, Some, refl, ap, ◌∙◌}
+use Rattle.std.proofs.Common.{◌≡◌, Bool, true, false, List, Option, None, Some, refl, ap, ◌∙◌}
 use Rattle.std.specs.Prelude.{if◌then◌else◌}
 use Rattle.net_base.specs.Device.{Move}
 use Rattle.ip_wire.specs.AddressTests.{is_unspecified}
@@ -17,11 +17,13 @@ use Rattle.interface_ingress.specs.Packet.{PacketValue, PayloadValue, ControlV4,
 use Rattle.interface_tables.specs.Inner.{InnerValue}
 use Rattle.interface_tables.specs.Source.{source_for, source_v4, source_v6, in_v4}
 use Rattle.interface_ingress.specs.Socket.{Socket}
+use Rattle.interface_ingress.specs.Sockets.{settled}
 use Rattle.interface_ingress.specs.WellFormed.{IsWellFormed}
+use Rattle.interface_egress.specs.declared.socket_meta.Meta.{Meta}
 use Rattle.interface_egress.specs.declared.socket_set.Item.{Item}
 use Rattle.interface_egress.specs.declared.way_out.Sent.{Sent}
 use Rattle.interface.specs.Host.{Sender}
-use Rattle.interface.specs.Turn.{keeps_source, with_source, sourced_header, sourced, waits_until, plan_at, settled_by, turned_by, HasLeft, SendsBy}
+use Rattle.interface.specs.Turn.{keeps_source, with_source, sourced_header, sourced, is_done, turned_by, HasLeft, SendsBy}
 use Rattle.interface.specs.declared.turn.Turned.{Turned}
 
 fits_v4 : (v : Ipv4Repr) (a : Ipv4Address) (x : PayloadValue) → PayloadFits (Ip.Ipv4 v) x → PayloadFits (Ip.Ipv4 (record v { src_addr = a })) x
@@ -136,21 +138,14 @@ sourced_none i p is = ap (with_header p) (by (keeps_source i p)) where
 
 -- the turn of a socket whose packet left, or stays
 pub sends_from : {D : Type 0} (moves : D → Move → D → Type 0) (turn : Option IpAddress) (s s' : Sender D) (p : PacketValue)
-    (item item' : Item Socket) (changed : Bool) (turned : Turned) (sent : Sent) (now until : ℤ) (destination : IpAddress)
-    → now ≡ s.inner.moment → IsWellFormed p → HasLeft moves turn s item.meta p sent until destination s'
-    → item' ≡ settled_by sent now until destination item → turned ≡ turned_by sent changed
+    (item item' : Item Socket) (changed : Bool) (turned : Turned) (sent : Sent) (mark : Meta)
+    → IsWellFormed p → HasLeft moves turn s item.meta p sent s' mark
+    → item' ≡ record { meta = mark; socket = settled (is_done sent) item.socket } → turned ≡ turned_by sent changed
     → SendsBy moves turn (Some p) s item changed turned s' item'
-sends_from moves turn s s' p item item' changed turned sent now until destination at formed left is by = (
-  left.0,
-  left.1,
-  formed,
-  (
-    sent,
-    left.2.0,
-    by,
-    is ∙ ap (λ (m : ℤ). settled_by sent m until destination item) at
-        ∙ ap (λ (m : ℤ). settled_by sent s.inner.moment m destination item) left.2.2
-        ∙ ap (λ (a : IpAddress). settled_by sent s.inner.moment (waits_until (plan_at s left.0) s'.inner) a item) left.2.3,
-    left.2.1,
-  ),
-)
+sends_from moves turn s s' p item item' changed turned sent mark formed left is by =
+    let with_mark : Meta → Item Socket = λ m. record { meta = m; socket = settled (is_done sent) item.socket } in (
+      left.0,
+      left.1,
+      formed,
+      (sent, left.2.0, by, is ∙ ap with_mark left.2.2, left.2.1),
+    )

@@ -2,12 +2,12 @@
 use Rattle.std.proofs.Common.{◌≡◌, Bool, true, false, not, cond, if◌then◌else◌, List, [], ◌∷◌, Option, Some, None, is_some, refl, ap, subst, ◌∙◌, arith}
 use Rattle.std.specs.Prelude.{ℤ, find}
 use Rattle.std.specs.Cmp.{IsStrictWeakOrder}
-use Rattle.std.specs.List.{filter_map, fold, list_any}
+use Rattle.std.specs.List.{filter_map, list_any}
 use Rattle.std.proofs.lemmas.Bool.{or_parts}
 use Rattle.ip_wire.specs.AddressTests.{is_same_address}
 use Rattle.ip_wire.specs.IpAddress.{IpAddress}
 use Rattle.interface_ingress.specs.Socket.{Socket}
-use Rattle.interface_tables.specs.Best.{better_of, is_unbeaten}
+use Rattle.interface_tables.specs.Best.{first_best, is_unbeaten}
 use Rattle.interface_tables.specs.Inner.{InnerValue}
 use Rattle.interface_egress.specs.Departure.{target_of}
 use Rattle.interface_egress.specs.declared.frame.Question.{Question}
@@ -18,7 +18,7 @@ use Rattle.interface_egress.specs.declared.socket_set.Item.{Item}
 use Rattle.interface_egress.specs.declared.socket_set.SocketStorage.{SocketStorage}
 use Rattle.interface_egress.specs.declared.way_out.Sent.{Sent}
 use Rattle.interface_egress.specs.declared.way_out.Sent.TheVariants as Outcome
-use Rattle.interface.specs.Awaited.{awaited_by, awaited_at, awaited_in, comes_before, is_before, is_marked, is_marked_at, next_awaited}
+use Rattle.interface.specs.Awaited.{awaited_by, awaited_at, awaited_in, comes_before, is_before, is_marked, is_marked_at, next_awaited, hop_of, turn_of}
 use Rattle.interface.specs.Turn.{held, is_given_up}
 use Rattle.interface.specs.declared.awaited.Awaited.{Awaited}
 
@@ -90,11 +90,11 @@ unmarked i None is = refl
 unmarked i (Some item) is = unmarked_by i item.meta.waiting is
 
 -- where no socket waits none is found
-pub none_waits : (i : InnerValue) (ps : List (SocketStorage Socket)) → list_any is_marked ps ≡ false →
-    fold (λ (best : Option Awaited) (place : SocketStorage Socket). better_of comes_before best (awaited_in i place)) None ps ≡ None
-none_waits i [] none = refl
-none_waits i (p ∷ ps) none =
+none_found : (i : InnerValue) (ps : List (SocketStorage Socket)) → list_any is_marked ps ≡ false → filter_map (awaited_in i) ps ≡ []
+none_found i [] none = refl
+none_found i (p ∷ ps) none =
     let parts : (is_marked p ≡ false) × (list_any is_marked ps ≡ false) = or_parts (is_marked p) (list_any is_marked ps) none in
-    ap (λ (o : Option Awaited). fold (λ (best : Option Awaited) (place : SocketStorage Socket). better_of comes_before best (awaited_in i place))
-    (better_of comes_before None o) ps) (unmarked i p.inner parts.0)
-    ∙ none_waits i ps parts.1
+    rw (unmarked i p.inner parts.0) (none_found i ps parts.1)
+
+pub none_waits : (i : InnerValue) (ps : List (SocketStorage Socket)) → list_any is_marked ps ≡ false → turn_of i ps ≡ None
+none_waits i ps none = ap (λ (found : List Awaited). hop_of (first_best comes_before found)) (none_found i ps none)

@@ -18,7 +18,7 @@ use Rattle.interface.specs.Host.{HostValue}
 abbrev pub first_timeout : ℕ
 first_timeout = 60_000_000
 
--- two datagrams at a time come in pieces
+-- so many datagrams at a time can come in pieces at first
 abbrev pub slot_count : ℕ
 slot_count = 2
 
@@ -44,6 +44,10 @@ IsIdleIfFresh i left slots = IsTrue i.fresh → IsIdle left slots × (i.neighbor
 
 abbrev pub with_inner : HostValue → InnerValue → HostValue
 with_inner h i = record h { inner = i }
+
+-- so many datagrams at a time can come in pieces; none has begun
+abbrev pub with_slots : HostValue → ℕ → HostValue
+with_slots h count = record h { slots = free_slots count 4096 }
 
 abbrev pub with_timeout : HostValue → ℕ → HostValue
 with_timeout h timeout = record h { inner = used h.inner; timeout = timeout }

@@ -131,6 +131,10 @@ with_source (Ip.Ipv4 v) (Some (Address.Ipv4 a)) = Ip.Ipv4 (record v { src_addr =
 with_source (Ip.Ipv6 v) (Some (Address.Ipv6 a)) = Ip.Ipv6 (record v { src_addr = a })
 with_source header source = header
 
+-- the source can be one
+abbrev pub is_from_here : InnerValue → IpRepr → Bool
+is_from_here i header = may_come_from i (source_of header) (destination_of header)
+
 -- the source stays: a raw socket's, and one that can be a source
 abbrev pub keeps_source : InnerValue → PacketValue → Bool
 keeps_source i p = is_raw p.payload || may_come_from i (source_of p.header) (destination_of p.header)
@@ -175,16 +179,15 @@ module _ {D : Type 0} (moves : D → Move → D → Type 0) (turn : Option IpAdd
   abbrev pub Leaves : Sender D → Meta → PacketValue → Sent → Sender D → Type 0
   Leaves s m p sent s' = Rests s m p sent s' ⊎ Admits s m p sent s'
 
-  -- a packet left, or stays: what became of it, until when it waits, and where it was to go
-  abbrev pub LeavesAs : Sender D → Meta → PacketValue → Sent → ℤ → IpAddress → Sender D → Type 0
-  LeavesAs s m leaving sent until destination s' =
+  -- a packet left, or stays, and what that makes of the mark of its socket
+  abbrev pub LeavesAs : Sender D → Meta → PacketValue → Sent → Sender D → Meta → Type 0
+  LeavesAs s m leaving sent s' m' =
       Leaves s m leaving sent s' × IsWellFormed leaving
-      × (until ≡ waits_until (plan_at s leaving) s'.inner) × (destination ≡ destination_of leaving.header)
+      × (m' ≡ marked sent s.inner.moment (waits_until (plan_at s leaving) s'.inner) (destination_of leaving.header) m)
 
   -- the same from its source
-  abbrev pub HasLeft : Sender D → Meta → PacketValue → Sent → ℤ → IpAddress → Sender D → Type 0
-  HasLeft s m p sent until destination s' =
-      (leaving : PacketValue) × (leaving ≡ sourced s.inner p) × LeavesAs s m leaving sent until destination s'
+  abbrev pub HasLeft : Sender D → Meta → PacketValue → Sent → Sender D → Meta → Type 0
+  HasLeft s m p sent s' m' = (leaving : PacketValue) × (leaving ≡ sourced s.inner p) × LeavesAs s m leaving sent s' m'
 
   -- the packet leaves, and its socket is told what became of it
   abbrev pub SendsAs : PacketValue → Sender D → Item Socket → Bool → Turned → Sender D → Item Socket → Type 0

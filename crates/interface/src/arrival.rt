@@ -23,10 +23,10 @@ use net_base::{Device, Duration, RxToken};
 const LONGEST_FRAME: usize = 65_549;
 
 /// Takes in the next frame, and answers it. Answers nothing where none came, else whether the frame was read.
-pub fn ingress<D: Device, const N: usize>(
+pub fn ingress<D: Device>(
     inner: &mut InterfaceInner,
     fragmenter: &mut Fragmenter,
-    slots: &mut PacketAssemblerSet<N>,
+    slots: &mut PacketAssemblerSet,
     timeout: Duration,
     device: &mut D,
     places: &mut [SocketStorage<Socket>],
@@ -63,10 +63,10 @@ fn is_read(frame: &[u8]) -> bool
 }
 
 /// Takes in what a frame carries, and answers it.
-fn read_frame<D: Device, const N: usize>(
+fn read_frame<D: Device>(
     inner: &mut InterfaceInner,
     fragmenter: &mut Fragmenter,
-    slots: &mut PacketAssemblerSet<N>,
+    slots: &mut PacketAssemblerSet,
     timeout: Duration,
     device: &mut D,
     token: D::TxToken,
@@ -92,10 +92,10 @@ fn read_frame<D: Device, const N: usize>(
 }
 
 /// Takes in a frame's content, and answers it.
-fn receive<D: Device, const N: usize>(
+fn receive<D: Device>(
     inner: &mut InterfaceInner,
     fragmenter: &mut Fragmenter,
-    slots: &mut PacketAssemblerSet<N>,
+    slots: &mut PacketAssemblerSet,
     timeout: Duration,
     device: &mut D,
     token: D::TxToken,

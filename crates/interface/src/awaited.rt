@@ -29,6 +29,17 @@ pub fn turn_of(inner: &InterfaceInner, places: &[SocketStorage<Socket>]) -> Opti
     }
 }
 
+/// The same where mostly no socket waits, which is seen before the places are gone through for the one that comes first.
+pub fn turn_if_any(inner: &InterfaceInner, places: &[SocketStorage<Socket>]) -> Option<IpAddress>
+    ensures { result ≡ turn_of inner.now places.now }
+{
+    if some_wait(places) {
+        turn_of(inner, places)
+    } else {
+        None
+    }
+}
+
 /// The neighbour that is asked for next.
 fn next_awaited(inner: &InterfaceInner, places: &[SocketStorage<Socket>]) -> Option<Awaited>
     ensures { result ≡ next_awaited inner.now places.now }
@@ -40,9 +51,6 @@ fn next_awaited(inner: &InterfaceInner, places: &[SocketStorage<Socket>]) -> Opt
 fn first_in_turn(inner: &InterfaceInner, places: &[SocketStorage<Socket>]) -> Option<Awaited>
     ensures { result ≡ fold (λ best place. better_of comes_before best (awaited_in inner.now place)) None places.now }
 {
-    if !some_wait(places) {
-        return None;
-    }
     places.iter().fold(
         None,
         |best, place| better_of(best, awaited_in(inner, place)),

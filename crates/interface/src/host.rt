@@ -1,5 +1,5 @@
 //! An interface.
-ghost use Rattle.std.specs.Prelude.{◌≡◌, IsTrue, List, [], not, is_ok, Some};
+ghost use Rattle.std.specs.Prelude.{◌≡◌, IsTrue, List, [], length, not, is_ok, OnOk, OnErr, Some};
 ghost use Rattle.std.specs.Fn.{FnOnceReturnsAtMut};
 ghost use Rattle.std.specs.List.{list_any};
 ghost use Rattle.net_base.specs.Time.{IsMoment};
@@ -10,7 +10,7 @@ ghost use Rattle.interface_egress.specs.Inner.{is_own, is_member_of};
 ghost use Rattle.interface_egress.specs.Settings.{unless, hardware_refusal, with_hardware, is_stranger, with_addresses, with_any_ip, with_routes};
 ghost use Rattle.interface_egress.specs.Source.{first_v4, first_v6, source_for, source_v4, source_v6};
 ghost use Rattle.interface.specs.Host.{host_at, maintained};
-ghost use Rattle.interface.specs.Made.{IsIdle, Makes, with_inner, with_timeout};
+ghost use Rattle.interface.specs.Made.{IsIdle, Makes, with_inner, with_slots, with_timeout};
 
 use arrayvec::ArrayVec;
 use interface_egress::{
@@ -20,10 +20,10 @@ use interface_egress::{
 use interface_ingress::Context;
 use ip_wire::{HardwareAddress, IpAddress, IpCidr, Ipv4Address, Ipv6Address};
 use net_base::{ChecksumCapabilities, Device, Duration, Instant};
-use std::alloc::Global;
+use std::alloc::{AllocError, Global};
 use std::marker::Model;
 
-/// How many datagrams can come in pieces at a time.
+/// How many datagrams can come in pieces at a time at first.
 const REASSEMBLY_COUNT: usize = 2;
 
 /// How long the pieces of a datagram are waited for at first, in seconds.
@@ -34,7 +34,7 @@ const REASSEMBLY_SECS: u64 = 60;
 pub struct Interface {
     pub(crate) inner: InterfaceInner,
     pub(crate) fragmenter: Fragmenter,
-    pub(crate) slots: PacketAssemblerSet<REASSEMBLY_COUNT>,
+    pub(crate) slots: PacketAssemblerSet,
     pub(crate) timeout: Duration,
 }
 
@@ -63,7 +63,7 @@ impl Interface {
         let Ok(fragmenter) = Fragmenter::new(alloc) else {
             return Err(NewError::Memory);
         };
-        let Ok(slots) = PacketAssemblerSet::new(alloc) else {
+        let Ok(slots) = PacketAssemblerSet::new(alloc, REASSEMBLY_COUNT) else {
             return Err(NewError::Memory);
         };
         Ok(Interface {
@@ -154,6 +154,13 @@ impl Interface {
         self.inner.is_fresh()
     }
 
+    /// How many datagrams can come in pieces at a time.
+    pub fn reassembly_slots(&self) -> usize
+        ensures { result ≡ length self.now.slots }
+    {
+        self.slots.capacity()
+    }
+
     /// How long the pieces of a datagram are waited for.
     pub fn reassembly_timeout(&self) -> Duration
         ensures { result ≡ self.now.timeout }
@@ -202,6 +209,17 @@ impl Interface {
             × (self.new ≡ with_inner self.old (with_routes self.old.inner after)) }
     {
         self.inner.update_routes(f)
+    }
+
+    /// Sets how many datagrams can come in pieces at a time, if there is memory for so many slots of 4096 bytes. What came in pieces so
+    /// far is given up.
+    #[tactic(auto, using(crate::proofs::FreeSlots::all_free))]
+    pub fn set_reassembly_slots(&mut self, alloc: Global, count: usize) -> Result<(), AllocError>
+        ensures ok { OnOk result (self.new ≡ with_slots self.old count) }
+        ensures err { OnErr result (self.new ≡ self.old) }
+    {
+        self.slots = PacketAssemblerSet::new(alloc, count)?;
+        Ok(())
     }
 
     /// Sets how long the pieces of a datagram are waited for, from its first piece on.

@@ -3,6 +3,7 @@
 //! It passes on what is set at it and lies in it: `interface_tables` and `interface_egress`.
 #![tactic(auto)]
 
+mod announce;
 mod arrival;
 mod awaited;
 mod by_kind;

@@ -298,10 +298,10 @@ impl Interface {
 }
 
 /// One step of the way in, of the sockets in this storage.
-fn ingress_in<D: Device, const N: usize>(
+fn ingress_in<D: Device>(
     inner: &mut InterfaceInner,
     fragmenter: &mut Fragmenter,
-    slots: &mut PacketAssemblerSet<N>,
+    slots: &mut PacketAssemblerSet,
     timeout: Duration,
     device: &mut D,
     places: &mut Vec<SocketStorage<Socket>>,

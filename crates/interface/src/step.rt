@@ -7,7 +7,7 @@ ghost use Rattle.interface.specs.WayOut.{Clears, Egress};
 ghost use Rattle.interface.specs.QuietStep.{AreUnchanged, IsEarly, IsQuiet};
 ghost use Rattle.interface.specs.SameHost.{IsSameHost};
 
-use crate::awaited::turn_of;
+use crate::awaited::turn_if_any;
 use crate::passes::pass;
 use interface_egress::{Fragmenter, InterfaceInner, SocketStorage, send_next};
 use interface_ingress::socket_laws::due_as_before;
@@ -48,7 +48,7 @@ fn send_turns<D: Device>(
     if !send_waiting(inner, fragmenter, device) {
         return false;
     }
-    let turn = turn_of(inner, places);
+    let turn = turn_if_any(inner, places);
     pass(turn, inner, fragmenter, device, places)
 }
 

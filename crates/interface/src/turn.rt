@@ -10,14 +10,14 @@ ghost use Rattle.interface_ingress.specs.Sockets.{Offers, offered_by, IfSendable
 ghost use Rattle.interface_egress.specs.Plan.{IsPacket, plan_of};
 ghost use Rattle.interface.specs.Host.{sender};
 ghost use Rattle.interface.specs.Remote.{context_for};
-ghost use Rattle.interface.specs.Turn.{is_known, is_heard, is_waiting, is_given_up, is_other, is_out_of_turn, held, waits_until, is_done, marked, settled_by};
-ghost use Rattle.interface.specs.Turn.{is_raw, keeps_source, with_source, sourced_header, sourced};
+ghost use Rattle.interface.specs.Turn.{is_known, is_heard, is_waiting, is_given_up, is_other, is_out_of_turn, held, waits_until, is_done, marked};
+ghost use Rattle.interface.specs.Turn.{is_raw, is_from_here, keeps_source, with_source, sourced_header, sourced};
 ghost use Rattle.interface.specs.Turn.{turned_by, Leaves, LeavesAs, HasLeft, Sends, Turns, PlaceTurns};
 ghost use Rattle.interface_egress.specs.Meta.{freed};
 
 use crate::remote::remote_of;
 use interface_egress::{
-    Fragmenter, InterfaceInner, Item, Meta, Plan, Sent, SocketStorage, dispatch_by, plan_for,
+    Fragmenter, InterfaceInner, Item, Meta, Plan, Sent, SocketStorage, dispatch_by, plan_from,
 };
 use interface_ingress::addresses::is_same_address;
 use interface_ingress::socket_laws::unsent_is_offered_again;
@@ -129,23 +129,13 @@ fn send_offered<D: Device>(
         (sender device.new inner.new fragmenter.new) item.new }
     ensures capabilities { D.described device.new ≡ D.described device.old }
 {
-    let now = inner.now();
     let Some(packet) = item.socket.offered() else {
         unreachable!()
     };
     fields_have_widths(&packet);
-    let left = let_leave(turn, inner, fragmenter, device, &item.meta, &packet);
-    settle(item, left.sent, now, left.until, left.destination);
-    turned_by(left.sent, changed)
-}
-
-/// What became of a packet that was to leave.
-#[derive(Clone, Copy)]
-struct Left {
-    sent: Sent,
-    /// Until when it waits, if it does.
-    until: Instant,
-    destination: IpAddress,
+    let sent = let_leave(turn, inner, fragmenter, device, &mut item.meta, &packet);
+    item.socket.settle(is_done(sent));
+    turned_by(sent, changed)
 }
 
 /// Lets a packet leave from its source, if the device gives leave. One that keeps its source isn't copied.
@@ -154,17 +144,18 @@ fn let_leave<D: Device>(
     inner: &mut InterfaceInner,
     fragmenter: &mut Fragmenter,
     device: &mut D,
-    meta: &Meta,
+    meta: &mut Meta,
     packet: &Packet<'_>,
-) -> Left
+) -> Sent
     requires sendable { IsSendable (packet_value packet.now) }
     requires formed { IsWellFormed (packet_value packet.now) }
-    ensures left { HasLeft D.moves turn (sender device.old inner.old fragmenter.old) meta.now (packet_value packet.now)
-        result.sent result.until result.destination (sender device.new inner.new fragmenter.new) }
+    ensures left { HasLeft D.moves turn (sender device.old inner.old fragmenter.old) meta.old (packet_value packet.now)
+        result (sender device.new inner.new fragmenter.new) meta.new }
     ensures capabilities { D.described device.new ≡ D.described device.old }
 {
-    if keeps_source(inner, packet) {
-        leave_as_is(turn, inner, fragmenter, device, meta, packet)
+    let from_here = is_from_here(inner, &packet.ip_repr());
+    if is_raw(packet.payload()) || from_here {
+        leave_as_is(turn, inner, fragmenter, device, meta, packet, from_here)
     } else {
         leave_sourced(turn, inner, fragmenter, device, meta, packet)
     }
@@ -178,52 +169,59 @@ fn leave_sourced<D: Device>(
     inner: &mut InterfaceInner,
     fragmenter: &mut Fragmenter,
     device: &mut D,
-    meta: &Meta,
+    meta: &mut Meta,
     packet: &Packet<'_>,
-) -> Left
+) -> Sent
     requires sendable { IsSendable (packet_value packet.now) }
-    ensures left { HasLeft D.moves turn (sender device.old inner.old fragmenter.old) meta.now (packet_value packet.now)
-        result.sent result.until result.destination (sender device.new inner.new fragmenter.new) }
+    ensures left { HasLeft D.moves turn (sender device.old inner.old fragmenter.old) meta.old (packet_value packet.now)
+        result (sender device.new inner.new fragmenter.new) meta.new }
     ensures capabilities { D.described device.new ≡ D.described device.old }
 {
     let leaving = sourced(inner, packet);
     fields_have_widths(&leaving);
-    leave_as_is(turn, inner, fragmenter, device, meta, &leaving)
+    let from_here = is_from_here(inner, &leaving.ip_repr());
+    leave_as_is(turn, inner, fragmenter, device, meta, &leaving, from_here)
 }
 
-/// Lets a packet leave as it is.
+/// Lets a packet leave as it is, of which it is known whether it may come from its source.
 fn leave_as_is<D: Device>(
     turn: Option<IpAddress>,
     inner: &mut InterfaceInner,
     fragmenter: &mut Fragmenter,
     device: &mut D,
-    meta: &Meta,
+    meta: &mut Meta,
     leaving: &Packet<'_>,
-) -> Left
+    from_here: bool,
+) -> Sent
     requires sendable { IsSendable (packet_value leaving.now) }
     requires formed { IsWellFormed (packet_value leaving.now) }
-    ensures left { LeavesAs D.moves turn (sender device.old inner.old fragmenter.old) meta.now (packet_value leaving.now)
-        result.sent result.until result.destination (sender device.new inner.new fragmenter.new) }
+    requires known { from_here ≡ is_from_here inner.old (packet_value leaving.now).header }
+    ensures left { LeavesAs D.moves turn (sender device.old inner.old fragmenter.old) meta.old (packet_value leaving.now)
+        result (sender device.new inner.new fragmenter.new) meta.new }
     ensures capabilities { D.described device.new ≡ D.described device.old }
 {
+    let now = inner.now();
     let header = leaving.ip_repr();
+    let plan = plan_from(inner, from_here, fragmenter.is_waiting(), &header);
     let destination = header.dst_addr();
-    let plan = plan_for(inner, fragmenter.is_waiting(), &header);
     let held = held(turn, meta, inner, &destination, &plan);
     let sent = send_packet(turn, inner, fragmenter, device, meta, leaving, plan, held);
-    Left {
-        sent,
-        until: waits_until(&plan, inner),
-        destination,
-    }
+    mark(meta, now, inner, sent, &plan, &destination);
+    sent
+}
+
+/// Whether the source of a header may be that of a packet to its destination.
+fn is_from_here(inner: &InterfaceInner, header: &IpRepr) -> bool
+    ensures { result ≡ is_from_here inner.now header.now }
+{
+    inner.may_come_from(&header.src_addr(), &header.dst_addr())
 }
 
 /// Whether the packet's source stays: a raw socket's does, and one that can be a source.
 fn keeps_source(inner: &InterfaceInner, packet: &Packet<'_>) -> bool
     ensures { result ≡ keeps_source inner.now (packet_value packet.now) }
 {
-    let header = packet.ip_repr();
-    is_raw(packet.payload()) || inner.may_come_from(&header.src_addr(), &header.dst_addr())
+    is_raw(packet.payload()) || is_from_here(inner, &packet.ip_repr())
 }
 
 /// The packet from the address that is chosen for its destination, where its own source can't be one.
@@ -366,15 +364,22 @@ fn waits_until(plan: &Plan, inner: &InterfaceInner) -> Instant
     }
 }
 
-/// Tells a socket what became of its packet. One whose packet has to wait for its next hop is marked, and one whose packet is done with
-/// doesn't wait any more.
-fn settle(item: &mut Item<Socket>, sent: Sent, now: Instant, until: Instant, destination: IpAddress)
-    ensures { item.new ≡ settled_by sent now until destination item.old }
+/// Marks a socket whose packet has to wait for its next hop. One whose packet is done with doesn't wait any more.
+fn mark(
+    meta: &mut Meta,
+    now: Instant,
+    inner: &InterfaceInner,
+    sent: Sent,
+    plan: &Plan,
+    destination: &IpAddress,
+)
+    ensures { meta.new ≡ marked sent now (waits_until plan.now inner.now) destination.now meta.old }
 {
-    item.socket.settle(is_done(sent));
     match sent {
-        Sent::Waits => item.meta.neighbor_missing(now, destination, until),
-        Sent::Gone | Sent::Dropped => item.meta.unmark(),
+        Sent::Waits => {
+            meta.neighbor_missing(now, *destination, waits_until(plan, inner));
+        }
+        Sent::Gone | Sent::Dropped => meta.unmark(),
         Sent::Busy | Sent::Refused => {}
     }
 }

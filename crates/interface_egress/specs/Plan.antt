@@ -81,19 +81,26 @@ plan_by Link.Silent i busy header = Way.Wait
 plan_by Link.Unanswered i busy header = Way.Drop
 plan_by (Link.Unknown hop) i busy header = ask_if (may_ask i hop) i hop
 
--- A packet never leaves that is for the unspecified address or for a loopback address that isn't here, or whose source can't be
--- one.
+-- A packet never leaves that is for the unspecified address or for a loopback address that isn't here, or that may not come from
+-- its source, as `here` says.
+abbrev pub stays : InnerValue → Bool → IpAddress → Bool
+stays i here destination = is_unspecified destination || (is_foreign_loopback i destination || not here)
+
+abbrev pub comes_from_here : InnerValue → IpRepr → Bool
+comes_from_here i header = may_come_from i (source_of header) (destination_of header)
+
 abbrev pub never_leaves : InnerValue → IpRepr → Bool
-never_leaves i header =
-    is_unspecified (destination_of header)
-    || (is_foreign_loopback i (destination_of header) || not (may_come_from i (source_of header) (destination_of header)))
+never_leaves i header = stays i (comes_from_here i header) (destination_of header)
 
 -- In this order: a packet that never leaves is dropped, and so is one whose next hop doesn't answer; one whose next hop isn't known
 -- waits, or asks; then its length counts, and how long a packet the path to its destination carries. The host is busy while pieces of a datagram wait.
-abbrev pub plan_of : InnerValue → Bool → IpRepr → Plan
-plan_of i busy header =
-    if never_leaves i header then Way.Drop
+abbrev pub plan_from : InnerValue → Bool → Bool → IpRepr → Plan
+plan_from i here busy header =
+    if stays i here (destination_of header) then Way.Drop
     else plan_by (link_address i (destination_of header)) i busy header
+
+abbrev pub plan_of : InnerValue → Bool → IpRepr → Plan
+plan_of i busy header = plan_from i (comes_from_here i header) busy header
 
 -- a packet whose header says its length, and which can be sent where that fits its field
 pub record IsPacket (p : PacketValue) : Type 0 where

@@ -2,6 +2,7 @@
 //! datagram that is too long for one frame. It passes on the tables: `interface_tables`.
 #![tactic(auto)]
 
+mod announce;
 mod fill;
 mod fragmenter;
 mod frame;
@@ -12,6 +13,7 @@ mod socket_meta;
 mod socket_set;
 mod way_out;
 
+pub use announce::announce;
 pub use fill::{Fill, send};
 pub use fragmenter::{Cut, Fragmenter, Left, MAX_CUT_PAYLOAD};
 pub use frame::{ArpFrame, CutHeader, Piece, Question, ask};
@@ -19,7 +21,7 @@ pub use interface_tables::{
     Config, HardwareAddrError, InterfaceInner, LinkAddress, NewError, NotUnicast,
     PacketAssemblerSet, Route, RouteTableFull, Routes, TABLE_ROOM,
 };
-pub use plan::{Plan, plan_for};
+pub use plan::{Plan, plan_for, plan_from};
 pub use socket_meta::{Meta, Waiting};
 pub use socket_set::{
     AddError, Handles, Item, Iter, IterMut, SocketHandle, SocketSet, SocketStorage,

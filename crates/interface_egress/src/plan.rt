@@ -1,6 +1,7 @@
 //! What is to be done with a packet that wants to go out.
 ghost use Rattle.std.specs.Prelude.{◌≡◌, ◌≤◌, nat_le};
-ghost use Rattle.interface_egress.specs.Plan.{longest_cut, total_len, has_extensions, can_be_cut, long_plan, plan_to, ask_v4, ask_on, may_ask, ask_if, plan_by, never_leaves, plan_of};
+ghost use Rattle.interface_egress.specs.Plan.{longest_cut, total_len, has_extensions, can_be_cut, long_plan, plan_to};
+ghost use Rattle.interface_egress.specs.Plan.{ask_v4, ask_on, may_ask, ask_if, plan_by, stays, plan_from, plan_of};
 
 use crate::frame::Question;
 use interface_tables::{InterfaceInner, LinkAddress};
@@ -37,11 +38,20 @@ pub fn plan_for(inner: &InterfaceInner, busy: bool, header: &IpRepr) -> Plan
     ensures value { result ≡ plan_of inner.now busy header.now }
     ensures mtu { inner.now.mtu ≤ 65535 }
 {
+    let from_here = inner.may_come_from(&header.src_addr(), &header.dst_addr());
+    plan_from(inner, from_here, busy, header)
+}
+
+/// The same where it is known whether the packet may come from its source.
+pub fn plan_from(inner: &InterfaceInner, from_here: bool, busy: bool, header: &IpRepr) -> Plan
+    ensures value { result ≡ plan_from inner.now from_here busy header.now }
+    ensures mtu { inner.now.mtu ≤ 65535 }
+{
     let _mtu = inner.mtu();
-    if never_leaves(inner, header) {
+    let destination = header.dst_addr();
+    if stays(inner, from_here, &destination) {
         return Plan::Drop;
     }
-    let destination = header.dst_addr();
     match inner.link_address(&destination) {
         LinkAddress::Known(to) => plan_to(to, inner.mtu_to(&destination), busy, header),
         LinkAddress::NoRoute => Plan::NoRoute,
@@ -52,13 +62,10 @@ pub fn plan_for(inner: &InterfaceInner, busy: bool, header: &IpRepr) -> Plan
 }
 
 /// Whether a packet is for the unspecified address or a loopback address that isn't here, or from what can't be a source.
-fn never_leaves(inner: &InterfaceInner, header: &IpRepr) -> bool
-    ensures { result ≡ never_leaves inner.now header.now }
+fn stays(inner: &InterfaceInner, from_here: bool, destination: &IpAddress) -> bool
+    ensures { result ≡ stays inner.now from_here destination.now }
 {
-    let destination = header.dst_addr();
-    is_unspecified(&destination)
-        || inner.is_foreign_loopback(&destination)
-        || !inner.may_come_from(&header.src_addr(), &destination)
+    is_unspecified(destination) || inner.is_foreign_loopback(destination) || !from_here
 }
 
 /// The packet's next hop is known, and so its length counts.

@@ -166,10 +166,10 @@ fn bring_rebuilt<'a>(
 
 /// Takes in what is whole of a frame's content, and writes what answers it: the content itself, or in place of a piece the
 /// datagram that it completes. A piece that completes none brings nothing. `place` is what `keep` returned.
-pub fn bring<'a, const N: usize>(
+pub fn bring<'a>(
     inner: &mut InterfaceInner,
     places: &mut [SocketStorage<Socket>],
-    slots: &'a PacketAssemblerSet<N>,
+    slots: &'a PacketAssemblerSet,
     place: Option<usize>,
     content: Option<&Incoming<'a>>,
     reply: &mut Option<Reply<'a>>,

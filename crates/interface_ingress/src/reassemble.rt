@@ -271,7 +271,7 @@ fn is_strict(key: &FragKey) -> bool
 }
 
 /// Whether no slot's bytes hold a piece, or it overlaps others though it may not.
-fn is_unfit<const N: usize>(slots: &PacketAssemblerSet<N>, part: &Part<'_>) -> bool
+fn is_unfit(slots: &PacketAssemblerSet, part: &Part<'_>) -> bool
     ensures { result ≡ is_unfit slots.now (part_value part.now) }
 {
     if !is_within(part) {
@@ -290,15 +290,15 @@ fn given_up_at(inner: &InterfaceInner, timeout: Duration) -> Instant
 /// Takes a piece into its datagram's slot, and returns the place of the slot. Other content changes nothing. A slot that is
 /// taken for it is given up after this time. The datagram is given up of a piece that ends past a slot's bytes, and of one of IPv6
 /// that overlaps others.
-pub fn keep<const N: usize>(
+pub fn keep(
     inner: &InterfaceInner,
-    slots: &mut PacketAssemblerSet<N>,
+    slots: &mut PacketAssemblerSet,
     timeout: Duration,
     content: Option<&Incoming<'_>>,
 ) -> Option<usize>
     requires measured { AreMeasured (content_of (option_copied content)) }
     ensures place { result ≡ place_in slots.old (content_of (option_copied content.entry)) }
-    ensures in_range { ForSome result (λ at. at < N) }
+    ensures in_range { ForSome result (λ at. at < length slots.new) }
     ensures after { slots.new ≡ kept inner.now timeout slots.old (content_of (option_copied content.entry)) }
 {
     match content {
@@ -324,16 +324,16 @@ pub fn keep<const N: usize>(
 }
 
 /// Takes an IPv6 packet into its datagram's slot, if it is a piece.
-fn keep_v6<const N: usize>(
+fn keep_v6(
     inner: &InterfaceInner,
-    slots: &mut PacketAssemblerSet<N>,
+    slots: &mut PacketAssemblerSet,
     timeout: Duration,
     header: &Ipv6Repr,
     payload: &[u8],
 ) -> Option<usize>
     requires { length payload.now < 2 ^ 16 }
     ensures place { result ≡ place_of slots.old (part_behind header.now payload.now (behind_headers header.now payload.now)) }
-    ensures in_range { ForSome result (λ at. at < N) }
+    ensures in_range { ForSome result (λ at. at < length slots.new) }
     ensures after { slots.new ≡
         with_piece inner.now timeout slots.old (part_behind header.now payload.now (behind_headers header.now payload.now)) }
 {
@@ -347,14 +347,14 @@ fn keep_v6<const N: usize>(
 }
 
 /// Takes a piece into its datagram's slot, or gives its datagram up.
-fn keep_part<const N: usize>(
+fn keep_part(
     inner: &InterfaceInner,
-    slots: &mut PacketAssemblerSet<N>,
+    slots: &mut PacketAssemblerSet,
     timeout: Duration,
     part: &Part<'_>,
 ) -> Option<usize>
     ensures place { result ≡ place_of slots.old (Some (part_value part.now)) }
-    ensures in_range { ForSome result (λ at. at < N) }
+    ensures in_range { ForSome result (λ at. at < length slots.new) }
     ensures after { slots.new ≡ with_piece inner.now timeout slots.old (Some (part_value part.now)) }
 {
     if is_unfit(slots, part) {
@@ -418,8 +418,8 @@ pub(crate) fn rebuilt_v6<'a>(
 }
 
 /// The datagram at a place, if every byte of it came.
-pub(crate) fn bytes_at<const N: usize>(
-    slots: &PacketAssemblerSet<N>,
+pub(crate) fn bytes_at(
+    slots: &PacketAssemblerSet,
     place: Option<usize>,
 ) -> Option<&[u8]>
     ensures { option_copied result ≡ bytes_at place slots.now }
@@ -431,8 +431,8 @@ pub(crate) fn bytes_at<const N: usize>(
 }
 
 /// Frees the slot at this place, if its datagram is whole. `place` is what `keep` returned.
-pub fn release<const N: usize>(slots: &mut PacketAssemblerSet<N>, place: Option<usize>)
-    requires { ForSome place (λ at. at < N) }
+pub fn release(slots: &mut PacketAssemblerSet, place: Option<usize>)
+    requires { ForSome place (λ at. at < length slots.old) }
     ensures { slots.new ≡ released place slots.old }
 {
     if let Some(at) = place {

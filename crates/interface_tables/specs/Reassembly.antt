@@ -1,6 +1,7 @@
 -- Datagrams that are put together from their pieces (RFC 791, section 3.2; RFC 815): what a slot holds of one datagram, and
 -- what a piece makes of it.
-use Rattle.std.specs.Prelude.{ℕ, ◌+◌, ◌==◌, nat_le, nat_lt, ◌&&◌, ◌||◌, not, Bool, true, false, if◌then◌else◌, ℤ, pos, List, [], ◌++◌, length, take, drop, position}
+use Rattle.std.specs.Prelude.{ℕ, ◌+◌, ◌==◌, nat_le, nat_lt, ◌&&◌, ◌||◌, not, Bool, true, false, if◌then◌else◌, ℤ, pos, List, [], ◌++◌, length}
+use Rattle.std.specs.Prelude.{take, drop, position}
 use Rattle.std.specs.Prelude.{replicate, Option, None, Some, is_none, refl}
 use Rattle.std.specs.List.{list_any}
 use Rattle.std.specs.Str.{bytes_eq}

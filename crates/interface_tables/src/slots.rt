@@ -19,34 +19,39 @@ const REASSEMBLY_RUNS: usize = 4;
 
 type Slot = PacketAssembler<FragKey, REASSEMBLY_SIZE, REASSEMBLY_RUNS>;
 
-/// The pieces of at most `N` datagrams of at most 4096 bytes each, in at most 4 runs each.
+/// The pieces of so many datagrams at most, as there are slots: of at most 4096 bytes each, in at most 4 runs each.
 #[derive(Debug, Drop)]
-pub struct PacketAssemblerSet<const N: usize> {
+pub struct PacketAssemblerSet {
     assemblers: Vec<Slot>,
 }
 
-impl<const N: usize> Model for PacketAssemblerSet<N> {
-    ghost use Rattle.std.specs.Prelude.{◌≡◌, List, length};
+impl Model for PacketAssemblerSet {
+    ghost use Rattle.std.specs.Prelude.{List};
     ghost use Rattle.interface_tables.specs.declared.key.FragKey.{FragKey};
     ghost use Rattle.interface_tables.specs.Reassembly.{SlotValue};
 
     ghost Value = { List (SlotValue FragKey) };
 
     ghost view = { λ s. s.assemblers.items };
-
-    ghost invariant = { λ s. length s.assemblers.items ≡ N };
 }
 
-impl<const N: usize> PacketAssemblerSet<N> {
-    /// Free slots.
-    pub fn new(alloc: Global) -> Result<PacketAssemblerSet<N>, AllocError>
-        ensures { IfOk result (λ s. s ≡ free_slots N 4096) }
+impl PacketAssemblerSet {
+    /// So many free slots.
+    pub fn new(alloc: Global, count: usize) -> Result<PacketAssemblerSet, AllocError>
+        ensures { IfOk result (λ s. s ≡ free_slots count 4096) }
     {
-        let mut assemblers = Vec::new(alloc);
-        while assemblers.len() < N {
+        let mut assemblers = Vec::with_capacity(alloc, count)?;
+        while assemblers.len() < count {
             assemblers.push(PacketAssembler::new())?;
         }
         Ok(PacketAssemblerSet { assemblers })
+    }
+
+    /// How many slots there are.
+    pub fn capacity(&self) -> usize
+        ensures { result ≡ length self.now }
+    {
+        self.assemblers.len()
     }
 
     /// Takes in a piece of this datagram, which ends it unless more come behind it. A datagram that has no slot yet gets a free
@@ -60,7 +65,7 @@ impl<const N: usize> PacketAssemblerSet<N> {
         more_frags: bool,
     ) -> Option<usize>
         ensures place { result ≡ place_for ⟦<FragKey as PartialEq>⟧.eq self.old key.now }
-        ensures in_range { ForSome result (λ at. at < N) }
+        ensures in_range { ForSome result (λ at. at < length self.new) }
         ensures after { self.new ≡ with_piece_of 4 ⟦<FragKey as PartialEq>⟧.eq self.old key.now expires_at piece.now offset more_frags }
     {
         self.insert_behind(key, expires_at, &[], piece, offset, more_frags)
@@ -77,7 +82,7 @@ impl<const N: usize> PacketAssemblerSet<N> {
         more_frags: bool,
     ) -> Option<usize>
         ensures place { result ≡ place_for ⟦<FragKey as PartialEq>⟧.eq self.old key.now }
-        ensures in_range { ForSome result (λ at. at < N) }
+        ensures in_range { ForSome result (λ at. at < length self.new) }
         ensures after { self.new ≡
             with_piece_of 4 ⟦<FragKey as PartialEq>⟧.eq self.old key.now expires_at (front.now ++ piece.now) offset more_frags }
     {
@@ -137,7 +142,7 @@ impl<const N: usize> PacketAssemblerSet<N> {
 
     /// Frees the slot at this place.
     pub fn free(&mut self, at: usize)
-        requires { at < N }
+        requires { at < length self.old }
         ensures { self.new ≡ changed_at freed (Some at) self.old }
     {
         free_at(self.assemblers.as_mut_slice(), at);
@@ -162,7 +167,7 @@ impl<const N: usize> PacketAssemblerSet<N> {
     /// The place of this datagram's slot: its own, else the first free one.
     fn place_for(&self, key: &FragKey) -> Option<usize>
         ensures place { result ≡ place_for ⟦<FragKey as PartialEq>⟧.eq self.now key.now }
-        ensures in_range { ForSome result (λ at. at < N) }
+        ensures in_range { ForSome result (λ at. at < length self.now) }
     {
         match place_of(self.assemblers.as_slice(), key) {
             Some(at) => Some(at),

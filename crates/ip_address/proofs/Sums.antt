@@ -125,7 +125,8 @@ low_first-added total carries x kept carry front bytes tail is carried first las
     let number : x ≡ low_first front = is ∙ from_le_bytes_16-low_first front sixteen in
     let split : word_sum bytes ≡ word_sum front + word_sum tail = sym (ap word_sum joined) ∙ word_sum-append front tail (rw sixteen refl) in
     let none : word_sum tail ≡ 0 = word_sum-none tail (omega arith) in
-    let more : 256 * (kept + (carries + carry)) + 65535 * (256 * (carry * ((2 ^ 128 - 1) / 65535))) ≡ 256 * low_first front + 256 * (total + carries) = omega arith in
+    let more : 256 * (kept + (carries + carry)) + 65535 * (256 * (carry * ((2 ^ 128 - 1) / 65535)))
+    ≡ 256 * low_first front + 256 * (total + carries) = omega arith in
     let right : word_sum front + 256 * (total + carries) ≡ 256 * (total + carries) + word_sum bytes = omega arith in
     sym (folded-carried kept carry (carries + carry) (omega arith))
     ∙ ap folded more

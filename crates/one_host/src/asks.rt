@@ -18,6 +18,7 @@ pub fn play(host: &mut Host, words: &mut Words<'_>) -> Answer {
         "any_ip" => Answer::is(host.interface.any_ip()),
         "ident" => Answer::Number("is", u64::from(inner.ident())),
         "mtu" => Answer::Number("is", inner.ip_mtu() as u64),
+        "slots" => Answer::Number("is", host.interface.reassembly_slots() as u64),
         "hw" => Answer::Station(inner.hardware_addr()),
         "waiting" => Answer::Number("is", host.wire.waiting() as u64),
         "refusals" => Answer::Number("is", host.wire.refusals()),

@@ -118,7 +118,7 @@ fn play<'a>(alloc: Global, host: &mut Host, verb: &'a str, words: &mut Words<'a>
     } else if is_one_of(verb, &datagrams::VERBS) {
         datagrams::play(alloc, host, verb, words)
     } else if is_one_of(verb, &host_lines::VERBS) {
-        host_lines::play(host, verb, words)
+        host_lines::play(alloc, host, verb, words)
     } else if is_one_of(verb, &polls::VERBS) {
         polls::play(host, verb, words)
     } else if is_one_of(verb, &device_lines::VERBS) {

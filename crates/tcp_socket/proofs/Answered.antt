@@ -16,7 +16,8 @@ use Rattle.tcp_model.specs.State.{State}
 use Rattle.tcp_model.specs.State.TheVariants as In
 use Rattle.tcp_model.specs.Acknowledged.{acknowledged, duplicates_after}
 use Rattle.tcp_model.specs.Answers.{may_draw, with_draw, acked, drawn, answer_for, run_at, others, first_two, numbers_of, ranges_held}
-use Rattle.tcp_model.specs.Arrival.{waiting_anew, outside, tells_news, has_length, comes_again, passed_outside, finished, with_content, told, continued, taken, inside, checked}
+use Rattle.tcp_model.specs.Arrival.{waiting_anew, outside, tells_news, has_length, comes_again, passed_outside, finished, with_content, told}
+use Rattle.tcp_model.specs.Arrival.{continued, taken, inside, checked}
 use Rattle.tcp_model.specs.Arrival.{takes_reset, challenges_reset, reset_comes, draws_first, echo_heard, received, arrives_in, is_void_syn, arrives}
 use Rattle.tcp_model.specs.Checks.{Check, acknowledgement_check, is_in_window, taken_down}
 use Rattle.tcp_model.specs.Checks.Check.{Passes, Old, Drops, Draws, Resets}

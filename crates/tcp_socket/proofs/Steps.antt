@@ -16,7 +16,8 @@ use Rattle.socket_base.specs.Packet as Carried
 use Rattle.held_bytes.specs.ReceiveMap.{store, front}
 use Rattle.tcp_model.specs.Acknowledged.{acknowledged, duplicates_after}
 use Rattle.tcp_model.specs.Answers.{answer_for}
-use Rattle.tcp_model.specs.Arrival.{outside, passed_outside, tells_news, has_length, comes_again, finished, with_content, told, echo_heard, taken, checked, received, arrives_in}
+use Rattle.tcp_model.specs.Arrival.{outside, passed_outside, tells_news, has_length, comes_again, finished, with_content, told, echo_heard, taken}
+use Rattle.tcp_model.specs.Arrival.{checked, received, arrives_in}
 use Rattle.tcp_model.specs.Checks.{is_in_window}
 use Rattle.tcp_model.specs.Checks.Check.{Old}
 use Rattle.tcp_model.specs.Controls.{is_syn, is_rst}

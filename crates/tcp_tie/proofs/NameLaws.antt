@@ -33,7 +33,8 @@ use Rattle.tcp_model.specs.State.TheVariants as In
 use Rattle.tcp_model.specs.Acknowledged.{acknowledged, block_acknowledged, state_after_ack, acks_fin, una_moved, in_state, ended_if, duplicates_after}
 use Rattle.tcp_model.specs.Acknowledged.{names_window, windowed, ranges_taken, counted}
 use Rattle.tcp_model.specs.Answers.{drawn, may_draw, with_draw, acked, answer_for, ranges_held}
-use Rattle.tcp_model.specs.Arrival.{waiting_anew, outside, passed_outside, tells_news, has_length, comes_again, finished, with_content, told, taken, inside, checked, takes_reset}
+use Rattle.tcp_model.specs.Arrival.{waiting_anew, outside, passed_outside, tells_news, has_length, comes_again, finished, with_content, told}
+use Rattle.tcp_model.specs.Arrival.{taken, inside, checked, takes_reset}
 use Rattle.tcp_model.specs.Arrival.{challenges_reset, reset_comes, draws_first, echo_heard, received, arrives_in, arrives, is_void_syn}
 use Rattle.tcp_model.specs.Calls.{listening, connecting, close_after, abort_after}
 use Rattle.tcp_model.specs.Checks.{Check, acknowledgement_check, is_in_window, taken_down, falls_back}

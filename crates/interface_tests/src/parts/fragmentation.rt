@@ -192,8 +192,8 @@ fn at(micros: u8) -> Instant {
     Instant::from_micros(i64::from(micros))
 }
 
-impl<const N: usize> Goes<PacketAssemblerSet<N>> for Call {
-    fn goes(&self, _alloc: Global, set: &mut PacketAssemblerSet<N>) -> bool {
+impl Goes<PacketAssemblerSet> for Call {
+    fn goes(&self, _alloc: Global, set: &mut PacketAssemblerSet) -> bool {
         match self {
             Begins(key, micros, slot) => set.insert(key, at(*micros), b"ab", 0, true) == *slot,
             Ends(key, micros, bytes, from, slot) => {
@@ -207,9 +207,9 @@ impl<const N: usize> Goes<PacketAssemblerSet<N>> for Call {
 }
 
 /// The same of a call that answers nothing.
-fn changes<const N: usize>(set: &mut PacketAssemblerSet<N>, call: &Call) -> bool {
+fn changes(set: &mut PacketAssemblerSet, call: &Call) -> bool {
     match call {
-        Frees(slot) if *slot < N => {
+        Frees(slot) if *slot < set.capacity() => {
             set.free(*slot);
             true
         }
@@ -223,7 +223,7 @@ fn changes<const N: usize>(set: &mut PacketAssemblerSet<N>, call: &Call) -> bool
 }
 
 /// Whether a datagram of no bytes is put together.
-fn assembles<const N: usize>(set: &mut PacketAssemblerSet<N>, key: &FragKey) -> bool {
+fn assembles(set: &mut PacketAssemblerSet, key: &FragKey) -> bool {
     match set.get(key, Instant::ZERO) {
         Ok(slot) => {
             slot.assemble().is_none()
@@ -235,27 +235,27 @@ fn assembles<const N: usize>(set: &mut PacketAssemblerSet<N>, key: &FragKey) -> 
 }
 
 /// So many slots, from their beginning on.
-struct Slots<const N: usize>(&'static [Call]);
+struct Slots(usize, &'static [Call]);
 
-impl<const N: usize> Life for Slots<N> {
+impl Life for Slots {
     fn stops_at(&self, alloc: Global) -> Option<usize> {
-        match PacketAssemblerSet::<N>::new(alloc) {
-            Ok(mut set) => first_wrong(alloc, &mut set, self.0),
+        match PacketAssemblerSet::new(alloc, self.0) {
+            Ok(mut set) => first_wrong(alloc, &mut set, self.1),
             Err(_) => Some(0),
         }
     }
 }
 
-const OF_TWO: [Slots<2>; 4] = [
+const SETS: [Slots; 7] = [
     // A slot for each datagram, also where only the protocol differs: a third one finds none.
-    Slots(&[
+    Slots(2, &[
         Begins(ONE, 60, Some(0)),
         Begins(ONE_OF_TCP, 60, Some(1)),
         Begins(TWO, 60, None),
         HasNone(TWO, 60),
     ]),
     // Datagrams of both families have slots of their own.
-    Slots(&[
+    Slots(2, &[
         Begins(ONE, 60, Some(0)),
         Begins(ONE_OF_V6, 60, Some(1)),
         HasNone(TWO_OF_V6, 60),
@@ -264,7 +264,7 @@ const OF_TWO: [Slots<2>; 4] = [
         Holds(1, Some(b"abcd")),
     ]),
     // One datagram is whole, and gives up its slot.
-    Slots(&[
+    Slots(2, &[
         Begins(ONE, 60, Some(0)),
         Begins(ONE_OF_TCP, 60, Some(1)),
         Ends(ONE, 60, b"cd", 2, Some(0)),
@@ -274,7 +274,7 @@ const OF_TWO: [Slots<2>; 4] = [
         Begins(TWO, 70, Some(0)),
     ]),
     // A slot is given up when its moment is over.
-    Slots(&[
+    Slots(2, &[
         Begins(TWO, 70, Some(0)),
         Begins(ONE_OF_TCP, 60, Some(1)),
         Expires(60),
@@ -282,20 +282,18 @@ const OF_TWO: [Slots<2>; 4] = [
         Expires(61),
         Begins(ONE, 60, Some(1)),
     ]),
-];
-
-const OF_ONE: [Slots<1>; 2] = [
     // A piece past the slot's bytes is refused, and leaves the slot taken.
-    Slots(&[
+    Slots(1, &[
         Ends(ONE, 0, b"ab", 4095, Some(0)),
         Ends(TWO, 0, b"ab", 0, None),
     ]),
     // What was put together is gone: the slot begins anew.
-    Slots(&[Assembles(ZERO), Assembles(ZERO), Assembles(ONE)]),
+    Slots(1, &[Assembles(ZERO), Assembles(ZERO), Assembles(ONE)]),
+    // Without slots no datagram comes in pieces.
+    Slots(0, &[Begins(ONE, 60, None), HasNone(TWO, 60), Expires(61)]),
 ];
 
 #[test]
 fn sets_of_slots_live(rt: HostRuntime) {
-    all_live(&rt, &OF_TWO);
-    all_live(&rt, &OF_ONE);
+    all_live(&rt, &SETS);
 }

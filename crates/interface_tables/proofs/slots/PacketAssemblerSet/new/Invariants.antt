@@ -3,8 +3,8 @@ use Rattle.interface_tables.specs.Reassembly.{fresh}
 use Rattle.interface_tables.proofs.slots.PacketAssemblerSet.new.Given as goal
 
 abbrev pub invariant-loop-assemblers : goal.invariant-loop-assemblers
-invariant-loop-assemblers g l =
-    (l.assemblers.items ≡ replicate (length l.assemblers.items) (fresh 4096)) × (vec_len l.assemblers ≤ g.row.N)
+invariant-loop-assemblers l =
+    (l.assemblers.items ≡ replicate (length l.assemblers.items) (fresh 4096)) × (vec_len l.assemblers ≤ l.count)
 
 abbrev pub decreases-loop-assemblers : goal.decreases-loop-assemblers
-decreases-loop-assemblers g l = g.row.N - vec_len l.assemblers
+decreases-loop-assemblers l = l.count - vec_len l.assemblers
