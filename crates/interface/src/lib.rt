@@ -4,6 +4,7 @@
 #![tactic(auto)]
 
 mod announce;
+pub mod announce_laws;
 mod arrival;
 mod awaited;
 mod by_kind;

@@ -1,5 +1,5 @@
 -- What tells all neighbours the hardware address of an own address, though nobody asked.
-use Rattle.std.specs.Prelude.{ℕ, List, [], ◌∷◌, ◌++◌, replicate, Some}
+use Rattle.std.specs.Prelude.{true, false, [], ◌∷◌, ◌++◌, replicate, Some}
 use Rattle.control_wire.specs.Icmpv6 as Icmpv6
 use Rattle.control_wire.specs.Ndisc as Neighbor
 use Rattle.ip_wire.specs.EthernetAddress.{EthernetAddress}
@@ -25,10 +25,13 @@ unsolicited_header address =
     record { src_addr = address; dst_addr = all_nodes; next_header = Protocol.Icmpv6; payload_len = 32; hop_limit = 255 }
 
 -- the unsolicited advertisement, which overrides what is known (RFC 4861, section 7.2.6)
+abbrev pub unsolicited_message : EthernetAddress → Ipv6Address → Neighbor.NeighborMessage
+unsolicited_message own address =
+    Neighbor.Advertisement (record { router = false; solicited = false; overrides = true }) address (Some own.0)
+
 abbrev pub unsolicited : EthernetAddress → Ipv6Address → PacketValue
 unsolicited own address =
-    packet_of (Ip.Ipv6 (unsolicited_header address))
-    (ControlV6 (Icmpv6.Ndisc (Neighbor.Advertisement (record { router = false; solicited = false; overrides = true }) address (Some own.0))) [])
+    packet_of (Ip.Ipv6 (unsolicited_header address)) (ControlV6 (Icmpv6.Ndisc (unsolicited_message own address)) [])
 
 -- An IPv4 address is told of by an ARP request of it for itself (RFC 5227, section 2.3), an IPv6 address by an advertisement.
 abbrev pub announcement : EthernetAddress → IpAddress → Departure
