@@ -62,7 +62,7 @@ use Rattle.lan_theorem.proofs.Link.SlotFacts.{ContentSo, rebuilds_so}
 use Rattle.lan_theorem.proofs.Link.Slots.{all_at, one_key}
 use Rattle.lan_theorem.proofs.Link.Taken.{part_cut, key_v6_is, taken_rebuilds}
 use Rattle.lan_theorem.proofs.Moves.Named.{told, not_icmp, not_icmpv6}
-use Rattle.lan_theorem.proofs.Runs.{has_come}
+use Rattle.lan_theorem.proofs.Runs.{AreWell, has_come}
 use Rattle.lan_theorem.proofs.SaidRuns.{all_both, said, medium, host_on, port_on, has_said}
 
 not_both : (protocol : IpProtocol) → NamesNoPorts protocol → IsTcpOrUdp protocol → ⊥
@@ -85,15 +85,15 @@ has_made q header (Segment header' bytes) named ports made = made
 -- WHAT A PIECE COMPLETES
 
 -- the whole of a datagram of which this is a piece, with these bytes behind its IP header
-abbrev Shape : IncomingValue → List ℕ → IncomingValue → Type 0
+abbrev pub Shape : IncomingValue → List ℕ → IncomingValue → Type 0
 Shape (Arp link packet) bytes datagram = ⊥
 Shape (Ip4 link h p x) bytes datagram = datagram ≡ Ip4 link (record h { payload_len = length bytes }) uncut bytes
 Shape (Ip6 link h x) bytes datagram = datagram ≡ Ip6 link (record h { next_header = Protocol.Ipv6Frag; payload_len = length bytes }) bytes
 
-record IsDone (slots : Slots) (at : Option ℕ) (content datagram : IncomingValue) : Type 0 where
-  bytes : List ℕ
-  there : bytes_at at slots ≡ Some bytes
-  shape : Shape content bytes datagram
+pub record IsDone (slots : Slots) (at : Option ℕ) (content datagram : IncomingValue) : Type 0 where
+  pub bytes : List ℕ
+  pub there : bytes_at at slots ≡ Some bytes
+  pub shape : Shape content bytes datagram
 
 some_if : (b : Bool) (v d : IncomingValue) → cond b (Some v) None ≡ Some d → d ≡ v
 some_if true v d is = cc
@@ -136,7 +136,7 @@ behind (Ip4 link h p x) datagram bytes shape = ap behind_header shape
 behind (Ip6 link h x) datagram bytes shape = ap behind_header shape
 
 -- a datagram of TCP or UDP by its key and its bytes
-abbrev PortsOf : FragKey → List ℕ → Type 0
+abbrev pub PortsOf : FragKey → List ℕ → Type 0
 PortsOf (Keys.Ipv4 key) bytes = IsTcpOrUdp key.protocol
 PortsOf (Keys.Ipv6 key) bytes = IsTcpOrUdp (upper_of (go_through Protocol.Ipv6Frag bytes))
 
@@ -233,13 +233,13 @@ module _ (q : Party) (first next : ℕ) (out : List Outgoing) (sent : AreSent (M
   -- WHAT A HOST REBUILDS
 
   module _ (few : AreFew out) (s : StationValue) (receives : Receives q out s) (key : FragKey) (bytes : List ℕ) (r : Rebuilds s key bytes) where
-    abbrev place : Option ℕ
+    abbrev pub place : Option ℕ
     place = place_in s.host.slots (Some r.content)
 
-    abbrev kept_so : Slots
+    abbrev pub kept_so : Slots
     kept_so = kept s.host.inner s.host.timeout s.host.slots (Some r.content)
 
-    is_done : IsDone kept_so place r.content r.datagram
+    pub is_done : IsDone kept_so place r.content r.datagram
     is_done = done kept_so place r.content r.datagram r.piece r.cut r.whole
 
     pub same_bytes : is_done.bytes ≡ bytes
@@ -350,47 +350,48 @@ module _ (starts : Starts) (fresh : IsFreshWorld starts) (history : List Entry) 
   abbrev own : List (List ℕ)
   own = own_frames (other side) history (station hosts (other side)).link.sent
 
-  abbrev world = (has_come starts history hosts fresh typed ran).joined
+  abbrev world : AreWell starts history hosts (has_come starts history hosts fresh typed ran).net
+  world = (has_come starts history hosts fresh typed ran).joined
 
   abbrev maker : Party
   maker = party (has_come starts history hosts fresh typed ran).net (other side)
 
   abbrev sent_out : List Outgoing
-  sent_out = world.joined.out (other side)
+  sent_out = (world).joined.out (other side)
 
   few_out : AreFew sent_out
-  few_out = let a = world.joined.counted (other side) in let b = world.few (other side) in omega (arith, a, b)
+  few_out = let a = (world).joined.counted (other side) in let b = (world).few (other side) in omega (arith, a, b)
 
   rebuilt_said : (fact : Fact) → IsOf bytes fact → IsSaid m own key fact
   rebuilt_said fact of =
       let has = has_said starts fresh history hosts typed ran in
       let S : FragKey → Fact → Type 0 = said m history hosts (other side) in
       let s = station hosts side in
-      let receives = world.joined.receives side in
+      let receives = (world).joined.receives side in
       let taken : TakenSo S m r.frame = all_at (TakenSo S m) s.link.waiting r.place r.frame (has.says side).waits r.waits in
       let read : IsIncoming s.host.inner.hardware sealed r.frame r.content =
       subst (λ (c : ChecksumCapabilities). IsIncoming s.host.inner.hardware c r.frame r.content) receives.checksums r.read in
       let so : ContentSo S (Some r.content) =
-      taken s.host.inner.hardware r.content (host_on m (firsts starts) world.most hosts _ world.joined has.port side) read in
+      taken s.host.inner.hardware r.content (host_on m (firsts starts) (world).most hosts _ (world).joined has.port side) read in
       elim (rebuilds_so S s.host.inner s.host.timeout s.host.slots (Some r.content) r.piece bytes (has.says side).slots so r.cut
-      (complete_there maker _ _ sent_out (world.joined.sends (other side)).are_sent few_out s receives key bytes r)) [
+      (complete_there maker _ _ sent_out ((world).joined.sends (other side)).are_sent few_out s receives key bytes r)) [
         | inl none ↦
             absurd (not_foreign key bytes (subst IsForeignKey r.key_is none)
-            (ports_there maker _ _ sent_out (world.joined.sends (other side)).are_sent few_out s receives key bytes r))
+            (ports_there maker _ _ sent_out ((world).joined.sends (other side)).are_sent few_out s receives key bytes r))
         | inr says ↦ subst (λ (k : FragKey). S k fact) r.key_is (says fact of)
       ]
 
   said_rebuilt : (fact : Fact) → IsSaid m own key fact → IsOf bytes fact
   said_rebuilt fact is =
       let has = has_said starts fresh history hosts typed ran in
-      let sends = world.joined.sends (other side) in
+      let sends = (world).joined.sends (other side) in
       let frames : AllByRecursion (IsHostFrame m sent_out) own =
       all_own (IsHostFrame m sent_out) (other side) history (station hosts (other side)).link.sent
       (subst (λ (x : Medium). AllByRecursion (IsHostFrame x sent_out) (station hosts (other side)).link.sent)
-      (host_on m (firsts starts) world.most hosts _ world.joined has.port (other side)) sends.frames) in
+      (host_on m (firsts starts) (world).most hosts _ (world).joined has.port (other side)) sends.frames) in
       let frame : IsHostFrame m sent_out is.frame = all_at (IsHostFrame m sent_out) own is.place is.frame frames is.frame_is in
       said_is maker _ _ sent_out sends.are_sent few_out key bytes
-      (rebuilt_is maker _ _ sent_out sends.are_sent few_out (station hosts side) (world.joined.receives side) key bytes r) m is.frame fact frame is.carries
+      (rebuilt_is maker _ _ sent_out sends.are_sent few_out (station hosts side) ((world).joined.receives side) key bytes r) m is.frame fact frame is.carries
 
   frames_of_it : AreFramesOf m own key bytes
   frames_of_it fact = (said_rebuilt fact, rebuilt_said fact)

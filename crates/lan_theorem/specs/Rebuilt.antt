@@ -73,6 +73,11 @@ abbrev pub protocol_in : FragKey → List ℕ → IpProtocol
 protocol_in (Keys.Ipv4 key) bytes = key.protocol
 protocol_in (Keys.Ipv6 key) bytes = protocol_of (slice_index bytes 0)
 
+-- how many bytes stand there before the packet's payload
+abbrev pub room_before : FragKey → ℕ
+room_before (Keys.Ipv4 key) = 0
+room_before (Keys.Ipv6 key) = 8
+
 -- a segment or a datagram, and this host made it
 abbrev pub HasMade : Party → PayloadValue → Type 0
 HasMade p (Datagram udp bytes) = WasMade p (datagram_of udp bytes)

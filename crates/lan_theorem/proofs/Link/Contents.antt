@@ -1,5 +1,5 @@
 -- What the frames of a host carry.
-use Rattle.std.proofs.Common.{◌≡◌, inl, inr, ℕ, ◌+◌, Bool, true, false, List, ◌++◌, drop, Some, None, refl, sym, ◌∙◌, ap, subst, append_assoc}
+use Rattle.std.proofs.Common.{◌≡◌, inl, inr, ℕ, ◌+◌, Bool, true, false, List, ◌++◌, drop, Option, Some, None, refl, sym, ◌∙◌, ap, subst, append_assoc}
 use Rattle.interface_ingress.specs.HardwareAddress.{HardwareAddress}
 use Rattle.interface_delivery.specs.Ip as Ips
 use Rattle.interface_delivery.specs.IpRepr.{IpRepr}

@@ -7,14 +7,14 @@ use Rattle.std.proofs.lemmas.List.{drop-drop}
 use Rattle.tcp_law.specs.ReceiveMap.{Begins}
 use Rattle.tcp_law.proofs.Lists.{Begins-whole}
 use Rattle.ip_address.specs.Protocol.{protocol_number, protocol_of}
-use Rattle.ipv6_headers.proofs.Fragments.{at_piece, past_atomic}
+use Rattle.ipv6_headers.proofs.Steps.{walk_step}
 use Rattle.interface_tables.specs.Pieces as Pieces
 use Rattle.interface_egress.specs.Departure.{fragment_header}
 use Rattle.interface_ingress.specs.Behind.{Behind}
 use Rattle.interface_ingress.specs.Behind.TheVariants as End
 use Rattle.interface_ingress.specs.Fields.{be16, be32}
 use Rattle.interface_ingress.specs.Headers as Headers
-use Rattle.interface_ingress.specs.Headers.{go_through, walked, upper_of, upper_bytes_of, is_extension, is_atomic, piece_offset, has_more}
+use Rattle.interface_ingress.specs.Headers.{go_through, walked, step_at, upper_of, upper_bytes_of, is_extension, is_atomic, piece_offset, has_more}
 use Rattle.interface_ingress.specs.IpProtocol.{IpProtocol}
 use Rattle.interface_ingress.specs.IpProtocol.TheVariants as Protocol
 use Rattle.interface_ingress.specs.Reassembled.{whole_header}
@@ -104,7 +104,7 @@ module _ (carried : IpProtocol) (number offset : ℕ) (more : Bool) (x : List �
   abbrev all : List ℕ
   all = rest_of carried number (piece_with offset more x)
 
-  pub number_is : number < 2 ^ 16 → be32 all 4 ≡ number
+  pub number_is : number < 2 ^ 32 → be32 all 4 ≡ number
   number_is small = omega (arith, small)
 
   pub behind_is : drop 8 all ≡ x
@@ -129,6 +129,40 @@ behind_whole carried number payload = refl
 
 pub length_whole : (carried : IpProtocol) (number : ℕ) (payload : List ℕ) → length (behind_fragment carried number payload) ≡ 8 + length payload
 length_whole carried number payload = omega arith
+
+-- THE STEP. What a header leads to has a type that no other crate names, so it is told by that of a header of given bytes.
+
+chosen : {X : Type 0} (a b : Bool) (s t u : X) → a ≡ true → b ≡ false → cond a (cond b s t) u ≡ t
+chosen a b s t u there cut = rw (there, cut) refl
+
+first_chosen : {X : Type 0} (a b : Bool) (s t u : X) → a ≡ true → b ≡ true → cond a (cond b s t) u ≡ s
+first_chosen a b s t u there cut = rw (there, cut) refl
+
+last_chosen : {X : Type 0} (a b : Bool) (s t u : X) → a ≡ false → b ≡ false → cond a s (cond b t u) ≡ u
+last_chosen a b s t u one two = rw (one, two) refl
+
+-- the last piece of a datagram of eight bytes, without a byte, and the whole of one that has none
+abbrev last_bytes : List ℕ
+last_bytes = 17 ∷ 0 ∷ 0 ∷ 8 ∷ 0 ∷ 0 ∷ 0 ∷ 0 ∷ []
+
+abbrev whole_bytes : List ℕ
+whole_bytes = 17 ∷ 0 ∷ 0 ∷ 0 ∷ 0 ∷ 0 ∷ 0 ∷ 0 ∷ []
+
+module _ (bytes : List ℕ) (there : nat_le 8 (length bytes) ≡ true) where
+  -- a piece that ends where one may
+  at_piece : is_atomic bytes ≡ false → has_more bytes && not (length bytes % 8 == 0) ≡ false →
+      nat_lt 65535 (0 + piece_offset bytes + (length bytes - 8)) ≡ false → go_through Protocol.Ipv6Frag bytes ≡ End.Piece 0
+  at_piece cut ends within =
+      let step : step_at Protocol.Ipv6Frag 6 0 bytes ≡ step_at Protocol.Ipv6Frag 6 0 last_bytes =
+      chosen _ _ _ _ _ there cut ∙ last_chosen _ _ _ _ _ ends within in
+      walk_step (suc (length bytes)) (length bytes) Protocol.Ipv6Frag 6 0 bytes (step_at Protocol.Ipv6Frag 6 0 last_bytes) refl (sym step)
+
+  -- what is whole is gone on with
+  past_atomic : is_atomic bytes ≡ true → go_through Protocol.Ipv6Frag bytes ≡
+      walked (length bytes) (protocol_of (slice_index bytes 0)) 40 8 (drop 8 bytes)
+  past_atomic whole =
+      let step : step_at Protocol.Ipv6Frag 6 0 bytes ≡ step_at Protocol.Ipv6Frag 6 0 whole_bytes = first_chosen _ _ _ _ _ there whole in
+      walk_step (suc (length bytes)) (length bytes) Protocol.Ipv6Frag 6 0 bytes (step_at Protocol.Ipv6Frag 6 0 whole_bytes) refl (sym step)
 
 -- A PIECE
 

@@ -49,7 +49,7 @@ module _ (out out' : List Outgoing) (grows : Grows out out') where
     short = s.short;
   }
 
-  pub sent6_grows : (v : Ipv6Repr) (bytes : List ℕ) → IsSentV6 out v bytes → IsSentV6 out' v bytes
+  abbrev pub sent6_grows : (v : Ipv6Repr) (bytes : List ℕ) → IsSentV6 out v bytes → IsSentV6 out' v bytes
   sent6_grows v bytes s = record {
     packet = s.packet;
     among = grows.among s.packet s.among;

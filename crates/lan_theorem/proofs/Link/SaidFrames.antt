@@ -173,7 +173,7 @@ slice_frame out medium frame f =
       frame_is = f.frame_is;
     }
 
-pub whole6_frame : (out : List Outgoing) (medium : Medium) (frame : List ℕ) → IsWhole6 medium out frame → IsFrame6 medium frame
+abbrev pub whole6_frame : (out : List Outgoing) (medium : Medium) (frame : List ℕ) → IsWhole6 medium out frame → IsFrame6 medium frame
 whole6_frame out medium frame f = record {
   link = f.link;
   header = f.header;
@@ -185,7 +185,7 @@ whole6_frame out medium frame f = record {
   frame_is = f.frame_is;
 }
 
-pub piece6_frame : (out : List Outgoing) (medium : Medium) (frame : List ℕ) → IsPiece6 medium out frame → IsFrame6 medium frame
+abbrev pub piece6_frame : (out : List Outgoing) (medium : Medium) (frame : List ℕ) → IsPiece6 medium out frame → IsFrame6 medium frame
 piece6_frame out medium frame f = record {
   link = f.link;
   header = header6 medium out frame f;
@@ -512,13 +512,10 @@ own_so out medium before (frame ∷ frames) all = (
   subst (λ (xs : List (List ℕ)). AllByRecursion (FrameSo (IsSaid medium xs) medium) frames) (append_assoc before (frame ∷ []) frames)
       (own_so out medium (before ++ frame ∷ []) frames all.1),
 ) where
-  abbrev all_frames : List (List ℕ)
-  all_frames = before ++ frame ∷ frames
-
-  said_by : (key : FragKey) (fact : Fact) → Carries medium frame key fact → IsSaid medium all_frames key fact
+  said_by : (key : FragKey) (fact : Fact) → Carries medium frame key fact → IsSaid medium (before ++ frame ∷ frames) key fact
   said_by key fact carries = record { place = length before; frame = frame; frame_is = get_behind before frame frames; carries = carries }
 
-  by : IsEither medium frame → FrameSo (IsSaid medium all_frames) medium frame
+  by : IsEither medium frame → FrameSo (IsSaid medium (before ++ frame ∷ frames)) medium frame
   by (inl f) = inl (record {
     is_slice = f;
     so = λ fact says. said_by (slice_key medium frame f) fact (slice_carries medium frame f fact says);

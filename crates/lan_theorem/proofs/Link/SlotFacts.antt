@@ -279,7 +279,8 @@ module _ (S : FragKey → Fact → Type 0) where
 
     rebuilds_fit : (p : PieceValue) → PieceSo S p → (bytes : List ℕ) (unfit : Bool) →
         bytes_at (cond unfit None (place_for is_same_datagram slots p.key))
-        (cond unfit (without_datagram is_same_datagram slots p.key) (with_part i timeout slots p)) ≡ Some bytes → Complete p (given_up_at i timeout) from bytes
+        (cond unfit (without_datagram is_same_datagram slots p.key) (with_part i timeout slots p)) ≡ Some bytes → IsForeignKey p.key ⊎
+        ((fact : Fact) → IsOf bytes fact → S p.key fact)
     rebuilds_fit p from bytes true done = absurd cc
     rebuilds_fit p from bytes false done = complete p (given_up_at i timeout) from slots (place_for is_same_datagram slots p.key) bytes are done
 

@@ -192,7 +192,7 @@ module _ (own : HardwareAddress) (out : List Outgoing) (mtu : ℕ) where
       let w : List ℕ = Ipv6.written (piece_v6 v p) in
       let fragment : List ℕ = fragment_header v.next_header number p in
       let half = left.half in
-      let value : Ipv6.IsValue v × (number < 2 ^ 16) = subst IsCutValue header half.header_is in
+      let value : Ipv6.IsValue v × (number < 2 ^ 32) = subst IsCutValue header half.header_is in
       let cut : IsCutV6 out v number l.payload = subst (λ (h : CutHeader). IsCutFrom out h l.payload) header left.sent in
       let most : l.at ≤ length l.payload = half.within in
       let of_piece : Ipv6.IsValue (piece_v6 v p) =

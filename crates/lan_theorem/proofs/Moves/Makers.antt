@@ -39,7 +39,7 @@ use Rattle.lan_theorem.specs.Moves.Follows.{seen_place, sockets_of}
 use Rattle.lan_theorem.specs.Moves.Joined.{first_net}
 use Rattle.lan_theorem.specs.Moves.Raws.{OfItem, OfEach, HasNoUdp}
 use Rattle.lan_theorem.proofs.Moves.Named.{told, not_udp, not_tcp}
-use Rattle.lan_theorem.specs.Rebuilt.{HasMade, IsOfMadeV4, IsOfMadeV6, IsOfMade, protocol_in, Rebuilds, RebuiltWasMade}
+use Rattle.lan_theorem.specs.Rebuilt.{HasMade, IsOfMadeV4, IsOfMadeV6, IsOfMade, protocol_in, room_before, Rebuilds, RebuiltWasMade}
 use Rattle.lan_theorem.proofs.Link.Fragments.{length_whole}
 
 abbrev IsNoUdp : Option Socket → Type 0
@@ -166,11 +166,6 @@ made_by_socket q ip (Segment header bytes) named is made none = absurd (not_tcp 
 made_by_socket q ip (ControlV4 message bytes) named is made none = absurd made
 made_by_socket q ip (ControlV6 message bytes) named is made none = absurd made
 made_by_socket q ip (Bytes bytes) named is made none = absurd made
-
--- how many bytes stand before the packet's in a datagram as slots hold it
-abbrev pub room_before : FragKey → ℕ
-room_before (Keys.Ipv4 key) = 0
-room_before (Keys.Ipv6 key) = 8
 
 module _ (q : Party) where
   pub made_long : (key : FragKey) (bytes : List ℕ) → IsOfMade q key bytes → room_before key + 8 ≤ length bytes

@@ -79,7 +79,7 @@ pub record IsSentV6 (out : List Outgoing) (v : Ipv6Repr) (bytes : List ℕ) : Ty
 pub record IsCutV6 (out : List Outgoing) (v : Ipv6Repr) (number : ℕ) (bytes : List ℕ) : Type 0 where
   pub sent : IsSentV6 out v bytes
   pub numbered : IsNumbered sent.packet number out
-  pub small : number < 2 ^ 16
+  pub small : number < 2 ^ 32
   pub bare : is_extension (Ipv6.normal v).next_header ≡ false
   pub short : 48 + length bytes < 2 ^ 16
 
