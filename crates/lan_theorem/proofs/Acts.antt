@@ -57,7 +57,7 @@ abbrev outs : Side → List Outgoing → List Outgoing → List Outgoing
 outs A a b = a
 outs B a b = b
 
--- what is said of the host that acted; it may have sent more packets, so many of IPv4 at most
+-- what is said of the host that acted; it may have sent more packets, so many with a number at most
 pub record HasActed (p q : Party) (first most : ℕ) (out others : List Outgoing) (s s' : StationValue) : Type 0 where
   pub out_after : List Outgoing
   pub more : Links.Grows out out_after

@@ -38,11 +38,11 @@ use Rattle.lan_theorem.proofs.PolledJoins as Polled
 use Rattle.lan_theorem.proofs.Settings.{setting_joins}
 use Rattle.lan_theorem.specs.Link.Frames.{Outgoing}
 
--- how many IPv4 datagrams a host has numbered
+-- how many datagrams a host has numbered
 abbrev pub numbered_by : List Entry → Stations → Side → ℕ
 numbered_by history hosts side = numbered (medium_of (station hosts side)) side history (station hosts side).link.sent
 
--- J: the hosts are joined, and each sent fewer IPv4 packets than there are numbers, no more than it numbered
+-- J: the hosts are joined, and each sent fewer packets that have one than there are numbers, no more than it numbered
 pub record AreWell (starts : Starts) (history : List Entry) (hosts : Stations) (net : Net) : Type 0 where
   pub most : Side → ℕ
   pub joined : AreJoined (firsts starts) most hosts net

@@ -20,7 +20,7 @@ Sends p first s out = IsSender (MadeBy p) first s.host.inner s.host.left s.link.
 abbrev pub Receives : Party → List Outgoing → StationValue → Type 0
 Receives q others s = IsReceiver (MadeBy q) others s.host.inner s.host.slots s.link.waiting
 
--- `firsts` are the numbers that the hosts began with, and `most` says how many IPv4 packets each sent at most
+-- `firsts` are the numbers that the hosts began with, and `most` says how many packets that have one each sent at most
 pub record AreJoined (firsts most : Side → ℕ) (hosts : Stations) (net : Net) : Type 0 where
   pub out : Side → List Outgoing
   pub medium : medium_on hosts.a.host.inner.hardware ≡ medium_on hosts.b.host.inner.hardware

@@ -15,7 +15,7 @@ pub record IsOther (q : Party) (first next : ℕ) (out : List Outgoing) : Type 0
   pub sent : AreSent (MadeBy q) first next out
   pub few : AreFew out
 
--- the host itself, of which the party made so much, and which sent `n` IPv4 packets at most; `first` is its first number, `base` and
+-- the host itself, of which the party made so much, and which sent `n` packets that have a number at most; `first` is its first number, `base` and
 -- `before` are its packets and frames when the poll began, and `others` the packets of the other host
 pub record IsLinked (q : Party) (others base : List Outgoing) (first : ℕ) (before : List (List ℕ)) (n : ℕ) (s : State PortValue) (p : Party) : Type 0 where
   pub out : List Outgoing

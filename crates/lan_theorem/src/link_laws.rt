@@ -62,8 +62,8 @@ pub fn frames_bring_what_was_made()
 {}
 
 /// Law: a host to which such frames are handed over takes one, and what it brings, whole or rebuilt of pieces, was made. What is
-/// rebuilt is one packet's payload, since the other host gave each packet of IPv4, and each of IPv6 that it cut, a number of its own. The host stays one of which this
-/// can be said.
+/// rebuilt is one packet's payload, since the other host gave each packet of IPv4, and each of IPv6 that it cut, a number of its own. The
+/// host stays one of which this can be said.
 pub fn what_is_taken_was_made()
     ensures brings { (made : List PayloadValue) (first next : ℕ) (out : List Outgoing) (i : InnerValue) (timeout : ℕ) (slots : Slots) (frame : List ℕ)
         (rest : List (List ℕ)) (content : Option IncomingValue)

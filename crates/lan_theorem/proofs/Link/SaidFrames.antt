@@ -351,15 +351,21 @@ module _ (medium : Medium) (frame : List ℕ) (f : IsFrame6 medium frame) where
       let w : List ℕ = Ipv6.written f.header ++ f.bytes in
       let known : IsPacketV6 w (Ipv6.normal f.header) f.bytes =
       subst (λ (b : List ℕ). IsPacketV6 b (Ipv6.normal f.header) f.bytes) (append-nil w) (read_v6 f.header f.bytes [] f.value f.fits f.len) in
-      let framed = framed6 f.link w is_link in
-      (Hardware.Ethernet any_station, Some framed.0, refl,
-      (framed.1, subst (λ (b : List ℕ). IsPacketV6 b (Ipv6.normal f.header) f.bytes) (sym (drop_at f.link w 14 is_link.len)) known))
+      let framed = framed6 f.link w is_link in (
+        Hardware.Ethernet any_station,
+        Some framed.0,
+        refl,
+        (framed.1, subst (λ (b : List ℕ). IsPacketV6 b (Ipv6.normal f.header) f.bytes) (sym (drop_at f.link w 14 is_link.len)) known),
+      )
   reader_on Medium.Ip is_link =
       let w : List ℕ = Ipv6.written f.header ++ f.bytes in
       let known : IsPacketV6 w (Ipv6.normal f.header) f.bytes =
-      subst (λ (b : List ℕ). IsPacketV6 b (Ipv6.normal f.header) f.bytes) (append-nil w) (read_v6 f.header f.bytes [] f.value f.fits f.len) in
-      (Hardware.Ip, None, refl,
-      subst (λ (l : List ℕ). IsIncoming Hardware.Ip sealed (l ++ w) (Ip6 None (Ipv6.normal f.header) f.bytes)) (sym (none_left f.link is_link.len)) known)
+      subst (λ (b : List ℕ). IsPacketV6 b (Ipv6.normal f.header) f.bytes) (append-nil w) (read_v6 f.header f.bytes [] f.value f.fits f.len) in (
+        Hardware.Ip,
+        None,
+        refl,
+        subst (λ (l : List ℕ). IsIncoming Hardware.Ip sealed (l ++ w) (Ip6 None (Ipv6.normal f.header) f.bytes)) (sym (none_left f.link is_link.len)) known,
+      )
 
   part_at : (l : Option EthernetRepr) (p : PieceValue) → IsPart6 p → part_in (Ip6 l (Ipv6.normal f.header) f.bytes) ≡ Some p
   part_at l p is = is

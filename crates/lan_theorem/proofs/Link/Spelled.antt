@@ -1,4 +1,4 @@
--- The frames of packets and pieces that left are slices, or whole packets of IPv6.
+-- The frames of packets and pieces that left are slices, or whole packets of IPv6, or pieces of them.
 use Rattle.std.proofs.Common.{◌≡◌, inl, inr, ℕ, zero, suc, ◌+◌, ◌^◌, ◌<◌, ◌≤◌, Bool, true, false, List, [], ◌∷◌, ◌++◌, length, take, drop, refl, sym, ◌∙◌, ap}
 use Rattle.std.proofs.Common.{◌-◌, ◌*◌, ◌/◌, ◌%◌, Some, None, subst, arith, append_assoc, length-append, length-take, length-drop, append-nil}
 use Rattle.std.specs.Prelude.{nat_lt}
