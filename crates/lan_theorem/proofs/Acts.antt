@@ -1,7 +1,6 @@
 -- One host acts, and the other rests.
 use Rattle.std.proofs.Common.{◌≡◌, ℕ, ◌≤◌, Bool, true, false, cond, List, Option, Some, None, refl, sym, ◌∙◌, ap, subst, arith}
 use Rattle.std.specs.Prelude.{ℤ, slice_get, slice_set}
-use Rattle.sockets.specs.Packet.{PacketValue}
 use Rattle.sockets.specs.declared.socket.Socket.{Socket}
 use Rattle.interface_tables.specs.Inner.{InnerValue, context_of, drawn}
 use Rattle.interface_egress.specs.Fragments.{LeftValue}

@@ -6,7 +6,7 @@ use Rattle.lan_frames.specs.Medium.{Medium}
 use Rattle.lan_frames.specs.Medium.TheVariants as Medium
 use Rattle.interface_ingress.specs.HardwareAddress.{HardwareAddress}
 use Rattle.interface_ingress.specs.HardwareAddress.TheVariants as Hardware
-use Rattle.sockets.specs.Packet.{PacketValue, PayloadValue}
+use Rattle.sockets.specs.Packet.{PayloadValue}
 use Rattle.interface_tables.specs.Inner.{InnerValue}
 use Rattle.interface_tables.specs.Reassembly.{SlotValue, is_free}
 use Rattle.interface_tables.specs.declared.key.FragKey.{FragKey}

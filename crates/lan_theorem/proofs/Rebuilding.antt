@@ -1,5 +1,5 @@
 -- What a host rebuilds, the other host made and sent; and no damage did harm.
-use Rattle.std.proofs.Common.{◌≡◌, ◌⊎◌, inl, inr, ℕ, zero, suc, ◌-◌, ◌^◌, if◌then◌else◌, Bool, true, false, cond, List, [], ◌∷◌, length, take, drop}
+use Rattle.std.proofs.Common.{◌≡◌, inl, inr, ℕ, zero, suc, ◌-◌, ◌^◌, if◌then◌else◌, Bool, true, false, cond, List, [], ◌∷◌, length, take, drop}
 use Rattle.std.proofs.Common.{Option, Some, None, refl, sym, ◌∙◌, ap, subst, arith}
 use Rattle.std.specs.Prelude.{nat_lt}
 use Rattle.std.specs.List.{AllByRecursion}
@@ -9,8 +9,6 @@ use Rattle.ip_address.specs.declared.ipv4.Ipv4FragKey.{Ipv4FragKey}
 use Rattle.interface_delivery.specs.Ip as Ips
 use Rattle.interface_delivery.specs.Ip.{carried_in}
 use Rattle.interface_delivery.specs.IpRepr.{IpRepr}
-use Rattle.interface_delivery.specs.Ipv4 as Ipv4
-use Rattle.interface_delivery.specs.Ipv4Piece.{Ipv4Piece}
 use Rattle.interface_delivery.specs.Ipv4Repr.{Ipv4Repr}
 use Rattle.interface_delivery.specs.Ipv6 as Ipv6
 use Rattle.interface_delivery.specs.Ipv6Repr.{Ipv6Repr}
@@ -18,8 +16,8 @@ use Rattle.interface_ingress.specs.EthernetRepr.{EthernetRepr}
 use Rattle.interface_ingress.specs.Headers.{go_through, upper_of}
 use Rattle.interface_ingress.specs.IpProtocol.{IpProtocol}
 use Rattle.interface_ingress.specs.IpProtocol.TheVariants as Protocol
-use Rattle.interface_ingress.specs.Incoming.{IncomingValue, Arp, Ip4, Ip6, IsIncoming, IsContent}
-use Rattle.interface_ingress.specs.Reassembled.{Slots, PieceValue, is_piece, is_piece_v6, part_v4, part_behind, part_in, behind_headers, place_in, kept, bytes_at}
+use Rattle.interface_ingress.specs.Incoming.{IncomingValue, Arp, Ip4, Ip6, IsIncoming}
+use Rattle.interface_ingress.specs.Reassembled.{Slots, PieceValue, is_piece, is_piece_v6, part_v4, part_in, behind_headers, place_in, kept, bytes_at}
 use Rattle.interface_ingress.specs.Reassembled.{rebuilt, rebuilt_v6, uncut, whole_of}
 use Rattle.interface_ingress.specs.Sent.{CanBeRead, normal_payload}
 use Rattle.interface_ingress.specs.Upper.{upper_header}
@@ -56,7 +54,7 @@ use Rattle.lan_theorem.proofs.Link.Contents.{slice_part_of, piece6_parts}
 use Rattle.lan_theorem.proofs.Link.Fragments.{upper_named, bare_so, fragment_so}
 use Rattle.lan_theorem.proofs.Link.Hands.{no_part, whole_sent}
 use Rattle.lan_theorem.proofs.Link.Rebuilt.{IsRebuiltOf}
-use Rattle.lan_theorem.proofs.Link.SaidFrames.{IsSliceFrame, IsFrame6, TakenSo, slice_frame, slice_key, slice_part, whole6_frame, piece6_frame, carries_slice}
+use Rattle.lan_theorem.proofs.Link.SaidFrames.{IsSliceFrame, TakenSo, slice_frame, slice_key, slice_part, whole6_frame, piece6_frame, carries_slice}
 use Rattle.lan_theorem.proofs.Link.SaidFrames.{carries_piece, carries_none, piece_is_of}
 use Rattle.lan_theorem.proofs.Link.SlotFacts.{ContentSo, rebuilds_so}
 use Rattle.lan_theorem.proofs.Link.Slots.{all_at, one_key}

@@ -1,7 +1,6 @@
 -- Wherever a history of typed events led from two fresh hosts, they are joined, and so their sockets are safe.
 use Rattle.std.proofs.Common.{◌≡◌, ℕ, ◌+◌, ◌^◌, ◌<◌, ◌≤◌, List, [], ◌∷◌, ◌++◌, refl, sym, ◌∙◌, ap, subst, arith}
 use Rattle.std.specs.Prelude.{ℤ}
-use Rattle.sockets.specs.Packet.{PacketValue}
 use Rattle.lan_hosts.specs.History.{Entry}
 use Rattle.lan_hosts.specs.Kinds.{other, kind_of, Kind}
 use Rattle.lan_hosts.specs.Kinds.Act.{Calls, Sets, Opens, Asks, Polls}

@@ -1,10 +1,9 @@
 -- What a host holds and takes says what is so, through a poll too.
-use Rattle.std.proofs.Common.{◌≡◌, ◌⊎◌, inl, inr, ℕ, ℤ, Bool, true, false, cond, List, [], ◌∷◌, ◌++◌, Option, Some, None, is_some, refl, sym, ◌∙◌, ap, subst}
+use Rattle.std.proofs.Common.{◌≡◌, inl, inr, ℕ, ℤ, Bool, true, false, cond, List, ◌∷◌, Option, Some, None, is_some, sym, ◌∙◌, ap, subst}
 use Rattle.std.specs.List.{AllByRecursion}
 use Rattle.lan_frames.specs.ChecksumCapabilities.{ChecksumCapabilities}
-use Rattle.lan_frames.specs.Device.{Took, Empty, Allowed}
+use Rattle.lan_frames.specs.Device.{Allowed}
 use Rattle.lan_frames.specs.Medium.{Medium}
-use Rattle.interface_ingress.specs.HardwareAddress.{HardwareAddress}
 use Rattle.interface_ingress.specs.IpAddress.{IpAddress}
 use Rattle.interface_tables.specs.declared.key.FragKey.{FragKey}
 use Rattle.sockets.specs.Packet.{PacketValue}
@@ -20,19 +19,16 @@ use Rattle.interface_egress.specs.GoesOut.{GoesOut, frame_of, frame_len_of}
 use Rattle.interface_egress.specs.Plan.{plan_of}
 use Rattle.interface_egress.specs.declared.socket_meta.Meta.{Meta}
 use Rattle.interface_egress.specs.declared.socket_set.Item.{Item}
-use Rattle.interface_egress.specs.declared.socket_set.SocketStorage.{SocketStorage}
 use Rattle.interface_egress.specs.declared.way_out.Sent.{Sent}
 use Rattle.interface_egress.proofs.Changes.{changes, piece_sends}
 use Rattle.interface_ingress.specs.Arrives as Replies
 use Rattle.interface_ingress.specs.Arrives.{ReplyValue}
 use Rattle.interface_ingress.specs.Incoming.{IncomingValue, IsIncoming, IsContent}
 use Rattle.interface_ingress.specs.Reassembled.{is_taken_in, taken_in}
-use Rattle.interface.specs.Host.{HostValue, Sender}
+use Rattle.interface.specs.Host.{Sender}
 use Rattle.interface.specs.Ingress.{Takes, Replied, is_awaited, sender_of, sender_with}
 use Rattle.interface.proofs.Kept.{IsKept}
-use Rattle.interface.specs.State.{sending_as}
-use Rattle.interface.specs.Polls.{begun}
-use Rattle.interface.specs.State.{State, state, at_device}
+use Rattle.interface.specs.State.{State, at_device}
 use Rattle.interface.specs.Turn.{Leaves, SendsBy, Answers, TurnsIf, ItemTurns, is_waiting, let_through}
 use Rattle.interface.specs.WayOut.{PieceLeaves}
 use Rattle.interface.specs.declared.turn.Turned.{Turned}

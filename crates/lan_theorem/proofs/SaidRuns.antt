@@ -1,6 +1,6 @@
 -- Wherever events led two hosts, what is held of pieces and what waits says what the other host's own frames say.
-use Rattle.std.proofs.Common.{◌≡◌, ◌⊎◌, inl, inr, ℕ, ◌^◌, ◌<◌, ◌≤◌, ◌%◌, ◌==◌, ◌||◌, not, if◌then◌else◌, Bool, true, false, List, [], ◌∷◌, ◌++◌, length, take}
-use Rattle.std.proofs.Common.{drop, Option, Some, None, refl, sym, ◌∙◌, ap, subst, append_assoc, append-nil, arith}
+use Rattle.std.proofs.Common.{◌≡◌, ℕ, ◌^◌, ◌<◌, ◌%◌, ◌==◌, ◌||◌, not, if◌then◌else◌, false, List, [], ◌∷◌, ◌++◌, length, take}
+use Rattle.std.proofs.Common.{drop, Option, Some, None, refl, sym, ◌∙◌, ap, subst}
 use Rattle.std.specs.Prelude.{ℤ, nat_lt}
 use Rattle.std.specs.List.{AllByRecursion}
 use Rattle.std.proofs.lemmas.List.{take_at, drop_at}
@@ -12,7 +12,7 @@ use Rattle.lan_frames.specs.Cuts.{ipv4_part, first_piece, second_piece}
 use Rattle.lan_frames.specs.declared.part.Part.{Part}
 use Rattle.lan_hosts.specs.Call.{SocketCall}
 use Rattle.lan_hosts.specs.History.{Entry, Counts}
-use Rattle.lan_hosts.specs.Kinds.{other, Kind, Act, Origin, Delivered, Damaged, Noisy, Setting, kind_of}
+use Rattle.lan_hosts.specs.Kinds.{other, Kind, Origin, Delivered, Damaged, Noisy, Setting, kind_of}
 use Rattle.lan_hosts.specs.Kinds as Settings
 use Rattle.lan_hosts.specs.Kinds.Act.{Calls, Sets, Opens, Asks, Polls}
 use Rattle.lan_hosts.specs.Kinds.Kind.{OfHost, OfLink}
@@ -22,7 +22,7 @@ use Rattle.lan_hosts.specs.Answer.{Answer}
 use Rattle.lan_hosts.specs.Refused.TheVariants as For
 use Rattle.lan_hosts.specs.Side.{Side}
 use Rattle.lan_hosts.specs.Side.TheVariants.{A, B}
-use Rattle.lan_packets.specs.Parties.{Net, party}
+use Rattle.lan_packets.specs.Parties.{Net}
 use Rattle.lan_hosts.specs.Port.{added, arrived}
 use Rattle.lan_hosts.specs.Fresh.{IsFreshWorld}
 use Rattle.lan_hosts.specs.Origins.{medium_of, frame_sent, frame_of_origin, goes_to, sent_before, is_cut_of, own_frames}
@@ -37,8 +37,6 @@ use Rattle.lan_theorem.specs.Events.{HasWord, IsTyped, AreTyped}
 use Rattle.lan_theorem.specs.Hosts.Damage.{BringsNoSegment}
 use Rattle.lan_theorem.specs.Hosts.GoesOn.{GoesOn}
 use Rattle.lan_theorem.specs.Joins.{AreJoined}
-use Rattle.lan_theorem.specs.Moves.Made.{MadeBy}
-use Rattle.lan_theorem.specs.Link.Made.{sealed}
 use Rattle.lan_theorem.specs.Link.Frames.{medium_on}
 use Rattle.lan_theorem.specs.Link.Sides.{IsHostFrame}
 use Rattle.lan_theorem.specs.Said.{Fact, IsSaid}

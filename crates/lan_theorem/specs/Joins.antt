@@ -1,6 +1,5 @@
 -- What holds of both hosts and their link between two events.
 use Rattle.std.specs.Prelude.{◌≡◌, ◌≤◌, ℕ, List}
-use Rattle.sockets.specs.Packet.{PacketValue}
 use Rattle.lan_hosts.specs.Kinds.{other, Kind}
 use Rattle.lan_hosts.specs.Kinds.Kind.{OfHost, OfLink}
 use Rattle.lan_hosts.specs.Kinds.Act.{Calls, Sets, Opens, Asks, Polls}

@@ -1,7 +1,6 @@
 -- What holds of a host at its port while it polls: its own frames are of packets that it made, and what waits is of those that the other
 -- host made.
 use Rattle.std.specs.Prelude.{◌≤◌, ℕ, List}
-use Rattle.sockets.specs.Packet.{PacketValue}
 use Rattle.interface.specs.State.{State}
 use Rattle.lan_hosts.specs.Port.{PortValue}
 use Rattle.lan_packets.specs.Parties.{Party}

@@ -6,7 +6,7 @@ use Rattle.interface_delivery.specs.IpRepr.{IpRepr}
 use Rattle.interface_delivery.specs.IpRepr.TheVariants as Ip
 use Rattle.interface_delivery.specs.Ipv4 as Ipv4
 use Rattle.interface_delivery.specs.Ipv6 as Ipv6
-use Rattle.sockets.specs.Packet.{PacketValue, PayloadValue}
+use Rattle.sockets.specs.Packet.{PayloadValue}
 use Rattle.interface_tables.specs.Pieces as Pieces
 use Rattle.interface_tables.proofs.Rebuilt.{Begins-take}
 use Rattle.interface_delivery.specs.Ipv6Repr.{Ipv6Repr}

@@ -2,7 +2,6 @@
 use Rattle.std.proofs.Common.{◌≡◌, ℕ, ◌+◌, ◌%◌, ◌≤◌, List, [], ◌++◌, Some, sym, ◌∙◌, ap, arith, append-nil}
 use Rattle.lan_frames.specs.Medium.{Medium}
 use Rattle.lan_frames.specs.Capabilities.{frame_header}
-use Rattle.sockets.specs.Packet.{PacketValue}
 use Rattle.lan_frames.specs.Cuts.{ipv4_part, first_piece, second_piece}
 use Rattle.lan_frames.specs.Slices.{frame_of_slice, front_of, back_of}
 use Rattle.lan_frames.proofs.Slicing.{first-slice, second-slice, ipv4_part-slice, IsSliceOf-front, IsSliceOf-back}

@@ -25,7 +25,7 @@ use Rattle.ip_address.specs.Protocol.{protocol_of}
 use Rattle.ip_tcp.specs.Tcp as Tcp
 use Rattle.interface_delivery.specs.Ipv4.{header_len_of}
 use Rattle.interface_ingress.specs.EthernetRepr.{EthernetRepr}
-use Rattle.sockets.specs.Packet.{PacketValue, PayloadValue}
+use Rattle.sockets.specs.Packet.{PayloadValue}
 use Rattle.interface_ingress.specs.Incoming.{IncomingValue, Ip4, Ip6, IsIncoming, IsPacketV4, IsPacketV6}
 use Rattle.interface_ingress.specs.Handed.{is_known_v6}
 use Rattle.interface_ingress.specs.Kept.{IsDamaged}

@@ -5,14 +5,9 @@ use Rattle.interface_delivery.specs.Ipv6 as Ipv6
 use Rattle.interface_delivery.specs.Ipv6Repr.{Ipv6Repr}
 use Rattle.interface_delivery.specs.IpRepr.TheVariants as Ip
 use Rattle.interface_egress.specs.Departure.{piece_v6}
-use Rattle.interface_ingress.specs.Behind.{Behind}
-use Rattle.interface_ingress.specs.Behind.TheVariants as End
-use Rattle.interface_ingress.specs.Headers as Headers
-use Rattle.interface_ingress.specs.Headers.{go_through, is_atomic, piece_offset}
+use Rattle.interface_ingress.specs.Headers.{is_atomic}
 use Rattle.interface_ingress.specs.Incoming.{Ip6}
-use Rattle.interface_ingress.specs.IpProtocol.TheVariants as Protocol
 use Rattle.interface_ingress.specs.Reassembled.{PieceValue, part_v6, part_behind, part_in, is_first, is_piece_v6}
-use Rattle.interface_tables.specs.Pieces as Pieces
 use Rattle.interface_tables.specs.declared.key.Ipv6FragKey.{Ipv6FragKey}
 use Rattle.sockets.specs.Packet.{PayloadValue}
 use Rattle.lan_theorem.specs.Link.Made.{HandsMade}

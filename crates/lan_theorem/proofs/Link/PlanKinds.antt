@@ -1,5 +1,5 @@
 -- Where the frames of a plan go: to a station on a medium with stations.
-use Rattle.std.proofs.Common.{ℕ, zero, suc, ◌+◌, Bool, true, false, cond, List, [], ◌∷◌, Option, Some, None, IfSome}
+use Rattle.std.proofs.Common.{ℕ, zero, suc, Bool, true, false, cond, List, [], ◌∷◌, Option, Some, None, IfSome}
 use Rattle.std.specs.Prelude.{ℤ, int_lt, nat_le}
 use Rattle.std.specs.List.{AllByRecursion}
 use Rattle.interface_ingress.specs.Address.{IsIpAddress}
@@ -11,7 +11,6 @@ use Rattle.interface_delivery.specs.Ip.{destination_of}
 use Rattle.interface_ingress.specs.IpAddress.{IpAddress}
 use Rattle.interface_ingress.specs.IpAddress.TheVariants as Address
 use Rattle.interface_delivery.specs.IpRepr.{IpRepr}
-use Rattle.interface_delivery.specs.IpRepr.TheVariants as Ip
 use Rattle.interface_ingress.specs.Ipv4Address.{Ipv4Address}
 use Rattle.interface_tables.specs.Best.{at_place}
 use Rattle.interface_tables.specs.Inner.{InnerValue, mtu_to, is_local_broadcast, is_on_link, next_hop, link_by, link_of_hop, link_on, link_address}

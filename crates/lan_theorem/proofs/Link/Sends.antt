@@ -35,7 +35,7 @@ use Rattle.lan_hosts.specs.Port.{PortValue, PortMove}
 use Rattle.lan_theorem.specs.Link.Made.{sealed, bytes_of, CarriesNone, IsGoing}
 use Rattle.lan_theorem.specs.Link.Frames.{Outgoing, number_by, medium_on, IsOut, AreOut}
 use Rattle.lan_theorem.specs.Link.Numbers.{and_number, count_numbered, AreNumbered, IsTied}
-use Rattle.lan_theorem.specs.Link.Sides.{Grows, WentOut, AreSent, IsHostFrame, IsCutFrom, IsOther, IsSound, IsSameKind, IsStation, IsLeft, IsSender}
+use Rattle.lan_theorem.specs.Link.Sides.{Grows, WentOut, IsHostFrame, IsCutFrom, IsOther, IsSound, IsSameKind, IsStation, IsLeft, IsSender}
 use Rattle.lan_theorem.proofs.Link.Asked.{IsAsked}
 use Rattle.lan_theorem.specs.Link.Sides.{IsBetweenStations}
 use Rattle.lan_theorem.proofs.Link.Grown.{all_grow, cut_grows, frame_grows, same_out}

@@ -1,16 +1,11 @@
 -- A slot of TCP or UDP holds slices of one datagram that the other host sent, so what is rebuilt in it is that datagram.
-use Rattle.std.proofs.Common.{◌≡◌, ◌⊎◌, inl, inr, ℕ, zero, suc, Bool, true, false, cond, List, [], ◌∷◌, ◌++◌, length, Option, Some, None, refl, sym, ◌∙◌}
+use Rattle.std.proofs.Common.{◌≡◌, ◌⊎◌, inl, inr, ℕ, zero, suc, Bool, true, false, cond, List, [], ◌∷◌, ◌++◌, Option, Some, None, refl, sym, ◌∙◌}
 use Rattle.std.proofs.Common.{ap, subst}
-use Rattle.std.specs.Prelude.{ℤ, map, slice_get, slice_set, nat_lt, position, is_some}
+use Rattle.std.specs.Prelude.{ℤ, map, slice_get, slice_set, position, is_some}
 use Rattle.std.specs.List.{AllByRecursion}
 use Rattle.ip_address.specs.declared.ipv4.Ipv4FragKey.{Ipv4FragKey}
-use Rattle.interface_delivery.specs.Ipv4Repr.{Ipv4Repr}
 use Rattle.interface_delivery.specs.Ipv6Repr.{Ipv6Repr}
 use Rattle.interface_delivery.specs.IpRepr.TheVariants as Ip
-use Rattle.interface_ingress.specs.EthernetRepr.{EthernetRepr}
-use Rattle.interface_ingress.specs.IpProtocol.{IpProtocol}
-use Rattle.interface_ingress.specs.IpProtocol.TheVariants as Protocol
-use Rattle.sockets.specs.Packet.{PayloadValue}
 use Rattle.interface_tables.specs.Best.{at_place}
 use Rattle.interface_tables.specs.Inner.{InnerValue}
 use Rattle.interface_tables.specs.Pieces as Pieces
@@ -24,7 +19,7 @@ use Rattle.interface_tables.proofs.Rebuilt.{HoldsSlicesOf-taken, HoldsSlicesOf-p
 use Rattle.interface_ingress.specs.Reassembled.{Slots, PieceValue, is_unfit, is_same_datagram, runs_kept, given_up_at, place_of, with_part, with_piece}
 use Rattle.interface_ingress.specs.Reassembled.{bytes_at, released}
 use Rattle.lan_theorem.specs.Link.Made.{bytes_of}
-use Rattle.lan_theorem.specs.Link.Frames.{Outgoing, IsSentV4, IsCutV6, IsDatagramV4, IsDatagramV6, IsDatagram, IsPieceOf, behind_fragment}
+use Rattle.lan_theorem.specs.Link.Frames.{Outgoing, IsDatagramV4, IsDatagramV6, IsDatagram, IsPieceOf, behind_fragment}
 use Rattle.lan_theorem.specs.Link.Numbers.{AreNumbered, AreFew}
 use Rattle.lan_theorem.specs.Link.Held.{IsForeignKey, HoldsSent, IsOfKey, IsSlotOf, AreSlotsOf}
 use Rattle.interface_tables.proofs.Keys.{key_test}

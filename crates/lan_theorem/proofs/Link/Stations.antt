@@ -20,7 +20,7 @@ use Rattle.interface_delivery.specs.Ipv6Repr.{Ipv6Repr}
 use Rattle.interface_ingress.specs.ArpRepr.{ArpRepr}
 use Rattle.interface_ingress.specs.ArpRepr.TheVariants as ArpIs
 use Rattle.interface_ingress.specs.EthernetRepr.{EthernetRepr}
-use Rattle.sockets.specs.Packet.{PacketValue, PayloadValue, ControlV4, ControlV6, Bytes, Datagram, Segment}
+use Rattle.sockets.specs.Packet.{PayloadValue, ControlV4, ControlV6, Bytes, Datagram, Segment}
 use Rattle.interface_tables.specs.Best.{at_place}
 use Rattle.interface_tables.specs.Inner.{InnerValue, context_of, with_neighbor, table_room, is_for_us}
 use Rattle.interface_tables.specs.Neighbor.{entry_lifetime, renewed_entry, renewed_at, filled_at, place_of, victim}

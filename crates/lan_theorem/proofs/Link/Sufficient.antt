@@ -8,7 +8,6 @@ use Rattle.std.proofs.lemmas.Bool.Decides.{nat_tests}
 use Rattle.std.proofs.lemmas.List.Sums.{sum_by-append}
 use Rattle.lan_frames.specs.DeviceCapabilities.{DeviceCapabilities}
 use Rattle.lan_frames.specs.Medium.{Medium}
-use Rattle.sockets.specs.Packet.{PacketValue}
 use Rattle.lan_hosts.specs.History.{Entry}
 use Rattle.lan_hosts.specs.Kinds.{Kind, kind_of}
 use Rattle.lan_hosts.specs.Kinds.Act.{Polls}

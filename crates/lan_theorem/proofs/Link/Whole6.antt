@@ -1,14 +1,11 @@
 -- IPv6 packets that are no pieces of a datagram are whole.
-use Rattle.std.proofs.Common.{◌≡◌, ℕ, Bool, true, false, if◌then◌else◌, List, Option, Some, None, refl, ap}
+use Rattle.std.proofs.Common.{◌≡◌, ℕ, Bool, true, false, if◌then◌else◌, List, Option, Some, ap}
 use Rattle.interface_ingress.specs.EthernetRepr.{EthernetRepr}
 use Rattle.interface_delivery.specs.Ipv6Repr.{Ipv6Repr}
-use Rattle.interface_tables.specs.Inner.{InnerValue}
-use Rattle.interface_ingress.specs.Behind.{Behind}
-use Rattle.interface_ingress.specs.Behind.TheVariants as End
 use Rattle.interface_ingress.specs.Handed.{is_known_v6}
 use Rattle.interface_ingress.specs.Headers as Headers
 use Rattle.interface_ingress.specs.Incoming.{Ip6}
-use Rattle.interface_ingress.specs.Reassembled.{Slots, PieceValue, part_behind, behind_headers, with_piece, kept, bytes_at, rebuilt_v6, is_piece_v6, whole_of}
+use Rattle.interface_ingress.specs.Reassembled.{Slots, bytes_at, rebuilt_v6, is_piece_v6, whole_of}
 use Rattle.interface_ingress.proofs.Bare.{known_at_once}
 
 -- right behind the header stands a protocol that is no extension header

@@ -10,8 +10,6 @@ use Rattle.interface_tables.specs.declared.key.FragKey.TheVariants as Keys
 use Rattle.interface_tables.specs.declared.key.Ipv6FragKey.{Ipv6FragKey}
 use Rattle.interface_delivery.specs.Ip.{carried_in}
 use Rattle.interface_delivery.specs.IpRepr.{IpRepr}
-use Rattle.interface_delivery.specs.Ipv4Repr.{Ipv4Repr}
-use Rattle.interface_ingress.specs.IpProtocol.{IpProtocol}
 use Rattle.interface_ingress.specs.IpProtocol.TheVariants as Protocol
 use Rattle.interface_ingress.specs.Sent.{CanBeRead, normal_payload}
 use Rattle.sockets.specs.Packet.{PayloadValue, ControlV4, ControlV6, Bytes, Datagram, Segment, payload_written}
@@ -28,7 +26,7 @@ use Rattle.tcp_model.specs.State.{State}
 use Rattle.lan_packets.specs.Moves.Move.{Invokes, Passes, Offers, Gives, Takes, Receives, Resets, Changes}
 use Rattle.lan_packets.specs.Moves.{Move, Does, LooksSame, May, Step, IsRun, run, after, party_after}
 use Rattle.lan_packets.specs.Parties as Parties
-use Rattle.lan_packets.specs.Parties.{Socket, Party, Net, party, with_party, socket_at}
+use Rattle.lan_packets.specs.Parties.{Socket, Party, Net, party, socket_at}
 use Rattle.lan_packets.specs.Parties.Socket.{Tcp, Udp, Icmp, Raw}
 use Rattle.lan_hosts.specs.Kinds.{other}
 use Rattle.lan_hosts.specs.Safe.{seen_in}
