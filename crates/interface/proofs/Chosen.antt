@@ -100,7 +100,7 @@ has_localhost to (Block.Ipv4 b ∷ blocks) is =
 has_localhost to (Block.Ipv6 b ∷ blocks) is =
     or_cases (is_loopback_v6 b.address && true) (list_any (is_loopback_of (Address.Ipv6 to)) blocks) is
     (λ first. or_first (bytes_eq b.address.0 localhost.0) (list_any (is_address_of (Address.Ipv6 localhost)) blocks)
-        (and_first (is_loopback_v6 b.address) true first))
+    (and_first (is_loopback_v6 b.address) true first))
     (λ later. or_later (bytes_eq b.address.0 localhost.0) (list_any (is_address_of (Address.Ipv6 localhost)) blocks) (has_localhost to blocks later))
 
 not_foreign : (loops here : Bool) → (loops && not here) ≡ false → loops ≡ true → here ≡ true

@@ -109,11 +109,7 @@ fn set_reassembly_timeout(interface: &mut Interface, words: &mut Words<'_>) {
     }
 }
 
-fn set_reassembly_slots(
-    alloc: Global,
-    interface: &mut Interface,
-    words: &mut Words<'_>,
-) -> Answer {
+fn set_reassembly_slots(alloc: Global, interface: &mut Interface, words: &mut Words<'_>) -> Answer {
     let count = words.size();
     words.end();
     if words.is_taken() && interface.set_reassembly_slots(alloc, count).is_err() {
