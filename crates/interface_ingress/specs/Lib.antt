@@ -30,7 +30,6 @@ pub use Rattle.ip_address.specs.declared.ip.IpAddress
 pub use Rattle.ip_address.specs.declared.ip.IpProtocol
 pub use Rattle.ip_address.specs.declared.ipv4.Ipv4Address
 pub use Rattle.ip_address.specs.declared.ipv6.Ipv6Address
-pub use Rattle.ip_wire.specs.Ethernet
 pub use Rattle.ip_wire.specs.declared.arp.repr.ArpRepr
 pub use Rattle.ip_wire.specs.declared.ethernet.repr.EthernetRepr
 pub use Rattle.interface_tables.specs.Best
