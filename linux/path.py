@@ -149,12 +149,13 @@ def sizes(client, at):
 
 def pings(client, at):
     """By IPv6 a host asks for its router at the first packet, and what answers that one doesn't wait."""
+    set_mtu(client, 1500)
     with within(client.pid):
         if ":" in at:
             with socket.socket(talk.family(at), socket.SOCK_DGRAM) as it:
                 it.sendto(b"who is there", (at, 7))
-            time.sleep(1)
-        return all([talk.pings(3, size, at) for size in (56, 1473, 2000, 4000)])
+            time.sleep(2)
+        return all([talk.pings(3, size, at) for size in (56, 1453, 1473, 2000, 4000)])
 
 
 def rebuilt(client, at):

@@ -29,4 +29,4 @@ pub mod ByKind
 pub mod Sourced
 pub mod FreeSlots
 pub mod Chosen
-pub mod Announced
+pub mod Told

@@ -3,7 +3,7 @@
 //! It passes on what is set at it and lies in it: `interface_tables` and `interface_egress`.
 #![tactic(auto)]
 
-mod announce;
+mod announced;
 pub mod announce_laws;
 mod arrival;
 mod awaited;

@@ -47,11 +47,11 @@ no_or true b is = absurd (let clash : true ≡ false = is in cc)
 no_or false b is = (refl, is)
 
 not_true : (b : Bool) → (b ≡ true → ⊥) → b ≡ false
-not_true true no = absurd (no refl)
-not_true false no = refl
+not_true true never = absurd (never refl)
+not_true false never = refl
 
 pub clash : {X : Type 0} (b : Bool) → b ≡ true → b ≡ false → X
-clash b yes no = absurd (let it : true ≡ false = sym yes ∙ no in cc)
+clash b holds never = absurd (let it : true ≡ false = sym holds ∙ never in cc)
 
 own_by : (own member wide loop : Bool) → (own || member || wide || loop) ≡ true → member ≡ false → wide ≡ false → loop ≡ false → own ≡ true
 own_by true member wide loop is group all itself = refl
@@ -81,13 +81,13 @@ not_second false b = refl
 
 -- none but such a group is that of an own address
 none_solicits : (group : Ipv6Address) (blocks : List IpCidr) → is_solicited_node group ≡ false → list_any (solicits_block group) blocks ≡ false
-none_solicits group [] no = refl
-none_solicits group (Block.Ipv4 b ∷ blocks) no = none_solicits group blocks no
-none_solicits group (Block.Ipv6 b ∷ blocks) no =
+none_solicits group [] never = refl
+none_solicits group (Block.Ipv4 b ∷ blocks) never = none_solicits group blocks never
+none_solicits group (Block.Ipv6 b ∷ blocks) never =
     ap (λ (first : Bool). first || list_any (solicits_block group) blocks)
-    (ap (λ (is : Bool). not (is_loopback_v6 b.address) && (is && bytes_eq (drop 13 group.0) (drop 13 b.address.0))) no
+    (ap (λ (is : Bool). not (is_loopback_v6 b.address) && (is && bytes_eq (drop 13 group.0) (drop 13 b.address.0))) never
     ∙ not_second (not (is_loopback_v6 b.address)) (bytes_eq (drop 13 group.0) (drop 13 b.address.0)))
-    ∙ none_solicits group blocks no
+    ∙ none_solicits group blocks never
 
 neither : (a b : Bool) → a ≡ false → b ≡ false → (a || b) ≡ false
 neither false false one other = refl
@@ -216,9 +216,12 @@ or_either : (own sound others : Bool) → ((own && sound) || others) ≡ true �
 or_either true sound others is other = refl
 or_either false sound others is other = other is
 
+one_arp : (q p : ArpRepr) → Some q ≡ Some p → q ≡ p
+one_arp q p is = cc is
+
 target_is : (hardware : HardwareAddress) (operation : ArpOperation) (sh th : EthernetAddress) (s t : Ipv4Address) (reply : ArpRepr)
     → answer_at hardware (Arp.EthernetIpv4 operation sh s th t) ≡ Some reply → sender_in reply ≡ t
-target_is (Hardware.Ethernet own) Operation.Request sh th s t reply is = ap sender_in (sym (let same : _ ≡ reply = cc is in same))
+target_is (Hardware.Ethernet own) Operation.Request sh th s t reply is = ap sender_in (sym (one_arp (Arp.EthernetIpv4 Operation.Reply own t sh s) reply is))
 target_is (Hardware.Ethernet own) Operation.Reply sh th s t reply is = absurd (cc is)
 target_is (Hardware.Ethernet own) (Operation.Unknown n) sh th s t reply is = absurd (cc is)
 target_is Hardware.Ip Operation.Request sh th s t reply is = absurd (cc is)
@@ -229,9 +232,8 @@ target_is Hardware.Ip (Operation.Unknown n) sh th s t reply is = absurd (cc is)
 probed_own : (i : InnerValue) (operation : ArpOperation) (sh th : EthernetAddress) (s t : Ipv4Address)
     → probes i (Arp.EthernetIpv4 operation sh s th t) ≡ true → is_own i (Address.Ipv4 t) ≡ true
 probed_own i Operation.Request sh th s t is =
-    let rest = (and_both (is_unspecified_v4 s) (is_ethernet_unicast sh && list_any (is_address_of (Address.Ipv4 t)) i.addresses) is).1 in
-    or_later i.any_ip (list_any (is_address_of (Address.Ipv4 t)) i.addresses)
-    (and_both (is_ethernet_unicast sh) (list_any (is_address_of (Address.Ipv4 t)) i.addresses) rest).1
+    let listed : Bool = list_any (is_address_of (Address.Ipv4 t)) i.addresses in
+    or_later i.any_ip listed (and_both (is_unspecified_v4 s && is_ethernet_unicast sh) listed is).1
 probed_own i Operation.Reply sh th s t is = clash false is refl
 probed_own i (Operation.Unknown n) sh th s t is = clash false is refl
 
@@ -248,9 +250,7 @@ asked_own : (i : InnerValue) (unnamed : Bool) (to target : Ipv6Address)
     → is_own i (Address.Ipv6 target) ≡ true
 asked_own i true to target is =
     let listed : Bool = list_any (is_address_of (Address.Ipv6 target)) i.addresses in
-    let first = (and_both (is_unicast_v6 target) (not (is_loopback_v6 target) && solicits to target && listed) is).1 in
-    let second = (and_both (not (is_loopback_v6 target)) (solicits to target && listed) first).1 in
-    or_later i.any_ip listed (and_both (solicits to target) listed second).1
+    or_later i.any_ip listed (and_both (is_unicast_v6 target && not (is_loopback_v6 target) && solicits to target) listed is).1
 asked_own i false to target is =
     (and_both (is_own_solicited_node i to || is_own i (Address.Ipv6 to)) (is_own i (Address.Ipv6 target)) is).1
 

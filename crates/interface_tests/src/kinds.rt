@@ -4,9 +4,5 @@
 mod any;
 mod calls;
 mod common;
-mod icmp;
-mod numbers;
-mod raw;
-mod script;
 mod texts;
 mod udp;

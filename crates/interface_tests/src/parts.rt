@@ -2,7 +2,6 @@
 //! say of one host is data of the program `one_host`.
 
 mod fragmentation;
-mod inner;
 mod neighbor;
 mod routes;
 mod socket_meta;

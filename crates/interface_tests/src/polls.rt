@@ -4,7 +4,6 @@
 mod by_kind;
 mod common;
 mod hostile;
-mod limit;
 mod made;
 mod replies;
 mod streams;

@@ -1,5 +1,6 @@
-//! How a test asserts: it says all that must hold at once, or hands over a table of cases. A branch is dear to prove, and so is a local:
-//! an assertion costs a test both, and a table that is a constant costs it one local.
+//! How a test asserts: it says all that must hold at once, or hands over a table of cases or of lives. A branch is dear to prove, and so is a
+//! local: an assertion costs a test both, and a table that is a constant costs it one local. A call costs as much as a row of four numbers does
+//! four times: so what is called often stands in one arm of a function that borrows.
 use std::alloc::Global;
 use std::fmt::Display;
 use std::process::Abort;
@@ -8,6 +9,18 @@ use std::process::Abort;
 pub trait Case {
     /// Whether the call answers as the case says.
     fn holds(&self, alloc: Global) -> bool;
+}
+
+/// A call of a value that lives on, and what it must answer.
+pub trait Goes<T> {
+    /// Whether the call answers as the step says.
+    fn goes(&self, alloc: Global, value: &mut T) -> bool;
+}
+
+/// A value from its beginning on, with a table of steps.
+pub trait Life {
+    /// The place of the first step that goes otherwise than it says, counted from 0. Want of memory at the beginning is step 0.
+    fn stops_at(&self, alloc: Global) -> Option<usize>;
 }
 
 /// Asserts that all of these hold. The failure names the first that doesn't, counted from 0.
@@ -24,10 +37,40 @@ pub fn all_hold<C: Case>(rt: &(impl Abort + AllocGlobal), cases: &[C]) {
     }
 }
 
+/// Asserts that each life goes as its steps say. The failure names the first that doesn't, counted from 0, and its step.
+pub fn all_live<L: Life>(rt: &(impl Abort + AllocGlobal), lives: &[L]) {
+    for (place, life) in lives.iter().enumerate() {
+        assert_eq!(rt; life.stops_at(rt.alloc()), None, "life {place}");
+    }
+}
+
+/// Where the steps stop.
+pub fn first_wrong<T, S: Goes<T>>(alloc: Global, value: &mut T, steps: &[S]) -> Option<usize> {
+    for (place, step) in steps.iter().enumerate() {
+        if !step.goes(alloc, value) {
+            return Some(place);
+        }
+    }
+    None
+}
+
 /// Whether the value's text is this one.
 pub fn prints<T: Display>(alloc: Global, value: &T, text: &str) -> bool {
     match value.to_string(alloc) {
         Ok(found) => found.as_str() == text,
         Err(_) => false,
+    }
+}
+
+/// Asserts that the value of each number has this text. The failure names the number.
+pub fn all_named<T: From<u8> + Display + Copy>(
+    rt: &(impl Abort + AllocGlobal),
+    names: &[(u8, &'static str)],
+) {
+    for (number, name) in names {
+        assert!(rt;
+            prints(rt.alloc(), &T::from(*number), name),
+            "number {number}"
+        );
     }
 }

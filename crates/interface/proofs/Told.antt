@@ -36,7 +36,7 @@ heard_v4 i own a known near one station =
     (is_in_own_network i (Address.Ipv4 a)) known near one station)
 
 counts_so : (long station none many : Bool) → long ≡ true → station ≡ true → not (none || many) ≡ true
-    → (((long && station) && (not (none || many) && not none)) && true) ≡ true
+    → (((long && station) && not (none || many) && not none) && true) ≡ true
 counts_so false station none many l s o = clash false l refl
 counts_so true false none many l s o = clash false s refl
 counts_so true true true many l s o = clash false o refl
