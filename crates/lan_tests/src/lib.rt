@@ -10,8 +10,6 @@
 #[cfg(test)]
 mod bounds;
 #[cfg(test)]
-mod cases;
-#[cfg(test)]
 mod common;
 #[cfg(test)]
 mod files;
