@@ -1,6 +1,6 @@
 //! How a test asserts: it says all that must hold at once, or hands over a table of cases or of lives. A branch is dear to prove, and so is a
-//! local: an assertion costs a test both, and a table that is a constant costs it one local. A call costs as much as three rows of a table: so
-//! what is called often stands in one arm of a function that borrows.
+//! local: an assertion costs a test both, and a table that is a constant costs it one local. A call costs as much as a row of four numbers does
+//! four times: so what is called often stands in one arm of a function that borrows.
 use std::alloc::Global;
 use std::fmt::Display;
 use std::process::Abort;
