@@ -23,7 +23,7 @@ use Rattle.tcp_pair_model.specs.Value.{TcpValue, queued_in, unoffered, with_bloc
 use Rattle.tcp_model.specs.declared.block.CongestionControl.{CongestionControl}
 use Rattle.tcp_model.specs.declared.block.CongestionControl.TheVariants as Congestion
 use Rattle.tcp_progress.proofs.Resumes.{SendsOut, Starts, StartsWith, both, fin_owed, first, goes, goes_again, idles, limit, no_probe, no_syn}
-use Rattle.tcp_progress.proofs.Resumes.{not_second, or_left, or_right, queued, ran_out, room, some_goes, some_len, to_rules}
+use Rattle.tcp_progress.proofs.Resumes.{not_second, or_left, or_right, ran_out, room, some_goes, some_len, to_rules}
 
 parts : (a b : Bool) → (a && b) ≡ true → (a ≡ true) × (b ≡ true)
 parts true b e = (refl, e)

@@ -25,7 +25,7 @@ use Rattle.tcp_rules.proofs.OrderSteps.{clash}
 use Rattle.tcp_pair_model.specs.Block.{Block}
 use Rattle.tcp_pair_model.specs.Blocks.{one_if}
 use Rattle.tcp_pair_model.specs.Safe.{IsStreamSafe, read, taken_in as taken_list, written}
-use Rattle.tcp_pair_model.specs.Sides.{at, other}
+use Rattle.tcp_pair_model.specs.Sides.{other}
 use Rattle.tcp_pair_model.specs.Steps.{refusal}
 use Rattle.tcp_pair_model.specs.Value.{TcpValue, unoffered, with_block}
 use Rattle.tcp_pair_model.specs.Values.{PairValue, context_at, past_at}

@@ -1,5 +1,5 @@
 -- What both ways of a connection ask for at the beginning, and what in each turn.
-use Rattle.std.specs.Prelude.{◌≡◌, ℕ, zero, suc, ◌*◌, ◌≤◌, ℤ, pos, ◌+ℤ◌, ◌≤ℤ◌, true, false, None}
+use Rattle.std.specs.Prelude.{◌≡◌, ℕ, zero, suc, ◌*◌, ◌≤◌, pos, ◌+ℤ◌, ◌≤ℤ◌, true, false, None}
 use Rattle.net_base.specs.Time.{last_moment}
 use Rattle.tcp_pair_model.specs.Retries.{gives_up}
 use Rattle.tcp_pair_model.specs.Sides.{at}

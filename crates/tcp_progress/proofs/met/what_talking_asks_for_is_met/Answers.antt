@@ -1,8 +1,6 @@
 use Rattle.std.proofs.Common.{◌≡◌, inl, inr, true, false, refl, sym}
 use Rattle.std.proofs.lemmas.Bool.{leb-true}
 use Rattle.tcp_rules.proofs.OrderSteps.{clash}
-use Rattle.tcp_pair_model.specs.Values.{PairValue}
-use Rattle.tcp_pair_model.specs.declared.event.Side.{Side}
 use Rattle.tcp_pair_model.specs.declared.event.Side.TheVariants.{A, B}
 use Rattle.tcp_progress.specs.BothWays.{round_in, turn_in}
 use Rattle.tcp_progress.specs.Met.{both_gone}
