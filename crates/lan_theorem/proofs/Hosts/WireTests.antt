@@ -2,7 +2,7 @@
 use Rattle.std.proofs.Common.{◌≡◌, ℕ, ◌+◌, ◌==◌, ◌&&◌, ◌||◌, Bool, true, false, List, [], ◌∷◌, ◌++◌, length, slice_index, Option, Some, None, IfSome}
 use Rattle.std.proofs.Common.{refl, sym, ◌∙◌}
 use Rattle.std.proofs.Common.{ap, subst}
-use Rattle.std.proofs.lemmas.List.{drop_at, get_or-drop}
+use Rattle.std.proofs.lemmas.List.{drop_at}
 use Rattle.interface_ingress.specs.Fields.{be16}
 use Rattle.interface_ingress.specs.Icmpv4Header.{Icmpv4Header}
 use Rattle.interface_ingress.specs.Icmpv6 as Icmpv6
@@ -180,10 +180,6 @@ no_solicitation : (a b c : Bool) → b ≡ false → a && (b && c) ≡ false
 no_solicitation true b c none = rw none refl
 no_solicitation false b c none = refl
 
--- the next header of an IPv6 packet stands so far behind the link header
-next_header_at : (link rest : List ℕ) → length link ≡ 14 → slice_index (link ++ rest) 20 ≡ slice_index rest 6
-next_header_at link rest len = sym (get_or-drop 14 (link ++ rest) 6 0) ∙ ap (λ (l : List ℕ). slice_index l 6) (drop_at link rest 14 len)
-
 pub asks_test : IsTest asks AsksNobody
 asks_test = record {
   told = λ link rest len arp reply.
@@ -200,7 +196,7 @@ asks_test = record {
       (solicits_none link v len value x may);
   part = λ link rest len is named.
       let frame : List ℕ = link ++ rest in
-      let next : slice_index frame 20 ≡ 44 = next_header_at link rest len ∙ named in
+      let next : slice_index frame 20 ≡ 44 = byte_of link rest 6 len ∙ named in
       neither (is_request frame) (is_solicitation frame) (other_type (be16 frame 12) 0x0806 0x86dd (be16 frame 20 == 1) is refl)
       (no_solicitation (be16 frame 12 == 0x86dd) (slice_index frame 20 == 58) (slice_index frame 54 == 135) (ap (λ (n : ℕ). n == 58) next));
   sourced = asks_nobody_from;
