@@ -4,9 +4,9 @@ router between the program `host` and a client in a namespace within:
 
     path.py PUMP HOST [FOLDER [tap]]
 
-Datagrams and pings of up to 4,000 bytes there and back by IPv4, and a datagram of 2,000 that comes in pieces by IPv6; then, by either family, a megabyte through the stream echo while the link behind the
+By either family datagrams and pings of up to 4,000 bytes there and back, and a megabyte through the stream echo while the link behind the
 router is lowered to 1,280 bytes: Linux's router says so (RFC 8201; by IPv4 it cuts, since the host lets it), and from then on no longer packet
-may come. PUMP is linux/pump.c, built. `tap` makes the host's link one of Ethernet frames. FOLDER keeps what went over the device (path.pcap),
+may come. By IPv6 also a datagram of 2,000 bytes for a port at which nobody is. PUMP is linux/pump.c, built. `tap` makes the host's link one of Ethernet frames. FOLDER keeps what went over the device (path.pcap),
 if tshark is there, which then looks for what is malformed or has a wrong checksum.
 """
 import contextlib, ctypes, os, signal, socket, subprocess, sys, threading, time
@@ -149,13 +149,13 @@ def sizes(client, at):
 
 def pings(client, at):
     """By IPv6 a host asks for its router at the first packet, and what answers that one doesn't wait."""
+    set_mtu(client, 1500)
     with within(client.pid):
         if ":" in at:
             with socket.socket(talk.family(at), socket.SOCK_DGRAM) as it:
                 it.sendto(b"who is there", (at, 7))
-            time.sleep(1)
-            return talk.pings(3, 56, at)
-        return all([talk.pings(3, size, at) for size in (56, 1473, 2000, 4000)])
+            time.sleep(2)
+        return all([talk.pings(3, size, at) for size in (56, 1453, 1473, 2000, 4000)])
 
 
 def rebuilt(client, at):
@@ -181,7 +181,7 @@ def main():
     taken = hostile.capture(folder)
     client = set_up()
     well = []
-    for at, trials in ((OURS, (pings, sizes, lowered)), (OURS6, (pings, rebuilt, lowered))):
+    for at, trials in ((OURS, (pings, sizes, lowered)), (OURS6, (pings, sizes, rebuilt, lowered))):
         well += [hostile.tried(it, client, at) for it in trials]
     wrong = hostile.refused()
     well.append(say(f"Linux found {wrong} packets with a wrong header or checksum", wrong == 0))

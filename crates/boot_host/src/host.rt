@@ -77,26 +77,29 @@ fn add_all(
 }
 
 impl Host {
-    /// A host without an address.
-    pub fn new(alloc: Global, orders: Orders, now: Instant) -> Result<Host>
+    /// A host without an address. It is large, so it stands on the heap.
+    pub fn new(alloc: Global, orders: Orders, now: Instant) -> Result<Box<Host>>
         requires { IsMoment now }
     {
-        let drain = Drain::new(alloc, capabilities());
-        let interface = bare(alloc, orders.station, orders.seed, &drain, now)?;
         let mut sockets = SocketSet::new(ManagedSlice::Owned(Vec::new(alloc)));
         let handles = add_all(alloc, orders.station, orders.seed, &mut sockets)?;
-        Ok(Host {
-            interface,
-            drain,
-            sockets,
-            handles,
-            router: None,
-            ping_at: None,
-            count: 0,
-            questions: orders.questions,
-            asked: None,
-            page: None,
-        })
+        let drain = Drain::new(alloc, capabilities());
+        let interface = bare(alloc, orders.station, orders.seed, &drain, now)?;
+        boxed(
+            alloc,
+            Host {
+                interface,
+                drain,
+                sockets,
+                handles,
+                router: None,
+                ping_at: None,
+                count: 0,
+                questions: orders.questions,
+                asked: None,
+                page: None,
+            },
+        )
     }
 
     /// Takes a frame, or none, at this moment, and says what came of it.
@@ -293,6 +296,11 @@ fn capabilities() -> DeviceCapabilities {
         max_transmission_unit: 1514,
         checksum: ChecksumCapabilities::default(),
     }
+}
+
+/// A value on the heap.
+fn boxed<T: Drop>(alloc: Global, value: T) -> Result<Box<T>> {
+    Ok(Box::new(alloc, value)?)
 }
 
 /// Adds a socket to a set that grows.

@@ -20,7 +20,7 @@ pub fn serve<R: Input + Print + Eprint + AllocGlobal>(rt: &R) -> Result<()> {
     match read_turn(&mut reader, &mut first, LONGEST, Instant::ZERO)? {
         Some(begin) => {
             let orders = Orders::read(alloc, first.as_slice())?;
-            let mut host = Box::new(alloc, Host::new(alloc, orders, begin)?)?;
+            let mut host = Host::new(alloc, orders, begin)?;
             take_turns(rt, &mut reader, &mut host, begin)
         }
         None => Ok(()),

@@ -1,6 +1,6 @@
 //! A client of DHCP.
 use crate::host::Host;
-use crate::packets::{say_offer, v4_header};
+use crate::packets::{say, say_offer, v4_header};
 use clients::dhcp::{DhcpOption, OptionsError, RetryConfig, Socket};
 use ip_wire::{EthernetAddress, Ipv4Address, UdpRepr};
 use net_base::Duration;
@@ -23,47 +23,37 @@ pub(crate) fn answer<W: Write>(
 ) -> io::Result<bool> {
     let (first, more) = rest.split_once(' ').unwrap_or((rest, ""));
     let micros = first.parse::<u64>().unwrap_or(0);
-    match word {
+    let said = match word {
         "offer" => {
             host.set_now(micros);
             let offer = client.offer(host);
-            say_offer(alloc, offer, client.offered(), ':', writer)?;
+            say_offer(alloc, offer, client.offered(), ':', writer)
         }
         "poll" => {
             host.set_now(micros);
-            let event = client.poll(host.now);
-            writeln!(writer, "{event:?}")?;
+            say(&client.poll(host.now), writer)
         }
-        "when" => {
-            let when = client.poll_at(host);
-            writeln!(writer, "{when:?}")?;
+        "when" => say(&client.poll_at(host), writer),
+        "state" => say(&client.state(), writer),
+        "ask" => {
+            let codes = bytes_of(alloc, rest);
+            say(&client.set_parameter_request_list(codes.as_slice()), writer)
         }
-        "state" => {
-            let state = client.state();
-            writeln!(writer, "{state:?}")?;
-        }
+        "options" => say(&options(alloc, rest, client), writer),
         "arrives" => {
             host.set_now(micros);
             arrives(alloc, host, client, more);
+            Ok(())
         }
-        "ports" => client.set_ports(port(first), port(more)),
-        "ask" => {
-            let codes = bytes_of(alloc, rest);
-            let taken = client.set_parameter_request_list(codes.as_slice());
-            writeln!(writer, "{taken:?}")?;
-        }
-        "options" => {
-            let taken = options(alloc, rest, client);
-            writeln!(writer, "{taken:?}")?;
-        }
-        _ => return Ok(tell(word, micros, client)),
-    }
-    Ok(true)
+        _ => return Ok(tell(word, micros, first, more, client)),
+    };
+    said.map(|()| true)
 }
 
 /// Tells the client something. False: no line begins with that word.
-fn tell(word: &str, micros: u64, client: &mut Socket) -> bool {
+fn tell(word: &str, micros: u64, first: &str, more: &str, client: &mut Socket) -> bool {
     match word {
+        "ports" => client.set_ports(port(first), port(more)),
         "retries" => client.set_retry_config(retries(micros)),
         "longest" => client.set_max_lease_duration(Some(Duration::from_micros(micros))),
         "ignore" => client.set_ignore_naks(true),

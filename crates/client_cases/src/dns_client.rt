@@ -1,6 +1,6 @@
 //! A client of DNS.
 use crate::host::{ADDRESS_V4, ADDRESS_V6, Host};
-use crate::packets::{say_offer, v4_header, v6_header};
+use crate::packets::{say, say_offer, v4_header, v6_header};
 use clients::dns::{DnsQueryType, Socket};
 use ip_wire::{IpAddress, IpRepr, Ipv4Address, Ipv6Address, UdpRepr};
 use std::alloc::Global;
@@ -31,26 +31,24 @@ pub(crate) fn answer<W: Write>(
 ) -> io::Result<bool> {
     let (first, more) = rest.split_once(' ').unwrap_or((rest, ""));
     let micros = first.parse::<u64>().unwrap_or(0);
-    match word {
-        "a" => start(micros, more, DnsQueryType::A, host, client, writer)?,
-        "aaaa" => start(micros, more, DnsQueryType::Aaaa, host, client, writer)?,
+    let said = match word {
+        "a" => start(micros, more, DnsQueryType::A, host, client, writer),
+        "aaaa" => start(micros, more, DnsQueryType::Aaaa, host, client, writer),
         "offer" => {
             host.set_now(micros);
             let offer = client.offer(host);
-            say_offer(alloc, offer, client.offered(), ' ', writer)?;
+            say_offer(alloc, offer, client.offered(), ' ', writer)
         }
+        "result" => result(client, writer),
+        "when" => say(&client.poll_at(host), writer),
         "arrives" => {
             host.set_now(micros);
             arrives(alloc, host, client, more);
-        }
-        "result" => result(client, writer)?,
-        "when" => {
-            let when = client.poll_at(host);
-            writeln!(writer, "{when:?}")?;
+            Ok(())
         }
         _ => return Ok(tell(word, rest, client)),
-    }
-    Ok(true)
+    };
+    said.map(|()| true)
 }
 
 /// Asks for a name.

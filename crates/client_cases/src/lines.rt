@@ -5,6 +5,7 @@ use clients::{dhcp, dns};
 use hex::FromHexError;
 use std::alloc::Global;
 use std::io::{self, BufRead, BufReader, ErrorKind, Read, Write};
+use std::mem::replace;
 use std::str;
 
 /// The client that lines are for.
@@ -132,24 +133,37 @@ fn tell<W: Write>(
     player: &mut Player,
     writer: &mut W,
 ) -> io::Result<Answer> {
-    let host = &mut player.host;
-    let known = match (word, &mut player.client) {
-        ("client", _) => {
-            *player = dhcp_player(seed(rest));
-            true
-        }
-        ("resolver", _) => {
-            *player = dns_player(seed(rest));
-            true
-        }
-        (_, Client::Dhcp(client)) => dhcp_client::answer(alloc, word, rest, host, client, writer)?,
-        (_, Client::Dns(client)) => dns_client::answer(alloc, word, rest, host, client, writer)?,
+    let known = match word {
+        "client" => begin(player, dhcp_player(seed(rest))),
+        "resolver" => begin(player, dns_player(seed(rest))),
+        _ => play_on(alloc, word, rest, player, writer)?,
     };
     Ok(if known {
         Answer::Taken
     } else {
         Answer::NoSuchLine
     })
+}
+
+/// Another client begins. True. (An assignment would do, but its proof follows each part of the client that it lets go.)
+fn begin(player: &mut Player, next: Player) -> bool {
+    drop(replace(player, next));
+    true
+}
+
+/// Tells the client that began last. False: no line begins with that word.
+fn play_on<W: Write>(
+    alloc: Global,
+    word: &str,
+    rest: &str,
+    player: &mut Player,
+    writer: &mut W,
+) -> io::Result<bool> {
+    let host = &mut player.host;
+    match &mut player.client {
+        Client::Dhcp(client) => dhcp_client::answer(alloc, word, rest, host, client, writer),
+        Client::Dns(client) => dns_client::answer(alloc, word, rest, host, client, writer),
+    }
 }
 
 /// The seed that a text says, and 0 where it says none.

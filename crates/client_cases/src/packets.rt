@@ -1,8 +1,14 @@
 //! Packets to servers and from them.
-use ip_wire::{IpProtocol, IpRepr, Ipv4Address, Ipv4Repr, Ipv6Address, Ipv6Repr};
+use ip_wire::{IpProtocol, IpRepr, Ipv4Address, Ipv4Repr, Ipv6Address, Ipv6Repr, UdpRepr};
 use socket_base::{IpPayload, Offer, Packet};
 use std::alloc::Global;
+use std::fmt::Debug;
 use std::io::{self, Write};
+
+/// Says a value on a line of its own.
+pub(crate) fn say<T: Debug, W: Write>(value: &T, writer: &mut W) -> io::Result<()> {
+    writeln!(writer, "{value:?}")
+}
 
 /// Says what was offered: where from and where to, each an address, this sign and a port, and its bytes.
 pub(crate) fn say_offer<W: Write>(
@@ -15,20 +21,41 @@ pub(crate) fn say_offer<W: Write>(
     if let Offer::Silent { changed } = offer {
         return writeln!(writer, "silent {changed}");
     }
-    let Some(packet) = offered else {
-        return Ok(());
-    };
-    let header = packet.ip_repr();
-    if let IpPayload::Udp(ports, bytes) = packet.payload() {
-        let digits = hex::encode(alloc, bytes)?;
-        let (from, to) = (header.src_addr(), header.dst_addr());
-        let (source, destination) = (ports.src_port, ports.dst_port);
-        return writeln!(
-            writer,
-            "{from}{sign}{source} {to}{sign}{destination} {digits}"
-        );
+    match offered {
+        Some(packet) => say_packet(alloc, &packet, sign, writer),
+        None => Ok(()),
     }
-    Ok(())
+}
+
+fn say_packet<W: Write>(
+    alloc: Global,
+    packet: &Packet<'_>,
+    sign: char,
+    writer: &mut W,
+) -> io::Result<()> {
+    match packet.payload() {
+        IpPayload::Udp(ports, bytes) => {
+            say_datagram(alloc, &packet.ip_repr(), ports, bytes, sign, writer)
+        }
+        _ => Ok(()),
+    }
+}
+
+fn say_datagram<W: Write>(
+    alloc: Global,
+    header: &IpRepr,
+    ports: &UdpRepr,
+    bytes: &[u8],
+    sign: char,
+    writer: &mut W,
+) -> io::Result<()> {
+    let digits = hex::encode(alloc, bytes)?;
+    let (from, to) = (header.src_addr(), header.dst_addr());
+    let (source, destination) = (ports.src_port, ports.dst_port);
+    writeln!(
+        writer,
+        "{from}{sign}{source} {to}{sign}{destination} {digits}"
+    )
 }
 
 /// The header of a datagram of IPv4 with so many bytes.

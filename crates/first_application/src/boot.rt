@@ -11,7 +11,7 @@ use std::alloc::Global;
 
 /// Lets a host boot, and ask for the address of a name.
 pub fn boot<R: Print>(rt: &R, alloc: Global) -> Result<()> {
-    let mut net = Box::new(alloc, Net::new(alloc)?)?;
+    let mut net = Net::new(alloc)?;
     ask(rt, &mut net)
 }
 

@@ -47,9 +47,14 @@ fn set_router(interface: &mut Interface, router: Ipv4Address) -> bool {
 /// An interface at the wire, with its address and a router.
 pub fn addressed(alloc: Global, wire: &Wire, number: u8) -> Result<Interface> {
     let mut interface = bare(alloc, wire, number)?;
+    configure(&mut interface, number).map(|()| interface)
+}
+
+/// Sets its address and a router.
+fn configure(interface: &mut Interface, number: u8) -> Result<()> {
     let router = Ipv4Address::new(192, 168, 1, 254);
-    if set_address(&mut interface, number) && set_router(&mut interface, router) {
-        Ok(interface)
+    if set_address(interface, number) && set_router(interface, router) {
+        Ok(())
     } else {
         Err(anyhow!("no host's address, or no room for a route"))
     }
@@ -61,6 +66,11 @@ struct Handles {
     datagrams: SocketHandle,
     stream: SocketHandle,
     pings: SocketHandle,
+}
+
+/// A value on the heap.
+pub fn boxed<T: Drop>(alloc: Global, value: T) -> Result<Box<T>> {
+    Ok(Box::new(alloc, value)?)
 }
 
 /// Adds a socket to a set that grows.
@@ -89,18 +99,21 @@ pub struct Host {
 }
 
 impl Host {
-    /// The host with this number, whose sockets are at this port.
-    pub fn new(alloc: Global, number: u8, port: u16) -> Result<Host> {
-        let wire = Wire::new(alloc);
-        let interface = addressed(alloc, &wire, number)?;
+    /// The host with this number, whose sockets are at this port. It is large, so it stands on the heap.
+    pub fn new(alloc: Global, number: u8, port: u16) -> Result<Box<Host>> {
         let mut sockets = SocketSet::new(ManagedSlice::Owned(Vec::new(alloc)));
         let handles = add_all(alloc, &mut sockets, port)?;
-        Ok(Host {
-            interface,
-            wire,
-            sockets,
-            handles,
-        })
+        let wire = Wire::new(alloc);
+        let interface = addressed(alloc, &wire, number)?;
+        boxed(
+            alloc,
+            Host {
+                interface,
+                wire,
+                sockets,
+                handles,
+            },
+        )
     }
 
     /// Takes in what came, and sends what is to be sent.

@@ -16,11 +16,21 @@ use std::alloc::Global;
 
 fn main(rt: HostRuntime) -> Result<()> {
     let alloc = rt.alloc();
-    let mut net = Box::new(alloc, Net::new(alloc)?)?;
-    println!(rt; "{}", ask(alloc, &mut net)?)?;
-    println!(rt; "{}", talk(alloc, &mut net)?)?;
-    println!(rt; "{}", ping(alloc, &mut net)?)?;
+    exchange(&rt, alloc)?;
     boot::boot(&rt, alloc)
+}
+
+/// The client asks the server for each of its services.
+fn exchange<R: Print>(rt: &R, alloc: Global) -> Result<()> {
+    let mut net = Net::new(alloc)?;
+    ask_all(rt, alloc, &mut net)
+}
+
+fn ask_all<R: Print>(rt: &R, alloc: Global, net: &mut Net) -> Result<()> {
+    println!(rt; "{}", ask(alloc, net)?)?;
+    println!(rt; "{}", talk(alloc, net)?)?;
+    println!(rt; "{}", ping(alloc, net)?)?;
+    Ok(())
 }
 
 /// The client sends a datagram, and reads what comes back within a second.

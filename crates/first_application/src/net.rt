@@ -16,8 +16,8 @@ const TURNS: u32 = 1000;
 /// A client and a server on a wire.
 #[derive(Drop)]
 pub struct Net {
-    pub client: Host,
-    pub server: Host,
+    pub client: Box<Host>,
+    pub server: Box<Host>,
     now: Instant,
     ghost now_is_a_moment: { IsMoment now },
 }

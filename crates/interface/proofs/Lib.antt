@@ -28,3 +28,5 @@ pub mod Loopbacks
 pub mod ByKind
 pub mod Sourced
 pub mod FreeSlots
+pub mod Chosen
+pub mod Told

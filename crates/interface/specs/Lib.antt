@@ -8,6 +8,7 @@ pub mod Instant
 pub mod QuietStep
 pub mod SameHost
 pub mod Made
+pub mod Announced
 pub mod State
 pub mod Egress
 pub mod Ingress

@@ -131,10 +131,6 @@ with_source (Ip.Ipv4 v) (Some (Address.Ipv4 a)) = Ip.Ipv4 (record v { src_addr =
 with_source (Ip.Ipv6 v) (Some (Address.Ipv6 a)) = Ip.Ipv6 (record v { src_addr = a })
 with_source header source = header
 
--- the source can be one
-abbrev pub is_from_here : InnerValue → IpRepr → Bool
-is_from_here i header = may_come_from i (source_of header) (destination_of header)
-
 -- the source stays: a raw socket's, and one that can be a source
 abbrev pub keeps_source : InnerValue → PacketValue → Bool
 keeps_source i p = is_raw p.payload || may_come_from i (source_of p.header) (destination_of p.header)

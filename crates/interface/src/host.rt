@@ -211,8 +211,9 @@ impl Interface {
         self.inner.update_routes(f)
     }
 
-    /// Sets how many datagrams can come in pieces at a time, if there is memory for so many slots: of each 4096 bytes. What came in
-    /// pieces so far is given up.
+    /// Sets how many datagrams can come in pieces at a time, if there is memory for so many slots of 4096 bytes. What came in pieces so
+    /// far is given up.
+    #[tactic(auto, using(crate::proofs::FreeSlots::all_free))]
     pub fn set_reassembly_slots(&mut self, alloc: Global, count: usize) -> Result<(), AllocError>
         ensures ok { OnOk result (self.new ≡ with_slots self.old count) }
         ensures err { OnErr result (self.new ≡ self.old) }

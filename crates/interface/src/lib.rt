@@ -3,6 +3,8 @@
 //! It passes on what is set at it and lies in it: `interface_tables` and `interface_egress`.
 #![tactic(auto)]
 
+pub mod announce_laws;
+mod announced;
 mod arrival;
 mod awaited;
 mod by_kind;

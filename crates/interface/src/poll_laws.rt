@@ -5,7 +5,8 @@ ghost use Rattle.net_base.specs.Loopback.{LoopbackValue, LoopbackMove};
 ghost use Rattle.ip_wire.specs.AddressTests.{is_same_address};
 ghost use Rattle.ip_wire.specs.Ip.{source_of, destination_of};
 ghost use Rattle.ip_wire.specs.IpAddress.{IpAddress};
-ghost use Rattle.interface_egress.specs.Inner.{InnerValue};
+ghost use Rattle.interface_egress.specs.Inner.{InnerValue, is_own, is_foreign_loopback, may_come_from};
+ghost use Rattle.interface_egress.specs.Plan.{never_leaves};
 ghost use Rattle.interface_egress.specs.Source.{source_for};
 ghost use Rattle.interface_egress.specs.Departure.{target_of};
 ghost use Rattle.interface_egress.specs.declared.frame.Question.{Question};
@@ -70,6 +71,20 @@ pub fn sources_are_chosen()
     ensures none { (i : InnerValue) (p : PacketValue)
         → source_for i.addresses (destination_of p.header) ≡ None
         → sourced i p ≡ p }
+{}
+
+/// Law: a source that is chosen for a destination is an own address, unless a packet from it never leaves. So nothing leaves from an address
+/// that isn't own, but from one that a socket names itself: what it was bound to, or what a raw socket's header says.
+pub fn chosen_sources_are_own()
+    ensures chosen { (i : InnerValue) (to a : IpAddress)
+        → source_for i.addresses to ≡ Some a
+        → may_come_from i a to ≡ true
+        → is_foreign_loopback i to ≡ false
+        → is_own i a ≡ true }
+    ensures packet { (i : InnerValue) (p : PacketValue)
+        → keeps_source i p ≡ false
+        → never_leaves i (sourced i p).header ≡ false
+        → is_own i (source_of (sourced i p).header) ≡ true }
 {}
 
 /// Law: a poll takes at most one identification for each frame that it may take and each turn of a socket: one for each step of its

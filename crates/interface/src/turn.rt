@@ -7,11 +7,11 @@ ghost use Rattle.interface_ingress.specs.Offer.TheVariants as Answer;
 ghost use Rattle.interface_ingress.specs.Offers.{HasPacket};
 ghost use Rattle.interface_ingress.specs.WellFormed.{IsWellFormed};
 ghost use Rattle.interface_ingress.specs.Sockets.{Offers, offered_by, IfSendable};
-ghost use Rattle.interface_egress.specs.Plan.{IsPacket, plan_of};
+ghost use Rattle.interface_egress.specs.Plan.{IsPacket, comes_from_here, plan_of};
 ghost use Rattle.interface.specs.Host.{sender};
 ghost use Rattle.interface.specs.Remote.{context_for};
 ghost use Rattle.interface.specs.Turn.{is_known, is_heard, is_waiting, is_given_up, is_other, is_out_of_turn, held, waits_until, is_done, marked};
-ghost use Rattle.interface.specs.Turn.{is_raw, is_from_here, keeps_source, with_source, sourced_header, sourced};
+ghost use Rattle.interface.specs.Turn.{is_raw, keeps_source, with_source, sourced_header, sourced};
 ghost use Rattle.interface.specs.Turn.{turned_by, Leaves, LeavesAs, HasLeft, Sends, Turns, PlaceTurns};
 ghost use Rattle.interface_egress.specs.Meta.{freed};
 
@@ -153,7 +153,7 @@ fn let_leave<D: Device>(
         result (sender device.new inner.new fragmenter.new) meta.new }
     ensures capabilities { D.described device.new ≡ D.described device.old }
 {
-    let from_here = is_from_here(inner, &packet.ip_repr());
+    let from_here = comes_from_here(inner, &packet.ip_repr());
     if is_raw(packet.payload()) || from_here {
         leave_as_is(turn, inner, fragmenter, device, meta, packet, from_here)
     } else {
@@ -179,7 +179,7 @@ fn leave_sourced<D: Device>(
 {
     let leaving = sourced(inner, packet);
     fields_have_widths(&leaving);
-    let from_here = is_from_here(inner, &leaving.ip_repr());
+    let from_here = comes_from_here(inner, &leaving.ip_repr());
     leave_as_is(turn, inner, fragmenter, device, meta, &leaving, from_here)
 }
 
@@ -195,7 +195,7 @@ fn leave_as_is<D: Device>(
 ) -> Sent
     requires sendable { IsSendable (packet_value leaving.now) }
     requires formed { IsWellFormed (packet_value leaving.now) }
-    requires known { from_here ≡ is_from_here inner.old (packet_value leaving.now).header }
+    requires known { from_here ≡ comes_from_here inner.old (packet_value leaving.now).header }
     ensures left { LeavesAs D.moves turn (sender device.old inner.old fragmenter.old) meta.old (packet_value leaving.now)
         result (sender device.new inner.new fragmenter.new) meta.new }
     ensures capabilities { D.described device.new ≡ D.described device.old }
@@ -211,8 +211,8 @@ fn leave_as_is<D: Device>(
 }
 
 /// Whether the source of a header may be that of a packet to its destination.
-fn is_from_here(inner: &InterfaceInner, header: &IpRepr) -> bool
-    ensures { result ≡ is_from_here inner.now header.now }
+fn comes_from_here(inner: &InterfaceInner, header: &IpRepr) -> bool
+    ensures { result ≡ comes_from_here inner.now header.now }
 {
     inner.may_come_from(&header.src_addr(), &header.dst_addr())
 }
@@ -221,7 +221,7 @@ fn is_from_here(inner: &InterfaceInner, header: &IpRepr) -> bool
 fn keeps_source(inner: &InterfaceInner, packet: &Packet<'_>) -> bool
     ensures { result ≡ keeps_source inner.now (packet_value packet.now) }
 {
-    is_raw(packet.payload()) || is_from_here(inner, &packet.ip_repr())
+    is_raw(packet.payload()) || comes_from_here(inner, &packet.ip_repr())
 }
 
 /// The packet from the address that is chosen for its destination, where its own source can't be one.

@@ -23,7 +23,6 @@ use Rattle.ip_packet.specs.declared.ip.repr.IpRepr.TheVariants as Ip
 use Rattle.ip_packet.specs.Ipv4 as Ipv4
 use Rattle.ip_packet.specs.Ipv6 as Ipv6
 use Rattle.ip_packet.specs.declared.ipv6.repr.Ipv6Repr.{Ipv6Repr}
-use Rattle.interface_ingress.specs.Ethernet as Ethernet
 use Rattle.interface_ingress.specs.EthernetRepr.{EthernetRepr}
 use Rattle.ip_packet.specs.declared.ipv4.piece.Ipv4Piece.{Ipv4Piece}
 use Rattle.ip_packet.specs.declared.ipv4.repr.Ipv4Repr.{Ipv4Repr}
@@ -36,7 +35,7 @@ use Rattle.interface_ingress.specs.Pieces.{Piece}
 use Rattle.interface_ingress.specs.Incoming.{IsIncoming}
 use Rattle.interface_ingress.specs.Incoming as Heard
 use Rattle.interface_ingress.specs.Sent as Sent
-use Rattle.interface_ingress.specs.Sent.{CanFrame, AreSealed}
+use Rattle.interface_ingress.specs.Sent.{framed, CanFrame, AreSealed}
 use Rattle.interface_ingress.proofs.FramesArrive.{packet-arrives, piece-arrives, arp-arrives}
 use Rattle.interface_egress.specs.Departure.{Departure, Asks, Tells, Whole, Part, packet_frame, piece_frame, question_frame, arp_frame, arp_link, arp_request}
 use Rattle.interface_egress.specs.Departure.{every_station, solicited_node, solicited_station, solicitation, piece_v6, fragment_header}
@@ -154,7 +153,7 @@ module _ (sender receiver : ChecksumCapabilities) (header : Ipv6Repr) (number : 
       ReadsPiece own to other sender receiver padding (Cut.Ipv6 header number) p
   piece6 (Hardware.Ethernet own) (Hardware.Ethernet to) (Hardware.Ethernet other) from receives =
       let link : EthernetRepr = record { src_addr = own; dst_addr = to; ethertype = Ether.Ipv6 } in
-      subst (λ (b : List ℕ). IsIncoming (Hardware.Ethernet other) receiver ((Ethernet.written link ++ b) ++ padding) (Heard.Ip6 (Some link) (Ipv6.normal v)
+      subst (λ (b : List ℕ). IsIncoming (Hardware.Ethernet other) receiver (framed (Some link) b ++ padding) (Heard.Ip6 (Some link) (Ipv6.normal v)
       (front ++ p.bytes))) (sym split6)
       (packet-arrives (Hardware.Ethernet other) sender receiver (Some link) (Ip.Ipv6 v) (front ++ p.bytes) padding
       (can_frame own to other (Ip.Ipv6 v) from receives) fits6 value6 long6 sealed)

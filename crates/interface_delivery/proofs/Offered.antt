@@ -1,5 +1,5 @@
 -- An offered packet on its way to another host.
-use Rattle.std.proofs.Common.{◌≡◌, ℕ, ◌+◌, ◌^◌, ◌<◌, ◌≤◌, Bool, true, false, cond, length, drop, Option, Some, None, IfSome, refl, sym, subst, ap, length-take}
+use Rattle.std.proofs.Common.{◌≡◌, ℕ, ◌+◌, ◌^◌, ◌<◌, ◌≤◌, Bool, true, false, cond, length, drop, Option, Some, None, IfSome, refl, subst, length-take}
 use Rattle.std.proofs.Common.{length-drop, arith}
 use Rattle.std.specs.Prelude.{nat_lt}
 use Rattle.std.proofs.lemmas.Bool.Decides.{nat_tests}

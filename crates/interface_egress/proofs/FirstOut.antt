@@ -1,5 +1,5 @@
 -- A datagram's first piece on its way out.
-use Rattle.std.proofs.Common.{◌≡◌, Bool, true, Option, refl, sym, subst, ap, ◌∙◌}
+use Rattle.std.proofs.Common.{◌≡◌, true, Option, refl, sym, subst, ap, ◌∙◌}
 use Rattle.net_base.specs.Device.{Move}
 use Rattle.ip_wire.specs.HardwareAddress.{HardwareAddress}
 use Rattle.ip_wire.specs.Ip.{destination_of}

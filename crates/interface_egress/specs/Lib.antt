@@ -17,3 +17,4 @@ pub use Rattle.ip_wire.specs.Arp
 pub use Rattle.interface_tables.specs.declared.neighbor.Neighbor
 pub use Rattle.ip_packet.specs.Ipv4
 pub use Rattle.ip_packet.specs.declared.ipv4.repr.Ipv4Repr
+pub mod Announcement

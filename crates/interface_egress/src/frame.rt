@@ -322,7 +322,11 @@ fn ether_for(header: &IpRepr) -> EthernetProtocol
 }
 
 /// The ARP request for a neighbour.
-fn arp_request(own: &EthernetAddress, source: &Ipv4Address, target: &Ipv4Address) -> ArpRepr
+pub(crate) fn arp_request(
+    own: &EthernetAddress,
+    source: &Ipv4Address,
+    target: &Ipv4Address,
+) -> ArpRepr
     ensures { result ≡ arp_request own.now source.now target.now }
 {
     ArpRepr::EthernetIpv4 {

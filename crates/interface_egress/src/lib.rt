@@ -2,6 +2,7 @@
 //! datagram that is too long for one frame. It passes on the tables: `interface_tables`.
 #![tactic(auto)]
 
+mod announcement;
 mod fill;
 mod fragmenter;
 mod frame;
@@ -12,6 +13,7 @@ mod socket_meta;
 mod socket_set;
 mod way_out;
 
+pub use announcement::announce;
 pub use fill::{Fill, send};
 pub use fragmenter::{Cut, Fragmenter, Left, MAX_CUT_PAYLOAD};
 pub use frame::{ArpFrame, CutHeader, Piece, Question, ask};

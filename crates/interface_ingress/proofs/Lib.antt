@@ -22,3 +22,4 @@ pub mod OneArrival
 pub mod Neighbors
 pub use Rattle.sockets.proofs.AnyKind
 pub mod PieceSlots
+pub mod OwnSources

@@ -4,8 +4,11 @@ use Rattle.icmpv4.specs.declared.header.Icmpv4Header.{Icmpv4Header}
 use Rattle.icmpv4.specs.declared.header.Icmpv4Header.TheVariants as V4
 use Rattle.icmpv6.specs.Icmpv6 as Icmpv6
 use Rattle.ip_wire.specs.AddressTests.{is_unicast_v6}
+use Rattle.ip_wire.specs.declared.arp.repr.ArpRepr.{ArpRepr}
+use Rattle.ip_wire.specs.declared.arp.repr.ArpRepr.TheVariants as Arp
 use Rattle.ip_wire.specs.Ip.{destination_of}
 use Rattle.ip_wire.specs.IpAddress.TheVariants as Address
+use Rattle.ip_wire.specs.Ipv4Address.{Ipv4Address}
 use Rattle.ip_wire.specs.Ipv4Repr.{Ipv4Repr}
 use Rattle.ip_wire.specs.Ipv6Repr.{Ipv6Repr}
 use Rattle.ipv6_headers.specs.declared.headers.Problem.{Problem}
@@ -13,6 +16,10 @@ use Rattle.ipv6_headers.specs.declared.headers.Problem.TheVariants as Told
 use Rattle.socket_base.specs.Packet.{PacketValue, ControlV4, ControlV6}
 use Rattle.interface_ingress.specs.Replies.{is_one_host}
 use Rattle.interface_tables.specs.Inner.{InnerValue}
+
+-- whose hardware address an ARP packet tells
+abbrev pub sender_in : ArpRepr → Ipv4Address
+sender_in (Arp.EthernetIpv4 operation source_hardware source target_hardware target) = source
 
 -- the message in a packet with this header is an echo request, and this packet sends its data back to who asked
 pub record IsEchoV4 (header : Ipv4Repr) (message : Icmpv4Header) (bytes : List ℕ) (p : PacketValue) : Type 0 where

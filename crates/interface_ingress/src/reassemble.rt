@@ -418,10 +418,7 @@ pub(crate) fn rebuilt_v6<'a>(
 }
 
 /// The datagram at a place, if every byte of it came.
-pub(crate) fn bytes_at(
-    slots: &PacketAssemblerSet,
-    place: Option<usize>,
-) -> Option<&[u8]>
+pub(crate) fn bytes_at(slots: &PacketAssemblerSet, place: Option<usize>) -> Option<&[u8]>
     ensures { option_copied result ≡ bytes_at place slots.now }
 {
     match place {

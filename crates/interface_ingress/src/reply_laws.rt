@@ -3,20 +3,30 @@ ghost use Rattle.std.specs.Prelude.{◌≡◌, ◌<◌, ℕ, Bool, false, true, 
 ghost use Rattle.icmpv4.specs.declared.message.Icmpv4DstUnreachable.{Icmpv4DstUnreachable};
 ghost use Rattle.icmpv4.specs.declared.header.Icmpv4Header.{Icmpv4Header};
 ghost use Rattle.icmpv6.specs.Icmpv6 as Icmpv6;
+ghost use Rattle.ip_wire.specs.AddressTests.{is_unicast_v6, is_loopback_v6};
+ghost use Rattle.ip_wire.specs.declared.arp.repr.ArpRepr.{ArpRepr};
+ghost use Rattle.ip_wire.specs.EthernetAddress.{EthernetAddress};
+ghost use Rattle.ip_wire.specs.Ip.{source_of, destination_of};
+ghost use Rattle.ip_wire.specs.IpAddress.{IpAddress};
+ghost use Rattle.ip_wire.specs.IpAddress.TheVariants as Address;
 ghost use Rattle.ip_wire.specs.IpRepr.{IpRepr};
+ghost use Rattle.ip_wire.specs.Ipv6Address.{Ipv6Address};
 ghost use Rattle.ip_wire.specs.Ipv4Repr.{Ipv4Repr};
 ghost use Rattle.ip_wire.specs.Ipv6Repr.{Ipv6Repr};
 ghost use Rattle.ip_wire.specs.TcpHeader.{TcpHeader};
 ghost use Rattle.sockets.specs.Packet.{PacketValue};
+ghost use Rattle.sockets.specs.TcpSegments.{rst_reply};
 ghost use Rattle.sockets.specs.Socket.{accepts_segment};
-ghost use Rattle.interface_egress.specs.Inner.{InnerValue};
+ghost use Rattle.interface_egress.specs.Inner.{InnerValue, is_own, is_for_us, is_loopback_in};
 ghost use Rattle.interface_egress.specs.declared.socket_set.SocketStorage.{SocketStorage};
 ghost use Rattle.sockets.specs.declared.socket.Socket.{Socket};
-ghost use Rattle.interface_ingress.specs.Answering.{IsEchoV4, IsEchoV6, IsBetweenV4, IsBetweenV6, IsToldOf};
+ghost use Rattle.interface_ingress.specs.Answering.{IsEchoV4, IsEchoV6, IsBetweenV4, IsBetweenV6, IsToldOf, sender_in};
+ghost use Rattle.interface_ingress.specs.Arp.{arp_answer};
 ghost use Rattle.ipv6_headers.specs.declared.headers.Problem.{Problem};
 ghost use Rattle.interface_ingress.specs.Delivered.{Places, passes, first_place, is_connected, segment_place};
-ghost use Rattle.interface_ingress.specs.Handed.{names_nobody, segment_reply};
-ghost use Rattle.interface_ingress.specs.Replies.{echo_v4, echo_v6, error_v4, error_v6, parameter_problem};
+ghost use Rattle.interface_ingress.specs.Handed.{is_for_many, names_nobody, segment_reply};
+ghost use Rattle.interface_ingress.specs.Heard as Heard;
+ghost use Rattle.interface_ingress.specs.Replies.{echo_v4, echo_v6, error_v4, error_v6, parameter_problem, reply_v4, reply_v6};
 
 /// Law: a control message that isn't one of neighbours is answered by an echo reply or not at all: no error answers an error. An
 /// echo reply has its request's data, identifier and number, and goes to who asked.
@@ -39,6 +49,28 @@ pub fn errors_are_between_hosts()
         → parameter_problem i header payload problem pointer ≡ Some p → IsToldOf problem header }
     ensures segment { (i : InnerValue) (places : Places) (ip : IpRepr) (taken : Bool) (header : TcpHeader) (bytes : List ℕ) (p : PacketValue)
         → segment_reply i places ip taken header bytes ≡ Some p → names_nobody i ip ≡ false }
+{}
+
+/// Law: what a host answers at once to a packet that is for it leaves from an own address: an echo reply, an error, a reset, an ARP reply
+/// and an advertisement. For the address of a packet for one host is an own one, `::1` apart, from and to which no packet is taken in
+/// unless it is own. (An answer to an IPv6 group leaves from the address that is chosen for who asked, and what sockets send from the one
+/// that they name, or from a chosen one: `interface::poll_laws::{sources_are_chosen, chosen_sources_are_own}`.)
+pub fn answers_leave_from_own_addresses()
+    ensures own { (i : InnerValue) (a : IpAddress)
+        → is_for_us i a ≡ true → is_for_many i a ≡ false → is_loopback_in a ≡ false → is_own i a ≡ true }
+    ensures ipv4 { (i : InnerValue) (header : Ipv4Repr) (message : Icmpv4Header) (bytes : List ℕ) (p : PacketValue)
+        → is_for_us i (Address.Ipv4 header.dst_addr) ≡ true
+        → reply_v4 i header message bytes ≡ Some p → is_own i (source_of p.header) ≡ true }
+    ensures ipv6 { (i : InnerValue) (header : Ipv6Repr) (message : Icmpv6.MessageValue) (bytes : List ℕ)
+        → is_for_us i (Address.Ipv6 header.dst_addr) ≡ true → is_unicast_v6 header.dst_addr ≡ true → is_loopback_v6 header.dst_addr ≡ false
+        → is_own i (source_of (reply_v6 i header message bytes).header) ≡ true }
+    ensures reset { (i : InnerValue) (ip : IpRepr) (header : TcpHeader) (size : ℕ)
+        → is_for_us i (destination_of ip) ≡ true → names_nobody i ip ≡ false → is_loopback_in (destination_of ip) ≡ false
+        → is_own i (source_of (rst_reply ip header size).header) ≡ true }
+    ensures arp { (i : InnerValue) (packet reply : ArpRepr)
+        → arp_answer i packet ≡ Some reply → is_own i (Address.Ipv4 (sender_in reply)) ≡ true }
+    ensures advertisement { (own : EthernetAddress) (i : InnerValue) (header : Ipv6Repr) (target : Ipv6Address) (p : PacketValue)
+        → Heard.answer own i header target ≡ Some p → is_own i (source_of p.header) ≡ true }
 {}
 
 /// Law: a segment goes to a socket that accepts it, and where there is one that has its connection, to the first such.

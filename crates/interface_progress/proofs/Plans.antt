@@ -10,7 +10,6 @@ use Rattle.ip_wire.specs.Ip.{destination_of}
 use Rattle.ip_wire.specs.IpAddress.{IpAddress}
 use Rattle.ip_wire.specs.IpAddress.TheVariants as Address
 use Rattle.ip_wire.specs.IpRepr.{IpRepr}
-use Rattle.ip_wire.specs.IpRepr.TheVariants as Ip
 use Rattle.ip_wire.specs.Ipv4Address.{Ipv4Address}
 use Rattle.interface_tables.specs.Inner.{InnerValue, is_local_broadcast, next_hop, next_request, link_by, link_of_hop, link_on, link_address, all_stations}
 use Rattle.interface_tables.specs.Inner.{group_station, is_known_on, is_known_hop, has_neighbor, mtu_to}

@@ -4,9 +4,8 @@ use Rattle.std.proofs.Common.{refl, sym}
 use Rattle.std.proofs.Common.{◌∙◌, ap, subst, arith}
 use Rattle.std.specs.Prelude.{slice_get, ◌≤ℤ◌, ◌<ℤ◌}
 use Rattle.std.proofs.lemmas.Int.{ints}
-use Rattle.lan_theorem.specs.Ipv4.{key_of}
+use Rattle.lan_theorem.specs.FragKey.{FragKey}
 use Rattle.lan_theorem.specs.IpProtocol.TheVariants as Protocol
-use Rattle.lan_theorem.specs.Ipv4Repr.{Ipv4Repr}
 use Rattle.net_base.specs.Medium.{Medium}
 use Rattle.lan_theorem.specs.Address.{IsEthernetAddress, IsIpv6Address}
 use Rattle.lan_theorem.specs.EthernetAddress.{EthernetAddress}
@@ -47,7 +46,7 @@ use Rattle.lan_theorem.specs.Hosts.Machine.{Turn, Machine, HostRun, HostStep, at
 use Rattle.lan_theorem.specs.Hosts.Quiet.{PollsWereQuiet, NoneExpires}
 use Rattle.lan_theorem.specs.Hosts.Wire.{FramesAreApart, HasPorts, asks, is_request}
 use Rattle.lan_theorem.specs.Moves.Raws.{OfEach}
-use Rattle.lan_theorem.specs.Rebuilt.{Rebuilds, RebuiltWasMade}
+use Rattle.lan_theorem.specs.Rebuilt.{Rebuilds, RebuiltWasMade, protocol_in, room_before}
 use Rattle.lan_theorem.specs.Said.{Fact, ByteAt, EndsAt, IsSaid, RebuiltWasSent}
 use Rattle.lan_theorem.proofs.Hosts.WireQuestions.{request_passes, solicitation_passes}
 use Rattle.lan_theorem.proofs.LinkActs.{passed, below}
@@ -215,42 +214,42 @@ frames_labelled i own source target = (tt, tt)
 
 -- PAYLOADS
 
-module _ (w : WorldValue) (turns : Side → List Turn) (side : Side) (header : Ipv4Repr) (payload : List ℕ) (r : Rebuilds (station w.hosts side) header payload)
+module _ (w : WorldValue) (turns : Side → List Turn) (side : Side) (key : FragKey) (bytes : List ℕ) (r : Rebuilds (station w.hosts side) key bytes)
     (sent : RebuiltWasSent w turns) where
   abbrev Said : Fact → Type 0
-  Said fact = IsSaid (medium_of (station w.hosts (other side))) (frames_sent (turns (other side))) (key_of header) fact
+  Said fact = IsSaid (medium_of (station w.hosts (other side))) (frames_sent (turns (other side))) key fact
 
   -- the end was said
-  end_said : Said (EndsAt (length payload))
-  end_said = (sent side header payload r (EndsAt (length payload))).1 refl
+  end_said : Said (EndsAt (length bytes))
+  end_said = (sent side key bytes r (EndsAt (length bytes))).1 refl
 
   pub payload_never : frames_sent (turns (other side)) ≡ [] → ⊥
   payload_never none =
       let there = ap (λ (frames : List (List ℕ)). slice_get frames end_said.place) (sym none) ∙ end_said.frame_is in
       cc
 
-  pub payload_other_identification : AreOfOther (medium_of (station w.hosts (other side))) (frames_sent (turns (other side))) (key_of header) → ⊥
+  pub payload_other_identification : AreOfOther (medium_of (station w.hosts (other side))) (frames_sent (turns (other side))) key → ⊥
   payload_other_identification others =
-      others end_said.place end_said.frame (key_of header) (EndsAt (length payload)) end_said.frame_is end_said.carries refl
+      others end_said.place end_said.frame key (EndsAt (length bytes)) end_said.frame_is end_said.carries refl
 
-  pub payload_other_byte : (place byte : ℕ) → Said (ByteAt place byte) → slice_get payload place ≢ Some byte → ⊥
-  payload_other_byte place byte said differs = differs ((sent side header payload r (ByteAt place byte)).0 said)
+  pub payload_other_byte : (place byte : ℕ) → Said (ByteAt place byte) → slice_get bytes place ≢ Some byte → ⊥
+  payload_other_byte place byte said differs = differs ((sent side key bytes r (ByteAt place byte)).0 said)
 
-  pub payload_other_end : (place : ℕ) → Said (EndsAt place) → place ≢ length payload → ⊥
-  payload_other_end place said differs = differs ((sent side header payload r (EndsAt place)).0 said)
+  pub payload_other_end : (place : ℕ) → Said (EndsAt place) → place ≢ length bytes → ⊥
+  payload_other_end place said differs = differs ((sent side key bytes r (EndsAt place)).0 said)
 
 -- MAKERS
 
-pub maker_too_short : (w : WorldValue) (side : Side) (header : Ipv4Repr) (payload : List ℕ) → Rebuilds (station w.hosts side) header payload →
-    length payload < 8 → RebuiltWasMade w → ⊥
-maker_too_short w side header payload r short made =
-    let enough = made_long _ header payload (made.rebuilt side header payload r) in
+pub maker_too_short : (w : WorldValue) (side : Side) (key : FragKey) (bytes : List ℕ) → Rebuilds (station w.hosts side) key bytes →
+    length bytes < room_before key + 8 → RebuiltWasMade w → ⊥
+maker_too_short w side key bytes r short made =
+    let enough = made_long _ key bytes (made.rebuilt side key bytes r) in
     absurd (omega (arith, short, enough))
 
-pub maker_no_segment : (w : WorldValue) (side : Side) (header : Ipv4Repr) (payload : List ℕ) → Rebuilds (station w.hosts side) header payload →
-    header.next_header ≡ Protocol.Tcp → length payload < 20 → RebuiltWasMade w → ⊥
-maker_no_segment w side header payload r tcp short made =
-    let enough = made_segment_long _ header payload (made.rebuilt side header payload r) tcp in
+pub maker_no_segment : (w : WorldValue) (side : Side) (key : FragKey) (bytes : List ℕ) → Rebuilds (station w.hosts side) key bytes →
+    protocol_in key bytes ≡ Protocol.Tcp → length bytes < room_before key + 20 → RebuiltWasMade w → ⊥
+maker_no_segment w side key bytes r tcp short made =
+    let enough = made_segment_long _ key bytes (made.rebuilt side key bytes r) tcp in
     absurd (omega (arith, short, enough))
 
 -- DAMAGE

@@ -3,7 +3,8 @@ use Rattle.std.specs.Prelude.{◌≡◌, ◌≢◌, ℕ, ℤ, pos, true, List, [
 use Rattle.net_base.specs.Capabilities.{all_checksums}
 use Rattle.net_base.specs.Checksum.TheVariants.{Both}
 use Rattle.net_base.specs.Medium.{Medium}
-use Rattle.lan_theorem.specs.Ipv4FragKey.{Ipv4FragKey}
+use Rattle.lan_theorem.specs.FragKey.{FragKey}
+use Rattle.lan_theorem.specs.FragKey.TheVariants as Keys
 use Rattle.lan_hosts.specs.Departure.{Departure, Asks}
 use Rattle.lan_theorem.specs.Question.{Question}
 use Rattle.lan_hosts.specs.Arrives.{Arrived, Arrives}
@@ -87,10 +88,15 @@ leaving moment i departure = record {
 
 -- FRAMES
 
+abbrev pub identification : FragKey → ℕ
+identification (Keys.Ipv4 key) = key.id
+identification (Keys.Ipv6 key) = key.id
+
 -- whatever these frames say is of a datagram with another identification
-abbrev pub AreOfOther : Medium → List (List ℕ) → Ipv4FragKey → Type 0
+abbrev pub AreOfOther : Medium → List (List ℕ) → FragKey → Type 0
 AreOfOther medium frames key =
-    (k : ℕ) (frame : List ℕ) (other : Ipv4FragKey) (fact : Fact) → slice_get frames k ≡ Some frame → Carries medium frame other fact → other.id ≢ key.id
+    (k : ℕ) (frame : List ℕ) (other : FragKey) (fact : Fact) → slice_get frames k ≡ Some frame → Carries medium frame other fact →
+    identification other ≢ identification key
 
 -- a host of the medium that tests all checksums takes the damaged frame
 pub record IsTaken (hosts : Stations) (k place word : ℕ) (padding : List ℕ) (i : InnerValue) (timeout : ℕ) (slots after : Slots) (places : Places)

@@ -3,9 +3,8 @@
 #![tactic(auto)]
 
 ghost use Rattle.std.specs.Prelude.{◌≡◌, ◌≢◌, ◌≤◌, ◌<◌, ℕ, ℤ, pos, List, [], ◌∷◌, length, slice_get, Option, Some, None};
-ghost use Rattle.lan_theorem.specs.Ipv4.{key_of};
+ghost use Rattle.lan_theorem.specs.FragKey.{FragKey};
 ghost use Rattle.lan_theorem.specs.IpProtocol.TheVariants as Protocol;
-ghost use Rattle.lan_theorem.specs.Ipv4Repr.{Ipv4Repr};
 ghost use Rattle.net_base.specs.Medium.{Medium};
 ghost use Rattle.lan_theorem.specs.Address.{IsEthernetAddress, IsIpv6Address};
 ghost use Rattle.lan_theorem.specs.EthernetAddress.{EthernetAddress};
@@ -17,7 +16,7 @@ ghost use Rattle.lan_theorem.specs.Question.TheVariants as Query;
 ghost use Rattle.lan_hosts.specs.Departure.{Asks, Tells, Whole, arp_request, solicitation, solicited_station};
 ghost use Rattle.lan_hosts.specs.Arrives.{Arrived, ReplyValue};
 ghost use Rattle.lan_hosts.specs.Delivered.{Places};
-ghost use Rattle.lan_theorem.specs.Kept.{with_ports, IsNoPieceV6};
+ghost use Rattle.lan_theorem.specs.Kept.{with_ports};
 ghost use Rattle.lan_hosts.specs.Incoming.{IncomingValue, IsContent};
 ghost use Rattle.lan_hosts.specs.Reassembled.{Slots};
 ghost use Rattle.lan_hosts.specs.Inner.{InnerValue};
@@ -36,7 +35,7 @@ ghost use Rattle.lan_theorem.specs.Hosts.Machine.{Turn};
 ghost use Rattle.lan_theorem.specs.Hosts.Quiet.{PollsWereQuiet};
 ghost use Rattle.lan_theorem.specs.Hosts.Wire.{FramesAreApart, HasPorts};
 ghost use Rattle.lan_theorem.specs.Moves.Raws.{OfEach, HasNoUdp};
-ghost use Rattle.lan_theorem.specs.Rebuilt.{Rebuilds, RebuiltWasMade};
+ghost use Rattle.lan_theorem.specs.Rebuilt.{Rebuilds, RebuiltWasMade, protocol_in, room_before};
 ghost use Rattle.lan_theorem.specs.Said.{ByteAt, EndsAt, IsSaid, RebuiltWasSent};
 ghost use Rattle.lan_excluded.specs.Worlds.{after, Delivers, Damages, IsAsked, GetsRoom, sent_by_a, asked, polled, asking, leaving, AreOfOther, IsTaken};
 
@@ -115,50 +114,45 @@ pub fn bad_frames_are_excluded()
         (leaving (pos 500_000) i (Tells (arp_request own source target)) ∷ leaving (pos 0) i (Asks (Query.Arp own source target)) ∷ [])) }
 {}
 
-/// `rebuilt`: a host rebuilds a payload of which the other host sent nothing; or only frames of another identification; or another byte at
+/// `rebuilt`: a host rebuilds a datagram of either family of which the other host sent nothing; or only frames of another identification; or another byte at
 /// a place; or one more byte; or an end at another place.
 pub fn bad_payloads_are_excluded()
-    ensures never_sent { (w : WorldValue) (turns : Side → List Turn) (side : Side) (header : Ipv4Repr) (payload : List ℕ)
-        → Rebuilds (station w.hosts side) header payload
+    ensures never_sent { (w : WorldValue) (turns : Side → List Turn) (side : Side) (key : FragKey) (bytes : List ℕ)
+        → Rebuilds (station w.hosts side) key bytes
         → frames_sent (turns (other side)) ≡ []
         → RebuiltWasSent w turns → ⊥ }
-    ensures other_identification { (w : WorldValue) (turns : Side → List Turn) (side : Side) (header : Ipv4Repr) (payload : List ℕ)
-        → Rebuilds (station w.hosts side) header payload
-        → AreOfOther (medium_of (station w.hosts (other side))) (frames_sent (turns (other side))) (key_of header)
+    ensures other_identification { (w : WorldValue) (turns : Side → List Turn) (side : Side) (key : FragKey) (bytes : List ℕ)
+        → Rebuilds (station w.hosts side) key bytes
+        → AreOfOther (medium_of (station w.hosts (other side))) (frames_sent (turns (other side))) key
         → RebuiltWasSent w turns → ⊥ }
-    ensures other_byte { (w : WorldValue) (turns : Side → List Turn) (side : Side) (header : Ipv4Repr) (payload : List ℕ) (place byte : ℕ)
-        → Rebuilds (station w.hosts side) header payload
-        → IsSaid (medium_of (station w.hosts (other side))) (frames_sent (turns (other side))) (key_of header) (ByteAt place byte)
-        → slice_get payload place ≢ Some byte
+    ensures other_byte { (w : WorldValue) (turns : Side → List Turn) (side : Side) (key : FragKey) (bytes : List ℕ) (place byte : ℕ)
+        → Rebuilds (station w.hosts side) key bytes
+        → IsSaid (medium_of (station w.hosts (other side))) (frames_sent (turns (other side))) key (ByteAt place byte)
+        → slice_get bytes place ≢ Some byte
         → RebuiltWasSent w turns → ⊥ }
-    ensures other_end { (w : WorldValue) (turns : Side → List Turn) (side : Side) (header : Ipv4Repr) (payload : List ℕ) (place : ℕ)
-        → Rebuilds (station w.hosts side) header payload
-        → IsSaid (medium_of (station w.hosts (other side))) (frames_sent (turns (other side))) (key_of header) (EndsAt place)
-        → place ≢ length payload
+    ensures other_end { (w : WorldValue) (turns : Side → List Turn) (side : Side) (key : FragKey) (bytes : List ℕ) (place : ℕ)
+        → Rebuilds (station w.hosts side) key bytes
+        → IsSaid (medium_of (station w.hosts (other side))) (frames_sent (turns (other side))) key (EndsAt place)
+        → place ≢ length bytes
         → RebuiltWasSent w turns → ⊥ }
 {}
 
 /// `made`: a host rebuilds a UDP datagram though the other host never had a UDP socket; or a payload too short for a datagram, or of TCP too
-/// short for a segment, which no socket makes, whatever bytes a raw socket queued; or a frame that waits is a piece of an IPv6 datagram.
+/// short for a segment, which no socket makes, whatever bytes a raw socket queued. In IPv6 eight bytes of a fragment header stand before it.
 pub fn bad_makers_are_excluded()
-    ensures without_a_socket { (w : WorldValue) (side : Side) (header : Ipv4Repr) (payload : List ℕ)
-        → Rebuilds (station w.hosts side) header payload
-        → header.next_header ≡ Protocol.Udp
+    ensures without_a_socket { (w : WorldValue) (side : Side) (key : FragKey) (bytes : List ℕ)
+        → Rebuilds (station w.hosts side) key bytes
+        → protocol_in key bytes ≡ Protocol.Udp
         → OfEach HasNoUdp (start w.starts (other side)).places
         → RebuiltWasMade w → ⊥ }
-    ensures too_short { (w : WorldValue) (side : Side) (header : Ipv4Repr) (payload : List ℕ)
-        → Rebuilds (station w.hosts side) header payload
-        → length payload < 8
+    ensures too_short { (w : WorldValue) (side : Side) (key : FragKey) (bytes : List ℕ)
+        → Rebuilds (station w.hosts side) key bytes
+        → length bytes < room_before key + 8
         → RebuiltWasMade w → ⊥ }
-    ensures no_segment { (w : WorldValue) (side : Side) (header : Ipv4Repr) (payload : List ℕ)
-        → Rebuilds (station w.hosts side) header payload
-        → header.next_header ≡ Protocol.Tcp
-        → length payload < 20
-        → RebuiltWasMade w → ⊥ }
-    ensures piece_of_ipv6 { (w : WorldValue) (side : Side) (place : ℕ) (frame : List ℕ) (content : Option IncomingValue)
-        → slice_get (station w.hosts side).link.waiting place ≡ Some frame
-        → IsContent (station w.hosts side).host.inner.hardware (station w.hosts side).host.inner.checksums frame content
-        → (IsNoPieceV6 content → ⊥)
+    ensures no_segment { (w : WorldValue) (side : Side) (key : FragKey) (bytes : List ℕ)
+        → Rebuilds (station w.hosts side) key bytes
+        → protocol_in key bytes ≡ Protocol.Tcp
+        → length bytes < room_before key + 20
         → RebuiltWasMade w → ⊥ }
 {}
 

@@ -34,6 +34,13 @@ is_ipv6 packet =
     && (slice_index packet 0 / 16 == 6)
     && nat_le (40 + be16 packet 4) (length packet)
 
+-- whether an IPv6 packet begins a datagram that goes in pieces: right behind its header stands a fragment header, whose offset is 0
+-- (RFC 8200, section 4.5); bytes that aren't there count as 0
+abbrev pub begins_pieces : Medium → List ℕ → Bool
+begins_pieces medium frame =
+    let packet = packet_in medium frame in
+    may_carry medium 0x86dd frame && is_ipv6 packet && (slice_index packet 6 == 44) && (be16 packet 42 / 8 == 0)
+
 -- where a packet has its payload: behind the header, up to where the length says
 abbrev pub payload_v4 : Medium → List ℕ → Part
 payload_v4 medium packet = record { at = frame_header medium + header_len_of packet; len = be16 packet 2 - header_len_of packet }

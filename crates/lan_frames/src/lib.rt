@@ -10,5 +10,5 @@ mod word;
 
 pub use cut::{cut_frame, ipv4_part};
 pub use names::names_tcp_or_udp;
-pub use part::{Part, packet_in, tcp_part};
+pub use part::{Part, begins_pieces, packet_in, tcp_part};
 pub use word::damage;

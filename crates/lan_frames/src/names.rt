@@ -91,7 +91,15 @@ fn is_tcp_or_udp(protocol: u8) -> bool
 pub(crate) fn ethertype(bytes: &[u8]) -> u16
     ensures { result ≡ be16 bytes.now 12 }
 {
-    u16::from_be_bytes([byte_at(bytes, 12), byte_at(bytes, 13)])
+    word_at(bytes, 12)
+}
+
+// The number of two bytes, where bytes that aren't there are 0.
+pub(crate) fn word_at(bytes: &[u8], place: usize) -> u16
+    requires { place < 2 ^ 16 }
+    ensures { result ≡ be16 bytes.now place }
+{
+    u16::from_be_bytes([byte_at(bytes, place), byte_at(bytes, place + 1)])
 }
 
 // The byte at a place, or 0 past the end.

@@ -1,13 +1,13 @@
 //! Where a frame has its packet, and where its TCP segment.
-ghost use Rattle.std.specs.Prelude.{◌≡◌, ◌+◌, ◌≤◌, ◌&&◌, ◌==◌, IfSome, length, slice_index};
+ghost use Rattle.std.specs.Prelude.{◌≡◌, ◌+◌, ◌≤◌, ◌&&◌, ◌==◌, ◌/◌, IfSome, length, slice_index};
 ghost use Rattle.std.specs.Bool.{OnTrue};
 ghost use Rattle.net_devices.specs.Capabilities.{frame_header};
 ghost use Rattle.ip_address.specs.Fields.{be16};
 ghost use Rattle.ip_packet.specs.Ipv4.{header_len_of};
 ghost use Rattle.lan_frames.specs.Carried.{packet_in};
-ghost use Rattle.lan_frames.specs.Parts.{may_carry, is_ipv4, is_uncut, is_ipv6, tcp_part};
+ghost use Rattle.lan_frames.specs.Parts.{may_carry, is_ipv4, is_uncut, is_ipv6, begins_pieces, tcp_part};
 
-use crate::names::ethertype;
+use crate::names::{ethertype, word_at};
 use ip_address::network_order::read_u16;
 use ip_packet::Ipv4Packet;
 use net_devices::Medium;
@@ -94,16 +94,33 @@ fn is_tcp_over_ipv4(packet: &[u8]) -> bool
     is_ipv4(packet) && read_u16(packet, 6) % 0x4000 == 0 && packet[9] == 6
 }
 
-// An IPv6 packet with a TCP segment right behind its header.
-fn is_tcp_over_ipv6(packet: &[u8]) -> bool
-    ensures value { result ≡ (is_ipv6 packet.now && (slice_index packet.now 6 == 6)) }
+// An IPv6 header, and the payload that its length names.
+fn is_ipv6(packet: &[u8]) -> bool
+    ensures value { result ≡ is_ipv6 packet.now }
+    ensures room { OnTrue result (40 ≤ length packet.now) }
     ensures within { OnTrue result (40 + be16 packet.now 4 ≤ length packet.now) }
 {
     if packet.len() < 40 || packet[0] / 16 != 6 {
         return false;
     }
-    if packet.len() - 40 < read_u16(packet, 4) as usize {
-        return false;
-    }
-    packet[6] == 6
+    read_u16(packet, 4) as usize <= packet.len() - 40
+}
+
+// An IPv6 packet with a TCP segment right behind its header.
+fn is_tcp_over_ipv6(packet: &[u8]) -> bool
+    ensures value { result ≡ (is_ipv6 packet.now && (slice_index packet.now 6 == 6)) }
+    ensures within { OnTrue result (40 + be16 packet.now 4 ≤ length packet.now) }
+{
+    is_ipv6(packet) && packet[6] == 6
+}
+
+/// Whether a frame carries the first piece of an IPv6 datagram, or the whole of one that has a fragment header.
+pub fn begins_pieces(medium: Medium, frame: &[u8]) -> bool
+    ensures { result ≡ begins_pieces medium frame.now }
+{
+    let packet = packet_in(medium, frame);
+    may_carry(medium, 0x86dd, frame)
+        && is_ipv6(packet)
+        && packet[6] == 44
+        && word_at(packet, 42) / 8 == 0
 }

@@ -1,11 +1,11 @@
 -- Where the frames at the link come from: what the link hands over, and which of the sent frames are a host's own.
-use Rattle.std.specs.Prelude.{ℕ, Bool, false, ◌&&◌, ◌==◌, if◌then◌else◌, List, [], ◌∷◌, ◌++◌, take, drop, slice_index_or, Option, None, Some, is_some}
+use Rattle.std.specs.Prelude.{ℕ, Bool, false, ◌&&◌, ◌||◌, ◌==◌, if◌then◌else◌, List, [], ◌∷◌, ◌++◌, take, drop, slice_index_or, Option, None, Some, is_some}
 use Rattle.std.specs.List.{count_by}
 use Rattle.net_base.specs.Medium.{Medium}
 use Rattle.ip_wire.specs.Ipv4.{piece_of}
 use Rattle.lan_frames.specs.Carried.{packet_in}
 use Rattle.lan_frames.specs.Cuts.{ipv4_part, first_piece, second_piece}
-use Rattle.lan_frames.specs.Parts.{tcp_part, damaged}
+use Rattle.lan_frames.specs.Parts.{begins_pieces, tcp_part, damaged}
 use Rattle.lan_frames.specs.declared.part.Part.{Part}
 use Rattle.lan_history.specs.History.{Entry, Counts}
 use Rattle.lan_history.specs.Kinds.{other, same_side, Kind, kind_of, Origin, Delivered, Damaged, Noisy}
@@ -86,10 +86,12 @@ own_frames side (e ∷ past) sent =
     own_frames side past (take (sent_before e.before side) sent)
     ++ (if is_cut_of side (kind_of e.event) then [] else drop (sent_before e.before side) sent)
 
--- a frame that began an IPv4 datagram, which has a number of its own (RFC 6864)
+-- a frame that began an IPv4 datagram, which has a number of its own (RFC 6864), or an IPv6 one in pieces, which have one (RFC 8200,
+-- section 4.5)
 abbrev pub begins_datagram : Medium → List ℕ → Bool
-begins_datagram medium frame = is_some (ipv4_part medium frame) && ((piece_of (packet_in medium frame)).offset == 0)
+begins_datagram medium frame =
+    (is_some (ipv4_part medium frame) && ((piece_of (packet_in medium frame)).offset == 0)) || begins_pieces medium frame
 
--- how many IPv4 datagrams a host numbered
+-- how many datagrams a host numbered
 abbrev pub numbered : Medium → Side → List Entry → List (List ℕ) → ℕ
 numbered medium side history sent = count_by (begins_datagram medium) (own_frames side history sent)

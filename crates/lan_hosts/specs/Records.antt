@@ -16,7 +16,7 @@ use Rattle.lan_hosts.specs.Origins.{medium_of, is_cut_of, begins_datagram}
 use Rattle.lan_hosts.specs.Refusals.{Table}
 use Rattle.lan_hosts.specs.Station.{StationValue}
 
--- how many IPv4 datagrams a host began in an event, before which it had sent so many frames
+-- how many datagrams a host began in an event, before which it had sent so many frames
 abbrev pub datagrams_added : Side → Kind → Medium → ℕ → List (List ℕ) → ℕ
 datagrams_added side kind medium before sent =
     if is_cut_of side kind then 0 else count_by (begins_datagram medium) (drop before sent)

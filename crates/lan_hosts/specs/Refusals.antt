@@ -22,7 +22,7 @@ use Rattle.lan_history.specs.declared.record.SocketRecord.{SocketRecord}
 use Rattle.lan_hosts.specs.Station.{StationValue, Stations, station, kind_at}
 use Rattle.lan_hosts.specs.Origins.{medium_of, frame_sent}
 
--- what is kept of a host's history: a record for each place of its socket set, and how many IPv4 datagrams it numbered
+-- what is kept of a host's history: a record for each place of its socket set, and how many datagrams it numbered
 pub record Table : Type 0 where
   pub records : List SocketRecord
   pub numbered : ℕ

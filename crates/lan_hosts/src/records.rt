@@ -1,21 +1,24 @@
 //! What is kept of a host's history, so that no refusal reads it.
-ghost use Rattle.std.specs.Prelude.{◌≡◌, ◌+◌, ◌<◌, ◌≤◌, ◌^◌, ◌&&◌, IfOk, length, replicate, slice_set, if◌then◌else◌, drop};
+ghost use Rattle.std.specs.Prelude.{◌≡◌, ◌+◌, ◌<◌, ◌≤◌, ◌^◌, ◌&&◌, ◌==◌, is_some, IfOk, length, replicate, slice_set, if◌then◌else◌, drop};
 ghost use Rattle.std.specs.List.{count_by};
 ghost use Rattle.net_base.specs.Device.{frames_of};
 ghost use Rattle.lan_history.specs.Kinds.{kind_of, same_side};
 ghost use Rattle.lan_history.specs.Tables.{no_record, record_at, table_after};
 ghost use Rattle.lan_hosts.specs.Origins.{medium_of, is_cut_of, begins_datagram};
+ghost use Rattle.lan_frames.specs.Carried.{packet_in};
+ghost use Rattle.lan_frames.specs.Cuts.{ipv4_part};
+ghost use Rattle.ip_wire.specs.Ipv4.{piece_of};
 ghost use Rattle.lan_hosts.specs.Records.{table_next, datagrams_added, place_of, opening_in, written_in, record_by, HasByteRoom, CanRise};
 
 use crate::host::Host;
 use ip_wire::Ipv4Packet;
-use lan_frames::{ipv4_part, packet_in};
+use lan_frames::{begins_pieces, ipv4_part, packet_in};
 use lan_history::{Answer, Event, Opening, Side, SocketRecord};
 use net_base::Medium;
 use std::alloc::{AllocError, Global};
 use std::marker::Model;
 
-/// A record for each place of a host's socket set, and how many IPv4 datagrams it numbered.
+/// A record for each place of a host's socket set, and how many datagrams it numbered.
 #[derive(Debug, Drop)]
 pub struct Records {
     pub(crate) sockets: Vec<SocketRecord>,
@@ -63,7 +66,7 @@ impl Records {
     }
 }
 
-/// How many IPv4 datagrams a host began in an event.
+/// How many datagrams a host began in an event.
 fn datagrams_added(side: Side, event: &Event, host: &Host, before: usize) -> usize
     requires { before ≤ length host.now.link.sent }
     ensures value { result ≡ datagrams_added side (kind_of event.now) (medium_of host.now) before host.now.link.sent }
@@ -91,7 +94,7 @@ fn same_side(one: Side, other: Side) -> bool
     one == other
 }
 
-/// How many of these frames begin an IPv4 datagram.
+/// How many of these frames begin a datagram that has a number.
 fn datagrams(medium: Medium, frames: &[Vec<u8>]) -> usize
     ensures value { result ≡ count_by (begins_datagram medium) (frames_of frames.now) }
     ensures few { result ≤ length frames.now }
@@ -107,6 +110,12 @@ fn datagrams(medium: Medium, frames: &[Vec<u8>]) -> usize
 
 fn begins_datagram(medium: Medium, frame: &[u8]) -> bool
     ensures { result ≡ begins_datagram medium frame.now }
+{
+    begins_ipv4(medium, frame) || begins_pieces(medium, frame)
+}
+
+fn begins_ipv4(medium: Medium, frame: &[u8]) -> bool
+    ensures { result ≡ (is_some (ipv4_part medium frame.now) && ((piece_of (packet_in medium frame.now)).offset == 0)) }
 {
     if ipv4_part(medium, frame).is_none() {
         return false;

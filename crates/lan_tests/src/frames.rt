@@ -1,6 +1,7 @@
-//! Where the link finds a TCP segment in a frame. The frames were made by a program of its own outside this repository.
+//! Where the link finds a TCP segment in a frame, and which frames begin a datagram of IPv6 in pieces. The frames were made by programs of
+//! their own outside this repository.
 
-use lan_frames::{Part, tcp_part};
+use lan_frames::{Part, begins_pieces, tcp_part};
 use net_base::Medium;
 use std::alloc::Global;
 use std::test::Fail;
@@ -80,6 +81,44 @@ static PLACES: [Place; 7] = [
 fn a_segment_has_its_place(rt: HostRuntime) -> Result<(), Fail> {
     for row in &PLACES {
         assert!(rt; is_in_place(rt.alloc(), row)?, "{}", row.0);
+    }
+    Ok(())
+}
+
+/// From fd00::1 to fd00::2, the first 8 bytes of a UDP datagram of identification 49741, of which more follow.
+const FIRST_PIECE: &str =
+    "6000000000102c40fd000000000000000000000000000001fd000000000000000000000000000002110000010000c24dbf00003507d864ff";
+
+/// The 8 bytes that stand behind 1,448 others.
+const LATER_PIECE: &str =
+    "6000000000102c40fd000000000000000000000000000001fd000000000000000000000000000002110005a80000c24dda0f0144ca47dba7";
+
+/// Packets, their EtherTypes, and whether they begin a datagram of IPv6 in pieces.
+static BEGINNINGS: [(&str, &str, bool); 4] = [
+    (FIRST_PIECE, "86dd", true),
+    (LATER_PIECE, "86dd", false),
+    (SEGMENT_IPV6, "86dd", false),
+    (SEGMENT, "0800", false),
+];
+
+/// Whether the bytes of these texts, one behind the other, begin one.
+fn begins(alloc: Global, medium: Medium, texts: &[&str]) -> Result<bool, Fail> {
+    let mut text = String::new(alloc);
+    for part in texts {
+        text.push_str(part)?;
+    }
+    let frame = hex::decode(alloc, text.as_str())?;
+    Ok(begins_pieces(medium, frame.as_slice()))
+}
+
+/// On either medium alike, and behind another EtherType none does.
+#[test]
+fn a_first_piece_begins_a_datagram(rt: HostRuntime) -> Result<(), Fail> {
+    for (packet, kind, wanted) in BEGINNINGS {
+        let bare = begins(rt.alloc(), Medium::Ip, &[packet])?;
+        let framed = begins(rt.alloc(), Medium::Ethernet, &[LINK, kind, packet])?;
+        let other = begins(rt.alloc(), Medium::Ethernet, &[LINK, "0806", packet])?;
+        assert!(rt; bare == wanted && framed == wanted && !other, "{}", packet);
     }
     Ok(())
 }

@@ -1,7 +1,6 @@
 -- One host acts, and the other rests.
 use Rattle.std.proofs.Common.{◌≡◌, ℕ, ◌≤◌, Bool, true, false, cond, List, Option, Some, None, refl, sym, ◌∙◌, ap, subst, arith}
 use Rattle.std.specs.Prelude.{ℤ, slice_get, slice_set}
-use Rattle.sockets.specs.Packet.{PacketValue}
 use Rattle.sockets.specs.declared.socket.Socket.{Socket}
 use Rattle.interface_tables.specs.Inner.{InnerValue, context_of, drawn}
 use Rattle.interface_egress.specs.Fragments.{LeftValue}
@@ -23,11 +22,11 @@ use Rattle.lan_hosts.specs.Sets.{with_room, asked}
 use Rattle.lan_hosts.specs.Station.{StationValue, Stations, station, at_port}
 use Rattle.tcp_model.specs.State as States
 use Rattle.lan_theorem.specs.Moves.Made.{Grows, MadeBy}
-use Rattle.lan_theorem.specs.Link.Frames.{medium_on}
-use Rattle.lan_theorem.specs.Link.Numbers.{count_v4}
+use Rattle.lan_theorem.specs.Link.Frames.{Outgoing, medium_on}
+use Rattle.lan_theorem.specs.Link.Numbers.{count_numbered}
 use Rattle.lan_theorem.specs.Link.Sides.{IsSound, IsSender, IsReceiver}
 use Rattle.lan_theorem.specs.Link.Sides as Links
-use Rattle.lan_theorem.proofs.Link.Grown.{receiver_grows}
+use Rattle.lan_theorem.proofs.Link.Grown.{receiver_grows, same_out}
 use Rattle.lan_theorem.proofs.Link.Stations.{sender_settled}
 use Rattle.lan_theorem.proofs.Link.Taken.{receiver_same}
 use Rattle.lan_theorem.specs.Joins.{Sends, Receives, AreJoined}
@@ -45,7 +44,7 @@ joins_grow firsts most hosts net next grows j = record {
   sends = λ side. let s = station hosts side in
       sender_grows (party net side) (party next side) (firsts side) s.host.inner s.host.left s.link.sent (j.out side) (grows side) (j.sends side);
   receives = λ side. let s = station hosts side in
-      receiver_grows (j.out (other side)) (j.out (other side)) (λ p among. among) (MadeBy (party net (other side))) (MadeBy (party next (other side)))
+      receiver_grows (j.out (other side)) (j.out (other side)) (same_out (j.out (other side))) (MadeBy (party net (other side))) (MadeBy (party next (other side)))
       (more_made (party net (other side)) (party next (other side)) (grows (other side)))
       s.host.inner s.host.slots s.link.waiting (j.receives side);
   counted = j.counted;
@@ -53,19 +52,19 @@ joins_grow firsts most hosts net next grows j = record {
 
 -- ONE HOST CHANGED
 
-abbrev outs : Side → List PacketValue → List PacketValue → List PacketValue
+abbrev outs : Side → List Outgoing → List Outgoing → List Outgoing
 outs A a b = a
 outs B a b = b
 
--- what is said of the host that acted; it may have sent more packets, so many of IPv4 at most
-pub record HasActed (p q : Party) (first most : ℕ) (out others : List PacketValue) (s s' : StationValue) : Type 0 where
-  pub out_after : List PacketValue
+-- what is said of the host that acted; it may have sent more packets, so many with a number at most
+pub record HasActed (p q : Party) (first most : ℕ) (out others : List Outgoing) (s s' : StationValue) : Type 0 where
+  pub out_after : List Outgoing
   pub more : Links.Grows out out_after
   pub medium : medium_on s'.host.inner.hardware ≡ medium_on s.host.inner.hardware
   pub device : s'.link.capabilities.medium ≡ s.link.capabilities.medium
   pub sends : Sends p first s' out_after
   pub receives : Receives q others s'
-  pub counted : count_v4 out_after ≤ most
+  pub counted : count_numbered out_after ≤ most
 
 module _ (firsts most most' : Side → ℕ) (hosts new : Stations) (net : Net) (j : AreJoined firsts most hosts net) where
   abbrev Acted : Side → Type 0
@@ -73,7 +72,7 @@ module _ (firsts most most' : Side → ℕ) (hosts new : Stations) (net : Net) (
       (station new side)
 
   -- the other host's parts are as they were, but for what the first one sent
-  rested : (p q : Party) (first : ℕ) (own out out' : List PacketValue) (s s' : StationValue) → s' ≡ s → Links.Grows out out' → Sends p first s own →
+  rested : (p q : Party) (first : ℕ) (own out out' : List Outgoing) (s s' : StationValue) → s' ≡ s → Links.Grows out out' → Sends p first s own →
       Receives q out s → Sends p first s' own × Receives q out' s'
   rested p q first own out out' s s' same more sends receives = (
     subst (λ (x : StationValue). Sends p first x own) (sym same) sends,
@@ -100,7 +99,7 @@ module _ (firsts most most' : Side → ℕ) (hosts new : Stations) (net : Net) (
         sends = λ x. elim x as (λ y. Sends (party net y) (firsts y) (station new y) (outs y acted.out_after (j.out B))) [ A ↦ acted.sends | B ↦ b.0 ];
         receives = λ x. elim x as (λ y. Receives (party net (other y)) (outs (other y) acted.out_after (j.out B)) (station new y))
             [ A ↦ acted.receives | B ↦ b.1 ];
-        counted = λ x. elim x as (λ y. count_v4 (outs y acted.out_after (j.out B)) ≤ most' y)
+        counted = λ x. elim x as (λ y. count_numbered (outs y acted.out_after (j.out B)) ≤ most' y)
             [ A ↦ acted.counted | B ↦ (let c = j.counted B in omega (arith, c, up)) ];
       }
   acted_joins B rests up acted =
@@ -117,7 +116,7 @@ module _ (firsts most most' : Side → ℕ) (hosts new : Stations) (net : Net) (
         sends = λ x. elim x as (λ y. Sends (party net y) (firsts y) (station new y) (outs y (j.out A) acted.out_after)) [ A ↦ a.0 | B ↦ acted.sends ];
         receives = λ x. elim x as (λ y. Receives (party net (other y)) (outs (other y) (j.out A) acted.out_after) (station new y))
             [ A ↦ a.1 | B ↦ acted.receives ];
-        counted = λ x. elim x as (λ y. count_v4 (outs y (j.out A) acted.out_after) ≤ most' y)
+        counted = λ x. elim x as (λ y. count_numbered (outs y (j.out A) acted.out_after) ≤ most' y)
             [ A ↦ (let c = j.counted A in omega (arith, c, up)) | B ↦ acted.counted ];
       }
 
@@ -134,8 +133,8 @@ pub record IsSettled (s s' : StationValue) : Type 0 where
   pub ident : s'.host.inner.ident ≡ s.host.inner.ident
   pub sound : IsSound s.host.inner → IsSound s'.host.inner
 
-pub settled_acts : (p q : Party) (first most : ℕ) (out others : List PacketValue) (s s' : StationValue) → IsSettled s s' → Sends p first s out →
-    Receives q others s → count_v4 out ≤ most → HasActed p q first most out others s s'
+pub settled_acts : (p q : Party) (first most : ℕ) (out others : List Outgoing) (s s' : StationValue) → IsSettled s s' → Sends p first s out →
+    Receives q others s → count_numbered out ≤ most → HasActed p q first most out others s s'
 settled_acts p q first most out others s s' is sends receives few =
     let sound : IsSound s'.host.inner = is.sound sends.sound in
     let sender : IsSender (MadeBy p) first s'.host.inner s.host.left s.link.sent out =
@@ -144,7 +143,7 @@ settled_acts p q first most out others s s' is sends receives few =
     receiver_same (MadeBy q) others s.host.inner s'.host.inner s.host.slots s.link.waiting (sound.checksums ∙ sym receives.checksums) is.hardware receives in
     record {
       out_after = out;
-      more = λ x among. among;
+      more = same_out _;
       medium = ap medium_on is.hardware;
       device = is.device;
       sends = subst (λ (l : Option LeftValue). IsSender (MadeBy p) first s'.host.inner l s'.link.sent out) (sym is.left)
@@ -219,9 +218,9 @@ call_settled s s' i call answer found is = place_settled s s' i (slice_get s.pla
 -- A POLL
 
 -- what holds of the host behind a poll, at whatever port
-pub polled_acts : (p q : Party) (first most n : ℕ) (out others : List PacketValue) (before : List (List ℕ)) (s s' : StationValue) (port : PortValue) →
+pub polled_acts : (p q : Party) (first most n : ℕ) (out others : List Outgoing) (before : List (List ℕ)) (s s' : StationValue) (port : PortValue) →
     port.link ≡ s'.link → medium_on s'.host.inner.hardware ≡ medium_on s.host.inner.hardware → s'.link.capabilities.medium ≡ s.link.capabilities.medium
-    → (l : IsLinked q others out first before n (at_port port s') p) → count_v4 l.out ≤ most → HasActed p q first most out others s s'
+    → (l : IsLinked q others out first before n (at_port port s') p) → count_numbered l.out ≤ most → HasActed p q first most out others s s'
 polled_acts p q first most n out others before s s' port end medium device l few = record {
   out_after = l.out;
   more = l.more;

@@ -6,7 +6,7 @@ use Rattle.lan_frames.specs.Medium.{Medium}
 use Rattle.lan_frames.specs.Medium.TheVariants as Medium
 use Rattle.interface_ingress.specs.HardwareAddress.{HardwareAddress}
 use Rattle.interface_ingress.specs.HardwareAddress.TheVariants as Hardware
-use Rattle.sockets.specs.Packet.{PacketValue, PayloadValue}
+use Rattle.sockets.specs.Packet.{PayloadValue}
 use Rattle.interface_tables.specs.Inner.{InnerValue}
 use Rattle.interface_tables.specs.Reassembly.{SlotValue, is_free}
 use Rattle.interface_tables.specs.declared.key.FragKey.{FragKey}
@@ -23,7 +23,7 @@ use Rattle.lan_hosts.specs.Runs.{Start, Starts, start, unused, unused_both}
 use Rattle.lan_hosts.specs.Station.{station}
 use Rattle.lan_theorem.specs.Moves.Joined.{first_net}
 use Rattle.lan_theorem.specs.Moves.Made.{MadeBy}
-use Rattle.lan_theorem.specs.Link.Frames.{medium_on}
+use Rattle.lan_theorem.specs.Link.Frames.{Outgoing, medium_on}
 use Rattle.lan_theorem.specs.Link.Held.{IsSlotOf, AreSlotsOf}
 use Rattle.lan_theorem.specs.Link.Sides.{HasSixBytes, IsStation, IsSound, IsLeft, AreSent}
 use Rattle.lan_theorem.specs.Joins.{Sends, Receives, AreJoined}
@@ -43,11 +43,11 @@ medium_by (Hardware.Ethernet own) Medium.Ip is = absurd cc
 mtu_by : (n : ℕ) → is_mtu n ≡ true → n ≤ 65535
 mtu_by n is = grind (arith, nat_tests)
 
-free_slot : (out : List PacketValue) (s : SlotValue FragKey) (key : Option FragKey) → s.key ≡ key → is_free s ≡ true → IsSlotOf out s
+free_slot : (out : List Outgoing) (s : SlotValue FragKey) (key : Option FragKey) → s.key ≡ key → is_free s ≡ true → IsSlotOf out s
 free_slot out s None is free = λ k some. absurd (let e : None ≡ Some k = sym is ∙ some in cc)
 free_slot out s (Some own) is free = absurd cc
 
-free_slots : (out : List PacketValue) (slots : Slots) → AllByRecursion (λ s. is_free s ≡ true) slots → AreSlotsOf out slots
+free_slots : (out : List Outgoing) (slots : Slots) → AllByRecursion (λ s. is_free s ≡ true) slots → AreSlotsOf out slots
 free_slots out [] free = tt
 free_slots out (s ∷ slots) free = (free_slot out s s.key refl free.0, free_slots out slots free.1)
 

@@ -35,11 +35,11 @@ use Rattle.lan_theorem.specs.Moves.Made as Moves
 use Rattle.lan_theorem.specs.Moves.Made.{Grows, MadeBy, IsMade, IsWide, FitsBehind, datagram_of}
 use Rattle.lan_theorem.specs.Link.Made as Links
 use Rattle.lan_theorem.specs.Link.Made.{sealed, CarriesNone, IsGoing}
-use Rattle.lan_theorem.specs.Link.Frames.{medium_on}
+use Rattle.lan_theorem.specs.Link.Frames.{Outgoing, medium_on}
 use Rattle.lan_theorem.specs.Link.Numbers.{IsTied}
 use Rattle.lan_theorem.proofs.Link.Begun.{tied_trans, tied_on}
 use Rattle.lan_theorem.specs.Link.Sides.{IsSender, IsReceiver, IsSound, HasSixBytes, IsStation, WentOut}
-use Rattle.lan_theorem.proofs.Link.Grown.{sent_grows}
+use Rattle.lan_theorem.proofs.Link.Grown.{sent_grows, more_out}
 use Rattle.lan_theorem.proofs.Link.Sends.{goes_keeps, unsent_keeps, piece_keeps, tells_keeps}
 use Rattle.lan_theorem.proofs.Link.Stations.{arrival_keeps_sender, sender_settled}
 use Rattle.lan_theorem.proofs.Link.Taken.{taken_was_made, taken_keeps, skipped_keeps, expired_receiver, receiver_same}
@@ -84,7 +84,7 @@ more_made p p' grows (Bytes bytes) made = tt
 more_made p p' grows (Datagram udp bytes) made = grows.datagrams (datagram_of udp bytes) made
 more_made p p' grows (Segment header bytes) made = grows.segments (made_of header bytes) made
 
-pub sender_grows : (p p' : Party) (first : ℕ) (i : InnerValue) (l : Option LeftValue) (sent : List (List ℕ)) (out : List PacketValue) → Grows p p' →
+pub sender_grows : (p p' : Party) (first : ℕ) (i : InnerValue) (l : Option LeftValue) (sent : List (List ℕ)) (out : List Outgoing) → Grows p p' →
     IsSender (MadeBy p) first i l sent out → IsSender (MadeBy p') first i l sent out
 sender_grows p p' first i l sent out grows s =
     record {
@@ -121,7 +121,7 @@ moment_sound t i s = record {
   checksums = s.checksums;
 }
 
-module _ (q : Party) (others base : List PacketValue) (first : ℕ) (before : List (List ℕ)) (n : ℕ) where
+module _ (q : Party) (others base : List Outgoing) (first : ℕ) (before : List (List ℕ)) (n : ℕ) where
   abbrev L : ℕ → State PortValue → Party → Type 0
   L m s p = IsLinked q others base first before m s p
 
@@ -215,7 +215,7 @@ module _ (q : Party) (others base : List PacketValue) (first : ℕ) (before : Li
       → WentOut (MadeBy p) first k l.out s.device.link.sent i left d.link.sent → L m (state d (record s.host { inner = i; left = left }) places) p
   went_so k m s p d i left places l room waits caps hardware went = record {
     out = went.out_after;
-    more = λ x among. went.grows x (l.more x among);
+    more = more_out _ _ _ l.more went.grows;
     sender = went.sender;
     receiver = subst (λ (w : List (List ℕ)). IsReceiver (MadeBy q) others i s.host.slots w) (sym waits)
         (receiver_same (MadeBy q) others s.host.inner i s.host.slots s.device.link.waiting caps hardware l.receiver);
@@ -286,7 +286,7 @@ module _ (q : Party) (others base : List PacketValue) (first : ℕ) (before : Li
       let went = tells_keeps (MadeBy p) first l.out a.inner s.host.left d0 l.sender packet gone d station between.1 departs in
       record {
         out = went.out_after;
-        more = λ x among. went.grows x (l.more x among);
+        more = more_out _ _ _ l.more went.grows;
         sender = went.sender;
         receiver = subst (λ (w : List (List ℕ)). IsReceiver (MadeBy q) others a.inner slots w) (sym waits) l.receiver;
         count = let c = went.count in let b = l.count in omega (arith, c, b);
@@ -295,12 +295,12 @@ module _ (q : Party) (others base : List PacketValue) (first : ℕ) (before : Li
 
 -- ALL OF IT
 
-more_linked : (q : Party) (others base : List PacketValue) (first : ℕ) (before : List (List ℕ)) (n m : ℕ) (s : State PortValue) (p : Party) → n ≤ m →
+more_linked : (q : Party) (others base : List Outgoing) (first : ℕ) (before : List (List ℕ)) (n m : ℕ) (s : State PortValue) (p : Party) → n ≤ m →
     IsLinked q others base first before n s p → IsLinked q others base first before m s p
 more_linked q others base first before n m s p up l =
     record { out = l.out; more = l.more; sender = l.sender; receiver = l.receiver; count = (let c = l.count in omega (arith, c, up)); tied = l.tied }
 
-pub is_link : (q : Party) (others base : List PacketValue) (first : ℕ) (before : List (List ℕ)) (start next : ℕ) → IsOther q start next others →
+pub is_link : (q : Party) (others base : List Outgoing) (first : ℕ) (before : List (List ℕ)) (start next : ℕ) → IsOther q start next others →
     IsLink PortMove q (λ n s p. IsLinked q others base first before n s p)
 is_link q others base first before start next other = record {
   more = more_linked q others base first before;

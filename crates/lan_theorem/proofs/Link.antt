@@ -3,7 +3,9 @@ pub mod Rebuilt
 pub mod Asked
 pub mod Whole6
 pub mod Behind
+pub mod Fragments
 pub mod Hands
+pub mod Pieces6
 pub mod Contents
 pub mod Noise
 pub mod Numbers

@@ -23,7 +23,7 @@ use Rattle.lan_theorem.specs.Moves.Made.{MadeBy}
 use Rattle.lan_theorem.proofs.Moves.Calls.{names}
 use Rattle.lan_theorem.proofs.Moves.PollEvents.{AtPorts, Polled, poll_comes}
 use Rattle.lan_theorem.specs.Link.Frames.{medium_on}
-use Rattle.lan_theorem.specs.Link.Numbers.{count_v4, AreFew, IsTied}
+use Rattle.lan_theorem.specs.Link.Numbers.{count_numbered, AreFew, IsTied}
 use Rattle.lan_frames.specs.Medium.{Medium}
 use Rattle.lan_hosts.specs.Origins.{medium_of}
 use Rattle.lan_theorem.specs.Link.Sides.{IsSender, IsReceiver}
@@ -32,6 +32,7 @@ use Rattle.lan_theorem.specs.Joins.{AreJoined}
 use Rattle.lan_theorem.specs.Linked.{IsLinked}
 use Rattle.lan_theorem.proofs.Acts.{joins_grow, acted_joins, polled_acts}
 use Rattle.lan_theorem.proofs.Keeps.{is_link}
+use Rattle.lan_theorem.proofs.Link.Grown.{same_out}
 
 module _ (firsts most : Side →
     ℕ) (old new : Stations) (net : Net) (past : List Entry) (e : Entry) (j : AreJoined firsts most old net) (of : IsNetOf net old past)
@@ -54,7 +55,7 @@ module _ (firsts most : Side →
 
   -- how many it had sent, and how many it may have sent behind the poll
   abbrev pub so_far : ℕ
-  so_far = count_v4 (j.out side)
+  so_far = count_numbered (j.out side)
 
   abbrev pub then_most : ℕ
   then_most = so_far + budget * (1 + sockets_in s.places)
@@ -67,7 +68,7 @@ module _ (firsts most : Side →
   linked : AtPorts (λ x. L so_far x mine) s
   linked port end = record {
     out = j.out side;
-    more = λ p among. among;
+    more = same_out _;
     sender = subst (λ (x : LinkEnd). IsSender (MadeBy mine) (firsts side) s.host.inner s.host.left x.sent (j.out side)) (sym end) (j.sends side);
     receiver = subst (λ (x : LinkEnd). IsReceiver (MadeBy theirs) (j.out (other side)) s.host.inner s.host.slots x.waiting) (sym end) (j.receives side);
     count = omega arith;
@@ -109,7 +110,7 @@ module _ (firsts most : Side →
         subst (λ (x : LinkEnd). IsTied (medium_of s) (j.out side) s.link.sent linked_after.out x.sent) polled.end
         (subst (λ (m : Medium). IsTied m (j.out side) s.link.sent linked_after.out polled.port.link.sent) medium linked_after.tied)
 
-    pub polled_joins : (most' : Side → ℕ) → most (other side) ≤ most' (other side) → count_v4 linked_after.out ≤ most' side → AreJoined firsts most' new next
+    pub polled_joins : (most' : Side → ℕ) → most (other side) ≤ most' (other side) → count_numbered linked_after.out ≤ most' side → AreJoined firsts most' new next
     polled_joins most' up few_after =
         acted_joins firsts most most' old new next grown side acts.rests up
         (polled_acts (party next side) (party next (other side)) (firsts side) (most' side) then_most (j.out side) (j.out (other side)) s.link.sent s s'

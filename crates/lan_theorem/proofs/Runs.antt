@@ -1,7 +1,6 @@
 -- Wherever a history of typed events led from two fresh hosts, they are joined, and so their sockets are safe.
 use Rattle.std.proofs.Common.{◌≡◌, ℕ, ◌+◌, ◌^◌, ◌<◌, ◌≤◌, List, [], ◌∷◌, ◌++◌, refl, sym, ◌∙◌, ap, subst, arith}
 use Rattle.std.specs.Prelude.{ℤ}
-use Rattle.sockets.specs.Packet.{PacketValue}
 use Rattle.lan_hosts.specs.History.{Entry}
 use Rattle.lan_hosts.specs.Kinds.{other, kind_of, Kind}
 use Rattle.lan_hosts.specs.Kinds.Act.{Calls, Sets, Opens, Asks, Polls}
@@ -27,7 +26,7 @@ use Rattle.lan_theorem.proofs.Moves.Calls.{names}
 use Rattle.lan_theorem.proofs.Moves.Fits.{worlds_fit}
 use Rattle.lan_theorem.proofs.Moves.Nets.{either_side}
 use Rattle.lan_theorem.proofs.Moves.Worlds.{rest_comes, first_of, came_safe}
-use Rattle.lan_theorem.specs.Link.Numbers.{count_v4, AreFew}
+use Rattle.lan_theorem.specs.Link.Numbers.{count_numbered, AreFew}
 use Rattle.lan_theorem.proofs.Link.Sufficient.{numbers_grow, polled_few}
 use Rattle.lan_theorem.specs.Events.{IsTyped, AreTyped}
 use Rattle.lan_theorem.specs.Joins.{AreJoined, IsPlain}
@@ -36,12 +35,13 @@ use Rattle.lan_theorem.proofs.Beginnings.{firsts, none_yet, first_joined}
 use Rattle.lan_theorem.proofs.Events.{plain_joins}
 use Rattle.lan_theorem.proofs.PolledJoins as Polled
 use Rattle.lan_theorem.proofs.Settings.{setting_joins}
+use Rattle.lan_theorem.specs.Link.Frames.{Outgoing}
 
--- how many IPv4 datagrams a host has numbered
+-- how many datagrams a host has numbered
 abbrev pub numbered_by : List Entry → Stations → Side → ℕ
 numbered_by history hosts side = numbered (medium_of (station hosts side)) side history (station hosts side).link.sent
 
--- J: the hosts are joined, and each sent fewer IPv4 packets than there are numbers, no more than it numbered
+-- J: the hosts are joined, and each sent fewer packets that have one than there are numbers, no more than it numbered
 pub record AreWell (starts : Starts) (history : List Entry) (hosts : Stations) (net : Net) : Type 0 where
   pub most : Side → ℕ
   pub joined : AreJoined (firsts starts) most hosts net
@@ -89,24 +89,24 @@ module _ (starts : Starts) (net : Net) (old new : Stations) (past : List Entry) 
     few_out = let a = w.joined.counted (other side) in let b = w.few (other side) in omega (arith, a, b)
 
     module _ (fit : OfEach IsFit (station old side).places) where
-      abbrev out_after : List PacketValue
+      abbrev out_after : List Outgoing
       out_after = (Polled.linked_after (firsts starts) w.most old new net past e w.joined of side t budget is few_out acts fit).out
 
       abbrev most' : Side → ℕ
-      most' = exchanged w.most side (count_v4 out_after)
+      most' = exchanged w.most side (count_numbered out_after)
 
       all_few : AreFew out_after → (x : Side) → most' x < 2 ^ 16
-      all_few few = either_side side (λ x. most' x < 2 ^ 16) (omega (arith, few, exchanged_here w.most side (count_v4 out_after)))
-          (let b = w.few (other side) in omega (arith, b, exchanged_there w.most side (count_v4 out_after)))
+      all_few few = either_side side (λ x. most' x < 2 ^ 16) (omega (arith, few, exchanged_here w.most side (count_numbered out_after)))
+          (let b = w.few (other side) in omega (arith, b, exchanged_there w.most side (count_numbered out_after)))
 
-      polled_numbered : count_v4 out_after ≤ numbered_by (e ∷ past) new side → (x : Side) → most' x ≤ numbered_by (e ∷ past) new x
-      polled_numbered up = either_side side (λ x. most' x ≤ numbered_by (e ∷ past) new x) (omega (arith, up, exchanged_here w.most side (count_v4 out_after)))
-          (let b = grows (other side) in omega (arith, b, exchanged_there w.most side (count_v4 out_after)))
+      polled_numbered : count_numbered out_after ≤ numbered_by (e ∷ past) new side → (x : Side) → most' x ≤ numbered_by (e ∷ past) new x
+      polled_numbered up = either_side side (λ x. most' x ≤ numbered_by (e ∷ past) new x) (omega (arith, up, exchanged_here w.most side (count_numbered out_after)))
+          (let b = grows (other side) in omega (arith, b, exchanged_there w.most side (count_numbered out_after)))
 
-      suffice : AreFew out_after × (count_v4 out_after ≤ numbered_by (e ∷ past) new side)
+      suffice : AreFew out_after × (count_numbered out_after ≤ numbered_by (e ∷ past) new side)
       suffice =
           let linked = Polled.linked_after (firsts starts) w.most old new net past e w.joined of side t budget is few_out acts fit in
-          let up : count_v4 (w.joined.out side) ≤ numbered_by past old side =
+          let up : count_numbered (w.joined.out side) ≤ numbered_by past old side =
           (let a = w.joined.counted side in let b = w.numbered side in omega (arith, a, b)) in
           polled_few past e old new side leads t budget is (w.joined.out side) out_after up linked.count
           (Polled.tied_after (firsts starts) w.most old new net past e w.joined of side t budget is few_out acts fit)
@@ -117,7 +117,7 @@ module _ (starts : Starts) (net : Net) (old new : Stations) (past : List Entry) 
         record {
           most = most';
           joined = Polled.polled_joins (firsts starts) w.most old new net past e w.joined of side t budget is few_out acts fit most'
-              (omega (arith, exchanged_there w.most side (count_v4 out_after))) (omega (arith, exchanged_here w.most side (count_v4 out_after)));
+              (omega (arith, exchanged_there w.most side (count_numbered out_after))) (omega (arith, exchanged_here w.most side (count_numbered out_after)));
           few = all_few suffice.0;
           numbered = polled_numbered suffice.1;
         },

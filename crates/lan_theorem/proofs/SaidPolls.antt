@@ -1,12 +1,11 @@
 -- What a host holds and takes says what is so, through a poll too.
-use Rattle.std.proofs.Common.{◌≡◌, ◌⊎◌, inl, inr, ℕ, ℤ, Bool, true, false, cond, List, [], ◌∷◌, ◌++◌, Option, Some, None, is_some, refl, sym, ◌∙◌, ap, subst}
+use Rattle.std.proofs.Common.{◌≡◌, inl, inr, ℕ, ℤ, Bool, true, false, cond, List, ◌∷◌, Option, Some, None, is_some, sym, ◌∙◌, ap, subst}
 use Rattle.std.specs.List.{AllByRecursion}
 use Rattle.lan_frames.specs.ChecksumCapabilities.{ChecksumCapabilities}
-use Rattle.lan_frames.specs.Device.{Took, Empty, Allowed}
+use Rattle.lan_frames.specs.Device.{Allowed}
 use Rattle.lan_frames.specs.Medium.{Medium}
-use Rattle.interface_ingress.specs.HardwareAddress.{HardwareAddress}
 use Rattle.interface_ingress.specs.IpAddress.{IpAddress}
-use Rattle.ip_address.specs.declared.ipv4.Ipv4FragKey.{Ipv4FragKey}
+use Rattle.interface_tables.specs.declared.key.FragKey.{FragKey}
 use Rattle.sockets.specs.Packet.{PacketValue}
 use Rattle.sockets.specs.Offer as Answer
 use Rattle.sockets.specs.Offer.TheVariants as Offer
@@ -20,19 +19,16 @@ use Rattle.interface_egress.specs.GoesOut.{GoesOut, frame_of, frame_len_of}
 use Rattle.interface_egress.specs.Plan.{plan_of}
 use Rattle.interface_egress.specs.declared.socket_meta.Meta.{Meta}
 use Rattle.interface_egress.specs.declared.socket_set.Item.{Item}
-use Rattle.interface_egress.specs.declared.socket_set.SocketStorage.{SocketStorage}
 use Rattle.interface_egress.specs.declared.way_out.Sent.{Sent}
 use Rattle.interface_egress.proofs.Changes.{changes, piece_sends}
 use Rattle.interface_ingress.specs.Arrives as Replies
 use Rattle.interface_ingress.specs.Arrives.{ReplyValue}
 use Rattle.interface_ingress.specs.Incoming.{IncomingValue, IsIncoming, IsContent}
 use Rattle.interface_ingress.specs.Reassembled.{is_taken_in, taken_in}
-use Rattle.interface.specs.Host.{HostValue, Sender}
+use Rattle.interface.specs.Host.{Sender}
 use Rattle.interface.specs.Ingress.{Takes, Replied, is_awaited, sender_of, sender_with}
 use Rattle.interface.proofs.Kept.{IsKept}
-use Rattle.interface.specs.State.{sending_as}
-use Rattle.interface.specs.Polls.{begun}
-use Rattle.interface.specs.State.{State, state, at_device}
+use Rattle.interface.specs.State.{State, at_device}
 use Rattle.interface.specs.Turn.{Leaves, SendsBy, Answers, TurnsIf, ItemTurns, is_waiting, let_through}
 use Rattle.interface.specs.WayOut.{PieceLeaves}
 use Rattle.interface.specs.declared.turn.Turned.{Turned}
@@ -105,7 +101,7 @@ replied_waits awaited (Some (Replies.Answers p)) x x' (inr goes) = goes_waits x.
 
 -- A HOST THAT TAKES WHAT IS SO
 
-module _ (S : Ipv4FragKey → Fact → Type 0) (medium : Medium) where
+module _ (S : FragKey → Fact → Type 0) (medium : Medium) where
   -- whatever it holds of pieces is so, and whatever waits for it says what is so
   pub record IsTaking (i : InnerValue) (slots : List Slot) (waiting : List (List ℕ)) : Type 0 where
     pub hardware : medium_on i.hardware ≡ medium
@@ -118,13 +114,13 @@ module _ (S : Ipv4FragKey → Fact → Type 0) (medium : Medium) where
 
   content_by : (i : InnerValue) (frame : List ℕ) (content : Option IncomingValue) → medium_on i.hardware ≡ medium → i.checksums ≡ sealed →
       TakenSo S medium frame → IsContent i.hardware i.checksums frame content → ContentSo S content
-  content_by i frame None same sealed_is taken is = tt
+  content_by i frame None same sealed_is taken is = λ p none. absurd cc
   content_by i frame (Some v) same sealed_is taken is =
       taken i.hardware v same (subst (λ (c : ChecksumCapabilities). IsIncoming i.hardware c frame v) sealed_is is)
 
   taken_by : (i : InnerValue) (content : Option IncomingValue) → ContentSo S content → ContentSo S (taken_in i content)
-  taken_by i None so = tt
-  taken_by i (Some v) so = elim (is_taken_in i v) as (λ b. ContentSo S (cond b (Some v) None)) [ true ↦ so | false ↦ tt ]
+  taken_by i None so = λ p none. absurd cc
+  taken_by i (Some v) so = elim (is_taken_in i v) as (λ b. ContentSo S (cond b (Some v) None)) [ true ↦ so | false ↦ λ p none. absurd cc ]
 
   -- the same host at a device where the same frames wait
   at_same : (s : State PortValue) (d : PortValue) → Waits d ≡ Waits s.device → P s → P (at_device s d)

@@ -1,18 +1,18 @@
 -- Wherever events led two hosts, what is held of pieces and what waits says what the other host's own frames say.
-use Rattle.std.proofs.Common.{◌≡◌, ◌⊎◌, inl, inr, ℕ, ◌^◌, ◌<◌, ◌≤◌, ◌%◌, ◌==◌, ◌||◌, not, if◌then◌else◌, Bool, true, false, List, [], ◌∷◌, ◌++◌, length, take}
-use Rattle.std.proofs.Common.{drop, Option, Some, None, refl, sym, ◌∙◌, ap, subst, append_assoc, append-nil, arith}
+use Rattle.std.proofs.Common.{◌≡◌, ℕ, ◌^◌, ◌<◌, ◌%◌, ◌==◌, ◌||◌, not, if◌then◌else◌, false, List, [], ◌∷◌, ◌++◌, length, take}
+use Rattle.std.proofs.Common.{drop, Option, Some, None, refl, sym, ◌∙◌, ap, subst}
 use Rattle.std.specs.Prelude.{ℤ, nat_lt}
 use Rattle.std.specs.List.{AllByRecursion}
 use Rattle.std.proofs.lemmas.List.{take_at, drop_at}
 use Rattle.lan_frames.specs.Medium.{Medium}
-use Rattle.ip_address.specs.declared.ipv4.Ipv4FragKey.{Ipv4FragKey}
+use Rattle.interface_tables.specs.declared.key.FragKey.{FragKey}
 use Rattle.interface.specs.Host.{HostValue}
 use Rattle.lan_frames.specs.Carried.{names_tcp_or_udp}
 use Rattle.lan_frames.specs.Cuts.{ipv4_part, first_piece, second_piece}
 use Rattle.lan_frames.specs.declared.part.Part.{Part}
 use Rattle.lan_hosts.specs.Call.{SocketCall}
 use Rattle.lan_hosts.specs.History.{Entry, Counts}
-use Rattle.lan_hosts.specs.Kinds.{other, Kind, Act, Origin, Delivered, Damaged, Noisy, Setting, kind_of}
+use Rattle.lan_hosts.specs.Kinds.{other, Kind, Origin, Delivered, Damaged, Noisy, Setting, kind_of}
 use Rattle.lan_hosts.specs.Kinds as Settings
 use Rattle.lan_hosts.specs.Kinds.Act.{Calls, Sets, Opens, Asks, Polls}
 use Rattle.lan_hosts.specs.Kinds.Kind.{OfHost, OfLink}
@@ -22,7 +22,7 @@ use Rattle.lan_hosts.specs.Answer.{Answer}
 use Rattle.lan_hosts.specs.Refused.TheVariants as For
 use Rattle.lan_hosts.specs.Side.{Side}
 use Rattle.lan_hosts.specs.Side.TheVariants.{A, B}
-use Rattle.lan_packets.specs.Parties.{Net, party}
+use Rattle.lan_packets.specs.Parties.{Net}
 use Rattle.lan_hosts.specs.Port.{added, arrived}
 use Rattle.lan_hosts.specs.Fresh.{IsFreshWorld}
 use Rattle.lan_hosts.specs.Origins.{medium_of, frame_sent, frame_of_origin, goes_to, sent_before, is_cut_of, own_frames}
@@ -37,8 +37,6 @@ use Rattle.lan_theorem.specs.Events.{HasWord, IsTyped, AreTyped}
 use Rattle.lan_theorem.specs.Hosts.Damage.{BringsNoSegment}
 use Rattle.lan_theorem.specs.Hosts.GoesOn.{GoesOn}
 use Rattle.lan_theorem.specs.Joins.{AreJoined}
-use Rattle.lan_theorem.specs.Moves.Made.{MadeBy}
-use Rattle.lan_theorem.specs.Link.Made.{sealed}
 use Rattle.lan_theorem.specs.Link.Frames.{medium_on}
 use Rattle.lan_theorem.specs.Link.Sides.{IsHostFrame}
 use Rattle.lan_theorem.specs.Said.{Fact, IsSaid}
@@ -67,7 +65,7 @@ module _ {X : Type 0} (Q : X → Type 0) where
 
 -- A HOST: S says what each host's own frames say
 
-module _ (m : Medium) (S : Side → Ipv4FragKey → Fact → Type 0) where
+module _ (m : Medium) (S : Side → FragKey → Fact → Type 0) where
   -- its sent frames say what its own say; what it holds and what waits for it says what the other's say
   pub record IsSaying (side : Side) (s : StationValue) : Type 0 where
     pub sent : AllByRecursion (FrameSo (S side) m) s.link.sent
@@ -187,7 +185,7 @@ module _ (m : Medium) (S : Side → Ipv4FragKey → Fact → Type 0) where
 
   module _ (firsts most : Side → ℕ) (hosts : Stations) (net : Net) (j : AreJoined firsts most hosts net) (on_m : (side : Side) →
       medium_of (station hosts side) ≡ m) where
-    damage_so : (from : Side) (T : Ipv4FragKey → Fact → Type 0) (k place word : ℕ) (padding : List ℕ) → word < 2 ^ 16 →
+    damage_so : (from : Side) (T : FragKey → Fact → Type 0) (k place word : ℕ) (padding : List ℕ) → word < 2 ^ 16 →
         first_refusal (link_tests hosts (Hands (Damaged from k place word padding))) ≡ None
         → TakenSo T m (frame_of_origin hosts (Damaged from k place word padding))
     damage_so from T k place word padding small allowed =
@@ -237,7 +235,7 @@ module _ (m : Medium) (S : Side → Ipv4FragKey → Fact → Type 0) where
 
 -- UP
 
-saying_up : (m : Medium) (S T : Side → Ipv4FragKey → Fact → Type 0) → ((side : Side) (key : Ipv4FragKey) (fact : Fact) → S side key fact → T side key fact) →
+saying_up : (m : Medium) (S T : Side → FragKey → Fact → Type 0) → ((side : Side) (key : FragKey) (fact : Fact) → S side key fact → T side key fact) →
     (hosts : Stations) → AreSaying m S hosts → AreSaying m T hosts
 saying_up m S T up hosts says side = record {
   sent = frames_up (S side) (T side) (up side) m (station hosts side).link.sent (says side).sent;
@@ -246,7 +244,7 @@ saying_up m S T up hosts says side = record {
 }
 
 -- what a host's own frames say
-abbrev pub said : Medium → List Entry → Stations → Side → Ipv4FragKey → Fact → Type 0
+abbrev pub said : Medium → List Entry → Stations → Side → FragKey → Fact → Type 0
 said m history hosts side = IsSaid m (own_frames side history (station hosts side).link.sent)
 
 sent_count : (hosts : Stations) (side : Side) → sent_before (counts_of hosts) side ≡ length (station hosts side).link.sent
@@ -275,7 +273,7 @@ module _ (m : Medium) (firsts most most' : Side → ℕ) (net net' : Net) (past 
   counted : (side : Side) → length (station old side).link.sent ≡ sent_before e.before side
   counted side = sym (ap (λ (c : Counts). sent_before c side) leads.counted ∙ sent_count old side)
 
-  abbrev S : Side → Ipv4FragKey → Fact → Type 0
+  abbrev S : Side → FragKey → Fact → Type 0
   S = said m (e ∷ past) new
 
   own_more : (side : Side) → own_frames side (e ∷ past) (station new side).link.sent ≡ own_frames side past (station old side).link.sent ++
@@ -290,7 +288,7 @@ module _ (m : Medium) (firsts most most' : Side → ℕ) (net net' : Net) (past 
       ∙ ap (λ (xs : List (List ℕ)). own_frames side past s ++ (if is_cut_of side (kind_of e.event) then [] else xs))
       (drop_at s (more side) (sent_before e.before side) (counted side))
 
-  up : (side : Side) (key : Ipv4FragKey) (fact : Fact) → said m past old side key fact → S side key fact
+  up : (side : Side) (key : FragKey) (fact : Fact) → said m past old side key fact → S side key fact
   up side key fact s =
       subst (λ (xs : List (List ℕ)). IsSaid m xs key fact) (sym (own_more side))
       (more_said m (own_frames side past (station old side).link.sent) (if is_cut_of side (kind_of e.event) then [] else more side) key fact s)
@@ -318,7 +316,7 @@ module _ (m : Medium) (firsts most most' : Side → ℕ) (net net' : Net) (past 
 
       fresh : AllByRecursion (FrameSo (S side) m) (more side)
       fresh = subst (λ (xs : List (List ℕ)). AllByRecursion (FrameSo (IsSaid m xs) m) (more side)) (sym own)
-          (own_so (MadeBy (party net' side)) (j'.out side) (j'.sends side).are_sent.packets m (own_frames side past s.link.sent) (more side)
+          (own_so (j'.out side) m (own_frames side past s.link.sent) (more side)
           (all_behind (IsHostFrame m (j'.out side)) s.link.sent (more side) all))
 
       sent : AllByRecursion (FrameSo (S side) m) s'.link.sent

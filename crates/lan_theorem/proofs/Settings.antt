@@ -9,7 +9,6 @@ use Rattle.interface_ingress.specs.Address.{IsIpAddress}
 use Rattle.interface_ingress.specs.IpAddress.{IpAddress}
 use Rattle.interface_ingress.specs.IpAddress.TheVariants as Address
 use Rattle.ip_address.specs.declared.ip.IpCidr.{IpCidr}
-use Rattle.sockets.specs.Packet.{PacketValue}
 use Rattle.interface_tables.specs.Inner.{InnerValue}
 use Rattle.interface_tables.specs.Neighbor.{flushed}
 use Rattle.interface_tables.specs.Route.{is_gateway_v4, is_gateway_v6, IsGateway, IsAdded}
@@ -27,13 +26,14 @@ use Rattle.lan_packets.specs.Parties.{Party, Net, party}
 use Rattle.lan_hosts.specs.Sets.{SetsTo, Configures, RoutedIf, has_route_room}
 use Rattle.lan_hosts.specs.Station.{StationValue, Stations, station}
 use Rattle.lan_theorem.specs.Moves.Made.{MadeBy}
-use Rattle.lan_theorem.specs.Link.Frames.{medium_on, BringsFrom}
-use Rattle.lan_theorem.specs.Link.Numbers.{count_v4}
+use Rattle.lan_theorem.specs.Link.Frames.{Outgoing, medium_on, BringsFrom}
+use Rattle.lan_theorem.specs.Link.Numbers.{count_numbered}
 use Rattle.lan_theorem.proofs.Link.Routers.{added_routers}
 use Rattle.lan_theorem.specs.Link.Sides.{RoutersAre, IsSound, IsSameKind, IsLeft, IsHostFrame}
 use Rattle.lan_theorem.specs.Events.{HasRange}
 use Rattle.lan_theorem.specs.Joins.{Sends, Receives, AreJoined}
 use Rattle.lan_theorem.proofs.Acts.{IsSettled, HasActed, settled_acts, acted_joins}
+use Rattle.lan_theorem.proofs.Link.Grown.{same_out}
 
 -- SETTINGS THAT LEAVE THE HARDWARE ADDRESS
 
@@ -122,13 +122,13 @@ same_kind : (own address : EthernetAddress) (to : HardwareAddress) → IsSameKin
 same_kind own address (Hardware.Ethernet to) is = tt
 same_kind own address Hardware.Ip is = absurd is
 
-left_kind : (own address : EthernetAddress) (out : List PacketValue) (l : Option LeftValue) → IfSome l (IsLeft (Hardware.Ethernet own) out) →
+left_kind : (own address : EthernetAddress) (out : List Outgoing) (l : Option LeftValue) → IfSome l (IsLeft (Hardware.Ethernet own) out) →
     IfSome l (IsLeft (Hardware.Ethernet address) out)
 left_kind own address out None is = tt
 left_kind own address out (Some l) is = record { sent = is.sent; half = is.half; to = same_kind own address l.to is.to }
 
-module _ (p q : Party) (first most : ℕ) (out others : List PacketValue) (s : StationValue) (sends : Sends p first s out) (receives : Receives q others s)
-    (few : count_v4 out ≤ most) where
+module _ (p q : Party) (first most : ℕ) (out others : List Outgoing) (s : StationValue) (sends : Sends p first s out) (receives : Receives q others s)
+    (few : count_numbered out ≤ most) where
   abbrev with_station_address : EthernetAddress → StationValue
   with_station_address address = record s { host = with_inner s.host (record s.host.inner { hardware = Hardware.Ethernet address }) }
 
@@ -136,7 +136,7 @@ module _ (p q : Party) (first most : ℕ) (out others : List PacketValue) (s : S
       HasActed p q first most out others s (with_station_address address)
   address_acts own address is six = record {
     out_after = out;
-    more = λ x among. among;
+    more = same_out _;
     medium = ap medium_on (sym is);
     device = refl;
     sends = record {

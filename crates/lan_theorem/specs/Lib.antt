@@ -18,6 +18,7 @@ pub use Rattle.interface_egress.specs.declared.socket_set.SocketStorage
 pub use Rattle.tcp_tie.specs.Endpoints
 pub use Rattle.tcp_tie.specs.Promises
 pub use Rattle.ip_address.specs.declared.ipv4.Ipv4FragKey
+pub use Rattle.interface_tables.specs.declared.key.FragKey
 pub use Rattle.interface_egress.specs.Ipv4
 pub use Rattle.interface_egress.specs.Ipv4Repr
 pub use Rattle.interface_egress.specs.declared.frame.Question

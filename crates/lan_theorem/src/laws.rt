@@ -28,12 +28,13 @@ ghost use Rattle.lan_theorem.specs.Rebuilt.{RebuiltWasMade};
 ghost use Rattle.lan_theorem.specs.Said.{RebuiltWasSent, by_side};
 ghost use Rattle.lan_theorem.specs.Hosts.HostRuns.{IsHostRun};
 ghost use Rattle.lan_theorem.specs.Hosts.Wire.{FramesAreApart};
+ghost use Rattle.lan_theorem.specs.Link.Frames.{Outgoing};
 
 /// Law: while a host polls at its port, each thing that the poll does keeps what is said of its frames and of those that wait, and each
-/// frame that it takes brings only what the other host made, of which fewer than 65,536 are IPv4 packets. A packet's way out counts one
+/// frame that it takes brings only what the other host made, of which fewer than 65,536 are packets that have a number. A packet's way out counts one
 /// more at most, and each that is counted has its first frame.
 pub fn polls_take_what_was_made()
-    ensures { (q : Party) (others base : List PacketValue) (before : List (List ℕ)) (first start next : ℕ)
+    ensures { (q : Party) (others base : List Outgoing) (before : List (List ℕ)) (first start next : ℕ)
         → IsOther q start next others
         → IsLink PortMove q (λ n s p. IsLinked q others base first before n s p) }
 {}

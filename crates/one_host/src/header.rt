@@ -115,7 +115,7 @@ impl Header {
             sockets,
             wire,
         };
-        Box::new(alloc, host).ok()
+        boxed(alloc, host)
     }
 
     fn interface(&self, alloc: Global, wire: &Wire, words: &mut Words<'_>) -> Option<Interface> {
@@ -132,6 +132,11 @@ impl Header {
             }
         }
     }
+}
+
+// A value on the heap. (Of a value of any type the proof is short.)
+fn boxed<T: Drop>(alloc: Global, value: T) -> Option<Box<T>> {
+    Box::new(alloc, value).ok()
 }
 
 // Gives the host its sockets and addresses.

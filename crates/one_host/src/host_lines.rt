@@ -9,9 +9,10 @@ use net_base::{Duration, Instant};
 use std::alloc::Global;
 
 /// The lines that set something of a host.
-pub const VERBS: [&str; 12] = [
+pub const VERBS: [&str; 13] = [
     "addrs",
     "hw",
+    "announce",
     "any_ip",
     "reassembly",
     "slots",
@@ -27,6 +28,9 @@ pub const VERBS: [&str; 12] = [
 /// Plays one of these lines.
 pub fn play(alloc: Global, host: &mut Host, verb: &str, words: &mut Words<'_>) -> Answer {
     words.host();
+    if verb == "announce" {
+        return announce(host, words);
+    }
     let interface = &mut host.interface;
     match verb {
         "addrs" => return set_addresses(interface, words),
@@ -65,8 +69,31 @@ fn set_addresses(interface: &mut Interface, words: &mut Words<'_>) -> Answer {
 fn set_hardware(interface: &mut Interface, address: HardwareAddress) -> Answer {
     match interface.set_hardware_addr(address) {
         Ok(()) => Answer::Done,
-        Err(HardwareAddrError::Medium) => Answer::Error("Medium"),
-        Err(HardwareAddrError::NotUnicast) => Answer::Error("NotUnicast"),
+        Err(error) => Answer::Error(hardware_error_name(error)),
+    }
+}
+
+/// Sets the hardware address, and tells the neighbours of it.
+fn announce(host: &mut Host, words: &mut Words<'_>) -> Answer {
+    let now = Instant::from_micros(words.micros());
+    let address = hardware(words);
+    words.end();
+    if !words.is_taken() {
+        return Answer::Done;
+    }
+    match host
+        .interface
+        .update_hardware_addr(now, &mut host.wire, address)
+    {
+        Ok(told) => Answer::Number("told", told as u64),
+        Err(error) => Answer::Error(hardware_error_name(error)),
+    }
+}
+
+fn hardware_error_name(error: HardwareAddrError) -> &'static str {
+    match error {
+        HardwareAddrError::Medium => "Medium",
+        HardwareAddrError::NotUnicast => "NotUnicast",
     }
 }
 
@@ -82,11 +109,7 @@ fn set_reassembly_timeout(interface: &mut Interface, words: &mut Words<'_>) {
     }
 }
 
-fn set_reassembly_slots(
-    alloc: Global,
-    interface: &mut Interface,
-    words: &mut Words<'_>,
-) -> Answer {
+fn set_reassembly_slots(alloc: Global, interface: &mut Interface, words: &mut Words<'_>) -> Answer {
     let count = words.size();
     words.end();
     if words.is_taken() && interface.set_reassembly_slots(alloc, count).is_err() {

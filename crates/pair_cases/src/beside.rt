@@ -44,10 +44,8 @@ pub struct Beside {
 
 impl Beside {
     pub fn new(alloc: Global, side: Side, sizes: (usize, usize)) -> Option<Beside> {
-        Some(Beside {
-            socket: socket(alloc, sizes)?,
-            context: PairContext::new(side),
-        })
+        let context = PairContext::new(side);
+        socket(alloc, sizes).map(|socket| Beside { socket, context })
     }
 
     /// When a socket of this side wants to be polled.

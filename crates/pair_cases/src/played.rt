@@ -17,17 +17,16 @@ pub struct Played {
 }
 
 impl Played {
-    /// Closed sockets with such buffers, if there is memory for them and they aren't too long.
+    /// Closed sockets with such buffers, if there is memory for them and they aren't too long. (Each early end past a socket would let it
+    /// go, which makes a long proof.)
     pub fn new(alloc: Global, sizes: &Sizes) -> Option<Box<Played>> {
-        let a = socket(alloc, sizes.a)?;
-        let b = socket(alloc, sizes.b)?;
-        let played = Played {
-            pair: Pair::new(alloc, a, b),
-            a: Beside::new(alloc, Side::A, sizes.a)?,
-            b: Beside::new(alloc, Side::B, sizes.b)?,
-            users: Users::new(),
-        };
-        Box::new(alloc, played).ok()
+        let pair = pair(alloc, sizes);
+        let a = Beside::new(alloc, Side::A, sizes.a);
+        let b = Beside::new(alloc, Side::B, sizes.b);
+        pair.zip(a.zip(b)).and_then(|(pair, (a, b))| {
+            let users = Users::new();
+            boxed(alloc, Played { pair, a, b, users })
+        })
     }
 
     /// Does what a line says: what is written of it.
@@ -101,6 +100,17 @@ impl Played {
             },
         }
     }
+}
+
+fn pair(alloc: Global, sizes: &Sizes) -> Option<Pair> {
+    let a = socket(alloc, sizes.a)?;
+    let b = socket(alloc, sizes.b)?;
+    Some(Pair::new(alloc, a, b))
+}
+
+/// A value on the heap.
+fn boxed<T: Drop>(alloc: Global, value: T) -> Option<Box<T>> {
+    Box::new(alloc, value).ok()
 }
 
 fn side_of(todo: &Todo) -> Side {

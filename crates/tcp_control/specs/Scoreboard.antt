@@ -89,6 +89,10 @@ held_below runs place = fold (λ (count : ℕ) (r : Run). sum_of (min r.end plac
 abbrev pub held : List Run → ℕ
 held runs = held_below runs 4_294_967_295
 
+-- how many from this one on are
+abbrev pub held_from : List Run → ℕ → ℕ
+held_from runs place = held runs - held_below runs place
+
 -- how many aren't
 abbrev pub missing : List Run → ℕ → ℕ
 missing runs place = place - held_below runs place

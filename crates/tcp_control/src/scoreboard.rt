@@ -1,7 +1,7 @@
 //! What the remote holds of what was sent past SND.UNA, as its selective acknowledgements say (RFC 2018): the scoreboard of RFC 6675.
 ghost use Rattle.std.specs.Prelude.{◌≡◌};
 ghost use Rattle.tcp_control.specs.Scoreboard.{is_run, lies_in, meets, hull, lowered, hull_of, apart, without, free_place, placed};
-ghost use Rattle.tcp_control.specs.Scoreboard.{noted, reneges, after_ack, is_empty, held, held_below, missing};
+ghost use Rattle.tcp_control.specs.Scoreboard.{noted, reneges, after_ack, is_empty, held, held_from, held_below, missing};
 ghost use Rattle.tcp_control.specs.Scoreboard.{first_missing, gap_end, runs_above, octets_above, is_lost, lost_end, no_runs, no_run};
 
 /// Positions behind one another, as distances from SND.UNA: the first, and the one behind the last. Where
@@ -175,6 +175,13 @@ impl Scoreboard {
                 .saturating_sub(run.start.min(place))
                 .saturating_add(count)
         })
+    }
+
+    /// How many positions from this one on are held.
+    pub fn held_from(&self, place: u32) -> u32
+        ensures { result ≡ held_from self.now.runs place }
+    {
+        self.held().saturating_sub(self.held_below(place))
     }
 
     /// How many positions below this one aren't held.

@@ -12,7 +12,7 @@ use Rattle.tcp_model.specs.declared.block.Undo.{Undo}
 abbrev pub undone_by : Undo → Block → ℕ → Block
 undone_by u b queued = record b {
   sender = record b.sender { in_flight = max b.sender.in_flight (min b.sender.top (one_if b.sender.syn_unacked + queued)); resend = false; recover = 0 };
-  loss = record b.loss { resent = 0 };
+  loss = record b.loss { resent = 0; credit = 0 };
   reno = reno.restored b.reno u.reno;
 }
 
@@ -42,7 +42,7 @@ undone_cases b header by queued now P stays restored = at (is_needless b header 
   with_undo : Option Undo → Block
   with_undo o = record b {
     sender = record b.sender { in_flight = max b.sender.in_flight (min b.sender.top (one_if b.sender.syn_unacked + queued)); resend = false; recover = 0 };
-    loss = record b.loss { resent = 0 };
+    loss = record b.loss { resent = 0; credit = 0 };
     reno = prior_of o b.reno;
   }
 

@@ -19,7 +19,7 @@ use Rattle.tcp_control.specs.Reno.{RenoValue}
 use Rattle.tcp_control.specs.RoundTrip as round_trip
 use Rattle.tcp_control.specs.RoundTrip.{RoundTripValue, srtt}
 use Rattle.tcp_control.specs.States.{is_closed, is_time_wait, owes_fin, after_ack, after_ack_of_fin}
-use Rattle.tcp_model.specs.LossRecovery.{loss_acked, ranges_noted, is_first_lost, is_lost_again, is_lost_at}
+use Rattle.tcp_model.specs.LossRecovery.{loss_acked, ranges_noted, is_first_lost, is_lost_again, is_lost_at, is_passed}
 use Rattle.tcp_model.specs.Timestamps.{stamp_taken}
 use Rattle.tcp_model.specs.Undo.{undo_begun}
 use Rattle.tcp_model.specs.Value.{TcpValue, queued_in}
@@ -72,11 +72,11 @@ acks_in_recovery b by = b.reno.recovers && not (by == 0)
 abbrev pub is_partial : Block → ℕ → Bool
 is_partial b by = acks_in_recovery b by && nat_lt (by + 1) b.sender.recover
 
--- It is a blind one where no range says that the segment which then stands at SND.UNA is lost: without selective acknowledgements, and
--- where more was lost than the remote can hold runs of. So a loss of many segments is mended by one segment a round trip only until the
--- timer runs out.
+-- It is a blind one where nothing says how much else is lost: without selective acknowledgements. With them ranges say that the segment
+-- which then stands at SND.UNA is lost, or what went again is acknowledged, so that more goes again for each. So a loss of many segments is
+-- mended by one segment a round trip only until the timer runs out.
 abbrev pub is_blind : Block → ℕ → Bool
-is_blind b by = is_partial b by && not (b.peer.sack && is_lost_at b by)
+is_blind b by = is_partial b by && not (b.peer.sack && (not (b.loss.resent == 0) || is_lost_at b by))
 
 -- what a partial acknowledgement makes of so many bytes: with selective acknowledgements the window stays (RFC 6675, 5)
 abbrev pub partly_after : Block → ℕ → ℕ → RenoValue
@@ -217,10 +217,15 @@ duplicates_after old header size by = if is_duplicate old header size by then mi
 abbrev pub is_third : Block → ℕ → Bool
 is_third b count = (count == 3) && not b.reno.recovers
 
+-- What went again after the timer ran out is lost: what was first sent after it is held (RFC 8985, 6.2).
+abbrev pub is_lost_since : Block → Bool
+is_lost_since b = not (b.sender.recover == 0) && (b.peer.sack && (not b.reno.recovers && is_passed b b.sender.recover))
+
 -- It begins fast recovery, and so do ranges that say so much (RFC 6675, 5), where more than `recover` is acknowledged (RFC 6582, 3.2,
--- step 2). Else the timer ran out, and a duplicate may answer a segment that went again without need: it says nothing of the window.
+-- step 2). Else the timer ran out, and a duplicate may answer a segment that went again without need: it says nothing of the window, unless
+-- ranges say that a segment which went since then is lost.
 abbrev pub begins_recovery : Block → ℕ → Bool
-begins_recovery b count = (b.sender.recover == 0) && ((count == 3) || is_first_lost b)
+begins_recovery b count = ((b.sender.recover == 0) && ((count == 3) || is_first_lost b)) || is_lost_since b
 
 -- Where recovery begins a segment was lost, and the loss of what went again is one more (RFC 5681, 4.3); each other one in recovery says
 -- that a segment has left, but where ranges tell so the window doesn't grow.

@@ -95,6 +95,7 @@ abbrev pub fresh_loss : Loss
 fresh_loss = record {
   board = record { runs = no_runs };
   resent = 0;
+  credit = 0;
   mark = 0;
   eager = false;
   probes = false;

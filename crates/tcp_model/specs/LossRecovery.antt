@@ -1,5 +1,5 @@
 -- Loss recovery by selective acknowledgements (RFC 6675), and loss probes (RFC 8985, 7). Places are distances from SND.UNA.
-use Rattle.std.specs.Prelude.{ℕ, ◌+◌, ◌-◌, ◌==◌, nat_le, nat_lt, not, ◌&&◌, ◌||◌, min, max}
+use Rattle.std.specs.Prelude.{ℕ, ◌+◌, ◌-◌, ◌*◌, ◌/◌, ◌==◌, nat_le, nat_lt, not, ◌&&◌, ◌||◌, min, max}
 use Rattle.std.specs.Prelude.{ℤ, Bool, true, false, if◌then◌else◌, List, [], ◌∷◌, Option, Some, None}
 use Rattle.ip_wire.specs.SeqNumber.{SeqNumber}
 use Rattle.ip_wire.specs.TcpHeader.{TcpHeader}
@@ -7,7 +7,7 @@ use Rattle.tcp_control.specs.Moments.{later, is_due}
 use Rattle.tcp_control.specs.Offsets.{past_by}
 use Rattle.tcp_control.specs.Reno as reno
 use Rattle.tcp_control.specs.RoundTrip.{probe_wait}
-use Rattle.tcp_control.specs.Scoreboard.{is_run, no_run, noted, after_ack, held, missing, first_missing, gap_end, is_lost, lost_end, sum_of}
+use Rattle.tcp_control.specs.Scoreboard.{is_run, no_run, noted, after_ack, held, missing, first_missing, gap_end, held_from, is_lost, lost_end, sum_of}
 use Rattle.tcp_control.specs.States.{sends_text}
 use Rattle.tcp_control.specs.declared.scoreboard.Run.{Run}
 use Rattle.tcp_model.specs.Blocks.{fresh_loss, past_top}
@@ -84,9 +84,14 @@ is_lost_at b place = is_lost b.loss.board.runs (threshold b) b.reno.mss place
 abbrev pub is_first_lost : Block → Bool
 is_first_lost b = b.peer.sack && is_lost_at b 0
 
--- what went again is lost once more: what was first sent after it is held
+-- what was first sent from this position on is held, so much of it that what went before and isn't held is lost (RFC 8985, 6.2, with as
+-- many segments of what was sent later in place of a time)
+abbrev pub is_passed : Block → ℕ → Bool
+is_passed b place = nat_lt ((threshold b - 1) * b.reno.mss) (held_from b.loss.board.runs place)
+
+-- what went again is lost once more
 abbrev pub is_lost_again : Block → Bool
-is_lost_again b = b.peer.sack && (b.reno.recovers && (not (b.loss.resent == 0) && is_lost_at b b.loss.mark))
+is_lost_again b = b.peer.sack && (b.reno.recovers && (not (b.loss.resent == 0) && is_passed b b.loss.mark))
 
 -- WHAT MAY GO
 
@@ -108,11 +113,27 @@ pipe b =
 abbrev pub next_hole : Block → ℕ
 next_hole b = first_missing b.loss.board.runs b.loss.resent
 
--- it is lost, and the window lets a segment go there (RFC 6675, 5, step C)
+-- it is lost, and the window has room for a segment beside Pipe (RFC 6675, 5, step C)
+abbrev pub mends_lost : Block → Bool
+mends_lost b = is_lost_at b (next_hole b) && nat_le (pipe b + b.reno.mss) b.reno.cwnd
+
+-- What was sent when the recovery began, and isn't held though a segment that went again later is acknowledged, is lost (RFC 8985, 6.2). For
+-- each such acknowledgement two segments of it go, as in slow start (RFC 6937, 3), while the window has room beside what went again; the
+-- second of them takes no more than half of the window.
+abbrev pub credited_window : Block → ℕ
+credited_window b = if b.loss.credit == 1 then b.reno.cwnd / 2 else b.reno.cwnd
+
+abbrev pub mends_credited : Block → Bool
+mends_credited b =
+    not (b.loss.credit == 0)
+    && (nat_lt (next_hole b + 1) b.sender.recover
+    && nat_le (missing b.loss.board.runs (min b.loss.resent b.sender.in_flight) + b.reno.mss) (credited_window b))
+
+-- by either of the two a segment goes there
 abbrev pub fills_hole : Block → Bool
 fills_hole b =
     b.peer.sack && (b.reno.recovers && (not b.sender.syn_unacked
-    && (nat_lt (next_hole b) b.sender.in_flight && (is_lost_at b (next_hole b) && nat_le (pipe b + b.reno.mss) b.reno.cwnd))))
+    && (nat_lt (next_hole b) b.sender.in_flight && (mends_lost b || mends_credited b))))
 
 -- From which place of the send queue something goes again, where a segment takes so much and so much was sent: the segment at SND.UNA, the
 -- last one as a probe, or the next hole.
@@ -133,6 +154,7 @@ abbrev pub loss_lowered : Loss → ℕ → Bool → Loss
 loss_lowered l by partial = record l {
   board = record { runs = after_ack l.board.runs by };
   resent = l.resent - by;
+  credit = if partial && not (l.resent == 0) then 2 else 0;
   mark = l.mark - by;
   eager = l.eager && partial;
   probes = false;
@@ -148,6 +170,7 @@ loss_acked b by partial now = if by == 0 then b.loss else probe_armed b (loss_lo
 abbrev pub loss_resent : Block → ℕ → Loss
 loss_resent b end = record b.loss {
   resent = if b.reno.recovers && (b.sender.resend || not b.loss.probes) then max b.loss.resent end else b.loss.resent;
+  credit = b.loss.credit - 1;
   mark = b.sender.top;
   probes = false;
 }

@@ -1,15 +1,23 @@
 -- A loss that wasn't one is undone (RFC 3522 and 4015; RFC 8985, 6.2, step 2): the congestion window is kept as it was before, until the
 -- first acknowledgement of something new.
-use Rattle.std.specs.Prelude.{◌*◌, ◌||◌, ℤ, if◌then◌else◌, Option, Some, None, is_some}
+use Rattle.std.specs.Prelude.{◌*◌, ◌==◌, ◌||◌, ℤ, if◌then◌else◌, Option, Some, None, is_some}
 use Rattle.tcp_control.specs.Moments.{later}
 use Rattle.tcp_control.specs.RoundTrip.{shortest}
 use Rattle.tcp_model.specs.Timestamps.{value_by}
 use Rattle.tcp_model.specs.declared.block.Block.{Block}
 use Rattle.tcp_model.specs.declared.block.Undo.{Undo}
 
--- recovery begins, or the timer runs out: the window is kept, unless a loss is being mended already
+-- the window as it is
+abbrev pub window_kept : Block → Option Undo
+window_kept b = Some (record { reno = b.reno; until = None; stamp = 0 })
+
+-- Recovery begins, or the timer runs out: the window is kept, unless a loss is being mended already. Where something that went again before
+-- is still on its way it isn't, since what comes next may answer that.
 abbrev pub undo_begun : Block → Option Undo
-undo_begun b = if b.reno.recovers || b.reno.timed_out then b.loss.undo else Some (record { reno = b.reno; until = None; stamp = 0 })
+undo_begun b =
+    if b.reno.recovers || b.reno.timed_out then b.loss.undo
+    else if b.loss.resent == 0 then window_kept b
+    else None
 
 -- what goes again: no answer to it comes sooner than the shortest round trip, and it has this timestamp (RetransmitTS of RFC 3522, 3.2)
 abbrev pub undo_marked : Block → Undo → ℤ → Undo

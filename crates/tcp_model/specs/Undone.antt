@@ -43,7 +43,7 @@ undone_if needless b queued = record b {
     resend = not needless && b.sender.resend;
     recover = if needless then 0 else b.sender.recover;
   };
-  loss = record b.loss { resent = if needless then 0 else b.loss.resent };
+  loss = record b.loss { resent = if needless then 0 else b.loss.resent; credit = if needless then 0 else b.loss.credit };
   reno = if needless then prior_of b.loss.undo b.reno else b.reno;
 }
 

@@ -132,6 +132,8 @@ pub struct Loss {
     pub board: Scoreboard,
     /// HighRxt: where what went again in this recovery ends, but for what is held.
     pub resent: u32,
+    /// How many segments more go into holes for the last partial acknowledgement (RFC 6937, 3).
+    pub credit: u8,
     /// The highest position that was sent, and one more, when something last went again.
     pub mark: u32,
     /// Whether one run that is held says that what lies before it is lost: a probe went after what isn't

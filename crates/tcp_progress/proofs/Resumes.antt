@@ -27,7 +27,7 @@ use Rattle.tcp_rules.specs.States.{is_answering, is_closed, owes_fin, sends_syn,
 use Rattle.tcp_rules.specs.Timing.{carries}
 use Rattle.tcp_pair_model.specs.Block.{Block}
 use Rattle.tcp_pair_model.specs.Blocks.{one_if, unacked}
-use Rattle.tcp_pair_model.specs.LossRecovery.{fills_hole, hole_len, is_lost_at, loss_probe_moment, loss_probed, loss_probed_by, next_hole, pipe}
+use Rattle.tcp_pair_model.specs.LossRecovery.{fills_hole, hole_len, loss_probe_moment, loss_probed, loss_probed_by, mends_credited, mends_lost, next_hole, pipe}
 use Rattle.tcp_pair_model.specs.Offers.{backed_off, first_rules, last_rules, number_at, offer_choice, offer_of, offer_reset, offer_syn, offer_with}
 use Rattle.tcp_pair_model.specs.Offers.{payload_of, silent}
 use Rattle.tcp_pair_model.specs.Retries.{given_up, gives_up}
@@ -436,7 +436,7 @@ module _ (cx : ContextValue) (v : TcpValue) (pair : EndpointPair) (named : v.blo
   no_hole : (b : Block) → b.sender.in_flight ≡ 0 → fills_hole b ≡ false
   no_hole b none =
       not_second b.peer.sack _ (not_second b.reno.recovers _ (not_second (not b.sender.syn_unacked) _
-      (ap (λ (t : Bool). t && (is_lost_at b (next_hole b) && nat_le (pipe b + b.reno.mss) b.reno.cwnd))
+      (ap (λ (t : Bool). t && (mends_lost b || mends_credited b))
       (le-ltb (next_hole b) b.sender.in_flight (least b.sender.in_flight (next_hole b) none)))))
     where
       least : (flight place : ℕ) → flight ≡ 0 → flight ≤ place

@@ -9,7 +9,7 @@ use Rattle.tcp_model.specs.Settled.{sent_as, timer_rearmed}
 use Rattle.tcp_model.specs.declared.block.Block.{Block}
 use Rattle.tcp_rules.specs.Blind.{Acked, after_all, AreBlind}
 
-both : (a b : Bool) → a ≡ true → b ≡ true → (a && b) ≡ true
+pub both : (a b : Bool) → a ≡ true → b ≡ true → (a && b) ≡ true
 both true true p q = refl
 both true false p q = q
 both false b p q = p
@@ -19,7 +19,7 @@ or_left true b p = refl
 or_left false true p = refl
 or_left false false p = p
 
-or_right : (a b : Bool) → b ≡ true → (a || b) ≡ true
+pub or_right : (a b : Bool) → b ≡ true → (a || b) ≡ true
 or_right true b p = refl
 or_right false true p = refl
 or_right false false p = p

@@ -23,3 +23,4 @@ pub mod LossRules
 pub mod StampRules
 pub mod BlindRules
 pub mod UndoRules
+pub mod MendRules

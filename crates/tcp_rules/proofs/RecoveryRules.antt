@@ -27,7 +27,7 @@ use Rattle.tcp_control.specs.declared.state.State.TheVariants as In
 use Rattle.tcp_model.specs.Acknowledged.{state_after_ack, acks_own_syn, round_trip_after, reno_after, srtt_after, reno_counted}
 use Rattle.tcp_model.specs.Acknowledged.{duplicates_after, begins_recovery}
 use Rattle.tcp_model.specs.Acknowledged.{ranges_taken, windowed}
-use Rattle.tcp_model.specs.LossRecovery.{hole_len, is_lost_at, is_lost_again, loss_probed, probes_tail}
+use Rattle.tcp_model.specs.LossRecovery.{hole_len, is_lost_again, is_passed, loss_probed, probes_tail}
 use Rattle.tcp_model.proofs.Holes.{again_sent, hole_least}
 use Rattle.tcp_model.specs.Arrival.{arrives}
 use Rattle.tcp_model.specs.Blocks.{one_if, fresh_window}
@@ -322,8 +322,8 @@ module _ (cx : ContextValue) (ip : IpRepr) (header : TcpHeader) (bytes : List �
   -- what went again was lost in recovery
   lost_in : (b : Block) → is_lost_again b ≡ true → b.reno.recovers ≡ true
   lost_in b e =
-      left_true b.reno.recovers (not (b.loss.resent == 0) && is_lost_at b b.loss.mark)
-      (right_true b.peer.sack (b.reno.recovers && (not (b.loss.resent == 0) && is_lost_at b b.loss.mark)) e)
+      left_true b.reno.recovers (not (b.loss.resent == 0) && is_passed b b.loss.mark)
+      (right_true b.peer.sack (b.reno.recovers && (not (b.loss.resent == 0) && is_passed b b.loss.mark)) e)
 
   paced_received : (u : TcpValue) → IsPaced (recovery_of u.block) → is_past u.block.state ≡ true → Received cx ip header bytes Paced u
   paced_received u p past = record {

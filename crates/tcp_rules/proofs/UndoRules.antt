@@ -10,15 +10,15 @@ use Rattle.tcp_control.specs.Scoreboard.{held}
 use Rattle.tcp_control.specs.declared.offer.OfferKind.{OfferKind}
 use Rattle.tcp_control.specs.declared.offer.OfferKind.TheVariants as Kind
 use Rattle.tcp_control.specs.declared.offer.OpenOffer.{OpenOffer}
-use Rattle.tcp_model.specs.Acknowledged.{begins_recovery, reno_counted, counted, ranges_taken}
+use Rattle.tcp_model.specs.Acknowledged.{begins_recovery, freed_by, reno_counted, counted, ranges_taken}
 use Rattle.tcp_model.specs.LossRecovery.{probes_losses, probe_from, probe_armed, loss_probe_moment, loss_probed, loss_probed_by, probes_tail}
 use Rattle.tcp_model.specs.LossRecovery.{heard_more, all_noted}
 use Rattle.tcp_model.specs.LossRecovery.{is_lost_again, with_board}
 use Rattle.tcp_model.specs.Retries.{asked}
 use Rattle.tcp_model.specs.Rules.{backed_off_now}
 use Rattle.tcp_model.specs.Settled.{sent_as, end_of, nxt_moved, timer_started, probed, resent, syn_went, went}
-use Rattle.tcp_model.specs.Undo.{undo_begun, undo_marked, undo_sent}
-use Rattle.tcp_model.specs.Undone.{is_needless, undone, undone_if, prior_of}
+use Rattle.tcp_model.specs.Undo.{undo_begun, undo_marked, undo_sent, window_kept}
+use Rattle.tcp_model.specs.Undone.{answers_undo, is_needless, undone, undone_if, prior_of}
 use Rattle.tcp_model.specs.declared.block.Block.{Block}
 use Rattle.tcp_model.specs.declared.block.Loss.{Loss}
 use Rattle.tcp_model.specs.declared.block.Undo.{Undo}
@@ -34,8 +34,9 @@ record Mends (window r : RenoValue) : Type 0 where
   mending : mends r ≡ true
   mss : r.mss ≡ window.mss
 
+-- the window is kept, if any is: without one nothing is undone
 abbrev Keeps : RenoValue → Option Undo → Type 0
-Keeps window None = ⊥
+Keeps window None = Unit {0}
 Keeps window (Some u) = u.reno ≡ window
 
 record IsKept (window : RenoValue) (b : Block) : Type 0 where
@@ -81,7 +82,7 @@ module _ (window : RenoValue) where
   -- while a loss is mended no other begins
   still_kept : (b : Block) → IsKept window b → Keeps window (undo_begun b)
   still_kept b k =
-      cond_both (b.reno.recovers || b.reno.timed_out) b.loss.undo (Some (record { reno = b.reno; until = None; stamp = 0 })) (Keeps window) (λ _. k.undo)
+      cond_both (b.reno.recovers || b.reno.timed_out) b.loss.undo (if b.loss.resent == 0 then window_kept b else None) (Keeps window) (λ _. k.undo)
       (λ none. clash (sym k.reno.mending ∙ none))
 
   armed_kept : (b : Block) (l : Loss) (now : ℤ) → Keeps window l.undo → Keeps window (probe_armed b l now).undo
@@ -186,22 +187,35 @@ module _ (window : RenoValue) where
     cubic = window.cubic;
   }
 
-  kept_prior : (o : Option Undo) (r : RenoValue) → Keeps window o → prior_of o r ≡ reno.restored r window
-  kept_prior None r k = absurd k
-  kept_prior (Some u) r k = ap (reno.restored r) k
+  kept_prior : (o : Option Undo) (r : RenoValue) → Keeps window o → is_some o ≡ true → prior_of o r ≡ reno.restored r window
+  kept_prior None r k some = clash (sym some)
+  kept_prior (Some u) r k some = ap (reno.restored r) k
+
+  -- what says that nothing was lost says it of a window that is kept
+  answers_some : (o : Option Undo) (b : Block) (header : TcpHeader) (now : ℤ) → answers_undo o b header now ≡ true → is_some o ≡ true
+  answers_some None b header now e = clash (sym e)
+  answers_some (Some u) b header now e = refl
+
+  and_last : (a b : Bool) → (a && b) ≡ true → b ≡ true
+  and_last true b e = e
+  and_last false b e = clash (sym e)
 
   comes_back : (b : Block) (header : TcpHeader) (by queued : ℕ) (now : ℤ) → IsKept window b → mends window ≡ false
       → is_needless b header by queued now ≡ true → (undone b header by queued now).reno ≡ window
   comes_back b header by queued now k calm needless =
       ap (λ (t : Bool). (undone_if t b queued).reno) needless
-      ∙ (kept_prior b.loss.undo b.reno k.undo ∙ same_window b.reno k.reno.mss (neither window.recovers window.timed_out calm))
+      ∙ (kept_prior b.loss.undo b.reno k.undo
+      (answers_some b.loss.undo b header now
+      (and_last (not (freed_by b by queued == 0)) (answers_undo b.loss.undo b header now) needless))
+      ∙ same_window b.reno k.reno.mss (neither window.recovers window.timed_out calm))
 
 -- recovery begins
-begun : (b : Block) → mends b.reno ≡ false → undo_begun b ≡ Some (record { reno = b.reno; until = None; stamp = 0 })
-begun b calm = ap (λ (t : Bool). if t then b.loss.undo else Some (record { reno = b.reno; until = None; stamp = 0 })) calm
+begun : (b : Block) → mends b.reno ≡ false → undo_begun b ≡ (if b.loss.resent == 0 then window_kept b else None)
+begun b calm = ap (λ (t : Bool). if t then b.loss.undo else if b.loss.resent == 0 then window_kept b else None) calm
 
 begun_kept : (b : Block) → mends b.reno ≡ false → Keeps b.reno (undo_begun b)
-begun_kept b calm = subst (Keeps b.reno) (sym (begun b calm)) refl
+begun_kept b calm =
+    subst (Keeps b.reno) (sym (begun b calm)) (cond_both (b.loss.resent == 0) (window_kept b) None (Keeps b.reno) (λ _. refl) (λ _. tt))
 
 recovery_kept : (b : Block) (count : ℕ) → b.sender.syn_unacked ≡ false → mends b.reno ≡ false → begins_recovery b count ≡ true → IsKept b.reno (counted b count)
 recovery_kept b count syn calm begins = record {

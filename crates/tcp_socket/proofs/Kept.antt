@@ -1,16 +1,18 @@
 -- What the rules of an arrival keep of a block.
-use Rattle.std.proofs.Common.{◌≡◌, ℕ, ◌&&◌, ◌≤◌, Bool, true, false, ℤ, Option, Some, None, is_some, if◌then◌else◌, arith}
+use Rattle.std.proofs.Common.{◌≡◌, ℕ, ◌&&◌, not, ◌≤◌, Bool, true, false, ℤ, Option, Some, None, is_some, if◌then◌else◌, refl, arith}
 use Rattle.std.specs.Prelude.{IfSome}
 use Rattle.std.proofs.lemmas.Bool.Decides.{nat_tests}
 use Rattle.net_base.specs.Ring.{Ring}
 use Rattle.net_base.specs.Time.{IsMoment}
+use Rattle.ip_wire.specs.IpRepr.{IpRepr}
 use Rattle.ip_wire.specs.TcpHeader.{TcpHeader}
 use Rattle.tcp_model.specs.Acknowledged.{una_moved, in_state, ended_if, block_acknowledged, state_after_ack, names_window, windowed, window_set, ranges_taken}
 use Rattle.tcp_model.specs.Acknowledged.{counted}
-use Rattle.tcp_model.specs.Controls.{is_zero, or_mss}
-use Rattle.tcp_model.specs.Opening.{connected, crossed, syn_answered}
+use Rattle.tcp_model.specs.Controls.{is_syn, is_zero, or_mss}
+use Rattle.tcp_model.specs.Opening.{is_first_syn, answering, connected, crossed, syn_answered}
 use Rattle.tcp_model.specs.States.{is_closed}
 use Rattle.tcp_model.specs.Text.{with_fin, fin_taken, takes_fin}
+use Rattle.tcp_model.specs.Timestamps.{believed}
 use Rattle.tcp_model.specs.Timeout.{timeout_restarted, timeout_runs}
 use Rattle.tcp_model.specs.Blocks.{forgotten}
 use Rattle.tcp_model.specs.declared.block.Block.{Block}
@@ -76,6 +78,17 @@ answered_mss : (t : Bool) (b : Block) (header : TcpHeader) (now : ℤ) → 1 ≤
     1 ≤ (if t then connected b header now else crossed b header).peer.mss
 answered_mss true b header now some = some
 answered_mss false b header now some = some
+
+-- LISTEN takes a SYN
+pub first_syn : (header : TcpHeader) → is_first_syn header ≡ true → is_syn header.control ≡ true
+first_syn header is = both (is_syn header.control) (is_some header.ack_number) is where
+  both : (syn some : Bool) → (syn && not some) ≡ true → syn ≡ true
+  both true some is = refl
+  both false some is = absurd (cc)
+
+pub kept_opening : (b : Block) (ip : IpRepr) (header : TcpHeader) (number : ℕ) (now : ℤ) → IsMoment now → 1 ≤ or_mss header.options.max_seg_size
+    → IsBlock (timeout_restarted (believed (answering b ip header number) now) now 0)
+kept_opening b ip header number now moment some = kept_timeout (believed (answering b ip header number) now) now 0 moment some
 
 -- SYN-SENT takes a SYN
 pub kept_answer : (b : Block) (header : TcpHeader) (now : ℤ) (queued : ℕ) → IsMoment now → 1 ≤ or_mss header.options.max_seg_size

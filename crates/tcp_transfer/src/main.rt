@@ -222,8 +222,13 @@ fn show_end(rt: &HostRuntime, pair: &Pair, read: &[u8]) -> Result<()> {
 }
 
 fn main(rt: HostRuntime) -> Result<()> {
-    let mut pair = Box::new(rt.alloc(), opened(rt.alloc())?)?;
+    let mut pair = boxed(rt.alloc(), opened(rt.alloc())?)?;
     transfer(&rt, &mut pair)
+}
+
+/// A value on the heap.
+fn boxed<T: Drop>(alloc: Global, value: T) -> Result<Box<T>> {
+    Ok(Box::new(alloc, value)?)
 }
 
 /// The transfer between two connected sockets, to its end.

@@ -68,32 +68,42 @@ fn sockets(alloc: Global) -> Result<SocketSet<Socket>> {
 
 // A host at 192.168.1.n with one TCP socket.
 fn host(alloc: Global, n: u8) -> Result<Host> {
-    let port = Port::new(alloc, capabilities());
-    let interface = interface(alloc, n, &port)?;
     let sockets = sockets(alloc)?;
-    Ok(Host {
+    let port = Port::new(alloc, capabilities());
+    interface(alloc, n, &port).map(|interface| Host {
         interface,
         sockets,
         port,
     })
 }
 
-// Two such hosts, in a world in which nothing has happened.
-fn world(alloc: Global) -> Result<World> {
+// A value on the heap.
+fn boxed<T: Drop>(alloc: Global, value: T) -> Result<Box<T>> {
+    Ok(Box::new(alloc, value)?)
+}
+
+// Two such hosts, in a world in which nothing has happened. It is large, so it stands on the heap.
+fn world(alloc: Global) -> Result<Box<World>> {
     let a = host(alloc, 1)?;
     let b = host(alloc, 2)?;
-    Ok(World::new(alloc, a, b)?)
+    boxed(alloc, World::new(alloc, a, b)?)
+}
+
+// Takes an event whose answer nobody looks at.
+fn take(world: &mut World, event: Event) -> Result<(), Refused>
+    ensures { IsSafeWorld world.new }
+{
+    world.step(event).map(|_| ())
 }
 
 // B listens, and A sends its SYN.
 fn open(world: &mut World) -> Result<(), Refused>
     ensures { IsSafeWorld world.new }
 {
-    world.step(Event::Listen(Side::B, 0, PORT))?;
+    take(world, Event::Listen(Side::B, 0, PORT))?;
     let remote = IpEndpoint::new(address(2), PORT);
-    world.step(Event::Connect(Side::A, 0, remote, 49152))?;
-    world.step(Event::Poll(Side::A, Instant::ZERO, 8))?;
-    Ok(())
+    take(world, Event::Connect(Side::A, 0, remote, 49152))?;
+    take(world, Event::Poll(Side::A, Instant::ZERO, 8))
 }
 
 // No bytes behind a frame.
@@ -105,30 +115,27 @@ fn no_padding(alloc: Global) -> Bytes {
 fn answer(alloc: Global, world: &mut World) -> Result<(), Refused>
     ensures { IsSafeWorld world.new }
 {
-    world.step(Event::Deliver(Side::A, 0, no_padding(alloc)))?;
-    world.step(Event::Poll(Side::B, Instant::ZERO, 8))?;
-    world.step(Event::Deliver(Side::B, 0, no_padding(alloc)))?;
-    Ok(())
+    take(world, Event::Deliver(Side::A, 0, no_padding(alloc)))?;
+    take(world, Event::Poll(Side::B, Instant::ZERO, 8))?;
+    take(world, Event::Deliver(Side::B, 0, no_padding(alloc)))
 }
 
 // A acknowledges, and writes a text.
 fn write(world: &mut World, text: Bytes) -> Result<(), Refused>
     ensures { IsSafeWorld world.new }
 {
-    world.step(Event::Poll(Side::A, Instant::ZERO, 8))?;
-    world.step(Event::Send(Side::A, 0, text))?;
-    world.step(Event::Poll(Side::A, Instant::ZERO, 8))?;
-    Ok(())
+    take(world, Event::Poll(Side::A, Instant::ZERO, 8))?;
+    take(world, Event::Send(Side::A, 0, text))?;
+    take(world, Event::Poll(Side::A, Instant::ZERO, 8))
 }
 
 // The link loses A's acknowledgement. It hands the text over twice, at first with bytes behind it.
 fn hand_over(alloc: Global, world: &mut World, padding: Bytes) -> Result<(), Refused>
     ensures { IsSafeWorld world.new }
 {
-    world.step(Event::Deliver(Side::A, 2, padding))?;
-    world.step(Event::Deliver(Side::A, 2, no_padding(alloc)))?;
-    world.step(Event::Poll(Side::B, Instant::ZERO, 8))?;
-    Ok(())
+    take(world, Event::Deliver(Side::A, 2, padding))?;
+    take(world, Event::Deliver(Side::A, 2, no_padding(alloc)))?;
+    take(world, Event::Poll(Side::B, Instant::ZERO, 8))
 }
 
 // What B reads.
@@ -145,12 +152,10 @@ fn read_some(world: &mut World) -> Result<Option<Bytes>, Refused>
 pub fn talk(alloc: Global, world: &mut World) -> Result<Option<Bytes>>
     ensures { OnOk result (IsSafeWorld world.new) }
 {
-    let text = Bytes::from_slice(alloc, b"hello")?;
-    let padding = Bytes::from_slice(alloc, b"padding")?;
     open(world)?;
     answer(alloc, world)?;
-    write(world, text)?;
-    hand_over(alloc, world, padding)?;
+    write(world, Bytes::from_slice(alloc, b"hello")?)?;
+    hand_over(alloc, world, Bytes::from_slice(alloc, b"padding")?)?;
     Ok(read_some(world)?)
 }
 

@@ -479,26 +479,29 @@ Decides-loss a b =
     let from_probes = Decides-and _ _ (booleans_Decides a.probes b.probes) (from_probed) in
     let from_eager = Decides-and _ _ (booleans_Decides a.eager b.eager) (from_probes) in
     let from_mark = Decides-and _ _ (Decides-eqb a.mark b.mark) (from_eager) in
-    let from_resent = Decides-and _ _ (Decides-eqb a.resent b.resent) (from_mark) in
+    let from_credit = Decides-and _ _ (Decides-eqb a.credit b.credit) (from_mark) in
+    let from_resent = Decides-and _ _ (Decides-eqb a.resent b.resent) (from_credit) in
     let all = Decides-and _ _ (Decides-scoreboard a.board b.board) (from_resent) in (
       λ yes.
           let parts = all.0 yes in
           λ i. record {
             board = parts.0 i;
             resent = parts.1.0 i;
-            mark = parts.1.1.0 i;
-            eager = parts.1.1.1.0 i;
-            probes = parts.1.1.1.1.0 i;
-            probed = parts.1.1.1.1.1.0 i;
-            probe_at = parts.1.1.1.1.1.1.0 i;
-            undo = parts.1.1.1.1.1.1.1 i;
+            credit = parts.1.1.0 i;
+            mark = parts.1.1.1.0 i;
+            eager = parts.1.1.1.1.0 i;
+            probes = parts.1.1.1.1.1.0 i;
+            probed = parts.1.1.1.1.1.1.0 i;
+            probe_at = parts.1.1.1.1.1.1.1.0 i;
+            undo = parts.1.1.1.1.1.1.1.1 i;
           },
       λ e. all.1 (both (ap (λ (v : Loss). v.board) e)
           (both (ap (λ (v : Loss). v.resent) e)
+          (both (ap (λ (v : Loss). v.credit) e)
           (both (ap (λ (v : Loss). v.mark) e)
           (both (ap (λ (v : Loss). v.eager) e)
           (both (ap (λ (v : Loss). v.probes) e)
-          (both (ap (λ (v : Loss). v.probed) e) (both (ap (λ (v : Loss). v.probe_at) e) (ap (λ (v : Loss). v.undo) e)))))))),
+          (both (ap (λ (v : Loss). v.probed) e) (both (ap (λ (v : Loss). v.probe_at) e) (ap (λ (v : Loss). v.undo) e))))))))),
     )
 
 -- the control block is compared whole

@@ -1,7 +1,7 @@
 //! A host that configures itself.
 ghost use Rattle.net_base.specs.Time.{IsMoment};
 
-use crate::host::{add, bare};
+use crate::host::{add, bare, boxed};
 use crate::wire::Wire;
 use anyhow::{Result, anyhow};
 use interface::{Interface, SocketHandle, SocketSet};
@@ -29,18 +29,21 @@ pub struct Client {
 
 impl Client {
     /// A host without an address.
-    pub fn new(alloc: Global) -> Result<Client> {
-        let wire = Wire::new(alloc);
-        let interface = bare(alloc, &wire, 2)?;
+    pub fn new(alloc: Global) -> Result<Box<Client>> {
         let mut sockets = SocketSet::new(ManagedSlice::Owned(Vec::new(alloc)));
         let (dhcp, dns) = add_both(&mut sockets)?;
-        Ok(Client {
-            interface,
-            wire,
-            sockets,
-            dhcp,
-            dns,
-        })
+        let wire = Wire::new(alloc);
+        let interface = bare(alloc, &wire, 2)?;
+        boxed(
+            alloc,
+            Client {
+                interface,
+                wire,
+                sockets,
+                dhcp,
+                dns,
+            },
+        )
     }
 
     /// Takes in what came and sends what is due, and configures the host by what the client of DHCP tells.

@@ -15,8 +15,8 @@ const TURNS: u32 = 1000;
 /// A host and a server on a wire.
 #[derive(Drop)]
 pub struct Net {
-    pub client: Client,
-    server: Server,
+    pub client: Box<Client>,
+    server: Box<Server>,
     now: Instant,
     ghost now_is_a_moment: { IsMoment now },
 }

@@ -3,7 +3,7 @@ ghost use Rattle.dhcp_wire.specs.Written.{Fits};
 ghost use Rattle.net_base.specs.Time.{IsMoment};
 
 use crate::buffers::datagrams;
-use crate::host::{add, addressed};
+use crate::host::{add, addressed, boxed};
 use crate::wire::Wire;
 use anyhow::Result;
 use interface::{Interface, SocketHandle, SocketSet};
@@ -36,18 +36,21 @@ pub struct Server {
 
 impl Server {
     /// A server at an end of a wire.
-    pub fn new(alloc: Global) -> Result<Server> {
-        let wire = Wire::new(alloc);
-        let interface = addressed(alloc, &wire, 1)?;
+    pub fn new(alloc: Global) -> Result<Box<Server>> {
         let mut sockets = SocketSet::new(ManagedSlice::Owned(Vec::new(alloc)));
         let (dhcp, dns) = add_both(alloc, &mut sockets)?;
-        Ok(Server {
-            interface,
-            wire,
-            sockets,
-            dhcp,
-            dns,
-        })
+        let wire = Wire::new(alloc);
+        let interface = addressed(alloc, &wire, 1)?;
+        boxed(
+            alloc,
+            Server {
+                interface,
+                wire,
+                sockets,
+                dhcp,
+                dns,
+            },
+        )
     }
 
     /// Takes in what came, answers, and sends the answers.

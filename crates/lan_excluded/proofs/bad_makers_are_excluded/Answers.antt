@@ -4,8 +4,7 @@ use Rattle.lan_excluded.proofs.bad_makers_are_excluded.Goals as goal
 
 pub returns : goal.returns
 returns c = record {
-  without_a_socket = λ w side header payload r udp none made. made_by_hosts w side header payload r udp none made;
-  too_short = λ w side header payload r short made. by.maker_too_short w side header payload r short made;
-  no_segment = λ w side header payload r tcp short made. by.maker_no_segment w side header payload r tcp short made;
-  piece_of_ipv6 = λ w side place frame content waits is piece made. piece (made.none_of_v6 side place frame content waits is);
+  without_a_socket = λ w side key bytes r udp none made. made_by_hosts w side key bytes r udp none made;
+  too_short = λ w side key bytes r short made. by.maker_too_short w side key bytes r short made;
+  no_segment = λ w side key bytes r tcp short made. by.maker_no_segment w side key bytes r tcp short made;
 }

@@ -1,9 +1,12 @@
 -- Frames on Ethernet that are no requests: each but a question's, by its EtherType, and by what stands behind that.
-use Rattle.std.proofs.Common.{◌≡◌, ℕ, ◌+◌, Bool, true, false, List, ◌++◌, length, Option, refl, sym, ◌∙◌, ap, arith, length-append, append_assoc}
+use Rattle.std.proofs.Common.{◌≡◌, ℕ, ◌+◌, Bool, true, false, List, ◌++◌, length, slice_index, Option, refl, sym, ◌∙◌, ap, arith, length-append, append_assoc}
 use Rattle.std.specs.Int.{w16, to_be_bytes}
 use Rattle.ip_address.specs.Protocol.{ether_number}
 use Rattle.interface_egress.specs.Arp as Arps
-use Rattle.interface_egress.specs.Departure.{link_header, arp_frame, packet_frame, packet_frame_len, piece_frame, piece_frame_len}
+use Rattle.interface_egress.specs.Departure.{link_header, arp_frame, packet_frame, packet_frame_len, piece_frame, piece_frame_len, piece_v6}
+use Rattle.interface_egress.specs.Departure.{fragment_header}
+use Rattle.interface_egress.specs.declared.frame.CutHeader.{CutHeader}
+use Rattle.interface_egress.specs.declared.frame.CutHeader.TheVariants as Cut
 use Rattle.interface_egress.specs.GoesOut.{numbered_header}
 use Rattle.interface_ingress.specs.ArpRepr.{ArpRepr}
 use Rattle.interface_ingress.specs.ArpRepr.TheVariants as Arp
@@ -21,7 +24,7 @@ use Rattle.interface_delivery.specs.Ipv4 as Ipv4
 use Rattle.interface_delivery.specs.Ipv4Repr.{Ipv4Repr}
 use Rattle.interface_delivery.specs.Ipv6 as Ipv6
 use Rattle.interface_delivery.specs.Ipv6Repr.{Ipv6Repr}
-use Rattle.interface_delivery.specs.Delivered.{IsWritable}
+use Rattle.interface_delivery.specs.Delivered.{IsCutValue, IsWritable}
 use Rattle.interface_delivery.proofs.Arrives.{length-written}
 use Rattle.interface_tables.specs.Inner.{InnerValue}
 use Rattle.interface_tables.specs.Pieces as Pieces
@@ -33,14 +36,15 @@ use Rattle.lan_theorem.proofs.Link.Behind.{with_len}
 use Rattle.lan_theorem.proofs.Link.Links.{number_behind, addresses}
 use Rattle.lan_theorem.proofs.Link.Spelled.{length_v4, length_v6}
 
--- What is known of a test of frames: no answer in ARP passes, no frame of IPv4, and none of an IPv6 packet that may go, from whatever
--- source.
+-- What is known of a test of frames: no answer in ARP passes, no frame of IPv4, none of an IPv6 packet that may go, from whatever source,
+-- and none that names a fragment header behind that of IPv6.
 pub record IsTest (T : List ℕ → Bool) (May : IpRepr → PayloadValue → Type 0) : Type 0 where
   pub told : (link rest : List ℕ) → length link ≡ 14 → be16 (link ++ rest) 12 ≡ 0x0806 → be16 rest 6 ≡ 2 → T (link ++ rest) ≡ false
   pub four : (link rest : List ℕ) → be16 (link ++ rest) 12 ≡ 0x0800 → T (link ++ rest) ≡ false
   pub six : (link : List ℕ) (v : Ipv6Repr) (x : PayloadValue) → length link ≡ 14
       → be16 (link ++ (Ipv6.written v ++ payload_written sealed (Ip.Ipv6 v) x)) 12 ≡ 0x86dd → Ipv6.IsValue v → May (Ip.Ipv6 v) x
       → T (link ++ (Ipv6.written v ++ payload_written sealed (Ip.Ipv6 v) x)) ≡ false
+  pub part : (link rest : List ℕ) → length link ≡ 14 → be16 (link ++ rest) 12 ≡ 0x86dd → slice_index rest 6 ≡ 44 → T (link ++ rest) ≡ false
   pub sourced : (h : IpRepr) (s : Option IpAddress) (x : PayloadValue) → May h x → May (with_source h s) x
 
 -- an answer in ARP
@@ -116,9 +120,9 @@ module _ (T : List ℕ → Bool) (May : IpRepr → PayloadValue → Type 0) (tes
     whole_by i (Ip.Ipv4 v) x w len may = whole4 _ x w len
     whole_by i (Ip.Ipv6 v) x w len may = whole6 v x w len may
 
-    piece_by : (header : Ipv4Repr) (p : Pieces.Piece) → Ipv4.IsValue header →
-        length (piece_frame sealed from at header p) ≡ piece_frame_len from at p → T (piece_frame sealed from at header p) ≡ false
-    piece_by header p value len =
+    piece_by : (header : CutHeader) (p : Pieces.Piece) → IsCutValue header →
+        length (piece_frame sealed from at header p) ≡ piece_frame_len from at header p → T (piece_frame sealed from at header p) ≡ false
+    piece_by (Cut.Ipv4 header) p value len =
         let w : List ℕ = Ipv4.written_piece true (with_len header (length p.bytes)) p.offset p.more in
         let link : List ℕ = link_header from at Ether.Ipv4 in
         let twenty : length w ≡ 20 =
@@ -132,6 +136,16 @@ module _ (T : List ℕ → Bool) (May : IpRepr → PayloadValue → Type 0) (tes
         }) in
         let long : length link ≡ 14 = front link w p.bytes 14 20 (length p.bytes) len twenty refl in
         test.four link (w ++ p.bytes) (ether_behind own to Ether.Ipv4 (w ++ p.bytes) (addresses own to Ether.Ipv4 long))
+    piece_by (Cut.Ipv6 header number) p value len =
+        let w : List ℕ = Ipv6.written (piece_v6 header p) in
+        let fragment : List ℕ = fragment_header header.next_header number p in
+        let link : List ℕ = link_header from at Ether.Ipv6 in
+        let of_piece : Ipv6.IsValue (piece_v6 header p) =
+        record { source = value.0.source; destination = value.0.destination; protocol = omega arith; hops = value.0.hops } in
+        let most : length (w ++ fragment) ≡ 48 = omega (arith, length-append w fragment, length_v6 (piece_v6 header p) of_piece) in
+        let long : length link ≡ 14 = front link (w ++ fragment) p.bytes 14 48 (length p.bytes) len most refl in
+        test.part link ((w ++ fragment) ++ p.bytes) long
+        (ether_behind own to Ether.Ipv6 ((w ++ fragment) ++ p.bytes) (addresses own to Ether.Ipv6 long)) refl
 
   -- the frame of a packet with its number
   pub whole_quiet : (own to : HardwareAddress) (i : InnerValue) (h : IpRepr) (x : PayloadValue) → IsStation own → IsStation to →
@@ -143,8 +157,8 @@ module _ (T : List ℕ → Bool) (May : IpRepr → PayloadValue → Type 0) (tes
   whole_quiet Hardware.Ip to i h x here there w len may = absurd here
 
   -- that of a piece
-  pub piece_quiet : (own to : HardwareAddress) (header : Ipv4Repr) (p : Pieces.Piece) → IsStation own → IsStation to → Ipv4.IsValue header →
-      length (piece_frame sealed own to header p) ≡ piece_frame_len own to p → T (piece_frame sealed own to header p) ≡ false
+  pub piece_quiet : (own to : HardwareAddress) (header : CutHeader) (p : Pieces.Piece) → IsStation own → IsStation to → IsCutValue header →
+      length (piece_frame sealed own to header p) ≡ piece_frame_len own to header p → T (piece_frame sealed own to header p) ≡ false
   piece_quiet (Hardware.Ethernet own) (Hardware.Ethernet to) header p here there value len = piece_by own to header p value len
   piece_quiet (Hardware.Ethernet own) Hardware.Ip header p here there value len = absurd there
   piece_quiet Hardware.Ip to header p here there value len = absurd here

@@ -100,6 +100,7 @@ request_test = record {
   six = λ link v x len is value may.
       let frame : List ℕ = link ++ (Ipv6.written v ++ payload_written sealed (Ip.Ipv6 v) x) in
       other_type (be16 frame 12) 0x0806 0x86dd (be16 frame 20 == 1) is refl;
+  part = λ link rest len is named. other_type (be16 (link ++ rest) 12) 0x0806 0x86dd (be16 (link ++ rest) 20 == 1) is refl;
   sourced = λ h s x may. tt;
 }
 
@@ -175,6 +176,14 @@ asks_nobody_from h s (Bytes bytes) may = absurd may
 asks_nobody_from h s (Datagram udp bytes) may = sourced_carries h s ∙ may
 asks_nobody_from h s (Segment header bytes) may = sourced_carries h s ∙ may
 
+no_solicitation : (a b c : Bool) → b ≡ false → a && (b && c) ≡ false
+no_solicitation true b c none = rw none refl
+no_solicitation false b c none = refl
+
+-- the next header of an IPv6 packet stands so far behind the link header
+next_header_at : (link rest : List ℕ) → length link ≡ 14 → slice_index (link ++ rest) 20 ≡ slice_index rest 6
+next_header_at link rest len = sym (get_or-drop 14 (link ++ rest) 6 0) ∙ ap (λ (l : List ℕ). slice_index l 6) (drop_at link rest 14 len)
+
 pub asks_test : IsTest asks AsksNobody
 asks_test = record {
   told = λ link rest len arp reply.
@@ -189,6 +198,11 @@ asks_test = record {
       let frame : List ℕ = link ++ (Ipv6.written v ++ payload_written sealed (Ip.Ipv6 v) x) in
       neither (is_request frame) (is_solicitation frame) (other_type (be16 frame 12) 0x0806 0x86dd (be16 frame 20 == 1) is refl)
       (solicits_none link v len value x may);
+  part = λ link rest len is named.
+      let frame : List ℕ = link ++ rest in
+      let next : slice_index frame 20 ≡ 44 = next_header_at link rest len ∙ named in
+      neither (is_request frame) (is_solicitation frame) (other_type (be16 frame 12) 0x0806 0x86dd (be16 frame 20 == 1) is refl)
+      (no_solicitation (be16 frame 12 == 0x86dd) (slice_index frame 20 == 58) (slice_index frame 54 == 135) (ap (λ (n : ℕ). n == 58) next));
   sourced = asks_nobody_from;
 }
 

@@ -164,13 +164,13 @@ pub record IsLeftSo (l : LeftValue) : Type 0 where
   pub half : IsHalfSent l
   pub there : IsStation l.to
 
-rest_by : (mtu : ℕ) (c : LeftValue) (b : Bool) → IsStation c.to → IfSome (cond b (Some (record c { at = c.at + piece_room mtu })) None) IsHalfSent →
-    IfSome (cond b (Some (record c { at = c.at + piece_room mtu })) None) IsLeftSo
+rest_by : (mtu : ℕ) (c : LeftValue) (b : Bool) → IsStation c.to → IfSome (cond b (Some (record c { at = c.at + piece_room c.header mtu })) None) IsHalfSent →
+    IfSome (cond b (Some (record c { at = c.at + piece_room c.header mtu })) None) IsLeftSo
 rest_by mtu c true there is = record { half = is; there = there }
 rest_by mtu c false there is = tt
 
 rest_so : (mtu : ℕ) (c : LeftValue) → IsLeftSo c → IfSome (left_after mtu c) IsLeftSo
-rest_so mtu c so = rest_by mtu c (nat_lt (c.at + piece_room mtu) (length c.payload)) so.there (left_half mtu c so.half)
+rest_so mtu c so = rest_by mtu c (nat_lt (c.at + piece_room c.header mtu) (length c.payload)) so.there (left_half mtu c so.half)
 
 -- A POLL
 
@@ -281,8 +281,8 @@ module _ (T : List ℕ → Bool) (May : IpRepr → PayloadValue → Type 0) (W :
   so_piece c d d' i l left goes so =
       let caps : i.checksums ≡ sealed = so.sound.checksums in
       let piece = piece_from i c in
-      let len : length (piece_frame sealed i.hardware c.to c.header piece) ≡ piece_frame_len i.hardware c.to piece =
-      subst (λ (k : ChecksumCapabilities). length (piece_frame k i.hardware c.to c.header piece) ≡ piece_frame_len i.hardware c.to piece) caps goes.1 in
+      let len : length (piece_frame sealed i.hardware c.to c.header piece) ≡ piece_frame_len i.hardware c.to c.header piece =
+      subst (λ (k : ChecksumCapabilities). length (piece_frame k i.hardware c.to c.header piece) ≡ piece_frame_len i.hardware c.to c.header piece) caps goes.1 in
       let quiet : T (piece_frame i.checksums i.hardware c.to c.header piece) ≡ false =
       subst (λ (k : ChecksumCapabilities). T (piece_frame k i.hardware c.to c.header piece) ≡ false) (sym caps)
       (piece_quiet T May test i.hardware c.to c.header piece so.own left.there left.half.header_is len) in
@@ -318,9 +318,9 @@ module _ (T : List ℕ → Bool) (May : IpRepr → PayloadValue → Type 0) (W :
       (λ to short is kind out. let most = sound.widths.mtu in
       so_where d' i' i' l l' refl out.1
       (so_went to p sent d d' i i' l (writes i p sound.widths off (omega (arith, short, most))) kind may out.0 so))
-      (λ to v header long short idle is kind out.
-      so_cut (cut_of i to v p) sent d d' i i' l l'
-      (record { half = begun_half i busy p to v sound.widths off is; there = there_by i.hardware to so.own kind }) out so)
+      (λ to long short bare idle is kind out.
+      so_cut (cut_of i to p) sent d d' i i' l l'
+      (record { half = begun_half i busy p to sound.widths off is; there = there_by i.hardware to so.own kind }) out so)
       refl (plan_kind i busy p.header sound (to_address p.header formed.header)) goes
 
   -- ARRIVALS

@@ -1,6 +1,7 @@
 -- What is read behind a link header.
 use Rattle.std.proofs.Common.{◌≡◌, ℕ, ◌+◌, ◌%◌, ◌^◌, ◌<◌, ◌==◌, true, List, [], ◌∷◌, ◌++◌, length, drop, slice_index, Option, Some, None, refl, sym, ◌∙◌, ap}
-use Rattle.std.proofs.Common.{subst, arith, length-drop}
+use Rattle.std.proofs.Common.{subst, arith, length-append, length-drop}
+use Rattle.std.specs.Prelude.{replicate, slice_range}
 use Rattle.std.proofs.lemmas.List.{drop_at, get_or_append_left, length-take-le}
 use Rattle.std.proofs.lemmas.Bool.Decides.{nat_tests}
 use Rattle.lan_frames.specs.Medium.TheVariants as Medium
@@ -51,6 +52,29 @@ pub carries : (link rest : List ℕ) (number : ℕ) (l : EthernetRepr) (p : Ethe
     IsFramed (link ++ rest) l p → p ≡ ether_of number
 carries link rest number l p len is framed =
     sym framed.carried_is ∙ framed.format.carried ∙ ap ether_of (ether_front link rest len ∙ said (be16 link 12) number is)
+
+-- a frame of Ethernet that carries IPv6 has a header that says so
+pub framed6 : (link packet : List ℕ) → IsLinkHeader6 Medium.Ethernet link → (l : EthernetRepr) × IsFramed (link ++ packet) l Ether.Ipv6
+framed6 link packet is_link = (
+  record {
+    src_addr = record { 0 = slice_range (link ++ packet) 6 12 };
+    dst_addr = record { 0 = slice_range (link ++ packet) 0 6 };
+    ethertype = ether_of (be16 (link ++ packet) 12);
+  },
+  record {
+    format = record {
+      whole = record { header = omega (arith, is_link.len, length-append link packet) };
+      destination = refl;
+      source = refl;
+      carried = refl;
+    };
+    carried_is = ap ether_of (ether_front link packet is_link.len ∙ said (be16 link 12) 0x86dd is_link.carries);
+  },
+)
+
+-- some station
+abbrev pub any_station : EthernetAddress
+any_station = record { 0 = replicate 6 0 }
 
 -- BEHIND A LINK HEADER
 

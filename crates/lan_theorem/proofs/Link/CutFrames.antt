@@ -2,13 +2,12 @@
 use Rattle.std.proofs.Common.{◌≡◌, ℕ, ◌+◌, ◌%◌, ◌≤◌, List, [], ◌++◌, Some, sym, ◌∙◌, ap, arith, append-nil}
 use Rattle.lan_frames.specs.Medium.{Medium}
 use Rattle.lan_frames.specs.Capabilities.{frame_header}
-use Rattle.sockets.specs.Packet.{PacketValue}
 use Rattle.lan_frames.specs.Cuts.{ipv4_part, first_piece, second_piece}
 use Rattle.lan_frames.specs.Slices.{frame_of_slice, front_of, back_of}
 use Rattle.lan_frames.proofs.Slicing.{first-slice, second-slice, ipv4_part-slice, IsSliceOf-front, IsSliceOf-back}
-use Rattle.lan_theorem.specs.Link.Frames.{IsSlice}
+use Rattle.lan_theorem.specs.Link.Frames.{Outgoing, IsSlice}
 
-module _ (medium : Medium) (out : List PacketValue) (frame : List ℕ) (f : IsSlice medium out frame) where
+module _ (medium : Medium) (out : List Outgoing) (frame : List ℕ) (f : IsSlice medium out frame) where
   abbrev spelled : List ℕ
   spelled = frame_of_slice f.link f.header f.bytes f.slice ++ []
 

@@ -20,11 +20,12 @@ use Rattle.interface_delivery.specs.Ipv4Repr.{Ipv4Repr}
 use Rattle.interface_delivery.specs.Ipv6 as Ipv6
 use Rattle.interface_delivery.specs.Ipv6Repr.{Ipv6Repr}
 use Rattle.interface_delivery.specs.Parts.{has_flag}
+use Rattle.interface_egress.specs.Departure.{piece_v6, fragment_header}
 use Rattle.ip_address.specs.Protocol.{protocol_of}
 use Rattle.ip_tcp.specs.Tcp as Tcp
 use Rattle.interface_delivery.specs.Ipv4.{header_len_of}
 use Rattle.interface_ingress.specs.EthernetRepr.{EthernetRepr}
-use Rattle.sockets.specs.Packet.{PacketValue, PayloadValue}
+use Rattle.sockets.specs.Packet.{PayloadValue}
 use Rattle.interface_ingress.specs.Incoming.{IncomingValue, Ip4, Ip6, IsIncoming, IsPacketV4, IsPacketV6}
 use Rattle.interface_ingress.specs.Handed.{is_known_v6}
 use Rattle.interface_ingress.specs.Kept.{IsDamaged}
@@ -35,7 +36,7 @@ use Rattle.lan_frames.specs.Parts.{may_carry, is_ipv4, is_ipv6, is_uncut, payloa
 use Rattle.lan_frames.specs.declared.part.Part.{Part}
 use Rattle.lan_frames.specs.Slices.{IsLinkHeader, bytes_of_slice}
 use Rattle.lan_theorem.specs.Link.Made.{sealed, bytes_of}
-use Rattle.lan_theorem.specs.Link.Frames.{medium_on, IsSlice, IsWhole6, IsLinkHeader6, IsFrom, BringsFrom, AreOut}
+use Rattle.lan_theorem.specs.Link.Frames.{Outgoing, medium_on, IsSlice, IsWhole6, IsPiece6, IsLinkHeader6, IsFrom, BringsFrom, AreOut}
 use Rattle.lan_theorem.specs.Link.Sides.{IsHostFrame, IsDamage}
 use Rattle.lan_theorem.proofs.Link.Behind.{sealed_both, with_len, value_with, count_of_slice, piece_of_slice, read_slice, read_v6, read_behind4, read_behind6}
 use Rattle.lan_theorem.proofs.Link.Behind.{ether_front, said, none_left}
@@ -81,6 +82,14 @@ second_no4 false b c d none = refl
 middle_no : (a b c : Bool) → b ≡ false → a && b && c ≡ false
 middle_no true b c none = rw none refl
 middle_no false b c none = refl
+
+last_no : (a b c : Bool) → c ≡ false → a && b && c ≡ false
+last_no true true c none = none
+last_no true false c none = refl
+last_no false b c none = refl
+
+neither : (y e : Bool) (p q : Part) → y ≡ false → e ≡ false → (let o : Option Part = cond y (Some p) (cond e (Some q) None) in o) ≡ None
+neither y e p q first second = rw (first, second) refl
 
 not_equal : (n m k : ℕ) → n ≡ k → (let b : Bool = k == m in b) ≡ false → n == m ≡ false
 not_equal n m k is other = rw is other
@@ -165,7 +174,7 @@ IsBad v = IsBad4 v ⊎ IsBad6 v
 abbrev pub BringsBad : HardwareAddress → List ℕ → Type 0
 BringsBad hardware frame = (v : IncomingValue) → IsIncoming hardware sealed frame v → IsBad v
 
-bad_from : (made : PayloadValue → Type 0) (out : List PacketValue) (v : IncomingValue) → IsBad v → IsFrom made out v
+bad_from : (made : PayloadValue → Type 0) (out : List Outgoing) (v : IncomingValue) → IsBad v → IsFrom made out v
 bad_from made out v (inl b) =
     subst (IsFrom made out) (sym b.value_is)
     (inl (λ cut. absurd (let e : true ≡ false = sym cut ∙ refl in cc), hands_damaged made (Ip.Ipv4 b.header) b.payload b.bad))
@@ -173,7 +182,7 @@ bad_from made out v (inr b) =
     subst (IsFrom made out) (sym b.value_is)
     (inl (known_whole b.header b.payload (ap is_known_v6 b.bad.0), hands_damaged made (Ip.Ipv6 b.header) b.payload b.bad))
 
-module _ (made : PayloadValue → Type 0) (hardware : HardwareAddress) (out : List PacketValue) (all : AreOut made out) (frame : List ℕ) (part : Part)
+module _ (made : PayloadValue → Type 0) (hardware : HardwareAddress) (out : List Outgoing) (all : AreOut made out) (frame : List ℕ) (part : Part)
     (place word : ℕ) where
   module _ (f : IsSlice (medium_on hardware) out frame) (is_part : tcp_part (medium_on hardware) frame ≡ Some part) where
     abbrev w : List ℕ
@@ -365,6 +374,27 @@ module _ (made : PayloadValue → Type 0) (hardware : HardwareAddress) (out : Li
           bad = no_segment (Ip.Ipv6 header6) f.bytes place word protocol6 checked6 damage.even room damage.small other;
         })
 
+  -- a piece of IPv6 has no segment
+  module _ (f : IsPiece6 (medium_on hardware) out frame) where
+    abbrev packet_p : List ℕ
+    packet_p = Ipv6.written (piece_v6 f.header f.piece) ++ (fragment_header f.header.next_header f.number f.piece ++ f.piece.bytes)
+
+    abbrev q_p : List ℕ
+    q_p = packet_in (medium_on hardware) (f.link ++ packet_p)
+
+    no_tcp : slice_index q_p 6 == 6 ≡ false
+    no_tcp = ap (λ (l : List ℕ). slice_index l 6 == 6) (drop_at f.link packet_p (frame_header (medium_on hardware)) f.is_link.len)
+
+    piece6_none : tcp_part (medium_on hardware) frame ≡ None
+    piece6_none =
+        ap (tcp_part (medium_on hardware)) f.frame_is
+        ∙ neither (may_carry (medium_on hardware) 0x0800 (f.link ++ packet_p) && is_ipv4 q_p && is_uncut q_p && (slice_index q_p 9 == 6))
+        (may_carry (medium_on hardware) 0x86dd (f.link ++ packet_p) && is_ipv6 q_p && (slice_index q_p 6 == 6)) (payload_v4 (medium_on hardware) q_p)
+        (payload_v6 (medium_on hardware) q_p)
+        (version_no4 (medium_on hardware) f.link (piece_v6 f.header f.piece) (fragment_header f.header.next_header f.number f.piece ++ f.piece.bytes)
+        (is_uncut q_p) (slice_index q_p 9 == 6) f.is_link)
+        (last_no (may_carry (medium_on hardware) 0x86dd (f.link ++ packet_p)) (is_ipv6 q_p) (slice_index q_p 6 == 6) no_tcp)
+
   -- EITHER
 
   none_there : (o : Option Part) → o ≡ None → o ≡ Some part → ⊥
@@ -376,7 +406,8 @@ module _ (made : PayloadValue → Type 0) (hardware : HardwareAddress) (out : Li
       → BringsBad hardware (damaged frame part place word ++ padding)
   damaged_bad padding (inl f) is damage = slice_bad f is padding damage
   damaged_bad padding (inr (inl f)) is damage = whole6_bad f is padding damage
-  damaged_bad padding (inr (inr f)) is damage = absurd (none_there (tcp_part (medium_on hardware) frame) f.no_segment is)
+  damaged_bad padding (inr (inr (inl f))) is damage = absurd (none_there (tcp_part (medium_on hardware) frame) (piece6_none f) is)
+  damaged_bad padding (inr (inr (inr f))) is damage = absurd (none_there (tcp_part (medium_on hardware) frame) f.no_segment is)
 
   pub damaged_brings : (padding : List ℕ) → IsHostFrame (medium_on hardware) out frame → tcp_part (medium_on hardware) frame ≡ Some part →
       IsDamage frame part place word

@@ -27,19 +27,31 @@ use Rattle.interface_tables.specs.Pieces as Pieces
 use Rattle.interface_ingress.specs.Upper.{upper_header, upper_payload, IsBrought}
 use Rattle.interface_ingress.specs.Incoming.{IncomingValue, Arp, Ip4, Ip6}
 use Rattle.interface_ingress.specs.Handed.{is_known_v6}
-use Rattle.interface_ingress.specs.Reassembled.{is_piece, is_piece_v6}
+use Rattle.interface_ingress.specs.Behind.{Behind}
+use Rattle.interface_ingress.specs.Behind.TheVariants as End
+use Rattle.interface_ingress.specs.Headers as Headers
+use Rattle.interface_ingress.specs.Headers.{go_through, upper_of, upper_bytes_of}
+use Rattle.interface_ingress.specs.Reassembled.{PieceValue, is_piece, is_piece_v6, part_behind, behind_headers}
 use Rattle.interface_ingress.specs.Sent.{CanBeRead, normal_payload}
 use Rattle.interface_ingress.proofs.FramesArrive.{payload-brought}
 use Rattle.interface_ingress.proofs.OneContent.{one-carried-content}
 use Rattle.interface_delivery.specs.Delivered.{NamesNoPorts}
 use Rattle.lan_theorem.specs.Link.Made.{sealed, IsWholeV6, CarriesNone, WasMade, HandsMade, BringsMade, bytes_of}
-use Rattle.lan_theorem.specs.Link.Frames.{IsSentV4, IsSentV6, IsFrom, IsOut, AreOut}
+use Rattle.lan_theorem.specs.Link.Frames.{Outgoing, IsSentV4, IsSentV6, IsDatagramV6, IsFrom, IsOut, AreOut, behind_fragment}
+use Rattle.interface_tables.specs.declared.key.Ipv6FragKey.{Ipv6FragKey}
 use Rattle.lan_theorem.proofs.Link.Behind.{sealed_both}
+use Rattle.lan_theorem.proofs.Link.Fragments.{bare_so, fragment_so}
 use Rattle.lan_theorem.proofs.Link.Whole6.{known_whole}
 
 -- what a header names, written and read
 abbrev told : IpProtocol → IpProtocol
 told p = protocol_of (protocol_number p)
+
+pub no_part : (h : Ipv6Repr) (x : List ℕ) (behind : Behind) (p : PieceValue) → Headers.is_piece behind ≡ false → part_behind h x behind ≡ Some p → ⊥
+no_part h x (End.Piece at) p whole is = absurd cc
+no_part h x (End.Upper protocol at) p whole is = absurd cc
+no_part h x (End.Problem problem pointer) p whole is = absurd cc
+no_part h x End.Nothing p whole is = absurd cc
 
 module _ (made : PayloadValue → Type 0) where
   -- PROTOCOLS
@@ -100,51 +112,81 @@ module _ (made : PayloadValue → Type 0) where
   whole_by p (inr reads) = named_whole p.header p.payload (bytes_of p) reads.0
 
   -- no packet of IPv6 that was sent is a piece
-  pub whole_sent : (out : List PacketValue) (v : Ipv6Repr) (bytes : List ℕ) → AreOut made out → IsSentV6 out v bytes → is_piece_v6 (Ipv6.normal v) bytes ≡ false
+  pub whole_sent : (out : List Outgoing) (v : Ipv6Repr) (bytes : List ℕ) → AreOut made out → IsSentV6 out v bytes → is_piece_v6 (Ipv6.normal v) bytes ≡ false
   whole_sent out v bytes all sent =
       let of_packet : IsWholeV6 (Ips.normal sent.packet.header) (bytes_of sent.packet) = whole_by sent.packet (all sent.packet sent.among).going.carries in
       let of_header : IsWholeV6 (Ip.Ipv6 (Ipv6.normal v)) (bytes_of sent.packet) =
       subst (λ (ip : IpRepr). IsWholeV6 (Ips.normal ip) (bytes_of sent.packet)) sent.header of_packet in
       subst (λ (b : List ℕ). IsWholeV6 (Ip.Ipv6 (Ipv6.normal v)) b) (sym sent.bytes_are) of_header
 
-  -- KEYS
+  -- HEADERS
 
-  module _ (h h' : Ipv4Repr) (payload : List ℕ) (same : Ipv4.key_of h ≡ Ipv4.key_of h') where
-    source_same : source_of (Ip.Ipv4 h) ≡ source_of (Ip.Ipv4 h')
-    source_same = ap (λ (k : Ipv4FragKey). Address.Ipv4 k.src_addr) same
+  -- two packets whose upper-layer bytes, protocol and addresses are the same bring the same of TCP and UDP
+  module _ (ip ip' : IpRepr) (payload payload' : List ℕ) (source_same : source_of (upper_header ip payload) ≡ source_of (upper_header ip' payload'))
+      (destination_same : destination_of (upper_header ip payload) ≡ destination_of (upper_header ip' payload'))
+      (protocol_same : carried_in (upper_header ip payload) ≡ carried_in (upper_header ip' payload'))
+      (bytes_same : upper_payload ip payload ≡ upper_payload ip' payload') where
+    abbrev bytes_there : List ℕ
+    bytes_there = upper_payload ip' payload'
 
-    destination_same : destination_of (Ip.Ipv4 h) ≡ destination_of (Ip.Ipv4 h')
-    destination_same = ap (λ (k : Ipv4FragKey). Address.Ipv4 k.dst_addr) same
-
-    protocol_same : h.next_header ≡ h'.next_header
-    protocol_same = ap (λ (k : Ipv4FragKey). k.protocol) same
-
-    -- behind two headers of one key the same is read of TCP and UDP
-    pub hands_by_key : HandsMade made (Ip.Ipv4 h') payload → HandsMade made (Ip.Ipv4 h) payload
-    hands_by_key hands (Datagram udp bytes) is = hands (Datagram udp bytes) (record {
+    pub hands_by_upper : HandsMade made ip' payload' → HandsMade made ip payload
+    hands_by_upper hands (Datagram udp bytes) is = hands (Datagram udp bytes) (record {
       protocol = sym protocol_same ∙ is.protocol;
-      format = subst (λ (a : IpAddress). Udp.IsUdp a (destination_of (Ip.Ipv4 h')) true payload udp) source_same
-          (subst (λ (a : IpAddress). Udp.IsUdp (source_of (Ip.Ipv4 h)) a true payload udp) destination_same is.format);
-      bytes_are = is.bytes_are;
+      format = subst (λ (a : IpAddress). Udp.IsUdp a (destination_of (upper_header ip' payload')) true bytes_there udp) source_same
+          (subst (λ (a : IpAddress). Udp.IsUdp (source_of (upper_header ip payload)) a true bytes_there udp) destination_same
+          (subst (λ (b : List ℕ). Udp.IsUdp (source_of (upper_header ip payload)) (destination_of (upper_header ip payload)) true b udp) bytes_same is.format));
+      bytes_are = is.bytes_are ∙ ap Udp.payload_of bytes_same;
     })
-    hands_by_key hands (Segment header bytes) is = hands (Segment header bytes) (record {
+    hands_by_upper hands (Segment header bytes) is = hands (Segment header bytes) (record {
       protocol = sym protocol_same ∙ is.protocol;
-      format = subst (λ (a : IpAddress). Tcp.IsTcp a (destination_of (Ip.Ipv4 h')) true payload header) source_same
-          (subst (λ (a : IpAddress). Tcp.IsTcp (source_of (Ip.Ipv4 h)) a true payload header) destination_same is.format);
-      bytes_are = is.bytes_are;
+      format = subst (λ (a : IpAddress). Tcp.IsTcp a (destination_of (upper_header ip' payload')) true bytes_there header) source_same
+          (subst (λ (a : IpAddress). Tcp.IsTcp (source_of (upper_header ip payload)) a true bytes_there header) destination_same
+          (subst (λ (b : List ℕ). Tcp.IsTcp (source_of (upper_header ip payload)) (destination_of (upper_header ip payload)) true b header) bytes_same
+          is.format));
+      bytes_are = is.bytes_are ∙ ap Tcp.payload_of bytes_same;
     })
-    hands_by_key hands (ControlV4 message bytes) is = tt
-    hands_by_key hands (ControlV6 message bytes) is = tt
-    hands_by_key hands (Bytes bytes) is = tt
+    hands_by_upper hands (ControlV4 message bytes) is = tt
+    hands_by_upper hands (ControlV6 message bytes) is = tt
+    hands_by_upper hands (Bytes bytes) is = tt
+
+  -- behind two headers of one key the same is read of TCP and UDP
+  hands_by_key : (h h' : Ipv4Repr) (payload : List ℕ) → Ipv4.key_of h ≡ Ipv4.key_of h' → HandsMade made (Ip.Ipv4 h') payload → HandsMade made (Ip.Ipv4 h) payload
+  hands_by_key h h' payload same =
+      hands_by_upper (Ip.Ipv4 h) (Ip.Ipv4 h') payload payload (ap (λ (k : Ipv4FragKey). Address.Ipv4 k.src_addr) same)
+      (ap (λ (k : Ipv4FragKey). Address.Ipv4 k.dst_addr) same) (ap (λ (k : Ipv4FragKey). k.protocol) same) refl
 
   -- what a host sent as IPv4, behind a header of its key
-  pub hands_v4 : (out : List PacketValue) (v h : Ipv4Repr) (bytes : List ℕ) → AreOut made out → IsSentV4 out v bytes →
+  pub hands_v4 : (out : List Outgoing) (v h : Ipv4Repr) (bytes : List ℕ) → AreOut made out → IsSentV4 out v bytes →
       Ipv4.key_of h ≡ Ipv4.key_of (Ipv4.normal v) → HandsMade made (Ip.Ipv4 h) bytes
   hands_v4 out v h bytes all sent same =
       let of_packet : HandsMade made (Ips.normal sent.packet.header) (bytes_of sent.packet) = hands_sent sent.packet (all sent.packet sent.among) in
       let of_header : HandsMade made (Ip.Ipv4 (Ipv4.normal v)) (bytes_of sent.packet) =
       subst (λ (ip : IpRepr). HandsMade made (Ips.normal ip) (bytes_of sent.packet)) sent.header of_packet in
       hands_by_key h (Ipv4.normal v) bytes same (subst (λ (b : List ℕ). HandsMade made (Ip.Ipv4 (Ipv4.normal v)) b) (sym sent.bytes_are) of_header)
+
+  -- what a host cut of IPv6, whole behind a fragment header, and behind a header with its addresses that names that header
+  pub hands_v6 : (out : List Outgoing) (key : Ipv6FragKey) (h : Ipv6Repr) (bytes : List ℕ) → AreOut made out → IsDatagramV6 out key bytes →
+      h.next_header ≡ Protocol.Ipv6Frag → key.src_addr ≡ h.src_addr → key.dst_addr ≡ h.dst_addr → HandsMade made (Ip.Ipv6 h) bytes
+  hands_v6 out key h bytes all of named source destination =
+      let v : Ipv6Repr = of.header in
+      let whole : List ℕ = behind_fragment v.next_header key.id of.payload in
+      let sent : IsSentV6 out v of.payload = of.cut.sent in
+      let of_packet : HandsMade made (Ips.normal sent.packet.header) (bytes_of sent.packet) = hands_sent sent.packet (all sent.packet sent.among) in
+      let of_header : HandsMade made (Ip.Ipv6 (Ipv6.normal v)) (bytes_of sent.packet) =
+      subst (λ (ip : IpRepr). HandsMade made (Ips.normal ip) (bytes_of sent.packet)) sent.header of_packet in
+      let of_payload : HandsMade made (Ip.Ipv6 (Ipv6.normal v)) of.payload =
+      subst (λ (b : List ℕ). HandsMade made (Ip.Ipv6 (Ipv6.normal v)) b) (sym sent.bytes_are) of_header in
+      let bare = bare_so (Ipv6.normal v).next_header of.payload of.cut.bare in
+      let behind = fragment_so v.next_header key.id of.payload of.cut.bare in
+      let walk : go_through h.next_header whole ≡ go_through Protocol.Ipv6Frag whole = ap (λ (p : IpProtocol). go_through p whole) named in
+      let protocol : upper_of (go_through h.next_header whole) ≡ upper_of (go_through (Ipv6.normal v).next_header of.payload) =
+      ap upper_of walk ∙ behind.upper ∙ sym bare.upper in
+      let same : upper_bytes_of whole (go_through h.next_header whole) ≡ upper_bytes_of of.payload (go_through (Ipv6.normal v).next_header of.payload) =
+      ap (upper_bytes_of whole) walk ∙ behind.bytes_are ∙ sym bare.bytes_are in
+      let of_whole : HandsMade made (Ip.Ipv6 h) whole =
+      hands_by_upper (Ip.Ipv6 h) (Ip.Ipv6 (Ipv6.normal v)) whole of.payload (ap Address.Ipv6 (sym source ∙ of.source))
+      (ap Address.Ipv6 (sym destination ∙ of.destination)) protocol same of_payload in
+      subst (λ (b : List ℕ). HandsMade made (Ip.Ipv6 h) b) (sym of.bytes_are) of_whole
 
   -- WHOLE
 
@@ -168,13 +210,15 @@ module _ (made : PayloadValue → Type 0) where
       Begins-whole payload bytes (subst (λ (n : ℕ). Begins payload (drop n bytes)) zero slice.slice) (omega (arith, count, zero))
 
   -- a content that is no piece brings what was made
-  pub brings_whole : (out : List PacketValue) (v : IncomingValue) → AreOut made out → IsFrom made out v →
-      ((link : Option EthernetRepr) (h : Ipv4Repr) (p : Ipv4Piece) (x : List ℕ) → v ≡ Ip4 link h p x → is_piece p ≡ false) → BringsMade made (Some v)
-  brings_whole out (Arp link packet) all from whole = tt
-  brings_whole out (Ip4 link h p x) all (inl made_whole) whole = made_whole.1
-  brings_whole out (Ip4 link h p x) all (inr piece) whole =
+  pub brings_whole : (out : List Outgoing) (v : IncomingValue) → AreOut made out → IsFrom made out v →
+      ((link : Option EthernetRepr) (h : Ipv4Repr) (p : Ipv4Piece) (x : List ℕ) → v ≡ Ip4 link h p x → is_piece p ≡ false)
+      → ((link : Option EthernetRepr) (h : Ipv6Repr) (x : List ℕ) → v ≡ Ip6 link h x → is_piece_v6 h x ≡ false) → BringsMade made (Some v)
+  brings_whole out (Arp link packet) all from whole whole6 = tt
+  brings_whole out (Ip4 link h p x) all (inl made_whole) whole whole6 = made_whole.1
+  brings_whole out (Ip4 link h p x) all (inr piece) whole whole6 =
       let none = whole link h p x refl in
       subst (λ (b : List ℕ). HandsMade made (Ip.Ipv4 h) b) (sym (all_of_it piece.bytes x p none piece.slice))
-      (hands_v4 out piece.sent_header h piece.bytes all piece.sent piece.key)
-  brings_whole out (Ip6 link h x) all (inl made_whole) whole = made_whole.1
-  brings_whole out (Ip6 link h x) all (inr piece) whole = absurd piece
+      (hands_v4 out piece.sent.header h piece.bytes all piece.sent.sent piece.sent.key_is)
+  brings_whole out (Ip6 link h x) all (inl made_whole) whole whole6 = made_whole.1
+  brings_whole out (Ip6 link h x) all (inr piece) whole whole6 =
+      absurd (no_part h x (behind_headers h x) piece.part (whole6 link h x refl) piece.part_is)

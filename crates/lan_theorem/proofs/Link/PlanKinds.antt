@@ -1,5 +1,5 @@
 -- Where the frames of a plan go: to a station on a medium with stations.
-use Rattle.std.proofs.Common.{ℕ, zero, suc, ◌+◌, Bool, true, false, cond, List, [], ◌∷◌, Option, Some, None, IfSome}
+use Rattle.std.proofs.Common.{ℕ, zero, suc, Bool, true, false, cond, List, [], ◌∷◌, Option, Some, None, IfSome}
 use Rattle.std.specs.Prelude.{ℤ, int_lt, nat_le}
 use Rattle.std.specs.List.{AllByRecursion}
 use Rattle.interface_ingress.specs.Address.{IsIpAddress}
@@ -11,9 +11,7 @@ use Rattle.interface_delivery.specs.Ip.{destination_of}
 use Rattle.interface_ingress.specs.IpAddress.{IpAddress}
 use Rattle.interface_ingress.specs.IpAddress.TheVariants as Address
 use Rattle.interface_delivery.specs.IpRepr.{IpRepr}
-use Rattle.interface_delivery.specs.IpRepr.TheVariants as Ip
 use Rattle.interface_ingress.specs.Ipv4Address.{Ipv4Address}
-use Rattle.interface_delivery.specs.Ipv4Repr.{Ipv4Repr}
 use Rattle.interface_tables.specs.Best.{at_place}
 use Rattle.interface_tables.specs.Inner.{InnerValue, mtu_to, is_local_broadcast, is_on_link, next_hop, link_by, link_of_hop, link_on, link_address}
 use Rattle.interface_tables.specs.Inner.{group_station, all_stations}
@@ -25,7 +23,7 @@ use Rattle.interface_tables.specs.declared.link.LinkAddress.TheVariants as Link
 use Rattle.interface_tables.specs.declared.neighbor.Answer.{Answer}
 use Rattle.interface_tables.specs.declared.neighbor.Answer.TheVariants as Known
 use Rattle.interface_tables.specs.declared.neighbor.Neighbor.{Neighbor}
-use Rattle.interface_egress.specs.Plan.{longest_cut, total_len, cut_if_idle, long_plan, ask_v4, ask_on, may_ask, ask_if, plan_by, never_leaves, plan_of}
+use Rattle.interface_egress.specs.Plan.{total_len, can_be_cut, cut_if_idle, long_plan, ask_v4, ask_on, may_ask, ask_if, plan_by, never_leaves, plan_of}
 use Rattle.interface_egress.specs.declared.plan.Plan.{Plan}
 use Rattle.interface_egress.specs.declared.plan.Plan.TheVariants as Way
 use Rattle.lan_theorem.specs.Link.Sides.{IsSameKind, IsStation, IsSound}
@@ -52,7 +50,7 @@ LinkKind own (Link.Unknown hop) = IsIpAddress hop
 
 abbrev pub PlanKind : HardwareAddress → Plan → Type 0
 PlanKind own (Way.Go to) = IsSameKind own to
-PlanKind own (Way.Cut to v) = IsSameKind own to
+PlanKind own (Way.Cut to) = IsSameKind own to
 PlanKind own (Way.Ask question) = IsAsked question
 PlanKind own Way.Drop = Unit {0}
 PlanKind own Way.NoRoute = Unit {0}
@@ -128,17 +126,16 @@ link_kind (Hardware.Ethernet own) i address sound is =
 
 -- EACH PLAN
 
-idle_by : (own to : HardwareAddress) (v : Ipv4Repr) (b : Bool) → IsSameKind own to → PlanKind own (cut_if_idle b to v)
-idle_by own to v true is = tt
-idle_by own to v false is = is
+idle_by : (own to : HardwareAddress) (b : Bool) → IsSameKind own to → PlanKind own (cut_if_idle b to)
+idle_by own to true is = tt
+idle_by own to false is = is
 
-short_by : (own to : HardwareAddress) (v : Ipv4Repr) (busy b : Bool) → IsSameKind own to → PlanKind own (cond b (cut_if_idle busy to v) Way.Drop)
-short_by own to v busy true is = idle_by own to v busy is
-short_by own to v busy false is = tt
+long_by : (own to : HardwareAddress) (busy b : Bool) → IsSameKind own to → PlanKind own (cond b (cut_if_idle busy to) Way.Drop)
+long_by own to busy true is = idle_by own to busy is
+long_by own to busy false is = tt
 
 long_kind : (own to : HardwareAddress) (busy : Bool) (h : IpRepr) → IsSameKind own to → PlanKind own (long_plan busy to h)
-long_kind own to busy (Ip.Ipv4 v) is = short_by own to v busy (nat_le (20 + v.payload_len) longest_cut) is
-long_kind own to busy (Ip.Ipv6 v) is = tt
+long_kind own to busy h is = long_by own to busy (can_be_cut h) is
 
 to_by : (own to : HardwareAddress) (busy : Bool) (h : IpRepr) (b : Bool) → IsSameKind own to → PlanKind own (cond b (Way.Go to) (long_plan busy to h))
 to_by own to busy h true is = is

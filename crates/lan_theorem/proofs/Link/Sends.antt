@@ -1,5 +1,5 @@
 -- What leaves a host keeps what is said of its frames.
-use Rattle.std.proofs.Common.{◌≡◌, ◌⊎◌, inl, inr, ℕ, ◌+◌, ◌≤◌, Bool, true, false, cond, List, [], ◌∷◌, ◌++◌, length, Option, Some, None, IfSome, refl, sym, ◌∙◌}
+use Rattle.std.proofs.Common.{◌≡◌, ◌⊎◌, inl, inr, ℕ, ◌+◌, ◌^◌, ◌<◌, ◌≤◌, Bool, true, false, cond, List, [], ◌∷◌, ◌++◌, length, Option, Some, None, IfSome, refl, sym, ◌∙◌}
 use Rattle.std.proofs.Common.{ap, subst, arith}
 use Rattle.std.specs.Prelude.{nat_lt}
 use Rattle.std.specs.List.{AllByRecursion}
@@ -11,39 +11,39 @@ use Rattle.interface_delivery.specs.Ip as Ips
 use Rattle.interface_delivery.specs.Ip.{destination_of}
 use Rattle.interface_delivery.specs.IpRepr.{IpRepr}
 use Rattle.interface_delivery.specs.IpRepr.TheVariants as Ip
-use Rattle.interface_delivery.specs.Ipv4Repr.{Ipv4Repr}
 use Rattle.interface_ingress.specs.ArpRepr.{ArpRepr}
 use Rattle.sockets.specs.Packet.{PacketValue, PayloadValue, packet_of, payload_written}
 use Rattle.interface_tables.specs.Inner.{InnerValue, with_next_ident, with_request}
-use Rattle.interface_egress.specs.Departure.{Asks, Tells, Whole, question_frame, arp_frame, packet_frame, packet_frame_len, piece_frame, piece_frame_len}
+use Rattle.interface_egress.specs.Departure.{Asks, Tells, Whole, question_frame, arp_frame, packet_frame, packet_frame_len, piece_frame, piece_frame_len, piece_header_len}
 use Rattle.interface_egress.specs.Departure.{target_of}
 use Rattle.interface_egress.specs.Fragments.{LeftValue, piece_room, piece_from, departure_from, cut_mtu, left_from}
-use Rattle.interface_egress.specs.GoesOut.{GoesOut, Asked, Went, WasCut, PieceGoesOut, Departs, Stays, numbered_header, numbered, after_header, cut_of}
+use Rattle.interface_egress.specs.GoesOut.{GoesOut, Asked, Went, WasCut, PieceGoesOut, Departs, Stays, numbered_header, numbered, after_header, cut_header, cut_of}
 use Rattle.interface_egress.specs.Emits.{Emits}
-use Rattle.interface_egress.specs.Plan.{total_len, longest_cut, plan_of}
+use Rattle.interface_egress.specs.Plan.{total_len, longest_cut, has_extensions, plan_of}
 use Rattle.interface_egress.specs.declared.frame.Question.{Question}
 use Rattle.interface_egress.specs.declared.plan.Plan.{Plan}
 use Rattle.interface_egress.specs.declared.way_out.Sent.{Sent}
 use Rattle.interface_egress.specs.declared.way_out.Sent.TheVariants as Outcome
 use Rattle.interface_egress.proofs.Planned.{AsksFrom, plan_cases}
 use Rattle.interface_ingress.specs.Sent.{CanBeRead, normal_payload}
-use Rattle.interface_delivery.specs.Delivered.{IsWritable}
+use Rattle.interface_delivery.specs.Delivered.{IsCutValue, IsWritable}
 use Rattle.interface_delivery.specs.Taken.{HasWidths, IsHalfSent}
+use Rattle.interface_delivery.proofs.Arrives.{length-written}
 use Rattle.interface_delivery.proofs.Offered.{writes, readable, begun_half, left_half}
 use Rattle.lan_hosts.specs.Origins.{begins_datagram}
 use Rattle.lan_hosts.specs.Port.{PortValue, PortMove}
-use Rattle.lan_theorem.specs.Link.Made.{sealed, CarriesNone, IsGoing}
-use Rattle.lan_theorem.specs.Link.Frames.{medium_on, IsOut}
-use Rattle.lan_theorem.specs.Link.Numbers.{and_v4, count_v4, AreNumbered, IsTied}
-use Rattle.lan_theorem.specs.Link.Sides.{Grows, WentOut, AreSent, IsHostFrame, IsOther, IsSound, IsSameKind, IsStation, IsLeft, IsSender}
+use Rattle.lan_theorem.specs.Link.Made.{sealed, bytes_of, CarriesNone, IsGoing}
+use Rattle.lan_theorem.specs.Link.Frames.{Outgoing, number_by, medium_on, IsOut, AreOut}
+use Rattle.lan_theorem.specs.Link.Numbers.{and_number, count_numbered, AreNumbered, IsTied}
+use Rattle.lan_theorem.specs.Link.Sides.{Grows, WentOut, IsHostFrame, IsCutFrom, IsOther, IsSound, IsSameKind, IsStation, IsLeft, IsSender}
 use Rattle.lan_theorem.proofs.Link.Asked.{IsAsked}
 use Rattle.lan_theorem.specs.Link.Sides.{IsBetweenStations}
-use Rattle.lan_theorem.proofs.Link.Grown.{all_grow, sent4_grows, frame_grows}
+use Rattle.lan_theorem.proofs.Link.Grown.{all_grow, cut_grows, frame_grows, same_out}
 use Rattle.lan_theorem.proofs.Link.PlanKinds.{PlanKind, plan_kind}
 use Rattle.lan_theorem.proofs.Link.Begun.{worth, whole_begins, piece_begins, tied_same, tied_frame, tied_on}
 use Rattle.lan_theorem.proofs.Link.Others.{arp_is_other, question_is_other}
 use Rattle.lan_theorem.proofs.Link.Slots.{all_more}
-use Rattle.lan_theorem.proofs.Link.Spelled.{whole_frame, piece_frame_is}
+use Rattle.lan_theorem.proofs.Link.Spelled.{as_whole, as_cut, whole_frame, piece_frame_is}
 
 -- THE DEVICE
 
@@ -76,14 +76,24 @@ module _ (made : PayloadValue → Type 0) (i : InnerValue) where
         fits = w.sendable.header;
       }
 
-numbers_after : (first : ℕ) (out : List PacketValue) (i : InnerValue) (h : IpRepr) (x : PayloadValue) → AreNumbered first out i.ident →
-    AreNumbered first (packet_of (numbered_header i h) x ∷ out) (after_header h i).ident
+numbers_after : (first : ℕ) (out : List Outgoing) (i : InnerValue) (h : IpRepr) (x : PayloadValue) → AreNumbered first out i.ident →
+    AreNumbered first (as_whole (packet_of (numbered_header i h) x) ∷ out) (after_header h i).ident
 numbers_after first out i (Ip.Ipv4 v) x are = (are, refl)
 numbers_after first out i (Ip.Ipv6 v) x are = are
 
-one_more : (i : InnerValue) (h : IpRepr) (n : ℕ) → and_v4 (numbered_header i h) n ≤ n + 1
-one_more i (Ip.Ipv4 v) n = omega arith
-one_more i (Ip.Ipv6 v) n = omega arith
+-- a packet that is cut has a number, of whichever family it is
+numbers_cut : (first : ℕ) (out : List Outgoing) (i : InnerValue) (h : IpRepr) (x : PayloadValue) → AreNumbered first out i.ident →
+    AreNumbered first (as_cut (packet_of (numbered_header i h) x) i.ident ∷ out) (with_next_ident i).ident
+numbers_cut first out i (Ip.Ipv4 v) x are = (are, refl)
+numbers_cut first out i (Ip.Ipv6 v) x are = (are, refl)
+
+number_cut : (i : InnerValue) (h : IpRepr) → number_by (numbered_header i h) (Some i.ident) ≡ Some i.ident
+number_cut i (Ip.Ipv4 v) = refl
+number_cut i (Ip.Ipv6 v) = refl
+
+one_more : (taken : Option ℕ) (n : ℕ) → and_number taken n ≤ n + 1
+one_more None n = omega arith
+one_more (Some k) n = omega arith
 
 next_sound : (i : InnerValue) → IsSound i → IsSound (with_next_ident i)
 next_sound i s = record {
@@ -118,64 +128,61 @@ to_address : (h : IpRepr) → Ips.IsValue h → IsIpAddress (destination_of h)
 to_address (Ip.Ipv4 v) is = is.destination
 to_address (Ip.Ipv6 v) is = is.destination
 
-same_sender : (made : PayloadValue → Type 0) (first : ℕ) (out : List PacketValue) (i i' : InnerValue) (l l' : Option LeftValue) (sent sent' : List (List ℕ)) →
+same_sender : (made : PayloadValue → Type 0) (first : ℕ) (out : List Outgoing) (i i' : InnerValue) (l l' : Option LeftValue) (sent sent' : List (List ℕ)) →
     i' ≡ i → l' ≡ l → sent' ≡ sent → IsSender made first i l sent out → IsSender made first i' l' sent' out
 same_sender made first out i i' l l' sent sent' a b c s =
     subst (λ (x : InnerValue). IsSender made first x l' sent' out) (sym a)
     (subst (λ (x : Option LeftValue). IsSender made first i x sent' out) (sym b) (subst (λ (x : List (List ℕ)). IsSender made first i l x out) (sym c) s))
 
 unchanged : (made : PayloadValue →
-    Type 0) (first most : ℕ) (out : List PacketValue) (i i' : InnerValue) (l l' : Option LeftValue) (sent sent' : List (List ℕ)) → i' ≡ i → l' ≡ l →
+    Type 0) (first most : ℕ) (out : List Outgoing) (i i' : InnerValue) (l l' : Option LeftValue) (sent sent' : List (List ℕ)) → i' ≡ i → l' ≡ l →
     sent' ≡ sent → IsSender made first i l sent out → WentOut made first most out sent i' l' sent'
 unchanged made first most out i i' l l' sent sent' a b c s = record {
   out_after = out;
-  grows = λ p among. among;
+  grows = same_out out;
   count = omega arith;
   tied = tied_same (medium_on i'.hardware) out sent sent' c;
   sender = same_sender made first out i i' l l' sent sent' a b c s;
 }
 
 -- one more frame, of no packet that is new
-one_frame : (made : PayloadValue → Type 0) (first most : ℕ) (out : List PacketValue) (i' : InnerValue) (l' : Option LeftValue) (sent sent' : List (List ℕ))
+one_frame : (made : PayloadValue → Type 0) (first most : ℕ) (out : List Outgoing) (i' : InnerValue) (l' : Option LeftValue) (sent sent' : List (List ℕ))
     (frame : List ℕ) → sent' ≡ sent ++ frame ∷ [] → IsSender made first i' l' sent' out → WentOut made first most out sent i' l' sent'
 one_frame made first most out i' l' sent sent' frame is s = record {
   out_after = out;
-  grows = λ p among. among;
+  grows = same_out out;
   count = omega arith;
   tied = tied_frame (medium_on i'.hardware) out out sent sent' frame is (omega arith);
   sender = s;
 }
 
-left_grows : (hardware : HardwareAddress) (out out' : List PacketValue) (l : Option LeftValue) → Grows out out' → IfSome l (IsLeft hardware out) →
+left_grows : (hardware : HardwareAddress) (out out' : List Outgoing) (l : Option LeftValue) → Grows out out' → IfSome l (IsLeft hardware out) →
     IfSome l (IsLeft hardware out')
 left_grows hardware out out' None grows is = tt
-left_grows hardware out out' (Some l) grows is = record { sent = sent4_grows out out' grows l.header l.payload is.sent; half = is.half; to = is.to }
+left_grows hardware out out' (Some l) grows is = record { sent = cut_grows out out' grows l.header l.payload is.sent; half = is.half; to = is.to }
 
-pub left_to : (out : List PacketValue) (hardware hardware' : HardwareAddress) (l : Option LeftValue) → hardware' ≡ hardware → IfSome l (IsLeft hardware out) →
+pub left_to : (out : List Outgoing) (hardware hardware' : HardwareAddress) (l : Option LeftValue) → hardware' ≡ hardware → IfSome l (IsLeft hardware out) →
     IfSome l (IsLeft hardware' out)
 left_to out hardware hardware' l same is = subst (λ (h : HardwareAddress). IfSome l (IsLeft h out)) (sym same) is
 
 module _ (made : PayloadValue →
-    Type 0) (first : ℕ) (out : List PacketValue) (i : InnerValue) (l : Option LeftValue) (d : PortValue) (s : IsSender made first i l d.link.sent out) where
+    Type 0) (first : ℕ) (out : List Outgoing) (i : InnerValue) (l : Option LeftValue) (d : PortValue) (s : IsSender made first i l d.link.sent out) where
   -- the packet is of `out` from now on
-  module _ (p : PacketValue) (going : IsGoing made p) where
-    abbrev more : List PacketValue
-    more = numbered i p ∷ out
+  module _ (p : PacketValue) (going : IsGoing made p) (cut_as : Option ℕ) where
+    abbrev more : List Outgoing
+    more = record { packet = numbered i p; cut_as = cut_as } ∷ out
 
     grows_more : Grows out more
-    grows_more q among = inr among
+    grows_more = record { among = λ q among. inr among; numbered = λ q number is. inr is }
 
-    one_at_most : count_v4 more ≤ count_v4 out + 1
-    one_at_most = one_more i p.header (count_v4 out)
+    one_at_most : count_numbered more ≤ count_numbered out + 1
+    one_at_most = one_more (number_by (numbered i p).header cut_as) (count_numbered out)
 
-    are_more : total_len p.header ≤ 65535 → AreSent made first (after_header p.header i).ident more
-    are_more short = record {
-      packets = λ q among. elim among [
-        | inl same ↦ subst (IsOut made) (sym same) (numbered_out made i p s.sound.widths going short)
-        | inr older ↦ s.are_sent.packets q older
-      ];
-      numbered = numbers_after first out i p.header p.payload s.are_sent.numbered;
-    }
+    are_out : total_len p.header ≤ 65535 → AreOut made more
+    are_out short q among = elim among [
+      | inl same ↦ subst (IsOut made) (sym same) (numbered_out made i p s.sound.widths going short)
+      | inr older ↦ s.are_sent.packets q older
+    ]
 
     frames_more : (frame : List ℕ) → IsHostFrame (medium_on i.hardware) more frame →
         AllByRecursion (IsHostFrame (medium_on i.hardware) more) (d.link.sent ++ frame ∷ [])
@@ -184,54 +191,58 @@ module _ (made : PayloadValue →
         (all_grow (IsHostFrame (medium_on i.hardware) out) (IsHostFrame (medium_on i.hardware) more) (frame_grows out more grows_more (medium_on i.hardware))
         d.link.sent s.frames) is
 
-    -- WHOLE
+  -- WHOLE
+
+  module _ (p : PacketValue) (going : IsGoing made p) where
+    abbrev with_whole : List Outgoing
+    with_whole = as_whole (numbered i p) ∷ out
 
     whole_sender : (to : HardwareAddress) (d' : PortValue) → total_len p.header ≤ 65535 → IsSameKind i.hardware to →
-        Departs PortMove d i (Whole to (numbered i p)) true d' → IsSender made first (after_header p.header i) l d'.link.sent more
+        Departs PortMove d i (Whole to (numbered i p)) true d' → IsSender made first (after_header p.header i) l d'.link.sent with_whole
     whole_sender to d' short kind departs =
         let w : IsWritable (numbered i p) = writes i p s.sound.widths going.offered short in
         let caps : i.checksums ≡ sealed = s.sound.checksums in
         let len : length (packet_frame sealed i.hardware to (numbered i p)) ≡ packet_frame_len i.hardware to (numbered i p) =
         subst (λ (c : ChecksumCapabilities). length (packet_frame c i.hardware to (numbered i p)) ≡ packet_frame_len i.hardware to (numbered i p)) caps
         departs.1 in
-        let frame : IsHostFrame (medium_on i.hardware) more (packet_frame i.checksums i.hardware to (numbered i p)) =
-        subst (λ (c : ChecksumCapabilities). IsHostFrame (medium_on i.hardware) more (packet_frame c i.hardware to (numbered i p))) (sym caps)
+        let frame : IsHostFrame (medium_on i.hardware) with_whole (packet_frame i.checksums i.hardware to (numbered i p)) =
+        subst (λ (c : ChecksumCapabilities). IsHostFrame (medium_on i.hardware) with_whole (packet_frame c i.hardware to (numbered i p))) (sym caps)
         (whole_frame i.hardware to kind out (numbered i p) w len) in
-        let all : AllByRecursion (IsHostFrame (medium_on i.hardware) more) d'.link.sent =
-        subst (λ (fs : List (List ℕ)). AllByRecursion (IsHostFrame (medium_on i.hardware) more) fs)
+        let all : AllByRecursion (IsHostFrame (medium_on i.hardware) with_whole) d'.link.sent =
+        subst (λ (fs : List (List ℕ)). AllByRecursion (IsHostFrame (medium_on i.hardware) with_whole) fs)
         (sym (emitted d d' (packet_frame i.checksums i.hardware to (numbered i p)) (packet_frame_len i.hardware to (numbered i p)) departs))
-        (frames_more (packet_frame i.checksums i.hardware to (numbered i p)) frame) in
+        (frames_more p going None (packet_frame i.checksums i.hardware to (numbered i p)) frame) in
         record {
           sound = after_sound i p.header s.sound;
-          are_sent = are_more short;
-          left_is = left_to more i.hardware (after_header p.header i).hardware l (after_hardware i p.header)
-              (left_grows i.hardware out more l grows_more s.left_is);
-          frames = subst (λ (h : HardwareAddress). AllByRecursion (IsHostFrame (medium_on h) more) d'.link.sent) (sym (after_hardware i p.header)) all;
+          are_sent = record { packets = are_out p going None short; numbered = numbers_after first out i p.header p.payload s.are_sent.numbered };
+          left_is = left_to with_whole i.hardware (after_header p.header i).hardware l (after_hardware i p.header)
+              (left_grows i.hardware out with_whole l (grows_more p going None) s.left_is);
+          frames = subst (λ (h : HardwareAddress). AllByRecursion (IsHostFrame (medium_on h) with_whole) d'.link.sent) (sym (after_hardware i p.header)) all;
         }
 
     whole_tied : (to : HardwareAddress) (d' : PortValue) → total_len p.header ≤ 65535 → IsSameKind i.hardware to →
-        Departs PortMove d i (Whole to (numbered i p)) true d' → IsTied (medium_on i.hardware) out d.link.sent more d'.link.sent
+        Departs PortMove d i (Whole to (numbered i p)) true d' → IsTied (medium_on i.hardware) out d.link.sent with_whole d'.link.sent
     whole_tied to d' short kind departs =
         let w : IsWritable (numbered i p) = writes i p s.sound.widths going.offered short in
         let caps : i.checksums ≡ sealed = s.sound.checksums in
         let len : length (packet_frame sealed i.hardware to (numbered i p)) ≡ packet_frame_len i.hardware to (numbered i p) =
         subst (λ (c : ChecksumCapabilities). length (packet_frame c i.hardware to (numbered i p)) ≡ packet_frame_len i.hardware to (numbered i p)) caps
         departs.1 in
-        tied_frame (medium_on i.hardware) out more d.link.sent d'.link.sent (packet_frame sealed i.hardware to (numbered i p))
+        tied_frame (medium_on i.hardware) out with_whole d.link.sent d'.link.sent (packet_frame sealed i.hardware to (numbered i p))
         (emitted d d' (packet_frame i.checksums i.hardware to (numbered i p)) (packet_frame_len i.hardware to (numbered i p)) departs
         ∙ ap (λ (c : ChecksumCapabilities). d.link.sent ++ packet_frame c i.hardware to (numbered i p) ∷ []) caps)
-        (whole_begins i.hardware to (numbered_header i p.header) p.payload (count_v4 out) kind w len)
+        (whole_begins i.hardware to (numbered_header i p.header) p.payload (count_numbered out) kind w len)
 
     went : (to : HardwareAddress) (sent : Sent) (d' : PortValue) (i' : InnerValue) (l' : Option LeftValue) → total_len p.header ≤ 65535 →
         IsSameKind i.hardware to
         → Went PortMove d i p.header (Whole to (numbered i p)) sent d' i' → l' ≡ l → WentOut made first 1 out d.link.sent i' l' d'.link.sent
     went to Outcome.Gone d' i' l' short kind goes same = record {
-      out_after = more;
-      grows = grows_more;
-      count = one_at_most;
-      tied = tied_on i.hardware i'.hardware out more d.link.sent d'.link.sent (ap (λ (x : InnerValue). x.hardware) goes.1 ∙
+      out_after = with_whole;
+      grows = grows_more p going None;
+      count = one_at_most p going None;
+      tied = tied_on i.hardware i'.hardware out with_whole d.link.sent d'.link.sent (ap (λ (x : InnerValue). x.hardware) goes.1 ∙
           after_hardware i p.header) (whole_tied to d' short kind goes.0);
-      sender = same_sender made first more (after_header p.header i) i' l l' d'.link.sent d'.link.sent goes.1 same refl (whole_sender to d' short kind goes.0);
+      sender = same_sender made first with_whole (after_header p.header i) i' l l' d'.link.sent d'.link.sent goes.1 same refl (whole_sender to d' short kind goes.0);
     }
     went to Outcome.Refused d' i' l' short kind goes same =
         unchanged made first 1 out i i' l l' d.link.sent d'.link.sent goes.1 same (denied d d' [] (packet_frame_len i.hardware to (numbered i p)) goes.0) s
@@ -239,82 +250,120 @@ module _ (made : PayloadValue →
     went to Outcome.Waits d' i' l' short kind goes same = absurd goes
     went to Outcome.Busy d' i' l' short kind goes same = absurd goes
 
-    -- CUT
+  -- CUT
 
-    module _ (to : HardwareAddress) (v : Ipv4Repr) (header : p.header ≡ Ip.Ipv4 v) (short : 20 + v.payload_len ≤ longest_cut)
-        (half : IsHalfSent (cut_of i to v p)) (kind : IsSameKind i.hardware to) where
-      abbrev c : LeftValue
-      c = cut_of i to v p
+  module _ (p : PacketValue) (going : IsGoing made p) (to : HardwareAddress) (short : total_len p.header ≤ longest_cut) (bare : has_extensions p.header ≡ false)
+      (half : IsHalfSent (cut_of i to p)) (kind : IsSameKind i.hardware to) where
+    abbrev c : LeftValue
+    c = cut_of i to p
 
-      cut_left : IsLeft i.hardware more c
-      cut_left = record {
-        sent = record {
+    abbrev with_cut : List Outgoing
+    with_cut = as_cut (numbered i p) i.ident ∷ out
+
+    all_len : total_len p.header ≤ 65535
+    all_len = omega (arith, short)
+
+    writes_it : IsWritable (numbered i p)
+    writes_it = writes i p s.sound.widths going.offered all_len
+
+    bytes_are : c.payload ≡ bytes_of (numbered i p)
+    bytes_are = ap (λ (k : ChecksumCapabilities). payload_written k (numbered i p).header (numbered i p).payload) s.sound.checksums
+
+    sent_by : (h : IpRepr) → p.header ≡ h → IsCutFrom with_cut (cut_header i h) c.payload
+    sent_by (Ip.Ipv4 v) is =
+        let value : IsCutValue (cut_header i (Ip.Ipv4 v)) = subst (λ (h : IpRepr). IsCutValue (cut_header i h)) is half.header_is in
+        let fits : piece_header_len (cut_header i (Ip.Ipv4 v)) + length c.payload < 2 ^ 16 =
+        subst (λ (h : IpRepr). piece_header_len (cut_header i h) + length c.payload < 2 ^ 16) is half.short in
+        record {
           packet = numbered i p;
           among = inl refl;
-          header = ap (numbered_header i) header;
-          bytes_are = ap (λ (k : ChecksumCapabilities). payload_written k (numbered i p).header (numbered i p).payload) s.sound.checksums;
-          value = half.header_is;
-          short = half.short;
-        };
-        half = half;
-        to = kind;
-      }
+          header = ap (numbered_header i) is;
+          bytes_are = bytes_are;
+          value = value;
+          short = fits;
+        }
+    sent_by (Ip.Ipv6 v) is =
+        let value : IsCutValue (cut_header i (Ip.Ipv6 v)) = subst (λ (h : IpRepr). IsCutValue (cut_header i h)) is half.header_is in
+        let fits : piece_header_len (cut_header i (Ip.Ipv6 v)) + length c.payload < 2 ^ 16 =
+        subst (λ (h : IpRepr). piece_header_len (cut_header i h) + length c.payload < 2 ^ 16) is half.short in
+        let header : (numbered i p).header ≡ Ip.Ipv6 v = ap (numbered_header i) is in
+        let count : v.payload_len ≡ length c.payload =
+        ap Ips.payload_len_of (sym header) ∙ length-written sealed (numbered i p) writes_it ∙ ap length (sym bytes_are) in
+        record {
+          sent = record {
+            packet = numbered i p;
+            among = inl refl;
+            header = header;
+            bytes_are = bytes_are;
+            value = value.0;
+            len = count;
+            fits = omega (arith, fits, count);
+          };
+          numbered = inl (refl, number_cut i p.header);
+          small = value.1;
+          bare = subst (λ (h : IpRepr). has_extensions h ≡ false) is bare;
+          short = fits;
+        }
 
-      cut_rest : (b : Bool) → IfSome (cond b (Some (record c { at = c.at + piece_room (cut_mtu i c) })) None) IsHalfSent →
-          IfSome (cond b (Some (record c { at = c.at + piece_room (cut_mtu i c) })) None) (IsLeft i.hardware more)
-      cut_rest true is = record { sent = cut_left.sent; half = is; to = kind }
-      cut_rest false is = tt
+    cut_left : IsLeft i.hardware with_cut c
+    cut_left = record { sent = sent_by p.header refl; half = half; to = kind }
 
-      cut_sender : (d' : PortValue) → Departs PortMove d i (departure_from i c) true d' →
-          IsSender made first (with_next_ident i) (left_from i c) d'.link.sent more
-      cut_sender d' departs =
-          let caps : i.checksums ≡ sealed = s.sound.checksums in
-          let all_len : total_len p.header ≤ 65535 = subst (λ (h : IpRepr). total_len h ≤ 65535) (sym header) (omega (arith, short)) in
-          let are = are_more all_len in
-          let len : length (piece_frame sealed i.hardware to c.header (piece_from i c)) ≡ piece_frame_len i.hardware to (piece_from i c) =
-          subst (λ (k : ChecksumCapabilities). length (piece_frame k i.hardware to c.header (piece_from i c)) ≡
-          piece_frame_len i.hardware to (piece_from i c)) caps departs.1 in
-          let frame : IsHostFrame (medium_on i.hardware) more (piece_frame i.checksums i.hardware to c.header (piece_from i c)) =
-          subst (λ (k : ChecksumCapabilities). IsHostFrame (medium_on i.hardware) more (piece_frame k i.hardware to c.header (piece_from i c))) (sym caps)
-          (piece_frame_is i.hardware more (cut_mtu i c) c cut_left len) in
-          record {
-            sound = next_sound i s.sound;
-            are_sent = record { packets = are.packets; numbered = subst (λ (h : IpRepr). AreNumbered first more (after_header h i).ident) header are.numbered };
-            left_is = cut_rest (nat_lt (c.at + piece_room (cut_mtu i c)) (length c.payload)) (left_half (cut_mtu i c) c half);
-            frames = subst (λ (fs : List (List ℕ)). AllByRecursion (IsHostFrame (medium_on i.hardware) more) fs)
-                (sym (emitted d d' (piece_frame i.checksums i.hardware to c.header (piece_from i c))
-                (piece_frame_len i.hardware to (piece_from i c)) departs))
-                (frames_more (piece_frame i.checksums i.hardware to c.header (piece_from i c)) frame);
-          }
+    cut_rest : (b : Bool) → IfSome (cond b (Some (record c { at = c.at + piece_room c.header (cut_mtu i c) })) None) IsHalfSent →
+        IfSome (cond b (Some (record c { at = c.at + piece_room c.header (cut_mtu i c) })) None) (IsLeft i.hardware with_cut)
+    cut_rest true is = record { sent = cut_left.sent; half = is; to = kind }
+    cut_rest false is = tt
 
-      cut_tied : (d' : PortValue) → Departs PortMove d i (departure_from i c) true d' → IsTied (medium_on i.hardware) out d.link.sent more d'.link.sent
-      cut_tied d' departs =
-          let caps : i.checksums ≡ sealed = s.sound.checksums in
-          let frame : List ℕ = piece_frame sealed i.hardware to c.header (piece_from i c) in
-          let len : length frame ≡ piece_frame_len i.hardware to (piece_from i c) =
-          subst (λ (k : ChecksumCapabilities). length (piece_frame k i.hardware to c.header (piece_from i c)) ≡
-          piece_frame_len i.hardware to (piece_from i c)) caps departs.1 in
-          let one : worth (begins_datagram (medium_on i.hardware) frame) ≡ 1 = ap worth (piece_begins i.hardware more (cut_mtu i c) c cut_left len refl) in
-          tied_frame (medium_on i.hardware) out more d.link.sent d'.link.sent frame
-          (emitted d d' (piece_frame i.checksums i.hardware to c.header (piece_from i c)) (piece_frame_len i.hardware to (piece_from i c)) departs
-          ∙ ap (λ (k : ChecksumCapabilities). d.link.sent ++ piece_frame k i.hardware to c.header (piece_from i c) ∷ []) caps)
-          (omega (arith, one, one_at_most))
+    cut_sender : (d' : PortValue) → Departs PortMove d i (departure_from i c) true d' →
+        IsSender made first (with_next_ident i) (left_from i c) d'.link.sent with_cut
+    cut_sender d' departs =
+        let caps : i.checksums ≡ sealed = s.sound.checksums in
+        let len : length (piece_frame sealed i.hardware to c.header (piece_from i c)) ≡ piece_frame_len i.hardware to c.header (piece_from i c) =
+        subst (λ (k : ChecksumCapabilities). length (piece_frame k i.hardware to c.header (piece_from i c)) ≡
+        piece_frame_len i.hardware to c.header (piece_from i c)) caps departs.1 in
+        let frame : IsHostFrame (medium_on i.hardware) with_cut (piece_frame i.checksums i.hardware to c.header (piece_from i c)) =
+        subst (λ (k : ChecksumCapabilities). IsHostFrame (medium_on i.hardware) with_cut (piece_frame k i.hardware to c.header (piece_from i c))) (sym caps)
+        (piece_frame_is i.hardware with_cut (cut_mtu i c) c cut_left len) in
+        record {
+          sound = next_sound i s.sound;
+          are_sent = record {
+            packets = are_out p going (Some i.ident) all_len;
+            numbered = numbers_cut first out i p.header p.payload s.are_sent.numbered;
+          };
+          left_is = cut_rest (nat_lt (c.at + piece_room c.header (cut_mtu i c)) (length c.payload)) (left_half (cut_mtu i c) c half);
+          frames = subst (λ (fs : List (List ℕ)). AllByRecursion (IsHostFrame (medium_on i.hardware) with_cut) fs)
+              (sym (emitted d d' (piece_frame i.checksums i.hardware to c.header (piece_from i c))
+              (piece_frame_len i.hardware to c.header (piece_from i c)) departs))
+              (frames_more p going (Some i.ident) (piece_frame i.checksums i.hardware to c.header (piece_from i c)) frame);
+        }
 
-      was_cut : (sent : Sent) (d' : PortValue) (i' : InnerValue) (l' : Option LeftValue) → WasCut PortMove d i l c sent d' i' l' →
-          WentOut made first 1 out d.link.sent i' l' d'.link.sent
-      was_cut Outcome.Gone d' i' l' goes = record {
-        out_after = more;
-        grows = grows_more;
-        count = one_at_most;
-        tied = tied_on i.hardware i'.hardware out more d.link.sent d'.link.sent (ap (λ (x : InnerValue). x.hardware) goes.1) (cut_tied d' goes.0);
-        sender = same_sender made first more (with_next_ident i) i' (left_from i c) l' d'.link.sent d'.link.sent goes.1 goes.2 refl (cut_sender d' goes.0);
-      }
-      was_cut Outcome.Refused d' i' l' goes =
-          unchanged made first 1 out i i' l l' d.link.sent d'.link.sent goes.1 goes.2
-          (denied d d' [] (piece_frame_len i.hardware to (piece_from i c)) goes.0) s
-      was_cut Outcome.Dropped d' i' l' goes = absurd goes
-      was_cut Outcome.Waits d' i' l' goes = absurd goes
-      was_cut Outcome.Busy d' i' l' goes = absurd goes
+    cut_tied : (d' : PortValue) → Departs PortMove d i (departure_from i c) true d' → IsTied (medium_on i.hardware) out d.link.sent with_cut d'.link.sent
+    cut_tied d' departs =
+        let caps : i.checksums ≡ sealed = s.sound.checksums in
+        let frame : List ℕ = piece_frame sealed i.hardware to c.header (piece_from i c) in
+        let len : length frame ≡ piece_frame_len i.hardware to c.header (piece_from i c) =
+        subst (λ (k : ChecksumCapabilities). length (piece_frame k i.hardware to c.header (piece_from i c)) ≡
+        piece_frame_len i.hardware to c.header (piece_from i c)) caps departs.1 in
+        let one : worth (begins_datagram (medium_on i.hardware) frame) ≡ 1 = ap worth (piece_begins i.hardware with_cut (cut_mtu i c) c cut_left len refl) in
+        tied_frame (medium_on i.hardware) out with_cut d.link.sent d'.link.sent frame
+        (emitted d d' (piece_frame i.checksums i.hardware to c.header (piece_from i c)) (piece_frame_len i.hardware to c.header (piece_from i c)) departs
+        ∙ ap (λ (k : ChecksumCapabilities). d.link.sent ++ piece_frame k i.hardware to c.header (piece_from i c) ∷ []) caps)
+        (omega (arith, one, one_at_most p going (Some i.ident)))
+
+    was_cut : (sent : Sent) (d' : PortValue) (i' : InnerValue) (l' : Option LeftValue) → WasCut PortMove d i l c sent d' i' l' →
+        WentOut made first 1 out d.link.sent i' l' d'.link.sent
+    was_cut Outcome.Gone d' i' l' goes = record {
+      out_after = with_cut;
+      grows = grows_more p going (Some i.ident);
+      count = one_at_most p going (Some i.ident);
+      tied = tied_on i.hardware i'.hardware out with_cut d.link.sent d'.link.sent (ap (λ (x : InnerValue). x.hardware) goes.1) (cut_tied d' goes.0);
+      sender = same_sender made first with_cut (with_next_ident i) i' (left_from i c) l' d'.link.sent d'.link.sent goes.1 goes.2 refl (cut_sender d' goes.0);
+    }
+    was_cut Outcome.Refused d' i' l' goes =
+        unchanged made first 1 out i i' l l' d.link.sent d'.link.sent goes.1 goes.2
+        (denied d d' [] (piece_frame_len i.hardware to c.header (piece_from i c)) goes.0) s
+    was_cut Outcome.Dropped d' i' l' goes = absurd goes
+    was_cut Outcome.Waits d' i' l' goes = absurd goes
+    was_cut Outcome.Busy d' i' l' goes = absurd goes
 
   -- QUESTIONS
 
@@ -322,8 +371,8 @@ module _ (made : PayloadValue →
       IsSender made first (with_request i (target_of q)) l d'.link.sent out
   asked_sender q d' from asked departs =
       let frame : IsHostFrame (medium_on i.hardware) out (question_frame i.checksums q) =
-      inr (inr (subst (λ (k : ChecksumCapabilities). IsOther (medium_on i.hardware) (question_frame k q)) (sym s.sound.checksums)
-      (question_is_other i.hardware q from s.sound.own asked))) in
+      inr (inr (inr (subst (λ (k : ChecksumCapabilities). IsOther (medium_on i.hardware) (question_frame k q)) (sym s.sound.checksums)
+      (question_is_other i.hardware q from s.sound.own asked)))) in
       record {
         sound = silent_sound i q s.sound;
         are_sent = s.are_sent;
@@ -355,16 +404,16 @@ module _ (made : PayloadValue →
   went_not p to Outcome.Waits d' i' l' unsent goes same = absurd goes
   went_not p to Outcome.Busy d' i' l' unsent goes same = absurd goes
 
-  cut_not : (p : PacketValue) (to : HardwareAddress) (v : Ipv4Repr) (sent : Sent) (d' : PortValue) (i' : InnerValue) (l' : Option LeftValue) →
+  cut_not : (p : PacketValue) (to : HardwareAddress) (sent : Sent) (d' : PortValue) (i' : InnerValue) (l' : Option LeftValue) →
       (sent ≡ Outcome.Gone → ⊥)
-      → WasCut PortMove d i l (cut_of i to v p) sent d' i' l' → WentOut made first 1 out d.link.sent i' l' d'.link.sent
-  cut_not p to v Outcome.Gone d' i' l' unsent goes = absurd (unsent refl)
-  cut_not p to v Outcome.Refused d' i' l' unsent goes =
+      → WasCut PortMove d i l (cut_of i to p) sent d' i' l' → WentOut made first 1 out d.link.sent i' l' d'.link.sent
+  cut_not p to Outcome.Gone d' i' l' unsent goes = absurd (unsent refl)
+  cut_not p to Outcome.Refused d' i' l' unsent goes =
       unchanged made first 1 out i i' l l' d.link.sent d'.link.sent goes.1 goes.2
-      (denied d d' [] (piece_frame_len i.hardware to (piece_from i (cut_of i to v p))) goes.0) s
-  cut_not p to v Outcome.Dropped d' i' l' unsent goes = absurd goes
-  cut_not p to v Outcome.Waits d' i' l' unsent goes = absurd goes
-  cut_not p to v Outcome.Busy d' i' l' unsent goes = absurd goes
+      (denied d d' [] (piece_frame_len i.hardware to (cut_of i to p).header (piece_from i (cut_of i to p))) goes.0) s
+  cut_not p to Outcome.Dropped d' i' l' unsent goes = absurd goes
+  cut_not p to Outcome.Waits d' i' l' unsent goes = absurd goes
+  cut_not p to Outcome.Busy d' i' l' unsent goes = absurd goes
 
   -- ANY PLAN
 
@@ -383,7 +432,7 @@ module _ (made : PayloadValue →
       (λ is kind sent d' i' l' goes. stays d' i' l' goes.1) (λ is kind sent d' i' l' goes. stays d' i' l' goes.1)
       (λ q may from is kind sent d' i' l' goes. asked_by q sent d' i' l' from kind goes.0 goes.1)
       (λ to short is kind sent d' i' l' goes. let most = s.sound.widths.mtu in went p going to sent d' i' l' (omega (arith, short, most)) kind goes.0 goes.1)
-      (λ to v header long short idle is kind sent d' i' l' goes. was_cut p going to v header short (begun_half i busy p to v s.sound.widths going.offered is)
+      (λ to long short bare idle is kind sent d' i' l' goes. was_cut p going to short bare (begun_half i busy p to s.sound.widths going.offered is)
       kind sent d' i' l' goes)
       refl (plan_kind i busy p.header s.sound (to_address p.header going.offered.header))
 
@@ -397,14 +446,14 @@ module _ (made : PayloadValue →
       (λ kind goes. stays d' i' l' goes.1) (λ kind goes. stays d' i' l' goes.1) (λ kind goes. stays d' i' l' goes.1) (λ kind goes. stays d' i' l' goes.1)
       (λ q may from kind goes. asked_by q sent d' i' l' from kind goes.0 goes.1)
       (λ to short kind goes. went_not p to sent d' i' l' unsent goes.0 goes.1)
-      (λ to v header long short idle kind goes. cut_not p to v sent d' i' l' unsent goes)
+      (λ to long short bare idle kind goes. cut_not p to sent d' i' l' unsent goes)
       (plan_kind i busy p.header s.sound (to_address p.header value))
 
   -- ANSWERS TO QUESTIONS
 
   told_frame : (hardware : HardwareAddress) (packet : ArpRepr) → IsStation hardware → IsBetweenStations packet →
       IsHostFrame (medium_on hardware) out (arp_frame packet)
-  told_frame (Hardware.Ethernet own) packet station between = inr (inr (arp_is_other packet between))
+  told_frame (Hardware.Ethernet own) packet station between = inr (inr (inr (arp_is_other packet between)))
   told_frame Hardware.Ip packet station between = absurd station
 
   -- an ARP packet's way out
@@ -424,21 +473,21 @@ module _ (made : PayloadValue →
 
 -- PIECES
 
-rest_by : (hardware : HardwareAddress) (out : List PacketValue) (mtu : ℕ) (c : LeftValue) (b : Bool) → IsLeft hardware out c
-    → IfSome (cond b (Some (record c { at = c.at + piece_room mtu })) None) IsHalfSent →
-    IfSome (cond b (Some (record c { at = c.at + piece_room mtu })) None) (IsLeft hardware out)
+rest_by : (hardware : HardwareAddress) (out : List Outgoing) (mtu : ℕ) (c : LeftValue) (b : Bool) → IsLeft hardware out c
+    → IfSome (cond b (Some (record c { at = c.at + piece_room c.header mtu })) None) IsHalfSent →
+    IfSome (cond b (Some (record c { at = c.at + piece_room c.header mtu })) None) (IsLeft hardware out)
 rest_by hardware out mtu c true left is = record { sent = left.sent; half = is; to = left.to }
 rest_by hardware out mtu c false left is = tt
 
 module _ (made : PayloadValue →
-    Type 0) (first : ℕ) (out : List PacketValue) (i : InnerValue) (c : LeftValue) (d : PortValue) (s : IsSender made first i (Some c) d.link.sent out) where
+    Type 0) (first : ℕ) (out : List Outgoing) (i : InnerValue) (c : LeftValue) (d : PortValue) (s : IsSender made first i (Some c) d.link.sent out) where
   piece_sender : (d' : PortValue) → Departs PortMove d i (departure_from i c) true d' → IsSender made first i (left_from i c) d'.link.sent out
   piece_sender d' departs =
       let caps : i.checksums ≡ sealed = s.sound.checksums in
       let left : IsLeft i.hardware out c = s.left_is in
-      let len : length (piece_frame sealed i.hardware c.to c.header (piece_from i c)) ≡ piece_frame_len i.hardware c.to (piece_from i c) =
+      let len : length (piece_frame sealed i.hardware c.to c.header (piece_from i c)) ≡ piece_frame_len i.hardware c.to c.header (piece_from i c) =
       subst (λ (k : ChecksumCapabilities). length (piece_frame k i.hardware c.to c.header (piece_from i c)) ≡
-      piece_frame_len i.hardware c.to (piece_from i c)) caps departs.1 in
+      piece_frame_len i.hardware c.to c.header (piece_from i c)) caps departs.1 in
       let frame : IsHostFrame (medium_on i.hardware) out (piece_frame i.checksums i.hardware c.to c.header (piece_from i c)) =
       subst (λ (k : ChecksumCapabilities). IsHostFrame (medium_on i.hardware) out (piece_frame k i.hardware c.to c.header (piece_from i c))) (sym caps)
       (piece_frame_is i.hardware out (cut_mtu i c) c left len) in
@@ -446,7 +495,7 @@ module _ (made : PayloadValue →
         sound = s.sound;
         are_sent = s.are_sent;
         left_is = rest_by i.hardware out (cut_mtu i c) c
-            (nat_lt (c.at + piece_room (cut_mtu i c)) (length c.payload)) left (left_half (cut_mtu i c) c left.half);
+            (nat_lt (c.at + piece_room c.header (cut_mtu i c)) (length c.payload)) left (left_half (cut_mtu i c) c left.half);
         frames = subst (λ (fs : List (List ℕ)). AllByRecursion (IsHostFrame (medium_on i.hardware) out) fs)
             (sym (ap (λ (x : PortValue). x.link.sent) departs.0))
             (all_more (IsHostFrame (medium_on i.hardware) out) d.link.sent (piece_frame i.checksums i.hardware c.to c.header (piece_from i c))

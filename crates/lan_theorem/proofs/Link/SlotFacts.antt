@@ -1,7 +1,7 @@
 -- A slot holds of a datagram what the pieces that came said of it, and nothing else.
-use Rattle.std.proofs.Common.{◌≡◌, ◌⊎◌, inl, inr, ℕ, zero, suc, ◌+◌, ◌-◌, ◌<◌, ◌≤◌, ◌^◌, Bool, true, false, cond, List, [], ◌∷◌, length, take, drop}
+use Rattle.std.proofs.Common.{◌≡◌, ◌⊎◌, inl, inr, ℕ, zero, suc, ◌+◌, ◌-◌, ◌<◌, ◌≤◌, Bool, true, false, cond, List, [], ◌∷◌, length, take, drop}
 use Rattle.std.proofs.Common.{Option, Some, None, refl, sym, ◌∙◌, ap, subst, append_assoc, arith}
-use Rattle.std.specs.Prelude.{ℤ, slice_get, nat_le, nat_lt, is_some, position}
+use Rattle.std.specs.Prelude.{ℤ, slice_get, nat_le, is_some, position}
 use Rattle.std.specs.List.{AllByRecursion}
 use Rattle.std.proofs.lemmas.List.{length-take-le}
 use Rattle.std.proofs.lemmas.Bool.Decides.{nat_tests}
@@ -12,29 +12,22 @@ use Rattle.held_bytes.specs.Held.{map_from, overlay, EndsBy}
 use Rattle.held_bytes.proofs.Storing.{held-added, overlay-spliced, length-overlay, EndsBy-union}
 use Rattle.held_bytes.proofs.Fronts.{front-held, front-EndsBy}
 use Rattle.held_bytes.proofs.Refused.{map_from-refused}
-use Rattle.interface_delivery.specs.Ipv4 as Ipv4
-use Rattle.ip_address.specs.declared.ipv4.Ipv4FragKey.{Ipv4FragKey}
-use Rattle.interface_delivery.specs.Ipv4Piece.{Ipv4Piece}
-use Rattle.interface_delivery.specs.Ipv4Repr.{Ipv4Repr}
-use Rattle.interface_ingress.specs.EthernetRepr.{EthernetRepr}
 use Rattle.interface_tables.specs.Best.{at_place}
 use Rattle.interface_tables.specs.Inner.{InnerValue}
 use Rattle.interface_tables.specs.declared.key.FragKey.{FragKey}
-use Rattle.interface_tables.specs.declared.key.FragKey.TheVariants as Keys
 use Rattle.interface_tables.specs.Reassembly.{SlotValue, freed, taken, placed, overwritten, marked, completed, with_piece, with_total, takes_total, is_complete}
 use Rattle.interface_tables.specs.Reassembly.{ends_at, is_free, is_of, place_for}
 use Rattle.interface_tables.specs.Slots.{changed_at, completed_in, opened, is_expired, unless_expired, without_expired}
 use Rattle.interface_tables.specs.Slots.{without_datagram}
 use Rattle.interface_tables.proofs.Apart.{placed-key, opened-key}
-use Rattle.interface_ingress.specs.Arrives.{slots_after, whole_after}
-use Rattle.interface_ingress.specs.Incoming.{IncomingValue, Arp, Ip4, Ip6}
-use Rattle.interface_ingress.specs.Reassembled.{Slots, PieceValue, is_piece, is_piece_v6, part_v4, is_unfit, is_same_datagram, runs_kept, given_up_at, place_of}
-use Rattle.interface_ingress.specs.Reassembled.{place_in, with_part, with_piece as with_part_in, kept, bytes_at, rebuilt, released, uncut}
-use Rattle.interface_delivery.specs.Delivered.{NamesNoPorts}
+use Rattle.interface_ingress.specs.Arrives.{slots_after}
+use Rattle.interface_ingress.specs.Incoming.{IncomingValue}
+use Rattle.interface_ingress.specs.Reassembled.{Slots, PieceValue, part_of, is_unfit, is_same_datagram, runs_kept, given_up_at, place_of}
+use Rattle.interface_ingress.specs.Reassembled.{place_in, with_part, with_piece as with_part_in, kept, bytes_at, released}
+use Rattle.lan_theorem.specs.Link.Held.{IsForeignKey}
 use Rattle.lan_theorem.specs.Said.{Fact, ByteAt, EndsAt, IsOf, Says}
 use Rattle.interface_tables.proofs.Keys.{key_test}
 use Rattle.lan_theorem.proofs.Link.Slots.{all_at, all_map, changed_keeps, changed_there}
-use Rattle.lan_theorem.proofs.Link.Whole6.{kept_whole}
 
 -- A RECEIVE MAP
 
@@ -157,9 +150,10 @@ module _ {K : Type 0} (Q : Fact → Type 0) where
       ]
 
   -- a piece that says what is so
-  pub placed_only : (s : SlotValue K) (p : Ipv4Piece) (x : List ℕ) → HoldsOnly Q s → ((fact : Fact) → Says p x fact → Q fact) →
-      HoldsOnly Q (placed runs_kept s x p.offset p.more)
-  placed_only s p x h so = placed_by s x p.offset p.more h (λ k b j at is. so (ByteAt k b) (j, at, is)) (λ none. so (EndsAt (p.offset + length x)) (none, refl))
+  pub placed_only : (s : SlotValue K) (p : PieceValue) → HoldsOnly Q s → ((fact : Fact) → Says p fact → Q fact) →
+      HoldsOnly Q (placed runs_kept s p.bytes p.offset p.more)
+  placed_only s p h so =
+      placed_by s p.bytes p.offset p.more h (λ k b j at is. so (ByteAt k b) (j, at, is)) (λ none. so (EndsAt (p.offset + length p.bytes)) (none, refl))
 
   -- WHAT IS COMPLETE
 
@@ -185,32 +179,28 @@ module _ {K : Type 0} (Q : Fact → Type 0) where
   pub completed_only : (s : SlotValue K) (bytes : List ℕ) → HoldsOnly Q s → completed s ≡ Some bytes → (fact : Fact) → IsOf bytes fact → Q fact
   completed_only s bytes h done = completed_by s bytes (is_complete s) h refl done
 
--- ALL SLOTS: S says what is so of the IPv4 datagram with a key; no slot is of IPv6
+-- ALL SLOTS: S says what is so of the datagram with a key
 
-abbrev pub OfKeySo : (Ipv4FragKey → Fact → Type 0) → FragKey → SlotValue FragKey → Type 0
-OfKeySo S (Keys.Ipv4 key) s = NamesNoPorts key.protocol ⊎ HoldsOnly (S key) s
-OfKeySo S (Keys.Ipv6 key) s = ⊥
+abbrev pub OfKeySo : (FragKey → Fact → Type 0) → FragKey → SlotValue FragKey → Type 0
+OfKeySo S key s = IsForeignKey key ⊎ HoldsOnly (S key) s
 
-abbrev pub SlotSo : (Ipv4FragKey → Fact → Type 0) → SlotValue FragKey → Type 0
+abbrev pub SlotSo : (FragKey → Fact → Type 0) → SlotValue FragKey → Type 0
 SlotSo S s = (key : FragKey) → s.key ≡ Some key → OfKeySo S key s
 
-abbrev pub SlotsSo : (Ipv4FragKey → Fact → Type 0) → Slots → Type 0
+abbrev pub SlotsSo : (FragKey → Fact → Type 0) → Slots → Type 0
 SlotsSo S slots = AllByRecursion (SlotSo S) slots
 
--- a piece of TCP or UDP says what is so, and no packet of IPv6 is a piece
-abbrev pub PieceSo : (Ipv4FragKey → Fact → Type 0) → Ipv4Repr → Ipv4Piece → List ℕ → Type 0
-PieceSo S h p x = is_piece p ≡ true → NamesNoPorts h.next_header ⊎ ((fact : Fact) → Says p x fact → S (Ipv4.key_of h) fact)
+-- a piece is of neither TCP nor UDP, or says what is so
+abbrev pub PieceSo : (FragKey → Fact → Type 0) → PieceValue → Type 0
+PieceSo S p = IsForeignKey p.key ⊎ ((fact : Fact) → Says p fact → S p.key fact)
 
-abbrev pub ContentSo : (Ipv4FragKey → Fact → Type 0) → Option IncomingValue → Type 0
-ContentSo S None = Unit {0}
-ContentSo S (Some (Arp link packet)) = Unit {0}
-ContentSo S (Some (Ip4 link h p x)) = PieceSo S h p x
-ContentSo S (Some (Ip6 link h x)) = is_piece_v6 h x ≡ false
+abbrev pub ContentSo : (FragKey → Fact → Type 0) → Option IncomingValue → Type 0
+ContentSo S content = (p : PieceValue) → part_of content ≡ Some p → PieceSo S p
 
 abbrev pub Slot : Type 0
 Slot = SlotValue FragKey
 
-module _ (S : Ipv4FragKey → Fact → Type 0) where
+module _ (S : FragKey → Fact → Type 0) where
   freed_so : (s : Slot) → SlotSo S (freed s)
   freed_so s key is = absurd cc
 
@@ -221,60 +211,55 @@ module _ (S : Ipv4FragKey → Fact → Type 0) where
 
   -- A PIECE
 
-  module _ (h : Ipv4Repr) (p : Ipv4Piece) (x : List ℕ) (expires : ℤ) (from : NamesNoPorts h.next_header ⊎
-      ((fact : Fact) → Says p x fact → S (Ipv4.key_of h) fact)) where
-    abbrev own : FragKey
-    own = Keys.Ipv4 (Ipv4.key_of h)
-
+  module _ (p : PieceValue) (expires : ℤ) (from : PieceSo S p) where
     abbrev Holding : Slot → Type 0
-    Holding s = NamesNoPorts h.next_header ⊎ HoldsOnly (S (Ipv4.key_of h)) s
+    Holding s = IsForeignKey p.key ⊎ HoldsOnly (S p.key) s
 
-    opened_so : (s : Slot) → SlotSo S s → Holding (opened is_same_datagram own expires s)
+    opened_so : (s : Slot) → SlotSo S s → Holding (opened is_same_datagram p.key expires s)
     opened_so s is =
-        elim (is_of is_same_datagram own s) as (λ b. (cond b s (taken own expires s)).key ≡ Some own →
-        Holding (cond b s (taken own expires s))) [
-          | true ↦ λ key. is own key
-          | false ↦ λ key. inr (taken_only (S (Ipv4.key_of h)) own expires s)
-        ] (opened-key is_same_datagram key_test own expires s)
+        elim (is_of is_same_datagram p.key s) as (λ b. (cond b s (taken p.key expires s)).key ≡ Some p.key →
+        Holding (cond b s (taken p.key expires s))) [
+          | true ↦ λ key. is p.key key
+          | false ↦ λ key. inr (taken_only (S p.key) p.key expires s)
+        ] (opened-key is_same_datagram key_test p.key expires s)
 
     abbrev put : Slot → Slot
-    put s = placed runs_kept (opened is_same_datagram own expires s) x p.offset p.more
+    put s = placed runs_kept (opened is_same_datagram p.key expires s) p.bytes p.offset p.more
 
-    put_key : (s : Slot) → (put s).key ≡ Some own
-    put_key s = placed-key runs_kept (opened is_same_datagram own expires s) x p.offset p.more ∙
-        opened-key is_same_datagram key_test own expires s
+    put_key : (s : Slot) → (put s).key ≡ Some p.key
+    put_key s = placed-key runs_kept (opened is_same_datagram p.key expires s) p.bytes p.offset p.more ∙
+        opened-key is_same_datagram key_test p.key expires s
 
-    put_by : (s : Slot) → NamesNoPorts h.next_header ⊎ ((fact : Fact) → Says p x fact → S (Ipv4.key_of h) fact) →
-        Holding (opened is_same_datagram own expires s) → Holding (put s)
+    put_by : (s : Slot) → PieceSo S p → Holding (opened is_same_datagram p.key expires s) → Holding (put s)
     put_by s (inl none) holds = inl none
     put_by s (inr so) (inl none) = inl none
-    put_by s (inr so) (inr holds) = inr (placed_only (S (Ipv4.key_of h)) (opened is_same_datagram own expires s) p x holds so)
+    put_by s (inr so) (inr holds) = inr (placed_only (S p.key) (opened is_same_datagram p.key expires s) p holds so)
 
     put_so : (s : Slot) → SlotSo S s → SlotSo S (put s)
     put_so s is key key_is =
-        let e : Some own ≡ Some key = sym (put_key s) ∙ key_is in
-        let same : own ≡ key = cc in
+        let e : Some p.key ≡ Some key = sym (put_key s) ∙ key_is in
+        let same : p.key ≡ key = cc in
         subst (λ (k : FragKey). OfKeySo S k (put s)) same (put_by s from (opened_so s is))
 
-    piece_keeps : (slots : Slots) → SlotsSo S slots → SlotsSo S (changed_at put (place_for is_same_datagram slots own) slots)
-    piece_keeps slots are = changed_keeps (SlotSo S) put (place_for is_same_datagram slots own) slots put_so are
+    piece_keeps : (slots : Slots) → SlotsSo S slots → SlotsSo S (changed_at put (place_for is_same_datagram slots p.key) slots)
+    piece_keeps slots are = changed_keeps (SlotSo S) put (place_for is_same_datagram slots p.key) slots put_so are
 
     -- what is complete at the place of the piece
     abbrev Complete : List ℕ → Type 0
-    Complete bytes = NamesNoPorts h.next_header ⊎ ((fact : Fact) → IsOf bytes fact → S (Ipv4.key_of h) fact)
+    Complete bytes = IsForeignKey p.key ⊎ ((fact : Fact) → IsOf bytes fact → S p.key fact)
 
     complete_by : (s : Slot) (bytes : List ℕ) → Holding s → completed s ≡ Some bytes → Complete bytes
     complete_by s bytes (inl none) done = inl none
-    complete_by s bytes (inr holds) done = inr (completed_only (S (Ipv4.key_of h)) s bytes holds done)
+    complete_by s bytes (inr holds) done = inr (completed_only (S p.key) s bytes holds done)
 
     complete_at : (slots : Slots) (at : ℕ) (o : Option Slot) (bytes : List ℕ) → SlotsSo S slots → at_place (Some at) (changed_at put (Some at) slots) ≡ o →
         completed_in o ≡ Some bytes → Complete bytes
     complete_at slots at None bytes are is done = absurd cc
     complete_at slots at (Some s) bytes are is done =
         let there = changed_there put at (at_place (Some at) slots) slots s refl is in
-        let key : s.key ≡ Some own = ap (λ (t : Slot). t.key) there.1 ∙ put_key there.0 in
+        let key : s.key ≡ Some p.key = ap (λ (t : Slot). t.key) there.1 ∙ put_key there.0 in
         let now : SlotsSo S (changed_at put (Some at) slots) = changed_keeps (SlotSo S) put (Some at) slots put_so are in
-        complete_by s bytes (all_at (SlotSo S) (changed_at put (Some at) slots) at s now is own key) done
+        complete_by s bytes (all_at (SlotSo S) (changed_at put (Some at) slots) at s now is p.key key) done
 
     complete : (slots : Slots) (place : Option ℕ) (bytes : List ℕ) → SlotsSo S slots → bytes_at place (changed_at put place slots) ≡ Some bytes → Complete bytes
     complete slots None bytes are done = absurd cc
@@ -282,82 +267,44 @@ module _ (S : Ipv4FragKey → Fact → Type 0) where
 
   -- A CONTENT
 
-  module _ (i : InnerValue) (timeout : ℕ) (slots : Slots) (h : Ipv4Repr) (p : Ipv4Piece) (x : List ℕ) (from : PieceSo S h p x) (are : SlotsSo S slots) where
-    abbrev part : PieceValue
-    part = part_v4 h p x
+  module _ (i : InnerValue) (timeout : ℕ) (slots : Slots) (are : SlotsSo S slots) where
+    kept_fit : (p : PieceValue) → PieceSo S p → (unfit : Bool) →
+        SlotsSo S (cond unfit (without_datagram is_same_datagram slots p.key) (with_part i timeout slots p))
+    kept_fit p from true = changed_keeps (SlotSo S) freed (position (is_of is_same_datagram p.key) slots) slots (λ s so. freed_so s) are
+    kept_fit p from false = piece_keeps p (given_up_at i timeout) from slots are
 
-    kept_part : (unfit : Bool) → is_piece p ≡ true →
-        SlotsSo S (cond unfit (without_datagram is_same_datagram slots part.key) (with_part i timeout slots part))
-    kept_part true is = changed_keeps (SlotSo S) freed (position (is_of is_same_datagram part.key) slots) slots (λ s so. freed_so s) are
-    kept_part false is = piece_keeps h p x (given_up_at i timeout) (from is) slots are
+    kept_by : (o : Option PieceValue) → ((p : PieceValue) → o ≡ Some p → PieceSo S p) → SlotsSo S (with_part_in i timeout slots o)
+    kept_by None from = are
+    kept_by (Some p) from = kept_fit p (from p refl) (is_unfit slots p)
 
-    kept_cut : (cut : Bool) → is_piece p ≡ cut → SlotsSo S (with_part_in i timeout slots (cond cut (Some part) None))
-    kept_cut true is = kept_part (is_unfit slots part) is
-    kept_cut false is = are
-
-  kept_so : (i : InnerValue) (timeout : ℕ) (slots : Slots) (content : Option IncomingValue) → ContentSo S content → SlotsSo S slots →
-      SlotsSo S (kept i timeout slots content)
-  kept_so i timeout slots None from are = are
-  kept_so i timeout slots (Some (Arp link packet)) from are = are
-  kept_so i timeout slots (Some (Ip4 link h p x)) from are = kept_cut i timeout slots h p x from are (is_piece p) refl
-  kept_so i timeout slots (Some (Ip6 link h x)) from are = subst (SlotsSo S) (sym (kept_whole link h x from i timeout slots)) are
+    rebuilds_fit : (p : PieceValue) → PieceSo S p → (bytes : List ℕ) (unfit : Bool) →
+        bytes_at (cond unfit None (place_for is_same_datagram slots p.key))
+        (cond unfit (without_datagram is_same_datagram slots p.key) (with_part i timeout slots p)) ≡ Some bytes → IsForeignKey p.key ⊎
+        ((fact : Fact) → IsOf bytes fact → S p.key fact)
+    rebuilds_fit p from bytes true done = absurd cc
+    rebuilds_fit p from bytes false done = complete p (given_up_at i timeout) from slots (place_for is_same_datagram slots p.key) bytes are done
 
   released_so : (place : Option ℕ) (slots : Slots) → SlotsSo S slots → SlotsSo S (released place slots)
   released_so place slots are =
       elim (is_some (bytes_at place slots)) as (λ b. SlotsSo S (cond b (changed_at freed place slots) slots)) [
-        | true ↦ changed_keeps (SlotSo S) freed place slots (λ s is. freed_so s) are
+        | true ↦ changed_keeps (SlotSo S) freed place slots (λ s so. freed_so s) are
         | false ↦ are
       ]
 
   -- the slots after a content that says what is so
   pub slots_so : (i : InnerValue) (timeout : ℕ) (slots : Slots) (content : Option IncomingValue) → ContentSo S content → SlotsSo S slots →
       SlotsSo S (slots_after i timeout slots content)
-  slots_so i timeout slots content from are = released_so (place_in slots content) (kept i timeout slots content) (kept_so i timeout slots content from are)
-
-  -- WHAT IS REBUILT
-
-  module _ (i : InnerValue) (timeout : ℕ) (slots : Slots) (h : Ipv4Repr) (p : Ipv4Piece) (x bytes : List ℕ) (from : PieceSo S h p x)
-      (are : SlotsSo S slots) where
-    abbrev piece_in : PieceValue
-    piece_in = part_v4 h p x
-
-    abbrev IsSo : Type 0
-    IsSo = NamesNoPorts h.next_header ⊎ ((fact : Fact) → IsOf bytes fact → S (Ipv4.key_of h) fact)
-
-    rebuilds_fit : (unfit : Bool) → is_piece p ≡ true →
-        bytes_at (cond unfit None (place_for is_same_datagram slots piece_in.key))
-        (cond unfit (without_datagram is_same_datagram slots piece_in.key) (with_part i timeout slots piece_in)) ≡ Some bytes → IsSo
-    rebuilds_fit true is done = absurd cc
-    rebuilds_fit false is done = complete h p x (given_up_at i timeout) (from is) slots (place_for is_same_datagram slots piece_in.key) bytes are done
-
-    rebuilds_by : (cut : Bool) → is_piece p ≡ cut → cut ≡ true →
-        bytes_at (place_of slots (cond cut (Some piece_in) None)) (with_part_in i timeout slots (cond cut (Some piece_in) None)) ≡ Some bytes → IsSo
-    rebuilds_by true is cut done = rebuilds_fit (is_unfit slots piece_in) is done
-    rebuilds_by false is cut done = absurd cc
-
-  short_bytes : (link l : Option EthernetRepr) (h g : Ipv4Repr) (p : Ipv4Piece) (found bytes : List ℕ) (b : Bool) →
-      cond b (Some (Ip4 link (record h { payload_len = length found }) uncut found)) None ≡ Some (Ip4 l g p bytes) → Some found ≡ Some bytes
-  short_bytes link l h g p found bytes true is = let e : found ≡ bytes = cc in ap Some e
-  short_bytes link l h g p found bytes false is = absurd cc
-
-  rebuilt_bytes : (link l : Option EthernetRepr) (h g : Ipv4Repr) (p : Ipv4Piece) (o : Option (List ℕ)) (bytes : List ℕ) →
-      rebuilt link h o ≡ Some (Ip4 l g p bytes) → o ≡ Some bytes
-  rebuilt_bytes link l h g p None bytes is = absurd cc
-  rebuilt_bytes link l h g p (Some found) bytes is = short_bytes link l h g p found bytes (nat_lt (length found) (2 ^ 16 - 20)) is
-
-  whole_bytes : (slots : Slots) (at : Option ℕ) (link l : Option EthernetRepr) (h g : Ipv4Repr) (p r : Ipv4Piece) (x bytes : List ℕ) (cut : Bool) → cut ≡ true →
-      cond cut (rebuilt link h (bytes_at at slots)) (Some (Ip4 link h p x)) ≡ Some (Ip4 l g r bytes) → bytes_at at slots ≡ Some bytes
-  whole_bytes slots at link l h g p r x bytes true cut is = rebuilt_bytes link l h g r (bytes_at at slots) bytes is
-  whole_bytes slots at link l h g p r x bytes false cut is = absurd cc
+  slots_so i timeout slots content from are =
+      released_so (place_in slots content) (kept i timeout slots content) (kept_by i timeout slots are (part_of content) from)
 
   -- whatever is whole once a piece was taken in says what is so
-  pub rebuilds_so : (i : InnerValue) (timeout : ℕ) (slots : Slots) (link l : Option EthernetRepr) (h g : Ipv4Repr) (p r : Ipv4Piece) (x bytes : List ℕ) →
-      SlotsSo S slots → PieceSo S h p x → is_piece p ≡ true
-      → whole_after i timeout slots (Some (Ip4 link h p x)) ≡ Some (Ip4 l g r bytes) → NamesNoPorts h.next_header ⊎
-      ((fact : Fact) → IsOf bytes fact → S (Ipv4.key_of h) fact)
-  rebuilds_so i timeout slots link l h g p r x bytes are from cut whole =
-      rebuilds_by i timeout slots h p x bytes from are (is_piece p) refl cut
-      (whole_bytes (kept i timeout slots (Some (Ip4 link h p x))) (place_in slots (Some (Ip4 link h p x))) link l h g p r x bytes (is_piece p) cut whole)
+  pub rebuilds_so : (i : InnerValue) (timeout : ℕ) (slots : Slots) (content : Option IncomingValue) (p : PieceValue) (bytes : List ℕ) →
+      SlotsSo S slots → ContentSo S content → part_of content ≡ Some p
+      → bytes_at (place_in slots content) (kept i timeout slots content) ≡ Some bytes → IsForeignKey p.key ⊎
+      ((fact : Fact) → IsOf bytes fact → S p.key fact)
+  rebuilds_so i timeout slots content p bytes are from is done =
+      rebuilds_fit i timeout slots are p (from p is) bytes (is_unfit slots p)
+      (subst (λ (o : Option PieceValue). bytes_at (place_of slots o) (with_part_in i timeout slots o) ≡ Some bytes) is done)
 
 -- LESS AND MORE
 
@@ -371,21 +318,20 @@ only_up Q R up s h = record {
       λ n is. up (EndsAt n) (h.total n is);
 }
 
-module _ (S T : Ipv4FragKey → Fact → Type 0) (up : (key : Ipv4FragKey) (fact : Fact) → S key fact → T key fact) where
+module _ (S T : FragKey → Fact → Type 0) (up : (key : FragKey) (fact : Fact) → S key fact → T key fact) where
   key_up : (key : FragKey) (s : Slot) → OfKeySo S key s → OfKeySo T key s
-  key_up (Keys.Ipv4 key) s (inl none) = inl none
-  key_up (Keys.Ipv4 key) s (inr holds) = inr (only_up (S key) (T key) (up key) s holds)
-  key_up (Keys.Ipv6 key) s never = absurd never
+  key_up key s (inl none) = inl none
+  key_up key s (inr holds) = inr (only_up (S key) (T key) (up key) s holds)
 
   pub slots_up : (slots : Slots) → SlotsSo S slots → SlotsSo T slots
   slots_up [] all = tt
   slots_up (s ∷ slots) all = (λ key is. key_up key s (all.0 key is), slots_up slots all.1)
 
 -- a slot that is free
-free_so : (S : Ipv4FragKey → Fact → Type 0) (s : Slot) (key : Option FragKey) → s.key ≡ key → is_free s ≡ true → SlotSo S s
+free_so : (S : FragKey → Fact → Type 0) (s : Slot) (key : Option FragKey) → s.key ≡ key → is_free s ≡ true → SlotSo S s
 free_so S s None is free = λ k some. absurd (let e : None ≡ Some k = sym is ∙ some in cc)
 free_so S s (Some own) is free = absurd cc
 
-pub free_slots_so : (S : Ipv4FragKey → Fact → Type 0) (slots : Slots) → AllByRecursion (λ (s : Slot). is_free s ≡ true) slots → SlotsSo S slots
+pub free_slots_so : (S : FragKey → Fact → Type 0) (slots : Slots) → AllByRecursion (λ (s : Slot). is_free s ≡ true) slots → SlotsSo S slots
 free_slots_so S [] free = tt
 free_slots_so S (s ∷ slots) free = (free_so S s s.key refl free.0, free_slots_so S slots free.1)

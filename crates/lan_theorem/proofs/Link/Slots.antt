@@ -1,34 +1,30 @@
--- A slot of TCP or UDP holds slices of one packet that the other host sent, so what is rebuilt in it is that packet's payload.
-use Rattle.std.proofs.Common.{◌≡◌, ◌⊎◌, inl, inr, ℕ, zero, suc, ◌-◌, ◌^◌, true, false, cond, List, [], ◌∷◌, ◌++◌, length, Option, Some, None, refl, sym, ◌∙◌}
+-- A slot of TCP or UDP holds slices of one datagram that the other host sent, so what is rebuilt in it is that datagram.
+use Rattle.std.proofs.Common.{◌≡◌, ◌⊎◌, inl, inr, ℕ, zero, suc, Bool, true, false, cond, List, [], ◌∷◌, ◌++◌, Option, Some, None, refl, sym, ◌∙◌}
 use Rattle.std.proofs.Common.{ap, subst}
-use Rattle.std.specs.Prelude.{ℤ, map, slice_get, slice_set, nat_lt}
+use Rattle.std.specs.Prelude.{ℤ, map, slice_get, slice_set, position, is_some}
 use Rattle.std.specs.List.{AllByRecursion}
-use Rattle.interface_delivery.specs.Ipv4 as Ipv4
 use Rattle.ip_address.specs.declared.ipv4.Ipv4FragKey.{Ipv4FragKey}
-use Rattle.interface_delivery.specs.Ipv4Piece.{Ipv4Piece}
-use Rattle.interface_delivery.specs.Ipv4Repr.{Ipv4Repr}
+use Rattle.interface_delivery.specs.Ipv6Repr.{Ipv6Repr}
 use Rattle.interface_delivery.specs.IpRepr.TheVariants as Ip
-use Rattle.interface_ingress.specs.EthernetRepr.{EthernetRepr}
-use Rattle.sockets.specs.Packet.{PacketValue, PayloadValue}
 use Rattle.interface_tables.specs.Best.{at_place}
+use Rattle.interface_tables.specs.Inner.{InnerValue}
 use Rattle.interface_tables.specs.Pieces as Pieces
 use Rattle.interface_tables.specs.declared.key.FragKey.{FragKey}
 use Rattle.interface_tables.specs.declared.key.FragKey.TheVariants as Keys
+use Rattle.interface_tables.specs.declared.key.Ipv6FragKey.{Ipv6FragKey}
 use Rattle.interface_tables.specs.Reassembly.{SlotValue, freed, taken, placed, completed, is_of, place_for}
-use Rattle.interface_tables.specs.Slots.{changed, changed_at, completed_in, opened, is_expired, unless_expired, without_expired}
+use Rattle.interface_tables.specs.Slots.{changed, changed_at, completed_in, opened, is_expired, unless_expired, without_datagram, without_expired}
 use Rattle.interface_tables.proofs.Apart.{placed-key, opened-key}
 use Rattle.interface_tables.proofs.Rebuilt.{HoldsSlicesOf-taken, HoldsSlicesOf-placed, completed-payload}
-use Rattle.interface_ingress.specs.Incoming.{Ip4}
-use Rattle.interface_ingress.specs.Reassembled.{Slots, is_piece, is_same_datagram, runs_kept, bytes_at, rebuilt, uncut}
-use Rattle.interface_delivery.specs.Delivered.{NamesNoPorts}
-use Rattle.lan_theorem.specs.Link.Made.{HandsMade, BringsMade, bytes_of}
-use Rattle.lan_theorem.specs.Link.Frames.{IsSentV4, IsPieceOf, IsFrom, AreOut}
+use Rattle.interface_ingress.specs.Reassembled.{Slots, PieceValue, is_unfit, is_same_datagram, runs_kept, given_up_at, place_of, with_part, with_piece}
+use Rattle.interface_ingress.specs.Reassembled.{bytes_at, released}
+use Rattle.lan_theorem.specs.Link.Made.{bytes_of}
+use Rattle.lan_theorem.specs.Link.Frames.{Outgoing, IsDatagramV4, IsDatagramV6, IsDatagram, IsPieceOf, behind_fragment}
 use Rattle.lan_theorem.specs.Link.Numbers.{AreNumbered, AreFew}
-use Rattle.lan_theorem.specs.Link.Held.{HoldsSent, IsOfKey, IsSlotOf, AreSlotsOf}
+use Rattle.lan_theorem.specs.Link.Held.{IsForeignKey, HoldsSent, IsOfKey, IsSlotOf, AreSlotsOf}
 use Rattle.interface_tables.proofs.Keys.{key_test}
 use Rattle.lan_theorem.proofs.Link.Rebuilt.{IsRebuiltOf}
-use Rattle.lan_theorem.proofs.Link.Hands.{hands_none, hands_v4}
-use Rattle.lan_theorem.proofs.Link.Numbers.{one_number}
+use Rattle.lan_theorem.proofs.Link.Numbers.{one_number, one_number_v4}
 
 -- LISTS
 
@@ -82,128 +78,146 @@ changed_there f at (Some s) slots s' is there =
 
 -- FREED AND EXPIRED
 
-pub freed_is : (out : List PacketValue) (s : Slot) → IsSlotOf out (freed s)
+pub freed_is : (out : List Outgoing) (s : Slot) → IsSlotOf out (freed s)
 freed_is out s key is = absurd cc
 
-pub expired_keep : (out : List PacketValue) (slots : Slots) (moment : ℤ) → AreSlotsOf out slots → AreSlotsOf out (without_expired slots moment)
+pub expired_keep : (out : List Outgoing) (slots : Slots) (moment : ℤ) → AreSlotsOf out slots → AreSlotsOf out (without_expired slots moment)
 expired_keep out slots moment all =
     all_map (IsSlotOf out) (unless_expired moment) slots
     (λ s is. elim (is_expired moment s) as (λ b. IsSlotOf out (cond b (freed s) s)) [ true ↦ freed_is out s | false ↦ is ]) all
 
 -- PIECES
 
-module _ (made : PayloadValue → Type 0) (first : ℕ) (out : List PacketValue) (next : ℕ) (are : AreNumbered first out next) (few : AreFew out)
-    (all : AreOut made out) where
-  -- one key is of one packet
-  one_key : (v w : Ipv4Repr) (b c : List ℕ) → IsSentV4 out v b → IsSentV4 out w c → Ipv4.key_of (Ipv4.normal v) ≡ Ipv4.key_of (Ipv4.normal w) → b ≡ c
-  one_key v w b c one other same =
-      let ident : v.ident ≡ w.ident = ap (λ (k : Ipv4FragKey). k.id) same in
-      let packet : one.packet ≡ other.packet =
-      one_number first out next one.packet other.packet v w are few one.among other.among one.header other.header ident in
-      one.bytes_are ∙ ap bytes_of packet ∙ sym other.bytes_are
+-- a piece of neither TCP nor UDP, or of a datagram that was sent
+abbrev pub IsPartOf : List Outgoing → PieceValue → Type 0
+IsPartOf out p = IsForeignKey p.key ⊎ IsPieceOf out p
 
-  module _ (link : Option EthernetRepr) (h : Ipv4Repr) (p : Ipv4Piece) (x : List ℕ) (expires : ℤ) (cut : is_piece p ≡
-      true) (from : IsFrom made out (Ip4 link h p x)) where
-    abbrev own : FragKey
-    own = Keys.Ipv4 (Ipv4.key_of h)
+module _ (first : ℕ) (out : List Outgoing) (next : ℕ) (are : AreNumbered first out next) (few : AreFew out) where
+  -- one key is of one datagram
+  one_key_v4 : (key : Ipv4FragKey) (b c : List ℕ) → IsDatagramV4 out key b → IsDatagramV4 out key c → b ≡ c
+  one_key_v4 key b c one other =
+      let ident : one.header.ident ≡ other.header.ident = ap (λ (k : Ipv4FragKey). k.id) (sym one.key_is ∙ other.key_is) in
+      let packet : one.sent.packet ≡ other.sent.packet =
+      one_number_v4 first out next one.sent.packet other.sent.packet one.header other.header are few one.sent.among other.sent.among one.sent.header
+      other.sent.header ident in
+      one.sent.bytes_are ∙ ap bytes_of packet ∙ sym other.sent.bytes_are
 
-    opened_holds : (s : Slot) → IsSlotOf out s → IsPieceOf out h p x → NamesNoPorts h.next_header ⊎
-        HoldsSent out (Ipv4.key_of h) (opened is_same_datagram own expires s)
+  same_v6 : (v w : Ipv6Repr) → Ip.Ipv6 v ≡ Ip.Ipv6 w → v ≡ w
+  same_v6 v w same = cc
+
+  one_key_v6 : (key : Ipv6FragKey) (b c : List ℕ) → IsDatagramV6 out key b → IsDatagramV6 out key c → b ≡ c
+  one_key_v6 key b c one other =
+      let packet : one.cut.sent.packet ≡ other.cut.sent.packet =
+      one_number first out next one.cut.sent.packet other.cut.sent.packet key.id are few one.cut.numbered other.cut.numbered in
+      let payload : one.payload ≡ other.payload = one.cut.sent.bytes_are ∙ ap bytes_of packet ∙ sym other.cut.sent.bytes_are in
+      let header : one.header ≡ other.header =
+      same_v6 one.header other.header (sym one.cut.sent.header ∙ ap (λ p. p.header) packet ∙ other.cut.sent.header) in
+      one.bytes_are
+      ∙ ap (λ (v : Ipv6Repr). behind_fragment v.next_header key.id one.payload) header
+      ∙ ap (behind_fragment other.header.next_header key.id) payload
+      ∙ sym other.bytes_are
+
+  pub one_key : (key : FragKey) (b c : List ℕ) → IsDatagram out key b → IsDatagram out key c → b ≡ c
+  one_key (Keys.Ipv4 key) b c one other = one_key_v4 key b c one other
+  one_key (Keys.Ipv6 key) b c one other = one_key_v6 key b c one other
+
+  module _ (p : PieceValue) (expires : ℤ) (from : IsPartOf out p) where
+    opened_holds : (s : Slot) → IsSlotOf out s → IsPieceOf out p → IsForeignKey p.key ⊎ HoldsSent out p.key (opened is_same_datagram p.key expires s)
     opened_holds s is piece =
-        elim (is_of is_same_datagram own s) as (λ b. (cond b s (taken own expires s)).key ≡ Some own →
-        NamesNoPorts h.next_header ⊎ HoldsSent out (Ipv4.key_of h) (cond b s (taken own expires s))) [
-          | true ↦ λ key. is own key
+        elim (is_of is_same_datagram p.key s) as (λ b. (cond b s (taken p.key expires s)).key ≡ Some p.key →
+        IsForeignKey p.key ⊎ HoldsSent out p.key (cond b s (taken p.key expires s))) [
+          | true ↦ λ key. is p.key key
           | false ↦ λ key. inr (record {
-            sent_header = piece.sent_header;
             bytes = piece.bytes;
             sent = piece.sent;
-            key_is = piece.key;
-            holds =
-                HoldsSlicesOf-taken runs_kept piece.bytes own expires s;
+            holds = HoldsSlicesOf-taken runs_kept piece.bytes p.key expires s;
           })
-        ] (opened-key is_same_datagram key_test own expires s)
+        ] (opened-key is_same_datagram key_test p.key expires s)
 
-    placed_holds : (o : Slot) → IsPieceOf out h p x → HoldsSent out (Ipv4.key_of h) o → HoldsSent out (Ipv4.key_of h) (placed runs_kept o x p.offset p.more)
+    placed_holds : (o : Slot) → IsPieceOf out p → HoldsSent out p.key o → HoldsSent out p.key (placed runs_kept o p.bytes p.offset p.more)
     placed_holds o piece held =
-        let same : piece.bytes ≡ held.bytes =
-        one_key piece.sent_header held.sent_header piece.bytes held.bytes piece.sent held.sent (sym piece.key ∙ held.key_is) in
-        let slice : Pieces.IsSliceOf held.bytes (record { offset = p.offset; more = p.more; bytes = x }) =
-        subst (λ (b : List ℕ). Pieces.IsSliceOf b (record { offset = p.offset; more = p.more; bytes = x })) same piece.slice in
+        let same : piece.bytes ≡ held.bytes = one_key p.key piece.bytes held.bytes piece.sent held.sent in
+        let slice : Pieces.IsSliceOf held.bytes (record { offset = p.offset; more = p.more; bytes = p.bytes }) =
+        subst (λ (b : List ℕ). Pieces.IsSliceOf b (record { offset = p.offset; more = p.more; bytes = p.bytes })) same piece.slice in
         record {
-          sent_header = held.sent_header;
           bytes = held.bytes;
           sent = held.sent;
-          key_is = held.key_is;
-          holds =
-              HoldsSlicesOf-placed runs_kept held.bytes o (record { offset = p.offset; more = p.more; bytes = x }) held.holds slice;
+          holds = HoldsSlicesOf-placed runs_kept held.bytes o (record { offset = p.offset; more = p.more; bytes = p.bytes }) held.holds slice;
         }
 
     abbrev put : Slot → Slot
-    put s = placed runs_kept (opened is_same_datagram own expires s) x p.offset p.more
+    put s = placed runs_kept (opened is_same_datagram p.key expires s) p.bytes p.offset p.more
 
-    put_key : (s : Slot) → (put s).key ≡ Some own
-    put_key s = placed-key runs_kept (opened is_same_datagram own expires s) x p.offset p.more ∙
-        opened-key is_same_datagram key_test own expires s
+    put_key : (s : Slot) → (put s).key ≡ Some p.key
+    put_key s = placed-key runs_kept (opened is_same_datagram p.key expires s) p.bytes p.offset p.more ∙
+        opened-key is_same_datagram key_test p.key expires s
 
-    put_by : (s : Slot) → IsFrom made out (Ip4 link h p x) → IsSlotOf out s → NamesNoPorts h.next_header ⊎ HoldsSent out (Ipv4.key_of h) (put s)
-    put_by s (inl made_whole) is = inl (made_whole.0 cut)
+    put_by : (s : Slot) → IsPartOf out p → IsSlotOf out s → IsForeignKey p.key ⊎ HoldsSent out p.key (put s)
+    put_by s (inl none) is = inl none
     put_by s (inr piece) is =
-        elim (opened_holds s is piece) [ inl none ↦ inl none | inr held ↦ inr (placed_holds (opened is_same_datagram own expires s) piece held) ]
+        elim (opened_holds s is piece) [ inl none ↦ inl none | inr held ↦ inr (placed_holds (opened is_same_datagram p.key expires s) piece held) ]
 
     -- a slot that the piece comes to is one still
     put_is : (s : Slot) → IsSlotOf out s → IsSlotOf out (put s)
     put_is s is key key_is =
-        let e : Some own ≡ Some key = sym (put_key s) ∙ key_is in
-        let same : own ≡ key = cc in
+        let e : Some p.key ≡ Some key = sym (put_key s) ∙ key_is in
+        let same : p.key ≡ key = cc in
         subst (λ (k : FragKey). IsOfKey out k (put s)) same (put_by s from is)
 
-    -- what is complete at the place of the piece is the payload of one packet
-    complete_by : (s : Slot) (bytes : List ℕ) → NamesNoPorts h.next_header ⊎ HoldsSent out (Ipv4.key_of h) s → completed s ≡ Some bytes →
-        IsRebuiltOf out h bytes
+    -- what is complete at the place of the piece is a whole datagram
+    complete_by : (s : Slot) (bytes : List ℕ) → IsForeignKey p.key ⊎ HoldsSent out p.key s → completed s ≡ Some bytes → IsRebuiltOf out p.key bytes
     complete_by s bytes (inl none) done = inl none
     complete_by s bytes (inr held) done =
         let is : bytes ≡ held.bytes = completed-payload runs_kept held.bytes s bytes held.holds done in
-        inr (record { sent_header = held.sent_header; sent = subst (IsSentV4 out held.sent_header) (sym is) held.sent; key_is = held.key_is })
+        inr (subst (IsDatagram out p.key) (sym is) held.sent)
 
     complete_at : (slots : Slots) (at : ℕ) (o : Option Slot) (bytes : List ℕ) → AreSlotsOf out slots → at_place (Some at) (changed_at put (Some at) slots) ≡ o →
-        completed_in o ≡ Some bytes → IsRebuiltOf out h bytes
+        completed_in o ≡ Some bytes → IsRebuiltOf out p.key bytes
     complete_at slots at None bytes are_slots is done = absurd cc
     complete_at slots at (Some s) bytes are_slots is done =
         let there = changed_there put at (at_place (Some at) slots) slots s refl is in
-        let key : s.key ≡ Some own = ap (λ (t : Slot). t.key) there.1 ∙ put_key there.0 in
+        let key : s.key ≡ Some p.key = ap (λ (t : Slot). t.key) there.1 ∙ put_key there.0 in
         let now : AreSlotsOf out (changed_at put (Some at) slots) = changed_keeps (IsSlotOf out) put (Some at) slots put_is are_slots in
-        complete_by s bytes (all_at (IsSlotOf out) (changed_at put (Some at) slots) at s now is own key) done
+        complete_by s bytes (all_at (IsSlotOf out) (changed_at put (Some at) slots) at s now is p.key key) done
 
     complete : (slots : Slots) (place : Option ℕ) (bytes : List ℕ) → AreSlotsOf out slots → bytes_at place (changed_at put place slots) ≡ Some bytes →
-        IsRebuiltOf out h bytes
+        IsRebuiltOf out p.key bytes
     complete slots None bytes are_slots done = absurd cc
     complete slots (Some at) bytes are_slots done = complete_at slots at (at_place (Some at) (changed_at put (Some at) slots)) bytes are_slots refl done
 
-    -- and was made
-    hands_by : (bytes : List ℕ) → IsRebuiltOf out h bytes → HandsMade made (Ip.Ipv4 (record h { payload_len = length bytes })) bytes
-    hands_by bytes (inl none) = hands_none made (Ip.Ipv4 (record h { payload_len = length bytes })) bytes none
-    hands_by bytes (inr of) = hands_v4 made out of.sent_header (record h { payload_len = length bytes }) bytes all of.sent of.key_is
+    piece_keeps : (slots : Slots) → AreSlotsOf out slots → AreSlotsOf out (changed_at put (place_for is_same_datagram slots p.key) slots)
+    piece_keeps slots are_slots = changed_keeps (IsSlotOf out) put (place_for is_same_datagram slots p.key) slots put_is are_slots
 
-    rebuilt_made : (o : Option (List ℕ)) → ((bytes : List ℕ) → o ≡ Some bytes → HandsMade made (Ip.Ipv4 (record h { payload_len = length bytes })) bytes) →
-        BringsMade made (rebuilt link h o)
-    rebuilt_made None hands = tt
-    rebuilt_made (Some bytes) hands =
-        elim (nat_lt (length bytes) (2 ^ 16 - 20)) as
-        (λ b. BringsMade made (cond b (Some (Ip4 link (record h { payload_len = length bytes }) uncut bytes)) None))
-        [ true ↦ hands bytes refl | false ↦ tt ]
+  -- A PIECE OR NONE
 
-    pub piece_keeps : (slots : Slots) → AreSlotsOf out slots → AreSlotsOf out (changed_at put (place_for is_same_datagram slots own) slots)
-    piece_keeps slots are_slots = changed_keeps (IsSlotOf out) put (place_for is_same_datagram slots own) slots put_is are_slots
+  abbrev pub MayBePartOf : Option PieceValue → Type 0
+  MayBePartOf o = (p : PieceValue) → o ≡ Some p → IsPartOf out p
 
-    pub piece_brings : (slots : Slots) → AreSlotsOf out slots
-        → BringsMade made (rebuilt link h
-        (bytes_at (place_for is_same_datagram slots own) (changed_at put (place_for is_same_datagram slots own) slots)))
-    piece_brings slots are_slots =
-        let place = place_for is_same_datagram slots own in
-        rebuilt_made (bytes_at place (changed_at put place slots)) (λ bytes done. hands_by bytes (complete slots place bytes are_slots done))
+  module _ (i : InnerValue) (timeout : ℕ) (slots : Slots) (slots_are : AreSlotsOf out slots) where
+    kept_fit : (p : PieceValue) → IsPartOf out p → (unfit : Bool) →
+        AreSlotsOf out (cond unfit (without_datagram is_same_datagram slots p.key) (with_part i timeout slots p))
+    kept_fit p from true = changed_keeps (IsSlotOf out) freed (position (is_of is_same_datagram p.key) slots) slots (λ s so. freed_is out s) slots_are
+    kept_fit p from false = piece_keeps p (given_up_at i timeout) from slots slots_are
 
-    -- the payload that is rebuilt when the piece comes
-    pub piece_rebuilds : (slots : Slots) (bytes : List ℕ) → AreSlotsOf out slots
-        → bytes_at (place_for is_same_datagram slots own) (changed_at put (place_for is_same_datagram slots own) slots) ≡ Some bytes →
-        IsRebuiltOf out h bytes
-    piece_rebuilds slots bytes are_slots done = complete slots (place_for is_same_datagram slots own) bytes are_slots done
+    pub part_keeps : (o : Option PieceValue) → MayBePartOf o → AreSlotsOf out (with_piece i timeout slots o)
+    part_keeps None from = slots_are
+    part_keeps (Some p) from = kept_fit p (from p refl) (is_unfit slots p)
+
+    rebuilt_fit : (p : PieceValue) → IsPartOf out p → (bytes : List ℕ) (unfit : Bool) →
+        bytes_at (cond unfit None (place_for is_same_datagram slots p.key))
+        (cond unfit (without_datagram is_same_datagram slots p.key) (with_part i timeout slots p)) ≡ Some bytes → IsRebuiltOf out p.key bytes
+    rebuilt_fit p from bytes true done = absurd cc
+    rebuilt_fit p from bytes false done =
+        complete p (given_up_at i timeout) from slots (place_for is_same_datagram slots p.key) bytes slots_are done
+
+    -- what is whole once a piece was taken in is a datagram that was sent
+    pub part_rebuilds : (p : PieceValue) → IsPartOf out p → (bytes : List ℕ) →
+        bytes_at (place_of slots (Some p)) (with_piece i timeout slots (Some p)) ≡ Some bytes → IsRebuiltOf out p.key bytes
+    part_rebuilds p from bytes done = rebuilt_fit p from bytes (is_unfit slots p) done
+
+  pub released_keeps : (place : Option ℕ) (slots : Slots) → AreSlotsOf out slots → AreSlotsOf out (released place slots)
+  released_keeps place slots slots_are =
+      elim (is_some (bytes_at place slots)) as (λ b. AreSlotsOf out (cond b (changed_at freed place slots) slots)) [
+        | true ↦ changed_keeps (IsSlotOf out) freed place slots (λ s is. freed_is out s) slots_are
+        | false ↦ slots_are
+      ]

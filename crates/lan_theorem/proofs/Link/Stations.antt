@@ -20,7 +20,7 @@ use Rattle.interface_delivery.specs.Ipv6Repr.{Ipv6Repr}
 use Rattle.interface_ingress.specs.ArpRepr.{ArpRepr}
 use Rattle.interface_ingress.specs.ArpRepr.TheVariants as ArpIs
 use Rattle.interface_ingress.specs.EthernetRepr.{EthernetRepr}
-use Rattle.sockets.specs.Packet.{PacketValue, PayloadValue, ControlV4, ControlV6, Bytes, Datagram, Segment}
+use Rattle.sockets.specs.Packet.{PayloadValue, ControlV4, ControlV6, Bytes, Datagram, Segment}
 use Rattle.interface_tables.specs.Best.{at_place}
 use Rattle.interface_tables.specs.Inner.{InnerValue, context_of, with_neighbor, table_room, is_for_us}
 use Rattle.interface_tables.specs.Neighbor.{entry_lifetime, renewed_entry, renewed_at, filled_at, place_of, victim}
@@ -37,7 +37,7 @@ use Rattle.interface_ingress.specs.Reassembled.{is_control_v6}
 use Rattle.interface_ingress.specs.Heard.{neighbor_heard, heard, heard_on, station, learned, advertised, replaces, counts, tells, answer}
 use Rattle.interface_ingress.specs.Incoming.{IncomingValue, Arp, Ip4, Ip6}
 use Rattle.interface_ingress.proofs.Settings.{brings_same}
-use Rattle.lan_theorem.specs.Link.Frames.{medium_on}
+use Rattle.lan_theorem.specs.Link.Frames.{Outgoing, medium_on}
 use Rattle.lan_theorem.specs.Link.Sides.{AreSent, IsHostFrame, IsStation, HasSixBytes, RoutersAre, IsSound, IsSender}
 use Rattle.lan_theorem.proofs.Link.Slots.{all_set, all_at, all_more}
 use Rattle.lan_theorem.proofs.Link.Sends.{left_to}
@@ -205,7 +205,7 @@ near_brings i places (Some (Ip6 link header payload)) a near is =
 -- THE SENDER
 
 -- a host of which nothing that a sender is read by has changed
-pub sender_settled : (made : PayloadValue → Type 0) (first : ℕ) (out : List PacketValue) (i i' : InnerValue) (l : Option LeftValue) (sent : List (List ℕ)) →
+pub sender_settled : (made : PayloadValue → Type 0) (first : ℕ) (out : List Outgoing) (i i' : InnerValue) (l : Option LeftValue) (sent : List (List ℕ)) →
     i'.hardware ≡ i.hardware → i'.ident ≡ i.ident → IsSound i'
     → IsSender made first i l sent out → IsSender made first i' l sent out
 sender_settled made first out i i' l sent hardware ident sound s = record {
@@ -216,7 +216,7 @@ sender_settled made first out i i' l sent hardware ident sound s = record {
 }
 
 -- what arrives leaves a sender one
-pub arrival_keeps_sender : (made : PayloadValue → Type 0) (first : ℕ) (out : List PacketValue) (i : InnerValue) (l : Option LeftValue) (sent : List (List ℕ))
+pub arrival_keeps_sender : (made : PayloadValue → Type 0) (first : ℕ) (out : List Outgoing) (i : InnerValue) (l : Option LeftValue) (sent : List (List ℕ))
     (places : Places) (content : Option IncomingValue) (a : Arrived)
     → Brings i places content a → IsSender made first i l sent out → IsSender made first a.inner l sent out
 arrival_keeps_sender made first out i l sent places content a brings s =

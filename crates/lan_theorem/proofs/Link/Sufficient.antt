@@ -8,7 +8,6 @@ use Rattle.std.proofs.lemmas.Bool.Decides.{nat_tests}
 use Rattle.std.proofs.lemmas.List.Sums.{sum_by-append}
 use Rattle.lan_frames.specs.DeviceCapabilities.{DeviceCapabilities}
 use Rattle.lan_frames.specs.Medium.{Medium}
-use Rattle.sockets.specs.Packet.{PacketValue}
 use Rattle.lan_hosts.specs.History.{Entry}
 use Rattle.lan_hosts.specs.Kinds.{Kind, kind_of}
 use Rattle.lan_hosts.specs.Kinds.Act.{Polls}
@@ -23,8 +22,9 @@ use Rattle.lan_hosts.specs.Refusals.{Table, may_run_out, refusal, table}
 use Rattle.lan_hosts.specs.Runs.{table_in, tables_in, Leads}
 use Rattle.lan_hosts.specs.Station.{Stations, station}
 use Rattle.lan_hosts.proofs.Growing.{tables_go_on, happens_stays}
-use Rattle.lan_theorem.specs.Link.Numbers.{count_v4, AreFew, IsTied}
+use Rattle.lan_theorem.specs.Link.Numbers.{count_numbered, AreFew, IsTied}
 use Rattle.lan_theorem.proofs.Link.Begun.{worth}
+use Rattle.lan_theorem.specs.Link.Frames.{Outgoing}
 
 -- THE FIRST TEST
 
@@ -90,7 +90,7 @@ module _ (past : List Entry) (e : Entry) (old new : Stations) (side : Side) (lea
         ∙ ap (λ (fs : List (List ℕ)). before + count_by begins fs) rest in
         omega (arith, all, now)
 
-    pub polled_few : (out out' : List PacketValue) → count_v4 out ≤ before →
-        count_v4 out' ≤ count_v4 out + budget * (1 + sockets_in (station old side).places)
-        → IsTied (medium_of (station old side)) out (station old side).link.sent out' (station new side).link.sent → AreFew out' × (count_v4 out' ≤ behind)
+    pub polled_few : (out out' : List Outgoing) → count_numbered out ≤ before →
+        count_numbered out' ≤ count_numbered out + budget * (1 + sockets_in (station old side).places)
+        → IsTied (medium_of (station old side)) out (station old side).link.sent out' (station new side).link.sent → AreFew out' × (count_numbered out' ≤ behind)
     polled_few out out' few most tied = (omega (arith, few, most, room), omega (arith, few, tied, more_frames))

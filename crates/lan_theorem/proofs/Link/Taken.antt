@@ -1,134 +1,184 @@
 -- A host takes a frame: what it brings, whole or rebuilt, was made.
-use Rattle.std.proofs.Common.{◌≡◌, inl, inr, ℕ, ◌-◌, ◌^◌, Bool, true, false, cond, List, [], ◌∷◌, ◌++◌, length, Option, Some, None, refl, sym, ◌∙◌, ap, subst}
-use Rattle.std.specs.Prelude.{ℤ, is_some, nat_lt, position}
+use Rattle.std.proofs.Common.{◌≡◌, inl, inr, ℕ, ◌-◌, ◌^◌, Bool, true, false, cond, List, [], ◌∷◌, ◌++◌, length, drop, Option, Some, None, refl, sym, ◌∙◌, ap, subst}
+use Rattle.std.specs.Prelude.{ℤ, nat_lt}
 use Rattle.std.specs.List.{AllByRecursion}
 use Rattle.interface_ingress.specs.HardwareAddress.{HardwareAddress}
+use Rattle.interface_ingress.specs.Behind.{Behind}
+use Rattle.interface_ingress.specs.Behind.TheVariants as End
+use Rattle.interface_ingress.specs.Headers as Headers
+use Rattle.interface_ingress.specs.IpProtocol.TheVariants as Protocol
+use Rattle.interface_delivery.specs.Ipv4 as Ipv4
 use Rattle.interface_delivery.specs.Ipv4Piece.{Ipv4Piece}
 use Rattle.interface_delivery.specs.Ipv4Repr.{Ipv4Repr}
 use Rattle.interface_delivery.specs.Ipv6Repr.{Ipv6Repr}
+use Rattle.interface_delivery.specs.IpRepr.TheVariants as Ip
 use Rattle.interface_ingress.specs.EthernetRepr.{EthernetRepr}
 use Rattle.lan_frames.specs.ChecksumCapabilities.{ChecksumCapabilities}
-use Rattle.sockets.specs.Packet.{PacketValue, PayloadValue}
+use Rattle.sockets.specs.Packet.{PayloadValue}
 use Rattle.interface_tables.specs.Inner.{InnerValue}
-use Rattle.interface_tables.specs.Reassembly.{freed, is_of, place_for}
-use Rattle.interface_tables.specs.Slots.{changed_at, without_datagram, without_expired}
+use Rattle.interface_tables.specs.Slots.{without_expired}
+use Rattle.interface_tables.specs.declared.key.FragKey.{FragKey}
+use Rattle.interface_tables.specs.declared.key.FragKey.TheVariants as Keys
 use Rattle.interface_ingress.specs.Arrives.{Arrived, ArrivesAs, slots_after, whole_after}
 use Rattle.interface_ingress.specs.Delivered.{Places}
 use Rattle.interface_ingress.specs.Incoming.{IncomingValue, Arp, Ip4, Ip6, IsIncoming, IsContent}
-use Rattle.interface_ingress.specs.Kept.{IsNoPieceV6}
-use Rattle.interface_ingress.specs.Reassembled.{Slots, PieceValue, is_piece, is_piece_v6, part_v4, is_unfit, is_same_datagram, is_taken_in, taken_in}
-use Rattle.interface_ingress.specs.Reassembled.{given_up_at, place_of, place_in, with_part, with_piece, kept, bytes_at, rebuilt, released, uncut}
+use Rattle.interface_ingress.specs.Reassembled.{Slots, PieceValue, is_piece, is_piece_v6, part_v4, part_v6, part_behind, part_in, part_of, behind_headers}
+use Rattle.interface_ingress.specs.Reassembled.{is_taken_in, taken_in, place_of, place_in, with_piece, kept, bytes_at, rebuilt, rebuilt_v6, uncut}
 use Rattle.interface_ingress.proofs.Settings.{brings_same}
-use Rattle.lan_theorem.specs.Link.Made.{sealed, BringsMade}
-use Rattle.lan_theorem.specs.Link.Frames.{IsFrom, BringsFrom}
-use Rattle.lan_theorem.specs.Link.Held.{IsSlotOf, AreSlotsOf}
+use Rattle.lan_theorem.specs.Link.Made.{sealed, HandsMade, BringsMade}
+use Rattle.lan_theorem.specs.Link.Frames.{Outgoing, IsFrom, BringsFrom}
+use Rattle.lan_theorem.specs.Link.Held.{AreSlotsOf}
 use Rattle.lan_theorem.proofs.Link.Rebuilt.{IsRebuiltOf}
 use Rattle.lan_theorem.specs.Link.Numbers.{AreFew}
 use Rattle.lan_theorem.specs.Link.Sides.{AreSent, IsReceiver}
-use Rattle.lan_theorem.proofs.Link.Hands.{brings_whole}
-use Rattle.lan_theorem.proofs.Link.Slots.{all_more, changed_keeps, freed_is, expired_keep, piece_keeps, piece_brings, piece_rebuilds}
-use Rattle.lan_theorem.proofs.Link.Whole6.{kept_whole, whole_is}
+use Rattle.lan_theorem.proofs.Link.Hands.{brings_whole, hands_none, hands_v4, hands_v6, no_part}
+use Rattle.lan_theorem.proofs.Link.Slots.{IsPartOf, all_more, expired_keep, part_keeps, part_rebuilds, released_keeps}
 
 -- each content is of a frame that is brought to a host
-abbrev pub AreFrom : (PayloadValue → Type 0) → List PacketValue → Option IncomingValue → Type 0
+abbrev pub AreFrom : (PayloadValue → Type 0) → List Outgoing → Option IncomingValue → Type 0
 AreFrom made out None = Unit {0}
 AreFrom made out (Some v) = IsFrom made out v
 
 -- WHAT IS READ
 
 -- the content of a frame is what the frame brings
-pub content_from : (made : PayloadValue → Type 0) (out : List PacketValue) (hardware : HardwareAddress) (caps : ChecksumCapabilities) (frame : List ℕ)
+pub content_from : (made : PayloadValue → Type 0) (out : List Outgoing) (hardware : HardwareAddress) (caps : ChecksumCapabilities) (frame : List ℕ)
     (content : Option IncomingValue)
     → caps ≡ sealed → BringsFrom made out hardware frame → IsContent hardware caps frame content → AreFrom made out content
 content_from made out hardware caps frame None are brings is = tt
 content_from made out hardware caps frame (Some v) are brings is = brings v (subst (λ (c : ChecksumCapabilities). IsIncoming hardware c frame v) are is)
 
--- no packet of IPv6 is a piece
-pub whole_from : (made : PayloadValue → Type 0) (out : List PacketValue) (content : Option IncomingValue) → AreFrom made out content → IsNoPieceV6 content
-whole_from made out None from = tt
-whole_from made out (Some (Arp link packet)) from = tt
-whole_from made out (Some (Ip4 link h p x)) from = tt
-whole_from made out (Some (Ip6 link h x)) (inl whole) = whole.0
-whole_from made out (Some (Ip6 link h x)) (inr piece) = absurd piece
-
 -- what a host takes in of it is so too
-pub taken_from : (made : PayloadValue → Type 0) (out : List PacketValue) (i : InnerValue) (content : Option IncomingValue) → AreFrom made out content →
+pub taken_from : (made : PayloadValue → Type 0) (out : List Outgoing) (i : InnerValue) (content : Option IncomingValue) → AreFrom made out content →
     AreFrom made out (taken_in i content)
 taken_from made out i None from = tt
 taken_from made out i (Some v) from = elim (is_taken_in i v) as (λ b. AreFrom made out (cond b (Some v) None)) [ true ↦ from | false ↦ tt ]
 
-module _ (made : PayloadValue → Type 0) (first : ℕ) (out : List PacketValue) (next : ℕ) (sent : AreSent made first next out) (few : AreFew out) where
+-- PIECES
+
+pub part_cut : (b : Bool) (q p : PieceValue) → cond b (Some q) None ≡ Some p → (b ≡ true) × (q ≡ p)
+part_cut true q p is = (refl, cc)
+part_cut false q p is = absurd cc
+
+same_part : (a b : Option PieceValue) (q p : PieceValue) → a ≡ Some q → a ≡ Some p → q ≡ p
+same_part a b q p one other = cc
+
+-- a piece of a content is of neither TCP nor UDP, or of a datagram that was sent
+pub part_from : (made : PayloadValue → Type 0) (out : List Outgoing) (v : IncomingValue) → IsFrom made out v → (p : PieceValue) → part_in v ≡ Some p →
+    IsPartOf out p
+part_from made out (Arp link packet) from p is = absurd cc
+part_from made out (Ip4 link h q x) (inl whole) p is =
+    let cut = part_cut (is_piece q) (part_v4 h q x) p is in subst (IsPartOf out) cut.1 (inl (whole.0 cut.0))
+part_from made out (Ip4 link h q x) (inr piece) p is =
+    let cut = part_cut (is_piece q) (part_v4 h q x) p is in subst (IsPartOf out) cut.1 (inr piece)
+part_from made out (Ip6 link h x) (inl whole) p is = absurd (no_part h x (behind_headers h x) p whole.0 is)
+part_from made out (Ip6 link h x) (inr piece) p is =
+    subst (IsPartOf out) (same_part (part_in (Ip6 link h x)) None piece.part p piece.part_is is) (inr piece.of)
+
+part_of_from : (made : PayloadValue → Type 0) (out : List Outgoing) (content : Option IncomingValue) → AreFrom made out content →
+    (p : PieceValue) → part_of content ≡ Some p → IsPartOf out p
+part_of_from made out None from p is = absurd cc
+part_of_from made out (Some v) from p is = part_from made out v from p is
+
+-- a packet of IPv6 that is a piece
+there_v6 : (h : Ipv6Repr) (x : List ℕ) (behind : Behind) → Headers.is_piece behind ≡ true → (p : PieceValue) × (part_behind h x behind ≡ Some p)
+there_v6 h x (End.Piece at) cut = (_, refl)
+there_v6 h x (End.Upper protocol at) cut = absurd cc
+there_v6 h x (End.Problem problem pointer) cut = absurd cc
+there_v6 h x End.Nothing cut = absurd cc
+
+pub key_v6_is : (h : Ipv6Repr) (x : List ℕ) (behind : Behind) (p : PieceValue) → part_behind h x behind ≡ Some p → (n : ℕ)
+    × (p.key ≡ Keys.Ipv6 (record { id = n; src_addr = h.src_addr; dst_addr = h.dst_addr }))
+key_v6_is h x (End.Piece at) p is = (_, let e : part_v6 h (drop at x) ≡ p = cc in sym (ap (λ (q : PieceValue). q.key) e))
+key_v6_is h x (End.Upper protocol at) p is = absurd cc
+key_v6_is h x (End.Problem problem pointer) p is = absurd cc
+key_v6_is h x End.Nothing p is = absurd cc
+
+module _ (made : PayloadValue → Type 0) (first : ℕ) (out : List Outgoing) (next : ℕ) (sent : AreSent made first next out) (few : AreFew out) where
   -- SLOTS
-
-  whole6_from : (link : Option EthernetRepr) (h : Ipv6Repr) (x : List ℕ) → IsFrom made out (Ip6 link h x) → is_piece_v6 h x ≡ false
-  whole6_from link h x from = whole_from made out (Some (Ip6 link h x)) from
-
-  module _ (i : InnerValue) (timeout : ℕ) (slots : Slots) (link : Option EthernetRepr) (h : Ipv4Repr) (p : Ipv4Piece) (x : List ℕ)
-      (from : IsFrom made out (Ip4 link h p x)) (are : AreSlotsOf out slots) where
-    abbrev part : PieceValue
-    part = part_v4 h p x
-
-    kept_part : (unfit : Bool) → is_piece p ≡ true →
-        AreSlotsOf out (cond unfit (without_datagram is_same_datagram slots part.key) (with_part i timeout slots part))
-    kept_part true is = changed_keeps (IsSlotOf out) freed (position (is_of is_same_datagram part.key) slots) slots (λ s so. freed_is out s) are
-    kept_part false is = piece_keeps made first out next sent.numbered few sent.packets link h p x (given_up_at i timeout) is from slots are
-
-    kept_cut : (cut : Bool) → is_piece p ≡ cut → AreSlotsOf out (with_piece i timeout slots (cond cut (Some part) None))
-    kept_cut true is = kept_part (is_unfit slots part) is
-    kept_cut false is = are
-
-  kept_keeps : (i : InnerValue) (timeout : ℕ) (slots : Slots) (content : Option IncomingValue) → AreFrom made out content → AreSlotsOf out slots →
-      AreSlotsOf out (kept i timeout slots content)
-  kept_keeps i timeout slots None from are = are
-  kept_keeps i timeout slots (Some (Arp link packet)) from are = are
-  kept_keeps i timeout slots (Some (Ip4 link h p x)) from are = kept_cut i timeout slots link h p x from are (is_piece p) refl
-  kept_keeps i timeout slots (Some (Ip6 link h x)) from are =
-      subst (AreSlotsOf out) (sym (kept_whole link h x (whole6_from link h x from) i timeout slots)) are
-
-  released_keeps : (place : Option ℕ) (slots : Slots) → AreSlotsOf out slots → AreSlotsOf out (released place slots)
-  released_keeps place slots are =
-      elim (is_some (bytes_at place slots)) as (λ b. AreSlotsOf out (cond b (changed_at freed place slots) slots)) [
-        | true ↦ changed_keeps (IsSlotOf out) freed place slots (λ s is. freed_is out s) are
-        | false ↦ are
-      ]
 
   -- the slots after a frame
   pub slots_keep : (i : InnerValue) (timeout : ℕ) (slots : Slots) (content : Option IncomingValue) → AreFrom made out content → AreSlotsOf out slots →
       AreSlotsOf out (slots_after i timeout slots content)
   slots_keep i timeout slots content from are =
-      released_keeps (place_in slots content) (kept i timeout slots content) (kept_keeps i timeout slots content from are)
+      released_keeps first out next sent.numbered few (place_in slots content) (kept i timeout slots content)
+      (part_keeps first out next sent.numbered few i timeout slots are (part_of content) (part_of_from made out content from))
 
   -- WHAT IS WHOLE
 
-  module _ (i : InnerValue) (timeout : ℕ) (slots : Slots) (link : Option EthernetRepr) (h : Ipv4Repr) (p : Ipv4Piece) (x : List ℕ)
-      (from : IsFrom made out (Ip4 link h p x)) (are : AreSlotsOf out slots) where
-    abbrev piece_in : PieceValue
-    piece_in = part_v4 h p x
+  module _ (i : InnerValue) (timeout : ℕ) (slots : Slots) (are : AreSlotsOf out slots) where
+    -- what is complete once a content was taken in, of which this is the piece
+    complete : (content : Option IncomingValue) → AreFrom made out content → (p : PieceValue) → part_of content ≡ Some p → (bytes : List ℕ) →
+        bytes_at (place_in slots content) (kept i timeout slots content) ≡ Some bytes → IsRebuiltOf out p.key bytes
+    complete content from p is bytes done =
+        part_rebuilds first out next sent.numbered few i timeout slots are p (part_of_from made out content from p is) bytes
+        (subst (λ (o : Option PieceValue). bytes_at (place_of slots o)
+        (with_piece i timeout slots o) ≡ Some bytes) is done)
 
-    whole_fit : (unfit : Bool) → is_piece p ≡ true
-        → BringsMade made (rebuilt link h (bytes_at (cond unfit None (place_for is_same_datagram slots piece_in.key))
-        (cond unfit (without_datagram is_same_datagram slots piece_in.key) (with_part i timeout slots piece_in))))
-    whole_fit true is = tt
-    whole_fit false is = piece_brings made first out next sent.numbered few sent.packets link h p x (given_up_at i timeout) is from slots are
+    -- IPV4
 
-    whole_cut : (cut : Bool) → is_piece p ≡ cut
-        → BringsMade made (cond cut
-        (rebuilt link h (bytes_at (place_of slots (cond cut (Some piece_in) None)) (with_piece i timeout slots (cond cut (Some piece_in) None))))
+    hands_by4 : (h : Ipv4Repr) (bytes : List ℕ) → IsRebuiltOf out (Keys.Ipv4 (Ipv4.key_of h)) bytes →
+        HandsMade made (Ip.Ipv4 (record h { payload_len = length bytes })) bytes
+    hands_by4 h bytes (inl none) = hands_none made (Ip.Ipv4 (record h { payload_len = length bytes })) bytes none
+    hands_by4 h bytes (inr of) = hands_v4 made out of.header (record h { payload_len = length bytes }) bytes sent.packets of.sent of.key_is
+
+    rebuilt4 : (link : Option EthernetRepr) (h : Ipv4Repr) (o : Option (List ℕ)) →
+        ((bytes : List ℕ) → o ≡ Some bytes → HandsMade made (Ip.Ipv4 (record h { payload_len = length bytes })) bytes) → BringsMade made (rebuilt link h o)
+    rebuilt4 link h None hands = tt
+    rebuilt4 link h (Some bytes) hands =
+        elim (nat_lt (length bytes) (2 ^ 16 - 20)) as
+        (λ b. BringsMade made (cond b (Some (Ip4 link (record h { payload_len = length bytes }) uncut bytes)) None))
+        [ true ↦ hands bytes refl | false ↦ tt ]
+
+    whole4 : (link : Option EthernetRepr) (h : Ipv4Repr) (p : Ipv4Piece) (x : List ℕ) → IsFrom made out (Ip4 link h p x) → (cut : Bool) → is_piece p ≡ cut →
+        BringsMade made (cond cut (rebuilt link h (bytes_at (place_in slots (Some (Ip4 link h p x))) (kept i timeout slots (Some (Ip4 link h p x)))))
         (Some (Ip4 link h p x)))
-    whole_cut true is = whole_fit (is_unfit slots piece_in) is
-    whole_cut false is =
+    whole4 link h p x from true is =
+        rebuilt4 link h (bytes_at (place_in slots (Some (Ip4 link h p x))) (kept i timeout slots (Some (Ip4 link h p x))))
+        (λ bytes done. hands_by4 h bytes
+        (complete (Some (Ip4 link h p x)) from (part_v4 h p x) (ap (λ (b : Bool). cond b (Some (part_v4 h p x)) None) is) bytes done))
+    whole4 link h p x from false is =
         brings_whole made out (Ip4 link h p x) sent.packets from (λ l g q y same. let e : p ≡ q = cc in subst (λ (r : Ipv4Piece). is_piece r ≡ false) e is)
+        (λ l g y same. absurd cc)
 
-  -- what is whole after a frame brings what was made
-  pub whole_made : (i : InnerValue) (timeout : ℕ) (slots : Slots) (content : Option IncomingValue) → AreFrom made out content → AreSlotsOf out slots →
-      BringsMade made (whole_after i timeout slots content)
-  whole_made i timeout slots None from are = tt
-  whole_made i timeout slots (Some (Arp link packet)) from are = tt
-  whole_made i timeout slots (Some (Ip4 link h p x)) from are = whole_cut i timeout slots link h p x from are (is_piece p) refl
-  whole_made i timeout slots (Some (Ip6 link h x)) from are =
-      let content : Option IncomingValue = Some (Ip6 link h x) in
-      subst (BringsMade made) (sym (whole_is link h x (whole6_from link h x from) (kept i timeout slots content) (place_in slots content)))
-      (brings_whole made out (Ip6 link h x) sent.packets from (λ l g q y same. absurd cc))
+    -- IPV6
+
+    hands_by6 : (h : Ipv6Repr) (n : ℕ) (bytes : List ℕ) → IsRebuiltOf out (Keys.Ipv6 (record { id = n; src_addr = h.src_addr; dst_addr = h.dst_addr })) bytes →
+        HandsMade made (Ip.Ipv6 (record h { next_header = Protocol.Ipv6Frag; payload_len = length bytes })) bytes
+    hands_by6 h n bytes (inl none) = absurd none
+    hands_by6 h n bytes (inr of) =
+        hands_v6 made out (record { id = n; src_addr = h.src_addr; dst_addr = h.dst_addr }) (record h { next_header = Protocol.Ipv6Frag; payload_len = length bytes })
+        bytes sent.packets of refl refl refl
+
+    rebuilt6 : (link : Option EthernetRepr) (h : Ipv6Repr) (o : Option (List ℕ)) →
+        ((bytes : List ℕ) → o ≡ Some bytes → HandsMade made (Ip.Ipv6 (record h { next_header = Protocol.Ipv6Frag; payload_len = length bytes })) bytes)
+        → BringsMade made (rebuilt_v6 link h o)
+    rebuilt6 link h None hands = tt
+    rebuilt6 link h (Some bytes) hands =
+        elim (nat_lt (length bytes) (2 ^ 16)) as
+        (λ b. BringsMade made (cond b (Some (Ip6 link (record h { next_header = Protocol.Ipv6Frag; payload_len = length bytes }) bytes)) None))
+        [ true ↦ hands bytes refl | false ↦ tt ]
+
+    whole6 : (link : Option EthernetRepr) (h : Ipv6Repr) (x : List ℕ) → IsFrom made out (Ip6 link h x) → (cut : Bool) → is_piece_v6 h x ≡ cut →
+        BringsMade made (cond cut (rebuilt_v6 link h (bytes_at (place_in slots (Some (Ip6 link h x))) (kept i timeout slots (Some (Ip6 link h x)))))
+        (Some (Ip6 link h x)))
+    whole6 link h x from true is =
+        let there = there_v6 h x (behind_headers h x) is in
+        let key = key_v6_is h x (behind_headers h x) there.0 there.1 in
+        rebuilt6 link h (bytes_at (place_in slots (Some (Ip6 link h x))) (kept i timeout slots (Some (Ip6 link h x))))
+        (λ bytes done. hands_by6 h key.0 bytes
+        (subst (λ (k : FragKey). IsRebuiltOf out k bytes) key.1 (complete (Some (Ip6 link h x)) from there.0 there.1 bytes done)))
+    whole6 link h x from false is =
+        brings_whole made out (Ip6 link h x) sent.packets from (λ l g q y same. absurd cc)
+        (λ l g y same. let a : h ≡ g = cc in let b : x ≡ y = cc in
+        subst (λ (k : Ipv6Repr). is_piece_v6 k y ≡ false) a (subst (λ (z : List ℕ). is_piece_v6 h z ≡ false) b is))
+
+    -- what is whole after a frame brings what was made
+    pub whole_made : (content : Option IncomingValue) → AreFrom made out content → BringsMade made (whole_after i timeout slots content)
+    whole_made None from = tt
+    whole_made (Some (Arp link packet)) from = tt
+    whole_made (Some (Ip4 link h p x)) from = whole4 link h p x from (is_piece p) refl
+    whole_made (Some (Ip6 link h x)) from = whole6 link h x from (is_piece_v6 h x) refl
 
   -- A FRAME IS TAKEN
 
@@ -142,8 +192,8 @@ module _ (made : PayloadValue → Type 0) (first : ℕ) (out : List PacketValue)
       → IsReceiver made out i slots (frame ∷ rest) → IsContent i.hardware i.checksums frame content →
       BringsMade made (whole_after i timeout slots (taken_in i content))
   taken_was_made i timeout slots frame rest content r is =
-      whole_made i timeout slots (taken_in i content)
-      (taken_from made out i content (content_from made out i.hardware i.checksums frame content r.checksums r.waits.0 is)) r.slots_are
+      whole_made i timeout slots r.slots_are (taken_in i content)
+      (taken_from made out i content (content_from made out i.hardware i.checksums frame content r.checksums r.waits.0 is))
 
   -- and the host is a receiver still
   pub taken_keeps : (i : InnerValue) (timeout : ℕ) (slots : Slots) (places : Places) (frame : List ℕ) (rest : List (List ℕ)) (content : Option IncomingValue)
@@ -161,52 +211,18 @@ module _ (made : PayloadValue → Type 0) (first : ℕ) (out : List PacketValue)
 
   -- WHAT IS REBUILT
 
-  module _ (i : InnerValue) (timeout : ℕ) (slots : Slots) (link : Option EthernetRepr) (h : Ipv4Repr) (p : Ipv4Piece) (x bytes : List ℕ)
-      (from : IsFrom made out (Ip4 link h p x)) (are : AreSlotsOf out slots) where
-    abbrev piece_of : PieceValue
-    piece_of = part_v4 h p x
-
-    rebuilds_fit : (unfit : Bool) → is_piece p ≡ true →
-        bytes_at (cond unfit None (place_for is_same_datagram slots piece_of.key))
-        (cond unfit (without_datagram is_same_datagram slots piece_of.key) (with_part i timeout slots piece_of)) ≡ Some bytes → IsRebuiltOf out h bytes
-    rebuilds_fit true is done = absurd cc
-    rebuilds_fit false is done =
-        piece_rebuilds made first out next sent.numbered few sent.packets link h p x (given_up_at i timeout) is from slots bytes are done
-
-    rebuilds_by : (cut : Bool) → is_piece p ≡ cut → cut ≡ true →
-        bytes_at (place_of slots (cond cut (Some piece_of) None)) (with_piece i timeout slots (cond cut (Some piece_of) None)) ≡ Some bytes →
-        IsRebuiltOf out h bytes
-    rebuilds_by true is cut done = rebuilds_fit (is_unfit slots piece_of) is done
-    rebuilds_by false is cut done = absurd cc
-
-  short_bytes : (link l : Option EthernetRepr) (h g : Ipv4Repr) (p : Ipv4Piece) (found bytes : List ℕ) (b : Bool) →
-      cond b (Some (Ip4 link (record h { payload_len = length found }) uncut found)) None ≡ Some (Ip4 l g p bytes) → Some found ≡ Some bytes
-  short_bytes link l h g p found bytes true is = let e : found ≡ bytes = cc in ap Some e
-  short_bytes link l h g p found bytes false is = absurd cc
-
-  rebuilt_bytes : (link l : Option EthernetRepr) (h g : Ipv4Repr) (p : Ipv4Piece) (o : Option (List ℕ)) (bytes : List ℕ) →
-      rebuilt link h o ≡ Some (Ip4 l g p bytes) → o ≡ Some bytes
-  rebuilt_bytes link l h g p None bytes is = absurd cc
-  rebuilt_bytes link l h g p (Some found) bytes is = short_bytes link l h g p found bytes (nat_lt (length found) (2 ^ 16 - 20)) is
-
-  whole_bytes : (slots : Slots) (at : Option ℕ) (link l : Option EthernetRepr) (h g : Ipv4Repr) (p r : Ipv4Piece) (x bytes : List ℕ) (cut : Bool) → cut ≡ true →
-      cond cut (rebuilt link h (bytes_at at slots)) (Some (Ip4 link h p x)) ≡ Some (Ip4 l g r bytes) → bytes_at at slots ≡ Some bytes
-  whole_bytes slots at link l h g p r x bytes true cut is = rebuilt_bytes link l h g r (bytes_at at slots) bytes is
-  whole_bytes slots at link l h g p r x bytes false cut is = absurd cc
-
-  -- what is whole once a piece was taken in is the payload of one packet
-  pub taken_rebuilds : (i : InnerValue) (timeout : ℕ) (slots : Slots) (frame : List ℕ) (rest : List (List ℕ)) (link l : Option EthernetRepr) (h g : Ipv4Repr)
-      (p r : Ipv4Piece) (x bytes : List ℕ) → IsReceiver made out i slots (frame ∷ rest)
-      → IsContent i.hardware i.checksums frame (Some (Ip4 link h p x)) → is_piece p ≡ true →
-      whole_after i timeout slots (Some (Ip4 link h p x)) ≡ Some (Ip4 l g r bytes) → IsRebuiltOf out h bytes
-  taken_rebuilds i timeout slots frame rest link l h g p r x bytes receiver is cut whole =
-      let from = content_from made out i.hardware i.checksums frame (Some (Ip4 link h p x)) receiver.checksums receiver.waits.0 is in
-      rebuilds_by i timeout slots link h p x bytes from receiver.slots_are (is_piece p) refl cut
-      (whole_bytes (kept i timeout slots (Some (Ip4 link h p x))) (place_in slots (Some (Ip4 link h p x))) link l h g p r x bytes (is_piece p) cut whole)
+  -- what is whole once a piece was taken in is a whole datagram
+  pub taken_rebuilds : (i : InnerValue) (timeout : ℕ) (slots : Slots) (frame : List ℕ) (rest : List (List ℕ)) (v : IncomingValue) (p : PieceValue)
+      (bytes : List ℕ) → IsReceiver made out i slots (frame ∷ rest)
+      → IsContent i.hardware i.checksums frame (Some v) → part_in v ≡ Some p
+      → bytes_at (place_in slots (Some v)) (kept i timeout slots (Some v)) ≡ Some bytes → IsRebuiltOf out p.key bytes
+  taken_rebuilds i timeout slots frame rest v p bytes receiver is cut done =
+      let from = content_from made out i.hardware i.checksums frame (Some v) receiver.checksums receiver.waits.0 is in
+      complete i timeout slots receiver.slots_are (Some v) from p cut bytes done
 
 -- OTHER STEPS OF THE RECEIVER
 
-module _ (made : PayloadValue → Type 0) (out : List PacketValue) where
+module _ (made : PayloadValue → Type 0) (out : List Outgoing) where
   -- a frame that isn't read
   pub skipped_keeps : (i : InnerValue) (slots : Slots) (frame : List ℕ) (rest : List (List ℕ)) → IsReceiver made out i slots (frame ∷ rest) →
       IsReceiver made out i slots rest

@@ -1,14 +1,15 @@
 -- Who makes what is rebuilt: a host that never had a UDP socket makes no datagram, and nobody one that is short of its header.
-use Rattle.std.proofs.Common.{◌≡◌, ℕ, zero, suc, ◌≤◌, Bool, List, [], ◌∷◌, length, Option, Some, None, refl, sym, ap, ◌∙◌, subst, arith}
+use Rattle.std.proofs.Common.{◌≡◌, ℕ, zero, suc, ◌+◌, ◌≤◌, Bool, List, [], ◌∷◌, length, Option, Some, None, refl, sym, ap, ◌∙◌, subst, arith}
 use Rattle.std.specs.List.{AllByRecursion}
 use Rattle.std.specs.Prelude.{slice_get, slice_set, slice_index_or}
 use Rattle.lan_frames.specs.Carried.{names_tcp_or_udp}
 use Rattle.lan_frames.specs.Medium.TheVariants as Medium
 use Rattle.ip_address.specs.declared.ipv4.Ipv4FragKey.{Ipv4FragKey}
+use Rattle.interface_tables.specs.declared.key.FragKey.{FragKey}
+use Rattle.interface_tables.specs.declared.key.FragKey.TheVariants as Keys
+use Rattle.interface_tables.specs.declared.key.Ipv6FragKey.{Ipv6FragKey}
 use Rattle.interface_delivery.specs.Ip.{carried_in}
 use Rattle.interface_delivery.specs.IpRepr.{IpRepr}
-use Rattle.interface_delivery.specs.Ipv4Repr.{Ipv4Repr}
-use Rattle.interface_ingress.specs.IpProtocol.{IpProtocol}
 use Rattle.interface_ingress.specs.IpProtocol.TheVariants as Protocol
 use Rattle.interface_ingress.specs.Sent.{CanBeRead, normal_payload}
 use Rattle.sockets.specs.Packet.{PayloadValue, ControlV4, ControlV6, Bytes, Datagram, Segment, payload_written}
@@ -25,18 +26,19 @@ use Rattle.tcp_model.specs.State.{State}
 use Rattle.lan_packets.specs.Moves.Move.{Invokes, Passes, Offers, Gives, Takes, Receives, Resets, Changes}
 use Rattle.lan_packets.specs.Moves.{Move, Does, LooksSame, May, Step, IsRun, run, after, party_after}
 use Rattle.lan_packets.specs.Parties as Parties
-use Rattle.lan_packets.specs.Parties.{Socket, Party, Net, party, with_party, socket_at}
+use Rattle.lan_packets.specs.Parties.{Socket, Party, Net, party, socket_at}
 use Rattle.lan_packets.specs.Parties.Socket.{Tcp, Udp, Icmp, Raw}
 use Rattle.lan_hosts.specs.Kinds.{other}
 use Rattle.lan_hosts.specs.Safe.{seen_in}
 use Rattle.lan_hosts.specs.Runs.{Starts, WorldValue, start}
 use Rattle.lan_hosts.specs.Station.{station}
-use Rattle.lan_theorem.specs.Link.Made.{sealed}
+use Rattle.lan_theorem.specs.Link.Made.{sealed, bytes_of}
 use Rattle.lan_theorem.specs.Moves.Follows.{seen_place, sockets_of}
 use Rattle.lan_theorem.specs.Moves.Joined.{first_net}
 use Rattle.lan_theorem.specs.Moves.Raws.{OfItem, OfEach, HasNoUdp}
 use Rattle.lan_theorem.proofs.Moves.Named.{told, not_udp, not_tcp}
-use Rattle.lan_theorem.specs.Rebuilt.{HasMade, IsOfMade, Rebuilds, RebuiltWasMade}
+use Rattle.lan_theorem.specs.Rebuilt.{HasMade, IsOfMadeV4, IsOfMadeV6, IsOfMade, protocol_in, room_before, Rebuilds, RebuiltWasMade}
+use Rattle.lan_theorem.proofs.Link.Fragments.{length_whole}
 
 abbrev IsNoUdp : Option Socket → Type 0
 IsNoUdp None = Unit {0}
@@ -163,23 +165,40 @@ made_by_socket q ip (ControlV4 message bytes) named is made none = absurd made
 made_by_socket q ip (ControlV6 message bytes) named is made none = absurd made
 made_by_socket q ip (Bytes bytes) named is made none = absurd made
 
-module _ (q : Party) (h : Ipv4Repr) (payload : List ℕ) (o : IsOfMade q h payload) where
+module _ (q : Party) where
+  pub made_long : (key : FragKey) (bytes : List ℕ) → IsOfMade q key bytes → room_before key + 8 ≤ length bytes
+  made_long (Keys.Ipv4 key) bytes o =
+      subst (λ (xs : List ℕ). 8 ≤ length xs) (sym o.bytes_are) (long q o.packet.header o.packet.payload o.made)
+  made_long (Keys.Ipv6 key) bytes o =
+      let enough = long q o.packet.header o.packet.payload o.made in
+      let count : length bytes ≡ 8 + length (bytes_of o.packet) = ap length o.bytes_are ∙ length_whole o.header.next_header key.id (bytes_of o.packet) in
+      omega (arith, enough, count)
+
   -- the packet's header names what is carried
-  named_so : told (carried_in o.packet.header) ≡ h.next_header
-  named_so =
-      let same : h.next_header ≡ told o.header.next_header = ap (λ (k : Ipv4FragKey). k.protocol) o.key_is in
+  named_v4 : (key : Ipv4FragKey) (bytes : List ℕ) (o : IsOfMadeV4 q key bytes) → told (carried_in o.packet.header) ≡ key.protocol
+  named_v4 key bytes o =
+      let same : key.protocol ≡ told o.header.next_header = ap (λ (k : Ipv4FragKey). k.protocol) o.key_is in
       ap (λ (x : IpRepr). told (carried_in x)) o.header_is ∙ sym same
 
-  pub made_long : 8 ≤ length payload
-  made_long = subst (λ (xs : List ℕ). 8 ≤ length xs) (sym o.bytes_are) (long q o.packet.header o.packet.payload o.made)
+  named_v6 : (key : Ipv6FragKey) (bytes : List ℕ) (o : IsOfMadeV6 q key bytes) → told (carried_in o.packet.header) ≡ protocol_in (Keys.Ipv6 key) bytes
+  named_v6 key bytes o =
+      let same : protocol_in (Keys.Ipv6 key) bytes ≡ told o.header.next_header = ap (protocol_in (Keys.Ipv6 key)) o.bytes_are in
+      ap (λ (x : IpRepr). told (carried_in x)) o.header_is ∙ sym same
 
-  pub made_segment_long : h.next_header ≡ Protocol.Tcp → 20 ≤ length payload
-  made_segment_long tcp =
+  pub made_segment_long : (key : FragKey) (bytes : List ℕ) → IsOfMade q key bytes → protocol_in key bytes ≡ Protocol.Tcp → room_before key + 20 ≤ length bytes
+  made_segment_long (Keys.Ipv4 key) bytes o tcp =
       subst (λ (xs : List ℕ). 20 ≤ length xs) (sym o.bytes_are)
-      (long_segment q o.packet.header o.packet.payload o.named (named_so ∙ tcp) o.made)
+      (long_segment q o.packet.header o.packet.payload o.named (named_v4 key bytes o ∙ tcp) o.made)
+  made_segment_long (Keys.Ipv6 key) bytes o tcp =
+      let enough = long_segment q o.packet.header o.packet.payload o.named (named_v6 key bytes o ∙ tcp) o.made in
+      let count : length bytes ≡ 8 + length (bytes_of o.packet) = ap length o.bytes_are ∙ length_whole o.header.next_header key.id (bytes_of o.packet) in
+      omega (arith, enough, count)
 
-  pub made_needs_socket : h.next_header ≡ Protocol.Udp → q.datagrams ≡ [] → ⊥
-  made_needs_socket udp none = made_by_socket q o.packet.header o.packet.payload o.named (named_so ∙ udp) o.made none
+  pub made_needs_socket : (key : FragKey) (bytes : List ℕ) → IsOfMade q key bytes → protocol_in key bytes ≡ Protocol.Udp → q.datagrams ≡ [] → ⊥
+  made_needs_socket (Keys.Ipv4 key) bytes o udp none =
+      made_by_socket q o.packet.header o.packet.payload o.named (named_v4 key bytes o ∙ udp) o.made none
+  made_needs_socket (Keys.Ipv6 key) bytes o udp none =
+      made_by_socket q o.packet.header o.packet.payload o.named (named_v6 key bytes o ∙ udp) o.made none
 
 -- WHERE EVENTS LED
 
@@ -187,10 +206,10 @@ first_none : (starts : Starts) (side : Side) → OfEach HasNoUdp (start starts s
 first_none starts A none = record { sockets = none_seen starts.a.places none; datagrams = refl }
 first_none starts B none = record { sockets = none_seen starts.b.places none; datagrams = refl }
 
-pub made_by_hosts : (w : WorldValue) (side : Side) (h : Ipv4Repr) (payload : List ℕ) → Rebuilds (station w.hosts side) h payload →
-    h.next_header ≡ Protocol.Udp → OfEach HasNoUdp (start w.starts (other side)).places → RebuiltWasMade w → ⊥
-made_by_hosts w side h payload r udp none made =
+pub made_by_hosts : (w : WorldValue) (side : Side) (key : FragKey) (bytes : List ℕ) → Rebuilds (station w.hosts side) key bytes →
+    protocol_in key bytes ≡ Protocol.Udp → OfEach HasNoUdp (start w.starts (other side)).places → RebuiltWasMade w → ⊥
+made_by_hosts w side key bytes r udp none made =
     let ended : MakesNone (party (run (first_net w.starts) made.steps) (other side)) =
     none_made (names_tcp_or_udp Medium.Ip) (first_net w.starts) made.steps (other side) made.may (first_none w.starts (other side) none) in
     let there : MakesNone (party made.net (other side)) = subst (λ (net : Net). MakesNone (party net (other side))) made.ends ended in
-    made_needs_socket (party made.net (other side)) h payload (made.rebuilt side h payload r) udp there.datagrams
+    made_needs_socket (party made.net (other side)) key bytes (made.rebuilt side key bytes r) udp there.datagrams

@@ -12,6 +12,8 @@ use Rattle.interface_tables.specs.Inner.{InnerValue}
 use Rattle.interface_tables.specs.declared.neighbor.Neighbor.{Neighbor}
 use Rattle.interface_tables.specs.declared.route.Route.{Route}
 use Rattle.interface_egress.specs.Fragments.{LeftValue}
+use Rattle.interface_egress.specs.declared.frame.CutHeader.{CutHeader}
+use Rattle.interface_egress.specs.declared.frame.CutHeader.TheVariants as Cut
 use Rattle.interface_ingress.specs.Incoming.{IncomingValue, IsIncoming}
 use Rattle.interface_ingress.specs.Reassembled.{Slots}
 use Rattle.interface_ingress.specs.Kept.{IsNoPieceV6}
@@ -22,14 +24,14 @@ use Rattle.interface_ingress.specs.Fields.{be16}
 use Rattle.lan_frames.specs.Parts.{tcp_part, bytes_at}
 use Rattle.lan_frames.specs.declared.part.Part.{Part}
 use Rattle.lan_theorem.specs.Link.Made.{sealed}
-use Rattle.lan_theorem.specs.Link.Frames.{medium_on, IsAmong, IsSentV4, IsSlice, IsWhole6, BringsFrom, AreOut}
+use Rattle.lan_theorem.specs.Link.Frames.{Outgoing, medium_on, IsAmong, IsNumbered, IsSentV4, IsCutV6, IsSlice, IsWhole6, IsPiece6, BringsFrom, AreOut}
 use Rattle.lan_theorem.specs.Link.Held.{AreSlotsOf}
-use Rattle.lan_theorem.specs.Link.Numbers.{count_v4, AreNumbered, IsTied}
+use Rattle.lan_theorem.specs.Link.Numbers.{count_numbered, AreNumbered, IsTied}
 
 -- WHAT A HOST SENT
 
 -- The packets of which a host sent the first frame at least, the newest first: what each carries was made, and each has its number.
-pub record AreSent (made : PayloadValue → Type 0) (first next : ℕ) (out : List PacketValue) : Type 0 where
+pub record AreSent (made : PayloadValue → Type 0) (first next : ℕ) (out : List Outgoing) : Type 0 where
   pub packets : AreOut made out
   pub numbered : AreNumbered first out next
 
@@ -46,8 +48,8 @@ pub record IsOther (medium : Medium) (frame : List ℕ) : Type 0 where
       IsIncoming hardware sealed (frame ++ padding) v → BringsNone v
 
 -- a frame that a host sent, or that the link made of one by a cut
-abbrev pub IsHostFrame : Medium → List PacketValue → List ℕ → Type 0
-IsHostFrame medium out frame = IsSlice medium out frame ⊎ IsWhole6 medium out frame ⊎ IsOther medium frame
+abbrev pub IsHostFrame : Medium → List Outgoing → List ℕ → Type 0
+IsHostFrame medium out frame = IsSlice medium out frame ⊎ IsWhole6 medium out frame ⊎ IsPiece6 medium out frame ⊎ IsOther medium frame
 
 -- how a word is exchanged: at an even place, within the segment, for a word of another sum
 pub record IsDamage (frame : List ℕ) (part : Part) (place word : ℕ) : Type 0 where
@@ -58,7 +60,7 @@ pub record IsDamage (frame : List ℕ) (part : Part) (place word : ℕ) : Type 0
 
 -- WHAT COMES TO A HOST: `made` and `out` are the other host's
 
-pub record IsReceiver (made : PayloadValue → Type 0) (out : List PacketValue) (i : InnerValue) (slots : Slots) (waiting : List (List ℕ)) : Type 0 where
+pub record IsReceiver (made : PayloadValue → Type 0) (out : List Outgoing) (i : InnerValue) (slots : Slots) (waiting : List (List ℕ)) : Type 0 where
   pub checksums : i.checksums ≡ sealed
   pub slots_are : AreSlotsOf out slots
   pub waits : AllByRecursion (BringsFrom made out i.hardware) waiting
@@ -92,16 +94,21 @@ pub record IsSound (i : InnerValue) : Type 0 where
   pub widths : HasWidths i
   pub checksums : i.checksums ≡ sealed
 
+-- a packet with this header and these bytes behind it was sent, and cut
+abbrev pub IsCutFrom : List Outgoing → CutHeader → List ℕ → Type 0
+IsCutFrom out (Cut.Ipv4 v) bytes = IsSentV4 out v bytes
+IsCutFrom out (Cut.Ipv6 v number) bytes = IsCutV6 out v number bytes
+
 -- what is left to send is the rest of a packet that was sent
-pub record IsLeft (hardware : HardwareAddress) (out : List PacketValue) (l : LeftValue) : Type 0 where
-  pub sent : IsSentV4 out l.header l.payload
+pub record IsLeft (hardware : HardwareAddress) (out : List Outgoing) (l : LeftValue) : Type 0 where
+  pub sent : IsCutFrom out l.header l.payload
   pub half : IsHalfSent l
   pub to : IsSameKind hardware l.to
 
 -- A host that sends. `made` and `out` are its own, `first` its first number, and `sent` the frames that left it with those that the link
 -- made of them.
 pub record IsSender (made : PayloadValue →
-    Type 0) (first : ℕ) (i : InnerValue) (left : Option LeftValue) (sent : List (List ℕ)) (out : List PacketValue) : Type 0 where
+    Type 0) (first : ℕ) (i : InnerValue) (left : Option LeftValue) (sent : List (List ℕ)) (out : List Outgoing) : Type 0 where
   pub sound : IsSound i
   pub are_sent : AreSent made first i.ident out
   pub left_is : IfSome left (IsLeft i.hardware out)
@@ -115,14 +122,15 @@ IsBetweenStations (Arp.EthernetIpv4 operation source source_protocol target targ
 
 -- AFTER SOMETHING WENT
 
-abbrev pub Grows : List PacketValue → List PacketValue → Type 0
-Grows out out' = (p : PacketValue) → IsAmong p out → IsAmong p out'
+pub record Grows (out out' : List Outgoing) : Type 0 where
+  pub among : (p : PacketValue) → IsAmong p out → IsAmong p out'
+  pub numbered : (p : PacketValue) (number : ℕ) → IsNumbered p number out → IsNumbered p number out'
 
--- It is a sender still, of more packets: so many more of IPv4 at most, each of which has a first frame.
-pub record WentOut (made : PayloadValue → Type 0) (first most : ℕ) (out : List PacketValue) (sent : List (List ℕ)) (i' : InnerValue) (l' : Option LeftValue)
+-- It is a sender still, of more packets: so many more with a number at most, each of which has a first frame.
+pub record WentOut (made : PayloadValue → Type 0) (first most : ℕ) (out : List Outgoing) (sent : List (List ℕ)) (i' : InnerValue) (l' : Option LeftValue)
     (sent' : List (List ℕ)) : Type 0 where
-  pub out_after : List PacketValue
+  pub out_after : List Outgoing
   pub grows : Grows out out_after
-  pub count : count_v4 out_after ≤ count_v4 out + most
+  pub count : count_numbered out_after ≤ count_numbered out + most
   pub tied : IsTied (medium_on i'.hardware) out sent out_after sent'
   pub sender : IsSender made first i' l' sent' out_after

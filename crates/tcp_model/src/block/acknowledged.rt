@@ -4,7 +4,7 @@ ghost use Rattle.net_base.specs.Time.{IsMoment};
 ghost use Rattle.tcp_model.specs.Acknowledged.{freed_by, sender_moved, retransmit_after, acks_own_syn, acks_in_recovery, is_partial, round_trip_after};
 ghost use Rattle.tcp_model.specs.Acknowledged.{recovery_after, reno_after, una_moved, acks_fin, state_after_ack, in_state, block_acknowledged, scaled};
 ghost use Rattle.tcp_model.specs.Acknowledged.{acks_no_less, or_number, names_window, windowed, window_set, end_past, highest_end, sacked_by, ranges_taken};
-ghost use Rattle.tcp_model.specs.Acknowledged.{tells_of_loss, is_duplicate, duplicates_after, is_third, begins_recovery};
+ghost use Rattle.tcp_model.specs.Acknowledged.{tells_of_loss, is_duplicate, duplicates_after, is_third, is_lost_since, begins_recovery};
 ghost use Rattle.tcp_model.specs.Acknowledged.{is_blind, partly_after, una_risen, reno_counted, counted};
 
 use crate::{Block, State};
@@ -99,13 +99,12 @@ impl Block {
         self.timers.retransmit_at = self.retransmit_after(by, again, now);
     }
 
-    /// Whether no range says of a partial acknowledgement that the segment which then stands at SND.UNA
-    /// is lost.
+    /// Whether nothing says of a partial acknowledgement how much else is lost.
     fn is_blind(&self, by: u32, partial: bool) -> bool
         requires { partial ≡ is_partial self.now by }
         ensures { result ≡ is_blind self.now by }
     {
-        partial && !(self.peer.sack && self.is_lost_at(by))
+        partial && !(self.peer.sack && (self.loss.resent != 0 || self.is_lost_at(by)))
     }
 
     /// The moment of the retransmission timer after SND.UNA rose by so much. It stays after a blind
@@ -327,11 +326,22 @@ impl Block {
         }
     }
 
+    /// Whether the ranges say that what went again after the timer ran out is lost: what was first sent after
+    /// it is held.
+    fn is_lost_since(&self) -> bool
+        ensures { result ≡ is_lost_since self.now }
+    {
+        self.sender.recover != 0
+            && self.peer.sack
+            && !self.reno.recovers()
+            && self.is_passed(self.sender.recover)
+    }
+
     /// Whether the third duplicate, or what the ranges say, begins fast recovery.
     fn begins_recovery(&self, count: u8) -> bool
         ensures { result ≡ begins_recovery self.now count }
     {
-        self.sender.recover == 0 && (count == 3 || self.is_first_lost())
+        self.sender.recover == 0 && (count == 3 || self.is_first_lost()) || self.is_lost_since()
     }
 
     /// Congestion control after so many duplicates in a row, of which the last begins recovery, or what

@@ -6,6 +6,7 @@ ghost use Rattle.tcp_model.specs.LossRecovery.{with_board, after_wait, probe_fro
 ghost use Rattle.tcp_model.specs.LossRecovery.{range_noted, all_noted};
 ghost use Rattle.tcp_model.specs.LossRecovery.{heard_more, ranges_noted, threshold, is_lost_at, is_first_lost, is_lost_again};
 ghost use Rattle.tcp_model.specs.LossRecovery.{pipe_in_recovery, pipe, next_hole};
+ghost use Rattle.tcp_model.specs.LossRecovery.{is_passed, mends_lost, credited_window, mends_credited};
 ghost use Rattle.tcp_model.specs.LossRecovery.{fills_hole, again_place, hole_len, loss_lowered, loss_acked, loss_resent, loss_timed_out, probes_tail};
 ghost use Rattle.tcp_model.specs.LossRecovery.{loss_probed, loss_probed_by};
 
@@ -26,6 +27,7 @@ impl Loss {
     pub const NONE: Loss = Loss {
         board: Scoreboard::EMPTY,
         resent: 0,
+        credit: 0,
         mark: 0,
         eager: false,
         probes: false,
@@ -197,7 +199,9 @@ impl Block {
 
 impl Block {
     fn threshold(&self) -> u8
-        ensures { result ≡ threshold self.now }
+        ensures value { result ≡ threshold self.now }
+        ensures low { 1 ≤ result }
+        ensures high { result ≤ 3 }
     {
         if self.loss.eager { 1 } else { THRESHOLD }
     }
@@ -218,6 +222,14 @@ impl Block {
         self.peer.sack && self.is_lost_at(0)
     }
 
+    /// Whether so much is held of what was first sent from this position on that what went before is lost.
+    pub(crate) fn is_passed(&self, place: u32) -> bool
+        ensures { result ≡ is_passed self.now place }
+    {
+        let few = (self.threshold() - 1) as u32 * self.reno.mss() as u32;
+        few < self.loss.board.held_from(place)
+    }
+
     /// Whether what went again is lost once more: what was first sent after it is held.
     pub fn is_lost_again(&self) -> bool
         ensures { result ≡ is_lost_again self.now }
@@ -225,7 +237,7 @@ impl Block {
         self.peer.sack
             && self.reno.recovers()
             && self.loss.resent != 0
-            && self.is_lost_at(self.loss.mark)
+            && self.is_passed(self.loss.mark)
     }
 
     /// Pipe in recovery.
@@ -264,7 +276,42 @@ impl Block {
         self.loss.board.first_missing(self.loss.resent)
     }
 
-    /// Whether the next hole is lost, and the congestion window lets a segment go there.
+    /// Whether the next hole is lost, and the congestion window has room for a segment beside Pipe.
+    fn mends_lost(&self) -> bool
+        ensures { result ≡ mends_lost self.now }
+    {
+        self.is_lost_at(self.next_hole())
+            && self.pipe() as u64 + self.reno.mss() as u64 <= self.reno.window() as u64
+    }
+
+    /// How much of the congestion window what goes again for a partial acknowledgement takes: the second
+    /// segment no more than half.
+    fn credited_window(&self) -> u32
+        ensures { result ≡ credited_window self.now }
+    {
+        if self.loss.credit == 1 {
+            self.reno.window() / 2
+        } else {
+            self.reno.window()
+        }
+    }
+
+    /// Whether the next hole was sent before this recovery began, a partial acknowledgement lets a segment
+    /// go there, and the congestion window has room for it beside what went again.
+    fn mends_credited(&self) -> bool
+        ensures { result ≡ mends_credited self.now }
+    {
+        if self.loss.credit == 0 || self.next_hole() as u64 + 1 >= self.sender.recover as u64 {
+            return false;
+        }
+        let again = self
+            .loss
+            .board
+            .missing(self.loss.resent.min(self.sender.in_flight));
+        again as u64 + self.reno.mss() as u64 <= self.credited_window() as u64
+    }
+
+    /// Whether a segment goes into the next hole.
     pub fn fills_hole(&self) -> bool
         ensures { result ≡ fills_hole self.now }
     {
@@ -272,8 +319,7 @@ impl Block {
             && self.reno.recovers()
             && !self.sender.syn_unacked
             && self.next_hole() < self.sender.in_flight
-            && self.is_lost_at(self.next_hole())
-            && self.pipe() as u64 + self.reno.mss() as u64 <= self.reno.window() as u64
+            && (self.mends_lost() || self.mends_credited())
     }
 
     /// From which place of the send queue something goes again, where a segment takes so much, and so much
@@ -313,6 +359,7 @@ impl Loss {
         ensures { self.new ≡ loss_lowered self.old by partial }
     {
         self.board.acknowledge(by);
+        self.credit = if partial && self.resent != 0 { 2 } else { 0 };
         self.resent = self.resent.saturating_sub(by);
         self.mark = self.mark.saturating_sub(by);
         self.eager = self.eager && partial;
@@ -341,6 +388,7 @@ impl Block {
         if self.reno.recovers() && (self.sender.resend || !self.loss.probes) {
             self.loss.resent = self.loss.resent.max(end);
         }
+        self.loss.credit = self.loss.credit.saturating_sub(1);
         self.loss.mark = self.sender.top;
         self.loss.probes = false;
     }

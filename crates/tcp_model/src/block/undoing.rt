@@ -11,12 +11,15 @@ use net_base::{Duration, Instant};
 use tcp_control::moments::later;
 
 impl Block {
-    /// Recovery begins, or the timer runs out: what the window was, unless a loss is being mended already.
+    /// Recovery begins, or the timer runs out: what the window was, unless a loss is being mended already, or
+    /// what went again before is still on its way.
     pub fn undo_begun(&self) -> Option<Undo>
         ensures { result ≡ undo_begun self.now }
     {
         if self.reno.recovers() || self.reno.has_timed_out() {
             self.loss.undo
+        } else if self.loss.resent != 0 {
+            None
         } else {
             Some(Undo {
                 reno: self.reno,
@@ -78,6 +81,7 @@ impl Block {
         self.sender.resend = false;
         self.sender.recover = 0;
         self.loss.resent = 0;
+        self.loss.credit = 0;
     }
 
     /// Undoes what was done at a loss that wasn't one, where a segment that makes SND.UNA rise by so much

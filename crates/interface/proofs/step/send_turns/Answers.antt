@@ -16,5 +16,5 @@ returns-clause-egress g c =
       c.if-not-send_waiting.ensures.clears,
       subst (λ (o : Option IpAddress). Pass g.D.Device.moves o (sender c.send_waiting.new.device c.args.inner.now c.send_waiting.new.fragmenter) [] false
           c.args.places.now went)
-          c.turn_of-turn.ensures c.pass.ensures.pass,
+          c.turn_if_any-turn.ensures c.pass.ensures.pass,
     )

@@ -1,7 +1,9 @@
-use Rattle.std.proofs.Common.{rules, ◌≡◌, Bool, Option, Some, sym, subst}
+use Rattle.std.proofs.Common.{rules, ◌≡◌, Bool, Option, Some, sym, ap, ◌∙◌, subst}
 use Rattle.interface_ingress.specs.Packet.{PacketValue, packet_value}
-use Rattle.interface_ingress.specs.Sockets.{offered_by}
+use Rattle.interface_ingress.specs.Socket.{Socket}
+use Rattle.interface_ingress.specs.Sockets.{offered_by, settled}
 use Rattle.interface_ingress.specs.WellFormed.{IsWellFormed}
+use Rattle.interface_egress.specs.declared.socket_set.Item.{Item}
 use Rattle.interface.specs.Host.{sender}
 use Rattle.interface.specs.Turn.{SendsBy}
 use Rattle.interface.proofs.Sourced.{sends_from}
@@ -15,6 +17,8 @@ returns-clause-sends g c =
     let item = c.args.item.now in
     let is : offered_by item.socket ≡ Some p = search rules in
     let formed : IsWellFormed p = search rules in
-    subst (λ (o : Option PacketValue). SendsBy g.D.Device.moves c.args.turn o s item c.args.changed c.turned_by.result s' c.new.item) (sym is)
-    (sends_from g.D.Device.moves c.args.turn s s' p item c.new.item c.args.changed c.turned_by.result c.let_leave-sent.result
-    c.let_leave-sent.new.meta formed c.let_leave-sent.ensures.left refl c.turned_by.ensures)
+    let marked : Socket → Item Socket = λ k. record { meta = c.let_leave-sent.new.meta; socket = k } in
+    let told = c.settle.ensures ∙ ap (λ (done : Bool). settled done item.socket) c.is_done.ensures in
+    subst (λ (o : Option PacketValue). SendsBy g.D.Device.moves c.args.turn o s item c.args.changed c.turned_by.result s' (marked c.settle.new.self)) (sym is)
+    (sends_from g.D.Device.moves c.args.turn s s' p item (marked c.settle.new.self) c.args.changed c.turned_by.result c.let_leave-sent.result
+    c.let_leave-sent.new.meta formed c.let_leave-sent.ensures.left (ap marked told) c.turned_by.ensures)

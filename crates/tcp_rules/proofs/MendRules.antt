@@ -1,0 +1,140 @@
+-- What goes again for a partial acknowledgement, when it counts as lost once more, and whether a loss is undone then.
+use Rattle.std.proofs.Common.{◌≡◌, ℕ, ◌+◌, ◌-◌, ◌*◌, ◌/◌, ◌<◌, ◌≤◌, ◌==◌, nat_le, nat_lt, not, ◌&&◌, ◌||◌, min, ℤ, Bool, true, false, if◌then◌else◌}
+use Rattle.std.proofs.Common.{None, refl, sym, ap, ◌∙◌, arith}
+use Rattle.std.proofs.lemmas.Bool.{cond_both, le-leb, lt-ltb}
+use Rattle.tcp_control.specs.Scoreboard.{held_from, missing}
+use Rattle.tcp_control.specs.declared.offer.OfferKind.TheVariants as Kind
+use Rattle.tcp_control.specs.declared.offer.OpenOffer.{OpenOffer}
+use Rattle.tcp_model.specs.Acknowledged.{begins_recovery, counted, is_lost_since, is_partial, una_moved, una_risen}
+use Rattle.tcp_model.specs.LossRecovery.{credited_window, fills_hole, is_first_lost, is_lost_again, is_passed, loss_lowered, mends_credited, mends_lost}
+use Rattle.tcp_model.specs.LossRecovery.{next_hole, probe_armed, probe_from, probes_losses}
+use Rattle.tcp_model.specs.Rules.{backed_off_now}
+use Rattle.tcp_model.specs.Settled.{end_of, nxt_moved, resent, sent_as, timer_started}
+use Rattle.tcp_model.specs.Undo.{undo_begun, undo_sent, window_kept}
+use Rattle.tcp_model.specs.declared.block.Block.{Block}
+use Rattle.tcp_model.specs.declared.block.Loss.{Loss}
+use Rattle.tcp_rules.proofs.BlindRules.{both, or_right}
+use Rattle.tcp_rules.proofs.OrderSteps.{clash}
+
+-- TWO SEGMENTS FOR EACH PARTIAL ACKNOWLEDGEMENT
+
+-- a probe changes nothing of it
+armed_credit : (b : Block) (l : Loss) (now : ℤ) → (probe_armed b l now).credit ≡ l.credit
+armed_credit b l now =
+    cond_both (probes_losses b && not l.probed) (record l { probe_at = probe_from b now }) l (λ (m : Loss). m.credit ≡ l.credit) (λ _. refl) (λ _. refl)
+
+left_true : (a b : Bool) → (a && b) ≡ true → a ≡ true
+left_true true b e = refl
+left_true false b e = clash (sym e)
+
+right_true : (a b : Bool) → (a && b) ≡ true → b ≡ true
+right_true true b e = e
+right_true false b e = clash (sym e)
+
+not_true : (a : Bool) → not a ≡ true → a ≡ false
+not_true true e = clash (sym e)
+not_true false e = refl
+
+-- a partial acknowledgement is of something
+some_partial : (b : Block) (by : ℕ) → is_partial b by ≡ true → (by == 0) ≡ false
+some_partial b by e =
+    not_true (by == 0)
+    (right_true b.reno.recovers (not (by == 0)) (left_true (b.reno.recovers && not (by == 0)) (nat_lt (by + 1) b.sender.recover) e))
+
+lowered_credit : (l : Loss) (by : ℕ) (partial : Bool) (amount : ℕ) → (if partial && not (l.resent == 0) then 2 else 0) ≡ amount
+    → (loss_lowered l by partial).credit ≡ amount
+lowered_credit l by partial amount e = e
+
+acked_credit : (b : Block) (by queued amount : ℕ) (now : ℤ) → (by == 0) ≡ false
+    → (loss_lowered b.loss by (is_partial b by)).credit ≡ amount → (una_moved b by queued now).loss.credit ≡ amount
+acked_credit b by queued amount now some e =
+    cond_both (by == 0) b.loss (probe_armed (una_risen b by queued now) (loss_lowered b.loss by (is_partial b by)) now)
+    (λ (l : Loss). l.credit ≡ amount)
+    (λ zero. clash (sym zero ∙ some))
+    (λ _. armed_credit (una_risen b by queued now) (loss_lowered b.loss by (is_partial b by)) now ∙ e)
+
+pub two_let : (b : Block) (by queued : ℕ) (now : ℤ) → is_partial b by ≡ true → (b.loss.resent == 0) ≡ false
+    → (una_moved b by queued now).loss.credit ≡ 2
+two_let b by queued now partial again =
+    acked_credit b by queued 2 now (some_partial b by partial)
+    (ap (λ (t : Bool). if t && not (b.loss.resent == 0) then 2 else 0) partial ∙ ap (λ (t : Bool). if not t then 2 else 0) again)
+
+pub none_let : (b : Block) (by queued : ℕ) (now : ℤ) → (by == 0) ≡ false → is_partial b by ≡ false → (una_moved b by queued now).loss.credit ≡ 0
+none_let b by queued now some whole =
+    acked_credit b by queued 0 now some (ap (λ (t : Bool). if t && not (b.loss.resent == 0) then 2 else 0) whole)
+
+pub one_taken : (b : Block) (o : OpenOffer) (queued : ℕ) → (sent_as Kind.FastRetransmission b o queued).loss.credit ≡ b.loss.credit - 1
+one_taken b o queued = armed_credit c (record c.loss { undo = undo_sent c c.loss.undo o.moment }) o.moment where
+  c : Block
+  c = timer_started (nxt_moved (resent b (end_of b o)) (end_of b o) queued o.moment) o.moment
+
+-- half of the window at least
+half_credited : (b : Block) (n : ℕ) → n ≤ b.reno.cwnd / 2 → n ≤ credited_window b
+half_credited b n e =
+    cond_both (b.loss.credit == 1) (b.reno.cwnd / 2) b.reno.cwnd (λ (m : ℕ). n ≤ m) (λ _. e) (λ _. whole b.reno.cwnd n e)
+  where
+    whole : (window n : ℕ) → n ≤ window / 2 → n ≤ window
+    whole window n e = omega arith
+
+pub credited_goes : (b : Block) → b.peer.sack ≡ true → b.reno.recovers ≡ true → b.sender.syn_unacked ≡ false → next_hole b < b.sender.in_flight
+    → (b.loss.credit == 0) ≡ false → next_hole b + 1 < b.sender.recover
+    → missing b.loss.board.runs (min b.loss.resent b.sender.in_flight) + b.reno.mss ≤ b.reno.cwnd / 2 → fills_hole b ≡ true
+credited_goes b sack recovers syn flies credit before room =
+    both b.peer.sack _ sack
+    (both b.reno.recovers _ recovers
+    (both (not b.sender.syn_unacked) _ (ap not syn)
+    (both (nat_lt (next_hole b) b.sender.in_flight) (mends_lost b || mends_credited b) (lt-ltb (next_hole b) b.sender.in_flight flies)
+    (or_right (mends_lost b) (mends_credited b) credited))))
+  where
+    again : ℕ
+    again = missing b.loss.board.runs (min b.loss.resent b.sender.in_flight) + b.reno.mss
+
+    credited : mends_credited b ≡ true
+    credited =
+        both (not (b.loss.credit == 0)) _ (ap not credit)
+        (both (nat_lt (next_hole b + 1) b.sender.recover) (nat_le again (credited_window b)) (lt-ltb (next_hole b + 1) b.sender.recover before)
+        (le-leb again (credited_window b) (half_credited b again room)))
+
+-- LOST ONCE MORE
+
+-- so much is held of what went later
+passed : (b : Block) (place : ℕ) → 2 * b.reno.mss < held_from b.loss.board.runs place → is_passed b place ≡ true
+passed b place more =
+    cond_both b.loss.eager 1 3 (λ (n : ℕ). nat_lt ((n - 1) * b.reno.mss) (held_from b.loss.board.runs place) ≡ true)
+    (λ _. lt-ltb ((1 - 1) * b.reno.mss) (held_from b.loss.board.runs place) (none b.reno.mss (held_from b.loss.board.runs place) more))
+    (λ _. lt-ltb ((3 - 1) * b.reno.mss) (held_from b.loss.board.runs place) (two b.reno.mss (held_from b.loss.board.runs place) more))
+  where
+    none : (mss n : ℕ) → 2 * mss < n → (1 - 1) * mss < n
+    none mss n e = omega arith
+
+    two : (mss n : ℕ) → 2 * mss < n → (3 - 1) * mss < n
+    two mss n e = omega arith
+
+pub lost_once_more : (b : Block) → b.peer.sack ≡ true → b.reno.recovers ≡ true → (b.loss.resent == 0) ≡ false
+    → 2 * b.reno.mss < held_from b.loss.board.runs b.loss.mark → is_lost_again b ≡ true
+lost_once_more b sack recovers again more =
+    both b.peer.sack _ sack
+    (both b.reno.recovers _ recovers
+    (both (not (b.loss.resent == 0)) (is_passed b b.loss.mark) (ap not again) (passed b b.loss.mark more)))
+
+pub lost_since : (b : Block) (count : ℕ) → b.peer.sack ≡ true → b.reno.recovers ≡ false → (b.sender.recover == 0) ≡ false
+    → 2 * b.reno.mss < held_from b.loss.board.runs b.sender.recover → begins_recovery b count ≡ true
+lost_since b count sack recovers out more =
+    or_right ((b.sender.recover == 0) && ((count == 3) || is_first_lost b)) (is_lost_since b)
+    (both (not (b.sender.recover == 0)) _ (ap not out)
+    (both b.peer.sack _ sack (both (not b.reno.recovers) (is_passed b b.sender.recover) (ap not recovers) (passed b b.sender.recover more))))
+
+-- NO UNDO
+
+not_kept : (b : Block) → (b.reno.recovers || b.reno.timed_out) ≡ false → (b.loss.resent == 0) ≡ false → undo_begun b ≡ None
+not_kept b calm again =
+    ap (λ (t : Bool). if t then b.loss.undo else if b.loss.resent == 0 then window_kept b else None) calm
+    ∙ ap (λ (t : Bool). if t then window_kept b else None) again
+
+pub recovery_stays : (b : Block) (count : ℕ) → (b.reno.recovers || b.reno.timed_out) ≡ false → (b.loss.resent == 0) ≡ false
+    → begins_recovery b count ≡ true → (counted b count).loss.undo ≡ None
+recovery_stays b count calm again begins = ap (λ (t : Bool). if t then undo_begun b else b.loss.undo) begins ∙ not_kept b calm again
+
+pub timeout_stays : (b : Block) → b.sender.syn_unacked ≡ false → (b.reno.recovers || b.reno.timed_out) ≡ false → (b.loss.resent == 0) ≡ false
+    → (backed_off_now b).loss.undo ≡ None
+timeout_stays b syn calm again = ap (λ (t : Bool). if t then None else undo_begun b) syn ∙ not_kept b calm again
