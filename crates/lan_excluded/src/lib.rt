@@ -2,7 +2,7 @@
 //! `lan_examples::excluded` has those of the sockets' field.
 #![tactic(auto)]
 
-ghost use Rattle.std.specs.Prelude.{◌≡◌, ◌≢◌, ◌≤◌, ◌<◌, ℕ, ℤ, pos, List, [], ◌∷◌, length, slice_get, Option, Some, None};
+ghost use Rattle.std.specs.Prelude.{◌≡◌, ◌≢◌, ◌+◌, ◌≤◌, ◌<◌, ℕ, ℤ, pos, List, [], ◌∷◌, length, slice_get, Option, Some, None};
 ghost use Rattle.lan_theorem.specs.FragKey.{FragKey};
 ghost use Rattle.lan_theorem.specs.IpProtocol.TheVariants as Protocol;
 ghost use Rattle.net_base.specs.Medium.{Medium};
@@ -17,7 +17,6 @@ ghost use Rattle.lan_hosts.specs.Departure.{Asks, Tells, Whole, arp_request, sol
 ghost use Rattle.lan_hosts.specs.Arrives.{Arrived, ReplyValue};
 ghost use Rattle.lan_hosts.specs.Delivered.{Places};
 ghost use Rattle.lan_theorem.specs.Kept.{with_ports};
-ghost use Rattle.lan_hosts.specs.Incoming.{IncomingValue, IsContent};
 ghost use Rattle.lan_hosts.specs.Reassembled.{Slots};
 ghost use Rattle.lan_hosts.specs.Inner.{InnerValue};
 ghost use Rattle.lan_hosts.specs.History.{Entry};
