@@ -55,28 +55,32 @@ first_own blocks f is = by (position is_v6 blocks) is where
   by None is = absurd (cc is)
   by (Some n) is = at_any blocks n f is
 
+-- of a first candidate, or of the rest
+found_here : (test : Ipv6Cidr → Bool) (c b : Ipv6Cidr) (rest : List Ipv6Cidr) (blocks : List IpCidr) (passes : Bool)
+    → (find test rest ≡ Some b → list_any (is_address_of (Address.Ipv6 b.address)) blocks ≡ true)
+    → (if passes then Some c else find test rest) ≡ Some b
+    → list_any (is_address_of (Address.Ipv6 b.address)) (Block.Ipv6 c ∷ blocks) ≡ true
+found_here test c b rest blocks true later is =
+    or_first (bytes_eq c.address.0 b.address.0) (list_any (is_address_of (Address.Ipv6 b.address)) blocks)
+    ((bytes_eq-Decides c.address.0 b.address.0).1 (let same : c ≡ b = cc is in ap (λ (x : Ipv6Cidr). x.address.0) same))
+found_here test c b rest blocks false later is =
+    or_later (bytes_eq c.address.0 b.address.0) (list_any (is_address_of (Address.Ipv6 b.address)) blocks) (later is)
+
+found_first : (test : Ipv6Cidr → Bool) (c b : Ipv6Cidr) (rest : List Ipv6Cidr) (blocks : List IpCidr) (may : Bool)
+    → (find test rest ≡ Some b → list_any (is_address_of (Address.Ipv6 b.address)) blocks ≡ true)
+    → find test (cons_option (if may then Some c else None) rest) ≡ Some b
+    → list_any (is_address_of (Address.Ipv6 b.address)) (Block.Ipv6 c ∷ blocks) ≡ true
+found_first test c b rest blocks true later is = found_here test c b rest blocks (test c) later is
+found_first test c b rest blocks false later is =
+    or_later (bytes_eq c.address.0 b.address.0) (list_any (is_address_of (Address.Ipv6 b.address)) blocks) (later is)
+
 -- what a search among the candidates finds is an own address
 found_own : (test : Ipv6Cidr → Bool) (to : Ipv6Address) (blocks : List IpCidr) (b : Ipv6Cidr)
     → find test (filter_map (candidate to) blocks) ≡ Some b → list_any (is_address_of (Address.Ipv6 b.address)) blocks ≡ true
 found_own test to [] b is = absurd (cc is)
 found_own test to (Block.Ipv4 c ∷ blocks) b is = found_own test to blocks b is
-found_own test to (Block.Ipv6 c ∷ blocks) b is = by (may_send to c) is where
-  rest : List Ipv6Cidr
-  rest = filter_map (candidate to) blocks
-
-  here : (passes : Bool) → (if passes then Some c else find test rest) ≡ Some b
-      → list_any (is_address_of (Address.Ipv6 b.address)) (Block.Ipv6 c ∷ blocks) ≡ true
-  here true is =
-      or_first (bytes_eq c.address.0 b.address.0) (list_any (is_address_of (Address.Ipv6 b.address)) blocks)
-      ((bytes_eq-Decides c.address.0 b.address.0).1 (let same : c ≡ b = cc is in ap (λ (x : Ipv6Cidr). x.address.0) same))
-  here false is =
-      or_later (bytes_eq c.address.0 b.address.0) (list_any (is_address_of (Address.Ipv6 b.address)) blocks) (found_own test to blocks b is)
-
-  by : (may : Bool) → find test (cons_option (if may then Some c else None) rest) ≡ Some b
-      → list_any (is_address_of (Address.Ipv6 b.address)) (Block.Ipv6 c ∷ blocks) ≡ true
-  by true is = here (test c) is
-  by false is =
-      or_later (bytes_eq c.address.0 b.address.0) (list_any (is_address_of (Address.Ipv6 b.address)) blocks) (found_own test to blocks b is)
+found_own test to (Block.Ipv6 c ∷ blocks) b is =
+    found_first test c b (filter_map (candidate to) blocks) blocks (may_send to c) (found_own test to blocks b) is
 
 -- a host with an IPv6 loopback address has ::1
 no_four : (a : Bool) → (a && false) ≡ true → ⊥

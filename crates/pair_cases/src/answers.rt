@@ -34,7 +34,27 @@ pub fn push_ended(
     }
 }
 
-pub fn push_refused(text: &mut String, refused: PairRefused) -> Result<(), AllocError> {
+/// The line of a side that was asked until it had nothing more to say: how many segments it sent.
+pub fn push_asked(text: &mut String, asked: Result<usize, PairRefused>) -> Result<(), AllocError> {
+    match asked {
+        Ok(count) => writeln!(text, "= sent {count}"),
+        Err(refused) => push_refused(text, refused),
+    }
+}
+
+/// The line of a good link: whether all was read.
+pub fn push_settled(
+    text: &mut String,
+    settled: Result<bool, PairRefused>,
+) -> Result<(), AllocError> {
+    match settled {
+        Ok(true) => text.push_str("= all read\n"),
+        Ok(false) => text.push_str("= not all read\n"),
+        Err(refused) => push_refused(text, refused),
+    }
+}
+
+fn push_refused(text: &mut String, refused: PairRefused) -> Result<(), AllocError> {
     writeln!(text, "= refused {}", refused_name(refused))
 }
 

@@ -51,19 +51,14 @@ fn play_all<W: Write>(alloc: Global, cases: &[Case], writer: &mut W) -> io::Resu
 /// Plays a case, whose first line says which sockets it has. False: a line ended it.
 fn play_case<W: Write>(alloc: Global, case: &Case, writer: &mut W) -> io::Result<bool> {
     writer.write_all(b"== ")?;
-    writer.write_all(case.name.as_slice())?;
-    writer.write_all(b"\n")?;
+    write_line(case.name.as_slice(), writer)?;
     let first = case
         .text
         .split(|byte| ends_line(byte))
         .next()
         .unwrap_or(b"");
     match made(alloc, first) {
-        Ok(mut played) => {
-            writer.write_all(first)?;
-            writer.write_all(b"\n")?;
-            play_events(alloc, &mut played, case.text.as_slice(), writer)
-        }
+        Ok(mut played) => play_made(alloc, &mut played, first, case.text.as_slice(), writer),
         Err(bad) => {
             let why = bad.to_text(alloc, first)?;
             writeln!(writer, "line 1: {why}")?;
@@ -72,13 +67,27 @@ fn play_case<W: Write>(alloc: Global, case: &Case, writer: &mut W) -> io::Result
     }
 }
 
+fn write_line<W: Write>(line: &[u8], writer: &mut W) -> io::Result<()> {
+    writer.write_all(line)?;
+    writer.write_all(b"\n")
+}
+
 /// The sockets that a case's first line says.
 fn made(alloc: Global, line: &[u8]) -> Result<Box<Played>, Bad> {
     let sizes = read_sizes(text(line)?)?;
-    match Played::new(alloc, &sizes) {
-        Some(played) => Ok(played),
-        None => Err(Bad::new("buffers", 0)),
-    }
+    Played::new(alloc, &sizes).ok_or(Bad::new("buffers", 0))
+}
+
+/// Plays a case of these sockets, whose first line says them.
+fn play_made<W: Write>(
+    alloc: Global,
+    played: &mut Played,
+    first: &[u8],
+    script: &[u8],
+    writer: &mut W,
+) -> io::Result<bool> {
+    write_line(first, writer)?;
+    play_events(alloc, played, script, writer)
 }
 
 /// Plays the events behind a case's first line.
@@ -117,8 +126,7 @@ fn play_line<W: Write>(
         Ok(None) => return Ok(None),
         Err(bad) => return Ok(Some(bad)),
     };
-    writer.write_all(line)?;
-    writer.write_all(b"\n")?;
+    write_line(line, writer)?;
     let text = played.take(alloc, &said)?;
     writer.write_all(text.as_bytes())?;
     Ok(None)

@@ -1,5 +1,5 @@
 //! A case as it is played.
-use crate::answers::{push_answer, push_ended, push_refused, push_sent, push_side};
+use crate::answers::{push_answer, push_asked, push_ended, push_sent, push_settled, push_side};
 use crate::beside::{Beside, socket};
 use crate::lines::{Line, Sizes, Todo};
 use crate::users::Users;
@@ -32,29 +32,31 @@ impl Played {
     /// Does what a line says: what is written of it.
     pub fn take(&mut self, alloc: Global, line: &Line) -> Result<String, AllocError> {
         let mut text = String::new(alloc);
+        self.take_into(alloc, line, &mut text)?;
+        Ok(text)
+    }
+
+    fn take_into(
+        &mut self,
+        alloc: Global,
+        line: &Line,
+        text: &mut String,
+    ) -> Result<(), AllocError> {
         let sent = self.counts();
         match line {
             Line::Event(todo) => {
                 let answered = self.step(alloc, todo);
-                push_answer(alloc, &mut text, &answered)?;
-                self.push_after(alloc, &mut text, sent)?;
+                push_answer(alloc, text, &answered)?;
+                self.push_after(alloc, text, sent)
             }
             Line::Burst(side, first, last) => {
                 let ended = self.burst(alloc, *side, *first, *last);
-                push_ended(&mut text, ended)?;
-                self.push_after(alloc, &mut text, sent)?;
+                push_ended(text, ended)?;
+                self.push_after(alloc, text, sent)
             }
-            Line::Ask(side, moment) => match self.ask(alloc, *side, *moment) {
-                Ok(count) => writeln!(text, "= sent {count}")?,
-                Err(refused) => push_refused(&mut text, refused)?,
-            },
-            Line::Settle(span) => match self.settle(alloc, *span) {
-                Ok(true) => text.push_str("= all read\n")?,
-                Ok(false) => text.push_str("= not all read\n")?,
-                Err(refused) => push_refused(&mut text, refused)?,
-            },
+            Line::Ask(side, moment) => push_asked(text, self.ask(alloc, *side, *moment)),
+            Line::Settle(span) => push_settled(text, self.settle(alloc, *span)),
         }
-        Ok(text)
     }
 
     /// How many segments A and B sent.

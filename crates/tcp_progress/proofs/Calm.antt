@@ -45,6 +45,8 @@ pub record Load : Type 0 where
   pub took_fin : Bool
   pub room : ℕ
   pub stamps : Bool
+  pub timeout : Option ℕ
+  pub retries : Option ℕ
 
 abbrev pub load_of : TcpValue → Load
 load_of v = record {
@@ -55,6 +57,8 @@ load_of v = record {
   took_fin = v.block.receiver.took_fin;
   room = room_of v.received;
   stamps = v.block.peer.timestamps;
+  timeout = v.block.settings.timeout;
+  retries = v.block.settings.retries;
 }
 
 -- no connection is opened, none that is over comes back, no more waits for the other, and no less came
@@ -66,6 +70,8 @@ pub record IsCalm (old new : Load) : Type 0 where
   pub syn : new.syn ≤ old.syn
   pub room : new.room ≡ old.room
   pub stamps : new.stamps ≡ old.stamps
+  pub timeout : new.timeout ≡ old.timeout
+  pub retries : new.retries ≡ old.retries
 
 same_load : (n : ℕ) → n ≤ n
 same_load n = omega arith
@@ -74,7 +80,17 @@ upto : (a b c : ℕ) → a ≤ b → b ≤ c → a ≤ c
 upto a b c e f = omega arith
 
 pub calm : (x : Load) → IsCalm x x
-calm x = record { early = λ e. e; closed = λ e. e; left = same_load _; came = same_load _; syn = same_load x.syn; room = refl; stamps = refl }
+calm x = record {
+  early = λ e. e;
+  closed = λ e. e;
+  left = same_load _;
+  came = same_load _;
+  syn = same_load x.syn;
+  room = refl;
+  stamps = refl;
+  timeout = refl;
+  retries = refl;
+}
 
 pub then_calm : (x y z : Load) → IsCalm x y → IsCalm y z → IsCalm x z
 then_calm x y z c d = record {
@@ -87,6 +103,8 @@ then_calm x y z c d = record {
   syn = upto z.syn y.syn x.syn d.syn c.syn;
   room = d.room ∙ c.room;
   stamps = d.stamps ∙ c.stamps;
+  timeout = d.timeout ∙ c.timeout;
+  retries = d.retries ∙ c.retries;
 }
 
 -- the connection is over
@@ -99,6 +117,8 @@ ended_calm x = record {
   syn = same_load x.syn;
   room = refl;
   stamps = refl;
+  timeout = refl;
+  retries = refl;
 }
   where
     less : (a b c : ℕ) → a + b + 0 ≤ a + b + c
@@ -218,6 +238,8 @@ module _ (cx : ContextValue) (ip : IpRepr) (header : TcpHeader) (bytes : List �
     syn = same_load x.syn;
     room = refl;
     stamps = refl;
+    timeout = refl;
+    retries = refl;
   }
     where
       less : (a b c d : ℕ) → c ≤ d → a + b + c ≤ a + b + d
@@ -235,6 +257,8 @@ module _ (cx : ContextValue) (ip : IpRepr) (header : TcpHeader) (bytes : List �
     syn = same_load x.syn;
     room = whole;
     stamps = refl;
+    timeout = refl;
+    retries = refl;
   }
     where
       more : (a b c : ℕ) → a ≤ b → a + c ≤ b + c
@@ -284,6 +308,8 @@ module _ (cx : ContextValue) (ip : IpRepr) (header : TcpHeader) (bytes : List �
     syn = less_syn v.block.sender.syn_unacked (by == 0);
     room = refl;
     stamps = refl;
+    timeout = refl;
+    retries = refl;
   }
     where
       less : (a b c d e f : ℕ) → a ≤ d → b ≤ e → c ≤ f → a + b + c ≤ d + e + f
@@ -428,4 +454,33 @@ module _ (cx : ContextValue) (v : TcpValue) (late : is_early v.block.state ≡ f
         backs = λ pair _ _ _. calm_first pair (backed_off_now (begun cx v)) (calm _);
         probes = λ pair _ _ _ _. calm_first pair (loss_probed (begun cx v)) (calm _);
         goes = λ pair _ _ _. calm_first pair (begun cx v) (calm _);
+      })
+
+  -- one that the link doesn't take
+  abbrev Refused : Offered TcpValue → Type 0
+  Refused o = IsCalm (load_of v) (load_of (settled false o.socket))
+
+  refuses_first : (pair : EndpointPair) (b : Block) → IsCalm (load_of v) (load_of (with_block (unoffered v) b)) →
+      FirstRules cx pair Refused (with_block (unoffered v) b)
+  refuses_first pair b c = record {
+    syn = λ _. c;
+    again = λ _ _. c;
+    text = λ _ _. c;
+    last = λ _. record { probe = λ _ _. c; held_back = λ _ _. c; ack = λ _. c; update = λ _ _. c; keep_alive = λ _ _. c; quiet = λ _. c };
+  }
+
+  pub refused_calm : IsCalm (load_of v) (load_of (settled false (offer_of cx v).socket))
+  refused_calm =
+      by_rules cx v Refused
+      (record {
+        nobody = λ _. calm _;
+        time_wait = λ _. ended_calm (load_of v);
+        timeout = λ _. ended_calm (load_of v);
+        closed = λ _. calm _;
+        reset = λ _ _ _. calm _;
+        falls = λ _ _ falls. clash (sym (early_answering v.block.state (and_first (is_answering v.block.state) _ falls)) ∙ late);
+        over = λ _ _ _. ended_calm (load_of v);
+        backs = λ pair _ _ _. refuses_first pair (backed_off_now (begun cx v)) (calm _);
+        probes = λ pair _ _ _ _. refuses_first pair (loss_probed (begun cx v)) (calm _);
+        goes = λ pair _ _ _. refuses_first pair (begun cx v) (calm _);
       })

@@ -35,14 +35,14 @@ use Rattle.tcp_tie.proofs.OfferLaws.{keeps_sent_offer}
 use Rattle.tcp_tie.proofs.PromiseLemmas.{keeps_turned, safe_sockets}
 use Rattle.tcp_rules.proofs.OrderSteps.{clash}
 use Rattle.tcp_progress.specs.Arrivals.{is_synchronized, Counts, IsNearWindow, IsNew, IsAgain, IsAnswered, EndsLastAck, Rises}
-use Rattle.tcp_progress.specs.Exchange.{FitsBuffer, IsOpen, TookWhatWasSent, HasSpace, text_of, GoesFromUna, offer_comes}
-use Rattle.tcp_progress.specs.Exchange.{MayExchange, MovesOn, left_of, IsTaken, IsTold, HasMoved}
+use Rattle.tcp_progress.specs.Exchange.{CanHear, FitsBuffer, IsOpen, TookWhatWasSent, HasSpace, text_of, GoesFromUna, offer_comes}
+use Rattle.tcp_progress.specs.Exchange.{MayExchange, MayReach, MovesOn, left_of, IsTaken, IsTold, HasMoved}
 use Rattle.tcp_progress.specs.Positions.{LiesWithin}
 use Rattle.tcp_progress.proofs.Acked.{una_rises}
 use Rattle.tcp_progress.proofs.Left.{left_same, lowered}
 use Rattle.tcp_progress.proofs.Offered.{GoesOut, StaysBut, goes_out_of, goes_from_una}
 use Rattle.tcp_progress.proofs.Positions.{IsPlaced, placed, lies_within, whole_taken, una_small, next_small}
-use Rattle.tcp_progress.proofs.Taken.{next_rises, again_answered}
+use Rattle.tcp_progress.proofs.Taken.{next_rises, again_answered, again_lies_before, new_is_inside}
 
 -- WHAT GOES FROM SND.UNA ON
 
@@ -304,8 +304,26 @@ within_stream read waiting rest stream e =
 far_below : (by waiting written : ℕ) → by ≤ waiting + 1 → waiting ≤ written → written < 2 ^ 29 → by < 2 ^ 30
 far_below by waiting written a b c = omega arith
 
+pub reach_of : (cx cy : ContextValue) (v w : TcpValue) (o : OpenOffer) → MayExchange cx cy v w o → MayReach cx cy v w o
+reach_of cx cy v w o may = record {
+  own = may.own;
+  theirs = may.theirs;
+  over = may.over;
+  offered = may.offered;
+  kind = may.kind;
+  some = may.some;
+  room = may.room;
+  fresh = may.fresh;
+  answer_fresh = may.answer_fresh;
+}
+
+-- what comes of it: RCV.NXT of the partner rises, or its connection ends, or it has all of it already and answers
+pub record IsPassed (w : TcpValue) (header : TcpHeader) (size : ℕ) (a : Arrived) : Type 0 where
+  pub again : IsAgain w header size
+  pub answer : IsAnswered w a
+
 module _ (cx cy cz : ContextValue) (v w : TcpValue) (p q : Past) (k : Keeps v p w q) (o : OpenOffer) (step : IsInStep k.side k.partner)
-    (took_theirs : TookWhatWasSent v w) (fits : FitsBuffer v w) (took_mine : TookWhatWasSent w v) (may : MayExchange cx cy v w o) where
+    (took_theirs : TookWhatWasSent v w) (fits : FitsBuffer v w) (took_mine : TookWhatWasSent w v) (may : MayReach cx cy v w o) where
   abbrev bytes : List ℕ
   bytes = text_of v o
 
@@ -361,7 +379,19 @@ module _ (cx cy cz : ContextValue) (v w : TcpValue) (p q : Past) (k : Keeps v p 
   l : LiesWithin v w k.side k.partner
   l = lies_within v w p q k may.own.synchronized may.theirs.synchronized step
 
-  module _ (again : IsAgain w o.segment (length bytes)) (r : IsAnswered w came) where
+  -- either way the partner knows of all that the side took
+  pub heard_all : came.socket.block.sender.una ≡ v.block.receiver.next
+  heard_all =
+      same_number came.socket.block.sender.una v.block.receiver.next
+      (una_rises cy w o.header o.segment bytes v.block.receiver.next counts
+      (near
+      (new_or_again v w p q k o.segment (length bytes) may.own.synchronized may.theirs.synchronized step goes.number may.some goes.ends may.room fits)))
+    where
+      near : IsNew w o.segment (length bytes) ⊎ IsAgain w o.segment (length bytes) → IsNearWindow w o.segment (length bytes)
+      near (inl new) = inl (new_is_inside w o.segment (length bytes) new)
+      near (inr again) = inr (again_lies_before w o.segment (length bytes) again)
+
+  module _ (again : IsAgain w o.segment (length bytes)) (r : IsAnswered w came) (room_for : CanHear v w) where
     abbrev heard_back : TcpValue
     heard_back = (arrives cz gone r.reply.header r.reply.segment []).socket
 
@@ -373,11 +403,31 @@ module _ (cx cy cz : ContextValue) (v w : TcpValue) (p q : Past) (k : Keeps v p 
         up_to (distance_of gone.block.sender.una w.block.receiver.next) v.block.sender.top gone.block.sender.top
         (subst (λ (n : ℕ). n ≤ v.block.sender.top) (sym same_una) took_theirs) out.sent.top
 
+    some : 1 ≤ far
+    some =
+        enough far (segment_len o.segment (length bytes))
+        (subst (λ (n : SeqNumber). segment_len o.segment (length bytes) ≤ distance_of n w.block.receiver.next) goes.number again.ends)
+        may.some
+
     space : HasSpace gone w
     space =
         subst (λ (r : Received). (distance_of gone.block.receiver.next (top w.block) ≡ 0) ⊎ (distance_of gone.block.receiver.next (top w.block) < length r.map))
         (sym out.received)
-        (subst (λ (n : SeqNumber). (distance_of n (top w.block) ≡ 0) ⊎ (distance_of n (top w.block) < free_in v)) (sym out.sent.next) may.space)
+        (subst (λ (n : SeqNumber). (distance_of n (top w.block) ≡ 0) ⊎ (distance_of n (top w.block) < free_in v)) (sym out.sent.next)
+        (needed room_for))
+      where
+        needed : HasSpace v w ⊎ (w.block.receiver.next ≡ v.block.sender.una) → HasSpace v w
+        needed (inl space) = space
+        needed (inr known) =
+            absurd
+            (nothing far some
+            (ap (λ (n : SeqNumber). distance_of v.block.sender.una n) known ∙ itself v.block.sender.una.0 (una_small v k.side a)))
+          where
+            nothing : (n : ℕ) → 1 ≤ n → n ≡ 0 → ⊥
+            nothing n e f = absurd (omega arith)
+
+            itself : (n : ℕ) → n < 2 ^ 32 → (n + (2 ^ 32 - n)) % 2 ^ 32 ≡ 0
+            itself n e = omega arith
 
     inside : is_in_window gone.block (free_in gone) r.reply.segment 0 ≡ true
     inside =
@@ -393,12 +443,6 @@ module _ (cx cy cz : ContextValue) (v w : TcpValue) (p q : Past) (k : Keeps v p 
     answer_counts =
         counts_for gone w after q kept r.reply.segment mine may.theirs.synchronized sent (ap is_syn r.plain) (ap is_rst r.plain) fresh
         r.acknowledges
-
-    some : 1 ≤ far
-    some =
-        enough far (segment_len o.segment (length bytes))
-        (subst (λ (n : SeqNumber). segment_len o.segment (length bytes) ≤ distance_of n w.block.receiver.next) goes.number again.ends)
-        may.some
 
     told : IsTold cx cz v w came
     told = record {
@@ -454,21 +498,41 @@ module _ (cx cy cz : ContextValue) (v w : TcpValue) (p q : Past) (k : Keeps v p 
       };
     }
 
-  pub moved : HasMoved cx cy cz v w o
-  moved =
+  -- whether or not the side hears of it
+  pub outcome :
+      IsTaken cy w o.segment (length bytes) came
+      ⊎ (IsPassed w o.segment (length bytes) came ⊎ EndsLastAck w came)
+  outcome =
       by
       (new_or_again v w p q k o.segment (length bytes) may.own.synchronized may.theirs.synchronized step goes.number may.some goes.ends may.room
       fits)
     where
-      answered : IsAgain w o.segment (length bytes) → EndsLastAck w came ⊎ IsAnswered w came → HasMoved cx cy cz v w o
+      answered :
+          IsAgain w o.segment (length bytes) → EndsLastAck w came ⊎ IsAnswered w came
+          → IsTaken cy w o.segment (length bytes) came ⊎ (IsPassed w o.segment (length bytes) came ⊎ EndsLastAck w came)
       answered again (inl ends) = inr (inr ends)
-      answered again (inr r) = inr (inl (told again r))
+      answered again (inr r) = inr (inl (record { again = again; answer = r }))
 
-      by : IsNew w o.segment (length bytes) ⊎ IsAgain w o.segment (length bytes) → HasMoved cx cy cz v w o
+      by :
+          IsNew w o.segment (length bytes) ⊎ IsAgain w o.segment (length bytes)
+          → IsTaken cy w o.segment (length bytes) came ⊎ (IsPassed w o.segment (length bytes) came ⊎ EndsLastAck w came)
       by (inl new) = inl (is_taken (next_rises cy w o.header o.segment bytes v.block.receiver.next counts new))
       by (inr again) = answered again (again_answered cy w o.header o.segment bytes v.block.receiver.next counts again)
+
+  pub told_of : CanHear v w → IsPassed w o.segment (length bytes) came → IsTold cx cz v w came
+  told_of space passed = told passed.again passed.answer space
 
 pub goes_on :
     (cx cy cz : ContextValue) (v w : TcpValue) (p q : Past) (k : Keeps v p w q) (o : OpenOffer) → IsInStep k.side k.partner → TookWhatWasSent v w
     → FitsBuffer v w → TookWhatWasSent w v → MayExchange cx cy v w o → HasMoved cx cy cz v w o
-goes_on cx cy cz v w p q k o step sent fits heard may = moved cx cy cz v w p q k o step sent fits heard may
+goes_on cx cy cz v w p q k o step sent fits heard may = by (outcome cx cy cz v w p q k o step sent fits heard reach) where
+  reach : MayReach cx cy v w o
+  reach = reach_of cx cy v w o may
+
+  by :
+      IsTaken cy w o.segment (length (text_of v o)) (offer_comes cy w v o)
+      ⊎ (IsPassed w o.segment (length (text_of v o)) (offer_comes cy w v o) ⊎ EndsLastAck w (offer_comes cy w v o))
+      → HasMoved cx cy cz v w o
+  by (inl taken) = inl taken
+  by (inr (inl passed)) = inr (inl (told_of cx cy cz v w p q k o step sent fits heard reach may.space passed))
+  by (inr (inr ends)) = inr (inr ends)

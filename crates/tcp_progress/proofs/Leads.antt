@@ -24,7 +24,7 @@ one_more : (v : TcpValue) (events : List Event) (it : Event) → led v (events +
 one_more v [] it = refl
 one_more v (first ∷ events) it = one_more (after v first) events it
 
-event_led : (v : TcpValue) (it : Event) → IsLed v → IsLed (after v it)
+pub event_led : (v : TcpValue) (it : Event) → IsLed v → IsLed (after v it)
 event_led v it l = record {
   room = l.room;
   ring = l.ring;
@@ -43,10 +43,10 @@ refused v = if_not (is_closed v.block.state && not (0 == 0)) (listening v nowher
   never true = refl
   never false = refl
 
-unoffered_led : (v : TcpValue) → IsLed v → IsLed (unoffered v)
+pub unoffered_led : (v : TcpValue) → IsLed v → IsLed (unoffered v)
 unoffered_led v l = subst IsLed (refused v) (event_led v (Listens nowhere) l)
 
-new_led : (room : ℕ) (ring : Ring ℕ) → IsLed (new_socket room ring)
+pub new_led : (room : ℕ) (ring : Ring ℕ) → IsLed (new_socket room ring)
 new_led room ring = record { room = room; ring = ring; events = []; is = refl }
 
 pub led_side : (p : PairValue) (side : Side) → IsReached p → IsLed (socket_of p side)

@@ -1,23 +1,21 @@
 -- The events of an exchange are taken: so it leads on to a pair that events lead to.
-use Rattle.std.proofs.Common.{◌≡◌, ◌⊎◌, inl, inr, ℕ, ◌-◌, ◌<◌, nat_lt, not, ℤ, Bool, true, List, [], ◌∷◌, ◌++◌, length, None, refl, sym, ap, subst, arith}
+use Rattle.std.proofs.Common.{◌≡◌, ◌⊎◌, inl, inr, ℕ, ◌-◌, ◌<◌, nat_lt, not, ℤ, Bool, true, [], ◌∷◌, length, None, refl, sym, ap, subst, arith}
 use Rattle.std.proofs.lemmas.Bool.{lt-ltb}
 use Rattle.std.proofs.lemmas.Option.{slice_get_within}
 use Rattle.tcp_tie.specs.Tie.{Keeps}
 use Rattle.tcp_rules.specs.OpenOffer.{OpenOffer}
-use Rattle.tcp_pair_model.specs.Steps.{Steps, refusal, if_so}
-use Rattle.tcp_pair_model.specs.Value.{new_socket}
-use Rattle.tcp_pair_model.specs.Values.{PairValue, new_pair, past_at}
-use Rattle.tcp_pair_model.specs.declared.event.PairEvent.{PairEvent}
+use Rattle.tcp_pair_model.specs.Steps.{refusal, if_so}
+use Rattle.tcp_pair_model.specs.Values.{PairValue, past_at}
 use Rattle.tcp_pair_model.specs.declared.event.PairEvent.TheVariants.{Offer, Deliver}
 use Rattle.tcp_pair_model.specs.declared.event.PairRefused.TheVariants.{NoSegment}
 use Rattle.tcp_pair_model.specs.declared.event.Side.{Side}
 use Rattle.tcp_pair_model.specs.declared.event.Side.TheVariants.{A, B}
-use Rattle.tcp_progress.specs.Pair.{AreMirrored, HasStream, MayExchangeIn, exchanged_in, next_sent, offered_in}
+use Rattle.tcp_progress.specs.Pair.{AreMirrored, HasStream, MayReachIn, exchanged_in, next_sent, offered_in}
 use Rattle.tcp_progress.specs.Reached.{IsReached}
 use Rattle.tcp_progress.specs.Rounds.{takes, comes}
 use Rattle.tcp_progress.proofs.Kept.{reached_by, reached_keeps}
 use Rattle.tcp_progress.proofs.Mirrored.{mirrored_in}
-use Rattle.tcp_progress.proofs.Pair.{Takes, Tells, Ends, asked_side, side_moves, sent, first, in_step}
+use Rattle.tcp_progress.proofs.Pair.{Comes, asked_side, first, how_many, in_step, sent, side_comes}
 use Rattle.tcp_progress.proofs.SentPairs.{TookEach, reached_took}
 use Rattle.tcp_progress.proofs.WindowPairs.{fits_in}
 
@@ -44,9 +42,10 @@ one_more : (k n : ℕ) → n - k ≡ 1 → k < n
 one_more k n e = omega arith
 
 module _ (p : PairValue) (moment : ℤ) (o : OpenOffer) (r : IsReached p) where
-  led_a : HasStream (past_at p A) → MayExchangeIn p A moment o → refusal p (Offer A moment true) ≡ None → IsReached (exchanged_in p A moment)
+  led_a : HasStream (past_at p A) → MayReachIn p A moment o → refusal p (Offer A moment true) ≡ None → IsReached (exchanged_in p A moment)
   led_a stream may asked =
-      by_answer (offered_in p A moment) B (next_sent p B) (next_sent (offered_in p A moment) B - next_sent p B) (counts moves)
+      by_answer (offered_in p A moment) B (next_sent p B) (next_sent (offered_in p A moment) B - next_sent p B)
+      (how_many A p.sides.a p.sides.b moment mirrored o may.may moves)
       (λ one. within (next_sent p B) (next_sent (offered_in p A moment) B) (one_more (next_sent p B) (next_sent (offered_in p A moment) B) one))
       (by_two p A moment r asked
       (within (next_sent p A) (length (asked_side A p.sides.a p.sides.b moment).sent)
@@ -62,23 +61,16 @@ module _ (p : PairValue) (moment : ℤ) (o : OpenOffer) (r : IsReached p) where
       mirrored : AreMirrored p.sides.a.socket.block p.sides.b.socket.block
       mirrored = mirrored_in p A r may.may.own.synchronized may.may.theirs.synchronized may.mirrored
 
-      moves : Takes A p.sides.a p.sides.b moment mirrored o may.may
-          ⊎ (Tells A p.sides.a p.sides.b moment mirrored o may.may ⊎ Ends A p.sides.a p.sides.b moment mirrored o may.may)
+      moves : Comes A p.sides.a p.sides.b moment mirrored o may.may (Unit {0})
       moves =
-          side_moves A p.sides.a p.sides.b moment mirrored o may.may (past_at p A) (past_at p B) k
+          side_comes A p.sides.a p.sides.b moment mirrored o may.may (past_at p A) (past_at p B) k
           (in_step p.sides.a.socket p.sides.b.socket (past_at p A) (past_at p B) k may.may.own.synchronized stream) each.sent
-          (fits_in p A r may.may.own may.may.theirs may.may.room) each.heard
+          (fits_in p A r may.may.own may.may.theirs may.may.room) each.heard (inr tt)
 
-      counts : Takes A p.sides.a p.sides.b moment mirrored o may.may
-          ⊎ (Tells A p.sides.a p.sides.b moment mirrored o may.may ⊎ Ends A p.sides.a p.sides.b moment mirrored o may.may)
-          → (next_sent (offered_in p A moment) B - next_sent p B ≡ 0) ⊎ (next_sent (offered_in p A moment) B - next_sent p B ≡ 1)
-      counts (inl x) = inl x.none
-      counts (inr (inl x)) = inr x.one
-      counts (inr (inr x)) = inl x.none
-
-  led_b : HasStream (past_at p B) → MayExchangeIn p B moment o → refusal p (Offer B moment true) ≡ None → IsReached (exchanged_in p B moment)
+  led_b : HasStream (past_at p B) → MayReachIn p B moment o → refusal p (Offer B moment true) ≡ None → IsReached (exchanged_in p B moment)
   led_b stream may asked =
-      by_answer (offered_in p B moment) A (next_sent p A) (next_sent (offered_in p B moment) A - next_sent p A) (counts moves)
+      by_answer (offered_in p B moment) A (next_sent p A) (next_sent (offered_in p B moment) A - next_sent p A)
+      (how_many B p.sides.b p.sides.a moment mirrored o may.may moves)
       (λ one. within (next_sent p A) (next_sent (offered_in p B moment) A) (one_more (next_sent p A) (next_sent (offered_in p B moment) A) one))
       (by_two p B moment r asked
       (within (next_sent p B) (length (asked_side B p.sides.b p.sides.a moment).sent)
@@ -94,22 +86,14 @@ module _ (p : PairValue) (moment : ℤ) (o : OpenOffer) (r : IsReached p) where
       mirrored : AreMirrored p.sides.b.socket.block p.sides.a.socket.block
       mirrored = mirrored_in p B r may.may.own.synchronized may.may.theirs.synchronized may.mirrored
 
-      moves : Takes B p.sides.b p.sides.a moment mirrored o may.may
-          ⊎ (Tells B p.sides.b p.sides.a moment mirrored o may.may ⊎ Ends B p.sides.b p.sides.a moment mirrored o may.may)
+      moves : Comes B p.sides.b p.sides.a moment mirrored o may.may (Unit {0})
       moves =
-          side_moves B p.sides.b p.sides.a moment mirrored o may.may (past_at p B) (past_at p A) k
+          side_comes B p.sides.b p.sides.a moment mirrored o may.may (past_at p B) (past_at p A) k
           (in_step p.sides.b.socket p.sides.a.socket (past_at p B) (past_at p A) k may.may.own.synchronized stream) each.sent
-          (fits_in p B r may.may.own may.may.theirs may.may.room) each.heard
-
-      counts : Takes B p.sides.b p.sides.a moment mirrored o may.may
-          ⊎ (Tells B p.sides.b p.sides.a moment mirrored o may.may ⊎ Ends B p.sides.b p.sides.a moment mirrored o may.may)
-          → (next_sent (offered_in p B moment) A - next_sent p A ≡ 0) ⊎ (next_sent (offered_in p B moment) A - next_sent p A ≡ 1)
-      counts (inl x) = inl x.none
-      counts (inr (inl x)) = inr x.one
-      counts (inr (inr x)) = inl x.none
+          (fits_in p B r may.may.own may.may.theirs may.may.room) each.heard (inr tt)
 
 pub leads_on :
-    (p : PairValue) (side : Side) (moment : ℤ) (o : OpenOffer) → IsReached p → HasStream (past_at p side) → MayExchangeIn p side moment o
+    (p : PairValue) (side : Side) (moment : ℤ) (o : OpenOffer) → IsReached p → HasStream (past_at p side) → MayReachIn p side moment o
     → refusal p (Offer side moment true) ≡ None → IsReached (exchanged_in p side moment)
 leads_on p A moment o r stream may asked = led_a p moment o r stream may asked
 leads_on p B moment o r stream may asked = led_b p moment o r stream may asked

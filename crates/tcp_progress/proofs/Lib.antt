@@ -6,6 +6,7 @@ pub mod Positions
 pub mod Again
 pub mod Offered
 pub mod Exchange
+pub mod Closes
 pub mod Pair
 pub mod Stampless
 pub mod Left
@@ -26,6 +27,9 @@ pub mod ShakeSteps
 pub mod Shaken
 pub mod Resumes
 pub mod Leads
+pub mod Resent
+pub mod Wide
+pub mod Held
 pub mod OfItself
 pub mod Settles
 pub mod Timers
@@ -36,4 +40,5 @@ pub mod WindowSteps
 pub mod WindowPairs
 pub mod Calm
 pub mod Ways
+pub mod Turns
 pub mod Talks

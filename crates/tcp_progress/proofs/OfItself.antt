@@ -1,13 +1,11 @@
 -- An exchange goes on whatever the side offers.
-use Rattle.std.proofs.Common.{◌≡◌, ◌⊎◌, inl, inr, ℕ, ◌+◌, ◌≤◌, ℤ, true, false, Option, None, refl, sym, ap, ◌∙◌, subst, arith}
+use Rattle.std.proofs.Common.{◌≡◌, ℕ, ◌+◌, ◌≤◌, ℤ, true, false, Option, None, refl, sym, ap, ◌∙◌, arith}
 use Rattle.ip_wire.specs.TcpTimestampRepr.{TcpTimestampRepr}
-use Rattle.tcp_tie.specs.Context.{ContextValue}
 use Rattle.tcp_rules.specs.InOrder.{has_all}
 use Rattle.tcp_rules.specs.State.{State}
 use Rattle.tcp_rules.specs.State.TheVariants as In
 use Rattle.tcp_rules.specs.States.{owes_fin, sends_text}
 use Rattle.tcp_rules.proofs.OrderSteps.{clash}
-use Rattle.tcp_rules.proofs.TimingRules.{led_timing}
 use Rattle.tcp_pair_model.specs.Blocks.{one_if}
 use Rattle.tcp_pair_model.specs.Offers.{offer_of}
 use Rattle.tcp_pair_model.specs.Sides.{other}
@@ -17,30 +15,23 @@ use Rattle.tcp_pair_model.specs.Value.{TcpValue, queued_in}
 use Rattle.tcp_pair_model.specs.Values.{PairValue, past_at}
 use Rattle.tcp_pair_model.specs.declared.event.PairEvent.TheVariants.{Offer}
 use Rattle.tcp_pair_model.specs.declared.event.Side.{Side}
-use Rattle.tcp_progress.specs.Again.{StartsOver}
 use Rattle.tcp_progress.specs.Arrivals.{is_synchronized}
-use Rattle.tcp_progress.specs.Exchange.{left_of}
-use Rattle.tcp_progress.specs.Pair.{HasStream, MayExchangeIn, MovesIn, context_of, exchanged_in, socket_of}
+use Rattle.tcp_progress.specs.Exchange.{CanHear, left_of}
+use Rattle.tcp_progress.specs.Pair.{HasStream, MayReachIn, MovesIn, context_of, exchanged_in, socket_of}
 use Rattle.tcp_progress.specs.Reached.{IsReached}
-use Rattle.tcp_progress.specs.Restart.{HasRunOut, IsIdle, MayGoOn, MaySend, Sends}
-use Rattle.tcp_progress.proofs.Leads.{led_side}
+use Rattle.tcp_progress.specs.Restart.{MayGoOn, MaySend, Sends}
 use Rattle.tcp_progress.proofs.Led.{leads_on}
 use Rattle.tcp_progress.proofs.Mirrored.{named_in}
 use Rattle.tcp_progress.proofs.Pair.{reached_moves}
 use Rattle.tcp_progress.proofs.Ready.{ready_side}
+use Rattle.tcp_progress.proofs.Resent.{again_sent}
 use Rattle.tcp_progress.proofs.Resumes.{SendsOut, sends_out}
-
--- what was sent is no less than what is in flight
-sent_in_flight : (p : PairValue) (side : Side) → IsReached p → (socket_of p side).block.sender.in_flight ≤ (socket_of p side).block.sender.top
-sent_in_flight p side r =
-    let l = led_side p side r in
-    subst (λ (v : TcpValue). v.block.sender.in_flight ≤ v.block.sender.top) (sym l.is) (led_timing l.room l.ring l.events).sent
 
 no_more : (syn queued fin : ℕ) → 1 ≤ syn + queued + fin → syn ≡ 0 → queued ≡ 0 → fin ≡ 0 → ⊥
 no_more syn queued fin e f g h = absurd (omega arith)
 
 -- in the states in which something is owed text may go
-sends_there : (p : PairValue) (side : Side) → IsReached p → is_synchronized (socket_of p side).block.state ≡ true
+pub sends_there : (p : PairValue) (side : Side) → IsReached p → is_synchronized (socket_of p side).block.state ≡ true
     → (socket_of p side).block.sender.syn_unacked ≡ false → 1 ≤ left_of (socket_of p side) → sends_text (socket_of p side).block.state ≡ true
 sends_there p side r on acked owes = by (socket_of p side).block.state refl where
   v : TcpValue
@@ -66,20 +57,16 @@ pub sends_in : (p : PairValue) (side : Side) (moment : ℤ) → IsReached p → 
 sends_in p side moment r m =
     let named = named_in p side r m.own.synchronized in
     sends_out (context_of p side moment) (socket_of p side) named.0 named.1 m
-    (sends_there p side r m.own.synchronized m.own.acknowledged m.owes) (sent_in_flight p side r)
+    (sends_there p side r m.own.synchronized m.own.acknowledged m.owes) (again_sent p side r m.own.acknowledged)
 
 pub side_sends : (p : PairValue) (side : Side) (moment : ℤ) → IsReached p → MaySend (context_of p side moment) (socket_of p side) →
     Sends (context_of p side moment) (socket_of p side)
 side_sends p side moment r m =
     let s = sends_in p side moment r m in record { o = s.k; offered = s.offered; kind = s.kind; some = s.some }
 
-starts_over : (cx : ContextValue) (v : TcpValue) → IsIdle v ⊎ HasRunOut cx v → StartsOver cx v
-starts_over cx v (inl idle) = inl idle.0
-starts_over cx v (inr out) = inr out.1
-
-pub may_exchange : (p : PairValue) (side : Side) (moment : ℤ) (r : IsReached p) (m : MayGoOn p side moment) →
-    MayExchangeIn p side moment (sends_in p side moment r m.sends).k
-may_exchange p side moment r m =
+pub may_reach : (p : PairValue) (side : Side) (moment : ℤ) (r : IsReached p) (m : MayGoOn p side moment) →
+    MayReachIn p side moment (sends_in p side moment r m.sends).k
+may_reach p side moment r m =
     let s = sends_in p side moment r m.sends in
     record {
       mirrored = m.mirrored;
@@ -87,24 +74,25 @@ may_exchange p side moment r m =
           record {
             own = m.sends.own;
             theirs = m.theirs;
-            over = starts_over (context_of p side moment) (socket_of p side) m.sends.over;
+            over = m.sends.over;
             offered = s.offered;
             kind = s.kind;
             some = s.some;
             room = m.room;
-            space = m.space;
             fresh =
                 ap (λ (stamp : Option TcpTimestampRepr). comes_older stamp (socket_of p (other side)).block.peer.recent) s.stamp ∙ m.fresh;
             answer_fresh = λ reply answer. m.answer_fresh s.k reply s.offered answer;
           };
     }
 
-pub moves_of_itself : (p : PairValue) (side : Side) (moment : ℤ) → IsReached p → HasStream (past_at p side) → MayGoOn p side moment → MovesIn p side moment
-moves_of_itself p side moment r stream m =
-    reached_moves p side moment (sends_in p side moment r m.sends).k r stream (may_exchange p side moment r m)
+pub moves_of_itself :
+    (p : PairValue) (side : Side) (moment : ℤ) → IsReached p → HasStream (past_at p side) → MayGoOn p side moment
+    → CanHear (socket_of p side) (socket_of p (other side)) → MovesIn p side moment
+moves_of_itself p side moment r stream m space =
+    reached_moves p side moment (sends_in p side moment r m.sends).k r stream (may_reach p side moment r m) space
 
 pub leads_of_itself :
     (p : PairValue) (side : Side) (moment : ℤ) → IsReached p → HasStream (past_at p side) → MayGoOn p side moment
     → refusal p (Offer side moment true) ≡ None → IsReached (exchanged_in p side moment)
 leads_of_itself p side moment r stream m asked =
-    leads_on p side moment (sends_in p side moment r m.sends).k r stream (may_exchange p side moment r m) asked
+    leads_on p side moment (sends_in p side moment r m.sends).k r stream (may_reach p side moment r m) asked

@@ -12,12 +12,14 @@ use Rattle.ip_wire.specs.IpAddress.TheVariants as Address
 use Rattle.ip_wire.specs.IpRepr.{IpRepr}
 use Rattle.ip_wire.specs.Seq.{distance_of}
 use Rattle.ip_wire.specs.SeqNumber.{SeqNumber}
+use Rattle.ip_wire.specs.TcpControl.TheVariants as Control
 use Rattle.ip_wire.specs.TcpHeader.{TcpHeader}
 use Rattle.tcp_law.specs.Invariant.{IsInStep, IsSilent}
 use Rattle.tcp_law.specs.Side.Phase.{Synchronized}
 use Rattle.tcp_tie.specs.Context.{ContextValue}
 use Rattle.tcp_tie.specs.Endpoints.{GoesBetween, GoesBack, IsLeftBy}
 use Rattle.tcp_tie.specs.Tie.{Past, Keeps, IsConnectedAs, core_of, unsent, phase_of}
+use Rattle.tcp_rules.specs.Controls.{is_fin, is_rst}
 use Rattle.tcp_rules.specs.EndpointPair.{EndpointPair}
 use Rattle.tcp_rules.specs.Endpoints.{local_of, remote_of, is_between, is_connected_by}
 use Rattle.tcp_rules.specs.Names.{Names}
@@ -32,7 +34,7 @@ use Rattle.tcp_pair_model.specs.Block.{Block}
 use Rattle.tcp_pair_model.specs.Names.{accepts, accepts_in}
 use Rattle.tcp_pair_model.specs.Offers.{offer_of}
 use Rattle.tcp_pair_model.specs.Settled.{settled}
-use Rattle.tcp_pair_model.specs.Sides.{other}
+use Rattle.tcp_pair_model.specs.Sides.{at, other}
 use Rattle.tcp_pair_model.specs.Steps.{offered_at, handed, taken_at}
 use Rattle.tcp_pair_model.specs.Value.{TcpValue, Arrived}
 use Rattle.tcp_pair_model.specs.Values.{PairSide, PairValue, context_at, and_offer, and_reply, past_at}
@@ -42,14 +44,16 @@ use Rattle.tcp_pair_model.specs.declared.event.Side.TheVariants.{A, B}
 use Rattle.tcp_tie.proofs.NameLaws.{offer_between_ends, sent_names, answer_back}
 use Rattle.tcp_tie.proofs.Tied.{fits_connected, if_so}
 use Rattle.tcp_rules.proofs.OrderSteps.{clash}
-use Rattle.tcp_progress.specs.Arrivals.{is_synchronized}
-use Rattle.tcp_progress.specs.Exchange.{FitsBuffer, GoesFromUna, MayExchange, MovesOn, HasMoved, TookWhatWasSent, left_of, text_of, offer_comes}
-use Rattle.tcp_progress.specs.Pair.{HasStream, AreMirrored, MayExchangeIn, MovesIn, Exchanges}
+use Rattle.tcp_progress.specs.Arrivals.{EndsLastAck, is_synchronized}
+use Rattle.tcp_progress.specs.Exchange.{CanHear, FitsBuffer, GoesFromUna, IsTaken, IsTold, MayReach, MovesOn, TookWhatWasSent, left_of, text_of, offer_comes}
+use Rattle.tcp_progress.specs.Pair.{HasStream, AreMirrored, MayExchangeIn, MayReachIn, MovesIn, Exchanges}
 use Rattle.tcp_progress.specs.Pair.{context_of, exchanged_in, left_in, next_sent, offered_in, socket_of}
 use Rattle.tcp_progress.specs.Positions.{LiesWithin}
 use Rattle.tcp_progress.specs.Rounds.{comes}
 use Rattle.tcp_progress.specs.Reached.{IsReached}
-use Rattle.tcp_progress.proofs.Exchange.{goes_on, last_of}
+use Rattle.tcp_progress.specs.Sent.{is_early}
+use Rattle.tcp_progress.proofs.Closes.{bare_still, closes_last}
+use Rattle.tcp_progress.proofs.Exchange.{IsPassed, heard_all, last_of, outcome, reach_of, told_of}
 use Rattle.tcp_progress.proofs.Kept.{reached_keeps}
 use Rattle.tcp_progress.proofs.Left.{left_same}
 use Rattle.tcp_progress.proofs.Mirrored.{mirrored_in}
@@ -110,9 +114,16 @@ names_stay old new past alive (inl falls) = clash (sym falls.answering ∙ past)
 names_stay old new past alive (inr (inl keeps)) = keeps.names
 names_stay old new past alive (inr (inr forgets)) = clash (sym forgets.state ∙ alive)
 
-not_closed : (state : State) → is_synchronized state ≡ true → is_closed state ≡ false
+pub not_closed : (state : State) → is_synchronized state ≡ true → is_closed state ≡ false
 not_closed In.Closed e = clash (sym e)
 not_closed other e = refl
+
+pub late_in : (state : State) → is_synchronized state ≡ true → is_early state ≡ false
+late_in In.Closed e = clash (sym e)
+late_in In.Listen e = clash (sym e)
+late_in In.SynSent e = clash (sym e)
+late_in In.SynReceived e = clash (sym e)
+late_in other e = refl
 
 not_answered : (state : State) → is_synchronized state ≡ true → is_answering state ≡ false
 not_answered In.SynReceived e = clash (sym e)
@@ -162,7 +173,7 @@ module _ (side : Side) (s r : PairSide) (moment : ℤ) where
       ⊎ (MovesOn s.socket.block.sender.una side_after.socket.block.sender.una
       ⊎ ((r.socket.block.state ≡ In.LastAck) × (is_closed partner_after.socket.block.state ≡ true)))
 
-  module _ (m : AreMirrored s.socket.block r.socket.block) (o : OpenOffer) (may : MayExchange cx cy s.socket r.socket o) where
+  module _ (m : AreMirrored s.socket.block r.socket.block) (o : OpenOffer) (may : MayReach cx cy s.socket r.socket o) where
     out : GoesOut s.socket (offer_of cx s.socket).socket o
     out = goes_out_of cx s.socket o may.own.acknowledged may.offered may.kind
 
@@ -232,6 +243,13 @@ module _ (side : Side) (s r : PairSide) (moment : ℤ) where
           less : (a b : ℕ) → a ≡ b + 1 → a - b ≡ 1
           less a b e = omega arith
 
+    -- of the side, as this leaves it, and the other: each knows what the other took, and a connection is over only where it was in LAST-ACK
+    pub record Leaves (x : TcpValue) : Type 0 where
+      pub known : partner_after.socket.block.sender.una ≡ x.block.receiver.next
+      pub closes : is_closed x.block.state ≡ true → (s.socket.block.state ≡ In.LastAck) × (left_of x ≡ 0)
+      pub closes_other :
+          is_closed partner_after.socket.block.state ≡ true → (r.socket.block.state ≡ In.LastAck) × (left_of partner_after.socket ≡ 0)
+
     -- what isn't acknowledged, and how much of it the other has, is the same but for what moved
     pub record Takes : Type 0 where
       pub none : length partner_after.sent - length r.sent ≡ 0
@@ -239,6 +257,7 @@ module _ (side : Side) (s r : PairSide) (moment : ℤ) where
       pub una : asked_side.socket.block.sender.una ≡ s.socket.block.sender.una
       pub left : left_of asked_side.socket ≡ left_of s.socket
       pub state : asked_side.socket.block.state ≡ s.socket.block.state
+      pub leaves : Leaves asked_side.socket
 
     pub record Tells : Type 0 where
       pub one : length partner_after.sent - length r.sent ≡ 1
@@ -247,51 +266,123 @@ module _ (side : Side) (s r : PairSide) (moment : ℤ) where
       pub had : 1 ≤ distance_of s.socket.block.sender.una r.socket.block.receiver.next
       pub left :
           left_of side_after.socket + distance_of s.socket.block.sender.una r.socket.block.receiver.next ≡ left_of s.socket
+      pub leaves : Leaves side_after.socket
 
     pub record Ends : Type 0 where
       pub none : length partner_after.sent - length r.sent ≡ 0
       pub last : r.socket.block.state ≡ In.LastAck
       pub closed : is_closed partner_after.socket.block.state ≡ true
+      pub leaves : Leaves asked_side.socket
 
-    by_moves : HasMoved cx cy cx s.socket r.socket o → Takes ⊎ (Tells ⊎ Ends)
-    by_moves (inl taken) =
-        inl
-        (record {
-          none = none_answered taken.rises.silent;
-          next = subst (λ (t : PairSide). MovesOn r.socket.block.receiver.next t.socket.block.receiver.next) (sym reaches) taken.next;
-          una = out.sent.una;
-          left =
-              left_same s.socket asked_side.socket
-              (record { state = out.sent.state; syn_unacked = out.sent.syn_unacked; queued = out.sent_queued });
-          state = out.sent.state;
-        })
-    by_moves (inr (inl told)) =
-        inr
-        (inl
-        (record {
-          one = one_answered told.reply told.answer;
-          una = subst (λ (v : TcpValue). MovesOn s.socket.block.sender.una v.block.sender.una) (sym (back told.reply told.answer)) told.una;
-          all =
-              ap (λ (v : TcpValue). v.block.sender.una) (back told.reply told.answer)
-              ∙ (told.all ∙ (sym told.still ∙ ap (λ (t : PairSide). t.socket.block.receiver.next) (sym reaches)));
-          had = told.had;
-          left =
-              ap (λ (v : TcpValue). left_of v + distance_of s.socket.block.sender.una r.socket.block.receiver.next) (back told.reply told.answer)
-              ∙ told.left;
-        }))
-    by_moves (inr (inr ends)) =
-        inr
-        (inr
-        (record {
-          none = none_answered ends.silent;
-          last = ends.last;
-          closed = ap (λ (t : PairSide). is_closed t.socket.block.state) reaches ∙ ends.closed;
-        }))
+    -- the other has all of it already, and the side may not hear its answer
+    pub record Passes : Type 0 where
+      pub one : length partner_after.sent - length r.sent ≡ 1
+      pub leaves : Leaves side_after.socket
 
-    pub side_moves :
-        (p q : Past) (k : Keeps s.socket p r.socket q) → IsInStep k.side k.partner → TookWhatWasSent s.socket r.socket → FitsBuffer s.socket r.socket
-        → TookWhatWasSent r.socket s.socket → Takes ⊎ (Tells ⊎ Ends)
-    side_moves p q k step sent fits heard = by_moves (goes_on cx cy cx s.socket r.socket p q k o step sent fits heard may)
+    abbrev pub Comes : Type 0 → Type 0
+    Comes X = Takes ⊎ (Tells ⊎ (Ends ⊎ (Passes × X)))
+
+    pub how_many : {X : Type 0} → Comes X → (length partner_after.sent - length r.sent ≡ 0) ⊎ (length partner_after.sent - length r.sent ≡ 1)
+    how_many (inl x) = inl x.none
+    how_many (inr (inl x)) = inr x.one
+    how_many (inr (inr (inl x))) = inl x.none
+    how_many (inr (inr (inr x))) = inr x.0.one
+
+    module _ (p q : Past) (k : Keeps s.socket p r.socket q) (step : IsInStep k.side k.partner) (theirs_sent : TookWhatWasSent s.socket r.socket)
+        (fits : FitsBuffer s.socket r.socket) (heard : TookWhatWasSent r.socket s.socket) where
+      abbrev size : ℕ
+      size = length (text_of s.socket o)
+
+      known_there : partner_after.socket.block.sender.una ≡ s.socket.block.receiver.next
+      known_there =
+          ap (λ (t : PairSide). t.socket.block.sender.una) reaches
+          ∙ heard_all cx cy cx s.socket r.socket p q k o step theirs_sent fits heard may
+
+      ends_there : is_closed partner_after.socket.block.state ≡ true → (r.socket.block.state ≡ In.LastAck) × (left_of partner_after.socket ≡ 0)
+      ends_there e =
+          let it =
+          closes_last cy o.header o.segment (text_of s.socket o) r.socket (late_in r.socket.block.state may.theirs.synchronized)
+          (not_closed r.socket.block.state may.theirs.synchronized) out.no_reset
+          (sym (ap (λ (t : PairSide). is_closed t.socket.block.state) reaches) ∙ e) in
+          (it.0, ap (λ (t : PairSide). left_of t.socket) reaches ∙ it.1)
+
+      leaves_asked : Leaves asked_side.socket
+      leaves_asked = record {
+        known = known_there ∙ sym out.sent.next;
+        closes = λ e. clash (sym e ∙ not_closed asked_side.socket.block.state still);
+        closes_other = ends_there;
+      }
+
+      leaves_after : (reply : Reply) → came.answer ≡ Some reply → reply.segment.control ≡ Control.None → Leaves side_after.socket
+      leaves_after reply answer plain = record {
+        known =
+            known_there
+            ∙ sym
+            (ap (λ (v : TcpValue). v.block.receiver.next) (back reply answer)
+            ∙ (bare_still cx reply.header reply.segment asked_side.socket (late_in asked_side.socket.block.state still) (ap is_fin plain)
+            (ap is_rst plain)
+            ∙ out.sent.next));
+        closes = λ e.
+            let it =
+            closes_last cx reply.header reply.segment [] asked_side.socket (late_in asked_side.socket.block.state still)
+            (not_closed asked_side.socket.block.state still) (ap is_rst plain)
+            (sym (ap (λ (v : TcpValue). is_closed v.block.state) (back reply answer)) ∙ e) in
+            (sym out.sent.state ∙ it.0, ap left_of (back reply answer) ∙ it.1);
+        closes_other = ends_there;
+      }
+
+      of_taken : IsTaken cy r.socket o.segment size came → Takes
+      of_taken taken = record {
+        none = none_answered taken.rises.silent;
+        next = subst (λ (t : PairSide). MovesOn r.socket.block.receiver.next t.socket.block.receiver.next) (sym reaches) taken.next;
+        una = out.sent.una;
+        left =
+            left_same s.socket asked_side.socket
+            (record { state = out.sent.state; syn_unacked = out.sent.syn_unacked; queued = out.sent_queued });
+        state = out.sent.state;
+        leaves = leaves_asked;
+      }
+
+      of_told : IsPassed r.socket o.segment size came → IsTold cx cx s.socket r.socket came → Tells
+      of_told passed told = record {
+        one = one_answered told.reply told.answer;
+        una = subst (λ (v : TcpValue). MovesOn s.socket.block.sender.una v.block.sender.una) (sym (back told.reply told.answer)) told.una;
+        all =
+            ap (λ (v : TcpValue). v.block.sender.una) (back told.reply told.answer)
+            ∙ (told.all ∙ (sym told.still ∙ ap (λ (t : PairSide). t.socket.block.receiver.next) (sym reaches)));
+        had = told.had;
+        left =
+            ap (λ (v : TcpValue). left_of v + distance_of s.socket.block.sender.una r.socket.block.receiver.next) (back told.reply told.answer)
+            ∙ told.left;
+        leaves = leaves_after passed.answer.reply passed.answer.answer passed.answer.plain;
+      }
+
+      of_ends : EndsLastAck r.socket came → Ends
+      of_ends ends = record {
+        none = none_answered ends.silent;
+        last = ends.last;
+        closed = ap (λ (t : PairSide). is_closed t.socket.block.state) reaches ∙ ends.closed;
+        leaves = leaves_asked;
+      }
+
+      of_passed : IsPassed r.socket o.segment size came → Passes
+      of_passed passed = record {
+        one = one_answered passed.answer.reply passed.answer.answer;
+        leaves = leaves_after passed.answer.reply passed.answer.answer passed.answer.plain;
+      }
+
+      -- what the side may not hear it needn't, where something else is known
+      pub side_comes : {X : Type 0} → CanHear s.socket r.socket ⊎ X → Comes X
+      side_comes {X} which = by which (outcome cx cy cx s.socket r.socket p q k o step theirs_sent fits heard may) where
+        by :
+            CanHear s.socket r.socket ⊎ X
+            → IsTaken cy r.socket o.segment size came ⊎ (IsPassed r.socket o.segment size came ⊎ EndsLastAck r.socket came)
+            → Comes X
+        by which (inl taken) = inl (of_taken taken)
+        by (inl space) (inr (inl passed)) =
+            inr (inl (of_told passed (told_of cx cy cx s.socket r.socket p q k o step theirs_sent fits heard may space passed)))
+        by (inr x) (inr (inl passed)) = inr (inr (inr (of_passed passed, x)))
+        by which (inr (inr ends)) = inr (inr (inl (of_ends ends)))
 
 -- OF A PAIR
 
@@ -313,77 +404,131 @@ pub record HasTold (p new : PairValue) (side : Side) : Type 0 where
 abbrev pub HasLess : PairValue → PairValue → Side → Type 0
 HasLess p new side = HasTaken p new side ⊎ (HasTold p new side ⊎ (is_closed (socket_of new (other side)).block.state ≡ true))
 
-pub record Moved (p : PairValue) (side : Side) (moment : ℤ) : Type 0 where
-  pub moves : MovesIn p side moment
-  pub less : HasLess p (exchanged_in p side moment) side
+-- each knows what the other took, and a connection is over only where it was in LAST-ACK, and all of it is acknowledged
+pub record Heard (p new : PairValue) (side : Side) : Type 0 where
+  pub known : (socket_of new (other side)).block.sender.una ≡ (socket_of new side).block.receiver.next
+  pub closes : is_closed (socket_of new side).block.state ≡ true → ((socket_of p side).block.state ≡ In.LastAck) × (left_in new side ≡ 0)
+  pub closes_other :
+      is_closed (socket_of new (other side)).block.state ≡ true
+      → ((socket_of p (other side)).block.state ≡ In.LastAck) × (left_in new (other side) ≡ 0)
+
+pub record Moved (X : Type 0) (p : PairValue) (side : Side) (moment : ℤ) : Type 0 where
+  pub moves : MovesIn p side moment ⊎ X
+  pub less : HasLess p (exchanged_in p side moment) side ⊎ X
+  pub heard : Heard p (exchanged_in p side moment) side
+
+pub reach_in : (p : PairValue) (side : Side) (moment : ℤ) (o : OpenOffer) → MayExchangeIn p side moment o → MayReachIn p side moment o
+reach_in p side moment o may = record {
+  mirrored = may.mirrored;
+  may =
+      reach_of (context_of p side moment) (context_at (other side) (at p.sides (other side))) (socket_of p side) (socket_of p (other side)) o may.may;
+}
 
 pub pair_moved :
-    (p : PairValue) (side : Side) (moment : ℤ) (o : OpenOffer)
+    {X : Type 0} → (p : PairValue) (side : Side) (moment : ℤ) (o : OpenOffer)
     (k : Keeps (socket_of p side) (past_at p side) (socket_of p (other side)) (past_at p (other side)))
     → IsInStep k.side k.partner → TookWhatWasSent (socket_of p side) (socket_of p (other side))
     → FitsBuffer (socket_of p side) (socket_of p (other side)) → TookWhatWasSent (socket_of p (other side)) (socket_of p side)
     → AreMirrored (socket_of p side).block (socket_of p (other side)).block
-    → MayExchangeIn p side moment o → Moved p side moment
-pair_moved p A moment o k step sent fits heard mirrored may =
-    by (side_moves A p.sides.a p.sides.b moment mirrored o may.may (past_at p A) (past_at p B) k step sent fits heard)
+    → MayReachIn p side moment o → CanHear (socket_of p side) (socket_of p (other side)) ⊎ X → Moved X p side moment
+pair_moved {X} p A moment o k step sent fits heard mirrored may space =
+    by
+    (side_comes A p.sides.a p.sides.b moment mirrored o may.may (past_at p A) (past_at p B) k step sent fits heard space)
   where
-    by :
-        Takes A p.sides.a p.sides.b moment mirrored o may.may
-        ⊎ (Tells A p.sides.a p.sides.b moment mirrored o may.may ⊎ Ends A p.sides.a p.sides.b moment mirrored o may.may)
-        → Moved p A moment
+    -- so many segments of the other come
+    after : ℕ → PairValue
+    after n = comes n B (next_sent p B) (offered_in p A moment)
+
+    by : Comes A p.sides.a p.sides.b moment mirrored o may.may X → Moved X p A moment
     by (inl x) = record {
-      moves = inl x.next;
+      moves = inl (inl x.next);
       less =
-          subst (λ (n : ℕ). HasLess p (comes n B (next_sent p B) (offered_in p A moment)) A) (sym x.none)
-          (inl (record { more = x.next.by; some = x.next.some; few = x.next.few; una = x.una; next = x.next.moved; left = x.left; state = x.state }));
+          subst (λ (n : ℕ). HasLess p (after n) A ⊎ X) (sym x.none)
+          (inl
+          (inl (record { more = x.next.by; some = x.next.some; few = x.next.few; una = x.una; next = x.next.moved; left = x.left; state = x.state })));
+      heard =
+          subst (λ (n : ℕ). Heard p (after n) A) (sym x.none)
+          (record { known = x.leaves.known; closes = x.leaves.closes; closes_other = x.leaves.closes_other });
     }
     by (inr (inl x)) = record {
       moves =
-          inr
+          inl
+          (inr
           (inl
-          (subst
-          (λ (n : ℕ).
-          MovesOn p.sides.a.socket.block.sender.una
-          (socket_of (comes n B (next_sent p B) (offered_in p A moment)) A).block.sender.una)
-          (sym x.one) x.una));
+          (subst (λ (n : ℕ). MovesOn p.sides.a.socket.block.sender.una (socket_of (after n) A).block.sender.una)
+          (sym x.one) x.una)));
       less =
-          subst (λ (n : ℕ). HasLess p (comes n B (next_sent p B) (offered_in p A moment)) A) (sym x.one)
-          (inr (inl (record { all = x.all; had = x.had; left = x.left })));
+          subst (λ (n : ℕ). HasLess p (after n) A ⊎ X) (sym x.one)
+          (inl (inr (inl (record { all = x.all; had = x.had; left = x.left }))));
+      heard =
+          subst (λ (n : ℕ). Heard p (after n) A) (sym x.one)
+          (record { known = x.leaves.known; closes = x.leaves.closes; closes_other = x.leaves.closes_other });
     }
-    by (inr (inr x)) = record {
-      moves = inr (inr (x.last, x.closed));
-      less = subst (λ (n : ℕ). HasLess p (comes n B (next_sent p B) (offered_in p A moment)) A) (sym x.none) (inr (inr x.closed));
+    by (inr (inr (inl x))) = record {
+      moves = inl (inr (inr (x.last, x.closed)));
+      less = subst (λ (n : ℕ). HasLess p (after n) A ⊎ X) (sym x.none) (inl (inr (inr x.closed)));
+      heard =
+          subst (λ (n : ℕ). Heard p (after n) A) (sym x.none)
+          (record { known = x.leaves.known; closes = x.leaves.closes; closes_other = x.leaves.closes_other });
     }
-pair_moved p B moment o k step sent fits heard mirrored may =
-    by (side_moves B p.sides.b p.sides.a moment mirrored o may.may (past_at p B) (past_at p A) k step sent fits heard)
+    by (inr (inr (inr x))) = record {
+      moves = inr x.1;
+      less = inr x.1;
+      heard =
+          subst (λ (n : ℕ). Heard p (after n) A) (sym x.0.one)
+          (record { known = x.0.leaves.known; closes = x.0.leaves.closes; closes_other = x.0.leaves.closes_other });
+    }
+pair_moved {X} p B moment o k step sent fits heard mirrored may space =
+    by
+    (side_comes B p.sides.b p.sides.a moment mirrored o may.may (past_at p B) (past_at p A) k step sent fits heard space)
   where
-    by :
-        Takes B p.sides.b p.sides.a moment mirrored o may.may
-        ⊎ (Tells B p.sides.b p.sides.a moment mirrored o may.may ⊎ Ends B p.sides.b p.sides.a moment mirrored o may.may)
-        → Moved p B moment
+    -- so many segments of the other come
+    after : ℕ → PairValue
+    after n = comes n A (next_sent p A) (offered_in p B moment)
+
+    by : Comes B p.sides.b p.sides.a moment mirrored o may.may X → Moved X p B moment
     by (inl x) = record {
-      moves = inl x.next;
+      moves = inl (inl x.next);
       less =
-          subst (λ (n : ℕ). HasLess p (comes n A (next_sent p A) (offered_in p B moment)) B) (sym x.none)
-          (inl (record { more = x.next.by; some = x.next.some; few = x.next.few; una = x.una; next = x.next.moved; left = x.left; state = x.state }));
+          subst (λ (n : ℕ). HasLess p (after n) B ⊎ X) (sym x.none)
+          (inl
+          (inl (record { more = x.next.by; some = x.next.some; few = x.next.few; una = x.una; next = x.next.moved; left = x.left; state = x.state })));
+      heard =
+          subst (λ (n : ℕ). Heard p (after n) B) (sym x.none)
+          (record { known = x.leaves.known; closes = x.leaves.closes; closes_other = x.leaves.closes_other });
     }
     by (inr (inl x)) = record {
       moves =
-          inr
+          inl
+          (inr
           (inl
-          (subst
-          (λ (n : ℕ).
-          MovesOn p.sides.b.socket.block.sender.una
-          (socket_of (comes n A (next_sent p A) (offered_in p B moment)) B).block.sender.una)
-          (sym x.one) x.una));
+          (subst (λ (n : ℕ). MovesOn p.sides.b.socket.block.sender.una (socket_of (after n) B).block.sender.una)
+          (sym x.one) x.una)));
       less =
-          subst (λ (n : ℕ). HasLess p (comes n A (next_sent p A) (offered_in p B moment)) B) (sym x.one)
-          (inr (inl (record { all = x.all; had = x.had; left = x.left })));
+          subst (λ (n : ℕ). HasLess p (after n) B ⊎ X) (sym x.one)
+          (inl (inr (inl (record { all = x.all; had = x.had; left = x.left }))));
+      heard =
+          subst (λ (n : ℕ). Heard p (after n) B) (sym x.one)
+          (record { known = x.leaves.known; closes = x.leaves.closes; closes_other = x.leaves.closes_other });
     }
-    by (inr (inr x)) = record {
-      moves = inr (inr (x.last, x.closed));
-      less = subst (λ (n : ℕ). HasLess p (comes n A (next_sent p A) (offered_in p B moment)) B) (sym x.none) (inr (inr x.closed));
+    by (inr (inr (inl x))) = record {
+      moves = inl (inr (inr (x.last, x.closed)));
+      less = subst (λ (n : ℕ). HasLess p (after n) B ⊎ X) (sym x.none) (inl (inr (inr x.closed)));
+      heard =
+          subst (λ (n : ℕ). Heard p (after n) B) (sym x.none)
+          (record { known = x.leaves.known; closes = x.leaves.closes; closes_other = x.leaves.closes_other });
     }
+    by (inr (inr (inr x))) = record {
+      moves = inr x.1;
+      less = inr x.1;
+      heard =
+          subst (λ (n : ℕ). Heard p (after n) B) (sym x.0.one)
+          (record { known = x.0.leaves.known; closes = x.0.leaves.closes; closes_other = x.0.leaves.closes_other });
+    }
+
+of_either : {A : Type 0} → A ⊎ ⊥ → A
+of_either (inl a) = a
+of_either (inr never) = absurd never
 
 pub pair_moves :
     (p : PairValue) (side : Side) (moment : ℤ) (o : OpenOffer)
@@ -392,7 +537,9 @@ pub pair_moves :
     → FitsBuffer (socket_of p side) (socket_of p (other side)) → TookWhatWasSent (socket_of p (other side)) (socket_of p side)
     → AreMirrored (socket_of p side).block (socket_of p (other side)).block
     → MayExchangeIn p side moment o → MovesIn p side moment
-pair_moves p side moment o k step sent fits heard mirrored may = (pair_moved p side moment o k step sent fits heard mirrored may).moves
+pair_moves p side moment o k step sent fits heard mirrored may =
+    let it : Moved ⊥ p side moment = pair_moved p side moment o k step sent fits heard mirrored (reach_in p side moment o may) (inl may.may.space) in
+    of_either it.moves
 
 -- IN STEP
 
@@ -423,19 +570,29 @@ in_step v w p q k mine stream = by k.holds.0.sync where
 
 -- WHAT EVENTS LED TO
 
-pub reached_moved : (p : PairValue) (side : Side) (moment : ℤ) (o : OpenOffer) → IsReached p → HasStream (past_at p side) → MayExchangeIn p side moment o →
-    Moved p side moment
-reached_moved p side moment o reached stream may =
+-- the side hears the answer, or something else is known
+pub reached_comes :
+    {X : Type 0} → (p : PairValue) (side : Side) (moment : ℤ) (o : OpenOffer) → IsReached p → HasStream (past_at p side) → MayReachIn p side moment o
+    → CanHear (socket_of p side) (socket_of p (other side)) ⊎ X → Moved X p side moment
+reached_comes p side moment o reached stream may space =
     let k = reached_keeps p side reached in
     let each = reached_took p side reached may.may.own may.may.theirs in
     pair_moved p side moment o k
     (in_step (socket_of p side) (socket_of p (other side)) (past_at p side) (past_at p (other side)) k may.may.own.synchronized stream) each.sent
     (fits_in p side reached may.may.own may.may.theirs may.may.room) each.heard
-    (mirrored_in p side reached may.may.own.synchronized may.may.theirs.synchronized may.mirrored) may
+    (mirrored_in p side reached may.may.own.synchronized may.may.theirs.synchronized may.mirrored) may space
 
-pub reached_moves : (p : PairValue) (side : Side) (moment : ℤ) (o : OpenOffer) → IsReached p → HasStream (past_at p side) → MayExchangeIn p side moment o →
-    MovesIn p side moment
-reached_moves p side moment o reached stream may = (reached_moved p side moment o reached stream may).moves
+pub reached_less :
+    (p : PairValue) (side : Side) (moment : ℤ) (o : OpenOffer) → IsReached p → HasStream (past_at p side) → MayReachIn p side moment o
+    → CanHear (socket_of p side) (socket_of p (other side)) → HasLess p (exchanged_in p side moment) side
+reached_less p side moment o reached stream may space =
+    let it : Moved ⊥ p side moment = reached_comes p side moment o reached stream may (inl space) in of_either it.less
+
+pub reached_moves :
+    (p : PairValue) (side : Side) (moment : ℤ) (o : OpenOffer) → IsReached p → HasStream (past_at p side) → MayReachIn p side moment o
+    → CanHear (socket_of p side) (socket_of p (other side)) → MovesIn p side moment
+reached_moves p side moment o reached stream may space =
+    let it : Moved ⊥ p side moment = reached_comes p side moment o reached stream may (inl space) in of_either it.moves
 
 -- HOW MANY
 
@@ -456,7 +613,7 @@ pub record HasSome (p : PairValue) (side : Side) : Type 0 where
   pub next : (socket_of p (other side)).block.receiver.next.0 < 2 ^ 32
 
 pub has_some :
-    (p : PairValue) (side : Side) (moment : ℤ) (o : OpenOffer) → IsReached p → HasStream (past_at p side) → MayExchangeIn p side moment o
+    (p : PairValue) (side : Side) (moment : ℤ) (o : OpenOffer) → IsReached p → HasStream (past_at p side) → MayReachIn p side moment o
     → HasSome p side
 has_some p side moment o reached stream may = record { some = enough _ _ may.may.some goes.ends; within = l.within; few = l.few; una = una; next = next } where
   k : Keeps (socket_of p side) (past_at p side) (socket_of p (other side)) (past_at p (other side))
@@ -525,12 +682,12 @@ still_open state past closed = absurd (let clashes : true ≡ false = sym closed
 fits : (p : PairValue) (side : Side) (x : ℤ × OpenOffer) (more : List (ℤ × OpenOffer)) → Exchanges p side (x ∷ more) →
     suc (length more) + had_in p side ≤ left_in p side + left_in p side
 fits p side x [] e =
-    let h = has_some p side x.0 x.1 e.0 e.1 e.2 in last_one (had_in p side) (left_in p side) h.within h.some
+    let h = has_some p side x.0 x.1 e.0 e.1 (reach_in p side x.0 x.1 e.2) in last_one (had_in p side) (left_in p side) h.within h.some
 fits p side x (y ∷ more) e =
-    before p side x.0 (length more) (has_some p side x.0 x.1 e.0 e.1 e.2)
+    before p side x.0 (length more) (has_some p side x.0 x.1 e.0 e.1 (reach_in p side x.0 x.1 e.2))
     (λ closed. still_open (socket_of (exchanged_in p side x.0) (other side)).block.state e.3.2.may.theirs.synchronized closed)
     (fits (exchanged_in p side x.0) side y more e.3)
-    (reached_moved p side x.0 x.1 e.0 e.1 e.2).less
+    (reached_less p side x.0 x.1 e.0 e.1 (reach_in p side x.0 x.1 e.2) e.2.may.space)
 
 pub exchanges_few : (p : PairValue) (side : Side) (exchanges : List (ℤ × OpenOffer)) → Exchanges p side exchanges → length exchanges ≤ 2 * left_in p side
 exchanges_few p side [] e = omega arith

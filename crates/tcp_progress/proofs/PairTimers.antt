@@ -12,7 +12,9 @@ use Rattle.tcp_pair_model.specs.History.{side_of}
 use Rattle.tcp_pair_model.specs.Names.{accepts}
 use Rattle.tcp_pair_model.specs.Sides.{Both, at, put, other}
 use Rattle.tcp_pair_model.specs.Steps.{Steps, acting, acts, handed, happens, limit_of, reads, refusal, set_by, taken_at}
-use Rattle.tcp_pair_model.specs.Value.{TcpValue, new_socket}
+use Rattle.tcp_pair_model.specs.Block.{Block}
+use Rattle.tcp_pair_model.specs.Probing.{is_probing, probe_moment}
+use Rattle.tcp_pair_model.specs.Value.{TcpValue, new_socket, queued_in}
 use Rattle.tcp_pair_model.specs.Values.{PairSide, PairValue, context_at, new_pair}
 use Rattle.tcp_pair_model.specs.declared.event.PairEvent.{PairEvent}
 use Rattle.tcp_pair_model.specs.declared.event.PairEvent.TheVariants.{Listen, Connect, Send, Recv, Close, Abort, TcpSetting, Offer, Deliver}
@@ -21,6 +23,7 @@ use Rattle.tcp_pair_model.specs.declared.event.Side.{Side}
 use Rattle.tcp_pair_model.specs.declared.event.Side.TheVariants.{A, B}
 use Rattle.tcp_pair_model.specs.declared.event.TcpSetting.{TcpSetting as Setting}
 use Rattle.tcp_pair_model.specs.declared.event.TcpSetting.TheVariants as Set
+use Rattle.tcp_progress.specs.BothWays.{wake_in}
 use Rattle.tcp_progress.specs.Near.{IsNear}
 use Rattle.tcp_progress.specs.Pair.{socket_of}
 use Rattle.tcp_progress.specs.Reached.{IsReached}
@@ -44,6 +47,7 @@ weakened s moment e h = record {
   good = h.good;
   timer = later_near s.moment moment 60_000_000 s.socket.block.timers.retransmit_at e h.timer;
   pause = later_near s.moment moment 1_000_000 s.socket.block.timers.draws_from e h.pause;
+  probe = later_near s.moment moment 60_000_000 s.socket.block.timers.probe_at e h.probe;
 }
 
 by_read : (s : PairSide) (r : Result ℕ RecvError) → NearSide s → NearSide (reads s r).side
@@ -129,6 +133,9 @@ timer_near p side r = (reached_near p side r).timer
 pub pause_near : (p : PairValue) (side : Side) → IsReached p → IsNear (at p.sides side).moment 1_000_000 (socket_of p side).block.timers.draws_from
 pause_near p side r = (reached_near p side r).pause
 
+pub probe_near : (p : PairValue) (side : Side) → IsReached p → IsNear (at p.sides side).moment 60_000_000 (socket_of p side).block.timers.probe_at
+probe_near p side r = (reached_near p side r).probe
+
 now_within : (now : ℤ) → now ≤ℤ (now +ℤ pos 60_000_000)
 now_within now = first_of (omega (arith, ints), grind (arith, ints))
 
@@ -139,3 +146,13 @@ restart_near now (Some m) n =
 
 pub restart_soon : (p : PairValue) (side : Side) → IsReached p → restart_in p side ≤ℤ ((at p.sides side).moment +ℤ pos 60_000_000)
 restart_soon p side r = restart_near (at p.sides side).moment (socket_of p side).block.timers.retransmit_at (timer_near p side r)
+
+-- so is the moment at which a side goes on, where its probe is waited for
+pub wake_soon : (p : PairValue) (side : Side) → IsReached p → wake_in p side ≤ℤ ((at p.sides side).moment +ℤ pos 60_000_000)
+wake_soon p side r =
+    restart_near (at p.sides side).moment (probe_moment b (queued_in (socket_of p side)))
+    (cond_both (is_probing b (queued_in (socket_of p side))) b.timers.probe_at None (IsNear (at p.sides side).moment 60_000_000)
+    (λ _. probe_near p side r) (λ _. tt))
+  where
+    b : Block
+    b = (socket_of p side).block

@@ -27,7 +27,7 @@ use Rattle.tcp_rules.specs.States.{is_answering, is_closed, owes_fin, sends_syn,
 use Rattle.tcp_rules.specs.Timing.{carries}
 use Rattle.tcp_pair_model.specs.Block.{Block}
 use Rattle.tcp_pair_model.specs.Blocks.{one_if, unacked}
-use Rattle.tcp_pair_model.specs.LossRecovery.{fills_hole, hole_len, loss_probe_moment, loss_probed, loss_probed_by, mends_credited, mends_lost, next_hole, pipe}
+use Rattle.tcp_pair_model.specs.LossRecovery.{fills_hole, hole_len, loss_probe_moment, loss_probed, loss_probed_by, next_hole, pipe}
 use Rattle.tcp_pair_model.specs.Offers.{backed_off, first_rules, last_rules, number_at, offer_choice, offer_of, offer_reset, offer_syn, offer_with}
 use Rattle.tcp_pair_model.specs.Offers.{payload_of, silent}
 use Rattle.tcp_pair_model.specs.Retries.{given_up, gives_up}
@@ -38,26 +38,28 @@ use Rattle.tcp_pair_model.specs.Segments.{hops_of, segment, segment_len, stamp_o
 use Rattle.tcp_pair_model.specs.Value.{TcpValue, ended, queued_in, unoffered, window_of, with_block}
 use Rattle.tcp_rules.proofs.OfferCases.{begun, probing, resends_first}
 use Rattle.tcp_rules.proofs.OrderSteps.{clash}
-use Rattle.tcp_progress.specs.Exchange.{text_of}
-use Rattle.tcp_progress.specs.Restart.{HasRunOut, IsIdle, MaySend, first_cwnd, worth_sending}
+use Rattle.tcp_rules.specs.Ends.{GoesOn}
+use Rattle.tcp_progress.specs.Again.{StartsOver}
+use Rattle.tcp_progress.specs.Exchange.{IsOpen, left_of, text_of}
+use Rattle.tcp_progress.specs.Restart.{MaySend, worth_sending}
 
-both : (a b : Bool) → a ≡ true → b ≡ true → (a && b) ≡ true
+pub both : (a b : Bool) → a ≡ true → b ≡ true → (a && b) ≡ true
 both a b e f = ap (λ (t : Bool). t && b) e ∙ f
 
-or_left : (a b : Bool) → a ≡ true → (a || b) ≡ true
+pub or_left : (a b : Bool) → a ≡ true → (a || b) ≡ true
 or_left a b e = ap (λ (t : Bool). t || b) e
 
-or_right : (a b : Bool) → b ≡ true → (a || b) ≡ true
+pub or_right : (a b : Bool) → b ≡ true → (a || b) ≡ true
 or_right true b e = refl
 or_right false b e = e
 
-not_second : (a b : Bool) → b ≡ false → (a && b) ≡ false
+pub not_second : (a b : Bool) → b ≡ false → (a && b) ≡ false
 not_second true b e = e
 not_second false b e = refl
 
 -- THE WINDOWS
 
-least_limit : (m : ℕ) → 1 ≤ max 1 m
+pub least_limit : (m : ℕ) → 1 ≤ max 1 m
 least_limit m = omega arith
 
 most_limit : (mss room stamps : ℕ) → max 1 (min mss room - stamps) ≤ max 1 mss
@@ -70,7 +72,7 @@ nothing_less : (cwnd pipe : ℕ) → pipe ≡ 0 → cwnd ≤ cwnd - pipe
 nothing_less cwnd pipe e = omega arith
 
 module _ (b : Block) (none : b.sender.in_flight ≡ 0) where
-  room : b.reno.cwnd ≤ congestion_room b
+  pub room : b.reno.cwnd ≤ congestion_room b
   room =
       cond_both b.peer.sack (b.reno.cwnd - pipe b) (b.reno.cwnd + beyond b - b.sender.in_flight) (λ (n : ℕ). b.reno.cwnd ≤ n)
       (λ _. nothing_less b.reno.cwnd (pipe b) empty)
@@ -95,7 +97,7 @@ module _ (b : Block) (none : b.sender.in_flight ≡ 0) where
 -- WHAT GOES
 
 -- it takes a position
-some_goes :
+pub some_goes :
     (c : Choice) (queue : List ℕ) → c.place ≡ 0 → (c.fin ≡ true) ⊎ ((1 ≤ c.len) × (1 ≤ length queue)) →
     1 ≤ length (take c.len (drop c.place queue)) + control_len (control_for c (length queue))
 some_goes c queue first (inl fin) =
@@ -139,25 +141,28 @@ pub record SendsOut (cx : ContextValue) (v : TcpValue) (o : Offered TcpValue) : 
   pub stamp : k.segment.options.timestamp ≡ stamp_of v.block cx.moment
 
 -- the block with which a socket starts over
-record StartsWith (cx : ContextValue) (v : TcpValue) (b : Block) : Type 0 where
-  sends : sends_text b.state ≡ true
-  syn : b.sender.syn_unacked ≡ false
-  none : b.sender.in_flight ≡ 0
-  owes : 1 ≤ unacked b (queued_in v)
+pub record StartsWith (cx : ContextValue) (v : TcpValue) (b : Block) : Type 0 where
+  pub sends : sends_text b.state ≡ true
+  pub syn : b.sender.syn_unacked ≡ false
+  pub none : b.sender.in_flight ≡ 0
+  pub owes : 1 ≤ unacked b (queued_in v)
+  pub mss : b.peer.mss ≡ v.block.peer.mss
+  pub stamp : stamp_of b cx.moment ≡ stamp_of v.block cx.moment
+  pub again : resends b ≡ true → 1 ≤ b.sender.top
+
+-- both windows take a full segment, or all that is queued
+record HasWindows (v : TcpValue) (b : Block) : Type 0 where
   window : worth_sending v ≤ b.peer.window
   cwnd : worth_sending v ≤ b.reno.cwnd
-  mss : b.peer.mss ≡ v.block.peer.mss
-  stamp : stamp_of b cx.moment ≡ stamp_of v.block cx.moment
-  again : resends b ≡ true → 1 ≤ b.sender.top
 
 module _ (cx : ContextValue) (v : TcpValue) (pair : EndpointPair) (b : Block) (s : StartsWith cx v b) where
-  abbrev limit : ℕ
+  abbrev pub limit : ℕ
   limit = size_limit b pair.addresses cx.ip_mtu
 
-  abbrev queued : ℕ
+  abbrev pub queued : ℕ
   queued = queued_in v
 
-  first : next_place b ≡ 0
+  pub first : next_place b ≡ 0
   first = before b.sender.in_flight (one_if b.sender.syn_unacked) s.none where
     before : (flight syn : ℕ) → flight ≡ 0 → flight - syn ≡ 0
     before flight syn e = omega arith
@@ -176,7 +181,7 @@ module _ (cx : ContextValue) (v : TcpValue) (pair : EndpointPair) (b : Block) (s
   }
 
   -- a part of the send queue that takes a position
-  goes :
+  pub goes :
       (kind : OfferKind) (c : Choice) → carries kind ≡ true → payload_of (mine kind c) kind v.queued.queue ≡ take c.len (drop c.place v.queued.queue)
       → 1 ≤ length (take c.len (drop c.place v.queued.queue)) + control_len (control_for c queued)
       → SendsOut cx v (offer_choice kind cx (with_block (unoffered v) b) pair c)
@@ -188,7 +193,7 @@ module _ (cx : ContextValue) (v : TcpValue) (pair : EndpointPair) (b : Block) (s
     stamp = s.stamp;
   }
 
-  fin_owed : queued ≡ 0 → owes_fin b.state ≡ true
+  pub fin_owed : queued ≡ 0 → owes_fin b.state ≡ true
   fin_owed empty = by (owes_fin b.state) refl where
     nothing : (syn queued fin : ℕ) → 1 ≤ syn + queued + fin → syn ≡ 0 → queued ≡ 0 → fin ≡ 0 → ⊥
     nothing syn queued fin e f g h = absurd (omega arith)
@@ -197,43 +202,11 @@ module _ (cx : ContextValue) (v : TcpValue) (pair : EndpointPair) (b : Block) (s
     by true e = refl
     by false e = absurd (nothing (one_if b.sender.syn_unacked) queued (one_if (owes_fin b.state)) s.owes (ap one_if s.syn) empty (ap one_if e))
 
-  limit_small : limit ≤ max 1 v.block.peer.mss
-  limit_small =
-      subst (λ (mss : ℕ). limit ≤ max 1 mss) s.mss (most_limit b.peer.mss _ (stamp_len b))
-
-  small : (size : ℕ) → size ≤ queued → min limit size ≤ worth_sending v
-  small size e = less limit size queued (max 1 v.block.peer.mss) limit_small e where
-    less : (limit size queued most : ℕ) → limit ≤ most → size ≤ queued → min limit size ≤ min most queued
-    less limit size queued most e f = omega arith
-
-  up : (a b c : ℕ) → a ≤ b → b ≤ c → a ≤ c
-  up a b c e f = omega arith
-
-  whole : (size : ℕ) → size ≤ queued → window_limit b (min limit size) ≡ min limit size
-  whole size e =
-      fits b s.none (min limit size) (up (min limit size) (worth_sending v) b.peer.window (small size e) s.window)
-      (up (min limit size) (worth_sending v) b.reno.cwnd (small size e) s.cwnd)
-
-  abbrev choice : Choice
+  abbrev pub choice : Choice
   choice = text_choice b pair.addresses cx.ip_mtu v.queued
 
-  len_is : choice.len ≡ min limit (unbroken v.queued (next_place b))
-  len_is = whole (unbroken v.queued (next_place b)) (part queued (next_place b) (until_end v.queued (next_place b))) where
-    part : (queued place ends : ℕ) → min (queued - place) ends ≤ queued
-    part queued place ends = omega arith
-
-  ready_is : ready b limit queued ≡ min limit queued
-  ready_is =
-      ap (λ (size : ℕ). window_limit b (min limit size)) (rest queued (next_place b) first) ∙ whole queued (itself queued)
-    where
-      rest : (queued place : ℕ) → place ≡ 0 → queued - place ≡ queued
-      rest queued place e = omega arith
-
-      itself : (n : ℕ) → n ≤ n
-      itself n = omega arith
-
   -- the bytes before the end of the storage are some
-  some_len : 1 ≤ queued → 1 ≤ min limit (unbroken v.queued (next_place b))
+  pub some_len : 1 ≤ queued → 1 ≤ min limit (unbroken v.queued (next_place b))
   some_len some =
       by limit queued (next_place b) (until_end v.queued (next_place b)) (least_limit _) some first
       (ends v.queued.start (next_place b) (length v.queued.queue + length v.queued.free) (more (length v.queued.queue) (length v.queued.free) some))
@@ -246,68 +219,6 @@ module _ (cx : ContextValue) (v : TcpValue) (pair : EndpointPair) (b : Block) (s
 
       ends : (start place capacity : ℕ) → 1 ≤ capacity → 1 ≤ capacity - (start + place) % capacity
       ends start place capacity e = omega arith
-
-  fin_alone : queued ≡ 0 → choice.fin ≡ true
-  fin_alone empty =
-      both (owes_fin b.state) (next_place b + choice.len == queued) (fin_owed empty)
-      (eq-eqb (next_place b + choice.len) queued
-      (ap (λ (len : ℕ). next_place b + len) len_is ∙ nothing limit queued (next_place b) (until_end v.queued (next_place b)) empty first))
-    where
-      nothing : (limit queued place ends : ℕ) → queued ≡ 0 → place ≡ 0 → place + min limit (min (queued - place) ends) ≡ queued
-      nothing limit queued place ends e f = omega arith
-
-  some_or_fin : (choice.fin ≡ true) ⊎ ((1 ≤ choice.len) × (1 ≤ queued))
-  some_or_fin = by queued refl where
-    by : (n : ℕ) → queued ≡ n → (choice.fin ≡ true) ⊎ ((1 ≤ choice.len) × (1 ≤ queued))
-    by zero e = inl (fin_alone e)
-    by (suc n) e = let some : 1 ≤ queued = more n e in inr (subst (λ (len : ℕ). 1 ≤ len) (sym len_is) (some_len some), some) where
-      more : (n : ℕ) → queued ≡ suc n → 1 ≤ queued
-      more n e = omega arith
-
-  sendable : is_sendable b queued limit choice ≡ true
-  sendable = by some_or_fin where
-    not_none : (n : ℕ) → 1 ≤ n → not (n == 0) ≡ true
-    not_none n e = ap not (ne_eqb n 0 (never n e)) where
-      never : (n : ℕ) → 1 ≤ n → n ≡ 0 → ⊥
-      never n e f = absurd (omega arith)
-
-    full : limit ≤ queued → nat_le limit (ready b limit queued) ≡ true
-    full e = le-leb limit (ready b limit queued) (subst (λ (n : ℕ). limit ≤ n) (sym ready_is) (enough limit queued e)) where
-      enough : (limit queued : ℕ) → limit ≤ queued → limit ≤ min limit queued
-      enough limit queued e = omega arith
-
-    all : queued < limit → (may_be_small b && fills_enough b queued (ready b limit queued)) ≡ true
-    all e =
-        both (may_be_small b) (fills_enough b queued (ready b limit queued))
-        (or_right (not b.settings.nagle) (b.sender.in_flight == 0) (eq-eqb b.sender.in_flight 0 s.none))
-        (or_left (next_place b + ready b limit queued == queued) _
-        (eq-eqb (next_place b + ready b limit queued) queued (ap (λ (n : ℕ). next_place b + n) ready_is ∙ every (next_place b) limit queued first e)))
-      where
-        every : (place limit queued : ℕ) → place ≡ 0 → queued < limit → place + min limit queued ≡ queued
-        every place limit queued e f = omega arith
-
-    by_size : (less : Bool) → nat_lt queued limit ≡ less →
-        (nat_le limit (ready b limit queued) || (may_be_small b && fills_enough b queued (ready b limit queued))) ≡ true
-    by_size true e = or_right (nat_le limit (ready b limit queued)) _ (all (ltb-true queued limit e))
-    by_size false e = or_left (nat_le limit (ready b limit queued)) _ (full (ltb-false queued limit e))
-
-    by : (choice.fin ≡ true) ⊎ ((1 ≤ choice.len) × (1 ≤ queued)) → is_sendable b queued limit choice ≡ true
-    by (inl fin) = or_left choice.fin _ fin
-    by (inr it) = or_right choice.fin _ (both (not (choice.len == 0)) _ (not_none choice.len it.0) (by_size (nat_lt queued limit) refl))
-
-  text : has_text b pair.addresses cx.ip_mtu v.queued ≡ true
-  text =
-      both (sends_text b.state) _ s.sends
-      (both (nat_le (one_if b.sender.syn_unacked) b.sender.in_flight) _
-      (le-leb (one_if b.sender.syn_unacked) b.sender.in_flight (least (one_if b.sender.syn_unacked) b.sender.in_flight (ap one_if s.syn)))
-      (both (nat_lt b.sender.in_flight (unacked b queued)) _
-      (lt-ltb b.sender.in_flight (unacked b queued) (below b.sender.in_flight (unacked b queued) s.none s.owes)) sendable))
-    where
-      least : (syn m : ℕ) → syn ≡ 0 → syn ≤ m
-      least syn m e = omega arith
-
-      below : (flight all : ℕ) → flight ≡ 0 → 1 ≤ all → flight < all
-      below flight all e f = omega arith
 
   -- what is to go again at once, from SND.UNA on
   abbrev again : Choice
@@ -369,51 +280,153 @@ module _ (cx : ContextValue) (v : TcpValue) (pair : EndpointPair) (b : Block) (s
       more : (n : ℕ) → queued ≡ suc n → 1 ≤ queued
       more n e = omega arith
 
-  goes_again : 1 ≤ b.sender.top →
+  pub goes_again : 1 ≤ b.sender.top →
       SendsOut cx v (offer_choice Kind.FastRetransmission cx (with_block (unoffered v) b) pair (resend_choice b pair.addresses cx.ip_mtu v.queued))
   goes_again sent =
       subst (λ (c : Choice). SendsOut cx v (offer_choice Kind.FastRetransmission cx (with_block (unoffered v) b) pair c))
       (sym (ap (resend_from b pair.addresses cx.ip_mtu v.queued) (resends_first b limit (sent_places b) queued s.none)))
       (goes Kind.FastRetransmission again refl refl (some_goes again v.queued.queue refl (again_or_fin sent)))
 
-  goes_text : SendsOut cx v (offer_choice Kind.Text cx (with_block (unoffered v) b) pair (text_choice b pair.addresses cx.ip_mtu v.queued))
-  goes_text = goes Kind.Text choice refl refl (some_goes choice v.queued.queue first some_or_fin)
-
-  no_syn : owes_syn b ≡ false
+  pub no_syn : owes_syn b ≡ false
   no_syn =
       not_second (sends_syn b.state && not (is_answering b.state && b.settings.synack_paused)) (b.sender.syn_unacked && (b.sender.in_flight == 0))
       (ap (λ (t : Bool). t && (b.sender.in_flight == 0)) s.syn)
 
-  by_rule : SendsOut cx v (first_rules cx (with_block (unoffered v) b) pair)
-  by_rule = subst (SendsOut cx v) (sym (if_not (owes_syn b) (offer_syn cx x pair) rest no_syn)) (at (resends b) refl) where
-    x : TcpValue
-    x = with_block (unoffered v) b
+  module _ (w : HasWindows v b) where
+    limit_small : limit ≤ max 1 v.block.peer.mss
+    limit_small =
+        subst (λ (mss : ℕ). limit ≤ max 1 mss) s.mss (most_limit b.peer.mss _ (stamp_len b))
 
-    fast : Offered TcpValue
-    fast = offer_choice Kind.FastRetransmission cx x pair (resend_choice b pair.addresses cx.ip_mtu v.queued)
+    small : (size : ℕ) → size ≤ queued → min limit size ≤ worth_sending v
+    small size e = less limit size queued (max 1 v.block.peer.mss) limit_small e where
+      less : (limit size queued most : ℕ) → limit ≤ most → size ≤ queued → min limit size ≤ min most queued
+      less limit size queued most e f = omega arith
 
-    plain : Offered TcpValue
-    plain = offer_choice Kind.Text cx x pair (text_choice b pair.addresses cx.ip_mtu v.queued)
+    up : (a b c : ℕ) → a ≤ b → b ≤ c → a ≤ c
+    up a b c e f = omega arith
 
-    later : Offered TcpValue
-    later = if has_text b pair.addresses cx.ip_mtu v.queued then plain else last_rules cx (probing cx x) pair
+    whole : (size : ℕ) → size ≤ queued → window_limit b (min limit size) ≡ min limit size
+    whole size e =
+        fits b s.none (min limit size) (up (min limit size) (worth_sending v) b.peer.window (small size e) w.window)
+        (up (min limit size) (worth_sending v) b.reno.cwnd (small size e) w.cwnd)
 
-    rest : Offered TcpValue
-    rest = if resends b then fast else later
+    len_is : choice.len ≡ min limit (unbroken v.queued (next_place b))
+    len_is = whole (unbroken v.queued (next_place b)) (part queued (next_place b) (until_end v.queued (next_place b))) where
+      part : (queued place ends : ℕ) → min (queued - place) ends ≤ queued
+      part queued place ends = omega arith
 
-    at : (t : Bool) → resends b ≡ t → SendsOut cx v rest
-    at true e = subst (SendsOut cx v) (sym (if_so (resends b) fast later e)) (goes_again (s.again e))
-    at false e =
-        subst (SendsOut cx v) (sym (if_not (resends b) fast later e ∙ if_so (has_text b pair.addresses cx.ip_mtu v.queued) plain _ text)) goes_text
+    ready_is : ready b limit queued ≡ min limit queued
+    ready_is =
+        ap (λ (size : ℕ). window_limit b (min limit size)) (rest queued (next_place b) first) ∙ whole queued (itself queued)
+      where
+        rest : (queued place : ℕ) → place ≡ 0 → queued - place ≡ queued
+        rest queued place e = omega arith
+
+        itself : (n : ℕ) → n ≤ n
+        itself n = omega arith
+
+    fin_alone : queued ≡ 0 → choice.fin ≡ true
+    fin_alone empty =
+        both (owes_fin b.state) (next_place b + choice.len == queued) (fin_owed empty)
+        (eq-eqb (next_place b + choice.len) queued
+        (ap (λ (len : ℕ). next_place b + len) len_is ∙ nothing limit queued (next_place b) (until_end v.queued (next_place b)) empty first))
+      where
+        nothing : (limit queued place ends : ℕ) → queued ≡ 0 → place ≡ 0 → place + min limit (min (queued - place) ends) ≡ queued
+        nothing limit queued place ends e f = omega arith
+
+    some_or_fin : (choice.fin ≡ true) ⊎ ((1 ≤ choice.len) × (1 ≤ queued))
+    some_or_fin = by queued refl where
+      by : (n : ℕ) → queued ≡ n → (choice.fin ≡ true) ⊎ ((1 ≤ choice.len) × (1 ≤ queued))
+      by zero e = inl (fin_alone e)
+      by (suc n) e = let some : 1 ≤ queued = more n e in inr (subst (λ (len : ℕ). 1 ≤ len) (sym len_is) (some_len some), some) where
+        more : (n : ℕ) → queued ≡ suc n → 1 ≤ queued
+        more n e = omega arith
+
+    sendable : is_sendable b queued limit choice ≡ true
+    sendable = by some_or_fin where
+      not_none : (n : ℕ) → 1 ≤ n → not (n == 0) ≡ true
+      not_none n e = ap not (ne_eqb n 0 (never n e)) where
+        never : (n : ℕ) → 1 ≤ n → n ≡ 0 → ⊥
+        never n e f = absurd (omega arith)
+
+      full : limit ≤ queued → nat_le limit (ready b limit queued) ≡ true
+      full e = le-leb limit (ready b limit queued) (subst (λ (n : ℕ). limit ≤ n) (sym ready_is) (enough limit queued e)) where
+        enough : (limit queued : ℕ) → limit ≤ queued → limit ≤ min limit queued
+        enough limit queued e = omega arith
+
+      all : queued < limit → (may_be_small b && fills_enough b queued (ready b limit queued)) ≡ true
+      all e =
+          both (may_be_small b) (fills_enough b queued (ready b limit queued))
+          (or_right (not b.settings.nagle) (b.sender.in_flight == 0) (eq-eqb b.sender.in_flight 0 s.none))
+          (or_left (next_place b + ready b limit queued == queued) _
+          (eq-eqb (next_place b + ready b limit queued) queued (ap (λ (n : ℕ). next_place b + n) ready_is ∙ every (next_place b) limit queued first e)))
+        where
+          every : (place limit queued : ℕ) → place ≡ 0 → queued < limit → place + min limit queued ≡ queued
+          every place limit queued e f = omega arith
+
+      by_size : (less : Bool) → nat_lt queued limit ≡ less →
+          (nat_le limit (ready b limit queued) || (may_be_small b && fills_enough b queued (ready b limit queued))) ≡ true
+      by_size true e = or_right (nat_le limit (ready b limit queued)) _ (all (ltb-true queued limit e))
+      by_size false e = or_left (nat_le limit (ready b limit queued)) _ (full (ltb-false queued limit e))
+
+      by : (choice.fin ≡ true) ⊎ ((1 ≤ choice.len) × (1 ≤ queued)) → is_sendable b queued limit choice ≡ true
+      by (inl fin) = or_left choice.fin _ fin
+      by (inr it) = or_right choice.fin _ (both (not (choice.len == 0)) _ (not_none choice.len it.0) (by_size (nat_lt queued limit) refl))
+
+    text : has_text b pair.addresses cx.ip_mtu v.queued ≡ true
+    text =
+        both (sends_text b.state) _ s.sends
+        (both (nat_le (one_if b.sender.syn_unacked) b.sender.in_flight) _
+        (le-leb (one_if b.sender.syn_unacked) b.sender.in_flight (least (one_if b.sender.syn_unacked) b.sender.in_flight (ap one_if s.syn)))
+        (both (nat_lt b.sender.in_flight (unacked b queued)) _
+        (lt-ltb b.sender.in_flight (unacked b queued) (below b.sender.in_flight (unacked b queued) s.none s.owes)) sendable))
+      where
+        least : (syn m : ℕ) → syn ≡ 0 → syn ≤ m
+        least syn m e = omega arith
+
+        below : (flight all : ℕ) → flight ≡ 0 → 1 ≤ all → flight < all
+        below flight all e f = omega arith
+
+    goes_text : SendsOut cx v (offer_choice Kind.Text cx (with_block (unoffered v) b) pair (text_choice b pair.addresses cx.ip_mtu v.queued))
+    goes_text = goes Kind.Text choice refl refl (some_goes choice v.queued.queue first some_or_fin)
+
+    by_rule : SendsOut cx v (first_rules cx (with_block (unoffered v) b) pair)
+    by_rule = subst (SendsOut cx v) (sym (if_not (owes_syn b) (offer_syn cx x pair) rest no_syn)) (at (resends b) refl) where
+      x : TcpValue
+      x = with_block (unoffered v) b
+
+      fast : Offered TcpValue
+      fast = offer_choice Kind.FastRetransmission cx x pair (resend_choice b pair.addresses cx.ip_mtu v.queued)
+
+      plain : Offered TcpValue
+      plain = offer_choice Kind.Text cx x pair (text_choice b pair.addresses cx.ip_mtu v.queued)
+
+      later : Offered TcpValue
+      later = if has_text b pair.addresses cx.ip_mtu v.queued then plain else last_rules cx (probing cx x) pair
+
+      rest : Offered TcpValue
+      rest = if resends b then fast else later
+
+      at : (t : Bool) → resends b ≡ t → SendsOut cx v rest
+      at true e = subst (SendsOut cx v) (sym (if_so (resends b) fast later e)) (goes_again (s.again e))
+      at false e =
+          subst (SendsOut cx v) (sym (if_not (resends b) fast later e ∙ if_so (has_text b pair.addresses cx.ip_mtu v.queued) plain _ text)) goes_text
 
 -- A SOCKET
 
-module _ (cx : ContextValue) (v : TcpValue) (pair : EndpointPair) (named : v.block.names.pair ≡ Some pair) (m : MaySend cx v)
-    (sends : sends_text v.block.state ≡ true) (sent : v.block.sender.in_flight ≤ v.block.sender.top) where
+-- a side with its connection that owes text or a FIN, and starts over
+pub record Starts (cx : ContextValue) (v : TcpValue) : Type 0 where
+  pub own : IsOpen v.block
+  pub owes : 1 ≤ left_of v
+  pub over : StartsOver cx v
+  pub goes : GoesOn cx v
+
+module _ (cx : ContextValue) (v : TcpValue) (pair : EndpointPair) (named : v.block.names.pair ≡ Some pair) (m : Starts cx v)
+    (sends : sends_text v.block.state ≡ true) (sent : resends v.block ≡ true → 1 ≤ v.block.sender.top) where
   abbrev u : TcpValue
   u = unoffered v
 
-  to_rules : offer_of cx v ≡ first_rules cx (with_block u (backed_off cx.moment (begun cx v))) pair
+  pub to_rules : offer_of cx v ≡ first_rules cx (with_block u (backed_off cx.moment (begun cx v))) pair
   to_rules =
       ap (λ (names : Option EndpointPair). offer_with names cx u) named
       ∙ (if_not (is_due cx.moment (time_wait_end v.block)) (silent true (ended u)) in_time m.goes.lasts
@@ -436,86 +449,98 @@ module _ (cx : ContextValue) (v : TcpValue) (pair : EndpointPair) (named : v.blo
   no_hole : (b : Block) → b.sender.in_flight ≡ 0 → fills_hole b ≡ false
   no_hole b none =
       not_second b.peer.sack _ (not_second b.reno.recovers _ (not_second (not b.sender.syn_unacked) _
-      (ap (λ (t : Bool). t && (mends_lost b || mends_credited b))
+      (not_first (nat_lt (next_hole b) b.sender.in_flight) _
       (le-ltb (next_hole b) b.sender.in_flight (least b.sender.in_flight (next_hole b) none)))))
     where
+      not_first : (a c : Bool) → a ≡ false → (a && c) ≡ false
+      not_first a c e = ap (λ (t : Bool). t && c) e
+
       least : (flight place : ℕ) → flight ≡ 0 → flight ≤ place
       least flight place e = omega arith
 
   -- the timer ran out
-  ran_out : is_due cx.moment v.block.timers.retransmit_at ≡ true → StartsWith cx v (backed_off_now (begun cx v))
+  pub ran_out : is_due cx.moment v.block.timers.retransmit_at ≡ true → StartsWith cx v (backed_off_now (begun cx v))
   ran_out due = record {
     sends = sends;
     syn = m.own.acknowledged;
     none = refl;
     owes = m.owes;
-    window = m.window;
-    cwnd = subst (λ (n : ℕ). worth_sending v ≤ n) cwnd_is m.cwnd;
     mss = refl;
     stamp = refl;
-    again = λ e. by m.over e;
+    again = λ e.
+        sent
+        (both (sends_text v.block.state) (v.block.sender.resend || (v.block.loss.probes || fills_hole v.block)) sends
+        (or_left v.block.sender.resend (v.block.loss.probes || fills_hole v.block)
+        (only (sends_text v.block.state) v.block.sender.resend (fills_hole b) (no_hole b refl) e)));
   }
     where
       b : Block
       b = backed_off_now (begun cx v)
-
-      cwnd_is : first_cwnd cx v.block ≡ b.reno.cwnd
-      cwnd_is =
-          if_so (is_due cx.moment v.block.timers.retransmit_at) v.block.reno.mss v.block.reno.cwnd due
-          ∙ sym (ap (λ (r : RenoValue). r.cwnd)
-          (if_not v.block.sender.syn_unacked v.block.reno (reno.timed_out v.block.reno v.block.sender.in_flight) m.own.acknowledged))
 
       only : (sends resend hole : Bool) → hole ≡ false → (sends && (resend || (false || hole))) ≡ true → resend ≡ true
       only true true hole e f = refl
       only true false hole e f = clash (sym f ∙ e)
       only false resend hole e f = clash (sym f)
 
-      up : (flight top : ℕ) → 1 ≤ flight → flight ≤ top → 1 ≤ top
-      up flight top e f = omega arith
-
-      by : IsIdle v ⊎ HasRunOut cx v → resends b ≡ true → 1 ≤ b.sender.top
-      by (inr out) e = up v.block.sender.in_flight v.block.sender.top out.0 sent
-      by (inl idle) e =
-          clash
-          (sym (both (sends_text v.block.state) (v.block.sender.resend || (v.block.loss.probes || fills_hole v.block)) sends
-          (or_left v.block.sender.resend (v.block.loss.probes || fills_hole v.block)
-          (only (sends_text v.block.state) v.block.sender.resend (fills_hole b) (no_hole b refl) e)))
-          ∙ idle.1)
-
   -- nothing is in flight
-  idles : is_due cx.moment v.block.timers.retransmit_at ≡ false → IsIdle v → StartsWith cx v (begun cx v)
+  pub idles : is_due cx.moment v.block.timers.retransmit_at ≡ false → v.block.sender.in_flight ≡ 0 → StartsWith cx v (begun cx v)
   idles not idle = record {
     sends = sends;
     syn = m.own.acknowledged;
-    none = idle.0;
+    none = idle;
     owes = m.owes;
-    window = m.window;
-    cwnd =
-        subst (λ (n : ℕ). worth_sending v ≤ n) (if_not (is_due cx.moment v.block.timers.retransmit_at) v.block.reno.mss v.block.reno.cwnd not) m.cwnd;
     mss = refl;
     stamp = refl;
-    again = λ e. clash (sym e ∙ idle.1);
+    again = sent;
   }
 
-  no_probe : v.block.sender.in_flight ≡ 0 → is_due cx.moment (loss_probe_moment (begun cx v)) ≡ false
+  pub no_probe : v.block.sender.in_flight ≡ 0 → is_due cx.moment (loss_probe_moment (begun cx v)) ≡ false
   no_probe none =
       ap (λ (t : Bool). is_due cx.moment (if t then v.block.loss.probe_at else None))
       (not_second (sends_text v.block.state) _
       (not_second (not v.block.sender.syn_unacked) _ (ap not (eq-eqb v.block.sender.in_flight 0 none))))
 
+pub starts_of : (cx : ContextValue) (v : TcpValue) → MaySend cx v → Starts cx v
+starts_of cx v m = record { own = m.own; owes = m.owes; over = m.over; goes = m.goes }
+
+module _ (cx : ContextValue) (v : TcpValue) (pair : EndpointPair) (named : v.block.names.pair ≡ Some pair) (m : MaySend cx v)
+    (sends : sends_text v.block.state ≡ true) (sent : resends v.block ≡ true → 1 ≤ v.block.sender.top) where
+  -- and both windows take a full segment, of which one is known then
+  windows_out : is_due cx.moment v.block.timers.retransmit_at ≡ true → HasWindows v (backed_off_now (begun cx v))
+  windows_out due = record {
+    window = m.window;
+    cwnd =
+        subst (λ (n : ℕ). worth_sending v ≤ n)
+        (if_so (is_due cx.moment v.block.timers.retransmit_at) v.block.reno.mss v.block.reno.cwnd due
+        ∙ sym (ap (λ (r : RenoValue). r.cwnd)
+        (if_not v.block.sender.syn_unacked v.block.reno (reno.timed_out v.block.reno v.block.sender.in_flight) m.own.acknowledged)))
+        m.cwnd;
+  }
+
+  windows_idle : is_due cx.moment v.block.timers.retransmit_at ≡ false → HasWindows v (begun cx v)
+  windows_idle not = record {
+    window = m.window;
+    cwnd =
+        subst (λ (n : ℕ). worth_sending v ≤ n) (if_not (is_due cx.moment v.block.timers.retransmit_at) v.block.reno.mss v.block.reno.cwnd not) m.cwnd;
+  }
+
   pub sends_out : SendsOut cx v (offer_of cx v)
-  sends_out = subst (SendsOut cx v) (sym to_rules) (at (is_due cx.moment v.block.timers.retransmit_at) refl) where
-    at : (due : Bool) → is_due cx.moment v.block.timers.retransmit_at ≡ due →
-        SendsOut cx v (first_rules cx (with_block u (backed_off cx.moment (begun cx v))) pair)
-    at true e =
-        subst (λ (b : Block). SendsOut cx v (first_rules cx (with_block u b) pair))
-        (sym (if_so (is_due cx.moment v.block.timers.retransmit_at) (backed_off_now (begun cx v)) (loss_probed_by cx.moment (begun cx v)) e))
-        (by_rule cx v pair (backed_off_now (begun cx v)) (ran_out e))
-    at false e = by m.over where
-      by : IsIdle v ⊎ HasRunOut cx v → SendsOut cx v (first_rules cx (with_block u (backed_off cx.moment (begun cx v))) pair)
-      by (inr out) = clash (sym out.1 ∙ e)
-      by (inl idle) =
-          subst (λ (b : Block). SendsOut cx v (first_rules cx (with_block u b) pair))
-          (sym (if_not (is_due cx.moment v.block.timers.retransmit_at) (backed_off_now (begun cx v)) (loss_probed_by cx.moment (begun cx v)) e
-          ∙ if_not (is_due cx.moment (loss_probe_moment (begun cx v))) (loss_probed (begun cx v)) (begun cx v) (no_probe idle.0)))
-          (by_rule cx v pair (begun cx v) (idles e idle))
+  sends_out =
+      subst (SendsOut cx v) (sym (to_rules cx v pair named (starts_of cx v m) sends sent)) (at (is_due cx.moment v.block.timers.retransmit_at) refl)
+    where
+      at : (due : Bool) → is_due cx.moment v.block.timers.retransmit_at ≡ due →
+          SendsOut cx v (first_rules cx (with_block (unoffered v) (backed_off cx.moment (begun cx v))) pair)
+      at true e =
+          subst (λ (b : Block). SendsOut cx v (first_rules cx (with_block (unoffered v) b) pair))
+          (sym (if_so (is_due cx.moment v.block.timers.retransmit_at) (backed_off_now (begun cx v)) (loss_probed_by cx.moment (begun cx v)) e))
+          (by_rule cx v pair (backed_off_now (begun cx v)) (ran_out cx v pair named (starts_of cx v m) sends sent e) (windows_out e))
+      at false e = by m.over where
+        by : (v.block.sender.in_flight ≡ 0) ⊎ (is_due cx.moment v.block.timers.retransmit_at ≡ true) →
+            SendsOut cx v (first_rules cx (with_block (unoffered v) (backed_off cx.moment (begun cx v))) pair)
+        by (inr out) = clash (sym out ∙ e)
+        by (inl idle) =
+            subst (λ (b : Block). SendsOut cx v (first_rules cx (with_block (unoffered v) b) pair))
+            (sym (if_not (is_due cx.moment v.block.timers.retransmit_at) (backed_off_now (begun cx v)) (loss_probed_by cx.moment (begun cx v)) e
+            ∙ if_not (is_due cx.moment (loss_probe_moment (begun cx v))) (loss_probed (begun cx v)) (begun cx v)
+            (no_probe cx v pair named (starts_of cx v m) sends sent idle)))
+            (by_rule cx v pair (begun cx v) (idles cx v pair named (starts_of cx v m) sends sent e idle) (windows_idle e))

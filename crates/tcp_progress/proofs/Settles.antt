@@ -22,13 +22,13 @@ use Rattle.tcp_pair_model.specs.declared.event.Side.{Side}
 use Rattle.tcp_pair_model.specs.declared.event.Side.TheVariants.{A, B}
 use Rattle.tcp_pair_model.proofs.PairLaws.{kept_is_safe}
 use Rattle.tcp_rules.specs.OpenOffer.{OpenOffer}
-use Rattle.tcp_progress.specs.Pair.{MayExchangeIn, left_in, next_sent, offered_in, socket_of}
+use Rattle.tcp_progress.specs.Pair.{MayReachIn, left_in, next_sent, offered_in, socket_of}
 use Rattle.tcp_progress.specs.Reached.{IsReached}
 use Rattle.tcp_progress.specs.Rounds.{comes, takes}
 use Rattle.tcp_progress.specs.Settle.{MayRound, MaySettle, read_in, restart_in, resumed_in, settled_in}
 use Rattle.tcp_progress.proofs.Kept.{reached_by, reached_keeps, reached_kept}
-use Rattle.tcp_progress.proofs.OfItself.{leads_of_itself, may_exchange, sends_in}
-use Rattle.tcp_progress.proofs.Pair.{HasLess, HasSome, below_quarter, further, had_in, has_some, reached_moved, still_open}
+use Rattle.tcp_progress.proofs.OfItself.{leads_of_itself, may_reach, sends_in}
+use Rattle.tcp_progress.proofs.Pair.{HasLess, HasSome, below_quarter, further, had_in, has_some, reached_less, still_open}
 
 -- READING
 
@@ -147,7 +147,7 @@ round : (p : PairValue) (side : Side) → IsReached p → MayRound p side → Ro
 round p side r m = record {
   reached = leads_of_itself x side t rx m.stream m.goes_on m.comes;
   some = has_some x side t k rx m.stream may;
-  less = (reached_moved x side t k rx m.stream may).less;
+  less = reached_less x side t k rx m.stream may m.space;
 }
   where
     x : PairValue
@@ -162,8 +162,8 @@ round p side r m = record {
     k : OpenOffer
     k = (sends_in x side t rx m.goes_on.sends).k
 
-    may : MayExchangeIn x side t k
-    may = may_exchange x side t rx m.goes_on
+    may : MayReachIn x side t k
+    may = may_reach x side t rx m.goes_on
 
 -- after the first of several rounds, where the others get through
 after_round :

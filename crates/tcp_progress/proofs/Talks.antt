@@ -1,5 +1,6 @@
 -- What a turn asks for follows from the beginning, but for what MaySpeak has.
-use Rattle.std.proofs.Common.{◌≡◌, ◌⊎◌, inl, inr, ℕ, zero, suc, ◌+◌, ◌*◌, ◌^◌, ◌≤◌, ◌-◌, ◌==◌, ◌&&◌, not, ℤ, pos, ◌+ℤ◌, ◌≤ℤ◌, int_le, int_lt}
+use Rattle.std.proofs.Common.{◌≡◌, ◌⊎◌, inl, inr, ℕ, zero, suc, ◌+◌, ◌*◌, ◌^◌, ◌≤◌, ◌-◌, ◌==◌, ◌&&◌, ◌||◌, not, ℤ, pos, ◌+ℤ◌, ◌≤ℤ◌, int_le, int_lt}
+use Rattle.std.proofs.Common.{if◌then◌else◌}
 use Rattle.std.proofs.Common.{Bool, true, false, List, ◌++◌, length, length-append, Option, Some, None, Result, Ok, Err, is_some, slice_get, refl}
 use Rattle.std.proofs.Common.{sym, ap, ◌∙◌, subst, arith}
 use Rattle.std.proofs.lemmas.Bool.{cond_both, eqb-true}
@@ -9,7 +10,19 @@ use Rattle.ip_wire.specs.TcpTimestampRepr.{TcpTimestampRepr}
 use Rattle.tcp_rules.specs.Moments.{is_due}
 use Rattle.tcp_rules.specs.RecvError.{RecvError}
 use Rattle.tcp_rules.proofs.OrderSteps.{clash}
+use Rattle.tcp_model.specs.Timeout.{end_by, timeout_end, waits_for_remote}
+use Rattle.tcp_rules.specs.State.{State}
+use Rattle.tcp_rules.specs.State.TheVariants as In
+use Rattle.tcp_rules.specs.States.{is_answering, is_closed, is_opening, is_time_wait, sends_text}
 use Rattle.tcp_pair_model.specs.Arrival.{arrives}
+use Rattle.tcp_pair_model.specs.Block.{Block}
+use Rattle.tcp_pair_model.specs.Offers.{offer_of}
+use Rattle.tcp_pair_model.specs.Probing.{is_probing, probe_moment}
+use Rattle.tcp_pair_model.specs.Retries.{gives_up, is_last_question, is_last_timeout, reaches, retries_of}
+use Rattle.tcp_pair_model.specs.Rules.{has_text, keep_alive_moment, resends, time_wait_end}
+use Rattle.tcp_rules.specs.EndpointPair.{EndpointPair}
+use Rattle.tcp_rules.specs.Names.{Names}
+use Rattle.net_base.specs.Ring.{Ring}
 use Rattle.tcp_pair_model.specs.Calls.{recv_answer}
 use Rattle.tcp_pair_model.specs.Blocks.{one_if}
 use Rattle.tcp_pair_model.specs.Names.{accepts}
@@ -17,33 +30,41 @@ use Rattle.tcp_pair_model.specs.Safe.{taken_in as taken_list, written}
 use Rattle.tcp_pair_model.specs.Sides.{at, other}
 use Rattle.tcp_pair_model.specs.Steps.{handed, if_so, may_come, reads, refusal, taken_at}
 use Rattle.tcp_pair_model.specs.Timestamps.{comes_older}
-use Rattle.tcp_pair_model.specs.Value.{TcpValue, free_in, room_of}
+use Rattle.tcp_pair_model.specs.Value.{TcpValue, free_in, queued_in, room_of}
 use Rattle.tcp_pair_model.specs.Values.{PairSide, PairValue, context_at, past_at}
 use Rattle.tcp_pair_model.specs.declared.event.PairEvent.TheVariants.{Deliver, Offer}
 use Rattle.tcp_pair_model.specs.declared.event.PairRefused.TheVariants.{Moment}
 use Rattle.tcp_pair_model.specs.declared.event.SentSegment.{SentSegment}
 use Rattle.tcp_pair_model.specs.declared.event.Side.{Side}
 use Rattle.tcp_pair_model.specs.declared.event.Side.TheVariants.{A, B}
+use Rattle.tcp_progress.specs.Again.{StartsOver}
 use Rattle.tcp_progress.specs.Arrivals.{is_synchronized}
-use Rattle.tcp_progress.specs.BothWays.{MayRounds, MayTurn, bound, rounds_in, turn_in}
+use Rattle.tcp_progress.specs.BothWays.{AreThere, IsThrough, MayAsk, MayRounds, MayTurn, bound, is_over, roused_in, rounds_in, turn_in, waits_in, wake_in}
+use Rattle.tcp_progress.specs.BothWays.{woken_in}
 use Rattle.tcp_progress.specs.Exchange.{IsOpen, left_of, offer_comes, text_of}
 use Rattle.tcp_progress.specs.Pair.{HasStream, OneListened, context_of, exchanged_in, left_in, next_sent, offered_in, socket_of}
 use Rattle.tcp_progress.specs.Reached.{IsReached}
-use Rattle.tcp_progress.specs.Restart.{HasRunOut, IsIdle}
 use Rattle.tcp_progress.specs.Rounds.{comes, later_of, takes}
 use Rattle.tcp_progress.specs.Sent.{is_early}
-use Rattle.tcp_progress.specs.Settle.{MayRound, read_in, restart_by, restart_in, resumed_in}
-use Rattle.tcp_progress.specs.Talking.{AreTalking, HasMinutes, MaySpeak, MayTalk, SpeaksIn}
+use Rattle.tcp_progress.specs.Settle.{read_in, restart_by, restart_in}
+use Rattle.tcp_progress.specs.Talking.{AreTalking, HasMinutes, MayTalk, NeverGiveUp, SpeaksIn}
 use Rattle.tcp_progress.proofs.Calm.{answer_bare, no_stamp}
 use Rattle.tcp_progress.proofs.Opened.{is_open}
-use Rattle.tcp_progress.proofs.Pair.{had_in}
-use Rattle.tcp_progress.proofs.PairTimers.{restart_soon}
+use Rattle.tcp_progress.proofs.Held.{IsSet, asked_sets, goes_then}
+use Rattle.tcp_progress.proofs.Left.{left_same}
+use Rattle.tcp_progress.proofs.Mirrored.{named_in}
+use Rattle.tcp_progress.proofs.OfItself.{sends_there}
+use Rattle.tcp_progress.proofs.Pair.{had_in, late_in, not_closed}
+use Rattle.tcp_progress.proofs.PairTimers.{restart_soon, wake_soon}
 use Rattle.tcp_progress.proofs.Ready.{ready_side}
-use Rattle.tcp_progress.proofs.Settles.{empty_after, read_reached, safe_side, some_left}
+use Rattle.tcp_progress.proofs.Resent.{again_sent}
+use Rattle.tcp_progress.proofs.Resumes.{SendsOut, Starts}
+use Rattle.tcp_progress.proofs.Settles.{empty_after, read_partner, read_reached, safe_side, some_left}
 use Rattle.tcp_progress.proofs.Stampless.{stampless}
-use Rattle.tcp_progress.proofs.Ways.{Balance, BothCalm, Ended, IsLate, balance, done_round, ends, late_after, late_on, nothing_turns, of_side}
-use Rattle.tcp_progress.proofs.Ways.{on_late, read_calm}
-use Rattle.tcp_progress.proofs.Ways.{stream_still, through, turned}
+use Rattle.tcp_progress.proofs.Turns.{Ended, done_round, ends, late_on, nothing_turns, roused_calm, roused_other, roused_own, roused_reached}
+use Rattle.tcp_progress.proofs.Turns.{stream_still, through, turned}
+use Rattle.tcp_progress.proofs.Wide.{reached_cwnd}
+use Rattle.tcp_progress.proofs.Ways.{Balance, BothCalm, IsLate, balance, late_after, of_side, read_calm}
 
 -- WHAT STAYS
 
@@ -51,6 +72,7 @@ record Stays (p : PairValue) (side : Side) : Type 0 where
   acked : (socket_of p side).block.sender.syn_unacked ≡ false
   stream : HasStream (past_at p side)
   room : 1 ≤ room_of (socket_of p side).received
+  timeout : (socket_of p side).block.settings.timeout ≡ None
   stampless : (socket_of p side).block.peer.timestamps ≡ false
 
 record BothStay (p : PairValue) : Type 0 where
@@ -66,6 +88,7 @@ stays_on p q side c s =
       acked = it.acked s.acked;
       stream = stream_still p q side c s.stream;
       room = subst (λ (n : ℕ). 1 ≤ n) (sym it.room) s.room;
+      timeout = it.timeout ∙ s.timeout;
       stampless = it.stamps ∙ s.stampless;
     }
 
@@ -137,15 +160,25 @@ allowed last moment a b c =
     all : {a b c : Bool} → a ≡ true → b ≡ true → c ≡ true → (a && (b && c)) ≡ true
     all {b = b} {c = c} e f g = ap (λ (t : Bool). t && (b && c)) e ∙ (ap (λ (t : Bool). t && c) f ∙ g)
 
--- a minute less
-less_time : (now new last : ℤ) (rest : ℕ) → new ≤ℤ (now +ℤ pos 60_000_000) → (now +ℤ pos (60_000_000 + rest)) ≤ℤ last → (new +ℤ pos rest) ≤ℤ last
+-- two minutes less
+less_time : (now new last : ℤ) (rest : ℕ) → new ≤ℤ (now +ℤ pos 120_000_000) → (now +ℤ pos (120_000_000 + rest)) ≤ℤ last → (new +ℤ pos rest) ≤ℤ last
 less_time now new last rest a b = first_of (omega (arith, ints), grind (arith, ints))
 
 in_time : (now last : ℤ) (rest : ℕ) → (now +ℤ pos rest) ≤ℤ last → now ≤ℤ last
 in_time now last rest a = first_of (omega (arith, ints), grind (arith, ints))
 
-one_minute : (n : ℕ) → suc n * 60_000_000 ≡ 60_000_000 + n * 60_000_000
-one_minute n = omega arith
+two_minutes : (n : ℕ) → suc n * 120_000_000 ≡ 120_000_000 + n * 120_000_000
+two_minutes n = omega arith
+
+-- one after the other
+both_minutes : (now first second : ℤ) → first ≤ℤ (now +ℤ pos 60_000_000) → second ≤ℤ (first +ℤ pos 60_000_000) → second ≤ℤ (now +ℤ pos 120_000_000)
+both_minutes now first second a b = first_of (omega (arith, ints), grind (arith, ints))
+
+in_first : (now last : ℤ) (rest : ℕ) → (now +ℤ pos (120_000_000 + rest)) ≤ℤ last → (now +ℤ pos 60_000_000) ≤ℤ last
+in_first now last rest a = first_of (omega (arith, ints), grind (arith, ints))
+
+in_both : (now last : ℤ) (rest : ℕ) → (now +ℤ pos (120_000_000 + rest)) ≤ℤ last → (now +ℤ pos 120_000_000) ≤ℤ last
+in_both now last rest a = first_of (omega (arith, ints), grind (arith, ints))
 
 -- THE CLOCKS IN A TURN
 
@@ -189,48 +222,96 @@ read_clock p A B = read_moment p.sides.b (recv_answer p.sides.b.socket (2 ^ 30))
 read_clock p B A = read_moment p.sides.a (recv_answer p.sides.a.socket (2 ^ 30))
 read_clock p B B = refl
 
-own_clock : (p : PairValue) (side : Side) → clock (resumed_in p side) side ≡ restart_in p side
+refused_clock : (p : PairValue) (side : Side) (moment : ℤ) →
+    (clock (takes p (Offer side moment false)) side ≡ moment) × (clock (takes p (Offer side moment false)) (other side) ≡ clock p (other side))
+refused_clock p A moment = (refl, refl)
+refused_clock p B moment = (refl, refl)
+
+roused_clock : (p : PairValue) (side : Side) → clock (roused_in p side) side ≡ restart_in p side
+roused_clock p side = (refused_clock (read_in p side) side (restart_in p side)).0
+
+own_clock : (p : PairValue) (side : Side) → clock (woken_in p side) side ≡ wake_in (roused_in p side) side
 own_clock p side =
-    exchange_clock (read_in p side) side (restart_in p side) side ∙ (offer_clock (read_in p side) side (restart_in p side)).0
+    exchange_clock (roused_in p side) side (wake_in (roused_in p side) side) side
+    ∙ (offer_clock (roused_in p side) side (wake_in (roused_in p side) side)).0
 
-other_clock : (p : PairValue) (side : Side) → clock (resumed_in p side) (other side) ≡ clock p (other side)
+other_clock : (p : PairValue) (side : Side) → clock (woken_in p side) (other side) ≡ clock p (other side)
 other_clock p side =
-    exchange_clock (read_in p side) side (restart_in p side) (other side)
-    ∙ ((offer_clock (read_in p side) side (restart_in p side)).1 ∙ read_clock p side (other side))
+    exchange_clock (roused_in p side) side (wake_in (roused_in p side) side) (other side)
+    ∙ ((offer_clock (roused_in p side) side (wake_in (roused_in p side) side)).1
+    ∙ ((refused_clock (read_in p side) side (restart_in p side)).1 ∙ read_clock p side (other side)))
 
-minute_of : (n : ℕ) (p : PairValue) (side : Side) → HasMinutes (suc n) p side →
-    (clock p side +ℤ pos (60_000_000 + n * 60_000_000)) ≤ℤ pos last_moment
-minute_of n p side m = subst (λ (k : ℕ). (clock p side +ℤ pos k) ≤ℤ pos last_moment) (one_minute n) m.left
+minutes_of : (n : ℕ) (p : PairValue) (side : Side) → HasMinutes (suc n) p side →
+    (clock p side +ℤ pos (120_000_000 + n * 120_000_000)) ≤ℤ pos last_moment
+minutes_of n p side m = subst (λ (k : ℕ). (clock p side +ℤ pos k) ≤ℤ pos last_moment) (two_minutes n) m.left
 
 later_clock : (n : ℕ) (p q : PairValue) (side : Side) → HasMinutes (suc n) p side → clock p side ≤ℤ clock q side →
-    clock q side ≤ℤ (clock p side +ℤ pos 60_000_000) → HasMinutes n q side
+    clock q side ≤ℤ (clock p side +ℤ pos 120_000_000) → HasMinutes n q side
 later_clock n p q side m a b = record {
   begun = upto_int (pos 0) (clock p side) (clock q side) m.begun a;
-  left = less_time (clock p side) (clock q side) (pos last_moment) (n * 60_000_000) b (minute_of n p side m);
+  left = less_time (clock p side) (clock q side) (pos last_moment) (n * 120_000_000) b (minutes_of n p side m);
 }
+
+-- when it is asked first
+module _ (n : ℕ) (p : PairValue) (side : Side) (r : IsReached p) (m : HasMinutes (suc n) p side) where
+  first_after : clock p side ≤ℤ restart_in p side
+  first_after = restart_first (clock p side) (socket_of p side).block.timers.retransmit_at
+
+  rouses : refusal (read_in p side) (Offer side (restart_in p side) false) ≡ None
+  rouses =
+      subst (λ (now : ℤ). if_so (not (may_come now (restart_in p side))) Moment ≡ None) (sym (read_clock p side side))
+      (allowed (clock p side) (restart_in p side) m.begun first_after
+      (upto_int (restart_in p side) (clock p side +ℤ pos 60_000_000) (pos last_moment) (restart_soon p side r)
+      (in_first (clock p side) (pos last_moment) (n * 120_000_000) (minutes_of n p side m))))
+
+  ry : IsReached (roused_in p side)
+  ry = roused_reached p side r rouses
+
+  abbrev second : ℤ
+  second = wake_in (roused_in p side) side
+
+  second_after : restart_in p side ≤ℤ second
+  second_after =
+      subst (λ (now : ℤ). now ≤ℤ second) (roused_clock p side)
+      (restart_first (clock (roused_in p side) side)
+      (probe_moment (socket_of (roused_in p side) side).block (queued_in (socket_of (roused_in p side) side))))
+
+  in_two : second ≤ℤ (clock p side +ℤ pos 120_000_000)
+  in_two =
+      both_minutes (clock p side) (restart_in p side) second (restart_soon p side r)
+      (subst (λ (now : ℤ). second ≤ℤ (now +ℤ pos 60_000_000)) (roused_clock p side) (wake_soon (roused_in p side) side ry))
+
+  wakes : refusal (roused_in p side) (Offer side second true) ≡ None
+  wakes =
+      subst (λ (now : ℤ). if_so (not (may_come now second)) Moment ≡ None) (sym (roused_clock p side))
+      (allowed (restart_in p side) second (upto_int (pos 0) (clock p side) (restart_in p side) m.begun first_after) second_after
+      (upto_int second (clock p side +ℤ pos 120_000_000) (pos last_moment) in_two
+      (in_both (clock p side) (pos last_moment) (n * 120_000_000) (minutes_of n p side m))))
 
 own_minutes : (n : ℕ) (p : PairValue) (side : Side) → IsReached p → HasMinutes (suc n) p side → HasMinutes n (turn_in p side) side
 own_minutes n p side r m =
-    cond_both (left_in p side == 0) p (resumed_in p side) (λ (q : PairValue). HasMinutes n q side)
-    (λ _. later_clock n p p side m (itself (clock p side)) (soon (clock p side)))
+    cond_both (waits_in p side) (woken_in p side) p (λ (q : PairValue). HasMinutes n q side)
     (λ _.
-    later_clock n p (resumed_in p side) side m
-    (subst (λ (t : ℤ). clock p side ≤ℤ t) (sym (own_clock p side)) (restart_first (clock p side) (socket_of p side).block.timers.retransmit_at))
-    (subst (λ (t : ℤ). t ≤ℤ (clock p side +ℤ pos 60_000_000)) (sym (own_clock p side)) (restart_soon p side r)))
+    later_clock n p (woken_in p side) side m
+    (subst (λ (t : ℤ). clock p side ≤ℤ t) (sym (own_clock p side))
+    (upto_int (clock p side) (restart_in p side) (second n p side r m) (first_after n p side r m) (second_after n p side r m)))
+    (subst (λ (t : ℤ). t ≤ℤ (clock p side +ℤ pos 120_000_000)) (sym (own_clock p side)) (in_two n p side r m)))
+    (λ _. later_clock n p p side m (itself (clock p side)) (soon (clock p side)))
   where
     itself : (a : ℤ) → a ≤ℤ a
     itself a = grind arith
 
-    soon : (a : ℤ) → a ≤ℤ (a +ℤ pos 60_000_000)
+    soon : (a : ℤ) → a ≤ℤ (a +ℤ pos 120_000_000)
     soon a = first_of (omega (arith, ints), grind (arith, ints))
 
 other_minutes : (n : ℕ) (p : PairValue) (side : Side) → HasMinutes n p (other side) → HasMinutes n (turn_in p side) (other side)
 other_minutes n p side m =
-    cond_both (left_in p side == 0) p (resumed_in p side) (λ (q : PairValue). HasMinutes n q (other side)) (λ _. m)
+    cond_both (waits_in p side) (woken_in p side) p (λ (q : PairValue). HasMinutes n q (other side))
     (λ _. record {
       begun = subst (λ (t : ℤ). pos 0 ≤ℤ t) (sym (other_clock p side)) m.begun;
-      left = subst (λ (t : ℤ). (t +ℤ pos (n * 60_000_000)) ≤ℤ pos last_moment) (sym (other_clock p side)) m.left;
+      left = subst (λ (t : ℤ). (t +ℤ pos (n * 120_000_000)) ≤ℤ pos last_moment) (sym (other_clock p side)) m.left;
     })
+    (λ _. m)
 
 -- A TURN
 
@@ -238,8 +319,37 @@ same_own : (p : PairValue) (side : Side) → socket_of (read_in p side) side ≡
 same_own p A = refl
 same_own p B = refl
 
-module _ (n : ℕ) (p : PairValue) (side : Side) (r : IsReached p) (s : BothStay p) (m : HasMinutes (suc n) p side) (some : 1 ≤ left_in p side)
-    (speaks : MaySpeak (read_in p side) side (restart_in p side)) where
+-- what waiting says
+record Waiting (left : ℕ) (mine theirs : Bool) : Type 0 where
+  some : 1 ≤ left
+  own : mine ≡ false
+  others : theirs ≡ false
+
+waiting : (left : ℕ) (mine theirs : Bool) → (not (left == 0) && (not mine && not theirs)) ≡ true → Waiting left mine theirs
+waiting left mine theirs e = by (left == 0) mine theirs refl e where
+  by : (none own others : Bool) → (left == 0) ≡ none → (not none && (not own && not others)) ≡ true → Waiting left own others
+  by true own others f g = clash (sym g)
+  by false true others f g = clash (sym g)
+  by false false true f g = clash (sym g)
+  by false false false f g = record { some = some_left left f; own = refl; others = refl }
+
+-- text goes in no state in which TIME-WAIT could end
+no_time_wait : (b : Block) (moment : ℤ) → sends_text b.state ≡ true → is_due moment (time_wait_end b) ≡ false
+no_time_wait b moment e = by b.state e where
+  by : (state : State) → sends_text state ≡ true → is_due moment (if is_time_wait state then b.timers.time_wait_ends else None) ≡ false
+  by In.TimeWait e = clash (sym e)
+  by other e = refl
+
+no_timeout : (b : Block) (moment : ℤ) (queued : ℕ) → b.settings.timeout ≡ None → is_due moment (timeout_end b queued) ≡ false
+no_timeout b moment queued e =
+    ap
+    (λ (t : Option ℕ).
+    is_due moment
+    (if is_some t && (not (is_closed b.state || is_time_wait b.state) && waits_for_remote b queued) then end_by b.timers.timeout_since t else None))
+    e
+
+module _ (n : ℕ) (p : PairValue) (side : Side) (r : IsReached p) (s : BothStay p) (m : HasMinutes (suc n) p side) (waits : waits_in p side ≡ true)
+    (tries : gives_up (restart_in p side) (socket_of (read_in p side) side).block (queued_in (socket_of (read_in p side) side)) ≡ false) where
   abbrev x : PairValue
   x = read_in p side
 
@@ -249,85 +359,220 @@ module _ (n : ℕ) (p : PairValue) (side : Side) (r : IsReached p) (s : BothStay
   abbrev v : TcpValue
   v = socket_of x side
 
-  abbrev w : TcpValue
-  w = socket_of x (other side)
-
   rx : IsReached x
   rx = read_reached p side r
 
   sx : BothStay x
   sx = both_on p x (read_calm p side) s
 
-  mine : is_synchronized v.block.state ≡ true
-  mine = late_on v.block.state (late_at x side sx) speaks.goes.alive
+  at_work : Waiting (left_in p side) (is_over p side) (is_over p (other side))
+  at_work = waiting (left_in p side) (is_over p side) (is_over p (other side)) waits
 
-  theirs : is_synchronized w.block.state ≡ true
-  theirs = late_on w.block.state (late_at x (other side) sx) speaks.theirs
+  alive : is_closed v.block.state ≡ false
+  alive = ap (λ (u : TcpValue). is_closed u.block.state) (same_own p side) ∙ at_work.own
+
+  mine : is_synchronized v.block.state ≡ true
+  mine = late_on v.block.state (late_at x side sx) alive
 
   own : IsOpen v.block
   own = is_open x side rx mine (of x side sx).acked
 
-  other_open : IsOpen w.block
-  other_open = is_open x (other side) rx theirs (of x (other side) sx).acked
+  owes : 1 ≤ left_of v
+  owes = subst (λ (u : TcpValue). 1 ≤ left_of u) (sym (same_own p side)) at_work.some
 
-  over : IsIdle v ⊎ HasRunOut (context_of x side t) v
+  sends : sends_text v.block.state ≡ true
+  sends = sends_there x side rx mine (of x side sx).acked owes
+
+  due : (v.block.sender.in_flight == 0) ≡ false → is_due t v.block.timers.retransmit_at ≡ true
+  due =
+      subst (λ (u : TcpValue). (u.block.sender.in_flight == 0) ≡ false → is_due t u.block.timers.retransmit_at ≡ true) (sym (same_own p side))
+      (λ e. runs_out (clock p side) (socket_of p side).block.timers.retransmit_at ((ready_side p side r).armed e))
+
+  over : StartsOver (context_of x side t) v
   over = by (v.block.sender.in_flight == 0) refl where
-    due : (v.block.sender.in_flight == 0) ≡ false → is_due t v.block.timers.retransmit_at ≡ true
-    due =
-        subst (λ (u : TcpValue). (u.block.sender.in_flight == 0) ≡ false → is_due t u.block.timers.retransmit_at ≡ true) (sym (same_own p side))
-        (λ e. runs_out (clock p side) (socket_of p side).block.timers.retransmit_at ((ready_side p side r).armed e))
+    by : (none : Bool) → (v.block.sender.in_flight == 0) ≡ none → StartsOver (context_of x side t) v
+    by true e = inl (eqb-true v.block.sender.in_flight 0 e)
+    by false e = inr (due e)
 
-    by : (none : Bool) → (v.block.sender.in_flight == 0) ≡ none → IsIdle v ⊎ HasRunOut (context_of x side t) v
-    by true e = let none = eqb-true v.block.sender.in_flight 0 e in inl (none, speaks.idle none)
-    by false e = inr (some_left v.block.sender.in_flight e, due e)
-
-  free : 1 ≤ free_in w
-  free = all (length w.received.waiting) (free_in w) (ap length (empty_after p side r)) (of x (other side) sx).room where
-    all : (waiting free : ℕ) → waiting ≡ 0 → 1 ≤ waiting + free → 1 ≤ free
-    all waiting free a b = omega arith
-
-  comes_then : refusal x (Offer side t true) ≡ None
-  comes_then =
-      subst (λ (now : ℤ). if_so (not (may_come now t)) Moment ≡ None) (sym (read_clock p side side))
-      (allowed (clock p side) t m.begun (restart_first (clock p side) (socket_of p side).block.timers.retransmit_at)
-      (upto_int t (clock p side +ℤ pos 60_000_000) (pos last_moment) (restart_soon p side r)
-      (first (clock p side) (pos last_moment) (n * 60_000_000) (minute_of n p side m))))
+  -- a timer that hasn't run out by then doesn't run
+  runs : is_due t v.block.timers.retransmit_at ≡ false → v.block.timers.retransmit_at ≡ None
+  runs =
+      subst (λ (u : TcpValue). is_due t u.block.timers.retransmit_at ≡ false → u.block.timers.retransmit_at ≡ None) (sym (same_own p side))
+      (none_runs (socket_of p side).block.timers.retransmit_at refl)
     where
-      first : (now last : ℤ) (rest : ℕ) → (now +ℤ pos (60_000_000 + rest)) ≤ℤ last → (now +ℤ pos 60_000_000) ≤ℤ last
-      first now last rest a = first_of (omega (arith, ints), grind (arith, ints))
+      none_runs : (timer : Option ℤ) → (socket_of p side).block.timers.retransmit_at ≡ timer →
+          is_due t (socket_of p side).block.timers.retransmit_at ≡ false → (socket_of p side).block.timers.retransmit_at ≡ None
+      none_runs None e f = e
+      none_runs (Some moment) e f =
+          clash (sym (runs_out (clock p side) (socket_of p side).block.timers.retransmit_at (ap is_some e)) ∙ f)
 
-  may_round : MayRound p side
-  may_round = record {
-    stream = (of x side sx).stream;
-    goes_on =
+  starts : Starts (context_of x side t) v
+  starts = record {
+    own = own;
+    owes = owes;
+    over = over;
+    goes =
         record {
-          mirrored = inl (listened_by x side sx.listened);
-          sends =
-              record {
-                own = own;
-                owes = subst (λ (u : TcpValue). 1 ≤ left_of u) (sym (same_own p side)) some;
-                over = over;
-                goes = speaks.goes;
-                window = speaks.window;
-                cwnd = speaks.cwnd;
-              };
-          theirs = other_open;
-          room = free;
-          space = speaks.space;
-          fresh =
-              ap (λ (stamp : Option TcpTimestampRepr). comes_older stamp w.block.peer.recent) (no_stamp v.block t (of x side sx).stampless);
-          answer_fresh = λ o reply offered answer.
-              stampless (offer_comes (context_at (other side) (at x.sides (other side))) w v o).answer v.block.peer.recent
-              (answer_bare (context_at (other side) (at x.sides (other side))) o.header o.segment (text_of v o) w (of x (other side) sx).stampless)
-              reply answer;
+          lasts = no_time_wait v.block t sends;
+          in_time = no_timeout v.block t (queued_in v) (of x side sx).timeout;
+          alive = alive;
+          tries = tries;
         };
-    comes = comes_then;
   }
+
+  abbrev pair : EndpointPair
+  pair = (named_in x side rx mine).0
+
+  -- the side, once it was asked
+  abbrev y : PairValue
+  y = roused_in p side
+
+  abbrev w : TcpValue
+  w = socket_of y side
+
+  abbrev u : TcpValue
+  u = socket_of y (other side)
+
+  abbrev then_at : ℤ
+  then_at = wake_in y side
+
+  asked : IsSet (context_of x side t) pair v (offer_of (context_of x side t) v).socket
+  asked =
+      asked_sets (context_of x side t) v pair (named_in x side rx mine).1 starts sends (again_sent x side rx (of x side sx).acked) runs
+
+  set : IsSet (context_of x side t) pair v w
+  set =
+      subst (λ (z : TcpValue). IsSet (context_of x side t) pair v z) (sym (roused_own p side))
+      (record {
+        none = asked.none;
+        timer = asked.timer;
+        state = asked.state;
+        syn = asked.syn;
+        past_iss = asked.past_iss;
+        names = asked.names;
+        queued = asked.queued;
+        again = asked.again;
+        set = asked.set;
+      })
+
+  reached_y : IsReached y
+  reached_y = ry n p side r m
+
+  sy : BothStay y
+  sy = both_on p y (roused_calm p side s.late) s
+
+  own_y : IsOpen w.block
+  own_y = record {
+    synchronized = ap is_synchronized set.state ∙ own.synchronized;
+    acknowledged = set.syn ∙ own.acknowledged;
+    opened = subst (λ (k : ℕ). 1 ≤ k) (sym set.past_iss) own.opened;
+  }
+
+  same_queue : queued_in w ≡ queued_in v
+  same_queue = ap (λ (q : Ring ℕ). length q.queue) set.queued
+
+  owes_y : 1 ≤ left_of w
+  owes_y =
+      subst (λ (k : ℕ). 1 ≤ k)
+      (sym (left_same v w (record { state = set.state; syn_unacked = set.syn; queued = set.queued })))
+      owes
+
+  alive_y : is_closed w.block.state ≡ false
+  alive_y = ap is_closed set.state ∙ alive
+
+  module _ (tries_on : gives_up then_at w.block (queued_in w) ≡ false) where
+    starts_y : Starts (context_of y side then_at) w
+    starts_y = record {
+      own = own_y;
+      owes = owes_y;
+      over = inl set.none;
+      goes =
+          record {
+            lasts = no_time_wait w.block then_at (ap sends_text set.state ∙ sends);
+            in_time = no_timeout w.block then_at (queued_in w) (of y side sy).timeout;
+            alive = alive_y;
+            tries = tries_on;
+          };
+    }
+
+    set_y :
+        (resends w.block ≡ true) ⊎ ((has_text w.block pair.addresses 1500 w.queued ≡ true)
+        ⊎ (is_probing w.block (queued_in w) ≡ true → is_some w.block.timers.probe_at ≡ true))
+    set_y = by set.set where
+      by :
+          (resends w.block ≡ true) ⊎ ((has_text w.block pair.addresses 1500 v.queued ≡ true)
+          ⊎ (is_probing w.block (queued_in v) ≡ true → is_some w.block.timers.probe_at ≡ true))
+          → (resends w.block ≡ true) ⊎ ((has_text w.block pair.addresses 1500 w.queued ≡ true)
+          ⊎ (is_probing w.block (queued_in w) ≡ true → is_some w.block.timers.probe_at ≡ true))
+      by (inl e) = inl e
+      by (inr (inl e)) = inr (inl (subst (λ (q : Ring ℕ). has_text w.block pair.addresses 1500 q ≡ true) (sym set.queued) e))
+      by (inr (inr e)) = inr (inr (subst (λ (k : ℕ). is_probing w.block k ≡ true → is_some w.block.timers.probe_at ≡ true) (sym same_queue) e))
+
+    -- by then the moment of a probe has come
+    come : is_probing w.block (queued_in w) ≡ true → is_some w.block.timers.probe_at ≡ true → is_due then_at w.block.timers.probe_at ≡ true
+    come probes some =
+        subst (λ (moment : Option ℤ). is_due then_at moment ≡ true) moment
+        (runs_out (clock y side) (probe_moment w.block (queued_in w)) (ap is_some moment ∙ some))
+      where
+        moment : probe_moment w.block (queued_in w) ≡ w.block.timers.probe_at
+        moment = ap (λ (test : Bool). if test then w.block.timers.probe_at else None) probes
+
+    out : SendsOut (context_of y side then_at) w (offer_of (context_of y side then_at) w)
+    out =
+        goes_then (context_of y side then_at) w pair (ap (λ (names : Names). names.pair) set.names ∙ (named_in x side rx mine).1) starts_y
+        (ap sends_text set.state ∙ sends) set.again set.none set.timer (reached_cwnd y side reached_y) set_y come
+
+    theirs : is_synchronized u.block.state ≡ true
+    theirs =
+        late_on u.block.state (late_at y (other side) sy)
+        (ap (λ (z : TcpValue). is_closed z.block.state) (roused_other p side)
+        ∙ (ap (λ (b : Block). is_closed b.state) (read_partner p side) ∙ at_work.others))
+
+    other_open : IsOpen u.block
+    other_open = is_open y (other side) reached_y theirs (of y (other side) sy).acked
+
+    free : 1 ≤ free_in u
+    free =
+        all (length u.received.waiting) (free_in u)
+        (ap (λ (z : TcpValue). length z.received.waiting) (roused_other p side) ∙ ap length (empty_after p side r)) (of y (other side) sy).room
+      where
+        all : (waiting free : ℕ) → waiting ≡ 0 → 1 ≤ waiting + free → 1 ≤ free
+        all waiting free a b = omega arith
+
+    may_ask : MayAsk p side
+    may_ask = record {
+      stream = (of y side sy).stream;
+      rouses = rouses n p side r m;
+      wakes = wakes n p side r m;
+      o = out.k;
+      reaches =
+          record {
+            mirrored = inl (listened_by y side sy.listened);
+            may =
+                record {
+                  own = own_y;
+                  theirs = other_open;
+                  over = inl set.none;
+                  offered = out.offered;
+                  kind = out.kind;
+                  some = out.some;
+                  room = free;
+                  fresh =
+                      ap (λ (stamp : Option TcpTimestampRepr). comes_older stamp u.block.peer.recent)
+                      (out.stamp ∙ no_stamp w.block then_at (of y side sy).stampless);
+                  answer_fresh = λ reply answer.
+                      stampless (offer_comes (context_at (other side) (at y.sides (other side))) u w out.k).answer w.block.peer.recent
+                      (answer_bare (context_at (other side) (at y.sides (other side))) out.k.header out.k.segment (text_of w out.k) u
+                      (of y (other side) sy).stampless)
+                      reply answer;
+                };
+          };
+    }
 
 -- ROUNDS
 
 may_turn : (n : ℕ) (p : PairValue) (side : Side) → IsReached p → BothStay p → HasMinutes (suc n) p side → SpeaksIn p side → MayTurn p side
-may_turn n p side r s m speaks some = may_round n p side r s m some (speaks some)
+may_turn n p side r s m speaks waits = may_ask n p side r s m waits (speaks waits).tries (speaks waits).tries_on
 
 record Minutes (n : ℕ) (p : PairValue) : Type 0 where
   a : HasMinutes n p A
@@ -338,41 +583,125 @@ may_rounds zero p r s m talk = tt
 may_rounds (suc n) p r s m talk =
     let first = may_turn n p A r s m.a talk.0 in
     let h = turn_in p A in
-    let a = turned p A r first in
+    let a = turned (Unit {0}) p A r s.late first (λ _. inr tt) in
     let sh = both_on p h a.calm s in
     let mh = other_minutes (suc n) p A m.b in
     let second = may_turn n h B a.reached sh mh talk.1 in
     let q = turn_in h B in
-    let b = turned h B a.reached second in (
+    let b = turned (Unit {0}) h B a.reached sh.late second (λ _. inr tt) in (
       first,
       second,
       may_rounds n q b.reached (both_on h q b.calm sh)
           (record { a = other_minutes n h B (own_minutes n p A r m.a); b = own_minutes n h B a.reached mh }) talk.2,
     )
 
-pub talks : (n : ℕ) (p : PairValue) → IsReached p → AreTalking n p → MayTalk n p → MayRounds n p
-talks n p r s talk =
-    may_rounds n p r
-    (record {
-      late = (on_late p.sides.a.socket.block.state s.a.own.synchronized, on_late p.sides.b.socket.block.state s.b.own.synchronized);
-      a = record { acked = s.a.own.acknowledged; stream = s.a.stream; room = s.a.room; stampless = s.a.stampless };
-      b = record { acked = s.b.own.acknowledged; stream = s.b.stream; room = s.b.room; stampless = s.b.stampless };
-      listened = s.listened;
-    })
-    (record { a = s.minutes_a; b = s.minutes_b }) talk
+stay : (n : ℕ) (p : PairValue) → AreTalking n p → BothStay p
+stay n p s = record {
+  late = (late_in p.sides.a.socket.block.state s.a.own.synchronized, late_in p.sides.b.socket.block.state s.b.own.synchronized);
+  a =
+      record {
+        acked = s.a.own.acknowledged;
+        stream = s.a.stream;
+        room = s.a.room;
+        timeout = s.a.timeout;
+        stampless = s.a.stampless;
+      };
+  b =
+      record {
+        acked = s.b.own.acknowledged;
+        stream = s.b.stream;
+        room = s.b.room;
+        timeout = s.b.timeout;
+        stampless = s.b.stampless;
+      };
+  listened = s.listened;
+}
 
--- where nothing is left to do nothing is asked for
-pub done_talks : (n : ℕ) (p : PairValue) → left_in p A ≡ 0 → left_in p B ≡ 0 → MayTalk n p
+pub talks : (n : ℕ) (p : PairValue) → IsReached p → AreTalking n p → MayTalk n p → MayRounds n p
+talks n p r s talk = may_rounds n p r (stay n p s) (record { a = s.minutes_a; b = s.minutes_b }) talk
+
+pub there : (n : ℕ) (p : PairValue) → AreTalking n p → AreThere p
+there n p s = (s.a.own.synchronized, s.b.own.synchronized)
+
+-- NOBODY GIVES UP
+
+not_now : (b : Block) (now : ℤ) (queued : ℕ) → is_synchronized b.state ≡ true → b.settings.retries ≡ None → gives_up now b queued ≡ false
+not_now b now queued on none =
+    neither (is_last_timeout now b) (is_last_question now b queued)
+    (not_last (is_due now b.timers.retransmit_at) (reaches (retries_of b) (b.sender.timeouts + 1))
+    (ap (λ (limit : Option ℕ). reaches limit (b.sender.timeouts + 1)) (limit b.state on ∙ none)))
+    (not_last (is_due now (probe_moment b queued) || is_due now (keep_alive_moment b))
+    (is_due now b.timers.counts_from && reaches b.settings.retries b.sender.unanswered)
+    (not_last (is_due now b.timers.counts_from) (reaches b.settings.retries b.sender.unanswered)
+    (ap (λ (limit : Option ℕ). reaches limit b.sender.unanswered) none)))
+  where
+    neither : (a c : Bool) → a ≡ false → c ≡ false → (a || c) ≡ false
+    neither a c e f = ap (λ (t : Bool). t || c) e ∙ f
+
+    not_last : (a c : Bool) → c ≡ false → (a && c) ≡ false
+    not_last true c e = e
+    not_last false c e = refl
+
+    limit : (state : State) → is_synchronized state ≡ true →
+        (if is_opening state || is_answering state then b.settings.opening_retries else b.settings.retries) ≡ b.settings.retries
+    limit In.SynSent e = clash (sym e)
+    limit In.SynReceived e = clash (sym e)
+    limit other e = refl
+
+never_of : (p : PairValue) (side : Side) → NeverGiveUp p → (socket_of p side).block.settings.retries ≡ None
+never_of p A n = n.0
+never_of p B n = n.1
+
+never_on : (p q : PairValue) → BothCalm p q → NeverGiveUp p → NeverGiveUp q
+never_on p q c n = (c.a.retries ∙ n.0, c.b.retries ∙ n.1)
+
+patient_turn : (n : ℕ) (p : PairValue) (side : Side) → IsReached p → BothStay p → HasMinutes (suc n) p side → NeverGiveUp p → SpeaksIn p side
+patient_turn n p side r s m never waits = record {
+  tries = first;
+  tries_on =
+      not_now (socket_of (roused_in p side) side).block (wake_in (roused_in p side) side) (queued_in (socket_of (roused_in p side) side))
+      (own_y n p side r s m waits first).synchronized
+      (never_of (roused_in p side) side (never_on p (roused_in p side) (roused_calm p side s.late) never));
+}
+  where
+    first : gives_up (restart_in p side) (socket_of (read_in p side) side).block (queued_in (socket_of (read_in p side) side)) ≡ false
+    first =
+        not_now (socket_of (read_in p side) side).block (restart_in p side) (queued_in (socket_of (read_in p side) side))
+        (late_on (socket_of (read_in p side) side).block.state (late_at (read_in p side) side (both_on p (read_in p side) (read_calm p side) s))
+        (ap (λ (u : TcpValue). is_closed u.block.state) (same_own p side)
+        ∙ (waiting (left_in p side) (is_over p side) (is_over p (other side)) waits).own))
+        (never_of (read_in p side) side (never_on p (read_in p side) (read_calm p side) never))
+
+patient_rounds : (n : ℕ) (p : PairValue) → IsReached p → BothStay p → Minutes n p → NeverGiveUp p → MayTalk n p
+patient_rounds zero p r s m never = tt
+patient_rounds (suc n) p r s m never =
+    let speaks = patient_turn n p A r s m.a never in
+    let h = turn_in p A in
+    let a = turned (Unit {0}) p A r s.late (may_turn n p A r s m.a speaks) (λ _. inr tt) in
+    let sh = both_on p h a.calm s in
+    let mh = other_minutes (suc n) p A m.b in
+    let answers = patient_turn n h B a.reached sh mh (never_on p h a.calm never) in
+    let q = turn_in h B in
+    let b = turned (Unit {0}) h B a.reached sh.late (may_turn n h B a.reached sh mh answers) (λ _. inr tt) in (
+      speaks,
+      answers,
+      patient_rounds n q b.reached (both_on h q b.calm sh)
+          (record { a = other_minutes n h B (own_minutes n p A r m.a); b = own_minutes n h B a.reached mh })
+          (never_on h q b.calm (never_on p h a.calm never)),
+    )
+
+pub patient : (n : ℕ) (p : PairValue) → IsReached p → AreTalking n p → NeverGiveUp p → MayTalk n p
+patient n p r s never = patient_rounds n p r (stay n p s) (record { a = s.minutes_a; b = s.minutes_b }) never
+
+-- where nobody waits nothing is asked for
+pub done_talks : (n : ℕ) (p : PairValue) → waits_in p A ≡ false → waits_in p B ≡ false → MayTalk n p
 done_talks zero p a b = tt
 done_talks (suc n) p a b =
     let turn = nothing_turns p A a in (
-      λ some. nothing (left_in p A) a some,
-      λ some. nothing (left_in (turn_in p A) B) (ap (λ (x : PairValue). left_in x B) turn ∙ b) some,
+      λ waits. clash (sym waits ∙ a),
+      λ waits. clash (sym waits ∙ (ap (λ (x : PairValue). waits_in x B) turn ∙ b)),
       subst (MayTalk n) (sym (done_round p (a, b))) (done_talks n p a b),
     )
-  where
-    nothing : {X : Type 0} (m : ℕ) → m ≡ 0 → 1 ≤ m → X
-    nothing m e f = absurd (omega arith)
 
 -- THE END OF A STREAM
 
@@ -395,24 +724,30 @@ some_taken true e = refl
 some_taken false e = absurd (omega arith)
 
 pub fin_taken :
-    (p : PairValue) (r : IsReached p) (s : AreTalking (suc (bound p)) p) (talk : MayTalk (suc (bound p)) p) (side : Side)
+    (p : PairValue) (r : IsReached p) (s : AreTalking (bound p) p) (talk : MayTalk (bound p) p) (side : Side)
     → is_synchronized (socket_of (rounds_in (bound p) p) side).block.state ≡ true
     → is_synchronized (socket_of (rounds_in (bound p) p) (other side)).block.state ≡ true → (past_at p side).closed ≡ true
     → (socket_of (rounds_in (bound p) p) (other side)).block.receiver.took_fin ≡ true
 fin_taken p r s talk side mine theirs closed =
     some_taken (socket_of q (other side)).block.receiver.took_fin
     (text_first (left_in q side) (length (taken_list q (other side))) (one_if (socket_of q (other side)).block.receiver.took_fin) (had_in q side)
-    (length (written q side)) (one_if (past_at q side).closed) b.sum b.within (through p r m side) (taken_least q side it.reached)
+    (length (written q side)) (one_if (past_at q side).closed) b.sum b.within none (taken_least q side it.reached)
     (ap one_if ((of_side p q side it.calm).ended ∙ closed)))
   where
     q : PairValue
     q = rounds_in (bound p) p
 
-    m : MayRounds (suc (bound p)) p
-    m = talks (suc (bound p)) p r s talk
+    m : MayRounds (bound p) p
+    m = talks (bound p) p r s talk
 
     it : Ended p q
-    it = ends p r m
+    it = ends p r (there (bound p) p s) m
+
+    none : left_in q side ≡ 0
+    none = by (through p r (there (bound p) p s) m side) where
+      by : IsThrough q side → left_in q side ≡ 0
+      by (inl all) = all
+      by (inr over) = clash (sym over.0 ∙ not_closed (socket_of q (other side)).block.state theirs)
 
     stream : (side : Side) → HasStream (past_at p side)
     stream A = s.a.stream

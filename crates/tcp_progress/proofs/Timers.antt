@@ -28,9 +28,11 @@ use Rattle.tcp_pair_model.specs.FirstNumbers.{number_for}
 use Rattle.tcp_pair_model.specs.LossRecovery.{is_first_lost, loss_probed}
 use Rattle.tcp_pair_model.specs.Offers.{number_at, offer_choice, offer_of, offer_segment}
 use Rattle.tcp_pair_model.specs.Retries.{heard, asked, one_more}
+use Rattle.tcp_pair_model.specs.Probing.{is_probe_unset, is_probing, probe_kept, probe_started}
 use Rattle.tcp_pair_model.specs.Rules.{Choice, backed_off_now, control_for, probe_choice, resend_choice, text_choice}
 use Rattle.tcp_pair_model.specs.Segments.{ack_segment, hops_of, keep_alive_segment, reset_segment, segment, syn_segment}
-use Rattle.tcp_pair_model.specs.Settled.{end_of, nxt_moved, probed, recorded, resent, sent_as, settled, syn_went, went}
+use Rattle.tcp_pair_model.specs.Text.{fin_taken, taken_in_order}
+use Rattle.tcp_pair_model.specs.Settled.{end_of, loss_watched, nxt_moved, probed, recorded, resent, sent_as, settled, syn_went, timer_started, went}
 use Rattle.tcp_pair_model.specs.Timestamps.{echo_of, echo_taken, stamp_taken, timed_by, timed_with}
 use Rattle.tcp_pair_model.specs.Undone.{undone}
 use Rattle.tcp_pair_model.specs.Value.{TcpValue, Arrived, with_block, unoffered, ended, free_in, new_socket, queued_in, room_of, window_of}
@@ -98,14 +100,24 @@ set_good duration r e = record { least = least_good duration; timeout = both (le
 
 -- WHAT IS NEAR
 
--- of these four of a block
-pub record IsBounded (now : ℤ) (r : RoundTripValue) (runs_out draws_from : Option ℤ) : Type 0 where
+-- of these of a block
+pub record IsBounded (now : ℤ) (r : RoundTripValue) (runs_out draws_from probes_at : Option ℤ) : Type 0 where
   pub good : IsGood r
   pub timer : IsNear now 60_000_000 runs_out
   pub pause : IsNear now 1_000_000 draws_from
+  pub probe : IsNear now 60_000_000 probes_at
 
 abbrev pub Bounded : ℤ → Block → Type 0
-Bounded now b = IsBounded now b.round_trip b.timers.retransmit_at b.timers.draws_from
+Bounded now b = IsBounded now b.round_trip b.timers.retransmit_at b.timers.draws_from b.timers.probe_at
+
+-- the moment of a probe ends where it does
+kept_near : (now : ℤ) (b : Block) (queued : ℕ) → Bounded now b → Bounded now (probe_kept b queued)
+kept_near now b queued h = record {
+  good = h.good;
+  timer = h.timer;
+  pause = h.pause;
+  probe = cond_both (is_probing b queued) b.timers.probe_at None (IsNear now 60_000_000) (λ _. h.probe) (λ _. tt);
+}
 
 timeout_near : (now : ℤ) (r : RoundTripValue) → IsGood r → IsNear now 60_000_000 (Some (timeout_from now r))
 timeout_near now r g = by r.timeout g.timeout where
@@ -124,7 +136,7 @@ later_near old now duration (Some m) e n = by m n where
   by m f = first_of (omega (arith, ints), grind (arith, ints))
 
 fresh_near : (now : ℤ) (b : Block) → Bounded now (fresh_block b.settings)
-fresh_near now b = record { good = set_good b.settings.min_rto round_trip.fresh (first 1000 refl); timer = tt; pause = tt } where
+fresh_near now b = record { good = set_good b.settings.min_rto round_trip.fresh (first 1000 refl); timer = tt; pause = tt; probe = tt } where
   first : (n : ℕ) → n ≡ 1000 → n ≤ 60_000
   first n e = omega arith
 
@@ -148,6 +160,7 @@ moved_near b by queued now h = record {
       (λ _. h.timer)
       (λ _. timeout_near now (round_trip_after b by now) good)));
   pause = h.pause;
+  probe = h.probe;
 }
   where
     good : IsGood (round_trip_after b by now)
@@ -155,7 +168,7 @@ moved_near b by queued now h = record {
 
 echoed_near : (b : Block) (header : TcpHeader) (by : ℕ) (now : ℤ) → Bounded now b → Bounded now (echo_taken b header by now)
 echoed_near b header by now h =
-    record { good = echo_good b.round_trip by (echo_of b header now) h.good; timer = h.timer; pause = h.pause }
+    record { good = echo_good b.round_trip by (echo_of b header now) h.good; timer = h.timer; pause = h.pause; probe = h.probe }
 
 -- A SEGMENT COMES
 
@@ -170,17 +183,22 @@ module _ (cx : ContextValue) (ip : IpRepr) (header : TcpHeader) (bytes : List �
 
   near_drawing : (x : TcpValue) → Bounded cx.moment x.block → Drawing cx ip header bytes NearAfter x
   near_drawing x h =
-      record { answers = λ _. record { good = h.good; timer = h.timer; pause = same cx.moment }; at_once = h; pauses = h }
+      record { answers = λ _. record { good = h.good; timer = h.timer; pause = same cx.moment; probe = h.probe }; at_once = h; pauses = h }
 
   near_content : (x : TcpValue) → Bounded cx.moment x.block → Content cx ip header bytes NearAfter x
-  near_content x h =
-      record { plain = h; fin = λ _ _. h; ordered = λ _ _ _ _. h; ordered_fin = λ _ _ _ _. h; early = λ _ _ _ _. h }
+  near_content x h = record {
+    plain = kept_near cx.moment x.block (queued_in x) h;
+    fin = λ _ _. kept_near cx.moment (fin_taken x.block cx.moment) (queued_in x) h;
+    ordered = λ map _ _ _. kept_near cx.moment (taken_in_order x map).socket.block (queued_in x) h;
+    ordered_fin = λ map _ _ _. kept_near cx.moment (fin_taken (taken_in_order x map).socket.block cx.moment) (queued_in x) h;
+    early = λ _ _ _ _. kept_near cx.moment x.block (queued_in x) h;
+  }
 
   risen : (u : TcpValue) (by : ℕ) → Bounded cx.moment u.block → Bounded cx.moment (acked_open (timed cx.moment header u by) by cx.moment).block
   risen u by h =
       moved_near (timed cx.moment header u by).block by (queued_in u) cx.moment
       (echoed_near (undone u.block header by (queued_in u) cx.moment) header by cx.moment
-      (record { good = h.good; timer = h.timer; pause = h.pause }))
+      (record { good = h.good; timer = h.timer; pause = h.pause; probe = h.probe }))
 
   near_received : (u : TcpValue) → Bounded cx.moment u.block → Received cx ip header bytes NearAfter u
   near_received u h = record {
@@ -240,6 +258,9 @@ module _ (now : ℤ) (b : Block) (o : OpenOffer) (queued : ℕ) (same : o.moment
         subst (λ (t : ℤ). IsNear t 60_000_000 (Some (timeout_from o.moment (nxt_moved b (end_of b o) queued o.moment).round_trip))) same
         (timeout_near o.moment (nxt_moved b (end_of b o) queued o.moment).round_trip nxt_good));
     pause = h.pause;
+    probe =
+        cond_both (is_probing (loss_watched (timer_started (nxt_moved b (end_of b o) queued o.moment) o.moment) o.moment) queued) b.timers.probe_at None
+        (IsNear now 60_000_000) (λ _. h.probe) (λ _. tt);
   }
 
   asked_near : (b : Block) → Bounded now b → Bounded now (asked b o.moment)
@@ -269,10 +290,19 @@ sent_near now Kind.FastRetransmission b o queued same h =
       timer =
           cond_both (b.reno.recovers && is_first_lost b) None b.timers.retransmit_at (IsNear now 60_000_000) (λ _. tt) (λ _. h.timer);
       pause = h.pause;
+      probe = h.probe;
     })
 sent_near now Kind.Text b o queued same h = went_near now b o queued same h
 sent_near now Kind.Probe b o queued same h =
-    asked_near now b o queued same h (probed b (end_of b o) o.moment) (record { good = doubled b.round_trip h.good; timer = h.timer; pause = h.pause })
+    asked_near now b o queued same h (probed b (end_of b o) o.moment)
+    (record {
+      good = doubled b.round_trip h.good;
+      timer = h.timer;
+      pause = h.pause;
+      probe =
+          subst (λ (t : ℤ). IsNear t 60_000_000 (Some (timeout_from o.moment (round_trip.backed_off b.round_trip)))) same
+          (timeout_near o.moment (round_trip.backed_off b.round_trip) (doubled b.round_trip h.good));
+    })
 sent_near now Kind.KeepAlive b o queued same h = asked_near now b o queued same h b h
 sent_near now Kind.Ack b o queued same h = h
 sent_near now Kind.WindowUpdate b o queued same h = h
@@ -299,6 +329,17 @@ module _ (cx : ContextValue) (v : TcpValue) (h : Bounded cx.moment v.block) wher
   by_choice kind x pair c g =
       by_segment kind x pair (segment x.block pair cx.moment (window_of x) (control_for c (queued_in x)) (number_at x.block c.place)) c.place c.len g
 
+  -- one begins to be waited for
+  started_near : (b : Block) → Bounded cx.moment b → Bounded cx.moment (probe_started cx.moment (queued_in v) b)
+  started_near b g = record {
+    good = g.good;
+    timer = g.timer;
+    pause = g.pause;
+    probe =
+        cond_both (is_probe_unset b (queued_in v)) (Some (timeout_from cx.moment b.round_trip)) b.timers.probe_at (IsNear cx.moment 60_000_000)
+        (λ _. timeout_near cx.moment b.round_trip g.good) (λ _. g.probe);
+  }
+
   near_first : (pair : EndpointPair) (b : Block) → Bounded cx.moment b → FirstRules cx pair Both (with_block (unoffered v) b)
   near_first pair b g = record {
     syn = λ _. by_segment Kind.Syn w pair (syn_segment b pair cx.moment cx.ip_mtu (room_of v.received) (free_in v)) 0 0 g;
@@ -306,12 +347,13 @@ module _ (cx : ContextValue) (v : TcpValue) (h : Bounded cx.moment v.block) wher
     text = λ _ _. by_choice Kind.Text w pair (text_choice b pair.addresses cx.ip_mtu v.queued) g;
     last = λ _.
         record {
-          probe = λ _ _. by_choice Kind.Probe x pair probe_choice g;
-          held_back = λ _ _. by_choice Kind.Text x pair (text_choice x.block pair.addresses cx.ip_mtu v.queued) g;
-          ack = λ _. by_segment Kind.Ack x pair (ack_segment x.block pair cx.moment (window_of x)) 0 0 g;
-          update = λ _ _. by_segment Kind.WindowUpdate x pair (ack_segment x.block pair cx.moment (window_of x)) 0 0 g;
-          keep_alive = λ _ _. by_segment Kind.KeepAlive x pair (keep_alive_segment x.block pair cx.moment (window_of x)) 0 1 g;
-          quiet = λ _. (g, g);
+          probe = λ _ _. by_choice Kind.Probe x pair probe_choice (started_near b g);
+          held_back = λ _ _. by_choice Kind.Text x pair (text_choice x.block pair.addresses cx.ip_mtu v.queued) (started_near b g);
+          ack = λ _. by_segment Kind.Ack x pair (ack_segment x.block pair cx.moment (window_of x)) 0 0 (started_near b g);
+          update = λ _ _. by_segment Kind.WindowUpdate x pair (ack_segment x.block pair cx.moment (window_of x)) 0 0 (started_near b g);
+          keep_alive = λ _ _.
+              by_segment Kind.KeepAlive x pair (keep_alive_segment x.block pair cx.moment (window_of x)) 0 1 (started_near b g);
+          quiet = λ _. (started_near b g, started_near b g);
         };
   }
     where
@@ -334,7 +376,12 @@ module _ (cx : ContextValue) (v : TcpValue) (h : Bounded cx.moment v.block) wher
         over = λ _ _ _. (h, h);
         backs = λ pair _ _ _.
             near_first pair (backed_off_now (begun cx v))
-            (record { good = untimed_good (round_trip.backed_off v.block.round_trip) (doubled v.block.round_trip h.good); timer = tt; pause = h.pause });
+            (record {
+              good = untimed_good (round_trip.backed_off v.block.round_trip) (doubled v.block.round_trip h.good);
+              timer = tt;
+              pause = h.pause;
+              probe = h.probe;
+            });
         probes = λ pair _ _ _ _. near_first pair (loss_probed (begun cx v)) h;
         goes = λ pair _ _ _. near_first pair (begun cx v) h;
       })
@@ -389,7 +436,7 @@ event_near now v (Sets (Paused paused)) at h = h
 event_near now v (Sets (Retries limit)) at h = h
 event_near now v (Sets (Congestion control)) at h = h
 event_near now v (Sets (MinRto duration)) at h =
-    record { good = set_good duration v.block.round_trip h.good.timeout; timer = h.timer; pause = h.pause }
+    record { good = set_good duration v.block.round_trip h.good.timeout; timer = h.timer; pause = h.pause; probe = h.probe }
 
 pub new_near : (now : ℤ) (room : ℕ) (ring : Ring ℕ) → Bounded now (new_socket room ring).block
 new_near now room ring = fresh_near now (new_socket room ring).block

@@ -1,19 +1,14 @@
--- Both ways of a connection get through: a side's turn brings its own way on, and leaves the other where it is or further.
-use Rattle.std.proofs.Common.{◌≡◌, ◌⊎◌, inl, inr, ℕ, zero, suc, ◌+◌, ◌-◌, ◌^◌, ◌<◌, ◌≤◌, ◌==◌, min, ℤ, Bool, true, false, if◌then◌else◌}
+-- A turn of a side brings its own way on, and leaves the other where it is or further: what an exchange and a reading leave.
+use Rattle.std.proofs.Common.{◌≡◌, ℕ, zero, suc, ◌+◌, ◌-◌, ◌^◌, ◌≤◌, min, ℤ, Bool, true, false}
 use Rattle.std.proofs.Common.{List, ◌++◌, length, take, drop, Option, Some, None, Result, Ok, Err, slice_get, refl, sym, ap, ◌∙◌, subst, arith}
 use Rattle.std.proofs.Common.{length-append, length-take, length-drop}
-use Rattle.std.proofs.lemmas.Bool.{cond_both, eqb-true, eq-eqb}
-use Rattle.ip_wire.specs.Seq.{distance_of}
-use Rattle.ip_wire.specs.SeqNumber.{SeqNumber}
+use Rattle.std.proofs.lemmas.Bool.{cond_both}
 use Rattle.tcp_law.specs.Invariant.{IsInStep}
 use Rattle.tcp_law.specs.Side.{taken_in as bytes_in, one_if as one_in}
 use Rattle.tcp_tie.specs.Tie.{Past, Keeps, core_of}
 use Rattle.tcp_tie.proofs.PromiseLemmas.{Shows, shows}
-use Rattle.tcp_rules.specs.OpenOffer.{OpenOffer}
 use Rattle.tcp_rules.specs.RecvError.{RecvError}
 use Rattle.tcp_rules.specs.RecvError.TheVariants as Refuses
-use Rattle.tcp_rules.specs.State.{State}
-use Rattle.tcp_rules.specs.State.TheVariants as In
 use Rattle.tcp_rules.specs.States.{is_closed}
 use Rattle.tcp_rules.proofs.OrderSteps.{clash}
 use Rattle.tcp_pair_model.specs.Arrival.{arrives}
@@ -34,20 +29,18 @@ use Rattle.tcp_pair_model.specs.declared.event.SentSegment.{SentSegment}
 use Rattle.tcp_pair_model.specs.declared.event.Side.{Side}
 use Rattle.tcp_pair_model.specs.declared.event.Side.TheVariants.{A, B}
 use Rattle.tcp_progress.specs.Arrivals.{is_synchronized}
-use Rattle.tcp_progress.specs.BothWays.{IsThrough, MayRounds, MayTurn, bound, both_read, round_in, rounds_in, to_do_for, total_in, turn_in}
-use Rattle.tcp_progress.specs.Pair.{HasStream, MayExchangeIn, exchanged_in, left_in, next_sent, offered_in, socket_of}
+use Rattle.tcp_progress.specs.BothWays.{total_in}
+use Rattle.tcp_progress.specs.Pair.{HasStream, exchanged_in, left_in, next_sent, offered_in, socket_of}
 use Rattle.tcp_progress.specs.Positions.{LiesWithin}
 use Rattle.tcp_progress.specs.Reached.{IsReached}
 use Rattle.tcp_progress.specs.Rounds.{comes, takes}
 use Rattle.tcp_progress.specs.Sent.{is_early, taken_in}
-use Rattle.tcp_progress.specs.Settle.{MayRound, read_in, restart_in, resumed_in}
+use Rattle.tcp_progress.specs.Settle.{read_in}
 use Rattle.tcp_progress.proofs.Calm.{IsCalm, load_of, calm, arrival_calm, offer_calm}
 use Rattle.tcp_progress.proofs.Kept.{reached_keeps}
-use Rattle.tcp_progress.proofs.OfItself.{leads_of_itself, may_exchange, sends_in}
-use Rattle.tcp_progress.proofs.Pair.{HasLess, HasSome, HasTaken, HasTold, below_quarter, further, had_in, has_some, in_step, reached_moved, still_open}
+use Rattle.tcp_progress.proofs.Pair.{had_in, in_step}
 use Rattle.tcp_progress.proofs.Positions.{IsPlaced, lies_within, placed, same_one}
 use Rattle.tcp_progress.proofs.WindowPairs.{read_room}
-use Rattle.tcp_progress.proofs.Settles.{read_all, read_partner, read_reached, some_left}
 
 -- WHAT A TURN LEAVES
 
@@ -63,6 +56,8 @@ pub record SideCalm (p q : PairValue) (side : Side) : Type 0 where
   pub acked : (socket_of p side).block.sender.syn_unacked ≡ false → (socket_of q side).block.sender.syn_unacked ≡ false
   pub room : room_of (socket_of q side).received ≡ room_of (socket_of p side).received
   pub stamps : (socket_of q side).block.peer.timestamps ≡ (socket_of p side).block.peer.timestamps
+  pub timeout : (socket_of q side).block.settings.timeout ≡ (socket_of p side).block.settings.timeout
+  pub retries : (socket_of q side).block.settings.retries ≡ (socket_of p side).block.settings.retries
 
 pub record BothCalm (p q : PairValue) : Type 0 where
   pub a : SideCalm p q A
@@ -74,13 +69,13 @@ IsLate p = (is_early p.sides.a.socket.block.state ≡ false) × (is_early p.side
 pub late_after : (p q : PairValue) → BothCalm p q → IsLate p → IsLate q
 late_after p q c late = (c.a.early late.0, c.b.early late.1)
 
-same : (n : ℕ) → n ≤ n
+pub same : (n : ℕ) → n ≤ n
 same n = omega arith
 
 upto : (a b c : ℕ) → a ≤ b → b ≤ c → a ≤ c
 upto a b c e f = omega arith
 
-still_calm : (p : PairValue) (side : Side) → SideCalm p p side
+pub still_calm : (p : PairValue) (side : Side) → SideCalm p p side
 still_calm p side = record {
   early = λ e. e;
   closed = λ e. e;
@@ -92,6 +87,8 @@ still_calm p side = record {
   acked = λ e. e;
   room = refl;
   stamps = refl;
+  timeout = refl;
+  retries = refl;
 }
 
 next_calm : (p q r : PairValue) (side : Side) → SideCalm p q side → SideCalm q r side → SideCalm p r side
@@ -106,9 +103,11 @@ next_calm p q r side c d = record {
   acked = λ e. d.acked (c.acked e);
   room = d.room ∙ c.room;
   stamps = d.stamps ∙ c.stamps;
+  timeout = d.timeout ∙ c.timeout;
+  retries = d.retries ∙ c.retries;
 }
 
-both_next : (p q r : PairValue) → BothCalm p q → BothCalm q r → BothCalm p r
+pub both_next : (p q r : PairValue) → BothCalm p q → BothCalm q r → BothCalm p r
 both_next p q r c d = record { a = next_calm p q r A c.a d.a; b = next_calm p q r B c.b d.b }
 
 acks : (old new : Bool) → one_if new ≤ one_if old → old ≡ false → new ≡ false
@@ -116,7 +115,7 @@ acks true new e f = clash f
 acks false true e f = absurd (omega arith)
 acks false false e f = refl
 
-side_calm : (p q : PairValue) (side : Side) → at (pasts q.history) side ≡ at (pasts p.history) side →
+pub side_calm : (p q : PairValue) (side : Side) → at (pasts q.history) side ≡ at (pasts p.history) side →
     IsCalm (load_of (socket_of p side)) (load_of (socket_of q side)) → SideCalm p q side
 side_calm p q side past c = record {
   early = c.early;
@@ -134,6 +133,8 @@ side_calm p q side past c = record {
   acked = acks (socket_of p side).block.sender.syn_unacked (socket_of q side).block.sender.syn_unacked c.syn;
   room = c.room;
   stamps = c.stamps;
+  timeout = c.timeout;
+  retries = c.retries;
 }
   where
     more :
@@ -188,7 +189,7 @@ all_come (suc n) from k p late =
     both_next p (takes p (Deliver from k)) (comes n from (suc k) (takes p (Deliver from k))) first
     (all_come n from (suc k) (takes p (Deliver from k)) (late_after p (takes p (Deliver from k)) first late))
 
-exchanged : (p : PairValue) (side : Side) (moment : ℤ) → IsLate p → BothCalm p (exchanged_in p side moment)
+pub exchanged : (p : PairValue) (side : Side) (moment : ℤ) → IsLate p → BothCalm p (exchanged_in p side moment)
 exchanged p side moment late =
     let q = takes p (Offer side moment true) in
     let r = offered_in p side moment in
@@ -262,6 +263,8 @@ by_reading p q side block queue taken room past = record {
   acked = λ e. ap (λ (b : Block). b.sender.syn_unacked) block ∙ e;
   room = room;
   stamps = ap (λ (b : Block). b.peer.timestamps) block;
+  timeout = ap (λ (b : Block). b.settings.timeout) block;
+  retries = ap (λ (b : Block). b.settings.retries) block;
 }
   where
     more : (a b c d : ℕ) → d ≡ c → a ≤ b → a + c ≤ b + d
@@ -345,332 +348,3 @@ balance p side r stream mine theirs = record {
         (una had left irs iss written closed bytes fin : ℕ) {ended text last : ℕ} → una + had ≡ suc irs + bytes + fin → una + left ≡ suc iss + written + closed
         → irs ≡ iss → closed ≡ ended → bytes ≡ text → fin ≡ last → left + (text + last) ≡ had + (written + ended)
     by una had left irs iss written closed bytes fin a b c d e f = omega arith
-
--- A TURN
-
-pub on_late : (state : State) → is_synchronized state ≡ true → is_early state ≡ false
-on_late In.Closed e = clash (sym e)
-on_late In.Listen e = clash (sym e)
-on_late In.SynSent e = clash (sym e)
-on_late In.SynReceived e = clash (sym e)
-on_late other e = refl
-
-pub late_on : (state : State) → is_early state ≡ false → is_closed state ≡ false → is_synchronized state ≡ true
-late_on In.Closed e f = clash f
-late_on In.Listen e f = clash e
-late_on In.SynSent e f = clash e
-late_on In.SynReceived e f = clash e
-late_on other e f = refl
-
-abbrev pub IsOver : PairValue → Side → Type 0
-IsOver p side = is_closed (socket_of p side).block.state ≡ true
-
--- there was nothing to do; or there is less to do; or the partner's connection is over
-abbrev pub Leaves : PairValue → PairValue → Side → Type 0
-Leaves p q side = ((left_in p side ≡ 0) × (q ≡ p)) ⊎ ((to_do_for q side < to_do_for p side) ⊎ IsOver q (other side))
-
-pub record Turned (p q : PairValue) (side : Side) : Type 0 where
-  pub reached : IsReached q
-  pub calm : BothCalm p q
-  pub leaves : Leaves p q side
-
-total_same : (p q : PairValue) (side : Side) → BothCalm p q → total_in q side ≡ total_in p side
-total_same p q side c =
-    let it = of_side p q side c in
-    ap (λ (xs : List ℕ). length xs + one_if (past_at q side).closed) it.written
-    ∙ ap (λ (t : Bool). length (written p side) + one_if t) it.ended
-
-pub stream_still : (p q : PairValue) (side : Side) → BothCalm p q → HasStream (past_at p side) → HasStream (past_at q side)
-stream_still p q side c (inl unclosed) = inl ((of_side p q side c).ended ∙ unclosed)
-stream_still p q side c (inr wrote) = inr (subst (λ (xs : List ℕ). 1 ≤ length xs) (sym (of_side p q side c).written) wrote)
-
-pub late_of : (p : PairValue) (side : Side) → is_early (socket_of p side).block.state ≡ false →
-    is_early (socket_of p (other side)).block.state ≡ false → IsLate p
-late_of p A mine theirs = (mine, theirs)
-late_of p B mine theirs = (theirs, mine)
-
-module _ (p : PairValue) (side : Side) (r : IsReached p) (m : MayRound p side) where
-  abbrev x : PairValue
-  x = read_in p side
-
-  abbrev t : ℤ
-  t = restart_in p side
-
-  abbrev q : PairValue
-  q = resumed_in p side
-
-  rx : IsReached x
-  rx = read_reached p side r
-
-  abbrev o : OpenOffer
-  o = (sends_in x side t rx m.goes_on.sends).k
-
-  may : MayExchangeIn x side t o
-  may = may_exchange x side t rx m.goes_on
-
-  late : IsLate x
-  late =
-      late_of x side (on_late (socket_of x side).block.state m.goes_on.sends.own.synchronized)
-      (on_late (socket_of x (other side)).block.state m.goes_on.theirs.synchronized)
-
-  since : BothCalm x q
-  since = exchanged x side t late
-
-  reached : IsReached q
-  reached = leads_of_itself x side t rx m.stream m.goes_on m.comes
-
-  told_less : HasTold x q side → to_do_for q side < to_do_for x side
-  told_less h =
-      by (left_in q side) (had_in x side) (left_in x side) (total_in q side) (total_in x side) (taken_in q (other side)) (taken_in x (other side)) h.left h.had
-      (total_same x q side since) (of_side x q (other side) since).taken
-    where
-      by : (new had left all total came taken : ℕ) → new + had ≡ left → 1 ≤ had → all ≡ total → taken ≤ came → new + (all - came) < left + (total - taken)
-      by new had left all total came taken a b c d = omega arith
-
-  some : HasSome x side
-  some = has_some x side t o rx m.stream may
-
-  taken_less : HasTaken x q side → IsOver q (other side) ⊎ (to_do_for q side < to_do_for x side)
-  taken_less h = at (is_closed (socket_of q (other side)).block.state) refl where
-    before : Balance x side
-    before = balance x side rx m.stream m.goes_on.sends.own.synchronized m.goes_on.theirs.synchronized
-
-    had : had_in q side ≡ had_in x side + h.more
-    had =
-        ap (λ (n : SeqNumber). distance_of n (socket_of q (other side)).block.receiver.next) h.una
-        ∙ (ap (λ (n : SeqNumber). distance_of (socket_of x side).block.sender.una n) h.next
-        ∙ further (socket_of x side).block.sender.una.0 (socket_of x (other side)).block.receiver.next.0 h.more some.una some.next
-        (below_quarter (had_in x side) (left_in x side) some.within some.few) h.few)
-
-    by :
-        (new left total came taken far had more : ℕ) {all : ℕ} → new + came ≡ far + all → left + taken ≡ had + total → new ≡ left → far ≡ had + more
-        → 1 ≤ more → all ≡ total → far ≤ new → new + (all - came) < left + (total - taken)
-    by new left total came taken far had more a b c d e f g = omega arith
-
-    at : (over : Bool) → is_closed (socket_of q (other side)).block.state ≡ over → IsOver q (other side) ⊎ (to_do_for q side < to_do_for x side)
-    at true e = inl e
-    at false e =
-        let after =
-        balance q side reached (stream_still x q side since m.stream) (ap is_synchronized h.state ∙ m.goes_on.sends.own.synchronized)
-        (late_on (socket_of q (other side)).block.state
-        ((of_side x q (other side) since).early (on_late (socket_of x (other side)).block.state m.goes_on.theirs.synchronized)) e) in
-        inr
-        (by (left_in q side) (left_in x side) (total_in x side) (taken_in q (other side)) (taken_in x (other side)) (had_in q side) (had_in x side) h.more
-        after.sum before.sum h.left had h.some (total_same x q side since) after.within)
-
-  -- with the reading before it
-  whole : BothCalm p q
-  whole = both_next p x q (read_calm p side) since
-
-  less_in_all : to_do_for q side < to_do_for x side → to_do_for q side < to_do_for p side
-  less_in_all e =
-      by (to_do_for q side) (left_in x side) (left_in p side) (total_in x side) (total_in p side) (taken_in x (other side)) (taken_in p (other side)) e
-      (of_side p x side (read_calm p side)).left (total_same p x side (read_calm p side)) (of_side p x (other side) (read_calm p side)).taken
-    where
-      by :
-          (now left before all total came taken : ℕ) → now < left + (all - came) → left ≤ before → all ≡ total → taken ≤ came
-          → now < before + (total - taken)
-      by now left before all total came taken a b c d = omega arith
-
-  leaves : HasLess x q side → Leaves p q side
-  leaves (inl h) = at (taken_less h) where
-    at : IsOver q (other side) ⊎ (to_do_for q side < to_do_for x side) → Leaves p q side
-    at (inl over) = inr (inr over)
-    at (inr less) = inr (inl (less_in_all less))
-  leaves (inr (inl h)) = inr (inl (less_in_all (told_less h)))
-  leaves (inr (inr over)) = inr (inr over)
-
-  resumed : Turned p q side
-  resumed = record { reached = reached; calm = whole; leaves = leaves (reached_moved x side t o rx m.stream may).less }
-
-pub nothing_turns : (p : PairValue) (side : Side) → left_in p side ≡ 0 → turn_in p side ≡ p
-nothing_turns p side none = ap (λ (t : Bool). if t then p else resumed_in p side) (eq-eqb (left_in p side) 0 none)
-
-pub turned : (p : PairValue) (side : Side) → IsReached p → MayTurn p side → Turned p (turn_in p side) side
-turned p side r m = at (left_in p side == 0) refl where
-  at : (none : Bool) → (left_in p side == 0) ≡ none → Turned p (if none then p else resumed_in p side) side
-  at true e = record {
-    reached = r;
-    calm = record { a = still_calm p A; b = still_calm p B };
-    leaves = inl (eqb-true (left_in p side) 0 e, refl);
-  }
-  at false e = resumed p side r (m (some_left (left_in p side) e))
-
--- ROUNDS
-
-to_do_falls : (p q : PairValue) (side : Side) → BothCalm p q → to_do_for q side ≤ to_do_for p side
-to_do_falls p q side c =
-    by (left_in q side) (left_in p side) (total_in q side) (total_in p side) (taken_in q (other side)) (taken_in p (other side)) (of_side p q side c).left
-    (total_same p q side c) (of_side p q (other side) c).taken
-  where
-    by : (new left all total came taken : ℕ) → new ≤ left → all ≡ total → taken ≤ came → new + (all - came) ≤ left + (total - taken)
-    by new left all total came taken a b c = omega arith
-
-abbrev pub IsDone : PairValue → Type 0
-IsDone p = IsThrough p A × IsThrough p B
-
--- nothing is left to do, or there is less, or a connection is over
-abbrev Outcome : PairValue → PairValue → Type 0
-Outcome p q = IsDone p ⊎ ((bound q < bound p) ⊎ (IsOver q A ⊎ IsOver q B))
-
-record Rounded (p q : PairValue) : Type 0 where
-  reached : IsReached q
-  calm : BothCalm p q
-  leaves : Outcome p q
-
-rounded : (p : PairValue) → IsReached p → MayTurn p A → MayTurn (turn_in p A) B → Rounded p (round_in p)
-rounded p r first second = record {
-  reached = b.reached;
-  calm = both_next p h q a.calm b.calm;
-  leaves = by_first a.leaves;
-}
-  where
-    h : PairValue
-    h = turn_in p A
-
-    q : PairValue
-    q = turn_in h B
-
-    a : Turned p h A
-    a = turned p A r first
-
-    b : Turned h q B
-    b = turned h B a.reached second
-
-    sum_first : (a b c d : ℕ) → a < b → c ≤ d → a + c < b + d
-    sum_first a b c d e f = omega arith
-
-    sum_second : (a b c d : ℕ) → a ≤ b → c < d → a + c < b + d
-    sum_second a b c d e f = omega arith
-
-    strictly : (a b c : ℕ) → a < b → b ≤ c → a < c
-    strictly a b c e f = omega arith
-
-    below : (a b c : ℕ) → a ≤ b → b < c → a < c
-    below a b c e f = omega arith
-
-    whole : BothCalm p q
-    whole = both_next p h q a.calm b.calm
-
-    by_second : (left_in p A ≡ 0) × (h ≡ p) → Leaves h q B → Outcome p q
-    by_second none (inl nothing) = inl (none.0, subst (λ (x : PairValue). left_in x B ≡ 0) none.1 nothing.0)
-    by_second none (inr (inl less)) =
-        inr
-        (inl
-        (sum_second (to_do_for q A) (to_do_for p A) (to_do_for q B) (to_do_for p B) (to_do_falls p q A whole)
-        (strictly (to_do_for q B) (to_do_for h B) (to_do_for p B) less (to_do_falls p h B a.calm))))
-    by_second none (inr (inr over)) = inr (inr (inl over))
-
-    by_first : Leaves p h A → Outcome p q
-    by_first (inl none) = by_second none b.leaves
-    by_first (inr (inl less)) =
-        inr
-        (inl
-        (sum_first (to_do_for q A) (to_do_for p A) (to_do_for q B) (to_do_for p B)
-        (below (to_do_for q A) (to_do_for h A) (to_do_for p A) (to_do_falls h q A b.calm) less) (to_do_falls p q B whole)))
-    by_first (inr (inr over)) = inr (inr (inr (b.calm.b.closed over)))
-
--- where a connection is over no turn may be
-over_through : (p : PairValue) (side : Side) → IsOver p side ⊎ IsOver p (other side) → MayTurn p side → left_in p side ≡ 0
-over_through p side over m = at (left_in p side == 0) refl where
-  own_same : (side : Side) → (socket_of (read_in p side) side).block.state ≡ (socket_of p side).block.state
-  own_same A = refl
-  own_same B = refl
-
-  clashes : MayRound p side → IsOver p side ⊎ IsOver p (other side) → left_in p side ≡ 0
-  clashes x (inl mine) =
-      absurd (still_open (socket_of (read_in p side) side).block.state x.goes_on.sends.own.synchronized (ap is_closed (own_same side) ∙ mine))
-  clashes x (inr theirs) =
-      absurd
-      (still_open (socket_of (read_in p side) (other side)).block.state x.goes_on.theirs.synchronized
-      (ap (λ (b : Block). is_closed b.state) (read_partner p side) ∙ theirs))
-
-  at : (none : Bool) → (left_in p side == 0) ≡ none → left_in p side ≡ 0
-  at true e = eqb-true (left_in p side) 0 e
-  at false e = clashes (m (some_left (left_in p side) e)) over
-
-over_done : (p : PairValue) → IsOver p A ⊎ IsOver p B → MayTurn p A → MayTurn (turn_in p A) B → IsDone p
-over_done p over first second =
-    let a = over_through p A over first in
-    (a, over_through p B (turn_round over) (subst (λ (x : PairValue). MayTurn x B) (nothing_turns p A a) second))
-  where
-    turn_round : IsOver p A ⊎ IsOver p B → IsOver p B ⊎ IsOver p A
-    turn_round (inl a) = inr a
-    turn_round (inr b) = inl b
-
-pub done_round : (p : PairValue) → IsDone p → round_in p ≡ p
-done_round p d =
-    let first = nothing_turns p A d.0 in
-    ap (λ (x : PairValue). turn_in x B) first ∙ nothing_turns p B d.1
-
-done_rounds : (n : ℕ) (p : PairValue) → IsDone p → rounds_in n p ≡ p
-done_rounds zero p d = refl
-done_rounds (suc n) p d = ap (λ (x : PairValue). rounds_in n x) (done_round p d) ∙ done_rounds n p d
-
-pub record Ended (p q : PairValue) : Type 0 where
-  pub reached : IsReached q
-  pub calm : BothCalm p q
-  pub done : IsDone q
-
-ended_here : (n : ℕ) (p q : PairValue) → IsReached q → BothCalm p q → IsDone q → Ended p (rounds_in n q)
-ended_here n p q r c d = subst (λ (x : PairValue). Ended p x) (sym (done_rounds n q d)) (record { reached = r; calm = c; done = d })
-
-from_round :
-    (n : ℕ) (p : PairValue) → IsReached p → MayRounds (suc (suc n)) p → bound p ≤ suc n
-    → (IsReached (round_in p) → MayRounds (suc n) (round_in p) → bound (round_in p) ≤ n → Ended (round_in p) (rounds_in n (round_in p)))
-    → Ended p (rounds_in n (round_in p))
-from_round n p r m e others = by it.leaves where
-  q : PairValue
-  q = round_in p
-
-  it : Rounded p q
-  it = rounded p r m.0 m.1
-
-  fewer : (a b : ℕ) → a < b → b ≤ suc n → a ≤ n
-  fewer a b x y = omega arith
-
-  on : Ended q (rounds_in n q) → Ended p (rounds_in n q)
-  on d = record { reached = d.reached; calm = both_next p q (rounds_in n q) it.calm d.calm; done = d.done }
-
-  by : IsDone p ⊎ ((bound q < bound p) ⊎ (IsOver q A ⊎ IsOver q B)) → Ended p (rounds_in n q)
-  by (inl done) = ended_here n p q it.reached it.calm (subst IsDone (sym (done_round p done)) done)
-  by (inr (inl less)) = on (others it.reached m.2 (fewer (bound q) (bound p) less e))
-  by (inr (inr over)) = ended_here n p q it.reached it.calm (over_done q over m.2.0 m.2.1)
-
-gets : (n : ℕ) (p : PairValue) → IsReached p → MayRounds (suc n) p → bound p ≤ n → Ended p (rounds_in n p)
-gets zero p r m e =
-    record {
-      reached = r;
-      calm = record { a = still_calm p A; b = still_calm p B };
-      done = by (left_in p A) (left_in p B) (total_in p A - taken_in p B) (total_in p B - taken_in p A) e;
-    }
-  where
-    by : (a b c d : ℕ) → a + c + (b + d) ≤ 0 → (a ≡ 0) × (b ≡ 0)
-    by a b c d e = (omega arith, omega arith)
-gets (suc n) p r m e = from_round n p r m e (λ reached more few. gets n (round_in p) reached more few)
-
--- THE LAW
-
-module _ (p : PairValue) (r : IsReached p) (m : MayRounds (suc (bound p)) p) where
-  abbrev pub last : PairValue
-  last = rounds_in (bound p) p
-
-  pub ends : Ended p last
-  ends = gets (bound p) p r m (same _)
-
-  pub leads : IsReached last
-  leads = ends.reached
-
-  pub through : (side : Side) → IsThrough last side
-  through A = ends.done.0
-  through B = ends.done.1
-
-  pub all_read_in : (side : Side) → read (both_read last) (other side) ≡ written p side
-  all_read_in A = read_all last A ends.reached ends.done.0 ∙ ends.calm.a.written
-  all_read_in B =
-      let c = read_calm last A in
-      read_all (read_in last A) B (read_reached last A ends.reached) (none (left_in (read_in last A) B) (left_in last B) c.b.left ends.done.1)
-      ∙ (c.b.written ∙ ends.calm.b.written)
-    where
-      none : (a b : ℕ) → a ≤ b → b ≡ 0 → a ≡ 0
-      none a b e f = omega arith

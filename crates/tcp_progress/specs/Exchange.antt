@@ -46,6 +46,11 @@ abbrev pub HasSpace : TcpValue → TcpValue → Type 0
 HasSpace v partner =
     (distance_of v.block.receiver.next (top partner.block) ≡ 0) ⊎ (distance_of v.block.receiver.next (top partner.block) < free_in v)
 
+-- What the partner answers can lie inside the window; or the side knows of all that the partner took, so that what it sends is new, and waits
+-- for no answer at once.
+abbrev pub CanHear : TcpValue → TcpValue → Type 0
+CanHear v partner = HasSpace v partner ⊎ (partner.block.receiver.next ≡ v.block.sender.una)
+
 -- the text of an offer
 abbrev pub text_of : TcpValue → OpenOffer → List ℕ
 text_of v o = payload_of o o.kind v.queued.queue
@@ -71,12 +76,25 @@ pub record MayExchange (cx cy : ContextValue) (v partner : TcpValue) (o : OpenOf
   pub some : 1 ≤ segment_len o.segment (length (text_of v o))
   -- the partner has room for a byte
   pub room : 1 ≤ free_in partner
-  -- the answer lies inside the window
-  pub space : HasSpace v partner
+  -- the answer lies inside the window, if one is needed
+  pub space : CanHear v partner
   -- neither segment has a timestamp that is older than TS.Recent
   pub fresh : comes_older o.segment.options.timestamp partner.block.peer.recent ≡ false
   pub answer_fresh :
       (reply : Reply) → (offer_comes cy partner v o).answer ≡ Some reply → comes_older reply.segment.options.timestamp v.block.peer.recent ≡ false
+
+-- What an exchange asks for, whether or not the answer can be heard.
+pub record MayReach (cx cy : ContextValue) (u w : TcpValue) (o : OpenOffer) : Type 0 where
+  pub own : IsOpen u.block
+  pub theirs : IsOpen w.block
+  pub over : StartsOver cx u
+  pub offered : (offer_of cx u).socket.offered ≡ Some o
+  pub kind : carries o.kind ≡ true
+  pub some : 1 ≤ segment_len o.segment (length (text_of u o))
+  pub room : 1 ≤ free_in w
+  pub fresh : comes_older o.segment.options.timestamp w.block.peer.recent ≡ false
+  pub answer_fresh :
+      (reply : Reply) → (offer_comes cy w u o).answer ≡ Some reply → comes_older reply.segment.options.timestamp u.block.peer.recent ≡ false
 
 -- RCV.NXT of the partner rises, by what there is room for, and its acknowledgement is due
 pub record IsTaken (cy : ContextValue) (partner : TcpValue) (header : TcpHeader) (size : ℕ) (a : Arrived) : Type 0 where

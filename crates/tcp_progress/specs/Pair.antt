@@ -14,7 +14,7 @@ use Rattle.tcp_pair_model.specs.declared.event.Side.{Side}
 use Rattle.tcp_pair_model.specs.declared.event.PairEvent.TheVariants.{Offer, Deliver}
 use Rattle.tcp_pair_model.specs.Sides.{at, other}
 use Rattle.tcp_pair_model.specs.Values.{PairValue, context_at, past_at}
-use Rattle.tcp_progress.specs.Exchange.{MayExchange, MovesOn, left_of}
+use Rattle.tcp_progress.specs.Exchange.{MayExchange, MayReach, MovesOn, left_of}
 use Rattle.tcp_progress.specs.Reached.{IsReached}
 use Rattle.tcp_progress.specs.Rounds.{takes, comes}
 
@@ -64,6 +64,11 @@ pub record MayExchangeIn (p : PairValue) (side : Side) (moment : ℤ) (o : OpenO
   pub mirrored : OneListened p side ⊎ AreMirrored (socket_of p side).block (socket_of p (other side)).block
   pub may :
       MayExchange (context_of p side moment) (context_at (other side) (at p.sides (other side))) (socket_of p side) (socket_of p (other side)) o
+
+-- and whether or not the answer can be heard
+pub record MayReachIn (p : PairValue) (side : Side) (moment : ℤ) (o : OpenOffer) : Type 0 where
+  pub mirrored : OneListened p side ⊎ AreMirrored (socket_of p side).block (socket_of p (other side)).block
+  pub may : MayReach (context_of p side moment) (context_at (other side) (at p.sides (other side))) (socket_of p side) (socket_of p (other side)) o
 
 -- with its segment RCV.NXT of the other rises; or with the answer its SND.UNA does; or the other was in LAST-ACK, which its segment ends
 abbrev pub MovesIn : PairValue → Side → ℤ → Type 0

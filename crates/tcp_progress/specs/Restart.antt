@@ -1,6 +1,5 @@
 -- A side that starts over at SND.UNA sends of itself, where both windows let it (RFC 9293, 3.7.4 and 3.8; RFC 5681, 3.1; RFC 6298, 5.4).
-use Rattle.std.specs.Prelude.{◌≡◌, ◌⊎◌, ℕ, ◌+◌, ◌≤◌, min, max, ℤ, true, false, if◌then◌else◌, length, Some}
-use Rattle.ip_wire.specs.Seq.{distance_of}
+use Rattle.std.specs.Prelude.{◌≡◌, ◌⊎◌, ℕ, ◌≤◌, min, max, ℤ, true, false, if◌then◌else◌, length, Some}
 use Rattle.tcp_tie.specs.Context.{ContextValue}
 use Rattle.tcp_rules.specs.Ends.{GoesOn}
 use Rattle.tcp_rules.specs.Moments.{is_due}
@@ -9,23 +8,15 @@ use Rattle.tcp_rules.specs.Reply.{Reply}
 use Rattle.tcp_rules.specs.Timing.{carries}
 use Rattle.tcp_pair_model.specs.Block.{Block}
 use Rattle.tcp_pair_model.specs.Offers.{offer_of}
-use Rattle.tcp_pair_model.specs.Rules.{resends}
 use Rattle.tcp_pair_model.specs.Segments.{segment_len, stamp_of}
 use Rattle.tcp_pair_model.specs.Sides.{at, other}
 use Rattle.tcp_pair_model.specs.Timestamps.{comes_older}
-use Rattle.tcp_pair_model.specs.Value.{TcpValue, free_in, queued_in, room_of}
+use Rattle.tcp_pair_model.specs.Value.{TcpValue, free_in, queued_in}
 use Rattle.tcp_pair_model.specs.Values.{PairValue, context_at}
 use Rattle.tcp_pair_model.specs.declared.event.Side.{Side}
-use Rattle.tcp_progress.specs.Exchange.{HasSpace, IsOpen, left_of, offer_comes, text_of}
+use Rattle.tcp_progress.specs.Again.{StartsOver}
+use Rattle.tcp_progress.specs.Exchange.{IsOpen, left_of, offer_comes, text_of}
 use Rattle.tcp_progress.specs.Pair.{AreMirrored, OneListened, context_of, socket_of}
-
--- nothing is in flight, and nothing is to go again at once
-abbrev pub IsIdle : TcpValue → Type 0
-IsIdle v = (v.block.sender.in_flight ≡ 0) × (resends v.block ≡ false)
-
--- something is in flight, and its timer has run out
-abbrev pub HasRunOut : ContextValue → TcpValue → Type 0
-HasRunOut cx v = (1 ≤ v.block.sender.in_flight) × (is_due cx.moment v.block.timers.retransmit_at ≡ true)
 
 -- the congestion window then: a segment, where the timer ran out
 abbrev pub first_cwnd : ContextValue → Block → ℕ
@@ -40,7 +31,8 @@ worth_sending v = min (max 1 v.block.peer.mss) (queued_in v)
 pub record MaySend (cx : ContextValue) (v : TcpValue) : Type 0 where
   pub own : IsOpen v.block
   pub owes : 1 ≤ left_of v
-  pub over : IsIdle v ⊎ HasRunOut cx v
+  -- nothing is in flight, or the timer has run out
+  pub over : StartsOver cx v
   pub goes : GoesOn cx v
   pub window : worth_sending v ≤ v.block.peer.window
   pub cwnd : worth_sending v ≤ first_cwnd cx v.block
@@ -59,8 +51,6 @@ pub record MayGoOn (p : PairValue) (side : Side) (moment : ℤ) : Type 0 where
   pub theirs : IsOpen (socket_of p (other side)).block
   -- the partner has room for a byte
   pub room : 1 ≤ free_in (socket_of p (other side))
-  -- the answer lies inside the window
-  pub space : HasSpace (socket_of p side) (socket_of p (other side))
   -- neither segment has a timestamp that is older than TS.Recent
   pub fresh : comes_older (stamp_of (socket_of p side).block moment) (socket_of p (other side)).block.peer.recent ≡ false
   pub answer_fresh :

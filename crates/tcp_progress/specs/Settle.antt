@@ -5,6 +5,7 @@ use Rattle.tcp_pair_model.specs.Steps.{refusal}
 use Rattle.tcp_pair_model.specs.Values.{PairValue, past_at}
 use Rattle.tcp_pair_model.specs.declared.event.PairEvent.TheVariants.{Offer, Recv}
 use Rattle.tcp_pair_model.specs.declared.event.Side.{Side}
+use Rattle.tcp_progress.specs.Exchange.{CanHear}
 use Rattle.tcp_progress.specs.Pair.{HasStream, exchanged_in, left_in, socket_of}
 use Rattle.tcp_progress.specs.Restart.{MayGoOn}
 use Rattle.tcp_progress.specs.Rounds.{later_of, takes}
@@ -35,6 +36,8 @@ pub record MayRound (p : PairValue) (side : Side) : Type 0 where
   pub stream : HasStream (past_at (read_in p side) side)
   pub goes_on : MayGoOn (read_in p side) side (restart_in p side)
   pub comes : refusal (read_in p side) (Offer side (restart_in p side) true) ≡ None
+  -- the answer lies inside the window, if one is needed
+  pub space : CanHear (socket_of (read_in p side) side) (socket_of (read_in p side) (other side))
 
 -- it may in each of so many rounds, as long as something isn't acknowledged
 abbrev pub MaySettle : ℕ → PairValue → Side → Type 0

@@ -1,37 +1,38 @@
 //! That both ways of a connection get through.
 
-ghost use Rattle.std.specs.Prelude.{◌≡◌, ℕ, suc, true};
+ghost use Rattle.std.specs.Prelude.{◌≡◌, ℕ, true};
 ghost use Rattle.tcp_pair_model.specs.Safe.{read, written};
 ghost use Rattle.tcp_pair_model.specs.Sides.{other};
 ghost use Rattle.tcp_pair_model.specs.Values.{PairValue, past_at};
 ghost use Rattle.tcp_pair_model.specs.declared.event.Side.{Side};
 ghost use Rattle.tcp_progress.specs.Arrivals.{is_synchronized};
-ghost use Rattle.tcp_progress.specs.BothWays.{IsThrough, MayRounds, bound, both_read, rounds_in};
+ghost use Rattle.tcp_progress.specs.BothWays.{AreThere, IsThrough, MayRounds, bound, both_read, rounds_in};
 ghost use Rattle.tcp_progress.specs.Pair.{socket_of};
 ghost use Rattle.tcp_progress.specs.Reached.{IsReached};
-ghost use Rattle.tcp_progress.specs.Talking.{AreTalking, MayTalk};
+ghost use Rattle.tcp_progress.specs.Talking.{AreTalking, MayTalk, NeverGiveUp};
 
-/// Of a pair that events led to: rounds, in each of which both users read and each side that owes something has an exchange at the moment
-/// that its timer names. As long as it may, all that either user wrote is acknowledged after as many rounds as there are positions that
-/// aren't acknowledged or weren't taken, both ways together; and both users read all that the other wrote.
+/// Of a pair that events led to, with both connections: rounds, in each of which both users read and each side that waits has an exchange when
+/// what it waits for has come. As long as it may, all that either user wrote is acknowledged, or taken, after as many rounds as there are
+/// positions that aren't acknowledged or weren't taken, both ways together; and both users read all that the other wrote.
 pub fn both_ways_get_through()
-    ensures through { (p : PairValue) (r : IsReached p) (m : MayRounds (suc (bound p)) p) (side : Side) → IsThrough (rounds_in (bound p) p) side }
-    ensures read { (p : PairValue) (r : IsReached p) (m : MayRounds (suc (bound p)) p) (side : Side)
+    ensures through { (p : PairValue) → IsReached p → AreThere p → MayRounds (bound p) p → (side : Side) → IsThrough (rounds_in (bound p) p) side }
+    ensures read { (p : PairValue) → IsReached p → AreThere p → MayRounds (bound p) p → (side : Side)
         → read (both_read (rounds_in (bound p) p)) (other side) ≡ written p side }
-    ensures leads { (p : PairValue) (r : IsReached p) (m : MayRounds (suc (bound p)) p) → IsReached (rounds_in (bound p) p) }
+    ensures leads { (p : PairValue) → IsReached p → AreThere p → MayRounds (bound p) p → IsReached (rounds_in (bound p) p) }
 {}
 
 /// What a turn asks for follows from the beginning, but for what may fail on the way: of two sides with their connections, of which one
-/// listened, with receive buffers and clocks that don't end, each may have its exchange in every round in which nobody ends a connection,
-/// the windows let it send, and what answers it lies inside the window. So both ways get through; and where the connection isn't over by
+/// listened, with receive buffers, no user timeout and clocks that don't end, each may have its exchange in every round in which it doesn't
+/// give up, whatever both windows are: so in all, where neither ever does. So both ways get through; and where neither connection is over by
 /// then, the end of each stream that was closed has come.
 pub fn two_sides_that_talk_get_through()
+    ensures patient { (n : ℕ) (p : PairValue) → IsReached p → AreTalking n p → NeverGiveUp p → MayTalk n p }
     ensures may { (n : ℕ) (p : PairValue) → IsReached p → AreTalking n p → MayTalk n p → MayRounds n p }
-    ensures through { (p : PairValue) → IsReached p → AreTalking (suc (bound p)) p → MayTalk (suc (bound p)) p → (side : Side)
+    ensures through { (p : PairValue) → IsReached p → AreTalking (bound p) p → MayTalk (bound p) p → (side : Side)
         → IsThrough (rounds_in (bound p) p) side }
-    ensures read { (p : PairValue) → IsReached p → AreTalking (suc (bound p)) p → MayTalk (suc (bound p)) p → (side : Side)
+    ensures read { (p : PairValue) → IsReached p → AreTalking (bound p) p → MayTalk (bound p) p → (side : Side)
         → read (both_read (rounds_in (bound p) p)) (other side) ≡ written p side }
-    ensures ends { (p : PairValue) → IsReached p → AreTalking (suc (bound p)) p → MayTalk (suc (bound p)) p → (side : Side)
+    ensures ends { (p : PairValue) → IsReached p → AreTalking (bound p) p → MayTalk (bound p) p → (side : Side)
         → is_synchronized (socket_of (rounds_in (bound p) p) side).block.state ≡ true
         → is_synchronized (socket_of (rounds_in (bound p) p) (other side)).block.state ≡ true → (past_at p side).closed ≡ true
         → (socket_of (rounds_in (bound p) p) (other side)).block.receiver.took_fin ≡ true }

@@ -53,6 +53,6 @@ pub fn what_rounds_ask_for_is_met()
 /// Both ways at once are met where three bytes of each side have gone and were lost, of default sockets: twelve rounds are enough.
 pub fn what_talking_asks_for_is_met()
     ensures enough { bound both_gone ≡ 12 }
-    ensures talking { AreTalking 13 both_gone }
-    ensures turns { MayTalk 13 both_gone }
+    ensures talking { AreTalking 12 both_gone }
+    ensures turns { MayTalk 12 both_gone }
 {}

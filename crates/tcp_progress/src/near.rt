@@ -9,11 +9,14 @@ ghost use Rattle.tcp_progress.specs.Pair.{socket_of};
 ghost use Rattle.tcp_progress.specs.Reached.{IsReached};
 ghost use Rattle.tcp_progress.specs.Settle.{restart_in};
 
-/// Whatever happened to two sockets: the retransmission timer of a side runs out within a minute of its last moment, and the pause between
-/// the answers that it draws is over within a second. So the moment at which a side starts over lies within a minute.
+/// Whatever happened to two sockets: the retransmission timer of a side runs out within a minute of its last moment, the moment of a probe
+/// comes within a minute, too, and the pause between the answers that it draws is over within a second. So the moment at which a side starts
+/// over lies within a minute.
 pub fn what_a_side_waits_for_is_near()
     ensures timer { (p : PairValue) (side : Side) → IsReached p
         → IsNear (at p.sides side).moment 60_000_000 (socket_of p side).block.timers.retransmit_at }
+    ensures probe { (p : PairValue) (side : Side) → IsReached p
+        → IsNear (at p.sides side).moment 60_000_000 (socket_of p side).block.timers.probe_at }
     ensures pause { (p : PairValue) (side : Side) → IsReached p
         → IsNear (at p.sides side).moment 1_000_000 (socket_of p side).block.timers.draws_from }
     ensures restart { (p : PairValue) (side : Side) → IsReached p → restart_in p side ≤ℤ ((at p.sides side).moment +ℤ pos 60_000_000) }

@@ -2,7 +2,7 @@
 use Rattle.std.proofs.Common.{◌≡◌, ℕ, ◌+◌, ◌==◌, ◌&&◌, ◌||◌, Bool, true, false, List, [], ◌∷◌, ◌++◌, length, slice_index, Option, Some, None, IfSome}
 use Rattle.std.proofs.Common.{refl, sym, ◌∙◌}
 use Rattle.std.proofs.Common.{ap, subst}
-use Rattle.std.proofs.lemmas.List.{drop_at}
+use Rattle.std.proofs.lemmas.List.{drop_at, get_or-drop}
 use Rattle.interface_ingress.specs.Fields.{be16}
 use Rattle.interface_ingress.specs.Icmpv4Header.{Icmpv4Header}
 use Rattle.interface_ingress.specs.Icmpv6 as Icmpv6

@@ -1,4 +1,4 @@
-use Rattle.tcp_progress.proofs.Ways.{all_read_in, leads, through}
+use Rattle.tcp_progress.proofs.Turns.{all_read_in, leads, through}
 use Rattle.tcp_progress.proofs.both_ways.both_ways_get_through.Goals as goal
 
 pub returns : goal.returns

@@ -28,7 +28,7 @@ returns-clause-one c = (
           kind = refl;
           some = leb-true _ _ refl;
           room = leb-true _ _ refl;
-          space = inl refl;
+          space = inl (inl refl);
           fresh = refl;
           answer_fresh = stampless _ _ refl;
         };

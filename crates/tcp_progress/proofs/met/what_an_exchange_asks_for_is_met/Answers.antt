@@ -33,7 +33,7 @@ returns-clause-lost c = record {
         kind = refl;
         some = leb-true _ _ refl;
         room = leb-true _ _ refl;
-        space = inl refl;
+        space = inl (inl refl);
         fresh = refl;
         answer_fresh = stampless _ _ refl;
       };
@@ -51,7 +51,7 @@ returns-clause-untold c = record {
         kind = refl;
         some = leb-true _ _ refl;
         room = leb-true _ _ refl;
-        space = inl refl;
+        space = inl (inl refl);
         fresh = refl;
         answer_fresh = stampless _ _ refl;
       };

@@ -27,18 +27,18 @@ first = record {
             record {
               own = record { synchronized = refl; acknowledged = refl; opened = leb-true _ _ refl };
               owes = leb-true _ _ refl;
-              over = inr (leb-true _ _ refl, refl);
+              over = inr refl;
               goes = record { lasts = refl; in_time = refl; alive = refl; tries = refl };
               window = leb-true _ _ refl;
               cwnd = leb-true _ _ refl;
             };
         theirs = record { synchronized = refl; acknowledged = refl; opened = leb-true _ _ refl };
         room = leb-true _ _ refl;
-        space = inl refl;
         fresh = refl;
         answer_fresh = λ o reply offered answer. stampless _ _ (subst (HasNoStamp (read_in gone A)) offered refl) reply answer;
       };
   comes = refl;
+  space = inl (inl refl);
 }
 
 second : MayRound (resumed_in gone A) A
@@ -51,18 +51,18 @@ second = record {
             record {
               own = record { synchronized = refl; acknowledged = refl; opened = leb-true _ _ refl };
               owes = leb-true _ _ refl;
-              over = inr (leb-true _ _ refl, refl);
+              over = inr refl;
               goes = record { lasts = refl; in_time = refl; alive = refl; tries = refl };
               window = leb-true _ _ refl;
               cwnd = leb-true _ _ refl;
             };
         theirs = record { synchronized = refl; acknowledged = refl; opened = leb-true _ _ refl };
         room = leb-true _ _ refl;
-        space = inl refl;
         fresh = refl;
         answer_fresh = λ o reply offered answer. stampless _ _ (subst (HasNoStamp (read_in (resumed_in gone A) A)) offered refl) reply answer;
       };
   comes = refl;
+  space = inl (inl refl);
 }
 
 pub returns : goal.returns

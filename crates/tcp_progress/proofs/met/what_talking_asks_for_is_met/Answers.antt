@@ -1,50 +1,35 @@
-use Rattle.std.proofs.Common.{inl, inr, ◌≤◌, refl, arith}
-use Rattle.std.proofs.lemmas.Bool.{leb-true, ltb-true}
+use Rattle.std.proofs.Common.{◌≡◌, inl, inr, true, false, refl, sym}
+use Rattle.std.proofs.lemmas.Bool.{leb-true}
+use Rattle.tcp_rules.proofs.OrderSteps.{clash}
 use Rattle.tcp_pair_model.specs.Values.{PairValue}
 use Rattle.tcp_pair_model.specs.declared.event.Side.{Side}
 use Rattle.tcp_pair_model.specs.declared.event.Side.TheVariants.{A, B}
 use Rattle.tcp_progress.specs.BothWays.{round_in, turn_in}
 use Rattle.tcp_progress.specs.Met.{both_gone}
-use Rattle.tcp_progress.specs.Settle.{read_in, restart_in}
 use Rattle.tcp_progress.specs.Talking.{MaySpeak}
 use Rattle.tcp_progress.proofs.PairTimers.{le_of}
 use Rattle.tcp_progress.proofs.Talks.{done_talks}
 use Rattle.tcp_progress.proofs.met.what_talking_asks_for_is_met.Goals as goal
 
-never : {X : Type 0} → 1 ≤ 0 → X
-never e = absurd (omega arith)
+never : {X : Type 0} → false ≡ true → X
+never e = clash (sym e)
 
-abbrev Speaks : PairValue → Side → Type 0
-Speaks p side = MaySpeak (read_in p side) side (restart_in p side)
-
-first : Speaks both_gone A
+first : MaySpeak both_gone A
 first = record {
-  goes = record { lasts = refl; in_time = refl; alive = refl; tries = refl };
-  theirs = refl;
-  window = leb-true _ _ refl;
-  cwnd = leb-true _ _ refl;
-  idle = λ none. refl;
-  space = inr (ltb-true _ _ refl);
+  tries = refl;
+  tries_on = refl;
 }
 
-second : Speaks (turn_in both_gone A) B
+second : MaySpeak (turn_in both_gone A) B
 second = record {
-  goes = record { lasts = refl; in_time = refl; alive = refl; tries = refl };
-  theirs = refl;
-  window = leb-true _ _ refl;
-  cwnd = leb-true _ _ refl;
-  idle = λ none. refl;
-  space = inl refl;
+  tries = refl;
+  tries_on = refl;
 }
 
-third : Speaks (turn_in (round_in both_gone) A) B
+third : MaySpeak (turn_in (round_in both_gone) A) B
 third = record {
-  goes = record { lasts = refl; in_time = refl; alive = refl; tries = refl };
-  theirs = refl;
-  window = leb-true _ _ refl;
-  cwnd = leb-true _ _ refl;
-  idle = λ none. refl;
-  space = inl refl;
+  tries = refl;
+  tries_on = refl;
 }
 
 pub returns : goal.returns
@@ -57,6 +42,7 @@ returns c = record {
               own = record { synchronized = refl; acknowledged = refl; opened = leb-true _ _ refl };
               stream = inl refl;
               room = leb-true _ _ refl;
+              timeout = refl;
               stampless = refl;
             };
         b =
@@ -64,11 +50,12 @@ returns c = record {
               own = record { synchronized = refl; acknowledged = refl; opened = leb-true _ _ refl };
               stream = inl refl;
               room = leb-true _ _ refl;
+              timeout = refl;
               stampless = refl;
             };
         listened = inr refl;
         minutes_a = record { begun = le_of _ _ refl; left = le_of _ _ refl };
         minutes_b = record { begun = le_of _ _ refl; left = le_of _ _ refl };
       };
-  turns = (λ _. first, λ _. second, (λ e. never e, λ _. third, done_talks 11 (round_in (round_in both_gone)) refl refl));
+  turns = (λ _. first, λ _. second, (λ e. never e, λ _. third, done_talks 10 (round_in (round_in both_gone)) refl refl));
 }
