@@ -44,8 +44,7 @@ joins_grow firsts most hosts net next grows j = record {
   sends = λ side. let s = station hosts side in
       sender_grows (party net side) (party next side) (firsts side) s.host.inner s.host.left s.link.sent (j.out side) (grows side) (j.sends side);
   receives = λ side. let s = station hosts side in
-      receiver_grows (j.out (other side)) (j.out (other side)) (same_out (j.out (other side)))
-      (MadeBy (party net (other side))) (MadeBy (party next (other side)))
+      receiver_grows (j.out (other side)) (j.out (other side)) (same_out (j.out (other side))) (MadeBy (party net (other side))) (MadeBy (party next (other side)))
       (more_made (party net (other side)) (party next (other side)) (grows (other side)))
       s.host.inner s.host.slots s.link.waiting (j.receives side);
   counted = j.counted;

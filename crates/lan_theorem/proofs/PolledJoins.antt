@@ -110,8 +110,7 @@ module _ (firsts most : Side →
         subst (λ (x : LinkEnd). IsTied (medium_of s) (j.out side) s.link.sent linked_after.out x.sent) polled.end
         (subst (λ (m : Medium). IsTied m (j.out side) s.link.sent linked_after.out polled.port.link.sent) medium linked_after.tied)
 
-    pub polled_joins : (most' : Side → ℕ) → most (other side) ≤ most' (other side) → count_numbered linked_after.out ≤ most' side →
-        AreJoined firsts most' new next
+    pub polled_joins : (most' : Side → ℕ) → most (other side) ≤ most' (other side) → count_numbered linked_after.out ≤ most' side → AreJoined firsts most' new next
     polled_joins most' up few_after =
         acted_joins firsts most most' old new next grown side acts.rests up
         (polled_acts (party next side) (party next (other side)) (firsts side) (most' side) then_most (j.out side) (j.out (other side)) s.link.sent s s'

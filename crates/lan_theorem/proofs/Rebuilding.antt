@@ -125,8 +125,7 @@ done slots at (Ip4 link h q x) datagram p part whole =
     record { bytes = d.0; there = d.1; shape = d.2 }
 done slots at (Ip6 link h x) datagram p part whole =
     let cut = cut_v6 link h x p (is_piece_v6 h x) refl part in
-    let d = done6 link h (bytes_at at slots) datagram
-    (by_cut (is_piece_v6 h x) (rebuilt_v6 link h (bytes_at at slots)) (Some (Ip6 link h x)) datagram cut whole) in
+    let d = done6 link h (bytes_at at slots) datagram (by_cut (is_piece_v6 h x) (rebuilt_v6 link h (bytes_at at slots)) (Some (Ip6 link h x)) datagram cut whole) in
     record { bytes = d.0; there = d.1; shape = d.2 }
 
 behind : (content datagram : IncomingValue) (bytes : List ℕ) → Shape content bytes datagram → behind_header datagram ≡ bytes

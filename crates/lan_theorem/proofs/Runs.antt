@@ -100,9 +100,7 @@ module _ (starts : Starts) (net : Net) (old new : Stations) (past : List Entry) 
           (let b = w.few (other side) in omega (arith, b, exchanged_there w.most side (count_numbered out_after)))
 
       polled_numbered : count_numbered out_after ≤ numbered_by (e ∷ past) new side → (x : Side) → most' x ≤ numbered_by (e ∷ past) new x
-      polled_numbered up =
-          either_side side (λ x. most' x ≤ numbered_by (e ∷ past) new x)
-          (omega (arith, up, exchanged_here w.most side (count_numbered out_after)))
+      polled_numbered up = either_side side (λ x. most' x ≤ numbered_by (e ∷ past) new x) (omega (arith, up, exchanged_here w.most side (count_numbered out_after)))
           (let b = grows (other side) in omega (arith, b, exchanged_there w.most side (count_numbered out_after)))
 
       suffice : AreFew out_after × (count_numbered out_after ≤ numbered_by (e ∷ past) new side)

@@ -282,8 +282,7 @@ module _ (T : List ℕ → Bool) (May : IpRepr → PayloadValue → Type 0) (W :
       let caps : i.checksums ≡ sealed = so.sound.checksums in
       let piece = piece_from i c in
       let len : length (piece_frame sealed i.hardware c.to c.header piece) ≡ piece_frame_len i.hardware c.to c.header piece =
-      subst (λ (k : ChecksumCapabilities). length (piece_frame k i.hardware c.to c.header piece) ≡
-      piece_frame_len i.hardware c.to c.header piece) caps goes.1 in
+      subst (λ (k : ChecksumCapabilities). length (piece_frame k i.hardware c.to c.header piece) ≡ piece_frame_len i.hardware c.to c.header piece) caps goes.1 in
       let quiet : T (piece_frame i.checksums i.hardware c.to c.header piece) ≡ false =
       subst (λ (k : ChecksumCapabilities). T (piece_frame k i.hardware c.to c.header piece) ≡ false) (sym caps)
       (piece_quiet T May test i.hardware c.to c.header piece so.own left.there left.half.header_is len) in

@@ -150,8 +150,7 @@ module _ (made : PayloadValue → Type 0) where
     hands_by_upper hands (Bytes bytes) is = tt
 
   -- behind two headers of one key the same is read of TCP and UDP
-  hands_by_key : (h h' : Ipv4Repr) (payload : List ℕ) → Ipv4.key_of h ≡ Ipv4.key_of h' → HandsMade made (Ip.Ipv4 h') payload →
-      HandsMade made (Ip.Ipv4 h) payload
+  hands_by_key : (h h' : Ipv4Repr) (payload : List ℕ) → Ipv4.key_of h ≡ Ipv4.key_of h' → HandsMade made (Ip.Ipv4 h') payload → HandsMade made (Ip.Ipv4 h) payload
   hands_by_key h h' payload same =
       hands_by_upper (Ip.Ipv4 h) (Ip.Ipv4 h') payload payload (ap (λ (k : Ipv4FragKey). Address.Ipv4 k.src_addr) same)
       (ap (λ (k : Ipv4FragKey). Address.Ipv4 k.dst_addr) same) (ap (λ (k : Ipv4FragKey). k.protocol) same) refl

@@ -12,8 +12,7 @@ use Rattle.interface_tables.specs.declared.key.Ipv6FragKey.{Ipv6FragKey}
 use Rattle.sockets.specs.Packet.{PayloadValue}
 use Rattle.lan_theorem.specs.Link.Made.{HandsMade}
 use Rattle.lan_theorem.specs.Link.Frames.{Outgoing, IsPiece6, IsDatagramV6, IsPieceOf, AreOut, behind_fragment}
-use Rattle.lan_theorem.proofs.Link.Fragments.{piece_with, rest_of, all_of_it, atomic_is, number_is, long_is, stops_at_piece, fragment_so, fragment_slice}
-use Rattle.lan_theorem.proofs.Link.Fragments.{whole_rest}
+use Rattle.lan_theorem.proofs.Link.Fragments.{piece_with, rest_of, all_of_it, atomic_is, number_is, long_is, stops_at_piece, fragment_so, fragment_slice, whole_rest}
 use Rattle.lan_theorem.proofs.Link.Hands.{hands_v6}
 
 module _ (medium : Medium) (out : List Outgoing) (frame : List ℕ) (f : IsPiece6 medium out frame) where

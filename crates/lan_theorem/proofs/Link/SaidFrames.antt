@@ -35,8 +35,7 @@ use Rattle.lan_theorem.specs.Link.Frames.{Outgoing, medium_on, IsSlice, IsWhole6
 use Rattle.lan_theorem.specs.Link.Held.{IsForeignKey}
 use Rattle.lan_theorem.specs.Link.Sides.{IsHostFrame, IsOther, BringsNone}
 use Rattle.lan_theorem.specs.Said.{Fact, ByteAt, EndsAt, IsOf, Says, CarriesV4, CarriesV6, Carries, IsSaid}
-use Rattle.lan_theorem.proofs.Link.Behind.{with_len, packet_of_slice, piece_of_slice, count_of_slice, read_slice, read_v6, read_behind4, read_behind6}
-use Rattle.lan_theorem.proofs.Link.Behind.{none_left}
+use Rattle.lan_theorem.proofs.Link.Behind.{with_len, packet_of_slice, piece_of_slice, count_of_slice, read_slice, read_v6, read_behind4, read_behind6, none_left}
 use Rattle.lan_theorem.proofs.Link.Behind.{any_station, framed6}
 use Rattle.lan_theorem.proofs.Link.HostFrames.{uncut6}
 use Rattle.lan_theorem.proofs.Link.Hands.{no_part}
@@ -333,8 +332,7 @@ module _ (medium : Medium) (frame : List ℕ) (f : IsFrame6 medium frame) where
   IsPart6 p = part_in (Ip6 None (Ipv6.normal f.header) f.bytes) ≡ Some p
 
   -- whoever takes it, with padding, reads the packet
-  pub read6 : (hardware : HardwareAddress) (padding : List ℕ) (v : IncomingValue) → medium_on hardware ≡ medium →
-      IsIncoming hardware sealed (frame ++ padding) v
+  pub read6 : (hardware : HardwareAddress) (padding : List ℕ) (v : IncomingValue) → medium_on hardware ≡ medium → IsIncoming hardware sealed (frame ++ padding) v
       → (l : Option EthernetRepr) × (v ≡ Ip6 l (Ipv6.normal f.header) f.bytes)
   read6 hardware padding v same is =
       let w : List ℕ = Ipv6.written f.header ++ f.bytes in
@@ -435,8 +433,7 @@ TakenSo S medium frame = (hardware : HardwareAddress) (v : IncomingValue) → me
 no_piece_so : (S : FragKey → Fact → Type 0) (v : IncomingValue) → IsNoPiece v → ContentSo S (Some v)
 no_piece_so S v none p is = inl (none p is)
 
-slice_so : (S : FragKey → Fact → Type 0) (b : Bool) (q p : PieceValue) → cond b (Some q) None ≡ Some p →
-    ((fact : Fact) → Says q fact → S q.key fact) → PieceSo S p
+slice_so : (S : FragKey → Fact → Type 0) (b : Bool) (q p : PieceValue) → cond b (Some q) None ≡ Some p → ((fact : Fact) → Says q fact → S q.key fact) → PieceSo S p
 slice_so S true q p is so = let e : q ≡ p = cc in subst (PieceSo S) e (inr so)
 slice_so S false q p is so = absurd cc
 

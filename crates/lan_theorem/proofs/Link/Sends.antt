@@ -1,6 +1,5 @@
 -- What leaves a host keeps what is said of its frames.
-use Rattle.std.proofs.Common.{◌≡◌, ◌⊎◌, inl, inr, ℕ, ◌+◌, ◌^◌, ◌<◌, ◌≤◌, Bool, true, false, cond, List, [], ◌∷◌, ◌++◌, length, Option, Some, None, IfSome}
-use Rattle.std.proofs.Common.{refl, sym, ◌∙◌}
+use Rattle.std.proofs.Common.{◌≡◌, ◌⊎◌, inl, inr, ℕ, ◌+◌, ◌^◌, ◌<◌, ◌≤◌, Bool, true, false, cond, List, [], ◌∷◌, ◌++◌, length, Option, Some, None, IfSome, refl, sym, ◌∙◌}
 use Rattle.std.proofs.Common.{ap, subst, arith}
 use Rattle.std.specs.Prelude.{nat_lt}
 use Rattle.std.specs.List.{AllByRecursion}
@@ -15,12 +14,10 @@ use Rattle.interface_delivery.specs.IpRepr.TheVariants as Ip
 use Rattle.interface_ingress.specs.ArpRepr.{ArpRepr}
 use Rattle.sockets.specs.Packet.{PacketValue, PayloadValue, packet_of, payload_written}
 use Rattle.interface_tables.specs.Inner.{InnerValue, with_next_ident, with_request}
-use Rattle.interface_egress.specs.Departure.{Asks, Tells, Whole, question_frame, arp_frame, packet_frame, packet_frame_len, piece_frame, piece_frame_len}
-use Rattle.interface_egress.specs.Departure.{piece_header_len}
+use Rattle.interface_egress.specs.Departure.{Asks, Tells, Whole, question_frame, arp_frame, packet_frame, packet_frame_len, piece_frame, piece_frame_len, piece_header_len}
 use Rattle.interface_egress.specs.Departure.{target_of}
 use Rattle.interface_egress.specs.Fragments.{LeftValue, piece_room, piece_from, departure_from, cut_mtu, left_from}
-use Rattle.interface_egress.specs.GoesOut.{GoesOut, Asked, Went, WasCut, PieceGoesOut, Departs, Stays, numbered_header, numbered, after_header, cut_header}
-use Rattle.interface_egress.specs.GoesOut.{cut_of}
+use Rattle.interface_egress.specs.GoesOut.{GoesOut, Asked, Went, WasCut, PieceGoesOut, Departs, Stays, numbered_header, numbered, after_header, cut_header, cut_of}
 use Rattle.interface_egress.specs.Emits.{Emits}
 use Rattle.interface_egress.specs.Plan.{total_len, longest_cut, has_extensions, plan_of}
 use Rattle.interface_egress.specs.declared.frame.Question.{Question}
@@ -245,8 +242,7 @@ module _ (made : PayloadValue →
       count = one_at_most p going None;
       tied = tied_on i.hardware i'.hardware out with_whole d.link.sent d'.link.sent (ap (λ (x : InnerValue). x.hardware) goes.1 ∙
           after_hardware i p.header) (whole_tied to d' short kind goes.0);
-      sender = same_sender made first with_whole (after_header p.header i) i' l l' d'.link.sent d'.link.sent goes.1 same refl
-          (whole_sender to d' short kind goes.0);
+      sender = same_sender made first with_whole (after_header p.header i) i' l l' d'.link.sent d'.link.sent goes.1 same refl (whole_sender to d' short kind goes.0);
     }
     went to Outcome.Refused d' i' l' short kind goes same =
         unchanged made first 1 out i i' l l' d.link.sent d'.link.sent goes.1 same (denied d d' [] (packet_frame_len i.hardware to (numbered i p)) goes.0) s

@@ -92,6 +92,5 @@ module _ (past : List Entry) (e : Entry) (old new : Stations) (side : Side) (lea
 
     pub polled_few : (out out' : List Outgoing) → count_numbered out ≤ before →
         count_numbered out' ≤ count_numbered out + budget * (1 + sockets_in (station old side).places)
-        → IsTied (medium_of (station old side)) out (station old side).link.sent out' (station new side).link.sent →
-        AreFew out' × (count_numbered out' ≤ behind)
+        → IsTied (medium_of (station old side)) out (station old side).link.sent out' (station new side).link.sent → AreFew out' × (count_numbered out' ≤ behind)
     polled_few out out' few most tied = (omega (arith, few, most, room), omega (arith, few, tied, more_frames))

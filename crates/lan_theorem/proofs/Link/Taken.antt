@@ -1,6 +1,5 @@
 -- A host takes a frame: what it brings, whole or rebuilt, was made.
-use Rattle.std.proofs.Common.{◌≡◌, inl, inr, ℕ, ◌-◌, ◌^◌, Bool, true, false, cond, List, [], ◌∷◌, ◌++◌, length, drop, Option, Some, None, refl, sym, ◌∙◌}
-use Rattle.std.proofs.Common.{ap, subst}
+use Rattle.std.proofs.Common.{◌≡◌, inl, inr, ℕ, ◌-◌, ◌^◌, Bool, true, false, cond, List, [], ◌∷◌, ◌++◌, length, drop, Option, Some, None, refl, sym, ◌∙◌, ap, subst}
 use Rattle.std.specs.Prelude.{ℤ, nat_lt}
 use Rattle.std.specs.List.{AllByRecursion}
 use Rattle.interface_ingress.specs.HardwareAddress.{HardwareAddress}
@@ -148,8 +147,8 @@ module _ (made : PayloadValue → Type 0) (first : ℕ) (out : List Outgoing) (n
         HandsMade made (Ip.Ipv6 (record h { next_header = Protocol.Ipv6Frag; payload_len = length bytes })) bytes
     hands_by6 h n bytes (inl none) = absurd none
     hands_by6 h n bytes (inr of) =
-        hands_v6 made out (record { id = n; src_addr = h.src_addr; dst_addr = h.dst_addr })
-        (record h { next_header = Protocol.Ipv6Frag; payload_len = length bytes }) bytes sent.packets of refl refl refl
+        hands_v6 made out (record { id = n; src_addr = h.src_addr; dst_addr = h.dst_addr }) (record h { next_header = Protocol.Ipv6Frag; payload_len = length bytes })
+        bytes sent.packets of refl refl refl
 
     rebuilt6 : (link : Option EthernetRepr) (h : Ipv6Repr) (o : Option (List ℕ)) →
         ((bytes : List ℕ) → o ≡ Some bytes → HandsMade made (Ip.Ipv6 (record h { next_header = Protocol.Ipv6Frag; payload_len = length bytes })) bytes)

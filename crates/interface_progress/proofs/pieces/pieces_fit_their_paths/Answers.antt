@@ -1,4 +1,4 @@
-use Rattle.std.proofs.Common.{◌≡◌, ◌+◌, ◌≤◌, drop, refl, arith}
+use Rattle.std.proofs.Common.{◌≡◌, ℕ, ◌+◌, ◌≤◌, length, drop, refl, arith}
 use Rattle.std.proofs.lemmas.List.{length-take}
 use Rattle.interface_egress.specs.Fragments.{cut_mtu, piece_room}
 use Rattle.interface_progress.proofs.pieces.pieces_fit_their_paths.Goals as goal
