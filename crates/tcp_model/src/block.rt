@@ -147,6 +147,11 @@ pub struct Loss {
     pub probe_at: Option<Instant>,
     /// What the window was before this loss, until something new is acknowledged.
     pub undo: Option<Undo>,
+    /// How many quarters of the shortest round trip a recovery waits, since segments came out of order:
+    /// reo_wnd_mult of RFC 8985, 6.2, and none before any did.
+    pub reorderings: u8,
+    /// When a recovery that waits begins (RFC 8985, 6.2, step 5).
+    pub reorder_at: Option<Instant>,
 }
 
 /// What is undone where a loss wasn't one (RFC 4015).

@@ -363,12 +363,16 @@ impl Block {
 
     /// There were so many duplicates in a row. At the third the segment at SND.UNA is to go again, and fast
     /// recovery begins where more than `recover` is acknowledged.
-    pub fn count(&mut self, count: u8)
-        ensures { self.new ≡ counted self.old count }
+    pub fn count(&mut self, count: u8, now: Instant)
     {
-        let begins = self.begins_recovery(count);
+        let mut begins = self.begins_recovery(count);
         let again = self.is_lost_again();
-        let third = count == 3 && !self.reno.recovers();
+        let mut third = count == 3 && !self.reno.recovers();
+        if (begins || third) && self.waits_for_late() {
+            self.wait_for_late(now);
+            begins = false;
+            third = false;
+        }
         if begins {
             self.loss.undo = self.undo_begun();
         }

@@ -47,6 +47,7 @@ impl Block {
         let last = earlier_of(self.ack_moment(), last);
         let last = earlier_of(self.probe_moment(queued), last);
         let last = earlier_of(self.loss_probe_moment(), last);
+        let last = earlier_of(self.reorder_moment(), last);
         let last = earlier_of(self.timers.retransmit_at, last);
         let last = earlier_of(self.timeout_end(queued), last);
         earlier_of(self.time_wait_end(), last)

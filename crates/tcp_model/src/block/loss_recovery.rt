@@ -34,6 +34,8 @@ impl Loss {
         probed: false,
         probe_at: None,
         undo: None,
+        reorderings: 0,
+        reorder_at: None,
     };
 }
 
@@ -108,6 +110,43 @@ impl Block {
         self.loss.probes = tail;
         self.loss.probed = true;
         self.loss.probe_at = None;
+        self.loss.reorder_at = None;
+    }
+
+    /// When a recovery that waits for late segments begins.
+    pub fn reorder_moment(&self) -> Option<Instant>
+    {
+        if self.state.sends_text() && !self.sender.syn_unacked && self.sender.in_flight != 0 && self.sender.recover == 0 {
+            self.loss.reorder_at
+        } else {
+            None
+        }
+    }
+
+    /// Whether a recovery waits for late segments.
+    pub fn waits_for_late(&self) -> bool
+    {
+        self.peer.sack && self.loss.reorderings != 0 && self.sender.recover == 0
+    }
+
+    /// A recovery waits from now on, unless it does already.
+    pub fn wait_for_late(&mut self, now: Instant)
+    {
+        if self.loss.reorder_at.is_none() {
+            let shortest = self.round_trip.shortest() * 1000;
+            let least = (shortest / 4).saturating_mul(self.loss.reorderings as u64);
+            let most = self.round_trip.smoothed() * 1000;
+            self.loss.reorder_at = Some(later(now, Duration::from_micros(least.min(most))));
+        }
+    }
+
+    /// Where a recovery has waited long enough it begins.
+    pub fn begin_late(&mut self, now: Instant)
+    {
+        if is_due(now, self.reorder_moment()) {
+            self.probe();
+            self.loss.probed = false;
+        }
     }
 
     /// Where a probe is due: the last segment is to go again, or the one at SND.UNA.
@@ -366,6 +405,7 @@ impl Loss {
         self.probes = false;
         self.probed = false;
         self.undo = None;
+        self.reorder_at = None;
     }
 }
 
@@ -376,6 +416,11 @@ impl Block {
         ensures { self.new ≡ record self.old { loss = loss_acked self.old by partial now } }
     {
         if by != 0 {
+            if self.loss.resent == 0 && !self.loss.probed && self.loss.reorderings == 0 && self.sender.recover == 0
+                && !self.reno.recovers() && self.loss.board.held() != 0
+            {
+                self.loss.reorderings = 1;
+            }
             self.loss.lower(by, partial);
             self.arm_probe(now);
         }
@@ -398,6 +443,7 @@ impl Block {
         ensures { self.new ≡ record self.old { loss = loss_timed_out self.old } }
     {
         let board = self.loss.board;
+        let reorderings = self.loss.reorderings;
         let undo = if self.sender.syn_unacked {
             None
         } else {
@@ -405,6 +451,7 @@ impl Block {
         };
         self.loss = Loss::NONE;
         self.loss.board = board;
+        self.loss.reorderings = reorderings;
         self.loss.undo = undo;
     }
 }

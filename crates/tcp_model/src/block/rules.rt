@@ -323,6 +323,7 @@ impl Block {
         if is_due(now, self.timers.retransmit_at) {
             self.time_out_flight();
         } else {
+            self.begin_late(now);
             self.probe_loss(now);
         }
     }
