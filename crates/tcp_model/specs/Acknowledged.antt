@@ -7,6 +7,7 @@ use Rattle.ip_wire.specs.Options.{capped}
 use Rattle.ip_wire.specs.TcpHeader.{TcpHeader}
 use Rattle.net_base.specs.Ring.{released}
 use Rattle.tcp_model.specs.declared.block.Block.{Block}
+use Rattle.tcp_model.specs.declared.block.Loss.{Loss}
 use Rattle.tcp_model.specs.declared.block.Sender.{Sender}
 use Rattle.tcp_model.specs.declared.block.Timers.{Timers}
 use Rattle.tcp_control.specs.declared.state.State.{State}
@@ -19,7 +20,7 @@ use Rattle.tcp_control.specs.Reno.{RenoValue}
 use Rattle.tcp_control.specs.RoundTrip as round_trip
 use Rattle.tcp_control.specs.RoundTrip.{RoundTripValue, srtt}
 use Rattle.tcp_control.specs.States.{is_closed, is_time_wait, owes_fin, after_ack, after_ack_of_fin}
-use Rattle.tcp_model.specs.LossRecovery.{loss_acked, ranges_noted, is_first_lost, is_lost_again, is_lost_at, is_passed}
+use Rattle.tcp_model.specs.LossRecovery.{awaits_late, came_late, late_awaited, loss_acked, ranges_noted, is_first_lost, is_lost_again, is_lost_at, is_passed}
 use Rattle.tcp_model.specs.Timestamps.{stamp_taken}
 use Rattle.tcp_model.specs.Undo.{undo_begun}
 use Rattle.tcp_model.specs.Value.{TcpValue, queued_in}
@@ -110,9 +111,13 @@ una_risen b by queued now = record b {
   reno = reno_after b by queued now;
 }
 
+-- with what the acknowledgement tells of the order on the way
+abbrev pub loss_after : Block → ℕ → Loss → Loss
+loss_after b by l = record l { reorderings = if came_late b by then max l.reorderings 1 else l.reorderings }
+
 abbrev pub una_moved : Block → ℕ → ℕ → ℤ → Block
 una_moved b by queued now =
-    record (una_risen b by queued now) { loss = loss_acked (una_risen b by queued now) by (is_partial b by) now }
+    record (una_risen b by queued now) { loss = loss_after b by (loss_acked (una_risen b by queued now) by (is_partial b by) now) }
 
 -- the FIN is acknowledged
 abbrev pub acks_fin : Block → ℕ → ℕ → Bool
@@ -246,8 +251,8 @@ abbrev pub starts_again : Block → ℕ → Bool
 starts_again b count = begins_recovery b count || is_lost_again b
 
 -- at the third, and where recovery begins, the segment at SND.UNA is to go again
-abbrev pub counted : Block → ℕ → Block
-counted b count = record b {
+abbrev pub counted_on : Block → ℕ → Block
+counted_on b count = record b {
   sender = record b.sender {
     duplicates = count;
     resend = b.sender.resend || (is_third b count || begins_recovery b count);
@@ -260,3 +265,10 @@ counted b count = record b {
   };
   reno = reno_counted b.reno b.peer.sack count b.sender.in_flight (begins_recovery b count) (is_lost_again b);
 }
+
+-- Once something came out of order that waits (RFC 8985, 6.2, step 5).
+abbrev pub counted : Block → ℕ → ℤ → Block
+counted b count now =
+    if awaits_late b && (is_third b count || begins_recovery b count) then
+        record b { sender = record b.sender { duplicates = count }; loss = late_awaited b now }
+    else counted_on b count

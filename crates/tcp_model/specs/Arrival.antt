@@ -76,7 +76,7 @@ with_content cx v ip header bytes = finished cx v.block (with_text v header byte
 -- the window of a segment, what its ranges name, and which duplicate it is
 abbrev pub told : TcpValue → TcpHeader → ℕ → ℤ → TcpValue
 told v header duplicates now =
-    with_block v (timeout_restarted (counted (ranges_taken (window_set v.block header now) header now) duplicates) now (queued_in v))
+    with_block v (timeout_restarted (counted (ranges_taken (window_set v.block header now) header now) duplicates now) now (queued_in v))
 
 -- its acknowledgement was taken: then its window and its text are. `old` is the block as the segment found it.
 abbrev pub continued : ContextValue → Block → TcpValue → IpRepr → TcpHeader → List ℕ → ℕ → Arrived

@@ -101,6 +101,8 @@ fresh_loss = record {
   probes = false;
   probed = false;
   probe_at = None;
+  reorderings = 0;
+  waits = false;
   undo = None;
 }
 

@@ -6,7 +6,7 @@ use Rattle.ip_wire.specs.TcpHeader.{TcpHeader}
 use Rattle.tcp_control.specs.Moments.{later, is_due}
 use Rattle.tcp_control.specs.Offsets.{past_by}
 use Rattle.tcp_control.specs.Reno as reno
-use Rattle.tcp_control.specs.RoundTrip.{probe_wait}
+use Rattle.tcp_control.specs.RoundTrip.{RoundTripValue, probe_wait, shortest, srtt}
 use Rattle.tcp_control.specs.Scoreboard.{is_run, no_run, noted, after_ack, held, missing, first_missing, gap_end, held_from, is_lost, lost_end, sum_of}
 use Rattle.tcp_control.specs.States.{sends_text}
 use Rattle.tcp_control.specs.declared.scoreboard.Run.{Run}
@@ -35,7 +35,7 @@ probes_losses b = b.peer.sack && nat_lt b.settings.min_rto 1_000_000
 
 -- one goes some time from now, unless one went already since something new was acknowledged
 abbrev pub probe_armed : Block → Loss → ℤ → Loss
-probe_armed b l now = if probes_losses b && not l.probed then record l { probe_at = probe_from b now } else l
+probe_armed b l now = if probes_losses b && (not l.probed && not l.waits) then record l { probe_at = probe_from b now } else l
 
 -- while text or a FIN is in flight
 abbrev pub loss_probe_moment : Block → Option ℤ
@@ -92,6 +92,27 @@ is_passed b place = nat_lt ((threshold b - 1) * b.reno.mss) (held_from b.loss.bo
 -- what went again is lost once more
 abbrev pub is_lost_again : Block → Bool
 is_lost_again b = b.peer.sack && (b.reno.recovers && (not (b.loss.resent == 0) && is_passed b b.loss.mark))
+
+-- WHAT MAY ONLY BE LATE (RFC 8985, 6.2)
+
+-- SND.UNA rises over something that went once, though what was sent later is held: it came out of order (step 3)
+abbrev pub came_late : Block → ℕ → Bool
+came_late b by =
+    not (by == 0) && (not (b.sender.sacked == 0) && (b.peer.sack && ((b.sender.recover == 0) && ((b.loss.resent == 0) && not b.loss.probed))))
+
+-- Once something did, a recovery that would begin waits; where probes go, since it waits for the moment of one.
+abbrev pub awaits_late : Block → Bool
+awaits_late b = not (b.loss.reorderings == 0) && ((b.sender.recover == 0) && probes_losses b)
+
+-- a quarter of the shortest round trip, as often as losses were undone since, but no longer than SRTT, in microseconds (step 4, reo_wnd)
+abbrev pub reorder_wait : RoundTripValue → ℕ → ℕ
+reorder_wait r reorderings = min (shortest r * 250 * reorderings) (srtt r * 1000)
+
+-- until then, unless it waits already (step 5)
+abbrev pub late_awaited : Block → ℤ → Loss
+late_awaited b now =
+    if b.loss.waits then b.loss
+    else record b.loss { waits = true; probe_at = Some (later now (reorder_wait b.round_trip b.loss.reorderings)) }
 
 -- WHAT MAY GO
 
@@ -159,6 +180,7 @@ loss_lowered l by partial = record l {
   eager = l.eager && partial;
   probes = false;
   probed = false;
+  waits = false;
   undo = None;
 }
 
@@ -177,7 +199,7 @@ loss_resent b end = record b.loss {
 
 -- the retransmission timer ran out: what is held stays known (RFC 6675, 5.1), and so does what the window was before
 abbrev pub loss_timed_out : Block → Loss
-loss_timed_out b = record fresh_loss { board = b.loss.board; undo = if b.sender.syn_unacked then None else undo_begun b }
+loss_timed_out b = record fresh_loss { board = b.loss.board; reorderings = b.loss.reorderings; undo = if b.sender.syn_unacked then None else undo_begun b }
 
 -- A probe is due. Where nothing is held, nor was lost, the last segment is to go again (RFC 8985, 7.3). Else what isn't held is lost, and
 -- what went again, too, since nothing came of it for two round trips: the segment at SND.UNA is to go again (RFC 8985, 6.2, step 5).
@@ -196,6 +218,7 @@ loss_probed b = record b {
     probes = probes_tail b;
     probed = true;
     probe_at = None;
+    waits = false;
     undo = if not (probes_tail b) && (b.sender.recover == 0) then undo_begun b else b.loss.undo;
   };
   reno = if probes_tail b then b.reno else reno.reduced b.reno b.sender.in_flight;

@@ -43,7 +43,9 @@ undone_if needless b queued = record b {
     resend = not needless && b.sender.resend;
     recover = if needless then 0 else b.sender.recover;
   };
-  loss = record b.loss { resent = if needless then 0 else b.loss.resent; credit = if needless then 0 else b.loss.credit };
+  loss = record b.loss { resent = if needless then 0 else b.loss.resent; credit = if needless then 0 else b.loss.credit;
+    reorderings = if needless then min b.loss.reorderings 15 + 1 else b.loss.reorderings;
+  };
   reno = if needless then prior_of b.loss.undo b.reno else b.reno;
 }
 

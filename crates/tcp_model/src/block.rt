@@ -145,6 +145,11 @@ pub struct Loss {
     pub probed: bool,
     /// When a probe goes, if nothing new is acknowledged.
     pub probe_at: Option<Instant>,
+    /// How many quarters of the shortest round trip a recovery waits for what may only be late
+    /// (reo_wnd_mult of RFC 8985, 6.2), at most 16; none before anything came out of order.
+    pub reorderings: u8,
+    /// Whether a recovery waits so long, until the moment of the probe.
+    pub waits: bool,
     /// What the window was before this loss, until something new is acknowledged.
     pub undo: Option<Undo>,
 }

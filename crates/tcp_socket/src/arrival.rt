@@ -445,7 +445,7 @@ impl Socket {
     {
         self.block.set_window(header, now);
         self.block.take_ranges(header, now);
-        self.block.count(duplicates);
+        self.block.count(duplicates, now);
         self.block.restart_timeout(now, self.queued.len());
     }
 

@@ -5,7 +5,7 @@ ghost use Rattle.tcp_model.specs.Acknowledged.{freed_by, sender_moved, retransmi
 ghost use Rattle.tcp_model.specs.Acknowledged.{recovery_after, reno_after, una_moved, acks_fin, state_after_ack, in_state, block_acknowledged, scaled};
 ghost use Rattle.tcp_model.specs.Acknowledged.{acks_no_less, or_number, names_window, windowed, window_set, end_past, highest_end, sacked_by, ranges_taken};
 ghost use Rattle.tcp_model.specs.Acknowledged.{tells_of_loss, is_duplicate, duplicates_after, is_third, is_lost_since, begins_recovery};
-ghost use Rattle.tcp_model.specs.Acknowledged.{is_blind, partly_after, una_risen, reno_counted, counted};
+ghost use Rattle.tcp_model.specs.Acknowledged.{is_blind, partly_after, una_risen, reno_counted, counted_on, counted};
 
 use crate::{Block, State};
 use ip_wire::{MAX_WINDOW_SCALE, SeqNumber, TcpHeader};
@@ -79,8 +79,12 @@ impl Block {
         ensures { self.new ≡ una_moved self.old by queued now }
     {
         let partial = self.is_partial(by);
+        let late = self.came_late(by);
         self.raise_una(by, partial, queued, now);
         self.lower_loss(by, partial, now);
+        if late {
+            self.loss.reorderings = self.loss.reorderings.max(1);
+        }
     }
 
     /// The same, but for what is known of losses.
@@ -363,8 +367,22 @@ impl Block {
 
     /// There were so many duplicates in a row. At the third the segment at SND.UNA is to go again, and fast
     /// recovery begins where more than `recover` is acknowledged.
-    pub fn count(&mut self, count: u8)
-        ensures { self.new ≡ counted self.old count }
+    pub fn count(&mut self, count: u8, now: Instant)
+        requires { IsMoment now }
+        ensures { self.new ≡ counted self.old count now }
+    {
+        let third = count == 3 && !self.reno.recovers();
+        if self.awaits_late() && (third || self.begins_recovery(count)) {
+            self.await_late(now);
+            self.sender.duplicates = count;
+        } else {
+            self.count_on(count);
+        }
+    }
+
+    /// The same where nothing is waited for.
+    fn count_on(&mut self, count: u8)
+        ensures { self.new ≡ counted_on self.old count }
     {
         let begins = self.begins_recovery(count);
         let again = self.is_lost_again();

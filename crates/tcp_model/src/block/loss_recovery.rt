@@ -6,6 +6,7 @@ ghost use Rattle.tcp_model.specs.LossRecovery.{with_board, after_wait, probe_fro
 ghost use Rattle.tcp_model.specs.LossRecovery.{range_noted, all_noted};
 ghost use Rattle.tcp_model.specs.LossRecovery.{heard_more, ranges_noted, threshold, is_lost_at, is_first_lost, is_lost_again};
 ghost use Rattle.tcp_model.specs.LossRecovery.{pipe_in_recovery, pipe, next_hole};
+ghost use Rattle.tcp_model.specs.LossRecovery.{awaits_late, reorder_wait, late_awaited, came_late};
 ghost use Rattle.tcp_model.specs.LossRecovery.{is_passed, mends_lost, credited_window, mends_credited};
 ghost use Rattle.tcp_model.specs.LossRecovery.{fills_hole, again_place, hole_len, loss_lowered, loss_acked, loss_resent, loss_timed_out, probes_tail};
 ghost use Rattle.tcp_model.specs.LossRecovery.{loss_probed, loss_probed_by};
@@ -33,6 +34,8 @@ impl Loss {
         probes: false,
         probed: false,
         probe_at: None,
+        reorderings: 0,
+        waits: false,
         undo: None,
     };
 }
@@ -65,7 +68,7 @@ impl Block {
         requires { IsMoment now }
         ensures { self.new ≡ record self.old { loss = probe_armed self.old self.old.loss now } }
     {
-        if self.probes_losses() && !self.loss.probed {
+        if self.probes_losses() && !self.loss.probed && !self.loss.waits {
             self.loss.probe_at = self.probe_from(now);
         }
     }
@@ -108,6 +111,7 @@ impl Block {
         self.loss.probes = tail;
         self.loss.probed = true;
         self.loss.probe_at = None;
+        self.loss.waits = false;
     }
 
     /// Where a probe is due: the last segment is to go again, or the one at SND.UNA.
@@ -117,6 +121,51 @@ impl Block {
         if is_due(now, self.loss_probe_moment()) {
             self.probe();
         }
+    }
+}
+
+// WHAT MAY ONLY BE LATE
+
+impl Block {
+    /// Whether a recovery waits: something came out of order, and a probe's moment may be set.
+    pub fn awaits_late(&self) -> bool
+        ensures { result ≡ awaits_late self.now }
+    {
+        self.loss.reorderings != 0 && self.sender.recover == 0 && self.probes_losses()
+    }
+
+    /// How long, in microseconds.
+    fn reorder_wait(&self) -> u64
+        ensures value { result ≡ reorder_wait self.now.round_trip self.now.loss.reorderings }
+        ensures small { result < 2 ^ 62 }
+    {
+        let quarter = self.round_trip.shortest() * 250;
+        quarter
+            .saturating_mul(self.loss.reorderings as u64)
+            .min(self.round_trip.smoothed() * 1000)
+    }
+
+    /// A recovery that would begin waits from now on, if it doesn't yet.
+    pub fn await_late(&mut self, now: Instant)
+        requires { IsMoment now }
+        ensures { self.new ≡ record self.old { loss = late_awaited self.old now } }
+    {
+        if !self.loss.waits {
+            self.loss.waits = true;
+            self.loss.probe_at = Some(later(now, Duration::from_micros(self.reorder_wait())));
+        }
+    }
+
+    /// Whether something new is acknowledged that came behind what was sent later, and went once.
+    pub fn came_late(&self, by: u32) -> bool
+        ensures { result ≡ came_late self.now by }
+    {
+        by != 0
+            && self.sender.sacked != 0
+            && self.peer.sack
+            && self.sender.recover == 0
+            && self.loss.resent == 0
+            && !self.loss.probed
     }
 }
 
@@ -365,6 +414,7 @@ impl Loss {
         self.eager = self.eager && partial;
         self.probes = false;
         self.probed = false;
+        self.waits = false;
         self.undo = None;
     }
 }
@@ -398,6 +448,7 @@ impl Block {
         ensures { self.new ≡ record self.old { loss = loss_timed_out self.old } }
     {
         let board = self.loss.board;
+        let reorderings = self.loss.reorderings;
         let undo = if self.sender.syn_unacked {
             None
         } else {
@@ -405,6 +456,7 @@ impl Block {
         };
         self.loss = Loss::NONE;
         self.loss.board = board;
+        self.loss.reorderings = reorderings;
         self.loss.undo = undo;
     }
 }

@@ -82,6 +82,7 @@ impl Block {
         self.sender.recover = 0;
         self.loss.resent = 0;
         self.loss.credit = 0;
+        self.loss.reorderings = self.loss.reorderings.min(15) + 1;
     }
 
     /// Undoes what was done at a loss that wasn't one, where a segment that makes SND.UNA rise by so much
