@@ -2,6 +2,7 @@
 ghost use Rattle.std.specs.Prelude.{◌≡◌, length};
 ghost use Rattle.sockets.specs.AnySocket.{as_icmp};
 ghost use Rattle.sockets.specs.declared.socket.Socket.TheVariants as Kind;
+ghost use Rattle.interface.specs.Set.{places, is_fixed};
 ghost use Rattle.c_sockets.specs.Places.{answer_at, after_at, written_at};
 ghost use Rattle.sockets.specs.Icmp.{send_answer, send_after};
 ghost use Rattle.sockets.specs.SocketValue.{recv_answer, recv_after, recv_written};
@@ -12,9 +13,56 @@ ghost use Rattle.c_calls.specs.Added.{MakesSocket, new_icmp};
 use crate::host::Host;
 use c_sockets::control::{self, Act};
 use c_sockets::{Code, queues};
+use interface::SocketSet;
 use ip_wire::IpAddress;
 use net_base::ManagedSlice;
 use sockets::{Socket, icmp};
+
+/// Does a call of the socket at a place.
+fn perform(sockets: &mut SocketSet<Socket>, place: usize, act: Act) -> Result<(), Code>
+    ensures answer { result ≡ answer_at as_icmp (act_answer act) (places sockets.old) place }
+    ensures after { places sockets.new ≡ after_at as_icmp Kind.Icmp (act_after act) (places sockets.old) place }
+    ensures fixed { is_fixed sockets.new ≡ is_fixed sockets.old }
+{
+    match &mut sockets.sockets {
+        ManagedSlice::Fixed(places) => control::perform(places.as_mut_slice(), place, act),
+        ManagedSlice::Owned(places) => control::perform(places.as_mut_slice(), place, act),
+    }
+}
+
+/// Queues a message at the socket at a place.
+fn send(
+    sockets: &mut SocketSet<Socket>,
+    place: usize,
+    bytes: &[u8],
+    remote: IpAddress,
+) -> Result<(), Code>
+    ensures answer { result ≡ answer_at as_icmp (λ v. coded of_send (send_answer v remote (length bytes.now))) (places sockets.old) place }
+    ensures after { places sockets.new ≡ after_at as_icmp Kind.Icmp (λ v. send_after v remote bytes.now) (places sockets.old) place }
+    ensures fixed { is_fixed sockets.new ≡ is_fixed sockets.old }
+{
+    match &mut sockets.sockets {
+        ManagedSlice::Fixed(places) => control::send(places.as_mut_slice(), place, bytes, remote),
+        ManagedSlice::Owned(places) => control::send(places.as_mut_slice(), place, bytes, remote),
+    }
+}
+
+/// Reads a message of the socket at a place.
+fn recv(
+    sockets: &mut SocketSet<Socket>,
+    place: usize,
+    out: &mut [u8],
+) -> Result<(usize, IpAddress), Code>
+    ensures answer { result ≡ answer_at as_icmp (λ v. coded of_recv (recv_answer v (length out.old))) (places sockets.old) place }
+    ensures after { places sockets.new ≡ after_at as_icmp Kind.Icmp (recv_after) (places sockets.old) place }
+    ensures read { out.new ≡ written_at as_icmp recv_written out.old (places sockets.old) place }
+    ensures fixed { is_fixed sockets.new ≡ is_fixed sockets.old }
+{
+    match &mut sockets.sockets {
+        ManagedSlice::Fixed(places) => control::recv(places.as_mut_slice(), place, out),
+        ManagedSlice::Owned(places) => control::recv(places.as_mut_slice(), place, out),
+    }
+}
 
 impl Host {
     /// A socket with room for so many messages, of so many bytes together, each way.
@@ -32,10 +80,7 @@ impl Host {
         ensures answer { result ≡ answer_at as_icmp (act_answer act) self.old.places place }
         ensures after { self.new ≡ record self.old { places = after_at as_icmp Kind.Icmp (act_after act) self.old.places place } }
     {
-        match &mut self.sockets.sockets {
-            ManagedSlice::Owned(places) => control::perform(places.as_mut_slice(), place, act),
-            ManagedSlice::Fixed(_) => unreachable!(),
-        }
+        perform(&mut self.sockets, place, act)
     }
 
     /// Queues a message. Its checksum is written when it is sent.
@@ -43,15 +88,7 @@ impl Host {
         ensures answer { result ≡ answer_at as_icmp (λ v. coded of_send (send_answer v remote (length bytes.now))) self.old.places place }
         ensures after { self.new ≡ record self.old { places = after_at as_icmp Kind.Icmp (λ v. send_after v remote bytes.now) self.old.places place } }
     {
-        match &mut self.sockets.sockets {
-            ManagedSlice::Owned(places) => control::send(
-                places.as_mut_slice(),
-                place,
-                bytes,
-                remote,
-            ),
-            ManagedSlice::Fixed(_) => unreachable!(),
-        }
+        send(&mut self.sockets, place, bytes, remote)
     }
 
     /// Reads the first message to the front of the slice.
@@ -60,9 +97,6 @@ impl Host {
         ensures after { self.new ≡ record self.old { places = after_at as_icmp Kind.Icmp (recv_after) self.old.places place } }
         ensures read { out.new ≡ written_at as_icmp recv_written out.old self.old.places place }
     {
-        match &mut self.sockets.sockets {
-            ManagedSlice::Owned(places) => control::recv(places.as_mut_slice(), place, out),
-            ManagedSlice::Fixed(_) => unreachable!(),
-        }
+        recv(&mut self.sockets, place, out)
     }
 }

@@ -2,6 +2,7 @@
 ghost use Rattle.std.specs.Prelude.{◌≡◌, length};
 ghost use Rattle.sockets.specs.AnySocket.{as_udp};
 ghost use Rattle.sockets.specs.declared.socket.Socket.TheVariants as Kind;
+ghost use Rattle.interface.specs.Set.{places, is_fixed};
 ghost use Rattle.c_sockets.specs.Places.{answer_at, after_at, written_at};
 ghost use Rattle.sockets.specs.Udp.{send_answer, send_after};
 ghost use Rattle.sockets.specs.SocketValue.{recv_answer, recv_after, recv_written};
@@ -12,9 +13,66 @@ ghost use Rattle.c_calls.specs.Added.{MakesSocket, new_udp};
 use crate::host::Host;
 use c_sockets::datagrams::{self, Act};
 use c_sockets::{Code, queues};
+use interface::SocketSet;
 use net_base::ManagedSlice;
 use sockets::Socket;
 use sockets::udp::{self, UdpMetadata};
+
+/// Does a call of the socket at a place.
+fn perform(sockets: &mut SocketSet<Socket>, place: usize, act: Act) -> Result<(), Code>
+    ensures answer { result ≡ answer_at as_udp (act_answer act) (places sockets.old) place }
+    ensures after { places sockets.new ≡ after_at as_udp Kind.Udp (act_after act) (places sockets.old) place }
+    ensures fixed { is_fixed sockets.new ≡ is_fixed sockets.old }
+{
+    match &mut sockets.sockets {
+        ManagedSlice::Fixed(places) => datagrams::perform(places.as_mut_slice(), place, act),
+        ManagedSlice::Owned(places) => datagrams::perform(places.as_mut_slice(), place, act),
+    }
+}
+
+/// Queues a datagram at the socket at a place.
+fn send(
+    sockets: &mut SocketSet<Socket>,
+    place: usize,
+    bytes: &[u8],
+    metadata: UdpMetadata,
+) -> Result<(), Code>
+    ensures answer { result ≡ answer_at as_udp (λ v. coded of_send (send_answer v metadata (length bytes.now))) (places sockets.old) place }
+    ensures after { places sockets.new ≡ after_at as_udp Kind.Udp (λ v. send_after v metadata bytes.now) (places sockets.old) place }
+    ensures fixed { is_fixed sockets.new ≡ is_fixed sockets.old }
+{
+    match &mut sockets.sockets {
+        ManagedSlice::Fixed(places) => datagrams::send(
+            places.as_mut_slice(),
+            place,
+            bytes,
+            metadata,
+        ),
+        ManagedSlice::Owned(places) => datagrams::send(
+            places.as_mut_slice(),
+            place,
+            bytes,
+            metadata,
+        ),
+    }
+}
+
+/// Reads a datagram of the socket at a place.
+fn recv(
+    sockets: &mut SocketSet<Socket>,
+    place: usize,
+    out: &mut [u8],
+) -> Result<(usize, UdpMetadata), Code>
+    ensures answer { result ≡ answer_at as_udp (λ v. coded of_recv (recv_answer v (length out.old))) (places sockets.old) place }
+    ensures after { places sockets.new ≡ after_at as_udp Kind.Udp (recv_after) (places sockets.old) place }
+    ensures read { out.new ≡ written_at as_udp recv_written out.old (places sockets.old) place }
+    ensures fixed { is_fixed sockets.new ≡ is_fixed sockets.old }
+{
+    match &mut sockets.sockets {
+        ManagedSlice::Fixed(places) => datagrams::recv(places.as_mut_slice(), place, out),
+        ManagedSlice::Owned(places) => datagrams::recv(places.as_mut_slice(), place, out),
+    }
+}
 
 impl Host {
     /// A socket with room for so many datagrams, of so many bytes together, each way.
@@ -32,10 +90,7 @@ impl Host {
         ensures answer { result ≡ answer_at as_udp (act_answer act) self.old.places place }
         ensures after { self.new ≡ record self.old { places = after_at as_udp Kind.Udp (act_after act) self.old.places place } }
     {
-        match &mut self.sockets.sockets {
-            ManagedSlice::Owned(places) => datagrams::perform(places.as_mut_slice(), place, act),
-            ManagedSlice::Fixed(_) => unreachable!(),
-        }
+        perform(&mut self.sockets, place, act)
     }
 
     /// Queues a datagram.
@@ -48,15 +103,7 @@ impl Host {
         ensures answer { result ≡ answer_at as_udp (λ v. coded of_send (send_answer v metadata (length bytes.now))) self.old.places place }
         ensures after { self.new ≡ record self.old { places = after_at as_udp Kind.Udp (λ v. send_after v metadata bytes.now) self.old.places place } }
     {
-        match &mut self.sockets.sockets {
-            ManagedSlice::Owned(places) => datagrams::send(
-                places.as_mut_slice(),
-                place,
-                bytes,
-                metadata,
-            ),
-            ManagedSlice::Fixed(_) => unreachable!(),
-        }
+        send(&mut self.sockets, place, bytes, metadata)
     }
 
     /// Reads the first datagram to the front of the slice.
@@ -65,9 +112,6 @@ impl Host {
         ensures after { self.new ≡ record self.old { places = after_at as_udp Kind.Udp (recv_after) self.old.places place } }
         ensures read { out.new ≡ written_at as_udp recv_written out.old self.old.places place }
     {
-        match &mut self.sockets.sockets {
-            ManagedSlice::Owned(places) => datagrams::recv(places.as_mut_slice(), place, out),
-            ManagedSlice::Fixed(_) => unreachable!(),
-        }
+        recv(&mut self.sockets, place, out)
     }
 }

@@ -2,6 +2,7 @@
 ghost use Rattle.std.specs.Prelude.{◌≡◌, length};
 ghost use Rattle.sockets.specs.AnySocket.{as_raw};
 ghost use Rattle.sockets.specs.declared.socket.Socket.TheVariants as Kind;
+ghost use Rattle.interface.specs.Set.{places, is_fixed};
 ghost use Rattle.c_sockets.specs.Places.{answer_at, after_at, written_at};
 ghost use Rattle.sockets.specs.Raw.{send_answer, send_after, counted};
 ghost use Rattle.sockets.specs.SocketValue.{recv_answer, recv_after, recv_written};
@@ -10,9 +11,35 @@ ghost use Rattle.c_calls.specs.Added.{MakesSocket, new_raw};
 
 use crate::host::Host;
 use c_sockets::{Code, packets, queues};
+use interface::SocketSet;
 use ip_wire::{IpProtocol, IpVersion};
 use net_base::ManagedSlice;
 use sockets::{Socket, raw};
+
+/// Queues a packet at the socket at a place.
+fn send(sockets: &mut SocketSet<Socket>, place: usize, bytes: &[u8]) -> Result<(), Code>
+    ensures answer { result ≡ answer_at as_raw (λ v. coded of_raw_send (send_answer v (length bytes.now))) (places sockets.old) place }
+    ensures after { places sockets.new ≡ after_at as_raw Kind.Raw (λ v. send_after v bytes.now) (places sockets.old) place }
+    ensures fixed { is_fixed sockets.new ≡ is_fixed sockets.old }
+{
+    match &mut sockets.sockets {
+        ManagedSlice::Fixed(places) => packets::send(places.as_mut_slice(), place, bytes),
+        ManagedSlice::Owned(places) => packets::send(places.as_mut_slice(), place, bytes),
+    }
+}
+
+/// Reads a packet of the socket at a place.
+fn recv(sockets: &mut SocketSet<Socket>, place: usize, out: &mut [u8]) -> Result<usize, Code>
+    ensures answer { result ≡ answer_at as_raw (λ v. coded of_recv (counted (recv_answer v (length out.old)))) (places sockets.old) place }
+    ensures after { places sockets.new ≡ after_at as_raw Kind.Raw (recv_after) (places sockets.old) place }
+    ensures read { out.new ≡ written_at as_raw recv_written out.old (places sockets.old) place }
+    ensures fixed { is_fixed sockets.new ≡ is_fixed sockets.old }
+{
+    match &mut sockets.sockets {
+        ManagedSlice::Fixed(places) => packets::recv(places.as_mut_slice(), place, out),
+        ManagedSlice::Owned(places) => packets::recv(places.as_mut_slice(), place, out),
+    }
+}
 
 impl Host {
     /// A socket with room for so many packets, of so many bytes together, each way.
@@ -36,10 +63,7 @@ impl Host {
         ensures answer { result ≡ answer_at as_raw (λ v. coded of_raw_send (send_answer v (length bytes.now))) self.old.places place }
         ensures after { self.new ≡ record self.old { places = after_at as_raw Kind.Raw (λ v. send_after v bytes.now) self.old.places place } }
     {
-        match &mut self.sockets.sockets {
-            ManagedSlice::Owned(places) => packets::send(places.as_mut_slice(), place, bytes),
-            ManagedSlice::Fixed(_) => unreachable!(),
-        }
+        send(&mut self.sockets, place, bytes)
     }
 
     /// Reads the first packet to the front of the slice, and answers its length.
@@ -48,9 +72,6 @@ impl Host {
         ensures after { self.new ≡ record self.old { places = after_at as_raw Kind.Raw (recv_after) self.old.places place } }
         ensures read { out.new ≡ written_at as_raw recv_written out.old self.old.places place }
     {
-        match &mut self.sockets.sockets {
-            ManagedSlice::Owned(places) => packets::recv(places.as_mut_slice(), place, out),
-            ManagedSlice::Fixed(_) => unreachable!(),
-        }
+        recv(&mut self.sockets, place, out)
     }
 }

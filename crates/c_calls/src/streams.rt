@@ -55,6 +55,55 @@ fn connect(
     }
 }
 
+/// Does a call of the socket at a place.
+fn perform(sockets: &mut SocketSet<Socket>, place: usize, act: Act) -> Result<(), Code>
+    ensures answer { result ≡ answer_at as_tcp (act_answer act) (places sockets.old) place }
+    ensures after { places sockets.new ≡ after_at as_tcp Kind.Tcp (act_after act) (places sockets.old) place }
+    ensures fixed { is_fixed sockets.new ≡ is_fixed sockets.old }
+{
+    match &mut sockets.sockets {
+        ManagedSlice::Fixed(places) => streams::perform(places.as_mut_slice(), place, act),
+        ManagedSlice::Owned(places) => streams::perform(places.as_mut_slice(), place, act),
+    }
+}
+
+/// Queues bytes at the socket at a place.
+fn send(sockets: &mut SocketSet<Socket>, place: usize, bytes: &[u8]) -> Result<usize, Code>
+    ensures answer { result ≡ answer_at as_tcp (λ v. coded of_stream_send (send_answer v (length bytes.now))) (places sockets.old) place }
+    ensures after { places sockets.new ≡ after_at as_tcp Kind.Tcp (λ v. send_after v bytes.now) (places sockets.old) place }
+    ensures fixed { is_fixed sockets.new ≡ is_fixed sockets.old }
+{
+    match &mut sockets.sockets {
+        ManagedSlice::Fixed(places) => streams::send(places.as_mut_slice(), place, bytes),
+        ManagedSlice::Owned(places) => streams::send(places.as_mut_slice(), place, bytes),
+    }
+}
+
+/// Reads bytes of the socket at a place.
+fn recv(sockets: &mut SocketSet<Socket>, place: usize, out: &mut [u8]) -> Result<usize, Code>
+    ensures answer { result ≡ answer_at as_tcp (λ v. coded of_stream_recv (recv_answer v (length out.old))) (places sockets.old) place }
+    ensures after { places sockets.new ≡ after_at as_tcp Kind.Tcp (λ v. read_after v (length out.old)) (places sockets.old) place }
+    ensures read { out.new ≡ written_at as_tcp read_written out.old (places sockets.old) place }
+    ensures fixed { is_fixed sockets.new ≡ is_fixed sockets.old }
+{
+    match &mut sockets.sockets {
+        ManagedSlice::Fixed(places) => streams::recv(places.as_mut_slice(), place, out),
+        ManagedSlice::Owned(places) => streams::recv(places.as_mut_slice(), place, out),
+    }
+}
+
+/// Gives up bytes of the socket at a place.
+fn done(sockets: &mut SocketSet<Socket>, place: usize, count: usize) -> Result<usize, Code>
+    ensures answer { result ≡ answer_at as_tcp (done_answer count) (places sockets.old) place }
+    ensures after { places sockets.new ≡ after_at as_tcp Kind.Tcp (done_after count) (places sockets.old) place }
+    ensures fixed { is_fixed sockets.new ≡ is_fixed sockets.old }
+{
+    match &mut sockets.sockets {
+        ManagedSlice::Fixed(places) => streams::done(places.as_mut_slice(), place, count),
+        ManagedSlice::Owned(places) => streams::done(places.as_mut_slice(), place, count),
+    }
+}
+
 impl Host {
     /// A socket with room for so many bytes each way.
     pub fn tcp_new(&mut self, received: usize, queued: usize) -> Result<usize, Code>
@@ -74,10 +123,7 @@ impl Host {
         ensures answer { result ≡ answer_at as_tcp (act_answer act) self.old.places place }
         ensures after { self.new ≡ record self.old { places = after_at as_tcp Kind.Tcp (act_after act) self.old.places place } }
     {
-        match &mut self.sockets.sockets {
-            ManagedSlice::Owned(places) => streams::perform(places.as_mut_slice(), place, act),
-            ManagedSlice::Fixed(_) => unreachable!(),
-        }
+        perform(&mut self.sockets, place, act)
     }
 
     /// Opens a connection to a remote, from a port of one own address or of the one that the host chooses.
@@ -103,10 +149,7 @@ impl Host {
         ensures answer { result ≡ answer_at as_tcp (λ v. coded of_stream_send (send_answer v (length bytes.now))) self.old.places place }
         ensures after { self.new ≡ record self.old { places = after_at as_tcp Kind.Tcp (λ v. send_after v bytes.now) self.old.places place } }
     {
-        match &mut self.sockets.sockets {
-            ManagedSlice::Owned(places) => streams::send(places.as_mut_slice(), place, bytes),
-            ManagedSlice::Fixed(_) => unreachable!(),
-        }
+        send(&mut self.sockets, place, bytes)
     }
 
     /// Reads waiting bytes to the front of the slice, and answers how many.
@@ -115,10 +158,7 @@ impl Host {
         ensures after { self.new ≡ record self.old { places = after_at as_tcp Kind.Tcp (λ v. read_after v (length out.old)) self.old.places place } }
         ensures read { out.new ≡ written_at as_tcp read_written out.old self.old.places place }
     {
-        match &mut self.sockets.sockets {
-            ManagedSlice::Owned(places) => streams::recv(places.as_mut_slice(), place, out),
-            ManagedSlice::Fixed(_) => unreachable!(),
-        }
+        recv(&mut self.sockets, place, out)
     }
 
     /// Gives up the first waiting bytes, at most so many and as many as lie behind one another. Answers how many.
@@ -126,10 +166,7 @@ impl Host {
         ensures answer { result ≡ answer_at as_tcp (done_answer count) self.old.places place }
         ensures after { self.new ≡ record self.old { places = after_at as_tcp Kind.Tcp (done_after count) self.old.places place } }
     {
-        match &mut self.sockets.sockets {
-            ManagedSlice::Owned(places) => streams::done(places.as_mut_slice(), place, count),
-            ManagedSlice::Fixed(_) => unreachable!(),
-        }
+        done(&mut self.sockets, place, count)
     }
 
     /// Lends the first waiting bytes, as many as lie behind one another.
