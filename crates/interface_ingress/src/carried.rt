@@ -50,7 +50,7 @@ fn segment_payload<'a>(segment: &Option<TcpRepr<'a>>) -> Option<IpPayload<'a>>
     ensures { carried_of result ≡ segment_of segment.now }
 {
     match segment {
-        Some(segment) => Some(IpPayload::Tcp(*segment)),
+        Some(segment) => Some(IpPayload::segment(segment)),
         None => None,
     }
 }

@@ -367,7 +367,7 @@ fn process_segment<'a>(
 {
     if let Socket::Tcp(socket) = socket {
         if let Some((header, segment)) = socket.process(inner, header, segment) {
-            *reply = Some(Reply::Packet(Packet::new(header, IpPayload::Tcp(segment))));
+            *reply = Some(Reply::Packet(Packet::new(header, IpPayload::segment(&segment))));
         }
     }
 }
@@ -436,7 +436,7 @@ fn reset<'a>(
         return;
     }
     let (header, segment) = tcp::Socket::rst_reply(header, segment);
-    *reply = Some(Reply::Packet(Packet::new(header, IpPayload::Tcp(segment))));
+    *reply = Some(Reply::Packet(Packet::new(header, IpPayload::segment(&segment))));
 }
 
 /// Gives a segment to the socket of its connection, else to the first that accepts it, and writes the packet that answers it: the

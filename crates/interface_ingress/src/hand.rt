@@ -460,7 +460,7 @@ fn hand_message<'a>(
         Some(IpPayload::Icmpv4(message)) => hand_icmpv4(inner, places, header, payload, message),
         Some(IpPayload::Icmpv6(message)) => hand_icmpv6(inner, places, header, message),
         Some(IpPayload::Raw(_)) => None,
-        Some(IpPayload::Udp(..) | IpPayload::Tcp(_)) => unreachable!(),
+        Some(IpPayload::Udp(..) | IpPayload::Tcp(..)) => unreachable!(),
         None => answer_unread(inner, header, payload, is_taken),
     }
 }

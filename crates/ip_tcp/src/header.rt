@@ -1,5 +1,5 @@
 //! The header of a segment as a value.
-ghost use Rattle.std.specs.Prelude.{◌≡◌, ◌+◌, ◌-◌, ◌<◌, ◌≤◌, ◌^◌, IfOk, length};
+ghost use Rattle.std.specs.Prelude.{◌≡◌, ◌+◌, ◌-◌, ◌<◌, ◌≤◌, ◌^◌, ◌++◌, IfOk, length};
 ghost use Rattle.ip_address.specs.Address.{version_of};
 ghost use Rattle.net_devices.specs.Capabilities.{verifies, computes};
 ghost use Rattle.ip_address.specs.Fields.{put16};
@@ -97,23 +97,43 @@ impl TcpHeader {
         ensures bytes { bytes_in packet.new
             ≡ written source.now destination.now (computes checksum_caps.now.tcp) self.now payload.now }
     {
-        self.spell(packet.buffer, payload);
+        self.emit_parts(packet, source, destination, payload, &[], checksum_caps);
+    }
+
+    /// Writes the segment of this header and a payload that lies in two parts, as `emit` does that of
+    /// both together.
+    pub fn emit_parts(
+        &self,
+        packet: &mut TcpPacketMut,
+        source: &IpAddress,
+        destination: &IpAddress,
+        first: &[u8],
+        rest: &[u8],
+        checksum_caps: &ChecksumCapabilities,
+    )
+        requires room { length (bytes_in packet.old) ≡ header_len self.now + length (first.now ++ rest.now) }
+        requires fits { Fits source.now destination.now self.now (first.now ++ rest.now) }
+        ensures same_reference { name_of packet.new ≡ name_of packet.old }
+        ensures bytes { bytes_in packet.new
+            ≡ written source.now destination.now (computes checksum_caps.now.tcp) self.now (first.now ++ rest.now) }
+    {
+        self.spell(packet.buffer, first, rest);
         if checksum_caps.tcp.tx() {
             seal(packet.buffer, source, destination);
         }
     }
 
     /// Writes the segment with 0 for its checksum.
-    fn spell(&self, bytes: &mut [u8], payload: &[u8])
-        requires room { length bytes.old ≡ header_len self.now + length payload.now }
+    fn spell(&self, bytes: &mut [u8], first: &[u8], rest: &[u8])
+        requires room { length bytes.old ≡ header_len self.now + length (first.now ++ rest.now) }
         requires fits { header_len self.now ≤ 60 }
-        ensures { bytes.new ≡ spelling self.now 0 payload.now }
+        ensures { bytes.new ≡ spelling self.now 0 (first.now ++ rest.now) }
     {
-        let (front, rest) = bytes.split_at_mut(field::HEADER_LEN);
+        let (front, behind) = bytes.split_at_mut(field::HEADER_LEN);
         front.copy_from_slice(&self.fixed_fields());
-        let (area, body) = rest.split_at_mut(self.options.buffer_len());
+        let (area, body) = behind.split_at_mut(self.options.buffer_len());
         self.options.emit(area, acknowledges(self.ack_number));
-        body.copy_from_slice(payload);
+        put_parts(body, first, rest);
     }
 
     /// The fixed fields, with 0 for the checksum.
@@ -163,6 +183,16 @@ impl TcpHeader {
                 0
             }
     }
+}
+
+/// Writes one part behind the other over the whole of `body`.
+fn put_parts(body: &mut [u8], first: &[u8], rest: &[u8])
+    requires { length body.old ≡ length (first.now ++ rest.now) }
+    ensures { body.new ≡ first.now ++ rest.now }
+{
+    let (front, behind) = body.split_at_mut(first.len());
+    front.copy_from_slice(first);
+    behind.copy_from_slice(rest);
 }
 
 /// Whether there is an acknowledgement number.

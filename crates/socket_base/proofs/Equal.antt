@@ -8,8 +8,7 @@ use Rattle.control_wire.specs.Icmpv4Repr.{Icmpv4Repr}
 use Rattle.control_wire.specs.Icmpv6 as Icmpv6
 use Rattle.control_wire.specs.Icmpv6Repr.{Icmpv6Repr}
 use Rattle.ip_wire.specs.IpRepr.{IpRepr}
-use Rattle.ip_wire.specs.Tcp as Tcp
-use Rattle.ip_wire.specs.TcpRepr.{TcpRepr}
+use Rattle.ip_wire.specs.TcpHeader.{TcpHeader}
 use Rattle.ip_wire.specs.UdpRepr.{UdpRepr}
 use Rattle.socket_base.specs.Packet.{PacketValue, ControlV4, ControlV6, Bytes, Datagram, Segment, payload_value, packet_value, packet_of}
 use Rattle.socket_base.specs.contracts.offer.OfferPartialEq.TheImpl as Offers
@@ -21,6 +20,8 @@ use Rattle.socket_base.specs.declared.packet.IpPayload.{IpPayload}
 use Rattle.socket_base.specs.declared.packet.IpPayload.TheVariants as Payload
 use Rattle.socket_base.specs.declared.packet.Packet.{Packet}
 use Rattle.socket_base.specs.declared.poll_at.PollAt.{PollAt}
+use Rattle.socket_base.specs.declared.segment_text.SegmentText.{SegmentText}
+use Rattle.socket_base.specs.Text.{text_bytes}
 
 both : {P Q : Type 0} → P → Q → P × Q
 both p q = (p, q)
@@ -39,8 +40,8 @@ pub record Laws : Type 0 where
   pub icmpv6 : (a b : Icmpv6Repr) →
       Decides (Payloads.ghosts.eq (Payload.Icmpv6 a) (Payload.Icmpv6 b)) ((Icmpv6.value_of (Icmpv6.header_of a) ≡ Icmpv6.value_of (Icmpv6.header_of b)) ×
       (Icmpv6.carried_by a ≡ Icmpv6.carried_by b))
-  pub tcp : (a b : TcpRepr) →
-      Decides (Payloads.ghosts.eq (Payload.Tcp a) (Payload.Tcp b)) ((Tcp.header_of a ≡ Tcp.header_of b) × (a.payload.now ≡ b.payload.now))
+  pub tcp : (a b : TcpHeader) (s t : SegmentText) →
+      Decides (Payloads.ghosts.eq (Payload.Tcp a s) (Payload.Tcp b t)) ((a ≡ b) × (text_bytes s ≡ text_bytes t))
   pub udp : (a b : UdpRepr) (xs ys : Bor (List ℕ)) → Decides (Payloads.ghosts.eq (Payload.Udp a xs) (Payload.Udp b ys)) ((a ≡ b) × (xs.now ≡ ys.now))
 
 pub Decides-payload : Laws → (a b : IpPayload) → Decides (Payloads.ghosts.eq a b) (payload_value a ≡ payload_value b)
@@ -61,11 +62,10 @@ Decides-payload laws (Payload.Raw xs) (Payload.Raw ys) =
 Decides-payload laws (Payload.Udp a xs) (Payload.Udp b ys) =
     let same = laws.udp a b xs ys in
     (λ yes. ap₂ Datagram (same.0 yes).0 (same.0 yes).1, λ e. let first : a ≡ b = cc in let second : xs.now ≡ ys.now = cc in same.1 (both first second))
-Decides-payload laws (Payload.Tcp a) (Payload.Tcp b) =
-    let same = laws.tcp a b in (
+Decides-payload laws (Payload.Tcp a s) (Payload.Tcp b t) =
+    let same = laws.tcp a b s t in (
       λ yes. ap₂ Segment (same.0 yes).0 (same.0 yes).1,
-      λ e. let first : Tcp.header_of a ≡ Tcp.header_of b = cc in let second : a.payload.now ≡ b.payload.now =
-          cc in same.1 (both first second),
+      λ e. let first : a ≡ b = cc in let second : text_bytes s ≡ text_bytes t = cc in same.1 (both first second),
     )
 Decides-payload laws a b = (λ yes. absurd (cc), λ e. absurd (cc))
 

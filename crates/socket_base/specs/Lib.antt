@@ -3,5 +3,6 @@ pub mod Context
 pub mod Moments
 pub mod Offers
 pub mod Packet
+pub mod Text
 pub mod WellFormed
 pub mod Widths

@@ -16,6 +16,7 @@ use Rattle.control_wire.specs.Icmpv6 as Icmpv6
 use Rattle.socket_base.specs.declared.packet.IpPayload.{IpPayload}
 use Rattle.socket_base.specs.declared.packet.IpPayload.TheVariants as Payload
 use Rattle.socket_base.specs.declared.packet.Packet.{Packet}
+use Rattle.socket_base.specs.Text.{text_bytes}
 
 -- what a packet carries: a header or a message, and bytes
 pub data PayloadValue : Type 0 where
@@ -38,7 +39,7 @@ payload_value (Payload.Icmpv4 message) = ControlV4 (Icmpv4.header_of message) (I
 payload_value (Payload.Icmpv6 message) = ControlV6 (Icmpv6.value_of (Icmpv6.header_of message)) (Icmpv6.carried_by message)
 payload_value (Payload.Raw bytes) = Bytes bytes.now
 payload_value (Payload.Udp header bytes) = Datagram header bytes.now
-payload_value (Payload.Tcp segment) = Segment (Tcp.header_of segment) segment.payload.now
+payload_value (Payload.Tcp header text) = Segment header (text_bytes text)
 
 abbrev pub packet_value : Packet → PacketValue
 packet_value p = packet_of p.header (payload_value p.payload)

@@ -4,15 +4,18 @@ ghost use Rattle.net_base.specs.ChecksumCapabilities.{ChecksumCapabilities};
 ghost use Rattle.ip_wire.specs.Ip as Ips;
 ghost use Rattle.ip_wire.specs.IpRepr.{IpRepr};
 ghost use Rattle.socket_base.specs.Packet.{PayloadValue, PayloadFits, packet_value, payload_value, payload_len, payload_written};
+ghost use Rattle.socket_base.specs.Text.{text_bytes};
 ghost use Rattle.socket_base.specs.Widths.{IsPayload};
 ghost use Rattle.socket_base.specs.declared.offer.Offer.{Offer};
 ghost use Rattle.socket_base.specs.declared.packet.IpPayload.{IpPayload};
 ghost use Rattle.socket_base.specs.declared.packet.Packet.{Packet};
 ghost use Rattle.socket_base.specs.declared.poll_at.PollAt.{PollAt};
+ghost use Rattle.socket_base.specs.declared.segment_text.SegmentText.{SegmentText};
 
 use crate::offer::Offer;
 use crate::packet::{IpPayload, Packet};
 use crate::poll_at::PollAt;
+use crate::segment_text::SegmentText;
 use control_wire::{icmpv4_laws, icmpv6_laws};
 use ip_wire::{ip_laws, tcp_laws, udp_laws};
 
@@ -32,10 +35,13 @@ pub fn written_lengths()
 }
 
 /// Law: `==` says of two answers to an offer, and of two moments to poll at, whether they are the
-/// same, and of two packets, and of what they carry, whether they have the same value.
+/// same, of two texts of segments whether they are the same bytes, and of two packets, and of what they carry, whether they have the same
+/// value.
 pub fn equal<'a>()
     ensures offers { (a b : Offer) → IsTrue (⟦<Offer as PartialEq>⟧.eq a b) ↔ (a ≡ b) }
     ensures due { (a b : PollAt) → IsTrue (⟦<PollAt as PartialEq>⟧.eq a b) ↔ (a ≡ b) }
+    ensures texts { (a b : SegmentText) → IsTrue (⟦<SegmentText<'a> as PartialEq>⟧.eq a b)
+        ↔ (text_bytes a ≡ text_bytes b) }
     ensures payloads { (a b : IpPayload) → IsTrue (⟦<IpPayload<'a> as PartialEq>⟧.eq a b)
         ↔ (payload_value a ≡ payload_value b) }
     ensures packets { (a b : Packet) → IsTrue (⟦<Packet<'a> as PartialEq>⟧.eq a b)
@@ -43,7 +49,7 @@ pub fn equal<'a>()
 {
     ip_laws::ip_equal();
     udp_laws::udp_equal();
-    tcp_laws::tcp_borrowed_equal();
+    tcp_laws::tcp_equal();
     icmpv4_laws::icmpv4_messages_equated();
     icmpv6_laws::icmpv6_messages_equated();
 }

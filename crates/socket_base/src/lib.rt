@@ -8,9 +8,11 @@ pub mod laws;
 mod offer;
 mod packet;
 mod poll_at;
+mod segment_text;
 pub mod widths;
 
 pub use context::Context;
 pub use offer::Offer;
 pub use packet::{IpPayload, Packet};
 pub use poll_at::PollAt;
+pub use segment_text::SegmentText;

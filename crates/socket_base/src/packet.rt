@@ -1,9 +1,11 @@
 //! The packets that sockets offer, and how they are written behind an IP header.
 ghost use Rattle.std.specs.Prelude.{◌≡◌, length};
-ghost use Rattle.socket_base.specs.Packet.{packet_value, packet_of, payload_value, payload_len, PayloadFits, payload_written};
+ghost use Rattle.ip_wire.specs.Tcp.{header_of};
+ghost use Rattle.socket_base.specs.Packet.{Segment, packet_value, packet_of, payload_value, payload_len, PayloadFits, payload_written};
 
+use crate::segment_text::SegmentText;
 use control_wire::{Icmpv4PacketMut, Icmpv4Repr, Icmpv6PacketMut, Icmpv6Repr};
-use ip_wire::{IpRepr, TcpPacketMut, TcpRepr, UdpPacketMut, UdpRepr};
+use ip_wire::{IpRepr, TcpHeader, TcpPacketMut, TcpRepr, UdpPacketMut, UdpRepr};
 use net_base::ChecksumCapabilities;
 
 /// What an IP packet carries.
@@ -13,7 +15,7 @@ pub enum IpPayload<'a> {
     Icmpv6(Icmpv6Repr<'a>),
     Raw(&'a [u8]),
     Udp(UdpRepr, &'a [u8]),
-    Tcp(TcpRepr<'a>),
+    Tcp(TcpHeader, SegmentText<'a>),
 }
 
 /// An IP packet: its header and what it carries.
@@ -50,6 +52,13 @@ impl<'a> Packet<'a> {
 }
 
 impl<'a> IpPayload<'a> {
+    /// A segment whose text lies in one piece.
+    pub const fn segment(segment: &TcpRepr<'a>) -> IpPayload<'a>
+        ensures { payload_value result ≡ Segment (header_of segment.now) segment.now.payload.now }
+    {
+        IpPayload::Tcp(segment.header(), SegmentText::whole(segment.payload))
+    }
+
     /// How many bytes it takes behind the IP header.
     pub fn buffer_len(&self) -> usize
         ensures { result ≡ payload_len (payload_value self.now) }
@@ -59,7 +68,7 @@ impl<'a> IpPayload<'a> {
             IpPayload::Icmpv6(message) => message.buffer_len(),
             IpPayload::Raw(bytes) => bytes.len(),
             IpPayload::Udp(header, bytes) => header.buffer_len(bytes.len()),
-            IpPayload::Tcp(segment) => segment.buffer_len(),
+            IpPayload::Tcp(header, text) => header.header_len() + text.len(),
         }
     }
 
@@ -92,9 +101,17 @@ impl<'a> IpPayload<'a> {
                 let mut packet = UdpPacketMut::new_unchecked(buffer);
                 header.emit(&mut packet, &source, &destination, bytes, checksum_caps);
             }
-            IpPayload::Tcp(segment) => {
+            IpPayload::Tcp(header, text) => {
                 let mut packet = TcpPacketMut::new_unchecked(buffer);
-                segment.emit(&mut packet, &source, &destination, checksum_caps);
+                let (first, rest) = (text.first, text.rest);
+                header.emit_parts(
+                    &mut packet,
+                    &source,
+                    &destination,
+                    first,
+                    rest,
+                    checksum_caps,
+                );
             }
         }
     }

@@ -30,6 +30,6 @@ fn payload_widths(payload: &IpPayload<'_>)
         IpPayload::Icmpv6(message) => icmpv6_widths(message),
         IpPayload::Raw(_) => {}
         IpPayload::Udp(header, _) => udp_widths(*header),
-        IpPayload::Tcp(segment) => tcp_widths(segment.header()),
+        IpPayload::Tcp(header, _) => tcp_widths(*header),
     }
 }
