@@ -117,6 +117,7 @@ impl Beside {
             }
             TcpSetting::Retries(limit) => self.socket.set_retries(*limit),
             TcpSetting::MinRto(least) => self.socket.set_min_rto(*least),
+            TcpSetting::FineTimer(fine) => self.socket.set_fine_timer(*fine),
             TcpSetting::PauseSynack(pause) => self.socket.pause_synack(*pause),
         }
     }

@@ -202,6 +202,7 @@ fn setting(words: &mut Words<'_>) -> TcpSetting {
         "congestion_control" => TcpSetting::CongestionControl(congestion_control(words)),
         "retries" => TcpSetting::Retries(words.number_or_none()),
         "min_rto" => TcpSetting::MinRto(words.span()),
+        "fine_timer" => TcpSetting::FineTimer(words.either("on", "off")),
         "pause_synack" => TcpSetting::PauseSynack(words.either("on", "off")),
         _ => {
             words.lacks("setting");

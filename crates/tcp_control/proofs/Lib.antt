@@ -1,4 +1,5 @@
 mod CubicLaws
+mod RoundTripLaws
 mod CongestionLaws
 pub mod NothingHeld
 pub mod FirstNumbers

@@ -103,6 +103,10 @@ window_in mss cwnd w_max None now rtt = cwnd
 window_in mss cwnd w_max (Some e) now rtt =
     min most (grown mss cwnd (w_cubic mss w_max e.k (millis_between e.since now)) (w_cubic mss w_max e.k (millis_between e.since now + rtt)) e.w_est)
 
+-- its time doesn't run on (4.2 and 5.8): the next acknowledgement begins a stage
+abbrev pub stopped : CubicValue → CubicValue
+stopped c = record c { epoch = None }
+
 -- LOSSES
 
 -- ssthresh at a loss, with so much in flight: beta is 0.7 (4.6)

@@ -1,5 +1,5 @@
 -- Moments, and when something is due.
-use Rattle.std.specs.Prelude.{ℕ, ◌*◌, min, ℤ, pos, ◌+ℤ◌, int_le, int_lt, Bool, true, false, if◌then◌else◌, Option, Some, None}
+use Rattle.std.specs.Prelude.{ℕ, min, ℤ, pos, ◌+ℤ◌, int_le, int_lt, Bool, true, false, if◌then◌else◌, Option, Some, None}
 use Rattle.net_base.specs.Time.{last_moment}
 use Rattle.tcp_control.specs.RoundTrip.{RoundTripValue}
 
@@ -14,7 +14,7 @@ later_by now (Some duration) = Some (later now duration)
 
 -- after the retransmission timeout (RFC 6298)
 abbrev pub timeout_from : ℤ → RoundTripValue → ℤ
-timeout_from now r = now +ℤ pos (r.timeout * 1000)
+timeout_from now r = now +ℤ pos r.timeout
 
 -- ten seconds for twice the longest life of a segment: how long TIME-WAIT lasts (RFC 9293, 3.3.2)
 abbrev pub time_wait_from : ℤ → ℤ

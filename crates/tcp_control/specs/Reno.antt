@@ -1,6 +1,6 @@
 -- Congestion control by slow start, congestion avoidance, fast retransmit and fast recovery (RFC 5681), which a partial
 -- acknowledgement doesn't end (RFC 6582). CUBIC (RFC 9438) differs in congestion avoidance and at a loss alone. All counts are bytes.
-use Rattle.std.specs.Prelude.{ℕ, ◌+◌, ◌-◌, ◌*◌, ◌/◌, ◌==◌, ◌≤◌, nat_le, nat_lt, min, max, ℤ, pos, Bool, true, false, if◌then◌else◌, Option, None, Some}
+use Rattle.std.specs.Prelude.{ℕ, ◌+◌, ◌-◌, ◌*◌, ◌/◌, ◌^◌, ◌==◌, ◌≤◌, nat_le, nat_lt, min, max, ℤ, pos, Bool, true, false, if◌then◌else◌, Option, None, Some}
 use Rattle.tcp_control.specs.Cubic as cubic
 use Rattle.tcp_control.specs.Cubic.{CubicValue}
 pub use Rattle.tcp_control.specs.Cubic.{most}
@@ -39,9 +39,19 @@ first_window mss = min (10 * mss) (max (2 * mss) 14_600)
 abbrev pub started : RenoValue → Bool → RenoValue
 started r lost = record r { cwnd = (if lost then r.mss else first_window r.mss); recovers = false }
 
--- how much cwnd grows by, where so many bytes are acknowledged: in slow start, else in congestion avoidance (3.1, equations 2 and 3)
+-- how much an acknowledgement widens the window by at most in slow start: by two segments, since the remote may acknowledge each second one,
+-- but by one once a loss lowered the threshold: behind a timeout it may tell of what came long before (RFC 3465, 2.3)
+abbrev pub slow_limit : RenoValue → ℕ
+slow_limit r = if r.ssthresh == most then 2 * r.mss else r.mss
+
+-- how much it grows by in congestion avoidance, where so many bytes are acknowledged: a segment for a whole window (RFC 5681, 3.1; RFC 3465,
+-- 2.1)
+abbrev pub avoidance : ℕ → ℕ → ℕ → ℕ
+avoidance mss cwnd count = max 1 (mss * min count cwnd / cwnd)
+
+-- and in either: in slow start by as many bytes (RFC 3465, 2.2)
 abbrev pub growth : RenoValue → ℕ → ℕ
-growth r count = if nat_lt r.cwnd r.ssthresh then min count r.mss else max 1 (r.mss * r.mss / r.cwnd)
+growth r count = if nat_lt r.cwnd r.ssthresh then min count (slow_limit r) else avoidance r.mss r.cwnd count
 
 -- what CUBIC counts in congestion avoidance, where so many bytes are acknowledged now
 abbrev pub avoided : Option CubicValue → RenoValue → ℕ → ℤ → Option CubicValue
@@ -131,6 +141,26 @@ timed_out r flight =
       timed_out = true;
       cubic = if r.timed_out then r.cubic else timeout_at r.cubic r.cwnd;
     }
+
+-- VALIDATION (RFC 7661)
+
+-- CUBIC's time doesn't run on while the window isn't used: the next acknowledgement begins a stage at this window (RFC 9438, 4.2 and 5.8)
+abbrev pub stopped : Option CubicValue → Option CubicValue
+stopped None = None
+stopped (Some c) = Some (cubic.stopped c)
+
+-- so many bytes were acknowledged of a window that isn't used: it doesn't grow (4.4)
+abbrev pub preserved : RenoValue → ℕ → RenoValue
+preserved r count = if count == 0 then r else record r { timed_out = false; cubic = stopped r.cubic }
+
+-- so many periods ended in which the window wasn't used: each halves it, to no less than the first window, and the threshold is no less
+-- than 3/4 of it (4.4.3)
+abbrev pub lapsed : RenoValue → ℕ → RenoValue
+lapsed r periods = record r {
+  cwnd = if periods == 0 then r.cwnd else min r.cwnd (max (r.cwnd / 2 ^ periods) (first_window r.mss));
+  ssthresh = if periods == 0 then r.ssthresh else max r.ssthresh (3 * r.cwnd / 4);
+  cubic = if periods == 0 then r.cubic else stopped r.cubic;
+}
 
 -- a loss that wasn't one is undone: the window is what it was before it (RFC 4015, 3.2)
 abbrev pub restored : RenoValue → RenoValue → RenoValue

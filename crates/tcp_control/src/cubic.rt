@@ -4,7 +4,7 @@ ghost use Rattle.tcp_control.specs.RoundTrip.{millis_between};
 ghost use Rattle.tcp_control.specs.declared.cubic.Epoch.{Epoch};
 ghost use Rattle.net_base.specs.Time.{IsMoment};
 ghost use Rattle.tcp_control.specs.Cubic.{CubicValue, IsCubic, most, fresh, cubed, stepped, cube_root, rise, k_of, w_cubic, target, est_growth, est_after};
-ghost use Rattle.tcp_control.specs.Cubic.{begun, avoided, grown, window_in, decreased, lost, timed_out};
+ghost use Rattle.tcp_control.specs.Cubic.{begun, avoided, grown, window_in, decreased, lost, timed_out, stopped};
 
 use crate::round_trip::millis_between;
 use net_base::Instant;
@@ -114,6 +114,13 @@ impl Cubic {
         let here = w_cubic(mss, self.w_max, epoch.k, t);
         let there = w_cubic(mss, self.w_max, epoch.k, t + rtt);
         grown(mss, cwnd, here, there, epoch.w_est).min(MOST as u64) as u32
+    }
+
+    /// The time of its stage doesn't run on.
+    pub const fn stop(&mut self)
+        ensures { self.new ≡ stopped self.old }
+    {
+        self.epoch = None;
     }
 
     /// A stage that begins.

@@ -25,7 +25,7 @@ pub use error::{ConnectError, ListenError, RecvError, SendError};
 pub use first_numbers::{first_number, first_numbers_rise};
 pub use offer::{OfferKind, OpenOffer, Reply};
 pub use reno::{Reno, congestion_laws, congestion_windows, cubic_congestion};
-pub use round_trip::{RoundTrip, least_timeouts, timeouts};
+pub use round_trip::{RoundTrip, fine_timeouts, least_timeouts, timeout_laws, timeouts};
 pub use scoreboard::{Run, Scoreboard};
 pub use sip::{sip_hash, sip_hashes};
 pub use state::State;

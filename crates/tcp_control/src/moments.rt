@@ -39,7 +39,7 @@ pub fn timeout_from(now: Instant, round_trip: &RoundTrip) -> Instant
     requires { IsMoment now }
     ensures { result ≡ timeout_from now round_trip.now }
 {
-    now + Duration::from_millis(round_trip.timeout() as u64)
+    now + Duration::from_micros(round_trip.timeout() as u64)
 }
 
 /// The end of TIME-WAIT that begins now.

@@ -2,8 +2,9 @@
 //! a partial acknowledgement doesn't end (RFC 6582), and with CUBIC (RFC 9438), where that is set.
 ghost use Rattle.std.specs.Prelude.{◌≡◌, ◌≤◌, ◌<◌, ◌^◌, ◌*◌, ◌/◌, ◌+◌, ℕ, ℤ, pos, min, max, nat_lt, true, false, Option, Some, None};
 ghost use Rattle.net_base.specs.Time.{IsMoment};
-ghost use Rattle.tcp_control.specs.Reno.{RenoValue, IsBounded, fresh, fresh_with, with_mss, first_window, started, growth, lowered, acknowledged, partly};
-ghost use Rattle.tcp_control.specs.Reno.{recovered, restored, lost, reduced, inflated, timed_out, most, counted, widened, loss_at, timeout_at};
+ghost use Rattle.tcp_control.specs.Reno.{RenoValue, IsBounded, fresh, fresh_with, with_mss, first_window, started, lowered, acknowledged, partly};
+ghost use Rattle.tcp_control.specs.Reno.{recovered, restored, lost, reduced, inflated, timed_out, most, counted, widened};
+ghost use Rattle.tcp_control.specs.Reno.{slow_limit, avoidance, growth, loss_at, timeout_at, stopped, preserved, lapsed};
 ghost use Rattle.tcp_control.specs.Reno.{hundred_segments, after_loss, in_stage};
 ghost use Rattle.tcp_control.specs.Cubic as cubic;
 ghost use Rattle.tcp_control.specs.Cubic.{CubicValue};
@@ -233,6 +234,40 @@ impl Reno {
         }
     }
 
+    /// So many bytes were acknowledged, outside of fast recovery, of a window that isn't used: it doesn't grow.
+    pub fn preserve(&mut self, count: usize)
+        ensures { self.new ≡ preserved self.old count }
+    {
+        if count != 0 {
+            self.cubic = stopped(&self.cubic);
+            self.timed_out = false;
+        }
+    }
+
+    /// So many periods ended in which the window wasn't used.
+    pub fn lapse(&mut self, periods: u32)
+        requires { periods ≤ 31 }
+        ensures { self.new ≡ lapsed self.old periods }
+    {
+        if periods != 0 {
+            let window = self.lapsed(periods);
+            self.ssthresh = self.ssthresh.max(3 * self.cwnd / 4);
+            self.cwnd = window;
+            self.cubic = stopped(&self.cubic);
+        }
+    }
+
+    /// The window behind them.
+    fn lapsed(&self, periods: u32) -> u32
+        requires { periods ≤ 31 }
+        ensures value { result ≡ min self.now.cwnd (max (self.now.cwnd / 2 ^ periods) (first_window self.now.mss)) }
+        ensures small { (1 ≤ result) × (result ≤ most) }
+    {
+        (self.cwnd >> periods)
+            .max(first_window(self.mss))
+            .min(self.cwnd)
+    }
+
     /// A loss that wasn't one is undone: the window is what it was before.
     pub fn restore(&mut self, prior: &Reno)
         ensures { self.new ≡ restored self.old prior.now }
@@ -269,18 +304,30 @@ impl Reno {
         ensures value { result ≡ min most (self.now.cwnd + growth self.now count) }
         ensures small { (1 ≤ result) × (result ≤ most) }
     {
-        self.cwnd.saturating_add(self.growth(count)).min(MOST)
+        (self.cwnd as u64 + self.growth(count)).min(MOST as u64) as u32
+    }
+
+    /// How much an acknowledgement widens the window by at most in slow start.
+    const fn slow_limit(&self) -> u32
+        ensures value { result ≡ slow_limit self.now }
+        ensures small { result ≤ 131_070 }
+    {
+        if self.ssthresh == MOST {
+            2 * self.mss as u32
+        } else {
+            self.mss as u32
+        }
     }
 
     /// How much the window grows by without CUBIC where so many bytes are acknowledged.
-    fn growth(&self, count: usize) -> u32
+    fn growth(&self, count: usize) -> u64
         ensures value { result ≡ growth self.now count }
-        ensures small { result ≤ 4_294_836_225 }
+        ensures small { result ≤ 2 ^ 47 }
     {
         if self.is_slow() {
-            count.min(self.mss as usize) as u32
+            count.min(self.slow_limit() as usize) as u64
         } else {
-            (self.mss as u32 * self.mss as u32 / self.cwnd).max(1)
+            avoidance(self.mss, self.cwnd, count)
         }
     }
 
@@ -324,6 +371,29 @@ fn timeout_at(cubic: &Option<Cubic>, cwnd: u32) -> Option<Cubic>
     }
 }
 
+/// How much a window grows by in congestion avoidance where so many bytes are acknowledged: a segment for all of it.
+fn avoidance(mss: u16, cwnd: u32, count: usize) -> u64
+    requires { (1 ≤ cwnd) × (cwnd ≤ most) }
+    ensures value { result ≡ avoidance mss cwnd count }
+    ensures small { result ≤ 2 ^ 47 }
+{
+    let sent = mss as u64 * count.min(cwnd as usize) as u64;
+    (sent / cwnd as u64).max(1)
+}
+
+/// What it keeps where its time doesn't run on.
+fn stopped(cubic: &Option<Cubic>) -> Option<Cubic>
+    ensures { result ≡ stopped cubic.now }
+{
+    match *cubic {
+        None => None,
+        Some(mut cubic) => {
+            cubic.stop();
+            Some(cubic)
+        }
+    }
+}
+
 /// The first window of a connection.
 fn first_window(mss: u16) -> u32
     ensures { result ≡ first_window mss }
@@ -331,12 +401,17 @@ fn first_window(mss: u16) -> u32
     (10 * mss as u32).min((2 * mss as u32).max(FIRST_BYTES))
 }
 
-/// Runs on numerals: slow start, a loss with half of the window in flight, the end of recovery, and a
-/// timeout twice.
+/// Runs on numerals: slow start, and again behind a loss; congestion avoidance by a segment, by two and by a whole window; a loss with half
+/// of the window in flight, the end of recovery, and a timeout twice.
 pub fn congestion_windows()
-    ensures slow_start { (now : ℤ) (rtt : ℕ) → acknowledged (acknowledged fresh 1024 now rtt) 5000 now rtt ≡ record fresh { cwnd = 4096 } }
+    ensures slow_start { (now : ℤ) (rtt : ℕ) → acknowledged (acknowledged fresh 1024 now rtt) 5000 now rtt ≡ record fresh { cwnd = 5120 } }
+    ensures again { (now : ℤ) (rtt : ℕ) → acknowledged (record fresh { ssthresh = 8192 }) 5000 now rtt ≡ record fresh { cwnd = 3072; ssthresh = 8192 } }
     ensures avoidance { (now : ℤ) (rtt : ℕ)
         → acknowledged (record fresh { cwnd = 4096; ssthresh = 4096 }) 1024 now rtt ≡ record fresh { cwnd = 4352; ssthresh = 4096 } }
+    ensures two_segments { (now : ℤ) (rtt : ℕ)
+        → acknowledged (record fresh { cwnd = 4096; ssthresh = 4096 }) 2048 now rtt ≡ record fresh { cwnd = 4608; ssthresh = 4096 } }
+    ensures whole_window { (now : ℤ) (rtt : ℕ)
+        → acknowledged (record fresh { cwnd = 4096; ssthresh = 4096 }) 9000 now rtt ≡ record fresh { cwnd = 5120; ssthresh = 4096 } }
     ensures loss { lost (record fresh { cwnd = 32768 }) 16384 ≡ record fresh { cwnd = 11264; ssthresh = 8192; recovers = true } }
     ensures recovery { recovered (inflated (lost (record fresh { cwnd = 32768 }) 16384)) ≡ record fresh { cwnd = 8192; ssthresh = 8192 } }
     ensures limited { lost (record fresh { cwnd = 8192 }) 10_240 ≡ record fresh { cwnd = 7168; ssthresh = 4096; recovers = true } }

@@ -1,13 +1,15 @@
-//! The retransmission timeout (RFC 6298), in whole milliseconds.
-ghost use Rattle.std.specs.Prelude.{◌≡◌, ◌<◌, ◌≤◌, ◌^◌, ◌*◌, pos, Some};
-ghost use Rattle.net_base.specs.Time.{IsMoment};
-ghost use Rattle.tcp_control.specs.RoundTrip.{IsTimed, shortest_timeout, most_timeout, fresh, least_of, probe_wait, with_least, smoothed, timeout_of};
-ghost use Rattle.tcp_control.specs.RoundTrip.{srtt, shortest, measured, millis_between, advanced, is_reached, echoed, timing, untimed, begun_late, backed_off};
+//! The retransmission timeout (RFC 6298), by a clock of milliseconds, or of microseconds where a setting asks
+//! so.
+ghost use Rattle.std.specs.Prelude.{◌≡◌, ◌<◌, ◌≤◌, ◌^◌, ◌+◌, ◌-◌, ◌*◌, ◌/◌, ℕ, pos, min, max, Some, None, Bool, true, false};
+ghost use Rattle.net_base.specs.Time.{IsMoment, last_moment};
+ghost use Rattle.tcp_control.specs.RoundTrip.{IsTimed, shortest_timeout, most_timeout, fresh, least_of, probe_wait, with_least, clocked, smoothed, timeout_of};
+ghost use Rattle.tcp_control.specs.RoundTrip.{srtt, shortest, late_wait, measured, micros_between, millis_between, advanced, is_reached, counts_echo};
+ghost use Rattle.tcp_control.specs.RoundTrip.{echo_micros, echoed, timing, untimed, begun_late, backed_off, RoundTripValue, in_micros, distance, slack};
 
 use net_base::{Duration, Instant};
 use std::marker::Model;
 
-/// The smoothed round trip, its variation and the shortest one, in milliseconds.
+/// The smoothed round trip, its variation and the shortest one, in microseconds.
 #[derive(Clone, Copy, Debug, PartialEq, Eq)]
 pub struct Estimate {
     pub smoothed: u64,
@@ -27,8 +29,8 @@ pub struct Sample {
 #[derive(Clone, Copy, Debug, PartialEq, Eq)]
 pub struct RoundTrip {
     estimate: Option<Estimate>,
-    timeout: u16,
-    least: u16,
+    timeout: u32,
+    least: u32,
     sample: Option<Sample>,
 }
 
@@ -44,24 +46,27 @@ impl Model for RoundTrip {
     ghost inverse = { λ v. record { estimate = v.estimate; timeout = v.timeout; least = v.least; sample = v.sample } };
 }
 
-/// Before the first sample, and the least as long as no other is set.
-const FIRST_TIMEOUT: u16 = 1000;
+/// Before the first sample, and the least as long as no other is set, in microseconds, as all that follow.
+const FIRST_TIMEOUT: u32 = 1_000_000;
 
 /// The least timeout isn't set below it.
-const SHORTEST_TIMEOUT: u16 = 10;
+const SHORTEST_TIMEOUT: u64 = 10_000;
 
-const MOST_TIMEOUT: u16 = 60_000;
+const MOST_TIMEOUT: u32 = 60_000_000;
 
 /// The timeout lies above the smoothed round trip by this at least, or by the least timeout.
-const MOST_SLACK: u16 = 200;
+const MOST_SLACK: u32 = 200_000;
 
-/// A loss probe waits no less, in microseconds.
+/// A loss probe waits no less.
 const LEAST_PROBE_WAIT: u64 = 20_000;
 
-/// How long the remote may delay the acknowledgement of one segment, in microseconds.
+/// How long the remote may delay the acknowledgement of one segment.
 const DELAYED_ACK: u64 = 200_000;
 
-const LATE_TIMEOUT: u16 = 3000;
+const LATE_TIMEOUT: u32 = 3_000_000;
+
+/// A unit of the coarse clock.
+const MILLISECOND: u64 = 1000;
 
 impl RoundTrip {
     /// Nothing is known at the start of a connection: the timeout is a second.
@@ -76,8 +81,8 @@ impl RoundTrip {
         }
     }
 
-    /// The retransmission timeout in milliseconds.
-    pub const fn timeout(&self) -> u16
+    /// The retransmission timeout in microseconds.
+    pub const fn timeout(&self) -> u32
         ensures value { result ≡ self.now.timeout }
         ensures timed { IsTimed self.now }
     {
@@ -86,15 +91,15 @@ impl RoundTrip {
 
     /// The least timeout.
     pub const fn least(&self) -> Duration
-        ensures value { result ≡ self.now.least * 1000 }
+        ensures value { result ≡ self.now.least }
     {
-        Duration::from_millis(self.least as u64)
+        Duration::from_micros(self.least as u64)
     }
 
-    /// The smoothed round trip in milliseconds, 0 where none is known.
+    /// The smoothed round trip in microseconds, 0 where none is known.
     pub fn smoothed(&self) -> u64
         ensures value { result ≡ srtt self.now }
-        ensures small { result < 2 ^ 52 }
+        ensures small { result ≤ last_moment }
     {
         match self.estimate {
             None => 0,
@@ -102,10 +107,10 @@ impl RoundTrip {
         }
     }
 
-    /// The shortest round trip that was measured, in milliseconds, 0 where none was.
+    /// The shortest round trip that was measured, in microseconds, 0 where none was.
     pub fn shortest(&self) -> u64
         ensures value { result ≡ shortest self.now }
-        ensures small { result < 2 ^ 52 }
+        ensures small { result ≤ last_moment }
     {
         match self.estimate {
             None => 0,
@@ -121,8 +126,19 @@ impl RoundTrip {
         let delay = if alone { DELAYED_ACK } else { 0 };
         match self.estimate {
             None => None,
-            Some(estimate) => Some((estimate.smoothed * 2000).max(LEAST_PROBE_WAIT) + delay),
+            Some(estimate) => Some((2 * estimate.smoothed).max(LEAST_PROBE_WAIT) + delay),
         }
+    }
+
+    /// How long what may only be late is waited for, in microseconds: so many quarters of the shortest round
+    /// trip, but no longer than the smoothed one.
+    pub fn late_wait(&self, quarters: u8) -> u64
+        ensures value { result ≡ late_wait self.now quarters }
+        ensures small { result < 2 ^ 62 }
+    {
+        (self.shortest() / 4)
+            .saturating_mul(quarters as u64)
+            .min(self.smoothed())
     }
 
     /// Sets the least timeout, in whole milliseconds between 10 and a minute. One that is higher than
@@ -134,16 +150,16 @@ impl RoundTrip {
         self.timeout = self.timeout.max(self.least);
     }
 
-    /// SND.UNA rose by so much.
-    pub fn advance(&mut self, by: u32, now: Instant)
+    /// SND.UNA rose by so much. `fine` says that the clock is one of microseconds.
+    pub fn advance(&mut self, by: u32, now: Instant, fine: bool)
         requires { IsMoment now }
-        ensures { self.new ≡ advanced self.old by now }
+        ensures { self.new ≡ advanced fine self.old by now }
     {
         let Some(sample) = self.sample else {
             return;
         };
         if sample.ends <= by {
-            self.measure(millis_between(sample.since, now));
+            self.measure(clocked(micros_between(sample.since, now), fine), fine);
         } else {
             self.sample = Some(Sample {
                 ends: sample.ends - by,
@@ -153,12 +169,23 @@ impl RoundTrip {
     }
 
     /// SND.UNA rises by so much, and an echo tells of a round trip of so many milliseconds. It counts
-    /// where what is timed is acknowledged, or nothing is timed.
-    pub fn take_echo(&mut self, by: u32, millis: u32)
-        ensures { self.new ≡ echoed self.old by millis }
+    /// where what is timed is acknowledged, or nothing is timed; with a fine clock where nothing is.
+    pub fn take_echo(&mut self, by: u32, millis: u32, fine: bool)
+        ensures { self.new ≡ echoed fine self.old by millis }
     {
-        if self.is_reached(by) {
-            self.measure(millis as u64);
+        if self.counts_echo(by, fine) {
+            self.measure(echo_micros(millis, fine), fine);
+        }
+    }
+
+    /// Whether an echo counts where SND.UNA rises by so much.
+    fn counts_echo(&self, by: u32, fine: bool) -> bool
+        ensures { result ≡ counts_echo fine self.now.sample by }
+    {
+        if fine {
+            self.sample.is_none()
+        } else {
+            self.is_reached(by)
         }
     }
 
@@ -203,24 +230,27 @@ impl RoundTrip {
     pub fn back_off(&mut self)
         ensures { self.new ≡ backed_off self.old }
     {
-        self.timeout = (2 * self.timeout as u32).min(MOST_TIMEOUT as u32) as u16;
+        self.timeout = (2 * self.timeout).min(MOST_TIMEOUT);
     }
 
-    /// Takes a round trip of so many milliseconds into account.
-    fn measure(&mut self, millis: u64)
-        requires { millis < 2 ^ 52 }
-        ensures { self.new ≡ measured self.old millis }
+    /// Takes a round trip of so many microseconds into account.
+    fn measure(&mut self, micros: u64, fine: bool)
+        requires { micros ≤ last_moment }
+        ensures { self.new ≡ measured fine self.old micros }
     {
         let estimate = match self.estimate {
             None => Estimate {
-                smoothed: millis,
-                variation: millis / 2,
-                shortest: millis,
+                smoothed: micros,
+                variation: clocked(micros / 2, fine),
+                shortest: micros,
             },
             Some(old) => Estimate {
-                smoothed: (7 * old.smoothed + millis) / 8,
-                variation: (3 * old.variation + old.smoothed.abs_diff(millis)) / 4,
-                shortest: old.shortest.min(millis),
+                smoothed: clocked(smoothed_with(old.smoothed, micros), fine),
+                variation: clocked(
+                    (3 * old.variation + old.smoothed.abs_diff(micros)) / 4,
+                    fine,
+                ),
+                shortest: old.shortest.min(micros),
             },
         };
         self.timeout = timeout_of(self.least, &estimate);
@@ -229,70 +259,147 @@ impl RoundTrip {
     }
 }
 
+/// So many microseconds as a clock counts them, in whole milliseconds if it isn't fine.
+fn clocked(micros: u64, fine: bool) -> u64
+    ensures value { result ≡ clocked fine micros }
+    ensures no_more { result ≤ micros }
+{
+    if fine {
+        micros
+    } else {
+        micros / MILLISECOND * MILLISECOND
+    }
+}
+
+/// What an echo tells that is so many milliseconds old, in microseconds.
+fn echo_micros(millis: u32, fine: bool) -> u64
+    ensures { result ≡ echo_micros fine millis }
+{
+    (millis as u64 + fine as u64) * MILLISECOND
+}
+
+/// An eighth of the way from a smoothed round trip to this one.
+fn smoothed_with(smoothed: u64, micros: u64) -> u64
+    requires { (smoothed ≤ last_moment) × (micros ≤ last_moment) }
+    ensures value { result ≡ (7 * smoothed + micros) / 8 }
+    ensures small { result ≤ last_moment }
+{
+    ((7 * smoothed as u128 + micros as u128) / 8) as u64
+}
+
 /// The least timeout where a user asks for this one.
-fn least_of(duration: Duration) -> u16
+fn least_of(duration: Duration) -> u32
     ensures value { result ≡ least_of duration }
     ensures bounded { (shortest_timeout ≤ result) × (result ≤ most_timeout) }
 {
-    duration
-        .total_millis()
-        .max(SHORTEST_TIMEOUT as u64)
-        .min(MOST_TIMEOUT as u64) as u16
+    (duration.total_millis() * MILLISECOND)
+        .max(SHORTEST_TIMEOUT)
+        .min(MOST_TIMEOUT as u64) as u32
 }
 
 /// The timeout that an estimate gives.
-fn timeout_of(least: u16, estimate: &Estimate) -> u16
-    requires { (estimate.now.smoothed < 2 ^ 52) × (estimate.now.variation < 2 ^ 52) }
+fn timeout_of(least: u32, estimate: &Estimate) -> u32
+    requires { (estimate.now.smoothed ≤ last_moment) × (estimate.now.variation ≤ last_moment) }
     ensures { result ≡ timeout_of least estimate.now }
 {
     (estimate.smoothed + (4 * estimate.variation).max(least.min(MOST_SLACK) as u64))
         .max(least as u64)
-        .min(MOST_TIMEOUT as u64) as u16
+        .min(MOST_TIMEOUT as u64) as u32
 }
 
-/// The whole milliseconds from one moment to another, none where that isn't later.
-pub(crate) fn millis_between(since: Instant, now: Instant) -> u64
+/// The microseconds from one moment to another, none where that isn't later.
+fn micros_between(since: Instant, now: Instant) -> u64
     requires { IsMoment since × IsMoment now }
-    ensures value { result ≡ millis_between since now }
-    ensures small { result < 2 ^ 52 }
+    ensures value { result ≡ micros_between since now }
+    ensures small { result ≤ last_moment }
 {
     if since < now {
-        (now - since).total_millis()
+        (now - since).total_micros()
     } else {
         0
     }
 }
 
-/// Runs on numerals: the timeout doubles up to a minute, and follows the round trips.
+/// The whole milliseconds.
+pub(crate) fn millis_between(since: Instant, now: Instant) -> u64
+    requires { IsMoment since × IsMoment now }
+    ensures value { result ≡ millis_between since now }
+    ensures small { result < 2 ^ 52 }
+{
+    micros_between(since, now) / MILLISECOND
+}
+
+/// Runs on numerals: the timeout doubles up to a minute, and follows the round trips, in whole milliseconds.
 pub fn timeouts()
-    ensures first { fresh.timeout ≡ 1000 }
-    ensures doubled { (backed_off fresh).timeout ≡ 2000 }
-    ensures twice { (backed_off (backed_off fresh)).timeout ≡ 4000 }
-    ensures fifth { (backed_off (backed_off (backed_off (backed_off (backed_off fresh))))).timeout ≡ 32_000 }
-    ensures last { (backed_off (backed_off (backed_off (backed_off (backed_off (backed_off fresh)))))).timeout ≡ 60_000 }
-    ensures short { (measured fresh 100).timeout ≡ 1000 }
-    ensures long { (measured fresh 801).timeout ≡ 2401 }
-    ensures second { measured (measured fresh 801) 700 ≡ record fresh { estimate = Some (record { smoothed = 788; variation = 325; shortest = 700 }); timeout = 2088 } }
+    ensures first { fresh.timeout ≡ 1_000_000 }
+    ensures doubled { (backed_off fresh).timeout ≡ 2_000_000 }
+    ensures twice { (backed_off (backed_off fresh)).timeout ≡ 4_000_000 }
+    ensures fifth { (backed_off (backed_off (backed_off (backed_off (backed_off fresh))))).timeout ≡ 32_000_000 }
+    ensures last { (backed_off (backed_off (backed_off (backed_off (backed_off (backed_off fresh)))))).timeout ≡ 60_000_000 }
+    ensures short { (measured false fresh 100_000).timeout ≡ 1_000_000 }
+    ensures long { (measured false fresh 801_000).timeout ≡ 2_401_000 }
+    ensures second { measured false (measured false fresh 801_000) 700_000 ≡
+        record fresh { estimate = Some (record { smoothed = 788_000; variation = 325_000; shortest = 700_000 }); timeout = 2_088_000 } }
     ensures whole { millis_between (pos 1_500) (pos 4_499) ≡ 2 }
-    ensures timed { advanced (advanced (timing fresh 10 (pos 0)) 4 (pos 500_000)) 6 (pos 801_999) ≡ measured fresh 801 }
+    ensures timed { advanced false (advanced false (timing fresh 10 (pos 0)) 4 (pos 500_000)) 6 (pos 801_999) ≡ measured false fresh 801_000 }
 {}
 
 /// Runs on numerals with a least timeout of 200 ms: the first timeout is a second, then it lies 200 ms
 /// above round trips of 100 ms, however steady they are, and each more costs the doubling. What may be
 /// set lies between 10 ms and a minute.
 pub fn least_timeouts()
-    ensures first { (with_least 200_000 fresh).timeout ≡ 1000 }
-    ensures one { measured (with_least 200_000 fresh) 100 ≡
-        record fresh { estimate = Some (record { smoothed = 100; variation = 50; shortest = 100 }); timeout = 300; least = 200 } }
-    ensures two { (measured (measured (with_least 200_000 fresh) 100) 100).timeout ≡ 300 }
-    ensures moved { (measured (measured (with_least 200_000 fresh) 100) 300).timeout ≡ 473 }
-    ensures short { (measured (with_least 200_000 fresh) 1).timeout ≡ 201 }
-    ensures steady { (timeout_of 10 (record { smoothed = 100; variation = 0; shortest = 100 })) ≡ 110 }
-    ensures long { (timeout_of 1000 (record { smoothed = 1300; variation = 0; shortest = 1300 })) ≡ 1500 }
-    ensures doubled { (backed_off (measured (with_least 200_000 fresh) 100)).timeout ≡ 600 }
-    ensures raised { (with_least 5_000_000 fresh).timeout ≡ 5000 }
-    ensures late { (begun_late (with_least 200_000 fresh)).timeout ≡ 3000 }
-    ensures later { (begun_late (with_least 5_000_000 fresh)).timeout ≡ 5000 }
-    ensures lowest { least_of 9_999 ≡ 10 }
-    ensures highest { least_of 90_000_000 ≡ 60_000 }
+    ensures first { (with_least 200_000 fresh).timeout ≡ 1_000_000 }
+    ensures one { measured false (with_least 200_000 fresh) 100_000 ≡
+        record fresh { estimate = Some (record { smoothed = 100_000; variation = 50_000; shortest = 100_000 }); timeout = 300_000; least = 200_000 } }
+    ensures two { (measured false (measured false (with_least 200_000 fresh) 100_000) 100_000).timeout ≡ 300_000 }
+    ensures moved { (measured false (measured false (with_least 200_000 fresh) 100_000) 300_000).timeout ≡ 473_000 }
+    ensures short { (measured false (with_least 200_000 fresh) 1000).timeout ≡ 201_000 }
+    ensures steady { (timeout_of 10_000 (record { smoothed = 100_000; variation = 0; shortest = 100_000 })) ≡ 110_000 }
+    ensures long { (timeout_of 1_000_000 (record { smoothed = 1_300_000; variation = 0; shortest = 1_300_000 })) ≡ 1_500_000 }
+    ensures doubled { (backed_off (measured false (with_least 200_000 fresh) 100_000)).timeout ≡ 600_000 }
+    ensures raised { (with_least 5_000_000 fresh).timeout ≡ 5_000_000 }
+    ensures late { (begun_late (with_least 200_000 fresh)).timeout ≡ 3_000_000 }
+    ensures later { (begun_late (with_least 5_000_000 fresh)).timeout ≡ 5_000_000 }
+    ensures lowest { least_of 9_999 ≡ 10_000 }
+    ensures between { least_of 200_999 ≡ 200_000 }
+    ensures highest { least_of 90_000_000 ≡ 60_000_000 }
+{}
+
+/// Runs on numerals with a clock of microseconds, over a path of 0.3 ms and one of 25 ms, with a least timeout
+/// of 10 ms.
+pub fn fine_timeouts()
+    ensures first { measured true (with_least 10_000 fresh) 301 ≡
+        record fresh { estimate = Some (record { smoothed = 301; variation = 150; shortest = 301 }); timeout = 10_301; least = 10_000 } }
+    ensures second { measured true (measured true (with_least 10_000 fresh) 301) 287 ≡
+        record fresh { estimate = Some (record { smoothed = 299; variation = 116; shortest = 287 }); timeout = 10_299; least = 10_000 } }
+    ensures third { measured true (measured true (measured true (with_least 10_000 fresh) 301) 287) 5412 ≡
+        record fresh { estimate = Some (record { smoothed = 938; variation = 1365; shortest = 287 }); timeout = 10_938; least = 10_000 } }
+    ensures long { (measured true (with_least 10_000 fresh) 25_301).timeout ≡ 75_901 }
+    ensures longer { measured true (measured true (with_least 10_000 fresh) 25_301) 31_007 ≡
+        record fresh { estimate = Some (record { smoothed = 26_014; variation = 10_914; shortest = 25_301 }); timeout = 69_670; least = 10_000 } }
+    ensures timed { advanced true (advanced true (timing fresh 10 (pos 0)) 4 (pos 500_000)) 6 (pos 801_999) ≡ measured true fresh 801_999 }
+    ensures most { (measured true fresh 70_000_000).timeout ≡ 60_000_000 }
+    ensures timed_first { echoed true (timing fresh 10 (pos 0)) 10 1 ≡ timing fresh 10 (pos 0) }
+    ensures echoed { echoed true fresh 10 0 ≡ measured true fresh 1000 }
+    ensures echoed_whole { echoed false (timing fresh 10 (pos 0)) 10 1 ≡ measured false fresh 1000 }
+{}
+
+/// With the clock of milliseconds the estimates and the timeout are what whole milliseconds give, each division
+/// dropping its rest. With either clock the timeout isn't less than SRTT and G or four times RTTVAR, if those
+/// are no more than a minute. With the one of microseconds an echo counts for no less than the time since it
+/// went.
+pub fn timeout_laws()
+    ensures first_whole { (millis : ℕ)
+        → smoothed false None (millis * 1000) ≡ in_micros (record { smoothed = millis; variation = millis / 2; shortest = millis }) }
+    ensures next_whole { (e : Estimate) (millis : ℕ) → smoothed false (Some (in_micros e)) (millis * 1000) ≡
+        in_micros (record {
+          smoothed = (7 * e.smoothed + millis) / 8;
+          variation = (3 * e.variation + distance e.smoothed millis) / 4;
+          shortest = min e.shortest millis;
+        }) }
+    ensures timeout_whole { (least : ℕ) (e : Estimate) → timeout_of (least * 1000) (in_micros e) ≡
+        min 60_000 (max least (e.smoothed + max (min least 200) (4 * e.variation))) * 1000 }
+    ensures above { (fine : Bool) (r : RoundTripValue) (micros : ℕ) → let e = smoothed fine r.estimate micros in
+        min most_timeout (e.smoothed + max (slack r.least) (4 * e.variation)) ≤ (measured fine r micros).timeout }
+    ensures echo { (sent now : ℕ) → now - sent ≤ echo_micros true (now / 1000 - sent / 1000) }
 {}

@@ -124,7 +124,7 @@ impl Scoreboard {
 
     /// Whether there is no run, as where nothing was lost: what looks for runs asks this first. The words are
     /// put together without a branch, so several at a time.
-    fn is_empty(&self) -> bool
+    pub fn is_empty(&self) -> bool
         ensures { result ≡ is_empty self.now.runs }
     {
         self.runs

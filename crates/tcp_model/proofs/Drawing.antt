@@ -1,6 +1,6 @@
 -- Drawn answers lie a second apart.
-use Rattle.std.proofs.Common.{◌≡◌, ℕ, ◌+◌, ◌≤◌, ◌&&◌, ◌||◌, not, Bool, true, false, if◌then◌else◌, List, [], ◌∷◌, ◌++◌, length, nat_le, ◌==◌, Option, Some, None}
-use Rattle.std.proofs.Common.{is_some, ℤ, pos, ◌+ℤ◌, ◌≤ℤ◌, int_le, refl, sym, ap, ◌∙◌, subst, arith}
+use Rattle.std.proofs.Common.{◌≡◌, ℕ, ◌+◌, ◌≤◌, ◌&&◌, ◌||◌, not, Bool, true, false, if◌then◌else◌, List, [], ◌∷◌, ◌++◌, length, nat_le, ◌==◌, Option, Some}
+use Rattle.std.proofs.Common.{None, is_some, ℤ, pos, ◌+ℤ◌, ◌≤ℤ◌, int_le, refl, sym, ap, ◌∙◌, subst, arith}
 use Rattle.std.proofs.lemmas.Bool.{cond_both}
 use Rattle.std.proofs.lemmas.Bool.Decides.{nat_tests}
 use Rattle.held_bytes.specs.Held.{runs_of}
@@ -21,8 +21,8 @@ use Rattle.tcp_control.specs.declared.state.State.TheVariants as In
 use Rattle.tcp_model.specs.Acknowledged.{acknowledged, block_acknowledged, acks_fin, in_state, una_moved, state_after_ack, ended_if, names_window, windowed}
 use Rattle.tcp_model.specs.Acknowledged.{duplicates_after}
 use Rattle.tcp_model.specs.Answers.{may_draw, with_draw, drawn, acked, answer_for}
-use Rattle.tcp_model.specs.Arrival.{arrives, arrives_in, is_void_syn, outside, tells_news, has_length, comes_again, passed_outside, waiting_anew, inside, taken, told, with_content}
-use Rattle.tcp_model.specs.Arrival.{continued, finished, checked, reset_comes, echo_heard, takes_reset, challenges_reset, draws_first}
+use Rattle.tcp_model.specs.Arrival.{arrives, arrives_in, is_void_syn, outside, tells_news, has_length, comes_again, passed_outside, waiting_anew, inside, taken}
+use Rattle.tcp_model.specs.Arrival.{told, with_content, continued, finished, checked, reset_comes, echo_heard, takes_reset, challenges_reset, draws_first}
 use Rattle.tcp_model.specs.Calls.{listening, send_after, close_after}
 use Rattle.tcp_model.specs.Checks.{Check, acknowledgement_check, is_in_window, lies_before, falls_back, taken_down}
 use Rattle.tcp_model.specs.Checks.Check.{Passes, Old, Drops, Draws, Resets}
@@ -30,7 +30,8 @@ use Rattle.tcp_model.specs.LossRecovery.{loss_probe_moment, loss_probed, loss_pr
 use Rattle.tcp_model.specs.Offers.{silent, offer_of, offer_with, offer_between, offer_reset, first_rules, last_rules, backed_off, offer_syn, offer_choice}
 use Rattle.tcp_model.specs.Offers.{offer_ack, offer_keep_alive, offer_held_back}
 use Rattle.tcp_model.specs.Opening.{opens, takes_answer, is_first_syn, acks_syn, connected, crossed}
-use Rattle.tcp_model.specs.Pauses.{Happening, Lasts, IsOneConnection, AreApart, after, drawn_moments, is_drawing, draws_in, draws_any, draws_by, pause_of, IsAnsweredAtOnce}
+use Rattle.tcp_model.specs.Pauses.{Happening, Lasts, IsOneConnection, AreApart, after, drawn_moments, is_drawing, draws_in, draws_any, draws_by, pause_of}
+use Rattle.tcp_model.specs.Pauses.{IsAnsweredAtOnce}
 use Rattle.tcp_model.specs.Pauses.Happening.{Comes, Asked, Called}
 use Rattle.tcp_model.specs.Probing.{probe_moment, probe_started}
 use Rattle.tcp_model.specs.Retries.{heard, asked, gives_up, given_up}

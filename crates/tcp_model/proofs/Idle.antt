@@ -14,7 +14,7 @@ use Rattle.tcp_model.specs.Due.{wishes, moments, any, earlier_of, earliest, at_m
 use Rattle.tcp_control.specs.Moments.{is_due, timeout_from}
 use Rattle.tcp_model.specs.Offers.{silent, offer_syn, offer_choice, offer_ack, offer_keep_alive, offer_held_back, offer_reset, first_rules, last_rules}
 use Rattle.tcp_model.specs.Offers.{backed_off, offer_between, offer_with, offer_of}
-use Rattle.tcp_model.specs.LossRecovery.{loss_probe_moment, loss_probed, loss_probed_by}
+use Rattle.tcp_model.specs.LossRecovery.{loss_moment, loss_probe_moment, loss_probed, loss_probed_by}
 use Rattle.tcp_model.specs.Probing.{probe_started, probe_moment, is_probe_unset, is_probing}
 use Rattle.tcp_model.specs.Quiet.{IsQuiet}
 use Rattle.tcp_model.proofs.Later.{AreLater}
@@ -149,15 +149,15 @@ module _ (cx : ContextValue) (pair : EndpointPair) (v : TcpValue) where
       (λ later _. later)
 
   -- a probe that is due takes its moment away
-  never_in : (sends : Bool) → None ≡ v.block.loss.probe_at → is_due cx.moment (if sends then v.block.loss.probe_at else None) ≡ false
-  never_in true e = never_due cx.moment v.block.loss.probe_at e
-  never_in false e = refl
+  never_in : (sends : Bool) (moment : Option ℤ) → None ≡ moment → is_due cx.moment (if sends then moment else None) ≡ false
+  never_in true moment e = never_due cx.moment moment e
+  never_in false moment e = refl
 
-  not_probed : (loss_probed_by cx.moment started).loss.probe_at ≡ v.block.loss.probe_at → is_due cx.moment (loss_probe_moment v.block) ≡ false
+  not_probed : loss_moment (loss_probed_by cx.moment started).loss ≡ loss_moment v.block.loss → is_due cx.moment (loss_probe_moment v.block) ≡ false
   not_probed =
       cond_both (is_due cx.moment (loss_probe_moment started)) (loss_probed started) started
-      (λ (b : Block). b.loss.probe_at ≡ v.block.loss.probe_at → is_due cx.moment (loss_probe_moment v.block) ≡ false)
-      (λ _ e. never_in (sends_text v.block.state && (not v.block.sender.syn_unacked && not (v.block.sender.in_flight == 0))) e)
+      (λ (b : Block). loss_moment b.loss ≡ loss_moment v.block.loss → is_due cx.moment (loss_probe_moment v.block) ≡ false)
+      (λ _ e. never_in (sends_text v.block.state && (not v.block.sender.syn_unacked && not (v.block.sender.in_flight == 0))) (loss_moment v.block.loss) e)
       (λ later _. later)
 
   module _ (no_end : is_due cx.moment (time_wait_end v.block) ≡ false) (no_timeout : is_due cx.moment (timeout_end v.block (queued_in v)) ≡ false)
@@ -178,7 +178,7 @@ module _ (cx : ContextValue) (pair : EndpointPair) (v : TcpValue) where
 
     no_loss_probe : is_due cx.moment (loss_probe_moment v.block) ≡ false
     no_loss_probe =
-        not_probed (sym (ap (λ (b : Block). b.loss.probe_at) goes_on) ∙ ap (λ (w : TcpValue). w.block.loss.probe_at) q.same)
+        not_probed (sym (ap (λ (b : Block). loss_moment b.loss) goes_on) ∙ ap (λ (w : TcpValue). loss_moment w.block.loss) q.same)
 
     same_block : retried ≡ v.block
     same_block =

@@ -1,5 +1,6 @@
 -- A block behind an acknowledgement that may undo a loss.
-use Rattle.std.proofs.Common.{◌≡◌, ℕ, ◌+◌, ◌==◌, not, ◌&&◌, max, min, ℤ, Bool, true, false, Option, Some, None, refl, sym, ap, ◌∙◌, subst}
+use Rattle.std.proofs.Common.{◌≡◌, ℕ, ◌+◌, ◌==◌, not, ◌&&◌, max, min, ℤ, Bool, true, false, if◌then◌else◌, Option, Some, None}
+use Rattle.std.proofs.Common.{refl, sym, ap, ◌∙◌, subst}
 use Rattle.ip_wire.specs.TcpHeader.{TcpHeader}
 use Rattle.tcp_control.specs.Reno as reno
 use Rattle.tcp_model.specs.Acknowledged.{freed_by}
@@ -12,7 +13,7 @@ use Rattle.tcp_model.specs.declared.block.Undo.{Undo}
 abbrev pub undone_by : Undo → Block → ℕ → Block
 undone_by u b queued = record b {
   sender = record b.sender { in_flight = max b.sender.in_flight (min b.sender.top (one_if b.sender.syn_unacked + queued)); resend = false; recover = 0 };
-  loss = record b.loss { resent = 0; credit = 0 };
+  loss = record b.loss { resent = 0; credit = 0; patience = if b.reno.recovers then min b.loss.patience 15 + 1 else b.loss.patience };
   reno = reno.restored b.reno u.reno;
 }
 
@@ -42,7 +43,7 @@ undone_cases b header by queued now P stays restored = at (is_needless b header 
   with_undo : Option Undo → Block
   with_undo o = record b {
     sender = record b.sender { in_flight = max b.sender.in_flight (min b.sender.top (one_if b.sender.syn_unacked + queued)); resend = false; recover = 0 };
-    loss = record b.loss { resent = 0; credit = 0 };
+    loss = record b.loss { resent = 0; credit = 0; patience = if b.reno.recovers then min b.loss.patience 15 + 1 else b.loss.patience };
     reno = prior_of o b.reno;
   }
 

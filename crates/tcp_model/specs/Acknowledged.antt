@@ -1,7 +1,7 @@
 -- The acknowledgement and the window of an accepted segment (RFC 9293, 3.10.7.4, fifth): SND.UNA rises by so much, and so many
 -- bytes are queued before that.
-use Rattle.std.specs.Prelude.{ℕ, ◌+◌, ◌-◌, ◌*◌, ◌^◌, ◌==◌, nat_lt, not, ◌&&◌, ◌||◌, min, max, ℤ, Bool, true, false, if◌then◌else◌, List, [], ◌∷◌, Option, Some}
-use Rattle.std.specs.Prelude.{None}
+use Rattle.std.specs.Prelude.{ℕ, ◌+◌, ◌-◌, ◌*◌, ◌/◌, ◌^◌, ◌==◌, nat_lt, not, ◌&&◌, ◌||◌, min, max, ℤ, Bool, true, false, if◌then◌else◌, List, [], ◌∷◌}
+use Rattle.std.specs.Prelude.{Option, Some, None, is_none}
 use Rattle.ip_wire.specs.SeqNumber.{SeqNumber}
 use Rattle.ip_wire.specs.Options.{capped}
 use Rattle.ip_wire.specs.TcpHeader.{TcpHeader}
@@ -12,16 +12,17 @@ use Rattle.tcp_model.specs.declared.block.Timers.{Timers}
 use Rattle.tcp_control.specs.declared.state.State.{State}
 use Rattle.tcp_model.specs.Blocks.{one_if, unacked, forgotten, past_top}
 use Rattle.tcp_control.specs.Controls.{is_fin}
-use Rattle.tcp_control.specs.Moments.{timeout_from, time_wait_from}
+use Rattle.tcp_control.specs.Moments.{later, timeout_from, time_wait_from}
 use Rattle.tcp_control.specs.Offsets.{behind_by, past_by, before_by}
 use Rattle.tcp_control.specs.Reno as reno
 use Rattle.tcp_control.specs.Reno.{RenoValue}
 use Rattle.tcp_control.specs.RoundTrip as round_trip
-use Rattle.tcp_control.specs.RoundTrip.{RoundTripValue, srtt}
+use Rattle.tcp_control.specs.RoundTrip.{RoundTripValue, late_wait, srtt}
 use Rattle.tcp_control.specs.States.{is_closed, is_time_wait, owes_fin, after_ack, after_ack_of_fin}
-use Rattle.tcp_model.specs.LossRecovery.{loss_acked, ranges_noted, is_first_lost, is_lost_again, is_lost_at, is_passed}
+use Rattle.tcp_model.specs.LossRecovery.{loss_acked, ranges_noted, is_first_lost, is_lost_again, is_lost_at, is_passed, may_be_late}
 use Rattle.tcp_model.specs.Timestamps.{stamp_taken}
 use Rattle.tcp_model.specs.Undo.{undo_begun}
+use Rattle.tcp_model.specs.Validation.{grown_if_used, validation_after}
 use Rattle.tcp_model.specs.Value.{TcpValue, queued_in}
 
 -- how many bytes of the send queue are acknowledged
@@ -55,12 +56,12 @@ acks_own_syn b by = b.sender.syn_unacked && not (by == 0)
 -- the round trip, where a connection may begin after its SYN was lost
 abbrev pub round_trip_after : Block → ℕ → ℤ → RoundTripValue
 round_trip_after b by now =
-    if acks_own_syn b by && b.sender.syn_lost then round_trip.begun_late (round_trip.advanced b.round_trip by now)
-    else round_trip.advanced b.round_trip by now
+    if acks_own_syn b by && b.sender.syn_lost then round_trip.begun_late (round_trip.advanced b.settings.fine_timer b.round_trip by now)
+    else round_trip.advanced b.settings.fine_timer b.round_trip by now
 
--- SRTT behind it
+-- SRTT behind it, in whole milliseconds
 abbrev pub srtt_after : Block → ℕ → ℤ → ℕ
-srtt_after b by now = srtt (round_trip.advanced b.round_trip by now)
+srtt_after b by now = srtt (round_trip.advanced b.settings.fine_timer b.round_trip by now) / 1000
 
 -- PARTIAL ACKNOWLEDGEMENTS (RFC 6582, 3.2, step 3)
 
@@ -87,12 +88,12 @@ abbrev pub recovery_after : Block → ℕ → ℕ → RenoValue
 recovery_after b by queued = if is_partial b by then partly_after b by queued else reno.recovered b.reno
 
 -- a connection begins with its first window; in fast recovery an acknowledgement is partial, or ends it; else the window grows by what is
--- acknowledged now
+-- acknowledged now, if it is used
 abbrev pub reno_after : Block → ℕ → ℕ → ℤ → RenoValue
 reno_after b by queued now =
     if acks_own_syn b by then reno.started b.reno b.sender.syn_lost
     else if acks_in_recovery b by then recovery_after b by queued
-    else reno.acknowledged b.reno (freed_by b by queued) now (srtt_after b by now)
+    else grown_if_used b (freed_by b by queued) now (srtt_after b by now)
 
 -- SND.UNA rises: sender, retransmission timer, round trip and congestion. After a partial acknowledgement the segment at SND.UNA is to
 -- go again at once, unless it did.
@@ -108,6 +109,7 @@ una_risen b by queued now = record b {
   };
   round_trip = round_trip_after b by now;
   reno = reno_after b by queued now;
+  validation = validation_after b by now;
 }
 
 abbrev pub una_moved : Block → ℕ → ℕ → ℤ → Block
@@ -213,19 +215,28 @@ is_duplicate b header size by =
 abbrev pub duplicates_after : Block → TcpHeader → ℕ → ℕ → ℕ
 duplicates_after old header size by = if is_duplicate old header size by then min (old.sender.duplicates + 1) 4 else 0
 
--- The third says that the segment at SND.UNA was lost, but in recovery, where that went again already (RFC 5681, 3.2).
+-- The third says that the segment at SND.UNA was lost (RFC 5681, 3.2). This is where it begins no recovery, since the timer ran out.
 abbrev pub is_third : Block → ℕ → Bool
-is_third b count = (count == 3) && not b.reno.recovers
+is_third b count = (count == 3) && (not b.reno.recovers && not (b.sender.recover == 0))
 
 -- What went again after the timer ran out is lost: what was first sent after it is held (RFC 8985, 6.2).
 abbrev pub is_lost_since : Block → Bool
 is_lost_since b = not (b.sender.recover == 0) && (b.peer.sack && (not b.reno.recovers && is_passed b b.sender.recover))
 
--- It begins fast recovery, and so do ranges that say so much (RFC 6675, 5), where more than `recover` is acknowledged (RFC 6582, 3.2,
--- step 2). Else the timer ran out, and a duplicate may answer a segment that went again without need: it says nothing of the window, unless
--- ranges say that a segment which went since then is lost.
+-- So do ranges that say so much (RFC 6675, 5), where more than `recover` is acknowledged (RFC 6582, 3.2, step 2).
+abbrev pub is_missed : Block → ℕ → Bool
+is_missed b count = (b.sender.recover == 0) && ((count == 3) || is_first_lost b)
+
+-- It begins fast recovery, unless it may only be late. Else the timer ran out, and a duplicate may answer a segment that went again without
+-- need: it says nothing of the window, unless ranges say that a segment which went since then is lost.
 abbrev pub begins_recovery : Block → ℕ → Bool
-begins_recovery b count = ((b.sender.recover == 0) && ((count == 3) || is_first_lost b)) || is_lost_since b
+begins_recovery b count = (is_missed b count && not (may_be_late b)) || is_lost_since b
+
+-- until when it is waited for: the moment is set once (RFC 8985, 6.2, step 5)
+abbrev pub late_until : Block → ℕ → ℤ → Option ℤ
+late_until b count now =
+    if is_none b.loss.late_until && (is_missed b count && may_be_late b) then Some (later now (late_wait b.round_trip b.loss.patience))
+    else b.loss.late_until
 
 -- Where recovery begins a segment was lost, and the loss of what went again is one more (RFC 5681, 4.3); each other one in recovery says
 -- that a segment has left, but where ranges tell so the window doesn't grow.
@@ -246,8 +257,8 @@ abbrev pub starts_again : Block → ℕ → Bool
 starts_again b count = begins_recovery b count || is_lost_again b
 
 -- at the third, and where recovery begins, the segment at SND.UNA is to go again
-abbrev pub counted : Block → ℕ → Block
-counted b count = record b {
+abbrev pub counted : Block → ℕ → ℤ → Block
+counted b count now = record b {
   sender = record b.sender {
     duplicates = count;
     resend = b.sender.resend || (is_third b count || begins_recovery b count);
@@ -256,6 +267,7 @@ counted b count = record b {
   };
   loss = record b.loss {
     resent = if starts_again b count then 0 else b.loss.resent;
+    late_until = late_until b count now;
     undo = if begins_recovery b count then undo_begun b else b.loss.undo;
   };
   reno = reno_counted b.reno b.peer.sack count b.sender.in_flight (begins_recovery b count) (is_lost_again b);

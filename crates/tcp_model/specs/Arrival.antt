@@ -15,6 +15,7 @@ use Rattle.tcp_control.specs.Moments.{time_wait_from}
 use Rattle.tcp_model.specs.Opening.{opens, takes_answer}
 use Rattle.tcp_model.specs.Probing.{probe_kept}
 use Rattle.tcp_model.specs.Retries.{heard}
+use Rattle.tcp_model.specs.Settled.{nxt_past_held}
 use Rattle.tcp_model.specs.Segments.{no_ranges, segment_len, rst_reply}
 use Rattle.tcp_control.specs.States.{is_closed, is_answering, is_time_wait}
 use Rattle.tcp_model.specs.Text.{Texted, with_text, with_fin}
@@ -76,7 +77,8 @@ with_content cx v ip header bytes = finished cx v.block (with_text v header byte
 -- the window of a segment, what its ranges name, and which duplicate it is
 abbrev pub told : TcpValue → TcpHeader → ℕ → ℤ → TcpValue
 told v header duplicates now =
-    with_block v (timeout_restarted (counted (ranges_taken (window_set v.block header now) header now) duplicates) now (queued_in v))
+    with_block v
+    (timeout_restarted (nxt_past_held (counted (ranges_taken (window_set v.block header now) header now) duplicates now) (queued_in v)) now (queued_in v))
 
 -- its acknowledgement was taken: then its window and its text are. `old` is the block as the segment found it.
 abbrev pub continued : ContextValue → Block → TcpValue → IpRepr → TcpHeader → List ℕ → ℕ → Arrived

@@ -12,6 +12,7 @@ use Rattle.tcp_model.specs.declared.block.Sender.{Sender}
 use Rattle.tcp_model.specs.declared.block.Settings.{Settings}
 use Rattle.tcp_model.specs.declared.block.Stamps.{Stamps}
 use Rattle.tcp_model.specs.declared.block.Timers.{Timers}
+use Rattle.tcp_model.specs.declared.block.Validation.{Validation}
 use Rattle.tcp_model.specs.declared.block.CongestionControl.{CongestionControl}
 use Rattle.tcp_model.specs.declared.block.CongestionControl.TheVariants as Congestion
 use Rattle.tcp_control.specs.declared.state.State.TheVariants as In
@@ -101,11 +102,18 @@ fresh_loss = record {
   probes = false;
   probed = false;
   probe_at = None;
+  patience = 0;
+  late_until = None;
   undo = None;
 }
 
+-- no text went, and no connection is there
+abbrev pub fresh_validation : Validation
+fresh_validation = record { flight = 0; since = None }
+
 -- Nothing is set: the delay of an acknowledgement is 10 milliseconds, a connection gives up after more than three minutes while it is
--- opened, later after 16 timeouts (3.8.3), and the least retransmission timeout is a second (RFC 6298, 2.4).
+-- opened, later after 16 timeouts (3.8.3), the least retransmission timeout is a second (RFC 6298, 2.4), and round trips are taken in whole
+-- milliseconds.
 abbrev pub default_settings : Settings
 default_settings = record {
   timeout = None;
@@ -120,6 +128,7 @@ default_settings = record {
   opening_retries = Some 9;
   retries = Some 16;
   min_rto = 1_000_000;
+  fine_timer = false;
 }
 
 -- what CUBIC knows at the start, where it is set
@@ -144,6 +153,7 @@ fresh_block settings = record {
   round_trip = round_trip.with_least settings.min_rto round_trip.fresh;
   reno = fresh_window settings.congestion_control;
   loss = fresh_loss;
+  validation = fresh_validation;
   settings = settings;
 }
 

@@ -14,6 +14,7 @@ pub mod Opening
 pub mod Checks
 pub mod Undo
 pub mod LossRecovery
+pub mod Validation
 pub mod Acknowledged
 pub mod Undone
 pub mod Text

@@ -1,13 +1,14 @@
 -- Loss recovery by selective acknowledgements (RFC 6675), and loss probes (RFC 8985, 7). Places are distances from SND.UNA.
 use Rattle.std.specs.Prelude.{ℕ, ◌+◌, ◌-◌, ◌*◌, ◌/◌, ◌==◌, nat_le, nat_lt, not, ◌&&◌, ◌||◌, min, max}
-use Rattle.std.specs.Prelude.{ℤ, Bool, true, false, if◌then◌else◌, List, [], ◌∷◌, Option, Some, None}
-use Rattle.ip_wire.specs.SeqNumber.{SeqNumber}
+use Rattle.std.specs.Prelude.{ℤ, Bool, true, false, if◌then◌else◌, List, [], ◌∷◌, Option, Some, None, is_none}
+use Rattle.std.specs.Option.{option_or}
 use Rattle.ip_wire.specs.TcpHeader.{TcpHeader}
 use Rattle.tcp_control.specs.Moments.{later, is_due}
 use Rattle.tcp_control.specs.Offsets.{past_by}
 use Rattle.tcp_control.specs.Reno as reno
 use Rattle.tcp_control.specs.RoundTrip.{probe_wait}
-use Rattle.tcp_control.specs.Scoreboard.{is_run, no_run, noted, after_ack, held, missing, first_missing, gap_end, held_from, is_lost, lost_end, sum_of}
+use Rattle.tcp_control.specs.Scoreboard.{is_run, no_run, noted, after_ack, held, missing, first_missing, gap_end, held_from, is_empty, is_lost, lost_end}
+use Rattle.tcp_control.specs.Scoreboard.{sum_of}
 use Rattle.tcp_control.specs.States.{sends_text}
 use Rattle.tcp_control.specs.declared.scoreboard.Run.{Run}
 use Rattle.tcp_model.specs.Blocks.{fresh_loss, past_top}
@@ -37,9 +38,13 @@ probes_losses b = b.peer.sack && nat_lt b.settings.min_rto 1_000_000
 abbrev pub probe_armed : Block → Loss → ℤ → Loss
 probe_armed b l now = if probes_losses b && not l.probed then record l { probe_at = probe_from b now } else l
 
+-- what may only be late is waited for before any probe goes
+abbrev pub loss_moment : Loss → Option ℤ
+loss_moment l = option_or l.late_until l.probe_at
+
 -- while text or a FIN is in flight
 abbrev pub loss_probe_moment : Block → Option ℤ
-loss_probe_moment b = if sends_text b.state && (not b.sender.syn_unacked && not (b.sender.in_flight == 0)) then b.loss.probe_at else None
+loss_probe_moment b = if sends_text b.state && (not b.sender.syn_unacked && not (b.sender.in_flight == 0)) then loss_moment b.loss else None
 
 -- WHAT THE REMOTE HOLDS (RFC 2018)
 
@@ -60,10 +65,11 @@ abbrev pub all_noted : Block → List Run → List (Option (ℕ × ℕ)) → Lis
 all_noted b runs [] = runs
 all_noted b runs (range ∷ more) = all_noted b (range_noted b runs range) more
 
--- more is held than before: that is something new
+-- more is held than before: that is something new, and the last segment isn't to go as a probe any more
 abbrev pub heard_more : Block → List Run → ℤ → Loss
 heard_more b runs now =
-    if nat_lt (held b.loss.board.runs) (held runs) then probe_armed b (record b.loss { board = record { runs = runs }; probed = false }) now
+    if nat_lt (held b.loss.board.runs) (held runs)
+    then probe_armed b (record b.loss { board = record { runs = runs }; probes = false; probed = false }) now
     else with_board b.loss runs
 
 -- the ranges of a segment are noted, if both SYNs permitted them
@@ -92,6 +98,16 @@ is_passed b place = nat_lt ((threshold b - 1) * b.reno.mss) (held_from b.loss.bo
 -- what went again is lost once more
 abbrev pub is_lost_again : Block → Bool
 is_lost_again b = b.peer.sack && (b.reno.recovers && (not (b.loss.resent == 0) && is_passed b b.loss.mark))
+
+-- WHAT MAY ONLY BE LATE
+
+-- SND.UNA rises over what went once, though what was sent later is held: it came out of order (RFC 8985, 6.2, step 3)
+abbrev pub came_late : Loss → Bool
+came_late l = (l.mark == 0) && not (is_empty l.board.runs)
+
+-- Once something did, what is missing may be late, too (RFC 8985, 6.2, step 4), unless a probe went since: the order on the way is settled then.
+abbrev pub may_be_late : Block → Bool
+may_be_late b = not (b.loss.patience == 0) && (b.peer.sack && not b.loss.eager)
 
 -- WHAT MAY GO
 
@@ -159,6 +175,8 @@ loss_lowered l by partial = record l {
   eager = l.eager && partial;
   probes = false;
   probed = false;
+  patience = if came_late l then max 1 l.patience else l.patience;
+  late_until = None;
   undo = None;
 }
 
@@ -177,12 +195,18 @@ loss_resent b end = record b.loss {
 
 -- the retransmission timer ran out: what is held stays known (RFC 6675, 5.1), and so does what the window was before
 abbrev pub loss_timed_out : Block → Loss
-loss_timed_out b = record fresh_loss { board = b.loss.board; undo = if b.sender.syn_unacked then None else undo_begun b }
+loss_timed_out b = record fresh_loss {
+  board = b.loss.board;
+  mark = b.sender.top;
+  patience = min 1 b.loss.patience;
+  undo = if b.sender.syn_unacked then None else undo_begun b;
+}
 
 -- A probe is due. Where nothing is held, nor was lost, the last segment is to go again (RFC 8985, 7.3). Else what isn't held is lost, and
--- what went again, too, since nothing came of it for two round trips: the segment at SND.UNA is to go again (RFC 8985, 6.2, step 5).
+-- what went again, too, since nothing came of it for two round trips: the segment at SND.UNA is to go again (RFC 8985, 6.2, step 5). So it is
+-- where it was waited for long enough; no other one is lost by that.
 abbrev pub probes_tail : Block → Bool
-probes_tail b = (b.sender.recover == 0) && (held b.loss.board.runs == 0)
+probes_tail b = is_none b.loss.late_until && ((b.sender.recover == 0) && (held b.loss.board.runs == 0))
 
 abbrev pub loss_probed : Block → Block
 loss_probed b = record b {
@@ -192,10 +216,11 @@ loss_probed b = record b {
   };
   loss = record b.loss {
     resent = if probes_tail b then b.loss.resent else 0;
-    eager = true;
+    eager = is_none b.loss.late_until;
     probes = probes_tail b;
-    probed = true;
+    probed = is_none b.loss.late_until;
     probe_at = None;
+    late_until = None;
     undo = if not (probes_tail b) && (b.sender.recover == 0) then undo_begun b else b.loss.undo;
   };
   reno = if probes_tail b then b.reno else reno.reduced b.reno b.sender.in_flight;

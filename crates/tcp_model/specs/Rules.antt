@@ -1,7 +1,7 @@
--- What a socket offers: a test for each rule, and what the rules for text may send. `queued` is the length of the send queue,
--- and `unbroken` says how many of its bytes from a place on lie before the end of the storage.
+-- What a socket offers: a test for each rule, and what the rules for text may send. `queued` is the length of the send queue. Where in
+-- its storage that lies doesn't matter: a segment may be filled from both parts of a ring.
 use Rattle.std.specs.Prelude.{ℕ, ◌+◌, ◌-◌, ◌*◌, ◌/◌, ◌==◌, nat_lt, nat_le, not, ◌&&◌, ◌||◌, min, max, ℤ, Bool, false, if◌then◌else◌, length, Option, None}
-use Rattle.net_base.specs.Ring.{Ring, until_end}
+use Rattle.net_base.specs.Ring.{Ring}
 use Rattle.ip_wire.specs.TcpControl.{TcpControl}
 use Rattle.ip_wire.specs.TcpControl.TheVariants as Control
 use Rattle.tcp_control.specs.declared.endpoints.AddressPair.{AddressPair}
@@ -62,10 +62,6 @@ abbrev pub window_limit : Block → ℕ → ℕ
 window_limit b size =
     congestion_limit b.settings.congestion_control (congestion_room b) (min (b.peer.window - b.sender.in_flight) size)
 
--- how many queued bytes from a place on lie before the end of the storage
-abbrev pub unbroken : Ring ℕ → ℕ → ℕ
-unbroken queued place = min (length queued.queue - place) (until_end queued place)
-
 -- where SND.NXT stands in the send queue
 abbrev pub next_place : Block → ℕ
 next_place b = b.sender.in_flight - one_if b.sender.syn_unacked
@@ -78,14 +74,14 @@ fin_goes b queued end = owes_fin b.state && (end == queued)
 abbrev pub text_of_size : Block → ℕ → ℕ → Choice
 text_of_size b queued len = record { place = next_place b; len = len; fin = fin_goes b queued (next_place b + len) }
 
--- what may go from SND.NXT: a segment lies in the storage in one piece
-abbrev pub text_choice : Block → AddressPair → ℕ → Ring ℕ → Choice
-text_choice b addresses ip_mtu queued =
-    text_of_size b (length queued.queue) (window_limit b (min (size_limit b addresses ip_mtu) (unbroken queued (next_place b))))
-
--- how much of the send queue may go from SND.NXT, in however many pieces it lies
+-- how much of the send queue may go from SND.NXT
 abbrev pub ready : Block → ℕ → ℕ → ℕ
 ready b limit queued = window_limit b (min limit (queued - next_place b))
+
+-- what may go from SND.NXT
+abbrev pub text_choice : Block → AddressPair → ℕ → Ring ℕ → Choice
+text_choice b addresses ip_mtu queued =
+    text_of_size b (length queued.queue) (ready b (size_limit b addresses ip_mtu) (length queued.queue))
 
 -- Nagle's rule doesn't hold back a small segment (3.7.4)
 abbrev pub may_be_small : Block → Bool
@@ -100,7 +96,7 @@ abbrev pub is_sendable : Block → ℕ → ℕ → Choice → Bool
 is_sendable b queued limit c =
     c.fin
     || (not (c.len == 0)
-    && (nat_le limit (ready b limit queued) || (may_be_small b && fills_enough b queued (ready b limit queued))))
+    && (nat_le limit c.len || (may_be_small b && fills_enough b queued c.len)))
 
 -- bytes or a FIN are to go from SND.NXT, and what may go is worth it
 abbrev pub sends_choice : Block → ℕ → ℕ → Choice → Bool
@@ -130,7 +126,7 @@ sent_text b queued place len =
 abbrev pub resend_from : Block → AddressPair → ℕ → Ring ℕ → ℕ → Choice
 resend_from b addresses ip_mtu queued place =
     sent_text b (length queued.queue) place
-    (min (hole_len b place (sent_places b)) (min (size_limit b addresses ip_mtu) (unbroken queued place)))
+    (min (hole_len b place (sent_places b)) (min (size_limit b addresses ip_mtu) (length queued.queue - place)))
 
 abbrev pub resend_choice : Block → AddressPair → ℕ → Ring ℕ → Choice
 resend_choice b addresses ip_mtu queued =

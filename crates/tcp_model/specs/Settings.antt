@@ -59,15 +59,25 @@ set_min_rto v duration =
       settings = record v.block.settings { min_rto = duration };
     })
 
--- congestion control as it starts, with the remote's MSS if that is known
+-- whether round trips are taken in microseconds, from the next one on
+abbrev pub set_fine_timer : TcpValue → Bool → TcpValue
+set_fine_timer v fine = with_settings v (record v.block.settings { fine_timer = fine })
+
+-- congestion control as it starts, with the remote's MSS if that is known, and with the first window where the connection is there
 abbrev pub fresh_reno : Block → CongestionControl → RenoValue
 fresh_reno b control =
-    if b.receiver.took_syn then reno.with_mss (fresh_window control) b.peer.mss else fresh_window control
+    if not b.receiver.took_syn then fresh_window control
+    else if b.sender.syn_unacked then reno.with_mss (fresh_window control) b.peer.mss
+    else reno.started (reno.with_mss (fresh_window control) b.peer.mss) false
 
+-- the window that was kept before a loss is forgotten with it
 abbrev pub set_congestion_control : TcpValue → CongestionControl → TcpValue
 set_congestion_control v control =
-    with_block (with_settings v (record v.block.settings { congestion_control = control }))
-    (record v.block { settings = record v.block.settings { congestion_control = control }; reno = fresh_reno v.block control })
+    with_block (unoffered v) (record v.block {
+      settings = record v.block.settings { congestion_control = control };
+      reno = fresh_reno v.block control;
+      loss = record v.block.loss { undo = None };
+    })
 
 -- GETTERS
 

@@ -1,5 +1,5 @@
 -- What an offer is told. A segment that was sent is recorded; one that wasn't leaves all as it is.
-use Rattle.std.specs.Prelude.{ℕ, ◌+◌, ◌*◌, ◌^◌, nat_lt, min, max, not, ◌&&◌, ℤ, Bool, true, false, if◌then◌else◌, Option, Some, None, is_some}
+use Rattle.std.specs.Prelude.{ℕ, ◌+◌, ◌*◌, ◌^◌, ◌==◌, nat_lt, min, max, not, ◌&&◌, ℤ, Bool, true, false, if◌then◌else◌, Option, Some, None, is_some}
 use Rattle.ip_wire.specs.Control.{control_len}
 use Rattle.ip_wire.specs.Seq.{distance_of}
 use Rattle.tcp_model.specs.declared.block.Block.{Block}
@@ -17,6 +17,7 @@ use Rattle.tcp_model.specs.Retries.{asked}
 use Rattle.tcp_control.specs.RoundTrip as round_trip
 use Rattle.tcp_model.specs.Timestamps.{stamps_begun}
 use Rattle.tcp_model.specs.Undo.{undo_sent}
+use Rattle.tcp_model.specs.Validation.{text_went}
 use Rattle.tcp_model.specs.Value.{TcpValue, with_block, unoffered, queued_in, room_of}
 
 -- The right edge of the window after a segment announced it, of a receive buffer with this capacity. A SYN's field isn't shifted and may not
@@ -44,6 +45,12 @@ end_of b o = distance_of b.sender.una o.segment.seq_number + (o.len + control_le
 abbrev pub past_held : Block → ℕ → ℕ → ℕ
 past_held b end queued =
     max end (min (first_missing b.loss.board.runs end) (min b.sender.top (one_if b.sender.syn_unacked + queued)))
+
+-- The remote says that it holds what begins at SND.NXT, as it may after a timeout: SND.NXT moves behind that, so it doesn't go again.
+abbrev pub nxt_past_held : Block → ℕ → Block
+nxt_past_held b queued = record b {
+  sender = record b.sender { in_flight = if b.sender.in_flight == 0 then 0 else past_held b b.sender.in_flight queued };
+}
 
 -- SND.NXT moves past the segment, if that is higher, and past what is held behind it: after a timeout that doesn't go again.
 -- What reaches further than anything before was sent for the first time: its round trip is timed, if none is (RFC 6298, 3).
@@ -105,7 +112,7 @@ abbrev pub sent_as : OfferKind → Block → OpenOffer → ℕ → Block
 sent_as Kind.Reset b o queued = forgotten b
 sent_as Kind.Syn b o queued = went (syn_went b o) o queued
 sent_as Kind.FastRetransmission b o queued = went (resent b (end_of b o)) o queued
-sent_as Kind.Text b o queued = went b o queued
+sent_as Kind.Text b o queued = text_went (went b o queued) b.sender.top o.moment
 sent_as Kind.Probe b o queued = asked (probed b (end_of b o) o.moment) o.moment
 sent_as Kind.KeepAlive b o queued = asked b o.moment
 sent_as kind b o queued = b

@@ -99,13 +99,13 @@ millis_of moment = unsigned_abs moment / 1000
 abbrev pub echo_of : Block → TcpHeader → ℤ → Option ℕ
 echo_of b header now = if b.peer.timestamps then elapsed_by b.stamps.generator b.stamps.first header.options.timestamp now else None
 
-abbrev pub timed_with : RoundTripValue → ℕ → Option ℕ → RoundTripValue
-timed_with r by None = r
-timed_with r by (Some millis) = round_trip.echoed r by millis
+abbrev pub timed_with : Bool → RoundTripValue → ℕ → Option ℕ → RoundTripValue
+timed_with fine r by None = r
+timed_with fine r by (Some millis) = round_trip.echoed fine r by millis
 
-abbrev pub timed_by : RoundTripValue → ℕ → Option ℕ → RoundTripValue
-timed_by r by echo = if by == 0 then r else timed_with r by echo
+abbrev pub timed_by : Bool → RoundTripValue → ℕ → Option ℕ → RoundTripValue
+timed_by fine r by echo = if by == 0 then r else timed_with fine r by echo
 
 -- a segment that makes SND.UNA rise by so much tells of a round trip by its echo
 abbrev pub echo_taken : Block → TcpHeader → ℕ → ℤ → Block
-echo_taken b header by now = record b { round_trip = timed_by b.round_trip by (echo_of b header now) }
+echo_taken b header by now = record b { round_trip = timed_by b.settings.fine_timer b.round_trip by (echo_of b header now) }

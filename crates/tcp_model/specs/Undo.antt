@@ -1,6 +1,6 @@
 -- A loss that wasn't one is undone (RFC 3522 and 4015; RFC 8985, 6.2, step 2): the congestion window is kept as it was before, until the
 -- first acknowledgement of something new.
-use Rattle.std.specs.Prelude.{◌*◌, ◌==◌, ◌||◌, ℤ, if◌then◌else◌, Option, Some, None, is_some}
+use Rattle.std.specs.Prelude.{◌==◌, ◌||◌, ℤ, if◌then◌else◌, Option, Some, None, is_some}
 use Rattle.tcp_control.specs.Moments.{later}
 use Rattle.tcp_control.specs.RoundTrip.{shortest}
 use Rattle.tcp_model.specs.Timestamps.{value_by}
@@ -22,7 +22,7 @@ undo_begun b =
 -- what goes again: no answer to it comes sooner than the shortest round trip, and it has this timestamp (RetransmitTS of RFC 3522, 3.2)
 abbrev pub undo_marked : Block → Undo → ℤ → Undo
 undo_marked b u now =
-    record u { until = Some (later now (shortest b.round_trip * 1000)); stamp = value_by b.stamps.generator now }
+    record u { until = Some (later now (shortest b.round_trip)); stamp = value_by b.stamps.generator now }
 
 -- something goes: the first of it since then is what goes again
 abbrev pub undo_sent : Block → Option Undo → ℤ → Option Undo

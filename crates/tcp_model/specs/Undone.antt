@@ -35,7 +35,8 @@ abbrev pub prior_of : Option Undo → RenoValue → RenoValue
 prior_of None r = r
 prior_of (Some u) r = reno.restored r u.reno
 
--- The window is as it was, recovery is over, nothing is to go again, and all that was sent of the send queue is in flight.
+-- The window is as it was, recovery is over, nothing is to go again, and all that was sent of the send queue is in flight. Where a recovery
+-- began without need what is missing is waited for longer, in place of what a DSACK tells (RFC 8985, 6.2, step 4).
 abbrev pub undone_if : Bool → Block → ℕ → Block
 undone_if needless b queued = record b {
   sender = record b.sender {
@@ -43,7 +44,11 @@ undone_if needless b queued = record b {
     resend = not needless && b.sender.resend;
     recover = if needless then 0 else b.sender.recover;
   };
-  loss = record b.loss { resent = if needless then 0 else b.loss.resent; credit = if needless then 0 else b.loss.credit };
+  loss = record b.loss {
+    resent = if needless then 0 else b.loss.resent;
+    credit = if needless then 0 else b.loss.credit;
+    patience = if needless && b.reno.recovers then min b.loss.patience 15 + 1 else b.loss.patience;
+  };
   reno = if needless then prior_of b.loss.undo b.reno else b.reno;
 }
 

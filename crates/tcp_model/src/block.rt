@@ -145,6 +145,11 @@ pub struct Loss {
     pub probed: bool,
     /// When a probe goes, if nothing new is acknowledged.
     pub probe_at: Option<Instant>,
+    /// For how many quarters of the shortest round trip what is missing is waited for, since it may only be
+    /// late, at most 16; none before anything came late (reo_wnd_mult of RFC 8985, 6.2).
+    pub patience: u8,
+    /// Until when it is: then a recovery begins.
+    pub late_until: Option<Instant>,
     /// What the window was before this loss, until something new is acknowledged.
     pub undo: Option<Undo>,
 }
@@ -157,6 +162,16 @@ pub struct Undo {
     pub until: Option<Instant>,
     /// Its timestamp.
     pub stamp: u32,
+}
+
+/// How the congestion window is used (RFC 7661).
+#[derive(Clone, Copy, Debug, PartialEq, Eq)]
+pub struct Validation {
+    /// What was in flight when text last went.
+    pub flight: u32,
+    /// Since when it isn't known that the window is used, at most: the last acknowledgement that validated
+    /// it, or the end of a period without one. None before the connection is there.
+    pub since: Option<Instant>,
 }
 
 /// What the user set. A new connection keeps it.
@@ -181,6 +196,8 @@ pub struct Settings {
     pub retries: Option<u8>,
     /// The least retransmission timeout that is asked for.
     pub min_rto: Duration,
+    /// Whether round trips are taken in microseconds.
+    pub fine_timer: bool,
 }
 
 /// The control block.
@@ -196,6 +213,7 @@ pub struct Block {
     pub round_trip: RoundTrip,
     pub reno: Reno,
     pub loss: Loss,
+    pub validation: Validation,
     pub settings: Settings,
 }
 
@@ -214,6 +232,7 @@ mod text;
 mod timeout;
 mod timestamps;
 mod undoing;
+mod validating;
 
 pub use checks::Verdict;
 pub use opening::{has_length, is_first_syn, is_void_syn};

@@ -10,7 +10,8 @@ pub mod pauses;
 
 pub use block::{
     Block, CongestionControl, Loss, Names, PROBE, Part, Peer, Receiver, Sender, Settings, Stamps,
-    Timers, Undo, Verdict, has_length, is_first_syn, is_void_syn, numbers_of, reply_to, rst_reply,
+    Timers, Undo, Validation, Verdict, has_length, is_first_syn, is_void_syn, numbers_of, reply_to,
+    rst_reply,
 };
 pub use tcp_control::controls::{is_fin, is_rst, is_syn};
 pub use tcp_control::endpoints::is_same_listener;

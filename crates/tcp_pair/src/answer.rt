@@ -102,13 +102,16 @@ pub(crate) fn segment_of(packet: &Packet<'_>, mut bytes: Vec<u8>) -> SentSegment
     ensures { carried result ≡ packet_value packet.now }
 {
     match packet.payload() {
-        IpPayload::Tcp(segment) => {
-            let Ok(()) = bytes.extend_from_slice(segment.payload) else {
+        IpPayload::Tcp(header, text) => {
+            let Ok(()) = bytes.extend_from_slice(text.first) else {
+                unreachable!()
+            };
+            let Ok(()) = bytes.extend_from_slice(text.rest) else {
                 unreachable!()
             };
             SentSegment {
                 header: packet.ip_repr(),
-                segment: segment.header(),
+                segment: *header,
                 bytes: Bytes::from_vec(bytes),
             }
         }

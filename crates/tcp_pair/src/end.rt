@@ -216,6 +216,7 @@ impl End {
             TcpSetting::PauseSynack(paused) => self.socket.pause_synack(*paused),
             TcpSetting::Retries(limit) => self.socket.set_retries(*limit),
             TcpSetting::MinRto(duration) => self.socket.set_min_rto(*duration),
+            TcpSetting::FineTimer(fine) => self.socket.set_fine_timer(*fine),
         }
     }
 

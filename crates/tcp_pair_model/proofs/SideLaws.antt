@@ -181,6 +181,7 @@ module _ (s : PairSide) (w : TcpValue) (p q : Past) (others : List SentSegment) 
   led_set (Set.PauseSynack paused) = keeps_same s.socket (set_by (Set.PauseSynack paused) s.socket) w (with_segments p s.sent) (with_segments q others) refl k
   led_set (Set.Retries limit) = keeps_same s.socket (set_by (Set.Retries limit) s.socket) w (with_segments p s.sent) (with_segments q others) refl k
   led_set (Set.MinRto duration) = keeps_same s.socket (set_by (Set.MinRto duration) s.socket) w (with_segments p s.sent) (with_segments q others) refl k
+  led_set (Set.FineTimer fine) = keeps_same s.socket (set_by (Set.FineTimer fine) s.socket) w (with_segments p s.sent) (with_segments q others) refl k
 
   led_offer : (side : Side) (moment : ℤ) (sent : Bool) → Led (Offer side moment sent) (acts s others (Offer side moment sent))
   led_offer side moment true =

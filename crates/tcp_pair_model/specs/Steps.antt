@@ -20,7 +20,7 @@ use Rattle.tcp_model.specs.Calls.{close_after, abort_after}
 use Rattle.tcp_model.specs.Names.{accepts}
 use Rattle.tcp_model.specs.Offers.{offer_of}
 use Rattle.tcp_model.specs.Settings.{set_timeout, set_ack_delay, set_keep_alive, set_nagle_enabled, set_hop_limit, set_tsval_generator, set_congestion_control}
-use Rattle.tcp_model.specs.Settings.{pause_synack, set_retries, set_min_rto}
+use Rattle.tcp_model.specs.Settings.{pause_synack, set_retries, set_min_rto, set_fine_timer}
 use Rattle.tcp_model.specs.Settled.{settled}
 use Rattle.tcp_model.specs.Value.{TcpValue, Arrived, unoffered}
 use Rattle.tcp_pair_model.specs.declared.event.Side.{Side}
@@ -114,6 +114,7 @@ set_by (Set.CongestionControl control) v = set_congestion_control v control
 set_by (Set.PauseSynack paused) v = pause_synack v paused
 set_by (Set.Retries limit) v = set_retries v limit
 set_by (Set.MinRto duration) v = set_min_rto v duration
+set_by (Set.FineTimer fine) v = set_fine_timer v fine
 
 -- asked at its last moment, and told whether the segment was sent
 abbrev pub offered_at : Side → PairSide → Bool → PairSide

@@ -28,6 +28,8 @@ pub enum TcpSetting {
     Retries(Option<u8>),
     /// The least retransmission timeout.
     MinRto(Duration),
+    /// Whether round trips are taken in microseconds.
+    FineTimer(bool),
 }
 
 /// What happens to the pair: a call of a user on one socket, an offer with its settling, or a delivery.

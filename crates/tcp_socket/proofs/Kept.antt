@@ -2,7 +2,6 @@
 use Rattle.std.proofs.Common.{◌≡◌, ℕ, ◌&&◌, not, ◌≤◌, Bool, true, false, ℤ, Option, Some, None, is_some, if◌then◌else◌, refl, arith}
 use Rattle.std.specs.Prelude.{IfSome}
 use Rattle.std.proofs.lemmas.Bool.Decides.{nat_tests}
-use Rattle.net_base.specs.Ring.{Ring}
 use Rattle.net_base.specs.Time.{IsMoment}
 use Rattle.ip_wire.specs.IpRepr.{IpRepr}
 use Rattle.ip_wire.specs.TcpHeader.{TcpHeader}
@@ -21,13 +20,13 @@ use Rattle.tcp_model.specs.OfferKind.{OfferKind}
 use Rattle.tcp_model.specs.OfferKind.TheVariants as Kind
 use Rattle.tcp_model.specs.Moments.{is_over, timeout_from}
 use Rattle.tcp_model.specs.Retries.{asked, one_more}
-use Rattle.tcp_model.specs.Settled.{sent_as, recorded, probed, end_of}
+use Rattle.tcp_model.specs.Settled.{nxt_past_held, sent_as, recorded, probed, end_of}
 use Rattle.tcp_socket.specs.Socket.{IsBlock, IsOpen}
 
 -- nothing is offered
-pub none_open : (o : Option OpenOffer) (b : Block) (queued : Ring ℕ) → o ≡ None → IfSome o (IsOpen b queued)
-none_open None b queued is = tt
-none_open (Some o) b queued is = absurd (cc)
+pub none_open : (o : Option OpenOffer) (b : Block) → o ≡ None → IfSome o (IsOpen b)
+none_open None b is = tt
+none_open (Some o) b is = absurd (cc)
 
 pub kept_forgotten : (b : Block) → IsBlock b → IsBlock (forgotten b)
 kept_forgotten b is = record { start = is.start; mss = is.mss }
@@ -61,9 +60,10 @@ kept_window true b header mss = mss
 kept_window false b header mss = mss
 
 pub kept_told : (b : Block) (header : TcpHeader) (count queued : ℕ) (now : ℤ) → IsMoment now → IsBlock b
-    → IsBlock (timeout_restarted (counted (ranges_taken (window_set b header now) header now) count) now queued)
+    → IsBlock (timeout_restarted (nxt_past_held (counted (ranges_taken (window_set b header now) header now) count now) queued) now queued)
 kept_told b header count queued now is block =
-    kept_timeout (counted (ranges_taken (window_set b header now) header now) count) now queued is (kept_window (names_window b header) b header block.mss)
+    kept_timeout (nxt_past_held (counted (ranges_taken (window_set b header now) header now) count now) queued) now queued is
+    (kept_window (names_window b header) b header block.mss)
 
 -- a SYN that isn't dropped names no MSS of 0
 pub sized_syn : (syn zero_mss : Bool) → (syn && zero_mss) ≡ false → syn ≡ true → zero_mss ≡ false

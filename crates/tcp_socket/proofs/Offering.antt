@@ -1,6 +1,10 @@
 -- What is offered lies in the send ring, near SND.UNA.
 use Rattle.std.proofs.Common.{◌≡◌, ℕ, ◌+◌, ◌-◌, ◌%◌, ◌/◌, ◌==◌, ◌&&◌, ◌^◌, ◌<◌, ◌≤◌, nat_lt, nat_le, min, max, ℤ, Bool, true, false, length, Option, None}
-use Rattle.std.proofs.Common.{if◌then◌else◌, refl, arith}
+use Rattle.std.proofs.Common.{if◌then◌else◌, refl, sym, ap, ◌∙◌, arith, inl, inr, List, ◌++◌, take, drop, length-drop}
+use Rattle.std.proofs.Math.Nat.{add-mod_left, mod-add-mod, mod-eq_of_lt}
+use Rattle.std.proofs.Math.Seq.{take-add}
+use Rattle.std.proofs.lemmas.Bool.{cases_lt}
+use Rattle.std.proofs.lemmas.List.{take_all, drop-drop}
 use Rattle.std.proofs.lemmas.Bool.Decides.{nat_tests}
 use Rattle.ip_wire.specs.Control.{control_len}
 use Rattle.ip_wire.specs.Seq.{distance_of}
@@ -16,7 +20,7 @@ use Rattle.tcp_model.specs.Moments.{is_due}
 use Rattle.tcp_model.specs.Offers.{number_at}
 use Rattle.tcp_model.specs.Offsets.{behind_by}
 use Rattle.tcp_model.specs.Probing.{is_window_small, is_probing, probe_moment}
-use Rattle.tcp_model.specs.Rules.{Choice, unbroken, size_limit, congestion_limit, window_limit, next_place, is_sendable, text_choice, has_text, resend_choice}
+use Rattle.tcp_model.specs.Rules.{Choice, size_limit, congestion_limit, window_limit, next_place, is_sendable, text_choice, has_text, resend_choice}
 use Rattle.tcp_model.specs.Rules.{probe_choice, control_for, congestion_room, sent_places}
 use Rattle.tcp_model.specs.Segments.{segment}
 use Rattle.tcp_model.specs.Settled.{end_of}
@@ -34,7 +38,6 @@ use Rattle.tcp_model.specs.OpenOffer.{OpenOffer}
 use Rattle.tcp_model.proofs.Holes.{again_within}
 use Rattle.tcp_socket.specs.Opening.{open_offer, MayOpen, IsPartOf}
 use Rattle.tcp_socket.specs.Receive.{FitsBuffer}
-use Rattle.tcp_socket.specs.Socket.{LiesInRing}
 
 both : (a b : Bool) → (a && b) ≡ true → (a ≡ true) × (b ≡ true)
 both true b is = (refl, is)
@@ -73,25 +76,20 @@ part_of_text v addresses ip_mtu fits has =
     let near : v.block.sender.in_flight < unacked v.block (queued_in v) = grind (arith, nat_tests, below.0) in
     let syn = one_if_small v.block.sender.syn_unacked in
     let fin = one_if_small (owes_fin v.block.state) in
-    let least = window_small v.block (min (size_limit v.block addresses ip_mtu) (unbroken v.queued (next_place v.block))) in
-    record { near = omega (arith, near, syn, fin, fits); unbroken = omega (arith, least) }
+    let least = window_small v.block (min (size_limit v.block addresses ip_mtu) (queued_in v - next_place v.block)) in
+    record { near = omega (arith, near, syn, fin, fits); within = omega (arith, least) }
 
 pub part_of_resend : (v : TcpValue) (addresses : AddressPair) (ip_mtu : ℕ) → FitsBuffer v.queued → IsPartOf v (resend_choice v.block addresses ip_mtu v.queued)
 part_of_resend v addresses ip_mtu fits =
     let within = again_within v.block (size_limit v.block addresses ip_mtu) (sent_places v.block) (queued_in v) in
-    record { near = omega (arith, within, fits); unbroken = omega arith }
+    record { near = omega (arith, within, fits); within = omega arith }
 
 unset : (t : Bool) (now : ℤ) (moment : Option ℤ) → is_due now (if t then moment else None) ≡ true → t ≡ true
 unset true now moment is = refl
 unset false now moment is = absurd (cc)
 
-some_unbroken : (queued : Ring ℕ) → (length queued.queue ≡ 0 → ⊥) → 1 ≤ unbroken queued 0
-some_unbroken queued some =
-    let at = queued.start + 0 in
-    let room = capacity queued in
-    let within : 0 < room = omega (arith, some) in
-    let place : at % room < room = omega (arith, within) in
-    omega (arith, some, place)
+some_queued : (queued : ℕ) → (queued ≡ 0 → ⊥) → 1 ≤ queued - 0
+some_queued queued some = omega (arith, some)
 
 probing_small : (v : TcpValue) → is_probing v.block (queued_in v) ≡ true → (is_window_small v.block (queued_in v) ≡ true) ×
     ((v.block.sender.in_flight == 0) ≡ true)
@@ -109,8 +107,8 @@ part_of_probe v now due =
     let small = probing_small v probing in
     record {
       near = omega arith;
-      unbroken =
-          some_unbroken v.queued (held_back (window_limit v.block (queued_in v)) (queued_in v) (max 1 (v.block.peer.largest_window / 2)) small.0);
+      within =
+          some_queued (queued_in v) (held_back (window_limit v.block (queued_in v)) (queued_in v) (max 1 (v.block.peer.largest_window / 2)) small.0);
     }
 
 -- what a small window holds back is a part of the send queue
@@ -120,8 +118,8 @@ part_of_held v addresses ip_mtu now due =
     let probing : is_probing v.block (queued_in v) ≡ true = unset (is_probing v.block (queued_in v)) now v.block.timers.probe_at due in
     let small = probing_small v probing in
     let idle : v.block.sender.in_flight ≡ 0 = grind (arith, nat_tests, small.1) in
-    let least = window_small v.block (min (size_limit v.block addresses ip_mtu) (unbroken v.queued (next_place v.block))) in
-    record { near = omega (arith, idle); unbroken = omega (arith, least) }
+    let least = window_small v.block (min (size_limit v.block addresses ip_mtu) (queued_in v - next_place v.block)) in
+    record { near = omega (arith, idle); within = omega (arith, least) }
 
 -- a part of the send queue may be offered
 distance_behind : (a : SeqNumber) (n : ℕ) → a.0 < 2 ^ 32 → n < 2 ^ 32 → distance_of a (behind_by a n) ≡ n
@@ -134,10 +132,6 @@ ends_near Kind.Text b o is = is
 ends_near Kind.Probe b o is = is
 ends_near other b o is = tt
 
-pub lies_in : (kind : OfferKind) (queued : Ring ℕ) (o : OpenOffer) → o.len ≤ unbroken queued o.place → LiesInRing kind queued o
-lies_in Kind.KeepAlive queued o is = tt
-lies_in other queued o is = is
-
 pub may_part : (kind : OfferKind) (cx : ContextValue) (v : TcpValue) (pair : EndpointPair) (c : Choice) → FitsBuffer v.queued → v.block.sender.una.0 < 2 ^ 32 →
     IsPartOf v c
     → MayOpen v (open_offer kind cx v pair (segment v.block pair cx.moment (window_of v) (control_for c (queued_in v)) (number_at v.block c.place))
@@ -148,15 +142,15 @@ may_part kind cx v pair c fits small part =
     let control = control_small (control_for c (queued_in v)) in
     let far : distance_of v.block.sender.una (number_at v.block c.place) ≡ one_if v.block.sender.syn_unacked + c.place =
     distance_behind v.block.sender.una (one_if v.block.sender.syn_unacked + c.place) small (omega (arith, syn, part.near)) in
-    let end : end_of v.block o < 2 ^ 32 = rw far (omega (arith, syn, control, part.near, part.unbroken, fits)) in
-    record { end = ends_near kind v.block o end; payload = lies_in kind v.queued o part.unbroken }
+    let end : end_of v.block o < 2 ^ 32 = rw far (omega (arith, syn, control, part.near, part.within, fits)) in
+    record { end = ends_near kind v.block o end }
 
 -- a segment without payload may be, wherever it stands
 pub may_empty : (kind : OfferKind) (cx : ContextValue) (v : TcpValue) (pair : EndpointPair) (header : TcpHeader) → control_len header.control ≡ 0 →
     MayOpen v (open_offer kind cx v pair header 0 0)
 may_empty kind cx v pair header none =
     let o = open_offer kind cx v pair header 0 0 in
-    record { end = ends_near kind v.block o (omega (arith, none)); payload = lies_in kind v.queued o (omega arith) }
+    record { end = ends_near kind v.block o (omega (arith, none)) }
 
 pub may_syn : (cx : ContextValue) (v : TcpValue) (pair : EndpointPair) (header : TcpHeader) → v.block.sender.una.0 < 2 ^ 32 →
     header.seq_number ≡ v.block.sender.una → MayOpen v (open_offer Kind.Syn cx v pair header 0 0)
@@ -164,14 +158,45 @@ may_syn cx v pair header small at =
     let o = open_offer Kind.Syn cx v pair header 0 0 in
     let control = control_small header.control in
     let far : distance_of v.block.sender.una v.block.sender.una ≡ 0 = omega (arith, small) in
-    record { end = rw (at, far) (omega (arith, control)); payload = omega arith }
+    record { end = rw (at, far) (omega (arith, control)) }
 
--- the bytes of an open offer
-pub all_unbroken : (queued : Ring ℕ) (place : ℕ) → unbroken_queued queued place (length queued.queue) ≡ unbroken queued place
-all_unbroken queued place = omega arith
+-- the bytes of an open offer, where the send ring lends them in two parts: behind its end the storage goes on at its first place
+goes_round : (at room : ℕ) → 0 < room → (at + (room - at % room)) % room ≡ 0
+goes_round at room some =
+    let below : at % room < room = omega (arith, some) in
+    let whole : at % room + (room - at % room) ≡ room + 0 = omega (arith, below) in
+    sym (mod-add-mod at room (room - at % room)) ∙ ap (λ (n : ℕ). n % room) whole ∙ add-mod_left room 0 ∙ mod-eq_of_lt some
 
-pub whole_part : (queued : Ring ℕ) (place len : ℕ) → len ≤ unbroken queued place → unbroken_queued queued place len ≡ len
-whole_part queued place len lies = omega (arith, lies)
+second_reaches : (at room from left first : ℕ) → left ≤ room → first ≡ room - at % room → from ≡ at + first → left - first ≤ room - from % room
+second_reaches at room from left first fits is there = elim (cases_lt 0 room) [
+  | inl some ↦ let round : from % room ≡ 0 = rw (there, is) (goes_round at room some) in omega (arith, round, fits)
+  | inr none ↦ omega (arith, none, fits)
+]
+
+reach : (len left ends more first second : ℕ) → first ≡ min len (min left ends) → second ≡ min (len - first) (min (left - first) more)
+    → (first ≡ ends → left - first ≤ more) → min (first + second) left ≡ min len left
+reach len left ends more first second is behind reaches = elim (cases_lt first ends) [
+  | inl before ↦ omega (arith, is, behind, before)
+  | inr past ↦ let enough = reaches (omega (arith, is, past)) in omega (arith, is, behind, enough)
+]
+
+same_front : (xs : List ℕ) (a b : ℕ) → min a (length xs) ≡ min b (length xs) → take a xs ≡ take b xs
+same_front xs a b same = elim (cases_lt a (length xs)) [
+  | inl less ↦ ap (λ (n : ℕ). take n xs) (omega (arith, less, same))
+  | inr all ↦ take_all a xs (omega (arith, all)) ∙ sym (take_all b xs (omega (arith, all, same)))
+]
+
+pub two_parts : (r : Ring ℕ) (place len first second : ℕ) → first ≡ unbroken_queued r place len → second ≡ unbroken_queued r (place + first) (len - first)
+    → take first (drop place r.queue) ++ take second (drop (place + first) r.queue) ≡ take len (drop place r.queue)
+two_parts r place len first second is next =
+    let left = length r.queue - place in
+    let ends = capacity r - (r.start + place) % capacity r in
+    let more = capacity r - (r.start + (place + first)) % capacity r in
+    let behind : second ≡ min (len - first) (min (left - first) more) = next ∙ ap (λ (n : ℕ). min (len - first) (min n more)) (omega arith) in
+    let all = reach len left ends more first second is behind (λ at_end.
+    second_reaches (r.start + place) (capacity r) (r.start + (place + first)) left first (omega arith) at_end (omega arith)) in
+    rw (← drop-drop first place r.queue, ← take-add first second (drop place r.queue))
+    (same_front (drop place r.queue) (first + second) len (rw (length-drop place r.queue) all))
 
 pub not_zero : (n : ℕ) → (n ≡ 0 → ⊥) → (n == 0) ≡ false
 not_zero n some = grind (arith, nat_tests, some)

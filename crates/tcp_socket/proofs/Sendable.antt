@@ -23,7 +23,7 @@ use Rattle.tcp_model.specs.Calls.{listening}
 use Rattle.tcp_model.specs.Checks.{falls_back}
 use Rattle.tcp_model.specs.Retries.{gives_up, given_up}
 use Rattle.tcp_model.specs.LossRecovery.{again_place, hole_len}
-use Rattle.tcp_model.specs.Rules.{Choice, unbroken, stamp_len, size_limit, window_limit, next_place, time_wait_end, owes_syn, resends, ack_moment, has_text}
+use Rattle.tcp_model.specs.Rules.{Choice, stamp_len, size_limit, window_limit, next_place, time_wait_end, owes_syn, resends, ack_moment, has_text}
 use Rattle.tcp_model.specs.Rules.{text_choice, resend_choice, probe_choice, control_for, updates_window, keep_alive_moment, sent_places}
 use Rattle.tcp_model.specs.Segments.{stamp_by, segment, ack_segment, syn_segment, reset_segment, keep_alive_segment, hops_of}
 use Rattle.tcp_model.specs.States.{is_closed}
@@ -158,7 +158,7 @@ length-part queue place len fits = rw (length-take, length-drop) (omega (arith, 
 fits_choice : (kind : OfferKind) (cx : ContextValue) (v : TcpValue) (pair : EndpointPair) (c : Choice)
     → payload_of (open_offer kind cx v pair (segment v.block pair cx.moment (window_of v) (control_for c (queued_in v)) (number_at v.block c.place)) c.place
     c.len) kind v.queued.queue ≡ take c.len (drop c.place v.queued.queue)
-    → c.len ≤ unbroken v.queued c.place → ip_header_len pair.addresses + (20 + stamp_len v.block + c.len) < 2 ^ 16 → Fits (offer_choice kind cx v pair c).socket
+    → c.len ≤ queued_in v - c.place → ip_header_len pair.addresses + (20 + stamp_len v.block + c.len) < 2 ^ 16 → Fits (offer_choice kind cx v pair c).socket
 fits_choice kind cx v pair c is lies small =
     let header = segment v.block pair cx.moment (window_of v) (control_for c (queued_in v)) (number_at v.block c.place) in
     let room = segment_room v.block pair cx.moment (window_of v) header.control header.seq_number in
@@ -177,7 +177,7 @@ fits_limit b addresses ip_mtu len fits =
 fits_text : (cx : ContextValue) (v : TcpValue) (pair : EndpointPair) →
     Fits (offer_choice Kind.Text cx v pair (text_choice v.block pair.addresses cx.ip_mtu v.queued)).socket
 fits_text cx v pair =
-    let most = min (size_limit v.block pair.addresses cx.ip_mtu) (unbroken v.queued (next_place v.block)) in
+    let most = min (size_limit v.block pair.addresses cx.ip_mtu) (queued_in v - next_place v.block) in
     let least = window_small v.block most in
     fits_choice Kind.Text cx v pair (text_choice v.block pair.addresses cx.ip_mtu v.queued) refl (omega (arith, least))
     (fits_limit v.block pair.addresses cx.ip_mtu (window_limit v.block most) (omega (arith, least)))
@@ -187,7 +187,7 @@ fits_resent : (cx : ContextValue) (v : TcpValue) (pair : EndpointPair) →
 fits_resent cx v pair =
     let limit = size_limit v.block pair.addresses cx.ip_mtu in
     let place = again_place v.block limit (sent_places v.block) (queued_in v) in
-    let len = min (hole_len v.block place (sent_places v.block)) (min limit (unbroken v.queued place)) in
+    let len = min (hole_len v.block place (sent_places v.block)) (min limit (queued_in v - place)) in
     fits_choice Kind.FastRetransmission cx v pair (resend_choice v.block pair.addresses cx.ip_mtu v.queued) refl (omega arith)
     (fits_limit v.block pair.addresses cx.ip_mtu len (omega arith))
 
@@ -197,7 +197,7 @@ fits_probe cx v pair due =
     let part = part_of_probe v cx.moment due in
     let stamp = stamp_len_small v.block in
     let ip = ip_header_small pair.addresses in
-    fits_choice Kind.Probe cx v pair probe_choice refl part.unbroken (omega (arith, stamp, ip))
+    fits_choice Kind.Probe cx v pair probe_choice refl part.within (omega (arith, stamp, ip))
 
 fits_held : (cx : ContextValue) (v : TcpValue) (pair : EndpointPair) → is_due cx.moment (probe_moment v.block (queued_in v)) ≡ true →
     Fits (offer_held_back cx v pair).socket

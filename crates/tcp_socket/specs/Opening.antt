@@ -1,17 +1,16 @@
 -- The offer that is opened where a segment is offered.
-use Rattle.std.specs.Prelude.{ℕ, ◌+◌, ◌≤◌, ◌^◌}
+use Rattle.std.specs.Prelude.{ℕ, ◌+◌, ◌-◌, ◌≤◌, ◌^◌}
 use Rattle.ip_wire.specs.Tcp.{header_len}
 use Rattle.ip_wire.specs.TcpHeader.{TcpHeader}
 use Rattle.socket_base.specs.Context.{ContextValue}
 use Rattle.tcp_model.specs.Endpoints.{header_for}
-use Rattle.tcp_model.specs.Rules.{Choice, unbroken}
+use Rattle.tcp_model.specs.Rules.{Choice}
 use Rattle.tcp_model.specs.Segments.{hops_of}
 use Rattle.tcp_model.specs.Unsettled.{EndsNear}
-use Rattle.tcp_model.specs.Value.{TcpValue}
+use Rattle.tcp_model.specs.Value.{TcpValue, queued_in}
 use Rattle.tcp_model.specs.EndpointPair.{EndpointPair}
 use Rattle.tcp_model.specs.OfferKind.{OfferKind}
 use Rattle.tcp_model.specs.OpenOffer.{OpenOffer}
-use Rattle.tcp_socket.specs.Socket.{LiesInRing}
 
 abbrev pub open_offer : OfferKind → ContextValue → TcpValue → EndpointPair → TcpHeader → ℕ → ℕ → OpenOffer
 open_offer kind cx v pair segment place len = record {
@@ -23,12 +22,11 @@ open_offer kind cx v pair segment place len = record {
   len = len;
 }
 
--- what may be opened: it ends near SND.UNA, and its payload lies in the send ring
+-- what may be opened: it ends near SND.UNA
 pub record MayOpen (v : TcpValue) (o : OpenOffer) : Type 0 where
   pub end : EndsNear o.kind v.block o
-  pub payload : LiesInRing o.kind v.queued o
 
--- a part of the send queue that lies there in one piece, not far past SND.UNA
+-- a part of the send queue, not far past SND.UNA
 pub record IsPartOf (v : TcpValue) (c : Choice) : Type 0 where
   pub near : c.place ≤ 2 ^ 31
-  pub unbroken : c.len ≤ unbroken v.queued c.place
+  pub within : c.len ≤ queued_in v - c.place

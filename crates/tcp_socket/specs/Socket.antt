@@ -7,7 +7,6 @@ use Rattle.ip_wire.specs.IpEndpoint.{IpEndpoint}
 use Rattle.ip_wire.specs.SeqNumber.{SeqNumber}
 use Rattle.tcp_model.specs.Endpoints.{local_of, remote_of}
 use Rattle.tcp_model.specs.Offsets.{before_by, past_by}
-use Rattle.tcp_model.specs.Rules.{unbroken}
 use Rattle.tcp_model.specs.States.{takes_writes}
 use Rattle.tcp_model.specs.Unsettled.{EndsNear}
 use Rattle.tcp_model.specs.Value.{TcpValue}
@@ -16,20 +15,12 @@ use Rattle.tcp_model.specs.declared.block.Block.{Block}
 use Rattle.tcp_model.specs.SendError.{SendError}
 use Rattle.tcp_model.specs.SendError.TheVariants as Send
 use Rattle.tcp_model.specs.EndpointPair.{EndpointPair}
-use Rattle.tcp_model.specs.OfferKind.{OfferKind}
-use Rattle.tcp_model.specs.OfferKind.TheVariants as Kind
 use Rattle.tcp_model.specs.OpenOffer.{OpenOffer}
 
--- the payload lies in the send ring, in one piece; a keep-alive's isn't part of it
-abbrev pub LiesInRing : OfferKind → Ring ℕ → OpenOffer → Type 0
-LiesInRing Kind.KeepAlive queued o = Unit {0}
-LiesInRing kind queued o = o.len ≤ unbroken queued o.place
-
 -- an open offer was made at a moment, and its segment is as it was then
-pub record IsOpen (b : Block) (queued : Ring ℕ) (o : OpenOffer) : Type 0 where
+pub record IsOpen (b : Block) (o : OpenOffer) : Type 0 where
   pub moment : IsMoment o.moment
   pub end : EndsNear o.kind b o
-  pub payload : LiesInRing o.kind queued o
 
 -- the user timeout started at a moment, and the remote takes at least one byte
 pub record IsBlock (b : Block) : Type 0 where
@@ -39,7 +30,7 @@ pub record IsBlock (b : Block) : Type 0 where
 pub record IsSocket (b : Block) (queued : Ring ℕ) (offered : Option OpenOffer) : Type 0 where
   pub room : FitsBuffer queued
   pub block : IsBlock b
-  pub unsettled : IfSome offered (IsOpen b queued)
+  pub unsettled : IfSome offered (IsOpen b)
 
 abbrev pub local_in : Option EndpointPair → Option IpEndpoint
 local_in None = None

@@ -443,10 +443,12 @@ impl Socket {
         requires moment { IsMoment now }
         ensures { self.new ≡ told self.old header.now duplicates now }
     {
+        let queued = self.queued.len();
         self.block.set_window(header, now);
         self.block.take_ranges(header, now);
-        self.block.count(duplicates);
-        self.block.restart_timeout(now, self.queued.len());
+        self.block.count(duplicates, now);
+        self.block.skip_held(queued);
+        self.block.restart_timeout(now, queued);
     }
 
     /// The echo of a segment is taken that makes SND.UNA rise by so much. A loss that it says was none is

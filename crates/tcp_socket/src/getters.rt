@@ -1,5 +1,5 @@
 //! What a socket tells of itself.
-ghost use Rattle.std.specs.Prelude.{◌≡◌, ◌+◌, ◌*◌, length, is_some};
+ghost use Rattle.std.specs.Prelude.{◌≡◌, ◌+◌, length, is_some};
 ghost use Rattle.tcp_model.specs.States.{takes_writes, is_listening};
 ghost use Rattle.tcp_model.specs.Settings.{is_open, is_active, can_send, can_recv, may_recv};
 ghost use Rattle.tcp_model.specs.Value.{room_of};
@@ -148,9 +148,16 @@ impl Socket {
 
     /// The least retransmission timeout, as it counts.
     pub fn min_rto(&self) -> Duration
-        ensures { result ≡ self.now.block.round_trip.least * 1000 }
+        ensures { result ≡ self.now.block.round_trip.least }
     {
         self.block.round_trip.least()
+    }
+
+    /// Whether round trips are taken in microseconds.
+    pub fn fine_timer(&self) -> bool
+        ensures { result ≡ self.now.block.settings.fine_timer }
+    {
+        self.block.settings.fine_timer
     }
 
     /// Whether small segments wait while others are in flight.

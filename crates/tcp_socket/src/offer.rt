@@ -1,5 +1,5 @@
 //! What a socket offers when it is asked for a segment.
-ghost use Rattle.std.specs.Prelude.{◌≡◌, ◌≤◌, ◌<◌, ◌^◌, true, false, None, is_some, IfSome, if◌then◌else◌};
+ghost use Rattle.std.specs.Prelude.{◌≡◌, ◌<◌, ◌^◌, true, false, None, is_some, IfSome, if◌then◌else◌, take, drop};
 ghost use Rattle.socket_base.specs.Context.{ContextValue};
 ghost use Rattle.tcp_model.specs.Choices.{choice_of};
 ghost use Rattle.tcp_model.specs.Due.{poll_open, poll_between, poll_of};
@@ -8,17 +8,17 @@ ghost use Rattle.tcp_model.specs.Offers.{first_rules, offer_between, offer_of, p
 ghost use Rattle.tcp_model.specs.Moments.{is_due};
 ghost use Rattle.tcp_model.specs.Probing.{probe_moment};
 ghost use Rattle.tcp_model.specs.Retries.{given_up};
-ghost use Rattle.tcp_model.specs.Rules.{unbroken, text_choice, has_text, resend_choice, updates_window};
+ghost use Rattle.tcp_model.specs.Rules.{text_choice, has_text, resend_choice, updates_window};
 ghost use Rattle.tcp_model.specs.Settled.{settled};
 ghost use Rattle.tcp_model.specs.Value.{unoffered, queued_in, free_in, room_of};
-ghost use Rattle.tcp_socket.specs.Socket.{LiesInRing};
 ghost use Rattle.tcp_socket.specs.Dispatch.{TakesOffered, Hands};
 ghost use Rattle.tcp_socket.specs.Opening.{open_offer, MayOpen, IsPartOf};
 ghost use Rattle.socket_base.specs.Packet.{option_value, IsSendable};
+ghost use Rattle.socket_base.specs.Text.{text_bytes};
 
 use crate::Socket;
-use ip_wire::{TcpHeader, TcpRepr};
-use socket_base::{Context, IpPayload, Offer, Packet, PollAt};
+use ip_wire::TcpHeader;
+use socket_base::{Context, IpPayload, Offer, Packet, PollAt, SegmentText};
 use tcp_model::{AddressPair, EndpointPair, OfferKind, OpenOffer, PROBE, Part, is_due};
 
 impl Socket {
@@ -235,20 +235,11 @@ impl Socket {
         Offer::Packet { changed: false }
     }
 
-    /// How many queued bytes from a place on lie before the end of the storage.
-    fn unbroken(&self, place: usize) -> usize
-        ensures { result ≡ unbroken self.now.queued place }
-    {
-        self.queued.get_allocated(place, self.queued.len()).len()
-    }
-
     /// What may go from SND.NXT on.
     fn ready_part(&self, addresses: &AddressPair, ip_mtu: usize) -> Part
         ensures { choice_of result ≡ text_choice self.now.block addresses.now ip_mtu self.now.queued }
     {
-        let place = self.block.next_place();
-        let (queued, unbroken) = (self.queued.len(), self.unbroken(place));
-        self.block.text_part(addresses, ip_mtu, queued, unbroken)
+        self.block.text_part(addresses, ip_mtu, self.queued.len())
     }
 
     /// What may go from SND.NXT on, if it is worth it.
@@ -273,19 +264,27 @@ impl Socket {
     {
         let queued = self.queued.len();
         let place = self.block.resend_place(addresses, ip_mtu, queued);
-        let unbroken = self.unbroken(place);
-        self.block
-            .sent_part(addresses, ip_mtu, place, queued, unbroken)
+        self.block.sent_part(addresses, ip_mtu, place, queued)
     }
 
-    /// The payload of an open offer.
-    fn payload_of(&self, offer: &OpenOffer) -> &[u8]
-        requires { LiesInRing offer.now.kind self.now.queued offer.now }
-        ensures { result.now ≡ payload_of offer.now offer.now.kind self.now.queued.queue }
+    /// A part of the send queue, in one piece or round the end of its storage.
+    fn queued_text(&self, place: usize, len: usize) -> SegmentText<'_>
+        ensures { text_bytes result ≡ take len (drop place self.now.queued.queue) }
+    {
+        let first = self.queued.get_allocated(place, len);
+        let rest = self
+            .queued
+            .get_allocated(place + first.len(), len - first.len());
+        SegmentText { first, rest }
+    }
+
+    /// The text of an open offer.
+    fn text_of(&self, offer: &OpenOffer) -> SegmentText<'_>
+        ensures { text_bytes result ≡ payload_of offer.now offer.now.kind self.now.queued.queue }
     {
         match offer.kind {
-            OfferKind::KeepAlive => &[0],
-            _ => self.queued.get_allocated(offer.place, offer.len),
+            OfferKind::KeepAlive => SegmentText::whole(&[0]),
+            _ => self.queued_text(offer.place, offer.len),
         }
     }
 
@@ -296,8 +295,8 @@ impl Socket {
         match &self.offered {
             None => None,
             Some(offer) => {
-                let segment = TcpRepr::new(&offer.segment, self.payload_of(offer));
-                Some(Packet::new(offer.header, IpPayload::Tcp(segment)))
+                let payload = IpPayload::Tcp(offer.segment, self.text_of(offer));
+                Some(Packet::new(offer.header, payload))
             }
         }
     }

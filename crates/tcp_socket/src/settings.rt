@@ -1,7 +1,7 @@
 //! What a user may set. Each setting first settles an open offer as not sent.
 ghost use Rattle.std.specs.Prelude.{◌≡◌, ◌≢◌, Some};
 ghost use Rattle.tcp_model.specs.Settings.{with_timeout_kept, set_timeout, set_keep_alive, set_ack_delay, set_nagle_enabled, set_hop_limit};
-ghost use Rattle.tcp_model.specs.Settings.{set_tsval_generator, pause_synack, set_retries, set_min_rto, set_congestion_control};
+ghost use Rattle.tcp_model.specs.Settings.{set_tsval_generator, pause_synack, set_retries, set_min_rto, set_fine_timer, set_congestion_control};
 ghost use Rattle.tcp_model.specs.Value.{unoffered};
 
 use crate::Socket;
@@ -98,6 +98,15 @@ impl Socket {
         self.block.round_trip.set_least(duration);
     }
 
+    /// Sets whether round trips are taken in microseconds, from the next one on. As long as nothing is set
+    /// it is whole milliseconds, of which the rest is dropped: round trips of less than one count as none.
+    pub fn set_fine_timer(&mut self, fine: bool)
+        ensures { self.new ≡ set_fine_timer self.old fine }
+    {
+        self.offered = None;
+        self.block.settings.fine_timer = fine;
+    }
+
     /// Sets whether the answer to a SYN waits.
     pub fn pause_synack(&mut self, pause: bool)
         ensures { self.new ≡ pause_synack self.old pause }
@@ -115,7 +124,11 @@ impl Socket {
         let mut reno = congestion_control.fresh_window();
         if self.block.receiver.took_syn {
             reno.set_mss(self.block.peer.mss);
+            if !self.block.sender.syn_unacked {
+                reno.start(false);
+            }
         }
         self.block.reno = reno;
+        self.block.loss.undo = None;
     }
 }

@@ -28,7 +28,7 @@ use Rattle.tcp_model.specs.Offsets.{past_by, before_by, meets_window}
 use Rattle.tcp_model.specs.Opening.{is_first_syn, answering, acks_syn, syn_answered}
 use Rattle.tcp_model.specs.LossRecovery.{again_place, hole_len}
 use Rattle.tcp_model.specs.Rules.{text_choice, resend_choice, stamp_len, size_limit}
-use Rattle.tcp_model.specs.Rules.{congestion_limit, unbroken, next_place, congestion_room, sent_places}
+use Rattle.tcp_model.specs.Rules.{congestion_limit, next_place, congestion_room, sent_places}
 use Rattle.tcp_model.specs.Segments.{no_ranges, segment_len, rst_reply}
 use Rattle.tcp_model.specs.States.{is_time_wait}
 use Rattle.tcp_model.specs.Timeout.{timeout_restarted}
@@ -248,7 +248,7 @@ below_parts a b c e f = omega arith
 
 module _ (b : Block) (addresses : AddressPair) (mtu : ℕ) (queued : Ring ℕ) where
   abbrev size : ℕ
-  size = min (size_limit b addresses mtu) (unbroken queued (next_place b))
+  size = min (size_limit b addresses mtu) (length queued.queue - next_place b)
 
   pub text_in_window : (text_choice b addresses mtu queued).len ≤ b.peer.window - b.sender.in_flight
   text_in_window =
@@ -263,12 +263,12 @@ module _ (b : Block) (addresses : AddressPair) (mtu : ℕ) (queued : Ring ℕ) w
   text_in_size : (text_choice b addresses mtu queued).len ≤ size_limit b addresses mtu
   text_in_size =
       below_parts _ _ _ (lowered b.settings.congestion_control (congestion_room b) (min (b.peer.window - b.sender.in_flight) size))
-      (below_parts _ _ _ (min_both (b.peer.window - b.sender.in_flight) size).1 (min_both (size_limit b addresses mtu) (unbroken queued (next_place b))).0)
+      (below_parts _ _ _ (min_both (b.peer.window - b.sender.in_flight) size).1 (min_both (size_limit b addresses mtu) (length queued.queue - next_place b)).0)
 
   again_in_size : (resend_choice b addresses mtu queued).len ≤ size_limit b addresses mtu
   again_in_size =
-      below_parts _ _ _ (min_both (hole_len b again (sent_places b)) (min (size_limit b addresses mtu) (unbroken queued again))).1
-      (min_both (size_limit b addresses mtu) (unbroken queued again)).0
+      below_parts _ _ _ (min_both (hole_len b again (sent_places b)) (min (size_limit b addresses mtu) (length queued.queue - again))).1
+      (min_both (size_limit b addresses mtu) (length queued.queue - again)).0
     where
       again : ℕ
       again = again_place b (size_limit b addresses mtu) (sent_places b) (length queued.queue)

@@ -18,6 +18,7 @@ use Rattle.tcp_model.specs.declared.block.Block.{Block}
 use Rattle.tcp_model.specs.Acknowledged.{acknowledged, duplicates_after, names_window, windowed, ranges_taken, counted}
 use Rattle.tcp_model.specs.Answers.{acked, drawn}
 use Rattle.tcp_model.specs.Segments.{no_ranges}
+use Rattle.tcp_model.specs.Settled.{nxt_past_held}
 use Rattle.tcp_model.specs.Arrival.{waiting_anew, outside, passed_outside, tells_news, has_length, comes_again, with_content, told, taken, inside}
 use Rattle.tcp_model.specs.Arrival.{checked, takes_reset}
 use Rattle.tcp_model.specs.Arrival.{challenges_reset, reset_comes, challenges_syn, draws_first, echo_heard, received, arrives_in, arrives, is_void_syn}
@@ -92,7 +93,10 @@ told_core : (v : TcpValue) (header : TcpHeader) (duplicates : ℕ) (now : ℤ) �
 told_core v header duplicates now =
     cond_both (names_window v.block header) (windowed v.block header) v.block
     (λ (b : Block).
-    core_of (with_block v (timeout_restarted (counted (ranges_taken (stamp_taken b header now) header now) duplicates) now (queued_in v))) ≡ core_of v)
+    core_of
+    (with_block v
+    (timeout_restarted (nxt_past_held (counted (ranges_taken (stamp_taken b header now) header now) duplicates now) (queued_in v)) now (queued_in v)))
+    ≡ core_of v)
     (λ _. refl)
     (λ _. refl)
 

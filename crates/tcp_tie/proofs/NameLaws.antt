@@ -54,7 +54,7 @@ use Rattle.tcp_model.specs.Rules.{keep_alive_moment, backed_off_now}
 use Rattle.tcp_model.specs.Segments.{no_ranges, rst_reply, reset_for, reply_to, hops_of, segment, sack_segment, ack_segment, syn_segment, reset_segment}
 use Rattle.tcp_model.specs.Segments.{keep_alive_segment}
 use Rattle.tcp_model.specs.Retries.{heard, asked, one_more, gives_up, given_up}
-use Rattle.tcp_model.specs.Settled.{settled, recorded, probed, end_of}
+use Rattle.tcp_model.specs.Settled.{nxt_past_held, settled, recorded, probed, end_of}
 use Rattle.tcp_model.specs.States.{is_closed, is_time_wait, is_listening, is_answering, is_opening, after_ack, after_ack_of_fin, after_fin, after_close}
 use Rattle.tcp_model.specs.States.{takes_text}
 use Rattle.tcp_model.specs.Text.{Texted, texted, with_text, with_text_at, with_bytes_at, taken_in_order, held_early, laid, has_new_text, with_fin, takes_fin}
@@ -308,7 +308,8 @@ module _ (cx : ContextValue) (ip : IpRepr) (header : TcpHeader) where
   told_stays w duplicates =
       cond_both (names_window w.block header) (windowed w.block header) w.block
       (λ (b : Block). Stays w.block
-      (timeout_restarted (counted (ranges_taken (stamp_taken b header cx.moment) header cx.moment) duplicates) cx.moment (queued_in w)))
+      (timeout_restarted (nxt_past_held (counted (ranges_taken (stamp_taken b header cx.moment) header cx.moment) duplicates cx.moment) (queued_in w)) cx.moment
+      (queued_in w)))
       (λ _. (refl, refl))
       (λ _. (refl, refl))
 

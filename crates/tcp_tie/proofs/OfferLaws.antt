@@ -10,7 +10,7 @@ use Rattle.ip_wire.specs.SeqNumber.{SeqNumber}
 use Rattle.ip_wire.specs.Tcp.{header_len}
 use Rattle.ip_wire.specs.TcpControl.TheVariants as Bits
 use Rattle.ip_wire.specs.TcpHeader.{TcpHeader}
-use Rattle.net_base.specs.Ring.{Ring, until_end}
+use Rattle.net_base.specs.Ring.{Ring}
 use Rattle.socket_base.specs.Context.{ContextValue}
 use Rattle.socket_base.specs.Offers.{Offered}
 use Rattle.tcp_law.specs.Segment.{Segment, fin_if}
@@ -34,7 +34,7 @@ use Rattle.tcp_model.specs.Offers.{backed_off, offer_between, offer_with, offer_
 use Rattle.tcp_model.specs.Probing.{probe_started, probe_moment, is_probing, is_window_small}
 use Rattle.tcp_model.specs.Retries.{asked, one_more, gives_up, given_up}
 use Rattle.tcp_model.specs.Rules.{Choice, time_wait_end, owes_syn, resends, ack_moment, has_text, text_choice, resend_choice, probe_choice, control_for}
-use Rattle.tcp_model.specs.Rules.{updates_window, keep_alive_moment, backed_off_now, fin_goes, next_place, size_limit, window_limit, congestion_limit, unbroken}
+use Rattle.tcp_model.specs.Rules.{updates_window, keep_alive_moment, backed_off_now, fin_goes, next_place, size_limit, window_limit, congestion_limit}
 use Rattle.tcp_model.specs.LossRecovery.{fills_hole, hole_len, loss_probe_moment, loss_probed, loss_probed_by}
 use Rattle.tcp_model.specs.Rules.{is_sendable, congestion_room, sent_places}
 use Rattle.tcp_model.proofs.Holes.{again_within}
@@ -152,8 +152,8 @@ limited_by other cwnd window size = omega arith
 limited : (b : Block) (size : ℕ) → window_limit b size ≤ size
 limited b size = limited_by b.settings.congestion_control (congestion_room b) (b.peer.window - b.sender.in_flight) size
 
-left_over : (place len queue limit storage : ℕ) → place ≤ queue → len ≤ min limit (min (queue - place) storage) → place + len ≤ queue
-left_over place len queue limit storage inside low = omega arith
+left_over : (place len queue limit : ℕ) → place ≤ queue → len ≤ min limit (queue - place) → place + len ≤ queue
+left_over place len queue limit inside low = omega arith
 
 -- what goes from SND.NXT, which lies in the send queue
 next_part :
@@ -163,8 +163,7 @@ next_part b pair mtu queued sends inside = record {
   sends = sends;
   within = inside;
   fits = left_over (next_place b) (text_choice b pair.addresses mtu queued).len (length queued.queue) (size_limit b pair.addresses mtu)
-      (until_end queued (next_place b)) inside
-      (limited b (min (size_limit b pair.addresses mtu) (unbroken queued (next_place b))));
+      inside (limited b (min (size_limit b pair.addresses mtu) (length queued.queue - next_place b)));
   last = fin_place b (length queued.queue) (next_place b + (text_choice b pair.addresses mtu queued).len);
 }
 
@@ -199,14 +198,14 @@ resend_part b pair mtu queued e =
     record {
       sends = (and_parts (sends_text b.state) (b.sender.resend || (b.loss.probes || fills_hole b)) e).0;
       within = inside;
-      fits = held_in place (hole_len b place (sent_places b)) (length queued.queue) (size_limit b pair.addresses mtu) (until_end queued place) inside;
+      fits = held_in place (hole_len b place (sent_places b)) (length queued.queue) (size_limit b pair.addresses mtu) inside;
       last = λ fin.
           fin_place b (length queued.queue) (place + len)
           (and_parts (fin_goes b (length queued.queue) (place + len)) (nat_lt (place + len) (sent_places b)) fin).0;
     }
   where
-    held_in : (place hole queue limit storage : ℕ) → place ≤ queue → place + min hole (min limit (min (queue - place) storage)) ≤ queue
-    held_in place hole queue limit storage inside = omega arith
+    held_in : (place hole queue limit : ℕ) → place ≤ queue → place + min hole (min limit (queue - place)) ≤ queue
+    held_in place hole queue limit inside = omega arith
 
 probes : (b : Block) (queued : ℕ) (now : ℤ) → is_due now (probe_moment b queued) ≡ true → is_probing b queued ≡ true
 probes b queued now e = by (is_probing b queued) refl e where

@@ -11,7 +11,7 @@ ghost use Rattle.tcp_model.specs.RecvError.TheVariants as Recv;
 ghost use Rattle.tcp_model.specs.Calls.{listen_after, connect_after, send_answer, send_after, recv_answer};
 ghost use Rattle.tcp_model.specs.Offers.{offered_packet};
 ghost use Rattle.tcp_model.specs.Settings.{set_timeout, set_keep_alive, set_ack_delay, set_nagle_enabled, set_hop_limit, set_tsval_generator, pause_synack};
-ghost use Rattle.tcp_model.specs.Settings.{set_retries, set_min_rto, set_congestion_control};
+ghost use Rattle.tcp_model.specs.Settings.{set_retries, set_min_rto, set_fine_timer, set_congestion_control};
 ghost use Rattle.tcp_model.specs.Value.{TcpValue, unoffered};
 ghost use Rattle.tcp_tie.specs.History.{listen_opens, connect_opens, opened_by, bytes_taken, with_written, with_offer, with_packet};
 ghost use Rattle.tcp_tie.specs.Promises.{KeepsAlone};
@@ -52,6 +52,7 @@ pub fn settings_change_no_stream()
     ensures paused { (v : TcpValue) (paused : Bool) → core_of (pause_synack v paused) ≡ core_of v }
     ensures retries { (v : TcpValue) (limit : Option ℕ) → core_of (set_retries v limit) ≡ core_of v }
     ensures min_rto { (v : TcpValue) (duration : ℕ) → core_of (set_min_rto v duration) ≡ core_of v }
+    ensures fine_timer { (v : TcpValue) (fine : Bool) → core_of (set_fine_timer v fine) ≡ core_of v }
     ensures congestion { (v : TcpValue) (control : CongestionControl) → core_of (set_congestion_control v control) ≡ core_of v }
     ensures unoffered { (v : TcpValue) → core_of (unoffered v) ≡ core_of v }
 {}

@@ -4,14 +4,14 @@ ghost use Rattle.net_base.specs.Time.{IsMoment};
 ghost use Rattle.tcp_model.specs.Acknowledged.{freed_by, sender_moved, retransmit_after, acks_own_syn, acks_in_recovery, is_partial, round_trip_after};
 ghost use Rattle.tcp_model.specs.Acknowledged.{recovery_after, reno_after, una_moved, acks_fin, state_after_ack, in_state, block_acknowledged, scaled};
 ghost use Rattle.tcp_model.specs.Acknowledged.{acks_no_less, or_number, names_window, windowed, window_set, end_past, highest_end, sacked_by, ranges_taken};
-ghost use Rattle.tcp_model.specs.Acknowledged.{tells_of_loss, is_duplicate, duplicates_after, is_third, is_lost_since, begins_recovery};
+ghost use Rattle.tcp_model.specs.Acknowledged.{tells_of_loss, is_duplicate, duplicates_after, is_third, is_lost_since, is_missed, begins_recovery, late_until};
 ghost use Rattle.tcp_model.specs.Acknowledged.{is_blind, partly_after, una_risen, reno_counted, counted};
 
 use crate::{Block, State};
 use ip_wire::{MAX_WINDOW_SCALE, SeqNumber, TcpHeader};
-use net_base::Instant;
+use net_base::{Duration, Instant};
 use tcp_control::controls::is_fin;
-use tcp_control::moments::{time_wait_from, timeout_from};
+use tcp_control::moments::{later, time_wait_from, timeout_from};
 use tcp_control::offsets::{before_by, behind_by, past_by};
 
 /// What a window field means.
@@ -92,7 +92,9 @@ impl Block {
         let blind = self.is_blind(by, partial);
         let again = self.sender.partial && blind;
         let first = partial && self.loss.resent.saturating_sub(by) == 0;
+        let validation = self.validation_after(by, now);
         self.time_una(by, queued, now);
+        self.validation = validation;
         self.move_sender(by);
         self.sender.resend = self.sender.resend || first;
         self.sender.partial = self.sender.partial || blind;
@@ -167,13 +169,12 @@ impl Block {
         ensures { self.new ≡ record self.old { round_trip = round_trip_after self.old by now; reno = reno_after self.old by queued now } }
     {
         let freed = self.freed_by(by, queued);
-        self.round_trip.advance(by, now);
+        self.round_trip.advance(by, now, self.settings.fine_timer);
         if !self.acks_own_syn(by) {
             if self.acks_in_recovery(by) {
                 self.recover_una(by, freed, queued);
             } else {
-                self.reno
-                    .acknowledged(freed, now, self.round_trip.smoothed());
+                self.grow_if_used(freed, now);
             }
             return;
         }
@@ -337,11 +338,31 @@ impl Block {
             && self.is_passed(self.sender.recover)
     }
 
-    /// Whether the third duplicate, or what the ranges say, begins fast recovery.
+    /// Whether the third duplicate, or what the ranges say, tells of a loss outside of a recovery.
+    fn is_missed(&self, count: u8) -> bool
+        ensures { result ≡ is_missed self.now count }
+    {
+        self.sender.recover == 0 && (count == 3 || self.is_first_lost())
+    }
+
+    /// Whether it begins fast recovery, since it isn't only late.
     fn begins_recovery(&self, count: u8) -> bool
         ensures { result ≡ begins_recovery self.now count }
     {
-        self.sender.recover == 0 && (count == 3 || self.is_first_lost()) || self.is_lost_since()
+        self.is_missed(count) && !self.may_be_late() || self.is_lost_since()
+    }
+
+    /// Until when what may only be late is waited for. The moment is set once.
+    fn late_until(&self, count: u8, now: Instant) -> Option<Instant>
+        requires { IsMoment now }
+        ensures { result ≡ late_until self.now count now }
+    {
+        if self.loss.late_until.is_none() && self.is_missed(count) && self.may_be_late() {
+            let wait = self.round_trip.late_wait(self.loss.patience);
+            Some(later(now, Duration::from_micros(wait)))
+        } else {
+            self.loss.late_until
+        }
     }
 
     /// Congestion control after so many duplicates in a row, of which the last begins recovery, or what
@@ -362,13 +383,15 @@ impl Block {
     }
 
     /// There were so many duplicates in a row. At the third the segment at SND.UNA is to go again, and fast
-    /// recovery begins where more than `recover` is acknowledged.
-    pub fn count(&mut self, count: u8)
-        ensures { self.new ≡ counted self.old count }
+    /// recovery begins where more than `recover` is acknowledged; or it is waited for.
+    pub fn count(&mut self, count: u8, now: Instant)
+        requires { IsMoment now }
+        ensures { self.new ≡ counted self.old count now }
     {
         let begins = self.begins_recovery(count);
         let again = self.is_lost_again();
-        let third = count == 3 && !self.reno.recovers();
+        let third = count == 3 && !self.reno.recovers() && self.sender.recover != 0;
+        self.loss.late_until = self.late_until(count, now);
         if begins {
             self.loss.undo = self.undo_begun();
         }

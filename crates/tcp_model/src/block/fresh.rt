@@ -5,7 +5,7 @@ ghost use Rattle.tcp_model.specs.Blocks.{own_scale, scale_for, field_of, own_shi
 
 use crate::{
     Block, CongestionControl, Loss, Names, Peer, Receiver, Reno, RoundTrip, Sender, Settings,
-    Stamps, State, Timers,
+    Stamps, State, Timers, Validation,
 };
 use ip_wire::{IpListenEndpoint, MAX_WINDOW_SCALE, SeqNumber};
 use net_base::Duration;
@@ -80,6 +80,7 @@ impl Settings {
             opening_retries: Some(OPENING_RETRIES),
             retries: Some(RETRIES),
             min_rto: Duration::from_micros(MIN_RTO),
+            fine_timer: false,
         }
     }
 }
@@ -144,6 +145,7 @@ impl Block {
             round_trip,
             reno: settings.congestion_control.fresh_window(),
             loss: Loss::NONE,
+            validation: Validation::NONE,
             settings,
         }
     }

@@ -8,7 +8,7 @@ ghost use Rattle.tcp_model.specs.LossRecovery.{heard_more, ranges_noted, thresho
 ghost use Rattle.tcp_model.specs.LossRecovery.{pipe_in_recovery, pipe, next_hole};
 ghost use Rattle.tcp_model.specs.LossRecovery.{is_passed, mends_lost, credited_window, mends_credited};
 ghost use Rattle.tcp_model.specs.LossRecovery.{fills_hole, again_place, hole_len, loss_lowered, loss_acked, loss_resent, loss_timed_out, probes_tail};
-ghost use Rattle.tcp_model.specs.LossRecovery.{loss_probed, loss_probed_by};
+ghost use Rattle.tcp_model.specs.LossRecovery.{came_late, may_be_late, loss_probed, loss_probed_by};
 
 use crate::{Block, Loss, Run, Scoreboard};
 use ip_wire::{SeqNumber, TcpHeader};
@@ -33,6 +33,8 @@ impl Loss {
         probes: false,
         probed: false,
         probe_at: None,
+        patience: 0,
+        late_until: None,
         undo: None,
     };
 }
@@ -70,29 +72,31 @@ impl Block {
         }
     }
 
-    /// When a probe is due: while text or a FIN is in flight.
+    /// When a probe is due, or what may be late was waited for long enough: while text or a FIN is in flight.
     pub fn loss_probe_moment(&self) -> Option<Instant>
         ensures { result ≡ loss_probe_moment self.now }
     {
         if self.state.sends_text() && !self.sender.syn_unacked && self.sender.in_flight != 0 {
-            self.loss.probe_at
+            self.loss.late_until.or(self.loss.probe_at)
         } else {
             None
         }
     }
 
-    /// Whether nothing is held, nor was lost: then a probe is the last segment.
+    /// Whether nothing is held, nor was lost: then a probe is the last segment. What was waited for is lost.
     fn probes_tail(&self) -> bool
         ensures { result ≡ probes_tail self.now }
     {
-        self.sender.recover == 0 && self.loss.board.held() == 0
+        self.loss.late_until.is_none() && self.sender.recover == 0 && self.loss.board.held() == 0
     }
 
-    /// A probe is due. Where something is held, or was lost, all that isn't held is lost.
+    /// A probe is due. Where something is held, or was lost, all that isn't held is lost. Or the segment at
+    /// SND.UNA was waited for long enough.
     fn probe(&mut self)
         ensures { self.new ≡ loss_probed self.old }
     {
         let tail = self.probes_tail();
+        let probe = self.loss.late_until.is_none();
         if !tail && self.sender.recover == 0 {
             self.loss.undo = self.undo_begun();
         }
@@ -104,10 +108,11 @@ impl Block {
         if !tail && self.sender.recover == 0 {
             self.sender.recover = self.past_top();
         }
-        self.loss.eager = true;
+        self.loss.eager = probe;
         self.loss.probes = tail;
-        self.loss.probed = true;
+        self.loss.probed = probe;
         self.loss.probe_at = None;
+        self.loss.late_until = None;
     }
 
     /// Where a probe is due: the last segment is to go again, or the one at SND.UNA.
@@ -177,6 +182,7 @@ impl Block {
         let more = self.loss.board.held() < board.held();
         self.loss.board = board;
         if more {
+            self.loss.probes = false;
             self.loss.probed = false;
             self.arm_probe(now);
         }
@@ -238,6 +244,13 @@ impl Block {
             && self.reno.recovers()
             && self.loss.resent != 0
             && self.is_passed(self.loss.mark)
+    }
+
+    /// Whether what is missing may only be late: something came late, and no probe went since.
+    pub(crate) fn may_be_late(&self) -> bool
+        ensures { result ≡ may_be_late self.now }
+    {
+        self.loss.patience != 0 && self.peer.sack && !self.loss.eager
     }
 
     /// Pipe in recovery.
@@ -354,10 +367,20 @@ impl Block {
 // WHAT HAPPENS
 
 impl Loss {
+    /// Whether SND.UNA rises over what went once, though what was sent later is held.
+    fn came_late(&self) -> bool
+        ensures { result ≡ came_late self.now }
+    {
+        self.mark == 0 && !self.board.is_empty()
+    }
+
     /// SND.UNA rose by so much. `partial` says that fast recovery goes on.
     fn lower(&mut self, by: u32, partial: bool)
         ensures { self.new ≡ loss_lowered self.old by partial }
     {
+        if self.came_late() {
+            self.patience = self.patience.max(1);
+        }
         self.board.acknowledge(by);
         self.credit = if partial && self.resent != 0 { 2 } else { 0 };
         self.resent = self.resent.saturating_sub(by);
@@ -365,6 +388,7 @@ impl Loss {
         self.eager = self.eager && partial;
         self.probes = false;
         self.probed = false;
+        self.late_until = None;
         self.undo = None;
     }
 }
@@ -398,6 +422,7 @@ impl Block {
         ensures { self.new ≡ record self.old { loss = loss_timed_out self.old } }
     {
         let board = self.loss.board;
+        let patience = self.loss.patience;
         let undo = if self.sender.syn_unacked {
             None
         } else {
@@ -405,6 +430,8 @@ impl Block {
         };
         self.loss = Loss::NONE;
         self.loss.board = board;
+        self.loss.mark = self.sender.top;
+        self.loss.patience = patience.min(1);
         self.loss.undo = undo;
     }
 }

@@ -1,6 +1,6 @@
 //! What a socket offers: a test for each rule, and what the rules for text may send.
 ghost use Rattle.std.specs.Bool.{OnTrue};
-ghost use Rattle.std.specs.Prelude.{◌≡◌, ◌+◌, ◌≤◌, ◌<◌, ◌^◌, min};
+ghost use Rattle.std.specs.Prelude.{◌≡◌, ◌+◌, ◌-◌, ◌≤◌, ◌<◌, ◌^◌, min};
 ghost use Rattle.tcp_model.specs.Rules.{time_wait_end, owes_syn, resends, ack_moment, Choice, stamp_len, size_limit, congestion_limit, beyond, window_limit};
 ghost use Rattle.tcp_model.specs.Rules.{next_place, fin_goes, text_of_size, ready, may_be_small, fills_enough, is_sendable, sends_choice, sent_places};
 ghost use Rattle.tcp_model.specs.LossRecovery.{again_place, hole_len};
@@ -177,19 +177,12 @@ impl Block {
         self.state.owes_fin() && end == queued
     }
 
-    /// What may go from SND.NXT on, where so many bytes are queued and so many of them lie there
-    /// behind one another.
-    pub fn text_part(
-        &self,
-        addresses: &AddressPair,
-        ip_mtu: usize,
-        queued: usize,
-        unbroken: usize,
-    ) -> Part
-        ensures { choice_of result ≡ text_of_size self.now queued (window_limit self.now (min (size_limit self.now addresses.now ip_mtu) unbroken)) }
+    /// What may go from SND.NXT on, where so many bytes are queued.
+    pub fn text_part(&self, addresses: &AddressPair, ip_mtu: usize, queued: usize) -> Part
+        ensures { choice_of result ≡ text_of_size self.now queued (ready self.now (size_limit self.now addresses.now ip_mtu) queued) }
     {
         let place = self.next_place();
-        let len = self.window_limit(self.size_limit(addresses, ip_mtu).min(unbroken));
+        let len = self.ready(self.size_limit(addresses, ip_mtu), queued);
         let fin = self.fin_goes(queued, place + len);
         Part { place, len, fin }
     }
@@ -206,10 +199,10 @@ impl Block {
             && self.is_sendable(queued, limit, part)
     }
 
-    /// How much of the send queue may go from SND.NXT, in however many pieces it lies.
+    /// How much of the send queue may go from SND.NXT.
     fn ready(&self, limit: usize, queued: usize) -> usize
         ensures value { result ≡ ready self.now limit queued }
-        ensures small { result ≤ queued }
+        ensures small { result ≤ limit }
     {
         self.window_limit(limit.min(queued.saturating_sub(self.next_place())))
     }
@@ -223,23 +216,21 @@ impl Block {
 
     /// Whether all that is queued may go, or half of the largest window that the remote named.
     fn fills_enough(&self, queued: usize, size: usize) -> bool
-        requires { size ≤ 2 ^ 30 }
         ensures { result ≡ fills_enough self.now queued size }
     {
-        self.next_place() + size == queued || self.peer.largest_window as usize / 2 <= size
+        let place = self.next_place();
+        place <= queued && queued - place == size || self.peer.largest_window as usize / 2 <= size
     }
 
     /// Whether something goes, and so much is worth a segment: a full one, or enough where small ones
     /// may go.
     fn is_sendable(&self, queued: usize, limit: usize, part: &Part) -> bool
-        requires { queued ≤ 2 ^ 30 }
         ensures { result ≡ is_sendable self.now queued limit (choice_of part.now) }
     {
         if part.fin || part.len == 0 {
             return part.fin;
         }
-        let ready = self.ready(limit, queued);
-        limit <= ready || self.may_be_small() && self.fills_enough(queued, ready)
+        limit <= part.len || self.may_be_small() && self.fills_enough(queued, part.len)
     }
 
     /// How many places of the send queue, and one for the FIN behind it, were ever sent.
@@ -262,24 +253,22 @@ impl Block {
         )
     }
 
-    /// What was sent again from a place on, up to what is held, where so many bytes are queued and so many
-    /// of them lie there behind one another.
+    /// What was sent again from a place on, up to what is held, where so many bytes are queued.
     pub fn sent_part(
         &self,
         addresses: &AddressPair,
         ip_mtu: usize,
         place: usize,
         queued: usize,
-        unbroken: usize,
     ) -> Part
         requires { place < 2 ^ 32 }
         ensures { choice_of result ≡ sent_text self.now queued place
-            (min (hole_len self.now place (sent_places self.now)) (min (size_limit self.now addresses.now ip_mtu) unbroken)) }
+            (min (hole_len self.now place (sent_places self.now)) (min (size_limit self.now addresses.now ip_mtu) (queued - place))) }
     {
         let sent = self.sent_places();
         let len = self
             .size_limit(addresses, ip_mtu)
-            .min(unbroken)
+            .min(queued.saturating_sub(place))
             .min(self.hole_len(place, sent));
         let end = place + len;
         Part {

@@ -2,7 +2,7 @@
 ghost use Rattle.std.specs.Prelude.{◌≡◌, ◌+◌, ◌≤◌, ◌<◌, ◌^◌};
 ghost use Rattle.net_base.specs.Time.{IsMoment};
 ghost use Rattle.tcp_model.specs.Unsettled.{EndsNear};
-ghost use Rattle.tcp_model.specs.Settled.{edge_by, recorded, end_of, past_held, nxt_moved, timer_started, loss_watched, went, syn_went, resent, probed};
+ghost use Rattle.tcp_model.specs.Settled.{edge_by, recorded, end_of, past_held, nxt_past_held, nxt_moved, timer_started, went, resent, probed};
 ghost use Rattle.tcp_model.specs.Settled.{sent_as};
 
 use super::acknowledged::or_number;
@@ -64,6 +64,15 @@ impl Block {
             return end;
         }
         end.max(self.loss.board.first_missing(end).min(sent as u32))
+    }
+
+    /// Where the remote holds what begins at SND.NXT, that moves behind it.
+    pub fn skip_held(&mut self, queued: usize)
+        ensures { self.new ≡ nxt_past_held self.old queued }
+    {
+        if self.sender.in_flight != 0 {
+            self.sender.in_flight = self.past_held(self.sender.in_flight, queued);
+        }
     }
 
     fn start_timer(&mut self, now: Instant)
@@ -140,7 +149,11 @@ impl Block {
                 self.resent(end);
                 self.went(offer, queued);
             }
-            OfferKind::Text => self.went(offer, queued),
+            OfferKind::Text => {
+                let top = self.sender.top;
+                self.went(offer, queued);
+                self.text_went(top, offer.moment);
+            }
             OfferKind::Probe => {
                 let end = self.end_of(offer);
                 self.probed(end, offer.moment);

@@ -159,7 +159,8 @@ impl Block {
             return;
         }
         if let Some(millis) = self.echo_of(header, now) {
-            self.round_trip.take_echo(by, millis);
+            self.round_trip
+                .take_echo(by, millis, self.settings.fine_timer);
         }
     }
 }

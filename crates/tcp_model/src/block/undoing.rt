@@ -36,7 +36,7 @@ impl Block {
     {
         if let Some(undo) = self.loss.undo {
             if undo.until.is_none() {
-                let shortest = Duration::from_micros(self.round_trip.shortest() * 1000);
+                let shortest = Duration::from_micros(self.round_trip.shortest());
                 self.loss.undo = Some(Undo {
                     reno: undo.reno,
                     until: Some(later(now, shortest)),
@@ -68,11 +68,14 @@ impl Block {
     }
 
     /// The window is as it was, recovery is over, nothing is to go again, and all that was sent of the send
-    /// queue is in flight.
+    /// queue is in flight. What is missing is waited for longer.
     fn undo(&mut self, queued: usize)
         requires { queued ≤ 2 ^ 30 }
         ensures { self.new ≡ undone_if true self.old queued }
     {
+        if self.reno.recovers() {
+            self.loss.patience = self.loss.patience.min(15) + 1;
+        }
         if let Some(undo) = &self.loss.undo {
             self.reno.restore(&undo.reno);
         }

@@ -14,5 +14,5 @@ invariant_of-self c =
       block = rw c.acknowledge.ensures (
           kept_acknowledged c.self.inside.block c.args.by c.len-queued.result c.args.now c.self.invariant.block
           );
-      unsettled = none_open c.self.inside.offered c.acknowledge.new.self c.dequeue_allocated.new.self none;
+      unsettled = none_open c.self.inside.offered c.acknowledge.new.self none;
     }

@@ -13,7 +13,7 @@ invariant_of-self g c =
     record {
       room = c.self.invariant.room;
       block = rw c.keep_probe.ensures (record { start = c.self.invariant.block.start; mss = c.self.invariant.block.mss });
-      unsettled = none_open c.self.inside.offered c.keep_probe.new.self c.self.inside.queued none;
+      unsettled = none_open c.self.inside.offered c.keep_probe.new.self none;
     }
 
 pub returns-clause-answer : goal.returns-clause-answer

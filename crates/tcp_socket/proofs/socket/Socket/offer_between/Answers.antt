@@ -20,7 +20,7 @@ invariant_of-self-2 g c =
         c.back_off.ensures,
         c.start_timeout.ensures,
       ) (kept_going c.self.inside.block c.now-now.result c.len-queued.result c.now-now.ensures.moment c.self.invariant.block);
-      unsettled = none_open c.self.inside.offered c.back_off.new.self c.self.inside.queued (ap (λ (v : TcpValue). v.offered) c.self.view_is ∙
+      unsettled = none_open c.self.inside.offered c.back_off.new.self (ap (λ (v : TcpValue). v.offered) c.self.view_is ∙
           c.requires.unoffered);
     }
 

@@ -29,7 +29,7 @@ invariant_of-self-then-is_syn g c =
         c.take_answer.ensures,
       ) (kept_answer c.self.inside.block header c.now-now.result c.len.result c.now-now.ensures.moment
           (sized_mss header.options.max_seg_size sized));
-      unsettled = none_open c.self.inside.offered c.restart_timeout.new.self c.self.inside.queued none;
+      unsettled = none_open c.self.inside.offered c.restart_timeout.new.self none;
     }
 
 pub returns-then-is_syn-clause-socket : goal.returns-then-is_syn-clause-socket

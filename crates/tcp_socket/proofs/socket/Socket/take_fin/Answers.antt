@@ -12,5 +12,5 @@ invariant_of-self c =
       block = rw c.take_fin.ensures
           (kept_fin c.self.inside.block (next_at c.self.inside.block c.args.next) c.args.header.now c.args.size c.args.advance c.args.now
           c.self.invariant.block);
-      unsettled = none_open c.self.inside.offered c.take_fin.new.self c.self.inside.queued none;
+      unsettled = none_open c.self.inside.offered c.take_fin.new.self none;
     }

@@ -19,5 +19,5 @@ invariant_of-self g c =
         c.answer_syn.ensures,
       ) (kept_opening c.self.inside.block i.ip_repr.now i.header c.first_number-number.result c.now-now.result c.now-now.ensures.moment
           (sized_mss i.header.options.max_seg_size sized));
-      unsettled = none_open c.self.inside.offered c.restart_timeout.new.self c.self.inside.queued none;
+      unsettled = none_open c.self.inside.offered c.restart_timeout.new.self none;
     }

@@ -10,10 +10,11 @@ invariant_of-self c =
       room = c.self.invariant.room;
       block = rw (
         c.restart_timeout.ensures,
+        c.skip_held.ensures,
         c.count.ensures,
         c.take_ranges.ensures,
         c.set_window.ensures,
-      ) (kept_told c.self.inside.block c.args.header.now c.args.duplicates c.len.result c.args.now c.requires.moment
+      ) (kept_told c.self.inside.block c.args.header.now c.args.duplicates c.len-queued.result c.args.now c.requires.moment
           c.self.invariant.block);
-      unsettled = none_open c.self.inside.offered c.restart_timeout.new.self c.self.inside.queued none;
+      unsettled = none_open c.self.inside.offered c.restart_timeout.new.self none;
     }
