@@ -32,7 +32,7 @@ use Rattle.tcp_model.specs.FirstNumbers.{number_for}
 use Rattle.tcp_rules.specs.Acks.{IsDueWithin, OffersAck, answer_acks, offer_acks, IsBy, IsDueBy, StaysDue}
 use Rattle.tcp_rules.specs.Ends.{GoesOn}
 use Rattle.tcp_rules.specs.Events.{Event, Setting, set, is_past}
-use Rattle.tcp_rules.specs.Events.Setting.{Timeout, KeepAlive, AckDelay, Nagle, HopLimit, Timestamps, Paused, Retries, Congestion, MinRto}
+use Rattle.tcp_rules.specs.Events.Setting.{Timeout, KeepAlive, AckDelay, Nagle, HopLimit, Timestamps, Paused, Retries, Congestion, MinRto, FineTimer}
 use Rattle.tcp_rules.specs.Events.Event.{Comes, Asked, Listens, Connects, Sends, Reads, Closes, Aborts, Sets}
 use Rattle.tcp_rules.proofs.ArrivalCases.{by_arrival, Received, Opening, Content, Drawing, kept}
 use Rattle.tcp_rules.proofs.OfferCases.{Rules, FirstRules, LastRules, by_rules, probing}
@@ -339,6 +339,7 @@ stays_due v (Sets setting) t past by due = inr (inr (kept_by setting)) where
   kept_by (Paused paused) = due
   kept_by (Retries limit) = due
   kept_by (MinRto duration) = due
+  kept_by (FineTimer fine) = due
   kept_by (Congestion control) = due
 
 -- THE POLL

@@ -27,6 +27,7 @@ use Rattle.tcp_model.specs.Opening.{is_first_syn, opens, takes_answer, acks_syn,
 use Rattle.tcp_model.specs.Probing.{probe_kept}
 use Rattle.tcp_model.specs.Retries.{heard}
 use Rattle.tcp_model.specs.Segments.{no_ranges, rst_reply}
+use Rattle.tcp_model.specs.Settled.{nxt_past_held}
 use Rattle.tcp_model.specs.Text.{Texted, texted, with_bytes_at, taken_in_order, held_early, is_holding, laid, has_new_text}
 use Rattle.tcp_model.specs.Text.{takes_fin, fin_taken, is_at_fin}
 use Rattle.tcp_model.specs.Timeout.{timeout_restarted}
@@ -91,8 +92,10 @@ timed now header u by = echo_heard u header by now
 abbrev pub heeded : ℤ → TcpHeader → ℕ → TcpValue → ℕ → Block → TcpValue
 heeded now header size u by b =
     with_block (acked_open (timed now header u by) by now)
-    (timeout_restarted (counted (ranges_taken (stamp_taken b header now) header now) (duplicates_after u.block header size by)) now
+    (timeout_restarted
+    (nxt_past_held (counted (ranges_taken (stamp_taken b header now) header now) (duplicates_after u.block header size by) now)
     (queued_in (acked_open (timed now header u by) by now)))
+    now (queued_in (acked_open (timed now header u by) by now)))
 
 module _ (cx : ContextValue) (ip : IpRepr) (header : TcpHeader) (bytes : List ℕ) (Q : Arrived → Type 0) where
   -- a segment that is answered, at once or unless the last answer is too near

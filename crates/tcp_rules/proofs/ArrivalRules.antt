@@ -29,6 +29,7 @@ use Rattle.tcp_model.specs.Opening.{is_first_syn, opens, takes_answer, acks_syn,
 use Rattle.tcp_model.specs.Probing.{probe_kept}
 use Rattle.tcp_model.specs.Retries.{heard}
 use Rattle.tcp_model.specs.Segments.{no_ranges, rst_reply, reply_to, hops_of, sack_segment}
+use Rattle.tcp_model.specs.Settled.{nxt_past_held}
 use Rattle.tcp_model.specs.Text.{Texted, texted, with_text, with_text_at, with_bytes_at, taken_in_order, held_early, laid, has_new_text, with_fin, takes_fin}
 use Rattle.tcp_model.specs.Text.{fin_taken}
 use Rattle.tcp_model.specs.Timeout.{timeout_restarted}
@@ -43,7 +44,7 @@ use Rattle.tcp_rules.specs.Flight.{flight_of, IsArmed, IsPastAll}
 use Rattle.tcp_rules.proofs.Going.{Goes}
 use Rattle.tcp_rules.proofs.ArrivalCases.{suc_not}
 use Rattle.tcp_rules.proofs.OrderSteps.{clash}
-use Rattle.tcp_rules.proofs.Steps.{same, goes_on, anew, una_goes, acked_goes}
+use Rattle.tcp_rules.proofs.Steps.{same, goes_on, skips, anew, una_goes, acked_goes}
 
 same_reply : (b : Block) (mine reply : Reply) → IsPastAll b mine → Some mine ≡ Some reply → IsPastAll b reply
 same_reply b mine reply past e = let it : mine ≡ reply = cc in subst (IsPastAll b) it past
@@ -122,13 +123,14 @@ module _ (cx : ContextValue) (ip : IpRepr) (header : TcpHeader) where
       by_answer old (with_block t.socket (probe_kept new (queued_in t.socket))) (length bytes) t.fills t.early
       (goes_on old t.socket.block (probe_kept new (queued_in t.socket)) (goes_on old v.block t.socket.block goes text.0 text.1) fin.0 fin.1)
 
-  told_leaves : (w : TcpValue) (duplicates : ℕ) → Leaves w.block (told w header duplicates cx.moment).block
-  told_leaves w duplicates =
+  told_goes : (old : Block) (w : TcpValue) (duplicates : ℕ) → Goes old w.block → Goes old (told w header duplicates cx.moment).block
+  told_goes old w duplicates goes =
       cond_both (names_window w.block header) (windowed w.block header) w.block
-      (λ (b : Block). Leaves w.block
-      (timeout_restarted (counted (ranges_taken (stamp_taken b header cx.moment) header cx.moment) duplicates) cx.moment (queued_in w)))
-      (λ _. (refl, refl))
-      (λ _. (refl, refl))
+      (λ (b : Block). Goes old
+      (timeout_restarted (nxt_past_held (counted (ranges_taken (stamp_taken b header cx.moment) header cx.moment) duplicates cx.moment) (queued_in w)) cx.moment
+      (queued_in w)))
+      (λ _. skips old w.block _ _ goes refl refl refl refl refl)
+      (λ _. skips old w.block _ _ goes refl refl refl refl refl)
 
   -- An echo leaves what is in flight. Where a loss is undone all is in flight that was sent, and what is left of it has a timer.
   heard_goes : (b : Block) (by queued : ℕ)
@@ -196,9 +198,7 @@ module _ (cx : ContextValue) (ip : IpRepr) (header : TcpHeader) where
       let goes = heard_goes v.block by (queued_in v) in
       cond_both (is_closed w.block.state) (dropped w) (with_content cx heeded ip header bytes) (Sound v.block)
       (λ _. by_dropped v.block w goes)
-      (λ _.
-      let heeds = told_leaves w (duplicates_after v.block header (length bytes) by) in
-      by_content v.block heeded bytes (goes_on v.block w.block heeded.block goes heeds.0 heeds.1))
+      (λ _. by_content v.block heeded bytes (told_goes v.block w (duplicates_after v.block header (length bytes) by) goes))
 
   by_outside : (old : Block) (w : TcpValue) (again : Bool) → Goes old w.block → Sound old (outside cx w ip header again)
   by_outside old w again goes =

@@ -1,5 +1,6 @@
 -- The congestion window after a timeout.
-use Rattle.std.proofs.Common.{◌≡◌, ◌⊎◌, inl, inr, ⊎_elim, ℕ, zero, suc, ◌+◌, ◌-◌, ◌*◌, ◌<◌, ◌≤◌, ◌==◌, nat_lt, ◌&&◌, ◌||◌, not, min, ℤ, Bool, true, false}
+use Rattle.std.proofs.Common.{◌≡◌, ◌⊎◌, inl, inr, ⊎_elim, ℕ, zero, suc, ◌+◌, ◌-◌, ◌*◌, ◌/◌, ◌^◌, ◌<◌, ◌≤◌, ◌==◌, nat_lt, ◌&&◌, ◌||◌, not, min, max, ℤ, Bool, true}
+use Rattle.std.proofs.Common.{false}
 use Rattle.std.proofs.Common.{if◌then◌else◌, List, [], ◌∷◌, length, take, drop, Option, Some, None, is_some, refl, sym, ap, ◌∙◌, arith}
 use Rattle.std.proofs.lemmas.Bool.{cond_both}
 use Rattle.std.proofs.lemmas.List.{length-drop}
@@ -35,7 +36,9 @@ use Rattle.tcp_model.specs.Rules.{backed_off_now}
 use Rattle.tcp_model.specs.Timestamps.{stamp_taken, echo_taken}
 use Rattle.tcp_model.specs.Undone.{is_needless, prior_of}
 use Rattle.tcp_model.proofs.Undone.{undone_cases, needless_frees}
-use Rattle.tcp_model.specs.Settled.{sent_off, sent_as, recorded, probed, end_of}
+use Rattle.tcp_model.specs.Settings.{fresh_reno}
+use Rattle.tcp_model.specs.Settled.{sent_off, sent_as, recorded, probed, end_of, went}
+use Rattle.tcp_model.specs.Validation.{is_used, periods_ended}
 use Rattle.tcp_model.specs.Value.{TcpValue, Arrived, with_block, unoffered, ended, new_socket, queued_in, room_of}
 use Rattle.tcp_model.specs.declared.block.Block.{Block}
 use Rattle.tcp_model.specs.FirstNumbers.{number_for}
@@ -43,7 +46,7 @@ use Rattle.tcp_rules.specs.Congestion.{control_of, IsHeld, renews, StaysOut}
 use Rattle.tcp_rules.specs.Ends.{GoesOn}
 use Rattle.tcp_rules.specs.Events.{Event, Setting, after, led, set, is_past}
 use Rattle.tcp_rules.specs.Events.Event.{Comes, Asked, Listens, Connects, Sends, Reads, Closes, Aborts, Sets}
-use Rattle.tcp_rules.specs.Events.Setting.{Timeout, KeepAlive, AckDelay, Nagle, HopLimit, Timestamps, Paused, Retries, Congestion, MinRto}
+use Rattle.tcp_rules.specs.Events.Setting.{Timeout, KeepAlive, AckDelay, Nagle, HopLimit, Timestamps, Paused, Retries, Congestion, MinRto, FineTimer}
 use Rattle.tcp_rules.specs.InOrder.{sending_of, IsInOrder}
 use Rattle.tcp_rules.proofs.ArrivalCases.{by_arrival, Received, Opening, Content, Drawing, acked_open, timed}
 use Rattle.tcp_rules.proofs.OfferCases.{Rules, FirstRules, LastRules, by_rules, begun, probing}
@@ -107,46 +110,50 @@ out_counted r syn sack begins again count flight out =
     (λ _. out))
     out
 
--- what an acknowledgement makes of it, where so many bytes are queued, and so much is to be acknowledged until it is more than `recover`
-abbrev pub acked_reno : RenoValue → Bool → Bool → Bool → ℕ → ℕ → ℕ → ℤ → ℕ → RenoValue
-acked_reno r sack syn lost by queued recover now rtt =
+-- what an acknowledgement makes of it, where so many bytes are queued, so much is to be acknowledged until it is more than `recover`, and the
+-- window is used, or not
+abbrev pub acked_reno : RenoValue → Bool → Bool → Bool → ℕ → ℕ → ℕ → ℤ → ℕ → Bool → RenoValue
+acked_reno r sack syn lost by queued recover now rtt used =
     if syn && not (by == 0) then reno.started r lost
     else if r.recovers && not (by == 0)
     then (if (r.recovers && not (by == 0)) && nat_lt (by + 1) recover
     then (if sack then r else reno.partly r (min (by - one_if syn) queued)) else reno.recovered r)
-    else reno.acknowledged r (min (by - one_if syn) queued) now rtt
+    else if used then reno.acknowledged r (min (by - one_if syn) queued) now rtt
+    else reno.preserved r (min (by - one_if syn) queued)
 
 -- a part of it, and all: both alike
-acked_both : (P : RenoValue → Type 0) (r : RenoValue) (sack syn lost : Bool) (by queued recover : ℕ) (now : ℤ) (rtt : ℕ)
+acked_both : (P : RenoValue → Type 0) (r : RenoValue) (sack syn lost : Bool) (by queued recover : ℕ) (now : ℤ) (rtt : ℕ) (used : Bool)
     → ((syn && not (by == 0)) ≡ true → P (reno.started r lost))
     → (r.recovers ≡ true → P r)
     → (r.recovers ≡ true → P (reno.partly r (min (by - one_if syn) queued)))
     → (r.recovers ≡ true → P (reno.recovered r))
     → P (reno.acknowledged r (min (by - one_if syn) queued) now rtt)
-    → P (acked_reno r sack syn lost by queued recover now rtt)
-acked_both P r sack syn lost by queued recover now rtt starts stays part whole grows =
+    → P (reno.preserved r (min (by - one_if syn) queued))
+    → P (acked_reno r sack syn lost by queued recover now rtt used)
+acked_both P r sack syn lost by queued recover now rtt used starts stays part whole grows preserves =
     cond_both (syn && not (by == 0)) (reno.started r lost)
     (if r.recovers && not (by == 0)
     then (if (r.recovers && not (by == 0)) && nat_lt (by + 1) recover
     then (if sack then r else reno.partly r (min (by - one_if syn) queued)) else reno.recovered r)
-    else reno.acknowledged r (min (by - one_if syn) queued) now rtt)
+    else if used then reno.acknowledged r (min (by - one_if syn) queued) now rtt else reno.preserved r (min (by - one_if syn) queued))
     P starts
     (λ _.
     cond_both (r.recovers && not (by == 0))
     (if (r.recovers && not (by == 0)) && nat_lt (by + 1) recover then (if sack then r else reno.partly r (min (by - one_if syn) queued)) else reno.recovered r)
-    (reno.acknowledged r (min (by - one_if syn) queued) now rtt) P
+    (if used then reno.acknowledged r (min (by - one_if syn) queued) now rtt else reno.preserved r (min (by - one_if syn) queued)) P
     (λ recovers.
     cond_both ((r.recovers && not (by == 0)) && nat_lt (by + 1) recover) (if sack then r else reno.partly r (min (by - one_if syn) queued)) (reno.recovered r) P
     (λ _.
     cond_both sack r (reno.partly r (min (by - one_if syn) queued)) P
     (λ _. stays (left_true r.recovers (not (by == 0)) recovers)) (λ _. part (left_true r.recovers (not (by == 0)) recovers)))
     (λ _. whole (left_true r.recovers (not (by == 0)) recovers)))
-    (λ _. grows))
+    (λ _.
+    cond_both used (reno.acknowledged r (min (by - one_if syn) queued) now rtt) (reno.preserved r (min (by - one_if syn) queued)) P (λ _. grows) (λ _. preserves)))
 
-out_acked : (r : RenoValue) (sack syn lost : Bool) (by queued recover : ℕ) (now : ℤ) (rtt : ℕ) → Out r syn
-    → Out (acked_reno r sack syn lost by queued recover now rtt) (syn && (by == 0))
-out_acked r sack syn lost by queued recover now rtt out =
-    acked_both (λ (x : RenoValue). Out x (syn && (by == 0))) r sack syn lost by queued recover now rtt
+out_acked : (r : RenoValue) (sack syn lost : Bool) (by queued recover : ℕ) (now : ℤ) (rtt : ℕ) (used : Bool) → Out r syn
+    → Out (acked_reno r sack syn lost by queued recover now rtt used) (syn && (by == 0))
+out_acked r sack syn lost by queued recover now rtt used out =
+    acked_both (λ (x : RenoValue). Out x (syn && (by == 0))) r sack syn lost by queued recover now rtt used
     (λ acks e. clash (no_both syn (not (by == 0)) (out e).2 acks))
     (λ recovers e. clash (sym recovers ∙ (out e).1))
     (λ recovers e. clash (sym recovers ∙ (out e).1))
@@ -160,12 +167,16 @@ out_acked r sack syn lost by queued recover now rtt out =
     (λ (x : RenoValue). Out x (syn && (by == 0)))
     (λ _ e. let old = out e in (old.0, old.1, not_and syn (by == 0) old.2))
     (λ _ e. clash (sym e)))
+    (cond_both (min (by - one_if syn) queued == 0) r (record r { timed_out = false; cubic = reno.stopped r.cubic })
+    (λ (x : RenoValue). Out x (syn && (by == 0)))
+    (λ _ e. let old = out e in (old.0, old.1, not_and syn (by == 0) old.2))
+    (λ _ e. clash (sym e)))
 
 -- no timeout counts, so none does behind it
-quiet_acked : (r : RenoValue) (sack syn lost : Bool) (by queued recover : ℕ) (now : ℤ) (rtt : ℕ) → r.timed_out ≡ false →
-    (acked_reno r sack syn lost by queued recover now rtt).timed_out ≡ false
-quiet_acked r sack syn lost by queued recover now rtt quiet =
-    acked_both (λ (x : RenoValue). x.timed_out ≡ false) r sack syn lost by queued recover now rtt
+quiet_acked : (r : RenoValue) (sack syn lost : Bool) (by queued recover : ℕ) (now : ℤ) (rtt : ℕ) (used : Bool) → r.timed_out ≡ false →
+    (acked_reno r sack syn lost by queued recover now rtt used).timed_out ≡ false
+quiet_acked r sack syn lost by queued recover now rtt used quiet =
+    acked_both (λ (x : RenoValue). x.timed_out ≡ false) r sack syn lost by queued recover now rtt used
     (λ _. quiet) (λ _. quiet) (λ _. quiet) (λ _. refl)
     (cond_both (min (by - one_if syn) queued == 0) r
     (record r {
@@ -173,6 +184,8 @@ quiet_acked r sack syn lost by queued recover now rtt quiet =
       timed_out = false;
       cubic = reno.counted r (min (by - one_if syn) queued) now;
     })
+    (λ (x : RenoValue). x.timed_out ≡ false) (λ _. quiet) (λ _. refl))
+    (cond_both (min (by - one_if syn) queued == 0) r (record r { timed_out = false; cubic = reno.stopped r.cubic })
     (λ (x : RenoValue). x.timed_out ≡ false) (λ _. quiet) (λ _. refl))
 
 state_on : (state : State) → is_past state ≡ true → (is_listening (after_ack state) ≡ false) × (is_listening (after_ack_of_fin state) ≡ false)
@@ -235,7 +248,7 @@ module _ (cx : ContextValue) (ip : IpRepr) (header : TcpHeader) (bytes : List �
   acked_held u by h past =
       held (reno_after u.block by (queued_in u) cx.moment) (u.block.sender.syn_unacked && (by == 0)) (state_after_ack u.block by (queued_in u))
       (out_acked u.block.reno u.block.peer.sack u.block.sender.syn_unacked u.block.sender.syn_lost by (queued_in u)
-      u.block.sender.recover cx.moment (srtt_after u.block by cx.moment) h.window) (state_past u by past)
+      u.block.sender.recover cx.moment (srtt_after u.block by cx.moment) (is_used u.block) h.window) (state_past u by past)
 
   heeded_held : (u : TcpValue) (by count : ℕ) (begins again : Bool) → IsHeld (control_of u.block) → is_past u.block.state ≡ true
       → IsHeld (record {
@@ -253,7 +266,7 @@ module _ (cx : ContextValue) (ip : IpRepr) (header : TcpHeader) (bytes : List �
       (out_counted (reno_after u.block by (queued_in u) cx.moment) (u.block.sender.syn_unacked && (by == 0)) u.block.peer.sack begins again
       count (u.block.sender.in_flight - by)
       (out_acked u.block.reno u.block.peer.sack u.block.sender.syn_unacked u.block.sender.syn_lost by (queued_in u)
-      u.block.sender.recover cx.moment (srtt_after u.block by cx.moment) h.window))
+      u.block.sender.recover cx.moment (srtt_after u.block by cx.moment) (is_used u.block) h.window))
       (state_past u by past)
 
   -- the block as its duplicates are counted
@@ -277,7 +290,7 @@ module _ (cx : ContextValue) (ip : IpRepr) (header : TcpHeader) (bytes : List �
         let w = timed cx.moment header u by in
         held (reno_after w.block by (queued_in w) cx.moment) (w.block.sender.syn_unacked && (by == 0)) In.Closed
         (out_acked w.block.reno w.block.peer.sack w.block.sender.syn_unacked w.block.sender.syn_lost by (queued_in w)
-        w.block.sender.recover cx.moment (srtt_after w.block by cx.moment) (heard_held u by h).window) refl;
+        w.block.sender.recover cx.moment (srtt_after w.block by cx.moment) (is_used w.block) (heard_held u by h).window) refl;
     taken = λ by _ _.
         let b : Block = noted (acked_open (timed cx.moment header u by) by cx.moment).block in
         let count = duplicates_after u.block header (length bytes) by in
@@ -309,7 +322,8 @@ module _ (cx : ContextValue) (ip : IpRepr) (header : TcpHeader) (bytes : List �
           window = λ e.
               clash (sym e ∙ quiet_acked (reno.with_mss u.block.reno (or_mss header.options.max_seg_size))
               (took_syn u.block header).peer.sack u.block.sender.syn_unacked u.block.sender.syn_lost 1
-              0 u.block.sender.recover cx.moment (srtt_after (echo_taken (took_syn u.block header) header 1 cx.moment) 1 cx.moment) quiet);
+              0 u.block.sender.recover cx.moment (srtt_after (echo_taken (took_syn u.block header) header 1 cx.moment) 1 cx.moment)
+              (is_used (took_syn u.block header)) quiet);
           listens = λ e. clash (sym e);
         };
     crosses = λ at _.
@@ -328,6 +342,17 @@ unnamed v pair p named = at (is_listening v.block.state) refl where
   at true e = clash (sym (ap is_some named) ∙ (p.listens e).0)
   at false e = refl
 
+-- of one segment nothing lapses
+out_lapsed : (r : RenoValue) (syn : Bool) (periods : ℕ) → Out r syn → Out (reno.lapsed r periods) syn
+out_lapsed r syn periods out e = let old = out e in (one old.0, old.1, old.2) where
+  least : (mss half : ℕ) → min mss (max half (min (10 * mss) (max (2 * mss) 14_600))) ≡ mss
+  least mss half = omega arith
+
+  one : r.cwnd ≡ r.mss → (if periods == 0 then r.cwnd else min r.cwnd (max (r.cwnd / 2 ^ periods) (reno.first_window r.mss))) ≡ r.mss
+  one is =
+      cond_both (periods == 0) r.cwnd (min r.cwnd (max (r.cwnd / 2 ^ periods) (reno.first_window r.mss))) (λ (n : ℕ). n ≡ r.mss) (λ _. is)
+      (λ _. ap (λ (n : ℕ). min n (max (r.cwnd / 2 ^ periods) (reno.first_window r.mss))) is ∙ least r.mss (r.cwnd / 2 ^ periods))
+
 asked_held : (b : Block) (now : ℤ) → IsHeld (control_of b) → IsHeld (control_of (asked b now))
 asked_held b now h =
     cond_both (is_over now b.timers.counts_from)
@@ -341,6 +366,8 @@ sent_held : (kind : OfferKind) (b : Block) (o : OpenOffer) (queued : ℕ) → Is
 sent_held Kind.Reset b o queued h = held b.reno b.sender.syn_unacked In.Closed h.window refl
 sent_held Kind.Probe b o queued h = asked_held (probed b (end_of b o) o.moment) o.moment h
 sent_held Kind.KeepAlive b o queued h = asked_held b o.moment h
+sent_held Kind.Text b o queued h =
+    record { window = out_lapsed b.reno b.sender.syn_unacked (periods_ended (went b o queued) b.sender.top o.moment) h.window; listens = h.listens }
 sent_held other b o queued h = h
 
 settled_held : (offered : Option OpenOffer) (x : TcpValue) → IsHeld (control_of x.block) → IsHeld (control_of (sent_off offered x).block)
@@ -449,10 +476,17 @@ set_held v (Timestamps generator) h = h
 set_held v (Paused paused) h = h
 set_held v (Retries limit) h = h
 set_held v (MinRto duration) h = h
+set_held v (FineTimer fine) h = h
 set_held v (Congestion control) h = record { window = λ e. clash (sym e ∙ fresh); listens = λ _. fresh } where
-  fresh : (if v.block.receiver.took_syn then reno.with_mss (fresh_window control) v.block.peer.mss else fresh_window control).timed_out ≡ false
-  fresh = cond_both v.block.receiver.took_syn (reno.with_mss (fresh_window control) v.block.peer.mss) (fresh_window control) (λ (r : RenoValue). r.timed_out ≡
-      false) (λ _. refl) (λ _. refl)
+  fresh : (fresh_reno v.block control).timed_out ≡ false
+  fresh =
+      cond_both (not v.block.receiver.took_syn) (fresh_window control)
+      (if v.block.sender.syn_unacked then reno.with_mss (fresh_window control) v.block.peer.mss
+      else reno.started (reno.with_mss (fresh_window control) v.block.peer.mss) false)
+      (λ (r : RenoValue). r.timed_out ≡ false) (λ _. refl)
+      (λ _.
+      cond_both v.block.sender.syn_unacked (reno.with_mss (fresh_window control) v.block.peer.mss)
+      (reno.started (reno.with_mss (fresh_window control) v.block.peer.mss) false) (λ (r : RenoValue). r.timed_out ≡ false) (λ _. refl) (λ _. refl))
 
 connected_held : (v : TcpValue) (names : Option EndpointPair) (number : ℕ) → IsHeld (control_of v.block) →
     IsHeld (control_of (connected_by v names number).block)
@@ -563,18 +597,19 @@ module _ (cx : ContextValue) (ip : IpRepr) (header : TcpHeader) (bytes : List �
   stays_drawing x s = record { answers = λ _. s; at_once = s; pauses = s }
 
   -- it undoes the timeout, or not
-  abbrev window_if : Bool → ℕ → ℕ → RenoValue
-  window_if needless by rtt =
+  abbrev window_if : Bool → ℕ → ℕ → Bool → RenoValue
+  window_if needless by rtt used =
       acked_reno (if needless then prior_of v.block.loss.undo v.block.reno else v.block.reno) v.block.peer.sack v.block.sender.syn_unacked
-      v.block.sender.syn_lost by (queued_in v) (if needless then 0 else v.block.sender.recover) cx.moment rtt
+      v.block.sender.syn_lost by (queued_in v) (if needless then 0 else v.block.sender.recover) cx.moment rtt used
 
-  abbrev window_by : ℕ → ℕ → RenoValue
-  window_by by rtt = window_if (is_needless v.block header by (queued_in v) cx.moment) by rtt
+  abbrev window_by : ℕ → ℕ → Bool → RenoValue
+  window_by by rtt used = window_if (is_needless v.block header by (queued_in v) cx.moment) by rtt used
 
-  taken_stays : (by rtt : ℕ) → ((window_if false by rtt).timed_out ≡ true) ⊎ (length (drop (freed_by v.block by (queued_in v)) v.queued.queue) < queued_in v)
-  taken_stays by rtt =
+  taken_stays : (by rtt : ℕ) (used : Bool)
+      → ((window_if false by rtt used).timed_out ≡ true) ⊎ (length (drop (freed_by v.block by (queued_in v)) v.queued.queue) < queued_in v)
+  taken_stays by rtt used =
       acked_both (λ (r : RenoValue). (r.timed_out ≡ true) ⊎ (length (drop (freed_by v.block by (queued_in v)) v.queued.queue) < queued_in v))
-      v.block.reno v.block.peer.sack v.block.sender.syn_unacked v.block.sender.syn_lost by (queued_in v) v.block.sender.recover cx.moment rtt
+      v.block.reno v.block.peer.sack v.block.sender.syn_unacked v.block.sender.syn_lost by (queued_in v) v.block.sender.recover cx.moment rtt used
       (λ _. inl out) (λ _. inl out) (λ _. inl out) (λ recovers. clash (sym recovers ∙ (h.window out).1))
       (cond_both (freed_by v.block by (queued_in v) == 0) v.block.reno
       (record v.block.reno {
@@ -585,15 +620,20 @@ module _ (cx : ContextValue) (ip : IpRepr) (header : TcpHeader) (bytes : List �
       (λ (r : RenoValue). (r.timed_out ≡ true) ⊎ (length (drop (freed_by v.block by (queued_in v)) v.queued.queue) < queued_in v))
       (λ _. inl out)
       (λ some. inr (shorter v.queued.queue by (one_if v.block.sender.syn_unacked) some)))
+      (cond_both (freed_by v.block by (queued_in v) == 0) v.block.reno (record v.block.reno { timed_out = false; cubic = reno.stopped v.block.reno.cubic })
+      (λ (r : RenoValue). (r.timed_out ≡ true) ⊎ (length (drop (freed_by v.block by (queued_in v)) v.queued.queue) < queued_in v))
+      (λ _. inl out)
+      (λ some. inr (shorter v.queued.queue by (one_if v.block.sender.syn_unacked) some)))
 
   -- the acknowledgement frees nothing, or bytes, as it does where the timeout is undone
-  acked_stays : (by rtt : ℕ) → ((window_by by rtt).timed_out ≡ true) ⊎ (length (drop (freed_by v.block by (queued_in v)) v.queued.queue) < queued_in v)
-  acked_stays by rtt = either (is_needless v.block header by (queued_in v) cx.moment) refl where
+  acked_stays : (by rtt : ℕ) (used : Bool)
+      → ((window_by by rtt used).timed_out ≡ true) ⊎ (length (drop (freed_by v.block by (queued_in v)) v.queued.queue) < queued_in v)
+  acked_stays by rtt used = either (is_needless v.block header by (queued_in v) cx.moment) refl where
     either : (needless : Bool) → is_needless v.block header by (queued_in v) cx.moment ≡ needless
-        → ((window_if needless by rtt).timed_out ≡ true) ⊎ (length (drop (freed_by v.block by (queued_in v)) v.queued.queue) < queued_in v)
+        → ((window_if needless by rtt used).timed_out ≡ true) ⊎ (length (drop (freed_by v.block by (queued_in v)) v.queued.queue) < queued_in v)
     either true e =
         inr (shorter v.queued.queue by (one_if v.block.sender.syn_unacked) (needless_frees v.block header by (queued_in v) cx.moment e))
-    either false e = taken_stays by rtt
+    either false e = taken_stays by rtt used
 
   counted_stays : (r : RenoValue) (count flight : ℕ) (sack begins again : Bool) → r.timed_out ≡ true →
       (reno_counted r sack count flight begins again).timed_out ≡ true
@@ -610,19 +650,22 @@ module _ (cx : ContextValue) (ip : IpRepr) (header : TcpHeader) (bytes : List �
       (cond_both r.recovers (record r { cwnd = min reno.most (r.cwnd + r.mss) }) r (λ (x : RenoValue). x.timed_out ≡ true) (λ _. e) (λ _. e))
       e
 
-  heeded_stays : (by rtt : ℕ) (begins again : Bool)
-      → ((reno_counted (window_by by rtt) v.block.peer.sack (duplicates_after v.block header (length bytes) by)
+  heeded_stays : (by rtt : ℕ) (used begins again : Bool)
+      → ((reno_counted (window_by by rtt used) v.block.peer.sack (duplicates_after v.block header (length bytes) by)
       ((timed cx.moment header v by).block.sender.in_flight - by) begins again).timed_out ≡ true)
       ⊎ (length (drop (freed_by v.block by (queued_in v)) v.queued.queue) < queued_in v)
-  heeded_stays by rtt begins again =
+  heeded_stays by rtt used begins again =
       ⊎_elim
       (λ e.
-      inl (counted_stays (window_by by rtt) (duplicates_after v.block header (length bytes) by)
+      inl (counted_stays (window_by by rtt used) (duplicates_after v.block header (length bytes) by)
       ((timed cx.moment header v by).block.sender.in_flight - by) v.block.peer.sack begins again e))
-      (λ less. inr less) (acked_stays by rtt)
+      (λ less. inr less) (acked_stays by rtt used)
 
   abbrev heard : ℕ → ℕ
   heard by = srtt_after (timed cx.moment header v by).block by cx.moment
+
+  abbrev used : ℕ → Bool
+  used by = is_used (timed cx.moment header v by).block
 
   stays_received : IsInOrder (sending_of v) → Received cx ip header bytes StaysBy (unoffered v)
   stays_received p = record {
@@ -631,10 +674,10 @@ module _ (cx : ContextValue) (ip : IpRepr) (header : TcpHeader) (bytes : List �
     draws = stays_drawing _ (inl out);
     falls = λ _ _ falls. never_falls v h out p falls;
     ends = λ _ _ _. inl out;
-    closes = λ by _ _. acked_stays by (heard by);
-    taken = λ by _ _. stays_content _ (heeded_stays by (heard by) _ _);
-    taken_window = λ by _ _. stays_content _ (heeded_stays by (heard by) _ _);
-    news = λ by _ _. stays_drawing _ (acked_stays by (heard by));
+    closes = λ by _ _. acked_stays by (heard by) (used by);
+    taken = λ by _ _. stays_content _ (heeded_stays by (heard by) (used by) _ _);
+    taken_window = λ by _ _. stays_content _ (heeded_stays by (heard by) (used by) _ _);
+    news = λ by _ _. stays_drawing _ (acked_stays by (heard by) (used by));
     outside = stays_drawing _ (inl out);
     old = λ _. stays_content _ (inl out);
   }
@@ -728,4 +771,5 @@ stays_out v (Sets setting) p h not out = at setting not where
   at (Paused paused) e = inl out
   at (Retries limit) e = inl out
   at (MinRto duration) e = inl out
+  at (FineTimer fine) e = inl out
   at (Congestion control) e = clash e

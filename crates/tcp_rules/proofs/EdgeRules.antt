@@ -48,7 +48,7 @@ use Rattle.tcp_rules.specs.Edges.{answer_in, offer_in, goes, risen, furthest_aft
 use Rattle.tcp_rules.specs.Ends.{is_over}
 use Rattle.tcp_rules.specs.Events.{Event, Setting, after, set, is_past}
 use Rattle.tcp_rules.specs.Events.Event.{Comes, Asked, Listens, Connects, Sends, Reads, Closes, Aborts, Sets}
-use Rattle.tcp_rules.specs.Events.Setting.{Timeout, KeepAlive, AckDelay, Nagle, HopLimit, Timestamps, Paused, Retries, Congestion, MinRto}
+use Rattle.tcp_rules.specs.Events.Setting.{Timeout, KeepAlive, AckDelay, Nagle, HopLimit, Timestamps, Paused, Retries, Congestion, MinRto, FineTimer}
 use Rattle.tcp_rules.specs.InOrder.{sending_of, IsInOrder}
 use Rattle.tcp_rules.proofs.ArrivalCases.{timed, by_arrival, Received, Opening, Content, Drawing, acked_open, acked_last, heeded, held, kept, due}
 use Rattle.tcp_rules.proofs.OfferCases.{Rules, FirstRules, LastRules, by_rules, begun, probing}
@@ -501,6 +501,7 @@ module _ (capacity f : ℕ) (v : TcpValue) (p : IsEdge capacity f (edge_of v)) w
   set_out (Paused paused) = same_out (set v (Paused paused)) p
   set_out (Retries limit) = same_out (set v (Retries limit)) p
   set_out (MinRto duration) = same_out (set v (MinRto duration)) p
+  set_out (FineTimer fine) = same_out (set v (FineTimer fine)) p
   set_out (Congestion control) = same_out (set v (Congestion control)) p
 
 closed_over : (state : State) → is_closed state ≡ true → is_over state ≡ true

@@ -39,7 +39,7 @@ use Rattle.tcp_model.specs.declared.block.Block.{Block}
 use Rattle.tcp_model.specs.declared.block.Loss.{Loss}
 use Rattle.tcp_rules.specs.Events.{Event, Setting, after, led, set as sets, is_past}
 use Rattle.tcp_rules.specs.Events.Event.{Comes, Asked, Listens, Connects, Sends, Reads, Closes, Aborts, Sets}
-use Rattle.tcp_rules.specs.Events.Setting.{Timeout, KeepAlive, AckDelay, Nagle, HopLimit, Timestamps, Paused, Retries, Congestion, MinRto}
+use Rattle.tcp_rules.specs.Events.Setting.{Timeout, KeepAlive, AckDelay, Nagle, HopLimit, Timestamps, Paused, Retries, Congestion, MinRto, FineTimer}
 use Rattle.tcp_rules.specs.InOrder.{sending_of, IsInOrder}
 use Rattle.tcp_rules.specs.Losses.{AreWithin, Known}
 use Rattle.tcp_rules.proofs.ArrivalCases.{timed, by_arrival, Received, Opening, Content, Drawing, acked_open}
@@ -150,9 +150,10 @@ within_ranges : (b : Block) (header : TcpHeader) (now : ℤ) → AreWithin b.sen
 within_ranges b header now h =
     cond_both b.peer.sack (heard_more b runs now) b.loss (λ (l : Loss). AreWithin b.sender.top l.board.runs)
     (λ _.
-    cond_both (nat_lt (held b.loss.board.runs) (held runs)) (probe_armed b (record b.loss { board = record { runs = runs }; probed = false }) now)
+    cond_both (nat_lt (held b.loss.board.runs) (held runs))
+    (probe_armed b (record b.loss { board = record { runs = runs }; probes = false; probed = false }) now)
     (with_board b.loss runs) (λ (l : Loss). AreWithin b.sender.top l.board.runs)
-    (λ _. armed_runs b (record b.loss { board = record { runs = runs }; probed = false }) now (AreWithin b.sender.top) all)
+    (λ _. armed_runs b (record b.loss { board = record { runs = runs }; probes = false; probed = false }) now (AreWithin b.sender.top) all)
     (λ _. all))
     (λ _. h)
   where
@@ -362,6 +363,7 @@ set_right v (Timestamps generator) k = k
 set_right v (Paused paused) k = k
 set_right v (Retries limit) k = k
 set_right v (MinRto duration) k = k
+set_right v (FineTimer fine) k = k
 set_right v (Congestion control) k = k
 
 connected_right : (v : TcpValue) (names : Option EndpointPair) (number : ℕ) → IsKnownRight (known_of v.block) →
@@ -369,7 +371,7 @@ connected_right : (v : TcpValue) (names : Option EndpointPair) (number : ℕ) �
 connected_right v None number k = k
 connected_right v (Some pair) number k = record { within = within_nothing 0 32; listens = λ _. refl }
 
-event_right : (v : TcpValue) (it : Event) → IsInOrder (sending_of v) → IsKnownRight (known_of v.block) → IsKnownRight (known_of (after v it).block)
+pub event_right : (v : TcpValue) (it : Event) → IsInOrder (sending_of v) → IsKnownRight (known_of v.block) → IsKnownRight (known_of (after v it).block)
 event_right v (Comes cx ip header bytes) p k = right_arrival cx ip header bytes v k
 event_right v (Asked cx true) p k =
     let it = right_offer cx v p k in settled_right (offer_of cx v).socket.offered (unoffered (offer_of cx v).socket) it.1 it.0

@@ -5,8 +5,9 @@ use Rattle.std.proofs.lemmas.Bool.{cond_both, le-leb, lt-ltb}
 use Rattle.tcp_control.specs.Scoreboard.{held_from, missing}
 use Rattle.tcp_control.specs.declared.offer.OfferKind.TheVariants as Kind
 use Rattle.tcp_control.specs.declared.offer.OpenOffer.{OpenOffer}
-use Rattle.tcp_model.specs.Acknowledged.{begins_recovery, counted, is_lost_since, is_partial, una_moved, una_risen}
-use Rattle.tcp_model.specs.LossRecovery.{credited_window, fills_hole, is_first_lost, is_lost_again, is_passed, loss_lowered, mends_credited, mends_lost}
+use Rattle.tcp_model.specs.Acknowledged.{begins_recovery, counted, is_lost_since, is_missed, is_partial, una_moved, una_risen}
+use Rattle.tcp_model.specs.LossRecovery.{credited_window, fills_hole, is_lost_again, is_passed, loss_lowered, may_be_late, mends_credited}
+use Rattle.tcp_model.specs.LossRecovery.{mends_lost}
 use Rattle.tcp_model.specs.LossRecovery.{next_hole, probe_armed, probe_from, probes_losses}
 use Rattle.tcp_model.specs.Rules.{backed_off_now}
 use Rattle.tcp_model.specs.Settled.{end_of, nxt_moved, resent, sent_as, timer_started}
@@ -120,7 +121,7 @@ lost_once_more b sack recovers again more =
 pub lost_since : (b : Block) (count : ℕ) → b.peer.sack ≡ true → b.reno.recovers ≡ false → (b.sender.recover == 0) ≡ false
     → 2 * b.reno.mss < held_from b.loss.board.runs b.sender.recover → begins_recovery b count ≡ true
 lost_since b count sack recovers out more =
-    or_right ((b.sender.recover == 0) && ((count == 3) || is_first_lost b)) (is_lost_since b)
+    or_right (is_missed b count && not (may_be_late b)) (is_lost_since b)
     (both (not (b.sender.recover == 0)) _ (ap not out)
     (both b.peer.sack _ sack (both (not b.reno.recovers) (is_passed b b.sender.recover) (ap not recovers) (passed b b.sender.recover more))))
 
@@ -131,9 +132,9 @@ not_kept b calm again =
     ap (λ (t : Bool). if t then b.loss.undo else if b.loss.resent == 0 then window_kept b else None) calm
     ∙ ap (λ (t : Bool). if t then window_kept b else None) again
 
-pub recovery_stays : (b : Block) (count : ℕ) → (b.reno.recovers || b.reno.timed_out) ≡ false → (b.loss.resent == 0) ≡ false
-    → begins_recovery b count ≡ true → (counted b count).loss.undo ≡ None
-recovery_stays b count calm again begins = ap (λ (t : Bool). if t then undo_begun b else b.loss.undo) begins ∙ not_kept b calm again
+pub recovery_stays : (b : Block) (count : ℕ) (now : ℤ) → (b.reno.recovers || b.reno.timed_out) ≡ false → (b.loss.resent == 0) ≡ false
+    → begins_recovery b count ≡ true → (counted b count now).loss.undo ≡ None
+recovery_stays b count now calm again begins = ap (λ (t : Bool). if t then undo_begun b else b.loss.undo) begins ∙ not_kept b calm again
 
 pub timeout_stays : (b : Block) → b.sender.syn_unacked ≡ false → (b.reno.recovers || b.reno.timed_out) ≡ false → (b.loss.resent == 0) ≡ false
     → (backed_off_now b).loss.undo ≡ None

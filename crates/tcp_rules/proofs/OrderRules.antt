@@ -12,7 +12,7 @@ use Rattle.ip_wire.specs.Tcp.{header_len}
 use Rattle.ip_wire.specs.TcpControl.{TcpControl}
 use Rattle.ip_wire.specs.TcpControl.TheVariants as Control
 use Rattle.ip_wire.specs.TcpHeader.{TcpHeader}
-use Rattle.net_base.specs.Ring.{Ring, until_end, cleared, anchored, enqueued}
+use Rattle.net_base.specs.Ring.{Ring, cleared, anchored, enqueued}
 use Rattle.tcp_model.specs.Context.{ContextValue}
 use Rattle.tcp_model.specs.BaseOffers.{Offered}
 use Rattle.tcp_control.specs.Endpoints.{header_for}
@@ -36,7 +36,7 @@ use Rattle.tcp_model.specs.Probing.{is_probing}
 use Rattle.tcp_model.specs.Retries.{asked, one_more, heard}
 use Rattle.tcp_control.specs.Scoreboard.{first_missing}
 use Rattle.tcp_model.specs.LossRecovery.{hole_len, loss_probed}
-use Rattle.tcp_model.specs.Rules.{Choice, congestion_limit, window_limit, size_limit, unbroken, next_place, text_choice, resend_choice, probe_choice}
+use Rattle.tcp_model.specs.Rules.{Choice, congestion_limit, window_limit, size_limit, next_place, text_choice, resend_choice, probe_choice}
 use Rattle.tcp_model.specs.Rules.{control_for, owes_syn, backed_off_now, congestion_room, sent_places}
 use Rattle.tcp_model.proofs.Holes as Holes
 use Rattle.tcp_model.specs.Segments.{hops_of, segment, keep_alive_segment}
@@ -53,12 +53,12 @@ use Rattle.tcp_model.proofs.Numbers.{number_small, number_for_small}
 use Rattle.tcp_control.specs.Endpoints.{pair_in}
 use Rattle.tcp_rules.specs.Events.{Event, Setting, after, led, set, is_past}
 use Rattle.tcp_rules.specs.Events.Event.{Comes, Asked, Listens, Connects, Sends, Reads, Closes, Aborts, Sets}
-use Rattle.tcp_rules.specs.Events.Setting.{Timeout, KeepAlive, AckDelay, Nagle, HopLimit, Timestamps, Paused, Retries, Congestion, MinRto}
+use Rattle.tcp_rules.specs.Events.Setting.{Timeout, KeepAlive, AckDelay, Nagle, HopLimit, Timestamps, Paused, Retries, Congestion, MinRto, FineTimer}
 use Rattle.tcp_rules.specs.InOrder.{has_all, Sending, sending_of, all_of, IsInOrder}
 use Rattle.tcp_rules.proofs.ArrivalCases.{timed, by_arrival, Received, Opening, Content, Drawing, acked_open, heeded}
 use Rattle.tcp_rules.proofs.OfferCases.{Rules, FirstRules, LastRules, by_rules, begun, probing}
 use Rattle.tcp_rules.proofs.OrderSteps.{clash, listens_not, passes_news, old_news, syn_gone, syn_gone_old, acked_sending, one_if_least, acked_on, acked_fin}
-use Rattle.tcp_rules.proofs.OrderSteps.{with_waiting, with_fin_taken, closed_order, last_order, begins, went_order, backed_order, distance_at_most}
+use Rattle.tcp_rules.proofs.OrderSteps.{with_waiting, with_fin_taken, closed_order, last_order, begins, went_order, skip_order, backed_order, distance_at_most}
 use Rattle.tcp_rules.proofs.OrderSteps.{own_distance}
 
 -- A SEGMENT COMES
@@ -168,11 +168,13 @@ module _ (cx : ContextValue) (ip : IpRepr) (header : TcpHeader) (bytes : List �
         (syn_gone (sending_of u) by p (passes_news u.block header.ack_number by passes));
     taken = λ by passes alive.
         order_content (heeded cx.moment header (length bytes) u by (acked_open (timed cx.moment header u by) by cx.moment).block)
-        (acked_order (timed cx.moment header u by) by cx.moment (heard_order u by p) past (passes_news u.block header.ack_number by passes) alive)
+        (skip_order (sending_of (acked_open (timed cx.moment header u by) by cx.moment)) _ _
+        (acked_order (timed cx.moment header u by) by cx.moment (heard_order u by p) past (passes_news u.block header.ack_number by passes) alive))
         (syn_gone (sending_of u) by p (passes_news u.block header.ack_number by passes));
     taken_window = λ by passes alive.
         order_content (heeded cx.moment header (length bytes) u by (windowed (acked_open (timed cx.moment header u by) by cx.moment).block header))
-        (acked_order (timed cx.moment header u by) by cx.moment (heard_order u by p) past (passes_news u.block header.ack_number by passes) alive)
+        (skip_order (sending_of (acked_open (timed cx.moment header u by) by cx.moment)) _ _
+        (acked_order (timed cx.moment header u by) by cx.moment (heard_order u by p) past (passes_news u.block header.ack_number by passes) alive))
         (syn_gone (sending_of u) by p (passes_news u.block header.ack_number by passes));
     news = λ by passes alive.
         order_drawing (waiting_anew (acked_open (timed cx.moment header u by) by cx.moment) header cx.moment)
@@ -240,7 +242,7 @@ limit_least : (control : CongestionControl) (window size : ℕ) → congestion_l
 limit_least Avoids.None window size = omega arith
 limit_least other window size = omega arith
 
-window_least : (b : Block) (size : ℕ) → window_limit b size ≤ size
+pub window_least : (b : Block) (size : ℕ) → window_limit b size ≤ size
 window_least b size =
     let limit = limit_least b.settings.congestion_control (congestion_room b) (min (b.peer.window - b.sender.in_flight) size) in
     omega (arith, limit)
@@ -267,7 +269,7 @@ part_within :
     → far + (len + control) ≤ syn + queued + owes
 part_within syn queued owes place len far control fin a b c d e = omega arith
 
-choice_within :
+pub choice_within :
     (x : TcpValue) (c : Choice) → IsInOrder (sending_of x) → c.place ≤ queued_in x + one_if (owes_fin x.block.state) → c.len ≤ queued_in x - c.place
     → (c.fin ≡ true → (owes_fin x.block.state && (c.place + c.len == queued_in x)) ≡ true)
     → distance_of x.block.sender.una (number_at x.block c.place) + (c.len + control_len (control_for c (queued_in x))) ≤ all_of (sending_of x)
@@ -359,7 +361,7 @@ module _ (cx : ContextValue) (pair : EndpointPair) where
   open_on In.Closed e = clash (sym e)
   open_on other e = refl
 
-  unset : (test : Bool) (at : Option ℤ) → is_due cx.moment (if test then at else None) ≡ true → test ≡ true
+  pub unset : (test : Bool) (at : Option ℤ) → is_due cx.moment (if test then at else None) ≡ true → test ≡ true
   unset true at e = refl
   unset false at e = clash (sym e)
 
@@ -369,7 +371,7 @@ module _ (cx : ContextValue) (pair : EndpointPair) where
   cut : (a b c : ℕ) → a ≤ min b c → a ≤ c
   cut a b c e = omega arith
 
-  text_within :
+  pub text_within :
       (x : TcpValue) → IsInOrder (sending_of x) → is_closed x.block.state ≡ false
       → distance_of x.block.sender.una (number_at x.block (next_place x.block))
       + ((text_choice x.block pair.addresses cx.ip_mtu x.queued).len +
@@ -381,18 +383,18 @@ module _ (cx : ContextValue) (pair : EndpointPair) where
       shorter (λ e. e)
     where
       least : (text_choice x.block pair.addresses cx.ip_mtu x.queued).len ≤
-          min (size_limit x.block pair.addresses cx.ip_mtu) (unbroken x.queued (next_place x.block))
-      least = window_least x.block (min (size_limit x.block pair.addresses cx.ip_mtu) (unbroken x.queued (next_place x.block)))
+          min (size_limit x.block pair.addresses cx.ip_mtu) (queued_in x - next_place x.block)
+      least = window_least x.block (min (size_limit x.block pair.addresses cx.ip_mtu) (queued_in x - next_place x.block))
 
-      twice : (a m k u : ℕ) → a ≤ min m (min k u) → a ≤ k
-      twice a m k u e = omega arith
+      lower : (a m k : ℕ) → a ≤ min m k → a ≤ k
+      lower a m k e = omega arith
 
       shorter : (text_choice x.block pair.addresses cx.ip_mtu x.queued).len ≤ queued_in x - next_place x.block
       shorter =
-          twice (text_choice x.block pair.addresses cx.ip_mtu x.queued).len (size_limit x.block pair.addresses cx.ip_mtu) (queued_in x - next_place x.block)
-          (until_end x.queued (next_place x.block)) least
+          lower (text_choice x.block pair.addresses cx.ip_mtu x.queued).len (size_limit x.block pair.addresses cx.ip_mtu) (queued_in x - next_place x.block)
+          least
 
-  again_within :
+  pub again_within :
       (x : TcpValue) → IsInOrder (sending_of x)
       → distance_of x.block.sender.una (number_at x.block (resend_choice x.block pair.addresses cx.ip_mtu x.queued).place)
       + ((resend_choice x.block pair.addresses cx.ip_mtu x.queued).len +
@@ -410,13 +412,12 @@ module _ (cx : ContextValue) (pair : EndpointPair) where
         more again.place (queued_in x) (one_if (owes_fin x.block.state))
         (Holes.again_within x.block (size_limit x.block pair.addresses cx.ip_mtu) (sent_places x.block) (queued_in x))
 
-    twice : (s m k u : ℕ) → min s (min m (min k u)) ≤ k
-    twice s m k u = omega arith
+    lower : (s m k : ℕ) → min s (min m k) ≤ k
+    lower s m k = omega arith
 
     shorter : again.len ≤ queued_in x - again.place
     shorter =
-        twice (hole_len x.block again.place (sent_places x.block)) (size_limit x.block pair.addresses cx.ip_mtu) (queued_in x - again.place)
-        (until_end x.queued again.place)
+        lower (hole_len x.block again.place (sent_places x.block)) (size_limit x.block pair.addresses cx.ip_mtu) (queued_in x - again.place)
 
     same : again.fin ≡ true → (owes_fin x.block.state && (again.place + again.len == queued_in x)) ≡ true
     same fin =
@@ -531,7 +532,7 @@ anchored_least r =
     same : length r.queue ≤ length r.queue
     same = omega arith
 
-enqueued_least : (r : Ring ℕ) (bytes : List ℕ) → length r.queue ≤ length (enqueued (anchored r) bytes).queue
+pub enqueued_least : (r : Ring ℕ) (bytes : List ℕ) → length r.queue ≤ length (enqueued (anchored r) bytes).queue
 enqueued_least r bytes = let anchor = anchored_least r in let more = length-append (anchored r).queue bytes in omega (arith, anchor, more)
 
 writes_on : (state : State) → takes_writes state ≡ true → has_all state ≡ false
@@ -587,6 +588,7 @@ set_order v (Timestamps generator) p = p
 set_order v (Paused paused) p = p
 set_order v (Retries limit) p = p
 set_order v (MinRto duration) p = p
+set_order v (FineTimer fine) p = p
 set_order v (Congestion control) p = p
 
 pub event_order : (v : TcpValue) (it : Event) → IsInOrder (sending_of v) → IsInOrder (sending_of (after v it))

@@ -386,6 +386,34 @@ went_order s end moment p not_all small = record {
     larger : (a b c : ℕ) → a ≤ c → b ≤ c → max a b ≤ c
     larger a b c e f = omega arith
 
+-- SND.NXT moves behind what is held there
+pub skip_order : (s : Sending) (missing top : ℕ) → IsInOrder s
+    → IsInOrder (record s { in_flight = if s.in_flight == 0 then 0 else max s.in_flight (min missing (min top (one_if s.syn_unacked + s.queued))) })
+skip_order s missing top p = record {
+  number = p.number;
+  within = λ alive.
+      cond_both (s.in_flight == 0) 0 (max s.in_flight (min missing (min top (one_if s.syn_unacked + s.queued)))) (λ (n : ℕ). n ≤ all_of s)
+      (λ _. no_more s.in_flight (all_of s) (p.within alive))
+      (λ _. upto s.in_flight missing top (one_if s.syn_unacked + s.queued) (one_if (owes_fin s.state)) (p.within alive));
+  opening = p.opening;
+  opened = p.opened;
+  acked = λ all.
+      let old = p.acked all in (
+        cond_both (s.in_flight == 0) 0 (max s.in_flight (min missing (min top (one_if s.syn_unacked + s.queued)))) (λ (n : ℕ). n ≡ 0) (λ _. refl)
+            (λ some. clash (sym (ap (λ (n : ℕ). n == 0) old.0) ∙ some)),
+        old.1,
+        old.2,
+      );
+  took = p.took;
+  listens = p.listens;
+}
+  where
+    no_more : (flight all : ℕ) → flight ≤ all → 0 ≤ all
+    no_more flight all e = omega arith
+
+    upto : (flight missing top all fin : ℕ) → flight ≤ all + fin → max flight (min missing (min top all)) ≤ all + fin
+    upto flight missing top all fin e = omega arith
+
 -- the timer runs out
 pub backed_order : (s : Sending) → IsInOrder s → IsInOrder (record s { in_flight = 0; retransmit_at = None })
 backed_order s p = record {

@@ -37,8 +37,10 @@ use Rattle.tcp_model.specs.Calls.{listening, connected_by, pair_for, sent_more}
 use Rattle.tcp_model.specs.Offers.{offer_of, number_at}
 use Rattle.tcp_model.specs.Opening.{took_syn}
 use Rattle.tcp_model.specs.Retries.{asked, one_more}
-use Rattle.tcp_model.specs.Rules.{Choice, backed_off_now, resend_choice, control_for, fin_goes, sent_places, size_limit, unbroken}
+use Rattle.tcp_model.specs.Rules.{Choice, backed_off_now, resend_choice, control_for, fin_goes, sent_places, size_limit}
+use Rattle.tcp_model.specs.Settings.{fresh_reno}
 use Rattle.tcp_model.specs.Settled.{sent_off, sent_as, recorded, probed, end_of}
+use Rattle.tcp_model.specs.Validation.{is_used}
 use Rattle.tcp_model.specs.Value.{TcpValue, Arrived, with_block, unoffered, ended, new_socket, queued_in, room_of}
 use Rattle.tcp_model.specs.declared.block.Block.{Block}
 use Rattle.tcp_model.specs.FirstNumbers.{number_for}
@@ -47,7 +49,7 @@ use Rattle.tcp_model.specs.Undone.{undone}
 use Rattle.tcp_model.proofs.Undone.{undone_by, undone_cases}
 use Rattle.tcp_rules.specs.Events.{Event, Setting, after, led, set, is_past}
 use Rattle.tcp_rules.specs.Events.Event.{Comes, Asked, Listens, Connects, Sends, Reads, Closes, Aborts, Sets}
-use Rattle.tcp_rules.specs.Events.Setting.{Timeout, KeepAlive, AckDelay, Nagle, HopLimit, Timestamps, Paused, Retries, MinRto, Congestion}
+use Rattle.tcp_rules.specs.Events.Setting.{Timeout, KeepAlive, AckDelay, Nagle, HopLimit, Timestamps, Paused, Retries, MinRto, FineTimer, Congestion}
 use Rattle.tcp_rules.specs.InOrder.{sending_of, IsInOrder}
 use Rattle.tcp_rules.specs.Recovery.{Recovery, recovery_of, IsPaced}
 use Rattle.tcp_rules.proofs.ArrivalCases.{timed, by_arrival, Received, Opening, Content, Drawing, acked_open}
@@ -65,27 +67,31 @@ right_true : (a b : Bool) → (a && b) ≡ true → b ≡ true
 right_true true b e = e
 right_true false b e = clash (sym e)
 
-lasts_acked : (r : RenoValue) (sack syn lost : Bool) (by queued recover : ℕ) (now : ℤ) (rtt : ℕ) → Lasts r recover →
-    Lasts (acked_reno r sack syn lost by queued recover now rtt) (recover - by)
-lasts_acked r sack syn lost by queued recover now rtt lasts =
+lasts_acked : (r : RenoValue) (sack syn lost : Bool) (by queued recover : ℕ) (now : ℤ) (rtt : ℕ) (used : Bool) → Lasts r recover →
+    Lasts (acked_reno r sack syn lost by queued recover now rtt used) (recover - by)
+lasts_acked r sack syn lost by queued recover now rtt used lasts =
     cond_both (syn && not (by == 0)) (reno.started r lost)
     (if r.recovers && not (by == 0)
     then (if (r.recovers && not (by == 0)) && nat_lt (by + 1) recover then (if sack then r else reno.partly r (min (by - one_if syn) queued))
     else reno.recovered r)
-    else reno.acknowledged r (min (by - one_if syn) queued) now rtt)
+    else if used then reno.acknowledged r (min (by - one_if syn) queued) now rtt else reno.preserved r (min (by - one_if syn) queued))
     (λ (x : RenoValue). Lasts x (recover - by))
     (λ _ e. clash (sym e))
     (λ _.
     cond_both (r.recovers && not (by == 0))
     (if (r.recovers && not (by == 0)) && nat_lt (by + 1) recover then (if sack then r else reno.partly r (min (by - one_if syn) queued))
     else reno.recovered r)
-    (reno.acknowledged r (min (by - one_if syn) queued) now rtt) (λ (x : RenoValue). Lasts x (recover - by))
+    (if used then reno.acknowledged r (min (by - one_if syn) queued) now rtt else reno.preserved r (min (by - one_if syn) queued))
+    (λ (x : RenoValue). Lasts x (recover - by))
     (λ _.
     cond_both ((r.recovers && not (by == 0)) && nat_lt (by + 1) recover) (if sack then r else reno.partly r (min (by - one_if syn) queued)) (reno.recovered r)
     (λ (x : RenoValue). Lasts x (recover - by))
     (λ part _. more by recover (ltb-true (by + 1) recover (right_true (r.recovers && not (by == 0)) (nat_lt (by + 1) recover) part)))
     (λ _ e. clash (sym e)))
     (λ none.
+    cond_both used (reno.acknowledged r (min (by - one_if syn) queued) now rtt) (reno.preserved r (min (by - one_if syn) queued))
+    (λ (x : RenoValue). Lasts x (recover - by))
+    (λ _.
     cond_both (min (by - one_if syn) queued == 0) r
     (record r {
       cwnd = reno.widened r (min (by - one_if syn) queued) now rtt;
@@ -93,7 +99,11 @@ lasts_acked r sack syn lost by queued recover now rtt lasts =
       cubic = reno.counted r (min (by - one_if syn) queued) now;
     })
     (λ (x : RenoValue). Lasts x (recover - by))
-    (λ _ e. stays r.recovers none e lasts) (λ _ e. stays r.recovers none e lasts)))
+    (λ _ e. stays r.recovers none e lasts) (λ _ e. stays r.recovers none e lasts))
+    (λ _.
+    cond_both (min (by - one_if syn) queued == 0) r (record r { timed_out = false; cubic = reno.stopped r.cubic })
+    (λ (x : RenoValue). Lasts x (recover - by))
+    (λ _ e. stays r.recovers none e lasts) (λ _ e. stays r.recovers none e lasts))))
   where
     more : (by recover : ℕ) → by + 1 < recover → 1 ≤ recover - by
     more by recover e = omega arith
@@ -138,30 +148,34 @@ not_above duration = omega arith
 within : (least most n : ℕ) → least ≤ most → least ≤ min most (max least n)
 within least most n e = omega arith
 
-fine_measured : (r : RoundTripValue) (millis duration : ℕ) → Fine r duration → Fine (round_trip.measured r millis) duration
-fine_measured r millis duration f = record {
+fine_measured : (clock : Bool) (r : RoundTripValue) (micros duration : ℕ) → Fine r duration → Fine (round_trip.measured clock r micros) duration
+fine_measured clock r micros duration f = record {
   least = f.least;
   timeout = within r.least round_trip.most_timeout _ (subst (λ (n : ℕ). n ≤ round_trip.most_timeout) (sym f.least) (not_above duration));
 }
 
-fine_advanced : (r : RoundTripValue) (by duration : ℕ) (now : ℤ) → Fine r duration → Fine (round_trip.advanced r by now) duration
-fine_advanced r by duration now f = at r.sample where
-  at : (sample : Option Sample) → Fine (round_trip.advanced_with r by now sample) duration
+fine_advanced : (clock : Bool) (r : RoundTripValue) (by duration : ℕ) (now : ℤ) → Fine r duration → Fine (round_trip.advanced clock r by now) duration
+fine_advanced clock r by duration now f = at r.sample where
+  at : (sample : Option Sample) → Fine (round_trip.advanced_with clock r by now sample) duration
   at None = f
   at (Some s) =
-      cond_both (nat_le s.ends by) (round_trip.measured r (round_trip.millis_between s.since now))
+      let micros = round_trip.clocked clock (round_trip.micros_between s.since now) in
+      cond_both (nat_le s.ends by) (round_trip.measured clock r micros)
       (record r { sample = Some (record s { ends = s.ends - by }) })
       (λ (x : RoundTripValue). Fine x duration)
-      (λ _. fine_measured r (round_trip.millis_between s.since now) duration f) (λ _. record { least = f.least; timeout = f.timeout })
+      (λ _. fine_measured clock r micros duration f) (λ _. record { least = f.least; timeout = f.timeout })
 
-fine_echo : (r : RoundTripValue) (by duration : ℕ) (echo : Option ℕ) → Fine r duration → Fine (timed_by r by echo) duration
-fine_echo r by duration echo f = cond_both (by == 0) r (timed_with r by echo) (λ (x : RoundTripValue). Fine x duration) (λ _. f) (λ _. at echo) where
-  at : (echo : Option ℕ) → Fine (timed_with r by echo) duration
-  at None = f
-  at (Some millis) =
-      cond_both (round_trip.is_reached r.sample by) (round_trip.measured r millis) r (λ (x : RoundTripValue). Fine x duration)
-      (λ _. fine_measured r millis duration f)
-      (λ _. f)
+fine_echo : (clock : Bool) (r : RoundTripValue) (by duration : ℕ) (echo : Option ℕ) → Fine r duration → Fine (timed_by clock r by echo) duration
+fine_echo clock r by duration echo f =
+    cond_both (by == 0) r (timed_with clock r by echo) (λ (x : RoundTripValue). Fine x duration) (λ _. f) (λ _. at echo)
+  where
+    at : (echo : Option ℕ) → Fine (timed_with clock r by echo) duration
+    at None = f
+    at (Some millis) =
+        let micros = round_trip.echo_micros clock millis in
+        cond_both (round_trip.counts_echo clock r.sample by) (round_trip.measured clock r micros) r (λ (x : RoundTripValue). Fine x duration)
+        (λ _. fine_measured clock r micros duration f)
+        (λ _. f)
 
 past_listening : (state : State) → is_past state ≡ true → is_listening state ≡ false
 past_listening In.Listen e = clash (sym e)
@@ -170,7 +184,7 @@ past_listening other e = refl
 fine_late : (r : RoundTripValue) (duration : ℕ) → Fine r duration → Fine (round_trip.begun_late r) duration
 fine_late r duration f = record {
   least = f.least;
-  timeout = cond_both (is_none r.estimate) (max 3000 r.least) r.timeout (λ (n : ℕ). r.least ≤ n) (λ _. above 3000 r.least) (λ _. f.timeout);
+  timeout = cond_both (is_none r.estimate) (max 3_000_000 r.least) r.timeout (λ (n : ℕ). r.least ≤ n) (λ _. above 3_000_000 r.least) (λ _. f.timeout);
 }
   where
     above : (a b : ℕ) → b ≤ max a b
@@ -178,11 +192,10 @@ fine_late r duration f = record {
 
 fine_acked : (b : Block) (by : ℕ) (now : ℤ) → Fine b.round_trip b.settings.min_rto → Fine (round_trip_after b by now) b.settings.min_rto
 fine_acked b by now f =
-    cond_both (acks_own_syn b by && b.sender.syn_lost) (round_trip.begun_late (round_trip.advanced b.round_trip by now))
-    (round_trip.advanced b.round_trip by now)
-    (λ (x : RoundTripValue). Fine x b.settings.min_rto)
-    (λ _. fine_late (round_trip.advanced b.round_trip by now) b.settings.min_rto (fine_advanced b.round_trip by b.settings.min_rto now f))
-    (λ _. fine_advanced b.round_trip by b.settings.min_rto now f)
+    let risen = round_trip.advanced b.settings.fine_timer b.round_trip by now in
+    let it = fine_advanced b.settings.fine_timer b.round_trip by b.settings.min_rto now f in
+    cond_both (acks_own_syn b by && b.sender.syn_lost) (round_trip.begun_late risen) risen (λ (x : RoundTripValue). Fine x b.settings.min_rto)
+    (λ _. fine_late risen b.settings.min_rto it) (λ _. it)
 
 fine_backed : (r : RoundTripValue) (duration : ℕ) → Fine r duration → Fine (round_trip.backed_off r) duration
 fine_backed r duration f = record {
@@ -247,7 +260,8 @@ sent_paced Kind.Syn b o queued not p = went_paced (recovery_of b) b.sender.top (
 sent_paced Kind.FastRetransmission b o queued not p =
     paced _ p.lasts not
     (fine_timing (round_trip.untimed b.round_trip) b.sender.top (end_of b o) b.settings.min_rto o.moment (record { least = p.least; timeout = p.timeout }))
-sent_paced Kind.Text b o queued not p = went_paced (recovery_of b) b.sender.top (end_of b o) o.moment p not
+sent_paced Kind.Text b o queued not p =
+    paced _ p.lasts not (fine_timing b.round_trip b.sender.top (end_of b o) b.settings.min_rto o.moment (fine_of (recovery_of b) p))
 sent_paced Kind.Probe b o queued not p =
     asked_paced (probed b (end_of b o) o.moment) o.moment (paced _ p.lasts not (fine_backed b.round_trip b.settings.min_rto (fine_of (recovery_of b) p)))
 sent_paced Kind.KeepAlive b o queued not p = asked_paced b o.moment p
@@ -284,12 +298,13 @@ module _ (cx : ContextValue) (ip : IpRepr) (header : TcpHeader) (bytes : List �
       })
   acked_paced b by queued state p not =
       paced _
-      (lasts_acked b.reno b.peer.sack b.sender.syn_unacked b.sender.syn_lost by queued b.sender.recover cx.moment (srtt_after b by cx.moment) p.lasts) not
+      (lasts_acked b.reno b.peer.sack b.sender.syn_unacked b.sender.syn_lost by queued b.sender.recover cx.moment (srtt_after b by cx.moment)
+      (is_used b) p.lasts) not
       (fine_acked b by cx.moment (fine_of (recovery_of b) p))
 
   echo_paced : (b : Block) (by : ℕ) → IsPaced (recovery_of b) → is_listening b.state ≡ false → IsPaced (recovery_of (echo_taken b header by cx.moment))
   echo_paced b by p not =
-      paced _ p.lasts not (fine_echo b.round_trip by b.settings.min_rto (echo_of b header cx.moment) (fine_of (recovery_of b) p))
+      paced _ p.lasts not (fine_echo b.settings.fine_timer b.round_trip by b.settings.min_rto (echo_of b header cx.moment) (fine_of (recovery_of b) p))
 
   undone_paced : (b : Block) (by queued : ℕ) → IsPaced (recovery_of b) → is_listening b.state ≡ false
       → IsPaced (recovery_of (undone b header by queued cx.moment))
@@ -312,7 +327,7 @@ module _ (cx : ContextValue) (ip : IpRepr) (header : TcpHeader) (bytes : List �
       (lasts_counted (reno_after u.block by (queued_in u) cx.moment) u.block.peer.sack begins again count
       (u.block.sender.in_flight - by) (u.block.sender.top - by) (u.block.sender.recover - by) only
       (lasts_acked u.block.reno u.block.peer.sack u.block.sender.syn_unacked u.block.sender.syn_lost by (queued_in u)
-      u.block.sender.recover cx.moment (srtt_after u.block by cx.moment) p.lasts))
+      u.block.sender.recover cx.moment (srtt_after u.block by cx.moment) (is_used u.block) p.lasts))
       (state_past u by past) (fine_acked u.block by cx.moment (fine_of (recovery_of u.block) p))
 
   -- the block as its duplicates are counted
@@ -474,12 +489,19 @@ set_paced v (HopLimit limit) p = p
 set_paced v (Timestamps generator) p = p
 set_paced v (Paused paused) p = p
 set_paced v (Retries limit) p = p
+set_paced v (FineTimer fine) p = p
 set_paced v (MinRto duration) p =
     let f = fine_set v.block.round_trip duration in record { lasts = p.lasts; listens = p.listens; least = f.least; timeout = f.timeout }
 set_paced v (Congestion control) p = record { lasts = λ e. clash (sym e ∙ none); listens = λ _. none; least = p.least; timeout = p.timeout } where
-  none : (if v.block.receiver.took_syn then reno.with_mss (fresh_window control) v.block.peer.mss else fresh_window control).recovers ≡ false
-  none = cond_both v.block.receiver.took_syn (reno.with_mss (fresh_window control) v.block.peer.mss) (fresh_window control) (λ (r : RenoValue). r.recovers ≡
-      false) (λ _. refl) (λ _. refl)
+  none : (fresh_reno v.block control).recovers ≡ false
+  none =
+      cond_both (not v.block.receiver.took_syn) (fresh_window control)
+      (if v.block.sender.syn_unacked then reno.with_mss (fresh_window control) v.block.peer.mss
+      else reno.started (reno.with_mss (fresh_window control) v.block.peer.mss) false)
+      (λ (r : RenoValue). r.recovers ≡ false) (λ _. refl)
+      (λ _.
+      cond_both v.block.sender.syn_unacked (reno.with_mss (fresh_window control) v.block.peer.mss)
+      (reno.started (reno.with_mss (fresh_window control) v.block.peer.mss) false) (λ (r : RenoValue). r.recovers ≡ false) (λ _. refl) (λ _. refl))
 
 connected_paced : (v : TcpValue) (names : Option EndpointPair) (number : ℕ) → IsPaced (recovery_of v.block) →
     IsPaced (recovery_of (connected_by v names number).block)
@@ -568,7 +590,7 @@ module _ (x : TcpValue) (addresses : AddressPair) (mtu : ℕ) where
         (control_len (control_for again (queued_in x))) x.block.sender.top near
         (ap one_if no_syn)
         sent
-        (cut (sent_places x.block - again.place) (min (size_limit x.block addresses mtu) (unbroken x.queued again.place))
+        (cut (sent_places x.block - again.place) (min (size_limit x.block addresses mtu) (queued_in x - again.place))
         (hole_len x.block again.place (sent_places x.block)) (hole_least x.block again.place (sent_places x.block)))
         (subst (λ (t : Bool). control_len (control_for again (queued_in x)) ≤ one_if t) e (control_least again (queued_in x)))
 

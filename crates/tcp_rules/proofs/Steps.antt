@@ -1,5 +1,5 @@
 -- What each step of a rule does to what is in flight.
-use Rattle.std.proofs.Common.{◌≡◌, ℕ, ◌+◌, ◌-◌, ◌==◌, min, max, ℤ, Bool, true, false, if◌then◌else◌, Option, Some, None, is_some, refl, sym, ap, ◌∙◌}
+use Rattle.std.proofs.Common.{◌≡◌, ℕ, ◌+◌, ◌-◌, ◌<◌, ◌≤◌, ◌==◌, min, max, ℤ, Bool, true, false, if◌then◌else◌, Option, Some, None, is_some, refl, sym, ap, ◌∙◌}
 use Rattle.std.proofs.Common.{subst, arith}
 use Rattle.std.proofs.lemmas.Bool.{cond_both, eqb-true}
 use Rattle.tcp_control.specs.States.{is_closed, is_listening}
@@ -24,6 +24,27 @@ goes_on old mid new goes e listens = record {
   armed = λ a. subst IsArmed (sym e) (goes.armed a);
   rises = λ before after. subst (λ (f : Flight). Rises (flight_of old) f) (sym e) (goes.rises before (sym listens ∙ after));
 }
+
+-- and then SND.NXT moves further, if something is in flight
+pub skips :
+    (old mid new : Block) (further : ℕ) → Goes old mid → new.sender.in_flight ≡ (if mid.sender.in_flight == 0 then 0 else further)
+    → new.sender.past_iss ≡ mid.sender.past_iss → new.sender.top ≡ mid.sender.top → new.timers.retransmit_at ≡ mid.timers.retransmit_at
+    → is_listening new.state ≡ is_listening mid.state → Goes old new
+skips old mid new further goes flight iss top timer listens = record {
+  armed = λ a some. ap is_some timer ∙ goes.armed a (before (mid.sender.in_flight == 0) refl some);
+  rises = λ on after.
+      subst (λ (p : ℕ). Far p new.sender.top) (sym iss)
+      (subst (λ (t : ℕ). Far mid.sender.past_iss t) (sym top) (goes.rises on (sym listens ∙ after)));
+}
+  where
+    Far : ℕ → ℕ → Type 0
+    Far p t = p < 4_294_967_295 → (old.sender.past_iss ≤ p) × (old.sender.past_iss + old.sender.top ≤ p + t)
+
+    before : (t : Bool) → (mid.sender.in_flight == 0) ≡ t → (new.sender.in_flight == 0) ≡ false → (mid.sender.in_flight == 0) ≡ false
+    before false e some = e
+    before true e some =
+        absurd (let none = flight ∙ ap (λ (t : Bool). if t then 0 else further) e in
+        let clash : true ≡ false = sym (ap (λ (n : ℕ). n == 0) none) ∙ some in cc)
 
 -- a step before which nothing changed
 pub goes_from : (old mid new : Block) → flight_of mid ≡ flight_of old → is_listening mid.state ≡ is_listening old.state → Goes mid new → Goes old new

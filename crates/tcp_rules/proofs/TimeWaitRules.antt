@@ -30,7 +30,7 @@ use Rattle.tcp_model.specs.declared.block.Block.{Block}
 use Rattle.tcp_model.specs.FirstNumbers.{number_for}
 use Rattle.tcp_rules.specs.Events.{Event, Setting, after, set}
 use Rattle.tcp_rules.specs.Events.Event.{Comes, Asked, Listens, Connects, Sends, Reads, Closes, Aborts, Sets}
-use Rattle.tcp_rules.specs.Events.Setting.{Timeout, KeepAlive, AckDelay, Nagle, HopLimit, Timestamps, Paused, Retries, Congestion, MinRto}
+use Rattle.tcp_rules.specs.Events.Setting.{Timeout, KeepAlive, AckDelay, Nagle, HopLimit, Timestamps, Paused, Retries, Congestion, MinRto, FineTimer}
 use Rattle.tcp_rules.specs.InOrder.{has_all, sending_of, IsInOrder}
 use Rattle.tcp_rules.specs.TimeWait.{ends_wait}
 use Rattle.tcp_rules.proofs.ArrivalCases.{by_arrival, Received, Opening, Content, Drawing}
@@ -234,6 +234,7 @@ set_waits v (Timestamps generator) at = at
 set_waits v (Paused paused) at = at
 set_waits v (Retries limit) at = at
 set_waits v (MinRto duration) at = at
+set_waits v (FineTimer fine) at = at
 set_waits v (Congestion control) at = at
 
 pub stays_in_wait :

@@ -43,7 +43,7 @@ use Rattle.tcp_model.specs.Undone.{undone}
 use Rattle.tcp_model.proofs.Undone.{undone_cases}
 use Rattle.tcp_rules.specs.Events.{Event, Setting, after, led, set, is_past}
 use Rattle.tcp_rules.specs.Events.Event.{Comes, Asked, Listens, Connects, Sends, Reads, Closes, Aborts, Sets}
-use Rattle.tcp_rules.specs.Events.Setting.{Timeout, KeepAlive, AckDelay, Nagle, HopLimit, Timestamps, Paused, Retries, Congestion, MinRto}
+use Rattle.tcp_rules.specs.Events.Setting.{Timeout, KeepAlive, AckDelay, Nagle, HopLimit, Timestamps, Paused, Retries, Congestion, MinRto, FineTimer}
 use Rattle.tcp_rules.specs.InOrder.{sending_of, IsInOrder}
 use Rattle.tcp_rules.specs.Timing.{Timing, timing_of, IsTimedRight, carries, start_of}
 use Rattle.tcp_rules.proofs.ArrivalCases.{timed, by_arrival, Received, Opening, Content, Drawing, acked_open}
@@ -61,11 +61,12 @@ abbrev In_flight : ℕ → Option Sample → Type 0
 In_flight flight sample = IfSome sample (λ s. (1 ≤ s.ends) × (s.ends ≤ flight))
 
 -- an acknowledgement takes the sample, or brings its end nearer
-advanced_by : (r : RoundTripValue) (by flight : ℕ) (now : ℤ) (sample : Option Sample) → r.sample ≡ sample → In_flight flight sample
-    → In_flight (flight - by) (round_trip.advanced_with r by now sample).sample
-advanced_by r by flight now None e t = subst (In_flight (flight - by)) (sym e) tt
-advanced_by r by flight now (Some s) e t =
-    cond_both (nat_le s.ends by) (round_trip.measured r (round_trip.millis_between s.since now)) (record r { sample = Some (record s { ends = s.ends - by }) })
+advanced_by : (fine : Bool) (r : RoundTripValue) (by flight : ℕ) (now : ℤ) (sample : Option Sample) → r.sample ≡ sample → In_flight flight sample
+    → In_flight (flight - by) (round_trip.advanced_with fine r by now sample).sample
+advanced_by fine r by flight now None e t = subst (In_flight (flight - by)) (sym e) tt
+advanced_by fine r by flight now (Some s) e t =
+    cond_both (nat_le s.ends by) (round_trip.measured fine r (round_trip.clocked fine (round_trip.micros_between s.since now)))
+    (record r { sample = Some (record s { ends = s.ends - by }) })
     (λ (x : RoundTripValue). In_flight (flight - by) x.sample)
     (λ _. tt)
     (λ not. let less = leb-false s.ends by not in (some_left s.ends by less, nearer s.ends flight by t.1))
@@ -76,24 +77,28 @@ advanced_by r by flight now (Some s) e t =
     nearer : (a b c : ℕ) → a ≤ b → a - c ≤ b - c
     nearer a b c e = omega arith
 
-advanced_in : (r : RoundTripValue) (by flight : ℕ) (now : ℤ) → In_flight flight r.sample → In_flight (flight - by) (round_trip.advanced r by now).sample
-advanced_in r by flight now t = advanced_by r by flight now r.sample refl t
+advanced_in : (fine : Bool) (r : RoundTripValue) (by flight : ℕ) (now : ℤ) → In_flight flight r.sample →
+    In_flight (flight - by) (round_trip.advanced fine r by now).sample
+advanced_in fine r by flight now t = advanced_by fine r by flight now r.sample refl t
 
 acked_in : (b : Block) (by : ℕ) (now : ℤ) → In_flight b.sender.in_flight b.round_trip.sample →
     In_flight (b.sender.in_flight - by) (round_trip_after b by now).sample
 acked_in b by now t =
-    cond_both (acks_own_syn b by && b.sender.syn_lost) (round_trip.begun_late (round_trip.advanced b.round_trip by now))
-    (round_trip.advanced b.round_trip by now)
-    (λ (x : RoundTripValue). In_flight (b.sender.in_flight - by) x.sample)
-    (λ _. advanced_in b.round_trip by b.sender.in_flight now t) (λ _. advanced_in b.round_trip by b.sender.in_flight now t)
+    let risen = round_trip.advanced b.settings.fine_timer b.round_trip by now in
+    let it = advanced_in b.settings.fine_timer b.round_trip by b.sender.in_flight now t in
+    cond_both (acks_own_syn b by && b.sender.syn_lost) (round_trip.begun_late risen) risen
+    (λ (x : RoundTripValue). In_flight (b.sender.in_flight - by) x.sample) (λ _. it) (λ _. it)
 
 -- an echo ends a timing, or leaves it
-echo_in : (r : RoundTripValue) (by flight : ℕ) (echo : Option ℕ) → In_flight flight r.sample → In_flight flight (timed_by r by echo).sample
-echo_in r by flight echo t = cond_both (by == 0) r (timed_with r by echo) (λ (x : RoundTripValue). In_flight flight x.sample) (λ _. t) (λ _. at echo) where
-  at : (echo : Option ℕ) → In_flight flight (timed_with r by echo).sample
-  at None = t
-  at (Some millis) =
-      cond_both (round_trip.is_reached r.sample by) (round_trip.measured r millis) r (λ (x : RoundTripValue). In_flight flight x.sample) (λ _. tt) (λ _. t)
+echo_in : (fine : Bool) (r : RoundTripValue) (by flight : ℕ) (echo : Option ℕ) → In_flight flight r.sample → In_flight flight (timed_by fine r by echo).sample
+echo_in fine r by flight echo t =
+    cond_both (by == 0) r (timed_with fine r by echo) (λ (x : RoundTripValue). In_flight flight x.sample) (λ _. t) (λ _. at echo)
+  where
+    at : (echo : Option ℕ) → In_flight flight (timed_with fine r by echo).sample
+    at None = t
+    at (Some millis) =
+        cond_both (round_trip.counts_echo fine r.sample by) (round_trip.measured fine r (round_trip.echo_micros fine millis)) r
+        (λ (x : RoundTripValue). In_flight flight x.sample) (λ _. tt) (λ _. t)
 
 past_listening : (state : State) → is_past state ≡ true → is_listening state ≡ false
 past_listening In.Listen e = clash (sym e)
@@ -104,7 +109,7 @@ right t timed sent not = record { timed = timed; sent = sent; listens = λ e. cl
 
 echo_right : (b : Block) (header : TcpHeader) (by : ℕ) (now : ℤ) → IsTimedRight (timing_of b) → is_listening b.state ≡ false
     → IsTimedRight (timing_of (echo_taken b header by now))
-echo_right b header by now t not = right _ (echo_in b.round_trip by b.sender.in_flight (echo_of b header now) t.timed) t.sent not
+echo_right b header by now t not = right _ (echo_in b.settings.fine_timer b.round_trip by b.sender.in_flight (echo_of b header now) t.timed) t.sent not
 
 -- a loss that is undone leaves what is timed in flight
 undone_right : (b : Block) (header : TcpHeader) (by queued : ℕ) (now : ℤ) → IsTimedRight (timing_of b) →
@@ -167,6 +172,29 @@ reach_low end missing top all = omega arith
 
 reach_high : (end missing top all : ℕ) → max end (min missing (min top all)) ≤ max top end
 reach_high end missing top all = omega arith
+
+-- SND.NXT moves behind what is held there
+skipped_right : (state : State) (sample : Option Sample) (flight top missing all : ℕ)
+    → IsTimedRight (record { state = state; sample = sample; in_flight = flight; top = top })
+    → IsTimedRight (record { state = state; sample = sample; in_flight = if flight == 0 then 0 else max flight (min missing (min top all)); top = top })
+skipped_right state sample flight top missing all t = record {
+  timed =
+      cond_both (flight == 0) 0 (max flight (min missing (min top all))) (λ (n : ℕ). In_flight n sample)
+      (λ none. subst (λ (n : ℕ). In_flight n sample) (eqb-true flight 0 none) t.timed) (λ _. longer sample t.timed);
+  sent =
+      cond_both (flight == 0) 0 (max flight (min missing (min top all))) (λ (n : ℕ). n ≤ top) (λ _. nothing_sent top)
+      (λ _. upto flight missing top all t.sent);
+  listens = t.listens;
+}
+  where
+    longer : (s : Option Sample) → In_flight flight s → In_flight (max flight (min missing (min top all))) s
+    longer None e = tt
+    longer (Some s) e = (e.0, at_most s.ends flight (min missing (min top all)) e.1) where
+      at_most : (a b c : ℕ) → a ≤ b → a ≤ max b c
+      at_most a b c e = omega arith
+
+    upto : (flight missing top all : ℕ) → flight ≤ top → max flight (min missing (min top all)) ≤ top
+    upto flight missing top all e = omega arith
 
 raised : (flight top end : ℕ) → flight ≤ top → flight ≤ max top end
 raised flight top end e = omega arith
@@ -237,8 +265,8 @@ module _ (cx : ContextValue) (ip : IpRepr) (header : TcpHeader) (bytes : List �
     falls = λ _ _ _. record { timed = tt; sent = nothing_sent _; listens = λ _. refl };
     ends = λ _ _ _. right _ t.timed t.sent refl;
     closes = λ by _ _. acked_right (timed cx.moment header u by).block by cx.moment In.Closed (heard_right by) refl;
-    taken = λ by _ _. right_content _ (left_right by);
-    taken_window = λ by _ _. right_content _ (left_right by);
+    taken = λ by _ _. right_content _ (skipped_right _ _ _ _ _ _ (left_right by));
+    taken_window = λ by _ _. right_content _ (skipped_right _ _ _ _ _ _ (left_right by));
     news = λ by _ _. right_drawing _ (left_right by);
     outside = right_drawing _ t;
     old = λ _. right_content _ t;
@@ -338,6 +366,7 @@ set_right v (Timestamps generator) t = t
 set_right v (Paused paused) t = t
 set_right v (Retries limit) t = t
 set_right v (MinRto duration) t = t
+set_right v (FineTimer fine) t = t
 set_right v (Congestion control) t = t
 
 connected_right : (v : TcpValue) (names : Option EndpointPair) (number : ℕ) → IsTimedRight (timing_of v.block) →
@@ -345,7 +374,7 @@ connected_right : (v : TcpValue) (names : Option EndpointPair) (number : ℕ) �
 connected_right v None number t = t
 connected_right v (Some pair) number t = record { timed = tt; sent = nothing_sent _; listens = λ _. refl }
 
-event_right : (v : TcpValue) (it : Event) → IsInOrder (sending_of v) → IsTimedRight (timing_of v.block) → IsTimedRight (timing_of (after v it).block)
+pub event_right : (v : TcpValue) (it : Event) → IsInOrder (sending_of v) → IsTimedRight (timing_of v.block) → IsTimedRight (timing_of (after v it).block)
 event_right v (Comes cx ip header bytes) p t = right_arrival cx ip header bytes v t
 event_right v (Asked cx true) p t =
     let it = right_offer cx v p t in settled_right (offer_of cx v).socket.offered (unoffered (offer_of cx v).socket) it.1 it.0

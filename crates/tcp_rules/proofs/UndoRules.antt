@@ -112,14 +112,16 @@ module _ (window : RenoValue) where
   goes_kept Kind.Reset b o queued k = record { undo = k.undo; reno = k.reno; syn = k.syn }
   goes_kept Kind.Syn b o queued k = went_kept (syn_went b o) o queued (record { undo = k.undo; reno = k.reno; syn = k.syn })
   goes_kept Kind.FastRetransmission b o queued k = went_kept (resent b (end_of b o)) o queued (record { undo = k.undo; reno = k.reno; syn = k.syn })
-  goes_kept Kind.Text b o queued k = went_kept b o queued k
+  goes_kept Kind.Text b o queued k =
+      let w = went_kept b o queued k in
+      record { undo = w.undo; reno = record { mending = w.reno.mending; mss = w.reno.mss }; syn = w.syn }
   goes_kept Kind.Probe b o queued k = asked_kept (probed b (end_of b o) o.moment) o.moment (record { undo = k.undo; reno = k.reno; syn = k.syn })
   goes_kept Kind.KeepAlive b o queued k = asked_kept b o.moment k
   goes_kept Kind.Ack b o queued k = k
   goes_kept Kind.WindowUpdate b o queued k = k
 
-  duplicates_kept : (b : Block) (count : ℕ) → IsKept window b → IsKept window (counted b count)
-  duplicates_kept b count k = record {
+  duplicates_kept : (b : Block) (count : ℕ) (now : ℤ) → IsKept window b → IsKept window (counted b count now)
+  duplicates_kept b count now k = record {
     undo = cond_both (begins_recovery b count) (undo_begun b) b.loss.undo (Keeps window) (λ _. still_kept b k) (λ _. k.undo);
     reno = counted_mends b.reno b.peer.sack count b.sender.in_flight (begins_recovery b count) (is_lost_again b) k.reno;
     syn = k.syn;
@@ -132,9 +134,10 @@ module _ (window : RenoValue) where
         undo =
             cond_both b.peer.sack (heard_more b runs now) b.loss (λ (l : Loss). Keeps window l.undo)
             (λ _.
-            cond_both (nat_lt (held b.loss.board.runs) (held runs)) (probe_armed b (record b.loss { board = record { runs = runs }; probed = false }) now)
+            cond_both (nat_lt (held b.loss.board.runs) (held runs))
+            (probe_armed b (record b.loss { board = record { runs = runs }; probes = false; probed = false }) now)
             (with_board b.loss runs) (λ (l : Loss). Keeps window l.undo)
-            (λ _. armed_kept b (record b.loss { board = record { runs = runs }; probed = false }) now k.undo)
+            (λ _. armed_kept b (record b.loss { board = record { runs = runs }; probes = false; probed = false }) now k.undo)
             (λ _. k.undo))
             (λ _. k.undo);
         reno = k.reno;
@@ -162,7 +165,7 @@ module _ (window : RenoValue) where
 
   one_kept : (it : Between) (b : Block) → IsKept window b → IsKept window (with_one it b)
   one_kept (Goes kind o queued) b k = goes_kept kind b o queued k
-  one_kept (Duplicates count) b k = duplicates_kept b count k
+  one_kept (Duplicates count now) b k = duplicates_kept b count now k
   one_kept (Ranges header now) b k = ranges_kept b header now k
   one_kept (Probes now) b k = probes_kept b now k
   one_kept RunsOut b k = out_kept b k
@@ -217,8 +220,10 @@ begun_kept : (b : Block) → mends b.reno ≡ false → Keeps b.reno (undo_begun
 begun_kept b calm =
     subst (Keeps b.reno) (sym (begun b calm)) (cond_both (b.loss.resent == 0) (window_kept b) None (Keeps b.reno) (λ _. refl) (λ _. tt))
 
-recovery_kept : (b : Block) (count : ℕ) → b.sender.syn_unacked ≡ false → mends b.reno ≡ false → begins_recovery b count ≡ true → IsKept b.reno (counted b count)
-recovery_kept b count syn calm begins = record {
+recovery_kept :
+    (b : Block) (count : ℕ) (now : ℤ) → b.sender.syn_unacked ≡ false → mends b.reno ≡ false → begins_recovery b count ≡ true
+    → IsKept b.reno (counted b count now)
+recovery_kept b count now syn calm begins = record {
   undo = subst (λ (t : Bool). Keeps b.reno (if t then undo_begun b else b.loss.undo)) (sym begins) (begun_kept b calm);
   reno = subst (λ (t : Bool). Mends b.reno (reno_counted b.reno b.peer.sack count b.sender.in_flight t (is_lost_again b))) (sym begins)
       (begun_mends b.reno b.reno b.peer.sack b.sender.in_flight refl);
@@ -234,13 +239,13 @@ timeout_kept b syn calm = record {
 }
 
 pub recovery_undone :
-    (b : Block) (count : ℕ) (between : List Between) (header : TcpHeader) (by queued : ℕ) (now : ℤ) → b.sender.syn_unacked ≡ false
+    (b : Block) (count : ℕ) (at : ℤ) (between : List Between) (header : TcpHeader) (by queued : ℕ) (now : ℤ) → b.sender.syn_unacked ≡ false
     → (b.reno.recovers || b.reno.timed_out) ≡ false → begins_recovery b count ≡ true
-    → is_needless (with_all between (counted b count)) header by queued now ≡ true
-    → (undone (with_all between (counted b count)) header by queued now).reno ≡ b.reno
-recovery_undone b count between header by queued now syn calm begins needless =
-    comes_back b.reno (with_all between (counted b count)) header by queued now
-    (all_kept b.reno between (counted b count) (recovery_kept b count syn calm begins)) calm needless
+    → is_needless (with_all between (counted b count at)) header by queued now ≡ true
+    → (undone (with_all between (counted b count at)) header by queued now).reno ≡ b.reno
+recovery_undone b count at between header by queued now syn calm begins needless =
+    comes_back b.reno (with_all between (counted b count at)) header by queued now
+    (all_kept b.reno between (counted b count at) (recovery_kept b count at syn calm begins)) calm needless
 
 pub timeout_undone :
     (b : Block) (between : List Between) (header : TcpHeader) (by queued : ℕ) (now : ℤ) → b.sender.syn_unacked ≡ false

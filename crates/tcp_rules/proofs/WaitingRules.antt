@@ -2,7 +2,6 @@
 use Rattle.std.proofs.Common.{◌≡◌, ℕ, ◌+◌, ◌-◌, ◌%◌, ◌/◌, ◌<◌, ◌≤◌, zero, suc, ◌==◌, ◌&&◌, ◌||◌, nat_le, nat_lt, not, min, max, ℤ, int_le, Bool, true, false}
 use Rattle.std.proofs.Common.{if◌then◌else◌, length, Option, Some, None, is_some, is_none, refl, sym, ap, ◌∙◌, subst, arith}
 use Rattle.std.proofs.lemmas.Bool.{eqb-true, eq-eqb, le-leb, ltb-true, ltb-false, lt-ltb}
-use Rattle.net_base.specs.Ring.{until_end}
 use Rattle.tcp_model.specs.Context.{ContextValue}
 use Rattle.tcp_model.specs.BaseOffers.{IsBefore, offered_as}
 use Rattle.tcp_model.specs.Offer.TheVariants as Answer
@@ -21,7 +20,7 @@ use Rattle.tcp_model.specs.Due.{poll_open, poll_with, poll_of}
 use Rattle.tcp_model.specs.Offers.{offer_of}
 use Rattle.tcp_model.specs.Probing.{is_window_small, is_probing}
 use Rattle.tcp_model.specs.Quiet.{IsQuiet}
-use Rattle.tcp_model.specs.Rules.{congestion_limit, window_limit, size_limit, unbroken, next_place, ready, fills_enough, is_sendable, has_text}
+use Rattle.tcp_model.specs.Rules.{congestion_limit, window_limit, size_limit, next_place, ready, fills_enough, is_sendable, has_text}
 use Rattle.tcp_model.specs.Rules.{text_choice, congestion_room}
 use Rattle.tcp_model.specs.Value.{TcpValue, unoffered, queued_in}
 use Rattle.tcp_model.specs.declared.block.Block.{Block}
@@ -64,9 +63,9 @@ or_right_true true b e = refl
 or_right_true false b e = e
 
 -- at least a byte goes
-some_len : (bound limit queued place ends most : ℕ) → place ≡ 0 → 1 ≤ limit → 1 ≤ queued → 1 ≤ ends → min queued (max 1 most) ≤ min bound queued
-    → 1 ≤ min bound (min limit (min (queued - place) ends))
-some_len bound limit queued place ends most a b c d e = omega arith
+some_len : (bound limit queued place most : ℕ) → place ≡ 0 → 1 ≤ limit → 1 ≤ queued → min queued (max 1 most) ≤ min bound queued
+    → 1 ≤ min bound (min limit (queued - place))
+some_len bound limit queued place most a b c d = omega arith
 
 -- and it is all that is queued, or enough
 enough : (bound limit queued place most : ℕ) → place ≡ 0 → min queued (max 1 most) ≤ min bound queued → min bound (min limit (queued - place)) < limit
@@ -76,14 +75,8 @@ enough bound limit queued place most a b c d = omega arith
 whole : (bound limit queued place : ℕ) → place ≡ 0 → queued ≤ min bound (min limit (queued - place)) → place + min bound (min limit (queued - place)) ≡ queued
 whole bound limit queued place a b = omega arith
 
-none_len : (bound limit queued place ends : ℕ) → queued ≡ 0 → place ≡ 0 → place + min bound (min limit (min (queued - place) ends)) ≡ queued
-none_len bound limit queued place ends a b = omega arith
-
-some_end : (start place capacity : ℕ) → 1 ≤ capacity → 1 ≤ capacity - (start + place) % capacity
-some_end start place capacity e = omega arith
-
-more_room : (a b : ℕ) → 1 ≤ a → 1 ≤ a + b
-more_room a b e = omega arith
+none_len : (bound limit queued place : ℕ) → queued ≡ 0 → place ≡ 0 → place + min bound (min limit (queued - place)) ≡ queued
+none_len bound limit queued place a b = omega arith
 
 not_none : (n : ℕ) → 1 ≤ n → not (n == 0) ≡ true
 not_none n e = at (n == 0) refl where
@@ -113,8 +106,8 @@ module _ (v : TcpValue) (addresses : AddressPair) (ip_mtu : ℕ) (none : v.block
       let l = leaves v.block in
       both_true (owes_fin v.block.state) (next_place v.block + (text_choice v.block addresses ip_mtu v.queued).len == queued_in v) owes
       (eq-eqb (next_place v.block + (text_choice v.block addresses ip_mtu v.queued).len) (queued_in v)
-      (ap (λ (len : ℕ). next_place v.block + len) (l.limits (min (size_limit v.block addresses ip_mtu) (unbroken v.queued (next_place v.block))))
-      ∙ none_len l.bound (size_limit v.block addresses ip_mtu) (queued_in v) (next_place v.block) (until_end v.queued (next_place v.block)) empty first))
+      (ap (λ (len : ℕ). next_place v.block + len) (l.limits (min (size_limit v.block addresses ip_mtu) (queued_in v - next_place v.block)))
+      ∙ none_len l.bound (size_limit v.block addresses ip_mtu) (queued_in v) (next_place v.block) empty first))
 
   -- text goes, where the window isn't small
   text_is_enough :
@@ -138,12 +131,9 @@ module _ (v : TcpValue) (addresses : AddressPair) (ip_mtu : ℕ) (none : v.block
 
       has_len : 1 ≤ (text_choice v.block addresses ip_mtu v.queued).len
       has_len =
-          subst (λ (m : ℕ). 1 ≤ m) (sym (l.limits (min (size_limit v.block addresses ip_mtu) (unbroken v.queued (next_place v.block)))))
-          (some_len l.bound (size_limit v.block addresses ip_mtu) (queued_in v) (next_place v.block) (until_end v.queued (next_place v.block))
-          (v.block.peer.largest_window / 2) first
-          (least_limit _) some
-          (some_end v.queued.start (next_place v.block) (length v.queued.queue + length v.queued.free)
-          (more_room (length v.queued.queue) (length v.queued.free) some)) window)
+          subst (λ (m : ℕ). 1 ≤ m) (sym (l.limits (min (size_limit v.block addresses ip_mtu) (queued_in v - next_place v.block))))
+          (some_len l.bound (size_limit v.block addresses ip_mtu) (queued_in v) (next_place v.block) (v.block.peer.largest_window / 2) first
+          (least_limit _) some window)
 
       go : ℕ
       go = min l.bound (min (size_limit v.block addresses ip_mtu) (queued_in v - next_place v.block))

@@ -12,7 +12,7 @@ use Rattle.tcp_model.specs.Arrival.{arrives}
 use Rattle.tcp_model.specs.Calls.{listen_after, connect_after, send_after, recv_after, close_after, abort_after}
 use Rattle.tcp_model.specs.Offers.{offer_of}
 use Rattle.tcp_model.specs.Settings.{set_timeout, set_keep_alive, set_ack_delay, set_nagle_enabled, set_hop_limit, set_tsval_generator, pause_synack}
-use Rattle.tcp_model.specs.Settings.{set_retries, set_congestion_control, set_min_rto}
+use Rattle.tcp_model.specs.Settings.{set_retries, set_congestion_control, set_min_rto, set_fine_timer}
 use Rattle.tcp_model.specs.Settled.{settled}
 use Rattle.tcp_model.specs.Value.{TcpValue}
 use Rattle.tcp_model.specs.declared.block.CongestionControl.{CongestionControl}
@@ -28,6 +28,7 @@ pub data Setting : Type 0 where
   Paused : (paused : Bool) → Setting
   Retries : (limit : Option ℕ) → Setting
   MinRto : (duration : ℕ) → Setting
+  FineTimer : (fine : Bool) → Setting
   Congestion : (control : CongestionControl) → Setting
 
 abbrev pub set : TcpValue → Setting → TcpValue
@@ -40,6 +41,7 @@ set v (Timestamps generator) = set_tsval_generator v generator
 set v (Paused paused) = pause_synack v paused
 set v (Retries limit) = set_retries v limit
 set v (MinRto duration) = set_min_rto v duration
+set v (FineTimer fine) = set_fine_timer v fine
 set v (Congestion control) = set_congestion_control v control
 
 pub data Event : Type 0 where

@@ -16,7 +16,14 @@ pub mod Recovery
 pub mod Blind
 pub mod Undoing
 pub mod Losses
+pub mod Late
+pub mod Again
+pub mod Unheld
+pub mod Windows
+pub mod Room
 pub mod Stamps
+pub mod Storage
+pub mod Validation
 pub use Rattle.tcp_control.specs.Controls
 pub use Rattle.tcp_control.specs.declared.endpoints.EndpointPair
 pub use Rattle.tcp_control.specs.Endpoints

@@ -12,7 +12,7 @@ use Rattle.tcp_model.specs.declared.block.Block.{Block}
 pub data Between : Type 0 where
   Goes : (kind : OfferKind) (o : OpenOffer) (queued : ℕ) → Between
   -- so many duplicates came in a row
-  Duplicates : (count : ℕ) → Between
+  Duplicates : (count : ℕ) (now : ℤ) → Between
   Ranges : (header : TcpHeader) (now : ℤ) → Between
   -- a loss probe may be due
   Probes : (now : ℤ) → Between
@@ -21,7 +21,7 @@ pub data Between : Type 0 where
 
 abbrev pub with_one : Between → Block → Block
 with_one (Goes kind o queued) b = sent_as kind b o queued
-with_one (Duplicates count) b = counted b count
+with_one (Duplicates count now) b = counted b count now
 with_one (Ranges header now) b = ranges_taken b header now
 with_one (Probes now) b = loss_probed_by now b
 with_one RunsOut b = backed_off_now b

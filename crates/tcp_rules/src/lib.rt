@@ -2,16 +2,21 @@
 #![tactic(auto)]
 
 pub mod acks;
+pub mod again;
 pub mod bare;
 pub mod congestion;
 pub mod edges;
 pub mod flight;
 pub mod forged;
 pub mod giving_up;
+pub mod late;
 pub mod losses;
 pub mod order;
 pub mod recovery;
 pub mod stamps;
+pub mod storage;
 pub mod time_wait;
 pub mod timing;
+pub mod validation;
 pub mod waiting;
+pub mod windows;

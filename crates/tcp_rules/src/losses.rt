@@ -7,7 +7,7 @@ ghost use Rattle.tcp_control.specs.declared.offer.OfferKind.{OfferKind};
 ghost use Rattle.tcp_control.specs.declared.offer.OfferKind.TheVariants as Kind;
 ghost use Rattle.tcp_control.specs.declared.offer.OpenOffer.{OpenOffer};
 ghost use Rattle.tcp_model.specs.Acknowledged.{is_partial, una_moved, begins_recovery, counted};
-ghost use Rattle.tcp_model.specs.LossRecovery.{loss_probed, next_hole, fills_hole, is_lost_again};
+ghost use Rattle.tcp_model.specs.LossRecovery.{loss_moment, loss_probed, next_hole, fills_hole, is_lost_again};
 ghost use Rattle.tcp_model.specs.Rules.{backed_off_now};
 ghost use Rattle.tcp_model.specs.Settled.{sent_as};
 ghost use Rattle.tcp_model.specs.Value.{new_socket};
@@ -23,8 +23,8 @@ pub fn what_is_held_was_sent()
 
 /// A loss probe that was due isn't due any more, and nothing that is sent makes another one due: that takes news.
 pub fn a_probe_goes_once()
-    ensures over { (b : Block) → (loss_probed b).loss.probed ≡ true }
-    ensures unset { (b : Block) → (loss_probed b).loss.probe_at ≡ None }
+    ensures over { (b : Block) → b.loss.late_until ≡ None → (loss_probed b).loss.probed ≡ true }
+    ensures unset { (b : Block) → loss_moment (loss_probed b).loss ≡ None }
     ensures once { (kind : OfferKind) (b : Block) (o : OpenOffer) (queued : ℕ) → b.loss.probed ≡ true
         → (sent_as kind b o queued).loss.probe_at ≡ b.loss.probe_at }
 {}
@@ -53,8 +53,8 @@ pub fn what_went_later_says_that_what_went_again_is_lost()
 
 /// No loss is undone while something that went again before it began is on its way: what is acknowledged may be that.
 pub fn no_loss_is_undone_while_an_earlier_resend_is_on_its_way()
-    ensures recovery { (b : Block) (count : ℕ) → (b.reno.recovers || b.reno.timed_out) ≡ false → (b.loss.resent == 0) ≡ false
-        → begins_recovery b count ≡ true → (counted b count).loss.undo ≡ None }
+    ensures recovery { (b : Block) (count : ℕ) (now : ℤ) → (b.reno.recovers || b.reno.timed_out) ≡ false → (b.loss.resent == 0) ≡ false
+        → begins_recovery b count ≡ true → (counted b count now).loss.undo ≡ None }
     ensures timeout { (b : Block) → b.sender.syn_unacked ≡ false → (b.reno.recovers || b.reno.timed_out) ≡ false → (b.loss.resent == 0) ≡ false
         → (backed_off_now b).loss.undo ≡ None }
 {}

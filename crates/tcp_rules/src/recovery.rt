@@ -51,10 +51,10 @@ pub fn blind_acknowledgements_leave_the_timer()
 /// or the timer ran out, and the first acknowledgement of text since then answers what was sent first (RFC 4015). Nothing of it is to go
 /// again then, and no more has to be acknowledged before recovery may begin again.
 pub fn a_loss_that_was_none_is_undone()
-    ensures recovery { (b : Block) (count : ℕ) (between : List Between) (header : TcpHeader) (by queued : ℕ) (now : ℤ) → b.sender.syn_unacked ≡ false
+    ensures recovery { (b : Block) (count : ℕ) (at : ℤ) (between : List Between) (header : TcpHeader) (by queued : ℕ) (now : ℤ) → b.sender.syn_unacked ≡ false
         → (b.reno.recovers || b.reno.timed_out) ≡ false → begins_recovery b count ≡ true
-        → is_needless (with_all between (counted b count)) header by queued now ≡ true
-        → (undone (with_all between (counted b count)) header by queued now).reno ≡ b.reno }
+        → is_needless (with_all between (counted b count at)) header by queued now ≡ true
+        → (undone (with_all between (counted b count at)) header by queued now).reno ≡ b.reno }
     ensures timeout { (b : Block) (between : List Between) (header : TcpHeader) (by queued : ℕ) (now : ℤ) → b.sender.syn_unacked ≡ false
         → (b.reno.recovers || b.reno.timed_out) ≡ false
         → is_needless (with_all between (backed_off_now b)) header by queued now ≡ true

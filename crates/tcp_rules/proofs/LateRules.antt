@@ -1,0 +1,423 @@
+-- What may only be late is waited for.
+use Rattle.std.proofs.Common.{◌≡◌, ℕ, ◌*◌, ◌/◌, ◌≤◌, ◌==◌, ◌&&◌, ◌||◌, nat_lt, not, min, max, ℤ, ◌<ℤ◌, ◌≤ℤ◌, int_le, Bool, true, false, if◌then◌else◌}
+use Rattle.std.proofs.Common.{List, [], ◌∷◌, Option, Some, None, is_none, is_some, refl, sym, ap, ◌∙◌, subst, arith}
+use Rattle.std.proofs.lemmas.Bool.{cond_both}
+use Rattle.std.proofs.lemmas.Int.{ints}
+use Rattle.std.specs.Option.{option_or}
+use Rattle.ip_wire.specs.TcpHeader.{TcpHeader}
+use Rattle.tcp_control.specs.Moments.{is_due, is_over, timeout_from}
+use Rattle.tcp_control.specs.Reno as reno
+use Rattle.tcp_control.specs.Reno.{RenoValue}
+use Rattle.tcp_control.specs.RoundTrip.{RoundTripValue, late_wait, shortest, srtt}
+use Rattle.tcp_control.specs.Scoreboard.{held, is_empty}
+use Rattle.tcp_control.specs.States.{sends_text}
+use Rattle.tcp_control.specs.declared.offer.OfferKind.{OfferKind}
+use Rattle.tcp_control.specs.declared.offer.OfferKind.TheVariants as Kind
+use Rattle.tcp_control.specs.declared.offer.OpenOffer.{OpenOffer}
+use Rattle.tcp_model.specs.Acknowledged.{begins_recovery, counted, is_lost_since, is_missed, is_third, late_until, ranges_taken, reno_counted}
+use Rattle.tcp_model.specs.Blocks.{past_top}
+use Rattle.tcp_model.specs.LossRecovery.{all_noted, heard_more, is_lost_again, is_passed, loss_lowered, loss_moment, loss_probe_moment, probes_tail}
+use Rattle.tcp_model.specs.LossRecovery.{loss_probed, loss_probed_by, may_be_late, probe_armed, probe_from, probes_losses, with_board}
+use Rattle.tcp_model.specs.Retries.{asked, one_more}
+use Rattle.tcp_model.specs.Rules.{resends}
+use Rattle.tcp_model.specs.Settled.{end_of, nxt_moved, probed, resent, sent_as, syn_went, timer_started, went}
+use Rattle.tcp_model.specs.Undo.{undo_sent}
+use Rattle.tcp_model.specs.Validation.{periods_ended, text_went}
+use Rattle.tcp_model.specs.declared.block.Block.{Block}
+use Rattle.tcp_model.specs.declared.block.Loss.{Loss}
+use Rattle.tcp_rules.specs.Late.{AreBefore, IsMissing, Lapses, late_moment}
+use Rattle.tcp_rules.specs.Undoing.{Between, with_one, with_all}
+use Rattle.tcp_rules.specs.Undoing.Between.{Goes, Duplicates, Ranges, Probes, RunsOut}
+use Rattle.tcp_rules.proofs.OrderSteps.{clash}
+
+left_true : (a b : Bool) → (a && b) ≡ true → a ≡ true
+left_true true b e = refl
+left_true false b e = clash (sym e)
+
+right_true : (a b : Bool) → (a && b) ≡ true → b ≡ true
+right_true true b e = e
+right_true false b e = clash (sym e)
+
+both : (a b : Bool) → a ≡ true → b ≡ true → (a && b) ≡ true
+both true b p q = q
+both false b p q = clash (sym p)
+
+none_with : (a b : Bool) → a ≡ false → (a && b) ≡ false
+none_with true b e = clash e
+none_with false b e = refl
+
+-- what of a block decides whether it waits, and until when
+record IsKept (window : RenoValue) (end : Option ℤ) (permitted : Bool) (count : ℕ) (again : Bool) (r : RenoValue) (l : Loss) : Type 0 where
+  until : l.late_until ≡ end
+  patience : (l.patience == 0) ≡ false
+  eager : l.eager ≡ false
+  probes : l.probes ≡ false
+  sack : permitted ≡ true
+  recover : (count == 0) ≡ true
+  resend : again ≡ false
+  recovers : r.recovers ≡ false
+  reno : Lapses window r
+
+module _ (window : RenoValue) where
+  abbrev Waits : Option ℤ → Block → Type 0
+  Waits until b = IsKept window until b.peer.sack b.sender.recover b.sender.resend b.reno b.loss
+
+  -- with what is known of losses otherwise
+  with_loss : (until : Option ℤ) (b : Block) (l : Loss) → l.late_until ≡ b.loss.late_until → l.patience ≡ b.loss.patience
+      → l.eager ≡ b.loss.eager → l.probes ≡ b.loss.probes → Waits until b → Waits until (record b { loss = l })
+  with_loss until b l same patience eager probes w = record {
+    until = same ∙ w.until;
+    patience = ap (λ (n : ℕ). n == 0) patience ∙ w.patience;
+    eager = eager ∙ w.eager;
+    probes = probes ∙ w.probes;
+    sack = w.sack;
+    recover = w.recover;
+    resend = w.resend;
+    recovers = w.recovers;
+    reno = w.reno;
+  }
+
+  -- WHAT GOES
+
+  armed : (until : Option ℤ) (b : Block) (l : Loss) (now : ℤ) → Waits until (record b { loss = l })
+      → Waits until (record b { loss = probe_armed b l now })
+  armed until b l now w =
+      cond_both (probes_losses b && not l.probed) (record l { probe_at = probe_from b now }) l (λ (m : Loss). Waits until (record b { loss = m }))
+      (λ _. with_loss until (record b { loss = l }) (record l { probe_at = probe_from b now }) refl refl refl refl w)
+      (λ _. w)
+
+  went_waits : (until : Option ℤ) (b : Block) (o : OpenOffer) (queued : ℕ) → Waits until b → Waits until (went b o queued)
+  went_waits until b o queued w =
+      armed until c (record c.loss { undo = undo_sent c c.loss.undo o.moment }) o.moment
+      (with_loss until b (record b.loss { undo = undo_sent c c.loss.undo o.moment }) refl refl refl refl w)
+    where
+      c : Block
+      c = timer_started (nxt_moved b (end_of b o) queued o.moment) o.moment
+
+  asked_waits : (until : Option ℤ) (b : Block) (now : ℤ) → Waits until b → Waits until (asked b now)
+  asked_waits until b now w =
+      cond_both (is_over now b.timers.counts_from)
+      (record b {
+        sender = record b.sender { unanswered = one_more b.sender.unanswered };
+        timers = record b.timers { counts_from = Some (timeout_from now b.round_trip) };
+      })
+      b (Waits until) (λ _. w) (λ _. w)
+
+  again_waits : (until : Option ℤ) (b : Block) (end : ℕ) → Waits until b → Waits until (resent b end)
+  again_waits until b end w = record {
+    until = w.until;
+    patience = w.patience;
+    eager = w.eager;
+    probes = refl;
+    sack = w.sack;
+    recover = w.recover;
+    resend = refl;
+    recovers = w.recovers;
+    reno = w.reno;
+  }
+
+  text_waits : (until : Option ℤ) (b : Block) (top : ℕ) (now : ℤ) → Waits until b → Waits until (text_went b top now)
+  text_waits until b top now w = record {
+    until = w.until;
+    patience = w.patience;
+    eager = w.eager;
+    probes = w.probes;
+    sack = w.sack;
+    recover = w.recover;
+    resend = w.resend;
+    recovers = w.recovers;
+    reno = record {
+      periods = periods_ended b top now ∷ w.reno.periods;
+      same = ap (λ (r : RenoValue). reno.lapsed r (periods_ended b top now)) w.reno.same;
+    };
+  }
+
+  goes_waits : (until : Option ℤ) (kind : OfferKind) (b : Block) (o : OpenOffer) (queued : ℕ) → Waits until b → Waits until (sent_as kind b o queued)
+  goes_waits until Kind.Reset b o queued w = w
+  goes_waits until Kind.Syn b o queued w = went_waits until (syn_went b o) o queued w
+  goes_waits until Kind.FastRetransmission b o queued w = went_waits until (resent b (end_of b o)) o queued (again_waits until b (end_of b o) w)
+  goes_waits until Kind.Text b o queued w = text_waits until (went b o queued) b.sender.top o.moment (went_waits until b o queued w)
+  goes_waits until Kind.Probe b o queued w = asked_waits until (probed b (end_of b o) o.moment) o.moment w
+  goes_waits until Kind.KeepAlive b o queued w = asked_waits until b o.moment w
+  goes_waits until Kind.Ack b o queued w = w
+  goes_waits until Kind.WindowUpdate b o queued w = w
+
+  -- WHAT COMES
+
+  still_late : (until : Option ℤ) (b : Block) → Waits until b → may_be_late b ≡ true
+  still_late until b w =
+      both (not (b.loss.patience == 0)) (b.peer.sack && not b.loss.eager) (ap not w.patience)
+      (both b.peer.sack (not b.loss.eager) w.sack (ap not w.eager))
+
+  -- no recovery begins
+  begins_not : (until : Option ℤ) (b : Block) (count : ℕ) → Waits until b → begins_recovery b count ≡ false
+  begins_not until b count w =
+      neither (is_missed b count) (may_be_late b) (b.sender.recover == 0) (b.peer.sack && (not b.reno.recovers && is_passed b b.sender.recover))
+      (still_late until b w) w.recover
+    where
+      neither : (missed late zero since : Bool) → late ≡ true → zero ≡ true → ((missed && not late) || (not zero && since)) ≡ false
+      neither true true true since p q = refl
+      neither false true true since p q = refl
+      neither missed true false since p q = clash (sym q)
+      neither missed false zero since p q = clash (sym p)
+
+  third_not : (until : Option ℤ) (b : Block) (count : ℕ) → Waits until b → is_third b count ≡ false
+  third_not until b count w = last (count == 3) (not b.reno.recovers) (b.sender.recover == 0) w.recover where
+    last : (a r zero : Bool) → zero ≡ true → (a && (r && not zero)) ≡ false
+    last false r zero e = refl
+    last true false zero e = refl
+    last true true true e = refl
+    last true true false e = clash (sym e)
+
+  again_not : (until : Option ℤ) (b : Block) → Waits until b → is_lost_again b ≡ false
+  again_not until b w =
+      neither b.peer.sack b.reno.recovers (not (b.loss.resent == 0) && is_passed b b.loss.mark) w.recovers
+    where
+      neither : (sack recovers more : Bool) → recovers ≡ false → (sack && (recovers && more)) ≡ false
+      neither true false more e = refl
+      neither false false more e = refl
+      neither sack true more e = clash e
+
+  same_reno : (r : RenoValue) (sack : Bool) (count flight : ℕ) (begins again : Bool) → sack ≡ true → begins ≡ false → again ≡ false
+      → reno_counted r sack count flight begins again ≡ r
+  same_reno r true count flight false false s p q =
+      cond_both (not (count == 0) && false) (reno.inflated r) r (λ (x : RenoValue). x ≡ r)
+      (λ e. clash (sym (right_true (not (count == 0)) false e))) (λ _. refl)
+  same_reno r true count flight true again s p q = clash p
+  same_reno r true count flight false true s p q = clash q
+  same_reno r false count flight begins again s p q = clash (sym s)
+
+  no_resend : (resend third begins : Bool) → resend ≡ false → third ≡ false → begins ≡ false → (resend || (third || begins)) ≡ false
+  no_resend false false false p q s = refl
+  no_resend true third begins p q s = clash p
+  no_resend false true begins p q s = clash q
+  no_resend false false true p q s = clash s
+
+  counted_waits : (until next : Option ℤ) (b : Block) (count : ℕ) (now : ℤ) → late_until b count now ≡ next → Waits until b
+      → Waits next (counted b count now)
+  counted_waits until next b count now sets w = record {
+    until = sets;
+    patience = w.patience;
+    eager = w.eager;
+    probes = w.probes;
+    sack = w.sack;
+    recover = subst (λ (t : Bool). ((if t then past_top b else b.sender.recover) == 0) ≡ true) (sym (begins_not until b count w)) w.recover;
+    resend =
+        no_resend b.sender.resend (is_third b count) (begins_recovery b count) w.resend (third_not until b count w) (begins_not until b count w);
+    recovers = subst (λ (r : RenoValue). r.recovers ≡ false) (sym same) w.recovers;
+    reno = subst (Lapses window) (sym same) w.reno;
+  }
+    where
+      same : (counted b count now).reno ≡ b.reno
+      same =
+          same_reno b.reno b.peer.sack count b.sender.in_flight (begins_recovery b count) (is_lost_again b) w.sack (begins_not until b count w)
+          (again_not until b w)
+
+  ranges_wait : (until : Option ℤ) (b : Block) (header : TcpHeader) (now : ℤ) → Waits until b → Waits until (ranges_taken b header now)
+  ranges_wait until b header now w =
+      let runs = all_noted b b.loss.board.runs header.options.sack_ranges in
+      let more : Loss = record b.loss { board = record { runs = runs }; probes = false; probed = false } in
+      cond_both b.peer.sack (heard_more b runs now) b.loss (λ (l : Loss). Waits until (record b { loss = l }))
+      (λ _.
+      cond_both (nat_lt (held b.loss.board.runs) (held runs)) (probe_armed b more now) (with_board b.loss runs)
+      (λ (l : Loss). Waits until (record b { loss = l }))
+      (λ _. armed until b more now (with_loss until b more refl refl refl (sym w.probes) w))
+      (λ _. with_loss until b (with_board b.loss runs) refl refl refl refl w))
+      (λ _. w)
+
+-- THE MOMENT
+
+-- it stays as it is set
+stays_set : (o : Option ℤ) (missed : Bool) (moment other : ℤ) → o ≡ Some moment → (if is_none o && missed then Some other else o) ≡ Some moment
+stays_set None missed moment other e = clash (sym (ap is_some e))
+stays_set (Some m) missed moment other e = e
+
+not_yet : (moment now : ℤ) → now <ℤ moment → int_le moment now ≡ false
+not_yet moment now e = grind (arith, ints, e)
+
+come : (moment now : ℤ) → moment ≤ℤ now → int_le moment now ≡ true
+come moment now e = grind (arith, ints, e)
+
+module _ (window : RenoValue) (moment : ℤ) where
+  -- a look before it
+  looks_wait : (b : Block) (now : ℤ) → now <ℤ moment → Waits window (Some moment) b → Waits window (Some moment) (loss_probed_by now b)
+  looks_wait b now before w =
+      cond_both (is_due now (loss_probe_moment b)) (loss_probed b) b (Waits window (Some moment)) (λ due. clash (sym due ∙ early)) (λ _. w)
+    where
+      early : is_due now (loss_probe_moment b) ≡ false
+      early =
+          cond_both (sends_text b.state && (not b.sender.syn_unacked && not (b.sender.in_flight == 0))) (loss_moment b.loss) None
+          (λ (o : Option ℤ). is_due now o ≡ false)
+          (λ _. ap (λ (o : Option ℤ). is_due now (option_or o b.loss.probe_at)) w.until ∙ not_yet moment now before)
+          (λ _. refl)
+
+  all_wait : (between : List Between) (b : Block) → AreBefore moment between → Waits window (Some moment) b
+      → Waits window (Some moment) (with_all between b)
+  all_wait [] b before w = w
+  all_wait (Goes kind o queued ∷ more) b before w =
+      all_wait more (sent_as kind b o queued) before (goes_waits window (Some moment) kind b o queued w)
+  all_wait (Duplicates count now ∷ more) b before w =
+      all_wait more (counted b count now) before
+      (counted_waits window (Some moment) (Some moment) b count now
+      (stays_set b.loss.late_until (is_missed b count && may_be_late b) moment (late_moment b now) w.until) w)
+  all_wait (Ranges header now ∷ more) b before w =
+      all_wait more (ranges_taken b header now) before (ranges_wait window (Some moment) b header now w)
+  all_wait (Probes now ∷ more) b before w = all_wait more (loss_probed_by now b) before.1 (looks_wait b now before.0 w)
+  all_wait (RunsOut ∷ more) b before w = absurd before
+
+  -- nothing goes again
+  resends_not : (b : Block) → Waits window (Some moment) b → resends b ≡ false
+  resends_not b w =
+      none_of (sends_text b.state) b.sender.resend b.loss.probes b.peer.sack b.reno.recovers _ w.resend w.probes
+      w.recovers
+    where
+      none_of : (sends resend probes sack recovers rest : Bool) → resend ≡ false → probes ≡ false → recovers ≡ false
+          → (sends && (resend || (probes || (sack && (recovers && rest))))) ≡ false
+      none_of false resend probes sack recovers rest p q r = refl
+      none_of true false false false recovers rest p q r = refl
+      none_of true false false true false rest p q r = refl
+      none_of true false false true true rest p q r = clash r
+      none_of true false true sack recovers rest p q r = clash q
+      none_of true true probes sack recovers rest p q r = clash p
+
+  -- at the moment the recovery begins
+  begins_then : (b : Block) (at : ℤ) → moment ≤ℤ at → sends_text b.state ≡ true → b.sender.syn_unacked ≡ false → (b.sender.in_flight == 0) ≡ false
+      → Waits window (Some moment) b
+      → ((loss_probed_by at b).sender.resend ≡ true) × ((loss_probed_by at b).sender.recover ≡ past_top b)
+      × ((loss_probed_by at b).reno ≡ reno.reduced b.reno b.sender.in_flight) × ((loss_probed_by at b).loss.late_until ≡ None)
+  begins_then b at past sends syn flies w =
+      subst
+      (λ (c : Block).
+      (c.sender.resend ≡ true) × (c.sender.recover ≡ past_top b) × (c.reno ≡ reno.reduced b.reno b.sender.in_flight) × (c.loss.late_until ≡ None))
+      (sym (ap (λ (t : Bool). if t then loss_probed b else b) due)) (
+        or_true b.sender.resend (not (probes_tail b)) (ap not tail),
+        ap (λ (t : Bool). if t then past_top b else b.sender.recover) (both (not (probes_tail b)) (b.sender.recover == 0) (ap not tail) w.recover),
+        ap (λ (t : Bool). if t then b.reno else reno.reduced b.reno b.sender.in_flight) tail,
+        refl,
+      )
+    where
+      or_true : (a b : Bool) → b ≡ true → (a || b) ≡ true
+      or_true true b e = refl
+      or_true false b e = e
+
+      tail : probes_tail b ≡ false
+      tail = none_with (is_none b.loss.late_until) _ (ap is_none w.until)
+
+      there : (sends_text b.state && (not b.sender.syn_unacked && not (b.sender.in_flight == 0))) ≡ true
+      there = both (sends_text b.state) _ sends (both (not b.sender.syn_unacked) _ (ap not syn) (ap not flies))
+
+      due : is_due at (loss_probe_moment b) ≡ true
+      due =
+          ap (λ (t : Bool). is_due at (if t then loss_moment b.loss else None)) there
+          ∙ (ap (λ (o : Option ℤ). is_due at (option_or o b.loss.probe_at)) w.until ∙ come moment at past)
+
+-- IT BEGINS
+
+module _ (b : Block) (count : ℕ) (now : ℤ) (m : IsMissing b count) where
+  parts : ((b.loss.patience == 0) ≡ false) × ((b.peer.sack ≡ true) × (b.loss.eager ≡ false))
+  parts = of (b.loss.patience == 0) b.peer.sack b.loss.eager m.late where
+    of : (none sack eager : Bool) → (not none && (sack && not eager)) ≡ true → (none ≡ false) × ((sack ≡ true) × (eager ≡ false))
+    of false true false e = (refl, (refl, refl))
+    of false true true e = clash (sym e)
+    of false false eager e = clash (sym e)
+    of true sack eager e = clash (sym e)
+
+  begins : Waits b.reno (Some (late_moment b now)) (counted b count now)
+  begins =
+      counted_waits b.reno None (Some (late_moment b now)) b count now sets
+      (record {
+        until = m.until;
+        patience = parts.0;
+        eager = parts.1.1;
+        probes = m.probes;
+        sack = parts.1.0;
+        recover = left_true (b.sender.recover == 0) _ m.missed;
+        resend = m.resend;
+        recovers = m.recovers;
+        reno = record { periods = []; same = refl };
+      })
+    where
+      sets : late_until b count now ≡ Some (late_moment b now)
+      sets =
+          ap (λ (t : Bool). if t then Some (late_moment b now) else b.loss.late_until)
+          (both (is_none b.loss.late_until) _ (ap is_none m.until) (both (is_missed b count) (may_be_late b) m.missed m.late))
+
+  waiting : (between : List Between) → AreBefore (late_moment b now) between
+      → Waits b.reno (Some (late_moment b now)) (with_all between (counted b count now))
+  waiting between before = all_wait b.reno (late_moment b now) between (counted b count now) before begins
+
+pub again_not_yet : (b : Block) (count : ℕ) (now : ℤ) (between : List Between) → IsMissing b count → AreBefore (late_moment b now) between
+    → resends (with_all between (counted b count now)) ≡ false
+again_not_yet b count now between m before =
+    resends_not b.reno (late_moment b now) (with_all between (counted b count now)) (waiting b count now m between before)
+
+pub window_stays : (b : Block) (count : ℕ) (now : ℤ) (between : List Between) → IsMissing b count → AreBefore (late_moment b now) between
+    → Lapses b.reno (with_all between (counted b count now)).reno
+window_stays b count now between m before = (waiting b count now m between before).reno
+
+pub recovery_then : (b : Block) (count : ℕ) (now : ℤ) (between : List Between) (at : ℤ) → IsMissing b count → AreBefore (late_moment b now) between
+    → late_moment b now ≤ℤ at → sends_text (with_all between (counted b count now)).state ≡ true
+    → (with_all between (counted b count now)).sender.syn_unacked ≡ false
+    → ((with_all between (counted b count now)).sender.in_flight == 0) ≡ false
+    → ((loss_probed_by at (with_all between (counted b count now))).sender.resend ≡ true)
+    × ((loss_probed_by at (with_all between (counted b count now))).sender.recover ≡ past_top (with_all between (counted b count now)))
+    × ((loss_probed_by at (with_all between (counted b count now))).reno
+    ≡ reno.reduced (with_all between (counted b count now)).reno (with_all between (counted b count now)).sender.in_flight)
+    × ((loss_probed_by at (with_all between (counted b count now))).loss.late_until ≡ None)
+recovery_then b count now between at m before past sends syn flies =
+    begins_then b.reno (late_moment b now) (with_all between (counted b count now)) at past sends syn flies
+    (waiting b count now m between before)
+
+pub never_longer : (r : RoundTripValue) (quarters : ℕ) → late_wait r quarters ≤ srtt r
+never_longer r quarters = least (shortest r / 4 * quarters) (srtt r) where
+  least : (a b : ℕ) → min a b ≤ b
+  least a b = omega arith
+
+-- WHERE NOTHING CAME LATE
+
+not_late : (b : Block) → b.loss.patience ≡ 0 → may_be_late b ≡ false
+not_late b none = ap (λ (n : ℕ). not (n == 0) && (b.peer.sack && not b.loss.eager)) none
+
+pub begins_at_once : (b : Block) (count : ℕ) → b.loss.patience ≡ 0 → begins_recovery b count ≡ (is_missed b count || is_lost_since b)
+begins_at_once b count none = at_once (is_missed b count) (may_be_late b) (is_lost_since b) (not_late b none) where
+  at_once : (missed late since : Bool) → late ≡ false → ((missed && not late) || since) ≡ (missed || since)
+  at_once true false since e = refl
+  at_once false false since e = refl
+  at_once missed true since e = clash e
+
+pub none_waits : (b : Block) (count : ℕ) (now : ℤ) → b.loss.patience ≡ 0 → (counted b count now).loss.late_until ≡ b.loss.late_until
+none_waits b count now none = none_by (is_none b.loss.late_until) (is_missed b count) (may_be_late b) (not_late b none) where
+  none_by : (unset missed late : Bool) → late ≡ false
+      → (if unset && (missed && late) then Some (late_moment b now) else b.loss.late_until) ≡ b.loss.late_until
+  none_by true true false e = refl
+  none_by true false false e = refl
+  none_by false missed false e = refl
+  none_by unset missed true e = clash e
+
+pub in_order : (l : Loss) (by : ℕ) (partial : Bool) → is_empty l.board.runs ≡ true → (loss_lowered l by partial).patience ≡ l.patience
+in_order l by partial empty = none_then (l.mark == 0) (is_empty l.board.runs) empty where
+  none_then : (first none : Bool) → none ≡ true → (if first && not none then max 1 l.patience else l.patience) ≡ l.patience
+  none_then true true e = refl
+  none_then false true e = refl
+  none_then first false e = clash (sym e)
+
+pub not_first : (l : Loss) (by : ℕ) (partial : Bool) → (l.mark == 0) ≡ false → (loss_lowered l by partial).patience ≡ l.patience
+not_first l by partial again =
+    ap (λ (t : Bool). if t then max 1 l.patience else l.patience) (none_with (l.mark == 0) (not (is_empty l.board.runs)) again)
+
+pub first_late : (l : Loss) (by : ℕ) (partial : Bool) → l.mark ≡ 0 → is_empty l.board.runs ≡ false → 1 ≤ (loss_lowered l by partial).patience
+first_late l by partial first some =
+    subst (λ (t : Bool). 1 ≤ (if t then max 1 l.patience else l.patience))
+    (sym (both (l.mark == 0) (not (is_empty l.board.runs)) (ap (λ (n : ℕ). n == 0) first) (ap not some))) (most l.patience)
+  where
+    most : (n : ℕ) → 1 ≤ max 1 n
+    most n = omega arith
+
+armed_mark : (b : Block) (l : Loss) (now : ℤ) → (probe_armed b l now).mark ≡ l.mark
+armed_mark b l now =
+    cond_both (probes_losses b && not l.probed) (record l { probe_at = probe_from b now }) l (λ (m : Loss). m.mark ≡ l.mark) (λ _. refl) (λ _. refl)
+
+pub mark_went : (b : Block) (o : OpenOffer) (queued : ℕ) → (sent_as Kind.FastRetransmission b o queued).loss.mark ≡ b.sender.top
+mark_went b o queued = armed_mark c (record c.loss { undo = undo_sent c c.loss.undo o.moment }) o.moment where
+  c : Block
+  c = timer_started (nxt_moved (resent b (end_of b o)) (end_of b o) queued o.moment) o.moment

@@ -1,0 +1,214 @@
+-- What goes fits the congestion window.
+use Rattle.std.proofs.Common.{◌≡◌, ◌≢◌, ◌⊎◌, inl, inr, ⊎_elim, ℕ, ◌+◌, ◌-◌, ◌*◌, ◌/◌, ◌≤◌, ◌==◌, nat_le, nat_lt, not, ◌&&◌, ◌||◌, min, max, Bool, true, false}
+use Rattle.std.proofs.Common.{if◌then◌else◌, Some, None, refl, sym, ap, ◌∙◌, subst, arith}
+use Rattle.std.proofs.lemmas.Bool.{cond_both, eqb-true, eqb-false, leb-true}
+use Rattle.tcp_control.specs.Scoreboard.{missing}
+use Rattle.tcp_control.specs.States.{sends_text}
+use Rattle.tcp_control.specs.declared.endpoints.EndpointPair.{EndpointPair}
+use Rattle.tcp_control.specs.declared.offer.OfferKind.{OfferKind}
+use Rattle.tcp_control.specs.declared.offer.OfferKind.TheVariants as Kind
+use Rattle.tcp_control.specs.declared.offer.OpenOffer.{OpenOffer}
+use Rattle.tcp_model.specs.BaseOffers.{Offered}
+use Rattle.tcp_model.specs.Context.{ContextValue}
+use Rattle.tcp_model.specs.LossRecovery.{pipe, next_hole, credited_window, mends_lost, mends_credited, fills_hole, is_lost_at, loss_probed}
+use Rattle.tcp_model.specs.Offers.{offer_of}
+use Rattle.tcp_model.specs.Rules.{size_limit, congestion_limit, beyond, congestion_room, window_limit, next_place, resends, backed_off_now}
+use Rattle.tcp_model.specs.Value.{TcpValue, with_block, unoffered, queued_in}
+use Rattle.tcp_model.specs.declared.block.Block.{Block}
+use Rattle.tcp_model.specs.declared.block.CongestionControl.{CongestionControl}
+use Rattle.tcp_model.specs.declared.block.CongestionControl.TheVariants as Avoids
+use Rattle.tcp_rules.specs.Room.{is_limited, HasRoom, HasHoleRoom}
+use Rattle.tcp_rules.proofs.OfferCases.{Rules, FirstRules, LastRules, by_rules, begun, probing}
+use Rattle.tcp_rules.proofs.OrderSteps.{clash}
+
+left_true : (a b : Bool) → (a && b) ≡ true → a ≡ true
+left_true true b e = refl
+left_true false b e = clash (sym e)
+
+right_true : (a b : Bool) → (a && b) ≡ true → b ≡ true
+right_true true b e = e
+right_true false b e = clash (sym e)
+
+not_true : (a : Bool) → not a ≡ true → a ≡ false
+not_true true e = clash (sym e)
+not_true false e = refl
+
+either : (a b : Bool) → (a || b) ≡ true → (a ≡ true) ⊎ (b ≡ true)
+either true b e = inl refl
+either false b e = inr e
+
+-- NEW TEXT
+
+limited : (control : CongestionControl) (room size : ℕ) → is_limited control ≡ true → congestion_limit control room size ≤ room
+limited Avoids.None room size e = clash (sym e)
+limited Avoids.Reno room size e = least room size where
+  least : (a b : ℕ) → min a b ≤ a
+  least a b = omega arith
+limited Avoids.Cubic room size e = least room size where
+  least : (a b : ℕ) → min a b ≤ a
+  least a b = omega arith
+
+text_room : (b : Block) (size : ℕ) → is_limited b.settings.congestion_control ≡ true → HasRoom b (window_limit b size)
+text_room b size on = record {
+  told = λ sack.
+      beside (pipe b) b.reno.cwnd (window_limit b size)
+      (subst (λ (t : Bool). window_limit b size ≤ (if t then b.reno.cwnd - pipe b else b.reno.cwnd + beyond b - b.sender.in_flight)) sack fits);
+  untold = λ sack.
+      beside b.sender.in_flight (b.reno.cwnd + beyond b) (window_limit b size)
+      (subst (λ (t : Bool). window_limit b size ≤ (if t then b.reno.cwnd - pipe b else b.reno.cwnd + beyond b - b.sender.in_flight)) sack fits);
+}
+  where
+    fits : window_limit b size ≤ congestion_room b
+    fits = limited b.settings.congestion_control (congestion_room b) (min (b.peer.window - b.sender.in_flight) size) on
+
+    beside : (before cwnd len : ℕ) → len ≤ cwnd - before → before + len ≤ max cwnd before
+    beside before cwnd len e = omega arith
+
+pub two_beyond : (b : Block) → (beyond b ≤ 2 * b.reno.mss) × ((b.sender.recover == 0) ≡ false → beyond b ≡ 0)
+two_beyond b = (
+  cond_both (b.sender.recover == 0) (b.reno.mss * min 2 b.sender.duplicates) 0 (λ (n : ℕ). n ≤ 2 * b.reno.mss) (λ _. upto b.sender.duplicates)
+      (λ _. least (2 * b.reno.mss)),
+  λ e. ap (λ (t : Bool). if t then b.reno.mss * min 2 b.sender.duplicates else 0) e,
+)
+  where
+    least : (n : ℕ) → 0 ≤ n
+    least n = omega arith
+
+    none : (n : ℕ) → n * 0 ≤ 2 * n
+    none n = omega arith
+
+    one : (n : ℕ) → n * 1 ≤ 2 * n
+    one n = omega arith
+
+    two : (n : ℕ) → n * 2 ≤ 2 * n
+    two n = omega arith
+
+    by : (k : ℕ) → (k ≡ 0) ⊎ ((k ≡ 1) ⊎ (k ≡ 2)) → b.reno.mss * k ≤ 2 * b.reno.mss
+    by k (inl e) = subst (λ (n : ℕ). b.reno.mss * n ≤ 2 * b.reno.mss) (sym e) (none b.reno.mss)
+    by k (inr (inl e)) = subst (λ (n : ℕ). b.reno.mss * n ≤ 2 * b.reno.mss) (sym e) (one b.reno.mss)
+    by k (inr (inr e)) = subst (λ (n : ℕ). b.reno.mss * n ≤ 2 * b.reno.mss) (sym e) (two b.reno.mss)
+
+    few : (n : ℕ) → (min 2 n ≡ 0) ⊎ ((min 2 n ≡ 1) ⊎ (min 2 n ≡ 2))
+    few n = at (n == 0) (n == 1) refl refl where
+      at : (s t : Bool) → (n == 0) ≡ s → (n == 1) ≡ t → (min 2 n ≡ 0) ⊎ ((min 2 n ≡ 1) ⊎ (min 2 n ≡ 2))
+      at true t e f = inl (ap (min 2) (eqb-true n 0 e))
+      at false true e f = inr (inl (ap (min 2) (eqb-true n 1 f)))
+      at false false e f = inr (inr (more n (eqb-false n 0 e) (eqb-false n 1 f))) where
+        more : (n : ℕ) → n ≢ 0 → n ≢ 1 → min 2 n ≡ 2
+        more n e f = omega (arith, e, f)
+
+    upto : (n : ℕ) → b.reno.mss * min 2 n ≤ 2 * b.reno.mss
+    upto n = by (min 2 n) (few n)
+
+-- HOLES
+
+hole_room : (b : Block) → fills_hole b ≡ true → HasHoleRoom b
+hole_room b fills =
+    let rest = right_true b.reno.recovers (not b.sender.syn_unacked && (nat_lt (next_hole b) b.sender.in_flight && (mends_lost b || mends_credited b)))
+    (right_true b.peer.sack _ fills) in
+    let mends = right_true (nat_lt (next_hole b) b.sender.in_flight) (mends_lost b || mends_credited b)
+    (right_true (not b.sender.syn_unacked) (nat_lt (next_hole b) b.sender.in_flight && (mends_lost b || mends_credited b)) rest) in
+    ⊎_elim
+    (λ lost. inl (leb-true (pipe b + b.reno.mss) b.reno.cwnd (right_true (is_lost_at b (next_hole b)) (nat_le (pipe b + b.reno.mss) b.reno.cwnd) lost)))
+    (λ credited.
+    let parts = right_true (not (b.loss.credit == 0)) (nat_lt (next_hole b + 1) b.sender.recover && nat_le (again + b.reno.mss) (credited_window b))
+    credited in
+    inr (
+      not_true (b.loss.credit == 0)
+          (left_true (not (b.loss.credit == 0)) (nat_lt (next_hole b + 1) b.sender.recover && nat_le (again + b.reno.mss) (credited_window b)) credited),
+      whole (again + b.reno.mss)
+          (leb-true (again + b.reno.mss) (credited_window b)
+          (right_true (nat_lt (next_hole b + 1) b.sender.recover) (nat_le (again + b.reno.mss) (credited_window b)) parts)),
+    ))
+    (either (mends_lost b) (mends_credited b) mends)
+  where
+    again : ℕ
+    again = missing b.loss.board.runs (min b.loss.resent b.sender.in_flight)
+
+    whole : (n : ℕ) → n ≤ credited_window b → n ≤ b.reno.cwnd
+    whole n =
+        cond_both (b.loss.credit == 1) (b.reno.cwnd / 2) b.reno.cwnd (λ (w : ℕ). n ≤ w → n ≤ b.reno.cwnd) (λ _ e. half n b.reno.cwnd e) (λ _ e. e)
+      where
+        half : (n w : ℕ) → n ≤ w / 2 → n ≤ w
+        half n w e = omega arith
+
+again_room : (b : Block) → resends b ≡ true → b.sender.resend ≡ false → b.loss.probes ≡ false → HasHoleRoom b
+again_room b does resend probes =
+    hole_room b
+    (sym (ap (λ (t : Bool). t || (b.loss.probes || fills_hole b)) resend ∙ ap (λ (t : Bool). t || fills_hole b) probes)
+    ∙ right_true (sends_text b.state) (b.sender.resend || (b.loss.probes || fills_hole b)) does)
+
+-- AN OFFER
+
+abbrev is_text : OfferKind → Bool
+is_text Kind.Text = true
+is_text other = false
+
+abbrev is_again : OfferKind → Bool
+is_again Kind.FastRetransmission = true
+is_again other = false
+
+module _ (cx : ContextValue) (v : TcpValue) where
+  abbrev Fits : Block → OpenOffer → Type 0
+  Fits b o =
+      (is_text o.kind ≡ true → is_limited b.settings.congestion_control ≡ true → HasRoom b o.len)
+      × (is_again o.kind ≡ true → b.sender.resend ≡ false → b.loss.probes ≡ false → HasHoleRoom b)
+
+  abbrev FitsOffer : Offered TcpValue → Type 0
+  FitsOffer o = (a : OpenOffer) → o.socket.offered ≡ Some a → Fits o.socket.block a
+
+  one_offer : (a b : OpenOffer) → Some a ≡ Some b → a ≡ b
+  one_offer a b e = cc
+
+  same : (b : Block) (a c : OpenOffer) → Some a ≡ Some c → Fits b a → Fits b c
+  same b a c e f = subst (Fits b) (one_offer a c e) f
+
+  nothing : {A : Type 0} (a : OpenOffer) → None ≡ Some a → A
+  nothing a e = absurd (cc)
+
+  last : (pair : EndpointPair) (x : TcpValue) → x.offered ≡ None → LastRules cx pair FitsOffer x
+  last pair x none = record {
+    probe = λ _ _ a e. same x.block _ a e (λ is. clash (sym is), λ is. clash (sym is));
+    held_back = λ _ _ a e.
+        same x.block _ a e
+        (λ _ on. text_room x.block (min (size_limit x.block pair.addresses cx.ip_mtu) (queued_in x - next_place x.block)) on, λ is. clash (sym is));
+    ack = λ _ a e. same x.block _ a e (λ is. clash (sym is), λ is. clash (sym is));
+    update = λ _ _ a e. same x.block _ a e (λ is. clash (sym is), λ is. clash (sym is));
+    keep_alive = λ _ _ a e. same x.block _ a e (λ is. clash (sym is), λ is. clash (sym is));
+    quiet = λ _ a e. nothing a (sym none ∙ e);
+  }
+
+  first : (pair : EndpointPair) (w : TcpValue) → w.offered ≡ None → FirstRules cx pair FitsOffer w
+  first pair w none = record {
+    syn = λ _ a e. same w.block _ a e (λ is. clash (sym is), λ is. clash (sym is));
+    again = λ _ does a e. same w.block _ a e (λ is. clash (sym is), λ _ resend probes. again_room w.block does resend probes);
+    text = λ _ _ a e.
+        same w.block _ a e
+        (λ _ on. text_room w.block (min (size_limit w.block pair.addresses cx.ip_mtu) (queued_in w - next_place w.block)) on, λ is. clash (sym is));
+    last = λ _. last pair (probing cx w) none;
+  }
+
+  rules : Rules cx v FitsOffer
+  rules = record {
+    nobody = λ _ a e. nothing a e;
+    time_wait = λ _ a e. nothing a e;
+    timeout = λ _ a e. nothing a e;
+    closed = λ _ a e. nothing a e;
+    reset = λ pair _ _ a e. same v.block _ a e (λ is. clash (sym is), λ is. clash (sym is));
+    falls = λ _ _ _ a e. nothing a e;
+    over = λ _ _ _ a e. nothing a e;
+    backs = λ pair _ _ _. first pair (with_block (unoffered v) (backed_off_now (begun cx v))) refl;
+    probes = λ pair _ _ _ _. first pair (with_block (unoffered v) (loss_probed (begun cx v))) refl;
+    goes = λ pair _ _ _. first pair (with_block (unoffered v) (begun cx v)) refl;
+  }
+
+  fits_offer : FitsOffer (offer_of cx v)
+  fits_offer = by_rules cx v FitsOffer rules
+
+pub text_fits : (cx : ContextValue) (v : TcpValue) (o : OpenOffer) → (offer_of cx v).socket.offered ≡ Some o → o.kind ≡ Kind.Text
+    → is_limited (offer_of cx v).socket.block.settings.congestion_control ≡ true → HasRoom (offer_of cx v).socket.block o.len
+text_fits cx v o offered kind on = (fits_offer cx v o offered).0 (ap is_text kind) on
+
+pub hole_fits : (cx : ContextValue) (v : TcpValue) (o : OpenOffer) → (offer_of cx v).socket.offered ≡ Some o → o.kind ≡ Kind.FastRetransmission
+    → (offer_of cx v).socket.block.sender.resend ≡ false → (offer_of cx v).socket.block.loss.probes ≡ false → HasHoleRoom (offer_of cx v).socket.block
+hole_fits cx v o offered kind resend probes = (fits_offer cx v o offered).1 (ap is_again kind) resend probes

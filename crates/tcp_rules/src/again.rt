@@ -1,0 +1,38 @@
+//! What goes again.
+
+ghost use Rattle.std.specs.Prelude.{◌≡◌, ◌≤◌, ℕ, false, List, Some};
+ghost use Rattle.net_base.specs.Ring.{Ring};
+ghost use Rattle.tcp_control.specs.declared.offer.OfferKind.TheVariants as Kind;
+ghost use Rattle.tcp_control.specs.declared.offer.OpenOffer.{OpenOffer};
+ghost use Rattle.tcp_model.specs.Context.{ContextValue};
+ghost use Rattle.tcp_model.specs.Offers.{offer_of};
+ghost use Rattle.tcp_model.specs.Value.{new_socket};
+ghost use Rattle.tcp_rules.specs.Again.{GoOnce, no_marks};
+ghost use Rattle.tcp_rules.specs.Events.{Event, led};
+ghost use Rattle.tcp_rules.specs.Timing.{start_of};
+ghost use Rattle.tcp_rules.specs.Unheld.{AreUnheld};
+
+/// Of each socket that events lead to: what goes again isn't held by the remote, as far as that said so, be it the segment at SND.UNA, the
+/// next hole or the last segment as a probe. Nor is the first byte of text, which after a timeout may go again, too; behind that it may run
+/// into what is held. The FIN may go with the bytes before it, or alone behind them, though it is held itself.
+pub fn what_goes_again_is_not_held()
+    ensures again { (capacity : ℕ) (queued : Ring ℕ) (events : List Event) (cx : ContextValue) (o : OpenOffer)
+        → (led (new_socket capacity queued) events).block.sender.syn_unacked ≡ false
+        → (offer_of cx (led (new_socket capacity queued) events)).socket.offered ≡ Some o → o.kind ≡ Kind.FastRetransmission
+        → AreUnheld (start_of (offer_of cx (led (new_socket capacity queued) events)).socket.block o) o.len
+        (offer_of cx (led (new_socket capacity queued) events)).socket.block.loss.board.runs }
+    ensures text { (capacity : ℕ) (queued : Ring ℕ) (events : List Event) (cx : ContextValue) (o : OpenOffer)
+        → (led (new_socket capacity queued) events).block.sender.syn_unacked ≡ false
+        → (offer_of cx (led (new_socket capacity queued) events)).socket.offered ≡ Some o → o.kind ≡ Kind.Text → 1 ≤ o.len
+        → AreUnheld (start_of (offer_of cx (led (new_socket capacity queued) events)).socket.block o) 1
+        (offer_of cx (led (new_socket capacity queued) events)).socket.block.loss.board.runs }
+{}
+
+/// No position goes again twice for one loss, nor as text for one timeout: whatever comes, however a socket is asked and whatever its
+/// user calls, a segment that mends a loss begins where what went again since the last loss was told ends, or behind, and text where
+/// text ends that went since the timer ran out last. A loss is told where a recovery begins, where what went again is lost once more,
+/// by a third duplicate after a timeout, by the timer and by a loss probe. The probe itself, the last segment, is none of these: it goes once
+/// for each piece of news.
+pub fn a_position_goes_again_once_for_each_loss()
+    ensures once { (capacity : ℕ) (queued : Ring ℕ) (events : List Event) → GoOnce (new_socket capacity queued) no_marks events }
+{}

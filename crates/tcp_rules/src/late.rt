@@ -1,0 +1,57 @@
+//! What may only be late is waited for (RFC 8985, 6.2).
+
+ghost use Rattle.std.specs.Prelude.{◌≡◌, ◌≤◌, ◌*◌, ◌==◌, ◌||◌, ◌≤ℤ◌, ℕ, ℤ, Bool, true, false, List, None};
+ghost use Rattle.tcp_control.specs.Reno.{reduced};
+ghost use Rattle.tcp_control.specs.RoundTrip.{RoundTripValue, late_wait, srtt};
+ghost use Rattle.tcp_control.specs.Scoreboard.{is_empty};
+ghost use Rattle.tcp_control.specs.States.{sends_text};
+ghost use Rattle.tcp_control.specs.declared.offer.OfferKind.TheVariants as Kind;
+ghost use Rattle.tcp_control.specs.declared.offer.OpenOffer.{OpenOffer};
+ghost use Rattle.tcp_model.specs.Acknowledged.{begins_recovery, counted, is_lost_since, is_missed};
+ghost use Rattle.tcp_model.specs.Blocks.{past_top};
+ghost use Rattle.tcp_model.specs.LossRecovery.{loss_lowered, loss_probed_by};
+ghost use Rattle.tcp_model.specs.Rules.{backed_off_now, resends};
+ghost use Rattle.tcp_model.specs.Settled.{sent_as};
+ghost use Rattle.tcp_model.specs.declared.block.Block.{Block};
+ghost use Rattle.tcp_model.specs.declared.block.Loss.{Loss};
+ghost use Rattle.tcp_rules.specs.Late.{AreBefore, IsMissing, Lapses, late_moment, trips};
+ghost use Rattle.tcp_rules.specs.Undoing.{Between, with_all};
+
+/// Once a segment came late, a segment that duplicates or ranges say is missing doesn't go again until a moment that is set once, whatever
+/// goes and comes before it, and no loss halves the congestion window. Where SND.UNA rises until then nothing was lost, and nothing went again.
+pub fn what_may_be_late_is_waited_for()
+    ensures again { (b : Block) (count : ℕ) (now : ℤ) (between : List Between) → IsMissing b count → AreBefore (late_moment b now) between
+        → resends (with_all between (counted b count now)) ≡ false }
+    ensures window { (b : Block) (count : ℕ) (now : ℤ) (between : List Between) → IsMissing b count → AreBefore (late_moment b now) between
+        → Lapses b.reno (with_all between (counted b count now)).reno }
+{}
+
+/// The wait is a quarter of the shortest round trip for each time that one was too short, but never longer than SRTT. Then the recovery begins
+/// as it would have begun without it, whatever went and came meanwhile: it isn't put off.
+pub fn the_wait_ends_in_a_recovery()
+    ensures never_longer { (r : RoundTripValue) (quarters : ℕ) → late_wait r quarters ≤ srtt r }
+    ensures quarter { late_wait (trips 40_000 44_000) 1 ≡ 10_000 }
+    ensures three { late_wait (trips 40_000 44_000) 3 ≡ 30_000 }
+    ensures most { late_wait (trips 40_000 44_000) 16 ≡ 44_000 }
+    ensures ends { (b : Block) (count : ℕ) (now : ℤ) (between : List Between) (at : ℤ) → IsMissing b count → AreBefore (late_moment b now) between
+        → late_moment b now ≤ℤ at → sends_text (with_all between (counted b count now)).state ≡ true
+        → (with_all between (counted b count now)).sender.syn_unacked ≡ false
+        → ((with_all between (counted b count now)).sender.in_flight == 0) ≡ false
+        → ((loss_probed_by at (with_all between (counted b count now))).sender.resend ≡ true)
+        × ((loss_probed_by at (with_all between (counted b count now))).sender.recover ≡ past_top (with_all between (counted b count now)))
+        × ((loss_probed_by at (with_all between (counted b count now))).reno
+        ≡ reduced (with_all between (counted b count now)).reno (with_all between (counted b count now)).sender.in_flight)
+        × ((loss_probed_by at (with_all between (counted b count now))).loss.late_until ≡ None) }
+{}
+
+/// Where nothing came late nothing is waited for: a recovery begins where RFC 6675 begins it. And nothing came late where SND.UNA rises over
+/// all that is held, or over what went again.
+pub fn nothing_waits_where_nothing_came_late()
+    ensures begins { (b : Block) (count : ℕ) → b.loss.patience ≡ 0 → begins_recovery b count ≡ (is_missed b count || is_lost_since b) }
+    ensures stays { (b : Block) (count : ℕ) (now : ℤ) → b.loss.patience ≡ 0 → (counted b count now).loss.late_until ≡ b.loss.late_until }
+    ensures in_order { (l : Loss) (by : ℕ) (partial : Bool) → is_empty l.board.runs ≡ true → (loss_lowered l by partial).patience ≡ l.patience }
+    ensures again { (l : Loss) (by : ℕ) (partial : Bool) → (l.mark == 0) ≡ false → (loss_lowered l by partial).patience ≡ l.patience }
+    ensures went { (b : Block) (o : OpenOffer) (queued : ℕ) → (sent_as Kind.FastRetransmission b o queued).loss.mark ≡ b.sender.top }
+    ensures out { (b : Block) → (backed_off_now b).loss.mark ≡ b.sender.top }
+    ensures late { (l : Loss) (by : ℕ) (partial : Bool) → l.mark ≡ 0 → is_empty l.board.runs ≡ false → 1 ≤ (loss_lowered l by partial).patience }
+{}
