@@ -1,4 +1,4 @@
--- An acknowledgement that comes raises SND.UNA to its number.
+-- An acknowledgement that comes raises SND.UNA to its number, and leaves nothing unanswered.
 use Rattle.std.proofs.Common.{◌≡◌, inl, inr, ℕ, ◌+◌, ◌-◌, ◌%◌, ◌^◌, ◌<◌, ◌≤◌, ◌==◌, ◌&&◌, ◌||◌, nat_le, nat_lt, not, ℤ, Bool, true, false, if◌then◌else◌, List}
 use Rattle.std.proofs.Common.{length, drop, Option, Some, None, refl, sym, ap, ◌∙◌, subst, arith}
 use Rattle.std.proofs.lemmas.Bool.{cond_both, le-ltb, lt-ltb, lt-leb}
@@ -119,6 +119,12 @@ comes_to cx v ip header bytes number c =
 
 -- WHAT KEEPS SND.UNA
 
+-- SND.UNA is this number, and neither a timeout nor a question is unanswered
+record IsTold (number : SeqNumber) (s : Sender) : Type 0 where
+  una : s.una ≡ number
+  timeouts : s.timeouts ≡ 0
+  unanswered : s.unanswered ≡ 0
+
 module _ (cx : ContextValue) (ip : IpRepr) (header : TcpHeader) where
   answer_keeps : (v : TcpValue) (size : ℕ) (fills : Bool) (early : Option ℕ) → (answer_for cx v ip header size fills early).socket.block.sender ≡ v.block.sender
   answer_keeps v size fills None = refl
@@ -158,9 +164,11 @@ module _ (cx : ContextValue) (ip : IpRepr) (header : TcpHeader) where
       (length bytes) t.fills t.early
       ∙ (fin_keeps t.socket.block v.block (length bytes) t.advance cx.moment ∙ text_keeps v bytes)
 
-  told_keeps : (v : TcpValue) (duplicates : ℕ) (now : ℤ) → (told v header duplicates now).block.sender.una ≡ v.block.sender.una
-  told_keeps v duplicates now =
-      cond_both (names_window v.block header) (windowed v.block header) v.block (λ (b : Block). b.sender.una ≡ v.block.sender.una) (λ _. refl) (λ _. refl)
+  told_keeps : (una : SeqNumber) (v : TcpValue) (duplicates : ℕ) (now : ℤ) → IsTold una v.block.sender → IsTold una (told v header duplicates now).block.sender
+  told_keeps una v duplicates now t =
+      let it =
+      cond_both (names_window v.block header) (windowed v.block header) v.block (λ (b : Block). IsTold una b.sender) (λ _. t) (λ _. t) in
+      record { una = it.una; timeouts = it.timeouts; unanswered = it.unanswered }
 
   drawn_keeps : (v : TcpValue) → (drawn cx v ip header).socket.block.sender ≡ v.block.sender
   drawn_keeps v =
@@ -170,15 +178,20 @@ module _ (cx : ContextValue) (ip : IpRepr) (header : TcpHeader) where
 
 -- IT IS TAKEN
 
-pub moves_una : (u : TcpValue) (by : ℕ) (now : ℤ) → (acknowledged u by now).block.sender.una ≡ behind_by u.block.sender.una by
-moves_una u by now = acked_cases u by now (λ (w : TcpValue). w.block.sender.una ≡ behind_by u.block.sender.una by) (λ _. refl) (λ _. refl)
+moves_una : (u : TcpValue) (by : ℕ) (now : ℤ) → IsTold (behind_by u.block.sender.una by) (acknowledged u by now).block.sender
+moves_una u by now =
+    acked_cases u by now (λ (w : TcpValue). IsTold (behind_by u.block.sender.una by) w.block.sender)
+    (λ _. record { una = refl; timeouts = refl; unanswered = refl }) (λ _. record { una = refl; timeouts = refl; unanswered = refl })
 
 back_again : (una n : ℕ) → una < 2 ^ 32 → n < 2 ^ 32 → (una + (n + (2 ^ 32 - una)) % 2 ^ 32) % 2 ^ 32 ≡ n
 back_again una n e f = omega arith
 
 module _ (cx : ContextValue) (u : TcpValue) (ip : IpRepr) (header : TcpHeader) (bytes : List ℕ) (by : ℕ) where
+  abbrev number : SeqNumber
+  number = behind_by u.block.sender.una by
+
   abbrev Moved : Arrived → Type 0
-  Moved a = a.socket.block.sender.una ≡ behind_by u.block.sender.una by
+  Moved a = IsTold number a.socket.block.sender
 
   moved_taken : Moved (taken cx u ip header bytes by)
   moved_taken =
@@ -188,8 +201,8 @@ module _ (cx : ContextValue) (u : TcpValue) (ip : IpRepr) (header : TcpHeader) (
       (with_content cx (told w header (duplicates_after u.block header (length bytes) by) cx.moment) ip header bytes) Moved
       (λ _. moves_una heard_of by cx.moment)
       (λ _.
-      ap (λ (s : Sender). s.una) (content_keeps cx ip header (told w header (duplicates_after u.block header (length bytes) by) cx.moment) bytes)
-      ∙ (told_keeps cx ip header w (duplicates_after u.block header (length bytes) by) cx.moment ∙ moves_una heard_of by cx.moment))
+      subst (IsTold number) (sym (content_keeps cx ip header (told w header (duplicates_after u.block header (length bytes) by) cx.moment) bytes))
+      (told_keeps cx ip header number w (duplicates_after u.block header (length bytes) by) cx.moment (moves_una heard_of by cx.moment)))
 
   moved_outside : (again : Bool) → Moved (outside cx (acknowledged (echo_heard u header by cx.moment) by cx.moment) ip header again)
   moved_outside again =
@@ -199,7 +212,7 @@ module _ (cx : ContextValue) (u : TcpValue) (ip : IpRepr) (header : TcpHeader) (
       cond_both (is_closed w.block.state) (dropped w) (if again then acked cx x ip header no_ranges else drawn cx x ip header) Moved
       (λ _. moves_una heard_of by cx.moment)
       (λ _. cond_both again (acked cx x ip header no_ranges) (drawn cx x ip header) Moved (λ _. moves_una heard_of by cx.moment)
-      (λ _. ap (λ (s : Sender). s.una) (drawn_keeps cx ip header x) ∙ moves_una heard_of by cx.moment))
+      (λ _. subst (IsTold number) (sym (drawn_keeps cx ip header x)) (moves_una heard_of by cx.moment)))
 
   moved_checked : is_syn header.control ≡ false → is_answering u.block.state ≡ false → IsNearWindow u header (length bytes) →
       Moved (checked (Passes by) cx u ip header bytes)
@@ -222,11 +235,29 @@ module _ (cx : ContextValue) (u : TcpValue) (ip : IpRepr) (header : TcpHeader) (
           again : Bool
           again = has_length header (length bytes)
 
+told_of :
+    (cx : ContextValue) (v : TcpValue) (ip : IpRepr) (header : TcpHeader) (bytes : List ℕ) (number : SeqNumber) → Counts v.block header number
+    → IsNearWindow v header (length bytes)
+    → IsTold (behind_by v.block.sender.una (distance_of v.block.sender.una number)) (arrives cx v ip header bytes).socket.block.sender
+told_of cx v ip header bytes number c there =
+    subst (λ (a : Arrived). IsTold (behind_by v.block.sender.una (distance_of v.block.sender.una number)) a.socket.block.sender)
+    (sym (comes_to cx v ip header bytes number c))
+    (moved_checked cx (unoffered v) ip header bytes (distance_of v.block.sender.una number) c.no_syn (not_answering v.block.state c.synchronized) there)
+
 pub una_rises :
     (cx : ContextValue) (v : TcpValue) (ip : IpRepr) (header : TcpHeader) (bytes : List ℕ) (number : SeqNumber) → Counts v.block header number
     → IsNearWindow v header (length bytes) → (arrives cx v ip header bytes).socket.block.sender.una.0 ≡ number.0
 una_rises cx v ip header bytes number c there =
-    ap (λ (a : Arrived). a.socket.block.sender.una.0) (comes_to cx v ip header bytes number c)
-    ∙ (ap (λ (s : SeqNumber). s.0)
-    (moved_checked cx (unoffered v) ip header bytes (distance_of v.block.sender.una number) c.no_syn (not_answering v.block.state c.synchronized) there)
-    ∙ back_again v.block.sender.una.0 number.0 c.una_small c.number_small)
+    ap (λ (s : SeqNumber). s.0) (told_of cx v ip header bytes number c there).una
+    ∙ back_again v.block.sender.una.0 number.0 c.una_small c.number_small
+
+-- neither a timeout nor a question is unanswered
+pub record IsHeard (s : Sender) : Type 0 where
+  pub timeouts : s.timeouts ≡ 0
+  pub unanswered : s.unanswered ≡ 0
+
+pub none_unanswered :
+    (cx : ContextValue) (v : TcpValue) (ip : IpRepr) (header : TcpHeader) (bytes : List ℕ) (number : SeqNumber) → Counts v.block header number
+    → IsNearWindow v header (length bytes) → IsHeard (arrives cx v ip header bytes).socket.block.sender
+none_unanswered cx v ip header bytes number c there =
+    let it = told_of cx v ip header bytes number c there in record { timeouts = it.timeouts; unanswered = it.unanswered }

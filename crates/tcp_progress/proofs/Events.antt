@@ -19,7 +19,7 @@ use Rattle.tcp_pair_model.specs.Steps.{Steps, happens, acts, acting, reads, set_
 use Rattle.tcp_pair_model.specs.Values.{PairSide, PairValue, context_at}
 use Rattle.tcp_rules.specs.Events.{Event, after}
 use Rattle.tcp_rules.specs.Events.Event.{Comes, Asked, Listens, Connects, Sends, Reads, Closes, Aborts, Sets}
-use Rattle.tcp_rules.specs.Events.Setting.{Timeout, KeepAlive, AckDelay, Nagle, HopLimit, Timestamps, Paused, Retries, Congestion, MinRto}
+use Rattle.tcp_rules.specs.Events.Setting.{Timeout, KeepAlive, AckDelay, Nagle, HopLimit, Timestamps, Paused, Retries, Congestion, MinRto, FineTimer}
 
 -- both sockets of a pair are so
 pub record BothAre (P : TcpValue → Type 0) (both : Both PairSide) : Type 0 where
@@ -46,6 +46,7 @@ module _ (P : TcpValue → Type 0) (keeps : (v : TcpValue) (it : Event) → P v 
   by_setting (Set.PauseSynack paused) v p = keeps v (Sets (Paused paused)) p
   by_setting (Set.Retries limit) v p = keeps v (Sets (Retries limit)) p
   by_setting (Set.MinRto duration) v p = keeps v (Sets (MinRto duration)) p
+  by_setting (Set.FineTimer fine) v p = keeps v (Sets (FineTimer fine)) p
 
   by_delivery : (side : Side) (s : PairSide) (x : Option SentSegment) → P s.socket → P (handed side s x).socket
   by_delivery side s None p = p

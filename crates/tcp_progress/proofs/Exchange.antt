@@ -38,7 +38,7 @@ use Rattle.tcp_progress.specs.Arrivals.{is_synchronized, Counts, IsNearWindow, I
 use Rattle.tcp_progress.specs.Exchange.{CanHear, FitsBuffer, IsOpen, TookWhatWasSent, HasSpace, text_of, GoesFromUna, offer_comes}
 use Rattle.tcp_progress.specs.Exchange.{MayExchange, MayReach, MovesOn, left_of, IsTaken, IsTold, HasMoved}
 use Rattle.tcp_progress.specs.Positions.{LiesWithin}
-use Rattle.tcp_progress.proofs.Acked.{una_rises}
+use Rattle.tcp_progress.proofs.Acked.{IsHeard, none_unanswered, una_rises}
 use Rattle.tcp_progress.proofs.Left.{left_same, lowered}
 use Rattle.tcp_progress.proofs.Offered.{GoesOut, StaysBut, goes_out_of, goes_from_una}
 use Rattle.tcp_progress.proofs.Positions.{IsPlaced, placed, lies_within, whole_taken, una_small, next_small}
@@ -379,17 +379,23 @@ module _ (cx cy cz : ContextValue) (v w : TcpValue) (p q : Past) (k : Keeps v p 
   l : LiesWithin v w k.side k.partner
   l = lies_within v w p q k may.own.synchronized may.theirs.synchronized step
 
-  -- either way the partner knows of all that the side took
+  new_or_old : IsNew w o.segment (length bytes) ⊎ IsAgain w o.segment (length bytes)
+  new_or_old =
+      new_or_again v w p q k o.segment (length bytes) may.own.synchronized may.theirs.synchronized step goes.number may.some goes.ends may.room fits
+
+  there : IsNearWindow w o.segment (length bytes)
+  there = near new_or_old where
+    near : IsNew w o.segment (length bytes) ⊎ IsAgain w o.segment (length bytes) → IsNearWindow w o.segment (length bytes)
+    near (inl new) = inl (new_is_inside w o.segment (length bytes) new)
+    near (inr again) = inr (again_lies_before w o.segment (length bytes) again)
+
+  -- either way the partner knows of all that the side took, and has asked for nothing since
   pub heard_all : came.socket.block.sender.una ≡ v.block.receiver.next
   heard_all =
-      same_number came.socket.block.sender.una v.block.receiver.next
-      (una_rises cy w o.header o.segment bytes v.block.receiver.next counts
-      (near
-      (new_or_again v w p q k o.segment (length bytes) may.own.synchronized may.theirs.synchronized step goes.number may.some goes.ends may.room fits)))
-    where
-      near : IsNew w o.segment (length bytes) ⊎ IsAgain w o.segment (length bytes) → IsNearWindow w o.segment (length bytes)
-      near (inl new) = inl (new_is_inside w o.segment (length bytes) new)
-      near (inr again) = inr (again_lies_before w o.segment (length bytes) again)
+      same_number came.socket.block.sender.una v.block.receiver.next (una_rises cy w o.header o.segment bytes v.block.receiver.next counts there)
+
+  pub heard_none : IsHeard came.socket.block.sender
+  heard_none = none_unanswered cy w o.header o.segment bytes v.block.receiver.next counts there
 
   module _ (again : IsAgain w o.segment (length bytes)) (r : IsAnswered w came) (room_for : CanHear v w) where
     abbrev heard_back : TcpValue
@@ -443,6 +449,9 @@ module _ (cx cy cz : ContextValue) (v w : TcpValue) (p q : Past) (k : Keeps v p 
     answer_counts =
         counts_for gone w after q kept r.reply.segment mine may.theirs.synchronized sent (ap is_syn r.plain) (ap is_rst r.plain) fresh
         r.acknowledges
+
+    told_none : IsHeard heard_back.block.sender
+    told_none = none_unanswered cz gone r.reply.header r.reply.segment [] w.block.receiver.next answer_counts (inl inside)
 
     told : IsTold cx cz v w came
     told = record {
@@ -498,29 +507,36 @@ module _ (cx cy cz : ContextValue) (v w : TcpValue) (p q : Past) (k : Keeps v p 
       };
     }
 
-  -- whether or not the side hears of it
-  pub outcome :
-      IsTaken cy w o.segment (length bytes) came
-      ⊎ (IsPassed w o.segment (length bytes) came ⊎ EndsLastAck w came)
-  outcome =
-      by
-      (new_or_again v w p q k o.segment (length bytes) may.own.synchronized may.theirs.synchronized step goes.number may.some goes.ends may.room
-      fits)
-    where
-      answered :
-          IsAgain w o.segment (length bytes) → EndsLastAck w came ⊎ IsAnswered w came
-          → IsTaken cy w o.segment (length bytes) came ⊎ (IsPassed w o.segment (length bytes) came ⊎ EndsLastAck w came)
-      answered again (inl ends) = inr (inr ends)
-      answered again (inr r) = inr (inl (record { again = again; answer = r }))
+  -- it was new, and was taken
+  pub record WasNew : Type 0 where
+    pub new : IsNew w o.segment (length bytes)
+    pub taken : IsTaken cy w o.segment (length bytes) came
+    pub same : taken.rises.by ≡ taken.next.by
 
-      by :
-          IsNew w o.segment (length bytes) ⊎ IsAgain w o.segment (length bytes)
-          → IsTaken cy w o.segment (length bytes) came ⊎ (IsPassed w o.segment (length bytes) came ⊎ EndsLastAck w came)
-      by (inl new) = inl (is_taken (next_rises cy w o.header o.segment bytes v.block.receiver.next counts new))
-      by (inr again) = answered again (again_answered cy w o.header o.segment bytes v.block.receiver.next counts again)
+  was_new : IsNew w o.segment (length bytes) → WasNew
+  unfolding is_taken
+  was_new new = record { new = new; taken = is_taken (next_rises cy w o.header o.segment bytes v.block.receiver.next counts new); same = refl }
+
+  -- whether or not the side hears of it
+  pub outcome : WasNew ⊎ (IsPassed w o.segment (length bytes) came ⊎ EndsLastAck w came)
+  outcome = by new_or_old where
+    answered : IsAgain w o.segment (length bytes) → EndsLastAck w came ⊎ IsAnswered w came →
+        WasNew ⊎ (IsPassed w o.segment (length bytes) came ⊎ EndsLastAck w came)
+    answered again (inl ends) = inr (inr ends)
+    answered again (inr r) = inr (inl (record { again = again; answer = r }))
+
+    by : IsNew w o.segment (length bytes) ⊎ IsAgain w o.segment (length bytes) →
+        WasNew ⊎ (IsPassed w o.segment (length bytes) came ⊎ EndsLastAck w came)
+    by (inl new) = inl (was_new new)
+    by (inr again) = answered again (again_answered cy w o.header o.segment bytes v.block.receiver.next counts again)
 
   pub told_of : CanHear v w → IsPassed w o.segment (length bytes) came → IsTold cx cz v w came
   told_of space passed = told passed.again passed.answer space
+
+  -- and then nothing is unanswered
+  pub answered_none : CanHear v w → (passed : IsPassed w o.segment (length bytes) came) →
+      IsHeard (arrives cz gone passed.answer.reply.header passed.answer.reply.segment []).socket.block.sender
+  answered_none space passed = told_none passed.again passed.answer space
 
 pub goes_on :
     (cx cy cz : ContextValue) (v w : TcpValue) (p q : Past) (k : Keeps v p w q) (o : OpenOffer) → IsInStep k.side k.partner → TookWhatWasSent v w
@@ -530,9 +546,9 @@ goes_on cx cy cz v w p q k o step sent fits heard may = by (outcome cx cy cz v w
   reach = reach_of cx cy v w o may
 
   by :
-      IsTaken cy w o.segment (length (text_of v o)) (offer_comes cy w v o)
+      WasNew cx cy cz v w p q k o step sent fits heard reach
       ⊎ (IsPassed w o.segment (length (text_of v o)) (offer_comes cy w v o) ⊎ EndsLastAck w (offer_comes cy w v o))
       → HasMoved cx cy cz v w o
-  by (inl taken) = inl taken
+  by (inl it) = inl it.taken
   by (inr (inl passed)) = inr (inl (told_of cx cy cz v w p q k o step sent fits heard reach may.space passed))
   by (inr (inr ends)) = inr (inr ends)

@@ -2,7 +2,6 @@
 use Rattle.std.proofs.Common.{◌≡◌, ◌⊎◌, inl, inr, ℕ, zero, suc, ◌+◌, ◌-◌, ◌/◌, ◌<◌, ◌≤◌, ◌==◌, ◌&&◌, ◌||◌, nat_le, nat_lt, not, min, max, ℤ, Bool, true, false}
 use Rattle.std.proofs.Common.{if◌then◌else◌, Option, Some, None, is_none, is_some, refl, sym, ap, ◌∙◌, subst, arith}
 use Rattle.std.proofs.lemmas.Bool.{eq-eqb, le-leb, lt-ltb, ltb-true, ltb-false, ne_eqb}
-use Rattle.net_base.specs.Ring.{until_end}
 use Rattle.tcp_tie.specs.Context.{ContextValue}
 use Rattle.tcp_tie.specs.Offers.{Offered}
 use Rattle.tcp_tie.proofs.Tied.{if_so, if_not}
@@ -18,7 +17,7 @@ use Rattle.tcp_pair_model.specs.LossRecovery.{loss_probe_moment, loss_probed, lo
 use Rattle.tcp_pair_model.specs.Offers.{backed_off, first_rules, last_rules, offer_choice, offer_held_back, offer_of, offer_syn}
 use Rattle.tcp_pair_model.specs.Probing.{is_probe_unset, is_probing, is_window_small, probe_moment, probe_started}
 use Rattle.tcp_pair_model.specs.Rules.{Choice, backed_off_now, congestion_limit, congestion_room, fills_enough, has_text, is_sendable, may_be_small}
-use Rattle.tcp_pair_model.specs.Rules.{next_place, owes_syn, probe_choice, ready, resend_choice, resends, text_choice, unbroken, window_limit}
+use Rattle.tcp_pair_model.specs.Rules.{next_place, owes_syn, probe_choice, resend_choice, resends, text_choice, window_limit}
 use Rattle.tcp_pair_model.specs.Value.{TcpValue, queued_in, unoffered, with_block}
 use Rattle.tcp_model.specs.declared.block.CongestionControl.{CongestionControl}
 use Rattle.tcp_model.specs.declared.block.CongestionControl.TheVariants as Congestion
@@ -45,11 +44,11 @@ some_not n e = ap not (ne_eqb n 0 (never n e)) where
 -- THE WINDOWS
 
 -- what both windows leave
-abbrev widest : CongestionControl → ℕ → ℕ → ℕ
+abbrev pub widest : CongestionControl → ℕ → ℕ → ℕ
 widest Congestion.None most window = window
 widest other most window = min most window
 
-abbrev most_of : Block → ℕ
+abbrev pub most_of : Block → ℕ
 most_of b = widest b.settings.congestion_control (congestion_room b) (b.peer.window - b.sender.in_flight)
 
 limit_is : (b : Block) (size : ℕ) → window_limit b size ≡ min (most_of b) size
@@ -79,20 +78,17 @@ module _ (cx : ContextValue) (v : TcpValue) (pair : EndpointPair) (b : Block) (s
   abbrev all : ℕ
   all = queued_in v
 
-  abbrev text : Choice
+  abbrev pub text : Choice
   text = text_choice b pair.addresses cx.ip_mtu v.queued
 
-  abbrev full : ℕ
+  abbrev pub full : ℕ
   full = limit cx v pair b s
 
-  at_una : next_place b ≡ 0
+  pub at_una : next_place b ≡ 0
   at_una = first cx v pair b s
 
-  len_is : text.len ≡ min (most_of b) (min full (unbroken v.queued (next_place b)))
-  len_is = limit_is b (min full (unbroken v.queued (next_place b)))
-
-  ready_is : ready b full all ≡ min (most_of b) (min full (all - next_place b))
-  ready_is = limit_is b (min full (all - next_place b))
+  pub len_is : text.len ≡ min (most_of b) (min full (all - next_place b))
+  len_is = limit_is b (min full (all - next_place b))
 
   -- WHAT MAY GO
 
@@ -106,12 +102,12 @@ module _ (cx : ContextValue) (v : TcpValue) (pair : EndpointPair) (b : Block) (s
       three.1
     where
       rest : Bool
-      rest = nat_le full (ready b full all) || (may_be_small b && fills_enough b all (ready b full all))
+      rest = nat_le full text.len || (may_be_small b && fills_enough b all text.len)
 
-      behind : (len : ℕ) → 1 ≤ len → len ≡ min (most_of b) (min full (unbroken v.queued (next_place b))) → 1 ≤ all
-      behind len some is = by len (most_of b) full all (next_place b) (until_end v.queued (next_place b)) some is where
-        by : (len most full all place ends : ℕ) → 1 ≤ len → len ≡ min most (min full (min (all - place) ends)) → 1 ≤ all
-        by len most full all place ends e f = omega arith
+      behind : (len : ℕ) → 1 ≤ len → len ≡ min (most_of b) (min full (all - next_place b)) → 1 ≤ all
+      behind len some is = by len (most_of b) full all (next_place b) some is where
+        by : (len most full all place : ℕ) → 1 ≤ len → len ≡ min most (min full (all - place)) → 1 ≤ all
+        by len most full all place e f = omega arith
 
   goes_text : has_text b pair.addresses cx.ip_mtu v.queued ≡ true →
       SendsOut cx v (offer_choice Kind.Text cx (with_block (unoffered v) b) pair text)
@@ -147,49 +143,49 @@ module _ (cx : ContextValue) (v : TcpValue) (pair : EndpointPair) (b : Block) (s
           both (owes_fin b.state) (next_place b + text.len == all) (fin_owed cx v pair b s none)
           (eq-eqb (next_place b + text.len) all
           (ap (λ (len : ℕ). next_place b + len) len_is
-          ∙ nothing (most_of b) full all (next_place b) (until_end v.queued (next_place b)) none at_una))
+          ∙ nothing (most_of b) full all (next_place b) none at_una))
         where
-          nothing : (most full all place ends : ℕ) → all ≡ 0 → place ≡ 0 → place + min most (min full (min (all - place) ends)) ≡ all
-          nothing most full all place ends e f = omega arith
+          nothing : (most full all place : ℕ) → all ≡ 0 → place ≡ 0 → place + min most (min full (all - place)) ≡ all
+          nothing most full all place e f = omega arith
 
       some_text : 1 ≤ all → 1 ≤ text.len
       some_text some =
           subst (λ (n : ℕ). 1 ≤ n) (sym len_is)
-          (by (most_of b) all half (min full (unbroken v.queued (next_place b))) some wide (some_len cx v pair b s some))
+          (by (most_of b) all half (min full (all - next_place b)) some wide (some_len cx v pair b s some))
         where
           by : (most all half piece : ℕ) → 1 ≤ all → min all (max 1 half) ≤ min most all → 1 ≤ piece → 1 ≤ min most piece
           by most all half piece e f g = omega arith
 
-      worth : 1 ≤ all → (nat_le full (ready b full all) || (may_be_small b && fills_enough b all (ready b full all))) ≡ true
-      worth some = by (nat_lt (ready b full all) full) refl where
-        enough : ready b full all < full → fills_enough b all (ready b full all) ≡ true
+      worth : 1 ≤ all → (nat_le full text.len || (may_be_small b && fills_enough b all text.len)) ≡ true
+      worth some = by (nat_lt text.len full) refl where
+        enough : text.len < full → fills_enough b all text.len ≡ true
         enough less = at (nat_lt (most_of b) all) refl where
-          at : (test : Bool) → nat_lt (most_of b) all ≡ test → fills_enough b all (ready b full all) ≡ true
+          at : (test : Bool) → nat_lt (most_of b) all ≡ test → fills_enough b all text.len ≡ true
           at true e =
-              or_right (next_place b + ready b full all == all) (nat_le half (ready b full all))
-              (le-leb half (ready b full all)
-              (large (most_of b) all half full (ready b full all) (next_place b) wide (ltb-true (most_of b) all e) ready_is at_una less))
+              or_right (next_place b + text.len == all) (nat_le half text.len)
+              (le-leb half text.len
+              (large (most_of b) all half full text.len (next_place b) wide (ltb-true (most_of b) all e) len_is at_una less))
             where
               large :
                   (most all half full ready place : ℕ) → min all (max 1 half) ≤ min most all → most < all
                   → ready ≡ min most (min full (all - place)) → place ≡ 0 → ready < full → half ≤ ready
               large most all half full ready place a b c d e = omega arith
           at false e =
-              or_left (next_place b + ready b full all == all) (nat_le half (ready b full all))
-              (eq-eqb (next_place b + ready b full all) all
-              (whole (most_of b) all full (ready b full all) (next_place b) (ltb-false (most_of b) all e) ready_is at_una less))
+              or_left (next_place b + text.len == all) (nat_le half text.len)
+              (eq-eqb (next_place b + text.len) all
+              (whole (most_of b) all full text.len (next_place b) (ltb-false (most_of b) all e) len_is at_una less))
             where
               whole : (most all full ready place : ℕ) → all ≤ most → ready ≡ min most (min full (all - place)) → place ≡ 0 → ready < full → place + ready ≡ all
               whole most all full ready place a b c d = omega arith
 
-        by : (less : Bool) → nat_lt (ready b full all) full ≡ less →
-            (nat_le full (ready b full all) || (may_be_small b && fills_enough b all (ready b full all))) ≡ true
+        by : (less : Bool) → nat_lt text.len full ≡ less →
+            (nat_le full text.len || (may_be_small b && fills_enough b all text.len)) ≡ true
         by true e =
-            or_right (nat_le full (ready b full all)) _
-            (both (may_be_small b) (fills_enough b all (ready b full all))
+            or_right (nat_le full text.len) _
+            (both (may_be_small b) (fills_enough b all text.len)
             (or_right (not b.settings.nagle) (b.sender.in_flight == 0) (eq-eqb b.sender.in_flight 0 s.none))
-            (enough (ltb-true (ready b full all) full e)))
-        by false e = or_left (nat_le full (ready b full all)) _ (le-leb full (ready b full all) (ltb-false (ready b full all) full e))
+            (enough (ltb-true text.len full e)))
+        by false e = or_left (nat_le full text.len) _ (le-leb full text.len (ltb-false text.len full e))
 
       sendable : (n : ℕ) → all ≡ n → is_sendable b all full text ≡ true
       sendable zero e = or_left text.fin _ (fin_alone e)
@@ -235,7 +231,7 @@ module _ (cx : ContextValue) (v : TcpValue) (pair : EndpointPair) (b : Block) (s
         (some_goes text v.queued.queue at_una
         (inr (
           subst (λ (n : ℕ). 1 ≤ n) (sym len_is)
-              (by (most_of b) (min full (unbroken v.queued (next_place b))) (most_some b s.none window cwnd) (some_len cx v pair b s some)),
+              (by (most_of b) (min full (all - next_place b)) (most_some b s.none window cwnd) (some_len cx v pair b s some)),
           some,
         )))
       where

@@ -40,5 +40,11 @@ pub mod WindowSteps
 pub mod WindowPairs
 pub mod Calm
 pub mod Ways
+pub mod Roused
 pub mod Turns
 pub mod Talks
+pub mod Spoken
+pub mod Hears
+pub mod Patient
+pub mod Updates
+pub mod Joins

@@ -443,6 +443,7 @@ module _ (s : PairSide) (w : TcpValue) (p q : Past) (others : List SentSegment) 
   sets (Set.PauseSynack paused) = kept (set_by (Set.PauseSynack paused) s.socket) p.opening refl (inl refl)
   sets (Set.Retries limit) = kept (set_by (Set.Retries limit) s.socket) p.opening refl (inl refl)
   sets (Set.MinRto duration) = kept (set_by (Set.MinRto duration) s.socket) p.opening refl (inl refl)
+  sets (Set.FineTimer fine) = kept (set_by (Set.FineTimer fine) s.socket) p.opening refl (inl refl)
 
   comes_to_it : (side : Side) (n : ℕ) (x : Option SentSegment) → slice_get others n ≡ x → DirectsTo (handed side s x) p.opening
   comes_to_it side n None e = kept s.socket p.opening refl (inl refl)

@@ -39,7 +39,7 @@ use Rattle.tcp_rules.proofs.OrderRules.{event_order, new_order}
 use Rattle.tcp_rules.proofs.OrderSteps.{clash}
 use Rattle.tcp_rules.specs.Events.{Event, after, is_past}
 use Rattle.tcp_rules.specs.Events.Event.{Comes, Asked, Listens, Connects, Sends, Reads, Closes, Aborts, Sets}
-use Rattle.tcp_rules.specs.Events.Setting.{Timeout, KeepAlive, AckDelay, Nagle, HopLimit, Timestamps, Paused, Retries, Congestion, MinRto}
+use Rattle.tcp_rules.specs.Events.Setting.{Timeout, KeepAlive, AckDelay, Nagle, HopLimit, Timestamps, Paused, Retries, Congestion, MinRto, FineTimer}
 use Rattle.tcp_rules.specs.InOrder.{sending_of, IsInOrder}
 use Rattle.tcp_progress.specs.Arrivals.{is_synchronized}
 use Rattle.tcp_progress.specs.Exchange.{IsOpen}
@@ -231,6 +231,7 @@ event_counts v (Sets (Paused paused)) order n = n
 event_counts v (Sets (Retries limit)) order n = n
 event_counts v (Sets (Congestion control)) order n = n
 event_counts v (Sets (MinRto duration)) order n = n
+event_counts v (Sets (FineTimer fine)) order n = n
 
 record HasCounted (v : TcpValue) : Type 0 where
   order : IsInOrder (sending_of v)

@@ -53,7 +53,7 @@ use Rattle.tcp_progress.specs.Rounds.{comes}
 use Rattle.tcp_progress.specs.Reached.{IsReached}
 use Rattle.tcp_progress.specs.Sent.{is_early}
 use Rattle.tcp_progress.proofs.Closes.{bare_still, closes_last}
-use Rattle.tcp_progress.proofs.Exchange.{IsPassed, heard_all, last_of, outcome, reach_of, told_of}
+use Rattle.tcp_progress.proofs.Exchange.{IsPassed, WasNew, heard_all, last_of, outcome, reach_of, told_of}
 use Rattle.tcp_progress.proofs.Kept.{reached_keeps}
 use Rattle.tcp_progress.proofs.Left.{left_same}
 use Rattle.tcp_progress.proofs.Mirrored.{mirrored_in}
@@ -174,10 +174,10 @@ module _ (side : Side) (s r : PairSide) (moment : ℤ) where
       ⊎ ((r.socket.block.state ≡ In.LastAck) × (is_closed partner_after.socket.block.state ≡ true)))
 
   module _ (m : AreMirrored s.socket.block r.socket.block) (o : OpenOffer) (may : MayReach cx cy s.socket r.socket o) where
-    out : GoesOut s.socket (offer_of cx s.socket).socket o
+    pub out : GoesOut s.socket (offer_of cx s.socket).socket o
     out = goes_out_of cx s.socket o may.own.acknowledged may.offered may.kind
 
-    abbrev came : Arrived
+    abbrev pub came : Arrived
     came = offer_comes cy r.socket s.socket o
 
     abbrev pub first : SentSegment
@@ -189,7 +189,7 @@ module _ (side : Side) (s r : PairSide) (moment : ℤ) where
         ap (λ (x : Option OpenOffer). slice_get (and_offer s.sent x (offer_of cx s.socket).socket.queued.queue) (length s.sent)) may.offered
         ∙ (ap (λ (queued : Ring ℕ). slice_get (and_offer s.sent (Some o) queued.queue) (length s.sent)) out.queued ∙ last_of s.sent first)
 
-    reaches : partner_after ≡ taken_at r came
+    pub reaches : partner_after ≡ taken_at r came
     reaches =
         ap (λ (x : Option SentSegment). handed (other side) r x) sent
         ∙ if_so (accepts r.socket.block o.header o.segment) (taken_at r came) r
@@ -202,7 +202,7 @@ module _ (side : Side) (s r : PairSide) (moment : ℤ) where
     second reply = record { header = reply.header; segment = reply.segment; bytes = [] }
 
     -- and the answer is the next of the other
-    back : (reply : Reply) → came.answer ≡ Some reply →
+    pub back : (reply : Reply) → came.answer ≡ Some reply →
         side_after.socket ≡ (arrives cx asked_side.socket reply.header reply.segment []).socket
     back reply answer =
         ap (λ (x : Option SentSegment). (handed side asked_side x).socket) found
@@ -221,7 +221,7 @@ module _ (side : Side) (s r : PairSide) (moment : ℤ) where
                 slice_get (and_reply r.sent came.answer) (length r.sent)
             drawn draws = refl
 
-    none_answered : came.answer ≡ None → length partner_after.sent - length r.sent ≡ 0
+    pub none_answered : came.answer ≡ None → length partner_after.sent - length r.sent ≡ 0
     none_answered none =
         ap (λ (t : PairSide). length t.sent - length r.sent) reaches
         ∙ (ap (λ (x : Option Reply). length (and_reply r.sent x) - length r.sent) none ∙ nothing (length r.sent))
@@ -229,7 +229,7 @@ module _ (side : Side) (s r : PairSide) (moment : ℤ) where
         nothing : (n : ℕ) → n - n ≡ 0
         nothing n = omega arith
 
-    one_answered : (reply : Reply) → came.answer ≡ Some reply → length partner_after.sent - length r.sent ≡ 1
+    pub one_answered : (reply : Reply) → came.answer ≡ Some reply → length partner_after.sent - length r.sent ≡ 1
     one_answered reply one =
         ap (λ (t : PairSide). length t.sent - length r.sent) reaches
         ∙ (ap (λ (x : Option Reply). length (and_reply r.sent x) - length r.sent) one ∙ one_behind r.sent (second reply))
@@ -376,9 +376,10 @@ module _ (side : Side) (s r : PairSide) (moment : ℤ) where
       side_comes {X} which = by which (outcome cx cy cx s.socket r.socket p q k o step theirs_sent fits heard may) where
         by :
             CanHear s.socket r.socket ⊎ X
-            → IsTaken cy r.socket o.segment size came ⊎ (IsPassed r.socket o.segment size came ⊎ EndsLastAck r.socket came)
+            → WasNew cx cy cx s.socket r.socket p q k o step theirs_sent fits heard may
+            ⊎ (IsPassed r.socket o.segment size came ⊎ EndsLastAck r.socket came)
             → Comes X
-        by which (inl taken) = inl (of_taken taken)
+        by which (inl it) = inl (of_taken it.taken)
         by (inl space) (inr (inl passed)) =
             inr (inl (of_told passed (told_of cx cy cx s.socket r.socket p q k o step theirs_sent fits heard may space passed)))
         by (inr x) (inr (inl passed)) = inr (inr (inr (of_passed passed, x)))

@@ -4,7 +4,7 @@ use Rattle.std.proofs.Common.{refl, sym, subst, arith}
 use Rattle.std.proofs.lemmas.Bool.{cond_both}
 use Rattle.std.proofs.lemmas.Int.{ints}
 use Rattle.tcp_rules.specs.Events.Event.{Comes, Asked, Listens, Connects, Sends, Reads, Closes, Aborts, Sets}
-use Rattle.tcp_rules.specs.Events.Setting.{Timeout, KeepAlive, AckDelay, Nagle, HopLimit, Timestamps, Paused, Retries, Congestion, MinRto}
+use Rattle.tcp_rules.specs.Events.Setting.{Timeout, KeepAlive, AckDelay, Nagle, HopLimit, Timestamps, Paused, Retries, Congestion, MinRto, FineTimer}
 use Rattle.tcp_rules.specs.RecvError.{RecvError}
 use Rattle.tcp_pair_model.specs.Arrival.{arrives}
 use Rattle.tcp_pair_model.specs.Calls.{recv_answer}
@@ -65,6 +65,7 @@ by_setting now (Set.CongestionControl control) v h = event_near now v (Sets (Con
 by_setting now (Set.PauseSynack paused) v h = event_near now v (Sets (Paused paused)) tt h
 by_setting now (Set.Retries limit) v h = event_near now v (Sets (Retries limit)) tt h
 by_setting now (Set.MinRto duration) v h = event_near now v (Sets (MinRto duration)) tt h
+by_setting now (Set.FineTimer fine) v h = event_near now v (Sets (FineTimer fine)) tt h
 
 by_delivery : (side : Side) (s : PairSide) (x : Option SentSegment) → NearSide s → NearSide (handed side s x)
 by_delivery side s None h = h

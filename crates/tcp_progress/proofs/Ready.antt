@@ -43,7 +43,7 @@ use Rattle.tcp_rules.proofs.OrderSteps.{clash}
 use Rattle.tcp_rules.proofs.WaitingRules.{names_moment, acts_then}
 use Rattle.tcp_rules.specs.Events.{Event, after, is_past}
 use Rattle.tcp_rules.specs.Events.Event.{Comes, Asked, Listens, Connects, Sends, Reads, Closes, Aborts, Sets}
-use Rattle.tcp_rules.specs.Events.Setting.{Timeout, KeepAlive, AckDelay, Nagle, HopLimit, Timestamps, Paused, Retries, Congestion, MinRto}
+use Rattle.tcp_rules.specs.Events.Setting.{Timeout, KeepAlive, AckDelay, Nagle, HopLimit, Timestamps, Paused, Retries, Congestion, MinRto, FineTimer}
 use Rattle.tcp_rules.specs.Flight.{flight_of, IsArmed}
 use Rattle.tcp_rules.specs.InOrder.{sending_of, IsInOrder}
 use Rattle.tcp_rules.specs.Waiting.{IsWaiting}
@@ -76,6 +76,7 @@ event_armed v (Sets (Paused paused)) a = a
 event_armed v (Sets (Retries limit)) a = a
 event_armed v (Sets (Congestion control)) a = a
 event_armed v (Sets (MinRto duration)) a = a
+event_armed v (Sets (FineTimer fine)) a = a
 event_armed v (Comes cx ip header bytes) a = (arrival_goes cx v ip header bytes).armed a
 event_armed v (Asked cx true) a = (offer_sent_goes cx v).armed a
 event_armed v (Asked cx false) a = (offer_goes cx v).armed a
@@ -267,6 +268,7 @@ event_named v (Sets (Paused paused)) n = n
 event_named v (Sets (Retries limit)) n = n
 event_named v (Sets (Congestion control)) n = n
 event_named v (Sets (MinRto duration)) n = n
+event_named v (Sets (FineTimer fine)) n = n
 
 -- ALL THREE
 

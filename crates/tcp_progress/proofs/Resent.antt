@@ -21,7 +21,7 @@ use Rattle.tcp_rules.specs.EndpointPair.{EndpointPair}
 use Rattle.tcp_rules.specs.Endpoints.{header_for}
 use Rattle.tcp_rules.specs.Events.{Event, after}
 use Rattle.tcp_rules.specs.Events.Event.{Comes, Asked, Listens, Connects, Sends, Reads, Closes, Aborts, Sets}
-use Rattle.tcp_rules.specs.Events.Setting.{Timeout, KeepAlive, AckDelay, Nagle, HopLimit, Timestamps, Paused, Retries, Congestion, MinRto}
+use Rattle.tcp_rules.specs.Events.Setting.{Timeout, KeepAlive, AckDelay, Nagle, HopLimit, Timestamps, Paused, Retries, Congestion, MinRto, FineTimer}
 use Rattle.tcp_rules.specs.Losses.{AreWithin}
 use Rattle.tcp_rules.specs.Moments.{is_due, is_over, timeout_from}
 use Rattle.tcp_rules.specs.OfferKind.{OfferKind}
@@ -34,15 +34,16 @@ use Rattle.tcp_rules.proofs.LossRules.{led_held}
 use Rattle.tcp_rules.proofs.OfferCases.{FirstRules, by_rules, begun, probing}
 use Rattle.tcp_rules.proofs.OrderSteps.{clash}
 use Rattle.tcp_rules.proofs.TimingRules.{led_timing}
-use Rattle.tcp_pair_model.specs.Acknowledged.{begins_recovery, duplicates_after, is_duplicate, is_lost_since, is_partial, is_third, ranges_taken, tells_of_loss}
-use Rattle.tcp_pair_model.specs.Acknowledged.{una_moved, una_risen, windowed}
+use Rattle.tcp_pair_model.specs.Acknowledged.{begins_recovery, duplicates_after, is_duplicate, is_lost_since, is_missed, is_partial, is_third, ranges_taken}
+use Rattle.tcp_pair_model.specs.Acknowledged.{tells_of_loss, una_moved, una_risen, windowed}
 use Rattle.tcp_pair_model.specs.Arrival.{arrives, waiting_anew}
 use Rattle.tcp_pair_model.specs.Block.{Block}
 use Rattle.tcp_pair_model.specs.Blocks.{past_top}
 use Rattle.tcp_pair_model.specs.Calls.{listening, connected_by, pair_for, sent_more}
 use Rattle.tcp_pair_model.specs.FirstNumbers.{number_for}
-use Rattle.tcp_pair_model.specs.LossRecovery.{heard_more, is_first_lost, is_lost_at, is_passed, loss_lowered, loss_probe_moment, loss_probed, probe_armed, probe_from}
-use Rattle.tcp_pair_model.specs.LossRecovery.{all_noted, fills_hole, next_hole, probes_losses, probes_tail, ranges_noted, threshold, with_board}
+use Rattle.tcp_pair_model.specs.LossRecovery.{heard_more, is_first_lost, is_lost_at, is_passed, loss_lowered, loss_moment, loss_probe_moment, may_be_late}
+use Rattle.tcp_pair_model.specs.LossRecovery.{loss_probed, probe_armed, probe_from, all_noted, fills_hole, next_hole, probes_losses, probes_tail}
+use Rattle.tcp_pair_model.specs.LossRecovery.{ranges_noted, threshold, with_board}
 use Rattle.tcp_pair_model.specs.Offers.{number_at, offer_choice, offer_of, offer_segment}
 use Rattle.tcp_pair_model.specs.Retries.{asked, heard, one_more}
 use Rattle.tcp_pair_model.specs.Rules.{Choice, backed_off_now, control_for, probe_choice, resend_choice, resends, text_choice}
@@ -201,14 +202,15 @@ armed_probes : (b : Block) (l : Loss) (now : ℤ) → (probe_armed b l now).prob
 armed_probes b l now =
     cond_both (probes_losses b && not l.probed) (record l { probe_at = probe_from b now }) l (λ (x : Loss). x.probes ≡ l.probes) (λ _. refl) (λ _. refl)
 
-ranges_probes : (b : Block) (header : TcpHeader) (now : ℤ) → (ranges_noted b header now).probes ≡ b.loss.probes
+ranges_probes : (b : Block) (header : TcpHeader) (now : ℤ) → (ranges_noted b header now).probes ≡ true → b.loss.probes ≡ true
 ranges_probes b header now =
-    cond_both b.peer.sack (heard_more b runs now) b.loss (λ (l : Loss). l.probes ≡ b.loss.probes)
+    cond_both b.peer.sack (heard_more b runs now) b.loss (λ (l : Loss). l.probes ≡ true → b.loss.probes ≡ true)
     (λ _.
-    cond_both (nat_lt (held b.loss.board.runs) (held runs)) (probe_armed b (record b.loss { board = record { runs = runs }; probed = false }) now)
-    (with_board b.loss runs) (λ (l : Loss). l.probes ≡ b.loss.probes)
-    (λ _. armed_probes b (record b.loss { board = record { runs = runs }; probed = false }) now) (λ _. refl))
-    (λ _. refl)
+    cond_both (nat_lt (held b.loss.board.runs) (held runs))
+    (probe_armed b (record b.loss { board = record { runs = runs }; probes = false; probed = false }) now)
+    (with_board b.loss runs) (λ (l : Loss). l.probes ≡ true → b.loss.probes ≡ true)
+    (λ _ so. clash (sym so ∙ armed_probes b (record b.loss { board = record { runs = runs }; probes = false; probed = false }) now)) (λ _ so. so))
+    (λ _ so. so)
   where
     runs : List Run
     runs = all_noted b b.loss.board.runs header.options.sack_ranges
@@ -300,16 +302,16 @@ module _ (cx : ContextValue) (ip : IpRepr) (header : TcpHeader) (bytes : List �
         either b.sender.resend (is_third c count || begins_recovery c count) h.resend
         (λ new.
         either (is_third c count) (begins_recovery c count)
-        (λ third. third_here (both_parts (count == 3) (not c.reno.recovers) third).0)
+        (λ third. third_here (both_parts (count == 3) (not c.reno.recovers && not (c.sender.recover == 0)) third).0)
         (λ begins.
-        either ((c.sender.recover == 0) && ((count == 3) || is_first_lost c)) (is_lost_since c)
+        either (is_missed c count && not (may_be_late c)) (is_lost_since c)
         (λ first.
         either (count == 3) (is_first_lost c) third_here (λ lost. first_lost_sent c w lost)
-        (both_parts (c.sender.recover == 0) ((count == 3) || is_first_lost c) first).1)
+        (both_parts (c.sender.recover == 0) ((count == 3) || is_first_lost c) (both_parts (is_missed c count) (not (may_be_late c)) first).0).1)
         (λ since. since_sent c w since) begins)
         new)
         so;
-    probes = λ so syn. h.probes (sym (ranges_probes (stamp_taken b header cx.moment) header cx.moment) ∙ so) syn;
+    probes = λ so syn. h.probes (ranges_probes (stamp_taken b header cx.moment) header cx.moment so) syn;
     recover =
         cond_both (begins_recovery c count) (past_top c) b.sender.recover (λ (n : ℕ). n ≤ b.sender.top + 1) (λ _. past_low b.sender.top) (λ _. h.recover);
   }
@@ -460,7 +462,7 @@ module _ (cx : ContextValue) (v : TcpValue) (flight : v.block.sender.in_flight �
 
   in_flight_then : is_due cx.moment (loss_probe_moment v.block) ≡ true → 1 ≤ v.block.sender.top
   in_flight_then =
-      cond_both (sends_text v.block.state && (not v.block.sender.syn_unacked && not (v.block.sender.in_flight == 0))) v.block.loss.probe_at None
+      cond_both (sends_text v.block.state && (not v.block.sender.syn_unacked && not (v.block.sender.in_flight == 0))) (loss_moment v.block.loss) None
       (λ (moment : Option ℤ). is_due cx.moment moment ≡ true → 1 ≤ v.block.sender.top)
       (λ so _.
       upto 1 v.block.sender.in_flight v.block.sender.top
@@ -535,6 +537,7 @@ event_sent v (Sets (Paused paused)) l s = s
 event_sent v (Sets (Retries limit)) l s = s
 event_sent v (Sets (Congestion control)) l s = s
 event_sent v (Sets (MinRto duration)) l s = s
+event_sent v (Sets (FineTimer fine)) l s = s
 
 -- of each side of a pair that events led to
 pub reached_again : (p : PairValue) (side : Side) → IsReached p → WasSent (again_of (socket_of p side).block)

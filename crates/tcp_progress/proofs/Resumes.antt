@@ -2,7 +2,6 @@
 use Rattle.std.proofs.Common.{◌≡◌, ◌⊎◌, inl, inr, ℕ, zero, suc, ◌+◌, ◌-◌, ◌%◌, ◌<◌, ◌≤◌, ◌==◌, ◌&&◌, ◌||◌, nat_le, nat_lt, not, min, max, Bool, true, false}
 use Rattle.std.proofs.Common.{if◌then◌else◌, List, [], ◌∷◌, length, take, drop, Option, Some, None, refl, sym, ap, ◌∙◌, subst, arith, length-take, length-drop}
 use Rattle.std.proofs.lemmas.Bool.{cond_both, eq-eqb, ne_eqb, le-leb, lt-ltb, le-ltb, ltb-true, ltb-false}
-use Rattle.net_base.specs.Ring.{until_end}
 use Rattle.ip_wire.specs.Control.{control_len}
 use Rattle.ip_wire.specs.Tcp.{header_len}
 use Rattle.ip_wire.specs.TcpControl.TheVariants as Control
@@ -27,13 +26,13 @@ use Rattle.tcp_rules.specs.States.{is_answering, is_closed, owes_fin, sends_syn,
 use Rattle.tcp_rules.specs.Timing.{carries}
 use Rattle.tcp_pair_model.specs.Block.{Block}
 use Rattle.tcp_pair_model.specs.Blocks.{one_if, unacked}
-use Rattle.tcp_pair_model.specs.LossRecovery.{fills_hole, hole_len, loss_probe_moment, loss_probed, loss_probed_by, next_hole, pipe}
+use Rattle.tcp_pair_model.specs.LossRecovery.{fills_hole, hole_len, loss_moment, loss_probe_moment, loss_probed, loss_probed_by, next_hole, pipe}
 use Rattle.tcp_pair_model.specs.Offers.{backed_off, first_rules, last_rules, number_at, offer_choice, offer_of, offer_reset, offer_syn, offer_with}
 use Rattle.tcp_pair_model.specs.Offers.{payload_of, silent}
 use Rattle.tcp_pair_model.specs.Retries.{given_up, gives_up}
 use Rattle.tcp_pair_model.specs.Rules.{Choice, backed_off_now, beyond, congestion_limit, congestion_room, control_for, fills_enough, fin_goes, has_text}
-use Rattle.tcp_pair_model.specs.Rules.{is_sendable, may_be_small, next_place, owes_syn, ready, resend_choice, resend_from, resends, sent_places, size_limit}
-use Rattle.tcp_pair_model.specs.Rules.{stamp_len, text_choice, time_wait_end, unbroken, window_limit}
+use Rattle.tcp_pair_model.specs.Rules.{is_sendable, may_be_small, next_place, owes_syn, resend_choice, resend_from, resends, sent_places, size_limit}
+use Rattle.tcp_pair_model.specs.Rules.{stamp_len, text_choice, time_wait_end, window_limit}
 use Rattle.tcp_pair_model.specs.Segments.{hops_of, segment, segment_len, stamp_of}
 use Rattle.tcp_pair_model.specs.Value.{TcpValue, ended, queued_in, unoffered, window_of, with_block}
 use Rattle.tcp_rules.proofs.OfferCases.{begun, probing, resends_first}
@@ -205,20 +204,10 @@ module _ (cx : ContextValue) (v : TcpValue) (pair : EndpointPair) (b : Block) (s
   abbrev pub choice : Choice
   choice = text_choice b pair.addresses cx.ip_mtu v.queued
 
-  -- the bytes before the end of the storage are some
-  pub some_len : 1 ≤ queued → 1 ≤ min limit (unbroken v.queued (next_place b))
-  some_len some =
-      by limit queued (next_place b) (until_end v.queued (next_place b)) (least_limit _) some first
-      (ends v.queued.start (next_place b) (length v.queued.queue + length v.queued.free) (more (length v.queued.queue) (length v.queued.free) some))
-    where
-      by : (limit queued place ends : ℕ) → 1 ≤ limit → 1 ≤ queued → place ≡ 0 → 1 ≤ ends → 1 ≤ min limit (min (queued - place) ends)
-      by limit queued place ends e f g h = omega arith
-
-      more : (a b : ℕ) → 1 ≤ a → 1 ≤ a + b
-      more a b e = omega arith
-
-      ends : (start place capacity : ℕ) → 1 ≤ capacity → 1 ≤ capacity - (start + place) % capacity
-      ends start place capacity e = omega arith
+  pub some_len : 1 ≤ queued → 1 ≤ min limit (queued - next_place b)
+  some_len some = by limit queued (next_place b) (least_limit _) some first where
+    by : (limit queued place : ℕ) → 1 ≤ limit → 1 ≤ queued → place ≡ 0 → 1 ≤ min limit (queued - place)
+    by limit queued place e f g = omega arith
 
   -- what is to go again at once, from SND.UNA on
   abbrev again : Choice
@@ -235,9 +224,9 @@ module _ (cx : ContextValue) (v : TcpValue) (pair : EndpointPair) (b : Block) (s
     sent_some = subst (λ (n : ℕ). 1 ≤ n) (sym top_is) sent
 
     empty_len : queued ≡ 0 → again.len ≡ 0
-    empty_len e = less (hole_len b 0 (sent_places b)) limit queued (until_end v.queued 0) e where
-      less : (hole limit queued ends : ℕ) → queued ≡ 0 → min hole (min limit (min (queued - 0) ends)) ≡ 0
-      less hole limit queued ends e = omega arith
+    empty_len e = less (hole_len b 0 (sent_places b)) limit queued e where
+      less : (hole limit queued : ℕ) → queued ≡ 0 → min hole (min limit (queued - 0)) ≡ 0
+      less hole limit queued e = omega arith
 
     hole : 1 ≤ hole_len b 0 (sent_places b)
     hole =
@@ -249,18 +238,9 @@ module _ (cx : ContextValue) (v : TcpValue) (pair : EndpointPair) (b : Block) (s
         same n e = omega arith
 
     some_again : 1 ≤ queued → 1 ≤ again.len
-    some_again some =
-        three (hole_len b 0 (sent_places b)) limit queued (until_end v.queued 0) hole (least_limit _) some
-        (ends v.queued.start (length v.queued.queue + length v.queued.free) (more (length v.queued.queue) (length v.queued.free) some))
-      where
-        three : (hole limit queued ends : ℕ) → 1 ≤ hole → 1 ≤ limit → 1 ≤ queued → 1 ≤ ends → 1 ≤ min hole (min limit (min (queued - 0) ends))
-        three hole limit queued ends e f g h = omega arith
-
-        more : (a b : ℕ) → 1 ≤ a → 1 ≤ a + b
-        more a b e = omega arith
-
-        ends : (start capacity : ℕ) → 1 ≤ capacity → 1 ≤ capacity - (start + 0) % capacity
-        ends start capacity e = omega arith
+    some_again some = three (hole_len b 0 (sent_places b)) limit queued hole (least_limit _) some where
+      three : (hole limit queued : ℕ) → 1 ≤ hole → 1 ≤ limit → 1 ≤ queued → 1 ≤ min hole (min limit (queued - 0))
+      three hole limit queued e f g = omega arith
 
     fin_again : queued ≡ 0 → again.fin ≡ true
     fin_again e =
@@ -310,13 +290,8 @@ module _ (cx : ContextValue) (v : TcpValue) (pair : EndpointPair) (b : Block) (s
         fits b s.none (min limit size) (up (min limit size) (worth_sending v) b.peer.window (small size e) w.window)
         (up (min limit size) (worth_sending v) b.reno.cwnd (small size e) w.cwnd)
 
-    len_is : choice.len ≡ min limit (unbroken v.queued (next_place b))
-    len_is = whole (unbroken v.queued (next_place b)) (part queued (next_place b) (until_end v.queued (next_place b))) where
-      part : (queued place ends : ℕ) → min (queued - place) ends ≤ queued
-      part queued place ends = omega arith
-
-    ready_is : ready b limit queued ≡ min limit queued
-    ready_is =
+    len_is : choice.len ≡ min limit queued
+    len_is =
         ap (λ (size : ℕ). window_limit b (min limit size)) (rest queued (next_place b) first) ∙ whole queued (itself queued)
       where
         rest : (queued place : ℕ) → place ≡ 0 → queued - place ≡ queued
@@ -329,18 +304,23 @@ module _ (cx : ContextValue) (v : TcpValue) (pair : EndpointPair) (b : Block) (s
     fin_alone empty =
         both (owes_fin b.state) (next_place b + choice.len == queued) (fin_owed empty)
         (eq-eqb (next_place b + choice.len) queued
-        (ap (λ (len : ℕ). next_place b + len) len_is ∙ nothing limit queued (next_place b) (until_end v.queued (next_place b)) empty first))
+        (ap (λ (len : ℕ). next_place b + len) len_is ∙ nothing limit queued (next_place b) empty first))
       where
-        nothing : (limit queued place ends : ℕ) → queued ≡ 0 → place ≡ 0 → place + min limit (min (queued - place) ends) ≡ queued
-        nothing limit queued place ends e f = omega arith
+        nothing : (limit queued place : ℕ) → queued ≡ 0 → place ≡ 0 → place + min limit queued ≡ queued
+        nothing limit queued place e f = omega arith
 
     some_or_fin : (choice.fin ≡ true) ⊎ ((1 ≤ choice.len) × (1 ≤ queued))
     some_or_fin = by queued refl where
       by : (n : ℕ) → queued ≡ n → (choice.fin ≡ true) ⊎ ((1 ≤ choice.len) × (1 ≤ queued))
       by zero e = inl (fin_alone e)
-      by (suc n) e = let some : 1 ≤ queued = more n e in inr (subst (λ (len : ℕ). 1 ≤ len) (sym len_is) (some_len some), some) where
-        more : (n : ℕ) → queued ≡ suc n → 1 ≤ queued
-        more n e = omega arith
+      by (suc n) e =
+          let some : 1 ≤ queued = more n e in inr (subst (λ (len : ℕ). 1 ≤ len) (sym len_is) (least limit queued (least_limit _) some), some)
+        where
+          more : (n : ℕ) → queued ≡ suc n → 1 ≤ queued
+          more n e = omega arith
+
+          least : (limit queued : ℕ) → 1 ≤ limit → 1 ≤ queued → 1 ≤ min limit queued
+          least limit queued e f = omega arith
 
     sendable : is_sendable b queued limit choice ≡ true
     sendable = by some_or_fin where
@@ -349,25 +329,25 @@ module _ (cx : ContextValue) (v : TcpValue) (pair : EndpointPair) (b : Block) (s
         never : (n : ℕ) → 1 ≤ n → n ≡ 0 → ⊥
         never n e f = absurd (omega arith)
 
-      full : limit ≤ queued → nat_le limit (ready b limit queued) ≡ true
-      full e = le-leb limit (ready b limit queued) (subst (λ (n : ℕ). limit ≤ n) (sym ready_is) (enough limit queued e)) where
+      full : limit ≤ queued → nat_le limit choice.len ≡ true
+      full e = le-leb limit choice.len (subst (λ (n : ℕ). limit ≤ n) (sym len_is) (enough limit queued e)) where
         enough : (limit queued : ℕ) → limit ≤ queued → limit ≤ min limit queued
         enough limit queued e = omega arith
 
-      all : queued < limit → (may_be_small b && fills_enough b queued (ready b limit queued)) ≡ true
+      all : queued < limit → (may_be_small b && fills_enough b queued choice.len) ≡ true
       all e =
-          both (may_be_small b) (fills_enough b queued (ready b limit queued))
+          both (may_be_small b) (fills_enough b queued choice.len)
           (or_right (not b.settings.nagle) (b.sender.in_flight == 0) (eq-eqb b.sender.in_flight 0 s.none))
-          (or_left (next_place b + ready b limit queued == queued) _
-          (eq-eqb (next_place b + ready b limit queued) queued (ap (λ (n : ℕ). next_place b + n) ready_is ∙ every (next_place b) limit queued first e)))
+          (or_left (next_place b + choice.len == queued) _
+          (eq-eqb (next_place b + choice.len) queued (ap (λ (n : ℕ). next_place b + n) len_is ∙ every (next_place b) limit queued first e)))
         where
           every : (place limit queued : ℕ) → place ≡ 0 → queued < limit → place + min limit queued ≡ queued
           every place limit queued e f = omega arith
 
       by_size : (less : Bool) → nat_lt queued limit ≡ less →
-          (nat_le limit (ready b limit queued) || (may_be_small b && fills_enough b queued (ready b limit queued))) ≡ true
-      by_size true e = or_right (nat_le limit (ready b limit queued)) _ (all (ltb-true queued limit e))
-      by_size false e = or_left (nat_le limit (ready b limit queued)) _ (full (ltb-false queued limit e))
+          (nat_le limit choice.len || (may_be_small b && fills_enough b queued choice.len)) ≡ true
+      by_size true e = or_right (nat_le limit choice.len) _ (all (ltb-true queued limit e))
+      by_size false e = or_left (nat_le limit choice.len) _ (full (ltb-false queued limit e))
 
       by : (choice.fin ≡ true) ⊎ ((1 ≤ choice.len) × (1 ≤ queued)) → is_sendable b queued limit choice ≡ true
       by (inl fin) = or_left choice.fin _ fin
@@ -446,7 +426,7 @@ module _ (cx : ContextValue) (v : TcpValue) (pair : EndpointPair) (named : v.blo
       in_time : Offered TcpValue
       in_time = if is_due cx.moment (timeout_end v.block (queued_in v)) then silent true (with_block u (timed_out v.block)) else alive
 
-  no_hole : (b : Block) → b.sender.in_flight ≡ 0 → fills_hole b ≡ false
+  pub no_hole : (b : Block) → b.sender.in_flight ≡ 0 → fills_hole b ≡ false
   no_hole b none =
       not_second b.peer.sack _ (not_second b.reno.recovers _ (not_second (not b.sender.syn_unacked) _
       (not_first (nat_lt (next_hole b) b.sender.in_flight) _
@@ -496,7 +476,7 @@ module _ (cx : ContextValue) (v : TcpValue) (pair : EndpointPair) (named : v.blo
 
   pub no_probe : v.block.sender.in_flight ≡ 0 → is_due cx.moment (loss_probe_moment (begun cx v)) ≡ false
   no_probe none =
-      ap (λ (t : Bool). is_due cx.moment (if t then v.block.loss.probe_at else None))
+      ap (λ (t : Bool). is_due cx.moment (if t then loss_moment v.block.loss else None))
       (not_second (sends_text v.block.state) _
       (not_second (not v.block.sender.syn_unacked) _ (ap not (eq-eqb v.block.sender.in_flight 0 none))))
 

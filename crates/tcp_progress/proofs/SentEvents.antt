@@ -510,6 +510,7 @@ module _ (s : PairSide) (w : TcpValue) (p q : Past) (others : List SentSegment) 
   set_moves (Set.PauseSynack paused) = set_still (set_by (Set.PauseSynack paused) s.socket) refl (refl, refl)
   set_moves (Set.Retries limit) = set_still (set_by (Set.Retries limit) s.socket) refl (refl, refl)
   set_moves (Set.MinRto duration) = set_still (set_by (Set.MinRto duration) s.socket) refl (refl, refl)
+  set_moves (Set.FineTimer fine) = set_still (set_by (Set.FineTimer fine) s.socket) refl (refl, refl)
 
   -- SEGMENTS
 

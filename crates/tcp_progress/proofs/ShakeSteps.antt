@@ -137,8 +137,8 @@ module _ (cx cy : ContextValue) (v w : TcpValue) (m : MayCall cx v w) where
   g : GoesBetween m.own k
   g = goes_between cx v k m.own m.named syn.offered
 
-  first : k.segment.ack_number ≡ None
-  first = syn.acknowledges ∙ ap (λ (took : Bool). if took then Some v.block.receiver.next else None) m.alone
+  pub no_ack : k.segment.ack_number ≡ None
+  no_ack = syn.acknowledges ∙ ap (λ (took : Bool). if took then Some v.block.receiver.next else None) m.alone
 
   pub listener_accepts : accepts w.block k.header k.segment ≡ true
   listener_accepts =
@@ -146,7 +146,7 @@ module _ (cx cy : ContextValue) (v w : TcpValue) (m : MayCall cx v w) where
       ∙ all_three (w.block.names.listen.port == k.segment.dst_port) (takes_address w.block.names.listen.addr (destination_of k.header))
       (is_bare k.segment.ack_number k.segment.control) (eq-eqb w.block.names.listen.port k.segment.dst_port (m.port ∙ sym g.destination_port))
       (ap (takes_address w.block.names.listen.addr) g.destination ∙ m.address)
-      (ap (λ (n : Option SeqNumber). is_bare n k.segment.control) first ∙ ap (λ (control : TcpControl). is_bare None control) syn.control)
+      (ap (λ (n : Option SeqNumber). is_bare n k.segment.control) no_ack ∙ ap (λ (control : TcpControl). is_bare None control) syn.control)
 
   pub called : (bytes : List ℕ) → Called (settled true (offer_of cx v).socket) (arrives cy w k.header k.segment bytes).socket
   called bytes = record {
@@ -182,7 +182,7 @@ module _ (cx cy : ContextValue) (v w : TcpValue) (m : MayCall cx v w) where
   }
     where
       a : Answering w k.header k.segment (arrives cy w k.header k.segment bytes)
-      a = listener_takes cy w k.header k.segment bytes m.listens syn.control first syn.named
+      a = listener_takes cy w k.header k.segment bytes m.listens syn.control no_ack syn.named
 
       c : CameBetween (pair_in k.header k.segment) k.header k.segment
       c = came_in k.header k.segment
@@ -227,10 +227,10 @@ module _ (cx cy : ContextValue) (v w : TcpValue) (mtu : cx.ip_mtu ≡ 1500) (c :
   abbrev reply : OpenOffer
   reply = answer.k
 
-  acks : reply.segment.ack_number ≡ Some w.block.receiver.next
+  pub acks : reply.segment.ack_number ≡ Some w.block.receiver.next
   acks = answer.acknowledges ∙ ap (λ (took : Bool). if took then Some w.block.receiver.next else None) c.took_syn
 
-  one : distance_of v.block.sender.una w.block.receiver.next ≡ 1
+  pub one : distance_of v.block.sender.una w.block.receiver.next ≡ 1
   one = ap (distance_of v.block.sender.una) c.next ∙ one_past v.block.sender.una.0 f.una_small
 
   pub caller_accepts : accepts v.block reply.header reply.segment ≡ true
@@ -287,7 +287,7 @@ module _ (cx cy : ContextValue) (v w : TcpValue) (now : ℤ) (a : Answered now v
   no_stamps true = ap is_some a.stampless
   no_stamps false = refl
 
-  it : Opens w (arrives cy w ack.header ack.segment [])
+  pub it : Opens w (arrives cy w ack.header ack.segment [])
   it =
       opens cy w ack.header ack.segment v.block.receiver.next a.answers last.plain (last.number ∙ sym a.una)
       (subst (λ (n : SeqNumber). n.0 < 2 ^ 32) (sym a.una) small) last.acknowledges

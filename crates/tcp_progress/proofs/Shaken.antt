@@ -47,10 +47,10 @@ use Rattle.tcp_progress.proofs.ShakeSteps.{listener_takes_it, opened, syn}
 -- AN OFFER THAT COMES
 
 -- a side is asked at a moment, and what it offers comes to its partner
-record Comes (side : Side) (s r : PairSide) (moment : ℤ) (k : OpenOffer) (bytes : List ℕ) : Type 0 where
-  sent : slice_get (asked_side side s r moment).sent (length s.sent) ≡ Some (record { header = k.header; segment = k.segment; bytes = bytes })
-  socket : (partner_after side s r moment).socket ≡ (arrives (context_at (other side) r) r.socket k.header k.segment bytes).socket
-  clock : (partner_after side s r moment).moment ≡ r.moment
+pub record Comes (side : Side) (s r : PairSide) (moment : ℤ) (k : OpenOffer) (bytes : List ℕ) : Type 0 where
+  pub sent : slice_get (asked_side side s r moment).sent (length s.sent) ≡ Some (record { header = k.header; segment = k.segment; bytes = bytes })
+  pub socket : (partner_after side s r moment).socket ≡ (arrives (context_at (other side) r) r.socket k.header k.segment bytes).socket
+  pub clock : (partner_after side s r moment).moment ≡ r.moment
 
 comes_over :
     (side : Side) (s r : PairSide) (moment : ℤ) (k : OpenOffer) (bytes : List ℕ)
@@ -97,7 +97,7 @@ asking : (p : PairValue) (side : Side) (r : IsReached p) → (socket_of p side).
 asking p side r at =
     subst (λ (state : State). FitsIn state (core_of (socket_of p side)) (unsent (reached_keeps p side r).side)) at (reached_keeps p side r).fits
 
-listened : (p : PairValue) (side : Side) → IsReached p → (socket_of p side).block.state ≡ In.Listen → (past_at p side).opening ≡ Passive
+pub listened : (p : PairValue) (side : Side) → IsReached p → (socket_of p side).block.state ≡ In.Listen → (past_at p side).opening ≡ Passive
 listened p side r at =
     let k = reached_keeps p side r in
     let f : IsListening (core_of (socket_of p side)) (unsent k.side) =
@@ -117,7 +117,7 @@ acked p side r at = by f.opened where
   by (inl e) = e
   by (inr sends) = clash (sym sends ∙ ap sends_syn at)
 
-una_of : (p : PairValue) (side : Side) → IsReached p → (socket_of p side).block.sender.una.0 < 2 ^ 32
+pub una_of : (p : PairValue) (side : Side) → IsReached p → (socket_of p side).block.sender.una.0 < 2 ^ 32
 una_of p side r = (ready_side p side r).order.number
 
 fresh_of : (p : PairValue) (side : Side) → IsReached p → (socket_of p side).block.state ≡ In.SynSent → IsFresh (socket_of p side)
@@ -177,75 +177,76 @@ pub record Shaken (p : PairValue) (side : Side) (first second third : ℤ) : Typ
   pub own : IsOpen (socket_of (shaken_in p side first second third) side).block
   pub theirs : IsOpen (socket_of (shaken_in p side first second third) (other side)).block
   pub mirrored : AreMirrored (socket_of (shaken_in p side first second third) side).block (socket_of (shaken_in p side first second third) (other side)).block
+  pub passive : (past_at (shaken_in p side first second third) (other side)).opening ≡ Passive
 
 -- what follows of two sides that are open
 open_in : (p : PairValue) (side : Side) → IsReached p → (socket_of p side).block.state ≡ In.Established → IsOpen (socket_of p side).block
 open_in p side r at = is_open p side r (ap is_synchronized at) (acked p side r at)
 
 module _ (side : Side) (s r : PairSide) (first second third : ℤ) (m : MayCall (context_at side (record s { moment = first })) s.socket r.socket) where
-  abbrev cx : ContextValue
+  abbrev pub cx : ContextValue
   cx = context_at side (record s { moment = first })
 
-  abbrev k : OpenOffer
+  abbrev pub k : OpenOffer
   k = (syn cx (context_at (other side) r) s.socket r.socket m).k
 
-  abbrev bytes : List ℕ
+  abbrev pub bytes : List ℕ
   bytes = payload_of k k.kind (offer_of cx s.socket).socket.queued.queue
 
-  abbrev s1 : PairSide
+  abbrev pub s1 : PairSide
   s1 = asked_side side s r first
 
-  abbrev r1 : PairSide
+  abbrev pub r1 : PairSide
   r1 = partner_after side s r first
 
-  came : Comes side s r first k bytes
+  pub came : Comes side s r first k bytes
   came =
       comes_over side s r first k bytes (syn cx (context_at (other side) r) s.socket r.socket m).offered refl
       (listener_accepts cx (context_at (other side) r) s.socket r.socket m)
 
-  after_syn : Called s1.socket r1.socket
+  pub after_syn : Called s1.socket r1.socket
   after_syn = subst (Called s1.socket) (sym came.socket) (called cx (context_at (other side) r) s.socket r.socket m bytes)
 
   module _ (f : IsFresh s1.socket) where
-    abbrev cx2 : ContextValue
+    abbrev pub cx2 : ContextValue
     cx2 = context_at (other side) (record r1 { moment = second })
 
-    abbrev cy2 : ContextValue
+    abbrev pub cy2 : ContextValue
     cy2 = context_at (other (other side)) s1
 
-    abbrev k2 : OpenOffer
+    abbrev pub k2 : OpenOffer
     k2 = (answer cx2 cy2 s1.socket r1.socket refl after_syn f).k
 
-    abbrev bytes2 : List ℕ
+    abbrev pub bytes2 : List ℕ
     bytes2 = payload_of k2 k2.kind (offer_of cx2 r1.socket).socket.queued.queue
 
-    abbrev r2 : PairSide
+    abbrev pub r2 : PairSide
     r2 = asked_side (other side) r1 s1 second
 
-    abbrev s2 : PairSide
+    abbrev pub s2 : PairSide
     s2 = partner_after (other side) r1 s1 second
 
-    came2 : Comes (other side) r1 s1 second k2 bytes2
+    pub came2 : Comes (other side) r1 s1 second k2 bytes2
     came2 =
         comes_over (other side) r1 s1 second k2 bytes2 (answer cx2 cy2 s1.socket r1.socket refl after_syn f).offered refl
         (caller_accepts cx2 cy2 s1.socket r1.socket refl after_syn f)
 
-    after_answer : Answered first s2.socket r2.socket
+    pub after_answer : Answered first s2.socket r2.socket
     after_answer =
         subst (λ (v : TcpValue). Answered first v r2.socket) (sym came2.socket) (answered cx2 cy2 s1.socket r1.socket refl after_syn f bytes2)
 
     module _ (later : is_due third (Some first) ≡ true) (small : s2.socket.block.sender.una.0 < 2 ^ 32)
         (partner_small : r2.socket.block.sender.una.0 < 2 ^ 32) where
-      abbrev cx3 : ContextValue
+      abbrev pub cx3 : ContextValue
       cx3 = context_at side (record s2 { moment = third })
 
-      abbrev cy3 : ContextValue
+      abbrev pub cy3 : ContextValue
       cy3 = context_at (other side) r2
 
-      abbrev k3 : OpenOffer
+      abbrev pub k3 : OpenOffer
       k3 = (last cx3 cy3 s2.socket r2.socket first after_answer later small partner_small).k
 
-      came3 : Comes side s2 r2 third k3 []
+      pub came3 : Comes side s2 r2 third k3 []
       came3 =
           comes_over side s2 r2 third k3 [] (last cx3 cy3 s2.socket r2.socket first after_answer later small partner_small).offered
           (last cx3 cy3 s2.socket r2.socket first after_answer later small partner_small).bare
@@ -269,27 +270,28 @@ shaken_by p side first second third r o passive theirs = record {
   theirs = theirs;
   mirrored =
       reached_mirrored (shaken_in p side first second third) side r (ap is_synchronized o.own) (ap is_synchronized o.theirs) (inr passive);
+  passive = passive;
 }
 
 module _ (p : PairValue) (first second third : ℤ) (r : IsReached p) where
   module _ (m : MayShake p A first second third) where
-    may_a : MayCall (context_of p A first) p.sides.a.socket p.sides.b.socket
+    pub may_a : MayCall (context_of p A first) p.sides.a.socket p.sides.b.socket
     may_a = may_call p A first second third r m
 
-    a1 : IsReached (called_in p A first)
+    pub a1 : IsReached (called_in p A first)
     a1 = reach p A first _ r m.at_first (came A p.sides.a p.sides.b first second third may_a).sent
 
-    fresh_a : IsFresh (socket_of (called_in p A first) A)
+    pub fresh_a : IsFresh (socket_of (called_in p A first) A)
     fresh_a = fresh_of (called_in p A first) A a1 (after_syn A p.sides.a p.sides.b first second third may_a).calls
 
     answer_a : Comes B (called_in p A first).sides.b (called_in p A first).sides.a second
         (k2 A p.sides.a p.sides.b first second third may_a fresh_a) (bytes2 A p.sides.a p.sides.b first second third may_a fresh_a)
     answer_a = came2 A p.sides.a p.sides.b first second third may_a fresh_a
 
-    a2 : IsReached (answered_in p A first second)
+    pub a2 : IsReached (answered_in p A first second)
     a2 = reach (called_in p A first) B second _ a1 m.at_second answer_a.sent
 
-    later_a : is_due third (Some first) ≡ true
+    pub later_a : is_due third (Some first) ≡ true
     later_a = subst (λ (t : ℤ). is_due third (Some t) ≡ true) answer_a.clock (comes_later (answered_in p A first second).sides.a.moment third m.at_third)
 
     shake_a : Shaken p A first second third
@@ -302,23 +304,23 @@ module _ (p : PairValue) (first second third : ℤ) (r : IsReached p) where
         shaken_by p A first second third a3 o (listened p B r m.listens) (open_in (shaken_in p A first second third) B a3 o.theirs)
 
   module _ (m : MayShake p B first second third) where
-    may_b : MayCall (context_of p B first) p.sides.b.socket p.sides.a.socket
+    pub may_b : MayCall (context_of p B first) p.sides.b.socket p.sides.a.socket
     may_b = may_call p B first second third r m
 
-    b1 : IsReached (called_in p B first)
+    pub b1 : IsReached (called_in p B first)
     b1 = reach p B first _ r m.at_first (came B p.sides.b p.sides.a first second third may_b).sent
 
-    fresh_b : IsFresh (socket_of (called_in p B first) B)
+    pub fresh_b : IsFresh (socket_of (called_in p B first) B)
     fresh_b = fresh_of (called_in p B first) B b1 (after_syn B p.sides.b p.sides.a first second third may_b).calls
 
     answer_b : Comes A (called_in p B first).sides.a (called_in p B first).sides.b second
         (k2 B p.sides.b p.sides.a first second third may_b fresh_b) (bytes2 B p.sides.b p.sides.a first second third may_b fresh_b)
     answer_b = came2 B p.sides.b p.sides.a first second third may_b fresh_b
 
-    b2 : IsReached (answered_in p B first second)
+    pub b2 : IsReached (answered_in p B first second)
     b2 = reach (called_in p B first) A second _ b1 m.at_second answer_b.sent
 
-    later_b : is_due third (Some first) ≡ true
+    pub later_b : is_due third (Some first) ≡ true
     later_b = subst (λ (t : ℤ). is_due third (Some t) ≡ true) answer_b.clock (comes_later (answered_in p B first second).sides.b.moment third m.at_third)
 
     shake_b : Shaken p B first second third

@@ -17,6 +17,7 @@ use Rattle.tcp_rules.specs.State.{State}
 use Rattle.tcp_rules.specs.State.TheVariants as In
 use Rattle.tcp_rules.specs.States.{is_answering, is_closed, owes_fin, after_ack, after_ack_of_fin, takes_text}
 use Rattle.tcp_model.specs.Opening.{acks_syn, answering, connected, crossed, is_first_syn}
+use Rattle.tcp_model.specs.Settled.{nxt_past_held}
 use Rattle.tcp_model.specs.Timeout.{timeout_restarted}
 use Rattle.tcp_pair_model.specs.Acknowledged.{counted, duplicates_after, names_window, ranges_taken, windowed, state_after_ack}
 use Rattle.tcp_pair_model.specs.Answers.{drawn, answer_for}
@@ -31,7 +32,7 @@ use Rattle.tcp_pair_model.specs.Probing.{probe_kept}
 use Rattle.tcp_pair_model.specs.Segments.{rst_reply, segment_len}
 use Rattle.tcp_pair_model.specs.Text.{Texted, texted, with_bytes_at, has_new_text, takes_fin, fin_taken}
 use Rattle.tcp_pair_model.specs.Timestamps.{believed, is_outdated, stamp_taken, uses_stamps}
-use Rattle.tcp_pair_model.specs.Value.{TcpValue, Arrived, with_block, answered_with, dropped, unoffered, ended, queued_in, free_in}
+use Rattle.tcp_pair_model.specs.Value.{TcpValue, Arrived, with_block, answered_with, dropped, unoffered, ended, queued_in, free_in, room_of}
 use Rattle.tcp_tie.proofs.Tied.{if_so, if_not}
 use Rattle.tcp_rules.proofs.ArrivalCases.{acked_cases, acked_open}
 use Rattle.tcp_rules.proofs.OrderSteps.{clash}
@@ -59,6 +60,9 @@ pub record Answering (w : TcpValue) (ip : IpRepr) (header : TcpHeader) (a : Arri
   pub paused : a.socket.block.settings.synack_paused ≡ w.block.settings.synack_paused
   pub stamps : a.socket.block.settings.timestamps ≡ w.block.settings.timestamps
   pub retries : a.socket.block.settings.opening_retries ≡ w.block.settings.opening_retries
+  pub limit : a.socket.block.settings.retries ≡ w.block.settings.retries
+  pub agreed : a.socket.block.peer.timestamps ≡ is_some header.options.timestamp
+  pub room : room_of a.socket.received ≡ room_of w.received
 
 pub listener_takes :
     (cx : ContextValue) (w : TcpValue) (ip : IpRepr) (header : TcpHeader) (bytes : List ℕ) → w.block.state ≡ In.Listen → header.control ≡ Control.Syn
@@ -78,6 +82,9 @@ listener_takes cx w ip header bytes at syn none named =
       paused = refl;
       stamps = refl;
       retries = refl;
+      limit = refl;
+      agreed = refl;
+      room = refl;
     })
   where
     u : TcpValue
@@ -110,6 +117,7 @@ pub record Connecting (v : TcpValue) (header : TcpHeader) (now : ℤ) (a : Arriv
   pub syn_unacked : a.socket.block.sender.syn_unacked ≡ false
   pub in_flight : a.socket.block.sender.in_flight ≡ v.block.sender.in_flight - 1
   pub top : a.socket.block.sender.top ≡ v.block.sender.top - 1
+  pub timeouts : a.socket.block.sender.timeouts ≡ 0
   pub unanswered : a.socket.block.sender.unanswered ≡ 0
   pub timer : v.block.sender.in_flight ≤ 1 → a.socket.block.timers.retransmit_at ≡ None
   pub next : a.socket.block.receiver.next ≡ behind_by header.seq_number 1
@@ -118,6 +126,8 @@ pub record Connecting (v : TcpValue) (header : TcpHeader) (now : ℤ) (a : Arriv
   pub timeout : a.socket.block.settings.timeout ≡ v.block.settings.timeout
   pub retries : a.socket.block.settings.retries ≡ v.block.settings.retries
   pub queued : a.socket.queued ≡ v.queued
+  pub agreed : a.socket.block.peer.timestamps ≡ is_some header.options.timestamp
+  pub room : room_of a.socket.received ≡ room_of v.received
 
 pub caller_takes :
     (cx : ContextValue) (v : TcpValue) (ip : IpRepr) (header : TcpHeader) (bytes : List ℕ) (number : SeqNumber) → v.block.state ≡ In.SynSent
@@ -132,6 +142,7 @@ caller_takes cx v ip header bytes number at syn acknowledges one named =
       syn_unacked = and_false v.block.sender.syn_unacked;
       in_flight = refl;
       top = refl;
+      timeouts = refl;
       unanswered = refl;
       timer = λ few. if_so (v.block.sender.in_flight - 1 == 0) None _ (eq-eqb (v.block.sender.in_flight - 1) 0 (none_left v.block.sender.in_flight few));
       next = refl;
@@ -140,6 +151,8 @@ caller_takes cx v ip header bytes number at syn acknowledges one named =
       timeout = refl;
       retries = refl;
       queued = refl;
+      agreed = refl;
+      room = refl;
     })
   where
     and_false : (t : Bool) → (t && false) ≡ false
@@ -209,6 +222,12 @@ pub record Opens (w : TcpValue) (a : Arrived) : Type 0 where
   pub state : a.socket.block.state ≡ In.Established
   pub una : a.socket.block.sender.una ≡ behind_by w.block.sender.una 1
   pub next : a.socket.block.receiver.next ≡ w.block.receiver.next
+  pub timeouts : a.socket.block.sender.timeouts ≡ 0
+  pub unanswered : a.socket.block.sender.unanswered ≡ 0
+  pub timeout : a.socket.block.settings.timeout ≡ w.block.settings.timeout
+  pub limit : a.socket.block.settings.retries ≡ w.block.settings.retries
+  pub agreed : a.socket.block.peer.timestamps ≡ w.block.peer.timestamps
+  pub room : room_of a.socket.received ≡ room_of w.received
 
 -- a bare acknowledgement
 pub record IsPlain (header : TcpHeader) : Type 0 where
@@ -284,17 +303,38 @@ module _ (cx : ContextValue) (w : TcpValue) (ip : IpRepr) (header : TcpHeader) (
   opened =
       ap (λ (state : State). if owes_fin state && (1 == unacked heard_of.block (queued_in heard_of)) then after_ack_of_fin state else after_ack state) at
 
-  by_told : (x : TcpValue) → x.block.state ≡ In.Established → x.block.sender.una ≡ behind_by w.block.sender.una 1
-      → x.block.receiver.next ≡ w.block.receiver.next → (duplicates : ℕ) → Opens w (with_content cx (told x header duplicates cx.moment) ip header [])
-  by_told x state una next duplicates =
+  by_told : (x : TcpValue) → Opens w (dropped x) → (duplicates : ℕ) → Opens w (with_content cx (told x header duplicates cx.moment) ip header [])
+  by_told x o duplicates =
       subst (Opens w) (sym (plain cx (told x header duplicates cx.moment) ip header (without header.control p.none).1))
       (cond_both (names_window x.block header) (windowed x.block header) x.block
       (λ (b : Block). Opens w (answer_for cx (kept_by (with_block x (told_by b))) ip header 0 false None))
-      (λ _. record { state = state; una = una; next = next })
-      (λ _. record { state = state; una = una; next = next }))
+      (λ _. record {
+        state = o.state;
+        una = o.una;
+        next = o.next;
+        timeouts = o.timeouts;
+        unanswered = o.unanswered;
+        timeout = o.timeout;
+        limit = o.limit;
+        agreed = o.agreed;
+        room = o.room;
+      })
+      (λ _. record {
+        state = o.state;
+        una = o.una;
+        next = o.next;
+        timeouts = o.timeouts;
+        unanswered = o.unanswered;
+        timeout = o.timeout;
+        limit = o.limit;
+        agreed = o.agreed;
+        room = o.room;
+      }))
     where
       told_by : Block → Block
-      told_by b = timeout_restarted (counted (ranges_taken (stamp_taken b header cx.moment) header cx.moment) duplicates) cx.moment (queued_in x)
+      told_by b =
+          timeout_restarted (nxt_past_held (counted (ranges_taken (stamp_taken b header cx.moment) header cx.moment) duplicates cx.moment) (queued_in x)) cx.moment
+          (queued_in x)
 
       kept_by : TcpValue → TcpValue
       kept_by y = with_block y (probe_kept y.block (queued_in y))
@@ -308,4 +348,16 @@ module _ (cx : ContextValue) (w : TcpValue) (ip : IpRepr) (header : TcpHeader) (
       let x = acked_open heard_of 1 cx.moment in
       subst (Opens w)
       (sym (if_not (is_closed x.block.state) (dropped x) (with_content cx (told x header (duplicates_after u.block header 0 1) cx.moment) ip header []) alive))
-      (by_told x opened refl refl (duplicates_after u.block header 0 1))))
+      (by_told x
+      (record {
+        state = opened;
+        una = refl;
+        next = refl;
+        timeouts = refl;
+        unanswered = refl;
+        timeout = refl;
+        limit = refl;
+        agreed = refl;
+        room = refl;
+      })
+      (duplicates_after u.block header 0 1))))

@@ -1,5 +1,6 @@
 -- How far past SND.UNA a segment ends, in numbers: within the partner's buffer, with the SYN and the FIN.
-use Rattle.std.proofs.Common.{◌≡◌, ℕ, suc, ◌+◌, ◌-◌, ◌≤◌, min, max, Bool, true, false, arith}
+use Rattle.std.proofs.Common.{◌≡◌, ℕ, suc, ◌+◌, ◌-◌, ◌≤◌, ◌==◌, min, max, Bool, true, false, if◌then◌else◌, arith}
+use Rattle.std.proofs.lemmas.Bool.{cond_both}
 use Rattle.tcp_pair_model.specs.Blocks.{one_if}
 
 -- WHAT WAS SENT
@@ -40,6 +41,18 @@ pub undone_short :
 undone_short most syn queued flight top s = record { text = s.text; flight = two s.flight s.text; top = s.top } where
   two : min flight (syn + queued) ≤ suc most → min top (syn + queued) ≤ suc most → min (max flight (min top (syn + queued))) (syn + queued) ≤ suc most
   two a b = omega arith
+
+-- SND.NXT moves behind what is held there
+pub held_short :
+    (most syn queued flight top missing : ℕ) → IsShort most syn queued flight top
+    → IsShort most syn queued (if flight == 0 then 0 else max flight (min missing (min top (syn + queued)))) top
+held_short most syn queued flight top missing s =
+    cond_both (flight == 0) 0 (max flight (min missing (min top (syn + queued)))) (λ (n : ℕ). IsShort most syn queued n top)
+    (λ _. back_short most syn queued flight top s) (λ _. record { text = s.text; flight = two s.flight s.text; top = s.top })
+  where
+    two : min flight (syn + queued) ≤ suc most → min top (syn + queued) ≤ suc most
+        → min (max flight (min missing (min top (syn + queued)))) (syn + queued) ≤ suc most
+    two a b = omega arith
 
 -- the user writes more, where no FIN was asked for
 pub wrote_short :

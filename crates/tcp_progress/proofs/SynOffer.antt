@@ -1,10 +1,12 @@
 -- A SYN that is to go is offered, with the acknowledgement of the other's SYN if that came.
-use Rattle.std.proofs.Common.{◌≡◌, inl, inr, ℕ, ◌+◌, ◌==◌, ◌&&◌, not, ℤ, Bool, true, false, if◌then◌else◌, List, [], Some, None, refl, sym, ap, ◌∙◌}
+use Rattle.std.proofs.Common.{◌≡◌, inl, inr, ℕ, ◌+◌, ◌==◌, ◌&&◌, ◌||◌, not, ℤ, Bool, true, false, if◌then◌else◌, List, [], Option, Some, None}
+use Rattle.std.proofs.Common.{refl, sym, ap, ◌∙◌}
 use Rattle.std.proofs.lemmas.Bool.{eq-eqb}
 use Rattle.ip_wire.specs.SeqNumber.{SeqNumber}
 use Rattle.ip_wire.specs.Tcp.{header_len}
 use Rattle.ip_wire.specs.TcpControl.TheVariants as Control
 use Rattle.ip_wire.specs.TcpHeader.{TcpHeader}
+use Rattle.ip_wire.specs.TcpTimestampGenerator.{TcpTimestampGenerator}
 use Rattle.tcp_model.specs.AddressPair.{AddressPair}
 use Rattle.tcp_model.specs.AddressPair.TheVariants as Pair
 use Rattle.tcp_model.specs.declared.block.Stamps.{Stamps}
@@ -23,9 +25,9 @@ use Rattle.tcp_pair_model.specs.Block.{Block}
 use Rattle.tcp_pair_model.specs.LossRecovery.{loss_probed}
 use Rattle.tcp_pair_model.specs.Offers.{offer_of, offer_syn, payload_of}
 use Rattle.tcp_pair_model.specs.Rules.{owes_syn, backed_off_now}
-use Rattle.tcp_pair_model.specs.Segments.{hops_of, mss_for, next_if_heard, syn_segment}
+use Rattle.tcp_pair_model.specs.Segments.{hops_of, mss_for, next_if_heard, stamp_by, syn_segment}
 use Rattle.tcp_pair_model.specs.Settled.{recorded, settled}
-use Rattle.tcp_pair_model.specs.Timestamps.{stamps_begun, value_by}
+use Rattle.tcp_pair_model.specs.Timestamps.{generator_of, stamps_begun, value_by}
 use Rattle.tcp_pair_model.specs.Value.{TcpValue, with_block, unoffered, free_in, room_of}
 use Rattle.tcp_tie.proofs.Tied.{if_so}
 use Rattle.tcp_rules.proofs.OfferCases.{FirstRules, by_rules, begun}
@@ -52,6 +54,8 @@ pub record SynGoes (v : TcpValue) (o : Offered TcpValue) : Type 0 where
   pub queued : (settled true o.socket).queued ≡ v.queued
   -- the first SYN begins the timestamps that are set
   pub stampless : v.block.sender.top ≡ 0 → v.block.settings.timestamps ≡ None → (settled true o.socket).block.stamps.generator ≡ None
+  -- where none are begun, it has none
+  pub stamp : generator_of v.block ≡ None → k.segment.options.timestamp ≡ None
 
 -- what the rules for a SYN read of a block
 record Alike (old b : Block) : Type 0 where
@@ -64,6 +68,7 @@ record Alike (old b : Block) : Type 0 where
   took_syn : b.receiver.took_syn ≡ old.receiver.took_syn
   paused : b.settings.synack_paused ≡ old.settings.synack_paused
   stamps : b.settings.timestamps ≡ old.settings.timestamps
+  generator : b.stamps.generator ≡ old.stamps.generator
   timeout : b.settings.timeout ≡ old.settings.timeout
   retries : b.settings.retries ≡ old.settings.retries
   none : b.sender.in_flight ≡ 0
@@ -85,6 +90,13 @@ begun_stamps b now first none =
     (eq-eqb b.sender.top 0 first))
     ∙ none
 
+bare_stamp :
+    (t : Bool) (generator : Option TcpTimestampGenerator) (now : ℤ) (recent : ℕ) → generator ≡ None → (if t then stamp_by generator now recent else None) ≡ None
+bare_stamp t generator now recent e = ap (λ (g : Option TcpTimestampGenerator). if t then stamp_by g now recent else None) e ∙ by t where
+  by : (t : Bool) → (if t then stamp_by None now recent else None) ≡ None
+  by true = refl
+  by false = refl
+
 module _ (cx : ContextValue) (v : TcpValue) (mtu : cx.ip_mtu ≡ 1500) (on : GoesOn cx v)
     (sends : (sends_syn v.block.state && not (is_answering v.block.state && v.block.settings.synack_paused)) ≡ true)
     (syn : v.block.sender.syn_unacked ≡ true) (over : StartsOver cx v) where
@@ -97,6 +109,12 @@ module _ (cx : ContextValue) (v : TcpValue) (mtu : cx.ip_mtu ≡ 1500) (on : Goe
       (ap (λ (state : State). sends_syn state && not (is_answering state && b.settings.synack_paused)) same.state
       ∙ (ap (λ (paused : Bool). sends_syn v.block.state && not (is_answering v.block.state && paused)) same.paused ∙ sends))
       (same.syn_unacked ∙ syn) (eq-eqb b.sender.in_flight 0 same.none)
+
+  same_generator : (b : Block) → Alike v.block b → generator_of b ≡ generator_of v.block
+  same_generator b same =
+      ap (λ (n : ℕ). if n == 0 then b.settings.timestamps else b.stamps.generator) same.top
+      ∙ (ap (λ (g : Option TcpTimestampGenerator). if v.block.sender.top == 0 then g else b.stamps.generator) same.stamps
+      ∙ ap (λ (g : Option TcpTimestampGenerator). if v.block.sender.top == 0 then v.block.settings.timestamps else g) same.generator)
 
   abbrev mine : EndpointPair → Block → TcpHeader
   mine pair b = syn_segment b pair cx.moment cx.ip_mtu (room_of v.received) (free_in v)
@@ -133,6 +151,7 @@ module _ (cx : ContextValue) (v : TcpValue) (mtu : cx.ip_mtu ≡ 1500) (on : Goe
     queued = refl;
     stampless = λ first none.
         begun_stamps (recorded b (opened_by pair b) (room_of v.received)) cx.moment (same.top ∙ first) (same.stamps ∙ none);
+    stamp = λ none. bare_stamp (not b.receiver.took_syn || b.peer.timestamps) (generator_of b) cx.moment b.peer.recent (same_generator b same ∙ none);
   }
 
   first : (pair : EndpointPair) (b : Block) → Alike v.block b → FirstRules cx pair (SynGoes v) (with_block (unoffered v) b)
@@ -172,6 +191,7 @@ module _ (cx : ContextValue) (v : TcpValue) (mtu : cx.ip_mtu ≡ 1500) (on : Goe
               took_syn = refl;
               paused = refl;
               stamps = refl;
+              generator = refl;
               timeout = refl;
               retries = refl;
               none = refl;
@@ -188,6 +208,7 @@ module _ (cx : ContextValue) (v : TcpValue) (mtu : cx.ip_mtu ≡ 1500) (on : Goe
               took_syn = refl;
               paused = refl;
               stamps = refl;
+              generator = refl;
               timeout = refl;
               retries = refl;
               none = not_due not;
@@ -204,6 +225,7 @@ module _ (cx : ContextValue) (v : TcpValue) (mtu : cx.ip_mtu ≡ 1500) (on : Goe
               took_syn = refl;
               paused = refl;
               stamps = refl;
+              generator = refl;
               timeout = refl;
               retries = refl;
               none = not_due not;

@@ -59,27 +59,27 @@ use Rattle.tcp_progress.proofs.PairTimers.{restart_soon, wake_soon}
 use Rattle.tcp_progress.proofs.Ready.{ready_side}
 use Rattle.tcp_progress.proofs.Resent.{again_sent}
 use Rattle.tcp_progress.proofs.Resumes.{SendsOut, Starts}
+use Rattle.tcp_progress.proofs.Roused.{roused_calm, roused_other, roused_own, roused_reached}
 use Rattle.tcp_progress.proofs.Settles.{empty_after, read_partner, read_reached, safe_side, some_left}
 use Rattle.tcp_progress.proofs.Stampless.{stampless}
-use Rattle.tcp_progress.proofs.Turns.{Ended, done_round, ends, late_on, nothing_turns, roused_calm, roused_other, roused_own, roused_reached}
-use Rattle.tcp_progress.proofs.Turns.{stream_still, through, turned}
+use Rattle.tcp_progress.proofs.Turns.{Ended, done_round, ends, late_on, nothing_turns, stream_still, through, turned}
 use Rattle.tcp_progress.proofs.Wide.{reached_cwnd}
 use Rattle.tcp_progress.proofs.Ways.{Balance, BothCalm, IsLate, balance, late_after, of_side, read_calm}
 
 -- WHAT STAYS
 
-record Stays (p : PairValue) (side : Side) : Type 0 where
-  acked : (socket_of p side).block.sender.syn_unacked ≡ false
-  stream : HasStream (past_at p side)
-  room : 1 ≤ room_of (socket_of p side).received
-  timeout : (socket_of p side).block.settings.timeout ≡ None
-  stampless : (socket_of p side).block.peer.timestamps ≡ false
+pub record Stays (p : PairValue) (side : Side) : Type 0 where
+  pub acked : (socket_of p side).block.sender.syn_unacked ≡ false
+  pub stream : HasStream (past_at p side)
+  pub room : 1 ≤ room_of (socket_of p side).received
+  pub timeout : (socket_of p side).block.settings.timeout ≡ None
+  pub stampless : (socket_of p side).block.peer.timestamps ≡ false
 
-record BothStay (p : PairValue) : Type 0 where
-  late : IsLate p
-  a : Stays p A
-  b : Stays p B
-  listened : OneListened p A
+pub record BothStay (p : PairValue) : Type 0 where
+  pub late : IsLate p
+  pub a : Stays p A
+  pub b : Stays p B
+  pub listened : OneListened p A
 
 stays_on : (p q : PairValue) (side : Side) → BothCalm p q → Stays p side → Stays q side
 stays_on p q side c s =
@@ -92,7 +92,7 @@ stays_on p q side c s =
       stampless = it.stamps ∙ s.stampless;
     }
 
-both_on : (p q : PairValue) → BothCalm p q → BothStay p → BothStay q
+pub both_on : (p q : PairValue) → BothCalm p q → BothStay p → BothStay q
 both_on p q c s = record {
   late = late_after p q c s.late;
   a = stays_on p q A c s.a;
@@ -104,11 +104,11 @@ both_on p q c s = record {
     by (inl a) = inl (c.a.opening ∙ a)
     by (inr b) = inr (c.b.opening ∙ b)
 
-of : (p : PairValue) (side : Side) → BothStay p → Stays p side
+pub of : (p : PairValue) (side : Side) → BothStay p → Stays p side
 of p A s = s.a
 of p B s = s.b
 
-late_at : (p : PairValue) (side : Side) → BothStay p → is_early (socket_of p side).block.state ≡ false
+pub late_at : (p : PairValue) (side : Side) → BothStay p → is_early (socket_of p side).block.state ≡ false
 late_at p A s = s.late.0
 late_at p B s = s.late.1
 
@@ -288,7 +288,7 @@ module _ (n : ℕ) (p : PairValue) (side : Side) (r : IsReached p) (m : HasMinut
       (upto_int second (clock p side +ℤ pos 120_000_000) (pos last_moment) in_two
       (in_both (clock p side) (pos last_moment) (n * 120_000_000) (minutes_of n p side m))))
 
-own_minutes : (n : ℕ) (p : PairValue) (side : Side) → IsReached p → HasMinutes (suc n) p side → HasMinutes n (turn_in p side) side
+pub own_minutes : (n : ℕ) (p : PairValue) (side : Side) → IsReached p → HasMinutes (suc n) p side → HasMinutes n (turn_in p side) side
 own_minutes n p side r m =
     cond_both (waits_in p side) (woken_in p side) p (λ (q : PairValue). HasMinutes n q side)
     (λ _.
@@ -304,7 +304,7 @@ own_minutes n p side r m =
     soon : (a : ℤ) → a ≤ℤ (a +ℤ pos 120_000_000)
     soon a = first_of (omega (arith, ints), grind (arith, ints))
 
-other_minutes : (n : ℕ) (p : PairValue) (side : Side) → HasMinutes n p (other side) → HasMinutes n (turn_in p side) (other side)
+pub other_minutes : (n : ℕ) (p : PairValue) (side : Side) → HasMinutes n p (other side) → HasMinutes n (turn_in p side) (other side)
 other_minutes n p side m =
     cond_both (waits_in p side) (woken_in p side) p (λ (q : PairValue). HasMinutes n q (other side))
     (λ _. record {
@@ -315,17 +315,17 @@ other_minutes n p side m =
 
 -- A TURN
 
-same_own : (p : PairValue) (side : Side) → socket_of (read_in p side) side ≡ socket_of p side
+pub same_own : (p : PairValue) (side : Side) → socket_of (read_in p side) side ≡ socket_of p side
 same_own p A = refl
 same_own p B = refl
 
 -- what waiting says
-record Waiting (left : ℕ) (mine theirs : Bool) : Type 0 where
-  some : 1 ≤ left
-  own : mine ≡ false
-  others : theirs ≡ false
+pub record Waiting (left : ℕ) (mine theirs : Bool) : Type 0 where
+  pub some : 1 ≤ left
+  pub own : mine ≡ false
+  pub others : theirs ≡ false
 
-waiting : (left : ℕ) (mine theirs : Bool) → (not (left == 0) && (not mine && not theirs)) ≡ true → Waiting left mine theirs
+pub waiting : (left : ℕ) (mine theirs : Bool) → (not (left == 0) && (not mine && not theirs)) ≡ true → Waiting left mine theirs
 waiting left mine theirs e = by (left == 0) mine theirs refl e where
   by : (none own others : Bool) → (left == 0) ≡ none → (not none && (not own && not others)) ≡ true → Waiting left own others
   by true own others f g = clash (sym g)
@@ -350,37 +350,37 @@ no_timeout b moment queued e =
 
 module _ (n : ℕ) (p : PairValue) (side : Side) (r : IsReached p) (s : BothStay p) (m : HasMinutes (suc n) p side) (waits : waits_in p side ≡ true)
     (tries : gives_up (restart_in p side) (socket_of (read_in p side) side).block (queued_in (socket_of (read_in p side) side)) ≡ false) where
-  abbrev x : PairValue
+  abbrev pub x : PairValue
   x = read_in p side
 
-  abbrev t : ℤ
+  abbrev pub t : ℤ
   t = restart_in p side
 
-  abbrev v : TcpValue
+  abbrev pub v : TcpValue
   v = socket_of x side
 
-  rx : IsReached x
+  pub rx : IsReached x
   rx = read_reached p side r
 
-  sx : BothStay x
+  pub sx : BothStay x
   sx = both_on p x (read_calm p side) s
 
-  at_work : Waiting (left_in p side) (is_over p side) (is_over p (other side))
+  pub at_work : Waiting (left_in p side) (is_over p side) (is_over p (other side))
   at_work = waiting (left_in p side) (is_over p side) (is_over p (other side)) waits
 
   alive : is_closed v.block.state ≡ false
   alive = ap (λ (u : TcpValue). is_closed u.block.state) (same_own p side) ∙ at_work.own
 
-  mine : is_synchronized v.block.state ≡ true
+  pub mine : is_synchronized v.block.state ≡ true
   mine = late_on v.block.state (late_at x side sx) alive
 
-  own : IsOpen v.block
+  pub own : IsOpen v.block
   own = is_open x side rx mine (of x side sx).acked
 
   owes : 1 ≤ left_of v
   owes = subst (λ (u : TcpValue). 1 ≤ left_of u) (sym (same_own p side)) at_work.some
 
-  sends : sends_text v.block.state ≡ true
+  pub sends : sends_text v.block.state ≡ true
   sends = sends_there x side rx mine (of x side sx).acked owes
 
   due : (v.block.sender.in_flight == 0) ≡ false → is_due t v.block.timers.retransmit_at ≡ true
@@ -395,7 +395,7 @@ module _ (n : ℕ) (p : PairValue) (side : Side) (r : IsReached p) (s : BothStay
     by false e = inr (due e)
 
   -- a timer that hasn't run out by then doesn't run
-  runs : is_due t v.block.timers.retransmit_at ≡ false → v.block.timers.retransmit_at ≡ None
+  pub runs : is_due t v.block.timers.retransmit_at ≡ false → v.block.timers.retransmit_at ≡ None
   runs =
       subst (λ (u : TcpValue). is_due t u.block.timers.retransmit_at ≡ false → u.block.timers.retransmit_at ≡ None) (sym (same_own p side))
       (none_runs (socket_of p side).block.timers.retransmit_at refl)
@@ -406,7 +406,7 @@ module _ (n : ℕ) (p : PairValue) (side : Side) (r : IsReached p) (s : BothStay
       none_runs (Some moment) e f =
           clash (sym (runs_out (clock p side) (socket_of p side).block.timers.retransmit_at (ap is_some e)) ∙ f)
 
-  starts : Starts (context_of x side t) v
+  pub starts : Starts (context_of x side t) v
   starts = record {
     own = own;
     owes = owes;
@@ -420,27 +420,27 @@ module _ (n : ℕ) (p : PairValue) (side : Side) (r : IsReached p) (s : BothStay
         };
   }
 
-  abbrev pair : EndpointPair
+  abbrev pub pair : EndpointPair
   pair = (named_in x side rx mine).0
 
   -- the side, once it was asked
-  abbrev y : PairValue
+  abbrev pub y : PairValue
   y = roused_in p side
 
-  abbrev w : TcpValue
+  abbrev pub w : TcpValue
   w = socket_of y side
 
-  abbrev u : TcpValue
+  abbrev pub u : TcpValue
   u = socket_of y (other side)
 
-  abbrev then_at : ℤ
+  abbrev pub then_at : ℤ
   then_at = wake_in y side
 
   asked : IsSet (context_of x side t) pair v (offer_of (context_of x side t) v).socket
   asked =
       asked_sets (context_of x side t) v pair (named_in x side rx mine).1 starts sends (again_sent x side rx (of x side sx).acked) runs
 
-  set : IsSet (context_of x side t) pair v w
+  pub set : IsSet (context_of x side t) pair v w
   set =
       subst (λ (z : TcpValue). IsSet (context_of x side t) pair v z) (sym (roused_own p side))
       (record {
@@ -455,13 +455,13 @@ module _ (n : ℕ) (p : PairValue) (side : Side) (r : IsReached p) (s : BothStay
         set = asked.set;
       })
 
-  reached_y : IsReached y
+  pub reached_y : IsReached y
   reached_y = ry n p side r m
 
-  sy : BothStay y
+  pub sy : BothStay y
   sy = both_on p y (roused_calm p side s.late) s
 
-  own_y : IsOpen w.block
+  pub own_y : IsOpen w.block
   own_y = record {
     synchronized = ap is_synchronized set.state ∙ own.synchronized;
     acknowledged = set.syn ∙ own.acknowledged;
@@ -481,7 +481,7 @@ module _ (n : ℕ) (p : PairValue) (side : Side) (r : IsReached p) (s : BothStay
   alive_y = ap is_closed set.state ∙ alive
 
   module _ (tries_on : gives_up then_at w.block (queued_in w) ≡ false) where
-    starts_y : Starts (context_of y side then_at) w
+    pub starts_y : Starts (context_of y side then_at) w
     starts_y = record {
       own = own_y;
       owes = owes_y;
@@ -517,7 +517,7 @@ module _ (n : ℕ) (p : PairValue) (side : Side) (r : IsReached p) (s : BothStay
         moment : probe_moment w.block (queued_in w) ≡ w.block.timers.probe_at
         moment = ap (λ (test : Bool). if test then w.block.timers.probe_at else None) probes
 
-    out : SendsOut (context_of y side then_at) w (offer_of (context_of y side then_at) w)
+    pub out : SendsOut (context_of y side then_at) w (offer_of (context_of y side then_at) w)
     out =
         goes_then (context_of y side then_at) w pair (ap (λ (names : Names). names.pair) set.names ∙ (named_in x side rx mine).1) starts_y
         (ap sends_text set.state ∙ sends) set.again set.none set.timer (reached_cwnd y side reached_y) set_y come
@@ -539,7 +539,7 @@ module _ (n : ℕ) (p : PairValue) (side : Side) (r : IsReached p) (s : BothStay
         all : (waiting free : ℕ) → waiting ≡ 0 → 1 ≤ waiting + free → 1 ≤ free
         all waiting free a b = omega arith
 
-    may_ask : MayAsk p side
+    pub may_ask : MayAsk p side
     may_ask = record {
       stream = (of y side sy).stream;
       rouses = rouses n p side r m;
@@ -571,12 +571,12 @@ module _ (n : ℕ) (p : PairValue) (side : Side) (r : IsReached p) (s : BothStay
 
 -- ROUNDS
 
-may_turn : (n : ℕ) (p : PairValue) (side : Side) → IsReached p → BothStay p → HasMinutes (suc n) p side → SpeaksIn p side → MayTurn p side
+pub may_turn : (n : ℕ) (p : PairValue) (side : Side) → IsReached p → BothStay p → HasMinutes (suc n) p side → SpeaksIn p side → MayTurn p side
 may_turn n p side r s m speaks waits = may_ask n p side r s m waits (speaks waits).tries (speaks waits).tries_on
 
-record Minutes (n : ℕ) (p : PairValue) : Type 0 where
-  a : HasMinutes n p A
-  b : HasMinutes n p B
+pub record Minutes (n : ℕ) (p : PairValue) : Type 0 where
+  pub a : HasMinutes n p A
+  pub b : HasMinutes n p B
 
 may_rounds : (n : ℕ) (p : PairValue) → IsReached p → BothStay p → Minutes n p → MayTalk n p → MayRounds n p
 may_rounds zero p r s m talk = tt
@@ -595,7 +595,7 @@ may_rounds (suc n) p r s m talk =
           (record { a = other_minutes n h B (own_minutes n p A r m.a); b = own_minutes n h B a.reached mh }) talk.2,
     )
 
-stay : (n : ℕ) (p : PairValue) → AreTalking n p → BothStay p
+pub stay : (n : ℕ) (p : PairValue) → AreTalking n p → BothStay p
 stay n p s = record {
   late = (late_in p.sides.a.socket.block.state s.a.own.synchronized, late_in p.sides.b.socket.block.state s.b.own.synchronized);
   a =
@@ -623,75 +623,7 @@ talks n p r s talk = may_rounds n p r (stay n p s) (record { a = s.minutes_a; b 
 pub there : (n : ℕ) (p : PairValue) → AreTalking n p → AreThere p
 there n p s = (s.a.own.synchronized, s.b.own.synchronized)
 
--- NOBODY GIVES UP
-
-not_now : (b : Block) (now : ℤ) (queued : ℕ) → is_synchronized b.state ≡ true → b.settings.retries ≡ None → gives_up now b queued ≡ false
-not_now b now queued on none =
-    neither (is_last_timeout now b) (is_last_question now b queued)
-    (not_last (is_due now b.timers.retransmit_at) (reaches (retries_of b) (b.sender.timeouts + 1))
-    (ap (λ (limit : Option ℕ). reaches limit (b.sender.timeouts + 1)) (limit b.state on ∙ none)))
-    (not_last (is_due now (probe_moment b queued) || is_due now (keep_alive_moment b))
-    (is_due now b.timers.counts_from && reaches b.settings.retries b.sender.unanswered)
-    (not_last (is_due now b.timers.counts_from) (reaches b.settings.retries b.sender.unanswered)
-    (ap (λ (limit : Option ℕ). reaches limit b.sender.unanswered) none)))
-  where
-    neither : (a c : Bool) → a ≡ false → c ≡ false → (a || c) ≡ false
-    neither a c e f = ap (λ (t : Bool). t || c) e ∙ f
-
-    not_last : (a c : Bool) → c ≡ false → (a && c) ≡ false
-    not_last true c e = e
-    not_last false c e = refl
-
-    limit : (state : State) → is_synchronized state ≡ true →
-        (if is_opening state || is_answering state then b.settings.opening_retries else b.settings.retries) ≡ b.settings.retries
-    limit In.SynSent e = clash (sym e)
-    limit In.SynReceived e = clash (sym e)
-    limit other e = refl
-
-never_of : (p : PairValue) (side : Side) → NeverGiveUp p → (socket_of p side).block.settings.retries ≡ None
-never_of p A n = n.0
-never_of p B n = n.1
-
-never_on : (p q : PairValue) → BothCalm p q → NeverGiveUp p → NeverGiveUp q
-never_on p q c n = (c.a.retries ∙ n.0, c.b.retries ∙ n.1)
-
-patient_turn : (n : ℕ) (p : PairValue) (side : Side) → IsReached p → BothStay p → HasMinutes (suc n) p side → NeverGiveUp p → SpeaksIn p side
-patient_turn n p side r s m never waits = record {
-  tries = first;
-  tries_on =
-      not_now (socket_of (roused_in p side) side).block (wake_in (roused_in p side) side) (queued_in (socket_of (roused_in p side) side))
-      (own_y n p side r s m waits first).synchronized
-      (never_of (roused_in p side) side (never_on p (roused_in p side) (roused_calm p side s.late) never));
-}
-  where
-    first : gives_up (restart_in p side) (socket_of (read_in p side) side).block (queued_in (socket_of (read_in p side) side)) ≡ false
-    first =
-        not_now (socket_of (read_in p side) side).block (restart_in p side) (queued_in (socket_of (read_in p side) side))
-        (late_on (socket_of (read_in p side) side).block.state (late_at (read_in p side) side (both_on p (read_in p side) (read_calm p side) s))
-        (ap (λ (u : TcpValue). is_closed u.block.state) (same_own p side)
-        ∙ (waiting (left_in p side) (is_over p side) (is_over p (other side)) waits).own))
-        (never_of (read_in p side) side (never_on p (read_in p side) (read_calm p side) never))
-
-patient_rounds : (n : ℕ) (p : PairValue) → IsReached p → BothStay p → Minutes n p → NeverGiveUp p → MayTalk n p
-patient_rounds zero p r s m never = tt
-patient_rounds (suc n) p r s m never =
-    let speaks = patient_turn n p A r s m.a never in
-    let h = turn_in p A in
-    let a = turned (Unit {0}) p A r s.late (may_turn n p A r s m.a speaks) (λ _. inr tt) in
-    let sh = both_on p h a.calm s in
-    let mh = other_minutes (suc n) p A m.b in
-    let answers = patient_turn n h B a.reached sh mh (never_on p h a.calm never) in
-    let q = turn_in h B in
-    let b = turned (Unit {0}) h B a.reached sh.late (may_turn n h B a.reached sh mh answers) (λ _. inr tt) in (
-      speaks,
-      answers,
-      patient_rounds n q b.reached (both_on h q b.calm sh)
-          (record { a = other_minutes n h B (own_minutes n p A r m.a); b = own_minutes n h B a.reached mh })
-          (never_on h q b.calm (never_on p h a.calm never)),
-    )
-
-pub patient : (n : ℕ) (p : PairValue) → IsReached p → AreTalking n p → NeverGiveUp p → MayTalk n p
-patient n p r s never = patient_rounds n p r (stay n p s) (record { a = s.minutes_a; b = s.minutes_b }) never
+-- THE END
 
 -- where nobody waits nothing is asked for
 pub done_talks : (n : ℕ) (p : PairValue) → waits_in p A ≡ false → waits_in p B ≡ false → MayTalk n p

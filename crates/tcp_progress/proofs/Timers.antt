@@ -39,7 +39,7 @@ use Rattle.tcp_pair_model.specs.Value.{TcpValue, Arrived, with_block, unoffered,
 use Rattle.tcp_model.specs.Opening.{took_syn}
 use Rattle.tcp_rules.specs.Events.{Event, after}
 use Rattle.tcp_rules.specs.Events.Event.{Comes, Asked, Listens, Connects, Sends, Reads, Closes, Aborts, Sets}
-use Rattle.tcp_rules.specs.Events.Setting.{Timeout, KeepAlive, AckDelay, Nagle, HopLimit, Timestamps, Paused, Retries, Congestion, MinRto}
+use Rattle.tcp_rules.specs.Events.Setting.{Timeout, KeepAlive, AckDelay, Nagle, HopLimit, Timestamps, Paused, Retries, Congestion, MinRto, FineTimer}
 use Rattle.tcp_rules.proofs.ArrivalCases.{by_arrival, Received, Opening, Content, Drawing, acked_open, heeded, timed}
 use Rattle.tcp_rules.proofs.OfferCases.{FirstRules, by_rules, begun, probing}
 use Rattle.tcp_progress.specs.Near.{IsNear}
@@ -47,55 +47,56 @@ use Rattle.tcp_progress.specs.Near.{IsNear}
 -- THE TIMEOUT
 
 pub record IsGood (r : RoundTripValue) : Type 0 where
-  pub least : r.least ≤ 60_000
-  pub timeout : r.timeout ≤ 60_000
+  pub least : r.least ≤ 60_000_000
+  pub timeout : r.timeout ≤ 60_000_000
 
-measured_good : (r : RoundTripValue) (millis : ℕ) → IsGood r → IsGood (round_trip.measured r millis)
-measured_good r millis g = record { least = g.least; timeout = below _ } where
-  below : (n : ℕ) → min 60_000 n ≤ 60_000
+measured_good : (fine : Bool) (r : RoundTripValue) (micros : ℕ) → IsGood r → IsGood (round_trip.measured fine r micros)
+measured_good fine r micros g = record { least = g.least; timeout = below _ } where
+  below : (n : ℕ) → min 60_000_000 n ≤ 60_000_000
   below n = omega arith
 
-advanced_good : (r : RoundTripValue) (by : ℕ) (now : ℤ) → IsGood r → IsGood (round_trip.advanced r by now)
-advanced_good r by now g =
-    elim r.sample as (λ sample. IsGood (round_trip.advanced_with r by now sample)) [
+advanced_good : (fine : Bool) (r : RoundTripValue) (by : ℕ) (now : ℤ) → IsGood r → IsGood (round_trip.advanced fine r by now)
+advanced_good fine r by now g =
+    elim r.sample as (λ sample. IsGood (round_trip.advanced_with fine r by now sample)) [
       | None ↦ g
       | Some s ↦
-          cond_both (nat_le s.ends by) (round_trip.measured r (round_trip.millis_between s.since now))
+          let micros = round_trip.clocked fine (round_trip.micros_between s.since now) in
+          cond_both (nat_le s.ends by) (round_trip.measured fine r micros)
           (record r { sample = Some (record s { ends = s.ends - by }) }) IsGood
-          (λ _. measured_good r (round_trip.millis_between s.since now) g)
+          (λ _. measured_good fine r micros g)
           (λ _. record { least = g.least; timeout = g.timeout })
     ]
 
 late_good : (r : RoundTripValue) → IsGood r → IsGood (round_trip.begun_late r)
 late_good r g = record { least = g.least; timeout = at (is_none r.estimate) } where
-  at : (first : Bool) → (if first then max 3000 r.least else r.timeout) ≤ 60_000
+  at : (first : Bool) → (if first then max 3_000_000 r.least else r.timeout) ≤ 60_000_000
   at true = more r.least g.least where
-    more : (n : ℕ) → n ≤ 60_000 → max 3000 n ≤ 60_000
+    more : (n : ℕ) → n ≤ 60_000_000 → max 3_000_000 n ≤ 60_000_000
     more n e = omega arith
   at false = g.timeout
 
 after_good : (b : Block) (by : ℕ) (now : ℤ) → IsGood b.round_trip → IsGood (round_trip_after b by now)
 after_good b by now g =
-    cond_both (acks_own_syn b by && b.sender.syn_lost) (round_trip.begun_late (round_trip.advanced b.round_trip by now))
-    (round_trip.advanced b.round_trip by now) IsGood
-    (λ _. late_good (round_trip.advanced b.round_trip by now) (advanced_good b.round_trip by now g))
-    (λ _. advanced_good b.round_trip by now g)
+    let risen = round_trip.advanced b.settings.fine_timer b.round_trip by now in
+    let it = advanced_good b.settings.fine_timer b.round_trip by now g in
+    cond_both (acks_own_syn b by && b.sender.syn_lost) (round_trip.begun_late risen) risen IsGood (λ _. late_good risen it) (λ _. it)
 
-echo_good : (r : RoundTripValue) (by : ℕ) (echo : Option ℕ) → IsGood r → IsGood (timed_by r by echo)
-echo_good r by echo g = cond_both (by == 0) r (timed_with r by echo) IsGood (λ _. g) (λ _. at echo) where
-  at : (echo : Option ℕ) → IsGood (timed_with r by echo)
+echo_good : (fine : Bool) (r : RoundTripValue) (by : ℕ) (echo : Option ℕ) → IsGood r → IsGood (timed_by fine r by echo)
+echo_good fine r by echo g = cond_both (by == 0) r (timed_with fine r by echo) IsGood (λ _. g) (λ _. at echo) where
+  at : (echo : Option ℕ) → IsGood (timed_with fine r by echo)
   at None = g
   at (Some millis) =
-      cond_both (round_trip.is_reached r.sample by) (round_trip.measured r millis) r IsGood (λ _. measured_good r millis g) (λ _. g)
+      let micros = round_trip.echo_micros fine millis in
+      cond_both (round_trip.counts_echo fine r.sample by) (round_trip.measured fine r micros) r IsGood (λ _. measured_good fine r micros g) (λ _. g)
 
-least_good : (duration : ℕ) → least_of duration ≤ 60_000
+least_good : (duration : ℕ) → least_of duration ≤ 60_000_000
 least_good duration = below _ where
-  below : (n : ℕ) → min 60_000 n ≤ 60_000
+  below : (n : ℕ) → min 60_000_000 n ≤ 60_000_000
   below n = omega arith
 
-set_good : (duration : ℕ) (r : RoundTripValue) → r.timeout ≤ 60_000 → IsGood (round_trip.with_least duration r)
+set_good : (duration : ℕ) (r : RoundTripValue) → r.timeout ≤ 60_000_000 → IsGood (round_trip.with_least duration r)
 set_good duration r e = record { least = least_good duration; timeout = both (least_of duration) r.timeout (least_good duration) e } where
-  both : (a b : ℕ) → a ≤ 60_000 → b ≤ 60_000 → max a b ≤ 60_000
+  both : (a b : ℕ) → a ≤ 60_000_000 → b ≤ 60_000_000 → max a b ≤ 60_000_000
   both a b e f = omega arith
 
 -- WHAT IS NEAR
@@ -120,14 +121,9 @@ kept_near now b queued h = record {
 }
 
 timeout_near : (now : ℤ) (r : RoundTripValue) → IsGood r → IsNear now 60_000_000 (Some (timeout_from now r))
-timeout_near now r g = by r.timeout g.timeout where
-  by : (n : ℕ) → n ≤ 60_000 → (now +ℤ pos (n * 1000)) ≤ℤ (now +ℤ pos 60_000_000)
-  by n e = more (n * 1000) 60_000_000 (thousand n e) where
-    thousand : (n : ℕ) → n ≤ 60_000 → n * 1000 ≤ 60_000_000
-    thousand n e = omega arith
-
-    more : (a b : ℕ) → a ≤ b → (now +ℤ pos a) ≤ℤ (now +ℤ pos b)
-    more a b e = first_of (omega (arith, ints), grind (arith, ints))
+timeout_near now r g = more r.timeout 60_000_000 g.timeout where
+  more : (a b : ℕ) → a ≤ b → (now +ℤ pos a) ≤ℤ (now +ℤ pos b)
+  more a b e = first_of (omega (arith, ints), grind (arith, ints))
 
 pub later_near : (old now : ℤ) (duration : ℕ) (at : Option ℤ) → old ≤ℤ now → IsNear old duration at → IsNear now duration at
 later_near old now duration None e n = tt
@@ -136,8 +132,8 @@ later_near old now duration (Some m) e n = by m n where
   by m f = first_of (omega (arith, ints), grind (arith, ints))
 
 fresh_near : (now : ℤ) (b : Block) → Bounded now (fresh_block b.settings)
-fresh_near now b = record { good = set_good b.settings.min_rto round_trip.fresh (first 1000 refl); timer = tt; pause = tt; probe = tt } where
-  first : (n : ℕ) → n ≡ 1000 → n ≤ 60_000
+fresh_near now b = record { good = set_good b.settings.min_rto round_trip.fresh (first 1_000_000 refl); timer = tt; pause = tt; probe = tt } where
+  first : (n : ℕ) → n ≡ 1_000_000 → n ≤ 60_000_000
   first n e = omega arith
 
 moved_near : (b : Block) (by queued : ℕ) (now : ℤ) → Bounded now b → Bounded now (una_moved b by queued now)
@@ -168,7 +164,7 @@ moved_near b by queued now h = record {
 
 echoed_near : (b : Block) (header : TcpHeader) (by : ℕ) (now : ℤ) → Bounded now b → Bounded now (echo_taken b header by now)
 echoed_near b header by now h =
-    record { good = echo_good b.round_trip by (echo_of b header now) h.good; timer = h.timer; pause = h.pause; probe = h.probe }
+    record { good = echo_good b.settings.fine_timer b.round_trip by (echo_of b header now) h.good; timer = h.timer; pause = h.pause; probe = h.probe }
 
 -- A SEGMENT COMES
 
@@ -274,7 +270,7 @@ module _ (now : ℤ) (b : Block) (o : OpenOffer) (queued : ℕ) (same : o.moment
 
 doubled : (r : RoundTripValue) → IsGood r → IsGood (round_trip.backed_off r)
 doubled r g = record { least = g.least; timeout = below _ } where
-  below : (n : ℕ) → min 60_000 n ≤ 60_000
+  below : (n : ℕ) → min 60_000_000 n ≤ 60_000_000
   below n = omega arith
 
 untimed_good : (r : RoundTripValue) → IsGood r → IsGood (round_trip.untimed r)
@@ -435,6 +431,7 @@ event_near now v (Sets (Timestamps generator)) at h = h
 event_near now v (Sets (Paused paused)) at h = h
 event_near now v (Sets (Retries limit)) at h = h
 event_near now v (Sets (Congestion control)) at h = h
+event_near now v (Sets (FineTimer fine)) at h = h
 event_near now v (Sets (MinRto duration)) at h =
     record { good = set_good duration v.block.round_trip h.good.timeout; timer = h.timer; pause = h.pause; probe = h.probe }
 

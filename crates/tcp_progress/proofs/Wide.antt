@@ -1,5 +1,5 @@
 -- A congestion window is never closed (RFC 5681, 3.1): it takes a byte at least, and so do the threshold and what is kept of either.
-use Rattle.std.proofs.Common.{◌≡◌, ℕ, zero, suc, ◌+◌, ◌-◌, ◌*◌, ◌/◌, ◌≤◌, ◌==◌, ◌&&◌, ◌||◌, nat_le, nat_lt, not, min, max, ℤ, Bool, true, false, if◌then◌else◌}
+use Rattle.std.proofs.Common.{◌≡◌, ℕ, zero, suc, ◌+◌, ◌-◌, ◌*◌, ◌/◌, ◌^◌, ◌≤◌, ◌==◌, ◌&&◌, ◌||◌, nat_le, nat_lt, not, min, max, ℤ, Bool, true, false, if◌then◌else◌}
 use Rattle.std.proofs.Common.{List, length, take, Option, Some, None, is_some, refl, sym, ap, ◌∙◌, subst, arith}
 use Rattle.std.specs.Prelude.{IfSome}
 use Rattle.std.proofs.lemmas.Bool.{cond_both}
@@ -24,7 +24,7 @@ use Rattle.tcp_rules.specs.EndpointPair.{EndpointPair}
 use Rattle.tcp_rules.specs.Endpoints.{header_for}
 use Rattle.tcp_rules.specs.Events.{Event, after}
 use Rattle.tcp_rules.specs.Events.Event.{Comes, Asked, Listens, Connects, Sends, Reads, Closes, Aborts, Sets}
-use Rattle.tcp_rules.specs.Events.Setting.{Timeout, KeepAlive, AckDelay, Nagle, HopLimit, Timestamps, Paused, Retries, Congestion, MinRto}
+use Rattle.tcp_rules.specs.Events.Setting.{Timeout, KeepAlive, AckDelay, Nagle, HopLimit, Timestamps, Paused, Retries, Congestion, MinRto, FineTimer}
 use Rattle.tcp_rules.specs.Moments.{is_over, timeout_from}
 use Rattle.tcp_rules.specs.OfferKind.{OfferKind}
 use Rattle.tcp_rules.specs.OfferKind.TheVariants as Kind
@@ -44,8 +44,8 @@ use Rattle.tcp_model.specs.Settings.{fresh_reno}
 use Rattle.tcp_model.specs.Scoreboard.{held}
 use Rattle.tcp_pair_model.specs.Calls.{listening, connected_by, pair_for, sent_more}
 use Rattle.tcp_pair_model.specs.FirstNumbers.{number_for}
-use Rattle.tcp_pair_model.specs.LossRecovery.{all_noted, heard_more, is_lost_again, loss_lowered, loss_probed, probe_armed, probe_from, probes_losses, probes_tail}
-use Rattle.tcp_pair_model.specs.LossRecovery.{ranges_noted, with_board}
+use Rattle.tcp_pair_model.specs.LossRecovery.{all_noted, heard_more, is_lost_again, loss_lowered, loss_probed, probe_armed, probe_from, probes_losses}
+use Rattle.tcp_pair_model.specs.LossRecovery.{probes_tail, ranges_noted, with_board}
 use Rattle.tcp_pair_model.specs.Offers.{number_at, offer_choice, offer_of, offer_segment}
 use Rattle.tcp_pair_model.specs.Retries.{asked, heard, one_more}
 use Rattle.tcp_pair_model.specs.Rules.{Choice, backed_off_now, control_for, probe_choice, resend_choice, text_choice}
@@ -53,6 +53,7 @@ use Rattle.tcp_pair_model.specs.Segments.{ack_segment, hops_of, keep_alive_segme
 use Rattle.tcp_pair_model.specs.Settled.{end_of, nxt_moved, probed, recorded, resent, sent_as, settled, syn_went, timer_started, went}
 use Rattle.tcp_pair_model.specs.Timestamps.{echo_taken, stamp_taken}
 use Rattle.tcp_pair_model.specs.Undone.{undone}
+use Rattle.tcp_model.specs.Validation.{grown_if_used, is_used, periods_ended}
 use Rattle.tcp_pair_model.specs.Value.{TcpValue, Arrived, with_block, unoffered, ended, free_in, new_socket, queued_in, room_of, window_of}
 use Rattle.tcp_pair_model.specs.Values.{PairValue, new_pair}
 use Rattle.tcp_pair_model.specs.declared.event.Side.{Side}
@@ -212,6 +213,33 @@ wide_acknowledged r count now rtt w =
     (λ _. w)
     (λ _. record { mss = w.mss; cwnd = wide_widened r count now rtt w; ssthresh = w.ssthresh })
 
+wide_preserved : (r : RenoValue) (count : ℕ) → IsWide r → IsWide (reno.preserved r count)
+wide_preserved r count w =
+    cond_both (count == 0) r (record r { timed_out = false; cubic = reno.stopped r.cubic }) IsWide (λ _. w)
+    (λ _. record { mss = w.mss; cwnd = w.cwnd; ssthresh = w.ssthresh })
+
+wide_grown : (b : Block) (count : ℕ) (now : ℤ) (rtt : ℕ) → IsWide b.reno → IsWide (grown_if_used b count now rtt)
+wide_grown b count now rtt w =
+    cond_both (is_used b) (reno.acknowledged b.reno count now rtt) (reno.preserved b.reno count) IsWide (λ _. wide_acknowledged b.reno count now rtt w)
+    (λ _. wide_preserved b.reno count w)
+
+wide_lapsed : (r : RenoValue) (periods : ℕ) → IsWide r → IsWide (reno.lapsed r periods)
+wide_lapsed r periods w = record {
+  mss = w.mss;
+  cwnd =
+      cond_both (periods == 0) r.cwnd (min r.cwnd (max (r.cwnd / 2 ^ periods) (reno.first_window r.mss))) (λ (n : ℕ). 1 ≤ n) (λ _. w.cwnd)
+      (λ _. least r.cwnd (r.cwnd / 2 ^ periods) r.mss w.cwnd w.mss);
+  ssthresh =
+      cond_both (periods == 0) r.ssthresh (max r.ssthresh (3 * r.cwnd / 4)) (λ (n : ℕ). 1 ≤ n) (λ _. w.ssthresh)
+      (λ _. above r.ssthresh (3 * r.cwnd / 4) w.ssthresh);
+}
+  where
+    least : (cwnd half mss : ℕ) → 1 ≤ cwnd → 1 ≤ mss → 1 ≤ min cwnd (max half (min (10 * mss) (max (2 * mss) 14_600)))
+    least cwnd half mss e f = omega arith
+
+    above : (a b : ℕ) → 1 ≤ a → 1 ≤ max a b
+    above a b e = omega arith
+
 -- a window at the start, with CUBIC or without
 window_fresh : (control : CongestionControl) → IsWide (fresh_window control)
 window_fresh control = wide_fresh (cubic_of control)
@@ -255,10 +283,10 @@ ranges_undo b header now =
     (heard_more b (all_noted b b.loss.board.runs header.options.sack_ranges) now) b.loss (λ (l : Loss). l.undo ≡ b.loss.undo)
     (λ _.
     cond_both (nat_lt (held b.loss.board.runs) (held (all_noted b b.loss.board.runs header.options.sack_ranges)))
-    (probe_armed b (record b.loss { board = record { runs = all_noted b b.loss.board.runs header.options.sack_ranges }; probed = false }) now)
+    (probe_armed b (record b.loss { board = record { runs = all_noted b b.loss.board.runs header.options.sack_ranges }; probes = false; probed = false }) now)
     (with_board b.loss (all_noted b b.loss.board.runs header.options.sack_ranges)) (λ (l : Loss). l.undo ≡ b.loss.undo)
     (λ _.
-    armed_undo b (record b.loss { board = record { runs = all_noted b b.loss.board.runs header.options.sack_ranges }; probed = false }) now)
+    armed_undo b (record b.loss { board = record { runs = all_noted b b.loss.board.runs header.options.sack_ranges }; probes = false; probed = false }) now)
     (λ _. refl))
     (λ _. refl)
 
@@ -266,17 +294,17 @@ acked_wide : (b : Block) (by queued : ℕ) (now : ℤ) → Wide b → Wide (una_
 acked_wide b by queued now w = record {
   reno =
       cond_both (acks_own_syn b by) (reno.started b.reno b.sender.syn_lost)
-      (if acks_in_recovery b by then recovery_after b by queued else reno.acknowledged b.reno (freed_by b by queued) now (srtt_after b by now)) IsWide
+      (if acks_in_recovery b by then recovery_after b by queued else grown_if_used b (freed_by b by queued) now (srtt_after b by now)) IsWide
       (λ _. wide_started b.reno b.sender.syn_lost w.reno)
       (λ _.
-      cond_both (acks_in_recovery b by) (recovery_after b by queued) (reno.acknowledged b.reno (freed_by b by queued) now (srtt_after b by now)) IsWide
+      cond_both (acks_in_recovery b by) (recovery_after b by queued) (grown_if_used b (freed_by b by queued) now (srtt_after b by now)) IsWide
       (λ _.
       cond_both (is_partial b by) (partly_after b by queued) (reno.recovered b.reno) IsWide
       (λ _.
       cond_both b.peer.sack b.reno (reno.partly b.reno (freed_by b by queued)) IsWide (λ _. w.reno)
       (λ _. wide_partly b.reno (freed_by b by queued) w.reno))
       (λ _. wide_recovered b.reno w.reno))
-      (λ _. wide_acknowledged b.reno (freed_by b by queued) now (srtt_after b by now) w.reno));
+      (λ _. wide_grown b (freed_by b by queued) now (srtt_after b by now) w.reno));
   undo =
       cond_both (by == 0) b.loss (probe_armed (una_risen b by queued now) (loss_lowered b.loss by (is_partial b by)) now)
       (λ (l : Loss). IfSome l.undo (λ u. IsWide u.reno))
@@ -416,7 +444,9 @@ sent_wide Kind.Reset b o queued w = w
 sent_wide Kind.Syn b o queued w = went_wide (syn_went b o) o queued w
 sent_wide Kind.FastRetransmission b o queued w =
     went_wide (resent b (end_of b o)) o queued (record { reno = w.reno; undo = w.undo; peer = w.peer })
-sent_wide Kind.Text b o queued w = went_wide b o queued w
+sent_wide Kind.Text b o queued w =
+    let on = went_wide b o queued w in
+    record { reno = wide_lapsed b.reno (periods_ended (went b o queued) b.sender.top o.moment) on.reno; undo = on.undo; peer = on.peer }
 sent_wide Kind.Probe b o queued w = asked_wide (probed b (end_of b o) o.moment) o.moment (record { reno = w.reno; undo = w.undo; peer = w.peer })
 sent_wide Kind.KeepAlive b o queued w = asked_wide b o.moment w
 sent_wide Kind.Ack b o queued w = w
@@ -521,8 +551,16 @@ connected_wide v (Some pair) number w = record { reno = window_fresh v.block.set
 
 set_wide : (b : Block) (control : CongestionControl) → Wide b → IsWide (fresh_reno b control)
 set_wide b control w =
-    cond_both b.receiver.took_syn (reno.with_mss (fresh_window control) b.peer.mss) (fresh_window control) IsWide
-    (λ _. wide_mss (fresh_window control) b.peer.mss w.peer (window_fresh control)) (λ _. window_fresh control)
+    cond_both (not b.receiver.took_syn) (fresh_window control)
+    (if b.sender.syn_unacked then reno.with_mss (fresh_window control) b.peer.mss
+    else reno.started (reno.with_mss (fresh_window control) b.peer.mss) false) IsWide
+    (λ _. window_fresh control)
+    (λ _.
+    cond_both b.sender.syn_unacked (reno.with_mss (fresh_window control) b.peer.mss) (reno.started (reno.with_mss (fresh_window control) b.peer.mss) false)
+    IsWide (λ _. named) (λ _. wide_started (reno.with_mss (fresh_window control) b.peer.mss) false named))
+  where
+    named : IsWide (reno.with_mss (fresh_window control) b.peer.mss)
+    named = wide_mss (fresh_window control) b.peer.mss w.peer (window_fresh control)
 
 abbrev WideIn : TcpValue → Type 0
 WideIn v = Wide v.block
@@ -556,8 +594,9 @@ event_wide v (Sets (HopLimit limit)) w = w
 event_wide v (Sets (Timestamps generator)) w = w
 event_wide v (Sets (Paused paused)) w = w
 event_wide v (Sets (Retries limit)) w = w
-event_wide v (Sets (Congestion control)) w = record { reno = set_wide v.block control w; undo = w.undo; peer = w.peer }
+event_wide v (Sets (Congestion control)) w = record { reno = set_wide v.block control w; undo = tt; peer = w.peer }
 event_wide v (Sets (MinRto duration)) w = w
+event_wide v (Sets (FineTimer fine)) w = w
 
 new_wide : (room : ℕ) (ring : Ring ℕ) → WideIn (new_socket room ring)
 new_wide room ring = record { reno = wide_fresh None; undo = tt; peer = omega arith }

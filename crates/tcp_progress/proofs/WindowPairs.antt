@@ -154,6 +154,7 @@ module _ (own theirs : ℕ) (s : PairSide) (others : List SentSegment) (order : 
   set_fits (Set.PauseSynack paused) = h.fit
   set_fits (Set.Retries limit) = h.fit
   set_fits (Set.MinRto duration) = h.fit
+  set_fits (Set.FineTimer fine) = h.fit
 
   replied : (answer : Option Reply) → AnnouncesIn own answer → AllByRecursion (IsTold own) (and_reply s.sent answer)
   replied None a = h.told

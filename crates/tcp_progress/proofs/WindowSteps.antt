@@ -37,7 +37,8 @@ use Rattle.tcp_rules.proofs.OrderRules.{control_least}
 use Rattle.tcp_rules.proofs.OrderSteps.{clash, distance_at_most}
 use Rattle.tcp_model.proofs.Holes.{again_sent, hole_least}
 use Rattle.tcp_model.specs.Undone.{is_needless}
-use Rattle.tcp_pair_model.specs.Acknowledged.{acknowledged, acks_fin, freed_by, scaled, state_after_ack, windowed}
+use Rattle.tcp_model.specs.Scoreboard.{first_missing}
+use Rattle.tcp_pair_model.specs.Acknowledged.{acknowledged, acks_fin, counted, duplicates_after, freed_by, ranges_taken, scaled, state_after_ack, windowed}
 use Rattle.tcp_pair_model.specs.Answers.{acked, drawn, may_draw, with_draw}
 use Rattle.tcp_pair_model.specs.Arrival.{arrives, arrives_in, challenges_reset, checked, draws_first, echo_heard, inside, is_void_syn, outside}
 use Rattle.tcp_pair_model.specs.Arrival.{has_length, passed_outside, received, reset_comes, taken, takes_reset, tells_news, waiting_anew}
@@ -51,7 +52,7 @@ use Rattle.tcp_pair_model.specs.Offers.{number_at, offer_choice, offer_of, offer
 use Rattle.tcp_pair_model.specs.Probing.{is_probing}
 use Rattle.tcp_pair_model.specs.Retries.{asked, heard, one_more}
 use Rattle.tcp_pair_model.specs.Rules.{Choice, backed_off_now, congestion_limit, control_for, fin_goes, next_place, owes_syn, probe_choice, resend_choice}
-use Rattle.tcp_pair_model.specs.Rules.{sent_places, size_limit, text_choice, unbroken, congestion_room}
+use Rattle.tcp_pair_model.specs.Rules.{sent_places, size_limit, text_choice, congestion_room}
 use Rattle.tcp_pair_model.specs.Segments.{hops_of, keep_alive_segment, no_ranges, segment, syn_segment}
 use Rattle.tcp_pair_model.specs.Settled.{end_of, probed, recorded, settled}
 use Rattle.tcp_pair_model.specs.Timestamps.{stamp_taken}
@@ -61,7 +62,7 @@ use Rattle.tcp_model.specs.declared.block.CongestionControl.TheVariants as Avoid
 use Rattle.tcp_progress.specs.Windows.{Announces}
 use Rattle.tcp_progress.proofs.Fields.{field_fits, heard_fits, plain_announces, reset_announces}
 use Rattle.tcp_progress.proofs.Short.{EndsShort, IsShort, acked_short, again_ends, back_short, fin_ends, first_ends, none_short, one_at_most, probe_ends}
-use Rattle.tcp_progress.proofs.Short.{probed_short, text_ends, undone_short, went_short}
+use Rattle.tcp_progress.proofs.Short.{held_short, probed_short, text_ends, undone_short, went_short}
 
 -- A SOCKET
 
@@ -354,6 +355,25 @@ module _ (cx : ContextValue) (ip : IpRepr) (header : TcpHeader) (bytes : List �
       same : (n : ℕ) → n ≤ n
       same n = omega arith
 
+  -- what its ranges tell of leaves all but SND.NXT
+  heeded_fit :
+      (u : TcpValue) (by : ℕ) (b : Block) → IsFit own theirs (fit_of (with_block (acked_open (timed cx.moment header u by) by cx.moment) b))
+      → IsFit own theirs (fit_of (heeded cx.moment header (length bytes) u by b))
+  heeded_fit u by b h =
+      record {
+        room = h.room;
+        window = h.window;
+        scale = h.scale;
+        before = h.before;
+        short =
+            held_short (max 1 theirs) (one_if b.sender.syn_unacked) (queued_in (acked_open (timed cx.moment header u by) by cx.moment)) b.sender.in_flight
+            b.sender.top (first_missing c.loss.board.runs b.sender.in_flight) h.short;
+      }
+    where
+      c : Block
+      c =
+          counted (ranges_taken (stamp_taken b header cx.moment) header cx.moment) (duplicates_after u.block header (length bytes) by) cx.moment
+
   -- of a segment that is neither a SYN nor a reset
   usual :
       (u : TcpValue) → Announces theirs header → is_syn header.control ≡ false → is_rst header.control ≡ false → IsFit own theirs (fit_of u)
@@ -366,11 +386,14 @@ module _ (cx : ContextValue) (ip : IpRepr) (header : TcpHeader) (bytes : List �
     ends = λ _ _ _. (ended_fit u h, tt);
     closes = λ by _ _. (closed_fit own theirs (fit_of (acked_open (timed cx.moment header u by) by cx.moment)) (acked_fit u by h scaled), tt);
     taken = λ by _ _.
-        content (heeded cx.moment header (length bytes) u by (acked_open (timed cx.moment header u by) by cx.moment).block) (acked_fit u by h scaled) scaled;
+        let b = (acked_open (timed cx.moment header u by) by cx.moment).block in
+        content (heeded cx.moment header (length bytes) u by b) (heeded_fit u by b (acked_fit u by h scaled)) scaled;
     taken_window = λ by _ _.
-        content (heeded cx.moment header (length bytes) u by (windowed (acked_open (timed cx.moment header u by) by cx.moment).block header))
+        let b = windowed (acked_open (timed cx.moment header u by) by cx.moment).block header in
+        content (heeded cx.moment header (length bytes) u by b)
+        (heeded_fit u by b
         (with_window own theirs (fit_of (acked_open (timed cx.moment header u by) by cx.moment)) _
-        (heard_fits theirs u.block.peer.scale header.window_len scaled (tells.later no_syn no_rst)) (acked_fit u by h scaled))
+        (heard_fits theirs u.block.peer.scale header.window_len scaled (tells.later no_syn no_rst)) (acked_fit u by h scaled)))
         scaled;
     news = λ by _ _.
         drawing (waiting_anew (acked_open (timed cx.moment header u by) by cx.moment) header cx.moment) (acked_fit u by h scaled) scaled;
@@ -512,7 +535,7 @@ module _ (own theirs : ℕ) (x : TcpValue) (h : IsFit own theirs (fit_of x)) (sm
     c = text_choice x.block addresses mtu x.queued
 
     size : ℕ
-    size = min (size_limit x.block addresses mtu) (unbroken x.queued (next_place x.block))
+    size = min (size_limit x.block addresses mtu) (queued_in x - next_place x.block)
 
     fits : c.len ≤ x.block.peer.window - x.block.sender.in_flight
     fits =
@@ -569,7 +592,7 @@ module _ (own theirs : ℕ) (x : TcpValue) (h : IsFit own theirs (fit_of x)) (sm
         (subst (λ (t : Bool). control ≤ one_if t) e (control_least c (queued_in x)))
     end false e =
         without c.place c.len control sent (again_sent x.block (size_limit x.block addresses mtu) sent (queued_in x))
-        (cut (sent - c.place) (min (size_limit x.block addresses mtu) (unbroken x.queued c.place)) (hole_len x.block c.place sent)
+        (cut (sent - c.place) (min (size_limit x.block addresses mtu) (queued_in x - c.place)) (hole_len x.block c.place sent)
         (hole_least x.block c.place sent))
         (subst (λ (t : Bool). control ≤ one_if t) e (control_least c (queued_in x)))
 

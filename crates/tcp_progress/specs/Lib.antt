@@ -15,3 +15,4 @@ pub mod Near
 pub mod Windows
 pub mod BothWays
 pub mod Talking
+pub mod Connection

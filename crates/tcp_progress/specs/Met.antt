@@ -5,9 +5,10 @@ use Rattle.tcp_pair_model.specs.Offers.{offer_of}
 use Rattle.tcp_pair_model.specs.declared.event.SentSegment.{SentSegment}
 use Rattle.tcp_pair_model.specs.declared.event.Side.TheVariants.{A, B}
 use Rattle.tcp_pair_model.specs.declared.event.PairEvent.{PairEvent}
-use Rattle.tcp_pair_model.specs.declared.event.PairEvent.TheVariants.{Listen, Connect, Send, Offer, Deliver}
+use Rattle.tcp_pair_model.specs.declared.event.PairEvent.TheVariants.{Close, Listen, Connect, Send, Offer, Deliver}
 use Rattle.tcp_pair_model.specs.Examples.{socket, server, port, run}
 use Rattle.tcp_pair_model.specs.Values.{PairValue, new_pair}
+use Rattle.tcp_progress.specs.Handshake.{shaken_in}
 use Rattle.tcp_progress.specs.Pair.{context_of, exchanged_in}
 
 -- three segments open a connection
@@ -32,6 +33,16 @@ called = run (new_pair socket socket) calling
 
 abbrev pub unheard : PairValue
 unheard = run called (Offer A (pos 0) true ∷ [])
+
+-- three segments open the connection, both users write three bytes, and close
+abbrev pub answered : PairValue
+answered = shaken_in called A (pos 0) (pos 0) (pos 0)
+
+abbrev pub writing : List PairEvent
+writing = Send A (97 ∷ 98 ∷ 99 ∷ []) ∷ Send B (120 ∷ 121 ∷ 122 ∷ []) ∷ Close A ∷ Close B ∷ []
+
+abbrev pub conversing : PairValue
+conversing = run answered writing
 
 abbrev pub events : List PairEvent
 events = opening ++ Send A (97 ∷ 98 ∷ 99 ∷ []) ∷ Offer A (pos 0) true ∷ []

@@ -1,7 +1,7 @@
 -- What both ways of a connection ask for at the beginning, and what in each turn.
-use Rattle.std.specs.Prelude.{◌≡◌, ℕ, zero, suc, ◌*◌, ◌≤◌, pos, ◌+ℤ◌, ◌≤ℤ◌, true, false, None}
+use Rattle.std.specs.Prelude.{◌≡◌, ℕ, zero, suc, ◌+◌, ◌*◌, ◌≤◌, pos, ◌+ℤ◌, ◌≤ℤ◌, true, false, None}
 use Rattle.net_base.specs.Time.{last_moment}
-use Rattle.tcp_pair_model.specs.Retries.{gives_up}
+use Rattle.tcp_pair_model.specs.Retries.{gives_up, reaches}
 use Rattle.tcp_pair_model.specs.Sides.{at}
 use Rattle.tcp_pair_model.specs.Value.{queued_in, room_of}
 use Rattle.tcp_pair_model.specs.Values.{PairValue, past_at}
@@ -35,6 +35,15 @@ pub record AreTalking (n : ℕ) (p : PairValue) : Type 0 where
   pub listened : OneListened p A
   pub minutes_a : HasMinutes n p A
   pub minutes_b : HasMinutes n p B
+
+-- so many timeouts more, and so many questions, may stay unanswered before the side gives up
+pub record HasTries (n : ℕ) (p : PairValue) (side : Side) : Type 0 where
+  pub timeouts : reaches (socket_of p side).block.settings.retries ((socket_of p side).block.sender.timeouts + n) ≡ false
+  pub questions : reaches (socket_of p side).block.settings.retries ((socket_of p side).block.sender.unanswered + n) ≡ false
+
+-- Four of each side are enough: of so many turns of a side in a row the last at least is answered.
+abbrev pub HaveTries : PairValue → Type 0
+HaveTries p = HasTries 4 p A × HasTries 4 p B
 
 -- neither gives up, however many timeouts there are
 abbrev pub NeverGiveUp : PairValue → Type 0

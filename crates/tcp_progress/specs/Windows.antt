@@ -3,8 +3,10 @@ use Rattle.std.specs.Prelude.{◌≡◌, ℕ, ◌+◌, ◌*◌, ◌^◌, ◌≤�
 use Rattle.std.specs.List.{AllByRecursion}
 use Rattle.ip_wire.specs.TcpHeader.{TcpHeader}
 use Rattle.tcp_rules.specs.Controls.{is_syn, is_rst}
-use Rattle.tcp_pair_model.specs.Blocks.{own_scale}
-use Rattle.tcp_pair_model.specs.Value.{TcpValue, room_of}
+use Rattle.tcp_rules.specs.OpenOffer.{OpenOffer}
+use Rattle.tcp_rules.specs.States.{takes_text}
+use Rattle.tcp_pair_model.specs.Blocks.{is_worth_telling, own_scale, window_field}
+use Rattle.tcp_pair_model.specs.Value.{TcpValue, free_in, room_of}
 use Rattle.tcp_pair_model.specs.Values.{PairSide}
 use Rattle.tcp_pair_model.specs.declared.event.SentSegment.{SentSegment}
 
@@ -26,3 +28,15 @@ HasTold s = AllByRecursion (IsTold (room_of s.socket.received)) s.sent
 pub record KeepsToWindow (v partner : TcpValue) : Type 0 where
   pub window : v.block.peer.window ≤ room_of partner.received
   pub sent : v.block.sender.top ≤ max 1 (room_of partner.received) + 2
+
+-- So much space came free, in a state in which text may come, that it is worth a segment (3.8.6.2.2); and the own SYN is acknowledged.
+pub record OwesUpdate (v : TcpValue) : Type 0 where
+  pub takes : takes_text v.block.state ≡ true
+  pub worth : is_worth_telling v.block (room_of v.received) (free_in v) ≡ true
+  pub acknowledged : v.block.sender.syn_unacked ≡ false
+
+-- the segment that a socket offers tells the free space of `v`, as far as its field can
+pub record TellsSpace (v x : TcpValue) : Type 0 where
+  pub offer : OpenOffer
+  pub offered : x.offered ≡ Some offer
+  pub tells : offer.segment.window_len ≡ window_field v.block (room_of v.received) (free_in v)

@@ -9,7 +9,7 @@ ghost use Rattle.tcp_progress.specs.Arrivals.{is_synchronized};
 ghost use Rattle.tcp_progress.specs.BothWays.{AreThere, IsThrough, MayRounds, bound, both_read, rounds_in};
 ghost use Rattle.tcp_progress.specs.Pair.{socket_of};
 ghost use Rattle.tcp_progress.specs.Reached.{IsReached};
-ghost use Rattle.tcp_progress.specs.Talking.{AreTalking, MayTalk, NeverGiveUp};
+ghost use Rattle.tcp_progress.specs.Talking.{AreTalking, HaveTries, MayTalk, NeverGiveUp};
 
 /// Of a pair that events led to, with both connections: rounds, in each of which both users read and each side that waits has an exchange when
 /// what it waits for has come. As long as it may, all that either user wrote is acknowledged, or taken, after as many rounds as there are
@@ -23,16 +23,29 @@ pub fn both_ways_get_through()
 
 /// What a turn asks for follows from the beginning, but for what may fail on the way: of two sides with their connections, of which one
 /// listened, with receive buffers, no user timeout and clocks that don't end, each may have its exchange in every round in which it doesn't
-/// give up, whatever both windows are: so in all, where neither ever does. So both ways get through; and where neither connection is over by
-/// then, the end of each stream that was closed has come.
+/// give up, whatever both windows are. So both ways get through; and where neither connection is over by then, the end of each stream that
+/// was closed has come.
 pub fn two_sides_that_talk_get_through()
-    ensures patient { (n : ℕ) (p : PairValue) → IsReached p → AreTalking n p → NeverGiveUp p → MayTalk n p }
     ensures may { (n : ℕ) (p : PairValue) → IsReached p → AreTalking n p → MayTalk n p → MayRounds n p }
     ensures through { (p : PairValue) → IsReached p → AreTalking (bound p) p → MayTalk (bound p) p → (side : Side)
         → IsThrough (rounds_in (bound p) p) side }
     ensures read { (p : PairValue) → IsReached p → AreTalking (bound p) p → MayTalk (bound p) p → (side : Side)
         → read (both_read (rounds_in (bound p) p)) (other side) ≡ written p side }
     ensures ends { (p : PairValue) → IsReached p → AreTalking (bound p) p → MayTalk (bound p) p → (side : Side)
+        → is_synchronized (socket_of (rounds_in (bound p) p) side).block.state ≡ true
+        → is_synchronized (socket_of (rounds_in (bound p) p) (other side)).block.state ≡ true → (past_at p side).closed ≡ true
+        → (socket_of (rounds_in (bound p) p) (other side)).block.receiver.took_fin ≡ true }
+{}
+
+/// Nothing fails on the way: where each side has four tries left at the beginning, neither gives up in any round, since of four turns of a
+/// side in a row one is answered. So the same follows from the beginning alone.
+pub fn two_sides_with_tries_left_get_through()
+    ensures talk { (n : ℕ) (p : PairValue) → IsReached p → AreTalking n p → HaveTries p → MayTalk n p }
+    ensures patient { (p : PairValue) → NeverGiveUp p → HaveTries p }
+    ensures through { (p : PairValue) → IsReached p → AreTalking (bound p) p → HaveTries p → (side : Side) → IsThrough (rounds_in (bound p) p) side }
+    ensures read { (p : PairValue) → IsReached p → AreTalking (bound p) p → HaveTries p → (side : Side)
+        → read (both_read (rounds_in (bound p) p)) (other side) ≡ written p side }
+    ensures ends { (p : PairValue) → IsReached p → AreTalking (bound p) p → HaveTries p → (side : Side)
         → is_synchronized (socket_of (rounds_in (bound p) p) side).block.state ≡ true
         → is_synchronized (socket_of (rounds_in (bound p) p) (other side)).block.state ≡ true → (past_at p side).closed ≡ true
         → (socket_of (rounds_in (bound p) p) (other side)).block.receiver.took_fin ≡ true }

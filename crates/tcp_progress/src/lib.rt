@@ -2,6 +2,7 @@
 #![tactic(auto)]
 
 pub mod both_ways;
+pub mod connection;
 pub mod handshake;
 pub mod laws;
 pub mod met;

@@ -5,12 +5,13 @@ ghost use Rattle.tcp_progress.specs.BothWays.{bound};
 ghost use Rattle.tcp_progress.specs.Arrivals.{Counts, IsNew, IsAgain};
 ghost use Rattle.tcp_pair_model.specs.Values.{past_at};
 ghost use Rattle.tcp_pair_model.specs.declared.event.Side.TheVariants.{A};
+ghost use Rattle.tcp_progress.specs.Connection.{MayConverse};
 ghost use Rattle.tcp_progress.specs.Handshake.{MayShake};
-ghost use Rattle.tcp_progress.specs.Met.{both_gone, called, unheard, gone, come, told, text, late, later, again_in};
+ghost use Rattle.tcp_progress.specs.Met.{both_gone, called, conversing, unheard, gone, come, told, text, late, later, again_in, writing};
 ghost use Rattle.tcp_progress.specs.Pair.{Exchanges, HasStream, MayExchangeIn, MovesIn, exchanged_in, left_in};
 ghost use Rattle.tcp_progress.specs.Reached.{IsReached, Owes};
 ghost use Rattle.tcp_progress.specs.Settle.{MaySettle};
-ghost use Rattle.tcp_progress.specs.Talking.{AreTalking, MayTalk};
+ghost use Rattle.tcp_progress.specs.Talking.{AreTalking, HaveTries, MayTalk};
 
 /// Three bytes that have gone: their side waits, and they count and are new to the other; once they have come, they are old to it.
 pub fn what_the_laws_ask_for_is_met()
@@ -54,5 +55,12 @@ pub fn what_rounds_ask_for_is_met()
 pub fn what_talking_asks_for_is_met()
     ensures enough { bound both_gone ≡ 12 }
     ensures talking { AreTalking 12 both_gone }
+    ensures tries { HaveTries both_gone }
     ensures turns { MayTalk 12 both_gone }
+{}
+
+/// A whole connection is met by default sockets: one calls the other, each user writes three bytes, and both close.
+pub fn what_a_connection_asks_for_is_met()
+    ensures reached { IsReached called }
+    ensures converses { MayConverse called A (pos 0) (pos 0) (pos 0) writing conversing }
 {}

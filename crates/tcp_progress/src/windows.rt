@@ -1,16 +1,23 @@
 //! That each side keeps to the other's window.
 
-ghost use Rattle.std.specs.Prelude.{◌≡◌, ◌+◌, ◌≤◌, true};
+ghost use Rattle.std.specs.Prelude.{◌≡◌, ℕ, ◌+◌, ◌≤◌, true, false, Some};
 ghost use Rattle.ip_wire.specs.Seq.{distance_of};
+ghost use Rattle.tcp_rules.specs.EndpointPair.{EndpointPair};
+ghost use Rattle.tcp_rules.specs.Ends.{GoesOn};
+ghost use Rattle.tcp_rules.specs.States.{is_closed};
+ghost use Rattle.tcp_tie.specs.Context.{ContextValue};
+ghost use Rattle.tcp_tie.specs.PollAt.TheVariants as At;
+ghost use Rattle.tcp_pair_model.specs.Due.{poll_of};
+ghost use Rattle.tcp_pair_model.specs.Offers.{offer_of};
 ghost use Rattle.tcp_pair_model.specs.Sides.{at, other};
-ghost use Rattle.tcp_pair_model.specs.Value.{room_of};
+ghost use Rattle.tcp_pair_model.specs.Value.{TcpValue, room_of};
 ghost use Rattle.tcp_pair_model.specs.Values.{PairValue};
 ghost use Rattle.tcp_pair_model.specs.declared.event.Side.{Side};
 ghost use Rattle.tcp_progress.specs.Arrivals.{is_synchronized};
 ghost use Rattle.tcp_progress.specs.Exchange.{IsOpen};
 ghost use Rattle.tcp_progress.specs.Pair.{socket_of};
 ghost use Rattle.tcp_progress.specs.Reached.{IsReached};
-ghost use Rattle.tcp_progress.specs.Windows.{HasTold, KeepsToWindow};
+ghost use Rattle.tcp_progress.specs.Windows.{HasTold, KeepsToWindow, OwesUpdate, TellsSpace};
 
 /// Whatever happened to two sockets: no segment of a side announces more than its receive buffer holds; and the other sends no further past
 /// SND.UNA than that buffer reaches, but for a byte that probes it, the SYN and the FIN. So what a side took, past all that the other knows
@@ -22,4 +29,13 @@ pub fn a_side_keeps_to_the_windows()
         → is_synchronized (socket_of p (other side)).block.state ≡ true → 1 ≤ room_of (socket_of p (other side)).received
         → distance_of (socket_of p side).block.sender.una (socket_of p (other side)).block.receiver.next
         ≤ room_of (socket_of p (other side)).received + 2 }
+{}
+
+/// Space that came free and is worth telling is told: a socket whose connection lasts wants to be asked at once, and then whatever goes
+/// tells all of it.
+pub fn space_that_is_worth_telling_is_told()
+    ensures asks { (ip_mtu : ℕ) (v : TcpValue) (pair : EndpointPair) → v.block.names.pair ≡ Some pair → is_closed v.block.state ≡ false
+        → OwesUpdate v → poll_of ip_mtu v ≡ At.Now }
+    ensures tells { (cx : ContextValue) (v : TcpValue) (pair : EndpointPair) → v.block.names.pair ≡ Some pair → GoesOn cx v → OwesUpdate v
+        → TellsSpace v (offer_of cx v).socket }
 {}

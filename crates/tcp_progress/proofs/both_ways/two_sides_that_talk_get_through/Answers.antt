@@ -1,11 +1,10 @@
 use Rattle.tcp_progress.specs.BothWays.{bound}
-use Rattle.tcp_progress.proofs.Talks.{fin_taken, patient, talks, there}
+use Rattle.tcp_progress.proofs.Talks.{fin_taken, talks, there}
 use Rattle.tcp_progress.proofs.Turns.{all_read_in, through}
 use Rattle.tcp_progress.proofs.both_ways.two_sides_that_talk_get_through.Goals as goal
 
 pub returns : goal.returns
 returns c = record {
-  patient = patient;
   may = talks;
   through = λ p r s m. through p r (there (bound p) p s) (talks (bound p) p r s m);
   read = λ p r s m. all_read_in p r (there (bound p) p s) (talks (bound p) p r s m);

@@ -55,5 +55,6 @@ returns c = record {
         minutes_a = record { begun = le_of _ _ refl; left = le_of _ _ refl };
         minutes_b = record { begun = le_of _ _ refl; left = le_of _ _ refl };
       };
+  tries = (record { timeouts = refl; questions = refl }, record { timeouts = refl; questions = refl });
   turns = (λ _. first, λ _. second, (λ e. never e, λ _. third, done_talks 10 (round_in (round_in both_gone)) refl refl));
 }

@@ -1,0 +1,610 @@
+-- What a side says that is asked twice: how long it is, and what the asking leaves of the count of its tries.
+use Rattle.std.proofs.Common.{◌≡◌, ◌⊎◌, inl, inr, ℕ, zero, suc, ◌+◌, ◌-◌, ◌*◌, ◌<◌, ◌≤◌, ◌==◌, ◌&&◌, ◌||◌, min, max, not, ℤ, Bool, true, false}
+use Rattle.std.proofs.Common.{if◌then◌else◌, List, [], length, take, drop, Option, Some, None, is_some, refl, sym, ap, ◌∙◌, subst, arith}
+use Rattle.std.proofs.Common.{length-take, length-drop}
+use Rattle.std.proofs.lemmas.Bool.{cond_both, eq-eqb, eqb-true, ne_eqb}
+use Rattle.net_base.specs.Ring.{Ring}
+use Rattle.ip_wire.specs.Control.{control_len}
+use Rattle.ip_wire.specs.Tcp.{header_len}
+use Rattle.ip_wire.specs.TcpControl.{TcpControl}
+use Rattle.ip_wire.specs.TcpControl.TheVariants as Control
+use Rattle.ip_wire.specs.TcpHeader.{TcpHeader}
+use Rattle.tcp_tie.specs.Context.{ContextValue}
+use Rattle.tcp_tie.specs.Offers.{Offered}
+use Rattle.tcp_tie.proofs.Tied.{if_so, if_not}
+use Rattle.tcp_rules.specs.EndpointPair.{EndpointPair}
+use Rattle.tcp_rules.specs.Endpoints.{header_for}
+use Rattle.tcp_rules.specs.Moments.{is_due, is_over, timeout_from}
+use Rattle.tcp_rules.specs.OfferKind.{OfferKind}
+use Rattle.tcp_rules.specs.OfferKind.TheVariants as Kind
+use Rattle.tcp_rules.specs.OpenOffer.{OpenOffer}
+use Rattle.tcp_rules.specs.States.{sends_text}
+use Rattle.tcp_rules.specs.Timing.{carries}
+use Rattle.tcp_rules.proofs.OfferCases.{begun, by_first, probing}
+use Rattle.tcp_rules.proofs.OrderSteps.{clash}
+use Rattle.tcp_model.specs.AddressPair.{AddressPair}
+use Rattle.tcp_model.specs.Reno as reno
+use Rattle.tcp_model.specs.Reno.{RenoValue}
+use Rattle.tcp_model.specs.declared.block.CongestionControl.{CongestionControl}
+use Rattle.tcp_model.specs.declared.block.CongestionControl.TheVariants as Congestion
+use Rattle.tcp_model.specs.declared.block.Loss.{Loss}
+use Rattle.tcp_model.specs.declared.block.Peer.{Peer}
+use Rattle.tcp_model.specs.Undo.{undo_sent}
+use Rattle.tcp_pair_model.specs.Block.{Block}
+use Rattle.tcp_pair_model.specs.Blocks.{past_top}
+use Rattle.tcp_pair_model.specs.LossRecovery.{fills_hole, loss_probe_moment, loss_probed, loss_probed_by, pipe, probe_armed, probe_from, probes_losses}
+use Rattle.tcp_pair_model.specs.Offers.{backed_off, first_rules, last_rules, number_at, offer_choice, offer_of, offer_segment, offer_syn}
+use Rattle.tcp_pair_model.specs.Probing.{probe_started}
+use Rattle.tcp_pair_model.specs.Retries.{asked, one_more}
+use Rattle.tcp_pair_model.specs.Rules.{Choice, backed_off_now, beyond, congestion_room, control_for, has_text, next_place, owes_syn, probe_choice}
+use Rattle.tcp_pair_model.specs.Rules.{resend_choice, resends, size_limit, text_choice}
+use Rattle.tcp_pair_model.specs.Segments.{ack_segment, hops_of, keep_alive_segment, segment, segment_len}
+use Rattle.tcp_pair_model.specs.Settled.{end_of, nxt_moved, probed, recorded, resent, settled, timer_started, went}
+use Rattle.tcp_pair_model.specs.Value.{TcpValue, queued_in, room_of, unoffered, window_of, with_block}
+use Rattle.tcp_progress.specs.Exchange.{text_of}
+use Rattle.tcp_progress.proofs.Held.{at_una, full, len_is, most_of, widest}
+use Rattle.tcp_progress.proofs.Resumes.{Starts, StartsWith, idles, no_hole, no_probe, no_syn, ran_out, to_rules}
+
+-- THE VOICE OF A SIDE
+
+-- what bounds a segment of text, but for the congestion window and the send queue
+pub record Voice : Type 0 where
+  pub limit : ℕ
+  pub mss : ℕ
+  pub window : ℕ
+  pub control : CongestionControl
+
+abbrev pub voice_of : AddressPair → ℕ → Block → Voice
+voice_of addresses mtu b = record {
+  limit = size_limit b addresses mtu;
+  mss = b.reno.mss;
+  window = b.peer.window;
+  control = b.settings.congestion_control;
+}
+
+-- how much text goes once the timer has run out: the congestion window is a segment then (RFC 5681, 3.1)
+abbrev pub says : Voice → Ring ℕ → ℕ
+says voice queued = min (widest voice.control voice.mss voice.window) (min voice.limit (length queued.queue))
+
+-- no more than the remote's window
+pub says_most : (voice : Voice) (queued : Ring ℕ) → says voice queued ≤ voice.window
+says_most voice queued = by voice.control where
+  alone : (window rest : ℕ) → min window rest ≤ window
+  alone window rest = omega arith
+
+  less : (mss window rest : ℕ) → min (min mss window) rest ≤ window
+  less mss window rest = omega arith
+
+  by : (control : CongestionControl) → min (widest control voice.mss voice.window) (min voice.limit (length queued.queue)) ≤ voice.window
+  by Congestion.None = alone voice.window (min voice.limit (length queued.queue))
+  by other = less voice.mss voice.window (min voice.limit (length queued.queue))
+
+-- the timer has run out
+pub record IsSlowed (b : Block) : Type 0 where
+  pub cwnd : b.reno.cwnd ≡ b.reno.mss
+  pub recover : 1 ≤ b.sender.recover
+
+some_not : (n : ℕ) → 1 ≤ n → (n == 0) ≡ false
+some_not n e = ne_eqb n 0 (never n e) where
+  never : (n : ℕ) → 1 ≤ n → n ≡ 0 → ⊥
+  never n e f = absurd (omega arith)
+
+room_is : (b : Block) → b.sender.in_flight ≡ 0 → IsSlowed b → congestion_room b ≡ b.reno.mss
+room_is b none slow =
+    cond_both b.peer.sack (b.reno.cwnd - pipe b) (b.reno.cwnd + beyond b - b.sender.in_flight) (λ (n : ℕ). n ≡ b.reno.mss)
+    (λ _. less b.reno.cwnd (pipe b) (if_so (b.sender.in_flight == 0) 0 _ (eq-eqb b.sender.in_flight 0 none)) ∙ slow.cwnd)
+    (λ _.
+    all b.reno.cwnd (beyond b) b.sender.in_flight (if_not (b.sender.recover == 0) (b.reno.mss * min 2 b.sender.duplicates) 0 (some_not b.sender.recover slow.recover))
+    none
+    ∙ slow.cwnd)
+  where
+    less : (cwnd pipe : ℕ) → pipe ≡ 0 → cwnd - pipe ≡ cwnd
+    less cwnd pipe e = omega arith
+
+    all : (cwnd more flight : ℕ) → more ≡ 0 → flight ≡ 0 → cwnd + more - flight ≡ cwnd
+    all cwnd more flight e f = omega arith
+
+-- THE FIRST TIME IT IS ASKED
+
+-- of a block and what an offer that isn't taken makes of it
+pub record IsRoused (addresses : AddressPair) (mtu : ℕ) (old new : Block) : Type 0 where
+  pub timeouts : new.sender.timeouts ≤ old.sender.timeouts + 1
+  pub unanswered : new.sender.unanswered ≡ old.sender.unanswered
+  -- what wasn't to go again isn't
+  pub again : old.sender.resend ≡ false → old.loss.probes ≡ false → resends new ≡ false
+  pub voice : voice_of addresses mtu new ≡ voice_of addresses mtu old
+  pub slowed : is_some old.timers.retransmit_at ≡ true → IsSlowed new
+
+capped : (n : ℕ) → min (n + 1) 255 ≤ n + 1
+capped n = omega arith
+
+one_above : (n : ℕ) → n ≤ n + 1
+one_above n = omega arith
+
+none_again : (sends resend probes hole : Bool) → resend ≡ false → probes ≡ false → hole ≡ false → (sends && (resend || (probes || hole))) ≡ false
+none_again true resend probes hole e f g = ap (λ (t : Bool). t || (probes || hole)) e ∙ (ap (λ (t : Bool). t || hole) f ∙ g)
+none_again false resend probes hole e f g = refl
+
+module _ (cx : ContextValue) (v : TcpValue) (pair : EndpointPair) (named : v.block.names.pair ≡ Some pair) (m : Starts cx v)
+    (sends : sends_text v.block.state ≡ true) (sent : resends v.block ≡ true → 1 ≤ v.block.sender.top)
+    (runs : is_due cx.moment v.block.timers.retransmit_at ≡ false → v.block.timers.retransmit_at ≡ None) where
+  abbrev Roused : Block → Type 0
+  Roused new = IsRoused pair.addresses cx.ip_mtu v.block new
+
+  backed : Roused (backed_off_now (begun cx v))
+  backed = record {
+    timeouts = capped v.block.sender.timeouts;
+    unanswered = refl;
+    again = λ resend _.
+        none_again (sends_text v.block.state) v.block.sender.resend false (fills_hole b) resend refl
+        (no_hole cx v pair named m sends sent b refl);
+    voice =
+        ap (λ (r : RenoValue). record {
+          limit = size_limit v.block pair.addresses cx.ip_mtu;
+          mss = r.mss;
+          window = v.block.peer.window;
+          control = v.block.settings.congestion_control;
+        }) slow;
+    slowed = λ _.
+        record {
+          cwnd = ap (λ (r : RenoValue). r.cwnd) slow ∙ sym (ap (λ (r : RenoValue). r.mss) slow);
+          recover =
+              subst (λ (n : ℕ). 1 ≤ n) (sym (if_not v.block.sender.syn_unacked v.block.sender.recover (past_top v.block) m.own.acknowledged))
+              (past v.block.sender.top);
+        };
+  }
+    where
+      b : Block
+      b = backed_off_now (begun cx v)
+
+      slow : b.reno ≡ reno.timed_out v.block.reno v.block.sender.in_flight
+      slow = if_not v.block.sender.syn_unacked v.block.reno (reno.timed_out v.block.reno v.block.sender.in_flight) m.own.acknowledged
+
+      past : (top : ℕ) → 1 ≤ min (top + 1) 4_294_967_295
+      past top = omega arith
+
+  idle : is_due cx.moment v.block.timers.retransmit_at ≡ false → v.block.sender.in_flight ≡ 0 → Roused (begun cx v)
+  idle not_due none = record {
+    timeouts = one_above v.block.sender.timeouts;
+    unanswered = refl;
+    again = λ resend probes.
+        none_again (sends_text v.block.state) v.block.sender.resend v.block.loss.probes (fills_hole (begun cx v)) resend probes
+        (no_hole cx v pair named m sends sent (begun cx v) none);
+    voice = refl;
+    slowed = λ some. clash (sym some ∙ ap is_some (runs not_due));
+  }
+
+  first_roused : (b : Block) → Roused b → Roused (first_rules cx (with_block (unoffered v) b) pair).socket.block
+  first_roused b g =
+      by_first cx pair (λ (o : Offered TcpValue). Roused o.socket.block) (with_block (unoffered v) b)
+      (record {
+        syn = λ _. g;
+        again = λ _ _. g;
+        text = λ _ _. g;
+        last = λ _.
+            record { probe = λ _ _. h; held_back = λ _ _. h; ack = λ _. h; update = λ _ _. h; keep_alive = λ _ _. h; quiet = λ _. h };
+      })
+    where
+      h : Roused (probe_started cx.moment (queued_in v) b)
+      h = record { timeouts = g.timeouts; unanswered = g.unanswered; again = g.again; voice = g.voice; slowed = λ e. slow (g.slowed e) } where
+        slow : IsSlowed b → IsSlowed (probe_started cx.moment (queued_in v) b)
+        slow s = record { cwnd = s.cwnd; recover = s.recover }
+
+  pub asked_roused : Roused (offer_of cx v).socket.block
+  asked_roused =
+      subst (λ (o : Offered TcpValue). Roused o.socket.block) (sym (to_rules cx v pair named m sends sent))
+      (at (is_due cx.moment v.block.timers.retransmit_at) refl)
+    where
+      at : (due : Bool) → is_due cx.moment v.block.timers.retransmit_at ≡ due →
+          Roused (first_rules cx (with_block (unoffered v) (backed_off cx.moment (begun cx v))) pair).socket.block
+      at true e =
+          subst (λ (b : Block). Roused (first_rules cx (with_block (unoffered v) b) pair).socket.block)
+          (sym (if_so (is_due cx.moment v.block.timers.retransmit_at) (backed_off_now (begun cx v)) (loss_probed_by cx.moment (begun cx v)) e))
+          (first_roused (backed_off_now (begun cx v)) backed)
+      at false e = by m.over where
+        by : (v.block.sender.in_flight ≡ 0) ⊎ (is_due cx.moment v.block.timers.retransmit_at ≡ true) →
+            Roused (first_rules cx (with_block (unoffered v) (backed_off cx.moment (begun cx v))) pair).socket.block
+        by (inr out) = clash (sym out ∙ e)
+        by (inl none) =
+            subst (λ (b : Block). Roused (first_rules cx (with_block (unoffered v) b) pair).socket.block)
+            (sym
+            (if_not (is_due cx.moment v.block.timers.retransmit_at) (backed_off_now (begun cx v)) (loss_probed_by cx.moment (begun cx v)) e
+            ∙ if_not (is_due cx.moment (loss_probe_moment (begun cx v))) (loss_probed (begun cx v)) (begun cx v)
+            (no_probe cx v pair named m sends sent none)))
+            (first_roused (begun cx v) (idle e none))
+
+-- THE SECOND TIME
+
+-- a segment takes all the text that may go, and its FIN no more than one position beside
+pub record HasSize (v : TcpValue) (len : ℕ) (o : OpenOffer) : Type 0 where
+  pub least : len ≤ length (text_of v o)
+  pub most : segment_len o.segment (length (text_of v o)) ≤ suc len
+
+-- what goes of a socket with this block, and leaves it as `x`
+pub record IsSpoken (addresses : AddressPair) (mtu : ℕ) (v : TcpValue) (b : Block) (o : OpenOffer) (x : TcpValue) : Type 0 where
+  pub timeouts : x.block.sender.timeouts ≡ b.sender.timeouts
+  pub unanswered : x.block.sender.unanswered ≤ b.sender.unanswered + 1
+  pub resend : x.block.sender.resend ≡ false
+  pub probes : x.block.loss.probes ≡ false
+  pub voice : voice_of addresses mtu x.block ≡ voice_of addresses mtu b
+  pub names : x.block.names ≡ b.names
+  pub queued : x.queued ≡ v.queued
+  -- the timer runs, but behind a probe of a closed window
+  pub runs : (is_some x.block.timers.retransmit_at ≡ true) ⊎ (x.block.peer.window ≡ 0)
+  pub size : (resends b ≡ true) ⊎ HasSize v (text_choice b addresses mtu v.queued).len o
+
+armed_probes : (b : Block) (l : Loss) (now : ℤ) → (probe_armed b l now).probes ≡ l.probes
+armed_probes b l now =
+    cond_both (probes_losses b && not l.probed) (record l { probe_at = probe_from b now }) l (λ (x : Loss). x.probes ≡ l.probes) (λ _. refl) (λ _. refl)
+
+started : (timer : Option ℤ) (moment : ℤ) → is_some (if is_some timer then timer else Some moment) ≡ true
+started None moment = refl
+started (Some m) moment = refl
+
+-- what went of the send queue: no loss is probed by it, and the timer runs
+went_probes : (b : Block) (o : OpenOffer) (queued : ℕ) → (went b o queued).loss.probes ≡ b.loss.probes
+went_probes b o queued = armed_probes d (record d.loss { undo = undo_sent d d.loss.undo o.moment }) o.moment where
+  d : Block
+  d = timer_started (nxt_moved b (end_of b o) queued o.moment) o.moment
+
+went_runs : (b : Block) (o : OpenOffer) (queued : ℕ) → is_some (went b o queued).timers.retransmit_at ≡ true
+went_runs b o queued = started b.timers.retransmit_at (timeout_from o.moment (nxt_moved b (end_of b o) queued o.moment).round_trip)
+
+-- nothing is to go again
+not_again : (sends resend probes hole : Bool) → sends ≡ true → (sends && (resend || (probes || hole))) ≡ false → (resend ≡ false) × (probes ≡ false)
+not_again false resend probes hole e f = clash (sym e)
+not_again true true probes hole e f = clash f
+not_again true false true hole e f = clash f
+not_again true false false hole e f = (refl, refl)
+
+control_most : (c : Choice) (queued : ℕ) → control_len (control_for c queued) ≤ 1
+control_most c queued =
+    cond_both c.fin Control.Fin (if not (c.len == 0) && (c.place + c.len == queued) then Control.Psh else Control.None)
+    (λ (control : TcpControl). control_len control ≤ 1) (λ _. one)
+    (λ _.
+    cond_both (not (c.len == 0) && (c.place + c.len == queued)) Control.Psh Control.None (λ (control : TcpControl). control_len control ≤ 1) (λ _. none)
+    (λ _. none))
+  where
+    one : 1 ≤ 1
+    one = omega arith
+
+    none : 0 ≤ 1
+    none = omega arith
+
+one_offer : (mine k : OpenOffer) → Some mine ≡ Some k → mine ≡ k
+one_offer mine k e = cc
+
+none_offered : {A : Type 0} → (k : OpenOffer) → None ≡ Some k → A
+none_offered k e = absurd (cc)
+
+module _ (cx : ContextValue) (v : TcpValue) (pair : EndpointPair) (b : Block) (s : StartsWith cx v b) where
+  abbrev x : TcpValue
+  x = with_block (unoffered v) b
+
+  abbrev c : Block
+  c = probe_started cx.moment (queued_in v) b
+
+  abbrev len : ℕ
+  len = (text_choice b pair.addresses cx.ip_mtu v.queued).len
+
+  abbrev Spoken : OpenOffer → TcpValue → Type 0
+  Spoken o y = IsSpoken pair.addresses cx.ip_mtu v b o y
+
+  abbrev Speaks : Offered TcpValue → Type 0
+  Speaks off = (o : OpenOffer) → off.socket.offered ≡ Some o → carries o.kind ≡ true → Spoken o (settled true off.socket)
+
+  abbrev header : Block → Choice → TcpHeader
+  header d choice =
+      segment d pair cx.moment (window_of (with_block (unoffered v) d)) (control_for choice (queued_in v)) (number_at d choice.place)
+
+  abbrev mine : OfferKind → Block → Choice → OpenOffer
+  mine kind d choice = record {
+    kind = kind;
+    moment = cx.moment;
+    header = header_for pair.addresses (hops_of d.settings.hop_limit) (header_len (header d choice) + choice.len);
+    segment = header d choice;
+    place = choice.place;
+    len = choice.len;
+  }
+
+  abbrev told : Block → OpenOffer → Block
+  told d o = recorded d o (room_of v.received)
+
+  -- what is to go again
+  fast : resends b ≡ true → Speaks (offer_choice Kind.FastRetransmission cx x pair (resend_choice b pair.addresses cx.ip_mtu v.queued))
+  fast e k is _ =
+      subst (λ (o : OpenOffer). Spoken o (settled true (offer_choice Kind.FastRetransmission cx x pair choice).socket)) (one_offer it k is)
+      (record {
+        timeouts = refl;
+        unanswered = one_above b.sender.unanswered;
+        resend = refl;
+        probes = went_probes again it (queued_in v);
+        voice = refl;
+        names = refl;
+        queued = refl;
+        runs = inl (went_runs again it (queued_in v));
+        size = inl e;
+      })
+    where
+      choice : Choice
+      choice = resend_choice b pair.addresses cx.ip_mtu v.queued
+
+      it : OpenOffer
+      it = mine Kind.FastRetransmission b choice
+
+      again : Block
+      again = resent (told b it) (end_of (told b it) it)
+
+  module _ (quiet : resends b ≡ false) where
+    none : (b.sender.resend ≡ false) × (b.loss.probes ≡ false)
+    none = not_again (sends_text b.state) b.sender.resend b.loss.probes (fills_hole b) s.sends quiet
+
+    -- text from SND.UNA on
+    text_size : HasSize v len (mine Kind.Text b (text_choice b pair.addresses cx.ip_mtu v.queued))
+    text_size = record {
+      least = least (length (take len (drop place v.queued.queue))) len whole;
+      most =
+          most (length (take len (drop place v.queued.queue))) len (control_len (control_for (text_choice b pair.addresses cx.ip_mtu v.queued) (queued_in v)))
+          whole (control_most (text_choice b pair.addresses cx.ip_mtu v.queued) (queued_in v));
+    }
+      where
+        place : ℕ
+        place = next_place b
+
+        is : (got rest size from count room limit : ℕ) → got ≡ min size rest → rest ≡ count - from → size ≡ min room (min limit (count - from)) → got ≡ size
+        is got rest size from count room limit a b c = omega arith
+
+        whole : length (take len (drop place v.queued.queue)) ≡ len
+        whole =
+            is (length (take len (drop place v.queued.queue))) (length (drop place v.queued.queue)) len place (length v.queued.queue) (most_of b)
+            (full cx v pair b s) (length-take len (drop place v.queued.queue)) (length-drop place v.queued.queue) (len_is cx v pair b s)
+
+        least : (a b : ℕ) → a ≡ b → b ≤ a
+        least a b e = omega arith
+
+        most : (a b c : ℕ) → a ≡ b → c ≤ 1 → a + c ≤ suc b
+        most a b c e f = omega arith
+
+    plain : Speaks (offer_choice Kind.Text cx x pair (text_choice b pair.addresses cx.ip_mtu v.queued))
+    plain k is _ =
+        subst (λ (o : OpenOffer). Spoken o (settled true (offer_choice Kind.Text cx x pair (text_choice b pair.addresses cx.ip_mtu v.queued)).socket))
+        (one_offer it k is)
+        (record {
+          timeouts = refl;
+          unanswered = one_above b.sender.unanswered;
+          resend = none.0;
+          probes = went_probes (told b it) it (queued_in v) ∙ none.1;
+          voice = refl;
+          names = refl;
+          queued = refl;
+          runs = inl (went_runs (told b it) it (queued_in v));
+          size = inr text_size;
+        })
+      where
+        it : OpenOffer
+        it = mine Kind.Text b (text_choice b pair.addresses cx.ip_mtu v.queued)
+
+    -- what the window held back, which is as long
+    held : Speaks (offer_choice Kind.Text cx (probing cx x) pair (text_choice c pair.addresses cx.ip_mtu v.queued))
+    held k is _ =
+        subst
+        (λ (o : OpenOffer). Spoken o (settled true (offer_choice Kind.Text cx (probing cx x) pair (text_choice c pair.addresses cx.ip_mtu v.queued)).socket))
+        (one_offer it k is)
+        (record {
+          timeouts = refl;
+          unanswered = one_above b.sender.unanswered;
+          resend = none.0;
+          probes = went_probes (told c it) it (queued_in v) ∙ none.1;
+          voice = refl;
+          names = refl;
+          queued = refl;
+          runs = inl (went_runs (told c it) it (queued_in v));
+          size = inr (record { least = text_size.least; most = text_size.most });
+        })
+      where
+        it : OpenOffer
+        it = mine Kind.Text c (text_choice c pair.addresses cx.ip_mtu v.queued)
+
+    -- the byte that probes a closed window
+    shut_len : b.peer.window ≡ 0 → len ≡ 0
+    shut_len shut = len_is cx v pair b s ∙ ap (λ (n : ℕ). min n (min (full cx v pair b s) (queued_in v - next_place b))) nothing ∙ least _ where
+      least : (n : ℕ) → min 0 n ≡ 0
+      least n = omega arith
+
+      alone : (window flight : ℕ) → window ≡ 0 → window - flight ≡ 0
+      alone window flight e = omega arith
+
+      less : (room window flight : ℕ) → window ≡ 0 → min room (window - flight) ≡ 0
+      less room window flight e = omega arith
+
+      nothing : most_of b ≡ 0
+      nothing = by b.settings.congestion_control where
+        by : (control : CongestionControl) → widest control (congestion_room b) (b.peer.window - b.sender.in_flight) ≡ 0
+        by Congestion.None = alone b.peer.window b.sender.in_flight shut
+        by other = less (congestion_room b) b.peer.window b.sender.in_flight shut
+
+    probe_size : b.peer.window ≡ 0 → HasSize v len (mine Kind.Probe c probe_choice)
+    probe_size shut = record {
+      least = subst (λ (n : ℕ). n ≤ length (take 1 (drop 0 v.queued.queue))) (sym (shut_len shut)) (low (length (take 1 (drop 0 v.queued.queue))));
+      most =
+          one (length (take 1 (drop 0 v.queued.queue))) (length (drop 0 v.queued.queue)) (control_len (control_for probe_choice (queued_in v))) len
+          (length-take 1 (drop 0 v.queued.queue)) bare;
+    }
+      where
+        low : (n : ℕ) → 0 ≤ n
+        low n = omega arith
+
+        one : (got rest control len : ℕ) → got ≡ min 1 rest → control ≡ 0 → got + control ≤ suc len
+        one got rest control len e f = omega arith
+
+        bare : control_len (control_for probe_choice (queued_in v)) ≡ 0
+        bare =
+            cond_both (not (1 == 0) && (0 + 1 == queued_in v)) Control.Psh Control.None (λ (control : TcpControl). control_len control ≡ 0) (λ _. refl)
+            (λ _. refl)
+
+    probe : (b.peer.window == 0) ≡ true → Speaks (offer_choice Kind.Probe cx (probing cx x) pair probe_choice)
+    probe shut k is _ =
+        subst (λ (o : OpenOffer). Spoken o (settled true (offer_choice Kind.Probe cx (probing cx x) pair probe_choice).socket)) (one_offer it k is) body
+      where
+        it : OpenOffer
+        it = mine Kind.Probe c probe_choice
+
+        d : Block
+        d = probed (told c it) (end_of (told c it) it) cx.moment
+
+        zero_window : b.peer.window ≡ 0
+        zero_window = eqb-true b.peer.window 0 shut
+
+        body : Spoken it (with_block (unoffered v) (asked d cx.moment))
+        body =
+            cond_both (is_over cx.moment d.timers.counts_from)
+            (record d {
+              sender = record d.sender { unanswered = one_more d.sender.unanswered };
+              timers = record d.timers { counts_from = Some (timeout_from cx.moment d.round_trip) };
+            })
+            d (λ (e : Block). Spoken it (with_block (unoffered v) e))
+            (λ _.
+            record {
+              timeouts = refl;
+              unanswered = capped b.sender.unanswered;
+              resend = none.0;
+              probes = none.1;
+              voice = refl;
+              names = refl;
+              queued = refl;
+              runs = inr zero_window;
+              size = inr (probe_size zero_window);
+            })
+            (λ _.
+            record {
+              timeouts = refl;
+              unanswered = one_above b.sender.unanswered;
+              resend = none.0;
+              probes = none.1;
+              voice = refl;
+              names = refl;
+              queued = refl;
+              runs = inr zero_window;
+              size = inr (probe_size zero_window);
+            })
+
+    -- it carries nothing
+    bare : (kind : OfferKind) (y : TcpValue) (h : TcpHeader) (place size : ℕ) → carries kind ≡ false → Speaks (offer_segment kind cx y pair h place size)
+    bare kind y h place size none k e some = clash (sym some ∙ (ap (λ (o : OpenOffer). carries o.kind) (sym (one_offer it k e)) ∙ none)) where
+      it : OpenOffer
+      it = record {
+        kind = kind;
+        moment = cx.moment;
+        header = header_for pair.addresses (hops_of y.block.settings.hop_limit) (header_len h + size);
+        segment = h;
+        place = place;
+        len = size;
+      }
+
+    first : Speaks (first_rules cx x pair)
+    first =
+        let y = probing cx x in
+        by_first cx pair Speaks x
+        (record {
+          syn = λ e. clash (sym e ∙ no_syn cx v pair b s);
+          again = λ _ third. clash (sym third ∙ quiet);
+          text = λ _ _. plain;
+          last = λ _.
+              record {
+                probe = λ _ shut. probe shut;
+                held_back = λ _ _. held;
+                ack = λ _. bare Kind.Ack y (ack_segment y.block pair cx.moment (window_of y)) 0 0 refl;
+                update = λ _ _. bare Kind.WindowUpdate y (ack_segment y.block pair cx.moment (window_of y)) 0 0 refl;
+                keep_alive = λ _ _. bare Kind.KeepAlive y (keep_alive_segment y.block pair cx.moment (window_of y)) 0 1 refl;
+                quiet = λ _ k e _. none_offered k e;
+              };
+        })
+
+  speaks : Speaks (first_rules cx x pair)
+  speaks = at (resends b) refl where
+    at : (t : Bool) → resends b ≡ t → Speaks (first_rules cx x pair)
+    at false e = first e
+    at true e =
+        subst Speaks
+        (sym
+        (if_not (owes_syn b) (offer_syn cx x pair) rest (no_syn cx v pair b s)
+        ∙ if_so (resends b) (offer_choice Kind.FastRetransmission cx x pair (resend_choice b pair.addresses cx.ip_mtu v.queued)) later e))
+        (fast e)
+      where
+        later : Offered TcpValue
+        later =
+            if has_text b pair.addresses cx.ip_mtu v.queued then offer_choice Kind.Text cx x pair (text_choice b pair.addresses cx.ip_mtu v.queued)
+            else last_rules cx (probing cx x) pair
+
+        rest : Offered TcpValue
+        rest = if resends b then offer_choice Kind.FastRetransmission cx x pair (resend_choice b pair.addresses cx.ip_mtu v.queued) else later
+
+  -- as much as once the timer has run out
+  text_says : IsSlowed b ⊎ (b.peer.window ≡ 0) → len ≡ says (voice_of pair.addresses cx.ip_mtu b) v.queued
+  text_says how =
+      len_is cx v pair b s
+      ∙ (from_first (most_of b) (full cx v pair b s) (queued_in v) (next_place b) (at_una cx v pair b s)
+      ∙ ap (λ (n : ℕ). min n (min (full cx v pair b s) (queued_in v))) (by how b.settings.congestion_control))
+    where
+      from_first : (room limit count place : ℕ) → place ≡ 0 → min room (min limit (count - place)) ≡ min room (min limit count)
+      from_first room limit count place e = omega arith
+
+      whole : (window flight : ℕ) → flight ≡ 0 → window - flight ≡ window
+      whole window flight e = omega arith
+
+      both : (room mss window flight : ℕ) → room ≡ mss → flight ≡ 0 → min room (window - flight) ≡ min mss window
+      both room mss window flight e f = omega arith
+
+      shut : (room mss window flight : ℕ) → window ≡ 0 → min room (window - flight) ≡ min mss window
+      shut room mss window flight e = omega arith
+
+      by : IsSlowed b ⊎ (b.peer.window ≡ 0) → (control : CongestionControl) →
+          widest control (congestion_room b) (b.peer.window - b.sender.in_flight) ≡ widest control b.reno.mss b.peer.window
+      by how Congestion.None = whole b.peer.window b.sender.in_flight s.none
+      by (inl slow) other = both (congestion_room b) b.reno.mss b.peer.window b.sender.in_flight (room_is b s.none slow) s.none
+      by (inr none) other = shut (congestion_room b) b.reno.mss b.peer.window b.sender.in_flight none
+
+-- of a socket that starts over with nothing in flight and no timer
+module _ (cx : ContextValue) (v : TcpValue) (pair : EndpointPair) (named : v.block.names.pair ≡ Some pair) (m : Starts cx v)
+    (sends : sends_text v.block.state ≡ true) (sent : resends v.block ≡ true → 1 ≤ v.block.sender.top) (none : v.block.sender.in_flight ≡ 0)
+    (timer : v.block.timers.retransmit_at ≡ None) where
+  not_due : is_due cx.moment v.block.timers.retransmit_at ≡ false
+  not_due = ap (is_due cx.moment) timer
+
+  starts : StartsWith cx v (begun cx v)
+  starts = idles cx v pair named m sends sent not_due none
+
+  pub spoken : (o : OpenOffer) → (offer_of cx v).socket.offered ≡ Some o → carries o.kind ≡ true →
+      IsSpoken pair.addresses cx.ip_mtu v v.block o (settled true (offer_of cx v).socket)
+  spoken =
+      subst
+      (λ (off : Offered TcpValue).
+      (o : OpenOffer) → off.socket.offered ≡ Some o → carries o.kind ≡ true
+      → IsSpoken pair.addresses cx.ip_mtu v v.block o (settled true off.socket))
+      (sym
+      (to_rules cx v pair named m sends sent
+      ∙ ap (λ (b : Block). first_rules cx (with_block (unoffered v) b) pair)
+      (if_not (is_due cx.moment v.block.timers.retransmit_at) (backed_off_now (begun cx v)) (loss_probed_by cx.moment (begun cx v)) not_due
+      ∙ if_not (is_due cx.moment (loss_probe_moment (begun cx v))) (loss_probed (begun cx v)) (begun cx v)
+      (no_probe cx v pair named m sends sent none))))
+      (λ o e some. as_it_was o (speaks cx v pair (begun cx v) starts o e some))
+    where
+      as_it_was : (o : OpenOffer) {y : TcpValue} → IsSpoken pair.addresses cx.ip_mtu v (begun cx v) o y → IsSpoken pair.addresses cx.ip_mtu v v.block o y
+      as_it_was o s = record {
+        timeouts = s.timeouts;
+        unanswered = s.unanswered;
+        resend = s.resend;
+        probes = s.probes;
+        voice = s.voice;
+        names = s.names;
+        queued = s.queued;
+        runs = s.runs;
+        size = s.size;
+      }
+
+  pub says_text : IsSlowed v.block ⊎ (v.block.peer.window ≡ 0) →
+      (text_choice v.block pair.addresses cx.ip_mtu v.queued).len ≡ says (voice_of pair.addresses cx.ip_mtu v.block) v.queued
+  says_text how = text_says cx v pair (begun cx v) starts (by how) where
+    by : IsSlowed v.block ⊎ (v.block.peer.window ≡ 0) → IsSlowed (begun cx v) ⊎ (v.block.peer.window ≡ 0)
+    by (inl s) = inl (record { cwnd = s.cwnd; recover = s.recover })
+    by (inr e) = inr e
