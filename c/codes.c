@@ -124,8 +124,10 @@ static void hosts_without_host(zv_host *none)
     WANT(zv_route_add(none, &first, 24, &second), ZV_NO_HOST);
     WANT(zv_route_remove(none, &first, 24), ZV_NO_HOST);
     WANT(zv_host_set_hardware(none, &station), ZV_NO_HOST);
+    WANT(zv_host_update_hardware(none, &station, &out.count), ZV_NO_HOST);
     WANT(zv_host_set_any_ip(none, 1), ZV_NO_HOST);
     WANT(zv_host_set_reassembly_timeout(none, 1), ZV_NO_HOST);
+    WANT(zv_host_set_reassembly_slots(none, 1), ZV_NO_HOST);
     WANT(zv_frame_in(none, bytes, 60), ZV_NO_HOST);
     WANT(zv_frame_out(none, out.bytes, 60, &out.count), ZV_NO_HOST);
     WANT(zv_frame_out_length(none, &out.count), ZV_NO_HOST);
@@ -157,6 +159,7 @@ static void streams_refuse(zv_host *host, size_t socket, uint32_t code)
     WANT(zv_tcp_set_keep_alive(host, socket, 1), code);
     WANT(zv_tcp_set_ack_delay(host, socket, 1), code);
     WANT(zv_tcp_set_min_rto(host, socket, 1), code);
+    WANT(zv_tcp_set_fine_timer(host, socket, 1), code);
     WANT(zv_tcp_set_nagle(host, socket, 1), code);
     WANT(zv_tcp_set_hop_limit(host, socket, 1), code);
     WANT(zv_tcp_set_retries(host, socket, 1), code);
@@ -302,6 +305,22 @@ static void routes(void)
     WANT(zv_route_remove(&one, &network, 8), ZV_NOT_FOUND);
 }
 
+/* Of 192.168.1.1 an ARP request tells, of 2001:db8::1 a neighbour advertisement. */
+static void announced(const zv_hardware *group)
+{
+    uint8_t frame[128];
+    size_t told = 7, length;
+    WANT(zv_host_update_hardware(&one, group, &told), ZV_NOT_UNICAST);
+    HOLDS(told == 7);
+    WANT(zv_host_update_hardware(&one, &station, &told), ZV_OK);
+    HOLDS(told == 2);
+    WANT(zv_frame_out(&one, frame, sizeof frame, &length), ZV_OK);
+    HOLDS(length == 42 && memcmp(frame, "\377\377\377\377\377\377\2\0\0\0\0\1\10\6", 14) == 0);
+    WANT(zv_frame_out(&one, frame, sizeof frame, &length), ZV_OK);
+    HOLDS(length == 86 && memcmp(frame, "\63\63\0\0\0\1\2\0\0\0\0\1\206\335", 14) == 0);
+    WANT(zv_frame_out(&one, frame, sizeof frame, &length), ZV_EMPTY);
+}
+
 static void set_up(void)
 {
     const zv_hardware group = {{3, 0, 0, 0, 0, 1}};
@@ -310,12 +329,16 @@ static void set_up(void)
     bare.medium = ZV_IP;
     WANT(zv_host_new(&host, &bare, 0), ZV_OK);
     WANT(zv_host_set_hardware(&host, &station), ZV_MEDIUM);
+    WANT(zv_host_update_hardware(&host, &station, &out.count), ZV_MEDIUM);
     WANT(zv_dhcp_new(&host, 1), ZV_MEDIUM);
     WANT(zv_host_free(&host), ZV_OK);
     WANT(zv_host_set_hardware(&one, &group), ZV_NOT_UNICAST);
     WANT(zv_host_set_hardware(&one, &station), ZV_OK);
+    announced(&group);
     WANT(zv_host_set_any_ip(&one, 0), ZV_OK);
     WANT(zv_host_set_reassembly_timeout(&one, 60000000), ZV_OK);
+    WANT(zv_host_set_reassembly_slots(&one, SIZE_MAX), ZV_MEMORY);
+    WANT(zv_host_set_reassembly_slots(&one, 3), ZV_OK);
 }
 
 /* SOCKETS */

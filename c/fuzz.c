@@ -246,7 +246,7 @@ static void call(zv_host *host, int which)
         code = choice(2) ? zv_icmp_bind_udp(host, socket, &own, own_port()) : zv_icmp_bind_tcp(host, socket, &own, own_port());
         break;
     case 53: code = zv_icmp_set_hop_limit(host, socket, (uint8_t)choice(256)); break;
-    case 56: code = zv_tcp_set_min_rto(host, socket, any_number()); break;
+    case 56: code = choice(2) ? zv_tcp_set_min_rto(host, socket, any_number()) : zv_tcp_set_fine_timer(host, socket, (uint8_t)choice(256)); break;
     case 57: code = zv_dhcp_new(host, any_number()); break;
     case 58: code = zv_dhcp_turn(host, socket, choice(64) == 0 ? (int64_t)any_number() : clock_of[which], &lease); break;
     case 59: code = choice(2) ? zv_dhcp_recv(host, bytes, length, &remote, &address) : zv_dhcp_sent(host, (uint8_t)choice(3)); break;
@@ -280,12 +280,14 @@ static void call(zv_host *host, int which)
     case 65: code = choice(2) ? zv_dns_result(host, &found) : zv_dns_recv(host, bytes, length, &remote, &local); break;
     case 54: {
         const zv_hardware station = {{2, 0, 0, 0, 0, (uint8_t)(which + 1)}};
-        code = zv_host_set_hardware(host, &station);
+        code = choice(2) ? zv_host_set_hardware(host, &station) : zv_host_update_hardware(host, &station, &count);
         break;
     }
     default:
         if (choice(64) == 0) {
-            code = choice(2) ? zv_host_set_any_ip(host, (uint8_t)choice(4) / 3) : zv_host_set_reassembly_timeout(host, any_number());
+            code = choice(3) == 0 ? zv_host_set_reassembly_slots(host, choice(8))
+                   : choice(2)    ? zv_host_set_any_ip(host, (uint8_t)choice(4) / 3)
+                                  : zv_host_set_reassembly_timeout(host, any_number());
         } else if (choice(256) == 0) {
             code = zv_host_free(host);
             check(code);

@@ -142,6 +142,7 @@ static void set_up(zv_host *host)
     const zv_address other = zv_ipv4(192, 168, 2, 1), router = zv_ipv4(192, 168, 1, 9), all = zv_ipv4(0, 0, 0, 0);
     const zv_hardware station = {{2, 0, 0, 0, 0, 1}};
     zv_counts counts;
+    size_t told;
     int64_t at;
     DO(zv_address_add(host, &other, 24));
     DO(zv_address_remove(host, &other));
@@ -151,8 +152,10 @@ static void set_up(zv_host *host)
     DO(zv_route_remove(host, &all, 0));
     SAYS(zv_address_remove(host, &other), ZV_NOT_FOUND);
     DO(zv_host_set_hardware(host, &station));
+    DO(zv_host_update_hardware(host, &station, &told));
     DO(zv_host_set_any_ip(host, 0));
     DO(zv_host_set_reassembly_timeout(host, 60000000));
+    DO(zv_host_set_reassembly_slots(host, 3));
     DO(zv_counters(host, &counts));
     DO(zv_poll_at(host, 0, &at));
 }
@@ -174,6 +177,7 @@ static void set_sockets(zv_host *host, size_t udp, size_t tcp, size_t icmp)
     DO(zv_tcp_set_keep_alive(host, tcp, UINT64_MAX));
     DO(zv_tcp_set_ack_delay(host, tcp, 10000));
     DO(zv_tcp_set_min_rto(host, tcp, 1000000));
+    DO(zv_tcp_set_fine_timer(host, tcp, 1));
     DO(zv_tcp_set_nagle(host, tcp, 1));
     DO(zv_tcp_set_hop_limit(host, tcp, 64));
     DO(zv_tcp_set_retries(host, tcp, 16));

@@ -176,11 +176,19 @@ uint32_t zv_route_remove(zv_host *host, const zv_address *network, uint8_t prefi
 /* Sets the station's address. ZV_MEDIUM, ZV_NOT_UNICAST. */
 uint32_t zv_host_set_hardware(zv_host *host, const zv_hardware *hardware);
 
+/* Does that, and tells all neighbours of it: a frame for each own address but loopback ones goes to all, as long as there is room for frames.
+ * `told` is how many frames wait for that behind those that waited before. ZV_MEDIUM, ZV_NOT_UNICAST. */
+uint32_t zv_host_update_hardware(zv_host *host, const zv_hardware *hardware, size_t *told);
+
 /* Whether every address counts as an own one, for a host that answers for others: 0 for no. */
 uint32_t zv_host_set_any_ip(zv_host *host, uint8_t enabled);
 
 /* How long the pieces of a datagram are waited for, in microseconds. A new host waits a minute. */
 uint32_t zv_host_set_reassembly_timeout(zv_host *host, uint64_t micros);
+
+/* How many datagrams can come in pieces at a time, of up to 4096 bytes each. A new host has place for two. What came in pieces so far is dropped.
+ * ZV_MEMORY: then all is as it was. */
+uint32_t zv_host_set_reassembly_slots(zv_host *host, size_t count);
 
 /* FRAMES AND TIME */
 
@@ -313,6 +321,10 @@ uint32_t zv_tcp_set_ack_delay(zv_host *host, size_t socket, uint64_t micros);
 /* How long a segment waits for its acknowledgement at least until it goes again, in microseconds, whole milliseconds of which count: 10 ms
  * where it is less, a minute where it is more. A new socket has a second (RFC 6298); Linux has 200 ms. */
 uint32_t zv_tcp_set_min_rto(zv_host *host, size_t socket, uint64_t micros);
+
+/* Whether round trips are taken in microseconds, from the next one on: 0 for no. A new socket takes them in whole milliseconds, so that one
+ * of less than a millisecond counts as none. */
+uint32_t zv_tcp_set_fine_timer(zv_host *host, size_t socket, uint8_t enabled);
 
 /* Whether small segments wait while others are in flight: 0 for no. A new socket lets them wait. */
 uint32_t zv_tcp_set_nagle(zv_host *host, size_t socket, uint8_t enabled);

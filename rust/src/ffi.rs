@@ -74,8 +74,10 @@ extern "C" {
     pub fn zv_route_add(host: *mut Host, network: *const Address, prefix: u8, router: *const Address) -> u32;
     pub fn zv_route_remove(host: *mut Host, network: *const Address, prefix: u8) -> u32;
     pub fn zv_host_set_hardware(host: *mut Host, hardware: *const Hardware) -> u32;
+    pub fn zv_host_update_hardware(host: *mut Host, hardware: *const Hardware, told: *mut usize) -> u32;
     pub fn zv_host_set_any_ip(host: *mut Host, enabled: u8) -> u32;
     pub fn zv_host_set_reassembly_timeout(host: *mut Host, micros: u64) -> u32;
+    pub fn zv_host_set_reassembly_slots(host: *mut Host, count: usize) -> u32;
     pub fn zv_frame_in(host: *mut Host, frame: *const u8, length: usize) -> u32;
     pub fn zv_frame_out(host: *mut Host, frame: *mut u8, length: usize, count: *mut usize) -> u32;
     pub fn zv_frame_out_length(host: *mut Host, count: *mut usize) -> u32;
@@ -126,6 +128,7 @@ extern "C" {
     pub fn zv_tcp_set_keep_alive(host: *mut Host, socket: usize, micros: u64) -> u32;
     pub fn zv_tcp_set_ack_delay(host: *mut Host, socket: usize, micros: u64) -> u32;
     pub fn zv_tcp_set_min_rto(host: *mut Host, socket: usize, micros: u64) -> u32;
+    pub fn zv_tcp_set_fine_timer(host: *mut Host, socket: usize, enabled: u8) -> u32;
     pub fn zv_tcp_set_nagle(host: *mut Host, socket: usize, enabled: u8) -> u32;
     pub fn zv_tcp_set_hop_limit(host: *mut Host, socket: usize, limit: u8) -> u32;
     pub fn zv_tcp_set_retries(host: *mut Host, socket: usize, limit: u16) -> u32;

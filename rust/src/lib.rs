@@ -167,6 +167,14 @@ impl Interface {
         done(unsafe { ffi::zv_host_set_hardware(&mut self.host, &ffi::Hardware { bytes }) })
     }
 
+    /// Sets the station's address, and tells all neighbours of it: a frame for each own address but loopback ones, as long as there is room for
+    /// frames. Answers how many.
+    pub fn update_hardware_addr(&mut self, bytes: [u8; 6]) -> Result<usize> {
+        let mut told = 0;
+        done(unsafe { ffi::zv_host_update_hardware(&mut self.host, &ffi::Hardware { bytes }, &mut told) })?;
+        Ok(told)
+    }
+
     /// Whether every address counts as an own one.
     pub fn set_any_ip(&mut self, any_ip: bool) -> Result<()> {
         done(unsafe { ffi::zv_host_set_any_ip(&mut self.host, any_ip.into()) })
@@ -175,6 +183,11 @@ impl Interface {
     /// How long the pieces of a datagram are waited for.
     pub fn set_reassembly_timeout(&mut self, timeout: Duration) -> Result<()> {
         done(unsafe { ffi::zv_host_set_reassembly_timeout(&mut self.host, micros(Some(timeout))) })
+    }
+
+    /// How many datagrams can come in pieces at a time. What came in pieces so far is dropped.
+    pub fn set_reassembly_slots(&mut self, count: usize) -> Result<()> {
+        done(unsafe { ffi::zv_host_set_reassembly_slots(&mut self.host, count) })
     }
 
     /// A frame comes, and waits for a poll.

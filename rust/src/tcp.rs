@@ -175,6 +175,11 @@ impl Socket<'_> {
         done(unsafe { ffi::zv_tcp_set_min_rto(&mut self.interface.host, self.handle.0, micros(Some(duration))) })
     }
 
+    /// Sets whether round trips are taken in microseconds.
+    pub fn set_fine_timer(&mut self, fine: bool) -> Result<()> {
+        done(unsafe { ffi::zv_tcp_set_fine_timer(&mut self.interface.host, self.handle.0, fine.into()) })
+    }
+
     pub fn set_nagle_enabled(&mut self, enabled: bool) -> Result<()> {
         done(unsafe { ffi::zv_tcp_set_nagle(&mut self.interface.host, self.handle.0, enabled.into()) })
     }

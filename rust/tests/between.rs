@@ -243,3 +243,26 @@ fn a_client_of_dns_asks_and_is_answered() {
     assert_eq!(pair.first.query_result(), Ok(Some(vec![IpAddr::V4(Ipv4Addr::new(192, 168, 1, 80))])));
     assert_eq!(pair.first.query_result(), Err(Error::QueryFailed));
 }
+
+#[test]
+fn a_hardware_address_is_told_of() {
+    let mut plain = host(Medium::Ip, FIRST, 1);
+    assert_eq!(plain.update_hardware_addr([2, 0, 0, 0, 0, 9]), Err(Error::Medium));
+    let mut pair = Pair::new(true);
+    assert_eq!(pair.first.update_hardware_addr([3, 0, 0, 0, 0, 9]), Err(Error::NotUnicast));
+    assert_eq!(pair.first.update_hardware_addr([2, 0, 0, 0, 0, 9]), Ok(1));
+    // a request to all that names 192.168.1.1 as the sender's address and as the one that is asked for (RFC 5227, 2.3)
+    let mut frame = [0; 2048];
+    assert_eq!(pair.first.transmit(&mut frame), Ok(42));
+    assert_eq!((&frame[..6], &frame[6..12], &frame[12..14]), (&[255; 6][..], &[2, 0, 0, 0, 0, 9][..], &[8, 6][..]));
+    assert_eq!((&frame[28..32], &frame[38..42]), (&[192, 168, 1, 1][..], &[192, 168, 1, 1][..]));
+}
+
+#[test]
+fn settings_of_a_host_and_of_a_connection_are_taken() {
+    let mut pair = Pair::new(true);
+    assert_eq!(pair.first.set_reassembly_slots(usize::MAX), Err(Error::Memory));
+    assert_eq!(pair.first.set_reassembly_slots(3), Ok(()));
+    let stream = pair.first.add_tcp(64, 64).unwrap();
+    assert_eq!(pair.first.tcp(stream).set_fine_timer(true), Ok(()));
+}

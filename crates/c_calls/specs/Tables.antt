@@ -1,17 +1,22 @@
 -- The own addresses of a host and its routes, with one more or one less, or why not.
 use Rattle.std.specs.Prelude.{◌≡◌, ℕ, ◌==◌, nat_le, nat_lt, Bool, not, ◌&&◌, if◌then◌else◌, List, [], ◌∷◌, ◌++◌, length, position, remove, Option, None, Some}
-use Rattle.std.specs.Prelude.{Result, Ok, Err}
+use Rattle.std.specs.Prelude.{ℤ, pos, Result, Ok, Err, MatchResult}
 use Rattle.std.specs.List.{list_any}
 use Rattle.ip_wire.specs.Block.{block_address, block_prefix_len}
+use Rattle.ip_wire.specs.EthernetAddress.{EthernetAddress}
+use Rattle.ip_wire.specs.HardwareAddress.TheVariants as Hardware
 use Rattle.ip_wire.specs.IpAddress.{IpAddress}
 use Rattle.ip_wire.specs.IpCidr.{IpCidr}
 use Rattle.sockets.specs.Addresses.{is_same_address, are_of_one_family}
 use Rattle.interface.specs.Host.{HostValue}
-use Rattle.interface.specs.Made.{with_inner}
+use Rattle.interface.specs.Announced.{TellsUnless}
+use Rattle.interface.specs.Made.{with_inner, with_slots}
 use Rattle.interface.specs.Route.{Route}
-use Rattle.interface.specs.Settings.{is_stranger, with_addresses, with_routes}
+use Rattle.interface.specs.Settings.{is_stranger, with_addresses, with_routes, with_hardware, hardware_refusal}
 use Rattle.interface.specs.HardwareAddrError.{HardwareAddrError}
 use Rattle.interface.specs.HardwareAddrError.TheVariants as No
+use Rattle.c_link.specs.Link.{LinkMove}
+use Rattle.c_sockets.specs.Codes.{coded}
 use Rattle.c_sockets.specs.declared.code.Code.{Code}
 use Rattle.c_sockets.specs.declared.code.Code.TheVariants as Is
 use Rattle.c_calls.specs.Host.{StackValue}
@@ -102,3 +107,19 @@ of_hardware No.NotUnicast = Is.NotUnicast
 abbrev pub hardware_answer : Option HardwareAddrError → Result (Unit {0}) Code
 hardware_answer None = Ok tt
 hardware_answer (Some error) = Err (of_hardware error)
+
+-- the address is set, and each own address that neighbours may know is told of, as long as there is room for frames: of so many
+abbrev pub UpdatesHardware : EthernetAddress → StackValue → Result ℕ Code → StackValue → Type 0
+UpdatesHardware own s result s' =
+    (told : Result ℕ HardwareAddrError)
+    × TellsUnless LinkMove (pos 0) (with_hardware s.host.inner (Hardware.Ethernet own)) (hardware_refusal s.host.inner.hardware (Hardware.Ethernet own))
+    s.link told s'.link
+    × (result ≡ coded of_hardware told)
+    × (s' ≡ record s { link = s'.link; host = with_inner s.host (with_hardware s.host.inner (Hardware.Ethernet own)) })
+
+-- PIECES
+
+-- there is place for so many datagrams in pieces, or no memory for it
+abbrev pub SetsSlots : ℕ → StackValue → Result (Unit {0}) Code → StackValue → Type 0
+SetsSlots count s result s' =
+    MatchResult result (λ done. s' ≡ record s { host = with_slots s.host count }) (λ code. (code ≡ Is.Memory) × (s' ≡ s))

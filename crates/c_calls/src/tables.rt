@@ -4,14 +4,14 @@ ghost use Rattle.ip_wire.specs.HardwareAddress.TheVariants as Hardware;
 ghost use Rattle.interface.specs.Made.{with_inner, with_timeout};
 ghost use Rattle.interface.specs.Settings.{hardware_refusal, with_hardware, with_any_ip};
 ghost use Rattle.c_calls.specs.Tables.{is_address, is_block, pushed, removed, own_with, own_without, routes_with, routes_without};
-ghost use Rattle.c_calls.specs.Tables.{with_own, with_table, own_in, table_in, route_to, is_done, hardware_answer};
+ghost use Rattle.c_calls.specs.Tables.{with_own, with_table, own_in, table_in, route_to, is_done, of_hardware, hardware_answer, UpdatesHardware, SetsSlots};
 
 use crate::host::Host;
 use arrayvec::ArrayVec;
 use c_sockets::Code;
 use interface::{HardwareAddrError, Interface, Route, Routes, TABLE_ROOM};
 use ip_wire::{EthernetAddress, HardwareAddress, IpAddress, IpCidr};
-use net_base::Duration;
+use net_base::{Duration, Instant};
 use sockets::addresses::{are_of_one_family, is_same_address};
 
 fn is_address(block: &IpCidr, address: &IpAddress) -> bool
@@ -122,8 +122,16 @@ fn set_hardware(interface: &mut Interface, address: EthernetAddress) -> Result<(
 {
     match interface.set_hardware_addr(HardwareAddress::Ethernet(address)) {
         Ok(()) => Ok(()),
-        Err(HardwareAddrError::Medium) => Err(Code::Medium),
-        Err(HardwareAddrError::NotUnicast) => Err(Code::NotUnicast),
+        Err(error) => Err(of_hardware(error)),
+    }
+}
+
+fn of_hardware(error: HardwareAddrError) -> Code
+    ensures { result ≡ of_hardware error }
+{
+    match error {
+        HardwareAddrError::Medium => Code::Medium,
+        HardwareAddrError::NotUnicast => Code::NotUnicast,
     }
 }
 
@@ -176,11 +184,37 @@ impl Host {
         set_hardware(&mut self.interface, address)
     }
 
+    /// Sets the station's address, and tells all neighbours of it, by a frame for each own address, as long as there is room for frames.
+    /// Answers how many wait to be fetched for that.
+    pub fn update_hardware(&mut self, address: EthernetAddress) -> Result<usize, Code>
+        ensures { UpdatesHardware address self.old result self.new }
+    {
+        let told = self.interface.update_hardware_addr(
+            Instant::ZERO,
+            &mut self.link,
+            HardwareAddress::Ethernet(address),
+        );
+        match told {
+            Ok(count) => Ok(count),
+            Err(error) => Err(of_hardware(error)),
+        }
+    }
+
     /// Sets whether every address counts as an own one.
     pub fn set_any_ip(&mut self, any_ip: bool)
         ensures { self.new ≡ record self.old { host = with_inner self.old.host (with_any_ip self.old.host.inner any_ip) } }
     {
         self.interface.set_any_ip(any_ip);
+    }
+
+    /// Sets how many datagrams can come in pieces at a time. What came of such ones is dropped.
+    pub fn set_reassembly_slots(&mut self, count: usize) -> Result<(), Code>
+        ensures { SetsSlots count self.old result self.new }
+    {
+        match self.interface.set_reassembly_slots(self.alloc, count) {
+            Ok(()) => Ok(()),
+            Err(_) => Err(Code::Memory),
+        }
     }
 
     /// Sets how long the pieces of a datagram are waited for.

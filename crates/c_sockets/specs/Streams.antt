@@ -2,7 +2,7 @@
 use Rattle.std.specs.Prelude.{ℕ, ◌-◌, ◌^◌, ◌==◌, if◌then◌else◌, List, ◌++◌, length, take, drop, min, Option, None, Some, Result, Ok, Err}
 use Rattle.sockets.specs.TcpCalls.{listen_answer, listen_after, close_after, abort_after, recv_refusal, recv_after}
 use Rattle.sockets.specs.TcpSettings.{set_timeout, set_keep_alive, set_ack_delay, set_nagle_enabled, set_hop_limit, set_tsval_generator, pause_synack}
-use Rattle.sockets.specs.TcpSettings.{set_retries, set_congestion_control, set_min_rto}
+use Rattle.sockets.specs.TcpSettings.{set_retries, set_congestion_control, set_min_rto, set_fine_timer}
 use Rattle.sockets.specs.TcpReceive.{unbroken, lent}
 use Rattle.sockets.specs.TcpValue.{TcpValue, unoffered, queued_in}
 use Rattle.ip_wire.specs.IpEndpoint.{IpEndpoint}
@@ -31,6 +31,7 @@ act_after (To.Timeout duration) v = set_timeout v duration
 act_after (To.KeepAlive interval) v = set_keep_alive v interval
 act_after (To.AckDelay delay) v = set_ack_delay v delay
 act_after (To.MinRto duration) v = set_min_rto v duration
+act_after (To.FineTimer fine) v = set_fine_timer v fine
 act_after (To.Nagle enabled) v = set_nagle_enabled v enabled
 act_after (To.HopLimit limit) v = set_hop_limit v (limit_of limit)
 act_after (To.Retries limit) v = set_retries v limit

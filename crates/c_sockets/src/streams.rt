@@ -35,6 +35,8 @@ pub enum Act {
     AckDelay(Option<Duration>),
     /// Sets how long a segment waits for its acknowledgement at least until it goes again.
     MinRto(Duration),
+    /// Sets whether round trips are taken in microseconds.
+    FineTimer(bool),
     /// Sets whether small segments wait while others are in flight.
     Nagle(bool),
     /// Sets the hop limit, 0 for 64.
@@ -66,6 +68,7 @@ fn act_on(socket: &mut tcp::Socket, act: Act) -> Result<(), Code>
         Act::KeepAlive(interval) => socket.set_keep_alive(interval),
         Act::AckDelay(delay) => socket.set_ack_delay(delay),
         Act::MinRto(duration) => socket.set_min_rto(duration),
+        Act::FineTimer(fine) => socket.set_fine_timer(fine),
         Act::Nagle(enabled) => socket.set_nagle_enabled(enabled),
         Act::HopLimit(limit) => socket.set_hop_limit(limit_of(limit)),
         Act::Retries(limit) => socket.set_retries(limit),

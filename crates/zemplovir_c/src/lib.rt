@@ -37,9 +37,9 @@ pub use frames::{
 };
 pub use packets::{zv_raw_new, zv_raw_recv, zv_raw_send};
 pub use stream_settings::{
-    zv_tcp_pause_synack, zv_tcp_set_ack_delay, zv_tcp_set_congestion_control, zv_tcp_set_hop_limit,
-    zv_tcp_set_keep_alive, zv_tcp_set_min_rto, zv_tcp_set_nagle, zv_tcp_set_retries,
-    zv_tcp_set_timeout, zv_tcp_set_timestamps,
+    zv_tcp_pause_synack, zv_tcp_set_ack_delay, zv_tcp_set_congestion_control,
+    zv_tcp_set_fine_timer, zv_tcp_set_hop_limit, zv_tcp_set_keep_alive, zv_tcp_set_min_rto,
+    zv_tcp_set_nagle, zv_tcp_set_retries, zv_tcp_set_timeout, zv_tcp_set_timestamps,
 };
 pub use streams::{
     zv_tcp_abort, zv_tcp_close, zv_tcp_connect, zv_tcp_done, zv_tcp_listen, zv_tcp_new,
@@ -47,5 +47,6 @@ pub use streams::{
 };
 pub use tables::{
     zv_address_add, zv_address_remove, zv_host_set_any_ip, zv_host_set_hardware,
-    zv_host_set_reassembly_timeout, zv_route_add, zv_route_remove,
+    zv_host_set_reassembly_slots, zv_host_set_reassembly_timeout, zv_host_update_hardware,
+    zv_route_add, zv_route_remove,
 };

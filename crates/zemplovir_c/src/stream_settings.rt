@@ -130,6 +130,22 @@ pub extern "C" fn zv_tcp_set_min_rto(
     tcp_act(alloc, handle, socket, Act::MinRto(least))
 }
 
+/// Whether round trips are taken in microseconds.
+#[unsafe(no_mangle)]
+pub extern "C" fn zv_tcp_set_fine_timer(
+    alloc: Global,
+    handle: &mut Handle,
+    socket: usize,
+    enabled: u8,
+) -> u32
+    ensures answer { result ≡ answer_by handle.old.inside (λ host. answer_at as_tcp (act_answer (To.FineTimer (is_on enabled))) host.places socket) }
+    ensures after { handle.new.inside ≡
+        after_by handle.old.inside
+        (λ host. record host { places = after_at as_tcp Kind.Tcp (act_after (To.FineTimer (is_on enabled))) host.places socket }) }
+{
+    tcp_act(alloc, handle, socket, Act::FineTimer(is_on(enabled)))
+}
+
 /// Whether small segments wait while others are in flight.
 #[unsafe(no_mangle)]
 pub extern "C" fn zv_tcp_set_nagle(

@@ -7,11 +7,12 @@ ghost use Rattle.ip_wire.specs.IpCidr.{IpCidr as Block};
 ghost use Rattle.std.specs.Prelude.{Result, Ok};
 ghost use Rattle.c_sockets.specs.declared.code.Code.{Code as Refusal};
 ghost use Rattle.c_calls.specs.Tables.{is_done, own_with, own_without, routes_with, routes_without, with_own, with_table, route_to, hardware_answer};
-ghost use Rattle.zemplovir_c.specs.Answers.{all_done, answer_by, after_by, checked_answer, checked};
+ghost use Rattle.c_calls.specs.Tables.{UpdatesHardware, SetsSlots};
+ghost use Rattle.zemplovir_c.specs.Answers.{all_done, answer_by, after_by, checked_answer, checked, Acts, Gives};
 ghost use Rattle.zemplovir_c.specs.Hosts.{IsBlockBy};
 ghost use Rattle.zemplovir_c.specs.Values.{required_in, is_on};
 
-use crate::answers::{NO_HOST, OK, done};
+use crate::answers::{NO_HOST, OK, done, given};
 use crate::handle::Handle;
 use crate::types::{Address, Hardware, block, required};
 use ip_wire::EthernetAddress;
@@ -143,6 +144,25 @@ pub extern "C" fn zv_host_set_hardware(
     done(answer)
 }
 
+/// Sets the station's address, and tells all neighbours of it.
+#[unsafe(no_mangle)]
+pub extern "C" fn zv_host_update_hardware(
+    alloc: Global,
+    handle: &mut Handle,
+    hardware: &Hardware,
+    told: &mut usize,
+) -> u32
+    ensures { Gives (UpdatesHardware (record { 0 = hardware.now.bytes })) handle.old.inside result told.old told.new handle.new.inside }
+{
+    let Some(mut host) = handle.take(alloc) else {
+        return NO_HOST;
+    };
+    let bytes = hardware.bytes;
+    let answer = host.update_hardware(EthernetAddress(bytes));
+    handle.put(host);
+    given(answer, told)
+}
+
 /// Whether every address counts as an own one.
 #[unsafe(no_mangle)]
 pub extern "C" fn zv_host_set_any_ip(alloc: Global, handle: &mut Handle, enabled: u8) -> u32
@@ -156,6 +176,23 @@ pub extern "C" fn zv_host_set_any_ip(alloc: Global, handle: &mut Handle, enabled
     host.set_any_ip(enabled != 0);
     handle.put(host);
     OK
+}
+
+/// How many datagrams can come in pieces at a time.
+#[unsafe(no_mangle)]
+pub extern "C" fn zv_host_set_reassembly_slots(
+    alloc: Global,
+    handle: &mut Handle,
+    count: usize,
+) -> u32
+    ensures { Acts (SetsSlots count) handle.old.inside result handle.new.inside }
+{
+    let Some(mut host) = handle.take(alloc) else {
+        return NO_HOST;
+    };
+    let answer = host.set_reassembly_slots(count);
+    handle.put(host);
+    done(answer)
 }
 
 /// How long the pieces of a datagram are waited for.
