@@ -1,16 +1,21 @@
 #!/usr/bin/env python3
 """The program `host` beside Linux's own stack over the same bad link, in a network namespace of its own:
 
-    badlink.py PUMP HOST [SEEDS [BYTES [TRIPS [WORD]]]]
+    badlink.py PUMP HOST [SEEDS [BYTES [TRIPS [WORD [ROWS]]]]]
 
 For each round trip (a list of milliseconds, 0 alone where none is given), each kind of link and each of so many seeds (5) a stream of so many
 bytes (200,000) is echoed: first by the host, over a TUN device, then by a program over Linux's own stack, between two TUN devices, of which
 the other one is in a namespace within. PUMP is linux/pump.c, built; it loses, repeats, holds back, damages and delays the packets of both by
 the same chances, whose random numbers begin with the seed. A round trip is the pump's delay, half of it each way. It prints one table, with
 the quotients of the medians and of the longest, and in how many rows the medians' one is at most 1.0 and at most 1.5. With a word only the
-kinds of link with this word in their name are tried.
+kinds of link with this word in their name are tried, and with =NAME this one alone. So many rows (1) are tried at once, each in a namespace
+of its own: where the round trip is long they wait, and disturb each other little. The variable CONTROL names the congestion control of
+Linux's sockets at both ends, where it isn't to be CUBIC, the kernel's own choice: some machines are set to BBR, which slows down little where
+segments are lost by chance (sysctl net.ipv4.tcp_available_congestion_control has what there is). Linux keeps nothing of one stream for the
+next.
 """
 import os, random, select, socket, statistics, subprocess, sys, time
+from concurrent.futures import ThreadPoolExecutor
 
 import talk
 from hostile import start
@@ -46,6 +51,10 @@ def links(trip):
     return [(name, (*options, *delay)) for name, options in (*LINKS, *queues)]
 
 
+# Linux's congestion control: the one that is named, or CUBIC, the kernel's own choice, where it is there
+with open("/proc/sys/net/ipv4/tcp_available_congestion_control", encoding="ascii") as it:
+    CONTROL = os.environ.get("CONTROL") or next((it for it in it.read().split() if it == "cubic"), "reno")
+
 # echoes of streams and of datagrams over Linux's own stack
 ECHO = f"""
 import socket, threading
@@ -61,6 +70,7 @@ def datagrams():
             it.sendto(*it.recvfrom(65536))
 threading.Thread(target=datagrams, daemon=True).start()
 with socket.create_server(("{OURS}", 7)) as server:
+    server.setsockopt(socket.IPPROTO_TCP, socket.TCP_CONGESTION, {CONTROL.encode()})
     print("ready", flush=True)
     while True:
         threading.Thread(target=serve, args=(server.accept()[0],), daemon=True).start()
@@ -72,7 +82,10 @@ def stream(count, seconds=300):
     sent, got, at = os.urandom(count), bytearray(), 0
     began = time.monotonic()
     try:
-        with socket.create_connection((OURS, 7), timeout=seconds) as it:
+        with socket.socket() as it:
+            it.setsockopt(socket.IPPROTO_TCP, socket.TCP_CONGESTION, CONTROL.encode())
+            it.settimeout(seconds)
+            it.connect((OURS, 7))
             it.setblocking(False)
             while len(got) < count and time.monotonic() < began + seconds:
                 ready = select.select([it], [it] if at < count else [], [], 1)
@@ -112,6 +125,11 @@ def tried(started, size):
     return took
 
 
+def forget(*inside):
+    """Linux's stack, here or within, keeps nothing of one stream for the next."""
+    sh(*inside, "sh", "-c", "echo 1 > /proc/sys/net/ipv4/tcp_no_metrics_save")
+
+
 def linux_beyond(pump, *options):
     """Linux's own stack behind a second device, in a namespace within, with its echoes; what was started."""
     within = subprocess.Popen(["unshare", "-n", "sh", "-c", "echo here; exec sleep 100000"], stdout=subprocess.PIPE, text=True)
@@ -125,6 +143,7 @@ def linux_beyond(pump, *options):
     inside = ["nsenter", "-t", at, "-n"]
     for words in (f"addr add {OURS}/24 dev beyond", "link set beyond up", "link set lo up"):
         sh(*inside, "ip", *words.split())
+    forget(*inside)
     server = subprocess.Popen([*inside, sys.executable, "-c", ECHO], stdout=subprocess.PIPE, stderr=subprocess.DEVNULL, text=True)
     server.stdout.readline()
     return server, ran, within
@@ -137,15 +156,33 @@ def end(started):
 
 
 def row(pump, program, seeds, size, trip, name, options):
-    """Prints a row; the quotient of its medians, by its name."""
+    """A row, and the quotient of its medians."""
     host, linux = [], []
     for seed in range(seeds):
         chance = ("-c", str(random.Random(seed).getrandbits(64)))
         host.append(tried([start(pump, program, *options, *chance, "-s", str(seed))], size))
         linux.append(tried(linux_beyond(pump, *options, *chance), size))
     medians, longest = (quotient(of, host, linux) for of in (statistics.median, max))
-    print(f"| {trip} ms | {name} | {said(host)} | {said(linux)} | {shown(medians)} | {shown(longest)} |", flush=True)
-    return f"{name} at {trip} ms", medians
+    return f"| {trip} ms | {name} | {said(host)} | {said(linux)} | {shown(medians)} | {shown(longest)} |", medians
+
+
+def row_elsewhere(pump, program, seeds, size, trip, name, options):
+    """The same in a namespace of its own."""
+    words = ["unshare", "-n", sys.executable, __file__, pump, program, str(seeds), str(size), str(trip), f"={name}"]
+    lines = subprocess.run(words, stdout=subprocess.PIPE, text=True).stdout.splitlines()
+    line = next((it for it in lines if it.startswith(f"| {trip} ms | {name} |")), f"| {trip} ms | {name} | none | none | none | none |")
+    medians = line.split("|")[5].strip()
+    return line, None if medians == "none" else float(medians)
+
+
+def rows_of(pump, program, seeds, size, trip, tried_links, at_once, elsewhere):
+    """Prints the rows of a round trip, in their order: of each its name, the quotient of its medians, and the line."""
+    one = row_elsewhere if elsewhere else row
+    with ThreadPoolExecutor(at_once) as rows:
+        came = rows.map(lambda link: one(pump, program, seeds, size, trip, *link), tried_links)
+        for (name, _), (line, medians) in zip(tried_links, came):
+            print(line, flush=True)
+            yield f"{name} at {trip} ms", medians, line
 
 
 def summary(rows):
@@ -158,13 +195,23 @@ def summary(rows):
         print("above 1.5: " + ", ".join(f"{name} ({it:.2f})" for it, name in above))
 
 
+def is_wanted(name, word):
+    return name == word[1:] if word.startswith("=") else word in name
+
+
 def main():
     pump, program = sys.argv[1], sys.argv[2]
-    seeds, size, trips, word = (sys.argv[3:] + ["5", "200000", "0", ""][len(sys.argv) - 3:])[:4]
-    print(f"\na stream of {size} bytes for each of {seeds} seeds, there and back: how many came whole; median, longest\n")
+    given = sys.argv[3:]
+    seeds, size, trips, word, at_once = (given + ["5", "200000", "0", "", "1"][len(given):])[:5]
+    forget()
+    print(f"\na stream of {size} bytes for each of {seeds} seeds, there and back: how many came whole; median, longest")
+    print(f"Linux's congestion control: {CONTROL}\n")
     print("| Round trip | Link, each way | The host | Linux's own stack | medians | longest |\n|---|---|---|---|---|---|")
-    summary([row(pump, program, int(seeds), int(size), trip, name, options)
-             for trip in map(int, trips.split(",")) for name, options in links(trip) if word in name])
+    rows = []
+    for trip in map(int, trips.split(",")):
+        tried_links = [link for link in links(trip) if is_wanted(link[0], word)]
+        rows += rows_of(pump, program, int(seeds), int(size), trip, tried_links, int(at_once), at_once != "1")
+    summary([(name, medians) for name, medians, _ in rows])
 
 
 if __name__ == "__main__":

@@ -104,16 +104,13 @@ impl Host {
         let mut sockets = SocketSet::new(ManagedSlice::Owned(Vec::new(alloc)));
         let handles = add_all(alloc, &mut sockets, port)?;
         let wire = Wire::new(alloc);
-        let interface = addressed(alloc, &wire, number)?;
-        boxed(
-            alloc,
-            Host {
-                interface,
-                wire,
-                sockets,
-                handles,
-            },
-        )
+        let host = addressed(alloc, &wire, number).map(|interface| Host {
+            interface,
+            wire,
+            sockets,
+            handles,
+        })?;
+        boxed(alloc, host)
     }
 
     /// Takes in what came, and sends what is to be sent.

@@ -9,3 +9,4 @@ pub mod Worlds
 pub mod ConnectionRun
 pub mod ConnectionEnd
 pub mod ExcludedNets
+pub mod BadWorlds

@@ -89,9 +89,10 @@ at_rest side = record {
   };
   stamps = record fresh_stamps { believed_until = Some (pos 2_073_600_000_000) };
   timers = fresh_timers;
-  round_trip = record { estimate = Some (record { smoothed = 0; variation = 0; shortest = 0 }); timeout = 1000; least = 1000; sample = None };
+  round_trip = record { estimate = Some (record { smoothed = 0; variation = 0; shortest = 0 }); timeout = 1_000_000; least = 1_000_000; sample = None };
   reno = record { mss = 1460; cwnd = 14_600; ssthresh = 1_073_741_824; recovers = false; timed_out = false; cubic = None };
   loss = fresh_loss;
+  validation = record { flight = 0; since = Some (pos 0) };
   settings = default_settings;
 }
 
@@ -105,6 +106,7 @@ telling = record {
     sender = record (at_rest A).sender { in_flight = 3; top = 3 };
     timers = record fresh_timers { retransmit_at = Some (pos 1_000_000) };
     round_trip = record (at_rest A).round_trip { sample = Some (record { ends = 3; since = pos 0 }) };
+    validation = record { flight = 3; since = Some (pos 0) };
   };
   received = received_of [] (space 8) 0;
   queued = ring text (replicate 5 0) 0;
@@ -125,7 +127,13 @@ reading = record {
 
 -- A sent its FIN
 abbrev finishing : TcpValue
-finishing = record telling { block = record telling.block { state = In.FinWait1; sender = record telling.block.sender { in_flight = 4; top = 4 } } }
+finishing = record telling {
+  block = record telling.block {
+    state = In.FinWait1;
+    sender = record telling.block.sender { in_flight = 4; top = 4 };
+    validation = record { flight = 4; since = Some (pos 0) };
+  };
+}
 
 -- B took it, whose acknowledgement is due at once, and read the end
 abbrev told_the_end : TcpValue

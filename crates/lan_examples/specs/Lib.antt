@@ -8,3 +8,4 @@ pub mod Played
 pub mod Opening
 pub mod Connection
 pub mod Excluded
+pub mod BadWorlds

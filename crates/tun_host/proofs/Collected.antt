@@ -4,7 +4,7 @@ use Rattle.std.specs.Prelude.{slice_index_or}
 use Rattle.std.proofs.Math.Seq.{get_or-append_right}
 use Rattle.std.proofs.lemmas.List.{length-map, length-take-le, get_or-drop}
 use Rattle.std.proofs.lemmas.List.Sums.{fold_more}
-use Rattle.services.specs.declared.site.Session.{Session}
+use Rattle.tun_host.specs.declared.site.Session.{Session}
 use Rattle.tun_host.specs.Tallies.{tally_with, no_more, collected}
 use Rattle.tun_host.specs.declared.tally.Tally.{Tally}
 

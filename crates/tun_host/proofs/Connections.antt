@@ -10,9 +10,9 @@ use Rattle.interface.specs.Set.{free}
 use Rattle.interface.specs.Item.{Item}
 use Rattle.interface.specs.SocketHandle.{SocketHandle}
 use Rattle.interface.specs.SocketStorage.{SocketStorage}
-use Rattle.services.specs.Site.{fresh_session}
-use Rattle.services.specs.declared.counts.Counts.{Counts}
-use Rattle.services.specs.declared.site.Session.{Session}
+use Rattle.tun_host.specs.Site.{fresh_session}
+use Rattle.tun_host.specs.declared.counts.Counts.{Counts}
+use Rattle.tun_host.specs.declared.site.Session.{Session}
 use Rattle.sockets.specs.declared.socket.Socket.{Socket}
 use Rattle.ip_wire.specs.IpListenEndpoint.{IpListenEndpoint}
 use Rattle.tcp_listener.specs.Calls.{fresh_entry, accepted, given_back, Refreshes}

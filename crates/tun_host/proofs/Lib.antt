@@ -3,3 +3,6 @@ mod Fresh
 mod Connections
 mod Running
 mod Collected
+mod Echo
+mod Megabyte
+mod Reading

@@ -27,10 +27,12 @@ use Rattle.net_base.specs.Packets.{packets_in}
 use Rattle.net_base.specs.Ring.{capacity}
 use Rattle.sockets.specs.Udp.{UdpValue, made as made_socket, bind_after}
 use Rattle.tun_host.specs.Backlogs.{on_port, HostState, AreFreshEntries}
-use Rattle.sockets.specs.TcpSettings.{set_timeout, set_keep_alive, set_min_rto}
+use Rattle.sockets.specs.TcpSettings.{set_timeout, set_keep_alive, set_min_rto, set_fine_timer, set_nagle_enabled, set_congestion_control}
+use Rattle.sockets.specs.TcpSettings.{set_tsval_generator}
+use Rattle.sockets.specs.CongestionControl.TheVariants.{Cubic}
 use Rattle.sockets.specs.declared.socket.Socket.{Socket}
 use Rattle.sockets.specs.declared.socket.Socket.TheVariants as Is
-use Rattle.services.specs.Blocks.{fresh_block, default_settings}
+use Rattle.tun_host.specs.Blocks.{fresh_block, default_settings}
 use Rattle.sockets.specs.TcpValue.{TcpValue, emptied, room_of}
 use Rattle.tun_host.specs.Settings.{medium_of}
 use Rattle.tun_host.specs.Services.{service_at, socket_count, echo_room}
@@ -43,7 +45,7 @@ use Rattle.tun_host.specs.declared.place.TheConstants.{ECHO_PORT, DATAGRAMS}
 use Rattle.tun_host.specs.declared.settings.Settings.{Settings}
 use Rattle.tun_link.specs.Drain.{DrainValue, fresh_drain}
 use Rattle.tun_host.specs.Tallies.{no_tally}
-use Rattle.services.specs.Site.{fresh_session}
+use Rattle.tun_host.specs.Site.{fresh_session}
 
 -- THE INTERFACE
 
@@ -111,6 +113,10 @@ RefusesSettings s e = RefusesHardware s e
 abbrev pub echo_socket : UdpValue
 echo_socket = bind_after (made_socket (packets_in [] 0 DATAGRAMS echo_room) (packets_in [] 0 DATAGRAMS echo_room)) (on_port ECHO_PORT)
 
+-- how many bytes a stream's socket has room for each way
+abbrev pub stream_room : ℕ
+stream_room = 262_144
+
 -- CLOSED, as before any OPEN, with room for so many bytes each way
 pub record IsUnopened (room : ℕ) (v : TcpValue) : Type 0 where
   pub block : v.block ≡ fresh_block default_settings
@@ -132,14 +138,24 @@ timeout = 120_000_000
 abbrev pub least_rto : ℕ
 least_rto = 200_000
 
-abbrev pub patient : TcpValue → TcpValue
-patient v = set_min_rto (set_timeout (set_keep_alive v (Some keep_alive)) (Some timeout)) least_rto
+-- it sees that its partner vanished
+abbrev pub watchful : TcpValue → TcpValue
+watchful v = set_timeout (set_keep_alive v (Some keep_alive)) (Some timeout)
 
--- one that serves connections, and sees that its partner vanished
-pub record IsPatient (room : ℕ) (v : TcpValue) : Type 0 where
+-- what was lost goes again soon, also where a round trip takes less than a millisecond, and a last small segment goes at once (RFC 9293,
+-- 3.7.4)
+abbrev pub prompt : TcpValue → TcpValue
+prompt v = set_nagle_enabled (set_fine_timer (set_min_rto v least_rto) true) false
+
+-- what is sent is held back by CUBIC (RFC 9438), and both ends tell by timestamps what is late from what is lost (RFC 7323, RFC 3522)
+abbrev pub careful : TcpValue → TcpValue
+careful v = set_tsval_generator (set_congestion_control v Cubic) (Some (record { 0 = 0 }))
+
+-- one that serves connections
+pub record IsServer (room : ℕ) (v : TcpValue) : Type 0 where
   pub before : TcpValue
   pub unopened : IsUnopened room before
-  pub set : v ≡ patient before
+  pub set : v ≡ careful (prompt (watchful before))
 
 -- a keeper never has a connection
 abbrev pub keeper_room : ℕ
@@ -147,8 +163,8 @@ keeper_room = 1
 
 abbrev pub IsFreshAs : Service → Socket → Type 0
 IsFreshAs Datagrams s = s ≡ Is.Udp echo_socket
-IsFreshAs Streams (Is.Tcp v) = IsPatient echo_room v
-IsFreshAs Page (Is.Tcp v) = IsPatient echo_room v
+IsFreshAs Streams (Is.Tcp v) = IsServer stream_room v
+IsFreshAs Page (Is.Tcp v) = IsServer stream_room v
 IsFreshAs Keeper (Is.Tcp v) = IsUnopened keeper_room v
 IsFreshAs service s = ⊥
 

@@ -1,3 +1,8 @@
+pub mod Echo
+pub mod Request
+pub mod Counts
+pub mod Site
+pub use Rattle.tcp_model.specs.Blocks
 pub mod Settings
 pub mod Services
 pub mod Backlogs

@@ -2,10 +2,10 @@
 use Rattle.std.specs.Prelude.{◌≡◌, ℕ, zero, suc, ◌==◌, nat_le, Bool, false, not, if◌then◌else◌, List, slice_set, Option, None, Some}
 use Rattle.interface.specs.Item.{Item}
 use Rattle.interface.specs.SocketStorage.{SocketStorage}
-use Rattle.services.specs.Echo.{datagram_echoed, stream_echoed}
-use Rattle.services.specs.Site.{Serves, talk, fresh_session}
-use Rattle.services.specs.declared.counts.Counts.{Counts}
-use Rattle.services.specs.declared.site.Session.{Session}
+use Rattle.tun_host.specs.Echo.{datagram_echoed, stream_echoed}
+use Rattle.tun_host.specs.Site.{Serves, talk, fresh_session}
+use Rattle.tun_host.specs.declared.counts.Counts.{Counts}
+use Rattle.tun_host.specs.declared.site.Session.{Session}
 use Rattle.sockets.specs.declared.socket.Socket.{Socket}
 use Rattle.sockets.specs.declared.socket.Socket.TheVariants as Is
 use Rattle.sockets.specs.TcpStates.{takes_writes}
@@ -39,7 +39,7 @@ abbrev pub port_of : Service → ℕ
 port_of Page = PAGE_PORT
 port_of other = ECHO_PORT
 
--- how many bytes a socket keeps each way, and how many of them are echoed in a turn at most
+-- how many bytes of datagrams a socket keeps each way, and how many of a stream are echoed in a turn at most
 abbrev pub echo_room : ℕ
 echo_room = 65_536
 

@@ -1,7 +1,7 @@
 -- What a host counts beside its device.
 use Rattle.std.specs.Prelude.{ℕ, ◌+◌, ◌^◌, ◌-◌, min, List, [], ◌∷◌, count_by, fold}
-use Rattle.services.specs.declared.counts.Counts.{Counts}
-use Rattle.services.specs.declared.site.Session.{Session}
+use Rattle.tun_host.specs.declared.counts.Counts.{Counts}
+use Rattle.tun_host.specs.declared.site.Session.{Session}
 use Rattle.tcp_listener.specs.Stages.{is_open}
 use Rattle.tcp_listener.specs.declared.entry.Entry.{Entry}
 use Rattle.tun_host.specs.declared.tally.Tally.{Tally}

@@ -12,8 +12,8 @@ use Rattle.tun_host.specs.Begins.{Begins, RefusesSettings}
 use Rattle.tcp_listener.specs.Calls.{micros_of, Refreshes, accepted}
 use Rattle.tcp_listener.specs.declared.entry.Entry.{Entry}
 use Rattle.tun_host.specs.Backlogs.{on_port, keepers_of, IsListener, HostState, BacklogServes}
-use Rattle.services.specs.declared.counts.Counts.{Counts}
-use Rattle.services.specs.declared.site.Session.{Session}
+use Rattle.tun_host.specs.declared.counts.Counts.{Counts}
+use Rattle.tun_host.specs.declared.site.Session.{Session}
 use Rattle.tun_host.specs.Tallies.{counts_of, more_waiting, collected, no_more}
 use Rattle.tun_host.specs.declared.tally.Tally.{Tally}
 use Rattle.tun_host.specs.Services.{first_place, socket_count, FirstServes, echo_room, most_request}

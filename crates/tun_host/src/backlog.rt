@@ -4,12 +4,13 @@ ghost use Rattle.tcp_listener.specs.Calls.{accepted};
 ghost use Rattle.tun_host.specs.Services.{echo_room, most_request, first_place, socket_count, FirstServes};
 ghost use Rattle.tun_host.specs.Backlogs.{StandAt, IsFreshListener, session_at, session_after, back_if, ServesAt, OneServes, BacklogServes};
 
+use crate::counts::Counts;
 use crate::place::{
     Service, first_place, is_over, keeper_place, port_of, serve_place, socket_count,
 };
+use crate::site::Session;
 use interface::{SocketHandle, SocketStorage};
 use ip_wire::IpListenEndpoint;
-use services::{Counts, Session};
 use sockets::Socket;
 use std::alloc::{AllocError, Global};
 use tcp_listener::Listener;

@@ -1,11 +1,14 @@
 //! The services, each at its places among a host's sockets.
 ghost use Rattle.std.specs.Prelude.{◌≡◌, ◌≤◌, length};
-ghost use Rattle.services.specs.Echo.{datagram_echoed};
+ghost use Rattle.tun_host.specs.Echo.{datagram_echoed};
 ghost use Rattle.tun_host.specs.Services.{service_at, first_place, socket_count, keeper_place, port_of, echo_room, most_request, datagram_count, times};
 ghost use Rattle.tun_host.specs.Services.{datagrams_served, stream_served, PageServed, ServesAs, PlaceServes, is_over};
 
+use crate::counts::Counts;
+use crate::datagram::echo_datagram;
+use crate::site::{Session, serve_site};
+use crate::stream::echo_stream;
 use interface::{Item, SocketStorage};
-use services::{Counts, Session, echo_datagram, echo_stream, serve_site};
 use sockets::{Socket, udp};
 
 /// How many streams are echoed at a time.

@@ -2,18 +2,20 @@
 ghost use Rattle.std.specs.Prelude.{◌≡◌, ◌≤◌, [], IfOk};
 ghost use Rattle.net_base.specs.Packets.{packets_in};
 ghost use Rattle.interface.specs.Set.{places};
-ghost use Rattle.tun_host.specs.Services.{echo_room};
-ghost use Rattle.tun_host.specs.Begins.{echo_socket, IsUnopened, IsPatient, patient, IsFreshAs, IsFreshPlace, AreFresh};
+ghost use Rattle.tun_host.specs.Begins.{stream_room, echo_socket, IsUnopened, IsServer, watchful, prompt, careful, IsFreshAs, IsFreshPlace, AreFresh};
 
 use crate::place::{DATAGRAMS, ECHO_PORT, ECHOES, PAGES, Service, service_at};
 use interface::{Item, Meta, SocketSet, SocketStorage};
-use ip_wire::IpListenEndpoint;
+use ip_wire::{IpListenEndpoint, TcpTimestampGenerator};
 use net_base::{Duration, ManagedSlice, PacketBuffer, PacketMetadata, RingBuffer};
 use sockets::{Socket, tcp, udp};
 use std::alloc::{AllocError, Global};
 
-/// How many bytes a socket keeps each way.
+/// How many bytes of datagrams a socket keeps each way, and how many of a stream are echoed in a turn at most.
 pub const ROOM: usize = 65_536;
+
+/// How many bytes a stream's socket keeps each way: no more of them are on their way in a round trip.
+const STREAM_ROOM: usize = 262_144;
 
 /// How many bytes a keeper keeps each way: it never has a connection.
 const KEEPER_ROOM: usize = 1;
@@ -59,7 +61,7 @@ fn datagrams(alloc: Global) -> Result<udp::Socket, AllocError>
 
 /// A stream's socket with room for so many bytes each way.
 fn stream(alloc: Global, room: usize) -> Result<tcp::Socket, AllocError>
-    requires { room ≤ 65536 }
+    requires { room ≤ 262144 }
     ensures { IfOk result (IsUnopened room) }
 {
     let rx = RingBuffer::new(ManagedSlice::Owned(vec![in alloc; 0u8; room]?));
@@ -67,21 +69,40 @@ fn stream(alloc: Global, room: usize) -> Result<tcp::Socket, AllocError>
     Ok(tcp::Socket::new(rx, tx))
 }
 
-/// A connection whose partner vanishes ends, and a segment that is lost goes again soon.
-fn be_patient(socket: &mut tcp::Socket)
-    ensures { socket.new ≡ patient socket.old }
+/// A connection whose partner vanishes ends.
+fn watch(socket: &mut tcp::Socket)
+    ensures { socket.new ≡ watchful socket.old }
 {
     socket.set_keep_alive(Some(Duration::from_secs(KEEP_ALIVE_SECS)));
     socket.set_timeout(Some(Duration::from_secs(TIMEOUT_SECS)));
+}
+
+/// A segment that is lost goes again soon, also where a round trip takes less than a millisecond. The last segment of an answer, which is
+/// seldom full, waits for no acknowledgement, which the partner may delay.
+fn hasten(socket: &mut tcp::Socket)
+    ensures { socket.new ≡ prompt socket.old }
+{
     socket.set_min_rto(Duration::from_millis(MIN_RTO_MILLIS));
+    socket.set_fine_timer(true);
+    socket.set_nagle_enabled(false);
+}
+
+/// A loss leaves more of the window than with Reno, and by timestamps both ends tell it from a segment that is late.
+fn take_care(socket: &mut tcp::Socket)
+    ensures { socket.new ≡ careful socket.old }
+{
+    socket.set_congestion_control(tcp::CongestionControl::Cubic);
+    socket.set_tsval_generator(Some(TcpTimestampGenerator(0)));
 }
 
 /// A socket that serves connections.
 fn server(alloc: Global) -> Result<tcp::Socket, AllocError>
-    ensures { IfOk result (IsPatient echo_room) }
+    ensures { IfOk result (IsServer stream_room) }
 {
-    let mut socket = stream(alloc, ROOM)?;
-    be_patient(&mut socket);
+    let mut socket = stream(alloc, STREAM_ROOM)?;
+    watch(&mut socket);
+    hasten(&mut socket);
+    take_care(&mut socket);
     Ok(socket)
 }
 

@@ -3,7 +3,8 @@ ghost use Rattle.std.specs.Prelude.{◌≡◌, length, map, count_by};
 ghost use Rattle.tcp_listener.specs.Stages.{is_open};
 ghost use Rattle.tun_host.specs.Tallies.{no_more, tally_with, collected, counts_of, more_waiting, open_count};
 
-use services::{Counts, Session};
+use crate::counts::Counts;
+use crate::site::Session;
 use tcp_listener::{Entry, Listener};
 use tun_link::Drain;
 

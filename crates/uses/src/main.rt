@@ -4,6 +4,7 @@
 mod containers;
 mod packets;
 mod sockets_in_use;
+mod transfer;
 mod two_hosts;
 
 use anyhow::Result;
@@ -29,5 +30,5 @@ fn main(rt: HostRuntime) -> Result<()> {
     if let Some(text) = two_hosts::run(alloc)? {
         println!(rt; "B read: {}", hex::encode(alloc, text.as_slice())?)?;
     }
-    Ok(())
+    transfer::draw(&rt)
 }

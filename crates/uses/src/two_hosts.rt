@@ -77,8 +77,8 @@ fn host(alloc: Global, n: u8) -> Result<Host> {
     })
 }
 
-// A value on the heap.
-fn boxed<T: Drop>(alloc: Global, value: T) -> Result<Box<T>> {
+/// A value on the heap.
+pub fn boxed<T: Drop>(alloc: Global, value: T) -> Result<Box<T>> {
     Ok(Box::new(alloc, value)?)
 }
 

@@ -47,6 +47,7 @@ use Rattle.tcp_control.specs.RoundTrip.{RoundTripValue}
 use Rattle.tcp_model.specs.contracts.block.BlockPartialEq.TheImpl as Blocks
 use Rattle.tcp_model.specs.contracts.block.CongestionControlPartialEq.TheImpl as Congestion
 use Rattle.tcp_model.specs.contracts.block.LossPartialEq.TheImpl as Lost
+use Rattle.tcp_model.specs.contracts.block.ValidationPartialEq.TheImpl as Validated
 use Rattle.tcp_model.specs.contracts.block.NamesPartialEq.TheImpl as Named
 use Rattle.tcp_model.specs.contracts.block.PeerPartialEq.TheImpl as Remote
 use Rattle.tcp_model.specs.contracts.block.ReceiverPartialEq.TheImpl as Receiving
@@ -68,6 +69,7 @@ use Rattle.tcp_model.specs.declared.block.Settings.{Settings}
 use Rattle.tcp_model.specs.declared.block.Stamps.{Stamps}
 use Rattle.tcp_model.specs.declared.block.Timers.{Timers}
 use Rattle.tcp_model.specs.declared.block.Undo.{Undo}
+use Rattle.tcp_model.specs.declared.block.Validation.{Validation}
 use Rattle.tcp_model.specs.declared.block.checks.Verdict.{Verdict}
 use Rattle.tcp_model.specs.declared.block.rules.Part.{Part}
 
@@ -403,7 +405,8 @@ Decides-congestion a b = search rules
 
 pub Decides-settings : (a b : Settings) → Decides (Set.ghosts.eq a b) (a ≡ b)
 Decides-settings a b =
-    let from_retries = Decides-and _ _ (Decides-option (λ (x y : ℕ). x == y) Decides-eqb a.retries b.retries) (Decides-eqb a.min_rto b.min_rto) in
+    let from_min_rto = Decides-and _ _ (Decides-eqb a.min_rto b.min_rto) (booleans_Decides a.fine_timer b.fine_timer) in
+    let from_retries = Decides-and _ _ (Decides-option (λ (x y : ℕ). x == y) Decides-eqb a.retries b.retries) (from_min_rto) in
     let from_opening_retries = Decides-and _ _ (Decides-option (λ (x y : ℕ). x == y) Decides-eqb a.opening_retries b.opening_retries) (from_retries) in
     let from_synack_paused = Decides-and _ _ (booleans_Decides a.synack_paused b.synack_paused) (from_opening_retries) in
     let from_congestion_control = Decides-and _ _ (Decides-congestion a.congestion_control b.congestion_control) (from_synack_paused) in
@@ -430,8 +433,9 @@ Decides-settings a b =
             synack_paused = parts.1.1.1.1.1.1.1.1.0 i;
             opening_retries = parts.1.1.1.1.1.1.1.1.1.0 i;
             retries = parts.1.1.1.1.1.1.1.1.1.1.0 i;
-            min_rto =
-                parts.1.1.1.1.1.1.1.1.1.1.1 i;
+            min_rto = parts.1.1.1.1.1.1.1.1.1.1.1.0 i;
+            fine_timer =
+                parts.1.1.1.1.1.1.1.1.1.1.1.1 i;
           },
       λ e. all.1 (both (ap (λ (v : Settings). v.timeout) e)
           (both (ap (λ (v : Settings). v.ack_delay) e)
@@ -442,7 +446,8 @@ Decides-settings a b =
           (both (ap (λ (v : Settings). v.timestamps) e)
           (both (ap (λ (v : Settings). v.congestion_control) e)
           (both (ap (λ (v : Settings). v.synack_paused) e)
-          (both (ap (λ (v : Settings). v.opening_retries) e) (both (ap (λ (v : Settings). v.retries) e) (ap (λ (v : Settings). v.min_rto) e)))))))))))),
+          (both (ap (λ (v : Settings). v.opening_retries) e)
+          (both (ap (λ (v : Settings). v.retries) e) (both (ap (λ (v : Settings). v.min_rto) e) (ap (λ (v : Settings). v.fine_timer) e))))))))))))),
     )
 
 pub Decides-run : (a b : Run) → Decides (Ran.ghosts.eq a b) (a ≡ b)
@@ -472,9 +477,11 @@ Decides-undo a b =
 
 pub Decides-loss : (a b : Loss) → Decides (Lost.ghosts.eq a b) (a ≡ b)
 Decides-loss a b =
-    let from_probe_at =
-    Decides-and _ _ (Decides-option (λ (x y : ℤ). int_eq x y) Decides-int_eq a.probe_at b.probe_at)
+    let from_late_until =
+    Decides-and _ _ (Decides-option (λ (x y : ℤ). int_eq x y) Decides-int_eq a.late_until b.late_until)
     (Decides-option (λ x y. Undoing.ghosts.eq x y) Decides-undo a.undo b.undo) in
+    let from_patience = Decides-and _ _ (Decides-eqb a.patience b.patience) (from_late_until) in
+    let from_probe_at = Decides-and _ _ (Decides-option (λ (x y : ℤ). int_eq x y) Decides-int_eq a.probe_at b.probe_at) (from_patience) in
     let from_probed = Decides-and _ _ (booleans_Decides a.probed b.probed) (from_probe_at) in
     let from_probes = Decides-and _ _ (booleans_Decides a.probes b.probes) (from_probed) in
     let from_eager = Decides-and _ _ (booleans_Decides a.eager b.eager) (from_probes) in
@@ -493,7 +500,9 @@ Decides-loss a b =
             probes = parts.1.1.1.1.1.0 i;
             probed = parts.1.1.1.1.1.1.0 i;
             probe_at = parts.1.1.1.1.1.1.1.0 i;
-            undo = parts.1.1.1.1.1.1.1.1 i;
+            patience = parts.1.1.1.1.1.1.1.1.0 i;
+            late_until = parts.1.1.1.1.1.1.1.1.1.0 i;
+            undo = parts.1.1.1.1.1.1.1.1.1.1 i;
           },
       λ e. all.1 (both (ap (λ (v : Loss). v.board) e)
           (both (ap (λ (v : Loss). v.resent) e)
@@ -501,13 +510,25 @@ Decides-loss a b =
           (both (ap (λ (v : Loss). v.mark) e)
           (both (ap (λ (v : Loss). v.eager) e)
           (both (ap (λ (v : Loss). v.probes) e)
-          (both (ap (λ (v : Loss). v.probed) e) (both (ap (λ (v : Loss). v.probe_at) e) (ap (λ (v : Loss). v.undo) e))))))))),
+          (both (ap (λ (v : Loss). v.probed) e)
+          (both (ap (λ (v : Loss). v.probe_at) e)
+          (both (ap (λ (v : Loss). v.patience) e) (both (ap (λ (v : Loss). v.late_until) e) (ap (λ (v : Loss). v.undo) e))))))))))),
+    )
+
+pub Decides-validation : (a b : Validation) → Decides (Validated.ghosts.eq a b) (a ≡ b)
+Decides-validation a b =
+    let all = Decides-and _ _ (Decides-eqb a.flight b.flight) (Decides-option (λ (x y : ℤ). int_eq x y) Decides-int_eq a.since b.since) in (
+      λ yes.
+          let parts = all.0 yes in
+          λ i. record { flight = parts.0 i; since = parts.1 i },
+      λ e. all.1 (both (ap (λ (v : Validation). v.flight) e) (ap (λ (v : Validation). v.since) e)),
     )
 
 -- the control block is compared whole
 pub Decides-block : (a b : Block) → Decides (Blocks.ghosts.eq a b) (a ≡ b)
 Decides-block a b =
-    let from_loss = Decides-and _ _ (Decides-loss a.loss b.loss) (Decides-settings a.settings b.settings) in
+    let from_validation = Decides-and _ _ (Decides-validation a.validation b.validation) (Decides-settings a.settings b.settings) in
+    let from_loss = Decides-and _ _ (Decides-loss a.loss b.loss) (from_validation) in
     let from_reno = Decides-and _ _ (Decides-reno a.reno b.reno) (from_loss) in
     let from_round_trip = Decides-and _ _ (Decides-round_trip a.round_trip b.round_trip) (from_reno) in
     let from_timers = Decides-and _ _ (Decides-timers a.timers b.timers) (from_round_trip) in
@@ -530,7 +551,8 @@ Decides-block a b =
             round_trip = parts.1.1.1.1.1.1.1.0 i;
             reno = parts.1.1.1.1.1.1.1.1.0 i;
             loss = parts.1.1.1.1.1.1.1.1.1.0 i;
-            settings = parts.1.1.1.1.1.1.1.1.1.1 i;
+            validation = parts.1.1.1.1.1.1.1.1.1.1.0 i;
+            settings = parts.1.1.1.1.1.1.1.1.1.1.1 i;
           },
       λ e. all.1 (both (ap (λ (v : Block). v.state) e)
           (both (ap (λ (v : Block). v.names) e)
@@ -540,7 +562,8 @@ Decides-block a b =
           (both (ap (λ (v : Block). v.stamps) e)
           (both (ap (λ (v : Block). v.timers) e)
           (both (ap (λ (v : Block). v.round_trip) e) (both (ap (λ (v : Block). v.reno) e)
-          (both (ap (λ (v : Block). v.loss) e) (ap (λ (v : Block). v.settings) e))))))))))),
+          (both (ap (λ (v : Block). v.loss) e)
+          (both (ap (λ (v : Block). v.validation) e) (ap (λ (v : Block). v.settings) e)))))))))))),
     )
 
 pub Decides-verdict : (a b : Verdict) → Decides (Judged.ghosts.eq a b) (a ≡ b)

@@ -3,3 +3,4 @@ pub mod Told
 pub mod InterfaceEqual
 pub mod Begins
 pub mod Drains
+pub mod TurnPackets

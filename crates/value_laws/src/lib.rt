@@ -1,5 +1,5 @@
 //! What the values of the crates are: what `==` says of them, the numbers that their constants and defaults are, the texts of their
-//! errors, and that what a facade passes on is its member's, under its own name.
+//! errors, and that what a facade passes on is its member's, under its own name. And what the polls of a turn of a host do to its sockets.
 //!
 //! Each law is a small function, with nothing to do or one call to make. The crate stands on top, so that no crate below is
 //! proved anew for it.
@@ -24,6 +24,7 @@ pub mod lan_facade;
 pub mod links;
 pub mod packets;
 pub mod passed_on;
+pub mod peer_turns;
 pub mod refusals;
 pub mod script_end;
 pub mod script_equal;

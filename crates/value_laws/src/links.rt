@@ -1,9 +1,9 @@
-//! Of `tun_link` and `services`.
+//! Of `tun_link`, and of the services of `tun_host`.
 ghost use Rattle.std.specs.Prelude.{◌≡◌, ◌↔◌, IsTrue};
-ghost use Rattle.services.specs.declared.request.Verdict.{Verdict};
+ghost use Rattle.tun_host.specs.declared.request.Verdict.{Verdict};
 ghost use Rattle.tun_link.specs.declared.turn.TurnError.{TurnError};
 
-use services::Verdict;
+use tun_host::Verdict;
 use tun_link::{HEAD_LEN, TurnError};
 
 /// Law: `==` says of two verdicts, and of two reasons why a turn isn't taken, whether they are the same.

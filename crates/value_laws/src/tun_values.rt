@@ -1,6 +1,6 @@
 //! The numbers of a host over a reader and a writer.
 ghost use Rattle.std.specs.Prelude.{◌≡◌};
-ghost use Rattle.tun_host.specs.Begins.{place_count};
+ghost use Rattle.tun_host.specs.Begins.{place_count, stream_room};
 ghost use Rattle.tun_host.specs.Services.{echo_room, most_request, datagram_count};
 ghost use Rattle.tun_host.specs.Turns.{budget};
 ghost use Rattle.tun_host.specs.declared.interface_of.TheConstants.{MTU};
@@ -9,7 +9,7 @@ ghost use Rattle.tun_host.specs.declared.place.TheConstants.{ECHO_PORT, PAGE_POR
 use tun_link::HEAD_LEN;
 
 /// Law: the ports of the services (RFC 862, RFC 1945), the longest packet, how many datagrams wait and are echoed, how many sockets
-/// there are and how much each keeps, how much of a request is looked at, and how many frames a poll takes.
+/// there are, how much each keeps of datagrams and of a stream, how much of a request is looked at, and how many frames a poll takes.
 pub fn tun_numbers()
     ensures echo { ECHO_PORT ≡ 7 }
     ensures page { PAGE_PORT ≡ 80 }
@@ -18,6 +18,7 @@ pub fn tun_numbers()
     ensures echoed { datagram_count ≡ 64 }
     ensures places { place_count ≡ 71 }
     ensures room { echo_room ≡ 65536 }
+    ensures stream_room { stream_room ≡ 262144 }
     ensures request { most_request ≡ 4096 }
     ensures budget { budget ≡ 64 }
 {}

@@ -33,17 +33,14 @@ impl Client {
         let mut sockets = SocketSet::new(ManagedSlice::Owned(Vec::new(alloc)));
         let (dhcp, dns) = add_both(&mut sockets)?;
         let wire = Wire::new(alloc);
-        let interface = bare(alloc, &wire, 2)?;
-        boxed(
-            alloc,
-            Client {
-                interface,
-                wire,
-                sockets,
-                dhcp,
-                dns,
-            },
-        )
+        let client = bare(alloc, &wire, 2).map(|interface| Client {
+            interface,
+            wire,
+            sockets,
+            dhcp,
+            dns,
+        })?;
+        boxed(alloc, client)
     }
 
     /// Takes in what came and sends what is due, and configures the host by what the client of DHCP tells.

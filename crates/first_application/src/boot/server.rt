@@ -40,17 +40,14 @@ impl Server {
         let mut sockets = SocketSet::new(ManagedSlice::Owned(Vec::new(alloc)));
         let (dhcp, dns) = add_both(alloc, &mut sockets)?;
         let wire = Wire::new(alloc);
-        let interface = addressed(alloc, &wire, 1)?;
-        boxed(
-            alloc,
-            Server {
-                interface,
-                wire,
-                sockets,
-                dhcp,
-                dns,
-            },
-        )
+        let server = addressed(alloc, &wire, 1).map(|interface| Server {
+            interface,
+            wire,
+            sockets,
+            dhcp,
+            dns,
+        })?;
+        boxed(alloc, server)
     }
 
     /// Takes in what came, answers, and sends the answers.

@@ -30,73 +30,43 @@ const NAMED: Named = (
 
 const EIGHT: [u8; 8] = [1, 2, 3, 4, 5, 6, 7, 8];
 
-/// A field to be set.
-enum Field {
-    NoFlags,
-    Version(u8),
-    HeaderLen(u8),
-    Dscp(u8),
-    Ecn(u8),
-    TotalLen(u16),
-    Ident(u16),
-    DontFrag(bool),
-    MoreFrags(bool),
-    FragOffset(u16),
-    HopLimit(u8),
-    NextHeader(IpProtocol),
-    Checksum(u16),
-    SrcAddr(Ipv4Address),
-    DstAddr(Ipv4Address),
-}
-
-/// Sets a field, if there is a header.
-fn set(bytes: &mut [u8], field: &Field) {
+/// Sets what stands before the protocol, if there is a header.
+fn set_numbers(bytes: &mut [u8]) {
     if bytes.len() < 20 {
         return;
     }
     let mut packet = Ipv4PacketMut::new_unchecked(bytes);
-    match field {
-        Field::NoFlags => packet.clear_flags(),
-        Field::Version(value) => packet.set_version(*value),
-        Field::HeaderLen(value) => packet.set_header_len(*value),
-        Field::Dscp(value) => packet.set_dscp(*value),
-        Field::Ecn(value) => packet.set_ecn(*value),
-        Field::TotalLen(value) => packet.set_total_len(*value),
-        Field::Ident(value) => packet.set_ident(*value),
-        Field::DontFrag(value) => packet.set_dont_frag(*value),
-        Field::MoreFrags(value) => packet.set_more_frags(*value),
-        Field::FragOffset(value) => packet.set_frag_offset(*value),
-        Field::HopLimit(value) => packet.set_hop_limit(*value),
-        Field::NextHeader(value) => packet.set_next_header(*value),
-        Field::Checksum(value) => packet.set_checksum(*value),
-        Field::SrcAddr(value) => packet.set_src_addr(*value),
-        Field::DstAddr(value) => packet.set_dst_addr(*value),
-    }
+    packet.clear_flags();
+    packet.set_version(4);
+    packet.set_header_len(24);
+    packet.set_dscp(48);
+    packet.set_ecn(1);
+    packet.set_total_len(32);
+    packet.set_ident(0x1234);
 }
 
-const FIELDS: [Field; 15] = [
-    Field::NoFlags,
-    Field::Version(4),
-    Field::HeaderLen(24),
-    Field::Dscp(48),
-    Field::Ecn(1),
-    Field::TotalLen(32),
-    Field::Ident(0x1234),
-    Field::DontFrag(true),
-    Field::MoreFrags(true),
-    Field::FragOffset(0x828),
-    Field::HopLimit(1),
-    Field::NextHeader(IpProtocol::Igmp),
-    Field::Checksum(0x0102),
-    Field::SrcAddr(Ipv4Address([10, 0, 0, 1])),
-    Field::DstAddr(Ipv4Address([224, 0, 0, 22])),
-];
-
-/// Sets these fields.
-fn set_all(bytes: &mut [u8], fields: &[Field]) {
-    for field in fields {
-        set(bytes, field);
+/// Sets what stands before the addresses.
+fn set_rest(bytes: &mut [u8]) {
+    if bytes.len() < 20 {
+        return;
     }
+    let mut packet = Ipv4PacketMut::new_unchecked(bytes);
+    packet.set_dont_frag(true);
+    packet.set_more_frags(true);
+    packet.set_frag_offset(0x828);
+    packet.set_hop_limit(1);
+    packet.set_next_header(IpProtocol::Igmp);
+    packet.set_checksum(0x0102);
+}
+
+/// Sets the addresses.
+fn set_addresses(bytes: &mut [u8]) {
+    if bytes.len() < 20 {
+        return;
+    }
+    let mut packet = Ipv4PacketMut::new_unchecked(bytes);
+    packet.set_src_addr(Ipv4Address([10, 0, 0, 1]));
+    packet.set_dst_addr(Ipv4Address([224, 0, 0, 22]));
 }
 
 const FRONT: [u8; 20] = [
@@ -107,7 +77,9 @@ const FRONT: [u8; 20] = [
 #[test]
 fn ipv4_is_set(rt: HostRuntime) {
     let mut bytes = [0xff; 32];
-    set_all(&mut bytes, &FIELDS);
+    set_numbers(&mut bytes);
+    set_rest(&mut bytes);
+    set_addresses(&mut bytes);
     assert!(rt; starts_with(&bytes, &FRONT));
 }
 

@@ -40,58 +40,35 @@ fn named_in_place(bytes: &mut [u8]) -> Option<Named> {
     ))
 }
 
-/// A field to be set.
-enum Field {
-    Version(u8),
-    TrafficClass(u8),
-    FlowLabel(u32),
-    PayloadLen(u16),
-    NextHeader(IpProtocol),
-    HopLimit(u8),
-    SrcAddr(Ipv6Address),
-    DstAddr(Ipv6Address),
-}
-
-/// Sets a field, if there is a header.
-fn set(bytes: &mut [u8], field: &Field) {
+/// Sets what stands before the addresses, if there is a header.
+fn set_numbers(bytes: &mut [u8]) {
     if bytes.len() < 40 {
         return;
     }
     let mut packet = Ipv6PacketMut::new_unchecked(bytes);
-    match field {
-        Field::Version(value) => packet.set_version(*value),
-        Field::TrafficClass(value) => packet.set_traffic_class(*value),
-        Field::FlowLabel(value) => packet.set_flow_label(*value),
-        Field::PayloadLen(value) => packet.set_payload_len(*value),
-        Field::NextHeader(value) => packet.set_next_header(*value),
-        Field::HopLimit(value) => packet.set_hop_limit(*value),
-        Field::SrcAddr(value) => packet.set_src_addr(*value),
-        Field::DstAddr(value) => packet.set_dst_addr(*value),
-    }
+    packet.set_version(6);
+    packet.set_traffic_class(0xfe);
+    packet.set_flow_label(0x12345);
+    packet.set_payload_len(4);
+    packet.set_next_header(IpProtocol::Udp);
+    packet.set_hop_limit(64);
 }
 
-const FIELDS: [Field; 8] = [
-    Field::Version(6),
-    Field::TrafficClass(0xfe),
-    Field::FlowLabel(0x12345),
-    Field::PayloadLen(4),
-    Field::NextHeader(IpProtocol::Udp),
-    Field::HopLimit(64),
-    Field::SrcAddr(LOCAL),
-    Field::DstAddr(IPV6_LINK_LOCAL_ALL_NODES),
-];
-
-/// Sets these fields.
-fn set_all(bytes: &mut [u8], fields: &[Field]) {
-    for field in fields {
-        set(bytes, field);
+/// Sets the addresses.
+fn set_addresses(bytes: &mut [u8]) {
+    if bytes.len() < 40 {
+        return;
     }
+    let mut packet = Ipv6PacketMut::new_unchecked(bytes);
+    packet.set_src_addr(LOCAL);
+    packet.set_dst_addr(IPV6_LINK_LOCAL_ALL_NODES);
 }
 
 #[test]
 fn ipv6_is_set(rt: HostRuntime) {
     let mut bytes = [0xff; 46];
-    set_all(&mut bytes, &FIELDS);
+    set_numbers(&mut bytes);
+    set_addresses(&mut bytes);
     all(
         &rt,
         &[

@@ -143,28 +143,17 @@ fn request_is_written(rt: HostRuntime) {
     );
 }
 
-/// A number to be set.
-enum Field {
-    HardwareType(ArpHardware),
-    ProtocolType(EthernetProtocol),
-    HardwareLen(u8),
-    ProtocolLen(u8),
-    Operation(ArpOperation),
-}
-
-/// Sets a number, if there is a place for it.
-fn set(bytes: &mut [u8], number: &Field) {
+/// Sets kinds, lengths and operation, if there is a place for them.
+fn set_numbers(bytes: &mut [u8]) {
     if bytes.len() < 8 {
         return;
     }
     let mut packet = ArpPacketMut::new_unchecked(bytes);
-    match number {
-        Field::HardwareType(value) => packet.set_hardware_type(*value),
-        Field::ProtocolType(value) => packet.set_protocol_type(*value),
-        Field::HardwareLen(value) => packet.set_hardware_len(*value),
-        Field::ProtocolLen(value) => packet.set_protocol_len(*value),
-        Field::Operation(value) => packet.set_operation(*value),
-    }
+    packet.set_hardware_type(ArpHardware::Ethernet);
+    packet.set_protocol_type(EthernetProtocol::Ipv4);
+    packet.set_hardware_len(6);
+    packet.set_protocol_len(4);
+    packet.set_operation(ArpOperation::Request);
 }
 
 /// Kinds, lengths and operation, and whether it is whole, where the packet is written.
@@ -224,21 +213,6 @@ fn held(bytes: &mut [u8]) -> &[u8] {
     ArpPacketMut::new_unchecked(bytes).into_inner()
 }
 
-const NUMBERS_SET: [Field; 5] = [
-    Field::HardwareType(ArpHardware::Ethernet),
-    Field::ProtocolType(EthernetProtocol::Ipv4),
-    Field::HardwareLen(6),
-    Field::ProtocolLen(4),
-    Field::Operation(ArpOperation::Request),
-];
-
-/// Sets these numbers.
-fn set_all(bytes: &mut [u8], numbers: &[Field]) {
-    for number in numbers {
-        set(bytes, number);
-    }
-}
-
 const HERE: [u8; 4] = [192, 168, 1, 1];
 
 const THERE: [u8; 4] = [192, 168, 1, 2];
@@ -248,7 +222,7 @@ const NOBODY: [u8; 6] = [0; 6];
 #[test]
 fn packet_is_set(rt: HostRuntime) {
     let mut bytes = [0xff; 28];
-    set_all(&mut bytes, &NUMBERS_SET);
+    set_numbers(&mut bytes);
     let addresses: ArpAddresses<'_> = (&SENDER.0, &HERE, &NOBODY, &THERE);
     all(
         &rt,

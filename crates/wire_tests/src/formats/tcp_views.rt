@@ -3,7 +3,6 @@ use crate::cases::all;
 use crate::formats::samples::{LEFT, RIGHT, behind, first, is_same};
 use crate::formats::tcp_segments::{RANGES, SYN_BYTES};
 use ip_wire::{Error, SeqNumber, TcpPacketMut};
-use std::process::Abort;
 
 // The same fields through the writing view, and those of a segment with ranges.
 /// Ports, numbers, the header's length, window, checksum and urgent pointer.
@@ -138,72 +137,39 @@ fn refuses_to_write_too_few_bytes(rt: HostRuntime) {
     assert!(rt; TcpPacketMut::new_checked(&mut short).is_err());
 }
 
-/// A field to be set.
-enum Field {
-    NoFlags,
-    Fin(bool),
-    Syn(bool),
-    Rst(bool),
-    Psh(bool),
-    Ack(bool),
-    Urg(bool),
-    Ece(bool),
-    Cwr(bool),
-    Ns(bool),
-    HeaderLen(u8),
-    SrcPort(u16),
-    DstPort(u16),
-    SeqNumber(u32),
-    AckNumber(u32),
-    WindowLen(u16),
-    UrgentAt(u16),
-    Checksum(u16),
-}
-
-/// Sets a field, if there is a header.
-fn set(bytes: &mut [u8], field: &Field) {
+/// Sets the flags, if there is a header: a FIN, and none again.
+fn set_flags(bytes: &mut [u8]) {
     if bytes.len() < 20 {
         return;
     }
     let mut packet = TcpPacketMut::new_unchecked(bytes);
-    match field {
-        Field::NoFlags => packet.clear_flags(),
-        Field::HeaderLen(value) => packet.set_header_len(*value),
-        Field::SrcPort(value) => packet.set_src_port(*value),
-        Field::DstPort(value) => packet.set_dst_port(*value),
-        Field::SeqNumber(value) => packet.set_seq_number(SeqNumber(*value)),
-        Field::AckNumber(value) => packet.set_ack_number(SeqNumber(*value)),
-        Field::WindowLen(value) => packet.set_window_len(*value),
-        Field::UrgentAt(value) => packet.set_urgent_at(*value),
-        Field::Checksum(value) => packet.set_checksum(*value),
-        _ => set_flag(bytes, field),
-    }
+    packet.clear_flags();
+    packet.set_ack(true);
+    packet.set_ns(true);
+    packet.set_cwr(true);
+    packet.set_fin(true);
+    packet.set_fin(false);
 }
 
-/// Sets a flag, if there is a header.
-fn set_flag(bytes: &mut [u8], field: &Field) {
+/// Sets the numbers, if there is a header.
+fn set_numbers(bytes: &mut [u8]) {
     if bytes.len() < 20 {
         return;
     }
     let mut packet = TcpPacketMut::new_unchecked(bytes);
-    match field {
-        Field::Fin(value) => packet.set_fin(*value),
-        Field::Syn(value) => packet.set_syn(*value),
-        Field::Rst(value) => packet.set_rst(*value),
-        Field::Psh(value) => packet.set_psh(*value),
-        Field::Ack(value) => packet.set_ack(*value),
-        Field::Urg(value) => packet.set_urg(*value),
-        Field::Ece(value) => packet.set_ece(*value),
-        Field::Cwr(value) => packet.set_cwr(*value),
-        Field::Ns(value) => packet.set_ns(*value),
-        _ => {}
-    }
+    packet.set_header_len(24);
+    packet.set_src_port(1);
+    packet.set_dst_port(2);
+    packet.set_seq_number(SeqNumber(0xfffffffe));
+    packet.set_ack_number(SeqNumber(0x80000001));
+    packet.set_window_len(0xffff);
+    packet.set_urgent_at(9);
 }
 
-/// Sets these fields.
-fn set_all(bytes: &mut [u8], fields: &[Field]) {
-    for field in fields {
-        set(bytes, field);
+/// Sets the checksum, if there is a header.
+fn set_checksum(bytes: &mut [u8], value: u16) {
+    if bytes.len() >= 20 {
+        TcpPacketMut::new_unchecked(bytes).set_checksum(value);
     }
 }
 
@@ -227,22 +193,6 @@ fn held(bytes: &mut [u8]) -> &[u8] {
     TcpPacketMut::new_unchecked(bytes).into_inner()
 }
 
-const FIELDS: [Field; 13] = [
-    Field::NoFlags,
-    Field::Ack(true),
-    Field::Ns(true),
-    Field::Cwr(true),
-    Field::Fin(true),
-    Field::Fin(false),
-    Field::HeaderLen(24),
-    Field::SrcPort(1),
-    Field::DstPort(2),
-    Field::SeqNumber(0xfffffffe),
-    Field::AckNumber(0x80000001),
-    Field::WindowLen(0xffff),
-    Field::UrgentAt(9),
-];
-
 const WRITTEN: [u8; 24] = [
     0x00, 0x01, 0x00, 0x02, 0xff, 0xff, 0xff, 0xfe, 0x80, 0x00, 0x00, 0x01, 0x61, 0x90, 0xff, 0xff,
     0x12, 0x34, 0x00, 0x09, 0xaa, 0x00, 0x00, 0xff,
@@ -251,10 +201,11 @@ const WRITTEN: [u8; 24] = [
 #[test]
 fn writes_every_field(rt: HostRuntime) {
     let mut buffer = SYN_BYTES;
-    set_all(&mut buffer, &FIELDS);
+    set_flags(&mut buffer);
+    set_numbers(&mut buffer);
     seal(&mut buffer);
     let sealed = is_right(&mut buffer);
-    set(&mut buffer, &Field::Checksum(0x1234));
+    set_checksum(&mut buffer, 0x1234);
     all(
         &rt,
         &[
@@ -265,79 +216,74 @@ fn writes_every_field(rt: HostRuntime) {
     );
 }
 
-/// The flags from the lowest bit on, where the segment is written.
-fn flags(bytes: &mut [u8]) -> [bool; 9] {
+/// Sets the five low flags from the lowest bit on, and tells each once it is set, where the segment is written.
+fn low_flags(bytes: &mut [u8]) -> [bool; 5] {
     if bytes.len() < 20 {
-        return [false; 9];
+        return [false; 5];
     }
-    let packet = TcpPacketMut::new_unchecked(bytes);
-    [
-        packet.fin(),
-        packet.syn(),
-        packet.rst(),
-        packet.psh(),
-        packet.ack(),
-        packet.urg(),
-        packet.ece(),
-        packet.cwr(),
-        packet.ns(),
-    ]
+    let mut packet = TcpPacketMut::new_unchecked(bytes);
+    packet.set_fin(true);
+    let fin = packet.fin();
+    packet.set_syn(true);
+    let syn = packet.syn();
+    packet.set_rst(true);
+    let rst = packet.rst();
+    packet.set_psh(true);
+    let psh = packet.psh();
+    packet.set_ack(true);
+    [fin, syn, rst, psh, packet.ack()]
 }
-
-/// Asserts that each of these fields sets the flag of its number.
-fn set_flags(rt: &impl Abort, bytes: &mut [u8], fields: &[(Field, usize)]) {
-    for (field, flag) in fields {
-        set(bytes, field);
-        assert!(rt;
-            flags(bytes).get(*flag).copied() == Some(true),
-            "flag {flag}"
-        );
-    }
-}
-
-/// The length that the header says it has.
-fn header_len(bytes: &mut [u8]) -> Option<u8> {
-    if bytes.len() < 20 {
-        return None;
-    }
-    Some(TcpPacketMut::new_unchecked(bytes).header_len())
-}
-
-const LOW: [(Field, usize); 5] = [
-    (Field::Fin(true), 0),
-    (Field::Syn(true), 1),
-    (Field::Rst(true), 2),
-    (Field::Psh(true), 3),
-    (Field::Ack(true), 4),
-];
 
 // RFC 9293, section 3.1, and RFC 3540, section 9: the bits of bytes 12 and 13.
 #[test]
 fn sets_each_flag(rt: HostRuntime) {
     let mut buffer = [0; 20];
-    set_flags(&rt, &mut buffer, &LOW);
-    assert!(rt; is_same(first(behind(&buffer, 13), 1), &[0x1f]));
+    all(
+        &rt,
+        &[
+            low_flags(&mut buffer) == [true; 5],
+            is_same(first(behind(&buffer, 13), 1), &[0x1f]),
+        ],
+    );
 }
 
-const HIGH: [(Field, usize); 4] = [
-    (Field::Urg(true), 5),
-    (Field::Ece(true), 6),
-    (Field::Cwr(true), 7),
-    (Field::Ns(true), 8),
-];
+/// The same of the other four.
+fn high_flags(bytes: &mut [u8]) -> [bool; 4] {
+    if bytes.len() < 20 {
+        return [false; 4];
+    }
+    let mut packet = TcpPacketMut::new_unchecked(bytes);
+    packet.set_urg(true);
+    let urg = packet.urg();
+    packet.set_ece(true);
+    let ece = packet.ece();
+    packet.set_cwr(true);
+    let cwr = packet.cwr();
+    packet.set_ns(true);
+    [urg, ece, cwr, packet.ns()]
+}
 
-const CLEARED: [Field; 3] = [Field::Syn(false), Field::Urg(false), Field::HeaderLen(63)];
+/// Clears two flags, and tells the length of a header whose length is set to 63.
+fn cleared(bytes: &mut [u8]) -> Option<u8> {
+    if bytes.len() < 20 {
+        return None;
+    }
+    let mut packet = TcpPacketMut::new_unchecked(bytes);
+    packet.set_syn(false);
+    packet.set_urg(false);
+    packet.set_header_len(63);
+    Some(packet.header_len())
+}
 
 #[test]
 fn sets_the_other_flags(rt: HostRuntime) {
     let mut buffer = [0; 20];
     buffer[13] = 0x1f;
-    set_flags(&rt, &mut buffer, &HIGH);
-    set_all(&mut buffer, &CLEARED);
     all(
         &rt,
         &[
-            header_len(&mut buffer) == Some(60),
+            high_flags(&mut buffer) == [true; 4],
+            cleared(&mut buffer) == Some(60),
             is_same(first(behind(&buffer, 12), 2), &[0xf1, 0xdd]),
         ],
     );

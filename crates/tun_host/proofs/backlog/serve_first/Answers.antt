@@ -1,5 +1,5 @@
 use Rattle.std.proofs.Common.{arith}
-use Rattle.services.specs.Site.{fresh_session}
+use Rattle.tun_host.specs.Site.{fresh_session}
 use Rattle.tun_host.specs.declared.place.Service.TheVariants.{Datagrams}
 use Rattle.tun_host.proofs.Connections.{served_nowhere}
 use Rattle.tun_host.proofs.backlog.serve_first.Goals as goal

@@ -1,7 +1,7 @@
 use Rattle.std.proofs.Common.{rules, arith, ◌≡◌, ◌∙◌, ap, subst, ℕ}
 use Rattle.std.specs.Prelude.{slice_set}
 use Rattle.std.proofs.lemmas.Grind.{common_steps}
-use Rattle.services.specs.declared.site.Session.{Session}
+use Rattle.tun_host.specs.declared.site.Session.{Session}
 use Rattle.tun_host.specs.Backlogs.{ServesAt, session_at, session_after}
 use Rattle.tun_host.proofs.Connections.{one_left, one_served}
 use Rattle.tun_host.proofs.backlog.serve_one.Goals as goal

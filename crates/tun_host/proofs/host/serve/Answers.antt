@@ -1,7 +1,7 @@
 use Rattle.std.proofs.Common.{◌≡◌, ◌∙◌, ap, subst, refl}
 use Rattle.interface.specs.Set.{places}
 use Rattle.tcp_listener.specs.Calls.{micros_of}
-use Rattle.services.specs.declared.counts.Counts.{Counts}
+use Rattle.tun_host.specs.declared.counts.Counts.{Counts}
 use Rattle.tun_host.specs.Tallies.{counts_of, more_waiting, collected}
 use Rattle.tun_host.specs.Turns.{served_of, ServicesServe}
 use Rattle.tun_host.specs.Services.{first_place, socket_count}

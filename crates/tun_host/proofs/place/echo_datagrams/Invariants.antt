@@ -1,5 +1,5 @@
 use Rattle.std.proofs.Common.{◌≡◌, length}
-use Rattle.services.specs.Echo.{datagram_echoed}
+use Rattle.tun_host.specs.Echo.{datagram_echoed}
 use Rattle.tun_host.specs.Services.{times}
 use Rattle.tun_host.proofs.place.echo_datagrams.Given as goal
 

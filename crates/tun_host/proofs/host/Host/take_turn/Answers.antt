@@ -2,7 +2,7 @@ use Rattle.std.proofs.Common.{rules, arith, ◌≡◌, ◌∙◌, ap, subst, Lis
 use Rattle.std.proofs.lemmas.Grind.{common_steps}
 use Rattle.std.proofs.lemmas.List.{with_items_is}
 use Rattle.std.specs.Vec.{with_items}
-use Rattle.services.specs.declared.site.Session.{Session}
+use Rattle.tun_host.specs.declared.site.Session.{Session}
 use Rattle.interface.specs.Host.{HostValue}
 use Rattle.interface.specs.Polls.{Polls, is_change}
 use Rattle.interface.specs.State.{state}

@@ -2,7 +2,7 @@ use Rattle.std.proofs.Common.{arith, ◌≡◌, ◌<◌, length, ◌∙◌, ap, 
 use Rattle.std.specs.Prelude.{slice_index_or, slice_set}
 use Rattle.std.proofs.lemmas.List.{get_or_default}
 use Rattle.std.proofs.lemmas.List.Edits.{map_over_more}
-use Rattle.services.specs.Site.{fresh_session}
+use Rattle.tun_host.specs.Site.{fresh_session}
 use Rattle.tun_host.specs.Tallies.{no_more}
 use Rattle.tun_host.proofs.Collected.{taken_more}
 use Rattle.tun_host.proofs.tally.Tally.collect.Goals as goal

@@ -1,3 +1,0 @@
-mod Echo
-mod Megabyte
-mod Reading

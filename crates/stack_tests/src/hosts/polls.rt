@@ -1,0 +1,11 @@
+//! Tests of an interface that polls its sockets, by public calls: hostile frames, a long transfer between two hosts, another device, and
+//! want of memory. What scripts can say of one host is data of the program `one_host`.
+
+mod by_kind;
+mod common;
+mod hostile;
+mod made;
+mod replies;
+pub mod streams;
+mod transfer;
+mod wire;

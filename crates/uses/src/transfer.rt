@@ -1,0 +1,304 @@
+//! A transfer over a link that loses every third segment, as a time-sequence picture: A on the left, B on the right, and
+//! each segment between them at its time in milliseconds, with its flags, its place in its stream, counted from the SYN,
+//! its length, and what it acknowledges. An `x` marks a loss.
+ghost use Rattle.std.specs.Prelude.{IfOk, OnOk};
+ghost use Rattle.tcp_pair.specs.Promises.{IsFresh};
+ghost use Rattle.tcp_pair.specs.Safe.{IsSafe};
+ghost use Rattle.sockets.specs.TcpReceive.{FitsBuffer};
+
+use crate::two_hosts::boxed;
+use anyhow::Result;
+use ip_wire::{IpAddress, IpEndpoint, IpListenEndpoint, TcpControl};
+use net_base::{Instant, ManagedSlice, RingBuffer};
+use sockets::tcp::{Socket, SocketBuffer, State};
+use std::alloc::{AllocError, Global};
+use std::str;
+use tcp_pair::{Bytes, Pair, PairAnswer, PairEvent, SentSegment, Side, TcpFault, TcpSetting};
+
+const TEXT: &[u8; 60] = b"Whatever a network loses, the bytes that are read are these.";
+
+/// A buffer with room for 64 bytes.
+fn buffer(alloc: Global) -> Result<SocketBuffer, AllocError>
+    ensures { IfOk result FitsBuffer }
+{
+    let room = vec![in alloc; 0u8; 64]?;
+    Ok(RingBuffer::new(ManagedSlice::Owned(room)))
+}
+
+/// A closed socket with room for 64 bytes each way.
+fn socket(alloc: Global) -> Result<Socket, AllocError>
+    ensures { IfOk result IsFresh }
+{
+    let received = buffer(alloc)?;
+    let queued = buffer(alloc)?;
+    Ok(Socket::new(received, queued))
+}
+
+/// A calls B. Each piece that A writes goes at once, and B acknowledges each segment.
+fn opening(alloc: Global) -> Result<Vec<PairEvent>, AllocError> {
+    let server = IpEndpoint {
+        addr: IpAddress::v4(192, 168, 1, 2),
+        port: 80,
+    };
+    Ok(vec![in alloc;
+        PairEvent::TcpSetting(Side::A, TcpSetting::NagleEnabled(false)),
+        PairEvent::TcpSetting(Side::B, TcpSetting::AckDelay(None)),
+        PairEvent::Listen(Side::B, port(80)),
+        PairEvent::Connect(Side::A, server, port(49500)),
+    ]?)
+}
+
+/// Two such sockets, with nothing between them.
+fn fresh(alloc: Global) -> Result<Pair>
+    ensures { IfOk result IsSafe }
+{
+    let a = socket(alloc)?;
+    let b = socket(alloc)?;
+    Ok(Pair::new(alloc, a, b))
+}
+
+fn open(alloc: Global, pair: &mut Pair) -> Result<()>
+    ensures { OnOk result (IsSafe pair.new) }
+{
+    match pair.run(opening(alloc)?) {
+        Ok(()) => Ok(()),
+        Err((_place, refused)) => Err(refused.into()),
+    }
+}
+
+fn port(port: u16) -> IpListenEndpoint {
+    IpListenEndpoint { addr: None, port }
+}
+
+/// The users: what A has still to write, and what B read.
+#[derive(Drop)]
+struct Users {
+    written: usize,
+    read: Vec<u8>,
+    read_all: bool,
+}
+
+/// An event whose answer nobody looks at.
+fn take(pair: &mut Pair, event: PairEvent) -> Result<()> {
+    Ok(pair.step(event).map(|_| ())?)
+}
+
+/// The next ten bytes behind those that were written.
+fn piece(written: usize) -> &'static [u8] {
+    let rest = TEXT.get(written..).unwrap_or(&[]);
+    rest.get(..10).unwrap_or(rest)
+}
+
+/// A writes ten bytes more where it may, and closes behind the last.
+fn write(alloc: Global, pair: &mut Pair, users: &mut Users) -> Result<()> {
+    if !pair.socket(Side::A).may_send() {
+        return Ok(());
+    }
+    let piece = piece(users.written);
+    if piece.is_empty() {
+        return take(pair, PairEvent::Close(Side::A));
+    }
+    let event = PairEvent::Send(Side::A, Bytes::from_vec(piece.to_vec(alloc)?));
+    if let PairAnswer::Count(count) = pair.step(event)? {
+        users.written = users.written.saturating_add(count);
+    }
+    Ok(())
+}
+
+/// B reads, and closes at the end.
+fn read(pair: &mut Pair, users: &mut Users) -> Result<()> {
+    match pair.step(PairEvent::Recv(Side::B, 64))? {
+        PairAnswer::Bytes(bytes) => Ok(users.read.extend_from_slice(bytes.as_slice())?),
+        PairAnswer::Error(TcpFault::Finished) if !users.read_all => {
+            users.read_all = true;
+            take(pair, PairEvent::Close(Side::B))
+        }
+        _ => Ok(()),
+    }
+}
+
+/// What the link has carried of each side's segments, and how many in all.
+#[derive(Drop)]
+struct Link {
+    of_a: usize,
+    of_b: usize,
+    all: usize,
+}
+
+impl Link {
+    /// The place of the next segment of this side.
+    fn next(&self, from: Side) -> usize {
+        match from {
+            Side::A => self.of_a,
+            Side::B => self.of_b,
+        }
+    }
+
+    /// It has carried one more of them.
+    fn count(&mut self, from: Side) {
+        match from {
+            Side::A => self.of_a = self.of_a.saturating_add(1),
+            Side::B => self.of_b = self.of_b.saturating_add(1),
+        }
+        self.all = self.all.saturating_add(1);
+    }
+
+    /// Carries the next segment of this side, if there is one, and shows it.
+    fn carry(&mut self, rt: &HostRuntime, pair: &mut Pair, from: Side, now: i64) -> Result<()> {
+        let k = self.next(from);
+        if pair.sent(from).len() <= k {
+            return Ok(());
+        }
+        self.count(from);
+        let lost = self.all % 3 == 0;
+        show_segment(rt, pair, from, k, now, lost)?;
+        if lost {
+            Ok(())
+        } else {
+            take(pair, PairEvent::Deliver(from, k))
+        }
+    }
+}
+
+/// Shows the segment of this side at this place.
+fn show_segment(
+    rt: &HostRuntime,
+    pair: &Pair,
+    from: Side,
+    k: usize,
+    now: i64,
+    lost: bool,
+) -> Result<()> {
+    match (pair.sent(from).first(), pair.sent(from).get(k)) {
+        (Some(first), Some(segment)) => {
+            let label = described(rt.alloc(), pair, from, first, segment)?;
+            show(rt, now, from, label.as_str(), lost)
+        }
+        _ => Ok(()),
+    }
+}
+
+/// The number of the other side's first segment, its SYN.
+fn start_of(pair: &Pair, side: Side) -> u32 {
+    match pair.sent(side).first() {
+        Some(first) => first.segment.seq_number.0,
+        None => 0,
+    }
+}
+
+fn described(
+    alloc: Global,
+    pair: &Pair,
+    from: Side,
+    first: &SentSegment,
+    x: &SentSegment,
+) -> Result<String> {
+    let flags = match x.segment.control {
+        TcpControl::Syn => "SYN ",
+        TcpControl::Fin => "FIN ",
+        TcpControl::Rst => "RST ",
+        TcpControl::None | TcpControl::Psh => "",
+    };
+    let place = x
+        .segment
+        .seq_number
+        .0
+        .wrapping_sub(first.segment.seq_number.0);
+    let other = match from {
+        Side::A => Side::B,
+        Side::B => Side::A,
+    };
+    let len = x.bytes.as_slice().len();
+    Ok(match x.segment.ack_number {
+        None => format!(in alloc; " {flags}{place}({len}) ")?,
+        Some(number) => {
+            let acked = number.0.wrapping_sub(start_of(pair, other));
+            format!(in alloc; " {flags}{place}({len}) ack {acked} ")?
+        }
+    })
+}
+
+fn show(rt: &HostRuntime, now: i64, from: Side, label: &str, lost: bool) -> Result<()> {
+    let millis = now / 1000;
+    match (from, lost) {
+        (Side::A, false) => println!(rt; "{millis:>6}  A --{label:-<26}-> B")?,
+        (Side::A, true) => println!(rt; "{millis:>6}  A --{label:-<22}- x   B")?,
+        (Side::B, false) => println!(rt; "{millis:>6}  A <-{label:->26}-- B")?,
+        (Side::B, true) => println!(rt; "{millis:>6}  A   x -{label:->22}-- B")?,
+    }
+    Ok(())
+}
+
+/// One side is offered its next segment, and the link carries what there is.
+fn offer(rt: &HostRuntime, pair: &mut Pair, link: &mut Link, side: Side, now: i64) -> Result<()> {
+    take(
+        pair,
+        PairEvent::Offer(side, Instant::from_micros(now), true),
+    )?;
+    for _ in 0..9 {
+        link.carry(rt, pair, Side::A, now)?;
+        link.carry(rt, pair, Side::B, now)?;
+    }
+    Ok(())
+}
+
+/// The users act, then both sides are offered a segment.
+fn turn(
+    rt: &HostRuntime,
+    pair: &mut Pair,
+    users: &mut Users,
+    link: &mut Link,
+    now: i64,
+) -> Result<()> {
+    write(rt.alloc(), pair, users)?;
+    read(pair, users)?;
+    offer(rt, pair, link, Side::A, now)?;
+    offer(rt, pair, link, Side::B, now)
+}
+
+fn is_over(pair: &Pair) -> bool {
+    pair.socket(Side::A).state() == State::TimeWait && pair.socket(Side::B).state() == State::Closed
+}
+
+fn show_end(rt: &HostRuntime, pair: &Pair, read: &[u8]) -> Result<()> {
+    let a = pair.socket(Side::A).state();
+    let b = pair.socket(Side::B).state();
+    println!(rt; "A is in {a}, B in {b}")?;
+    println!(rt; "read: {}", str::from_utf8(read)?)?;
+    Ok(())
+}
+
+/// Draws the transfer.
+pub fn draw(rt: &HostRuntime) -> Result<()> {
+    let mut pair = boxed(rt.alloc(), fresh(rt.alloc())?)?;
+    open(rt.alloc(), &mut pair)?;
+    transfer(rt, &mut pair)
+}
+
+/// The transfer between two connected sockets, to its end.
+fn transfer(rt: &HostRuntime, pair: &mut Pair) -> Result<()> {
+    let mut users = Users {
+        written: 0,
+        read: Vec::new(rt.alloc()),
+        read_all: false,
+    };
+    take_turns(rt, pair, &mut users)?;
+    show_end(rt, pair, users.read.as_slice())
+}
+
+/// A turn each tenth of a second, at most for a minute.
+fn take_turns(rt: &HostRuntime, pair: &mut Pair, users: &mut Users) -> Result<()> {
+    let mut link = Link {
+        of_a: 0,
+        of_b: 0,
+        all: 0,
+    };
+    for tick in 0..600_u16 {
+        let now = i64::from(tick) * 100_000;
+        turn(rt, pair, users, &mut link, now)?;
+        if is_over(pair) {
+            break;
+        }
+    }
+    Ok(())
+}
