@@ -10,9 +10,11 @@
 
 uint32_t bench_idle(uint16_t sockets, uint32_t polls);
 uint32_t bench_trips(const uint8_t *payload, size_t len, uint8_t *out, size_t out_len, size_t mtu, uint32_t trips, bool polls);
-uint64_t bench_stream(const uint8_t *text, size_t len, uint8_t *out, size_t out_len, size_t mtu, size_t room, uint64_t total, bool check);
+uint64_t bench_stream(const uint8_t *text, size_t len, uint8_t *out, size_t out_len, size_t mtu, size_t room, uint64_t total, bool check,
+                      bool calm, uint16_t idle);
+uint64_t bench_frames(const uint8_t *text, size_t len, uint8_t *out, size_t out_len, size_t mtu, size_t room, uint64_t total, bool calm, bool back);
 
-enum { ROUNDS = 9, PERIOD = 256, READ = 65536, TEXT = READ + PERIOD };
+enum { ROUNDS = 9, PERIOD = 65521, READ = 65536, TEXT = READ + PERIOD };
 static const uint64_t MIB = 1 << 20;
 static uint8_t text[TEXT], out[READ];
 static uint64_t allocations;
@@ -56,12 +58,31 @@ static double trips(size_t len, size_t mtu, uint32_t count, bool polls) {
 }
 
 // Bytes a second.
-static double stream(size_t mtu, size_t room, uint64_t total, bool check) {
+static double stream(size_t mtu, size_t room, uint64_t total, bool check, bool calm, uint16_t idle_sockets) {
     double start = now();
-    uint64_t came = bench_stream(text, TEXT, out, READ, mtu, room, total, check);
+    uint64_t came = bench_stream(text, TEXT, out, READ, mtu, room, total, check, calm, idle_sockets);
     double took = now() - start;
     if (came < total) fail("other bytes were read, or the transfer stood still");
     return came / took;
+}
+
+// Bytes a second among so many idle sockets of both hosts, without what making the hosts takes.
+static double among(uint16_t sockets, uint64_t total) {
+    double start = now();
+    uint64_t came = bench_stream(text, TEXT, out, READ, 1500, 65536, total, true, false, sockets);
+    double took = now() - start;
+    if (came < total) fail("other bytes were read, or the transfer stood still");
+    start = now();
+    bench_stream(text, TEXT, out, READ, 1500, 65536, 0, true, false, sockets);
+    return came / (took - (now() - start));
+}
+
+// How many frames went back for each hundred that went.
+static double acks(size_t mtu, size_t room, uint64_t total, bool calm) {
+    uint64_t went = bench_frames(text, TEXT, out, READ, mtu, room, total, calm, false);
+    uint64_t back = bench_frames(text, TEXT, out, READ, mtu, room, total, calm, true);
+    if (!went) fail("other bytes were read, or the transfer stood still");
+    return 100.0 * back / went;
 }
 
 static void keep_best(double *best, double is) {
@@ -71,7 +92,7 @@ static void keep_best(double *best, double is) {
 static void show_idle(uint16_t sockets) {
     double least = 1e9;
     for (int r = 0; r < ROUNDS; r++) {
-        double is = idle(sockets, sockets > 100 ? 20000 : 200000);
+        double is = idle(sockets, sockets > 1000 ? 2000 : sockets > 100 ? 20000 : 200000);
         if (is < least) least = is;
     }
     printf("%5u idle sockets: %9.1f ns a poll\n", sockets, least);
@@ -83,11 +104,18 @@ static void show_trips(size_t len, size_t mtu, bool polls) {
     printf("%5zu bytes, MTU %5zu, %s: %9.0f round trips a second, %7.1f ns each\n", len, mtu, polls ? "polls" : "steps", best, 1e9 / best);
 }
 
-static void show_stream(size_t mtu, size_t room) {
+static void show_stream(size_t mtu, size_t room, bool calm) {
     double best = 0;
-    stream(mtu, room, 16 * MIB, true);
-    for (int r = 0; r < ROUNDS; r++) keep_best(&best, stream(mtu, room, 256 * MIB, false));
-    printf("MTU %5zu, buffers of %6zu bytes: %7.1f MB/s, %7.1f ns a segment\n", mtu, room, best / 1e6, (mtu - 40) / best * 1e9);
+    stream(mtu, room, 16 * MIB, true, calm, 0);
+    for (int r = 0; r < ROUNDS; r++) keep_best(&best, stream(mtu, room, 256 * MIB, false, calm, 0));
+    printf("MTU %5zu, buffers of %6zu bytes%s: %7.1f MB/s, %7.1f ns a segment, %.1f acknowledgements for 100 frames\n", mtu, room,
+           calm ? ", Nagle and a delay" : "", best / 1e6, (mtu - 40) / best * 1e9, acks(mtu, room, 16 * MIB, calm));
+}
+
+static void show_among(uint16_t sockets) {
+    double best = 0;
+    for (int r = 0; r < ROUNDS; r++) keep_best(&best, among(sockets, sockets > 1000 ? MIB : 64 * MIB));
+    printf("MTU  1500, among %5u idle sockets: %7.1f MB/s\n", sockets, best / 1e6);
 }
 
 // What a run allocates, and one of 16 times its length.
@@ -96,10 +124,10 @@ static void show_allocations(void) {
     uint64_t start = allocations;
     for (size_t i = 0; i < 2; i++) {
         size_t mtu = mtus[i], room = mtu > 1500 ? 262144 : 65536;
-        stream(mtu, room, 16 * MIB, false);
+        stream(mtu, room, 16 * MIB, false, false, 0);
         printf("TCP, MTU %5zu: 16 MiB %llu, ", mtu, (unsigned long long)(allocations - start));
         start = allocations;
-        stream(mtu, room, 256 * MIB, false);
+        stream(mtu, room, 256 * MIB, false, false, 0);
         printf("256 MiB %llu\n", (unsigned long long)(allocations - start));
         start = allocations;
     }
@@ -114,35 +142,46 @@ static void show_allocations(void) {
 static void one(char **word, int count) {
     uint64_t n[3] = {0};
     for (int i = 1; i < count && i < 4; i++) n[i - 1] = strtoull(word[i], NULL, 10);
-    if (count == 4 && !strcmp(word[0], "stream")) {
-        stream(n[0], n[1], 16 * MIB, true);
-        printf("%.1f\n", stream(n[0], n[1], n[2] * MIB, false) / 1e6);
+    if (count == 4 && (!strcmp(word[0], "stream") || !strcmp(word[0], "calm"))) {
+        bool calm = word[0][0] == 'c';
+        stream(n[0], n[1], 16 * MIB, true, calm, 0);
+        printf("%.1f\n", stream(n[0], n[1], n[2] * MIB, false, calm, 0) / 1e6);
+    } else if (count == 4 && (!strcmp(word[0], "acks") || !strcmp(word[0], "calm_acks"))) {
+        printf("%.1f\n", acks(n[0], n[1], n[2] * MIB, word[0][0] == 'c'));
+    } else if (count == 3 && !strcmp(word[0], "among")) {
+        printf("%.1f\n", among((uint16_t)n[0], n[1] * MIB) / 1e6);
     } else if (count == 4 && (!strcmp(word[0], "trips") || !strcmp(word[0], "polled"))) {
         printf("%.0f\n", trips(n[0], n[1], (uint32_t)n[2], word[0][0] == 'p'));
     } else if (count == 3 && !strcmp(word[0], "idle")) {
         printf("%.1f\n", idle((uint16_t)n[0], (uint32_t)n[1]));
     } else {
-        fail("interface [stream MTU ROOM MIB | trips LENGTH MTU COUNT | polled LENGTH MTU COUNT | idle SOCKETS POLLS]");
+        fail("interface [stream MTU ROOM MIB | calm MTU ROOM MIB | acks MTU ROOM MIB | calm_acks MTU ROOM MIB | among SOCKETS MIB"
+             " | trips LENGTH MTU COUNT | polled LENGTH MTU COUNT | idle SOCKETS POLLS]");
     }
 }
 
 int main(int argc, char **argv) {
-    for (size_t i = 0; i < TEXT; i++) text[i] = (uint8_t)i;
+    for (size_t i = 0; i < TEXT; i++) text[i] = (uint8_t)(((uint32_t)(i % PERIOD) * 2654435761u) >> 13);
     if (argc > 1) {
         one(argv + 1, argc - 1);
         return 0;
     }
     puts("polls of a host with nothing to do");
-    static const uint16_t counts[] = {0, 1, 10, 100, 1000};
-    for (size_t i = 0; i < 5; i++) show_idle(counts[i]);
+    static const uint16_t counts[] = {0, 1, 10, 100, 1000, 10000};
+    for (size_t i = 0; i < 6; i++) show_idle(counts[i]);
     puts("UDP, to the other host and back");
     show_trips(64, 1500, false);
     show_trips(64, 1500, true);
     show_trips(1472, 1500, false);
     puts("TCP, one way");
-    show_stream(1500, 65536);
-    show_stream(1500, 262144);
-    show_stream(65535, 262144);
+    show_stream(1500, 65536, false);
+    show_stream(1500, 65536, true);
+    show_stream(1500, 262144, false);
+    show_stream(65535, 262144, false);
+    show_stream(65535, 262144, true);
+    show_among(1);
+    show_among(100);
+    show_among(10000);
     puts("allocations of a whole run, the making of both hosts among them");
     show_allocations();
     return 0;
