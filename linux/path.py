@@ -4,7 +4,7 @@ router between the program `host` and a client in a namespace within:
 
     path.py PUMP HOST [FOLDER [tap]]
 
-By either family datagrams and pings of up to 4,000 bytes there and back, and a megabyte through the stream echo while the link behind the
+By either family datagrams and pings of up to 4,000 bytes there and back, and a page of a megabyte while the link behind the
 router is lowered to 1,280 bytes: Linux's router says so (RFC 8201; by IPv4 it cuts, since the host lets it), and from then on no longer packet
 may come. By IPv6 also a datagram of 2,000 bytes for a port at which nobody is. PUMP is linux/pump.c, built. `tap` makes the host's link one of Ethernet frames. FOLDER keeps what went over the device (path.pcap),
 if tshark is there, which then looks for what is malformed or has a wrong checksum.
@@ -94,32 +94,34 @@ class Lengths:
         self.it.close()
 
 
-def echoed(it, sent):
-    """Whether a connection echoes these bytes."""
-    got = bytearray()
-    sender = threading.Thread(target=lambda: it.sendall(sent))
-    sender.start()
-    while len(got) < len(sent) and (piece := it.recv(65536)):
+def read_until(it, got, size):
+    """Reads from a connection until so many bytes came, or it ends."""
+    while len(got) < size and (piece := it.recv(65536)):
         got += piece
-    sender.join()
-    return bytes(got) == sent
 
 
 def lowered(client, at):
-    """A megabyte, and in the middle of it the link behind the router is lowered."""
+    """A page of a megabyte, and in the middle of it the link behind the router is lowered. What the client holds is small, so that half of
+    the page is still to go then, in full segments."""
     set_mtu(client, 1500)
     with within(client.pid):
-        it = socket.create_connection((at, 7), timeout=60)
-    lengths, before = Lengths(at), told()
+        it = socket.socket(socket.AF_INET6 if ":" in at else socket.AF_INET)
+        it.setsockopt(socket.SOL_SOCKET, socket.SO_RCVBUF, 32768)
+        it.settimeout(60)
+        it.connect((at, 80))
+    lengths, before, got = Lengths(at), told(), bytearray()
     with it:
-        well = echoed(it, os.urandom(HALF))
+        it.sendall(b"GET /megabyte HTTP/1.1\r\nHost: h\r\nConnection: close\r\n\r\n")
+        read_until(it, got, HALF)
         longest = max((size for _, size in lengths.seen), default=0)
         set_mtu(client, SMALL)
         began = time.monotonic()
-        well = echoed(it, os.urandom(HALF)) and well
+        read_until(it, got, 1 << 30)
         took = time.monotonic() - began
     lengths.stop()
     after = told()
+    body = bytes(got).partition(b"\r\n\r\n")[2]
+    well = len(body) == 1_000_000 and all(body[n:n + 94] == body[:94] for n in range(0, len(body) - 94, 94))
     late = [when - began for when, size in lengths.seen if when >= began and size > SMALL]
     heard = after[0] - before[0] if ":" in at else after[1] - before[1]
     what = f"a megabyte while the path goes from {longest} to {SMALL} bytes{talk.named(at)}: the second half in {took:.2f} s; " \

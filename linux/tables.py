@@ -3,7 +3,7 @@
 
     tables.py PUMP HOST [TRIP ..]
 
-Of these round trips in milliseconds (0 10 50 200), with three seeds (five at 10 ms), each row in a network namespace of its own (badlink.py):
+Of these round trips in milliseconds (0 10 50 200), with five seeds, each row in a network namespace of its own (badlink.py):
 one after the other, but at 200 ms, where they wait most of the time, all at once. Nothing else should run on the machine. PUMP is
 linux/pump.c, built. A row takes the place of the one with its round trip and link, or comes behind the last of its round trip. The variable
 CONTROL names Linux's congestion control, as for badlink.py.
@@ -13,7 +13,7 @@ import os, sys
 import badlink
 
 PAGE = os.path.join(os.path.dirname(os.path.abspath(__file__)), "..", "docs", "LINUX.md")
-SEEDS, ROWS = {10: 5}, {200: 18}
+SEEDS, ROWS = 5, {200: 18}
 
 
 def is_left_out(trip, name):
@@ -37,7 +37,7 @@ def main():
     rows = []
     for trip in map(int, trips or (0, 10, 50, 200)):
         links = [link for link in badlink.links(trip) if not is_left_out(trip, link[0])]
-        for name, medians, line in badlink.rows_of(pump, program, SEEDS.get(trip, 3), 200_000, trip, links, ROWS.get(trip, 1), True):
+        for name, medians, line in badlink.rows_of(pump, program, SEEDS, 200_000, trip, links, ROWS.get(trip, 1), True):
             rows.append((name, medians))
             with open(PAGE, encoding="utf-8") as it:
                 lines = it.read().split("\n")
