@@ -92,7 +92,7 @@ static void keep_best(double *best, double is) {
 static void show_idle(uint16_t sockets) {
     double least = 1e9;
     for (int r = 0; r < ROUNDS; r++) {
-        double is = idle(sockets, sockets > 100 ? 20000 : 200000);
+        double is = idle(sockets, sockets > 1000 ? 500 : sockets > 100 ? 20000 : 200000);
         if (is < least) least = is;
     }
     printf("%5u idle sockets: %9.1f ns a poll\n", sockets, least);
@@ -114,7 +114,7 @@ static void show_stream(size_t mtu, size_t room, bool calm) {
 
 static void show_among(uint16_t sockets) {
     double best = 0;
-    for (int r = 0; r < ROUNDS; r++) keep_best(&best, among(sockets, sockets > 1000 ? 2 * MIB : 64 * MIB));
+    for (int r = 0; r < ROUNDS; r++) keep_best(&best, among(sockets, sockets > 1000 ? MIB : 64 * MIB));
     printf("MTU  1500, among %5u idle sockets: %7.1f MB/s\n", sockets, best / 1e6);
 }
 
