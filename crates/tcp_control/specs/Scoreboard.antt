@@ -101,6 +101,10 @@ missing runs place = place - held_below runs place
 abbrev pub first_missing : List Run → ℕ → ℕ
 first_missing runs place = fold (λ (p : ℕ) (r : Run). if lies_in p r then r.end else p) place runs
 
+-- how far what is held reaches: the highest position that a range names, and one more
+abbrev pub runs_end : List Run → ℕ
+runs_end runs = fold (λ (end : ℕ) (r : Run). max end r.end) 0 runs
+
 -- where the first run behind this position begins, at most this one
 abbrev pub gap_end : List Run → ℕ → ℕ → ℕ
 gap_end runs place most = fold (λ (end : ℕ) (r : Run). if is_run r && nat_lt place r.start then min end r.start else end) most runs

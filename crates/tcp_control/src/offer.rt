@@ -34,7 +34,7 @@ pub struct OpenOffer {
 }
 
 /// A segment without payload that answers one that came.
-#[derive(Clone, Copy, Debug, PartialEq, Eq)]
+#[derive(Clone, Copy, PartialEq, Eq)]
 pub struct Reply {
     pub header: IpRepr,
     pub segment: TcpHeader,

@@ -2,7 +2,7 @@
 ghost use Rattle.std.specs.Prelude.{◌≡◌};
 ghost use Rattle.tcp_control.specs.Scoreboard.{is_run, lies_in, meets, hull, lowered, hull_of, apart, without, free_place, placed};
 ghost use Rattle.tcp_control.specs.Scoreboard.{noted, reneges, after_ack, is_empty, held, held_from, held_below, missing};
-ghost use Rattle.tcp_control.specs.Scoreboard.{first_missing, gap_end, runs_above, octets_above, is_lost, lost_end, no_runs, no_run};
+ghost use Rattle.tcp_control.specs.Scoreboard.{first_missing, gap_end, runs_above, octets_above, is_lost, lost_end, runs_end, no_runs, no_run};
 
 /// Positions behind one another, as distances from SND.UNA: the first, and the one behind the last. Where
 /// they are equal it is none.
@@ -206,6 +206,13 @@ impl Scoreboard {
         self.runs.iter().fold(place, |place, run| {
             if run.lies_in(place) { run.end } else { place }
         })
+    }
+
+    /// How far what is held reaches.
+    pub fn end(&self) -> u32
+        ensures { result ≡ runs_end self.now.runs }
+    {
+        self.runs.iter().fold(0, |end, run| end.max(run.end))
     }
 
     /// Where the first run behind this position begins, at most this one.

@@ -4,7 +4,7 @@ ghost use Rattle.tcp_control.specs.SipHash.{half_round, exchanged, sip_round, in
 ghost use Rattle.tcp_control.specs.SipHash.{sip_hash, up_to};
 
 /// The four words of its state.
-#[derive(Clone, Copy, Debug, PartialEq, Eq)]
+#[derive(Clone, Copy)]
 pub(crate) struct SipState {
     v0: u64,
     v1: u64,

@@ -93,8 +93,8 @@ last_pause cx v pair =
 first_pause : (cx : ContextValue) (v : TcpValue) (pair : EndpointPair) → Leaves v.block (first_rules cx v pair)
 first_pause cx v pair =
     cond_both (owes_syn v.block) (offer_syn cx v pair) _ (Leaves v.block) (λ _. refl)
-    (λ _. cond_both (resends v.block) (offer_choice Kind.FastRetransmission cx v pair (resend_choice v.block pair.addresses cx.ip_mtu v.queued)) _
-    (Leaves v.block) (λ _. refl)
+    (λ _. cond_both (resends v.block pair.addresses cx.ip_mtu v.queued)
+    (offer_choice Kind.FastRetransmission cx v pair (resend_choice v.block pair.addresses cx.ip_mtu v.queued)) _ (Leaves v.block) (λ _. refl)
     (λ _. cond_both (has_text v.block pair.addresses cx.ip_mtu v.queued)
     (offer_choice Kind.Text cx v pair (text_choice v.block pair.addresses cx.ip_mtu v.queued)) _ (Leaves v.block) (λ _. refl)
     (λ _. last_pause cx (with_block v (probe_started cx.moment (queued_in v) v.block)) pair)))

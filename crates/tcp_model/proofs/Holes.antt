@@ -3,19 +3,19 @@ use Rattle.std.proofs.Common.{◌≡◌, ℕ, ◌-◌, ◌≤◌, ◌==◌, ◌&
 use Rattle.std.proofs.lemmas.Bool.{cond_both}
 use Rattle.tcp_control.specs.Scoreboard.{is_run, gap_end}
 use Rattle.tcp_control.specs.declared.scoreboard.Run.{Run}
-use Rattle.tcp_model.specs.LossRecovery.{again_place, next_hole, hole_len}
+use Rattle.tcp_model.specs.LossRecovery.{again_place, hole_place, hole_len}
 use Rattle.tcp_model.specs.declared.block.Block.{Block}
 
 module _ (b : Block) (limit sent queued : ℕ) where
   abbrev In : (ℕ → Type 0) → Type 0
-  In P = P 0 → P (min (sent - limit) queued) → P (min (next_hole b) (min sent queued)) → P (again_place b limit sent queued)
+  In P = P 0 → P (min (sent - limit) queued) → P (min (hole_place b limit sent) (min sent queued)) → P (again_place b limit sent queued)
 
   by_place : (P : ℕ → Type 0) → In P
   by_place P first tail hole =
       cond_both (b.sender.resend || (b.sender.in_flight == 0)) 0
-      (if b.loss.probes then min (sent - limit) queued else min (next_hole b) (min sent queued)) P
+      (if b.loss.probes then min (sent - limit) queued else min (hole_place b limit sent) (min sent queued)) P
       (λ _. first)
-      (λ _. cond_both b.loss.probes (min (sent - limit) queued) (min (next_hole b) (min sent queued)) P (λ _. tail) (λ _. hole))
+      (λ _. cond_both b.loss.probes (min (sent - limit) queued) (min (hole_place b limit sent) (min sent queued)) P (λ _. tail) (λ _. hole))
 
   -- in the send queue, or right behind it
   pub again_within : again_place b limit sent queued ≤ queued
@@ -33,9 +33,9 @@ either_way false = refl
 pub again_first : (b : Block) (limit sent queued : ℕ) → b.sender.in_flight ≡ 0 → again_place b limit sent queued ≡ 0
 again_first b limit sent queued none =
     ap (λ (flight : ℕ). if b.sender.resend || (flight == 0) then 0
-    else if b.loss.probes then min (sent - limit) queued else min (next_hole b) (min sent queued))
+    else if b.loss.probes then min (sent - limit) queued else min (hole_place b limit sent) (min sent queued))
     none
-    ∙ ap (λ (t : Bool). if t then 0 else if b.loss.probes then min (sent - limit) queued else min (next_hole b) (min sent queued))
+    ∙ ap (λ (t : Bool). if t then 0 else if b.loss.probes then min (sent - limit) queued else min (hole_place b limit sent) (min sent queued))
     (either_way b.sender.resend)
 
 at_most : (a b c : ℕ) → a ≤ b → b ≤ c → a ≤ c

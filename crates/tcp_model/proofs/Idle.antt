@@ -86,7 +86,7 @@ module _ (cx : ContextValue) (pair : EndpointPair) (v : TcpValue) where
   -- the tests of the first rules, and what is left to the last ones
   record IsQuietFirst (w : TcpValue) : Type 0 where
     syn : owes_syn w.block ≡ false
-    again : resends w.block ≡ false
+    again : resends w.block pair.addresses cx.ip_mtu w.queued ≡ false
     text : has_text w.block pair.addresses cx.ip_mtu w.queued ≡ false
     same : with_block w (probe_started cx.moment (queued_in w) w.block) ≡ v
     last : IsQuietLast cx (with_block w (probe_started cx.moment (queued_in w) w.block))
@@ -94,13 +94,15 @@ module _ (cx : ContextValue) (pair : EndpointPair) (v : TcpValue) where
   idle_first : (w : TcpValue) → IsSilent (first_rules cx w pair) v → IsQuietFirst w
   idle_first w =
       cond_both (owes_syn w.block) (offer_syn cx w pair)
-      (if resends w.block then offer_choice Kind.FastRetransmission cx w pair (resend_choice w.block pair.addresses cx.ip_mtu w.queued)
+      (if resends w.block pair.addresses cx.ip_mtu w.queued
+      then offer_choice Kind.FastRetransmission cx w pair (resend_choice w.block pair.addresses cx.ip_mtu w.queued)
       else if has_text w.block pair.addresses cx.ip_mtu w.queued then offer_choice Kind.Text cx w pair (text_choice w.block pair.addresses cx.ip_mtu w.queued)
       else last_rules cx (with_block w (probe_started cx.moment (queued_in w) w.block)) pair)
       (λ (o : Offered TcpValue). IsSilent o v → IsQuietFirst w)
       (λ _ e. absurd (packet v (offer_syn cx w pair).socket e))
       (λ no_syn.
-      cond_both (resends w.block) (offer_choice Kind.FastRetransmission cx w pair (resend_choice w.block pair.addresses cx.ip_mtu w.queued))
+      cond_both (resends w.block pair.addresses cx.ip_mtu w.queued)
+      (offer_choice Kind.FastRetransmission cx w pair (resend_choice w.block pair.addresses cx.ip_mtu w.queued))
       (if has_text w.block pair.addresses cx.ip_mtu w.queued then offer_choice Kind.Text cx w pair (text_choice w.block pair.addresses cx.ip_mtu w.queued)
       else last_rules cx (with_block w (probe_started cx.moment (queued_in w) w.block)) pair)
       (λ (o : Offered TcpValue). IsSilent o v → IsQuietFirst w)

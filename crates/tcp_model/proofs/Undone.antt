@@ -5,7 +5,7 @@ use Rattle.ip_wire.specs.TcpHeader.{TcpHeader}
 use Rattle.tcp_control.specs.Reno as reno
 use Rattle.tcp_model.specs.Acknowledged.{freed_by}
 use Rattle.tcp_model.specs.Blocks.{one_if}
-use Rattle.tcp_model.specs.Undone.{answers_undo, is_needless, prior_of, undone_if, undone}
+use Rattle.tcp_model.specs.Undone.{answers_undo, is_needless, prior_of, came_early, undone_if, undone}
 use Rattle.tcp_model.specs.declared.block.Block.{Block}
 use Rattle.tcp_model.specs.declared.block.Undo.{Undo}
 
@@ -13,7 +13,7 @@ use Rattle.tcp_model.specs.declared.block.Undo.{Undo}
 abbrev pub undone_by : Undo → Block → ℕ → Block
 undone_by u b queued = record b {
   sender = record b.sender { in_flight = max b.sender.in_flight (min b.sender.top (one_if b.sender.syn_unacked + queued)); resend = false; recover = 0 };
-  loss = record b.loss { resent = 0; credit = 0; patience = if b.reno.recovers then min b.loss.patience 15 + 1 else b.loss.patience };
+  loss = record b.loss { credit = 0; patience = if came_early b then min b.loss.patience 15 + 1 else b.loss.patience };
   reno = reno.restored b.reno u.reno;
 }
 
@@ -43,7 +43,7 @@ undone_cases b header by queued now P stays restored = at (is_needless b header 
   with_undo : Option Undo → Block
   with_undo o = record b {
     sender = record b.sender { in_flight = max b.sender.in_flight (min b.sender.top (one_if b.sender.syn_unacked + queued)); resend = false; recover = 0 };
-    loss = record b.loss { resent = 0; credit = 0; patience = if b.reno.recovers then min b.loss.patience 15 + 1 else b.loss.patience };
+    loss = record b.loss { credit = 0; patience = if came_early b then min b.loss.patience 15 + 1 else b.loss.patience };
     reno = prior_of o b.reno;
   }
 

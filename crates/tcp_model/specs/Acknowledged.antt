@@ -223,9 +223,14 @@ is_third b count = (count == 3) && (not b.reno.recovers && not (b.sender.recover
 abbrev pub is_lost_since : Block → Bool
 is_lost_since b = not (b.sender.recover == 0) && (b.peer.sack && (not b.reno.recovers && is_passed b b.sender.recover))
 
--- So do ranges that say so much (RFC 6675, 5), where more than `recover` is acknowledged (RFC 6582, 3.2, step 2).
+-- No news of a loss is what is still missing of what went again in a recovery that is over, until what was first sent after it is held.
+abbrev pub may_be_missed : Block → Bool
+may_be_missed b = (b.sender.recover == 0) && ((b.loss.resent == 0) || is_passed b b.loss.mark)
+
+-- The third duplicate tells of a loss, and ranges that say so much (RFC 6675, 5), where more than `recover` is acknowledged (RFC 6582, 3.2,
+-- step 2).
 abbrev pub is_missed : Block → ℕ → Bool
-is_missed b count = (b.sender.recover == 0) && ((count == 3) || is_first_lost b)
+is_missed b count = may_be_missed b && ((count == 3) || is_first_lost b)
 
 -- It begins fast recovery, unless it may only be late. Else the timer ran out, and a duplicate may answer a segment that went again without
 -- need: it says nothing of the window, unless ranges say that a segment which went since then is lost.
@@ -267,6 +272,7 @@ counted b count now = record b {
   };
   loss = record b.loss {
     resent = if starts_again b count then 0 else b.loss.resent;
+    rescue = if begins_recovery b count then 0 else b.loss.rescue;
     late_until = late_until b count now;
     undo = if begins_recovery b count then undo_begun b else b.loss.undo;
   };

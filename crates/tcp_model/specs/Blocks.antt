@@ -101,6 +101,7 @@ fresh_loss = record {
   eager = false;
   probes = false;
   probed = false;
+  rescue = 0;
   probe_at = None;
   patience = 0;
   late_until = None;

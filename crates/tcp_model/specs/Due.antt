@@ -18,7 +18,7 @@ use Rattle.tcp_model.specs.Value.{TcpValue, queued_in, free_in, room_of}
 abbrev pub wishes : Block → AddressPair → ℕ → Ring ℕ → ℕ → ℕ → ℕ → List Bool
 wishes b addresses ip_mtu ring queued capacity free =
     owes_syn b
-    ∷ resends b
+    ∷ resends b addresses ip_mtu ring
     ∷ has_text b addresses ip_mtu ring
     ∷ updates_window b capacity free
     ∷ is_timeout_unset b queued

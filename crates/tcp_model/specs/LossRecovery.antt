@@ -8,7 +8,7 @@ use Rattle.tcp_control.specs.Offsets.{past_by}
 use Rattle.tcp_control.specs.Reno as reno
 use Rattle.tcp_control.specs.RoundTrip.{probe_wait}
 use Rattle.tcp_control.specs.Scoreboard.{is_run, no_run, noted, after_ack, held, missing, first_missing, gap_end, held_from, is_empty, is_lost, lost_end}
-use Rattle.tcp_control.specs.Scoreboard.{sum_of}
+use Rattle.tcp_control.specs.Scoreboard.{sum_of, runs_end}
 use Rattle.tcp_control.specs.States.{sends_text}
 use Rattle.tcp_control.specs.declared.scoreboard.Run.{Run}
 use Rattle.tcp_model.specs.Blocks.{fresh_loss, past_top}
@@ -129,9 +129,13 @@ pipe b =
 abbrev pub next_hole : Block → ℕ
 next_hole b = first_missing b.loss.board.runs b.loss.resent
 
--- it is lost, and the window has room for a segment beside Pipe (RFC 6675, 5, step C)
+-- the window has room for a segment beside Pipe (RFC 6675, 5, step C)
+abbrev pub has_room : Block → Bool
+has_room b = nat_le (pipe b + b.reno.mss) b.reno.cwnd
+
+-- the hole is lost, and the window has room
 abbrev pub mends_lost : Block → Bool
-mends_lost b = is_lost_at b (next_hole b) && nat_le (pipe b + b.reno.mss) b.reno.cwnd
+mends_lost b = is_lost_at b (next_hole b) && has_room b
 
 -- What was sent when the recovery began, and isn't held though a segment that went again later is acknowledged, is lost (RFC 8985, 6.2). For
 -- each such acknowledgement two segments of it go, as in slow start (RFC 6937, 3), while the window has room beside what went again; the
@@ -151,13 +155,42 @@ fills_hole b =
     b.peer.sack && (b.reno.recovers && (not b.sender.syn_unacked
     && (nat_lt (next_hole b) b.sender.in_flight && (mends_lost b || mends_credited b))))
 
+-- What isn't lost may go again, too, where no new text goes: so acknowledgements go on coming.
+abbrev pub may_go_early : Block → Bool
+may_go_early b =
+    b.peer.sack && (b.reno.recovers && (not b.sender.syn_unacked && (nat_lt (next_hole b) b.sender.in_flight && has_room b)))
+
+-- NextSeg, rule 3: a hole below what is held
+abbrev pub fills_early : Block → Bool
+fills_early b = may_go_early b && nat_lt (next_hole b) (runs_end b.loss.board.runs)
+
+-- NextSeg, rule 4, a rescue: once in a recovery the last segment of what is in flight, where SND.UNA passed RescueRxt and nothing that is
+-- held lies behind the next hole
+abbrev pub rescues : Block → Bool
+rescues b =
+    may_go_early b
+    && ((b.loss.rescue == 0)
+    && (nat_le (runs_end b.loss.board.runs) (next_hole b) && (b.sender.in_flight == b.sender.top)))
+
+-- by either of the two
+abbrev pub goes_early : Block → Bool
+goes_early b = fills_early b || rescues b
+
+-- what goes again is a rescue: for no other reason would it go
+abbrev pub is_rescue : Block → Bool
+is_rescue b = not (b.sender.resend || (b.loss.probes || (fills_hole b || fills_early b))) && rescues b
+
+-- in recovery the next hole, or as a rescue the last segment, less what of it went again
+abbrev pub hole_place : Block → ℕ → ℕ → ℕ
+hole_place b limit sent = if is_rescue b then max (sent - limit) (next_hole b) else next_hole b
+
 -- From which place of the send queue something goes again, where a segment takes so much and so much was sent: the segment at SND.UNA, the
--- last one as a probe, or the next hole.
+-- last one as a probe, or in recovery.
 abbrev pub again_place : Block → ℕ → ℕ → ℕ → ℕ
 again_place b limit sent queued =
     if b.sender.resend || (b.sender.in_flight == 0) then 0
     else if b.loss.probes then min (sent - limit) queued
-    else min (next_hole b) (min sent queued)
+    else min (hole_place b limit sent) (min sent queued)
 
 -- how much from there on was sent and isn't held
 abbrev pub hole_len : Block → ℕ → ℕ → ℕ
@@ -175,6 +208,7 @@ loss_lowered l by partial = record l {
   eager = l.eager && partial;
   probes = false;
   probed = false;
+  rescue = l.rescue - by;
   patience = if came_late l then max 1 l.patience else l.patience;
   late_until = None;
   undo = None;
@@ -184,13 +218,23 @@ loss_lowered l by partial = record l {
 abbrev pub loss_acked : Block → ℕ → Bool → ℤ → Loss
 loss_acked b by partial now = if by == 0 then b.loss else probe_armed b (loss_lowered b.loss by partial) now
 
--- something went again, up to so far past SND.UNA
+-- RescueRxt, and one more: the end of the segment that goes again at SND.UNA (RFC 6675, 5, step 4.3), and behind a rescue RecoveryPoint
+abbrev pub rescue_after : Block → ℕ → ℕ
+rescue_after b end =
+    if b.reno.recovers && b.sender.resend then max b.loss.rescue (sum_of end 1)
+    else if is_rescue b then b.sender.recover
+    else b.loss.rescue
+
+-- Something went again, up to so far past SND.UNA: the segment there, also where no recovery is, or what a recovery mends. A rescue leaves
+-- HighRxt where it is.
 abbrev pub loss_resent : Block → ℕ → Loss
 loss_resent b end = record b.loss {
-  resent = if b.reno.recovers && (b.sender.resend || not b.loss.probes) then max b.loss.resent end else b.loss.resent;
+  resent =
+      if b.sender.resend || (b.reno.recovers && not (b.loss.probes || is_rescue b)) then max b.loss.resent end else b.loss.resent;
   credit = b.loss.credit - 1;
   mark = b.sender.top;
   probes = false;
+  rescue = rescue_after b end;
 }
 
 -- the retransmission timer ran out: what is held stays known (RFC 6675, 5.1), and so does what the window was before
@@ -208,20 +252,26 @@ loss_timed_out b = record fresh_loss {
 abbrev pub probes_tail : Block → Bool
 probes_tail b = is_none b.loss.late_until && ((b.sender.recover == 0) && (held b.loss.board.runs == 0))
 
+-- it begins a recovery
+abbrev pub probe_begins : Block → Bool
+probe_begins b = not (probes_tail b) && (b.sender.recover == 0)
+
 abbrev pub loss_probed : Block → Block
 loss_probed b = record b {
   sender = record b.sender {
     resend = b.sender.resend || not (probes_tail b);
-    recover = if not (probes_tail b) && (b.sender.recover == 0) then past_top b else b.sender.recover;
+    recover = if probe_begins b then past_top b else b.sender.recover;
+    partial = b.sender.partial && not (probe_begins b);
   };
   loss = record b.loss {
     resent = if probes_tail b then b.loss.resent else 0;
     eager = is_none b.loss.late_until;
     probes = probes_tail b;
     probed = is_none b.loss.late_until;
+    rescue = if probe_begins b then 0 else b.loss.rescue;
     probe_at = None;
     late_until = None;
-    undo = if not (probes_tail b) && (b.sender.recover == 0) then undo_begun b else b.loss.undo;
+    undo = if probe_begins b then undo_begun b else b.loss.undo;
   };
   reno = if probes_tail b then b.reno else reno.reduced b.reno b.sender.in_flight;
 }

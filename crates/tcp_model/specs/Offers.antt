@@ -90,7 +90,8 @@ last_rules cx v pair =
 abbrev pub first_rules : ContextValue → TcpValue → EndpointPair → Offered TcpValue
 first_rules cx v pair =
     if owes_syn v.block then offer_syn cx v pair
-    else if resends v.block then offer_choice Kind.FastRetransmission cx v pair (resend_choice v.block pair.addresses cx.ip_mtu v.queued)
+    else if resends v.block pair.addresses cx.ip_mtu v.queued
+    then offer_choice Kind.FastRetransmission cx v pair (resend_choice v.block pair.addresses cx.ip_mtu v.queued)
     else if has_text v.block pair.addresses cx.ip_mtu v.queued then offer_choice Kind.Text cx v pair (text_choice v.block pair.addresses cx.ip_mtu v.queued)
     else last_rules cx (with_block v (probe_started cx.moment (queued_in v) v.block)) pair
 

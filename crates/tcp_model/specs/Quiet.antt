@@ -17,7 +17,7 @@ pub record IsQuiet (cx : ContextValue) (v : TcpValue) (pair : EndpointPair) : Ty
   pub retransmission : is_due cx.moment v.block.timers.retransmit_at ≡ false
   pub loss_probe : is_due cx.moment (loss_probe_moment v.block) ≡ false
   pub syn : owes_syn v.block ≡ false
-  pub again : resends v.block ≡ false
+  pub again : resends v.block pair.addresses cx.ip_mtu v.queued ≡ false
   pub text : has_text v.block pair.addresses cx.ip_mtu v.queued ≡ false
   pub probe_set : is_probe_unset v.block (queued_in v) ≡ false
   pub probe : is_due cx.moment (probe_moment v.block (queued_in v)) ≡ false

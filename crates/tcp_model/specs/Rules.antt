@@ -10,7 +10,7 @@ use Rattle.tcp_model.specs.declared.block.CongestionControl.{CongestionControl}
 use Rattle.tcp_model.specs.declared.block.CongestionControl.TheVariants as Congestion
 use Rattle.tcp_model.specs.Blocks.{one_if, unacked, past_top, is_worth_telling}
 use Rattle.tcp_control.specs.Endpoints.{ip_header_len}
-use Rattle.tcp_model.specs.LossRecovery.{pipe, fills_hole, again_place, hole_len, loss_timed_out}
+use Rattle.tcp_model.specs.LossRecovery.{pipe, fills_hole, goes_early, again_place, hole_len, loss_timed_out}
 use Rattle.tcp_control.specs.Reno as reno
 use Rattle.tcp_model.specs.Timestamps.{uses_stamps}
 use Rattle.tcp_control.specs.RoundTrip as round_trip
@@ -109,9 +109,12 @@ has_text b addresses ip_mtu queued =
     sends_choice b (length queued.queue) (size_limit b addresses ip_mtu) (text_choice b addresses ip_mtu queued)
 
 -- something is to go again: the segment at SND.UNA, since the third duplicate came, or a partial acknowledgement (RFC 5681, 3.2; RFC 6582,
--- 3.2), the last segment as a probe, or what isn't held at the next hole
-abbrev pub resends : Block → Bool
-resends b = sends_text b.state && (b.sender.resend || (b.loss.probes || fills_hole b))
+-- 3.2), the last segment as a probe, what is lost at the next hole, or what isn't lost, where no text goes
+abbrev pub resends_beside : Block → Bool → Bool
+resends_beside b text = sends_text b.state && (b.sender.resend || (b.loss.probes || (fills_hole b || (goes_early b && not text))))
+
+abbrev pub resends : Block → AddressPair → ℕ → Ring ℕ → Bool
+resends b addresses ip_mtu queued = resends_beside b (has_text b addresses ip_mtu queued)
 
 -- how many places of the send queue, and one for the FIN behind it, were ever sent
 abbrev pub sent_places : Block → ℕ

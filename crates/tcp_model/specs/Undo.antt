@@ -11,8 +11,8 @@ use Rattle.tcp_model.specs.declared.block.Undo.{Undo}
 abbrev pub window_kept : Block → Option Undo
 window_kept b = Some (record { reno = b.reno; until = None; stamp = 0 })
 
--- Recovery begins, or the timer runs out: the window is kept, unless a loss is being mended already. Where something that went again before
--- is still on its way it isn't, since what comes next may answer that.
+-- Recovery begins, or the timer runs out: the window is kept, unless a loss is being mended already. Where what stands at SND.UNA went again
+-- before it isn't, since what comes next may answer that.
 abbrev pub undo_begun : Block → Option Undo
 undo_begun b =
     if b.reno.recovers || b.reno.timed_out then b.loss.undo

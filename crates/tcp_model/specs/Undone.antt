@@ -5,6 +5,7 @@ use Rattle.ip_wire.specs.TcpHeader.{TcpHeader}
 use Rattle.ip_wire.specs.TcpTimestampRepr.{TcpTimestampRepr}
 use Rattle.tcp_control.specs.Reno as reno
 use Rattle.tcp_control.specs.Reno.{RenoValue}
+use Rattle.tcp_control.specs.Scoreboard.{is_empty}
 use Rattle.tcp_model.specs.Acknowledged.{freed_by}
 use Rattle.tcp_model.specs.Blocks.{one_if}
 use Rattle.tcp_model.specs.Timestamps.{uses_stamps, is_older}
@@ -35,8 +36,13 @@ abbrev pub prior_of : Option Undo → RenoValue → RenoValue
 prior_of None r = r
 prior_of (Some u) r = reno.restored r u.reno
 
+-- what was sent later came earlier, and recovery began for it
+abbrev pub came_early : Block → Bool
+came_early b = b.reno.recovers && not (is_empty b.loss.board.runs)
+
 -- The window is as it was, recovery is over, nothing is to go again, and all that was sent of the send queue is in flight. Where a recovery
--- began without need what is missing is waited for longer, in place of what a DSACK tells (RFC 8985, 6.2, step 4).
+-- began without need, since what was sent later was held, what is missing is waited for longer, in place of what a DSACK tells (RFC 8985, 6.2,
+-- step 4).
 abbrev pub undone_if : Bool → Block → ℕ → Block
 undone_if needless b queued = record b {
   sender = record b.sender {
@@ -45,9 +51,8 @@ undone_if needless b queued = record b {
     recover = if needless then 0 else b.sender.recover;
   };
   loss = record b.loss {
-    resent = if needless then 0 else b.loss.resent;
     credit = if needless then 0 else b.loss.credit;
-    patience = if needless && b.reno.recovers then min b.loss.patience 15 + 1 else b.loss.patience;
+    patience = if needless && came_early b then min b.loss.patience 15 + 1 else b.loss.patience;
   };
   reno = if needless then prior_of b.loss.undo b.reno else b.reno;
 }

@@ -130,7 +130,7 @@ pub enum CongestionControl {
 pub struct Loss {
     /// What the remote holds.
     pub board: Scoreboard,
-    /// HighRxt: where what went again in this recovery ends, but for what is held.
+    /// HighRxt: where what went again in this recovery, or in the last one, ends, but for what is held.
     pub resent: u32,
     /// How many segments more go into holes for the last partial acknowledgement (RFC 6937, 3).
     pub credit: u8,
@@ -143,6 +143,9 @@ pub struct Loss {
     pub probes: bool,
     /// Whether a probe went, and nothing new was acknowledged since.
     pub probed: bool,
+    /// RescueRxt, and one more: SND.UNA has to be there for the last segment to go again though nothing says that
+    /// it is lost (RFC 6675, 4, NextSeg, and 5).
+    pub rescue: u32,
     /// When a probe goes, if nothing new is acknowledged.
     pub probe_at: Option<Instant>,
     /// For how many quarters of the shortest round trip what is missing is waited for, since it may only be

@@ -5,7 +5,7 @@ ghost use Rattle.tcp_model.specs.Acknowledged.{freed_by, sender_moved, retransmi
 ghost use Rattle.tcp_model.specs.Acknowledged.{recovery_after, reno_after, una_moved, acks_fin, state_after_ack, in_state, block_acknowledged, scaled};
 ghost use Rattle.tcp_model.specs.Acknowledged.{acks_no_less, or_number, names_window, windowed, window_set, end_past, highest_end, sacked_by, ranges_taken};
 ghost use Rattle.tcp_model.specs.Acknowledged.{tells_of_loss, is_duplicate, duplicates_after, is_third, is_lost_since, is_missed, begins_recovery, late_until};
-ghost use Rattle.tcp_model.specs.Acknowledged.{is_blind, partly_after, una_risen, reno_counted, counted};
+ghost use Rattle.tcp_model.specs.Acknowledged.{may_be_missed, is_blind, partly_after, una_risen, reno_counted, counted};
 
 use crate::{Block, State};
 use ip_wire::{MAX_WINDOW_SCALE, SeqNumber, TcpHeader};
@@ -78,12 +78,25 @@ impl Block {
         requires { IsMoment now }
         ensures { self.new ≡ una_moved self.old by queued now }
     {
+        if by == 0 {
+            self.keep_una(queued, now);
+            return;
+        }
         let partial = self.is_partial(by);
         self.raise_una(by, partial, queued, now);
         self.lower_loss(by, partial, now);
     }
 
-    /// The same, but for what is known of losses.
+    /// SND.UNA stays, as where a host mostly receives: apart, this comes to a few instructions.
+    fn keep_una(&mut self, queued: usize, now: Instant)
+        requires { IsMoment now }
+        ensures { self.new ≡ una_moved self.old 0 queued now }
+    {
+        self.time_una(0, queued, now);
+        self.move_sender(0);
+    }
+
+    /// SND.UNA rises, but for what is known of losses.
     fn raise_una(&mut self, by: u32, partial: bool, queued: usize, now: Instant)
         requires moment { IsMoment now }
         requires partial { partial ≡ is_partial self.old by }
@@ -338,11 +351,18 @@ impl Block {
             && self.is_passed(self.sender.recover)
     }
 
+    /// Whether what is missing is news: no recovery goes on, and it isn't on its way again since the last one.
+    fn may_be_missed(&self) -> bool
+        ensures { result ≡ may_be_missed self.now }
+    {
+        self.sender.recover == 0 && (self.loss.resent == 0 || self.is_passed(self.loss.mark))
+    }
+
     /// Whether the third duplicate, or what the ranges say, tells of a loss outside of a recovery.
     fn is_missed(&self, count: u8) -> bool
         ensures { result ≡ is_missed self.now count }
     {
-        self.sender.recover == 0 && (count == 3 || self.is_first_lost())
+        self.may_be_missed() && (count == 3 || self.is_first_lost())
     }
 
     /// Whether it begins fast recovery, since it isn't only late.
@@ -357,7 +377,7 @@ impl Block {
         requires { IsMoment now }
         ensures { result ≡ late_until self.now count now }
     {
-        if self.loss.late_until.is_none() && self.is_missed(count) && self.may_be_late() {
+        if self.loss.late_until.is_none() && self.may_be_late() && self.is_missed(count) {
             let wait = self.round_trip.late_wait(self.loss.patience);
             Some(later(now, Duration::from_micros(wait)))
         } else {
@@ -394,6 +414,7 @@ impl Block {
         self.loss.late_until = self.late_until(count, now);
         if begins {
             self.loss.undo = self.undo_begun();
+            self.loss.rescue = 0;
         }
         self.count_reno(count, begins, again);
         self.sender.duplicates = count;

@@ -10,7 +10,7 @@ use tcp_control::controls::is_syn;
 use tcp_control::offsets::{before_by, meets_window, past_by};
 
 /// What becomes of a segment.
-#[derive(Clone, Copy, Debug, PartialEq, Eq)]
+#[derive(Clone, Copy, PartialEq, Eq)]
 pub enum Verdict {
     /// It is taken, and SND.UNA rises by so much.
     Passes(u32),

@@ -2,7 +2,7 @@
 ghost use Rattle.std.specs.Prelude.{◌≡◌, ◌≤◌, ◌^◌, ◌∷◌, [], IfSome};
 ghost use Rattle.net_base.specs.Time.{IsMoment};
 ghost use Rattle.tcp_model.specs.Due.{moments, earlier_of, earliest, any};
-ghost use Rattle.tcp_model.specs.Rules.{owes_syn, resends, updates_window};
+ghost use Rattle.tcp_model.specs.Rules.{owes_syn, resends_beside, updates_window};
 ghost use Rattle.tcp_model.specs.Timeout.{is_timeout_unset};
 ghost use Rattle.tcp_model.specs.Probing.{is_probe_unset};
 
@@ -26,11 +26,11 @@ impl Block {
     pub fn has_wish(&self, has_text: bool, queued: usize, capacity: usize, free: usize) -> bool
         requires queued { queued ≤ 2 ^ 30 }
         requires capacity { capacity ≤ 2 ^ 30 }
-        ensures { result ≡ any (owes_syn self.now ∷ resends self.now ∷ has_text ∷ updates_window self.now capacity free
+        ensures { result ≡ any (owes_syn self.now ∷ resends_beside self.now has_text ∷ has_text ∷ updates_window self.now capacity free
             ∷ is_timeout_unset self.now queued ∷ is_probe_unset self.now queued ∷ []) }
     {
         self.owes_syn()
-            || self.resends()
+            || self.resends(has_text)
             || has_text
             || self.updates_window(capacity, free)
             || self.is_timeout_unset(queued)

@@ -1,6 +1,6 @@
 //! A fresh control block, and what follows from its fields.
 ghost use Rattle.std.specs.Prelude.{◌≡◌, ◌+◌, ◌*◌, ◌≤◌, ◌^◌};
-ghost use Rattle.tcp_model.specs.Blocks.{default_settings, fresh_window, fresh_sender, fresh_block, forgotten, unacked, nxt, top, past_top};
+ghost use Rattle.tcp_model.specs.Blocks.{default_settings, fresh_window, fresh_sender, fresh_block, forgotten, unacked, top, past_top};
 ghost use Rattle.tcp_model.specs.Blocks.{own_scale, scale_for, field_of, own_shift, window_field, told_of, least_step, is_worth_telling, edge_after, announced};
 
 use crate::{
@@ -166,13 +166,6 @@ impl Block {
         ensures { result ≡ unacked self.now queued }
     {
         self.sender.syn_unacked as usize + queued + self.state.owes_fin() as usize
-    }
-
-    /// SND.NXT.
-    pub fn nxt(&self) -> SeqNumber
-        ensures { result ≡ nxt self.now }
-    {
-        behind_by(self.sender.una, self.sender.in_flight as usize)
     }
 
     /// How much is to be acknowledged until it is more than was ever sent.

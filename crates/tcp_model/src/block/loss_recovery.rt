@@ -8,7 +8,8 @@ ghost use Rattle.tcp_model.specs.LossRecovery.{heard_more, ranges_noted, thresho
 ghost use Rattle.tcp_model.specs.LossRecovery.{pipe_in_recovery, pipe, next_hole};
 ghost use Rattle.tcp_model.specs.LossRecovery.{is_passed, mends_lost, credited_window, mends_credited};
 ghost use Rattle.tcp_model.specs.LossRecovery.{fills_hole, again_place, hole_len, loss_lowered, loss_acked, loss_resent, loss_timed_out, probes_tail};
-ghost use Rattle.tcp_model.specs.LossRecovery.{came_late, may_be_late, loss_probed, loss_probed_by};
+ghost use Rattle.tcp_model.specs.LossRecovery.{came_late, may_be_late, probe_begins, loss_probed, loss_probed_by};
+ghost use Rattle.tcp_model.specs.LossRecovery.{has_room, may_go_early, fills_early, rescues, goes_early, is_rescue, hole_place};
 
 use crate::{Block, Loss, Run, Scoreboard};
 use ip_wire::{SeqNumber, TcpHeader};
@@ -32,6 +33,7 @@ impl Loss {
         eager: false,
         probes: false,
         probed: false,
+        rescue: 0,
         probe_at: None,
         patience: 0,
         late_until: None,
@@ -97,17 +99,20 @@ impl Block {
     {
         let tail = self.probes_tail();
         let probe = self.loss.late_until.is_none();
-        if !tail && self.sender.recover == 0 {
+        let begins = !tail && self.sender.recover == 0;
+        if begins {
             self.loss.undo = self.undo_begun();
+            self.loss.rescue = 0;
         }
         if !tail {
             self.reno.reduce(self.sender.in_flight);
             self.loss.resent = 0;
         }
         self.sender.resend = self.sender.resend || !tail;
-        if !tail && self.sender.recover == 0 {
+        if begins {
             self.sender.recover = self.past_top();
         }
+        self.sender.partial = self.sender.partial && !begins;
         self.loss.eager = probe;
         self.loss.probes = tail;
         self.loss.probed = probe;
@@ -289,12 +294,18 @@ impl Block {
         self.loss.board.first_missing(self.loss.resent)
     }
 
-    /// Whether the next hole is lost, and the congestion window has room for a segment beside Pipe.
+    /// Whether the congestion window has room for a segment beside Pipe.
+    fn has_room(&self) -> bool
+        ensures { result ≡ has_room self.now }
+    {
+        self.pipe() as u64 + self.reno.mss() as u64 <= self.reno.window() as u64
+    }
+
+    /// Whether the next hole is lost, and the congestion window has room.
     fn mends_lost(&self) -> bool
         ensures { result ≡ mends_lost self.now }
     {
-        self.is_lost_at(self.next_hole())
-            && self.pipe() as u64 + self.reno.mss() as u64 <= self.reno.window() as u64
+        self.is_lost_at(self.next_hole()) && self.has_room()
     }
 
     /// How much of the congestion window what goes again for a partial acknowledgement takes: the second
@@ -335,6 +346,62 @@ impl Block {
             && (self.mends_lost() || self.mends_credited())
     }
 
+    /// Whether what isn't lost may go again, too, where no new text goes.
+    fn may_go_early(&self) -> bool
+        ensures { result ≡ may_go_early self.now }
+    {
+        self.peer.sack
+            && self.reno.recovers()
+            && !self.sender.syn_unacked
+            && self.next_hole() < self.sender.in_flight
+            && self.has_room()
+    }
+
+    /// Whether the next hole lies below what is held.
+    fn fills_early(&self) -> bool
+        ensures { result ≡ fills_early self.now }
+    {
+        self.may_go_early() && self.next_hole() < self.loss.board.end()
+    }
+
+    /// Whether the last segment of what is in flight may go, as it may once in a recovery, where SND.UNA
+    /// passed RescueRxt and nothing that is held lies behind the next hole.
+    fn rescues(&self) -> bool
+        ensures { result ≡ rescues self.now }
+    {
+        self.may_go_early()
+            && self.loss.rescue == 0
+            && self.loss.board.end() <= self.next_hole()
+            && self.sender.in_flight == self.sender.top
+    }
+
+    /// Whether a segment goes again that isn't lost, where no new text goes.
+    pub fn goes_early(&self) -> bool
+        ensures { result ≡ goes_early self.now }
+    {
+        self.fills_early() || self.rescues()
+    }
+
+    /// Whether what goes again is a rescue.
+    fn is_rescue(&self) -> bool
+        ensures { result ≡ is_rescue self.now }
+    {
+        !(self.sender.resend || self.loss.probes || self.fills_hole() || self.fills_early())
+            && self.rescues()
+    }
+
+    /// Where something goes again in recovery: at the next hole, or as a rescue at the last segment.
+    fn hole_place(&self, limit: usize, sent: usize) -> usize
+        ensures { result ≡ hole_place self.now limit sent }
+    {
+        let hole = self.next_hole() as usize;
+        if self.is_rescue() {
+            sent.saturating_sub(limit).max(hole)
+        } else {
+            hole
+        }
+    }
+
     /// From which place of the send queue something goes again, where a segment takes so much, and so much
     /// was sent.
     pub fn again_place(&self, limit: usize, sent: usize, queued: usize) -> usize
@@ -346,7 +413,7 @@ impl Block {
         } else if self.loss.probes {
             sent.saturating_sub(limit).min(queued)
         } else {
-            (self.next_hole() as usize).min(sent.min(queued))
+            self.hole_place(limit, sent).min(sent.min(queued))
         }
     }
 
@@ -388,6 +455,7 @@ impl Loss {
         self.eager = self.eager && partial;
         self.probes = false;
         self.probed = false;
+        self.rescue = self.rescue.saturating_sub(by);
         self.late_until = None;
         self.undo = None;
     }
@@ -409,8 +477,14 @@ impl Block {
     pub fn lose_resent(&mut self, end: u32)
         ensures { self.new ≡ record self.old { loss = loss_resent self.old end } }
     {
-        if self.reno.recovers() && (self.sender.resend || !self.loss.probes) {
+        let rescue = self.is_rescue();
+        if self.sender.resend || self.reno.recovers() && !(self.loss.probes || rescue) {
             self.loss.resent = self.loss.resent.max(end);
+        }
+        if self.reno.recovers() && self.sender.resend {
+            self.loss.rescue = self.loss.rescue.max(end.saturating_add(1));
+        } else if rescue {
+            self.loss.rescue = self.sender.recover;
         }
         self.loss.credit = self.loss.credit.saturating_sub(1);
         self.loss.mark = self.sender.top;

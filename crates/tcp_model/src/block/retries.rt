@@ -67,9 +67,9 @@ impl Block {
     fn is_last_question(&self, now: Instant, queued: usize) -> bool
         ensures { result ≡ is_last_question now self.now queued }
     {
-        (is_due(now, self.probe_moment(queued)) || is_due(now, self.keep_alive_moment()))
-            && is_due(now, self.timers.counts_from)
+        is_due(now, self.timers.counts_from)
             && reaches(self.settings.retries, self.sender.unanswered as u32)
+            && (is_due(now, self.probe_moment(queued)) || is_due(now, self.keep_alive_moment()))
     }
 
     /// Whether the connection gives up.

@@ -1,9 +1,10 @@
 //! What a socket offers: a test for each rule, and what the rules for text may send.
 ghost use Rattle.std.specs.Bool.{OnTrue};
-ghost use Rattle.std.specs.Prelude.{◌≡◌, ◌+◌, ◌-◌, ◌≤◌, ◌<◌, ◌^◌, min};
-ghost use Rattle.tcp_model.specs.Rules.{time_wait_end, owes_syn, resends, ack_moment, Choice, stamp_len, size_limit, congestion_limit, beyond, window_limit};
-ghost use Rattle.tcp_model.specs.Rules.{next_place, fin_goes, text_of_size, ready, may_be_small, fills_enough, is_sendable, sends_choice, sent_places};
-ghost use Rattle.tcp_model.specs.LossRecovery.{again_place, hole_len};
+ghost use Rattle.std.specs.Prelude.{◌≡◌, ◌+◌, ◌-◌, ◌≤◌, ◌<◌, ◌^◌, ◌&&◌, true, min};
+ghost use Rattle.tcp_control.specs.States.{sends_text};
+ghost use Rattle.tcp_model.specs.Rules.{time_wait_end, owes_syn, resends_beside, ack_moment, Choice, stamp_len, size_limit, congestion_limit, beyond};
+ghost use Rattle.tcp_model.specs.Rules.{window_limit, next_place, fin_goes, text_of_size, ready, may_be_small, fills_enough, is_sendable, sends_choice, sent_places};
+ghost use Rattle.tcp_model.specs.LossRecovery.{goes_early, again_place, hole_len};
 ghost use Rattle.tcp_model.specs.Rules.{congestion_room, sent_text, probe_choice, control_for, updates_window, keep_alive_moment, backed_off_now};
 ghost use Rattle.tcp_model.specs.Offers.{number_at, backed_off};
 ghost use Rattle.tcp_model.specs.Choices.{choice_of};
@@ -19,7 +20,7 @@ use tcp_control::offsets::behind_by;
 const LONGEST_PACKET: usize = 65_535;
 
 /// How much of the send queue is to go, from which place, and whether the FIN goes with it.
-#[derive(Clone, Copy, Debug, PartialEq, Eq)]
+#[derive(Clone, Copy, PartialEq, Eq)]
 pub struct Part {
     pub place: usize,
     pub len: usize,
@@ -71,12 +72,30 @@ impl Block {
             && self.sender.in_flight == 0
     }
 
-    /// Whether something is to go again: the segment at SND.UNA, the last one as a probe, or what isn't held
-    /// at the next hole.
-    pub fn resends(&self) -> bool
-        ensures { result ≡ resends self.now }
+    /// Whether something is to go again before any text: the segment at SND.UNA, the last one as a probe, or
+    /// what is lost at the next hole.
+    pub fn resends_first(&self) -> bool
+        ensures { result ≡ resends_beside self.now true }
     {
         self.state.sends_text() && (self.sender.resend || self.loss.probes || self.fills_hole())
+    }
+
+    /// Whether something is to go again where no text goes.
+    pub fn resends_last(&self) -> bool
+        ensures { result ≡ sends_text self.now.state && goes_early self.now }
+    {
+        self.state.sends_text() && self.goes_early()
+    }
+
+    /// Whether something is to go again, where `text` says whether text may go.
+    pub(crate) fn resends(&self, text: bool) -> bool
+        ensures { result ≡ resends_beside self.now text }
+    {
+        self.state.sends_text()
+            && (self.sender.resend
+                || self.loss.probes
+                || self.fills_hole()
+                || self.goes_early() && !text)
     }
 
     /// When an acknowledgement is due, where there is something to acknowledge.

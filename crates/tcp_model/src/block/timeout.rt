@@ -100,7 +100,7 @@ impl Block {
         ensures { result ≡ is_window_small self.now queued }
     {
         let enough = (self.peer.largest_window as usize / 2).max(1);
-        self.window_limit(queued) < queued.min(enough)
+        queued != 0 && self.window_limit(queued) < queued.min(enough)
     }
 
     /// Whether bytes are queued, nothing is in flight, and the window holds them back.

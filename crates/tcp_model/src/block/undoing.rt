@@ -2,7 +2,7 @@
 ghost use Rattle.std.specs.Prelude.{◌≡◌, ◌≤◌, ◌^◌, true};
 ghost use Rattle.net_base.specs.Time.{IsMoment};
 ghost use Rattle.tcp_model.specs.Undo.{undo_begun, undo_sent};
-ghost use Rattle.tcp_model.specs.Undone.{is_echo_before, answers_first, answers_undo, is_needless, undone_if, undone};
+ghost use Rattle.tcp_model.specs.Undone.{is_echo_before, answers_first, answers_undo, is_needless, came_early, undone_if, undone};
 
 use super::timestamps::{is_older, value_by};
 use crate::{Block, Undo};
@@ -12,7 +12,7 @@ use tcp_control::moments::later;
 
 impl Block {
     /// Recovery begins, or the timer runs out: what the window was, unless a loss is being mended already, or
-    /// what went again before is still on its way.
+    /// what stands at SND.UNA went again before.
     pub fn undo_begun(&self) -> Option<Undo>
         ensures { result ≡ undo_begun self.now }
     {
@@ -73,7 +73,7 @@ impl Block {
         requires { queued ≤ 2 ^ 30 }
         ensures { self.new ≡ undone_if true self.old queued }
     {
-        if self.reno.recovers() {
+        if self.reno.recovers() && !self.loss.board.is_empty() {
             self.loss.patience = self.loss.patience.min(15) + 1;
         }
         if let Some(undo) = &self.loss.undo {
@@ -83,7 +83,6 @@ impl Block {
         self.sender.in_flight = self.sender.in_flight.max(sent as u32);
         self.sender.resend = false;
         self.sender.recover = 0;
-        self.loss.resent = 0;
         self.loss.credit = 0;
     }
 
