@@ -77,9 +77,9 @@ fits_first cx v pair none =
     let again = offer_choice Kind.FastRetransmission cx v pair (resend_choice v.block pair.addresses cx.ip_mtu v.queued) in
     let text = offer_choice Kind.Text cx v pair (text_choice v.block pair.addresses cx.ip_mtu v.queued) in
     let third : Offered TcpValue = if has_text v.block pair.addresses cx.ip_mtu v.queued then text else last_rules cx probing pair in
-    let second : Offered TcpValue = if resends v.block then again else third in
+    let second : Offered TcpValue = if resends v.block pair.addresses cx.ip_mtu v.queued then again else third in
     fits_when cx v (owes_syn v.block) syn second (omega arith)
-    (fits_when cx v (resends v.block) again third (fits_again cx v pair)
+    (fits_when cx v (resends v.block pair.addresses cx.ip_mtu v.queued) again third (fits_again cx v pair)
     (fits_when cx v (has_text v.block pair.addresses cx.ip_mtu v.queued) text (last_rules cx probing pair) (fits_text cx v pair)
     (fits_last cx probing pair none)))
 

@@ -226,9 +226,9 @@ fits_first cx v pair none =
     let resent = offer_choice Kind.FastRetransmission cx v pair (resend_choice v.block pair.addresses cx.ip_mtu v.queued) in
     let text = offer_choice Kind.Text cx v pair (text_choice v.block pair.addresses cx.ip_mtu v.queued) in
     let third : Offered TcpValue = if has_text v.block pair.addresses cx.ip_mtu v.queued then text else last_rules cx probing pair in
-    let second : Offered TcpValue = if resends v.block then resent else third in
+    let second : Offered TcpValue = if resends v.block pair.addresses cx.ip_mtu v.queued then resent else third in
     fits_when (owes_syn v.block) syn second (λ _. fits_syn cx v pair) (λ _.
-    fits_when (resends v.block) resent third (λ _. fits_resent cx v pair) (λ _.
+    fits_when (resends v.block pair.addresses cx.ip_mtu v.queued) resent third (λ _. fits_resent cx v pair) (λ _.
     fits_when (has_text v.block pair.addresses cx.ip_mtu v.queued) text (last_rules cx probing pair) (λ _. fits_text cx v pair) (λ _.
     fits_last cx probing pair none)))
 

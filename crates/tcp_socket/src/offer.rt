@@ -103,12 +103,16 @@ impl Socket {
         if self.block.owes_syn() {
             return self.offer_syn(cx, pair);
         }
-        if self.block.resends() {
+        if self.block.resends_first() {
             let part = self.resend_part(&pair.addresses, cx.ip_mtu());
             return self.offer_part(OfferKind::FastRetransmission, cx, pair, &part);
         }
         if let Some(part) = self.text_part(&pair.addresses, cx.ip_mtu()) {
             return self.offer_part(OfferKind::Text, cx, pair, &part);
+        }
+        if self.block.resends_last() {
+            let part = self.resend_part(&pair.addresses, cx.ip_mtu());
+            return self.offer_part(OfferKind::FastRetransmission, cx, pair, &part);
         }
         self.block.start_probe(cx.now(), self.queued.len());
         self.offer_last(cx, pair)

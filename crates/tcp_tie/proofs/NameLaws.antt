@@ -596,13 +596,13 @@ module _ (cx : ContextValue) (pair : EndpointPair) where
       let window = window_of (plain v b) in
       let probing = probe_started cx.moment (queued_in v) b in
       cond_both (owes_syn b) (offer_syn cx (plain v b) pair)
-      (if resends b then offer_choice Kind.FastRetransmission cx (plain v b) pair again
+      (if resends b pair.addresses cx.ip_mtu v.queued then offer_choice Kind.FastRetransmission cx (plain v b) pair again
       else if has_text b pair.addresses cx.ip_mtu v.queued then offer_choice Kind.Text cx (plain v b) pair text
       else last_rules cx (with_block (plain v b) probing) pair)
       (λ (o : Offered TcpValue). Directed old o)
       (λ _. directed_segment v old b names Kind.Syn syn 0 0 refl refl (inr (inl (record { names = names.names; listening = names.listening }))))
       (λ _.
-      cond_both (resends b) (offer_choice Kind.FastRetransmission cx (plain v b) pair again)
+      cond_both (resends b pair.addresses cx.ip_mtu v.queued) (offer_choice Kind.FastRetransmission cx (plain v b) pair again)
       (if has_text b pair.addresses cx.ip_mtu v.queued then offer_choice Kind.Text cx (plain v b) pair text
       else last_rules cx (with_block (plain v b) probing) pair)
       (λ (o : Offered TcpValue). Directed old o)

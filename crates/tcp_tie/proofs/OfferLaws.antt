@@ -35,7 +35,7 @@ use Rattle.tcp_model.specs.Probing.{probe_started, probe_moment, is_probing, is_
 use Rattle.tcp_model.specs.Retries.{asked, one_more, gives_up, given_up}
 use Rattle.tcp_model.specs.Rules.{Choice, time_wait_end, owes_syn, resends, ack_moment, has_text, text_choice, resend_choice, probe_choice, control_for}
 use Rattle.tcp_model.specs.Rules.{updates_window, keep_alive_moment, backed_off_now, fin_goes, next_place, size_limit, window_limit, congestion_limit}
-use Rattle.tcp_model.specs.LossRecovery.{fills_hole, hole_len, loss_probe_moment, loss_probed, loss_probed_by}
+use Rattle.tcp_model.specs.LossRecovery.{fills_hole, goes_early, hole_len, loss_probe_moment, loss_probed, loss_probed_by}
 use Rattle.tcp_model.specs.Rules.{is_sendable, congestion_room, sent_places}
 use Rattle.tcp_model.proofs.Holes.{again_within}
 use Rattle.tcp_model.specs.Segments.{segment, reset_segment, keep_alive_segment, hops_of}
@@ -189,14 +189,16 @@ text_part b pair mtu queued e =
     within : (flight syn queue owes : ℕ) → flight < syn + queue + owes → owes ≤ 1 → flight - syn ≤ queue
     within flight syn queue owes e one = omega arith
 
-resend_part : (b : Block) (pair : EndpointPair) (mtu : ℕ) (queued : Ring ℕ) → resends b ≡ true →
+resend_part : (b : Block) (pair : EndpointPair) (mtu : ℕ) (queued : Ring ℕ) → resends b pair.addresses mtu queued ≡ true →
     IsPart b (length queued.queue) (resend_choice b pair.addresses mtu queued)
 resend_part b pair mtu queued e =
     let place = (resend_choice b pair.addresses mtu queued).place in
     let len = (resend_choice b pair.addresses mtu queued).len in
     let inside : place ≤ length queued.queue = again_within b (size_limit b pair.addresses mtu) (sent_places b) (length queued.queue) in
     record {
-      sends = (and_parts (sends_text b.state) (b.sender.resend || (b.loss.probes || fills_hole b)) e).0;
+      sends =
+          (and_parts (sends_text b.state)
+          (b.sender.resend || (b.loss.probes || (fills_hole b || (goes_early b && not (has_text b pair.addresses mtu queued))))) e).0;
       within = inside;
       fits = held_in place (hole_len b place (sent_places b)) (length queued.queue) (size_limit b pair.addresses mtu) inside;
       last = λ fin.
@@ -391,13 +393,15 @@ module _ (cx : ContextValue) (v : TcpValue) (pair : EndpointPair) (p : Past) (t 
       LedOffer p t (first_rules cx (plain v b) pair)
   led_first b named open_yet r =
       cond_both (owes_syn b) (offer_syn cx (plain v b) pair)
-      (if resends b then offer_choice Kind.FastRetransmission cx (plain v b) pair (resend_choice b pair.addresses cx.ip_mtu v.queued)
+      (if resends b pair.addresses cx.ip_mtu v.queued
+      then offer_choice Kind.FastRetransmission cx (plain v b) pair (resend_choice b pair.addresses cx.ip_mtu v.queued)
       else if has_text b pair.addresses cx.ip_mtu v.queued then offer_choice Kind.Text cx (plain v b) pair (text_choice b pair.addresses cx.ip_mtu v.queued)
       else last_rules cx (with_block (plain v b) (probe_started cx.moment (queued_in v) b)) pair)
       (λ (o : Offered TcpValue). LedOffer p t o)
       (λ owes. led_syn b named open_yet owes r)
       (λ _.
-      cond_both (resends b) (offer_choice Kind.FastRetransmission cx (plain v b) pair (resend_choice b pair.addresses cx.ip_mtu v.queued))
+      cond_both (resends b pair.addresses cx.ip_mtu v.queued)
+      (offer_choice Kind.FastRetransmission cx (plain v b) pair (resend_choice b pair.addresses cx.ip_mtu v.queued))
       (if has_text b pair.addresses cx.ip_mtu v.queued then offer_choice Kind.Text cx (plain v b) pair (text_choice b pair.addresses cx.ip_mtu v.queued)
       else last_rules cx (with_block (plain v b) (probe_started cx.moment (queued_in v) b)) pair)
       (λ (o : Offered TcpValue). LedOffer p t o)
