@@ -13,7 +13,7 @@ use Rattle.tcp_control.specs.Offsets.{behind_by}
 use Rattle.tcp_control.specs.Reno as reno
 use Rattle.tcp_control.specs.Reno.{RenoValue}
 use Rattle.tcp_control.specs.Scoreboard.{first_missing, lies_in}
-use Rattle.tcp_control.specs.States.{is_closed, is_listening, is_opening, is_time_wait, sends_text, takes_writes, owes_fin, after_close}
+use Rattle.tcp_control.specs.States.{is_closed, is_listening, is_opening, is_time_wait, takes_writes, owes_fin, after_close}
 use Rattle.tcp_control.specs.declared.endpoints.EndpointPair.{EndpointPair}
 use Rattle.tcp_control.specs.declared.offer.OfferKind.{OfferKind}
 use Rattle.tcp_control.specs.declared.offer.OfferKind.TheVariants as Kind
@@ -30,11 +30,11 @@ use Rattle.tcp_model.specs.Checks.{Check, acknowledgement_check}
 use Rattle.tcp_model.specs.Checks.Check.{Passes}
 use Rattle.tcp_model.specs.FirstNumbers.{number_for}
 use Rattle.tcp_model.specs.LossRecovery.{probe_armed, next_hole}
-use Rattle.tcp_model.specs.LossRecovery.{fills_hole, mends_lost, mends_credited, loss_probed, loss_probe_moment, again_place}
+use Rattle.tcp_model.specs.LossRecovery.{loss_probed, loss_probe_moment, again_place, hole_place, is_rescue}
 use Rattle.tcp_model.specs.Offers.{offer_of}
 use Rattle.tcp_model.specs.Opening.{took_syn}
 use Rattle.tcp_model.specs.Retries.{asked, one_more}
-use Rattle.tcp_model.specs.Rules.{resends, backed_off_now, sent_places, next_place}
+use Rattle.tcp_model.specs.Rules.{resends_beside, backed_off_now, sent_places, next_place}
 use Rattle.tcp_model.specs.Settings.{fresh_reno}
 use Rattle.tcp_model.specs.Settled.{end_of, past_held, nxt_moved, timer_started, syn_went, resent, probed, sent_as, sent_off, recorded}
 use Rattle.tcp_model.specs.Timestamps.{stamp_taken, echo_taken}
@@ -51,6 +51,7 @@ use Rattle.tcp_rules.specs.Events.Setting.{Timeout, KeepAlive, AckDelay, Nagle, 
 use Rattle.tcp_rules.specs.InOrder.{sending_of, IsInOrder}
 use Rattle.tcp_rules.specs.Timing.{start_of, timing_of, IsTimedRight}
 use Rattle.tcp_rules.proofs.ArrivalCases.{timed, by_arrival, Received, Opening, Content, Drawing, acked_open, heeded}
+use Rattle.tcp_rules.proofs.EarlyRules.{InRecovery, goes_in}
 use Rattle.tcp_rules.proofs.EdgeSteps.{near_distance}
 use Rattle.tcp_rules.proofs.OfferCases.{Rules, FirstRules, LastRules, by_rules, begun, probing}
 use Rattle.tcp_rules.proofs.OrderSteps.{clash, one_if_least}
@@ -251,18 +252,20 @@ sent_fits Kind.FastRetransmission b o queued m f =
     inr (went_fits (raised b Kind.FastRetransmission (end_of b o) m) b c o (past_held b (end_of b o) queued)
     (record {
       flag = λ e. clash (sym e);
-      high = λ e. at (b.sender.resend || not b.loss.probes) b.reno.recovers e (f.high e);
+      high = λ e. at b.sender.resend (b.loss.probes || is_rescue b) b.reno.recovers e (f.high e);
       text = further m.text b.sender.in_flight (past_held b (end_of b o) queued) f.text;
     }))
   where
     raise : (n k end : ℕ) → n ≤ k → max n end ≤ max k end
     raise n k end e = omega arith
 
-    at : (mends recovers : Bool) → recovers ≡ true → m.again ≤ b.loss.resent
-        → (if mends then max m.again (end_of b o) else m.again) ≤ (if recovers && mends then max b.loss.resent (end_of b o) else b.loss.resent)
-    at true true e high = raise m.again b.loss.resent (end_of b o) high
-    at false true e high = high
-    at mends false e high = clash (sym e)
+    at : (resend last recovers : Bool) → recovers ≡ true → m.again ≤ b.loss.resent
+        → (if resend || not last then max m.again (end_of b o) else m.again)
+        ≤ (if resend || (recovers && not last) then max b.loss.resent (end_of b o) else b.loss.resent)
+    at true last recovers e high = raise m.again b.loss.resent (end_of b o) high
+    at false true true e high = high
+    at false false true e high = raise m.again b.loss.resent (end_of b o) high
+    at false last false e high = clash (sym e)
 sent_fits Kind.Text b o queued m f =
     let c = moved b o queued in
     inr (went_fits (raised b Kind.Text (end_of b o) m) b c o (past_held b (end_of b o) queued)
@@ -301,52 +304,47 @@ module _ (b : Block) (m : Marks) (limit queued : ℕ) (f : Fits m (resending_of 
   abbrev Behind : ℕ → Type 0
   Behind place = m.again ≤ one_if b.sender.syn_unacked + place
 
-  hole_behind : fills_hole b ≡ true → Behind (min (next_hole b) (min (sent_places b) queued))
-  hole_behind fills =
-      let inside = right_true b.peer.sack _ fills in
-      let recovers = left_true b.reno.recovers (not b.sender.syn_unacked && (nat_lt (next_hole b) b.sender.in_flight && (mends_lost b || mends_credited b)))
-      inside in
-      let rest = right_true b.reno.recovers (not b.sender.syn_unacked && (nat_lt (next_hole b) b.sender.in_flight && (mends_lost b || mends_credited b)))
-      inside in
-      let flies = ltb-true (next_hole b) b.sender.in_flight
-      (left_true (nat_lt (next_hole b) b.sender.in_flight) (mends_lost b || mends_credited b)
-      (right_true (not b.sender.syn_unacked) (nat_lt (next_hole b) b.sender.in_flight && (mends_lost b || mends_credited b)) rest)) in
-      near m.again (next_hole b) b.sender.in_flight b.sender.top (one_if b.sender.syn_unacked) queued (one_if (owes_fin b.state)) flies
-      (through m.again b.loss.resent (next_hole b) (f.high recovers) (first_least b.loss.board.runs b.loss.resent)) sent within
+  hole_behind : InRecovery b → Behind (min (next_hole b) (min (sent_places b) queued))
+  hole_behind goes =
+      near m.again (next_hole b) b.sender.in_flight b.sender.top (one_if b.sender.syn_unacked) queued (one_if (owes_fin b.state)) goes.flies
+      (through m.again b.loss.resent (next_hole b) (f.high goes.recovers) (first_least b.loss.board.runs b.loss.resent)) sent within
       (one_if_least (owes_fin b.state))
     where
       near : (n hole flight top syn queued fin : ℕ) → hole < flight → n ≤ hole → flight ≤ top → flight ≤ syn + queued + fin → fin ≤ 1
           → n ≤ syn + min hole (min (top - syn) queued)
       near n hole flight top syn queued fin e g h i j = omega arith
 
-  flies_on : fills_hole b ≡ true → (b.sender.in_flight == 0) ≡ true → ⊥
-  flies_on fills none =
-      let rest = right_true b.reno.recovers (not b.sender.syn_unacked && (nat_lt (next_hole b) b.sender.in_flight && (mends_lost b || mends_credited b)))
-      (right_true b.peer.sack _ fills) in
-      let flies = ltb-true (next_hole b) b.sender.in_flight
-      (left_true (nat_lt (next_hole b) b.sender.in_flight) (mends_lost b || mends_credited b)
-      (right_true (not b.sender.syn_unacked) (nat_lt (next_hole b) b.sender.in_flight && (mends_lost b || mends_credited b)) rest)) in
+  flies_on : InRecovery b → (b.sender.in_flight == 0) ≡ true → ⊥
+  flies_on goes none =
+      let flies = goes.flies in
       let zero = eqb-true b.sender.in_flight 0 none in
       absurd (omega (arith, flies, zero))
 
-  again_behind : resends b ≡ true → mends b Kind.FastRetransmission ≡ true → Behind (again_place b limit (sent_places b) queued)
-  again_behind does is = at b.sender.resend b.loss.probes refl refl where
+  again_behind : (text : Bool) → resends_beside b text ≡ true → mends b Kind.FastRetransmission ≡ true
+      → Behind (again_place b limit (sent_places b) queued)
+  again_behind text does is = at b.sender.resend b.loss.probes refl refl where
+    mends_if : b.sender.resend ≡ false → mends b Kind.FastRetransmission ≡ not (b.loss.probes || is_rescue b)
+    mends_if e = ap (λ (t : Bool). t || not (b.loss.probes || is_rescue b)) e
+
     nothing : m.again ≡ 0 → (place : ℕ) → Behind place
     nothing e place = subst (λ (n : ℕ). n ≤ one_if b.sender.syn_unacked + place) (sym e) (least _)
 
     at : (resend probes : Bool) → b.sender.resend ≡ resend → b.loss.probes ≡ probes → Behind (again_place b limit (sent_places b) queued)
     at true probes e g = nothing (f.flag e) (again_place b limit (sent_places b) queued)
-    at false true e g = clash (sym is ∙ (ap (λ (t : Bool). t || not b.loss.probes) e ∙ ap not g))
+    at false true e g = clash (sym is ∙ (mends_if e ∙ ap (λ (t : Bool). not (t || is_rescue b)) g))
     at false false e g =
-        let rest = right_true (sends_text b.state) (b.sender.resend || (b.loss.probes || fills_hole b)) does in
-        let fills : fills_hole b ≡ true = sym (ap (λ (t : Bool). t || (b.loss.probes || fills_hole b)) e ∙ ap (λ (t : Bool). t || fills_hole b) g) ∙ rest in
+        let goes = goes_in b text does e g in
         cond_both (b.sender.resend || (b.sender.in_flight == 0)) 0
-        (if b.loss.probes then min (sent_places b - limit) queued else min (next_hole b) (min (sent_places b) queued)) Behind
+        (if b.loss.probes then min (sent_places b - limit) queued else min (hole_place b limit (sent_places b)) (min (sent_places b) queued)) Behind
         (λ first.
-        ⊎_elim (λ so. clash (sym so ∙ e)) (λ none. absurd (flies_on fills none)) (either b.sender.resend (b.sender.in_flight == 0) first))
+        ⊎_elim (λ so. clash (sym so ∙ e)) (λ none. absurd (flies_on goes none)) (either b.sender.resend (b.sender.in_flight == 0) first))
         (λ _.
-        cond_both b.loss.probes (min (sent_places b - limit) queued) (min (next_hole b) (min (sent_places b) queued)) Behind
-        (λ so. clash (sym so ∙ g)) (λ _. hole_behind fills))
+        cond_both b.loss.probes (min (sent_places b - limit) queued) (min (hole_place b limit (sent_places b)) (min (sent_places b) queued)) Behind
+        (λ so. clash (sym so ∙ g))
+        (λ _.
+        cond_both (is_rescue b) (max (sent_places b - limit) (next_hole b)) (next_hole b) (λ (n : ℕ). Behind (min n (min (sent_places b) queued)))
+        (λ so. clash (sym is ∙ (mends_if e ∙ (ap (λ (t : Bool). not (t || is_rescue b)) g ∙ ap not so))))
+        (λ _. hole_behind goes)))
 
 -- text begins at SND.NXT
 text_behind : (b : Block) (m : Marks) → m.text ≤ b.sender.in_flight → m.text ≤ one_if b.sender.syn_unacked + next_place b
@@ -387,12 +385,12 @@ module _ (cx : ContextValue) (v : TcpValue) (m : Marks) (p : IsInOrder (sending_
   }
 
   first : (pair : EndpointPair) (w : TcpValue) → w.offered ≡ None → Fits now_marks (resending_of w.block)
-      → ((limit : ℕ) → resends w.block ≡ true → mends w.block Kind.FastRetransmission ≡ true
+      → ((limit : ℕ) (text : Bool) → resends_beside w.block text ≡ true → mends w.block Kind.FastRetransmission ≡ true
       → now_marks.again ≤ one_if w.block.sender.syn_unacked + again_place w.block limit (sent_places w.block) (queued_in w))
       → FirstRules cx pair Sound w
   first pair w none f behind = record {
     syn = λ _. ((λ is. clash (sym is), λ is. clash (sym is)), inr f);
-    again = λ _ does. ((λ is. behind _ does is, λ is. clash (sym is)), inr f);
+    again = λ _ does. ((λ is. behind _ _ does is, λ is. clash (sym is)), inr f);
     text = λ _ _. ((λ is. clash (sym is), λ _. text_behind w.block now_marks f.text), inr f);
     last = λ _. last pair (probing cx w) none (record { flag = f.flag; high = f.high; text = f.text });
   }
@@ -426,7 +424,7 @@ module _ (cx : ContextValue) (v : TcpValue) (m : Marks) (p : IsInOrder (sending_
           high = λ _. zero_least (timed_out due) _;
           text = subst (λ (n : ℕ). n ≤ 0) (sym (ap (λ (t : Bool). if t then 0 else m.text) due)) (least 0);
         })
-        (λ _ _ _. zero_least (timed_out due) _);
+        (λ _ _ _ _. zero_least (timed_out due) _);
     probes = λ pair _ _ not due.
         first pair (with_block (unoffered v) (loss_probed (begun cx v))) refl
         (record {
@@ -434,12 +432,12 @@ module _ (cx : ContextValue) (v : TcpValue) (m : Marks) (p : IsInOrder (sending_
           high = λ _. zero_least (probed_now not due) _;
           text = (now_fits _ k.fits).text;
         })
-        (λ _ _ _. zero_least (probed_now not due) _);
+        (λ _ _ _ _. zero_least (probed_now not due) _);
     goes = λ pair _ on _.
         first pair (with_block (unoffered v) (begun cx v)) refl (now_fits _ (record { flag = k.fits.flag; high = k.fits.high; text = k.fits.text }))
-        (λ limit does is.
+        (λ limit text does is.
         again_behind (begun cx v) now_marks limit (queued_in v) (now_fits _ (record { flag = k.fits.flag; high = k.fits.high; text = k.fits.text })) sent
-        (p.within on.alive) does is);
+        (p.within on.alive) text does is);
   }
 
   sound_offer : Sound (offer_of cx v)

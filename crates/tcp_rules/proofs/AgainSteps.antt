@@ -18,7 +18,7 @@ use Rattle.tcp_model.specs.Checks.{Check, acknowledgement_check, opening_check, 
 use Rattle.tcp_model.specs.Checks.Check.{Passes, Old, Drops, Draws, Resets}
 use Rattle.tcp_model.specs.LossRecovery.{with_board, probe_from, probes_losses, probe_armed, all_noted, heard_more, ranges_noted, is_lost_again}
 use Rattle.tcp_model.specs.LossRecovery.{loss_lowered}
-use Rattle.tcp_model.specs.Settled.{resent, probed}
+use Rattle.tcp_model.specs.Settled.{resent}
 use Rattle.tcp_model.specs.Undone.{undone}
 use Rattle.tcp_model.specs.Validation.{grown_if_used, is_used}
 use Rattle.tcp_model.specs.Value.{TcpValue}
@@ -138,7 +138,8 @@ passes_small b ack by e = subst (λ (c : Check). count_of c < 2 ^ 32) e (all ack
 pub recovers_before : (b : Block) (by queued : ℕ) (now : ℤ) → (reno_after b by queued now).recovers ≡ true → b.reno.recovers ≡ true
 recovers_before b by queued now =
     let grown = grown_if_used b (freed_by b by queued) now (srtt_after b by now) in
-    cond_both (acks_own_syn b by) (reno.started b.reno b.sender.syn_lost) (if acks_in_recovery b by then recovery_after b by queued else grown) Before
+    cond_both (acks_own_syn b by) (reno.started b.reno b.sender.syn_lost)
+    (if acks_in_recovery b by then recovery_after b by queued else grown) Before
     (λ _ e. clash (sym e))
     (λ _.
     cond_both (acks_in_recovery b by) (recovery_after b by queued) grown Before (λ inside _. left_true b.reno.recovers (not (by == 0)) inside)

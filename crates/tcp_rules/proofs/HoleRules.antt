@@ -1,5 +1,5 @@
 -- What goes again isn't held.
-use Rattle.std.proofs.Common.{◌≡◌, ℕ, zero, suc, ◌+◌, ◌-◌, ◌^◌, ◌<◌, ◌≤◌, ◌==◌, nat_le, nat_lt, not, ◌&&◌, ◌||◌, min, ℤ, Bool, true, false}
+use Rattle.std.proofs.Common.{◌≡◌, ℕ, zero, suc, ◌+◌, ◌-◌, ◌^◌, ◌<◌, ◌≤◌, ◌==◌, nat_le, nat_lt, not, ◌&&◌, ◌||◌, min, max, ℤ, Bool, true, false}
 use Rattle.std.proofs.Common.{if◌then◌else◌, List, [], ◌∷◌, length, take, Option, Some, None, is_none, is_some, refl, sym, ap, ◌∙◌, subst, arith}
 use Rattle.std.proofs.lemmas.Bool.{cond_both, eqb-true, ltb-true, ltb-false}
 use Rattle.ip_wire.specs.IpRepr.{IpRepr}
@@ -11,8 +11,8 @@ use Rattle.tcp_model.specs.Context.{ContextValue}
 use Rattle.tcp_model.specs.BaseOffers.{Offered}
 use Rattle.tcp_control.specs.Moments.{is_over, timeout_from}
 use Rattle.tcp_control.specs.Offsets.{past_by}
-use Rattle.tcp_control.specs.Scoreboard.{is_run, no_run, no_runs, noted, held, gap_end}
-use Rattle.tcp_control.specs.States.{is_closed, is_opening, is_time_wait, sends_text, takes_writes, owes_fin, after_close}
+use Rattle.tcp_control.specs.Scoreboard.{is_run, no_run, no_runs, noted, held, gap_end, runs_end}
+use Rattle.tcp_control.specs.States.{is_closed, is_opening, is_time_wait, takes_writes, owes_fin, after_close}
 use Rattle.tcp_control.specs.declared.endpoints.EndpointPair.{EndpointPair}
 use Rattle.tcp_control.specs.declared.offer.OfferKind.{OfferKind}
 use Rattle.tcp_control.specs.declared.offer.OfferKind.TheVariants as Kind
@@ -25,12 +25,12 @@ use Rattle.tcp_model.specs.Blocks.{one_if}
 use Rattle.tcp_model.specs.Calls.{listening, connected_by, pair_for, sent_more}
 use Rattle.tcp_model.specs.FirstNumbers.{number_for}
 use Rattle.tcp_model.specs.LossRecovery.{with_board, probe_from, probes_losses, probe_armed, run_within, run_of, range_noted, all_noted, heard_more}
-use Rattle.tcp_model.specs.LossRecovery.{ranges_noted, next_hole, fills_hole, mends_lost, mends_credited, again_place, hole_len}
+use Rattle.tcp_model.specs.LossRecovery.{ranges_noted, next_hole, is_rescue, hole_place, again_place, hole_len}
 use Rattle.tcp_model.specs.LossRecovery.{loss_lowered, loss_acked, loss_probed}
 use Rattle.tcp_model.specs.Offers.{offer_of}
 use Rattle.tcp_model.specs.Opening.{took_syn}
 use Rattle.tcp_model.specs.Retries.{asked, one_more}
-use Rattle.tcp_model.specs.Rules.{resends, backed_off_now, sent_places, size_limit}
+use Rattle.tcp_model.specs.Rules.{resends_beside, backed_off_now, sent_places, size_limit}
 use Rattle.tcp_model.specs.Settled.{end_of, nxt_moved, timer_started, syn_went, resent, probed, sent_as, sent_off, recorded}
 use Rattle.tcp_model.specs.Timestamps.{stamp_taken, echo_taken}
 use Rattle.tcp_model.specs.Undo.{undo_sent}
@@ -48,6 +48,7 @@ use Rattle.tcp_rules.specs.Unheld.{AreUnheld}
 use Rattle.tcp_rules.proofs.ApartRuns.{Real, AllNone, AllOut, Board, empty_board, board_after, noted_board, nothing_held, none_held}
 use Rattle.tcp_rules.proofs.ApartRuns.{first_out, none_out, missing_out, gap_from, gap_unheld}
 use Rattle.tcp_rules.proofs.ArrivalCases.{timed, by_arrival, Received, Opening, Content, Drawing, acked_open}
+use Rattle.tcp_rules.proofs.EarlyRules.{goes_in, rescue_parts, end_out}
 use Rattle.tcp_rules.proofs.OfferCases.{Rules, FirstRules, LastRules, by_rules, begun, probing}
 use Rattle.tcp_rules.proofs.OrderSteps.{clash, one_if_least}
 use Rattle.tcp_rules.proofs.OrderRules.{led_new}
@@ -340,15 +341,16 @@ led_on v (it ∷ more) k = led_on (after v it) more (event_on v it k)
 -- WHAT GOES AGAIN
 
 module _ (b : Block) (k : Believes (believed_of b)) (sent : b.sender.in_flight ≤ b.sender.top) (no_syn : b.sender.syn_unacked ≡ false) (limit queued : ℕ)
-    (within : b.sender.in_flight ≤ one_if b.sender.syn_unacked + queued + one_if (owes_fin b.state)) (does : resends b ≡ true) where
+    (within : b.sender.in_flight ≤ one_if b.sender.syn_unacked + queued + one_if (owes_fin b.state)) (text : Bool)
+    (does : resends_beside b text ≡ true) where
   abbrev Out : ℕ → Type 0
   Out place = AllOut place b.loss.board.runs
 
   -- the next hole isn't past what was sent, nor past the send queue
-  hole_out : fills_hole b ≡ true → Out (min (next_hole b) (min (sent_places b) queued))
-  hole_out fills =
+  hole_out : next_hole b < b.sender.in_flight → Out (min (next_hole b) (min (sent_places b) queued))
+  hole_out flies =
       subst Out
-      (sym (near (next_hole b) b.sender.in_flight b.sender.top (one_if b.sender.syn_unacked) queued (one_if (owes_fin b.state)) (flies fills) sent within
+      (sym (near (next_hole b) b.sender.in_flight b.sender.top (one_if b.sender.syn_unacked) queued (one_if (owes_fin b.state)) flies sent within
       (one_if_least (owes_fin b.state)) (ap one_if no_syn)))
       (missing_out b.loss.board.runs k.board.fine k.board.gaps b.loss.resent)
     where
@@ -356,33 +358,36 @@ module _ (b : Block) (k : Believes (believed_of b)) (sent : b.sender.in_flight �
           → min hole (min (top - syn) queued) ≡ hole
       near hole flight top syn queued fin e f g h i = omega arith
 
-      flies : fills_hole b ≡ true → next_hole b < b.sender.in_flight
-      flies fills =
-          ltb-true (next_hole b) b.sender.in_flight
-          (left_true (nat_lt (next_hole b) b.sender.in_flight) (mends_lost b || mends_credited b)
-          (right_true (not b.sender.syn_unacked) (nat_lt (next_hole b) b.sender.in_flight && (mends_lost b || mends_credited b))
-          (right_true b.reno.recovers (not b.sender.syn_unacked && (nat_lt (next_hole b) b.sender.in_flight && (mends_lost b || mends_credited b)))
-          (right_true b.peer.sack _ fills))))
+  -- a rescue begins there or behind, where nothing is held any more
+  rescue_out : next_hole b < b.sender.in_flight → is_rescue b ≡ true
+      → Out (min (max (sent_places b - limit) (next_hole b)) (min (sent_places b) queued))
+  rescue_out flies is =
+      end_out b.loss.board.runs (min (max (sent_places b - limit) (next_hole b)) (min (sent_places b) queued))
+      (behind (runs_end b.loss.board.runs) (sent_places b - limit) (next_hole b) b.sender.in_flight b.sender.top (one_if b.sender.syn_unacked) queued
+      (one_if (owes_fin b.state)) (rescue_parts b is).behind flies sent within (one_if_least (owes_fin b.state)) (ap one_if no_syn))
+    where
+      behind : (end far hole flight top syn queued fin : ℕ) → end ≤ hole → hole < flight → flight ≤ top → flight ≤ syn + queued + fin → fin ≤ 1 → syn ≡ 0
+          → end ≤ min (max far hole) (min (top - syn) queued)
+      behind end far hole flight top syn queued fin e f g h i j = omega arith
+
+  early_out : next_hole b < b.sender.in_flight → Out (min (hole_place b limit (sent_places b)) (min (sent_places b) queued))
+  early_out flies =
+      cond_both (is_rescue b) (max (sent_places b - limit) (next_hole b)) (next_hole b) (λ (n : ℕ). Out (min n (min (sent_places b) queued)))
+      (λ is. rescue_out flies is) (λ _. hole_out flies)
 
   again_out : Out (again_place b limit (sent_places b) queued)
   again_out =
       cond_both (b.sender.resend || (b.sender.in_flight == 0)) 0
-      (if b.loss.probes then min (sent_places b - limit) queued else min (next_hole b) (min (sent_places b) queued)) Out
+      (if b.loss.probes then min (sent_places b - limit) queued else min (hole_place b limit (sent_places b)) (min (sent_places b) queued)) Out
       (λ _. first_out b.loss.board.runs k.board.fine)
       (λ not.
-      cond_both b.loss.probes (min (sent_places b - limit) queued) (min (next_hole b) (min (sent_places b) queued)) Out
+      cond_both b.loss.probes (min (sent_places b - limit) queued) (min (hole_place b limit (sent_places b)) (min (sent_places b) queued)) Out
       (λ tail. none_out (min (sent_places b - limit) queued) b.loss.board.runs (k.probes tail))
-      (λ no_tail. hole_out (only b.sender.resend b.loss.probes (neither b.sender.resend (b.sender.in_flight == 0) not) no_tail
-      (right_true (sends_text b.state) (b.sender.resend || (b.loss.probes || fills_hole b)) does))))
+      (λ no_tail. early_out (goes_in b text does (neither b.sender.resend (b.sender.in_flight == 0) not) no_tail).flies))
     where
       neither : (a b : Bool) → (a || b) ≡ false → a ≡ false
       neither true b e = clash e
       neither false b e = refl
-
-      only : (resend probes : Bool) → resend ≡ false → probes ≡ false → (resend || (probes || fills_hole b)) ≡ true → fills_hole b ≡ true
-      only true probes e f g = clash e
-      only false true e f g = clash f
-      only false false e f g = g
 
   -- of what goes from there on nothing is held
   abbrev place : ℕ
@@ -441,7 +446,7 @@ module _ (cx : ContextValue) (v : TcpValue) (p : IsInOrder (sending_of v)) (t : 
     syn = λ _ a e is. another _ a e refl is;
     again = λ _ does a e is.
         subst (λ (o : OpenOffer). AreUnheld (start_of w.block o) o.len w.block.loss.board.runs) (one_offer _ a e)
-        (again_unheld w.block believes sent syn (size_limit w.block pair.addresses cx.ip_mtu) (queued_in w) within does _);
+        (again_unheld w.block believes sent syn (size_limit w.block pair.addresses cx.ip_mtu) (queued_in w) within _ does _);
     text = λ _ _ a e is. another _ a e refl is;
     last = λ _. unheld_last pair (probing cx w) none;
   }

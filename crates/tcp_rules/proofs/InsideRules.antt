@@ -21,7 +21,7 @@ use Rattle.tcp_model.specs.Arrival.{arrives}
 use Rattle.tcp_model.specs.Blocks.{one_if}
 use Rattle.tcp_model.specs.Calls.{listening, connected_by, pair_for, sent_more}
 use Rattle.tcp_model.specs.FirstNumbers.{number_for}
-use Rattle.tcp_model.specs.LossRecovery.{probe_armed, loss_lowered, loss_probed, probes_tail}
+use Rattle.tcp_model.specs.LossRecovery.{is_rescue, probe_armed, loss_lowered, loss_probed, probes_tail}
 use Rattle.tcp_model.specs.Offers.{offer_of}
 use Rattle.tcp_model.specs.Opening.{took_syn}
 use Rattle.tcp_model.specs.Retries.{asked, one_more}
@@ -137,7 +137,12 @@ module _ (cx : ContextValue) (ip : IpRepr) (header : TcpHeader) (bytes : List �
   }
     where
       heard : (by : ℕ) → Inside (timed cx.moment header u by).block
-      heard by = undone_cases u.block header by (queued_in u) cx.moment (λ (c : Block). Inside c) i.inside (λ _ _ _. least _)
+      heard by =
+          undone_cases u.block header by (queued_in u) cx.moment (λ (c : Block). Inside c) i.inside
+          (λ _ _ _. more u.block.loss.resent u.block.sender.in_flight (min u.block.sender.top (one_if u.block.sender.syn_unacked + queued_in u)) i.inside)
+        where
+          more : (n flight reach : ℕ) → n ≤ flight → n ≤ max flight reach
+          more n flight reach e = omega arith
 
       risen : (by : ℕ) → Inside (una_moved (timed cx.moment header u by).block by (queued_in u) cx.moment)
       risen by = risen_in (timed cx.moment header u by).block by (queued_in u) cx.moment (heard by)
@@ -198,7 +203,7 @@ sent_in Kind.FastRetransmission b o queued open_yet i =
     let c = moved (resent b (end_of b o)) o queued in
     later _
     (gone_in c (marked c o) o.moment _
-    (cond_both (b.reno.recovers && (b.sender.resend || not b.loss.probes)) (max b.loss.resent (end_of b o)) b.loss.resent
+    (cond_both (b.sender.resend || (b.reno.recovers && not (b.loss.probes || is_rescue b))) (max b.loss.resent (end_of b o)) b.loss.resent
     (λ (n : ℕ). n ≤ max b.sender.in_flight (past_held b (end_of b o) queued))
     (λ _.
     joined b.loss.resent b.sender.in_flight (end_of b o)

@@ -1,32 +1,35 @@
 -- What may only be late is waited for.
-use Rattle.std.proofs.Common.{◌≡◌, ℕ, ◌*◌, ◌/◌, ◌≤◌, ◌==◌, ◌&&◌, ◌||◌, nat_lt, not, min, max, ℤ, ◌<ℤ◌, ◌≤ℤ◌, int_le, Bool, true, false, if◌then◌else◌}
+use Rattle.std.proofs.Common.{◌≡◌, ℕ, ◌*◌, ◌/◌, ◌≤◌, ◌==◌, ◌&&◌, ◌||◌, nat_le, nat_lt, not, min, max, ℤ, ◌<ℤ◌, ◌≤ℤ◌, int_le, Bool, true, false, if◌then◌else◌}
 use Rattle.std.proofs.Common.{List, [], ◌∷◌, Option, Some, None, is_none, is_some, refl, sym, ap, ◌∙◌, subst, arith}
 use Rattle.std.proofs.lemmas.Bool.{cond_both}
 use Rattle.std.proofs.lemmas.Int.{ints}
 use Rattle.std.specs.Option.{option_or}
 use Rattle.ip_wire.specs.TcpHeader.{TcpHeader}
+use Rattle.net_base.specs.Ring.{Ring}
 use Rattle.tcp_control.specs.Moments.{is_due, is_over, timeout_from}
 use Rattle.tcp_control.specs.Reno as reno
 use Rattle.tcp_control.specs.Reno.{RenoValue}
 use Rattle.tcp_control.specs.RoundTrip.{RoundTripValue, late_wait, shortest, srtt}
-use Rattle.tcp_control.specs.Scoreboard.{held, is_empty}
+use Rattle.tcp_control.specs.Scoreboard.{held, is_empty, runs_end}
 use Rattle.tcp_control.specs.States.{sends_text}
+use Rattle.tcp_control.specs.declared.endpoints.AddressPair.{AddressPair}
 use Rattle.tcp_control.specs.declared.offer.OfferKind.{OfferKind}
 use Rattle.tcp_control.specs.declared.offer.OfferKind.TheVariants as Kind
 use Rattle.tcp_control.specs.declared.offer.OpenOffer.{OpenOffer}
-use Rattle.tcp_model.specs.Acknowledged.{begins_recovery, counted, is_lost_since, is_missed, is_third, late_until, ranges_taken, reno_counted}
+use Rattle.tcp_model.specs.Acknowledged.{begins_recovery, counted, is_lost_since, is_missed, is_third, late_until, may_be_missed, ranges_taken, reno_counted}
 use Rattle.tcp_model.specs.Blocks.{past_top}
-use Rattle.tcp_model.specs.LossRecovery.{all_noted, heard_more, is_lost_again, is_passed, loss_lowered, loss_moment, loss_probe_moment, probes_tail}
-use Rattle.tcp_model.specs.LossRecovery.{loss_probed, loss_probed_by, may_be_late, probe_armed, probe_from, probes_losses, with_board}
+use Rattle.tcp_model.specs.LossRecovery.{all_noted, fills_hole, goes_early, has_room, heard_more, is_lost_again, is_passed, loss_lowered, loss_moment}
+use Rattle.tcp_model.specs.LossRecovery.{loss_probe_moment, loss_probed, loss_probed_by, may_be_late, mends_credited, mends_lost, next_hole, probe_armed}
+use Rattle.tcp_model.specs.LossRecovery.{probe_from, probes_losses, probes_tail, with_board}
 use Rattle.tcp_model.specs.Retries.{asked, one_more}
-use Rattle.tcp_model.specs.Rules.{resends}
+use Rattle.tcp_model.specs.Rules.{has_text, resends, resends_beside}
 use Rattle.tcp_model.specs.Settled.{end_of, nxt_moved, probed, resent, sent_as, syn_went, timer_started, went}
 use Rattle.tcp_model.specs.Undo.{undo_sent}
 use Rattle.tcp_model.specs.Validation.{periods_ended, text_went}
 use Rattle.tcp_model.specs.declared.block.Block.{Block}
 use Rattle.tcp_model.specs.declared.block.Loss.{Loss}
 use Rattle.tcp_rules.specs.Late.{AreBefore, IsMissing, Lapses, late_moment}
-use Rattle.tcp_rules.specs.Undoing.{Between, with_one, with_all}
+use Rattle.tcp_rules.specs.Undoing.{Between, with_all}
 use Rattle.tcp_rules.specs.Undoing.Between.{Goes, Duplicates, Ranges, Probes, RunsOut}
 use Rattle.tcp_rules.proofs.OrderSteps.{clash}
 
@@ -266,19 +269,33 @@ module _ (window : RenoValue) (moment : ℤ) where
   all_wait (RunsOut ∷ more) b before w = absurd before
 
   -- nothing goes again
-  resends_not : (b : Block) → Waits window (Some moment) b → resends b ≡ false
-  resends_not b w =
-      none_of (sends_text b.state) b.sender.resend b.loss.probes b.peer.sack b.reno.recovers _ w.resend w.probes
-      w.recovers
+  resends_not : (b : Block) (text : Bool) → Waits window (Some moment) b → resends_beside b text ≡ false
+  resends_not b text w =
+      none_of (sends_text b.state) b.sender.resend b.loss.probes (fills_hole b) (goes_early b) text w.resend w.probes
+      (never b.peer.sack b.reno.recovers
+      (not b.sender.syn_unacked && (nat_lt (next_hole b) b.sender.in_flight && (mends_lost b || mends_credited b))) w.recovers)
+      early_not
     where
-      none_of : (sends resend probes sack recovers rest : Bool) → resend ≡ false → probes ≡ false → recovers ≡ false
-          → (sends && (resend || (probes || (sack && (recovers && rest))))) ≡ false
-      none_of false resend probes sack recovers rest p q r = refl
-      none_of true false false false recovers rest p q r = refl
-      none_of true false false true false rest p q r = refl
-      none_of true false false true true rest p q r = clash r
-      none_of true false true sack recovers rest p q r = clash q
-      none_of true true probes sack recovers rest p q r = clash p
+      never : (sack recovers rest : Bool) → recovers ≡ false → (sack && (recovers && rest)) ≡ false
+      never true false rest e = refl
+      never false false rest e = refl
+      never sack true rest e = clash e
+
+      early_not : goes_early b ≡ false
+      early_not =
+          ap (λ (may : Bool). (may && nat_lt (next_hole b) (runs_end b.loss.board.runs))
+          || (may && ((b.loss.rescue == 0)
+          && (nat_le (runs_end b.loss.board.runs) (next_hole b) && (b.sender.in_flight == b.sender.top)))))
+          (never b.peer.sack b.reno.recovers (not b.sender.syn_unacked && (nat_lt (next_hole b) b.sender.in_flight && has_room b)) w.recovers)
+
+      none_of : (sends resend probes hole early text : Bool) → resend ≡ false → probes ≡ false → hole ≡ false → early ≡ false
+          → (sends && (resend || (probes || (hole || (early && not text))))) ≡ false
+      none_of false resend probes hole early text p q r s = refl
+      none_of true false false false false text p q r s = refl
+      none_of true false false false true text p q r s = clash s
+      none_of true false false true early text p q r s = clash r
+      none_of true false true hole early text p q r s = clash q
+      none_of true true probes hole early text p q r s = clash p
 
   -- at the moment the recovery begins
   begins_then : (b : Block) (at : ℤ) → moment ≤ℤ at → sends_text b.state ≡ true → b.sender.syn_unacked ≡ false → (b.sender.in_flight == 0) ≡ false
@@ -331,7 +348,7 @@ module _ (b : Block) (count : ℕ) (now : ℤ) (m : IsMissing b count) where
         eager = parts.1.1;
         probes = m.probes;
         sack = parts.1.0;
-        recover = left_true (b.sender.recover == 0) _ m.missed;
+        recover = left_true (b.sender.recover == 0) _ (left_true (may_be_missed b) _ m.missed);
         resend = m.resend;
         recovers = m.recovers;
         reno = record { periods = []; same = refl };
@@ -346,10 +363,11 @@ module _ (b : Block) (count : ℕ) (now : ℤ) (m : IsMissing b count) where
       → Waits b.reno (Some (late_moment b now)) (with_all between (counted b count now))
   waiting between before = all_wait b.reno (late_moment b now) between (counted b count now) before begins
 
-pub again_not_yet : (b : Block) (count : ℕ) (now : ℤ) (between : List Between) → IsMissing b count → AreBefore (late_moment b now) between
-    → resends (with_all between (counted b count now)) ≡ false
-again_not_yet b count now between m before =
-    resends_not b.reno (late_moment b now) (with_all between (counted b count now)) (waiting b count now m between before)
+pub again_not_yet : (b : Block) (count : ℕ) (now : ℤ) (between : List Between) (addresses : AddressPair) (ip_mtu : ℕ) (queued : Ring ℕ)
+    → IsMissing b count → AreBefore (late_moment b now) between → resends (with_all between (counted b count now)) addresses ip_mtu queued ≡ false
+again_not_yet b count now between addresses ip_mtu queued m before =
+    resends_not b.reno (late_moment b now) (with_all between (counted b count now)) (has_text (with_all between (counted b count now)) addresses ip_mtu queued)
+    (waiting b count now m between before)
 
 pub window_stays : (b : Block) (count : ℕ) (now : ℤ) (between : List Between) → IsMissing b count → AreBefore (late_moment b now) between
     → Lapses b.reno (with_all between (counted b count now)).reno

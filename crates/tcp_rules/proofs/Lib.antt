@@ -30,6 +30,11 @@ pub mod ValidationRules
 pub mod AgainSteps
 pub mod AgainRules
 pub mod ApartRuns
+pub mod EarlyRules
+pub mod RescueRules
+pub mod RescueEnds
+pub mod NextSegRules
+pub mod BeginRules
 pub mod HoleRules
 pub mod WindowSteps
 pub mod WindowRules

@@ -1,5 +1,5 @@
 -- What goes again for a partial acknowledgement, when it counts as lost once more, and whether a loss is undone then.
-use Rattle.std.proofs.Common.{◌≡◌, ℕ, ◌+◌, ◌-◌, ◌*◌, ◌/◌, ◌<◌, ◌≤◌, ◌==◌, nat_le, nat_lt, not, ◌&&◌, ◌||◌, min, ℤ, Bool, true, false, if◌then◌else◌}
+use Rattle.std.proofs.Common.{◌≡◌, ℕ, ◌+◌, ◌-◌, ◌*◌, ◌/◌, ◌<◌, ◌≤◌, ◌==◌, nat_le, nat_lt, not, ◌&&◌, ◌||◌, min, max, ℤ, Bool, true, false, if◌then◌else◌}
 use Rattle.std.proofs.Common.{None, refl, sym, ap, ◌∙◌, arith}
 use Rattle.std.proofs.lemmas.Bool.{cond_both, le-leb, lt-ltb}
 use Rattle.tcp_control.specs.Scoreboard.{held_from, missing}
@@ -8,7 +8,7 @@ use Rattle.tcp_control.specs.declared.offer.OpenOffer.{OpenOffer}
 use Rattle.tcp_model.specs.Acknowledged.{begins_recovery, counted, is_lost_since, is_missed, is_partial, una_moved, una_risen}
 use Rattle.tcp_model.specs.LossRecovery.{credited_window, fills_hole, is_lost_again, is_passed, loss_lowered, may_be_late, mends_credited}
 use Rattle.tcp_model.specs.LossRecovery.{mends_lost}
-use Rattle.tcp_model.specs.LossRecovery.{next_hole, probe_armed, probe_from, probes_losses}
+use Rattle.tcp_model.specs.LossRecovery.{is_rescue, loss_probed, next_hole, probe_armed, probe_begins, probe_from, probes_losses}
 use Rattle.tcp_model.specs.Rules.{backed_off_now}
 use Rattle.tcp_model.specs.Settled.{end_of, nxt_moved, resent, sent_as, timer_started}
 use Rattle.tcp_model.specs.Undo.{undo_begun, undo_sent, window_kept}
@@ -139,3 +139,20 @@ recovery_stays b count now calm again begins = ap (λ (t : Bool). if t then undo
 pub timeout_stays : (b : Block) → b.sender.syn_unacked ≡ false → (b.reno.recovers || b.reno.timed_out) ≡ false → (b.loss.resent == 0) ≡ false
     → (backed_off_now b).loss.undo ≡ None
 timeout_stays b syn calm again = ap (λ (t : Bool). if t then None else undo_begun b) syn ∙ not_kept b calm again
+
+pub probe_stays : (b : Block) → (b.reno.recovers || b.reno.timed_out) ≡ false → (b.loss.resent == 0) ≡ false → probe_begins b ≡ true
+    → (loss_probed b).loss.undo ≡ None
+probe_stays b calm again begins = ap (λ (t : Bool). if t then undo_begun b else b.loss.undo) begins ∙ not_kept b calm again
+
+armed_resent : (b : Block) (l : Loss) (now : ℤ) → (probe_armed b l now).resent ≡ l.resent
+armed_resent b l now =
+    cond_both (probes_losses b && not l.probed) (record l { probe_at = probe_from b now }) l (λ (m : Loss). m.resent ≡ l.resent) (λ _. refl) (λ _. refl)
+
+pub first_noted : (b : Block) (o : OpenOffer) (queued : ℕ) → b.sender.resend ≡ true
+    → (sent_as Kind.FastRetransmission b o queued).loss.resent ≡ max b.loss.resent (end_of b o)
+first_noted b o queued first =
+    armed_resent c (record c.loss { undo = undo_sent c c.loss.undo o.moment }) o.moment
+    ∙ ap (λ (t : Bool). if t || (b.reno.recovers && not (b.loss.probes || is_rescue b)) then max b.loss.resent (end_of b o) else b.loss.resent) first
+  where
+    c : Block
+    c = timer_started (nxt_moved (resent b (end_of b o)) (end_of b o) queued o.moment) o.moment

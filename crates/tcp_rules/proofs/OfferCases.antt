@@ -47,7 +47,7 @@ module _ (cx : ContextValue) (pair : EndpointPair) (Q : Offered TcpValue → Typ
 
   pub record FirstRules (w : TcpValue) : Type 0 where
     pub syn : owes_syn w.block ≡ true → Q (offer_syn cx w pair)
-    pub again : owes_syn w.block ≡ false → resends w.block ≡ true →
+    pub again : owes_syn w.block ≡ false → resends w.block pair.addresses cx.ip_mtu w.queued ≡ true →
         Q (offer_choice Kind.FastRetransmission cx w pair (resend_choice w.block pair.addresses cx.ip_mtu w.queued))
     pub text :
         owes_syn w.block ≡ false → has_text w.block pair.addresses cx.ip_mtu w.queued ≡ true
@@ -86,13 +86,15 @@ module _ (cx : ContextValue) (pair : EndpointPair) (Q : Offered TcpValue → Typ
   pub by_first : (w : TcpValue) → FirstRules w → Q (first_rules cx w pair)
   by_first w r =
       cond_both (owes_syn w.block) (offer_syn cx w pair)
-      (if resends w.block then offer_choice Kind.FastRetransmission cx w pair (resend_choice w.block pair.addresses cx.ip_mtu w.queued)
+      (if resends w.block pair.addresses cx.ip_mtu w.queued
+      then offer_choice Kind.FastRetransmission cx w pair (resend_choice w.block pair.addresses cx.ip_mtu w.queued)
       else if has_text w.block pair.addresses cx.ip_mtu w.queued then offer_choice Kind.Text cx w pair (text_choice w.block pair.addresses cx.ip_mtu w.queued)
       else last_rules cx (probing cx w) pair)
       Q
       (λ syn. r.syn syn)
       (λ no_syn.
-      cond_both (resends w.block) (offer_choice Kind.FastRetransmission cx w pair (resend_choice w.block pair.addresses cx.ip_mtu w.queued))
+      cond_both (resends w.block pair.addresses cx.ip_mtu w.queued)
+      (offer_choice Kind.FastRetransmission cx w pair (resend_choice w.block pair.addresses cx.ip_mtu w.queued))
       (if has_text w.block pair.addresses cx.ip_mtu w.queued then offer_choice Kind.Text cx w pair (text_choice w.block pair.addresses cx.ip_mtu w.queued)
       else last_rules cx (probing cx w) pair)
       Q

@@ -166,13 +166,13 @@ module _ (cx : ContextValue) (pair : EndpointPair) where
       let text = text_choice v.block pair.addresses cx.ip_mtu v.queued in
       let probing = with_block v (probe_started cx.moment (queued_in v) v.block) in
       cond_both (owes_syn v.block) (offer_syn cx v pair)
-      (if resends v.block then offer_choice Kind.FastRetransmission cx v pair again
+      (if resends v.block pair.addresses cx.ip_mtu v.queued then offer_choice Kind.FastRetransmission cx v pair again
       else if has_text v.block pair.addresses cx.ip_mtu v.queued then offer_choice Kind.Text cx v pair text
       else last_rules cx probing pair)
       (Sound old)
       (λ _. by_segment old v Kind.Syn (syn_segment v.block pair cx.moment cx.ip_mtu (room_of v.received) (free_in v)) 0 0 goes (λ e. no_bare e))
       (λ _.
-      cond_both (resends v.block) (offer_choice Kind.FastRetransmission cx v pair again)
+      cond_both (resends v.block pair.addresses cx.ip_mtu v.queued) (offer_choice Kind.FastRetransmission cx v pair again)
       (if has_text v.block pair.addresses cx.ip_mtu v.queued then offer_choice Kind.Text cx v pair text else last_rules cx probing pair)
       (Sound old)
       (λ _.

@@ -508,7 +508,7 @@ connected_paced : (v : TcpValue) (names : Option EndpointPair) (number : ℕ) �
 connected_paced v None number p = p
 connected_paced v (Some pair) number p = fresh_paced In.SynSent v.block.settings.congestion_control 0 v.block.settings.min_rto
 
-event_paced : (v : TcpValue) (it : Event) → IsInOrder (sending_of v) → IsPaced (recovery_of v.block) → IsPaced (recovery_of (after v it).block)
+pub event_paced : (v : TcpValue) (it : Event) → IsInOrder (sending_of v) → IsPaced (recovery_of v.block) → IsPaced (recovery_of (after v it).block)
 event_paced v (Comes cx ip header bytes) p k = paced_arrival cx ip header bytes v k
 event_paced v (Asked cx true) p k =
     let it = paced_offer cx v p k in settled_paced (offer_of cx v).socket.offered (unoffered (offer_of cx v).socket) it.1 it.0
@@ -540,6 +540,9 @@ led_paced v (it ∷ more) p k = led_paced (after v it) more (event_order v it p)
 
 run_paced : (capacity : ℕ) (queued : Ring ℕ) (events : List Event) → IsPaced (recovery_of (led (new_socket capacity queued) events).block)
 run_paced capacity queued events = led_paced (new_socket capacity queued) events (new_order capacity queued) (fresh_paced In.Closed Avoids.Reno 0 1_000_000)
+
+pub new_paced : (capacity : ℕ) (queued : Ring ℕ) → IsPaced (recovery_of (new_socket capacity queued).block)
+new_paced capacity queued = fresh_paced In.Closed Avoids.Reno 0 1_000_000
 
 pub led_lasts : (capacity : ℕ) (queued : Ring ℕ) (events : List Event)
     → (led (new_socket capacity queued) events).block.reno.recovers ≡ true → 1 ≤ (led (new_socket capacity queued) events).block.sender.recover

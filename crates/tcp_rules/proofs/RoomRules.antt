@@ -3,7 +3,6 @@ use Rattle.std.proofs.Common.{◌≡◌, ◌≢◌, ◌⊎◌, inl, inr, ⊎_eli
 use Rattle.std.proofs.Common.{if◌then◌else◌, Some, None, refl, sym, ap, ◌∙◌, subst, arith}
 use Rattle.std.proofs.lemmas.Bool.{cond_both, eqb-true, eqb-false, leb-true}
 use Rattle.tcp_control.specs.Scoreboard.{missing}
-use Rattle.tcp_control.specs.States.{sends_text}
 use Rattle.tcp_control.specs.declared.endpoints.EndpointPair.{EndpointPair}
 use Rattle.tcp_control.specs.declared.offer.OfferKind.{OfferKind}
 use Rattle.tcp_control.specs.declared.offer.OfferKind.TheVariants as Kind
@@ -12,12 +11,13 @@ use Rattle.tcp_model.specs.BaseOffers.{Offered}
 use Rattle.tcp_model.specs.Context.{ContextValue}
 use Rattle.tcp_model.specs.LossRecovery.{pipe, next_hole, credited_window, mends_lost, mends_credited, fills_hole, is_lost_at, loss_probed}
 use Rattle.tcp_model.specs.Offers.{offer_of}
-use Rattle.tcp_model.specs.Rules.{size_limit, congestion_limit, beyond, congestion_room, window_limit, next_place, resends, backed_off_now}
+use Rattle.tcp_model.specs.Rules.{size_limit, congestion_limit, beyond, congestion_room, window_limit, next_place, resends_beside, backed_off_now}
 use Rattle.tcp_model.specs.Value.{TcpValue, with_block, unoffered, queued_in}
 use Rattle.tcp_model.specs.declared.block.Block.{Block}
 use Rattle.tcp_model.specs.declared.block.CongestionControl.{CongestionControl}
 use Rattle.tcp_model.specs.declared.block.CongestionControl.TheVariants as Avoids
 use Rattle.tcp_rules.specs.Room.{is_limited, HasRoom, HasHoleRoom}
+use Rattle.tcp_rules.proofs.EarlyRules.{early_may, early_room, which}
 use Rattle.tcp_rules.proofs.OfferCases.{Rules, FirstRules, LastRules, by_rules, begun, probing}
 use Rattle.tcp_rules.proofs.OrderSteps.{clash}
 
@@ -132,11 +132,9 @@ hole_room b fills =
         half : (n w : ℕ) → n ≤ w / 2 → n ≤ w
         half n w e = omega arith
 
-again_room : (b : Block) → resends b ≡ true → b.sender.resend ≡ false → b.loss.probes ≡ false → HasHoleRoom b
-again_room b does resend probes =
-    hole_room b
-    (sym (ap (λ (t : Bool). t || (b.loss.probes || fills_hole b)) resend ∙ ap (λ (t : Bool). t || fills_hole b) probes)
-    ∙ right_true (sends_text b.state) (b.sender.resend || (b.loss.probes || fills_hole b)) does)
+again_room : (b : Block) (text : Bool) → resends_beside b text ≡ true → b.sender.resend ≡ false → b.loss.probes ≡ false → HasHoleRoom b
+again_room b text does resend probes =
+    ⊎_elim (λ fills. hole_room b fills) (λ last. inl (early_room b (early_may b last.0))) (which b text does resend probes)
 
 -- AN OFFER
 
@@ -181,7 +179,7 @@ module _ (cx : ContextValue) (v : TcpValue) where
   first : (pair : EndpointPair) (w : TcpValue) → w.offered ≡ None → FirstRules cx pair FitsOffer w
   first pair w none = record {
     syn = λ _ a e. same w.block _ a e (λ is. clash (sym is), λ is. clash (sym is));
-    again = λ _ does a e. same w.block _ a e (λ is. clash (sym is), λ _ resend probes. again_room w.block does resend probes);
+    again = λ _ does a e. same w.block _ a e (λ is. clash (sym is), λ _ resend probes. again_room w.block _ does resend probes);
     text = λ _ _ a e.
         same w.block _ a e
         (λ _ on. text_room w.block (min (size_limit w.block pair.addresses cx.ip_mtu) (queued_in w - next_place w.block)) on, λ is. clash (sym is));

@@ -66,7 +66,7 @@ module _ (cx : ContextValue) (received : Received) (queue free elsewhere : List 
   same_first : (b : Block) (offered : Option OpenOffer) (pair : EndpointPair) → Same (first_rules cx (first b offered) pair) (first_rules cx (second b offered) pair)
   same_first b offered pair =
       same_if (owes_syn b) _ _ _ _ (both _ _ refl refl refl refl refl)
-      (same_if (resends b) _ _ _ _ (both _ _ refl refl refl refl refl)
+      (same_if (resends b pair.addresses cx.ip_mtu (ring queue free start)) _ _ _ _ (both _ _ refl refl refl refl refl)
       (same_if (has_text b pair.addresses cx.ip_mtu (ring queue free start)) _ _ _ _ (both _ _ refl refl refl refl refl)
       (same_last (probe_started cx.moment (length queue) b) offered pair)))
 

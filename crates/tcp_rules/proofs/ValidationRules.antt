@@ -1,5 +1,5 @@
 -- Congestion window validation.
-use Rattle.std.proofs.Common.{◌≡◌, ℕ, zero, suc, ◌+◌, ◌-◌, ◌*◌, ◌/◌, ◌^◌, ◌<◌, ◌≤◌, ◌==◌, nat_le, nat_lt, ◌&&◌, ◌||◌, not, min, max, ℤ, pos, ◌+ℤ◌, ◌-ℤ◌, ◌<ℤ◌, ◌≤ℤ◌}
+use Rattle.std.proofs.Common.{◌≡◌, ℕ, zero, suc, ◌+◌, ◌-◌, ◌*◌, ◌/◌, ◌^◌, ◌<◌, ◌≤◌, ◌==◌, nat_le, ◌&&◌, ◌||◌, not, min, max, ℤ, pos, ◌+ℤ◌, ◌-ℤ◌, ◌<ℤ◌, ◌≤ℤ◌}
 use Rattle.std.proofs.Common.{int_lt, unsigned_abs, Bool, true, false, if◌then◌else◌, Option, Some, None, refl, sym, ap, ◌∙◌, subst, arith}
 use Rattle.std.proofs.lemmas.Bool.{cond_both, eqb-true, lt-ltb, ne_eqb}
 use Rattle.std.proofs.lemmas.Bool.Decides.{nat_tests}
@@ -11,9 +11,9 @@ use Rattle.tcp_control.specs.Reno.{RenoValue, first_window, lapsed}
 use Rattle.tcp_control.specs.declared.offer.OfferKind.{OfferKind}
 use Rattle.tcp_control.specs.declared.offer.OfferKind.TheVariants as Kind
 use Rattle.tcp_control.specs.declared.offer.OpenOffer.{OpenOffer}
-use Rattle.tcp_model.specs.Acknowledged.{una_moved, acks_own_syn, acks_in_recovery, recovery_after, freed_by, srtt_after, reno_after}
+use Rattle.tcp_model.specs.Acknowledged.{una_moved, acks_in_recovery, recovery_after, freed_by, srtt_after}
 use Rattle.tcp_model.specs.Settled.{end_of, recorded, sent_as, sent_off, settled}
-use Rattle.tcp_model.specs.Validation.{grown_if_used, is_used, periods, validates}
+use Rattle.tcp_model.specs.Validation.{grown_if_used, is_used, periods}
 use Rattle.tcp_model.specs.Value.{TcpValue, queued_in, room_of, unoffered}
 use Rattle.tcp_model.specs.declared.block.Block.{Block}
 use Rattle.tcp_rules.specs.Validation.{IsNewText, IsPast, IsWithin}

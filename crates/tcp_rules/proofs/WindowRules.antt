@@ -58,7 +58,7 @@ use Rattle.tcp_rules.proofs.CongestionRules.{unnamed}
 use Rattle.tcp_rules.proofs.OfferCases.{Rules, FirstRules, LastRules, by_rules, begun, probing}
 use Rattle.tcp_rules.proofs.OrderSteps.{clash}
 use Rattle.tcp_rules.proofs.OrderRules.{event_order, new_order}
-use Rattle.tcp_rules.proofs.WindowSteps.{Fair, fair_fresh, fair_named, fair_started, Still, fair_reduced, fair_timed_out, fair_partly, fair_recovered}
+use Rattle.tcp_rules.proofs.WindowSteps.{Fair, fair_fresh, fair_named, fair_started, fair_reduced, fair_timed_out, fair_partly, fair_recovered}
 use Rattle.tcp_rules.proofs.WindowSteps.{fair_counted, fair_acknowledged, fair_preserved, fair_lapsed, reduced_mss}
 
 -- BLOCKS
@@ -156,7 +156,8 @@ acked_reno_fair : (b : Block) (by queued : ℕ) (now : ℤ) → Fair (not b.send
     → AckedFair b by (reno_after b by queued now)
 acked_reno_fair b by queued now f =
     let grown = grown_if_used b (freed_by b by queued) now (srtt_after b by now) in
-    cond_both (acks_own_syn b by) (reno.started b.reno b.sender.syn_lost) (if acks_in_recovery b by then recovery_after b by queued else grown) (AckedFair b by)
+    cond_both (acks_own_syn b by) (reno.started b.reno b.sender.syn_lost)
+    (if acks_in_recovery b by then recovery_after b by queued else grown) (AckedFair b by)
     (λ _. begun_fair)
     (λ acks.
     whole_on b.sender.syn_unacked by (runs_cubic b.settings.congestion_control) b.reno.mss

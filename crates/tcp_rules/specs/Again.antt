@@ -10,7 +10,7 @@ use Rattle.tcp_model.specs.Acknowledged.{una_moved, ranges_taken, duplicates_aft
 use Rattle.tcp_model.specs.Arrival.{echo_heard}
 use Rattle.tcp_model.specs.Checks.{Check, acknowledgement_check}
 use Rattle.tcp_model.specs.Checks.Check.{Passes}
-use Rattle.tcp_model.specs.LossRecovery.{loss_probe_moment}
+use Rattle.tcp_model.specs.LossRecovery.{loss_probe_moment, is_rescue}
 use Rattle.tcp_model.specs.Offers.{offer_of}
 use Rattle.tcp_model.specs.Settled.{end_of}
 use Rattle.tcp_model.specs.Value.{TcpValue, queued_in}
@@ -56,9 +56,9 @@ abbrev pub offering : TcpValue → Event → Block
 offering v (Asked cx sent) = (offer_of cx v).socket.block
 offering v other = v.block
 
--- it mends a loss: it goes again, and isn't the last segment as a probe
+-- it mends a loss: it goes again, and isn't the last segment, as a probe or as a rescue
 abbrev pub mends : Block → OfferKind → Bool
-mends b Kind.FastRetransmission = b.sender.resend || not b.loss.probes
+mends b Kind.FastRetransmission = b.sender.resend || not (b.loss.probes || is_rescue b)
 mends b other = false
 
 abbrev pub is_text : OfferKind → Bool

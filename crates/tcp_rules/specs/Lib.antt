@@ -18,6 +18,7 @@ pub mod Undoing
 pub mod Losses
 pub mod Late
 pub mod Again
+pub mod Early
 pub mod Unheld
 pub mod Windows
 pub mod Room

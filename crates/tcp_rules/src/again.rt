@@ -13,7 +13,7 @@ ghost use Rattle.tcp_rules.specs.Timing.{start_of};
 ghost use Rattle.tcp_rules.specs.Unheld.{AreUnheld};
 
 /// Of each socket that events lead to: what goes again isn't held by the remote, as far as that said so, be it the segment at SND.UNA, the
-/// next hole or the last segment as a probe. Nor is the first byte of text, which after a timeout may go again, too; behind that it may run
+/// next hole, or the last segment as a probe or as a rescue. Nor is the first byte of text, which after a timeout may go again, too; behind that it may run
 /// into what is held. The FIN may go with the bytes before it, or alone behind them, though it is held itself.
 pub fn what_goes_again_is_not_held()
     ensures again { (capacity : ℕ) (queued : Ring ℕ) (events : List Event) (cx : ContextValue) (o : OpenOffer)
@@ -31,8 +31,8 @@ pub fn what_goes_again_is_not_held()
 /// No position goes again twice for one loss, nor as text for one timeout: whatever comes, however a socket is asked and whatever its
 /// user calls, a segment that mends a loss begins where what went again since the last loss was told ends, or behind, and text where
 /// text ends that went since the timer ran out last. A loss is told where a recovery begins, where what went again is lost once more,
-/// by a third duplicate after a timeout, by the timer and by a loss probe. The probe itself, the last segment, is none of these: it goes once
-/// for each piece of news.
+/// by a third duplicate after a timeout, by the timer and by a loss probe. The last segment is none of these: as a probe it goes once for
+/// each piece of news, as a rescue once in a recovery.
 pub fn a_position_goes_again_once_for_each_loss()
     ensures once { (capacity : ℕ) (queued : Ring ℕ) (events : List Event) → GoOnce (new_socket capacity queued) no_marks events }
 {}

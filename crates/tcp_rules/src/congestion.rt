@@ -1,12 +1,19 @@
-//! The congestion window after a timeout.
+//! The congestion window after a timeout, and the one that a connection begins with.
 
-ghost use Rattle.std.specs.Prelude.{◌≡◌, ℕ, true, false, List, Some};
+ghost use Rattle.std.specs.Prelude.{◌≡◌, ℕ, ℤ, true, false, List, Some};
 ghost use Rattle.net_base.specs.Ring.{Ring};
 ghost use Rattle.tcp_model.specs.Context.{ContextValue};
 ghost use Rattle.tcp_control.specs.Moments.{is_due};
+ghost use Rattle.tcp_control.specs.Reno.{first_window};
 ghost use Rattle.tcp_control.specs.declared.endpoints.EndpointPair.{EndpointPair};
+ghost use Rattle.tcp_control.specs.declared.offer.OfferKind.TheVariants as Kind;
+ghost use Rattle.tcp_control.specs.declared.offer.OpenOffer.{OpenOffer};
+ghost use Rattle.tcp_model.specs.Acknowledged.{acks_own_syn, una_moved};
 ghost use Rattle.tcp_model.specs.Offers.{offer_of};
+ghost use Rattle.tcp_model.specs.Rules.{backed_off_now};
+ghost use Rattle.tcp_model.specs.Settled.{sent_as};
 ghost use Rattle.tcp_model.specs.Value.{TcpValue, new_socket};
+ghost use Rattle.tcp_model.specs.declared.block.Block.{Block};
 ghost use Rattle.tcp_rules.specs.Congestion.{IsHeld, control_of, renews, StaysOut};
 ghost use Rattle.tcp_rules.specs.Ends.{GoesOn};
 ghost use Rattle.tcp_rules.specs.Events.{Event, led};
@@ -23,4 +30,15 @@ pub fn the_window_after_a_timeout_is_one_segment()
         → (offer_of cx v).socket.block.reno.timed_out ≡ true }
     ensures stays { (v : TcpValue) (it : Event) → IsInOrder (sending_of v) → IsHeld (control_of v.block) → renews it ≡ false
         → v.block.reno.timed_out ≡ true → StaysOut v it }
+{}
+
+/// A connection begins with ten segments, as far as RFC 6928, 2, lets it, and with one where the timer of its SYN ran out: so it had to go
+/// again (RFC 5681, 3.1).
+pub fn a_connection_begins_with_one_segment_where_a_syn_was_lost()
+    ensures first { (b : Block) (by queued : ℕ) (now : ℤ) → acks_own_syn b by ≡ true → b.sender.syn_lost ≡ false
+        → (una_moved b by queued now).reno.cwnd ≡ first_window b.reno.mss }
+    ensures one { (b : Block) (by queued : ℕ) (now : ℤ) → acks_own_syn b by ≡ true → b.sender.syn_lost ≡ true
+        → (una_moved b by queued now).reno.cwnd ≡ b.reno.mss }
+    ensures noted { (b : Block) → b.sender.syn_unacked ≡ true → (backed_off_now b).sender.syn_lost ≡ true }
+    ensures leaves { (b : Block) (o : OpenOffer) (queued : ℕ) → (sent_as Kind.Syn b o queued).sender.syn_lost ≡ b.sender.syn_lost }
 {}

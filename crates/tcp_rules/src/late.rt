@@ -1,10 +1,13 @@
 //! What may only be late is waited for (RFC 8985, 6.2).
 
 ghost use Rattle.std.specs.Prelude.{◌≡◌, ◌≤◌, ◌*◌, ◌==◌, ◌||◌, ◌≤ℤ◌, ℕ, ℤ, Bool, true, false, List, None};
+ghost use Rattle.ip_wire.specs.TcpHeader.{TcpHeader};
+ghost use Rattle.net_base.specs.Ring.{Ring};
 ghost use Rattle.tcp_control.specs.Reno.{reduced};
 ghost use Rattle.tcp_control.specs.RoundTrip.{RoundTripValue, late_wait, srtt};
 ghost use Rattle.tcp_control.specs.Scoreboard.{is_empty};
 ghost use Rattle.tcp_control.specs.States.{sends_text};
+ghost use Rattle.tcp_control.specs.declared.endpoints.AddressPair.{AddressPair};
 ghost use Rattle.tcp_control.specs.declared.offer.OfferKind.TheVariants as Kind;
 ghost use Rattle.tcp_control.specs.declared.offer.OpenOffer.{OpenOffer};
 ghost use Rattle.tcp_model.specs.Acknowledged.{begins_recovery, counted, is_lost_since, is_missed};
@@ -12,6 +15,7 @@ ghost use Rattle.tcp_model.specs.Blocks.{past_top};
 ghost use Rattle.tcp_model.specs.LossRecovery.{loss_lowered, loss_probed_by};
 ghost use Rattle.tcp_model.specs.Rules.{backed_off_now, resends};
 ghost use Rattle.tcp_model.specs.Settled.{sent_as};
+ghost use Rattle.tcp_model.specs.Undone.{undone};
 ghost use Rattle.tcp_model.specs.declared.block.Block.{Block};
 ghost use Rattle.tcp_model.specs.declared.block.Loss.{Loss};
 ghost use Rattle.tcp_rules.specs.Late.{AreBefore, IsMissing, Lapses, late_moment, trips};
@@ -20,8 +24,9 @@ ghost use Rattle.tcp_rules.specs.Undoing.{Between, with_all};
 /// Once a segment came late, a segment that duplicates or ranges say is missing doesn't go again until a moment that is set once, whatever
 /// goes and comes before it, and no loss halves the congestion window. Where SND.UNA rises until then nothing was lost, and nothing went again.
 pub fn what_may_be_late_is_waited_for()
-    ensures again { (b : Block) (count : ℕ) (now : ℤ) (between : List Between) → IsMissing b count → AreBefore (late_moment b now) between
-        → resends (with_all between (counted b count now)) ≡ false }
+    ensures again { (b : Block) (count : ℕ) (now : ℤ) (between : List Between) (addresses : AddressPair) (ip_mtu : ℕ) (queued : Ring ℕ)
+        → IsMissing b count → AreBefore (late_moment b now) between
+        → resends (with_all between (counted b count now)) addresses ip_mtu queued ≡ false }
     ensures window { (b : Block) (count : ℕ) (now : ℤ) (between : List Between) → IsMissing b count → AreBefore (late_moment b now) between
         → Lapses b.reno (with_all between (counted b count now)).reno }
 {}
@@ -54,4 +59,13 @@ pub fn nothing_waits_where_nothing_came_late()
     ensures went { (b : Block) (o : OpenOffer) (queued : ℕ) → (sent_as Kind.FastRetransmission b o queued).loss.mark ≡ b.sender.top }
     ensures out { (b : Block) → (backed_off_now b).loss.mark ≡ b.sender.top }
     ensures late { (l : Loss) (by : ℕ) (partial : Bool) → l.mark ≡ 0 → is_empty l.board.runs ≡ false → 1 ≤ (loss_lowered l by partial).patience }
+{}
+
+/// Patience rises only where a recovery was undone that began while something was held, so something that was sent later came earlier: at no
+/// other undo, as of a recovery without ranges or of the timer (RFC 8985, 6.2, step 4).
+pub fn patience_rises_only_where_something_was_held()
+    ensures empty { (b : Block) (header : TcpHeader) (by queued : ℕ) (now : ℤ) → is_empty b.loss.board.runs ≡ true
+        → (undone b header by queued now).loss.patience ≡ b.loss.patience }
+    ensures outside { (b : Block) (header : TcpHeader) (by queued : ℕ) (now : ℤ) → b.reno.recovers ≡ false
+        → (undone b header by queued now).loss.patience ≡ b.loss.patience }
 {}

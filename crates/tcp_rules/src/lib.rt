@@ -5,6 +5,7 @@ pub mod acks;
 pub mod again;
 pub mod bare;
 pub mod congestion;
+pub mod early;
 pub mod edges;
 pub mod flight;
 pub mod forged;

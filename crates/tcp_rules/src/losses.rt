@@ -1,15 +1,17 @@
 //! What a socket believes of its losses.
 
-ghost use Rattle.std.specs.Prelude.{◌≡◌, ◌≤◌, ◌<◌, ◌+◌, ◌-◌, ◌*◌, ◌/◌, ◌==◌, ◌||◌, ℕ, ℤ, min, true, false, List, None};
+ghost use Rattle.std.specs.Prelude.{◌≡◌, ◌≤◌, ◌<◌, ◌+◌, ◌-◌, ◌*◌, ◌/◌, ◌==◌, ◌||◌, ℕ, ℤ, min, max, true, false, List, None};
+ghost use Rattle.ip_wire.specs.TcpHeader.{TcpHeader};
 ghost use Rattle.net_base.specs.Ring.{Ring};
 ghost use Rattle.tcp_control.specs.Scoreboard.{held_from, missing};
 ghost use Rattle.tcp_control.specs.declared.offer.OfferKind.{OfferKind};
 ghost use Rattle.tcp_control.specs.declared.offer.OfferKind.TheVariants as Kind;
 ghost use Rattle.tcp_control.specs.declared.offer.OpenOffer.{OpenOffer};
 ghost use Rattle.tcp_model.specs.Acknowledged.{is_partial, una_moved, begins_recovery, counted};
-ghost use Rattle.tcp_model.specs.LossRecovery.{loss_moment, loss_probed, next_hole, fills_hole, is_lost_again};
+ghost use Rattle.tcp_model.specs.LossRecovery.{loss_moment, loss_probed, probe_begins, next_hole, fills_hole, is_lost_again};
 ghost use Rattle.tcp_model.specs.Rules.{backed_off_now};
-ghost use Rattle.tcp_model.specs.Settled.{sent_as};
+ghost use Rattle.tcp_model.specs.Settled.{end_of, sent_as};
+ghost use Rattle.tcp_model.specs.Undone.{undone};
 ghost use Rattle.tcp_model.specs.Value.{new_socket};
 ghost use Rattle.tcp_model.specs.declared.block.Block.{Block};
 ghost use Rattle.tcp_rules.specs.Events.{Event, led};
@@ -51,10 +53,17 @@ pub fn what_went_later_says_that_what_went_again_is_lost()
         → 2 * b.reno.mss < held_from b.loss.board.runs b.sender.recover → begins_recovery b count ≡ true }
 {}
 
-/// No loss is undone while something that went again before it began is on its way: what is acknowledged may be that.
+/// No loss is undone, of a recovery, of the timer or of a probe, where what stands at SND.UNA went again before: what is acknowledged next may
+/// answer that (RFC 3522, 3.2; RFC 4015, 3.2). What went again stays known behind an undo, too, and the segment at SND.UNA that goes again
+/// counts also where no recovery is.
 pub fn no_loss_is_undone_while_an_earlier_resend_is_on_its_way()
     ensures recovery { (b : Block) (count : ℕ) (now : ℤ) → (b.reno.recovers || b.reno.timed_out) ≡ false → (b.loss.resent == 0) ≡ false
         → begins_recovery b count ≡ true → (counted b count now).loss.undo ≡ None }
     ensures timeout { (b : Block) → b.sender.syn_unacked ≡ false → (b.reno.recovers || b.reno.timed_out) ≡ false → (b.loss.resent == 0) ≡ false
         → (backed_off_now b).loss.undo ≡ None }
+    ensures probe { (b : Block) → (b.reno.recovers || b.reno.timed_out) ≡ false → (b.loss.resent == 0) ≡ false → probe_begins b ≡ true
+        → (loss_probed b).loss.undo ≡ None }
+    ensures known { (b : Block) (header : TcpHeader) (by queued : ℕ) (now : ℤ) → (undone b header by queued now).loss.resent ≡ b.loss.resent }
+    ensures noted { (b : Block) (o : OpenOffer) (queued : ℕ) → b.sender.resend ≡ true
+        → (sent_as Kind.FastRetransmission b o queued).loss.resent ≡ max b.loss.resent (end_of b o) }
 {}
