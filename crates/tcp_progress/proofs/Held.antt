@@ -74,7 +74,7 @@ most_some b none window cwnd = by b.settings.congestion_control where
   by Congestion.None = alone b.peer.window b.sender.in_flight none window
   by other = less b.reno.cwnd (congestion_room b) b.peer.window b.sender.in_flight (room b none) cwnd none window
 
-module _ (cx : ContextValue) (v : TcpValue) (pair : EndpointPair) (b : Block) (s : StartsWith cx v b) where
+module _ (cx : ContextValue) (v : TcpValue) (pair : EndpointPair) (b : Block) (s : StartsWith cx v pair b) where
   abbrev all : ℕ
   all = queued_in v
 
@@ -256,8 +256,8 @@ pub record IsSet (cx : ContextValue) (pair : EndpointPair) (v x : TcpValue) : Ty
   pub past_iss : x.block.sender.past_iss ≡ v.block.sender.past_iss
   pub names : x.block.names ≡ v.block.names
   pub queued : x.queued ≡ v.queued
-  pub again : resends x.block ≡ true → 1 ≤ x.block.sender.top
-  pub set : (resends x.block ≡ true) ⊎ ((has_text x.block pair.addresses cx.ip_mtu v.queued ≡ true)
+  pub again : resends x.block pair.addresses cx.ip_mtu v.queued ≡ true → 1 ≤ x.block.sender.top
+  pub set : (resends x.block pair.addresses cx.ip_mtu v.queued ≡ true) ⊎ ((has_text x.block pair.addresses cx.ip_mtu v.queued ≡ true)
       ⊎ (is_probing x.block (queued_in v) ≡ true → is_some x.block.timers.probe_at ≡ true))
 
 -- of another with the same block
@@ -270,11 +270,11 @@ of_block cx pair v x y s e q = record {
   past_iss = ap (λ (b : Block). b.sender.past_iss) e ∙ s.past_iss;
   names = ap (λ (b : Block). b.names) e ∙ s.names;
   queued = q;
-  again = subst (λ (b : Block). resends b ≡ true → 1 ≤ b.sender.top) (sym e) s.again;
+  again = subst (λ (b : Block). resends b pair.addresses cx.ip_mtu v.queued ≡ true → 1 ≤ b.sender.top) (sym e) s.again;
   set =
       subst
       (λ (b : Block).
-      (resends b ≡ true) ⊎ ((has_text b pair.addresses cx.ip_mtu v.queued ≡ true)
+      (resends b pair.addresses cx.ip_mtu v.queued ≡ true) ⊎ ((has_text b pair.addresses cx.ip_mtu v.queued ≡ true)
       ⊎ (is_probing b (queued_in v) ≡ true → is_some b.timers.probe_at ≡ true)))
       (sym e) s.set;
 }
@@ -293,13 +293,13 @@ set_probe now all b probes = by b.timers.probe_at refl where
       ap (λ (t : Bool). is_some (if t then Some (timeout_from now b.round_trip) else b.timers.probe_at)) (unset ∙ ap is_none e) ∙ ap is_some e
 
 module _ (cx : ContextValue) (v : TcpValue) (pair : EndpointPair) (named : v.block.names.pair ≡ Some pair) (m : Starts cx v)
-    (sends : sends_text v.block.state ≡ true) (sent : resends v.block ≡ true → 1 ≤ v.block.sender.top)
+    (sends : sends_text v.block.state ≡ true) (sent : resends v.block pair.addresses cx.ip_mtu v.queued ≡ true → 1 ≤ v.block.sender.top)
     (runs : is_due cx.moment v.block.timers.retransmit_at ≡ false → v.block.timers.retransmit_at ≡ None) where
   abbrev Set : Offered TcpValue → Type 0
   Set o = IsSet cx pair v o.socket
 
   set_first :
-      (b : Block) (s : StartsWith cx v b) → b.timers.retransmit_at ≡ None → b.state ≡ v.block.state
+      (b : Block) (s : StartsWith cx v pair b) → b.timers.retransmit_at ≡ None → b.state ≡ v.block.state
       → b.sender.syn_unacked ≡ v.block.sender.syn_unacked → b.sender.past_iss ≡ v.block.sender.past_iss → b.names ≡ v.block.names
       → Set (first_rules cx (with_block (unoffered v) b) pair)
   set_first b s timer state syn past names =
@@ -326,8 +326,8 @@ module _ (cx : ContextValue) (v : TcpValue) (pair : EndpointPair) (named : v.blo
       here :
           (b : Block) → b.sender.in_flight ≡ 0 → b.timers.retransmit_at ≡ None → b.state ≡ v.block.state
           → b.sender.syn_unacked ≡ v.block.sender.syn_unacked → b.sender.past_iss ≡ v.block.sender.past_iss → b.names ≡ v.block.names
-          → (resends b ≡ true → 1 ≤ b.sender.top)
-          → (resends b ≡ true) ⊎ ((has_text b pair.addresses cx.ip_mtu v.queued ≡ true)
+          → (resends b pair.addresses cx.ip_mtu v.queued ≡ true → 1 ≤ b.sender.top)
+          → (resends b pair.addresses cx.ip_mtu v.queued ≡ true) ⊎ ((has_text b pair.addresses cx.ip_mtu v.queued ≡ true)
           ⊎ (is_probing b (queued_in v) ≡ true → is_some b.timers.probe_at ≡ true))
           → IsSet cx pair v (with_block (unoffered v) b)
       here b none timer state syn past names again set =
@@ -357,9 +357,9 @@ module _ (cx : ContextValue) (v : TcpValue) (pair : EndpointPair) (named : v.blo
 
 -- with nothing in flight, no timer, and the moment of a probe, where one is set, come
 module _ (cx : ContextValue) (v : TcpValue) (pair : EndpointPair) (named : v.block.names.pair ≡ Some pair) (m : Starts cx v)
-    (sends : sends_text v.block.state ≡ true) (sent : resends v.block ≡ true → 1 ≤ v.block.sender.top) (none : v.block.sender.in_flight ≡ 0)
-    (timer : v.block.timers.retransmit_at ≡ None) (cwnd : 1 ≤ v.block.reno.cwnd)
-    (set : (resends v.block ≡ true) ⊎ ((has_text v.block pair.addresses cx.ip_mtu v.queued ≡ true)
+    (sends : sends_text v.block.state ≡ true) (sent : resends v.block pair.addresses cx.ip_mtu v.queued ≡ true → 1 ≤ v.block.sender.top)
+    (none : v.block.sender.in_flight ≡ 0) (timer : v.block.timers.retransmit_at ≡ None) (cwnd : 1 ≤ v.block.reno.cwnd)
+    (set : (resends v.block pair.addresses cx.ip_mtu v.queued ≡ true) ⊎ ((has_text v.block pair.addresses cx.ip_mtu v.queued ≡ true)
     ⊎ (is_probing v.block (queued_in v) ≡ true → is_some v.block.timers.probe_at ≡ true)))
     (come : is_probing v.block (queued_in v) ≡ true → is_some v.block.timers.probe_at ≡ true → is_due cx.moment v.block.timers.probe_at ≡ true) where
   not_due : is_due cx.moment v.block.timers.retransmit_at ≡ false
@@ -368,7 +368,7 @@ module _ (cx : ContextValue) (v : TcpValue) (pair : EndpointPair) (named : v.blo
   abbrev b : Block
   b = begun cx v
 
-  s : StartsWith cx v b
+  s : StartsWith cx v pair b
   s = idles cx v pair named m sends sent not_due none
 
   abbrev x : TcpValue
@@ -377,7 +377,7 @@ module _ (cx : ContextValue) (v : TcpValue) (pair : EndpointPair) (named : v.blo
   abbrev c : Block
   c = probe_started cx.moment (queued_in v) b
 
-  later : StartsWith cx v c
+  later : StartsWith cx v pair c
   later = record { sends = s.sends; syn = s.syn; none = s.none; owes = s.owes; mss = s.mss; stamp = s.stamp; again = s.again }
 
   abbrev fast : Offered TcpValue
@@ -407,34 +407,40 @@ module _ (cx : ContextValue) (v : TcpValue) (pair : EndpointPair) (named : v.blo
       (held_goes cx v pair c later probes cwnd)
 
   by_rules : SendsOut cx v (first_rules cx x pair)
-  by_rules = subst (SendsOut cx v) (sym (if_not (owes_syn b) (offer_syn cx x pair) rest (no_syn cx v pair b s))) (at (resends b) refl) where
-    later_on : Offered TcpValue
-    later_on = if has_text b pair.addresses cx.ip_mtu v.queued then plain else last
+  by_rules =
+      subst (SendsOut cx v) (sym (if_not (owes_syn b) (offer_syn cx x pair) rest (no_syn cx v pair b s)))
+      (at (resends b pair.addresses cx.ip_mtu v.queued) refl)
+    where
+      later_on : Offered TcpValue
+      later_on = if has_text b pair.addresses cx.ip_mtu v.queued then plain else last
 
-    rest : Offered TcpValue
-    rest = if resends b then fast else later_on
+      rest : Offered TcpValue
+      rest = if resends b pair.addresses cx.ip_mtu v.queued then fast else later_on
 
-    some_set : resends b ≡ false → has_text b pair.addresses cx.ip_mtu v.queued ≡ false → is_probing b (queued_in v) ≡ true →
-        is_some v.block.timers.probe_at ≡ true
-    some_set no_more no_text probes = by set where
-      by :
-          (resends v.block ≡ true) ⊎ ((has_text v.block pair.addresses cx.ip_mtu v.queued ≡ true)
-          ⊎ (is_probing v.block (queued_in v) ≡ true → is_some v.block.timers.probe_at ≡ true))
-          → is_some v.block.timers.probe_at ≡ true
-      by (inl e) = clash (sym e ∙ no_more)
-      by (inr (inl e)) = clash (sym e ∙ no_text)
-      by (inr (inr is)) = is probes
+      some_set :
+          resends b pair.addresses cx.ip_mtu v.queued ≡ false → has_text b pair.addresses cx.ip_mtu v.queued ≡ false
+          → is_probing b (queued_in v) ≡ true → is_some v.block.timers.probe_at ≡ true
+      some_set no_more no_text probes = by set where
+        by :
+            (resends v.block pair.addresses cx.ip_mtu v.queued ≡ true) ⊎ ((has_text v.block pair.addresses cx.ip_mtu v.queued ≡ true)
+            ⊎ (is_probing v.block (queued_in v) ≡ true → is_some v.block.timers.probe_at ≡ true))
+            → is_some v.block.timers.probe_at ≡ true
+        by (inl e) = clash (sym e ∙ no_more)
+        by (inr (inl e)) = clash (sym e ∙ no_text)
+        by (inr (inr is)) = is probes
 
-    of_text : resends b ≡ false → (t : Bool) → has_text b pair.addresses cx.ip_mtu v.queued ≡ t → SendsOut cx v later_on
-    of_text no_more true e =
-        subst (SendsOut cx v) (sym (if_so (has_text b pair.addresses cx.ip_mtu v.queued) plain last e)) (goes_text cx v pair b s e)
-    of_text no_more false e =
-        let probes = holds_back cx v pair b s e in
-        subst (SendsOut cx v) (sym (if_not (has_text b pair.addresses cx.ip_mtu v.queued) plain last e)) (held_last probes (some_set no_more e probes))
+      of_text : resends b pair.addresses cx.ip_mtu v.queued ≡ false → (t : Bool) → has_text b pair.addresses cx.ip_mtu v.queued ≡ t → SendsOut cx v later_on
+      of_text no_more true e =
+          subst (SendsOut cx v) (sym (if_so (has_text b pair.addresses cx.ip_mtu v.queued) plain last e)) (goes_text cx v pair b s e)
+      of_text no_more false e =
+          let probes = holds_back cx v pair b s e in
+          subst (SendsOut cx v) (sym (if_not (has_text b pair.addresses cx.ip_mtu v.queued) plain last e)) (held_last probes (some_set no_more e probes))
 
-    at : (t : Bool) → resends b ≡ t → SendsOut cx v rest
-    at true e = subst (SendsOut cx v) (sym (if_so (resends b) fast later_on e)) (goes_again cx v pair b s (s.again e))
-    at false e = subst (SendsOut cx v) (sym (if_not (resends b) fast later_on e)) (of_text e (has_text b pair.addresses cx.ip_mtu v.queued) refl)
+      at : (t : Bool) → resends b pair.addresses cx.ip_mtu v.queued ≡ t → SendsOut cx v rest
+      at true e = subst (SendsOut cx v) (sym (if_so (resends b pair.addresses cx.ip_mtu v.queued) fast later_on e)) (goes_again cx v pair b s (s.again e))
+      at false e =
+          subst (SendsOut cx v) (sym (if_not (resends b pair.addresses cx.ip_mtu v.queued) fast later_on e))
+          (of_text e (has_text b pair.addresses cx.ip_mtu v.queued) refl)
 
   pub goes_then : SendsOut cx v (offer_of cx v)
   goes_then =

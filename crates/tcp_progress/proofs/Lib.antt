@@ -48,3 +48,4 @@ pub mod Hears
 pub mod Patient
 pub mod Updates
 pub mod Joins
+pub mod Behind

@@ -57,7 +57,8 @@ pub sends_in : (p : PairValue) (side : Side) (moment : ℤ) → IsReached p → 
 sends_in p side moment r m =
     let named = named_in p side r m.own.synchronized in
     sends_out (context_of p side moment) (socket_of p side) named.0 named.1 m
-    (sends_there p side r m.own.synchronized m.own.acknowledged m.owes) (again_sent p side r m.own.acknowledged)
+    (sends_there p side r m.own.synchronized m.own.acknowledged m.owes)
+    (again_sent p side r m.own.acknowledged named.0.addresses 1500 (socket_of p side).queued)
 
 pub side_sends : (p : PairValue) (side : Side) (moment : ℤ) → IsReached p → MaySend (context_of p side moment) (socket_of p side) →
     Sends (context_of p side moment) (socket_of p side)

@@ -1,52 +1,47 @@
 -- Nobody gives up who has four tries left: of so many turns of a side in a row the last at least is answered.
-use Rattle.std.proofs.Common.{◌≡◌, ◌⊎◌, inl, inr, ℕ, zero, suc, ◌+◌, ◌-◌, ◌^◌, ◌<◌, ◌≤◌, ◌==◌, ◌&&◌, ◌||◌, min, not, nat_le, ℤ, Bool, true, false}
+use Rattle.std.proofs.Common.{◌≡◌, ◌⊎◌, inl, inr, ℕ, zero, suc, ◌+◌, ◌-◌, ◌<◌, ◌≤◌, ◌==◌, ◌&&◌, ◌||◌, min, not, ℤ, Bool, true, false}
 use Rattle.std.proofs.Common.{if◌then◌else◌, length, Option, Some, None, is_some, refl, sym, ap, ◌∙◌, subst, arith}
 use Rattle.std.proofs.lemmas.Bool.{leb-false, lt-leb, ne_eqb}
-use Rattle.net_base.specs.Ring.{Ring}
 use Rattle.ip_wire.specs.Seq.{distance_of}
 use Rattle.ip_wire.specs.SeqNumber.{SeqNumber}
-use Rattle.tcp_tie.specs.Tie.{Keeps}
 use Rattle.tcp_rules.specs.EndpointPair.{EndpointPair}
 use Rattle.tcp_rules.specs.Moments.{is_due}
 use Rattle.tcp_rules.specs.Names.{Names}
-use Rattle.tcp_rules.specs.Offsets.{behind_by}
 use Rattle.tcp_rules.specs.OpenOffer.{OpenOffer}
 use Rattle.tcp_rules.specs.State.{State}
 use Rattle.tcp_rules.specs.State.TheVariants as In
-use Rattle.tcp_rules.specs.States.{is_answering, is_closed, is_opening, sends_text}
+use Rattle.tcp_rules.specs.States.{is_answering, is_opening, sends_text}
 use Rattle.tcp_rules.proofs.OrderSteps.{clash}
 use Rattle.tcp_pair_model.specs.Block.{Block}
 use Rattle.tcp_pair_model.specs.Offers.{offer_of}
 use Rattle.tcp_pair_model.specs.Probing.{probe_moment}
 use Rattle.tcp_pair_model.specs.Retries.{gives_up, is_last_question, is_last_timeout, reaches, retries_of}
-use Rattle.tcp_pair_model.specs.Rules.{keep_alive_moment, resends, text_choice}
+use Rattle.tcp_pair_model.specs.Rules.{has_text, keep_alive_moment, resends, text_choice}
 use Rattle.tcp_pair_model.specs.Segments.{segment_len}
 use Rattle.tcp_pair_model.specs.Settled.{settled}
-use Rattle.tcp_pair_model.specs.Sides.{at, other}
-use Rattle.tcp_pair_model.specs.Value.{TcpValue, free_in, queued_in, room_of}
-use Rattle.tcp_pair_model.specs.Values.{PairValue, past_at}
+use Rattle.tcp_pair_model.specs.Sides.{other}
+use Rattle.tcp_pair_model.specs.Value.{TcpValue, free_in, queued_in}
+use Rattle.tcp_pair_model.specs.Values.{PairValue}
 use Rattle.tcp_pair_model.specs.declared.event.Side.{Side}
 use Rattle.tcp_pair_model.specs.declared.event.Side.TheVariants.{A, B}
 use Rattle.tcp_progress.specs.Arrivals.{is_synchronized}
 use Rattle.tcp_progress.specs.BothWays.{MayAsk, is_over, roused_in, turn_in, waits_in, wake_in, woken_in}
-use Rattle.tcp_progress.specs.Exchange.{GoesFromUna, left_of, text_of}
+use Rattle.tcp_progress.specs.Exchange.{GoesFromUna, text_of}
 use Rattle.tcp_progress.specs.Pair.{context_of, left_in, socket_of}
 use Rattle.tcp_progress.specs.Reached.{IsReached}
 use Rattle.tcp_progress.specs.Settle.{read_in, restart_in}
 use Rattle.tcp_progress.specs.Talking.{AreTalking, HasMinutes, HasTries, HaveTries, MayTalk, NeverGiveUp, SpeaksIn}
 use Rattle.tcp_progress.proofs.Acked.{IsHeard}
 use Rattle.tcp_progress.proofs.Hears.{Heard, IsSilent, Outcome, exchange_heard}
-use Rattle.tcp_progress.proofs.Kept.{reached_keeps}
 use Rattle.tcp_progress.proofs.Mirrored.{named_in}
-use Rattle.tcp_progress.proofs.Offered.{GoesOut, goes_from_una, goes_out_of}
+use Rattle.tcp_progress.proofs.Offered.{goes_from_una, goes_out_of}
 use Rattle.tcp_progress.proofs.Pair.{HasSome, below_quarter, further, had_in, has_some}
-use Rattle.tcp_progress.proofs.Positions.{placed, una_small}
 use Rattle.tcp_progress.proofs.Resent.{again_sent}
 use Rattle.tcp_progress.proofs.Roused.{refused_same, roused_calm, roused_other, roused_own}
 use Rattle.tcp_progress.proofs.Settles.{empty_after, read_partner}
 use Rattle.tcp_progress.proofs.Spoken.{HasSize, IsRoused, IsSlowed, IsSpoken, Voice, asked_roused, says, says_most, says_text, spoken, voice_of}
-use Rattle.tcp_progress.proofs.Talks.{BothStay, Minutes, Waiting, both_on, may_ask, may_turn, mine, of, other_minutes, own_minutes, late_at}
-use Rattle.tcp_progress.proofs.Talks.{reached_y, runs, rx, same_own, sends, set, starts, starts_y, stay, sy, waiting}
+use Rattle.tcp_progress.proofs.Talks.{BothStay, again_y, Minutes, both_on, may_ask, may_turn, mine, of, other_minutes, own_minutes, late_at}
+use Rattle.tcp_progress.proofs.Talks.{reached_y, runs, rx, same_own, sends, set, starts, starts_y, stay, waiting}
 use Rattle.tcp_progress.proofs.Turns.{late_on, nothing_turns, turned}
 use Rattle.tcp_progress.proofs.Ways.{BothCalm, of_side, read_calm}
 use Rattle.tcp_progress.proofs.WindowPairs.{reached_windows}
@@ -230,7 +225,7 @@ module _ (n : ℕ) (p : PairValue) (side : Side) (r : IsReached p) (s : BothStay
       subst (λ (z : TcpValue). IsRoused pair.addresses 1500 v.block z.block) (sym (roused_own p side))
       (again
       (asked_roused (context_of x side (restart_in p side)) v pair named (starts n p side r s m waits tries) (sends n p side r s m waits tries)
-      (again_sent x side (rx n p side r s m waits tries) (of x side sx).acked) (runs n p side r s m waits tries)))
+      (again_sent x side (rx n p side r s m waits tries) (of x side sx).acked pair.addresses 1500 v.queued) (runs n p side r s m waits tries)))
     where
       sx : BothStay x
       sx = both_on p x (read_calm p side) s
@@ -276,7 +271,7 @@ module _ (n : ℕ) (p : PairValue) (side : Side) (r : IsReached p) (s : BothStay
 
     sp : IsSpoken pair.addresses 1500 w w.block o g
     sp =
-        spoken (context_of y side then_at) w pair named_w (starts_y n p side r s m waits tries tries_on) sends_w (set n p side r s m waits tries).again
+        spoken (context_of y side then_at) w pair named_w (starts_y n p side r s m waits tries tries_on) sends_w (again_y n p side r s m waits tries)
         (set n p side r s m waits tries).none (set n p side r s m waits tries).timer o asks.reaches.may.offered
         asks.reaches.may.kind
 
@@ -376,12 +371,12 @@ module _ (n : ℕ) (p : PairValue) (side : Side) (r : IsReached p) (s : BothStay
         steady_v : IsSteady v
         steady_v = subst IsSteady (sym (same_own p side)) before
 
-        quiet : resends w.block ≡ false
-        quiet = roused.again steady_v.resend steady_v.probes
+        quiet : resends w.block pair.addresses 1500 w.queued ≡ false
+        quiet = roused.again steady_v.resend steady_v.probes (has_text w.block pair.addresses 1500 w.queued)
 
         size : HasSize w (text_choice w.block pair.addresses 1500 w.queued).len o
         size = by sp.size where
-          by : (resends w.block ≡ true) ⊎ HasSize w (text_choice w.block pair.addresses 1500 w.queued).len o →
+          by : (resends w.block pair.addresses 1500 w.queued ≡ true) ⊎ HasSize w (text_choice w.block pair.addresses 1500 w.queued).len o →
               HasSize w (text_choice w.block pair.addresses 1500 w.queued).len o
           by (inl again) = clash (sym again ∙ quiet)
           by (inr it) = it
@@ -395,7 +390,7 @@ module _ (n : ℕ) (p : PairValue) (side : Side) (r : IsReached p) (s : BothStay
         len_is : (text_choice w.block pair.addresses 1500 w.queued).len ≡ said (socket_of p side)
         len_is =
             says_text (context_of y side then_at) w pair named_w (starts_y n p side r s m waits tries tries_on) sends_w
-            (set n p side r s m waits tries).again (set n p side r s m waits tries).none (set n p side r s m waits tries).timer how
+            (again_y n p side r s m waits tries) (set n p side r s m waits tries).none (set n p side r s m waits tries).timer how
             ∙ (sym (said_as w pair named_w) ∙ said_w)
 
         -- it fits the buffer of the other, who has read all

@@ -4,12 +4,13 @@ use Rattle.std.proofs.Common.{if◌then◌else◌, List, [], ◌∷◌}
 use Rattle.std.proofs.Common.{length, take, Option, Some, None, is_some, refl, sym, ap, ◌∙◌, subst, arith}
 use Rattle.std.specs.List.{fold}
 use Rattle.std.proofs.lemmas.Bool.{cond_both, eqb-true, leb-true, ltb-true}
-use Rattle.net_base.specs.Ring.{anchored, enqueued}
+use Rattle.net_base.specs.Ring.{Ring, anchored, enqueued}
 use Rattle.ip_wire.specs.IpRepr.{IpRepr}
 use Rattle.ip_wire.specs.Tcp.{header_len}
 use Rattle.ip_wire.specs.TcpHeader.{TcpHeader}
 use Rattle.tcp_tie.specs.Context.{ContextValue}
 use Rattle.tcp_tie.specs.Offers.{Offered}
+use Rattle.tcp_model.specs.AddressPair.{AddressPair}
 use Rattle.tcp_model.specs.Run.{Run}
 use Rattle.tcp_model.specs.declared.block.Loss.{Loss}
 use Rattle.tcp_model.specs.Opening.{took_syn}
@@ -34,16 +35,16 @@ use Rattle.tcp_rules.proofs.LossRules.{led_held}
 use Rattle.tcp_rules.proofs.OfferCases.{FirstRules, by_rules, begun, probing}
 use Rattle.tcp_rules.proofs.OrderSteps.{clash}
 use Rattle.tcp_rules.proofs.TimingRules.{led_timing}
-use Rattle.tcp_pair_model.specs.Acknowledged.{begins_recovery, duplicates_after, is_duplicate, is_lost_since, is_missed, is_partial, is_third, ranges_taken}
-use Rattle.tcp_pair_model.specs.Acknowledged.{tells_of_loss, una_moved, una_risen, windowed}
+use Rattle.tcp_pair_model.specs.Acknowledged.{begins_recovery, duplicates_after, is_duplicate, is_lost_since, is_missed, is_partial, is_third, may_be_missed}
+use Rattle.tcp_pair_model.specs.Acknowledged.{ranges_taken, tells_of_loss, una_moved, una_risen, windowed}
 use Rattle.tcp_pair_model.specs.Arrival.{arrives, waiting_anew}
 use Rattle.tcp_pair_model.specs.Block.{Block}
 use Rattle.tcp_pair_model.specs.Blocks.{past_top}
 use Rattle.tcp_pair_model.specs.Calls.{listening, connected_by, pair_for, sent_more}
 use Rattle.tcp_pair_model.specs.FirstNumbers.{number_for}
 use Rattle.tcp_pair_model.specs.LossRecovery.{heard_more, is_first_lost, is_lost_at, is_passed, loss_lowered, loss_moment, loss_probe_moment, may_be_late}
-use Rattle.tcp_pair_model.specs.LossRecovery.{loss_probed, probe_armed, probe_from, all_noted, fills_hole, next_hole, probes_losses, probes_tail}
-use Rattle.tcp_pair_model.specs.LossRecovery.{ranges_noted, threshold, with_board}
+use Rattle.tcp_pair_model.specs.LossRecovery.{loss_probed, probe_armed, probe_begins, probe_from, all_noted, fills_early, fills_hole, goes_early, may_go_early}
+use Rattle.tcp_pair_model.specs.LossRecovery.{next_hole, probes_losses, ranges_noted, rescues, threshold, with_board}
 use Rattle.tcp_pair_model.specs.Offers.{number_at, offer_choice, offer_of, offer_segment}
 use Rattle.tcp_pair_model.specs.Retries.{asked, heard, one_more}
 use Rattle.tcp_pair_model.specs.Rules.{Choice, backed_off_now, control_for, probe_choice, resend_choice, resends, text_choice}
@@ -307,7 +308,7 @@ module _ (cx : ContextValue) (ip : IpRepr) (header : TcpHeader) (bytes : List �
         either (is_missed c count && not (may_be_late c)) (is_lost_since c)
         (λ first.
         either (count == 3) (is_first_lost c) third_here (λ lost. first_lost_sent c w lost)
-        (both_parts (c.sender.recover == 0) ((count == 3) || is_first_lost c) (both_parts (is_missed c count) (not (may_be_late c)) first).0).1)
+        (both_parts (may_be_missed c) ((count == 3) || is_first_lost c) (both_parts (is_missed c count) (not (may_be_late c)) first).0).1)
         (λ since. since_sent c w since) begins)
         new)
         so;
@@ -412,7 +413,7 @@ probed_sent b some s = record {
   resend = λ _. some;
   probes = λ _ _. some;
   recover =
-      cond_both (not (probes_tail b) && (b.sender.recover == 0)) (past_top b) b.sender.recover (λ (n : ℕ). n ≤ b.sender.top + 1)
+      cond_both (probe_begins b) (past_top b) b.sender.recover (λ (n : ℕ). n ≤ b.sender.top + 1)
       (λ _. past_low b.sender.top) (λ _. s.recover);
 }
 
@@ -553,23 +554,39 @@ reached_again p side r =
 
 -- what is to go again was sent
 pub again_sent : (p : PairValue) (side : Side) → IsReached p → (socket_of p side).block.sender.syn_unacked ≡ false
-    → resends (socket_of p side).block ≡ true → 1 ≤ (socket_of p side).block.sender.top
-again_sent p side r acked so =
+    → (addresses : AddressPair) (mtu : ℕ) (queued : Ring ℕ)
+    → resends (socket_of p side).block addresses mtu queued ≡ true → 1 ≤ (socket_of p side).block.sender.top
+again_sent p side r acked addresses mtu queued so =
     let s = reached_again p side r in
-    either b.sender.resend (b.loss.probes || fills_hole b) s.resend
+    either b.sender.resend _ s.resend
     (λ more.
-    either b.loss.probes (fills_hole b) (λ probes. s.probes probes acked)
-    (λ hole.
-    upto 1 b.sender.in_flight b.sender.top (some (next_hole b) b.sender.in_flight (ltb-true (next_hole b) b.sender.in_flight (in_hole hole)))
-    (flight_of (socket_of p side) (led_side p side r)))
+    either b.loss.probes _ (λ probes. s.probes probes acked)
+    (λ rest.
+    either (fills_hole b) _ (λ hole. in_sent (in_hole hole)) (λ early. in_sent (in_early (both_parts (goes_early b) _ early).0)) rest)
     more)
-    (both_parts (sends_text b.state) (b.sender.resend || (b.loss.probes || fills_hole b)) so).1
+    (both_parts (sends_text b.state) _ so).1
   where
     b : Block
     b = (socket_of p side).block
 
-    some : (place flight : ℕ) → place < flight → 1 ≤ flight
-    some place flight e = omega arith
+    in_sent : nat_lt (next_hole b) b.sender.in_flight ≡ true → 1 ≤ b.sender.top
+    in_sent e =
+        upto 1 b.sender.in_flight b.sender.top (some (next_hole b) b.sender.in_flight (ltb-true (next_hole b) b.sender.in_flight e))
+        (flight_of (socket_of p side) (led_side p side r))
+      where
+        some : (place flight : ℕ) → place < flight → 1 ≤ flight
+        some place flight e = omega arith
+
+    in_early : goes_early b ≡ true → nat_lt (next_hole b) b.sender.in_flight ≡ true
+    in_early =
+        either (fills_early b) (rescues b) (λ fills. may_go (both_parts (may_go_early b) _ fills).0) (λ rescue. may_go (both_parts (may_go_early b) _ rescue).0)
+      where
+        may_go : may_go_early b ≡ true → nat_lt (next_hole b) b.sender.in_flight ≡ true
+        may_go e =
+            let one = both_parts b.peer.sack _ e in
+            let two = both_parts b.reno.recovers _ one.1 in
+            let three = both_parts (not b.sender.syn_unacked) _ two.1 in
+            (both_parts (nat_lt (next_hole b) b.sender.in_flight) _ three.1).0
 
     in_hole : fills_hole b ≡ true → nat_lt (next_hole b) b.sender.in_flight ≡ true
     in_hole e =

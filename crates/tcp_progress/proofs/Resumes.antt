@@ -1,5 +1,5 @@
 -- Where nothing is in flight, or its timer has run out, text or a FIN goes, as far as both windows let it.
-use Rattle.std.proofs.Common.{◌≡◌, ◌⊎◌, inl, inr, ℕ, zero, suc, ◌+◌, ◌-◌, ◌%◌, ◌<◌, ◌≤◌, ◌==◌, ◌&&◌, ◌||◌, nat_le, nat_lt, not, min, max, Bool, true, false}
+use Rattle.std.proofs.Common.{◌≡◌, ◌⊎◌, inl, inr, ℕ, zero, suc, ◌+◌, ◌-◌, ◌<◌, ◌≤◌, ◌==◌, ◌&&◌, ◌||◌, nat_le, nat_lt, not, min, max, Bool, true, false}
 use Rattle.std.proofs.Common.{if◌then◌else◌, List, [], ◌∷◌, length, take, drop, Option, Some, None, refl, sym, ap, ◌∙◌, subst, arith, length-take, length-drop}
 use Rattle.std.proofs.lemmas.Bool.{cond_both, eq-eqb, ne_eqb, le-leb, lt-ltb, le-ltb, ltb-true, ltb-false}
 use Rattle.ip_wire.specs.Control.{control_len}
@@ -26,7 +26,8 @@ use Rattle.tcp_rules.specs.States.{is_answering, is_closed, owes_fin, sends_syn,
 use Rattle.tcp_rules.specs.Timing.{carries}
 use Rattle.tcp_pair_model.specs.Block.{Block}
 use Rattle.tcp_pair_model.specs.Blocks.{one_if, unacked}
-use Rattle.tcp_pair_model.specs.LossRecovery.{fills_hole, hole_len, loss_moment, loss_probe_moment, loss_probed, loss_probed_by, next_hole, pipe}
+use Rattle.tcp_pair_model.specs.LossRecovery.{fills_early, fills_hole, goes_early, has_room, hole_len, loss_moment, loss_probe_moment, loss_probed}
+use Rattle.tcp_pair_model.specs.LossRecovery.{loss_probed_by, may_go_early, next_hole, pipe, rescues}
 use Rattle.tcp_pair_model.specs.Offers.{backed_off, first_rules, last_rules, number_at, offer_choice, offer_of, offer_reset, offer_syn, offer_with}
 use Rattle.tcp_pair_model.specs.Offers.{payload_of, silent}
 use Rattle.tcp_pair_model.specs.Retries.{given_up, gives_up}
@@ -55,6 +56,12 @@ or_right false b e = e
 pub not_second : (a b : Bool) → b ≡ false → (a && b) ≡ false
 not_second true b e = e
 not_second false b e = refl
+
+not_first : (a b : Bool) → a ≡ false → (a && b) ≡ false
+not_first a b e = ap (λ (t : Bool). t && b) e
+
+pub neither : (a b : Bool) → a ≡ false → b ≡ false → (a || b) ≡ false
+neither a b e f = ap (λ (t : Bool). t || b) e ∙ f
 
 -- THE WINDOWS
 
@@ -131,6 +138,27 @@ gap_some (r ∷ rs) most e =
     second true c e = e
     second false c e = clash (sym e)
 
+-- WHERE NOTHING IS IN FLIGHT
+
+not_in_flight : (b : Block) → b.sender.in_flight ≡ 0 → nat_lt (next_hole b) b.sender.in_flight ≡ false
+not_in_flight b none = le-ltb (next_hole b) b.sender.in_flight (least b.sender.in_flight (next_hole b) none) where
+  least : (flight place : ℕ) → flight ≡ 0 → flight ≤ place
+  least flight place e = omega arith
+
+pub no_hole : (b : Block) → b.sender.in_flight ≡ 0 → fills_hole b ≡ false
+no_hole b none =
+    not_second b.peer.sack _ (not_second b.reno.recovers _ (not_second (not b.sender.syn_unacked) _
+    (not_first (nat_lt (next_hole b) b.sender.in_flight) _ (not_in_flight b none))))
+
+pub none_early : (b : Block) → b.sender.in_flight ≡ 0 → goes_early b ≡ false
+none_early b none =
+    neither (fills_early b) (rescues b) (not_first (may_go_early b) _ never) (not_first (may_go_early b) _ never)
+  where
+    never : may_go_early b ≡ false
+    never =
+        not_second b.peer.sack _ (not_second b.reno.recovers _ (not_second (not b.sender.syn_unacked) _
+        (not_first (nat_lt (next_hole b) b.sender.in_flight) (has_room b) (not_in_flight b none))))
+
 -- of the offer of a socket
 pub record SendsOut (cx : ContextValue) (v : TcpValue) (o : Offered TcpValue) : Type 0 where
   pub k : OpenOffer
@@ -140,21 +168,21 @@ pub record SendsOut (cx : ContextValue) (v : TcpValue) (o : Offered TcpValue) : 
   pub stamp : k.segment.options.timestamp ≡ stamp_of v.block cx.moment
 
 -- the block with which a socket starts over
-pub record StartsWith (cx : ContextValue) (v : TcpValue) (b : Block) : Type 0 where
+pub record StartsWith (cx : ContextValue) (v : TcpValue) (pair : EndpointPair) (b : Block) : Type 0 where
   pub sends : sends_text b.state ≡ true
   pub syn : b.sender.syn_unacked ≡ false
   pub none : b.sender.in_flight ≡ 0
   pub owes : 1 ≤ unacked b (queued_in v)
   pub mss : b.peer.mss ≡ v.block.peer.mss
   pub stamp : stamp_of b cx.moment ≡ stamp_of v.block cx.moment
-  pub again : resends b ≡ true → 1 ≤ b.sender.top
+  pub again : resends b pair.addresses cx.ip_mtu v.queued ≡ true → 1 ≤ b.sender.top
 
 -- both windows take a full segment, or all that is queued
 record HasWindows (v : TcpValue) (b : Block) : Type 0 where
   window : worth_sending v ≤ b.peer.window
   cwnd : worth_sending v ≤ b.reno.cwnd
 
-module _ (cx : ContextValue) (v : TcpValue) (pair : EndpointPair) (b : Block) (s : StartsWith cx v b) where
+module _ (cx : ContextValue) (v : TcpValue) (pair : EndpointPair) (b : Block) (s : StartsWith cx v pair b) where
   abbrev pub limit : ℕ
   limit = size_limit b pair.addresses cx.ip_mtu
 
@@ -371,7 +399,7 @@ module _ (cx : ContextValue) (v : TcpValue) (pair : EndpointPair) (b : Block) (s
     goes_text = goes Kind.Text choice refl refl (some_goes choice v.queued.queue first some_or_fin)
 
     by_rule : SendsOut cx v (first_rules cx (with_block (unoffered v) b) pair)
-    by_rule = subst (SendsOut cx v) (sym (if_not (owes_syn b) (offer_syn cx x pair) rest no_syn)) (at (resends b) refl) where
+    by_rule = subst (SendsOut cx v) (sym (if_not (owes_syn b) (offer_syn cx x pair) rest no_syn)) (at (resends b pair.addresses cx.ip_mtu v.queued) refl) where
       x : TcpValue
       x = with_block (unoffered v) b
 
@@ -385,12 +413,14 @@ module _ (cx : ContextValue) (v : TcpValue) (pair : EndpointPair) (b : Block) (s
       later = if has_text b pair.addresses cx.ip_mtu v.queued then plain else last_rules cx (probing cx x) pair
 
       rest : Offered TcpValue
-      rest = if resends b then fast else later
+      rest = if resends b pair.addresses cx.ip_mtu v.queued then fast else later
 
-      at : (t : Bool) → resends b ≡ t → SendsOut cx v rest
-      at true e = subst (SendsOut cx v) (sym (if_so (resends b) fast later e)) (goes_again (s.again e))
+      at : (t : Bool) → resends b pair.addresses cx.ip_mtu v.queued ≡ t → SendsOut cx v rest
+      at true e = subst (SendsOut cx v) (sym (if_so (resends b pair.addresses cx.ip_mtu v.queued) fast later e)) (goes_again (s.again e))
       at false e =
-          subst (SendsOut cx v) (sym (if_not (resends b) fast later e ∙ if_so (has_text b pair.addresses cx.ip_mtu v.queued) plain _ text)) goes_text
+          subst (SendsOut cx v)
+          (sym (if_not (resends b pair.addresses cx.ip_mtu v.queued) fast later e ∙ if_so (has_text b pair.addresses cx.ip_mtu v.queued) plain _ text))
+          goes_text
 
 -- A SOCKET
 
@@ -402,7 +432,7 @@ pub record Starts (cx : ContextValue) (v : TcpValue) : Type 0 where
   pub goes : GoesOn cx v
 
 module _ (cx : ContextValue) (v : TcpValue) (pair : EndpointPair) (named : v.block.names.pair ≡ Some pair) (m : Starts cx v)
-    (sends : sends_text v.block.state ≡ true) (sent : resends v.block ≡ true → 1 ≤ v.block.sender.top) where
+    (sends : sends_text v.block.state ≡ true) (sent : resends v.block pair.addresses cx.ip_mtu v.queued ≡ true → 1 ≤ v.block.sender.top) where
   abbrev u : TcpValue
   u = unoffered v
 
@@ -426,20 +456,8 @@ module _ (cx : ContextValue) (v : TcpValue) (pair : EndpointPair) (named : v.blo
       in_time : Offered TcpValue
       in_time = if is_due cx.moment (timeout_end v.block (queued_in v)) then silent true (with_block u (timed_out v.block)) else alive
 
-  pub no_hole : (b : Block) → b.sender.in_flight ≡ 0 → fills_hole b ≡ false
-  no_hole b none =
-      not_second b.peer.sack _ (not_second b.reno.recovers _ (not_second (not b.sender.syn_unacked) _
-      (not_first (nat_lt (next_hole b) b.sender.in_flight) _
-      (le-ltb (next_hole b) b.sender.in_flight (least b.sender.in_flight (next_hole b) none)))))
-    where
-      not_first : (a c : Bool) → a ≡ false → (a && c) ≡ false
-      not_first a c e = ap (λ (t : Bool). t && c) e
-
-      least : (flight place : ℕ) → flight ≡ 0 → flight ≤ place
-      least flight place e = omega arith
-
   -- the timer ran out
-  pub ran_out : is_due cx.moment v.block.timers.retransmit_at ≡ true → StartsWith cx v (backed_off_now (begun cx v))
+  pub ran_out : is_due cx.moment v.block.timers.retransmit_at ≡ true → StartsWith cx v pair (backed_off_now (begun cx v))
   ran_out due = record {
     sends = sends;
     syn = m.own.acknowledged;
@@ -449,21 +467,24 @@ module _ (cx : ContextValue) (v : TcpValue) (pair : EndpointPair) (named : v.blo
     stamp = refl;
     again = λ e.
         sent
-        (both (sends_text v.block.state) (v.block.sender.resend || (v.block.loss.probes || fills_hole v.block)) sends
-        (or_left v.block.sender.resend (v.block.loss.probes || fills_hole v.block)
-        (only (sends_text v.block.state) v.block.sender.resend (fills_hole b) (no_hole b refl) e)));
+        (both (sends_text v.block.state) _ sends
+        (or_left v.block.sender.resend _
+        (only (sends_text v.block.state) v.block.sender.resend (fills_hole b) (goes_early b) (has_text b pair.addresses cx.ip_mtu v.queued) (no_hole b refl)
+        (none_early b refl) e)));
   }
     where
       b : Block
       b = backed_off_now (begun cx v)
 
-      only : (sends resend hole : Bool) → hole ≡ false → (sends && (resend || (false || hole))) ≡ true → resend ≡ true
-      only true true hole e f = refl
-      only true false hole e f = clash (sym f ∙ e)
-      only false resend hole e f = clash (sym f)
+      only :
+          (sends resend hole early beside : Bool) → hole ≡ false → early ≡ false
+          → (sends && (resend || (false || (hole || (early && not beside))))) ≡ true → resend ≡ true
+      only true true hole early beside e f g = refl
+      only true false hole early beside e f g = clash (sym g ∙ neither hole (early && not beside) e (not_first early (not beside) f))
+      only false resend hole early beside e f g = clash (sym g)
 
   -- nothing is in flight
-  pub idles : is_due cx.moment v.block.timers.retransmit_at ≡ false → v.block.sender.in_flight ≡ 0 → StartsWith cx v (begun cx v)
+  pub idles : is_due cx.moment v.block.timers.retransmit_at ≡ false → v.block.sender.in_flight ≡ 0 → StartsWith cx v pair (begun cx v)
   idles not idle = record {
     sends = sends;
     syn = m.own.acknowledged;
@@ -484,7 +505,7 @@ pub starts_of : (cx : ContextValue) (v : TcpValue) → MaySend cx v → Starts c
 starts_of cx v m = record { own = m.own; owes = m.owes; over = m.over; goes = m.goes }
 
 module _ (cx : ContextValue) (v : TcpValue) (pair : EndpointPair) (named : v.block.names.pair ≡ Some pair) (m : MaySend cx v)
-    (sends : sends_text v.block.state ≡ true) (sent : resends v.block ≡ true → 1 ≤ v.block.sender.top) where
+    (sends : sends_text v.block.state ≡ true) (sent : resends v.block pair.addresses cx.ip_mtu v.queued ≡ true → 1 ≤ v.block.sender.top) where
   -- and both windows take a full segment, of which one is known then
   windows_out : is_due cx.moment v.block.timers.retransmit_at ≡ true → HasWindows v (backed_off_now (begun cx v))
   windows_out due = record {

@@ -1,6 +1,6 @@
 -- What a side says that is asked twice: how long it is, and what the asking leaves of the count of its tries.
-use Rattle.std.proofs.Common.{◌≡◌, ◌⊎◌, inl, inr, ℕ, zero, suc, ◌+◌, ◌-◌, ◌*◌, ◌<◌, ◌≤◌, ◌==◌, ◌&&◌, ◌||◌, min, max, not, ℤ, Bool, true, false}
-use Rattle.std.proofs.Common.{if◌then◌else◌, List, [], length, take, drop, Option, Some, None, is_some, refl, sym, ap, ◌∙◌, subst, arith}
+use Rattle.std.proofs.Common.{◌≡◌, ◌⊎◌, inl, inr, ℕ, suc, ◌+◌, ◌-◌, ◌*◌, ◌≤◌, ◌==◌, ◌&&◌, ◌||◌, min, not, ℤ, Bool, true, false}
+use Rattle.std.proofs.Common.{if◌then◌else◌, length, take, drop, Option, Some, None, is_some, refl, sym, ap, ◌∙◌, subst, arith}
 use Rattle.std.proofs.Common.{length-take, length-drop}
 use Rattle.std.proofs.lemmas.Bool.{cond_both, eq-eqb, eqb-true, ne_eqb}
 use Rattle.net_base.specs.Ring.{Ring}
@@ -28,22 +28,22 @@ use Rattle.tcp_model.specs.Reno.{RenoValue}
 use Rattle.tcp_model.specs.declared.block.CongestionControl.{CongestionControl}
 use Rattle.tcp_model.specs.declared.block.CongestionControl.TheVariants as Congestion
 use Rattle.tcp_model.specs.declared.block.Loss.{Loss}
-use Rattle.tcp_model.specs.declared.block.Peer.{Peer}
 use Rattle.tcp_model.specs.Undo.{undo_sent}
 use Rattle.tcp_pair_model.specs.Block.{Block}
 use Rattle.tcp_pair_model.specs.Blocks.{past_top}
-use Rattle.tcp_pair_model.specs.LossRecovery.{fills_hole, loss_probe_moment, loss_probed, loss_probed_by, pipe, probe_armed, probe_from, probes_losses}
+use Rattle.tcp_pair_model.specs.LossRecovery.{fills_hole, goes_early, loss_probe_moment, loss_probed, loss_probed_by, pipe, probe_armed, probe_from}
+use Rattle.tcp_pair_model.specs.LossRecovery.{probes_losses}
 use Rattle.tcp_pair_model.specs.Offers.{backed_off, first_rules, last_rules, number_at, offer_choice, offer_of, offer_segment, offer_syn}
 use Rattle.tcp_pair_model.specs.Probing.{probe_started}
 use Rattle.tcp_pair_model.specs.Retries.{asked, one_more}
 use Rattle.tcp_pair_model.specs.Rules.{Choice, backed_off_now, beyond, congestion_room, control_for, has_text, next_place, owes_syn, probe_choice}
-use Rattle.tcp_pair_model.specs.Rules.{resend_choice, resends, size_limit, text_choice}
+use Rattle.tcp_pair_model.specs.Rules.{resend_choice, resends, resends_beside, size_limit, text_choice}
 use Rattle.tcp_pair_model.specs.Segments.{ack_segment, hops_of, keep_alive_segment, segment, segment_len}
 use Rattle.tcp_pair_model.specs.Settled.{end_of, nxt_moved, probed, recorded, resent, settled, timer_started, went}
 use Rattle.tcp_pair_model.specs.Value.{TcpValue, queued_in, room_of, unoffered, window_of, with_block}
 use Rattle.tcp_progress.specs.Exchange.{text_of}
 use Rattle.tcp_progress.proofs.Held.{at_una, full, len_is, most_of, widest}
-use Rattle.tcp_progress.proofs.Resumes.{Starts, StartsWith, idles, no_hole, no_probe, no_syn, ran_out, to_rules}
+use Rattle.tcp_progress.proofs.Resumes.{Starts, StartsWith, idles, neither, no_hole, no_probe, no_syn, none_early, to_rules}
 
 -- THE VOICE OF A SIDE
 
@@ -110,8 +110,8 @@ room_is b none slow =
 pub record IsRoused (addresses : AddressPair) (mtu : ℕ) (old new : Block) : Type 0 where
   pub timeouts : new.sender.timeouts ≤ old.sender.timeouts + 1
   pub unanswered : new.sender.unanswered ≡ old.sender.unanswered
-  -- what wasn't to go again isn't
-  pub again : old.sender.resend ≡ false → old.loss.probes ≡ false → resends new ≡ false
+  -- what wasn't to go again isn't, whatever text goes
+  pub again : old.sender.resend ≡ false → old.loss.probes ≡ false → (text : Bool) → resends_beside new text ≡ false
   pub voice : voice_of addresses mtu new ≡ voice_of addresses mtu old
   pub slowed : is_some old.timers.retransmit_at ≡ true → IsSlowed new
 
@@ -121,12 +121,15 @@ capped n = omega arith
 one_above : (n : ℕ) → n ≤ n + 1
 one_above n = omega arith
 
-none_again : (sends resend probes hole : Bool) → resend ≡ false → probes ≡ false → hole ≡ false → (sends && (resend || (probes || hole))) ≡ false
-none_again true resend probes hole e f g = ap (λ (t : Bool). t || (probes || hole)) e ∙ (ap (λ (t : Bool). t || hole) f ∙ g)
-none_again false resend probes hole e f g = refl
+none_again :
+    (sends resend probes hole early text : Bool) → resend ≡ false → probes ≡ false → hole ≡ false → early ≡ false
+    → (sends && (resend || (probes || (hole || (early && not text))))) ≡ false
+none_again true resend probes hole early text e f g h =
+    neither resend _ e (neither probes _ f (neither hole (early && not text) g (ap (λ (t : Bool). t && not text) h)))
+none_again false resend probes hole early text e f g h = refl
 
 module _ (cx : ContextValue) (v : TcpValue) (pair : EndpointPair) (named : v.block.names.pair ≡ Some pair) (m : Starts cx v)
-    (sends : sends_text v.block.state ≡ true) (sent : resends v.block ≡ true → 1 ≤ v.block.sender.top)
+    (sends : sends_text v.block.state ≡ true) (sent : resends v.block pair.addresses cx.ip_mtu v.queued ≡ true → 1 ≤ v.block.sender.top)
     (runs : is_due cx.moment v.block.timers.retransmit_at ≡ false → v.block.timers.retransmit_at ≡ None) where
   abbrev Roused : Block → Type 0
   Roused new = IsRoused pair.addresses cx.ip_mtu v.block new
@@ -135,9 +138,9 @@ module _ (cx : ContextValue) (v : TcpValue) (pair : EndpointPair) (named : v.blo
   backed = record {
     timeouts = capped v.block.sender.timeouts;
     unanswered = refl;
-    again = λ resend _.
-        none_again (sends_text v.block.state) v.block.sender.resend false (fills_hole b) resend refl
-        (no_hole cx v pair named m sends sent b refl);
+    again = λ resend _ text.
+        none_again (sends_text v.block.state) v.block.sender.resend false (fills_hole b) (goes_early b) text resend refl (no_hole b refl)
+        (none_early b refl);
     voice =
         ap (λ (r : RenoValue). record {
           limit = size_limit v.block pair.addresses cx.ip_mtu;
@@ -167,9 +170,9 @@ module _ (cx : ContextValue) (v : TcpValue) (pair : EndpointPair) (named : v.blo
   idle not_due none = record {
     timeouts = one_above v.block.sender.timeouts;
     unanswered = refl;
-    again = λ resend probes.
-        none_again (sends_text v.block.state) v.block.sender.resend v.block.loss.probes (fills_hole (begun cx v)) resend probes
-        (no_hole cx v pair named m sends sent (begun cx v) none);
+    again = λ resend probes text.
+        none_again (sends_text v.block.state) v.block.sender.resend v.block.loss.probes (fills_hole (begun cx v)) (goes_early (begun cx v)) text resend
+        probes (no_hole (begun cx v) none) (none_early (begun cx v) none);
     voice = refl;
     slowed = λ some. clash (sym some ∙ ap is_some (runs not_due));
   }
@@ -231,7 +234,7 @@ pub record IsSpoken (addresses : AddressPair) (mtu : ℕ) (v : TcpValue) (b : Bl
   pub queued : x.queued ≡ v.queued
   -- the timer runs, but behind a probe of a closed window
   pub runs : (is_some x.block.timers.retransmit_at ≡ true) ⊎ (x.block.peer.window ≡ 0)
-  pub size : (resends b ≡ true) ⊎ HasSize v (text_choice b addresses mtu v.queued).len o
+  pub size : (resends b addresses mtu v.queued ≡ true) ⊎ HasSize v (text_choice b addresses mtu v.queued).len o
 
 armed_probes : (b : Block) (l : Loss) (now : ℤ) → (probe_armed b l now).probes ≡ l.probes
 armed_probes b l now =
@@ -251,11 +254,11 @@ went_runs : (b : Block) (o : OpenOffer) (queued : ℕ) → is_some (went b o que
 went_runs b o queued = started b.timers.retransmit_at (timeout_from o.moment (nxt_moved b (end_of b o) queued o.moment).round_trip)
 
 -- nothing is to go again
-not_again : (sends resend probes hole : Bool) → sends ≡ true → (sends && (resend || (probes || hole))) ≡ false → (resend ≡ false) × (probes ≡ false)
-not_again false resend probes hole e f = clash (sym e)
-not_again true true probes hole e f = clash f
-not_again true false true hole e f = clash f
-not_again true false false hole e f = (refl, refl)
+not_again : (sends resend probes more : Bool) → sends ≡ true → (sends && (resend || (probes || more))) ≡ false → (resend ≡ false) × (probes ≡ false)
+not_again false resend probes more e f = clash (sym e)
+not_again true true probes more e f = clash f
+not_again true false true more e f = clash f
+not_again true false false more e f = (refl, refl)
 
 control_most : (c : Choice) (queued : ℕ) → control_len (control_for c queued) ≤ 1
 control_most c queued =
@@ -277,7 +280,7 @@ one_offer mine k e = cc
 none_offered : {A : Type 0} → (k : OpenOffer) → None ≡ Some k → A
 none_offered k e = absurd (cc)
 
-module _ (cx : ContextValue) (v : TcpValue) (pair : EndpointPair) (b : Block) (s : StartsWith cx v b) where
+module _ (cx : ContextValue) (v : TcpValue) (pair : EndpointPair) (b : Block) (s : StartsWith cx v pair b) where
   abbrev x : TcpValue
   x = with_block (unoffered v) b
 
@@ -311,7 +314,8 @@ module _ (cx : ContextValue) (v : TcpValue) (pair : EndpointPair) (b : Block) (s
   told d o = recorded d o (room_of v.received)
 
   -- what is to go again
-  fast : resends b ≡ true → Speaks (offer_choice Kind.FastRetransmission cx x pair (resend_choice b pair.addresses cx.ip_mtu v.queued))
+  fast : resends b pair.addresses cx.ip_mtu v.queued ≡ true
+      → Speaks (offer_choice Kind.FastRetransmission cx x pair (resend_choice b pair.addresses cx.ip_mtu v.queued))
   fast e k is _ =
       subst (λ (o : OpenOffer). Spoken o (settled true (offer_choice Kind.FastRetransmission cx x pair choice).socket)) (one_offer it k is)
       (record {
@@ -335,9 +339,9 @@ module _ (cx : ContextValue) (v : TcpValue) (pair : EndpointPair) (b : Block) (s
       again : Block
       again = resent (told b it) (end_of (told b it) it)
 
-  module _ (quiet : resends b ≡ false) where
+  module _ (quiet : resends b pair.addresses cx.ip_mtu v.queued ≡ false) where
     none : (b.sender.resend ≡ false) × (b.loss.probes ≡ false)
-    none = not_again (sends_text b.state) b.sender.resend b.loss.probes (fills_hole b) s.sends quiet
+    none = not_again (sends_text b.state) b.sender.resend b.loss.probes _ s.sends quiet
 
     -- text from SND.UNA on
     text_size : HasSize v len (mine Kind.Text b (text_choice b pair.addresses cx.ip_mtu v.queued))
@@ -521,14 +525,15 @@ module _ (cx : ContextValue) (v : TcpValue) (pair : EndpointPair) (b : Block) (s
         })
 
   speaks : Speaks (first_rules cx x pair)
-  speaks = at (resends b) refl where
-    at : (t : Bool) → resends b ≡ t → Speaks (first_rules cx x pair)
+  speaks = at (resends b pair.addresses cx.ip_mtu v.queued) refl where
+    at : (t : Bool) → resends b pair.addresses cx.ip_mtu v.queued ≡ t → Speaks (first_rules cx x pair)
     at false e = first e
     at true e =
         subst Speaks
         (sym
         (if_not (owes_syn b) (offer_syn cx x pair) rest (no_syn cx v pair b s)
-        ∙ if_so (resends b) (offer_choice Kind.FastRetransmission cx x pair (resend_choice b pair.addresses cx.ip_mtu v.queued)) later e))
+        ∙ if_so (resends b pair.addresses cx.ip_mtu v.queued)
+        (offer_choice Kind.FastRetransmission cx x pair (resend_choice b pair.addresses cx.ip_mtu v.queued)) later e))
         (fast e)
       where
         later : Offered TcpValue
@@ -537,7 +542,9 @@ module _ (cx : ContextValue) (v : TcpValue) (pair : EndpointPair) (b : Block) (s
             else last_rules cx (probing cx x) pair
 
         rest : Offered TcpValue
-        rest = if resends b then offer_choice Kind.FastRetransmission cx x pair (resend_choice b pair.addresses cx.ip_mtu v.queued) else later
+        rest =
+            if resends b pair.addresses cx.ip_mtu v.queued
+            then offer_choice Kind.FastRetransmission cx x pair (resend_choice b pair.addresses cx.ip_mtu v.queued) else later
 
   -- as much as once the timer has run out
   text_says : IsSlowed b ⊎ (b.peer.window ≡ 0) → len ≡ says (voice_of pair.addresses cx.ip_mtu b) v.queued
@@ -566,12 +573,12 @@ module _ (cx : ContextValue) (v : TcpValue) (pair : EndpointPair) (b : Block) (s
 
 -- of a socket that starts over with nothing in flight and no timer
 module _ (cx : ContextValue) (v : TcpValue) (pair : EndpointPair) (named : v.block.names.pair ≡ Some pair) (m : Starts cx v)
-    (sends : sends_text v.block.state ≡ true) (sent : resends v.block ≡ true → 1 ≤ v.block.sender.top) (none : v.block.sender.in_flight ≡ 0)
-    (timer : v.block.timers.retransmit_at ≡ None) where
+    (sends : sends_text v.block.state ≡ true) (sent : resends v.block pair.addresses cx.ip_mtu v.queued ≡ true → 1 ≤ v.block.sender.top)
+    (none : v.block.sender.in_flight ≡ 0) (timer : v.block.timers.retransmit_at ≡ None) where
   not_due : is_due cx.moment v.block.timers.retransmit_at ≡ false
   not_due = ap (is_due cx.moment) timer
 
-  starts : StartsWith cx v (begun cx v)
+  starts : StartsWith cx v pair (begun cx v)
   starts = idles cx v pair named m sends sent not_due none
 
   pub spoken : (o : OpenOffer) → (offer_of cx v).socket.offered ≡ Some o → carries o.kind ≡ true →

@@ -13,13 +13,13 @@ use Rattle.tcp_rules.proofs.OrderSteps.{clash}
 use Rattle.tcp_model.specs.Timeout.{end_by, timeout_end, waits_for_remote}
 use Rattle.tcp_rules.specs.State.{State}
 use Rattle.tcp_rules.specs.State.TheVariants as In
-use Rattle.tcp_rules.specs.States.{is_answering, is_closed, is_opening, is_time_wait, sends_text}
+use Rattle.tcp_rules.specs.States.{is_closed, is_time_wait, sends_text}
 use Rattle.tcp_pair_model.specs.Arrival.{arrives}
 use Rattle.tcp_pair_model.specs.Block.{Block}
 use Rattle.tcp_pair_model.specs.Offers.{offer_of}
 use Rattle.tcp_pair_model.specs.Probing.{is_probing, probe_moment}
-use Rattle.tcp_pair_model.specs.Retries.{gives_up, is_last_question, is_last_timeout, reaches, retries_of}
-use Rattle.tcp_pair_model.specs.Rules.{has_text, keep_alive_moment, resends, time_wait_end}
+use Rattle.tcp_pair_model.specs.Retries.{gives_up}
+use Rattle.tcp_pair_model.specs.Rules.{has_text, resends, time_wait_end}
 use Rattle.tcp_rules.specs.EndpointPair.{EndpointPair}
 use Rattle.tcp_rules.specs.Names.{Names}
 use Rattle.net_base.specs.Ring.{Ring}
@@ -47,7 +47,7 @@ use Rattle.tcp_progress.specs.Reached.{IsReached}
 use Rattle.tcp_progress.specs.Rounds.{comes, later_of, takes}
 use Rattle.tcp_progress.specs.Sent.{is_early}
 use Rattle.tcp_progress.specs.Settle.{read_in, restart_by, restart_in}
-use Rattle.tcp_progress.specs.Talking.{AreTalking, HasMinutes, MayTalk, NeverGiveUp, SpeaksIn}
+use Rattle.tcp_progress.specs.Talking.{AreTalking, HasMinutes, MayTalk, SpeaksIn}
 use Rattle.tcp_progress.proofs.Calm.{answer_bare, no_stamp}
 use Rattle.tcp_progress.proofs.Opened.{is_open}
 use Rattle.tcp_progress.proofs.Held.{IsSet, asked_sets, goes_then}
@@ -438,7 +438,8 @@ module _ (n : ℕ) (p : PairValue) (side : Side) (r : IsReached p) (s : BothStay
 
   asked : IsSet (context_of x side t) pair v (offer_of (context_of x side t) v).socket
   asked =
-      asked_sets (context_of x side t) v pair (named_in x side rx mine).1 starts sends (again_sent x side rx (of x side sx).acked) runs
+      asked_sets (context_of x side t) v pair (named_in x side rx mine).1 starts sends
+      (again_sent x side rx (of x side sx).acked pair.addresses 1500 v.queued) runs
 
   pub set : IsSet (context_of x side t) pair v w
   set =
@@ -471,6 +472,9 @@ module _ (n : ℕ) (p : PairValue) (side : Side) (r : IsReached p) (s : BothStay
   same_queue : queued_in w ≡ queued_in v
   same_queue = ap (λ (q : Ring ℕ). length q.queue) set.queued
 
+  pub again_y : resends w.block pair.addresses 1500 w.queued ≡ true → 1 ≤ w.block.sender.top
+  again_y = subst (λ (q : Ring ℕ). resends w.block pair.addresses 1500 q ≡ true → 1 ≤ w.block.sender.top) (sym set.queued) set.again
+
   owes_y : 1 ≤ left_of w
   owes_y =
       subst (λ (k : ℕ). 1 ≤ k)
@@ -496,15 +500,15 @@ module _ (n : ℕ) (p : PairValue) (side : Side) (r : IsReached p) (s : BothStay
     }
 
     set_y :
-        (resends w.block ≡ true) ⊎ ((has_text w.block pair.addresses 1500 w.queued ≡ true)
+        (resends w.block pair.addresses 1500 w.queued ≡ true) ⊎ ((has_text w.block pair.addresses 1500 w.queued ≡ true)
         ⊎ (is_probing w.block (queued_in w) ≡ true → is_some w.block.timers.probe_at ≡ true))
     set_y = by set.set where
       by :
-          (resends w.block ≡ true) ⊎ ((has_text w.block pair.addresses 1500 v.queued ≡ true)
+          (resends w.block pair.addresses 1500 v.queued ≡ true) ⊎ ((has_text w.block pair.addresses 1500 v.queued ≡ true)
           ⊎ (is_probing w.block (queued_in v) ≡ true → is_some w.block.timers.probe_at ≡ true))
-          → (resends w.block ≡ true) ⊎ ((has_text w.block pair.addresses 1500 w.queued ≡ true)
+          → (resends w.block pair.addresses 1500 w.queued ≡ true) ⊎ ((has_text w.block pair.addresses 1500 w.queued ≡ true)
           ⊎ (is_probing w.block (queued_in w) ≡ true → is_some w.block.timers.probe_at ≡ true))
-      by (inl e) = inl e
+      by (inl e) = inl (subst (λ (q : Ring ℕ). resends w.block pair.addresses 1500 q ≡ true) (sym set.queued) e)
       by (inr (inl e)) = inr (inl (subst (λ (q : Ring ℕ). has_text w.block pair.addresses 1500 q ≡ true) (sym set.queued) e))
       by (inr (inr e)) = inr (inr (subst (λ (k : ℕ). is_probing w.block k ≡ true → is_some w.block.timers.probe_at ≡ true) (sym same_queue) e))
 
@@ -520,7 +524,7 @@ module _ (n : ℕ) (p : PairValue) (side : Side) (r : IsReached p) (s : BothStay
     pub out : SendsOut (context_of y side then_at) w (offer_of (context_of y side then_at) w)
     out =
         goes_then (context_of y side then_at) w pair (ap (λ (names : Names). names.pair) set.names ∙ (named_in x side rx mine).1) starts_y
-        (ap sends_text set.state ∙ sends) set.again set.none set.timer (reached_cwnd y side reached_y) set_y come
+        (ap sends_text set.state ∙ sends) again_y set.none set.timer (reached_cwnd y side reached_y) set_y come
 
     theirs : is_synchronized u.block.state ≡ true
     theirs =

@@ -1,5 +1,5 @@
 -- Space that came free, and is worth telling, is told with whatever goes next.
-use Rattle.std.proofs.Common.{◌≡◌, ◌==◌, ◌&&◌, ◌||◌, ℕ, min, not, Bool, true, false, if◌then◌else◌, List, length, Option, Some, None, refl, sym, ap, ◌∙◌, subst, arith}
+use Rattle.std.proofs.Common.{◌≡◌, ◌==◌, ◌&&◌, ◌||◌, ℕ, min, not, Bool, true, false, if◌then◌else◌, List, length, Option, Some, refl, sym, ap, ◌∙◌, subst}
 use Rattle.std.proofs.lemmas.Bool.{cond_both}
 use Rattle.tcp_tie.specs.Context.{ContextValue}
 use Rattle.tcp_tie.specs.Offers.{Offered}
@@ -47,7 +47,8 @@ asks_now ip_mtu v pair named alive o =
 
     some : any wanted ≡ true
     some =
-        fourth (owes_syn v.block) (resends v.block) (has_text v.block pair.addresses ip_mtu v.queued) (updates_window v.block (room_of v.received) (free_in v)) _
+        fourth (owes_syn v.block) (resends v.block pair.addresses ip_mtu v.queued) (has_text v.block pair.addresses ip_mtu v.queued)
+        (updates_window v.block (room_of v.received) (free_in v)) _
         (ap (λ (t : Bool). t && is_worth_telling v.block (room_of v.received) (free_in v)) o.takes ∙ o.worth)
 
 -- WHAT GOES
@@ -112,7 +113,8 @@ module _ (cx : ContextValue) (v : TcpValue) (owes : OwesUpdate v) where
   first pair b k =
       cond_both (owes_syn b) (offer_syn cx x pair) again Tells (λ due. clash (sym due ∙ no_syn))
       (λ _.
-      cond_both (resends b) (offer_choice Kind.FastRetransmission cx x pair (resend_choice b pair.addresses cx.ip_mtu v.queued)) text Tells
+      cond_both (resends b pair.addresses cx.ip_mtu v.queued)
+      (offer_choice Kind.FastRetransmission cx x pair (resend_choice b pair.addresses cx.ip_mtu v.queued)) text Tells
       (λ _. record { offer = _; offered = refl; tells = told b k })
       (λ _.
       cond_both (has_text b pair.addresses cx.ip_mtu v.queued)
@@ -131,7 +133,9 @@ module _ (cx : ContextValue) (v : TcpValue) (owes : OwesUpdate v) where
           else last_rules cx (probing cx x) pair
 
       again : Offered TcpValue
-      again = if resends b then offer_choice Kind.FastRetransmission cx x pair (resend_choice b pair.addresses cx.ip_mtu v.queued) else text
+      again =
+          if resends b pair.addresses cx.ip_mtu v.queued
+          then offer_choice Kind.FastRetransmission cx x pair (resend_choice b pair.addresses cx.ip_mtu v.queued) else text
 
       no_syn : owes_syn b ≡ false
       no_syn =

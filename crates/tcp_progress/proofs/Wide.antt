@@ -45,7 +45,7 @@ use Rattle.tcp_model.specs.Scoreboard.{held}
 use Rattle.tcp_pair_model.specs.Calls.{listening, connected_by, pair_for, sent_more}
 use Rattle.tcp_pair_model.specs.FirstNumbers.{number_for}
 use Rattle.tcp_pair_model.specs.LossRecovery.{all_noted, heard_more, is_lost_again, loss_lowered, loss_probed, probe_armed, probe_from, probes_losses}
-use Rattle.tcp_pair_model.specs.LossRecovery.{probes_tail, ranges_noted, with_board}
+use Rattle.tcp_pair_model.specs.LossRecovery.{probe_begins, probes_tail, ranges_noted, with_board}
 use Rattle.tcp_pair_model.specs.Offers.{number_at, offer_choice, offer_of, offer_segment}
 use Rattle.tcp_pair_model.specs.Retries.{asked, heard, one_more}
 use Rattle.tcp_pair_model.specs.Rules.{Choice, backed_off_now, control_for, probe_choice, resend_choice, text_choice}
@@ -468,7 +468,7 @@ probed_wide b w = record {
       cond_both (probes_tail b) b.reno (reno.reduced b.reno b.sender.in_flight) IsWide (λ _. w.reno)
       (λ _. wide_reduced b.reno b.sender.in_flight w.reno);
   undo =
-      cond_both (not (probes_tail b) && (b.sender.recover == 0)) (undo_begun b) b.loss.undo (λ (o : Option Undo). IfSome o (λ u. IsWide u.reno))
+      cond_both (probe_begins b) (undo_begun b) b.loss.undo (λ (o : Option Undo). IfSome o (λ u. IsWide u.reno))
       (λ _. undo_wide b w) (λ _. w.undo);
   peer = w.peer;
 }

@@ -16,3 +16,4 @@ pub mod Windows
 pub mod BothWays
 pub mod Talking
 pub mod Connection
+pub mod Bare

@@ -1,6 +1,7 @@
 //! Laws of two sockets: a connection goes on.
 #![tactic(auto)]
 
+pub mod bare;
 pub mod both_ways;
 pub mod connection;
 pub mod handshake;
