@@ -27,6 +27,7 @@ pub mod Unrefused
 pub mod Loopbacks
 pub mod ByKind
 pub mod Sourced
+pub mod Straight
 pub mod FreeSlots
 pub mod Chosen
 pub mod Told

@@ -3,6 +3,7 @@ use Rattle.std.specs.Prelude.{◌≡◌, ℕ, ℤ, pos, ◌+ℤ◌, not, ◌&&�
 use Rattle.net_base.specs.Device.{Move, Allowed}
 use Rattle.ip_wire.specs.AddressTests.{is_same_address}
 use Rattle.ip_wire.specs.Ip.{source_of, destination_of}
+use Rattle.ip_wire.specs.HardwareAddress.{HardwareAddress}
 use Rattle.ip_wire.specs.IpAddress.{IpAddress}
 use Rattle.ip_wire.specs.IpAddress.TheVariants as Address
 use Rattle.ip_wire.specs.IpRepr.{IpRepr}
@@ -12,14 +13,14 @@ use Rattle.interface_ingress.specs.Offer as Answer
 use Rattle.interface_ingress.specs.Offer.TheVariants as Offer
 use Rattle.interface_tables.specs.Inner.{InnerValue, has_neighbor, may_come_from, is_crowded, next_request}
 use Rattle.interface_tables.specs.Source.{source_for}
-use Rattle.interface_egress.specs.Departure.{target_of}
+use Rattle.interface_egress.specs.Departure.{Whole, target_of}
 use Rattle.interface_egress.specs.Meta.{silent_time, neighbor_of, waits, freed, missed, has_waited, unmarked}
 use Rattle.interface_egress.specs.declared.socket_meta.Meta.{Meta}
 use Rattle.interface_egress.specs.declared.socket_set.Item.{Item}
 use Rattle.interface_egress.specs.declared.socket_set.SocketStorage.{SocketStorage}
 use Rattle.interface_ingress.specs.Sockets.{Offers, offered_by, settled}
 use Rattle.interface_ingress.specs.Socket.{Socket}
-use Rattle.interface_egress.specs.GoesOut.{GoesOut}
+use Rattle.interface_egress.specs.GoesOut.{GoesOut, Went, numbered}
 use Rattle.interface_ingress.specs.WellFormed.{IsWellFormed}
 use Rattle.interface_egress.specs.Plan.{plan_of}
 use Rattle.interface_egress.specs.declared.plan.Plan.{Plan}
@@ -153,6 +154,14 @@ plan_at s p = plan_of s.inner (is_some s.left) p.header
 abbrev pub outcome_by : Bool → Option Sent → Option Sent
 outcome_by false held = Some Outcome.Refused
 outcome_by true held = held
+
+-- a packet goes whole to a hardware address, if the device gives leave and takes its frame; then its socket waits for nobody
+abbrev pub LeavesStraight : {D : Type 0} → (D → Move → D → Type 0) → HardwareAddress → PacketValue → D → InnerValue → Meta → Sent → D →
+    InnerValue → Meta → Type 0
+LeavesStraight {D} moves to p old i m sent new i' m' =
+    (moves old (Allowed i.moment false) new × (i' ≡ i) × (sent ≡ Outcome.Refused) × (m' ≡ m))
+    ⊎ ((mid : D) × moves old (Allowed i.moment true) mid × Went moves mid i p.header (Whole to (numbered i p)) sent new i'
+    × (m' ≡ (if is_done sent then unmarked else m)))
 
 -- `turn` is the neighbour whose turn it is to be asked for, if a socket waits for one.
 module _ {D : Type 0} (moves : D → Move → D → Type 0) (turn : Option IpAddress) where

@@ -15,7 +15,7 @@ use interface_egress::{
 use interface_ingress::laws::same_settings;
 use interface_ingress::widths::fields_have_widths;
 use interface_ingress::{
-    Context, Incoming, Reply, Socket, bring, keep, read_into, release, take_in,
+    Context, Incoming, Reply, Socket, bring, keep, read_into, release, take_in, take_short,
 };
 use net_base::{Device, Duration, RxToken};
 
@@ -64,6 +64,36 @@ fn is_read(frame: &[u8]) -> bool
 
 /// Takes in what a frame carries, and answers it.
 fn read_frame<D: Device>(
+    inner: &mut InterfaceInner,
+    fragmenter: &mut Fragmenter,
+    slots: &mut PacketAssemblerSet,
+    timeout: Duration,
+    device: &mut D,
+    token: D::TxToken,
+    places: &mut [SocketStorage<Socket>],
+    frame: &[u8],
+)
+    requires room { D.refused device.old + 1 < 2 ^ 64 }
+    ensures reads { Reads D.moves frame.now (state device.old (host inner.old fragmenter.old slots.old timeout) places.old)
+        (state device.new (host inner.new fragmenter.new slots.new timeout) places.new) }
+    ensures settings { KeepsSettings inner.old inner.new }
+    ensures capabilities { D.described device.new ≡ D.described device.old }
+{
+    same_settings();
+    let mut reply = None;
+    if take_short(inner, places, frame, &mut reply) {
+        answer(inner, fragmenter, device, token, places, &reply);
+    } else {
+        read_any(
+            inner, fragmenter, slots, timeout, device, token, places, frame,
+        );
+    }
+}
+
+/// Takes in what any frame carries, and answers it. It stands apart, so that its content isn't made ready for a frame that goes the short
+/// way.
+#[inline(never)]
+fn read_any<D: Device>(
     inner: &mut InterfaceInner,
     fragmenter: &mut Fragmenter,
     slots: &mut PacketAssemblerSet,

@@ -12,13 +12,13 @@ use net_base::Device;
 /// Gives each socket its turn, in order, until one ends the pass. Says whether a socket or a queue changed. `turn` is the neighbour
 /// whose turn it is to be asked for, if a socket waits for one.
 pub fn pass<D: Device>(
-    turn: Option<IpAddress>,
+    turn: &Option<IpAddress>,
     inner: &mut InterfaceInner,
     fragmenter: &mut Fragmenter,
     device: &mut D,
     places: &mut [SocketStorage<Socket>],
 ) -> bool
-    ensures pass { Pass D.moves turn (sender device.old inner.old fragmenter.old) [] false places.old
+    ensures pass { Pass D.moves turn.now (sender device.old inner.old fragmenter.old) [] false places.old
         (passed (sender device.new inner.new fragmenter.new) places.new result) }
     ensures capabilities { D.described device.new ≡ D.described device.old }
 {

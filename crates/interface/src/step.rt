@@ -49,7 +49,7 @@ fn send_turns<D: Device>(
         return false;
     }
     let turn = turn_if_any(inner, places);
-    pass(turn, inner, fragmenter, device, places)
+    pass(&turn, inner, fragmenter, device, places)
 }
 
 /// Sends the piece that waits. Says whether none waits to go before the sockets' packets any more.

@@ -12,19 +12,20 @@ ghost use Rattle.interface.specs.Host.{sender};
 ghost use Rattle.interface.specs.Remote.{context_for};
 ghost use Rattle.interface.specs.Turn.{is_known, is_heard, is_waiting, is_given_up, is_other, is_out_of_turn, held, waits_until, is_done, marked};
 ghost use Rattle.interface.specs.Turn.{is_raw, keeps_source, with_source, sourced_header, sourced};
-ghost use Rattle.interface.specs.Turn.{turned_by, Leaves, LeavesAs, HasLeft, Sends, Turns, PlaceTurns};
+ghost use Rattle.interface.specs.Turn.{turned_by, Leaves, LeavesAs, LeavesStraight, HasLeft, Sends, Turns, PlaceTurns};
 ghost use Rattle.interface_egress.specs.Meta.{freed};
 
 use crate::remote::remote_of;
 use interface_egress::{
     Fragmenter, InterfaceInner, Item, Meta, Plan, Sent, SocketStorage, dispatch_by, plan_from,
+    send_whole, straight_to,
 };
 use interface_ingress::addresses::is_same_address;
 use interface_ingress::socket_laws::unsent_is_offered_again;
 use interface_ingress::widths::fields_have_widths;
 use interface_ingress::{Context, IpPayload, Offer, Packet, Socket};
 use interface_tables::Look;
-use ip_wire::{IpAddress, IpRepr, Ipv4Repr, Ipv6Repr};
+use ip_wire::{HardwareAddress, IpAddress, IpRepr, Ipv4Repr, Ipv6Repr};
 use net_base::{Device, Duration, Instant};
 
 /// How long a packet waits for a route, in milliseconds.
@@ -44,13 +45,13 @@ pub enum Turned {
 
 /// Gives the socket at a place its turn, if there is one. `turn` is the neighbour whose turn it is to be asked for.
 pub fn take_place<D: Device>(
-    turn: Option<IpAddress>,
+    turn: &Option<IpAddress>,
     inner: &mut InterfaceInner,
     fragmenter: &mut Fragmenter,
     device: &mut D,
     place: &mut SocketStorage<Socket>,
 ) -> Turned
-    ensures turn { PlaceTurns D.moves turn (sender device.old inner.old fragmenter.old) place.old result
+    ensures turn { PlaceTurns D.moves turn.now (sender device.old inner.old fragmenter.old) place.old result
         (sender device.new inner.new fragmenter.new) place.new }
     ensures capabilities { D.described device.new ≡ D.described device.old }
 {
@@ -63,13 +64,13 @@ pub fn take_place<D: Device>(
 /// Asks a socket that doesn't wait for a packet, which goes out or stays with it. `turn` is the neighbour whose turn it is to be asked
 /// for, if a socket waits for one.
 pub fn take_turn<D: Device>(
-    turn: Option<IpAddress>,
+    turn: &Option<IpAddress>,
     inner: &mut InterfaceInner,
     fragmenter: &mut Fragmenter,
     device: &mut D,
     item: &mut Item<Socket>,
 ) -> Turned
-    ensures turn { Turns D.moves turn (sender device.old inner.old fragmenter.old) item.old result (sender device.new inner.new fragmenter.new) item.new }
+    ensures turn { Turns D.moves turn.now (sender device.old inner.old fragmenter.old) item.old result (sender device.new inner.new fragmenter.new) item.new }
     ensures capabilities { D.described device.new ≡ D.described device.old }
 {
     if waits(inner, &mut item.meta) {
@@ -116,7 +117,7 @@ pub(crate) fn is_known(inner: &InterfaceInner, neighbor: Option<IpAddress>) -> b
 
 /// Sends the packet of the open offer, and tells the socket what became of it.
 fn send_offered<D: Device>(
-    turn: Option<IpAddress>,
+    turn: &Option<IpAddress>,
     inner: &mut InterfaceInner,
     fragmenter: &mut Fragmenter,
     device: &mut D,
@@ -125,7 +126,7 @@ fn send_offered<D: Device>(
 ) -> Turned
     requires offered { HasPacket (Answer.Packet changed) (offered_by item.old.socket) }
     requires sendable { IfSendable (offered_by item.old.socket) }
-    ensures sends { Sends D.moves turn (sender device.old inner.old fragmenter.old) item.old changed result
+    ensures sends { Sends D.moves turn.now (sender device.old inner.old fragmenter.old) item.old changed result
         (sender device.new inner.new fragmenter.new) item.new }
     ensures capabilities { D.described device.new ≡ D.described device.old }
 {
@@ -138,9 +139,10 @@ fn send_offered<D: Device>(
     turned_by(sent, changed)
 }
 
-/// Lets a packet leave from its source, if the device gives leave. One that keeps its source isn't copied.
+/// Lets a packet leave from its source, if the device gives leave: straight to a hardware address, as nearly each does, else by its
+/// plan.
 fn let_leave<D: Device>(
-    turn: Option<IpAddress>,
+    turn: &Option<IpAddress>,
     inner: &mut InterfaceInner,
     fragmenter: &mut Fragmenter,
     device: &mut D,
@@ -149,7 +151,54 @@ fn let_leave<D: Device>(
 ) -> Sent
     requires sendable { IsSendable (packet_value packet.now) }
     requires formed { IsWellFormed (packet_value packet.now) }
-    ensures left { HasLeft D.moves turn (sender device.old inner.old fragmenter.old) meta.old (packet_value packet.now)
+    ensures left { HasLeft D.moves turn.now (sender device.old inner.old fragmenter.old) meta.old (packet_value packet.now)
+        result (sender device.new inner.new fragmenter.new) meta.new }
+    ensures capabilities { D.described device.new ≡ D.described device.old }
+{
+    match straight_to(inner, &packet.ip_repr()) {
+        Some(to) => leave_straight(inner, device, meta, packet, to),
+        None => leave_planned(turn, inner, fragmenter, device, meta, packet),
+    }
+}
+
+/// Lets a packet leave straight to a hardware address, if the device gives leave.
+fn leave_straight<D: Device>(
+    inner: &mut InterfaceInner,
+    device: &mut D,
+    meta: &mut Meta,
+    packet: &Packet<'_>,
+    to: HardwareAddress,
+) -> Sent
+    requires sendable { IsSendable (packet_value packet.now) }
+    ensures left { LeavesStraight D.moves to (packet_value packet.now) device.old inner.old meta.old result device.new inner.new meta.new }
+    ensures capabilities { D.described device.new ≡ D.described device.old }
+{
+    match device.transmit(inner.now()) {
+        Some(token) => {
+            let sent = send_whole(inner, device, token, to, packet);
+            if is_done(sent) {
+                meta.unmark();
+            }
+            sent
+        }
+        None => Sent::Refused,
+    }
+}
+
+/// Lets a packet leave from its source by its plan, if the device gives leave. One that keeps its source isn't copied. It stands apart, so
+/// that its plan isn't made ready where none is needed.
+#[inline(never)]
+fn leave_planned<D: Device>(
+    turn: &Option<IpAddress>,
+    inner: &mut InterfaceInner,
+    fragmenter: &mut Fragmenter,
+    device: &mut D,
+    meta: &mut Meta,
+    packet: &Packet<'_>,
+) -> Sent
+    requires sendable { IsSendable (packet_value packet.now) }
+    requires formed { IsWellFormed (packet_value packet.now) }
+    ensures left { HasLeft D.moves turn.now (sender device.old inner.old fragmenter.old) meta.old (packet_value packet.now)
         result (sender device.new inner.new fragmenter.new) meta.new }
     ensures capabilities { D.described device.new ≡ D.described device.old }
 {
@@ -165,7 +214,7 @@ fn let_leave<D: Device>(
 /// none is needed.
 #[inline(never)]
 fn leave_sourced<D: Device>(
-    turn: Option<IpAddress>,
+    turn: &Option<IpAddress>,
     inner: &mut InterfaceInner,
     fragmenter: &mut Fragmenter,
     device: &mut D,
@@ -173,7 +222,7 @@ fn leave_sourced<D: Device>(
     packet: &Packet<'_>,
 ) -> Sent
     requires sendable { IsSendable (packet_value packet.now) }
-    ensures left { HasLeft D.moves turn (sender device.old inner.old fragmenter.old) meta.old (packet_value packet.now)
+    ensures left { HasLeft D.moves turn.now (sender device.old inner.old fragmenter.old) meta.old (packet_value packet.now)
         result (sender device.new inner.new fragmenter.new) meta.new }
     ensures capabilities { D.described device.new ≡ D.described device.old }
 {
@@ -185,7 +234,7 @@ fn leave_sourced<D: Device>(
 
 /// Lets a packet leave as it is, of which it is known whether it may come from its source.
 fn leave_as_is<D: Device>(
-    turn: Option<IpAddress>,
+    turn: &Option<IpAddress>,
     inner: &mut InterfaceInner,
     fragmenter: &mut Fragmenter,
     device: &mut D,
@@ -196,7 +245,7 @@ fn leave_as_is<D: Device>(
     requires sendable { IsSendable (packet_value leaving.now) }
     requires formed { IsWellFormed (packet_value leaving.now) }
     requires known { from_here ≡ comes_from_here inner.old (packet_value leaving.now).header }
-    ensures left { LeavesAs D.moves turn (sender device.old inner.old fragmenter.old) meta.old (packet_value leaving.now)
+    ensures left { LeavesAs D.moves turn.now (sender device.old inner.old fragmenter.old) meta.old (packet_value leaving.now)
         result (sender device.new inner.new fragmenter.new) meta.new }
     ensures capabilities { D.described device.new ≡ D.described device.old }
 {
@@ -270,7 +319,7 @@ fn with_source(header: &IpRepr, source: &Option<IpAddress>) -> IpRepr
 
 /// Sends a packet that isn't held, if the device gives leave. Without leave it counts as refused.
 fn send_packet<D: Device>(
-    turn: Option<IpAddress>,
+    turn: &Option<IpAddress>,
     inner: &mut InterfaceInner,
     fragmenter: &mut Fragmenter,
     device: &mut D,
@@ -281,8 +330,8 @@ fn send_packet<D: Device>(
 ) -> Sent
     requires packet { IsPacket (packet_value packet.now) }
     requires plan { plan ≡ plan_of inner.old (is_some fragmenter.old) (packet_value packet.now).header }
-    requires fate { fate ≡ held turn meta.now inner.old (destination_of (packet_value packet.now).header) plan }
-    ensures leaves { Leaves D.moves turn (sender device.old inner.old fragmenter.old) meta.now (packet_value packet.now) result
+    requires fate { fate ≡ held turn.now meta.now inner.old (destination_of (packet_value packet.now).header) plan }
+    ensures leaves { Leaves D.moves turn.now (sender device.old inner.old fragmenter.old) meta.now (packet_value packet.now) result
         (sender device.new inner.new fragmenter.new) }
     ensures capabilities { D.described device.new ≡ D.described device.old }
 {
@@ -298,13 +347,13 @@ fn send_packet<D: Device>(
 /// What becomes of a packet that doesn't go, though the device gives leave: it is given up, or waits for its neighbour's turn to be
 /// asked for.
 fn held(
-    turn: Option<IpAddress>,
+    turn: &Option<IpAddress>,
     meta: &Meta,
     inner: &InterfaceInner,
     destination: &IpAddress,
     plan: &Plan,
 ) -> Option<Sent>
-    ensures { result ≡ held turn meta.now inner.now destination.now plan.now }
+    ensures { result ≡ held turn.now meta.now inner.now destination.now plan.now }
 {
     if is_given_up(meta, inner, destination, plan) {
         Some(Sent::Dropped)
@@ -336,8 +385,8 @@ fn is_given_up(meta: &Meta, inner: &InterfaceInner, destination: &IpAddress, pla
 }
 
 /// Whether it isn't the turn of the neighbour that a packet would ask for.
-fn is_out_of_turn(turn: Option<IpAddress>, plan: &Plan) -> bool
-    ensures { result ≡ is_out_of_turn turn plan.now }
+fn is_out_of_turn(turn: &Option<IpAddress>, plan: &Plan) -> bool
+    ensures { result ≡ is_out_of_turn turn.now plan.now }
 {
     match plan {
         Plan::Ask(question) => is_other(turn, &question.target()),
@@ -345,11 +394,11 @@ fn is_out_of_turn(turn: Option<IpAddress>, plan: &Plan) -> bool
     }
 }
 
-fn is_other(turn: Option<IpAddress>, hop: &IpAddress) -> bool
-    ensures { result ≡ is_other turn hop.now }
+fn is_other(turn: &Option<IpAddress>, hop: &IpAddress) -> bool
+    ensures { result ≡ is_other turn.now hop.now }
 {
     match turn {
-        Some(turn) => !is_same_address(&turn, hop),
+        Some(turn) => !is_same_address(turn, hop),
         None => false,
     }
 }

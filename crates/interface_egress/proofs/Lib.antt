@@ -12,4 +12,5 @@ pub mod PieceOut
 pub mod FirstOut
 pub mod OneWay
 pub mod Leaving
+pub mod GoesWhole
 pub mod Lent

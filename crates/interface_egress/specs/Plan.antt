@@ -1,6 +1,6 @@
 -- What is to be done with a packet that wants to go out.
-use Rattle.std.specs.Prelude.{◌≡◌, ℕ, ◌+◌, ◌<◌, ◌≤◌, nat_le, ◌&&◌, ◌||◌, not, Bool, false, if◌then◌else◌, Option, None, Some}
-use Rattle.ip_wire.specs.AddressTests.{is_unspecified}
+use Rattle.std.specs.Prelude.{◌≡◌, ℕ, ◌+◌, ◌<◌, ◌≤◌, nat_le, ◌&&◌, ◌||◌, not, Bool, true, false, if◌then◌else◌, Option, None, Some}
+use Rattle.ip_wire.specs.AddressTests.{is_unspecified, is_unspecified_v4, is_loopback_v4, is_multicast_v4}
 use Rattle.ip_wire.specs.HardwareAddress.{HardwareAddress}
 use Rattle.ip_wire.specs.HardwareAddress.TheVariants as Hardware
 use Rattle.ip_wire.specs.Ip as Ips
@@ -10,11 +10,12 @@ use Rattle.ip_wire.specs.IpAddress.TheVariants as Address
 use Rattle.ip_wire.specs.IpRepr.{IpRepr}
 use Rattle.ip_wire.specs.IpRepr.TheVariants as Ip
 use Rattle.ip_wire.specs.Ipv4Address.{Ipv4Address}
+use Rattle.ip_wire.specs.Ipv4Repr.{Ipv4Repr}
 use Rattle.ip_wire.specs.EthernetAddress.{EthernetAddress}
 use Rattle.ip_wire.specs.Protocol.{protocol_number, protocol_of}
 use Rattle.ipv6_headers.specs.Headers.{is_extension}
 use Rattle.socket_base.specs.Packet.{PacketValue, PayloadFits, IsSendable, payload_len}
-use Rattle.interface_tables.specs.Inner.{InnerValue, is_foreign_loopback, may_come_from, link_address, mtu_to}
+use Rattle.interface_tables.specs.Inner.{InnerValue, is_foreign_loopback, is_local_broadcast, may_come_from, link_address, mtu_to}
 use Rattle.interface_tables.specs.Source.{source_v4, source_v6, source_for}
 use Rattle.interface_tables.specs.declared.link.LinkAddress.{LinkAddress}
 use Rattle.interface_tables.specs.declared.link.LinkAddress.TheVariants as Link
@@ -101,6 +102,17 @@ plan_from i here busy header =
 
 abbrev pub plan_of : InnerValue → Bool → IpRepr → Plan
 plan_of i busy header = plan_from i (comes_from_here i header) busy header
+
+-- neither from nor for a loopback address, for an address that is specified, and from one that a host can have
+abbrev pub is_ordinary : InnerValue → Ipv4Repr → Bool
+is_ordinary i v =
+    not (is_loopback_v4 v.src_addr || is_loopback_v4 v.dst_addr) && not (is_unspecified_v4 v.dst_addr)
+    && not (is_local_broadcast i (Address.Ipv4 v.src_addr) || is_multicast_v4 v.src_addr)
+
+-- a packet comes from here, and goes whole to this hardware address, whether pieces of a datagram wait or not
+pub record GoesStraight (i : InnerValue) (header : IpRepr) (to : HardwareAddress) : Type 0 where
+  pub here : comes_from_here i header ≡ true
+  pub plan : (busy : Bool) → plan_of i busy header ≡ Way.Go to
 
 -- a packet whose header says its length, and which can be sent where that fits its field
 pub record IsPacket (p : PacketValue) : Type 0 where

@@ -11,6 +11,7 @@ mod plan;
 pub mod socket_laws;
 mod socket_meta;
 mod socket_set;
+mod straight;
 mod way_out;
 
 pub use announcement::announce;
@@ -26,4 +27,5 @@ pub use socket_meta::{Meta, Waiting};
 pub use socket_set::{
     AddError, Handles, Item, Iter, IterMut, SocketHandle, SocketSet, SocketStorage,
 };
-pub use way_out::{Sent, dispatch, dispatch_by, send_next};
+pub use straight::straight_to;
+pub use way_out::{Sent, dispatch, dispatch_by, send_next, send_whole};

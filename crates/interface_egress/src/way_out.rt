@@ -113,7 +113,7 @@ fn send_question<D: Device>(
 }
 
 /// Sends a packet in one frame.
-fn send_whole<D: Device>(
+pub fn send_whole<D: Device>(
     inner: &mut InterfaceInner,
     device: &mut D,
     token: D::TxToken,

@@ -22,4 +22,5 @@ pub mod OneArrival
 pub mod Neighbors
 pub use Rattle.sockets.proofs.AnyKind
 pub mod PieceSlots
+pub mod ShortWay
 pub mod OwnSources

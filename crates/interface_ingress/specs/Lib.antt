@@ -16,6 +16,7 @@ pub mod Parts
 pub mod PathTold
 pub mod Handed
 pub mod Arrives
+pub mod Short
 pub mod PieceRows
 pub mod Kept
 pub use Rattle.icmpv4.specs.declared.header.Icmpv4Header

@@ -39,7 +39,7 @@ fn sender_of(header: &IpRepr) -> IpAddress
 }
 
 /// Believes the sender of a packet for one host anew, if its hardware address is the one that is known.
-fn renew(inner: &mut InterfaceInner, link: &Option<EthernetRepr>, header: &IpRepr)
+pub(crate) fn renew(inner: &mut InterfaceInner, link: &Option<EthernetRepr>, header: &IpRepr)
     ensures { inner.new ≡ renewed inner.old link.now header.now }
 {
     if let Some(link) = link {

@@ -558,7 +558,7 @@ fn upper_bytes<'a>(payload: &'a [u8], behind: &Behind) -> &'a [u8]
 }
 
 /// Hands on the payload of a packet for the host that has no extension headers.
-fn hand_bare<'a>(
+pub(crate) fn hand_bare<'a>(
     inner: &mut InterfaceInner,
     places: &mut [SocketStorage<Socket>],
     header: &IpRepr,

@@ -24,6 +24,7 @@ mod places;
 mod reassemble;
 mod reply;
 pub mod reply_laws;
+mod short;
 
 pub use arrive::bring;
 pub use carried::read_payload;
@@ -34,6 +35,7 @@ pub use icmp_reply::{
 pub use incoming::{Incoming, read, read_into};
 pub use reassemble::{keep, release, take_in};
 pub use reply::Reply;
+pub use short::take_short;
 pub use sockets::{
     AnySocket, Context, IpPayload, Offer, Packet, PollAt, Socket, addresses, laws as socket_laws,
     widths,

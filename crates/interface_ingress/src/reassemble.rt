@@ -114,7 +114,7 @@ fn is_station(own: &HardwareAddress, address: &EthernetAddress) -> bool
 }
 
 /// Whether an IPv4 packet comes from one host, or from one that has no address yet.
-fn is_sender(inner: &InterfaceInner, address: &Ipv4Address) -> bool
+pub(crate) fn is_sender(inner: &InterfaceInner, address: &Ipv4Address) -> bool
     ensures { result ≡ is_sender inner.now address.now }
 {
     is_one_host(inner, address) || address.is_unspecified()

@@ -8,7 +8,7 @@ use Rattle.interface.proofs.passes.pass.Goals as goal
 pub returns-in-Stop-clause-pass : goal.returns-in-Stop-clause-pass
 returns-in-Stop-clause-pass g c =
     c.loop-at.invariant.pass _
-    (pass_stop g.D.Device.moves c.args.turn (sender c.loop-at.device c.loop-at.inner c.loop-at.fragmenter)
+    (pass_stop g.D.Device.moves c.args.turn.now (sender c.loop-at.device c.loop-at.inner c.loop-at.fragmenter)
     (sender c.take_place.new.device c.take_place.new.inner c.take_place.new.fragmenter)
     c.loop-at.places c.loop-at.at (get_or c.loop-at.places c.loop-at.at c.index-places-at.result) c.take_place.new.place c.loop-at.changed c.in-Stop.more
     (omega arith) (ap (λ (x : SocketStorage Socket). get_or c.loop-at.places c.loop-at.at x) c.index-places-at.is)
@@ -17,7 +17,7 @@ returns-in-Stop-clause-pass g c =
 pub loop-at-preserved : goal.loop-at-preserved
 loop-at-preserved g c = record {
   pass = λ e rest. c.loop-at.invariant.pass e
-      (pass_next g.D.Device.moves c.args.turn (sender c.loop-at.device c.loop-at.inner c.loop-at.fragmenter)
+      (pass_next g.D.Device.moves c.args.turn.now (sender c.loop-at.device c.loop-at.inner c.loop-at.fragmenter)
       (sender c.take_place.new.device c.take_place.new.inner c.take_place.new.fragmenter)
       c.loop-at.places c.loop-at.at (get_or c.loop-at.places c.loop-at.at c.index-places-at.result) c.take_place.new.place c.loop-at.changed c.in-Next.more
       (omega arith) (ap (λ (x : SocketStorage Socket). get_or c.loop-at.places c.loop-at.at x) c.index-places-at.is)

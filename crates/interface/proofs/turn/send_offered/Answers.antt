@@ -19,6 +19,7 @@ returns-clause-sends g c =
     let formed : IsWellFormed p = search rules in
     let marked : Socket → Item Socket = λ k. record { meta = c.let_leave-sent.new.meta; socket = k } in
     let told = c.settle.ensures ∙ ap (λ (done : Bool). settled done item.socket) c.is_done.ensures in
-    subst (λ (o : Option PacketValue). SendsBy g.D.Device.moves c.args.turn o s item c.args.changed c.turned_by.result s' (marked c.settle.new.self)) (sym is)
-    (sends_from g.D.Device.moves c.args.turn s s' p item (marked c.settle.new.self) c.args.changed c.turned_by.result c.let_leave-sent.result
+    subst (λ (o : Option PacketValue). SendsBy g.D.Device.moves c.args.turn.now o s item c.args.changed c.turned_by.result s' (marked c.settle.new.self))
+    (sym is)
+    (sends_from g.D.Device.moves c.args.turn.now s s' p item (marked c.settle.new.self) c.args.changed c.turned_by.result c.let_leave-sent.result
     c.let_leave-sent.new.meta formed c.let_leave-sent.ensures.left (ap marked told) c.turned_by.ensures)

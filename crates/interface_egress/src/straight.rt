@@ -1,0 +1,75 @@
+//! A packet that goes whole and at once, as nearly all do: from this host, to a hardware address that is known, in one frame.
+ghost use Rattle.std.specs.Prelude.{◌≡◌, nat_le, IfSome};
+ghost use Rattle.ip_wire.specs.IpAddress.TheVariants as Address;
+ghost use Rattle.ip_wire.specs.IpRepr.TheVariants as Ip;
+ghost use Rattle.interface_tables.specs.Inner.{link_address, mtu_to};
+ghost use Rattle.interface_tables.specs.declared.link.LinkAddress.TheVariants as Link;
+ghost use Rattle.interface_egress.specs.Plan.{total_len, is_ordinary, GoesStraight};
+
+use interface_tables::{InterfaceInner, LinkAddress};
+use ip_wire::{HardwareAddress, IPV4_HEADER_LEN, IpAddress, IpRepr, Ipv4Repr};
+use socket_base::Context;
+
+/// The hardware address that an IPv4 packet goes to whole, as its plan says, where that is seen at once: its addresses are compared as
+/// words. A packet of which nothing is said here goes as `plan_for` says.
+pub fn straight_to(inner: &InterfaceInner, header: &IpRepr) -> Option<HardwareAddress>
+    ensures { IfSome result (λ to. GoesStraight inner.now header.now to) }
+{
+    match header {
+        IpRepr::Ipv4(header) => straight_v4(inner, header),
+        IpRepr::Ipv6(_) => None,
+    }
+}
+
+/// The same of an IPv4 packet.
+#[tactic(auto, using(crate::proofs::GoesWhole::straight_if))]
+fn straight_v4(inner: &InterfaceInner, header: &Ipv4Repr) -> Option<HardwareAddress>
+    ensures { IfSome result (λ to. GoesStraight inner.now (Ip.Ipv4 header.now) to) }
+{
+    if is_ordinary(inner, header) && is_short(inner, header) {
+        station_of(inner, header)
+    } else {
+        None
+    }
+}
+
+/// Whether a packet stays out of the host: it is neither from nor for a loopback address, for some host, and from one.
+fn is_ordinary(inner: &InterfaceInner, header: &Ipv4Repr) -> bool
+    ensures { result ≡ is_ordinary inner.now header.now }
+{
+    let (source, destination) = (header.src_addr, header.dst_addr);
+    !(source.is_loopback() || destination.is_loopback())
+        && !destination.is_unspecified()
+        && !(inner.is_broadcast(&IpAddress::Ipv4(source)) || source.is_multicast())
+}
+
+/// Whether a packet is no longer than the path to its destination carries.
+fn is_short(inner: &InterfaceInner, header: &Ipv4Repr) -> bool
+    ensures { result ≡ nat_le (total_len (Ip.Ipv4 header.now)) (mtu_to inner.now (Address.Ipv4 header.now.dst_addr)) }
+{
+    let mtu = inner.mtu_to(&IpAddress::Ipv4(header.dst_addr));
+    match IPV4_HEADER_LEN.checked_add(header.payload_len) {
+        Some(total) => total <= mtu,
+        None => false,
+    }
+}
+
+/// Where a packet's frame goes, if that is known.
+fn station_of(inner: &InterfaceInner, header: &Ipv4Repr) -> Option<HardwareAddress>
+    ensures { IfSome result (λ to. link_address inner.now (Address.Ipv4 header.now.dst_addr) ≡ Link.Known to) }
+{
+    match inner.hardware_addr() {
+        HardwareAddress::Ip => Some(HardwareAddress::Ip),
+        HardwareAddress::Ethernet(_) => known_station(inner, &IpAddress::Ipv4(header.dst_addr)),
+    }
+}
+
+/// The same on a medium that has hardware addresses.
+fn known_station(inner: &InterfaceInner, destination: &IpAddress) -> Option<HardwareAddress>
+    ensures { IfSome result (λ to. link_address inner.now destination.now ≡ Link.Known to) }
+{
+    match inner.link_address(destination) {
+        LinkAddress::Known(to) => Some(to),
+        _ => None,
+    }
+}

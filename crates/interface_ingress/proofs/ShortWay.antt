@@ -1,0 +1,96 @@
+-- What goes the short way in arrives.
+use Rattle.std.proofs.Common.{◌≡◌, ℕ, Bool, true, false, ◌&&◌, ◌||◌, not, List, Option, Some, None, refl, sym, ap, ◌∙◌, subst}
+use Rattle.std.specs.Prelude.{if◌then◌else◌}
+use Rattle.std.specs.List.{list_any}
+use Rattle.net_base.specs.Capabilities.{verifies}
+use Rattle.ip_wire.specs.AddressTests.{is_loopback_v4}
+use Rattle.ip_wire.specs.declared.ethernet.repr.EthernetRepr.{EthernetRepr}
+use Rattle.ip_wire.specs.HardwareAddress.{HardwareAddress}
+use Rattle.ip_wire.specs.HardwareAddress.TheVariants as Hardware
+use Rattle.ip_wire.specs.IpAddress.TheVariants as Address
+use Rattle.ip_wire.specs.IpRepr.TheVariants as Ip
+use Rattle.ip_wire.specs.Ipv4 as Ipv4
+use Rattle.ip_wire.specs.Ipv4Piece.{Ipv4Piece}
+use Rattle.ip_wire.specs.Ipv4Repr.{Ipv4Repr}
+use Rattle.interface_tables.specs.Inner.{InnerValue, is_own, is_member_of, is_local_broadcast, is_loopback_in, is_loopback_of, is_for_us}
+use Rattle.interface_ingress.specs.Arrives.{Arrived, Arrives, ArrivesAs, ArrivesV4, Brings, Hands, renewed, slots_after, whole_after}
+use Rattle.interface_ingress.specs.Delivered.{Places, is_taken_raw, packet_delivered}
+use Rattle.interface_ingress.specs.Incoming.{IncomingValue, Ip4, IsContent}
+use Rattle.interface_ingress.specs.Reassembled.{Slots, is_heard, is_sender, is_piece, is_taken_in, taken_in, part_of, part_v4}
+use Rattle.interface_ingress.specs.Short.{is_plain, goes_short, TakesPacket}
+use Rattle.interface_ingress.proofs.PieceSlots.{slots_stay, whole_stays}
+
+record IsPlain (l m s o : Bool) : Type 0 where
+  from : l ≡ false
+  loopback : m ≡ false
+  sender : s ≡ true
+  own : o ≡ true
+
+plain_by : (l m s o : Bool) → (not (l || m) && s && o) ≡ true → IsPlain l m s o
+plain_by false false true true is = record { from = refl; loopback = refl; sender = refl; own = refl }
+plain_by true m s o is = absurd cc
+plain_by false true s o is = absurd cc
+plain_by false false false o is = absurd cc
+plain_by false false true false is = absurd cc
+
+in_by : (h s l x m y : Bool) → h ≡ true → s ≡ true → l ≡ false → m ≡ false → (h && s && not ((l && x) || (m && y))) ≡ true
+in_by true true false x false y _ _ _ _ = refl
+in_by false s l x m y is _ _ _ = absurd cc
+in_by true false l x m y _ is _ _ = absurd cc
+in_by true true true x m y _ _ is _ = absurd cc
+in_by true true false x true y _ _ _ is = absurd cc
+
+us_by : (o b c d : Bool) → o ≡ true → (o || b || c || d) ≡ true
+us_by true b c d is = refl
+us_by false b c d is = absurd cc
+
+whole_by : (c p : Bool) → (not c && p) ≡ true → (c ≡ false) × (p ≡ true)
+whole_by false true is = (refl, refl)
+whole_by true p is = absurd cc
+whole_by false false is = absurd cc
+
+arrives : (i : InnerValue) (timeout : ℕ) (slots : Slots) (places : Places) (link : Option EthernetRepr) (header : Ipv4Repr) (piece : Ipv4Piece)
+    (payload : List ℕ) (a : Arrived) → is_heard i link ≡ true → is_piece piece ≡ false → is_plain i header ≡ true →
+    Hands (renewed i link (Ip.Ipv4 header)) (packet_delivered (Ip.Ipv4 header) payload places) (Ip.Ipv4 header) payload
+    (is_taken_raw (Ip.Ipv4 header) places) a →
+    ArrivesAs i timeout slots places (Some (Ip4 link header piece payload)) slots a
+arrives i timeout slots places link header piece payload a heard uncut is hands =
+    let content : Option IncomingValue = Some (Ip4 link header piece payload) in
+    let plain =
+    plain_by (is_loopback_v4 header.src_addr) (is_loopback_v4 header.dst_addr) (is_sender i header.src_addr) (is_own i (Address.Ipv4 header.dst_addr)) is in
+    let let_in : is_taken_in i (Ip4 link header piece payload) ≡ true =
+    in_by (is_heard i link) (is_sender i header.src_addr) (is_loopback_v4 header.src_addr)
+    (not (list_any (is_loopback_of (Address.Ipv4 header.src_addr)) i.addresses)) (is_loopback_v4 header.dst_addr)
+    (not (list_any (is_loopback_of (Address.Ipv4 header.dst_addr)) i.addresses)) heard plain.sender plain.from plain.loopback in
+    let taken : taken_in i content ≡ content = ap (λ (b : Bool). if b then content else None) let_in in
+    let none : part_of content ≡ None = ap (λ (b : Bool). if b then Some (part_v4 header piece payload) else None) uncut in
+    let us : is_for_us i (Address.Ipv4 header.dst_addr) ≡ true =
+    us_by (is_own i (Address.Ipv4 header.dst_addr)) (is_member_of i (Address.Ipv4 header.dst_addr)) (is_local_broadcast i (Address.Ipv4 header.dst_addr))
+    (is_loopback_in (Address.Ipv4 header.dst_addr)) plain.own in
+    let brings : Brings i places content a = subst (λ (b : Bool). ArrivesV4 b i places link (Ip.Ipv4 header) payload a) (sym us) hands in
+    let same : whole_after i timeout slots (taken_in i content) ≡ content =
+    ap (whole_after i timeout slots) taken ∙ whole_stays i timeout slots content none in (
+      sym (ap (slots_after i timeout slots) taken ∙ slots_stay i timeout slots content none),
+      subst (λ (o : Option IncomingValue). Brings i places o a) (sym same) brings,
+    )
+
+-- A MEDIUM OF BARE PACKETS
+
+pub bare_arrives : (i : InnerValue) (timeout : ℕ) (slots : Slots) (places : Places) (frame : List ℕ) (a : Arrived) → i.hardware ≡ Hardware.Ip →
+    TakesPacket i places None frame a → Arrives i timeout slots places frame slots a
+bare_arrives i timeout slots places frame a medium takes =
+    let content : Option IncomingValue = Some (Ip4 None takes.0 takes.1 takes.2) in
+    let whole = whole_by (is_piece takes.1) (is_plain i takes.0) takes.4 in (
+      content,
+      subst (λ (h : HardwareAddress). IsContent h i.checksums frame content) (sym medium) takes.3,
+      arrives i timeout slots places None takes.0 takes.1 takes.2 a refl whole.0 whole.1 takes.5,
+    )
+
+pub taken : (i : InnerValue) (places : Places) (link : Option EthernetRepr) (bytes : List ℕ) (header : Ipv4Repr) (piece : Ipv4Piece) (payload : List ℕ)
+    (a : Arrived) → Ipv4.IsIpv4 (verifies i.checksums.ipv4) bytes header → piece ≡ Ipv4.piece_of bytes → payload ≡ Ipv4.payload_of bytes →
+    goes_short i header piece ≡ true →
+    Hands (renewed i link (Ip.Ipv4 header)) (packet_delivered (Ip.Ipv4 header) payload places) (Ip.Ipv4 header) payload
+    (is_taken_raw (Ip.Ipv4 header) places) a →
+    TakesPacket i places link bytes a
+taken i places link bytes header piece payload a is piece_is payload_is short hands =
+    (header, piece, payload, record { format = is; piece_is = piece_is; payload_is = payload_is }, short, hands)
