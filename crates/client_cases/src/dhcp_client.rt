@@ -1,7 +1,7 @@
 //! A client of DHCP.
 use crate::host::Host;
 use crate::packets::{say, say_offer, v4_header};
-use clients::dhcp::{DhcpOption, OptionsError, RetryConfig, Socket};
+use dhcpv4::{DhcpOption, OptionsError, RetryConfig, Socket};
 use ip_wire::{EthernetAddress, Ipv4Address, UdpRepr};
 use net_base::Duration;
 use std::alloc::Global;

@@ -1,5 +1,5 @@
 //! Messages of DHCP, read and written.
-use clients::dhcp::{DhcpPacket, DhcpRepr};
+use dhcpv4::{DhcpPacket, DhcpRepr};
 use std::alloc::Global;
 use std::io::{self, Write};
 

@@ -1,7 +1,7 @@
 //! A client of DNS.
 use crate::host::{ADDRESS_V4, ADDRESS_V6, Host};
 use crate::packets::{say, say_offer, v4_header, v6_header};
-use clients::dns::{DnsQueryType, Socket};
+use dns_socket::{DnsQueryType, Socket};
 use ip_wire::{IpAddress, IpRepr, Ipv4Address, Ipv6Address, UdpRepr};
 use std::alloc::Global;
 use std::io::{self, Write};

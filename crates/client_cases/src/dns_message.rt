@@ -1,5 +1,5 @@
 //! Messages of DNS, read.
-use clients::dns::{DnsPacket, DnsQuestion, DnsRecord};
+use dns_socket::{DnsPacket, DnsQuestion, DnsRecord};
 use std::io::{self, Write};
 
 /// Says what the header says, how many records follow the answers, and then each question and answer, up to the first that is refused.

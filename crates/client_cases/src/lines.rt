@@ -1,7 +1,6 @@
 //! The lines of the input, each answered before the next is read.
 use crate::host::Host;
 use crate::{dhcp_client, dhcp_message, dns_client, dns_message};
-use clients::{dhcp, dns};
 use hex::FromHexError;
 use std::alloc::Global;
 use std::io::{self, BufRead, BufReader, ErrorKind, Read, Write};
@@ -11,8 +10,8 @@ use std::str;
 /// The client that lines are for.
 #[derive(Drop)]
 enum Client {
-    Dhcp(dhcp::Socket),
-    Dns(dns::Socket),
+    Dhcp(dhcpv4::Socket),
+    Dns(dns_socket::Socket),
 }
 
 /// A host and its client.

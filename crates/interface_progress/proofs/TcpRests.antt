@@ -184,7 +184,7 @@ module _ (cx : ContextValue) (pair : EndpointPair) where
         ∙ ap (λ (closed : Bool). if closed then (if set.sender.reset_due then At.Now else At.Ingress) else poll_open cx.ip_mtu
         (with_block v set) pair) still_alive
 
-    module _ (syn : owes_syn retried ≡ false) (again : resends retried ≡ false)
+    module _ (syn : owes_syn retried ≡ false) (again : resends retried pair.addresses cx.ip_mtu v.queued ≡ false)
         (text : has_text retried pair.addresses cx.ip_mtu v.queued ≡ false) where
       done : is_due cx.moment (probe_moment set (queued_in v)) ≡ false → is_due cx.moment (ack_moment set) ≡ false
           → updates_window set (room_of v.received) (free_in v) ≡ false → is_due cx.moment (keep_alive_moment set) ≡ false
@@ -240,11 +240,13 @@ module _ (cx : ContextValue) (pair : EndpointPair) where
     first_rest =
         let w : TcpValue = with_block v retried in
         cond_both (owes_syn retried) (offer_syn cx w pair)
-        (if resends retried then offer_choice Kind.FastRetransmission cx w pair (resend_choice retried pair.addresses cx.ip_mtu v.queued)
+        (if resends retried pair.addresses cx.ip_mtu v.queued
+        then offer_choice Kind.FastRetransmission cx w pair (resend_choice retried pair.addresses cx.ip_mtu v.queued)
         else if has_text retried pair.addresses cx.ip_mtu v.queued then offer_choice Kind.Text cx w pair (text_choice retried pair.addresses cx.ip_mtu v.queued)
         else last_rules cx (with_block v set) pair) Rests
         (λ _. packet (offer_syn cx w pair).socket)
-        (λ syn. cond_both (resends retried) (offer_choice Kind.FastRetransmission cx w pair (resend_choice retried pair.addresses cx.ip_mtu v.queued))
+        (λ syn. cond_both (resends retried pair.addresses cx.ip_mtu v.queued)
+        (offer_choice Kind.FastRetransmission cx w pair (resend_choice retried pair.addresses cx.ip_mtu v.queued))
         (if has_text retried pair.addresses cx.ip_mtu v.queued then offer_choice Kind.Text cx w pair (text_choice retried pair.addresses cx.ip_mtu v.queued)
         else last_rules cx (with_block v set) pair) Rests
         (λ _. packet (offer_choice Kind.FastRetransmission cx w pair (resend_choice retried pair.addresses cx.ip_mtu v.queued)).socket)

@@ -22,7 +22,7 @@ use Rattle.ip_address.specs.Protocol.{protocol_of}
 use Rattle.lan_history.specs.Kinds.{same_side}
 use Rattle.lan_history.specs.declared.event.Side.{Side}
 use Rattle.lan_history.specs.declared.event.Side.TheVariants.{A, B}
-use Rattle.lan_port.specs.Port.{unused_end}
+use Rattle.lan_frames.specs.Port.{unused_end}
 use Rattle.lan_script.specs.declared.kinds.QueueSizes.{QueueSizes}
 use Rattle.lan_script.specs.declared.kinds.SocketSpec.{SocketSpec}
 use Rattle.lan_script.specs.declared.kinds.SocketSpec.TheVariants as Asks

@@ -18,7 +18,7 @@ pub use Rattle.lan_history.specs.declared.answer.Refused
 pub use Rattle.lan_history.specs.declared.event.Event
 pub use Rattle.lan_history.specs.declared.event.Side
 pub use Rattle.lan_history.specs.declared.event.TcpSetting
-pub use Rattle.lan_port.specs.Port
+pub use Rattle.lan_frames.specs.Port
 pub use Rattle.lan_world.specs.Refusals
 pub use Rattle.lan_world.specs.Runs
 pub use Rattle.lan_world.specs.Station

@@ -8,7 +8,7 @@
 //! before `start` and makes the world, `event_of` says which event a line names, and `answer_line` what is written of its answer (`End`,
 //! why there is none).
 //!
-//! Beside it the crate passes on `lan_world`, `lan_port` and, of what these stand on, the test `names_tcp_or_udp` and the laws of
+//! Beside it the crate passes on `lan_world` and, of what this stands on, `Port`, the test `names_tcp_or_udp` and the laws of
 //! histories and hosts. A crate above names `lan` alone, in `crates.txt` and in its code, as `lan::World` and `lan::replay`. In clauses,
 //! `specs/` and `proofs/` the members' definitions are `Rattle.lan.specs.Promises`, `.Runs` and so on, and each type that a definition
 //! names is a module of its own name, as `Rattle.lan.specs.Answer.{Answer}`.
@@ -28,9 +28,8 @@ pub use answer::answer_line;
 pub use end::End;
 pub use event::{event_of, side_of};
 pub use header::Header;
-pub use lan_frames::names_tcp_or_udp;
+pub use lan_frames::{Port, PortTxToken, names_tcp_or_udp};
 pub use lan_history::laws as history_laws;
-pub use lan_port::{Port, PortTxToken};
 pub use lan_script::Line;
 pub use lan_world::{
     Answer, Bytes, Event, Fault, Host, Refused, Side, TcpSetting, World, WorldError, host_laws,

@@ -2,6 +2,8 @@ pub mod Carried
 pub mod Parts
 pub mod Cuts
 pub mod Slices
+pub mod Pool
+pub mod Port
 pub use Rattle.net_devices.specs.Capabilities
 pub use Rattle.net_devices.specs.declared.capabilities.Checksum
 pub use Rattle.net_devices.specs.declared.capabilities.ChecksumCapabilities

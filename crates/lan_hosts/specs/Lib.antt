@@ -33,7 +33,7 @@ pub use Rattle.lan_history.specs.Tables
 pub use Rattle.lan_history.specs.declared.answer.Answer
 pub use Rattle.lan_packets.specs.Safe as PacketsSafe
 pub use Rattle.interface_egress.specs.Determined
-pub use Rattle.lan_port.specs.Port
+pub use Rattle.lan_frames.specs.Port
 pub use Rattle.ip_wire.specs.Ethernet
 pub use Rattle.ip_wire.specs.declared.arp.kinds.ArpOperation
 pub use Rattle.lan_history.specs.Call

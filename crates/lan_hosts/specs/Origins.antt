@@ -13,7 +13,7 @@ use Rattle.lan_history.specs.Kinds.Kind.{OfLink}
 use Rattle.lan_history.specs.Kinds.LinkAct.{Hands, Cuts}
 use Rattle.lan_history.specs.declared.event.Side.{Side}
 use Rattle.lan_history.specs.declared.event.Side.TheVariants.{A, B}
-use Rattle.lan_port.specs.Port.{added, arrived}
+use Rattle.lan_frames.specs.Port.{added, arrived}
 use Rattle.lan_hosts.specs.Station.{StationValue, Stations, station, with_station, with_link}
 
 abbrev pub medium_of : StationValue → Medium

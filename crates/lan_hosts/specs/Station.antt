@@ -8,7 +8,7 @@ use Rattle.lan_history.specs.declared.event.Side.{Side}
 use Rattle.lan_history.specs.declared.event.Side.TheVariants.{A, B}
 use Rattle.lan_history.specs.declared.record.SocketKind.{SocketKind}
 use Rattle.lan_history.specs.declared.record.SocketKind.TheVariants as Of
-use Rattle.lan_port.specs.Port.{LinkEnd, PortValue}
+use Rattle.lan_frames.specs.Port.{LinkEnd, PortValue}
 use Rattle.sockets.specs.declared.socket.Socket.{Socket}
 use Rattle.sockets.specs.declared.socket.Socket.TheVariants as Is
 

@@ -8,7 +8,7 @@ use Rattle.lan_history.specs.Kinds.LinkAct.{Hands, Cuts}
 use Rattle.lan_history.specs.declared.answer.Answer.{Answer}
 use Rattle.lan_history.specs.declared.answer.Answer.TheVariants as To
 use Rattle.lan_history.specs.declared.event.Side.{Side}
-use Rattle.lan_port.specs.Port.{PortValue, PortMove}
+use Rattle.lan_frames.specs.Port.{PortValue, PortMove}
 use Rattle.tcp_model.specs.State.{State}
 use Rattle.lan_hosts.specs.Station.{StationValue, Stations, station, at_port}
 use Rattle.lan_hosts.specs.Does.{Does}

@@ -3,7 +3,7 @@ ghost use Rattle.std.specs.Prelude.{◌≡◌, ◌+◌, ◌<◌, ◌≤◌, ◌+
 ghost use Rattle.lan_frames.specs.Cuts.{ipv4_part, first_piece, second_piece};
 ghost use Rattle.lan_frames.specs.Parts.{tcp_part, damaged};
 ghost use Rattle.lan_frames.specs.declared.part.Part.{Part};
-ghost use Rattle.lan_port.specs.Port.{added, arrived};
+ghost use Rattle.lan_frames.specs.Port.{added, arrived};
 ghost use Rattle.lan_hosts.specs.Station.{with_link};
 ghost use Rattle.lan_hosts.specs.Origins.{medium_of, damaged_in};
 ghost use Rattle.lan_hosts.specs.Refusals.{is_no_place, is_no_cut};

@@ -5,8 +5,8 @@ use Rattle.tcp_model.specs.Value.{TcpValue}
 use Rattle.interface.specs.State.{State}
 use Rattle.tcp_peer_tie.specs.Beside.{Event, start}
 use Rattle.tcp_peer_tie.proofs.Runs.{runs_safe}
-use Rattle.peer_socket.specs.Goes.{after, after_all}
-use Rattle.peer_socket.proofs.Going.{run_after}
+use Rattle.peer_host.specs.Goes.{after, after_all}
+use Rattle.peer_host.proofs.Going.{run_after}
 use Rattle.peer_host.specs.Runs.{Act, Acts, ActsAll, Saw, SawAll, IsSafeRun}
 use Rattle.peer_host.specs.Runs.Act.{IsPolled, Calls, Rests}
 use Rattle.peer_host.specs.Streams.{IsTcpAt}

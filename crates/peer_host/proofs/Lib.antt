@@ -1,3 +1,4 @@
+pub mod Going
 pub mod Place
 pub mod Arrivals
 pub mod Turns

@@ -21,8 +21,8 @@ use Rattle.interface_ingress.specs.Delivered.{with_packet, with_icmpv4, with_icm
 use Rattle.tcp_tie.specs.Run.Event.{Offers as IsAsked}
 use Rattle.tcp_peer_tie.specs.Beside.{Event}
 use Rattle.tcp_peer_tie.specs.Beside.Event.{Comes, Does}
-use Rattle.peer_socket.specs.Goes.{after, after_all}
-use Rattle.peer_socket.proofs.Going.{all_go_on}
+use Rattle.peer_host.specs.Goes.{after, after_all}
+use Rattle.peer_host.proofs.Going.{all_go_on}
 use Rattle.peer_host.specs.Brought.{Came}
 use Rattle.peer_host.specs.Streams.{IsTcpAt, IsOfPoll, AreOfPoll, StreamGoesOn}
 use Rattle.peer_host.proofs.Place.{Found, found_holds, holds_found}

@@ -1,3 +1,4 @@
+pub mod Goes
 pub mod Steps
 pub mod Brought
 pub mod Streams

@@ -10,7 +10,7 @@ use Rattle.tcp_tie.specs.Run.Event.{Reads, Closes, Aborts, Changes}
 use Rattle.tcp_peer.specs.Peer.{End, IsEnd}
 use Rattle.tcp_peer_tie.specs.Beside.{Event, IsRun, run, start}
 use Rattle.tcp_peer_tie.specs.Beside.Event.{Listens, Connects, Sends, Does}
-use Rattle.peer_socket.specs.Goes.{IsSafeAt, after, after_all}
+use Rattle.peer_host.specs.Goes.{IsSafeAt, after, after_all}
 use Rattle.peer_host.specs.Streams.{IsTcpAt, AreOfPoll}
 
 -- what happens at a host

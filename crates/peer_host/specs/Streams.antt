@@ -12,7 +12,7 @@ use Rattle.tcp_tie.specs.Run as two
 use Rattle.tcp_tie.specs.Run.Event.{Offers}
 use Rattle.tcp_peer_tie.specs.Beside.{Event}
 use Rattle.tcp_peer_tie.specs.Beside.Event.{Comes, Does}
-use Rattle.peer_socket.specs.Goes.{after, after_all, GoOn}
+use Rattle.peer_host.specs.Goes.{after, after_all, GoOn}
 use Rattle.peer_host.specs.Brought.{SegmentCame}
 
 abbrev pub IsTcpAt : List (SocketStorage Socket) → ℕ → TcpValue → Type 0

@@ -1,8 +1,10 @@
-//! One host on any device, whatever is at the other end: what a poll does to each TCP and UDP socket of its interface.
+//! One host on any device, whatever is at the other end: what a poll does to each TCP and UDP socket of its interface, and what calls do to a
+//! TCP socket (`calls`).
 //!
 //! A law of `interface`'s polls, and of `Interface::poll` itself. `specs/Streams.antt` and `specs/Datagrams.antt` have the sentences.
 #![tactic(auto)]
 
+pub mod calls;
 pub mod excluded;
 
 ghost use Rattle.std.specs.Prelude.{◌≡◌, ℕ, ℤ, Bool, List};

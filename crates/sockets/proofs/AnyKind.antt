@@ -15,11 +15,11 @@ use Rattle.datagram_sockets.specs.SocketValue as Datagrams
 use Rattle.datagram_sockets.specs.SocketValue.{SocketValue}
 use Rattle.datagram_sockets.proofs.OfferLaws as datagrams
 use Rattle.tcp_model.specs.Value.{TcpValue}
-use Rattle.clients.proofs.DhcpOneMessage.{one_offered}
-use Rattle.clients.proofs.DhcpTurns as Dhcps
-use Rattle.clients.specs.DhcpValue.{DhcpValue}
-use Rattle.clients.proofs.DnsTurns as Dnss
-use Rattle.clients.specs.DnsValue.{DnsValue}
+use Rattle.dhcpv4.proofs.OneMessage.{one_offered}
+use Rattle.dhcpv4.proofs.Turns as Dhcps
+use Rattle.dhcpv4.specs.Value.{DhcpValue}
+use Rattle.dns_socket.proofs.Turned as Dnss
+use Rattle.dns_socket.specs.Value.{DnsValue}
 use Rattle.sockets.proofs.Clients.{dhcp_packet, dhcp_same, dhcp_unoffered, dhcp_offered, dhcp_again, dns_packet, dns_same, dns_unoffered, dns_offered}
 use Rattle.sockets.proofs.Clients.{dns_again, dns_once}
 use Rattle.sockets.proofs.Connections.{said_packet, said_same, silent_before}

@@ -5,23 +5,23 @@ use Rattle.datagram_sockets.specs.Context.{ContextValue}
 use Rattle.datagram_sockets.specs.Offer as Answer
 use Rattle.datagram_sockets.specs.Offer.TheVariants as Offer
 use Rattle.datagram_sockets.specs.Offers.{HasPacket, changed_by}
-use Rattle.clients.specs.DhcpOffers as DhcpOffers
-use Rattle.clients.specs.DhcpStates as DhcpStates
-use Rattle.clients.specs.DhcpValue as Dhcps
-use Rattle.clients.specs.DhcpValue.{DhcpValue}
-use Rattle.clients.specs.DhcpKind.{Kind}
-use Rattle.clients.specs.DhcpKind.TheVariants as K
-use Rattle.clients.specs.DhcpTurn as DhcpTurn
-use Rattle.clients.specs.DhcpTurn.TheVariants as D
-use Rattle.clients.specs.DnsOffers as DnsOffers
-use Rattle.clients.specs.DnsTurns.{due_at}
-use Rattle.clients.specs.DnsValue as Dnss
-use Rattle.clients.specs.DnsValue.{DnsValue}
-use Rattle.clients.specs.DnsQuery.{Query}
-use Rattle.clients.specs.DnsTurn as DnsTurn
-use Rattle.clients.specs.DnsTurn.TheVariants as N
-use Rattle.clients.specs.DnsState.{State}
-use Rattle.clients.specs.DnsState.TheVariants as S
+use Rattle.dhcpv4.specs.Offers as DhcpOffers
+use Rattle.dhcpv4.specs.States as DhcpStates
+use Rattle.dhcpv4.specs.Value as Dhcps
+use Rattle.dhcpv4.specs.Value.{DhcpValue}
+use Rattle.dhcpv4.specs.declared.request.Kind.{Kind}
+use Rattle.dhcpv4.specs.declared.request.Kind.TheVariants as K
+use Rattle.dhcpv4.specs.declared.state.Turn as DhcpTurn
+use Rattle.dhcpv4.specs.declared.state.Turn.TheVariants as D
+use Rattle.dns_socket.specs.Offers as DnsOffers
+use Rattle.dns_socket.specs.Turns.{due_at}
+use Rattle.dns_socket.specs.Value as Dnss
+use Rattle.dns_socket.specs.Value.{DnsValue}
+use Rattle.dns_socket.specs.declared.query.Query.{Query}
+use Rattle.dns_socket.specs.declared.query.Turn as DnsTurn
+use Rattle.dns_socket.specs.declared.query.Turn.TheVariants as N
+use Rattle.dns_socket.specs.declared.state.State.{State}
+use Rattle.dns_socket.specs.declared.state.State.TheVariants as S
 
 -- an answer with these says that nothing changed, or doesn't
 silent_changes : (answer : Answer.Offer) → answer ≡ Offer.Silent true → changed_by answer ≡ false → ⊥

@@ -106,10 +106,11 @@ module _ (cx : ContextValue) (v : TcpValue) (pair : EndpointPair) where
       let text = text_choice b pair.addresses cx.ip_mtu v.queued in
       let resent = resend_choice b pair.addresses cx.ip_mtu v.queued in
       let third : Offered TcpValue = if has_text b pair.addresses cx.ip_mtu v.queued then offer_choice Kind.Text cx w pair text else last in
-      let second : Offered TcpValue = if resends b then offer_choice Kind.FastRetransmission cx w pair resent else third in
+      let second : Offered TcpValue = if resends b pair.addresses cx.ip_mtu v.queued then offer_choice Kind.FastRetransmission cx w pair resent else third in
       either v (owes_syn b) (offer_syn cx w pair) second
       (said b is Kind.Syn (syn_segment b pair cx.moment cx.ip_mtu (room_of v.received) (free_in v)) 0 0)
-      (either v (resends b) (offer_choice Kind.FastRetransmission cx w pair resent) third (said_choice b is Kind.FastRetransmission resent)
+      (either v (resends b pair.addresses cx.ip_mtu v.queued) (offer_choice Kind.FastRetransmission cx w pair resent) third
+      (said_choice b is Kind.FastRetransmission resent)
       (either v (has_text b pair.addresses cx.ip_mtu v.queued) (offer_choice Kind.Text cx w pair text) last (said_choice b is Kind.Text text)
       (said_last probing (record { state = is.state; names = is.names; settings = is.settings }))))
 

@@ -4,8 +4,8 @@ use Rattle.datagram_sockets.specs.Udp.{UdpValue}
 use Rattle.datagram_sockets.specs.Icmp.{IcmpValue}
 use Rattle.datagram_sockets.specs.Raw.{RawValue}
 use Rattle.tcp_model.specs.Value.{TcpValue}
-use Rattle.clients.specs.DhcpValue.{DhcpValue}
-use Rattle.clients.specs.DnsValue.{DnsValue}
+use Rattle.dhcpv4.specs.Value.{DhcpValue}
+use Rattle.dns_socket.specs.Value.{DnsValue}
 use Rattle.sockets.specs.declared.socket.Socket.{Socket}
 use Rattle.sockets.specs.declared.socket.Socket.TheVariants as Kind
 

@@ -40,19 +40,19 @@ pub use Rattle.tcp_model.specs.State
 pub use Rattle.tcp_socket.specs.WellFormed
 pub use Rattle.tcp_socket.specs.Replies
 pub use Rattle.tcp_model.specs.declared.block.CongestionControl
-pub use Rattle.clients.specs.DhcpAnswers
-pub use Rattle.clients.specs.DhcpConfig
-pub use Rattle.clients.specs.DhcpEvent
-pub use Rattle.clients.specs.DhcpEvents
-pub use Rattle.clients.specs.DhcpOffers
-pub use Rattle.clients.specs.DhcpStates
-pub use Rattle.clients.specs.DhcpValue
-pub use Rattle.clients.specs.DnsOffers
-pub use Rattle.clients.specs.DnsProcessed
-pub use Rattle.clients.specs.DnsStarts
-pub use Rattle.clients.specs.DnsTurns
-pub use Rattle.clients.specs.DnsValue
-pub use Rattle.clients.specs.GetQueryResultError
-pub use Rattle.clients.specs.StartQueryError
+pub use Rattle.dhcpv4.specs.Answers as DhcpAnswers
+pub use Rattle.dhcpv4.specs.declared.config.Config as DhcpConfig
+pub use Rattle.dhcpv4.specs.declared.config.Event as DhcpEvent
+pub use Rattle.dhcpv4.specs.Events as DhcpEvents
+pub use Rattle.dhcpv4.specs.Offers as DhcpOffers
+pub use Rattle.dhcpv4.specs.States as DhcpStates
+pub use Rattle.dhcpv4.specs.Value as DhcpValue
+pub use Rattle.dns_socket.specs.Offers as DnsOffers
+pub use Rattle.dns_socket.specs.Processed as DnsProcessed
+pub use Rattle.dns_socket.specs.Starts as DnsStarts
+pub use Rattle.dns_socket.specs.Turns as DnsTurns
+pub use Rattle.dns_socket.specs.Value as DnsValue
+pub use Rattle.dns_socket.specs.declared.error.GetQueryResultError
+pub use Rattle.dns_socket.specs.declared.error.StartQueryError
 pub use Rattle.tcp_model.specs.Controls as TcpControls
 pub use Rattle.tcp_model.specs.Reply as TcpReply

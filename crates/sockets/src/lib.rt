@@ -1,17 +1,18 @@
 //! The sockets of the stack, and one type for all kinds.
 //!
-//! It passes on its members, `socket_base`, `datagram_sockets`, `tcp_model`, `tcp_socket` and `clients`: a crate above names
+//! It passes on its members, `socket_base`, `datagram_sockets`, `tcp_model`, `tcp_socket`, `dhcpv4` and `dns_socket`: a crate above names
 //! `sockets` alone, in `crates.txt` and in its code, as `sockets::udp::Socket` and `sockets::dhcp::Socket`. In clauses, `specs/` and `proofs/` the members'
 //! definitions are `Rattle.sockets.specs.Udp`, `.Packet`, `.Context` and so on.
 #![tactic(auto)]
 
 mod any_socket;
+pub mod dhcp;
+pub mod dns;
 pub mod laws;
 mod socket;
 pub mod tcp;
 
 pub use any_socket::AnySocket;
-pub use clients::{dhcp, dns};
 pub use datagram_sockets::{
     Context, IpPayload, Offer, Packet, PollAt, addresses, icmp, raw, udp, widths,
 };

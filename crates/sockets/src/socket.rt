@@ -3,8 +3,7 @@ ghost use Rattle.std.specs.Prelude.{◌≡◌};
 ghost use Rattle.datagram_sockets.specs.Packet.{option_value};
 ghost use Rattle.sockets.specs.Socket.{Offers, offered_by, settled, poll_of, IfSendable};
 
-use crate::tcp;
-use clients::{dhcp, dns};
+use crate::{dhcp, dns, tcp};
 use datagram_sockets::{Context, Offer, Packet, PollAt, icmp, raw, udp};
 
 /// A socket of any kind.

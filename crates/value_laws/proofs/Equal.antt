@@ -482,7 +482,8 @@ Decides-loss a b =
     (Decides-option (λ x y. Undoing.ghosts.eq x y) Decides-undo a.undo b.undo) in
     let from_patience = Decides-and _ _ (Decides-eqb a.patience b.patience) (from_late_until) in
     let from_probe_at = Decides-and _ _ (Decides-option (λ (x y : ℤ). int_eq x y) Decides-int_eq a.probe_at b.probe_at) (from_patience) in
-    let from_probed = Decides-and _ _ (booleans_Decides a.probed b.probed) (from_probe_at) in
+    let from_rescue = Decides-and _ _ (Decides-eqb a.rescue b.rescue) (from_probe_at) in
+    let from_probed = Decides-and _ _ (booleans_Decides a.probed b.probed) (from_rescue) in
     let from_probes = Decides-and _ _ (booleans_Decides a.probes b.probes) (from_probed) in
     let from_eager = Decides-and _ _ (booleans_Decides a.eager b.eager) (from_probes) in
     let from_mark = Decides-and _ _ (Decides-eqb a.mark b.mark) (from_eager) in
@@ -499,10 +500,11 @@ Decides-loss a b =
             eager = parts.1.1.1.1.0 i;
             probes = parts.1.1.1.1.1.0 i;
             probed = parts.1.1.1.1.1.1.0 i;
-            probe_at = parts.1.1.1.1.1.1.1.0 i;
-            patience = parts.1.1.1.1.1.1.1.1.0 i;
-            late_until = parts.1.1.1.1.1.1.1.1.1.0 i;
-            undo = parts.1.1.1.1.1.1.1.1.1.1 i;
+            rescue = parts.1.1.1.1.1.1.1.0 i;
+            probe_at = parts.1.1.1.1.1.1.1.1.0 i;
+            patience = parts.1.1.1.1.1.1.1.1.1.0 i;
+            late_until = parts.1.1.1.1.1.1.1.1.1.1.0 i;
+            undo = parts.1.1.1.1.1.1.1.1.1.1.1 i;
           },
       λ e. all.1 (both (ap (λ (v : Loss). v.board) e)
           (both (ap (λ (v : Loss). v.resent) e)
@@ -511,8 +513,9 @@ Decides-loss a b =
           (both (ap (λ (v : Loss). v.eager) e)
           (both (ap (λ (v : Loss). v.probes) e)
           (both (ap (λ (v : Loss). v.probed) e)
+          (both (ap (λ (v : Loss). v.rescue) e)
           (both (ap (λ (v : Loss). v.probe_at) e)
-          (both (ap (λ (v : Loss). v.patience) e) (both (ap (λ (v : Loss). v.late_until) e) (ap (λ (v : Loss). v.undo) e))))))))))),
+          (both (ap (λ (v : Loss). v.patience) e) (both (ap (λ (v : Loss). v.late_until) e) (ap (λ (v : Loss). v.undo) e)))))))))))),
     )
 
 pub Decides-validation : (a b : Validation) → Decides (Validated.ghosts.eq a b) (a ≡ b)

@@ -71,14 +71,14 @@ pub fn passes_on_worlds(world: &lan_world::World) -> &lan::World
 }
 
 /// A port.
-pub fn passes_on_ports(port: &lan_port::Port) -> &lan::Port
+pub fn passes_on_ports(port: &lan_frames::Port) -> &lan::Port
     ensures { result.now ≡ port.now }
 {
     port
 }
 
 /// Leave to send at a port.
-pub fn passes_on_tokens(token: &lan_port::PortTxToken) -> &lan::PortTxToken
+pub fn passes_on_tokens(token: &lan_frames::PortTxToken) -> &lan::PortTxToken
     ensures { result.now ≡ token.now }
 {
     token

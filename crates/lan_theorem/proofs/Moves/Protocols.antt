@@ -218,10 +218,12 @@ module _ (cx : ContextValue) (pair : EndpointPair) where
       let resent = resend_choice v.block pair.addresses cx.ip_mtu v.queued in
       let fourth : Offered TcpValue = last_rules cx (with_block v (probe_started cx.moment (queued_in v) v.block)) pair in
       let third : Offered TcpValue = if has_text v.block pair.addresses cx.ip_mtu v.queued then offer_choice Kind.Text cx v pair text else fourth in
-      let second : Offered TcpValue = if resends v.block then offer_choice Kind.FastRetransmission cx v pair resent else third in
+      let second : Offered TcpValue =
+      if resends v.block pair.addresses cx.ip_mtu v.queued then offer_choice Kind.FastRetransmission cx v pair resent else third in
       either (owes_syn v.block) (offer_syn cx v pair) second
       (one Kind.Syn v (syn_segment v.block pair cx.moment cx.ip_mtu (room_of v.received) (free_in v)) 0 0)
-      (either (resends v.block) (offer_choice Kind.FastRetransmission cx v pair resent) third (choice Kind.FastRetransmission v resent)
+      (either (resends v.block pair.addresses cx.ip_mtu v.queued) (offer_choice Kind.FastRetransmission cx v pair resent) third
+      (choice Kind.FastRetransmission v resent)
       (either (has_text v.block pair.addresses cx.ip_mtu v.queued) (offer_choice Kind.Text cx v pair text) fourth (choice Kind.Text v text)
       (last (with_block v (probe_started cx.moment (queued_in v) v.block)) none)))
 
