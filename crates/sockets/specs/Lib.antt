@@ -10,6 +10,7 @@ pub use Rattle.datagram_sockets.specs.Offer
 pub use Rattle.tcp_socket.specs.PollAt
 pub use Rattle.tcp_socket.specs.IpPayload
 pub use Rattle.tcp_socket.specs.Packet as LentPacket
+pub use Rattle.tcp_socket.specs.Text
 pub use Rattle.datagram_sockets.specs.SocketValue
 pub use Rattle.datagram_sockets.specs.Offers
 pub use Rattle.datagram_sockets.specs.Dispatch

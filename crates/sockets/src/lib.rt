@@ -17,3 +17,4 @@ pub use datagram_sockets::{
     Context, IpPayload, Offer, Packet, PollAt, addresses, icmp, raw, udp, widths,
 };
 pub use socket::Socket;
+pub use tcp_socket::SegmentText;

@@ -1,7 +1,7 @@
 //! What the remote holds of what was sent past SND.UNA, as its selective acknowledgements say (RFC 2018): the scoreboard of RFC 6675.
-ghost use Rattle.std.specs.Prelude.{◌≡◌};
+ghost use Rattle.std.specs.Prelude.{◌≡◌, ◌-◌, ◌&&◌, nat_lt, min, if◌then◌else◌};
 ghost use Rattle.tcp_control.specs.Scoreboard.{is_run, lies_in, meets, hull, lowered, hull_of, apart, without, free_place, placed};
-ghost use Rattle.tcp_control.specs.Scoreboard.{noted, reneges, after_ack, is_empty, held, held_from, held_below, missing};
+ghost use Rattle.tcp_control.specs.Scoreboard.{noted, reneges, after_ack, is_empty, sum_of, held, held_from, held_below, missing};
 ghost use Rattle.tcp_control.specs.Scoreboard.{first_missing, gap_end, runs_above, octets_above, is_lost, lost_end, runs_end, no_runs, no_run};
 
 /// Positions behind one another, as distances from SND.UNA: the first, and the one behind the last. Where
@@ -26,6 +26,13 @@ impl Run {
         ensures { result ≡ is_run self.now }
     {
         self.start < self.end
+    }
+
+    /// Whether it lies behind this position.
+    fn lies_behind(&self, place: u32) -> bool
+        ensures { result ≡ (is_run self.now && nat_lt place self.now.start) }
+    {
+        self.is_run() && place < self.start
     }
 
     fn lies_in(&self, place: u32) -> bool
@@ -55,6 +62,38 @@ impl Run {
         Run {
             start: self.start.min(other.start),
             end: self.end.max(other.end),
+        }
+    }
+
+    /// The hull of a run and this one, if the other meets this one; else the run.
+    fn joined(&self, all: &Run, other: &Run) -> Run
+        ensures { result ≡ (if meets other.now self.now then hull all.now self.now else all.now) }
+    {
+        if self.meets(other) {
+            all.hull(self)
+        } else {
+            *all
+        }
+    }
+
+    /// A count together with the positions of this run below another, as far as 32 bits tell.
+    fn counted_below(&self, place: u32, count: u32) -> u32
+        ensures { result ≡ sum_of (min self.now.end place - min self.now.start place) count }
+    {
+        self.end
+            .min(place)
+            .saturating_sub(self.start.min(place))
+            .saturating_add(count)
+    }
+
+    /// A count together with the positions of this run, if it begins behind another.
+    fn counted_behind(&self, place: u32, count: u32) -> u32
+        ensures { result ≡ (if nat_lt place self.now.start then sum_of (self.now.end - self.now.start) count else count) }
+    {
+        if place < self.start {
+            self.end.saturating_sub(self.start).saturating_add(count)
+        } else {
+            count
         }
     }
 
@@ -88,13 +127,9 @@ impl Scoreboard {
     fn hull_of(&self, run: &Run) -> Run
         ensures { result ≡ hull_of self.now.runs run.now }
     {
-        self.runs.iter().fold(*run, |all, other| {
-            if other.meets(run) {
-                all.hull(other)
-            } else {
-                all
-            }
-        })
+        self.runs
+            .iter()
+            .fold(*run, |all, other| other.joined(&all, run))
     }
 
     /// Takes out those that a run meets.
@@ -169,12 +204,9 @@ impl Scoreboard {
     fn held_below(&self, place: u32) -> u32
         ensures { result ≡ held_below self.now.runs place }
     {
-        self.runs.iter().fold(0, |count, run| {
-            run.end
-                .min(place)
-                .saturating_sub(run.start.min(place))
-                .saturating_add(count)
-        })
+        self.runs
+            .iter()
+            .fold(0, |count, run| run.counted_below(place, count))
     }
 
     /// How many positions from this one on are held.
@@ -220,7 +252,7 @@ impl Scoreboard {
         ensures { result ≡ gap_end self.now.runs place most }
     {
         self.runs.iter().fold(most, |end, run| {
-            if run.is_run() && place < run.start {
+            if run.lies_behind(place) {
                 end.min(run.start)
             } else {
                 end
@@ -233,7 +265,7 @@ impl Scoreboard {
         ensures { result ≡ runs_above self.now.runs place }
     {
         self.runs.iter().fold(0u8, |count, run| {
-            if run.is_run() && place < run.start {
+            if run.lies_behind(place) {
                 count.saturating_add(1)
             } else {
                 count
@@ -245,13 +277,9 @@ impl Scoreboard {
     fn octets_above(&self, place: u32) -> u32
         ensures { result ≡ octets_above self.now.runs place }
     {
-        self.runs.iter().fold(0, |count, run| {
-            if place < run.start {
-                run.end.saturating_sub(run.start).saturating_add(count)
-            } else {
-                count
-            }
-        })
+        self.runs
+            .iter()
+            .fold(0, |count, run| run.counted_behind(place, count))
     }
 
     /// Whether the position is lost (RFC 6675, 4): so many runs behind it are held, or more than one
@@ -267,12 +295,19 @@ impl Scoreboard {
             || threshold.saturating_sub(1) as u32 * (mss as u32) < self.octets_above(place)
     }
 
+    /// Whether what lies right before a run is lost.
+    fn is_lost_before(&self, threshold: u8, mss: u16, run: &Run) -> bool
+        ensures { result ≡ (is_run run.now && is_lost self.now.runs threshold mss (run.now.start - 1)) }
+    {
+        run.is_run() && self.is_lost(threshold, mss, run.start.saturating_sub(1))
+    }
+
     /// The position behind the last one that is lost.
     pub fn lost_end(&self, threshold: u8, mss: u16) -> u32
         ensures { result ≡ lost_end self.now.runs threshold mss }
     {
         self.runs.iter().fold(0, |end, run| {
-            if run.is_run() && self.is_lost(threshold, mss, run.start.saturating_sub(1)) {
+            if self.is_lost_before(threshold, mss, run) {
                 end.max(run.start)
             } else {
                 end

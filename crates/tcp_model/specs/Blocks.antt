@@ -166,10 +166,6 @@ forgotten b = record b { state = In.Closed; names = no_names; sender = record b.
 abbrev pub unacked : Block → ℕ → ℕ
 unacked b queued = one_if b.sender.syn_unacked + queued + one_if (owes_fin b.state)
 
--- SND.NXT
-abbrev pub nxt : Block → SeqNumber
-nxt b = behind_by b.sender.una b.sender.in_flight
-
 -- The number one past the highest position that was ever sent. The retransmission timer sets SND.NXT back, and never this: what
 -- lies below it may be old to the remote.
 abbrev pub top : Block → SeqNumber

@@ -1,6 +1,6 @@
 -- Loss recovery by selective acknowledgements (RFC 6675), and loss probes (RFC 8985, 7). Places are distances from SND.UNA.
 use Rattle.std.specs.Prelude.{ℕ, ◌+◌, ◌-◌, ◌*◌, ◌/◌, ◌==◌, nat_le, nat_lt, not, ◌&&◌, ◌||◌, min, max}
-use Rattle.std.specs.Prelude.{ℤ, Bool, true, false, if◌then◌else◌, List, [], ◌∷◌, Option, Some, None, is_none}
+use Rattle.std.specs.Prelude.{ℤ, Bool, false, if◌then◌else◌, List, [], ◌∷◌, Option, Some, None, is_none}
 use Rattle.std.specs.Option.{option_or}
 use Rattle.ip_wire.specs.TcpHeader.{TcpHeader}
 use Rattle.tcp_control.specs.Moments.{later, is_due}

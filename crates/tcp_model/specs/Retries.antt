@@ -1,6 +1,6 @@
 -- When a connection gives up (RFC 9293, 3.8.3): timeouts of the retransmission timer in a row are counted, and so are probes of a closed
 -- window and keep-alives that stay without an answer.
-use Rattle.std.specs.Prelude.{ℕ, ◌+◌, nat_le, ◌&&◌, ◌||◌, min, ℤ, Bool, true, false, if◌then◌else◌, Option, Some, None}
+use Rattle.std.specs.Prelude.{ℕ, ◌+◌, nat_le, ◌&&◌, ◌||◌, min, ℤ, Bool, false, if◌then◌else◌, Option, Some, None}
 use Rattle.tcp_control.specs.Moments.{is_due, is_over, timeout_from}
 use Rattle.tcp_control.specs.States.{is_opening, is_answering}
 use Rattle.tcp_model.specs.declared.block.Block.{Block}

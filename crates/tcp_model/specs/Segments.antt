@@ -1,5 +1,5 @@
 -- The segments that a socket makes (RFC 9293, 3.1, with options of RFC 7323 and RFC 2018).
-use Rattle.std.specs.Prelude.{ℕ, ◌+◌, ◌-◌, ◌^◌, ◌&&◌, ◌||◌, not, min, ℤ, if◌then◌else◌, List, [], ◌∷◌, Option, Some, None, is_some}
+use Rattle.std.specs.Prelude.{ℕ, ◌+◌, ◌-◌, ◌^◌, ◌||◌, not, min, ℤ, if◌then◌else◌, List, [], ◌∷◌, Option, Some, None, is_some}
 use Rattle.ip_wire.specs.IpRepr.{IpRepr}
 use Rattle.ip_wire.specs.SeqNumber.{SeqNumber}
 use Rattle.ip_wire.specs.Control.{control_len}

@@ -3,6 +3,7 @@ use Rattle.std.proofs.Common.{◌≡◌, ℕ, ◌-◌, ◌==◌, ◌&&◌, not, 
 use Rattle.std.proofs.Common.{Some, None, is_some, if◌then◌else◌, refl, sym, ap, subst, ◌∙◌, arith}
 use Rattle.std.specs.Prelude.{IfSome}
 use Rattle.std.proofs.lemmas.Bool.Decides.{nat_tests}
+use Rattle.std.proofs.lemmas.List.{drop_min, length-drop, take_all}
 use Rattle.net_base.specs.Ring.{Ring}
 use Rattle.ip_wire.specs.IpRepr.{IpRepr}
 use Rattle.held_bytes.specs.Held.{runs_of}
@@ -15,22 +16,22 @@ use Rattle.socket_base.specs.Packet.{IsSendable, packet_of}
 use Rattle.socket_base.specs.Packet as Carried
 use Rattle.held_bytes.specs.ReceiveMap.{store, front}
 use Rattle.tcp_model.specs.Acknowledged.{acknowledged, duplicates_after}
-use Rattle.tcp_model.specs.Answers.{answer_for}
-use Rattle.tcp_model.specs.Arrival.{outside, passed_outside, tells_news, has_length, comes_again, finished, with_content, told, echo_heard, taken}
-use Rattle.tcp_model.specs.Arrival.{checked, received, arrives_in}
-use Rattle.tcp_model.specs.Checks.{is_in_window}
+use Rattle.tcp_model.specs.Answers.{ack_recorded, acked, drawn, ack_due, answer_for}
+use Rattle.tcp_model.specs.Arrival.{waiting_anew, outside, passed_outside, tells_news, has_length, comes_again, finished, with_content, told, echo_heard, taken}
+use Rattle.tcp_model.specs.Arrival.{checked, reset_comes, draws_first, received, arrives_in}
+use Rattle.tcp_model.specs.Checks.{acknowledgement_check, is_in_window}
 use Rattle.tcp_model.specs.Checks.Check.{Old}
 use Rattle.tcp_model.specs.Controls.{is_syn, is_rst}
 use Rattle.tcp_model.specs.Opening.{acks_syn, syn_answered, takes_answer}
 use Rattle.tcp_model.specs.Probing.{probe_kept}
 use Rattle.tcp_model.specs.Retries.{heard}
-use Rattle.tcp_model.specs.Segments.{rst_reply}
+use Rattle.tcp_model.specs.Segments.{rst_reply, no_ranges}
 use Rattle.tcp_model.specs.States.{is_closed, takes_text}
 use Rattle.tcp_model.specs.Text.{Texted, texted, laid, has_new_text, with_text, with_text_at, with_bytes_at, taken_in_order, held_early, with_fin}
 use Rattle.tcp_model.specs.Timeout.{timeout_restarted}
 use Rattle.tcp_model.specs.Timestamps.{stamp_taken}
 use Rattle.tcp_model.specs.Offsets.{past_by, before_by}
-use Rattle.tcp_model.specs.Value.{TcpValue, Received, Arrived, received_of, with_block, dropped, answered_with, ended, queued_in, free_in}
+use Rattle.tcp_model.specs.Value.{TcpValue, Received, Arrived, received_of, room_of, window_of, with_block, dropped, answered_with, ended, queued_in, free_in}
 use Rattle.tcp_model.specs.declared.block.Block.{Block}
 use Rattle.tcp_model.specs.OpenOffer.{OpenOffer}
 use Rattle.tcp_model.specs.Reply.{Reply}
@@ -38,7 +39,8 @@ use Rattle.tcp_model.specs.State.{State}
 use Rattle.tcp_model.specs.State.TheVariants as In
 use Rattle.tcp_socket.proofs.Answered.{received_draws, takes_answer_draws, later_arrives}
 use Rattle.tcp_socket.proofs.Arrivals.{length-store, length-front, stored_cut}
-use Rattle.tcp_socket.specs.Answering.{next_at, continued_by}
+use Rattle.tcp_socket.specs.Answering.{next_at, continued_by, reply_of}
+use Rattle.tcp_socket.specs.declared.arrival.Due.TheVariants as Is
 use Rattle.tcp_socket.specs.Replies.{replies_in, packet_in, packet_with}
 
 abbrev pub value_of : Block → Received → Ring ℕ → Option OpenOffer → TcpValue
@@ -61,6 +63,20 @@ new_text false empty' fits' a b takes empty fits = absurd (cc)
 
 below : (place free : ℕ) → place < free → nat_lt place free ≡ true
 below place free h = grind (arith, nat_tests, h)
+
+-- what lies before RCV.NXT is cut off
+pub text_leads : (v : TcpValue) (next : SeqNumber) (place before n : ℕ) (header : TcpHeader) (bytes : List ℕ) (t : Texted) → next ≡ v.block.receiver.next
+    → place ≡ past_by next header.seq_number → before ≡ before_by next header.seq_number → n ≡ min before (length bytes)
+    → t ≡ with_text_at v place (take (length bytes - n) (drop n bytes)) → t ≡ with_text v header bytes
+text_leads v next place before n header bytes t next_is place_is before_is n_is is =
+    let far : place ≡ past_by v.block.receiver.next header.seq_number = place_is ∙ ap (λ (x : SeqNumber). past_by x header.seq_number) next_is in
+    let old : before ≡ before_by v.block.receiver.next header.seq_number = before_is ∙ ap (λ (x : SeqNumber). before_by x header.seq_number) next_is in
+    let left : take (length bytes - n) (drop n bytes) ≡ drop (before_by v.block.receiver.next header.seq_number) bytes =
+    take_all (length bytes - n) (drop n bytes) (omega (arith, length-drop n bytes)) ∙ ap (λ (k : ℕ). drop k bytes) n_is ∙ drop_min before bytes
+    ∙ ap (λ (k : ℕ). drop k bytes) old
+    in
+    is ∙ ap (λ (k : ℕ). with_text_at v k (take (length bytes - n) (drop n bytes))) far
+    ∙ ap (λ (xs : List ℕ). with_text_at v (past_by v.block.receiver.next header.seq_number) xs) left
 
 -- bytes that are cut at the end of the window
 pub text_at : (v : TcpValue) (place n : ℕ) (bytes : List ℕ) (t : Texted) → takes_text v.block.state ≡ true → (length bytes == 0) ≡ false → place < free_in v →
@@ -177,7 +193,7 @@ taken_leads cx duplicates v w now ip header bytes by answer socket count now_is 
     (acknowledged (echo_heard v header by cx.moment) by cx.moment) answer socket acked first.answer first.socket
 
 -- of two arrivals the first, or the second
-so_leads : (t : Bool) (a b : Arrived) (answer : Option Reply) (socket : TcpValue) → t ≡ true → Leads a answer socket → Leads (if t then a else b) answer socket
+pub so_leads : (t : Bool) (a b : Arrived) (answer : Option Reply) (socket : TcpValue) → t ≡ true → Leads a answer socket → Leads (if t then a else b) answer socket
 so_leads true a b answer socket is leads = leads
 so_leads false a b answer socket is leads = absurd (cc)
 
@@ -220,31 +236,140 @@ outside_leads cx v w now ip header size by tells again answer socket is tells_is
     so_leads (tells_news v header size) (outside cx told_of ip header (has_length header size)) (outside cx v ip header false) answer socket
     (sym tells_is ∙ is) second
 
-third : (rst refuses syn : Bool) (a b c d : Arrived) → rst ≡ false → refuses ≡ false → syn ≡ true →
-    c.socket ≡ (if rst then a else if refuses then b else if syn then c else d).socket
-third false false true a b c d no_rst no_refusal is = refl
-third false false false a b c d no_rst no_refusal is = absurd (cc)
-third false true syn a b c d no_rst no_refusal is = absurd (cc)
-third true refuses syn a b c d no_rst no_refusal is = absurd (cc)
+-- IN SYN-SENT
 
--- SYN-SENT takes a SYN
-pub syn_leads : (cx : ContextValue) (b b1 b2 : Block) (r : Received) (q : Ring ℕ) (o : Option OpenOffer) (v : TcpValue) (now : ℤ) (n : ℕ) (ip : IpRepr)
-    (header : TcpHeader) (bytes : List ℕ)
-    → value_of b r q o ≡ v → is_rst header.control ≡ false → (is_some header.ack_number && not (acks_syn b.sender.una header.ack_number)) ≡ false
-    → is_syn header.control ≡ true → b1 ≡ syn_answered b header now → b2 ≡ timeout_restarted b1 now n → now ≡ cx.moment → n ≡ length q.queue
-    → value_of b2 r q o ≡ (takes_answer cx v ip header bytes).socket
-syn_leads cx b b1 b2 r q o v now n ip header bytes is no_rst no_refusal syn answered restarted now_is n_is =
-    let all : b2 ≡ timeout_restarted (syn_answered b header cx.moment) cx.moment (length q.queue) =
-    restarted ∙ ap (λ (x : Block). timeout_restarted x now n) answered
-    ∙ ap (λ (m : ℤ). timeout_restarted (syn_answered b header m) m n) now_is
-    ∙ ap (λ (k : ℕ). timeout_restarted (syn_answered b header cx.moment) cx.moment k) n_is
+-- the socket as one of two, and no answer
+either_dropped : (t : Bool) (a b w : TcpValue) → w ≡ (if t then a else b) → Leads (if t then dropped a else dropped b) None w
+either_dropped true a b w is = record { answer = refl; socket = is }
+either_dropped false a b w is = record { answer = refl; socket = is }
+
+abbrev refused : TcpValue → TcpHeader → Arrived
+refused v header = if acks_syn v.block.sender.una header.ack_number then dropped (ended v) else dropped v
+
+abbrev with_syn : ContextValue → TcpValue → TcpHeader → TcpValue
+with_syn cx v header = with_block v (timeout_restarted (syn_answered v.block header cx.moment) cx.moment (queued_in v))
+
+abbrev taken_if : Bool → ContextValue → TcpValue → TcpHeader → Arrived
+taken_if syn cx v header = if syn then dropped (with_syn cx v header) else dropped v
+
+abbrev acks_another : TcpValue → TcpHeader → Bool
+acks_another v header = is_some header.ack_number && not (acks_syn v.block.sender.una header.ack_number)
+
+abbrev no_reset : ContextValue → TcpValue → IpRepr → TcpHeader → List ℕ → Arrived
+no_reset cx v ip header bytes =
+    if acks_another v header then answered_with v (rst_reply ip header (length bytes)) else taken_if (is_syn header.control) cx v header
+
+-- a reset comes
+pub refusal_leads : (cx : ContextValue) (v w : TcpValue) (ip : IpRepr) (header : TcpHeader) (bytes : List ℕ) → is_rst header.control ≡ true
+    → w ≡ (if acks_syn v.block.sender.una header.ack_number then ended v else v) → Leads (takes_answer cx v ip header bytes) None w
+refusal_leads cx v w ip header bytes is w_is =
+    so_leads (is_rst header.control) (refused v header) (no_reset cx v ip header bytes) None w is
+    (either_dropped (acks_syn v.block.sender.una header.ack_number) (ended v) v w w_is)
+
+-- something else is acknowledged
+pub reset_leads : (cx : ContextValue) (v : TcpValue) (ip : IpRepr) (header : TcpHeader) (bytes : List ℕ) → is_rst header.control ≡ false
+    → acks_another v header ≡ true → Leads (takes_answer cx v ip header bytes) (Some (rst_reply ip header (length bytes))) v
+reset_leads cx v ip header bytes no_rst is =
+    let reply = Some (rst_reply ip header (length bytes)) in
+    if_open (is_rst header.control) (refused v header) (no_reset cx v ip header bytes) reply v no_rst
+    (so_leads (acks_another v header) (answered_with v (rst_reply ip header (length bytes))) (taken_if (is_syn header.control) cx v header) reply v is
+    (record { answer = refl; socket = refl }))
+
+taken_leads_to : (cx : ContextValue) (v w : TcpValue) (ip : IpRepr) (header : TcpHeader) (bytes : List ℕ) → is_rst header.control ≡ false
+    → acks_another v header ≡ false → Leads (taken_if (is_syn header.control) cx v header) None w → Leads (takes_answer cx v ip header bytes) None w
+taken_leads_to cx v w ip header bytes no_rst no_other leads =
+    if_open (is_rst header.control) (refused v header) (no_reset cx v ip header bytes) None w no_rst
+    (if_open (acks_another v header) (answered_with v (rst_reply ip header (length bytes))) (taken_if (is_syn header.control) cx v header) None w no_other leads)
+
+-- a SYN comes
+pub syn_leads : (cx : ContextValue) (v w : TcpValue) (now : ℤ) (ip : IpRepr) (header : TcpHeader) (bytes : List ℕ) → is_rst header.control ≡ false
+    → acks_another v header ≡ false → is_syn header.control ≡ true → now ≡ cx.moment
+    → w ≡ with_block v (timeout_restarted (syn_answered v.block header now) now (queued_in v)) → Leads (takes_answer cx v ip header bytes) None w
+syn_leads cx v w now ip header bytes no_rst no_other syn now_is w_is =
+    let answered : w ≡ with_syn cx v header =
+    w_is ∙ ap (λ (m : ℤ). with_block v (timeout_restarted (syn_answered v.block header m) m (queued_in v))) now_is
     in
-    let u = value_of b r q o in
+    taken_leads_to cx v w ip header bytes no_rst no_other
+    (so_leads (is_syn header.control) (dropped (with_syn cx v header)) (dropped v) None w syn (record { answer = refl; socket = answered }))
+
+-- nothing that counts comes
+pub nothing_leads : (cx : ContextValue) (v : TcpValue) (ip : IpRepr) (header : TcpHeader) (bytes : List ℕ) → is_rst header.control ≡ false
+    → acks_another v header ≡ false → is_syn header.control ≡ false → Leads (takes_answer cx v ip header bytes) None v
+nothing_leads cx v ip header bytes no_rst no_other no_syn =
+    taken_leads_to cx v v ip header bytes no_rst no_other
+    (if_open (is_syn header.control) (dropped (with_syn cx v header)) (dropped v) None v no_syn (record { answer = refl; socket = refl }))
+
+-- a SYN is taken by the block, and the user timeout starts
+pub syn_taken : (b b1 b2 : Block) (r : Received) (q : Ring ℕ) (o : Option OpenOffer) (v : TcpValue) (now : ℤ) (n : ℕ) (header : TcpHeader)
+    → value_of b r q o ≡ v → b1 ≡ syn_answered b header now → b2 ≡ timeout_restarted b1 now n → n ≡ length q.queue
+    → value_of b2 r q o ≡ with_block v (timeout_restarted (syn_answered v.block header now) now (queued_in v))
+syn_taken b b1 b2 r q o v now n header is answered restarted n_is =
+    let all : b2 ≡ timeout_restarted (syn_answered b header now) now (length q.queue) =
+    restarted ∙ ap (λ (x : Block). timeout_restarted x now n) answered
+    ∙ ap (λ (k : ℕ). timeout_restarted (syn_answered b header now) now k) n_is
+    in
     ap (λ (x : Block). value_of x r q o) all
-    ∙ third (is_rst header.control) (is_some header.ack_number && not (acks_syn b.sender.una header.ack_number)) (is_syn header.control)
-    (if acks_syn b.sender.una header.ack_number then dropped (ended u) else dropped u) (answered_with u (rst_reply ip header (length bytes)))
-    (dropped (with_block u (timeout_restarted (syn_answered b header cx.moment) cx.moment (queued_in u)))) (dropped u) no_rst no_refusal syn
-    ∙ ap (λ (x : TcpValue). (takes_answer cx x ip header bytes).socket) is
+    ∙ ap (λ (x : TcpValue). with_block x (timeout_restarted (syn_answered x.block header now) now (queued_in x))) is
+
+-- WHAT ANSWERS A SEGMENT
+
+abbrev told_all : TcpValue → TcpValue
+told_all v = with_block v (ack_recorded v.block (room_of v.received) (window_of v))
+
+-- an acknowledgement of all that came
+pub acked_leads : (cx : ContextValue) (v w : TcpValue) (window : ℕ) (ip : IpRepr) (header : TcpHeader) (size : ℕ) → window ≡ window_of v → w ≡ told_all v
+    → Leads (acked cx v ip header no_ranges) (Some (reply_of (Is.Ack window) cx.moment w ip header size)) w
+acked_leads cx v w window ip header size window_is w_is =
+    let all : Leads (acked cx v ip header no_ranges) (Some (reply_of (Is.Ack (window_of v)) cx.moment (told_all v) ip header size)) (told_all v) =
+    record { answer = refl; socket = refl }
+    in
+    subst (λ (x : TcpValue). Leads (acked cx v ip header no_ranges) (Some (reply_of (Is.Ack window) cx.moment x ip header size)) x) (sym w_is)
+    (subst (λ (n : ℕ). Leads (acked cx v ip header no_ranges) (Some (reply_of (Is.Ack n) cx.moment (told_all v) ip header size)) (told_all v)) (sym window_is) all)
+
+-- the same of text that is held early
+pub held_leads : (cx : ContextValue) (v w : TcpValue) (window place : ℕ) (early : Option ℕ) (ip : IpRepr) (header : TcpHeader) (size : ℕ) (fills : Bool)
+    → early ≡ Some place → window ≡ window_of v → w ≡ told_all v
+    → Leads (answer_for cx v ip header size fills early) (Some (reply_of (Is.AckHeld window place) cx.moment w ip header size)) w
+held_leads cx v w window place early ip header size fills early_is window_is w_is =
+    let at = answer_for cx v ip header size fills (Some place) in
+    let all : Leads at (Some (reply_of (Is.AckHeld (window_of v) place) cx.moment (told_all v) ip header size)) (told_all v) =
+    record { answer = refl; socket = refl }
+    in
+    let with_window : Leads at (Some (reply_of (Is.AckHeld window place) cx.moment (told_all v) ip header size)) (told_all v) =
+    subst (λ (n : ℕ). Leads at (Some (reply_of (Is.AckHeld n place) cx.moment (told_all v) ip header size)) (told_all v)) (sym window_is) all
+    in
+    let with_socket : Leads at (Some (reply_of (Is.AckHeld window place) cx.moment w ip header size)) w =
+    subst (λ (x : TcpValue). Leads at (Some (reply_of (Is.AckHeld window place) cx.moment x ip header size)) x) (sym w_is) with_window
+    in
+    subst (λ (o : Option ℕ). Leads (answer_for cx v ip header size fills o) (Some (reply_of (Is.AckHeld window place) cx.moment w ip header size)) w)
+    (sym early_is) with_socket
+
+-- other text is acknowledged later
+pub delayed_leads : (cx : ContextValue) (v w : TcpValue) (now : ℤ) (early : Option ℕ) (ip : IpRepr) (header : TcpHeader) (size : ℕ) (fills : Bool)
+    → early ≡ None → now ≡ cx.moment → w ≡ with_block v (ack_due v.block header size fills now)
+    → Leads (answer_for cx v ip header size fills early) None w
+delayed_leads cx v w now early ip header size fills early_is now_is w_is =
+    subst (λ (o : Option ℕ). Leads (answer_for cx v ip header size fills o) None w) (sym early_is)
+    (record { answer = refl; socket = w_is ∙ ap (λ (m : ℤ). with_block v (ack_due v.block header size fills m)) now_is })
+
+-- outside the window: what comes again is acknowledged, of other segments an acknowledgement may be drawn
+pub again_leads : (cx : ContextValue) (v w : TcpValue) (again : Bool) (now : ℤ) (ip : IpRepr) (header : TcpHeader) (answer : Option Reply) (socket : TcpValue)
+    → is_closed v.block.state ≡ false → now ≡ cx.moment → w ≡ waiting_anew v header now
+    → answer ≡ (if again then acked cx w ip header no_ranges else drawn cx w ip header).answer
+    → socket ≡ (if again then acked cx w ip header no_ranges else drawn cx w ip header).socket
+    → Leads (outside cx v ip header again) answer socket
+again_leads cx v w again now ip header answer socket opened now_is w_is a s =
+    let waits = waiting_anew v header cx.moment in
+    let all : w ≡ waits = w_is ∙ ap (λ (m : ℤ). waiting_anew v header m) now_is in
+    if_open (is_closed v.block.state) (dropped v) (if again then acked cx waits ip header no_ranges else drawn cx waits ip header) answer socket opened
+    (leads_to (λ (x : TcpValue). if again then acked cx x ip header no_ranges else drawn cx x ip header) w waits answer socket all a s)
+
+pub closed_leads : (cx : ContextValue) (v : TcpValue) (again : Bool) (ip : IpRepr) (header : TcpHeader) → is_closed v.block.state ≡ true
+    → Leads (outside cx v ip header again) None v
+closed_leads cx v again ip header closed =
+    let waits = waiting_anew v header cx.moment in
+    so_leads (is_closed v.block.state) (dropped v) (if again then acked cx waits ip header no_ranges else drawn cx waits ip header) None v closed
+    (record { answer = refl; socket = refl })
 
 -- no word is drawn but in LISTEN
 pub quiet_in : (state : State) (cx : ContextValue) (v : TcpValue) (ip : IpRepr) (header : TcpHeader) (bytes : List ℕ) → (state ≡ In.Listen → ⊥) →
@@ -266,6 +391,37 @@ pub later_leads : (cx : ContextValue) (v : TcpValue) (ip : IpRepr) (header : Tcp
 later_leads cx v ip header bytes answer socket closed listens opens a s =
     subst (λ (x : Arrived). Leads x answer socket) (sym (later_arrives v.block.state cx v ip header bytes closed listens opens))
     (record { answer = a; socket = s })
+
+abbrev no_reset_received : ContextValue → TcpValue → IpRepr → TcpHeader → List ℕ → Arrived
+no_reset_received cx v ip header bytes =
+    if draws_first v.block header cx.moment then drawn cx v ip header
+    else checked (acknowledgement_check v.block header.ack_number) cx v ip header bytes
+
+-- of these: a reset, what draws an acknowledgement first, and what is checked
+pub reset_received : (cx : ContextValue) (v : TcpValue) (ip : IpRepr) (header : TcpHeader) (bytes : List ℕ) (answer : Option Reply) (socket : TcpValue)
+    → is_rst header.control ≡ true → answer ≡ (reset_comes cx v ip header (length bytes)).answer → socket ≡ (reset_comes cx v ip header (length bytes)).socket
+    → Leads (received cx v ip header bytes) answer socket
+reset_received cx v ip header bytes answer socket is a s =
+    so_leads (is_rst header.control) (reset_comes cx v ip header (length bytes)) (no_reset_received cx v ip header bytes) answer socket is
+    (record { answer = a; socket = s })
+
+pub drawn_received : (cx : ContextValue) (v : TcpValue) (ip : IpRepr) (header : TcpHeader) (bytes : List ℕ) (now : ℤ) (answer : Option Reply) (socket : TcpValue)
+    → is_rst header.control ≡ false → draws_first v.block header now ≡ true → now ≡ cx.moment
+    → answer ≡ (drawn cx v ip header).answer → socket ≡ (drawn cx v ip header).socket → Leads (received cx v ip header bytes) answer socket
+drawn_received cx v ip header bytes now answer socket no_rst draws now_is a s =
+    if_open (is_rst header.control) (reset_comes cx v ip header (length bytes)) (no_reset_received cx v ip header bytes) answer socket no_rst
+    (so_leads (draws_first v.block header cx.moment) (drawn cx v ip header) (checked (acknowledgement_check v.block header.ack_number) cx v ip header bytes)
+    answer socket (subst (λ (m : ℤ). draws_first v.block header m ≡ true) now_is draws) (record { answer = a; socket = s }))
+
+pub checked_received : (cx : ContextValue) (v : TcpValue) (ip : IpRepr) (header : TcpHeader) (bytes : List ℕ) (now : ℤ) (answer : Option Reply)
+    (socket : TcpValue)
+    → is_rst header.control ≡ false → draws_first v.block header now ≡ false → now ≡ cx.moment
+    → answer ≡ (checked (acknowledgement_check v.block header.ack_number) cx v ip header bytes).answer
+    → socket ≡ (checked (acknowledgement_check v.block header.ack_number) cx v ip header bytes).socket → Leads (received cx v ip header bytes) answer socket
+checked_received cx v ip header bytes now answer socket no_rst draws now_is a s =
+    if_open (is_rst header.control) (reset_comes cx v ip header (length bytes)) (no_reset_received cx v ip header bytes) answer socket no_rst
+    (if_open (draws_first v.block header cx.moment) (drawn cx v ip header) (checked (acknowledgement_check v.block header.ack_number) cx v ip header bytes)
+    answer socket (subst (λ (m : ℤ). draws_first v.block header m ≡ false) now_is draws) (record { answer = a; socket = s }))
 
 -- an answer that is handed out
 some_reply : (x y : Reply) → Some x ≡ Some y → x ≡ y

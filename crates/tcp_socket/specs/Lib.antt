@@ -5,6 +5,7 @@ pub mod Dispatch
 pub mod Opening
 pub mod Answering
 pub use Rattle.socket_base.specs.Addresses
+pub use Rattle.socket_base.specs.Text
 pub use Rattle.socket_base.specs.WellFormed
 pub use Rattle.socket_base.specs.declared.packet.IpPayload
 pub use Rattle.socket_base.specs.declared.packet.Packet

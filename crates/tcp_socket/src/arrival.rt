@@ -1,21 +1,23 @@
 //! A segment comes.
-ghost use Rattle.std.specs.Prelude.{◌≡◌, ◌+◌, ◌≤◌, ◌<◌, ◌^◌, [], length, IfSome, false, Option, Some, None, if◌then◌else◌};
+ghost use Rattle.std.specs.Prelude.{◌≡◌, ◌+◌, ◌≤◌, ◌<◌, ◌^◌, ◌&&◌, not, [], length, IfSome, false, Option, Some, None, is_some, if◌then◌else◌};
 ghost use Rattle.net_base.specs.Time.{IsMoment};
 ghost use Rattle.socket_base.specs.Context.{ContextValue};
 ghost use Rattle.socket_base.specs.Packet.{IsSendable};
 ghost use Rattle.ip_wire.specs.Tcp.{header_of};
 ghost use Rattle.tcp_model.specs.Acknowledged.{acknowledged};
-ghost use Rattle.tcp_model.specs.Answers.{ack_recorded, drawn, ranges_held, answer_for};
+ghost use Rattle.tcp_model.specs.Answers.{ack_recorded, acked, drawn, ack_due, ranges_held, answer_for};
 ghost use Rattle.tcp_model.specs.Arrival.{waiting_anew, outside, tells_news, comes_again, passed_outside, finished, told};
 ghost use Rattle.tcp_model.specs.Arrival.{echo_heard, taken, inside, checked, challenges_reset};
-ghost use Rattle.tcp_model.specs.Arrival.{reset_comes, received, is_void_syn, arrives_in, arrives};
+ghost use Rattle.tcp_model.specs.Arrival.{reset_comes, draws_first, received, is_void_syn, arrives_in, arrives};
 ghost use Rattle.tcp_model.specs.Checks.{acknowledgement_check, taken_down};
 ghost use Rattle.tcp_model.specs.Checks.Check.{Passes, Old};
+ghost use Rattle.tcp_model.specs.Controls.{is_zero};
 ghost use Rattle.tcp_model.specs.Names.{accepts};
-ghost use Rattle.tcp_model.specs.Opening.{is_first_syn, opens, takes_answer};
-ghost use Rattle.tcp_model.specs.Segments.{rst_reply};
+ghost use Rattle.tcp_model.specs.Opening.{acks_syn, is_first_syn, opens, syn_answered, takes_answer};
+ghost use Rattle.tcp_model.specs.Segments.{rst_reply, no_ranges};
 ghost use Rattle.tcp_model.specs.Text.{texted, with_text, with_text_at, with_bytes_at, with_fin};
-ghost use Rattle.tcp_model.specs.Value.{queued_in, room_of, window_of, with_block};
+ghost use Rattle.tcp_model.specs.Timeout.{timeout_restarted};
+ghost use Rattle.tcp_model.specs.Value.{ended, queued_in, room_of, window_of, with_block};
 ghost use Rattle.tcp_socket.specs.Replies.{replies_in, packet_with};
 ghost use Rattle.tcp_socket.specs.Answering.{acknowledgement, reply_of, answer_of, next_at, continued_by};
 
@@ -184,22 +186,46 @@ impl Socket {
             (takes_answer (C.context cx.now) self.old incoming.now.ip_repr.now incoming.now.header incoming.now.bytes.now).answer }
         ensures socket { self.new ≡ (takes_answer (C.context cx.now) self.old incoming.now.ip_repr.now incoming.now.header incoming.now.bytes.now).socket }
     {
-        let (now, header) = (cx.now(), incoming.header);
-        let acks_syn = self.block.is_syn_acked(header.ack_number);
+        let header = &incoming.header;
         if is_rst(header.control) {
-            if acks_syn {
-                self.block.forget();
-            }
-            return None;
+            self.take_refusal(header.ack_number);
+            None
+        } else if self.acks_another(header.ack_number) {
+            Some(Due::Reset)
+        } else if is_syn(header.control) {
+            self.take_syn(header, cx.now());
+            None
+        } else {
+            None
         }
-        if header.ack_number.is_some() && !acks_syn {
-            return Some(Due::Reset);
+    }
+
+    /// SYN-SENT: whether anything but the own SYN is acknowledged.
+    fn acks_another(&self, ack_number: Option<SeqNumber>) -> bool
+        ensures { result ≡ is_some ack_number && not (acks_syn self.now.block.sender.una ack_number) }
+    {
+        ack_number.is_some() && !self.block.is_syn_acked(ack_number)
+    }
+
+    /// SYN-SENT: a reset comes.
+    fn take_refusal(&mut self, ack_number: Option<SeqNumber>)
+        requires unoffered { self.old.offered ≡ None }
+        ensures { self.new ≡ (if acks_syn self.old.block.sender.una ack_number then ended self.old else self.old) }
+    {
+        if self.block.is_syn_acked(ack_number) {
+            self.block.forget();
         }
-        if is_syn(header.control) {
-            self.block.take_answer(&header, now);
-            self.block.restart_timeout(now, self.queued.len());
-        }
-        None
+    }
+
+    /// SYN-SENT: a SYN comes.
+    fn take_syn(&mut self, header: &TcpHeader, now: Instant)
+        requires unoffered { self.old.offered ≡ None }
+        requires moment { IsMoment now }
+        requires sized { is_zero header.now.options.max_seg_size ≡ false }
+        ensures { self.new ≡ with_block self.old (timeout_restarted (syn_answered self.old.block header.now now) now (queued_in self.old)) }
+    {
+        self.block.take_answer(header, now);
+        self.block.restart_timeout(now, self.queued.len());
     }
 
     /// From SYN-RECEIVED on.
@@ -211,13 +237,18 @@ impl Socket {
     {
         if is_rst(incoming.header.control) {
             self.take_reset(cx, incoming)
-        } else if self.block.is_stale(&incoming.header, cx.now())
-            || self.block.challenges_syn(&incoming.header)
-        {
+        } else if self.draws_first(&incoming.header, cx.now()) {
             self.draw(cx, incoming)
         } else {
             self.check(cx, incoming)
         }
+    }
+
+    /// Whether a segment draws an acknowledgement before its own is looked at.
+    fn draws_first(&self, header: &TcpHeader, now: Instant) -> bool
+        ensures { result ≡ draws_first self.now.block header.now now }
+    {
+        self.block.is_stale(header, now) || self.block.challenges_syn(header)
     }
 
     /// A reset counts at RCV.NXT alone. Elsewhere in the window it is challenged.
@@ -319,9 +350,10 @@ impl Socket {
         if self.tells_news(&incoming.header, incoming.bytes.len()) {
             self.acknowledge(&incoming.header, by, cx.now());
             let again = has_length(&incoming.header, incoming.bytes.len());
-            return self.answer_outside(cx, incoming, again);
+            self.answer_outside(cx, incoming, again)
+        } else {
+            self.answer_outside(cx, incoming, false)
         }
-        self.answer_outside(cx, incoming, false)
     }
 
     /// Whether a segment with text or a FIN lies just before the window.
@@ -356,13 +388,33 @@ impl Socket {
         ensures socket { self.new ≡ (outside (C.context cx.now) self.old incoming.now.ip_repr.now incoming.now.header again).socket }
     {
         if self.block.state.is_closed() {
-            return None;
+            None
+        } else {
+            self.wait_anew(&incoming.header, cx.now());
+            self.draw_or_acknowledge(cx, incoming, again)
         }
-        self.wait_anew(&incoming.header, cx.now());
+    }
+
+    /// An answer may be drawn. What comes again is answered at once.
+    fn draw_or_acknowledge<C: Context>(
+        &mut self,
+        cx: &C,
+        incoming: &Incoming<'_>,
+        again: bool,
+    ) -> Option<Due>
+        requires unoffered { self.old.offered ≡ None }
+        ensures answer { answer_of result (C.context cx.now).moment self.new incoming.now.ip_repr.now incoming.now.header (length incoming.now.bytes.now) ≡
+            (if again then acked (C.context cx.now) self.old incoming.now.ip_repr.now incoming.now.header no_ranges
+            else drawn (C.context cx.now) self.old incoming.now.ip_repr.now incoming.now.header).answer }
+        ensures socket { self.new ≡
+            (if again then acked (C.context cx.now) self.old incoming.now.ip_repr.now incoming.now.header no_ranges
+            else drawn (C.context cx.now) self.old incoming.now.ip_repr.now incoming.now.header).socket }
+    {
         if again {
-            return Some(Due::Ack(self.acknowledge_all()));
+            Some(Due::Ack(self.acknowledge_all()))
+        } else {
+            self.draw(cx, incoming)
         }
-        self.draw(cx, incoming)
     }
 
     /// A FIN that comes again in TIME-WAIT restarts it.
@@ -552,11 +604,19 @@ impl Socket {
         match early {
             Some(place) => Some(Due::AckHeld(self.acknowledge_all(), place)),
             None => {
-                let size = incoming.bytes.len();
-                self.block.ack_due(&incoming.header, size, fills, cx.now());
+                self.delay_ack(&incoming.header, incoming.bytes.len(), fills, cx.now());
                 None
             }
         }
+    }
+
+    /// An acknowledgement of a segment with so many bytes becomes due, if it isn't already.
+    fn delay_ack(&mut self, header: &TcpHeader, size: usize, fills: bool, now: Instant)
+        requires unoffered { self.old.offered ≡ None }
+        requires moment { IsMoment now }
+        ensures { self.new ≡ with_block self.old (ack_due self.old.block header.now size fills now) }
+    {
+        self.block.ack_due(header, size, fills, now);
     }
 
     /// The text of an accepted segment.

@@ -1,13 +1,15 @@
 //! What a socket tells of itself.
 ghost use Rattle.std.specs.Prelude.{◌≡◌, ◌+◌, length, is_some};
+ghost use Rattle.tcp_model.specs.Blocks.{unacked};
+ghost use Rattle.tcp_model.specs.Probing.{probe_moment};
 ghost use Rattle.tcp_model.specs.States.{takes_writes, is_listening};
 ghost use Rattle.tcp_model.specs.Settings.{is_open, is_active, can_send, can_recv, may_recv};
-ghost use Rattle.tcp_model.specs.Value.{room_of};
+ghost use Rattle.tcp_model.specs.Value.{room_of, queued_in};
 ghost use Rattle.tcp_socket.specs.Socket.{local_in, remote_in, is_pair, is_unacked_at, has_sent};
 
 use crate::Socket;
 use ip_wire::{IpEndpoint, IpListenEndpoint, SeqNumber};
-use net_base::Duration;
+use net_base::{Duration, Instant};
 use socket_base::addresses::is_same_address;
 use tcp_model::{Block, CongestionControl, EndpointPair, State, before_by, past_by};
 
@@ -109,6 +111,29 @@ impl Socket {
         ensures { result ≡ length self.now.queued.queue }
     {
         self.queued.len()
+    }
+
+    /// How many positions aren't acknowledged, sent or not: the own SYN, the queued bytes, and the FIN once
+    /// the user has closed.
+    pub fn unacked(&self) -> usize
+        ensures { result ≡ unacked self.now.block (queued_in self.now) }
+    {
+        self.block.unacked(self.queued.len())
+    }
+
+    /// The moment at which the retransmission timer runs out, if it runs.
+    pub fn retransmit_at(&self) -> Option<Instant>
+        ensures { result ≡ self.now.block.timers.retransmit_at }
+    {
+        self.block.timers.retransmit_at
+    }
+
+    /// The moment at which what is queued goes though a closed or small window holds it back, if one does and
+    /// that moment is set.
+    pub fn probe_at(&self) -> Option<Instant>
+        ensures { result ≡ probe_moment self.now.block (queued_in self.now) }
+    {
+        self.block.probe_moment(self.queued.len())
     }
 
     /// How many bytes wait to be read.

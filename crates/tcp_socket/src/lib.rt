@@ -11,6 +11,7 @@ mod socket;
 
 pub use receive_buffer::ReceiveBuffer;
 pub use socket::{Socket, SocketBuffer};
+pub use socket_base::SegmentText;
 pub use tcp_model::{
     CongestionControl, ConnectError, ListenError, RecvError, Reno, SendError, State,
 };

@@ -12,6 +12,7 @@ pub mod OfferMoves
 pub mod OfferLaws
 pub mod RunLaws
 pub mod NameLaws
+pub mod PortLaws
 pub mod AloneLaws
 pub mod HostLaws
 pub mod AnsweredLaws

@@ -74,7 +74,7 @@ pub fn hosts_answer_by_resets()
 {}
 
 /// So the ports that a socket was opened with are those of all that names it, whatever comes.
-#[tactic(auto, using(crate::proofs::NameLaws::port_laws))]
+#[tactic(auto, using(crate::proofs::PortLaws::port_laws))]
 pub fn ports_stay()
     ensures listens { (v : TcpValue) (endpoint : IpListenEndpoint)
         → HasPorts (record { local = endpoint.port; remote = None }) (listening v endpoint).block }
@@ -94,7 +94,7 @@ pub fn ports_stay()
 {}
 
 /// A closed socket takes no segment; and one without a remote endpoint offers none.
-#[tactic(auto, using(crate::proofs::NameLaws::nameless_refuses, crate::proofs::NameLaws::nameless_drops, crate::proofs::NameLaws::nameless_silent))]
+#[tactic(auto, using(crate::proofs::PortLaws::nameless_refuses, crate::proofs::PortLaws::nameless_drops, crate::proofs::PortLaws::nameless_silent))]
 pub fn a_nameless_socket_is_silent()
     ensures refuses { (b : Block) (ip : IpRepr) (header : TcpHeader) → IsNameless b → accepts b ip header ≡ false }
     ensures drops { (cx : ContextValue) (v : TcpValue) (ip : IpRepr) (header : TcpHeader) (bytes : List ℕ) → IsNameless v.block

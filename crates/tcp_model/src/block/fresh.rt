@@ -62,6 +62,56 @@ impl Sender {
     }
 }
 
+impl Receiver {
+    /// Nothing came.
+    const NONE: Receiver = Receiver {
+        next: SeqNumber(0),
+        took_syn: false,
+        took_fin: false,
+        edge: 0,
+        mss: 0,
+        last_ack: SeqNumber(0),
+    };
+}
+
+impl Peer {
+    /// A remote of which nothing is known.
+    const UNKNOWN: Peer = Peer {
+        window: 0,
+        largest_window: 0,
+        window_seq: SeqNumber(0),
+        window_ack: SeqNumber(0),
+        mss: DEFAULT_MSS,
+        scale: None,
+        sack: false,
+        timestamps: false,
+        recent: 0,
+    };
+}
+
+impl Stamps {
+    /// No timestamps.
+    const NONE: Stamps = Stamps {
+        generator: None,
+        first: 0,
+        believed_until: None,
+    };
+}
+
+impl Timers {
+    /// No timer runs.
+    const NONE: Timers = Timers {
+        retransmit_at: None,
+        probe_at: None,
+        ack_at: None,
+        text_unacked: false,
+        draws_from: None,
+        counts_from: None,
+        time_wait_ends: None,
+        timeout_since: None,
+    };
+}
+
 impl Settings {
     /// What holds where nothing is set.
     pub const fn new() -> Settings
@@ -108,40 +158,10 @@ impl Block {
             state: State::Closed,
             names: Names::NONE,
             sender: Sender::new(SeqNumber(0), false),
-            receiver: Receiver {
-                next: SeqNumber(0),
-                took_syn: false,
-                took_fin: false,
-                edge: 0,
-                mss: 0,
-                last_ack: SeqNumber(0),
-            },
-            peer: Peer {
-                window: 0,
-                largest_window: 0,
-                window_seq: SeqNumber(0),
-                window_ack: SeqNumber(0),
-                mss: DEFAULT_MSS,
-                scale: None,
-                sack: false,
-                timestamps: false,
-                recent: 0,
-            },
-            stamps: Stamps {
-                generator: None,
-                first: 0,
-                believed_until: None,
-            },
-            timers: Timers {
-                retransmit_at: None,
-                probe_at: None,
-                ack_at: None,
-                text_unacked: false,
-                draws_from: None,
-                counts_from: None,
-                time_wait_ends: None,
-                timeout_since: None,
-            },
+            receiver: Receiver::NONE,
+            peer: Peer::UNKNOWN,
+            stamps: Stamps::NONE,
+            timers: Timers::NONE,
             round_trip,
             reno: settings.congestion_control.fresh_window(),
             loss: Loss::NONE,
