@@ -5,6 +5,7 @@ use Rattle.std.specs.List.{list_any}
 use Rattle.net_base.specs.Capabilities.{verifies}
 use Rattle.ip_wire.specs.AddressTests.{is_loopback_v4}
 use Rattle.ip_wire.specs.declared.ethernet.repr.EthernetRepr.{EthernetRepr}
+use Rattle.ip_wire.specs.EthernetAddress.{EthernetAddress}
 use Rattle.ip_wire.specs.HardwareAddress.{HardwareAddress}
 use Rattle.ip_wire.specs.HardwareAddress.TheVariants as Hardware
 use Rattle.ip_wire.specs.IpAddress.TheVariants as Address
@@ -15,9 +16,9 @@ use Rattle.ip_wire.specs.Ipv4Repr.{Ipv4Repr}
 use Rattle.interface_tables.specs.Inner.{InnerValue, is_own, is_member_of, is_local_broadcast, is_loopback_in, is_loopback_of, is_for_us}
 use Rattle.interface_ingress.specs.Arrives.{Arrived, Arrives, ArrivesAs, ArrivesV4, Brings, Hands, renewed, slots_after, whole_after}
 use Rattle.interface_ingress.specs.Delivered.{Places, is_taken_raw, packet_delivered}
-use Rattle.interface_ingress.specs.Incoming.{IncomingValue, Ip4, IsContent}
+use Rattle.interface_ingress.specs.Incoming.{IncomingValue, Ip4, IsContent, IsPacketV4}
 use Rattle.interface_ingress.specs.Reassembled.{Slots, is_heard, is_sender, is_piece, is_taken_in, taken_in, part_of, part_v4}
-use Rattle.interface_ingress.specs.Short.{is_plain, goes_short, TakesPacket}
+use Rattle.interface_ingress.specs.Short.{StandsBehind, StandsIn, is_plain, goes_short, TakesPacket}
 use Rattle.interface_ingress.proofs.PieceSlots.{slots_stay, whole_stays}
 
 record IsPlain (l m s o : Bool) : Type 0 where
@@ -74,17 +75,42 @@ arrives i timeout slots places link header piece payload a heard uncut is hands 
       subst (λ (o : Option IncomingValue). Brings i places o a) (sym same) brings,
     )
 
--- A MEDIUM OF BARE PACKETS
+-- BOTH MEDIA
 
-pub bare_arrives : (i : InnerValue) (timeout : ℕ) (slots : Slots) (places : Places) (frame : List ℕ) (a : Arrived) → i.hardware ≡ Hardware.Ip →
-    TakesPacket i places None frame a → Arrives i timeout slots places frame slots a
-bare_arrives i timeout slots places frame a medium takes =
-    let content : Option IncomingValue = Some (Ip4 None takes.0 takes.1 takes.2) in
+-- a packet that is the content of a frame, and in a frame that is heard
+content_arrives : (hardware : HardwareAddress) (i : InnerValue) (timeout : ℕ) (slots : Slots) (places : Places) (frame : List ℕ) (link : Option EthernetRepr)
+    (bytes : List ℕ) (a : Arrived) → i.hardware ≡ hardware → is_heard i link ≡ true → (takes : TakesPacket i places link bytes a) →
+    IsContent hardware i.checksums frame (Some (Ip4 link takes.0 takes.1 takes.2)) → Arrives i timeout slots places frame slots a
+content_arrives hardware i timeout slots places frame link bytes a medium heard takes is =
+    let content : Option IncomingValue = Some (Ip4 link takes.0 takes.1 takes.2) in
     let whole = whole_by (is_piece takes.1) (is_plain i takes.0) takes.4 in (
       content,
-      subst (λ (h : HardwareAddress). IsContent h i.checksums frame content) (sym medium) takes.3,
-      arrives i timeout slots places None takes.0 takes.1 takes.2 a refl whole.0 whole.1 takes.5,
+      subst (λ (h : HardwareAddress). IsContent h i.checksums frame content) (sym medium) is,
+      arrives i timeout slots places link takes.0 takes.1 takes.2 a heard whole.0 whole.1 takes.5,
     )
+
+bare_arrives : (i : InnerValue) (timeout : ℕ) (slots : Slots) (places : Places) (frame : List ℕ) (link : Option EthernetRepr) (bytes : List ℕ)
+    (a : Arrived) → i.hardware ≡ Hardware.Ip → link ≡ None → bytes ≡ frame → TakesPacket i places link bytes a → Arrives i timeout slots places frame slots a
+bare_arrives i timeout slots places frame (Some link) bytes a medium none same takes = absurd (let e = none in cc e)
+bare_arrives i timeout slots places frame None bytes a medium none same takes =
+    content_arrives Hardware.Ip i timeout slots places frame None bytes a medium refl takes
+    (subst (λ (b : List ℕ). IsPacketV4 i.checksums b takes.0 takes.1 takes.2) same takes.3)
+
+framed_arrives : (own : EthernetAddress) (i : InnerValue) (timeout : ℕ) (slots : Slots) (places : Places) (frame : List ℕ) (link : Option EthernetRepr)
+    (bytes : List ℕ) (a : Arrived) → i.hardware ≡ Hardware.Ethernet own → StandsBehind i frame link bytes → TakesPacket i places link bytes a →
+    Arrives i timeout slots places frame slots a
+framed_arrives own i timeout slots places frame None bytes a medium stands takes = absurd stands
+framed_arrives own i timeout slots places frame (Some link) bytes a medium stands takes =
+    content_arrives (Hardware.Ethernet own) i timeout slots places frame (Some link) bytes a medium stands.1 takes
+    (stands.0, subst (λ (b : List ℕ). IsPacketV4 i.checksums b takes.0 takes.1 takes.2) stands.2 takes.3)
+
+pub packet_arrives : (hardware : HardwareAddress) (i : InnerValue) (timeout : ℕ) (slots : Slots) (places : Places) (frame : List ℕ) (link : Option EthernetRepr)
+    (bytes : List ℕ) (a : Arrived) → i.hardware ≡ hardware → StandsIn hardware i frame link bytes → TakesPacket i places link bytes a →
+    Arrives i timeout slots places frame slots a
+packet_arrives Hardware.Ip i timeout slots places frame link bytes a medium stands takes =
+    bare_arrives i timeout slots places frame link bytes a medium stands.0 stands.1 takes
+packet_arrives (Hardware.Ethernet own) i timeout slots places frame link bytes a medium stands takes =
+    framed_arrives own i timeout slots places frame link bytes a medium stands takes
 
 pub taken : (i : InnerValue) (places : Places) (link : Option EthernetRepr) (bytes : List ℕ) (header : Ipv4Repr) (piece : Ipv4Piece) (payload : List ℕ)
     (a : Arrived) → Ipv4.IsIpv4 (verifies i.checksums.ipv4) bytes header → piece ≡ Ipv4.piece_of bytes → payload ≡ Ipv4.payload_of bytes →

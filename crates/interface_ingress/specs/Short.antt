@@ -1,16 +1,34 @@
 -- What goes the short way in.
-use Rattle.std.specs.Prelude.{◌≡◌, ℕ, ◌&&◌, ◌||◌, not, Bool, true, List, Option}
+use Rattle.std.specs.Prelude.{◌≡◌, ℕ, ◌&&◌, ◌||◌, not, Bool, true, List, Option, None, Some}
 use Rattle.ip_wire.specs.AddressTests.{is_loopback_v4}
+use Rattle.ip_wire.specs.Ethernet as Ethernet
+use Rattle.ip_wire.specs.EthernetProtocol.TheVariants as Ether
 use Rattle.ip_wire.specs.declared.ethernet.repr.EthernetRepr.{EthernetRepr}
+use Rattle.ip_wire.specs.HardwareAddress.{HardwareAddress}
+use Rattle.ip_wire.specs.HardwareAddress.TheVariants as Hardware
 use Rattle.ip_wire.specs.IpAddress.TheVariants as Address
 use Rattle.ip_wire.specs.IpRepr.TheVariants as Ip
 use Rattle.ip_wire.specs.Ipv4Piece.{Ipv4Piece}
 use Rattle.ip_wire.specs.Ipv4Repr.{Ipv4Repr}
 use Rattle.interface_tables.specs.Inner.{InnerValue, is_own}
 use Rattle.interface_ingress.specs.Delivered.{Places, is_taken_raw, packet_delivered}
-use Rattle.interface_ingress.specs.Incoming.{IsPacketV4}
-use Rattle.interface_ingress.specs.Reassembled.{is_sender, is_piece}
+use Rattle.interface_ingress.specs.Incoming.{IsFramed, IsPacketV4}
+use Rattle.interface_ingress.specs.Reassembled.{is_heard, is_sender, is_piece}
 use Rattle.interface_ingress.specs.Arrives.{Arrived, Hands, renewed}
+
+-- WHERE A PACKET STANDS
+
+-- behind a link header that names IPv4, in a frame that is heard
+abbrev pub StandsBehind : InnerValue → List ℕ → Option EthernetRepr → List ℕ → Type 0
+StandsBehind i frame None bytes = ⊥
+StandsBehind i frame (Some link) bytes = IsFramed frame link Ether.Ipv4 × (is_heard i (Some link) ≡ true) × (bytes ≡ Ethernet.payload_of frame)
+
+-- on a medium of bare packets a packet is the whole frame
+abbrev pub StandsIn : HardwareAddress → InnerValue → List ℕ → Option EthernetRepr → List ℕ → Type 0
+StandsIn Hardware.Ip i frame link bytes = (link ≡ None) × (bytes ≡ frame)
+StandsIn (Hardware.Ethernet own) i frame link bytes = StandsBehind i frame link bytes
+
+-- WHICH PACKET GOES
 
 -- a packet comes from one host for an own address, and no loopback address is in it
 abbrev pub is_plain : InnerValue → Ipv4Repr → Bool

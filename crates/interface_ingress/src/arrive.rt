@@ -43,9 +43,17 @@ pub(crate) fn renew(inner: &mut InterfaceInner, link: &Option<EthernetRepr>, hea
     ensures { inner.new ≡ renewed inner.old link.now header.now }
 {
     if let Some(link) = link {
-        if is_direct(inner, header) {
-            inner.renew_neighbor(sender_of(header), HardwareAddress::Ethernet(link.src_addr));
-        }
+        renew_at(inner, link, header);
+    }
+}
+
+/// The same where there is a link header. It stands apart, so that a packet without one goes past it.
+#[inline(never)]
+fn renew_at(inner: &mut InterfaceInner, link: &EthernetRepr, header: &IpRepr)
+    ensures { inner.new ≡ renewed inner.old (Some link.now) header.now }
+{
+    if is_direct(inner, header) {
+        inner.renew_neighbor(sender_of(header), HardwareAddress::Ethernet(link.src_addr));
     }
 }
 

@@ -90,7 +90,7 @@ fn is_taken_in(inner: &InterfaceInner, incoming: &Incoming<'_>) -> bool
 }
 
 /// Whether the frame is for this station, for all stations or for a group.
-fn is_heard(inner: &InterfaceInner, link: &Option<EthernetRepr>) -> bool
+pub(crate) fn is_heard(inner: &InterfaceInner, link: &Option<EthernetRepr>) -> bool
     ensures { result ≡ is_heard inner.now link.now }
 {
     match link {

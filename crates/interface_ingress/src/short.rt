@@ -1,5 +1,5 @@
-//! The short way in, which nearly every frame of a medium of bare packets goes: a whole IPv4 packet from one host, for an own address.
-ghost use Rattle.std.specs.Prelude.{◌≡◌, ℕ, length, true, false, None};
+//! The short way in, which nearly every frame goes: a whole IPv4 packet from one host, for an own address.
+ghost use Rattle.std.specs.Prelude.{◌≡◌, ℕ, length, true, false, None, IfSome};
 ghost use Rattle.std.specs.List.{list_any};
 ghost use Rattle.ip_wire.specs.IpAddress.TheVariants as Address;
 ghost use Rattle.ip_wire.specs.IpRepr.TheVariants as Ip;
@@ -8,16 +8,17 @@ ghost use Rattle.interface_tables.specs.Inner.{is_address_of, is_own};
 ghost use Rattle.interface_ingress.specs.Arrives.{Arrives, Hands, IfCanGo, arrived, renewed, reply_of};
 ghost use Rattle.interface_ingress.specs.Delivered.{is_taken_raw, packet_delivered};
 ghost use Rattle.interface_ingress.specs.Reassembled.{Slots};
-ghost use Rattle.interface_ingress.specs.Short.{goes_short, is_plain, TakesPacket};
+ghost use Rattle.interface_ingress.specs.Short.{StandsBehind, StandsIn, goes_short, is_plain, TakesPacket};
 
 use crate::arrive::renew;
 use crate::deliver::deliver_packet;
 use crate::hand::hand_bare;
-use crate::reassemble::{is_piece, is_sender};
+use crate::reassemble::{is_heard, is_piece, is_sender};
 use crate::reply::Reply;
 use interface_egress::{InterfaceInner, SocketStorage};
 use ip_wire::{
-    EthernetRepr, HardwareAddress, IpCidr, IpRepr, Ipv4Address, Ipv4Packet, Ipv4Piece, Ipv4Repr,
+    EthernetFrame, EthernetProtocol, EthernetRepr, HardwareAddress, IpCidr, IpRepr, Ipv4Address,
+    Ipv4Packet, Ipv4Piece, Ipv4Repr,
 };
 use sockets::{Context, Socket};
 
@@ -35,9 +36,45 @@ pub fn take_short<'a>(
     ensures other { result ≡ false → (inner.new ≡ inner.old) × (places.new ≡ places.old) × (reply.new ≡ None) }
     ensures sendable { IfCanGo (reply_of reply.new) }
 {
+    let mut link = None;
+    match packet_in(inner, frame, &mut link) {
+        Some(bytes) => take_packet(inner, places, &link, bytes, reply),
+        None => false,
+    }
+}
+
+/// The bytes of a frame that are an IPv4 packet, if any are: on a medium of bare packets all. The link header is written where the caller
+/// wants it.
+fn packet_in<'a>(
+    inner: &InterfaceInner,
+    frame: &'a [u8],
+    link: &mut Option<EthernetRepr>,
+) -> Option<&'a [u8]>
+    requires none { link.old ≡ None }
+    ensures { IfSome result (λ bytes. StandsIn inner.now.hardware inner.now frame.now link.new bytes.now) }
+{
     match inner.hardware_addr() {
-        HardwareAddress::Ip => take_packet(inner, places, &None, frame, reply),
-        HardwareAddress::Ethernet(_) => false,
+        HardwareAddress::Ip => Some(frame),
+        HardwareAddress::Ethernet(_) => packet_behind(inner, frame, link),
+    }
+}
+
+/// The same of an Ethernet frame: those behind a link header that names IPv4, if the frame is heard.
+fn packet_behind<'a>(
+    inner: &InterfaceInner,
+    frame: &'a [u8],
+    link: &mut Option<EthernetRepr>,
+) -> Option<&'a [u8]>
+    ensures { IfSome result (λ bytes. StandsBehind inner.now frame.now link.new bytes.now) }
+{
+    let frame = EthernetFrame::new_unchecked(frame);
+    let Ok(header) = EthernetRepr::parse(&frame) else {
+        return None;
+    };
+    *link = Some(header);
+    match header.ethertype {
+        EthernetProtocol::Ipv4 if is_heard(inner, link) => Some(frame.payload()),
+        _ => None,
     }
 }
 
