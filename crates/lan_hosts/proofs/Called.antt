@@ -18,7 +18,7 @@ use Rattle.lan_history.specs.Kinds.{Kind}
 use Rattle.lan_history.specs.Kinds.Act.{Calls, Sets, Opens, Asks, Polls}
 use Rattle.lan_history.specs.Kinds.Kind.{OfHost, OfLink}
 use Rattle.lan_history.specs.declared.event.Side.{Side}
-use Rattle.lan_packets.specs.Calls.{Did}
+use Rattle.lan_history.specs.Calls.{Did}
 use Rattle.lan_hosts.specs.Acting.{ActsBy, ActsSo}
 use Rattle.lan_hosts.specs.Answers.{HasTaken}
 use Rattle.lan_hosts.specs.Calling.{is_called, ItemCalls, PlaceCalls, IsCall}

@@ -32,7 +32,7 @@ use Rattle.lan_history.specs.Tables.{table_of, table_after}
 use Rattle.lan_history.specs.declared.answer.Answer.{Answer}
 use Rattle.lan_history.specs.declared.event.Side.{Side}
 use Rattle.lan_history.specs.declared.event.Side.TheVariants.{A, B}
-use Rattle.lan_packets.specs.Calls.{Did}
+use Rattle.lan_history.specs.Calls.{Did}
 use Rattle.tcp_model.specs.State as States
 use Rattle.lan_hosts.specs.Does.{does, DidAt, ItemDoes, PlaceDoes}
 use Rattle.lan_hosts.specs.Origins.{medium_of, goes_to, sent_before, is_cut_of, own_frames, begins_datagram, numbered}

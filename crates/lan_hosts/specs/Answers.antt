@@ -7,7 +7,7 @@ use Rattle.lan_history.specs.declared.answer.Answer.TheVariants as To
 use Rattle.lan_history.specs.declared.answer.Fault.{Fault}
 use Rattle.lan_history.specs.declared.answer.Fault.TheVariants as For
 use Rattle.sockets.specs.declared.socket.Socket.{Socket}
-use Rattle.lan_packets.specs.Calls.{Did}
+use Rattle.lan_history.specs.Calls.{Did}
 use Rattle.tcp_model.specs.State.{State}
 use Rattle.lan_hosts.specs.declared.answer.Brief.{Brief}
 use Rattle.lan_hosts.specs.declared.answer.Brief.TheVariants as Short

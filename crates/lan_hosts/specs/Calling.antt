@@ -14,7 +14,7 @@ use Rattle.lan_history.specs.declared.record.SocketKind.{SocketKind}
 use Rattle.lan_history.specs.Kinds.{Kind}
 use Rattle.lan_history.specs.Kinds.Act.{Calls}
 use Rattle.lan_history.specs.Kinds.Kind.{OfHost}
-use Rattle.lan_packets.specs.Calls.{Did}
+use Rattle.lan_history.specs.Calls.{Did}
 use Rattle.lan_hosts.specs.Answers.{HasTaken}
 use Rattle.lan_hosts.specs.Does.{does, draws}
 use Rattle.lan_hosts.specs.Station.{kind_at}

@@ -26,7 +26,7 @@ use Rattle.lan_history.specs.declared.answer.Answer.{Answer}
 use Rattle.lan_history.specs.declared.answer.Answer.TheVariants as To
 use Rattle.lan_history.specs.declared.answer.Fault.{Fault}
 use Rattle.lan_history.specs.declared.answer.Fault.TheVariants as For
-use Rattle.lan_packets.specs.Calls.{Did, did, done_or, bind_fault, send_fault, at_port, tcp_does, udp_does}
+use Rattle.lan_history.specs.Calls.{Did, did, done_or, bind_fault, send_fault, at_port, tcp_does, udp_does}
 use Rattle.lan_hosts.specs.Station.{StationValue}
 
 -- AN ICMP SOCKET

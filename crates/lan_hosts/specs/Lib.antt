@@ -28,10 +28,10 @@ pub use Rattle.lan_history.specs.Kinds
 pub use Rattle.lan_history.specs.declared.event.Side
 pub use Rattle.lan_history.specs.declared.event.Event
 pub use Rattle.interface_ingress.specs.Handed
-pub use Rattle.lan_packets.specs.Parties
+pub use Rattle.lan_history.specs.Parties
 pub use Rattle.lan_history.specs.Tables
 pub use Rattle.lan_history.specs.declared.answer.Answer
-pub use Rattle.lan_packets.specs.Safe as PacketsSafe
+pub use Rattle.lan_history.specs.Safe as PacketsSafe
 pub use Rattle.interface_egress.specs.Determined
 pub use Rattle.lan_frames.specs.Port
 pub use Rattle.ip_wire.specs.Ethernet

@@ -3,7 +3,7 @@ ghost use Rattle.std.specs.Prelude.{◌≡◌, if◌then◌else◌, Option, None
 ghost use Rattle.sockets.specs.Context.{ContextValue};
 ghost use Rattle.lan_history.specs.Call as calls;
 ghost use Rattle.lan_history.specs.Kinds.{kind_of};
-ghost use Rattle.lan_packets.specs.Calls.{Did};
+ghost use Rattle.lan_history.specs.Calls.{Did};
 ghost use Rattle.sockets.specs.declared.socket.Socket.{Socket as AnySocket};
 ghost use Rattle.lan_hosts.specs.Answers.{HasDone, HasTaken};
 ghost use Rattle.lan_hosts.specs.Calling.{did_by, draws_by};

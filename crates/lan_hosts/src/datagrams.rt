@@ -6,7 +6,7 @@ ghost use Rattle.sockets.specs.Udp as udps;
 ghost use Rattle.sockets.specs.Icmp as icmps;
 ghost use Rattle.sockets.specs.Raw as raws;
 ghost use Rattle.sockets.specs.Endpoint.TheVariants.{Ident};
-ghost use Rattle.lan_packets.specs.Calls.{done_or, bind_fault, send_fault, at_port, datagram_or};
+ghost use Rattle.lan_history.specs.Calls.{done_or, bind_fault, send_fault, at_port, datagram_or};
 ghost use Rattle.lan_hosts.specs.Does.{raw_fault, message_or, packet_or};
 ghost use Rattle.lan_hosts.specs.Answers.{IsTwice, brief};
 

@@ -1,123 +1,107 @@
--- A world that was just made.
-use Rattle.std.proofs.Common.{◌≡◌, ℕ, Bool, true, false, not, ◌&&◌, List, [], ◌∷◌, length, replicate, None, refl, ◌∙◌, ap}
-use Rattle.std.proofs.lemmas.Bool.{false≢true, and_parts, eqb-true}
-use Rattle.ip_wire.specs.HardwareAddress.{HardwareAddress}
-use Rattle.ip_wire.specs.HardwareAddress.TheVariants as Hardware
-use Rattle.net_base.specs.Capabilities.{ip_mtu}
-use Rattle.net_base.specs.Medium.{Medium}
-use Rattle.net_base.specs.Medium.TheVariants as Medium
-use Rattle.lan_theorem.specs.Made.{IsIdle}
-use Rattle.lan_theorem.specs.Settings.{is_of_medium}
-use Rattle.lan_history.specs.Tables.{no_record}
-use Rattle.lan_history.specs.declared.event.Side.{Side}
-use Rattle.lan_history.specs.declared.event.Side.TheVariants.{A, B}
-use Rattle.lan_theorem.specs.Port.{LinkEnd}
-use Rattle.lan_theorem.specs.Fresh.{IsTypedHost, IsFreshStart}
-use Rattle.lan_theorem.specs.Runs.{unused, unused_both, table_in}
-use Rattle.lan_theorem.specs.Station.{StationValue}
-use Rattle.lan_world.specs.Come.{start_of, starts_of, both, tables, HasCome}
-use Rattle.lan_world.specs.New.{has_one_medium, has_checksums, has_mtu, has_buffers, of_each, is_fresh, first_error, new_error}
-use Rattle.lan_world.specs.declared.error.WorldError.TheVariants as Since
-use Rattle.lan_world.proofs.Unused.{empty, on_is, unused_at}
-
--- FIVE TESTS
-
-record Passes (m c u r f : Bool) : Type 0 where
-  medium : m ≡ true
-  checksums : c ≡ true
-  mtus : u ≡ true
-  rooms : r ≡ true
-  fresh : f ≡ true
-
-five : (m c u r f : Bool)
-    → first_error ((not m, Since.Media) ∷ (not c, Since.Checksums) ∷ (not u, Since.Mtu) ∷ (not r, Since.Buffers) ∷ (not f, Since.NotFresh) ∷ []) ≡ None
-    → Passes m c u r f
-five true true true true true h = record { medium = refl; checksums = refl; mtus = refl; rooms = refl; fresh = refl }
-five false c u r f h = cc
-five true false u r f h = cc
-five true true false r f h = cc
-five true true true false f h = cc
-five true true true true false h = cc
-
--- one hardware address is of one medium
-same_medium : (h : HardwareAddress) (m n : Medium) → is_of_medium h m ≡ true → is_of_medium h n ≡ true → m ≡ n
-same_medium h Medium.Ethernet Medium.Ethernet p q = refl
-same_medium h Medium.Ip Medium.Ip p q = refl
-same_medium Hardware.Ip Medium.Ethernet Medium.Ip p q = absurd (false≢true p)
-same_medium (Hardware.Ethernet a) Medium.Ethernet Medium.Ip p q = absurd (false≢true q)
-same_medium Hardware.Ip Medium.Ip Medium.Ethernet p q = absurd (false≢true q)
-same_medium (Hardware.Ethernet a) Medium.Ip Medium.Ethernet p q = absurd (false≢true p)
+-- Two fresh hosts at a link over which nothing went are joined.
+use Rattle.std.proofs.Common.{◌≡◌, ℕ, ◌≤◌, true, List, [], ◌∷◌, Option, Some, None, IfSome, refl, sym, ◌∙◌, subst, arith}
+use Rattle.std.specs.List.{AllByRecursion}
+use Rattle.std.proofs.lemmas.Bool.Decides.{nat_tests}
+use Rattle.lan_frames.specs.Medium.{Medium}
+use Rattle.lan_frames.specs.Medium.TheVariants as Medium
+use Rattle.interface_ingress.specs.HardwareAddress.{HardwareAddress}
+use Rattle.interface_ingress.specs.HardwareAddress.TheVariants as Hardware
+use Rattle.sockets.specs.Packet.{PayloadValue}
+use Rattle.interface_tables.specs.Inner.{InnerValue}
+use Rattle.interface_tables.specs.Reassembly.{SlotValue, is_free}
+use Rattle.interface_tables.specs.declared.key.FragKey.{FragKey}
+use Rattle.interface_tables.specs.Settings.{is_of_medium, is_mtu}
+use Rattle.interface_tables.specs.declared.neighbor.Neighbor.{Neighbor}
+use Rattle.interface_egress.specs.Fragments.{LeftValue}
+use Rattle.interface_ingress.specs.Reassembled.{Slots}
+use Rattle.lan_hosts.specs.Kinds.{other}
+use Rattle.lan_hosts.specs.Side.{Side}
+use Rattle.lan_hosts.specs.Side.TheVariants.{A, B}
+use Rattle.lan_history.specs.Parties.{Party, party}
+use Rattle.lan_hosts.specs.Fresh.{IsHardware, IsFreshStart, IsFreshWorld}
+use Rattle.lan_hosts.specs.Runs.{Start, Starts, start, unused, unused_both}
+use Rattle.lan_hosts.specs.Station.{station}
+use Rattle.lan_world.specs.Moves.Joined.{first_net}
+use Rattle.lan_world.specs.Moves.Made.{MadeBy}
+use Rattle.lan_world.specs.Link.Frames.{Outgoing, medium_on}
+use Rattle.lan_world.specs.Link.Held.{IsSlotOf, AreSlotsOf}
+use Rattle.lan_world.specs.Link.Sides.{HasSixBytes, IsStation, IsSound, IsLeft, AreSent}
+use Rattle.lan_world.specs.Joins.{Sends, Receives, AreJoined}
 
 -- A HOST
 
-module _ (s : StationValue) (fresh : is_fresh s ≡ true) where
-  parts : (s.host.inner.fresh ≡ true) × (s.link.sent ≡ []) × (s.link.waiting ≡ [])
-  parts =
-      let p = and_parts _ _ fresh in
-      let q = and_parts _ _ p.0 in
-      let r = and_parts _ _ q.0 in
-      (r.0, empty s.link.sent r.1, empty s.link.waiting q.1)
+six_by : (h : HardwareAddress) → IsHardware h → HasSixBytes h
+six_by (Hardware.Ethernet own) is = is.0
+six_by Hardware.Ip is = tt
 
-  pub unused_is : s ≡ unused (start_of s)
-  unused_is =
-      let end : List (List ℕ) → List (List ℕ) → LinkEnd =
-      λ waiting sent. record { waiting = waiting; sent = sent; room = s.link.room; refusals = s.link.refusals; capabilities = s.link.capabilities } in
-      let link : s.link ≡ end [] [] = ap (λ (frames : List (List ℕ)). end frames s.link.sent) parts.2 ∙
-      ap (λ (frames : List (List ℕ)). end [] frames) parts.1 in
-      ap (λ (l : LinkEnd). let t : StationValue = record { host = s.host; places = s.places; link = l } in t) link
+medium_by : (h : HardwareAddress) (m : Medium) → is_of_medium h m ≡ true → medium_on h ≡ m
+medium_by Hardware.Ip Medium.Ip is = refl
+medium_by (Hardware.Ethernet own) Medium.Ethernet is = refl
+medium_by Hardware.Ip Medium.Ethernet is = absurd cc
+medium_by (Hardware.Ethernet own) Medium.Ip is = absurd cc
 
-  pub table_is : (side : Side) → table_in [] side s ≡ record { records = replicate (length s.places) no_record; numbered = 0 }
-  table_is side = rw parts.1 refl
+mtu_by : (n : ℕ) → is_mtu n ≡ true → n ≤ 65535
+mtu_by n is = grind (arith, nat_tests)
 
-  pub start_is : is_of_medium s.host.inner.hardware s.link.capabilities.medium ≡ true → has_checksums s ≡ true → has_mtu s ≡ true →
-      IsIdle s.host.left s.host.slots
-      → s.host.inner.neighbors.entries ≡ [] → IsTypedHost s.host.inner → IsFreshStart (start_of s)
-  start_is medium checksums mtu idle unknown typed =
-      let c = and_parts _ _ checksums in
-      let m = and_parts _ _ mtu in
-      let own : s.host.inner.mtu ≡ ip_mtu s.link.capabilities = eqb-true s.host.inner.mtu (ip_mtu s.link.capabilities) m.1 in
-      record {
-        medium = medium;
-        checksums = on_is s.host.inner.checksums c.1;
-        device_checksums = on_is s.link.capabilities.checksum c.0;
-        mtu = rw own m.0;
-        own_mtu = own;
-        fresh = parts.0;
-        idle = idle;
-        unknown = unknown;
-        typed = typed;
-        sockets = λ i socket is. unused_at s.places i socket (and_parts _ _ fresh).1 is;
-      }
+free_slot : (out : List Outgoing) (s : SlotValue FragKey) (key : Option FragKey) → s.key ≡ key → is_free s ≡ true → IsSlotOf out s
+free_slot out s None is free = λ k some. absurd (let e : None ≡ Some k = sym is ∙ some in cc)
+free_slot out s (Some own) is free = absurd cc
+
+free_slots : (out : List Outgoing) (slots : Slots) → AllByRecursion (λ s. is_free s ≡ true) slots → AreSlotsOf out slots
+free_slots out [] free = tt
+free_slots out (s ∷ slots) free = (free_slot out s s.key refl free.0, free_slots out slots free.1)
+
+none_left : (h : HardwareAddress) (l : Option LeftValue) → l ≡ None → IfSome l (IsLeft h [])
+none_left h None is = tt
+none_left h (Some l) is = absurd cc
+
+module _ (s : Start) (fresh : IsFreshStart s) where
+  abbrev i : InnerValue
+  i = s.host.inner
+
+  sound : IsSound i
+  sound = record {
+    own = six_by i.hardware fresh.typed.hardware;
+    neighbors = subst (AllByRecursion (λ (n : Neighbor). IsStation n.hardware_addr)) (sym fresh.unknown) tt;
+    routers = fresh.typed.routers;
+    widths = record { mtu = mtu_by i.mtu fresh.mtu; ident = fresh.typed.ident };
+    checksums = fresh.checksums;
+  }
+
+  none_sent : (made : PayloadValue → Type 0) → AreSent made i.ident i.ident []
+  none_sent made = record { packets = λ p among. absurd among; numbered = (refl, fresh.typed.ident) }
+
+  fresh_sends : (p : Party) → Sends p i.ident (unused s) []
+  fresh_sends p = record { sound = sound; are_sent = none_sent (MadeBy p); left_is = none_left i.hardware s.host.left fresh.idle.0; frames = tt }
+
+  fresh_receives : (q : Party) → Receives q [] (unused s)
+  fresh_receives q = record { checksums = fresh.checksums; slots_are = free_slots [] s.host.slots fresh.idle.1; waits = tt }
+
+  on_medium : s.capabilities.medium ≡ medium_on i.hardware
+  on_medium = sym (medium_by i.hardware s.capabilities.medium fresh.medium)
 
 -- BOTH
 
-module _ (a b : StationValue) (none : new_error a b ≡ None) where
-  passes : Passes (has_one_medium a b) (has_checksums a && has_checksums b) (has_mtu a && has_mtu b) (of_each has_buffers a && of_each has_buffers b)
-      (is_fresh a && is_fresh b)
-  passes = five _ _ _ _ _ none
+-- the numbers that the hosts begin with
+abbrev pub firsts : Starts → Side → ℕ
+firsts starts side = (start starts side).host.inner.ident
 
-  fresh_a : is_fresh a ≡ true
-  fresh_a = (and_parts _ _ passes.fresh).0
+abbrev pub none_yet : Side → ℕ
+none_yet side = 0
 
-  fresh_b : is_fresh b ≡ true
-  fresh_b = (and_parts _ _ passes.fresh).1
-
-  pub begun : IsIdle a.host.left a.host.slots → IsIdle b.host.left b.host.slots → a.host.inner.neighbors.entries ≡ [] → b.host.inner.neighbors.entries ≡ [] →
-      IsTypedHost a.host.inner → IsTypedHost b.host.inner
-      → HasCome a b a b (record { records = replicate (length a.places) no_record; numbered = 0 })
-      (record { records = replicate (length b.places) no_record; numbered = 0 }) []
-  begun idle_a idle_b unknown_a unknown_b typed_a typed_b =
-      let m = and_parts _ _ passes.medium in
-      let n = and_parts _ _ m.0 in
-      let c = and_parts _ _ passes.checksums in
-      let u = and_parts _ _ passes.mtus in
-      let start_a : IsFreshStart (start_of a) = start_is a fresh_a n.0 c.0 u.0 idle_a unknown_a typed_a in
-      let start_b : IsFreshStart (start_of b) = start_is b fresh_b m.1 c.1 u.1 idle_b unknown_b typed_b in
-      let of_both : (x y : StationValue) → x ≡ unused (start_of a) → y ≡ unused (start_of b) → both x y ≡ unused_both (starts_of a b) =
-      λ x y p q. rw (p, q) refl in
-      record {
-        fresh = record { a = start_a; b = start_b; medium = same_medium a.host.inner.hardware a.link.capabilities.medium b.link.capabilities.medium n.0 n.1 };
-        run = of_both a b (unused_is a fresh_a) (unused_is b fresh_b);
-        tables = rw (table_is a fresh_a A, table_is b fresh_b B) refl;
-        typed = tt;
-      }
+pub first_joined : (starts : Starts) → IsFreshWorld starts → AreJoined (firsts starts) none_yet (unused_both starts) (first_net starts)
+first_joined starts fresh = record {
+  out = λ side. [];
+  medium = sym (on_medium starts.a fresh.a) ∙ fresh.medium ∙ on_medium starts.b fresh.b;
+  device = λ side. elim side as (λ x. (station (unused_both starts) x).link.capabilities.medium ≡
+      medium_on (station (unused_both starts) x).host.inner.hardware) [ A ↦ on_medium starts.a fresh.a | B ↦ on_medium starts.b fresh.b ];
+  sends = λ side. elim side as (λ x. Sends (party (first_net starts) x) (firsts starts x) (station (unused_both starts) x) []) [
+    | A ↦ fresh_sends starts.a fresh.a (party (first_net starts) A)
+    | B ↦ fresh_sends starts.b fresh.b (party (first_net starts) B)
+  ];
+  receives = λ side. elim side as (λ x. Receives (party (first_net starts) (other x)) [] (station (unused_both starts) x)) [
+    | A ↦ fresh_receives starts.a fresh.a (party (first_net starts) B)
+    | B ↦ fresh_receives starts.b fresh.b (party (first_net starts) A)
+  ];
+  counted = λ side. omega arith;
+}

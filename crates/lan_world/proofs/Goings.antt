@@ -7,13 +7,13 @@ use Rattle.lan_history.specs.declared.event.Side.TheVariants.{A, B}
 use Rattle.lan_history.specs.declared.event.Event.{Event}
 use Rattle.lan_history.specs.declared.answer.Answer.{Answer}
 use Rattle.net_base.specs.Medium.{Medium}
-use Rattle.lan_theorem.specs.Origins.{medium_of, numbered}
-use Rattle.lan_theorem.specs.Records.{table_next}
-use Rattle.lan_theorem.specs.Refusals.{Table, Tables, refusal}
-use Rattle.lan_theorem.specs.Runs.{WorldValue, Step, Leads, table_in, counts_of, refusal_in}
-use Rattle.lan_theorem.specs.Station.{StationValue, Stations, station}
-use Rattle.lan_theorem.specs.Steps.{Happens}
-use Rattle.lan_theorem.specs.Events.{IsTyped}
+use Rattle.lan_hosts.specs.Origins.{medium_of, numbered}
+use Rattle.lan_hosts.specs.Records.{table_next}
+use Rattle.lan_hosts.specs.Refusals.{Table, Tables, refusal}
+use Rattle.lan_hosts.specs.Runs.{WorldValue, Step, Leads, table_in, counts_of, refusal_in}
+use Rattle.lan_hosts.specs.Station.{StationValue, Stations, station}
+use Rattle.lan_hosts.specs.Steps.{Happens}
+use Rattle.lan_world.specs.Events.{IsTyped}
 use Rattle.lan_world.specs.Come.{both, tables, world, HasCome}
 use Rattle.lan_world.specs.Past.{counts_in, entry}
 use Rattle.lan_world.specs.declared.history.Note.{Note}

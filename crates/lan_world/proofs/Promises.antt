@@ -3,22 +3,22 @@ use Rattle.std.proofs.Common.{ℕ, List}
 use Rattle.lan_history.specs.History.{Entry}
 use Rattle.lan_history.specs.declared.event.Side.{Side}
 use Rattle.lan_history.specs.declared.event.Side.TheVariants.{A, B}
-use Rattle.lan_theorem.specs.PacketsSafe.{IsSafe}
-use Rattle.lan_theorem.specs.Fresh.{IsFreshWorld}
-use Rattle.lan_theorem.specs.Refusals.{Table}
-use Rattle.lan_theorem.specs.Origins.{medium_of}
-use Rattle.lan_theorem.specs.Runs.{Starts, WorldValue, WorldRun, start, unused_both, counts_of}
-use Rattle.lan_theorem.specs.Safe.{first_port, net_of}
-use Rattle.lan_theorem.specs.Station.{StationValue, Stations, station}
-use Rattle.lan_theorem.specs.Events.{AreTyped}
-use Rattle.lan_theorem.specs.Rebuilt.{RebuiltWasMade}
-use Rattle.lan_theorem.specs.Said.{RebuiltWasSent, by_side}
-use Rattle.lan_theorem.specs.Hosts.Asked.{requests, AreApart}
-use Rattle.lan_theorem.specs.Hosts.Damage.{DamageIsHarmless}
-use Rattle.lan_theorem.specs.Hosts.HostRuns.{IsHostRun}
-use Rattle.lan_theorem.specs.Hosts.Machine.{Turn, Machine, HostRun}
-use Rattle.lan_theorem.specs.Hosts.Quiet.{PollsWereQuiet}
-use Rattle.lan_theorem.specs.Hosts.Wire.{FramesAreApart}
+use Rattle.lan_hosts.specs.PacketsSafe.{IsSafe}
+use Rattle.lan_hosts.specs.Fresh.{IsFreshWorld}
+use Rattle.lan_hosts.specs.Refusals.{Table}
+use Rattle.lan_hosts.specs.Origins.{medium_of}
+use Rattle.lan_hosts.specs.Runs.{Starts, WorldValue, WorldRun, start, unused_both, counts_of}
+use Rattle.lan_hosts.specs.Safe.{first_port, net_of}
+use Rattle.lan_hosts.specs.Station.{StationValue, Stations, station}
+use Rattle.lan_world.specs.Events.{AreTyped}
+use Rattle.lan_world.specs.Rebuilt.{RebuiltWasMade}
+use Rattle.lan_world.specs.Said.{RebuiltWasSent, by_side}
+use Rattle.lan_world.specs.Hosts.Asked.{requests, AreApart}
+use Rattle.lan_world.specs.Hosts.Damage.{DamageIsHarmless}
+use Rattle.lan_world.specs.Hosts.HostRuns.{IsHostRun}
+use Rattle.lan_world.specs.Hosts.Machine.{Turn, Machine, HostRun}
+use Rattle.lan_world.specs.Hosts.Quiet.{PollsWereQuiet}
+use Rattle.lan_world.specs.Hosts.Wire.{FramesAreApart}
 use Rattle.lan_world.specs.Come.{starts_of, both, world, HasCome}
 use Rattle.lan_world.specs.Promises.{IsSafeWorld}
 

@@ -3,7 +3,7 @@ use Rattle.std.proofs.Common.{◌≡◌, ℕ, zero, suc, ◌+◌, ◌<◌, List,
 use Rattle.std.specs.Prelude.{slice_get}
 use Rattle.lan_history.specs.declared.event.Event.{Event}
 use Rattle.lan_history.specs.declared.answer.Answer.{Answer}
-use Rattle.lan_theorem.specs.Runs.{WorldValue, Step, Steps}
+use Rattle.lan_hosts.specs.Runs.{WorldValue, Step, Steps}
 use Rattle.std.specs.Prelude.{◌≤◌}
 
 -- so many of the events have been taken, and these are left

@@ -10,22 +10,22 @@ use Rattle.net_base.specs.Checksum.TheVariants as On
 use Rattle.net_base.specs.ChecksumCapabilities.{ChecksumCapabilities}
 use Rattle.net_base.specs.Packets.{QueuedPacket, Packets, packets_in, contents}
 use Rattle.sockets.specs.SocketValue.{has_packets, due}
-use Rattle.lan_theorem.specs.Set.{socket_at, socket_of}
-use Rattle.lan_theorem.specs.SocketStorage.{SocketStorage}
-use Rattle.lan_theorem.specs.Item.{Item}
+use Rattle.interface_egress.specs.Set.{socket_at, socket_of}
+use Rattle.interface_egress.specs.declared.socket_set.SocketStorage.{SocketStorage}
+use Rattle.interface_egress.specs.declared.socket_set.Item.{Item}
 use Rattle.sockets.specs.declared.socket.Socket.{Socket}
 use Rattle.sockets.specs.declared.socket.Socket.TheVariants as Is
-use Rattle.lan_theorem.specs.Endpoints.{IsNameless}
-use Rattle.lan_theorem.specs.Promises.{IsFresh}
+use Rattle.tcp_tie.specs.Endpoints.{IsNameless}
+use Rattle.lan_history.specs.Promises.{IsFresh}
 use Rattle.sockets.specs.TcpStates.{is_closed, takes_text}
 use Rattle.lan_history.specs.State.{State}
 use Rattle.lan_history.specs.State.TheVariants as In
 use Rattle.tcp_model.specs.EndpointPair.{EndpointPair}
 use Rattle.tcp_model.specs.Calls.{nothing_left}
 use Rattle.tcp_model.specs.Value.{TcpValue}
-use Rattle.lan_theorem.specs.Socket.{local_in}
+use Rattle.lan_hosts.specs.Socket.{local_in}
 use Rattle.std.specs.Prelude.{is_some}
-use Rattle.lan_theorem.specs.Fresh.{IsUnused}
+use Rattle.lan_hosts.specs.Fresh.{IsUnused}
 use Rattle.lan_world.specs.New.{is_both, are_on, is_no_socket, is_unopened, is_ingress, is_unused, of_item, of_place}
 
 -- LISTS

@@ -1,11 +1,11 @@
 -- What a world keeps: where it came from, how, and what its tables say.
 use Rattle.std.specs.Prelude.{◌≡◌, List}
 use Rattle.lan_history.specs.History.{Entry}
-use Rattle.lan_theorem.specs.Fresh.{IsFreshWorld}
-use Rattle.lan_theorem.specs.Refusals.{Table, Tables}
-use Rattle.lan_theorem.specs.Runs.{Start, Starts, WorldValue, WorldRun, unused_both, tables_in}
-use Rattle.lan_theorem.specs.Station.{StationValue, Stations}
-use Rattle.lan_theorem.specs.Events.{AreTyped}
+use Rattle.lan_hosts.specs.Fresh.{IsFreshWorld}
+use Rattle.lan_hosts.specs.Refusals.{Table, Tables}
+use Rattle.lan_hosts.specs.Runs.{Start, Starts, WorldValue, WorldRun, unused_both, tables_in}
+use Rattle.lan_hosts.specs.Station.{StationValue, Stations}
+use Rattle.lan_world.specs.Events.{AreTyped}
 
 -- a host as its world began with it
 abbrev pub start_of : StationValue → Start

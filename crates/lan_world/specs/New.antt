@@ -2,9 +2,9 @@
 use Rattle.std.specs.Prelude.{ℕ, codes, ◌≡◌, ◌⊎◌, ◌+◌, ◌==◌, not, ◌&&◌, Bool, true, false, if◌then◌else◌, List, [], ◌∷◌, length, Option, None, Some, is_some}
 use Rattle.std.specs.List.{list_all}
 use Rattle.sockets.specs.SocketValue.{has_packets, due}
-use Rattle.lan_theorem.specs.SocketStorage.{SocketStorage}
-use Rattle.lan_theorem.specs.Item.{Item}
-use Rattle.lan_theorem.specs.Settings.{is_of_medium, is_mtu}
+use Rattle.interface_egress.specs.declared.socket_set.SocketStorage.{SocketStorage}
+use Rattle.interface_egress.specs.declared.socket_set.Item.{Item}
+use Rattle.interface_tables.specs.Settings.{is_of_medium, is_mtu}
 use Rattle.net_base.specs.Capabilities.{ip_mtu}
 use Rattle.net_base.specs.Checksum.{Checksum}
 use Rattle.net_base.specs.Checksum.TheVariants as On
@@ -18,8 +18,8 @@ use Rattle.tcp_model.specs.RecvError.TheVariants as Recv
 use Rattle.tcp_model.specs.Calls.{recv_refusal}
 use Rattle.tcp_model.specs.Value.{TcpValue, room_of}
 use Rattle.sockets.specs.TcpStates.{is_closed}
-use Rattle.lan_theorem.specs.Socket.{local_in}
-use Rattle.lan_theorem.specs.Station.{StationValue}
+use Rattle.lan_hosts.specs.Socket.{local_in}
+use Rattle.lan_hosts.specs.Station.{StationValue}
 use Rattle.lan_world.specs.declared.error.WorldError.{WorldError}
 use Rattle.lan_world.specs.declared.error.WorldError.TheVariants as Since
 

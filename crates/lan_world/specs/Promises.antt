@@ -1,16 +1,16 @@
 -- What is promised of two hosts at a link that may lose, repeat, reorder, pad, damage and cut frames, and add some, wherever events led.
 use Rattle.lan_history.specs.declared.event.Side.TheVariants.{A, B}
-use Rattle.lan_theorem.specs.PacketsSafe.{IsSafe}
-use Rattle.lan_theorem.specs.Runs.{WorldValue, WorldRun, unused_both, counts_of}
-use Rattle.lan_theorem.specs.Safe.{first_port, net_of}
-use Rattle.lan_theorem.specs.Hosts.Asked.{requests, AreApart}
-use Rattle.lan_theorem.specs.Hosts.Damage.{DamageIsHarmless}
-use Rattle.lan_theorem.specs.Hosts.HostRuns.{IsHostRun}
-use Rattle.lan_theorem.specs.Hosts.Quiet.{PollsWereQuiet}
-use Rattle.lan_theorem.specs.Hosts.Wire.{FramesAreApart}
-use Rattle.lan_theorem.specs.Origins.{medium_of}
-use Rattle.lan_theorem.specs.Rebuilt.{RebuiltWasMade}
-use Rattle.lan_theorem.specs.Said.{RebuiltWasSent, by_side}
+use Rattle.lan_hosts.specs.PacketsSafe.{IsSafe}
+use Rattle.lan_hosts.specs.Runs.{WorldValue, WorldRun, unused_both, counts_of}
+use Rattle.lan_hosts.specs.Safe.{first_port, net_of}
+use Rattle.lan_world.specs.Hosts.Asked.{requests, AreApart}
+use Rattle.lan_world.specs.Hosts.Damage.{DamageIsHarmless}
+use Rattle.lan_world.specs.Hosts.HostRuns.{IsHostRun}
+use Rattle.lan_world.specs.Hosts.Quiet.{PollsWereQuiet}
+use Rattle.lan_world.specs.Hosts.Wire.{FramesAreApart}
+use Rattle.lan_hosts.specs.Origins.{medium_of}
+use Rattle.lan_world.specs.Rebuilt.{RebuiltWasMade}
+use Rattle.lan_world.specs.Said.{RebuiltWasSent, by_side}
 
 pub record IsSafeWorld (w : WorldValue) : Type 0 where
   -- of both hosts' sockets: what was read and what waits begins what the partner wrote, only bytes that the partner took in have left the

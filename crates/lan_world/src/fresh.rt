@@ -1,9 +1,9 @@
 //! Whether two hosts make a world.
 ghost use Rattle.std.specs.Prelude.{◌≡◌, [], IsNone, IsTrue};
-ghost use Rattle.lan_theorem.specs.Made.{IsIdle};
-ghost use Rattle.lan_theorem.specs.Settings.{is_of_medium};
+ghost use Rattle.interface.specs.Made.{IsIdle};
+ghost use Rattle.interface_tables.specs.Settings.{is_of_medium};
 ghost use Rattle.std.specs.List.{list_all};
-ghost use Rattle.lan_theorem.specs.Set.{places};
+ghost use Rattle.interface_egress.specs.Set.{places};
 ghost use Rattle.sockets.specs.TcpStates.{is_closed};
 ghost use Rattle.sockets.specs.TcpCalls.{recv_refusal};
 ghost use Rattle.lan_world.specs.New.{new_error, has_one_medium, is_both, are_on, has_checksums, has_mtu, has_buffers, is_ingress, is_no_socket, is_unopened};
@@ -11,7 +11,7 @@ ghost use Rattle.lan_world.specs.New.{is_unused, of_place, of_each, is_fresh};
 
 use crate::error::WorldError;
 use ip_wire::HardwareAddress;
-use lan_theorem::{Host, Interface, SocketSet, SocketStorage};
+use lan_hosts::{Host, Interface, SocketSet, SocketStorage};
 use net_base::{Checksum, ChecksumCapabilities, Device, Medium};
 use sockets::{Context, PollAt, Socket, tcp};
 

@@ -1,10 +1,10 @@
 //! Two hosts at a link.
 ghost use Rattle.std.specs.Prelude.{◌≡◌, ◌<◌, [], take, length, replicate, slice_get, IfOk, IfErr, OnOk, OnErr, IfSome, None, Some, Err};
 ghost use Rattle.net_base.specs.Device.{frames_of};
-ghost use Rattle.lan_theorem.specs.Made.{IsIdle};
-ghost use Rattle.lan_theorem.specs.Refusals.{MayRefuse};
-ghost use Rattle.lan_theorem.specs.Runs.{Step, Steps, answers_of, refusal_in, tables_in};
-ghost use Rattle.lan_theorem.specs.Station.{station};
+ghost use Rattle.interface.specs.Made.{IsIdle};
+ghost use Rattle.lan_hosts.specs.Refusals.{MayRefuse};
+ghost use Rattle.lan_hosts.specs.Runs.{Step, Steps, answers_of, refusal_in, tables_in};
+ghost use Rattle.lan_hosts.specs.Station.{station};
 ghost use Rattle.lan_history.specs.Kinds.{kind_of};
 ghost use Rattle.lan_history.specs.Tables.{no_record};
 ghost use Rattle.lan_world.specs.Come.{both, starts_of, world};
@@ -14,15 +14,15 @@ ghost use Rattle.lan_world.specs.Promises.{IsSafeWorld};
 use crate::error::WorldError;
 use crate::fresh::new_error;
 use crate::history::{Counts, History, Note};
+use crate::host_laws::{hosts_run, polls_are_quiet, requests_are_apart};
 use crate::kept::Kept;
-use crate::typed::{event_is_typed, host_is_typed};
-use lan_history::{Answer, Event, Refused, Side};
-use lan_theorem::host_laws::{hosts_run, polls_are_quiet, requests_are_apart};
-use lan_theorem::laws::{
+use crate::laws::{
     damage_was_harmless, frames_are_apart, rebuilt_was_made, rebuilt_was_sent, worlds_are_safe,
 };
-use lan_theorem::table_laws::{numbers_are_few, tables_go_on};
-use lan_theorem::{Host, Records, refusal_of, take};
+use crate::typed::{event_is_typed, host_is_typed};
+use lan_history::{Answer, Event, Refused, Side};
+use lan_hosts::laws::{numbers_are_few, tables_go_on};
+use lan_hosts::{Host, Records, refusal_of, take};
 use std::alloc::{AllocError, Global};
 use std::marker::Model;
 
@@ -40,7 +40,7 @@ pub struct World {
 }
 
 impl Model for World {
-    ghost use Rattle.lan_theorem.specs.Runs.{WorldValue};
+    ghost use Rattle.lan_hosts.specs.Runs.{WorldValue};
     ghost use Rattle.lan_world.specs.Come.{HasCome, world};
 
     ghost Value = { WorldValue };

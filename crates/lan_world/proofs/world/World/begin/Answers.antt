@@ -1,4 +1,4 @@
-use Rattle.lan_world.proofs.Beginnings.{begun}
+use Rattle.lan_world.proofs.JustMade.{begun}
 use Rattle.lan_world.proofs.world.World.begin.Goals as goal
 
 pub invariant_of-result : goal.invariant_of-result

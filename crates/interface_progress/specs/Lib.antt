@@ -1,6 +1,0 @@
-pub mod Patience
-pub mod Moves
-pub mod OfUse
-pub mod Queued
-pub mod Excluded
-pub mod Reached

@@ -1,8 +1,0 @@
-use Rattle.lan_examples.proofs.BadWorlds as by
-use Rattle.lan_examples.proofs.bad_worlds.bad_polls_are_excluded.Goals as goal
-
-pub returns : goal.returns
-returns c = record {
-  before_the_moment = λ starts none quiet. by.quiet_before starts none quiet;
-  never = λ starts none quiet. by.quiet_never starts none quiet;
-}

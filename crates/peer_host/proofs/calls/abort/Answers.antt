@@ -1,5 +1,0 @@
-use Rattle.peer_host.proofs.Going.{abort_goes_on}
-use Rattle.peer_host.proofs.calls.abort.Goals as goal
-
-pub returns-clause-goes_on : goal.returns-clause-goes_on
-returns-clause-goes_on c = abort_goes_on _ _ c.abort.ensures

@@ -1,0 +1,9 @@
+pub mod Peers
+mod Equal
+pub mod Told
+pub mod InterfaceEqual
+pub mod Begins
+pub mod Drains
+pub mod TurnPackets
+pub mod Polls
+pub mod Runs

@@ -1,0 +1,160 @@
+-- What a packet for the host does to the socket at a place.
+use Rattle.std.proofs.Common.{◌≡◌, ℕ, Bool, true, false, if◌then◌else◌, List, get_or, Option, Some, None, refl, sym, subst}
+use Rattle.std.proofs.lemmas.List.Quantifiers.{position-Some}
+use Rattle.std.proofs.lemmas.Option.{slice_get-get_or}
+use Rattle.net_base.specs.ChecksumCapabilities.{ChecksumCapabilities}
+use Rattle.ip_wire.specs.IpAddress.{IpAddress}
+use Rattle.ip_wire.specs.IpAddress.TheVariants as Address
+use Rattle.ip_wire.specs.Ip.{destination_of}
+use Rattle.ip_wire.specs.IpRepr.{IpRepr}
+use Rattle.ip_wire.specs.IpRepr.TheVariants as Ip
+use Rattle.ip_wire.specs.Ipv4Repr.{Ipv4Repr}
+use Rattle.ip_wire.specs.Ipv6Repr.{Ipv6Repr}
+use Rattle.ip_wire.specs.TcpHeader.{TcpHeader}
+use Rattle.ip_wire.specs.UdpRepr.{UdpRepr}
+use Rattle.interface_ingress.specs.Icmpv4Header.{Icmpv4Header}
+use Rattle.interface_ingress.specs.Icmpv6.{MessageValue}
+use Rattle.interface_ingress.specs.EthernetRepr.{EthernetRepr}
+use Rattle.sockets.specs.Context.{ContextValue}
+use Rattle.sockets.specs.Packet.{PayloadValue, ControlV4, ControlV6, Bytes, Datagram, Segment}
+use Rattle.sockets.specs.Offer as Answer
+use Rattle.sockets.specs.Socket.{Offers, settled, accepts_packet, accepts_icmpv4, accepts_icmpv6, accepts_datagram, accepts_segment}
+use Rattle.sockets.specs.declared.socket.Socket.{Socket}
+use Rattle.interface_egress.specs.Set.{free}
+use Rattle.interface_egress.specs.declared.socket_set.Item.{Item}
+use Rattle.interface_egress.specs.declared.socket_set.SocketStorage.{SocketStorage}
+use Rattle.interface.specs.Inner.{InnerValue, context_of, is_for_us}
+use Rattle.interface_ingress.specs.Arrives.{Arrived, ArrivesV4, ArrivesV6, Brings, Hands, is_direct, renewed, renewed_by, sender_of}
+use Rattle.interface_ingress.specs.Carried.{IsDatagram, IsSegment, IsCarriedContent}
+use Rattle.interface_ingress.specs.Datagrams.{TakesDatagram, ItemTakes, GivenIn, GivenAt}
+use Rattle.interface_ingress.specs.Delivered.{Places, passes, passes_in, changed_at, with_packet, packet_delivered, is_taken_raw, with_icmpv4, with_icmpv6}
+use Rattle.interface_ingress.specs.Delivered.{datagram_place, with_segment, segment_place, segment_delivered}
+use Rattle.interface_ingress.specs.Handed.{control_v4_places, control_v6_places, names_nobody, HandsTo}
+use Rattle.interface_ingress.specs.Incoming.{IncomingValue, Arp, Ip4, Ip6}
+use Rattle.interface_ingress.specs.Upper.{upper_header, upper_payload}
+use Rattle.interface_ingress.proofs.AtPlace.{changed_here}
+use Rattle.interface_ingress.proofs.Segments.{accepted_there}
+use Rattle.stack_laws.specs.PeerHost.Brought.{IsPacket}
+use Rattle.stack_laws.proofs.Peers.Place.{HoldsItem, HoldsAt, put_holds, set_holds, all_hold}
+
+-- What a poll may do to a socket keeps it. What comes is in a packet that came so.
+pub record IsOfPolls (Came : ChecksumCapabilities → IpRepr → List ℕ → Type 0) (W : Socket → Type 0) : Type 0 where
+  pub offers : (cx : ContextValue) (s offered : Socket) (answer : Answer.Offer) (sent : Bool) → Offers cx s answer offered → W s → W (settled sent offered)
+  pub packet : (ip : IpRepr) (payload : List ℕ) (s : Socket) → W s → W (with_packet ip payload s)
+  pub icmpv4 : (ip : Ipv4Repr) (message : Icmpv4Header) (bytes : List ℕ) (s : Socket) → W s → W (with_icmpv4 ip message bytes s)
+  pub icmpv6 : (ip : Ipv6Repr) (message : MessageValue) (bytes : List ℕ) (s : Socket) → W s → W (with_icmpv6 ip message bytes s)
+  pub datagram : (caps : ChecksumCapabilities) (cx : ContextValue) (ip : IpRepr) (payload : List ℕ) (udp : UdpRepr) (bytes : List ℕ) (s s' : Socket)
+      → Came caps ip payload → IsDatagram caps (upper_header ip payload) (upper_payload ip payload) udp bytes → accepts_datagram cx s ip udp ≡ true
+      → TakesDatagram cx ip udp bytes s s' → W s → W s'
+  pub segment : (caps : ChecksumCapabilities) (cx : ContextValue) (ip : IpRepr) (payload : List ℕ) (header : TcpHeader) (bytes : List ℕ) (s : Socket)
+      → Came caps ip payload → IsSegment caps (upper_header ip payload) (upper_payload ip payload) header bytes
+      → accepts_segment s ip header ≡ true → W s → W (with_segment cx ip header bytes s)
+
+module _ (Came : ChecksumCapabilities → IpRepr → List ℕ → Type 0) (W : Socket → Type 0) (law : IsOfPolls Came W) (n : ℕ) where
+  abbrev Holds : Places → Type 0
+  Holds places = HoldsAt W places n
+
+  packets : (ip : IpRepr) (payload : List ℕ) (places : Places) → Holds places → Holds (packet_delivered ip payload places)
+  packets ip payload places holds = all_hold W (λ s. accepts_packet s ip) (with_packet ip payload) (law.packet ip payload) places n holds
+
+  messages_v4 : (ip : IpRepr) (message : Icmpv4Header) (bytes : List ℕ) (places : Places) → Holds places → Holds (control_v4_places ip message bytes places)
+  messages_v4 (Ip.Ipv4 header) message bytes places holds =
+      all_hold W (λ s. accepts_icmpv4 s (Address.Ipv4 header.dst_addr) message bytes) (with_icmpv4 header message bytes)
+      (law.icmpv4 header message bytes) places n holds
+  messages_v4 (Ip.Ipv6 header) message bytes places holds = holds
+
+  messages_v6 : (ip : IpRepr) (message : MessageValue) (bytes : List ℕ) (places : Places) → Holds places → Holds (control_v6_places ip message bytes places)
+  messages_v6 (Ip.Ipv4 header) message bytes places holds = holds
+  messages_v6 (Ip.Ipv6 header) message bytes places holds =
+      all_hold W (λ s. accepts_icmpv6 s (Address.Ipv6 header.dst_addr) message bytes) (with_icmpv6 header message bytes)
+      (law.icmpv6 header message bytes) places n holds
+
+  -- DATAGRAMS AND SEGMENTS
+
+  module _ (caps : ChecksumCapabilities) (ip : IpRepr) (payload : List ℕ) (came : Came caps ip payload) (cx : ContextValue) (places : Places)
+      (holds : Holds places) where
+    datagram_in : (udp : UdpRepr) (bytes : List ℕ) → IsDatagram caps (upper_header ip payload) (upper_payload ip payload) udp bytes
+        → (o o' : Option (Item Socket)) → passes_in (λ s. accepts_datagram cx s ip udp) o ≡ true → ItemTakes cx ip udp bytes o o' → HoldsItem W o
+        → HoldsItem W o'
+    datagram_in udp bytes is None o' passing takes here = absurd here
+    datagram_in udp bytes is (Some item) o' passing takes here =
+        subst (HoldsItem W) (sym takes.2) (law.datagram caps cx ip payload udp bytes item.socket takes.0 came is passing takes.1 here)
+
+    datagram_at : (udp : UdpRepr) (bytes : List ℕ) → IsDatagram caps (upper_header ip payload) (upper_payload ip payload) udp bytes → (o : Option ℕ)
+        → datagram_place cx ip udp places ≡ o → (to : Places) → GivenAt cx ip udp bytes o places to → Holds to
+    datagram_at udp bytes is None at to given = subst Holds (sym given) holds
+    datagram_at udp bytes is (Some at) there to given =
+        let first = position-Some (passes (λ s. accepts_datagram cx s ip udp)) places at free there in
+        let got : GivenIn cx ip udp bytes at (Some (get_or places at free)) places to =
+        subst (λ (o : Option (SocketStorage Socket)). GivenIn cx ip udp bytes at o places to) (slice_get-get_or places at free first.0) given in
+        subst Holds (sym got.2)
+        (put_holds W places at n free got.0 (datagram_in udp bytes is (get_or places at free).inner got.0.inner first.1 got.1) holds)
+
+    segment_at : (header : TcpHeader) (bytes : List ℕ) → IsSegment caps (upper_header ip payload) (upper_payload ip payload) header bytes
+        → (o : Option ℕ) → segment_place ip header places ≡ o
+        → Holds (changed_at (with_segment cx ip header bytes) o places)
+    segment_at header bytes is None at = holds
+    segment_at header bytes is (Some at) there =
+        let first = accepted_there ip header places at free there in
+        subst Holds (sym (changed_here (with_segment cx ip header bytes) places at free first.0))
+        (set_holds W (λ s. accepts_segment s ip header) (with_segment cx ip header bytes)
+        (λ s accepts w. law.segment caps cx ip payload header bytes s came is accepts w) places at n free first.1 holds)
+
+    segment_for : (nobody : Bool) (header : TcpHeader) (bytes : List ℕ) → IsSegment caps (upper_header ip payload) (upper_payload ip payload) header bytes
+        → Holds (if nobody then places else segment_delivered cx ip header bytes places)
+    segment_for true header bytes is = holds
+    segment_for false header bytes is = segment_at header bytes is (segment_place ip header places) refl
+
+  handed : (i : InnerValue) (places : Places) (ip : IpRepr) (payload : List ℕ) (carried : Option PayloadValue) → Came i.checksums ip payload
+      → IsCarriedContent i.checksums (upper_header ip payload) (upper_payload ip payload) carried → (to : Places) → HandsTo i places ip carried to
+      → Holds places → Holds to
+  handed i places ip payload None came is to hands holds = subst Holds (sym hands) holds
+  handed i places ip payload (Some (ControlV4 message bytes)) came is to hands holds = subst Holds (sym hands) (messages_v4 ip message bytes places holds)
+  handed i places ip payload (Some (ControlV6 message bytes)) came is to hands holds = subst Holds (sym hands) (messages_v6 ip message bytes places holds)
+  handed i places ip payload (Some (Bytes bytes)) came is to hands holds = subst Holds (sym hands) holds
+  handed i places ip payload (Some (Datagram udp bytes)) came is to hands holds =
+      datagram_at i.checksums ip payload came (context_of i) places holds udp bytes is (datagram_place (context_of i) ip udp places) refl to hands
+  handed i places ip payload (Some (Segment header bytes)) came is to hands holds =
+      subst Holds (sym hands) (segment_for i.checksums ip payload came (context_of i) places holds (names_nobody i ip) header bytes is)
+
+  -- PACKETS
+
+  by_renewal : (i : InnerValue) (link : Option EthernetRepr) (sender : IpAddress) → (renewed_by i link sender).checksums ≡ i.checksums
+  by_renewal i None sender = refl
+  by_renewal i (Some link) sender = refl
+
+  renewal_if : (direct : Bool) (i : InnerValue) (link : Option EthernetRepr) (sender : IpAddress) →
+      (if direct then renewed_by i link sender else i).checksums ≡ i.checksums
+  renewal_if true i link sender = by_renewal i link sender
+  renewal_if false i link sender = refl
+
+  same_checksums : (i : InnerValue) (link : Option EthernetRepr) (ip : IpRepr) → (renewed i link ip).checksums ≡ i.checksums
+  same_checksums i link ip = renewal_if (is_direct i ip) i link (sender_of ip)
+
+  hands : (i : InnerValue) (places : Places) (link : Option EthernetRepr) (ip : IpRepr) (payload : List ℕ) (a : Arrived) → Came i.checksums ip payload
+      → Hands (renewed i link ip) (packet_delivered ip payload places) ip payload (is_taken_raw ip places) a → Holds places → Holds a.places
+  hands i places link ip payload a came (carried, is, so) holds =
+      handed (renewed i link ip) (packet_delivered ip payload places) ip payload carried
+      (subst (λ (caps : ChecksumCapabilities). Came caps ip payload) (sym (same_checksums i link ip)) came) is a.places so.places_are
+      (packets ip payload places holds)
+
+  v4 : (ours : Bool) (i : InnerValue) (places : Places) (link : Option EthernetRepr) (ip : IpRepr) (payload : List ℕ) (a : Arrived)
+      → (ours ≡ true → Came i.checksums ip payload) → ArrivesV4 ours i places link ip payload a → Holds places → Holds a.places
+  v4 true i places link ip payload a came is holds = hands i places link ip payload a (came refl) is holds
+  v4 false i places link ip payload a came is holds = subst Holds (sym is.places_are) (packets ip payload places holds)
+
+  v6 : (ours : Bool) (i : InnerValue) (places : Places) (link : Option EthernetRepr) (ip : IpRepr) (payload : List ℕ) (a : Arrived)
+      → (ours ≡ true → Came i.checksums ip payload) → ArrivesV6 ours i places link ip payload a → Holds places → Holds a.places
+  v6 true i places link ip payload a came is holds = hands i places link ip payload a (came refl) is holds
+  v6 false i places link ip payload a came is holds = subst Holds (sym is.places_are) holds
+
+  -- what is whole behind a frame arrives
+  pub brings_holds : (i : InnerValue) (places : Places) (content : Option IncomingValue) (a : Arrived)
+      → ((ip : IpRepr) (payload : List ℕ) → IsPacket content ip payload → is_for_us i (destination_of ip) ≡ true → Came i.checksums ip payload)
+      → Brings i places content a → Holds places → Holds a.places
+  brings_holds i places None a came is holds = subst Holds (sym is.places_are) holds
+  brings_holds i places (Some (Arp link packet)) a came is holds = subst Holds (sym is.places_are) holds
+  brings_holds i places (Some (Ip4 link header piece payload)) a came is holds =
+      v4 (is_for_us i (Address.Ipv4 header.dst_addr)) i places link (Ip.Ipv4 header) payload a (came (Ip.Ipv4 header) payload (refl, refl)) is holds
+  brings_holds i places (Some (Ip6 link header payload)) a came is holds =
+      v6 (is_for_us i (Address.Ipv6 header.dst_addr)) i places link (Ip.Ipv6 header) payload a (came (Ip.Ipv6 header) payload (refl, refl)) is holds

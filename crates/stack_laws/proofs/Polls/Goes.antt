@@ -1,0 +1,270 @@
+-- A pass over the sockets, and a step of the way out, in which the first datagram of a UDP socket goes.
+use Rattle.std.proofs.Common.{◌≡◌, ℕ, zero, suc, ◌+◌, Bool, true, false, ◌||◌, ◌⊎◌, inl, inr, ℤ, List, [], ◌∷◌, ◌++◌, length, Option, Some, None, refl, sym, ap}
+use Rattle.std.proofs.Common.{◌∙◌}
+use Rattle.std.proofs.Common.{subst, arith, append_assoc, append-nil, length-append}
+use Rattle.std.specs.Prelude.{slice_get}
+use Rattle.std.specs.List.{list_any}
+use Rattle.net_base.specs.Device.{Move, Allowed, Denied}
+use Rattle.net_base.specs.Packets.{contents}
+use Rattle.ip_wire.specs.HardwareAddress.{HardwareAddress}
+use Rattle.ip_wire.specs.IpAddress.{IpAddress}
+use Rattle.sockets.specs.Udp.{UdpValue}
+use Rattle.sockets.specs.UdpMetadata.{UdpMetadata}
+use Rattle.interface_ingress.specs.Packet.{PacketValue}
+use Rattle.interface_ingress.specs.Socket.{Socket}
+use Rattle.interface_ingress.specs.Socket.TheVariants as Kind
+use Rattle.interface_tables.specs.Inner.{InnerValue, at_moment}
+use Rattle.interface_egress.specs.Fragments.{LeftValue, departure_from}
+use Rattle.interface_egress.specs.GoesOut.{frame_len_of}
+use Rattle.interface_egress.specs.declared.socket_meta.Meta.{Meta}
+use Rattle.interface_egress.specs.declared.socket_set.Item.{Item}
+use Rattle.interface_egress.specs.declared.socket_set.SocketStorage.{SocketStorage}
+use Rattle.interface.specs.Awaited.{turn_of}
+use Rattle.interface.specs.Egress.{EgressStep, sending, if_changed}
+use Rattle.interface.specs.Host.{Sender}
+use Rattle.interface.specs.Pass.{Pass, Passed}
+use Rattle.interface.specs.SameHost.{IsSameHost}
+use Rattle.interface.specs.State.{State}
+use Rattle.interface.specs.Turn.{is_waiting}
+use Rattle.interface.specs.WayOut.{PieceLeaves, Clears, Egress}
+use Rattle.interface.specs.declared.turn.Turned.TheVariants as Turn
+use Rattle.interface.proofs.SameHost.{same_where, place_same}
+use Rattle.stack_laws.specs.Progress.Moves.{AreMoves, is_refused}
+use Rattle.stack_laws.specs.Progress.Patience.{IsItemPatient}
+use Rattle.stack_laws.specs.Progress.Queued.{CanGo, HasTurn, Sends, frame_under, WentFrom, GoesAtOnce}
+use Rattle.stack_laws.proofs.Polls.Walks.{joined, refused_before, refused_behind, sends_before, sends_behind}
+use Rattle.stack_laws.proofs.Polls.Ways.{can_still, waits_still, same_frame, under_still}
+use Rattle.stack_laws.proofs.Polls.Turns.{Ends, place_ends}
+use Rattle.stack_laws.proofs.Polls.Passes.{PassEnds, pass_ends, PieceEnds, clears}
+use Rattle.stack_laws.proofs.Polls.OurTurn.{Ours, OurEnds, our_turn}
+
+abbrev Place : Type 0
+Place = SocketStorage Socket
+
+abbrev place_with : Option (Item Socket) → Place
+place_with o = record { inner = o }
+
+abbrev no_place : Option Place
+no_place = None
+
+-- PLACES
+
+stands_at : (before more : List Place) (p : Place) → slice_get (before ++ p ∷ more) (length before) ≡ Some p
+stands_at [] more p = refl
+stands_at (q ∷ before) more p = stands_at before more p
+
+module _ {D : Type 0} (moves : D → Move → D → Type 0) where
+  next_not : (b c : Bool) → Turn.Stop b ≡ Turn.Next c → ⊥
+  next_not b c same = cc
+
+  next_is : (b c : Bool) → Turn.Next b ≡ Turn.Next c → b ≡ c
+  next_is b c same = cc
+
+  or_true : (a b : Bool) → b ≡ true → (a || b) ≡ true
+  or_true true b e = refl
+  or_true false b e = e
+
+  or_first : (a b : Bool) → a ≡ true → (a || b) ≡ true
+  or_first true b e = refl
+  or_first false b e = absurd (let clash : false ≡ true = e in cc)
+
+  -- the places before stay, and what changed stays said
+  kept : (turn : Option IpAddress) (s : Sender D) (before : List Place) (changed : Bool) (ps : List Place) (e : Passed D)
+      → Pass moves turn s before changed ps e
+      → (more : List Place) × (e.places ≡ before ++ more)
+  kept turn s before changed [] e ends = ([], ap (λ (x : Passed D). x.places) ends ∙ sym (append-nil before))
+  kept turn s before changed (p ∷ ps) e (inl goes) =
+      let more = kept turn goes.1 (before ++ goes.2 ∷ []) (changed || goes.0) ps e goes.4 in
+      (goes.2 ∷ more.0, more.1 ∙ append_assoc before (goes.2 ∷ []) more.0)
+  kept turn s before changed (p ∷ ps) e (inr stops) = (stops.2 ∷ ps, ap (λ (x : Passed D). x.places) stops.4)
+
+  said : (turn : Option IpAddress) (s : Sender D) (before : List Place) (changed : Bool) (ps : List Place) (e : Passed D)
+      → Pass moves turn s before changed ps e
+      → changed ≡ true → e.changed ≡ true
+  said turn s before changed [] e ends is = ap (λ (x : Passed D). x.changed) ends ∙ is
+  said turn s before changed (p ∷ ps) e (inl goes) is =
+      said turn goes.1 (before ++ goes.2 ∷ []) (changed || goes.0) ps e goes.4 (or_first changed goes.0 is)
+  said turn s before changed (p ∷ ps) e (inr stops) is = ap (λ (x : Passed D). x.changed) stops.4 ∙ or_first changed stops.0 is
+
+  module _ (v : UdpValue) (d : UdpMetadata × List ℕ) (more : List (UdpMetadata × List ℕ)) (queued : contents v.queued ≡ d ∷ more) (to : HardwareAddress)
+      (p : PacketValue) (meta : Meta) where
+    abbrev ours : Place
+    ours = record { inner = Some (record { meta = meta; socket = Kind.Udp v }) }
+
+    -- of a pass: the packet went, or the device refused
+    record Through (i : InnerValue) (k : ℕ) (old : D) (e : Passed D) : Type 0 where
+      all : List Move
+      are : AreMoves moves all old e.sender.device
+      what : (list_any is_refused all ≡ true) ⊎ WentFrom i k v to p all (if_changed e.changed) e.places
+
+    -- the turn itself, and what comes behind it
+    at_our_place : (turn : Option IpAddress) (s mid : Sender D) (before : List Place) (changed b : Bool) (p' : Place) (ps : List Place) (k : ℕ) (e : Passed D)
+        → (can : CanGo s.inner v.settings d to p) → OurEnds moves turn s mid v d to p can (Turn.Next b) p'.inner → k ≡ length before
+        → Pass moves turn mid (before ++ p' ∷ []) (changed || b) ps e → Through s.inner k s.device e
+    at_our_place turn s mid before changed b p' ps k e can took is goes =
+        let rest : PassEnds moves mid (before ++ p' ∷ []) (changed || b) ps e = pass_ends moves turn mid (before ++ p' ∷ []) (changed || b) ps e goes in
+        record {
+          all = took.all ++ rest.all;
+          are = joined moves took.all rest.all s.device mid.device e.sender.device took.are rest.are;
+          what = by took.all rest.all took.what;
+        }
+      where
+        by : (xs ys : List Move) → (list_any is_refused xs ≡ true) ⊎ Ours moves turn s mid v d to p can xs (Turn.Next b) p'.inner
+            → (list_any is_refused (xs ++ ys) ≡ true) ⊎ WentFrom s.inner k v to p (xs ++ ys) (if_changed e.changed) e.places
+        by xs ys (inl refused) = inl (refused_before xs ys refused)
+        by xs ys (inr went) =
+            let tail = kept turn mid (before ++ p' ∷ []) (changed || b) ps e goes in
+            let here : slice_get e.places k ≡ Some p' =
+            ap (λ (all : List Place). slice_get all k) (tail.1 ∙ append_assoc before (p' ∷ []) tail.0)
+            ∙ ap (λ (n : ℕ). slice_get (before ++ p' ∷ tail.0) n) is ∙ stands_at before tail.0 p' in
+            inr (record {
+              sent = (
+                s.inner.ident,
+                sends_before (frame_under s.inner s.inner.ident to p) xs ys
+                    (subst (λ (frame : List ℕ). Sends frame xs) (same_frame s.inner s.inner to p (same_where s.inner s.inner refl)) went.sent),
+              );
+              formed = went.formed;
+              new = went.new;
+              stands = here ∙ ap (λ (o : Option (Item Socket)). Some (place_with o)) went.stands;
+              settings = went.settings;
+              rest = went.rest;
+              told = ap if_changed (said turn mid (before ++ p' ∷ []) (changed || b) ps e goes (or_true changed b (next_is b true went.next)));
+            })
+
+    stopped : (turn : Option IpAddress) (s mid : Sender D) (b : Bool) (p' : Place) (k : ℕ) (e : Passed D)
+        → (can : CanGo s.inner v.settings d to p) → OurEnds moves turn s mid v d to p can (Turn.Stop b) p'.inner → e.sender.device ≡ mid.device
+        → Through s.inner k s.device e
+    stopped turn s mid b p' k e can took is = record {
+      all = took.all;
+      are = subst (λ (x : D). AreMoves moves took.all s.device x) (sym is) took.are;
+      what = by took.all took.what;
+    }
+      where
+        by : (xs : List Move) → (list_any is_refused xs ≡ true) ⊎ Ours moves turn s mid v d to p can xs (Turn.Stop b) p'.inner
+            → (list_any is_refused xs ≡ true) ⊎ WentFrom s.inner k v to p xs (if_changed e.changed) e.places
+        by xs (inl refused) = inl refused
+        by xs (inr went) = absurd (next_not b true went.next)
+
+    -- what went of a later host went of this one
+    as_before : (i j : InnerValue) (k : ℕ) (xs ys : List Move) (answer : Option Bool) (places : List Place) → IsSameHost i j
+        → (list_any is_refused ys ≡ true) ⊎ WentFrom j k v to p ys answer places
+        → (list_any is_refused (xs ++ ys) ≡ true) ⊎ WentFrom i k v to p (xs ++ ys) answer places
+    as_before i j k xs ys answer places same (inl refused) = inl (refused_behind xs ys refused)
+    as_before i j k xs ys answer places same (inr went) = inr (record {
+      sent = (
+        went.sent.0,
+        sends_behind (frame_under i went.sent.0 to p) xs ys
+            (subst (λ (frame : List ℕ). Sends frame ys) (under_still i j went.sent.0 to p same) went.sent.1),
+      );
+      formed = went.formed;
+      new = went.new;
+      stands = went.stands;
+      settings = went.settings;
+      rest = went.rest;
+      told = went.told;
+    })
+
+    pass_goes : (turn : Option IpAddress) (s : Sender D) (before : List Place) (changed : Bool) (ps : List Place) (n k : ℕ) (e : Passed D)
+        → slice_get ps n ≡ Some ours → k ≡ length before + n → CanGo s.inner v.settings d to p → is_waiting s.inner meta ≡ false
+        → Pass moves turn s before changed ps e → Through s.inner k s.device e
+    pass_goes turn s before changed [] n k e stands is can ready goes = absurd (let never : no_place ≡ Some ours = stands in cc)
+    pass_goes turn s before changed (q ∷ ps) zero k e stands is can ready (inl goes) =
+        at_our_place turn s goes.1 before changed goes.0 goes.2 ps k e can
+        (our_turn moves turn s goes.1 v d to p can more queued meta goes.2 (Turn.Next goes.0) ready
+        (subst (λ (place : Place). Rattle.interface.specs.Turn.PlaceTurns moves turn s place (Turn.Next goes.0) goes.1 goes.2)
+        (let same : Some q ≡ Some ours = stands in let at : q ≡ ours = cc in at) goes.3))
+        (is ∙ (let none : (m : ℕ) → m + 0 ≡ m = λ m. omega arith in none (length before))) goes.4
+    pass_goes turn s before changed (q ∷ ps) zero k e stands is can ready (inr stops) =
+        stopped turn s stops.1 stops.0 stops.2 k e can
+        (our_turn moves turn s stops.1 v d to p can more queued meta stops.2 (Turn.Stop stops.0) ready
+        (subst (λ (place : Place). Rattle.interface.specs.Turn.PlaceTurns moves turn s place (Turn.Stop stops.0) stops.1 stops.2)
+        (let same : Some q ≡ Some ours = stands in let at : q ≡ ours = cc in at) stops.3))
+        (ap (λ (x : Passed D). x.sender.device) stops.4)
+    pass_goes turn s before changed (q ∷ ps) (suc n) k e stands is can ready (inl goes) =
+        let took : Ends moves (IsItemPatient q.inner) s goes.1 (Turn.Next goes.0) goes.2.inner =
+        place_ends moves (IsItemPatient q.inner) turn s goes.1 q goes.2 (Turn.Next goes.0) (λ it. it) goes.3 in
+        let same : IsSameHost s.inner goes.1.inner = place_same moves turn s goes.1 q goes.2 (Turn.Next goes.0) goes.3 in
+        let rest : Through goes.1.inner k goes.1.device e =
+        pass_goes turn goes.1 (before ++ goes.2 ∷ []) (changed || goes.0) ps n k e stands (is ∙ one_more before goes.2 n)
+        (can_still s.inner goes.1.inner v.settings d to p same can) (waits_still s.inner goes.1.inner meta same ready) goes.4 in
+        record {
+          all = took.all ++ rest.all;
+          are = joined moves took.all rest.all s.device goes.1.device e.sender.device took.are rest.are;
+          what = as_before s.inner goes.1.inner k took.all rest.all (if_changed e.changed) e.places same rest.what;
+        }
+      where
+        one_more : (xs : List Place) (x : Place) (n : ℕ) → length xs + suc n ≡ length (xs ++ x ∷ []) + n
+        one_more xs x n = let both = length-append xs (x ∷ []) in omega (arith, both)
+    pass_goes turn s before changed (q ∷ ps) (suc n) k e stands is can ready (inr stops) =
+        let took : Ends moves (IsItemPatient q.inner) s stops.1 (Turn.Stop stops.0) stops.2.inner =
+        place_ends moves (IsItemPatient q.inner) turn s stops.1 q stops.2 (Turn.Stop stops.0) (λ it. it) stops.3 in
+        record {
+          all = took.all;
+          are = subst (λ (x : D). AreMoves moves took.all s.device x) (sym (ap (λ (x : Passed D). x.sender.device) stops.4)) took.are;
+          what = inl (refused stops.0 took.all took.stops);
+        }
+      where
+        refused : (b : Bool) (xs : List Move) → (list_any is_refused xs ≡ true) ⊎ ((c : Bool) × (Turn.Stop b ≡ Turn.Next c)) → list_any is_refused xs ≡ true
+        refused b xs (inl is) = is
+        refused b xs (inr next) = absurd (next_not b next.0 next.1)
+
+    -- THE PIECE THAT WAITS, AND THEN THE SOCKETS
+
+    record Refused (old new : D) : Type 0 where
+      all : List Move
+      are : AreMoves moves all old new
+      what : list_any is_refused all ≡ true
+
+    piece_refused : (l : LeftValue) (s mid : Sender D) → PieceLeaves moves l s false mid → Refused s.device mid.device
+    piece_refused l s mid (inl stays) = record { all = Allowed s.inner.moment false ∷ []; are = (mid.device, stays.0, refl); what = refl }
+    piece_refused l s mid (inr goes) = record {
+      all = Allowed s.inner.moment true ∷ Denied (frame_len_of s.inner (departure_from s.inner l)) ∷ [];
+      are = (goes.0, goes.1, (mid.device, goes.2.0, refl));
+      what = refl;
+    }
+
+    stays : (left : Option LeftValue) (s mid : Sender D) → Clears moves left s false mid → Refused s.device mid.device
+    stays None s mid goes = absurd (let clash : false ≡ true = goes.0 in cc)
+    stays (Some l) s mid goes = piece_refused l s mid goes.0
+
+    clears_same : (left : Option LeftValue) (s mid : Sender D) → Clears moves left s true mid → mid.inner ≡ s.inner
+    clears_same None s mid goes = ap (λ (x : Sender D). x.inner) goes.1
+    clears_same (Some l) s mid goes = goes.1
+
+    egress_goes : (s : Sender D) (ps : List Place) (n : ℕ) (e : Passed D) → slice_get ps n ≡ Some ours → CanGo s.inner v.settings d to p
+        → is_waiting s.inner meta ≡ false → Egress moves s ps e → Through s.inner n s.device e
+    egress_goes s ps n e stands can ready (inl waits) =
+        let no : Refused s.device waits.0.device = stays s.left s waits.0 waits.1 in
+        record {
+          all = no.all;
+          are = subst (λ (x : D). AreMoves moves no.all s.device x) (sym (ap (λ (x : Passed D). x.sender.device) waits.2)) no.are;
+          what = inl no.what;
+        }
+    egress_goes s ps n e stands can ready (inr goes) =
+        let piece : PieceEnds moves s goes.0 true = clears moves s.left s goes.0 true refl goes.1 in
+        let same : IsSameHost s.inner goes.0.inner = same_where s.inner goes.0.inner (clears_same s.left s goes.0 goes.1) in
+        let rest : Through goes.0.inner n goes.0.device e =
+        pass_goes (turn_of goes.0.inner ps) goes.0 [] false ps n n e stands (let none : (m : ℕ) → m ≡ 0 + m = λ m. omega arith in none n)
+        (can_still s.inner goes.0.inner v.settings d to p same can) (waits_still s.inner goes.0.inner meta same ready) goes.2 in
+        record {
+          all = piece.all ++ rest.all;
+          are = joined moves piece.all rest.all s.device goes.0.device e.sender.device piece.are rest.are;
+          what = as_before s.inner goes.0.inner n piece.all rest.all (if_changed e.changed) e.places same rest.what;
+        }
+
+  pub step_goes : (t : ℤ) (s s' : State D) (answer : Option Bool) (n : ℕ) (v : UdpValue) (d : UdpMetadata × List ℕ) (more : List (UdpMetadata × List ℕ))
+      (to : HardwareAddress) (p : PacketValue) → HasTurn (at_moment t s.host.inner) s.places n v → contents v.queued ≡ d ∷ more
+      → CanGo (at_moment t s.host.inner) v.settings d to p → EgressStep moves t s answer s'
+      → GoesAtOnce moves (at_moment t s.host.inner) n v to p s.device s'.device answer s'.places
+  step_goes t s s' answer n v d more to p turn queued can step =
+      let through : Through v d more queued to p turn.meta (at_moment t s.host.inner) n s.device step.0 =
+      egress_goes v d more queued to p turn.meta (sending t s) s.places n step.0 turn.stands can turn.ready step.1 in
+      record {
+        all = through.all;
+        are = subst (λ (x : D). AreMoves moves through.all s.device x) (sym (ap (λ (x : State D). x.device) step.2)) through.are;
+        what = subst (λ (a : Option Bool). (list_any is_refused through.all ≡ true) ⊎ WentFrom (at_moment t s.host.inner) n v to p through.all a s'.places)
+            (sym step.3)
+            (subst (λ (ps : List Place). (list_any is_refused through.all ≡ true)
+            ⊎ WentFrom (at_moment t s.host.inner) n v to p through.all (if_changed step.0.changed) ps)
+            (sym (ap (λ (x : State D). x.places) step.2)) through.what);
+      }

@@ -1,0 +1,220 @@
+-- A poll in which a datagram that is queued behind others goes.
+use Rattle.std.proofs.Common.{◌≡◌, ℕ, zero, suc, ◌<◌, Bool, true, false, ◌||◌, ◌⊎◌, inl, inr, ℤ, List, [], ◌∷◌, ◌++◌, length, drop, Option, Some, None}
+use Rattle.std.proofs.Common.{refl, sym, ap, ◌∙◌}
+use Rattle.std.proofs.Common.{subst, arith}
+use Rattle.std.specs.List.{list_any, AllByRecursion}
+use Rattle.net_base.specs.Device.{Move, Empty}
+use Rattle.net_base.specs.Packets.{contents}
+use Rattle.ip_wire.specs.HardwareAddress.{HardwareAddress}
+use Rattle.sockets.specs.Udp.{UdpValue, UdpSettings}
+use Rattle.sockets.specs.UdpMetadata.{UdpMetadata}
+use Rattle.interface_ingress.specs.Packet.{PacketValue}
+use Rattle.interface_ingress.specs.Socket.{Socket}
+use Rattle.interface_ingress.specs.WellFormed.{IsWellFormed}
+use Rattle.interface_tables.specs.Inner.{InnerValue, at_moment}
+use Rattle.interface_egress.specs.declared.socket_set.SocketStorage.{SocketStorage}
+use Rattle.interface.specs.Egress.{EgressStep, sending}
+use Rattle.interface.specs.Ingress.{IngressStep}
+use Rattle.interface.specs.Polls.{Repeats, Polls, begun}
+use Rattle.interface.specs.QuietPoll.{HasNoFrame}
+use Rattle.interface.specs.SameHost.{IsSameHost}
+use Rattle.interface.specs.State.{State}
+use Rattle.interface.proofs.SameHost.{same_where, egress_same_host}
+use Rattle.stack_laws.specs.Progress.Moves.{AreMoves, is_refused}
+use Rattle.stack_laws.specs.Progress.Queued.{CanGo, HasWay, HasTurn, SendsPacket, WentFrom, GoesAtOnce, GoesInTurn, frame_under, Sends}
+use Rattle.stack_laws.proofs.Polls.Walks.{joined, refused_before, refused_behind, sends_before, sends_behind}
+use Rattle.stack_laws.proofs.Polls.Ways.{can_still, under_still}
+use Rattle.stack_laws.proofs.Polls.Passes.{StepEnds, egress_ends}
+use Rattle.stack_laws.proofs.Polls.Polled.{InEnds}
+use Rattle.stack_laws.proofs.Polls.Goes.{step_goes}
+
+abbrev Queued : Type 0
+Queued = UdpMetadata × List ℕ
+
+none_told : (b : Bool) → (let o : Option Bool = None in o) ≡ Some b → ⊥
+none_told b is = cc
+
+below_none : (n : ℕ) → n < 0 → ⊥
+below_none n is = absurd (omega arith)
+
+module _ {D : Type 0} (moves : D → Move → D → Type 0) (t : ℤ) where
+  -- THE WAY IN
+
+  alone : (n : ℕ) (s s' : State D) (c c' : Bool) → HasNoFrame moves t s.device → Repeats (IngressStep moves t) n s c s' c' → InEnds moves t s s'
+  alone zero s s' c c' none steps = record {
+    all = [];
+    are = ap (λ (x : State D). x.device) steps.0;
+    inner = ap (λ (x : State D). at_moment t x.host.inner) steps.0;
+    left = ap (λ (x : State D). x.host.left) steps.0;
+    places = ap (λ (x : State D). x.places) steps.0;
+  }
+  alone (suc n) s s' c c' none (inl ends) = record {
+    all = Empty t ∷ [];
+    are = (s'.device, ends.0.0, refl);
+    inner = ap (λ (x : State D). at_moment t x.host.inner) ends.0.1;
+    left = ap (λ (x : State D). x.host.left) ends.0.1;
+    places = ap (λ (x : State D). x.places) ends.0.1;
+  }
+  alone (suc n) s s' c c' none (inr goes) = absurd (took goes.0 goes.2) where
+    took : (b : Bool) → IngressStep moves t s (Some b) goes.1 → ⊥
+    took true step = none step.0 step.1 step.2
+    took false step = none step.0 goes.1.device step.1
+
+  -- THE WAY OUT
+
+  record Walk (old new : D) : Type 0 where
+    all : List Move
+    are : AreMoves moves all old new
+
+  step_walk : (s s' : State D) (answer : Option Bool) → EgressStep moves t s answer s' → Walk s.device s'.device
+  step_walk s s' answer step =
+      let ends : StepEnds moves (sending t s) s.places step.0 = egress_ends moves (sending t s) s.places step.0 step.1 in
+      record { all = ends.all; are = subst (λ (d : D). AreMoves moves ends.all s.device d) (sym (ap (λ (x : State D). x.device) step.2)) ends.are }
+
+  steps_walk : (n : ℕ) (s s' : State D) (c c' : Bool) → Repeats (EgressStep moves t) n s c s' c' → Walk s.device s'.device
+  steps_walk zero s s' c c' steps = record { all = []; are = ap (λ (x : State D). x.device) steps.0 }
+  steps_walk (suc n) s s' c c' (inl ends) = step_walk s s' None ends.0
+  steps_walk (suc n) s s' c c' (inr goes) =
+      let one : Walk s.device goes.1.device = step_walk s goes.1 (Some goes.0) goes.2 in
+      let more : Walk goes.1.device s'.device = steps_walk n goes.1 s' (c || goes.0) c' goes.3 in
+      record { all = one.all ++ more.all; are = joined moves one.all more.all s.device goes.1.device s'.device one.are more.are }
+
+  -- the host behind a step, at the same moment
+  behind_same : (s s' : State D) (answer : Option Bool) → EgressStep moves t s answer s' → IsSameHost (at_moment t s.host.inner) (at_moment t s'.host.inner)
+  behind_same s s' answer step =
+      let same : IsSameHost (at_moment t s.host.inner) step.0.sender.inner = egress_same_host moves (sending t s) s.places step.0 step.1 in
+      let is : s'.host.inner ≡ step.0.sender.inner = ap (λ (x : State D). x.host.inner) step.2 in
+      subst (λ (i : InnerValue). IsSameHost (at_moment t s.host.inner) (at_moment t i)) (sym is) (ap (at_moment t) same)
+
+  ways_still : (i j : InnerValue) (settings : UdpSettings) (ds : List Queued) → IsSameHost i j → AllByRecursion (HasWay i settings) ds
+      → AllByRecursion (HasWay j settings) ds
+  ways_still i j settings [] same ways = tt
+  ways_still i j settings (d ∷ ds) same ways =
+      ((ways.0.0, ways.0.1, can_still i j settings d ways.0.0 ways.0.1 same ways.0.2), ways_still i j settings ds same ways.1)
+
+  abbrev Gone : InnerValue → HardwareAddress → PacketValue → List Move → Type 0
+  Gone i to p all = (list_any is_refused all ≡ true) ⊎ (SendsPacket i to p all × IsWellFormed p)
+
+  gone_before : (i : InnerValue) (to : HardwareAddress) (p : PacketValue) (xs ys : List Move) → Gone i to p xs → Gone i to p (xs ++ ys)
+  gone_before i to p xs ys (inl refused) = inl (refused_before xs ys refused)
+  gone_before i to p xs ys (inr went) = inr ((went.0.0, sends_before (frame_under i went.0.0 to p) xs ys went.0.1), went.1)
+
+  gone_behind : (i j : InnerValue) (to : HardwareAddress) (p : PacketValue) (xs ys : List Move) → IsSameHost i j → Gone j to p ys → Gone i to p (xs ++ ys)
+  gone_behind i j to p xs ys same (inl refused) = inl (refused_behind xs ys refused)
+  gone_behind i j to p xs ys same (inr went) =
+      inr (
+        (
+          went.0.0,
+          sends_behind (frame_under i went.0.0 to p) xs ys
+              (subst (λ (frame : List ℕ). Sends frame ys) (under_still i j went.0.0 to p same) went.0.1),
+        ),
+        went.1,
+      )
+
+  module _ (n : ℕ) (d : Queued) (more : List Queued) (to : HardwareAddress) (p : PacketValue) where
+    abbrev Out : State D → State D → Type 0
+    Out s s' = GoesInTurn moves (at_moment t s.host.inner) to p s.device s'.device
+
+    -- the first one goes now
+    now_goes : (m : ℕ) (s s' : State D) (c c' : Bool) (v : UdpValue) → HasTurn (at_moment t s.host.inner) s.places n v → contents v.queued ≡ d ∷ more
+        → CanGo (at_moment t s.host.inner) v.settings d to p → Repeats (EgressStep moves t) (suc m) s c s' c' → Out s s'
+    now_goes m s s' c c' v turn queued can (inl ends) =
+        let one : GoesAtOnce moves (at_moment t s.host.inner) n v to p s.device s'.device None s'.places =
+        step_goes moves t s s' None n v d more to p turn queued can ends.0 in
+        record { all = one.all; are = one.are; what = by one.all one.what }
+      where
+        by : (xs : List Move) → (list_any is_refused xs ≡ true) ⊎ WentFrom (at_moment t s.host.inner) n v to p xs None s'.places
+            → Gone (at_moment t s.host.inner) to p xs
+        by xs (inl refused) = inl refused
+        by xs (inr went) = absurd (none_told true went.told)
+    now_goes m s s' c c' v turn queued can (inr goes) =
+        let one : GoesAtOnce moves (at_moment t s.host.inner) n v to p s.device goes.1.device (Some goes.0) goes.1.places =
+        step_goes moves t s goes.1 (Some goes.0) n v d more to p turn queued can goes.2 in
+        let rest : Walk goes.1.device s'.device = steps_walk m goes.1 s' (c || goes.0) c' goes.3 in
+        record {
+          all = one.all ++ rest.all;
+          are = joined moves one.all rest.all s.device goes.1.device s'.device one.are rest.are;
+          what = gone_before (at_moment t s.host.inner) to p one.all rest.all (by one.all goes.0 goes.1.places one.what);
+        }
+      where
+        by : (xs : List Move) (b : Bool) (places : List (SocketStorage Socket)) → (list_any is_refused xs ≡ true)
+            ⊎ WentFrom (at_moment t s.host.inner) n v to p xs (Some b) places → Gone (at_moment t s.host.inner) to p xs
+        by xs b places (inl refused) = inl refused
+        by xs b places (inr went) = inr (went.sent, went.formed)
+
+    -- behind the one that goes now
+    out_goes : (budget : ℕ) (before : List Queued) (s s' : State D) (c c' : Bool) (v : UdpValue) → HasTurn (at_moment t s.host.inner) s.places n v
+        → contents v.queued ≡ before ++ d ∷ more → length before < budget → AllByRecursion (HasWay (at_moment t s.host.inner) v.settings) before
+        → CanGo (at_moment t s.host.inner) v.settings d to p → Repeats (EgressStep moves t) budget s c s' c' → Out s s'
+    out_goes zero before s s' c c' v turn queued short ways can steps = absurd (below_none (length before) short)
+    out_goes (suc m) [] s s' c c' v turn queued short ways can steps = now_goes m s s' c c' v turn queued can steps
+    out_goes (suc m) (b ∷ before) s s' c c' v turn queued short ways can (inl ends) =
+        let one : GoesAtOnce moves (at_moment t s.host.inner) n v ways.0.0 ways.0.1 s.device s'.device None s'.places =
+        step_goes moves t s s' None n v b (before ++ d ∷ more) ways.0.0 ways.0.1 turn queued ways.0.2 ends.0 in
+        record { all = one.all; are = one.are; what = by one.all one.what }
+      where
+        by : (xs : List Move) → (list_any is_refused xs ≡ true) ⊎ WentFrom (at_moment t s.host.inner) n v ways.0.0 ways.0.1 xs None s'.places
+            → Gone (at_moment t s.host.inner) to p xs
+        by xs (inl refused) = inl refused
+        by xs (inr went) = absurd (none_told true went.told)
+    out_goes (suc m) (b ∷ before) s s' c c' v turn queued short ways can (inr goes) =
+        let one : GoesAtOnce moves (at_moment t s.host.inner) n v ways.0.0 ways.0.1 s.device goes.1.device (Some goes.0) goes.1.places =
+        step_goes moves t s goes.1 (Some goes.0) n v b (before ++ d ∷ more) ways.0.0 ways.0.1 turn queued ways.0.2 goes.2 in
+        by one.all one.are one.what
+        (λ (went : WentFrom (at_moment t s.host.inner) n v ways.0.0 ways.0.1 one.all (Some goes.0) goes.1.places).
+        let same : IsSameHost (at_moment t s.host.inner) (at_moment t goes.1.host.inner) = behind_same s goes.1 (Some goes.0) goes.2 in
+        let settings : UdpSettings = v.settings in
+        out_goes m before goes.1 s' (c || goes.0) c' went.new
+        (record { meta = record { waiting = None }; stands = went.stands; ready = refl })
+        (went.rest ∙ ap (drop 1) queued)
+        (omega (arith, short))
+        (subst (λ (it : UdpSettings). AllByRecursion (HasWay (at_moment t goes.1.host.inner) it) before) (sym went.settings)
+        (ways_still (at_moment t s.host.inner) (at_moment t goes.1.host.inner) settings before same ways.1))
+        (subst (λ (it : UdpSettings). CanGo (at_moment t goes.1.host.inner) it d to p) (sym went.settings)
+        (can_still (at_moment t s.host.inner) (at_moment t goes.1.host.inner) settings d to p same can))
+        goes.3)
+      where
+        by : (xs : List Move) → AreMoves moves xs s.device goes.1.device
+            → (list_any is_refused xs ≡ true) ⊎ WentFrom (at_moment t s.host.inner) n v ways.0.0 ways.0.1 xs (Some goes.0) goes.1.places
+            → (WentFrom (at_moment t s.host.inner) n v ways.0.0 ways.0.1 xs (Some goes.0) goes.1.places → Out goes.1 s') → Out s s'
+        by xs are (inl refused) then_on =
+            let rest : Walk goes.1.device s'.device = steps_walk m goes.1 s' (c || goes.0) c' goes.3 in
+            record {
+              all = xs ++ rest.all;
+              are = joined moves xs rest.all s.device goes.1.device s'.device are rest.are;
+              what = inl (refused_before xs rest.all refused);
+            }
+        by xs are (inr went) then_on =
+            let rest : Out goes.1 s' = then_on went in
+            record {
+              all = xs ++ rest.all;
+              are = joined moves xs rest.all s.device goes.1.device s'.device are rest.are;
+              what = gone_behind (at_moment t s.host.inner) (at_moment t goes.1.host.inner) to p xs rest.all
+                  (behind_same s goes.1 (Some goes.0) goes.2) rest.what;
+            }
+
+  pub poll_goes : (budget : ℕ) (s s' : State D) (changed : Bool) (n : ℕ) (v : UdpValue) (before : List Queued) (d : Queued) (more : List Queued)
+      (to : HardwareAddress) (p : PacketValue) → HasTurn (at_moment t s.host.inner) s.places n v → contents v.queued ≡ before ++ d ∷ more
+      → length before < budget → AllByRecursion (HasWay (at_moment t s.host.inner) v.settings) before → CanGo (at_moment t s.host.inner) v.settings d to p
+      → HasNoFrame moves t s.device → Polls moves t budget s changed s' → GoesInTurn moves (at_moment t s.host.inner) to p s.device s'.device
+  poll_goes budget s s' changed n v before d more to p turn queued short ways can none polls =
+      let mid : State D = polls.0 in
+      let entry : InEnds moves t (begun t s) mid = alone budget (begun t s) mid false polls.1 none polls.2 in
+      let here : at_moment t s.host.inner ≡ at_moment t mid.host.inner = sym entry.inner in
+      let exit : GoesInTurn moves (at_moment t mid.host.inner) to p mid.device s'.device =
+      out_goes n d more to p budget before mid s' polls.1 changed v
+      (record {
+        meta = turn.meta;
+        stands = ap (λ (ps : List (SocketStorage Socket)). Rattle.std.specs.Prelude.slice_get ps n) entry.places ∙ turn.stands;
+        ready = subst (λ (i : InnerValue). Rattle.interface.specs.Turn.is_waiting i turn.meta ≡ false) here turn.ready;
+      })
+      queued short
+      (subst (λ (i : InnerValue). AllByRecursion (HasWay i v.settings) before) here ways)
+      (subst (λ (i : InnerValue). CanGo i v.settings d to p) here can)
+      polls.3 in
+      record {
+        all = entry.all ++ exit.all;
+        are = joined moves entry.all exit.all s.device mid.device s'.device entry.are exit.are;
+        what = gone_behind (at_moment t s.host.inner) (at_moment t mid.host.inner) to p entry.all exit.all
+            (same_where (at_moment t s.host.inner) (at_moment t mid.host.inner) (sym here)) exit.what;
+      }

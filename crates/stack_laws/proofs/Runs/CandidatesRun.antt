@@ -1,0 +1,42 @@
+-- The run of a host that connects to one of two listeners is a run.
+use Rattle.std.proofs.Common.{◌≡◌, true, false, Some, None, refl, ap, ◌∙◌}
+use Rattle.lan_history.specs.declared.event.Side.TheVariants.{A}
+use Rattle.lan_history.specs.declared.record.Opening.{Opening}
+use Rattle.lan_history.specs.Partners.{ArePartners, are_paired}
+use Rattle.lan_history.specs.Moves.{IsRun, run}
+use Rattle.lan_history.specs.Parties.Socket.{Tcp}
+use Rattle.lan_history.specs.Safe.{IsFreshNet}
+use Rattle.stack_laws.specs.Worlds.Candidates.{hosts, steps}
+use Rattle.stack_laws.specs.Worlds.Hosts.{no_names, unbound}
+use Rattle.stack_laws.specs.Worlds.Streams.{fresh}
+use Rattle.stack_laws.proofs.Runs.Fresh.{fresh_one, fresh_two, fresh_tcp, some_same}
+
+pub are_fresh : IsFreshNet unbound hosts
+are_fresh = record { a = fresh_one (Tcp fresh) fresh_tcp; b = fresh_two (Tcp fresh) fresh_tcp; history = refl }
+
+pub is_run : IsRun no_names hosts steps
+is_run = (
+  (refl, refl, refl, (refl, refl, refl)),
+  (
+    (refl, refl, refl, (refl, refl, refl)),
+    ((refl, refl, refl, (refl, refl, refl)), (refl, ((refl, refl, (0, refl)), tt))),
+  ),
+)
+
+abbrev to_second : Opening
+to_second = record { local = 49_500; remote = Some 81 }
+
+pub second : ArePartners (run hosts steps).history A 0 1
+second = record { one = to_second; another = record { local = 81; remote = None }; opened = refl; partner_opened = refl; paired = refl }
+
+abbrev at_first : Opening
+at_first = record { local = 80; remote = None }
+
+pub not_first : ¬ (ArePartners (run hosts steps).history A 0 0)
+not_first p =
+    let one : to_second ≡ p.one = some_same to_second p.one p.opened in
+    let another : at_first ≡ p.another = some_same at_first p.another p.partner_opened in
+    let clash : false ≡ true = ap (λ o. are_paired o at_first) one ∙ ap (λ o. are_paired p.one o) another ∙ p.paired in
+    cc
+
+pub ruleset candidates = (is_run, are_fresh, second, not_first)

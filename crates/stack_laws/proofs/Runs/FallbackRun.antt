@@ -1,0 +1,31 @@
+-- The run of a listener that falls back is a run.
+use Rattle.std.proofs.Common.{refl}
+use Rattle.lan_history.specs.Moves.{IsRun, run}
+use Rattle.lan_history.specs.Parties.Socket.{Tcp}
+use Rattle.lan_history.specs.Safe.{IsFreshNet}
+use Rattle.lan_history.proofs.Extended.{IsRun-append}
+use Rattle.stack_laws.specs.Worlds.Fallback.{hosts, calls, falls, fell, again, steps}
+use Rattle.stack_laws.specs.Worlds.Hosts.{no_names, unbound}
+use Rattle.stack_laws.specs.Worlds.Streams.{fresh}
+use Rattle.stack_laws.proofs.Runs.Fresh.{fresh_one, fresh_tcp}
+
+pub are_fresh : IsFreshNet unbound hosts
+are_fresh = record { a = fresh_one (Tcp fresh) fresh_tcp; b = fresh_one (Tcp fresh) fresh_tcp; history = refl }
+
+pub calls_run : IsRun no_names hosts calls
+calls_run = (
+  (refl, refl, refl, (refl, refl, refl)),
+  ((refl, refl, refl, (refl, refl, refl)), (refl, ((refl, refl, (0, refl)), tt))),
+)
+
+falls_run : IsRun no_names (run hosts calls) falls
+falls_run = (refl, ((refl, refl, (1, refl)), tt))
+
+pub fell_run : IsRun no_names hosts fell
+fell_run = IsRun-append no_names hosts calls falls calls_run falls_run
+
+again_run : IsRun no_names (run hosts fell) again
+again_run = ((refl, refl, (0, refl)), tt)
+
+pub is_run : IsRun no_names hosts steps
+is_run = IsRun-append no_names hosts fell again fell_run again_run

@@ -1,0 +1,24 @@
+-- The run of a socket that is refused is a run.
+use Rattle.std.proofs.Common.{ℕ, refl}
+use Rattle.std.proofs.lemmas.Option.{none-some}
+use Rattle.lan_history.specs.declared.event.Side.TheVariants.{A}
+use Rattle.lan_history.specs.Partners.{ArePartners}
+use Rattle.lan_history.specs.Moves.{IsRun, run}
+use Rattle.lan_history.specs.Parties.Socket.{Tcp}
+use Rattle.lan_history.specs.Safe.{IsFreshNet}
+use Rattle.stack_laws.specs.Worlds.Hosts.{no_names, unbound}
+use Rattle.stack_laws.specs.Worlds.Lone.{hosts, steps}
+use Rattle.stack_laws.specs.Worlds.Streams.{fresh}
+use Rattle.stack_laws.proofs.Runs.Fresh.{fresh_one, fresh_tcp}
+
+pub are_fresh : IsFreshNet unbound hosts
+are_fresh = record { a = fresh_one (Tcp fresh) fresh_tcp; b = fresh_one (Tcp fresh) fresh_tcp; history = refl }
+
+pub is_run : IsRun no_names hosts steps
+is_run = (
+  (refl, refl, refl, (refl, refl, refl)),
+  (refl, (refl, ((refl, refl, (0, refl)), ((refl, refl, refl, (refl, refl, refl)), tt)))),
+)
+
+pub alone : (j : ℕ) → ¬ (ArePartners (run hosts steps).history A 0 j)
+alone j p = none-some p.another p.partner_opened

@@ -1,0 +1,80 @@
+-- The opening of a connection is a run: its pieces, joined.
+use Rattle.std.proofs.Common.{◌≡◌, List, [], ◌∷◌, ◌++◌, slice_get, Some, refl, sym, ap, ◌∙◌, subst}
+use Rattle.lan_history.specs.Call.SocketCall.{Listen, Connect}
+use Rattle.lan_history.specs.Host.{made_of}
+use Rattle.lan_history.specs.Moves.{IsRun, run}
+use Rattle.lan_history.specs.Parties.{party}
+use Rattle.lan_history.specs.Parties.Socket.{Tcp}
+use Rattle.lan_history.specs.Safe.{IsFreshNet}
+use Rattle.lan_history.specs.declared.event.Side.TheVariants.{A, B}
+use Rattle.stack_laws.specs.Worlds.Opening.{opening, opened}
+use Rattle.stack_laws.specs.Worlds.Hosts.{endpoint, no_names, unbound}
+use Rattle.stack_laws.specs.Worlds.Played.{Doing, Play, start, played, steps_of, segment_at}
+use Rattle.stack_laws.specs.Worlds.Played.Doing.{Calls, Asks, Comes}
+use Rattle.stack_laws.specs.Worlds.Streams.{TcpSegment, fresh}
+use Rattle.stack_laws.proofs.Runs.Fresh.{fresh_one, fresh_tcp}
+use Rattle.stack_laws.proofs.Runs.Playing.{net_played, run_on}
+use Rattle.stack_laws.proofs.Runs.Worlds.{ack}
+
+pub are_fresh : IsFreshNet unbound start.net
+are_fresh = record { a = fresh_one (Tcp fresh) fresh_tcp; b = fresh_one (Tcp fresh) fresh_tcp; history = refl }
+
+-- the calls, and the SYN that comes
+abbrev asking : List Doing
+asking = Calls B (Listen 80) ∷ Calls A (Connect (endpoint B 80) 49_500) ∷ Asks A ∷ Comes B 0 ∷ []
+
+abbrev asked : Play
+asked = played start asking
+
+-- the SYN with its acknowledgement
+abbrev answering : List Doing
+answering = Asks B ∷ Comes A 0 ∷ []
+
+abbrev answered : Play
+answered = played asked answering
+
+-- the acknowledgement
+abbrev sending : List Doing
+sending = Asks A ∷ []
+
+abbrev sent : Play
+sent = played answered sending
+
+abbrev coming : List Doing
+coming = Comes B 1 ∷ []
+
+asking_run : IsRun no_names start.net (steps_of start asking)
+asking_run = (
+  (refl, refl, refl, (refl, refl, refl)),
+  ((refl, refl, refl, (refl, refl, refl)), (refl, ((refl, refl, (0, refl)), tt))),
+)
+
+answering_run : IsRun no_names asked.net (steps_of asked answering)
+answering_run = (refl, ((refl, refl, (0, refl)), tt))
+
+sending_run : IsRun no_names answered.net (steps_of answered sending)
+sending_run = (refl, tt)
+
+there : slice_get (party sent.net A).segments 1 ≡ Some (made_of ack [])
+there = refl
+
+named : segment_at sent A 1 ≡ (ack, [])
+named = refl
+
+was_sent : slice_get (party sent.net A).segments 1 ≡ Some (made_of (segment_at sent A 1).0 (segment_at sent A 1).1)
+was_sent = there ∙ sym (ap (λ (x : TcpSegment). Some (made_of x.0 x.1)) named)
+
+coming_run : IsRun no_names sent.net (steps_of sent coming)
+coming_run = ((refl, refl, (1, was_sent)), tt)
+
+joined : asking ++ (answering ++ (sending ++ coming)) ≡ opening
+joined = refl
+
+pub opening_run : IsRun no_names start.net (steps_of start opening)
+opening_run =
+    subst (λ (doings : List Doing). IsRun no_names start.net (steps_of start doings)) joined
+    (run_on no_names start asking (answering ++ (sending ++ coming)) asking_run
+    (run_on no_names asked answering (sending ++ coming) answering_run (run_on no_names answered sending coming sending_run coming_run)))
+
+pub leads : run start.net (steps_of start opening) ≡ opened.net
+leads = net_played start opening

@@ -1,0 +1,35 @@
+-- What two hosts do one after the other is a run, where each piece of it is.
+use Rattle.std.proofs.Common.{◌≡◌, ℕ, Bool, List, [], ◌∷◌, ◌++◌, refl, sym, ap, ◌∙◌, subst}
+use Rattle.lan_history.specs.declared.event.Side.TheVariants.{A, B}
+use Rattle.lan_history.specs.Moves.{Step, after, IsRun, run}
+use Rattle.lan_history.specs.Parties.{Net}
+use Rattle.lan_history.proofs.Extended.{IsRun-append}
+use Rattle.stack_laws.specs.Worlds.Played.{Doing, Play, step_of, done, played, steps_of}
+use Rattle.stack_laws.specs.Worlds.Played.Doing.{Calls, Asks, Comes}
+
+net_done : (p : Play) (doing : Doing) → after p.net (step_of p doing) ≡ (done p doing).net
+net_done p (Calls side call) = refl
+net_done p (Asks A) = refl
+net_done p (Asks B) = refl
+net_done p (Comes side k) = refl
+
+pub net_played : (p : Play) (doings : List Doing) → run p.net (steps_of p doings) ≡ (played p doings).net
+net_played p [] = refl
+net_played p (doing ∷ doings) =
+    ap (λ (net : Net). run net (steps_of (done p doing) doings)) (net_done p doing) ∙ net_played (done p doing) doings
+
+steps_append : (p : Play) (doings more : List Doing) → steps_of p (doings ++ more) ≡ steps_of p doings ++ steps_of (played p doings) more
+steps_append p [] more = refl
+steps_append p (doing ∷ doings) more = ap (λ (steps : List Step). step_of p doing ∷ steps) (steps_append (done p doing) doings more)
+
+pub run_on :
+    (names : List ℕ → Bool) (p : Play) (doings more : List Doing) → IsRun names p.net (steps_of p doings)
+    → IsRun names (played p doings).net (steps_of (played p doings) more) → IsRun names p.net (steps_of p (doings ++ more))
+run_on names p doings more one another =
+    subst (λ (steps : List Step). IsRun names p.net steps) (sym (steps_append p doings more))
+    (IsRun-append names p.net (steps_of p doings) (steps_of (played p doings) more) one
+    (subst (λ (net : Net). IsRun names net (steps_of (played p doings) more)) (sym (net_played p doings)) another))
+
+pub played_append : (p : Play) (doings more : List Doing) → played p (doings ++ more) ≡ played (played p doings) more
+played_append p [] more = refl
+played_append p (doing ∷ doings) more = played_append (done p doing) doings more

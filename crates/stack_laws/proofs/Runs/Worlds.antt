@@ -1,0 +1,247 @@
+-- A connection that is open, one that told three bytes, and one that is half closed, in full: what is proved behind them needn't compute
+-- what led to them.
+use Rattle.std.proofs.Common.{◌≡◌, ℕ, pos, true, false, List, [], ◌∷◌, replicate, Option, Some, None, refl, ap, ◌∙◌}
+use Rattle.ip_wire.specs.Options.{no_options}
+use Rattle.ip_wire.specs.SeqNumber.{SeqNumber}
+use Rattle.ip_wire.specs.TcpControl.{TcpControl}
+use Rattle.ip_wire.specs.TcpControl.TheVariants as Bits
+use Rattle.ip_wire.specs.TcpHeader.{TcpHeader}
+use Rattle.ip_wire.specs.TcpOptions.{TcpOptions}
+use Rattle.net_base.specs.Ring.{ring}
+use Rattle.lan_history.specs.Host.{Made, made_of}
+use Rattle.lan_history.specs.ReceiveMap.{space}
+use Rattle.tcp_model.specs.AddressPair.TheVariants as Pair
+use Rattle.tcp_model.specs.Blocks.{default_settings, fresh_loss, fresh_stamps, fresh_timers}
+use Rattle.tcp_model.specs.declared.block.Block.{Block}
+use Rattle.tcp_model.specs.declared.block.Names.{Names}
+use Rattle.tcp_model.specs.State.{State}
+use Rattle.tcp_model.specs.State.TheVariants as In
+use Rattle.tcp_model.specs.Value.{TcpValue, received_of}
+use Rattle.lan_history.specs.declared.answer.Answer.{Answer}
+use Rattle.lan_history.specs.declared.answer.Answer.TheVariants as To
+use Rattle.lan_history.specs.declared.answer.Fault.TheVariants as Fault
+use Rattle.lan_history.specs.declared.event.Side.{Side}
+use Rattle.lan_history.specs.declared.event.Side.TheVariants.{A, B}
+use Rattle.lan_history.specs.Call as Call
+use Rattle.lan_history.specs.Call.{SocketCall}
+use Rattle.lan_history.specs.History.{Entry}
+use Rattle.lan_history.specs.Calls.{did, at_port}
+use Rattle.lan_history.specs.Parties.{Party}
+use Rattle.lan_history.specs.Parties.Socket.{Tcp}
+use Rattle.stack_laws.specs.Worlds.Connection as Connection
+use Rattle.stack_laws.specs.Worlds.Hosts.{address, endpoint, entry_of, text}
+use Rattle.stack_laws.specs.Worlds.Opening as Opening
+use Rattle.stack_laws.specs.Worlds.Played.{Play, played}
+use Rattle.stack_laws.specs.Worlds.Streams.{fresh}
+
+-- SOCKETS
+
+abbrev number : ℕ → SeqNumber
+number n = record { 0 = n }
+
+abbrev names : Side → Names
+names A = record {
+  listen = at_port 0;
+  pair = Some (record { addresses = Pair.Ipv4 (address A) (address B); local_port = 49_500; remote_port = 80 });
+}
+names B = record {
+  listen = at_port 80;
+  pair = Some (record { addresses = Pair.Ipv4 (address B) (address A); local_port = 80; remote_port = 49_500 });
+}
+
+-- the number of the segment that set the window last: B's SYN, and A's acknowledgement of it
+abbrev window_seq : Side → SeqNumber
+window_seq A = number 3
+window_seq B = number 4
+
+-- nothing is under way
+abbrev at_rest : Side → Block
+at_rest side = record {
+  state = In.Established;
+  names = names side;
+  sender = record {
+    una = number 4;
+    past_iss = 1;
+    syn_unacked = false;
+    in_flight = 0;
+    top = 0;
+    duplicates = 0;
+    sacked = 0;
+    resend = false;
+    recover = 0;
+    partial = false;
+    syn_lost = false;
+    timeouts = 0;
+    unanswered = 0;
+    reset_due = false;
+  };
+  receiver = record { next = number 4; took_syn = true; took_fin = false; edge = 8; mss = 1460; last_ack = number 4 };
+  peer = record {
+    window = 8;
+    largest_window = 8;
+    window_seq = window_seq side;
+    window_ack = number 4;
+    mss = 1460;
+    scale = Some 0;
+    sack = true;
+    timestamps = false;
+    recent = 0;
+  };
+  stamps = record fresh_stamps { believed_until = Some (pos 2_073_600_000_000) };
+  timers = fresh_timers;
+  round_trip = record { estimate = Some (record { smoothed = 0; variation = 0; shortest = 0 }); timeout = 1_000_000; least = 1_000_000; sample = None };
+  reno = record { mss = 1460; cwnd = 14_600; ssthresh = 1_073_741_824; recovers = false; timed_out = false; cubic = None };
+  loss = fresh_loss;
+  validation = record { flight = 0; since = Some (pos 0) };
+  settings = default_settings;
+}
+
+abbrev idle : Side → TcpValue
+idle side = record { block = at_rest side; received = received_of [] (space 8) 0; queued = ring [] (replicate 8 0) 0; offered = None }
+
+-- A sent abc
+abbrev telling : TcpValue
+telling = record {
+  block = record (at_rest A) {
+    sender = record (at_rest A).sender { in_flight = 3; top = 3 };
+    timers = record fresh_timers { retransmit_at = Some (pos 1_000_000) };
+    round_trip = record (at_rest A).round_trip { sample = Some (record { ends = 3; since = pos 0 }) };
+    validation = record { flight = 3; since = Some (pos 0) };
+  };
+  received = received_of [] (space 8) 0;
+  queued = ring text (replicate 5 0) 0;
+  offered = None;
+}
+
+-- B took it, answered its second coming, and read it
+abbrev reading : TcpValue
+reading = record {
+  block = record (at_rest B) {
+    receiver = record (at_rest B).receiver { next = number 7; edge = 5; last_ack = number 7 };
+    timers = fresh_timers;
+  };
+  received = received_of [] (space 8) 3;
+  queued = ring [] (replicate 8 0) 0;
+  offered = None;
+}
+
+-- A sent its FIN
+abbrev finishing : TcpValue
+finishing = record telling {
+  block = record telling.block {
+    state = In.FinWait1;
+    sender = record telling.block.sender { in_flight = 4; top = 4 };
+    validation = record { flight = 4; since = Some (pos 0) };
+  };
+}
+
+-- B took it, whose acknowledgement is due at once, and read the end
+abbrev told_the_end : TcpValue
+told_the_end = record reading {
+  block = record reading.block {
+    state = In.CloseWait;
+    receiver = record reading.block.receiver { next = number 8; took_fin = true; edge = 4 };
+    peer = record reading.block.peer { window_seq = number 7 };
+    timers = record reading.block.timers { ack_at = Some (pos 0) };
+  };
+}
+
+-- SEGMENTS
+
+abbrev segment : ℕ → ℕ → TcpControl → ℕ → Option SeqNumber → TcpOptions → TcpHeader
+segment source destination control seq ack options = record {
+  src_port = source;
+  dst_port = destination;
+  control = control;
+  seq_number = number seq;
+  ack_number = ack;
+  window_len = 8;
+  options = options;
+}
+
+abbrev syn_options : TcpOptions
+syn_options = record no_options { max_seg_size = Some 1460; window_scale = Some 0; sack_permitted = true }
+
+abbrev syn : TcpHeader
+syn = segment 49_500 80 Bits.Syn 3 None syn_options
+
+abbrev syn_ack : TcpHeader
+syn_ack = segment 80 49_500 Bits.Syn 3 (Some (number 4)) syn_options
+
+abbrev pub ack : TcpHeader
+ack = segment 49_500 80 Bits.None 4 (Some (number 4)) no_options
+
+abbrev push : TcpHeader
+push = segment 49_500 80 Bits.Psh 4 (Some (number 4)) no_options
+
+abbrev fin : TcpHeader
+fin = segment 49_500 80 Bits.Fin 7 (Some (number 4)) no_options
+
+-- what answers the second coming
+abbrev ack_again : TcpHeader
+ack_again = segment 80 49_500 Bits.None 4 (Some (number 7)) no_options
+
+-- WORLDS
+
+abbrev party_with : TcpValue → List Made → Party
+party_with v made = record { sockets = Some (Tcp v) ∷ []; segments = made; datagrams = [] }
+
+abbrev entry : Side → SocketCall → Answer → Entry
+entry side call answer = entry_of side 0 call (did answer fresh)
+
+abbrev close : Side → State → Entry
+close side state = entry_of side 0 Call.Close (record { answer = To.Done; found = Some state; socket = fresh })
+
+abbrev openings : List Entry
+openings = entry A (Call.Connect (endpoint B 80) 49_500) To.Done ∷ entry B (Call.Listen 80) To.Done ∷ []
+
+abbrev pub opened : Play
+opened = record {
+  net = record {
+    a = party_with (idle A) (made_of syn [] ∷ made_of ack [] ∷ []);
+    b = party_with (idle B) (made_of syn_ack [] ∷ []);
+    history = openings;
+  };
+  from_a = (syn, []) ∷ (ack, []) ∷ [];
+  from_b = (syn_ack, []) ∷ [];
+}
+
+abbrev readings : List Entry
+readings = entry B (Call.Recv 8) (To.Bytes text) ∷ entry A (Call.Send text) (To.Count 3) ∷ openings
+
+abbrev pub told : Play
+told = record {
+  net = record {
+    a = party_with telling (made_of syn [] ∷ made_of ack [] ∷ made_of push text ∷ []);
+    b = party_with reading (made_of syn_ack [] ∷ made_of ack_again [] ∷ []);
+    history = readings;
+  };
+  from_a = (syn, []) ∷ (ack, []) ∷ (push, text) ∷ [];
+  from_b = (syn_ack, []) ∷ [];
+}
+
+abbrev pub half_closed : Play
+half_closed = record {
+  net = record {
+    a = party_with finishing (made_of syn [] ∷ made_of ack [] ∷ made_of push text ∷ made_of fin [] ∷ []);
+    b = party_with told_the_end (made_of syn_ack [] ∷ made_of ack_again [] ∷ []);
+    history = entry B (Call.Recv 8) (To.Error Fault.Finished) ∷ close A In.Established ∷ readings;
+  };
+  from_a = (syn, []) ∷ (ack, []) ∷ (push, text) ∷ (fin, []) ∷ [];
+  from_b = (syn_ack, []) ∷ [];
+}
+
+pub opened_is : Opening.opened ≡ opened
+opened_is = refl
+
+pub opened_tells : played opened Connection.telling ≡ told
+opened_tells = refl
+
+pub told_is : Connection.told ≡ told
+told_is = ap (λ (p : Play). played p Connection.telling) opened_is ∙ opened_tells
+
+pub told_ends : played told Connection.ending ≡ half_closed
+told_ends = refl
+
+pub half_closed_is : Connection.half_closed ≡ half_closed
+half_closed_is = ap (λ (p : Play). played p Connection.ending) told_is ∙ told_ends

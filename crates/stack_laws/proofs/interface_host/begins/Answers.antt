@@ -1,0 +1,25 @@
+use Rattle.std.proofs.Common.{◌≡◌, pos, [], None, true, false, length, refl}
+use Rattle.interface.specs.Host.{HostValue}
+use Rattle.stack_laws.proofs.Begins.{made-has, refused-short, refused-long}
+use Rattle.stack_laws.proofs.interface_host.begins.Goals as goal
+
+pub returns : goal.returns
+returns g c =
+    let config = c.args.config.now in
+    let device = g.D.Device.described c.args.device.now in
+    let moment = c.args.now in
+    let result = c.new.result in
+    let made = c.new.ensures in
+    record {
+      addresses = made-has config device moment result (λ (h : HostValue). h.inner.addresses ≡ []) made refl;
+      any_ip = made-has config device moment result (λ (h : HostValue). h.inner.any_ip ≡ false) made refl;
+      routes = made-has config device moment result (λ (h : HostValue). h.inner.routes ≡ []) made refl;
+      neighbors = made-has config device moment result (λ (h : HostValue). h.inner.neighbors ≡
+          record { entries = []; silent = pos 0; searches = [] }) made refl;
+      fresh = made-has config device moment result (λ (h : HostValue). h.inner.fresh ≡ true) made refl;
+      left = made-has config device moment result (λ (h : HostValue). h.left ≡ None) made refl;
+      slots = made-has config device moment result (λ (h : HostValue). length h.slots ≡ 2) made refl;
+      timeout = made-has config device moment result (λ (h : HostValue). h.timeout ≡ 60000000) made refl;
+      short = refused-short config device moment result made;
+      long = refused-long config device moment result made;
+    }

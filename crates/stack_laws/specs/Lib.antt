@@ -1,0 +1,3 @@
+pub mod PeerHost
+pub mod Progress
+pub mod Worlds

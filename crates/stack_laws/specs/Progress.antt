@@ -1,0 +1,7 @@
+-- That a host goes on.
+pub mod Patience
+pub mod Moves
+pub mod OfUse
+pub mod Queued
+pub mod Excluded
+pub mod Reached

@@ -1,0 +1,36 @@
+-- A socket that connects where nobody listens, and is refused.
+use Rattle.std.specs.Prelude.{List, [], ◌∷◌, Some}
+use Rattle.tcp_model.specs.Value.{TcpValue}
+use Rattle.lan_history.specs.declared.event.Side.TheVariants.{A, B}
+use Rattle.lan_history.specs.Call as Call
+use Rattle.lan_history.specs.Call.{SocketCall}
+use Rattle.lan_history.specs.Parties.{Net}
+use Rattle.lan_history.specs.Parties.Socket.{Tcp}
+use Rattle.lan_history.specs.Moves.{Step}
+use Rattle.stack_laws.specs.Worlds.Hosts.{endpoint, host}
+use Rattle.stack_laws.specs.Worlds.Streams.{fresh, invokes, called, asks, asked, TcpSegment, sent_by, reset, number_after, comes, reached, resets}
+
+abbrev pub hosts : Net
+hosts = record { a = host (Some (Tcp fresh) ∷ []); b = host (Some (Tcp fresh) ∷ []); history = [] }
+
+abbrev pub call : SocketCall
+call = Call.Connect (endpoint B 81) 49_500
+
+abbrev pub caller : TcpValue
+caller = called A fresh call
+
+-- it acknowledges the SYN (RFC 9293, 3.10.7.1)
+abbrev pub refusal : TcpSegment
+refusal = reset 81 49_500 0 (Some (number_after (sent_by A caller)))
+
+abbrev pub waits : TcpValue
+waits = asked A caller
+
+abbrev pub steps : List Step
+steps =
+    invokes A 0 fresh call
+    ∷ asks A 0 caller
+    ∷ resets B refusal
+    ∷ comes A 0 waits refusal
+    ∷ invokes A 0 (reached A waits refusal) (Call.Recv 8)
+    ∷ []

@@ -1,0 +1,8 @@
+//! A host goes on: no poll is for nothing, and what is queued goes.
+
+pub mod arrivals;
+pub mod datagrams;
+pub mod excluded;
+pub mod pieces;
+pub mod polls;
+pub mod rest;

@@ -1,0 +1,170 @@
+//! What the headline excludes: worlds of which no field of what is promised of every world may hold. Each law is of a field by itself;
+//! `excluded` has those of the sockets' field.
+ghost use Rattle.std.specs.Prelude.{◌≡◌, ◌≢◌, ◌+◌, ◌≤◌, ◌<◌, ℕ, ℤ, pos, List, [], ◌∷◌, length, slice_get, Option, Some, None};
+ghost use Rattle.lan_world.specs.FragKey.{FragKey};
+ghost use Rattle.lan_world.specs.IpProtocol.TheVariants as Protocol;
+ghost use Rattle.net_base.specs.Medium.{Medium};
+ghost use Rattle.lan_world.specs.Address.{IsEthernetAddress, IsIpv6Address};
+ghost use Rattle.lan_world.specs.EthernetAddress.{EthernetAddress};
+ghost use Rattle.lan_world.specs.HardwareAddress.TheVariants as Hardware;
+ghost use Rattle.lan_world.specs.Ipv4Address.{Ipv4Address};
+ghost use Rattle.lan_world.specs.Ipv6Address.{Ipv6Address};
+ghost use Rattle.lan_world.specs.Question.{Question};
+ghost use Rattle.lan_world.specs.Question.TheVariants as Query;
+ghost use Rattle.lan_hosts.specs.Departure.{Asks, Tells, Whole, arp_request, solicitation, solicited_station};
+ghost use Rattle.lan_hosts.specs.Arrives.{Arrived, ReplyValue};
+ghost use Rattle.lan_hosts.specs.Delivered.{Places};
+ghost use Rattle.lan_world.specs.Kept.{with_ports};
+ghost use Rattle.lan_hosts.specs.Reassembled.{Slots};
+ghost use Rattle.lan_hosts.specs.Inner.{InnerValue};
+ghost use Rattle.lan_hosts.specs.History.{Entry};
+ghost use Rattle.lan_hosts.specs.Kinds.{other};
+ghost use Rattle.lan_hosts.specs.Answer.TheVariants as To;
+ghost use Rattle.lan_hosts.specs.Side.{Side};
+ghost use Rattle.lan_hosts.specs.Side.TheVariants.{A};
+ghost use Rattle.lan_hosts.specs.Origins.{medium_of};
+ghost use Rattle.lan_hosts.specs.Runs.{Starts, WorldValue, WorldRun, start, unused_both};
+ghost use Rattle.lan_hosts.specs.Station.{Stations, station};
+ghost use Rattle.lan_world.specs.Hosts.Asked.{requests, AreApart};
+ghost use Rattle.lan_world.specs.Hosts.Damage.{DamageIsHarmless};
+ghost use Rattle.lan_world.specs.Hosts.HostRuns.{IsHostRun, frames_sent};
+ghost use Rattle.lan_world.specs.Hosts.Machine.{Turn};
+ghost use Rattle.lan_world.specs.Hosts.Quiet.{PollsWereQuiet};
+ghost use Rattle.lan_world.specs.Hosts.Wire.{FramesAreApart, HasPorts};
+ghost use Rattle.lan_world.specs.Moves.Raws.{OfEach, HasNoUdp};
+ghost use Rattle.lan_world.specs.Rebuilt.{Rebuilds, RebuiltWasMade, protocol_in, room_before};
+ghost use Rattle.lan_world.specs.Said.{ByteAt, EndsAt, IsSaid, RebuiltWasSent};
+ghost use Rattle.stack_laws.specs.Worlds.BadWorlds.{after, Delivers, Damages, IsAsked, GetsRoom, sent_by_a, asked, polled, asking, leaving, AreOfOther, IsTaken};
+
+/// `run`: a host sent a frame though nothing happened; a frame was handed over that wasn't sent yet; a question when to poll was answered as
+/// a call is.
+pub fn bad_runs_are_excluded()
+    ensures sent_unbidden { (starts : Starts) (hosts : Stations) (frame : List ℕ) (more : List (List ℕ))
+        → hosts.a.link.sent ≡ frame ∷ more
+        → WorldRun [] (unused_both starts) hosts → ⊥ }
+    ensures not_sent_yet { (starts : Starts) (hosts : Stations) (past : List Entry) (e : Entry) (k : ℕ) (padding : List ℕ)
+        → Delivers k padding e
+        → e.before.sent_a ≤ k
+        → WorldRun (e ∷ past) (unused_both starts) hosts → ⊥ }
+    ensures other_answer { (starts : Starts) (hosts : Stations) (past : List Entry) (e : Entry) (moment : ℤ)
+        → IsAsked moment e
+        → e.answer ≡ To.Done
+        → WorldRun (e ∷ past) (unused_both starts) hosts → ⊥ }
+{}
+
+/// `run_a` and `run_b`: a host sent a frame though it did nothing, or though it was only given room; a frame waits for it that the link
+/// didn't hand over; it isn't what it was, though it did nothing.
+pub fn bad_hosts_are_excluded()
+    ensures sent_unbidden { (starts : Starts) (hosts : Stations) (frame : List ℕ) (more : List (List ℕ))
+        → hosts.a.link.sent ≡ frame ∷ more
+        → IsHostRun (after starts [] hosts) A → ⊥ }
+    ensures sent_without_a_poll { (starts : Starts) (hosts : Stations) (e : Entry) (room : ℕ) (frame : List ℕ) (more : List (List ℕ))
+        → GetsRoom room e
+        → e.before.sent_a ≡ 0
+        → hosts.a.link.sent ≡ frame ∷ more
+        → IsHostRun (after starts (e ∷ []) hosts) A → ⊥ }
+    ensures not_handed_over { (starts : Starts) (hosts : Stations) (frame : List ℕ) (more : List (List ℕ))
+        → hosts.a.link.waiting ≡ frame ∷ more
+        → IsHostRun (after starts [] hosts) A → ⊥ }
+    ensures other_host { (starts : Starts) (hosts : Stations)
+        → hosts.a.host.timeout ≢ starts.a.host.timeout
+        → IsHostRun (after starts [] hosts) A → ⊥ }
+{}
+
+/// `quiet`: a host was asked when to poll, was polled undisturbed before that moment, and sent a frame; it answered that it never wants
+/// to be polled, and sent one.
+pub fn bad_polls_are_excluded()
+    ensures before_the_moment { (starts : Starts)
+        → starts.a.host.inner.routes ≡ []
+        → PollsWereQuiet starts (polled ∷ asked (Some (pos 10)) ∷ []) (sent_by_a 1) → ⊥ }
+    ensures never { (starts : Starts)
+        → starts.a.host.inner.routes ≡ []
+        → PollsWereQuiet starts (polled ∷ asked None ∷ []) (sent_by_a 1) → ⊥ }
+{}
+
+/// `asks_a` and `asks_b`: a host asked for a neighbour twice at one moment, in one turn or in two; and again a microsecond before the
+/// second was over.
+pub fn bad_questions_are_excluded()
+    ensures in_one_turn { (q r : Question) → AreApart (requests (asking (pos 0) (q ∷ r ∷ []) ∷ [])) → ⊥ }
+    ensures in_two_turns { (q r : Question) → AreApart (requests (asking (pos 0) (q ∷ []) ∷ asking (pos 0) (r ∷ []) ∷ [])) → ⊥ }
+    ensures too_early { (q r : Question) → AreApart (requests (asking (pos 999_999) (q ∷ []) ∷ asking (pos 0) (r ∷ []) ∷ [])) → ⊥ }
+{}
+
+/// `frames_a` and `frames_b`: a host asked for a neighbour, and half a second later the same frame left under another name, which the labels
+/// let pass: an ARP request as an answer in ARP, or a neighbour solicitation as a packet, of a host with TCP and UDP sockets alone.
+pub fn bad_frames_are_excluded()
+    ensures told { (i : InnerValue) (places : Places) (own : EthernetAddress) (source target : Ipv4Address)
+        → IsEthernetAddress own
+        → FramesAreApart Medium.Ethernet places
+        (leaving (pos 500_000) i (Tells (arp_request own source target)) ∷ leaving (pos 0) i (Asks (Query.Arp own source target)) ∷ []) → ⊥ }
+    ensures whole { (i : InnerValue) (places : Places) (own : EthernetAddress) (source target : Ipv6Address)
+        → i.hardware ≡ Hardware.Ethernet own
+        → IsEthernetAddress own
+        → IsIpv6Address source
+        → IsIpv6Address target
+        → OfEach HasPorts places
+        → FramesAreApart Medium.Ethernet places
+        (leaving (pos 500_000) i (Whole (Hardware.Ethernet (solicited_station target)) (solicitation own source target))
+        ∷ leaving (pos 0) i (Asks (Query.Neighbor own source target)) ∷ []) → ⊥ }
+    ensures labels { (i : InnerValue) (own : EthernetAddress) (source target : Ipv4Address)
+        → AreApart (requests
+        (leaving (pos 500_000) i (Tells (arp_request own source target)) ∷ leaving (pos 0) i (Asks (Query.Arp own source target)) ∷ [])) }
+{}
+
+/// `rebuilt`: a host rebuilds a datagram of either family of which the other host sent nothing; or only frames of another identification; or another byte at
+/// a place; or one more byte; or an end at another place.
+pub fn bad_payloads_are_excluded()
+    ensures never_sent { (w : WorldValue) (turns : Side → List Turn) (side : Side) (key : FragKey) (bytes : List ℕ)
+        → Rebuilds (station w.hosts side) key bytes
+        → frames_sent (turns (other side)) ≡ []
+        → RebuiltWasSent w turns → ⊥ }
+    ensures other_identification { (w : WorldValue) (turns : Side → List Turn) (side : Side) (key : FragKey) (bytes : List ℕ)
+        → Rebuilds (station w.hosts side) key bytes
+        → AreOfOther (medium_of (station w.hosts (other side))) (frames_sent (turns (other side))) key
+        → RebuiltWasSent w turns → ⊥ }
+    ensures other_byte { (w : WorldValue) (turns : Side → List Turn) (side : Side) (key : FragKey) (bytes : List ℕ) (place byte : ℕ)
+        → Rebuilds (station w.hosts side) key bytes
+        → IsSaid (medium_of (station w.hosts (other side))) (frames_sent (turns (other side))) key (ByteAt place byte)
+        → slice_get bytes place ≢ Some byte
+        → RebuiltWasSent w turns → ⊥ }
+    ensures other_end { (w : WorldValue) (turns : Side → List Turn) (side : Side) (key : FragKey) (bytes : List ℕ) (place : ℕ)
+        → Rebuilds (station w.hosts side) key bytes
+        → IsSaid (medium_of (station w.hosts (other side))) (frames_sent (turns (other side))) key (EndsAt place)
+        → place ≢ length bytes
+        → RebuiltWasSent w turns → ⊥ }
+{}
+
+/// `made`: a host rebuilds a UDP datagram though the other host never had a UDP socket; or a payload too short for a datagram, or of TCP too
+/// short for a segment, which no socket makes, whatever bytes a raw socket queued. In IPv6 eight bytes of a fragment header stand before it.
+pub fn bad_makers_are_excluded()
+    ensures without_a_socket { (w : WorldValue) (side : Side) (key : FragKey) (bytes : List ℕ)
+        → Rebuilds (station w.hosts side) key bytes
+        → protocol_in key bytes ≡ Protocol.Udp
+        → OfEach HasNoUdp (start w.starts (other side)).places
+        → RebuiltWasMade w → ⊥ }
+    ensures too_short { (w : WorldValue) (side : Side) (key : FragKey) (bytes : List ℕ)
+        → Rebuilds (station w.hosts side) key bytes
+        → length bytes < room_before key + 8
+        → RebuiltWasMade w → ⊥ }
+    ensures no_segment { (w : WorldValue) (side : Side) (key : FragKey) (bytes : List ℕ)
+        → Rebuilds (station w.hosts side) key bytes
+        → protocol_in key bytes ≡ Protocol.Tcp
+        → length bytes < room_before key + 20
+        → RebuiltWasMade w → ⊥ }
+{}
+
+/// `damage`: a frame that the link damaged is answered by a host that takes it, or touches a TCP or UDP socket there.
+pub fn bad_damage_is_excluded()
+    ensures answered { (hosts : Stations) (past : List Entry) (e : Entry) (k place word : ℕ) (padding : List ℕ) (i : InnerValue) (timeout : ℕ)
+        (slots after : Slots) (places : Places) (a : Arrived) (reply : ReplyValue)
+        → Damages k place word padding e
+        → IsTaken hosts k place word padding i timeout slots after places a
+        → a.reply ≡ Some reply
+        → DamageIsHarmless hosts (e ∷ past) → ⊥ }
+    ensures heard { (hosts : Stations) (past : List Entry) (e : Entry) (k place word : ℕ) (padding : List ℕ) (i : InnerValue) (timeout : ℕ)
+        (slots after : Slots) (places : Places) (a : Arrived)
+        → Damages k place word padding e
+        → IsTaken hosts k place word padding i timeout slots after places a
+        → with_ports a.places ≢ with_ports places
+        → DamageIsHarmless hosts (e ∷ past) → ⊥ }
+{}

@@ -1,4 +1,0 @@
-pub mod Pinned
-pub mod Ends
-pub mod Steps
-pub mod Runs

@@ -1,5 +1,0 @@
-use Rattle.tcp_peer_tie.proofs.Runs.{runs_safe}
-use Rattle.tcp_peer_tie.proofs.sockets_are_safe_beside_an_honest_peer.Goals as goal
-
-pub returns : goal.returns
-returns c = record { safe = runs_safe }

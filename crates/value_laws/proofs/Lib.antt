@@ -1,6 +1,0 @@
-mod Equal
-pub mod Told
-pub mod InterfaceEqual
-pub mod Begins
-pub mod Drains
-pub mod TurnPackets
