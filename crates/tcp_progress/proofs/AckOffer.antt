@@ -55,18 +55,19 @@ module _ (cx : ContextValue) (v : TcpValue) (timeout : v.block.settings.timeout 
       ap (λ (t : Option ℕ). is_due cx.moment (if is_some t && (not (is_closed v.block.state || is_time_wait v.block.state)
       && waits_for_remote v.block (queued_in v)) then end_by v.block.timers.timeout_since t else None)) timeout
 
-  -- in SYN-RECEIVED, before the first timeout
-  pub answering_goes_on : v.block.state ≡ In.SynReceived → reaches v.block.settings.opening_retries 1 ≡ false → v.block.sender.timeouts ≡ 0 → GoesOn cx v
-  answering_goes_on at tries none = record {
+  -- in SYN-RECEIVED, where the next timeout isn't the last
+  pub answering_goes_on :
+      v.block.state ≡ In.SynReceived → reaches v.block.settings.opening_retries (v.block.sender.timeouts + 1) ≡ false → GoesOn cx v
+  answering_goes_on at tries = record {
     lasts = ap (λ (state : State). is_due cx.moment (if is_time_wait state then v.block.timers.time_wait_ends else None)) at;
     in_time = none_due;
     alive = ap is_closed at;
     tries =
         neither (is_due cx.moment v.block.timers.retransmit_at && reaches (retries_of v.block) (v.block.sender.timeouts + 1)) _
         (not_second (is_due cx.moment v.block.timers.retransmit_at) (reaches (retries_of v.block) (v.block.sender.timeouts + 1))
-        (ap (λ (n : ℕ). reaches (retries_of v.block) (n + 1)) none
-        ∙ (ap (λ (state : State). reaches (if is_opening state || is_answering state then v.block.settings.opening_retries else v.block.settings.retries) 1) at
-        ∙ tries)))
+        (ap (λ (state : State). reaches (if is_opening state || is_answering state then v.block.settings.opening_retries else v.block.settings.retries)
+        (v.block.sender.timeouts + 1)) at
+        ∙ tries))
         (ap (λ (t : Bool). t && (is_due cx.moment v.block.timers.counts_from && reaches v.block.settings.retries v.block.sender.unanswered))
         (ap (λ (state : State). is_due cx.moment (if sends_text state && (is_window_small v.block (queued_in v)
         && (v.block.sender.in_flight == 0)) then v.block.timers.probe_at else None)

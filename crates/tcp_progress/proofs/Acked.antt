@@ -1,6 +1,6 @@
 -- An acknowledgement that comes raises SND.UNA to its number, and leaves nothing unanswered.
 use Rattle.std.proofs.Common.{◌≡◌, inl, inr, ℕ, ◌+◌, ◌-◌, ◌%◌, ◌^◌, ◌<◌, ◌≤◌, ◌==◌, ◌&&◌, ◌||◌, nat_le, nat_lt, not, ℤ, Bool, true, false, if◌then◌else◌, List}
-use Rattle.std.proofs.Common.{length, drop, Option, Some, None, refl, sym, ap, ◌∙◌, subst, arith}
+use Rattle.std.proofs.Common.{length, drop, Option, Some, None, is_some, refl, sym, ap, ◌∙◌, subst, arith}
 use Rattle.std.proofs.lemmas.Bool.{cond_both, le-ltb, lt-ltb, lt-leb}
 use Rattle.ip_wire.specs.IpRepr.{IpRepr}
 use Rattle.ip_wire.specs.Seq.{distance_of}
@@ -30,7 +30,7 @@ use Rattle.tcp_rules.proofs.ArrivalCases.{acked_cases}
 use Rattle.tcp_rules.proofs.OrderSteps.{clash}
 use Rattle.tcp_rules.specs.Events.{is_past}
 use Rattle.tcp_progress.specs.Arrivals.{is_synchronized, Counts, IsNearWindow}
-use Rattle.tcp_pair_model.specs.Timestamps.{uses_stamps, is_believed, comes_older}
+use Rattle.tcp_pair_model.specs.Timestamps.{is_believed, comes_older}
 use Rattle.tcp_pair_model.specs.Arrival.{draws_first, echo_heard}
 
 -- WHICH CHECK IT PASSES
@@ -94,10 +94,12 @@ reaches In.SynSent cx u ip header bytes e = clash (sym e)
 reaches other cx u ip header bytes e = refl
 
 -- its timestamp isn't older, and it is no SYN
-accepted : (uses believed older syn : Bool) → older ≡ false → syn ≡ false → ((uses && (believed && older)) || syn) ≡ false
-accepted true true older syn e f = ap (λ (t : Bool). t || syn) e ∙ f
-accepted true false older syn e f = f
-accepted false believed older syn e f = f
+accepted :
+    (has some believed older syn : Bool) → (has && older) ≡ false → syn ≡ false → (((has && some) && (believed && older)) || syn) ≡ false
+accepted true true true older syn e f = ap (λ (t : Bool). t || syn) e ∙ f
+accepted true true false older syn e f = f
+accepted true false believed older syn e f = f
+accepted false some believed older syn e f = f
 
 pub comes_to :
     (cx : ContextValue) (v : TcpValue) (ip : IpRepr) (header : TcpHeader) (bytes : List ℕ) (number : SeqNumber) → Counts v.block header number
@@ -112,7 +114,8 @@ comes_to cx v ip header bytes number c =
     header bytes) c.no_reset
     ∙ (if_not (draws_first v.block header cx.moment) (drawn cx (unoffered v) ip header)
     (checked (acknowledgement_check v.block header.ack_number) cx (unoffered v) ip header bytes)
-    (accepted (uses_stamps v.block) (is_believed v.block cx.moment) (comes_older header.options.timestamp v.block.peer.recent)
+    (accepted v.block.peer.timestamps (is_some v.block.stamps.generator) (is_believed v.block cx.moment)
+    (comes_older header.options.timestamp v.block.peer.recent)
     (challenges_syn v.block header) c.fresh
     (and_not (is_syn header.control) (not (is_answering v.block.state)) c.no_syn))
     ∙ ap (λ (check : Check). checked check cx (unoffered v) ip header bytes) (passes v.block header number c))))

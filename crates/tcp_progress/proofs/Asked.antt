@@ -140,7 +140,7 @@ syn_stays b o queued = record {
   past_iss = refl;
   top = least b.sender.top (end_of (syn_went b o) o);
   next = refl;
-  recent = refl;
+  peer = refl;
 }
   where
     least : (a b : ℕ) → a ≤ max a b
@@ -282,7 +282,7 @@ module _ (cx : ContextValue) (v : TcpValue) (small : is_synchronized v.block.sta
         o = mine Kind.Syn pair header 0 0
 
     recorded_stays : (o : OpenOffer) → StaysBut (recorded b o (room_of v.received)) (recorded b o (room_of v.received))
-    recorded_stays o = record { state = refl; una = refl; syn_unacked = refl; past_iss = refl; top = same b.sender.top; next = refl; recent = refl }
+    recorded_stays o = record { state = refl; una = refl; syn_unacked = refl; past_iss = refl; top = same b.sender.top; next = refl; peer = refl }
 
     by_ack : (pair : EndpointPair) → After (offer_ack Kind.Ack cx x pair)
     by_ack pair =

@@ -1,5 +1,5 @@
 -- The steps of an exchange joined: what goes from SND.UNA on is new to the partner, or was taken, and then its answer raises SND.UNA.
-use Rattle.std.proofs.Common.{◌≡◌, ◌⊎◌, inl, inr, ℕ, ◌+◌, ◌-◌, ◌%◌, ◌^◌, ◌<◌, ◌≤◌, ◌==◌}
+use Rattle.std.proofs.Common.{◌≡◌, ◌⊎◌, inl, inr, ℕ, ◌+◌, ◌-◌, ◌%◌, ◌^◌, ◌<◌, ◌≤◌, ◌==◌, ◌&&◌}
 use Rattle.std.proofs.Common.{nat_lt, Bool, true, false, if◌then◌else◌, List, [], ◌∷◌, ◌++◌, length, slice_get, Option}
 use Rattle.std.proofs.Common.{Some, refl, sym, ap, ◌∙◌, subst, arith}
 use Rattle.std.proofs.lemmas.Bool.{eq-eqb, ltb-true, ltb-false, lt-ltb}
@@ -33,8 +33,10 @@ use Rattle.tcp_pair_model.specs.Value.{TcpValue, Received, Arrived, free_in, que
 use Rattle.tcp_tie.proofs.ArrivalLaws.{keeps_arrival}
 use Rattle.tcp_tie.proofs.OfferLaws.{keeps_sent_offer}
 use Rattle.tcp_tie.proofs.PromiseLemmas.{keeps_turned, safe_sockets}
+use Rattle.tcp_model.specs.declared.block.Peer.{Peer}
 use Rattle.tcp_rules.proofs.OrderSteps.{clash}
 use Rattle.tcp_progress.specs.Arrivals.{is_synchronized, Counts, IsNearWindow, IsNew, IsAgain, IsAnswered, EndsLastAck, Rises}
+use Rattle.tcp_progress.specs.Clocks.{comes_stale}
 use Rattle.tcp_progress.specs.Exchange.{CanHear, FitsBuffer, IsOpen, TookWhatWasSent, HasSpace, text_of, GoesFromUna, offer_comes}
 use Rattle.tcp_progress.specs.Exchange.{MayExchange, MayReach, MovesOn, left_of, IsTaken, IsTold, HasMoved}
 use Rattle.tcp_progress.specs.Positions.{LiesWithin}
@@ -142,7 +144,7 @@ few_sent top all a b = omega arith
 pub counts_for :
     (v w : TcpValue) (p q : Past) (k : Keeps v p w q) (header : TcpHeader) → IsOpen v.block → is_synchronized w.block.state ≡ true
     → TookWhatWasSent v w → is_syn header.control ≡ false → is_rst header.control ≡ false
-    → comes_older header.options.timestamp v.block.peer.recent ≡ false → header.ack_number ≡ Some w.block.receiver.next
+    → comes_stale v.block header.options.timestamp ≡ false → header.ack_number ≡ Some w.block.receiver.next
     → Counts v.block header w.block.receiver.next
 counts_for v w p q k header mine theirs sent no_syn no_reset fresh ack = record {
   synchronized = mine.synchronized;
@@ -194,7 +196,7 @@ moves_to old una next all a b e some within few = record {
 pub partners_word :
     (cx : ContextValue) (v w : TcpValue) (p q : Past) (k : Keeps v p w q) (ip : IpRepr) (header : TcpHeader) (bytes : List ℕ) → IsOpen v.block
     → is_synchronized w.block.state ≡ true → TookWhatWasSent v w → is_syn header.control ≡ false → is_rst header.control ≡ false
-    → comes_older header.options.timestamp v.block.peer.recent ≡ false → header.ack_number ≡ Some w.block.receiver.next
+    → comes_stale v.block header.options.timestamp ≡ false → header.ack_number ≡ Some w.block.receiver.next
     → IsNearWindow v header (length bytes)
     → (arrives cx v ip header bytes).socket.block.sender.una
     ≡ behind_by v.block.sender.una (distance_of v.block.sender.una w.block.receiver.next)
@@ -230,7 +232,7 @@ past_next : (una next top : ℕ) → una < 2 ^ 32 → next < 2 ^ 32 → (next + 
     → ((una + top) % 2 ^ 32 + (2 ^ 32 - next)) % 2 ^ 32 < 2 ^ 31
 past_next una next top a b c d = omega arith
 
-bare_meets : (far space : ℕ) → far < 2 ^ 31 → (far ≡ 0) ⊎ (far < space) →
+pub bare_meets : (far space : ℕ) → far < 2 ^ 31 → (far ≡ 0) ⊎ (far < space) →
     meets_window (if nat_lt far (2 ^ 31) then 0 else 2 ^ 32 - far) (if nat_lt far (2 ^ 31) then far else 0) 0 space ≡ true
 bare_meets far space less room =
     ap (λ (t : Bool). meets_window (if t then 0 else 2 ^ 32 - far) (if t then far else 0) 0 space) (lt-ltb far (2 ^ 31) less) ∙ by room
@@ -440,10 +442,10 @@ module _ (cx cy cz : ContextValue) (v w : TcpValue) (p q : Past) (k : Keeps v p 
         bare_lies_inside gone w after q kept r.reply.segment mine.synchronized may.theirs.synchronized heard space (r.bare ∙ r.same)
         (ap (λ (control : TcpControl). 0 + control_len control) r.plain)
 
-    fresh : comes_older r.reply.segment.options.timestamp gone.block.peer.recent ≡ false
+    fresh : comes_stale gone.block r.reply.segment.options.timestamp ≡ false
     fresh =
-        subst (λ (n : ℕ). comes_older r.reply.segment.options.timestamp n ≡ false) (sym out.sent.recent)
-        (may.answer_fresh r.reply r.answer)
+        ap (λ (peer : Peer). peer.timestamps && comes_older r.reply.segment.options.timestamp peer.recent) out.sent.peer
+        ∙ may.answer_fresh r.reply r.answer
 
     answer_counts : Counts gone.block r.reply.segment w.block.receiver.next
     answer_counts =

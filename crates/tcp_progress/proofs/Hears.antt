@@ -14,7 +14,7 @@ use Rattle.tcp_pair_model.specs.Block.{Block}
 use Rattle.tcp_pair_model.specs.Blocks.{top}
 use Rattle.tcp_pair_model.specs.Offers.{offer_of}
 use Rattle.tcp_pair_model.specs.Settled.{settled}
-use Rattle.tcp_pair_model.specs.Sides.{at, other}
+use Rattle.tcp_pair_model.specs.Sides.{other}
 use Rattle.tcp_pair_model.specs.Steps.{refusal}
 use Rattle.tcp_pair_model.specs.Value.{TcpValue, free_in}
 use Rattle.tcp_pair_model.specs.Values.{PairSide, PairValue, context_at, past_at}
@@ -23,7 +23,7 @@ use Rattle.tcp_pair_model.specs.declared.event.Side.{Side}
 use Rattle.tcp_pair_model.specs.declared.event.Side.TheVariants.{A, B}
 use Rattle.tcp_progress.specs.Arrivals.{EndsLastAck, IsNew, new_text}
 use Rattle.tcp_progress.specs.Arrivals.{is_synchronized}
-use Rattle.tcp_progress.specs.Exchange.{CanHear, FitsBuffer, HasSpace, IsTaken, MayReach, TookWhatWasSent, left_of, text_of}
+use Rattle.tcp_progress.specs.Exchange.{CanHear, FitsBuffer, MayReach, TookWhatWasSent, left_of, text_of}
 use Rattle.tcp_progress.specs.Pair.{AreMirrored, HasStream, MayReachIn, context_of, exchanged_in, left_in, next_sent, offered_in, socket_of}
 use Rattle.tcp_progress.specs.Reached.{IsReached}
 use Rattle.tcp_progress.specs.Rounds.{comes, takes}
@@ -32,8 +32,8 @@ use Rattle.tcp_progress.proofs.Acked.{IsHeard}
 use Rattle.tcp_progress.proofs.Exchange.{IsPassed, WasNew, answered_none, heard_all, heard_none, outcome}
 use Rattle.tcp_progress.proofs.Kept.{reached_keeps}
 use Rattle.tcp_progress.proofs.Led.{leads_on}
-use Rattle.tcp_progress.proofs.Mirrored.{mirrored_in}
-use Rattle.tcp_progress.proofs.Pair.{asked_side, back, came, in_step, late_in, none_answered, one_answered, partner_after, reaches, side_after}
+use Rattle.tcp_progress.proofs.Mirrored.{connected_mirrored}
+use Rattle.tcp_progress.proofs.Pair.{back, came, in_step, late_in, none_answered, one_answered, partner_after, reaches, side_after}
 use Rattle.tcp_progress.proofs.Positions.{next_small, placed}
 use Rattle.tcp_progress.proofs.SentPairs.{TookEach, reached_took}
 use Rattle.tcp_progress.proofs.Settles.{some_left}
@@ -186,10 +186,10 @@ module _ (p : PairValue) (moment : ℤ) (o : OpenOffer) (r : IsReached p) where
       (left_in (exchanged_in p A moment) B ≡ 0 → (socket_of (exchanged_in p A moment) B).block.sender.top ≡ 0) → Heard p A moment o
   heard_a stream may empty =
       record {
-        outcome = by (hears A p.sides.a p.sides.b moment mirrored o may.may (past_at p A) (past_at p B) k step each.sent near each.heard empty_there);
+        outcome = by (hears A p.sides.a p.sides.b moment mirrored o may (past_at p A) (past_at p B) k step each.sent near each.heard empty_there);
         theirs =
             subst (λ (v : TcpValue). IsHeard v.block.sender) (sym own)
-            (partner_heard A p.sides.a p.sides.b moment mirrored o may.may (past_at p A) (past_at p B) k step each.sent near each.heard empty_there);
+            (partner_heard A p.sides.a p.sides.b moment mirrored o may (past_at p A) (past_at p B) k step each.sent near each.heard empty_there);
       }
     where
       -- so many segments of the other come
@@ -206,18 +206,18 @@ module _ (p : PairValue) (moment : ℤ) (o : OpenOffer) (r : IsReached p) where
       k = reached_keeps p A r
 
       each : TookEach p A
-      each = reached_took p A r may.may.own may.may.theirs
+      each = reached_took p A r may.own may.theirs
 
       near : FitsBuffer p.sides.a.socket p.sides.b.socket
-      near = fits_in p A r may.may.own may.may.theirs may.may.room
+      near = fits_in p A r may.own may.theirs may.room
 
       mirrored : AreMirrored p.sides.a.socket.block p.sides.b.socket.block
-      mirrored = mirrored_in p A r may.may.own.synchronized may.may.theirs.synchronized may.mirrored
+      mirrored = connected_mirrored p A r may.own.synchronized may.theirs.synchronized
 
       step : IsInStep k.side k.partner
-      step = in_step p.sides.a.socket p.sides.b.socket (past_at p A) (past_at p B) k may.may.own.synchronized stream
+      step = in_step p.sides.a.socket p.sides.b.socket (past_at p A) (past_at p B) k may.own.synchronized stream
 
-      by : Hears A p.sides.a p.sides.b moment mirrored o may.may (past_at p A) (past_at p B) k step each.sent near each.heard empty_there →
+      by : Hears A p.sides.a p.sides.b moment mirrored o may (past_at p A) (past_at p B) k step each.sent near each.heard empty_there →
           Outcome p A moment o
       by (inl x) =
           inl
@@ -238,10 +238,10 @@ module _ (p : PairValue) (moment : ℤ) (o : OpenOffer) (r : IsReached p) where
       (left_in (exchanged_in p B moment) A ≡ 0 → (socket_of (exchanged_in p B moment) A).block.sender.top ≡ 0) → Heard p B moment o
   heard_b stream may empty =
       record {
-        outcome = by (hears B p.sides.b p.sides.a moment mirrored o may.may (past_at p B) (past_at p A) k step each.sent near each.heard empty_there);
+        outcome = by (hears B p.sides.b p.sides.a moment mirrored o may (past_at p B) (past_at p A) k step each.sent near each.heard empty_there);
         theirs =
             subst (λ (v : TcpValue). IsHeard v.block.sender) (sym own)
-            (partner_heard B p.sides.b p.sides.a moment mirrored o may.may (past_at p B) (past_at p A) k step each.sent near each.heard empty_there);
+            (partner_heard B p.sides.b p.sides.a moment mirrored o may (past_at p B) (past_at p A) k step each.sent near each.heard empty_there);
       }
     where
       after : ℕ → PairValue
@@ -257,18 +257,18 @@ module _ (p : PairValue) (moment : ℤ) (o : OpenOffer) (r : IsReached p) where
       k = reached_keeps p B r
 
       each : TookEach p B
-      each = reached_took p B r may.may.own may.may.theirs
+      each = reached_took p B r may.own may.theirs
 
       near : FitsBuffer p.sides.b.socket p.sides.a.socket
-      near = fits_in p B r may.may.own may.may.theirs may.may.room
+      near = fits_in p B r may.own may.theirs may.room
 
       mirrored : AreMirrored p.sides.b.socket.block p.sides.a.socket.block
-      mirrored = mirrored_in p B r may.may.own.synchronized may.may.theirs.synchronized may.mirrored
+      mirrored = connected_mirrored p B r may.own.synchronized may.theirs.synchronized
 
       step : IsInStep k.side k.partner
-      step = in_step p.sides.b.socket p.sides.a.socket (past_at p B) (past_at p A) k may.may.own.synchronized stream
+      step = in_step p.sides.b.socket p.sides.a.socket (past_at p B) (past_at p A) k may.own.synchronized stream
 
-      by : Hears B p.sides.b p.sides.a moment mirrored o may.may (past_at p B) (past_at p A) k step each.sent near each.heard empty_there →
+      by : Hears B p.sides.b p.sides.a moment mirrored o may (past_at p B) (past_at p A) k step each.sent near each.heard empty_there →
           Outcome p B moment o
       by (inl x) =
           inl
@@ -291,7 +291,7 @@ pub exchange_heard :
     → refusal p (Offer side moment true) ≡ None → is_closed (socket_of (exchanged_in p side moment) (other side)).block.state ≡ false → Heard p side moment o
 exchange_heard p side moment o r stream may asked alive = by side stream may empty where
   late : (is_early p.sides.a.socket.block.state ≡ false) × (is_early p.sides.b.socket.block.state ≡ false)
-  late = at side (late_in (socket_of p side).block.state may.may.own.synchronized) (late_in (socket_of p (other side)).block.state may.may.theirs.synchronized)
+  late = at side (late_in (socket_of p side).block.state may.own.synchronized) (late_in (socket_of p (other side)).block.state may.theirs.synchronized)
     where
       at : (side : Side) → is_early (socket_of p side).block.state ≡ false → is_early (socket_of p (other side)).block.state ≡ false →
           (is_early p.sides.a.socket.block.state ≡ false) × (is_early p.sides.b.socket.block.state ≡ false)

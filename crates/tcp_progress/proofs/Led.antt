@@ -14,7 +14,7 @@ use Rattle.tcp_progress.specs.Pair.{AreMirrored, HasStream, MayReachIn, exchange
 use Rattle.tcp_progress.specs.Reached.{IsReached}
 use Rattle.tcp_progress.specs.Rounds.{takes, comes}
 use Rattle.tcp_progress.proofs.Kept.{reached_by, reached_keeps}
-use Rattle.tcp_progress.proofs.Mirrored.{mirrored_in}
+use Rattle.tcp_progress.proofs.Mirrored.{connected_mirrored}
 use Rattle.tcp_progress.proofs.Pair.{Comes, asked_side, first, how_many, in_step, sent, side_comes}
 use Rattle.tcp_progress.proofs.SentPairs.{TookEach, reached_took}
 use Rattle.tcp_progress.proofs.WindowPairs.{fits_in}
@@ -28,7 +28,7 @@ pub by_two :
 by_two p side moment r asked comes =
     reached_by p (offered_in p side moment) (Offer side moment true ∷ Deliver side (next_sent p side) ∷ []) r (asked, (comes, refl))
 
-by_answer :
+pub by_answer :
     (p : PairValue) (from : Side) (k n : ℕ) → (n ≡ 0) ⊎ (n ≡ 1) → (n ≡ 1 → IsTaken p from k) → IsReached p → IsReached (comes n from k p)
 by_answer p from k n (inl none) there r = subst (λ (n : ℕ). IsReached (comes n from k p)) (sym none) r
 by_answer p from k n (inr one) there r =
@@ -38,59 +38,59 @@ by_answer p from k n (inr one) there r =
 pub within : (k n : ℕ) → k < n → if_so (not (nat_lt k n)) NoSegment ≡ None
 within k n less = ap (λ (t : Bool). if_so (not t) NoSegment) (lt-ltb k n less)
 
-one_more : (k n : ℕ) → n - k ≡ 1 → k < n
+pub one_more : (k n : ℕ) → n - k ≡ 1 → k < n
 one_more k n e = omega arith
 
 module _ (p : PairValue) (moment : ℤ) (o : OpenOffer) (r : IsReached p) where
   led_a : HasStream (past_at p A) → MayReachIn p A moment o → refusal p (Offer A moment true) ≡ None → IsReached (exchanged_in p A moment)
   led_a stream may asked =
       by_answer (offered_in p A moment) B (next_sent p B) (next_sent (offered_in p A moment) B - next_sent p B)
-      (how_many A p.sides.a p.sides.b moment mirrored o may.may moves)
+      (how_many A p.sides.a p.sides.b moment mirrored o may moves)
       (λ one. within (next_sent p B) (next_sent (offered_in p A moment) B) (one_more (next_sent p B) (next_sent (offered_in p A moment) B) one))
       (by_two p A moment r asked
       (within (next_sent p A) (length (asked_side A p.sides.a p.sides.b moment).sent)
-      (slice_get_within (asked_side A p.sides.a p.sides.b moment).sent (next_sent p A) (first A p.sides.a p.sides.b moment mirrored o may.may)
-      (sent A p.sides.a p.sides.b moment mirrored o may.may))))
+      (slice_get_within (asked_side A p.sides.a p.sides.b moment).sent (next_sent p A) (first A p.sides.a p.sides.b moment mirrored o may)
+      (sent A p.sides.a p.sides.b moment mirrored o may))))
     where
       k : Keeps p.sides.a.socket (past_at p A) p.sides.b.socket (past_at p B)
       k = reached_keeps p A r
 
       each : TookEach p A
-      each = reached_took p A r may.may.own may.may.theirs
+      each = reached_took p A r may.own may.theirs
 
       mirrored : AreMirrored p.sides.a.socket.block p.sides.b.socket.block
-      mirrored = mirrored_in p A r may.may.own.synchronized may.may.theirs.synchronized may.mirrored
+      mirrored = connected_mirrored p A r may.own.synchronized may.theirs.synchronized
 
-      moves : Comes A p.sides.a p.sides.b moment mirrored o may.may (Unit {0})
+      moves : Comes A p.sides.a p.sides.b moment mirrored o may (Unit {0})
       moves =
-          side_comes A p.sides.a p.sides.b moment mirrored o may.may (past_at p A) (past_at p B) k
-          (in_step p.sides.a.socket p.sides.b.socket (past_at p A) (past_at p B) k may.may.own.synchronized stream) each.sent
-          (fits_in p A r may.may.own may.may.theirs may.may.room) each.heard (inr tt)
+          side_comes A p.sides.a p.sides.b moment mirrored o may (past_at p A) (past_at p B) k
+          (in_step p.sides.a.socket p.sides.b.socket (past_at p A) (past_at p B) k may.own.synchronized stream) each.sent
+          (fits_in p A r may.own may.theirs may.room) each.heard (inr tt)
 
   led_b : HasStream (past_at p B) → MayReachIn p B moment o → refusal p (Offer B moment true) ≡ None → IsReached (exchanged_in p B moment)
   led_b stream may asked =
       by_answer (offered_in p B moment) A (next_sent p A) (next_sent (offered_in p B moment) A - next_sent p A)
-      (how_many B p.sides.b p.sides.a moment mirrored o may.may moves)
+      (how_many B p.sides.b p.sides.a moment mirrored o may moves)
       (λ one. within (next_sent p A) (next_sent (offered_in p B moment) A) (one_more (next_sent p A) (next_sent (offered_in p B moment) A) one))
       (by_two p B moment r asked
       (within (next_sent p B) (length (asked_side B p.sides.b p.sides.a moment).sent)
-      (slice_get_within (asked_side B p.sides.b p.sides.a moment).sent (next_sent p B) (first B p.sides.b p.sides.a moment mirrored o may.may)
-      (sent B p.sides.b p.sides.a moment mirrored o may.may))))
+      (slice_get_within (asked_side B p.sides.b p.sides.a moment).sent (next_sent p B) (first B p.sides.b p.sides.a moment mirrored o may)
+      (sent B p.sides.b p.sides.a moment mirrored o may))))
     where
       k : Keeps p.sides.b.socket (past_at p B) p.sides.a.socket (past_at p A)
       k = reached_keeps p B r
 
       each : TookEach p B
-      each = reached_took p B r may.may.own may.may.theirs
+      each = reached_took p B r may.own may.theirs
 
       mirrored : AreMirrored p.sides.b.socket.block p.sides.a.socket.block
-      mirrored = mirrored_in p B r may.may.own.synchronized may.may.theirs.synchronized may.mirrored
+      mirrored = connected_mirrored p B r may.own.synchronized may.theirs.synchronized
 
-      moves : Comes B p.sides.b p.sides.a moment mirrored o may.may (Unit {0})
+      moves : Comes B p.sides.b p.sides.a moment mirrored o may (Unit {0})
       moves =
-          side_comes B p.sides.b p.sides.a moment mirrored o may.may (past_at p B) (past_at p A) k
-          (in_step p.sides.b.socket p.sides.a.socket (past_at p B) (past_at p A) k may.may.own.synchronized stream) each.sent
-          (fits_in p B r may.may.own may.may.theirs may.may.room) each.heard (inr tt)
+          side_comes B p.sides.b p.sides.a moment mirrored o may (past_at p B) (past_at p A) k
+          (in_step p.sides.b.socket p.sides.a.socket (past_at p B) (past_at p A) k may.own.synchronized stream) each.sent
+          (fits_in p B r may.own may.theirs may.room) each.heard (inr tt)
 
 pub leads_on :
     (p : PairValue) (side : Side) (moment : ℤ) (o : OpenOffer) → IsReached p → HasStream (past_at p side) → MayReachIn p side moment o

@@ -1,5 +1,5 @@
 -- Each side of a pair sends between its endpoints; a listener's are those of a segment that its partner sent: so the two mirror each other.
-use Rattle.std.proofs.Common.{◌≡◌, ◌⊎◌, inl, inr, ℕ, zero, suc, ◌==◌, ◌&&◌, not, Bool, true, false, if◌then◌else◌, List, [], ◌∷◌, ◌++◌}
+use Rattle.std.proofs.Common.{◌≡◌, ◌⊎◌, inl, inr, ℕ, zero, suc, ◌==◌, ◌&&◌, ◌||◌, not, Bool, true, false, if◌then◌else◌, List, [], ◌∷◌, ◌++◌}
 use Rattle.std.proofs.Common.{length, Option, Some, None, Result, Ok, Err, slice_get, refl, sym, ap, ◌∙◌, subst, append-nil}
 use Rattle.std.proofs.lemmas.Bool.{cond_both}
 use Rattle.std.specs.List.{AllByRecursion}
@@ -23,6 +23,8 @@ use Rattle.tcp_tie.proofs.NameLaws.{accepted, arrival_names, answer_back, offer_
 use Rattle.tcp_tie.proofs.Tied.{if_so}
 use Rattle.tcp_rules.specs.EndpointPair.{EndpointPair}
 use Rattle.tcp_rules.specs.Endpoints.{local_of, remote_of, pair_in}
+use Rattle.tcp_rules.specs.Ends.{is_over}
+use Rattle.tcp_rules.specs.Events.{is_past}
 use Rattle.tcp_rules.specs.Names.{Names}
 use Rattle.tcp_rules.specs.OpenOffer.{OpenOffer}
 use Rattle.tcp_rules.specs.Reply.{Reply}
@@ -44,7 +46,7 @@ use Rattle.tcp_pair_model.specs.Settled.{settled}
 use Rattle.tcp_pair_model.specs.Sides.{Both, at, put, other}
 use Rattle.tcp_pair_model.specs.Steps.{Steps, refusal, happens, acts, acting, reads, set_by, handed, taken_at, connect_says, send_says}
 use Rattle.tcp_pair_model.specs.Value.{TcpValue, new_socket, unoffered}
-use Rattle.tcp_pair_model.specs.Values.{PairSide, PairValue, context_at, new_pair, and_offer, and_reply, past_at, with_segments}
+use Rattle.tcp_pair_model.specs.Values.{PairSide, PairValue, context_at, new_pair, and_offer, and_reply, with_segments}
 use Rattle.tcp_pair_model.specs.declared.event.PairAnswer.{PairAnswer}
 use Rattle.tcp_pair_model.specs.declared.event.PairAnswer.TheVariants.{Done, Count, Bytes, Error}
 use Rattle.tcp_pair_model.specs.declared.event.PairEvent.{PairEvent}
@@ -57,9 +59,10 @@ use Rattle.tcp_pair_model.specs.declared.event.TcpSetting.TheVariants as Set
 use Rattle.tcp_pair_model.proofs.PairLaws.{new_is_kept, kept_after}
 use Rattle.tcp_pair_model.proofs.SideLaws.{IsAllowed}
 use Rattle.tcp_progress.specs.Arrivals.{is_synchronized}
-use Rattle.tcp_progress.specs.Pair.{AreMirrored, OneListened, socket_of}
+use Rattle.tcp_progress.specs.Pair.{AreMirrored, has_heard, socket_of}
 use Rattle.tcp_progress.specs.Reached.{IsReached}
 use Rattle.tcp_progress.proofs.Kept.{keeps_of}
+use Rattle.tcp_progress.proofs.Past.{abort_past, close_past, sent_past, withheld_past}
 use Rattle.tcp_progress.proofs.Ready.{ready_side, some_pair}
 use Rattle.tcp_progress.proofs.SentPairs.{is_allowed}
 
@@ -109,12 +112,13 @@ record Comes (pair : EndpointPair) (others : List SentSegment) : Type 0 where
   came : CameBetween pair x.header x.segment
 
 -- A socket, with what was seen of it and what it sent, and how its partner was opened and what that sent: before it is opened it sends
--- nothing; one that called sends between its endpoints; one that listened has those of a segment of a partner that called; and where none
--- called nothing is sent.
+-- nothing; one that called sends between its endpoints, and past SYN-SENT a segment of its partner came between them; one that listened has
+-- those of a segment of a partner that called; and where none called nothing is sent.
 pub record IsDirected (v : TcpValue) (mine : Opening) (sent : List SentSegment) (theirs : Opening) (others : List SentSegment) : Type 0 where
   unopened : mine ≡ NotYet → (sent ≡ []) × (v.block.names.pair ≡ None)
   active : mine ≡ Active → (pair : EndpointPair) → v.block.names.pair ≡ Some pair → AllByRecursion (GoesFrom pair) sent
   passive : mine ≡ Passive → (pair : EndpointPair) → v.block.names.pair ≡ Some pair → (theirs ≡ Active) × Comes pair others
+  heard : mine ≡ Active → is_past v.block.state ≡ true → (pair : EndpointPair) → v.block.names.pair ≡ Some pair → Comes pair others
   none : (mine ≡ Active → ⊥) → (theirs ≡ Active → ⊥) → sent ≡ []
 
 -- what an event of the side does, beside its partner
@@ -128,12 +132,14 @@ record Directs (v : TcpValue) (mine : Opening) (sent : List SentSegment) (new : 
 -- it sends nothing, and its endpoints stay or are forgotten
 still :
     (v new : TcpValue) (mine after : Opening) (sent : List SentSegment) (theirs : Opening) (others : List SentSegment) → after ≡ mine
+    → (is_past new.block.state ≡ true → is_past v.block.state ≡ true)
     → (new.block.names.pair ≡ v.block.names.pair) ⊎ (new.block.names.pair ≡ None) → Directs v mine sent new after sent theirs others
-still v new mine after sent theirs others same names = record {
+still v new mine after sent theirs others same past names = record {
   own = λ d _. record {
     unopened = λ first. let it = d.unopened (sym same ∙ first) in (it.0, unnamed names it.1);
     active = λ called pair e. by names (λ old. d.active (sym same ∙ called) pair old) e;
     passive = λ listened pair e. by names (λ old. d.passive (sym same ∙ listened) pair old) e;
+    heard = λ called on pair e. by names (λ old. d.heard (sym same ∙ called) (past on) pair old) e;
     none = λ not theirs_not. d.none (λ e. not (same ∙ e)) theirs_not;
   };
   more = [];
@@ -190,7 +196,7 @@ offered :
     → (offer_of cx v).socket.offered ≡ x
     → Directs v mine sent (settled true (offer_of cx v).socket) mine (and_offer sent x queue) theirs others
 offered cx v mine theirs sent others None queue e =
-    still v (settled true (offer_of cx v).socket) mine mine sent theirs others refl
+    still v (settled true (offer_of cx v).socket) mine mine sent theirs others refl (sent_past cx v)
     (pairs_left v.block (settled true (offer_of cx v).socket).block (sent_names cx v))
 offered cx v mine theirs sent others (Some o) queue e = record {
   own = λ d back. record {
@@ -198,6 +204,7 @@ offered cx v mine theirs sent others (Some o) queue e = record {
     active = λ called pair named.
         AllByRecursion-push (GoesFrom pair) sent gone (d.active called pair (before pair named)) (goes pair (before pair named));
     passive = λ listened pair named. d.passive listened pair (before pair named);
+    heard = λ called on pair named. d.heard called (sent_past cx v on) pair (before pair named);
     none = λ not theirs_not. absurd (nobody d not theirs_not);
   };
   more = gone ∷ [];
@@ -247,6 +254,7 @@ arrived cx v w p q k mine theirs sent others x answer first among accepts_it rep
     unopened = λ at. absurd (not_closed d back at);
     active = λ called pair named. all answer refl d called pair (pair_before pair named called);
     passive = λ listened pair named. by_names d back listened pair named renamed;
+    heard = λ called _ pair named. came_between called pair (pair_before pair named called) (is_for.connected (listens_not called));
     none = λ not theirs_not. none_among others x (back theirs_not not) among;
   };
   more = reply_list answer;
@@ -288,6 +296,15 @@ arrived cx v w p q k mine theirs sent others x answer first among accepts_it rep
       by (inr (inl falls)) = absurd (no_pair pair (sym (ap (λ (n : Names). n.pair) falls.names) ∙ named))
       by (inr (inr (inl keeps))) = sym (ap (λ (n : Names). n.pair) keeps.names) ∙ named
       by (inr (inr (inr forgets))) = absurd (no_pair pair (sym (ap (λ (n : Names). n.pair) forgets.names) ∙ named))
+
+    came_between :
+        mine ≡ Active → (pair : EndpointPair) → v.block.names.pair ≡ Some pair
+        → (it : EndpointPair) × (v.block.names.pair ≡ Some it) × CameBetween it x.header x.segment → Comes pair others
+    came_between called pair named it = record {
+      x = x;
+      among = among;
+      came = subst (λ (pair : EndpointPair). CameBetween pair x.header x.segment) (one_pair it.0 pair (sym it.1 ∙ named)) it.2;
+    }
 
     all :
         (a : Option Reply) → answer ≡ a → IsDirected v mine sent theirs others → mine ≡ Active → (pair : EndpointPair) → v.block.names.pair ≡ Some pair
@@ -360,9 +377,10 @@ module _ (s : PairSide) (w : TcpValue) (p q : Past) (others : List SentSegment) 
   abbrev DirectsTo : PairSide → Opening → Type 0
   DirectsTo new after = Directs s.socket p.opening s.sent new.socket after new.sent q.opening others
 
-  kept : (new : TcpValue) (after : Opening) → after ≡ p.opening → (new.block.names.pair ≡ s.socket.block.names.pair) ⊎ (new.block.names.pair ≡ None) →
+  kept : (new : TcpValue) (after : Opening) → after ≡ p.opening → (is_past new.block.state ≡ true → is_past s.socket.block.state ≡ true) →
+      (new.block.names.pair ≡ s.socket.block.names.pair) ⊎ (new.block.names.pair ≡ None) →
       Directs s.socket p.opening s.sent new after s.sent q.opening others
-  kept new after same names = still s.socket new p.opening after s.sent q.opening others same names
+  kept new after same past names = still s.socket new p.opening after s.sent q.opening others same past names
 
   called_not : p.opening ≡ NotYet → p.opening ≡ Active → ⊥
   called_not first called = absurd (let clashes : NotYet ≡ Active = sym first ∙ called in cc)
@@ -376,6 +394,7 @@ module _ (s : PairSide) (w : TcpValue) (p q : Past) (others : List SentSegment) 
           unopened = λ _. ((d.unopened first).0, unnamed);
           active = λ _ pair named. absurd (no_pair pair (sym unnamed ∙ named));
           passive = λ _ pair named. absurd (no_pair pair (sym unnamed ∙ named));
+          heard = λ _ _ pair named. absurd (no_pair pair (sym unnamed ∙ named));
           none = λ _ _. (d.unopened first).0;
         };
     more = [];
@@ -391,12 +410,13 @@ module _ (s : PairSide) (w : TcpValue) (p q : Past) (others : List SentSegment) 
   connected : (names : Option EndpointPair) (number : ℕ) → p.opening ≡ NotYet →
       Directs s.socket p.opening s.sent (connected_by s.socket names number) (connect_adds (connect_says (found_answer names)) p).opening s.sent q.opening
       others
-  connected None number first = kept (unoffered s.socket) p.opening refl (inl refl)
+  connected None number first = kept (unoffered s.socket) p.opening refl (λ e. e) (inl refl)
   connected (Some pair) number first = record {
     own = λ d _. record {
       unopened = λ (e : Active ≡ NotYet). absurd (cc);
       active = λ _ it _. subst (λ (xs : List SentSegment). AllByRecursion (GoesFrom it) xs) (sym (d.unopened first).0) tt;
       passive = λ (e : Active ≡ Passive). absurd (cc);
+      heard = λ _ (e : false ≡ true). clash (sym e);
       none = λ not _. absurd (not refl);
     };
     more = [];
@@ -425,28 +445,30 @@ module _ (s : PairSide) (w : TcpValue) (p q : Past) (others : List SentSegment) 
   sends bytes =
       kept (send_after s.socket bytes) (send_adds bytes (send_says (send_answer s.socket (length bytes))) p).opening
       (send_opening bytes (send_says (send_answer s.socket (length bytes))) p)
+      (cond_both (takes_writes s.socket.block.state) _ (unoffered s.socket)
+      (λ (new : TcpValue). is_past new.block.state ≡ true → is_past s.socket.block.state ≡ true) (λ _ e. e) (λ _ e. e))
       (inl (cond_both (takes_writes s.socket.block.state) _ (unoffered s.socket) (λ (new : TcpValue). new.block.names.pair ≡ s.socket.block.names.pair)
       (λ _. refl) (λ _. refl)))
 
   reads_on : (r : Result ℕ RecvError) → DirectsTo (reads s r).side (recv_adds (reads s r).answer p).opening
-  reads_on (Ok n) = kept (reads s (Ok n)).side.socket _ (recv_opening (reads s (Ok n)).answer p) (inl refl)
-  reads_on (Err fault) = kept (unoffered s.socket) _ (recv_opening (reads s (Err fault)).answer p) (inl refl)
+  reads_on (Ok n) = kept (reads s (Ok n)).side.socket _ (recv_opening (reads s (Ok n)).answer p) (λ e. e) (inl refl)
+  reads_on (Err fault) = kept (unoffered s.socket) _ (recv_opening (reads s (Err fault)).answer p) (λ e. e) (inl refl)
 
   sets : (setting : Setting) → Directs s.socket p.opening s.sent (set_by setting s.socket) p.opening s.sent q.opening others
-  sets (Set.Timeout duration) = kept (set_by (Set.Timeout duration) s.socket) p.opening refl (inl refl)
-  sets (Set.AckDelay duration) = kept (set_by (Set.AckDelay duration) s.socket) p.opening refl (inl refl)
-  sets (Set.KeepAlive interval) = kept (set_by (Set.KeepAlive interval) s.socket) p.opening refl (inl refl)
-  sets (Set.NagleEnabled enabled) = kept (set_by (Set.NagleEnabled enabled) s.socket) p.opening refl (inl refl)
-  sets (Set.HopLimit limit) = kept (set_by (Set.HopLimit limit) s.socket) p.opening refl (inl refl)
-  sets (Set.TsvalGenerator generator) = kept (set_by (Set.TsvalGenerator generator) s.socket) p.opening refl (inl refl)
-  sets (Set.CongestionControl control) = kept (set_by (Set.CongestionControl control) s.socket) p.opening refl (inl refl)
-  sets (Set.PauseSynack paused) = kept (set_by (Set.PauseSynack paused) s.socket) p.opening refl (inl refl)
-  sets (Set.Retries limit) = kept (set_by (Set.Retries limit) s.socket) p.opening refl (inl refl)
-  sets (Set.MinRto duration) = kept (set_by (Set.MinRto duration) s.socket) p.opening refl (inl refl)
-  sets (Set.FineTimer fine) = kept (set_by (Set.FineTimer fine) s.socket) p.opening refl (inl refl)
+  sets (Set.Timeout duration) = kept (set_by (Set.Timeout duration) s.socket) p.opening refl (λ e. e) (inl refl)
+  sets (Set.AckDelay duration) = kept (set_by (Set.AckDelay duration) s.socket) p.opening refl (λ e. e) (inl refl)
+  sets (Set.KeepAlive interval) = kept (set_by (Set.KeepAlive interval) s.socket) p.opening refl (λ e. e) (inl refl)
+  sets (Set.NagleEnabled enabled) = kept (set_by (Set.NagleEnabled enabled) s.socket) p.opening refl (λ e. e) (inl refl)
+  sets (Set.HopLimit limit) = kept (set_by (Set.HopLimit limit) s.socket) p.opening refl (λ e. e) (inl refl)
+  sets (Set.TsvalGenerator generator) = kept (set_by (Set.TsvalGenerator generator) s.socket) p.opening refl (λ e. e) (inl refl)
+  sets (Set.CongestionControl control) = kept (set_by (Set.CongestionControl control) s.socket) p.opening refl (λ e. e) (inl refl)
+  sets (Set.PauseSynack paused) = kept (set_by (Set.PauseSynack paused) s.socket) p.opening refl (λ e. e) (inl refl)
+  sets (Set.Retries limit) = kept (set_by (Set.Retries limit) s.socket) p.opening refl (λ e. e) (inl refl)
+  sets (Set.MinRto duration) = kept (set_by (Set.MinRto duration) s.socket) p.opening refl (λ e. e) (inl refl)
+  sets (Set.FineTimer fine) = kept (set_by (Set.FineTimer fine) s.socket) p.opening refl (λ e. e) (inl refl)
 
   comes_to_it : (side : Side) (n : ℕ) (x : Option SentSegment) → slice_get others n ≡ x → DirectsTo (handed side s x) p.opening
-  comes_to_it side n None e = kept s.socket p.opening refl (inl refl)
+  comes_to_it side n None e = kept s.socket p.opening refl (λ e. e) (inl refl)
   comes_to_it side n (Some x) e =
       at (accepts s.socket.block x.header x.segment) refl
     where
@@ -455,7 +477,7 @@ module _ (s : PairSide) (w : TcpValue) (p q : Past) (others : List SentSegment) 
       at true takes =
           arrived (context_at side s) s.socket w (with_segments p s.sent) (with_segments q others) k p.opening q.opening s.sent others x
           (arrives (context_at side s) s.socket x.header x.segment x.bytes).answer refl (among_at others n x e) takes refl
-      at false not = kept s.socket p.opening refl (inl refl)
+      at false not = kept s.socket p.opening refl (λ e. e) (inl refl)
 
   directs : (event : PairEvent) → IsAllowed event p →
       DirectsTo (acts s others event).side (adds event (acts s others event).answer s.socket.block.state p).opening
@@ -464,16 +486,17 @@ module _ (s : PairSide) (w : TcpValue) (p q : Past) (others : List SentSegment) 
   directs (Send side bytes) allowed = sends bytes
   directs (Recv side count) allowed = reads_on (recv_answer s.socket count)
   directs (Close side) allowed =
-      kept (close_after s.socket) _ (close_opening (closes_in s.socket.block.state) p)
+      kept (close_after s.socket) _ (close_opening (closes_in s.socket.block.state) p) (close_past s.socket)
       (pairs_kept s.socket.block (close_after s.socket).block (close_names s.socket))
-  directs (Abort side) allowed = kept (abort_after s.socket) p.opening refl (pairs_kept s.socket.block (abort_after s.socket).block (abort_names s.socket))
+  directs (Abort side) allowed =
+      kept (abort_after s.socket) p.opening refl (abort_past s.socket) (pairs_kept s.socket.block (abort_after s.socket).block (abort_names s.socket))
   directs (TcpSetting side setting) allowed = sets setting
   directs (Offer side moment true) allowed =
       let cx = context_at side (record s { moment = moment }) in
       offered cx s.socket p.opening q.opening s.sent others (offer_of cx s.socket).socket.offered (offer_of cx s.socket).socket.queued.queue refl
   directs (Offer side moment false) allowed =
       let cx = context_at side (record s { moment = moment }) in
-      kept (settled false (offer_of cx s.socket).socket) p.opening refl
+      kept (settled false (offer_of cx s.socket).socket) p.opening refl (withheld_past cx s.socket)
       (pairs_left s.socket.block (settled false (offer_of cx s.socket).socket).block (withheld_names cx s.socket))
   directs (Deliver from n) allowed = comes_to_it (other from) n (slice_get others n) refl
 
@@ -485,16 +508,17 @@ beside v new w mine after theirs sent gone others m d = record {
   unopened = d.unopened;
   active = d.active;
   passive = λ listened pair named.
-      let it = d.passive listened pair named in (
-        m.stays it.0,
-        record {
-          x = it.1.x;
-          among = subst (λ (xs : List SentSegment). Among it.1.x xs) (sym m.grown) (among_more it.1.x sent m.more it.1.among);
-          came = it.1.came;
-        },
-      );
+      let it = d.passive listened pair named in (m.stays it.0, comes_still pair it.1);
+  heard = λ called on pair named. comes_still pair (d.heard called on pair named);
   none = λ not theirs_not. d.none not (λ called. theirs_not (m.stays called));
 }
+  where
+    comes_still : (pair : EndpointPair) → Comes pair sent → Comes pair gone
+    comes_still pair it = record {
+      x = it.x;
+      among = subst (λ (xs : List SentSegment). Among it.x xs) (sym m.grown) (among_more it.x sent m.more it.among);
+      came = it.came;
+    }
 
 -- A PAIR
 
@@ -557,6 +581,7 @@ new_directed v unnamed = record {
   unopened = λ _. (refl, unnamed);
   active = λ (e : NotYet ≡ Active). absurd (cc);
   passive = λ (e : NotYet ≡ Passive). absurd (cc);
+  heard = λ (e : NotYet ≡ Active). absurd (cc);
   none = λ _ _. refl;
 }
 
@@ -570,14 +595,13 @@ reached_directed p r =
 
 -- THE ENDPOINTS MIRROR EACH OTHER
 
+-- a segment came between the endpoints of one, and the other sends between its own
 mirrored_by :
-    (v w : TcpValue) (mine theirs : Opening) (sent others : List SentSegment) (own far : EndpointPair) → IsDirected v mine sent theirs others
-    → IsDirected w theirs others mine sent → v.block.names.pair ≡ Some own → w.block.names.pair ≡ Some far → mine ≡ Passive
-    → AreMirrored v.block w.block
-mirrored_by v w mine theirs sent others own far d e named partner_named listened =
-    let it = d.passive listened own named in
-    let c = it.1.came in
-    let g = all_among (GoesFrom far) others it.1.x (e.active it.0 far partner_named) it.1.among in
+    (v w : TcpValue) (sent : List SentSegment) (own far : EndpointPair) → v.block.names.pair ≡ Some own → w.block.names.pair ≡ Some far
+    → Comes own sent → AllByRecursion (GoesFrom far) sent → AreMirrored v.block w.block
+mirrored_by v w sent own far named partner_named it goes =
+    let c = it.came in
+    let g = all_among (GoesFrom far) sent it.x goes it.among in
     record {
       own = own;
       theirs = far;
@@ -601,42 +625,87 @@ turned a b m = record {
   remote_port = sym m.local_port;
 }
 
-on_open : (state : State) → is_synchronized state ≡ true → (is_closed state ≡ false) × (is_listening state ≡ false)
-on_open In.Closed e = clash (sym e)
-on_open In.Listen e = clash (sym e)
-on_open other e = (refl, refl)
+-- past SYN-SENT, whichever of the two called
+mirrored_past :
+    (v w : TcpValue) (mine theirs : Opening) (sent others : List SentSegment) (own far : EndpointPair) → IsDirected v mine sent theirs others
+    → IsDirected w theirs others mine sent → is_past v.block.state ≡ true → v.block.names.pair ≡ Some own → w.block.names.pair ≡ Some far
+    → AreMirrored v.block w.block
+mirrored_past v w mine theirs sent others own far d e on named partner_named = by mine theirs refl refl where
+  by : (a b : Opening) → mine ≡ a → theirs ≡ b → AreMirrored v.block w.block
+  by NotYet b first second = absurd (no_pair own (sym (d.unopened first).1 ∙ named))
+  by Passive b first second =
+      let it = d.passive first own named in mirrored_by v w others own far named partner_named it.1 (e.active it.0 far partner_named)
+  by Active NotYet first second = absurd (no_pair far (sym (e.unopened second).1 ∙ partner_named))
+  by Active Passive first second =
+      turned w.block v.block
+      (mirrored_by w v sent far own partner_named named (e.passive second far partner_named).1 (d.active first own named))
+  by Active Active first second =
+      mirrored_by v w others own far named partner_named (d.heard first on own named) (e.active second far partner_named)
 
+named_there : (p : PairValue) (side : Side) → IsReached p → is_over (socket_of p side).block.state ≡ false →
+    (pair : EndpointPair) × ((socket_of p side).block.names.pair ≡ Some pair)
+named_there p side r on =
+    some_pair (socket_of p side).block.names.pair
+    ((ready_side p side r).named (neither (is_closed (socket_of p side).block.state) (is_listening (socket_of p side).block.state) on).0
+    (neither (is_closed (socket_of p side).block.state) (is_listening (socket_of p side).block.state) on).1)
+  where
+    neither : (a b : Bool) → (a || b) ≡ false → (a ≡ false) × (b ≡ false)
+    neither true b e = clash e
+    neither false b e = (refl, e)
+
+heard_past : (state : State) → has_heard state ≡ true → is_past state ≡ true
+heard_past In.Closed e = clash (sym e)
+heard_past In.Listen e = clash (sym e)
+heard_past In.SynSent e = clash (sym e)
+heard_past other e = refl
+
+past_there : (state : State) → is_past state ≡ true → is_over state ≡ false
+past_there In.Closed e = clash (sym e)
+past_there In.Listen e = clash (sym e)
+past_there other e = refl
+
+-- one side is past SYN-SENT, and the other has endpoints
+pub reached_mirrored :
+    (p : PairValue) (side : Side) → IsReached p → has_heard (socket_of p side).block.state ≡ true
+    → is_over (socket_of p (other side)).block.state ≡ false → AreMirrored (socket_of p side).block (socket_of p (other side)).block
+reached_mirrored p side r mine theirs =
+    let b = reached_directed p r in
+    let on = heard_past (socket_of p side).block.state mine in
+    let own = named_there p side r (past_there (socket_of p side).block.state on) in
+    let far = named_there p (other side) r theirs in
+    mirrored_past (socket_of p side) (socket_of p (other side)) _ _ _ _ own.0 far.0 (side_directed p.sides (pasts p.history) side b)
+    (partner_directed p.sides (pasts p.history) side b) on own.1 far.1
+
+-- or the other is past SYN-SENT, and this one has endpoints
+pub mirrored_back :
+    (p : PairValue) (side : Side) → IsReached p → has_heard (socket_of p (other side)).block.state ≡ true
+    → is_over (socket_of p side).block.state ≡ false → AreMirrored (socket_of p side).block (socket_of p (other side)).block
+mirrored_back p A r theirs mine = turned p.sides.b.socket.block p.sides.a.socket.block (reached_mirrored p B r theirs mine)
+mirrored_back p B r theirs mine = turned p.sides.a.socket.block p.sides.b.socket.block (reached_mirrored p A r theirs mine)
+
+later_heard : (state : State) → is_synchronized state ≡ true → has_heard state ≡ true
+later_heard In.Closed e = clash (sym e)
+later_heard In.Listen e = clash (sym e)
+later_heard In.SynSent e = clash (sym e)
+later_heard other e = refl
+
+later_past : (state : State) → is_synchronized state ≡ true → is_past state ≡ true
+later_past In.Closed e = clash (sym e)
+later_past In.Listen e = clash (sym e)
+later_past In.SynSent e = clash (sym e)
+later_past other e = refl
+
+-- of a connection
 pub named_in : (p : PairValue) (side : Side) → IsReached p → is_synchronized (socket_of p side).block.state ≡ true →
     (pair : EndpointPair) × ((socket_of p side).block.names.pair ≡ Some pair)
 named_in p side r on =
-    let it = on_open (socket_of p side).block.state on in
-    some_pair (socket_of p side).block.names.pair ((ready_side p side r).named it.0 it.1)
+    named_there p side r (past_there (socket_of p side).block.state (later_past (socket_of p side).block.state on))
 
--- where one of the two listened
-pub reached_mirrored :
+-- two connections
+pub connected_mirrored :
     (p : PairValue) (side : Side) → IsReached p → is_synchronized (socket_of p side).block.state ≡ true
     → is_synchronized (socket_of p (other side)).block.state ≡ true
-    → ((past_at p side).opening ≡ Passive) ⊎ ((past_at p (other side)).opening ≡ Passive)
     → AreMirrored (socket_of p side).block (socket_of p (other side)).block
-reached_mirrored p side r mine theirs (inl listened) =
-    let b = reached_directed p r in
-    let own = named_in p side r mine in
-    let far = named_in p (other side) r theirs in
-    mirrored_by (socket_of p side) (socket_of p (other side)) _ _ _ _ own.0 far.0 (side_directed p.sides (pasts p.history) side b)
-    (partner_directed p.sides (pasts p.history) side b) own.1 far.1 listened
-reached_mirrored p side r mine theirs (inr listened) =
-    let b = reached_directed p r in
-    let own = named_in p side r mine in
-    let far = named_in p (other side) r theirs in
-    turned (socket_of p (other side)).block (socket_of p side).block
-    (mirrored_by (socket_of p (other side)) (socket_of p side) _ _ _ _ far.0 own.0 (partner_directed p.sides (pasts p.history) side b)
-    (side_directed p.sides (pasts p.history) side b) far.1 own.1 listened)
-
--- or they were said to mirror each other
-pub mirrored_in :
-    (p : PairValue) (side : Side) → IsReached p → is_synchronized (socket_of p side).block.state ≡ true
-    → is_synchronized (socket_of p (other side)).block.state ≡ true
-    → OneListened p side ⊎ AreMirrored (socket_of p side).block (socket_of p (other side)).block
-    → AreMirrored (socket_of p side).block (socket_of p (other side)).block
-mirrored_in p side r mine theirs (inl listened) = reached_mirrored p side r mine theirs listened
-mirrored_in p side r mine theirs (inr m) = m
+connected_mirrored p side r mine theirs =
+    reached_mirrored p side r (later_heard (socket_of p side).block.state mine)
+    (past_there (socket_of p (other side)).block.state (later_past (socket_of p (other side)).block.state theirs))

@@ -10,12 +10,12 @@ use Rattle.tcp_pair_model.specs.Blocks.{one_if}
 use Rattle.tcp_pair_model.specs.Offers.{offer_of}
 use Rattle.tcp_pair_model.specs.Sides.{other}
 use Rattle.tcp_pair_model.specs.Steps.{refusal}
-use Rattle.tcp_pair_model.specs.Timestamps.{comes_older}
 use Rattle.tcp_pair_model.specs.Value.{TcpValue, queued_in}
 use Rattle.tcp_pair_model.specs.Values.{PairValue, past_at}
 use Rattle.tcp_pair_model.specs.declared.event.PairEvent.TheVariants.{Offer}
 use Rattle.tcp_pair_model.specs.declared.event.Side.{Side}
 use Rattle.tcp_progress.specs.Arrivals.{is_synchronized}
+use Rattle.tcp_progress.specs.Clocks.{comes_stale}
 use Rattle.tcp_progress.specs.Exchange.{CanHear, left_of}
 use Rattle.tcp_progress.specs.Pair.{HasStream, MayReachIn, MovesIn, context_of, exchanged_in, socket_of}
 use Rattle.tcp_progress.specs.Reached.{IsReached}
@@ -70,20 +70,15 @@ pub may_reach : (p : PairValue) (side : Side) (moment : ℤ) (r : IsReached p) (
 may_reach p side moment r m =
     let s = sends_in p side moment r m.sends in
     record {
-      mirrored = m.mirrored;
-      may =
-          record {
-            own = m.sends.own;
-            theirs = m.theirs;
-            over = m.sends.over;
-            offered = s.offered;
-            kind = s.kind;
-            some = s.some;
-            room = m.room;
-            fresh =
-                ap (λ (stamp : Option TcpTimestampRepr). comes_older stamp (socket_of p (other side)).block.peer.recent) s.stamp ∙ m.fresh;
-            answer_fresh = λ reply answer. m.answer_fresh s.k reply s.offered answer;
-          };
+      own = m.sends.own;
+      theirs = m.theirs;
+      over = m.sends.over;
+      offered = s.offered;
+      kind = s.kind;
+      some = s.some;
+      room = m.room;
+      fresh = ap (λ (stamp : Option TcpTimestampRepr). comes_stale (socket_of p (other side)).block stamp) s.stamp ∙ m.fresh;
+      answer_fresh = λ reply answer. m.answer_fresh s.k reply s.offered answer;
     }
 
 pub moves_of_itself :

@@ -45,7 +45,7 @@ pub record StaysBut (old new : Block) : Type 0 where
   pub past_iss : new.sender.past_iss ≡ old.sender.past_iss
   pub top : old.sender.top ≤ new.sender.top
   pub next : new.receiver.next ≡ old.receiver.next
-  pub recent : new.peer.recent ≡ old.peer.recent
+  pub peer : new.peer ≡ old.peer
 
 raised : (a b : ℕ) → a ≤ max a b
 raised a b = omega arith
@@ -58,7 +58,16 @@ asked_stays old b now s =
       timers = record b.timers { counts_from = Some (timeout_from now b.round_trip) };
     })
     b (StaysBut old)
-    (λ _. record { state = s.state; una = s.una; syn_unacked = s.syn_unacked; past_iss = s.past_iss; top = s.top; next = s.next; recent = s.recent })
+    (λ _.
+    record {
+      state = s.state;
+      una = s.una;
+      syn_unacked = s.syn_unacked;
+      past_iss = s.past_iss;
+      top = s.top;
+      next = s.next;
+      peer = s.peer;
+    })
     (λ _. s)
 
 abbrev pub Sends : OfferKind → Type 0
@@ -72,7 +81,7 @@ text_stays b o queued = record {
   past_iss = refl;
   top = raised b.sender.top (end_of b o);
   next = refl;
-  recent = refl;
+  peer = refl;
 }
 
 pub again_stays : Sends Kind.FastRetransmission
@@ -83,7 +92,7 @@ again_stays b o queued = record {
   past_iss = refl;
   top = raised b.sender.top (end_of b o);
   next = refl;
-  recent = refl;
+  peer = refl;
 }
 
 pub probe_stays : Sends Kind.Probe
@@ -96,7 +105,7 @@ probe_stays b o queued =
       past_iss = refl;
       top = raised b.sender.top (end_of b o);
       next = refl;
-      recent = refl;
+      peer = refl;
     })
 
 -- WHAT GOES
@@ -160,7 +169,7 @@ then_stays old mid new s t = record {
   past_iss = t.past_iss ∙ s.past_iss;
   top = up old.sender.top mid.sender.top new.sender.top s.top t.top;
   next = t.next ∙ s.next;
-  recent = t.recent ∙ s.recent;
+  peer = t.peer ∙ s.peer;
 }
   where
     up : (a b c : ℕ) → a ≤ b → b ≤ c → a ≤ c
@@ -205,7 +214,7 @@ module _ (cx : ContextValue) (v : TcpValue) (syn : v.block.sender.syn_unacked �
     text = subst (λ (bytes : List ℕ). length bytes ≤ queued_in v) (sym (pays mine v.queued.queue)) (part_of c.len c.place v.queued.queue)
 
     recorded_stays : StaysBut b (recorded b mine (room_of v.received))
-    recorded_stays = record { state = refl; una = refl; syn_unacked = refl; past_iss = refl; top = same b.sender.top; next = refl; recent = refl } where
+    recorded_stays = record { state = refl; una = refl; syn_unacked = refl; past_iss = refl; top = same b.sender.top; next = refl; peer = refl } where
       same : (n : ℕ) → n ≤ n
       same n = omega arith
 
@@ -291,7 +300,7 @@ module _ (cx : ContextValue) (v : TcpValue) (syn : v.block.sender.syn_unacked �
         past_iss = stays.past_iss;
         top = stays.top;
         next = stays.next;
-        recent = stays.recent;
+        peer = stays.peer;
       }
 
   same_top : v.block.sender.top ≤ v.block.sender.top
@@ -310,13 +319,13 @@ module _ (cx : ContextValue) (v : TcpValue) (syn : v.block.sender.syn_unacked �
         over = λ _ _ _ k e _. none_offered k e;
         backs = λ pair _ _ _.
             by_first pair (backed_off_now (begun cx v))
-            (record { state = refl; una = refl; syn_unacked = refl; past_iss = refl; top = same_top; next = refl; recent = refl });
+            (record { state = refl; una = refl; syn_unacked = refl; past_iss = refl; top = same_top; next = refl; peer = refl });
         probes = λ pair _ _ _ _.
             by_first pair (loss_probed (begun cx v))
-            (record { state = refl; una = refl; syn_unacked = refl; past_iss = refl; top = same_top; next = refl; recent = refl });
+            (record { state = refl; una = refl; syn_unacked = refl; past_iss = refl; top = same_top; next = refl; peer = refl });
         goes = λ pair _ _ _.
             by_first pair (begun cx v)
-            (record { state = refl; una = refl; syn_unacked = refl; past_iss = refl; top = same_top; next = refl; recent = refl });
+            (record { state = refl; una = refl; syn_unacked = refl; past_iss = refl; top = same_top; next = refl; peer = refl });
       })
 
 pub goes_out_of :

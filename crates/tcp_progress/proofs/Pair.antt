@@ -56,7 +56,7 @@ use Rattle.tcp_progress.proofs.Closes.{bare_still, closes_last}
 use Rattle.tcp_progress.proofs.Exchange.{IsPassed, WasNew, heard_all, last_of, outcome, reach_of, told_of}
 use Rattle.tcp_progress.proofs.Kept.{reached_keeps}
 use Rattle.tcp_progress.proofs.Left.{left_same}
-use Rattle.tcp_progress.proofs.Mirrored.{mirrored_in}
+use Rattle.tcp_progress.proofs.Mirrored.{connected_mirrored}
 use Rattle.tcp_progress.proofs.Offered.{GoesOut, goes_out_of, goes_from_una}
 use Rattle.tcp_progress.proofs.Positions.{connected_in, placed, lies_within, una_small, next_small}
 use Rattle.tcp_progress.proofs.WindowPairs.{fits_in}
@@ -419,11 +419,8 @@ pub record Moved (X : Type 0) (p : PairValue) (side : Side) (moment : ℤ) : Typ
   pub heard : Heard p (exchanged_in p side moment) side
 
 pub reach_in : (p : PairValue) (side : Side) (moment : ℤ) (o : OpenOffer) → MayExchangeIn p side moment o → MayReachIn p side moment o
-reach_in p side moment o may = record {
-  mirrored = may.mirrored;
-  may =
-      reach_of (context_of p side moment) (context_at (other side) (at p.sides (other side))) (socket_of p side) (socket_of p (other side)) o may.may;
-}
+reach_in p side moment o may =
+    reach_of (context_of p side moment) (context_at (other side) (at p.sides (other side))) (socket_of p side) (socket_of p (other side)) o may
 
 pub pair_moved :
     {X : Type 0} → (p : PairValue) (side : Side) (moment : ℤ) (o : OpenOffer)
@@ -434,13 +431,13 @@ pub pair_moved :
     → MayReachIn p side moment o → CanHear (socket_of p side) (socket_of p (other side)) ⊎ X → Moved X p side moment
 pair_moved {X} p A moment o k step sent fits heard mirrored may space =
     by
-    (side_comes A p.sides.a p.sides.b moment mirrored o may.may (past_at p A) (past_at p B) k step sent fits heard space)
+    (side_comes A p.sides.a p.sides.b moment mirrored o may (past_at p A) (past_at p B) k step sent fits heard space)
   where
     -- so many segments of the other come
     after : ℕ → PairValue
     after n = comes n B (next_sent p B) (offered_in p A moment)
 
-    by : Comes A p.sides.a p.sides.b moment mirrored o may.may X → Moved X p A moment
+    by : Comes A p.sides.a p.sides.b moment mirrored o may X → Moved X p A moment
     by (inl x) = record {
       moves = inl (inl x.next);
       less =
@@ -481,13 +478,13 @@ pair_moved {X} p A moment o k step sent fits heard mirrored may space =
     }
 pair_moved {X} p B moment o k step sent fits heard mirrored may space =
     by
-    (side_comes B p.sides.b p.sides.a moment mirrored o may.may (past_at p B) (past_at p A) k step sent fits heard space)
+    (side_comes B p.sides.b p.sides.a moment mirrored o may (past_at p B) (past_at p A) k step sent fits heard space)
   where
     -- so many segments of the other come
     after : ℕ → PairValue
     after n = comes n A (next_sent p A) (offered_in p B moment)
 
-    by : Comes B p.sides.b p.sides.a moment mirrored o may.may X → Moved X p B moment
+    by : Comes B p.sides.b p.sides.a moment mirrored o may X → Moved X p B moment
     by (inl x) = record {
       moves = inl (inl x.next);
       less =
@@ -539,7 +536,7 @@ pub pair_moves :
     → AreMirrored (socket_of p side).block (socket_of p (other side)).block
     → MayExchangeIn p side moment o → MovesIn p side moment
 pair_moves p side moment o k step sent fits heard mirrored may =
-    let it : Moved ⊥ p side moment = pair_moved p side moment o k step sent fits heard mirrored (reach_in p side moment o may) (inl may.may.space) in
+    let it : Moved ⊥ p side moment = pair_moved p side moment o k step sent fits heard mirrored (reach_in p side moment o may) (inl may.space) in
     of_either it.moves
 
 -- IN STEP
@@ -577,11 +574,11 @@ pub reached_comes :
     → CanHear (socket_of p side) (socket_of p (other side)) ⊎ X → Moved X p side moment
 reached_comes p side moment o reached stream may space =
     let k = reached_keeps p side reached in
-    let each = reached_took p side reached may.may.own may.may.theirs in
+    let each = reached_took p side reached may.own may.theirs in
     pair_moved p side moment o k
-    (in_step (socket_of p side) (socket_of p (other side)) (past_at p side) (past_at p (other side)) k may.may.own.synchronized stream) each.sent
-    (fits_in p side reached may.may.own may.may.theirs may.may.room) each.heard
-    (mirrored_in p side reached may.may.own.synchronized may.may.theirs.synchronized may.mirrored) may space
+    (in_step (socket_of p side) (socket_of p (other side)) (past_at p side) (past_at p (other side)) k may.own.synchronized stream) each.sent
+    (fits_in p side reached may.own may.theirs may.room) each.heard
+    (connected_mirrored p side reached may.own.synchronized may.theirs.synchronized) may space
 
 pub reached_less :
     (p : PairValue) (side : Side) (moment : ℤ) (o : OpenOffer) → IsReached p → HasStream (past_at p side) → MayReachIn p side moment o
@@ -616,29 +613,29 @@ pub record HasSome (p : PairValue) (side : Side) : Type 0 where
 pub has_some :
     (p : PairValue) (side : Side) (moment : ℤ) (o : OpenOffer) → IsReached p → HasStream (past_at p side) → MayReachIn p side moment o
     → HasSome p side
-has_some p side moment o reached stream may = record { some = enough _ _ may.may.some goes.ends; within = l.within; few = l.few; una = una; next = next } where
+has_some p side moment o reached stream may = record { some = enough _ _ may.some goes.ends; within = l.within; few = l.few; una = una; next = next } where
   k : Keeps (socket_of p side) (past_at p side) (socket_of p (other side)) (past_at p (other side))
   k = reached_keeps p side reached
 
   step : IsInStep k.side k.partner
-  step = in_step (socket_of p side) (socket_of p (other side)) (past_at p side) (past_at p (other side)) k may.may.own.synchronized stream
+  step = in_step (socket_of p side) (socket_of p (other side)) (past_at p side) (past_at p (other side)) k may.own.synchronized stream
 
   l : LiesWithin (socket_of p side) (socket_of p (other side)) k.side k.partner
   l =
-      lies_within (socket_of p side) (socket_of p (other side)) (past_at p side) (past_at p (other side)) k may.may.own.synchronized
-      may.may.theirs.synchronized step
+      lies_within (socket_of p side) (socket_of p (other side)) (past_at p side) (past_at p (other side)) k may.own.synchronized
+      may.theirs.synchronized step
 
   una : (socket_of p side).block.sender.una.0 < 2 ^ 32
-  una = una_small (socket_of p side) k.side (placed (socket_of p side) k.side k.fits k.holds.0.well_formed may.may.own.synchronized)
+  una = una_small (socket_of p side) k.side (placed (socket_of p side) k.side k.fits k.holds.0.well_formed may.own.synchronized)
 
   next : (socket_of p (other side)).block.receiver.next.0 < 2 ^ 32
   next =
       next_small (socket_of p (other side)) k.partner
-      (placed (socket_of p (other side)) k.partner k.partner_fits k.holds.1.well_formed may.may.theirs.synchronized)
+      (placed (socket_of p (other side)) k.partner k.partner_fits k.holds.1.well_formed may.theirs.synchronized)
 
   goes : GoesFromUna (socket_of p side) o
   goes =
-      goes_from_una (context_of p side moment) (socket_of p side) o una may.may.own.acknowledged may.may.over may.may.offered may.may.kind
+      goes_from_una (context_of p side moment) (socket_of p side) o una may.own.acknowledged may.over may.offered may.kind
 
   enough : (len all : ℕ) → 1 ≤ len → len ≤ all → 1 ≤ all
   enough len all a b = omega arith
@@ -686,9 +683,9 @@ fits p side x [] e =
     let h = has_some p side x.0 x.1 e.0 e.1 (reach_in p side x.0 x.1 e.2) in last_one (had_in p side) (left_in p side) h.within h.some
 fits p side x (y ∷ more) e =
     before p side x.0 (length more) (has_some p side x.0 x.1 e.0 e.1 (reach_in p side x.0 x.1 e.2))
-    (λ closed. still_open (socket_of (exchanged_in p side x.0) (other side)).block.state e.3.2.may.theirs.synchronized closed)
+    (λ closed. still_open (socket_of (exchanged_in p side x.0) (other side)).block.state e.3.2.theirs.synchronized closed)
     (fits (exchanged_in p side x.0) side y more e.3)
-    (reached_less p side x.0 x.1 e.0 e.1 (reach_in p side x.0 x.1 e.2) e.2.may.space)
+    (reached_less p side x.0 x.1 e.0 e.1 (reach_in p side x.0 x.1 e.2) e.2.space)
 
 pub exchanges_few : (p : PairValue) (side : Side) (exchanges : List (ℤ × OpenOffer)) → Exchanges p side exchanges → length exchanges ≤ 2 * left_in p side
 exchanges_few p side [] e = omega arith

@@ -1,5 +1,5 @@
 -- Of each pair that events led to, what a side waits for of itself lies near its clock.
-use Rattle.std.proofs.Common.{◌≡◌, ℕ, ℤ, pos, ◌+ℤ◌, ◌≤ℤ◌, int_le, int_lt, true, false, List, [], ◌∷◌, Option, Some, None, Result, Ok, Err, slice_get}
+use Rattle.std.proofs.Common.{◌≡◌, ℕ, ℤ, pos, ◌+ℤ◌, ◌≤ℤ◌, int_lt, true, false, List, [], ◌∷◌, Option, Some, None, Result, Ok, Err, slice_get}
 use Rattle.std.proofs.Common.{refl, sym, subst, arith}
 use Rattle.std.proofs.lemmas.Bool.{cond_both}
 use Rattle.std.proofs.lemmas.Int.{ints}
@@ -28,19 +28,11 @@ use Rattle.tcp_progress.specs.Near.{IsNear}
 use Rattle.tcp_progress.specs.Pair.{socket_of}
 use Rattle.tcp_progress.specs.Reached.{IsReached}
 use Rattle.tcp_progress.specs.Settle.{restart_by, restart_in}
-use Rattle.tcp_progress.proofs.Shaken.{comes_later}
+use Rattle.tcp_progress.proofs.Moments.{GoesOn, goes_on}
 use Rattle.tcp_progress.proofs.Timers.{Bounded, event_near, later_near, new_near}
 
 abbrev NearSide : PairSide → Type 0
 NearSide s = Bounded s.moment s.socket.block
-
-pub le_of : (a b : ℤ) → int_le a b ≡ true → a ≤ℤ b
-le_of a b e = grind arith
-
--- the clock of the side doesn't go back
-abbrev GoesOn : PairSide → PairEvent → Type 0
-GoesOn s (Offer side moment sent) = s.moment ≤ℤ moment
-GoesOn s other = Unit {0}
 
 weakened : (s : PairSide) (moment : ℤ) → s.moment ≤ℤ moment → NearSide s → Bounded moment s.socket.block
 weakened s moment e h = record {
@@ -99,19 +91,6 @@ near_of both B n = n.b
 by_put : (both : Both PairSide) (side : Side) (new : PairSide) → BothNear both → NearSide new → BothNear (put both side new)
 by_put both A new n h = record { a = h; b = n.b }
 by_put both B new n h = record { a = n.a; b = h }
-
--- an event that is taken
-goes_on : (p : PairValue) (event : PairEvent) → refusal p event ≡ None → GoesOn (at p.sides (side_of event)) event
-goes_on p (Offer side moment sent) e =
-    le_of (at p.sides side).moment moment (comes_later (at p.sides side).moment moment e)
-goes_on p (Listen side endpoint) e = tt
-goes_on p (Connect side remote local) e = tt
-goes_on p (Send side bytes) e = tt
-goes_on p (Recv side count) e = tt
-goes_on p (Close side) e = tt
-goes_on p (Abort side) e = tt
-goes_on p (TcpSetting side setting) e = tt
-goes_on p (Deliver from k) e = tt
 
 by_event : (p : PairValue) (event : PairEvent) → refusal p event ≡ None → BothNear p.sides → BothNear (happens p event).pair.sides
 by_event p event e n =

@@ -30,7 +30,7 @@ use Rattle.tcp_progress.specs.Exchange.{GoesFromUna, text_of}
 use Rattle.tcp_progress.specs.Pair.{context_of, left_in, socket_of}
 use Rattle.tcp_progress.specs.Reached.{IsReached}
 use Rattle.tcp_progress.specs.Settle.{read_in, restart_in}
-use Rattle.tcp_progress.specs.Talking.{AreTalking, HasMinutes, HasTries, HaveTries, MayTalk, NeverGiveUp, SpeaksIn}
+use Rattle.tcp_progress.specs.Talking.{AreTalking, HasTries, HaveTries, MayTalk, NeverGiveUp, SpeaksIn}
 use Rattle.tcp_progress.proofs.Acked.{IsHeard}
 use Rattle.tcp_progress.proofs.Hears.{Heard, IsSilent, Outcome, exchange_heard}
 use Rattle.tcp_progress.proofs.Mirrored.{named_in}
@@ -40,8 +40,9 @@ use Rattle.tcp_progress.proofs.Resent.{again_sent}
 use Rattle.tcp_progress.proofs.Roused.{refused_same, roused_calm, roused_other, roused_own}
 use Rattle.tcp_progress.proofs.Settles.{empty_after, read_partner}
 use Rattle.tcp_progress.proofs.Spoken.{HasSize, IsRoused, IsSlowed, IsSpoken, Voice, asked_roused, says, says_most, says_text, spoken, voice_of}
-use Rattle.tcp_progress.proofs.Talks.{BothStay, again_y, Minutes, both_on, may_ask, may_turn, mine, of, other_minutes, own_minutes, late_at}
+use Rattle.tcp_progress.proofs.Talks.{BothStay, again_y, both_on, may_ask, may_turn, mine, minutes, of, late_at}
 use Rattle.tcp_progress.proofs.Talks.{reached_y, runs, rx, same_own, sends, set, starts, starts_y, stay, waiting}
+use Rattle.tcp_progress.proofs.TurnClocks.{HasTurn, Minutes, first_turn, midway, next_round, second_turn}
 use Rattle.tcp_progress.proofs.Turns.{late_on, nothing_turns, turned}
 use Rattle.tcp_progress.proofs.Ways.{BothCalm, of_side, read_calm}
 use Rattle.tcp_progress.proofs.WindowPairs.{reached_windows}
@@ -197,7 +198,7 @@ first_tries p side s waits t =
     more : (n : ℕ) → n ≤ n + 1
     more n = omega arith
 
-module _ (n : ℕ) (p : PairValue) (side : Side) (r : IsReached p) (s : BothStay p) (m : HasMinutes (suc n) p side) (waits : waits_in p side ≡ true)
+module _ (n : ℕ) (p : PairValue) (side : Side) (r : IsReached p) (s : BothStay p) (m : HasTurn n p side) (waits : waits_in p side ≡ true)
     (tries : gives_up (restart_in p side) (socket_of (read_in p side) side).block (queued_in (socket_of (read_in p side) side)) ≡ false) where
   abbrev x : PairValue
   x = read_in p side
@@ -272,8 +273,8 @@ module _ (n : ℕ) (p : PairValue) (side : Side) (r : IsReached p) (s : BothStay
     sp : IsSpoken pair.addresses 1500 w w.block o g
     sp =
         spoken (context_of y side then_at) w pair named_w (starts_y n p side r s m waits tries tries_on) sends_w (again_y n p side r s m waits tries)
-        (set n p side r s m waits tries).none (set n p side r s m waits tries).timer o asks.reaches.may.offered
-        asks.reaches.may.kind
+        (set n p side r s m waits tries).none (set n p side r s m waits tries).timer o asks.reaches.offered
+        asks.reaches.kind
 
     since : BothCalm p (turn_in p side)
     since = (turned (Unit {0}) p side r s.late (λ _. asks) (λ _. inr tt)).calm
@@ -314,8 +315,8 @@ module _ (n : ℕ) (p : PairValue) (side : Side) (r : IsReached p) (s : BothStay
 
     goes : GoesFromUna w o
     goes =
-        goes_from_una (context_of y side then_at) w o some.una asks.reaches.may.own.acknowledged asks.reaches.may.over asks.reaches.may.offered
-        asks.reaches.may.kind
+        goes_from_una (context_of y side then_at) w o some.una asks.reaches.own.acknowledged asks.reaches.over asks.reaches.offered
+        asks.reaches.kind
 
     -- WHERE WHAT WAS NEW WAS TAKEN
 
@@ -357,7 +358,7 @@ module _ (n : ℕ) (p : PairValue) (side : Side) (r : IsReached p) (s : BothStay
       had_more =
           ap (λ (a : SeqNumber). distance_of a (socket_of q (other side)).block.receiver.next)
           (ap (λ (z : TcpValue). z.block.sender.una) it.own
-          ∙ (goes_out_of (context_of y side then_at) w o asks.reaches.may.own.acknowledged asks.reaches.may.offered asks.reaches.may.kind).sent.una)
+          ∙ (goes_out_of (context_of y side then_at) w o asks.reaches.own.acknowledged asks.reaches.offered asks.reaches.kind).sent.una)
           ∙ (ap (λ (b : SeqNumber). distance_of w.block.sender.una b) it.next
           ∙ (further w.block.sender.una.0 u.block.receiver.next.0 it.by some.una some.next
           (below_quarter (had_in y side) (left_in y side) some.within some.few) it.few
@@ -472,13 +473,13 @@ module _ (n : ℕ) (p : PairValue) (side : Side) (r : IsReached p) (s : BothStay
 
 -- ROUNDS
 
-speaks : (n : ℕ) (p : PairValue) (side : Side) → IsReached p → BothStay p → HasMinutes (suc n) p side → IsPatient p side → SpeaksIn p side
+speaks : (n : ℕ) (p : PairValue) (side : Side) → IsReached p → BothStay p → HasTurn n p side → IsPatient p side → SpeaksIn p side
 speaks n p side r s m patient waits =
     let t = a_try p side (patient waits) in
     let first = first_tries p side s waits t in
     record { tries = first; tries_on = then_tries n p side r s m waits first t }
 
-module _ (n : ℕ) (p : PairValue) (side : Side) (r : IsReached p) (s : BothStay p) (m : HasMinutes (suc n) p side) (long : BothLong p)
+module _ (n : ℕ) (p : PairValue) (side : Side) (r : IsReached p) (s : BothStay p) (m : HasTurn n p side) (long : BothLong p)
     (patient : IsPatient p side) where
   -- its own turn leaves a side a try, or the other waits
   own_turn : IsMidway (turn_in p side) side (other side)
@@ -507,27 +508,27 @@ patient_rounds :
     (n : ℕ) (p : PairValue) → IsReached p → BothStay p → Minutes n p → BothLong p → IsPatient p A → IsMidway p B A → MayTalk n p
 patient_rounds zero p r s m long own theirs = tt
 patient_rounds (suc n) p r s m long own theirs =
-    let first = speaks n p A r s m.a own in
+    let t = first_turn n p m in
+    let first = speaks n p A r s t own in
     let h = turn_in p A in
-    let a = turned (Unit {0}) p A r s.late (may_turn n p A r s m.a first) (λ _. inr tt) in
+    let a = turned (Unit {0}) p A r s.late (may_turn n p A r s t first) (λ _. inr tt) in
     let sh = both_on p h a.calm s in
-    let mh = other_minutes (suc n) p A m.b in
+    let mh = midway n p r a.calm m in
+    let u = second_turn n h mh in
     let lh = long_on p h a.calm long in
-    let patient = others_turn n p A r s m.a long own theirs in
-    let second = speaks n h B a.reached sh mh patient in
+    let patient = others_turn n p A r s t long own theirs in
+    let second = speaks n h B a.reached sh u patient in
     let q = turn_in h B in
-    let b = turned (Unit {0}) h B a.reached sh.late (may_turn n h B a.reached sh mh second) (λ _. inr tt) in (
+    let b = turned (Unit {0}) h B a.reached sh.late (may_turn n h B a.reached sh u second) (λ _. inr tt) in (
       first,
       second,
-      patient_rounds n q b.reached (both_on h q b.calm sh)
-          (record { a = other_minutes n h B (own_minutes n p A r m.a); b = own_minutes n h B a.reached mh })
-          (long_on h q b.calm lh) (others_turn n h B a.reached sh mh lh patient (own_turn n p A r s m.a long own))
-          (own_turn n h B a.reached sh mh lh patient),
+      patient_rounds n q b.reached (both_on h q b.calm sh) (next_round n h a.reached b.calm mh) (long_on h q b.calm lh)
+          (others_turn n h B a.reached sh u lh patient (own_turn n p A r s t long own)) (own_turn n h B a.reached sh u lh patient),
     )
 
 pub talk_on : (n : ℕ) (p : PairValue) → IsReached p → AreTalking n p → HaveTries p → MayTalk n p
 talk_on n p r s t =
-    patient_rounds n p r (stay n p s) (record { a = s.minutes_a; b = s.minutes_b }) (record { a = long A t.0; b = long B t.1 }) (λ _. inl t.0)
+    patient_rounds n p r (stay n p s) (minutes n p s) (record { a = long A t.0; b = long B t.1 }) (λ _. inl t.0)
     (inl (λ _. inl t.1))
   where
     long : (side : Side) → HasTries 4 p side → IsLong p side

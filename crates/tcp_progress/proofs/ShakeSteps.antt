@@ -1,6 +1,6 @@
--- The three steps of a handshake, of two sockets: one is asked, and what it offers comes to the other.
-use Rattle.std.proofs.Common.{◌≡◌, inl, ℕ, ◌+◌, ◌-◌, ◌%◌, ◌^◌, ◌<◌, ◌≤◌, ◌==◌, ◌&&◌, not, ℤ, Bool, true, false, if◌then◌else◌, List, []}
-use Rattle.std.proofs.Common.{Option, Some, None, is_some, refl, sym, ap, ◌∙◌, subst, arith}
+-- The steps of a handshake, of two sockets: one is asked, and what it offers comes to the other.
+use Rattle.std.proofs.Common.{◌≡◌, ℕ, ◌+◌, ◌-◌, ◌%◌, ◌^◌, ◌<◌, ◌≤◌, ◌==◌, ◌&&◌, not, ℤ, Bool, true, false, if◌then◌else◌, List, []}
+use Rattle.std.proofs.Common.{length, Option, Some, None, is_some, refl, sym, ap, ◌∙◌, subst, arith}
 use Rattle.std.proofs.lemmas.Bool.{eq-eqb}
 use Rattle.net_base.specs.Ring.{Ring}
 use Rattle.ip_wire.specs.Ip.{destination_of}
@@ -10,34 +10,44 @@ use Rattle.ip_wire.specs.Seq.{distance_of}
 use Rattle.ip_wire.specs.SeqNumber.{SeqNumber}
 use Rattle.ip_wire.specs.TcpControl.{TcpControl}
 use Rattle.ip_wire.specs.TcpHeader.{TcpHeader}
+use Rattle.ip_wire.specs.TcpTimestampGenerator.{TcpTimestampGenerator}
 use Rattle.tcp_tie.specs.Context.{ContextValue}
-use Rattle.tcp_tie.specs.Endpoints.{CameBetween, GoesBetween}
-use Rattle.tcp_tie.proofs.NameLaws.{offer_between_ends}
+use Rattle.tcp_tie.specs.Endpoints.{CameBetween, GoesBack, GoesBetween}
+use Rattle.tcp_tie.proofs.NameLaws.{answer_back, offer_between_ends}
 use Rattle.tcp_rules.specs.EndpointPair.{EndpointPair}
 use Rattle.tcp_rules.specs.Endpoints.{is_bare, is_connected_by, pair_in, remote_of, takes_address}
 use Rattle.tcp_rules.specs.Ends.{GoesOn}
 use Rattle.tcp_rules.specs.Moments.{is_due}
 use Rattle.tcp_rules.specs.Names.{Names}
-use Rattle.tcp_rules.specs.Offsets.{behind_by}
+use Rattle.tcp_rules.specs.Offsets.{before_by, behind_by, meets_window, past_by}
 use Rattle.tcp_rules.specs.OpenOffer.{OpenOffer}
 use Rattle.tcp_rules.specs.State.{State}
 use Rattle.tcp_rules.specs.State.TheVariants as In
 use Rattle.tcp_rules.specs.States.{is_answering, is_closed, is_listening, sends_syn}
 use Rattle.tcp_pair_model.specs.Arrival.{arrives}
 use Rattle.tcp_pair_model.specs.Block.{Block}
+use Rattle.tcp_pair_model.specs.Blocks.{top}
+use Rattle.tcp_pair_model.specs.Checks.{is_in_window}
 use Rattle.tcp_pair_model.specs.Names.{accepts, accepts_in}
 use Rattle.tcp_pair_model.specs.Offers.{offer_of}
 use Rattle.tcp_pair_model.specs.Retries.{reaches}
+use Rattle.tcp_pair_model.specs.Segments.{next_if_heard, segment_len}
 use Rattle.tcp_pair_model.specs.Settled.{settled}
-use Rattle.tcp_pair_model.specs.Value.{TcpValue}
+use Rattle.tcp_pair_model.specs.Timestamps.{is_outdated, is_stale}
+use Rattle.tcp_pair_model.specs.Value.{TcpValue, Received, free_in}
 use Rattle.tcp_rules.proofs.OrderSteps.{clash}
 use Rattle.tcp_progress.specs.Again.{StartsOver}
+use Rattle.tcp_progress.specs.Clocks.{has_stamps}
+use Rattle.tcp_progress.specs.Exchange.{HasSpace}
 use Rattle.tcp_progress.specs.Handshake.{CallsOn, ListensOn}
+use Rattle.tcp_progress.specs.HandshakeOn.{AnswersOn}
 use Rattle.tcp_progress.specs.Pair.{AreMirrored}
 use Rattle.tcp_progress.proofs.AckOffer.{AckGoes, ack_goes_out, answering_goes_on, open_goes_on}
+use Rattle.tcp_progress.proofs.Crossed.{Draws}
+use Rattle.tcp_progress.proofs.Exchange.{bare_meets}
 use Rattle.tcp_progress.proofs.Mirrored.{turned}
 use Rattle.tcp_progress.proofs.Pair.{between}
-use Rattle.tcp_progress.proofs.Shakes.{Answering, listener_takes, Connecting, caller_takes, Opens, opens}
+use Rattle.tcp_progress.proofs.Shakes.{Answering, listener_takes, Connecting, caller_takes, Opens, opens, there_at_next}
 use Rattle.tcp_progress.proofs.SynOffer.{SynGoes, syn_goes}
 
 one_pair : (x y : EndpointPair) → Some x ≡ Some y → x ≡ y
@@ -46,7 +56,11 @@ one_pair x y e = cc
 all_three : (a b c : Bool) → a ≡ true → b ≡ true → c ≡ true → (a && (b && c)) ≡ true
 all_three a b c e f g = ap (λ (t : Bool). t && (b && c)) e ∙ (ap (λ (t : Bool). t && c) f ∙ g)
 
-one_past : (n : ℕ) → n < 2 ^ 32 → ((n + 1) % 2 ^ 32 + (2 ^ 32 - n)) % 2 ^ 32 ≡ 1
+not_second : (a b : Bool) → b ≡ false → (a && b) ≡ false
+not_second true b e = e
+not_second false b e = refl
+
+pub one_past : (n : ℕ) → n < 2 ^ 32 → ((n + 1) % 2 ^ 32 + (2 ^ 32 - n)) % 2 ^ 32 ≡ 1
 one_past n e = omega arith
 
 came_in : (ip : IpRepr) (header : TcpHeader) → CameBetween (pair_in ip header) ip header
@@ -60,7 +74,7 @@ goes_between cx v k own named offered =
     subst (λ (pair : EndpointPair). GoesBetween pair k) (one_pair it.0 own (sym it.1 ∙ named)) it.2
 
 -- a socket that neither is closed nor listens takes what goes between its endpoints
-later_takes :
+pub later_takes :
     (cx : ContextValue) (v : TcpValue) (b : Block) (k : OpenOffer) (m : AreMirrored v.block b) → is_closed b.state ≡ false → is_listening b.state ≡ false
     → (offer_of cx v).socket.offered ≡ Some k → accepts b k.header k.segment ≡ true
 later_takes cx v b k m alive later offered =
@@ -79,7 +93,7 @@ later_takes cx v b k m alive later offered =
     in_state other e f = refl
 
 -- their names stay
-renamed : (a b c d : Block) → AreMirrored a b → c.names.pair ≡ a.names.pair → d.names.pair ≡ b.names.pair → AreMirrored c d
+pub renamed : (a b c d : Block) → AreMirrored a b → c.names.pair ≡ a.names.pair → d.names.pair ≡ b.names.pair → AreMirrored c d
 renamed a b c d m e f = record {
   own = m.own;
   theirs = m.theirs;
@@ -93,18 +107,14 @@ renamed a b c d m e f = record {
 
 -- THE SYN
 
--- the caller and the listener, once the SYN has come
-pub record Called (v w : TcpValue) : Type 0 where
+-- a caller, and a side that has taken its SYN
+pub record Heard (v w : TcpValue) : Type 0 where
   pub mirrored : AreMirrored v.block w.block
   pub calls : v.block.state ≡ In.SynSent
   pub caller : CallsOn v.block
   pub queue : v.queued.queue ≡ []
-  pub answers : w.block.state ≡ In.SynReceived
-  pub listener : ListensOn w.block
+  pub answerer : AnswersOn w.block
   pub syn_unacked : w.block.sender.syn_unacked ≡ true
-  pub in_flight : w.block.sender.in_flight ≡ 0
-  pub top : w.block.sender.top ≡ 0
-  pub timeouts : w.block.sender.timeouts ≡ 0
   pub took_syn : w.block.receiver.took_syn ≡ true
   pub next : w.block.receiver.next ≡ behind_by v.block.sender.una 1
 
@@ -125,11 +135,17 @@ pub record MayCall (cx : ContextValue) (v w : TcpValue) : Type 0 where
   pub alone : v.block.receiver.took_syn ≡ false
   pub queue : v.queued.queue ≡ []
 
+-- the SYN of a caller goes
+pub call_goes :
+    (cx : ContextValue) (v : TcpValue) (own : EndpointPair) → cx.ip_mtu ≡ 1500 → v.block.state ≡ In.SynSent → v.block.names.pair ≡ Some own
+    → StartsOver cx v → GoesOn cx v → v.block.sender.syn_unacked ≡ true → SynGoes v (offer_of cx v)
+call_goes cx v own mtu calls named over goes syn_unacked =
+    syn_goes cx v mtu goes (ap (λ (state : State). sends_syn state && not (is_answering state && v.block.settings.synack_paused)) calls) syn_unacked over own
+    named
+
 module _ (cx cy : ContextValue) (v w : TcpValue) (m : MayCall cx v w) where
   pub syn : SynGoes v (offer_of cx v)
-  syn =
-      syn_goes cx v m.mtu m.goes (ap (λ (state : State). sends_syn state && not (is_answering state && v.block.settings.synack_paused)) m.calls)
-      m.syn_unacked m.over m.own m.named
+  syn = call_goes cx v m.own m.mtu m.calls m.named m.over m.goes m.syn_unacked
 
   abbrev k : OpenOffer
   k = syn.k
@@ -148,44 +164,49 @@ module _ (cx cy : ContextValue) (v w : TcpValue) (m : MayCall cx v w) where
       (ap (takes_address w.block.names.listen.addr) g.destination ∙ m.address)
       (ap (λ (n : Option SeqNumber). is_bare n k.segment.control) no_ack ∙ ap (λ (control : TcpControl). is_bare None control) syn.control)
 
-  pub called : (bytes : List ℕ) → Called (settled true (offer_of cx v).socket) (arrives cy w k.header k.segment bytes).socket
-  called bytes = record {
-    mirrored =
-        record {
-          own = m.own;
-          theirs = pair_in k.header k.segment;
-          named = ap (λ (names : Names). names.pair) syn.names ∙ m.named;
-          partner_named = a.named;
-          local = sym g.source ∙ c.source;
-          remote = sym g.destination ∙ c.destination;
-          local_port = sym g.source_port ∙ c.source_port;
-          remote_port = sym g.destination_port ∙ c.destination_port;
-        };
-    calls = syn.state ∙ m.calls;
-    caller =
-        record { timeout = syn.timeout ∙ m.caller.timeout; tries = ap (λ (limit : Option ℕ). reaches limit 0) syn.retries ∙ m.caller.tries };
-    queue = ap (λ (queued : Ring ℕ). queued.queue) syn.queued ∙ m.queue;
-    answers = a.state;
-    listener =
-        record {
-          timeout = a.timeout ∙ m.listener.timeout;
-          unpaused = a.paused ∙ m.listener.unpaused;
-          stampless = a.stamps ∙ m.listener.stampless;
-          tries = ap (λ (limit : Option ℕ). reaches limit 1) a.retries ∙ m.listener.tries;
-        };
-    syn_unacked = a.syn_unacked;
-    in_flight = a.in_flight;
-    top = a.top;
-    timeouts = a.timeouts;
-    took_syn = a.took_syn;
-    next = a.next ∙ ap (λ (n : SeqNumber). behind_by n 1) (syn.number ∙ sym syn.una);
-  }
-    where
-      a : Answering w k.header k.segment (arrives cy w k.header k.segment bytes)
-      a = listener_takes cy w k.header k.segment bytes m.listens syn.control no_ack syn.named
+  module _ (bytes : List ℕ) where
+    abbrev pub gone : TcpValue
+    gone = settled true (offer_of cx v).socket
 
-      c : CameBetween (pair_in k.header k.segment) k.header k.segment
-      c = came_in k.header k.segment
+    abbrev pub new : TcpValue
+    new = (arrives cy w k.header k.segment bytes).socket
+
+    pub taken : Answering w k.header k.segment (arrives cy w k.header k.segment bytes)
+    taken = listener_takes cy w k.header k.segment bytes m.listens syn.control no_ack syn.named
+
+    pub called : Heard gone new
+    called = record {
+      mirrored =
+          record {
+            own = m.own;
+            theirs = pair_in k.header k.segment;
+            named = ap (λ (names : Names). names.pair) syn.names ∙ m.named;
+            partner_named = taken.named;
+            local = sym g.source ∙ c.source;
+            remote = sym g.destination ∙ c.destination;
+            local_port = sym g.source_port ∙ c.source_port;
+            remote_port = sym g.destination_port ∙ c.destination_port;
+          };
+      calls = syn.state ∙ m.calls;
+      caller =
+          record { timeout = syn.timeout ∙ m.caller.timeout; tries = ap (λ (limit : Option ℕ). reaches limit 0) syn.retries ∙ m.caller.tries };
+      queue = ap (λ (queued : Ring ℕ). queued.queue) syn.queued ∙ m.queue;
+      answerer =
+          record {
+            answers = taken.state;
+            timeout = taken.timeout ∙ m.listener.timeout;
+            unpaused = taken.paused ∙ m.listener.unpaused;
+            tries =
+                ap (λ (n : ℕ). reaches new.block.settings.opening_retries (n + 1)) taken.timeouts
+                ∙ (ap (λ (limit : Option ℕ). reaches limit 1) taken.retries ∙ m.listener.tries);
+          };
+      syn_unacked = taken.syn_unacked;
+      took_syn = taken.took_syn;
+      next = taken.next ∙ ap (λ (n : SeqNumber). behind_by n 1) (syn.number ∙ sym syn.una);
+    }
+      where
+        c : CameBetween (pair_in k.header k.segment) k.header k.segment
+        c = came_in k.header k.segment
 
 -- ITS ANSWER
 
@@ -204,7 +225,6 @@ pub record Answered (now : ℤ) (v w : TcpValue) : Type 0 where
   pub due : v.block.timers.ack_at ≡ Some now
   pub next : v.block.receiver.next ≡ behind_by w.block.sender.una 1
   pub answers : w.block.state ≡ In.SynReceived
-  pub stampless : w.block.stamps.generator ≡ None
   pub una : w.block.receiver.next ≡ v.block.sender.una
 
 -- the caller has nothing but its SYN in flight, and numbers are of 32 bits
@@ -216,19 +236,37 @@ pub record IsFresh (v : TcpValue) : Type 0 where
 none_left : (n : ℕ) → n ≤ 1 → n - 1 ≡ 0
 none_left n e = omega arith
 
-module _ (cx cy : ContextValue) (v w : TcpValue) (mtu : cx.ip_mtu ≡ 1500) (c : Called v w) (f : IsFresh v) where
+-- a side in SYN-RECEIVED answers, or does so again
+pub answer_goes :
+    (cx : ContextValue) (w : TcpValue) (own : EndpointPair) → cx.ip_mtu ≡ 1500 → w.block.names.pair ≡ Some own → AnswersOn w.block → StartsOver cx w
+    → w.block.sender.syn_unacked ≡ true → SynGoes w (offer_of cx w)
+answer_goes cx w own mtu named on over syn_unacked =
+    syn_goes cx w mtu (answering_goes_on cx w on.timeout on.answers on.tries)
+    (ap (λ (state : State). sends_syn state && not (is_answering state && w.block.settings.synack_paused)) on.answers
+    ∙ ap (λ (t : Bool). not t) on.unpaused)
+    syn_unacked over own named
+
+-- where it agrees on no timestamps none is too old
+pub unstamped : (cx : ContextValue) (w : TcpValue) → SynGoes w (offer_of cx w) → has_stamps w.block ≡ false → (header : TcpHeader) (now : ℤ) →
+    is_stale (settled true (offer_of cx w).socket).block header now ≡ false
+unstamped cx w it none header now =
+    ap (λ (t : Bool). t && is_outdated (settled true (offer_of cx w).socket).block header now)
+    (ap (λ (t : Bool). t && is_some (settled true (offer_of cx w).socket).block.stamps.generator) it.agreed
+    ∙ (ap (λ (g : Option TcpTimestampGenerator). w.block.peer.timestamps && is_some g) it.generator ∙ none))
+
+pub acks_by : (w : TcpValue) (number : Option SeqNumber) → number ≡ next_if_heard w.block → w.block.receiver.took_syn ≡ true →
+    number ≡ Some w.block.receiver.next
+acks_by w number is took = is ∙ ap (λ (took : Bool). if took then Some w.block.receiver.next else None) took
+
+module _ (cx cy : ContextValue) (v w : TcpValue) (mtu : cx.ip_mtu ≡ 1500) (c : Heard v w) (over : StartsOver cx w) (f : IsFresh v) where
   pub answer : SynGoes w (offer_of cx w)
-  answer =
-      syn_goes cx w mtu (answering_goes_on cx w c.listener.timeout c.answers c.listener.tries c.timeouts)
-      (ap (λ (state : State). sends_syn state && not (is_answering state && w.block.settings.synack_paused)) c.answers
-      ∙ ap (λ (t : Bool). not t) c.listener.unpaused)
-      c.syn_unacked (inl c.in_flight) c.mirrored.theirs c.mirrored.partner_named
+  answer = answer_goes cx w c.mirrored.theirs mtu c.mirrored.partner_named c.answerer over c.syn_unacked
 
   abbrev reply : OpenOffer
   reply = answer.k
 
   pub acks : reply.segment.ack_number ≡ Some w.block.receiver.next
-  acks = answer.acknowledges ∙ ap (λ (took : Bool). if took then Some w.block.receiver.next else None) c.took_syn
+  acks = acks_by w reply.segment.ack_number answer.acknowledges c.took_syn
 
   pub one : distance_of v.block.sender.una w.block.receiver.next ≡ 1
   one = ap (distance_of v.block.sender.una) c.next ∙ one_past v.block.sender.una.0 f.una_small
@@ -253,8 +291,7 @@ module _ (cx cy : ContextValue) (v w : TcpValue) (mtu : cx.ip_mtu ≡ 1500) (c :
     took_syn = a.took_syn;
     due = a.due;
     next = a.next ∙ ap (λ (n : SeqNumber). behind_by n 1) (answer.number ∙ sym answer.una);
-    answers = answer.state ∙ c.answers;
-    stampless = answer.stampless c.top c.listener.stampless;
+    answers = answer.state ∙ c.answerer.answers;
     una = answer.next ∙ (c.next ∙ sym a.una);
   }
     where
@@ -283,20 +320,85 @@ module _ (cx cy : ContextValue) (v w : TcpValue) (now : ℤ) (a : Answered now v
   pub listener_takes_it : accepts w.block ack.header ack.segment ≡ true
   listener_takes_it = later_takes cx v w.block ack a.mirrored (ap is_closed a.answers) (ap is_listening a.answers) last.offered
 
-  no_stamps : (timestamps : Bool) → (timestamps && is_some w.block.stamps.generator) ≡ false
-  no_stamps true = ap is_some a.stampless
-  no_stamps false = refl
+  pub it : is_stale w.block ack.segment cy.moment ≡ false → Opens w (arrives cy w ack.header ack.segment [])
+  it fresh =
+      opens cy w ack.header ack.segment v.block.receiver.next a.answers last.plain
+      (there_at_next w ack.segment last.plain (last.number ∙ sym a.una) (subst (λ (n : SeqNumber). n.0 < 2 ^ 32) (sym a.una) small)) last.acknowledges
+      (ap (distance_of w.block.sender.una) a.next ∙ one_past w.block.sender.una.0 partner_small) fresh
 
-  pub it : Opens w (arrives cy w ack.header ack.segment [])
-  it =
-      opens cy w ack.header ack.segment v.block.receiver.next a.answers last.plain (last.number ∙ sym a.una)
-      (subst (λ (n : SeqNumber). n.0 < 2 ^ 32) (sym a.una) small) last.acknowledges
-      (ap (distance_of w.block.sender.una) a.next ∙ one_past w.block.sender.una.0 partner_small) (no_stamps w.block.peer.timestamps)
+  pub opened : is_stale w.block ack.segment cy.moment ≡ false → Opened (settled true (offer_of cx v).socket) (arrives cy w ack.header ack.segment []).socket
+  opened fresh =
+      let o = it fresh in
+      record {
+        own = last.state ∙ a.opened;
+        theirs = o.state;
+        una = last.una ∙ (sym a.una ∙ sym o.next);
+        partner_una = o.una ∙ (sym a.next ∙ sym last.next);
+      }
 
-  pub opened : Opened (settled true (offer_of cx v).socket) (arrives cy w ack.header ack.segment []).socket
-  opened = record {
-    own = last.state ∙ a.opened;
-    theirs = it.state;
-    una = last.una ∙ (sym a.una ∙ sym it.next);
-    partner_una = it.una ∙ (sym a.next ∙ sym last.next);
-  }
+-- AN ANSWER GOES AGAIN, AND IS ANSWERED
+
+-- a side in SYN-RECEIVED, and one that has taken its SYN
+pub record Asking (w v : TcpValue) : Type 0 where
+  pub mirrored : AreMirrored w.block v.block
+  pub answerer : AnswersOn w.block
+  pub syn_unacked : w.block.sender.syn_unacked ≡ true
+  pub took_syn : w.block.receiver.took_syn ≡ true
+  pub small : w.block.sender.una.0 < 2 ^ 32
+  pub took : v.block.receiver.next ≡ behind_by w.block.sender.una 1
+  -- the other's end lies in its window, or at its front
+  pub near : distance_of w.block.receiver.next (top v.block) < 2 ^ 31
+  pub space : HasSpace w v
+
+module _ (cx cy : ContextValue) (w v : TcpValue) (mtu : cx.ip_mtu ≡ 1500) (c : Asking w v) (over : StartsOver cx w) where
+  pub question : SynGoes w (offer_of cx w)
+  question = answer_goes cx w c.mirrored.own mtu c.mirrored.named c.answerer over c.syn_unacked
+
+  abbrev ask : OpenOffer
+  ask = question.k
+
+  pub asks_number : ask.segment.ack_number ≡ Some w.block.receiver.next
+  asks_number = acks_by w ask.segment.ack_number question.acknowledges c.took_syn
+
+  pub partner_accepts : is_closed v.block.state ≡ false → is_listening v.block.state ≡ false → accepts v.block ask.header ask.segment ≡ true
+  partner_accepts alive later = later_takes cx w v.block ask c.mirrored alive later question.offered
+
+  abbrev pub asked : TcpValue
+  asked = settled true (offer_of cx w).socket
+
+  module _ (bytes : List ℕ) (d : Draws v (arrives cy v ask.header ask.segment bytes)) where
+    out : GoesBetween c.mirrored.own ask
+    out = goes_between cx w ask c.mirrored.own c.mirrored.named question.offered
+
+    back : GoesBack ask.header ask.segment d.reply
+    back = answer_back cy v ask.header ask.segment bytes d.reply d.answer
+
+    state : asked.block.state ≡ In.SynReceived
+    state = question.state ∙ c.answerer.answers
+
+    pub side_accepts : accepts asked.block d.reply.header d.reply.segment ≡ true
+    side_accepts =
+        ap (λ (state : State). accepts_in state asked.block d.reply.header d.reply.segment) state
+        ∙ (ap (λ (names : Option EndpointPair). is_connected_by names d.reply.header d.reply.segment)
+        (ap (λ (names : Names). names.pair) question.names ∙ c.mirrored.named)
+        ∙ between c.mirrored.own d.reply.header d.reply.segment (sym out.source ∙ sym back.destination) (sym out.destination ∙ sym back.source)
+        (sym out.source_port ∙ sym back.destination_port) (sym out.destination_port ∙ sym back.source_port))
+
+    there : is_in_window asked.block (free_in asked) d.reply.segment 0 ≡ true
+    there =
+        ap (λ (n : SeqNumber). meets_window (before_by n d.reply.segment.seq_number) (past_by n d.reply.segment.seq_number)
+        (segment_len d.reply.segment 0) (free_in asked)) question.next
+        ∙ (ap (λ (n : SeqNumber). meets_window (before_by w.block.receiver.next n) (past_by w.block.receiver.next n) (segment_len d.reply.segment 0)
+        (free_in asked)) d.number
+        ∙ (ap (λ (size : ℕ). meets_window (before_by w.block.receiver.next (top v.block)) (past_by w.block.receiver.next (top v.block)) (0 + size)
+        (free_in asked)) d.plain.none
+        ∙ (ap (λ (r : Received). meets_window (before_by w.block.receiver.next (top v.block)) (past_by w.block.receiver.next (top v.block)) 0
+        (length r.map)) question.received
+        ∙ bare_meets (distance_of w.block.receiver.next (top v.block)) (free_in w) c.near c.space)))
+
+    pub opens_it : is_stale asked.block d.reply.segment cx.moment ≡ false → Opens asked (arrives cx asked d.reply.header d.reply.segment [])
+    opens_it fresh =
+        opens cx asked d.reply.header d.reply.segment v.block.receiver.next state d.plain there d.acknowledges
+        (ap (λ (n : SeqNumber). distance_of n v.block.receiver.next) question.una
+        ∙ (ap (distance_of w.block.sender.una) c.took ∙ one_past w.block.sender.una.0 c.small))
+        fresh

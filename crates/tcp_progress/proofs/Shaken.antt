@@ -1,64 +1,72 @@
 -- A handshake of a pair that events led to.
-use Rattle.std.proofs.Common.{◌≡◌, ◌⊎◌, inl, inr, ℕ, ◌+◌, ◌^◌, ◌<◌, ◌≤◌, ◌&&◌, int_le, pos, not, ℤ, Bool, true, false, List, [], length, Option, Some, None}
-use Rattle.std.proofs.Common.{slice_get, refl, sym, ap, ◌∙◌, subst}
+use Rattle.std.proofs.Common.{◌≡◌, ◌⊎◌, inl, inr, ℕ, ◌+◌, ◌-◌, ◌^◌, ◌<◌, ◌≤◌, ◌||◌, ℤ, Bool, true, false, List, [], ◌∷◌, ◌++◌, length}
+use Rattle.std.proofs.Common.{Option, Some, None, slice_get, refl, sym, ap, ◌∙◌, subst, arith}
 use Rattle.std.proofs.lemmas.Option.{slice_get_within}
-use Rattle.net_base.specs.Time.{last_moment}
-use Rattle.tcp_law.specs.Side.{Side as Half}
-use Rattle.tcp_law.specs.Side.Opening.{Passive}
 use Rattle.tcp_tie.specs.Context.{ContextValue}
-use Rattle.tcp_tie.specs.Tie.{Past, Keeps, FitsIn, IsAsking, IsListening, IsConnectedAs, core_of, unsent}
+use Rattle.tcp_tie.specs.Tie.{Keeps, FitsIn, IsAsking, IsConnectedAs, core_of, unsent}
 use Rattle.tcp_tie.proofs.Tied.{if_so}
 use Rattle.tcp_rules.specs.InOrder.{sending_of, all_of}
 use Rattle.tcp_rules.specs.Moments.{is_due}
 use Rattle.tcp_rules.specs.OpenOffer.{OpenOffer}
 use Rattle.tcp_rules.specs.State.{State}
 use Rattle.tcp_rules.specs.State.TheVariants as In
-use Rattle.tcp_rules.specs.States.{is_closed, owes_fin, sends_syn}
+use Rattle.tcp_rules.specs.Ends.{is_over}
+use Rattle.tcp_rules.specs.Events.{is_past}
+use Rattle.tcp_rules.specs.Offsets.{behind_by}
+use Rattle.tcp_rules.specs.Reply.{Reply}
+use Rattle.tcp_rules.specs.States.{is_answering, is_closed, is_opening, owes_fin, sends_syn}
 use Rattle.tcp_pair_model.specs.Arrival.{arrives}
 use Rattle.tcp_pair_model.specs.Blocks.{one_if}
 use Rattle.tcp_pair_model.specs.Names.{accepts}
 use Rattle.tcp_pair_model.specs.Offers.{offer_of, payload_of}
 use Rattle.tcp_pair_model.specs.Sides.{at, other}
-use Rattle.tcp_pair_model.specs.Steps.{handed, may_come, refusal, taken_at, if_so as refused_if}
-use Rattle.tcp_pair_model.specs.Value.{TcpValue}
-use Rattle.tcp_pair_model.specs.Values.{PairSide, PairValue, and_offer, context_at, past_at}
+use Rattle.tcp_pair_model.specs.Steps.{handed, refusal, taken_at}
+use Rattle.tcp_pair_model.specs.Timestamps.{is_stale}
+use Rattle.tcp_pair_model.specs.Value.{TcpValue, Arrived}
+use Rattle.tcp_pair_model.specs.Values.{PairSide, PairValue, and_offer, and_reply, context_at, past_at}
 use Rattle.tcp_pair_model.specs.declared.event.PairEvent.TheVariants.{Offer}
-use Rattle.tcp_pair_model.specs.declared.event.PairRefused.TheVariants.{Moment}
 use Rattle.tcp_pair_model.specs.declared.event.SentSegment.{SentSegment}
 use Rattle.tcp_pair_model.specs.declared.event.Side.{Side}
 use Rattle.tcp_pair_model.specs.declared.event.Side.TheVariants.{A, B}
 use Rattle.tcp_rules.proofs.OrderSteps.{clash}
 use Rattle.tcp_progress.specs.Arrivals.{is_synchronized}
 use Rattle.tcp_progress.specs.Exchange.{IsOpen}
-use Rattle.tcp_progress.specs.Handshake.{AreOpened, MayShake, answered_in, called_in, shaken_in}
-use Rattle.tcp_progress.specs.Pair.{AreMirrored, context_of, next_sent, offered_in, socket_of}
+use Rattle.tcp_progress.specs.Again.{StartsOver}
+use Rattle.tcp_progress.specs.Clocks.{IsTimely}
+use Rattle.tcp_progress.specs.Handshake.{AreConnected, AreOpened, MayShake, called_in, shaken_in}
+use Rattle.tcp_progress.specs.HandshakeOn.{HasTakenSyn, IsUnanswered, MayAnswer, acked_in}
+use Rattle.tcp_progress.specs.Pair.{context_of, exchanged_in, has_heard, next_sent, offered_in, socket_of}
 use Rattle.tcp_progress.specs.Reached.{IsReached}
-use Rattle.tcp_progress.specs.Rounds.{takes}
+use Rattle.tcp_progress.specs.Rounds.{comes, takes}
 use Rattle.tcp_progress.proofs.Exchange.{last_of}
 use Rattle.tcp_progress.proofs.Kept.{reached_keeps}
-use Rattle.tcp_progress.proofs.Led.{by_two, within}
-use Rattle.tcp_progress.proofs.Mirrored.{reached_mirrored}
+use Rattle.tcp_progress.proofs.Led.{by_answer, by_two, one_more, within}
+use Rattle.tcp_progress.proofs.Mirrored.{connected_mirrored, mirrored_back}
 use Rattle.tcp_progress.proofs.Opened.{is_open}
-use Rattle.tcp_progress.proofs.Pair.{asked_side, partner_after}
+use Rattle.tcp_progress.proofs.Moments.{comes_later}
+use Rattle.tcp_progress.proofs.Pair.{asked_side, partner_after, side_after}
 use Rattle.tcp_progress.proofs.Ready.{ready_side}
-use Rattle.tcp_progress.proofs.ShakeSteps.{Answered, Called, IsFresh, MayCall, Opened, answer, answered, caller_accepts, called, last, listener_accepts}
-use Rattle.tcp_progress.proofs.ShakeSteps.{listener_takes_it, opened, syn}
+use Rattle.tcp_progress.proofs.ShakeSteps.{Answered, Heard, IsFresh, MayCall, Opened, answer, answered, called, caller_accepts, last, listener_accepts, unstamped}
+use Rattle.tcp_progress.proofs.ShakeSteps.{listener_takes_it, opened, syn, taken}
+use Rattle.tcp_progress.proofs.Timely.{ack_timely}
 
 -- AN OFFER THAT COMES
 
 -- a side is asked at a moment, and what it offers comes to its partner
 pub record Comes (side : Side) (s r : PairSide) (moment : ℤ) (k : OpenOffer) (bytes : List ℕ) : Type 0 where
   pub sent : slice_get (asked_side side s r moment).sent (length s.sent) ≡ Some (record { header = k.header; segment = k.segment; bytes = bytes })
+  pub reaches : partner_after side s r moment ≡ taken_at r (arrives (context_at (other side) r) r.socket k.header k.segment bytes)
   pub socket : (partner_after side s r moment).socket ≡ (arrives (context_at (other side) r) r.socket k.header k.segment bytes).socket
   pub clock : (partner_after side s r moment).moment ≡ r.moment
 
-comes_over :
+pub comes_over :
     (side : Side) (s r : PairSide) (moment : ℤ) (k : OpenOffer) (bytes : List ℕ)
     → (offer_of (context_at side (record s { moment = moment })) s.socket).socket.offered ≡ Some k
     → payload_of k k.kind (offer_of (context_at side (record s { moment = moment })) s.socket).socket.queued.queue ≡ bytes
     → accepts r.socket.block k.header k.segment ≡ true → Comes side s r moment k bytes
 comes_over side s r moment k bytes offered is accepted = record {
   sent = found;
+  reaches = reaches;
   socket = ap (λ (x : PairSide). x.socket) reaches;
   clock = ap (λ (x : PairSide). x.moment) reaches;
 }
@@ -83,28 +91,86 @@ comes_over side s r moment k bytes offered is accepted = record {
         ∙ if_so (accepts r.socket.block k.header k.segment) (taken_at r (arrives (context_at (other side) r) r.socket k.header k.segment bytes)) r accepted
 
 -- the events are taken
-reach : (p : PairValue) (side : Side) (moment : ℤ) (x : SentSegment) → IsReached p → refusal p (Offer side moment true) ≡ None
+pub reach : (p : PairValue) (side : Side) (moment : ℤ) (x : SentSegment) → IsReached p → refusal p (Offer side moment true) ≡ None
     → slice_get (at (takes p (Offer side moment true)).sides side).sent (next_sent p side) ≡ Some x → IsReached (offered_in p side moment)
 reach p side moment x r asked found =
     by_two p side moment r asked
     (within (next_sent p side) (length (at (takes p (Offer side moment true)).sides side).sent)
     (slice_get_within (at (takes p (Offer side moment true)).sides side).sent (next_sent p side) x found))
 
+-- AND WHAT ANSWERS IT
+
+-- the answer is the next segment of the partner, and comes back
+module _ (side : Side) (s r : PairSide) (moment : ℤ) (k : OpenOffer) (bytes : List ℕ) (c : Comes side s r moment k bytes) (reply : Reply)
+    (answer : (arrives (context_at (other side) r) r.socket k.header k.segment bytes).answer ≡ Some reply) where
+  abbrev came_to : Arrived
+  came_to = arrives (context_at (other side) r) r.socket k.header k.segment bytes
+
+  abbrev back_sent : SentSegment
+  back_sent = record { header = reply.header; segment = reply.segment; bytes = [] }
+
+  pub one_answered : length (partner_after side s r moment).sent - length r.sent ≡ 1
+  one_answered =
+      ap (λ (t : PairSide). length t.sent - length r.sent) c.reaches
+      ∙ (ap (λ (x : Option Reply). length (and_reply r.sent x) - length r.sent) answer ∙ one_behind r.sent back_sent)
+    where
+      one_behind : (xs : List SentSegment) (x : SentSegment) → length (xs ++ x ∷ []) - length xs ≡ 1
+      one_behind xs x = less (length (xs ++ x ∷ [])) (length xs) (longer xs x) where
+        longer : (xs : List SentSegment) (x : SentSegment) → length (xs ++ x ∷ []) ≡ length xs + 1
+        longer [] x = refl
+        longer (y ∷ xs) x = omega (arith, longer xs x)
+
+        less : (a b : ℕ) → a ≡ b + 1 → a - b ≡ 1
+        less a b e = omega arith
+
+  abbrev asks_at : ContextValue
+  asks_at = context_at side (record s { moment = moment })
+
+  pub back : accepts (asked_side side s r moment).socket.block reply.header reply.segment ≡ true →
+      (side_after side s r moment).socket ≡ (arrives asks_at (asked_side side s r moment).socket reply.header reply.segment []).socket
+  back accepted =
+      ap (λ (x : Option SentSegment). (handed side (asked_side side s r moment) x).socket) found
+      ∙ ap (λ (t : PairSide). t.socket)
+      (if_so (accepts (asked_side side s r moment).socket.block reply.header reply.segment)
+      (taken_at (asked_side side s r moment) (arrives asks_at (asked_side side s r moment).socket reply.header reply.segment []))
+      (asked_side side s r moment) accepted)
+    where
+      found : slice_get (partner_after side s r moment).sent (length r.sent) ≡ Some back_sent
+      found =
+          ap (λ (t : PairSide). slice_get t.sent (length r.sent)) c.reaches
+          ∙ (drawn came_to.draws
+          ∙ (ap (λ (x : Option Reply). slice_get (and_reply r.sent x) (length r.sent)) answer ∙ last_of r.sent back_sent))
+        where
+          drawn : (draws : Bool) → slice_get (taken_at r (record came_to { draws = draws })).sent (length r.sent) ≡
+              slice_get (and_reply r.sent came_to.answer) (length r.sent)
+          drawn draws = refl
+
+-- so the events of an exchange are taken
+abbrev Answers : PairValue → Side → ℤ → Type 0
+Answers p side moment = next_sent (offered_in p side moment) (other side) - next_sent p (other side) ≡ 1
+
+pub exchange_reached : (p : PairValue) (side : Side) (moment : ℤ) → IsReached (offered_in p side moment) → Answers p side moment →
+    IsReached (exchanged_in p side moment)
+exchange_reached p side moment r one =
+    by_answer (offered_in p side moment) (other side) (next_sent p (other side))
+    (next_sent (offered_in p side moment) (other side) - next_sent p (other side)) (inr one)
+    (λ one.
+    within (next_sent p (other side)) (next_sent (offered_in p side moment) (other side))
+    (one_more (next_sent p (other side)) (next_sent (offered_in p side moment) (other side)) one))
+    r
+
+pub exchange_is : (p : PairValue) (side : Side) (moment : ℤ) → Answers p side moment →
+    exchanged_in p side moment ≡ comes 1 (other side) (next_sent p (other side)) (offered_in p side moment)
+exchange_is p side moment one = ap (λ (n : ℕ). comes n (other side) (next_sent p (other side)) (offered_in p side moment)) one
+
 -- WHAT EVENTS LED TO
 
-asking : (p : PairValue) (side : Side) (r : IsReached p) → (socket_of p side).block.state ≡ In.SynSent →
+pub asking : (p : PairValue) (side : Side) (r : IsReached p) → (socket_of p side).block.state ≡ In.SynSent →
     IsAsking (core_of (socket_of p side)) (unsent (reached_keeps p side r).side)
 asking p side r at =
     subst (λ (state : State). FitsIn state (core_of (socket_of p side)) (unsent (reached_keeps p side r).side)) at (reached_keeps p side r).fits
 
-pub listened : (p : PairValue) (side : Side) → IsReached p → (socket_of p side).block.state ≡ In.Listen → (past_at p side).opening ≡ Passive
-listened p side r at =
-    let k = reached_keeps p side r in
-    let f : IsListening (core_of (socket_of p side)) (unsent k.side) =
-    subst (λ (state : State). FitsIn state (core_of (socket_of p side)) (unsent k.side)) at k.fits in
-    sym (ap (λ (p : Past). p.opening) k.past) ∙ ap (λ (x : Half). x.opening) f.side
-
-acked : (p : PairValue) (side : Side) → IsReached p → (socket_of p side).block.state ≡ In.Established → (socket_of p side).block.sender.syn_unacked ≡ false
+pub acked : (p : PairValue) (side : Side) → IsReached p → (socket_of p side).block.state ≡ In.Established → (socket_of p side).block.sender.syn_unacked ≡ false
 acked p side r at = by f.opened where
   k : Keeps (socket_of p side) (past_at p side) (socket_of p (other side)) (past_at p (other side))
   k = reached_keeps p side r
@@ -120,7 +186,7 @@ acked p side r at = by f.opened where
 pub una_of : (p : PairValue) (side : Side) → IsReached p → (socket_of p side).block.sender.una.0 < 2 ^ 32
 una_of p side r = (ready_side p side r).order.number
 
-fresh_of : (p : PairValue) (side : Side) → IsReached p → (socket_of p side).block.state ≡ In.SynSent → IsFresh (socket_of p side)
+pub fresh_of : (p : PairValue) (side : Side) → IsReached p → (socket_of p side).block.state ≡ In.SynSent → IsFresh (socket_of p side)
 fresh_of p side r at = record { in_flight = few; top = f.top; una_small = una_of p side r } where
   f : IsAsking (core_of (socket_of p side)) (unsent (reached_keeps p side r).side)
   f = asking p side r at
@@ -136,7 +202,7 @@ fresh_of p side r at = record { in_flight = few; top = f.top; una_small = una_of
       subst (λ (n : ℕ). (socket_of p side).block.sender.in_flight ≤ n) all
       ((ready_side p side r).order.within (ap is_closed at))
 
-may_call : (p : PairValue) (side : Side) (first second third : ℤ) → IsReached p → MayShake p side first second third →
+pub may_call : (p : PairValue) (side : Side) (first second third : ℤ) → IsReached p → MayShake p side first second third →
     MayCall (context_of p side first) (socket_of p side) (socket_of p (other side))
 may_call p side first second third r m =
     let f = asking p side r m.calls in
@@ -157,181 +223,285 @@ may_call p side first second third r m =
       queue = f.queue;
     }
 
--- a moment that may come isn't before the last one
-pub comes_later : (last moment : ℤ) → refused_if (not (may_come last moment)) Moment ≡ None → is_due moment (Some last) ≡ true
-comes_later last moment e = third (int_le (pos 0) moment) (int_le moment (pos last_moment)) (int_le last moment) (so (may_come last moment) e) where
-  so : (t : Bool) → refused_if (not t) Moment ≡ None → t ≡ true
-  so true e = refl
-  so false e = absurd (cc)
+-- in SYN-RECEIVED the own SYN isn't acknowledged, and the other's was taken
+pub record IsAnswering (v : TcpValue) : Type 0 where
+  pub syn_unacked : v.block.sender.syn_unacked ≡ true
+  pub took_syn : v.block.receiver.took_syn ≡ true
+  pub small : v.block.sender.una.0 < 2 ^ 32
 
-  third : (a b c : Bool) → (a && (b && c)) ≡ true → c ≡ true
-  third true true c e = e
-  third true false c e = clash (sym e)
-  third false b c e = clash (sym e)
+pub answering_in : (p : PairValue) (side : Side) → IsReached p → (socket_of p side).block.state ≡ In.SynReceived → IsAnswering (socket_of p side)
+answering_in p side r at = record {
+  syn_unacked = by (socket_of p side).block.sender.syn_unacked refl;
+  took_syn = (ready_side p side r).order.took (ap is_past at);
+  small = una_of p side r;
+}
+  where
+    by : (t : Bool) → (socket_of p side).block.sender.syn_unacked ≡ t → (socket_of p side).block.sender.syn_unacked ≡ true
+    by true e = e
+    by false e =
+        clash
+        (sym (ap (λ (state : State). is_opening state || is_answering state) at) ∙ (ready_side p side r).order.opened e)
 
--- THE HANDSHAKE
-
-pub record Shaken (p : PairValue) (side : Side) (first second third : ℤ) : Type 0 where
-  pub opened : AreOpened (shaken_in p side first second third) side
-  pub leads : IsReached (shaken_in p side first second third)
-  pub own : IsOpen (socket_of (shaken_in p side first second third) side).block
-  pub theirs : IsOpen (socket_of (shaken_in p side first second third) (other side)).block
-  pub mirrored : AreMirrored (socket_of (shaken_in p side first second third) side).block (socket_of (shaken_in p side first second third) (other side)).block
-  pub passive : (past_at (shaken_in p side first second third) (other side)).opening ≡ Passive
+-- the caller, and the side that has taken its SYN
+pub heard_in : (p : PairValue) (side : Side) → IsReached p → IsUnanswered p side → Heard (socket_of p side) (socket_of p (other side))
+heard_in p side r m =
+    let f = asking p side r m.calls in
+    let a = answering_in p (other side) r m.answerer.answers in
+    record {
+      mirrored = mirrored_back p side r (ap has_heard m.answerer.answers) (ap is_over m.calls);
+      calls = m.calls;
+      caller = m.caller;
+      queue = f.queue;
+      answerer = m.answerer;
+      syn_unacked = a.syn_unacked;
+      took_syn = a.took_syn;
+      next = by side m.took;
+    }
+  where
+    by : (side : Side) → HasTakenSyn p (other side) →
+        (socket_of p (other side)).block.receiver.next ≡ behind_by (socket_of p side).block.sender.una 1
+    by A took = took
+    by B took = took
 
 -- what follows of two sides that are open
-open_in : (p : PairValue) (side : Side) → IsReached p → (socket_of p side).block.state ≡ In.Established → IsOpen (socket_of p side).block
+pub open_in : (p : PairValue) (side : Side) → IsReached p → (socket_of p side).block.state ≡ In.Established → IsOpen (socket_of p side).block
 open_in p side r at = is_open p side r (ap is_synchronized at) (acked p side r at)
 
-module _ (side : Side) (s r : PairSide) (first second third : ℤ) (m : MayCall (context_at side (record s { moment = first })) s.socket r.socket) where
+pub connected_in : (p : PairValue) (side : Side) → IsReached p → AreOpened p side → AreConnected p side
+connected_in p side r o = record {
+  leads = r;
+  opened = o;
+  own = open_in p side r o.own;
+  theirs = open_in p (other side) r o.theirs;
+  mirrored = connected_mirrored p side r (ap is_synchronized o.own) (ap is_synchronized o.theirs);
+}
+
+-- THE SYN
+
+module _ (side : Side) (s r : PairSide) (first : ℤ) (m : MayCall (context_at side (record s { moment = first })) s.socket r.socket) where
   abbrev pub cx : ContextValue
   cx = context_at side (record s { moment = first })
 
+  abbrev pub cy : ContextValue
+  cy = context_at (other side) r
+
   abbrev pub k : OpenOffer
-  k = (syn cx (context_at (other side) r) s.socket r.socket m).k
+  k = (syn cx cy s.socket r.socket m).k
 
   abbrev pub bytes : List ℕ
   bytes = payload_of k k.kind (offer_of cx s.socket).socket.queued.queue
 
-  abbrev pub s1 : PairSide
-  s1 = asked_side side s r first
-
-  abbrev pub r1 : PairSide
-  r1 = partner_after side s r first
-
   pub came : Comes side s r first k bytes
   came =
-      comes_over side s r first k bytes (syn cx (context_at (other side) r) s.socket r.socket m).offered refl
-      (listener_accepts cx (context_at (other side) r) s.socket r.socket m)
+      comes_over side s r first k bytes (syn cx cy s.socket r.socket m).offered refl (listener_accepts cx cy s.socket r.socket m)
 
-  pub after_syn : Called s1.socket r1.socket
-  after_syn = subst (Called s1.socket) (sym came.socket) (called cx (context_at (other side) r) s.socket r.socket m bytes)
+  pub after_syn : Heard (asked_side side s r first).socket (partner_after side s r first).socket
+  after_syn =
+      subst (Heard (asked_side side s r first).socket) (sym came.socket) (called cx cy s.socket r.socket m bytes)
 
-  module _ (f : IsFresh s1.socket) where
-    abbrev pub cx2 : ContextValue
-    cx2 = context_at (other side) (record r1 { moment = second })
+  -- nothing of the answer is in flight
+  pub unanswered_yet : (partner_after side s r first).socket.block.sender.in_flight ≡ 0
+  unanswered_yet = ap (λ (v : TcpValue). v.block.sender.in_flight) came.socket ∙ (taken cx cy s.socket r.socket m bytes).in_flight
 
-    abbrev pub cy2 : ContextValue
-    cy2 = context_at (other (other side)) s1
+-- ITS ANSWER, AND THE ACKNOWLEDGEMENT OF THAT
 
-    abbrev pub k2 : OpenOffer
-    k2 = (answer cx2 cy2 s1.socket r1.socket refl after_syn f).k
+-- `s` is the side that calls
+module _ (side : Side) (s r : PairSide) (second third : ℤ) (h : Heard s.socket r.socket)
+    (over : StartsOver (context_at (other side) (record r { moment = second })) r.socket) (f : IsFresh s.socket) where
+  abbrev pub cx2 : ContextValue
+  cx2 = context_at (other side) (record r { moment = second })
 
-    abbrev pub bytes2 : List ℕ
-    bytes2 = payload_of k2 k2.kind (offer_of cx2 r1.socket).socket.queued.queue
+  abbrev pub cy2 : ContextValue
+  cy2 = context_at (other (other side)) s
 
-    abbrev pub r2 : PairSide
-    r2 = asked_side (other side) r1 s1 second
+  abbrev pub k2 : OpenOffer
+  k2 = (answer cx2 cy2 s.socket r.socket refl h over f).k
 
-    abbrev pub s2 : PairSide
-    s2 = partner_after (other side) r1 s1 second
+  abbrev pub bytes2 : List ℕ
+  bytes2 = payload_of k2 k2.kind (offer_of cx2 r.socket).socket.queued.queue
 
-    pub came2 : Comes (other side) r1 s1 second k2 bytes2
-    came2 =
-        comes_over (other side) r1 s1 second k2 bytes2 (answer cx2 cy2 s1.socket r1.socket refl after_syn f).offered refl
-        (caller_accepts cx2 cy2 s1.socket r1.socket refl after_syn f)
+  abbrev pub r2 : PairSide
+  r2 = asked_side (other side) r s second
 
-    pub after_answer : Answered first s2.socket r2.socket
-    after_answer =
-        subst (λ (v : TcpValue). Answered first v r2.socket) (sym came2.socket) (answered cx2 cy2 s1.socket r1.socket refl after_syn f bytes2)
+  abbrev pub s2 : PairSide
+  s2 = partner_after (other side) r s second
 
-    module _ (later : is_due third (Some first) ≡ true) (small : s2.socket.block.sender.una.0 < 2 ^ 32)
-        (partner_small : r2.socket.block.sender.una.0 < 2 ^ 32) where
-      abbrev pub cx3 : ContextValue
-      cx3 = context_at side (record s2 { moment = third })
+  pub came2 : Comes (other side) r s second k2 bytes2
+  came2 =
+      comes_over (other side) r s second k2 bytes2 (answer cx2 cy2 s.socket r.socket refl h over f).offered refl
+      (caller_accepts cx2 cy2 s.socket r.socket refl h over f)
 
-      abbrev pub cy3 : ContextValue
-      cy3 = context_at (other side) r2
+  pub after_answer : Answered s.moment s2.socket r2.socket
+  after_answer =
+      subst (λ (v : TcpValue). Answered s.moment v r2.socket) (sym came2.socket) (answered cx2 cy2 s.socket r.socket refl h over f bytes2)
 
-      abbrev pub k3 : OpenOffer
-      k3 = (last cx3 cy3 s2.socket r2.socket first after_answer later small partner_small).k
+  module _ (later : is_due third (Some s.moment) ≡ true) (small : s2.socket.block.sender.una.0 < 2 ^ 32)
+      (partner_small : r2.socket.block.sender.una.0 < 2 ^ 32) where
+    abbrev pub cx3 : ContextValue
+    cx3 = context_at side (record s2 { moment = third })
 
-      pub came3 : Comes side s2 r2 third k3 []
-      came3 =
-          comes_over side s2 r2 third k3 [] (last cx3 cy3 s2.socket r2.socket first after_answer later small partner_small).offered
-          (last cx3 cy3 s2.socket r2.socket first after_answer later small partner_small).bare
-          (listener_takes_it cx3 cy3 s2.socket r2.socket first after_answer later small partner_small)
+    abbrev pub cy3 : ContextValue
+    cy3 = context_at (other side) r2
 
-      after_ack : Opened (asked_side side s2 r2 third).socket (partner_after side s2 r2 third).socket
-      after_ack =
-          subst (Opened (asked_side side s2 r2 third).socket) (sym came3.socket)
-          (opened cx3 cy3 s2.socket r2.socket first after_answer later small partner_small)
+    abbrev pub k3 : OpenOffer
+    k3 = (last cx3 cy3 s2.socket r2.socket s.moment after_answer later small partner_small).k
 
--- what the three steps lead to
-shaken_by :
-    (p : PairValue) (side : Side) (first second third : ℤ) → IsReached (shaken_in p side first second third)
-    → Opened (socket_of (shaken_in p side first second third) side) (socket_of (shaken_in p side first second third) (other side))
-    → (past_at (shaken_in p side first second third) (other side)).opening ≡ Passive
-    → IsOpen (socket_of (shaken_in p side first second third) (other side)).block → Shaken p side first second third
-shaken_by p side first second third r o passive theirs = record {
-  opened = record { own = o.own; theirs = o.theirs; una = o.una; partner_una = o.partner_una };
-  leads = r;
-  own = open_in (shaken_in p side first second third) side r o.own;
-  theirs = theirs;
-  mirrored =
-      reached_mirrored (shaken_in p side first second third) side r (ap is_synchronized o.own) (ap is_synchronized o.theirs) (inr passive);
-  passive = passive;
-}
+    pub came3 : Comes side s2 r2 third k3 []
+    came3 =
+        comes_over side s2 r2 third k3 [] (last cx3 cy3 s2.socket r2.socket s.moment after_answer later small partner_small).offered
+        (last cx3 cy3 s2.socket r2.socket s.moment after_answer later small partner_small).bare
+        (listener_takes_it cx3 cy3 s2.socket r2.socket s.moment after_answer later small partner_small)
 
-module _ (p : PairValue) (first second third : ℤ) (r : IsReached p) where
-  module _ (m : MayShake p A first second third) where
-    pub may_a : MayCall (context_of p A first) p.sides.a.socket p.sides.b.socket
-    may_a = may_call p A first second third r m
+    -- it isn't too old
+    abbrev pub IsFreshAck : Type 0
+    IsFreshAck = is_stale r2.socket.block k3.segment cy3.moment ≡ false
 
-    pub a1 : IsReached (called_in p A first)
-    a1 = reach p A first _ r m.at_first (came A p.sides.a p.sides.b first second third may_a).sent
+    pub after_ack : IsFreshAck → Opened (asked_side side s2 r2 third).socket (partner_after side s2 r2 third).socket
+    after_ack fresh =
+        subst (Opened (asked_side side s2 r2 third).socket) (sym came3.socket)
+        (opened cx3 cy3 s2.socket r2.socket s.moment after_answer later small partner_small fresh)
 
-    pub fresh_a : IsFresh (socket_of (called_in p A first) A)
-    fresh_a = fresh_of (called_in p A first) A a1 (after_syn A p.sides.a p.sides.b first second third may_a).calls
+module _ (p : PairValue) (second third : ℤ) (r : IsReached p) where
+  module _ (m : MayAnswer p A second third) where
+    pub heard_a : Heard p.sides.a.socket p.sides.b.socket
+    heard_a = heard_in p A r m.unanswered
 
-    answer_a : Comes B (called_in p A first).sides.b (called_in p A first).sides.a second
-        (k2 A p.sides.a p.sides.b first second third may_a fresh_a) (bytes2 A p.sides.a p.sides.b first second third may_a fresh_a)
-    answer_a = came2 A p.sides.a p.sides.b first second third may_a fresh_a
+    pub fresh_a : IsFresh p.sides.a.socket
+    fresh_a = fresh_of p A r m.unanswered.calls
 
-    pub a2 : IsReached (answered_in p A first second)
-    a2 = reach (called_in p A first) B second _ a1 m.at_second answer_a.sent
+    pub answer_a : Comes B p.sides.b p.sides.a second (k2 A p.sides.a p.sides.b second third heard_a m.over fresh_a)
+        (bytes2 A p.sides.a p.sides.b second third heard_a m.over fresh_a)
+    answer_a = came2 A p.sides.a p.sides.b second third heard_a m.over fresh_a
 
-    pub later_a : is_due third (Some first) ≡ true
-    later_a = subst (λ (t : ℤ). is_due third (Some t) ≡ true) answer_a.clock (comes_later (answered_in p A first second).sides.a.moment third m.at_third)
+    pub a2 : IsReached (offered_in p B second)
+    a2 = reach p B second _ r m.at_second answer_a.sent
 
-    shake_a : Shaken p A first second third
-    shake_a =
-        let small = una_of (answered_in p A first second) A a2 in
-        let partner_small = una_of (answered_in p A first second) B a2 in
-        let a3 = reach (answered_in p A first second) A third _ a2 m.at_third
-        (came3 A p.sides.a p.sides.b first second third may_a fresh_a later_a small partner_small).sent in
-        let o = after_ack A p.sides.a p.sides.b first second third may_a fresh_a later_a small partner_small in
-        shaken_by p A first second third a3 o (listened p B r m.listens) (open_in (shaken_in p A first second third) B a3 o.theirs)
+    pub later_a : is_due third (Some p.sides.a.moment) ≡ true
+    later_a =
+        subst (λ (t : ℤ). is_due third (Some t) ≡ true) answer_a.clock (comes_later (offered_in p B second).sides.a.moment third m.at_third)
 
-  module _ (m : MayShake p B first second third) where
-    pub may_b : MayCall (context_of p B first) p.sides.b.socket p.sides.a.socket
-    may_b = may_call p B first second third r m
+    pub timely_a :
+        (small : (s2 A p.sides.a p.sides.b second third heard_a m.over fresh_a).socket.block.sender.una.0 < 2 ^ 32)
+        (partner_small : (r2 A p.sides.a p.sides.b second third heard_a m.over fresh_a).socket.block.sender.una.0 < 2 ^ 32)
+        → IsFreshAck A p.sides.a p.sides.b second third heard_a m.over fresh_a later_a small partner_small
+    timely_a small partner_small = by m.stamps where
+      now : ℤ
+      now = (cy3 A p.sides.a p.sides.b second third heard_a m.over fresh_a later_a small partner_small).moment
 
-    pub b1 : IsReached (called_in p B first)
-    b1 = reach p B first _ r m.at_first (came B p.sides.b p.sides.a first second third may_b).sent
+      by : IsTimely p A third → IsFreshAck A p.sides.a p.sides.b second third heard_a m.over fresh_a later_a small partner_small
+      by (inl none) =
+          unstamped (cx2 A p.sides.a p.sides.b second third heard_a m.over fresh_a) p.sides.b.socket
+          (answer (cx2 A p.sides.a p.sides.b second third heard_a m.over fresh_a) (cy2 A p.sides.a p.sides.b second third heard_a m.over fresh_a)
+          p.sides.a.socket p.sides.b.socket refl heard_a m.over fresh_a)
+          none (k3 A p.sides.a p.sides.b second third heard_a m.over fresh_a later_a small partner_small).segment now
+      by (inr d) =
+          ack_timely p A second third now (k3 A p.sides.a p.sides.b second third heard_a m.over fresh_a later_a small partner_small) a2 m.at_third d
+          (last (cx3 A p.sides.a p.sides.b second third heard_a m.over fresh_a later_a small partner_small)
+          (cy3 A p.sides.a p.sides.b second third heard_a m.over fresh_a later_a small partner_small)
+          (s2 A p.sides.a p.sides.b second third heard_a m.over fresh_a).socket (r2 A p.sides.a p.sides.b second third heard_a m.over fresh_a).socket
+          p.sides.a.moment (after_answer A p.sides.a p.sides.b second third heard_a m.over fresh_a) later_a small partner_small).offered
 
-    pub fresh_b : IsFresh (socket_of (called_in p B first) B)
-    fresh_b = fresh_of (called_in p B first) B b1 (after_syn B p.sides.b p.sides.a first second third may_b).calls
+    answered_a : AreConnected (acked_in p A second third) A
+    answered_a =
+        let small = una_of (offered_in p B second) A a2 in
+        let partner_small = una_of (offered_in p B second) B a2 in
+        let a3 =
+        reach (offered_in p B second) A third _ a2 m.at_third
+        (came3 A p.sides.a p.sides.b second third heard_a m.over fresh_a later_a small partner_small).sent in
+        let o = after_ack A p.sides.a p.sides.b second third heard_a m.over fresh_a later_a small partner_small (timely_a small partner_small) in
+        connected_in (acked_in p A second third) A a3 (record { own = o.own; theirs = o.theirs; una = o.una; partner_una = o.partner_una })
 
-    answer_b : Comes A (called_in p B first).sides.a (called_in p B first).sides.b second
-        (k2 B p.sides.b p.sides.a first second third may_b fresh_b) (bytes2 B p.sides.b p.sides.a first second third may_b fresh_b)
-    answer_b = came2 B p.sides.b p.sides.a first second third may_b fresh_b
+  module _ (m : MayAnswer p B second third) where
+    pub heard_b : Heard p.sides.b.socket p.sides.a.socket
+    heard_b = heard_in p B r m.unanswered
 
-    pub b2 : IsReached (answered_in p B first second)
-    b2 = reach (called_in p B first) A second _ b1 m.at_second answer_b.sent
+    pub fresh_b : IsFresh p.sides.b.socket
+    fresh_b = fresh_of p B r m.unanswered.calls
 
-    pub later_b : is_due third (Some first) ≡ true
-    later_b = subst (λ (t : ℤ). is_due third (Some t) ≡ true) answer_b.clock (comes_later (answered_in p B first second).sides.b.moment third m.at_third)
+    pub answer_b : Comes A p.sides.a p.sides.b second (k2 B p.sides.b p.sides.a second third heard_b m.over fresh_b)
+        (bytes2 B p.sides.b p.sides.a second third heard_b m.over fresh_b)
+    answer_b = came2 B p.sides.b p.sides.a second third heard_b m.over fresh_b
 
-    shake_b : Shaken p B first second third
-    shake_b =
-        let small = una_of (answered_in p B first second) B b2 in
-        let partner_small = una_of (answered_in p B first second) A b2 in
-        let b3 = reach (answered_in p B first second) B third _ b2 m.at_third
-        (came3 B p.sides.b p.sides.a first second third may_b fresh_b later_b small partner_small).sent in
-        let o = after_ack B p.sides.b p.sides.a first second third may_b fresh_b later_b small partner_small in
-        shaken_by p B first second third b3 o (listened p A r m.listens) (open_in (shaken_in p B first second third) A b3 o.theirs)
+    pub b2 : IsReached (offered_in p A second)
+    b2 = reach p A second _ r m.at_second answer_b.sent
 
-pub shake : (p : PairValue) (side : Side) (first second third : ℤ) → IsReached p → MayShake p side first second third → Shaken p side first second third
-shake p A first second third r m = shake_a p first second third r m
-shake p B first second third r m = shake_b p first second third r m
+    pub later_b : is_due third (Some p.sides.b.moment) ≡ true
+    later_b =
+        subst (λ (t : ℤ). is_due third (Some t) ≡ true) answer_b.clock (comes_later (offered_in p A second).sides.b.moment third m.at_third)
+
+    pub timely_b :
+        (small : (s2 B p.sides.b p.sides.a second third heard_b m.over fresh_b).socket.block.sender.una.0 < 2 ^ 32)
+        (partner_small : (r2 B p.sides.b p.sides.a second third heard_b m.over fresh_b).socket.block.sender.una.0 < 2 ^ 32)
+        → IsFreshAck B p.sides.b p.sides.a second third heard_b m.over fresh_b later_b small partner_small
+    timely_b small partner_small = by m.stamps where
+      now : ℤ
+      now = (cy3 B p.sides.b p.sides.a second third heard_b m.over fresh_b later_b small partner_small).moment
+
+      by : IsTimely p B third → IsFreshAck B p.sides.b p.sides.a second third heard_b m.over fresh_b later_b small partner_small
+      by (inl none) =
+          unstamped (cx2 B p.sides.b p.sides.a second third heard_b m.over fresh_b) p.sides.a.socket
+          (answer (cx2 B p.sides.b p.sides.a second third heard_b m.over fresh_b) (cy2 B p.sides.b p.sides.a second third heard_b m.over fresh_b)
+          p.sides.b.socket p.sides.a.socket refl heard_b m.over fresh_b)
+          none (k3 B p.sides.b p.sides.a second third heard_b m.over fresh_b later_b small partner_small).segment now
+      by (inr d) =
+          ack_timely p B second third now (k3 B p.sides.b p.sides.a second third heard_b m.over fresh_b later_b small partner_small) b2 m.at_third d
+          (last (cx3 B p.sides.b p.sides.a second third heard_b m.over fresh_b later_b small partner_small)
+          (cy3 B p.sides.b p.sides.a second third heard_b m.over fresh_b later_b small partner_small)
+          (s2 B p.sides.b p.sides.a second third heard_b m.over fresh_b).socket (r2 B p.sides.b p.sides.a second third heard_b m.over fresh_b).socket
+          p.sides.b.moment (after_answer B p.sides.b p.sides.a second third heard_b m.over fresh_b) later_b small partner_small).offered
+
+    answered_b : AreConnected (acked_in p B second third) B
+    answered_b =
+        let small = una_of (offered_in p A second) B b2 in
+        let partner_small = una_of (offered_in p A second) A b2 in
+        let b3 =
+        reach (offered_in p A second) B third _ b2 m.at_third
+        (came3 B p.sides.b p.sides.a second third heard_b m.over fresh_b later_b small partner_small).sent in
+        let o = after_ack B p.sides.b p.sides.a second third heard_b m.over fresh_b later_b small partner_small (timely_b small partner_small) in
+        connected_in (acked_in p B second third) B b3 (record { own = o.own; theirs = o.theirs; una = o.una; partner_una = o.partner_una })
+
+pub answers_on : (p : PairValue) (side : Side) (second third : ℤ) → IsReached p → MayAnswer p side second third → AreConnected (acked_in p side second third) side
+answers_on p A second third r m = answered_a p second third r m
+answers_on p B second third r m = answered_b p second third r m
+
+-- THREE SEGMENTS
+
+-- the SYN has come: its answer is to go
+pub record Begun (p : PairValue) (side : Side) (first second third : ℤ) : Type 0 where
+  pub leads : IsReached (called_in p side first)
+  pub may : MayAnswer (called_in p side first) side second third
+
+pub syn_came : (p : PairValue) (side : Side) (first second third : ℤ) → IsReached p → MayShake p side first second third → Begun p side first second third
+syn_came p A first second third r m =
+    let may = may_call p A first second third r m in
+    let h = after_syn A p.sides.a p.sides.b first may in
+    record {
+      leads = reach p A first _ r m.at_first (came A p.sides.a p.sides.b first may).sent;
+      may =
+          record {
+            unanswered = record { calls = h.calls; caller = h.caller; answerer = h.answerer; took = h.next };
+            over = inl (unanswered_yet A p.sides.a p.sides.b first may);
+            at_second = m.at_second;
+            at_third = m.at_third;
+            stamps = m.stamps;
+          };
+    }
+syn_came p B first second third r m =
+    let may = may_call p B first second third r m in
+    let h = after_syn B p.sides.b p.sides.a first may in
+    record {
+      leads = reach p B first _ r m.at_first (came B p.sides.b p.sides.a first may).sent;
+      may =
+          record {
+            unanswered = record { calls = h.calls; caller = h.caller; answerer = h.answerer; took = h.next };
+            over = inl (unanswered_yet B p.sides.b p.sides.a first may);
+            at_second = m.at_second;
+            at_third = m.at_third;
+            stamps = m.stamps;
+          };
+    }
+
+pub shake : (p : PairValue) (side : Side) (first second third : ℤ) → IsReached p → MayShake p side first second third →
+    AreConnected (shaken_in p side first second third) side
+shake p side first second third r m =
+    let b = syn_came p side first second third r m in answers_on (called_in p side first) side second third b.leads b.may

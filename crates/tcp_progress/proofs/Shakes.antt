@@ -31,7 +31,7 @@ use Rattle.tcp_pair_model.specs.FirstNumbers.{first_number, draws_number}
 use Rattle.tcp_pair_model.specs.Probing.{probe_kept}
 use Rattle.tcp_pair_model.specs.Segments.{rst_reply, segment_len}
 use Rattle.tcp_pair_model.specs.Text.{Texted, texted, with_bytes_at, has_new_text, takes_fin, fin_taken}
-use Rattle.tcp_pair_model.specs.Timestamps.{believed, is_outdated, stamp_taken, uses_stamps}
+use Rattle.tcp_pair_model.specs.Timestamps.{believed, is_stale, stamp_taken}
 use Rattle.tcp_pair_model.specs.Value.{TcpValue, Arrived, with_block, answered_with, dropped, unoffered, ended, queued_in, free_in, room_of}
 use Rattle.tcp_tie.proofs.Tied.{if_so, if_not}
 use Rattle.tcp_rules.proofs.ArrivalCases.{acked_cases, acked_open}
@@ -228,6 +228,9 @@ pub record Opens (w : TcpValue) (a : Arrived) : Type 0 where
   pub limit : a.socket.block.settings.retries ≡ w.block.settings.retries
   pub agreed : a.socket.block.peer.timestamps ≡ w.block.peer.timestamps
   pub room : room_of a.socket.received ≡ room_of w.received
+  pub names : a.socket.block.names ≡ w.block.names
+  pub top : a.socket.block.sender.top ≡ w.block.sender.top - 1
+  pub undrawn : a.socket.block.timers.draws_from ≡ w.block.timers.draws_from
 
 -- a bare acknowledgement
 pub record IsPlain (header : TcpHeader) : Type 0 where
@@ -247,9 +250,28 @@ at_itself n e = omega arith
 at_first : (n : ℕ) → n < 2 ^ 32 → (n + (2 ^ 32 - n)) % 2 ^ 32 < 2 ^ 31
 at_first n e = omega arith
 
+-- it lies in the window where it begins at RCV.NXT
+pub there_at_next :
+    (w : TcpValue) (header : TcpHeader) → IsPlain header → header.seq_number ≡ w.block.receiver.next → w.block.receiver.next.0 < 2 ^ 32
+    → is_in_window w.block (free_in w) header 0 ≡ true
+there_at_next w header p begins_at small =
+    ap (λ (d : ℕ). meets_window d (past_by w.block.receiver.next header.seq_number) (segment_len header 0) (free_in w)) (it.before ∙ none)
+    ∙ (ap (λ (d : ℕ). meets_window 0 d (segment_len header 0) (free_in w)) it.past
+    ∙ ap (λ (size : ℕ). meets_window 0 0 (0 + size) (free_in w)) p.none)
+  where
+    near : distance_of header.seq_number w.block.receiver.next < 2 ^ 31
+    near = subst (λ (n : SeqNumber). distance_of n w.block.receiver.next < 2 ^ 31) (sym begins_at) (at_first w.block.receiver.next.0 small)
+
+    none : distance_of header.seq_number w.block.receiver.next ≡ 0
+    none = subst (λ (n : SeqNumber). distance_of n w.block.receiver.next ≡ 0) (sym begins_at) (at_itself w.block.receiver.next.0 small)
+
+    it : Begins w.block.receiver.next header.seq_number
+    it =
+        begins w.block.receiver.next header.seq_number (subst (λ (n : SeqNumber). n.0 < 2 ^ 32) (sym begins_at) small) small near
+
 module _ (cx : ContextValue) (w : TcpValue) (ip : IpRepr) (header : TcpHeader) (number : SeqNumber) (at : w.block.state ≡ In.SynReceived)
-    (p : IsPlain header) (begins_at : header.seq_number ≡ w.block.receiver.next) (small : w.block.receiver.next.0 < 2 ^ 32)
-    (acknowledges : header.ack_number ≡ Some number) (one : distance_of w.block.sender.una number ≡ 1) (stampless : uses_stamps w.block ≡ false) where
+    (p : IsPlain header) (there : is_in_window w.block (free_in w) header 0 ≡ true)
+    (acknowledges : header.ack_number ≡ Some number) (one : distance_of w.block.sender.una number ≡ 1) (fresh : is_stale w.block header cx.moment ≡ false) where
   abbrev u : TcpValue
   u = unoffered w
 
@@ -263,24 +285,8 @@ module _ (cx : ContextValue) (w : TcpValue) (ip : IpRepr) (header : TcpHeader) (
       (synchronized_check w.block (past_by w.block.sender.una number) (before_by w.block.sender.una number)) (ap is_answering at)
       ∙ if_so (distance_of w.block.sender.una number == 1) (Passes 1) Resets (eq-eqb (distance_of w.block.sender.una number) 1 one))
 
-  there : is_in_window w.block (free_in w) header 0 ≡ true
-  there =
-      ap (λ (d : ℕ). meets_window d (past_by w.block.receiver.next header.seq_number) (segment_len header 0) (free_in w)) (it.before ∙ none)
-      ∙ (ap (λ (d : ℕ). meets_window 0 d (segment_len header 0) (free_in w)) it.past
-      ∙ ap (λ (size : ℕ). meets_window 0 0 (0 + size) (free_in w)) p.none)
-    where
-      near : distance_of header.seq_number w.block.receiver.next < 2 ^ 31
-      near = subst (λ (n : SeqNumber). distance_of n w.block.receiver.next < 2 ^ 31) (sym begins_at) (at_first w.block.receiver.next.0 small)
-
-      none : distance_of header.seq_number w.block.receiver.next ≡ 0
-      none = subst (λ (n : SeqNumber). distance_of n w.block.receiver.next ≡ 0) (sym begins_at) (at_itself w.block.receiver.next.0 small)
-
-      it : Begins w.block.receiver.next header.seq_number
-      it =
-          begins w.block.receiver.next header.seq_number (subst (λ (n : SeqNumber). n.0 < 2 ^ 32) (sym begins_at) small) small near
-
-  neither : (a b c d : Bool) → a ≡ false → c ≡ false → ((a && b) || (c && d)) ≡ false
-  neither a b c d e f = ap (λ (t : Bool). (t && b) || (c && d)) e ∙ ap (λ (t : Bool). t && d) f
+  neither : (a c d : Bool) → a ≡ false → c ≡ false → (a || (c && d)) ≡ false
+  neither a c d e f = ap (λ (t : Bool). t || (c && d)) e ∙ ap (λ (t : Bool). t && d) f
 
   path : arrives cx w ip header [] ≡ taken cx u ip header [] 1
   path =
@@ -291,7 +297,7 @@ module _ (cx : ContextValue) (w : TcpValue) (ip : IpRepr) (header : TcpHeader) (
       (if draws_first w.block header cx.moment then drawn cx u ip header else checked (acknowledgement_check w.block header.ack_number) cx u ip header [])
       p.no_reset
       ∙ (if_not (draws_first w.block header cx.moment) (drawn cx u ip header) (checked (acknowledgement_check w.block header.ack_number) cx u ip header [])
-      (neither (uses_stamps w.block) (is_outdated w.block header cx.moment) (is_syn header.control) (not (is_answering w.block.state)) stampless no_syn)
+      (neither (is_stale w.block header cx.moment) (is_syn header.control) (not (is_answering w.block.state)) fresh no_syn)
       ∙ (ap (λ (check : Check). checked check cx u ip header []) passes
       ∙ (if_so (is_in_window w.block (free_in w) header 0) (inside cx u ip header [] 1) (passed_outside cx u ip header 0 1) there
       ∙ if_not (is_syn header.control) (drawn cx u ip header) (taken cx u ip header [] 1) no_syn)))))
@@ -318,6 +324,9 @@ module _ (cx : ContextValue) (w : TcpValue) (ip : IpRepr) (header : TcpHeader) (
         limit = o.limit;
         agreed = o.agreed;
         room = o.room;
+        names = o.names;
+        top = o.top;
+        undrawn = o.undrawn;
       })
       (λ _. record {
         state = o.state;
@@ -329,6 +338,9 @@ module _ (cx : ContextValue) (w : TcpValue) (ip : IpRepr) (header : TcpHeader) (
         limit = o.limit;
         agreed = o.agreed;
         room = o.room;
+        names = o.names;
+        top = o.top;
+        undrawn = o.undrawn;
       }))
     where
       told_by : Block → Block
@@ -359,5 +371,8 @@ module _ (cx : ContextValue) (w : TcpValue) (ip : IpRepr) (header : TcpHeader) (
         limit = refl;
         agreed = refl;
         room = refl;
+        names = refl;
+        top = refl;
+        undrawn = refl;
       })
       (duplicates_after u.block header 0 1))))

@@ -1,7 +1,8 @@
 -- A SYN that is to go is offered, with the acknowledgement of the other's SYN if that came.
-use Rattle.std.proofs.Common.{◌≡◌, inl, inr, ℕ, ◌+◌, ◌==◌, ◌&&◌, ◌||◌, not, ℤ, Bool, true, false, if◌then◌else◌, List, [], Option, Some, None}
-use Rattle.std.proofs.Common.{refl, sym, ap, ◌∙◌}
+use Rattle.std.proofs.Common.{◌≡◌, inl, inr, ℕ, ◌+◌, ◌-◌, ◌%◌, ◌^◌, ◌<◌, ◌≤◌, ◌==◌, ◌&&◌, ◌||◌, max, not, ℤ, Bool, true, false, if◌then◌else◌, List, [], Option, Some, None}
+use Rattle.std.proofs.Common.{is_some, refl, sym, ap, ◌∙◌, arith}
 use Rattle.std.proofs.lemmas.Bool.{eq-eqb}
+use Rattle.ip_wire.specs.Seq.{distance_of}
 use Rattle.ip_wire.specs.SeqNumber.{SeqNumber}
 use Rattle.ip_wire.specs.Tcp.{header_len}
 use Rattle.ip_wire.specs.TcpControl.TheVariants as Control
@@ -9,7 +10,6 @@ use Rattle.ip_wire.specs.TcpHeader.{TcpHeader}
 use Rattle.ip_wire.specs.TcpTimestampGenerator.{TcpTimestampGenerator}
 use Rattle.tcp_model.specs.AddressPair.{AddressPair}
 use Rattle.tcp_model.specs.AddressPair.TheVariants as Pair
-use Rattle.tcp_model.specs.declared.block.Stamps.{Stamps}
 use Rattle.tcp_tie.specs.Context.{ContextValue}
 use Rattle.tcp_tie.specs.Offers.{Offered}
 use Rattle.tcp_rules.specs.Controls.{is_zero}
@@ -29,10 +29,10 @@ use Rattle.tcp_pair_model.specs.Segments.{hops_of, mss_for, next_if_heard, stamp
 use Rattle.tcp_pair_model.specs.Settled.{recorded, settled}
 use Rattle.tcp_pair_model.specs.Timestamps.{generator_of, stamps_begun, value_by}
 use Rattle.tcp_pair_model.specs.Value.{TcpValue, with_block, unoffered, free_in, room_of}
-use Rattle.tcp_tie.proofs.Tied.{if_so}
 use Rattle.tcp_rules.proofs.OfferCases.{FirstRules, by_rules, begun}
 use Rattle.tcp_rules.proofs.OrderSteps.{clash}
 use Rattle.tcp_progress.specs.Again.{StartsOver}
+use Rattle.tcp_progress.specs.Clocks.{has_stamps}
 
 -- the SYN of a socket, and the socket once it has gone
 pub record SynGoes (v : TcpValue) (o : Offered TcpValue) : Type 0 where
@@ -52,10 +52,18 @@ pub record SynGoes (v : TcpValue) (o : Offered TcpValue) : Type 0 where
   pub timeout : (settled true o.socket).block.settings.timeout ≡ v.block.settings.timeout
   pub retries : (settled true o.socket).block.settings.retries ≡ v.block.settings.retries
   pub queued : (settled true o.socket).queued ≡ v.queued
+  pub received : (settled true o.socket).received ≡ v.received
+  pub paused : (settled true o.socket).block.settings.synack_paused ≡ v.block.settings.synack_paused
+  pub opening : (settled true o.socket).block.settings.opening_retries ≡ v.block.settings.opening_retries
+  pub undrawn : (settled true o.socket).block.timers.draws_from ≡ v.block.timers.draws_from
+  pub agreed : (settled true o.socket).block.peer.timestamps ≡ v.block.peer.timestamps
+  -- SND.UNA is a number of 32 bits, and the SYN is the first that is sent from there
+  pub top : v.block.sender.una.0 < 2 ^ 32 → v.block.sender.top ≤ 1 → (settled true o.socket).block.sender.top ≡ 1
   -- the first SYN begins the timestamps that are set
-  pub stampless : v.block.sender.top ≡ 0 → v.block.settings.timestamps ≡ None → (settled true o.socket).block.stamps.generator ≡ None
-  -- where none are begun, it has none
+  pub generator : (settled true o.socket).block.stamps.generator ≡ generator_of v.block
+  -- where none are begun, or the other's SYN has none, it has none
   pub stamp : generator_of v.block ≡ None → k.segment.options.timestamp ≡ None
+  pub unagreed : v.block.receiver.took_syn ≡ true → has_stamps v.block ≡ false → k.segment.options.timestamp ≡ None
 
 -- what the rules for a SYN read of a block
 record Alike (old b : Block) : Type 0 where
@@ -67,6 +75,9 @@ record Alike (old b : Block) : Type 0 where
   next : b.receiver.next ≡ old.receiver.next
   took_syn : b.receiver.took_syn ≡ old.receiver.took_syn
   paused : b.settings.synack_paused ≡ old.settings.synack_paused
+  opening : b.settings.opening_retries ≡ old.settings.opening_retries
+  undrawn : b.timers.draws_from ≡ old.timers.draws_from
+  agreed : b.peer.timestamps ≡ old.peer.timestamps
   stamps : b.settings.timestamps ≡ old.settings.timestamps
   generator : b.stamps.generator ≡ old.stamps.generator
   timeout : b.settings.timeout ≡ old.settings.timeout
@@ -82,13 +93,29 @@ some_text (Pair.Ipv4 local remote) = refl
 some_text (Pair.Ipv6 local remote) = refl
 
 -- the first SYN begins the timestamps that are set
-begun_stamps : (b : Block) (now : ℤ) → b.sender.top ≡ 0 → b.settings.timestamps ≡ None → (stamps_begun b now).generator ≡ None
-begun_stamps b now first none =
-    ap (λ (s : Stamps). s.generator)
-    (if_so (b.sender.top == 0)
-    (record b.stamps { generator = b.settings.timestamps; first = value_by b.settings.timestamps now }) b.stamps
-    (eq-eqb b.sender.top 0 first))
-    ∙ none
+begun_stamps : (b : Block) (now : ℤ) → (stamps_begun b now).generator ≡ generator_of b
+begun_stamps b now =
+    by
+    (b.sender.top == 0)
+  where
+    by : (t : Bool) →
+        (if t then record b.stamps { generator = b.settings.timestamps; first = value_by b.settings.timestamps now } else b.stamps).generator
+        ≡ (if t then b.settings.timestamps else b.stamps.generator)
+    by true = refl
+    by false = refl
+
+-- where the SYN goes to, of a side that sent at most that
+first_top : (una top : ℕ) → una < 2 ^ 32 → top ≤ 1 → max top ((una + (2 ^ 32 - una)) % 2 ^ 32 + (0 + 1)) ≡ 1
+first_top una top e f = omega arith
+
+-- the answer to a SYN has timestamps if that has, and its own are set
+no_stamp :
+    (took agreed : Bool) (generator : Option TcpTimestampGenerator) (now : ℤ) (recent : ℕ) → took ≡ true → (agreed && is_some generator) ≡ false
+    → (if not took || agreed then stamp_by generator now recent else None) ≡ None
+no_stamp true true None now recent e f = refl
+no_stamp true true (Some generator) now recent e f = clash f
+no_stamp true false generator now recent e f = refl
+no_stamp false agreed generator now recent e f = clash (sym e)
 
 bare_stamp :
     (t : Bool) (generator : Option TcpTimestampGenerator) (now : ℤ) (recent : ℕ) → generator ≡ None → (if t then stamp_by generator now recent else None) ≡ None
@@ -149,8 +176,20 @@ module _ (cx : ContextValue) (v : TcpValue) (mtu : cx.ip_mtu ≡ 1500) (on : Goe
     timeout = same.timeout;
     retries = same.retries;
     queued = refl;
-    stampless = λ first none.
-        begun_stamps (recorded b (opened_by pair b) (room_of v.received)) cx.moment (same.top ∙ first) (same.stamps ∙ none);
+    received = refl;
+    paused = same.paused;
+    opening = same.opening;
+    undrawn = same.undrawn;
+    agreed = same.agreed;
+    top = λ small few.
+        ap (λ (n : ℕ). max n (distance_of b.sender.una b.sender.una + (0 + 1))) same.top
+        ∙ (ap (λ (n : SeqNumber). max v.block.sender.top (distance_of n n + (0 + 1))) same.una
+        ∙ first_top v.block.sender.una.0 v.block.sender.top small few);
+    generator = begun_stamps (recorded b (opened_by pair b) (room_of v.received)) cx.moment ∙ same_generator b same;
+    unagreed = λ took none.
+        no_stamp b.receiver.took_syn b.peer.timestamps (generator_of b) cx.moment b.peer.recent (same.took_syn ∙ took)
+        (ap (λ (t : Bool). t && is_some (generator_of b)) same.agreed
+        ∙ (ap (λ (g : Option TcpTimestampGenerator). v.block.peer.timestamps && is_some g) (same_generator b same) ∙ none));
     stamp = λ none. bare_stamp (not b.receiver.took_syn || b.peer.timestamps) (generator_of b) cx.moment b.peer.recent (same_generator b same ∙ none);
   }
 
@@ -190,6 +229,9 @@ module _ (cx : ContextValue) (v : TcpValue) (mtu : cx.ip_mtu ≡ 1500) (on : Goe
               next = refl;
               took_syn = refl;
               paused = refl;
+              opening = refl;
+              undrawn = refl;
+              agreed = refl;
               stamps = refl;
               generator = refl;
               timeout = refl;
@@ -207,6 +249,9 @@ module _ (cx : ContextValue) (v : TcpValue) (mtu : cx.ip_mtu ≡ 1500) (on : Goe
               next = refl;
               took_syn = refl;
               paused = refl;
+              opening = refl;
+              undrawn = refl;
+              agreed = refl;
               stamps = refl;
               generator = refl;
               timeout = refl;
@@ -224,6 +269,9 @@ module _ (cx : ContextValue) (v : TcpValue) (mtu : cx.ip_mtu ≡ 1500) (on : Goe
               next = refl;
               took_syn = refl;
               paused = refl;
+              opening = refl;
+              undrawn = refl;
+              agreed = refl;
               stamps = refl;
               generator = refl;
               timeout = refl;

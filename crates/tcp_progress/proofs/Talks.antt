@@ -1,20 +1,16 @@
 -- What a turn asks for follows from the beginning, but for what MaySpeak has.
-use Rattle.std.proofs.Common.{◌≡◌, ◌⊎◌, inl, inr, ℕ, zero, suc, ◌+◌, ◌*◌, ◌^◌, ◌≤◌, ◌-◌, ◌==◌, ◌&&◌, ◌||◌, not, ℤ, pos, ◌+ℤ◌, ◌≤ℤ◌, int_le, int_lt}
+use Rattle.std.proofs.Common.{◌≡◌, ◌⊎◌, inl, inr, ℕ, zero, suc, ◌+◌, ◌≤◌, ◌==◌, ◌&&◌, ◌||◌, not, ℤ}
 use Rattle.std.proofs.Common.{if◌then◌else◌}
-use Rattle.std.proofs.Common.{Bool, true, false, List, ◌++◌, length, length-append, Option, Some, None, Result, Ok, Err, is_some, slice_get, refl}
+use Rattle.std.proofs.Common.{Bool, true, false, List, ◌++◌, length, length-append, Option, Some, None, is_some, refl}
 use Rattle.std.proofs.Common.{sym, ap, ◌∙◌, subst, arith}
-use Rattle.std.proofs.lemmas.Bool.{cond_both, eqb-true}
-use Rattle.std.proofs.lemmas.Int.{ints}
-use Rattle.net_base.specs.Time.{last_moment}
-use Rattle.ip_wire.specs.TcpTimestampRepr.{TcpTimestampRepr}
+use Rattle.std.proofs.lemmas.Bool.{eqb-true}
+use Rattle.tcp_rules.specs.Reply.{Reply}
 use Rattle.tcp_rules.specs.Moments.{is_due}
-use Rattle.tcp_rules.specs.RecvError.{RecvError}
 use Rattle.tcp_rules.proofs.OrderSteps.{clash}
 use Rattle.tcp_model.specs.Timeout.{end_by, timeout_end, waits_for_remote}
 use Rattle.tcp_rules.specs.State.{State}
 use Rattle.tcp_rules.specs.State.TheVariants as In
 use Rattle.tcp_rules.specs.States.{is_closed, is_time_wait, sends_text}
-use Rattle.tcp_pair_model.specs.Arrival.{arrives}
 use Rattle.tcp_pair_model.specs.Block.{Block}
 use Rattle.tcp_pair_model.specs.Offers.{offer_of}
 use Rattle.tcp_pair_model.specs.Probing.{is_probing, probe_moment}
@@ -23,45 +19,40 @@ use Rattle.tcp_pair_model.specs.Rules.{has_text, resends, time_wait_end}
 use Rattle.tcp_rules.specs.EndpointPair.{EndpointPair}
 use Rattle.tcp_rules.specs.Names.{Names}
 use Rattle.net_base.specs.Ring.{Ring}
-use Rattle.tcp_pair_model.specs.Calls.{recv_answer}
 use Rattle.tcp_pair_model.specs.Blocks.{one_if}
-use Rattle.tcp_pair_model.specs.Names.{accepts}
 use Rattle.tcp_pair_model.specs.Safe.{taken_in as taken_list, written}
 use Rattle.tcp_pair_model.specs.Sides.{at, other}
-use Rattle.tcp_pair_model.specs.Steps.{handed, if_so, may_come, reads, refusal, taken_at}
-use Rattle.tcp_pair_model.specs.Timestamps.{comes_older}
 use Rattle.tcp_pair_model.specs.Value.{TcpValue, free_in, queued_in, room_of}
-use Rattle.tcp_pair_model.specs.Values.{PairSide, PairValue, context_at, past_at}
-use Rattle.tcp_pair_model.specs.declared.event.PairEvent.TheVariants.{Deliver, Offer}
-use Rattle.tcp_pair_model.specs.declared.event.PairRefused.TheVariants.{Moment}
-use Rattle.tcp_pair_model.specs.declared.event.SentSegment.{SentSegment}
+use Rattle.tcp_pair_model.specs.Values.{PairValue, context_at, past_at}
 use Rattle.tcp_pair_model.specs.declared.event.Side.{Side}
 use Rattle.tcp_pair_model.specs.declared.event.Side.TheVariants.{A, B}
 use Rattle.tcp_progress.specs.Again.{StartsOver}
 use Rattle.tcp_progress.specs.Arrivals.{is_synchronized}
 use Rattle.tcp_progress.specs.BothWays.{AreThere, IsThrough, MayAsk, MayRounds, MayTurn, bound, is_over, roused_in, rounds_in, turn_in, waits_in, wake_in}
-use Rattle.tcp_progress.specs.BothWays.{woken_in}
+use Rattle.tcp_progress.specs.Clocks.{HasStamps, comes_stale}
 use Rattle.tcp_progress.specs.Exchange.{IsOpen, left_of, offer_comes, text_of}
-use Rattle.tcp_progress.specs.Pair.{HasStream, OneListened, context_of, exchanged_in, left_in, next_sent, offered_in, socket_of}
+use Rattle.tcp_progress.specs.Pair.{HasStream, context_of, left_in, socket_of}
 use Rattle.tcp_progress.specs.Reached.{IsReached}
-use Rattle.tcp_progress.specs.Rounds.{comes, later_of, takes}
 use Rattle.tcp_progress.specs.Sent.{is_early}
-use Rattle.tcp_progress.specs.Settle.{read_in, restart_by, restart_in}
-use Rattle.tcp_progress.specs.Talking.{AreTalking, HasMinutes, MayTalk, SpeaksIn}
+use Rattle.tcp_progress.specs.Settle.{read_in, restart_in}
+use Rattle.tcp_progress.specs.Talking.{AreTalking, MayTalk, SpeaksIn}
 use Rattle.tcp_progress.proofs.Calm.{answer_bare, no_stamp}
 use Rattle.tcp_progress.proofs.Opened.{is_open}
 use Rattle.tcp_progress.proofs.Held.{IsSet, asked_sets, goes_then}
 use Rattle.tcp_progress.proofs.Left.{left_same}
 use Rattle.tcp_progress.proofs.Mirrored.{named_in}
+use Rattle.tcp_progress.proofs.Moments.{clock}
 use Rattle.tcp_progress.proofs.OfItself.{sends_there}
 use Rattle.tcp_progress.proofs.Pair.{had_in, late_in, not_closed}
-use Rattle.tcp_progress.proofs.PairTimers.{restart_soon, wake_soon}
 use Rattle.tcp_progress.proofs.Ready.{ready_side}
 use Rattle.tcp_progress.proofs.Resent.{again_sent}
 use Rattle.tcp_progress.proofs.Resumes.{SendsOut, Starts}
-use Rattle.tcp_progress.proofs.Roused.{roused_calm, roused_other, roused_own, roused_reached}
+use Rattle.tcp_progress.proofs.Roused.{roused_calm, roused_other, roused_own}
 use Rattle.tcp_progress.proofs.Settles.{empty_after, read_partner, read_reached, safe_side, some_left}
-use Rattle.tcp_progress.proofs.Stampless.{stampless}
+use Rattle.tcp_progress.proofs.StampPairs.{answer_fresh as reply_fresh, offer_fresh}
+use Rattle.tcp_progress.proofs.Stampless.{stale_none, stampless}
+use Rattle.tcp_progress.proofs.TurnClocks.{HasTurn, Minutes, first_turn, midway, next_round, rouses, runs_out, ry, second_turn, there_days, wake_days}
+use Rattle.tcp_progress.proofs.TurnClocks.{wake_later, wakes}
 use Rattle.tcp_progress.proofs.Turns.{Ended, done_round, ends, late_on, nothing_turns, stream_still, through, turned}
 use Rattle.tcp_progress.proofs.Wide.{reached_cwnd}
 use Rattle.tcp_progress.proofs.Ways.{Balance, BothCalm, IsLate, balance, late_after, of_side, read_calm}
@@ -73,13 +64,11 @@ pub record Stays (p : PairValue) (side : Side) : Type 0 where
   pub stream : HasStream (past_at p side)
   pub room : 1 ≤ room_of (socket_of p side).received
   pub timeout : (socket_of p side).block.settings.timeout ≡ None
-  pub stampless : (socket_of p side).block.peer.timestamps ≡ false
 
 pub record BothStay (p : PairValue) : Type 0 where
   pub late : IsLate p
   pub a : Stays p A
   pub b : Stays p B
-  pub listened : OneListened p A
 
 stays_on : (p q : PairValue) (side : Side) → BothCalm p q → Stays p side → Stays q side
 stays_on p q side c s =
@@ -89,7 +78,6 @@ stays_on p q side c s =
       stream = stream_still p q side c s.stream;
       room = subst (λ (n : ℕ). 1 ≤ n) (sym it.room) s.room;
       timeout = it.timeout ∙ s.timeout;
-      stampless = it.stamps ∙ s.stampless;
     }
 
 pub both_on : (p q : PairValue) → BothCalm p q → BothStay p → BothStay q
@@ -97,12 +85,7 @@ both_on p q c s = record {
   late = late_after p q c s.late;
   a = stays_on p q A c s.a;
   b = stays_on p q B c s.b;
-  listened = by s.listened;
 }
-  where
-    by : OneListened p A → OneListened q A
-    by (inl a) = inl (c.a.opening ∙ a)
-    by (inr b) = inr (c.b.opening ∙ b)
 
 pub of : (p : PairValue) (side : Side) → BothStay p → Stays p side
 of p A s = s.a
@@ -111,207 +94,6 @@ of p B s = s.b
 pub late_at : (p : PairValue) (side : Side) → BothStay p → is_early (socket_of p side).block.state ≡ false
 late_at p A s = s.late.0
 late_at p B s = s.late.1
-
-listened_by : (p : PairValue) (side : Side) → OneListened p A → OneListened p side
-listened_by p A l = l
-listened_by p B (inl a) = inr a
-listened_by p B (inr b) = inl b
-
--- MOMENTS
-
-is_le : (a b : ℤ) → a ≤ℤ b → int_le a b ≡ true
-is_le a b e = grind arith
-
-later_first : (a b : ℤ) → a ≤ℤ later_of a b
-later_first a b = cond_both (int_lt a b) b a (λ (t : ℤ). a ≤ℤ t) (λ e. by e) (λ _. itself a) where
-  by : int_lt a b ≡ true → a ≤ℤ b
-  by e = grind arith
-
-  itself : (a : ℤ) → a ≤ℤ a
-  itself a = grind arith
-
-later_second : (a b : ℤ) → b ≤ℤ later_of a b
-later_second a b = cond_both (int_lt a b) b a (λ (t : ℤ). b ≤ℤ t) (λ _. itself b) (λ e. by e) where
-  by : int_lt a b ≡ false → b ≤ℤ a
-  by e = grind arith
-
-  itself : (a : ℤ) → a ≤ℤ a
-  itself a = grind arith
-
-restart_first : (now : ℤ) (timer : Option ℤ) → now ≤ℤ restart_by now timer
-restart_first now None = itself now where
-  itself : (a : ℤ) → a ≤ℤ a
-  itself a = grind arith
-restart_first now (Some m) = later_first now m
-
--- a timer that runs has run out by then
-runs_out : (now : ℤ) (timer : Option ℤ) → is_some timer ≡ true → is_due (restart_by now timer) timer ≡ true
-runs_out now None e = clash (sym e)
-runs_out now (Some m) e = is_le m (later_of now m) (later_second now m)
-
-upto_int : (a b c : ℤ) → a ≤ℤ b → b ≤ℤ c → a ≤ℤ c
-upto_int a b c e f = grind arith
-
-allowed : (last moment : ℤ) → pos 0 ≤ℤ last → last ≤ℤ moment → moment ≤ℤ pos last_moment → if_so (not (may_come last moment)) Moment ≡ None
-allowed last moment a b c =
-    ap (λ (t : Bool). if_so (not t) Moment)
-    (all (is_le (pos 0) moment (upto_int (pos 0) last moment a b)) (is_le moment (pos last_moment) c) (is_le last moment b))
-  where
-    all : {a b c : Bool} → a ≡ true → b ≡ true → c ≡ true → (a && (b && c)) ≡ true
-    all {b = b} {c = c} e f g = ap (λ (t : Bool). t && (b && c)) e ∙ (ap (λ (t : Bool). t && c) f ∙ g)
-
--- two minutes less
-less_time : (now new last : ℤ) (rest : ℕ) → new ≤ℤ (now +ℤ pos 120_000_000) → (now +ℤ pos (120_000_000 + rest)) ≤ℤ last → (new +ℤ pos rest) ≤ℤ last
-less_time now new last rest a b = first_of (omega (arith, ints), grind (arith, ints))
-
-in_time : (now last : ℤ) (rest : ℕ) → (now +ℤ pos rest) ≤ℤ last → now ≤ℤ last
-in_time now last rest a = first_of (omega (arith, ints), grind (arith, ints))
-
-two_minutes : (n : ℕ) → suc n * 120_000_000 ≡ 120_000_000 + n * 120_000_000
-two_minutes n = omega arith
-
--- one after the other
-both_minutes : (now first second : ℤ) → first ≤ℤ (now +ℤ pos 60_000_000) → second ≤ℤ (first +ℤ pos 60_000_000) → second ≤ℤ (now +ℤ pos 120_000_000)
-both_minutes now first second a b = first_of (omega (arith, ints), grind (arith, ints))
-
-in_first : (now last : ℤ) (rest : ℕ) → (now +ℤ pos (120_000_000 + rest)) ≤ℤ last → (now +ℤ pos 60_000_000) ≤ℤ last
-in_first now last rest a = first_of (omega (arith, ints), grind (arith, ints))
-
-in_both : (now last : ℤ) (rest : ℕ) → (now +ℤ pos (120_000_000 + rest)) ≤ℤ last → (now +ℤ pos 120_000_000) ≤ℤ last
-in_both now last rest a = first_of (omega (arith, ints), grind (arith, ints))
-
--- THE CLOCKS IN A TURN
-
-handed_moment : (side : Side) (s : PairSide) (x : Option SentSegment) → (handed side s x).moment ≡ s.moment
-handed_moment side s None = refl
-handed_moment side s (Some x) =
-    cond_both (accepts s.socket.block x.header x.segment) (taken_at s (arrives (context_at side s) s.socket x.header x.segment x.bytes)) s
-    (λ (new : PairSide). new.moment ≡ s.moment) (λ _. refl) (λ _. refl)
-
-abbrev clock : PairValue → Side → ℤ
-clock p side = (at p.sides side).moment
-
-come_clock : (p : PairValue) (from : Side) (k : ℕ) (side : Side) → clock (takes p (Deliver from k)) side ≡ clock p side
-come_clock p A k A = refl
-come_clock p A k B = handed_moment B p.sides.b (slice_get p.sides.a.sent k)
-come_clock p B k A = handed_moment A p.sides.a (slice_get p.sides.b.sent k)
-come_clock p B k B = refl
-
-all_clock : (n : ℕ) (from : Side) (k : ℕ) (p : PairValue) (side : Side) → clock (comes n from k p) side ≡ clock p side
-all_clock zero from k p side = refl
-all_clock (suc n) from k p side = all_clock n from (suc k) (takes p (Deliver from k)) side ∙ come_clock p from k side
-
-offer_clock : (p : PairValue) (side : Side) (moment : ℤ) →
-    (clock (takes p (Offer side moment true)) side ≡ moment) × (clock (takes p (Offer side moment true)) (other side) ≡ clock p (other side))
-offer_clock p A moment = (refl, refl)
-offer_clock p B moment = (refl, refl)
-
-exchange_clock : (p : PairValue) (side : Side) (moment : ℤ) (of : Side) → clock (exchanged_in p side moment) of ≡ clock (takes p (Offer side moment true)) of
-exchange_clock p side moment of =
-    all_clock (next_sent (offered_in p side moment) (other side) - next_sent p (other side)) (other side) (next_sent p (other side))
-    (offered_in p side moment) of
-    ∙ come_clock (takes p (Offer side moment true)) side (next_sent p side) of
-
-read_moment : (s : PairSide) (r : Result ℕ RecvError) → (reads s r).side.moment ≡ s.moment
-read_moment s (Ok n) = refl
-read_moment s (Err fault) = refl
-
-read_clock : (p : PairValue) (side of : Side) → clock (read_in p side) of ≡ clock p of
-read_clock p A A = refl
-read_clock p A B = read_moment p.sides.b (recv_answer p.sides.b.socket (2 ^ 30))
-read_clock p B A = read_moment p.sides.a (recv_answer p.sides.a.socket (2 ^ 30))
-read_clock p B B = refl
-
-refused_clock : (p : PairValue) (side : Side) (moment : ℤ) →
-    (clock (takes p (Offer side moment false)) side ≡ moment) × (clock (takes p (Offer side moment false)) (other side) ≡ clock p (other side))
-refused_clock p A moment = (refl, refl)
-refused_clock p B moment = (refl, refl)
-
-roused_clock : (p : PairValue) (side : Side) → clock (roused_in p side) side ≡ restart_in p side
-roused_clock p side = (refused_clock (read_in p side) side (restart_in p side)).0
-
-own_clock : (p : PairValue) (side : Side) → clock (woken_in p side) side ≡ wake_in (roused_in p side) side
-own_clock p side =
-    exchange_clock (roused_in p side) side (wake_in (roused_in p side) side) side
-    ∙ (offer_clock (roused_in p side) side (wake_in (roused_in p side) side)).0
-
-other_clock : (p : PairValue) (side : Side) → clock (woken_in p side) (other side) ≡ clock p (other side)
-other_clock p side =
-    exchange_clock (roused_in p side) side (wake_in (roused_in p side) side) (other side)
-    ∙ ((offer_clock (roused_in p side) side (wake_in (roused_in p side) side)).1
-    ∙ ((refused_clock (read_in p side) side (restart_in p side)).1 ∙ read_clock p side (other side)))
-
-minutes_of : (n : ℕ) (p : PairValue) (side : Side) → HasMinutes (suc n) p side →
-    (clock p side +ℤ pos (120_000_000 + n * 120_000_000)) ≤ℤ pos last_moment
-minutes_of n p side m = subst (λ (k : ℕ). (clock p side +ℤ pos k) ≤ℤ pos last_moment) (two_minutes n) m.left
-
-later_clock : (n : ℕ) (p q : PairValue) (side : Side) → HasMinutes (suc n) p side → clock p side ≤ℤ clock q side →
-    clock q side ≤ℤ (clock p side +ℤ pos 120_000_000) → HasMinutes n q side
-later_clock n p q side m a b = record {
-  begun = upto_int (pos 0) (clock p side) (clock q side) m.begun a;
-  left = less_time (clock p side) (clock q side) (pos last_moment) (n * 120_000_000) b (minutes_of n p side m);
-}
-
--- when it is asked first
-module _ (n : ℕ) (p : PairValue) (side : Side) (r : IsReached p) (m : HasMinutes (suc n) p side) where
-  first_after : clock p side ≤ℤ restart_in p side
-  first_after = restart_first (clock p side) (socket_of p side).block.timers.retransmit_at
-
-  rouses : refusal (read_in p side) (Offer side (restart_in p side) false) ≡ None
-  rouses =
-      subst (λ (now : ℤ). if_so (not (may_come now (restart_in p side))) Moment ≡ None) (sym (read_clock p side side))
-      (allowed (clock p side) (restart_in p side) m.begun first_after
-      (upto_int (restart_in p side) (clock p side +ℤ pos 60_000_000) (pos last_moment) (restart_soon p side r)
-      (in_first (clock p side) (pos last_moment) (n * 120_000_000) (minutes_of n p side m))))
-
-  ry : IsReached (roused_in p side)
-  ry = roused_reached p side r rouses
-
-  abbrev second : ℤ
-  second = wake_in (roused_in p side) side
-
-  second_after : restart_in p side ≤ℤ second
-  second_after =
-      subst (λ (now : ℤ). now ≤ℤ second) (roused_clock p side)
-      (restart_first (clock (roused_in p side) side)
-      (probe_moment (socket_of (roused_in p side) side).block (queued_in (socket_of (roused_in p side) side))))
-
-  in_two : second ≤ℤ (clock p side +ℤ pos 120_000_000)
-  in_two =
-      both_minutes (clock p side) (restart_in p side) second (restart_soon p side r)
-      (subst (λ (now : ℤ). second ≤ℤ (now +ℤ pos 60_000_000)) (roused_clock p side) (wake_soon (roused_in p side) side ry))
-
-  wakes : refusal (roused_in p side) (Offer side second true) ≡ None
-  wakes =
-      subst (λ (now : ℤ). if_so (not (may_come now second)) Moment ≡ None) (sym (roused_clock p side))
-      (allowed (restart_in p side) second (upto_int (pos 0) (clock p side) (restart_in p side) m.begun first_after) second_after
-      (upto_int second (clock p side +ℤ pos 120_000_000) (pos last_moment) in_two
-      (in_both (clock p side) (pos last_moment) (n * 120_000_000) (minutes_of n p side m))))
-
-pub own_minutes : (n : ℕ) (p : PairValue) (side : Side) → IsReached p → HasMinutes (suc n) p side → HasMinutes n (turn_in p side) side
-own_minutes n p side r m =
-    cond_both (waits_in p side) (woken_in p side) p (λ (q : PairValue). HasMinutes n q side)
-    (λ _.
-    later_clock n p (woken_in p side) side m
-    (subst (λ (t : ℤ). clock p side ≤ℤ t) (sym (own_clock p side))
-    (upto_int (clock p side) (restart_in p side) (second n p side r m) (first_after n p side r m) (second_after n p side r m)))
-    (subst (λ (t : ℤ). t ≤ℤ (clock p side +ℤ pos 120_000_000)) (sym (own_clock p side)) (in_two n p side r m)))
-    (λ _. later_clock n p p side m (itself (clock p side)) (soon (clock p side)))
-  where
-    itself : (a : ℤ) → a ≤ℤ a
-    itself a = grind arith
-
-    soon : (a : ℤ) → a ≤ℤ (a +ℤ pos 120_000_000)
-    soon a = first_of (omega (arith, ints), grind (arith, ints))
-
-pub other_minutes : (n : ℕ) (p : PairValue) (side : Side) → HasMinutes n p (other side) → HasMinutes n (turn_in p side) (other side)
-other_minutes n p side m =
-    cond_both (waits_in p side) (woken_in p side) p (λ (q : PairValue). HasMinutes n q (other side))
-    (λ _. record {
-      begun = subst (λ (t : ℤ). pos 0 ≤ℤ t) (sym (other_clock p side)) m.begun;
-      left = subst (λ (t : ℤ). (t +ℤ pos (n * 120_000_000)) ≤ℤ pos last_moment) (sym (other_clock p side)) m.left;
-    })
-    (λ _. m)
 
 -- A TURN
 
@@ -348,7 +130,7 @@ no_timeout b moment queued e =
     (if is_some t && (not (is_closed b.state || is_time_wait b.state) && waits_for_remote b queued) then end_by b.timers.timeout_since t else None))
     e
 
-module _ (n : ℕ) (p : PairValue) (side : Side) (r : IsReached p) (s : BothStay p) (m : HasMinutes (suc n) p side) (waits : waits_in p side ≡ true)
+module _ (n : ℕ) (p : PairValue) (side : Side) (r : IsReached p) (s : BothStay p) (m : HasTurn n p side) (waits : waits_in p side ≡ true)
     (tries : gives_up (restart_in p side) (socket_of (read_in p side) side).block (queued_in (socket_of (read_in p side) side)) ≡ false) where
   abbrev pub x : PairValue
   x = read_in p side
@@ -457,7 +239,7 @@ module _ (n : ℕ) (p : PairValue) (side : Side) (r : IsReached p) (s : BothStay
       })
 
   pub reached_y : IsReached y
-  reached_y = ry n p side r m
+  reached_y = ry n p side r m.minutes
 
   pub sy : BothStay y
   sy = both_on p y (roused_calm p side s.late) s
@@ -543,61 +325,65 @@ module _ (n : ℕ) (p : PairValue) (side : Side) (r : IsReached p) (s : BothStay
         all : (waiting free : ℕ) → waiting ≡ 0 → 1 ≤ waiting + free → 1 ≤ free
         all waiting free a b = omega arith
 
+    -- neither segment is older than TS.Recent
+    agreed : (of : Side) → (socket_of y of).block.peer.timestamps ≡ (socket_of p of).block.peer.timestamps
+    agreed of = (of_side p y of (roused_calm p side s.late)).stamps
+
+    fresh : HasStamps (suc n) p side → comes_stale u.block out.k.segment.options.timestamp ≡ false
+    fresh (inl none) =
+        stale_none u.block out.k.segment.options.timestamp (out.stamp ∙ no_stamp w.block then_at (agreed side ∙ none))
+    fresh (inr d) = offer_fresh y side then_at out.k reached_y (wake_days n p side r m.minutes d) (wake_later y side) out.offered
+
+    answer_fresh : HasStamps n p (other side) → (reply : Reply) →
+        (offer_comes (context_at (other side) (at y.sides (other side))) u w out.k).answer ≡ Some reply →
+        comes_stale w.block reply.segment.options.timestamp ≡ false
+    answer_fresh (inl none) reply answer =
+        stampless (offer_comes (context_at (other side) (at y.sides (other side))) u w out.k).answer w.block
+        (answer_bare (context_at (other side) (at y.sides (other side))) out.k.header out.k.segment (text_of w out.k) u (agreed (other side) ∙ none))
+        reply answer
+    answer_fresh (inr d) reply answer =
+        reply_fresh y side out.k.header out.k.segment (text_of w out.k) reply reached_y (there_days n p side d) answer
+
     pub may_ask : MayAsk p side
     may_ask = record {
       stream = (of y side sy).stream;
-      rouses = rouses n p side r m;
-      wakes = wakes n p side r m;
+      rouses = rouses n p side r m.minutes;
+      wakes = wakes n p side r m.minutes;
       o = out.k;
       reaches =
           record {
-            mirrored = inl (listened_by y side sy.listened);
-            may =
-                record {
-                  own = own_y;
-                  theirs = other_open;
-                  over = inl set.none;
-                  offered = out.offered;
-                  kind = out.kind;
-                  some = out.some;
-                  room = free;
-                  fresh =
-                      ap (λ (stamp : Option TcpTimestampRepr). comes_older stamp u.block.peer.recent)
-                      (out.stamp ∙ no_stamp w.block then_at (of y side sy).stampless);
-                  answer_fresh = λ reply answer.
-                      stampless (offer_comes (context_at (other side) (at y.sides (other side))) u w out.k).answer w.block.peer.recent
-                      (answer_bare (context_at (other side) (at y.sides (other side))) out.k.header out.k.segment (text_of w out.k) u
-                      (of y (other side) sy).stampless)
-                      reply answer;
-                };
+            own = own_y;
+            theirs = other_open;
+            over = inl set.none;
+            offered = out.offered;
+            kind = out.kind;
+            some = out.some;
+            room = free;
+            fresh = fresh m.own;
+            answer_fresh = λ reply answer. answer_fresh m.theirs reply answer;
           };
     }
 
 -- ROUNDS
 
-pub may_turn : (n : ℕ) (p : PairValue) (side : Side) → IsReached p → BothStay p → HasMinutes (suc n) p side → SpeaksIn p side → MayTurn p side
+pub may_turn : (n : ℕ) (p : PairValue) (side : Side) → IsReached p → BothStay p → HasTurn n p side → SpeaksIn p side → MayTurn p side
 may_turn n p side r s m speaks waits = may_ask n p side r s m waits (speaks waits).tries (speaks waits).tries_on
-
-pub record Minutes (n : ℕ) (p : PairValue) : Type 0 where
-  pub a : HasMinutes n p A
-  pub b : HasMinutes n p B
 
 may_rounds : (n : ℕ) (p : PairValue) → IsReached p → BothStay p → Minutes n p → MayTalk n p → MayRounds n p
 may_rounds zero p r s m talk = tt
 may_rounds (suc n) p r s m talk =
-    let first = may_turn n p A r s m.a talk.0 in
+    let first = may_turn n p A r s (first_turn n p m) talk.0 in
     let h = turn_in p A in
     let a = turned (Unit {0}) p A r s.late first (λ _. inr tt) in
     let sh = both_on p h a.calm s in
-    let mh = other_minutes (suc n) p A m.b in
-    let second = may_turn n h B a.reached sh mh talk.1 in
+    let mh = midway n p r a.calm m in
+    let second = may_turn n h B a.reached sh (second_turn n h mh) talk.1 in
     let q = turn_in h B in
-    let b = turned (Unit {0}) h B a.reached sh.late second (λ _. inr tt) in (
-      first,
-      second,
-      may_rounds n q b.reached (both_on h q b.calm sh)
-          (record { a = other_minutes n h B (own_minutes n p A r m.a); b = own_minutes n h B a.reached mh }) talk.2,
-    )
+    let b = turned (Unit {0}) h B a.reached sh.late second (λ _. inr tt) in
+    (first, second, may_rounds n q b.reached (both_on h q b.calm sh) (next_round n h a.reached b.calm mh) talk.2)
+
+pub minutes : (n : ℕ) (p : PairValue) → AreTalking n p → Minutes n p
+minutes n p s = record { a = s.minutes_a; b = s.minutes_b; stamps_a = s.stamps_a; stamps_b = s.stamps_b }
 
 pub stay : (n : ℕ) (p : PairValue) → AreTalking n p → BothStay p
 stay n p s = record {
@@ -608,7 +394,6 @@ stay n p s = record {
         stream = s.a.stream;
         room = s.a.room;
         timeout = s.a.timeout;
-        stampless = s.a.stampless;
       };
   b =
       record {
@@ -616,13 +401,11 @@ stay n p s = record {
         stream = s.b.stream;
         room = s.b.room;
         timeout = s.b.timeout;
-        stampless = s.b.stampless;
       };
-  listened = s.listened;
 }
 
 pub talks : (n : ℕ) (p : PairValue) → IsReached p → AreTalking n p → MayTalk n p → MayRounds n p
-talks n p r s talk = may_rounds n p r (stay n p s) (record { a = s.minutes_a; b = s.minutes_b }) talk
+talks n p r s talk = may_rounds n p r (stay n p s) (minutes n p s) talk
 
 pub there : (n : ℕ) (p : PairValue) → AreTalking n p → AreThere p
 there n p s = (s.a.own.synchronized, s.b.own.synchronized)

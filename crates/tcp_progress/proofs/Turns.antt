@@ -232,10 +232,10 @@ module _ (X : Type 0) (p : PairValue) (side : Side) (r : IsReached p) (early : I
   may = m.reaches
 
   mine : is_synchronized (socket_of x side).block.state ≡ true
-  mine = may.may.own.synchronized
+  mine = may.own.synchronized
 
   theirs : is_synchronized (socket_of x (other side)).block.state ≡ true
-  theirs = may.may.theirs.synchronized
+  theirs = may.theirs.synchronized
 
   before_it : BothCalm p x
   before_it = roused_calm p side early
@@ -424,7 +424,7 @@ hears_first p side r late m = at (left_in p (other side) == 0) refl where
       CanHear (socket_of (roused_in p side) side) (socket_of (roused_in p side) (other side)) ⊎ (1 ≤ left_in p (other side))
   at true e =
       inl
-      (none_left_space (roused_in p side) side (roused_reached p side r m.rouses) m.reaches.may.own m.reaches.may.theirs
+      (none_left_space (roused_in p side) side (roused_reached p side r m.rouses) m.reaches.own m.reaches.theirs
       (least (left_in (roused_in p side) (other side)) (left_in p (other side)) (owes_no_more p side late) (eqb-true (left_in p (other side)) 0 e)))
     where
       least : (a b : ℕ) → a ≤ b → b ≡ 0 → a ≡ 0
@@ -469,10 +469,10 @@ rounded p r late first second = record {
       by : Leaves (1 ≤ left_in p B) p h A → CanHear (socket_of (roused_in h B) B) (socket_of (roused_in h B) A)
       by (inr it) = roused_known h B late_h it.1
       by (inl it) =
-          none_left_space (roused_in h B) B (roused_reached h B a.reached m.rouses) m.reaches.may.own m.reaches.may.theirs
+          none_left_space (roused_in h B) B (roused_reached h B a.reached m.rouses) m.reaches.own m.reaches.theirs
           (least (left_in (roused_in h B) A) (left_in h A) (owes_no_more h B late_h)
           (none_waits (left_in h A) (is_over h A) (is_over h B) (ap (λ (x : PairValue). waits_in x A) it.1 ∙ it.0)
-          (was_there A m.reaches.may.theirs.synchronized) (was_there B m.reaches.may.own.synchronized)))
+          (was_there A m.reaches.theirs.synchronized) (was_there B m.reaches.own.synchronized)))
         where
           least : (a b : ℕ) → a ≤ b → b ≡ 0 → a ≡ 0
           least a b e f = omega arith

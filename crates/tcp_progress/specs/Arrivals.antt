@@ -15,11 +15,11 @@ use Rattle.tcp_pair_model.specs.Answers.{delayed}
 use Rattle.tcp_pair_model.specs.Blocks.{top}
 use Rattle.tcp_pair_model.specs.Checks.{is_in_window, lies_before}
 use Rattle.tcp_pair_model.specs.Segments.{segment_len}
-use Rattle.tcp_pair_model.specs.Timestamps.{comes_older}
 use Rattle.tcp_pair_model.specs.Value.{TcpValue, Arrived, free_in, room_of}
 use Rattle.tcp_pair_model.specs.Block.{Block}
 use Rattle.tcp_rules.specs.Acks.{IsDueWithin}
 use Rattle.tcp_rules.specs.Events.{is_past}
+use Rattle.tcp_progress.specs.Clocks.{comes_stale}
 
 -- ESTABLISHED, and each later state up to TIME-WAIT
 abbrev pub is_synchronized : State → Bool
@@ -33,7 +33,7 @@ pub record Counts (b : Block) (header : TcpHeader) (number : SeqNumber) : Type 0
   pub opened : 1 ≤ b.sender.past_iss
   pub no_syn : is_syn header.control ≡ false
   pub no_reset : is_rst header.control ≡ false
-  pub fresh : comes_older header.options.timestamp b.peer.recent ≡ false
+  pub fresh : comes_stale b header.options.timestamp ≡ false
   pub acknowledges : header.ack_number ≡ Some number
   pub sent : distance_of b.sender.una number ≤ b.sender.top
   pub few : b.sender.top < 2 ^ 31

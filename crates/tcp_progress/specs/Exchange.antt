@@ -15,10 +15,10 @@ use Rattle.tcp_pair_model.specs.Blocks.{top, unacked}
 use Rattle.tcp_pair_model.specs.Offers.{offer_of, payload_of}
 use Rattle.tcp_pair_model.specs.Segments.{segment_len}
 use Rattle.tcp_pair_model.specs.Settled.{settled}
-use Rattle.tcp_pair_model.specs.Timestamps.{comes_older}
 use Rattle.tcp_pair_model.specs.Value.{TcpValue, Arrived, free_in, queued_in, room_of}
 use Rattle.tcp_progress.specs.Again.{StartsOver}
 use Rattle.tcp_progress.specs.Arrivals.{is_synchronized, EndsLastAck, Rises}
+use Rattle.tcp_progress.specs.Clocks.{comes_stale}
 
 -- ESTABLISHED or later, and the own SYN is acknowledged
 pub record IsOpen (b : Block) : Type 0 where
@@ -79,9 +79,9 @@ pub record MayExchange (cx cy : ContextValue) (v partner : TcpValue) (o : OpenOf
   -- the answer lies inside the window, if one is needed
   pub space : CanHear v partner
   -- neither segment has a timestamp that is older than TS.Recent
-  pub fresh : comes_older o.segment.options.timestamp partner.block.peer.recent ≡ false
+  pub fresh : comes_stale partner.block o.segment.options.timestamp ≡ false
   pub answer_fresh :
-      (reply : Reply) → (offer_comes cy partner v o).answer ≡ Some reply → comes_older reply.segment.options.timestamp v.block.peer.recent ≡ false
+      (reply : Reply) → (offer_comes cy partner v o).answer ≡ Some reply → comes_stale v.block reply.segment.options.timestamp ≡ false
 
 -- What an exchange asks for, whether or not the answer can be heard.
 pub record MayReach (cx cy : ContextValue) (u w : TcpValue) (o : OpenOffer) : Type 0 where
@@ -92,9 +92,9 @@ pub record MayReach (cx cy : ContextValue) (u w : TcpValue) (o : OpenOffer) : Ty
   pub kind : carries o.kind ≡ true
   pub some : 1 ≤ segment_len o.segment (length (text_of u o))
   pub room : 1 ≤ free_in w
-  pub fresh : comes_older o.segment.options.timestamp w.block.peer.recent ≡ false
+  pub fresh : comes_stale w.block o.segment.options.timestamp ≡ false
   pub answer_fresh :
-      (reply : Reply) → (offer_comes cy w u o).answer ≡ Some reply → comes_older reply.segment.options.timestamp u.block.peer.recent ≡ false
+      (reply : Reply) → (offer_comes cy w u o).answer ≡ Some reply → comes_stale u.block reply.segment.options.timestamp ≡ false
 
 -- RCV.NXT of the partner rises, by what there is room for, and its acknowledgement is due
 pub record IsTaken (cy : ContextValue) (partner : TcpValue) (header : TcpHeader) (size : ℕ) (a : Arrived) : Type 0 where

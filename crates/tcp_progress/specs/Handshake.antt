@@ -12,7 +12,10 @@ use Rattle.tcp_pair_model.specs.Values.{PairValue}
 use Rattle.tcp_pair_model.specs.declared.event.PairEvent.TheVariants.{Offer}
 use Rattle.tcp_pair_model.specs.declared.event.Side.{Side}
 use Rattle.tcp_progress.specs.Again.{StartsOver}
-use Rattle.tcp_progress.specs.Pair.{context_of, offered_in, socket_of}
+use Rattle.tcp_progress.specs.Clocks.{IsTimely}
+use Rattle.tcp_progress.specs.Exchange.{IsOpen}
+use Rattle.tcp_progress.specs.Pair.{AreMirrored, context_of, offered_in, socket_of}
+use Rattle.tcp_progress.specs.Reached.{IsReached}
 
 -- the caller is asked at this moment, and its SYN comes
 abbrev pub called_in : PairValue → Side → ℤ → PairValue
@@ -31,11 +34,10 @@ pub record CallsOn (b : Block) : Type 0 where
   pub timeout : b.settings.timeout ≡ None
   pub tries : reaches b.settings.retries 0 ≡ false
 
--- a listener has no user timeout, doesn't hold its answer back, sends no timestamps, and gives up after two timeouts at least
+-- a listener has no user timeout, doesn't hold its answer back, and gives up after two timeouts at least
 pub record ListensOn (b : Block) : Type 0 where
   pub timeout : b.settings.timeout ≡ None
   pub unpaused : b.settings.synack_paused ≡ false
-  pub stampless : b.settings.timestamps ≡ None
   pub tries : reaches b.settings.opening_retries 1 ≡ false
 
 -- The side calls its partner, which listens there; and no moment lies before the last one of the side that is asked.
@@ -55,6 +57,7 @@ pub record MayShake (p : PairValue) (side : Side) (first second third : ℤ) : T
   pub at_first : refusal p (Offer side first true) ≡ None
   pub at_second : refusal (called_in p side first) (Offer (other side) second true) ≡ None
   pub at_third : refusal (answered_in p side first second) (Offer side third true) ≡ None
+  pub stamps : IsTimely (called_in p side first) side third
 
 -- both sides are open, and each knows that its SYN came
 pub record AreOpened (p : PairValue) (side : Side) : Type 0 where
@@ -62,3 +65,11 @@ pub record AreOpened (p : PairValue) (side : Side) : Type 0 where
   pub theirs : (socket_of p (other side)).block.state ≡ In.Established
   pub una : (socket_of p side).block.sender.una ≡ (socket_of p (other side)).block.receiver.next
   pub partner_una : (socket_of p (other side)).block.sender.una ≡ (socket_of p side).block.receiver.next
+
+-- Events led to this pair, too; each side has counted its SYN; and each accepts what the other sends. So both may exchange text from there on.
+pub record AreConnected (p : PairValue) (side : Side) : Type 0 where
+  pub leads : IsReached p
+  pub opened : AreOpened p side
+  pub own : IsOpen (socket_of p side).block
+  pub theirs : IsOpen (socket_of p (other side)).block
+  pub mirrored : AreMirrored (socket_of p side).block (socket_of p (other side)).block

@@ -1,4 +1,5 @@
 pub mod Reached
+pub mod Clocks
 pub mod Arrivals
 pub mod Positions
 pub mod Met
@@ -9,11 +10,15 @@ pub mod Exchange
 pub mod Pair
 pub mod Sent
 pub mod Handshake
+pub mod HandshakeOn
 pub mod Restart
 pub mod Settle
 pub mod Near
+pub mod PutOff
 pub mod Windows
 pub mod BothWays
 pub mod Talking
 pub mod Connection
 pub mod Bare
+pub mod Onward
+pub mod Late

@@ -1,14 +1,18 @@
 -- That what the laws ask for is met, on numerals: a pair with room for 64 bytes each way, opened by three segments; then A writes abc.
-use Rattle.std.specs.Prelude.{ℤ, pos, true, List, [], ◌∷◌, ◌++◌, Option, slice_get}
+use Rattle.std.specs.Prelude.{ℤ, pos, true, List, [], ◌∷◌, ◌++◌, Option, Some, slice_get}
+use Rattle.ip_wire.specs.IpAddress.TheVariants as Ip
+use Rattle.ip_wire.specs.IpEndpoint.{IpEndpoint}
 use Rattle.tcp_rules.specs.OpenOffer.{OpenOffer}
 use Rattle.tcp_pair_model.specs.Offers.{offer_of}
 use Rattle.tcp_pair_model.specs.declared.event.SentSegment.{SentSegment}
 use Rattle.tcp_pair_model.specs.declared.event.Side.TheVariants.{A, B}
 use Rattle.tcp_pair_model.specs.declared.event.PairEvent.{PairEvent}
-use Rattle.tcp_pair_model.specs.declared.event.PairEvent.TheVariants.{Close, Listen, Connect, Send, Offer, Deliver}
+use Rattle.tcp_pair_model.specs.declared.event.PairEvent.TheVariants.{Close, Listen, Connect, Send, TcpSetting, Offer, Deliver}
+use Rattle.tcp_pair_model.specs.declared.event.TcpSetting.TheVariants as Set
 use Rattle.tcp_pair_model.specs.Examples.{socket, server, port, run}
-use Rattle.tcp_pair_model.specs.Values.{PairValue, new_pair}
+use Rattle.tcp_pair_model.specs.Values.{PairValue, address_of, new_pair}
 use Rattle.tcp_progress.specs.Handshake.{shaken_in}
+use Rattle.tcp_progress.specs.HandshakeOn.{crossed_in, met_in}
 use Rattle.tcp_progress.specs.Pair.{context_of, exchanged_in}
 
 -- three segments open a connection
@@ -34,6 +38,35 @@ called = run (new_pair socket socket) calling
 abbrev pub unheard : PairValue
 unheard = run called (Offer A (pos 0) true ∷ [])
 
+-- A's SYN came, and B's answer went and was lost; or it came, but A's acknowledgement of it was lost
+abbrev pub unanswered : PairValue
+unanswered = run unheard (Deliver A 0 ∷ Offer B (pos 0) true ∷ [])
+
+abbrev pub unconfirmed : PairValue
+unconfirmed = run unanswered (Deliver B 0 ∷ Offer A (pos 0) true ∷ [])
+
+-- then A's user writes
+abbrev pub spoken : PairValue
+spoken = run unconfirmed (Send A (97 ∷ 98 ∷ 99 ∷ []) ∷ [])
+
+-- 192.168.1.1:49500
+abbrev pub client : IpEndpoint
+client = record { addr = Ip.Ipv4 (address_of A); port = 49_500 }
+
+-- A and B call each other; and their SYNs cross
+abbrev pub calling_both : List PairEvent
+calling_both = Connect A server (port 49_500) ∷ Connect B client (port 80) ∷ []
+
+abbrev pub both_called : PairValue
+both_called = run (new_pair socket socket) calling_both
+
+abbrev pub crossed : PairValue
+crossed = crossed_in both_called A (pos 0) (pos 0)
+
+-- when a timer has run out
+abbrev pub late : ℤ
+late = pos 5_000_000
+
 -- three segments open the connection, both users write three bytes, and close
 abbrev pub answered : PairValue
 answered = shaken_in called A (pos 0) (pos 0) (pos 0)
@@ -43,6 +76,10 @@ writing = Send A (97 ∷ 98 ∷ 99 ∷ []) ∷ Send B (120 ∷ 121 ∷ 122 ∷ [
 
 abbrev pub conversing : PairValue
 conversing = run answered writing
+
+-- so they do where both called
+abbrev pub conversing_across : PairValue
+conversing_across = run (met_in crossed A late late) writing
 
 abbrev pub events : List PairEvent
 events = opening ++ Send A (97 ∷ 98 ∷ 99 ∷ []) ∷ Offer A (pos 0) true ∷ []
@@ -59,10 +96,6 @@ come = run gone (Deliver A 2 ∷ [])
 abbrev pub text : Option SentSegment
 text = slice_get gone.sides.a.sent 2
 
--- when A's timer has run out
-abbrev pub late : ℤ
-late = pos 5_000_000
-
 -- what A offers then
 abbrev pub again_in : PairValue → Option OpenOffer
 again_in p = (offer_of (context_of p A late) p.sides.a.socket).socket.offered
@@ -75,7 +108,28 @@ abbrev pub told : PairValue
 told = exchanged_in gone A late
 
 -- both users wrote three bytes, which went and were lost
+abbrev pub losing : List PairEvent
+losing = opening ++ Send A (97 ∷ 98 ∷ 99 ∷ []) ∷ Send B (120 ∷ 121 ∷ 122 ∷ []) ∷ Offer A (pos 0) true ∷ Offer B (pos 0) true ∷ []
+
 abbrev pub both_gone : PairValue
-both_gone =
-    run (new_pair socket socket)
-    (opening ++ Send A (97 ∷ 98 ∷ 99 ∷ []) ∷ Send B (120 ∷ 121 ∷ 122 ∷ []) ∷ Offer A (pos 0) true ∷ Offer B (pos 0) true ∷ [])
+both_gone = run (new_pair socket socket) losing
+
+-- the same with timestamps: B's go round within the first second
+abbrev pub clocks : List PairEvent
+clocks =
+    TcpSetting A (Set.TsvalGenerator (Some (record { 0 = 7_000 })))
+    ∷ TcpSetting B (Set.TsvalGenerator (Some (record { 0 = 4_294_967_000 })))
+    ∷ []
+
+abbrev pub both_timed : PairValue
+both_timed = run (new_pair socket socket) (clocks ++ losing)
+
+-- and a whole connection
+abbrev pub timed_called : PairValue
+timed_called = run (new_pair socket socket) (clocks ++ calling)
+
+abbrev pub timed_answered : PairValue
+timed_answered = shaken_in timed_called A (pos 0) (pos 0) (pos 0)
+
+abbrev pub timed_conversing : PairValue
+timed_conversing = run timed_answered writing

@@ -1,13 +1,14 @@
 -- An exchange as events of a pair: a side is asked, its segment comes, and what answers it comes.
-use Rattle.std.specs.Prelude.{◌≡◌, ◌⊎◌, ℕ, ◌-◌, ◌≤◌, ℤ, true, false, List, [], ◌∷◌, length, Some}
+use Rattle.std.specs.Prelude.{◌≡◌, ◌⊎◌, ℕ, ◌-◌, ◌≤◌, ◌||◌, not, ℤ, Bool, true, false, List, [], ◌∷◌, length, Some}
 use Rattle.tcp_tie.specs.Context.{ContextValue}
-use Rattle.tcp_law.specs.Side.Opening.{Passive}
 use Rattle.tcp_tie.specs.Tie.{Past}
 use Rattle.tcp_rules.specs.EndpointPair.{EndpointPair}
 use Rattle.tcp_rules.specs.Endpoints.{local_of, remote_of}
+use Rattle.tcp_rules.specs.Ends.{is_over}
 use Rattle.tcp_rules.specs.OpenOffer.{OpenOffer}
+use Rattle.tcp_rules.specs.State.{State}
 use Rattle.tcp_rules.specs.State.TheVariants as In
-use Rattle.tcp_rules.specs.States.{is_closed}
+use Rattle.tcp_rules.specs.States.{is_closed, is_opening}
 use Rattle.tcp_pair_model.specs.Block.{Block}
 use Rattle.tcp_pair_model.specs.Value.{TcpValue}
 use Rattle.tcp_pair_model.specs.declared.event.Side.{Side}
@@ -50,25 +51,23 @@ pub record AreMirrored (b partner : Block) : Type 0 where
   pub local_port : own.local_port ≡ theirs.remote_port
   pub remote_port : own.remote_port ≡ theirs.local_port
 
--- one of the two listened
-abbrev pub OneListened : PairValue → Side → Type 0
-OneListened p side = ((past_at p side).opening ≡ Passive) ⊎ ((past_at p (other side)).opening ≡ Passive)
+-- SYN-RECEIVED, and each later state but CLOSED: a SYN of the other was taken
+abbrev pub has_heard : State → Bool
+has_heard state = not (is_over state || is_opening state)
 
 -- what a side knows of its host at a moment
 abbrev pub context_of : PairValue → Side → ℤ → ContextValue
 context_of p side moment = context_at side (record (at p.sides side) { moment = moment })
 
--- The side, asked at this moment, offers this for an exchange with the other, whose clock stands still meanwhile. One of them listened, or
--- their endpoints mirror each other.
-pub record MayExchangeIn (p : PairValue) (side : Side) (moment : ℤ) (o : OpenOffer) : Type 0 where
-  pub mirrored : OneListened p side ⊎ AreMirrored (socket_of p side).block (socket_of p (other side)).block
-  pub may :
-      MayExchange (context_of p side moment) (context_at (other side) (at p.sides (other side))) (socket_of p side) (socket_of p (other side)) o
+-- the side, asked at this moment, offers this for an exchange with the other, whose clock stands still meanwhile
+abbrev pub MayExchangeIn : PairValue → Side → ℤ → OpenOffer → Type 0
+MayExchangeIn p side moment o =
+    MayExchange (context_of p side moment) (context_at (other side) (at p.sides (other side))) (socket_of p side) (socket_of p (other side)) o
 
 -- and whether or not the answer can be heard
-pub record MayReachIn (p : PairValue) (side : Side) (moment : ℤ) (o : OpenOffer) : Type 0 where
-  pub mirrored : OneListened p side ⊎ AreMirrored (socket_of p side).block (socket_of p (other side)).block
-  pub may : MayReach (context_of p side moment) (context_at (other side) (at p.sides (other side))) (socket_of p side) (socket_of p (other side)) o
+abbrev pub MayReachIn : PairValue → Side → ℤ → OpenOffer → Type 0
+MayReachIn p side moment o =
+    MayReach (context_of p side moment) (context_at (other side) (at p.sides (other side))) (socket_of p side) (socket_of p (other side)) o
 
 -- with its segment RCV.NXT of the other rises; or with the answer its SND.UNA does; or the other was in LAST-ACK, which its segment ends
 abbrev pub MovesIn : PairValue → Side → ℤ → Type 0

@@ -1,5 +1,5 @@
 -- A side that starts over at SND.UNA sends of itself, where both windows let it (RFC 9293, 3.7.4 and 3.8; RFC 5681, 3.1; RFC 6298, 5.4).
-use Rattle.std.specs.Prelude.{◌≡◌, ◌⊎◌, ℕ, ◌≤◌, min, max, ℤ, true, false, if◌then◌else◌, length, Some}
+use Rattle.std.specs.Prelude.{◌≡◌, ℕ, ◌≤◌, min, max, ℤ, true, false, if◌then◌else◌, length, Some}
 use Rattle.tcp_tie.specs.Context.{ContextValue}
 use Rattle.tcp_rules.specs.Ends.{GoesOn}
 use Rattle.tcp_rules.specs.Moments.{is_due}
@@ -10,13 +10,13 @@ use Rattle.tcp_pair_model.specs.Block.{Block}
 use Rattle.tcp_pair_model.specs.Offers.{offer_of}
 use Rattle.tcp_pair_model.specs.Segments.{segment_len, stamp_of}
 use Rattle.tcp_pair_model.specs.Sides.{at, other}
-use Rattle.tcp_pair_model.specs.Timestamps.{comes_older}
 use Rattle.tcp_pair_model.specs.Value.{TcpValue, free_in, queued_in}
 use Rattle.tcp_pair_model.specs.Values.{PairValue, context_at}
 use Rattle.tcp_pair_model.specs.declared.event.Side.{Side}
 use Rattle.tcp_progress.specs.Again.{StartsOver}
+use Rattle.tcp_progress.specs.Clocks.{comes_stale}
 use Rattle.tcp_progress.specs.Exchange.{IsOpen, left_of, offer_comes, text_of}
-use Rattle.tcp_progress.specs.Pair.{AreMirrored, OneListened, context_of, socket_of}
+use Rattle.tcp_progress.specs.Pair.{context_of, socket_of}
 
 -- the congestion window then: a segment, where the timer ran out
 abbrev pub first_cwnd : ContextValue → Block → ℕ
@@ -46,14 +46,13 @@ pub record Sends (cx : ContextValue) (v : TcpValue) : Type 0 where
 
 -- The side may send at this moment, and its partner is as an exchange asks for: nothing is said of what is offered.
 pub record MayGoOn (p : PairValue) (side : Side) (moment : ℤ) : Type 0 where
-  pub mirrored : OneListened p side ⊎ AreMirrored (socket_of p side).block (socket_of p (other side)).block
   pub sends : MaySend (context_of p side moment) (socket_of p side)
   pub theirs : IsOpen (socket_of p (other side)).block
   -- the partner has room for a byte
   pub room : 1 ≤ free_in (socket_of p (other side))
   -- neither segment has a timestamp that is older than TS.Recent
-  pub fresh : comes_older (stamp_of (socket_of p side).block moment) (socket_of p (other side)).block.peer.recent ≡ false
+  pub fresh : comes_stale (socket_of p (other side)).block (stamp_of (socket_of p side).block moment) ≡ false
   pub answer_fresh :
       (o : OpenOffer) (reply : Reply) → (offer_of (context_of p side moment) (socket_of p side)).socket.offered ≡ Some o
       → (offer_comes (context_at (other side) (at p.sides (other side))) (socket_of p (other side)) (socket_of p side) o).answer ≡ Some reply
-      → comes_older reply.segment.options.timestamp (socket_of p side).block.peer.recent ≡ false
+      → comes_stale (socket_of p side).block reply.segment.options.timestamp ≡ false

@@ -8,8 +8,9 @@ use Rattle.tcp_pair_model.specs.Values.{PairValue, past_at}
 use Rattle.tcp_pair_model.specs.declared.event.Side.{Side}
 use Rattle.tcp_pair_model.specs.declared.event.Side.TheVariants.{A, B}
 use Rattle.tcp_progress.specs.BothWays.{roused_in, round_in, turn_in, waits_in, wake_in}
+use Rattle.tcp_progress.specs.Clocks.{HasStamps}
 use Rattle.tcp_progress.specs.Exchange.{IsOpen}
-use Rattle.tcp_progress.specs.Pair.{HasStream, OneListened, socket_of}
+use Rattle.tcp_progress.specs.Pair.{HasStream, socket_of}
 use Rattle.tcp_progress.specs.Settle.{read_in, restart_in}
 
 -- AT THE BEGINNING
@@ -19,22 +20,21 @@ pub record HasMinutes (n : ℕ) (p : PairValue) (side : Side) : Type 0 where
   pub begun : pos 0 ≤ℤ (at p.sides side).moment
   pub left : ((at p.sides side).moment +ℤ pos (n * 120_000_000)) ≤ℤ pos last_moment
 
--- a side with its connection: its user hasn't closed it, or wrote something; it has a receive buffer and no user timeout; timestamps weren't
--- agreed on
+-- a side with its connection: its user hasn't closed it, or wrote something; it has a receive buffer and no user timeout
 pub record IsTalking (p : PairValue) (side : Side) : Type 0 where
   pub own : IsOpen (socket_of p side).block
   pub stream : HasStream (past_at p side)
   pub room : 1 ≤ room_of (socket_of p side).received
   pub timeout : (socket_of p side).block.settings.timeout ≡ None
-  pub stampless : (socket_of p side).block.peer.timestamps ≡ false
 
--- both are, one of them listened, and so many rounds can be before either clock ends
+-- both are, and so many rounds can be before either clock ends, and before its timestamps come halfway round
 pub record AreTalking (n : ℕ) (p : PairValue) : Type 0 where
   pub a : IsTalking p A
   pub b : IsTalking p B
-  pub listened : OneListened p A
   pub minutes_a : HasMinutes n p A
   pub minutes_b : HasMinutes n p B
+  pub stamps_a : HasStamps n p A
+  pub stamps_b : HasStamps n p B
 
 -- so many timeouts more, and so many questions, may stay unanswered before the side gives up
 pub record HasTries (n : ℕ) (p : PairValue) (side : Side) : Type 0 where

@@ -21,8 +21,8 @@ pub fn both_ways_get_through()
     ensures leads { (p : PairValue) → IsReached p → AreThere p → MayRounds (bound p) p → IsReached (rounds_in (bound p) p) }
 {}
 
-/// What a turn asks for follows from the beginning, but for what may fail on the way: of two sides with their connections, of which one
-/// listened, with receive buffers, no user timeout and clocks that don't end, each may have its exchange in every round in which it doesn't
+/// What a turn asks for follows from the beginning, but for what may fail on the way: of two sides with their connections,
+/// with receive buffers, no user timeout and clocks that don't end, each may have its exchange in every round in which it doesn't
 /// give up, whatever both windows are. So both ways get through; and where neither connection is over by then, the end of each stream that
 /// was closed has come.
 pub fn two_sides_that_talk_get_through()

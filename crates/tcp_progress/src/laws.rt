@@ -16,7 +16,6 @@ ghost use Rattle.tcp_pair_model.specs.Due.{poll_of};
 ghost use Rattle.tcp_pair_model.specs.Offers.{offer_of};
 ghost use Rattle.tcp_pair_model.specs.Blocks.{unacked};
 ghost use Rattle.tcp_pair_model.specs.Segments.{segment_len};
-ghost use Rattle.tcp_pair_model.specs.Timestamps.{comes_older};
 ghost use Rattle.tcp_pair_model.specs.Value.{TcpValue, unoffered, free_in, queued_in, room_of};
 ghost use Rattle.tcp_pair_model.specs.Sides.{at, other};
 ghost use Rattle.tcp_pair_model.specs.Values.{PairValue, past_at};
@@ -24,13 +23,15 @@ ghost use Rattle.tcp_pair_model.specs.Steps.{refusal};
 ghost use Rattle.tcp_pair_model.specs.declared.event.PairEvent.TheVariants.{Offer};
 ghost use Rattle.tcp_pair_model.specs.declared.event.Side.{Side};
 ghost use Rattle.tcp_rules.specs.Controls.{is_rst, is_syn};
+ghost use Rattle.tcp_rules.specs.Ends.{is_over};
 ghost use Rattle.tcp_rules.specs.Offsets.{behind_by};
 ghost use Rattle.tcp_rules.specs.OpenOffer.{OpenOffer};
 ghost use Rattle.tcp_rules.specs.Timing.{carries};
 ghost use Rattle.tcp_progress.specs.Again.{StartsOver};
 ghost use Rattle.tcp_progress.specs.Arrivals.{is_synchronized, Counts, EndsLastAck, IsNearWindow, IsNew, Rises, IsAgain, IsAnswered, IsShutOut};
+ghost use Rattle.tcp_progress.specs.Clocks.{comes_stale};
 ghost use Rattle.tcp_progress.specs.Exchange.{FitsBuffer, GoesFromUna, HasMoved, IsOpen, MayExchange, TookWhatWasSent, left_of};
-ghost use Rattle.tcp_progress.specs.Pair.{AreMirrored, Exchanges, HasStream, MayExchangeIn, OneListened, MovesIn, exchanged_in, left_in, socket_of};
+ghost use Rattle.tcp_progress.specs.Pair.{AreMirrored, Exchanges, HasStream, MayExchangeIn, MovesIn, exchanged_in, has_heard, left_in, socket_of};
 ghost use Rattle.tcp_progress.specs.Positions.{LiesWithin};
 ghost use Rattle.tcp_progress.specs.Reached.{IsReached, Owes};
 ghost use Rattle.tcp_progress.specs.Sent.{SendsAll, sent_in, taken_in};
@@ -110,7 +111,7 @@ pub fn what_begins_at_snd_una_is_new_or_was_taken()
 pub fn what_a_partner_says_raises_snd_una()
     ensures rises { (cx : ContextValue) (v w : TcpValue) (p q : Past) (k : Keeps v p w q) (ip : IpRepr) (header : TcpHeader) (bytes : List ℕ)
         → IsOpen v.block → is_synchronized w.block.state ≡ true → TookWhatWasSent v w → is_syn header.control ≡ false
-        → is_rst header.control ≡ false → comes_older header.options.timestamp v.block.peer.recent ≡ false
+        → is_rst header.control ≡ false → comes_stale v.block header.options.timestamp ≡ false
         → header.ack_number ≡ Some w.block.receiver.next → IsNearWindow v header (length bytes)
         → (arrives cx v ip header bytes).socket.block.sender.una
         ≡ behind_by v.block.sender.una (distance_of v.block.sender.una w.block.receiver.next) }
@@ -157,11 +158,12 @@ pub fn a_side_with_a_stream_is_in_step()
         → IsInStep k.side k.partner }
 {}
 
-/// Of a pair that events led to, where one side listened, the endpoints of two connected sides mirror each other: a side that called sends
-/// between its own, and a listener has those of a segment of it. So each accepts what the other sends.
+/// Of a pair that events led to, in which one side has taken a SYN of the other, and the other is neither closed nor listens, their endpoints
+/// mirror each other: a side that called sends between its own, and what came to it came between them; a listener has those of a segment
+/// that came. So each accepts what the other sends, whether one of them listened or their SYNs crossed.
 pub fn endpoints_mirror_each_other()
-    ensures mirrored { (p : PairValue) (side : Side) → IsReached p → is_synchronized (socket_of p side).block.state ≡ true
-        → is_synchronized (socket_of p (other side)).block.state ≡ true → OneListened p side
+    ensures mirrored { (p : PairValue) (side : Side) → IsReached p → has_heard (socket_of p side).block.state ≡ true
+        → is_over (socket_of p (other side)).block.state ≡ false
         → AreMirrored (socket_of p side).block (socket_of p (other side)).block }
 {}
 

@@ -1,13 +1,15 @@
 //! What the laws ask for is met, on numerals.
 
-ghost use Rattle.std.specs.Prelude.{◌≡◌, suc, ◌*◌, pos, [], ◌∷◌, length, IfSome};
+ghost use Rattle.std.specs.Prelude.{◌≡◌, suc, ◌*◌, pos, true, [], ◌∷◌, length, IfSome};
 ghost use Rattle.tcp_progress.specs.BothWays.{bound};
 ghost use Rattle.tcp_progress.specs.Arrivals.{Counts, IsNew, IsAgain};
 ghost use Rattle.tcp_pair_model.specs.Values.{past_at};
 ghost use Rattle.tcp_pair_model.specs.declared.event.Side.TheVariants.{A};
 ghost use Rattle.tcp_progress.specs.Connection.{MayConverse};
+ghost use Rattle.tcp_progress.specs.Connection.Course.{ByCall, ByCrossing};
 ghost use Rattle.tcp_progress.specs.Handshake.{MayShake};
-ghost use Rattle.tcp_progress.specs.Met.{both_gone, called, conversing, unheard, gone, come, told, text, late, later, again_in, writing};
+ghost use Rattle.tcp_progress.specs.HandshakeOn.{MayAnswer, MayCallAgain, MayConfirm, MayCross, MayMeet, MayTell};
+ghost use Rattle.tcp_progress.specs.Met.{both_called, both_gone, both_timed, timed_called, timed_conversing, called, conversing, conversing_across, crossed, spoken, unanswered, unconfirmed, unheard, gone, come, told, text, late, later, again_in, writing};
 ghost use Rattle.tcp_progress.specs.Pair.{Exchanges, HasStream, MayExchangeIn, MovesIn, exchanged_in, left_in};
 ghost use Rattle.tcp_progress.specs.Reached.{IsReached, Owes};
 ghost use Rattle.tcp_progress.specs.Settle.{MaySettle};
@@ -46,6 +48,28 @@ pub fn what_a_handshake_asks_for_is_met()
     ensures lost { MayShake unheard A late late late }
 {}
 
+/// A handshake goes on that lost its answer, of default sockets: where the timer of the listener has run out, or both timers have.
+pub fn what_a_lost_answer_asks_for_is_met()
+    ensures reached { IsReached unanswered }
+    ensures answers { MayAnswer unanswered A late late }
+    ensures calls { MayCallAgain unanswered A late late late }
+{}
+
+/// And one that lost its last acknowledgement; also where the caller's user writes then.
+pub fn what_a_lost_acknowledgement_asks_for_is_met()
+    ensures reached { IsReached unconfirmed }
+    ensures confirms { MayConfirm unconfirmed A late }
+    ensures tells { IfSome (again_in spoken) (λ o. MayTell spoken A late o) }
+{}
+
+/// Two default sockets that call each other meet what crossed SYNs ask for: as they begin, and once their SYNs came and both timers have run
+/// out.
+pub fn what_crossed_syns_ask_for_is_met()
+    ensures reached { IsReached both_called }
+    ensures crosses { MayCross both_called A (pos 0) (pos 0) }
+    ensures meets { MayMeet crossed A late late }
+{}
+
 /// Rounds of one way are met where three bytes have gone and were lost, of default sockets.
 pub fn what_rounds_ask_for_is_met()
     ensures settles { MaySettle (suc (2 * left_in gone A)) gone A }
@@ -59,8 +83,26 @@ pub fn what_talking_asks_for_is_met()
     ensures turns { MayTalk 12 both_gone }
 {}
 
-/// A whole connection is met by default sockets: one calls the other, each user writes three bytes, and both close.
+/// So they are with timestamps, one side's of which go round meanwhile.
+pub fn what_timestamps_ask_for_is_met()
+    ensures reached { IsReached both_timed }
+    ensures agreed { both_timed.sides.a.socket.block.peer.timestamps ≡ true }
+    ensures partner_agreed { both_timed.sides.b.socket.block.peer.timestamps ≡ true }
+    ensures enough { bound both_timed ≡ 12 }
+    ensures talking { AreTalking 12 both_timed }
+    ensures tries { HaveTries both_timed }
+{}
+
+/// So is a whole connection with timestamps.
+pub fn what_a_connection_with_timestamps_asks_for_is_met()
+    ensures reached { IsReached timed_called }
+    ensures agreed { timed_conversing.sides.b.socket.block.peer.timestamps ≡ true }
+    ensures converses { MayConverse timed_called A (ByCall (pos 0) (pos 0) (pos 0)) writing timed_conversing }
+{}
+
+/// A whole connection is met by default sockets: one calls the other, or both call, each user writes three bytes, and both close.
 pub fn what_a_connection_asks_for_is_met()
     ensures reached { IsReached called }
-    ensures converses { MayConverse called A (pos 0) (pos 0) (pos 0) writing conversing }
+    ensures converses { MayConverse called A (ByCall (pos 0) (pos 0) (pos 0)) writing conversing }
+    ensures across { MayConverse both_called A (ByCrossing (pos 0) (pos 0) late late) writing conversing_across }
 {}

@@ -7,18 +7,18 @@ use Rattle.tcp_progress.proofs.connection.a_connection_gets_through.Goals as goa
 
 pub returns : goal.returns
 returns c = record {
-  talking = λ p q side first second third calls r m. talking_in p q side first second third calls r m;
-  tries = λ p q side first second third calls r m. tries_in p q side first second third calls r m;
-  through = λ p q side first second third calls r m.
-      let on = leads_to p q side first second third calls r m in
-      let s = talking_in p q side first second third calls r m in
-      through q on (there (bound q) q s) (talks (bound q) q on s (talk_on (bound q) q on s (tries_in p q side first second third calls r m)));
-  read = λ p q side first second third calls r m.
-      let on = leads_to p q side first second third calls r m in
-      let s = talking_in p q side first second third calls r m in
-      all_read_in q on (there (bound q) q s) (talks (bound q) q on s (talk_on (bound q) q on s (tries_in p q side first second third calls r m)));
-  ends = λ p q side first second third calls r m.
-      let on = leads_to p q side first second third calls r m in
-      let s = talking_in p q side first second third calls r m in
-      fin_taken q on s (talk_on (bound q) q on s (tries_in p q side first second third calls r m));
+  talking = λ p q side course calls r m. talking_in p q side course calls r m;
+  tries = λ p q side course calls r m. tries_in p q side course calls r m;
+  through = λ p q side course calls r m.
+      let on = leads_to p q side course calls r m in
+      let s = talking_in p q side course calls r m in
+      through q on (there (bound q) q s) (talks (bound q) q on s (talk_on (bound q) q on s (tries_in p q side course calls r m)));
+  read = λ p q side course calls r m.
+      let on = leads_to p q side course calls r m in
+      let s = talking_in p q side course calls r m in
+      all_read_in q on (there (bound q) q s) (talks (bound q) q on s (talk_on (bound q) q on s (tries_in p q side course calls r m)));
+  ends = λ p q side course calls r m.
+      let on = leads_to p q side course calls r m in
+      let s = talking_in p q side course calls r m in
+      fin_taken q on s (talk_on (bound q) q on s (tries_in p q side course calls r m));
 }

@@ -6,7 +6,7 @@ pub returns-clause-kept : goal.returns-clause-kept
 returns-clause-kept c = pair_moves
 
 pub returns-clause-reached : goal.returns-clause-reached
-returns-clause-reached c = λ p side moment o r stream may. reached_moves p side moment o r stream (reach_in p side moment o may) may.may.space
+returns-clause-reached c = λ p side moment o r stream may. reached_moves p side moment o r stream (reach_in p side moment o may) may.space
 
 pub returns-clause-leads : goal.returns-clause-leads
 returns-clause-leads c = λ p side moment o r stream may asked. leads_on p side moment o r stream (reach_in p side moment o may) asked

@@ -2,7 +2,6 @@ use Rattle.std.proofs.Common.{inl, inr, refl}
 use Rattle.std.proofs.lemmas.Bool.{leb-true}
 use Rattle.net_base.specs.Ring.{ring}
 use Rattle.std.specs.Prelude.{[], replicate}
-use Rattle.tcp_progress.proofs.Stampless.{stampless}
 use Rattle.tcp_progress.specs.Met.{events}
 use Rattle.tcp_progress.proofs.met.two_exchanges_are_enough.Goals as goal
 
@@ -18,20 +17,16 @@ returns-clause-one c = (
   },
   inl refl,
   record {
-    mirrored = inl (inr refl);
-    may =
-        record {
-          own = record { synchronized = refl; acknowledged = refl; opened = leb-true _ _ refl };
-          theirs = record { synchronized = refl; acknowledged = refl; opened = leb-true _ _ refl };
-          over = inr refl;
-          offered = refl;
-          kind = refl;
-          some = leb-true _ _ refl;
-          room = leb-true _ _ refl;
-          space = inl (inl refl);
-          fresh = refl;
-          answer_fresh = stampless _ _ refl;
-        };
+    own = record { synchronized = refl; acknowledged = refl; opened = leb-true _ _ refl };
+    theirs = record { synchronized = refl; acknowledged = refl; opened = leb-true _ _ refl };
+    over = inr refl;
+    offered = refl;
+    kind = refl;
+    some = leb-true _ _ refl;
+    room = leb-true _ _ refl;
+    space = inl (inl refl);
+    fresh = refl;
+    answer_fresh = λ _ _. refl;
   },
   tt,
 )

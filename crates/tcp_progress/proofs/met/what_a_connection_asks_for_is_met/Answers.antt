@@ -1,4 +1,4 @@
-use Rattle.std.proofs.Common.{◌≡◌, inl, inr, ℕ, ◌*◌, ◌≤◌, ℤ, pos, ◌+ℤ◌, ◌≤ℤ◌, length, refl, sym, subst}
+use Rattle.std.proofs.Common.{◌≡◌, inl, inr, ℕ, ◌*◌, ◌≤◌, ℤ, pos, ◌+ℤ◌, ◌≤ℤ◌, false, length, refl, sym, subst}
 use Rattle.std.proofs.lemmas.Bool.{leb-true}
 use Rattle.net_base.specs.Ring.{ring}
 use Rattle.net_base.specs.Time.{last_moment}
@@ -12,10 +12,12 @@ use Rattle.tcp_pair_model.specs.declared.event.Side.TheVariants.{A, B}
 use Rattle.tcp_progress.specs.BothWays.{bound}
 use Rattle.tcp_progress.specs.Connection.{IsLasting}
 use Rattle.tcp_progress.specs.Handshake.{MayShake}
-use Rattle.tcp_progress.specs.Met.{answered, called, calling, conversing, writing}
+use Rattle.tcp_progress.specs.HandshakeOn.{met_in}
+use Rattle.tcp_progress.specs.Met.{answered, both_called, called, calling, conversing, conversing_across, crossed, late, writing}
 use Rattle.tcp_progress.specs.Pair.{HasStream, socket_of}
 use Rattle.tcp_progress.specs.Talking.{HasMinutes}
-use Rattle.tcp_progress.proofs.PairTimers.{le_of}
+use Rattle.tcp_progress.proofs.MetAcross.{may_cross, may_meet}
+use Rattle.tcp_progress.proofs.Moments.{le_of}
 use Rattle.tcp_progress.proofs.met.what_a_connection_asks_for_is_met.Goals as goal
 
 abbrev own : EndpointPair
@@ -42,10 +44,11 @@ shakes = record {
   over = inl refl;
   goes = record { lasts = refl; in_time = refl; alive = refl; tries = refl };
   caller = record { timeout = refl; tries = refl };
-  listener = record { timeout = refl; unpaused = refl; stampless = refl; tries = refl };
+  listener = record { timeout = refl; unpaused = refl; tries = refl };
   at_first = refl;
   at_second = refl;
   at_third = refl;
+  stamps = inl refl;
 }
 
 lasting_a : IsLasting (socket_of called A)
@@ -53,6 +56,12 @@ lasting_a = record { room = leb-true _ _ refl; tries = refl }
 
 lasting_b : IsLasting (socket_of called B)
 lasting_b = record { room = leb-true _ _ refl; tries = refl }
+
+across_a : IsLasting (socket_of both_called A)
+across_a = record { room = leb-true _ _ refl; tries = refl }
+
+across_b : IsLasting (socket_of both_called B)
+across_b = record { room = leb-true _ _ refl; tries = refl }
 
 -- THE NUMBERS
 
@@ -75,6 +84,30 @@ wrote_b = refl
 some : (n : ℕ) → n ≡ 3 → 1 ≤ n
 some n e = subst (λ (k : ℕ). 1 ≤ k) (sym e) (leb-true 1 3 refl)
 
+across_count : bound conversing_across ≡ 16
+across_count = refl
+
+across_moment_a : (at conversing_across.sides A).moment ≡ late
+across_moment_a = refl
+
+across_moment_b : (at conversing_across.sides B).moment ≡ late
+across_moment_b = refl
+
+across_wrote_a : length (past_at conversing_across A).written ≡ 3
+across_wrote_a = refl
+
+across_wrote_b : length (past_at conversing_across B).written ≡ 3
+across_wrote_b = refl
+
+late_begun : (now : ℤ) → now ≡ late → pos 0 ≤ℤ now
+late_begun now e = subst (λ (t : ℤ). pos 0 ≤ℤ t) (sym e) (le_of (pos 0) late refl)
+
+late_left : (now : ℤ) (n : ℕ) → now ≡ late → n ≡ 16 → (now +ℤ pos (n * 120_000_000)) ≤ℤ pos last_moment
+late_left now n e f =
+    subst (λ (t : ℤ). (t +ℤ pos (n * 120_000_000)) ≤ℤ pos last_moment) (sym e)
+    (subst (λ (k : ℕ). (late +ℤ pos (k * 120_000_000)) ≤ℤ pos last_moment) (sym f)
+    (le_of (late +ℤ pos (16 * 120_000_000)) (pos last_moment) refl))
+
 begun_at : (now : ℤ) → now ≡ pos 0 → pos 0 ≤ℤ now
 begun_at now e = subst (λ (t : ℤ). pos 0 ≤ℤ t) (sym e) (le_of (pos 0) (pos 0) refl)
 
@@ -96,6 +129,12 @@ minutes_b = record {
   left = time_left (at conversing.sides B).moment (bound conversing) moment_b count;
 }
 
+unstamped_a : (socket_of conversing A).block.peer.timestamps ≡ false
+unstamped_a = refl
+
+unstamped_b : (socket_of conversing B).block.peer.timestamps ≡ false
+unstamped_b = refl
+
 writes : Steps answered writing conversing
 writes = (refl, (refl, (refl, (refl, refl))))
 
@@ -107,14 +146,53 @@ stream_b = inr (some (length (past_at conversing B).written) wrote_b)
 
 pub returns-clause-converses : goal.returns-clause-converses
 returns-clause-converses c = record {
-  shake = shakes;
+  opens = shakes;
   own = lasting_a;
   theirs = lasting_b;
-  stampless = refl;
   writing = (tt, (tt, (tt, (tt, tt))));
   steps = writes;
   stream_a = stream_a;
   stream_b = stream_b;
   minutes_a = minutes_a;
   minutes_b = minutes_b;
+  stamps_a = inl unstamped_a;
+  stamps_b = inl unstamped_b;
+}
+
+across_unstamped_a : (socket_of conversing_across A).block.peer.timestamps ≡ false
+across_unstamped_a = refl
+
+across_unstamped_b : (socket_of conversing_across B).block.peer.timestamps ≡ false
+across_unstamped_b = refl
+
+across_writes : Steps (met_in crossed A late late) writing conversing_across
+across_writes = (refl, (refl, (refl, (refl, refl))))
+
+across_stream_a : HasStream (past_at conversing_across A)
+across_stream_a = inr (some (length (past_at conversing_across A).written) across_wrote_a)
+
+across_stream_b : HasStream (past_at conversing_across B)
+across_stream_b = inr (some (length (past_at conversing_across B).written) across_wrote_b)
+
+pub returns-clause-across : goal.returns-clause-across
+returns-clause-across c = record {
+  opens = (may_cross, may_meet);
+  own = across_a;
+  theirs = across_b;
+  writing = (tt, (tt, (tt, (tt, tt))));
+  steps = across_writes;
+  stream_a = across_stream_a;
+  stream_b = across_stream_b;
+  minutes_a =
+      record {
+        begun = late_begun (at conversing_across.sides A).moment across_moment_a;
+        left = late_left (at conversing_across.sides A).moment (bound conversing_across) across_moment_a across_count;
+      };
+  minutes_b =
+      record {
+        begun = late_begun (at conversing_across.sides B).moment across_moment_b;
+        left = late_left (at conversing_across.sides B).moment (bound conversing_across) across_moment_b across_count;
+      };
+  stamps_a = inl across_unstamped_a;
+  stamps_b = inl across_unstamped_b;
 }

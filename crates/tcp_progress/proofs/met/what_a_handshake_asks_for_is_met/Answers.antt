@@ -33,10 +33,11 @@ returns-clause-first c = record {
   over = inl refl;
   goes = record { lasts = refl; in_time = refl; alive = refl; tries = refl };
   caller = record { timeout = refl; tries = refl };
-  listener = record { timeout = refl; unpaused = refl; stampless = refl; tries = refl };
+  listener = record { timeout = refl; unpaused = refl; tries = refl };
   at_first = refl;
   at_second = refl;
   at_third = refl;
+  stamps = inl refl;
 }
 
 pub returns-clause-lost : goal.returns-clause-lost
@@ -50,8 +51,9 @@ returns-clause-lost c = record {
   over = inr refl;
   goes = record { lasts = refl; in_time = refl; alive = refl; tries = refl };
   caller = record { timeout = refl; tries = refl };
-  listener = record { timeout = refl; unpaused = refl; stampless = refl; tries = refl };
+  listener = record { timeout = refl; unpaused = refl; tries = refl };
   at_first = refl;
   at_second = refl;
   at_third = refl;
+  stamps = inl refl;
 }

@@ -4,7 +4,6 @@ use Rattle.net_base.specs.Ring.{ring}
 use Rattle.std.specs.Prelude.{[], ◌∷◌, ◌++◌, replicate}
 use Rattle.tcp_pair_model.specs.declared.event.PairEvent.TheVariants.{Deliver}
 use Rattle.tcp_pair_model.specs.declared.event.Side.TheVariants.{A}
-use Rattle.tcp_progress.proofs.Stampless.{stampless}
 use Rattle.tcp_progress.specs.Met.{events}
 use Rattle.tcp_progress.proofs.met.what_an_exchange_asks_for_is_met.Goals as goal
 
@@ -23,38 +22,30 @@ returns-clause-stream c = inl refl
 
 pub returns-clause-lost : goal.returns-clause-lost
 returns-clause-lost c = record {
-  mirrored = inl (inr refl);
-  may =
-      record {
-        own = record { synchronized = refl; acknowledged = refl; opened = leb-true _ _ refl };
-        theirs = record { synchronized = refl; acknowledged = refl; opened = leb-true _ _ refl };
-        over = inr refl;
-        offered = refl;
-        kind = refl;
-        some = leb-true _ _ refl;
-        room = leb-true _ _ refl;
-        space = inl (inl refl);
-        fresh = refl;
-        answer_fresh = stampless _ _ refl;
-      };
+  own = record { synchronized = refl; acknowledged = refl; opened = leb-true _ _ refl };
+  theirs = record { synchronized = refl; acknowledged = refl; opened = leb-true _ _ refl };
+  over = inr refl;
+  offered = refl;
+  kind = refl;
+  some = leb-true _ _ refl;
+  room = leb-true _ _ refl;
+  space = inl (inl refl);
+  fresh = refl;
+  answer_fresh = λ _ _. refl;
 }
 
 pub returns-clause-untold : goal.returns-clause-untold
 returns-clause-untold c = record {
-  mirrored = inl (inr refl);
-  may =
-      record {
-        own = record { synchronized = refl; acknowledged = refl; opened = leb-true _ _ refl };
-        theirs = record { synchronized = refl; acknowledged = refl; opened = leb-true _ _ refl };
-        over = inr refl;
-        offered = refl;
-        kind = refl;
-        some = leb-true _ _ refl;
-        room = leb-true _ _ refl;
-        space = inl (inl refl);
-        fresh = refl;
-        answer_fresh = stampless _ _ refl;
-      };
+  own = record { synchronized = refl; acknowledged = refl; opened = leb-true _ _ refl };
+  theirs = record { synchronized = refl; acknowledged = refl; opened = leb-true _ _ refl };
+  over = inr refl;
+  offered = refl;
+  kind = refl;
+  some = leb-true _ _ refl;
+  room = leb-true _ _ refl;
+  space = inl (inl refl);
+  fresh = refl;
+  answer_fresh = λ _ _. refl;
 }
 
 pub returns-clause-moves : goal.returns-clause-moves

@@ -1,18 +1,9 @@
-use Rattle.std.proofs.Common.{◌≡◌, inl, inr, ◌≤◌, Option, Some, None, refl, subst, arith}
+use Rattle.std.proofs.Common.{inl, inr, ◌≤◌, refl, arith}
 use Rattle.std.proofs.lemmas.Bool.{leb-true}
-use Rattle.tcp_rules.specs.OpenOffer.{OpenOffer}
-use Rattle.tcp_pair_model.specs.Values.{PairValue, context_at}
-use Rattle.tcp_pair_model.specs.declared.event.Side.TheVariants.{A, B}
-use Rattle.tcp_progress.specs.Exchange.{offer_comes}
+use Rattle.tcp_pair_model.specs.declared.event.Side.TheVariants.{A}
 use Rattle.tcp_progress.specs.Met.{gone}
-use Rattle.tcp_progress.specs.Settle.{MayRound, read_in, resumed_in}
-use Rattle.tcp_progress.proofs.Stampless.{stamp_in, stampless}
+use Rattle.tcp_progress.specs.Settle.{MayRound, resumed_in}
 use Rattle.tcp_progress.proofs.met.what_rounds_ask_for_is_met.Goals as goal
-
--- what answers an offer has no timestamp
-abbrev HasNoStamp : PairValue → Option OpenOffer → Type 0
-HasNoStamp p None = Unit {0}
-HasNoStamp p (Some o) = stamp_in (offer_comes (context_at B p.sides.b) p.sides.b.socket p.sides.a.socket o).answer ≡ None
 
 never : {X : Type 0} → 1 ≤ 0 → X
 never e = absurd (omega arith)
@@ -22,7 +13,6 @@ first = record {
   stream = inl refl;
   goes_on =
       record {
-        mirrored = inl (inr refl);
         sends =
             record {
               own = record { synchronized = refl; acknowledged = refl; opened = leb-true _ _ refl };
@@ -35,7 +25,7 @@ first = record {
         theirs = record { synchronized = refl; acknowledged = refl; opened = leb-true _ _ refl };
         room = leb-true _ _ refl;
         fresh = refl;
-        answer_fresh = λ o reply offered answer. stampless _ _ (subst (HasNoStamp (read_in gone A)) offered refl) reply answer;
+        answer_fresh = λ _ _ _ _. refl;
       };
   comes = refl;
   space = inl (inl refl);
@@ -46,7 +36,6 @@ second = record {
   stream = inl refl;
   goes_on =
       record {
-        mirrored = inl (inr refl);
         sends =
             record {
               own = record { synchronized = refl; acknowledged = refl; opened = leb-true _ _ refl };
@@ -59,7 +48,7 @@ second = record {
         theirs = record { synchronized = refl; acknowledged = refl; opened = leb-true _ _ refl };
         room = leb-true _ _ refl;
         fresh = refl;
-        answer_fresh = λ o reply offered answer. stampless _ _ (subst (HasNoStamp (read_in (resumed_in gone A) A)) offered refl) reply answer;
+        answer_fresh = λ _ _ _ _. refl;
       };
   comes = refl;
   space = inl (inl refl);

@@ -1,11 +1,11 @@
-use Rattle.std.proofs.Common.{◌≡◌, inl, inr, true, false, refl, sym}
+use Rattle.std.proofs.Common.{◌≡◌, inl, true, false, refl, sym}
 use Rattle.std.proofs.lemmas.Bool.{leb-true}
 use Rattle.tcp_rules.proofs.OrderSteps.{clash}
 use Rattle.tcp_pair_model.specs.declared.event.Side.TheVariants.{A, B}
 use Rattle.tcp_progress.specs.BothWays.{round_in, turn_in}
 use Rattle.tcp_progress.specs.Met.{both_gone}
 use Rattle.tcp_progress.specs.Talking.{MaySpeak}
-use Rattle.tcp_progress.proofs.PairTimers.{le_of}
+use Rattle.tcp_progress.proofs.Moments.{le_of}
 use Rattle.tcp_progress.proofs.Talks.{done_talks}
 use Rattle.tcp_progress.proofs.met.what_talking_asks_for_is_met.Goals as goal
 
@@ -41,7 +41,6 @@ returns c = record {
               stream = inl refl;
               room = leb-true _ _ refl;
               timeout = refl;
-              stampless = refl;
             };
         b =
             record {
@@ -49,11 +48,11 @@ returns c = record {
               stream = inl refl;
               room = leb-true _ _ refl;
               timeout = refl;
-              stampless = refl;
             };
-        listened = inr refl;
         minutes_a = record { begun = le_of _ _ refl; left = le_of _ _ refl };
         minutes_b = record { begun = le_of _ _ refl; left = le_of _ _ refl };
+        stamps_a = inl refl;
+        stamps_b = inl refl;
       };
   tries = (record { timeouts = refl; questions = refl }, record { timeouts = refl; questions = refl });
   turns = (λ _. first, λ _. second, (λ e. never e, λ _. third, done_talks 10 (round_in (round_in both_gone)) refl refl));

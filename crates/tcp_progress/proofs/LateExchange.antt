@@ -1,0 +1,274 @@
+-- An exchange goes on, however long it takes, and whatever happens meanwhile.
+use Rattle.std.proofs.Common.{◌≡◌, ◌⊎◌, inl, inr, ℕ, ◌+◌, ◌-◌, ◌^◌, ◌<◌, ◌≤◌, ℤ, Bool, true, false, if◌then◌else◌, [], ◌∷◌, length}
+use Rattle.std.proofs.Common.{Option, Some, None, slice_get, refl, sym, ap, ◌∙◌, subst, arith}
+use Rattle.std.proofs.lemmas.Bool.{lt-ltb}
+use Rattle.std.proofs.lemmas.Option.{slice_get_within}
+use Rattle.net_base.specs.Ring.{Ring}
+use Rattle.ip_wire.specs.Seq.{distance_of}
+use Rattle.ip_wire.specs.SeqNumber.{SeqNumber}
+use Rattle.tcp_tie.specs.Context.{ContextValue}
+use Rattle.tcp_rules.specs.Controls.{is_rst, is_syn}
+use Rattle.tcp_rules.specs.Offsets.{past_by}
+use Rattle.tcp_rules.specs.OpenOffer.{OpenOffer}
+use Rattle.tcp_rules.specs.States.{is_closed}
+use Rattle.tcp_rules.specs.Timing.{carries}
+use Rattle.tcp_rules.proofs.OrderSteps.{clash}
+use Rattle.tcp_pair_model.specs.Blocks.{one_if}
+use Rattle.tcp_pair_model.specs.Offers.{offer_of}
+use Rattle.tcp_pair_model.specs.Segments.{segment_len}
+use Rattle.tcp_pair_model.specs.Sides.{at, other}
+use Rattle.tcp_pair_model.specs.Steps.{offered_at, refusal}
+use Rattle.tcp_pair_model.specs.Values.{PairSide, PairValue, and_offer, context_at, past_at}
+use Rattle.tcp_pair_model.specs.declared.event.PairEvent.TheVariants.{Deliver, Offer}
+use Rattle.tcp_pair_model.specs.declared.event.SentSegment.{SentSegment}
+use Rattle.tcp_pair_model.specs.declared.event.Side.{Side}
+use Rattle.tcp_pair_model.specs.declared.event.Side.TheVariants.{A, B}
+use Rattle.tcp_progress.specs.Again.{StartsOver}
+use Rattle.tcp_progress.specs.BothWays.{total_in}
+use Rattle.tcp_progress.specs.Exchange.{GoesFromUna, IsOpen, left_of, text_of}
+use Rattle.tcp_progress.specs.Late.{GoesFrom, GoesOnIn, IsAckedTo, IsTakenIn, MayHear, TakesTime, come_in, heard_in, sent_by}
+use Rattle.tcp_progress.specs.Onward.{AreOpen, HasRisen}
+use Rattle.tcp_progress.specs.Pair.{HasStream, context_of, left_in, next_sent, socket_of}
+use Rattle.tcp_progress.specs.Reached.{IsReached}
+use Rattle.tcp_progress.specs.Rounds.{takes}
+use Rattle.tcp_progress.specs.Sent.{taken_in}
+use Rattle.tcp_progress.proofs.Exchange.{last_of}
+use Rattle.tcp_progress.proofs.Kept.{reached_by}
+use Rattle.tcp_progress.proofs.LateAnswers.{late_answer}
+use Rattle.tcp_progress.proofs.LateText.{Outcome, Told, few_had, left_within, open_of, outcome, there_of}
+use Rattle.tcp_progress.proofs.Led.{within}
+use Rattle.tcp_progress.proofs.Left.{left_same}
+use Rattle.tcp_progress.proofs.Offered.{GoesOut, goes_from_una, goes_out_of}
+use Rattle.tcp_progress.proofs.OnwardPairs.{MovesIn, moves_on, then_moves}
+use Rattle.tcp_progress.proofs.Opened.{is_open}
+use Rattle.tcp_progress.proofs.Pair.{not_closed}
+use Rattle.tcp_progress.proofs.Ready.{ready_side}
+
+-- WHAT GOES
+
+module _ (side : Side) (s : PairSide) (moment : ℤ) (o : OpenOffer) (mine : IsOpen s.socket.block) (small : s.socket.block.sender.una.0 < 2 ^ 32)
+    (over : StartsOver (context_at side (record s { moment = moment })) s.socket)
+    (offered : (offer_of (context_at side (record s { moment = moment })) s.socket).socket.offered ≡ Some o) (kind : carries o.kind ≡ true) where
+  abbrev cx : ContextValue
+  cx = context_at side (record s { moment = moment })
+
+  abbrev after : PairSide
+  after = offered_at side (record s { moment = moment }) true
+
+  out : GoesOut s.socket (offer_of cx s.socket).socket o
+  out = goes_out_of cx s.socket o mine.acknowledged offered kind
+
+  from_una : GoesFromUna s.socket o
+  from_una = goes_from_una cx s.socket o small mine.acknowledged over offered kind
+
+  abbrev gone : SentSegment
+  gone = record { header = o.header; segment = o.segment; bytes = text_of s.socket o }
+
+  -- it is the next that the side sends
+  sent_last : slice_get after.sent (length s.sent) ≡ Some (record { header = o.header; segment = o.segment; bytes = text_of s.socket o })
+  sent_last =
+      ap (λ (x : Option OpenOffer). slice_get (and_offer s.sent x (offer_of cx s.socket).socket.queued.queue) (length s.sent)) offered
+      ∙ (ap (λ (queued : Ring ℕ). slice_get (and_offer s.sent (Some o) queued.queue) (length s.sent)) out.queued ∙ last_of s.sent gone)
+
+  left_after : left_of after.socket ≡ left_of s.socket
+  left_after =
+      left_same s.socket after.socket (record { state = out.sent.state; syn_unacked = out.sent.syn_unacked; queued = out.sent_queued })
+
+-- and it goes from SND.UNA on, as the pair is then
+pub goes_now :
+    (p : PairValue) (side : Side) (moment : ℤ) (o : OpenOffer) → IsReached p → IsOpen (socket_of p side).block
+    → StartsOver (context_of p side moment) (socket_of p side) → (offer_of (context_of p side moment) (socket_of p side)).socket.offered ≡ Some o
+    → carries o.kind ≡ true → 1 ≤ segment_len o.segment (length (text_of (socket_of p side) o))
+    → GoesFrom (takes p (Offer side moment true)) side (sent_by p side o)
+goes_now p A moment o r mine over offered kind some =
+    let s = p.sides.a in
+    let small = (ready_side p A r).order.number in
+    let g = from_una A s moment o mine small over offered kind in
+    let x = out A s moment o mine small over offered kind in
+    record {
+      number = g.number ∙ sym x.sent.una;
+      acknowledges = g.acknowledges ∙ ap Some (sym x.sent.next);
+      some = some;
+      ends =
+          subst (λ (n : ℕ). segment_len o.segment (length (text_of s.socket o)) ≤ n) (sym (left_after A s moment o mine small over offered kind)) g.ends;
+      no_syn = x.no_syn;
+      no_reset = x.no_reset;
+    }
+goes_now p B moment o r mine over offered kind some =
+    let s = p.sides.b in
+    let small = (ready_side p B r).order.number in
+    let g = from_una B s moment o mine small over offered kind in
+    let x = out B s moment o mine small over offered kind in
+    record {
+      number = g.number ∙ sym x.sent.una;
+      acknowledges = g.acknowledges ∙ ap Some (sym x.sent.next);
+      some = some;
+      ends =
+          subst (λ (n : ℕ). segment_len o.segment (length (text_of s.socket o)) ≤ n) (sym (left_after B s moment o mine small over offered kind)) g.ends;
+      no_syn = x.no_syn;
+      no_reset = x.no_reset;
+    }
+
+pub goes_last :
+    (p : PairValue) (side : Side) (moment : ℤ) (o : OpenOffer) → IsReached p → IsOpen (socket_of p side).block
+    → StartsOver (context_of p side moment) (socket_of p side) → (offer_of (context_of p side moment) (socket_of p side)).socket.offered ≡ Some o
+    → carries o.kind ≡ true → slice_get (at (takes p (Offer side moment true)).sides side).sent (next_sent p side) ≡ Some (sent_by p side o)
+goes_last p A moment o r mine over offered kind = sent_last A p.sides.a moment o mine (ready_side p A r).order.number over offered kind
+goes_last p B moment o r mine over offered kind = sent_last B p.sides.b moment o mine (ready_side p B r).order.number over offered kind
+
+-- WHAT IS HEARD
+
+heard_acked :
+    (s : PairValue) (side : Side) (j : ℕ) (x : SentSegment) (number : SeqNumber) → IsReached s → AreOpen s → HasStream (past_at s side) → MayHear s side j x
+    → is_syn x.segment.control ≡ false → is_rst x.segment.control ≡ false → x.segment.ack_number ≡ Some number
+    → IsAckedTo number (socket_of (heard_in s side j) side).block.sender.una
+heard_acked s A j x number r both stream h no_syn no_reset ack =
+    late_answer s B j x number r both stream (record { sent = h.sent; accepted = h.accepted; fresh = h.fresh }) no_syn no_reset ack h.near
+heard_acked s B j x number r both stream h no_syn no_reset ack =
+    late_answer s A j x number r both stream (record { sent = h.sent; accepted = h.accepted; fresh = h.fresh }) no_syn no_reset ack h.near
+
+less : (a b c d : ℕ) → a + b < c + d → d ≤ a → a - d < c - b
+less a b c d e f = omega arith
+
+no_less : (a b c d : ℕ) → a + b ≤ c + d → a - d ≤ c - b
+no_less a b c d e = omega arith
+
+first_of_three : (a b c : ℕ) → a < b → b ≤ c → a < c
+first_of_three a b c e f = omega arith
+
+last_of_three : (a b c : ℕ) → a ≤ b → b < c → a < c
+last_of_three a b c e f = omega arith
+
+module _ (p q s : PairValue) (side : Side) (k j : ℕ) (x : SentSegment) (r : IsReached p) (m : TakesTime p q s side k j x) where
+  abbrev came : PairValue
+  came = come_in q side k
+
+  abbrev heard : PairValue
+  heard = heard_in s side j
+
+  rq : IsReached q
+  rq = reached_by p q m.first.events r m.first.steps
+
+  comes : refusal q (Deliver side k) ≡ None
+  comes = within k (length (at q.sides side).sent) (slice_get_within (at q.sides side).sent k x m.comes.sent)
+
+  rc : IsReached came
+  rc = reached_by q came (Deliver side k ∷ []) rq (comes, refl)
+
+  rs : IsReached s
+  rs = reached_by came s m.second.events rc m.second.steps
+
+  to_q : (of : Side) → MovesIn p q of
+  to_q of = moves_on p q m.first.events of r m.first.before m.first.steps
+
+  open_q : (of : Side) → IsOpen (socket_of q of).block
+  open_q of = is_open q of rq (there_of q of m.first.after) ((to_q of).syn (open_of p of m.first.before).acknowledged)
+
+  to_came : (of : Side) → MovesIn q came of
+  to_came of = moves_on q came (Deliver side k ∷ []) of rq (open_q A, open_q B) (comes, refl)
+
+  to_s : (of : Side) → MovesIn came s of
+  to_s of = moves_on came s m.second.events of rc m.second.before m.second.steps
+
+  open_s : (of : Side) → IsOpen (socket_of s of).block
+  open_s of = is_open s of rs (there_of s of m.second.after) ((to_s of).syn (open_of came of m.second.before).acknowledged)
+
+  found : Outcome p q side k x r m.first m.stream m.room m.goes m.comes
+  found = outcome p q side k x r m.first m.stream m.room m.goes m.comes
+
+  -- SND.UNA or RCV.NXT of the other has risen until the segment came, or rises with it
+  until : HasRisen p q (other side) → HasRisen p came (other side)
+  until (inl e) =
+      inl
+      (first_of_three (total_in p (other side) - left_in p (other side)) (total_in q (other side) - left_in q (other side)) _ e
+      (no_less (total_in q (other side)) (left_in came (other side)) (total_in came (other side)) (left_in q (other side)) (to_came (other side)).acked))
+  until (inr e) = inr (first_of_three (taken_in p (other side)) (taken_in q (other side)) (taken_in came (other side)) e (to_came (other side)).taken)
+
+  taken : IsTakenIn q side k → HasRisen p came (other side)
+  taken e = inr (last_of_three (taken_in p (other side)) (taken_in q (other side)) (taken_in came (other side)) (to_q (other side)).taken e)
+
+  -- THE ANSWER
+
+  module _ (told : Told p q side k x r m.first m.stream m.room m.goes m.comes) where
+    hears : MayHear s side j told.answered.answer
+    hears = m.hears told.answered
+
+    arrives_there : refusal s (Deliver (other side) j) ≡ None
+    arrives_there =
+        within j (length (at s.sides (other side)).sent) (slice_get_within (at s.sides (other side)).sent j told.answered.answer hears.sent)
+
+    to_heard : MovesIn s heard side
+    to_heard = moves_on s heard (Deliver (other side) j ∷ []) side rs (open_s A, open_s B) (arrives_there, refl)
+
+    stream : HasStream (past_at s side)
+    stream =
+        inr
+        (more (length (past_at p side).written) (length (past_at q side).written) (length (past_at came side).written) (length (past_at s side).written)
+        (wrote m.stream) (to_q side).written (to_came side).written (to_s side).written)
+      where
+        more : (a b c d : ℕ) → 1 ≤ a → a ≤ b → b ≤ c → c ≤ d → 1 ≤ d
+        more a b c d e f g h = omega arith
+
+        some : (written : ℕ) {fin left len : ℕ} → fin ≡ 0 → left ≤ written + fin → 1 ≤ len → len ≤ left → 1 ≤ written
+        some written e f g h = omega arith
+
+        wrote : HasStream (past_at p side) → 1 ≤ length (past_at p side).written
+        wrote (inl unclosed) =
+            some (length (past_at p side).written) (ap one_if unclosed) (left_within p side r (open_of p side m.first.before)) m.goes.some m.goes.ends
+        wrote (inr some) = some
+
+    acked : IsAckedTo (socket_of q (other side)).block.receiver.next (socket_of heard side).block.sender.una
+    acked =
+        heard_acked s side j told.answered.answer (socket_of q (other side)).block.receiver.next rs (open_s A, open_s B) stream hears
+        (ap is_syn told.answered.plain) (ap is_rst told.answered.plain) told.answered.acknowledges
+
+    abbrev far : ℕ
+    far = distance_of (socket_of p side).block.sender.una (socket_of p (other side)).block.receiver.next
+
+    -- SND.UNA can't be where it was
+    never : (socket_of heard side).block.sender.una ≡ (socket_of p side).block.sender.una → ⊥
+    never same =
+        nothing far (segment_len x.segment (length x.bytes))
+        (sym
+        (ap (λ (t : Bool). if t then far else 0)
+        (lt-ltb far (2 ^ 31) (few_had p q side k x r m.first m.stream m.room m.goes m.comes)))
+        ∙ (ap (λ (n : SeqNumber). past_by (socket_of p side).block.sender.una n) (sym told.next)
+        ∙ subst (λ (una : SeqNumber). IsAckedTo (socket_of q (other side)).block.receiver.next una) same acked))
+        m.goes.some told.whole
+      where
+        nothing : (far len : ℕ) → far ≡ 0 → 1 ≤ len → len ≤ far → ⊥
+        nothing far len e f g = absurd (omega arith)
+
+    -- so it has risen, or the connection is over
+    rises : (over : Bool) → is_closed (socket_of heard side).block.state ≡ over →
+        HasRisen p heard side ⊎ (is_closed (socket_of heard side).block.state ≡ true)
+    rises true e = inr e
+    rises false e = by (whole.una e) where
+      whole : MovesIn p heard side
+      whole =
+          then_moves p s heard side
+          (then_moves p came s side (then_moves p q came side (to_q side) (to_came side)) (to_s side)) to_heard
+
+      by :
+          ((socket_of heard side).block.sender.una ≡ (socket_of p side).block.sender.una)
+          × ((socket_of p side).block.sender.top ≤ (socket_of heard side).block.sender.top)
+          ⊎ (total_in p side + left_in heard side < total_in heard side + left_in p side)
+          → HasRisen p heard side ⊎ (is_closed (socket_of heard side).block.state ≡ true)
+      by (inl same) = absurd (never same.0)
+      by (inr risen) =
+          inl
+          (inl
+          (less (total_in p side) (left_in heard side) (total_in heard side) (left_in p side) risen
+          (left_within p side r (open_of p side m.first.before))))
+
+  pub goes_on : GoesOnIn p q s side k j
+  goes_on = by found where
+    by : Outcome p q side k x r m.first m.stream m.room m.goes m.comes → GoesOnIn p q s side k j
+    by (inl risen) = inl (until risen)
+    by (inr (inl it)) = inl (taken it)
+    by (inr (inr (inl told))) = inr (inr (rises told (is_closed (socket_of heard side).block.state) refl))
+    by (inr (inr (inr (inl shut)))) = inr (inl shut.none)
+    by (inr (inr (inr (inr ends)))) =
+        clash
+        (sym ends.1
+        ∙ not_closed (socket_of came (other side)).block.state (open_of came (other side) m.second.before).synchronized)

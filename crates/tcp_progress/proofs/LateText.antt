@@ -1,0 +1,406 @@
+-- Text that comes late counts, unless SND.UNA or RCV.NXT has risen since it went.
+use Rattle.std.proofs.Common.{◌≡◌, ◌⊎◌, inl, inr, ℕ, suc, ◌+◌, ◌-◌, ◌%◌, ◌^◌, ◌<◌, ◌≤◌, ◌==◌, nat_lt, Bool, true, false}
+use Rattle.std.proofs.Common.{[], ◌∷◌, length, Option, None, refl, sym, ap, ◌∙◌, subst, arith}
+use Rattle.std.proofs.lemmas.Bool.{eqb-true, ltb-false, ltb-true}
+use Rattle.std.proofs.lemmas.Option.{slice_get_within}
+use Rattle.ip_wire.specs.Seq.{distance_of}
+use Rattle.ip_wire.specs.SeqNumber.{SeqNumber}
+use Rattle.tcp_law.specs.Invariant.{IsInStep}
+use Rattle.tcp_law.specs.Side.{rcv_next, send_end, one_if as one_in}
+use Rattle.tcp_tie.specs.Context.{ContextValue}
+use Rattle.tcp_tie.specs.Tie.{IsConnectedAs, Keeps, Past, core_of, is_finished_in, unsent}
+use Rattle.tcp_rules.specs.Reply.{Reply}
+use Rattle.tcp_rules.specs.State.{State}
+use Rattle.tcp_rules.specs.State.TheVariants as In
+use Rattle.tcp_rules.specs.States.{is_closed, takes_text}
+use Rattle.tcp_rules.proofs.OrderSteps.{clash}
+use Rattle.tcp_pair_model.specs.Answers.{may_draw}
+use Rattle.tcp_pair_model.specs.Arrival.{arrives}
+use Rattle.tcp_pair_model.specs.Blocks.{one_if}
+use Rattle.tcp_pair_model.specs.Segments.{segment_len}
+use Rattle.tcp_pair_model.specs.Sides.{at, other}
+use Rattle.tcp_pair_model.specs.Steps.{refusal, taken_at}
+use Rattle.tcp_pair_model.specs.Value.{TcpValue, Arrived, free_in, room_of}
+use Rattle.tcp_pair_model.specs.Values.{PairSide, PairValue, and_reply, context_at, past_at}
+use Rattle.tcp_pair_model.specs.declared.event.PairEvent.TheVariants.{Deliver}
+use Rattle.tcp_pair_model.specs.declared.event.SentSegment.{SentSegment}
+use Rattle.tcp_pair_model.specs.declared.event.Side.{Side}
+use Rattle.tcp_pair_model.specs.declared.event.Side.TheVariants.{A, B}
+use Rattle.tcp_progress.specs.Arrivals.{Counts, EndsLastAck, IsAnswered, IsShutOut, Rises, is_synchronized}
+use Rattle.tcp_progress.specs.BothWays.{AreThere, total_in}
+use Rattle.tcp_progress.specs.Exchange.{IsOpen, left_of}
+use Rattle.tcp_progress.specs.Late.{CountsIn, EndsIn, GoesFrom, IsAnsweredIn, IsTakenIn, MayCome, come_in}
+use Rattle.tcp_progress.specs.Onward.{AreOpen, HasRisen, Lasts}
+use Rattle.tcp_progress.specs.Pair.{HasStream, left_in, socket_of}
+use Rattle.tcp_progress.specs.Positions.{LiesWithin}
+use Rattle.tcp_progress.specs.Reached.{IsReached}
+use Rattle.tcp_progress.specs.Sent.{taken_in}
+use Rattle.tcp_progress.proofs.Closes.{closes_last}
+use Rattle.tcp_progress.proofs.Kept.{reached_by, reached_keeps}
+use Rattle.tcp_progress.proofs.LateAnswers.{delivered}
+use Rattle.tcp_progress.proofs.Led.{within}
+use Rattle.tcp_progress.proofs.Onward.{positive}
+use Rattle.tcp_progress.proofs.OnwardPairs.{MovesIn, connected, moves_on}
+use Rattle.tcp_progress.proofs.Opened.{is_open}
+use Rattle.tcp_progress.proofs.Pair.{in_step, late_in, not_closed}
+use Rattle.tcp_progress.proofs.Positions.{IsPlaced, lies_within, next_small, placed, same_one, una_small, whole_taken}
+use Rattle.tcp_progress.proofs.SentPairs.{TookEach, reached_took}
+use Rattle.tcp_progress.proofs.Settles.{few_wait}
+use Rattle.tcp_progress.proofs.Taken.{again_answered, next_rises, shut_answered}
+use Rattle.tcp_progress.proofs.WindowPairs.{near_in}
+
+pub open_of : (p : PairValue) (side : Side) → AreOpen p → IsOpen (socket_of p side).block
+open_of p A o = o.0
+open_of p B o = o.1
+
+pub there_of : (p : PairValue) (side : Side) → AreThere p → is_synchronized (socket_of p side).block.state ≡ true
+there_of p A t = t.0
+there_of p B t = t.1
+
+-- no more is unacknowledged than was written, where the SYN is acknowledged
+pub left_within : (p : PairValue) (side : Side) → IsReached p → IsOpen (socket_of p side).block → left_in p side ≤ total_in p side
+left_within p side r opened =
+    subst (λ (x : Past). left_in p side ≤ length x.written + one_if x.closed) k.past
+    (by k.side.iss k.side.una (left_in p side) (length k.side.written) (one_in k.side.closed) (sym (ap one_in opened.acknowledged) ∙ f.syn) a.end
+    (same_one k.side.closed))
+  where
+    v : TcpValue
+    v = socket_of p side
+
+    k : Keeps v (past_at p side) (socket_of p (other side)) (past_at p (other side))
+    k = reached_keeps p side r
+
+    f : IsConnectedAs (core_of v) (unsent k.side)
+    f = connected p side r opened.synchronized
+
+    a : IsPlaced v k.side
+    a = placed v k.side k.fits k.holds.0.well_formed opened.synchronized
+
+    by :
+        (iss una left written closed : ℕ) {fin : ℕ} → 0 ≡ suc iss - una → una + left ≡ suc iss + written + closed → closed ≡ fin
+        → left ≤ written + fin
+    by iss una left written closed d e g = omega arith
+
+-- a connection that takes no text took the FIN
+finished_in : (state : State) → is_synchronized state ≡ true → takes_text state ≡ false → is_finished_in state ≡ true
+finished_in In.Closed there e = clash (sym there)
+finished_in In.Listen there e = clash (sym there)
+finished_in In.SynSent there e = clash (sym there)
+finished_in In.SynReceived there e = clash (sym there)
+finished_in In.Established there e = clash e
+finished_in In.FinWait1 there e = clash e
+finished_in In.FinWait2 there e = clash e
+finished_in other there e = refl
+
+module _ (p q : PairValue) (side : Side) (n : ℕ) (x : SentSegment) (r : IsReached p) (l : Lasts p q) (stream : HasStream (past_at p side))
+    (room : 1 ≤ room_of (socket_of p (other side)).received) (g : GoesFrom p side x) (c : MayCome q side n x) where
+  abbrev pub v : TcpValue
+  v = socket_of p side
+
+  -- the other, when the segment went, and when it comes
+  abbrev pub w : TcpValue
+  w = socket_of p (other side)
+
+  abbrev pub now : TcpValue
+  now = socket_of q (other side)
+
+  abbrev pub len : ℕ
+  len = segment_len x.segment (length x.bytes)
+
+  own : IsOpen v.block
+  own = open_of p side l.before
+
+  theirs : IsOpen w.block
+  theirs = open_of p (other side) l.before
+
+  rq : IsReached q
+  rq = reached_by p q l.events r l.steps
+
+  moves : (of : Side) → MovesIn p q of
+  moves of = moves_on p q l.events of r l.before l.steps
+
+  there : is_synchronized now.block.state ≡ true
+  there = there_of q (other side) l.after
+
+  alive : is_closed now.block.state ≡ false
+  alive = not_closed now.block.state there
+
+  open_now : (of : Side) → IsOpen (socket_of q of).block
+  open_now of = is_open q of rq (there_of q of l.after) ((moves of).syn (open_of p of l.before).acknowledged)
+
+  k : Keeps v (past_at p side) w (past_at p (other side))
+  k = reached_keeps p side r
+
+  step : IsInStep k.side k.partner
+  step = in_step v w (past_at p side) (past_at p (other side)) k own.synchronized stream
+
+  a : IsPlaced v k.side
+  a = placed v k.side k.fits k.holds.0.well_formed own.synchronized
+
+  b : IsPlaced w k.partner
+  b = placed w k.partner k.partner_fits k.holds.1.well_formed theirs.synchronized
+
+  lies : LiesWithin v w k.side k.partner
+  lies = lies_within v w (past_at p side) (past_at p (other side)) k own.synchronized theirs.synchronized step
+
+  took : TookEach p side
+  took = reached_took p side r own theirs
+
+  kq : Keeps now (past_at q (other side)) (socket_of q (other (other side))) (past_at q (other (other side)))
+  kq = reached_keeps q (other side) rq
+
+  placed_now : IsPlaced now kq.side
+  placed_now = placed now kq.side kq.fits kq.holds.0.well_formed there
+
+  -- how much the other had of what isn't acknowledged
+  abbrev pub had : ℕ
+  had = distance_of v.block.sender.una w.block.receiver.next
+
+  -- which is less than half of the circle of numbers
+  pub few_had : distance_of (socket_of p side).block.sender.una (socket_of p (other side)).block.receiver.next < 2 ^ 31
+  few_had = half had (left_in p side) lies.within lies.few where
+    half : (a b : ℕ) → a ≤ b → b < 2 ^ 30 → a < 2 ^ 31
+    half a b d e = omega arith
+
+  -- all of it was taken before, and is answered
+  pub record Told : Type 0 where
+    pub answered : IsAnsweredIn q side n
+    pub whole : len ≤ had
+    pub next : now.block.receiver.next ≡ w.block.receiver.next
+
+  -- the window is closed
+  pub record Shut : Type 0 where
+    pub none : free_in now ≡ 0
+    pub counts : CountsIn q side n
+
+  abbrev pub Outcome : Type 0
+  Outcome = HasRisen p q (other side) ⊎ (IsTakenIn q side n ⊎ (Told ⊎ (Shut ⊎ EndsIn q side n)))
+
+  -- where some of it is new to the other, it takes text
+  takes_more : had < len → takes_text w.block.state ≡ true
+  takes_more less = by (takes_text w.block.state) refl where
+    by : (test : Bool) → takes_text w.block.state ≡ test → takes_text w.block.state ≡ true
+    by true e = e
+    by false e =
+        let finished : k.partner.took_fin ≡ true = b.finished ∙ finished_in w.block.state theirs.synchronized e in
+        absurd
+        (no_more k.side.una had (rcv_next k.partner) (left_in p side) (send_end k.side) len lies.position
+        (whole_taken k.side k.partner k.holds.0 finished) a.end g.ends less)
+      where
+        no_more : (una far next all end len : ℕ) → una + far ≡ next → next ≡ end → una + all ≡ end → len ≤ all → far < len → ⊥
+        no_more una far next all end len d e f g h = absurd (omega arith)
+
+  -- NEITHER HAS RISEN
+
+  module _ (una : now.block.sender.una ≡ w.block.sender.una) (top : w.block.sender.top ≤ now.block.sender.top)
+      (next : now.block.receiver.next ≡ w.block.receiver.next) where
+    distance : distance_of x.segment.seq_number now.block.receiver.next ≡ had
+    distance =
+        ap (λ (m : SeqNumber). distance_of m now.block.receiver.next) g.number
+        ∙ ap (λ (m : SeqNumber). distance_of v.block.sender.una m) next
+
+    begins : distance_of x.segment.seq_number now.block.receiver.next < 2 ^ 31
+    begins = half had (left_in p side) distance lies.within lies.few where
+      half : (far all : ℕ) {near : ℕ} → near ≡ far → far ≤ all → all < 2 ^ 30 → near < 2 ^ 31
+      half far all d e f = omega arith
+
+    seq_small : x.segment.seq_number.0 < 2 ^ 32
+    seq_small = subst (λ (m : SeqNumber). m.0 < 2 ^ 32) (sym g.number) (una_small v k.side a)
+
+    counts : Counts now.block x.segment v.block.receiver.next
+    counts = record {
+      synchronized = there;
+      opened = (open_now (other side)).opened;
+      no_syn = g.no_syn;
+      no_reset = g.no_reset;
+      fresh = c.fresh;
+      acknowledges = g.acknowledges;
+      sent =
+          reach w.block.sender.top (ap (λ (m : SeqNumber). distance_of m v.block.receiver.next) una) took.heard top;
+      few = few now.block.sender.top (left_of now) placed_now.top placed_now.few;
+      number_small = next_small v k.side a;
+      una_small = una_small now kq.side placed_now;
+    }
+      where
+        reach : (top : ℕ) {far old new : ℕ} → far ≡ old → old ≤ top → top ≤ new → far ≤ new
+        reach top e f h = omega arith
+
+        few : (top all : ℕ) → top ≤ all → all < 2 ^ 30 → top < 2 ^ 31
+        few top all e f = omega arith
+
+    abbrev cx : ContextValue
+    cx = context_at (other side) (at q.sides (other side))
+
+    abbrev came : Arrived
+    came = arrives cx now x.header x.segment x.bytes
+
+    comes : at (come_in q side n).sides (other side) ≡ taken_at (at q.sides (other side)) came
+    comes = delivered q side n x c
+
+    taken_there : refusal q (Deliver side n) ≡ None
+    taken_there = within n (length (at q.sides side).sent) (slice_get_within (at q.sides side).sent n x c.sent)
+
+    rs : IsReached (come_in q side n)
+    rs = reached_by q (come_in q side n) (Deliver side n ∷ []) rq (taken_there, refl)
+
+    -- it is new, and the other has room
+    rises : takes_text now.block.state ≡ true → Rises cx now x.segment (length x.bytes) came → IsTakenIn q side n
+    rises takes it = by (onward.next still) where
+      onward : MovesIn q (come_in q side n) (other side)
+      onward = moves_on q (come_in q side n) (Deliver side n ∷ []) (other side) rq (open_now A, open_now B) (taken_there, refl)
+
+      socket : socket_of (come_in q side n) (other side) ≡ came.socket
+      socket = ap (λ (s : PairSide). s.socket) comes
+
+      not_last : takes_text In.LastAck ≡ true → is_closed came.socket.block.state ≡ false
+      not_last e = clash (sym e)
+
+      still_there : (test : Bool) → is_closed came.socket.block.state ≡ test → is_closed came.socket.block.state ≡ false
+      still_there true closed =
+          let last = closes_last cx x.header x.segment x.bytes now (late_in now.block.state there) alive g.no_reset closed in
+          not_last (ap takes_text (sym last.0) ∙ takes)
+      still_there false e = e
+
+      still : is_closed (socket_of (come_in q side n) (other side)).block.state ≡ false
+      still = ap (λ (u : TcpValue). is_closed u.block.state) socket ∙ still_there (is_closed came.socket.block.state) refl
+
+      few : it.by ≤ 2 ^ 30 + 1
+      few =
+          more (length came.socket.received.waiting) it.waits
+          (subst (λ (u : TcpValue). length u.received.waiting ≤ 2 ^ 30) socket (few_wait (come_in q side n) side rs))
+        where
+          more : (a : ℕ) {b : ℕ} → b ≤ a + 1 → a ≤ 2 ^ 30 → b ≤ 2 ^ 30 + 1
+          more a e f = omega arith
+
+      moved : (next by : ℕ) → 1 ≤ by → by ≤ 2 ^ 30 + 1 → (next + by) % 2 ^ 32 ≡ next → ⊥
+      moved next by e f h = absurd (omega arith)
+
+      by :
+          (socket_of (come_in q side n) (other side)).block.receiver.next ≡ now.block.receiver.next
+          ⊎ (taken_in q (other side) < taken_in (come_in q side n) (other side))
+          → taken_in q (other side) < taken_in (come_in q side n) (other side)
+      by (inl same) =
+          absurd
+          (moved now.block.receiver.next.0 it.by it.some few
+          (ap (λ (m : SeqNumber). m.0) (sym it.next ∙ (sym (ap (λ (u : TcpValue). u.block.receiver.next) socket) ∙ same))))
+      by (inr more) = more
+
+    answers : IsAnswered now came → IsAnsweredIn q side n
+    answers it =
+        record {
+          answer = record { header = it.reply.header; segment = it.reply.segment; bytes = [] };
+          sent =
+              ap (λ (s : PairSide). s.sent) comes
+              ∙ (drawn came.draws ∙ ap (λ (reply : Option Reply). and_reply (at q.sides (other side)).sent reply) it.answer);
+          acknowledges = it.acknowledges;
+          plain = it.plain;
+        }
+      where
+        drawn : (draws : Bool) → (taken_at (at q.sides (other side)) (record came { draws = draws })).sent ≡
+            and_reply (at q.sides (other side)).sent came.answer
+        drawn draws = refl
+
+    ends : EndsLastAck now came → EndsIn q side n
+    ends it = (it.last, ap (λ (s : PairSide). is_closed s.socket.block.state) comes ∙ it.closed)
+
+    -- the window is closed
+    shut : free_in now ≡ 0 → had < len → Shut
+    shut none less = by (may_draw (at q.sides (other side)).moment now.block.timers.draws_from) refl where
+      out : IsShutOut now x.segment (length x.bytes)
+      out = record {
+        shut = none;
+        begins = begins;
+        ends = subst (λ (m : ℕ). m < len) (sym distance) less;
+        seq_small = seq_small;
+        next_small = next_small now kq.side placed_now;
+      }
+
+      by : (may : Bool) → may_draw (at q.sides (other side)).moment now.block.timers.draws_from ≡ may → Shut
+      by true e =
+          record {
+            none = none;
+            counts = inr (inl (answers (shut_answered cx now x.header x.segment x.bytes v.block.receiver.next counts out e)));
+          }
+      by false e = record { none = none; counts = inr (inr (inl (none, e))) }
+
+    new : takes_text now.block.state ≡ true → had < len → (test : Bool) → (free_in now == 0) ≡ test → IsTakenIn q side n ⊎ Shut
+    new takes less true e = inr (shut (eqb-true (free_in now) 0 e) less)
+    new takes less false e =
+        inl
+        (rises takes
+        (next_rises cx now x.header x.segment x.bytes v.block.receiver.next counts
+        (record {
+          takes = takes;
+          room = positive (free_in now) e;
+          begins = begins;
+          ends = subst (λ (m : ℕ). m < len) (sym distance) less;
+          seq_small = seq_small;
+          next_small = next_small now kq.side placed_now;
+        })))
+
+    again : len ≤ had → Told ⊎ EndsIn q side n
+    again all =
+        either
+        (again_answered cx now x.header x.segment x.bytes v.block.receiver.next counts
+        (record {
+          some = g.some;
+          begins = begins;
+          ends = subst (λ (m : ℕ). len ≤ m) (sym distance) all;
+          near =
+              near_by (room_of w.received) (near_in p side r own theirs.synchronized room) distance (moves (other side)).room;
+          seq_small = seq_small;
+          next_small = next_small now kq.side placed_now;
+        }))
+      where
+        either : EndsLastAck now came ⊎ IsAnswered now came → Told ⊎ EndsIn q side n
+        either (inl it) = inr (ends it)
+        either (inr it) = inl (record { answered = answers it; whole = all; next = next })
+
+        near_by : (old : ℕ) {far near new : ℕ} → far ≤ old + 2 → near ≡ far → new ≡ old → near ≤ new + 2
+        near_by old e f h = omega arith
+
+  -- EITHER WAY
+
+  risen_una : total_in p (other side) + left_in q (other side) < total_in q (other side) + left_in p (other side) → HasRisen p q (other side)
+  risen_una e =
+      inl
+      (more (total_in p (other side)) (left_in q (other side)) (total_in q (other side)) (left_in p (other side)) e
+      (left_within p (other side) r theirs))
+    where
+      more : (a b c d : ℕ) → a + b < c + d → d ≤ a → a - d < c - b
+      more a b c d e f = omega arith
+
+  pub outcome : Outcome
+  outcome = by ((moves (other side)).una alive) ((moves (other side)).next alive) where
+    where_text :
+        (una : now.block.sender.una ≡ w.block.sender.una) → w.block.sender.top ≤ now.block.sender.top → now.block.receiver.next ≡ w.block.receiver.next
+        → (less : Bool) → nat_lt had len ≡ less → Outcome
+    where_text una top next true e = taking ((moves (other side)).takes alive (takes_more (ltb-true had len e))) where
+      either : IsTakenIn q side n ⊎ Shut → Outcome
+      either (inl it) = inr (inl it)
+      either (inr it) = inr (inr (inr (inl it)))
+
+      taking : (takes_text now.block.state ≡ true) ⊎ (taken_in p (other side) < taken_in q (other side)) → Outcome
+      taking (inl takes) = either (new una top next takes (ltb-true had len e) (free_in now == 0) refl)
+      taking (inr more) = inl (inr more)
+    where_text una top next false e = either (again una top next (ltb-false had len e)) where
+      either : Told ⊎ EndsIn q side n → Outcome
+      either (inl it) = inr (inr (inl it))
+      either (inr it) = inr (inr (inr (inr it)))
+
+    by :
+        ((now.block.sender.una ≡ w.block.sender.una) × (w.block.sender.top ≤ now.block.sender.top))
+        ⊎ (total_in p (other side) + left_in q (other side) < total_in q (other side) + left_in p (other side))
+        → (now.block.receiver.next ≡ w.block.receiver.next) ⊎ (taken_in p (other side) < taken_in q (other side)) → Outcome
+    by (inr risen) next = inl (risen_una risen)
+    by (inl una) (inr risen) = inl (inr risen)
+    by (inl una) (inl next) = where_text una.0 una.1 next (nat_lt had len) refl
+
+  pub late_text : HasRisen p q (other side) ⊎ CountsIn q side n
+  late_text = by outcome where
+    by : Outcome → HasRisen p q (other side) ⊎ CountsIn q side n
+    by (inl risen) = inl risen
+    by (inr (inl taken)) = inr (inl taken)
+    by (inr (inr (inl told))) = inr (inr (inl told.answered))
+    by (inr (inr (inr (inl shut)))) = inr shut.counts
+    by (inr (inr (inr (inr ends)))) = inr (inr (inr (inr ends)))

@@ -1,0 +1,294 @@
+-- Through whatever events the retransmission timer runs out when it did, where SND.UNA hasn't risen; and within a minute it does.
+use Rattle.std.proofs.Common.{◌≡◌, ◌⊎◌, inl, inr, ℕ, ◌+◌, ◌-◌, ◌<◌, ◌≤◌, ◌==◌, nat_lt, ℤ, pos, ◌+ℤ◌, ◌≤ℤ◌, int_le, Bool, true, false, List, [], ◌∷◌}
+use Rattle.std.proofs.Common.{Option, Some, None, Result, Ok, Err, slice_get, refl, sym, ap, ◌∙◌, subst, arith}
+use Rattle.std.proofs.lemmas.Bool.{cond_both, ltb-false, ltb-true}
+use Rattle.std.proofs.lemmas.Int.{ints}
+use Rattle.tcp_rules.specs.Moments.{is_due}
+use Rattle.tcp_rules.specs.RecvError.{RecvError}
+use Rattle.tcp_rules.specs.States.{is_closed}
+use Rattle.tcp_rules.proofs.OrderSteps.{clash}
+use Rattle.tcp_pair_model.specs.Arrival.{arrives}
+use Rattle.tcp_pair_model.specs.Calls.{recv_answer}
+use Rattle.tcp_pair_model.specs.History.{side_of}
+use Rattle.tcp_pair_model.specs.Names.{accepts}
+use Rattle.tcp_pair_model.specs.Sides.{at, other}
+use Rattle.tcp_pair_model.specs.Steps.{Steps, acting, acts, handed, reads, taken_at}
+use Rattle.tcp_pair_model.specs.Values.{PairSide, PairValue, context_at}
+use Rattle.tcp_pair_model.specs.declared.event.PairEvent.{PairEvent}
+use Rattle.tcp_pair_model.specs.declared.event.PairEvent.TheVariants.{Listen, Connect, Send, Recv, Close, Abort, TcpSetting, Offer, Deliver}
+use Rattle.tcp_pair_model.specs.declared.event.SentSegment.{SentSegment}
+use Rattle.tcp_pair_model.specs.declared.event.Side.{Side}
+use Rattle.tcp_pair_model.specs.declared.event.Side.TheVariants.{A, B}
+use Rattle.tcp_progress.specs.Arrivals.{is_synchronized}
+use Rattle.tcp_progress.specs.BothWays.{total_in}
+use Rattle.tcp_progress.specs.Near.{IsNear}
+use Rattle.tcp_progress.specs.Onward.{AreOpen, acked_in}
+use Rattle.tcp_progress.specs.Pair.{left_in, socket_of}
+use Rattle.tcp_progress.specs.PutOff.{AreAskedBefore, IsAskedBefore, IsRunning, MendsAmong, MendsIn, RunsOutAmong, RunsOutAt, RunsOutIn}
+use Rattle.tcp_progress.specs.Reached.{IsReached}
+use Rattle.tcp_progress.specs.Rounds.{takes}
+use Rattle.tcp_progress.proofs.Kept.{reached_by}
+use Rattle.tcp_progress.proofs.LateText.{left_within}
+use Rattle.tcp_progress.proofs.Opened.{is_open}
+use Rattle.tcp_progress.proofs.OnwardPairs.{IsBegun, MovesIn, begun, begun_after, by_steps}
+use Rattle.tcp_progress.proofs.Pair.{not_closed}
+use Rattle.tcp_progress.proofs.PairTimers.{timer_near}
+use Rattle.tcp_progress.proofs.PutOff.{by_put, in_time, is_running}
+use Rattle.tcp_progress.proofs.Turns.{late_on}
+
+was_open : (old new : Bool) → (old ≡ true → new ≡ true) → new ≡ false → old ≡ false
+was_open true new e f = clash (sym (e refl) ∙ f)
+was_open false new e f = refl
+
+begun_of : (p : PairValue) (side : Side) → IsBegun p A → IsBegun p B → IsBegun p side
+begun_of p A a b = a
+begun_of p B a b = b
+
+-- an event of which more follow, where no more of a side is acknowledged behind them all
+record Step (p q : PairValue) (side : Side) (event : PairEvent) : Type 0 where
+  reached : IsReached (takes p event)
+  a : IsBegun (takes p event) A
+  b : IsBegun (takes p event) B
+  there : is_synchronized (socket_of (takes p event) side).block.state ≡ true
+  una : (socket_of (takes p event) side).block.sender.una ≡ (socket_of p side).block.sender.una
+  acked : acked_in q side ≤ acked_in (takes p event) side
+
+step :
+    (p q : PairValue) (side : Side) (event : PairEvent) (events : List PairEvent) → IsReached p → IsBegun p A → IsBegun p B → Steps p (event ∷ events) q
+    → is_synchronized (socket_of q side).block.state ≡ true → acked_in q side ≤ acked_in p side → Step p q side event
+step p q side event events r a b s there acked = record {
+  reached = rm;
+  a = am;
+  b = bm;
+  there = there_m;
+  una = stays ((first side).una alive_m);
+  acked =
+      least (total_in p side) (total_in m side) (total_in q side) (left_in p side) (left_in m side) (left_in q side) (first side).acked acked;
+}
+  where
+    m : PairValue
+    m = takes p event
+
+    rm : IsReached m
+    rm = reached_by p m (event ∷ []) r (s.0, refl)
+
+    first : (of : Side) → MovesIn p m of
+    first of = by_steps p (event ∷ []) m r a b (s.0, refl) of
+
+    am : IsBegun m A
+    am = begun_after p m A (first A) a
+
+    bm : IsBegun m B
+    bm = begun_after p m B (first B) b
+
+    then : MovesIn m q side
+    then = by_steps m events q rm am bm s.1 side
+
+    alive_m : is_closed (socket_of m side).block.state ≡ false
+    alive_m =
+        was_open (is_closed (socket_of m side).block.state) (is_closed (socket_of q side).block.state) then.closed
+        (not_closed (socket_of q side).block.state there)
+
+    alive_p : is_closed (socket_of p side).block.state ≡ false
+    alive_p = was_open (is_closed (socket_of p side).block.state) (is_closed (socket_of m side).block.state) (first side).closed alive_m
+
+    there_m : is_synchronized (socket_of m side).block.state ≡ true
+    there_m = late_on (socket_of m side).block.state (begun_of m side am bm).early alive_m
+
+    there_p : is_synchronized (socket_of p side).block.state ≡ true
+    there_p = late_on (socket_of p side).block.state (begun_of p side a b).early alive_p
+
+    within : left_in p side ≤ total_in p side
+    within = left_within p side r (is_open p side r there_p (begun_of p side a b).syn)
+
+    never : (a b c d e f : ℕ) → d ≤ a → a + e < b + d → b + f ≤ c + e → c - f ≤ a - d → ⊥
+    never a b c d e f g h i j = absurd (omega arith)
+
+    least : (a b c d e f : ℕ) → a + e ≤ b + d → c - f ≤ a - d → c - f ≤ b - e
+    least a b c d e f g h = omega arith
+
+    stays :
+        (((socket_of m side).block.sender.una ≡ (socket_of p side).block.sender.una)
+        × ((socket_of p side).block.sender.top ≤ (socket_of m side).block.sender.top))
+        ⊎ (total_in p side + left_in m side < total_in m side + left_in p side)
+        → (socket_of m side).block.sender.una ≡ (socket_of p side).block.sender.una
+    stays (inl same) = same.0
+    stays (inr risen) =
+        absurd
+        (never (total_in p side) (total_in m side) (total_in q side) (left_in p side) (left_in m side) (left_in q side) within risen then.acked acked)
+
+runs_on :
+    (p q : PairValue) (side : Side) (events : List PairEvent) (when : ℤ) → IsReached p → IsBegun p A → IsBegun p B → Steps p events q
+    → is_synchronized (socket_of q side).block.state ≡ true → acked_in q side ≤ acked_in p side → RunsOutAt when (socket_of p side)
+    → AreAskedBefore when side events → RunsOutAt when (socket_of q side) ⊎ MendsAmong p side events
+runs_on p q side [] when r a b s there acked runs asked = inl (subst (λ (x : PairValue). RunsOutAt when (socket_of x side)) (sym s) runs)
+runs_on p q side (event ∷ events) when r a b s there acked runs asked =
+    let it : Step p q side event = step p q side event events r a b s there acked in
+    by (λ on. runs_on (takes p event) q side events when it.reached it.a it.b s.1 there it.acked on asked.1)
+    (in_time p side event when runs asked.0 it.there it.una)
+  where
+    by :
+        (RunsOutAt when (socket_of (takes p event) side) → RunsOutAt when (socket_of q side) ⊎ MendsAmong (takes p event) side events)
+        → RunsOutAt when (socket_of (takes p event) side) ⊎ MendsIn p side event
+        → RunsOutAt when (socket_of q side) ⊎ MendsAmong p side (event ∷ events)
+    by more (inr mends) = inr (inl mends)
+    by more (inl on) = last (more on) where
+      last :
+          RunsOutAt when (socket_of q side) ⊎ MendsAmong (takes p event) side events
+          → RunsOutAt when (socket_of q side) ⊎ MendsAmong p side (event ∷ events)
+      last (inl runs) = inl runs
+      last (inr mends) = inr (inr mends)
+
+pub runs_through :
+    (p q : PairValue) (side : Side) (events : List PairEvent) (when : ℤ) → IsReached p → AreOpen p → Steps p events q
+    → is_synchronized (socket_of q side).block.state ≡ true → acked_in q side ≤ acked_in p side → RunsOutAt when (socket_of p side)
+    → AreAskedBefore when side events → RunsOutAt when (socket_of q side) ⊎ MendsAmong p side events
+runs_through p q side events when r o s there acked runs asked =
+    runs_on p q side events when r (begun p A r o.0) (begun p B r o.1) s there acked runs asked
+
+-- WITHIN A MINUTE
+
+-- the side is asked then, or not before
+asked_then : (p : PairValue) (side : Side) (event : PairEvent) (when : ℤ) → RunsOutAt when (socket_of p side) →
+    RunsOutIn p side event ⊎ IsAskedBefore when side event
+asked_then p A (Offer A moment sent) when runs = by (is_due moment (Some when)) refl where
+  by : (due : Bool) → is_due moment (Some when) ≡ due → RunsOutIn p A (Offer A moment sent) ⊎ IsAskedBefore when A (Offer A moment sent)
+  by true e = inl (refl, ap (is_due moment) runs ∙ e)
+  by false e = inr (λ _. e)
+asked_then p B (Offer B moment sent) when runs = by (is_due moment (Some when)) refl where
+  by : (due : Bool) → is_due moment (Some when) ≡ due → RunsOutIn p B (Offer B moment sent) ⊎ IsAskedBefore when B (Offer B moment sent)
+  by true e = inl (refl, ap (is_due moment) runs ∙ e)
+  by false e = inr (λ _. e)
+asked_then p A (Offer B moment sent) when runs = inr (λ e. absurd (cc))
+asked_then p B (Offer A moment sent) when runs = inr (λ e. absurd (cc))
+asked_then p side (Listen of endpoint) when runs = inr tt
+asked_then p side (Connect of remote local) when runs = inr tt
+asked_then p side (Send of bytes) when runs = inr tt
+asked_then p side (Recv of count) when runs = inr tt
+asked_then p side (Close of) when runs = inr tt
+asked_then p side (Abort of) when runs = inr tt
+asked_then p side (TcpSetting of setting) when runs = inr tt
+asked_then p side (Deliver from k) when runs = inr tt
+
+-- through all of them it runs out, or starts anew, or the side isn't asked then
+runs_or :
+    (p q : PairValue) (side : Side) (events : List PairEvent) (when : ℤ) → IsReached p → IsBegun p A → IsBegun p B → Steps p events q
+    → is_synchronized (socket_of q side).block.state ≡ true → acked_in q side ≤ acked_in p side → RunsOutAt when (socket_of p side)
+    → AreAskedBefore when side events ⊎ (RunsOutAmong p side events ⊎ MendsAmong p side events)
+runs_or p q side [] when r a b s there acked runs = inl tt
+runs_or p q side (event ∷ events) when r a b s there acked runs =
+    let it : Step p q side event = step p q side event events r a b s there acked in
+    by (λ on. runs_or (takes p event) q side events when it.reached it.a it.b s.1 there it.acked on)
+    (λ asked. in_time p side event when runs asked it.there it.una) (asked_then p side event when runs)
+  where
+    by :
+        (RunsOutAt when (socket_of (takes p event) side)
+        → AreAskedBefore when side events ⊎ (RunsOutAmong (takes p event) side events ⊎ MendsAmong (takes p event) side events))
+        → (IsAskedBefore when side event → RunsOutAt when (socket_of (takes p event) side) ⊎ MendsIn p side event)
+        → RunsOutIn p side event ⊎ IsAskedBefore when side event
+        → AreAskedBefore when side (event ∷ events) ⊎ (RunsOutAmong p side (event ∷ events) ⊎ MendsAmong p side (event ∷ events))
+    by more on (inl out) = inr (inl (inl out))
+    by more on (inr asked) = next (on asked) where
+      last :
+          AreAskedBefore when side events ⊎ (RunsOutAmong (takes p event) side events ⊎ MendsAmong (takes p event) side events)
+          → AreAskedBefore when side (event ∷ events) ⊎ (RunsOutAmong p side (event ∷ events) ⊎ MendsAmong p side (event ∷ events))
+      last (inl rest) = inl (asked, rest)
+      last (inr (inl out)) = inr (inl (inr out))
+      last (inr (inr mends)) = inr (inr (inr mends))
+
+      next :
+          RunsOutAt when (socket_of (takes p event) side) ⊎ MendsIn p side event
+          → AreAskedBefore when side (event ∷ events) ⊎ (RunsOutAmong p side (event ∷ events) ⊎ MendsAmong p side (event ∷ events))
+      next (inl runs) = last (more runs)
+      next (inr mends) = inr (inr (inl mends))
+
+-- THE CLOCK OF A SIDE
+
+read_clock : (s : PairSide) (r : Result ℕ RecvError) → (reads s r).side.moment ≡ s.moment
+read_clock s (Ok n) = refl
+read_clock s (Err fault) = refl
+
+handed_clock : (side : Side) (s : PairSide) (x : Option SentSegment) → (handed side s x).moment ≡ s.moment
+handed_clock side s None = refl
+handed_clock side s (Some x) =
+    cond_both (accepts s.socket.block x.header x.segment) (taken_at s (arrives (context_at side s) s.socket x.header x.segment x.bytes)) s
+    (λ (t : PairSide). t.moment ≡ s.moment) (λ _. refl) (λ _. refl)
+
+-- it stands, or goes to a moment before that
+abbrev ClockIn : ℤ → ℤ → ℤ → Type 0
+ClockIn when old new = (new ≡ old) ⊎ (is_due new (Some when) ≡ false)
+
+own_clock :
+    (s : PairSide) (others : List SentSegment) (event : PairEvent) (when : ℤ) → IsAskedBefore when (side_of event) event
+    → ClockIn when s.moment (acts s others event).side.moment
+own_clock s others (Listen side endpoint) when e = inl refl
+own_clock s others (Connect side remote local) when e = inl refl
+own_clock s others (Send side bytes) when e = inl refl
+own_clock s others (Recv side count) when e = inl (read_clock s (recv_answer s.socket count))
+own_clock s others (Close side) when e = inl refl
+own_clock s others (Abort side) when e = inl refl
+own_clock s others (TcpSetting side setting) when e = inl refl
+own_clock s others (Offer side moment true) when e = inr (e refl)
+own_clock s others (Offer side moment false) when e = inr (e refl)
+own_clock s others (Deliver from k) when e = inl (handed_clock (other from) s (slice_get others k))
+
+clock_after : (p : PairValue) (side : Side) (event : PairEvent) (when : ℤ) → IsAskedBefore when side event →
+    ClockIn when (at p.sides side).moment (at (takes p event).sides side).moment
+clock_after p side event when e =
+    by_put (λ (s : PairSide). ClockIn when (at p.sides side).moment s.moment) p.sides (side_of event) side new
+    (λ own.
+    subst (λ (s : Side). IsAskedBefore when s event → ClockIn when (at p.sides s).moment new.moment) own
+    (own_clock (at p.sides (side_of event)) (at p.sides (other (side_of event))).sent event when) e)
+    (inl refl)
+  where
+    new : PairSide
+    new = (acting p event).side
+
+clock_through : (p q : PairValue) (side : Side) (events : List PairEvent) (when : ℤ) → Steps p events q → AreAskedBefore when side events →
+    ClockIn when (at p.sides side).moment (at q.sides side).moment
+clock_through p q side [] when s asked = inl (ap (λ (x : PairValue). (at x.sides side).moment) s)
+clock_through p q side (event ∷ events) when s asked =
+    by (clock_through (takes p event) q side events when s.1 asked.1) (clock_after p side event when asked.0) where
+      by :
+          ClockIn when (at (takes p event).sides side).moment (at q.sides side).moment
+          → ClockIn when (at p.sides side).moment (at (takes p event).sides side).moment → ClockIn when (at p.sides side).moment (at q.sides side).moment
+      by (inr before) first = inr before
+      by (inl same) (inl first) = inl (same ∙ first)
+      by (inl same) (inr before) = inr (ap (λ (m : ℤ). is_due m (Some when)) same ∙ before)
+
+-- a minute later no moment within that minute is still to come
+no_later : (old new when : ℤ) → when ≤ℤ (old +ℤ pos 60_000_000) → (old +ℤ pos 60_000_000) ≤ℤ new → int_le when new ≡ false → ⊥
+no_later old new when a b c = first_of (omega (arith, ints), grind (arith, ints))
+
+not_same : (old new : ℤ) → new ≡ old → (old +ℤ pos 60_000_000) ≤ℤ new → ⊥
+not_same old new a b = first_of (omega (arith, ints), grind (arith, ints))
+
+pub minute_passes :
+    (p q : PairValue) (side : Side) (events : List PairEvent) → IsReached p → AreOpen p → Steps p events q
+    → ((socket_of p side).block.sender.in_flight == 0) ≡ false → ((at p.sides side).moment +ℤ pos 60_000_000) ≤ℤ (at q.sides side).moment
+    → is_synchronized (socket_of q side).block.state ≡ true
+    → (acked_in p side < acked_in q side) ⊎ (RunsOutAmong p side events ⊎ MendsAmong p side events)
+minute_passes p q side events r o s flight later there = by (nat_lt (acked_in p side) (acked_in q side)) refl where
+  it : IsRunning (socket_of p side)
+  it = is_running p side r flight
+
+  near : it.at ≤ℤ ((at p.sides side).moment +ℤ pos 60_000_000)
+  near = subst (λ (timer : Option ℤ). IsNear (at p.sides side).moment 60_000_000 timer) it.runs (timer_near p side r)
+
+  never : ClockIn it.at (at p.sides side).moment (at q.sides side).moment → ⊥
+  never (inl same) = not_same (at p.sides side).moment (at q.sides side).moment same later
+  never (inr before) = no_later (at p.sides side).moment (at q.sides side).moment it.at near later before
+
+  over :
+      AreAskedBefore it.at side events ⊎ (RunsOutAmong p side events ⊎ MendsAmong p side events)
+      → (acked_in p side < acked_in q side) ⊎ (RunsOutAmong p side events ⊎ MendsAmong p side events)
+  over (inl asked) = absurd (never (clock_through p q side events it.at s asked))
+  over (inr out) = inr out
+
+  by :
+      (risen : Bool) → nat_lt (acked_in p side) (acked_in q side) ≡ risen
+      → (acked_in p side < acked_in q side) ⊎ (RunsOutAmong p side events ⊎ MendsAmong p side events)
+  by true e = inl (ltb-true (acked_in p side) (acked_in q side) e)
+  by false e =
+      over
+      (runs_or p q side events it.at r (begun p A r o.0) (begun p B r o.1) s there (ltb-false (acked_in p side) (acked_in q side) e) it.runs)

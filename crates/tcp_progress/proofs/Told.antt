@@ -1,0 +1,246 @@
+-- Text that comes in SYN-RECEIVED, from RCV.NXT on, with the acknowledgement of the own SYN: it opens the connection, and is taken.
+use Rattle.std.proofs.Common.{◌≡◌, ℕ, ◌+◌, ◌-◌, ◌%◌, ◌^◌, ◌<◌, ◌≤◌, ◌==◌, ◌&&◌, ◌||◌, nat_le, nat_lt, not, min, Bool, true, false, if◌then◌else◌}
+use Rattle.std.proofs.Common.{List, length, drop, Option, Some, None, refl, sym, ap, ◌∙◌, subst, arith}
+use Rattle.std.proofs.lemmas.Bool.{cond_both, eq-eqb, lt-ltb, ne_eqb}
+use Rattle.tcp_rules.specs.Held.{runs_of}
+use Rattle.ip_wire.specs.IpRepr.{IpRepr}
+use Rattle.ip_wire.specs.Seq.{distance_of}
+use Rattle.ip_wire.specs.SeqNumber.{SeqNumber}
+use Rattle.ip_wire.specs.TcpHeader.{TcpHeader}
+use Rattle.tcp_tie.specs.Context.{ContextValue}
+use Rattle.tcp_tie.proofs.Tied.{if_so, if_not}
+use Rattle.tcp_rules.specs.Controls.{is_syn, is_rst, is_zero}
+use Rattle.tcp_rules.specs.Offsets.{past_by, before_by, behind_by, meets_window}
+use Rattle.tcp_rules.specs.State.{State}
+use Rattle.tcp_rules.specs.State.TheVariants as In
+use Rattle.tcp_rules.specs.States.{after_ack, after_ack_of_fin, after_fin, is_answering, is_closed, owes_fin, takes_text}
+use Rattle.tcp_rules.proofs.ArrivalCases.{acked_cases, acked_open}
+use Rattle.tcp_rules.proofs.OrderSteps.{clash}
+use Rattle.tcp_model.specs.Settled.{nxt_past_held}
+use Rattle.tcp_model.specs.Timeout.{timeout_restarted}
+use Rattle.tcp_pair_model.specs.Acknowledged.{counted, duplicates_after, names_window, ranges_taken, windowed, state_after_ack}
+use Rattle.tcp_pair_model.specs.Answers.{answer_for, drawn}
+use Rattle.tcp_pair_model.specs.Arrival.{arrives, arrives_in, checked, continued, draws_first, echo_heard, inside, is_void_syn, passed_outside, reset_comes}
+use Rattle.tcp_pair_model.specs.Arrival.{taken, told, with_content}
+use Rattle.tcp_pair_model.specs.Block.{Block}
+use Rattle.tcp_pair_model.specs.Blocks.{unacked}
+use Rattle.tcp_pair_model.specs.Checks.{Check, acknowledgement_check, is_in_window, opening_check, synchronized_check}
+use Rattle.tcp_pair_model.specs.Checks.Check.{Passes, Resets}
+use Rattle.tcp_pair_model.specs.Probing.{probe_kept}
+use Rattle.tcp_pair_model.specs.Segments.{segment_len}
+use Rattle.tcp_pair_model.specs.Sender.{Sender}
+use Rattle.tcp_pair_model.specs.Text.{Texted, fin_taken, has_new_text, held_early, laid, taken_in_order, takes_fin, texted, with_bytes_at, with_fin, with_text}
+use Rattle.tcp_pair_model.specs.Timestamps.{is_stale, stamp_taken}
+use Rattle.tcp_pair_model.specs.Value.{Arrived, Received, TcpValue, dropped, free_in, queued_in, received_of, unoffered, with_block}
+use Rattle.tcp_progress.specs.Arrivals.{Rises, is_synchronized}
+use Rattle.tcp_progress.proofs.Acked.{content_keeps}
+use Rattle.tcp_progress.proofs.Taken.{Begins, begins, content_rises}
+
+-- THE STATE BEHIND TEXT AND A FIN
+
+module _ (cx : ContextValue) (ip : IpRepr) (header : TcpHeader) where
+  answer_state : (v : TcpValue) (size : ℕ) (fills : Bool) (early : Option ℕ) → (answer_for cx v ip header size fills early).socket.block.state ≡ v.block.state
+  answer_state v size fills None = refl
+  answer_state v size fills (Some place) = refl
+
+  abbrev Same : TcpValue → Texted → Type 0
+  Same v t = t.socket.block.state ≡ v.block.state
+
+  text_state : (v : TcpValue) (bytes : List ℕ) → Same v (with_text v header bytes)
+  text_state v bytes =
+      cond_both (takes_text v.block.state && has_new_text v place rest) (with_bytes_at v place rest) (texted v 0 false None) (Same v)
+      (λ _.
+      cond_both (place == 0) (taken_in_order v map) (held_early v place map) (Same v)
+      (λ _. refl)
+      (λ _. cond_both (nat_le (length (runs_of map)) 32)
+      (texted (record v { received = received_of v.received.waiting map v.received.start }) 0 false (Some place)) (texted v 0 false None) (Same v)
+      (λ _. refl) (λ _. refl)))
+      (λ _. refl)
+    where
+      place : ℕ
+      place = past_by v.block.receiver.next header.seq_number
+
+      rest : List ℕ
+      rest = drop (before_by v.block.receiver.next header.seq_number) bytes
+
+      map : List (Option ℕ)
+      map = laid v place rest
+
+  -- the state stays, or is the one behind a FIN
+  content_state :
+      (P : State → Type 0) (v : TcpValue) (bytes : List ℕ) → P v.block.state → P (after_fin v.block.state)
+      → P (with_content cx v ip header bytes).socket.block.state
+  content_state P v bytes same fin =
+      let t = with_text v header bytes in
+      subst P
+      (sym (answer_state
+      (with_block t.socket (probe_kept (with_fin t.socket.block v.block header (length bytes) t.advance cx.moment) (queued_in t.socket))) (length bytes)
+      t.fills t.early))
+      (cond_both (takes_fin v.block header (length bytes) t.advance) (fin_taken t.socket.block cx.moment) t.socket.block (λ (b : Block). P b.state)
+      (λ _. subst (λ (state : State). P (after_fin state)) (sym (text_state v bytes)) fin)
+      (λ _. subst P (sym (text_state v bytes)) same))
+
+-- IT COMES
+
+-- the connection is open, the own SYN is acknowledged, and all of the text that there is room for is taken
+pub record Speaks (w : TcpValue) (header : TcpHeader) (size : ℕ) (a : Arrived) : Type 0 where
+  pub state : is_synchronized a.socket.block.state ≡ true
+  pub una : a.socket.block.sender.una ≡ behind_by w.block.sender.una 1
+  pub syn_unacked : a.socket.block.sender.syn_unacked ≡ false
+  pub by : ℕ
+  pub next : a.socket.block.receiver.next ≡ behind_by w.block.receiver.next by
+  pub some : 1 ≤ by
+  pub all : min size (free_in w) ≤ by
+
+and_not : (a b : Bool) → a ≡ false → (a && b) ≡ false
+and_not a b e = ap (λ (t : Bool). t && b) e
+
+neither : (a c d : Bool) → a ≡ false → c ≡ false → (a || (c && d)) ≡ false
+neither a c d e f = ap (λ (t : Bool). t || (c && d)) e ∙ ap (λ (t : Bool). t && d) f
+
+and_false : (t : Bool) → (t && false) ≡ false
+and_false true = refl
+and_false false = refl
+
+at_itself : (n : ℕ) → n < 2 ^ 32 → (n + (2 ^ 32 - n)) % 2 ^ 32 ≡ 0
+at_itself n e = omega arith
+
+none_before : (d : ℕ) → d ≡ 0 → d < 2 ^ 31
+none_before d e = omega arith
+
+starts_within : (d size : ℕ) → d ≡ 0 → 1 ≤ size → d < size
+starts_within d size e f = omega arith
+
+meets_some : (size space : ℕ) → 1 ≤ size → 1 ≤ space → meets_window 0 0 size space ≡ true
+meets_some size space some room =
+    if_not (size == 0) ((0 == 0) && (if 0 == 0 then true else nat_lt 0 space)) (nat_lt 0 space && nat_lt 0 size) (ne_eqb size 0 (never size some))
+    ∙ (ap (λ (t : Bool). t && nat_lt 0 size) (lt-ltb 0 space room) ∙ lt-ltb 0 size some)
+  where
+    never : (n : ℕ) → 1 ≤ n → n ≡ 0 → ⊥
+    never n e f = absurd (omega arith)
+
+all_new : (size d room by : ℕ) → d ≡ 0 → min (size - d) room ≤ by → min size room ≤ by
+all_new size d room by e f = omega arith
+
+module _ (cx : ContextValue) (w : TcpValue) (ip : IpRepr) (header : TcpHeader) (bytes : List ℕ) (number : SeqNumber) (at : w.block.state ≡ In.SynReceived)
+    (no_syn : is_syn header.control ≡ false) (no_reset : is_rst header.control ≡ false) (begins_at : header.seq_number ≡ w.block.receiver.next)
+    (small : w.block.receiver.next.0 < 2 ^ 32) (some : 1 ≤ segment_len header (length bytes)) (room : 1 ≤ free_in w)
+    (acknowledges : header.ack_number ≡ Some number) (one : distance_of w.block.sender.una number ≡ 1) (fresh : is_stale w.block header cx.moment ≡ false) where
+  abbrev u : TcpValue
+  u = unoffered w
+
+  seq_small : header.seq_number.0 < 2 ^ 32
+  seq_small = subst (λ (n : SeqNumber). n.0 < 2 ^ 32) (sym begins_at) small
+
+  none : distance_of header.seq_number w.block.receiver.next ≡ 0
+  none = subst (λ (n : SeqNumber). distance_of n w.block.receiver.next ≡ 0) (sym begins_at) (at_itself w.block.receiver.next.0 small)
+
+  there : is_in_window w.block (free_in w) header (length bytes) ≡ true
+  there =
+      let it : Begins w.block.receiver.next header.seq_number =
+      begins w.block.receiver.next header.seq_number seq_small small (none_before (distance_of header.seq_number w.block.receiver.next) none) in
+      ap (λ (d : ℕ). meets_window d (past_by w.block.receiver.next header.seq_number) (segment_len header (length bytes)) (free_in w)) (it.before ∙ none)
+      ∙ (ap (λ (d : ℕ). meets_window 0 d (segment_len header (length bytes)) (free_in w)) it.past
+      ∙ meets_some (segment_len header (length bytes)) (free_in w) some room)
+
+  passes : acknowledgement_check w.block header.ack_number ≡ Passes 1
+  passes =
+      ap (acknowledgement_check w.block) acknowledges
+      ∙ (if_so (is_answering w.block.state) (opening_check (distance_of w.block.sender.una number))
+      (synchronized_check w.block (past_by w.block.sender.una number) (before_by w.block.sender.una number)) (ap is_answering at)
+      ∙ if_so (distance_of w.block.sender.una number == 1) (Passes 1) Resets (eq-eqb (distance_of w.block.sender.una number) 1 one))
+
+  path : arrives cx w ip header bytes ≡ taken cx u ip header bytes 1
+  path =
+      if_not (is_void_syn header) (dropped u) (arrives_in w.block.state cx u ip header bytes)
+      (and_not (is_syn header.control) (is_zero header.options.max_seg_size) no_syn)
+      ∙ (ap (λ (state : State). arrives_in state cx u ip header bytes) at
+      ∙ (if_not (is_rst header.control) (reset_comes cx u ip header (length bytes))
+      (if draws_first w.block header cx.moment then drawn cx u ip header else checked (acknowledgement_check w.block header.ack_number) cx u ip header bytes)
+      no_reset
+      ∙ (if_not (draws_first w.block header cx.moment) (drawn cx u ip header) (checked (acknowledgement_check w.block header.ack_number) cx u ip header bytes)
+      (neither (is_stale w.block header cx.moment) (is_syn header.control) (not (is_answering w.block.state)) fresh no_syn)
+      ∙ (ap (λ (check : Check). checked check cx u ip header bytes) passes
+      ∙ (if_so (is_in_window w.block (free_in w) header (length bytes)) (inside cx u ip header bytes 1)
+      (passed_outside cx u ip header (length bytes) 1) there
+      ∙ if_not (is_syn header.control) (drawn cx u ip header) (taken cx u ip header bytes 1) no_syn)))))
+
+  abbrev heard_of : TcpValue
+  heard_of = echo_heard u header 1 cx.moment
+
+  opened : state_after_ack heard_of.block 1 (queued_in heard_of) ≡ In.Established
+  opened =
+      ap (λ (state : State). if owes_fin state && (1 == unacked heard_of.block (queued_in heard_of)) then after_ack_of_fin state else after_ack state) at
+
+  abbrev SpeaksNow : Arrived → Type 0
+  SpeaksNow a = Speaks w header (length bytes) a
+
+  -- what it tells of the window and of ranges
+  abbrev told_by : TcpValue → ℕ → Block → Block
+  told_by x duplicates b =
+      timeout_restarted (nxt_past_held (counted (ranges_taken (stamp_taken b header cx.moment) header cx.moment) duplicates cx.moment) (queued_in x)) cx.moment
+      (queued_in x)
+
+  -- what it finds once its acknowledgement is taken
+  record Finds (x : TcpValue) (b : Block) : Type 0 where
+    state : b.state ≡ In.Established
+    una : b.sender.una ≡ behind_by w.block.sender.una 1
+    syn_unacked : b.sender.syn_unacked ≡ false
+    next : b.receiver.next ≡ w.block.receiver.next
+    received : x.received ≡ w.received
+
+  speaks_by : (x : TcpValue) (b : Block) (duplicates : ℕ) → Finds x b → SpeaksNow (with_content cx (with_block x (told_by x duplicates b)) ip header bytes)
+  speaks_by x b duplicates f = record {
+    state =
+        content_state cx ip header (λ (state : State). is_synchronized state ≡ true) y bytes (ap is_synchronized f.state)
+        (ap (λ (state : State). is_synchronized (after_fin state)) f.state);
+    una = ap (λ (s : Sender). s.una) kept ∙ f.una;
+    syn_unacked = ap (λ (s : Sender). s.syn_unacked) kept ∙ f.syn_unacked;
+    by = r.by;
+    next = r.next ∙ ap (λ (n : SeqNumber). behind_by n r.by) f.next;
+    some = r.some;
+    all =
+        subst (λ (it : Received). min (length bytes) (length it.map) ≤ r.by) f.received
+        (all_new (length bytes) (distance_of header.seq_number b.receiver.next) (free_in x) r.by far r.all);
+  }
+    where
+      y : TcpValue
+      y = with_block x (told_by x duplicates b)
+
+      kept : (with_content cx y ip header bytes).socket.block.sender ≡ y.block.sender
+      kept = content_keeps cx ip header y bytes
+
+      far : distance_of header.seq_number b.receiver.next ≡ 0
+      far = ap (distance_of header.seq_number) f.next ∙ none
+
+      r : Rises cx y header (length bytes) (with_content cx y ip header bytes)
+      r =
+          content_rises cx ip header bytes y
+          (record {
+            takes = ap takes_text f.state;
+            room = subst (λ (it : Received). 1 ≤ length it.map) (sym f.received) room;
+            begins = none_before (distance_of header.seq_number b.receiver.next) far;
+            ends = starts_within (distance_of header.seq_number b.receiver.next) (segment_len header (length bytes)) far some;
+            seq_small = seq_small;
+            next_small = subst (λ (n : SeqNumber). n.0 < 2 ^ 32) (sym f.next) small;
+          })
+          no_syn
+
+  pub speaks : SpeaksNow (arrives cx w ip header bytes)
+  speaks =
+      subst SpeaksNow (sym path)
+      (acked_cases heard_of 1 cx.moment (λ (x : TcpValue). SpeaksNow (continued cx u.block x ip header bytes 1))
+      (λ closed. clash (sym closed ∙ ap is_closed opened))
+      (λ alive.
+      let x = acked_open heard_of 1 cx.moment in
+      let duplicates = duplicates_after u.block header (length bytes) 1 in
+      subst SpeaksNow
+      (sym (if_not (is_closed x.block.state) (dropped x) (with_content cx (told x header duplicates cx.moment) ip header bytes) alive))
+      (cond_both (names_window x.block header) (windowed x.block header) x.block
+      (λ (b : Block). SpeaksNow (with_content cx (with_block x (told_by x duplicates b)) ip header bytes))
+      (λ _.
+      speaks_by x (windowed x.block header) duplicates
+      (record { state = opened; una = refl; syn_unacked = and_false w.block.sender.syn_unacked; next = refl; received = refl }))
+      (λ _.
+      speaks_by x x.block duplicates
+      (record { state = opened; una = refl; syn_unacked = and_false w.block.sender.syn_unacked; next = refl; received = refl })))))

@@ -1,0 +1,41 @@
+use Rattle.std.proofs.Common.{inl, inr, refl}
+use Rattle.net_base.specs.Ring.{ring}
+use Rattle.std.specs.Prelude.{[], ◌∷◌, ◌++◌, pos, true, replicate}
+use Rattle.tcp_pair_model.specs.declared.event.PairEvent.TheVariants.{Deliver, Offer}
+use Rattle.tcp_pair_model.specs.declared.event.Side.TheVariants.{A, B}
+use Rattle.tcp_progress.specs.HandshakeOn.{IsUnanswered}
+use Rattle.tcp_progress.specs.Met.{calling, unanswered}
+use Rattle.tcp_progress.proofs.met.what_a_lost_answer_asks_for_is_met.Goals as goal
+
+pub returns-clause-reached : goal.returns-clause-reached
+returns-clause-reached c = record {
+  room_a = 64;
+  room_b = 64;
+  ring_a = ring [] (replicate 64 0) 0;
+  ring_b = ring [] (replicate 64 0) 0;
+  events = calling ++ Offer A (pos 0) true ∷ Deliver A 0 ∷ Offer B (pos 0) true ∷ [];
+  steps = (refl, (refl, (refl, (refl, (refl, refl)))));
+}
+
+stands : IsUnanswered unanswered A
+stands = record {
+  calls = refl;
+  caller = record { timeout = refl; tries = refl };
+  answerer = record { answers = refl; timeout = refl; unpaused = refl; tries = refl };
+  took = refl;
+}
+
+pub returns-clause-answers : goal.returns-clause-answers
+returns-clause-answers c = record { unanswered = stands; over = inr refl; at_second = refl; at_third = refl; stamps = inl refl }
+
+pub returns-clause-calls : goal.returns-clause-calls
+returns-clause-calls c = record {
+  unanswered = stands;
+  over = inr refl;
+  goes = record { lasts = refl; in_time = refl; alive = refl; tries = refl };
+  answer_over = inr refl;
+  at_first = refl;
+  at_second = refl;
+  at_third = refl;
+  stamps = inl refl;
+}

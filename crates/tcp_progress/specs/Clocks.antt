@@ -1,0 +1,69 @@
+-- The clocks of timestamps (RFC 7323, 4.1 and 5): what none of a side's segments being older than one that came asks of its clock.
+use Rattle.std.specs.Prelude.{◌≡◌, ◌⊎◌, ℕ, ◌*◌, ◌&&◌, ℤ, pos, ◌+ℤ◌, ◌≤ℤ◌, Bool, false, List, [], ◌∷◌, Option, Some, is_some}
+use Rattle.ip_wire.specs.TcpTimestampGenerator.{TcpTimestampGenerator}
+use Rattle.ip_wire.specs.TcpTimestampRepr.{TcpTimestampRepr}
+use Rattle.ip_wire.specs.Timestamp.{value_at}
+use Rattle.tcp_law.specs.Side.{Opening}
+use Rattle.tcp_law.specs.Side.Opening.{NotYet}
+use Rattle.tcp_rules.specs.Moments.{stamp_end_from}
+use Rattle.tcp_pair_model.specs.Block.{Block}
+use Rattle.tcp_pair_model.specs.History.{Entry, pasts, side_of}
+use Rattle.tcp_pair_model.specs.Sides.{at, other}
+use Rattle.tcp_pair_model.specs.Timestamps.{comes_older, generator_of}
+use Rattle.tcp_pair_model.specs.Values.{PairValue}
+use Rattle.tcp_pair_model.specs.declared.event.PairEvent.{PairEvent}
+use Rattle.tcp_pair_model.specs.declared.event.PairEvent.TheVariants.{Offer, TcpSetting}
+use Rattle.tcp_pair_model.specs.declared.event.Side.{Side}
+use Rattle.tcp_pair_model.specs.declared.event.TcpSetting.TheVariants as Set
+
+-- WHAT IS TOO OLD
+
+-- a timestamp is older than TS.Recent, where the remote has timestamps (5.3, R1)
+abbrev pub comes_stale : Block → Option TcpTimestampRepr → Bool
+comes_stale b stamp = b.peer.timestamps && comes_older stamp b.peer.recent
+
+-- THE CLOCK OF A SIDE
+
+-- What the clock showed at a moment between these two. A clock counts the milliseconds of its host's time, so it never goes back (4.1).
+pub record WasShown (clock : Option TcpTimestampGenerator) (since now : ℤ) (stamp : ℕ) : Type 0 where
+  pub generator : TcpTimestampGenerator
+  pub of : clock ≡ Some generator
+  pub moment : ℤ
+  pub shows : stamp ≡ value_at generator moment
+  pub after : since ≤ℤ moment
+  pub before : moment ≤ℤ now
+
+-- an event asks a side at this moment or later, and sets its clock only before it is opened
+abbrev pub KeepsTime : ℤ → PairEvent → Opening → Type 0
+KeepsTime since (Offer side moment sent) opening = since ≤ℤ moment
+KeepsTime since (TcpSetting side (Set.TsvalGenerator generator)) opening = opening ≡ NotYet
+KeepsTime since event opening = Unit {0}
+
+-- each event of a side did
+abbrev pub IsTimed : ℤ → Side → List Entry → Type 0
+IsTimed since side [] = Unit {0}
+IsTimed since side (e ∷ history) = (side_of e.event ≡ side → KeepsTime since e.event (at (pasts history) side).opening) × IsTimed since side history
+
+-- the SYN that a socket took had timestamps, and so has its answer
+abbrev pub has_stamps : Block → Bool
+has_stamps b = b.peer.timestamps && is_some (generator_of b)
+
+-- 24 DAYS
+
+-- A clock of milliseconds comes halfway round in 24 days and more (5.5). So long lies no later moment of these behind any at which the side
+-- was asked.
+pub record HasDays (p : PairValue) (side : Side) (last : ℤ) : Type 0 where
+  pub since : ℤ
+  pub begun : pos 0 ≤ℤ since
+  pub asked : since ≤ℤ (at p.sides side).moment
+  pub timed : IsTimed since side p.history
+  pub within : last ≤ℤ stamp_end_from since
+
+-- timestamps weren't agreed on, or 24 days aren't over once the clock of the side has run so many rounds of two minutes
+abbrev pub HasStamps : ℕ → PairValue → Side → Type 0
+HasStamps n p side =
+    ((at p.sides side).socket.block.peer.timestamps ≡ false) ⊎ HasDays p side ((at p.sides side).moment +ℤ pos (n * 120_000_000))
+
+-- an acknowledgement of a side opens the other's connection at a moment: the other answered without timestamps, or 24 days aren't over
+abbrev pub IsTimely : PairValue → Side → ℤ → Type 0
+IsTimely p side moment = (has_stamps (at p.sides (other side)).socket.block ≡ false) ⊎ HasDays p side moment

@@ -1,0 +1,69 @@
+//! That what comes late counts, too.
+
+ghost use Rattle.std.specs.Prelude.{◌≡◌, ◌⊎◌, ℕ, ◌≤◌, ℤ, true, false, List, length, Some, slice_get};
+ghost use Rattle.ip_wire.specs.SeqNumber.{SeqNumber};
+ghost use Rattle.tcp_rules.specs.Controls.{is_rst, is_syn};
+ghost use Rattle.tcp_rules.specs.OpenOffer.{OpenOffer};
+ghost use Rattle.tcp_rules.specs.Timing.{carries};
+ghost use Rattle.tcp_pair_model.specs.Offers.{offer_of};
+ghost use Rattle.tcp_pair_model.specs.Segments.{segment_len};
+ghost use Rattle.tcp_pair_model.specs.Sides.{at, other};
+ghost use Rattle.tcp_pair_model.specs.Steps.{Steps};
+ghost use Rattle.tcp_pair_model.specs.Value.{room_of};
+ghost use Rattle.tcp_pair_model.specs.Values.{PairValue, past_at};
+ghost use Rattle.tcp_pair_model.specs.declared.event.PairEvent.{PairEvent};
+ghost use Rattle.tcp_pair_model.specs.declared.event.PairEvent.TheVariants.{Offer};
+ghost use Rattle.tcp_pair_model.specs.declared.event.SentSegment.{SentSegment};
+ghost use Rattle.tcp_pair_model.specs.declared.event.Side.{Side};
+ghost use Rattle.tcp_progress.specs.Again.{StartsOver};
+ghost use Rattle.tcp_progress.specs.Arrivals.{IsNearWindow};
+ghost use Rattle.tcp_progress.specs.Exchange.{IsOpen, text_of};
+ghost use Rattle.tcp_progress.specs.Late.{CountsIn, GoesFrom, GoesOnIn, IsAckedTo, MayCome, TakesTime, come_in, sent_by};
+ghost use Rattle.tcp_progress.specs.Onward.{AreOpen, HasRisen, Lasts, acked_in};
+ghost use Rattle.tcp_progress.specs.Pair.{HasStream, context_of, next_sent, socket_of};
+ghost use Rattle.tcp_progress.specs.Reached.{IsReached};
+ghost use Rattle.tcp_progress.specs.Rounds.{takes};
+ghost use Rattle.tcp_progress.specs.Sent.{taken_in};
+
+/// Whatever comes, in whatever order and however often, and whatever is asked and called: what is acknowledged of a side stays so, and what it
+/// took stays taken.
+pub fn what_was_reached_stays_so()
+    ensures acknowledged { (p q : PairValue) (events : List PairEvent) (side : Side) → IsReached p → AreOpen p → Steps p events q
+        → acked_in p side ≤ acked_in q side }
+    ensures taken { (p q : PairValue) (events : List PairEvent) (side : Side) → IsReached p → AreOpen p → Steps p events q
+        → taken_in p side ≤ taken_in q side }
+{}
+
+/// A segment with text or a FIN goes from SND.UNA of a side on, and comes to the other at any later time, whatever happened since. Then SND.UNA or
+/// RCV.NXT of the other has risen since it went; or it counts as if it came at once: it raises RCV.NXT, or it is answered by RCV.NXT, unless
+/// the window is closed and the last answer was drawn less than a second ago; or it ends LAST-ACK.
+pub fn text_that_comes_late_counts()
+    ensures counts { (p q : PairValue) (side : Side) (k : ℕ) (x : SentSegment) → IsReached p → Lasts p q → HasStream (past_at p side)
+        → 1 ≤ room_of (socket_of p (other side)).received → GoesFrom p side x → MayCome q side k x
+        → HasRisen p q (other side) ⊎ CountsIn q side k }
+{}
+
+/// Each acknowledgement that a side ever sent, an answer or any other segment, counts whenever it comes: behind it SND.UNA of the other lies at its
+/// number or past it, if the segment lies in the window or before it, no further than a receive buffer reaches.
+pub fn an_answer_that_comes_late_counts()
+    ensures counts { (p : PairValue) (side : Side) (k : ℕ) (x : SentSegment) (number : SeqNumber) → IsReached p → AreOpen p
+        → HasStream (past_at p (other side)) → MayCome p side k x → is_syn x.segment.control ≡ false → is_rst x.segment.control ≡ false
+        → x.segment.ack_number ≡ Some number → IsNearWindow (socket_of p (other side)) x.segment (length x.bytes)
+        → IsAckedTo number (socket_of (come_in p side k) (other side)).block.sender.una }
+{}
+
+/// An exchange that takes time. A side that starts over sends from SND.UNA on (`goes`, and `last`: it is the next segment that the side sends). That
+/// comes at any later time, and what answers it, if anything does, at any time after that; between, whatever events there are, both
+/// connections stay. Then RCV.NXT or SND.UNA of the other has risen, or SND.UNA or RCV.NXT of the side has; or the other's window was
+/// closed, so that it is for its user to read; or the answer ended the side's connection.
+pub fn an_exchange_that_takes_time_goes_on()
+    ensures goes { (p : PairValue) (side : Side) (moment : ℤ) (o : OpenOffer) → IsReached p → IsOpen (socket_of p side).block
+        → StartsOver (context_of p side moment) (socket_of p side) → (offer_of (context_of p side moment) (socket_of p side)).socket.offered ≡ Some o
+        → carries o.kind ≡ true → 1 ≤ segment_len o.segment (length (text_of (socket_of p side) o))
+        → GoesFrom (takes p (Offer side moment true)) side (sent_by p side o) }
+    ensures last { (p : PairValue) (side : Side) (moment : ℤ) (o : OpenOffer) → IsReached p → IsOpen (socket_of p side).block
+        → StartsOver (context_of p side moment) (socket_of p side) → (offer_of (context_of p side moment) (socket_of p side)).socket.offered ≡ Some o
+        → carries o.kind ≡ true → slice_get (at (takes p (Offer side moment true)).sides side).sent (next_sent p side) ≡ Some (sent_by p side o) }
+    ensures moves { (p q s : PairValue) (side : Side) (k j : ℕ) (x : SentSegment) → IsReached p → TakesTime p q s side k j x
+        → GoesOnIn p q s side k j }
+{}

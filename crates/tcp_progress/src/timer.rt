@@ -1,0 +1,47 @@
+//! That only news puts the retransmission timer off.
+
+ghost use Rattle.std.specs.Prelude.{◌≡◌, ◌⊎◌, ◌==◌, ◌<◌, ◌≤◌, ℤ, pos, ◌+ℤ◌, ◌≤ℤ◌, true, false, List};
+ghost use Rattle.tcp_pair_model.specs.Sides.{at};
+ghost use Rattle.tcp_pair_model.specs.Steps.{Steps};
+ghost use Rattle.tcp_pair_model.specs.Values.{PairValue};
+ghost use Rattle.tcp_pair_model.specs.declared.event.PairEvent.{PairEvent};
+ghost use Rattle.tcp_pair_model.specs.declared.event.Side.{Side};
+ghost use Rattle.tcp_progress.specs.Arrivals.{is_synchronized};
+ghost use Rattle.tcp_progress.specs.Onward.{AreOpen, acked_in};
+ghost use Rattle.tcp_progress.specs.Pair.{socket_of};
+ghost use Rattle.tcp_progress.specs.PutOff.{AreAskedBefore, CarriesIn, IsAskedBefore, IsHeldBack, IsRunning, MendsAmong, MendsIn, ProbesAt, RunsOutAmong};
+ghost use Rattle.tcp_progress.specs.PutOff.{RunsOutAt};
+ghost use Rattle.tcp_progress.specs.Reached.{IsReached};
+ghost use Rattle.tcp_progress.specs.Rounds.{takes};
+
+/// What is in flight has a timer that runs. Whatever comes, however late, whatever the other is asked and the users call, and whatever the side is
+/// asked before the timer runs out: as long as the connection is there and SND.UNA stays, the timer runs out when it did. There is one
+/// exception: in a recovery each segment that goes again starts it anew, as long as ranges say that the segment at SND.UNA is lost.
+pub fn only_news_puts_the_timer_off()
+    ensures runs { (p : PairValue) (side : Side) → IsReached p → ((socket_of p side).block.sender.in_flight == 0) ≡ false
+        → IsRunning (socket_of p side) }
+    ensures stays { (p : PairValue) (side : Side) (event : PairEvent) (at : ℤ) → RunsOutAt at (socket_of p side) → IsAskedBefore at side event
+        → is_synchronized (socket_of (takes p event) side).block.state ≡ true
+        → (socket_of (takes p event) side).block.sender.una ≡ (socket_of p side).block.sender.una
+        → RunsOutAt at (socket_of (takes p event) side) ⊎ MendsIn p side event }
+    ensures through { (p q : PairValue) (side : Side) (events : List PairEvent) (at : ℤ) → IsReached p → AreOpen p → Steps p events q
+        → is_synchronized (socket_of q side).block.state ≡ true → acked_in q side ≤ acked_in p side → RunsOutAt at (socket_of p side)
+        → AreAskedBefore at side events → RunsOutAt at (socket_of q side) ⊎ MendsAmong p side events }
+{}
+
+/// Within a minute of its clock SND.UNA of a side with something in flight rises, or it is asked when its timer has run out, and begins anew at
+/// SND.UNA; or something goes again in a recovery. Whatever happens meanwhile, as long as the connection is there.
+pub fn a_minute_brings_news_or_runs_the_timer_out()
+    ensures minute { (p q : PairValue) (side : Side) (events : List PairEvent) → IsReached p → AreOpen p → Steps p events q
+        → ((socket_of p side).block.sender.in_flight == 0) ≡ false
+        → ((at p.sides side).moment +ℤ pos 60_000_000) ≤ℤ (at q.sides side).moment
+        → is_synchronized (socket_of q side).block.state ≡ true
+        → (acked_in p side < acked_in q side) ⊎ (RunsOutAmong p side events ⊎ MendsAmong p side events) }
+{}
+
+/// What a window holds back waits for the moment of a probe. Nothing puts it off while the window holds it back: it stays until a SYN or a part of
+/// the send queue goes, or the window opens.
+pub fn only_an_open_window_puts_a_probe_off()
+    ensures stays { (p : PairValue) (side : Side) (event : PairEvent) (at : ℤ) → ProbesAt at (socket_of p side)
+        → IsHeldBack (socket_of (takes p event) side) → ProbesAt at (socket_of (takes p event) side) ⊎ CarriesIn p side event }
+{}

@@ -1,0 +1,36 @@
+//! That no segment of a side is older than what its partner had of it.
+
+ghost use Rattle.std.specs.Prelude.{◌≡◌, ℕ, ℤ, true, false, List, Some, None};
+ghost use Rattle.ip_wire.specs.IpRepr.{IpRepr};
+ghost use Rattle.ip_wire.specs.TcpHeader.{TcpHeader};
+ghost use Rattle.tcp_rules.specs.OpenOffer.{OpenOffer};
+ghost use Rattle.tcp_rules.specs.Reply.{Reply};
+ghost use Rattle.tcp_pair_model.specs.Arrival.{arrives};
+ghost use Rattle.tcp_pair_model.specs.Offers.{offer_of};
+ghost use Rattle.tcp_pair_model.specs.Sides.{at, other};
+ghost use Rattle.tcp_pair_model.specs.Steps.{refusal};
+ghost use Rattle.tcp_pair_model.specs.Values.{PairValue, context_at};
+ghost use Rattle.tcp_pair_model.specs.declared.event.PairEvent.TheVariants.{Offer};
+ghost use Rattle.tcp_pair_model.specs.declared.event.Side.{Side};
+ghost use Rattle.tcp_progress.specs.Clocks.{HasDays, IsTimed, WasShown, comes_stale};
+ghost use Rattle.tcp_progress.specs.Pair.{context_of, socket_of};
+ghost use Rattle.tcp_progress.specs.Reached.{IsReached};
+
+/// Of a pair that events led to, and a side that was asked only since some moment, whose clock was set before it was opened: where the
+/// other takes timestamps, its TS.Recent is what that clock showed since then, up to the side's last moment.
+pub fn ts_recent_was_shown_by_the_partners_clock()
+    ensures shown { (p : PairValue) (side : Side) (since : ℤ) → IsReached p → IsTimed since side p.history
+        → (socket_of p (other side)).block.peer.timestamps ≡ true
+        → WasShown (socket_of p side).block.settings.timestamps since (at p.sides side).moment (socket_of p (other side)).block.peer.recent }
+{}
+
+/// So within 24 days no segment of the side is older: neither what it offers, nor what answers a segment.
+pub fn no_segment_is_older_than_ts_recent()
+    ensures offered { (p : PairValue) (side : Side) (moment : ℤ) (o : OpenOffer) → IsReached p → HasDays p side moment
+        → refusal p (Offer side moment true) ≡ None → (offer_of (context_of p side moment) (socket_of p side)).socket.offered ≡ Some o
+        → comes_stale (socket_of p (other side)).block o.segment.options.timestamp ≡ false }
+    ensures answered { (p : PairValue) (side : Side) (ip : IpRepr) (header : TcpHeader) (bytes : List ℕ) (reply : Reply) → IsReached p
+        → HasDays p (other side) (at p.sides (other side)).moment
+        → (arrives (context_at (other side) (at p.sides (other side))) (socket_of p (other side)) ip header bytes).answer ≡ Some reply
+        → comes_stale (socket_of p side).block reply.segment.options.timestamp ≡ false }
+{}
