@@ -7,7 +7,7 @@ use ip_wire::{IpAddress, TcpPacketMut, TcpRepr};
 use net_base::ChecksumCapabilities;
 use socket_base::{Offer, PollAt};
 use std::alloc::{AllocError, Global};
-use tcp_pair::{PairAnswer, PairRefused, SentSegment, Side, TcpFault};
+use tcp_pair::{Pair, PairAnswer, PairRefused, SentSegment, Side, TcpFault};
 use tcp_socket::Socket;
 
 /// The line of an answer: of an offer what was offered.
@@ -51,6 +51,39 @@ pub fn push_settled(
         Ok(true) => text.push_str("= all read\n"),
         Ok(false) => text.push_str("= not all read\n"),
         Err(refused) => push_refused(text, refused),
+    }
+}
+
+/// The line of rounds: how many there were, the moments of A and B then, and what was read in them, one read after the other.
+pub fn push_rounds(
+    alloc: Global,
+    text: &mut String,
+    ended: Result<usize, PairRefused>,
+    pair: &Pair,
+    from: usize,
+) -> Result<(), AllocError> {
+    match ended {
+        Ok(count) => {
+            let (a, b) = (pair.moment(Side::A), pair.moment(Side::B));
+            let (a, b) = (a.total_micros(), b.total_micros());
+            write!(text, "= rounds {count} at {a} {b} read")?;
+            for answer in pair.answers().iter().skip(from) {
+                push_read(alloc, text, answer)?;
+            }
+            text.push_str("\n")
+        }
+        Err(refused) => push_refused(text, refused),
+    }
+}
+
+/// The bytes of a read that gave some.
+fn push_read(alloc: Global, text: &mut String, answer: &PairAnswer) -> Result<(), AllocError> {
+    match answer {
+        PairAnswer::Bytes(bytes) if !bytes.as_slice().is_empty() => {
+            text.push_str(" ")?;
+            text.push_str(hex::encode(alloc, bytes.as_slice())?.as_str())
+        }
+        _ => Ok(()),
     }
 }
 

@@ -45,6 +45,8 @@ pub enum Line {
     Ask(Side, Instant),
     /// From now on each new segment comes once and in order, and both users read: all is read within this span.
     Settle(Duration),
+    /// Rounds in which each side has its turn, until neither waits, by the pair itself.
+    Rounds,
 }
 
 /// A listening or local endpoint of any address.
@@ -111,6 +113,7 @@ fn said(alloc: Global, words: &mut Words<'_>) -> Line {
         "burst" => burst(words),
         "ask" => Line::Ask(words.side(), words.moment()),
         "settle" => Line::Settle(words.span()),
+        "rounds" => Line::Rounds,
         _ => Line::Event(event(alloc, verb, words)),
     }
 }

@@ -1,5 +1,7 @@
 //! A case as it is played.
-use crate::answers::{push_answer, push_asked, push_ended, push_sent, push_settled, push_side};
+use crate::answers::{
+    push_answer, push_asked, push_ended, push_rounds, push_sent, push_settled, push_side,
+};
 use crate::beside::{Beside, socket};
 use crate::lines::{Line, Sizes, Todo};
 use crate::users::Users;
@@ -14,6 +16,8 @@ pub struct Played {
     pub a: Beside,
     pub b: Beside,
     pub users: Users,
+    /// Whether the sockets beside were told all that happened.
+    pub is_told: bool,
 }
 
 impl Played {
@@ -25,7 +29,16 @@ impl Played {
         let b = Beside::new(alloc, Side::B, sizes.b);
         pair.zip(a.zip(b)).and_then(|(pair, (a, b))| {
             let users = Users::new();
-            boxed(alloc, Played { pair, a, b, users })
+            boxed(
+                alloc,
+                Played {
+                    pair,
+                    a,
+                    b,
+                    users,
+                    is_told: true,
+                },
+            )
         })
     }
 
@@ -56,6 +69,7 @@ impl Played {
             }
             Line::Ask(side, moment) => push_asked(text, self.ask(alloc, *side, *moment)),
             Line::Settle(span) => push_settled(text, self.settle(alloc, *span)),
+            Line::Rounds => self.push_rounds(alloc, text),
         }
     }
 
@@ -73,6 +87,20 @@ impl Played {
     ) -> Result<(), AllocError> {
         push_sent(alloc, text, Side::A, self.pair.sent(Side::A), sent.0)?;
         push_sent(alloc, text, Side::B, self.pair.sent(Side::B), sent.1)?;
+        self.push_sides(text)
+    }
+
+    /// Rounds by the pair itself, of which the sockets beside are told nothing.
+    fn push_rounds(&mut self, alloc: Global, text: &mut String) -> Result<(), AllocError> {
+        let from = self.pair.answers().len();
+        let ended = self.pair.settle();
+        self.is_told = false;
+        push_rounds(alloc, text, ended, &self.pair, from)?;
+        self.push_sides(text)
+    }
+
+    /// Writes both sides.
+    fn push_sides(&self, text: &mut String) -> Result<(), AllocError> {
         let (a, b) = (self.pair.socket(Side::A), self.pair.socket(Side::B));
         push_side(text, 'A', a, self.a.poll_at(a))?;
         push_side(text, 'B', b, self.b.poll_at(b))
@@ -91,8 +119,11 @@ impl Played {
         Ok((answer, offer))
     }
 
-    /// Tells the socket beside what happens at its side.
+    /// Tells the socket beside what happens at its side, if it was told all before.
     pub fn tell(&mut self, todo: &Todo) -> Option<Offer> {
+        if !self.is_told {
+            return None;
+        }
         match todo {
             Todo::Deliver(Side::A, _) => self.b.take(todo, self.pair.sent(Side::A)),
             Todo::Deliver(Side::B, _) => self.a.take(todo, self.pair.sent(Side::B)),

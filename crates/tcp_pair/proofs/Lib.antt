@@ -4,3 +4,7 @@ pub mod Histories
 pub mod Tallied
 pub mod Kept
 pub mod Running
+pub mod Led
+pub mod Turning
+pub mod Clocks
+pub mod Settles

@@ -70,6 +70,13 @@ impl End {
         &self.socket
     }
 
+    /// Its last moment.
+    pub(crate) fn moment(&self) -> Instant
+        ensures { result ≡ self.now.own.moment }
+    {
+        self.context.now()
+    }
+
     /// The segments that it sent, the oldest first.
     pub(crate) fn sent(&self) -> &[SentSegment]
         ensures { result.now ≡ self.now.own.sent }

@@ -4,7 +4,9 @@
 mod answer;
 mod context;
 mod end;
+pub mod laws;
 mod pair;
+mod settle;
 
 pub use context::{IP_MTU, PairContext};
 pub use pair::Pair;

@@ -7,11 +7,14 @@ ghost use Rattle.tcp_pair_model.specs.Sides.{at};
 ghost use Rattle.tcp_pair_model.specs.Steps.{refusal, happens, Steps};
 ghost use Rattle.tcp_pair_model.specs.Values.{new_pair};
 ghost use Rattle.tcp_pair_model.specs.declared.event.Side.TheVariants.{A, B};
+ghost use Rattle.tcp_progress.specs.Reached.{IsReached};
 ghost use Rattle.tcp_pair.specs.Ends.{named, MayAct, acted_at, ends_after};
 ghost use Rattle.tcp_pair.specs.Invariant.{MayRefuse};
+ghost use Rattle.tcp_pair.specs.Settling.{IsNewSocket};
 
 use crate::answer::Twins;
 use crate::end::End;
+use net_base::Instant;
 use std::alloc::{AllocError, Global};
 use std::marker::Model;
 use tcp_pair_model::{PairAnswer, PairEvent, PairRefused, SentSegment, Side};
@@ -58,6 +61,7 @@ impl Pair {
         requires a { IsFresh a }
         requires b { IsFresh b }
         ensures value { result ≡ new_pair a b }
+        ensures reached { IsNewSocket a → IsNewSocket b → IsReached result }
         ensures kept { IsKept result }
         ensures safe { IsSafe result }
     {
@@ -88,6 +92,7 @@ impl Pair {
         ensures exact { IfSome (refusal self.old event) (λ refused. result ≡ Err refused) }
         ensures memory { IfErr result (MayRefuse self.old event) }
         ensures unchanged { OnErr result (self.new ≡ self.old) }
+        ensures reached { IsReached self.old → IsReached self.new }
         ensures kept { IsKept self.new }
         ensures safe { IsSafe self.new }
     {
@@ -120,6 +125,7 @@ impl Pair {
         ensures err { IfErr result (λ e. Steps self.old (take e.0 events.items) self.new) }
         ensures place { IfErr result (λ e. e.0 < length events.items) }
         ensures refused { IfErr result (λ e. IfSome (slice_get events.items e.0) (λ event. MayRefuse self.new event e.1)) }
+        ensures reached { IsReached self.old → IsReached self.new }
         ensures kept { IsKept self.new }
         ensures safe { IsSafe self.new }
     {
@@ -140,6 +146,13 @@ impl Pair {
         ensures { result.now ≡ (at self.now.sides side).socket }
     {
         end_at(&self.a, &self.b, side).socket()
+    }
+
+    /// The last moment of a side: 0, or that at which it was asked last.
+    pub fn moment(&self, side: Side) -> Instant
+        ensures { result ≡ (at self.now.sides side).moment }
+    {
+        end_at(&self.a, &self.b, side).moment()
     }
 
     /// The segments that a side sent, the oldest first.

@@ -1,7 +1,8 @@
-use Rattle.std.proofs.Common.{◌∷◌, sym, subst}
+use Rattle.std.proofs.Common.{◌∷◌, take, sym, subst}
 use Rattle.std.specs.Vec.Iter.{into_iter_items}
 use Rattle.tcp_pair_model.specs.Values.{PairValue}
 use Rattle.tcp_pair_model.proofs.PairLaws.{kept_is_safe}
+use Rattle.tcp_progress.proofs.Kept.{reached_by}
 use Rattle.tcp_pair.specs.Invariant.{HasRun, MayRefuse}
 use Rattle.tcp_pair.proofs.Running.{next_is, one_more}
 use Rattle.tcp_pair.proofs.pair.Pair.run.Goals as goal
@@ -25,3 +26,12 @@ loop-event-preserved c =
 
 pub returns-clause-safe : goal.returns-clause-safe
 returns-clause-safe c = kept_is_safe c.loop-event.self c.loop-event.invariant.kept
+
+pub returns-in-Err-clause-reached : goal.returns-in-Err-clause-reached
+returns-in-Err-clause-reached c = λ r.
+    c.in-Err.ensures.reached
+    (reached_by c.args.self.now c.loop-event.self (take c.loop-event.place c.args.events.items) r c.loop-event.invariant.steps)
+
+pub returns-clause-reached : goal.returns-clause-reached
+returns-clause-reached c = λ r.
+    reached_by c.args.self.now c.loop-event.self (take c.loop-event.place c.args.events.items) r c.loop-event.invariant.steps

@@ -1,4 +1,6 @@
+use Rattle.std.proofs.Common.{sym}
 use Rattle.tcp_pair_model.proofs.PairLaws.{kept_is_safe}
+use Rattle.tcp_pair.proofs.Led.{step_reached}
 use Rattle.tcp_pair.proofs.pair.Pair.step.Goals as goal
 
 pub returns-in-Some-clause-safe : goal.returns-in-Some-clause-safe
@@ -6,3 +8,7 @@ returns-in-Some-clause-safe c = kept_is_safe c.args.self.now c.refusal.ensures.k
 
 pub returns-in-None-clause-safe : goal.returns-in-None-clause-safe
 returns-in-None-clause-safe c = kept_is_safe c.take.new.self c.take.ensures.kept
+
+pub returns-in-None-clause-reached : goal.returns-in-None-clause-reached
+returns-in-None-clause-reached c =
+    step_reached c.args.self.now c.take.new.self c.args.event c.take.result (sym c.in-None.ensures.value) c.take.ensures.step c.take.ensures.unchanged

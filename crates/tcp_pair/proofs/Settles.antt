@@ -1,0 +1,303 @@
+-- When rounds end, and that all has got through by then.
+use Rattle.std.proofs.Common.{◌≡◌, ◌⊎◌, inl, inr, ℕ, zero, suc, ◌+◌, ◌-◌, ◌*◌, ◌^◌, ◌<◌, ◌≤◌, nat_lt, min, ◌||◌, Bool, true, false, List, ◌++◌, length}
+use Rattle.std.proofs.Common.{refl, sym, ap, ◌∙◌, subst, arith, length-append}
+use Rattle.std.proofs.lemmas.Bool.{ltb-true, ltb-false}
+use Rattle.tcp_tie.specs.Tie.{Keeps}
+use Rattle.tcp_model.specs.States.{is_closed}
+use Rattle.tcp_pair_model.specs.Block.{Block}
+use Rattle.tcp_pair_model.specs.Blocks.{one_if}
+use Rattle.tcp_pair_model.specs.Safe.{IsStreamSafe, read, taken_in as taken_list, written}
+use Rattle.tcp_pair_model.specs.Sides.{other}
+use Rattle.tcp_pair_model.specs.Values.{PairValue, past_at}
+use Rattle.tcp_pair_model.specs.declared.event.PairRefused.{PairRefused}
+use Rattle.tcp_pair_model.specs.declared.event.PairRefused.TheVariants.{Memory}
+use Rattle.tcp_pair_model.specs.declared.event.Side.{Side}
+use Rattle.tcp_pair_model.specs.declared.event.Side.TheVariants.{A, B}
+use Rattle.tcp_progress.specs.Arrivals.{is_synchronized}
+use Rattle.tcp_progress.specs.BothWays.{AreThere, IsThrough, MayRounds, MayTurn, bound, both_read, is_over, round_in, rounds_in, total_in, turn_in, waits_in}
+use Rattle.tcp_progress.specs.Pair.{HasStream, left_in, socket_of}
+use Rattle.tcp_progress.specs.Reached.{IsReached}
+use Rattle.tcp_progress.specs.Sent.{taken_in}
+use Rattle.tcp_progress.specs.Settle.{read_in}
+use Rattle.tcp_progress.specs.Talking.{MayTalk}
+use Rattle.tcp_progress.proofs.Kept.{reached_keeps}
+use Rattle.tcp_progress.proofs.Pair.{had_in, in_step, late_in, not_closed}
+use Rattle.tcp_progress.proofs.Patient.{talk_on}
+use Rattle.tcp_progress.proofs.Positions.{lies_within}
+use Rattle.tcp_progress.proofs.Settles.{read_partner, safe_side}
+use Rattle.tcp_progress.proofs.Talks.{fin_taken, talks, there}
+use Rattle.tcp_progress.proofs.Turns.{BothFine, Ended, IsDone, IsTaken, all_read_in, done_round, ends, late_on, through}
+use Rattle.tcp_progress.proofs.Ways.{Balance, BothCalm, IsLate, balance, both_next, late_after, of_side, read_calm}
+use Rattle.tcp_pair.specs.Settling.{CanSettle, GoesOnTo, IsEndTold, IsSoon, is_waiting, most_rounds}
+use Rattle.tcp_pair.proofs.Clocks.{read_soon, rounds_soon}
+use Rattle.tcp_pair.proofs.Led.{led}
+
+never : {X : Type 0} → true ≡ false → X
+never e = absurd (cc)
+
+-- ROUNDS
+
+more : (n : ℕ) (p : PairValue) → rounds_in (suc n) p ≡ round_in (rounds_in n p)
+more zero p = refl
+more (suc n) p = more n (round_in p)
+
+-- one round more
+pub one_round : (n : ℕ) (p q new : PairValue) → q ≡ rounds_in n p → new ≡ round_in q → new ≡ rounds_in (n + 1) p
+one_round n p q new at on = on ∙ (ap round_in at ∙ (sym (more n p) ∙ ap (λ (k : ℕ). rounds_in k p) (one n))) where
+  one : (n : ℕ) → suc n ≡ n + 1
+  one n = omega arith
+
+-- in it, too, a side waited before
+pub one_waited : (n : ℕ) (p q : PairValue) → q ≡ rounds_in n p → is_waiting q ≡ true → ((m : ℕ) → m < n → is_waiting (rounds_in m p) ≡ true) → (m : ℕ) →
+    m < n + 1 → is_waiting (rounds_in m p) ≡ true
+one_waited n p q at waits waited m less = by (nat_lt m n) refl where
+  by : (t : Bool) → nat_lt m n ≡ t → is_waiting (rounds_in m p) ≡ true
+  by true e = waited m (ltb-true m n e)
+  by false e = ap (λ (k : ℕ). is_waiting (rounds_in k p)) (last m n less (ltb-false m n e)) ∙ (sym (ap is_waiting at) ∙ waits) where
+    last : (m n : ℕ) → m < n + 1 → n ≤ m → m ≡ n
+    last m n a b = omega arith
+
+parts : (a b k : ℕ) (p : PairValue) → k ≡ a + b → rounds_in k p ≡ rounds_in b (rounds_in a p)
+parts zero b k p e = ap (λ (n : ℕ). rounds_in n p) (all k b e) where
+  all : (k b : ℕ) → k ≡ 0 + b → k ≡ b
+  all k b e = omega arith
+parts (suc a) b zero p e = absurd (omega arith)
+parts (suc a) b (suc k) p e = parts a b k (round_in p) (less k a b e) where
+  less : (k a b : ℕ) → suc k ≡ suc a + b → k ≡ a + b
+  less k a b e = omega arith
+
+neither : (a b : Bool) → (a || b) ≡ false → (a ≡ false) × (b ≡ false)
+neither true b e = never e
+neither false b e = (refl, e)
+
+done : (p : PairValue) → is_waiting p ≡ false → IsDone p
+done p e = neither (waits_in p A) (waits_in p B) e
+
+calm : (p : PairValue) → IsDone p → is_waiting p ≡ false
+calm p d = ap (λ (t : Bool). t || waits_in p B) d.0 ∙ d.1
+
+still : (n : ℕ) (p : PairValue) → IsDone p → rounds_in n p ≡ p
+still zero p d = refl
+still (suc n) p d = ap (λ (x : PairValue). rounds_in n x) (done_round p d) ∙ still n p d
+
+-- each side may have its turn in each of them
+may_at : (k n : ℕ) (p : PairValue) → k < n → MayRounds n p → MayTurn (rounds_in k p) A × MayTurn (turn_in (rounds_in k p) A) B
+may_at k zero p less m = absurd (omega arith)
+may_at zero (suc n) p less m = (m.0, m.1)
+may_at (suc k) (suc n) p less m = may_at k n (round_in p) (fewer k n less) m.2 where
+  fewer : (k n : ℕ) → suc k < suc n → k < n
+  fewer k n e = omega arith
+
+may_few : (k n : ℕ) (p : PairValue) → k ≤ n → MayRounds n p → MayRounds k p
+may_few zero n p less m = tt
+may_few (suc k) zero p less m = absurd (omega arith)
+may_few (suc k) (suc n) p less m = (m.0, m.1, may_few k n (round_in p) (fewer k n less) m.2) where
+  fewer : (k n : ℕ) → suc k ≤ suc n → k ≤ n
+  fewer k n e = omega arith
+
+-- READING AT THE END
+
+reads : (p : PairValue) → BothCalm p (both_read p)
+reads p = both_next p (read_in p A) (both_read p) (read_calm p A) (read_calm (read_in p A) B)
+
+same_block : (p : PairValue) (side : Side) → (socket_of (both_read p) side).block ≡ (socket_of p side).block
+same_block p A = read_partner (read_in p A) B
+same_block p B = read_partner p A
+
+through_still : (p q : PairValue) (side : Side) → BothCalm p q → IsThrough p side → IsThrough q side
+through_still p q side c (inl none) = inl (least (left_in q side) (left_in p side) (of_side p q side c).left none) where
+  least : (a b : ℕ) → a ≤ b → b ≡ 0 → a ≡ 0
+  least a b e f = omega arith
+through_still p q side c (inr over) =
+    inr (
+      (of_side p q (other side) c).closed over.0,
+      by (total_in q side) (total_in p side) (taken_in q (other side)) (taken_in p (other side)) total (of_side p q (other side) c).taken over.1,
+    )
+  where
+    total : total_in q side ≡ total_in p side
+    total =
+        let it = of_side p q side c in
+        ap (λ (xs : List ℕ). length xs + one_if (past_at q side).closed) it.written
+        ∙ ap (λ (t : Bool). length (written p side) + one_if t) it.ended
+
+    by : (all total came taken : ℕ) → all ≡ total → taken ≤ came → total ≤ taken → all ≤ came
+    by all total came taken a b c = omega arith
+
+-- THE END OF A STREAM
+
+-- a side that took all of a closed stream took its FIN
+shorter : (p : PairValue) (side : Side) → IsStreamSafe p side → length (taken_list p (other side)) ≤ length (written p side)
+shorter p side safe = by safe.prefix.0 safe.prefix.1 where
+  less : (a b c : ℕ) → a ≡ b + c → b ≤ a
+  less a b c e = omega arith
+
+  by : (rest : List ℕ) → taken_list p (other side) ++ rest ≡ written p side → length (taken_list p (other side)) ≤ length (written p side)
+  by rest e =
+      less (length (written p side)) (length (taken_list p (other side))) (length rest) (sym (ap length e) ∙ length-append (taken_list p (other side)) rest)
+
+some_one : (t : Bool) → 1 ≤ one_if t → t ≡ true
+some_one true e = refl
+some_one false e = absurd (omega arith)
+
+took_end : (p : PairValue) (side : Side) → IsReached p → IsTaken p side → (socket_of p (other side)).block.receiver.took_fin ≡ true
+took_end p side r t =
+    some_one (socket_of p (other side)).block.receiver.took_fin
+    (by (length (written p side)) (length (taken_list p (other side))) (one_if (socket_of p (other side)).block.receiver.took_fin)
+    (shorter p side (safe_side p side r)) all)
+  where
+    all : length (written p side) + 1 ≤ length (taken_list p (other side)) + one_if (socket_of p (other side)).block.receiver.took_fin
+    all =
+        subst
+        (λ (closed : Bool). length (written p side) + one_if closed
+        ≤ length (taken_list p (other side)) + one_if (socket_of p (other side)).block.receiver.took_fin) t.closed t.all
+
+    by : (written taken fin : ℕ) → taken ≤ written → written + 1 ≤ taken + fin → 1 ≤ fin
+    by written taken fin a b = omega arith
+
+-- WHAT SETTLES
+
+module _ (p : PairValue) (c : CanSettle p) where
+  abbrev last : PairValue
+  last = rounds_in (bound p) p
+
+  talk : MayTalk (bound p) p
+  talk = talk_on (bound p) p c.reached c.talking c.tries
+
+  may : MayRounds (bound p) p
+  may = talks (bound p) p c.reached c.talking talk
+
+  are_there : AreThere p
+  are_there = there (bound p) p c.talking
+
+  late : IsLate p
+  late = (late_in p.sides.a.socket.block.state are_there.0, late_in p.sides.b.socket.block.state are_there.1)
+
+  it : Ended p last
+  it = ends p c.reached are_there may
+
+  fine : BothFine last
+  fine =
+      it.fine
+      (record {
+        a = λ over. never (sym over ∙ not_closed p.sides.a.socket.block.state are_there.0);
+        b = λ over. never (sym over ∙ not_closed p.sides.b.socket.block.state are_there.1);
+      })
+
+  -- no more than what waits for it
+  pub few : (n : ℕ) → ((m : ℕ) → m < n → is_waiting (rounds_in m p) ≡ true) → n ≤ bound p
+  few n waited = by (nat_lt (bound p) n) refl where
+    by : (t : Bool) → nat_lt (bound p) n ≡ t → n ≤ bound p
+    by true e = never (sym (waited (bound p) (ltb-true (bound p) n e)) ∙ calm last it.done)
+    by false e = ltb-false (bound p) n e
+
+  -- a round in which a side waits is refused for want of memory alone
+  pub may_go : (n : ℕ) → ((m : ℕ) → m < n + 1 → is_waiting (rounds_in m p) ≡ true) → MayTurn (rounds_in n p) A × MayTurn (turn_in (rounds_in n p) A) B
+  may_go n waited = may_at n (bound p) p (less n (bound p) (few (n + 1) waited)) may where
+    less : (n all : ℕ) → n + 1 ≤ all → n < all
+    less n all e = omega arith
+
+  -- HOW MANY ROUNDS
+
+  small : (side : Side) → is_synchronized (socket_of p side).block.state ≡ true → is_synchronized (socket_of p (other side)).block.state ≡ true
+      → HasStream (past_at p side) → left_in p side < 2 ^ 30
+  small side mine theirs stream =
+      (lies_within (socket_of p side) (socket_of p (other side)) (past_at p side) (past_at p (other side)) k mine theirs
+      (in_step (socket_of p side) (socket_of p (other side)) (past_at p side) (past_at p (other side)) k mine stream)).few
+    where
+      k : Keeps (socket_of p side) (past_at p side) (socket_of p (other side)) (past_at p (other side))
+      k = reached_keeps p side c.reached
+
+  within : bound p ≤ most_rounds p
+  within =
+      by (left_in p A) (left_in p B) (total_in p A) (total_in p B) (taken_in p A) (taken_in p B) (had_in p A) (had_in p B) a.sum a.within b.sum b.within
+      (small A are_there.0 are_there.1 c.talking.a.stream) (small B are_there.1 are_there.0 c.talking.b.stream)
+    where
+      a : Balance p A
+      a = balance p A c.reached c.talking.a.stream are_there.0 are_there.1
+
+      b : Balance p B
+      b = balance p B c.reached c.talking.b.stream are_there.1 are_there.0
+
+      by :
+          (la lb ta tb ka kb ha hb : ℕ) → la + kb ≡ ha + ta → ha ≤ la → lb + ka ≡ hb + tb → hb ≤ lb → la < 2 ^ 30 → lb < 2 ^ 30
+          → la + (ta - kb) + (lb + (tb - ka)) ≤ min ((la + lb) * 2) (2 ^ 64 - 1)
+      by la lb ta tb ka kb ha hb a b c d e f = omega arith
+
+  -- by then nothing changes any more
+  pub at_end : (n : ℕ) → ((m : ℕ) → m < n → is_waiting (rounds_in m p) ≡ true) → (is_waiting (rounds_in n p) ≡ false) ⊎ (n ≡ most_rounds p) →
+      rounds_in n p ≡ last
+  at_end n waited (inl none) =
+      sym
+      (parts n (bound p - n) (bound p) p (rest n (bound p) (few n waited))
+      ∙ still (bound p - n) (rounds_in n p) (done (rounds_in n p) none))
+    where
+      rest : (n all : ℕ) → n ≤ all → all ≡ n + (all - n)
+      rest n all e = omega arith
+  at_end n waited (inr most) = ap (λ (k : ℕ). rounds_in k p) (between n (bound p) (most_rounds p) (few n waited) within most) where
+    between : (n all most : ℕ) → n ≤ all → all ≤ most → n ≡ most → n ≡ all
+    between n all most a b c = omega arith
+
+  -- WHAT HAS GOT THROUGH
+
+  pub is_soon : (n : ℕ) → n ≤ bound p → (side : Side) → IsSoon n p (both_read (rounds_in n p)) side
+  is_soon n less side = read_soon n p (rounds_in n p) side (rounds_soon n p c.reached late (may_few n (bound p) p less may) side)
+
+  pub is_through : (side : Side) → IsThrough (both_read last) side
+  is_through side = through_still last (both_read last) side (reads last) (through p c.reached are_there may side)
+
+  pub is_read : (side : Side) → read (both_read last) (other side) ≡ written p side
+  is_read side = all_read_in p c.reached are_there may side
+
+  taken_by : (side : Side) → is_over last (other side) ≡ true → IsTaken last side
+  taken_by A over = (fine.b over).1
+  taken_by B over = (fine.a over).1
+
+  late_at : (side : Side) → is_over last side ≡ false → is_synchronized (socket_of last side).block.state ≡ true
+  late_at A alive = late_on (socket_of last A).block.state (late_after p last it.calm late).0 alive
+  late_at B alive = late_on (socket_of last B).block.state (late_after p last it.calm late).1 alive
+
+  told : (side : Side) → (past_at p side).closed ≡ true → is_over last side ≡ false → (socket_of last (other side)).block.receiver.took_fin ≡ true
+  told side closed alive = by (is_over last (other side)) refl where
+    by : (over : Bool) → is_over last (other side) ≡ over → (socket_of last (other side)).block.receiver.took_fin ≡ true
+    by true e = took_end last side it.reached (taken_by side e)
+    by false e = fin_taken p c.reached c.talking talk side (late_at side alive) (late_at (other side) e) closed
+
+  pub is_told : (side : Side) → IsEndTold p (both_read last) side
+  is_told side closed alive =
+      ap (λ (b : Block). b.receiver.took_fin) (same_block last (other side))
+      ∙ told side closed (sym (ap (λ (b : Block). is_closed b.state) (same_block last side)) ∙ alive)
+
+-- THE CALLS
+
+-- a round is refused for want of memory alone
+pub for_memory :
+    (p q : PairValue) (n : ℕ) (refused : PairRefused) → GoesOnTo p q → q ≡ rounds_in n p → is_waiting q ≡ true
+    → ((m : ℕ) → m < n → is_waiting (rounds_in m p) ≡ true) → (IsReached q → MayTurn q A → MayTurn (turn_in q A) B → refused ≡ Memory) → CanSettle p → refused ≡ Memory
+for_memory p q n refused leads at waits waited memory c =
+    let may = may_go p c n (one_waited n p q at waits waited) in
+    memory (led p q leads c.reached) (subst (λ (x : PairValue). MayTurn x A) (sym at) may.0)
+    (subst (λ (x : PairValue). MayTurn (turn_in x A) B) (sym at) may.1)
+
+-- after so many rounds, and once both have read
+module _ (p q new : PairValue) (n : ℕ) (at : q ≡ rounds_in n p) (read_it : new ≡ both_read q)
+    (waited : (m : ℕ) → m < n → is_waiting (rounds_in m p) ≡ true) (stops : (is_waiting (rounds_in n p) ≡ false) ⊎ (n ≡ most_rounds p)) where
+  pub rounds_of : new ≡ both_read (rounds_in n p)
+  rounds_of = read_it ∙ ap both_read at
+
+  at_last : CanSettle p → new ≡ both_read (rounds_in (bound p) p)
+  at_last c = rounds_of ∙ ap both_read (at_end p c n waited stops)
+
+  pub bound_of : CanSettle p → n ≤ bound p
+  bound_of c = few p c n waited
+
+  pub soon_of : CanSettle p → (side : Side) → IsSoon n p new side
+  soon_of c side = subst (λ (x : PairValue). IsSoon n p x side) (sym rounds_of) (is_soon p c n (few p c n waited) side)
+
+  pub through_of : CanSettle p → (side : Side) → IsThrough new side
+  through_of c side = subst (λ (x : PairValue). IsThrough x side) (sym (at_last c)) (is_through p c side)
+
+  pub read_of : CanSettle p → (side : Side) → read new (other side) ≡ written p side
+  read_of c side = ap (λ (x : PairValue). read x (other side)) (at_last c) ∙ is_read p c side
+
+  pub ends_of : CanSettle p → (side : Side) → IsEndTold p new side
+  ends_of c side = subst (λ (x : PairValue). IsEndTold p x side) (sym (at_last c)) (is_told p c side)

@@ -1,0 +1,15 @@
+use Rattle.tcp_pair.proofs.Led.{led_by}
+use Rattle.tcp_pair.proofs.Turning.{stops}
+use Rattle.tcp_pair.proofs.pair.Pair.take_on.Goals as goal
+use Rattle.tcp_pair.proofs.pair.Pair.take_on.Goals.{in-Ok, in-Err}
+
+pub returns-clause-refused : goal.returns-clause-refused
+returns-clause-refused c =
+    elim c.match-step.branch [
+      | in-Ok w ↦ rw w.result-is tt
+      | in-Err w ↦ rw w.result-is (stops c.args.self.now c.args.event w.in-Err.refused c.requires w.in-Err.ensures.memory)
+    ]
+
+pub returns-clause-leads : goal.returns-clause-leads
+returns-clause-leads c =
+    led_by c.args.self.now c.step.new.self c.args.event c.step.result c.requires c.step.ensures.taken c.step.ensures.step c.step.ensures.unchanged

@@ -1,0 +1,247 @@
+//! Rounds over a good link, until all that both users wrote was read.
+ghost use Rattle.std.specs.Prelude.{◌≡◌, ◌⊎◌, ◌+◌, ◌<◌, ◌≤◌, ℕ, true, false, None, IfOk, IfErr, OnOk, OnErr};
+ghost use Rattle.tcp_pair_model.specs.Safe.{IsKept, IsSafe, read, written};
+ghost use Rattle.tcp_pair_model.specs.Sides.{other};
+ghost use Rattle.tcp_pair_model.specs.Steps.{refusal};
+ghost use Rattle.tcp_pair_model.specs.declared.event.PairEvent.TheVariants as Event;
+ghost use Rattle.tcp_pair_model.specs.declared.event.PairRefused.TheVariants as Refused;
+ghost use Rattle.tcp_pair_model.specs.declared.event.Side.TheVariants.{A, B};
+ghost use Rattle.tcp_progress.specs.BothWays.{IsThrough, MayTurn, bound, both_read, is_over, roused_in, round_in, rounds_in, turn_in, waits_in, wake_in};
+ghost use Rattle.tcp_progress.specs.Pair.{exchanged_in, next_sent, offered_in};
+ghost use Rattle.tcp_progress.specs.Reached.{IsReached};
+ghost use Rattle.tcp_progress.specs.Rounds.{takes};
+ghost use Rattle.tcp_progress.specs.Settle.{read_in, restart_by, restart_in};
+ghost use Rattle.tcp_pair.specs.Invariant.{MayRefuse};
+ghost use Rattle.tcp_pair.specs.Settling.{CanSettle, GoesOnTo, IsEndTold, IsOfRound, IsSoon, MaySendAt, StopsRound, answered_by, is_waiting, most_rounds};
+
+use crate::pair::Pair;
+use net_base::Instant;
+use tcp_pair_model::{PairEvent, PairRefused, Side};
+
+/// So many bytes and more wait nowhere.
+const ALL_BYTES: usize = 1 << 30;
+
+impl Pair {
+    /// Rounds over a link that loses nothing from now on, until neither side waits; then both users read all that
+    /// is left. It answers how many rounds there were, at most two for each position that isn't acknowledged.
+    ///
+    /// In a round each side has its turn, if something of it isn't acknowledged and both connections are there:
+    /// the other's user reads, the clock goes on to the moment that the side's timers name, and what it sends
+    /// comes, as does what answers that. Segments sent before are lost, but for those that were handed over.
+    ///
+    /// All gets through where events led from two new sockets to the pair, both connections are there, and
+    /// nothing makes a side give up (`CanSettle`). Elsewhere it may end with no more done. A refusal leaves the
+    /// rounds before it, and what there was of the last: `NoSegment` where a side that waits sends nothing,
+    /// `Moment` where its clock has ended, and `Memory`.
+    pub fn settle(&mut self) -> Result<usize, PairRefused>
+        ensures rounds { IfOk result (λ count. self.new ≡ both_read (rounds_in count self.old)) }
+        ensures waited { IfOk result (λ count. (n : ℕ) → n < count → is_waiting (rounds_in n self.old) ≡ true) }
+        ensures stops { IfOk result (λ count. (is_waiting (rounds_in count self.old) ≡ false) ⊎ (count ≡ most_rounds self.old)) }
+        ensures bound { IfOk result (λ count. CanSettle self.old → count ≤ bound self.old) }
+        ensures soon { IfOk result (λ count. CanSettle self.old → (side : Side) → IsSoon count self.old self.new side) }
+        ensures through { OnOk result (CanSettle self.old → (side : Side) → IsThrough self.new side) }
+        ensures read { OnOk result (CanSettle self.old → (side : Side) → read self.new (other side) ≡ written self.old side) }
+        ensures ends { OnOk result (CanSettle self.old → (side : Side) → IsEndTold self.old self.new side) }
+        ensures memory { IfErr result (λ refused. CanSettle self.old → refused ≡ Refused.Memory) }
+        ensures refused { IfErr result StopsRound }
+        ensures leads { GoesOnTo self.old self.new }
+        ensures written { (side : Side) → written self.new side ≡ written self.old side }
+        ensures reached { IsReached self.old → IsReached self.new }
+        ensures kept { IsKept self.new }
+        ensures safe { IsSafe self.new }
+    {
+        let count = self.rounds()?;
+        self.read(Side::A)?;
+        self.read(Side::B)?;
+        Ok(count)
+    }
+
+    /// Rounds until neither side waits, and how many.
+    fn rounds(&mut self) -> Result<usize, PairRefused>
+        ensures rounds { IfOk result (λ count. self.new ≡ rounds_in count self.old) }
+        ensures waited { IfOk result (λ count. (n : ℕ) → n < count → is_waiting (rounds_in n self.old) ≡ true) }
+        ensures stops { IfOk result (λ count. (is_waiting (rounds_in count self.old) ≡ false) ⊎ (count ≡ most_rounds self.old)) }
+        ensures memory { IfErr result (λ refused. CanSettle self.old → refused ≡ Refused.Memory) }
+        ensures refused { IfErr result StopsRound }
+        ensures leads { GoesOnTo self.old self.new }
+        ensures kept { OnErr result (IsKept self.new) }
+    {
+        let most = self.most_rounds();
+        for count in 0..most {
+            if !self.is_waiting() {
+                return Ok(count);
+            }
+            self.round()?;
+        }
+        Ok(most)
+    }
+
+    /// Two for each position that isn't acknowledged.
+    fn most_rounds(&self) -> usize
+        ensures { result ≡ most_rounds self.now }
+    {
+        let left = self
+            .socket(Side::A)
+            .unacked()
+            .saturating_add(self.socket(Side::B).unacked());
+        left.saturating_mul(2)
+    }
+
+    /// Whether a side waits.
+    fn is_waiting(&self) -> bool
+        ensures { result ≡ is_waiting self.now }
+    {
+        self.waits(Side::A) || self.waits(Side::B)
+    }
+
+    /// Whether something of a side isn't acknowledged, and both connections are there.
+    pub fn waits(&self, side: Side) -> bool
+        ensures { result ≡ waits_in self.now side }
+    {
+        self.socket(side).unacked() != 0 && !self.is_over(side) && !self.is_over(other(side))
+    }
+
+    fn is_over(&self, side: Side) -> bool
+        ensures { result ≡ is_over self.now side }
+    {
+        self.socket(side).state().is_closed()
+    }
+
+    /// Each side has its turn.
+    fn round(&mut self) -> Result<(), PairRefused>
+        ensures round { OnOk result (self.new ≡ round_in self.old) }
+        ensures memory { IfErr result (λ refused. IsReached self.old → MayTurn self.old A → MayTurn (turn_in self.old A) B → refused ≡ Refused.Memory) }
+        ensures refused { IfErr result StopsRound }
+        ensures leads { GoesOnTo self.old self.new }
+        ensures kept { OnErr result (IsKept self.new) }
+    {
+        self.turn(Side::A)?;
+        self.turn(Side::B)
+    }
+
+    /// A side's turn, if it waits.
+    fn turn(&mut self, side: Side) -> Result<(), PairRefused>
+        ensures turn { OnOk result (self.new ≡ turn_in self.old side) }
+        ensures memory { IfErr result (λ refused. IsReached self.old → MayTurn self.old side → refused ≡ Refused.Memory) }
+        ensures refused { IfErr result StopsRound }
+        ensures leads { GoesOnTo self.old self.new }
+        ensures kept { OnErr result (IsKept self.new) }
+    {
+        if !self.waits(side) {
+            return Ok(());
+        }
+        self.rouse(side)?;
+        let moment = self.wake_at(side);
+        self.exchange(side, moment)
+    }
+
+    /// The other's user reads, and the side is asked when its timer runs out, or now where none runs. The link
+    /// takes nothing then.
+    fn rouse(&mut self, side: Side) -> Result<(), PairRefused>
+        ensures roused { OnOk result (self.new ≡ roused_in self.old side) }
+        ensures allowed { OnOk result (refusal (read_in self.old side) (Event.Offer side (restart_in self.old side) false) ≡ None) }
+        ensures memory { IfErr result (λ refused. refusal (read_in self.old side) (Event.Offer side (restart_in self.old side) false) ≡ None
+            → refused ≡ Refused.Memory) }
+        ensures refused { IfErr result StopsRound }
+        ensures leads { GoesOnTo self.old self.new }
+        ensures kept { IsKept self.new }
+    {
+        let moment = restart_by(self.moment(side), self.socket(side).retransmit_at());
+        self.read(side)?;
+        self.take_on(PairEvent::Offer(side, moment, false))
+    }
+
+    /// When a side that was roused goes on: at the moment of a probe, or now.
+    fn wake_at(&self, side: Side) -> Instant
+        ensures { result ≡ wake_in self.now side }
+    {
+        restart_by(self.moment(side), self.socket(side).probe_at())
+    }
+
+    /// A side is asked, what it sends comes to the other, and so does what answers that.
+    fn exchange(&mut self, side: Side, moment: Instant) -> Result<(), PairRefused>
+        ensures exchanged { OnOk result (self.new ≡ exchanged_in self.old side moment) }
+        ensures memory { IfErr result (λ refused. MaySendAt self.old side moment → refused ≡ Refused.Memory) }
+        ensures refused { IfErr result StopsRound }
+        ensures leads { GoesOnTo self.old self.new }
+        ensures kept { IsKept self.new }
+    {
+        let answer = self.sent(other(side)).len();
+        self.send(side, moment)?;
+        self.answer(side, answer)
+    }
+
+    /// A side is asked, and what it sends comes to the other.
+    fn send(&mut self, side: Side, moment: Instant) -> Result<(), PairRefused>
+        ensures sent { OnOk result (self.new ≡ offered_in self.old side moment) }
+        ensures memory { IfErr result (λ refused. MaySendAt self.old side moment → refused ≡ Refused.Memory) }
+        ensures refused { IfErr result StopsRound }
+        ensures leads { GoesOnTo self.old self.new }
+        ensures kept { IsKept self.new }
+    {
+        let next = self.sent(side).len();
+        self.take_on(PairEvent::Offer(side, moment, true))?;
+        self.take_on(PairEvent::Deliver(side, next))
+    }
+
+    /// What answers a side comes to it: the segment of this number of the other's, if it was sent.
+    fn answer(&mut self, side: Side, k: usize) -> Result<(), PairRefused>
+        requires one { next_sent self.old (other side) ≤ k + 1 }
+        requires kept { IsKept self.old }
+        ensures comes { OnOk result (self.new ≡ answered_by self.old side k) }
+        ensures memory { IfErr result (λ refused. refused ≡ Refused.Memory) }
+        ensures leads { GoesOnTo self.old self.new }
+        ensures kept { IsKept self.new }
+    {
+        if k < self.sent(other(side)).len() {
+            self.take_on(PairEvent::Deliver(other(side), k))
+        } else {
+            Ok(())
+        }
+    }
+
+    /// The user of the side's partner reads all that waits.
+    fn read(&mut self, side: Side) -> Result<(), PairRefused>
+        ensures read { OnOk result (self.new ≡ read_in self.old side) }
+        ensures memory { IfErr result (λ refused. refused ≡ Refused.Memory) }
+        ensures leads { GoesOnTo self.old self.new }
+        ensures kept { IsKept self.new }
+    {
+        self.take_on(PairEvent::Recv(other(side), ALL_BYTES))
+    }
+
+    /// Takes an event of a round, whose answer nobody looks at.
+    fn take_on(&mut self, event: PairEvent) -> Result<(), PairRefused>
+        requires { IsOfRound event }
+        ensures taken { OnOk result (self.new ≡ takes self.old event) }
+        ensures allowed { OnOk result (refusal self.old event ≡ None) }
+        ensures memory { IfErr result (MayRefuse self.old event) }
+        ensures refused { IfErr result StopsRound }
+        ensures leads { GoesOnTo self.old self.new }
+        ensures kept { IsKept self.new }
+    {
+        match self.step(event) {
+            Ok(_) => Ok(()),
+            Err(refused) => Err(refused),
+        }
+    }
+}
+
+fn other(side: Side) -> Side
+    ensures { result ≡ other side }
+{
+    match side {
+        Side::A => Side::B,
+        Side::B => Side::A,
+    }
+}
+
+/// That moment, or now where there is none or it is past.
+fn restart_by(now: Instant, moment: Option<Instant>) -> Instant
+    ensures { result ≡ restart_by now moment }
+{
+    match moment {
+        Some(moment) => { if now < moment { moment } else { now } }
+        None => now,
+    }
+}
