@@ -31,3 +31,7 @@ pub mod Straight
 pub mod FreeSlots
 pub mod Chosen
 pub mod Told
+pub mod Arrives
+pub mod Named
+pub mod Offered
+pub mod Stays

@@ -19,6 +19,9 @@ pub mod Idents
 pub mod Touches
 pub mod Steady
 pub mod ByKind
+pub mod Delivered
+pub mod Taken
+pub mod Medium
 pub use Rattle.interface_egress.specs.Set
 pub use Rattle.interface_tables.specs.Settings
 pub use Rattle.interface_egress.specs.Departing
@@ -31,3 +34,15 @@ pub use Rattle.interface_egress.specs.declared.socket_set.Item
 pub use Rattle.interface_egress.specs.declared.socket_set.SocketHandle
 pub use Rattle.interface_egress.specs.declared.socket_set.SocketStorage
 pub use Rattle.interface_tables.specs.Inner
+pub use Rattle.ip_packet.specs.Ip
+pub use Rattle.ip_packet.specs.declared.ip.repr.IpRepr
+pub use Rattle.ip_packet.specs.Ipv4
+pub use Rattle.ip_packet.specs.declared.ipv4.piece.Ipv4Piece
+pub use Rattle.ip_packet.specs.declared.ipv4.repr.Ipv4Repr
+pub use Rattle.ip_packet.specs.Ipv6
+pub use Rattle.ip_packet.specs.declared.ipv6.repr.Ipv6Repr
+pub use Rattle.ip_packet.specs.Parts
+pub use Rattle.ip_packet.specs.Udp
+pub use Rattle.ip_packet.specs.declared.udp.repr.UdpRepr
+pub use Rattle.icmpv6.specs.declared.ndisc_flags.NdiscNeighborFlags
+pub use Rattle.socket_base.specs.Widths

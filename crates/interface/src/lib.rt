@@ -8,6 +8,7 @@ mod announced;
 mod arrival;
 mod awaited;
 mod by_kind;
+pub mod delivery_laws;
 mod host;
 mod instant;
 mod passes;

@@ -20,8 +20,3 @@ pub use Rattle.tcp_tie.specs.Endpoints
 pub use Rattle.tcp_tie.specs.Promises
 pub use Rattle.tcp_tie.specs.Host
 pub use Rattle.tcp_tie.specs.ReceiveMap
-pub use Rattle.lan_history.specs.declared.answer.Answer
-pub use Rattle.lan_history.specs.declared.answer.Fault
-pub use Rattle.lan_history.specs.declared.event.Event
-pub use Rattle.lan_history.specs.declared.event.Side
-pub use Rattle.lan_history.specs.declared.record.Opening

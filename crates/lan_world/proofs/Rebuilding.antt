@@ -6,12 +6,12 @@ use Rattle.std.specs.List.{AllByRecursion}
 use Rattle.lan_frames.specs.ChecksumCapabilities.{ChecksumCapabilities}
 use Rattle.lan_frames.specs.Medium.{Medium}
 use Rattle.ip_address.specs.declared.ipv4.Ipv4FragKey.{Ipv4FragKey}
-use Rattle.interface_delivery.specs.Ip as Ips
-use Rattle.interface_delivery.specs.Ip.{carried_in}
-use Rattle.interface_delivery.specs.IpRepr.{IpRepr}
-use Rattle.interface_delivery.specs.Ipv4Repr.{Ipv4Repr}
-use Rattle.interface_delivery.specs.Ipv6 as Ipv6
-use Rattle.interface_delivery.specs.Ipv6Repr.{Ipv6Repr}
+use Rattle.interface.specs.Ip as Ips
+use Rattle.interface.specs.Ip.{carried_in}
+use Rattle.interface.specs.IpRepr.{IpRepr}
+use Rattle.interface.specs.Ipv4Repr.{Ipv4Repr}
+use Rattle.interface.specs.Ipv6 as Ipv6
+use Rattle.interface.specs.Ipv6Repr.{Ipv6Repr}
 use Rattle.interface_ingress.specs.EthernetRepr.{EthernetRepr}
 use Rattle.interface_ingress.specs.Headers.{go_through, upper_of}
 use Rattle.interface_ingress.specs.IpProtocol.{IpProtocol}
@@ -21,7 +21,7 @@ use Rattle.interface_ingress.specs.Reassembled.{Slots, PieceValue, is_piece, is_
 use Rattle.interface_ingress.specs.Reassembled.{rebuilt, rebuilt_v6, uncut, whole_of}
 use Rattle.interface_ingress.specs.Sent.{CanBeRead, normal_payload}
 use Rattle.interface_ingress.specs.Upper.{upper_header}
-use Rattle.interface_delivery.specs.Delivered.{NamesNoPorts}
+use Rattle.interface.specs.Delivered.{NamesNoPorts}
 use Rattle.interface_tables.specs.declared.key.FragKey.{FragKey}
 use Rattle.interface_tables.specs.declared.key.FragKey.TheVariants as Keys
 use Rattle.interface_tables.specs.declared.key.Ipv6FragKey.{Ipv6FragKey}

@@ -8,11 +8,11 @@ use Rattle.lan_hosts.specs.Ethernet as Ethernet
 use Rattle.interface_ingress.specs.HardwareAddress.{HardwareAddress}
 use Rattle.interface_ingress.specs.HardwareAddress.TheVariants as Hardware
 use Rattle.interface_ingress.specs.IpAddress.TheVariants as Address
-use Rattle.interface_delivery.specs.IpRepr.{IpRepr}
-use Rattle.interface_delivery.specs.IpRepr.TheVariants as Ip
-use Rattle.interface_delivery.specs.Ipv4Piece.{Ipv4Piece}
-use Rattle.interface_delivery.specs.Ipv4Repr.{Ipv4Repr}
-use Rattle.interface_delivery.specs.Ipv6Repr.{Ipv6Repr}
+use Rattle.interface.specs.IpRepr.{IpRepr}
+use Rattle.interface.specs.IpRepr.TheVariants as Ip
+use Rattle.interface.specs.Ipv4Piece.{Ipv4Piece}
+use Rattle.interface.specs.Ipv4Repr.{Ipv4Repr}
+use Rattle.interface.specs.Ipv6Repr.{Ipv6Repr}
 use Rattle.interface_ingress.specs.IpProtocol.TheVariants as Protocol
 use Rattle.lan_hosts.specs.ArpOperation.TheVariants as Operation
 use Rattle.interface_ingress.specs.ArpRepr.{ArpRepr}

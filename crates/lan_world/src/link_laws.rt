@@ -2,8 +2,8 @@
 ghost use Rattle.std.specs.Prelude.{◌≡◌, ◌+◌, ◌%◌, ◌*◌, ◌≤◌, ℕ, ℤ, Bool, false, List, ◌∷◌, ◌++◌, Option, Some, is_some};
 ghost use Rattle.lan_frames.specs.Medium.{Medium};
 ghost use Rattle.interface_ingress.specs.HardwareAddress.{HardwareAddress};
-ghost use Rattle.interface_delivery.specs.IpRepr.TheVariants as Ip;
-ghost use Rattle.interface_delivery.specs.Ipv4Repr.{Ipv4Repr};
+ghost use Rattle.interface.specs.IpRepr.TheVariants as Ip;
+ghost use Rattle.interface.specs.Ipv4Repr.{Ipv4Repr};
 ghost use Rattle.interface_ingress.specs.ArpRepr.{ArpRepr};
 ghost use Rattle.sockets.specs.Packet.{PacketValue, PayloadValue};
 ghost use Rattle.lan_hosts.specs.Inner.{InnerValue};

@@ -3,8 +3,8 @@ ghost use Rattle.std.specs.Prelude.{◌≡◌, ◌∷◌, Bool, IfSome, List, Op
 ghost use Rattle.sockets.specs.Raw as Raws;
 ghost use Rattle.sockets.specs.Raw.{RawValue};
 ghost use Rattle.lan_world.specs.Link.Made.{CarriesNone, bytes_of};
-ghost use Rattle.interface_delivery.specs.Ip.{normal};
-ghost use Rattle.interface_delivery.specs.IpRepr.{IpRepr};
+ghost use Rattle.interface.specs.Ip.{normal};
+ghost use Rattle.interface.specs.IpRepr.{IpRepr};
 ghost use Rattle.lan_hosts.specs.Arrives.{Answers, Arrived, Brings};
 ghost use Rattle.lan_hosts.specs.Delivered.{Places};
 ghost use Rattle.lan_hosts.specs.Handed.{handed_reply};

@@ -18,7 +18,7 @@ use Rattle.tcp_pair_model.specs.declared.event.TcpSetting.TheVariants as Set
 
 -- WHAT IS TOO OLD
 
--- a timestamp is older than TS.Recent, where the remote has timestamps (5.3, R1)
+-- a timestamp is older than TS.Recent, where the remote has timestamps (5.3)
 abbrev pub comes_stale : Block → Option TcpTimestampRepr → Bool
 comes_stale b stamp = b.peer.timestamps && comes_older stamp b.peer.recent
 

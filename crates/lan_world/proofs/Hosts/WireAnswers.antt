@@ -21,9 +21,9 @@ use Rattle.interface_ingress.specs.Reassembled.{is_control_v6}
 use Rattle.interface_ingress.specs.Replies.{sent_v4, port_unreachable, protocol_unreachable, parameter_problem, is_told, reason_of, source_of_reply}
 use Rattle.interface_ingress.specs.Replies.{reply_v6, is_between_hosts, quoted_v4}
 use Rattle.interface_ingress.specs.Replies.{quoted_v6}
-use Rattle.interface_delivery.specs.IpRepr.{IpRepr}
-use Rattle.interface_delivery.specs.IpRepr.TheVariants as Ip
-use Rattle.interface_delivery.specs.Ipv6Repr.{Ipv6Repr}
+use Rattle.interface.specs.IpRepr.{IpRepr}
+use Rattle.interface.specs.IpRepr.TheVariants as Ip
+use Rattle.interface.specs.Ipv6Repr.{Ipv6Repr}
 use Rattle.interface_ingress.specs.Ipv4Address.{Ipv4Address}
 use Rattle.interface_ingress.specs.Ipv6Address.{Ipv6Address}
 use Rattle.interface_egress.specs.declared.socket_set.Item.{Item}

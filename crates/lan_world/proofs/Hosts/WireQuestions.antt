@@ -16,8 +16,8 @@ use Rattle.interface_ingress.specs.Fields.{be16}
 use Rattle.interface_ingress.specs.HardwareAddress.TheVariants as Hardware
 use Rattle.interface_ingress.specs.Ipv4Address.{Ipv4Address}
 use Rattle.interface_ingress.specs.Ipv6Address.{Ipv6Address}
-use Rattle.interface_delivery.specs.Ipv6 as Ipv6
-use Rattle.interface_delivery.specs.Ipv6Repr.{Ipv6Repr}
+use Rattle.interface.specs.Ipv6 as Ipv6
+use Rattle.interface.specs.Ipv6Repr.{Ipv6Repr}
 use Rattle.sockets.specs.Packet.{payload_written}
 use Rattle.lan_world.specs.Hosts.Wire.{asks, is_request, is_solicitation}
 use Rattle.lan_world.proofs.Hosts.WireFrames.{ether_behind}

@@ -1,8 +1,8 @@
 -- What a host answers at once: in ARP a reply, else a packet that may go.
 use Rattle.std.proofs.Common.{ℕ, Bool, true, false, cond, List, Option, Some, None, IfSome, refl, sym, subst}
 use Rattle.std.specs.Prelude.{◌||◌}
-use Rattle.interface_delivery.specs.IpRepr.{IpRepr}
-use Rattle.interface_delivery.specs.IpRepr.TheVariants as Ip
+use Rattle.interface.specs.IpRepr.{IpRepr}
+use Rattle.interface.specs.IpRepr.TheVariants as Ip
 use Rattle.interface_ingress.specs.Arp as Arps
 use Rattle.interface_ingress.specs.Arp.{answer_at}
 use Rattle.interface_ingress.specs.ArpRepr.{ArpRepr}

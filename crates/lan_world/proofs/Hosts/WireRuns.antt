@@ -9,7 +9,7 @@ use Rattle.interface_ingress.specs.AddressTests.{is_ethernet_unicast}
 use Rattle.interface_ingress.specs.EthernetAddress.{EthernetAddress}
 use Rattle.interface_ingress.specs.HardwareAddress.{HardwareAddress}
 use Rattle.interface_ingress.specs.HardwareAddress.TheVariants as Hardware
-use Rattle.interface_delivery.specs.IpRepr.{IpRepr}
+use Rattle.interface.specs.IpRepr.{IpRepr}
 use Rattle.interface_tables.specs.Inner.{context_of}
 use Rattle.interface_tables.specs.Settings.{hardware_refusal, if_none, is_stranger}
 use Rattle.interface_tables.specs.Neighbor.{flushed}

@@ -12,13 +12,13 @@ use Rattle.interface_ingress.specs.IpProtocol.{IpProtocol}
 use Rattle.interface_ingress.specs.IpProtocol.TheVariants as Protocol
 use Rattle.interface_ingress.specs.Sent.{IsV4}
 use Rattle.interface.specs.Turn.{with_source}
-use Rattle.interface_delivery.specs.Ip.{carried_in}
-use Rattle.interface_delivery.specs.IpRepr.{IpRepr}
-use Rattle.interface_delivery.specs.IpRepr.TheVariants as Ip
-use Rattle.interface_delivery.specs.Ipv4Repr.{Ipv4Repr}
-use Rattle.interface_delivery.specs.Ipv6 as Ipv6
-use Rattle.interface_delivery.specs.Ipv6Repr.{Ipv6Repr}
-use Rattle.interface_delivery.specs.UdpRepr.{UdpRepr}
+use Rattle.interface.specs.Ip.{carried_in}
+use Rattle.interface.specs.IpRepr.{IpRepr}
+use Rattle.interface.specs.IpRepr.TheVariants as Ip
+use Rattle.interface.specs.Ipv4Repr.{Ipv4Repr}
+use Rattle.interface.specs.Ipv6 as Ipv6
+use Rattle.interface.specs.Ipv6Repr.{Ipv6Repr}
+use Rattle.interface.specs.UdpRepr.{UdpRepr}
 use Rattle.ip_address.specs.Protocol.{protocol_number}
 use Rattle.ip_tcp.specs.declared.header.TcpHeader.{TcpHeader}
 use Rattle.lan_frames.proofs.Named.{byte_behind}

@@ -8,14 +8,14 @@ use Rattle.interface_ingress.specs.Address.{IsIpAddress}
 use Rattle.interface_ingress.specs.HardwareAddress.{HardwareAddress}
 use Rattle.interface_ingress.specs.HardwareAddress.TheVariants as Hardware
 use Rattle.interface_ingress.specs.IpAddress.{IpAddress}
-use Rattle.interface_delivery.specs.Ip as Ips
-use Rattle.interface_delivery.specs.Ip.{destination_of}
-use Rattle.interface_delivery.specs.IpRepr.{IpRepr}
-use Rattle.interface_delivery.specs.IpRepr.TheVariants as Ip
-use Rattle.interface_delivery.specs.Delivered.{IsWritable}
-use Rattle.interface_delivery.specs.Taken.{IsOffered, IsHalfSent}
-use Rattle.interface_delivery.specs.Widths.{IsPayload}
-use Rattle.interface_delivery.proofs.Offered.{writes, begun_half, left_half}
+use Rattle.interface.specs.Ip as Ips
+use Rattle.interface.specs.Ip.{destination_of}
+use Rattle.interface.specs.IpRepr.{IpRepr}
+use Rattle.interface.specs.IpRepr.TheVariants as Ip
+use Rattle.interface.specs.Delivered.{IsWritable}
+use Rattle.interface.specs.Taken.{IsOffered, IsHalfSent}
+use Rattle.interface.specs.Widths.{IsPayload}
+use Rattle.interface.proofs.Offered.{writes, begun_half, left_half}
 use Rattle.interface_tables.specs.Inner.{InnerValue, with_next_ident, with_request}
 use Rattle.interface_egress.specs.Departure.{Tells, Whole, arp_frame, packet_frame, packet_frame_len, piece_frame, piece_frame_len, question_frame}
 use Rattle.interface_egress.specs.Departure.{target_of}

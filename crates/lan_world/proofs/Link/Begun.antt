@@ -9,22 +9,22 @@ use Rattle.std.proofs.lemmas.Bool.Decides.{nat_tests}
 use Rattle.lan_frames.specs.Medium.{Medium}
 use Rattle.lan_frames.specs.Medium.TheVariants as Medium
 use Rattle.lan_frames.specs.Capabilities.{frame_header}
-use Rattle.interface_delivery.specs.Ipv4.{piece_of}
+use Rattle.interface.specs.Ipv4.{piece_of}
 use Rattle.interface_ingress.specs.Fields.{be16}
 use Rattle.interface_ingress.specs.HardwareAddress.{HardwareAddress}
 use Rattle.interface_ingress.specs.Headers.{piece_offset}
-use Rattle.interface_delivery.specs.IpRepr.{IpRepr}
-use Rattle.interface_delivery.specs.IpRepr.TheVariants as Ip
-use Rattle.interface_delivery.specs.Ipv4 as Ipv4
-use Rattle.interface_delivery.specs.Ipv4Piece.{Ipv4Piece}
-use Rattle.interface_delivery.specs.Ipv6 as Ipv6
+use Rattle.interface.specs.IpRepr.{IpRepr}
+use Rattle.interface.specs.IpRepr.TheVariants as Ip
+use Rattle.interface.specs.Ipv4 as Ipv4
+use Rattle.interface.specs.Ipv4Piece.{Ipv4Piece}
+use Rattle.interface.specs.Ipv6 as Ipv6
 use Rattle.sockets.specs.Packet.{PacketValue, PayloadValue, packet_of}
 use Rattle.interface_tables.specs.Pieces.{piece_at}
 use Rattle.interface_egress.specs.Departure.{packet_frame, packet_frame_len, piece_frame, piece_frame_len, piece_v6, fragment_header}
 use Rattle.interface_egress.specs.Fragments.{LeftValue, piece_room, next_piece}
 use Rattle.interface_egress.specs.declared.frame.CutHeader.{CutHeader}
 use Rattle.interface_egress.specs.declared.frame.CutHeader.TheVariants as Cut
-use Rattle.interface_delivery.specs.Delivered.{IsWritable}
+use Rattle.interface.specs.Delivered.{IsWritable}
 use Rattle.lan_frames.specs.Carried.{packet_in}
 use Rattle.lan_frames.specs.Cuts.{ipv4_part}
 use Rattle.lan_frames.specs.Parts.{may_carry, is_ipv6, begins_pieces}

@@ -11,13 +11,13 @@ use Rattle.interface_ingress.specs.EthernetProtocol.TheVariants as Ether
 use Rattle.interface_ingress.specs.Fields.{be16}
 use Rattle.interface_ingress.specs.HardwareAddress.{HardwareAddress}
 use Rattle.interface_ingress.specs.HardwareAddress.TheVariants as Hardware
-use Rattle.interface_delivery.specs.Ipv4 as Ipv4
-use Rattle.interface_delivery.specs.Ipv4Piece.{Ipv4Piece}
-use Rattle.interface_delivery.specs.Ipv4Repr.{Ipv4Repr}
-use Rattle.interface_delivery.specs.Ipv6 as Ipv6
-use Rattle.interface_delivery.specs.Ipv6Repr.{Ipv6Repr}
+use Rattle.interface.specs.Ipv4 as Ipv4
+use Rattle.interface.specs.Ipv4Piece.{Ipv4Piece}
+use Rattle.interface.specs.Ipv4Repr.{Ipv4Repr}
+use Rattle.interface.specs.Ipv6 as Ipv6
+use Rattle.interface.specs.Ipv6Repr.{Ipv6Repr}
 use Rattle.ip_address.specs.Protocol.{ether_of}
-use Rattle.interface_delivery.specs.IpRepr.TheVariants as Ip
+use Rattle.interface.specs.IpRepr.TheVariants as Ip
 use Rattle.interface_ingress.specs.EthernetRepr.{EthernetRepr}
 use Rattle.interface_ingress.specs.Incoming.{IncomingValue, Arp, Ip4, Ip6, IsFramed, IsPacketV4, IsPacketV6, IsIncoming}
 use Rattle.interface_ingress.specs.Sent.{AreSealed}

@@ -1,15 +1,15 @@
 -- What the frames of a host carry.
 use Rattle.std.proofs.Common.{◌≡◌, inl, inr, ℕ, ◌+◌, Bool, true, false, List, ◌++◌, drop, Option, Some, None, refl, sym, ◌∙◌, ap, subst, append_assoc}
 use Rattle.interface_ingress.specs.HardwareAddress.{HardwareAddress}
-use Rattle.interface_delivery.specs.Ip as Ips
-use Rattle.interface_delivery.specs.IpRepr.{IpRepr}
-use Rattle.interface_delivery.specs.IpRepr.TheVariants as Ip
-use Rattle.interface_delivery.specs.Ipv4 as Ipv4
-use Rattle.interface_delivery.specs.Ipv6 as Ipv6
+use Rattle.interface.specs.Ip as Ips
+use Rattle.interface.specs.IpRepr.{IpRepr}
+use Rattle.interface.specs.IpRepr.TheVariants as Ip
+use Rattle.interface.specs.Ipv4 as Ipv4
+use Rattle.interface.specs.Ipv6 as Ipv6
 use Rattle.sockets.specs.Packet.{PayloadValue}
 use Rattle.interface_tables.specs.Pieces as Pieces
 use Rattle.interface_tables.proofs.Rebuilt.{Begins-take}
-use Rattle.interface_delivery.specs.Ipv6Repr.{Ipv6Repr}
+use Rattle.interface.specs.Ipv6Repr.{Ipv6Repr}
 use Rattle.interface_ingress.specs.EthernetRepr.{EthernetRepr}
 use Rattle.interface_ingress.specs.Headers.{is_atomic}
 use Rattle.interface_ingress.specs.Incoming.{IncomingValue, Ip6, IsIncoming}

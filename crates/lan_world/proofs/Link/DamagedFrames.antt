@@ -9,21 +9,21 @@ use Rattle.lan_frames.specs.Capabilities.{frame_header}
 use Rattle.interface_ingress.specs.Fields.{be16, put16}
 use Rattle.interface_ingress.specs.HardwareAddress.{HardwareAddress}
 use Rattle.interface_ingress.specs.HardwareAddress.TheVariants as Hardware
-use Rattle.interface_delivery.specs.Ip as Ips
-use Rattle.interface_delivery.specs.Ip.{carried_in, source_of, destination_of}
+use Rattle.interface.specs.Ip as Ips
+use Rattle.interface.specs.Ip.{carried_in, source_of, destination_of}
 use Rattle.interface_ingress.specs.IpProtocol.TheVariants as Protocol
-use Rattle.interface_delivery.specs.IpRepr.{IpRepr}
-use Rattle.interface_delivery.specs.IpRepr.TheVariants as Ip
-use Rattle.interface_delivery.specs.Ipv4 as Ipv4
-use Rattle.interface_delivery.specs.Ipv4Piece.{Ipv4Piece}
-use Rattle.interface_delivery.specs.Ipv4Repr.{Ipv4Repr}
-use Rattle.interface_delivery.specs.Ipv6 as Ipv6
-use Rattle.interface_delivery.specs.Ipv6Repr.{Ipv6Repr}
-use Rattle.interface_delivery.specs.Parts.{has_flag}
+use Rattle.interface.specs.IpRepr.{IpRepr}
+use Rattle.interface.specs.IpRepr.TheVariants as Ip
+use Rattle.interface.specs.Ipv4 as Ipv4
+use Rattle.interface.specs.Ipv4Piece.{Ipv4Piece}
+use Rattle.interface.specs.Ipv4Repr.{Ipv4Repr}
+use Rattle.interface.specs.Ipv6 as Ipv6
+use Rattle.interface.specs.Ipv6Repr.{Ipv6Repr}
+use Rattle.interface.specs.Parts.{has_flag}
 use Rattle.interface_egress.specs.Departure.{piece_v6, fragment_header}
 use Rattle.ip_address.specs.Protocol.{protocol_of}
 use Rattle.ip_tcp.specs.Tcp as Tcp
-use Rattle.interface_delivery.specs.Ipv4.{header_len_of}
+use Rattle.interface.specs.Ipv4.{header_len_of}
 use Rattle.interface_ingress.specs.EthernetRepr.{EthernetRepr}
 use Rattle.sockets.specs.Packet.{PayloadValue}
 use Rattle.interface_ingress.specs.Incoming.{IncomingValue, Ip4, Ip6, IsIncoming, IsPacketV4, IsPacketV6}

@@ -4,23 +4,23 @@ use Rattle.std.proofs.Common.{arith}
 use Rattle.std.proofs.lemmas.Bool.Decides.{nat_tests}
 use Rattle.tcp_law.specs.ReceiveMap.{Begins}
 use Rattle.tcp_law.proofs.Lists.{Begins-whole}
-use Rattle.interface_delivery.specs.Ip as Ips
-use Rattle.interface_delivery.specs.Ip.{carried_in, source_of, destination_of}
+use Rattle.interface.specs.Ip as Ips
+use Rattle.interface.specs.Ip.{carried_in, source_of, destination_of}
 use Rattle.interface_ingress.specs.IpAddress.{IpAddress}
 use Rattle.interface_ingress.specs.IpAddress.TheVariants as Address
 use Rattle.interface_ingress.specs.IpProtocol.{IpProtocol}
 use Rattle.interface_ingress.specs.IpProtocol.TheVariants as Protocol
 use Rattle.ip_address.specs.Protocol.{protocol_number, protocol_of}
-use Rattle.interface_delivery.specs.IpRepr.{IpRepr}
-use Rattle.interface_delivery.specs.IpRepr.TheVariants as Ip
-use Rattle.interface_delivery.specs.Ipv4 as Ipv4
+use Rattle.interface.specs.IpRepr.{IpRepr}
+use Rattle.interface.specs.IpRepr.TheVariants as Ip
+use Rattle.interface.specs.Ipv4 as Ipv4
 use Rattle.ip_address.specs.declared.ipv4.Ipv4FragKey.{Ipv4FragKey}
-use Rattle.interface_delivery.specs.Ipv4Piece.{Ipv4Piece}
-use Rattle.interface_delivery.specs.Ipv4Repr.{Ipv4Repr}
-use Rattle.interface_delivery.specs.Ipv6 as Ipv6
-use Rattle.interface_delivery.specs.Ipv6Repr.{Ipv6Repr}
+use Rattle.interface.specs.Ipv4Piece.{Ipv4Piece}
+use Rattle.interface.specs.Ipv4Repr.{Ipv4Repr}
+use Rattle.interface.specs.Ipv6 as Ipv6
+use Rattle.interface.specs.Ipv6Repr.{Ipv6Repr}
 use Rattle.ip_tcp.specs.Tcp as Tcp
-use Rattle.interface_delivery.specs.Udp as Udp
+use Rattle.interface.specs.Udp as Udp
 use Rattle.interface_ingress.specs.EthernetRepr.{EthernetRepr}
 use Rattle.sockets.specs.Packet.{PacketValue, PayloadValue, ControlV4, ControlV6, Bytes, Datagram, Segment}
 use Rattle.interface_tables.specs.Pieces as Pieces
@@ -35,7 +35,7 @@ use Rattle.interface_ingress.specs.Reassembled.{PieceValue, is_piece, is_piece_v
 use Rattle.interface_ingress.specs.Sent.{CanBeRead, normal_payload}
 use Rattle.interface_ingress.proofs.FramesArrive.{payload-brought}
 use Rattle.interface_ingress.proofs.OneContent.{one-carried-content}
-use Rattle.interface_delivery.specs.Delivered.{NamesNoPorts}
+use Rattle.interface.specs.Delivered.{NamesNoPorts}
 use Rattle.lan_world.specs.Link.Made.{sealed, IsWholeV6, CarriesNone, WasMade, HandsMade, BringsMade, bytes_of}
 use Rattle.lan_world.specs.Link.Frames.{Outgoing, IsSentV4, IsSentV6, IsDatagramV6, IsFrom, IsOut, AreOut, behind_fragment}
 use Rattle.interface_tables.specs.declared.key.Ipv6FragKey.{Ipv6FragKey}

@@ -6,10 +6,10 @@ use Rattle.lan_frames.specs.Medium.{Medium}
 use Rattle.lan_frames.specs.Capabilities.{frame_header}
 use Rattle.interface_ingress.specs.Fields.{be16}
 use Rattle.interface_ingress.specs.HardwareAddress.{HardwareAddress}
-use Rattle.interface_delivery.specs.Ipv6 as Ipv6
-use Rattle.interface_delivery.specs.Ipv6Repr.{Ipv6Repr}
+use Rattle.interface.specs.Ipv6 as Ipv6
+use Rattle.interface.specs.Ipv6Repr.{Ipv6Repr}
 use Rattle.interface_egress.specs.Departure.{piece_v6, fragment_header}
-use Rattle.interface_delivery.specs.Ipv4.{header_len_of}
+use Rattle.interface.specs.Ipv4.{header_len_of}
 use Rattle.sockets.specs.Packet.{PayloadValue}
 use Rattle.lan_frames.specs.Carried.{packet_in, names_tcp_or_udp}
 use Rattle.lan_frames.specs.Cuts.{ipv4_part, first_piece, second_piece}

@@ -4,13 +4,13 @@ use Rattle.interface_ingress.specs.EthernetAddress.{EthernetAddress}
 use Rattle.interface_ingress.specs.Fields.{be16}
 use Rattle.interface_ingress.specs.HardwareAddress.{HardwareAddress}
 use Rattle.interface_ingress.specs.HardwareAddress.TheVariants as Hardware
-use Rattle.interface_delivery.specs.IpRepr.TheVariants as Ip
+use Rattle.interface.specs.IpRepr.TheVariants as Ip
 use Rattle.ip_address.specs.Protocol.{protocol_of}
 use Rattle.sockets.specs.Packet.{PayloadValue}
 use Rattle.lan_frames.specs.Medium.TheVariants as Medium
 use Rattle.interface_ingress.specs.Incoming.{IncomingValue, Arp, Ip4, Ip6, IsIncoming}
-use Rattle.interface_delivery.specs.Ipv6.{payload_of}
-use Rattle.interface_delivery.specs.Ipv6Repr.{Ipv6Repr}
+use Rattle.interface.specs.Ipv6.{payload_of}
+use Rattle.interface.specs.Ipv6Repr.{Ipv6Repr}
 use Rattle.interface_ingress.specs.Headers.{go_through}
 use Rattle.lan_frames.specs.Carried.{IsNeitherBehind, is_tcp_or_udp, has_ports_behind, names_tcp_or_udp}
 use Rattle.lan_frames.proofs.Named.{neither_first, neither_second, behind_named, ether_is, byte_behind}

@@ -1,8 +1,8 @@
 -- One number is for one packet.
 use Rattle.std.proofs.Common.{◌≡◌, inl, inr, ℕ, ◌+◌, ◌%◌, ◌^◌, ◌<◌, ◌≤◌, List, [], ◌∷◌, Option, None, Some, refl, sym, ◌∙◌, ap, subst, arith}
-use Rattle.interface_delivery.specs.IpRepr.{IpRepr}
-use Rattle.interface_delivery.specs.IpRepr.TheVariants as Ip
-use Rattle.interface_delivery.specs.Ipv4Repr.{Ipv4Repr}
+use Rattle.interface.specs.IpRepr.{IpRepr}
+use Rattle.interface.specs.IpRepr.TheVariants as Ip
+use Rattle.interface.specs.Ipv4Repr.{Ipv4Repr}
 use Rattle.sockets.specs.Packet.{PacketValue}
 use Rattle.lan_world.specs.Link.Frames.{Outgoing, number_by, number_of, IsAmong, IsNumbered}
 use Rattle.lan_world.specs.Link.Numbers.{and_number, count_numbered, TakesNext, AreNumbered, AreFew}

@@ -12,7 +12,7 @@ use Rattle.interface_ingress.specs.HardwareAddress.{HardwareAddress}
 use Rattle.interface_ingress.specs.HardwareAddress.TheVariants as Hardware
 use Rattle.interface_ingress.specs.IpProtocol.{IpProtocol}
 use Rattle.interface_ingress.specs.IpProtocol.TheVariants as Protocol
-use Rattle.interface_delivery.specs.Ipv6 as Ipv6
+use Rattle.interface.specs.Ipv6 as Ipv6
 use Rattle.ip_address.specs.Protocol.{ether_number, protocol_of}
 use Rattle.interface_ingress.specs.ArpRepr.{ArpRepr}
 use Rattle.interface_ingress.specs.ArpRepr.TheVariants as Arp
@@ -21,10 +21,10 @@ use Rattle.interface_egress.specs.declared.frame.Question.{Question}
 use Rattle.interface_egress.specs.declared.frame.Question.TheVariants as Query
 use Rattle.interface_ingress.specs.Incoming.{IncomingValue, IsIncoming}
 use Rattle.interface_ingress.specs.Incoming as Content
-use Rattle.interface_delivery.specs.Ip.{carried_in}
+use Rattle.interface.specs.Ip.{carried_in}
 use Rattle.interface_ingress.proofs.Bare.{bare_v6}
 use Rattle.interface_ingress.specs.Handed.{is_known_v6}
-use Rattle.interface_delivery.specs.Delivered.{NamesNoPorts}
+use Rattle.interface.specs.Delivered.{NamesNoPorts}
 use Rattle.lan_frames.specs.Carried.{packet_in}
 use Rattle.lan_frames.specs.Parts.{may_carry, is_ipv4, is_ipv6, is_uncut, payload_v4, payload_v6}
 use Rattle.lan_frames.specs.declared.part.Part.{Part}

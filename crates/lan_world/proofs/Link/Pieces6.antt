@@ -1,9 +1,9 @@
 -- A frame of a piece of an IPv6 packet that its host cut: the packet that it carries, and the piece that a slot gets of it.
 use Rattle.std.proofs.Common.{◌≡◌, ℕ, ◌+◌, ◌^◌, ◌<◌, Bool, true, false, List, length, Some, None, refl, sym, ◌∙◌, ap, subst, arith}
 use Rattle.lan_frames.specs.Medium.{Medium}
-use Rattle.interface_delivery.specs.Ipv6 as Ipv6
-use Rattle.interface_delivery.specs.Ipv6Repr.{Ipv6Repr}
-use Rattle.interface_delivery.specs.IpRepr.TheVariants as Ip
+use Rattle.interface.specs.Ipv6 as Ipv6
+use Rattle.interface.specs.Ipv6Repr.{Ipv6Repr}
+use Rattle.interface.specs.IpRepr.TheVariants as Ip
 use Rattle.interface_egress.specs.Departure.{piece_v6}
 use Rattle.interface_ingress.specs.Headers.{is_atomic}
 use Rattle.interface_ingress.specs.Incoming.{Ip6}

@@ -7,10 +7,10 @@ use Rattle.interface_ingress.specs.AddressTests.{is_multicast}
 use Rattle.interface_ingress.specs.EthernetAddress.{EthernetAddress}
 use Rattle.interface_ingress.specs.HardwareAddress.{HardwareAddress}
 use Rattle.interface_ingress.specs.HardwareAddress.TheVariants as Hardware
-use Rattle.interface_delivery.specs.Ip.{destination_of}
+use Rattle.interface.specs.Ip.{destination_of}
 use Rattle.interface_ingress.specs.IpAddress.{IpAddress}
 use Rattle.interface_ingress.specs.IpAddress.TheVariants as Address
-use Rattle.interface_delivery.specs.IpRepr.{IpRepr}
+use Rattle.interface.specs.IpRepr.{IpRepr}
 use Rattle.interface_ingress.specs.Ipv4Address.{Ipv4Address}
 use Rattle.interface_tables.specs.Best.{at_place}
 use Rattle.interface_tables.specs.Inner.{InnerValue, mtu_to, is_local_broadcast, is_on_link, next_hop, link_by, link_of_hop, link_on, link_address}

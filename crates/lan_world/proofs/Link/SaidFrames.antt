@@ -10,11 +10,11 @@ use Rattle.lan_frames.specs.Medium.TheVariants as Medium
 use Rattle.lan_frames.specs.Capabilities.{frame_header}
 use Rattle.interface_ingress.specs.HardwareAddress.{HardwareAddress}
 use Rattle.interface_ingress.specs.HardwareAddress.TheVariants as Hardware
-use Rattle.interface_delivery.specs.Ipv4 as Ipv4
-use Rattle.interface_delivery.specs.Ipv4Piece.{Ipv4Piece}
-use Rattle.interface_delivery.specs.Ipv4Repr.{Ipv4Repr}
-use Rattle.interface_delivery.specs.Ipv6 as Ipv6
-use Rattle.interface_delivery.specs.Ipv6Repr.{Ipv6Repr}
+use Rattle.interface.specs.Ipv4 as Ipv4
+use Rattle.interface.specs.Ipv4Piece.{Ipv4Piece}
+use Rattle.interface.specs.Ipv4Repr.{Ipv4Repr}
+use Rattle.interface.specs.Ipv6 as Ipv6
+use Rattle.interface.specs.Ipv6Repr.{Ipv6Repr}
 use Rattle.interface_ingress.specs.EthernetRepr.{EthernetRepr}
 use Rattle.interface_tables.specs.Pieces as Pieces
 use Rattle.interface_tables.specs.Settings.{is_of_medium}

@@ -7,10 +7,10 @@ use Rattle.lan_frames.specs.ChecksumCapabilities.{ChecksumCapabilities}
 use Rattle.interface_ingress.specs.Address.{IsIpAddress}
 use Rattle.interface_ingress.specs.HardwareAddress.{HardwareAddress}
 use Rattle.interface_ingress.specs.HardwareAddress.TheVariants as Hardware
-use Rattle.interface_delivery.specs.Ip as Ips
-use Rattle.interface_delivery.specs.Ip.{destination_of}
-use Rattle.interface_delivery.specs.IpRepr.{IpRepr}
-use Rattle.interface_delivery.specs.IpRepr.TheVariants as Ip
+use Rattle.interface.specs.Ip as Ips
+use Rattle.interface.specs.Ip.{destination_of}
+use Rattle.interface.specs.IpRepr.{IpRepr}
+use Rattle.interface.specs.IpRepr.TheVariants as Ip
 use Rattle.interface_ingress.specs.ArpRepr.{ArpRepr}
 use Rattle.sockets.specs.Packet.{PacketValue, PayloadValue, packet_of, payload_written}
 use Rattle.interface_tables.specs.Inner.{InnerValue, with_next_ident, with_request}
@@ -26,10 +26,10 @@ use Rattle.interface_egress.specs.declared.way_out.Sent.{Sent}
 use Rattle.interface_egress.specs.declared.way_out.Sent.TheVariants as Outcome
 use Rattle.interface_egress.proofs.Planned.{AsksFrom, plan_cases}
 use Rattle.interface_ingress.specs.Sent.{CanBeRead, normal_payload}
-use Rattle.interface_delivery.specs.Delivered.{IsCutValue, IsWritable}
-use Rattle.interface_delivery.specs.Taken.{HasWidths, IsHalfSent}
-use Rattle.interface_delivery.proofs.Arrives.{length-written}
-use Rattle.interface_delivery.proofs.Offered.{writes, readable, begun_half, left_half}
+use Rattle.interface.specs.Delivered.{IsCutValue, IsWritable}
+use Rattle.interface.specs.Taken.{HasWidths, IsHalfSent}
+use Rattle.interface.proofs.Arrives.{length-written}
+use Rattle.interface.proofs.Offered.{writes, readable, begun_half, left_half}
 use Rattle.lan_hosts.specs.Origins.{begins_datagram}
 use Rattle.lan_hosts.specs.Port.{PortValue, PortMove}
 use Rattle.lan_world.specs.Link.Made.{sealed, bytes_of, CarriesNone, IsGoing}

@@ -4,8 +4,8 @@ use Rattle.std.proofs.Common.{ap, subst}
 use Rattle.std.specs.Prelude.{ℤ, map, slice_get, slice_set, position, is_some}
 use Rattle.std.specs.List.{AllByRecursion}
 use Rattle.ip_address.specs.declared.ipv4.Ipv4FragKey.{Ipv4FragKey}
-use Rattle.interface_delivery.specs.Ipv6Repr.{Ipv6Repr}
-use Rattle.interface_delivery.specs.IpRepr.TheVariants as Ip
+use Rattle.interface.specs.Ipv6Repr.{Ipv6Repr}
+use Rattle.interface.specs.IpRepr.TheVariants as Ip
 use Rattle.interface_tables.specs.Best.{at_place}
 use Rattle.interface_tables.specs.Inner.{InnerValue}
 use Rattle.interface_tables.specs.Pieces as Pieces

@@ -6,12 +6,12 @@ use Rattle.std.proofs.lemmas.List.{take_at}
 use Rattle.std.proofs.lemmas.Bool.Decides.{nat_tests}
 use Rattle.interface_ingress.specs.EthernetProtocol.TheVariants as Ether
 use Rattle.interface_ingress.specs.HardwareAddress.{HardwareAddress}
-use Rattle.interface_delivery.specs.IpRepr.{IpRepr}
-use Rattle.interface_delivery.specs.IpRepr.TheVariants as Ip
-use Rattle.interface_delivery.specs.Ipv4 as Ipv4
-use Rattle.interface_delivery.specs.Ipv4Repr.{Ipv4Repr}
-use Rattle.interface_delivery.specs.Ipv6 as Ipv6
-use Rattle.interface_delivery.specs.Ipv6Repr.{Ipv6Repr}
+use Rattle.interface.specs.IpRepr.{IpRepr}
+use Rattle.interface.specs.IpRepr.TheVariants as Ip
+use Rattle.interface.specs.Ipv4 as Ipv4
+use Rattle.interface.specs.Ipv4Repr.{Ipv4Repr}
+use Rattle.interface.specs.Ipv6 as Ipv6
+use Rattle.interface.specs.Ipv6Repr.{Ipv6Repr}
 use Rattle.sockets.specs.Packet.{PacketValue, PayloadValue, packet_of, payload_len}
 use Rattle.interface_tables.specs.Pieces as Pieces
 use Rattle.interface_tables.specs.Pieces.{piece_at}
@@ -21,8 +21,8 @@ use Rattle.interface_egress.specs.Departure.{piece_v6, fragment_header}
 use Rattle.interface_egress.specs.Fragments.{LeftValue, piece_room, next_piece}
 use Rattle.interface_egress.specs.declared.frame.CutHeader.{CutHeader}
 use Rattle.interface_egress.specs.declared.frame.CutHeader.TheVariants as Cut
-use Rattle.interface_delivery.specs.Delivered.{IsCutValue, IsWritable}
-use Rattle.interface_delivery.proofs.Arrives.{length-written}
+use Rattle.interface.specs.Delivered.{IsCutValue, IsWritable}
+use Rattle.interface.proofs.Arrives.{length-written}
 use Rattle.lan_world.specs.Link.Made.{sealed, bytes_of}
 use Rattle.lan_world.specs.Link.Frames.{Outgoing, medium_on, IsSentV4, IsCutV6, IsSlice, IsWhole6, IsPiece6}
 use Rattle.lan_world.specs.Link.Sides.{IsSameKind, IsHostFrame, IsCutFrom, IsLeft}

@@ -6,17 +6,17 @@ use Rattle.std.specs.List.{AllByRecursion}
 use Rattle.interface_ingress.specs.Icmpv6 as Icmpv6
 use Rattle.interface_ingress.specs.Icmpv6.{MessageValue}
 use Rattle.lan_history.specs.Ndisc.{NeighborMessage, Solicitation, Advertisement}
-use Rattle.interface_delivery.specs.NdiscNeighborFlags.{NdiscNeighborFlags}
+use Rattle.interface.specs.NdiscNeighborFlags.{NdiscNeighborFlags}
 use Rattle.interface_ingress.specs.AddressTests.{is_same_hardware}
 use Rattle.interface_ingress.specs.EthernetAddress.{EthernetAddress}
 use Rattle.interface_ingress.specs.HardwareAddress.{HardwareAddress}
 use Rattle.interface_ingress.specs.HardwareAddress.TheVariants as Hardware
 use Rattle.interface_ingress.specs.IpAddress.{IpAddress}
 use Rattle.interface_ingress.specs.IpAddress.TheVariants as Address
-use Rattle.interface_delivery.specs.IpRepr.{IpRepr}
-use Rattle.interface_delivery.specs.IpRepr.TheVariants as Ip
+use Rattle.interface.specs.IpRepr.{IpRepr}
+use Rattle.interface.specs.IpRepr.TheVariants as Ip
 use Rattle.interface_ingress.specs.Ipv6Address.{Ipv6Address}
-use Rattle.interface_delivery.specs.Ipv6Repr.{Ipv6Repr}
+use Rattle.interface.specs.Ipv6Repr.{Ipv6Repr}
 use Rattle.interface_ingress.specs.ArpRepr.{ArpRepr}
 use Rattle.interface_ingress.specs.ArpRepr.TheVariants as ArpIs
 use Rattle.interface_ingress.specs.EthernetRepr.{EthernetRepr}

@@ -1,7 +1,7 @@
 -- IPv6 packets that are no pieces of a datagram are whole.
 use Rattle.std.proofs.Common.{◌≡◌, ℕ, Bool, true, false, if◌then◌else◌, List, Option, Some, ap}
 use Rattle.interface_ingress.specs.EthernetRepr.{EthernetRepr}
-use Rattle.interface_delivery.specs.Ipv6Repr.{Ipv6Repr}
+use Rattle.interface.specs.Ipv6Repr.{Ipv6Repr}
 use Rattle.interface_ingress.specs.Handed.{is_known_v6}
 use Rattle.interface_ingress.specs.Headers as Headers
 use Rattle.interface_ingress.specs.Incoming.{Ip6}

@@ -8,8 +8,8 @@ use Rattle.ip_address.specs.declared.ipv4.Ipv4FragKey.{Ipv4FragKey}
 use Rattle.interface_tables.specs.declared.key.FragKey.{FragKey}
 use Rattle.interface_tables.specs.declared.key.FragKey.TheVariants as Keys
 use Rattle.interface_tables.specs.declared.key.Ipv6FragKey.{Ipv6FragKey}
-use Rattle.interface_delivery.specs.Ip.{carried_in}
-use Rattle.interface_delivery.specs.IpRepr.{IpRepr}
+use Rattle.interface.specs.Ip.{carried_in}
+use Rattle.interface.specs.IpRepr.{IpRepr}
 use Rattle.interface_ingress.specs.IpProtocol.TheVariants as Protocol
 use Rattle.interface_ingress.specs.Sent.{CanBeRead, normal_payload}
 use Rattle.sockets.specs.Packet.{PayloadValue, ControlV4, ControlV6, Bytes, Datagram, Segment, payload_written}

@@ -9,11 +9,11 @@ use Rattle.interface_ingress.specs.Icmpv6.{MessageValue}
 use Rattle.interface_ingress.specs.AddressTests.{is_unspecified}
 use Rattle.ip_address.specs.declared.ip.IpEndpoint.{IpEndpoint}
 use Rattle.ip_address.specs.declared.ip.IpListenEndpoint.{IpListenEndpoint}
-use Rattle.interface_delivery.specs.IpRepr.{IpRepr}
-use Rattle.interface_delivery.specs.Ipv4Repr.{Ipv4Repr}
-use Rattle.interface_delivery.specs.Ipv6Repr.{Ipv6Repr}
+use Rattle.interface.specs.IpRepr.{IpRepr}
+use Rattle.interface.specs.Ipv4Repr.{Ipv4Repr}
+use Rattle.interface.specs.Ipv6Repr.{Ipv6Repr}
 use Rattle.ip_tcp.specs.declared.header.TcpHeader.{TcpHeader}
-use Rattle.interface_delivery.specs.UdpRepr.{UdpRepr}
+use Rattle.interface.specs.UdpRepr.{UdpRepr}
 use Rattle.net_containers.specs.Packets.{contents, first, is_full_for}
 use Rattle.sockets.specs.Addresses as Addresses
 use Rattle.sockets.specs.Context.{ContextValue}

@@ -4,22 +4,22 @@ use Rattle.std.specs.Prelude.{◌+◌, ◌/◌, ◌&&◌, ◌==◌, slice_index,
 use Rattle.std.specs.List.{AllByRecursion}
 use Rattle.interface_ingress.specs.Icmpv4Header.{Icmpv4Header}
 use Rattle.interface_ingress.specs.Icmpv6.{MessageValue}
-use Rattle.interface_delivery.specs.Ip.{header_len_in, normal, written, IsIp}
+use Rattle.interface.specs.Ip.{header_len_in, normal, written, IsIp}
 use Rattle.ip_address.proofs.Numbers.{protocol_number-protocol_of}
 use Rattle.ip_address.specs.Protocol.{protocol_number, protocol_of}
 use Rattle.interface_ingress.specs.IpProtocol.{IpProtocol}
-use Rattle.interface_delivery.specs.IpRepr.{IpRepr}
-use Rattle.interface_delivery.specs.IpRepr.TheVariants as Ip
-use Rattle.interface_delivery.specs.Ipv4Repr.{Ipv4Repr}
-use Rattle.interface_delivery.specs.Ipv6Repr.{Ipv6Repr}
+use Rattle.interface.specs.IpRepr.{IpRepr}
+use Rattle.interface.specs.IpRepr.TheVariants as Ip
+use Rattle.interface.specs.Ipv4Repr.{Ipv4Repr}
+use Rattle.interface.specs.Ipv6Repr.{Ipv6Repr}
 use Rattle.ip_tcp.specs.declared.header.TcpHeader.{TcpHeader}
-use Rattle.interface_delivery.specs.UdpRepr.{UdpRepr}
-use Rattle.interface_delivery.specs.Delivered.{NamesNoPorts}
+use Rattle.interface.specs.UdpRepr.{UdpRepr}
+use Rattle.interface.specs.Delivered.{NamesNoPorts}
 use Rattle.lan_frames.specs.Medium.TheVariants as Medium
 use Rattle.net_containers.specs.Packets.{contents, first}
 use Rattle.sockets.specs.Context.{ContextValue}
 use Rattle.sockets.specs.Packet.{PacketValue, PayloadValue, payload_written}
-use Rattle.interface_delivery.specs.Ipv6.{payload_of}
+use Rattle.interface.specs.Ipv6.{payload_of}
 use Rattle.interface_ingress.specs.Headers.{go_through}
 use Rattle.lan_world.specs.Link.Made.{sealed, CarriesNone, bytes_of}
 use Rattle.sockets.specs.Offer as Answer

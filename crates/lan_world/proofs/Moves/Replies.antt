@@ -11,12 +11,12 @@ use Rattle.interface_ingress.specs.HardwareAddress.{HardwareAddress}
 use Rattle.interface_ingress.specs.HardwareAddress.TheVariants as Hardware
 use Rattle.interface_ingress.specs.EthernetAddress.{EthernetAddress}
 use Rattle.interface_ingress.specs.IpProtocol.TheVariants as Protocol
-use Rattle.interface_delivery.specs.IpRepr.{IpRepr}
-use Rattle.interface_delivery.specs.IpRepr.TheVariants as Ip
+use Rattle.interface.specs.IpRepr.{IpRepr}
+use Rattle.interface.specs.IpRepr.TheVariants as Ip
 use Rattle.interface_ingress.specs.Ipv4Address.{Ipv4Address}
-use Rattle.interface_delivery.specs.Ipv4Repr.{Ipv4Repr}
+use Rattle.interface.specs.Ipv4Repr.{Ipv4Repr}
 use Rattle.interface_ingress.specs.Ipv6Address.{Ipv6Address}
-use Rattle.interface_delivery.specs.Ipv6Repr.{Ipv6Repr}
+use Rattle.interface.specs.Ipv6Repr.{Ipv6Repr}
 use Rattle.interface_ingress.specs.ArpRepr.{ArpRepr}
 use Rattle.sockets.specs.Packet.{PacketValue, ControlV4, ControlV6, packet_of}
 use Rattle.interface_tables.specs.Inner.{InnerValue}

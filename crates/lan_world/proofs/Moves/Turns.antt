@@ -2,7 +2,7 @@
 use Rattle.std.proofs.Common.{◌≡◌, ℕ, Bool, true, false, inl, inr, List, [], ◌∷◌, ◌++◌, length, Option, Some, None, IfSome, refl, sym, ap, ◌∙◌, subst, arith}
 use Rattle.std.proofs.Common.{append-nil, ◌+◌}
 use Rattle.std.specs.Prelude.{slice_set, slice_index_or}
-use Rattle.interface_delivery.specs.Ip.{destination_of}
+use Rattle.interface.specs.Ip.{destination_of}
 use Rattle.interface_ingress.specs.IpAddress.{IpAddress}
 use Rattle.lan_frames.specs.Device.{Move}
 use Rattle.sockets.specs.Context.{ContextValue}

@@ -6,20 +6,20 @@ use Rattle.interface_ingress.specs.EthernetRepr.{EthernetRepr}
 use Rattle.interface_ingress.specs.IpAddress.{IpAddress}
 use Rattle.interface_ingress.specs.IpAddress.TheVariants as Address
 use Rattle.interface_ingress.specs.IpProtocol.TheVariants as Protocol
-use Rattle.interface_delivery.specs.IpRepr.{IpRepr}
-use Rattle.interface_delivery.specs.IpRepr.TheVariants as Ip
-use Rattle.interface_delivery.specs.Ipv4Repr.{Ipv4Repr}
-use Rattle.interface_delivery.specs.Ipv6Repr.{Ipv6Repr}
+use Rattle.interface.specs.IpRepr.{IpRepr}
+use Rattle.interface.specs.IpRepr.TheVariants as Ip
+use Rattle.interface.specs.Ipv4Repr.{Ipv4Repr}
+use Rattle.interface.specs.Ipv6Repr.{Ipv6Repr}
 use Rattle.ip_tcp.specs.Tcp as Tcp
 use Rattle.ip_tcp.specs.declared.header.TcpHeader.{TcpHeader}
-use Rattle.interface_delivery.specs.UdpRepr.{UdpRepr}
+use Rattle.interface.specs.UdpRepr.{UdpRepr}
 use Rattle.interface_ingress.specs.ArpRepr.{ArpRepr}
 use Rattle.net_containers.specs.Packets.{first}
 use Rattle.sockets.specs.Context.{ContextValue}
 use Rattle.sockets.specs.Packet.{PacketValue, PayloadValue, ControlV4, ControlV6, Bytes, Datagram, Segment, packet_of, payload_written}
-use Rattle.interface_delivery.specs.Ip as Ips
+use Rattle.interface.specs.Ip as Ips
 use Rattle.lan_world.specs.Link.Made.{sealed, CarriesNone}
-use Rattle.interface_delivery.specs.Widths.{IsPayload}
+use Rattle.interface.specs.Widths.{IsPayload}
 use Rattle.sockets.specs.Offer as Answer
 use Rattle.sockets.specs.WellFormed.{AreFields, HasWidths, IsWellFormed}
 use Rattle.sockets.specs.Icmp as Icmps

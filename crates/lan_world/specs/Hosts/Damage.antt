@@ -1,7 +1,7 @@
 -- A damaged frame does no harm, whenever it is taken.
 use Rattle.std.specs.Prelude.{◌≡◌, ◌<◌, ◌^◌, ℕ, true, List, [], ◌∷◌, None}
 use Rattle.interface_ingress.specs.HardwareAddress.{HardwareAddress}
-use Rattle.interface_delivery.specs.IpRepr.TheVariants as Ip
+use Rattle.interface.specs.IpRepr.TheVariants as Ip
 use Rattle.interface_ingress.specs.Arrives.{Arrived, Arrives}
 use Rattle.interface_ingress.specs.Delivered.{Places}
 use Rattle.interface_ingress.specs.Incoming.{IncomingValue, Arp, Ip4, Ip6, IsIncoming}

@@ -7,13 +7,13 @@ use Rattle.ip_address.specs.declared.ipv4.Ipv4FragKey.{Ipv4FragKey}
 use Rattle.interface_ingress.specs.HardwareAddress.{HardwareAddress}
 use Rattle.interface_ingress.specs.HardwareAddress.TheVariants as Hardware
 use Rattle.interface_ingress.specs.IpProtocol.{IpProtocol}
-use Rattle.interface_delivery.specs.IpRepr.{IpRepr}
-use Rattle.interface_delivery.specs.IpRepr.TheVariants as Ip
-use Rattle.interface_delivery.specs.Ipv4 as Ipv4
-use Rattle.interface_delivery.specs.Ip as Ips
-use Rattle.interface_delivery.specs.Ipv4Repr.{Ipv4Repr}
-use Rattle.interface_delivery.specs.Ipv6 as Ipv6
-use Rattle.interface_delivery.specs.Ipv6Repr.{Ipv6Repr}
+use Rattle.interface.specs.IpRepr.{IpRepr}
+use Rattle.interface.specs.IpRepr.TheVariants as Ip
+use Rattle.interface.specs.Ipv4 as Ipv4
+use Rattle.interface.specs.Ip as Ips
+use Rattle.interface.specs.Ipv4Repr.{Ipv4Repr}
+use Rattle.interface.specs.Ipv6 as Ipv6
+use Rattle.interface.specs.Ipv6Repr.{Ipv6Repr}
 use Rattle.sockets.specs.Packet.{PacketValue, PayloadValue}
 use Rattle.interface_tables.specs.Pieces as Pieces
 use Rattle.interface_tables.specs.declared.key.FragKey.{FragKey}

@@ -6,7 +6,7 @@ use Rattle.interface_tables.specs.Reassembly.{SlotValue}
 use Rattle.interface_tables.specs.declared.key.FragKey.{FragKey}
 use Rattle.interface_tables.specs.declared.key.FragKey.TheVariants as Keys
 use Rattle.interface_ingress.specs.Reassembled.{Slots, runs_kept}
-use Rattle.interface_delivery.specs.Delivered.{NamesNoPorts}
+use Rattle.interface.specs.Delivered.{NamesNoPorts}
 use Rattle.lan_world.specs.Link.Frames.{Outgoing, IsDatagram}
 
 -- of neither TCP nor UDP, as the key of an IPv4 datagram may say

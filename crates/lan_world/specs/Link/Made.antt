@@ -4,18 +4,18 @@ use Rattle.std.specs.Prelude.{◌≡◌, ◌⊎◌, ℕ, true, false, List, slic
 use Rattle.lan_frames.specs.Capabilities.{all_checksums}
 use Rattle.lan_frames.specs.Checksum.TheVariants as Checksum
 use Rattle.lan_frames.specs.ChecksumCapabilities.{ChecksumCapabilities}
-use Rattle.interface_delivery.specs.Ip as Ips
-use Rattle.interface_delivery.specs.Ip.{carried_in}
-use Rattle.interface_delivery.specs.IpRepr.{IpRepr}
-use Rattle.interface_delivery.specs.IpRepr.TheVariants as Ip
+use Rattle.interface.specs.Ip as Ips
+use Rattle.interface.specs.Ip.{carried_in}
+use Rattle.interface.specs.IpRepr.{IpRepr}
+use Rattle.interface.specs.IpRepr.TheVariants as Ip
 use Rattle.sockets.specs.Packet.{PacketValue, PayloadValue, ControlV4, ControlV6, Bytes, Datagram, Segment, payload_written}
 use Rattle.interface_ingress.specs.Carried.{IsCarried}
 use Rattle.interface_ingress.specs.Upper.{upper_header, upper_payload}
 use Rattle.interface_ingress.specs.Incoming.{IncomingValue, Arp, Ip4, Ip6}
 use Rattle.interface_ingress.specs.Reassembled.{is_piece, is_piece_v6}
 use Rattle.interface_ingress.specs.Sent.{CanBeRead, normal_payload}
-use Rattle.interface_delivery.specs.Delivered.{NamesNoPorts}
-use Rattle.interface_delivery.specs.Taken.{IsOffered}
+use Rattle.interface.specs.Delivered.{NamesNoPorts}
+use Rattle.interface.specs.Taken.{IsOffered}
 
 -- it is one of these
 abbrev pub IsIn : List PayloadValue → PayloadValue → Type 0

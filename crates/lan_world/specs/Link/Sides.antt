@@ -17,8 +17,8 @@ use Rattle.interface_egress.specs.declared.frame.CutHeader.TheVariants as Cut
 use Rattle.interface_ingress.specs.Incoming.{IncomingValue, IsIncoming}
 use Rattle.interface_ingress.specs.Reassembled.{Slots}
 use Rattle.interface_ingress.specs.Kept.{IsNoPieceV6}
-use Rattle.interface_delivery.specs.Delivered.{HasNoPorts}
-use Rattle.interface_delivery.specs.Taken.{HasWidths, IsHalfSent}
+use Rattle.interface.specs.Delivered.{HasNoPorts}
+use Rattle.interface.specs.Taken.{HasWidths, IsHalfSent}
 use Rattle.lan_frames.specs.Cuts.{ipv4_part}
 use Rattle.interface_ingress.specs.Fields.{be16}
 use Rattle.lan_frames.specs.Parts.{tcp_part, bytes_at}

@@ -1,15 +1,15 @@
 -- What a packet has of TCP or UDP, and who made it.
 use Rattle.std.specs.Prelude.{ℕ, List, Option, None, Some}
 use Rattle.lan_frames.specs.ChecksumCapabilities.{ChecksumCapabilities}
-use Rattle.interface_delivery.specs.Ip as Ips
-use Rattle.interface_delivery.specs.IpRepr.{IpRepr}
-use Rattle.interface_delivery.specs.IpRepr.TheVariants as Ip
+use Rattle.interface.specs.Ip as Ips
+use Rattle.interface.specs.IpRepr.{IpRepr}
+use Rattle.interface.specs.IpRepr.TheVariants as Ip
 use Rattle.ip_tcp.specs.declared.header.TcpHeader.{TcpHeader}
-use Rattle.interface_delivery.specs.UdpRepr.{UdpRepr}
+use Rattle.interface.specs.UdpRepr.{UdpRepr}
 use Rattle.sockets.specs.Packet.{PacketValue, PayloadValue, ControlV4, ControlV6, Bytes, Datagram, Segment}
 use Rattle.tcp_tie.specs.Host.{Made, made_of, IsAmong}
 use Rattle.lan_world.specs.Link.Made.{CarriesNone}
-use Rattle.interface_delivery.specs.Taken.{IsOffered}
+use Rattle.interface.specs.Taken.{IsOffered}
 use Rattle.interface_ingress.specs.Carried.{IsDatagram, IsSegment}
 use Rattle.interface_ingress.specs.Sent.{CanBeRead}
 use Rattle.interface_ingress.specs.Incoming.{IncomingValue, Arp, Ip4, Ip6}

@@ -1,8 +1,8 @@
 -- A packet whose header names what it carries.
 use Rattle.std.specs.Prelude.{◌≡◌}
-use Rattle.interface_delivery.specs.Ip.{carried_in}
+use Rattle.interface.specs.Ip.{carried_in}
 use Rattle.interface_ingress.specs.IpProtocol.TheVariants as Protocol
-use Rattle.interface_delivery.specs.IpRepr.{IpRepr}
+use Rattle.interface.specs.IpRepr.{IpRepr}
 use Rattle.interface_ingress.specs.Sent.{IsV4}
 use Rattle.sockets.specs.Packet.{PacketValue, PayloadValue, ControlV4, ControlV6, Bytes, Datagram, Segment}
 

@@ -24,10 +24,10 @@ use Rattle.interface_egress.specs.Departure.{Whole}
 use Rattle.interface_egress.specs.GoesOut.{numbered}
 use Rattle.interface_egress.specs.Plan.{plan_of, total_len}
 use Rattle.interface_egress.specs.declared.plan.Plan.TheVariants as Way
-use Rattle.interface_delivery.specs.Taken.{Reader, CanRead, IsRead, IsOffered}
-use Rattle.interface_delivery.specs.Taken as Taken
-use Rattle.interface_delivery.proofs.Arrives.{arrives}
-use Rattle.interface_delivery.proofs.Offered.{writes, carried}
+use Rattle.interface.specs.Taken.{Reader, CanRead, IsRead, IsOffered}
+use Rattle.interface.specs.Taken as Taken
+use Rattle.interface.proofs.Arrives.{arrives}
+use Rattle.interface.proofs.Offered.{writes, carried}
 use Rattle.stack_laws.specs.Progress.Queued.{CanGo, with_ident, ports_of, FindsDatagram}
 use Rattle.stack_laws.proofs.Polls.Ways.{can_still, goes_by_plan}
 

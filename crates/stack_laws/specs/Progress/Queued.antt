@@ -9,7 +9,7 @@ use Rattle.sockets.specs.Udp.{UdpValue, UdpSettings, TakesDatagram}
 use Rattle.sockets.specs.UdpMetadata.{UdpMetadata}
 use Rattle.ip_packet.specs.Ip as Ips
 use Rattle.ip_packet.specs.declared.udp.repr.UdpRepr.{UdpRepr}
-use Rattle.interface_delivery.specs.Taken.{Reader}
+use Rattle.interface.specs.Taken.{Reader}
 use Rattle.interface_ingress.specs.Packet.{PacketValue, Datagram, payload_written}
 use Rattle.interface_ingress.specs.Socket.{Socket}
 use Rattle.interface_ingress.specs.Socket.TheVariants as Kind

@@ -11,7 +11,7 @@ ghost use Rattle.interface_ingress.specs.WellFormed.{IsWellFormed};
 ghost use Rattle.interface_tables.specs.Inner.{InnerValue, at_moment};
 ghost use Rattle.interface_egress.specs.Departure.{Whole};
 ghost use Rattle.interface_egress.specs.GoesOut.{numbered};
-ghost use Rattle.interface_delivery.specs.Taken.{Reader, CanRead, HasWidths, IsRead};
+ghost use Rattle.interface.specs.Taken.{Reader, CanRead, HasWidths, IsRead};
 ghost use Rattle.interface.specs.Egress.{EgressStep};
 ghost use Rattle.interface.specs.Polls.{Polls};
 ghost use Rattle.interface.specs.QuietPoll.{HasNoFrame};

@@ -1,5 +1,5 @@
-use Rattle.interface_delivery.proofs.Offered.{whole, carried}
-use Rattle.interface_delivery.proofs.laws.offered_packets_arrive.Goals as goal
+use Rattle.interface.proofs.Offered.{whole, carried}
+use Rattle.interface.proofs.delivery_laws.offered_packets_arrive.Goals as goal
 
 pub returns-clause-whole : goal.returns-clause-whole
 returns-clause-whole g c = whole g.D.Device.moves

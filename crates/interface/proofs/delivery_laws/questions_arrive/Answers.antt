@@ -1,6 +1,6 @@
 use Rattle.interface_egress.specs.Departure.{Tells}
-use Rattle.interface_delivery.proofs.Offered.{asked, told}
-use Rattle.interface_delivery.proofs.laws.questions_arrive.Goals as goal
+use Rattle.interface.proofs.Offered.{asked, told}
+use Rattle.interface.proofs.delivery_laws.questions_arrive.Goals as goal
 
 pub returns-clause-question : goal.returns-clause-question
 returns-clause-question g c old new i i' l l' busy p question reader plan goes is on sealed =

@@ -1,5 +1,5 @@
-use Rattle.interface_delivery.proofs.Stays.{go_stays, cut_stays, one_medium}
-use Rattle.interface_delivery.proofs.laws.frames_stay_on_the_medium.Goals as goal
+use Rattle.interface.proofs.Stays.{go_stays, cut_stays, one_medium}
+use Rattle.interface.proofs.delivery_laws.frames_stay_on_the_medium.Goals as goal
 
 pub returns-clause-whole : goal.returns-clause-whole
 returns-clause-whole c i busy p = go_stays i busy p.header

@@ -1,4 +1,4 @@
-//! What follows from the definitions.
+//! What another host of the same medium reads in the frames that a host sends.
 ghost use Rattle.std.specs.Prelude.{◌≡◌, ℕ, Bool, true, List, ◌++◌, Option, Some, IfSome};
 ghost use Rattle.net_base.specs.ChecksumCapabilities.{ChecksumCapabilities};
 ghost use Rattle.interface_ingress.specs.Address.{IsIpAddress};
@@ -17,10 +17,10 @@ ghost use Rattle.interface_egress.specs.declared.way_out.Sent.TheVariants as Out
 ghost use Rattle.interface_egress.specs.declared.plan.Plan.TheVariants as Way;
 ghost use Rattle.interface_ingress.specs.ArpRepr.{ArpRepr};
 ghost use Rattle.interface_egress.specs.Arp as Arps;
-ghost use Rattle.interface_delivery.specs.Delivered.{IsOfMedium, AreOfOneMedium, CanArrive, IsOnEthernet, IsQuestion, read_of, protocol_read, protocol_sent};
-ghost use Rattle.interface_delivery.specs.Delivered.{HasNoPorts, SendsNoPorts};
-ghost use Rattle.interface_delivery.specs.Medium.{KnowsItsMedium};
-ghost use Rattle.interface_delivery.specs.Taken.{Reader, CanRead, Arrives, IsCarriedTo, HasWidths, IsOffered, IsHalfSent};
+ghost use Rattle.interface.specs.Delivered.{IsOfMedium, AreOfOneMedium, CanArrive, IsOnEthernet, IsQuestion, read_of, protocol_read, protocol_sent};
+ghost use Rattle.interface.specs.Delivered.{HasNoPorts, SendsNoPorts};
+ghost use Rattle.interface.specs.Medium.{KnowsItsMedium};
+ghost use Rattle.interface.specs.Taken.{Reader, CanRead, Arrives, IsCarriedTo, HasWidths, IsOffered, IsHalfSent};
 
 use net_base::Device;
 

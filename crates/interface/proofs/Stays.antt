@@ -26,9 +26,9 @@ use Rattle.interface_egress.specs.Neighbor.{Neighbor}
 use Rattle.interface_egress.specs.Plan.{can_be_cut, total_len, cut_if_idle, long_plan, ask_v4, ask_on, may_ask, ask_if, plan_by, never_leaves, plan_of}
 use Rattle.interface_egress.specs.declared.plan.Plan.{Plan}
 use Rattle.interface_egress.specs.declared.plan.Plan.TheVariants as Way
-use Rattle.interface_delivery.specs.Delivered.{IsOfMedium, AreOfOneMedium}
-use Rattle.interface_delivery.specs.Medium.{KnowsItsMedium}
-use Rattle.interface_delivery.proofs.Arrives.{all-bytes, joined, behind, repeated}
+use Rattle.interface.specs.Delivered.{IsOfMedium, AreOfOneMedium}
+use Rattle.interface.specs.Medium.{KnowsItsMedium}
+use Rattle.interface.proofs.Arrives.{all-bytes, joined, behind, repeated}
 
 -- WHAT IS KNOWN OF A NEIGHBOUR
 

@@ -1,5 +1,5 @@
-use Rattle.interface_delivery.proofs.Offered.{first, later, begun_half, left_half}
-use Rattle.interface_delivery.proofs.laws.pieces_arrive.Goals as goal
+use Rattle.interface.proofs.Offered.{first, later, begun_half, left_half}
+use Rattle.interface.proofs.delivery_laws.pieces_arrive.Goals as goal
 
 pub returns-clause-first : goal.returns-clause-first
 returns-clause-first g c = first g.D.Device.moves

@@ -14,7 +14,7 @@ use Rattle.interface_egress.specs.Departure.{Departure, piece_header_len}
 use Rattle.interface_egress.specs.Fragments.{LeftValue}
 use Rattle.interface_egress.specs.GoesOut.{frame_of}
 use Rattle.interface_egress.specs.Plan.{IsPacket}
-use Rattle.interface_delivery.specs.Delivered.{AreOfOneMedium, IsCutValue, read_of}
+use Rattle.interface.specs.Delivered.{AreOfOneMedium, IsCutValue, read_of}
 
 -- a host that may read what another one sends: its hardware address, and the checksums that it tests
 pub record Reader : Type 0 where

@@ -1,5 +1,5 @@
-use Rattle.interface_delivery.proofs.Named.{names-same, names-none}
-use Rattle.interface_delivery.proofs.laws.protocols_are_those_sent.Goals as goal
+use Rattle.interface.proofs.Named.{names-same, names-none}
+use Rattle.interface.proofs.delivery_laws.protocols_are_those_sent.Goals as goal
 
 pub returns-clause-same : goal.returns-clause-same
 returns-clause-same c = names-same

@@ -1,7 +1,7 @@
 -- A host that stays on its medium.
 use Rattle.std.specs.List.{AllByRecursion}
 use Rattle.interface_egress.specs.Inner.{InnerValue}
-use Rattle.interface_delivery.specs.Delivered.{IsOfMedium}
+use Rattle.interface.specs.Delivered.{IsOfMedium}
 
 -- the hardware addresses of the neighbours that a host knows are of its medium
 abbrev pub KnowsItsMedium : InnerValue → Type 0

@@ -44,8 +44,8 @@ use Rattle.interface_egress.specs.declared.frame.CutHeader.TheVariants as Cut
 use Rattle.interface_egress.specs.GoesOut.{frame_of}
 use Rattle.interface_egress.specs.declared.frame.Question.{Question}
 use Rattle.interface_egress.specs.declared.frame.Question.TheVariants as Query
-use Rattle.interface_delivery.specs.Delivered.{IsOfMedium, link_of, packet_read, piece_read, question_read, read_of, IsOnEthernet, IsWritable, IsWritablePiece}
-use Rattle.interface_delivery.specs.Delivered.{IsQuestion, CanArrive}
+use Rattle.interface.specs.Delivered.{IsOfMedium, link_of, packet_read, piece_read, question_read, read_of, IsOnEthernet, IsWritable, IsWritablePiece}
+use Rattle.interface.specs.Delivered.{IsQuestion, CanArrive}
 
 lengths : Lengths
 lengths = record { udp = length-datagram; tcp = length-segment; icmpv4 = Lengths4.length-message; icmpv6 = Lengths6.length-message }

@@ -13,13 +13,13 @@ use Rattle.interface_egress.specs.Departure.{Departure, Asks, Tells, Whole, Part
 use Rattle.interface_egress.specs.GoesOut.{frame_of}
 use Rattle.interface_egress.specs.declared.frame.CutHeader.TheVariants as Cut
 use Rattle.interface_egress.specs.declared.frame.Question.TheVariants as Query
-use Rattle.interface_delivery.specs.Delivered.{CanArrive, packet_read, read_from, read_of, protocol_read, protocol_sent, NamesNoPorts, HasNoPorts, SendsNoPorts}
+use Rattle.interface.specs.Delivered.{CanArrive, packet_read, read_from, read_of, protocol_read, protocol_sent, NamesNoPorts, HasNoPorts, SendsNoPorts}
 use Rattle.interface_ingress.proofs.Bare.{bare_v6}
 use Rattle.interface_egress.specs.Departure.{solicitation, solicitation_header}
 use Rattle.ip_packet.specs.Ip.{carried_in}
 use Rattle.ip_packet.specs.Ipv6 as Ipv6
 use Rattle.ip_packet.specs.declared.ipv6.repr.Ipv6Repr.{Ipv6Repr}
-use Rattle.interface_delivery.proofs.Arrives.{arrives}
+use Rattle.interface.proofs.Arrives.{arrives}
 
 packet_names : (caps : ChecksumCapabilities) (own to : HardwareAddress) (h : IpRepr) (x : PayloadValue) →
     protocol_read (packet_read caps own to (packet_of h x)) ≡ protocol_sent (Whole to (packet_of h x))

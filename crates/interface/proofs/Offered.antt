@@ -23,9 +23,9 @@ use Rattle.interface_egress.specs.declared.plan.Plan.{Plan}
 use Rattle.interface_egress.specs.declared.plan.Plan.TheVariants as Way
 use Rattle.interface_egress.specs.declared.way_out.Sent.TheVariants as Outcome
 use Rattle.interface_egress.proofs.Planned.{plan_cases}
-use Rattle.interface_delivery.specs.Delivered.{CanArrive, IsCutValue, IsWritable, IsWritablePiece}
-use Rattle.interface_delivery.specs.Taken.{Reader, CanRead, Arrives, IsCarriedTo, HasWidths, IsOffered, IsHalfSent}
-use Rattle.interface_delivery.proofs.Arrives.{arrives, length-written}
+use Rattle.interface.specs.Delivered.{CanArrive, IsCutValue, IsWritable, IsWritablePiece}
+use Rattle.interface.specs.Taken.{Reader, CanRead, Arrives, IsCarriedTo, HasWidths, IsOffered, IsHalfSent}
+use Rattle.interface.proofs.Arrives.{arrives, length-written}
 
 -- THE NUMBER: it stands in the header alone
 

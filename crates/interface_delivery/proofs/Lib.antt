@@ -1,4 +1,0 @@
-pub mod Arrives
-pub mod Named
-pub mod Offered
-pub mod Stays
