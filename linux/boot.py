@@ -1,7 +1,7 @@
 #!/usr/bin/env python3
-"""The program `boot_host` at one end of a TAP device, Linux's stack with dnsmasq at the other: run it in a network namespace of its own.
+"""The program `host boot` at one end of a TAP device, Linux's stack with dnsmasq at the other: run it in a network namespace of its own.
 
-    boot.py BOOT_HOST [--lose N] [--seed N] [--rounds N] [--record FOLDER] [--others]
+    boot.py HOST [--lose N] [--seed N] [--rounds N] [--record FOLDER] [--others]
 
 The host starts without an address. It has to be configured within five seconds of its clock, ping its router, and ask for names: one
 with an address of each family, one that is an alias of an alias, one that doesn't exist; to fetch a page of 10,000 bytes by the name of
@@ -106,7 +106,7 @@ class Host:
     def __init__(self, program, seed, names, folder, record=None):
         ours, its = socket.socketpair()
         self.said = open(f"{folder}/said", "w+b", buffering=0)
-        self.process = subprocess.Popen([program], stdin=its, stdout=its, stderr=self.said)
+        self.process = subprocess.Popen([program, "boot"], stdin=its, stdout=its, stderr=self.said)
         its.close()
         self.stream = ours.makefile("rwb", buffering=1 << 16)
         self.now, self.at, self.read_to = 0, 0, 0

@@ -1,8 +1,8 @@
 //! The run of the host: turns that are read, taken, and answered.
 ghost use Rattle.net_base.specs.Time.{IsMoment};
 
-use crate::host::Host;
-use crate::orders::Orders;
+use crate::boot::client::Host;
+use crate::boot::orders::Orders;
 use anyhow::Result;
 use net_base::Instant;
 use std::io::{self, Read};
@@ -11,9 +11,9 @@ use tun_link::{read_turn, write_answer};
 /// The longest frame that a turn brings, in bytes.
 const LONGEST: usize = 65_535;
 
-/// Takes turns until the input ends. The first one brings what the host is to do; each other one brings a frame, or none, and is
-/// answered with the frames that the host sends and the moment at which it wants its next turn.
-pub fn serve<R: Input + Print + Eprint + AllocGlobal>(rt: &R) -> Result<()> {
+/// Takes turns until the input ends, or so many behind the first one were taken. The first one brings what the host is to do; each other
+/// one brings a frame, or none, and is answered with the frames that the host sends and the moment at which it wants its next turn.
+pub fn serve<R: Input + Print + Eprint + AllocGlobal>(rt: &R, turns: u64) -> Result<()> {
     let alloc = rt.alloc();
     let mut reader = rt.reader();
     let mut first = Vec::new(alloc);
@@ -21,25 +21,26 @@ pub fn serve<R: Input + Print + Eprint + AllocGlobal>(rt: &R) -> Result<()> {
         Some(begin) => {
             let orders = Orders::read(alloc, first.as_slice())?;
             let mut host = Host::new(alloc, orders, begin)?;
-            take_turns(rt, &mut reader, &mut host, begin)
+            take_turns(rt, &mut reader, &mut host, begin, turns)
         }
         None => Ok(()),
     }
 }
 
-/// The turns behind the first one.
+/// So many turns behind the first one.
 fn take_turns<R: Print + Eprint + AllocGlobal, B: Read>(
     rt: &R,
     reader: &mut B,
     host: &mut Host,
     begin: Instant,
+    turns: u64,
 ) -> Result<()>
     requires { IsMoment begin }
 {
     let mut writer = io::writer(rt);
     write_answer(&mut host.drain, &mut writer, Some(begin))?;
     let mut last = begin;
-    for _ in 0..u64::MAX {
+    for _ in 0..turns {
         let mut frame = Vec::new(rt.alloc());
         let Some(now) = read_turn(reader, &mut frame, LONGEST, last)? else {
             break;

@@ -1,10 +1,10 @@
 //! The host: an interface, a client of DHCP, one of DNS, a socket for echo messages, and one for a page.
 ghost use Rattle.net_base.specs.Time.{IsMoment};
 
-use crate::buffers::{pings, stream};
-use crate::orders::{Orders, Question};
-use crate::page::{self, Page};
-use crate::pings::{IDENT, ping, pong};
+use crate::boot::buffers::{pings, stream};
+use crate::boot::orders::{Orders, Question};
+use crate::boot::page::{self, Page};
+use crate::boot::pings::{IDENT, ping, pong};
 use anyhow::{Result, anyhow};
 use interface::{Config, Interface, SocketHandle, SocketSet, earlier};
 use ip_wire::{EthernetAddress, HardwareAddress, IpAddress, IpCidr, Ipv4Address};

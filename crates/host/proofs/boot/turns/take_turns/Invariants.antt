@@ -1,5 +1,5 @@
 use Rattle.net_base.specs.Time.{IsMoment}
-use Rattle.boot_host.proofs.turns.take_turns.Given as goal
+use Rattle.host.proofs.boot.turns.take_turns.Given as goal
 
 -- the last turn's moment is one
 abbrev pub invariant-loop : goal.invariant-loop
