@@ -1,4 +1,4 @@
-"""What tools know of scripts and of what the programs `lan`, `lan_cases` and `one_host` write."""
+"""What tools know of scripts and of what the programs `lan`, `cases` and `one_host` write."""
 
 
 def parts(text):
@@ -18,6 +18,11 @@ def parts(text):
 def script_lines(lines):
     """The lines of a script without comments and empty ones."""
     return [line for line in lines if line and not line.startswith("#")]
+
+
+def is_of_sockets(lines):
+    """Whether a case of `cases` is one of two TCP sockets: by how its first line begins, as no script's does."""
+    return (script_lines(lines) or [""])[0].startswith(("sockets", ">"))
 
 
 def answered(script, output):

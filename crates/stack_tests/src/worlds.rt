@@ -1,7 +1,7 @@
 //! Tests of the program's scripts, of their lines, of worlds, of the device in memory and of what the link makes of frames. What they expect
 //! comes from outside: worked examples, the language's rules, and frames that another program made.
 //!
-//! Scripts are cases of the program `lan_cases`; here is what only Rust can say. `steps` has a world take the events of such a text one by
+//! Scripts are cases of the program `cases`; here is what only Rust can say. `steps` has a world take the events of such a text one by
 //! one, and names the frames that matter alone: what goes on behind a refusal (`going_on`), what no script says (`settings`, `bounds`), and
 //! what an event does that finds no memory (`memory`). `pieces` has readers and writers that give little, or fail;
 //! `files`, files of cases.

@@ -1,4 +1,4 @@
-//! Worlds that go on behind refused steps, as they were before. Each refusal by itself ends a script of `lan_cases`.
+//! Worlds that go on behind refused steps, as they were before. Each refusal by itself ends a script of `cases`.
 use crate::worlds::common::Row;
 use crate::worlds::steps::play_steps;
 use crate::worlds::texts::{EACH, IP, OPENING, STREAMS, TWO_STREAMS};

@@ -1,4 +1,4 @@
-//! Each form of a line, as it is read and printed. (What is no line ends a script of `lan_cases`.)
+//! Each form of a line, as it is read and printed. (What is no line ends a script of `cases`.)
 
 use lan_script::{Line, Side};
 use std::alloc::{AllocError, Global};

@@ -1,6 +1,6 @@
 //! Worlds where an allocation is refused. The test passes whichever one it is, and then says so (`tools/try-proved-without-memory` has
 //! each one refused in turn): a world takes the refused event again, and answers it and all that follow as in the whole run.
-//! (`tools/try-proved-without-memory` tries the scripts of `lan_cases` so, too.)
+//! (`tools/try-cases-without-memory` tries the scripts of `cases` so, too.)
 use crate::worlds::common::Row;
 use crate::worlds::steps::play_steps;
 use crate::worlds::texts::{

@@ -1,10 +1,10 @@
 //! A case as it is played.
-use crate::answers::{
+use crate::pairs::answers::{
     push_answer, push_asked, push_ended, push_rounds, push_sent, push_settled, push_side,
 };
-use crate::beside::{Beside, socket};
-use crate::lines::{Line, Sizes, Todo};
-use crate::users::Users;
+use crate::pairs::beside::{Beside, socket};
+use crate::pairs::lines::{Line, Sizes, Todo};
+use crate::pairs::users::Users;
 use socket_base::Offer;
 use std::alloc::{AllocError, Global};
 use tcp_pair::{Pair, PairAnswer, PairRefused, Side};

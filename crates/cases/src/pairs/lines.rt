@@ -1,6 +1,6 @@
 //! What a line of a case says.
-use crate::bad::Bad;
-use crate::words::Words;
+use crate::pairs::bad::Bad;
+use crate::pairs::words::Words;
 use hex::FromHexError;
 use ip_wire::{IpEndpoint, IpListenEndpoint, TcpTimestampGenerator};
 use net_base::{Duration, Instant};

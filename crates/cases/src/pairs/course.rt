@@ -1,6 +1,6 @@
 //! A side that says all that it has to say, and a link that is good.
-use crate::lines::Todo;
-use crate::played::Played;
+use crate::pairs::lines::Todo;
+use crate::pairs::played::Played;
 use net_base::{Duration, Instant};
 use socket_base::PollAt;
 use std::alloc::{AllocError, Global};

@@ -1,5 +1,5 @@
 //! The users of a pair, and its clock.
-use crate::lines::Todo;
+use crate::pairs::lines::Todo;
 use net_base::Instant;
 use std::cmp;
 use tcp_pair::{PairAnswer, Side};

@@ -1,4 +1,4 @@
--- What is written of a case.
+-- What is written of a case that is a script.
 use Rattle.std.specs.Prelude.{ℕ, List, ◌++◌, codes}
 use Rattle.std.specs.Fmt.{decimal}
 

@@ -3,7 +3,7 @@
 ghost use Rattle.std.specs.Prelude.{◌≢◌, IfSome, Some};
 ghost use Rattle.tcp_pair.specs.Promises.{IsFresh};
 
-use crate::lines::{Todo, at_port};
+use crate::pairs::lines::{Todo, at_port};
 use ip_wire::TcpRepr;
 use net_base::{Instant, ManagedSlice, RingBuffer};
 use socket_base::{Context, Offer, PollAt};

@@ -1,6 +1,4 @@
-//! Plays cases of two TCP sockets, each event by event, and writes what happens.
-#![tactic(auto)]
-
+//! Cases of two TCP sockets, each event by event.
 mod answers;
 mod bad;
 mod beside;
@@ -10,46 +8,16 @@ mod played;
 mod users;
 mod words;
 
-use crate::bad::Bad;
-use crate::lines::{Line, read_line, read_sizes};
-use crate::played::Played;
-use case_files::{Case, ends_line, read_cases};
+use crate::pairs::bad::Bad;
+use crate::pairs::lines::{Line, read_line, read_sizes};
+use crate::pairs::played::Played;
+use case_files::{Case, ends_line};
 use std::alloc::Global;
-use std::io::{self, Read, Write};
-use std::process::ExitCode;
+use std::io::{self, Write};
 use std::str;
 
-fn main(rt: HostRuntime) -> ExitCode {
-    let ended = play(rt.alloc(), &mut rt.reader(), &mut io::writer(&rt));
-    // A reader or a writer failed, or no memory was left.
-    ExitCode::from(ended.unwrap_or(2))
-}
-
-/// Plays each case that the reader gives. The status is 0 where each was played to its end, else 1.
-fn play<R: Read, W: Write>(alloc: Global, reader: &mut R, writer: &mut W) -> io::Result<u8> {
-    let status = match read_cases(alloc, reader)? {
-        Ok(cases) => play_all(alloc, cases.as_slice(), writer)?,
-        Err(fault) => {
-            writeln!(writer, "{fault}")?;
-            1
-        }
-    };
-    writer.flush()?;
-    Ok(status)
-}
-
-fn play_all<W: Write>(alloc: Global, cases: &[Case], writer: &mut W) -> io::Result<u8> {
-    let mut ended = 0;
-    for case in cases {
-        if !play_case(alloc, case, writer)? {
-            ended = 1;
-        }
-    }
-    Ok(ended)
-}
-
 /// Plays a case, whose first line says which sockets it has. False: a line ended it.
-fn play_case<W: Write>(alloc: Global, case: &Case, writer: &mut W) -> io::Result<bool> {
+pub fn play_case<W: Write>(alloc: Global, case: &Case, writer: &mut W) -> io::Result<bool> {
     writer.write_all(b"== ")?;
     write_line(case.name.as_slice(), writer)?;
     let first = case

@@ -1,5 +1,5 @@
 //! The words of a line.
-use crate::bad::Bad;
+use crate::pairs::bad::Bad;
 use ip_wire::{IpAddress, IpEndpoint, Ipv4Address};
 use net_base::{Duration, Instant};
 use std::str::FromStr;

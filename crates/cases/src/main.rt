@@ -1,10 +1,9 @@
-//! Plays the script on standard input, or the scripts of a file that has many, each in a world of its own, and writes what each answers.
+//! Plays the script on standard input, or the cases of a file that has many, each for itself, and writes what each answers: scripts of two
+//! hosts, and events of two TCP sockets.
 #![tactic(auto)]
 
-ghost use Rattle.std.specs.Prelude.{◌≢◌, List, ℕ, IfOk};
-ghost use Rattle.std.specs.Io.KnownBytes.{Appends};
-ghost use Rattle.lan.specs.Scripts.{IsReplay};
-ghost use Rattle.lan_cases.specs.Cases.{case_text};
+mod pairs;
+mod scripts;
 
 use case_files::{Case, read_cases};
 use std::alloc::Global;
@@ -28,8 +27,8 @@ fn run<R: Read + Drop, W: Write>(alloc: Global, reader: R, writer: &mut W) -> io
     }
 }
 
-/// Plays each case that the reader gives. The status is 0 where each script came to an end of its own; 1 where the text is no file of
-/// cases, of which nothing is played then; 2 where a script came to none.
+/// Plays each case that the reader gives. The status is 2 where a script came to no end of its own; else 1 where a line ended a case of two
+/// sockets, or where the text is no file of cases, of which nothing is played then; else 0.
 fn play<R: Read, W: Write>(alloc: Global, reader: &mut R, writer: &mut W) -> io::Result<u8> {
     let status = match read_cases(alloc, reader)? {
         Ok(cases) => play_all(alloc, cases.as_slice(), writer)?,
@@ -46,24 +45,23 @@ fn play<R: Read, W: Write>(alloc: Global, reader: &mut R, writer: &mut W) -> io:
 fn play_all<W: Write>(alloc: Global, cases: &[Case], writer: &mut W) -> io::Result<u8> {
     let mut ended = 0;
     for case in cases {
-        if play_case(alloc, case, writer)? == 2 {
-            ended = 2;
-        }
+        ended = play_case(alloc, case, writer)?.max(ended);
     }
     Ok(ended)
 }
 
-/// Plays a case: its name, what its script writes, and with which status it ended.
-fn play_case<W: Write>(alloc: Global, case: &Case, writer: &mut W) -> io::Result<u8>
-    ensures played { IfOk result (λ status. status ≢ 2 → (output : List ℕ)
-        × IsReplay case.now.text.items output status
-        × Appends (W.contents writer.old) (W.contents writer.new) (case_text case.now.name.items output status)) }
-{
-    writer.write_all(b"== ")?;
-    writer.write_all(case.name.as_slice())?;
-    writer.write_all(b"\n")?;
-    let mut script = case.text.as_slice();
-    let status = lan::replay(alloc, &mut script, writer);
-    writeln!(writer, "status {status}")?;
-    Ok(status)
+/// Plays a case: the status of a program that plays no other.
+fn play_case<W: Write>(alloc: Global, case: &Case, writer: &mut W) -> io::Result<u8> {
+    if is_of_sockets(case.text.as_slice()) {
+        let is_whole = pairs::play_case(alloc, case, writer)?;
+        Ok(if is_whole { 0 } else { 1 })
+    } else {
+        let status = scripts::play_case(alloc, case, writer)?;
+        Ok(if status == 2 { 2 } else { 0 })
+    }
+}
+
+/// Whether a case is one of two sockets: by how its first line begins, as no script's does.
+fn is_of_sockets(text: &[u8]) -> bool {
+    text.starts_with(b"sockets") || text.starts_with(b">")
 }
