@@ -1,12 +1,11 @@
 -- When rounds end, and that all has got through by then.
-use Rattle.std.proofs.Common.{◌≡◌, ◌⊎◌, inl, inr, ℕ, zero, suc, ◌+◌, ◌-◌, ◌*◌, ◌^◌, ◌<◌, ◌≤◌, nat_lt, min, ◌||◌, Bool, true, false, List, ◌++◌, length}
-use Rattle.std.proofs.Common.{refl, sym, ap, ◌∙◌, subst, arith, length-append}
+use Rattle.std.proofs.Common.{◌≡◌, ◌⊎◌, inl, inr, ℕ, zero, suc, ◌+◌, ◌-◌, ◌*◌, ◌^◌, ◌<◌, ◌≤◌, nat_lt, min, ◌||◌, Bool, true, false, List, length}
+use Rattle.std.proofs.Common.{refl, sym, ap, ◌∙◌, subst, arith}
 use Rattle.std.proofs.lemmas.Bool.{ltb-true, ltb-false}
 use Rattle.tcp_tie.specs.Tie.{Keeps}
-use Rattle.tcp_model.specs.States.{is_closed}
 use Rattle.tcp_pair_model.specs.Block.{Block}
 use Rattle.tcp_pair_model.specs.Blocks.{one_if}
-use Rattle.tcp_pair_model.specs.Safe.{IsStreamSafe, read, taken_in as taken_list, written}
+use Rattle.tcp_pair_model.specs.Safe.{read, written}
 use Rattle.tcp_pair_model.specs.Sides.{other}
 use Rattle.tcp_pair_model.specs.Values.{PairValue, past_at}
 use Rattle.tcp_pair_model.specs.declared.event.PairRefused.{PairRefused}
@@ -14,20 +13,21 @@ use Rattle.tcp_pair_model.specs.declared.event.PairRefused.TheVariants.{Memory}
 use Rattle.tcp_pair_model.specs.declared.event.Side.{Side}
 use Rattle.tcp_pair_model.specs.declared.event.Side.TheVariants.{A, B}
 use Rattle.tcp_progress.specs.Arrivals.{is_synchronized}
-use Rattle.tcp_progress.specs.BothWays.{AreThere, IsThrough, MayRounds, MayTurn, bound, both_read, is_over, round_in, rounds_in, total_in, turn_in, waits_in}
+use Rattle.tcp_progress.specs.BothWays.{AreThere, IsThrough, MayRounds, MayTurn, bound, both_read, round_in, rounds_in, total_in, turn_in, waits_in}
 use Rattle.tcp_progress.specs.Pair.{HasStream, left_in, socket_of}
 use Rattle.tcp_progress.specs.Reached.{IsReached}
 use Rattle.tcp_progress.specs.Sent.{taken_in}
 use Rattle.tcp_progress.specs.Settle.{read_in}
 use Rattle.tcp_progress.specs.Talking.{MayTalk}
+use Rattle.tcp_progress.proofs.EndsTold.{end_told}
 use Rattle.tcp_progress.proofs.Kept.{reached_keeps}
-use Rattle.tcp_progress.proofs.Pair.{had_in, in_step, late_in, not_closed}
+use Rattle.tcp_progress.proofs.Pair.{had_in, in_step, late_in}
 use Rattle.tcp_progress.proofs.Patient.{talk_on}
 use Rattle.tcp_progress.proofs.Positions.{lies_within}
-use Rattle.tcp_progress.proofs.Settles.{read_partner, safe_side}
-use Rattle.tcp_progress.proofs.Talks.{fin_taken, talks, there}
-use Rattle.tcp_progress.proofs.Turns.{BothFine, Ended, IsDone, IsTaken, all_read_in, done_round, ends, late_on, through}
-use Rattle.tcp_progress.proofs.Ways.{Balance, BothCalm, IsLate, balance, both_next, late_after, of_side, read_calm}
+use Rattle.tcp_progress.proofs.Settles.{read_partner}
+use Rattle.tcp_progress.proofs.Talks.{talks, there}
+use Rattle.tcp_progress.proofs.Turns.{Ended, IsDone, all_read_in, done_round, ends, through}
+use Rattle.tcp_progress.proofs.Ways.{Balance, BothCalm, IsLate, balance, both_next, of_side, read_calm}
 use Rattle.tcp_pair.specs.Settling.{CanSettle, GoesOnTo, IsEndTold, IsSoon, is_waiting, most_rounds}
 use Rattle.tcp_pair.proofs.Clocks.{read_soon, rounds_soon}
 use Rattle.tcp_pair.proofs.Led.{led}
@@ -123,37 +123,6 @@ through_still p q side c (inr over) =
     by : (all total came taken : ℕ) → all ≡ total → taken ≤ came → total ≤ taken → all ≤ came
     by all total came taken a b c = omega arith
 
--- THE END OF A STREAM
-
--- a side that took all of a closed stream took its FIN
-shorter : (p : PairValue) (side : Side) → IsStreamSafe p side → length (taken_list p (other side)) ≤ length (written p side)
-shorter p side safe = by safe.prefix.0 safe.prefix.1 where
-  less : (a b c : ℕ) → a ≡ b + c → b ≤ a
-  less a b c e = omega arith
-
-  by : (rest : List ℕ) → taken_list p (other side) ++ rest ≡ written p side → length (taken_list p (other side)) ≤ length (written p side)
-  by rest e =
-      less (length (written p side)) (length (taken_list p (other side))) (length rest) (sym (ap length e) ∙ length-append (taken_list p (other side)) rest)
-
-some_one : (t : Bool) → 1 ≤ one_if t → t ≡ true
-some_one true e = refl
-some_one false e = absurd (omega arith)
-
-took_end : (p : PairValue) (side : Side) → IsReached p → IsTaken p side → (socket_of p (other side)).block.receiver.took_fin ≡ true
-took_end p side r t =
-    some_one (socket_of p (other side)).block.receiver.took_fin
-    (by (length (written p side)) (length (taken_list p (other side))) (one_if (socket_of p (other side)).block.receiver.took_fin)
-    (shorter p side (safe_side p side r)) all)
-  where
-    all : length (written p side) + 1 ≤ length (taken_list p (other side)) + one_if (socket_of p (other side)).block.receiver.took_fin
-    all =
-        subst
-        (λ (closed : Bool). length (written p side) + one_if closed
-        ≤ length (taken_list p (other side)) + one_if (socket_of p (other side)).block.receiver.took_fin) t.closed t.all
-
-    by : (written taken fin : ℕ) → taken ≤ written → written + 1 ≤ taken + fin → 1 ≤ fin
-    by written taken fin a b = omega arith
-
 -- WHAT SETTLES
 
 module _ (p : PairValue) (c : CanSettle p) where
@@ -174,14 +143,6 @@ module _ (p : PairValue) (c : CanSettle p) where
 
   it : Ended p last
   it = ends p c.reached are_there may
-
-  fine : BothFine last
-  fine =
-      it.fine
-      (record {
-        a = λ over. never (sym over ∙ not_closed p.sides.a.socket.block.state are_there.0);
-        b = λ over. never (sym over ∙ not_closed p.sides.b.socket.block.state are_there.1);
-      })
 
   -- no more than what waits for it
   pub few : (n : ℕ) → ((m : ℕ) → m < n → is_waiting (rounds_in m p) ≡ true) → n ≤ bound p
@@ -248,24 +209,9 @@ module _ (p : PairValue) (c : CanSettle p) where
   pub is_read : (side : Side) → read (both_read last) (other side) ≡ written p side
   is_read side = all_read_in p c.reached are_there may side
 
-  taken_by : (side : Side) → is_over last (other side) ≡ true → IsTaken last side
-  taken_by A over = (fine.b over).1
-  taken_by B over = (fine.a over).1
-
-  late_at : (side : Side) → is_over last side ≡ false → is_synchronized (socket_of last side).block.state ≡ true
-  late_at A alive = late_on (socket_of last A).block.state (late_after p last it.calm late).0 alive
-  late_at B alive = late_on (socket_of last B).block.state (late_after p last it.calm late).1 alive
-
-  told : (side : Side) → (past_at p side).closed ≡ true → is_over last side ≡ false → (socket_of last (other side)).block.receiver.took_fin ≡ true
-  told side closed alive = by (is_over last (other side)) refl where
-    by : (over : Bool) → is_over last (other side) ≡ over → (socket_of last (other side)).block.receiver.took_fin ≡ true
-    by true e = took_end last side it.reached (taken_by side e)
-    by false e = fin_taken p c.reached c.talking talk side (late_at side alive) (late_at (other side) e) closed
-
   pub is_told : (side : Side) → IsEndTold p (both_read last) side
-  is_told side closed alive =
-      ap (λ (b : Block). b.receiver.took_fin) (same_block last (other side))
-      ∙ told side closed (sym (ap (λ (b : Block). is_closed b.state) (same_block last side)) ∙ alive)
+  is_told side closed =
+      ap (λ (b : Block). b.receiver.took_fin) (same_block last (other side)) ∙ end_told p c.reached c.talking talk side closed
 
 -- THE CALLS
 

@@ -1,6 +1,6 @@
 -- Rounds over a good link, in each of which both users read and each side that waits has its turn: what they are made of, when they end, and
 -- what is asked for so that all gets through.
-use Rattle.std.specs.Prelude.{◌≡◌, ℕ, ◌+◌, ◌*◌, ◌-◌, ◌^◌, min, ◌||◌, ◌+ℤ◌, ◌≤ℤ◌, pos, ℤ, Bool, true, false, List, None}
+use Rattle.std.specs.Prelude.{◌≡◌, ℕ, ◌+◌, ◌*◌, ◌-◌, ◌^◌, min, ◌||◌, ◌+ℤ◌, ◌≤ℤ◌, pos, ℤ, Bool, true, List, None}
 use Rattle.std.specs.List.{AllByRecursion}
 use Rattle.net_base.specs.Ring.{Ring}
 use Rattle.tcp_pair_model.specs.declared.event.Side.{Side}
@@ -13,7 +13,7 @@ use Rattle.tcp_pair_model.specs.Sides.{at, other}
 use Rattle.tcp_pair_model.specs.Steps.{Steps, refusal}
 use Rattle.tcp_pair_model.specs.Value.{TcpValue, new_socket}
 use Rattle.tcp_pair_model.specs.Values.{PairValue, past_at}
-use Rattle.tcp_progress.specs.BothWays.{bound, is_over, waits_in}
+use Rattle.tcp_progress.specs.BothWays.{bound, waits_in}
 use Rattle.tcp_progress.specs.Pair.{left_in, next_sent, socket_of}
 use Rattle.tcp_progress.specs.Reached.{IsReached}
 use Rattle.tcp_progress.specs.Rounds.{comes, takes}
@@ -81,7 +81,6 @@ pub record CanSettle (p : PairValue) : Type 0 where
 
 -- WHAT IT BRINGS
 
--- Of a stream that a side's user closed the other was told the end, where its own connection is there still.
+-- Of a stream that a side's user closed the other was told the end: it has taken the FIN, whichever connection is over.
 abbrev pub IsEndTold : PairValue → PairValue → Side → Type 0
-IsEndTold old new side =
-    (past_at old side).closed ≡ true → is_over new side ≡ false → (socket_of new (other side)).block.receiver.took_fin ≡ true
+IsEndTold old new side = (past_at old side).closed ≡ true → (socket_of new (other side)).block.receiver.took_fin ≡ true

@@ -29,10 +29,10 @@ impl Pair {
     /// the other's user reads, the clock goes on to the moment that the side's timers name, and what it sends
     /// comes, as does what answers that. Segments sent before are lost, but for those that were handed over.
     ///
-    /// All gets through where events led from two new sockets to the pair, both connections are there, and
-    /// nothing makes a side give up (`CanSettle`). Elsewhere it may end with no more done. A refusal leaves the
-    /// rounds before it, and what there was of the last: `NoSegment` where a side that waits sends nothing,
-    /// `Moment` where its clock has ended, and `Memory`.
+    /// All gets through, the end of each stream that was closed, too, where events led from two new sockets to
+    /// the pair, both connections are there, and nothing makes a side give up (`CanSettle`). Elsewhere it may end
+    /// with no more done. A refusal leaves the rounds before it, and what there was of the last: `NoSegment` where
+    /// a side that waits sends nothing, `Moment` where its clock has ended, and `Memory`.
     pub fn settle(&mut self) -> Result<usize, PairRefused>
         ensures rounds { IfOk result (λ count. self.new ≡ both_read (rounds_in count self.old)) }
         ensures waited { IfOk result (λ count. (n : ℕ) → n < count → is_waiting (rounds_in n self.old) ≡ true) }

@@ -23,7 +23,7 @@ use Rattle.tcp_progress.specs.Sent.{is_early}
 
 -- STATES
 
-fin_alive : (state : State) → is_closed state ≡ false → is_closed (after_fin state) ≡ false
+pub fin_alive : (state : State) → is_closed state ≡ false → is_closed (after_fin state) ≡ false
 fin_alive In.Established e = refl
 fin_alive In.FinWait1 e = refl
 fin_alive In.FinWait2 e = refl
@@ -36,15 +36,15 @@ ack_of_fin_last In.LastAck e f = refl
 ack_of_fin_last other e f = clash (sym f ∙ e)
 
 -- an acknowledgement that ends a connection is that of the FIN
-record IsLast (b : Block) (by queued : ℕ) : Type 0 where
-  state : b.state ≡ In.LastAck
-  all : (by == unacked b queued) ≡ true
+pub record IsLast (b : Block) (by queued : ℕ) : Type 0 where
+  pub state : b.state ≡ In.LastAck
+  pub all : (by == unacked b queued) ≡ true
 
 and_second : (a b : Bool) → (a && b) ≡ true → b ≡ true
 and_second true b e = e
 and_second false b e = clash (sym e)
 
-is_last : (b : Block) (by queued : ℕ) → is_closed b.state ≡ false → is_closed (state_after_ack b by queued) ≡ true → IsLast b by queued
+pub is_last : (b : Block) (by queued : ℕ) → is_closed b.state ≡ false → is_closed (state_after_ack b by queued) ≡ true → IsLast b by queued
 is_last b by queued alive =
     cond_both (acks_fin b by queued) (after_ack_of_fin b.state) (after_ack b.state) (λ (state : State). is_closed state ≡ true → IsLast b by queued)
     (λ all closed.

@@ -52,7 +52,7 @@ none_sent p side r mine none =
     least top all e f = omega arith
 
 -- what comes of one side leaves that side as it is
-come_own : (n : ℕ) (from : Side) (k : ℕ) (p : PairValue) → socket_of (comes n from k p) from ≡ socket_of p from
+pub come_own : (n : ℕ) (from : Side) (k : ℕ) (p : PairValue) → socket_of (comes n from k p) from ≡ socket_of p from
 come_own zero from k p = refl
 come_own (suc n) from k p = come_own n from (suc k) (takes p (Deliver from k)) ∙ one from where
   one : (from : Side) → socket_of (takes p (Deliver from k)) from ≡ socket_of p from

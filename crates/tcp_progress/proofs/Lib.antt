@@ -59,6 +59,7 @@ pub mod Talks
 pub mod Spoken
 pub mod Hears
 pub mod Patient
+pub mod EndsTold
 pub mod Updates
 pub mod Loads
 pub mod Begins

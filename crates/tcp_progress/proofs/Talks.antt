@@ -429,7 +429,7 @@ text_first :
 text_first left text fin had written closed a b c d e = omega arith
 
 -- what was taken begins what was written
-taken_least : (p : PairValue) (side : Side) → IsReached p → length (taken_list p (other side)) ≤ length (written p side)
+pub taken_least : (p : PairValue) (side : Side) → IsReached p → length (taken_list p (other side)) ≤ length (written p side)
 taken_least p side r = let safe = safe_side p side r in shorter safe.prefix.0 safe.prefix.1 where
   less : (a b c : ℕ) → a ≡ b + c → b ≤ a
   less a b c e = omega arith
@@ -438,7 +438,7 @@ taken_least p side r = let safe = safe_side p side r in shorter safe.prefix.0 sa
   shorter rest e =
       less (length (written p side)) (length (taken_list p (other side))) (length rest) (sym (ap length e) ∙ length-append (taken_list p (other side)) rest)
 
-some_taken : (t : Bool) → 1 ≤ one_if t → t ≡ true
+pub some_taken : (t : Bool) → 1 ≤ one_if t → t ≡ true
 some_taken true e = refl
 some_taken false e = absurd (omega arith)
 

@@ -141,7 +141,7 @@ total_same p q side c =
     ∙ ap (λ (t : Bool). length (written p side) + one_if t) it.ended
 
 -- what was taken stays so
-taken_still : (p q : PairValue) (side : Side) → BothCalm p q → IsTaken p side → IsTaken q side
+pub taken_still : (p q : PairValue) (side : Side) → BothCalm p q → IsTaken p side → IsTaken q side
 taken_still p q side c e = record {
   closed = (of_side p q side c).ended ∙ e.closed;
   all =

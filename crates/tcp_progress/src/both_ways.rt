@@ -5,7 +5,6 @@ ghost use Rattle.tcp_pair_model.specs.Safe.{read, written};
 ghost use Rattle.tcp_pair_model.specs.Sides.{other};
 ghost use Rattle.tcp_pair_model.specs.Values.{PairValue, past_at};
 ghost use Rattle.tcp_pair_model.specs.declared.event.Side.{Side};
-ghost use Rattle.tcp_progress.specs.Arrivals.{is_synchronized};
 ghost use Rattle.tcp_progress.specs.BothWays.{AreThere, IsThrough, MayRounds, bound, both_read, rounds_in};
 ghost use Rattle.tcp_progress.specs.Pair.{socket_of};
 ghost use Rattle.tcp_progress.specs.Reached.{IsReached};
@@ -23,17 +22,15 @@ pub fn both_ways_get_through()
 
 /// What a turn asks for follows from the beginning, but for what may fail on the way: of two sides with their connections,
 /// with receive buffers, no user timeout and clocks that don't end, each may have its exchange in every round in which it doesn't
-/// give up, whatever both windows are. So both ways get through; and where neither connection is over by then, the end of each stream that
-/// was closed has come.
+/// give up, whatever both windows are. So both ways get through; and the other has taken the FIN of each stream that was closed, whichever
+/// connection is over by then.
 pub fn two_sides_that_talk_get_through()
     ensures may { (n : ℕ) (p : PairValue) → IsReached p → AreTalking n p → MayTalk n p → MayRounds n p }
     ensures through { (p : PairValue) → IsReached p → AreTalking (bound p) p → MayTalk (bound p) p → (side : Side)
         → IsThrough (rounds_in (bound p) p) side }
     ensures read { (p : PairValue) → IsReached p → AreTalking (bound p) p → MayTalk (bound p) p → (side : Side)
         → read (both_read (rounds_in (bound p) p)) (other side) ≡ written p side }
-    ensures ends { (p : PairValue) → IsReached p → AreTalking (bound p) p → MayTalk (bound p) p → (side : Side)
-        → is_synchronized (socket_of (rounds_in (bound p) p) side).block.state ≡ true
-        → is_synchronized (socket_of (rounds_in (bound p) p) (other side)).block.state ≡ true → (past_at p side).closed ≡ true
+    ensures ends { (p : PairValue) → IsReached p → AreTalking (bound p) p → MayTalk (bound p) p → (side : Side) → (past_at p side).closed ≡ true
         → (socket_of (rounds_in (bound p) p) (other side)).block.receiver.took_fin ≡ true }
 {}
 
@@ -45,8 +42,6 @@ pub fn two_sides_with_tries_left_get_through()
     ensures through { (p : PairValue) → IsReached p → AreTalking (bound p) p → HaveTries p → (side : Side) → IsThrough (rounds_in (bound p) p) side }
     ensures read { (p : PairValue) → IsReached p → AreTalking (bound p) p → HaveTries p → (side : Side)
         → read (both_read (rounds_in (bound p) p)) (other side) ≡ written p side }
-    ensures ends { (p : PairValue) → IsReached p → AreTalking (bound p) p → HaveTries p → (side : Side)
-        → is_synchronized (socket_of (rounds_in (bound p) p) side).block.state ≡ true
-        → is_synchronized (socket_of (rounds_in (bound p) p) (other side)).block.state ≡ true → (past_at p side).closed ≡ true
+    ensures ends { (p : PairValue) → IsReached p → AreTalking (bound p) p → HaveTries p → (side : Side) → (past_at p side).closed ≡ true
         → (socket_of (rounds_in (bound p) p) (other side)).block.receiver.took_fin ≡ true }
 {}

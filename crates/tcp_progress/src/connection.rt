@@ -6,7 +6,6 @@ ghost use Rattle.tcp_pair_model.specs.Sides.{other};
 ghost use Rattle.tcp_pair_model.specs.Values.{PairValue, past_at};
 ghost use Rattle.tcp_pair_model.specs.declared.event.PairEvent.{PairEvent};
 ghost use Rattle.tcp_pair_model.specs.declared.event.Side.{Side};
-ghost use Rattle.tcp_progress.specs.Arrivals.{is_synchronized};
 ghost use Rattle.tcp_progress.specs.BothWays.{IsThrough, bound, both_read, rounds_in};
 ghost use Rattle.tcp_progress.specs.Connection.{Course, MayConverse};
 ghost use Rattle.tcp_progress.specs.Pair.{socket_of};
@@ -14,8 +13,8 @@ ghost use Rattle.tcp_progress.specs.Reached.{IsReached};
 ghost use Rattle.tcp_progress.specs.Talking.{AreTalking, HaveTries};
 
 /// From a call and a listener on, or a handshake that lost its answer or its last acknowledgement, or SYNs that cross: the connection opens, both
-/// users write, and close if they like; then rounds bring all that each wrote to the other's user, and, where neither connection is over by
-/// then, the end of each stream that was closed. Nothing is asked for on the way.
+/// users write, and close if they like; then rounds bring all that each wrote to the other's user, and the end of each stream that was closed.
+/// Nothing is asked for on the way.
 pub fn a_connection_gets_through()
     ensures talking { (p q : PairValue) (side : Side) (course : Course) (calls : List PairEvent) → IsReached p
         → MayConverse p side course calls q → AreTalking (bound q) q }
@@ -26,8 +25,6 @@ pub fn a_connection_gets_through()
     ensures read { (p q : PairValue) (side : Side) (course : Course) (calls : List PairEvent) → IsReached p
         → MayConverse p side course calls q → (of : Side) → read (both_read (rounds_in (bound q) q)) (other of) ≡ written q of }
     ensures ends { (p q : PairValue) (side : Side) (course : Course) (calls : List PairEvent) → IsReached p
-        → MayConverse p side course calls q → (of : Side)
-        → is_synchronized (socket_of (rounds_in (bound q) q) of).block.state ≡ true
-        → is_synchronized (socket_of (rounds_in (bound q) q) (other of)).block.state ≡ true → (past_at q of).closed ≡ true
+        → MayConverse p side course calls q → (of : Side) → (past_at q of).closed ≡ true
         → (socket_of (rounds_in (bound q) q) (other of)).block.receiver.took_fin ≡ true }
 {}

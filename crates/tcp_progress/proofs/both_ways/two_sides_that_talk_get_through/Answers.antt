@@ -1,5 +1,6 @@
 use Rattle.tcp_progress.specs.BothWays.{bound}
-use Rattle.tcp_progress.proofs.Talks.{fin_taken, talks, there}
+use Rattle.tcp_progress.proofs.EndsTold.{end_told}
+use Rattle.tcp_progress.proofs.Talks.{talks, there}
 use Rattle.tcp_progress.proofs.Turns.{all_read_in, through}
 use Rattle.tcp_progress.proofs.both_ways.two_sides_that_talk_get_through.Goals as goal
 
@@ -8,5 +9,5 @@ returns c = record {
   may = talks;
   through = λ p r s m. through p r (there (bound p) p s) (talks (bound p) p r s m);
   read = λ p r s m. all_read_in p r (there (bound p) p s) (talks (bound p) p r s m);
-  ends = fin_taken;
+  ends = end_told;
 }

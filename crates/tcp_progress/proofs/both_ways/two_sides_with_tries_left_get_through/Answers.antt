@@ -1,6 +1,7 @@
 use Rattle.tcp_progress.specs.BothWays.{bound}
+use Rattle.tcp_progress.proofs.EndsTold.{end_told}
 use Rattle.tcp_progress.proofs.Patient.{never_ends, talk_on}
-use Rattle.tcp_progress.proofs.Talks.{fin_taken, talks, there}
+use Rattle.tcp_progress.proofs.Talks.{talks, there}
 use Rattle.tcp_progress.proofs.Turns.{all_read_in, through}
 use Rattle.tcp_progress.proofs.both_ways.two_sides_with_tries_left_get_through.Goals as goal
 
@@ -10,5 +11,5 @@ returns c = record {
   patient = never_ends;
   through = λ p r s t. through p r (there (bound p) p s) (talks (bound p) p r s (talk_on (bound p) p r s t));
   read = λ p r s t. all_read_in p r (there (bound p) p s) (talks (bound p) p r s (talk_on (bound p) p r s t));
-  ends = λ p r s t. fin_taken p r s (talk_on (bound p) p r s t);
+  ends = λ p r s t. end_told p r s (talk_on (bound p) p r s t);
 }

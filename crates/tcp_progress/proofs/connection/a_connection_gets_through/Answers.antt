@@ -1,7 +1,8 @@
 use Rattle.tcp_progress.specs.BothWays.{bound}
+use Rattle.tcp_progress.proofs.EndsTold.{end_told}
 use Rattle.tcp_progress.proofs.Joins.{leads_to, talking_in, tries_in}
 use Rattle.tcp_progress.proofs.Patient.{talk_on}
-use Rattle.tcp_progress.proofs.Talks.{fin_taken, talks, there}
+use Rattle.tcp_progress.proofs.Talks.{talks, there}
 use Rattle.tcp_progress.proofs.Turns.{all_read_in, through}
 use Rattle.tcp_progress.proofs.connection.a_connection_gets_through.Goals as goal
 
@@ -20,5 +21,5 @@ returns c = record {
   ends = λ p q side course calls r m.
       let on = leads_to p q side course calls r m in
       let s = talking_in p q side course calls r m in
-      fin_taken q on s (talk_on (bound q) q on s (tries_in p q side course calls r m));
+      end_told q on s (talk_on (bound q) q on s (tries_in p q side course calls r m));
 }

@@ -1,0 +1,440 @@
+-- Where a connection is over behind rounds, the other has taken its FIN: it was in LAST-ACK, and what ended it acknowledged all.
+use Rattle.std.proofs.Common.{◌≡◌, ◌⊎◌, inl, inr, ℕ, zero, suc, ◌+◌, ◌-◌, ◌%◌, ◌^◌, ◌<◌, ◌≤◌, ◌==◌, ◌&&◌, nat_le, nat_lt, ℤ, Bool, true, false}
+use Rattle.std.proofs.Common.{if◌then◌else◌, List, length, Option, Some, None, refl, sym, ap, ◌∙◌, subst, arith}
+use Rattle.std.proofs.lemmas.Bool.{eqb-true}
+use Rattle.ip_wire.specs.IpRepr.{IpRepr}
+use Rattle.ip_wire.specs.Seq.{distance_of}
+use Rattle.ip_wire.specs.SeqNumber.{SeqNumber}
+use Rattle.ip_wire.specs.TcpHeader.{TcpHeader}
+use Rattle.tcp_tie.specs.Context.{ContextValue}
+use Rattle.tcp_tie.specs.Tie.{IsConnectedAs, Keeps, Past, core_of, is_closed_in, unsent}
+use Rattle.tcp_tie.proofs.Tied.{fits_connected, if_not}
+use Rattle.tcp_rules.specs.Controls.{is_rst}
+use Rattle.tcp_rules.specs.Offsets.{before_by, past_by}
+use Rattle.tcp_rules.specs.OpenOffer.{OpenOffer}
+use Rattle.tcp_rules.specs.State.{State}
+use Rattle.tcp_rules.specs.State.TheVariants as In
+use Rattle.tcp_rules.specs.States.{is_answering, is_closed, owes_fin}
+use Rattle.tcp_rules.proofs.ArrivalCases.{by_arrival, Received, Opening, Content, Drawing, acked_open, heeded, timed}
+use Rattle.tcp_rules.proofs.OrderSteps.{clash}
+use Rattle.tcp_pair_model.specs.Acknowledged.{windowed}
+use Rattle.tcp_pair_model.specs.Arrival.{arrives, waiting_anew}
+use Rattle.tcp_pair_model.specs.Block.{Block}
+use Rattle.tcp_pair_model.specs.Blocks.{one_if}
+use Rattle.tcp_pair_model.specs.Checks.{acknowledgement_check, opening_check, synchronized_check}
+use Rattle.tcp_pair_model.specs.Checks.Check.{Passes, Old, Drops, Draws}
+use Rattle.tcp_pair_model.specs.Offers.{offer_of}
+use Rattle.tcp_pair_model.specs.Retries.{heard}
+use Rattle.tcp_pair_model.specs.Safe.{taken_in as taken_list, written}
+use Rattle.tcp_pair_model.specs.Sides.{other}
+use Rattle.tcp_pair_model.specs.Timestamps.{stamp_taken}
+use Rattle.tcp_pair_model.specs.Value.{TcpValue, Arrived, with_block, unoffered, queued_in}
+use Rattle.tcp_pair_model.specs.Values.{PairSide, PairValue, context_at, past_at}
+use Rattle.tcp_pair_model.specs.declared.event.Side.{Side}
+use Rattle.tcp_pair_model.specs.declared.event.Side.TheVariants.{A, B}
+use Rattle.tcp_progress.specs.Arrivals.{is_synchronized}
+use Rattle.tcp_progress.specs.BothWays.{MayAsk, MayRounds, MayTurn, bound, is_over, roused_in, rounds_in, total_in, turn_in, waits_in, wake_in, woken_in}
+use Rattle.tcp_progress.specs.Exchange.{CanHear, IsOpen, MayReach, left_of, text_of}
+use Rattle.tcp_progress.specs.Pair.{AreMirrored, HasStream, MayReachIn, exchanged_in, left_in, next_sent, offered_in, socket_of}
+use Rattle.tcp_progress.specs.Reached.{IsReached}
+use Rattle.tcp_progress.specs.Sent.{is_early, taken_in}
+use Rattle.tcp_progress.specs.Talking.{AreTalking, MayTalk}
+use Rattle.tcp_progress.proofs.Closes.{IsLast, fin_alive, is_last}
+use Rattle.tcp_progress.proofs.Hears.{come_own}
+use Rattle.tcp_progress.proofs.Kept.{reached_keeps}
+use Rattle.tcp_progress.proofs.Mirrored.{connected_mirrored}
+use Rattle.tcp_progress.proofs.Offered.{GoesOut}
+use Rattle.tcp_progress.proofs.Pair.{HasLess, Moved, had_in, late_in, not_closed, out, partner_after, reached_comes, reaches}
+use Rattle.tcp_progress.proofs.Positions.{IsPlaced, connected_in, next_small, placed, una_small}
+use Rattle.tcp_progress.proofs.Roused.{roused_calm, roused_reached}
+use Rattle.tcp_progress.proofs.SentPairs.{reached_took}
+use Rattle.tcp_progress.proofs.Talks.{BothStay, both_on, fin_taken, late_at, of, some_taken, stay, taken_least, talks, there}
+use Rattle.tcp_progress.proofs.Turns.{BothFine, Ended, IsTaken, ends, last_took, late_on, taken_still, turned}
+use Rattle.tcp_progress.proofs.Ways.{BothCalm, balance, exchanged}
+
+-- AN ACKNOWLEDGEMENT THAT ENDS A CONNECTION
+
+-- it names the number behind all that isn't acknowledged
+record AcksAll (v : TcpValue) (header : TcpHeader) : Type 0 where
+  number : SeqNumber
+  acknowledges : header.ack_number ≡ Some number
+  far : distance_of v.block.sender.una number ≡ left_of v
+
+passes_by : (b : Block) (past before by : ℕ) → synchronized_check b past before ≡ Passes by → past ≡ by
+passes_by b past before by =
+    tested (nat_lt b.sender.top past) ((past == 0) && nat_le b.sender.past_iss before) (before == 0) (nat_lt b.peer.largest_window before)
+  where
+    one : Passes past ≡ Passes by → past ≡ by
+    one e = cc
+
+    tested :
+        (more none first distant : Bool)
+        → (if more then Draws else if none then Drops else if first then Passes past else if distant then Draws else Old) ≡ Passes by → past ≡ by
+    tested true none first distant e = absurd (cc)
+    tested false true first distant e = absurd (cc)
+    tested false false true distant e = one e
+    tested false false false true e = absurd (cc)
+    tested false false false false e = absurd (cc)
+
+-- so far past SND.UNA, where that is a position at least
+past_far : (una number : SeqNumber) (by : ℕ) → 1 ≤ by → past_by una number ≡ by → distance_of una number ≡ by
+past_far una number by some = at (nat_lt (distance_of una number) (2 ^ 31)) where
+  none : (n : ℕ) → 1 ≤ n → 0 ≡ n → ⊥
+  none n e f = absurd (omega arith)
+
+  at : (near : Bool) → (if near then distance_of una number else 0) ≡ by → distance_of una number ≡ by
+  at true e = e
+  at false e = absurd (none by some e)
+
+acks_all : (v : TcpValue) (header : TcpHeader) (by : ℕ) → IsLast v.block by (queued_in v) → acknowledgement_check v.block header.ack_number ≡ Passes by
+    → AcksAll v header
+acks_all v header by last = named header.ack_number refl where
+  all : by ≡ left_of v
+  all = eqb-true by (left_of v) last.all
+
+  some : 1 ≤ by
+  some =
+      more (one_if v.block.sender.syn_unacked) (queued_in v) by
+      (all ∙ ap (λ (state : State). one_if v.block.sender.syn_unacked + queued_in v + one_if (owes_fin state)) last.state)
+    where
+      more : (syn queued by : ℕ) → by ≡ syn + queued + 1 → 1 ≤ by
+      more syn queued by e = omega arith
+
+  named : (ack : Option SeqNumber) → header.ack_number ≡ ack → acknowledgement_check v.block ack ≡ Passes by → AcksAll v header
+  named None e f = absurd (cc)
+  named (Some number) e f = record {
+    number = number;
+    acknowledges = e;
+    far =
+        past_far v.block.sender.una number by some
+        (passes_by v.block (past_by v.block.sender.una number) (before_by v.block.sender.una number) by
+        (sym
+        (if_not (is_answering v.block.state) (opening_check (distance_of v.block.sender.una number))
+        (synchronized_check v.block (past_by v.block.sender.una number) (before_by v.block.sender.una number))
+        (ap is_answering last.state))
+        ∙ f))
+        ∙ all;
+  }
+
+module _ (cx : ContextValue) (ip : IpRepr) (header : TcpHeader) (bytes : List ℕ) (v : TcpValue) (late : is_early v.block.state ≡ false)
+    (alive : is_closed v.block.state ≡ false) (plain : is_rst header.control ≡ false) where
+  abbrev Closing : Arrived → Type 0
+  Closing a = is_closed a.socket.block.state ≡ true → AcksAll v header
+
+  open_drawing : (x : TcpValue) → is_closed x.block.state ≡ false → Drawing cx ip header bytes Closing x
+  open_drawing x on = record { answers = λ _ e. clash (sym e ∙ on); at_once = λ e. clash (sym e ∙ on); pauses = λ e. clash (sym e ∙ on) }
+
+  open_content : (x : TcpValue) → is_closed x.block.state ≡ false → Content cx ip header bytes Closing x
+  open_content x on = record {
+    plain = λ e. clash (sym e ∙ on);
+    fin = λ _ _ e. clash (sym e ∙ fin_alive x.block.state on);
+    ordered = λ _ _ _ _ e. clash (sym e ∙ on);
+    ordered_fin = λ _ _ _ _ e. clash (sym e ∙ fin_alive x.block.state on);
+    early = λ _ _ _ _ e. clash (sym e ∙ on);
+  }
+
+  open_received : Received cx ip header bytes Closing (unoffered v)
+  open_received = record {
+    stays = λ e. clash (sym e ∙ alive);
+    refuses = λ e. clash (sym e ∙ alive);
+    draws = open_drawing (unoffered v) alive;
+    falls = λ rst _ _. clash (sym rst ∙ plain);
+    ends = λ rst _ _. clash (sym rst ∙ plain);
+    closes = λ by passes closed _. acks_all v header by (is_last v.block by (queued_in v) alive closed) passes;
+    taken = λ by _ on.
+        open_content
+        (heeded cx.moment header (length bytes) (unoffered v) by (acked_open (timed cx.moment header (unoffered v) by) by cx.moment).block) on;
+    taken_window = λ by _ on.
+        open_content
+        (heeded cx.moment header (length bytes) (unoffered v) by
+        (windowed (acked_open (timed cx.moment header (unoffered v) by) by cx.moment).block header))
+        on;
+    news = λ by _ on. open_drawing (waiting_anew (acked_open (timed cx.moment header (unoffered v) by) by cx.moment) header cx.moment) on;
+    outside = open_drawing (waiting_anew (unoffered v) header cx.moment) alive;
+    old = λ _. open_content (with_block (unoffered v) (stamp_taken (heard v.block) header cx.moment)) alive;
+  }
+
+  open_opening : Opening cx ip header bytes Closing (unoffered v)
+  open_opening = record {
+    opens = λ at _. clash (sym (ap is_early at) ∙ late);
+    refuses = λ e. clash (sym e ∙ alive);
+    ends = λ at. clash (sym (ap is_early at) ∙ late);
+    connects = λ at _. clash (sym (ap is_early at) ∙ late);
+    crosses = λ at _. clash (sym (ap is_early at) ∙ late);
+  }
+
+  closes_all : is_closed (arrives cx v ip header bytes).socket.block.state ≡ true → AcksAll v header
+  closes_all = by_arrival cx ip header bytes Closing v (λ e. clash (sym e ∙ alive)) (λ _. open_opening) (λ _. open_received)
+
+-- IN LAST-ACK
+
+-- all of a side was taken, where RCV.NXT of the other lies behind it
+all_taken :
+    (x : PairValue) (side : Side) → IsReached x → HasStream (past_at x side) → is_synchronized (socket_of x side).block.state ≡ true
+    → is_synchronized (socket_of x (other side)).block.state ≡ true → (socket_of x side).block.state ≡ In.LastAck → had_in x side ≡ left_in x side
+    → IsTaken x side
+all_taken x side r stream mine theirs last had = record {
+  closed = sym (ap (λ (p : Past). p.closed) k.past) ∙ (f.closed ∙ ap is_closed_in last);
+  all = by (left_in x side) (taken_in x (other side)) (had_in x side) (total_in x side) (balance x side r stream mine theirs).sum had;
+}
+  where
+    v : TcpValue
+    v = socket_of x side
+
+    k : Keeps v (past_at x side) (socket_of x (other side)) (past_at x (other side))
+    k = reached_keeps x side r
+
+    f : IsConnectedAs (core_of v) (unsent k.side)
+    f = fits_connected v.block.state (core_of v) (unsent k.side) (connected_in v.block.state mine) k.fits
+
+    by : (left came had total : ℕ) → left + came ≡ had + total → had ≡ left → total ≤ came
+    by left came had total a b = omega arith
+
+all_had : (left came had total : ℕ) → left + came ≡ had + total → had ≤ left → total ≤ came → had ≡ left
+all_had left came had total a b c = omega arith
+
+-- A side has taken all that the other ever sent: RCV.NXT lies behind it.
+other_had :
+    (x : PairValue) (side : Side) → IsReached x → HasStream (past_at x (other side)) → is_synchronized (socket_of x side).block.state ≡ true
+    → is_synchronized (socket_of x (other side)).block.state ≡ true → (socket_of x side).block.state ≡ In.LastAck
+    → distance_of (socket_of x (other side)).block.sender.una (socket_of x side).block.receiver.next ≡ left_in x (other side)
+other_had x A r stream mine theirs last =
+    let b = balance x B r stream theirs mine in
+    all_had (left_in x B) (taken_in x A) (had_in x B) (total_in x B) b.sum b.within (last_took x B r mine last).all
+other_had x B r stream mine theirs last =
+    let b = balance x A r stream theirs mine in
+    all_had (left_in x A) (taken_in x B) (had_in x A) (total_in x A) b.sum b.within (last_took x A r mine last).all
+
+-- so it hears what the other answers
+hears_last :
+    (x : PairValue) (side : Side) → IsReached x → IsOpen (socket_of x side).block → IsOpen (socket_of x (other side)).block
+    → HasStream (past_at x (other side)) → (socket_of x side).block.state ≡ In.LastAck → CanHear (socket_of x side) (socket_of x (other side))
+hears_last x side r mine theirs stream last =
+    inl
+    (inl
+    (none_behind (distance_of w.block.sender.una v.block.receiver.next) w.block.sender.top (left_of w) w.block.sender.una.0 v.block.receiver.next.0 refl
+    (other_had x side r stream mine.synchronized theirs.synchronized last) b.top (reached_took x side r mine theirs).heard (una_small w k.partner b)
+    (next_small v k.side a)))
+  where
+    v : TcpValue
+    v = socket_of x side
+
+    w : TcpValue
+    w = socket_of x (other side)
+
+    k : Keeps v (past_at x side) w (past_at x (other side))
+    k = reached_keeps x side r
+
+    a : IsPlaced v k.side
+    a = placed v k.side k.fits k.holds.0.well_formed mine.synchronized
+
+    b : IsPlaced w k.partner
+    b = placed w k.partner k.partner_fits k.holds.1.well_formed theirs.synchronized
+
+    none_behind :
+        (far top left una next : ℕ) → far ≡ (next + (2 ^ 32 - una)) % 2 ^ 32 → far ≡ left → top ≤ left → far ≤ top → una < 2 ^ 32 → next < 2 ^ 32
+        → ((una + top) % 2 ^ 32 + (2 ^ 32 - next)) % 2 ^ 32 ≡ 0
+    none_behind far top left una next a b c d e f = omega arith
+
+-- A TURN
+
+-- what a side sends ends the other's connection: it acknowledges all
+module _ (side : Side) (s r : PairSide) (moment : ℤ) (m : AreMirrored s.socket.block r.socket.block) (o : OpenOffer)
+    (may : MayReach (context_at side (record s { moment = moment })) (context_at (other side) r) s.socket r.socket o) where
+  same_number : (a b : SeqNumber) → Some a ≡ Some b → a ≡ b
+  same_number a b e = cc
+
+  goes : GoesOut s.socket (offer_of (context_at side (record s { moment = moment })) s.socket).socket o
+  goes = out side s r moment m o may
+
+  acked_there : is_closed (partner_after side s r moment).socket.block.state ≡ true →
+      distance_of r.socket.block.sender.una s.socket.block.receiver.next ≡ left_of r.socket
+  acked_there over =
+      subst (λ (n : SeqNumber). distance_of r.socket.block.sender.una n ≡ left_of r.socket)
+      (same_number it.number s.socket.block.receiver.next (sym it.acknowledges ∙ goes.acknowledges)) it.far
+    where
+      it : AcksAll r.socket o.segment
+      it =
+          closes_all (context_at (other side) r) o.header o.segment (text_of s.socket o) r.socket
+          (late_in r.socket.block.state may.theirs.synchronized) (not_closed r.socket.block.state may.theirs.synchronized) goes.no_reset
+          (sym (ap (λ (t : PairSide). is_closed t.socket.block.state) (reaches side s r moment m o may)) ∙ over)
+
+other_taken :
+    (x : PairValue) (side : Side) (moment : ℤ) (o : OpenOffer) → IsReached x → HasStream (past_at x (other side)) → MayReachIn x side moment o
+    → (socket_of x (other side)).block.state ≡ In.LastAck → is_closed (socket_of (exchanged_in x side moment) (other side)).block.state ≡ true
+    → IsTaken x (other side)
+other_taken x A moment o r stream may last over =
+    all_taken x B r stream may.theirs.synchronized may.own.synchronized last
+    (acked_there A x.sides.a x.sides.b moment (connected_mirrored x A r may.own.synchronized may.theirs.synchronized) o may
+    (sym
+    (ap (λ (v : TcpValue). is_closed v.block.state)
+    (come_own (next_sent (offered_in x A moment) B - next_sent x B) B (next_sent x B) (offered_in x A moment)))
+    ∙ over))
+other_taken x B moment o r stream may last over =
+    all_taken x A r stream may.theirs.synchronized may.own.synchronized last
+    (acked_there B x.sides.b x.sides.a moment (connected_mirrored x B r may.own.synchronized may.theirs.synchronized) o may
+    (sym
+    (ap (λ (v : TcpValue). is_closed v.block.state)
+    (come_own (next_sent (offered_in x B moment) A - next_sent x A) A (next_sent x A) (offered_in x B moment)))
+    ∙ over))
+
+abbrev is_in_last_ack : State → Bool
+is_in_last_ack In.LastAck = true
+is_in_last_ack other = false
+
+in_last_ack : (state : State) → is_in_last_ack state ≡ true → state ≡ In.LastAck
+in_last_ack In.LastAck e = refl
+in_last_ack other e = clash (sym e)
+
+-- the other took all of a side that is over
+abbrev IsFinished : PairValue → Side → Type 0
+IsFinished p side = is_over p side ≡ true → IsTaken p side
+
+record BothFinished (p : PairValue) : Type 0 where
+  a : IsFinished p A
+  b : IsFinished p B
+
+finished_of : (p : PairValue) (side : Side) → BothFinished p → IsFinished p side
+finished_of p A f = f.a
+finished_of p B f = f.b
+
+both_finished : (p : PairValue) (side : Side) → IsFinished p side → IsFinished p (other side) → BothFinished p
+both_finished p A mine theirs = record { a = mine; b = theirs }
+both_finished p B mine theirs = record { a = theirs; b = mine }
+
+module _ (p : PairValue) (side : Side) (r : IsReached p) (s : BothStay p) (m : MayAsk p side) where
+  abbrev x : PairValue
+  x = roused_in p side
+
+  abbrev t : ℤ
+  t = wake_in x side
+
+  abbrev q : PairValue
+  q = woken_in p side
+
+  rx : IsReached x
+  rx = roused_reached p side r m.rouses
+
+  sx : BothStay x
+  sx = both_on p x (roused_calm p side s.late) s
+
+  may : MayReachIn x side t m.o
+  may = m.reaches
+
+  mine : is_synchronized (socket_of x side).block.state ≡ true
+  mine = may.own.synchronized
+
+  theirs : is_synchronized (socket_of x (other side)).block.state ≡ true
+  theirs = may.theirs.synchronized
+
+  since : BothCalm x q
+  since = exchanged x side t sx.late
+
+  abbrev Else : Type 0
+  Else = is_in_last_ack (socket_of x side).block.state ≡ false
+
+  hears : CanHear (socket_of x side) (socket_of x (other side)) ⊎ Else
+  hears = by (is_in_last_ack (socket_of x side).block.state) refl where
+    by : (last : Bool) → is_in_last_ack (socket_of x side).block.state ≡ last → CanHear (socket_of x side) (socket_of x (other side)) ⊎ Else
+    by true e =
+        inl (hears_last x side rx may.own may.theirs (of x (other side) sx).stream (in_last_ack (socket_of x side).block.state e))
+    by false e = inr e
+
+  moved : Moved Else x side t
+  moved = reached_comes x side t m.o rx m.stream may hears
+
+  own_finished : IsFinished q side
+  own_finished over = by moved.less where
+    last : ((socket_of x side).block.state ≡ In.LastAck) × (left_in q side ≡ 0)
+    last = moved.heard.closes over
+
+    whole : (new had left : ℕ) → new + had ≡ left → new ≡ 0 → had ≡ left
+    whole new had left e f = omega arith
+
+    by : HasLess x q side ⊎ Else → IsTaken q side
+    by (inl (inl h)) = clash (sym over ∙ (ap is_closed h.state ∙ not_closed (socket_of x side).block.state mine))
+    by (inl (inr (inl h))) =
+        taken_still x q side since
+        (all_taken x side rx m.stream mine theirs last.0 (whole (left_in q side) (had_in x side) (left_in x side) h.left last.1))
+    by (inl (inr (inr over_there))) =
+        taken_still x q side since (last_took x side rx theirs (moved.heard.closes_other over_there).0)
+    by (inr not_last) = clash (sym (ap is_in_last_ack last.0) ∙ not_last)
+
+  other_finished : IsFinished q (other side)
+  other_finished over =
+      taken_still x q (other side) since
+      (other_taken x side t m.o rx (of x (other side) sx).stream may (moved.heard.closes_other over).0 over)
+
+  woken_finished : BothFinished q
+  woken_finished = both_finished q side own_finished other_finished
+
+turn_finished : (p : PairValue) (side : Side) → IsReached p → BothStay p → MayTurn p side → BothFinished p → BothFinished (turn_in p side)
+turn_finished p side r s m f = at (waits_in p side) refl where
+  at : (waits : Bool) → waits_in p side ≡ waits → BothFinished (if waits then woken_in p side else p)
+  at true e = woken_finished p side r s (m e)
+  at false e = f
+
+-- ROUNDS
+
+rounds_finished : (n : ℕ) (p : PairValue) → IsReached p → BothStay p → MayRounds n p → BothFinished p → BothFinished (rounds_in n p)
+rounds_finished zero p r s m f = f
+rounds_finished (suc n) p r s m f =
+    let h = turn_in p A in
+    let a = turned (Unit {0}) p A r s.late m.0 (λ _. inr tt) in
+    let sh = both_on p h a.calm s in
+    let q = turn_in h B in
+    let b = turned (Unit {0}) h B a.reached sh.late m.1 (λ _. inr tt) in
+    rounds_finished n q b.reached (both_on h q b.calm sh) m.2 (turn_finished h B a.reached sh m.1 (turn_finished p A r s m.0 f))
+
+-- who took all took the FIN
+took_fin_of : (p : PairValue) (side : Side) → IsReached p → IsTaken p side → (socket_of p (other side)).block.receiver.took_fin ≡ true
+took_fin_of p side r t =
+    some_taken (socket_of p (other side)).block.receiver.took_fin
+    (by (length (written p side)) (length (taken_list p (other side))) (one_if (socket_of p (other side)).block.receiver.took_fin)
+    (taken_least p side r)
+    (subst
+    (λ (closed : Bool). length (written p side) + one_if closed
+    ≤ length (taken_list p (other side)) + one_if (socket_of p (other side)).block.receiver.took_fin) t.closed t.all))
+  where
+    by : (written taken fin : ℕ) → taken ≤ written → written + 1 ≤ taken + fin → 1 ≤ fin
+    by written taken fin a b = omega arith
+
+-- whoever is over by then
+pub end_told :
+    (p : PairValue) (r : IsReached p) (s : AreTalking (bound p) p) (talk : MayTalk (bound p) p) (side : Side) → (past_at p side).closed ≡ true
+    → (socket_of (rounds_in (bound p) p) (other side)).block.receiver.took_fin ≡ true
+end_told p r s talk side closed = by (is_over q side) (is_over q (other side)) refl refl where
+  q : PairValue
+  q = rounds_in (bound p) p
+
+  m : MayRounds (bound p) p
+  m = talks (bound p) p r s talk
+
+  it : Ended p q
+  it = ends p r (there (bound p) p s) m
+
+  stays : BothStay q
+  stays = both_on p q it.calm (stay (bound p) p s)
+
+  never_over : {X : Type 0} (side : Side) → is_over p side ≡ true → X
+  never_over A over = clash (sym over ∙ not_closed p.sides.a.socket.block.state s.a.own.synchronized)
+  never_over B over = clash (sym over ∙ not_closed p.sides.b.socket.block.state s.b.own.synchronized)
+
+  finished : BothFinished q
+  finished =
+      rounds_finished (bound p) p r (stay (bound p) p s) m (record { a = λ over. never_over A over; b = λ over. never_over B over })
+
+  fine : BothFine q
+  fine = it.fine (record { a = λ over. never_over A over; b = λ over. never_over B over })
+
+  taken_by : (side : Side) → is_over q (other side) ≡ true → IsTaken q side
+  taken_by A over = (fine.b over).1
+  taken_by B over = (fine.a over).1
+
+  there_still : (side : Side) → is_over q side ≡ false → is_synchronized (socket_of q side).block.state ≡ true
+  there_still side alive = late_on (socket_of q side).block.state (late_at q side stays) alive
+
+  by : (mine theirs : Bool) → is_over q side ≡ mine → is_over q (other side) ≡ theirs → (socket_of q (other side)).block.receiver.took_fin ≡ true
+  by true _ e f = took_fin_of q side it.reached (finished_of q side finished e)
+  by false true e f = took_fin_of q side it.reached (taken_by side f)
+  by false false e f = fin_taken p r s talk side (there_still side e) (there_still (other side) f) closed
