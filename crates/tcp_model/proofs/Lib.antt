@@ -8,3 +8,4 @@ pub mod Resets
 pub mod Drawing
 pub mod Holes
 pub mod Undone
+pub mod Una

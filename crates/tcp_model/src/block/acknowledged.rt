@@ -1,6 +1,8 @@
 //! The acknowledgement and the window of an accepted segment.
-ghost use Rattle.std.specs.Prelude.{◌≡◌, ◌≤◌, ◌<◌, ◌^◌, IfSome};
+ghost use Rattle.std.specs.Prelude.{◌≡◌, ◌≤◌, ◌<◌, ◌^◌, IfSome, if◌then◌else◌};
 ghost use Rattle.net_base.specs.Time.{IsMoment};
+ghost use Rattle.tcp_control.specs.Reno.{started};
+ghost use Rattle.tcp_control.specs.RoundTrip.{begun_late};
 ghost use Rattle.tcp_model.specs.Acknowledged.{freed_by, sender_moved, retransmit_after, acks_own_syn, acks_in_recovery, is_partial, round_trip_after};
 ghost use Rattle.tcp_model.specs.Acknowledged.{recovery_after, reno_after, una_moved, acks_fin, state_after_ack, in_state, block_acknowledged, scaled};
 ghost use Rattle.tcp_model.specs.Acknowledged.{acks_no_less, or_number, names_window, windowed, window_set, end_past, highest_end, sacked_by, ranges_taken};
@@ -103,14 +105,14 @@ impl Block {
         ensures { self.new ≡ una_risen self.old by queued now }
     {
         let blind = self.is_blind(by, partial);
-        let again = self.sender.partial && blind;
-        let first = partial && self.loss.resent.saturating_sub(by) == 0;
+        let again = self.sender.partial & blind;
+        let first = partial & (self.loss.resent.saturating_sub(by) == 0);
         let validation = self.validation_after(by, now);
         self.time_una(by, queued, now);
         self.validation = validation;
         self.move_sender(by);
-        self.sender.resend = self.sender.resend || first;
-        self.sender.partial = self.sender.partial || blind;
+        self.sender.resend |= first;
+        self.sender.partial |= blind;
         self.timers.retransmit_at = self.retransmit_after(by, again, now);
     }
 
@@ -183,14 +185,22 @@ impl Block {
     {
         let freed = self.freed_by(by, queued);
         self.round_trip.advance(by, now, self.settings.fine_timer);
-        if !self.acks_own_syn(by) {
-            if self.acks_in_recovery(by) {
-                self.recover_una(by, freed, queued);
-            } else {
-                self.grow_if_used(freed, now);
-            }
-            return;
+        if self.acks_own_syn(by) {
+            self.begin();
+        } else if self.acks_in_recovery(by) {
+            self.recover_una(by, freed, queued);
+        } else {
+            self.grow_if_used(freed, now);
         }
+    }
+
+    /// The connection begins, maybe after its SYN was lost.
+    fn begin(&mut self)
+        ensures { self.new ≡ record self.old {
+          round_trip = if self.old.sender.syn_lost then begun_late self.old.round_trip else self.old.round_trip;
+          reno = started self.old.reno self.old.sender.syn_lost;
+        } }
+    {
         self.reno.start(self.sender.syn_lost);
         if self.sender.syn_lost {
             self.round_trip.begin_late();
@@ -211,11 +221,11 @@ impl Block {
         let stays = by == 0;
         self.sender.una = behind_by(self.sender.una, by as usize);
         self.sender.past_iss = self.sender.past_iss.saturating_add(by);
-        self.sender.syn_unacked = self.sender.syn_unacked && stays;
+        self.sender.syn_unacked &= stays;
         self.sender.in_flight = self.sender.in_flight.saturating_sub(by);
         self.sender.top = self.sender.top.saturating_sub(by);
         self.sender.sacked = self.sender.sacked.saturating_sub(by);
-        self.sender.resend = self.sender.resend && stays;
+        self.sender.resend &= stays;
         self.sender.recover = self.sender.recover.saturating_sub(by);
         self.sender.timeouts = 0;
         self.sender.unanswered = 0;
@@ -418,8 +428,8 @@ impl Block {
         }
         self.count_reno(count, begins, again);
         self.sender.duplicates = count;
-        self.sender.resend = self.sender.resend || third || begins;
-        self.sender.partial = self.sender.partial && !begins;
+        self.sender.resend |= third | begins;
+        self.sender.partial &= !begins;
         if begins {
             self.sender.recover = self.past_top();
         }

@@ -1,6 +1,7 @@
 //! Loss recovery by selective acknowledgements, and loss probes.
-ghost use Rattle.std.specs.Prelude.{◌≡◌, ◌≤◌, ◌<◌, ◌^◌};
+ghost use Rattle.std.specs.Prelude.{◌≡◌, ◌+◌, ◌≤◌, ◌<◌, ◌^◌, nat_le, nat_lt, min};
 ghost use Rattle.net_base.specs.Time.{IsMoment};
+ghost use Rattle.tcp_control.specs.Scoreboard.{missing, lost_end};
 ghost use Rattle.tcp_model.specs.Blocks.{fresh_loss};
 ghost use Rattle.tcp_model.specs.LossRecovery.{with_board, after_wait, probe_from, probes_losses, probe_armed, loss_probe_moment, run_within, run_of};
 ghost use Rattle.tcp_model.specs.LossRecovery.{range_noted, all_noted};
@@ -108,11 +109,11 @@ impl Block {
             self.reno.reduce(self.sender.in_flight);
             self.loss.resent = 0;
         }
-        self.sender.resend = self.sender.resend || !tail;
+        self.sender.resend |= !tail;
         if begins {
             self.sender.recover = self.past_top();
         }
-        self.sender.partial = self.sender.partial && !begins;
+        self.sender.partial &= !begins;
         self.loss.eager = probe;
         self.loss.probes = tail;
         self.loss.probed = probe;
@@ -258,20 +259,28 @@ impl Block {
         self.loss.patience != 0 && self.peer.sack && !self.loss.eager
     }
 
+    /// How much of what is in flight isn't held below this position.
+    fn missing_below(&self, place: u32) -> u32
+        ensures { result ≡ missing self.now.loss.board.runs (min place self.now.sender.in_flight) }
+    {
+        self.loss.board.missing(place.min(self.sender.in_flight))
+    }
+
+    /// The position behind the last one that is lost.
+    fn lost_end(&self) -> u32
+        ensures { result ≡ lost_end self.now.loss.board.runs (threshold self.now) self.now.reno.mss }
+    {
+        self.loss.board.lost_end(self.threshold(), self.reno.mss())
+    }
+
     /// Pipe in recovery.
     fn pipe_in_recovery(&self) -> u32
         ensures { result ≡ pipe_in_recovery self.now }
     {
-        let flight = self.sender.in_flight;
-        let board = &self.loss.board;
-        let lost = board
-            .lost_end(self.threshold(), self.reno.mss())
-            .min(flight);
-        let again = self.loss.resent.min(flight);
-        board
-            .missing(flight)
-            .saturating_sub(board.missing(lost))
-            .saturating_add(board.missing(again))
+        let missing = self.loss.board.missing(self.sender.in_flight);
+        missing
+            .saturating_sub(self.missing_below(self.lost_end()))
+            .saturating_add(self.missing_below(self.loss.resent))
     }
 
     /// Pipe: how much is on its way, as far as that is known.
@@ -320,19 +329,27 @@ impl Block {
         }
     }
 
+    /// Whether the next hole was sent before this recovery began.
+    fn is_hole_older(&self) -> bool
+        ensures { result ≡ nat_lt (next_hole self.now + 1) self.now.sender.recover }
+    {
+        (self.next_hole() as u64 + 1) < self.sender.recover as u64
+    }
+
+    /// Whether what goes again for a partial acknowledgement has room for a segment beside what went again.
+    fn has_credited_room(&self) -> bool
+        ensures { result ≡ nat_le (missing self.now.loss.board.runs (min self.now.loss.resent self.now.sender.in_flight) + self.now.reno.mss) (credited_window self.now) }
+    {
+        self.missing_below(self.loss.resent) as u64 + self.reno.mss() as u64
+            <= self.credited_window() as u64
+    }
+
     /// Whether the next hole was sent before this recovery began, a partial acknowledgement lets a segment
     /// go there, and the congestion window has room for it beside what went again.
     fn mends_credited(&self) -> bool
         ensures { result ≡ mends_credited self.now }
     {
-        if self.loss.credit == 0 || self.next_hole() as u64 + 1 >= self.sender.recover as u64 {
-            return false;
-        }
-        let again = self
-            .loss
-            .board
-            .missing(self.loss.resent.min(self.sender.in_flight));
-        again as u64 + self.reno.mss() as u64 <= self.credited_window() as u64
+        self.loss.credit != 0 && self.is_hole_older() && self.has_credited_room()
     }
 
     /// Whether a segment goes into the next hole.
@@ -452,7 +469,7 @@ impl Loss {
         self.credit = if partial && self.resent != 0 { 2 } else { 0 };
         self.resent = self.resent.saturating_sub(by);
         self.mark = self.mark.saturating_sub(by);
-        self.eager = self.eager && partial;
+        self.eager &= partial;
         self.probes = false;
         self.probed = false;
         self.rescue = self.rescue.saturating_sub(by);

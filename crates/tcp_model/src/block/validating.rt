@@ -1,5 +1,5 @@
 //! Congestion window validation.
-ghost use Rattle.std.specs.Prelude.{◌≡◌, ◌≤◌, ◌/◌};
+ghost use Rattle.std.specs.Prelude.{◌≡◌, ◌<◌, ◌≤◌, ◌/◌, ◌^◌};
 ghost use Rattle.net_base.specs.Time.{IsMoment};
 ghost use Rattle.tcp_control.specs.RoundTrip.{srtt};
 ghost use Rattle.tcp_model.specs.Validation.{is_used, grown_if_used, validates, validation_after, periods, periods_ended, text_went};
@@ -42,13 +42,21 @@ impl Block {
         self.reno.window() as u64 <= 2 * self.validation.flight as u64
     }
 
+    /// SRTT in whole milliseconds.
+    fn srtt_millis(&self) -> u64
+        ensures value { result ≡ srtt self.now.round_trip / 1000 }
+        ensures small { result < 2 ^ 52 }
+    {
+        self.round_trip.smoothed() / 1000
+    }
+
     /// So many bytes of the window are acknowledged now, outside of fast recovery: it grows if it is used.
     pub fn grow_if_used(&mut self, count: usize, now: Instant)
         requires { IsMoment now }
         ensures { self.new ≡ record self.old { reno = grown_if_used self.old count now (srtt self.old.round_trip / 1000) } }
     {
         if self.is_used() {
-            let rtt = self.round_trip.smoothed() / 1000;
+            let rtt = self.srtt_millis();
             self.reno.acknowledged(count, now, rtt);
         } else {
             self.reno.preserve(count);
