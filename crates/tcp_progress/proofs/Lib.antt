@@ -74,3 +74,9 @@ pub mod LateText
 pub mod PutOffRuns
 pub mod LateExchange
 pub mod PutOffProbes
+pub mod Mending
+pub mod MendingEvents
+pub mod MendingRuns
+pub mod CourseRuns
+pub mod CourseExchange
+pub mod ProbeGoes

@@ -40,20 +40,20 @@ was_open : (old new : Bool) → (old ≡ true → new ≡ true) → new ≡ fals
 was_open true new e f = clash (sym (e refl) ∙ f)
 was_open false new e f = refl
 
-begun_of : (p : PairValue) (side : Side) → IsBegun p A → IsBegun p B → IsBegun p side
+pub begun_of : (p : PairValue) (side : Side) → IsBegun p A → IsBegun p B → IsBegun p side
 begun_of p A a b = a
 begun_of p B a b = b
 
 -- an event of which more follow, where no more of a side is acknowledged behind them all
-record Step (p q : PairValue) (side : Side) (event : PairEvent) : Type 0 where
-  reached : IsReached (takes p event)
-  a : IsBegun (takes p event) A
-  b : IsBegun (takes p event) B
-  there : is_synchronized (socket_of (takes p event) side).block.state ≡ true
-  una : (socket_of (takes p event) side).block.sender.una ≡ (socket_of p side).block.sender.una
-  acked : acked_in q side ≤ acked_in (takes p event) side
+pub record Step (p q : PairValue) (side : Side) (event : PairEvent) : Type 0 where
+  pub reached : IsReached (takes p event)
+  pub a : IsBegun (takes p event) A
+  pub b : IsBegun (takes p event) B
+  pub there : is_synchronized (socket_of (takes p event) side).block.state ≡ true
+  pub una : (socket_of (takes p event) side).block.sender.una ≡ (socket_of p side).block.sender.una
+  pub acked : acked_in q side ≤ acked_in (takes p event) side
 
-step :
+pub step :
     (p q : PairValue) (side : Side) (event : PairEvent) (events : List PairEvent) → IsReached p → IsBegun p A → IsBegun p B → Steps p (event ∷ events) q
     → is_synchronized (socket_of q side).block.state ≡ true → acked_in q side ≤ acked_in p side → Step p q side event
 step p q side event events r a b s there acked = record {
@@ -149,7 +149,7 @@ runs_through p q side events when r o s there acked runs asked =
 -- WITHIN A MINUTE
 
 -- the side is asked then, or not before
-asked_then : (p : PairValue) (side : Side) (event : PairEvent) (when : ℤ) → RunsOutAt when (socket_of p side) →
+pub asked_then : (p : PairValue) (side : Side) (event : PairEvent) (when : ℤ) → RunsOutAt when (socket_of p side) →
     RunsOutIn p side event ⊎ IsAskedBefore when side event
 asked_then p A (Offer A moment sent) when runs = by (is_due moment (Some when)) refl where
   by : (due : Bool) → is_due moment (Some when) ≡ due → RunsOutIn p A (Offer A moment sent) ⊎ IsAskedBefore when A (Offer A moment sent)
@@ -215,7 +215,7 @@ handed_clock side s (Some x) =
     (λ (t : PairSide). t.moment ≡ s.moment) (λ _. refl) (λ _. refl)
 
 -- it stands, or goes to a moment before that
-abbrev ClockIn : ℤ → ℤ → ℤ → Type 0
+abbrev pub ClockIn : ℤ → ℤ → ℤ → Type 0
 ClockIn when old new = (new ≡ old) ⊎ (is_due new (Some when) ≡ false)
 
 own_clock :
@@ -232,7 +232,7 @@ own_clock s others (Offer side moment true) when e = inr (e refl)
 own_clock s others (Offer side moment false) when e = inr (e refl)
 own_clock s others (Deliver from k) when e = inl (handed_clock (other from) s (slice_get others k))
 
-clock_after : (p : PairValue) (side : Side) (event : PairEvent) (when : ℤ) → IsAskedBefore when side event →
+pub clock_after : (p : PairValue) (side : Side) (event : PairEvent) (when : ℤ) → IsAskedBefore when side event →
     ClockIn when (at p.sides side).moment (at (takes p event).sides side).moment
 clock_after p side event when e =
     by_put (λ (s : PairSide). ClockIn when (at p.sides side).moment s.moment) p.sides (side_of event) side new

@@ -22,3 +22,5 @@ pub mod Connection
 pub mod Bare
 pub mod Onward
 pub mod Late
+pub mod Anew
+pub mod Course

@@ -6,6 +6,7 @@ pub mod both_ways;
 pub mod connection;
 pub mod handshake;
 pub mod late;
+pub mod latency;
 pub mod laws;
 pub mod met;
 pub mod near;

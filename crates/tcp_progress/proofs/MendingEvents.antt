@@ -1,0 +1,493 @@
+-- With each event before its timer runs out a side begins anew at SND.UNA, or fewer positions are left to mend, or nothing mends.
+use Rattle.std.proofs.Common.{◌≡◌, ◌⊎◌, inl, inr, ⊎_elim, ℕ, ◌+◌, ◌-◌, ◌^◌, ◌<◌, ◌≤◌, ◌==◌, ◌&&◌, not, min, max, ℤ, Bool, true, false, if◌then◌else◌}
+use Rattle.std.proofs.Common.{List, [], ◌∷◌, length, take, Option, Some, None, is_some, Result, Ok, Err, slice_get, refl, sym, ap, ◌∙◌, subst, arith}
+use Rattle.std.proofs.lemmas.Bool.{cond_both}
+use Rattle.net_base.specs.Ring.{Ring, anchored, enqueued}
+use Rattle.ip_wire.specs.Tcp.{header_len}
+use Rattle.ip_wire.specs.TcpHeader.{TcpHeader}
+use Rattle.tcp_tie.specs.Context.{ContextValue}
+use Rattle.tcp_tie.specs.Offers.{Offered}
+use Rattle.tcp_model.specs.Reno as reno
+use Rattle.tcp_model.specs.Reno.{RenoValue}
+use Rattle.tcp_model.specs.Settings.{fresh_reno}
+use Rattle.tcp_model.specs.Undo.{undo_sent}
+use Rattle.tcp_model.specs.Blocks.{fresh_window}
+use Rattle.tcp_model.specs.declared.block.CongestionControl.{CongestionControl}
+use Rattle.tcp_model.specs.declared.block.Loss.{Loss}
+use Rattle.tcp_rules.specs.EndpointPair.{EndpointPair}
+use Rattle.tcp_rules.specs.Endpoints.{header_for}
+use Rattle.tcp_rules.specs.Events.{Event, after}
+use Rattle.tcp_rules.specs.InOrder.{sending_of, IsInOrder}
+use Rattle.tcp_rules.specs.Moments.{is_due}
+use Rattle.tcp_rules.specs.OfferKind.{OfferKind}
+use Rattle.tcp_rules.specs.OfferKind.TheVariants as Kind
+use Rattle.tcp_rules.specs.OpenOffer.{OpenOffer}
+use Rattle.tcp_rules.specs.RecvError.{RecvError}
+use Rattle.tcp_rules.specs.Recovery.{recovery_of, IsPaced}
+use Rattle.tcp_rules.specs.State.TheVariants as In
+use Rattle.tcp_rules.specs.States.{is_closed, is_opening, is_time_wait, takes_writes, after_close}
+use Rattle.tcp_rules.specs.Timing.{timing_of, IsTimedRight}
+use Rattle.tcp_rules.proofs.HoleRules.{Believes, believed_of, event_on, nothing_believed}
+use Rattle.tcp_rules.proofs.OfferCases.{FirstRules, by_rules, begun, probing}
+use Rattle.tcp_rules.proofs.OrderRules.{event_order, new_order}
+use Rattle.tcp_rules.proofs.OrderSteps.{clash}
+use Rattle.tcp_rules.proofs.RecoveryRules.{event_paced, new_paced}
+use Rattle.tcp_rules.proofs.TimingRules.{event_right}
+use Rattle.tcp_pair_model.specs.Arrival.{arrives}
+use Rattle.tcp_pair_model.specs.Block.{Block}
+use Rattle.tcp_pair_model.specs.Calls.{connected_by, listening, pair_for, recv_answer, sent_more}
+use Rattle.tcp_pair_model.specs.FirstNumbers.{number_for}
+use Rattle.tcp_pair_model.specs.History.{side_of}
+use Rattle.tcp_pair_model.specs.LossRecovery.{loss_probed}
+use Rattle.tcp_pair_model.specs.Names.{accepts}
+use Rattle.tcp_pair_model.specs.Offers.{number_at, offer_choice, offer_of, offer_segment}
+use Rattle.tcp_pair_model.specs.Rules.{Choice, control_for, probe_choice, resend_choice, resends, text_choice}
+use Rattle.tcp_pair_model.specs.Segments.{ack_segment, hops_of, keep_alive_segment, reset_segment, segment, syn_segment}
+use Rattle.tcp_pair_model.specs.Settled.{end_of, nxt_moved, probed, recorded, sent_as, settled, syn_went, timer_started}
+use Rattle.tcp_pair_model.specs.Sides.{Both, at, other, put}
+use Rattle.tcp_pair_model.specs.Steps.{acting, acts, handed, reads, set_by, taken_at}
+use Rattle.tcp_pair_model.specs.Value.{TcpValue, Arrived, with_block, unoffered, ended, free_in, new_socket, queued_in, room_of, window_of}
+use Rattle.tcp_pair_model.specs.Values.{PairSide, PairValue, context_at, new_pair}
+use Rattle.tcp_pair_model.specs.declared.event.PairEvent.{PairEvent}
+use Rattle.tcp_pair_model.specs.declared.event.PairEvent.TheVariants.{Listen, Connect, Send, Recv, Close, Abort, TcpSetting, Offer, Deliver}
+use Rattle.tcp_pair_model.specs.declared.event.SentSegment.{SentSegment}
+use Rattle.tcp_pair_model.specs.declared.event.Side.{Side}
+use Rattle.tcp_pair_model.specs.declared.event.Side.TheVariants.{A, B}
+use Rattle.tcp_pair_model.specs.declared.event.TcpSetting.{TcpSetting as Setting}
+use Rattle.tcp_pair_model.specs.declared.event.TcpSetting.TheVariants as Set
+use Rattle.tcp_progress.specs.Anew.{BeginsAnew, BeginsAnewIn}
+use Rattle.tcp_progress.specs.Arrivals.{is_synchronized}
+use Rattle.tcp_progress.specs.Exchange.{IsOpen}
+use Rattle.tcp_progress.specs.Pair.{socket_of}
+use Rattle.tcp_progress.specs.PutOff.{IsAskedBefore, Mends, MendsIn, RunsOutAt}
+use Rattle.tcp_progress.specs.Reached.{IsReached}
+use Rattle.tcp_progress.specs.Rounds.{takes}
+use Rattle.tcp_progress.proofs.Events.{of_side, by_steps}
+use Rattle.tcp_progress.proofs.Kept.{reached_keeps}
+use Rattle.tcp_progress.proofs.Mending.{Few, IsSure, Mending, arrival_few, armed_few, asked_few, mended, mending_in, mending_of, probed_few, probed_lasts}
+use Rattle.tcp_progress.proofs.Positions.{IsPlaced, placed}
+
+-- WHAT IS SO OF EACH SOCKET
+
+record IsSteady (v : TcpValue) : Type 0 where
+  order : IsInOrder (sending_of v)
+  right : IsTimedRight (timing_of v.block)
+  paced : IsPaced (recovery_of v.block)
+  believes : Believes (believed_of v.block)
+
+event_steady : (v : TcpValue) (it : Event) → IsSteady v → IsSteady (after v it)
+event_steady v it s = record {
+  order = event_order v it s.order;
+  right = event_right v it s.order s.right;
+  paced = event_paced v it s.order s.paced;
+  believes = event_on v it s.believes;
+}
+
+unoffered_steady : (v : TcpValue) → IsSteady v → IsSteady (unoffered v)
+unoffered_steady v s = record { order = s.order; right = s.right; paced = s.paced; believes = s.believes }
+
+new_steady : (room : ℕ) (ring : Ring ℕ) → IsSteady (new_socket room ring)
+new_steady room ring = record {
+  order = new_order room ring;
+  right = record { timed = tt; sent = omega arith; listens = λ _. refl };
+  paced = new_paced room ring;
+  believes = nothing_believed;
+}
+
+steady_side : (p : PairValue) (side : Side) → IsReached p → IsSteady (socket_of p side)
+steady_side p side r =
+    of_side IsSteady p.sides side
+    (by_steps IsSteady event_steady unoffered_steady (new_pair (new_socket r.room_a r.ring_a) (new_socket r.room_b r.ring_b)) r.events p r.steps
+    (record { first = new_steady r.room_a r.ring_a; second = new_steady r.room_b r.ring_b }))
+
+pub is_sure :
+    (p : PairValue) (side : Side) → IsReached p → is_closed (socket_of p side).block.state ≡ false
+    → is_synchronized (socket_of p side).block.state ≡ true → (socket_of p side).block.sender.syn_unacked ≡ false
+    → IsSure (socket_of p side).block (queued_in (socket_of p side))
+is_sure p side r alive there syn =
+    let s = steady_side p side r in
+    let k = reached_keeps p side r in
+    let it : IsPlaced (socket_of p side) k.side = placed (socket_of p side) k.side k.fits k.holds.0.well_formed there in
+    record {
+      small = s.order.number;
+      syn = syn;
+      sent = s.right.sent;
+      within = s.order.within alive;
+      few = less (socket_of p side).block.sender.top _ it.top it.few;
+      board = s.believes.board;
+      lasts = s.paced.lasts;
+    }
+  where
+    less : (a b : ℕ) → a ≤ b → b < 2 ^ 30 → a < 2 ^ 30
+    less a b e f = omega (arith, e, f)
+
+-- AN OFFER
+
+one_offer : (mine k : OpenOffer) → Some mine ≡ Some k → mine ≡ k
+one_offer mine k e = cc
+
+none_offered : {A : Type 0} → (k : OpenOffer) → None ≡ Some k → A
+none_offered k e = absurd (cc)
+
+abbrev is_again : OfferKind → Bool
+is_again Kind.FastRetransmission = true
+is_again other = false
+
+module _ (most n : ℕ) where
+  abbrev Has : Block → Type 0
+  Has b = Few most n (mending_of b)
+
+  -- of a connection that is there
+  abbrev Held : TcpValue → Type 0
+  Held x = (is_synchronized x.block.state ≡ false) ⊎ Has x.block
+
+  abbrev FallsTo : TcpValue → Type 0
+  FallsTo x = x.block.sender.top ≤ most → (1 ≤ n) × Few most (n - 1) (mending_of x.block)
+
+  module _ (cx : ContextValue) (v : TcpValue) (when : ℤ) (runs : RunsOutAt when v) (early : is_due cx.moment (Some when) ≡ false) (h : Has v.block)
+      (sure : IsSure v.block (queued_in v)) where
+    abbrev Sent : Offered TcpValue → Type 0
+    Sent o =
+        ((Mends cx.moment o.socket → ⊥) × Held (settled true o.socket))
+        ⊎ (BeginsAnew o.socket ⊎ FallsTo (settled true o.socket))
+
+    abbrev Whether : Offered TcpValue → Type 0
+    Whether o = Sent o × Held o.socket
+
+    abbrev opened_by : OfferKind → TcpValue → EndpointPair → TcpHeader → ℕ → ℕ → OpenOffer
+    opened_by kind x pair header place len = record {
+      kind = kind;
+      moment = cx.moment;
+      header = header_for pair.addresses (hops_of x.block.settings.hop_limit) (header_len header + len);
+      segment = header;
+      place = place;
+      len = len;
+    }
+
+    -- what is no fast retransmission
+    abbrev Goes : OfferKind → Type 0
+    Goes kind = (b : Block) (o : OpenOffer) (queued : ℕ) → Has b → (is_synchronized (sent_as kind b o queued).state ≡ false) ⊎ Has (sent_as kind b o queued)
+
+    abbrev moved : Block → OpenOffer → ℕ → Block
+    moved b o queued = timer_started (nxt_moved b (end_of b o) queued o.moment) o.moment
+
+    abbrev marked : Block → OpenOffer → Loss
+    marked c o = record c.loss { undo = undo_sent c c.loss.undo o.moment }
+
+    reset_goes : Goes Kind.Reset
+    reset_goes b o queued e = inl refl
+
+    syn_goes : Goes Kind.Syn
+    syn_goes b o queued e = let c = moved (syn_went b o) o queued in inr (armed_few most n c (marked c o) o.moment e)
+
+    text_goes : Goes Kind.Text
+    text_goes b o queued e = let c = moved b o queued in inr (armed_few most n c (marked c o) o.moment e)
+
+    probe_goes : Goes Kind.Probe
+    probe_goes b o queued e = inr (asked_few most n (probed b (end_of b o) o.moment) o.moment e)
+
+    keep_alive_goes : Goes Kind.KeepAlive
+    keep_alive_goes b o queued e = inr (asked_few most n b o.moment e)
+
+    ack_goes : Goes Kind.Ack
+    ack_goes b o queued e = inr e
+
+    update_goes : Goes Kind.WindowUpdate
+    update_goes b o queued e = inr e
+
+    by_segment :
+        (kind : OfferKind) → Goes kind → is_again kind ≡ false → (x : TcpValue) (pair : EndpointPair) (header : TcpHeader) (place len : ℕ) → Has x.block
+        → Whether (offer_segment kind cx x pair header place len)
+    by_segment kind goes bare x pair header place len e =
+        let o = opened_by kind x pair header place len in
+        (inl (never, goes (recorded x.block o (room_of x.received)) o (queued_in x) e), inr e)
+      where
+        never : Mends cx.moment (offer_segment kind cx x pair header place len).socket → ⊥
+        never m =
+            clash
+            (sym (ap is_again m.kind)
+            ∙ (sym (ap (λ (o : OpenOffer). is_again o.kind) (one_offer (opened_by kind x pair header place len) m.o m.offered)) ∙ bare))
+
+    by_choice :
+        (kind : OfferKind) → Goes kind → is_again kind ≡ false → (x : TcpValue) (pair : EndpointPair) (c : Choice) → Has x.block
+        → Whether (offer_choice kind cx x pair c)
+    by_choice kind goes bare x pair c e =
+        by_segment kind goes bare x pair (segment x.block pair cx.moment (window_of x) (control_for c (queued_in x)) (number_at x.block c.place)) c.place c.len e
+
+    -- what goes again
+    by_again :
+        (pair : EndpointPair) (b : Block) → Has b → IsSure b (queued_in v) → resends b pair.addresses cx.ip_mtu v.queued ≡ true
+        → Whether (offer_choice Kind.FastRetransmission cx (with_block (unoffered v) b) pair (resend_choice b pair.addresses cx.ip_mtu v.queued))
+    by_again pair b e s does = (by b.reno.recovers refl, inr e) where
+      o : Offered TcpValue
+      o = offer_choice Kind.FastRetransmission cx (with_block (unoffered v) b) pair (resend_choice b pair.addresses cx.ip_mtu v.queued)
+
+      by : (recovers : Bool) → b.reno.recovers ≡ recovers → Sent o
+      by true recovers = inr (mended most n cx v pair b e s does recovers)
+      by false not = inl ((λ m. clash (sym m.recovers ∙ not)), inr (λ recovers _. clash (sym recovers ∙ not)))
+
+    goes_first : (pair : EndpointPair) (b : Block) → Has b → IsSure b (queued_in v) → FirstRules cx pair Whether (with_block (unoffered v) b)
+    goes_first pair b e s = record {
+      syn = λ _. by_segment Kind.Syn syn_goes refl w pair (syn_segment b pair cx.moment cx.ip_mtu (room_of v.received) (free_in v)) 0 0 e;
+      again = λ _ does. by_again pair b e s does;
+      text = λ _ _. by_choice Kind.Text text_goes refl w pair (text_choice b pair.addresses cx.ip_mtu v.queued) e;
+      last = λ _.
+          record {
+            probe = λ _ _. by_choice Kind.Probe probe_goes refl x pair probe_choice e;
+            held_back = λ _ _. by_choice Kind.Text text_goes refl x pair (text_choice x.block pair.addresses cx.ip_mtu v.queued) e;
+            ack = λ _. by_segment Kind.Ack ack_goes refl x pair (ack_segment x.block pair cx.moment (window_of x)) 0 0 e;
+            update = λ _ _. by_segment Kind.WindowUpdate update_goes refl x pair (ack_segment x.block pair cx.moment (window_of x)) 0 0 e;
+            keep_alive = λ _ _. by_segment Kind.KeepAlive keep_alive_goes refl x pair (keep_alive_segment x.block pair cx.moment (window_of x)) 0 1 e;
+            quiet = λ _. (inl ((λ m. none_offered m.o m.offered), inr e), inr e);
+          };
+    }
+      where
+        w : TcpValue
+        w = with_block (unoffered v) b
+
+        x : TcpValue
+        x = probing cx w
+
+    not_due : is_due cx.moment v.block.timers.retransmit_at ≡ false
+    not_due = ap (is_due cx.moment) runs ∙ early
+
+    pub offer_few : Whether (offer_of cx v)
+    offer_few =
+        by_rules cx v Whether
+        (record {
+          nobody = λ _. (inl ((λ m. none_offered m.o m.offered), inr h), inr h);
+          time_wait = λ _. (inl ((λ m. none_offered m.o m.offered), inl refl), inl refl);
+          timeout = λ _. (inl ((λ m. none_offered m.o m.offered), inl refl), inl refl);
+          closed = λ _. (inl ((λ m. none_offered m.o m.offered), inr h), inr h);
+          reset = λ pair _ _.
+              by_segment Kind.Reset reset_goes refl (unoffered v) pair (reset_segment v.block pair cx.moment (window_of v)) 0 0 h;
+          falls = λ _ _ _. (inl ((λ m. none_offered m.o m.offered), inl refl), inl refl);
+          over = λ _ _ _. (inl ((λ m. none_offered m.o m.offered), inl refl), inl refl);
+          backs = λ _ _ _ due. clash (sym due ∙ not_due);
+          probes = λ pair _ _ _ _.
+              goes_first pair (loss_probed (begun cx v)) (probed_few most n (begun cx v) sure.lasts h)
+              (record {
+                small = sure.small;
+                syn = sure.syn;
+                sent = sure.sent;
+                within = sure.within;
+                few = sure.few;
+                board = sure.board;
+                lasts = probed_lasts (begun cx v) sure.lasts;
+              });
+          goes = λ pair _ _ _.
+              goes_first pair (begun cx v) h
+              (record {
+                small = sure.small;
+                syn = sure.syn;
+                sent = sure.sent;
+                within = sure.within;
+                few = sure.few;
+                board = sure.board;
+                lasts = sure.lasts;
+              });
+        })
+
+  -- EVENTS
+
+  abbrev MendsBy : PairSide → PairEvent → Type 0
+  MendsBy s (Offer side moment true) = Mends moment (offer_of (context_at side (record s { moment = moment })) s.socket).socket
+  MendsBy s other = ⊥
+
+  abbrev BeginsBy : PairSide → PairEvent → Type 0
+  BeginsBy s (Offer side moment true) = BeginsAnew (offer_of (context_at side (record s { moment = moment })) s.socket).socket
+  BeginsBy s other = ⊥
+
+  -- where the connection is there, and SND.UNA is where it was
+  abbrev Left : TcpValue → TcpValue → (Type 0) → (Type 0) → Type 0
+  Left v new Mending Beginning =
+      is_synchronized new.block.state ≡ true → new.block.sender.una ≡ v.block.sender.una
+      → ((Mending → ⊥) × Has new.block) ⊎ (Beginning ⊎ FallsTo new)
+
+  abbrev LeftTo : TcpValue → Type 0
+  LeftTo new = is_synchronized new.block.state ≡ true → Has new.block
+
+  by_read : (s : PairSide) (r : Result ℕ RecvError) → Has s.socket.block → Has (reads s r).side.socket.block
+  by_read s (Ok k) h = h
+  by_read s (Err fault) h = h
+
+  by_control : (control : CongestionControl) (v : TcpValue) → Has v.block → Has (set_by (Set.CongestionControl control) v).block
+  by_control control v h recovers _ = clash (sym recovers ∙ none) where
+    none : (fresh_reno v.block control).recovers ≡ false
+    none =
+        cond_both (not v.block.receiver.took_syn) (fresh_window control)
+        (if v.block.sender.syn_unacked then reno.with_mss (fresh_window control) v.block.peer.mss
+        else reno.started (reno.with_mss (fresh_window control) v.block.peer.mss) false)
+        (λ (r : RenoValue). r.recovers ≡ false) (λ _. refl)
+        (λ _.
+        cond_both v.block.sender.syn_unacked (reno.with_mss (fresh_window control) v.block.peer.mss)
+        (reno.started (reno.with_mss (fresh_window control) v.block.peer.mss) false) (λ (r : RenoValue). r.recovers ≡ false) (λ _. refl) (λ _. refl))
+
+  by_setting : (setting : Setting) (v : TcpValue) → Has v.block → Has (set_by setting v).block
+  by_setting (Set.Timeout duration) v h = h
+  by_setting (Set.AckDelay duration) v h = h
+  by_setting (Set.KeepAlive interval) v h = h
+  by_setting (Set.NagleEnabled enabled) v h = h
+  by_setting (Set.HopLimit limit) v h = h
+  by_setting (Set.TsvalGenerator generator) v h = h
+  by_setting (Set.CongestionControl control) v h = by_control control v h
+  by_setting (Set.PauseSynack paused) v h = h
+  by_setting (Set.Retries limit) v h = h
+  by_setting (Set.MinRto duration) v h = h
+  by_setting (Set.FineTimer fine) v h = h
+
+  by_connect : (v : TcpValue) (names : Option EndpointPair) (number : ℕ) → Has v.block → LeftTo (connected_by v names number)
+  by_connect v None number h there = h
+  by_connect v (Some pair) number h there = clash (sym there)
+
+  by_delivery :
+      (side : Side) (s : PairSide) (x : Option SentSegment) → Has s.socket.block → is_synchronized (handed side s x).socket.block.state ≡ true
+      → (handed side s x).socket.block.sender.una ≡ s.socket.block.sender.una → Has (handed side s x).socket.block
+  by_delivery side s None h there same = h
+  by_delivery side s (Some x) h there same =
+      cond_both (accepts s.socket.block x.header x.segment) (taken_at s a) s
+      (λ (new : PairSide). is_synchronized new.socket.block.state ≡ true → new.socket.block.sender.una ≡ s.socket.block.sender.una → Has new.socket.block)
+      (λ _ there same. by (arrival_few most n (context_at side s) x.header x.segment x.bytes s.socket h) there same) (λ _ _ _. h) there same
+    where
+      a : Arrived
+      a = arrives (context_at side s) s.socket x.header x.segment x.bytes
+
+      by :
+          (is_synchronized a.socket.block.state ≡ false) ⊎ (a.socket.block.sender.una ≡ s.socket.block.sender.una → Has a.socket.block)
+          → is_synchronized a.socket.block.state ≡ true → a.socket.block.sender.una ≡ s.socket.block.sender.una → Has a.socket.block
+      by (inl over) there same = clash (sym there ∙ over)
+      by (inr stays) there same = stays same
+
+  plainly : {X Y Z : Type 0} → (X → ⊥) → Y → ((X → ⊥) × Y) ⊎ Z
+  plainly never h = inl (never, h)
+
+  by_act :
+      (s : PairSide) (others : List SentSegment) (event : PairEvent) (when : ℤ) → RunsOutAt when s.socket → IsAskedBefore when (side_of event) event
+      → Has s.socket.block → IsSure s.socket.block (queued_in s.socket)
+      → Left s.socket (acts s others event).side.socket (MendsBy s event) (BeginsBy s event)
+  by_act s others (Listen side endpoint) when runs e h sure there same =
+      plainly (λ never. never)
+      (cond_both (is_closed s.socket.block.state && not (endpoint.port == 0)) (listening s.socket endpoint) (unoffered s.socket) LeftTo
+      (λ _ there. clash (sym there)) (λ _ _. h) there)
+  by_act s others (Connect side remote local) when runs e h sure there same =
+      let cx = context_at side s in
+      plainly (λ never. never)
+      (cond_both (is_closed s.socket.block.state) (connected_by s.socket (pair_for cx remote local) (number_for cx (pair_for cx remote local)))
+      (unoffered s.socket) LeftTo
+      (λ _. by_connect s.socket (pair_for cx remote local) (number_for cx (pair_for cx remote local)) h) (λ _ _. h) there)
+  by_act s others (Send side bytes) when runs e h sure there same =
+      let v = s.socket in
+      plainly (λ never. never)
+      (cond_both (takes_writes v.block.state) (sent_more v (enqueued (anchored v.queued) (take (min (length bytes) (length v.queued.free)) bytes)))
+      (unoffered v) (λ (w : TcpValue). Has w.block) (λ _. h) (λ _. h))
+  by_act s others (Recv side count) when runs e h sure there same = plainly (λ never. never) (by_read s (recv_answer s.socket count) h)
+  by_act s others (Close side) when runs e h sure there same =
+      let v = s.socket in
+      plainly (λ never. never)
+      (cond_both (is_opening v.block.state) (ended (unoffered v)) (with_block (unoffered v) (record v.block { state = after_close v.block.state }))
+      (λ (w : TcpValue). Has w.block) (λ _. h) (λ _. h))
+  by_act s others (Abort side) when runs e h sure there same =
+      let v = s.socket in
+      plainly (λ never. never)
+      (cond_both (is_time_wait v.block.state) (ended (unoffered v))
+      (with_block (unoffered v) (record v.block { state = In.Closed; sender = record v.block.sender { reset_due = is_some v.block.names.pair } }))
+      (λ (w : TcpValue). Has w.block) (λ _. h) (λ _. h))
+  by_act s others (TcpSetting side setting) when runs e h sure there same = plainly (λ never. never) (by_setting setting s.socket h)
+  by_act s others (Offer side moment true) when runs e h sure there same =
+      by (offer_few (context_at side (record s { moment = moment })) s.socket when runs (e refl) h sure).0 where
+        o : Offered TcpValue
+        o = offer_of (context_at side (record s { moment = moment })) s.socket
+
+        by :
+            ((Mends moment o.socket → ⊥) × Held (settled true o.socket)) ⊎ (BeginsAnew o.socket ⊎ FallsTo (settled true o.socket))
+            → ((Mends moment o.socket → ⊥) × Has (settled true o.socket).block) ⊎ (BeginsAnew o.socket ⊎ FallsTo (settled true o.socket))
+        by (inl (never, inl over)) = clash (sym there ∙ over)
+        by (inl (never, inr held)) = inl (never, held)
+        by (inr rest) = inr rest
+  by_act s others (Offer side moment false) when runs e h sure there same =
+      by (offer_few (context_at side (record s { moment = moment })) s.socket when runs (e refl) h sure).1 where
+        o : Offered TcpValue
+        o = offer_of (context_at side (record s { moment = moment })) s.socket
+
+        by : Held o.socket → ((⊥ → ⊥) × Has o.socket.block) ⊎ (⊥ ⊎ FallsTo o.socket)
+        by (inl over) = clash (sym there ∙ over)
+        by (inr held) = inl ((λ never. never), held)
+  by_act s others (Deliver from k) when runs e h sure there same =
+      plainly (λ never. never) (by_delivery (other from) s (slice_get others k) h there same)
+
+  -- OF A PAIR
+
+  abbrev LeftIn : PairValue → PairEvent → ℤ → Side → PairSide → Type 0
+  LeftIn p event when side new =
+      RunsOutAt when (socket_of p side) → IsAskedBefore when side event → Has (socket_of p side).block
+      → IsSure (socket_of p side).block (queued_in (socket_of p side))
+      → Left (socket_of p side) new.socket (MendsIn p side event) (BeginsAnewIn p side event)
+
+  begins_in : (p : PairValue) (event : PairEvent) → BeginsBy (at p.sides (side_of event)) event → BeginsAnewIn p (side_of event) event
+  begins_in p (Offer side moment true) it = (refl, it)
+  begins_in p (Offer side moment false) never = never
+  begins_in p (Listen side endpoint) never = never
+  begins_in p (Connect side remote local) never = never
+  begins_in p (Send side bytes) never = never
+  begins_in p (Recv side count) never = never
+  begins_in p (Close side) never = never
+  begins_in p (Abort side) never = never
+  begins_in p (TcpSetting side setting) never = never
+  begins_in p (Deliver from k) never = never
+
+  mends_by : (p : PairValue) (event : PairEvent) → MendsIn p (side_of event) event → MendsBy (at p.sides (side_of event)) event
+  mends_by p (Offer side moment true) it = it.1
+  mends_by p (Offer side moment false) never = never
+  mends_by p (Listen side endpoint) never = never
+  mends_by p (Connect side remote local) never = never
+  mends_by p (Send side bytes) never = never
+  mends_by p (Recv side count) never = never
+  mends_by p (Close side) never = never
+  mends_by p (Abort side) never = never
+  mends_by p (TcpSetting side setting) never = never
+  mends_by p (Deliver from k) never = never
+
+  by_own : (p : PairValue) (event : PairEvent) (when : ℤ) → LeftIn p event when (side_of event) (acting p event).side
+  by_own p event when runs e h sure there same =
+      by (by_act (at p.sides (side_of event)) (at p.sides (other (side_of event))).sent event when runs e h sure there same) where
+        by :
+            ((MendsBy (at p.sides (side_of event)) event → ⊥) × Has (acting p event).side.socket.block)
+            ⊎ (BeginsBy (at p.sides (side_of event)) event ⊎ FallsTo (acting p event).side.socket)
+            → ((MendsIn p (side_of event) event → ⊥) × Has (acting p event).side.socket.block)
+            ⊎ (BeginsAnewIn p (side_of event) event ⊎ FallsTo (acting p event).side.socket)
+        by (inl (never, held)) = inl ((λ mends. never (mends_by p event mends)), held)
+        by (inr (inl begins)) = inr (inl (begins_in p event begins))
+        by (inr (inr falls)) = inr (inr falls)
+
+  -- an event of the other mends nothing of a side
+  not_of : (p : PairValue) (side : Side) (event : PairEvent) → (side_of event ≡ side → ⊥) → MendsIn p side event → ⊥
+  not_of p side (Offer of moment true) not it = not it.0
+  not_of p side (Offer of moment false) not never = never
+  not_of p side (Listen of endpoint) not never = never
+  not_of p side (Connect of remote local) not never = never
+  not_of p side (Send of bytes) not never = never
+  not_of p side (Recv of count) not never = never
+  not_of p side (Close of) not never = never
+  not_of p side (Abort of) not never = never
+  not_of p side (TcpSetting of setting) not never = never
+  not_of p side (Deliver from k) not never = never
+
+  by_two :
+      (P : PairSide → Type 0) (both : Both PairSide) (of side : Side) (new : PairSide) → (of ≡ side → P new)
+      → ((of ≡ side → ⊥) → P (at both side)) → P (at (put both of new) side)
+  by_two P both A A new own not = own refl
+  by_two P both A B new own not = not (λ e. absurd (cc))
+  by_two P both B A new own not = not (λ e. absurd (cc))
+  by_two P both B B new own not = own refl
+
+  pub few_after :
+      (p : PairValue) (side : Side) (event : PairEvent) (when : ℤ) → RunsOutAt when (socket_of p side) → IsAskedBefore when side event
+      → Has (socket_of p side).block → IsSure (socket_of p side).block (queued_in (socket_of p side))
+      → is_synchronized (socket_of (takes p event) side).block.state ≡ true
+      → (socket_of (takes p event) side).block.sender.una ≡ (socket_of p side).block.sender.una
+      → ((MendsIn p side event → ⊥) × Has (socket_of (takes p event) side).block) ⊎ (BeginsAnewIn p side event ⊎ FallsTo (socket_of (takes p event) side))
+  few_after p side event when runs e h sure =
+      by_two (λ (new : PairSide). Left (socket_of p side) new.socket (MendsIn p side event) (BeginsAnewIn p side event)) p.sides (side_of event) side
+      (acting p event).side
+      (λ own. subst (λ (s : Side). LeftIn p event when s (acting p event).side) own (by_own p event when) runs e h sure)
+      (λ not _ _. inl (not_of p side event not, h))

@@ -1,0 +1,97 @@
+-- Two hosts and a link that take their time: events, each at a moment of one clock.
+use Rattle.std.specs.Prelude.{◌≡◌, ◌⊎◌, ℕ, ◌<◌, ◌≤◌, ℤ, pos, ◌+ℤ◌, ◌≤ℤ◌, true, false, List, [], ◌∷◌, length, Some, slice_get}
+use Rattle.tcp_tie.specs.Offers.{IsBefore}
+use Rattle.tcp_pair_model.specs.Due.{poll_of}
+use Rattle.tcp_pair_model.specs.Names.{accepts}
+use Rattle.tcp_pair_model.specs.Segments.{segment_len}
+use Rattle.tcp_pair_model.specs.Sides.{at, other}
+use Rattle.tcp_pair_model.specs.Value.{free_in}
+use Rattle.tcp_pair_model.specs.Values.{PairValue}
+use Rattle.tcp_pair_model.specs.declared.event.PairEvent.{PairEvent}
+use Rattle.tcp_pair_model.specs.declared.event.PairEvent.TheVariants.{Offer, Deliver}
+use Rattle.tcp_pair_model.specs.declared.event.SentSegment.{SentSegment}
+use Rattle.tcp_pair_model.specs.declared.event.Side.{Side}
+use Rattle.tcp_progress.specs.Arrivals.{IsNearWindow}
+use Rattle.tcp_progress.specs.Clocks.{comes_stale}
+use Rattle.tcp_progress.specs.Pair.{next_sent, socket_of}
+use Rattle.tcp_progress.specs.Rounds.{takes}
+
+-- WHO IS ASKED, AND WHEN
+
+-- the events without their moments
+abbrev pub events_of : List (ℤ × PairEvent) → List PairEvent
+events_of [] = []
+events_of (x ∷ course) = x.1 ∷ events_of course
+
+-- what the clock shows in the end
+abbrev pub end_of : ℤ → List (ℤ × PairEvent) → ℤ
+end_of now [] = now
+end_of now (x ∷ course) = end_of x.0 course
+
+-- a side is asked at the moment that the clock shows
+abbrev pub IsAt : ℤ → PairEvent → Type 0
+IsAt now (Offer side moment sent) = moment ≡ now
+IsAt now other = Unit {0}
+
+-- the clock never goes back
+abbrev pub IsClocked : ℤ → List (ℤ × PairEvent) → Type 0
+IsClocked now [] = Unit {0}
+IsClocked now (x ∷ course) = (now ≤ℤ x.0) × (IsAt x.0 x.1 × IsClocked x.0 course)
+
+-- with this event a side is asked, and what it offers goes
+abbrev pub Asks : Side → PairEvent → Type 0
+Asks side (Offer of moment true) = of ≡ side
+Asks side other = ⊥
+
+-- a side wants to be asked at this moment, or wanted to be earlier
+abbrev pub Wants : ℤ → PairValue → Side → Type 0
+Wants moment p side = IsBefore moment (poll_of 1500 (socket_of p side)) → ⊥
+
+-- It is asked before the clock passes the second moment, unless it doesn't want to be at the first one any more, or the course ends before.
+abbrev pub IsAskedBy : ℤ → ℤ → Side → PairValue → List (ℤ × PairEvent) → Type 0
+IsAskedBy due last side p [] = Unit {0}
+IsAskedBy due last side p (x ∷ course) =
+    (x.0 ≤ℤ last) × (Asks side x.1 ⊎ ((Wants due (takes p x.1) side → ⊥) ⊎ IsAskedBy due last side (takes p x.1) course))
+
+-- each side is asked no more than so many microseconds after the moment at which it wants to be
+abbrev pub AsksWithin : ℕ → ℤ → PairValue → List (ℤ × PairEvent) → Type 0
+AsksWithin wait now p [] = Unit {0}
+AsksWithin wait now p (x ∷ course) =
+    ((side : Side) (due : ℤ) → now ≤ℤ due → Wants due p side → IsAskedBy due (due +ℤ pos wait) side p (x ∷ course))
+    × AsksWithin wait x.0 (takes p x.1) course
+
+-- SEGMENTS COME
+
+-- a segment of a side of this number comes before the clock passes a moment, unless the course ends before
+abbrev pub ComesBy : ℤ → Side → ℕ → List (ℤ × PairEvent) → Type 0
+ComesBy last side k [] = Unit {0}
+ComesBy last side k (x ∷ course) = (x.0 ≤ℤ last) × ((x.1 ≡ Deliver side k) ⊎ ComesBy last side k course)
+
+-- each segment that a side sends in the course comes no more than so many microseconds later, at least once
+abbrev pub DeliversWithin : ℕ → PairValue → List (ℤ × PairEvent) → Type 0
+DeliversWithin delay p [] = Unit {0}
+DeliversWithin delay p (x ∷ course) =
+    ((side : Side) (k : ℕ) → next_sent p side ≤ k → k < next_sent (takes p x.1) side → ComesBy (x.0 +ℤ pos delay) side k course)
+    × DeliversWithin delay (takes p x.1) course
+
+-- A segment of a side that comes is for the other, and has no timestamp that is older than TS.Recent; one that takes no position lies in the
+-- other's window, or before it.
+pub record IsHeard (p : PairValue) (side : Side) (x : SentSegment) : Type 0 where
+  pub accepted : accepts (socket_of p (other side)).block x.header x.segment ≡ true
+  pub fresh : comes_stale (socket_of p (other side)).block x.segment.options.timestamp ≡ false
+  pub near : segment_len x.segment (length x.bytes) ≡ 0 → IsNearWindow (socket_of p (other side)) x.segment (length x.bytes)
+
+-- so is each that comes in the course
+abbrev pub IsHeardIn : PairValue → PairEvent → Type 0
+IsHeardIn p (Deliver side k) = (x : SentSegment) → slice_get (at p.sides side).sent k ≡ Some x → IsHeard p side x
+IsHeardIn p other = Unit {0}
+
+abbrev pub AreHeard : PairValue → List (ℤ × PairEvent) → Type 0
+AreHeard p [] = Unit {0}
+AreHeard p (x ∷ course) = IsHeardIn p x.1 × AreHeard (takes p x.1) course
+
+-- a segment of a side of this number comes while the other's window is closed
+abbrev pub IsShutAmong : PairValue → Side → ℕ → List (ℤ × PairEvent) → Type 0
+IsShutAmong p side k [] = ⊥
+IsShutAmong p side k (x ∷ course) =
+    ((x.1 ≡ Deliver side k) × (free_in (socket_of p (other side)) ≡ 0)) ⊎ IsShutAmong (takes p x.1) side k course

@@ -1,0 +1,65 @@
+//! That a connection goes on within a span of time.
+
+ghost use Rattle.std.specs.Prelude.{◌≡◌, ◌⊎◌, ℕ, ◌==◌, ◌<◌, ◌≤◌, ℤ, pos, ◌+ℤ◌, ◌≤ℤ◌, ◌<ℤ◌, true, false, List, None, Some, slice_get};
+ghost use Rattle.tcp_rules.specs.Ends.{GoesOn};
+ghost use Rattle.tcp_rules.specs.Moments.{is_due};
+ghost use Rattle.tcp_pair_model.specs.Sides.{at, other};
+ghost use Rattle.tcp_pair_model.specs.Steps.{Steps};
+ghost use Rattle.tcp_pair_model.specs.Value.{room_of};
+ghost use Rattle.tcp_pair_model.specs.Values.{PairValue, past_at};
+ghost use Rattle.tcp_pair_model.specs.declared.event.PairEvent.{PairEvent};
+ghost use Rattle.tcp_pair_model.specs.declared.event.SentSegment.{SentSegment};
+ghost use Rattle.tcp_pair_model.specs.declared.event.Side.{Side};
+ghost use Rattle.tcp_progress.specs.Anew.{BeginsAnewAmong, put_off_in};
+ghost use Rattle.tcp_progress.specs.Arrivals.{is_synchronized};
+ghost use Rattle.tcp_progress.specs.BothWays.{AreThere};
+ghost use Rattle.tcp_progress.specs.Course.{AreHeard, AsksWithin, ComesBy, DeliversWithin, IsClocked, IsShutAmong, end_of, events_of};
+ghost use Rattle.tcp_progress.specs.Exchange.{IsOpen};
+ghost use Rattle.tcp_progress.specs.Late.{GoesFrom};
+ghost use Rattle.tcp_progress.specs.Onward.{AreOpen, HasRisen, acked_in};
+ghost use Rattle.tcp_progress.specs.Pair.{HasStream, context_of, left_in, socket_of};
+ghost use Rattle.tcp_progress.specs.PutOff.{ProbesAt, RunsOutAmong};
+ghost use Rattle.tcp_progress.specs.Reached.{IsReached};
+ghost use Rattle.tcp_progress.specs.Restart.{Sends};
+
+/// Within a minute for each position that may be sent past SND.UNA, and two more, SND.UNA of a side with something in flight rises; or it is asked
+/// when its timer has run out; or a segment goes again from SND.UNA on. A recovery puts the timer off no longer than that: each segment that
+/// goes again takes a position behind those that did, or begins at SND.UNA.
+pub fn a_side_begins_at_snd_una_in_time()
+    ensures minutes { (p q : PairValue) (side : Side) (events : List PairEvent) → IsReached p → AreOpen p → Steps p events q
+        → ((socket_of p side).block.sender.in_flight == 0) ≡ false
+        → ((at p.sides side).moment +ℤ pos (put_off_in p side)) ≤ℤ (at q.sides side).moment
+        → is_synchronized (socket_of q side).block.state ≡ true
+        → (acked_in p side < acked_in q side) ⊎ (RunsOutAmong p side events ⊎ BeginsAnewAmong p side events) }
+{}
+
+/// In a course with one clock in which each side is asked in time: within that span, and as long as a side is let wait, SND.UNA of a side with
+/// something in flight rises; or the side is asked when its timer has run out; or a segment goes again from SND.UNA on.
+pub fn a_side_that_is_asked_in_time_begins_at_snd_una()
+    ensures span { (p q : PairValue) (side : Side) (course : List (ℤ × PairEvent)) (wait : ℕ) (now : ℤ) → IsReached p → AreOpen p
+        → Steps p (events_of course) q → is_synchronized (socket_of q side).block.state ≡ true
+        → ((socket_of p side).block.sender.in_flight == 0) ≡ false → (at p.sides side).moment ≤ℤ now → IsClocked now course
+        → AsksWithin wait now p course → ((now +ℤ pos (put_off_in p side)) +ℤ pos wait) <ℤ end_of now course
+        → (acked_in p side < acked_in q side) ⊎ (RunsOutAmong p side (events_of course) ⊎ BeginsAnewAmong p side (events_of course)) }
+{}
+
+/// In a course in which each segment comes in time an exchange takes twice as long at most: where a segment of a side went from SND.UNA on, and
+/// comes in time, as what answers it does, SND.UNA or RCV.NXT of a side has risen by then; or the segment came while the other's window was
+/// closed, so that it is for its user to read.
+pub fn an_exchange_takes_no_longer_than_its_segments()
+    ensures twice { (p q : PairValue) (side : Side) (k : ℕ) (x : SentSegment) (course : List (ℤ × PairEvent)) (delay : ℕ) (now : ℤ) → IsReached p
+        → AreOpen p → Steps p (events_of course) q → AreThere q → HasStream (past_at p side)
+        → 1 ≤ room_of (socket_of p (other side)).received → GoesFrom p side x → slice_get (at p.sides side).sent k ≡ Some x
+        → ComesBy (now +ℤ pos delay) side k course → IsClocked now course → DeliversWithin delay p course → AreHeard p course
+        → ((now +ℤ pos delay) +ℤ pos delay) <ℤ end_of now course
+        → HasRisen p q side ⊎ (HasRisen p q (other side) ⊎ IsShutAmong p side k course) }
+{}
+
+/// A due probe goes: a side that owes text or a FIN, with nothing in flight and no timer, and is asked when the moment has come at which what a
+/// window holds back goes, sends a position at least, whatever its windows are.
+pub fn a_due_probe_goes()
+    ensures goes { (p : PairValue) (side : Side) (moment at : ℤ) → IsReached p → IsOpen (socket_of p side).block → 1 ≤ left_in p side
+        → GoesOn (context_of p side moment) (socket_of p side) → (socket_of p side).block.sender.in_flight ≡ 0
+        → (socket_of p side).block.timers.retransmit_at ≡ None → ProbesAt at (socket_of p side) → is_due moment (Some at) ≡ true
+        → Sends (context_of p side moment) (socket_of p side) }
+{}
