@@ -80,3 +80,6 @@ pub mod MendingRuns
 pub mod CourseRuns
 pub mod CourseExchange
 pub mod ProbeGoes
+pub mod AgainGoes
+pub mod CourseGoes
+pub mod CourseSpans

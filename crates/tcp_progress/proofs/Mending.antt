@@ -344,7 +344,7 @@ number_is a b e = ap (λ (n : ℕ). same n) e where
   same n = record { 0 = n }
 
 -- the gap that begins at a place has a position
-gap_past : (runs : List Run) (place most : ℕ) → place < most → place < gap_end runs place most
+pub gap_past : (runs : List Run) (place most : ℕ) → place < most → place < gap_end runs place most
 gap_past [] place most e = e
 gap_past (r ∷ rs) place most e =
     cond_both (is_run r && nat_lt place r.start) (min most r.start) most (λ (end : ℕ). place < gap_end rs place end)

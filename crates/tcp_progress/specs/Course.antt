@@ -1,19 +1,21 @@
 -- Two hosts and a link that take their time: events, each at a moment of one clock.
-use Rattle.std.specs.Prelude.{◌≡◌, ◌⊎◌, ℕ, ◌<◌, ◌≤◌, ℤ, pos, ◌+ℤ◌, ◌≤ℤ◌, true, false, List, [], ◌∷◌, length, Some, slice_get}
+use Rattle.std.specs.Prelude.{◌≡◌, ◌⊎◌, ℕ, ◌+◌, ◌<◌, ◌≤◌, ℤ, pos, ◌+ℤ◌, ◌≤ℤ◌, true, false, List, [], ◌∷◌, length, Some, slice_get}
 use Rattle.tcp_tie.specs.Offers.{IsBefore}
 use Rattle.tcp_pair_model.specs.Due.{poll_of}
 use Rattle.tcp_pair_model.specs.Names.{accepts}
 use Rattle.tcp_pair_model.specs.Segments.{segment_len}
 use Rattle.tcp_pair_model.specs.Sides.{at, other}
-use Rattle.tcp_pair_model.specs.Value.{free_in}
-use Rattle.tcp_pair_model.specs.Values.{PairValue}
+use Rattle.tcp_pair_model.specs.Value.{free_in, room_of}
+use Rattle.tcp_pair_model.specs.Values.{PairValue, past_at}
 use Rattle.tcp_pair_model.specs.declared.event.PairEvent.{PairEvent}
 use Rattle.tcp_pair_model.specs.declared.event.PairEvent.TheVariants.{Offer, Deliver}
 use Rattle.tcp_pair_model.specs.declared.event.SentSegment.{SentSegment}
 use Rattle.tcp_pair_model.specs.declared.event.Side.{Side}
+use Rattle.tcp_progress.specs.Anew.{put_off_in}
 use Rattle.tcp_progress.specs.Arrivals.{IsNearWindow}
 use Rattle.tcp_progress.specs.Clocks.{comes_stale}
-use Rattle.tcp_progress.specs.Pair.{next_sent, socket_of}
+use Rattle.tcp_progress.specs.Pair.{HasStream, context_of, next_sent, socket_of}
+use Rattle.tcp_progress.specs.Restart.{first_cwnd, worth_sending}
 use Rattle.tcp_progress.specs.Rounds.{takes}
 
 -- WHO IS ASKED, AND WHEN
@@ -95,3 +97,47 @@ abbrev pub IsShutAmong : PairValue → Side → ℕ → List (ℤ × PairEvent) 
 IsShutAmong p side k [] = ⊥
 IsShutAmong p side k (x ∷ course) =
     ((x.1 ≡ Deliver side k) × (free_in (socket_of p (other side)) ≡ 0)) ⊎ IsShutAmong (takes p x.1) side k course
+
+-- A WINDOW IN THE WAY
+
+-- what a side offers goes
+abbrev pub IsTaken : PairEvent → Type 0
+IsTaken (Offer side moment sent) = sent ≡ true
+IsTaken other = Unit {0}
+
+abbrev pub AreTaken : List (ℤ × PairEvent) → Type 0
+AreTaken [] = Unit {0}
+AreTaken (x ∷ course) = IsTaken x.1 × AreTaken course
+
+-- With this event a segment of a side comes while the other's window is closed; or the side is asked while the window that it knows, or that
+-- of congestion control, takes neither a full segment nor all that is queued.
+abbrev pub IsHinderedIn : PairValue → Side → PairEvent → Type 0
+IsHinderedIn p side (Deliver from k) = (from ≡ side) × (free_in (socket_of p (other side)) ≡ 0)
+IsHinderedIn p side (Offer of moment sent) =
+    (of ≡ side)
+    × (((socket_of p side).block.peer.window < worth_sending (socket_of p side))
+    ⊎ (first_cwnd (context_of p side moment) (socket_of p side).block < worth_sending (socket_of p side)))
+IsHinderedIn p side other = ⊥
+
+-- so it is with one of these events
+abbrev pub IsHinderedAmong : PairValue → Side → List PairEvent → Type 0
+IsHinderedAmong p side [] = ⊥
+IsHinderedAmong p side (event ∷ events) = IsHinderedIn p side event ⊎ IsHinderedAmong (takes p event) side events
+
+-- A COURSE
+
+-- From this pair on, with the clock at `now`: each side is asked in time, and what it offers goes; each segment comes in time, and is heard. The
+-- side has a receive buffer to send to, and a stream that is no empty one.
+pub record GoesInTime (wait delay : ℕ) (now : ℤ) (p : PairValue) (side : Side) (course : List (ℤ × PairEvent)) : Type 0 where
+  pub clock : (at p.sides side).moment ≤ℤ now
+  pub clocked : IsClocked now course
+  pub asks : AsksWithin wait now p course
+  pub taken : AreTaken course
+  pub delivers : DeliversWithin delay p course
+  pub heard : AreHeard p course
+  pub stream : HasStream (past_at p side)
+  pub room : 1 ≤ room_of (socket_of p (other side)).received
+
+-- a minute for each position that may be sent past SND.UNA, and two more; as long as a side is let wait; and two segments
+abbrev pub span_of : ℕ → ℕ → PairValue → Side → ℕ
+span_of wait delay p side = put_off_in p side + wait + delay + delay

@@ -24,3 +24,4 @@ pub mod Onward
 pub mod Late
 pub mod Anew
 pub mod Course
+pub mod Spans

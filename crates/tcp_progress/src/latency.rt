@@ -1,6 +1,6 @@
 //! That a connection goes on within a span of time.
 
-ghost use Rattle.std.specs.Prelude.{◌≡◌, ◌⊎◌, ℕ, ◌==◌, ◌<◌, ◌≤◌, ℤ, pos, ◌+ℤ◌, ◌≤ℤ◌, ◌<ℤ◌, true, false, List, None, Some, slice_get};
+ghost use Rattle.std.specs.Prelude.{◌≡◌, ◌⊎◌, ℕ, ◌+◌, ◌*◌, ◌==◌, ◌<◌, ◌≤◌, ℤ, pos, ◌+ℤ◌, ◌≤ℤ◌, ◌<ℤ◌, true, false, List, None, Some, slice_get};
 ghost use Rattle.tcp_rules.specs.Ends.{GoesOn};
 ghost use Rattle.tcp_rules.specs.Moments.{is_due};
 ghost use Rattle.tcp_pair_model.specs.Sides.{at, other};
@@ -13,7 +13,8 @@ ghost use Rattle.tcp_pair_model.specs.declared.event.Side.{Side};
 ghost use Rattle.tcp_progress.specs.Anew.{BeginsAnewAmong, put_off_in};
 ghost use Rattle.tcp_progress.specs.Arrivals.{is_synchronized};
 ghost use Rattle.tcp_progress.specs.BothWays.{AreThere};
-ghost use Rattle.tcp_progress.specs.Course.{AreHeard, AsksWithin, ComesBy, DeliversWithin, IsClocked, IsShutAmong, end_of, events_of};
+ghost use Rattle.tcp_progress.specs.Course.{AreHeard, AsksWithin, ComesBy, DeliversWithin, GoesInTime, IsClocked, IsHinderedAmong, IsShutAmong};
+ghost use Rattle.tcp_progress.specs.Course.{end_of, events_of, span_of};
 ghost use Rattle.tcp_progress.specs.Exchange.{IsOpen};
 ghost use Rattle.tcp_progress.specs.Late.{GoesFrom};
 ghost use Rattle.tcp_progress.specs.Onward.{AreOpen, HasRisen, acked_in};
@@ -21,6 +22,7 @@ ghost use Rattle.tcp_progress.specs.Pair.{HasStream, context_of, left_in, socket
 ghost use Rattle.tcp_progress.specs.PutOff.{ProbesAt, RunsOutAmong};
 ghost use Rattle.tcp_progress.specs.Reached.{IsReached};
 ghost use Rattle.tcp_progress.specs.Restart.{Sends};
+ghost use Rattle.tcp_progress.specs.Spans.{IsIdleAmong, reached_in};
 
 /// Within a minute for each position that may be sent past SND.UNA, and two more, SND.UNA of a side with something in flight rises; or it is asked
 /// when its timer has run out; or a segment goes again from SND.UNA on. A recovery puts the timer off no longer than that: each segment that
@@ -62,4 +64,24 @@ pub fn a_due_probe_goes()
         → GoesOn (context_of p side moment) (socket_of p side) → (socket_of p side).block.sender.in_flight ≡ 0
         → (socket_of p side).block.timers.retransmit_at ≡ None → ProbesAt at (socket_of p side) → is_due moment (Some at) ≡ true
         → Sends (context_of p side moment) (socket_of p side) }
+{}
+
+/// A connection goes on in time. In a course in which each side is asked in time, what it offers goes, and each segment comes in time, and is
+/// heard: within a span that these times and the other's buffer make, SND.UNA or RCV.NXT of a side rises, where a side has something in flight;
+/// or a window stood in its way meanwhile: the other's was closed as its segment came, or it took neither a full segment nor all that was
+/// queued, or that of congestion control did so, as the side was asked.
+pub fn a_connection_goes_on_in_time()
+    ensures goes { (p q : PairValue) (side : Side) (course : List (ℤ × PairEvent)) (wait delay : ℕ) (now : ℤ) → IsReached p → AreOpen p
+        → Steps p (events_of course) q → AreThere q → ((socket_of p side).block.sender.in_flight == 0) ≡ false
+        → GoesInTime wait delay now p side course → (now +ℤ pos (span_of wait delay p side)) <ℤ end_of now course
+        → HasRisen p q side ⊎ (HasRisen p q (other side) ⊎ IsHinderedAmong p side (events_of course)) }
+{}
+
+/// So a position is reached in each two spans, by an acknowledgement or in what a side takes: in a course of so many, as many positions of the two
+/// streams are reached; or a window stood in the way of the side; or at some time it had nothing in flight.
+pub fn each_two_spans_reach_a_position()
+    ensures reached { (n : ℕ) (p q : PairValue) (side : Side) (course : List (ℤ × PairEvent)) (wait delay : ℕ) (now : ℤ) → IsReached p → AreOpen p
+        → Steps p (events_of course) q → AreThere q → GoesInTime wait delay now p side course
+        → (now +ℤ pos (n * (2 * span_of wait delay p side))) <ℤ end_of now course
+        → (reached_in p + n ≤ reached_in q) ⊎ (IsHinderedAmong p side (events_of course) ⊎ IsIdleAmong p side (events_of course)) }
 {}

@@ -1,0 +1,452 @@
+-- In a course in which each side is asked in time, and each segment comes in time, a connection goes on.
+use Rattle.std.proofs.Common.{◌≡◌, ◌⊎◌, inl, inr, ℕ, zero, suc, ◌+◌, ◌-◌, ◌*◌, ◌^◌, ◌<◌, ◌≤◌, ◌==◌, nat_le, ℤ, pos, ◌+ℤ◌, ◌≤ℤ◌, ◌<ℤ◌, Bool, true, false}
+use Rattle.std.proofs.Common.{List, [], ◌∷◌, ◌++◌, length, Option, Some, None, slice_get, refl, sym, ap, ◌∙◌, subst, arith}
+use Rattle.std.proofs.lemmas.Bool.{leb-false, leb-true}
+use Rattle.std.proofs.lemmas.Int.{ints}
+use Rattle.std.proofs.lemmas.Option.{slice_get_within}
+use Rattle.net_base.specs.Ring.{Ring}
+use Rattle.tcp_tie.specs.Context.{ContextValue}
+use Rattle.tcp_rules.specs.Ends.{GoesOn}
+use Rattle.tcp_rules.specs.Moments.{is_due}
+use Rattle.tcp_rules.specs.OfferKind.TheVariants as Kind
+use Rattle.tcp_rules.specs.OpenOffer.{OpenOffer}
+use Rattle.tcp_rules.specs.States.{is_closed}
+use Rattle.tcp_rules.specs.Timing.{carries}
+use Rattle.tcp_rules.proofs.OrderSteps.{clash}
+use Rattle.tcp_pair_model.specs.Blocks.{one_if, unacked}
+use Rattle.tcp_pair_model.specs.Offers.{offer_of}
+use Rattle.tcp_pair_model.specs.Segments.{segment_len}
+use Rattle.tcp_pair_model.specs.Settled.{settled}
+use Rattle.tcp_pair_model.specs.Sides.{at, other}
+use Rattle.tcp_pair_model.specs.Steps.{Steps, offered_at, refusal}
+use Rattle.tcp_pair_model.specs.Value.{TcpValue, free_in, queued_in, room_of}
+use Rattle.tcp_pair_model.specs.Values.{PairSide, PairValue, and_offer, context_at, past_at}
+use Rattle.tcp_pair_model.specs.declared.event.PairEvent.{PairEvent}
+use Rattle.tcp_pair_model.specs.declared.event.PairEvent.TheVariants.{Listen, Connect, Send, Recv, Close, Abort, TcpSetting, Offer, Deliver}
+use Rattle.tcp_pair_model.specs.declared.event.SentSegment.{SentSegment}
+use Rattle.tcp_pair_model.specs.declared.event.Side.{Side}
+use Rattle.tcp_pair_model.specs.declared.event.Side.TheVariants.{A, B}
+use Rattle.tcp_progress.specs.Again.{StartsOver}
+use Rattle.tcp_progress.specs.Anew.{BeginsAnew, BeginsAnewIn, put_off_in}
+use Rattle.tcp_progress.specs.Arrivals.{is_synchronized}
+use Rattle.tcp_progress.specs.BothWays.{AreThere, total_in}
+use Rattle.tcp_progress.specs.Course.{AreHeard, AreTaken, ComesBy, DeliversWithin, GoesInTime, IsClocked, IsHinderedAmong, IsHinderedIn, IsShutAmong}
+use Rattle.tcp_progress.specs.Course.{IsTaken, end_of, events_of, span_of}
+use Rattle.tcp_progress.specs.Exchange.{IsOpen, left_of, text_of}
+use Rattle.tcp_progress.specs.Late.{GoesFrom, sent_by}
+use Rattle.tcp_progress.specs.Onward.{AreOpen, HasRisen, acked_in}
+use Rattle.tcp_progress.specs.Pair.{HasStream, context_of, left_in, next_sent, socket_of}
+use Rattle.tcp_progress.specs.PutOff.{RunsOutIn}
+use Rattle.tcp_progress.specs.Reached.{IsReached}
+use Rattle.tcp_progress.specs.Restart.{MaySend, Sends, first_cwnd, worth_sending}
+use Rattle.tcp_progress.specs.Rounds.{takes}
+use Rattle.tcp_progress.specs.Sent.{taken_in}
+use Rattle.tcp_progress.proofs.AgainGoes.{anew_some, survives}
+use Rattle.tcp_progress.proofs.CourseExchange.{exchange_in_time}
+use Rattle.tcp_progress.proofs.CourseRuns.{Start, starts_in_course}
+use Rattle.tcp_progress.proofs.Exchange.{last_of}
+use Rattle.tcp_progress.proofs.Kept.{reached_by, reached_keeps}
+use Rattle.tcp_progress.proofs.LateExchange.{goes_last, goes_now}
+use Rattle.tcp_progress.proofs.LateText.{left_within, open_of, there_of}
+use Rattle.tcp_progress.proofs.Left.{left_same}
+use Rattle.tcp_progress.proofs.MendingEvents.{is_sure}
+use Rattle.tcp_progress.proofs.Mirrored.{named_in}
+use Rattle.tcp_progress.proofs.OfItself.{side_sends}
+use Rattle.tcp_progress.proofs.Offered.{GoesOut, goes_out_of}
+use Rattle.tcp_progress.proofs.OnwardPairs.{IsBegun, MovesIn, begun, begun_after, by_steps, then_moves}
+use Rattle.tcp_progress.proofs.Opened.{is_open}
+use Rattle.tcp_progress.proofs.Pair.{late_in, not_closed}
+use Rattle.tcp_progress.proofs.Positions.{IsPlaced, placed}
+use Rattle.tcp_progress.proofs.Ready.{ready_side}
+use Rattle.tcp_progress.proofs.Roused.{refused_same}
+use Rattle.tcp_progress.proofs.Turns.{late_on}
+
+-- WHAT THE SIDE SENDS
+
+-- with this event a segment goes from SND.UNA on
+record Goes (p : PairValue) (side : Side) (event : PairEvent) : Type 0 where
+  x : SentSegment
+  goes : GoesFrom (takes p event) side x
+  sent : slice_get (at (takes p event).sides side).sent (next_sent p side) ≡ Some x
+
+-- a side with its connection, which it keeps with the event
+record IsThere (p : PairValue) (side : Side) (event : PairEvent) : Type 0 where
+  reached : IsReached p
+  mine : IsOpen (socket_of p side).block
+  owes : 1 ≤ left_in p side
+  top : 1 ≤ (socket_of p side).block.sender.top
+  stays : is_synchronized (socket_of (takes p event) side).block.state ≡ true
+
+offered_there : (p : PairValue) (side : Side) (moment : ℤ) → is_synchronized (socket_of (takes p (Offer side moment true)) side).block.state ≡ true →
+    is_synchronized (settled true (offer_of (context_of p side moment) (socket_of p side)).socket).block.state ≡ true
+offered_there p A moment e = e
+offered_there p B moment e = e
+
+lasts : (p : PairValue) (side : Side) (moment : ℤ) → IsThere p side (Offer side moment true) → GoesOn (context_of p side moment) (socket_of p side)
+lasts p side moment h =
+    let named = named_in p side h.reached h.mine.synchronized in
+    survives (context_of p side moment) (socket_of p side) h.mine.synchronized named.0 named.1 (offered_there p side moment h.stays)
+
+-- the timer has run out: it sends, or a window holds it back
+runs_out :
+    (p : PairValue) (side : Side) (moment : ℤ) → IsThere p side (Offer side moment true)
+    → is_due moment (socket_of p side).block.timers.retransmit_at ≡ true
+    → IsHinderedIn p side (Offer side moment true) ⊎ Goes p side (Offer side moment true)
+runs_out p side moment h due = by (nat_le worth window) (nat_le worth cwnd) refl refl where
+  v : TcpValue
+  v = socket_of p side
+
+  worth : ℕ
+  worth = worth_sending v
+
+  window : ℕ
+  window = v.block.peer.window
+
+  cwnd : ℕ
+  cwnd = first_cwnd (context_of p side moment) v.block
+
+  sends : worth ≤ window → worth ≤ cwnd → Sends (context_of p side moment) v
+  sends e f =
+      side_sends p side moment h.reached
+      (record { own = h.mine; owes = h.owes; over = inr due; goes = lasts p side moment h; window = e; cwnd = f })
+
+  goes : Sends (context_of p side moment) v → Goes p side (Offer side moment true)
+  goes s = record {
+    x = sent_by p side s.o;
+    goes = goes_now p side moment s.o h.reached h.mine (inr due) s.offered s.kind s.some;
+    sent = goes_last p side moment s.o h.reached h.mine (inr due) s.offered s.kind;
+  }
+
+  by :
+      (a b : Bool) → nat_le worth window ≡ a → nat_le worth cwnd ≡ b → IsHinderedIn p side (Offer side moment true) ⊎ Goes p side (Offer side moment true)
+  by true true e f = inr (goes (sends (leb-true worth window e) (leb-true worth cwnd f)))
+  by false b e f = inl (refl, inl (leb-false worth window e))
+  by true false e f = inl (refl, inr (leb-false worth cwnd f))
+
+-- what an offer of a side leaves of it, and of what it sent
+module _ (side : Side) (s : PairSide) (moment : ℤ) (o : OpenOffer) (syn : s.socket.block.sender.syn_unacked ≡ false)
+    (offered : (offer_of (context_at side (record s { moment = moment })) s.socket).socket.offered ≡ Some o) (kind : carries o.kind ≡ true) where
+  abbrev cx : ContextValue
+  cx = context_at side (record s { moment = moment })
+
+  abbrev asked_side : PairSide
+  asked_side = offered_at side (record s { moment = moment }) true
+
+  out : GoesOut s.socket (offer_of cx s.socket).socket o
+  out = goes_out_of cx s.socket o syn offered kind
+
+  abbrev gone : SentSegment
+  gone = record { header = o.header; segment = o.segment; bytes = text_of s.socket o }
+
+  sent_last : slice_get asked_side.sent (length s.sent) ≡ Some (record { header = o.header; segment = o.segment; bytes = text_of s.socket o })
+  sent_last =
+      ap (λ (x : Option OpenOffer). slice_get (and_offer s.sent x (offer_of cx s.socket).socket.queued.queue) (length s.sent)) offered
+      ∙ (ap (λ (queued : Ring ℕ). slice_get (and_offer s.sent (Some o) queued.queue) (length s.sent)) out.queued ∙ last_of s.sent gone)
+
+  left_after : left_of asked_side.socket ≡ left_of s.socket
+  left_after =
+      left_same s.socket asked_side.socket (record { state = out.sent.state; syn_unacked = out.sent.syn_unacked; queued = out.sent_queued })
+
+-- it begins anew at SND.UNA
+number_of : (p : PairValue) (side : Side) (moment : ℤ) → IsOpen (socket_of p side).block → (it : BeginsAnew (offer_of (context_of p side moment) (socket_of p side)).socket)
+    → it.o.segment.seq_number ≡ (socket_of p side).block.sender.una
+number_of p side moment mine it =
+    it.number
+    ∙ (refused_same (context_of p side moment) (socket_of p side) (late_in (socket_of p side).block.state mine.synchronized)).una
+
+some_of :
+    (p : PairValue) (side : Side) (moment : ℤ) → IsThere p side (Offer side moment true)
+    → (it : BeginsAnew (offer_of (context_of p side moment) (socket_of p side)).socket)
+    → 1 ≤ segment_len it.o.segment (length (text_of (socket_of p side) it.o))
+some_of p side moment h it =
+    let k = reached_keeps p side h.reached in
+    let a : IsPlaced (socket_of p side) k.side = placed (socket_of p side) k.side k.fits k.holds.0.well_formed h.mine.synchronized in
+    anew_some (context_of p side moment) (socket_of p side) (ready_side p side h.reached).order.number h.mine.acknowledged h.top a.few a.top it
+    (number_of p side moment h.mine it)
+
+begins_anew :
+    (p : PairValue) (side : Side) (moment : ℤ) → IsThere p side (Offer side moment true)
+    → BeginsAnew (offer_of (context_of p side moment) (socket_of p side)).socket → Goes p side (Offer side moment true)
+begins_anew p A moment h it = record {
+  x = sent_by p A it.o;
+  goes = record {
+    number = number_of p A moment h.mine it ∙ sym g.sent.una;
+    acknowledges = g.acknowledges ∙ ap Some (sym g.sent.next);
+    some = some_of p A moment h it;
+    ends =
+        subst (λ (n : ℕ). segment_len it.o.segment (length (text_of p.sides.a.socket it.o)) ≤ n)
+        (sym (left_after A p.sides.a moment it.o h.mine.acknowledged it.offered (ap carries it.kind))) g.ends;
+    no_syn = g.no_syn;
+    no_reset = g.no_reset;
+  };
+  sent = sent_last A p.sides.a moment it.o h.mine.acknowledged it.offered (ap carries it.kind);
+}
+  where
+    g : GoesOut p.sides.a.socket (offer_of (context_of p A moment) p.sides.a.socket).socket it.o
+    g = out A p.sides.a moment it.o h.mine.acknowledged it.offered (ap carries it.kind)
+begins_anew p B moment h it = record {
+  x = sent_by p B it.o;
+  goes = record {
+    number = number_of p B moment h.mine it ∙ sym g.sent.una;
+    acknowledges = g.acknowledges ∙ ap Some (sym g.sent.next);
+    some = some_of p B moment h it;
+    ends =
+        subst (λ (n : ℕ). segment_len it.o.segment (length (text_of p.sides.b.socket it.o)) ≤ n)
+        (sym (left_after B p.sides.b moment it.o h.mine.acknowledged it.offered (ap carries it.kind))) g.ends;
+    no_syn = g.no_syn;
+    no_reset = g.no_reset;
+  };
+  sent = sent_last B p.sides.b moment it.o h.mine.acknowledged it.offered (ap carries it.kind);
+}
+  where
+    g : GoesOut p.sides.b.socket (offer_of (context_of p B moment) p.sides.b.socket).socket it.o
+    g = out B p.sides.b moment it.o h.mine.acknowledged it.offered (ap carries it.kind)
+
+-- either way
+sends_in :
+    (p : PairValue) (side : Side) (event : PairEvent) → RunsOutIn p side event ⊎ BeginsAnewIn p side event → IsTaken event → IsThere p side event
+    → IsHinderedIn p side event ⊎ Goes p side event
+sends_in p A (Offer A moment true) (inl out) taken h = runs_out p A moment h out.1
+sends_in p B (Offer B moment true) (inl out) taken h = runs_out p B moment h out.1
+sends_in p A (Offer A moment true) (inr anew) taken h = inr (begins_anew p A moment h anew.1)
+sends_in p B (Offer B moment true) (inr anew) taken h = inr (begins_anew p B moment h anew.1)
+sends_in p A (Offer B moment true) (inl out) taken h = absurd (let no = out.0 in cc)
+sends_in p B (Offer A moment true) (inl out) taken h = absurd (let no = out.0 in cc)
+sends_in p A (Offer B moment true) (inr anew) taken h = absurd (let no = anew.0 in cc)
+sends_in p B (Offer A moment true) (inr anew) taken h = absurd (let no = anew.0 in cc)
+sends_in p side (Offer of moment false) starts taken h = clash (sym taken)
+sends_in p side (Listen of endpoint) (inl never) taken h = absurd never
+sends_in p side (Listen of endpoint) (inr never) taken h = absurd never
+sends_in p side (Connect of remote local) (inl never) taken h = absurd never
+sends_in p side (Connect of remote local) (inr never) taken h = absurd never
+sends_in p side (Send of bytes) (inl never) taken h = absurd never
+sends_in p side (Send of bytes) (inr never) taken h = absurd never
+sends_in p side (Recv of count) (inl never) taken h = absurd never
+sends_in p side (Recv of count) (inr never) taken h = absurd never
+sends_in p side (Close of) (inl never) taken h = absurd never
+sends_in p side (Close of) (inr never) taken h = absurd never
+sends_in p side (Abort of) (inl never) taken h = absurd never
+sends_in p side (Abort of) (inr never) taken h = absurd never
+sends_in p side (TcpSetting of setting) (inl never) taken h = absurd never
+sends_in p side (TcpSetting of setting) (inr never) taken h = absurd never
+sends_in p side (Deliver from k) (inl never) taken h = absurd never
+sends_in p side (Deliver from k) (inr never) taken h = absurd never
+
+-- A closed window stands in the way.
+shut_hinders : (p : PairValue) (side : Side) (k : ℕ) (course : List (ℤ × PairEvent)) → IsShutAmong p side k course → IsHinderedAmong p side (events_of course)
+shut_hinders p side k [] never = absurd never
+shut_hinders p side k (x ∷ course) (inl it) = inl (subst (λ (event : PairEvent). IsHinderedIn p side event) (sym it.0) (refl, it.1))
+shut_hinders p side k (x ∷ course) (inr it) = inr (shut_hinders (takes p x.1) side k course it)
+
+-- MOMENTS
+
+sum_of : (now : ℤ) (a b c : ℕ) → (now +ℤ pos (a + b + c + c)) ≡ (((now +ℤ pos a) +ℤ pos b) +ℤ pos c) +ℤ pos c
+sum_of now a b c = first_of (omega (arith, ints), grind (arith, ints))
+
+less_time : (a end : ℤ) (n : ℕ) → ((a +ℤ pos n) +ℤ pos n) <ℤ end → a <ℤ end
+less_time a end n e = first_of (omega (arith, ints), grind (arith, ints))
+
+sooner : (a b end : ℤ) (n : ℕ) → a ≤ℤ b → ((b +ℤ pos n) +ℤ pos n) <ℤ end → ((a +ℤ pos n) +ℤ pos n) <ℤ end
+sooner a b end n e f = first_of (omega (arith, ints), grind (arith, ints))
+
+-- THE COURSE
+
+sent_all : (p : PairValue) (side : Side) → IsReached p → IsOpen (socket_of p side).block
+    → (socket_of p side).block.sender.in_flight ≤ (socket_of p side).block.sender.top
+sent_all p side r mine = (is_sure p side r (not_closed (socket_of p side).block.state mine.synchronized) mine.synchronized mine.acknowledged).sent
+
+was_open : (old new : Bool) → (old ≡ true → new ≡ true) → new ≡ false → old ≡ false
+was_open true new e f = clash (sym (e refl) ∙ f)
+was_open false new e f = refl
+
+-- what of a course is left with each event
+abbrev Lasts : ℕ → PairValue → List (ℤ × PairEvent) → Type 0
+Lasts delay p course = AreTaken course × (DeliversWithin delay p course × AreHeard p course)
+
+lasts_on : (delay : ℕ) (p : PairValue) (x : ℤ × PairEvent) (course : List (ℤ × PairEvent)) → Lasts delay p (x ∷ course) → Lasts delay (takes p x.1) course
+lasts_on delay p x course l = (l.0.1, (l.1.0.1, l.1.1.1))
+
+module _ (p q : PairValue) (side : Side) (course : List (ℤ × PairEvent)) (wait delay : ℕ) (now : ℤ) (r : IsReached p) (o : AreOpen p)
+    (there : AreThere q) (flight : ((socket_of p side).block.sender.in_flight == 0) ≡ false) (c : GoesInTime wait delay now p side course)
+    (same : acked_in q side ≤ acked_in p side)
+    (st : Start (Lasts delay) p q side now ((now +ℤ pos (put_off_in p side)) +ℤ pos wait) course)
+    (over : ((((now +ℤ pos (put_off_in p side)) +ℤ pos wait) +ℤ pos delay) +ℤ pos delay) <ℤ end_of now course) where
+  abbrev Ways : Type 0
+  Ways = HasRisen p q side ⊎ (HasRisen p q (other side) ⊎ IsHinderedAmong p side (events_of course))
+
+  abbrev mid : PairValue
+  mid = st.mid
+
+  abbrev after : PairValue
+  after = takes mid st.x.1
+
+  begun_p : (of : Side) → IsBegun p of
+  begun_p of = begun p of r (open_of p of o)
+
+  to_mid : (of : Side) → MovesIn p mid of
+  to_mid of = by_steps p st.before_it mid r (begun_p A) (begun_p B) st.steps of
+
+  rm : IsReached mid
+  rm = reached_by p mid st.before_it r st.steps
+
+  begun_mid : (of : Side) → IsBegun mid of
+  begun_mid of = begun_after p mid of (to_mid of) (begun_p of)
+
+  allowed : refusal mid st.x.1 ≡ None
+  allowed = st.steps_on.0
+
+  to_after : (of : Side) → MovesIn mid after of
+  to_after of = by_steps mid (st.x.1 ∷ []) after rm (begun_mid A) (begun_mid B) (allowed, refl) of
+
+  ra : IsReached after
+  ra = reached_by mid after (st.x.1 ∷ []) rm (allowed, refl)
+
+  begun_then : (of : Side) → IsBegun after of
+  begun_then of = begun_after mid after of (to_after of) (begun_mid of)
+
+  from_after : (of : Side) → MovesIn after q of
+  from_after of = by_steps after (events_of st.rest) q ra (begun_then A) (begun_then B) st.steps_on.1 of
+
+  from_mid : (of : Side) → MovesIn mid q of
+  from_mid of = then_moves mid after q of (to_after of) (from_after of)
+
+  p_after : (of : Side) → MovesIn p after of
+  p_after of = then_moves p mid after of (to_mid of) (to_after of)
+
+  alive_at : (m : PairValue) (of : Side) → MovesIn m q of → is_closed (socket_of m of).block.state ≡ false
+  alive_at m of from =
+      was_open (is_closed (socket_of m of).block.state) (is_closed (socket_of q of).block.state) from.closed
+      (not_closed (socket_of q of).block.state (there_of q of there))
+
+  there_at : (m : PairValue) (of : Side) → IsBegun m of → MovesIn m q of → is_synchronized (socket_of m of).block.state ≡ true
+  there_at m of b from = late_on (socket_of m of).block.state b.early (alive_at m of from)
+
+  open_mid : IsOpen (socket_of mid side).block
+  open_mid = is_open mid side rm (there_at mid side (begun_mid side) (from_mid side)) (begun_mid side).syn
+
+  open_after : (of : Side) → IsOpen (socket_of after of).block
+  open_after of = is_open after of ra (there_at after of (begun_then of) (from_after of)) (begun_then of).syn
+
+  some_flight : 1 ≤ (socket_of p side).block.sender.in_flight
+  some_flight = positive (socket_of p side).block.sender.in_flight flight where
+    positive : (n : ℕ) → (n == 0) ≡ false → 1 ≤ n
+    positive zero e = clash e
+    positive (suc n) e = one n where
+      one : (n : ℕ) → 1 ≤ suc n
+      one n = omega arith
+
+  some_left : 1 ≤ left_in p side
+  some_left =
+      upto 1 (socket_of p side).block.sender.in_flight (left_in p side) some_flight
+      ((ready_side p side r).order.within (not_closed (socket_of p side).block.state (open_of p side o).synchronized))
+    where
+      upto : (a b c : ℕ) → a ≤ b → b ≤ c → a ≤ c
+      upto a b c e f = omega arith
+
+  owes : 1 ≤ left_in mid side
+  owes =
+      by (total_in p side) (left_in p side) (total_in mid side) (left_in mid side) (total_in q side) (left_in q side) some_left
+      (left_within p side r (open_of p side o)) (left_within mid side rm open_mid) (to_mid side).total (from_mid side).acked same
+    where
+      by : (a b c d e f : ℕ) → 1 ≤ b → b ≤ a → d ≤ c → a ≤ c → c + f ≤ e + d → e - f ≤ a - b → 1 ≤ d
+      by a b c d e f g h i j k l = omega arith
+
+  top : 1 ≤ (socket_of mid side).block.sender.top
+  top = by ((to_mid side).una (alive_at mid side (from_mid side))) where
+    upto : (a b c : ℕ) → 1 ≤ a → a ≤ b → b ≤ c → 1 ≤ c
+    upto a b c e f g = omega arith
+
+    never : (a b c d e f : ℕ) → b ≤ a → d ≤ c → a + d < c + b → c + f ≤ e + d → e - f ≤ a - b → ⊥
+    never a b c d e f g h i j k = absurd (omega arith)
+
+    by :
+        (((socket_of mid side).block.sender.una ≡ (socket_of p side).block.sender.una)
+        × ((socket_of p side).block.sender.top ≤ (socket_of mid side).block.sender.top))
+        ⊎ (total_in p side + left_in mid side < total_in mid side + left_in p side)
+        → 1 ≤ (socket_of mid side).block.sender.top
+    by (inl it) =
+        upto (socket_of p side).block.sender.in_flight (socket_of p side).block.sender.top (socket_of mid side).block.sender.top some_flight
+        (sent_all p side r (open_of p side o)) it.1
+    by (inr risen) =
+        absurd
+        (never (total_in p side) (left_in p side) (total_in mid side) (left_in mid side) (total_in q side) (left_in q side)
+        (left_within p side r (open_of p side o)) (left_within mid side rm open_mid) risen (from_mid side).acked same)
+
+  -- the stream, and the other's buffer, are no less then
+  stream : HasStream (past_at after side)
+  stream =
+      inr
+      (more (length (past_at p side).written) (length (past_at after side).written) (wrote c.stream) (p_after side).written)
+    where
+      more : (a b : ℕ) → 1 ≤ a → a ≤ b → 1 ≤ b
+      more a b e f = omega arith
+
+      some : (written : ℕ) {fin left : ℕ} → fin ≡ 0 → left ≤ written + fin → 1 ≤ left → 1 ≤ written
+      some written e f g = omega arith
+
+      wrote : HasStream (past_at p side) → 1 ≤ length (past_at p side).written
+      wrote (inl unclosed) = some (length (past_at p side).written) (ap one_if unclosed) (left_within p side r (open_of p side o)) some_left
+      wrote (inr some) = some
+
+  room : 1 ≤ room_of (socket_of after (other side)).received
+  room = subst (λ (n : ℕ). 1 ≤ n) (sym (p_after (other side)).room) c.room
+
+  lifted : (of : Side) → HasRisen after q of → HasRisen p q of
+  lifted of (inl e) =
+      inl (more (total_in p of) (left_in p of) (total_in after of) (left_in after of) (acked_in q of) (p_after of).acked e) where
+        more : (a b c d e : ℕ) → a + d ≤ c + b → c - d < e → a - b < e
+        more a b c d e x y = omega arith
+  lifted of (inr e) = inr (more (taken_in p of) (taken_in after of) (taken_in q of) (p_after of).taken e) where
+    more : (a b c : ℕ) → a ≤ b → b < c → a < c
+    more a b c x y = omega arith
+
+  -- the exchange
+  exchanges : Goes mid side st.x.1 → Ways
+  exchanges it =
+      by
+      (exchange_in_time after q side (next_sent mid side) it.x st.rest delay st.x.0 ra (open_after A, open_after B) st.steps_on.1 there stream room it.goes
+      it.sent (st.has.1.0.0 side (next_sent mid side) (itself (next_sent mid side)) sent_now) st.clocked st.has.1.0.1 st.has.1.1.1
+      (subst (λ (end : ℤ). ((st.x.0 +ℤ pos delay) +ℤ pos delay) <ℤ end) (sym st.same_end)
+      (sooner st.x.0 ((now +ℤ pos (put_off_in p side)) +ℤ pos wait) (end_of now course) delay st.within over)))
+    where
+      itself : (n : ℕ) → n ≤ n
+      itself n = omega arith
+
+      sent_now : next_sent mid side < next_sent after side
+      sent_now = slice_get_within (at after.sides side).sent (next_sent mid side) it.x it.sent
+
+      by : HasRisen after q side ⊎ (HasRisen after q (other side) ⊎ IsShutAmong after side (next_sent mid side) st.rest) → Ways
+      by (inl risen) = inl (lifted side risen)
+      by (inr (inl risen)) = inr (inl (lifted (other side) risen))
+      by (inr (inr shut)) = inr (inr (st.hindered (inr (shut_hinders after side (next_sent mid side) st.rest shut))))
+
+  started : Ways
+  started =
+      by
+      (sends_in mid side st.x.1 st.starts st.has.0.0
+      (record { reached = rm; mine = open_mid; owes = owes; top = top; stays = there_at after side (begun_then side) (from_after side) }))
+    where
+      by : IsHinderedIn mid side st.x.1 ⊎ Goes mid side st.x.1 → Ways
+      by (inl hindered) = inr (inr (st.hindered (inl hindered)))
+      by (inr it) = exchanges it
+
+pub goes_on_in_time :
+    (p q : PairValue) (side : Side) (course : List (ℤ × PairEvent)) (wait delay : ℕ) (now : ℤ) → IsReached p → AreOpen p → Steps p (events_of course) q
+    → AreThere q → ((socket_of p side).block.sender.in_flight == 0) ≡ false → GoesInTime wait delay now p side course
+    → (now +ℤ pos (span_of wait delay p side)) <ℤ end_of now course
+    → HasRisen p q side ⊎ (HasRisen p q (other side) ⊎ IsHinderedAmong p side (events_of course))
+goes_on_in_time p q side course wait delay now r o s there flight c over =
+    by
+    (starts_in_course (Lasts delay) (lasts_on delay) p q side course wait now r o s (there_of q side there) flight c.clock c.clocked c.asks
+    (c.taken, (c.delivers, c.heard)) (less_time ((now +ℤ pos (put_off_in p side)) +ℤ pos wait) (end_of now course) delay over_all))
+  where
+    over_all : ((((now +ℤ pos (put_off_in p side)) +ℤ pos wait) +ℤ pos delay) +ℤ pos delay) <ℤ end_of now course
+    over_all = subst (λ (m : ℤ). m <ℤ end_of now course) (sum_of now (put_off_in p side) wait delay) over
+
+    by :
+        (acked_in p side < acked_in q side)
+        ⊎ ((acked_in q side ≤ acked_in p side)
+        × Start (Lasts delay) p q side now ((now +ℤ pos (put_off_in p side)) +ℤ pos wait) course)
+        → HasRisen p q side ⊎ (HasRisen p q (other side) ⊎ IsHinderedAmong p side (events_of course))
+    by (inl risen) = inl (inl risen)
+    by (inr it) = started p q side course wait delay now r o there flight c it.0 it.1 over_all
