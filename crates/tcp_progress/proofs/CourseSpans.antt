@@ -27,8 +27,8 @@ use Rattle.tcp_progress.specs.Pair.{HasStream, left_in, next_sent, socket_of}
 use Rattle.tcp_progress.specs.PutOff.{IsAskedBefore, IsRunning}
 use Rattle.tcp_progress.specs.Reached.{IsReached}
 use Rattle.tcp_progress.specs.Rounds.{takes}
-use Rattle.tcp_progress.specs.Sent.{taken_in}
-use Rattle.tcp_progress.specs.Spans.{IsIdleAmong, reached_in}
+use Rattle.tcp_progress.specs.Sent.{sent_in, taken_in, unsent_in}
+use Rattle.tcp_progress.specs.Spans.{IsIdleAmong, most_reached, reached_in}
 use Rattle.tcp_progress.proofs.CourseGoes.{goes_on_in_time}
 use Rattle.tcp_progress.proofs.CourseRuns.{wants}
 use Rattle.tcp_progress.proofs.Kept.{reached_by}
@@ -40,6 +40,7 @@ use Rattle.tcp_progress.proofs.PairTimers.{timer_near}
 use Rattle.tcp_progress.proofs.PutOff.{is_running}
 use Rattle.tcp_progress.proofs.PutOffRuns.{ClockIn, clock_after}
 use Rattle.tcp_progress.proofs.Ready.{ready_side}
+use Rattle.tcp_progress.proofs.SentPairs.{reached_taken}
 use Rattle.tcp_progress.proofs.Turns.{late_on}
 
 abbrev Course : Type 0
@@ -504,3 +505,41 @@ reached_in_spans (suc n) p q side course wait delay now r o s there c over =
     by : Rest → (none : Bool) → ((socket_of p side).block.sender.in_flight == 0) ≡ none → Ways
     by rest true e = inr (inr (idle_now p side course (eqb-true (socket_of p side).block.sender.in_flight 0 e)))
     by rest false e = by_cut rest e found
+
+-- each position of both streams is acknowledged once, and taken once
+all_reached :
+    (q : PairValue) → IsReached q → AreThere q → reached_in q ≤ most_reached q
+all_reached q r there =
+    both (total_in q A) (left_in q A) (taken_in q A) (total_in q B) (left_in q B) (taken_in q B) (taken B) (taken A) where
+      within : (of : Side) → sent_in (socket_of q of) (past_at q of) - 1 ≤ total_in q of
+      within of = less (length (past_at q of).written) (one_if (past_at q of).closed) (unsent_in (socket_of q of)) where
+        less : (written closed unsent : ℕ) → suc written + closed - unsent - 1 ≤ written + closed
+        less written closed unsent = omega arith
+
+      upto : (a b c : ℕ) → a ≤ b → b ≤ c → a ≤ c
+      upto a b c e f = omega arith
+
+      taken : (of : Side) → taken_in q (other of) ≤ total_in q of
+      taken of =
+          upto (taken_in q (other of)) (sent_in (socket_of q of) (past_at q of) - 1) (total_in q of) (reached_taken q of r (there_of q of there)) (within of)
+
+      both : (a b c d e f : ℕ) → c ≤ d → f ≤ a → a - b + c + (d - e + f) ≤ 2 * (a + d)
+      both a b c d e f x y = omega arith
+
+pub through_in_spans :
+    (p q : PairValue) (side : Side) (course : Course) (wait delay : ℕ) (now : ℤ) → IsReached p → AreOpen p → Steps p (events_of course) q → AreThere q
+    → GoesInTime wait delay now p side course
+    → (now +ℤ pos (suc (most_reached q - reached_in p) * (2 * span_of wait delay p side))) <ℤ end_of now course
+    → IsHinderedAmong p side (events_of course) ⊎ IsIdleAmong p side (events_of course)
+through_in_spans p q side course wait delay now r o s there c over =
+    by (reached_in_spans (suc (most_reached q - reached_in p)) p q side course wait delay now r o s there c over) where
+      never : (a b c : ℕ) → b ≤ c → a + suc (c - a) ≤ b → ⊥
+      never a b c e f = absurd (omega arith)
+
+      by :
+          (reached_in p + suc (most_reached q - reached_in p) ≤ reached_in q)
+          ⊎ (IsHinderedAmong p side (events_of course) ⊎ IsIdleAmong p side (events_of course))
+          → IsHinderedAmong p side (events_of course) ⊎ IsIdleAmong p side (events_of course)
+      by (inl more) =
+          absurd (never (reached_in p) (reached_in q) (most_reached q) (all_reached q (reached_by p q (events_of course) r s) there) more)
+      by (inr it) = it

@@ -16,23 +16,19 @@ use Rattle.tcp_model.specs.declared.block.CongestionControl.{CongestionControl}
 use Rattle.tcp_model.specs.declared.block.Loss.{Loss}
 use Rattle.tcp_rules.specs.EndpointPair.{EndpointPair}
 use Rattle.tcp_rules.specs.Endpoints.{header_for}
-use Rattle.tcp_rules.specs.Events.{Event, after}
-use Rattle.tcp_rules.specs.InOrder.{sending_of, IsInOrder}
 use Rattle.tcp_rules.specs.Moments.{is_due}
 use Rattle.tcp_rules.specs.OfferKind.{OfferKind}
 use Rattle.tcp_rules.specs.OfferKind.TheVariants as Kind
 use Rattle.tcp_rules.specs.OpenOffer.{OpenOffer}
 use Rattle.tcp_rules.specs.RecvError.{RecvError}
-use Rattle.tcp_rules.specs.Recovery.{recovery_of, IsPaced}
 use Rattle.tcp_rules.specs.State.TheVariants as In
 use Rattle.tcp_rules.specs.States.{is_closed, is_opening, is_time_wait, takes_writes, after_close}
-use Rattle.tcp_rules.specs.Timing.{timing_of, IsTimedRight}
-use Rattle.tcp_rules.proofs.HoleRules.{Believes, believed_of, event_on, nothing_believed}
+use Rattle.tcp_rules.proofs.ApartRuns.{Board}
+use Rattle.tcp_rules.proofs.HoleRules.{led_on, nothing_believed}
 use Rattle.tcp_rules.proofs.OfferCases.{FirstRules, by_rules, begun, probing}
-use Rattle.tcp_rules.proofs.OrderRules.{event_order, new_order}
 use Rattle.tcp_rules.proofs.OrderSteps.{clash}
-use Rattle.tcp_rules.proofs.RecoveryRules.{event_paced, new_paced}
-use Rattle.tcp_rules.proofs.TimingRules.{event_right}
+use Rattle.tcp_rules.proofs.RecoveryRules.{led_lasts}
+use Rattle.tcp_rules.proofs.TimingRules.{led_timing}
 use Rattle.tcp_pair_model.specs.Arrival.{arrives}
 use Rattle.tcp_pair_model.specs.Block.{Block}
 use Rattle.tcp_pair_model.specs.Calls.{connected_by, listening, pair_for, recv_answer, sent_more}
@@ -62,60 +58,33 @@ use Rattle.tcp_progress.specs.Pair.{socket_of}
 use Rattle.tcp_progress.specs.PutOff.{IsAskedBefore, Mends, MendsIn, RunsOutAt}
 use Rattle.tcp_progress.specs.Reached.{IsReached}
 use Rattle.tcp_progress.specs.Rounds.{takes}
-use Rattle.tcp_progress.proofs.Events.{of_side, by_steps}
 use Rattle.tcp_progress.proofs.Kept.{reached_keeps}
+use Rattle.tcp_progress.proofs.Leads.{led_side}
 use Rattle.tcp_progress.proofs.Mending.{Few, IsSure, Mending, arrival_few, armed_few, asked_few, mended, mending_in, mending_of, probed_few, probed_lasts}
 use Rattle.tcp_progress.proofs.Positions.{IsPlaced, placed}
+use Rattle.tcp_progress.proofs.Ready.{ready_side}
 
--- WHAT IS SO OF EACH SOCKET
-
-record IsSteady (v : TcpValue) : Type 0 where
-  order : IsInOrder (sending_of v)
-  right : IsTimedRight (timing_of v.block)
-  paced : IsPaced (recovery_of v.block)
-  believes : Believes (believed_of v.block)
-
-event_steady : (v : TcpValue) (it : Event) → IsSteady v → IsSteady (after v it)
-event_steady v it s = record {
-  order = event_order v it s.order;
-  right = event_right v it s.order s.right;
-  paced = event_paced v it s.order s.paced;
-  believes = event_on v it s.believes;
-}
-
-unoffered_steady : (v : TcpValue) → IsSteady v → IsSteady (unoffered v)
-unoffered_steady v s = record { order = s.order; right = s.right; paced = s.paced; believes = s.believes }
-
-new_steady : (room : ℕ) (ring : Ring ℕ) → IsSteady (new_socket room ring)
-new_steady room ring = record {
-  order = new_order room ring;
-  right = record { timed = tt; sent = omega arith; listens = λ _. refl };
-  paced = new_paced room ring;
-  believes = nothing_believed;
-}
-
-steady_side : (p : PairValue) (side : Side) → IsReached p → IsSteady (socket_of p side)
-steady_side p side r =
-    of_side IsSteady p.sides side
-    (by_steps IsSteady event_steady unoffered_steady (new_pair (new_socket r.room_a r.ring_a) (new_socket r.room_b r.ring_b)) r.events p r.steps
-    (record { first = new_steady r.room_a r.ring_a; second = new_steady r.room_b r.ring_b }))
+-- WHAT IS SO OF EACH CONNECTION
 
 pub is_sure :
     (p : PairValue) (side : Side) → IsReached p → is_closed (socket_of p side).block.state ≡ false
     → is_synchronized (socket_of p side).block.state ≡ true → (socket_of p side).block.sender.syn_unacked ≡ false
     → IsSure (socket_of p side).block (queued_in (socket_of p side))
 is_sure p side r alive there syn =
-    let s = steady_side p side r in
+    let order = (ready_side p side r).order in
+    let l = led_side p side r in
     let k = reached_keeps p side r in
     let it : IsPlaced (socket_of p side) k.side = placed (socket_of p side) k.side k.fits k.holds.0.well_formed there in
     record {
-      small = s.order.number;
+      small = order.number;
       syn = syn;
-      sent = s.right.sent;
-      within = s.order.within alive;
+      sent = subst (λ (v : TcpValue). v.block.sender.in_flight ≤ v.block.sender.top) (sym l.is) (led_timing l.room l.ring l.events).sent;
+      within = order.within alive;
       few = less (socket_of p side).block.sender.top _ it.top it.few;
-      board = s.believes.board;
-      lasts = s.paced.lasts;
+      board =
+          subst (λ (v : TcpValue). Board v.block.loss.board.runs) (sym l.is) (led_on (new_socket l.room l.ring) l.events nothing_believed).board;
+      lasts =
+          subst (λ (v : TcpValue). v.block.reno.recovers ≡ true → 1 ≤ v.block.sender.recover) (sym l.is) (led_lasts l.room l.ring l.events);
     }
   where
     less : (a b : ℕ) → a ≤ b → b < 2 ^ 30 → a < 2 ^ 30

@@ -1,6 +1,6 @@
 //! That a connection goes on within a span of time.
 
-ghost use Rattle.std.specs.Prelude.{◌≡◌, ◌⊎◌, ℕ, ◌+◌, ◌*◌, ◌==◌, ◌<◌, ◌≤◌, ℤ, pos, ◌+ℤ◌, ◌≤ℤ◌, ◌<ℤ◌, true, false, List, None, Some, slice_get};
+ghost use Rattle.std.specs.Prelude.{◌≡◌, ◌⊎◌, ℕ, suc, ◌+◌, ◌-◌, ◌*◌, ◌==◌, ◌<◌, ◌≤◌, ℤ, pos, ◌+ℤ◌, ◌≤ℤ◌, ◌<ℤ◌, true, false, List, None, Some, slice_get};
 ghost use Rattle.tcp_rules.specs.Ends.{GoesOn};
 ghost use Rattle.tcp_rules.specs.Moments.{is_due};
 ghost use Rattle.tcp_pair_model.specs.Sides.{at, other};
@@ -22,7 +22,7 @@ ghost use Rattle.tcp_progress.specs.Pair.{HasStream, context_of, left_in, socket
 ghost use Rattle.tcp_progress.specs.PutOff.{ProbesAt, RunsOutAmong};
 ghost use Rattle.tcp_progress.specs.Reached.{IsReached};
 ghost use Rattle.tcp_progress.specs.Restart.{Sends};
-ghost use Rattle.tcp_progress.specs.Spans.{IsIdleAmong, reached_in};
+ghost use Rattle.tcp_progress.specs.Spans.{IsIdleAmong, most_reached, reached_in};
 
 /// Within a minute for each position that may be sent past SND.UNA, and two more, SND.UNA of a side with something in flight rises; or it is asked
 /// when its timer has run out; or a segment goes again from SND.UNA on. A recovery puts the timer off no longer than that: each segment that
@@ -78,10 +78,15 @@ pub fn a_connection_goes_on_in_time()
 {}
 
 /// So a position is reached in each two spans, by an acknowledgement or in what a side takes: in a course of so many, as many positions of the two
-/// streams are reached; or a window stood in the way of the side; or at some time it had nothing in flight.
+/// streams are reached; or a window stood in the way of the side; or at some time it had nothing in flight. And one of the last two is so
+/// where the course goes on longer than there are positions to reach.
 pub fn each_two_spans_reach_a_position()
     ensures reached { (n : ℕ) (p q : PairValue) (side : Side) (course : List (ℤ × PairEvent)) (wait delay : ℕ) (now : ℤ) → IsReached p → AreOpen p
         → Steps p (events_of course) q → AreThere q → GoesInTime wait delay now p side course
         → (now +ℤ pos (n * (2 * span_of wait delay p side))) <ℤ end_of now course
         → (reached_in p + n ≤ reached_in q) ⊎ (IsHinderedAmong p side (events_of course) ⊎ IsIdleAmong p side (events_of course)) }
+    ensures through { (p q : PairValue) (side : Side) (course : List (ℤ × PairEvent)) (wait delay : ℕ) (now : ℤ) → IsReached p → AreOpen p
+        → Steps p (events_of course) q → AreThere q → GoesInTime wait delay now p side course
+        → (now +ℤ pos (suc (most_reached q - reached_in p) * (2 * span_of wait delay p side))) <ℤ end_of now course
+        → IsHinderedAmong p side (events_of course) ⊎ IsIdleAmong p side (events_of course) }
 {}
