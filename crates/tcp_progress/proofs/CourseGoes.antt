@@ -120,8 +120,8 @@ runs_out p side moment h due = by (nat_le worth window) (nat_le worth cwnd) refl
   by :
       (a b : Bool) → nat_le worth window ≡ a → nat_le worth cwnd ≡ b → IsHinderedIn p side (Offer side moment true) ⊎ Goes p side (Offer side moment true)
   by true true e f = inr (goes (sends (leb-true worth window e) (leb-true worth cwnd f)))
-  by false b e f = inl (refl, inl (leb-false worth window e))
-  by true false e f = inl (refl, inr (leb-false worth cwnd f))
+  by false b e f = inl (refl, (due, inl (leb-false worth window e)))
+  by true false e f = inl (refl, (due, inr (leb-false worth cwnd f)))
 
 -- what an offer of a side leaves of it, and of what it sent
 module _ (side : Side) (s : PairSide) (moment : ℤ) (o : OpenOffer) (syn : s.socket.block.sender.syn_unacked ≡ false)

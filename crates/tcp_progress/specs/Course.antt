@@ -1,6 +1,7 @@
 -- Two hosts and a link that take their time: events, each at a moment of one clock.
 use Rattle.std.specs.Prelude.{◌≡◌, ◌⊎◌, ℕ, ◌+◌, ◌<◌, ◌≤◌, ℤ, pos, ◌+ℤ◌, ◌≤ℤ◌, true, false, List, [], ◌∷◌, length, Some, slice_get}
 use Rattle.tcp_tie.specs.Offers.{IsBefore}
+use Rattle.tcp_rules.specs.Moments.{is_due}
 use Rattle.tcp_pair_model.specs.Due.{poll_of}
 use Rattle.tcp_pair_model.specs.Names.{accepts}
 use Rattle.tcp_pair_model.specs.Segments.{segment_len}
@@ -109,14 +110,15 @@ abbrev pub AreTaken : List (ℤ × PairEvent) → Type 0
 AreTaken [] = Unit {0}
 AreTaken (x ∷ course) = IsTaken x.1 × AreTaken course
 
--- With this event a segment of a side comes while the other's window is closed; or the side is asked while the window that it knows, or that
--- of congestion control, takes neither a full segment nor all that is queued.
+-- With this event a segment of a side comes while the other's window is closed; or the side is asked when its timer has run out, and the window
+-- that it knows, or that of congestion control, takes neither a full segment nor all that is queued.
 abbrev pub IsHinderedIn : PairValue → Side → PairEvent → Type 0
 IsHinderedIn p side (Deliver from k) = (from ≡ side) × (free_in (socket_of p (other side)) ≡ 0)
 IsHinderedIn p side (Offer of moment sent) =
     (of ≡ side)
+    × ((is_due moment (socket_of p side).block.timers.retransmit_at ≡ true)
     × (((socket_of p side).block.peer.window < worth_sending (socket_of p side))
-    ⊎ (first_cwnd (context_of p side moment) (socket_of p side).block < worth_sending (socket_of p side)))
+    ⊎ (first_cwnd (context_of p side moment) (socket_of p side).block < worth_sending (socket_of p side))))
 IsHinderedIn p side other = ⊥
 
 -- so it is with one of these events

@@ -68,8 +68,8 @@ pub fn a_due_probe_goes()
 
 /// A connection goes on in time. In a course in which each side is asked in time, what it offers goes, and each segment comes in time, and is
 /// heard: within a span that these times and the other's buffer make, SND.UNA or RCV.NXT of a side rises, where a side has something in flight;
-/// or a window stood in its way meanwhile: the other's was closed as its segment came, or it took neither a full segment nor all that was
-/// queued, or that of congestion control did so, as the side was asked.
+/// or a window stood in its way meanwhile: the other's was closed as a segment of it came; or the one that it knows, or that of congestion
+/// control, took neither a full segment nor all that was queued as its timer had run out.
 pub fn a_connection_goes_on_in_time()
     ensures goes { (p q : PairValue) (side : Side) (course : List (ℤ × PairEvent)) (wait delay : ℕ) (now : ℤ) → IsReached p → AreOpen p
         → Steps p (events_of course) q → AreThere q → ((socket_of p side).block.sender.in_flight == 0) ≡ false
