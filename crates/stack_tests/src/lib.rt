@@ -7,4 +7,6 @@ mod cases;
 #[cfg(test)]
 mod hosts;
 #[cfg(test)]
+mod uses;
+#[cfg(test)]
 mod worlds;

@@ -207,7 +207,7 @@ fn first_wrong(alloc: Global, port: &mut Port, steps: &[Step]) -> Option<usize> 
 }
 
 /// The life of a port of bare IP.
-const PORT: [Step; 29] = [
+static PORT: [Step; 29] = [
     // A port has its capabilities, and room without a bound.
     HasMtu(1500),
     HasRoom(usize::MAX),

@@ -107,7 +107,7 @@ const FOUR: &[(u8, u8)] = &[(4, 4), (12, 4), (20, 4), (1, 1)];
 
 const FOUR_RUNS: Step = Holds(&[(1, 2), (4, 8), (12, 16), (20, 24)]);
 
-const LIVES: [Held; 6] = [
+static LIVES: [Held; 6] = [
     // A filled front is removed.
     Held(&[], &[Adds(50, 10), Passes(0, 50, 60), IsEmpty]),
     // A fifth run is refused.

@@ -162,7 +162,7 @@ impl Life for Looped {
     }
 }
 
-const LIVES: [Looped; 5] = [
+static LIVES: [Looped; 5] = [
     // It receives what it sent.
     Looped(
         Medium::Ethernet,

@@ -218,7 +218,7 @@ impl Life for Queue {
     }
 }
 
-const LIVES: [Queue; 12] = [
+static LIVES: [Queue; 12] = [
     // Nothing is queued at the beginning.
     Queue(
         2,

@@ -236,7 +236,7 @@ impl Life for Ring {
     }
 }
 
-const LIVES: [Ring; 7] = [
+static LIVES: [Ring; 7] = [
     // Bytes are copied round the end.
     Ring(
         12,

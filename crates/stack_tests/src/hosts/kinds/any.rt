@@ -115,7 +115,7 @@ impl Life for OfAnyKind {
     }
 }
 
-const SOCKETS: [OfAnyKind; 3] = [
+static SOCKETS: [OfAnyKind; 3] = [
     // A socket is of its own kind.
     OfAnyKind(Kind::Raw, &[Is([true, false, false])]),
     OfAnyKind(Kind::Icmp, &[Is([false, true, false])]),

@@ -200,7 +200,7 @@ impl Life for Datagrams {
     }
 }
 
-const LIVES: [Datagrams; 8] = [
+static LIVES: [Datagrams; 8] = [
     // A short slice truncates and stays as it was.
     Datagrams(
         64,

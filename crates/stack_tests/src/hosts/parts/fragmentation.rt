@@ -74,7 +74,7 @@ impl Life for Slot {
     }
 }
 
-const SLOTS: [Slot; 6] = [
+static SLOTS: [Slot; 6] = [
     // Bytes that come again overwrite those that came before.
     Slot(&[
         HasSize(5, Ok(())),
@@ -246,7 +246,7 @@ impl Life for Slots {
     }
 }
 
-const SETS: [Slots; 7] = [
+static SETS: [Slots; 7] = [
     // A slot for each datagram, also where only the protocol differs: a third one finds none.
     Slots(
         2,

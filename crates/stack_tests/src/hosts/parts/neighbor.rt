@@ -66,7 +66,7 @@ impl Life for Cached {
 }
 
 /// An expiry of its own, and a renewal for the same hardware address alone.
-const RENEWED: Cached = Cached(&[
+static RENEWED: [Cached; 1] = [Cached(&[
     Fills(1, 1_000, HARDWARE_A),
     Misses(1, 1_000),
     Renews(1, 1_000, HARDWARE_B),
@@ -76,11 +76,11 @@ const RENEWED: Cached = Cached(&[
     Finds(1, 60_000_999, HARDWARE_A),
     Renews(2, 1_000, HARDWARE_A),
     Misses(2, 1_000),
-]);
+])];
 
 #[test]
 fn renews(rt: HostRuntime) {
-    all_live(&rt, &[RENEWED]);
+    all_live(&rt, &RENEWED);
 }
 
 #[test]

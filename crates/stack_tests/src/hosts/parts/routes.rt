@@ -65,7 +65,7 @@ const V4: Option<IpAddress> = Some(IpAddress::Ipv4(ROUTER4));
 const V6: Option<IpAddress> = Some(IpAddress::Ipv6(ROUTER6));
 
 /// Each family has one of its own, which another one of the family replaces.
-const DEFAULTS: Table = Table(&[
+static DEFAULTS: [Table; 1] = [Table(&[
     Leads4(None),
     Leads6(None),
     Adds6(ROUTER6),
@@ -77,9 +77,9 @@ const DEFAULTS: Table = Table(&[
     Removes6,
     Leads4(V4),
     Leads6(None),
-]);
+])];
 
 #[test]
 fn tells_default_routes(rt: HostRuntime) {
-    all_live(&rt, &[DEFAULTS]);
+    all_live(&rt, &DEFAULTS);
 }

@@ -69,7 +69,7 @@ impl Life for Mark {
     }
 }
 
-const MARKS: [Mark; 4] = [
+static MARKS: [Mark; 4] = [
     // A new socket doesn't wait.
     Mark(&[
         Polls(When::Now, false, 1_500_000, When::Now),

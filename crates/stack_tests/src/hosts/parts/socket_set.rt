@@ -198,7 +198,7 @@ impl Life for Set {
     }
 }
 
-const IN_ONE_PLACE: [Set; 4] = [
+static IN_ONE_PLACE: [Set; 4] = [
     // A second socket comes back.
     Set(
         Storage::OnePlace,
@@ -224,7 +224,7 @@ const IN_ONE_PLACE: [Set; 4] = [
 ];
 
 /// All but the first have sockets 7 and 9, with an unused place between them.
-const GROWING: [Set; 7] = [
+static GROWING: [Set; 7] = [
     // A place that becomes free is taken first.
     Set(
         Storage::Growing,

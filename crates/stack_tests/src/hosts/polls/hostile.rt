@@ -18,7 +18,7 @@ const AT_A_PORT: u32 = 1_000;
 
 /// Packets for a host at 192.168.1.1: a datagram for its socket, one for none, a segment, an echo request, two pieces of a
 /// datagram, an error about one, and to fd00::1 a datagram and a piece.
-const PACKETS: [&[u8]; 9] = [
+static PACKETS: [&[u8]; 9] = [
     &[
         0x45, 0, 0, 32, 0, 0, 0x40, 0, 0x40, 17, 0xb7, 0x79, 192, 168, 1, 2, 192, 168, 1, 1, 0xbf,
         0, 0xbf, 0, 0, 12, 0, 0, 0xaa, 0, 0, 0xff,
@@ -61,7 +61,7 @@ const PACKETS: [&[u8]; 9] = [
 ];
 
 /// Packets that come over Ethernet alone: an ARP request, and a solicitation for fd00::1.
-const NEIGHBOURS: [&[u8]; 2] = [
+static NEIGHBOURS: [&[u8]; 2] = [
     &[
         0, 1, 8, 0, 6, 4, 0, 1, 2, 0, 0, 0, 0, 2, 192, 168, 1, 2, 0, 0, 0, 0, 0, 0, 192, 168, 1, 1,
     ],

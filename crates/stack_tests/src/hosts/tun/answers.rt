@@ -96,7 +96,7 @@ impl Life for Link {
     }
 }
 
-const LINKS: [Link; 3] = [
+static LINKS: [Link; 3] = [
     // An answer is what was sent and the next moment.
     Link(&[
         Sends(7),

@@ -17,7 +17,7 @@ impl Life for End {
 }
 
 /// Each as the host says it, so those of turns stand in its own.
-const ENDS: [End; 11] = [
+static ENDS: [End; 11] = [
     End(ServeError::Turn(TurnError::Length), "a packet is too long"),
     End(
         ServeError::Turn(TurnError::Moment),

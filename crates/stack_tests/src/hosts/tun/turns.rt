@@ -63,7 +63,7 @@ impl Life for Bytes {
     }
 }
 
-const TURNS: [Bytes; 4] = [
+static TURNS: [Bytes; 4] = [
     // They come one after the other.
     Bytes(
         &TWO,

@@ -4,7 +4,7 @@ ghost use Rattle.net_base.specs.Packets.{packets_in};
 ghost use Rattle.sockets.specs.Socket.{Offers};
 ghost use Rattle.sockets.specs.Offer.{Offer};
 ghost use Rattle.sockets.specs.declared.socket.Socket.{Socket};
-ghost use Rattle.uses.specs.Settled.{SettlesBy};
+ghost use Rattle.stack_tests.specs.Settled.{SettlesBy};
 
 use anyhow::Result;
 use ip_wire::IpListenEndpoint;

@@ -6,7 +6,7 @@ ghost use Rattle.tcp_pair.specs.Promises.{IsFresh};
 ghost use Rattle.tcp_pair.specs.Safe.{IsSafe};
 ghost use Rattle.sockets.specs.TcpReceive.{FitsBuffer};
 
-use crate::two_hosts::boxed;
+use crate::uses::two_hosts::boxed;
 use anyhow::Result;
 use ip_wire::{IpAddress, IpEndpoint, IpListenEndpoint, TcpControl};
 use net_base::{Instant, ManagedSlice, RingBuffer};
@@ -144,14 +144,21 @@ impl Link {
     }
 
     /// Carries the next segment of this side, if there is one, and shows it.
-    fn carry(&mut self, rt: &HostRuntime, pair: &mut Pair, from: Side, now: i64) -> Result<()> {
+    fn carry(
+        &mut self,
+        alloc: Global,
+        picture: &mut String,
+        pair: &mut Pair,
+        from: Side,
+        now: i64,
+    ) -> Result<()> {
         let k = self.next(from);
         if pair.sent(from).len() <= k {
             return Ok(());
         }
         self.count(from);
         let lost = self.all % 3 == 0;
-        show_segment(rt, pair, from, k, now, lost)?;
+        show_segment(alloc, picture, pair, from, k, now, lost)?;
         if lost {
             Ok(())
         } else {
@@ -162,7 +169,8 @@ impl Link {
 
 /// Shows the segment of this side at this place.
 fn show_segment(
-    rt: &HostRuntime,
+    alloc: Global,
+    picture: &mut String,
     pair: &Pair,
     from: Side,
     k: usize,
@@ -171,8 +179,8 @@ fn show_segment(
 ) -> Result<()> {
     match (pair.sent(from).first(), pair.sent(from).get(k)) {
         (Some(first), Some(segment)) => {
-            let label = described(rt.alloc(), pair, from, first, segment)?;
-            show(rt, now, from, label.as_str(), lost)
+            let label = described(alloc, pair, from, first, segment)?;
+            Ok(show(picture, now, from, label.as_str(), lost)?)
         }
         _ => Ok(()),
     }
@@ -218,76 +226,94 @@ fn described(
     })
 }
 
-fn show(rt: &HostRuntime, now: i64, from: Side, label: &str, lost: bool) -> Result<()> {
+fn show(
+    picture: &mut String,
+    now: i64,
+    from: Side,
+    label: &str,
+    lost: bool,
+) -> Result<(), AllocError> {
     let millis = now / 1000;
     match (from, lost) {
-        (Side::A, false) => println!(rt; "{millis:>6}  A --{label:-<26}-> B")?,
-        (Side::A, true) => println!(rt; "{millis:>6}  A --{label:-<22}- x   B")?,
-        (Side::B, false) => println!(rt; "{millis:>6}  A <-{label:->26}-- B")?,
-        (Side::B, true) => println!(rt; "{millis:>6}  A   x -{label:->22}-- B")?,
+        (Side::A, false) => write!(picture, "{millis:>6}  A --{label:-<26}-> B\n"),
+        (Side::A, true) => write!(picture, "{millis:>6}  A --{label:-<22}- x   B\n"),
+        (Side::B, false) => write!(picture, "{millis:>6}  A <-{label:->26}-- B\n"),
+        (Side::B, true) => write!(picture, "{millis:>6}  A   x -{label:->22}-- B\n"),
     }
-    Ok(())
 }
 
 /// One side is offered its next segment, and the link carries what there is.
-fn offer(rt: &HostRuntime, pair: &mut Pair, link: &mut Link, side: Side, now: i64) -> Result<()> {
+fn offer(
+    alloc: Global,
+    picture: &mut String,
+    pair: &mut Pair,
+    link: &mut Link,
+    side: Side,
+    now: i64,
+) -> Result<()> {
     take(
         pair,
         PairEvent::Offer(side, Instant::from_micros(now), true),
     )?;
     for _ in 0..9 {
-        link.carry(rt, pair, Side::A, now)?;
-        link.carry(rt, pair, Side::B, now)?;
+        link.carry(alloc, picture, pair, Side::A, now)?;
+        link.carry(alloc, picture, pair, Side::B, now)?;
     }
     Ok(())
 }
 
 /// The users act, then both sides are offered a segment.
 fn turn(
-    rt: &HostRuntime,
+    alloc: Global,
+    picture: &mut String,
     pair: &mut Pair,
     users: &mut Users,
     link: &mut Link,
     now: i64,
 ) -> Result<()> {
-    write(rt.alloc(), pair, users)?;
+    write(alloc, pair, users)?;
     read(pair, users)?;
-    offer(rt, pair, link, Side::A, now)?;
-    offer(rt, pair, link, Side::B, now)
+    offer(alloc, picture, pair, link, Side::A, now)?;
+    offer(alloc, picture, pair, link, Side::B, now)
 }
 
 fn is_over(pair: &Pair) -> bool {
     pair.socket(Side::A).state() == State::TimeWait && pair.socket(Side::B).state() == State::Closed
 }
 
-fn show_end(rt: &HostRuntime, pair: &Pair, read: &[u8]) -> Result<()> {
+fn show_end(picture: &mut String, pair: &Pair, read: &[u8]) -> Result<()> {
     let a = pair.socket(Side::A).state();
     let b = pair.socket(Side::B).state();
-    println!(rt; "A is in {a}, B in {b}")?;
-    println!(rt; "read: {}", str::from_utf8(read)?)?;
-    Ok(())
+    let text = str::from_utf8(read)?;
+    Ok(write!(picture, "A is in {a}, B in {b}\nread: {text}\n")?)
 }
 
 /// Draws the transfer.
-pub fn draw(rt: &HostRuntime) -> Result<()> {
-    let mut pair = boxed(rt.alloc(), fresh(rt.alloc())?)?;
-    open(rt.alloc(), &mut pair)?;
-    transfer(rt, &mut pair)
+pub fn draw(alloc: Global) -> Result<String> {
+    let mut pair = boxed(alloc, fresh(alloc)?)?;
+    open(alloc, &mut pair)?;
+    let mut picture = String::new(alloc);
+    transfer(alloc, &mut picture, &mut pair).map(|()| picture)
 }
 
 /// The transfer between two connected sockets, to its end.
-fn transfer(rt: &HostRuntime, pair: &mut Pair) -> Result<()> {
+fn transfer(alloc: Global, picture: &mut String, pair: &mut Pair) -> Result<()> {
     let mut users = Users {
         written: 0,
-        read: Vec::new(rt.alloc()),
+        read: Vec::new(alloc),
         read_all: false,
     };
-    take_turns(rt, pair, &mut users)?;
-    show_end(rt, pair, users.read.as_slice())
+    take_turns(alloc, picture, pair, &mut users)?;
+    show_end(picture, pair, users.read.as_slice())
 }
 
 /// A turn each tenth of a second, at most for a minute.
-fn take_turns(rt: &HostRuntime, pair: &mut Pair, users: &mut Users) -> Result<()> {
+fn take_turns(
+    alloc: Global,
+    picture: &mut String,
+    pair: &mut Pair,
+    users: &mut Users,
+) -> Result<()> {
     let mut link = Link {
         of_a: 0,
         of_b: 0,
@@ -295,10 +321,38 @@ fn take_turns(rt: &HostRuntime, pair: &mut Pair, users: &mut Users) -> Result<()
     };
     for tick in 0..600_u16 {
         let now = i64::from(tick) * 100_000;
-        turn(rt, pair, users, &mut link, now)?;
+        turn(alloc, picture, pair, users, &mut link, now)?;
         if is_over(pair) {
             break;
         }
     }
     Ok(())
 }
+
+/// The picture.
+pub static PICTURE: &str = "     0  A -- SYN 0(0) -----------------> B
+     0  A <----------- SYN 0(0) ack 1 -- B
+   100  A -- 1(10) ack 1 ---------- x   B
+   200  A -- 11(10) ack 1 -------------> B
+   200  A <--------------- 1(0) ack 1 -- B
+   300  A -- 21(10) ack 1 --------- x   B
+   400  A -- 31(10) ack 1 -------------> B
+   400  A <--------------- 1(0) ack 1 -- B
+   500  A -- 41(10) ack 1 --------- x   B
+   600  A -- 51(10) ack 1 -------------> B
+   600  A <--------------- 1(0) ack 1 -- B
+   700  A -- 1(10) ack 1 ---------- x   B
+   800  A -- FIN 61(0) ack 1 ----------> B
+   800  A <--------------- 1(0) ack 1 -- B
+   900  A -- 21(10) ack 1 --------- x   B
+  1000  A -- 41(10) ack 1 -------------> B
+  1000  A <--------------- 1(0) ack 1 -- B
+  2000  A -- FIN 1(60) ack 1 ------ x   B
+  4000  A -- FIN 1(60) ack 1 ----------> B
+  4000  A <-------------- 1(0) ack 62 -- B
+  4200  A   x ------ FIN 1(0) ack 62 -- B
+  5200  A <---------- FIN 1(0) ack 62 -- B
+  5300  A -- 62(0) ack 2 --------------> B
+A is in TIME-WAIT, B in CLOSED
+read: Whatever a network loses, the bytes that are read are these.
+";
