@@ -1,6 +1,6 @@
 -- What goes again from SND.UNA on takes a position; and an offer that leaves a connection didn't end it.
-use Rattle.std.proofs.Common.{◌≡◌, ◌⊎◌, inl, inr, ℕ, zero, suc, ◌+◌, ◌-◌, ◌%◌, ◌^◌, ◌<◌, ◌≤◌, ◌==◌, ◌&&◌, nat_lt, min, max, ℤ, Bool, true, false}
-use Rattle.std.proofs.Common.{if◌then◌else◌, List, length, take, drop, Option, Some, None, refl, sym, ap, ◌∙◌, subst, arith}
+use Rattle.std.proofs.Common.{◌≡◌, ◌⊎◌, inl, inr, ℕ, ◌+◌, ◌-◌, ◌%◌, ◌^◌, ◌<◌, ◌≤◌, ◌==◌, ◌&&◌, nat_lt, min, max, Bool, true, false}
+use Rattle.std.proofs.Common.{length, Some, None, refl, sym, ap, ◌∙◌, subst, arith}
 use Rattle.std.proofs.lemmas.Bool.{cond_both, eq-eqb, lt-ltb, ltb-false, ltb-true}
 use Rattle.ip_wire.specs.SeqNumber.{SeqNumber}
 use Rattle.ip_wire.specs.Tcp.{header_len}
@@ -15,7 +15,7 @@ use Rattle.tcp_rules.specs.Endpoints.{header_for}
 use Rattle.tcp_rules.specs.OfferKind.{OfferKind}
 use Rattle.tcp_rules.specs.OfferKind.TheVariants as Kind
 use Rattle.tcp_rules.specs.OpenOffer.{OpenOffer}
-use Rattle.tcp_rules.specs.States.{is_closed, owes_fin}
+use Rattle.tcp_rules.specs.States.{owes_fin}
 use Rattle.tcp_rules.proofs.OfferCases.{FirstRules, by_rules, begun, probing}
 use Rattle.tcp_rules.proofs.OrderSteps.{clash}
 use Rattle.tcp_pair_model.specs.Block.{Block}

@@ -1,5 +1,5 @@
 -- In a course in which each segment comes in time, an exchange takes no longer than its two segments.
-use Rattle.std.proofs.Common.{◌≡◌, ◌⊎◌, inl, inr, ℕ, zero, suc, ◌+◌, ◌-◌, ◌<◌, ◌≤◌, ◌==◌, ℤ, pos, ◌+ℤ◌, ◌≤ℤ◌, ◌<ℤ◌, Bool, true, false, List, [], ◌∷◌, ◌++◌}
+use Rattle.std.proofs.Common.{◌≡◌, ◌⊎◌, inl, inr, ℕ, zero, suc, ◌+◌, ◌-◌, ◌<◌, ◌≤◌, ℤ, pos, ◌+ℤ◌, ◌≤ℤ◌, ◌<ℤ◌, Bool, true, false, List, [], ◌∷◌, ◌++◌}
 use Rattle.std.proofs.Common.{length, Option, Some, None, Result, Ok, Err, slice_get, refl, sym, ap, ◌∙◌, subst, arith, length-append}
 use Rattle.std.proofs.lemmas.Bool.{cond_both}
 use Rattle.std.proofs.lemmas.Int.{ints}
@@ -28,7 +28,7 @@ use Rattle.tcp_pair_model.specs.declared.event.Side.{Side}
 use Rattle.tcp_pair_model.specs.declared.event.Side.TheVariants.{A, B}
 use Rattle.tcp_progress.specs.BothWays.{AreThere, total_in}
 use Rattle.tcp_progress.specs.Arrivals.{is_synchronized}
-use Rattle.tcp_progress.specs.Course.{AreHeard, ComesBy, DeliversWithin, IsAt, IsClocked, IsHeard, IsHeardIn, IsShutAmong, end_of, events_of}
+use Rattle.tcp_progress.specs.Course.{AreHeard, ComesBy, DeliversWithin, IsClocked, IsHeard, IsHeardIn, IsShutAmong, end_of, events_of}
 use Rattle.tcp_progress.specs.Exchange.{IsOpen}
 use Rattle.tcp_progress.specs.Late.{GoesFrom, GoesOnIn, IsAnsweredIn, IsTakenIn, MayCome, MayHear, TakesTime, come_in, heard_in}
 use Rattle.tcp_progress.specs.Onward.{AreOpen, HasRisen, Lasts, acked_in}
@@ -39,7 +39,7 @@ use Rattle.tcp_progress.specs.Sent.{taken_in}
 use Rattle.tcp_progress.proofs.Exchange.{last_of}
 use Rattle.tcp_progress.proofs.Kept.{reached_by}
 use Rattle.tcp_progress.proofs.LateExchange.{goes_on}
-use Rattle.tcp_progress.proofs.LateText.{Outcome, Told, open_of, outcome, there_of}
+use Rattle.tcp_progress.proofs.LateText.{Outcome, open_of, outcome, there_of}
 use Rattle.tcp_progress.proofs.Opened.{is_open}
 use Rattle.tcp_progress.proofs.OnwardPairs.{IsBegun, MovesIn, begun, begun_after, by_steps, then_moves}
 use Rattle.tcp_progress.proofs.Pair.{not_closed}

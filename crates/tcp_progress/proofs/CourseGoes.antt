@@ -1,6 +1,6 @@
 -- In a course in which each side is asked in time, and each segment comes in time, a connection goes on.
-use Rattle.std.proofs.Common.{◌≡◌, ◌⊎◌, inl, inr, ℕ, zero, suc, ◌+◌, ◌-◌, ◌*◌, ◌^◌, ◌<◌, ◌≤◌, ◌==◌, nat_le, ℤ, pos, ◌+ℤ◌, ◌≤ℤ◌, ◌<ℤ◌, Bool, true, false}
-use Rattle.std.proofs.Common.{List, [], ◌∷◌, ◌++◌, length, Option, Some, None, slice_get, refl, sym, ap, ◌∙◌, subst, arith}
+use Rattle.std.proofs.Common.{◌≡◌, ◌⊎◌, inl, inr, ℕ, zero, suc, ◌+◌, ◌-◌, ◌<◌, ◌≤◌, ◌==◌, nat_le, ℤ, pos, ◌+ℤ◌, ◌≤ℤ◌, ◌<ℤ◌, Bool, true, false}
+use Rattle.std.proofs.Common.{List, [], ◌∷◌, length, Option, Some, None, slice_get, refl, sym, ap, ◌∙◌, subst, arith}
 use Rattle.std.proofs.lemmas.Bool.{leb-false, leb-true}
 use Rattle.std.proofs.lemmas.Int.{ints}
 use Rattle.std.proofs.lemmas.Option.{slice_get_within}
@@ -8,29 +8,27 @@ use Rattle.net_base.specs.Ring.{Ring}
 use Rattle.tcp_tie.specs.Context.{ContextValue}
 use Rattle.tcp_rules.specs.Ends.{GoesOn}
 use Rattle.tcp_rules.specs.Moments.{is_due}
-use Rattle.tcp_rules.specs.OfferKind.TheVariants as Kind
 use Rattle.tcp_rules.specs.OpenOffer.{OpenOffer}
 use Rattle.tcp_rules.specs.States.{is_closed}
 use Rattle.tcp_rules.specs.Timing.{carries}
 use Rattle.tcp_rules.proofs.OrderSteps.{clash}
-use Rattle.tcp_pair_model.specs.Blocks.{one_if, unacked}
+use Rattle.tcp_pair_model.specs.Blocks.{one_if}
 use Rattle.tcp_pair_model.specs.Offers.{offer_of}
 use Rattle.tcp_pair_model.specs.Segments.{segment_len}
 use Rattle.tcp_pair_model.specs.Settled.{settled}
 use Rattle.tcp_pair_model.specs.Sides.{at, other}
 use Rattle.tcp_pair_model.specs.Steps.{Steps, offered_at, refusal}
-use Rattle.tcp_pair_model.specs.Value.{TcpValue, free_in, queued_in, room_of}
+use Rattle.tcp_pair_model.specs.Value.{TcpValue, room_of}
 use Rattle.tcp_pair_model.specs.Values.{PairSide, PairValue, and_offer, context_at, past_at}
 use Rattle.tcp_pair_model.specs.declared.event.PairEvent.{PairEvent}
 use Rattle.tcp_pair_model.specs.declared.event.PairEvent.TheVariants.{Listen, Connect, Send, Recv, Close, Abort, TcpSetting, Offer, Deliver}
 use Rattle.tcp_pair_model.specs.declared.event.SentSegment.{SentSegment}
 use Rattle.tcp_pair_model.specs.declared.event.Side.{Side}
 use Rattle.tcp_pair_model.specs.declared.event.Side.TheVariants.{A, B}
-use Rattle.tcp_progress.specs.Again.{StartsOver}
 use Rattle.tcp_progress.specs.Anew.{BeginsAnew, BeginsAnewIn, put_off_in}
 use Rattle.tcp_progress.specs.Arrivals.{is_synchronized}
 use Rattle.tcp_progress.specs.BothWays.{AreThere, total_in}
-use Rattle.tcp_progress.specs.Course.{AreHeard, AreTaken, ComesBy, DeliversWithin, GoesInTime, IsClocked, IsHinderedAmong, IsHinderedIn, IsShutAmong}
+use Rattle.tcp_progress.specs.Course.{AreHeard, AreTaken, DeliversWithin, GoesInTime, IsHinderedAmong, IsHinderedIn, IsShutAmong}
 use Rattle.tcp_progress.specs.Course.{IsTaken, end_of, events_of, span_of}
 use Rattle.tcp_progress.specs.Exchange.{IsOpen, left_of, text_of}
 use Rattle.tcp_progress.specs.Late.{GoesFrom, sent_by}
@@ -38,7 +36,7 @@ use Rattle.tcp_progress.specs.Onward.{AreOpen, HasRisen, acked_in}
 use Rattle.tcp_progress.specs.Pair.{HasStream, context_of, left_in, next_sent, socket_of}
 use Rattle.tcp_progress.specs.PutOff.{RunsOutIn}
 use Rattle.tcp_progress.specs.Reached.{IsReached}
-use Rattle.tcp_progress.specs.Restart.{MaySend, Sends, first_cwnd, worth_sending}
+use Rattle.tcp_progress.specs.Restart.{Sends, first_cwnd, worth_sending}
 use Rattle.tcp_progress.specs.Rounds.{takes}
 use Rattle.tcp_progress.specs.Sent.{taken_in}
 use Rattle.tcp_progress.proofs.AgainGoes.{anew_some, survives}

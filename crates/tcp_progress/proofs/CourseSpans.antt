@@ -1,6 +1,6 @@
 -- In each span of a course a position is reached.
 use Rattle.std.proofs.Common.{◌≡◌, ◌⊎◌, inl, inr, ℕ, zero, suc, ◌+◌, ◌-◌, ◌*◌, ◌<◌, ◌≤◌, ◌==◌, max, ℤ, pos, ◌+ℤ◌, ◌≤ℤ◌, ◌<ℤ◌, int_le, int_lt, Bool, true, false, List, []}
-use Rattle.std.proofs.Common.{◌∷◌, ◌++◌, length, Option, Some, None, slice_get, refl, sym, ap, ◌∙◌, subst, arith}
+use Rattle.std.proofs.Common.{◌∷◌, ◌++◌, length, Option, Some, refl, sym, ap, ◌∙◌, subst, arith}
 use Rattle.std.proofs.lemmas.Bool.{eqb-true}
 use Rattle.std.proofs.lemmas.Int.{ints}
 use Rattle.tcp_rules.specs.Moments.{is_due}
@@ -9,13 +9,12 @@ use Rattle.tcp_rules.proofs.OrderSteps.{clash}
 use Rattle.tcp_pair_model.specs.Blocks.{one_if}
 use Rattle.tcp_pair_model.specs.Sides.{at, other}
 use Rattle.tcp_pair_model.specs.Steps.{Steps}
-use Rattle.tcp_pair_model.specs.Value.{room_of}
 use Rattle.tcp_pair_model.specs.Values.{PairValue, past_at}
 use Rattle.tcp_pair_model.specs.declared.event.PairEvent.{PairEvent}
 use Rattle.tcp_pair_model.specs.declared.event.PairEvent.TheVariants.{Listen, Connect, Send, Recv, Close, Abort, TcpSetting, Offer, Deliver}
 use Rattle.tcp_pair_model.specs.declared.event.Side.{Side}
 use Rattle.tcp_pair_model.specs.declared.event.Side.TheVariants.{A, B}
-use Rattle.tcp_progress.specs.Anew.{most_sent, put_off_in}
+use Rattle.tcp_progress.specs.Anew.{most_sent}
 use Rattle.tcp_progress.specs.Arrivals.{is_synchronized}
 use Rattle.tcp_progress.specs.BothWays.{AreThere, total_in}
 use Rattle.tcp_progress.specs.Course.{AreHeard, AreTaken, Asks, AsksWithin, ComesBy, DeliversWithin, GoesInTime, IsAskedBy, IsAt, IsClocked, IsHinderedAmong}
@@ -23,7 +22,7 @@ use Rattle.tcp_progress.specs.Course.{Wants, end_of, events_of, span_of}
 use Rattle.tcp_progress.specs.Exchange.{IsOpen}
 use Rattle.tcp_progress.specs.Near.{IsNear}
 use Rattle.tcp_progress.specs.Onward.{AreOpen, HasRisen, acked_in}
-use Rattle.tcp_progress.specs.Pair.{HasStream, left_in, next_sent, socket_of}
+use Rattle.tcp_progress.specs.Pair.{HasStream, left_in, socket_of}
 use Rattle.tcp_progress.specs.PutOff.{IsAskedBefore, IsRunning}
 use Rattle.tcp_progress.specs.Reached.{IsReached}
 use Rattle.tcp_progress.specs.Rounds.{takes}
@@ -33,7 +32,7 @@ use Rattle.tcp_progress.proofs.CourseGoes.{goes_on_in_time}
 use Rattle.tcp_progress.proofs.CourseRuns.{wants}
 use Rattle.tcp_progress.proofs.Kept.{reached_by}
 use Rattle.tcp_progress.proofs.LateText.{left_within, open_of, there_of}
-use Rattle.tcp_progress.proofs.OnwardPairs.{IsBegun, MovesIn, begun, begun_after, by_steps, then_moves}
+use Rattle.tcp_progress.proofs.OnwardPairs.{IsBegun, MovesIn, begun, begun_after, by_steps}
 use Rattle.tcp_progress.proofs.Opened.{is_open}
 use Rattle.tcp_progress.proofs.Pair.{not_closed}
 use Rattle.tcp_progress.proofs.PairTimers.{timer_near}

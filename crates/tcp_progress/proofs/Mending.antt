@@ -1,21 +1,15 @@
 -- While SND.UNA stays, what goes again in a recovery takes a position each time, or begins at SND.UNA.
-use Rattle.std.proofs.Common.{◌≡◌, ◌⊎◌, inl, inr, ⊎_elim, ℕ, zero, suc, ◌+◌, ◌-◌, ◌%◌, ◌^◌, ◌<◌, ◌≤◌, ◌==◌, ◌&&◌, ◌||◌, nat_le, nat_lt, not, min, max}
-use Rattle.std.proofs.Common.{ℤ, Bool, true, false, if◌then◌else◌, List, [], ◌∷◌, length, take, Option, Some, None, is_none, is_some, Result, Ok, Err}
-use Rattle.std.proofs.Common.{slice_get, refl, sym, ap, ◌∙◌, subst, arith}
-use Rattle.std.specs.List.{fold}
+use Rattle.std.proofs.Common.{◌≡◌, ◌⊎◌, inl, inr, ℕ, zero, suc, ◌+◌, ◌-◌, ◌%◌, ◌^◌, ◌<◌, ◌≤◌, ◌==◌, ◌&&◌, ◌||◌, nat_le, nat_lt, not, min, max}
+use Rattle.std.proofs.Common.{ℤ, Bool, true, false, if◌then◌else◌, List, [], ◌∷◌, length, Some, is_none}
+use Rattle.std.proofs.Common.{refl, sym, ap, ◌∙◌, subst, arith}
 use Rattle.std.proofs.lemmas.Bool.{cond_both, eqb-true, eq-eqb, leb-true, lt-ltb, ltb-false, ltb-true}
-use Rattle.net_base.specs.Ring.{anchored, enqueued}
 use Rattle.ip_wire.specs.Control.{control_len}
 use Rattle.ip_wire.specs.IpRepr.{IpRepr}
-use Rattle.ip_wire.specs.Seq.{distance_of}
 use Rattle.ip_wire.specs.SeqNumber.{SeqNumber}
 use Rattle.ip_wire.specs.Tcp.{header_len}
-use Rattle.ip_wire.specs.TcpControl.{TcpControl}
 use Rattle.ip_wire.specs.TcpControl.TheVariants as Control
 use Rattle.ip_wire.specs.TcpHeader.{TcpHeader}
 use Rattle.tcp_tie.specs.Context.{ContextValue}
-use Rattle.tcp_tie.specs.Offers.{Offered}
-use Rattle.tcp_model.specs.AddressPair.{AddressPair}
 use Rattle.tcp_model.specs.Opening.{took_syn}
 use Rattle.tcp_model.specs.Reno as reno
 use Rattle.tcp_model.specs.Reno.{RenoValue}
@@ -26,20 +20,16 @@ use Rattle.tcp_model.specs.declared.block.Loss.{Loss}
 use Rattle.tcp_model.proofs.Undone.{undone_cases}
 use Rattle.tcp_rules.specs.EndpointPair.{EndpointPair}
 use Rattle.tcp_rules.specs.Endpoints.{header_for}
-use Rattle.tcp_rules.specs.Moments.{is_due, is_over, timeout_from}
+use Rattle.tcp_rules.specs.Moments.{is_over, timeout_from}
 use Rattle.tcp_rules.specs.Offsets.{behind_by}
-use Rattle.tcp_rules.specs.OfferKind.{OfferKind}
 use Rattle.tcp_rules.specs.OfferKind.TheVariants as Kind
 use Rattle.tcp_rules.specs.OpenOffer.{OpenOffer}
-use Rattle.tcp_rules.specs.State.{State}
-use Rattle.tcp_rules.specs.State.TheVariants as In
 use Rattle.tcp_rules.specs.States.{owes_fin}
 use Rattle.tcp_rules.proofs.AgainSteps.{passes_small, recovers_before}
 use Rattle.tcp_rules.proofs.ApartRuns.{AllOut, Board, first_out, missing_least}
 use Rattle.tcp_rules.proofs.ArrivalCases.{by_arrival, Received, Opening, Content, Drawing, acked_open, heeded, suc_not, timed}
 use Rattle.tcp_rules.proofs.EarlyRules.{InRecovery, goes_in, rescue_parts}
 use Rattle.tcp_rules.proofs.EdgeSteps.{near_distance}
-use Rattle.tcp_rules.proofs.OfferCases.{FirstRules, by_rules, begun, probing}
 use Rattle.tcp_rules.proofs.OrderSteps.{clash, one_if_least}
 use Rattle.tcp_pair_model.specs.Acknowledged.{begins_recovery, counted, duplicates_after, is_partial, is_third, ranges_taken, reno_counted, una_moved, windowed}
 use Rattle.tcp_pair_model.specs.Arrival.{arrives, waiting_anew}
@@ -47,19 +37,18 @@ use Rattle.tcp_pair_model.specs.Block.{Block}
 use Rattle.tcp_pair_model.specs.Blocks.{one_if}
 use Rattle.tcp_pair_model.specs.Checks.{acknowledgement_check}
 use Rattle.tcp_pair_model.specs.Checks.Check.{Passes}
-use Rattle.tcp_pair_model.specs.LossRecovery.{again_place, all_noted, hole_len, hole_place, is_lost_again, is_rescue, loss_probed, next_hole, probe_armed}
+use Rattle.tcp_pair_model.specs.LossRecovery.{all_noted, hole_len, hole_place, is_lost_again, is_rescue, loss_probed, next_hole, probe_armed}
 use Rattle.tcp_pair_model.specs.LossRecovery.{heard_more, probe_from, probes_losses, probes_tail, ranges_noted, rescue_after, with_board}
-use Rattle.tcp_pair_model.specs.Offers.{number_at, offer_choice, offer_of, offer_segment}
+use Rattle.tcp_pair_model.specs.Offers.{number_at, offer_choice}
 use Rattle.tcp_pair_model.specs.Retries.{asked, one_more}
-use Rattle.tcp_pair_model.specs.Rules.{Choice, control_for, fin_goes, probe_choice, resend_choice, resends, resends_beside, sent_places, size_limit, text_choice}
-use Rattle.tcp_pair_model.specs.Segments.{ack_segment, hops_of, keep_alive_segment, reset_segment, segment, syn_segment}
-use Rattle.tcp_pair_model.specs.Settled.{end_of, nxt_moved, probed, recorded, resent, sent_as, settled, syn_went, timer_started}
+use Rattle.tcp_pair_model.specs.Rules.{Choice, control_for, fin_goes, resend_choice, resends, sent_places, size_limit}
+use Rattle.tcp_pair_model.specs.Segments.{hops_of, segment}
+use Rattle.tcp_pair_model.specs.Settled.{end_of, nxt_moved, recorded, resent, sent_as, timer_started}
 use Rattle.tcp_pair_model.specs.Timestamps.{echo_taken, stamp_taken}
 use Rattle.tcp_pair_model.specs.Undone.{undone}
-use Rattle.tcp_pair_model.specs.Value.{TcpValue, Arrived, with_block, unoffered, free_in, queued_in, room_of, window_of}
+use Rattle.tcp_pair_model.specs.Value.{TcpValue, Arrived, with_block, unoffered, queued_in, room_of, window_of}
 use Rattle.tcp_progress.specs.Anew.{BeginsAnew}
 use Rattle.tcp_progress.specs.Arrivals.{is_synchronized}
-use Rattle.tcp_progress.specs.PutOff.{Mends, RunsOutAt}
 
 -- HOW OFTEN
 

@@ -1,8 +1,8 @@
 -- With each event before its timer runs out a side begins anew at SND.UNA, or fewer positions are left to mend, or nothing mends.
-use Rattle.std.proofs.Common.{◌≡◌, ◌⊎◌, inl, inr, ⊎_elim, ℕ, ◌+◌, ◌-◌, ◌^◌, ◌<◌, ◌≤◌, ◌==◌, ◌&&◌, not, min, max, ℤ, Bool, true, false, if◌then◌else◌}
-use Rattle.std.proofs.Common.{List, [], ◌∷◌, length, take, Option, Some, None, is_some, Result, Ok, Err, slice_get, refl, sym, ap, ◌∙◌, subst, arith}
+use Rattle.std.proofs.Common.{◌≡◌, ◌⊎◌, inl, inr, ℕ, ◌+◌, ◌-◌, ◌^◌, ◌<◌, ◌≤◌, ◌==◌, ◌&&◌, not, min, ℤ, Bool, true, false, if◌then◌else◌}
+use Rattle.std.proofs.Common.{List, length, take, Option, Some, None, is_some, Result, Ok, Err, slice_get, refl, sym, ap, ◌∙◌, subst, arith}
 use Rattle.std.proofs.lemmas.Bool.{cond_both}
-use Rattle.net_base.specs.Ring.{Ring, anchored, enqueued}
+use Rattle.net_base.specs.Ring.{anchored, enqueued}
 use Rattle.ip_wire.specs.Tcp.{header_len}
 use Rattle.ip_wire.specs.TcpHeader.{TcpHeader}
 use Rattle.tcp_tie.specs.Context.{ContextValue}
@@ -43,7 +43,7 @@ use Rattle.tcp_pair_model.specs.Settled.{end_of, nxt_moved, probed, recorded, se
 use Rattle.tcp_pair_model.specs.Sides.{Both, at, other, put}
 use Rattle.tcp_pair_model.specs.Steps.{acting, acts, handed, reads, set_by, taken_at}
 use Rattle.tcp_pair_model.specs.Value.{TcpValue, Arrived, with_block, unoffered, ended, free_in, new_socket, queued_in, room_of, window_of}
-use Rattle.tcp_pair_model.specs.Values.{PairSide, PairValue, context_at, new_pair}
+use Rattle.tcp_pair_model.specs.Values.{PairSide, PairValue, context_at}
 use Rattle.tcp_pair_model.specs.declared.event.PairEvent.{PairEvent}
 use Rattle.tcp_pair_model.specs.declared.event.PairEvent.TheVariants.{Listen, Connect, Send, Recv, Close, Abort, TcpSetting, Offer, Deliver}
 use Rattle.tcp_pair_model.specs.declared.event.SentSegment.{SentSegment}
@@ -53,14 +53,13 @@ use Rattle.tcp_pair_model.specs.declared.event.TcpSetting.{TcpSetting as Setting
 use Rattle.tcp_pair_model.specs.declared.event.TcpSetting.TheVariants as Set
 use Rattle.tcp_progress.specs.Anew.{BeginsAnew, BeginsAnewIn}
 use Rattle.tcp_progress.specs.Arrivals.{is_synchronized}
-use Rattle.tcp_progress.specs.Exchange.{IsOpen}
 use Rattle.tcp_progress.specs.Pair.{socket_of}
 use Rattle.tcp_progress.specs.PutOff.{IsAskedBefore, Mends, MendsIn, RunsOutAt}
 use Rattle.tcp_progress.specs.Reached.{IsReached}
 use Rattle.tcp_progress.specs.Rounds.{takes}
 use Rattle.tcp_progress.proofs.Kept.{reached_keeps}
 use Rattle.tcp_progress.proofs.Leads.{led_side}
-use Rattle.tcp_progress.proofs.Mending.{Few, IsSure, Mending, arrival_few, armed_few, asked_few, mended, mending_in, mending_of, probed_few, probed_lasts}
+use Rattle.tcp_progress.proofs.Mending.{Few, IsSure, Mending, arrival_few, armed_few, asked_few, mended, mending_of, probed_few, probed_lasts}
 use Rattle.tcp_progress.proofs.Positions.{IsPlaced, placed}
 use Rattle.tcp_progress.proofs.Ready.{ready_side}
 

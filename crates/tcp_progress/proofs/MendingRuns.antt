@@ -1,13 +1,12 @@
 -- Within as many minutes as there are positions, and two more, a side begins at SND.UNA, or more is acknowledged.
 use Rattle.std.proofs.Common.{◌≡◌, ◌⊎◌, inl, inr, ℕ, ◌+◌, ◌-◌, ◌*◌, ◌<◌, ◌≤◌, ◌==◌, nat_lt, max, ℤ, pos, ◌+ℤ◌, ◌≤ℤ◌, int_le, Bool, true, false, List, [], ◌∷◌}
-use Rattle.std.proofs.Common.{Option, Some, None, refl, sym, ap, ◌∙◌, subst, arith}
+use Rattle.std.proofs.Common.{Option, Some, None, refl, ap, ◌∙◌, subst, arith}
 use Rattle.std.proofs.lemmas.Bool.{ltb-false, ltb-true}
 use Rattle.std.proofs.lemmas.Int.{ints}
-use Rattle.tcp_rules.specs.Moments.{is_due, timeout_from}
-use Rattle.tcp_pair_model.specs.Settled.{settled}
+use Rattle.tcp_rules.specs.Moments.{is_due}
 use Rattle.tcp_pair_model.specs.Sides.{at, other}
 use Rattle.tcp_pair_model.specs.Steps.{Steps, refusal}
-use Rattle.tcp_pair_model.specs.Value.{queued_in, room_of}
+use Rattle.tcp_pair_model.specs.Value.{room_of}
 use Rattle.tcp_pair_model.specs.Values.{PairValue}
 use Rattle.tcp_pair_model.specs.declared.event.PairEvent.{PairEvent}
 use Rattle.tcp_pair_model.specs.declared.event.PairEvent.TheVariants.{Listen, Connect, Send, Recv, Close, Abort, TcpSetting, Offer, Deliver}
@@ -17,7 +16,7 @@ use Rattle.tcp_progress.specs.Anew.{BeginsAnewAmong, BeginsAnewIn, most_sent, pu
 use Rattle.tcp_progress.specs.Arrivals.{is_synchronized}
 use Rattle.tcp_progress.specs.Near.{IsNear}
 use Rattle.tcp_progress.specs.Onward.{AreOpen, acked_in}
-use Rattle.tcp_progress.specs.Pair.{left_in, socket_of}
+use Rattle.tcp_progress.specs.Pair.{socket_of}
 use Rattle.tcp_progress.specs.PutOff.{IsAskedBefore, IsRunning, MendsIn, RunsOutAmong, RunsOutAt, RunsOutIn}
 use Rattle.tcp_progress.specs.Reached.{IsReached}
 use Rattle.tcp_progress.specs.Rounds.{takes}

@@ -1,5 +1,5 @@
 -- What a window holds back goes when its moment has come.
-use Rattle.std.proofs.Common.{◌≡◌, inl, inr, ℕ, ◌≤◌, ℤ, true, None, Some, is_some, ap, ◌∙◌}
+use Rattle.std.proofs.Common.{◌≡◌, inl, inr, ◌≤◌, ℤ, true, None, Some, is_some, ap, ◌∙◌}
 use Rattle.tcp_rules.specs.Ends.{GoesOn}
 use Rattle.tcp_rules.specs.Moments.{is_due}
 use Rattle.tcp_pair_model.specs.Offers.{offer_of}
