@@ -62,10 +62,10 @@ use Rattle.tcp_progress.proofs.Turns.{late_on}
 -- WHAT THE SIDE SENDS
 
 -- with this event a segment goes from SND.UNA on
-record Goes (p : PairValue) (side : Side) (event : PairEvent) : Type 0 where
-  x : SentSegment
-  goes : GoesFrom (takes p event) side x
-  sent : slice_get (at (takes p event).sides side).sent (next_sent p side) ≡ Some x
+pub record Goes (p : PairValue) (side : Side) (event : PairEvent) : Type 0 where
+  pub x : SentSegment
+  pub goes : GoesFrom (takes p event) side x
+  pub sent : slice_get (at (takes p event).sides side).sent (next_sent p side) ≡ Some x
 
 -- a side with its connection, which it keeps with the event
 record IsThere (p : PairValue) (side : Side) (event : PairEvent) : Type 0 where
@@ -75,7 +75,7 @@ record IsThere (p : PairValue) (side : Side) (event : PairEvent) : Type 0 where
   top : 1 ≤ (socket_of p side).block.sender.top
   stays : is_synchronized (socket_of (takes p event) side).block.state ≡ true
 
-offered_there : (p : PairValue) (side : Side) (moment : ℤ) → is_synchronized (socket_of (takes p (Offer side moment true)) side).block.state ≡ true →
+pub offered_there : (p : PairValue) (side : Side) (moment : ℤ) → is_synchronized (socket_of (takes p (Offer side moment true)) side).block.state ≡ true →
     is_synchronized (settled true (offer_of (context_of p side moment) (socket_of p side)).socket).block.state ≡ true
 offered_there p A moment e = e
 offered_there p B moment e = e
@@ -231,7 +231,7 @@ sends_in p side (Deliver from k) (inl never) taken h = absurd never
 sends_in p side (Deliver from k) (inr never) taken h = absurd never
 
 -- A closed window stands in the way.
-shut_hinders : (p : PairValue) (side : Side) (k : ℕ) (course : List (ℤ × PairEvent)) → IsShutAmong p side k course → IsHinderedAmong p side (events_of course)
+pub shut_hinders : (p : PairValue) (side : Side) (k : ℕ) (course : List (ℤ × PairEvent)) → IsShutAmong p side k course → IsHinderedAmong p side (events_of course)
 shut_hinders p side k [] never = absurd never
 shut_hinders p side k (x ∷ course) (inl it) = inl (subst (λ (event : PairEvent). IsHinderedIn p side event) (sym it.0) (refl, it.1))
 shut_hinders p side k (x ∷ course) (inr it) = inr (shut_hinders (takes p x.1) side k course it)

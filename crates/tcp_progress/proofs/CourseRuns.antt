@@ -70,7 +70,7 @@ not_below due now e = first_of (omega (arith, ints), grind (arith, ints))
 
 -- A SIDE WITH A TIMER WANTS TO BE ASKED
 
-poll_is :
+pub poll_is :
     (v : TcpValue) (pair : EndpointPair) → v.block.names.pair ≡ Some pair → is_closed v.block.state ≡ false → poll_of 1500 v ≡ poll_open 1500 v pair
 poll_is v pair named alive =
     ap (λ (names : Option EndpointPair). poll_with names 1500 v) named

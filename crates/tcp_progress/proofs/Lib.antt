@@ -82,4 +82,6 @@ pub mod CourseExchange
 pub mod ProbeGoes
 pub mod AgainGoes
 pub mod CourseGoes
+pub mod CourseParts
+pub mod CourseOwes
 pub mod CourseSpans

@@ -178,9 +178,9 @@ pub record StartsWith (cx : ContextValue) (v : TcpValue) (pair : EndpointPair) (
   pub again : resends b pair.addresses cx.ip_mtu v.queued ≡ true → 1 ≤ b.sender.top
 
 -- both windows take a full segment, or all that is queued
-record HasWindows (v : TcpValue) (b : Block) : Type 0 where
-  window : worth_sending v ≤ b.peer.window
-  cwnd : worth_sending v ≤ b.reno.cwnd
+pub record HasWindows (v : TcpValue) (b : Block) : Type 0 where
+  pub window : worth_sending v ≤ b.peer.window
+  pub cwnd : worth_sending v ≤ b.reno.cwnd
 
 module _ (cx : ContextValue) (v : TcpValue) (pair : EndpointPair) (b : Block) (s : StartsWith cx v pair b) where
   abbrev pub limit : ℕ
@@ -381,7 +381,7 @@ module _ (cx : ContextValue) (v : TcpValue) (pair : EndpointPair) (b : Block) (s
       by (inl fin) = or_left choice.fin _ fin
       by (inr it) = or_right choice.fin _ (both (not (choice.len == 0)) _ (not_none choice.len it.0) (by_size (nat_lt queued limit) refl))
 
-    text : has_text b pair.addresses cx.ip_mtu v.queued ≡ true
+    pub text : has_text b pair.addresses cx.ip_mtu v.queued ≡ true
     text =
         both (sends_text b.state) _ s.sends
         (both (nat_le (one_if b.sender.syn_unacked) b.sender.in_flight) _

@@ -1,12 +1,13 @@
 -- Spans of a course, one after the other.
-use Rattle.std.specs.Prelude.{◌≡◌, ◌⊎◌, ℕ, ◌+◌, ◌*◌, List, [], ◌∷◌}
+use Rattle.std.specs.Prelude.{◌≡◌, ◌⊎◌, ℕ, ◌+◌, ◌*◌, ◌<◌, List, [], ◌∷◌}
 use Rattle.tcp_pair_model.specs.Values.{PairValue}
 use Rattle.tcp_pair_model.specs.declared.event.PairEvent.{PairEvent}
 use Rattle.tcp_pair_model.specs.declared.event.Side.{Side}
 use Rattle.tcp_pair_model.specs.declared.event.Side.TheVariants.{A, B}
 use Rattle.tcp_progress.specs.BothWays.{total_in}
 use Rattle.tcp_progress.specs.Onward.{acked_in}
-use Rattle.tcp_progress.specs.Pair.{socket_of}
+use Rattle.tcp_progress.specs.Pair.{left_in, socket_of}
+use Rattle.tcp_progress.specs.Restart.{worth_sending}
 use Rattle.tcp_progress.specs.Rounds.{takes}
 use Rattle.tcp_progress.specs.Sent.{taken_in}
 
@@ -18,7 +19,19 @@ reached_in p = acked_in p A + taken_in p A + (acked_in p B + taken_in p B)
 abbrev pub most_reached : PairValue → ℕ
 most_reached p = 2 * (total_in p A + total_in p B)
 
--- a side has nothing in flight, now or behind one of these events
-abbrev pub IsIdleAmong : PairValue → Side → List PairEvent → Type 0
-IsIdleAmong p side [] = (socket_of p side).block.sender.in_flight ≡ 0
-IsIdleAmong p side (event ∷ events) = ((socket_of p side).block.sender.in_flight ≡ 0) ⊎ IsIdleAmong (takes p event) side events
+-- a side has nothing in flight, and the window that it knows, or that of congestion control, takes neither a full segment nor all that is queued
+abbrev pub IsHeldIn : PairValue → Side → Type 0
+IsHeldIn p side =
+    ((socket_of p side).block.sender.in_flight ≡ 0)
+    × (((socket_of p side).block.peer.window < worth_sending (socket_of p side))
+    ⊎ ((socket_of p side).block.reno.cwnd < worth_sending (socket_of p side)))
+
+-- so it is now, or behind one of these events
+abbrev pub IsHeldAmong : PairValue → Side → List PairEvent → Type 0
+IsHeldAmong p side [] = IsHeldIn p side
+IsHeldAmong p side (event ∷ events) = IsHeldIn p side ⊎ IsHeldAmong (takes p event) side events
+
+-- all that a side's user wrote is acknowledged, with the FIN, now or behind one of these events
+abbrev pub IsThroughAmong : PairValue → Side → List PairEvent → Type 0
+IsThroughAmong p side [] = left_in p side ≡ 0
+IsThroughAmong p side (event ∷ events) = (left_in p side ≡ 0) ⊎ IsThroughAmong (takes p event) side events

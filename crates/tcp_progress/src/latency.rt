@@ -22,7 +22,7 @@ ghost use Rattle.tcp_progress.specs.Pair.{HasStream, context_of, left_in, socket
 ghost use Rattle.tcp_progress.specs.PutOff.{ProbesAt, RunsOutAmong};
 ghost use Rattle.tcp_progress.specs.Reached.{IsReached};
 ghost use Rattle.tcp_progress.specs.Restart.{Sends};
-ghost use Rattle.tcp_progress.specs.Spans.{IsIdleAmong, most_reached, reached_in};
+ghost use Rattle.tcp_progress.specs.Spans.{IsHeldAmong, IsThroughAmong, most_reached, reached_in};
 
 /// Within a minute for each position that may be sent past SND.UNA, and two more, SND.UNA of a side with something in flight rises; or it is asked
 /// when its timer has run out; or a segment goes again from SND.UNA on. A recovery puts the timer off no longer than that: each segment that
@@ -69,24 +69,31 @@ pub fn a_due_probe_goes()
 /// A connection goes on in time. In a course in which each side is asked in time, what it offers goes, and each segment comes in time, and is
 /// heard: within a span that these times and the other's buffer make, SND.UNA or RCV.NXT of a side rises, where a side has something in flight;
 /// or a window stood in its way meanwhile: the other's was closed as a segment of it came; or the one that it knows, or that of congestion
-/// control, took neither a full segment nor all that was queued as its timer had run out.
+/// control, took neither a full segment nor all that was queued as its timer had run out. Where a side owes something, in flight or not, the
+/// same is so within as long as it is let wait and a span, or such a window held it back while it had nothing in flight.
 pub fn a_connection_goes_on_in_time()
     ensures goes { (p q : PairValue) (side : Side) (course : List (ℤ × PairEvent)) (wait delay : ℕ) (now : ℤ) → IsReached p → AreOpen p
         → Steps p (events_of course) q → AreThere q → ((socket_of p side).block.sender.in_flight == 0) ≡ false
         → GoesInTime wait delay now p side course → (now +ℤ pos (span_of wait delay p side)) <ℤ end_of now course
         → HasRisen p q side ⊎ (HasRisen p q (other side) ⊎ IsHinderedAmong p side (events_of course)) }
+    ensures owes { (p q : PairValue) (side : Side) (course : List (ℤ × PairEvent)) (wait delay : ℕ) (now : ℤ) → IsReached p → AreOpen p
+        → Steps p (events_of course) q → AreThere q → 1 ≤ left_in p side → GoesInTime wait delay now p side course
+        → (now +ℤ pos (wait + span_of wait delay p side)) <ℤ end_of now course
+        → HasRisen p q side
+        ⊎ (HasRisen p q (other side) ⊎ (IsHinderedAmong p side (events_of course) ⊎ IsHeldAmong p side (events_of course))) }
 {}
 
-/// So a position is reached in each two spans, by an acknowledgement or in what a side takes: in a course of so many, as many positions of the two
-/// streams are reached; or a window stood in the way of the side; or at some time it had nothing in flight. And one of the last two is so
-/// where the course goes on longer than there are positions to reach.
-pub fn each_two_spans_reach_a_position()
+/// So it goes on, a position after the other, each by an acknowledgement or in what a side takes: in a course of so many times two such spans as
+/// many positions of the two streams are reached; or a window stood in the way of a side; or at some time all that its user wrote is
+/// acknowledged. One of the last two is so where the course is longer than there are positions to reach.
+pub fn all_is_acknowledged_in_time()
     ensures reached { (n : ℕ) (p q : PairValue) (side : Side) (course : List (ℤ × PairEvent)) (wait delay : ℕ) (now : ℤ) → IsReached p → AreOpen p
         → Steps p (events_of course) q → AreThere q → GoesInTime wait delay now p side course
-        → (now +ℤ pos (n * (2 * span_of wait delay p side))) <ℤ end_of now course
-        → (reached_in p + n ≤ reached_in q) ⊎ (IsHinderedAmong p side (events_of course) ⊎ IsIdleAmong p side (events_of course)) }
+        → (now +ℤ pos (n * (2 * (wait + span_of wait delay p side)))) <ℤ end_of now course
+        → (reached_in p + n ≤ reached_in q)
+        ⊎ (IsHinderedAmong p side (events_of course) ⊎ (IsHeldAmong p side (events_of course) ⊎ IsThroughAmong p side (events_of course))) }
     ensures through { (p q : PairValue) (side : Side) (course : List (ℤ × PairEvent)) (wait delay : ℕ) (now : ℤ) → IsReached p → AreOpen p
         → Steps p (events_of course) q → AreThere q → GoesInTime wait delay now p side course
-        → (now +ℤ pos (suc (most_reached q - reached_in p) * (2 * span_of wait delay p side))) <ℤ end_of now course
-        → IsHinderedAmong p side (events_of course) ⊎ IsIdleAmong p side (events_of course) }
+        → (now +ℤ pos (suc (most_reached q - reached_in p) * (2 * (wait + span_of wait delay p side)))) <ℤ end_of now course
+        → IsHinderedAmong p side (events_of course) ⊎ (IsHeldAmong p side (events_of course) ⊎ IsThroughAmong p side (events_of course)) }
 {}

@@ -1,0 +1,442 @@
+-- A side that owes something, and has nothing in flight, is asked and sends, where both windows let it.
+use Rattle.std.proofs.Common.{◌≡◌, ◌⊎◌, inl, inr, ℕ, zero, suc, ◌+◌, ◌-◌, ◌*◌, ◌<◌, ◌≤◌, ◌==◌, nat_le, nat_lt, max, ℤ, pos, ◌+ℤ◌, ◌≤ℤ◌, ◌<ℤ◌, Bool}
+use Rattle.std.proofs.Common.{true, false, if◌then◌else◌, [], ◌∷◌, length, Some, refl, sym, ap, ◌∙◌, subst, arith}
+use Rattle.std.proofs.lemmas.Bool.{eqb-true, leb-false, leb-true, ltb-false, ltb-true}
+use Rattle.std.proofs.lemmas.Int.{ints}
+use Rattle.std.proofs.lemmas.Option.{slice_get_within}
+use Rattle.tcp_tie.specs.Offers.{IsBefore}
+use Rattle.tcp_tie.specs.PollAt.{PollAt}
+use Rattle.tcp_model.proofs.Waits.{is_quiet}
+use Rattle.tcp_rules.specs.EndpointPair.{EndpointPair}
+use Rattle.tcp_rules.specs.Moments.{is_due}
+use Rattle.tcp_rules.proofs.OfferCases.{begun as asked_with}
+use Rattle.tcp_rules.proofs.OrderSteps.{clash}
+use Rattle.tcp_pair_model.specs.Blocks.{one_if}
+use Rattle.tcp_pair_model.specs.Sides.{at, other}
+use Rattle.tcp_pair_model.specs.Steps.{Steps}
+use Rattle.tcp_pair_model.specs.Value.{TcpValue, room_of}
+use Rattle.tcp_pair_model.specs.Values.{PairValue, past_at}
+use Rattle.tcp_pair_model.specs.declared.event.PairEvent.{PairEvent}
+use Rattle.tcp_pair_model.specs.declared.event.PairEvent.TheVariants.{Listen, Connect, Send, Recv, Close, Abort, TcpSetting, Offer, Deliver}
+use Rattle.tcp_pair_model.specs.declared.event.Side.{Side}
+use Rattle.tcp_pair_model.specs.declared.event.Side.TheVariants.{A, B}
+use Rattle.tcp_progress.specs.Arrivals.{is_synchronized}
+use Rattle.tcp_progress.specs.BothWays.{AreThere, total_in}
+use Rattle.tcp_progress.specs.Course.{Asks, GoesInTime, IsAskedBy, IsHinderedAmong, IsHinderedIn, IsShutAmong, Wants, end_of, events_of, span_of}
+use Rattle.tcp_progress.specs.Exchange.{IsOpen}
+use Rattle.tcp_progress.specs.Late.{sent_by}
+use Rattle.tcp_progress.specs.Onward.{AreOpen, HasRisen, acked_in}
+use Rattle.tcp_progress.specs.Pair.{HasStream, context_of, left_in, next_sent, socket_of}
+use Rattle.tcp_progress.specs.Reached.{IsReached}
+use Rattle.tcp_progress.specs.Restart.{Sends, first_cwnd, worth_sending}
+use Rattle.tcp_progress.specs.Rounds.{takes}
+use Rattle.tcp_progress.specs.Sent.{taken_in}
+use Rattle.tcp_progress.specs.Spans.{IsHeldAmong, IsHeldIn}
+use Rattle.tcp_progress.proofs.AgainGoes.{survives}
+use Rattle.tcp_progress.proofs.CourseExchange.{exchange_in_time}
+use Rattle.tcp_progress.proofs.CourseGoes.{Goes, goes_on_in_time, offered_there, shut_hinders}
+use Rattle.tcp_progress.proofs.CourseRuns.{poll_is}
+use Rattle.tcp_progress.proofs.CourseParts.{Course, clock_on, held_now, there_before}
+use Rattle.tcp_progress.proofs.Kept.{reached_by}
+use Rattle.tcp_progress.proofs.LateExchange.{goes_last, goes_now}
+use Rattle.tcp_progress.proofs.LateText.{left_within, there_of}
+use Rattle.tcp_progress.proofs.Mirrored.{named_in}
+use Rattle.tcp_progress.proofs.OfItself.{sends_there, side_sends}
+use Rattle.tcp_progress.proofs.OnwardPairs.{IsBegun, MovesIn, begun, begun_after, by_steps}
+use Rattle.tcp_progress.proofs.Opened.{is_open}
+use Rattle.tcp_progress.proofs.Pair.{not_closed}
+use Rattle.tcp_progress.proofs.Resent.{again_sent}
+use Rattle.tcp_progress.proofs.Resumes.{StartsWith, text}
+
+-- WHAT IT WANTS
+
+pub record IsWide (v : TcpValue) : Type 0 where
+  pub window : worth_sending v ≤ v.block.peer.window
+  pub cwnd : worth_sending v ≤ v.block.reno.cwnd
+
+pub wide_or_held : (p : PairValue) (side : Side) → (socket_of p side).block.sender.in_flight ≡ 0 → IsWide (socket_of p side) ⊎ IsHeldIn p side
+wide_or_held p side none = by (nat_le worth window) (nat_le worth cwnd) refl refl where
+  worth : ℕ
+  worth = worth_sending (socket_of p side)
+
+  window : ℕ
+  window = (socket_of p side).block.peer.window
+
+  cwnd : ℕ
+  cwnd = (socket_of p side).block.reno.cwnd
+
+  by : (a b : Bool) → nat_le worth window ≡ a → nat_le worth cwnd ≡ b → IsWide (socket_of p side) ⊎ IsHeldIn p side
+  by true true e f = inl (record { window = leb-true worth window e; cwnd = leb-true worth cwnd f })
+  by false b e f = inr (none, inl (leb-false worth window e))
+  by true false e f = inr (none, inr (leb-false worth cwnd f))
+
+-- it has text to send, and wants to be asked
+pub wants_idle :
+    (p : PairValue) (side : Side) (due : ℤ) → IsReached p → IsOpen (socket_of p side).block → 1 ≤ left_in p side
+    → (socket_of p side).block.sender.in_flight ≡ 0 → IsWide (socket_of p side) → Wants due p side
+wants_idle p side due r mine owes none wide before =
+    clash
+    (sym
+    (text (context_of p side due) (socket_of p side) named.0 (asked_with (context_of p side due) (socket_of p side)) starts
+    (record { window = wide.window; cwnd = wide.cwnd }))
+    ∙ (is_quiet (context_of p side due) (socket_of p side) named.0
+    (subst (λ (at : PollAt). IsBefore due at)
+    (poll_is (socket_of p side) named.0 named.1 (not_closed (socket_of p side).block.state mine.synchronized)) before)).text)
+  where
+    named : (pair : EndpointPair) × ((socket_of p side).block.names.pair ≡ Some pair)
+    named = named_in p side r mine.synchronized
+
+    starts : StartsWith (context_of p side due) (socket_of p side) named.0 (asked_with (context_of p side due) (socket_of p side))
+    starts = record {
+      sends = sends_there p side r mine.synchronized mine.acknowledged owes;
+      syn = mine.acknowledged;
+      none = none;
+      owes = owes;
+      mss = refl;
+      stamp = refl;
+      again = again_sent p side r mine.acknowledged named.0.addresses 1500 (socket_of p side).queued;
+    }
+
+-- WHAT IT SENDS
+
+sends_idle :
+    (p : PairValue) (side : Side) (moment : ℤ) → IsReached p → IsOpen (socket_of p side).block → 1 ≤ left_in p side
+    → (socket_of p side).block.sender.in_flight ≡ 0 → IsWide (socket_of p side)
+    → is_synchronized (socket_of (takes p (Offer side moment true)) side).block.state ≡ true
+    → IsHinderedIn p side (Offer side moment true) ⊎ Goes p side (Offer side moment true)
+sends_idle p side moment r mine owes none wide stays = by (nat_le worth cwnd) refl where
+  v : TcpValue
+  v = socket_of p side
+
+  worth : ℕ
+  worth = worth_sending v
+
+  cwnd : ℕ
+  cwnd = first_cwnd (context_of p side moment) v.block
+
+  sends : worth ≤ cwnd → Sends (context_of p side moment) v
+  sends e =
+      let named = named_in p side r mine.synchronized in
+      side_sends p side moment r
+      (record {
+        own = mine;
+        owes = owes;
+        over = inl none;
+        goes = survives (context_of p side moment) v mine.synchronized named.0 named.1 (offered_there p side moment stays);
+        window = wide.window;
+        cwnd = e;
+      })
+
+  goes : Sends (context_of p side moment) v → Goes p side (Offer side moment true)
+  goes s = record {
+    x = sent_by p side s.o;
+    goes = goes_now p side moment s.o r mine (inl none) s.offered s.kind s.some;
+    sent = goes_last p side moment s.o r mine (inl none) s.offered s.kind;
+  }
+
+  -- the window of congestion control is small only where the timer has run out
+  small : cwnd < worth → (due : Bool) → is_due moment v.block.timers.retransmit_at ≡ due → IsHinderedIn p side (Offer side moment true)
+  small e true due = (refl, (due, inr e))
+  small e false not =
+      absurd
+      (never worth v.block.reno.cwnd wide.cwnd
+      (subst (λ (n : ℕ). n < worth) (ap (λ (t : Bool). if t then v.block.reno.mss else v.block.reno.cwnd) not) e))
+    where
+      never : (a b : ℕ) → a ≤ b → b < a → ⊥
+      never a b e f = absurd (omega arith)
+
+  by : (b : Bool) → nat_le worth cwnd ≡ b → IsHinderedIn p side (Offer side moment true) ⊎ Goes p side (Offer side moment true)
+  by true e = inr (goes (sends (leb-true worth cwnd e)))
+  by false e = inl (small (leb-false worth cwnd e) (is_due moment v.block.timers.retransmit_at) refl)
+
+asked_sends :
+    (p : PairValue) (side : Side) (event : PairEvent) → Asks side event → IsReached p → IsOpen (socket_of p side).block → 1 ≤ left_in p side
+    → (socket_of p side).block.sender.in_flight ≡ 0 → IsWide (socket_of p side)
+    → is_synchronized (socket_of (takes p event) side).block.state ≡ true → IsHinderedIn p side event ⊎ Goes p side event
+asked_sends p A (Offer A moment true) asks r mine owes none wide stays = sends_idle p A moment r mine owes none wide stays
+asked_sends p B (Offer B moment true) asks r mine owes none wide stays = sends_idle p B moment r mine owes none wide stays
+asked_sends p A (Offer B moment true) asks r mine owes none wide stays = absurd (cc)
+asked_sends p B (Offer A moment true) asks r mine owes none wide stays = absurd (cc)
+asked_sends p side (Offer of moment false) never r mine owes none wide stays = absurd never
+asked_sends p side (Listen of endpoint) never r mine owes none wide stays = absurd never
+asked_sends p side (Connect of remote local) never r mine owes none wide stays = absurd never
+asked_sends p side (Send of bytes) never r mine owes none wide stays = absurd never
+asked_sends p side (Recv of count) never r mine owes none wide stays = absurd never
+asked_sends p side (Close of) never r mine owes none wide stays = absurd never
+asked_sends p side (Abort of) never r mine owes none wide stays = absurd never
+asked_sends p side (TcpSetting of setting) never r mine owes none wide stays = absurd never
+asked_sends p side (Deliver from k) never r mine owes none wide stays = absurd never
+
+-- MOMENTS
+
+not_both : (last end : ℤ) → end ≤ℤ last → last <ℤ end → ⊥
+not_both last end e f = first_of (omega (arith, ints), grind (arith, ints))
+
+later : (now : ℤ) (n : ℕ) → now ≤ℤ (now +ℤ pos n)
+later now n = first_of (omega (arith, ints), grind (arith, ints))
+
+sooner : (a b end : ℤ) (n : ℕ) → a ≤ℤ b → (b +ℤ pos n) <ℤ end → (a +ℤ pos n) <ℤ end
+sooner a b end n e f = first_of (omega (arith, ints), grind (arith, ints))
+
+less_time : (a end : ℤ) (n : ℕ) → (a +ℤ pos n) <ℤ end → a <ℤ end
+less_time a end n e = first_of (omega (arith, ints), grind (arith, ints))
+
+two_segments : (a end : ℤ) (more delay : ℕ) → (a +ℤ pos (more + delay + delay)) <ℤ end → ((a +ℤ pos delay) +ℤ pos delay) <ℤ end
+two_segments a end more delay e = first_of (omega (arith, ints), grind (arith, ints))
+
+waits_first : (a end : ℤ) (wait span : ℕ) → (a +ℤ pos (wait + span)) <ℤ end → ((a +ℤ pos wait) +ℤ pos span) <ℤ end
+waits_first a end wait span e = first_of (omega (arith, ints), grind (arith, ints))
+
+positive : (n : ℕ) → (n == 0) ≡ false → 1 ≤ n
+positive zero e = clash e
+positive (suc n) e = one n where
+  one : (n : ℕ) → 1 ≤ suc n
+  one n = omega arith
+
+-- THE COURSE
+
+module _ (q : PairValue) (side : Side) (there : AreThere q) (wait delay : ℕ) where
+  record State (p : PairValue) (now : ℤ) (course : Course) : Type 0 where
+    reached : IsReached p
+    a : IsBegun p A
+    b : IsBegun p B
+    steps : Steps p (events_of course) q
+    owes : 1 ≤ left_in p side
+    in_time : GoesInTime wait delay now p side course
+
+  abbrev Ways : PairValue → Course → Type 0
+  Ways p course =
+      HasRisen p q side
+      ⊎ (HasRisen p q (other side) ⊎ (IsHinderedAmong p side (events_of course) ⊎ IsHeldAmong p side (events_of course)))
+
+  begun_of : (p : PairValue) (of : Side) → IsBegun p A → IsBegun p B → IsBegun p of
+  begun_of p A a b = a
+  begun_of p B a b = b
+
+  open_at : (p : PairValue) (now : ℤ) (course : Course) (of : Side) → State p now course → IsOpen (socket_of p of).block
+  open_at p now course of h =
+      is_open p of h.reached
+      (there_before p q of (begun_of p of h.a h.b) (by_steps p (events_of course) q h.reached h.a h.b h.steps of) (there_of q of there))
+      (begun_of p of h.a h.b).syn
+
+  -- with something in flight
+  flies : (p : PairValue) (now : ℤ) (course : Course) → State p now course → ((socket_of p side).block.sender.in_flight == 0) ≡ false
+      → (now +ℤ pos (span_of wait delay p side)) <ℤ end_of now course → Ways p course
+  flies p now course h flight over =
+      by (goes_on_in_time p q side course wait delay now h.reached (open_at p now course A h, open_at p now course B h) h.steps there flight h.in_time over)
+    where
+      by : HasRisen p q side ⊎ (HasRisen p q (other side) ⊎ IsHinderedAmong p side (events_of course)) → Ways p course
+      by (inl risen) = inl risen
+      by (inr (inl risen)) = inr (inl risen)
+      by (inr (inr it)) = inr (inr (inl it))
+
+  module _ (p : PairValue) (now : ℤ) (x : ℤ × PairEvent) (course : Course) (h : State p now (x ∷ course)) where
+    abbrev m : PairValue
+    m = takes p x.1
+
+    moves : (of : Side) → MovesIn p m of
+    moves of = by_steps p (x.1 ∷ []) m h.reached h.a h.b (h.steps.0, refl) of
+
+    rm : IsReached m
+    rm = reached_by p m (x.1 ∷ []) h.reached (h.steps.0, refl)
+
+    begun_m : (of : Side) → IsBegun m of
+    begun_m of = begun_after p m of (moves of) (begun_of p of h.a h.b)
+
+    from_m : (of : Side) → MovesIn m q of
+    from_m of = by_steps m (events_of course) q rm (begun_m A) (begun_m B) h.steps.1 of
+
+    there_m : (of : Side) → is_synchronized (socket_of m of).block.state ≡ true
+    there_m of = there_before m q of (begun_m of) (from_m of) (there_of q of there)
+
+    open_m : (of : Side) → IsOpen (socket_of m of).block
+    open_m of = is_open m of rm (there_m of) (begun_m of).syn
+
+    mine : IsOpen (socket_of p side).block
+    mine = open_at p now (x ∷ course) side h
+
+    lifted : (of : Side) → HasRisen m q of → HasRisen p q of
+    lifted of (inl e) =
+        inl (more (total_in p of) (left_in p of) (total_in m of) (left_in m of) (acked_in q of) (moves of).acked e) where
+          more : (a b c d e : ℕ) → a + d ≤ c + b → c - d < e → a - b < e
+          more a b c d e x y = omega arith
+    lifted of (inr e) = inr (more (taken_in p of) (taken_in m of) (taken_in q of) (moves of).taken e) where
+      more : (a b c : ℕ) → a ≤ b → b < c → a < c
+      more a b c x y = omega arith
+
+    lift : Ways m course → Ways p (x ∷ course)
+    lift (inl risen) = inl (lifted side risen)
+    lift (inr (inl risen)) = inr (inl (lifted (other side) risen))
+    lift (inr (inr (inl it))) = inr (inr (inl (inr it)))
+    lift (inr (inr (inr it))) = inr (inr (inr (inr it)))
+
+    -- the stream, and the other's buffer
+    stream : HasStream (past_at m side)
+    stream = inr (more (length (past_at p side).written) (length (past_at m side).written) (wrote h.in_time.stream) (moves side).written) where
+      more : (a b : ℕ) → 1 ≤ a → a ≤ b → 1 ≤ b
+      more a b e f = omega arith
+
+      some : (written : ℕ) {fin left : ℕ} → fin ≡ 0 → left ≤ written + fin → 1 ≤ left → 1 ≤ written
+      some written e f g = omega arith
+
+      wrote : HasStream (past_at p side) → 1 ≤ length (past_at p side).written
+      wrote (inl unclosed) = some (length (past_at p side).written) (ap one_if unclosed) (left_within p side h.reached mine) h.owes
+      wrote (inr some) = some
+
+    room : 1 ≤ room_of (socket_of m (other side)).received
+    room = subst (λ (n : ℕ). 1 ≤ n) (sym (moves (other side)).room) h.in_time.room
+
+    tail : 1 ≤ left_in m side → State m x.0 course
+    tail owes = record {
+      reached = rm;
+      a = begun_m A;
+      b = begun_m B;
+      steps = h.steps.1;
+      owes = owes;
+      in_time = record {
+        clock = clock_on p side x.1 now x.0 h.in_time.clock h.in_time.clocked.0 h.in_time.clocked.1.0;
+        clocked = h.in_time.clocked.1.1;
+        asks = h.in_time.asks.1;
+        taken = h.in_time.taken.1;
+        delivers = h.in_time.delivers.1;
+        heard = h.in_time.heard.1;
+        stream = stream;
+        room = room;
+      };
+    }
+
+    -- more is acknowledged, or something isn't still
+    still_owes : acked_in m side ≤ acked_in p side → 1 ≤ left_in m side
+    still_owes e =
+        by (total_in p side) (left_in p side) (total_in m side) (left_in m side) h.owes (left_within p side h.reached mine) (moves side).total e where
+          by : (a b c d : ℕ) → 1 ≤ b → b ≤ a → a ≤ c → c - d ≤ a - b → 1 ≤ d
+          by a b c d e f g h = omega arith
+
+    acked_to_end : acked_in m side ≤ acked_in q side
+    acked_to_end = by (total_in m side) (total_in q side) (left_in m side) (left_in q side) (from_m side).acked where
+      by : (a b c d : ℕ) → a + d ≤ b + c → a - c ≤ b - d
+      by a b c d e = omega arith
+
+    risen_now : acked_in p side < acked_in m side → Ways p (x ∷ course)
+    risen_now e = inl (inl (three (acked_in p side) (acked_in m side) (acked_in q side) e acked_to_end)) where
+      three : (a b c : ℕ) → a < b → b ≤ c → a < c
+      three a b c e f = omega arith
+
+    same_span : span_of wait delay m side ≡ span_of wait delay p side
+    same_span = ap (λ (k : ℕ). (max 1 k + 2 + 2) * 60_000_000 + wait + delay + delay) (moves (other side)).room
+
+    -- the side is asked now
+    asked_now : Asks side x.1 → (socket_of p side).block.sender.in_flight ≡ 0 → IsWide (socket_of p side)
+        → ((x.0 +ℤ pos delay) +ℤ pos delay) <ℤ end_of x.0 course → Ways p (x ∷ course)
+    asked_now asks none wide over = by (asked_sends p side x.1 asks h.reached mine h.owes none wide (there_m side)) where
+      exchanged : HasRisen m q side ⊎ (HasRisen m q (other side) ⊎ IsShutAmong m side (next_sent p side) course) → Ways p (x ∷ course)
+      exchanged (inl risen) = inl (lifted side risen)
+      exchanged (inr (inl risen)) = inr (inl (lifted (other side) risen))
+      exchanged (inr (inr shut)) = inr (inr (inl (inr (shut_hinders m side (next_sent p side) course shut))))
+
+      itself : (n : ℕ) → n ≤ n
+      itself n = omega arith
+
+      by : IsHinderedIn p side x.1 ⊎ Goes p side x.1 → Ways p (x ∷ course)
+      by (inl it) = inr (inr (inl (inl it)))
+      by (inr it) =
+          exchanged
+          (exchange_in_time m q side (next_sent p side) it.x course delay x.0 rm (open_m A, open_m B) h.steps.1 there stream room it.goes it.sent
+          (h.in_time.delivers.0 side (next_sent p side) (itself (next_sent p side))
+          (slice_get_within (at m.sides side).sent (next_sent p side) it.x it.sent))
+          h.in_time.clocked.1.1 h.in_time.delivers.1 h.in_time.heard.1 over)
+
+  -- the side waits to be asked
+  walk :
+      (p : PairValue) (now : ℤ) (course : Course) (due last : ℤ) → State p now course → (socket_of p side).block.sender.in_flight ≡ 0 → now ≤ℤ last
+      → IsAskedBy due last side p course → (last +ℤ pos (span_of wait delay p side)) <ℤ end_of now course → Ways p course
+  walk p now [] due last h none before asked over =
+      absurd (not_both last now before (less_time last now (span_of wait delay p side) over))
+  walk p now (x ∷ course) due last h none before asked over =
+      by
+      (λ (h : State (takes p x.1) x.0 course) (none : (socket_of (takes p x.1) side).block.sender.in_flight ≡ 0)
+      (more : IsAskedBy due last side (takes p x.1) course).
+      walk (takes p x.1) x.0 course due last h none asked.0 more over_on)
+      (wide_or_held p side none)
+    where
+      over_on : (last +ℤ pos (span_of wait delay (takes p x.1) side)) <ℤ end_of x.0 course
+      over_on = subst (λ (n : ℕ). (last +ℤ pos n) <ℤ end_of x.0 course) (sym (same_span p now x course h)) over
+
+      Rest : Type 0
+      Rest =
+          State (takes p x.1) x.0 course → (socket_of (takes p x.1) side).block.sender.in_flight ≡ 0 → IsAskedBy due last side (takes p x.1) course
+          → Ways (takes p x.1) course
+
+      -- it doesn't want to be asked any more
+      unwilling :
+          State (takes p x.1) x.0 course → (socket_of (takes p x.1) side).block.sender.in_flight ≡ 0 → (Wants due (takes p x.1) side → ⊥)
+          → IsWide (socket_of (takes p x.1) side) ⊎ IsHeldIn (takes p x.1) side → Ways (takes p x.1) course
+      unwilling on idle not (inl wide) =
+          absurd (not (wants_idle (takes p x.1) side due on.reached (open_m p now x course h side) on.owes idle wide))
+      unwilling on idle not (inr held) = inr (inr (inr (held_now (takes p x.1) side course held)))
+
+      idle_on :
+          Rest → ((Wants due (takes p x.1) side → ⊥) ⊎ IsAskedBy due last side (takes p x.1) course) → State (takes p x.1) x.0 course
+          → (empty : Bool) → ((socket_of (takes p x.1) side).block.sender.in_flight == 0) ≡ empty → Ways (takes p x.1) course
+      idle_on rest next on false e =
+          flies (takes p x.1) x.0 course on e (sooner x.0 last (end_of x.0 course) (span_of wait delay (takes p x.1) side) asked.0 over_on)
+      idle_on rest (inl not) on true e =
+          let idle = eqb-true (socket_of (takes p x.1) side).block.sender.in_flight 0 e in
+          unwilling on idle not (wide_or_held (takes p x.1) side idle)
+      idle_on rest (inr more) on true e = rest on (eqb-true (socket_of (takes p x.1) side).block.sender.in_flight 0 e) more
+
+      goes_by :
+          Rest → ((Wants due (takes p x.1) side → ⊥) ⊎ IsAskedBy due last side (takes p x.1) course) → (risen : Bool)
+          → nat_lt (acked_in p side) (acked_in (takes p x.1) side) ≡ risen → Ways p (x ∷ course)
+      goes_by rest next true e = risen_now p now x course h (ltb-true (acked_in p side) (acked_in (takes p x.1) side) e)
+      goes_by rest next false e =
+          lift p now x course h
+          (idle_on rest next
+          (tail p now x course h (still_owes p now x course h (ltb-false (acked_in p side) (acked_in (takes p x.1) side) e)))
+          ((socket_of (takes p x.1) side).block.sender.in_flight == 0) refl)
+
+      with_room : IsWide (socket_of p side) → Rest → Asks side x.1 ⊎ ((Wants due (takes p x.1) side → ⊥) ⊎ IsAskedBy due last side (takes p x.1) course)
+          → Ways p (x ∷ course)
+      with_room wide rest (inl asks) =
+          asked_now p now x course h asks none wide
+          (two_segments x.0 (end_of x.0 course) _ delay (sooner x.0 last (end_of x.0 course) (span_of wait delay p side) asked.0 over))
+      with_room wide rest (inr next) = goes_by rest next (nat_lt (acked_in p side) (acked_in (takes p x.1) side)) refl
+
+      by : Rest → IsWide (socket_of p side) ⊎ IsHeldIn p side → Ways p (x ∷ course)
+      by rest (inr held) = inr (inr (inr (inl held)))
+      by rest (inl wide) = with_room wide rest asked.1
+
+  -- a side that owes something
+  owed : (p : PairValue) (now : ℤ) (course : Course) → State p now course → (now +ℤ pos (wait + span_of wait delay p side)) <ℤ end_of now course → Ways p course
+  owed p now course h over = by ((socket_of p side).block.sender.in_flight == 0) refl where
+    in_two : ((now +ℤ pos wait) +ℤ pos (span_of wait delay p side)) <ℤ end_of now course
+    in_two = waits_first now (end_of now course) wait (span_of wait delay p side) over
+
+    starts :
+        (course : Course) → State p now course → (socket_of p side).block.sender.in_flight ≡ 0
+        → ((now +ℤ pos wait) +ℤ pos (span_of wait delay p side)) <ℤ end_of now course → IsWide (socket_of p side) → Ways p course
+    starts [] h none over wide =
+        absurd
+        (not_both (now +ℤ pos wait) now (later now wait) (less_time (now +ℤ pos wait) now (span_of wait delay p side) over))
+    starts (x ∷ course) h none over wide =
+        walk p now (x ∷ course) now (now +ℤ pos wait) h none (later now wait)
+        (h.in_time.asks.0 side now (itself now) (wants_idle p side now h.reached (open_at p now (x ∷ course) side h) h.owes none wide)) over
+      where
+        itself : (a : ℤ) → a ≤ℤ a
+        itself a = grind arith
+
+    idle : (socket_of p side).block.sender.in_flight ≡ 0 → IsWide (socket_of p side) ⊎ IsHeldIn p side → Ways p course
+    idle none (inl wide) = starts course h none in_two wide
+    idle none (inr held) = inr (inr (inr (held_now p side course held)))
+
+    by : (empty : Bool) → ((socket_of p side).block.sender.in_flight == 0) ≡ empty → Ways p course
+    by true e = let none = eqb-true (socket_of p side).block.sender.in_flight 0 e in idle none (wide_or_held p side none)
+    by false e = flies p now course h e (sooner now (now +ℤ pos wait) (end_of now course) (span_of wait delay p side) (later now wait) in_two)
+
+pub owed_in_time :
+    (p q : PairValue) (side : Side) (course : Course) (wait delay : ℕ) (now : ℤ) → IsReached p → AreOpen p → Steps p (events_of course) q → AreThere q
+    → 1 ≤ left_in p side → GoesInTime wait delay now p side course → (now +ℤ pos (wait + span_of wait delay p side)) <ℤ end_of now course
+    → HasRisen p q side ⊎ (HasRisen p q (other side) ⊎ (IsHinderedAmong p side (events_of course) ⊎ IsHeldAmong p side (events_of course)))
+owed_in_time p q side course wait delay now r o s there owes c over =
+    owed q side there wait delay p now course
+    (record { reached = r; a = begun p A r o.0; b = begun p B r o.1; steps = s; owes = owes; in_time = c }) over

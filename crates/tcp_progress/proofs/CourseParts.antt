@@ -1,0 +1,200 @@
+-- A course in two parts, and the clock of a side in it.
+use Rattle.std.proofs.Common.{◌≡◌, ◌⊎◌, inl, inr, ℕ, ℤ, pos, ◌+ℤ◌, ◌≤ℤ◌, int_le, Bool, true, false, List, []}
+use Rattle.std.proofs.Common.{◌∷◌, ◌++◌, Some, refl, sym, ◌∙◌, subst, arith}
+use Rattle.std.proofs.lemmas.Int.{ints}
+use Rattle.tcp_rules.specs.Moments.{is_due}
+use Rattle.tcp_rules.specs.States.{is_closed}
+use Rattle.tcp_rules.proofs.OrderSteps.{clash}
+use Rattle.tcp_pair_model.specs.Sides.{at}
+use Rattle.tcp_pair_model.specs.Steps.{Steps}
+use Rattle.tcp_pair_model.specs.Values.{PairValue}
+use Rattle.tcp_pair_model.specs.declared.event.PairEvent.{PairEvent}
+use Rattle.tcp_pair_model.specs.declared.event.PairEvent.TheVariants.{Listen, Connect, Send, Recv, Close, Abort, TcpSetting, Offer, Deliver}
+use Rattle.tcp_pair_model.specs.declared.event.Side.{Side}
+use Rattle.tcp_progress.specs.Arrivals.{is_synchronized}
+use Rattle.tcp_progress.specs.Course.{AreHeard, AreTaken, Asks, AsksWithin, ComesBy, DeliversWithin, IsAskedBy, IsAt, IsClocked, IsHinderedAmong}
+use Rattle.tcp_progress.specs.Course.{Wants, end_of, events_of}
+use Rattle.tcp_progress.specs.Pair.{left_in, socket_of}
+use Rattle.tcp_progress.specs.PutOff.{IsAskedBefore}
+use Rattle.tcp_progress.specs.Rounds.{takes}
+use Rattle.tcp_progress.specs.Spans.{IsHeldAmong, IsHeldIn, IsThroughAmong}
+use Rattle.tcp_progress.proofs.OnwardPairs.{IsBegun, MovesIn}
+use Rattle.tcp_progress.proofs.Pair.{not_closed}
+use Rattle.tcp_progress.proofs.PutOffRuns.{ClockIn, clock_after}
+use Rattle.tcp_progress.proofs.Turns.{late_on}
+
+abbrev pub Course : Type 0
+Course = List (ℤ × PairEvent)
+
+abbrev pub after_all : PairValue → Course → PairValue
+after_all p [] = p
+after_all p (x ∷ course) = after_all (takes p x.1) course
+
+upto : (a b c : ℤ) → a ≤ℤ b → b ≤ℤ c → a ≤ℤ c
+upto a b c e f = grind arith
+
+-- no side's clock is ahead of the one of the course
+not_after : (moment now : ℤ) → moment ≡ now → is_due moment (Some (now +ℤ pos 1)) ≡ false
+not_after moment now e = by (int_le (now +ℤ pos 1) moment) refl where
+  never : int_le (now +ℤ pos 1) moment ≡ true → ⊥
+  never so = first_of (omega (arith, ints), grind (arith, ints))
+
+  by : (due : Bool) → int_le (now +ℤ pos 1) moment ≡ due → due ≡ false
+  by true so = absurd (never so)
+  by false so = refl
+
+asked_before : (side : Side) (event : PairEvent) (now : ℤ) → IsAt now event → IsAskedBefore (now +ℤ pos 1) side event
+asked_before side (Offer of moment sent) now is = λ _. not_after moment now is
+asked_before side (Listen of endpoint) now is = tt
+asked_before side (Connect of remote local) now is = tt
+asked_before side (Send of bytes) now is = tt
+asked_before side (Recv of count) now is = tt
+asked_before side (Close of) now is = tt
+asked_before side (Abort of) now is = tt
+asked_before side (TcpSetting of setting) now is = tt
+asked_before side (Deliver from k) now is = tt
+
+pub clock_on :
+    (p : PairValue) (side : Side) (event : PairEvent) (old now : ℤ) → (at p.sides side).moment ≤ℤ old → old ≤ℤ now → IsAt now event
+    → (at (takes p event).sides side).moment ≤ℤ now
+clock_on p side event old now clock later is = by (clock_after p side event (now +ℤ pos 1) (asked_before side event now is)) where
+  before : (m : ℤ) → int_le (now +ℤ pos 1) m ≡ false → m ≤ℤ now
+  before m e = first_of (omega (arith, ints), grind (arith, ints))
+
+  by : ClockIn (now +ℤ pos 1) (at p.sides side).moment (at (takes p event).sides side).moment → (at (takes p event).sides side).moment ≤ℤ now
+  by (inl same) = subst (λ (m : ℤ). m ≤ℤ now) (sym same) (upto (at p.sides side).moment old now clock later)
+  by (inr e) = before (at (takes p event).sides side).moment e
+
+pub clock_all :
+    (p : PairValue) (side : Side) (now : ℤ) (course : Course) → (at p.sides side).moment ≤ℤ now → IsClocked now course
+    → (at (after_all p course).sides side).moment ≤ℤ end_of now course
+clock_all p side now [] clock c = clock
+clock_all p side now (x ∷ course) clock c = clock_all (takes p x.1) side x.0 course (clock_on p side x.1 now x.0 clock c.0 c.1.0) c.1.1
+
+-- TWO PARTS OF A COURSE
+
+pub steps_first : (p q : PairValue) (first rest : Course) → Steps p (events_of (first ++ rest)) q → Steps p (events_of first) (after_all p first)
+steps_first p q [] rest s = refl
+steps_first p q (x ∷ first) rest s = (s.0, steps_first (takes p x.1) q first rest s.1)
+
+pub steps_rest : (p q : PairValue) (first rest : Course) → Steps p (events_of (first ++ rest)) q → Steps (after_all p first) (events_of rest) q
+steps_rest p q [] rest s = s
+steps_rest p q (x ∷ first) rest s = steps_rest (takes p x.1) q first rest s.1
+
+pub end_parts : (now : ℤ) (first rest : Course) → end_of now (first ++ rest) ≡ end_of (end_of now first) rest
+end_parts now [] rest = refl
+end_parts now (x ∷ first) rest = end_parts x.0 first rest
+
+pub clocked_first : (now : ℤ) (first rest : Course) → IsClocked now (first ++ rest) → IsClocked now first
+clocked_first now [] rest c = tt
+clocked_first now (x ∷ first) rest c = (c.0, (c.1.0, clocked_first x.0 first rest c.1.1))
+
+pub clocked_rest : (now : ℤ) (first rest : Course) → IsClocked now (first ++ rest) → IsClocked (end_of now first) rest
+clocked_rest now [] rest c = c
+clocked_rest now (x ∷ first) rest c = clocked_rest x.0 first rest c.1.1
+
+pub taken_first : (first rest : Course) → AreTaken (first ++ rest) → AreTaken first
+taken_first [] rest a = tt
+taken_first (x ∷ first) rest a = (a.0, taken_first first rest a.1)
+
+pub taken_rest : (first rest : Course) → AreTaken (first ++ rest) → AreTaken rest
+taken_rest [] rest a = a
+taken_rest (x ∷ first) rest a = taken_rest first rest a.1
+
+pub heard_first : (p : PairValue) (first rest : Course) → AreHeard p (first ++ rest) → AreHeard p first
+heard_first p [] rest a = tt
+heard_first p (x ∷ first) rest a = (a.0, heard_first (takes p x.1) first rest a.1)
+
+pub heard_rest : (p : PairValue) (first rest : Course) → AreHeard p (first ++ rest) → AreHeard (after_all p first) rest
+heard_rest p [] rest a = a
+heard_rest p (x ∷ first) rest a = heard_rest (takes p x.1) first rest a.1
+
+comes_first : (last : ℤ) (side : Side) (k : ℕ) (first rest : Course) → ComesBy last side k (first ++ rest) → ComesBy last side k first
+comes_first last side k [] rest c = tt
+comes_first last side k (x ∷ first) rest c = (c.0, by (λ more. comes_first last side k first rest more) c.1) where
+  by :
+      (ComesBy last side k (first ++ rest) → ComesBy last side k first) → (x.1 ≡ Deliver side k) ⊎ ComesBy last side k (first ++ rest)
+      → (x.1 ≡ Deliver side k) ⊎ ComesBy last side k first
+  by on (inl is) = inl is
+  by on (inr more) = inr (on more)
+
+pub delivers_first : (delay : ℕ) (p : PairValue) (first rest : Course) → DeliversWithin delay p (first ++ rest) → DeliversWithin delay p first
+delivers_first delay p [] rest d = tt
+delivers_first delay p (x ∷ first) rest d =
+    ((λ side k old new. comes_first (x.0 +ℤ pos delay) side k first rest (d.0 side k old new)), delivers_first delay (takes p x.1) first rest d.1)
+
+pub delivers_rest : (delay : ℕ) (p : PairValue) (first rest : Course) → DeliversWithin delay p (first ++ rest) → DeliversWithin delay (after_all p first) rest
+delivers_rest delay p [] rest d = d
+delivers_rest delay p (x ∷ first) rest d = delivers_rest delay (takes p x.1) first rest d.1
+
+asked_first :
+    (due last : ℤ) (side : Side) (p : PairValue) (first rest : Course) → IsAskedBy due last side p (first ++ rest) → IsAskedBy due last side p first
+asked_first due last side p [] rest a = tt
+asked_first due last side p (x ∷ first) rest a = (a.0, by (λ more. asked_first due last side (takes p x.1) first rest more) a.1) where
+  by :
+      (IsAskedBy due last side (takes p x.1) (first ++ rest) → IsAskedBy due last side (takes p x.1) first)
+      → Asks side x.1 ⊎ ((Wants due (takes p x.1) side → ⊥) ⊎ IsAskedBy due last side (takes p x.1) (first ++ rest))
+      → Asks side x.1 ⊎ ((Wants due (takes p x.1) side → ⊥) ⊎ IsAskedBy due last side (takes p x.1) first)
+  by on (inl asks) = inl asks
+  by on (inr (inl not)) = inr (inl not)
+  by on (inr (inr more)) = inr (inr (on more))
+
+pub asks_first : (wait : ℕ) (now : ℤ) (p : PairValue) (first rest : Course) → AsksWithin wait now p (first ++ rest) → AsksWithin wait now p first
+asks_first wait now p [] rest a = tt
+asks_first wait now p (x ∷ first) rest a =
+    ((λ side due later wants. asked_first due (due +ℤ pos wait) side p (x ∷ first) rest (a.0 side due later wants)),
+    asks_first wait x.0 (takes p x.1) first rest a.1)
+
+pub asks_rest : (wait : ℕ) (now : ℤ) (p : PairValue) (first rest : Course) → AsksWithin wait now p (first ++ rest) →
+    AsksWithin wait (end_of now first) (after_all p first) rest
+asks_rest wait now p [] rest a = a
+asks_rest wait now p (x ∷ first) rest a = asks_rest wait x.0 (takes p x.1) first rest a.1
+
+pub hindered_first : (p : PairValue) (side : Side) (first rest : Course) → IsHinderedAmong p side (events_of first) → IsHinderedAmong p side (events_of (first ++ rest))
+hindered_first p side [] rest never = absurd never
+hindered_first p side (x ∷ first) rest (inl it) = inl it
+hindered_first p side (x ∷ first) rest (inr it) = inr (hindered_first (takes p x.1) side first rest it)
+
+pub hindered_rest :
+    (p : PairValue) (side : Side) (first rest : Course) → IsHinderedAmong (after_all p first) side (events_of rest)
+    → IsHinderedAmong p side (events_of (first ++ rest))
+hindered_rest p side [] rest it = it
+hindered_rest p side (x ∷ first) rest it = inr (hindered_rest (takes p x.1) side first rest it)
+
+pub held_now : (p : PairValue) (side : Side) (course : Course) → IsHeldIn p side → IsHeldAmong p side (events_of course)
+held_now p side [] it = it
+held_now p side (x ∷ course) it = inl it
+
+pub held_rest :
+    (p : PairValue) (side : Side) (first rest : Course) → IsHeldAmong (after_all p first) side (events_of rest) → IsHeldAmong p side (events_of (first ++ rest))
+held_rest p side [] rest it = it
+held_rest p side (x ∷ first) rest it = inr (held_rest (takes p x.1) side first rest it)
+
+pub held_first : (p : PairValue) (side : Side) (first rest : Course) → IsHeldAmong p side (events_of first) → IsHeldAmong p side (events_of (first ++ rest))
+held_first p side [] rest it = held_now p side rest it
+held_first p side (x ∷ first) rest (inl it) = inl it
+held_first p side (x ∷ first) rest (inr it) = inr (held_first (takes p x.1) side first rest it)
+
+pub through_rest :
+    (p : PairValue) (side : Side) (first rest : Course) → IsThroughAmong (after_all p first) side (events_of rest)
+    → IsThroughAmong p side (events_of (first ++ rest))
+through_rest p side [] rest it = it
+through_rest p side (x ∷ first) rest it = inr (through_rest (takes p x.1) side first rest it)
+
+pub through_now : (p : PairValue) (side : Side) (course : Course) → left_in p side ≡ 0 → IsThroughAmong p side (events_of course)
+through_now p side [] e = e
+through_now p side (x ∷ course) e = inl e
+
+-- BEFORE THE END
+
+was_open : (old new : Bool) → (old ≡ true → new ≡ true) → new ≡ false → old ≡ false
+was_open true new e f = clash (sym (e refl) ∙ f)
+was_open false new e f = refl
+
+-- a connection that is there in the end was there before
+pub there_before : (p q : PairValue) (side : Side) → IsBegun p side → MovesIn p q side → is_synchronized (socket_of q side).block.state ≡ true →
+    is_synchronized (socket_of p side).block.state ≡ true
+there_before p q side b m there =
+    late_on (socket_of p side).block.state b.early
+    (was_open (is_closed (socket_of p side).block.state) (is_closed (socket_of q side).block.state) m.closed
+    (not_closed (socket_of q side).block.state there))
