@@ -7,7 +7,7 @@ use Rattle.tcp_model.specs.LossRecovery.{fills_hole, goes_early}
 use Rattle.tcp_model.specs.OfferKind.TheVariants as Kind
 use Rattle.tcp_model.specs.Offers.{offer_choice, offer_syn, last_rules, first_rules}
 use Rattle.tcp_model.specs.Probing.{probe_started}
-use Rattle.tcp_model.specs.Rules.{owes_syn, resends_beside, has_text, text_choice, resend_choice}
+use Rattle.tcp_model.specs.Rules.{owes_syn, resends, resends_beside, has_text, text_choice, resend_choice}
 use Rattle.tcp_model.specs.States.{sends_text}
 use Rattle.tcp_model.specs.Value.{TcpValue, with_block, queued_in}
 
@@ -32,6 +32,17 @@ taken false a b e = absurd (cc)
 passed : (t : Bool) (a b : Offered TcpValue) → t ≡ false → (if t then a else b) ≡ b
 passed true a b e = absurd (cc)
 passed false a b e = refl
+
+-- a SYN is owed
+pub goes_syn : (cx : ContextValue) (v : TcpValue) (pair : EndpointPair) → owes_syn v.block ≡ true → first_rules cx v pair ≡ offer_syn cx v pair
+goes_syn cx v pair syn =
+    taken (owes_syn v.block) (offer_syn cx v pair)
+    (if resends v.block pair.addresses cx.ip_mtu v.queued
+    then offer_choice Kind.FastRetransmission cx v pair (resend_choice v.block pair.addresses cx.ip_mtu v.queued)
+    else if has_text v.block pair.addresses cx.ip_mtu v.queued
+    then offer_choice Kind.Text cx v pair (text_choice v.block pair.addresses cx.ip_mtu v.queued)
+    else last_rules cx (with_block v (probe_started cx.moment (queued_in v) v.block)) pair)
+    syn
 
 module _ (cx : ContextValue) (v : TcpValue) (pair : EndpointPair) (no_syn : owes_syn v.block ≡ false) where
   abbrev again : Offered TcpValue

@@ -14,7 +14,6 @@ use Rattle.ip_wire.specs.TcpControl.TheVariants as Control
 use Rattle.ip_wire.specs.TcpHeader.{TcpHeader}
 use Rattle.net_base.specs.Ring.{Ring, capacity, unbroken_queued}
 use Rattle.socket_base.specs.Context.{ContextValue}
-use Rattle.socket_base.specs.Offers.{Offered}
 use Rattle.tcp_model.specs.Blocks.{one_if, unacked}
 use Rattle.tcp_model.specs.Moments.{is_due}
 use Rattle.tcp_model.specs.Offers.{number_at}
@@ -200,8 +199,3 @@ two_parts r place len first second is next =
 
 pub not_zero : (n : ℕ) → (n ≡ 0 → ⊥) → (n == 0) ≡ false
 not_zero n some = grind (arith, nat_tests, some)
-
--- of two offers the second
-pub offered_else : (test : Bool) (one other : Offered TcpValue) → test ≡ false → other.socket ≡ (if test then one else other).socket
-offered_else true one other is = absurd (cc)
-offered_else false one other is = refl

@@ -1,10 +1,11 @@
 -- What each step keeps of a socket's invariant.
-use Rattle.std.proofs.Common.{◌≡◌, ℕ, ◌-◌, ◌==◌, ◌≤◌, min, Bool, true, false, List, ◌++◌, length, take, Option, Some, None, Ok, if◌then◌else◌, refl, arith}
+use Rattle.std.proofs.Common.{◌≡◌, ℕ, ◌-◌, ◌==◌, ◌≤◌, min, Bool, true, false, List, ◌++◌, length, take, Option, Some, None, Ok, if◌then◌else◌, refl, ap, arith}
 use Rattle.std.proofs.Common.{length-append, length-drop}
 use Rattle.std.specs.Prelude.{IfSome, ℤ}
 use Rattle.std.proofs.lemmas.List.{length-take-le, length-take}
 use Rattle.net_base.specs.Ring.{Ring, capacity, rotated, cleared, anchored, overwritten, extended, enqueued, released, contiguous}
 use Rattle.net_base.specs.Time.{IsMoment}
+use Rattle.tcp_model.specs.Calls.{or_count}
 use Rattle.tcp_model.specs.Moments.{is_due}
 use Rattle.tcp_model.specs.LossRecovery.{loss_probe_moment, loss_probed, loss_probed_by}
 use Rattle.tcp_model.specs.Offers.{backed_off}
@@ -102,3 +103,7 @@ is_allowed false same = absurd (cc)
 pub none_refuses : (refusal : Option RecvError) → or_done refusal ≡ Ok tt → refusal ≡ None
 none_refuses None same = refl
 none_refuses (Some e) same = absurd (cc)
+
+pub read_answer : (refusal : Option RecvError) (count most : ℕ) → refusal ≡ None → count ≡ most → Ok count ≡ or_count refusal most
+read_answer None count most is same = ap (λ (n : ℕ). or_count None n) same
+read_answer (Some e) count most is same = absurd (cc)

@@ -248,9 +248,7 @@ impl Socket {
     {
         self.offered = None;
         self.check_recv()?;
-        let (count, answer) = f(self.received.get(0, self.received.len()));
-        self.received.release(count);
-        Ok(answer)
+        Ok(self.received.read_with(f))
     }
 
     /// Reads waiting bytes into the slice, and returns how many.

@@ -1,6 +1,7 @@
 //! The receive buffer of a socket.
-ghost use Rattle.std.specs.Prelude.{◌≡◌, ◌==◌, ◌↔◌, ◌+◌, ◌≤◌, ◌++◌, not, IsTrue, is_ok, length, take, drop, min, []};
-ghost use Rattle.tcp_socket.specs.Receive.{most_bytes, FitsBuffer, in_order, can_hold, early, unbroken};
+ghost use Rattle.std.specs.Prelude.{◌≡◌, ℕ, ◌==◌, ◌↔◌, ◌+◌, ◌≤◌, ◌++◌, not, IsTrue, is_ok, length, take, drop, min, []};
+ghost use Rattle.std.specs.Fn.{FnOnceTakesAt, FnOnceReturnsAt};
+ghost use Rattle.tcp_socket.specs.Receive.{most_bytes, FitsBuffer, in_order, can_hold, early, unbroken, lent};
 ghost use Rattle.tcp_model.specs.Value.{received_of, room_of, emptied};
 ghost use Rattle.tcp_model.specs.Calls.{read_from};
 ghost use Rattle.tcp_model.specs.Answers.{run_at, others, first_two};
@@ -104,6 +105,18 @@ impl ReceiveBuffer {
         ensures { self.new ≡ read_from self.old count }
     {
         self.ring.dequeue_allocated(count);
+    }
+
+    /// Lends the waiting bytes, as many as lie behind one another, and gives up as many as `f` answers. The
+    /// other value of its answer is passed on.
+    pub(crate) fn read_with<R, F: FnOnce(&[u8]) -> (usize, R)>(&mut self, f: F) -> R
+        requires callable { FnOnceTakesAt F.FnOnce f (lent self.old) }
+        requires within { (answer : _) → FnOnceReturnsAt F.FnOnce f (lent self.old) answer → answer.0 ≤ length (lent self.old) }
+        ensures { (count : ℕ) × FnOnceReturnsAt F.FnOnce f (lent self.old) (record { 0 = count; 1 = result }) × (self.new ≡ read_from self.old count) }
+    {
+        let (count, answer) = f(self.get(0, self.len()));
+        self.release(count);
+        answer
     }
 
     /// Takes bytes that come in order, and returns how many can be read then: these, and those held

@@ -336,7 +336,7 @@ impl Block {
         (self.next_hole() as u64 + 1) < self.sender.recover as u64
     }
 
-    /// Whether what goes again for a partial acknowledgement has room for a segment beside what went again.
+    /// Whether that part of the congestion window has room for a segment beside what went again.
     fn has_credited_room(&self) -> bool
         ensures { result ≡ nat_le (missing self.now.loss.board.runs (min self.now.loss.resent self.now.sender.in_flight) + self.now.reno.mss) (credited_window self.now) }
     {

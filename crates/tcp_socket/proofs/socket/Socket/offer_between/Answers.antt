@@ -1,13 +1,13 @@
-use Rattle.std.proofs.Common.{◌≡◌, ℕ, ℤ, Option, false, sym, ap, ◌∙◌}
+use Rattle.std.proofs.Common.{◌≡◌, ℕ, ℤ, Option, true, false, refl, sym, ap, ◌∙◌}
 use Rattle.tcp_model.specs.declared.block.Block.{Block}
 use Rattle.tcp_model.specs.Moments.{is_due}
-use Rattle.tcp_model.specs.Offers.{backed_off, first_rules}
+use Rattle.tcp_model.specs.Offers.{silent, backed_off, first_rules}
 use Rattle.tcp_model.specs.Retries.{gives_up}
 use Rattle.tcp_model.specs.Rules.{time_wait_end}
 use Rattle.tcp_model.specs.States.{is_closed}
-use Rattle.tcp_model.specs.Timeout.{timeout_end, timeout_started}
-use Rattle.tcp_model.specs.Value.{TcpValue, with_block, queued_in}
-use Rattle.tcp_socket.proofs.Going.{Gives, goes_first, not_due}
+use Rattle.tcp_model.specs.Timeout.{timeout_end, timeout_started, timed_out}
+use Rattle.tcp_model.specs.Value.{TcpValue, with_block, ended, queued_in}
+use Rattle.tcp_socket.proofs.Going.{Gives, due_as, wait_ends, timeout_ends, is_over, is_given_up, goes_first}
 use Rattle.tcp_socket.proofs.Kept.{none_open}
 use Rattle.tcp_socket.proofs.Sockets.{kept_going}
 use Rattle.tcp_socket.proofs.socket.Socket.offer_between.Goals as goal
@@ -24,61 +24,116 @@ invariant_of-self-2 g c =
           c.requires.unoffered);
     }
 
-pub returns-clause-answer : goal.returns-clause-answer
-returns-clause-answer g c =
+pub returns-then-is_due : goal.returns-then-is_due
+returns-then-is_due g c =
     let cx = g.C.Context.context c.args.cx.now in
     let v = c.args.self.now in
+    let pair = c.args.pair.now in
     let at = c.now-now.ensures.value in
     let block : c.self.inside.block ≡ v.block = ap (λ (w : TcpValue). w.block) c.self.view_is in
-    let queued : c.len-queued.result ≡ queued_in v = c.len-queued.ensures ∙ ap queued_in c.self.view_is in
     let waits : c.time_wait_end.result ≡ time_wait_end v.block = c.time_wait_end.ensures ∙ ap time_wait_end block in
-    let ends : c.timeout_end.result ≡ timeout_end v.block (queued_in v) =
-    c.timeout_end.ensures ∙ ap (λ (b : Block). timeout_end b c.len-queued.result) block ∙ ap (timeout_end v.block) queued
-    in
-    let waiting =
-    not_due cx.moment c.now-now.result (time_wait_end v.block) c.time_wait_end.result c.is_due.result at waits c.is_due.ensures c.if-is_due.false in
-    let timed =
-    not_due cx.moment c.now-now.result (timeout_end v.block (queued_in v)) c.timeout_end.result c.is_due-2.result at ends c.is_due-2.ensures
-    c.if-is_due-2.false
-    in
-    let opened : is_closed v.block.state ≡ false = sym (ap (λ (b : Block). is_closed b.state) block) ∙ sym c.is_closed.ensures ∙ c.if-is_closed.false in
-    let giving : gives_up cx.moment v.block (queued_in v) ≡ false =
-    rw (← at, ← block, ← queued, ← c.gives_up.ensures) c.if-gives_up.false
-    in
-    let started : c.start_timeout.new.self ≡ timeout_started cx.moment (queued_in v) v.block =
-    c.start_timeout.ensures ∙ ap (λ (m : ℤ). timeout_started m c.len-queued.result c.self.inside.block) at
-    ∙ ap (λ (n : ℕ). timeout_started cx.moment n c.self.inside.block) queued ∙ ap (timeout_started cx.moment (queued_in v)) block
-    in
-    let went : c.back_off.new.self ≡ backed_off cx.moment (timeout_started cx.moment (queued_in v) v.block) =
-    c.back_off.ensures ∙ ap (λ (m : ℤ). backed_off m c.start_timeout.new.self) at ∙ ap (backed_off cx.moment) started
-    in
+    let over =
+    due_as true cx.moment c.now-now.result (time_wait_end v.block) c.time_wait_end.result c.is_due.result at waits c.is_due.ensures c.if-is_due.true in
     let on : TcpValue =
-    record { block = c.back_off.new.self; received = c.self.inside.received; queued = c.self.inside.queued; offered = c.self.inside.offered }
+    record { block = c.forget.new.self; received = c.self.inside.received; queued = c.self.inside.queued; offered = c.self.inside.offered }
     in
-    let is : on ≡ with_block v (backed_off cx.moment (timeout_started cx.moment (queued_in v) v.block)) =
-    ap (λ (b : Block). with_block on b) went
-    ∙ ap (λ (w : TcpValue). with_block w (backed_off cx.moment (timeout_started cx.moment (queued_in v) v.block))) c.self.view_is
-    in
-    let gives : Gives (first_rules cx on c.args.pair.now) c.offer_first.result c.offer_first.new.self =
-    record { answer_is = c.offer_first.ensures.answer; socket_is = c.offer_first.ensures.socket }
-    in
-    (goes_first cx v on c.args.pair.now c.offer_first.result c.offer_first.new.self waiting timed opened giving is gives).answer_is
+    let is : on ≡ ended v = ap (λ (b : Block). with_block on b) c.forget.ensures ∙ ap ended c.self.view_is in
+    let all = wait_ends cx v pair (silent true v).answer on over (record { answer_is = refl; socket_is = is }) in
+    record { answer = all.answer_is; socket = all.socket_is }
 
-pub returns-clause-socket : goal.returns-clause-socket
-returns-clause-socket g c =
+pub returns-then-is_due-2 : goal.returns-then-is_due-2
+returns-then-is_due-2 g c =
     let cx = g.C.Context.context c.args.cx.now in
     let v = c.args.self.now in
+    let pair = c.args.pair.now in
     let at = c.now-now.ensures.value in
     let block : c.self.inside.block ≡ v.block = ap (λ (w : TcpValue). w.block) c.self.view_is in
-    let queued : c.len-queued.result ≡ queued_in v = c.len-queued.ensures ∙ ap queued_in c.self.view_is in
     let waits : c.time_wait_end.result ≡ time_wait_end v.block = c.time_wait_end.ensures ∙ ap time_wait_end block in
+    let queued : c.len-queued.result ≡ queued_in v = c.len-queued.ensures ∙ ap queued_in c.self.view_is in
     let ends : c.timeout_end.result ≡ timeout_end v.block (queued_in v) =
     c.timeout_end.ensures ∙ ap (λ (b : Block). timeout_end b c.len-queued.result) block ∙ ap (timeout_end v.block) queued
     in
     let waiting =
-    not_due cx.moment c.now-now.result (time_wait_end v.block) c.time_wait_end.result c.is_due.result at waits c.is_due.ensures c.if-is_due.false in
+    due_as false cx.moment c.now-now.result (time_wait_end v.block) c.time_wait_end.result c.is_due.result at waits c.is_due.ensures c.if-is_due.false in
+    let over =
+    due_as true cx.moment c.now-now.result (timeout_end v.block (queued_in v)) c.timeout_end.result c.is_due-2.result at ends c.is_due-2.ensures
+    c.if-is_due-2.true
+    in
+    let on : TcpValue =
+    record { block = c.time_out.new.self; received = c.self.inside.received; queued = c.self.inside.queued; offered = c.self.inside.offered }
+    in
+    let is : on ≡ with_block v (timed_out v.block) =
+    ap (λ (b : Block). with_block on b) c.time_out.ensures ∙ ap (λ (w : TcpValue). with_block w (timed_out w.block)) c.self.view_is
+    in
+    let all = timeout_ends cx v pair (silent true v).answer on waiting over (record { answer_is = refl; socket_is = is }) in
+    record { answer = all.answer_is; socket = all.socket_is }
+
+pub returns-then-is_closed : goal.returns-then-is_closed
+returns-then-is_closed g c =
+    let cx = g.C.Context.context c.args.cx.now in
+    let v = c.args.self.now in
+    let pair = c.args.pair.now in
+    let at = c.now-now.ensures.value in
+    let block : c.self.inside.block ≡ v.block = ap (λ (w : TcpValue). w.block) c.self.view_is in
+    let waits : c.time_wait_end.result ≡ time_wait_end v.block = c.time_wait_end.ensures ∙ ap time_wait_end block in
+    let queued : c.len-queued.result ≡ queued_in v = c.len-queued.ensures ∙ ap queued_in c.self.view_is in
+    let ends : c.timeout_end.result ≡ timeout_end v.block (queued_in v) =
+    c.timeout_end.ensures ∙ ap (λ (b : Block). timeout_end b c.len-queued.result) block ∙ ap (timeout_end v.block) queued
+    in
+    let waiting =
+    due_as false cx.moment c.now-now.result (time_wait_end v.block) c.time_wait_end.result c.is_due.result at waits c.is_due.ensures c.if-is_due.false in
     let timed =
-    not_due cx.moment c.now-now.result (timeout_end v.block (queued_in v)) c.timeout_end.result c.is_due-2.result at ends c.is_due-2.ensures
+    due_as false cx.moment c.now-now.result (timeout_end v.block (queued_in v)) c.timeout_end.result c.is_due-2.result at ends c.is_due-2.ensures
+    c.if-is_due-2.false
+    in
+    let closed : is_closed v.block.state ≡ true = sym (ap (λ (b : Block). is_closed b.state) block) ∙ sym c.is_closed.ensures ∙ c.if-is_closed.true in
+    let all =
+    is_over cx v pair c.offer_reset.result c.offer_reset.new.self waiting timed closed
+    (record { answer_is = c.offer_reset.ensures.answer; socket_is = c.offer_reset.ensures.socket })
+    in
+    record { answer = all.answer_is; socket = all.socket_is }
+
+pub returns-then-gives_up : goal.returns-then-gives_up
+returns-then-gives_up g c =
+    let cx = g.C.Context.context c.args.cx.now in
+    let v = c.args.self.now in
+    let pair = c.args.pair.now in
+    let at = c.now-now.ensures.value in
+    let block : c.self.inside.block ≡ v.block = ap (λ (w : TcpValue). w.block) c.self.view_is in
+    let waits : c.time_wait_end.result ≡ time_wait_end v.block = c.time_wait_end.ensures ∙ ap time_wait_end block in
+    let queued : c.len-queued.result ≡ queued_in v = c.len-queued.ensures ∙ ap queued_in c.self.view_is in
+    let ends : c.timeout_end.result ≡ timeout_end v.block (queued_in v) =
+    c.timeout_end.ensures ∙ ap (λ (b : Block). timeout_end b c.len-queued.result) block ∙ ap (timeout_end v.block) queued
+    in
+    let waiting =
+    due_as false cx.moment c.now-now.result (time_wait_end v.block) c.time_wait_end.result c.is_due.result at waits c.is_due.ensures c.if-is_due.false in
+    let timed =
+    due_as false cx.moment c.now-now.result (timeout_end v.block (queued_in v)) c.timeout_end.result c.is_due-2.result at ends c.is_due-2.ensures
+    c.if-is_due-2.false
+    in
+    let opened : is_closed v.block.state ≡ false = sym (ap (λ (b : Block). is_closed b.state) block) ∙ sym c.is_closed.ensures ∙ c.if-is_closed.false in
+    let giving : gives_up cx.moment v.block (queued_in v) ≡ true =
+    rw (← at, ← block, ← queued, ← c.gives_up.ensures) c.if-gives_up.true
+    in
+    let all = is_given_up cx v pair (silent true v).answer c.give_up.new.self waiting timed opened giving (record { answer_is = refl; socket_is = c.give_up.ensures }) in
+    record { answer = all.answer_is; socket = all.socket_is }
+
+pub returns : goal.returns
+returns g c =
+    let cx = g.C.Context.context c.args.cx.now in
+    let v = c.args.self.now in
+    let pair = c.args.pair.now in
+    let at = c.now-now.ensures.value in
+    let block : c.self.inside.block ≡ v.block = ap (λ (w : TcpValue). w.block) c.self.view_is in
+    let waits : c.time_wait_end.result ≡ time_wait_end v.block = c.time_wait_end.ensures ∙ ap time_wait_end block in
+    let queued : c.len-queued.result ≡ queued_in v = c.len-queued.ensures ∙ ap queued_in c.self.view_is in
+    let ends : c.timeout_end.result ≡ timeout_end v.block (queued_in v) =
+    c.timeout_end.ensures ∙ ap (λ (b : Block). timeout_end b c.len-queued.result) block ∙ ap (timeout_end v.block) queued
+    in
+    let waiting =
+    due_as false cx.moment c.now-now.result (time_wait_end v.block) c.time_wait_end.result c.is_due.result at waits c.is_due.ensures c.if-is_due.false in
+    let timed =
+    due_as false cx.moment c.now-now.result (timeout_end v.block (queued_in v)) c.timeout_end.result c.is_due-2.result at ends c.is_due-2.ensures
     c.if-is_due-2.false
     in
     let opened : is_closed v.block.state ≡ false = sym (ap (λ (b : Block). is_closed b.state) block) ∙ sym c.is_closed.ensures ∙ c.if-is_closed.false in
@@ -99,7 +154,8 @@ returns-clause-socket g c =
     ap (λ (b : Block). with_block on b) went
     ∙ ap (λ (w : TcpValue). with_block w (backed_off cx.moment (timeout_started cx.moment (queued_in v) v.block))) c.self.view_is
     in
-    let gives : Gives (first_rules cx on c.args.pair.now) c.offer_first.result c.offer_first.new.self =
+    let gives : Gives (first_rules cx on pair) c.offer_first.result c.offer_first.new.self =
     record { answer_is = c.offer_first.ensures.answer; socket_is = c.offer_first.ensures.socket }
     in
-    (goes_first cx v on c.args.pair.now c.offer_first.result c.offer_first.new.self waiting timed opened giving is gives).socket_is
+    let all = goes_first cx v pair c.offer_first.result c.offer_first.new.self waiting timed opened on giving is gives in
+    record { answer = all.answer_is; socket = all.socket_is }

@@ -5,8 +5,8 @@ use Rattle.tcp_model.specs.Value.{TcpValue, unoffered}
 use Rattle.tcp_socket.proofs.Going.{Gives, goes_between}
 use Rattle.tcp_socket.proofs.socket.Socket.offer_next.Goals as goal
 
-pub returns-in-Some-clause-answer : goal.returns-in-Some-clause-answer
-returns-in-Some-clause-answer g c =
+pub returns-in-Some : goal.returns-in-Some
+returns-in-Some g c =
     let cx = g.C.Context.context c.args.cx.now in
     let v = c.args.self.now in
     let some : v.block.names.pair ≡ Some c.in-Some.pair =
@@ -15,18 +15,8 @@ returns-in-Some-clause-answer g c =
     let gives : Gives (offer_between cx c.unoffer.new.self c.in-Some.pair) c.offer_between.result c.offer_between.new.self =
     record { answer_is = c.offer_between.ensures.answer; socket_is = c.offer_between.ensures.socket }
     in
-    (goes_between cx (unoffered v) c.unoffer.new.self v.block.names.pair c.in-Some.pair c.offer_between.result c.offer_between.new.self some
-    c.unoffer.ensures gives).answer_is
-
-pub returns-in-Some-clause-socket : goal.returns-in-Some-clause-socket
-returns-in-Some-clause-socket g c =
-    let cx = g.C.Context.context c.args.cx.now in
-    let v = c.args.self.now in
-    let some : v.block.names.pair ≡ Some c.in-Some.pair =
-    sym (ap (λ (w : TcpValue). w.block.names.pair) (c.self.view_is ∙ c.unoffer.ensures)) ∙ c.in-Some.is
+    let all =
+    goes_between cx (unoffered v) c.unoffer.new.self v.block.names.pair c.in-Some.pair c.offer_between.result c.offer_between.new.self some
+    c.unoffer.ensures gives
     in
-    let gives : Gives (offer_between cx c.unoffer.new.self c.in-Some.pair) c.offer_between.result c.offer_between.new.self =
-    record { answer_is = c.offer_between.ensures.answer; socket_is = c.offer_between.ensures.socket }
-    in
-    (goes_between cx (unoffered v) c.unoffer.new.self v.block.names.pair c.in-Some.pair c.offer_between.result c.offer_between.new.self some
-    c.unoffer.ensures gives).socket_is
+    record { answer = all.answer_is; socket = all.socket_is }

@@ -3,6 +3,11 @@ use Rattle.tcp_model.specs.Value.{TcpValue}
 use Rattle.tcp_socket.proofs.Sockets.{fits_sent, is_allowed}
 use Rattle.tcp_socket.proofs.socket.Socket.send.Goals as goal
 
+pub enqueue_many_with-answer-requires-clause-callable : goal.enqueue_many_with-answer-requires-clause-callable
+enqueue_many_with-answer-requires-clause-callable g c =
+    let same : c.self.inside.queued ≡ c.args.self.now.queued = ap (λ (v : TcpValue). v.queued) c.self.view_is in
+    rw same c.requires.callable
+
 pub enqueue_many_with-answer-requires-clause-within : goal.enqueue_many_with-answer-requires-clause-within
 enqueue_many_with-answer-requires-clause-within g c =
     let same : c.self.inside.queued ≡ c.args.self.now.queued = ap (λ (v : TcpValue). v.queued) c.self.view_is in
