@@ -351,10 +351,9 @@ impl Socket {
         ensures { Hands F.FnOnce emit (offer_of (C.context cx.now) self.old).socket result self.new }
     {
         self.offer(cx);
-        let Some(packet) = self.offered() else {
+        let Some(answer) = self.offered().map(emit) else {
             return Ok(());
         };
-        let answer = emit(packet);
         self.settle(answer.is_ok());
         answer
     }
