@@ -7,7 +7,9 @@ mod transfer;
 mod two_hosts;
 
 use crate::cases::all;
+use crate::worlds::begun::made;
 use ip_wire::IpAddress;
+use lan::World;
 use std::alloc::Global;
 use std::test::Fail;
 
@@ -34,11 +36,21 @@ fn query_is_written() -> bool {
     datagram == DATAGRAM
 }
 
-/// What one host reads of the other.
-fn hello_is_read(alloc: Global) -> bool {
-    match two_hosts::run(alloc) {
+/// Two hosts with a TCP socket each.
+const STREAMS: &str = "world ip 1500\nsocket A tcp 64 64\nsocket B tcp 64 64\n";
+
+/// Whether one host reads what the other wrote.
+fn is_read(alloc: Global, world: &mut World) -> bool {
+    match two_hosts::talk(alloc, world) {
         Ok(Some(bytes)) => bytes.as_slice() == b"hello".as_slice(),
         _ => false,
+    }
+}
+
+fn hello_is_read(alloc: Global) -> bool {
+    match made(alloc, STREAMS) {
+        Some(mut world) => is_read(alloc, &mut world),
+        None => false,
     }
 }
 

@@ -6,7 +6,7 @@
 //! what an event does that finds no memory (`memory`). `pieces` has readers and writers that give little, or fail;
 //! `files`, files of cases.
 
-mod begun;
+pub mod begun;
 mod bounds;
 mod common;
 mod files;

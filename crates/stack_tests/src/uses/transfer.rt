@@ -6,7 +6,6 @@ ghost use Rattle.tcp_pair.specs.Promises.{IsFresh};
 ghost use Rattle.tcp_pair.specs.Safe.{IsSafe};
 ghost use Rattle.sockets.specs.TcpReceive.{FitsBuffer};
 
-use crate::uses::two_hosts::boxed;
 use anyhow::Result;
 use ip_wire::{IpAddress, IpEndpoint, IpListenEndpoint, TcpControl};
 use net_base::{Instant, ManagedSlice, RingBuffer};
@@ -286,6 +285,11 @@ fn show_end(picture: &mut String, pair: &Pair, read: &[u8]) -> Result<()> {
     let b = pair.socket(Side::B).state();
     let text = str::from_utf8(read)?;
     Ok(write!(picture, "A is in {a}, B in {b}\nread: {text}\n")?)
+}
+
+/// A value on the heap.
+fn boxed<T: Drop>(alloc: Global, value: T) -> Result<Box<T>> {
+    Ok(Box::new(alloc, value)?)
 }
 
 /// Draws the transfer.

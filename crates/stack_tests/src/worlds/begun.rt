@@ -33,8 +33,8 @@ fn started(alloc: Global, text: &str) -> Result<World, End> {
     header.start(alloc)
 }
 
-/// On the heap, where lending a world is cheap to prove.
-fn made(alloc: Global, header: &str) -> Option<Box<World>> {
+/// The world of a header, on the heap, where lending it is cheap to prove.
+pub fn made(alloc: Global, header: &str) -> Option<Box<World>> {
     Box::new(alloc, started(alloc, header).ok()?).ok()
 }
 
