@@ -176,16 +176,14 @@ fn show_segment(
     now: i64,
     lost: bool,
 ) -> Result<()> {
-    match (pair.sent(from).first(), pair.sent(from).get(k)) {
-        (Some(first), Some(segment)) => {
-            let label = described(alloc, pair, from, first, segment)?;
-            Ok(show(picture, now, from, label.as_str(), lost)?)
-        }
-        _ => Ok(()),
-    }
+    let Some(segment) = pair.sent(from).get(k) else {
+        return Ok(());
+    };
+    let label = described(alloc, pair, from, segment)?;
+    Ok(show(picture, now, from, label.as_str(), lost)?)
 }
 
-/// The number of the other side's first segment, its SYN.
+/// The number of a side's first segment, its SYN.
 fn start_of(pair: &Pair, side: Side) -> u32 {
     match pair.sent(side).first() {
         Some(first) => first.segment.seq_number.0,
@@ -197,32 +195,27 @@ fn described(
     alloc: Global,
     pair: &Pair,
     from: Side,
-    first: &SentSegment,
     x: &SentSegment,
-) -> Result<String> {
+) -> Result<String, AllocError> {
     let flags = match x.segment.control {
         TcpControl::Syn => "SYN ",
         TcpControl::Fin => "FIN ",
         TcpControl::Rst => "RST ",
         TcpControl::None | TcpControl::Psh => "",
     };
-    let place = x
-        .segment
-        .seq_number
-        .0
-        .wrapping_sub(first.segment.seq_number.0);
+    let place = x.segment.seq_number.0.wrapping_sub(start_of(pair, from));
     let other = match from {
         Side::A => Side::B,
         Side::B => Side::A,
     };
     let len = x.bytes.as_slice().len();
-    Ok(match x.segment.ack_number {
-        None => format!(in alloc; " {flags}{place}({len}) ")?,
+    match x.segment.ack_number {
+        None => format!(in alloc; " {flags}{place}({len}) "),
         Some(number) => {
             let acked = number.0.wrapping_sub(start_of(pair, other));
-            format!(in alloc; " {flags}{place}({len}) ack {acked} ")?
+            format!(in alloc; " {flags}{place}({len}) ack {acked} ")
         }
-    })
+    }
 }
 
 fn show(
