@@ -141,9 +141,10 @@ asked_first due last side p (x ∷ first) rest a = (a.0, by (λ more. asked_firs
 
 pub asks_first : (wait : ℕ) (now : ℤ) (p : PairValue) (first rest : Course) → AsksWithin wait now p (first ++ rest) → AsksWithin wait now p first
 asks_first wait now p [] rest a = tt
-asks_first wait now p (x ∷ first) rest a =
-    ((λ side due later wants. asked_first due (due +ℤ pos wait) side p (x ∷ first) rest (a.0 side due later wants)),
-    asks_first wait x.0 (takes p x.1) first rest a.1)
+asks_first wait now p (x ∷ first) rest a = (
+  (λ side due later wants. asked_first due (due +ℤ pos wait) side p (x ∷ first) rest (a.0 side due later wants)),
+  asks_first wait x.0 (takes p x.1) first rest a.1,
+)
 
 pub asks_rest : (wait : ℕ) (now : ℤ) (p : PairValue) (first rest : Course) → AsksWithin wait now p (first ++ rest) →
     AsksWithin wait (end_of now first) (after_all p first) rest

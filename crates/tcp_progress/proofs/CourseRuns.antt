@@ -362,24 +362,25 @@ starts_in_course P tail p q side course wait now r o s there_q flight clock cloc
       ⊎ ((acked_in q side ≤ acked_in p side) × Start P p q side now ((now +ℤ pos (put_off_in p side)) +ℤ pos wait) course)
   by true e = inl (ltb-true (acked_in p side) (acked_in q side) e)
   by false e =
-      inr
-      (ltb-false (acked_in p side) (acked_in q side) e,
-      waits_out P tail side q there_q due (due +ℤ pos wait) (waits_after due wait) (most_sent p side) (most_sent p side + 1) wait p course it.at now
-      (record {
-        reached = r;
-        a = begun p A r o.0;
-        b = begun p B r o.1;
-        steps = s;
-        there = (open_of p side o).synchronized;
-        acked = ltb-false (acked_in p side) (acked_in q side) e;
-        room = refl;
-        few = few_first (most_sent p side) (mending_of (socket_of p side).block) (more (room_of (socket_of p (other side)).received));
-        runs = it.runs;
-        within = within_all (at p.sides side).moment now it.at (most_sent p side) clock near;
-        clocked = clocked;
-        has = has;
-      })
-      (waits_after now (put_off_in p side)) refl asks over)
+      inr (
+        ltb-false (acked_in p side) (acked_in q side) e,
+        waits_out P tail side q there_q due (due +ℤ pos wait) (waits_after due wait) (most_sent p side) (most_sent p side + 1) wait p course it.at now
+            (record {
+              reached = r;
+              a = begun p A r o.0;
+              b = begun p B r o.1;
+              steps = s;
+              there = (open_of p side o).synchronized;
+              acked = ltb-false (acked_in p side) (acked_in q side) e;
+              room = refl;
+              few = few_first (most_sent p side) (mending_of (socket_of p side).block) (more (room_of (socket_of p (other side)).received));
+              runs = it.runs;
+              within = within_all (at p.sides side).moment now it.at (most_sent p side) clock near;
+              clocked = clocked;
+              has = has;
+            })
+            (waits_after now (put_off_in p side)) refl asks over,
+      )
 
 pub begins_in_course :
     (p q : PairValue) (side : Side) (course : List (ℤ × PairEvent)) (wait : ℕ) (now : ℤ) → IsReached p → AreOpen p → Steps p (events_of course) q

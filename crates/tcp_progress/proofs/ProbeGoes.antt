@@ -25,8 +25,8 @@ pub probe_goes :
 probe_goes p side moment at r own owes goes none timer probes due =
     let named = named_in p side r own.synchronized in
     let sends : SendsOut (context_of p side moment) (socket_of p side) (offer_of (context_of p side moment) (socket_of p side)) =
-        goes_then (context_of p side moment) (socket_of p side) named.0 named.1 (record { own = own; owes = owes; over = inl none; goes = goes })
-        (sends_there p side r own.synchronized own.acknowledged owes) (again_sent p side r own.acknowledged named.0.addresses 1500 (socket_of p side).queued)
-        none timer (reached_cwnd p side r) (inr (inr (λ _. ap is_some probes))) (λ _ _. ap (is_due moment) probes ∙ due)
+    goes_then (context_of p side moment) (socket_of p side) named.0 named.1 (record { own = own; owes = owes; over = inl none; goes = goes })
+    (sends_there p side r own.synchronized own.acknowledged owes) (again_sent p side r own.acknowledged named.0.addresses 1500 (socket_of p side).queued)
+    none timer (reached_cwnd p side r) (inr (inr (λ _. ap is_some probes))) (λ _ _. ap (is_due moment) probes ∙ due)
     in
     record { o = sends.k; offered = sends.offered; kind = sends.kind; some = sends.some }
