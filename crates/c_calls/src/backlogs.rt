@@ -174,7 +174,7 @@ impl Host {
     fn may_be_taken(&self, socket: usize) -> Result<(), Code>
         ensures { result ≡ may_be_taken self.now socket }
     {
-        match looks::state(self.sockets.sockets.as_slice(), socket) {
+        match looks::state(&self.sockets, socket) {
             Ok(State::Closed) => {
                 if is_in_backlog(self.listeners.as_slice(), socket) {
                     Err(Code::InBacklog)

@@ -13,7 +13,6 @@ use crate::host::Host;
 use c_sockets::control::{self, Act};
 use c_sockets::{Code, queues};
 use ip_wire::IpAddress;
-use net_base::ManagedSlice;
 use sockets::{Socket, icmp};
 
 impl Host {
@@ -32,10 +31,7 @@ impl Host {
         ensures answer { result ≡ answer_at as_icmp (act_answer act) self.old.places place }
         ensures after { self.new ≡ record self.old { places = after_at as_icmp Kind.Icmp (act_after act) self.old.places place } }
     {
-        match &mut self.sockets.sockets {
-            ManagedSlice::Owned(places) => control::perform(places.as_mut_slice(), place, act),
-            ManagedSlice::Fixed(_) => unreachable!(),
-        }
+        control::perform(&mut self.sockets, place, act)
     }
 
     /// Queues a message. Its checksum is written when it is sent.
@@ -43,15 +39,7 @@ impl Host {
         ensures answer { result ≡ answer_at as_icmp (λ v. coded of_send (send_answer v remote (length bytes.now))) self.old.places place }
         ensures after { self.new ≡ record self.old { places = after_at as_icmp Kind.Icmp (λ v. send_after v remote bytes.now) self.old.places place } }
     {
-        match &mut self.sockets.sockets {
-            ManagedSlice::Owned(places) => control::send(
-                places.as_mut_slice(),
-                place,
-                bytes,
-                remote,
-            ),
-            ManagedSlice::Fixed(_) => unreachable!(),
-        }
+        control::send(&mut self.sockets, place, bytes, remote)
     }
 
     /// Reads the first message to the front of the slice.
@@ -60,9 +48,6 @@ impl Host {
         ensures after { self.new ≡ record self.old { places = after_at as_icmp Kind.Icmp (recv_after) self.old.places place } }
         ensures read { out.new ≡ written_at as_icmp recv_written out.old self.old.places place }
     {
-        match &mut self.sockets.sockets {
-            ManagedSlice::Owned(places) => control::recv(places.as_mut_slice(), place, out),
-            ManagedSlice::Fixed(_) => unreachable!(),
-        }
+        control::recv(&mut self.sockets, place, out)
     }
 }

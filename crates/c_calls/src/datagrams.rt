@@ -12,7 +12,6 @@ ghost use Rattle.c_calls.specs.Added.{MakesSocket, new_udp};
 use crate::host::Host;
 use c_sockets::datagrams::{self, Act};
 use c_sockets::{Code, queues};
-use net_base::ManagedSlice;
 use sockets::Socket;
 use sockets::udp::{self, UdpMetadata};
 
@@ -32,10 +31,7 @@ impl Host {
         ensures answer { result ≡ answer_at as_udp (act_answer act) self.old.places place }
         ensures after { self.new ≡ record self.old { places = after_at as_udp Kind.Udp (act_after act) self.old.places place } }
     {
-        match &mut self.sockets.sockets {
-            ManagedSlice::Owned(places) => datagrams::perform(places.as_mut_slice(), place, act),
-            ManagedSlice::Fixed(_) => unreachable!(),
-        }
+        datagrams::perform(&mut self.sockets, place, act)
     }
 
     /// Queues a datagram.
@@ -48,15 +44,7 @@ impl Host {
         ensures answer { result ≡ answer_at as_udp (λ v. coded of_send (send_answer v metadata (length bytes.now))) self.old.places place }
         ensures after { self.new ≡ record self.old { places = after_at as_udp Kind.Udp (λ v. send_after v metadata bytes.now) self.old.places place } }
     {
-        match &mut self.sockets.sockets {
-            ManagedSlice::Owned(places) => datagrams::send(
-                places.as_mut_slice(),
-                place,
-                bytes,
-                metadata,
-            ),
-            ManagedSlice::Fixed(_) => unreachable!(),
-        }
+        datagrams::send(&mut self.sockets, place, bytes, metadata)
     }
 
     /// Reads the first datagram to the front of the slice.
@@ -65,9 +53,6 @@ impl Host {
         ensures after { self.new ≡ record self.old { places = after_at as_udp Kind.Udp (recv_after) self.old.places place } }
         ensures read { out.new ≡ written_at as_udp recv_written out.old self.old.places place }
     {
-        match &mut self.sockets.sockets {
-            ManagedSlice::Owned(places) => datagrams::recv(places.as_mut_slice(), place, out),
-            ManagedSlice::Fixed(_) => unreachable!(),
-        }
+        datagrams::recv(&mut self.sockets, place, out)
     }
 }

@@ -11,7 +11,6 @@ ghost use Rattle.c_calls.specs.Added.{MakesSocket, new_raw};
 use crate::host::Host;
 use c_sockets::{Code, packets, queues};
 use ip_wire::{IpProtocol, IpVersion};
-use net_base::ManagedSlice;
 use sockets::{Socket, raw};
 
 impl Host {
@@ -36,10 +35,7 @@ impl Host {
         ensures answer { result ≡ answer_at as_raw (λ v. coded of_raw_send (send_answer v (length bytes.now))) self.old.places place }
         ensures after { self.new ≡ record self.old { places = after_at as_raw Kind.Raw (λ v. send_after v bytes.now) self.old.places place } }
     {
-        match &mut self.sockets.sockets {
-            ManagedSlice::Owned(places) => packets::send(places.as_mut_slice(), place, bytes),
-            ManagedSlice::Fixed(_) => unreachable!(),
-        }
+        packets::send(&mut self.sockets, place, bytes)
     }
 
     /// Reads the first packet to the front of the slice, and answers its length.
@@ -48,9 +44,6 @@ impl Host {
         ensures after { self.new ≡ record self.old { places = after_at as_raw Kind.Raw (recv_after) self.old.places place } }
         ensures read { out.new ≡ written_at as_raw recv_written out.old self.old.places place }
     {
-        match &mut self.sockets.sockets {
-            ManagedSlice::Owned(places) => packets::recv(places.as_mut_slice(), place, out),
-            ManagedSlice::Fixed(_) => unreachable!(),
-        }
+        packets::recv(&mut self.sockets, place, out)
     }
 }

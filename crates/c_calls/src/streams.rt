@@ -6,7 +6,6 @@ ghost use Rattle.c_sockets.specs.Places.{answer_at, after_at, written_at};
 ghost use Rattle.sockets.specs.TcpCalls.{connect_answer, connect_after, connect_draws, send_answer, send_after, recv_answer};
 ghost use Rattle.interface.specs.Inner.{context_of, drawn};
 ghost use Rattle.interface.specs.Made.{with_inner};
-ghost use Rattle.interface.specs.Set.{places, is_fixed};
 ghost use Rattle.std.specs.Prelude.{if◌then◌else◌};
 ghost use Rattle.c_sockets.specs.Codes.{coded, of_connect, of_stream_send, of_stream_recv};
 ghost use Rattle.c_sockets.specs.Places.{draws_at};
@@ -16,44 +15,11 @@ ghost use Rattle.c_calls.specs.Added.{MakesStream};
 use crate::host::Host;
 use c_sockets::streams::{self, Act};
 use c_sockets::{Code, looks, rings};
-use interface::{Interface, SocketSet};
 use ip_wire::{IpEndpoint, IpListenEndpoint};
-use net_base::ManagedSlice;
 use sockets::{Socket, tcp};
 
 /// The most bytes that a buffer of a stream may have.
 const MOST: usize = 1 << 30;
-
-fn connect(
-    sockets: &mut SocketSet<Socket>,
-    cx: &mut Interface,
-    place: usize,
-    remote: IpEndpoint,
-    local: IpListenEndpoint,
-) -> Result<(), Code>
-    ensures answer { result ≡ answer_at as_tcp (λ v. coded of_connect (connect_answer (context_of cx.old.inner) v remote local)) (places sockets.old) place }
-    ensures after { places sockets.new ≡ after_at as_tcp Kind.Tcp (λ v. connect_after (context_of cx.old.inner) v remote local) (places sockets.old) place }
-    ensures drawn { cx.new ≡ if draws_at as_tcp (λ v. connect_draws (context_of cx.old.inner) v remote local) (places sockets.old) place
-        then with_inner cx.old (drawn cx.old.inner) else cx.old }
-    ensures fixed { is_fixed sockets.new ≡ is_fixed sockets.old }
-{
-    match &mut sockets.sockets {
-        ManagedSlice::Fixed(places) => streams::connect(
-            places.as_mut_slice(),
-            place,
-            cx,
-            remote,
-            local,
-        ),
-        ManagedSlice::Owned(places) => streams::connect(
-            places.as_mut_slice(),
-            place,
-            cx,
-            remote,
-            local,
-        ),
-    }
-}
 
 impl Host {
     /// A socket with room for so many bytes each way.
@@ -74,10 +40,7 @@ impl Host {
         ensures answer { result ≡ answer_at as_tcp (act_answer act) self.old.places place }
         ensures after { self.new ≡ record self.old { places = after_at as_tcp Kind.Tcp (act_after act) self.old.places place } }
     {
-        match &mut self.sockets.sockets {
-            ManagedSlice::Owned(places) => streams::perform(places.as_mut_slice(), place, act),
-            ManagedSlice::Fixed(_) => unreachable!(),
-        }
+        streams::perform(&mut self.sockets, place, act)
     }
 
     /// Opens a connection to a remote, from a port of one own address or of the one that the host chooses.
@@ -95,7 +58,7 @@ impl Host {
           places = after_at as_tcp Kind.Tcp (λ v. connect_after (context_of self.old.host.inner) v remote local) self.old.places place;
         } }
     {
-        connect(&mut self.sockets, &mut self.interface, place, remote, local)
+        streams::connect(&mut self.sockets, place, &mut self.interface, remote, local)
     }
 
     /// Queues as many of the bytes as there is room for, and answers how many.
@@ -103,10 +66,7 @@ impl Host {
         ensures answer { result ≡ answer_at as_tcp (λ v. coded of_stream_send (send_answer v (length bytes.now))) self.old.places place }
         ensures after { self.new ≡ record self.old { places = after_at as_tcp Kind.Tcp (λ v. send_after v bytes.now) self.old.places place } }
     {
-        match &mut self.sockets.sockets {
-            ManagedSlice::Owned(places) => streams::send(places.as_mut_slice(), place, bytes),
-            ManagedSlice::Fixed(_) => unreachable!(),
-        }
+        streams::send(&mut self.sockets, place, bytes)
     }
 
     /// Reads waiting bytes to the front of the slice, and answers how many.
@@ -115,10 +75,7 @@ impl Host {
         ensures after { self.new ≡ record self.old { places = after_at as_tcp Kind.Tcp (λ v. read_after v (length out.old)) self.old.places place } }
         ensures read { out.new ≡ written_at as_tcp read_written out.old self.old.places place }
     {
-        match &mut self.sockets.sockets {
-            ManagedSlice::Owned(places) => streams::recv(places.as_mut_slice(), place, out),
-            ManagedSlice::Fixed(_) => unreachable!(),
-        }
+        streams::recv(&mut self.sockets, place, out)
     }
 
     /// Gives up the first waiting bytes, at most so many and as many as lie behind one another. Answers how many.
@@ -126,10 +83,7 @@ impl Host {
         ensures answer { result ≡ answer_at as_tcp (done_answer count) self.old.places place }
         ensures after { self.new ≡ record self.old { places = after_at as_tcp Kind.Tcp (done_after count) self.old.places place } }
     {
-        match &mut self.sockets.sockets {
-            ManagedSlice::Owned(places) => streams::done(places.as_mut_slice(), place, count),
-            ManagedSlice::Fixed(_) => unreachable!(),
-        }
+        streams::done(&mut self.sockets, place, count)
     }
 
     /// Lends the first waiting bytes, as many as lie behind one another.
@@ -138,27 +92,27 @@ impl Host {
             (λ bytes. answer_at as_tcp peeked self.now.places place ≡ Ok bytes.now)
             (λ code. answer_at as_tcp peeked self.now.places place ≡ Err code) }
     {
-        looks::peek(self.sockets.sockets.as_slice(), place)
+        looks::peek(&self.sockets, place)
     }
 
     /// The state of the connection.
     pub fn tcp_state(&self, place: usize) -> Result<tcp::State, Code>
         ensures { result ≡ answer_at as_tcp state_in self.now.places place }
     {
-        looks::state(self.sockets.sockets.as_slice(), place)
+        looks::state(&self.sockets, place)
     }
 
     /// The own endpoint of the connection and the remote's.
     pub fn tcp_ends(&self, place: usize) -> Result<(IpEndpoint, IpEndpoint), Code>
         ensures { result ≡ answer_at as_tcp ends_in self.now.places place }
     {
-        looks::ends(self.sockets.sockets.as_slice(), place)
+        looks::ends(&self.sockets, place)
     }
 
     /// How many bytes wait to be read, and how many are queued that aren't acknowledged.
     pub fn tcp_queues(&self, place: usize) -> Result<(usize, usize), Code>
         ensures { result ≡ answer_at as_tcp queues_in self.now.places place }
     {
-        looks::queues(self.sockets.sockets.as_slice(), place)
+        looks::queues(&self.sockets, place)
     }
 }

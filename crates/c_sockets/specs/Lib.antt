@@ -1,5 +1,6 @@
 pub mod Codes
 pub mod Places
+pub mod Lends
 pub mod Streams
 pub mod Datagrams
 pub mod Controls

@@ -1,5 +1,5 @@
 -- What a call for a socket of one kind makes of the places of a host.
-use Rattle.std.specs.Prelude.{ℕ, Bool, false, List, slice_get, slice_set, Option, None, Some, Result, Err}
+use Rattle.std.specs.Prelude.{ℕ, Bool, false, List, slice_get, slice_set, Option, None, Some, Result, Ok, Err}
 use Rattle.interface_egress.specs.Set.{with_socket}
 use Rattle.interface_egress.specs.declared.socket_set.Item.{Item}
 use Rattle.interface_egress.specs.declared.socket_set.SocketStorage.{SocketStorage}
@@ -30,6 +30,10 @@ module _ {V : Type 0} (as_kind : Socket → Option V) where
     -- a place without a socket hasn't it either
     abbrev pub answer_at : List (SocketStorage Socket) → ℕ → Result A Code
     answer_at places n = answer_in (slice_get places n)
+
+  -- the socket of the kind at the place
+  abbrev pub found_at : List (SocketStorage Socket) → ℕ → Result V Code
+  found_at = answer_at (λ v. Ok v)
 
   -- WHAT IS LEFT
 

@@ -6,6 +6,7 @@ mod carrying;
 mod code;
 pub mod control;
 pub mod datagrams;
+mod kinds;
 pub mod leases;
 pub mod looks;
 mod made;

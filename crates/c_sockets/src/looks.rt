@@ -1,59 +1,34 @@
 //! What a TCP socket tells of itself.
 ghost use Rattle.std.specs.Prelude.{◌≡◌, MatchResult, Ok, Err};
+ghost use Rattle.interface_egress.specs.Set.{places};
 ghost use Rattle.sockets.specs.AnySocket.{as_tcp};
-ghost use Rattle.c_sockets.specs.Places.{answer_at, answer_of};
+ghost use Rattle.c_sockets.specs.Places.{answer_at};
 ghost use Rattle.c_sockets.specs.Streams.{peeked, state_in, ends_in, queues_in};
 
 use crate::code::{Code, of_stream_recv};
-use interface_egress::SocketStorage;
+use crate::kinds::seen;
+use interface_egress::SocketSet;
 use ip_wire::IpEndpoint;
 use sockets::Socket;
 use sockets::tcp::{self, State};
 
 /// The state of the connection.
-pub fn state(places: &[SocketStorage<Socket>], place: usize) -> Result<State, Code>
-    ensures { result ≡ answer_at as_tcp state_in places.now place }
+pub fn state(sockets: &SocketSet<Socket>, place: usize) -> Result<State, Code>
+    ensures { result ≡ answer_at as_tcp state_in (places sockets.now) place }
 {
-    if place >= places.len() {
-        return Err(Code::NoSocket);
-    }
-    match &places[place].inner {
-        Some(item) => state_of(&item.socket),
-        None => Err(Code::NoSocket),
-    }
-}
-
-fn state_of(socket: &Socket) -> Result<State, Code>
-    ensures { result ≡ answer_of as_tcp state_in socket.now }
-{
-    match socket {
-        Socket::Tcp(socket) => Ok(socket.state()),
-        _ => Err(Code::WrongKind),
+    match seen::<tcp::Socket>(sockets, place) {
+        Ok(socket) => Ok(socket.state()),
+        Err(code) => Err(code),
     }
 }
 
 /// The own endpoint of the connection and the remote's.
-pub fn ends(
-    places: &[SocketStorage<Socket>],
-    place: usize,
-) -> Result<(IpEndpoint, IpEndpoint), Code>
-    ensures { result ≡ answer_at as_tcp ends_in places.now place }
+pub fn ends(sockets: &SocketSet<Socket>, place: usize) -> Result<(IpEndpoint, IpEndpoint), Code>
+    ensures { result ≡ answer_at as_tcp ends_in (places sockets.now) place }
 {
-    if place >= places.len() {
-        return Err(Code::NoSocket);
-    }
-    match &places[place].inner {
-        Some(item) => ends_of(&item.socket),
-        None => Err(Code::NoSocket),
-    }
-}
-
-fn ends_of(socket: &Socket) -> Result<(IpEndpoint, IpEndpoint), Code>
-    ensures { result ≡ answer_of as_tcp ends_in socket.now }
-{
-    match socket {
-        Socket::Tcp(socket) => both_ends(socket),
-        _ => Err(Code::WrongKind),
+    match seen::<tcp::Socket>(sockets, place) {
+        Ok(socket) => both_ends(socket),
+        Err(code) => Err(code),
     }
 }
 
@@ -70,50 +45,24 @@ fn both_ends(socket: &tcp::Socket) -> Result<(IpEndpoint, IpEndpoint), Code>
 }
 
 /// How many bytes wait to be read, and how many are queued that aren't acknowledged.
-pub fn queues(places: &[SocketStorage<Socket>], place: usize) -> Result<(usize, usize), Code>
-    ensures { result ≡ answer_at as_tcp queues_in places.now place }
+pub fn queues(sockets: &SocketSet<Socket>, place: usize) -> Result<(usize, usize), Code>
+    ensures { result ≡ answer_at as_tcp queues_in (places sockets.now) place }
 {
-    if place >= places.len() {
-        return Err(Code::NoSocket);
-    }
-    match &places[place].inner {
-        Some(item) => queues_of(&item.socket),
-        None => Err(Code::NoSocket),
-    }
-}
-
-fn queues_of(socket: &Socket) -> Result<(usize, usize), Code>
-    ensures { result ≡ answer_of as_tcp queues_in socket.now }
-{
-    match socket {
-        Socket::Tcp(socket) => Ok((socket.recv_queue(), socket.send_queue())),
-        _ => Err(Code::WrongKind),
+    match seen::<tcp::Socket>(sockets, place) {
+        Ok(socket) => Ok((socket.recv_queue(), socket.send_queue())),
+        Err(code) => Err(code),
     }
 }
 
 /// Lends the first waiting bytes, as many as lie behind one another.
-pub fn peek(places: &[SocketStorage<Socket>], place: usize) -> Result<&[u8], Code>
+pub fn peek(sockets: &SocketSet<Socket>, place: usize) -> Result<&[u8], Code>
     ensures { MatchResult result
-        (λ bytes. answer_at as_tcp peeked places.now place ≡ Ok bytes.now)
-        (λ code. answer_at as_tcp peeked places.now place ≡ Err code) }
+        (λ bytes. answer_at as_tcp peeked (places sockets.now) place ≡ Ok bytes.now)
+        (λ code. answer_at as_tcp peeked (places sockets.now) place ≡ Err code) }
 {
-    if place >= places.len() {
-        return Err(Code::NoSocket);
-    }
-    match &places[place].inner {
-        Some(item) => peek_of(&item.socket),
-        None => Err(Code::NoSocket),
-    }
-}
-
-fn peek_of(socket: &Socket) -> Result<&[u8], Code>
-    ensures { MatchResult result
-        (λ bytes. answer_of as_tcp peeked socket.now ≡ Ok bytes.now)
-        (λ code. answer_of as_tcp peeked socket.now ≡ Err code) }
-{
-    match socket {
-        Socket::Tcp(socket) => first_bytes(socket),
-        _ => Err(Code::WrongKind),
+    match seen::<tcp::Socket>(sockets, place) {
+        Ok(socket) => first_bytes(socket),
+        Err(code) => Err(code),
     }
 }
 

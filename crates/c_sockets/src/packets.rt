@@ -1,73 +1,61 @@
 //! Calls of raw sockets.
-ghost use Rattle.std.specs.Prelude.{◌≡◌, length, slice_get};
+ghost use Rattle.std.specs.Prelude.{◌≡◌, length};
+ghost use Rattle.interface_egress.specs.Set.{places, is_fixed};
 ghost use Rattle.sockets.specs.AnySocket.{as_raw};
 ghost use Rattle.sockets.specs.declared.socket.Socket.TheVariants as Kind;
-ghost use Rattle.c_sockets.specs.Places.{answer_at, answer_of, after_at, after_of};
+ghost use Rattle.c_sockets.specs.Places.{answer_at, after_at};
 ghost use Rattle.sockets.specs.Raw.{send_answer, send_after, counted};
 ghost use Rattle.sockets.specs.SocketValue.{recv_answer, recv_after, recv_written};
 ghost use Rattle.c_sockets.specs.Codes.{coded, of_raw_send, of_recv};
-ghost use Rattle.c_sockets.specs.Places.{written_at, written_of};
+ghost use Rattle.c_sockets.specs.Places.{written_at};
 
 use crate::code::{Code, of_raw_send, of_recv};
-use interface_egress::SocketStorage;
-use sockets::Socket;
+use crate::kinds::lent;
+use interface_egress::SocketSet;
+use sockets::{Socket, raw};
 
 /// Queues a packet with its IP header.
-pub fn send(places: &mut [SocketStorage<Socket>], place: usize, bytes: &[u8]) -> Result<(), Code>
-    ensures answer { result ≡ answer_at as_raw (λ v. coded of_raw_send (send_answer v (length bytes.now))) places.old place }
-    ensures after { places.new ≡ after_at as_raw Kind.Raw (λ v. send_after v bytes.now) places.old place }
+pub fn send(sockets: &mut SocketSet<Socket>, place: usize, bytes: &[u8]) -> Result<(), Code>
+    ensures answer { result ≡ answer_at as_raw (λ v. coded of_raw_send (send_answer v (length bytes.now))) (places sockets.old) place }
+    ensures after { places sockets.new ≡ after_at as_raw Kind.Raw (λ v. send_after v bytes.now) (places sockets.old) place }
+    ensures fixed { is_fixed sockets.new ≡ is_fixed sockets.old }
 {
-    if place >= places.len() {
-        return Err(Code::NoSocket);
-    }
-    match &mut places[place].inner {
-        Some(item) => send_of(&mut item.socket, bytes),
-        None => Err(Code::NoSocket),
+    match lent::<raw::Socket>(sockets, place) {
+        Ok(socket) => queue(socket, bytes),
+        Err(code) => Err(code),
     }
 }
 
-fn send_of(socket: &mut Socket, bytes: &[u8]) -> Result<(), Code>
-    ensures answer { result ≡ answer_of as_raw (λ v. coded of_raw_send (send_answer v (length bytes.now))) socket.old }
-    ensures after { socket.new ≡ after_of as_raw Kind.Raw (λ v. send_after v bytes.now) socket.old }
+fn queue(socket: &mut raw::Socket, bytes: &[u8]) -> Result<(), Code>
+    ensures answer { result ≡ coded of_raw_send (send_answer socket.old (length bytes.now)) }
+    ensures after { socket.new ≡ send_after socket.old bytes.now }
 {
-    match socket {
-        Socket::Raw(socket) => match socket.send_slice(bytes) {
-            Ok(answer) => Ok(answer),
-            Err(error) => Err(of_raw_send(error)),
-        },
-        _ => Err(Code::WrongKind),
+    match socket.send_slice(bytes) {
+        Ok(answer) => Ok(answer),
+        Err(error) => Err(of_raw_send(error)),
     }
 }
 
 /// Reads the first packet to the front of the slice.
-pub fn recv(
-    places: &mut [SocketStorage<Socket>],
-    place: usize,
-    out: &mut [u8],
-) -> Result<usize, Code>
-    ensures answer { result ≡ answer_at as_raw (λ v. coded of_recv (counted (recv_answer v (length out.old)))) places.old place }
-    ensures after { places.new ≡ after_at as_raw Kind.Raw (recv_after) places.old place }
-    ensures read { out.new ≡ written_at as_raw recv_written out.old places.old place }
+pub fn recv(sockets: &mut SocketSet<Socket>, place: usize, out: &mut [u8]) -> Result<usize, Code>
+    ensures answer { result ≡ answer_at as_raw (λ v. coded of_recv (counted (recv_answer v (length out.old)))) (places sockets.old) place }
+    ensures after { places sockets.new ≡ after_at as_raw Kind.Raw (recv_after) (places sockets.old) place }
+    ensures read { out.new ≡ written_at as_raw recv_written out.old (places sockets.old) place }
+    ensures fixed { is_fixed sockets.new ≡ is_fixed sockets.old }
 {
-    if place >= places.len() {
-        return Err(Code::NoSocket);
-    }
-    match &mut places[place].inner {
-        Some(item) => recv_of(&mut item.socket, out),
-        None => Err(Code::NoSocket),
+    match lent::<raw::Socket>(sockets, place) {
+        Ok(socket) => read(socket, out),
+        Err(code) => Err(code),
     }
 }
 
-fn recv_of(socket: &mut Socket, out: &mut [u8]) -> Result<usize, Code>
-    ensures answer { result ≡ answer_of as_raw (λ v. coded of_recv (counted (recv_answer v (length out.old)))) socket.old }
-    ensures after { socket.new ≡ after_of as_raw Kind.Raw (recv_after) socket.old }
-    ensures read { out.new ≡ written_of as_raw recv_written out.old socket.old }
+fn read(socket: &mut raw::Socket, out: &mut [u8]) -> Result<usize, Code>
+    ensures answer { result ≡ coded of_recv (counted (recv_answer socket.old (length out.old))) }
+    ensures after { socket.new ≡ recv_after socket.old }
+    ensures read { out.new ≡ recv_written socket.old out.old }
 {
-    match socket {
-        Socket::Raw(socket) => match socket.recv_slice(out) {
-            Ok(answer) => Ok(answer),
-            Err(error) => Err(of_recv(error)),
-        },
-        _ => Err(Code::WrongKind),
+    match socket.recv_slice(out) {
+        Ok(answer) => Ok(answer),
+        Err(error) => Err(of_recv(error)),
     }
 }

@@ -1,18 +1,20 @@
 //! Calls of TCP sockets.
-ghost use Rattle.std.specs.Prelude.{◌≡◌, length, min, slice_get};
+ghost use Rattle.std.specs.Prelude.{◌≡◌, length, min};
+ghost use Rattle.interface_egress.specs.Set.{places, is_fixed};
 ghost use Rattle.sockets.specs.AnySocket.{as_tcp};
 ghost use Rattle.sockets.specs.declared.socket.Socket.TheVariants as Kind;
-ghost use Rattle.c_sockets.specs.Places.{answer_at, answer_of, after_at, after_of};
+ghost use Rattle.c_sockets.specs.Places.{answer_at, after_at};
 ghost use Rattle.std.specs.Prelude.{if◌then◌else◌, IfOk};
 ghost use Rattle.sockets.specs.Context.{ContextValue};
 ghost use Rattle.sockets.specs.TcpCalls.{connect_answer, connect_after, connect_draws, send_answer, send_after, recv_answer};
 ghost use Rattle.c_sockets.specs.Codes.{coded, of_connect, of_stream_send, of_stream_recv};
-ghost use Rattle.c_sockets.specs.Places.{written_at, written_of, draws_at, draws_of};
+ghost use Rattle.c_sockets.specs.Places.{written_at, draws_at};
 ghost use Rattle.c_sockets.specs.Streams.{act_answer, act_after, read_after, read_written, done_answer, done_after};
 
 use crate::code::{Code, of_connect, of_listen, of_stream_recv, of_stream_send};
+use crate::kinds::lent;
 use crate::made::limit_of;
-use interface_egress::SocketStorage;
+use interface_egress::SocketSet;
 use ip_wire::{IpEndpoint, IpListenEndpoint, TcpTimestampGenerator};
 use net_base::Duration;
 use sockets::tcp::{self, CongestionControl};
@@ -80,150 +82,107 @@ fn act_on(socket: &mut tcp::Socket, act: Act) -> Result<(), Code>
 }
 
 /// Does a call that answers nothing but whether it was done.
-pub fn perform(places: &mut [SocketStorage<Socket>], place: usize, act: Act) -> Result<(), Code>
-    ensures answer { result ≡ answer_at as_tcp (act_answer act) places.old place }
-    ensures after { places.new ≡ after_at as_tcp Kind.Tcp (act_after act) places.old place }
+pub fn perform(sockets: &mut SocketSet<Socket>, place: usize, act: Act) -> Result<(), Code>
+    ensures answer { result ≡ answer_at as_tcp (act_answer act) (places sockets.old) place }
+    ensures after { places sockets.new ≡ after_at as_tcp Kind.Tcp (act_after act) (places sockets.old) place }
+    ensures fixed { is_fixed sockets.new ≡ is_fixed sockets.old }
 {
-    if place >= places.len() {
-        return Err(Code::NoSocket);
-    }
-    match &mut places[place].inner {
-        Some(item) => perform_of(&mut item.socket, act),
-        None => Err(Code::NoSocket),
-    }
-}
-
-fn perform_of(socket: &mut Socket, act: Act) -> Result<(), Code>
-    ensures answer { result ≡ answer_of as_tcp (act_answer act) socket.old }
-    ensures after { socket.new ≡ after_of as_tcp Kind.Tcp (act_after act) socket.old }
-{
-    match socket {
-        Socket::Tcp(socket) => act_on(socket, act),
-        _ => Err(Code::WrongKind),
+    match lent::<tcp::Socket>(sockets, place) {
+        Ok(socket) => act_on(socket, act),
+        Err(code) => Err(code),
     }
 }
 
 /// Opens a connection to a remote. A connection that is opened draws a random word from the context.
 pub fn connect<C: Context>(
-    places: &mut [SocketStorage<Socket>],
+    sockets: &mut SocketSet<Socket>,
     place: usize,
     cx: &mut C,
     remote: IpEndpoint,
     local: IpListenEndpoint,
 ) -> Result<(), Code>
-    ensures answer { result ≡ answer_at as_tcp (λ v. coded of_connect (connect_answer (C.context cx.old) v remote local)) places.old place }
-    ensures after { places.new ≡ after_at as_tcp Kind.Tcp (λ v. connect_after (C.context cx.old) v remote local) places.old place }
-    ensures drawn { cx.new ≡ (if draws_at as_tcp (λ v. connect_draws (C.context cx.old) v remote local) places.old place then C.drawn cx.old else cx.old) }
+    ensures answer { result ≡ answer_at as_tcp (λ v. coded of_connect (connect_answer (C.context cx.old) v remote local)) (places sockets.old) place }
+    ensures after { places sockets.new ≡ after_at as_tcp Kind.Tcp (λ v. connect_after (C.context cx.old) v remote local) (places sockets.old) place }
+    ensures drawn { cx.new ≡ (if draws_at as_tcp (λ v. connect_draws (C.context cx.old) v remote local) (places sockets.old) place then C.drawn cx.old else cx.old) }
+    ensures fixed { is_fixed sockets.new ≡ is_fixed sockets.old }
 {
-    if place >= places.len() {
-        return Err(Code::NoSocket);
-    }
-    match &mut places[place].inner {
-        Some(item) => connect_of(&mut item.socket, cx, remote, local),
-        None => Err(Code::NoSocket),
+    match lent::<tcp::Socket>(sockets, place) {
+        Ok(socket) => open(socket, cx, remote, local),
+        Err(code) => Err(code),
     }
 }
 
-fn connect_of<C: Context>(
-    socket: &mut Socket,
+fn open<C: Context>(
+    socket: &mut tcp::Socket,
     cx: &mut C,
     remote: IpEndpoint,
     local: IpListenEndpoint,
 ) -> Result<(), Code>
-    ensures answer { result ≡ answer_of as_tcp (λ v. coded of_connect (connect_answer (C.context cx.old) v remote local)) socket.old }
-    ensures after { socket.new ≡ after_of as_tcp Kind.Tcp (λ v. connect_after (C.context cx.old) v remote local) socket.old }
-    ensures drawn { cx.new ≡ (if draws_of as_tcp (λ v. connect_draws (C.context cx.old) v remote local) socket.old then C.drawn cx.old else cx.old) }
+    ensures answer { result ≡ coded of_connect (connect_answer (C.context cx.old) socket.old remote local) }
+    ensures after { socket.new ≡ connect_after (C.context cx.old) socket.old remote local }
+    ensures drawn { cx.new ≡ (if connect_draws (C.context cx.old) socket.old remote local then C.drawn cx.old else cx.old) }
 {
-    match socket {
-        Socket::Tcp(socket) => match socket.connect(cx, remote, local) {
-            Ok(answer) => Ok(answer),
-            Err(error) => Err(of_connect(error)),
-        },
-        _ => Err(Code::WrongKind),
+    match socket.connect(cx, remote, local) {
+        Ok(answer) => Ok(answer),
+        Err(error) => Err(of_connect(error)),
     }
 }
 
 /// Queues as many of the bytes as there is room for, and answers how many.
-pub fn send(places: &mut [SocketStorage<Socket>], place: usize, bytes: &[u8]) -> Result<usize, Code>
-    ensures answer { result ≡ answer_at as_tcp (λ v. coded of_stream_send (send_answer v (length bytes.now))) places.old place }
-    ensures after { places.new ≡ after_at as_tcp Kind.Tcp (λ v. send_after v bytes.now) places.old place }
+pub fn send(sockets: &mut SocketSet<Socket>, place: usize, bytes: &[u8]) -> Result<usize, Code>
+    ensures answer { result ≡ answer_at as_tcp (λ v. coded of_stream_send (send_answer v (length bytes.now))) (places sockets.old) place }
+    ensures after { places sockets.new ≡ after_at as_tcp Kind.Tcp (λ v. send_after v bytes.now) (places sockets.old) place }
+    ensures fixed { is_fixed sockets.new ≡ is_fixed sockets.old }
 {
-    if place >= places.len() {
-        return Err(Code::NoSocket);
-    }
-    match &mut places[place].inner {
-        Some(item) => send_of(&mut item.socket, bytes),
-        None => Err(Code::NoSocket),
+    match lent::<tcp::Socket>(sockets, place) {
+        Ok(socket) => queue(socket, bytes),
+        Err(code) => Err(code),
     }
 }
 
-fn send_of(socket: &mut Socket, bytes: &[u8]) -> Result<usize, Code>
-    ensures answer { result ≡ answer_of as_tcp (λ v. coded of_stream_send (send_answer v (length bytes.now))) socket.old }
-    ensures after { socket.new ≡ after_of as_tcp Kind.Tcp (λ v. send_after v bytes.now) socket.old }
+fn queue(socket: &mut tcp::Socket, bytes: &[u8]) -> Result<usize, Code>
+    ensures answer { result ≡ coded of_stream_send (send_answer socket.old (length bytes.now)) }
+    ensures after { socket.new ≡ send_after socket.old bytes.now }
 {
-    match socket {
-        Socket::Tcp(socket) => match socket.send_slice(bytes) {
-            Ok(answer) => Ok(answer),
-            Err(error) => Err(of_stream_send(error)),
-        },
-        _ => Err(Code::WrongKind),
+    match socket.send_slice(bytes) {
+        Ok(answer) => Ok(answer),
+        Err(error) => Err(of_stream_send(error)),
     }
 }
 
 /// Reads waiting bytes to the front of the slice, and answers how many.
-pub fn recv(
-    places: &mut [SocketStorage<Socket>],
-    place: usize,
-    out: &mut [u8],
-) -> Result<usize, Code>
-    ensures answer { result ≡ answer_at as_tcp (λ v. coded of_stream_recv (recv_answer v (length out.old))) places.old place }
-    ensures after { places.new ≡ after_at as_tcp Kind.Tcp (λ v. read_after v (length out.old)) places.old place }
-    ensures read { out.new ≡ written_at as_tcp read_written out.old places.old place }
+pub fn recv(sockets: &mut SocketSet<Socket>, place: usize, out: &mut [u8]) -> Result<usize, Code>
+    ensures answer { result ≡ answer_at as_tcp (λ v. coded of_stream_recv (recv_answer v (length out.old))) (places sockets.old) place }
+    ensures after { places sockets.new ≡ after_at as_tcp Kind.Tcp (λ v. read_after v (length out.old)) (places sockets.old) place }
+    ensures read { out.new ≡ written_at as_tcp read_written out.old (places sockets.old) place }
+    ensures fixed { is_fixed sockets.new ≡ is_fixed sockets.old }
 {
-    if place >= places.len() {
-        return Err(Code::NoSocket);
-    }
-    match &mut places[place].inner {
-        Some(item) => recv_of(&mut item.socket, out),
-        None => Err(Code::NoSocket),
+    match lent::<tcp::Socket>(sockets, place) {
+        Ok(socket) => read(socket, out),
+        Err(code) => Err(code),
     }
 }
 
-fn recv_of(socket: &mut Socket, out: &mut [u8]) -> Result<usize, Code>
-    ensures answer { result ≡ answer_of as_tcp (λ v. coded of_stream_recv (recv_answer v (length out.old))) socket.old }
-    ensures after { socket.new ≡ after_of as_tcp Kind.Tcp (λ v. read_after v (length out.old)) socket.old }
-    ensures read { out.new ≡ written_of as_tcp read_written out.old socket.old }
+fn read(socket: &mut tcp::Socket, out: &mut [u8]) -> Result<usize, Code>
+    ensures answer { result ≡ coded of_stream_recv (recv_answer socket.old (length out.old)) }
+    ensures after { socket.new ≡ read_after socket.old (length out.old) }
+    ensures read { out.new ≡ read_written socket.old out.old }
 {
-    match socket {
-        Socket::Tcp(socket) => match socket.recv_slice(out) {
-            Ok(answer) => Ok(answer),
-            Err(error) => Err(of_stream_recv(error)),
-        },
-        _ => Err(Code::WrongKind),
+    match socket.recv_slice(out) {
+        Ok(answer) => Ok(answer),
+        Err(error) => Err(of_stream_recv(error)),
     }
 }
 
 /// Gives up the first waiting bytes, at most so many and as many as lie behind one another. Answers how many.
-pub fn done(places: &mut [SocketStorage<Socket>], place: usize, count: usize) -> Result<usize, Code>
-    ensures answer { result ≡ answer_at as_tcp (done_answer count) places.old place }
-    ensures after { places.new ≡ after_at as_tcp Kind.Tcp (done_after count) places.old place }
+pub fn done(sockets: &mut SocketSet<Socket>, place: usize, count: usize) -> Result<usize, Code>
+    ensures answer { result ≡ answer_at as_tcp (done_answer count) (places sockets.old) place }
+    ensures after { places sockets.new ≡ after_at as_tcp Kind.Tcp (done_after count) (places sockets.old) place }
+    ensures fixed { is_fixed sockets.new ≡ is_fixed sockets.old }
 {
-    if place >= places.len() {
-        return Err(Code::NoSocket);
-    }
-    match &mut places[place].inner {
-        Some(item) => done_of(&mut item.socket, count),
-        None => Err(Code::NoSocket),
-    }
-}
-
-fn done_of(socket: &mut Socket, count: usize) -> Result<usize, Code>
-    ensures answer { result ≡ answer_of as_tcp (done_answer count) socket.old }
-    ensures after { socket.new ≡ after_of as_tcp Kind.Tcp (done_after count) socket.old }
-{
-    match socket {
-        Socket::Tcp(socket) => give_up(socket, count),
-        _ => Err(Code::WrongKind),
+    match lent::<tcp::Socket>(sockets, place) {
+        Ok(socket) => give_up(socket, count),
+        Err(code) => Err(code),
     }
 }
 

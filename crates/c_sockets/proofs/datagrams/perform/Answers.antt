@@ -1,30 +1,29 @@
+use Rattle.std.proofs.Common.{◌∙◌}
 use Rattle.sockets.specs.AnySocket.{as_udp}
 use Rattle.sockets.specs.declared.socket.Socket.TheVariants as Kind
 use Rattle.c_sockets.specs.Datagrams.{act_answer, act_after}
-use Rattle.c_sockets.proofs.Placed.{unanswered_beyond, kept_beyond, unanswered, kept, answered, became}
+use Rattle.interface_egress.specs.Set.{places}
+use Rattle.c_sockets.proofs.Placed.{found_of, answered, left, missed_of, refused, unchanged}
 use Rattle.c_sockets.proofs.datagrams.perform.Goals as goal
 
-pub returns-then-place-places : goal.returns-then-place-places
-returns-then-place-places c =
-    let places = c.args.places.now in let n = c.args.place in let beyond = c.if-place-places.true in record {
-      answer = unanswered_beyond places n beyond as_udp (act_answer c.args.act);
-      after = kept_beyond places n beyond as_udp (λ x. Kind.Udp x) (act_after c.args.act);
+pub returns-in-Ok : goal.returns-in-Ok
+returns-in-Ok c =
+    let set = c.args.sockets.now in let n = c.args.place in let socket = c.in-Ok.socket in
+    let found = found_of as_udp (places set) n c.lent.result socket c.in-Ok.is c.lent.ensures.value in
+    let kept = left as_udp (λ x. Kind.Udp x) (act_after c.args.act) set (c.lent.follows.lender c.act_on.new.socket) n
+    c.lent.result socket c.act_on.new.socket found c.in-Ok.is c.act_on.ensures.after (c.lent.follows.holds c.act_on.new.socket) in record {
+      answer = c.act_on.ensures.answer ∙ answered as_udp (places set) n socket.now (act_answer c.args.act) found;
+      after = kept.0;
+      fixed = kept.1;
     }
 
-pub returns-in-Some : goal.returns-in-Some
-returns-in-Some c =
-    let places = c.args.places.now in let n = c.args.place in let at = c.index-places-place.result in let within = c.if-place-places.false in
-    let item = c.in-Some.item in let there = c.in-Some.is in record {
-      answer = answered places n at within as_udp item there (act_answer c.args.act)
-          c.perform_of.result c.perform_of.ensures.answer;
-      after = became places n at within as_udp item there (λ x. Kind.Udp x) (act_after c.args.act)
-          c.perform_of.new.socket c.perform_of.ensures.after;
-    }
-
-pub returns-in-None : goal.returns-in-None
-returns-in-None c =
-    let places = c.args.places.now in let n = c.args.place in let at = c.index-places-place.result in let within = c.if-place-places.false in
-    let free = c.in-None.is in record {
-      answer = unanswered places n at within as_udp free (act_answer c.args.act);
-      after = kept places n at within as_udp free (λ x. Kind.Udp x) (act_after c.args.act);
+pub returns-in-Err : goal.returns-in-Err
+returns-in-Err c =
+    let set = c.args.sockets.now in let n = c.args.place in let code = c.in-Err.code in
+    let found = missed_of as_udp (places set) n c.lent.result code c.in-Err.is c.lent.ensures.value in
+    let kept = unchanged as_udp (λ x. Kind.Udp x) (act_after c.args.act) set c.lent.follows.lender-at-none n
+    c.lent.result code found c.in-Err.is c.lent.follows.holds-at-none in record {
+      answer = refused as_udp (places set) n code (act_answer c.args.act) found;
+      after = kept.0;
+      fixed = kept.1;
     }
