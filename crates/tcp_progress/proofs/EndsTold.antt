@@ -55,10 +55,10 @@ use Rattle.tcp_progress.proofs.Ways.{BothCalm, balance, exchanged}
 -- AN ACKNOWLEDGEMENT THAT ENDS A CONNECTION
 
 -- it names the number behind all that isn't acknowledged
-record AcksAll (v : TcpValue) (header : TcpHeader) : Type 0 where
-  number : SeqNumber
-  acknowledges : header.ack_number ≡ Some number
-  far : distance_of v.block.sender.una number ≡ left_of v
+pub record AcksAll (v : TcpValue) (header : TcpHeader) : Type 0 where
+  pub number : SeqNumber
+  pub acknowledges : header.ack_number ≡ Some number
+  pub far : distance_of v.block.sender.una number ≡ left_of v
 
 passes_by : (b : Block) (past before by : ℕ) → synchronized_check b past before ≡ Passes by → past ≡ by
 passes_by b past before by =
@@ -163,7 +163,7 @@ module _ (cx : ContextValue) (ip : IpRepr) (header : TcpHeader) (bytes : List �
     crosses = λ at _. clash (sym (ap is_early at) ∙ late);
   }
 
-  closes_all : is_closed (arrives cx v ip header bytes).socket.block.state ≡ true → AcksAll v header
+  pub closes_all : is_closed (arrives cx v ip header bytes).socket.block.state ≡ true → AcksAll v header
   closes_all = by_arrival cx ip header bytes Closing v (λ e. clash (sym e ∙ alive)) (λ _. open_opening) (λ _. open_received)
 
 -- IN LAST-ACK

@@ -69,23 +69,23 @@ delivered p B k x m =
 -- WHAT IT SAYS
 
 -- one of a list
-one_of : {X : Type 0} (P : X → Type 0) (xs : List X) (k : ℕ) (x : X) → AllByRecursion P xs → slice_get xs k ≡ Some x → P x
+pub one_of : {X : Type 0} (P : X → Type 0) (xs : List X) (k : ℕ) (x : X) → AllByRecursion P xs → slice_get xs k ≡ Some x → P x
 one_of P [] zero x all e = absurd (cc)
 one_of P [] (suc k) x all e = absurd (cc)
 one_of P (y ∷ xs) zero x all e = subst P (let same : y ≡ x = cc in same) all.0
 one_of P (y ∷ xs) (suc k) x all e = one_of P xs k x all.1 e
 
-no_rst : {X : Type 0} (control : TcpControl) → is_rst control ≡ false → control_of control ≡ Rst → X
+pub no_rst : {X : Type 0} (control : TcpControl) → is_rst control ≡ false → control_of control ≡ Rst → X
 no_rst Control.None e f = absurd (cc)
 no_rst Control.Psh e f = absurd (cc)
 no_rst Control.Syn e f = absurd (cc)
 no_rst Control.Fin e f = absurd (cc)
 no_rst Control.Rst e f = clash e
 
-same_number : (a b : ℕ) → Some a ≡ Some b → a ≡ b
+pub same_number : (a b : ℕ) → Some a ≡ Some b → a ≡ b
 same_number a b e = cc
 
-no_number : {X : Type 0} (a : ℕ) → Some a ≡ None → X
+pub no_number : {X : Type 0} (a : ℕ) → Some a ≡ None → X
 no_number a e = absurd (cc)
 
 -- it counts as acknowledged where it lies at SND.UNA

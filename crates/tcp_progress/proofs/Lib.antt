@@ -70,6 +70,7 @@ pub mod PutOff
 pub mod Onward
 pub mod OnwardPairs
 pub mod LateAnswers
+pub mod LastAcked
 pub mod LateText
 pub mod PutOffRuns
 pub mod LateExchange

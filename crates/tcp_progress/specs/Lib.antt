@@ -25,3 +25,4 @@ pub mod Late
 pub mod Anew
 pub mod Course
 pub mod Spans
+pub mod LastAck

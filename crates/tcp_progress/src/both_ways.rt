@@ -1,11 +1,14 @@
 //! That both ways of a connection get through.
 
 ghost use Rattle.std.specs.Prelude.{◌≡◌, ℕ, true};
+ghost use Rattle.tcp_rules.specs.State.TheVariants as In;
 ghost use Rattle.tcp_pair_model.specs.Safe.{read, written};
 ghost use Rattle.tcp_pair_model.specs.Sides.{other};
 ghost use Rattle.tcp_pair_model.specs.Values.{PairValue, past_at};
+ghost use Rattle.tcp_pair_model.specs.declared.event.SentSegment.{SentSegment};
 ghost use Rattle.tcp_pair_model.specs.declared.event.Side.{Side};
 ghost use Rattle.tcp_progress.specs.BothWays.{AreThere, IsThrough, MayRounds, bound, both_read, rounds_in};
+ghost use Rattle.tcp_progress.specs.LastAck.{EndsAt};
 ghost use Rattle.tcp_progress.specs.Pair.{socket_of};
 ghost use Rattle.tcp_progress.specs.Reached.{IsReached};
 ghost use Rattle.tcp_progress.specs.Talking.{AreTalking, HaveTries, MayTalk, NeverGiveUp};
@@ -44,4 +47,13 @@ pub fn two_sides_with_tries_left_get_through()
         → read (both_read (rounds_in (bound p) p)) (other side) ≡ written p side }
     ensures ends { (p : PairValue) → IsReached p → AreTalking (bound p) p → HaveTries p → (side : Side) → (past_at p side).closed ≡ true
         → (socket_of (rounds_in (bound p) p) (other side)).block.receiver.took_fin ≡ true }
+{}
+
+/// Whatever happened to a pair, and however late it comes: where a segment that is no reset ends a connection, its side was in LAST-ACK, and
+/// the other has taken its FIN, and so all that its user wrote.
+pub fn what_ends_a_connection_was_taken()
+    ensures last { (p : PairValue) (side : Side) (k : ℕ) (x : SentSegment) → IsReached p → EndsAt p side k x
+        → (socket_of p side).block.state ≡ In.LastAck }
+    ensures taken { (p : PairValue) (side : Side) (k : ℕ) (x : SentSegment) → IsReached p → EndsAt p side k x
+        → (socket_of p (other side)).block.receiver.took_fin ≡ true }
 {}
