@@ -1,7 +1,12 @@
-use Rattle.std.proofs.Common.{◌≡◌, ◌∙◌, true, None, ap, sym}
+use Rattle.std.proofs.Common.{◌≡◌, ◌∙◌, ℕ, ℤ, Bool, true, false, None, if◌then◌else◌, refl, ap, sym}
+use Rattle.tcp_control.specs.Endpoints.{pair_in}
+use Rattle.tcp_control.specs.FirstNumbers.{first_number, draws_number}
 use Rattle.tcp_model.specs.Controls.{is_syn, is_zero}
-use Rattle.tcp_model.specs.Opening.{is_first_syn}
-use Rattle.tcp_model.specs.Value.{TcpValue}
+use Rattle.tcp_model.specs.Opening.{is_first_syn, answering}
+use Rattle.tcp_model.specs.Timeout.{timeout_restarted}
+use Rattle.tcp_model.specs.Timestamps.{believed}
+use Rattle.tcp_model.specs.Value.{TcpValue, Arrived, with_block, dropped}
+use Rattle.tcp_model.specs.declared.block.Block.{Block}
 use Rattle.tcp_socket.proofs.Kept.{none_open, kept_opening, first_syn, sized_syn, sized_mss}
 use Rattle.tcp_socket.proofs.socket.Socket.take_first.Goals as goal
 
@@ -20,4 +25,37 @@ invariant_of-self g c =
       ) (kept_opening c.self.inside.block i.ip_repr.now i.header c.first_number-number.result c.now-now.result c.now-now.ensures.moment
           (sized_mss i.header.options.max_seg_size sized));
       unsettled = none_open c.self.inside.offered c.restart_timeout.new.self none;
+    }
+
+first_of : (t : Bool) (a b : Arrived) → t ≡ true → a ≡ (if t then a else b)
+first_of true a b is = refl
+first_of false a b is = absurd (cc)
+
+pub returns : goal.returns
+returns g c =
+    let cx = g.C.Context.context c.args.cx.now in
+    let v = c.args.self.now in
+    let header = c.args.incoming.now.header in
+    let ip = c.args.incoming.now.ip_repr.now in
+    let now = c.now-now.result in
+    let number = c.first_number-number.result in
+    let first : is_first_syn header ≡ true = sym c.is_first_syn.ensures ∙ c.if-not-is_first_syn.false in
+    let number_is : number ≡ first_number cx (pair_in ip header) = c.first_number-number.ensures.value ∙ ap (first_number cx) c.of_segment-pair.ensures in
+    let opened = timeout_restarted (believed (answering v.block ip header (first_number cx (pair_in ip header))) cx.moment) cx.moment 0 in
+    let block_is : c.restart_timeout.new.self ≡ opened =
+    c.restart_timeout.ensures
+    ∙ ap (λ (b : Block). timeout_restarted b now 0) (c.believe_stamp.ensures ∙ ap (λ (b : Block). believed b now) c.answer_syn.ensures)
+    ∙ ap (λ (m : ℤ). timeout_restarted (believed (answering c.self.inside.block ip header number) m) m 0) c.now-now.ensures.value
+    ∙ ap (λ (n : ℕ). timeout_restarted (believed (answering c.self.inside.block ip header n) cx.moment) cx.moment 0) number_is
+    ∙ ap (λ (w : TcpValue). timeout_restarted (believed (answering w.block ip header (first_number cx (pair_in ip header))) cx.moment) cx.moment 0) c.self.view_is
+    in
+    let on : TcpValue =
+    record { block = c.restart_timeout.new.self; received = c.self.inside.received; queued = c.self.inside.queued; offered = c.self.inside.offered }
+    in
+    let opening : Arrived = record { socket = with_block v opened; answer = None; draws = draws_number cx } in
+    let is = first_of (is_first_syn header) opening (dropped v) first in
+    record {
+      answer = ap (λ (a : Arrived). a.answer) is;
+      socket = ap (λ (b : Block). with_block on b) block_is ∙ ap (λ (w : TcpValue). with_block w opened) c.self.view_is ∙ ap (λ (a : Arrived). a.socket) is;
+      drawn = c.first_number-number.ensures.drawn ∙ ap (λ (a : Arrived). if a.draws then g.C.Context.drawn c.args.cx.now else c.args.cx.now) is;
     }
