@@ -8,6 +8,7 @@ use anyhow::Result;
 use net::Net;
 use net_base::Duration;
 use std::alloc::Global;
+use std::fmt::Display;
 
 /// Lets a host boot, and ask for the address of a name.
 pub fn boot<R: Print>(rt: &R, alloc: Global) -> Result<()> {
@@ -17,15 +18,17 @@ pub fn boot<R: Print>(rt: &R, alloc: Global) -> Result<()> {
 
 fn ask<R: Print>(rt: &R, net: &mut Net) -> Result<()> {
     net.pass(Duration::from_secs(5))?;
-    match net.client.address() {
-        Some(address) => println!(rt; "after five seconds the host is {address}")?,
-        None => println!(rt; "after five seconds the host has no address")?,
-    }
+    show(rt, "after five seconds the host", net.client.address())?;
     net.client.ask("www.example.test")?;
     net.pass(Duration::from_secs(1))?;
-    match net.client.found()? {
-        Some(address) => println!(rt; "www.example.test is {address}")?,
-        None => println!(rt; "www.example.test has no address")?,
+    show(rt, "www.example.test", net.client.found()?)
+}
+
+/// Says which address a host has, if it has one.
+fn show<R: Print, A: Display + Drop>(rt: &R, host: &str, address: Option<A>) -> Result<()> {
+    match address {
+        Some(address) => println!(rt; "{host} is {address}")?,
+        None => println!(rt; "{host} has no address")?,
     }
     Ok(())
 }

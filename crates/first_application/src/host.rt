@@ -3,8 +3,8 @@ ghost use Rattle.net_base.specs.Time.{IsMoment};
 
 use crate::buffers::{datagrams, pings, stream};
 use crate::wire::Wire;
-use anyhow::{Result, anyhow};
-use interface::{Config, Interface, SocketHandle, SocketSet};
+use anyhow::{Context, Result, anyhow};
+use interface::{Config, Interface, SocketHandle, SocketSet, SocketsByKind};
 use ip_wire::{EthernetAddress, HardwareAddress, IpAddress, IpCidr, Ipv4Address};
 use net_base::{Instant, ManagedSlice};
 use sockets::{Socket, icmp, tcp, udp};
@@ -75,9 +75,7 @@ pub fn boxed<T: Drop>(alloc: Global, value: T) -> Result<Box<T>> {
 
 /// Adds a socket to a set that grows.
 pub fn add(sockets: &mut SocketSet<Socket>, socket: Socket) -> Result<SocketHandle> {
-    sockets
-        .add(socket)
-        .map_err(|_| anyhow!("no memory for a socket"))
+    sockets.add(socket).ok().context("no memory for a socket")
 }
 
 /// Adds a socket of each kind at this port.
@@ -130,33 +128,23 @@ impl Host {
 
     /// Its UDP socket.
     pub fn udp(&mut self) -> Option<&mut udp::Socket> {
-        match self.sockets.get_mut(self.handles.datagrams) {
-            Some(Socket::Udp(socket)) => Some(socket),
-            _ => None,
-        }
+        self.sockets.get_mut_as(self.handles.datagrams)
     }
 
     /// Its TCP socket.
     pub fn tcp(&mut self) -> Option<&mut tcp::Socket> {
-        match self.sockets.get_mut(self.handles.stream) {
-            Some(Socket::Tcp(socket)) => Some(socket),
-            _ => None,
-        }
+        self.sockets.get_mut_as(self.handles.stream)
     }
 
     /// Its ICMP socket.
     pub fn icmp(&mut self) -> Option<&mut icmp::Socket> {
-        match self.sockets.get_mut(self.handles.pings) {
-            Some(Socket::Icmp(socket)) => Some(socket),
-            _ => None,
-        }
+        self.sockets.get_mut_as(self.handles.pings)
     }
 
     /// Connects its TCP socket: the interface draws the first number, and has the own address.
     pub fn connect(&mut self, remote: (IpAddress, u16), port: u16) -> Result<()> {
-        match self.sockets.get_mut(self.handles.stream) {
-            Some(Socket::Tcp(socket)) => Ok(socket.connect(&mut self.interface, remote, port)?),
-            _ => Err(anyhow!("no socket")),
-        }
+        let socket: Option<&mut tcp::Socket> = self.sockets.get_mut_as(self.handles.stream);
+        let socket = socket.context("no socket")?;
+        Ok(socket.connect(&mut self.interface, remote, port)?)
     }
 }

@@ -27,36 +27,37 @@ fn exchange<R: Print>(rt: &R, alloc: Global) -> Result<()> {
 }
 
 fn ask_all<R: Print>(rt: &R, alloc: Global, net: &mut Net) -> Result<()> {
-    println!(rt; "{}", ask(alloc, net)?)?;
-    println!(rt; "{}", talk(alloc, net)?)?;
-    println!(rt; "{}", ping(alloc, net)?)?;
-    Ok(())
+    ask(rt, alloc, net)?;
+    talk(rt, alloc, net)?;
+    ping(rt, net)
 }
 
 /// The client sends a datagram, and reads what comes back within a second.
-fn ask(alloc: Global, net: &mut Net) -> Result<String> {
+fn ask<R: Print>(rt: &R, alloc: Global, net: &mut Net) -> Result<()> {
     client::send_datagram(&mut net.client, b"hello")?;
     net.pass(Duration::from_secs(1))?;
     let (text, sender) = client::read_datagram(alloc, &mut net.client)?;
-    Ok(format!(in alloc; "datagram: {text} from {}", sender.endpoint)?)
+    println!(rt; "datagram: {text} from {}", sender.endpoint)?;
+    Ok(())
 }
 
 /// The client connects, writes a text, and reads what comes back.
-fn talk(alloc: Global, net: &mut Net) -> Result<String> {
+fn talk<R: Print>(rt: &R, alloc: Global, net: &mut Net) -> Result<()> {
     client::connect(&mut net.client)?;
     net.pass(Duration::from_secs(1))?;
     client::write(&mut net.client, b"to and fro")?;
     net.pass(Duration::from_secs(1))?;
-    let text = client::read(alloc, &mut net.client)?;
-    Ok(format!(in alloc; "stream: {text}")?)
+    println!(rt; "stream: {}", client::read(alloc, &mut net.client)?)?;
+    Ok(())
 }
 
 /// The client sends an echo request, and reads the reply.
-fn ping(alloc: Global, net: &mut Net) -> Result<String> {
+fn ping<R: Print>(rt: &R, net: &mut Net) -> Result<()> {
     client::ping(&mut net.client, 1)?;
     net.pass(Duration::from_secs(1))?;
     match client::pong(&mut net.client)? {
-        Some(number) => Ok(format!(in alloc; "ping: {number} is answered")?),
-        None => Ok(format!(in alloc; "ping: another message")?),
+        Some(number) => println!(rt; "ping: {number} is answered")?,
+        None => println!(rt; "ping: another message")?,
     }
+    Ok(())
 }

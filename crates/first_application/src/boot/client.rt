@@ -3,8 +3,8 @@ ghost use Rattle.net_base.specs.Time.{IsMoment};
 
 use crate::host::{add, bare, boxed};
 use crate::wire::Wire;
-use anyhow::{Result, anyhow};
-use interface::{Interface, SocketHandle, SocketSet};
+use anyhow::{Context, Result};
+use interface::{Interface, SocketHandle, SocketSet, SocketsByKind};
 use ip_wire::{EthernetAddress, IpAddress, IpCidr, Ipv4Address};
 use net_base::{Instant, ManagedSlice};
 use sockets::dhcp::{self, Event};
@@ -56,7 +56,8 @@ impl Client {
 
     /// What the client of DHCP tells.
     fn event(&mut self, now: Instant) -> Option<Event> {
-        dhcp::Socket::downcast_mut(self.sockets.get_mut(self.dhcp)?)?.poll(now)
+        let socket: &mut dhcp::Socket = self.sockets.get_mut_as(self.dhcp)?;
+        socket.poll(now)
     }
 
     /// Sets the address, the router and the servers of names.
@@ -80,9 +81,14 @@ impl Client {
 
     /// Which servers the client of DNS asks.
     fn set_servers(&mut self, servers: &[IpAddress]) {
-        if let Some(Socket::Dns(socket)) = self.sockets.get_mut(self.dns) {
+        if let Some(socket) = self.client() {
             socket.update_servers(servers);
         }
+    }
+
+    /// Its client of DNS.
+    fn client(&mut self) -> Option<&mut dns::Socket> {
+        self.sockets.get_mut_as(self.dns)
     }
 
     /// When it wants to be polled.
@@ -94,20 +100,15 @@ impl Client {
 
     /// Asks for the address of a name.
     pub fn ask(&mut self, name: &str) -> Result<()> {
-        match self.sockets.get_mut(self.dns) {
-            Some(Socket::Dns(socket)) => {
-                Ok(socket.start_query(&mut self.interface, name, DnsQueryType::A)?)
-            }
-            _ => Err(anyhow!("no client of DNS")),
-        }
+        let socket: Option<&mut dns::Socket> = self.sockets.get_mut_as(self.dns);
+        let socket = socket.context("no client of DNS")?;
+        Ok(socket.start_query(&mut self.interface, name, DnsQueryType::A)?)
     }
 
     /// The first address that was found.
     pub fn found(&mut self) -> Result<Option<IpAddress>> {
-        match self.sockets.get_mut(self.dns) {
-            Some(Socket::Dns(socket)) => Ok(socket.get_query_result()?[0]),
-            _ => Err(anyhow!("no client of DNS")),
-        }
+        let socket = self.client().context("no client of DNS")?;
+        Ok(socket.get_query_result()?[0])
     }
 
     /// The address of the host.

@@ -6,7 +6,7 @@ use crate::buffers::datagrams;
 use crate::host::{add, addressed, boxed};
 use crate::wire::Wire;
 use anyhow::Result;
-use interface::{Interface, SocketHandle, SocketSet};
+use interface::{Interface, SocketHandle, SocketSet, SocketsByKind};
 use ip_wire::{IpAddress, IpEndpoint, Ipv4Address};
 use net_base::{Instant, ManagedSlice};
 use sockets::dhcp::{DhcpMessageType, DhcpPacket, DhcpRepr};
@@ -56,10 +56,10 @@ impl Server {
     {
         self.interface
             .poll(now, &mut self.wire, &mut self.sockets, BUDGET);
-        if let Some(Socket::Udp(socket)) = self.sockets.get_mut(self.dhcp) {
+        if let Some(socket) = self.sockets.get_mut_as(self.dhcp) {
             give(socket);
         }
-        if let Some(Socket::Udp(socket)) = self.sockets.get_mut(self.dns) {
+        if let Some(socket) = self.sockets.get_mut_as(self.dns) {
             tell(socket);
         }
         self.interface
