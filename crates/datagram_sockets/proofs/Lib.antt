@@ -4,4 +4,5 @@ pub mod Protocols
 pub mod PacketQueues
 pub mod RawPackets
 pub mod UdpPackets
+pub mod AtOnce
 pub mod Equal

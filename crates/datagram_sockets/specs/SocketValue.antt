@@ -1,6 +1,6 @@
 -- A socket of datagrams as a value, whatever kind it is of, and what its calls answer and leave.
-use Rattle.std.specs.Prelude.{ℕ, nat_lt, nat_le, not, ◌&&◌, Bool, false, if◌then◌else◌, List, [], ◌++◌, length, drop, Option, None, Some, is_some, Result, Ok}
-use Rattle.std.specs.Prelude.{Err, is_ok}
+use Rattle.std.specs.Prelude.{ℕ, nat_lt, nat_le, not, ◌&&◌, Bool, false, if◌then◌else◌, List, [], ◌++◌, length, drop, Option, None, Some, is_some, is_none}
+use Rattle.std.specs.Prelude.{Result, Ok, Err, is_ok}
 use Rattle.net_base.specs.Packets.{Packets, packets_in, used_places, is_full_for, appended, unpadded, first, without_first}
 use Rattle.socket_base.specs.Packet.{PacketValue}
 use Rattle.socket_base.specs.declared.poll_at.PollAt.{PollAt}
@@ -63,6 +63,10 @@ module _ {H : Type 0} where
   -- a socket wants to be polled exactly where a datagram is queued
   abbrev pub due : Packets H → PollAt
   due q = if has_packets q then At.Now else At.Ingress
+
+  -- nothing is queued, and there is room for a datagram of so many bytes
+  abbrev pub takes_alone : Packets H → ℕ → Bool
+  takes_alone q size = is_none (first q) && not (is_full_for q size)
 
   -- what a datagram of so many bytes is answered, where its receiver can be addressed or can't
   abbrev pub send_answer_to : Bool → Packets H → ℕ → Result (Unit {0}) SendError

@@ -1,6 +1,6 @@
 -- A UDP socket as a value, and what its calls answer and leave.
 use Rattle.std.specs.Prelude.{◌≡◌, ℕ, ◌+◌, ◌==◌, not, ◌&&◌, ◌||◌, Bool, true, if◌then◌else◌, List, length, Option, None, Some, Result, Ok, Err, is_ok}
-use Rattle.net_base.specs.Packets.{Packets, is_full_for}
+use Rattle.net_base.specs.Packets.{Packets, first}
 use Rattle.ip_address.specs.declared.ip.IpAddress.{IpAddress}
 use Rattle.ip_address.specs.declared.ip.IpEndpoint.{IpEndpoint}
 use Rattle.ip_address.specs.declared.ip.IpListenEndpoint.{IpListenEndpoint}
@@ -16,7 +16,7 @@ use Rattle.socket_base.specs.declared.offer.Offer.{Offer}
 use Rattle.datagram_sockets.specs.Header.{header_between, hops}
 use Rattle.datagram_sockets.specs.Held.{AreHeld, packet_in}
 use Rattle.datagram_sockets.specs.Offers.{IsFound, OffersBy}
-use Rattle.datagram_sockets.specs.SocketValue.{SocketValue, emptied, fresh, with_settings, send_answer_to, sent_after, arrived}
+use Rattle.datagram_sockets.specs.SocketValue.{SocketValue, emptied, fresh, with_settings, takes_alone, send_answer_to, sent_after, arrived}
 use Rattle.datagram_sockets.specs.declared.udp.UdpMetadata.{UdpMetadata}
 use Rattle.datagram_sockets.specs.declared.error.BindError.{BindError}
 use Rattle.datagram_sockets.specs.declared.error.BindError.TheVariants as Bind
@@ -132,6 +132,17 @@ TakesDatagram cx s q p =
 -- The first queued datagram is offered. One that can't be sent is dropped.
 abbrev pub Offers : ContextValue → UdpValue → Offer → UdpValue → Type 0
 Offers cx v answer v' = OffersBy (TakesDatagram cx) v answer v'
+
+-- the header of the packet that takes a datagram of this size which isn't queued, where it would be the first one in the queue
+abbrev pub header_at_once : ContextValue → UdpValue → UdpMetadata → ℕ → Option IpRepr
+header_at_once cx v metadata size =
+    if takes_alone v.queued size && not (is_unaddressable v metadata) then header_for cx v.settings metadata size else None
+
+-- The packet takes a datagram that isn't queued: none is queued before it, and the queue would take it.
+pub record TakesAtOnce (cx : ContextValue) (v : UdpValue) (q : UdpMetadata × List ℕ) (p : PacketValue) : Type 0 where
+  pub alone : first v.queued ≡ None
+  pub taken : send_answer v q.0 (length q.1) ≡ Ok tt
+  pub takes : TakesDatagram cx v.settings q p
 
 -- the packet of a kept header
 abbrev pub offered_in : IpListenEndpoint → Option IpRepr → Option (UdpMetadata × List ℕ) → Option PacketValue

@@ -1,7 +1,7 @@
 //! The two queues of a socket, whatever header its datagrams have.
 ghost use Rattle.std.specs.Prelude.{◌≡◌, length};
 ghost use Rattle.net_base.specs.Packets.{used_room, without_first};
-ghost use Rattle.datagram_sockets.specs.SocketValue.{has_packets, has_places, emptied, read_answer, read_written, left_by, due};
+ghost use Rattle.datagram_sockets.specs.SocketValue.{has_packets, has_places, emptied, read_answer, read_written, left_by, due, takes_alone};
 
 use crate::error::RecvError;
 use net_base::PacketBuffer;
@@ -69,6 +69,15 @@ impl<H> Queues<H> {
         ensures { result ≡ used_room self.now.queued.packets }
     {
         self.queued.payload_bytes_count()
+    }
+
+    /// Whether nothing is queued, and there is room for a datagram of so many bytes.
+    pub fn takes_alone(&self, size: usize) -> bool
+        ensures { result ≡ takes_alone self.now.queued size }
+    {
+        self.queued.is_empty()
+            && self.queued.packet_capacity() > 0
+            && size <= self.queued.payload_capacity()
     }
 
     /// When the socket wants to be polled: at once where a datagram is queued.

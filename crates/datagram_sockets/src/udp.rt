@@ -1,5 +1,5 @@
 //! Sockets for user datagrams (RFC 768).
-ghost use Rattle.std.specs.Prelude.{◌≡◌, ◌≢◌, ◌+◌, ◌<◌, ◌≤◌, ◌^◌, ◌↔◌, ℕ, List, length, take, false, true, IfOk, IfErr, IsErr, OnErr, OnOk, Result, Ok, Err};
+ghost use Rattle.std.specs.Prelude.{◌≡◌, ◌≢◌, ◌+◌, ◌<◌, ◌≤◌, ◌^◌, ◌↔◌, ℕ, List, length, take, false, true, IfOk, IfErr, IsErr, IfSome, OnErr, OnOk, Result, Ok, Err};
 ghost use Rattle.std.specs.Prelude.{Option, None, Some, IsSome, if◌then◌else◌};
 ghost use Rattle.std.specs.Borrow.{sem};
 ghost use Rattle.std.specs.Fn.{FnOnceTakesAtMut, FnOnceReturnsAtMut};
@@ -14,8 +14,9 @@ ghost use Rattle.socket_base.specs.declared.offer.Offer.{Offer};
 ghost use Rattle.socket_base.specs.declared.offer.Offer.TheVariants as Answer;
 ghost use Rattle.datagram_sockets.specs.Udp.{UdpValue, made, metadata_to, is_open, bind_answer, bind_after, closed, with_hop_limit, is_unaddressable};
 ghost use Rattle.datagram_sockets.specs.Udp.{send_answer, send_after, accepts, process_after, header_for, settings_of, IsHeaderToSend, Offers};
+ghost use Rattle.datagram_sockets.specs.Udp.{offered_in, header_at_once, TakesAtOnce};
 ghost use Rattle.datagram_sockets.specs.SocketValue.{can_send, can_recv, with_queued, is_done, recv_answer, recv_after, recv_written, settled, poll_of};
-ghost use Rattle.datagram_sockets.specs.Offers.{HasPacket, IsSameButForPlaces, changed_by};
+ghost use Rattle.datagram_sockets.specs.Offers.{HasPacket, IsFound, IsSameButForPlaces, changed_by};
 ghost use Rattle.datagram_sockets.specs.Dispatch.{TakesOffered, Dispatches};
 ghost use Rattle.datagram_sockets.specs.declared.udp.UdpMetadata.{UdpMetadata};
 ghost use Rattle.datagram_sockets.specs.declared.error.SendError.TheVariants as Send;
@@ -304,12 +305,19 @@ impl Socket {
     ghost use Rattle.datagram_sockets.specs.SocketValue.{peeked};
     ghost use Rattle.datagram_sockets.specs.contracts.udp.Socket.{the_row};
 
+    /// Whether a datagram can't be sent: by an unbound socket, to port 0, or to the unspecified address.
+    fn is_unaddressable(&self, metadata: &UdpMetadata) -> bool
+        ensures { result ≡ is_unaddressable self.now metadata.now }
+    {
+        let endpoint = metadata.endpoint;
+        !self.is_open() || endpoint.port == 0 || is_unspecified(&endpoint.addr)
+    }
+
     /// Whether a datagram may be sent to this endpoint.
     fn check_send(&self, metadata: &UdpMetadata) -> Result<(), SendError>
         ensures { result ≡ (if is_unaddressable self.now metadata.now then Err Send.Unaddressable else Ok tt) }
     {
-        let endpoint = metadata.endpoint;
-        if !self.is_open() || endpoint.port == 0 || is_unspecified(&endpoint.addr) {
+        if self.is_unaddressable(metadata) {
             return Err(SendError::Unaddressable);
         }
         Ok(())
@@ -358,6 +366,54 @@ impl Socket {
         self.check_send(&meta)?;
         self.queues.queued.enqueue_slice(meta, data)?;
         Ok(())
+    }
+
+    /// The packet that would take a datagram of these bytes if it were queued, where none is queued before it, the queue would take it and
+    /// a packet can. The socket stays as it is, and the bytes where they lie.
+    pub fn packet_at_once<'a, C: Context>(
+        &self,
+        cx: &C,
+        bytes: &'a [u8],
+        metadata: &UdpMetadata,
+    ) -> Option<Packet<'a>>
+        ensures packet { IsFound (TakesAtOnce (C.context cx.now) self.now (metadata.now, bytes.now)) (option_value result) }
+        ensures sendable { IfSome (option_value result) IsSendable }
+    {
+        self.packet_behind(self.header_at_once(cx, bytes, metadata), bytes, metadata)
+    }
+
+    /// The header of the packet that takes a datagram of these bytes, where it would be the first one in the queue.
+    fn header_at_once<C: Context>(
+        &self,
+        cx: &C,
+        bytes: &[u8],
+        metadata: &UdpMetadata,
+    ) -> Option<IpRepr>
+        ensures { result ≡ header_at_once (C.context cx.now) self.now metadata.now (length bytes.now) }
+    {
+        if self.queues.takes_alone(bytes.len()) && !self.is_unaddressable(metadata) {
+            header_for(cx, &self.endpoint, self.hop_limit, metadata, bytes.len())
+        } else {
+            None
+        }
+    }
+
+    /// A datagram of these bytes behind a header, if there is one.
+    fn packet_behind<'a>(
+        &self,
+        header: Option<IpRepr>,
+        bytes: &'a [u8],
+        metadata: &UdpMetadata,
+    ) -> Option<Packet<'a>>
+        ensures { option_value result ≡ offered_in self.now.settings.endpoint header (Some (metadata.now, bytes.now)) }
+    {
+        let header = header?;
+        let src_port = self.endpoint.port;
+        let repr = UdpRepr {
+            src_port,
+            dst_port: metadata.endpoint.port,
+        };
+        Some(Packet::new(header, IpPayload::Udp(repr, bytes)))
     }
 
     /// Queues a datagram of the bytes that `f` writes: it is lent `max_size` bytes, and answers how many
