@@ -28,6 +28,7 @@ pub mod Loopbacks
 pub mod ByKind
 pub mod Sourced
 pub mod Straight
+pub mod AtOnce
 pub mod FreeSlots
 pub mod Chosen
 pub mod Told

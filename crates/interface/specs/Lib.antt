@@ -2,6 +2,7 @@ pub mod Host
 pub mod Awaited
 pub mod Remote
 pub mod Turn
+pub mod SendTo
 pub mod Pass
 pub mod WayOut
 pub mod Instant

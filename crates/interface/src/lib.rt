@@ -15,6 +15,7 @@ mod passes;
 mod poll;
 pub mod poll_laws;
 mod remote;
+mod send_to;
 mod step;
 mod turn;
 
@@ -28,5 +29,6 @@ pub use interface_egress::{
 };
 pub use passes::pass;
 pub use poll::{PollIngressSingleResult, PollResult};
+pub use send_to::{SendToError, Sending};
 pub use step::egress;
 pub use turn::{Turned, take_turn};

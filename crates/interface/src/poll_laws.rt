@@ -1,23 +1,33 @@
 //! What follows from the definitions, for whoever reasons about runs of hosts.
-ghost use Rattle.std.specs.Prelude.{◌≡◌, ℕ, ◌+◌, ◌*◌, ℤ, Bool, true, false, List, length, Some, None};
+ghost use Rattle.std.specs.Prelude.{◌≡◌, ℕ, ◌+◌, ◌*◌, ℤ, Bool, true, false, List, length, Option, Some, None};
 ghost use Rattle.std.specs.List.{filter_map, list_any};
 ghost use Rattle.net_base.specs.Loopback.{LoopbackValue, LoopbackMove};
 ghost use Rattle.ip_wire.specs.AddressTests.{is_same_address};
 ghost use Rattle.ip_wire.specs.Ip.{source_of, destination_of};
+ghost use Rattle.ip_wire.specs.HardwareAddress.{HardwareAddress};
 ghost use Rattle.ip_wire.specs.IpAddress.{IpAddress};
 ghost use Rattle.interface_egress.specs.Inner.{InnerValue, is_own, is_foreign_loopback, may_come_from};
-ghost use Rattle.interface_egress.specs.Plan.{never_leaves};
+ghost use Rattle.interface_egress.specs.Plan.{never_leaves, GoesStraight};
 ghost use Rattle.interface_egress.specs.Source.{source_for};
 ghost use Rattle.interface_egress.specs.Departure.{target_of};
 ghost use Rattle.interface_egress.specs.declared.frame.Question.{Question};
+ghost use Rattle.interface_egress.specs.Meta.{freed};
 ghost use Rattle.interface_egress.specs.declared.plan.Plan.TheVariants as Way;
 ghost use Rattle.interface_egress.specs.declared.socket_meta.Meta.{Meta};
+ghost use Rattle.interface_egress.specs.declared.socket_set.Item.{Item};
 ghost use Rattle.interface_egress.specs.declared.socket_set.SocketStorage.{SocketStorage};
+ghost use Rattle.interface_egress.specs.declared.way_out.Sent.TheVariants as Outcome;
+ghost use Rattle.interface_ingress.specs.Offers.{IsSameButForPlaces};
 ghost use Rattle.interface_ingress.specs.Packet.{PacketValue};
 ghost use Rattle.interface_ingress.specs.Socket.{Socket};
+ghost use Rattle.interface_ingress.specs.Udp.{UdpValue, send_after};
 ghost use Rattle.interface.specs.Awaited.{awaited_in, comes_before, next_awaited};
-ghost use Rattle.interface.specs.Turn.{held, keeps_source, sourced};
+ghost use Rattle.interface.specs.Host.{Sender, sender};
+ghost use Rattle.interface.specs.SendTo.{DatagramToSend, udp_item, MayLeave, LeavesAtOnce, LeavesInTurn};
+ghost use Rattle.interface.specs.Turn.{held, keeps_source, sourced, is_heard, Turns};
 ghost use Rattle.interface.specs.declared.awaited.Awaited.{Awaited};
+ghost use Rattle.interface.specs.declared.turn.Turned.{Turned};
+ghost use Rattle.interface.specs.declared.turn.Turned.TheVariants as Turn;
 ghost use Rattle.interface_egress.specs.Departing.{HasSettingsOf};
 ghost use Rattle.interface.specs.State.{State};
 ghost use Rattle.interface.specs.Polls.{Polls};
@@ -118,3 +128,24 @@ pub fn polls_at_loopbacks_have_one_end()
 {
     one_offer();
 }
+
+/// Law: a datagram whose frame left at once left as in a turn of its socket with that datagram queued: the same packet goes the same way, and
+/// the socket has an empty queue again, whose free storage may begin elsewhere. Where the device gives no leave or refuses the frame, the
+/// turn ends the pass, and the datagram stays queued. Each turn of a socket of which a datagram could have left at once is such a turn.
+pub fn sending_is_queueing_and_a_turn<D: Device>()
+    ensures left { (turn : Option IpAddress) (s : Sender D) (m m' : Meta) (v : UdpValue) (q : DatagramToSend) (d : D) (i' : InnerValue)
+        → LeavesAtOnce D.moves s m v q Outcome.Gone d i' m'
+        → (v' : UdpValue) × Turns D.moves turn s (udp_item m (send_after v q.0 q.1)) (Turn.Next true) (sender d i' s.left) (udp_item m' v')
+        × IsSameButForPlaces v v' }
+    ensures refused { (turn : Option IpAddress) (s : Sender D) (m m' : Meta) (v : UdpValue) (q : DatagramToSend) (d : D) (i' : InnerValue)
+        → LeavesAtOnce D.moves s m v q Outcome.Refused d i' m'
+        → (v' : UdpValue) × Turns D.moves turn s (udp_item m (send_after v q.0 q.1)) (Turn.Stop false) (sender d i' s.left)
+        (udp_item (freed m (is_heard s.inner m)) v')
+        × IsSameButForPlaces (send_after v q.0 q.1) v' }
+    ensures turn { (turn : Option IpAddress) (s s' : Sender D) (m : Meta) (v : UdpValue) (q : DatagramToSend) (p : PacketValue) (to : HardwareAddress)
+        (turned : Turned) (item' : Item Socket)
+        → MayLeave s m v q p
+        → GoesStraight s.inner p.header to
+        → Turns D.moves turn s (udp_item m (send_after v q.0 q.1)) turned s' item'
+        → LeavesInTurn D.moves s m v q p to turned s' item' }
+{}

@@ -105,6 +105,14 @@ fn waits(inner: &InterfaceInner, meta: &mut Meta) -> bool
     !meta.egress_permitted(inner.now(), known)
 }
 
+/// Whether the socket waits for its neighbour. Its mark stays.
+pub(crate) fn is_waiting(inner: &InterfaceInner, meta: &Meta) -> bool
+    ensures { result ≡ is_waiting inner.now meta.now }
+{
+    let mut mark = *meta;
+    waits(inner, &mut mark)
+}
+
 /// Whether this neighbour is known.
 pub(crate) fn is_known(inner: &InterfaceInner, neighbor: Option<IpAddress>) -> bool
     ensures { result ≡ is_known inner.now neighbor }
@@ -162,7 +170,7 @@ fn let_leave<D: Device>(
 }
 
 /// Lets a packet leave straight to a hardware address, if the device gives leave.
-fn leave_straight<D: Device>(
+pub(crate) fn leave_straight<D: Device>(
     inner: &mut InterfaceInner,
     device: &mut D,
     meta: &mut Meta,
@@ -434,7 +442,7 @@ fn mark(
 }
 
 /// Whether a packet leaves its socket.
-fn is_done(sent: Sent) -> bool
+pub(crate) fn is_done(sent: Sent) -> bool
     ensures { result ≡ is_done sent }
 {
     match sent {

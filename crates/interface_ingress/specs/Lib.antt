@@ -43,6 +43,11 @@ pub use Rattle.ipv6_headers.specs.Headers
 pub use Rattle.ipv6_headers.specs.declared.headers.Behind
 pub use Rattle.ipv6_headers.specs.declared.headers.Problem
 pub use Rattle.sockets.specs.Context
+pub use Rattle.sockets.specs.SocketValue
+pub use Rattle.sockets.specs.LentPacket
+pub use Rattle.sockets.specs.Udp
+pub use Rattle.sockets.specs.UdpMetadata
+pub use Rattle.sockets.specs.SendError
 pub use Rattle.sockets.specs.Offer
 pub use Rattle.sockets.specs.Offers
 pub use Rattle.sockets.specs.Packet
