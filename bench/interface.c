@@ -10,6 +10,7 @@
 
 uint32_t bench_idle(uint16_t sockets, uint32_t polls);
 uint32_t bench_trips(const uint8_t *payload, size_t len, uint8_t *out, size_t out_len, size_t mtu, uint32_t trips, bool polls);
+uint32_t bench_trips_at_once(const uint8_t *payload, size_t len, uint8_t *out, size_t out_len, size_t mtu, uint32_t trips);
 uint64_t bench_stream(const uint8_t *text, size_t len, uint8_t *out, size_t out_len, size_t mtu, size_t room, uint64_t total, bool check,
                       bool calm, uint16_t idle);
 uint64_t bench_frames(const uint8_t *text, size_t len, uint8_t *out, size_t out_len, size_t mtu, size_t room, uint64_t total, bool calm, bool back);
@@ -47,11 +48,16 @@ static double idle(uint16_t sockets, uint32_t polls) {
     return (many - (now() - start)) / polls * 1e9;
 }
 
+enum way { STEPS, POLLS, AT_ONCE };
+static const char *const ways[] = {"steps", "polls", "sent without the queue"};
+
 // Round trips a second.
-static double trips(size_t len, size_t mtu, uint32_t count, bool polls) {
+static double trips(size_t len, size_t mtu, uint32_t count, enum way way) {
     memset(out, 0, len);
     double start = now();
-    if (bench_trips(text, len, out, READ, mtu, count, polls) != count) fail("a datagram didn't come back");
+    uint32_t came = way == AT_ONCE ? bench_trips_at_once(text, len, out, READ, mtu, count)
+                                   : bench_trips(text, len, out, READ, mtu, count, way == POLLS);
+    if (came != count) fail("a datagram didn't come back");
     double took = now() - start;
     if (memcmp(out, text, len)) fail("other bytes came back");
     return count / took;
@@ -98,10 +104,10 @@ static void show_idle(uint16_t sockets) {
     printf("%5u idle sockets: %9.1f ns a poll\n", sockets, least);
 }
 
-static void show_trips(size_t len, size_t mtu, bool polls) {
+static void show_trips(size_t len, size_t mtu, enum way way) {
     double best = 0;
-    for (int r = 0; r < ROUNDS; r++) keep_best(&best, trips(len, mtu, 200000, polls));
-    printf("%5zu bytes, MTU %5zu, %s: %9.0f round trips a second, %7.1f ns each\n", len, mtu, polls ? "polls" : "steps", best, 1e9 / best);
+    for (int r = 0; r < ROUNDS; r++) keep_best(&best, trips(len, mtu, 200000, way));
+    printf("%5zu bytes, MTU %5zu, %s: %9.0f round trips a second, %7.1f ns each\n", len, mtu, ways[way], best, 1e9 / best);
 }
 
 static void show_stream(size_t mtu, size_t room, bool calm) {
@@ -131,10 +137,10 @@ static void show_allocations(void) {
         printf("256 MiB %llu\n", (unsigned long long)(allocations - start));
         start = allocations;
     }
-    trips(64, 1500, 10000, true);
+    trips(64, 1500, 10000, POLLS);
     printf("UDP: 10,000 round trips %llu, ", (unsigned long long)(allocations - start));
     start = allocations;
-    trips(64, 1500, 160000, true);
+    trips(64, 1500, 160000, POLLS);
     printf("160,000 %llu\n", (unsigned long long)(allocations - start));
 }
 
@@ -150,13 +156,17 @@ static void one(char **word, int count) {
         printf("%.1f\n", acks(n[0], n[1], n[2] * MIB, word[0][0] == 'c'));
     } else if (count == 3 && !strcmp(word[0], "among")) {
         printf("%.1f\n", among((uint16_t)n[0], n[1] * MIB) / 1e6);
-    } else if (count == 4 && (!strcmp(word[0], "trips") || !strcmp(word[0], "polled"))) {
-        printf("%.0f\n", trips(n[0], n[1], (uint32_t)n[2], word[0][0] == 'p'));
+    } else if (count == 4 && !strcmp(word[0], "trips")) {
+        printf("%.0f\n", trips(n[0], n[1], (uint32_t)n[2], STEPS));
+    } else if (count == 4 && !strcmp(word[0], "polled")) {
+        printf("%.0f\n", trips(n[0], n[1], (uint32_t)n[2], POLLS));
+    } else if (count == 4 && !strcmp(word[0], "at_once")) {
+        printf("%.0f\n", trips(n[0], n[1], (uint32_t)n[2], AT_ONCE));
     } else if (count == 3 && !strcmp(word[0], "idle")) {
         printf("%.1f\n", idle((uint16_t)n[0], (uint32_t)n[1]));
     } else {
         fail("interface [stream MTU ROOM MIB | calm MTU ROOM MIB | acks MTU ROOM MIB | calm_acks MTU ROOM MIB | among SOCKETS MIB"
-             " | trips LENGTH MTU COUNT | polled LENGTH MTU COUNT | idle SOCKETS POLLS]");
+             " | trips LENGTH MTU COUNT | polled LENGTH MTU COUNT | at_once LENGTH MTU COUNT | idle SOCKETS POLLS]");
     }
 }
 
@@ -170,9 +180,11 @@ int main(int argc, char **argv) {
     static const uint16_t counts[] = {0, 1, 10, 100, 1000, 10000};
     for (size_t i = 0; i < 6; i++) show_idle(counts[i]);
     puts("UDP, to the other host and back");
-    show_trips(64, 1500, false);
-    show_trips(64, 1500, true);
-    show_trips(1472, 1500, false);
+    show_trips(64, 1500, STEPS);
+    show_trips(64, 1500, POLLS);
+    show_trips(64, 1500, AT_ONCE);
+    show_trips(1472, 1500, STEPS);
+    show_trips(1472, 1500, AT_ONCE);
     puts("TCP, one way");
     show_stream(1500, 65536, false);
     show_stream(1500, 65536, true);
