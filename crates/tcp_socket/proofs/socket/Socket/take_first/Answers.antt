@@ -1,6 +1,6 @@
 use Rattle.std.proofs.Common.{◌≡◌, ◌∙◌, ℕ, ℤ, Bool, true, false, None, if◌then◌else◌, refl, ap, sym}
-use Rattle.tcp_control.specs.Endpoints.{pair_in}
-use Rattle.tcp_control.specs.FirstNumbers.{first_number, draws_number}
+use Rattle.tcp_model.specs.Endpoints.{pair_in}
+use Rattle.tcp_model.specs.FirstNumbers.{first_number, draws_number}
 use Rattle.tcp_model.specs.Controls.{is_syn, is_zero}
 use Rattle.tcp_model.specs.Opening.{is_first_syn, answering}
 use Rattle.tcp_model.specs.Timeout.{timeout_restarted}
