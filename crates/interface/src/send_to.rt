@@ -21,6 +21,7 @@ use interface_ingress::widths::fields_have_widths;
 use interface_ingress::{Packet, Socket, udp};
 use interface_tables::Look;
 use net_base::{Device, Instant, ManagedSlice};
+use thiserror::Error;
 
 /// What became of a datagram that was taken.
 #[derive(Clone, Copy, Debug, PartialEq, Eq)]
@@ -32,11 +33,13 @@ pub enum Sending {
 }
 
 /// Why a datagram wasn't taken.
-#[derive(Clone, Copy, Debug, PartialEq, Eq)]
+#[derive(Clone, Copy, Debug, PartialEq, Eq, Error)]
 pub enum SendToError {
     /// The handle is that of no UDP socket.
+    #[error("not a UDP socket")]
     NotUdp,
     /// The socket refused it, as it refuses to queue it.
+    #[error("{0}")]
     Refused(SendError),
 }
 
