@@ -11,7 +11,7 @@ use Rattle.sockets.specs.AnySocket.{as_tcp}
 use Rattle.sockets.specs.TcpCalls.{connect_after, connect_draws}
 use Rattle.sockets.specs.declared.socket.Socket.{Socket}
 use Rattle.sockets.specs.declared.socket.Socket.TheVariants as Kind
-use Rattle.c_sockets.specs.Places.{after_at, draws_at}
+use Rattle.c_calls.specs.Places.{after_at, draws_at}
 use Rattle.c_calls.specs.Host.{StackValue}
 
 module _ (place : ℕ) (remote : IpEndpoint) (local : IpListenEndpoint) where

@@ -1,3 +1,5 @@
+pub mod Lent
+pub mod Placed
 pub mod Making
 pub mod Placing
 pub mod Connecting

@@ -6,7 +6,7 @@ use Rattle.interface.specs.Made.{MadeUnless, Makes, new_host}
 use Rattle.interface.specs.Settings.{refusal}
 use Rattle.interface.specs.Config.{Config}
 use Rattle.interface.specs.NewError.{NewError}
-use Rattle.c_sockets.specs.declared.code.Code.{Code}
+use Rattle.c_calls.specs.declared.code.Code.{Code}
 use Rattle.c_calls.specs.Calls.{NewHost, NewHostUnless, config_of, device_of, fresh_host}
 use Rattle.c_calls.specs.Codes.{of_new}
 use Rattle.c_calls.specs.Host.{StackValue}

@@ -14,8 +14,8 @@ use Rattle.sockets.specs.SocketValue.{fresh}
 use Rattle.sockets.specs.TcpValue.{new_socket}
 use Rattle.sockets.specs.declared.socket.Socket.{Socket}
 use Rattle.sockets.specs.declared.socket.Socket.TheVariants as Kind
-use Rattle.c_sockets.specs.declared.code.Code.{Code}
-use Rattle.c_sockets.specs.declared.code.Code.TheVariants as Is
+use Rattle.c_calls.specs.declared.code.Code.{Code}
+use Rattle.c_calls.specs.declared.code.Code.TheVariants as Is
 use Rattle.c_calls.specs.Host.{StackValue}
 
 abbrev pub place_by : Option ℕ → List (SocketStorage Socket) → ℕ

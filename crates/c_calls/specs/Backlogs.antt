@@ -14,9 +14,9 @@ use Rattle.sockets.specs.TcpStates.{is_closed}
 use Rattle.tcp_listener.specs.Calls.{fresh_entry, Refreshes, Accepts, given_back}
 use Rattle.tcp_listener.specs.declared.entry.Entry.{Entry}
 use Rattle.tcp_listener.specs.declared.listener.Listener.{Listener}
-use Rattle.c_sockets.specs.Places.{answer_at}
-use Rattle.c_sockets.specs.declared.code.Code.{Code}
-use Rattle.c_sockets.specs.declared.code.Code.TheVariants as Is
+use Rattle.c_calls.specs.Places.{answer_at}
+use Rattle.c_calls.specs.declared.code.Code.{Code}
+use Rattle.c_calls.specs.declared.code.Code.TheVariants as Is
 use Rattle.c_calls.specs.Host.{StackValue}
 use Rattle.c_calls.specs.declared.backlogs.Role.{Role}
 use Rattle.c_calls.specs.declared.backlogs.Role.TheVariants as For

@@ -12,9 +12,9 @@ use Rattle.ip_wire.specs.HardwareAddress.TheVariants as Hardware
 use Rattle.c_link.specs.Link.{LinkValue, unused, IsTaken, arrived, fetch_answer, fetch_after, push_refusal, LinkMove}
 use Rattle.c_link.specs.declared.error.PushError.{PushError}
 use Rattle.c_link.specs.declared.error.FetchError.{FetchError}
-use Rattle.c_sockets.specs.Codes.{coded}
-use Rattle.c_sockets.specs.declared.code.Code.{Code}
-use Rattle.c_sockets.specs.declared.code.Code.TheVariants as Is
+use Rattle.c_calls.specs.Codes.{coded}
+use Rattle.c_calls.specs.declared.code.Code.{Code}
+use Rattle.c_calls.specs.declared.code.Code.TheVariants as Is
 use Rattle.interface.specs.Host.{host_at}
 use Rattle.interface.specs.Instant.{poll_instant}
 use Rattle.interface.specs.Made.{new_host}

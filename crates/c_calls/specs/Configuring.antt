@@ -8,10 +8,10 @@ use Rattle.interface.specs.Inner.{context_of, drawn}
 use Rattle.interface.specs.Made.{with_inner}
 use Rattle.ip_wire.specs.IpAddress.{IpAddress}
 use Rattle.ip_wire.specs.IpEndpoint.{IpEndpoint}
-use Rattle.c_sockets.specs.Leases.{TakesLease, SendsLease}
-use Rattle.c_sockets.specs.Names.{Asks, TakesAnswer, SendsQuery}
-use Rattle.c_sockets.specs.declared.carrying.Sending.{Sending}
-use Rattle.c_sockets.specs.declared.code.Code.{Code}
+use Rattle.c_calls.specs.Leases.{TakesLease, SendsLease}
+use Rattle.c_calls.specs.Names.{Asks, TakesAnswer, SendsQuery}
+use Rattle.c_calls.specs.declared.carrying.Sending.{Sending}
+use Rattle.c_calls.specs.declared.code.Code.{Code}
 use Rattle.c_calls.specs.Host.{StackValue}
 
 abbrev pub LeaseArrives : IpEndpoint → IpAddress → List ℕ → StackValue → Result (Unit {0}) Code → StackValue → Type 0

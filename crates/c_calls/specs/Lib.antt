@@ -1,4 +1,13 @@
 pub mod Codes
+pub mod Places
+pub mod Lends
+pub mod Streams
+pub mod Datagrams
+pub mod Controls
+pub mod Carrying
+pub mod Clients
+pub mod Leases
+pub mod Names
 pub mod Host
 pub mod Calls
 pub mod Tables

@@ -16,9 +16,9 @@ use Rattle.interface.specs.Settings.{is_stranger, with_addresses, with_routes, w
 use Rattle.interface.specs.HardwareAddrError.{HardwareAddrError}
 use Rattle.interface.specs.HardwareAddrError.TheVariants as No
 use Rattle.c_link.specs.Link.{LinkMove}
-use Rattle.c_sockets.specs.Codes.{coded}
-use Rattle.c_sockets.specs.declared.code.Code.{Code}
-use Rattle.c_sockets.specs.declared.code.Code.TheVariants as Is
+use Rattle.c_calls.specs.Codes.{coded}
+use Rattle.c_calls.specs.declared.code.Code.{Code}
+use Rattle.c_calls.specs.declared.code.Code.TheVariants as Is
 use Rattle.c_calls.specs.Host.{StackValue}
 
 -- a table has four entries at most

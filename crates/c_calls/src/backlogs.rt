@@ -6,13 +6,14 @@ ghost use Rattle.tcp_listener.specs.Calls.{micros_of};
 ghost use Rattle.tcp_listener.specs.declared.entry.Entry.{Entry};
 ghost use Rattle.interface.specs.SocketHandle.{SocketHandle as Handle};
 ghost use Rattle.sockets.specs.AnySocket.{as_tcp};
-ghost use Rattle.c_sockets.specs.Places.{answer_at};
+ghost use Rattle.c_calls.specs.Places.{answer_at};
 ghost use Rattle.c_calls.specs.Backlogs.{RefreshesAt, RefreshesAll, MakesListener, IsPut, listener_place, is_there, without_listener, listener_at, has_place};
 ghost use Rattle.c_calls.specs.Backlogs.{is_in_backlog, closed_in, may_be_taken, Takes, Has, HasEntry, HasKeeper, Grows, Grown, WhereThere, Accepted};
 ghost use Rattle.c_calls.specs.Backlogs.{GivenBack, AcceptsFrom, GivesBack, listener_refusal};
 
+use crate::code::Code;
 use crate::host::Host;
-use c_sockets::{Code, looks};
+use crate::looks;
 use interface::{SocketHandle, SocketSet};
 use ip_wire::IpListenEndpoint;
 use net_base::Instant;

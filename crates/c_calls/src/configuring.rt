@@ -2,14 +2,16 @@
 //! what the client has to send is queued at the socket.
 ghost use Rattle.std.specs.Prelude.{◌≡◌, Err};
 ghost use Rattle.std.specs.Str.{IsUtf8};
-ghost use Rattle.c_sockets.specs.Leases.{dhcp_answer, dhcp_made, told_answer, told_after};
-ghost use Rattle.c_sockets.specs.Leases as Leases;
-ghost use Rattle.c_sockets.specs.Names.{query_made, found_answer, found_after};
-ghost use Rattle.c_sockets.specs.Names as Names;
+ghost use Rattle.c_calls.specs.Leases.{dhcp_answer, dhcp_made, told_answer, told_after};
+ghost use Rattle.c_calls.specs.Leases as Leases;
+ghost use Rattle.c_calls.specs.Names.{query_made, found_answer, found_after};
+ghost use Rattle.c_calls.specs.Names as Names;
 ghost use Rattle.c_calls.specs.Configuring.{LeaseArrives, LeaseGoes, AsksName, AnswerArrives, QueryGoes};
 
+use crate::carrying::Sending;
+use crate::code::Code;
 use crate::host::Host;
-use c_sockets::{Code, Sending, leases, names};
+use crate::{leases, names};
 use ip_wire::{IpAddress, IpEndpoint};
 use net_base::Instant;
 use sockets::PollAt;

@@ -1,19 +1,114 @@
 //! Calls of ICMP sockets.
 ghost use Rattle.std.specs.Prelude.{◌≡◌, length};
+ghost use Rattle.interface.specs.Set.{places, is_fixed};
 ghost use Rattle.sockets.specs.AnySocket.{as_icmp};
 ghost use Rattle.sockets.specs.declared.socket.Socket.TheVariants as Kind;
-ghost use Rattle.c_sockets.specs.Places.{answer_at, after_at, written_at};
+ghost use Rattle.c_calls.specs.Places.{answer_at, after_at, written_at};
 ghost use Rattle.sockets.specs.Icmp.{send_answer, send_after};
 ghost use Rattle.sockets.specs.SocketValue.{recv_answer, recv_after, recv_written};
-ghost use Rattle.c_sockets.specs.Controls.{act_answer, act_after};
-ghost use Rattle.c_sockets.specs.Codes.{coded, of_send, of_recv};
+ghost use Rattle.c_calls.specs.Codes.{coded, of_send, of_recv};
+ghost use Rattle.c_calls.specs.Controls.{act_answer, act_after};
 ghost use Rattle.c_calls.specs.Added.{MakesSocket, new_icmp};
 
+use crate::code::{Code, of_bind, of_recv, of_send};
 use crate::host::Host;
-use c_sockets::control::{self, Act};
-use c_sockets::{Code, queues};
+use crate::kinds::lent;
+use crate::made::{limit_of, queues};
+use interface::SocketSet;
 use ip_wire::IpAddress;
 use sockets::{Socket, icmp};
+
+/// A call that answers nothing but whether it was done.
+#[derive(Clone, Copy)]
+pub enum Act {
+    /// Binds the socket: from now on the messages of this endpoint are for it.
+    Bind(icmp::Endpoint),
+    /// Sets the hop limit, 0 for 64.
+    HopLimit(u8),
+}
+
+fn act_on(socket: &mut icmp::Socket, act: Act) -> Result<(), Code>
+    ensures answer { result ≡ act_answer act socket.old }
+    ensures after { socket.new ≡ act_after act socket.old }
+{
+    match act {
+        Act::Bind(endpoint) => match socket.bind(endpoint) {
+            Ok(()) => Ok(()),
+            Err(error) => Err(of_bind(error)),
+        },
+        Act::HopLimit(limit) => {
+            socket.set_hop_limit(limit_of(limit));
+            Ok(())
+        }
+    }
+}
+
+/// Does a call that answers nothing but whether it was done.
+pub fn perform(sockets: &mut SocketSet<Socket>, place: usize, act: Act) -> Result<(), Code>
+    ensures answer { result ≡ answer_at as_icmp (act_answer act) (places sockets.old) place }
+    ensures after { places sockets.new ≡ after_at as_icmp Kind.Icmp (act_after act) (places sockets.old) place }
+    ensures fixed { is_fixed sockets.new ≡ is_fixed sockets.old }
+{
+    match lent::<icmp::Socket>(sockets, place) {
+        Ok(socket) => act_on(socket, act),
+        Err(code) => Err(code),
+    }
+}
+
+/// Queues a message.
+pub fn send(
+    sockets: &mut SocketSet<Socket>,
+    place: usize,
+    bytes: &[u8],
+    remote: IpAddress,
+) -> Result<(), Code>
+    ensures answer { result ≡ answer_at as_icmp (λ v. coded of_send (send_answer v remote (length bytes.now))) (places sockets.old) place }
+    ensures after { places sockets.new ≡ after_at as_icmp Kind.Icmp (λ v. send_after v remote bytes.now) (places sockets.old) place }
+    ensures fixed { is_fixed sockets.new ≡ is_fixed sockets.old }
+{
+    match lent::<icmp::Socket>(sockets, place) {
+        Ok(socket) => queue(socket, bytes, remote),
+        Err(code) => Err(code),
+    }
+}
+
+fn queue(socket: &mut icmp::Socket, bytes: &[u8], remote: IpAddress) -> Result<(), Code>
+    ensures answer { result ≡ coded of_send (send_answer socket.old remote (length bytes.now)) }
+    ensures after { socket.new ≡ send_after socket.old remote bytes.now }
+{
+    match socket.send_slice(bytes, remote) {
+        Ok(answer) => Ok(answer),
+        Err(error) => Err(of_send(error)),
+    }
+}
+
+/// Reads the first message to the front of the slice.
+pub fn recv(
+    sockets: &mut SocketSet<Socket>,
+    place: usize,
+    out: &mut [u8],
+) -> Result<(usize, IpAddress), Code>
+    ensures answer { result ≡ answer_at as_icmp (λ v. coded of_recv (recv_answer v (length out.old))) (places sockets.old) place }
+    ensures after { places sockets.new ≡ after_at as_icmp Kind.Icmp (recv_after) (places sockets.old) place }
+    ensures read { out.new ≡ written_at as_icmp recv_written out.old (places sockets.old) place }
+    ensures fixed { is_fixed sockets.new ≡ is_fixed sockets.old }
+{
+    match lent::<icmp::Socket>(sockets, place) {
+        Ok(socket) => read(socket, out),
+        Err(code) => Err(code),
+    }
+}
+
+fn read(socket: &mut icmp::Socket, out: &mut [u8]) -> Result<(usize, IpAddress), Code>
+    ensures answer { result ≡ coded of_recv (recv_answer socket.old (length out.old)) }
+    ensures after { socket.new ≡ recv_after socket.old }
+    ensures read { out.new ≡ recv_written socket.old out.old }
+{
+    match socket.recv_slice(out) {
+        Ok(answer) => Ok(answer),
+        Err(error) => Err(of_recv(error)),
+    }
+}
 
 impl Host {
     /// A socket with room for so many messages, of so many bytes together, each way.
@@ -31,7 +126,7 @@ impl Host {
         ensures answer { result ≡ answer_at as_icmp (act_answer act) self.old.places place }
         ensures after { self.new ≡ record self.old { places = after_at as_icmp Kind.Icmp (act_after act) self.old.places place } }
     {
-        control::perform(&mut self.sockets, place, act)
+        perform(&mut self.sockets, place, act)
     }
 
     /// Queues a message. Its checksum is written when it is sent.
@@ -39,7 +134,7 @@ impl Host {
         ensures answer { result ≡ answer_at as_icmp (λ v. coded of_send (send_answer v remote (length bytes.now))) self.old.places place }
         ensures after { self.new ≡ record self.old { places = after_at as_icmp Kind.Icmp (λ v. send_after v remote bytes.now) self.old.places place } }
     {
-        control::send(&mut self.sockets, place, bytes, remote)
+        send(&mut self.sockets, place, bytes, remote)
     }
 
     /// Reads the first message to the front of the slice.
@@ -48,6 +143,6 @@ impl Host {
         ensures after { self.new ≡ record self.old { places = after_at as_icmp Kind.Icmp (recv_after) self.old.places place } }
         ensures read { out.new ≡ written_at as_icmp recv_written out.old self.old.places place }
     {
-        control::recv(&mut self.sockets, place, out)
+        recv(&mut self.sockets, place, out)
     }
 }

@@ -1,19 +1,121 @@
 //! Calls of UDP sockets.
 ghost use Rattle.std.specs.Prelude.{◌≡◌, length};
+ghost use Rattle.interface.specs.Set.{places, is_fixed};
 ghost use Rattle.sockets.specs.AnySocket.{as_udp};
 ghost use Rattle.sockets.specs.declared.socket.Socket.TheVariants as Kind;
-ghost use Rattle.c_sockets.specs.Places.{answer_at, after_at, written_at};
+ghost use Rattle.c_calls.specs.Places.{answer_at, after_at, written_at};
 ghost use Rattle.sockets.specs.Udp.{send_answer, send_after};
 ghost use Rattle.sockets.specs.SocketValue.{recv_answer, recv_after, recv_written};
-ghost use Rattle.c_sockets.specs.Codes.{coded, of_send, of_recv};
-ghost use Rattle.c_sockets.specs.Datagrams.{act_answer, act_after};
+ghost use Rattle.c_calls.specs.Codes.{coded, of_send, of_recv};
+ghost use Rattle.c_calls.specs.Datagrams.{act_answer, act_after};
 ghost use Rattle.c_calls.specs.Added.{MakesSocket, new_udp};
 
+use crate::code::{Code, of_bind, of_recv, of_send};
 use crate::host::Host;
-use c_sockets::datagrams::{self, Act};
-use c_sockets::{Code, queues};
+use crate::kinds::lent;
+use crate::made::{limit_of, queues};
+use interface::SocketSet;
+use ip_wire::IpListenEndpoint;
 use sockets::Socket;
 use sockets::udp::{self, UdpMetadata};
+
+/// A call that answers nothing but whether it was done.
+#[derive(Clone, Copy)]
+pub enum Act {
+    /// Binds the socket to a port, of one own address or of all.
+    Bind(IpListenEndpoint),
+    /// Sets the hop limit, 0 for 64.
+    HopLimit(u8),
+    /// Unbinds the socket, and empties its queues.
+    Close,
+}
+
+fn act_on(socket: &mut udp::Socket, act: Act) -> Result<(), Code>
+    ensures answer { result ≡ act_answer act socket.old }
+    ensures after { socket.new ≡ act_after act socket.old }
+{
+    match act {
+        Act::Bind(endpoint) => match socket.bind(endpoint) {
+            Ok(()) => Ok(()),
+            Err(error) => Err(of_bind(error)),
+        },
+        Act::HopLimit(limit) => {
+            socket.set_hop_limit(limit_of(limit));
+            Ok(())
+        }
+        Act::Close => {
+            socket.close();
+            Ok(())
+        }
+    }
+}
+
+/// Does a call that answers nothing but whether it was done.
+pub fn perform(sockets: &mut SocketSet<Socket>, place: usize, act: Act) -> Result<(), Code>
+    ensures answer { result ≡ answer_at as_udp (act_answer act) (places sockets.old) place }
+    ensures after { places sockets.new ≡ after_at as_udp Kind.Udp (act_after act) (places sockets.old) place }
+    ensures fixed { is_fixed sockets.new ≡ is_fixed sockets.old }
+{
+    match lent::<udp::Socket>(sockets, place) {
+        Ok(socket) => act_on(socket, act),
+        Err(code) => Err(code),
+    }
+}
+
+/// Queues a datagram.
+pub fn send(
+    sockets: &mut SocketSet<Socket>,
+    place: usize,
+    bytes: &[u8],
+    metadata: UdpMetadata,
+) -> Result<(), Code>
+    ensures answer { result ≡ answer_at as_udp (λ v. coded of_send (send_answer v metadata (length bytes.now))) (places sockets.old) place }
+    ensures after { places sockets.new ≡ after_at as_udp Kind.Udp (λ v. send_after v metadata bytes.now) (places sockets.old) place }
+    ensures fixed { is_fixed sockets.new ≡ is_fixed sockets.old }
+{
+    match lent::<udp::Socket>(sockets, place) {
+        Ok(socket) => queue(socket, bytes, metadata),
+        Err(code) => Err(code),
+    }
+}
+
+fn queue(socket: &mut udp::Socket, bytes: &[u8], metadata: UdpMetadata) -> Result<(), Code>
+    ensures answer { result ≡ coded of_send (send_answer socket.old metadata (length bytes.now)) }
+    ensures after { socket.new ≡ send_after socket.old metadata bytes.now }
+{
+    match socket.send_slice(bytes, metadata) {
+        Ok(answer) => Ok(answer),
+        Err(error) => Err(of_send(error)),
+    }
+}
+
+/// Reads the first datagram to the front of the slice.
+pub fn recv(
+    sockets: &mut SocketSet<Socket>,
+    place: usize,
+    out: &mut [u8],
+) -> Result<(usize, UdpMetadata), Code>
+    ensures answer { result ≡ answer_at as_udp (λ v. coded of_recv (recv_answer v (length out.old))) (places sockets.old) place }
+    ensures after { places sockets.new ≡ after_at as_udp Kind.Udp (recv_after) (places sockets.old) place }
+    ensures read { out.new ≡ written_at as_udp recv_written out.old (places sockets.old) place }
+    ensures fixed { is_fixed sockets.new ≡ is_fixed sockets.old }
+{
+    match lent::<udp::Socket>(sockets, place) {
+        Ok(socket) => read(socket, out),
+        Err(code) => Err(code),
+    }
+}
+
+fn read(socket: &mut udp::Socket, out: &mut [u8]) -> Result<(usize, UdpMetadata), Code>
+    ensures answer { result ≡ coded of_recv (recv_answer socket.old (length out.old)) }
+    ensures after { socket.new ≡ recv_after socket.old }
+    ensures read { out.new ≡ recv_written socket.old out.old }
+{
+    match socket.recv_slice(out) {
+        Ok(answer) => Ok(answer),
+        Err(error) => Err(of_recv(error)),
+    }
+}
 
 impl Host {
     /// A socket with room for so many datagrams, of so many bytes together, each way.
@@ -31,7 +133,7 @@ impl Host {
         ensures answer { result ≡ answer_at as_udp (act_answer act) self.old.places place }
         ensures after { self.new ≡ record self.old { places = after_at as_udp Kind.Udp (act_after act) self.old.places place } }
     {
-        datagrams::perform(&mut self.sockets, place, act)
+        perform(&mut self.sockets, place, act)
     }
 
     /// Queues a datagram.
@@ -44,7 +146,7 @@ impl Host {
         ensures answer { result ≡ answer_at as_udp (λ v. coded of_send (send_answer v metadata (length bytes.now))) self.old.places place }
         ensures after { self.new ≡ record self.old { places = after_at as_udp Kind.Udp (λ v. send_after v metadata bytes.now) self.old.places place } }
     {
-        datagrams::send(&mut self.sockets, place, bytes, metadata)
+        send(&mut self.sockets, place, bytes, metadata)
     }
 
     /// Reads the first datagram to the front of the slice.
@@ -53,6 +155,6 @@ impl Host {
         ensures after { self.new ≡ record self.old { places = after_at as_udp Kind.Udp (recv_after) self.old.places place } }
         ensures read { out.new ≡ written_at as_udp recv_written out.old self.old.places place }
     {
-        datagrams::recv(&mut self.sockets, place, out)
+        recv(&mut self.sockets, place, out)
     }
 }

@@ -2,16 +2,15 @@
 ghost use Rattle.std.specs.Prelude.{◌≡◌, length, slice_set};
 ghost use Rattle.interface.specs.Set.{places, is_fixed, free};
 ghost use Rattle.c_link.specs.Link.{next_len, fetch_answer, fetched};
-ghost use Rattle.c_sockets.specs.Codes.{coded};
+ghost use Rattle.c_calls.specs.Codes.{coded};
 ghost use Rattle.c_calls.specs.Calls.{counted, NewHost, TakesFrame, fetched_from, or_empty, PollsAt, AsksAt, device_of, config_of};
 ghost use Rattle.c_calls.specs.Added.{MakesSocket};
 ghost use Rattle.c_calls.specs.Backlogs.{may_be_removed, removed_by};
 ghost use Rattle.c_calls.specs.Codes.{of_fetch};
 
 use crate::backlogs::{is_in_backlog, refresh_all};
-use crate::code::{of_fetch, of_new, of_push};
+use crate::code::{Code, of_fetch, of_new, of_push};
 use c_link::FrameLink;
-use c_sockets::Code;
 use interface::{AddError, Config, Interface, PollResult, SocketHandle, SocketSet};
 use ip_wire::{EthernetAddress, HardwareAddress};
 use net_base::{ChecksumCapabilities, DeviceCapabilities, Instant, ManagedSlice, Medium};

@@ -1,16 +1,27 @@
 //! A host with its calls, each of which answers whatever numbers, moments and sockets it is given: what the static library
 //! `zemplovir_c` passes on to C.
+//!
+//! Calls of the sockets at a host's places answer a code where there is no socket, or one of another kind, and those of its clients of DHCP
+//! and DNS one where there is none. Each stands twice, of the sockets or of the client alone and as a method of a host.
 #![tactic(auto)]
 
 mod backlogs;
+mod carrying;
 mod code;
 mod configuring;
-mod control;
-mod datagrams;
+pub mod control;
+pub mod datagrams;
 mod host;
-mod packets;
-mod streams;
+mod kinds;
+pub mod leases;
+pub mod looks;
+mod made;
+pub mod names;
+pub mod packets;
+pub mod streams;
 mod tables;
 
-pub use c_sockets::{Code, Sending};
+pub use carrying::Sending;
+pub use code::Code;
 pub use host::{Counters, Host, Settings};
+pub use made::{queues, rings};

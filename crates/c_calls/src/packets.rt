@@ -1,17 +1,67 @@
 //! Calls of raw sockets.
 ghost use Rattle.std.specs.Prelude.{◌≡◌, length};
+ghost use Rattle.interface.specs.Set.{places, is_fixed};
 ghost use Rattle.sockets.specs.AnySocket.{as_raw};
 ghost use Rattle.sockets.specs.declared.socket.Socket.TheVariants as Kind;
-ghost use Rattle.c_sockets.specs.Places.{answer_at, after_at, written_at};
+ghost use Rattle.c_calls.specs.Places.{answer_at, after_at, written_at};
 ghost use Rattle.sockets.specs.Raw.{send_answer, send_after, counted};
 ghost use Rattle.sockets.specs.SocketValue.{recv_answer, recv_after, recv_written};
-ghost use Rattle.c_sockets.specs.Codes.{coded, of_raw_send, of_recv};
+ghost use Rattle.c_calls.specs.Codes.{coded, of_raw_send, of_recv};
 ghost use Rattle.c_calls.specs.Added.{MakesSocket, new_raw};
 
+use crate::code::{Code, of_raw_send, of_recv};
 use crate::host::Host;
-use c_sockets::{Code, packets, queues};
+use crate::kinds::lent;
+use crate::made::queues;
+use interface::SocketSet;
 use ip_wire::{IpProtocol, IpVersion};
 use sockets::{Socket, raw};
+
+/// Queues a packet with its IP header.
+pub fn send(sockets: &mut SocketSet<Socket>, place: usize, bytes: &[u8]) -> Result<(), Code>
+    ensures answer { result ≡ answer_at as_raw (λ v. coded of_raw_send (send_answer v (length bytes.now))) (places sockets.old) place }
+    ensures after { places sockets.new ≡ after_at as_raw Kind.Raw (λ v. send_after v bytes.now) (places sockets.old) place }
+    ensures fixed { is_fixed sockets.new ≡ is_fixed sockets.old }
+{
+    match lent::<raw::Socket>(sockets, place) {
+        Ok(socket) => queue(socket, bytes),
+        Err(code) => Err(code),
+    }
+}
+
+fn queue(socket: &mut raw::Socket, bytes: &[u8]) -> Result<(), Code>
+    ensures answer { result ≡ coded of_raw_send (send_answer socket.old (length bytes.now)) }
+    ensures after { socket.new ≡ send_after socket.old bytes.now }
+{
+    match socket.send_slice(bytes) {
+        Ok(answer) => Ok(answer),
+        Err(error) => Err(of_raw_send(error)),
+    }
+}
+
+/// Reads the first packet to the front of the slice.
+pub fn recv(sockets: &mut SocketSet<Socket>, place: usize, out: &mut [u8]) -> Result<usize, Code>
+    ensures answer { result ≡ answer_at as_raw (λ v. coded of_recv (counted (recv_answer v (length out.old)))) (places sockets.old) place }
+    ensures after { places sockets.new ≡ after_at as_raw Kind.Raw (recv_after) (places sockets.old) place }
+    ensures read { out.new ≡ written_at as_raw recv_written out.old (places sockets.old) place }
+    ensures fixed { is_fixed sockets.new ≡ is_fixed sockets.old }
+{
+    match lent::<raw::Socket>(sockets, place) {
+        Ok(socket) => read(socket, out),
+        Err(code) => Err(code),
+    }
+}
+
+fn read(socket: &mut raw::Socket, out: &mut [u8]) -> Result<usize, Code>
+    ensures answer { result ≡ coded of_recv (counted (recv_answer socket.old (length out.old))) }
+    ensures after { socket.new ≡ recv_after socket.old }
+    ensures read { out.new ≡ recv_written socket.old out.old }
+{
+    match socket.recv_slice(out) {
+        Ok(answer) => Ok(answer),
+        Err(error) => Err(of_recv(error)),
+    }
+}
 
 impl Host {
     /// A socket with room for so many packets, of so many bytes together, each way.
@@ -35,7 +85,7 @@ impl Host {
         ensures answer { result ≡ answer_at as_raw (λ v. coded of_raw_send (send_answer v (length bytes.now))) self.old.places place }
         ensures after { self.new ≡ record self.old { places = after_at as_raw Kind.Raw (λ v. send_after v bytes.now) self.old.places place } }
     {
-        packets::send(&mut self.sockets, place, bytes)
+        send(&mut self.sockets, place, bytes)
     }
 
     /// Reads the first packet to the front of the slice, and answers its length.
@@ -44,6 +94,6 @@ impl Host {
         ensures after { self.new ≡ record self.old { places = after_at as_raw Kind.Raw (recv_after) self.old.places place } }
         ensures read { out.new ≡ written_at as_raw recv_written out.old self.old.places place }
     {
-        packets::recv(&mut self.sockets, place, out)
+        recv(&mut self.sockets, place, out)
     }
 }

@@ -1,22 +1,212 @@
 //! Calls of TCP sockets.
-ghost use Rattle.std.specs.Prelude.{◌≡◌, length, Ok, Err, MatchResult};
+ghost use Rattle.std.specs.Prelude.{◌≡◌, length, min, if◌then◌else◌, IfOk, Ok, Err, MatchResult};
+ghost use Rattle.interface.specs.Set.{places, is_fixed};
 ghost use Rattle.sockets.specs.AnySocket.{as_tcp};
 ghost use Rattle.sockets.specs.declared.socket.Socket.TheVariants as Kind;
-ghost use Rattle.c_sockets.specs.Places.{answer_at, after_at, written_at};
+ghost use Rattle.c_calls.specs.Places.{answer_at, after_at, written_at, draws_at};
+ghost use Rattle.sockets.specs.Context.{ContextValue};
 ghost use Rattle.sockets.specs.TcpCalls.{connect_answer, connect_after, connect_draws, send_answer, send_after, recv_answer};
+ghost use Rattle.c_calls.specs.Codes.{coded, of_connect, of_stream_send, of_stream_recv};
+ghost use Rattle.c_calls.specs.Streams.{act_answer, act_after, read_after, read_written, done_answer, done_after, peeked, state_in, ends_in, queues_in};
 ghost use Rattle.interface.specs.Inner.{context_of, drawn};
 ghost use Rattle.interface.specs.Made.{with_inner};
-ghost use Rattle.std.specs.Prelude.{if◌then◌else◌};
-ghost use Rattle.c_sockets.specs.Codes.{coded, of_connect, of_stream_send, of_stream_recv};
-ghost use Rattle.c_sockets.specs.Places.{draws_at};
-ghost use Rattle.c_sockets.specs.Streams.{act_answer, act_after, read_after, read_written, done_answer, done_after, peeked, state_in, ends_in, queues_in};
 ghost use Rattle.c_calls.specs.Added.{MakesStream};
 
+use crate::code::{Code, of_connect, of_listen, of_stream_recv, of_stream_send};
 use crate::host::Host;
-use c_sockets::streams::{self, Act};
-use c_sockets::{Code, looks, rings};
-use ip_wire::{IpEndpoint, IpListenEndpoint};
-use sockets::{Socket, tcp};
+use crate::kinds::lent;
+use crate::looks;
+use crate::made::{limit_of, rings};
+use interface::SocketSet;
+use ip_wire::{IpEndpoint, IpListenEndpoint, TcpTimestampGenerator};
+use net_base::Duration;
+use sockets::tcp::{self, CongestionControl};
+use sockets::{Context, Socket};
+
+/// A call that answers nothing but whether it was done.
+#[derive(Clone, Copy)]
+pub enum Act {
+    /// Opens the socket for a connection that a remote opens, to one own address or to any.
+    Listen(IpListenEndpoint),
+    /// Closes the way out.
+    Close,
+    /// Ends the connection.
+    Abort,
+    /// Sets how long the remote may be silent while something waits for it.
+    Timeout(Option<Duration>),
+    /// Sets the interval of keep-alives.
+    KeepAlive(Option<Duration>),
+    /// Sets the delay of an acknowledgement.
+    AckDelay(Option<Duration>),
+    /// Sets how long a segment waits for its acknowledgement at least until it goes again.
+    MinRto(Duration),
+    /// Sets whether round trips are taken in microseconds.
+    FineTimer(bool),
+    /// Sets whether small segments wait while others are in flight.
+    Nagle(bool),
+    /// Sets the hop limit, 0 for 64.
+    HopLimit(u8),
+    /// Sets after how many timeouts without an answer the connection gives up, if ever.
+    Retries(Option<u8>),
+    /// Sets where timestamps come from.
+    Timestamps(Option<TcpTimestampGenerator>),
+    /// Sets whether the answer to a SYN waits.
+    PauseSynack(bool),
+    /// Sets how what is sent is held back where congestion may be.
+    Congestion(CongestionControl),
+}
+
+fn act_on(socket: &mut tcp::Socket, act: Act) -> Result<(), Code>
+    ensures answer { result ≡ act_answer act socket.old }
+    ensures after { socket.new ≡ act_after act socket.old }
+{
+    match act {
+        Act::Listen(endpoint) => {
+            return match socket.listen(endpoint) {
+                Ok(()) => Ok(()),
+                Err(error) => Err(of_listen(error)),
+            };
+        }
+        Act::Close => socket.close(),
+        Act::Abort => socket.abort(),
+        Act::Timeout(duration) => socket.set_timeout(duration),
+        Act::KeepAlive(interval) => socket.set_keep_alive(interval),
+        Act::AckDelay(delay) => socket.set_ack_delay(delay),
+        Act::MinRto(duration) => socket.set_min_rto(duration),
+        Act::FineTimer(fine) => socket.set_fine_timer(fine),
+        Act::Nagle(enabled) => socket.set_nagle_enabled(enabled),
+        Act::HopLimit(limit) => socket.set_hop_limit(limit_of(limit)),
+        Act::Retries(limit) => socket.set_retries(limit),
+        Act::Timestamps(generator) => socket.set_tsval_generator(generator),
+        Act::PauseSynack(paused) => socket.pause_synack(paused),
+        Act::Congestion(control) => socket.set_congestion_control(control),
+    }
+    Ok(())
+}
+
+/// Does a call that answers nothing but whether it was done.
+pub fn perform(sockets: &mut SocketSet<Socket>, place: usize, act: Act) -> Result<(), Code>
+    ensures answer { result ≡ answer_at as_tcp (act_answer act) (places sockets.old) place }
+    ensures after { places sockets.new ≡ after_at as_tcp Kind.Tcp (act_after act) (places sockets.old) place }
+    ensures fixed { is_fixed sockets.new ≡ is_fixed sockets.old }
+{
+    match lent::<tcp::Socket>(sockets, place) {
+        Ok(socket) => act_on(socket, act),
+        Err(code) => Err(code),
+    }
+}
+
+/// Opens a connection to a remote. A connection that is opened draws a random word from the context.
+pub fn connect<C: Context>(
+    sockets: &mut SocketSet<Socket>,
+    place: usize,
+    cx: &mut C,
+    remote: IpEndpoint,
+    local: IpListenEndpoint,
+) -> Result<(), Code>
+    ensures answer { result ≡ answer_at as_tcp (λ v. coded of_connect (connect_answer (C.context cx.old) v remote local)) (places sockets.old) place }
+    ensures after { places sockets.new ≡ after_at as_tcp Kind.Tcp (λ v. connect_after (C.context cx.old) v remote local) (places sockets.old) place }
+    ensures drawn { cx.new ≡ (if draws_at as_tcp (λ v. connect_draws (C.context cx.old) v remote local) (places sockets.old) place then C.drawn cx.old else cx.old) }
+    ensures fixed { is_fixed sockets.new ≡ is_fixed sockets.old }
+{
+    match lent::<tcp::Socket>(sockets, place) {
+        Ok(socket) => open(socket, cx, remote, local),
+        Err(code) => Err(code),
+    }
+}
+
+fn open<C: Context>(
+    socket: &mut tcp::Socket,
+    cx: &mut C,
+    remote: IpEndpoint,
+    local: IpListenEndpoint,
+) -> Result<(), Code>
+    ensures answer { result ≡ coded of_connect (connect_answer (C.context cx.old) socket.old remote local) }
+    ensures after { socket.new ≡ connect_after (C.context cx.old) socket.old remote local }
+    ensures drawn { cx.new ≡ (if connect_draws (C.context cx.old) socket.old remote local then C.drawn cx.old else cx.old) }
+{
+    match socket.connect(cx, remote, local) {
+        Ok(answer) => Ok(answer),
+        Err(error) => Err(of_connect(error)),
+    }
+}
+
+/// Queues as many of the bytes as there is room for, and answers how many.
+pub fn send(sockets: &mut SocketSet<Socket>, place: usize, bytes: &[u8]) -> Result<usize, Code>
+    ensures answer { result ≡ answer_at as_tcp (λ v. coded of_stream_send (send_answer v (length bytes.now))) (places sockets.old) place }
+    ensures after { places sockets.new ≡ after_at as_tcp Kind.Tcp (λ v. send_after v bytes.now) (places sockets.old) place }
+    ensures fixed { is_fixed sockets.new ≡ is_fixed sockets.old }
+{
+    match lent::<tcp::Socket>(sockets, place) {
+        Ok(socket) => queue(socket, bytes),
+        Err(code) => Err(code),
+    }
+}
+
+fn queue(socket: &mut tcp::Socket, bytes: &[u8]) -> Result<usize, Code>
+    ensures answer { result ≡ coded of_stream_send (send_answer socket.old (length bytes.now)) }
+    ensures after { socket.new ≡ send_after socket.old bytes.now }
+{
+    match socket.send_slice(bytes) {
+        Ok(answer) => Ok(answer),
+        Err(error) => Err(of_stream_send(error)),
+    }
+}
+
+/// Reads waiting bytes to the front of the slice, and answers how many.
+pub fn recv(sockets: &mut SocketSet<Socket>, place: usize, out: &mut [u8]) -> Result<usize, Code>
+    ensures answer { result ≡ answer_at as_tcp (λ v. coded of_stream_recv (recv_answer v (length out.old))) (places sockets.old) place }
+    ensures after { places sockets.new ≡ after_at as_tcp Kind.Tcp (λ v. read_after v (length out.old)) (places sockets.old) place }
+    ensures read { out.new ≡ written_at as_tcp read_written out.old (places sockets.old) place }
+    ensures fixed { is_fixed sockets.new ≡ is_fixed sockets.old }
+{
+    match lent::<tcp::Socket>(sockets, place) {
+        Ok(socket) => read(socket, out),
+        Err(code) => Err(code),
+    }
+}
+
+fn read(socket: &mut tcp::Socket, out: &mut [u8]) -> Result<usize, Code>
+    ensures answer { result ≡ coded of_stream_recv (recv_answer socket.old (length out.old)) }
+    ensures after { socket.new ≡ read_after socket.old (length out.old) }
+    ensures read { out.new ≡ read_written socket.old out.old }
+{
+    match socket.recv_slice(out) {
+        Ok(answer) => Ok(answer),
+        Err(error) => Err(of_stream_recv(error)),
+    }
+}
+
+/// Gives up the first waiting bytes, at most so many and as many as lie behind one another. Answers how many.
+pub fn done(sockets: &mut SocketSet<Socket>, place: usize, count: usize) -> Result<usize, Code>
+    ensures answer { result ≡ answer_at as_tcp (done_answer count) (places sockets.old) place }
+    ensures after { places sockets.new ≡ after_at as_tcp Kind.Tcp (done_after count) (places sockets.old) place }
+    ensures fixed { is_fixed sockets.new ≡ is_fixed sockets.old }
+{
+    match lent::<tcp::Socket>(sockets, place) {
+        Ok(socket) => give_up(socket, count),
+        Err(code) => Err(code),
+    }
+}
+
+fn give_up(socket: &mut tcp::Socket, count: usize) -> Result<usize, Code>
+    ensures answer { result ≡ done_answer count socket.old }
+    ensures after { socket.new ≡ done_after count socket.old }
+{
+    match socket.recv(|waiting| first_of(waiting, count)) {
+        Ok(read) => Ok(read),
+        Err(error) => Err(of_stream_recv(error)),
+    }
+}
+
+/// How many of the bytes, at most so many, twice.
+fn first_of(bytes: &[u8], count: usize) -> (usize, usize)
+    ensures first { result.0 ≡ min (length bytes.now) count }
+    ensures second { result.1 ≡ result.0 }
+{
+    let read = bytes.len().min(count);
+    (read, read)
+}
 
 /// The most bytes that a buffer of a stream may have.
 const MOST: usize = 1 << 30;
@@ -40,7 +230,7 @@ impl Host {
         ensures answer { result ≡ answer_at as_tcp (act_answer act) self.old.places place }
         ensures after { self.new ≡ record self.old { places = after_at as_tcp Kind.Tcp (act_after act) self.old.places place } }
     {
-        streams::perform(&mut self.sockets, place, act)
+        perform(&mut self.sockets, place, act)
     }
 
     /// Opens a connection to a remote, from a port of one own address or of the one that the host chooses.
@@ -58,7 +248,7 @@ impl Host {
           places = after_at as_tcp Kind.Tcp (λ v. connect_after (context_of self.old.host.inner) v remote local) self.old.places place;
         } }
     {
-        streams::connect(&mut self.sockets, place, &mut self.interface, remote, local)
+        connect(&mut self.sockets, place, &mut self.interface, remote, local)
     }
 
     /// Queues as many of the bytes as there is room for, and answers how many.
@@ -66,7 +256,7 @@ impl Host {
         ensures answer { result ≡ answer_at as_tcp (λ v. coded of_stream_send (send_answer v (length bytes.now))) self.old.places place }
         ensures after { self.new ≡ record self.old { places = after_at as_tcp Kind.Tcp (λ v. send_after v bytes.now) self.old.places place } }
     {
-        streams::send(&mut self.sockets, place, bytes)
+        send(&mut self.sockets, place, bytes)
     }
 
     /// Reads waiting bytes to the front of the slice, and answers how many.
@@ -75,7 +265,7 @@ impl Host {
         ensures after { self.new ≡ record self.old { places = after_at as_tcp Kind.Tcp (λ v. read_after v (length out.old)) self.old.places place } }
         ensures read { out.new ≡ written_at as_tcp read_written out.old self.old.places place }
     {
-        streams::recv(&mut self.sockets, place, out)
+        recv(&mut self.sockets, place, out)
     }
 
     /// Gives up the first waiting bytes, at most so many and as many as lie behind one another. Answers how many.
@@ -83,7 +273,7 @@ impl Host {
         ensures answer { result ≡ answer_at as_tcp (done_answer count) self.old.places place }
         ensures after { self.new ≡ record self.old { places = after_at as_tcp Kind.Tcp (done_after count) self.old.places place } }
     {
-        streams::done(&mut self.sockets, place, count)
+        done(&mut self.sockets, place, count)
     }
 
     /// Lends the first waiting bytes, as many as lie behind one another.

@@ -6,9 +6,9 @@ ghost use Rattle.interface.specs.Settings.{hardware_refusal, with_hardware, with
 ghost use Rattle.c_calls.specs.Tables.{is_address, is_block, pushed, removed, own_with, own_without, routes_with, routes_without};
 ghost use Rattle.c_calls.specs.Tables.{with_own, with_table, own_in, table_in, route_to, is_done, of_hardware, hardware_answer, UpdatesHardware, SetsSlots};
 
+use crate::code::Code;
 use crate::host::Host;
 use arrayvec::ArrayVec;
-use c_sockets::Code;
 use interface::{HardwareAddrError, Interface, Route, Routes, TABLE_ROOM};
 use ip_wire::{EthernetAddress, HardwareAddress, IpAddress, IpCidr};
 use net_base::{Duration, Instant};

@@ -2,8 +2,8 @@
 use Rattle.std.proofs.Common.{◌≡◌, List, ℕ, Result, Err, Option, Some, sym, ap, subst, ◌∙◌}
 use Rattle.std.specs.Str.{IsUtf8}
 use Rattle.dns_wire.specs.declared.codes.DnsQueryType.{DnsQueryType}
-use Rattle.c_sockets.specs.declared.code.Code.{Code}
-use Rattle.c_sockets.specs.declared.code.Code.TheVariants as Is
+use Rattle.c_calls.specs.declared.code.Code.{Code}
+use Rattle.c_calls.specs.declared.code.Code.TheVariants as Is
 use Rattle.c_calls.specs.Configuring.{AsksName}
 use Rattle.c_calls.specs.Host.{StackValue}
 use Rattle.zemplovir_c.specs.Answers.{Acts, after_by, number_by}

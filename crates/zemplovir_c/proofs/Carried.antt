@@ -2,8 +2,8 @@
 use Rattle.std.proofs.Common.{◌≡◌, ℕ, List, Option, Some, sym, subst}
 use Rattle.std.specs.Prelude.{Result}
 use Rattle.c_calls.specs.Host.{StackValue}
-use Rattle.c_sockets.specs.declared.carrying.Sending.{Sending}
-use Rattle.c_sockets.specs.declared.code.Code.{Code}
+use Rattle.c_calls.specs.declared.carrying.Sending.{Sending}
+use Rattle.c_calls.specs.declared.code.Code.{Code}
 use Rattle.zemplovir_c.specs.Answers.{number_by}
 use Rattle.zemplovir_c.specs.Configuring.{Carried, Carries, count_given, remote_given, local_given}
 

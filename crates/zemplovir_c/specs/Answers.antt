@@ -1,8 +1,8 @@
 -- What C gets of a call: a number, and what it asked for behind a pointer.
 use Rattle.std.specs.Prelude.{◌≡◌, ℕ, ◌^◌, ◌-◌, ◌==◌, if◌then◌else◌, Option, None, Some, Result, Ok, Err}
 use Rattle.c_calls.specs.Host.{StackValue}
-use Rattle.c_sockets.specs.Codes.{number_of}
-use Rattle.c_sockets.specs.declared.code.Code.{Code}
+use Rattle.c_calls.specs.Codes.{number_of}
+use Rattle.c_calls.specs.declared.code.Code.{Code}
 
 -- a handle without a host
 abbrev pub no_host : ℕ

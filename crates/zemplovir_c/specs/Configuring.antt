@@ -13,9 +13,9 @@ use Rattle.sockets.specs.PollAt.{PollAt}
 use Rattle.sockets.specs.PollAt.TheVariants as At
 use Rattle.c_calls.specs.Configuring.{AsksName}
 use Rattle.c_calls.specs.Host.{StackValue}
-use Rattle.c_sockets.specs.declared.carrying.Sending.{Sending}
-use Rattle.c_sockets.specs.declared.code.Code.{Code}
-use Rattle.c_sockets.specs.declared.code.Code.TheVariants as Is
+use Rattle.c_calls.specs.declared.carrying.Sending.{Sending}
+use Rattle.c_calls.specs.declared.code.Code.{Code}
+use Rattle.c_calls.specs.declared.code.Code.TheVariants as Is
 use Rattle.zemplovir_c.specs.Answers.{no_host, number_by, given, mapped}
 use Rattle.zemplovir_c.specs.Values.{address_out, address_or_none, no_address, endpoint_out}
 use Rattle.zemplovir_c.specs.declared.types.Address.{Address}

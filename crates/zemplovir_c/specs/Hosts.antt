@@ -7,9 +7,9 @@ use Rattle.std.specs.declared.alloc.Global.{Global}
 use Rattle.c_calls.specs.Calls.{NewHost}
 use Rattle.c_calls.specs.Host.{StackValue}
 use Rattle.c_calls.specs.declared.host.Settings as Host
-use Rattle.c_sockets.specs.Codes.{number_of}
-use Rattle.c_sockets.specs.declared.code.Code.{Code}
-use Rattle.c_sockets.specs.declared.code.Code.TheVariants as Is
+use Rattle.c_calls.specs.Codes.{number_of}
+use Rattle.c_calls.specs.declared.code.Code.{Code}
+use Rattle.c_calls.specs.declared.code.Code.TheVariants as Is
 use Rattle.zemplovir_c.specs.Answers.{number_by}
 
 abbrev pub held_by : Result StackValue Code → Option StackValue

@@ -17,8 +17,8 @@ use Rattle.sockets.specs.CongestionControl.TheVariants as Control
 use Rattle.sockets.specs.UdpMetadata.{UdpMetadata}
 use Rattle.sockets.specs.State.{State}
 use Rattle.sockets.specs.State.TheVariants as At
-use Rattle.c_sockets.specs.declared.code.Code.{Code}
-use Rattle.c_sockets.specs.declared.code.Code.TheVariants as Is
+use Rattle.c_calls.specs.declared.code.Code.{Code}
+use Rattle.c_calls.specs.declared.code.Code.TheVariants as Is
 use Rattle.c_calls.specs.declared.host.Counters as Host_counters
 use Rattle.c_calls.specs.declared.host.Settings as Host
 use Rattle.zemplovir_c.specs.declared.types.Counters.{Counters}

@@ -2,15 +2,15 @@
 ghost use Rattle.std.specs.Prelude.{◌≡◌};
 ghost use Rattle.sockets.specs.AnySocket.{as_tcp, as_udp, as_icmp};
 ghost use Rattle.sockets.specs.declared.socket.Socket.TheVariants as Kind;
-ghost use Rattle.c_sockets.specs.Places.{answer_at, after_at};
-ghost use Rattle.c_sockets.specs.Streams as Streams;
-ghost use Rattle.c_sockets.specs.Datagrams as Datagrams;
-ghost use Rattle.c_sockets.specs.Controls as Controls;
+ghost use Rattle.c_calls.specs.Places.{answer_at, after_at};
+ghost use Rattle.c_calls.specs.Streams as Streams;
+ghost use Rattle.c_calls.specs.Datagrams as Datagrams;
+ghost use Rattle.c_calls.specs.Controls as Controls;
 ghost use Rattle.zemplovir_c.specs.Answers.{answer_by, after_by};
 
 use crate::answers::{NO_HOST, done};
 use crate::handle::Handle;
-use c_sockets::{control, datagrams, streams};
+use c_calls::{control, datagrams, streams};
 use std::alloc::Global;
 
 /// A call of a TCP socket that answers nothing but whether it was done.

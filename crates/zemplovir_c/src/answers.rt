@@ -2,7 +2,7 @@
 ghost use Rattle.std.specs.Prelude.{◌≡◌};
 ghost use Rattle.zemplovir_c.specs.Answers.{no_host, number_by, given};
 
-use c_sockets::Code;
+use c_calls::Code;
 
 /// Done.
 pub(crate) const OK: u32 = 0;

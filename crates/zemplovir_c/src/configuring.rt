@@ -1,9 +1,9 @@
 //! The clients of DHCP and DNS.
 ghost use Rattle.std.specs.Prelude.{◌≡◌};
-ghost use Rattle.c_sockets.specs.Leases.{dhcp_answer, dhcp_made, told_answer, told_after};
-ghost use Rattle.c_sockets.specs.Leases as Leases;
-ghost use Rattle.c_sockets.specs.Names.{query_made, found_answer, found_after};
-ghost use Rattle.c_sockets.specs.Names as Names;
+ghost use Rattle.c_calls.specs.Leases.{dhcp_answer, dhcp_made, told_answer, told_after};
+ghost use Rattle.c_calls.specs.Leases as Leases;
+ghost use Rattle.c_calls.specs.Names.{query_made, found_answer, found_after};
+ghost use Rattle.c_calls.specs.Names as Names;
 ghost use Rattle.c_calls.specs.Configuring.{LeaseArrives, LeaseGoes, AnswerArrives, QueryGoes};
 ghost use Rattle.zemplovir_c.specs.Answers.{all_done, answer_by, after_by, given_by, mapped, number_by, checked_answer, checked, Acts, Where};
 ghost use Rattle.zemplovir_c.specs.Configuring.{v4_out, v4_or_none, configured_out, lease_out, addresses_out, due_out, kind_of, servers_of, NameIsAsked};
@@ -16,8 +16,7 @@ use crate::types::{
     Address, Addresses, Endpoint, Lease, NO_ADDRESS, optional, required, required_endpoint, said,
     said_endpoint, said_or_none,
 };
-use c_calls::Host;
-use c_sockets::{Code, Sending};
+use c_calls::{Code, Host, Sending};
 use ip_wire::{IpAddress, Ipv4Address};
 use net_base::Instant;
 use sockets::PollAt;

@@ -4,10 +4,10 @@ ghost use Rattle.sockets.specs.AnySocket.{as_udp};
 ghost use Rattle.sockets.specs.Udp.{send_answer, send_after};
 ghost use Rattle.sockets.specs.SocketValue.{recv_answer, recv_after, recv_written};
 ghost use Rattle.sockets.specs.declared.socket.Socket.TheVariants as Kind;
-ghost use Rattle.c_sockets.specs.Codes.{coded, of_send, of_recv};
-ghost use Rattle.c_sockets.specs.Places.{answer_at, after_at, written_at};
-ghost use Rattle.c_sockets.specs.Datagrams.{act_answer, act_after};
-ghost use Rattle.c_sockets.specs.declared.datagrams.Act.TheVariants as To;
+ghost use Rattle.c_calls.specs.Codes.{coded, of_send, of_recv};
+ghost use Rattle.c_calls.specs.Places.{answer_at, after_at, written_at};
+ghost use Rattle.c_calls.specs.Datagrams.{act_answer, act_after};
+ghost use Rattle.c_calls.specs.declared.datagrams.Act.TheVariants as To;
 ghost use Rattle.c_calls.specs.Added.{MakesSocket, new_udp};
 ghost use Rattle.zemplovir_c.specs.Answers.{answer_by, after_by, given_by, written_by, mapped, checked_answer, checked, Gives};
 ghost use Rattle.zemplovir_c.specs.Values.{optional_in, endpoint_in, listens_at, metadata, endpoint_out, address_or_none};
@@ -18,7 +18,7 @@ use crate::handle::Handle;
 use crate::types::{
     Address, Endpoint, listens_at, optional, required_endpoint, said_endpoint, said_or_none,
 };
-use c_sockets::datagrams::Act;
+use c_calls::datagrams::Act;
 use ip_wire::{IpAddress, IpEndpoint};
 use net_base::PacketMeta;
 use sockets::udp::UdpMetadata;

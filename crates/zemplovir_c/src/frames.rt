@@ -1,7 +1,7 @@
 //! Hosts, frames and polls.
 ghost use Rattle.std.specs.Prelude.{◌≡◌, length, None, Ok};
 ghost use Rattle.c_calls.specs.Link.{fetch_answer, fetched, next_len};
-ghost use Rattle.c_sockets.specs.Codes.{coded};
+ghost use Rattle.c_calls.specs.Codes.{coded};
 ghost use Rattle.c_calls.specs.Calls.{fetched_from, or_empty, TakesFrame, PollsAt, AsksAt};
 ghost use Rattle.c_calls.specs.Codes.{of_fetch};
 ghost use Rattle.c_calls.specs.Backlogs.{may_be_removed, removed_by};
@@ -12,8 +12,7 @@ ghost use Rattle.zemplovir_c.specs.Values.{hardware_in, key_in, settings_in, bit
 use crate::answers::{NO_HOST, OK, done, given};
 use crate::handle::Handle;
 use crate::types::{Counters, Settings};
-use c_calls::Host;
-use c_sockets::Code;
+use c_calls::{Code, Host};
 use ip_wire::EthernetAddress;
 use net_base::Instant;
 use std::alloc::Global;

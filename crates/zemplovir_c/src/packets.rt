@@ -4,15 +4,15 @@ ghost use Rattle.sockets.specs.AnySocket.{as_raw};
 ghost use Rattle.sockets.specs.Raw.{send_answer, send_after, counted};
 ghost use Rattle.sockets.specs.SocketValue.{recv_answer, recv_after, recv_written};
 ghost use Rattle.sockets.specs.declared.socket.Socket.TheVariants as Kind;
-ghost use Rattle.c_sockets.specs.Codes.{coded, of_raw_send, of_recv};
-ghost use Rattle.c_sockets.specs.Places.{answer_at, after_at, written_at};
+ghost use Rattle.c_calls.specs.Codes.{coded, of_raw_send, of_recv};
+ghost use Rattle.c_calls.specs.Places.{answer_at, after_at, written_at};
 ghost use Rattle.c_calls.specs.Added.{MakesSocket, new_raw};
 ghost use Rattle.zemplovir_c.specs.Answers.{answer_by, after_by, given_by, written_by, Gives, Where};
 ghost use Rattle.zemplovir_c.specs.Values.{version_in, byte_or_none, protocol_in};
 
 use crate::answers::{NO_HOST, done, given};
 use crate::handle::Handle;
-use c_sockets::Code;
+use c_calls::Code;
 use ip_wire::{IpProtocol, IpVersion};
 use std::alloc::Global;
 

@@ -2,15 +2,15 @@
 ghost use Rattle.std.specs.Prelude.{◌≡◌};
 ghost use Rattle.sockets.specs.AnySocket.{as_tcp};
 ghost use Rattle.sockets.specs.declared.socket.Socket.TheVariants as Kind;
-ghost use Rattle.c_sockets.specs.Places.{answer_at, after_at};
-ghost use Rattle.c_sockets.specs.Streams.{act_answer, act_after};
-ghost use Rattle.c_sockets.specs.declared.streams.Act.TheVariants as To;
+ghost use Rattle.c_calls.specs.Places.{answer_at, after_at};
+ghost use Rattle.c_calls.specs.Streams.{act_answer, act_after};
+ghost use Rattle.c_calls.specs.declared.streams.Act.TheVariants as To;
 ghost use Rattle.zemplovir_c.specs.Answers.{answer_by, after_by};
 ghost use Rattle.zemplovir_c.specs.Values.{duration_of, is_on, byte_or_none, control_of, generator_of};
 
 use crate::acts::tcp_act;
 use crate::handle::Handle;
-use c_sockets::streams::Act;
+use c_calls::streams::Act;
 use ip_wire::TcpTimestampGenerator;
 use net_base::Duration;
 use sockets::tcp::CongestionControl;

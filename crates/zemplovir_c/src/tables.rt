@@ -5,7 +5,7 @@ ghost use Rattle.interface.specs.Settings.{hardware_refusal, with_hardware, with
 ghost use Rattle.ip_wire.specs.HardwareAddress.TheVariants as Station;
 ghost use Rattle.ip_wire.specs.IpCidr.{IpCidr as Block};
 ghost use Rattle.std.specs.Prelude.{Result, Ok};
-ghost use Rattle.c_sockets.specs.declared.code.Code.{Code as Refusal};
+ghost use Rattle.c_calls.specs.declared.code.Code.{Code as Refusal};
 ghost use Rattle.c_calls.specs.Tables.{is_done, own_with, own_without, routes_with, routes_without, with_own, with_table, route_to, hardware_answer};
 ghost use Rattle.c_calls.specs.Tables.{UpdatesHardware, SetsSlots};
 ghost use Rattle.zemplovir_c.specs.Answers.{all_done, answer_by, after_by, checked_answer, checked, Acts, Gives};

@@ -3,7 +3,7 @@ ghost use Rattle.std.specs.Prelude.{◌≡◌};
 ghost use Rattle.zemplovir_c.specs.Hosts.{IsBlockBy, IsBlockOf};
 ghost use Rattle.zemplovir_c.specs.Values.{v4_in, optional_in, required_in, endpoint_in, address_out, address_or_none, endpoint_out, listens_at};
 
-use c_sockets::Code;
+use c_calls::Code;
 use ip_wire::{IpAddress, IpCidr, IpEndpoint, IpListenEndpoint, Ipv4Address, Ipv6Address};
 
 /// An address: its family, 4 or 6, 0 for none; and its bytes, of which the first 4 count where the family is 4.

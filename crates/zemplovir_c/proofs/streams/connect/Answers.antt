@@ -5,7 +5,7 @@ use Rattle.interface.specs.Made.{with_inner}
 use Rattle.sockets.specs.AnySocket.{as_tcp}
 use Rattle.sockets.specs.TcpCalls.{connect_after, connect_draws}
 use Rattle.sockets.specs.declared.socket.Socket.TheVariants as Kind
-use Rattle.c_sockets.specs.Places.{after_at, draws_at}
+use Rattle.c_calls.specs.Places.{after_at, draws_at}
 use Rattle.c_calls.specs.Host.{StackValue}
 use Rattle.zemplovir_c.proofs.Asked.{called}
 use Rattle.zemplovir_c.proofs.streams.connect.Goals as goal

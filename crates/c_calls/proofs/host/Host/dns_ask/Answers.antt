@@ -1,7 +1,7 @@
 use Rattle.std.proofs.Common.{◌≡◌, ap, subst, ◌∙◌}
 use Rattle.interface.specs.Host.{HostValue}
 use Rattle.interface.specs.Inner.{context_of}
-use Rattle.c_sockets.specs.Names.{Asks}
+use Rattle.c_calls.specs.Names.{Asks}
 use Rattle.c_calls.specs.Configuring.{two_drawn}
 use Rattle.c_calls.specs.Host.{StackValue}
 use Rattle.c_calls.specs.contracts.host.Host.{the_view}

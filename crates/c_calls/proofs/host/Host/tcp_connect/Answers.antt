@@ -3,8 +3,8 @@ use Rattle.interface.specs.Inner.{context_of}
 use Rattle.interface.specs.Set.{places}
 use Rattle.sockets.specs.AnySocket.{as_tcp}
 use Rattle.sockets.specs.TcpCalls.{connect_answer}
-use Rattle.c_sockets.specs.Codes.{coded, of_connect}
-use Rattle.c_sockets.specs.Places.{answer_at}
+use Rattle.c_calls.specs.Codes.{coded, of_connect}
+use Rattle.c_calls.specs.Places.{answer_at}
 use Rattle.c_calls.proofs.Connecting.{connects}
 use Rattle.c_calls.specs.Host.{StackValue}
 use Rattle.c_calls.specs.contracts.host.Host.{the_view}

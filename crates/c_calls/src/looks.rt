@@ -1,0 +1,76 @@
+//! What a TCP socket tells of itself.
+ghost use Rattle.std.specs.Prelude.{◌≡◌, MatchResult, Ok, Err};
+ghost use Rattle.interface.specs.Set.{places};
+ghost use Rattle.sockets.specs.AnySocket.{as_tcp};
+ghost use Rattle.c_calls.specs.Places.{answer_at};
+ghost use Rattle.c_calls.specs.Streams.{peeked, state_in, ends_in, queues_in};
+
+use crate::code::{Code, of_stream_recv};
+use crate::kinds::seen;
+use interface::SocketSet;
+use ip_wire::IpEndpoint;
+use sockets::Socket;
+use sockets::tcp::{self, State};
+
+/// The state of the connection.
+pub fn state(sockets: &SocketSet<Socket>, place: usize) -> Result<State, Code>
+    ensures { result ≡ answer_at as_tcp state_in (places sockets.now) place }
+{
+    match seen::<tcp::Socket>(sockets, place) {
+        Ok(socket) => Ok(socket.state()),
+        Err(code) => Err(code),
+    }
+}
+
+/// The own endpoint of the connection and the remote's.
+pub fn ends(sockets: &SocketSet<Socket>, place: usize) -> Result<(IpEndpoint, IpEndpoint), Code>
+    ensures { result ≡ answer_at as_tcp ends_in (places sockets.now) place }
+{
+    match seen::<tcp::Socket>(sockets, place) {
+        Ok(socket) => both_ends(socket),
+        Err(code) => Err(code),
+    }
+}
+
+fn both_ends(socket: &tcp::Socket) -> Result<(IpEndpoint, IpEndpoint), Code>
+    ensures { result ≡ ends_in socket.now }
+{
+    let Some(own) = socket.local_endpoint() else {
+        return Err(Code::InvalidState);
+    };
+    match socket.remote_endpoint() {
+        Some(remote) => Ok((own, remote)),
+        None => Err(Code::InvalidState),
+    }
+}
+
+/// How many bytes wait to be read, and how many are queued that aren't acknowledged.
+pub fn queues(sockets: &SocketSet<Socket>, place: usize) -> Result<(usize, usize), Code>
+    ensures { result ≡ answer_at as_tcp queues_in (places sockets.now) place }
+{
+    match seen::<tcp::Socket>(sockets, place) {
+        Ok(socket) => Ok((socket.recv_queue(), socket.send_queue())),
+        Err(code) => Err(code),
+    }
+}
+
+/// Lends the first waiting bytes, as many as lie behind one another.
+pub fn peek(sockets: &SocketSet<Socket>, place: usize) -> Result<&[u8], Code>
+    ensures { MatchResult result
+        (λ bytes. answer_at as_tcp peeked (places sockets.now) place ≡ Ok bytes.now)
+        (λ code. answer_at as_tcp peeked (places sockets.now) place ≡ Err code) }
+{
+    match seen::<tcp::Socket>(sockets, place) {
+        Ok(socket) => first_bytes(socket),
+        Err(code) => Err(code),
+    }
+}
+
+fn first_bytes(socket: &tcp::Socket) -> Result<&[u8], Code>
+    ensures { MatchResult result (λ bytes. peeked socket.now ≡ Ok bytes.now) (λ code. peeked socket.now ≡ Err code) }
+{
+    match socket.peek(usize::MAX) {
+        Ok(bytes) => Ok(bytes),
+        Err(error) => Err(of_stream_recv(error)),
+    }
+}
