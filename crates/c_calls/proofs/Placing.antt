@@ -3,7 +3,7 @@ use Rattle.std.proofs.Common.{◌≡◌, ℕ, ◌<◌, List, length, Option, Non
 use Rattle.std.specs.Prelude.{slice_get, slice_set, slice_index_or}
 use Rattle.std.proofs.lemmas.List.{set-get_or}
 use Rattle.std.proofs.lemmas.Option.{slice_get_read}
-use Rattle.tcp_listener.specs.declared.listener.Listener.{Listener}
+use Rattle.interface.specs.declared.listener.Listener.{Listener}
 use Rattle.c_calls.specs.declared.code.Code.{Code}
 use Rattle.c_calls.specs.Backlogs.{listener_in, listener_at, with_listener, WhereThere, OnListener}
 use Rattle.c_calls.specs.Host.{StackValue}

@@ -11,9 +11,9 @@ use Rattle.sockets.specs.AnySocket.{as_tcp}
 use Rattle.sockets.specs.TcpValue.{TcpValue}
 use Rattle.sockets.specs.declared.socket.Socket.{Socket}
 use Rattle.sockets.specs.TcpStates.{is_closed}
-use Rattle.tcp_listener.specs.Calls.{fresh_entry, Refreshes, Accepts, given_back}
-use Rattle.tcp_listener.specs.declared.entry.Entry.{Entry}
-use Rattle.tcp_listener.specs.declared.listener.Listener.{Listener}
+use Rattle.interface.specs.Backlog.Calls.{fresh_entry, Refreshes, Accepts, given_back}
+use Rattle.interface.specs.declared.listener.entry.Entry.{Entry}
+use Rattle.interface.specs.declared.listener.Listener.{Listener}
 use Rattle.c_calls.specs.Places.{answer_at}
 use Rattle.c_calls.specs.declared.code.Code.{Code}
 use Rattle.c_calls.specs.declared.code.Code.TheVariants as Is

@@ -26,7 +26,7 @@ use Rattle.interface.specs.Inner.{at_moment}
 use Rattle.interface.specs.Config.{Config}
 use Rattle.interface.specs.NewError.{NewError}
 use Rattle.sockets.specs.declared.socket.Socket.{Socket}
-use Rattle.tcp_listener.specs.Calls.{micros_of}
+use Rattle.interface.specs.Backlog.Calls.{micros_of}
 use Rattle.c_calls.specs.Backlogs.{RefreshesAll}
 use Rattle.c_calls.specs.Codes.{of_new, of_push, of_fetch}
 use Rattle.c_calls.specs.Host.{StackValue}

@@ -5,7 +5,7 @@ use Rattle.c_calls.specs.declared.host.Counters.{Counters}
 use Rattle.interface.specs.Host.{HostValue}
 use Rattle.interface.specs.SocketStorage.{SocketStorage}
 use Rattle.sockets.specs.declared.socket.Socket.{Socket}
-use Rattle.tcp_listener.specs.declared.listener.Listener.{Listener}
+use Rattle.interface.specs.declared.listener.Listener.{Listener}
 use Rattle.sockets.specs.DhcpValue.{DhcpValue}
 use Rattle.sockets.specs.DnsValue.{DnsValue}
 

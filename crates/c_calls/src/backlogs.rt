@@ -2,8 +2,8 @@
 ghost use Rattle.std.specs.Prelude.{◌≡◌, ◌==◌, position, is_none, IfOk, Err, Ok};
 ghost use Rattle.std.specs.List.{list_any};
 ghost use Rattle.interface.specs.Set.{places, is_fixed};
-ghost use Rattle.tcp_listener.specs.Calls.{micros_of};
-ghost use Rattle.tcp_listener.specs.declared.entry.Entry.{Entry};
+ghost use Rattle.interface.specs.Backlog.Calls.{micros_of};
+ghost use Rattle.interface.specs.declared.listener.entry.Entry.{Entry};
 ghost use Rattle.interface.specs.SocketHandle.{SocketHandle as Handle};
 ghost use Rattle.sockets.specs.AnySocket.{as_tcp};
 ghost use Rattle.c_calls.specs.Places.{answer_at};
@@ -14,12 +14,12 @@ ghost use Rattle.c_calls.specs.Backlogs.{GivenBack, AcceptsFrom, GivesBack, list
 use crate::code::Code;
 use crate::host::Host;
 use crate::looks;
-use interface::{SocketHandle, SocketSet};
+use interface::listener::Entry;
+use interface::{Listener, SocketHandle, SocketSet};
 use ip_wire::IpListenEndpoint;
 use net_base::Instant;
 use sockets::Socket;
 use sockets::tcp::State;
-use tcp_listener::{Entry, Listener};
 
 /// How many listeners a host has at most.
 const MOST_LISTENERS: usize = 16;

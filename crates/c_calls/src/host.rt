@@ -11,13 +11,12 @@ ghost use Rattle.c_calls.specs.Codes.{of_fetch};
 use crate::backlogs::{is_in_backlog, refresh_all};
 use crate::code::{Code, of_fetch, of_new, of_push};
 use c_link::FrameLink;
-use interface::{AddError, Config, Interface, PollResult, SocketHandle, SocketSet};
+use interface::{AddError, Config, Interface, Listener, PollResult, SocketHandle, SocketSet};
 use ip_wire::{EthernetAddress, HardwareAddress};
 use net_base::{ChecksumCapabilities, DeviceCapabilities, Instant, ManagedSlice, Medium};
 use sockets::{Socket, dhcp, dns};
 use std::alloc::Global;
 use std::marker::Model;
-use tcp_listener::Listener;
 
 /// What a host is made with.
 #[derive(Clone, Copy)]

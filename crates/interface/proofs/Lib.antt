@@ -36,3 +36,4 @@ pub mod Arrives
 pub mod Named
 pub mod Offered
 pub mod Stays
+pub mod Backlog

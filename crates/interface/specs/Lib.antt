@@ -23,6 +23,7 @@ pub mod ByKind
 pub mod Delivered
 pub mod Taken
 pub mod Medium
+pub mod Backlog
 pub use Rattle.interface_egress.specs.Set
 pub use Rattle.interface_tables.specs.Settings
 pub use Rattle.interface_egress.specs.Departing

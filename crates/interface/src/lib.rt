@@ -1,4 +1,4 @@
-//! An interface: a host at a device, whose sockets take turns to send, and receive.
+//! An interface: a host at a device, whose sockets take turns to send, and receive. A listener with a backlog, over the sockets of one.
 //!
 //! It passes on what is set at it and lies in it: `interface_tables` and `interface_egress`.
 #![tactic(auto)]
@@ -11,6 +11,7 @@ mod by_kind;
 pub mod delivery_laws;
 mod host;
 mod instant;
+pub mod listener;
 mod passes;
 mod poll;
 pub mod poll_laws;
@@ -27,6 +28,7 @@ pub use interface_egress::{
     NewError, NotUnicast, Route, RouteTableFull, Routes, SocketHandle, SocketSet, SocketStorage,
     TABLE_ROOM,
 };
+pub use listener::Listener;
 pub use passes::pass;
 pub use poll::{PollIngressSingleResult, PollResult};
 pub use send_to::{SendToError, Sending};

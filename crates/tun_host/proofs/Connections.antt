@@ -15,14 +15,14 @@ use Rattle.tun_host.specs.declared.counts.Counts.{Counts}
 use Rattle.tun_host.specs.declared.site.Session.{Session}
 use Rattle.sockets.specs.declared.socket.Socket.{Socket}
 use Rattle.ip_wire.specs.IpListenEndpoint.{IpListenEndpoint}
-use Rattle.tcp_listener.specs.Calls.{fresh_entry, accepted, given_back, Refreshes}
-use Rattle.tcp_listener.specs.Entries.{entry_at, no_entry}
-use Rattle.tcp_listener.specs.GivesWay.{Freed, GivesWay}
-use Rattle.tcp_listener.specs.Noted.{place_at}
-use Rattle.tcp_listener.specs.Stages.{is_accepted, is_open}
-use Rattle.tcp_listener.specs.declared.entry.Entry.{Entry}
-use Rattle.tcp_listener.specs.declared.listener.Listener.{Listener}
-use Rattle.tcp_listener.specs.declared.stage.Stage.TheVariants as Stage
+use Rattle.interface.specs.Backlog.Calls.{fresh_entry, accepted, given_back, Refreshes}
+use Rattle.interface.specs.Backlog.Entries.{entry_at, no_entry}
+use Rattle.interface.specs.Backlog.GivesWay.{Freed, GivesWay}
+use Rattle.interface.specs.Backlog.Noted.{place_at}
+use Rattle.interface.specs.Backlog.Stages.{is_accepted, is_open}
+use Rattle.interface.specs.declared.listener.entry.Entry.{Entry}
+use Rattle.interface.specs.declared.listener.Listener.{Listener}
+use Rattle.interface.specs.declared.listener.stage.Stage.TheVariants as Stage
 use Rattle.tun_host.specs.Backlogs.{session_at, session_after, on_port, handle, keepers_of, IsListener, StandsFrom, AreFreshEntries, ended_if, EntryServesBy}
 use Rattle.tun_host.specs.Backlogs.{EntryServes, BacklogServes, back_if, ServesAt, OneServesBy, OneServes}
 use Rattle.tun_host.specs.Services.{first_place, socket_count, port_of, PlaceServes, is_over}

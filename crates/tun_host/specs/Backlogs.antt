@@ -8,13 +8,13 @@ use Rattle.tun_host.specs.Site.{fresh_session}
 use Rattle.tun_host.specs.declared.counts.Counts.{Counts}
 use Rattle.tun_host.specs.declared.site.Session.{Session}
 use Rattle.sockets.specs.declared.socket.Socket.{Socket}
-use Rattle.tcp_listener.specs.Calls.{fresh_entry, given_back}
-use Rattle.tcp_listener.specs.Entries.{entry_at}
-use Rattle.tcp_listener.specs.Noted.{place_at}
-use Rattle.tcp_listener.specs.Stages.{is_accepted}
-use Rattle.tcp_listener.specs.declared.entry.Entry.{Entry}
-use Rattle.tcp_listener.specs.declared.listener.Listener.{Listener}
-use Rattle.tcp_listener.specs.declared.stage.Stage.TheVariants as Stage
+use Rattle.interface.specs.Backlog.Calls.{fresh_entry, given_back}
+use Rattle.interface.specs.Backlog.Entries.{entry_at}
+use Rattle.interface.specs.Backlog.Noted.{place_at}
+use Rattle.interface.specs.Backlog.Stages.{is_accepted}
+use Rattle.interface.specs.declared.listener.entry.Entry.{Entry}
+use Rattle.interface.specs.declared.listener.Listener.{Listener}
+use Rattle.interface.specs.declared.listener.stage.Stage.TheVariants as Stage
 use Rattle.tun_host.specs.Services.{first_place, socket_count, keeper_place, port_of, PlaceServes, is_over}
 use Rattle.tun_host.specs.declared.place.Service.{Service}
 use Rattle.tun_host.specs.declared.tally.Tally.{Tally}

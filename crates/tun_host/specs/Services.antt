@@ -9,7 +9,7 @@ use Rattle.tun_host.specs.declared.site.Session.{Session}
 use Rattle.sockets.specs.declared.socket.Socket.{Socket}
 use Rattle.sockets.specs.declared.socket.Socket.TheVariants as Is
 use Rattle.sockets.specs.TcpStates.{takes_writes}
-use Rattle.tcp_listener.specs.Noted.{place_at}
+use Rattle.interface.specs.Backlog.Noted.{place_at}
 use Rattle.tun_host.specs.declared.place.Service.{Service}
 use Rattle.tun_host.specs.declared.place.Service.TheVariants.{Datagrams, Streams, Page, Keeper}
 use Rattle.tun_host.specs.declared.place.TheConstants.{ECHO_PORT, PAGE_PORT}

@@ -2,8 +2,8 @@
 use Rattle.std.specs.Prelude.{ℕ, ◌+◌, ◌^◌, ◌-◌, min, List, [], ◌∷◌, count_by, fold}
 use Rattle.tun_host.specs.declared.counts.Counts.{Counts}
 use Rattle.tun_host.specs.declared.site.Session.{Session}
-use Rattle.tcp_listener.specs.Stages.{is_open}
-use Rattle.tcp_listener.specs.declared.entry.Entry.{Entry}
+use Rattle.interface.specs.Backlog.Stages.{is_open}
+use Rattle.interface.specs.declared.listener.entry.Entry.{Entry}
 use Rattle.tun_host.specs.declared.tally.Tally.{Tally}
 use Rattle.tun_link.specs.Drain.{DrainValue}
 

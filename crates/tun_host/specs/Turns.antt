@@ -9,8 +9,8 @@ use Rattle.interface.specs.SocketStorage.{SocketStorage}
 use Rattle.interface_tables.specs.Inner.{at_moment}
 use Rattle.sockets.specs.declared.socket.Socket.{Socket}
 use Rattle.tun_host.specs.Begins.{Begins, RefusesSettings}
-use Rattle.tcp_listener.specs.Calls.{micros_of, Refreshes, accepted}
-use Rattle.tcp_listener.specs.declared.entry.Entry.{Entry}
+use Rattle.interface.specs.Backlog.Calls.{micros_of, Refreshes, accepted}
+use Rattle.interface.specs.declared.listener.entry.Entry.{Entry}
 use Rattle.tun_host.specs.Backlogs.{on_port, keepers_of, IsListener, HostState, BacklogServes}
 use Rattle.tun_host.specs.declared.counts.Counts.{Counts}
 use Rattle.tun_host.specs.declared.site.Session.{Session}

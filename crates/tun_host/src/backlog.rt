@@ -1,6 +1,6 @@
 //! The connections of a service: its listener, and what the service makes of those that were accepted.
 ghost use Rattle.std.specs.Prelude.{◌≡◌, ◌<◌, length, map, slice_set, IfOk};
-ghost use Rattle.tcp_listener.specs.Calls.{accepted};
+ghost use Rattle.interface.specs.Backlog.Calls.{accepted};
 ghost use Rattle.tun_host.specs.Services.{echo_room, most_request, first_place, socket_count, FirstServes};
 ghost use Rattle.tun_host.specs.Backlogs.{StandAt, IsFreshListener, session_at, session_after, back_if, ServesAt, OneServes, BacklogServes};
 
@@ -9,11 +9,10 @@ use crate::place::{
     Service, first_place, is_over, keeper_place, port_of, serve_place, socket_count,
 };
 use crate::site::Session;
-use interface::{SocketHandle, SocketStorage};
+use interface::{Listener, SocketHandle, SocketStorage};
 use ip_wire::IpListenEndpoint;
 use sockets::Socket;
 use std::alloc::{AllocError, Global};
-use tcp_listener::Listener;
 
 /// The listener of a service at its places, with its keeper.
 pub fn listener(alloc: Global, service: Service) -> Result<Listener, AllocError>

@@ -22,12 +22,11 @@ use crate::settings::Settings;
 use crate::site::Session;
 use crate::sockets_of::{ROOM, sockets};
 use crate::tally::Tally;
-use interface::{Interface, PollResult, SocketSet, SocketStorage};
+use interface::{Interface, Listener, PollResult, SocketSet, SocketStorage};
 use net_base::{Instant, ManagedSlice};
 use sockets::Socket;
 use std::alloc::{AllocError, Global};
 use std::io::Write;
-use tcp_listener::Listener;
 use tun_link::{Drain, write_answer};
 
 /// How many frames a poll takes, and how many passes over the sockets it makes, at most.

@@ -1,11 +1,12 @@
 //! What a host counts beside its device.
 ghost use Rattle.std.specs.Prelude.{◌≡◌, length, map, count_by};
-ghost use Rattle.tcp_listener.specs.Stages.{is_open};
+ghost use Rattle.interface.specs.Backlog.Stages.{is_open};
 ghost use Rattle.tun_host.specs.Tallies.{no_more, tally_with, collected, counts_of, more_waiting, open_count};
 
 use crate::counts::Counts;
 use crate::site::Session;
-use tcp_listener::{Entry, Listener};
+use interface::Listener;
+use interface::listener::Entry;
 use tun_link::Drain;
 
 /// Connections that were accepted, and requests that were answered, each to the largest number of 64 bits.

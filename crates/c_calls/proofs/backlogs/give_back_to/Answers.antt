@@ -1,6 +1,6 @@
 use Rattle.std.proofs.Common.{◌≡◌, ℕ, map, Some, Ok, refl, ap, subst, ◌∙◌}
-use Rattle.tcp_listener.specs.Calls.{given_back}
-use Rattle.tcp_listener.specs.declared.listener.Listener.{Listener}
+use Rattle.interface.specs.Backlog.Calls.{given_back}
+use Rattle.interface.specs.declared.listener.Listener.{Listener}
 use Rattle.c_calls.specs.Backlogs.{WhereThere, GivenBack, IsGivenBack, handle}
 use Rattle.c_calls.proofs.backlogs.give_back_to.Goals as goal
 

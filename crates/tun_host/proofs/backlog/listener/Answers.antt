@@ -1,7 +1,7 @@
 use Rattle.std.proofs.Common.{◌≡◌, ℕ, ◌+◌, List, [], ◌∷◌, ◌++◌, arith, ap, sym, subst, ◌∙◌, refl}
 use Rattle.interface.specs.SocketHandle.{SocketHandle}
-use Rattle.tcp_listener.specs.Calls.{fresh_entry}
-use Rattle.tcp_listener.specs.declared.entry.Entry.{Entry}
+use Rattle.interface.specs.Backlog.Calls.{fresh_entry}
+use Rattle.interface.specs.declared.listener.entry.Entry.{Entry}
 use Rattle.ip_wire.specs.IpListenEndpoint.{IpListenEndpoint}
 use Rattle.tun_host.specs.Backlogs.{handle, on_port, AreFreshEntries}
 use Rattle.tun_host.specs.Services.{first_place, socket_count, keeper_place}

@@ -1,6 +1,6 @@
 use Rattle.std.proofs.Common.{◌≡◌, ◌<◌, length, vec_len, rules, arith, ap, ◌∙◌, sym, refl}
 use Rattle.std.proofs.lemmas.Grind.{common_steps}
-use Rattle.tcp_listener.specs.declared.listener.Listener.{Listener}
+use Rattle.interface.specs.declared.listener.Listener.{Listener}
 use Rattle.tun_host.specs.Services.{echo_room, most_request, first_place, socket_count}
 use Rattle.tun_host.proofs.Connections.{served_none, served_more, served_all}
 use Rattle.tun_host.proofs.backlog.serve_accepted.Goals as goal

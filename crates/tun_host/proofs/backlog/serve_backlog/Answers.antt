@@ -1,6 +1,6 @@
 use Rattle.std.proofs.Common.{◌≡◌, List, subst, sym, ap, ◌∙◌}
-use Rattle.tcp_listener.specs.declared.entry.Entry.{Entry}
-use Rattle.tcp_listener.specs.declared.listener.Listener.{Listener}
+use Rattle.interface.specs.declared.listener.entry.Entry.{Entry}
+use Rattle.interface.specs.declared.listener.Listener.{Listener}
 use Rattle.tun_host.specs.Backlogs.{StandAt, BacklogServes}
 use Rattle.tun_host.specs.Services.{first_place, socket_count}
 use Rattle.tun_host.proofs.Connections.{accepted_stand}

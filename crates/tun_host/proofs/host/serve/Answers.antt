@@ -1,6 +1,6 @@
 use Rattle.std.proofs.Common.{◌≡◌, ◌∙◌, ap, subst, refl}
 use Rattle.interface.specs.Set.{places}
-use Rattle.tcp_listener.specs.Calls.{micros_of}
+use Rattle.interface.specs.Backlog.Calls.{micros_of}
 use Rattle.tun_host.specs.declared.counts.Counts.{Counts}
 use Rattle.tun_host.specs.Tallies.{counts_of, more_waiting, collected}
 use Rattle.tun_host.specs.Turns.{served_of, ServicesServe}

@@ -1,6 +1,6 @@
 use Rattle.std.proofs.Common.{◌≡◌, ◌∙◌, refl, ap, rules, arith}
 use Rattle.std.proofs.lemmas.Grind.{common_steps}
-use Rattle.tcp_listener.specs.declared.listener.Listener.{Listener}
+use Rattle.interface.specs.declared.listener.Listener.{Listener}
 use Rattle.tun_link.specs.Drain.{fresh_drain}
 use Rattle.tun_host.specs.Backlogs.{IsFreshListener}
 use Rattle.tun_host.specs.declared.place.Service.TheVariants.{Streams, Page}

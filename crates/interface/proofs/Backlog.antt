@@ -1,0 +1,5 @@
+-- A listener with a backlog.
+pub mod Older
+pub mod Relisting
+pub mod Seen
+pub mod Back

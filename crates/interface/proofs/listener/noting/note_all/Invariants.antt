@@ -1,0 +1,5 @@
+use Rattle.interface.proofs.Backlog.Seen.{NotedTo}
+use Rattle.interface.proofs.listener.noting.note_all.Given as goal
+
+abbrev pub invariant-loop-i : goal.invariant-loop-i
+invariant-loop-i l = NotedTo l.i l.endpoint l.now l.initial.places.items l.initial.entries.items l.places.items l.entries.items

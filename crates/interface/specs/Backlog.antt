@@ -1,0 +1,8 @@
+-- A listener with a backlog.
+pub mod Stages
+pub mod Entries
+pub mod Oldest
+pub mod Noted
+pub mod GivesWay
+pub mod Kept
+pub mod Calls

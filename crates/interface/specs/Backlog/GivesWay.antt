@@ -1,0 +1,66 @@
+-- Which socket of a backlog gives way, where none is free.
+use Rattle.std.specs.Prelude.{◌≡◌, ℕ, ◌-◌, ◌≤◌, ◌<◌, ◌⊎◌, List, length, slice_set, Option, Some, None}
+use Rattle.interface_egress.specs.declared.socket_set.Item.{Item}
+use Rattle.interface_egress.specs.declared.socket_set.SocketHandle.{SocketHandle}
+use Rattle.interface_egress.specs.declared.socket_set.SocketStorage.{SocketStorage}
+use Rattle.ip_wire.specs.IpListenEndpoint.{IpListenEndpoint}
+use Rattle.sockets.specs.declared.socket.Socket.{Socket}
+use Rattle.sockets.specs.declared.socket.Socket.TheVariants as Kind
+use Rattle.sockets.specs.TcpCalls.{listen_after, abort_after}
+use Rattle.sockets.specs.TcpValue.{TcpValue}
+use Rattle.interface.specs.declared.listener.entry.Entry.{Entry}
+use Rattle.interface.specs.declared.listener.stage.Stage.{Stage}
+use Rattle.interface.specs.declared.listener.stage.Stage.TheVariants as Is
+use Rattle.interface.specs.Backlog.Entries.{entry_at}
+use Rattle.interface.specs.Backlog.Noted.{place_at}
+use Rattle.interface.specs.Backlog.Oldest.{IsOldest}
+use Rattle.interface.specs.declared.listener.way.TheConstants.{PATIENCE}
+
+-- what it had is dropped, without a word, and it listens: an abort whose reset never goes
+abbrev pub restarted : IpListenEndpoint → TcpValue → TcpValue
+restarted endpoint v = listen_after (abort_after v) endpoint
+
+abbrev pub restarted_socket : IpListenEndpoint → Socket → Socket
+restarted_socket endpoint (Kind.Tcp v) = Kind.Tcp (restarted endpoint v)
+restarted_socket endpoint s = s
+
+abbrev pub restarted_item : IpListenEndpoint → Option (Item Socket) → Option (Item Socket)
+restarted_item endpoint None = None
+restarted_item endpoint (Some item) = Some (record item { socket = restarted_socket endpoint item.socket })
+
+abbrev pub restarted_place : IpListenEndpoint → SocketStorage Socket → SocketStorage Socket
+restarted_place endpoint place = record { inner = restarted_item endpoint place.inner }
+
+abbrev pub restarted_at : IpListenEndpoint → ℕ → List (SocketStorage Socket) → List (SocketStorage Socket)
+restarted_at endpoint n ps = slice_set ps n (restarted_place endpoint (place_at ps n))
+
+abbrev pub is_at : Stage → List Entry → ℕ → Type 0
+is_at stage es i = (i < length es) × ((entry_at es i).stage ≡ stage)
+
+-- none is half open for long, or this one is, and for longest
+abbrev pub IsLongHalfOpen : ℕ → List Entry → Option ℕ → Type 0
+IsLongHalfOpen now es None = (i : ℕ) → is_at Is.HalfOpen es i → now - (entry_at es i).since < PATIENCE
+IsLongHalfOpen now es (Some i) = IsOldest Is.HalfOpen es (Some i) × (PATIENCE ≤ now - (entry_at es i).since)
+
+abbrev pub HasNone : Stage → List Entry → Type 0
+HasNone stage es = (i : ℕ) → is_at stage es i → ⊥
+
+-- the entry that has been in TIME-WAIT for longest, else the one that has been half open for longest, if that is long
+abbrev pub IsNext : ℕ → List Entry → Option ℕ → Type 0
+IsNext now es None = HasNone Is.TimeWait es × IsLongHalfOpen now es None
+IsNext now es (Some i) = IsOldest Is.TimeWait es (Some i) ⊎ (HasNone Is.TimeWait es × IsLongHalfOpen now es (Some i))
+
+abbrev pub freed : ℕ → SocketHandle → Entry
+freed now handle = record { handle = handle; stage = Is.Free; since = now }
+
+-- what gives way listens again, and is free
+abbrev pub Freed : IpListenEndpoint → ℕ → Option ℕ → List (SocketStorage Socket) → List Entry → List (SocketStorage Socket) → List Entry → Type 0
+Freed endpoint now None ps es ps' es' = (ps' ≡ ps) × (es' ≡ es)
+Freed endpoint now (Some i) ps es ps' es' =
+    (ps' ≡ restarted_at endpoint (entry_at es i).handle.0 ps) × (es' ≡ slice_set es i (freed now (entry_at es i).handle))
+
+-- nothing gives way where one is free
+abbrev pub GivesWay : IpListenEndpoint → ℕ → List (SocketStorage Socket) → List Entry → List (SocketStorage Socket) → List Entry → Type 0
+GivesWay endpoint now ps es ps' es' =
+    (((i : ℕ) × is_at Is.Free es i) × (ps' ≡ ps) × (es' ≡ es))
+    ⊎ (HasNone Is.Free es × ((next : Option ℕ) × IsNext now es next × Freed endpoint now next ps es ps' es'))

@@ -1,0 +1,89 @@
+//! Which socket of a backlog gives way, where none is free.
+ghost use Rattle.std.specs.Prelude.{◌≡◌, ◌<◌, length};
+ghost use Rattle.interface.specs.Backlog.GivesWay.{restarted, restarted_place, restarted_at, IsLongHalfOpen, IsNext, GivesWay};
+
+use crate::listener::entry::Entry;
+use crate::listener::longest::oldest;
+use crate::listener::stage::Stage;
+use interface_egress::{Item, SocketStorage};
+use ip_wire::IpListenEndpoint;
+use sockets::{Socket, tcp};
+
+/// Drops what the socket has, without a word to its remote, and listens on this endpoint.
+pub(crate) fn restart(socket: &mut tcp::Socket, endpoint: IpListenEndpoint)
+    ensures { socket.new ≡ restarted endpoint socket.old }
+{
+    socket.abort();
+    let _ = socket.listen(endpoint);
+}
+
+fn restart_place(place: &mut SocketStorage<Socket>, endpoint: IpListenEndpoint)
+    ensures { place.new ≡ restarted_place endpoint place.old }
+{
+    if let Some(
+        Item {
+            socket: Socket::Tcp(socket),
+            ..
+        },
+    ) = &mut place.inner
+    {
+        restart(socket, endpoint);
+    }
+}
+
+fn restart_at(places: &mut Vec<SocketStorage<Socket>>, at: usize, endpoint: IpListenEndpoint)
+    ensures { places.new.items ≡ restarted_at endpoint at places.old.items }
+{
+    if at < places.len() {
+        restart_place(&mut places[at], endpoint);
+    }
+}
+
+/// How long a socket is half open at least, in microseconds: a client whose SYN is dropped says it again after a second.
+pub const PATIENCE: u64 = 500_000;
+
+/// Where the entry is that gives way: the one that has been in TIME-WAIT for longest, else the one that has been half open for longest,
+/// if that is long.
+fn next(entries: &[Entry], now: u64) -> Option<usize>
+    ensures { IsNext now entries.now result }
+{
+    match oldest(entries, Stage::TimeWait) {
+        Some(at) => Some(at),
+        None => long_half_open(entries, now),
+    }
+}
+
+/// Where the entry is that has been half open for longest, if that is long.
+fn long_half_open(entries: &[Entry], now: u64) -> Option<usize>
+    ensures { IsLongHalfOpen now entries.now result }
+{
+    let at = oldest(entries, Stage::HalfOpen)?;
+    if now.saturating_sub(entries[at].since) < PATIENCE {
+        return None;
+    }
+    Some(at)
+}
+
+/// Where no socket of the backlog is free, the next one gives way.
+pub(crate) fn give_way(
+    places: &mut Vec<SocketStorage<Socket>>,
+    entries: &mut Vec<Entry>,
+    endpoint: IpListenEndpoint,
+    now: u64,
+)
+    ensures { GivesWay endpoint now places.old.items entries.old.items places.new.items entries.new.items }
+{
+    if oldest(entries.as_slice(), Stage::Free).is_some() {
+        return;
+    }
+    let Some(at) = next(entries.as_slice(), now) else {
+        return;
+    };
+    let handle = entries[at].handle;
+    restart_at(places, handle.place(), endpoint);
+    entries[at] = Entry {
+        handle,
+        stage: Stage::Free,
+        since: now,
+    };
+}

@@ -1,4 +1,0 @@
-mod Older
-mod Relisting
-mod Seen
-mod Back

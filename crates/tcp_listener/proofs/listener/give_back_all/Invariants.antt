@@ -1,6 +1,0 @@
-use Rattle.std.proofs.Common.{◌≡◌, ◌++◌, map, take, drop}
-use Rattle.tcp_listener.specs.Calls.{given_back}
-use Rattle.tcp_listener.proofs.listener.give_back_all.Given as goal
-
-abbrev pub invariant-loop-i : goal.invariant-loop-i
-invariant-loop-i l = l.entries.items ≡ map (given_back l.handle) (take l.i l.initial.entries.items) ++ drop l.i l.initial.entries.items

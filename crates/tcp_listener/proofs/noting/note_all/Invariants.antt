@@ -1,5 +1,0 @@
-use Rattle.tcp_listener.proofs.Seen.{NotedTo}
-use Rattle.tcp_listener.proofs.noting.note_all.Given as goal
-
-abbrev pub invariant-loop-i : goal.invariant-loop-i
-invariant-loop-i l = NotedTo l.i l.endpoint l.now l.initial.places.items l.initial.entries.items l.places.items l.entries.items

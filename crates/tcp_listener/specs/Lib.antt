@@ -1,7 +1,0 @@
-pub mod Stages
-pub mod Entries
-pub mod Oldest
-pub mod Noted
-pub mod GivesWay
-pub mod Kept
-pub mod Calls
