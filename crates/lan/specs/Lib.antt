@@ -7,17 +7,17 @@ pub mod Pieces
 -- What contracts of the members cite, for the crates above: `Rattle.lan.specs.Promises.{IsSafeWorld}`,
 -- `Rattle.lan.specs.Answer.TheVariants.{Done}`.
 pub use Rattle.lan_frames.specs.Carried
-pub use Rattle.lan_history.specs.History
-pub use Rattle.lan_history.specs.Kinds
-pub use Rattle.lan_history.specs.Partners
-pub use Rattle.lan_history.specs.Reads
-pub use Rattle.lan_history.specs.Tables
-pub use Rattle.lan_history.specs.declared.answer.Answer
-pub use Rattle.lan_history.specs.declared.answer.Fault
-pub use Rattle.lan_history.specs.declared.answer.Refused
-pub use Rattle.lan_history.specs.declared.event.Event
-pub use Rattle.lan_history.specs.declared.event.Side
-pub use Rattle.lan_history.specs.declared.event.TcpSetting
+pub use Rattle.lan_hosts.specs.History
+pub use Rattle.lan_hosts.specs.Kinds
+pub use Rattle.lan_hosts.specs.Partners
+pub use Rattle.lan_hosts.specs.Reads
+pub use Rattle.lan_hosts.specs.Tables
+pub use Rattle.lan_hosts.specs.declared.history.answer.Answer
+pub use Rattle.lan_hosts.specs.declared.history.answer.Fault
+pub use Rattle.lan_hosts.specs.declared.history.answer.Refused
+pub use Rattle.lan_hosts.specs.declared.history.event.Event
+pub use Rattle.lan_hosts.specs.declared.history.event.Side
+pub use Rattle.lan_hosts.specs.declared.history.event.TcpSetting
 pub use Rattle.lan_frames.specs.Port
 pub use Rattle.lan_world.specs.Refusals
 pub use Rattle.lan_world.specs.Runs

@@ -9,19 +9,19 @@ use Rattle.lan_frames.specs.Cuts.{ipv4_part}
 use Rattle.lan_frames.specs.Parts.{tcp_part}
 use Rattle.lan_frames.specs.declared.part.Part.{Part}
 use Rattle.net_base.specs.Medium.TheVariants as Medium
-use Rattle.lan_history.specs.Call as Call
-use Rattle.lan_history.specs.Call.{SocketCall}
-use Rattle.lan_history.specs.Kinds.{same_side, Kind, Act, LinkAct, Delivered, Damaged, Noisy}
-use Rattle.lan_history.specs.Kinds.Act.{Calls, Sets, Opens, Asks, Polls}
-use Rattle.lan_history.specs.Kinds.Kind.{OfHost, OfLink}
-use Rattle.lan_history.specs.Kinds.LinkAct.{Hands, Cuts}
-use Rattle.lan_history.specs.Tables.{first_refusal, call_tests, own_tests, has_call, is_too_many, record_at}
-use Rattle.lan_history.specs.declared.answer.Answer.TheVariants as To
-use Rattle.lan_history.specs.declared.answer.Refused.{Refused}
-use Rattle.lan_history.specs.declared.event.Side.{Side}
-use Rattle.lan_history.specs.declared.event.Side.TheVariants.{A, B}
-use Rattle.lan_history.specs.declared.record.SocketKind.{SocketKind}
-use Rattle.lan_history.specs.declared.record.SocketRecord.{SocketRecord}
+use Rattle.lan_hosts.specs.Call as Call
+use Rattle.lan_hosts.specs.Call.{SocketCall}
+use Rattle.lan_hosts.specs.Kinds.{same_side, Kind, Act, LinkAct, Delivered, Damaged, Noisy}
+use Rattle.lan_hosts.specs.Kinds.Act.{Calls, Sets, Opens, Asks, Polls}
+use Rattle.lan_hosts.specs.Kinds.Kind.{OfHost, OfLink}
+use Rattle.lan_hosts.specs.Kinds.LinkAct.{Hands, Cuts}
+use Rattle.lan_hosts.specs.Tables.{first_refusal, call_tests, own_tests, has_call, is_too_many, record_at}
+use Rattle.lan_hosts.specs.declared.history.answer.Answer.TheVariants as To
+use Rattle.lan_hosts.specs.declared.history.answer.Refused.{Refused}
+use Rattle.lan_hosts.specs.declared.history.event.Side.{Side}
+use Rattle.lan_hosts.specs.declared.history.event.Side.TheVariants.{A, B}
+use Rattle.lan_hosts.specs.declared.history.record.SocketKind.{SocketKind}
+use Rattle.lan_hosts.specs.declared.history.record.SocketRecord.{SocketRecord}
 use Rattle.lan_hosts.specs.Acting.{ActsBy, CanAct, CanActBy, CanHappen, HappensBy, actor, act_refusal, link_refusal}
 use Rattle.lan_hosts.specs.Calling.{is_called}
 use Rattle.lan_hosts.specs.Linking.{CanLink, CanLinkBy, HasSegment, HasPiece, linked_by}

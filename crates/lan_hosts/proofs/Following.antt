@@ -2,17 +2,17 @@
 use Rattle.std.proofs.Common.{◌≡◌, ◌<◌, ◌≤◌, ◌+◌, ◌^◌, ℕ, Bool, true, false, if◌then◌else◌, List, length, Option, None, Some, refl, subst, arith}
 use Rattle.std.proofs.lemmas.List.{length-take}
 use Rattle.std.specs.Prelude.{slice_set}
-use Rattle.lan_history.specs.Call as Call
-use Rattle.lan_history.specs.Call.{SocketCall}
-use Rattle.lan_history.specs.Kinds.{same_side, Kind}
-use Rattle.lan_history.specs.Kinds.Act.{Calls, Sets, Opens, Asks, Polls}
-use Rattle.lan_history.specs.Kinds.Kind.{OfHost, OfLink}
-use Rattle.lan_history.specs.History.{bytes_written}
-use Rattle.lan_history.specs.Tables.{record_at, record_after, table_after}
-use Rattle.lan_history.specs.declared.answer.Answer.{Answer}
-use Rattle.lan_history.specs.declared.answer.Answer.TheVariants as To
-use Rattle.lan_history.specs.declared.event.Side.{Side}
-use Rattle.lan_history.specs.declared.record.SocketRecord.{SocketRecord}
+use Rattle.lan_hosts.specs.Call as Call
+use Rattle.lan_hosts.specs.Call.{SocketCall}
+use Rattle.lan_hosts.specs.Kinds.{same_side, Kind}
+use Rattle.lan_hosts.specs.Kinds.Act.{Calls, Sets, Opens, Asks, Polls}
+use Rattle.lan_hosts.specs.Kinds.Kind.{OfHost, OfLink}
+use Rattle.lan_hosts.specs.History.{bytes_written}
+use Rattle.lan_hosts.specs.Tables.{record_at, record_after, table_after}
+use Rattle.lan_hosts.specs.declared.history.answer.Answer.{Answer}
+use Rattle.lan_hosts.specs.declared.history.answer.Answer.TheVariants as To
+use Rattle.lan_hosts.specs.declared.history.event.Side.{Side}
+use Rattle.lan_hosts.specs.declared.history.record.SocketRecord.{SocketRecord}
 use Rattle.lan_hosts.specs.Records.{place_of, written_in, record_by, HasByteRoom, CanRise}
 
 -- the records with that at a place behind an event

@@ -22,17 +22,17 @@ use Rattle.interface.specs.Touches.{Touch, Looks, Leave, Sends, Does, DoesAll}
 use Rattle.interface.proofs.Count.{polls_count}
 use Rattle.interface.proofs.Trace.{polls_traced}
 use Rattle.lan_frames.specs.Port.{LinkEnd, PortValue, PortMove}
-use Rattle.lan_history.specs.Call.{SocketCall}
-use Rattle.lan_history.specs.History.{Entry}
-use Rattle.lan_history.specs.Kinds.{Kind, kind_of, Act, LinkAct}
-use Rattle.lan_history.specs.Kinds.Act.{Calls, Sets, Opens, Asks, Polls}
-use Rattle.lan_history.specs.Kinds.Kind.{OfHost, OfLink}
-use Rattle.lan_history.specs.Kinds.LinkAct.{Hands, Cuts}
-use Rattle.lan_history.specs.Tables.{table_of, table_after}
-use Rattle.lan_history.specs.declared.answer.Answer.{Answer}
-use Rattle.lan_history.specs.declared.event.Side.{Side}
-use Rattle.lan_history.specs.declared.event.Side.TheVariants.{A, B}
-use Rattle.lan_history.specs.Calls.{Did}
+use Rattle.lan_hosts.specs.Call.{SocketCall}
+use Rattle.lan_hosts.specs.History.{Entry}
+use Rattle.lan_hosts.specs.Kinds.{Kind, kind_of, Act, LinkAct}
+use Rattle.lan_hosts.specs.Kinds.Act.{Calls, Sets, Opens, Asks, Polls}
+use Rattle.lan_hosts.specs.Kinds.Kind.{OfHost, OfLink}
+use Rattle.lan_hosts.specs.Kinds.LinkAct.{Hands, Cuts}
+use Rattle.lan_hosts.specs.Tables.{table_of, table_after}
+use Rattle.lan_hosts.specs.declared.history.answer.Answer.{Answer}
+use Rattle.lan_hosts.specs.declared.history.event.Side.{Side}
+use Rattle.lan_hosts.specs.declared.history.event.Side.TheVariants.{A, B}
+use Rattle.lan_hosts.specs.Calls.{Did}
 use Rattle.tcp_model.specs.State as States
 use Rattle.lan_hosts.specs.Does.{does, DidAt, ItemDoes, PlaceDoes}
 use Rattle.lan_hosts.specs.Origins.{medium_of, goes_to, sent_before, is_cut_of, own_frames, begins_datagram, numbered}

@@ -2,11 +2,11 @@
 use Rattle.std.proofs.Common.{◌≡◌, ℕ, List, Result, Ok, Err, OnOk, OnErr, refl, sym, ap, ◌∙◌}
 use Rattle.lan_frames.specs.Cuts.{first_piece, second_piece}
 use Rattle.lan_frames.specs.Port.{added}
-use Rattle.lan_history.specs.Kinds.{Kind}
-use Rattle.lan_history.specs.Kinds.Kind.{OfLink}
-use Rattle.lan_history.specs.Kinds.LinkAct.{Cuts}
-use Rattle.lan_history.specs.declared.event.Side.{Side}
-use Rattle.lan_history.specs.declared.event.Side.TheVariants.{A, B}
+use Rattle.lan_hosts.specs.Kinds.{Kind}
+use Rattle.lan_hosts.specs.Kinds.Kind.{OfLink}
+use Rattle.lan_hosts.specs.Kinds.LinkAct.{Cuts}
+use Rattle.lan_hosts.specs.declared.history.event.Side.{Side}
+use Rattle.lan_hosts.specs.declared.history.event.Side.TheVariants.{A, B}
 use Rattle.lan_hosts.specs.Linking.{frame_at, linked_by}
 use Rattle.lan_hosts.specs.Origins.{medium_of, cut}
 use Rattle.lan_hosts.specs.Station.{StationValue, Stations, with_link}

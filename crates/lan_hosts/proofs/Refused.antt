@@ -2,15 +2,15 @@
 use Rattle.std.proofs.Common.{◌≡◌, ℕ, List, Option, sym, ap, ◌∙◌}
 use Rattle.lan_frames.specs.Carried.{names_tcp_or_udp}
 use Rattle.net_base.specs.Medium.TheVariants as Medium
-use Rattle.lan_history.specs.Call.{SocketCall}
-use Rattle.lan_history.specs.Kinds.{Kind}
-use Rattle.lan_history.specs.Kinds.Act.{Calls}
-use Rattle.lan_history.specs.Kinds.Kind.{OfHost}
-use Rattle.lan_history.specs.Tables.{call_refusal}
-use Rattle.lan_history.specs.declared.answer.Refused.{Refused}
-use Rattle.lan_history.specs.declared.event.Side.{Side}
-use Rattle.lan_history.specs.declared.record.SocketKind.{SocketKind}
-use Rattle.lan_history.specs.declared.record.SocketRecord.{SocketRecord}
+use Rattle.lan_hosts.specs.Call.{SocketCall}
+use Rattle.lan_hosts.specs.Kinds.{Kind}
+use Rattle.lan_hosts.specs.Kinds.Act.{Calls}
+use Rattle.lan_hosts.specs.Kinds.Kind.{OfHost}
+use Rattle.lan_hosts.specs.Tables.{call_refusal}
+use Rattle.lan_hosts.specs.declared.history.answer.Refused.{Refused}
+use Rattle.lan_hosts.specs.declared.history.event.Side.{Side}
+use Rattle.lan_hosts.specs.declared.history.record.SocketKind.{SocketKind}
+use Rattle.lan_hosts.specs.declared.history.record.SocketRecord.{SocketRecord}
 use Rattle.lan_hosts.specs.Acting.{act_refusal}
 use Rattle.lan_hosts.specs.Refusals.{Table}
 use Rattle.lan_hosts.specs.Station.{StationValue, kind_at}

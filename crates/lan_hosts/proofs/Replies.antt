@@ -3,12 +3,12 @@ use Rattle.std.proofs.Common.{◌≡◌, ℕ, Bool, true, false, List, length, O
 use Rattle.std.specs.Prelude.{◌&&◌, ◌||◌, is_some, if◌then◌else◌}
 use Rattle.interface_ingress.specs.Icmpv4Header.{Icmpv4Header}
 use Rattle.interface_ingress.specs.Icmpv4Header.TheVariants as V4
-use Rattle.lan_history.specs.Icmpv4DstUnreachable.TheVariants as V4Reason
+use Rattle.lan_hosts.specs.Icmpv4DstUnreachable.TheVariants as V4Reason
 use Rattle.interface_ingress.specs.Icmpv6 as Icmpv6
-use Rattle.lan_history.specs.Icmpv6DstUnreachable.TheVariants as V6Reason
-use Rattle.lan_history.specs.Icmpv6ParamProblem.TheVariants as V6Problem
+use Rattle.lan_hosts.specs.Icmpv6DstUnreachable.TheVariants as V6Reason
+use Rattle.lan_hosts.specs.Icmpv6ParamProblem.TheVariants as V6Problem
 use Rattle.interface_ingress.specs.Icmpv6.{MessageValue}
-use Rattle.lan_history.specs.Ndisc.{NeighborMessage, Solicitation, Advertisement}
+use Rattle.lan_hosts.specs.Ndisc.{NeighborMessage, Solicitation, Advertisement}
 use Rattle.ip_wire.specs.Ip.{payload_len_of}
 use Rattle.ip_wire.specs.IpRepr.{IpRepr}
 use Rattle.ip_wire.specs.IpRepr.TheVariants as Ip

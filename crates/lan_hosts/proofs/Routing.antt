@@ -5,7 +5,7 @@ use Rattle.interface.specs.Made.{with_inner}
 use Rattle.interface.specs.Host.{HostValue}
 use Rattle.interface.specs.Settings.{with_routes}
 use Rattle.interface.specs.Route.{Route}
-use Rattle.lan_history.specs.Kinds as Sets
+use Rattle.lan_hosts.specs.Kinds as Sets
 use Rattle.lan_hosts.specs.Sets.{SetsTo, RoutedIf, has_route_room}
 
 pub routed_same : (t b : Bool) (router : IpAddress) (old new : List Route) → t ≡ b → RoutedIf t router old new → RoutedIf b router old new

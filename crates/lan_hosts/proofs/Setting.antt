@@ -6,8 +6,8 @@ use Rattle.interface.specs.Host.{HostValue}
 use Rattle.interface.specs.Polls.{Polls}
 use Rattle.interface.specs.State.{state}
 use Rattle.lan_frames.specs.Port.{LinkEnd, PortValue, PortMove}
-use Rattle.lan_history.specs.Kinds.{Setting}
-use Rattle.lan_history.specs.Kinds.Act.{Sets}
+use Rattle.lan_hosts.specs.Kinds.{Setting}
+use Rattle.lan_hosts.specs.Kinds.Act.{Sets}
 use Rattle.lan_hosts.specs.Acting.{ActsSo}
 use Rattle.lan_hosts.specs.Answers.{Gives, brief}
 use Rattle.lan_hosts.specs.Sets.{SetsTo, setting_answer}

@@ -1,17 +1,17 @@
 -- What an event makes of the host that acts, and when it can.
 use Rattle.std.specs.Prelude.{◌≡◌, ℕ, Bool, true, List, ◌∷◌, Option, None, Some}
 use Rattle.net_base.specs.Time.{IsMoment}
-use Rattle.lan_history.specs.Kinds.{Kind, Act}
-use Rattle.lan_history.specs.Kinds.Act.{Calls, Asks, Polls}
-use Rattle.lan_history.specs.Kinds.Kind.{OfHost, OfLink}
-use Rattle.lan_history.specs.declared.event.Side.{Side}
+use Rattle.lan_hosts.specs.Kinds.{Kind, Act}
+use Rattle.lan_hosts.specs.Kinds.Act.{Calls, Asks, Polls}
+use Rattle.lan_hosts.specs.Kinds.Kind.{OfHost, OfLink}
+use Rattle.lan_hosts.specs.declared.history.event.Side.{Side}
 use Rattle.lan_hosts.specs.Calling.{is_called}
 use Rattle.lan_hosts.specs.Station.{StationValue, Stations, station, kind_at}
 use Rattle.lan_frames.specs.Cuts.{ipv4_part}
 use Rattle.lan_frames.specs.Parts.{tcp_part}
-use Rattle.lan_history.specs.Tables.{first_refusal}
-use Rattle.lan_history.specs.declared.answer.Refused.{Refused}
-use Rattle.lan_history.specs.declared.answer.Refused.TheVariants as For
+use Rattle.lan_hosts.specs.Tables.{first_refusal}
+use Rattle.lan_hosts.specs.declared.history.answer.Refused.{Refused}
+use Rattle.lan_hosts.specs.declared.history.answer.Refused.TheVariants as For
 use Rattle.lan_hosts.specs.Linking.{CanLink, frame_at}
 use Rattle.lan_hosts.specs.Origins.{medium_of}
 use Rattle.lan_hosts.specs.Refusals.{Table, act_tests, link_tests, segment_tests, cut_tests, is_no_frame}

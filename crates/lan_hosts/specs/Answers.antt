@@ -2,12 +2,12 @@
 use Rattle.std.specs.Prelude.{◌≡◌, Option, None, Some}
 use Rattle.sockets.specs.RecvError.{RecvError}
 use Rattle.sockets.specs.RecvError.TheVariants as Recv
-use Rattle.lan_history.specs.declared.answer.Answer.{Answer}
-use Rattle.lan_history.specs.declared.answer.Answer.TheVariants as To
-use Rattle.lan_history.specs.declared.answer.Fault.{Fault}
-use Rattle.lan_history.specs.declared.answer.Fault.TheVariants as For
+use Rattle.lan_hosts.specs.declared.history.answer.Answer.{Answer}
+use Rattle.lan_hosts.specs.declared.history.answer.Answer.TheVariants as To
+use Rattle.lan_hosts.specs.declared.history.answer.Fault.{Fault}
+use Rattle.lan_hosts.specs.declared.history.answer.Fault.TheVariants as For
 use Rattle.sockets.specs.declared.socket.Socket.{Socket}
-use Rattle.lan_history.specs.Calls.{Did}
+use Rattle.lan_hosts.specs.Calls.{Did}
 use Rattle.tcp_model.specs.State.{State}
 use Rattle.lan_hosts.specs.declared.answer.Brief.{Brief}
 use Rattle.lan_hosts.specs.declared.answer.Brief.TheVariants as Short

@@ -8,13 +8,13 @@ use Rattle.interface_egress.specs.Set.{with_socket}
 use Rattle.interface_egress.specs.declared.socket_set.Item.{Item}
 use Rattle.interface_egress.specs.declared.socket_set.SocketStorage.{SocketStorage}
 use Rattle.sockets.specs.declared.socket.Socket.{Socket}
-use Rattle.lan_history.specs.Call.{SocketCall}
-use Rattle.lan_history.specs.Tables.{has_call}
-use Rattle.lan_history.specs.declared.record.SocketKind.{SocketKind}
-use Rattle.lan_history.specs.Kinds.{Kind}
-use Rattle.lan_history.specs.Kinds.Act.{Calls}
-use Rattle.lan_history.specs.Kinds.Kind.{OfHost}
-use Rattle.lan_history.specs.Calls.{Did}
+use Rattle.lan_hosts.specs.Call.{SocketCall}
+use Rattle.lan_hosts.specs.Tables.{has_call}
+use Rattle.lan_hosts.specs.declared.history.record.SocketKind.{SocketKind}
+use Rattle.lan_hosts.specs.Kinds.{Kind}
+use Rattle.lan_hosts.specs.Kinds.Act.{Calls}
+use Rattle.lan_hosts.specs.Kinds.Kind.{OfHost}
+use Rattle.lan_hosts.specs.Calls.{Did}
 use Rattle.lan_hosts.specs.Answers.{HasTaken}
 use Rattle.lan_hosts.specs.Does.{does, draws}
 use Rattle.lan_hosts.specs.Station.{kind_at}

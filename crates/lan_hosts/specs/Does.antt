@@ -20,13 +20,13 @@ use Rattle.interface_egress.specs.declared.socket_set.Item.{Item}
 use Rattle.interface_egress.specs.declared.socket_set.SocketStorage.{SocketStorage}
 use Rattle.sockets.specs.declared.socket.Socket.{Socket}
 use Rattle.sockets.specs.declared.socket.Socket.TheVariants as Is
-use Rattle.lan_history.specs.Call as Call
-use Rattle.lan_history.specs.Call.{SocketCall}
-use Rattle.lan_history.specs.declared.answer.Answer.{Answer}
-use Rattle.lan_history.specs.declared.answer.Answer.TheVariants as To
-use Rattle.lan_history.specs.declared.answer.Fault.{Fault}
-use Rattle.lan_history.specs.declared.answer.Fault.TheVariants as For
-use Rattle.lan_history.specs.Calls.{Did, did, done_or, bind_fault, send_fault, at_port, tcp_does, udp_does}
+use Rattle.lan_hosts.specs.Call as Call
+use Rattle.lan_hosts.specs.Call.{SocketCall}
+use Rattle.lan_hosts.specs.declared.history.answer.Answer.{Answer}
+use Rattle.lan_hosts.specs.declared.history.answer.Answer.TheVariants as To
+use Rattle.lan_hosts.specs.declared.history.answer.Fault.{Fault}
+use Rattle.lan_hosts.specs.declared.history.answer.Fault.TheVariants as For
+use Rattle.lan_hosts.specs.Calls.{Did, did, done_or, bind_fault, send_fault, at_port, tcp_does, udp_does}
 use Rattle.lan_hosts.specs.Station.{StationValue}
 
 -- AN ICMP SOCKET

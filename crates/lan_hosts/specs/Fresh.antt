@@ -13,8 +13,8 @@ use Rattle.interface_egress.specs.Inner.{InnerValue}
 use Rattle.interface.specs.Settings.{is_of_medium, is_mtu}
 use Rattle.sockets.specs.declared.socket.Socket.{Socket}
 use Rattle.sockets.specs.declared.socket.Socket.TheVariants as Is
-use Rattle.lan_history.specs.Endpoints.{IsNameless}
-use Rattle.lan_history.specs.Promises.{IsFresh}
+use Rattle.lan_hosts.specs.Endpoints.{IsNameless}
+use Rattle.lan_hosts.specs.Promises.{IsFresh}
 use Rattle.lan_hosts.specs.Runs.{Start, Starts}
 
 -- nothing is queued; one of TCP is CLOSED without endpoints, and took no FIN. A client of DHCP or DNS is at no host of a world: no

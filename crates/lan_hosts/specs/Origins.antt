@@ -7,12 +7,12 @@ use Rattle.lan_frames.specs.Carried.{packet_in}
 use Rattle.lan_frames.specs.Cuts.{ipv4_part, first_piece, second_piece}
 use Rattle.lan_frames.specs.Parts.{begins_pieces, tcp_part, damaged}
 use Rattle.lan_frames.specs.declared.part.Part.{Part}
-use Rattle.lan_history.specs.History.{Entry, Counts}
-use Rattle.lan_history.specs.Kinds.{other, same_side, Kind, kind_of, Origin, Delivered, Damaged, Noisy}
-use Rattle.lan_history.specs.Kinds.Kind.{OfLink}
-use Rattle.lan_history.specs.Kinds.LinkAct.{Hands, Cuts}
-use Rattle.lan_history.specs.declared.event.Side.{Side}
-use Rattle.lan_history.specs.declared.event.Side.TheVariants.{A, B}
+use Rattle.lan_hosts.specs.History.{Entry, Counts}
+use Rattle.lan_hosts.specs.Kinds.{other, same_side, Kind, kind_of, Origin, Delivered, Damaged, Noisy}
+use Rattle.lan_hosts.specs.Kinds.Kind.{OfLink}
+use Rattle.lan_hosts.specs.Kinds.LinkAct.{Hands, Cuts}
+use Rattle.lan_hosts.specs.declared.history.event.Side.{Side}
+use Rattle.lan_hosts.specs.declared.history.event.Side.TheVariants.{A, B}
 use Rattle.lan_frames.specs.Port.{added, arrived}
 use Rattle.lan_hosts.specs.Station.{StationValue, Stations, station, with_station, with_link}
 

@@ -2,16 +2,16 @@
 use Rattle.std.specs.Prelude.{◌≡◌, ◌+◌, ◌<◌, ◌^◌, ℕ, true, if◌then◌else◌, List, length, drop, Option, None, Some}
 use Rattle.std.specs.List.{count_by}
 use Rattle.net_base.specs.Medium.{Medium}
-use Rattle.lan_history.specs.Call as Call
-use Rattle.lan_history.specs.History.{first_of, opening_by, bytes_written}
-use Rattle.lan_history.specs.Kinds.{same_side, Kind}
-use Rattle.lan_history.specs.Kinds.Act.{Calls}
-use Rattle.lan_history.specs.Kinds.Kind.{OfHost}
-use Rattle.lan_history.specs.Tables.{record_at, table_after}
-use Rattle.lan_history.specs.declared.answer.Answer.{Answer}
-use Rattle.lan_history.specs.declared.event.Side.{Side}
-use Rattle.lan_history.specs.declared.record.Opening.{Opening}
-use Rattle.lan_history.specs.declared.record.SocketRecord.{SocketRecord}
+use Rattle.lan_hosts.specs.Call as Call
+use Rattle.lan_hosts.specs.History.{first_of, opening_by, bytes_written}
+use Rattle.lan_hosts.specs.Kinds.{same_side, Kind}
+use Rattle.lan_hosts.specs.Kinds.Act.{Calls}
+use Rattle.lan_hosts.specs.Kinds.Kind.{OfHost}
+use Rattle.lan_hosts.specs.Tables.{record_at, table_after}
+use Rattle.lan_hosts.specs.declared.history.answer.Answer.{Answer}
+use Rattle.lan_hosts.specs.declared.history.event.Side.{Side}
+use Rattle.lan_hosts.specs.declared.history.record.Opening.{Opening}
+use Rattle.lan_hosts.specs.declared.history.record.SocketRecord.{SocketRecord}
 use Rattle.lan_hosts.specs.Origins.{medium_of, is_cut_of, begins_datagram}
 use Rattle.lan_hosts.specs.Refusals.{Table}
 use Rattle.lan_hosts.specs.Station.{StationValue}

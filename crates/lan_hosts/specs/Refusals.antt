@@ -9,16 +9,16 @@ use Rattle.lan_frames.specs.Carried.{names_tcp_or_udp}
 use Rattle.lan_frames.specs.Cuts.{ipv4_part}
 use Rattle.lan_frames.specs.Parts.{tcp_part, bytes_at}
 use Rattle.lan_frames.specs.declared.part.Part.{Part}
-use Rattle.lan_history.specs.Kinds.{Kind, Act, LinkAct, Delivered, Damaged, Noisy}
-use Rattle.lan_history.specs.Kinds.Kind.{OfHost, OfLink}
-use Rattle.lan_history.specs.Kinds.Act.{Calls, Asks, Polls}
-use Rattle.lan_history.specs.Kinds.LinkAct.{Hands, Cuts}
-use Rattle.lan_history.specs.Tables.{first_refusal, call_tests}
-use Rattle.lan_history.specs.declared.answer.Refused.{Refused}
-use Rattle.lan_history.specs.declared.answer.Refused.TheVariants as For
-use Rattle.lan_history.specs.declared.event.Side.{Side}
-use Rattle.lan_history.specs.declared.event.Side.TheVariants.{A, B}
-use Rattle.lan_history.specs.declared.record.SocketRecord.{SocketRecord}
+use Rattle.lan_hosts.specs.Kinds.{Kind, Act, LinkAct, Delivered, Damaged, Noisy}
+use Rattle.lan_hosts.specs.Kinds.Kind.{OfHost, OfLink}
+use Rattle.lan_hosts.specs.Kinds.Act.{Calls, Asks, Polls}
+use Rattle.lan_hosts.specs.Kinds.LinkAct.{Hands, Cuts}
+use Rattle.lan_hosts.specs.Tables.{first_refusal, call_tests}
+use Rattle.lan_hosts.specs.declared.history.answer.Refused.{Refused}
+use Rattle.lan_hosts.specs.declared.history.answer.Refused.TheVariants as For
+use Rattle.lan_hosts.specs.declared.history.event.Side.{Side}
+use Rattle.lan_hosts.specs.declared.history.event.Side.TheVariants.{A, B}
+use Rattle.lan_hosts.specs.declared.history.record.SocketRecord.{SocketRecord}
 use Rattle.lan_hosts.specs.Station.{StationValue, Stations, station, kind_at}
 use Rattle.lan_hosts.specs.Origins.{medium_of, frame_sent}
 

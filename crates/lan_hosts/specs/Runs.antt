@@ -2,14 +2,14 @@
 use Rattle.std.specs.Prelude.{◌≡◌, ℕ, List, [], ◌∷◌, length, map, reverse, Option, None}
 use Rattle.interface.specs.Host.{HostValue}
 use Rattle.interface_egress.specs.declared.socket_set.SocketStorage.{SocketStorage}
-use Rattle.lan_history.specs.History.{Entry, Counts}
-use Rattle.lan_history.specs.Kinds.{kind_of}
-use Rattle.lan_history.specs.Tables.{table_of}
-use Rattle.lan_history.specs.declared.answer.Answer.{Answer}
-use Rattle.lan_history.specs.declared.answer.Refused.{Refused}
-use Rattle.lan_history.specs.declared.event.Event.{Event}
-use Rattle.lan_history.specs.declared.event.Side.{Side}
-use Rattle.lan_history.specs.declared.event.Side.TheVariants.{A, B}
+use Rattle.lan_hosts.specs.History.{Entry, Counts}
+use Rattle.lan_hosts.specs.Kinds.{kind_of}
+use Rattle.lan_hosts.specs.Tables.{table_of}
+use Rattle.lan_hosts.specs.declared.history.answer.Answer.{Answer}
+use Rattle.lan_hosts.specs.declared.history.answer.Refused.{Refused}
+use Rattle.lan_hosts.specs.declared.history.event.Event.{Event}
+use Rattle.lan_hosts.specs.declared.history.event.Side.{Side}
+use Rattle.lan_hosts.specs.declared.history.event.Side.TheVariants.{A, B}
 use Rattle.lan_frames.specs.Port.{unused_end}
 use Rattle.net_base.specs.DeviceCapabilities.{DeviceCapabilities}
 use Rattle.sockets.specs.declared.socket.Socket.{Socket}

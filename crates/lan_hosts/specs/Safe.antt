@@ -4,9 +4,9 @@ use Rattle.interface_egress.specs.declared.socket_set.SocketStorage.{SocketStora
 use Rattle.interface_egress.specs.Set.{socket_in, socket_at}
 use Rattle.sockets.specs.declared.socket.Socket as Sockets
 use Rattle.sockets.specs.declared.socket.Socket.TheVariants as Is
-use Rattle.lan_history.specs.declared.event.Side.{Side}
-use Rattle.lan_history.specs.Parties as Parties
-use Rattle.lan_history.specs.Parties.{Party, Net}
+use Rattle.lan_hosts.specs.declared.history.event.Side.{Side}
+use Rattle.lan_hosts.specs.Parties as Parties
+use Rattle.lan_hosts.specs.Parties.{Party, Net}
 use Rattle.lan_hosts.specs.Station.{StationValue}
 use Rattle.lan_hosts.specs.Runs.{Starts, start, WorldValue}
 

@@ -13,12 +13,12 @@ use Rattle.interface.specs.Settings.{hardware_refusal, with_hardware, is_strange
 use Rattle.interface.specs.HardwareAddrError.{HardwareAddrError}
 use Rattle.interface.specs.HardwareAddrError.TheVariants as Set
 use Rattle.interface.specs.Route.{Route}
-use Rattle.lan_history.specs.Kinds.{Setting}
-use Rattle.lan_history.specs.Kinds as Sets
-use Rattle.lan_history.specs.declared.answer.Answer.{Answer}
-use Rattle.lan_history.specs.declared.answer.Answer.TheVariants as To
-use Rattle.lan_history.specs.declared.answer.Fault.{Fault}
-use Rattle.lan_history.specs.declared.answer.Fault.TheVariants as For
+use Rattle.lan_hosts.specs.Kinds.{Setting}
+use Rattle.lan_hosts.specs.Kinds as Sets
+use Rattle.lan_hosts.specs.declared.history.answer.Answer.{Answer}
+use Rattle.lan_hosts.specs.declared.history.answer.Answer.TheVariants as To
+use Rattle.lan_hosts.specs.declared.history.answer.Fault.{Fault}
+use Rattle.lan_hosts.specs.declared.history.answer.Fault.TheVariants as For
 use Rattle.lan_hosts.specs.Station.{StationValue}
 
 -- how many routes a host has at most

@@ -1,13 +1,13 @@
 -- What an event does to the two hosts and the link.
 use Rattle.std.specs.Prelude.{◌≡◌, ℕ, ℤ, Bool, Option, None}
 use Rattle.interface.specs.Polls.{Polls as IsPoll}
-use Rattle.lan_history.specs.Kinds.{other, Kind, Act, LinkAct}
-use Rattle.lan_history.specs.Kinds.Kind.{OfHost, OfLink}
-use Rattle.lan_history.specs.Kinds.Act.{Calls, Sets, Opens, Asks, Polls}
-use Rattle.lan_history.specs.Kinds.LinkAct.{Hands, Cuts}
-use Rattle.lan_history.specs.declared.answer.Answer.{Answer}
-use Rattle.lan_history.specs.declared.answer.Answer.TheVariants as To
-use Rattle.lan_history.specs.declared.event.Side.{Side}
+use Rattle.lan_hosts.specs.Kinds.{other, Kind, Act, LinkAct}
+use Rattle.lan_hosts.specs.Kinds.Kind.{OfHost, OfLink}
+use Rattle.lan_hosts.specs.Kinds.Act.{Calls, Sets, Opens, Asks, Polls}
+use Rattle.lan_hosts.specs.Kinds.LinkAct.{Hands, Cuts}
+use Rattle.lan_hosts.specs.declared.history.answer.Answer.{Answer}
+use Rattle.lan_hosts.specs.declared.history.answer.Answer.TheVariants as To
+use Rattle.lan_hosts.specs.declared.history.event.Side.{Side}
 use Rattle.lan_frames.specs.Port.{PortValue, PortMove}
 use Rattle.tcp_model.specs.State.{State}
 use Rattle.lan_hosts.specs.Station.{StationValue, Stations, station, at_port}

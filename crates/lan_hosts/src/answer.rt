@@ -1,10 +1,10 @@
 //! What calls answer, as answers of a world.
 ghost use Rattle.std.specs.Prelude.{◌≡◌, ◌≢◌, None, Some, IfOk, length};
-ghost use Rattle.lan_history.specs.Calls.{done_or, count_or, listen_fault, connect_fault, write_fault, recv_fault, bind_fault, send_fault, hops_or_none};
+ghost use Rattle.lan_hosts.specs.Calls.{done_or, count_or, listen_fault, connect_fault, write_fault, recv_fault, bind_fault, send_fault, hops_or_none};
 ghost use Rattle.lan_hosts.specs.Does.{raw_fault};
 ghost use Rattle.lan_hosts.specs.Answers.{IsTwice, Gives, brief, fault_of};
 
-use lan_history::{Answer, Fault};
+use crate::history::{Answer, Fault};
 use sockets::tcp::{ConnectError, ListenError, RecvError, SendError, State};
 use sockets::{raw, udp};
 use std::alloc::{AllocError, Global};

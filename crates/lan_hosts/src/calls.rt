@@ -1,18 +1,18 @@
 //! Calls of a socket of any kind. A call that its kind hasn't does nothing, and answers nothing.
 ghost use Rattle.std.specs.Prelude.{◌≡◌, if◌then◌else◌, Option, None, Some, IfOk, OnOk, OnErr};
 ghost use Rattle.sockets.specs.Context.{ContextValue};
-ghost use Rattle.lan_history.specs.Call as calls;
-ghost use Rattle.lan_history.specs.Kinds.{kind_of};
-ghost use Rattle.lan_history.specs.Calls.{Did};
+ghost use Rattle.lan_hosts.specs.Call as calls;
+ghost use Rattle.lan_hosts.specs.Kinds.{kind_of};
+ghost use Rattle.lan_hosts.specs.Calls.{Did};
 ghost use Rattle.sockets.specs.declared.socket.Socket.{Socket as AnySocket};
 ghost use Rattle.lan_hosts.specs.Answers.{HasDone, HasTaken};
 ghost use Rattle.lan_hosts.specs.Calling.{did_by, draws_by};
 ghost use Rattle.lan_hosts.specs.Does.{does, draws};
 
 use crate::answer::{Brief, Taken, give, give_twice};
+use crate::history::{Bytes, Event, TcpSetting};
 use crate::{datagrams, streams};
 use ip_wire::{IpAddress, IpEndpoint};
-use lan_history::{Bytes, Event, TcpSetting};
 use sockets::{Context, Socket};
 use std::alloc::{AllocError, Global};
 

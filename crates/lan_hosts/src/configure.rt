@@ -1,18 +1,18 @@
 //! Settings, questions and polls of a host, with what they give.
 ghost use Rattle.std.specs.Prelude.{◌≡◌, IfOk, OnErr};
 ghost use Rattle.net_base.specs.Time.{IsMoment};
-ghost use Rattle.lan_history.specs.Kinds as acts;
-ghost use Rattle.lan_history.specs.Kinds.Act.{Sets, Opens, Asks, Polls};
-ghost use Rattle.lan_history.specs.declared.answer.Answer.TheVariants as to;
+ghost use Rattle.lan_hosts.specs.Kinds as acts;
+ghost use Rattle.lan_hosts.specs.Kinds.Act.{Sets, Opens, Asks, Polls};
+ghost use Rattle.lan_hosts.specs.declared.history.answer.Answer.TheVariants as to;
 ghost use Rattle.lan_hosts.specs.Acting.{ActsSo};
 ghost use Rattle.lan_hosts.specs.Answers.{IsTwice};
 
 use crate::answer::{Brief, Taken, Twins, give, give_twice};
+use crate::history::Answer;
 use crate::host::Host;
 use crate::settings;
 use arrayvec::ArrayVec;
 use ip_wire::{EthernetAddress, IpAddress, IpCidr};
-use lan_history::Answer;
 use net_base::{Duration, Instant};
 use std::alloc::AllocError;
 

@@ -6,13 +6,13 @@ ghost use Rattle.sockets.specs.Udp as udps;
 ghost use Rattle.sockets.specs.Icmp as icmps;
 ghost use Rattle.sockets.specs.Raw as raws;
 ghost use Rattle.sockets.specs.Endpoint.TheVariants.{Ident};
-ghost use Rattle.lan_history.specs.Calls.{done_or, bind_fault, send_fault, at_port, datagram_or};
+ghost use Rattle.lan_hosts.specs.Calls.{done_or, bind_fault, send_fault, at_port, datagram_or};
 ghost use Rattle.lan_hosts.specs.Does.{raw_fault, message_or, packet_or};
 ghost use Rattle.lan_hosts.specs.Answers.{IsTwice, brief};
 
 use crate::answer::{Brief, Twins, bound, read_fault, sent, sent_raw, twins, two_buffers};
+use crate::history::{Answer, Bytes};
 use ip_wire::{IpAddress, IpEndpoint, IpListenEndpoint};
-use lan_history::{Answer, Bytes};
 use net_base::PacketMeta;
 use sockets::{icmp, raw, udp};
 use std::alloc::{AllocError, Global};

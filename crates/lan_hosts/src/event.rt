@@ -1,9 +1,9 @@
 //! Events: when one isn't taken, and what one that is taken does to the two hosts, the link and the tables.
 ghost use Rattle.std.specs.Prelude.{◌≡◌, ◌<◌, ◌≤◌, None, IfOk, OnOk, OnErr, length};
-ghost use Rattle.lan_history.specs.Kinds.{kind_of};
-ghost use Rattle.lan_history.specs.declared.event.Side.TheVariants.{A, B};
-ghost use Rattle.lan_history.specs.Kinds.Act.{Polls};
-ghost use Rattle.lan_history.specs.Tables.{first_refusal};
+ghost use Rattle.lan_hosts.specs.Kinds.{kind_of};
+ghost use Rattle.lan_hosts.specs.declared.history.event.Side.TheVariants.{A, B};
+ghost use Rattle.lan_hosts.specs.Kinds.Act.{Polls};
+ghost use Rattle.lan_hosts.specs.Tables.{first_refusal};
 ghost use Rattle.lan_hosts.specs.Acting.{ActsBy, CanActBy, CanHappen, HappensBy, actor, act_refusal, link_refusal, damage_tests, sent_cut_tests};
 ghost use Rattle.lan_frames.specs.Cuts.{ipv4_part};
 ghost use Rattle.lan_hosts.specs.Linking.{CanLinkBy, HasPiece, linked_by};
@@ -15,13 +15,13 @@ ghost use Rattle.lan_hosts.specs.Station.{station};
 ghost use Rattle.lan_hosts.specs.Steps.{Happens};
 
 use crate::answer::{Brief, Taken, give};
+use crate::history::{Event, Refused, Side};
 use crate::host::Host;
 use crate::link::{cut, deliver, deliver_damaged, deliver_noise};
 use crate::records::Records;
 use crate::refusal as refusals;
 use interface::SocketStorage;
 use lan_frames::names_tcp_or_udp;
-use lan_history::{Event, Refused, Side};
 use net_base::Instant;
 use sockets::Socket;
 use std::alloc::{AllocError, Global};

@@ -1,9 +1,9 @@
 //! What follows from the definitions.
 ghost use Rattle.std.specs.Prelude.{◌≡◌, ◌≤◌, ℕ, List, ◌∷◌, length};
 ghost use Rattle.net_base.specs.Medium.{Medium};
-ghost use Rattle.lan_history.specs.History.{Entry};
-ghost use Rattle.lan_history.specs.Kinds.{kind_of};
-ghost use Rattle.lan_history.specs.declared.event.Side.{Side};
+ghost use Rattle.lan_hosts.specs.History.{Entry};
+ghost use Rattle.lan_hosts.specs.Kinds.{kind_of};
+ghost use Rattle.lan_hosts.specs.declared.history.event.Side.{Side};
 ghost use Rattle.lan_hosts.specs.Origins.{numbered};
 ghost use Rattle.lan_hosts.specs.Records.{table_next};
 ghost use Rattle.lan_hosts.specs.Runs.{table_in, counts_of};

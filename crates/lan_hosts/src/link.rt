@@ -9,9 +9,9 @@ ghost use Rattle.lan_hosts.specs.Origins.{medium_of, damaged_in};
 ghost use Rattle.lan_hosts.specs.Refusals.{is_no_place, is_no_cut};
 ghost use Rattle.lan_hosts.specs.Linking.{frame_at, HasSegment, HasPiece};
 
+use crate::history::Bytes;
 use crate::host::Host;
 use lan_frames::{cut_frame, damage, tcp_part};
-use lan_history::Bytes;
 use net_base::{Device, Medium};
 use std::alloc::{AllocError, Global};
 

@@ -1,15 +1,15 @@
 //! The call of an event, at the place of its socket.
 ghost use Rattle.std.specs.Prelude.{◌≡◌, slice_get, Some, IfOk, OnErr};
-ghost use Rattle.lan_history.specs.Kinds.{kind_of};
+ghost use Rattle.lan_hosts.specs.Kinds.{kind_of};
 ghost use Rattle.interface.specs.Set.{places};
 ghost use Rattle.lan_hosts.specs.Calling.{PlaceCalls, IsCall};
 ghost use Rattle.lan_hosts.specs.Acting.{ActsBy};
 
 use crate::answer::Taken;
 use crate::calls::call;
+use crate::history::Event;
 use crate::host::Host;
 use interface::{Interface, SocketSet, SocketStorage};
-use lan_history::Event;
 use net_base::ManagedSlice;
 use sockets::Socket;
 use std::alloc::{AllocError, Global};

@@ -9,18 +9,18 @@ ghost use Rattle.lan_frames.specs.Parts.{tcp_part};
 ghost use Rattle.ip_wire.specs.IpAddress.{IpAddress};
 ghost use Rattle.net_base.specs.Medium.TheVariants as medium;
 ghost use Rattle.lan_frames.specs.Carried.{names_tcp_or_udp};
-ghost use Rattle.lan_history.specs.Call as calls;
-ghost use Rattle.lan_history.specs.declared.event.TcpSetting.{TcpSetting};
-ghost use Rattle.lan_history.specs.declared.record.SocketRecord.{SocketRecord};
-ghost use Rattle.lan_history.specs.Tables.{first_refusal, call_refusal, opening_tests, record_at};
+ghost use Rattle.lan_hosts.specs.Call as calls;
+ghost use Rattle.lan_hosts.specs.declared.history.event.TcpSetting.{TcpSetting};
+ghost use Rattle.lan_hosts.specs.declared.history.record.SocketRecord.{SocketRecord};
+ghost use Rattle.lan_hosts.specs.Tables.{first_refusal, call_refusal, opening_tests, record_at};
 ghost use Rattle.interface.specs.Set.{places};
 ghost use Rattle.lan_hosts.specs.Station.{kind_at, kind_of_socket};
 ghost use Rattle.lan_hosts.specs.Refusals.{is_no_place, segment_tests, cut_tests};
 
+use crate::history::{Opening, Refused, SocketKind, SocketRecord, is_port_taken};
 use interface::{Interface, SocketSet};
 use ip_wire::network_order::read_u16;
 use lan_frames::{Part, ipv4_part, names_tcp_or_udp, tcp_part};
-use lan_history::{Opening, Refused, SocketKind, SocketRecord, is_port_taken};
 use net_base::{Instant, Medium};
 use sockets::{Context, Socket};
 

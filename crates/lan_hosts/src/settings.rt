@@ -2,18 +2,18 @@
 ghost use Rattle.std.specs.Prelude.{◌≡◌, if◌then◌else◌};
 ghost use Rattle.net_base.specs.Time.{IsMoment};
 ghost use Rattle.ip_wire.specs.IpAddress.TheVariants as address;
-ghost use Rattle.lan_history.specs.Kinds as sets;
-ghost use Rattle.lan_history.specs.declared.answer.Answer.TheVariants as to;
-ghost use Rattle.lan_history.specs.declared.answer.Fault.TheVariants as why;
+ghost use Rattle.lan_hosts.specs.Kinds as sets;
+ghost use Rattle.lan_hosts.specs.declared.history.answer.Answer.TheVariants as to;
+ghost use Rattle.lan_hosts.specs.declared.history.answer.Fault.TheVariants as why;
 ghost use Rattle.lan_hosts.specs.Answers.{brief};
 ghost use Rattle.lan_hosts.specs.Sets.{setting_answer, SetsTo, RoutedIf, has_route_room, with_room, instant_at, asked};
 
 use crate::answer::Brief;
+use crate::history::Fault;
 use crate::host::Host;
 use arrayvec::ArrayVec;
 use interface::{HardwareAddrError, Interface, RouteTableFull, Routes, TABLE_ROOM};
 use ip_wire::{EthernetAddress, HardwareAddress, IpAddress, IpCidr, Ipv4Address, Ipv6Address};
-use lan_history::Fault;
 use net_base::{Duration, Instant};
 
 /// Sets the hardware address.

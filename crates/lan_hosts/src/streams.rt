@@ -2,14 +2,14 @@
 ghost use Rattle.std.specs.Prelude.{◌≡◌, ◌≤◌, if◌then◌else◌, length, IfOk, OnOk, OnErr};
 ghost use Rattle.sockets.specs.TcpCalls.{listen_answer, listen_after, connect_answer, connect_after, connect_draws, send_answer, send_after, recv_answer};
 ghost use Rattle.sockets.specs.TcpCalls.{close_after, abort_after};
-ghost use Rattle.lan_history.specs.Calls.{done_or, count_or, listen_fault, connect_fault, write_fault, bytes_or, read_by, at_port, setting_after};
+ghost use Rattle.lan_hosts.specs.Calls.{done_or, count_or, listen_fault, connect_fault, write_fault, bytes_or, read_by, at_port, setting_after};
 ghost use Rattle.lan_hosts.specs.Answers.{IsTwice, brief};
 
 use crate::answer::{
     Brief, Twins, connected, hops_or_none, listened, recv_fault, twins, two_buffers, written,
 };
+use crate::history::{Answer, Bytes, TcpSetting};
 use ip_wire::{IpEndpoint, IpListenEndpoint};
-use lan_history::{Answer, Bytes, TcpSetting};
 use sockets::Context;
 use sockets::tcp::Socket;
 use std::alloc::{AllocError, Global};

@@ -14,8 +14,8 @@ use Rattle.lan_hosts.specs.Kinds.{other}
 use Rattle.lan_hosts.specs.Answer.{Answer}
 use Rattle.lan_hosts.specs.Side.{Side}
 use Rattle.lan_hosts.specs.Side.TheVariants.{A, B}
-use Rattle.lan_history.specs.Calls.{Did}
-use Rattle.lan_history.specs.Parties.{Party, Net, party}
+use Rattle.lan_hosts.specs.Calls.{Did}
+use Rattle.lan_hosts.specs.Parties.{Party, Net, party}
 use Rattle.lan_hosts.specs.Port.{LinkEnd, PortValue}
 use Rattle.lan_hosts.specs.Does.{Does, PlaceDoes, ItemDoes, DidAt, draws, does}
 use Rattle.lan_hosts.specs.Sets.{with_room, asked}

@@ -17,7 +17,7 @@ use Rattle.interface_ingress.specs.Reassembled.{Slots}
 use Rattle.lan_hosts.specs.Kinds.{other}
 use Rattle.lan_hosts.specs.Side.{Side}
 use Rattle.lan_hosts.specs.Side.TheVariants.{A, B}
-use Rattle.lan_history.specs.Parties.{Party, party}
+use Rattle.lan_hosts.specs.Parties.{Party, party}
 use Rattle.lan_hosts.specs.Fresh.{IsHardware, IsFreshStart, IsFreshWorld}
 use Rattle.lan_hosts.specs.Runs.{Start, Starts, start, unused, unused_both}
 use Rattle.lan_hosts.specs.Station.{station}

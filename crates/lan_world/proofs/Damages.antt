@@ -15,7 +15,7 @@ use Rattle.lan_hosts.specs.Kinds.LinkAct.{Hands, Cuts}
 use Rattle.lan_hosts.specs.Tables.{first_refusal}
 use Rattle.lan_hosts.specs.Refused.TheVariants as For
 use Rattle.lan_hosts.specs.Side.{Side}
-use Rattle.lan_history.specs.Parties.{Net, party}
+use Rattle.lan_hosts.specs.Parties.{Net, party}
 use Rattle.lan_hosts.specs.Origins.{medium_of, frame_sent, damaged_in, frame_of_origin}
 use Rattle.lan_hosts.specs.Refusals.{is_no_frame, segment_tests, link_tests, refusal}
 use Rattle.lan_hosts.specs.Runs.{WorldRun, tables_in}

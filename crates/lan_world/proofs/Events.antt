@@ -7,7 +7,7 @@ use Rattle.lan_hosts.specs.Kinds.Act.{Calls, Sets, Opens, Asks, Polls}
 use Rattle.lan_hosts.specs.Kinds.LinkAct.{Hands, Cuts}
 use Rattle.lan_hosts.specs.Answer.{Answer}
 use Rattle.lan_hosts.specs.Side.{Side}
-use Rattle.lan_history.specs.Parties.{Net, party}
+use Rattle.lan_hosts.specs.Parties.{Net, party}
 use Rattle.lan_hosts.specs.Refusals.{Tables, refusal}
 use Rattle.lan_hosts.specs.Runs.{Leads, tables_in}
 use Rattle.lan_hosts.specs.Station.{StationValue, Stations, station}

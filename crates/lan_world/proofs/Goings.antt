@@ -1,11 +1,11 @@
 -- One event more.
 use Rattle.std.proofs.Common.{◌≡◌, ◌≤◌, ℕ, List, ◌∷◌, length, None, refl, sym, subst, ◌∙◌, ap}
-use Rattle.lan_history.specs.History.{Entry}
-use Rattle.lan_history.specs.Kinds.{kind_of}
-use Rattle.lan_history.specs.declared.event.Side.{Side}
-use Rattle.lan_history.specs.declared.event.Side.TheVariants.{A, B}
-use Rattle.lan_history.specs.declared.event.Event.{Event}
-use Rattle.lan_history.specs.declared.answer.Answer.{Answer}
+use Rattle.lan_hosts.specs.History.{Entry}
+use Rattle.lan_hosts.specs.Kinds.{kind_of}
+use Rattle.lan_hosts.specs.declared.history.event.Side.{Side}
+use Rattle.lan_hosts.specs.declared.history.event.Side.TheVariants.{A, B}
+use Rattle.lan_hosts.specs.declared.history.event.Event.{Event}
+use Rattle.lan_hosts.specs.declared.history.answer.Answer.{Answer}
 use Rattle.net_base.specs.Medium.{Medium}
 use Rattle.lan_hosts.specs.Origins.{medium_of, numbered}
 use Rattle.lan_hosts.specs.Records.{table_next}

@@ -8,9 +8,9 @@ use Rattle.net_base.specs.Medium.{Medium}
 use Rattle.net_base.specs.Medium.TheVariants as Medium
 use Rattle.interface.specs.Made.{IsIdle}
 use Rattle.interface_tables.specs.Settings.{is_of_medium}
-use Rattle.lan_history.specs.Tables.{no_record}
-use Rattle.lan_history.specs.declared.event.Side.{Side}
-use Rattle.lan_history.specs.declared.event.Side.TheVariants.{A, B}
+use Rattle.lan_hosts.specs.Tables.{no_record}
+use Rattle.lan_hosts.specs.declared.history.event.Side.{Side}
+use Rattle.lan_hosts.specs.declared.history.event.Side.TheVariants.{A, B}
 use Rattle.lan_hosts.specs.Port.{LinkEnd}
 use Rattle.lan_hosts.specs.Fresh.{IsTypedHost, IsFreshStart}
 use Rattle.lan_hosts.specs.Runs.{unused, unused_both, table_in}

@@ -17,7 +17,7 @@ use Rattle.lan_hosts.specs.Refused.TheVariants as For
 use Rattle.lan_hosts.specs.Side.{Side}
 use Rattle.lan_hosts.specs.Side.TheVariants.{A, B}
 use Rattle.lan_hosts.specs.Kinds.LinkAct.{Hands, Cuts}
-use Rattle.lan_history.specs.Parties.{Net, party}
+use Rattle.lan_hosts.specs.Parties.{Net, party}
 use Rattle.lan_hosts.specs.Port.{added, arrived}
 use Rattle.lan_hosts.specs.Origins.{medium_of, frame_sent, damaged_in, frame_of_origin, handed, cut}
 use Rattle.lan_hosts.specs.Refusals.{is_no_frame, is_no_place, is_same_sum, segment_tests, is_no_cut, cut_tests, link_tests}

@@ -9,7 +9,7 @@ use Rattle.lan_hosts.specs.Kinds.{other, kind_of}
 use Rattle.lan_hosts.specs.Kinds.Act.{Polls}
 use Rattle.lan_hosts.specs.Kinds.Kind.{OfHost}
 use Rattle.lan_hosts.specs.Side.{Side}
-use Rattle.lan_history.specs.Parties.{Party, Net, party}
+use Rattle.lan_hosts.specs.Parties.{Party, Net, party}
 use Rattle.lan_hosts.specs.Port.{LinkEnd, PortValue, PortMove}
 use Rattle.interface.specs.Used.{sockets_in}
 use Rattle.lan_hosts.specs.Station.{StationValue, Stations, station, at_port}

@@ -1,8 +1,8 @@
 -- The laws of worlds, of a world that came from fresh hosts.
 use Rattle.std.proofs.Common.{ℕ, List}
-use Rattle.lan_history.specs.History.{Entry}
-use Rattle.lan_history.specs.declared.event.Side.{Side}
-use Rattle.lan_history.specs.declared.event.Side.TheVariants.{A, B}
+use Rattle.lan_hosts.specs.History.{Entry}
+use Rattle.lan_hosts.specs.declared.history.event.Side.{Side}
+use Rattle.lan_hosts.specs.declared.history.event.Side.TheVariants.{A, B}
 use Rattle.lan_hosts.specs.PacketsSafe.{IsSafe}
 use Rattle.lan_hosts.specs.Fresh.{IsFreshWorld}
 use Rattle.lan_hosts.specs.Refusals.{Table}

@@ -30,7 +30,7 @@ use Rattle.lan_hosts.specs.History.{Entry}
 use Rattle.lan_hosts.specs.Kinds.{other, kind_of}
 use Rattle.lan_hosts.specs.Side.{Side}
 use Rattle.lan_hosts.specs.Side.TheVariants.{A, B}
-use Rattle.lan_history.specs.Parties.{Party, party}
+use Rattle.lan_hosts.specs.Parties.{Party, party}
 use Rattle.lan_hosts.specs.Fresh.{IsFreshWorld}
 use Rattle.lan_hosts.specs.Origins.{medium_of, own_frames, sent_before, is_cut_of}
 use Rattle.lan_hosts.specs.Runs.{Starts, unused_both, WorldRun}

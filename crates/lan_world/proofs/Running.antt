@@ -1,8 +1,8 @@
 -- Several steps, one after the other.
 use Rattle.std.proofs.Common.{◌≡◌, ℕ, zero, suc, ◌+◌, ◌<◌, List, [], ◌∷◌, ◌++◌, length, take, drop, Some, refl, ◌∙◌, ap, subst, add-one, arith}
 use Rattle.std.specs.Prelude.{slice_get}
-use Rattle.lan_history.specs.declared.event.Event.{Event}
-use Rattle.lan_history.specs.declared.answer.Answer.{Answer}
+use Rattle.lan_hosts.specs.declared.history.event.Event.{Event}
+use Rattle.lan_hosts.specs.declared.history.answer.Answer.{Answer}
 use Rattle.lan_hosts.specs.Runs.{WorldValue, Step, Steps}
 use Rattle.std.specs.Prelude.{◌≤◌}
 

@@ -7,10 +7,10 @@ use Rattle.lan_hosts.specs.Kinds.Act.{Calls, Sets, Opens, Asks, Polls}
 use Rattle.lan_hosts.specs.Kinds.Kind.{OfHost, OfLink}
 use Rattle.lan_hosts.specs.Side.{Side}
 use Rattle.lan_hosts.specs.Side.TheVariants.{A, B}
-use Rattle.lan_history.specs.Moves.{IsRun, run}
-use Rattle.lan_history.specs.Parties.{Net}
-use Rattle.lan_history.specs.Safe.{IsSafe}
-use Rattle.lan_history.proofs.Extended.{run-append, IsRun-append}
+use Rattle.lan_hosts.specs.Moves.{IsRun, run}
+use Rattle.lan_hosts.specs.Parties.{Net}
+use Rattle.lan_hosts.specs.PacketsSafe.{IsSafe}
+use Rattle.lan_hosts.proofs.Extended.{run-append, IsRun-append}
 use Rattle.lan_hosts.specs.Fresh.{IsFreshWorld}
 use Rattle.lan_hosts.specs.Origins.{medium_of, numbered}
 use Rattle.lan_hosts.specs.Runs.{Starts, unused_both, WorldRun, Leads}

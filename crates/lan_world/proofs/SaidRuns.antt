@@ -22,7 +22,7 @@ use Rattle.lan_hosts.specs.Answer.{Answer}
 use Rattle.lan_hosts.specs.Refused.TheVariants as For
 use Rattle.lan_hosts.specs.Side.{Side}
 use Rattle.lan_hosts.specs.Side.TheVariants.{A, B}
-use Rattle.lan_history.specs.Parties.{Net}
+use Rattle.lan_hosts.specs.Parties.{Net}
 use Rattle.lan_hosts.specs.Port.{added, arrived}
 use Rattle.lan_hosts.specs.Fresh.{IsFreshWorld}
 use Rattle.lan_hosts.specs.Origins.{medium_of, frame_sent, frame_of_origin, goes_to, sent_before, is_cut_of, own_frames}

@@ -22,7 +22,7 @@ use Rattle.lan_hosts.specs.Kinds.{Setting, other}
 use Rattle.lan_hosts.specs.Kinds as Settings
 use Rattle.lan_hosts.specs.Answer.{Answer}
 use Rattle.lan_hosts.specs.Side.{Side}
-use Rattle.lan_history.specs.Parties.{Party, Net, party}
+use Rattle.lan_hosts.specs.Parties.{Party, Net, party}
 use Rattle.lan_hosts.specs.Sets.{SetsTo, Configures, RoutedIf, has_route_room}
 use Rattle.lan_hosts.specs.Station.{StationValue, Stations, station}
 use Rattle.lan_world.specs.Moves.Made.{MadeBy}

@@ -16,10 +16,10 @@ use Rattle.interface_egress.specs.declared.socket_set.Item.{Item}
 use Rattle.sockets.specs.declared.socket.Socket.{Socket}
 use Rattle.sockets.specs.declared.socket.Socket.TheVariants as Is
 use Rattle.tcp_tie.specs.Endpoints.{IsNameless}
-use Rattle.lan_history.specs.Promises.{IsFresh}
+use Rattle.lan_hosts.specs.Promises.{IsFresh}
 use Rattle.sockets.specs.TcpStates.{is_closed, takes_text}
-use Rattle.lan_history.specs.State.{State}
-use Rattle.lan_history.specs.State.TheVariants as In
+use Rattle.lan_hosts.specs.State.{State}
+use Rattle.lan_hosts.specs.State.TheVariants as In
 use Rattle.tcp_model.specs.EndpointPair.{EndpointPair}
 use Rattle.tcp_model.specs.Calls.{nothing_left}
 use Rattle.tcp_model.specs.Value.{TcpValue}

@@ -1,6 +1,6 @@
 -- What a world keeps: where it came from, how, and what its tables say.
 use Rattle.std.specs.Prelude.{◌≡◌, List}
-use Rattle.lan_history.specs.History.{Entry}
+use Rattle.lan_hosts.specs.History.{Entry}
 use Rattle.lan_hosts.specs.Fresh.{IsFreshWorld}
 use Rattle.lan_hosts.specs.Refusals.{Table, Tables}
 use Rattle.lan_hosts.specs.Runs.{Start, Starts, WorldValue, WorldRun, unused_both, tables_in}

@@ -4,7 +4,7 @@ use Rattle.lan_hosts.specs.Kinds.{other, Kind}
 use Rattle.lan_hosts.specs.Kinds.Kind.{OfHost, OfLink}
 use Rattle.lan_hosts.specs.Kinds.Act.{Calls, Sets, Opens, Asks, Polls}
 use Rattle.lan_hosts.specs.Side.{Side}
-use Rattle.lan_history.specs.Parties.{Party, Net, party}
+use Rattle.lan_hosts.specs.Parties.{Party, Net, party}
 use Rattle.lan_hosts.specs.Station.{StationValue, Stations, station}
 use Rattle.lan_world.specs.Moves.Made.{MadeBy}
 use Rattle.lan_world.specs.Link.Frames.{Outgoing, medium_on}

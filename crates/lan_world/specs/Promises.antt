@@ -1,5 +1,5 @@
 -- What is promised of two hosts at a link that may lose, repeat, reorder, pad, damage and cut frames, and add some, wherever events led.
-use Rattle.lan_history.specs.declared.event.Side.TheVariants.{A, B}
+use Rattle.lan_hosts.specs.declared.history.event.Side.TheVariants.{A, B}
 use Rattle.lan_hosts.specs.PacketsSafe.{IsSafe}
 use Rattle.lan_hosts.specs.Runs.{WorldValue, WorldRun, unused_both, counts_of}
 use Rattle.lan_hosts.specs.Safe.{first_port, net_of}

@@ -23,8 +23,8 @@ use Rattle.interface_ingress.specs.Upper.{upper_header}
 use Rattle.lan_frames.specs.Carried.{names_tcp_or_udp}
 use Rattle.lan_hosts.specs.Kinds.{other}
 use Rattle.lan_hosts.specs.Side.{Side}
-use Rattle.lan_history.specs.Moves.{Step, IsRun, run}
-use Rattle.lan_history.specs.Parties.{Party, Net, WasMade, party}
+use Rattle.lan_hosts.specs.Moves.{Step, IsRun, run}
+use Rattle.lan_hosts.specs.Parties.{Party, Net, WasMade, party}
 use Rattle.lan_hosts.specs.Runs.{WorldValue}
 use Rattle.lan_hosts.specs.Station.{StationValue, station}
 use Rattle.lan_world.specs.Moves.Follows.{IsNetOf}

@@ -3,8 +3,7 @@ ghost use Rattle.std.specs.Prelude.{◌≡◌, ◌≤◌, [], ◌∷◌, length,
 ghost use Rattle.lan_hosts.specs.Runs.{answers_of, counts_of};
 ghost use Rattle.lan_world.specs.Past.{counts_in, entry};
 
-use lan_history::{Answer, Event};
-use lan_hosts::Host;
+use lan_hosts::{Answer, Event, Host};
 use sockets::tcp::State;
 use std::alloc::{AllocError, Global};
 use std::marker::Model;

@@ -24,6 +24,8 @@ mod typed;
 mod world;
 
 pub use error::WorldError;
-pub use lan_history::{Answer, Bytes, Event, Fault, Refused, Side, TcpSetting};
-pub use lan_hosts::{Config, Host, Interface, NewError, SocketSet};
+pub use lan_hosts::{
+    Answer, Bytes, Config, Event, Fault, Host, Interface, NewError, Refused, Side, SocketSet,
+    TcpSetting,
+};
 pub use world::World;

@@ -2,13 +2,12 @@
 ghost use Rattle.std.specs.Prelude.{◌≡◌};
 ghost use Rattle.std.specs.List.{AllByRecursion};
 ghost use Rattle.ip_wire.specs.Address.{IsEthernetAddress, IsIpv4Address, IsIpv6Address, IsIpAddress};
-ghost use Rattle.lan_history.specs.Kinds.{kind_of};
+ghost use Rattle.lan_hosts.specs.Kinds.{kind_of};
 ghost use Rattle.lan_hosts.specs.Fresh.{IsHardware, IsTypedHost};
 ghost use Rattle.lan_world.specs.Events.{IsTyped};
 
 use ip_wire::{EthernetAddress, HardwareAddress, IpAddress, Ipv4Address, Ipv6Address};
-use lan_history::Event;
-use lan_hosts::{Host, Route};
+use lan_hosts::{Event, Host, Route};
 
 /// A word of a damage has 16 bits, a hardware address six bytes, and a router those of its family.
 pub(crate) fn event_is_typed(event: &Event)

@@ -5,8 +5,8 @@ ghost use Rattle.interface.specs.Made.{IsIdle};
 ghost use Rattle.lan_hosts.specs.Refusals.{MayRefuse};
 ghost use Rattle.lan_hosts.specs.Runs.{Step, Steps, answers_of, refusal_in, tables_in};
 ghost use Rattle.lan_hosts.specs.Station.{station};
-ghost use Rattle.lan_history.specs.Kinds.{kind_of};
-ghost use Rattle.lan_history.specs.Tables.{no_record};
+ghost use Rattle.lan_hosts.specs.Kinds.{kind_of};
+ghost use Rattle.lan_hosts.specs.Tables.{no_record};
 ghost use Rattle.lan_world.specs.Come.{both, starts_of, world};
 ghost use Rattle.lan_world.specs.New.{new_error, MayFail};
 ghost use Rattle.lan_world.specs.Promises.{IsSafeWorld};
@@ -20,9 +20,8 @@ use crate::laws::{
     damage_was_harmless, frames_are_apart, rebuilt_was_made, rebuilt_was_sent, worlds_are_safe,
 };
 use crate::typed::{event_is_typed, host_is_typed};
-use lan_history::{Answer, Event, Refused, Side};
 use lan_hosts::laws::{numbers_are_few, tables_go_on};
-use lan_hosts::{Host, Records, refusal_of, take};
+use lan_hosts::{Answer, Event, Host, Records, Refused, Side, refusal_of, take};
 use std::alloc::{AllocError, Global};
 use std::marker::Model;
 

@@ -6,10 +6,10 @@ ghost use Rattle.lan.specs.Machine.{Turn, Machine, HostRun};
 
 /// A side, a setting, a fault, and a reason of a refusal.
 pub fn passes_on_names(
-    side: lan_history::Side,
-    setting: lan_history::TcpSetting,
-    fault: lan_history::Fault,
-    refused: lan_history::Refused,
+    side: lan_hosts::Side,
+    setting: lan_hosts::TcpSetting,
+    fault: lan_hosts::Fault,
+    refused: lan_hosts::Refused,
 ) -> (
     lan_world::Side,
     lan_world::TcpSetting,
@@ -22,21 +22,21 @@ pub fn passes_on_names(
 }
 
 /// An event.
-pub fn passes_on_events(event: &lan_history::Event) -> &lan_world::Event
+pub fn passes_on_events(event: &lan_hosts::Event) -> &lan_world::Event
     ensures { result.now ≡ event.now }
 {
     event
 }
 
 /// An answer.
-pub fn passes_on_answers(answer: &lan_history::Answer) -> &lan_world::Answer
+pub fn passes_on_answers(answer: &lan_hosts::Answer) -> &lan_world::Answer
     ensures { result.now ≡ answer.now }
 {
     answer
 }
 
 /// Bytes.
-pub fn passes_on_bytes(bytes: &lan_history::Bytes) -> &lan_world::Bytes
+pub fn passes_on_bytes(bytes: &lan_hosts::Bytes) -> &lan_world::Bytes
     ensures { result.now ≡ bytes.now }
 {
     bytes

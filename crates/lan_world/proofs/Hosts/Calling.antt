@@ -19,7 +19,7 @@ use Rattle.lan_hosts.specs.Call.{SocketCall}
 use Rattle.lan_hosts.specs.Kinds.{Setting}
 use Rattle.lan_hosts.specs.Kinds as Sets
 use Rattle.lan_hosts.specs.Answer.{Answer}
-use Rattle.lan_history.specs.Calls.{Did}
+use Rattle.lan_hosts.specs.Calls.{Did}
 use Rattle.lan_hosts.specs.Station.{StationValue}
 use Rattle.lan_hosts.specs.Does.{does, draws, host_after, DidAt, ItemDoes, PlaceDoes, Does}
 use Rattle.lan_hosts.specs.Sets.{SetsTo, Configures}

@@ -20,7 +20,7 @@ use Rattle.lan_hosts.specs.Answer.TheVariants as To
 use Rattle.lan_hosts.specs.Event.{Event}
 use Rattle.lan_hosts.specs.Side.{Side}
 use Rattle.lan_hosts.specs.Side.TheVariants.{A, B}
-use Rattle.lan_history.specs.Calls.{Did}
+use Rattle.lan_hosts.specs.Calls.{Did}
 use Rattle.lan_hosts.specs.Does.{does, DidAt, ItemDoes, PlaceDoes, Does}
 use Rattle.lan_hosts.specs.Runs.{WorldValue, Step, Steps}
 use Rattle.lan_hosts.specs.Sets.{SetsTo, Configures, has_route_room}

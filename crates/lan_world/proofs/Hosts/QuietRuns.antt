@@ -32,7 +32,7 @@ use Rattle.lan_hosts.specs.Answer.TheVariants as To
 use Rattle.lan_hosts.specs.Fault.TheVariants as For
 use Rattle.lan_hosts.specs.Side.{Side}
 use Rattle.lan_hosts.specs.Side.TheVariants.{A, B}
-use Rattle.lan_history.specs.Calls.{Did}
+use Rattle.lan_hosts.specs.Calls.{Did}
 use Rattle.lan_hosts.specs.Port.{LinkEnd}
 use Rattle.lan_hosts.specs.Does.{does, draws, DidAt, ItemDoes, PlaceDoes, Does}
 use Rattle.lan_hosts.specs.Origins.{frame_of_origin, goes_to, origins_of, sent_before, waiting_before}

@@ -37,7 +37,7 @@ use Rattle.lan_hosts.specs.Side.{Side}
 use Rattle.lan_hosts.specs.Side.TheVariants.{A, B}
 use Rattle.lan_hosts.specs.Station.{StationValue, Stations, station}
 use Rattle.lan_hosts.specs.Steps.{Acts}
-use Rattle.lan_history.specs.Calls.{Did}
+use Rattle.lan_hosts.specs.Calls.{Did}
 use Rattle.sockets.specs.Context.{ContextValue}
 use Rattle.sockets.specs.Packet.{PayloadValue}
 use Rattle.sockets.specs.declared.socket.Socket.{Socket}

@@ -26,8 +26,8 @@ use Rattle.lan_hosts.specs.Call.{SocketCall}
 use Rattle.lan_hosts.specs.Does.{does}
 use Rattle.interface_ingress.specs.Handed.{handed_reply}
 use Rattle.interface_egress.specs.declared.socket_set.Item.{Item}
-use Rattle.lan_history.specs.Calls.{Did, tcp_does, udp_does}
-use Rattle.lan_history.specs.Ndisc.{Solicitation, Advertisement}
+use Rattle.lan_hosts.specs.Calls.{Did, tcp_does, udp_does}
+use Rattle.lan_hosts.specs.Ndisc.{Solicitation, Advertisement}
 use Rattle.net_containers.specs.Packets.{first}
 use Rattle.sockets.specs.Context.{ContextValue}
 use Rattle.sockets.specs.Offer as Answer

@@ -34,9 +34,9 @@ use Rattle.interface_ingress.proofs.AtPlace.{changed_here, answer_here}
 use Rattle.interface_ingress.proofs.Segments.{accepted_there}
 use Rattle.lan_hosts.specs.Side.{Side}
 use Rattle.lan_hosts.specs.Kinds.{other}
-use Rattle.lan_history.specs.Moves as Moves
-use Rattle.lan_history.specs.Parties as Parties
-use Rattle.lan_history.specs.Parties.{Party, Net, party, WasMade}
+use Rattle.lan_hosts.specs.Moves as Moves
+use Rattle.lan_hosts.specs.Parties as Parties
+use Rattle.lan_hosts.specs.Parties.{Party, Net, party, WasMade}
 use Rattle.lan_hosts.specs.Safe.{seen}
 use Rattle.lan_world.specs.Moves.Follows.{seen_place, sockets_of}
 use Rattle.lan_world.proofs.Moves.Following.{Reaches}

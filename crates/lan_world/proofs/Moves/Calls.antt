@@ -28,11 +28,11 @@ use Rattle.lan_hosts.specs.Fault.TheVariants as For
 use Rattle.lan_hosts.specs.Side.{Side}
 use Rattle.lan_hosts.specs.Side.TheVariants.{A, B}
 use Rattle.lan_hosts.specs.SocketKind.{SocketKind}
-use Rattle.lan_history.specs.Calls.{Did, tcp_does, udp_does}
-use Rattle.lan_history.specs.Moves as Moves
-use Rattle.lan_history.specs.Moves.{IsOfOthers, DoneBy}
-use Rattle.lan_history.specs.Parties as Parties
-use Rattle.lan_history.specs.Parties.{Party, Net, party, places_of}
+use Rattle.lan_hosts.specs.Calls.{Did, tcp_does, udp_does}
+use Rattle.lan_hosts.specs.Moves as Moves
+use Rattle.lan_hosts.specs.Moves.{IsOfOthers, DoneBy}
+use Rattle.lan_hosts.specs.Parties as Parties
+use Rattle.lan_hosts.specs.Parties.{Party, Net, party, places_of}
 use Rattle.lan_hosts.specs.Does.{Does, PlaceDoes, ItemDoes, DidAt, does, did_as, icmp_does, raw_does, message_or, packet_or}
 use Rattle.lan_hosts.specs.Refusals.{refusal}
 use Rattle.lan_hosts.specs.Runs.{tables_in}

@@ -3,8 +3,8 @@ use Rattle.std.specs.Prelude.{◌≡◌, List}
 use Rattle.lan_frames.specs.Medium.TheVariants as Medium
 use Rattle.lan_frames.specs.Carried.{names_tcp_or_udp}
 use Rattle.lan_hosts.specs.History.{Entry}
-use Rattle.lan_history.specs.Moves.{Step, IsRun, run}
-use Rattle.lan_history.specs.Parties.{Net}
+use Rattle.lan_hosts.specs.Moves.{Step, IsRun, run}
+use Rattle.lan_hosts.specs.Parties.{Net}
 use Rattle.lan_hosts.specs.Runs.{Starts}
 use Rattle.lan_hosts.specs.Station.{Stations}
 use Rattle.lan_world.specs.Moves.Follows.{IsNetOf}

@@ -23,7 +23,7 @@ use Rattle.lan_hosts.specs.Refused.{Refused}
 use Rattle.lan_hosts.specs.Refused.TheVariants as For
 use Rattle.lan_hosts.specs.Side.{Side}
 use Rattle.lan_hosts.specs.Side.TheVariants.{A, B}
-use Rattle.lan_history.specs.Calls.{Did}
+use Rattle.lan_hosts.specs.Calls.{Did}
 use Rattle.lan_hosts.specs.Port.{LinkEnd, PortMove}
 use Rattle.lan_hosts.specs.Does.{PlaceDoes, ItemDoes, DidAt, does, did_as}
 use Rattle.lan_hosts.specs.Fresh.{IsUnused, IsFreshWorld}

@@ -6,10 +6,10 @@ use Rattle.lan_hosts.specs.Kinds.{other, kind_of, calls}
 use Rattle.lan_hosts.specs.Kinds.Act.{Calls}
 use Rattle.lan_hosts.specs.Side.{Side}
 use Rattle.lan_hosts.specs.Side.TheVariants.{A, B}
-use Rattle.lan_history.specs.Moves as Moves
-use Rattle.lan_history.specs.Moves.{IsNoCall, IsRun, after}
-use Rattle.lan_history.specs.Parties.{Party, Net, party}
-use Rattle.lan_history.proofs.Extended.{run-append, IsRun-append}
+use Rattle.lan_hosts.specs.Moves as Moves
+use Rattle.lan_hosts.specs.Moves.{IsNoCall, IsRun, after}
+use Rattle.lan_hosts.specs.Parties.{Party, Net, party}
+use Rattle.lan_hosts.proofs.Extended.{run-append, IsRun-append}
 use Rattle.lan_hosts.specs.Runs.{refusal_in}
 use Rattle.lan_hosts.specs.Station.{StationValue, Stations, station}
 use Rattle.lan_hosts.specs.Steps.{ActsAt}

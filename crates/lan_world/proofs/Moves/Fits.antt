@@ -2,7 +2,7 @@
 use Rattle.std.proofs.Common.{List, Option, Some, None}
 use Rattle.sockets.specs.declared.socket.Socket.{Socket}
 use Rattle.lan_hosts.specs.History.{Entry}
-use Rattle.lan_history.specs.Calls.{Did}
+use Rattle.lan_hosts.specs.Calls.{Did}
 use Rattle.lan_hosts.specs.Does.{does}
 use Rattle.lan_hosts.specs.Fresh.{IsFreshWorld}
 use Rattle.lan_hosts.specs.Runs.{Starts, unused_both, WorldRun}

@@ -23,11 +23,11 @@ use Rattle.lan_hosts.specs.Side.TheVariants.{A, B}
 use Rattle.lan_hosts.specs.Answer.{Answer}
 use Rattle.lan_hosts.specs.Call.{SocketCall}
 use Rattle.tcp_model.specs.State.{State}
-use Rattle.lan_history.specs.Moves.Move.{Invokes, Passes, Offers, Gives, Takes, Receives, Resets, Changes}
-use Rattle.lan_history.specs.Moves.{Move, Does, LooksSame, May, Step, IsRun, run, after, party_after}
-use Rattle.lan_history.specs.Parties as Parties
-use Rattle.lan_history.specs.Parties.{Socket, Party, Net, party, socket_at}
-use Rattle.lan_history.specs.Parties.Socket.{Tcp, Udp, Icmp, Raw}
+use Rattle.lan_hosts.specs.Moves.Move.{Invokes, Passes, Offers, Gives, Takes, Receives, Resets, Changes}
+use Rattle.lan_hosts.specs.Moves.{Move, Does, LooksSame, May, Step, IsRun, run, after, party_after}
+use Rattle.lan_hosts.specs.Parties as Parties
+use Rattle.lan_hosts.specs.Parties.{Socket, Party, Net, party, socket_at}
+use Rattle.lan_hosts.specs.Parties.Socket.{Tcp, Udp, Icmp, Raw}
 use Rattle.lan_hosts.specs.Kinds.{other}
 use Rattle.lan_hosts.specs.Safe.{seen_in}
 use Rattle.lan_hosts.specs.Runs.{Starts, WorldValue, start}

@@ -4,10 +4,10 @@ use Rattle.std.specs.Prelude.{slice_get}
 use Rattle.lan_hosts.specs.Side.{Side}
 use Rattle.lan_hosts.specs.Side.TheVariants.{A, B}
 use Rattle.lan_hosts.specs.Kinds.{other}
-use Rattle.lan_history.specs.Moves.{Move, party_after, history_after, May, Step, after, IsRun}
-use Rattle.lan_history.specs.Parties.{Socket, Datagram, Party, Net, party}
+use Rattle.lan_hosts.specs.Moves.{Move, party_after, history_after, May, Step, after, IsRun}
+use Rattle.lan_hosts.specs.Parties.{Socket, Datagram, Party, Net, party}
 use Rattle.tcp_tie.specs.Host.{Made}
-use Rattle.lan_history.proofs.Extended.{run-append, IsRun-append}
+use Rattle.lan_hosts.proofs.Extended.{run-append, IsRun-append}
 use Rattle.lan_world.proofs.Moves.Following.{Reaches}
 use Rattle.lan_world.specs.Moves.Made.{Grows}
 use Rattle.lan_world.proofs.Moves.Places.{get_more}

@@ -56,9 +56,9 @@ use Rattle.lan_hosts.specs.Call as Call
 use Rattle.lan_hosts.specs.Call.{SocketCall}
 use Rattle.lan_hosts.specs.TcpSetting.{TcpSetting}
 use Rattle.lan_hosts.specs.TcpSetting.TheVariants as Changed
-use Rattle.lan_history.specs.Calls.{at_port, read_by, setting_after, tcp_does, udp_does}
-use Rattle.lan_history.proofs.Queues.{each_left, each_appended}
-use Rattle.lan_history.proofs.WireMoves.{pair_kept, pair_left}
+use Rattle.lan_hosts.specs.Calls.{at_port, read_by, setting_after, tcp_does, udp_does}
+use Rattle.lan_hosts.proofs.Queues.{each_left, each_appended}
+use Rattle.lan_hosts.proofs.WireMoves.{pair_kept, pair_left}
 use Rattle.lan_hosts.specs.Does.{does, icmp_does, raw_does}
 use Rattle.lan_hosts.specs.Fresh.{IsUnused}
 use Rattle.lan_world.specs.Moves.Fit.{AreNamed, NamesPorts}

@@ -37,8 +37,8 @@ use Rattle.lan_frames.specs.Carried.{IsNeitherBehind, names_tcp_or_udp, is_tcp_o
 use Rattle.lan_frames.proofs.Named.{neither_first, neither_second, behind_named}
 use Rattle.lan_hosts.specs.Call as Call
 use Rattle.lan_hosts.specs.Call.{SocketCall}
-use Rattle.lan_history.specs.Calls.{tcp_does, udp_does}
-use Rattle.lan_history.proofs.Queues.{each_left, each_appended, each_first}
+use Rattle.lan_hosts.specs.Calls.{tcp_does, udp_does}
+use Rattle.lan_hosts.proofs.Queues.{each_left, each_appended, each_first}
 use Rattle.lan_hosts.specs.Does.{does, icmp_does, raw_does}
 use Rattle.lan_hosts.specs.Fresh.{IsUnused}
 use Rattle.lan_world.specs.Moves.Fit.{AreNamed}

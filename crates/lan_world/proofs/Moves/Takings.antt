@@ -24,7 +24,7 @@ use Rattle.interface_ingress.specs.Incoming.{IncomingValue, Arp, Ip4, Ip6}
 use Rattle.interface_ingress.specs.Upper.{IsBrought}
 use Rattle.lan_hosts.specs.Side.{Side}
 use Rattle.lan_hosts.specs.Kinds.{other}
-use Rattle.lan_history.specs.Parties.{Party, Net, party, WasMade}
+use Rattle.lan_hosts.specs.Parties.{Party, Net, party, WasMade}
 use Rattle.lan_world.specs.Moves.Follows.{sockets_of}
 use Rattle.lan_world.proofs.Moves.Following.{Reaches}
 use Rattle.lan_world.specs.Moves.Made.{IsMade, HandsMade, BringsMade, datagram_of}

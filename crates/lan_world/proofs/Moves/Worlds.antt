@@ -11,11 +11,11 @@ use Rattle.lan_hosts.specs.Kinds.LinkAct.{Hands, Cuts}
 use Rattle.lan_hosts.specs.Side.{Side}
 use Rattle.lan_hosts.specs.Side.TheVariants.{A, B}
 use Rattle.lan_hosts.specs.Partners.{ArePartners}
-use Rattle.lan_history.specs.Moves.{IsNoCall}
-use Rattle.lan_history.specs.Parties as Parties
-use Rattle.lan_history.specs.Parties.{Party, Net, party}
-use Rattle.lan_history.specs.Safe.{IsFreshSocket, IsFreshParty, IsFreshNet, IsSafe, IsTcpAt, taken_in, HasNothing, HoldsRest}
-use Rattle.lan_history.proofs.Runs.{runs_safe}
+use Rattle.lan_hosts.specs.Moves.{IsNoCall}
+use Rattle.lan_hosts.specs.Parties as Parties
+use Rattle.lan_hosts.specs.Parties.{Party, Net, party}
+use Rattle.lan_hosts.specs.PacketsSafe.{IsFreshSocket, IsFreshParty, IsFreshNet, IsSafe, IsTcpAt, taken_in, HasNothing, HoldsRest}
+use Rattle.lan_hosts.proofs.Runs.{runs_safe}
 use Rattle.interface_egress.specs.Set.{socket_at}
 use Rattle.sockets.specs.declared.socket.Socket.{Socket}
 use Rattle.sockets.specs.declared.socket.Socket.TheVariants as Is

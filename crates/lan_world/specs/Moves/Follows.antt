@@ -8,9 +8,9 @@ use Rattle.lan_hosts.specs.History.{Entry}
 use Rattle.lan_hosts.specs.Kinds.{Kind}
 use Rattle.lan_hosts.specs.Kinds.Act.{Polls}
 use Rattle.lan_hosts.specs.Kinds.Kind.{OfHost}
-use Rattle.lan_history.specs.Moves.{Step, IsRun, run}
-use Rattle.lan_history.specs.Parties as Parties
-use Rattle.lan_history.specs.Parties.{Net, party}
+use Rattle.lan_hosts.specs.Moves.{Step, IsRun, run}
+use Rattle.lan_hosts.specs.Parties as Parties
+use Rattle.lan_hosts.specs.Parties.{Net, party}
 use Rattle.lan_hosts.specs.Safe.{seen_in}
 use Rattle.lan_hosts.specs.Station.{Stations, station}
 use Rattle.lan_world.specs.Moves.Made.{Grows}

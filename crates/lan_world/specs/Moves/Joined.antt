@@ -1,6 +1,6 @@
 -- What is asked of the hosts and their link over a whole run.
 use Rattle.std.specs.Prelude.{[]}
-use Rattle.lan_history.specs.Parties.{Net}
+use Rattle.lan_hosts.specs.Parties.{Net}
 use Rattle.lan_hosts.specs.Runs.{Starts, unused}
 use Rattle.lan_hosts.specs.Safe.{party_of}
 

@@ -2,17 +2,17 @@
 use Rattle.std.specs.Prelude.{ℕ, List, [], ◌∷◌, Some, None}
 use Rattle.net_base.specs.Ring.{ring}
 use Rattle.tcp_model.specs.Value.{TcpValue}
-use Rattle.lan_history.specs.declared.answer.Answer.{Answer}
-use Rattle.lan_history.specs.declared.answer.Answer.TheVariants as To
-use Rattle.lan_history.specs.declared.answer.Fault.TheVariants as Fault
-use Rattle.lan_history.specs.declared.event.Side.{Side}
-use Rattle.lan_history.specs.declared.event.Side.TheVariants.{A, B}
-use Rattle.lan_history.specs.Call as Call
-use Rattle.lan_history.specs.Call.{SocketCall}
-use Rattle.lan_history.specs.History.{Entry}
-use Rattle.lan_history.specs.Parties.{Net}
-use Rattle.lan_history.specs.Parties.Socket.{Tcp}
-use Rattle.lan_history.specs.Safe.{IsSafe}
+use Rattle.lan_hosts.specs.declared.history.answer.Answer.{Answer}
+use Rattle.lan_hosts.specs.declared.history.answer.Answer.TheVariants as To
+use Rattle.lan_hosts.specs.declared.history.answer.Fault.TheVariants as Fault
+use Rattle.lan_hosts.specs.declared.history.event.Side.{Side}
+use Rattle.lan_hosts.specs.declared.history.event.Side.TheVariants.{A, B}
+use Rattle.lan_hosts.specs.Call as Call
+use Rattle.lan_hosts.specs.Call.{SocketCall}
+use Rattle.lan_hosts.specs.History.{Entry}
+use Rattle.lan_hosts.specs.Parties.{Net}
+use Rattle.lan_hosts.specs.Parties.Socket.{Tcp}
+use Rattle.lan_hosts.specs.PacketsSafe.{IsSafe}
 use Rattle.stack_laws.specs.Worlds.Hosts.{endpoint, host, text, unbound, event_of}
 use Rattle.stack_laws.specs.Worlds.Streams.{fresh}
 

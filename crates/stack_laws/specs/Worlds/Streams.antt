@@ -8,19 +8,19 @@ use Rattle.ip_wire.specs.TcpHeader.{TcpHeader}
 use Rattle.net_base.specs.Ring.{ring}
 use Rattle.datagram_sockets.specs.Packet.{PacketValue, PayloadValue}
 use Rattle.datagram_sockets.specs.Packet as Carried
-use Rattle.lan_history.specs.Host.{made_of}
+use Rattle.tcp_tie.specs.Host.{made_of}
 use Rattle.tcp_model.specs.Arrival.{arrives}
 use Rattle.tcp_model.specs.Offers.{offer_of, offered_packet}
 use Rattle.tcp_model.specs.Settled.{settled}
 use Rattle.tcp_model.specs.Value.{TcpValue, new_socket}
-use Rattle.lan_history.specs.declared.answer.Answer.TheVariants as To
-use Rattle.lan_history.specs.declared.event.Side.{Side}
-use Rattle.lan_history.specs.Call.{SocketCall}
-use Rattle.lan_history.specs.Calls.{Did, did, tcp_does}
-use Rattle.lan_history.specs.Parties.{Socket, socket_at, Net, party}
-use Rattle.lan_history.specs.Parties.Socket.{Tcp}
-use Rattle.lan_history.specs.Moves.{Step}
-use Rattle.lan_history.specs.Moves.Move.{Invokes, Offers, Takes, Resets}
+use Rattle.lan_hosts.specs.declared.history.answer.Answer.TheVariants as To
+use Rattle.lan_hosts.specs.declared.history.event.Side.{Side}
+use Rattle.lan_hosts.specs.Call.{SocketCall}
+use Rattle.lan_hosts.specs.Calls.{Did, did, tcp_does}
+use Rattle.lan_hosts.specs.Parties.{Socket, socket_at, Net, party}
+use Rattle.lan_hosts.specs.Parties.Socket.{Tcp}
+use Rattle.lan_hosts.specs.Moves.{Step}
+use Rattle.lan_hosts.specs.Moves.Move.{Invokes, Offers, Takes, Resets}
 use Rattle.stack_laws.specs.Worlds.Hosts.{context, packet_to, entry_of}
 
 abbrev pub fresh : TcpValue

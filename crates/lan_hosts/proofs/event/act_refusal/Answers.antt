@@ -1,8 +1,8 @@
 use Rattle.std.proofs.Common.{ℕ, Bool, List, refl, sym, ap, ◌∙◌}
 use Rattle.lan_frames.specs.Carried.{names_tcp_or_udp}
 use Rattle.net_base.specs.Medium.TheVariants as Medium
-use Rattle.lan_history.specs.Call as Call
-use Rattle.lan_history.specs.Kinds.{kind_of, calls}
+use Rattle.lan_hosts.specs.Call as Call
+use Rattle.lan_hosts.specs.Kinds.{kind_of, calls}
 use Rattle.lan_hosts.specs.Station.{StationValue, kind_at}
 use Rattle.lan_hosts.specs.Refusals.{Table}
 use Rattle.lan_hosts.proofs.Refused.{refused_call}

@@ -1,5 +1,5 @@
 use Rattle.std.proofs.Common.{ap}
-use Rattle.lan_history.specs.Kinds.{kind_of}
+use Rattle.lan_hosts.specs.Kinds.{kind_of}
 use Rattle.lan_hosts.proofs.Linked.{cut_linked}
 use Rattle.lan_hosts.proofs.event.link.Goals as goal
 

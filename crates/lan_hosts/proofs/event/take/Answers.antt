@@ -1,6 +1,6 @@
 use Rattle.std.proofs.Common.{arith}
-use Rattle.lan_history.specs.Kinds.{kind_of}
-use Rattle.lan_history.specs.declared.event.Side.TheVariants.{A, B}
+use Rattle.lan_hosts.specs.Kinds.{kind_of}
+use Rattle.lan_hosts.specs.declared.history.event.Side.TheVariants.{A, B}
 use Rattle.lan_hosts.proofs.Growing.{sent_grows}
 use Rattle.lan_hosts.proofs.event.take.Goals as goal
 

@@ -1,7 +1,7 @@
 use Rattle.std.proofs.Common.{arith, ◌≡◌, ◌<◌, length, None, Some, refl}
 use Rattle.std.specs.Prelude.{slice_get}
 use Rattle.std.proofs.lemmas.Option.{slice_get_read}
-use Rattle.lan_history.specs.Kinds.{kind_of}
+use Rattle.lan_hosts.specs.Kinds.{kind_of}
 use Rattle.lan_hosts.proofs.Called.{calls_none}
 use Rattle.lan_hosts.proofs.place.call_in.Goals as goal
 

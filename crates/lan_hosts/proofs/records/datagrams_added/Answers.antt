@@ -2,7 +2,7 @@ use Rattle.std.proofs.Common.{ℕ, List, sym, ap, ◌∙◌}
 use Rattle.std.specs.List.{count_by}
 use Rattle.net_base.specs.Device.{frames_of}
 use Rattle.net_base.specs.Medium.{Medium}
-use Rattle.lan_history.specs.Kinds.{kind_of}
+use Rattle.lan_hosts.specs.Kinds.{kind_of}
 use Rattle.lan_hosts.specs.Origins.{medium_of, is_cut_of, begins_datagram}
 use Rattle.lan_hosts.proofs.Counting.{added_else}
 use Rattle.lan_hosts.proofs.records.datagrams_added.Goals as goal

@@ -1,5 +1,5 @@
 use Rattle.interface_egress.specs.Set.{places}
-use Rattle.lan_history.specs.Kinds.{kind_of}
+use Rattle.lan_hosts.specs.Kinds.{kind_of}
 use Rattle.lan_hosts.proofs.Called.{call_from}
 use Rattle.lan_hosts.proofs.host.Host.call.Goals as goal
 

@@ -1,5 +1,5 @@
 use Rattle.interface_egress.specs.Set.{places}
-use Rattle.lan_history.specs.Kinds as Settings
+use Rattle.lan_hosts.specs.Kinds as Settings
 use Rattle.lan_hosts.proofs.Setting.{configured_from}
 use Rattle.lan_hosts.proofs.host.Host.set_route.Goals as goal
 

@@ -1,7 +1,7 @@
 use Rattle.std.proofs.Common.{◌∷◌, take, ◌∙◌, ap, sym, subst}
 use Rattle.std.specs.Vec.Iter.{into_iter_items}
 use Rattle.lan_hosts.specs.Refusals.{MayRefuse}
-use Rattle.lan_history.specs.Kinds.{kind_of}
+use Rattle.lan_hosts.specs.Kinds.{kind_of}
 use Rattle.lan_hosts.specs.Runs.{WorldValue, tables_in}
 use Rattle.lan_world.proofs.Running.{HasRun}
 use Rattle.lan_world.proofs.Running.{next_is, one_more, starts_stay}

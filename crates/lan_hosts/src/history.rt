@@ -1,0 +1,20 @@
+//! What happens between two hosts, before any frame: events and answers, what their history says of each socket, partners, and the tables
+//! that refusals read; and the hosts' sockets over packets, of which what one made may arrive at the other in any order, any number of times,
+//! or never.
+//!
+//! The types of events and answers are plain values. `specs/Kinds` sorts the events, `specs/History` has the words of a history,
+//! `specs/Partners` says which sockets are partners, `specs/Reads` what was promised of each read, and `specs/Tables` when a call is
+//! refused. `specs/Moves` says what may happen to sockets over packets and what becomes of it, `specs/PacketsSafe` what holds in every run.
+
+mod answer;
+mod bytes;
+mod event;
+pub mod examples;
+pub mod laws;
+pub mod packet_laws;
+mod record;
+
+pub use answer::{Answer, Fault, Refused};
+pub use bytes::Bytes;
+pub use event::{Event, Side, TcpSetting};
+pub use record::{Opening, SocketKind, SocketRecord, is_port_taken};
