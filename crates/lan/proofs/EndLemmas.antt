@@ -7,8 +7,8 @@ use Rattle.lan_world.specs.NewError.TheVariants as New
 use Rattle.lan_hosts.specs.declared.history.answer.Refused.TheVariants.{Memory}
 use Rattle.lan_hosts.specs.declared.history.event.Side.{Side}
 use Rattle.lan_hosts.specs.declared.history.event.Side.TheVariants.{A, B}
-use Rattle.lan_script.specs.declared.line.Line.{Line}
-use Rattle.lan_script.specs.declared.line.Line.TheVariants.{Start}
+use Rattle.lan_base.specs.declared.line.Line.{Line}
+use Rattle.lan_base.specs.declared.line.Line.TheVariants.{Start}
 use Rattle.lan_world.specs.Station.{StationValue}
 use Rattle.lan_world.specs.New.{new_error}
 use Rattle.lan_world.specs.declared.error.WorldError.{WorldError}

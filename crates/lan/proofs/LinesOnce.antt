@@ -4,27 +4,27 @@ use Rattle.std.specs.Prelude.{drop}
 use Rattle.ip_address.specs.declared.ip.IpCidr.{IpCidr}
 use Rattle.ip_address.specs.Text.{IsEndpointText, IsIpText, IsEthernetText}
 use Rattle.ip_address.proofs.OneReading.{IsIpText-unique}
-use Rattle.lan_script.specs.Lines.{IsLine, IsSocket, IsStream, IsDatagram, IsHost, IsLink, Host, Size, Short, Hex, AreQueueSizes, Queues, SaysWords, SaysLine}
-use Rattle.lan_script.specs.Verbs.{verb_of}
-use Rattle.lan_script.specs.Words.{words_of, first_as, First, FirstIs, AreBlockTexts, AreBlocks, Reads, ReadsAll, Ends, side_of, medium_of, kind_of, version_of}
-use Rattle.lan_script.specs.Words.{protocol_of, size_of, short_of, four_digits_of, micros_of, hex_bytes_of}
-use Rattle.lan_script.specs.declared.kinds.Side.{Side}
-use Rattle.lan_script.specs.declared.kinds.SocketKind.{SocketKind}
-use Rattle.lan_script.specs.declared.kinds.SocketKind.TheVariants as kind
-use Rattle.lan_script.specs.declared.kinds.QueueSizes.{QueueSizes}
-use Rattle.lan_script.specs.declared.kinds.SocketSpec.TheVariants as spec
-use Rattle.lan_script.specs.declared.line.Line.{Line}
-use Rattle.lan_script.specs.declared.line.Line.TheVariants as line
-use Rattle.lan_script.specs.declared.verb.Verb.{Verb}
-use Rattle.lan_script.specs.declared.verb.Verb.TheVariants as verb
-use Rattle.lan_script.specs.declared.verb.StreamVerb.{StreamVerb}
-use Rattle.lan_script.specs.declared.verb.StreamVerb.TheVariants as stream
-use Rattle.lan_script.specs.declared.verb.DatagramVerb.{DatagramVerb}
-use Rattle.lan_script.specs.declared.verb.DatagramVerb.TheVariants as datagram
-use Rattle.lan_script.specs.declared.verb.HostVerb.{HostVerb}
-use Rattle.lan_script.specs.declared.verb.HostVerb.TheVariants as host
-use Rattle.lan_script.specs.declared.verb.LinkVerb.{LinkVerb}
-use Rattle.lan_script.specs.declared.verb.LinkVerb.TheVariants as link
+use Rattle.lan_base.specs.Lines.{IsLine, IsSocket, IsStream, IsDatagram, IsHost, IsLink, Host, Size, Short, Hex, AreQueueSizes, Queues, SaysWords, SaysLine}
+use Rattle.lan_base.specs.Verbs.{verb_of}
+use Rattle.lan_base.specs.Words.{words_of, first_as, First, FirstIs, AreBlockTexts, AreBlocks, Reads, ReadsAll, Ends, side_of, medium_of, kind_of, version_of}
+use Rattle.lan_base.specs.Words.{protocol_of, size_of, short_of, four_digits_of, micros_of, hex_bytes_of}
+use Rattle.lan_base.specs.declared.kinds.Side.{Side}
+use Rattle.lan_base.specs.declared.kinds.SocketKind.{SocketKind}
+use Rattle.lan_base.specs.declared.kinds.SocketKind.TheVariants as kind
+use Rattle.lan_base.specs.declared.kinds.QueueSizes.{QueueSizes}
+use Rattle.lan_base.specs.declared.kinds.SocketSpec.TheVariants as spec
+use Rattle.lan_base.specs.declared.line.Line.{Line}
+use Rattle.lan_base.specs.declared.line.Line.TheVariants as line
+use Rattle.lan_base.specs.declared.verb.Verb.{Verb}
+use Rattle.lan_base.specs.declared.verb.Verb.TheVariants as verb
+use Rattle.lan_base.specs.declared.verb.StreamVerb.{StreamVerb}
+use Rattle.lan_base.specs.declared.verb.StreamVerb.TheVariants as stream
+use Rattle.lan_base.specs.declared.verb.DatagramVerb.{DatagramVerb}
+use Rattle.lan_base.specs.declared.verb.DatagramVerb.TheVariants as datagram
+use Rattle.lan_base.specs.declared.verb.HostVerb.{HostVerb}
+use Rattle.lan_base.specs.declared.verb.HostVerb.TheVariants as host
+use Rattle.lan_base.specs.declared.verb.LinkVerb.{LinkVerb}
+use Rattle.lan_base.specs.declared.verb.LinkVerb.TheVariants as link
 use Rattle.lan.proofs.TextsOnce.{endpoint_once, ethernet_once, block_once}
 
 -- CHAINS

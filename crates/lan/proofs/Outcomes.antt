@@ -4,9 +4,9 @@ use Rattle.lan_hosts.specs.History.{Entry}
 use Rattle.lan_hosts.specs.declared.history.answer.Answer.{Answer}
 use Rattle.lan_hosts.specs.declared.history.answer.Refused.TheVariants.{Memory}
 use Rattle.lan_hosts.specs.declared.history.event.Event.{Event}
-use Rattle.lan_script.specs.declared.line.Line.{Line}
-use Rattle.lan_script.specs.declared.line.Line.TheVariants.{World, Socket, Start, Listen, Connect, Send, Recv, Close, Abort, State, Bind, Ident, SendTo}
-use Rattle.lan_script.specs.declared.line.Line.TheVariants.{SendIcmp, SendRaw, RecvFrom, Addrs, Hw, Route, Poll, PollAt, Deliver, Damage, Noise, Room, Cut}
+use Rattle.lan_base.specs.declared.line.Line.{Line}
+use Rattle.lan_base.specs.declared.line.Line.TheVariants.{World, Socket, Start, Listen, Connect, Send, Recv, Close, Abort, State, Bind, Ident, SendTo}
+use Rattle.lan_base.specs.declared.line.Line.TheVariants.{SendIcmp, SendRaw, RecvFrom, Addrs, Hw, Route, Poll, PollAt, Deliver, Damage, Noise, Room, Cut}
 use Rattle.lan_world.specs.Runs.{WorldValue, Step, Steps}
 use Rattle.lan.specs.declared.end.End.{End}
 use Rattle.lan.specs.declared.end.End.TheVariants.{Refusal}

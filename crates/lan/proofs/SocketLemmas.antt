@@ -8,7 +8,7 @@ use Rattle.lan_world.specs.Set.{unmarked, is_free, free_place}
 use Rattle.lan_world.specs.SocketStorage.{SocketStorage}
 use Rattle.lan_hosts.specs.Kinds.{same_side}
 use Rattle.lan_hosts.specs.declared.history.event.Side.{Side}
-use Rattle.lan_script.specs.declared.kinds.SocketSpec.{SocketSpec}
+use Rattle.lan_base.specs.declared.kinds.SocketSpec.{SocketSpec}
 use Rattle.sockets.specs.declared.socket.Socket.{Socket}
 use Rattle.lan.specs.Hosts.{socket_of, with_sockets, is_large, has_large}
 

@@ -9,7 +9,7 @@ use Rattle.lan_hosts.specs.declared.history.answer.Answer.TheVariants.{Done, Cou
 use Rattle.lan_hosts.specs.declared.history.answer.Fault.{Fault}
 use Rattle.lan_hosts.specs.declared.history.answer.Fault.TheVariants.{InvalidState, Unaddressable, BufferFull, Exhausted, Truncated, Finished, Medium, NotUnicast}
 use Rattle.lan_hosts.specs.declared.history.answer.Fault.TheVariants.{RouteTableFull}
-use Rattle.lan_script.specs.Text.{hex_word}
+use Rattle.lan_base.specs.Text.{hex_word}
 use Rattle.sockets.specs.TcpStates.{text_of}
 
 abbrev pub side_name : Side → List ℕ

@@ -4,12 +4,12 @@ use Rattle.lan_hosts.specs.declared.history.event.Side as host_side
 use Rattle.lan_hosts.specs.declared.history.event.Side.TheVariants as Host
 use Rattle.lan_hosts.specs.declared.history.event.Event.{Event}
 use Rattle.lan_hosts.specs.declared.history.event.Event.TheVariants as E
-use Rattle.lan_script.specs.Lines.{SaysLine}
-use Rattle.lan_script.specs.declared.kinds.Side.{Side}
-use Rattle.lan_script.specs.declared.kinds.Side.TheVariants.{A, B}
-use Rattle.lan_script.specs.declared.line.Line.{Line}
-use Rattle.lan_script.specs.declared.line.Line.TheVariants.{World, Socket, Start, Listen, Connect, Send, Recv, Close, Abort, State, Bind, Ident, SendTo}
-use Rattle.lan_script.specs.declared.line.Line.TheVariants.{SendIcmp, SendRaw, RecvFrom, Addrs, Hw, Route, Poll, PollAt, Deliver, Damage, Noise, Room, Cut}
+use Rattle.lan_base.specs.Lines.{SaysLine}
+use Rattle.lan_base.specs.declared.kinds.Side.{Side}
+use Rattle.lan_base.specs.declared.kinds.Side.TheVariants.{A, B}
+use Rattle.lan_base.specs.declared.line.Line.{Line}
+use Rattle.lan_base.specs.declared.line.Line.TheVariants.{World, Socket, Start, Listen, Connect, Send, Recv, Close, Abort, State, Bind, Ident, SendTo}
+use Rattle.lan_base.specs.declared.line.Line.TheVariants.{SendIcmp, SendRaw, RecvFrom, Addrs, Hw, Route, Poll, PollAt, Deliver, Damage, Noise, Room, Cut}
 
 -- LINES
 

@@ -22,10 +22,10 @@ use Rattle.ip_address.specs.Protocol.{protocol_of}
 use Rattle.lan_hosts.specs.Kinds.{same_side}
 use Rattle.lan_hosts.specs.declared.history.event.Side.{Side}
 use Rattle.lan_hosts.specs.declared.history.event.Side.TheVariants.{A, B}
-use Rattle.lan_frames.specs.Port.{unused_end}
-use Rattle.lan_script.specs.declared.kinds.QueueSizes.{QueueSizes}
-use Rattle.lan_script.specs.declared.kinds.SocketSpec.{SocketSpec}
-use Rattle.lan_script.specs.declared.kinds.SocketSpec.TheVariants as Asks
+use Rattle.lan_base.specs.Port.{unused_end}
+use Rattle.lan_base.specs.declared.kinds.QueueSizes.{QueueSizes}
+use Rattle.lan_base.specs.declared.kinds.SocketSpec.{SocketSpec}
+use Rattle.lan_base.specs.declared.kinds.SocketSpec.TheVariants as Asks
 use Rattle.lan_world.specs.Runs.{WorldValue}
 use Rattle.lan_world.specs.Station.{StationValue}
 use Rattle.lan_world.specs.Come.{both, starts_of}

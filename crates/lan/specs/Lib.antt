@@ -6,7 +6,7 @@ pub mod Scripts
 pub mod Pieces
 -- What contracts of the members cite, for the crates above: `Rattle.lan.specs.Promises.{IsSafeWorld}`,
 -- `Rattle.lan.specs.Answer.TheVariants.{Done}`.
-pub use Rattle.lan_frames.specs.Carried
+pub use Rattle.lan_base.specs.Carried
 pub use Rattle.lan_hosts.specs.History
 pub use Rattle.lan_hosts.specs.Kinds
 pub use Rattle.lan_hosts.specs.Partners
@@ -18,7 +18,7 @@ pub use Rattle.lan_hosts.specs.declared.history.answer.Refused
 pub use Rattle.lan_hosts.specs.declared.history.event.Event
 pub use Rattle.lan_hosts.specs.declared.history.event.Side
 pub use Rattle.lan_hosts.specs.declared.history.event.TcpSetting
-pub use Rattle.lan_frames.specs.Port
+pub use Rattle.lan_base.specs.Port
 pub use Rattle.lan_world.specs.Refusals
 pub use Rattle.lan_world.specs.Runs
 pub use Rattle.lan_world.specs.Station

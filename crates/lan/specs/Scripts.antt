@@ -5,8 +5,8 @@ use Rattle.lan_hosts.specs.declared.history.answer.Refused.TheVariants.{Memory}
 use Rattle.lan_hosts.specs.declared.history.event.Event.{Event}
 use Rattle.lan_hosts.specs.declared.history.event.Side.{Side}
 use Rattle.lan_hosts.specs.declared.history.event.Side.TheVariants.{A, B}
-use Rattle.lan_script.specs.declared.line.Line.{Line}
-use Rattle.lan_script.specs.declared.line.Line.TheVariants.{World, Socket, Start}
+use Rattle.lan_base.specs.declared.line.Line.{Line}
+use Rattle.lan_base.specs.declared.line.Line.TheVariants.{World, Socket, Start}
 use Rattle.lan_world.specs.Runs.{WorldValue, Step, refusal_in}
 use Rattle.lan_world.specs.Station.{Stations, station}
 use Rattle.lan.specs.declared.end.End.{End}

@@ -4,8 +4,8 @@ ghost use Rattle.std.specs.String.{string_bytes};
 ghost use Rattle.net_base.specs.Device.{frames_of};
 ghost use Rattle.lan.specs.Answers.{side_name, fault_name, answer_line, sent_line, sent_lines};
 
+use lan_base::hex_text;
 use lan_hosts::{Answer, Fault, Side};
-use lan_script::hex_text;
 use std::alloc::{AllocError, Global};
 
 fn side_name(side: Side) -> &'static str

@@ -6,14 +6,14 @@ ghost use Rattle.lan_hosts.specs.declared.history.answer.Refused.TheVariants.{Me
 ghost use Rattle.lan_world.specs.declared.error.WorldError.TheVariants.{Buffers};
 ghost use Rattle.net_base.specs.Ring.{ring};
 ghost use Rattle.lan.specs.declared.end.End.TheVariants.{Refusal, World};
-ghost use Rattle.lan_script.specs.declared.kinds.SocketSpec.TheVariants as Asks;
+ghost use Rattle.lan_base.specs.declared.kinds.SocketSpec.TheVariants as Asks;
 ghost use Rattle.lan_hosts.specs.Value.{new_socket};
 ghost use Rattle.lan.specs.Hosts.{queue, received, queued, socket_of, with_sockets, is_large, has_large};
 
 use crate::end::End;
 use ip_address::IpProtocol;
+use lan_base::{QueueSizes, SocketSpec, StreamSizes};
 use lan_hosts::{Refused, Side};
-use lan_script::{QueueSizes, SocketSpec, StreamSizes};
 use lan_world::{SocketSet, WorldError};
 use net_base::{ManagedSlice, PacketBuffer, PacketMetadata, RingBuffer};
 use sockets::{Socket, icmp, raw, tcp, udp};

@@ -12,8 +12,8 @@ use crate::answer::{answer_line, push_sent};
 use crate::end::End;
 use crate::event::{event_of, side_of};
 use crate::header::Header;
+use lan_base::Line;
 use lan_hosts::{Event, Side};
-use lan_script::Line;
 use lan_world::World;
 use std::alloc::Global;
 use std::mem::replace;
@@ -32,7 +32,7 @@ pub enum Session {
 impl Session {
     ghost use Rattle.std.specs.Prelude.{◌≡◌, None, Some, IfOk, OnOk, IfErr};
     ghost use Rattle.std.specs.String.{string_bytes};
-    ghost use Rattle.lan_script.specs.declared.line.Line.TheVariants.{Start};
+    ghost use Rattle.lan_base.specs.declared.line.Line.TheVariants.{Start};
     ghost use Rattle.lan.specs.Scripts.{end_of, Leads, LineLeads, LineEnds, Ends};
 
     /// Takes one line, without the byte 0a that ends it: what it writes.

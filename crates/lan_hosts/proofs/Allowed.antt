@@ -4,10 +4,10 @@ use Rattle.std.specs.Prelude.{◌||◌, ◌%◌, ◌==◌, not, nat_lt, int_lt, 
 use Rattle.std.proofs.lemmas.Bool.Decides.{nat_tests}
 use Rattle.net_base.specs.Time.{IsMoment}
 use Rattle.interface.specs.Settings.{is_moment}
-use Rattle.lan_frames.specs.Carried.{names_tcp_or_udp}
-use Rattle.lan_frames.specs.Cuts.{ipv4_part}
-use Rattle.lan_frames.specs.Parts.{tcp_part}
-use Rattle.lan_frames.specs.declared.part.Part.{Part}
+use Rattle.lan_base.specs.Carried.{names_tcp_or_udp}
+use Rattle.lan_base.specs.Cuts.{ipv4_part}
+use Rattle.lan_base.specs.Parts.{tcp_part}
+use Rattle.lan_base.specs.declared.part.Part.{Part}
 use Rattle.net_base.specs.Medium.TheVariants as Medium
 use Rattle.lan_hosts.specs.Call as Call
 use Rattle.lan_hosts.specs.Call.{SocketCall}

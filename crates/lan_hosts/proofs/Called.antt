@@ -4,7 +4,7 @@ use Rattle.std.specs.Prelude.{slice_get, slice_set}
 use Rattle.std.proofs.lemmas.List.{set-get_or}
 use Rattle.std.proofs.lemmas.Option.{get_or_from_slice_get}
 use Rattle.sockets.specs.Context.{ContextValue}
-use Rattle.lan_frames.specs.Port.{LinkEnd}
+use Rattle.lan_base.specs.Port.{LinkEnd}
 use Rattle.interface.specs.Host.{HostValue}
 use Rattle.interface_egress.specs.Inner.{context_of}
 use Rattle.interface_egress.specs.Set.{with_socket, socket_in, socket_of}

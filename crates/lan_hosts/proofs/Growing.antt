@@ -21,7 +21,7 @@ use Rattle.interface.proofs.Kept.{IsCounted}
 use Rattle.interface.specs.Touches.{Touch, Looks, Leave, Sends, Does, DoesAll}
 use Rattle.interface.proofs.Count.{polls_count}
 use Rattle.interface.proofs.Trace.{polls_traced}
-use Rattle.lan_frames.specs.Port.{LinkEnd, PortValue, PortMove}
+use Rattle.lan_base.specs.Port.{LinkEnd, PortValue, PortMove}
 use Rattle.lan_hosts.specs.Call.{SocketCall}
 use Rattle.lan_hosts.specs.History.{Entry}
 use Rattle.lan_hosts.specs.Kinds.{Kind, kind_of, Act, LinkAct}

@@ -1,7 +1,7 @@
 -- A cut of a host's frame, as an act of the link.
 use Rattle.std.proofs.Common.{◌≡◌, ℕ, List, Result, Ok, Err, OnOk, OnErr, refl, sym, ap, ◌∙◌}
-use Rattle.lan_frames.specs.Cuts.{first_piece, second_piece}
-use Rattle.lan_frames.specs.Port.{added}
+use Rattle.lan_base.specs.Cuts.{first_piece, second_piece}
+use Rattle.lan_base.specs.Port.{added}
 use Rattle.lan_hosts.specs.Kinds.{Kind}
 use Rattle.lan_hosts.specs.Kinds.Kind.{OfLink}
 use Rattle.lan_hosts.specs.Kinds.LinkAct.{Cuts}

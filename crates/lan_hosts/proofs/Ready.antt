@@ -36,7 +36,7 @@ use Rattle.interface.specs.declared.turn.Turned.{Turned}
 use Rattle.interface.proofs.Kept.{IsCounted}
 use Rattle.interface.proofs.Count.{polls_count}
 use Rattle.interface.proofs.Runs.{receives_same}
-use Rattle.lan_frames.specs.Port.{PortValue, PortMove}
+use Rattle.lan_base.specs.Port.{PortValue, PortMove}
 use Rattle.lan_hosts.proofs.Replies.{IsMeasured, IfReplyMeasured, brings_so}
 
 -- THE PORT

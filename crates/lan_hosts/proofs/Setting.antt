@@ -5,7 +5,7 @@ use Rattle.interface_egress.specs.declared.socket_set.SocketStorage.{SocketStora
 use Rattle.interface.specs.Host.{HostValue}
 use Rattle.interface.specs.Polls.{Polls}
 use Rattle.interface.specs.State.{state}
-use Rattle.lan_frames.specs.Port.{LinkEnd, PortValue, PortMove}
+use Rattle.lan_base.specs.Port.{LinkEnd, PortValue, PortMove}
 use Rattle.lan_hosts.specs.Kinds.{Setting}
 use Rattle.lan_hosts.specs.Kinds.Act.{Sets}
 use Rattle.lan_hosts.specs.Acting.{ActsSo}

@@ -7,8 +7,8 @@ use Rattle.lan_hosts.specs.Kinds.Kind.{OfHost, OfLink}
 use Rattle.lan_hosts.specs.declared.history.event.Side.{Side}
 use Rattle.lan_hosts.specs.Calling.{is_called}
 use Rattle.lan_hosts.specs.Station.{StationValue, Stations, station, kind_at}
-use Rattle.lan_frames.specs.Cuts.{ipv4_part}
-use Rattle.lan_frames.specs.Parts.{tcp_part}
+use Rattle.lan_base.specs.Cuts.{ipv4_part}
+use Rattle.lan_base.specs.Parts.{tcp_part}
 use Rattle.lan_hosts.specs.Tables.{first_refusal}
 use Rattle.lan_hosts.specs.declared.history.answer.Refused.{Refused}
 use Rattle.lan_hosts.specs.declared.history.answer.Refused.TheVariants as For

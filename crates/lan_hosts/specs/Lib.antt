@@ -49,7 +49,7 @@ pub use Rattle.lan_hosts.specs.declared.history.event.Event
 pub use Rattle.interface_ingress.specs.Handed
 pub use Rattle.lan_hosts.specs.declared.history.answer.Answer
 pub use Rattle.interface_egress.specs.Determined
-pub use Rattle.lan_frames.specs.Port
+pub use Rattle.lan_base.specs.Port
 pub use Rattle.ip_wire.specs.Ethernet
 pub use Rattle.ip_wire.specs.declared.arp.kinds.ArpOperation
 pub use Rattle.lan_hosts.specs.declared.history.answer.Fault

@@ -1,8 +1,8 @@
 -- What the link needs for its acts.
 use Rattle.std.specs.Prelude.{◌<◌, ◌≤◌, ◌+◌, ℕ, List, [], length, slice_index_or, Option, None, Some}
-use Rattle.lan_frames.specs.Cuts.{ipv4_part}
-use Rattle.lan_frames.specs.Parts.{tcp_part}
-use Rattle.lan_frames.specs.declared.part.Part.{Part}
+use Rattle.lan_base.specs.Cuts.{ipv4_part}
+use Rattle.lan_base.specs.Parts.{tcp_part}
+use Rattle.lan_base.specs.declared.part.Part.{Part}
 use Rattle.lan_hosts.specs.Kinds.{Kind, LinkAct, Delivered, Damaged, Noisy}
 use Rattle.lan_hosts.specs.Kinds.Kind.{OfHost, OfLink}
 use Rattle.lan_hosts.specs.Kinds.LinkAct.{Hands, Cuts}

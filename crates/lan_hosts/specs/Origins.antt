@@ -3,17 +3,17 @@ use Rattle.std.specs.Prelude.{ℕ, Bool, false, ◌&&◌, ◌||◌, ◌==◌, if
 use Rattle.std.specs.List.{count_by}
 use Rattle.net_base.specs.Medium.{Medium}
 use Rattle.ip_wire.specs.Ipv4.{piece_of}
-use Rattle.lan_frames.specs.Carried.{packet_in}
-use Rattle.lan_frames.specs.Cuts.{ipv4_part, first_piece, second_piece}
-use Rattle.lan_frames.specs.Parts.{begins_pieces, tcp_part, damaged}
-use Rattle.lan_frames.specs.declared.part.Part.{Part}
+use Rattle.lan_base.specs.Carried.{packet_in}
+use Rattle.lan_base.specs.Cuts.{ipv4_part, first_piece, second_piece}
+use Rattle.lan_base.specs.Parts.{begins_pieces, tcp_part, damaged}
+use Rattle.lan_base.specs.declared.part.Part.{Part}
 use Rattle.lan_hosts.specs.History.{Entry, Counts}
 use Rattle.lan_hosts.specs.Kinds.{other, same_side, Kind, kind_of, Origin, Delivered, Damaged, Noisy}
 use Rattle.lan_hosts.specs.Kinds.Kind.{OfLink}
 use Rattle.lan_hosts.specs.Kinds.LinkAct.{Hands, Cuts}
 use Rattle.lan_hosts.specs.declared.history.event.Side.{Side}
 use Rattle.lan_hosts.specs.declared.history.event.Side.TheVariants.{A, B}
-use Rattle.lan_frames.specs.Port.{added, arrived}
+use Rattle.lan_base.specs.Port.{added, arrived}
 use Rattle.lan_hosts.specs.Station.{StationValue, Stations, station, with_station, with_link}
 
 abbrev pub medium_of : StationValue → Medium

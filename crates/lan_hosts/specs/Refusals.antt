@@ -5,10 +5,10 @@ use Rattle.ip_wire.specs.Fields.{be16}
 use Rattle.interface.specs.Settings.{is_moment}
 use Rattle.interface.specs.Used.{sockets_in}
 use Rattle.net_base.specs.Medium.TheVariants as Medium
-use Rattle.lan_frames.specs.Carried.{names_tcp_or_udp}
-use Rattle.lan_frames.specs.Cuts.{ipv4_part}
-use Rattle.lan_frames.specs.Parts.{tcp_part, bytes_at}
-use Rattle.lan_frames.specs.declared.part.Part.{Part}
+use Rattle.lan_base.specs.Carried.{names_tcp_or_udp}
+use Rattle.lan_base.specs.Cuts.{ipv4_part}
+use Rattle.lan_base.specs.Parts.{tcp_part, bytes_at}
+use Rattle.lan_base.specs.declared.part.Part.{Part}
 use Rattle.lan_hosts.specs.Kinds.{Kind, Act, LinkAct, Delivered, Damaged, Noisy}
 use Rattle.lan_hosts.specs.Kinds.Kind.{OfHost, OfLink}
 use Rattle.lan_hosts.specs.Kinds.Act.{Calls, Asks, Polls}

@@ -10,7 +10,7 @@ use Rattle.lan_hosts.specs.declared.history.answer.Refused.{Refused}
 use Rattle.lan_hosts.specs.declared.history.event.Event.{Event}
 use Rattle.lan_hosts.specs.declared.history.event.Side.{Side}
 use Rattle.lan_hosts.specs.declared.history.event.Side.TheVariants.{A, B}
-use Rattle.lan_frames.specs.Port.{unused_end}
+use Rattle.lan_base.specs.Port.{unused_end}
 use Rattle.net_base.specs.DeviceCapabilities.{DeviceCapabilities}
 use Rattle.sockets.specs.declared.socket.Socket.{Socket}
 use Rattle.lan_hosts.specs.Station.{StationValue, Stations}

@@ -8,7 +8,7 @@ use Rattle.lan_hosts.specs.declared.history.event.Side.{Side}
 use Rattle.lan_hosts.specs.declared.history.event.Side.TheVariants.{A, B}
 use Rattle.lan_hosts.specs.declared.history.record.SocketKind.{SocketKind}
 use Rattle.lan_hosts.specs.declared.history.record.SocketKind.TheVariants as Of
-use Rattle.lan_frames.specs.Port.{LinkEnd, PortValue}
+use Rattle.lan_base.specs.Port.{LinkEnd, PortValue}
 use Rattle.sockets.specs.declared.socket.Socket.{Socket}
 use Rattle.sockets.specs.declared.socket.Socket.TheVariants as Is
 

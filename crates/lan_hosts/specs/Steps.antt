@@ -8,7 +8,7 @@ use Rattle.lan_hosts.specs.Kinds.LinkAct.{Hands, Cuts}
 use Rattle.lan_hosts.specs.declared.history.answer.Answer.{Answer}
 use Rattle.lan_hosts.specs.declared.history.answer.Answer.TheVariants as To
 use Rattle.lan_hosts.specs.declared.history.event.Side.{Side}
-use Rattle.lan_frames.specs.Port.{PortValue, PortMove}
+use Rattle.lan_base.specs.Port.{PortValue, PortMove}
 use Rattle.tcp_model.specs.State.{State}
 use Rattle.lan_hosts.specs.Station.{StationValue, Stations, station, at_port}
 use Rattle.lan_hosts.specs.Does.{Does}

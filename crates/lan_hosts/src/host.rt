@@ -3,7 +3,7 @@ ghost use Rattle.std.specs.Prelude.{◌≡◌, ◌≤◌, length, drop};
 ghost use Rattle.net_base.specs.Device.{frames_of};
 
 use interface::{Interface, SocketSet};
-use lan_frames::Port;
+use lan_base::Port;
 use sockets::Socket;
 use std::marker::Model;
 

@@ -1,9 +1,9 @@
 //! What the link does: it hands frames to hosts, and cuts sent ones.
 ghost use Rattle.std.specs.Prelude.{◌≡◌, ◌+◌, ◌<◌, ◌≤◌, ◌++◌, [], false, Some, length, slice_index_or, IfOk, OnOk, OnErr};
-ghost use Rattle.lan_frames.specs.Cuts.{ipv4_part, first_piece, second_piece};
-ghost use Rattle.lan_frames.specs.Parts.{tcp_part, damaged};
-ghost use Rattle.lan_frames.specs.declared.part.Part.{Part};
-ghost use Rattle.lan_frames.specs.Port.{added, arrived};
+ghost use Rattle.lan_base.specs.Cuts.{ipv4_part, first_piece, second_piece};
+ghost use Rattle.lan_base.specs.Parts.{tcp_part, damaged};
+ghost use Rattle.lan_base.specs.declared.part.Part.{Part};
+ghost use Rattle.lan_base.specs.Port.{added, arrived};
 ghost use Rattle.lan_hosts.specs.Station.{with_link};
 ghost use Rattle.lan_hosts.specs.Origins.{medium_of, damaged_in};
 ghost use Rattle.lan_hosts.specs.Refusals.{is_no_place, is_no_cut};
@@ -11,7 +11,7 @@ ghost use Rattle.lan_hosts.specs.Linking.{frame_at, HasSegment, HasPiece};
 
 use crate::history::Bytes;
 use crate::host::Host;
-use lan_frames::{cut_frame, damage, tcp_part};
+use lan_base::{cut_frame, damage, tcp_part};
 use net_base::{Device, Medium};
 use std::alloc::{AllocError, Global};
 

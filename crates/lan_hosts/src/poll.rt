@@ -5,13 +5,13 @@ ghost use Rattle.interface.specs.Departing.{link_room};
 ghost use Rattle.interface.specs.Set.{places};
 ghost use Rattle.interface.specs.Polls.{Polls};
 ghost use Rattle.interface.specs.State.{state};
-ghost use Rattle.lan_frames.specs.Port.{PortMove};
+ghost use Rattle.lan_base.specs.Port.{PortMove};
 ghost use Rattle.lan_hosts.specs.Steps.{PollsAt};
 
 use crate::host::Host;
 use interface::{Interface, PollResult, SocketSet};
 use ip_wire::HardwareAddress;
-use lan_frames::Port;
+use lan_base::Port;
 use net_base::Instant;
 use sockets::Socket;
 use std::alloc::AllocError;

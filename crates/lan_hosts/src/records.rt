@@ -5,15 +5,15 @@ ghost use Rattle.net_base.specs.Device.{frames_of};
 ghost use Rattle.lan_hosts.specs.Kinds.{kind_of, same_side};
 ghost use Rattle.lan_hosts.specs.Tables.{no_record, record_at, table_after};
 ghost use Rattle.lan_hosts.specs.Origins.{medium_of, is_cut_of, begins_datagram};
-ghost use Rattle.lan_frames.specs.Carried.{packet_in};
-ghost use Rattle.lan_frames.specs.Cuts.{ipv4_part};
+ghost use Rattle.lan_base.specs.Carried.{packet_in};
+ghost use Rattle.lan_base.specs.Cuts.{ipv4_part};
 ghost use Rattle.ip_wire.specs.Ipv4.{piece_of};
 ghost use Rattle.lan_hosts.specs.Records.{table_next, datagrams_added, place_of, opening_in, written_in, record_by, HasByteRoom, CanRise};
 
 use crate::history::{Answer, Event, Opening, Side, SocketRecord};
 use crate::host::Host;
 use ip_wire::Ipv4Packet;
-use lan_frames::{begins_pieces, ipv4_part, packet_in};
+use lan_base::{begins_pieces, ipv4_part, packet_in};
 use net_base::Medium;
 use std::alloc::{AllocError, Global};
 use std::marker::Model;

@@ -3,12 +3,12 @@ ghost use Rattle.std.specs.Prelude.{◌≡◌, ◌+◌, ◌≤◌, ◌||◌, ℕ
 ghost use Rattle.interface.specs.Settings.{is_moment};
 ghost use Rattle.ip_wire.specs.Fields.{be16};
 ghost use Rattle.ip_wire.specs.IpEndpoint.{IpEndpoint};
-ghost use Rattle.lan_frames.specs.Parts.{bytes_at};
-ghost use Rattle.lan_frames.specs.Cuts.{ipv4_part};
-ghost use Rattle.lan_frames.specs.Parts.{tcp_part};
+ghost use Rattle.lan_base.specs.Parts.{bytes_at};
+ghost use Rattle.lan_base.specs.Cuts.{ipv4_part};
+ghost use Rattle.lan_base.specs.Parts.{tcp_part};
 ghost use Rattle.ip_wire.specs.IpAddress.{IpAddress};
 ghost use Rattle.net_base.specs.Medium.TheVariants as medium;
-ghost use Rattle.lan_frames.specs.Carried.{names_tcp_or_udp};
+ghost use Rattle.lan_base.specs.Carried.{names_tcp_or_udp};
 ghost use Rattle.lan_hosts.specs.Call as calls;
 ghost use Rattle.lan_hosts.specs.declared.history.event.TcpSetting.{TcpSetting};
 ghost use Rattle.lan_hosts.specs.declared.history.record.SocketRecord.{SocketRecord};
@@ -20,7 +20,7 @@ ghost use Rattle.lan_hosts.specs.Refusals.{is_no_place, segment_tests, cut_tests
 use crate::history::{Opening, Refused, SocketKind, SocketRecord, is_port_taken};
 use interface::{Interface, SocketSet};
 use ip_wire::network_order::read_u16;
-use lan_frames::{Part, ipv4_part, names_tcp_or_udp, tcp_part};
+use lan_base::{Part, ipv4_part, names_tcp_or_udp, tcp_part};
 use net_base::{Instant, Medium};
 use sockets::{Context, Socket};
 

@@ -2,8 +2,8 @@
 use Rattle.std.proofs.Common.{◌≡◌, ℕ, ◌≤◌, true, List, [], ◌∷◌, Option, Some, None, IfSome, refl, sym, ◌∙◌, subst, arith}
 use Rattle.std.specs.List.{AllByRecursion}
 use Rattle.std.proofs.lemmas.Bool.Decides.{nat_tests}
-use Rattle.lan_frames.specs.Medium.{Medium}
-use Rattle.lan_frames.specs.Medium.TheVariants as Medium
+use Rattle.lan_base.specs.Medium.{Medium}
+use Rattle.lan_base.specs.Medium.TheVariants as Medium
 use Rattle.interface_ingress.specs.HardwareAddress.{HardwareAddress}
 use Rattle.interface_ingress.specs.HardwareAddress.TheVariants as Hardware
 use Rattle.sockets.specs.Packet.{PayloadValue}

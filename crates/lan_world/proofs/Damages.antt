@@ -1,13 +1,13 @@
 -- Damage that the link hands over does no harm.
 use Rattle.std.proofs.Common.{◌≡◌, inl, inr, ℕ, ◌^◌, ◌<◌, true, false, List, ◌++◌, Option, Some, None, refl, sym, ◌∙◌, ap, subst}
-use Rattle.lan_frames.specs.Medium.{Medium}
-use Rattle.lan_frames.specs.Medium.TheVariants as Medium
+use Rattle.lan_base.specs.Medium.{Medium}
+use Rattle.lan_base.specs.Medium.TheVariants as Medium
 use Rattle.interface_ingress.specs.HardwareAddress.{HardwareAddress}
 use Rattle.interface_ingress.specs.HardwareAddress.TheVariants as Hardware
 use Rattle.interface_ingress.specs.Incoming.{IncomingValue}
 use Rattle.interface_tables.specs.Settings.{is_of_medium}
-use Rattle.lan_frames.specs.Parts.{tcp_part}
-use Rattle.lan_frames.specs.declared.part.Part.{Part}
+use Rattle.lan_base.specs.Parts.{tcp_part}
+use Rattle.lan_base.specs.declared.part.Part.{Part}
 use Rattle.lan_hosts.specs.History.{Entry}
 use Rattle.lan_hosts.specs.Kinds.{Kind, Origin, Delivered, Damaged, Noisy, kind_of}
 use Rattle.lan_hosts.specs.Kinds.Kind.{OfHost, OfLink}

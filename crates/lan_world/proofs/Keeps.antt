@@ -1,7 +1,7 @@
 -- Each thing that a poll does keeps what is said of the link.
 use Rattle.std.proofs.Common.{◌≡◌, ◌⊎◌, inl, inr, ℕ, ◌+◌, ◌≤◌, ℤ, Bool, true, false, List, ◌∷◌, Option, Some, None, is_some, refl, sym, ap, subst, arith}
-use Rattle.lan_frames.specs.ChecksumCapabilities.{ChecksumCapabilities}
-use Rattle.lan_frames.specs.Device.{Took, Empty, Allowed}
+use Rattle.lan_base.specs.ChecksumCapabilities.{ChecksumCapabilities}
+use Rattle.lan_base.specs.Device.{Took, Empty, Allowed}
 use Rattle.interface.specs.Ip as Ips
 use Rattle.interface.specs.IpRepr.{IpRepr}
 use Rattle.interface.specs.IpRepr.TheVariants as Ip

@@ -4,12 +4,12 @@ use Rattle.std.proofs.Common.{Option, Some, None, refl, sym, ◌∙◌, ap, subs
 use Rattle.std.specs.Prelude.{nat_lt}
 use Rattle.std.specs.List.{AllByRecursion}
 use Rattle.std.proofs.lemmas.Bool.Decides.{nat_tests}
-use Rattle.lan_frames.specs.Medium.{Medium}
+use Rattle.lan_base.specs.Medium.{Medium}
 use Rattle.interface_ingress.specs.Fields.{be16}
-use Rattle.lan_frames.specs.Carried.{names_tcp_or_udp}
-use Rattle.lan_frames.specs.Cuts.{ipv4_part, first_piece, second_piece}
-use Rattle.lan_frames.specs.Parts.{tcp_part, bytes_at}
-use Rattle.lan_frames.specs.declared.part.Part.{Part}
+use Rattle.lan_base.specs.Carried.{names_tcp_or_udp}
+use Rattle.lan_base.specs.Cuts.{ipv4_part, first_piece, second_piece}
+use Rattle.lan_base.specs.Parts.{tcp_part, bytes_at}
+use Rattle.lan_base.specs.declared.part.Part.{Part}
 use Rattle.lan_hosts.specs.Kinds.{other, Origin, Delivered, Damaged, Noisy}
 use Rattle.lan_hosts.specs.Tables.{first_refusal}
 use Rattle.lan_hosts.specs.Refused.{Refused}

@@ -1,7 +1,7 @@
 -- A poll keeps what is said of both hosts and their link.
 use Rattle.std.proofs.Common.{◌≡◌, ℕ, ◌+◌, ◌*◌, ◌≤◌, List, ◌∷◌, sym, ◌∙◌, ap, subst, arith}
 use Rattle.std.specs.Prelude.{ℤ}
-use Rattle.lan_frames.specs.DeviceCapabilities.{DeviceCapabilities}
+use Rattle.lan_base.specs.DeviceCapabilities.{DeviceCapabilities}
 use Rattle.interface.specs.State.{State}
 use Rattle.interface.proofs.Hosts.{settings_so}
 use Rattle.lan_hosts.specs.History.{Entry}
@@ -24,7 +24,7 @@ use Rattle.lan_world.proofs.Moves.Calls.{names}
 use Rattle.lan_world.proofs.Moves.PollEvents.{AtPorts, Polled, poll_comes}
 use Rattle.lan_world.specs.Link.Frames.{medium_on}
 use Rattle.lan_world.specs.Link.Numbers.{count_numbered, AreFew, IsTied}
-use Rattle.lan_frames.specs.Medium.{Medium}
+use Rattle.lan_base.specs.Medium.{Medium}
 use Rattle.lan_hosts.specs.Origins.{medium_of}
 use Rattle.lan_world.specs.Link.Sides.{IsSender, IsReceiver}
 use Rattle.lan_world.proofs.Link.Begun.{tied_same}

@@ -3,8 +3,8 @@ use Rattle.std.proofs.Common.{◌≡◌, inl, inr, ℕ, zero, suc, ◌-◌, ◌^
 use Rattle.std.proofs.Common.{Option, Some, None, refl, sym, ◌∙◌, ap, subst, arith}
 use Rattle.std.specs.Prelude.{nat_lt}
 use Rattle.std.specs.List.{AllByRecursion}
-use Rattle.lan_frames.specs.ChecksumCapabilities.{ChecksumCapabilities}
-use Rattle.lan_frames.specs.Medium.{Medium}
+use Rattle.lan_base.specs.ChecksumCapabilities.{ChecksumCapabilities}
+use Rattle.lan_base.specs.Medium.{Medium}
 use Rattle.ip_address.specs.declared.ipv4.Ipv4FragKey.{Ipv4FragKey}
 use Rattle.interface.specs.Ip as Ips
 use Rattle.interface.specs.Ip.{carried_in}

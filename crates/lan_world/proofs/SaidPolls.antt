@@ -1,9 +1,9 @@
 -- What a host holds and takes says what is so, through a poll too.
 use Rattle.std.proofs.Common.{◌≡◌, inl, inr, ℕ, ℤ, Bool, true, false, cond, List, ◌∷◌, Option, Some, None, is_some, sym, ◌∙◌, ap, subst}
 use Rattle.std.specs.List.{AllByRecursion}
-use Rattle.lan_frames.specs.ChecksumCapabilities.{ChecksumCapabilities}
-use Rattle.lan_frames.specs.Device.{Allowed}
-use Rattle.lan_frames.specs.Medium.{Medium}
+use Rattle.lan_base.specs.ChecksumCapabilities.{ChecksumCapabilities}
+use Rattle.lan_base.specs.Device.{Allowed}
+use Rattle.lan_base.specs.Medium.{Medium}
 use Rattle.interface_ingress.specs.IpAddress.{IpAddress}
 use Rattle.interface_tables.specs.declared.key.FragKey.{FragKey}
 use Rattle.sockets.specs.Packet.{PacketValue}

@@ -4,12 +4,12 @@ use Rattle.std.proofs.Common.{drop, Option, Some, None, refl, sym, ◌∙◌, ap
 use Rattle.std.specs.Prelude.{ℤ, nat_lt}
 use Rattle.std.specs.List.{AllByRecursion}
 use Rattle.std.proofs.lemmas.List.{take_at, drop_at}
-use Rattle.lan_frames.specs.Medium.{Medium}
+use Rattle.lan_base.specs.Medium.{Medium}
 use Rattle.interface_tables.specs.declared.key.FragKey.{FragKey}
 use Rattle.interface.specs.Host.{HostValue}
-use Rattle.lan_frames.specs.Carried.{names_tcp_or_udp}
-use Rattle.lan_frames.specs.Cuts.{ipv4_part, first_piece, second_piece}
-use Rattle.lan_frames.specs.declared.part.Part.{Part}
+use Rattle.lan_base.specs.Carried.{names_tcp_or_udp}
+use Rattle.lan_base.specs.Cuts.{ipv4_part, first_piece, second_piece}
+use Rattle.lan_base.specs.declared.part.Part.{Part}
 use Rattle.lan_hosts.specs.Call.{SocketCall}
 use Rattle.lan_hosts.specs.History.{Entry, Counts}
 use Rattle.lan_hosts.specs.Kinds.{other, Kind, Origin, Delivered, Damaged, Noisy, Setting, kind_of}
@@ -32,7 +32,7 @@ use Rattle.lan_hosts.specs.Sets.{SetsTo, Configures}
 use Rattle.lan_hosts.specs.Station.{StationValue, Stations, station, with_station, with_link}
 use Rattle.lan_hosts.specs.Steps.{Acts, Happens, ActsAt}
 use Rattle.tcp_model.specs.State.{State}
-use Rattle.lan_frames.specs.DeviceCapabilities.{DeviceCapabilities}
+use Rattle.lan_base.specs.DeviceCapabilities.{DeviceCapabilities}
 use Rattle.lan_world.specs.Events.{HasWord, IsTyped, AreTyped}
 use Rattle.lan_world.specs.Hosts.Damage.{BringsNoSegment}
 use Rattle.lan_world.specs.Hosts.GoesOn.{GoesOn}

@@ -1,6 +1,6 @@
 -- What is rebuilt from pieces is what the other host made.
 use Rattle.std.specs.Prelude.{◌≡◌, ◌⊎◌, ℕ, List, [], slice_get, slice_index, Option, Some}
-use Rattle.lan_frames.specs.Medium.TheVariants as Medium
+use Rattle.lan_base.specs.Medium.TheVariants as Medium
 use Rattle.ip_address.specs.Protocol.{protocol_of}
 use Rattle.ip_address.specs.declared.ipv4.Ipv4FragKey.{Ipv4FragKey}
 use Rattle.interface_ingress.specs.IpProtocol.{IpProtocol}
@@ -20,7 +20,7 @@ use Rattle.interface_ingress.specs.Incoming.{IncomingValue, Arp, Ip4, Ip6, IsCon
 use Rattle.interface_ingress.specs.Reassembled.{PieceValue, part_in}
 use Rattle.interface_ingress.specs.Sent.{CanBeRead, normal_payload}
 use Rattle.interface_ingress.specs.Upper.{upper_header}
-use Rattle.lan_frames.specs.Carried.{names_tcp_or_udp}
+use Rattle.lan_base.specs.Carried.{names_tcp_or_udp}
 use Rattle.lan_hosts.specs.Kinds.{other}
 use Rattle.lan_hosts.specs.Side.{Side}
 use Rattle.lan_hosts.specs.Moves.{Step, IsRun, run}

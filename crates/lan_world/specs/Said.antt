@@ -1,7 +1,7 @@
 -- What frames say of a datagram, whole or in pieces (RFC 791, section 3.2; RFC 8200, section 4.5), and that what is rebuilt from pieces was
 -- sent.
 use Rattle.std.specs.Prelude.{◌≡◌, ◌⊎◌, ◌↔◌, ◌+◌, ℕ, false, List, length, slice_get, Option, Some}
-use Rattle.lan_frames.specs.Medium.{Medium}
+use Rattle.lan_base.specs.Medium.{Medium}
 use Rattle.interface.specs.Ipv4Piece.{Ipv4Piece}
 use Rattle.interface.specs.Ipv4Repr.{Ipv4Repr}
 use Rattle.interface.specs.Ipv6Repr.{Ipv6Repr}
@@ -10,9 +10,9 @@ use Rattle.interface_ingress.specs.HardwareAddress.{HardwareAddress}
 use Rattle.interface_ingress.specs.Incoming.{Ip6, IsIncoming, IsPacketV4}
 use Rattle.interface_ingress.specs.Reassembled.{PieceValue, part_v4, part_in}
 use Rattle.interface_tables.specs.declared.key.FragKey.{FragKey}
-use Rattle.lan_frames.specs.Carried.{packet_in}
-use Rattle.lan_frames.specs.Cuts.{ipv4_part}
-use Rattle.lan_frames.specs.declared.part.Part.{Part}
+use Rattle.lan_base.specs.Carried.{packet_in}
+use Rattle.lan_base.specs.Cuts.{ipv4_part}
+use Rattle.lan_base.specs.declared.part.Part.{Part}
 use Rattle.lan_hosts.specs.Kinds.{other}
 use Rattle.lan_hosts.specs.Side.{Side}
 use Rattle.lan_hosts.specs.Side.TheVariants.{A, B}

@@ -8,7 +8,7 @@ ghost use Rattle.lan_hosts.specs.Station.{StationValue, Stations, station};
 ghost use Rattle.lan_hosts.specs.Steps.{PollsAt};
 ghost use Rattle.lan_world.specs.Hosts.Asked.{requests, AreApart};
 ghost use Rattle.lan_world.specs.Hosts.Damage.{IsHarmless, BringsNoSegment, WasHarmless, HaveWords, DamageIsHarmless};
-ghost use Rattle.lan_frames.specs.Medium.{Medium};
+ghost use Rattle.lan_base.specs.Medium.{Medium};
 ghost use Rattle.lan_world.specs.Hosts.GoesOn.{GoesOn};
 ghost use Rattle.lan_world.specs.Hosts.HostRuns.{IsHostRun};
 ghost use Rattle.lan_world.specs.Hosts.Machine.{Turn, Machine, HostRun};

@@ -1,6 +1,6 @@
 //! What the link hands over was made by the other host, or by the host itself.
 ghost use Rattle.std.specs.Prelude.{◌≡◌, ◌+◌, ◌%◌, ◌*◌, ◌≤◌, ℕ, ℤ, Bool, false, List, ◌∷◌, ◌++◌, Option, Some, is_some};
-ghost use Rattle.lan_frames.specs.Medium.{Medium};
+ghost use Rattle.lan_base.specs.Medium.{Medium};
 ghost use Rattle.interface_ingress.specs.HardwareAddress.{HardwareAddress};
 ghost use Rattle.interface.specs.IpRepr.TheVariants as Ip;
 ghost use Rattle.interface.specs.Ipv4Repr.{Ipv4Repr};
@@ -17,10 +17,10 @@ ghost use Rattle.lan_hosts.specs.Arrives.{Arrived, ArrivesAs, Brings, whole_afte
 ghost use Rattle.lan_hosts.specs.Delivered.{Places};
 ghost use Rattle.lan_hosts.specs.Incoming.{IncomingValue, IsContent};
 ghost use Rattle.lan_hosts.specs.Reassembled.{Slots, taken_in};
-ghost use Rattle.lan_frames.specs.Carried.{names_tcp_or_udp};
-ghost use Rattle.lan_frames.specs.Cuts.{ipv4_part, first_piece, second_piece};
-ghost use Rattle.lan_frames.specs.Parts.{tcp_part, damaged};
-ghost use Rattle.lan_frames.specs.declared.part.Part.{Part};
+ghost use Rattle.lan_base.specs.Carried.{names_tcp_or_udp};
+ghost use Rattle.lan_base.specs.Cuts.{ipv4_part, first_piece, second_piece};
+ghost use Rattle.lan_base.specs.Parts.{tcp_part, damaged};
+ghost use Rattle.lan_base.specs.declared.part.Part.{Part};
 ghost use Rattle.lan_hosts.specs.History.{Entry};
 ghost use Rattle.lan_hosts.specs.Kinds.{kind_of};
 ghost use Rattle.lan_hosts.specs.Kinds.Act.{Polls};

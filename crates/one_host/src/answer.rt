@@ -1,6 +1,6 @@
 //! What lines answer, and how it is written.
 use ip_wire::{HardwareAddress, IpAddress, IpEndpoint};
-use lan_script::hex_text;
+use lan_base::hex_text;
 use net_base::Instant;
 use sockets::tcp::State;
 use std::alloc::{AllocError, Global};

@@ -3,7 +3,7 @@ use crate::answer::Answer;
 use crate::host::Host;
 use crate::words::{Words, number};
 use ip_wire::{IpAddress, IpEndpoint, IpListenEndpoint};
-use lan_frames::names_tcp_or_udp;
+use lan_base::names_tcp_or_udp;
 use net_base::Medium;
 use sockets::icmp::Endpoint;
 use sockets::udp::{BindError, RecvError, SendError, UdpMetadata};

@@ -3,7 +3,7 @@ use crate::answer::Answer;
 use crate::host::Host;
 use crate::wire::Wire;
 use crate::words::Words;
-use lan_frames::names_tcp_or_udp;
+use lan_base::names_tcp_or_udp;
 use net_base::Device;
 use std::alloc::Global;
 

@@ -9,7 +9,7 @@ use crate::words::Words;
 use arrayvec::ArrayVec;
 use interface::{Config, Interface, NewError, SocketSet, TABLE_ROOM};
 use ip_wire::{EthernetAddress, HardwareAddress, IpAddress, IpCidr};
-use lan_script::SocketSpec;
+use lan_base::SocketSpec;
 use net_base::{ChecksumCapabilities, DeviceCapabilities, Instant, ManagedSlice, Medium};
 use std::alloc::Global;
 

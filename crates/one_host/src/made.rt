@@ -3,7 +3,7 @@ use crate::stop::Stop;
 use crate::words::{Words, number};
 use interface::SocketSet;
 use ip_wire::{IpProtocol, IpVersion};
-use lan_script::{QueueSizes, SocketSpec, StreamSizes};
+use lan_base::{QueueSizes, SocketSpec, StreamSizes};
 use net_base::{ManagedSlice, PacketBuffer, PacketMetadata, RingBuffer};
 use sockets::{Socket, icmp, raw, tcp, udp};
 use std::alloc::Global;

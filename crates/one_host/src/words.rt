@@ -6,7 +6,7 @@ use crate::stop::{NO_MEMORY, Stop};
 use arrayvec::ArrayVec;
 use interface::TABLE_ROOM;
 use ip_wire::{IpAddress, IpCidr, IpEndpoint};
-use lan_script::HexBytes;
+use lan_base::HexBytes;
 use std::alloc::{AllocError, Global};
 use std::str::FromStr;
 

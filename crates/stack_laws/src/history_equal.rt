@@ -2,7 +2,7 @@
 //! same value.
 ghost use Rattle.std.specs.Prelude.{◌≡◌, ◌↔◌, IsTrue};
 
-use lan_frames::Part;
+use lan_base::Part;
 use lan_hosts::{Fault, Opening, Refused, Side, SocketKind, SocketRecord, TcpSetting};
 
 /// Law: `==` says of two faults, and of two reasons of a refusal, whether they are the same.

@@ -5,7 +5,7 @@ ghost use Rattle.std.specs.String.{string_bytes};
 ghost use Rattle.net_base.specs.Medium.{Medium};
 ghost use Rattle.lan.specs.Answers.{answer_line};
 ghost use Rattle.lan.specs.Events.{event_of, side_of};
-ghost use Rattle.lan_frames.specs.Carried.{names_tcp_or_udp};
+ghost use Rattle.lan_base.specs.Carried.{names_tcp_or_udp};
 ghost use Rattle.lan_hosts.specs.declared.history.event.Side.{Side};
 ghost use Rattle.lan_hosts.specs.History.{Entry};
 ghost use Rattle.lan_hosts.specs.Partners.{ArePartners};
@@ -71,28 +71,28 @@ pub fn passes_on_worlds(world: &lan_world::World) -> &lan::World
 }
 
 /// A port.
-pub fn passes_on_ports(port: &lan_frames::Port) -> &lan::Port
+pub fn passes_on_ports(port: &lan_base::Port) -> &lan::Port
     ensures { result.now ≡ port.now }
 {
     port
 }
 
 /// Leave to send at a port.
-pub fn passes_on_tokens(token: &lan_frames::PortTxToken) -> &lan::PortTxToken
+pub fn passes_on_tokens(token: &lan_base::PortTxToken) -> &lan::PortTxToken
     ensures { result.now ≡ token.now }
 {
     token
 }
 
 /// A line of a script.
-pub fn passes_on_lines<'a, 'b>(line: &'a lan_script::Line<'b>) -> &'a lan::Line<'b>
+pub fn passes_on_lines<'a, 'b>(line: &'a lan_base::Line<'b>) -> &'a lan::Line<'b>
     ensures { result.now ≡ line.now }
 {
     line
 }
 
 /// The host that a line names.
-pub fn passes_on_side_of(side: lan_script::Side) -> lan::Side
+pub fn passes_on_side_of(side: lan_base::Side) -> lan::Side
     ensures { result ≡ side_of side }
 {
     lan::side_of(side)
@@ -101,7 +101,7 @@ pub fn passes_on_side_of(side: lan_script::Side) -> lan::Side
 /// The event that a line names.
 pub fn passes_on_event_of(
     alloc: Global,
-    line: &lan_script::Line<'_>,
+    line: &lan_base::Line<'_>,
 ) -> Result<Option<lan::Event>, AllocError>
     ensures { IfOk result (λ event. event ≡ event_of line.now) }
 {

@@ -1,7 +1,7 @@
 //! What `==` says of what a script's lines name: two are equal exactly where they are the same value.
 ghost use Rattle.std.specs.Prelude.{◌≡◌, ◌↔◌, IsTrue};
 
-use lan_script::{QueueSizes, Side, SocketSpec, StreamSizes};
+use lan_base::{QueueSizes, Side, SocketSpec, StreamSizes};
 
 /// Law: `==` says of two sides, sizes and sockets that are asked for whether they are the same.
 pub fn sockets_are_equated()

@@ -20,8 +20,8 @@ use Rattle.lan_hosts.specs.Origins.{medium_of, frame_of_origin}
 use Rattle.lan_hosts.specs.Refusals.{Tables, refusal}
 use Rattle.lan_hosts.specs.Runs.{WorldRun, Leads, tables_in}
 use Rattle.lan_hosts.specs.Station.{Stations, station}
-use Rattle.lan_frames.specs.ChecksumCapabilities.{ChecksumCapabilities}
-use Rattle.lan_frames.specs.Medium.{Medium}
+use Rattle.lan_base.specs.ChecksumCapabilities.{ChecksumCapabilities}
+use Rattle.lan_base.specs.Medium.{Medium}
 use Rattle.lan_world.specs.Hosts.Damage.{IsHarmless, IsHarmlessFrom, IsHarmlessBy, DamageIsHarmless, WasHarmless, HaveWords, IsNoSegment, BringsNoSegment}
 use Rattle.lan_world.specs.Hosts.GoesOn.{GoesOn}
 use Rattle.lan_world.proofs.Link.Whole6.{known_whole, whole_is}

@@ -12,7 +12,7 @@ use Rattle.lan_hosts.specs.Station.{StationValue, Stations, station, with_statio
 use Rattle.lan_hosts.specs.Origins.{frame_of_origin, frame_sent, medium_of, goes_to, origins_of, is_cut_of}
 use Rattle.lan_hosts.specs.Steps.{Acts, Happens}
 use Rattle.lan_hosts.specs.Runs.{Leads, tables_in}
-use Rattle.lan_frames.specs.Cuts.{first_piece, second_piece}
+use Rattle.lan_base.specs.Cuts.{first_piece, second_piece}
 use Rattle.lan_world.specs.Hosts.GoesOn.{GoesOn, has_addresses}
 use Rattle.lan_world.specs.Hosts.HostRuns.{deed_in}
 use Rattle.lan_world.specs.Hosts.Machine.{Machine, machine_of}

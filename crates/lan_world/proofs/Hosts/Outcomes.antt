@@ -1,7 +1,7 @@
 -- Polls of one station have one end, whatever buffers lie ready.
 use Rattle.std.proofs.Common.{◌≡◌, ◌≤◌, ◌+◌, ◌-◌, ℕ, ℤ, Bool, true, false, List, [], ◌∷◌, ◌++◌, length, refl, sym, ap, ◌∙◌, subst, arith}
 use Rattle.std.specs.Prelude.{IsTrue, drop}
-use Rattle.lan_frames.specs.Device.{Move, Took, Empty, Allowed, Emitted, Denied}
+use Rattle.lan_base.specs.Device.{Move, Took, Empty, Allowed, Emitted, Denied}
 use Rattle.interface.specs.Polls.{Polls}
 use Rattle.interface.specs.State.{State, state}
 use Rattle.interface_egress.specs.Determined.{IsDetermined}

@@ -123,7 +123,7 @@ module _ (due : DueAsBefore) (asked : InnerValue) (asked_at : ℤ) (answer : Opt
         sym (ap (λ (x : PortValue). x.link.waiting) took.1) ∙ ap (λ (x : LinkEnd). x.waiting) at ∙ held.waiting in
         absurd (cc)
 
-    same_port : (p q : PortValue) → (q ≡ p) ⊎ PortMove p (Rattle.lan_frames.specs.Device.Empty m) q → q ≡ p
+    same_port : (p q : PortValue) → (q ≡ p) ⊎ PortMove p (Rattle.lan_base.specs.Device.Empty m) q → q ≡ p
     same_port p q (inl is) = is
     same_port p q (inr looks) = looks.0
 

@@ -5,9 +5,9 @@ use Rattle.std.specs.Prelude.{slice_index_or}
 use Rattle.std.specs.List.{AllByRecursion}
 use Rattle.std.proofs.lemmas.Bool.Decides.{nat_tests}
 use Rattle.std.proofs.lemmas.List.{map-append, get_or_append_left, length-append}
-use Rattle.lan_frames.specs.DeviceCapabilities.{DeviceCapabilities}
-use Rattle.lan_frames.specs.Medium.{Medium}
-use Rattle.lan_frames.specs.Parts.{tcp_part}
+use Rattle.lan_base.specs.DeviceCapabilities.{DeviceCapabilities}
+use Rattle.lan_base.specs.Medium.{Medium}
+use Rattle.lan_base.specs.Parts.{tcp_part}
 use Rattle.lan_hosts.specs.History.{Entry}
 use Rattle.lan_hosts.specs.Kinds.{Kind, Origin, Delivered, Damaged, Noisy, same_side, kind_of}
 use Rattle.lan_hosts.specs.Kinds.Kind.{OfHost, OfLink}

@@ -5,8 +5,8 @@ use Rattle.std.proofs.Common.{length-drop}
 use Rattle.std.specs.Int.{w16, to_be_bytes}
 use Rattle.std.proofs.lemmas.List.{drop_at}
 use Rattle.ip_address.specs.Protocol.{ether_number}
-use Rattle.lan_frames.specs.ChecksumCapabilities.{ChecksumCapabilities}
-use Rattle.lan_frames.proofs.Named.{byte_behind}
+use Rattle.lan_base.specs.ChecksumCapabilities.{ChecksumCapabilities}
+use Rattle.lan_base.proofs.Named.{byte_behind}
 use Rattle.interface_egress.specs.Arp as Arps
 use Rattle.interface_egress.specs.Departure.{arp_frame, arp_request, link_header, question_frame, solicitation, solicitation_header, solicited_station}
 use Rattle.interface_egress.specs.declared.frame.Question.TheVariants as Query

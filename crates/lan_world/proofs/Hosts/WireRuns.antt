@@ -3,8 +3,8 @@ use Rattle.std.proofs.Common.{◌≡◌, ℕ, ℤ, Bool, true, false, cond, if�
 use Rattle.std.proofs.Common.{sym, ◌∙◌, ap, subst}
 use Rattle.std.specs.Prelude.{slice_get}
 use Rattle.std.specs.List.{AllByRecursion, list_any}
-use Rattle.lan_frames.specs.DeviceCapabilities.{DeviceCapabilities}
-use Rattle.lan_frames.specs.Medium.{Medium}
+use Rattle.lan_base.specs.DeviceCapabilities.{DeviceCapabilities}
+use Rattle.lan_base.specs.Medium.{Medium}
 use Rattle.interface_ingress.specs.AddressTests.{is_ethernet_unicast}
 use Rattle.interface_ingress.specs.EthernetAddress.{EthernetAddress}
 use Rattle.interface_ingress.specs.HardwareAddress.{HardwareAddress}

@@ -21,7 +21,7 @@ use Rattle.interface.specs.Ipv6Repr.{Ipv6Repr}
 use Rattle.interface.specs.UdpRepr.{UdpRepr}
 use Rattle.ip_address.specs.Protocol.{protocol_number}
 use Rattle.ip_tcp.specs.declared.header.TcpHeader.{TcpHeader}
-use Rattle.lan_frames.proofs.Named.{byte_behind}
+use Rattle.lan_base.proofs.Named.{byte_behind}
 use Rattle.lan_hosts.specs.Call.{SocketCall}
 use Rattle.lan_hosts.specs.Does.{does}
 use Rattle.interface_ingress.specs.Handed.{handed_reply}

@@ -6,9 +6,9 @@ use Rattle.std.specs.List.{count_by}
 use Rattle.std.proofs.lemmas.List.{drop_at, get_or-drop}
 use Rattle.std.proofs.lemmas.List.Sums.{sum_by_push}
 use Rattle.std.proofs.lemmas.Bool.Decides.{nat_tests}
-use Rattle.lan_frames.specs.Medium.{Medium}
-use Rattle.lan_frames.specs.Medium.TheVariants as Medium
-use Rattle.lan_frames.specs.Capabilities.{frame_header}
+use Rattle.lan_base.specs.Medium.{Medium}
+use Rattle.lan_base.specs.Medium.TheVariants as Medium
+use Rattle.lan_base.specs.Capabilities.{frame_header}
 use Rattle.interface.specs.Ipv4.{piece_of}
 use Rattle.interface_ingress.specs.Fields.{be16}
 use Rattle.interface_ingress.specs.HardwareAddress.{HardwareAddress}
@@ -25,11 +25,11 @@ use Rattle.interface_egress.specs.Fragments.{LeftValue, piece_room, next_piece}
 use Rattle.interface_egress.specs.declared.frame.CutHeader.{CutHeader}
 use Rattle.interface_egress.specs.declared.frame.CutHeader.TheVariants as Cut
 use Rattle.interface.specs.Delivered.{IsWritable}
-use Rattle.lan_frames.specs.Carried.{packet_in}
-use Rattle.lan_frames.specs.Cuts.{ipv4_part}
-use Rattle.lan_frames.specs.Parts.{may_carry, is_ipv6, begins_pieces}
-use Rattle.lan_frames.specs.declared.part.Part.{Part}
-use Rattle.lan_frames.specs.Slices.{bytes_of_slice}
+use Rattle.lan_base.specs.Carried.{packet_in}
+use Rattle.lan_base.specs.Cuts.{ipv4_part}
+use Rattle.lan_base.specs.Parts.{may_carry, is_ipv6, begins_pieces}
+use Rattle.lan_base.specs.declared.part.Part.{Part}
+use Rattle.lan_base.specs.Slices.{bytes_of_slice}
 use Rattle.lan_hosts.specs.Origins.{begins_datagram}
 use Rattle.lan_world.specs.Link.Made.{sealed}
 use Rattle.lan_world.specs.Link.Frames.{Outgoing, number_by, medium_on, IsLinkHeader6, IsSlice, IsPiece6}

@@ -4,7 +4,7 @@ use Rattle.std.proofs.Common.{subst, arith, length-append, length-drop}
 use Rattle.std.specs.Prelude.{replicate, slice_range}
 use Rattle.std.proofs.lemmas.List.{drop_at, get_or_append_left, length-take-le}
 use Rattle.std.proofs.lemmas.Bool.Decides.{nat_tests}
-use Rattle.lan_frames.specs.Medium.TheVariants as Medium
+use Rattle.lan_base.specs.Medium.TheVariants as Medium
 use Rattle.interface_ingress.specs.EthernetAddress.{EthernetAddress}
 use Rattle.interface_ingress.specs.EthernetProtocol.{EthernetProtocol}
 use Rattle.interface_ingress.specs.EthernetProtocol.TheVariants as Ether
@@ -23,7 +23,7 @@ use Rattle.interface_ingress.specs.Incoming.{IncomingValue, Arp, Ip4, Ip6, IsFra
 use Rattle.interface_ingress.specs.Sent.{AreSealed}
 use Rattle.interface_ingress.proofs.FramesArrive.{piece-arrives, packet-arrives}
 use Rattle.interface_ingress.proofs.OneContent.{one-incoming}
-use Rattle.lan_frames.specs.Slices.{Slice, IsSliceOf, IsLinkHeader, bytes_of_slice}
+use Rattle.lan_base.specs.Slices.{Slice, IsSliceOf, IsLinkHeader, bytes_of_slice}
 use Rattle.lan_world.specs.Link.Made.{sealed}
 use Rattle.lan_world.specs.Link.Frames.{medium_on, IsLinkHeader6}
 

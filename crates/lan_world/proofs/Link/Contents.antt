@@ -14,8 +14,8 @@ use Rattle.interface_ingress.specs.EthernetRepr.{EthernetRepr}
 use Rattle.interface_ingress.specs.Headers.{is_atomic}
 use Rattle.interface_ingress.specs.Incoming.{IncomingValue, Ip6, IsIncoming}
 use Rattle.interface_ingress.specs.Reassembled.{PieceValue, part_v4, part_in, behind_headers}
-use Rattle.lan_frames.specs.Medium.{Medium}
-use Rattle.lan_frames.specs.Slices.{Slice, IsSliceOf, bytes_of_slice}
+use Rattle.lan_base.specs.Medium.{Medium}
+use Rattle.lan_base.specs.Slices.{Slice, IsSliceOf, bytes_of_slice}
 use Rattle.lan_world.specs.Link.Made.{sealed, bytes_of, HandsMade}
 use Rattle.lan_world.specs.Link.Frames.{Outgoing, medium_on, IsSlice, IsWhole6, IsPiece6, IsPieceOf, IsFrom, BringsFrom, AreOut}
 use Rattle.lan_world.proofs.Link.Behind.{with_len, packet_of_slice, piece_of_slice, count_of_slice, read_slice, read_v6, read_behind4, read_behind6}

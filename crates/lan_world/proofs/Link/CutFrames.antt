@@ -1,10 +1,10 @@
 -- What the link makes of a frame by a cut.
 use Rattle.std.proofs.Common.{◌≡◌, ℕ, ◌+◌, ◌%◌, ◌≤◌, List, [], ◌++◌, Some, sym, ◌∙◌, ap, arith, append-nil}
-use Rattle.lan_frames.specs.Medium.{Medium}
-use Rattle.lan_frames.specs.Capabilities.{frame_header}
-use Rattle.lan_frames.specs.Cuts.{ipv4_part, first_piece, second_piece}
-use Rattle.lan_frames.specs.Slices.{frame_of_slice, front_of, back_of}
-use Rattle.lan_frames.proofs.Slicing.{first-slice, second-slice, ipv4_part-slice, IsSliceOf-front, IsSliceOf-back}
+use Rattle.lan_base.specs.Medium.{Medium}
+use Rattle.lan_base.specs.Capabilities.{frame_header}
+use Rattle.lan_base.specs.Cuts.{ipv4_part, first_piece, second_piece}
+use Rattle.lan_base.specs.Slices.{frame_of_slice, front_of, back_of}
+use Rattle.lan_base.proofs.Slicing.{first-slice, second-slice, ipv4_part-slice, IsSliceOf-front, IsSliceOf-back}
 use Rattle.lan_world.specs.Link.Frames.{Outgoing, IsSlice}
 
 module _ (medium : Medium) (out : List Outgoing) (frame : List ℕ) (f : IsSlice medium out frame) where

@@ -4,8 +4,8 @@ use Rattle.std.proofs.Common.{take, drop, slice_index, Option, Some, None, refl,
 use Rattle.std.specs.Prelude.{nat_le, slice_range}
 use Rattle.std.proofs.lemmas.List.{drop_at, take_at}
 use Rattle.std.proofs.lemmas.Bool.Decides.{nat_tests}
-use Rattle.lan_frames.specs.Medium.{Medium}
-use Rattle.lan_frames.specs.Capabilities.{frame_header}
+use Rattle.lan_base.specs.Medium.{Medium}
+use Rattle.lan_base.specs.Capabilities.{frame_header}
 use Rattle.interface_ingress.specs.Fields.{be16, put16}
 use Rattle.interface_ingress.specs.HardwareAddress.{HardwareAddress}
 use Rattle.interface_ingress.specs.HardwareAddress.TheVariants as Hardware
@@ -31,10 +31,10 @@ use Rattle.interface_ingress.specs.Handed.{is_known_v6}
 use Rattle.interface_ingress.specs.Kept.{IsDamaged}
 use Rattle.interface_ingress.specs.Reassembled.{uncut}
 use Rattle.interface_ingress.proofs.FramesArrive.{piece-arrives}
-use Rattle.lan_frames.specs.Carried.{packet_in}
-use Rattle.lan_frames.specs.Parts.{may_carry, is_ipv4, is_ipv6, is_uncut, payload_v4, payload_v6, tcp_part, bytes_at, damaged}
-use Rattle.lan_frames.specs.declared.part.Part.{Part}
-use Rattle.lan_frames.specs.Slices.{IsLinkHeader, bytes_of_slice}
+use Rattle.lan_base.specs.Carried.{packet_in}
+use Rattle.lan_base.specs.Parts.{may_carry, is_ipv4, is_ipv6, is_uncut, payload_v4, payload_v6, tcp_part, bytes_at, damaged}
+use Rattle.lan_base.specs.declared.part.Part.{Part}
+use Rattle.lan_base.specs.Slices.{IsLinkHeader, bytes_of_slice}
 use Rattle.lan_world.specs.Link.Made.{sealed, bytes_of}
 use Rattle.lan_world.specs.Link.Frames.{Outgoing, medium_on, IsSlice, IsWhole6, IsPiece6, IsLinkHeader6, IsFrom, BringsFrom, AreOut}
 use Rattle.lan_world.specs.Link.Sides.{IsHostFrame, IsDamage}

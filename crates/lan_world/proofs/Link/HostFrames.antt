@@ -2,8 +2,8 @@
 use Rattle.std.proofs.Common.{◌≡◌, inl, inr, ℕ, ◌+◌, ◌%◌, ◌≤◌, ◌/◌, ◌==◌, ◌&&◌, Bool, true, false, cond, List, ◌++◌, length, slice_index, Option, Some, None}
 use Rattle.std.proofs.Common.{refl, sym, ◌∙◌, ap, subst}
 use Rattle.std.specs.Prelude.{nat_le}
-use Rattle.lan_frames.specs.Medium.{Medium}
-use Rattle.lan_frames.specs.Capabilities.{frame_header}
+use Rattle.lan_base.specs.Medium.{Medium}
+use Rattle.lan_base.specs.Capabilities.{frame_header}
 use Rattle.interface_ingress.specs.Fields.{be16}
 use Rattle.interface_ingress.specs.HardwareAddress.{HardwareAddress}
 use Rattle.interface.specs.Ipv6 as Ipv6
@@ -11,10 +11,10 @@ use Rattle.interface.specs.Ipv6Repr.{Ipv6Repr}
 use Rattle.interface_egress.specs.Departure.{piece_v6, fragment_header}
 use Rattle.interface.specs.Ipv4.{header_len_of}
 use Rattle.sockets.specs.Packet.{PayloadValue}
-use Rattle.lan_frames.specs.Carried.{packet_in, names_tcp_or_udp}
-use Rattle.lan_frames.specs.Cuts.{ipv4_part, first_piece, second_piece}
-use Rattle.lan_frames.specs.Parts.{may_carry, is_ipv4, payload_v4}
-use Rattle.lan_frames.specs.declared.part.Part.{Part}
+use Rattle.lan_base.specs.Carried.{packet_in, names_tcp_or_udp}
+use Rattle.lan_base.specs.Cuts.{ipv4_part, first_piece, second_piece}
+use Rattle.lan_base.specs.Parts.{may_carry, is_ipv4, payload_v4}
+use Rattle.lan_base.specs.declared.part.Part.{Part}
 use Rattle.lan_world.specs.Link.Frames.{Outgoing, medium_on, IsLinkHeader6, BringsFrom, AreOut}
 use Rattle.lan_world.specs.Link.Sides.{IsHostFrame}
 use Rattle.lan_world.proofs.Link.Behind.{ether_front, said, none_left}

@@ -10,8 +10,8 @@ use Rattle.interface_ingress.specs.HardwareAddress.{HardwareAddress}
 use Rattle.interface_ingress.specs.HardwareAddress.TheVariants as Hardware
 use Rattle.ip_address.specs.Protocol.{ether_number}
 use Rattle.interface_egress.specs.Departure.{link_header, link_len}
-use Rattle.lan_frames.specs.Slices.{IsLinkHeader}
-use Rattle.lan_frames.proofs.Named.{byte_behind}
+use Rattle.lan_base.specs.Slices.{IsLinkHeader}
+use Rattle.lan_base.proofs.Named.{byte_behind}
 use Rattle.lan_world.specs.Link.Frames.{medium_on, IsLinkHeader6}
 use Rattle.lan_world.specs.Link.Sides.{IsSameKind}
 

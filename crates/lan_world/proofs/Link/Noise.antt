@@ -7,13 +7,13 @@ use Rattle.interface_ingress.specs.HardwareAddress.TheVariants as Hardware
 use Rattle.interface.specs.IpRepr.TheVariants as Ip
 use Rattle.ip_address.specs.Protocol.{protocol_of}
 use Rattle.sockets.specs.Packet.{PayloadValue}
-use Rattle.lan_frames.specs.Medium.TheVariants as Medium
+use Rattle.lan_base.specs.Medium.TheVariants as Medium
 use Rattle.interface_ingress.specs.Incoming.{IncomingValue, Arp, Ip4, Ip6, IsIncoming}
 use Rattle.interface.specs.Ipv6.{payload_of}
 use Rattle.interface.specs.Ipv6Repr.{Ipv6Repr}
 use Rattle.interface_ingress.specs.Headers.{go_through}
-use Rattle.lan_frames.specs.Carried.{IsNeitherBehind, is_tcp_or_udp, has_ports_behind, names_tcp_or_udp}
-use Rattle.lan_frames.proofs.Named.{neither_first, neither_second, behind_named, ether_is, byte_behind}
+use Rattle.lan_base.specs.Carried.{IsNeitherBehind, is_tcp_or_udp, has_ports_behind, names_tcp_or_udp}
+use Rattle.lan_base.proofs.Named.{neither_first, neither_second, behind_named, ether_is, byte_behind}
 use Rattle.lan_world.specs.Link.Made.{sealed, CarriesNone, IsWholeMade}
 use Rattle.lan_world.specs.Link.Frames.{medium_on}
 use Rattle.lan_world.specs.Link.Sides.{BringsNone}

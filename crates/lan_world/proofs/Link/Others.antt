@@ -3,7 +3,7 @@ use Rattle.std.proofs.Common.{◌≡◌, ℕ, ◌+◌, Bool, true, false, cond, 
 use Rattle.std.proofs.Common.{arith, length-append, length-drop, append_assoc}
 use Rattle.std.specs.Int.{w16, to_be_bytes}
 use Rattle.std.proofs.lemmas.List.{drop_at}
-use Rattle.lan_frames.specs.Medium.{Medium}
+use Rattle.lan_base.specs.Medium.{Medium}
 use Rattle.interface_egress.specs.Arp as Arps
 use Rattle.interface_ingress.specs.EthernetAddress.{EthernetAddress}
 use Rattle.interface_ingress.specs.EthernetProtocol.TheVariants as Ether
@@ -25,9 +25,9 @@ use Rattle.interface.specs.Ip.{carried_in}
 use Rattle.interface_ingress.proofs.Bare.{bare_v6}
 use Rattle.interface_ingress.specs.Handed.{is_known_v6}
 use Rattle.interface.specs.Delivered.{NamesNoPorts}
-use Rattle.lan_frames.specs.Carried.{packet_in}
-use Rattle.lan_frames.specs.Parts.{may_carry, is_ipv4, is_ipv6, is_uncut, payload_v4, payload_v6}
-use Rattle.lan_frames.specs.declared.part.Part.{Part}
+use Rattle.lan_base.specs.Carried.{packet_in}
+use Rattle.lan_base.specs.Parts.{may_carry, is_ipv4, is_ipv6, is_uncut, payload_v4, payload_v6}
+use Rattle.lan_base.specs.declared.part.Part.{Part}
 use Rattle.lan_world.specs.Link.Made.{sealed, bytes_of}
 use Rattle.lan_world.specs.Link.Frames.{medium_on}
 use Rattle.interface_egress.proofs.Planned.{AsksFrom}

@@ -1,6 +1,6 @@
 -- A frame of a piece of an IPv6 packet that its host cut: the packet that it carries, and the piece that a slot gets of it.
 use Rattle.std.proofs.Common.{◌≡◌, ℕ, ◌+◌, ◌^◌, ◌<◌, Bool, true, false, List, length, Some, None, refl, sym, ◌∙◌, ap, subst, arith}
-use Rattle.lan_frames.specs.Medium.{Medium}
+use Rattle.lan_base.specs.Medium.{Medium}
 use Rattle.interface.specs.Ipv6 as Ipv6
 use Rattle.interface.specs.Ipv6Repr.{Ipv6Repr}
 use Rattle.interface.specs.IpRepr.TheVariants as Ip

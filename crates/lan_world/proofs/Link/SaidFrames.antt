@@ -5,9 +5,9 @@ use Rattle.std.specs.Prelude.{slice_get}
 use Rattle.std.specs.List.{AllByRecursion}
 use Rattle.std.proofs.lemmas.List.{drop_at}
 use Rattle.tcp_law.specs.ReceiveMap.{Begins}
-use Rattle.lan_frames.specs.Medium.{Medium}
-use Rattle.lan_frames.specs.Medium.TheVariants as Medium
-use Rattle.lan_frames.specs.Capabilities.{frame_header}
+use Rattle.lan_base.specs.Medium.{Medium}
+use Rattle.lan_base.specs.Medium.TheVariants as Medium
+use Rattle.lan_base.specs.Capabilities.{frame_header}
 use Rattle.interface_ingress.specs.HardwareAddress.{HardwareAddress}
 use Rattle.interface_ingress.specs.HardwareAddress.TheVariants as Hardware
 use Rattle.interface.specs.Ipv4 as Ipv4
@@ -24,11 +24,11 @@ use Rattle.interface_ingress.specs.Incoming.{IncomingValue, Arp, Ip4, Ip6, IsPac
 use Rattle.interface_ingress.specs.Handed.{is_known_v6}
 use Rattle.interface_ingress.specs.Reassembled.{PieceValue, is_piece, part_v4, part_in, behind_headers, uncut}
 use Rattle.interface_ingress.proofs.OneContent.{one-incoming}
-use Rattle.lan_frames.specs.Carried.{packet_in, names_tcp_or_udp}
-use Rattle.lan_frames.specs.Cuts.{ipv4_part, first_piece, second_piece}
-use Rattle.lan_frames.specs.Slices.{Slice, IsSliceOf, IsLinkHeader, bytes_of_slice, frame_of_slice, front_of, back_of}
-use Rattle.lan_frames.specs.declared.part.Part.{Part}
-use Rattle.lan_frames.proofs.Slicing.{first-slice, second-slice, ipv4_part-slice, IsSliceOf-front, IsSliceOf-back}
+use Rattle.lan_base.specs.Carried.{packet_in, names_tcp_or_udp}
+use Rattle.lan_base.specs.Cuts.{ipv4_part, first_piece, second_piece}
+use Rattle.lan_base.specs.Slices.{Slice, IsSliceOf, IsLinkHeader, bytes_of_slice, frame_of_slice, front_of, back_of}
+use Rattle.lan_base.specs.declared.part.Part.{Part}
+use Rattle.lan_base.proofs.Slicing.{first-slice, second-slice, ipv4_part-slice, IsSliceOf-front, IsSliceOf-back}
 use Rattle.lan_world.specs.Hosts.Damage.{BringsNoSegment, IsNoSegment}
 use Rattle.lan_world.specs.Link.Made.{sealed}
 use Rattle.lan_world.specs.Link.Frames.{Outgoing, medium_on, IsSlice, IsWhole6, IsPiece6, IsLinkHeader6}

@@ -3,7 +3,7 @@ use Rattle.std.proofs.Common.{◌≡◌, ◌⊎◌, inl, inr, ℕ, ◌+◌, ◌^
 use Rattle.std.proofs.Common.{ap, subst, arith}
 use Rattle.std.specs.Prelude.{nat_lt}
 use Rattle.std.specs.List.{AllByRecursion}
-use Rattle.lan_frames.specs.ChecksumCapabilities.{ChecksumCapabilities}
+use Rattle.lan_base.specs.ChecksumCapabilities.{ChecksumCapabilities}
 use Rattle.interface_ingress.specs.Address.{IsIpAddress}
 use Rattle.interface_ingress.specs.HardwareAddress.{HardwareAddress}
 use Rattle.interface_ingress.specs.HardwareAddress.TheVariants as Hardware

@@ -6,8 +6,8 @@ use Rattle.std.specs.List.{count_by}
 use Rattle.std.proofs.Math.Seq.{drop-append_seam}
 use Rattle.std.proofs.lemmas.Bool.Decides.{nat_tests}
 use Rattle.std.proofs.lemmas.List.Sums.{sum_by-append}
-use Rattle.lan_frames.specs.DeviceCapabilities.{DeviceCapabilities}
-use Rattle.lan_frames.specs.Medium.{Medium}
+use Rattle.lan_base.specs.DeviceCapabilities.{DeviceCapabilities}
+use Rattle.lan_base.specs.Medium.{Medium}
 use Rattle.lan_hosts.specs.History.{Entry}
 use Rattle.lan_hosts.specs.Kinds.{Kind, kind_of}
 use Rattle.lan_hosts.specs.Kinds.Act.{Polls}

@@ -13,7 +13,7 @@ use Rattle.interface.specs.Ipv4Repr.{Ipv4Repr}
 use Rattle.interface.specs.Ipv6Repr.{Ipv6Repr}
 use Rattle.interface.specs.IpRepr.TheVariants as Ip
 use Rattle.interface_ingress.specs.EthernetRepr.{EthernetRepr}
-use Rattle.lan_frames.specs.ChecksumCapabilities.{ChecksumCapabilities}
+use Rattle.lan_base.specs.ChecksumCapabilities.{ChecksumCapabilities}
 use Rattle.sockets.specs.Packet.{PayloadValue}
 use Rattle.interface_tables.specs.Inner.{InnerValue}
 use Rattle.interface_tables.specs.Slots.{without_expired}

@@ -1,7 +1,7 @@
 -- Hosts that moves of both lead to.
 use Rattle.std.specs.Prelude.{◌≡◌, List}
-use Rattle.lan_frames.specs.Medium.TheVariants as Medium
-use Rattle.lan_frames.specs.Carried.{names_tcp_or_udp}
+use Rattle.lan_base.specs.Medium.TheVariants as Medium
+use Rattle.lan_base.specs.Carried.{names_tcp_or_udp}
 use Rattle.lan_hosts.specs.History.{Entry}
 use Rattle.lan_hosts.specs.Moves.{Step, IsRun, run}
 use Rattle.lan_hosts.specs.Parties.{Net}

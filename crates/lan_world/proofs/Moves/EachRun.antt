@@ -1,7 +1,7 @@
 -- What polls, calls and a fresh start keep of each socket holds of all sockets of a world, wherever its events led.
 use Rattle.std.proofs.Common.{◌≡◌, ℕ, zero, suc, Bool, true, false, if◌then◌else◌, not, List, [], ◌∷◌, Option, Some, None, is_some, refl, sym, ap, subst}
 use Rattle.std.specs.Prelude.{slice_get}
-use Rattle.lan_frames.specs.Medium.TheVariants as Medium
+use Rattle.lan_base.specs.Medium.TheVariants as Medium
 use Rattle.sockets.specs.Context.{ContextValue}
 use Rattle.tcp_model.specs.State as States
 use Rattle.sockets.specs.declared.socket.Socket.{Socket}
@@ -9,7 +9,7 @@ use Rattle.interface_tables.specs.Inner.{context_of}
 use Rattle.interface_egress.specs.Set.{socket_at, socket_in, with_socket}
 use Rattle.interface_egress.specs.declared.socket_set.Item.{Item}
 use Rattle.interface_egress.specs.declared.socket_set.SocketStorage.{SocketStorage}
-use Rattle.lan_frames.specs.Carried.{names_tcp_or_udp}
+use Rattle.lan_base.specs.Carried.{names_tcp_or_udp}
 use Rattle.lan_hosts.specs.Call as Call
 use Rattle.lan_hosts.specs.Call.{SocketCall}
 use Rattle.lan_hosts.specs.History.{Entry}

@@ -2,8 +2,8 @@
 use Rattle.std.proofs.Common.{◌≡◌, ℕ, zero, suc, ◌+◌, ◌≤◌, Bool, List, [], ◌∷◌, length, Option, Some, None, refl, sym, ap, ◌∙◌, subst, arith}
 use Rattle.std.specs.List.{AllByRecursion}
 use Rattle.std.specs.Prelude.{slice_get, slice_set, slice_index_or}
-use Rattle.lan_frames.specs.Carried.{names_tcp_or_udp}
-use Rattle.lan_frames.specs.Medium.TheVariants as Medium
+use Rattle.lan_base.specs.Carried.{names_tcp_or_udp}
+use Rattle.lan_base.specs.Medium.TheVariants as Medium
 use Rattle.ip_address.specs.declared.ipv4.Ipv4FragKey.{Ipv4FragKey}
 use Rattle.interface_tables.specs.declared.key.FragKey.{FragKey}
 use Rattle.interface_tables.specs.declared.key.FragKey.TheVariants as Keys

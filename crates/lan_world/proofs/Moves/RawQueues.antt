@@ -15,7 +15,7 @@ use Rattle.interface.specs.Ipv6Repr.{Ipv6Repr}
 use Rattle.ip_tcp.specs.declared.header.TcpHeader.{TcpHeader}
 use Rattle.interface.specs.UdpRepr.{UdpRepr}
 use Rattle.interface.specs.Delivered.{NamesNoPorts}
-use Rattle.lan_frames.specs.Medium.TheVariants as Medium
+use Rattle.lan_base.specs.Medium.TheVariants as Medium
 use Rattle.net_containers.specs.Packets.{contents, first}
 use Rattle.sockets.specs.Context.{ContextValue}
 use Rattle.sockets.specs.Packet.{PacketValue, PayloadValue, payload_written}
@@ -33,8 +33,8 @@ use Rattle.sockets.specs.declared.socket.Socket.{Socket}
 use Rattle.sockets.specs.declared.socket.Socket.TheVariants as Is
 use Rattle.interface_ingress.specs.Datagrams.{TakesDatagram}
 use Rattle.interface_ingress.specs.Delivered.{with_packet, with_icmpv4, with_icmpv6, with_segment}
-use Rattle.lan_frames.specs.Carried.{IsNeitherBehind, names_tcp_or_udp, is_tcp_or_udp, has_ports_behind}
-use Rattle.lan_frames.proofs.Named.{neither_first, neither_second, behind_named}
+use Rattle.lan_base.specs.Carried.{IsNeitherBehind, names_tcp_or_udp, is_tcp_or_udp, has_ports_behind}
+use Rattle.lan_base.proofs.Named.{neither_first, neither_second, behind_named}
 use Rattle.lan_hosts.specs.Call as Call
 use Rattle.lan_hosts.specs.Call.{SocketCall}
 use Rattle.lan_hosts.specs.Calls.{tcp_does, udp_does}

@@ -4,7 +4,7 @@ use Rattle.std.proofs.Common.{append-nil, ◌+◌}
 use Rattle.std.specs.Prelude.{slice_set, slice_index_or}
 use Rattle.interface.specs.Ip.{destination_of}
 use Rattle.interface_ingress.specs.IpAddress.{IpAddress}
-use Rattle.lan_frames.specs.Device.{Move}
+use Rattle.lan_base.specs.Device.{Move}
 use Rattle.sockets.specs.Context.{ContextValue}
 use Rattle.sockets.specs.Packet.{PacketValue}
 use Rattle.sockets.specs.WellFormed.{IsWellFormed}

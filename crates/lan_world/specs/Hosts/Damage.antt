@@ -16,10 +16,10 @@ use Rattle.lan_hosts.specs.Kinds.LinkAct.{Hands}
 use Rattle.lan_hosts.specs.Origins.{medium_of, frame_of_origin}
 use Rattle.lan_hosts.specs.Runs.{Leads, WorldRun}
 use Rattle.lan_hosts.specs.Station.{Stations, station}
-use Rattle.lan_frames.specs.Capabilities.{all_checksums}
-use Rattle.lan_frames.specs.Checksum.TheVariants.{Both}
-use Rattle.lan_frames.specs.ChecksumCapabilities.{ChecksumCapabilities}
-use Rattle.lan_frames.specs.Medium.{Medium}
+use Rattle.lan_base.specs.Capabilities.{all_checksums}
+use Rattle.lan_base.specs.Checksum.TheVariants.{Both}
+use Rattle.lan_base.specs.ChecksumCapabilities.{ChecksumCapabilities}
+use Rattle.lan_base.specs.Medium.{Medium}
 
 -- Whichever host of the medium takes the frame, with whatever addresses, sockets and half rebuilt datagrams: if it tests all checksums,
 -- its TCP and UDP sockets stay as they were, and it answers nothing.

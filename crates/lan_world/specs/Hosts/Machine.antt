@@ -1,6 +1,6 @@
 -- A host as a machine: what it takes, answers and sends at a turn, and what it becomes.
 use Rattle.std.specs.Prelude.{◌≡◌, ℕ, ◌-◌, ℤ, pos, List, [], ◌∷◌, ◌++◌, length, Option}
-use Rattle.lan_frames.specs.DeviceCapabilities.{DeviceCapabilities}
+use Rattle.lan_base.specs.DeviceCapabilities.{DeviceCapabilities}
 use Rattle.interface.specs.Host.{HostValue}
 use Rattle.interface_egress.specs.Departure.{Departure}
 use Rattle.interface_egress.specs.GoesOut.{frame_of}

@@ -1,6 +1,6 @@
 -- Requests for neighbours by the bytes of their frames, whatever a host calls what leaves it (RFC 826; RFC 4861, section 4.3).
 use Rattle.std.specs.Prelude.{ℕ, ◌==◌, ◌&&◌, ◌||◌, if◌then◌else◌, ℤ, Bool, false, List, [], ◌∷◌, ◌++◌, slice_index}
-use Rattle.lan_frames.specs.Medium.{Medium}
+use Rattle.lan_base.specs.Medium.{Medium}
 use Rattle.interface_egress.specs.declared.socket_set.SocketStorage.{SocketStorage}
 use Rattle.interface_ingress.specs.Fields.{be16}
 use Rattle.sockets.specs.declared.socket.Socket.{Socket}

@@ -1,7 +1,7 @@
 -- The frames that a host sends, and those that the link makes of them.
 use Rattle.std.specs.Prelude.{◌≡◌, ◌⊎◌, ◌%◌, ◌^◌, ◌+◌, ◌<◌, ◌≤◌, ℕ, true, false, List, [], ◌∷◌, ◌++◌, length, Option, Some}
 use Rattle.std.specs.Int.{w32, to_be_bytes}
-use Rattle.lan_frames.specs.Medium.{Medium}
+use Rattle.lan_base.specs.Medium.{Medium}
 use Rattle.ip_address.specs.Protocol.{protocol_number}
 use Rattle.ip_address.specs.declared.ipv4.Ipv4FragKey.{Ipv4FragKey}
 use Rattle.interface_ingress.specs.HardwareAddress.{HardwareAddress}
@@ -23,9 +23,9 @@ use Rattle.interface_egress.specs.Departure.{piece_v6, fragment_header}
 use Rattle.interface_ingress.specs.Headers.{is_extension}
 use Rattle.interface_ingress.specs.Incoming.{IncomingValue, Arp, Ip4, Ip6, IsIncoming}
 use Rattle.interface_ingress.specs.Reassembled.{PieceValue, part_v4, part_in}
-use Rattle.lan_frames.specs.Parts.{may_carry}
-use Rattle.lan_frames.specs.Slices.{Slice, IsSliceOf, IsLinkHeader, frame_of_slice}
-use Rattle.lan_frames.specs.Capabilities.{frame_header}
+use Rattle.lan_base.specs.Parts.{may_carry}
+use Rattle.lan_base.specs.Slices.{Slice, IsSliceOf, IsLinkHeader, frame_of_slice}
+use Rattle.lan_base.specs.Capabilities.{frame_header}
 use Rattle.lan_world.specs.Link.Made.{sealed, bytes_of, IsWholeMade, IsGoing}
 
 -- the medium that has such addresses

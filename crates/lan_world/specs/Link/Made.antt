@@ -1,9 +1,9 @@
 -- What a host made, and what a frame brings of it. `made` says what TCP segments and UDP datagrams the host made, with the header
 -- that a reader makes of it.
 use Rattle.std.specs.Prelude.{◌≡◌, ◌⊎◌, ℕ, true, false, List, slice_get, Option, None, Some}
-use Rattle.lan_frames.specs.Capabilities.{all_checksums}
-use Rattle.lan_frames.specs.Checksum.TheVariants as Checksum
-use Rattle.lan_frames.specs.ChecksumCapabilities.{ChecksumCapabilities}
+use Rattle.lan_base.specs.Capabilities.{all_checksums}
+use Rattle.lan_base.specs.Checksum.TheVariants as Checksum
+use Rattle.lan_base.specs.ChecksumCapabilities.{ChecksumCapabilities}
 use Rattle.interface.specs.Ip as Ips
 use Rattle.interface.specs.Ip.{carried_in}
 use Rattle.interface.specs.IpRepr.{IpRepr}

@@ -1,7 +1,7 @@
 -- The invariant of two hosts at a link: what each sent, and what waits for it.
 use Rattle.std.specs.Prelude.{◌≡◌, ◌≢◌, ◌⊎◌, ◌%◌, ◌^◌, ◌+◌, ◌<◌, ◌≤◌, ℕ, List, ◌++◌, length, Option, None, Some, IfSome}
 use Rattle.std.specs.List.{AllByRecursion}
-use Rattle.lan_frames.specs.Medium.{Medium}
+use Rattle.lan_base.specs.Medium.{Medium}
 use Rattle.interface_ingress.specs.Address.{IsIpAddress}
 use Rattle.interface_ingress.specs.HardwareAddress.{HardwareAddress}
 use Rattle.interface_ingress.specs.HardwareAddress.TheVariants as Hardware
@@ -19,10 +19,10 @@ use Rattle.interface_ingress.specs.Reassembled.{Slots}
 use Rattle.interface_ingress.specs.Kept.{IsNoPieceV6}
 use Rattle.interface.specs.Delivered.{HasNoPorts}
 use Rattle.interface.specs.Taken.{HasWidths, IsHalfSent}
-use Rattle.lan_frames.specs.Cuts.{ipv4_part}
+use Rattle.lan_base.specs.Cuts.{ipv4_part}
 use Rattle.interface_ingress.specs.Fields.{be16}
-use Rattle.lan_frames.specs.Parts.{tcp_part, bytes_at}
-use Rattle.lan_frames.specs.declared.part.Part.{Part}
+use Rattle.lan_base.specs.Parts.{tcp_part, bytes_at}
+use Rattle.lan_base.specs.declared.part.Part.{Part}
 use Rattle.lan_world.specs.Link.Made.{sealed}
 use Rattle.lan_world.specs.Link.Frames.{Outgoing, medium_on, IsAmong, IsNumbered, IsSentV4, IsCutV6, IsSlice, IsWhole6, IsPiece6, BringsFrom, AreOut}
 use Rattle.lan_world.specs.Link.Held.{AreSlotsOf}

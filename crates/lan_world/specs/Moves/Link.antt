@@ -1,6 +1,6 @@
 -- What is asked of the link between two hosts, so that what a host does in a poll is a run of moves.
 use Rattle.std.specs.Prelude.{◌≡◌, ◌+◌, ◌≤◌, ℕ, ℤ, true, false, Bool, List, Option, Some, is_some}
-use Rattle.lan_frames.specs.Device.{Move, Took, Empty, Allowed}
+use Rattle.lan_base.specs.Device.{Move, Took, Empty, Allowed}
 use Rattle.interface_ingress.specs.ArpRepr.{ArpRepr}
 use Rattle.sockets.specs.Packet.{PacketValue}
 use Rattle.sockets.specs.declared.socket.Socket.{Socket}

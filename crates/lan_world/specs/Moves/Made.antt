@@ -1,6 +1,6 @@
 -- What a packet has of TCP or UDP, and who made it.
 use Rattle.std.specs.Prelude.{ℕ, List, Option, None, Some}
-use Rattle.lan_frames.specs.ChecksumCapabilities.{ChecksumCapabilities}
+use Rattle.lan_base.specs.ChecksumCapabilities.{ChecksumCapabilities}
 use Rattle.interface.specs.Ip as Ips
 use Rattle.interface.specs.IpRepr.{IpRepr}
 use Rattle.interface.specs.IpRepr.TheVariants as Ip

@@ -2,13 +2,13 @@
 -- sends; and hosts that send no datagram.
 use Rattle.std.specs.Prelude.{◌≡◌, false, List, Option, None, Some}
 use Rattle.std.specs.List.{AllByRecursion}
-use Rattle.lan_frames.specs.Medium.TheVariants as Medium
+use Rattle.lan_base.specs.Medium.TheVariants as Medium
 use Rattle.net_containers.specs.Packets.{contents}
 use Rattle.interface_egress.specs.declared.socket_set.Item.{Item}
 use Rattle.interface_egress.specs.declared.socket_set.SocketStorage.{SocketStorage}
 use Rattle.sockets.specs.declared.socket.Socket.{Socket}
 use Rattle.sockets.specs.declared.socket.Socket.TheVariants as Is
-use Rattle.lan_frames.specs.Carried.{names_tcp_or_udp}
+use Rattle.lan_base.specs.Carried.{names_tcp_or_udp}
 
 -- it holds of the socket of each place that has one
 abbrev pub OfItem : (Socket → Type 0) → Option (Item Socket) → Type 0

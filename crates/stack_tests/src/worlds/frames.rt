@@ -1,7 +1,7 @@
 //! Where the link finds a TCP segment in a frame, and which frames begin a datagram of IPv6 in pieces. The frames were made by programs of
 //! their own outside this repository.
 
-use lan_frames::{Part, begins_pieces, tcp_part};
+use lan_base::{Part, begins_pieces, tcp_part};
 use net_base::Medium;
 use std::alloc::Global;
 use std::test::Fail;

@@ -1,6 +1,6 @@
 //! Each form of a line, as it is read and printed. (What is no line ends a script of `cases`.)
 
-use lan_script::{Line, Side};
+use lan_base::{Line, Side};
 use std::alloc::{AllocError, Global};
 use std::test::Fail;
 

@@ -7,7 +7,7 @@ use crate::worlds::begun::{events_of, world};
 use crate::worlds::common::{Row, cut, push_line, tell};
 use crate::worlds::settings::other_event;
 use lan::{Answer, End, Event, Line, Refused, Side, World, answer_line, event_of};
-use lan_script::hex_text;
+use lan_base::hex_text;
 use std::alloc::{AllocError, Global};
 use std::test::Fail;
 

@@ -1,5 +1,5 @@
 use Rattle.std.proofs.Common.{ℕ, Bool, List, refl, sym, ap, ◌∙◌}
-use Rattle.lan_frames.specs.Carried.{names_tcp_or_udp}
+use Rattle.lan_base.specs.Carried.{names_tcp_or_udp}
 use Rattle.net_base.specs.Medium.TheVariants as Medium
 use Rattle.lan_hosts.specs.Call as Call
 use Rattle.lan_hosts.specs.Kinds.{kind_of, calls}

@@ -1,5 +1,5 @@
 use Rattle.std.proofs.Common.{ℕ, List, ap, ◌∙◌}
-use Rattle.lan_frames.specs.Cuts.{first_piece, second_piece}
+use Rattle.lan_base.specs.Cuts.{first_piece, second_piece}
 use Rattle.net_base.specs.Medium.{Medium}
 use Rattle.lan_hosts.specs.Linking.{frame_at}
 use Rattle.lan_hosts.specs.Origins.{medium_of}

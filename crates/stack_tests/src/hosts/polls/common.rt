@@ -9,7 +9,7 @@ use interface::{
     Config, Interface, PollIngressSingleResult, PollResult, SocketHandle, SocketSet, SocketsByKind,
 };
 use ip_wire::{EthernetAddress, HardwareAddress, IpAddress, IpCidr, IpListenEndpoint};
-use lan_frames::Port;
+use lan_base::Port;
 use net_base::{Device, Instant, ManagedSlice, Medium};
 use sockets::{Socket, udp};
 use std::alloc::Global;

@@ -3,7 +3,7 @@ use crate::hosts::polls::common::{Host, Plan, UDP};
 use crate::hosts::polls::streams::listening_socket;
 use crate::hosts::polls::wire::capabilities;
 use interface::{PollIngressSingleResult, PollResult};
-use lan_frames::Port;
+use lan_base::Port;
 use net_base::{ChecksumCapabilities, Medium, Rand};
 use sockets::Socket;
 use std::alloc::{AllocError, Global};

@@ -3,7 +3,7 @@ use crate::hosts::polls::common::at;
 use crate::hosts::polls::wire::capabilities;
 use interface::{Config, Interface, NewError};
 use ip_wire::HardwareAddress;
-use lan_frames::Port;
+use lan_base::Port;
 use net_base::{Duration, Medium};
 use std::alloc::Global;
 use std::test::Fail;

@@ -1,5 +1,5 @@
 //! The devices of hosts.
-use lan_frames::Port;
+use lan_base::Port;
 use net_base::{ChecksumCapabilities, DeviceCapabilities, Medium};
 use std::alloc::Global;
 use std::test::Fail;

@@ -1,0 +1,16 @@
+pub mod Carried
+pub mod Parts
+pub mod Cuts
+pub mod Slices
+pub mod Pool
+pub mod Port
+pub mod Words
+pub mod Verbs
+pub mod Lines
+pub mod Text
+pub use Rattle.net_devices.specs.Capabilities
+pub use Rattle.net_devices.specs.declared.capabilities.Checksum
+pub use Rattle.net_devices.specs.declared.capabilities.ChecksumCapabilities
+pub use Rattle.net_devices.specs.Device
+pub use Rattle.net_devices.specs.declared.capabilities.DeviceCapabilities
+pub use Rattle.net_devices.specs.declared.capabilities.Medium

@@ -1,4 +1,0 @@
-pub mod Named
-pub mod Words
-pub mod Cutting
-pub mod Slicing

@@ -1,4 +1,0 @@
-pub mod Words
-pub mod Verbs
-pub mod Lines
-pub mod Text
