@@ -1,6 +1,6 @@
 -- A world that begins.
 use Rattle.std.proofs.Common.{◌≡◌, List, []}
-use Rattle.lan_hosts.specs.History.{Entry}
+use Rattle.lan_world.specs.AtLink.History.{Entry}
 use Rattle.lan_world.specs.Runs.{Starts, WorldValue}
 use Rattle.lan_world.specs.Station.{StationValue, Stations}
 use Rattle.lan_world.specs.Come.{both, starts_of}

@@ -19,9 +19,9 @@ use Rattle.ip_address.specs.declared.hardware.HardwareAddress.TheVariants as Har
 use Rattle.ip_address.specs.declared.ip.IpCidr.{IpCidr}
 use Rattle.ip_address.specs.declared.ip.IpCidr.TheVariants as Block
 use Rattle.ip_address.specs.Protocol.{protocol_of}
-use Rattle.lan_hosts.specs.Kinds.{same_side}
-use Rattle.lan_hosts.specs.declared.history.event.Side.{Side}
-use Rattle.lan_hosts.specs.declared.history.event.Side.TheVariants.{A, B}
+use Rattle.lan_world.specs.AtLink.Kinds.{same_side}
+use Rattle.lan_world.specs.declared.hosts.history.event.Side.{Side}
+use Rattle.lan_world.specs.declared.hosts.history.event.Side.TheVariants.{A, B}
 use Rattle.lan_base.specs.Port.{unused_end}
 use Rattle.lan_base.specs.declared.kinds.QueueSizes.{QueueSizes}
 use Rattle.lan_base.specs.declared.kinds.SocketSpec.{SocketSpec}
@@ -40,7 +40,7 @@ use Rattle.net_base.specs.Packets.{Packets, packets_in}
 use Rattle.net_base.specs.Ring.{ring}
 use Rattle.sockets.specs.declared.socket.Socket.{Socket}
 use Rattle.sockets.specs.declared.socket.Socket.TheVariants as Is
-use Rattle.lan_hosts.specs.Value.{new_socket}
+use Rattle.lan_world.specs.AtLink.Value.{new_socket}
 use Rattle.lan.specs.Ends.{interface_end, world_end}
 use Rattle.lan.specs.declared.end.End.{End}
 use Rattle.lan.specs.declared.end.End.TheVariants.{World}

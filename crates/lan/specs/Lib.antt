@@ -7,17 +7,17 @@ pub mod Pieces
 -- What contracts of the members cite, for the crates above: `Rattle.lan.specs.Promises.{IsSafeWorld}`,
 -- `Rattle.lan.specs.Answer.TheVariants.{Done}`.
 pub use Rattle.lan_base.specs.Carried
-pub use Rattle.lan_hosts.specs.History
-pub use Rattle.lan_hosts.specs.Kinds
-pub use Rattle.lan_hosts.specs.Partners
-pub use Rattle.lan_hosts.specs.Reads
-pub use Rattle.lan_hosts.specs.Tables
-pub use Rattle.lan_hosts.specs.declared.history.answer.Answer
-pub use Rattle.lan_hosts.specs.declared.history.answer.Fault
-pub use Rattle.lan_hosts.specs.declared.history.answer.Refused
-pub use Rattle.lan_hosts.specs.declared.history.event.Event
-pub use Rattle.lan_hosts.specs.declared.history.event.Side
-pub use Rattle.lan_hosts.specs.declared.history.event.TcpSetting
+pub use Rattle.lan_world.specs.AtLink.History
+pub use Rattle.lan_world.specs.AtLink.Kinds
+pub use Rattle.lan_world.specs.AtLink.Partners
+pub use Rattle.lan_world.specs.AtLink.Reads
+pub use Rattle.lan_world.specs.AtLink.Tables
+pub use Rattle.lan_world.specs.declared.hosts.history.answer.Answer
+pub use Rattle.lan_world.specs.declared.hosts.history.answer.Fault
+pub use Rattle.lan_world.specs.declared.hosts.history.answer.Refused
+pub use Rattle.lan_world.specs.declared.hosts.history.event.Event
+pub use Rattle.lan_world.specs.declared.hosts.history.event.Side
+pub use Rattle.lan_world.specs.declared.hosts.history.event.TcpSetting
 pub use Rattle.lan_base.specs.Port
 pub use Rattle.lan_world.specs.Refusals
 pub use Rattle.lan_world.specs.Runs

@@ -5,7 +5,7 @@ ghost use Rattle.net_base.specs.Device.{frames_of};
 ghost use Rattle.lan.specs.Answers.{side_name, fault_name, answer_line, sent_line, sent_lines};
 
 use lan_base::hex_text;
-use lan_hosts::{Answer, Fault, Side};
+use lan_world::hosts::{Answer, Fault, Side};
 use std::alloc::{AllocError, Global};
 
 fn side_name(side: Side) -> &'static str

@@ -29,7 +29,7 @@ pub use end::End;
 pub use event::{event_of, side_of};
 pub use header::Header;
 pub use lan_base::{Line, Port, PortTxToken, names_tcp_or_udp};
-pub use lan_hosts::history::laws as history_laws;
+pub use lan_world::hosts::history::laws as history_laws;
 pub use lan_world::{
     Answer, Bytes, Event, Fault, Host, Refused, Side, TcpSetting, World, WorldError, host_laws,
 };

@@ -1,7 +1,7 @@
 //! A script as far as it has come, line by line.
 ghost use Rattle.std.specs.Prelude.{◌≡◌, ◌⊎◌, Some, None, IfOk, OnOk, IfErr, option_map};
 ghost use Rattle.std.specs.String.{string_bytes};
-ghost use Rattle.lan_hosts.specs.declared.history.answer.Refused.TheVariants.{Memory};
+ghost use Rattle.lan_world.specs.declared.hosts.history.answer.Refused.TheVariants.{Memory};
 ghost use Rattle.lan_world.specs.Runs.{refusal_in};
 ghost use Rattle.lan.specs.declared.end.End.TheVariants.{Refusal};
 ghost use Rattle.lan.specs.Scripts.{Takes, MayEnd, event_end, EventLeads};
@@ -13,7 +13,7 @@ use crate::end::End;
 use crate::event::{event_of, side_of};
 use crate::header::Header;
 use lan_base::Line;
-use lan_hosts::{Event, Side};
+use lan_world::hosts::{Event, Side};
 use lan_world::World;
 use std::alloc::Global;
 use std::mem::replace;

@@ -9,17 +9,17 @@ use Rattle.interface_ingress.specs.Reassembled.{Slots}
 use Rattle.interface_egress.specs.declared.socket_set.Item.{Item}
 use Rattle.interface_egress.specs.declared.socket_set.SocketStorage.{SocketStorage}
 use Rattle.interface.specs.State.{State}
-use Rattle.lan_hosts.specs.Call.{SocketCall}
-use Rattle.lan_hosts.specs.Kinds.{other}
-use Rattle.lan_hosts.specs.Answer.{Answer}
-use Rattle.lan_hosts.specs.Side.{Side}
-use Rattle.lan_hosts.specs.Side.TheVariants.{A, B}
-use Rattle.lan_hosts.specs.Calls.{Did}
-use Rattle.lan_hosts.specs.Parties.{Party, Net, party}
-use Rattle.lan_hosts.specs.Port.{LinkEnd, PortValue}
-use Rattle.lan_hosts.specs.Does.{Does, PlaceDoes, ItemDoes, DidAt, draws, does}
-use Rattle.lan_hosts.specs.Sets.{with_room, asked}
-use Rattle.lan_hosts.specs.Station.{StationValue, Stations, station, at_port}
+use Rattle.lan_world.specs.AtLink.Call.{SocketCall}
+use Rattle.lan_world.specs.AtLink.Kinds.{other}
+use Rattle.lan_world.specs.AtLink.Answer.{Answer}
+use Rattle.lan_world.specs.AtLink.Side.{Side}
+use Rattle.lan_world.specs.AtLink.Side.TheVariants.{A, B}
+use Rattle.lan_world.specs.AtLink.Calls.{Did}
+use Rattle.lan_world.specs.AtLink.Parties.{Party, Net, party}
+use Rattle.lan_world.specs.AtLink.Port.{LinkEnd, PortValue}
+use Rattle.lan_world.specs.AtLink.Does.{Does, PlaceDoes, ItemDoes, DidAt, draws, does}
+use Rattle.lan_world.specs.AtLink.Sets.{with_room, asked}
+use Rattle.lan_world.specs.AtLink.Station.{StationValue, Stations, station, at_port}
 use Rattle.tcp_model.specs.State as States
 use Rattle.lan_world.specs.Moves.Made.{Grows, MadeBy}
 use Rattle.lan_world.specs.Link.Frames.{Outgoing, medium_on}

@@ -14,13 +14,13 @@ use Rattle.interface_tables.specs.Settings.{is_of_medium, is_mtu}
 use Rattle.interface_tables.specs.declared.neighbor.Neighbor.{Neighbor}
 use Rattle.interface_egress.specs.Fragments.{LeftValue}
 use Rattle.interface_ingress.specs.Reassembled.{Slots}
-use Rattle.lan_hosts.specs.Kinds.{other}
-use Rattle.lan_hosts.specs.Side.{Side}
-use Rattle.lan_hosts.specs.Side.TheVariants.{A, B}
-use Rattle.lan_hosts.specs.Parties.{Party, party}
-use Rattle.lan_hosts.specs.Fresh.{IsHardware, IsFreshStart, IsFreshWorld}
-use Rattle.lan_hosts.specs.Runs.{Start, Starts, start, unused, unused_both}
-use Rattle.lan_hosts.specs.Station.{station}
+use Rattle.lan_world.specs.AtLink.Kinds.{other}
+use Rattle.lan_world.specs.AtLink.Side.{Side}
+use Rattle.lan_world.specs.AtLink.Side.TheVariants.{A, B}
+use Rattle.lan_world.specs.AtLink.Parties.{Party, party}
+use Rattle.lan_world.specs.AtLink.Fresh.{IsHardware, IsFreshStart, IsFreshWorld}
+use Rattle.lan_world.specs.AtLink.Runs.{Start, Starts, start, unused, unused_both}
+use Rattle.lan_world.specs.AtLink.Station.{station}
 use Rattle.lan_world.specs.Moves.Joined.{first_net}
 use Rattle.lan_world.specs.Moves.Made.{MadeBy}
 use Rattle.lan_world.specs.Link.Frames.{Outgoing, medium_on}

@@ -8,18 +8,18 @@ use Rattle.interface_ingress.specs.Incoming.{IncomingValue}
 use Rattle.interface_tables.specs.Settings.{is_of_medium}
 use Rattle.lan_base.specs.Parts.{tcp_part}
 use Rattle.lan_base.specs.declared.part.Part.{Part}
-use Rattle.lan_hosts.specs.History.{Entry}
-use Rattle.lan_hosts.specs.Kinds.{Kind, Origin, Delivered, Damaged, Noisy, kind_of}
-use Rattle.lan_hosts.specs.Kinds.Kind.{OfHost, OfLink}
-use Rattle.lan_hosts.specs.Kinds.LinkAct.{Hands, Cuts}
-use Rattle.lan_hosts.specs.Tables.{first_refusal}
-use Rattle.lan_hosts.specs.Refused.TheVariants as For
-use Rattle.lan_hosts.specs.Side.{Side}
-use Rattle.lan_hosts.specs.Parties.{Net, party}
-use Rattle.lan_hosts.specs.Origins.{medium_of, frame_sent, damaged_in, frame_of_origin}
-use Rattle.lan_hosts.specs.Refusals.{is_no_frame, segment_tests, link_tests, refusal}
-use Rattle.lan_hosts.specs.Runs.{WorldRun, tables_in}
-use Rattle.lan_hosts.specs.Station.{Stations, station}
+use Rattle.lan_world.specs.AtLink.History.{Entry}
+use Rattle.lan_world.specs.AtLink.Kinds.{Kind, Origin, Delivered, Damaged, Noisy, kind_of}
+use Rattle.lan_world.specs.AtLink.Kinds.Kind.{OfHost, OfLink}
+use Rattle.lan_world.specs.AtLink.Kinds.LinkAct.{Hands, Cuts}
+use Rattle.lan_world.specs.AtLink.Tables.{first_refusal}
+use Rattle.lan_world.specs.AtLink.Refused.TheVariants as For
+use Rattle.lan_world.specs.AtLink.Side.{Side}
+use Rattle.lan_world.specs.AtLink.Parties.{Net, party}
+use Rattle.lan_world.specs.AtLink.Origins.{medium_of, frame_sent, damaged_in, frame_of_origin}
+use Rattle.lan_world.specs.AtLink.Refusals.{is_no_frame, segment_tests, link_tests, refusal}
+use Rattle.lan_world.specs.AtLink.Runs.{WorldRun, tables_in}
+use Rattle.lan_world.specs.AtLink.Station.{Stations, station}
 use Rattle.lan_world.specs.Hosts.Damage.{IsHarmlessFrom, IsHarmlessBy, DamageIsHarmless, IsNoSegment, BringsNoSegment}
 use Rattle.lan_world.proofs.Hosts.Harmless.{harmless, damage_kept}
 use Rattle.lan_world.specs.Moves.Made.{MadeBy}

@@ -1,17 +1,17 @@
 -- An event that is no poll and no setting keeps what is said of both hosts and their link.
 use Rattle.std.proofs.Common.{◌≡◌, ℕ, List, Option, None, sym, subst, arith}
-use Rattle.lan_hosts.specs.History.{Entry}
-use Rattle.lan_hosts.specs.Kinds.{other, Kind, kind_of}
-use Rattle.lan_hosts.specs.Kinds.Kind.{OfHost, OfLink}
-use Rattle.lan_hosts.specs.Kinds.Act.{Calls, Sets, Opens, Asks, Polls}
-use Rattle.lan_hosts.specs.Kinds.LinkAct.{Hands, Cuts}
-use Rattle.lan_hosts.specs.Answer.{Answer}
-use Rattle.lan_hosts.specs.Side.{Side}
-use Rattle.lan_hosts.specs.Parties.{Net, party}
-use Rattle.lan_hosts.specs.Refusals.{Tables, refusal}
-use Rattle.lan_hosts.specs.Runs.{Leads, tables_in}
-use Rattle.lan_hosts.specs.Station.{StationValue, Stations, station}
-use Rattle.lan_hosts.specs.Steps.{Happens}
+use Rattle.lan_world.specs.AtLink.History.{Entry}
+use Rattle.lan_world.specs.AtLink.Kinds.{other, Kind, kind_of}
+use Rattle.lan_world.specs.AtLink.Kinds.Kind.{OfHost, OfLink}
+use Rattle.lan_world.specs.AtLink.Kinds.Act.{Calls, Sets, Opens, Asks, Polls}
+use Rattle.lan_world.specs.AtLink.Kinds.LinkAct.{Hands, Cuts}
+use Rattle.lan_world.specs.AtLink.Answer.{Answer}
+use Rattle.lan_world.specs.AtLink.Side.{Side}
+use Rattle.lan_world.specs.AtLink.Parties.{Net, party}
+use Rattle.lan_world.specs.AtLink.Refusals.{Tables, refusal}
+use Rattle.lan_world.specs.AtLink.Runs.{Leads, tables_in}
+use Rattle.lan_world.specs.AtLink.Station.{StationValue, Stations, station}
+use Rattle.lan_world.specs.AtLink.Steps.{Happens}
 use Rattle.tcp_model.specs.State as States
 use Rattle.lan_world.specs.Events.{IsTyped}
 use Rattle.lan_world.specs.Joins.{AreJoined, IsPlain}

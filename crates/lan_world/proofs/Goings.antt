@@ -1,18 +1,18 @@
 -- One event more.
 use Rattle.std.proofs.Common.{◌≡◌, ◌≤◌, ℕ, List, ◌∷◌, length, None, refl, sym, subst, ◌∙◌, ap}
-use Rattle.lan_hosts.specs.History.{Entry}
-use Rattle.lan_hosts.specs.Kinds.{kind_of}
-use Rattle.lan_hosts.specs.declared.history.event.Side.{Side}
-use Rattle.lan_hosts.specs.declared.history.event.Side.TheVariants.{A, B}
-use Rattle.lan_hosts.specs.declared.history.event.Event.{Event}
-use Rattle.lan_hosts.specs.declared.history.answer.Answer.{Answer}
+use Rattle.lan_world.specs.AtLink.History.{Entry}
+use Rattle.lan_world.specs.AtLink.Kinds.{kind_of}
+use Rattle.lan_world.specs.declared.hosts.history.event.Side.{Side}
+use Rattle.lan_world.specs.declared.hosts.history.event.Side.TheVariants.{A, B}
+use Rattle.lan_world.specs.declared.hosts.history.event.Event.{Event}
+use Rattle.lan_world.specs.declared.hosts.history.answer.Answer.{Answer}
 use Rattle.net_base.specs.Medium.{Medium}
-use Rattle.lan_hosts.specs.Origins.{medium_of, numbered}
-use Rattle.lan_hosts.specs.Records.{table_next}
-use Rattle.lan_hosts.specs.Refusals.{Table, Tables, refusal}
-use Rattle.lan_hosts.specs.Runs.{WorldValue, Step, Leads, table_in, counts_of, refusal_in}
-use Rattle.lan_hosts.specs.Station.{StationValue, Stations, station}
-use Rattle.lan_hosts.specs.Steps.{Happens}
+use Rattle.lan_world.specs.AtLink.Origins.{medium_of, numbered}
+use Rattle.lan_world.specs.AtLink.Records.{table_next}
+use Rattle.lan_world.specs.AtLink.Refusals.{Table, Tables, refusal}
+use Rattle.lan_world.specs.AtLink.Runs.{WorldValue, Step, Leads, table_in, counts_of, refusal_in}
+use Rattle.lan_world.specs.AtLink.Station.{StationValue, Stations, station}
+use Rattle.lan_world.specs.AtLink.Steps.{Happens}
 use Rattle.lan_world.specs.Events.{IsTyped}
 use Rattle.lan_world.specs.Come.{both, tables, world, HasCome}
 use Rattle.lan_world.specs.Past.{counts_in, entry}

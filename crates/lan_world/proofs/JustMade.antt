@@ -8,13 +8,13 @@ use Rattle.net_base.specs.Medium.{Medium}
 use Rattle.net_base.specs.Medium.TheVariants as Medium
 use Rattle.interface.specs.Made.{IsIdle}
 use Rattle.interface_tables.specs.Settings.{is_of_medium}
-use Rattle.lan_hosts.specs.Tables.{no_record}
-use Rattle.lan_hosts.specs.declared.history.event.Side.{Side}
-use Rattle.lan_hosts.specs.declared.history.event.Side.TheVariants.{A, B}
-use Rattle.lan_hosts.specs.Port.{LinkEnd}
-use Rattle.lan_hosts.specs.Fresh.{IsTypedHost, IsFreshStart}
-use Rattle.lan_hosts.specs.Runs.{unused, unused_both, table_in}
-use Rattle.lan_hosts.specs.Station.{StationValue}
+use Rattle.lan_world.specs.AtLink.Tables.{no_record}
+use Rattle.lan_world.specs.declared.hosts.history.event.Side.{Side}
+use Rattle.lan_world.specs.declared.hosts.history.event.Side.TheVariants.{A, B}
+use Rattle.lan_world.specs.AtLink.Port.{LinkEnd}
+use Rattle.lan_world.specs.AtLink.Fresh.{IsTypedHost, IsFreshStart}
+use Rattle.lan_world.specs.AtLink.Runs.{unused, unused_both, table_in}
+use Rattle.lan_world.specs.AtLink.Station.{StationValue}
 use Rattle.lan_world.specs.Come.{start_of, starts_of, both, tables, HasCome}
 use Rattle.lan_world.specs.New.{has_one_medium, has_checksums, has_mtu, has_buffers, of_each, is_fresh, first_error, new_error}
 use Rattle.lan_world.specs.declared.error.WorldError.TheVariants as Since

@@ -28,8 +28,8 @@ use Rattle.interface_ingress.specs.ArpRepr.{ArpRepr}
 use Rattle.interface_ingress.specs.Arrives as Replies
 use Rattle.interface_ingress.proofs.Settings.{brings_same}
 use Rattle.interface.specs.State.{State, state, at_device}
-use Rattle.lan_hosts.specs.Port.{PortValue, PortMove}
-use Rattle.lan_hosts.specs.Parties.{Party}
+use Rattle.lan_world.specs.AtLink.Port.{PortValue, PortMove}
+use Rattle.lan_world.specs.AtLink.Parties.{Party}
 use Rattle.tcp_tie.specs.Host.{made_of}
 use Rattle.lan_world.specs.Moves.Made as Moves
 use Rattle.lan_world.specs.Moves.Made.{Grows, MadeBy, IsMade, IsWide, FitsBehind, datagram_of}

@@ -1,3 +1,4 @@
+pub mod AtLink
 pub mod Hosts
 pub mod Moves
 pub mod Link

@@ -10,18 +10,18 @@ use Rattle.lan_base.specs.Carried.{names_tcp_or_udp}
 use Rattle.lan_base.specs.Cuts.{ipv4_part, first_piece, second_piece}
 use Rattle.lan_base.specs.Parts.{tcp_part, bytes_at}
 use Rattle.lan_base.specs.declared.part.Part.{Part}
-use Rattle.lan_hosts.specs.Kinds.{other, Origin, Delivered, Damaged, Noisy}
-use Rattle.lan_hosts.specs.Tables.{first_refusal}
-use Rattle.lan_hosts.specs.Refused.{Refused}
-use Rattle.lan_hosts.specs.Refused.TheVariants as For
-use Rattle.lan_hosts.specs.Side.{Side}
-use Rattle.lan_hosts.specs.Side.TheVariants.{A, B}
-use Rattle.lan_hosts.specs.Kinds.LinkAct.{Hands, Cuts}
-use Rattle.lan_hosts.specs.Parties.{Net, party}
-use Rattle.lan_hosts.specs.Port.{added, arrived}
-use Rattle.lan_hosts.specs.Origins.{medium_of, frame_sent, damaged_in, frame_of_origin, handed, cut}
-use Rattle.lan_hosts.specs.Refusals.{is_no_frame, is_no_place, is_same_sum, segment_tests, is_no_cut, cut_tests, link_tests}
-use Rattle.lan_hosts.specs.Station.{Stations, station, with_link}
+use Rattle.lan_world.specs.AtLink.Kinds.{other, Origin, Delivered, Damaged, Noisy}
+use Rattle.lan_world.specs.AtLink.Tables.{first_refusal}
+use Rattle.lan_world.specs.AtLink.Refused.{Refused}
+use Rattle.lan_world.specs.AtLink.Refused.TheVariants as For
+use Rattle.lan_world.specs.AtLink.Side.{Side}
+use Rattle.lan_world.specs.AtLink.Side.TheVariants.{A, B}
+use Rattle.lan_world.specs.AtLink.Kinds.LinkAct.{Hands, Cuts}
+use Rattle.lan_world.specs.AtLink.Parties.{Net, party}
+use Rattle.lan_world.specs.AtLink.Port.{added, arrived}
+use Rattle.lan_world.specs.AtLink.Origins.{medium_of, frame_sent, damaged_in, frame_of_origin, handed, cut}
+use Rattle.lan_world.specs.AtLink.Refusals.{is_no_frame, is_no_place, is_same_sum, segment_tests, is_no_cut, cut_tests, link_tests}
+use Rattle.lan_world.specs.AtLink.Station.{Stations, station, with_link}
 use Rattle.lan_world.specs.Moves.Made.{MadeBy}
 use Rattle.lan_world.specs.Link.Frames.{medium_on, BringsFrom}
 use Rattle.lan_world.specs.Link.Sides.{IsHostFrame, IsDamage}

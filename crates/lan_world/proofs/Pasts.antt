@@ -2,10 +2,10 @@
 use Rattle.std.proofs.Common.{◌≡◌, List, [], ◌∷◌, ◌++◌, map, length, refl, sym, ◌∙◌, ap, append_assoc, length-append, arith}
 use Rattle.std.proofs.lemmas.Grind.{common_steps}
 use Rattle.std.proofs.lemmas.List.{reverse-append}
-use Rattle.lan_hosts.specs.History.{Entry}
-use Rattle.lan_hosts.specs.declared.history.answer.Answer.{Answer}
-use Rattle.lan_hosts.specs.declared.history.event.Event.{Event}
-use Rattle.lan_hosts.specs.Runs.{answers_of}
+use Rattle.lan_world.specs.AtLink.History.{Entry}
+use Rattle.lan_world.specs.declared.hosts.history.answer.Answer.{Answer}
+use Rattle.lan_world.specs.declared.hosts.history.event.Event.{Event}
+use Rattle.lan_world.specs.AtLink.Runs.{answers_of}
 use Rattle.lan_world.specs.Past.{entry, history_from, AreAsMany}
 use Rattle.lan_world.specs.declared.history.Note.{Note}
 

@@ -4,17 +4,17 @@ use Rattle.std.specs.Prelude.{ℤ}
 use Rattle.lan_base.specs.DeviceCapabilities.{DeviceCapabilities}
 use Rattle.interface.specs.State.{State}
 use Rattle.interface.proofs.Hosts.{settings_so}
-use Rattle.lan_hosts.specs.History.{Entry}
-use Rattle.lan_hosts.specs.Kinds.{other, kind_of}
-use Rattle.lan_hosts.specs.Kinds.Act.{Polls}
-use Rattle.lan_hosts.specs.Kinds.Kind.{OfHost}
-use Rattle.lan_hosts.specs.Side.{Side}
-use Rattle.lan_hosts.specs.Parties.{Party, Net, party}
-use Rattle.lan_hosts.specs.Port.{LinkEnd, PortValue, PortMove}
+use Rattle.lan_world.specs.AtLink.History.{Entry}
+use Rattle.lan_world.specs.AtLink.Kinds.{other, kind_of}
+use Rattle.lan_world.specs.AtLink.Kinds.Act.{Polls}
+use Rattle.lan_world.specs.AtLink.Kinds.Kind.{OfHost}
+use Rattle.lan_world.specs.AtLink.Side.{Side}
+use Rattle.lan_world.specs.AtLink.Parties.{Party, Net, party}
+use Rattle.lan_world.specs.AtLink.Port.{LinkEnd, PortValue, PortMove}
 use Rattle.interface.specs.Used.{sockets_in}
-use Rattle.lan_hosts.specs.Station.{StationValue, Stations, station, at_port}
-use Rattle.lan_hosts.specs.Steps.{PollsAt, ActsAt}
-use Rattle.lan_hosts.proofs.Growing.{happens_stays}
+use Rattle.lan_world.specs.AtLink.Station.{StationValue, Stations, station, at_port}
+use Rattle.lan_world.specs.AtLink.Steps.{PollsAt, ActsAt}
+use Rattle.lan_world.proofs.AtLink.Growing.{happens_stays}
 use Rattle.lan_world.specs.Moves.Follows.{IsNetOf, Comes}
 use Rattle.lan_world.specs.Moves.Fit.{IsFit}
 use Rattle.lan_world.specs.Moves.Link.{IsLink}
@@ -25,7 +25,7 @@ use Rattle.lan_world.proofs.Moves.PollEvents.{AtPorts, Polled, poll_comes}
 use Rattle.lan_world.specs.Link.Frames.{medium_on}
 use Rattle.lan_world.specs.Link.Numbers.{count_numbered, AreFew, IsTied}
 use Rattle.lan_base.specs.Medium.{Medium}
-use Rattle.lan_hosts.specs.Origins.{medium_of}
+use Rattle.lan_world.specs.AtLink.Origins.{medium_of}
 use Rattle.lan_world.specs.Link.Sides.{IsSender, IsReceiver}
 use Rattle.lan_world.proofs.Link.Begun.{tied_same}
 use Rattle.lan_world.specs.Joins.{AreJoined}

@@ -2,7 +2,7 @@
 use Rattle.std.proofs.Common.{◌≡◌, ℕ, ◌-◌, ◌<◌, ◌≤◌, ℤ, Bool, true, false, cond, List, [], ◌∷◌, length, sym, ap, ◌∙◌, arith}
 use Rattle.std.specs.Prelude.{nat_le, drop}
 use Rattle.lan_base.specs.Device.{Move, Took, Empty, Allowed, Emitted, Denied}
-use Rattle.lan_hosts.specs.Port.{PortValue, PortMove, has_leave}
+use Rattle.lan_world.specs.AtLink.Port.{PortValue, PortMove, has_leave}
 use Rattle.interface_egress.specs.Determined.{IsDetermined}
 use Rattle.interface.proofs.Unrefused.{IsCounting, head_is, none_waits, given_or_not}
 

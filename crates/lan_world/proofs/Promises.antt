@@ -1,15 +1,15 @@
 -- The laws of worlds, of a world that came from fresh hosts.
 use Rattle.std.proofs.Common.{ℕ, List}
-use Rattle.lan_hosts.specs.History.{Entry}
-use Rattle.lan_hosts.specs.declared.history.event.Side.{Side}
-use Rattle.lan_hosts.specs.declared.history.event.Side.TheVariants.{A, B}
-use Rattle.lan_hosts.specs.PacketsSafe.{IsSafe}
-use Rattle.lan_hosts.specs.Fresh.{IsFreshWorld}
-use Rattle.lan_hosts.specs.Refusals.{Table}
-use Rattle.lan_hosts.specs.Origins.{medium_of}
-use Rattle.lan_hosts.specs.Runs.{Starts, WorldValue, WorldRun, start, unused_both, counts_of}
-use Rattle.lan_hosts.specs.Safe.{first_port, net_of}
-use Rattle.lan_hosts.specs.Station.{StationValue, Stations, station}
+use Rattle.lan_world.specs.AtLink.History.{Entry}
+use Rattle.lan_world.specs.declared.hosts.history.event.Side.{Side}
+use Rattle.lan_world.specs.declared.hosts.history.event.Side.TheVariants.{A, B}
+use Rattle.lan_world.specs.AtLink.PacketsSafe.{IsSafe}
+use Rattle.lan_world.specs.AtLink.Fresh.{IsFreshWorld}
+use Rattle.lan_world.specs.AtLink.Refusals.{Table}
+use Rattle.lan_world.specs.AtLink.Origins.{medium_of}
+use Rattle.lan_world.specs.AtLink.Runs.{Starts, WorldValue, WorldRun, start, unused_both, counts_of}
+use Rattle.lan_world.specs.AtLink.Safe.{first_port, net_of}
+use Rattle.lan_world.specs.AtLink.Station.{StationValue, Stations, station}
 use Rattle.lan_world.specs.Events.{AreTyped}
 use Rattle.lan_world.specs.Rebuilt.{RebuiltWasMade}
 use Rattle.lan_world.specs.Said.{RebuiltWasSent, by_side}

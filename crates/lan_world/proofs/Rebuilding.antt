@@ -26,15 +26,15 @@ use Rattle.interface_tables.specs.declared.key.FragKey.{FragKey}
 use Rattle.interface_tables.specs.declared.key.FragKey.TheVariants as Keys
 use Rattle.interface_tables.specs.declared.key.Ipv6FragKey.{Ipv6FragKey}
 use Rattle.sockets.specs.Packet.{PacketValue, PayloadValue, ControlV4, ControlV6, Bytes, Datagram, Segment}
-use Rattle.lan_hosts.specs.History.{Entry}
-use Rattle.lan_hosts.specs.Kinds.{other, kind_of}
-use Rattle.lan_hosts.specs.Side.{Side}
-use Rattle.lan_hosts.specs.Side.TheVariants.{A, B}
-use Rattle.lan_hosts.specs.Parties.{Party, party}
-use Rattle.lan_hosts.specs.Fresh.{IsFreshWorld}
-use Rattle.lan_hosts.specs.Origins.{medium_of, own_frames, sent_before, is_cut_of}
-use Rattle.lan_hosts.specs.Runs.{Starts, unused_both, WorldRun}
-use Rattle.lan_hosts.specs.Station.{StationValue, Stations, station}
+use Rattle.lan_world.specs.AtLink.History.{Entry}
+use Rattle.lan_world.specs.AtLink.Kinds.{other, kind_of}
+use Rattle.lan_world.specs.AtLink.Side.{Side}
+use Rattle.lan_world.specs.AtLink.Side.TheVariants.{A, B}
+use Rattle.lan_world.specs.AtLink.Parties.{Party, party}
+use Rattle.lan_world.specs.AtLink.Fresh.{IsFreshWorld}
+use Rattle.lan_world.specs.AtLink.Origins.{medium_of, own_frames, sent_before, is_cut_of}
+use Rattle.lan_world.specs.AtLink.Runs.{Starts, unused_both, WorldRun}
+use Rattle.lan_world.specs.AtLink.Station.{StationValue, Stations, station}
 use Rattle.lan_world.specs.Hosts.HostRuns.{IsHostRun, frames_sent}
 use Rattle.lan_world.specs.Hosts.Machine.{Turn}
 use Rattle.lan_world.specs.Moves.Made.{MadeBy}

@@ -1,22 +1,22 @@
 -- Wherever a history of typed events led from two fresh hosts, they are joined, and so their sockets are safe.
 use Rattle.std.proofs.Common.{◌≡◌, ℕ, ◌+◌, ◌^◌, ◌<◌, ◌≤◌, List, [], ◌∷◌, ◌++◌, refl, sym, ◌∙◌, ap, subst, arith}
 use Rattle.std.specs.Prelude.{ℤ}
-use Rattle.lan_hosts.specs.History.{Entry}
-use Rattle.lan_hosts.specs.Kinds.{other, kind_of, Kind}
-use Rattle.lan_hosts.specs.Kinds.Act.{Calls, Sets, Opens, Asks, Polls}
-use Rattle.lan_hosts.specs.Kinds.Kind.{OfHost, OfLink}
-use Rattle.lan_hosts.specs.Side.{Side}
-use Rattle.lan_hosts.specs.Side.TheVariants.{A, B}
-use Rattle.lan_hosts.specs.Moves.{IsRun, run}
-use Rattle.lan_hosts.specs.Parties.{Net}
-use Rattle.lan_hosts.specs.PacketsSafe.{IsSafe}
-use Rattle.lan_hosts.proofs.Extended.{run-append, IsRun-append}
-use Rattle.lan_hosts.specs.Fresh.{IsFreshWorld}
-use Rattle.lan_hosts.specs.Origins.{medium_of, numbered}
-use Rattle.lan_hosts.specs.Runs.{Starts, unused_both, WorldRun, Leads}
-use Rattle.lan_hosts.specs.Safe.{first_port, net_of}
-use Rattle.lan_hosts.specs.Station.{Stations, station}
-use Rattle.lan_hosts.specs.Steps.{Happens, ActsAt}
+use Rattle.lan_world.specs.AtLink.History.{Entry}
+use Rattle.lan_world.specs.AtLink.Kinds.{other, kind_of, Kind}
+use Rattle.lan_world.specs.AtLink.Kinds.Act.{Calls, Sets, Opens, Asks, Polls}
+use Rattle.lan_world.specs.AtLink.Kinds.Kind.{OfHost, OfLink}
+use Rattle.lan_world.specs.AtLink.Side.{Side}
+use Rattle.lan_world.specs.AtLink.Side.TheVariants.{A, B}
+use Rattle.lan_world.specs.AtLink.Moves.{IsRun, run}
+use Rattle.lan_world.specs.AtLink.Parties.{Net}
+use Rattle.lan_world.specs.AtLink.PacketsSafe.{IsSafe}
+use Rattle.lan_world.proofs.AtLink.Extended.{run-append, IsRun-append}
+use Rattle.lan_world.specs.AtLink.Fresh.{IsFreshWorld}
+use Rattle.lan_world.specs.AtLink.Origins.{medium_of, numbered}
+use Rattle.lan_world.specs.AtLink.Runs.{Starts, unused_both, WorldRun, Leads}
+use Rattle.lan_world.specs.AtLink.Safe.{first_port, net_of}
+use Rattle.lan_world.specs.AtLink.Station.{Stations, station}
+use Rattle.lan_world.specs.AtLink.Steps.{Happens, ActsAt}
 use Rattle.lan_world.specs.Moves.Follows.{IsNetOf, Comes, IsNoPoll}
 use Rattle.lan_world.specs.Moves.Joined.{first_net}
 use Rattle.lan_world.proofs.Moves.Coming.{HasCome}

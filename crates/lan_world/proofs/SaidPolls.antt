@@ -35,9 +35,9 @@ use Rattle.interface.specs.declared.turn.Turned.{Turned}
 use Rattle.interface.proofs.Keep.{polls_keep}
 use Rattle.interface.proofs.Runs.{receives_same}
 use Rattle.interface.proofs.SameHost.{place_same}
-use Rattle.lan_hosts.specs.Port.{LinkEnd, PortValue, PortMove}
-use Rattle.lan_hosts.specs.Station.{StationValue, at_port}
-use Rattle.lan_hosts.specs.Steps.{PollsAt}
+use Rattle.lan_world.specs.AtLink.Port.{LinkEnd, PortValue, PortMove}
+use Rattle.lan_world.specs.AtLink.Station.{StationValue, at_port}
+use Rattle.lan_world.specs.AtLink.Steps.{PollsAt}
 use Rattle.lan_world.specs.Link.Made.{sealed}
 use Rattle.lan_world.specs.Link.Frames.{medium_on}
 use Rattle.lan_world.specs.Said.{Fact}

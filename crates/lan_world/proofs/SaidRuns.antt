@@ -10,27 +10,27 @@ use Rattle.interface.specs.Host.{HostValue}
 use Rattle.lan_base.specs.Carried.{names_tcp_or_udp}
 use Rattle.lan_base.specs.Cuts.{ipv4_part, first_piece, second_piece}
 use Rattle.lan_base.specs.declared.part.Part.{Part}
-use Rattle.lan_hosts.specs.Call.{SocketCall}
-use Rattle.lan_hosts.specs.History.{Entry, Counts}
-use Rattle.lan_hosts.specs.Kinds.{other, Kind, Origin, Delivered, Damaged, Noisy, Setting, kind_of}
-use Rattle.lan_hosts.specs.Kinds as Settings
-use Rattle.lan_hosts.specs.Kinds.Act.{Calls, Sets, Opens, Asks, Polls}
-use Rattle.lan_hosts.specs.Kinds.Kind.{OfHost, OfLink}
-use Rattle.lan_hosts.specs.Kinds.LinkAct.{Hands, Cuts}
-use Rattle.lan_hosts.specs.Tables.{first_refusal}
-use Rattle.lan_hosts.specs.Answer.{Answer}
-use Rattle.lan_hosts.specs.Refused.TheVariants as For
-use Rattle.lan_hosts.specs.Side.{Side}
-use Rattle.lan_hosts.specs.Side.TheVariants.{A, B}
-use Rattle.lan_hosts.specs.Parties.{Net}
-use Rattle.lan_hosts.specs.Port.{added, arrived}
-use Rattle.lan_hosts.specs.Fresh.{IsFreshWorld}
-use Rattle.lan_hosts.specs.Origins.{medium_of, frame_sent, frame_of_origin, goes_to, sent_before, is_cut_of, own_frames}
-use Rattle.lan_hosts.specs.Refusals.{is_no_frame, is_no_cut, cut_tests, link_tests, refusal}
-use Rattle.lan_hosts.specs.Runs.{Starts, Leads, WorldRun, unused_both, counts_of, tables_in}
-use Rattle.lan_hosts.specs.Sets.{SetsTo, Configures}
-use Rattle.lan_hosts.specs.Station.{StationValue, Stations, station, with_station, with_link}
-use Rattle.lan_hosts.specs.Steps.{Acts, Happens, ActsAt}
+use Rattle.lan_world.specs.AtLink.Call.{SocketCall}
+use Rattle.lan_world.specs.AtLink.History.{Entry, Counts}
+use Rattle.lan_world.specs.AtLink.Kinds.{other, Kind, Origin, Delivered, Damaged, Noisy, Setting, kind_of}
+use Rattle.lan_world.specs.AtLink.Kinds as Settings
+use Rattle.lan_world.specs.AtLink.Kinds.Act.{Calls, Sets, Opens, Asks, Polls}
+use Rattle.lan_world.specs.AtLink.Kinds.Kind.{OfHost, OfLink}
+use Rattle.lan_world.specs.AtLink.Kinds.LinkAct.{Hands, Cuts}
+use Rattle.lan_world.specs.AtLink.Tables.{first_refusal}
+use Rattle.lan_world.specs.AtLink.Answer.{Answer}
+use Rattle.lan_world.specs.AtLink.Refused.TheVariants as For
+use Rattle.lan_world.specs.AtLink.Side.{Side}
+use Rattle.lan_world.specs.AtLink.Side.TheVariants.{A, B}
+use Rattle.lan_world.specs.AtLink.Parties.{Net}
+use Rattle.lan_world.specs.AtLink.Port.{added, arrived}
+use Rattle.lan_world.specs.AtLink.Fresh.{IsFreshWorld}
+use Rattle.lan_world.specs.AtLink.Origins.{medium_of, frame_sent, frame_of_origin, goes_to, sent_before, is_cut_of, own_frames}
+use Rattle.lan_world.specs.AtLink.Refusals.{is_no_frame, is_no_cut, cut_tests, link_tests, refusal}
+use Rattle.lan_world.specs.AtLink.Runs.{Starts, Leads, WorldRun, unused_both, counts_of, tables_in}
+use Rattle.lan_world.specs.AtLink.Sets.{SetsTo, Configures}
+use Rattle.lan_world.specs.AtLink.Station.{StationValue, Stations, station, with_station, with_link}
+use Rattle.lan_world.specs.AtLink.Steps.{Acts, Happens, ActsAt}
 use Rattle.tcp_model.specs.State.{State}
 use Rattle.lan_base.specs.DeviceCapabilities.{DeviceCapabilities}
 use Rattle.lan_world.specs.Events.{HasWord, IsTyped, AreTyped}

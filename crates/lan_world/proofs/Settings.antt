@@ -18,13 +18,13 @@ use Rattle.interface_tables.specs.declared.config.HardwareAddrError.TheVariants 
 use Rattle.interface_egress.specs.Fragments.{LeftValue}
 use Rattle.interface.specs.Host.{HostValue}
 use Rattle.interface.specs.Made.{with_inner, with_timeout}
-use Rattle.lan_hosts.specs.Kinds.{Setting, other}
-use Rattle.lan_hosts.specs.Kinds as Settings
-use Rattle.lan_hosts.specs.Answer.{Answer}
-use Rattle.lan_hosts.specs.Side.{Side}
-use Rattle.lan_hosts.specs.Parties.{Party, Net, party}
-use Rattle.lan_hosts.specs.Sets.{SetsTo, Configures, RoutedIf, has_route_room}
-use Rattle.lan_hosts.specs.Station.{StationValue, Stations, station}
+use Rattle.lan_world.specs.AtLink.Kinds.{Setting, other}
+use Rattle.lan_world.specs.AtLink.Kinds as Settings
+use Rattle.lan_world.specs.AtLink.Answer.{Answer}
+use Rattle.lan_world.specs.AtLink.Side.{Side}
+use Rattle.lan_world.specs.AtLink.Parties.{Party, Net, party}
+use Rattle.lan_world.specs.AtLink.Sets.{SetsTo, Configures, RoutedIf, has_route_room}
+use Rattle.lan_world.specs.AtLink.Station.{StationValue, Stations, station}
 use Rattle.lan_world.specs.Moves.Made.{MadeBy}
 use Rattle.lan_world.specs.Link.Frames.{Outgoing, medium_on, BringsFrom}
 use Rattle.lan_world.specs.Link.Numbers.{count_numbered}

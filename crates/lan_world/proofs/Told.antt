@@ -4,7 +4,7 @@ use Rattle.std.proofs.Common.{length-take, length-drop}
 use Rattle.std.specs.Prelude.{nat_lt, ◌||◌}
 use Rattle.lan_base.specs.ChecksumCapabilities.{ChecksumCapabilities}
 use Rattle.interface_egress.specs.Arp as Wire
-use Rattle.lan_hosts.specs.Ethernet as Ethernet
+use Rattle.lan_world.specs.AtLink.Ethernet as Ethernet
 use Rattle.interface_ingress.specs.HardwareAddress.{HardwareAddress}
 use Rattle.interface_ingress.specs.HardwareAddress.TheVariants as Hardware
 use Rattle.interface_ingress.specs.IpAddress.TheVariants as Address
@@ -14,7 +14,7 @@ use Rattle.interface.specs.Ipv4Piece.{Ipv4Piece}
 use Rattle.interface.specs.Ipv4Repr.{Ipv4Repr}
 use Rattle.interface.specs.Ipv6Repr.{Ipv6Repr}
 use Rattle.interface_ingress.specs.IpProtocol.TheVariants as Protocol
-use Rattle.lan_hosts.specs.ArpOperation.TheVariants as Operation
+use Rattle.lan_world.specs.AtLink.ArpOperation.TheVariants as Operation
 use Rattle.interface_ingress.specs.ArpRepr.{ArpRepr}
 use Rattle.interface_ingress.specs.ArpRepr.TheVariants as ArpIs
 use Rattle.interface_ingress.specs.EthernetRepr.{EthernetRepr}

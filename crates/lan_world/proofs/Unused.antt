@@ -16,16 +16,16 @@ use Rattle.interface_egress.specs.declared.socket_set.Item.{Item}
 use Rattle.sockets.specs.declared.socket.Socket.{Socket}
 use Rattle.sockets.specs.declared.socket.Socket.TheVariants as Is
 use Rattle.tcp_tie.specs.Endpoints.{IsNameless}
-use Rattle.lan_hosts.specs.Promises.{IsFresh}
+use Rattle.lan_world.specs.AtLink.Promises.{IsFresh}
 use Rattle.sockets.specs.TcpStates.{is_closed, takes_text}
-use Rattle.lan_hosts.specs.State.{State}
-use Rattle.lan_hosts.specs.State.TheVariants as In
+use Rattle.lan_world.specs.AtLink.State.{State}
+use Rattle.lan_world.specs.AtLink.State.TheVariants as In
 use Rattle.tcp_model.specs.EndpointPair.{EndpointPair}
 use Rattle.tcp_model.specs.Calls.{nothing_left}
 use Rattle.tcp_model.specs.Value.{TcpValue}
-use Rattle.lan_hosts.specs.Socket.{local_in}
+use Rattle.lan_world.specs.AtLink.Socket.{local_in}
 use Rattle.std.specs.Prelude.{is_some}
-use Rattle.lan_hosts.specs.Fresh.{IsUnused}
+use Rattle.lan_world.specs.AtLink.Fresh.{IsUnused}
 use Rattle.lan_world.specs.New.{is_both, are_on, is_no_socket, is_unopened, is_ingress, is_unused, of_item, of_place}
 
 -- LISTS

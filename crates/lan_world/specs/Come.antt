@@ -1,10 +1,10 @@
 -- What a world keeps: where it came from, how, and what its tables say.
 use Rattle.std.specs.Prelude.{◌≡◌, List}
-use Rattle.lan_hosts.specs.History.{Entry}
-use Rattle.lan_hosts.specs.Fresh.{IsFreshWorld}
-use Rattle.lan_hosts.specs.Refusals.{Table, Tables}
-use Rattle.lan_hosts.specs.Runs.{Start, Starts, WorldValue, WorldRun, unused_both, tables_in}
-use Rattle.lan_hosts.specs.Station.{StationValue, Stations}
+use Rattle.lan_world.specs.AtLink.History.{Entry}
+use Rattle.lan_world.specs.AtLink.Fresh.{IsFreshWorld}
+use Rattle.lan_world.specs.AtLink.Refusals.{Table, Tables}
+use Rattle.lan_world.specs.AtLink.Runs.{Start, Starts, WorldValue, WorldRun, unused_both, tables_in}
+use Rattle.lan_world.specs.AtLink.Station.{StationValue, Stations}
 use Rattle.lan_world.specs.Events.{AreTyped}
 
 -- a host as its world began with it

@@ -1,12 +1,12 @@
 -- Events whose numbers and addresses are of their widths, as those of typed events are.
 use Rattle.std.specs.Prelude.{◌<◌, ◌^◌, List, [], ◌∷◌}
 use Rattle.interface_ingress.specs.Address.{IsEthernetAddress, IsIpAddress}
-use Rattle.lan_hosts.specs.History.{Entry}
-use Rattle.lan_hosts.specs.Kinds.{Kind, Setting, Origin, Delivered, Damaged, Noisy, kind_of}
-use Rattle.lan_hosts.specs.Kinds as Settings
-use Rattle.lan_hosts.specs.Kinds.Kind.{OfHost, OfLink}
-use Rattle.lan_hosts.specs.Kinds.Act.{Calls, Sets, Opens, Asks, Polls}
-use Rattle.lan_hosts.specs.Kinds.LinkAct.{Hands, Cuts}
+use Rattle.lan_world.specs.AtLink.History.{Entry}
+use Rattle.lan_world.specs.AtLink.Kinds.{Kind, Setting, Origin, Delivered, Damaged, Noisy, kind_of}
+use Rattle.lan_world.specs.AtLink.Kinds as Settings
+use Rattle.lan_world.specs.AtLink.Kinds.Kind.{OfHost, OfLink}
+use Rattle.lan_world.specs.AtLink.Kinds.Act.{Calls, Sets, Opens, Asks, Polls}
+use Rattle.lan_world.specs.AtLink.Kinds.LinkAct.{Hands, Cuts}
 
 -- an exchanged word is one of 16 bits
 abbrev pub HasWord : Origin → Type 0

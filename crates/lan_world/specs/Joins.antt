@@ -1,11 +1,11 @@
 -- What holds of both hosts and their link between two events.
 use Rattle.std.specs.Prelude.{◌≡◌, ◌≤◌, ℕ, List}
-use Rattle.lan_hosts.specs.Kinds.{other, Kind}
-use Rattle.lan_hosts.specs.Kinds.Kind.{OfHost, OfLink}
-use Rattle.lan_hosts.specs.Kinds.Act.{Calls, Sets, Opens, Asks, Polls}
-use Rattle.lan_hosts.specs.Side.{Side}
-use Rattle.lan_hosts.specs.Parties.{Party, Net, party}
-use Rattle.lan_hosts.specs.Station.{StationValue, Stations, station}
+use Rattle.lan_world.specs.AtLink.Kinds.{other, Kind}
+use Rattle.lan_world.specs.AtLink.Kinds.Kind.{OfHost, OfLink}
+use Rattle.lan_world.specs.AtLink.Kinds.Act.{Calls, Sets, Opens, Asks, Polls}
+use Rattle.lan_world.specs.AtLink.Side.{Side}
+use Rattle.lan_world.specs.AtLink.Parties.{Party, Net, party}
+use Rattle.lan_world.specs.AtLink.Station.{StationValue, Stations, station}
 use Rattle.lan_world.specs.Moves.Made.{MadeBy}
 use Rattle.lan_world.specs.Link.Frames.{Outgoing, medium_on}
 use Rattle.lan_world.specs.Link.Numbers.{count_numbered}

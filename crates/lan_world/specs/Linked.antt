@@ -2,8 +2,8 @@
 -- host made.
 use Rattle.std.specs.Prelude.{◌≤◌, ℕ, List}
 use Rattle.interface.specs.State.{State}
-use Rattle.lan_hosts.specs.Port.{PortValue}
-use Rattle.lan_hosts.specs.Parties.{Party}
+use Rattle.lan_world.specs.AtLink.Port.{PortValue}
+use Rattle.lan_world.specs.AtLink.Parties.{Party}
 use Rattle.lan_world.specs.Moves.Made.{MadeBy}
 use Rattle.lan_world.specs.Link.Frames.{Outgoing, medium_on}
 use Rattle.lan_world.specs.Link.Numbers.{count_numbered, AreFew, IsTied}

@@ -18,8 +18,8 @@ use Rattle.tcp_model.specs.RecvError.TheVariants as Recv
 use Rattle.tcp_model.specs.Calls.{recv_refusal}
 use Rattle.tcp_model.specs.Value.{TcpValue, room_of}
 use Rattle.sockets.specs.TcpStates.{is_closed}
-use Rattle.lan_hosts.specs.Socket.{local_in}
-use Rattle.lan_hosts.specs.Station.{StationValue}
+use Rattle.lan_world.specs.AtLink.Socket.{local_in}
+use Rattle.lan_world.specs.AtLink.Station.{StationValue}
 use Rattle.lan_world.specs.declared.error.WorldError.{WorldError}
 use Rattle.lan_world.specs.declared.error.WorldError.TheVariants as Since
 

@@ -1,9 +1,9 @@
 -- The history that events, notes and answers say, each list in the order in which they came.
 use Rattle.std.specs.Prelude.{◌≡◌, ℕ, ◌-◌, List, [], ◌∷◌, length, vec_len, vec_capacity}
 use Rattle.std.specs.Global.{Vec}
-use Rattle.lan_hosts.specs.History.{Counts, Entry}
-use Rattle.lan_hosts.specs.declared.history.answer.Answer.{Answer}
-use Rattle.lan_hosts.specs.declared.history.event.Event.{Event}
+use Rattle.lan_world.specs.AtLink.History.{Counts, Entry}
+use Rattle.lan_world.specs.declared.hosts.history.answer.Answer.{Answer}
+use Rattle.lan_world.specs.declared.hosts.history.event.Event.{Event}
 use Rattle.lan_world.specs.declared.history.Counts as Kept
 use Rattle.lan_world.specs.declared.history.Note.{Note}
 

@@ -1,14 +1,14 @@
 -- What is promised of two hosts at a link that may lose, repeat, reorder, pad, damage and cut frames, and add some, wherever events led.
-use Rattle.lan_hosts.specs.declared.history.event.Side.TheVariants.{A, B}
-use Rattle.lan_hosts.specs.PacketsSafe.{IsSafe}
-use Rattle.lan_hosts.specs.Runs.{WorldValue, WorldRun, unused_both, counts_of}
-use Rattle.lan_hosts.specs.Safe.{first_port, net_of}
+use Rattle.lan_world.specs.declared.hosts.history.event.Side.TheVariants.{A, B}
+use Rattle.lan_world.specs.AtLink.PacketsSafe.{IsSafe}
+use Rattle.lan_world.specs.AtLink.Runs.{WorldValue, WorldRun, unused_both, counts_of}
+use Rattle.lan_world.specs.AtLink.Safe.{first_port, net_of}
 use Rattle.lan_world.specs.Hosts.Asked.{requests, AreApart}
 use Rattle.lan_world.specs.Hosts.Damage.{DamageIsHarmless}
 use Rattle.lan_world.specs.Hosts.HostRuns.{IsHostRun}
 use Rattle.lan_world.specs.Hosts.Quiet.{PollsWereQuiet}
 use Rattle.lan_world.specs.Hosts.Wire.{FramesAreApart}
-use Rattle.lan_hosts.specs.Origins.{medium_of}
+use Rattle.lan_world.specs.AtLink.Origins.{medium_of}
 use Rattle.lan_world.specs.Rebuilt.{RebuiltWasMade}
 use Rattle.lan_world.specs.Said.{RebuiltWasSent, by_side}
 

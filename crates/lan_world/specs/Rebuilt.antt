@@ -21,12 +21,12 @@ use Rattle.interface_ingress.specs.Reassembled.{PieceValue, part_in}
 use Rattle.interface_ingress.specs.Sent.{CanBeRead, normal_payload}
 use Rattle.interface_ingress.specs.Upper.{upper_header}
 use Rattle.lan_base.specs.Carried.{names_tcp_or_udp}
-use Rattle.lan_hosts.specs.Kinds.{other}
-use Rattle.lan_hosts.specs.Side.{Side}
-use Rattle.lan_hosts.specs.Moves.{Step, IsRun, run}
-use Rattle.lan_hosts.specs.Parties.{Party, Net, WasMade, party}
-use Rattle.lan_hosts.specs.Runs.{WorldValue}
-use Rattle.lan_hosts.specs.Station.{StationValue, station}
+use Rattle.lan_world.specs.AtLink.Kinds.{other}
+use Rattle.lan_world.specs.AtLink.Side.{Side}
+use Rattle.lan_world.specs.AtLink.Moves.{Step, IsRun, run}
+use Rattle.lan_world.specs.AtLink.Parties.{Party, Net, WasMade, party}
+use Rattle.lan_world.specs.AtLink.Runs.{WorldValue}
+use Rattle.lan_world.specs.AtLink.Station.{StationValue, station}
 use Rattle.lan_world.specs.Moves.Follows.{IsNetOf}
 use Rattle.lan_world.specs.Moves.Joined.{first_net}
 use Rattle.lan_world.specs.Moves.Made.{datagram_of}

@@ -13,12 +13,12 @@ use Rattle.interface_tables.specs.declared.key.FragKey.{FragKey}
 use Rattle.lan_base.specs.Carried.{packet_in}
 use Rattle.lan_base.specs.Cuts.{ipv4_part}
 use Rattle.lan_base.specs.declared.part.Part.{Part}
-use Rattle.lan_hosts.specs.Kinds.{other}
-use Rattle.lan_hosts.specs.Side.{Side}
-use Rattle.lan_hosts.specs.Side.TheVariants.{A, B}
-use Rattle.lan_hosts.specs.Origins.{medium_of}
-use Rattle.lan_hosts.specs.Runs.{WorldValue}
-use Rattle.lan_hosts.specs.Station.{station}
+use Rattle.lan_world.specs.AtLink.Kinds.{other}
+use Rattle.lan_world.specs.AtLink.Side.{Side}
+use Rattle.lan_world.specs.AtLink.Side.TheVariants.{A, B}
+use Rattle.lan_world.specs.AtLink.Origins.{medium_of}
+use Rattle.lan_world.specs.AtLink.Runs.{WorldValue}
+use Rattle.lan_world.specs.AtLink.Station.{station}
 use Rattle.lan_world.specs.Hosts.HostRuns.{frames_sent}
 use Rattle.lan_world.specs.Hosts.Machine.{Turn}
 use Rattle.lan_world.specs.Link.Frames.{medium_on}

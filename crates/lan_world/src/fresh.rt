@@ -11,7 +11,7 @@ ghost use Rattle.lan_world.specs.New.{is_unused, of_place, of_each, is_fresh};
 
 use crate::error::WorldError;
 use ip_wire::HardwareAddress;
-use lan_hosts::{Host, Interface, SocketSet, SocketStorage};
+use crate::hosts::{Host, Interface, SocketSet, SocketStorage};
 use net_base::{Checksum, ChecksumCapabilities, Device, Medium};
 use sockets::{Context, PollAt, Socket, tcp};
 

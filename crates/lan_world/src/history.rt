@@ -1,9 +1,9 @@
 //! What has happened, in the order in which it did.
 ghost use Rattle.std.specs.Prelude.{◌≡◌, ◌≤◌, [], ◌∷◌, length, OnOk};
-ghost use Rattle.lan_hosts.specs.Runs.{answers_of, counts_of};
+ghost use Rattle.lan_world.specs.AtLink.Runs.{answers_of, counts_of};
 ghost use Rattle.lan_world.specs.Past.{counts_in, entry};
 
-use lan_hosts::{Answer, Event, Host};
+use crate::hosts::{Answer, Event, Host};
 use sockets::tcp::State;
 use std::alloc::{AllocError, Global};
 use std::marker::Model;

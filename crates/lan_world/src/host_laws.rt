@@ -1,11 +1,11 @@
 //! The hosts of a world as machines: each is a run, sends nothing when it is polled too early, and waits a second between its own requests.
 ghost use Rattle.std.specs.Prelude.{◌≡◌, ℕ, ℤ, Bool, List};
-ghost use Rattle.lan_hosts.specs.History.{Entry};
-ghost use Rattle.lan_hosts.specs.Event.{Event};
-ghost use Rattle.lan_hosts.specs.Side.{Side};
-ghost use Rattle.lan_hosts.specs.Runs.{Starts, Steps, unused_both, WorldValue, WorldRun, counts_of};
-ghost use Rattle.lan_hosts.specs.Station.{StationValue, Stations, station};
-ghost use Rattle.lan_hosts.specs.Steps.{PollsAt};
+ghost use Rattle.lan_world.specs.AtLink.History.{Entry};
+ghost use Rattle.lan_world.specs.AtLink.Event.{Event};
+ghost use Rattle.lan_world.specs.AtLink.Side.{Side};
+ghost use Rattle.lan_world.specs.AtLink.Runs.{Starts, Steps, unused_both, WorldValue, WorldRun, counts_of};
+ghost use Rattle.lan_world.specs.AtLink.Station.{StationValue, Stations, station};
+ghost use Rattle.lan_world.specs.AtLink.Steps.{PollsAt};
 ghost use Rattle.lan_world.specs.Hosts.Asked.{requests, AreApart};
 ghost use Rattle.lan_world.specs.Hosts.Damage.{IsHarmless, BringsNoSegment, WasHarmless, HaveWords, DamageIsHarmless};
 ghost use Rattle.lan_base.specs.Medium.{Medium};

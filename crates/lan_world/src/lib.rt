@@ -15,6 +15,7 @@ mod error;
 mod fresh;
 mod history;
 pub mod host_laws;
+pub mod hosts;
 mod kept;
 pub mod laws;
 pub mod link_laws;
@@ -24,7 +25,7 @@ mod typed;
 mod world;
 
 pub use error::WorldError;
-pub use lan_hosts::{
+pub use crate::hosts::{
     Answer, Bytes, Config, Event, Fault, Host, Interface, NewError, Refused, Side, SocketSet,
     TcpSetting,
 };

@@ -1,8 +1,8 @@
 //! A simulated link's port as the device of an interface: its moves are determined.
 ghost use Rattle.std.specs.Prelude.{◌≡◌, ◌-◌, ℕ, ℤ, Bool, ◌<◌, ◌≤◌, List, length};
 ghost use Rattle.lan_base.specs.Device.{Emitted, Denied};
-ghost use Rattle.lan_hosts.specs.Port.{PortValue, PortMove};
-ghost use Rattle.lan_hosts.specs.Determined.{IsDetermined};
+ghost use Rattle.lan_world.specs.AtLink.Port.{PortValue, PortMove};
+ghost use Rattle.lan_world.specs.AtLink.Determined.{IsDetermined};
 ghost use Rattle.interface.specs.Polls.{Polls};
 ghost use Rattle.interface.specs.State.{State};
 

@@ -2,12 +2,12 @@
 ghost use Rattle.std.specs.Prelude.{◌≡◌};
 ghost use Rattle.std.specs.List.{AllByRecursion};
 ghost use Rattle.ip_wire.specs.Address.{IsEthernetAddress, IsIpv4Address, IsIpv6Address, IsIpAddress};
-ghost use Rattle.lan_hosts.specs.Kinds.{kind_of};
-ghost use Rattle.lan_hosts.specs.Fresh.{IsHardware, IsTypedHost};
+ghost use Rattle.lan_world.specs.AtLink.Kinds.{kind_of};
+ghost use Rattle.lan_world.specs.AtLink.Fresh.{IsHardware, IsTypedHost};
 ghost use Rattle.lan_world.specs.Events.{IsTyped};
 
 use ip_wire::{EthernetAddress, HardwareAddress, IpAddress, Ipv4Address, Ipv6Address};
-use lan_hosts::{Event, Host, Route};
+use crate::hosts::{Event, Host, Route};
 
 /// A word of a damage has 16 bits, a hardware address six bytes, and a router those of its family.
 pub(crate) fn event_is_typed(event: &Event)

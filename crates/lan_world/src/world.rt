@@ -2,11 +2,11 @@
 ghost use Rattle.std.specs.Prelude.{◌≡◌, ◌<◌, [], take, length, replicate, slice_get, IfOk, IfErr, OnOk, OnErr, IfSome, None, Some, Err};
 ghost use Rattle.net_base.specs.Device.{frames_of};
 ghost use Rattle.interface.specs.Made.{IsIdle};
-ghost use Rattle.lan_hosts.specs.Refusals.{MayRefuse};
-ghost use Rattle.lan_hosts.specs.Runs.{Step, Steps, answers_of, refusal_in, tables_in};
-ghost use Rattle.lan_hosts.specs.Station.{station};
-ghost use Rattle.lan_hosts.specs.Kinds.{kind_of};
-ghost use Rattle.lan_hosts.specs.Tables.{no_record};
+ghost use Rattle.lan_world.specs.AtLink.Refusals.{MayRefuse};
+ghost use Rattle.lan_world.specs.AtLink.Runs.{Step, Steps, answers_of, refusal_in, tables_in};
+ghost use Rattle.lan_world.specs.AtLink.Station.{station};
+ghost use Rattle.lan_world.specs.AtLink.Kinds.{kind_of};
+ghost use Rattle.lan_world.specs.AtLink.Tables.{no_record};
 ghost use Rattle.lan_world.specs.Come.{both, starts_of, world};
 ghost use Rattle.lan_world.specs.New.{new_error, MayFail};
 ghost use Rattle.lan_world.specs.Promises.{IsSafeWorld};
@@ -20,8 +20,8 @@ use crate::laws::{
     damage_was_harmless, frames_are_apart, rebuilt_was_made, rebuilt_was_sent, worlds_are_safe,
 };
 use crate::typed::{event_is_typed, host_is_typed};
-use lan_hosts::laws::{numbers_are_few, tables_go_on};
-use lan_hosts::{Answer, Event, Host, Records, Refused, Side, refusal_of, take};
+use crate::hosts::laws::{numbers_are_few, tables_go_on};
+use crate::hosts::{Answer, Event, Host, Records, Refused, Side, refusal_of, take};
 use std::alloc::{AllocError, Global};
 use std::marker::Model;
 
@@ -39,7 +39,7 @@ pub struct World {
 }
 
 impl Model for World {
-    ghost use Rattle.lan_hosts.specs.Runs.{WorldValue};
+    ghost use Rattle.lan_world.specs.AtLink.Runs.{WorldValue};
     ghost use Rattle.lan_world.specs.Come.{HasCome, world};
 
     ghost Value = { WorldValue };

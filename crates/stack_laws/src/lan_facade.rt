@@ -6,10 +6,10 @@ ghost use Rattle.net_base.specs.Medium.{Medium};
 ghost use Rattle.lan.specs.Answers.{answer_line};
 ghost use Rattle.lan.specs.Events.{event_of, side_of};
 ghost use Rattle.lan_base.specs.Carried.{names_tcp_or_udp};
-ghost use Rattle.lan_hosts.specs.declared.history.event.Side.{Side};
-ghost use Rattle.lan_hosts.specs.History.{Entry};
-ghost use Rattle.lan_hosts.specs.Partners.{ArePartners};
-ghost use Rattle.lan_hosts.specs.Tables.{Places, AreAllowed};
+ghost use Rattle.lan_world.specs.declared.hosts.history.event.Side.{Side};
+ghost use Rattle.lan_world.specs.AtLink.History.{Entry};
+ghost use Rattle.lan_world.specs.AtLink.Partners.{ArePartners};
+ghost use Rattle.lan_world.specs.AtLink.Tables.{Places, AreAllowed};
 ghost use Rattle.lan.specs.Asked.{requests, AreApart};
 ghost use Rattle.lan.specs.Machine.{Turn, Machine, HostRun};
 
@@ -18,10 +18,10 @@ use std::alloc::{AllocError, Global};
 
 /// A side, a setting, a fault, a reason of a refusal, and why two hosts make no world.
 pub fn passes_on_names(
-    side: lan_hosts::Side,
-    setting: lan_hosts::TcpSetting,
-    fault: lan_hosts::Fault,
-    refused: lan_hosts::Refused,
+    side: lan_world::hosts::Side,
+    setting: lan_world::hosts::TcpSetting,
+    fault: lan_world::hosts::Fault,
+    refused: lan_world::hosts::Refused,
     error: lan_world::WorldError,
 ) -> (
     lan::Side,
@@ -36,28 +36,28 @@ pub fn passes_on_names(
 }
 
 /// An event.
-pub fn passes_on_events(event: &lan_hosts::Event) -> &lan::Event
+pub fn passes_on_events(event: &lan_world::hosts::Event) -> &lan::Event
     ensures { result.now ≡ event.now }
 {
     event
 }
 
 /// An answer.
-pub fn passes_on_answers(answer: &lan_hosts::Answer) -> &lan::Answer
+pub fn passes_on_answers(answer: &lan_world::hosts::Answer) -> &lan::Answer
     ensures { result.now ≡ answer.now }
 {
     answer
 }
 
 /// Bytes.
-pub fn passes_on_bytes(bytes: &lan_hosts::Bytes) -> &lan::Bytes
+pub fn passes_on_bytes(bytes: &lan_world::hosts::Bytes) -> &lan::Bytes
     ensures { result.now ≡ bytes.now }
 {
     bytes
 }
 
 /// A host.
-pub fn passes_on_hosts(host: &lan_hosts::Host) -> &lan::Host
+pub fn passes_on_hosts(host: &lan_world::hosts::Host) -> &lan::Host
     ensures { result.now ≡ host.now }
 {
     host

@@ -4,17 +4,17 @@ use Rattle.std.proofs.Common.{ap, ◌∙◌, subst, append-nil, arith}
 use Rattle.interface_egress.specs.Departure.{Departure}
 use Rattle.interface.specs.Touches.{departed, Silences}
 use Rattle.interface_tables.specs.Settings.{is_moment}
-use Rattle.lan_hosts.specs.Kinds.{Act}
-use Rattle.lan_hosts.specs.Kinds.Act.{Calls, Sets, Opens, Asks, Polls}
-use Rattle.lan_hosts.specs.Kinds.Kind.{OfHost}
-use Rattle.lan_hosts.specs.Tables.{first_refusal}
-use Rattle.lan_hosts.specs.Answer.{Answer}
-use Rattle.lan_hosts.specs.Refused.{Refused}
-use Rattle.lan_hosts.specs.Side.{Side}
-use Rattle.lan_hosts.specs.Port.{LinkEnd}
-use Rattle.lan_hosts.specs.Refusals.{Table, Tables, act_tests, is_too_early, may_run_out, refusal}
-use Rattle.lan_hosts.specs.Station.{StationValue, Stations, station}
-use Rattle.lan_hosts.specs.Steps.{Acts}
+use Rattle.lan_world.specs.AtLink.Kinds.{Act}
+use Rattle.lan_world.specs.AtLink.Kinds.Act.{Calls, Sets, Opens, Asks, Polls}
+use Rattle.lan_world.specs.AtLink.Kinds.Kind.{OfHost}
+use Rattle.lan_world.specs.AtLink.Tables.{first_refusal}
+use Rattle.lan_world.specs.AtLink.Answer.{Answer}
+use Rattle.lan_world.specs.AtLink.Refused.{Refused}
+use Rattle.lan_world.specs.AtLink.Side.{Side}
+use Rattle.lan_world.specs.AtLink.Port.{LinkEnd}
+use Rattle.lan_world.specs.AtLink.Refusals.{Table, Tables, act_tests, is_too_early, may_run_out, refusal}
+use Rattle.lan_world.specs.AtLink.Station.{StationValue, Stations, station}
+use Rattle.lan_world.specs.AtLink.Steps.{Acts}
 use Rattle.tcp_model.specs.State.{State}
 use Rattle.lan_world.specs.Hosts.GoesOn.{GoesOn, has_addresses}
 use Rattle.lan_world.specs.Hosts.Machine.{Turn, HostStep, machine_of, frames_of, moment_of, room_behind}
@@ -158,14 +158,14 @@ act_in_time s t (Calls i call) is = tt
 act_in_time s t (Sets setting) is = tt
 act_in_time s t (Opens n) is = tt
 act_in_time s t (Asks moment) is =
-    not_early s moment (not_refused (is_too_early s moment) Rattle.lan_hosts.specs.Refused.TheVariants.Moment [] is).0
+    not_early s moment (not_refused (is_too_early s moment) Rattle.lan_world.specs.AtLink.Refused.TheVariants.Moment [] is).0
 act_in_time s t (Polls moment budget) is =
-    let first = not_refused (may_run_out s t budget) Rattle.lan_hosts.specs.Refused.TheVariants.TooManyCut
-    ((is_too_early s moment, Rattle.lan_hosts.specs.Refused.TheVariants.Moment) ∷ []) is in
-    not_early s moment (not_refused (is_too_early s moment) Rattle.lan_hosts.specs.Refused.TheVariants.Moment [] first.1).0
+    let first = not_refused (may_run_out s t budget) Rattle.lan_world.specs.AtLink.Refused.TheVariants.TooManyCut
+    ((is_too_early s moment, Rattle.lan_world.specs.AtLink.Refused.TheVariants.Moment) ∷ []) is in
+    not_early s moment (not_refused (is_too_early s moment) Rattle.lan_world.specs.AtLink.Refused.TheVariants.Moment [] first.1).0
 
 pub in_time : (hosts : Stations) (tables : Tables) (side : Side) (act : Act) → refusal hosts tables (OfHost side act) ≡ None → IsInTime (station hosts side) act
-in_time hosts tables side act is = act_in_time (station hosts side) (Rattle.lan_hosts.specs.Refusals.table tables side) act is
+in_time hosts tables side act is = act_in_time (station hosts side) (Rattle.lan_world.specs.AtLink.Refusals.table tables side) act is
 
 -- GOING ON
 

@@ -15,14 +15,14 @@ use Rattle.interface_egress.specs.declared.socket_set.SocketStorage.{SocketStora
 use Rattle.interface_tables.specs.Inner.{InnerValue, context_of, drawn}
 use Rattle.interface_tables.specs.Settings.{hardware_refusal, if_none, with_hardware, with_addresses, is_stranger}
 use Rattle.interface_tables.specs.declared.config.HardwareAddrError.{HardwareAddrError}
-use Rattle.lan_hosts.specs.Call.{SocketCall}
-use Rattle.lan_hosts.specs.Kinds.{Setting}
-use Rattle.lan_hosts.specs.Kinds as Sets
-use Rattle.lan_hosts.specs.Answer.{Answer}
-use Rattle.lan_hosts.specs.Calls.{Did}
-use Rattle.lan_hosts.specs.Station.{StationValue}
-use Rattle.lan_hosts.specs.Does.{does, draws, host_after, DidAt, ItemDoes, PlaceDoes, Does}
-use Rattle.lan_hosts.specs.Sets.{SetsTo, Configures}
+use Rattle.lan_world.specs.AtLink.Call.{SocketCall}
+use Rattle.lan_world.specs.AtLink.Kinds.{Setting}
+use Rattle.lan_world.specs.AtLink.Kinds as Sets
+use Rattle.lan_world.specs.AtLink.Answer.{Answer}
+use Rattle.lan_world.specs.AtLink.Calls.{Did}
+use Rattle.lan_world.specs.AtLink.Station.{StationValue}
+use Rattle.lan_world.specs.AtLink.Does.{does, draws, host_after, DidAt, ItemDoes, PlaceDoes, Does}
+use Rattle.lan_world.specs.AtLink.Sets.{SetsTo, Configures}
 use Rattle.sockets.specs.declared.socket.Socket.{Socket}
 use Rattle.tcp_model.specs.State.{State}
 use Rattle.lan_world.specs.Hosts.GoesOn.{has_addresses}

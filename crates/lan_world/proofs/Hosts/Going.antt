@@ -1,9 +1,9 @@
 -- What goes on at each event goes on along a run.
 use Rattle.std.proofs.Common.{◌≤ℤ◌, ℕ, ℤ, List, [], ◌∷◌, ◌++◌, refl, sym, ap, ◌∙◌, subst, append_assoc, append-nil, arith}
-use Rattle.lan_hosts.specs.History.{Entry}
-use Rattle.lan_hosts.specs.Side.{Side}
-use Rattle.lan_hosts.specs.Runs.{WorldRun}
-use Rattle.lan_hosts.specs.Station.{StationValue, Stations, station}
+use Rattle.lan_world.specs.AtLink.History.{Entry}
+use Rattle.lan_world.specs.AtLink.Side.{Side}
+use Rattle.lan_world.specs.AtLink.Runs.{WorldRun}
+use Rattle.lan_world.specs.AtLink.Station.{StationValue, Stations, station}
 use Rattle.lan_world.specs.Hosts.GoesOn.{GoesOn}
 use Rattle.lan_world.proofs.Hosts.Moving.{goes_on}
 

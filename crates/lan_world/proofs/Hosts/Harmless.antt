@@ -11,15 +11,15 @@ use Rattle.interface_ingress.specs.Incoming.{IncomingValue, Arp, Ip4, Ip6, IsInc
 use Rattle.interface_ingress.specs.Kept.{with_ports}
 use Rattle.interface_ingress.specs.Reassembled.{Slots, uncut, is_taken_in, taken_in, kept, place_in, whole_of}
 use Rattle.interface_tables.specs.Inner.{InnerValue}
-use Rattle.lan_hosts.specs.History.{Entry}
-use Rattle.lan_hosts.specs.Kinds.{Kind, Origin, Delivered, Damaged, Noisy, kind_of}
-use Rattle.lan_hosts.specs.Kinds.Kind.{OfHost, OfLink}
-use Rattle.lan_hosts.specs.Kinds.LinkAct.{Hands, Cuts}
-use Rattle.lan_hosts.specs.Side.{Side}
-use Rattle.lan_hosts.specs.Origins.{medium_of, frame_of_origin}
-use Rattle.lan_hosts.specs.Refusals.{Tables, refusal}
-use Rattle.lan_hosts.specs.Runs.{WorldRun, Leads, tables_in}
-use Rattle.lan_hosts.specs.Station.{Stations, station}
+use Rattle.lan_world.specs.AtLink.History.{Entry}
+use Rattle.lan_world.specs.AtLink.Kinds.{Kind, Origin, Delivered, Damaged, Noisy, kind_of}
+use Rattle.lan_world.specs.AtLink.Kinds.Kind.{OfHost, OfLink}
+use Rattle.lan_world.specs.AtLink.Kinds.LinkAct.{Hands, Cuts}
+use Rattle.lan_world.specs.AtLink.Side.{Side}
+use Rattle.lan_world.specs.AtLink.Origins.{medium_of, frame_of_origin}
+use Rattle.lan_world.specs.AtLink.Refusals.{Tables, refusal}
+use Rattle.lan_world.specs.AtLink.Runs.{WorldRun, Leads, tables_in}
+use Rattle.lan_world.specs.AtLink.Station.{Stations, station}
 use Rattle.lan_base.specs.ChecksumCapabilities.{ChecksumCapabilities}
 use Rattle.lan_base.specs.Medium.{Medium}
 use Rattle.lan_world.specs.Hosts.Damage.{IsHarmless, IsHarmlessFrom, IsHarmlessBy, DamageIsHarmless, WasHarmless, HaveWords, IsNoSegment, BringsNoSegment}

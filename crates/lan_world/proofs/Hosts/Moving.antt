@@ -1,17 +1,17 @@
 -- What an event is to one of the hosts: its own act, or something that leaves it alone.
 use Rattle.std.proofs.Common.{◌≡◌, ℕ, ◌⊎◌, inl, inr, Bool, true, false, if◌then◌else◌, List, [], ◌∷◌, ◌++◌, length, map, None, refl, sym, ap, ◌∙◌, subst}
 use Rattle.std.proofs.Common.{append_assoc, append-nil, ◌≤ℤ◌, ℤ, arith}
-use Rattle.lan_hosts.specs.History.{Entry}
-use Rattle.lan_hosts.specs.Kinds.{Act, Kind, Origin, same_side, kind_of}
-use Rattle.lan_hosts.specs.Kinds.Kind.{OfHost, OfLink}
-use Rattle.lan_hosts.specs.Kinds.LinkAct.{Hands, Cuts}
-use Rattle.lan_hosts.specs.Side.{Side}
-use Rattle.lan_hosts.specs.Side.TheVariants.{A, B}
-use Rattle.lan_hosts.specs.Port.{added, arrived}
-use Rattle.lan_hosts.specs.Station.{StationValue, Stations, station, with_station, with_link}
-use Rattle.lan_hosts.specs.Origins.{frame_of_origin, frame_sent, medium_of, goes_to, origins_of, is_cut_of}
-use Rattle.lan_hosts.specs.Steps.{Acts, Happens}
-use Rattle.lan_hosts.specs.Runs.{Leads, tables_in}
+use Rattle.lan_world.specs.AtLink.History.{Entry}
+use Rattle.lan_world.specs.AtLink.Kinds.{Act, Kind, Origin, same_side, kind_of}
+use Rattle.lan_world.specs.AtLink.Kinds.Kind.{OfHost, OfLink}
+use Rattle.lan_world.specs.AtLink.Kinds.LinkAct.{Hands, Cuts}
+use Rattle.lan_world.specs.AtLink.Side.{Side}
+use Rattle.lan_world.specs.AtLink.Side.TheVariants.{A, B}
+use Rattle.lan_world.specs.AtLink.Port.{added, arrived}
+use Rattle.lan_world.specs.AtLink.Station.{StationValue, Stations, station, with_station, with_link}
+use Rattle.lan_world.specs.AtLink.Origins.{frame_of_origin, frame_sent, medium_of, goes_to, origins_of, is_cut_of}
+use Rattle.lan_world.specs.AtLink.Steps.{Acts, Happens}
+use Rattle.lan_world.specs.AtLink.Runs.{Leads, tables_in}
 use Rattle.lan_base.specs.Cuts.{first_piece, second_piece}
 use Rattle.lan_world.specs.Hosts.GoesOn.{GoesOn, has_addresses}
 use Rattle.lan_world.specs.Hosts.HostRuns.{deed_in}
@@ -155,5 +155,5 @@ goes_on past old new e leads side = by (moved old e new (kind_of e.event) leads.
   by (inl acted) =
       acts_go_on (station old side) (station new side) acted.act e.answer e.found acted.acts
       (in_time old (tables_in past old) side acted.act
-      (subst (λ (k : Kind). Rattle.lan_hosts.specs.Refusals.refusal old (tables_in past old) k ≡ None) acted.is leads.allowed))
+      (subst (λ (k : Kind). Rattle.lan_world.specs.AtLink.Refusals.refusal old (tables_in past old) k ≡ None) acted.is leads.allowed))
   by (inr rested) = rested_goes_on old new side (kind_of e.event) e rested

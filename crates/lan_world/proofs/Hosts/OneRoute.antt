@@ -15,7 +15,7 @@ use Rattle.ip_address.specs.declared.ip.IpCidr.{IpCidr}
 use Rattle.ip_address.specs.declared.ip.IpCidr.TheVariants as Block
 use Rattle.interface_tables.specs.Route.{is_gateway_v4, is_gateway_v6, IsGateway, IsAdded, without}
 use Rattle.interface_tables.specs.declared.route.Route.{Route}
-use Rattle.lan_hosts.specs.Sets.{RoutedIf}
+use Rattle.lan_world.specs.AtLink.Sets.{RoutedIf}
 
 -- BLOCKS
 

@@ -9,23 +9,23 @@ use Rattle.interface_tables.specs.Inner.{context_of}
 use Rattle.interface_tables.specs.Settings.{with_routes}
 use Rattle.interface_tables.specs.declared.route.Route.{Route}
 use Rattle.interface.proofs.OneEnd.{OneOffer}
-use Rattle.lan_hosts.specs.Call.{SocketCall}
-use Rattle.lan_hosts.specs.History.{Entry}
-use Rattle.lan_hosts.specs.Kinds.{Act, Kind, Setting, kind_of}
-use Rattle.lan_hosts.specs.Kinds as Set
-use Rattle.lan_hosts.specs.Kinds.Act.{Calls, Sets, Opens, Asks, Polls}
-use Rattle.lan_hosts.specs.Kinds.Kind.{OfHost, OfLink}
-use Rattle.lan_hosts.specs.Answer.{Answer}
-use Rattle.lan_hosts.specs.Answer.TheVariants as To
-use Rattle.lan_hosts.specs.Event.{Event}
-use Rattle.lan_hosts.specs.Side.{Side}
-use Rattle.lan_hosts.specs.Side.TheVariants.{A, B}
-use Rattle.lan_hosts.specs.Calls.{Did}
-use Rattle.lan_hosts.specs.Does.{does, DidAt, ItemDoes, PlaceDoes, Does}
-use Rattle.lan_hosts.specs.Runs.{WorldValue, Step, Steps}
-use Rattle.lan_hosts.specs.Sets.{SetsTo, Configures, has_route_room}
-use Rattle.lan_hosts.specs.Station.{StationValue, Stations}
-use Rattle.lan_hosts.specs.Steps.{Acts, ActsAt, Happens}
+use Rattle.lan_world.specs.AtLink.Call.{SocketCall}
+use Rattle.lan_world.specs.AtLink.History.{Entry}
+use Rattle.lan_world.specs.AtLink.Kinds.{Act, Kind, Setting, kind_of}
+use Rattle.lan_world.specs.AtLink.Kinds as Set
+use Rattle.lan_world.specs.AtLink.Kinds.Act.{Calls, Sets, Opens, Asks, Polls}
+use Rattle.lan_world.specs.AtLink.Kinds.Kind.{OfHost, OfLink}
+use Rattle.lan_world.specs.AtLink.Answer.{Answer}
+use Rattle.lan_world.specs.AtLink.Answer.TheVariants as To
+use Rattle.lan_world.specs.AtLink.Event.{Event}
+use Rattle.lan_world.specs.AtLink.Side.{Side}
+use Rattle.lan_world.specs.AtLink.Side.TheVariants.{A, B}
+use Rattle.lan_world.specs.AtLink.Calls.{Did}
+use Rattle.lan_world.specs.AtLink.Does.{does, DidAt, ItemDoes, PlaceDoes, Does}
+use Rattle.lan_world.specs.AtLink.Runs.{WorldValue, Step, Steps}
+use Rattle.lan_world.specs.AtLink.Sets.{SetsTo, Configures, has_route_room}
+use Rattle.lan_world.specs.AtLink.Station.{StationValue, Stations}
+use Rattle.lan_world.specs.AtLink.Steps.{Acts, ActsAt, Happens}
 use Rattle.sockets.specs.declared.socket.Socket.{Socket}
 use Rattle.tcp_model.specs.State.{State}
 use Rattle.lan_world.proofs.Hosts.OneRoute.{routed_once}

@@ -7,9 +7,9 @@ use Rattle.interface.specs.State.{State, state}
 use Rattle.interface_egress.specs.Determined.{IsDetermined}
 use Rattle.interface.specs.Steady.{IsSteady}
 use Rattle.interface.proofs.OneEnd.{OneOffer, one_poll}
-use Rattle.lan_hosts.specs.Port.{LinkEnd, PortValue, PortMove, has_leave}
-use Rattle.lan_hosts.specs.Station.{StationValue, at_port}
-use Rattle.lan_hosts.specs.Steps.{PollsAt}
+use Rattle.lan_world.specs.AtLink.Port.{LinkEnd, PortValue, PortMove, has_leave}
+use Rattle.lan_world.specs.AtLink.Station.{StationValue, at_port}
+use Rattle.lan_world.specs.AtLink.Steps.{PollsAt}
 use Rattle.interface.proofs.Mapping.{IsMapped, polls_there}
 
 -- AN END OF THE LINK AS A DEVICE

@@ -4,7 +4,7 @@ use Rattle.interface_egress.specs.Departure.{Departure}
 use Rattle.interface_egress.specs.GoesOut.{frame_of}
 use Rattle.interface.specs.Touches.{Touch, Looks, Leave, Sends, departed, Does, DoesAll}
 use Rattle.interface_tables.specs.Inner.{InnerValue}
-use Rattle.lan_hosts.specs.Port.{PortValue, PortMove}
+use Rattle.lan_world.specs.AtLink.Port.{PortValue, PortMove}
 use Rattle.lan_world.specs.Hosts.Machine.{frames_of}
 
 -- the frames that were found, the oldest first

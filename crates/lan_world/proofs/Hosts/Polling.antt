@@ -7,9 +7,9 @@ use Rattle.interface.specs.Touches.{Touch, departed, Silences}
 use Rattle.interface.proofs.Count.{polls_count}
 use Rattle.interface.proofs.Hosts.{settings_so}
 use Rattle.interface.proofs.Trace.{polls_traced}
-use Rattle.lan_hosts.specs.Port.{LinkEnd, PortValue, PortMove}
-use Rattle.lan_hosts.specs.Station.{StationValue, at_port}
-use Rattle.lan_hosts.specs.Steps.{PollsAt}
+use Rattle.lan_world.specs.AtLink.Port.{LinkEnd, PortValue, PortMove}
+use Rattle.lan_world.specs.AtLink.Station.{StationValue, at_port}
+use Rattle.lan_world.specs.AtLink.Steps.{PollsAt}
 use Rattle.lan_world.specs.Hosts.Machine.{frames_of}
 use Rattle.lan_world.proofs.Hosts.Paths.{looked, path_of}
 

@@ -20,27 +20,27 @@ use Rattle.interface_tables.specs.Route.{is_gateway_v4, is_gateway_v6, IsGateway
 use Rattle.interface_tables.specs.Settings.{hardware_refusal, if_none, is_stranger}
 use Rattle.interface_tables.specs.declared.config.HardwareAddrError.{HardwareAddrError}
 use Rattle.interface_tables.specs.declared.route.Route.{Route}
-use Rattle.lan_hosts.specs.Call.{SocketCall}
-use Rattle.lan_hosts.specs.History.{Entry, Counts}
-use Rattle.lan_hosts.specs.Kinds.{Act, Kind, Origin, Setting, same_side, kind_of}
-use Rattle.lan_hosts.specs.Kinds as Set
-use Rattle.lan_hosts.specs.Kinds.Act.{Calls, Sets, Opens, Asks, Polls}
-use Rattle.lan_hosts.specs.Kinds.Kind.{OfHost, OfLink}
-use Rattle.lan_hosts.specs.Kinds.LinkAct.{Hands, Cuts}
-use Rattle.lan_hosts.specs.Answer.{Answer}
-use Rattle.lan_hosts.specs.Answer.TheVariants as To
-use Rattle.lan_hosts.specs.Fault.TheVariants as For
-use Rattle.lan_hosts.specs.Side.{Side}
-use Rattle.lan_hosts.specs.Side.TheVariants.{A, B}
-use Rattle.lan_hosts.specs.Calls.{Did}
-use Rattle.lan_hosts.specs.Port.{LinkEnd}
-use Rattle.lan_hosts.specs.Does.{does, draws, DidAt, ItemDoes, PlaceDoes, Does}
-use Rattle.lan_hosts.specs.Origins.{frame_of_origin, goes_to, origins_of, sent_before, waiting_before}
-use Rattle.lan_hosts.specs.Runs.{Starts, unused_both, Leads, WorldRun, counts_of, tables_in}
-use Rattle.lan_hosts.specs.Sets.{SetsTo, setting_answer, RoutedIf, has_route_room, instant_at}
-use Rattle.lan_hosts.specs.Refusals.{refusal}
-use Rattle.lan_hosts.specs.Station.{StationValue, Stations, station}
-use Rattle.lan_hosts.specs.Steps.{Acts, Happens}
+use Rattle.lan_world.specs.AtLink.Call.{SocketCall}
+use Rattle.lan_world.specs.AtLink.History.{Entry, Counts}
+use Rattle.lan_world.specs.AtLink.Kinds.{Act, Kind, Origin, Setting, same_side, kind_of}
+use Rattle.lan_world.specs.AtLink.Kinds as Set
+use Rattle.lan_world.specs.AtLink.Kinds.Act.{Calls, Sets, Opens, Asks, Polls}
+use Rattle.lan_world.specs.AtLink.Kinds.Kind.{OfHost, OfLink}
+use Rattle.lan_world.specs.AtLink.Kinds.LinkAct.{Hands, Cuts}
+use Rattle.lan_world.specs.AtLink.Answer.{Answer}
+use Rattle.lan_world.specs.AtLink.Answer.TheVariants as To
+use Rattle.lan_world.specs.AtLink.Fault.TheVariants as For
+use Rattle.lan_world.specs.AtLink.Side.{Side}
+use Rattle.lan_world.specs.AtLink.Side.TheVariants.{A, B}
+use Rattle.lan_world.specs.AtLink.Calls.{Did}
+use Rattle.lan_world.specs.AtLink.Port.{LinkEnd}
+use Rattle.lan_world.specs.AtLink.Does.{does, draws, DidAt, ItemDoes, PlaceDoes, Does}
+use Rattle.lan_world.specs.AtLink.Origins.{frame_of_origin, goes_to, origins_of, sent_before, waiting_before}
+use Rattle.lan_world.specs.AtLink.Runs.{Starts, unused_both, Leads, WorldRun, counts_of, tables_in}
+use Rattle.lan_world.specs.AtLink.Sets.{SetsTo, setting_answer, RoutedIf, has_route_room, instant_at}
+use Rattle.lan_world.specs.AtLink.Refusals.{refusal}
+use Rattle.lan_world.specs.AtLink.Station.{StationValue, Stations, station}
+use Rattle.lan_world.specs.AtLink.Steps.{Acts, Happens}
 use Rattle.sockets.specs.declared.socket.Socket.{Socket}
 use Rattle.tcp_model.specs.State.{State}
 use Rattle.lan_world.specs.Hosts.HostRuns.{Deed, deed_in}

@@ -12,15 +12,15 @@ use Rattle.interface_egress.specs.Set.{with_socket}
 use Rattle.interface_egress.specs.declared.socket_set.Item.{Item}
 use Rattle.interface_egress.specs.declared.socket_set.SocketStorage.{SocketStorage}
 use Rattle.interface_tables.specs.Inner.{InnerValue, at_moment, context_of}
-use Rattle.lan_hosts.specs.Call as Call
-use Rattle.lan_hosts.specs.Call.{SocketCall}
-use Rattle.lan_hosts.specs.Kinds.{Act}
-use Rattle.lan_hosts.specs.Kinds.Act.{Calls, Sets, Opens, Asks, Polls}
-use Rattle.lan_hosts.specs.Answer.{Answer}
-use Rattle.lan_hosts.specs.Port.{LinkEnd, PortValue, PortMove}
-use Rattle.lan_hosts.specs.Does.{does, DidAt, ItemDoes, PlaceDoes, Does}
-use Rattle.lan_hosts.specs.Station.{StationValue, at_port}
-use Rattle.lan_hosts.specs.Steps.{PollsAt, Acts}
+use Rattle.lan_world.specs.AtLink.Call as Call
+use Rattle.lan_world.specs.AtLink.Call.{SocketCall}
+use Rattle.lan_world.specs.AtLink.Kinds.{Act}
+use Rattle.lan_world.specs.AtLink.Kinds.Act.{Calls, Sets, Opens, Asks, Polls}
+use Rattle.lan_world.specs.AtLink.Answer.{Answer}
+use Rattle.lan_world.specs.AtLink.Port.{LinkEnd, PortValue, PortMove}
+use Rattle.lan_world.specs.AtLink.Does.{does, DidAt, ItemDoes, PlaceDoes, Does}
+use Rattle.lan_world.specs.AtLink.Station.{StationValue, at_port}
+use Rattle.lan_world.specs.AtLink.Steps.{PollsAt, Acts}
 use Rattle.sockets.specs.declared.socket.Socket.{Socket}
 use Rattle.sockets.specs.declared.socket.Socket.TheVariants as Is
 use Rattle.tcp_model.specs.State as States

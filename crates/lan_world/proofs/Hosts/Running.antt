@@ -2,14 +2,14 @@
 use Rattle.std.proofs.Common.{◌≡◌, ℕ, ◌⊎◌, inl, inr, if◌then◌else◌, List, [], ◌∷◌, ◌++◌, length, map, take, drop, refl, sym, ap, ◌∙◌, subst, append_assoc}
 use Rattle.std.proofs.Common.{append-nil}
 use Rattle.std.proofs.lemmas.List.{map-append, take_at, drop_at}
-use Rattle.lan_hosts.specs.History.{Entry, Counts}
-use Rattle.lan_hosts.specs.Kinds.{Act, Kind, kind_of}
-use Rattle.lan_hosts.specs.Kinds.Kind.{OfHost}
-use Rattle.lan_hosts.specs.Side.{Side}
-use Rattle.lan_hosts.specs.Side.TheVariants.{A, B}
-use Rattle.lan_hosts.specs.Origins.{frame_of_origin, origins_of, origins, sent_before, is_cut_of, own_frames}
-use Rattle.lan_hosts.specs.Runs.{Starts, start, unused, unused_both, WorldValue, Leads, WorldRun, counts_of, tables_in}
-use Rattle.lan_hosts.specs.Station.{StationValue, Stations, station}
+use Rattle.lan_world.specs.AtLink.History.{Entry, Counts}
+use Rattle.lan_world.specs.AtLink.Kinds.{Act, Kind, kind_of}
+use Rattle.lan_world.specs.AtLink.Kinds.Kind.{OfHost}
+use Rattle.lan_world.specs.AtLink.Side.{Side}
+use Rattle.lan_world.specs.AtLink.Side.TheVariants.{A, B}
+use Rattle.lan_world.specs.AtLink.Origins.{frame_of_origin, origins_of, origins, sent_before, is_cut_of, own_frames}
+use Rattle.lan_world.specs.AtLink.Runs.{Starts, start, unused, unused_both, WorldValue, Leads, WorldRun, counts_of, tables_in}
+use Rattle.lan_world.specs.AtLink.Station.{StationValue, Stations, station}
 use Rattle.lan_world.specs.Hosts.GoesOn.{GoesOn}
 use Rattle.lan_world.proofs.Hosts.There.{AreThere}
 use Rattle.lan_world.specs.Hosts.HostRuns.{Deed, deed_of, deed_in, deeds, frames_sent, frames_taken, IsHostRun}

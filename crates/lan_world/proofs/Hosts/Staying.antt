@@ -8,15 +8,15 @@ use Rattle.std.proofs.lemmas.List.{map-append, get_or_append_left, length-append
 use Rattle.lan_base.specs.DeviceCapabilities.{DeviceCapabilities}
 use Rattle.lan_base.specs.Medium.{Medium}
 use Rattle.lan_base.specs.Parts.{tcp_part}
-use Rattle.lan_hosts.specs.History.{Entry}
-use Rattle.lan_hosts.specs.Kinds.{Kind, Origin, Delivered, Damaged, Noisy, same_side, kind_of}
-use Rattle.lan_hosts.specs.Kinds.Kind.{OfHost, OfLink}
-use Rattle.lan_hosts.specs.Kinds.LinkAct.{Hands, Cuts}
-use Rattle.lan_hosts.specs.Refused.TheVariants as For
-use Rattle.lan_hosts.specs.Side.{Side}
-use Rattle.lan_hosts.specs.Origins.{medium_of, frame_sent, damaged_in, frame_of_origin, goes_to, origins_of, origins}
-use Rattle.lan_hosts.specs.Refusals.{Tables, is_no_frame, segment_tests, refusal}
-use Rattle.lan_hosts.specs.Station.{Stations, station}
+use Rattle.lan_world.specs.AtLink.History.{Entry}
+use Rattle.lan_world.specs.AtLink.Kinds.{Kind, Origin, Delivered, Damaged, Noisy, same_side, kind_of}
+use Rattle.lan_world.specs.AtLink.Kinds.Kind.{OfHost, OfLink}
+use Rattle.lan_world.specs.AtLink.Kinds.LinkAct.{Hands, Cuts}
+use Rattle.lan_world.specs.AtLink.Refused.TheVariants as For
+use Rattle.lan_world.specs.AtLink.Side.{Side}
+use Rattle.lan_world.specs.AtLink.Origins.{medium_of, frame_sent, damaged_in, frame_of_origin, goes_to, origins_of, origins}
+use Rattle.lan_world.specs.AtLink.Refusals.{Tables, is_no_frame, segment_tests, refusal}
+use Rattle.lan_world.specs.AtLink.Station.{Stations, station}
 use Rattle.lan_world.specs.Hosts.GoesOn.{GoesOn}
 use Rattle.lan_world.proofs.Hosts.There.{IsThere, AreThere}
 use Rattle.lan_world.proofs.Hosts.Acting.{not_refused}

@@ -1,11 +1,11 @@
 -- The frames that a history names were sent.
 use Rattle.std.specs.Prelude.{◌<◌, List, [], ◌∷◌, length}
 use Rattle.std.specs.List.{AllByRecursion}
-use Rattle.lan_hosts.specs.History.{Entry}
-use Rattle.lan_hosts.specs.Kinds.{Origin, Delivered, Damaged, Noisy, kind_of}
-use Rattle.lan_hosts.specs.Side.{Side}
-use Rattle.lan_hosts.specs.Origins.{origins_of}
-use Rattle.lan_hosts.specs.Station.{Stations, station}
+use Rattle.lan_world.specs.AtLink.History.{Entry}
+use Rattle.lan_world.specs.AtLink.Kinds.{Origin, Delivered, Damaged, Noisy, kind_of}
+use Rattle.lan_world.specs.AtLink.Side.{Side}
+use Rattle.lan_world.specs.AtLink.Origins.{origins_of}
+use Rattle.lan_world.specs.AtLink.Station.{Stations, station}
 
 -- the frame that an origin names is among those that its host sent
 abbrev pub IsThere : Stations → Origin → Type 0

@@ -5,8 +5,8 @@ use Rattle.interface_ingress.specs.Icmpv4Header.{Icmpv4Header}
 use Rattle.interface_ingress.specs.Icmpv4Header.TheVariants as V4
 use Rattle.interface_ingress.specs.Icmpv6 as Icmpv6
 use Rattle.interface_ingress.specs.Icmpv6.{MessageValue}
-use Rattle.lan_hosts.specs.Icmpv6DstUnreachable.TheVariants as V6Reason
-use Rattle.lan_hosts.specs.Ndisc.{NeighborMessage, Solicitation, Advertisement}
+use Rattle.lan_world.specs.AtLink.Icmpv6DstUnreachable.TheVariants as V6Reason
+use Rattle.lan_world.specs.AtLink.Ndisc.{NeighborMessage, Solicitation, Advertisement}
 use Rattle.interface_ingress.specs.Behind.{Behind}
 use Rattle.interface_ingress.specs.Behind.TheVariants as End
 use Rattle.interface_ingress.specs.Delivered.{datagram_place, packet_by, answer_of, answer_in, answer_by, segment_place, segment_answer_at, segment_answer}

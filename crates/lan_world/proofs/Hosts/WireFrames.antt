@@ -28,7 +28,7 @@ use Rattle.interface.specs.Delivered.{IsCutValue, IsWritable}
 use Rattle.interface.proofs.Arrives.{length-written}
 use Rattle.interface_tables.specs.Inner.{InnerValue}
 use Rattle.interface_tables.specs.Pieces as Pieces
-use Rattle.lan_hosts.specs.ArpOperation.TheVariants as Operation
+use Rattle.lan_world.specs.AtLink.ArpOperation.TheVariants as Operation
 use Rattle.sockets.specs.Packet.{PacketValue, PayloadValue, packet_of, payload_len, payload_written}
 use Rattle.lan_world.specs.Link.Made.{sealed, bytes_of}
 use Rattle.lan_world.specs.Link.Sides.{IsStation, IsBetweenStations}

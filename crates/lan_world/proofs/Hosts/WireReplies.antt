@@ -17,7 +17,7 @@ use Rattle.interface_ingress.specs.HardwareAddress.TheVariants as Hardware
 use Rattle.interface_ingress.specs.Incoming.{IncomingValue, Arp, Ip4, Ip6}
 use Rattle.interface_ingress.specs.IpAddress.TheVariants as Address
 use Rattle.interface_tables.specs.Inner.{InnerValue, is_for_us}
-use Rattle.lan_hosts.specs.ArpOperation.TheVariants as Operation
+use Rattle.lan_world.specs.AtLink.ArpOperation.TheVariants as Operation
 use Rattle.sockets.specs.Packet.{PacketValue, PayloadValue}
 use Rattle.lan_world.proofs.Hosts.WireFrames.{IsReply}
 use Rattle.lan_world.proofs.Moves.Places.{Places}

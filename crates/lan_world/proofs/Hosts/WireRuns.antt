@@ -20,24 +20,24 @@ use Rattle.interface_egress.specs.declared.socket_set.Item.{Item}
 use Rattle.interface_egress.specs.declared.socket_set.SocketStorage.{SocketStorage}
 use Rattle.interface.specs.Host.{HostValue}
 use Rattle.interface.specs.Made.{with_inner}
-use Rattle.lan_hosts.specs.Answer.{Answer}
-use Rattle.lan_hosts.specs.Call.{SocketCall}
-use Rattle.lan_hosts.specs.Does.{DidAt, ItemDoes, PlaceDoes, does}
-use Rattle.lan_hosts.specs.Fresh.{IsFreshWorld}
-use Rattle.lan_hosts.specs.History.{Entry}
-use Rattle.lan_hosts.specs.Kinds.{Act, Kind, Setting, kind_of, same_side}
-use Rattle.lan_hosts.specs.Kinds as Settings
-use Rattle.lan_hosts.specs.Kinds.Act.{Calls, Sets, Opens, Asks, Polls}
-use Rattle.lan_hosts.specs.Kinds.Kind.{OfHost, OfLink}
-use Rattle.lan_hosts.specs.Origins.{medium_of}
-use Rattle.lan_hosts.specs.Port.{LinkEnd}
-use Rattle.lan_hosts.specs.Runs.{Starts, WorldRun, start, unused, unused_both}
-use Rattle.lan_hosts.specs.Sets.{SetsTo, has_route_room}
-use Rattle.lan_hosts.specs.Side.{Side}
-use Rattle.lan_hosts.specs.Side.TheVariants.{A, B}
-use Rattle.lan_hosts.specs.Station.{StationValue, Stations, station}
-use Rattle.lan_hosts.specs.Steps.{Acts}
-use Rattle.lan_hosts.specs.Calls.{Did}
+use Rattle.lan_world.specs.AtLink.Answer.{Answer}
+use Rattle.lan_world.specs.AtLink.Call.{SocketCall}
+use Rattle.lan_world.specs.AtLink.Does.{DidAt, ItemDoes, PlaceDoes, does}
+use Rattle.lan_world.specs.AtLink.Fresh.{IsFreshWorld}
+use Rattle.lan_world.specs.AtLink.History.{Entry}
+use Rattle.lan_world.specs.AtLink.Kinds.{Act, Kind, Setting, kind_of, same_side}
+use Rattle.lan_world.specs.AtLink.Kinds as Settings
+use Rattle.lan_world.specs.AtLink.Kinds.Act.{Calls, Sets, Opens, Asks, Polls}
+use Rattle.lan_world.specs.AtLink.Kinds.Kind.{OfHost, OfLink}
+use Rattle.lan_world.specs.AtLink.Origins.{medium_of}
+use Rattle.lan_world.specs.AtLink.Port.{LinkEnd}
+use Rattle.lan_world.specs.AtLink.Runs.{Starts, WorldRun, start, unused, unused_both}
+use Rattle.lan_world.specs.AtLink.Sets.{SetsTo, has_route_room}
+use Rattle.lan_world.specs.AtLink.Side.{Side}
+use Rattle.lan_world.specs.AtLink.Side.TheVariants.{A, B}
+use Rattle.lan_world.specs.AtLink.Station.{StationValue, Stations, station}
+use Rattle.lan_world.specs.AtLink.Steps.{Acts}
+use Rattle.lan_world.specs.AtLink.Calls.{Did}
 use Rattle.sockets.specs.Context.{ContextValue}
 use Rattle.sockets.specs.Packet.{PayloadValue}
 use Rattle.sockets.specs.declared.socket.Socket.{Socket}

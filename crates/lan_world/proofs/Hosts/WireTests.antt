@@ -22,12 +22,12 @@ use Rattle.interface.specs.UdpRepr.{UdpRepr}
 use Rattle.ip_address.specs.Protocol.{protocol_number}
 use Rattle.ip_tcp.specs.declared.header.TcpHeader.{TcpHeader}
 use Rattle.lan_base.proofs.Named.{byte_behind}
-use Rattle.lan_hosts.specs.Call.{SocketCall}
-use Rattle.lan_hosts.specs.Does.{does}
+use Rattle.lan_world.specs.AtLink.Call.{SocketCall}
+use Rattle.lan_world.specs.AtLink.Does.{does}
 use Rattle.interface_ingress.specs.Handed.{handed_reply}
 use Rattle.interface_egress.specs.declared.socket_set.Item.{Item}
-use Rattle.lan_hosts.specs.Calls.{Did, tcp_does, udp_does}
-use Rattle.lan_hosts.specs.Ndisc.{Solicitation, Advertisement}
+use Rattle.lan_world.specs.AtLink.Calls.{Did, tcp_does, udp_does}
+use Rattle.lan_world.specs.AtLink.Ndisc.{Solicitation, Advertisement}
 use Rattle.net_containers.specs.Packets.{first}
 use Rattle.sockets.specs.Context.{ContextValue}
 use Rattle.sockets.specs.Offer as Answer

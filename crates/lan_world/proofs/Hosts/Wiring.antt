@@ -46,9 +46,9 @@ use Rattle.interface.specs.WayOut.{PieceLeaves}
 use Rattle.interface.specs.declared.turn.Turned.{Turned}
 use Rattle.interface.proofs.Keep.{polls_keep}
 use Rattle.interface.proofs.Sourced.{as_sourced}
-use Rattle.lan_hosts.specs.Port.{LinkEnd, PortValue, PortMove}
-use Rattle.lan_hosts.specs.Station.{StationValue, at_port}
-use Rattle.lan_hosts.specs.Steps.{PollsAt}
+use Rattle.lan_world.specs.AtLink.Port.{LinkEnd, PortValue, PortMove}
+use Rattle.lan_world.specs.AtLink.Station.{StationValue, at_port}
+use Rattle.lan_world.specs.AtLink.Steps.{PollsAt}
 use Rattle.sockets.specs.Context.{ContextValue}
 use Rattle.sockets.specs.Offer as Answer
 use Rattle.sockets.specs.Offer.TheVariants as Offer

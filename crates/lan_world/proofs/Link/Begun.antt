@@ -30,7 +30,7 @@ use Rattle.lan_base.specs.Cuts.{ipv4_part}
 use Rattle.lan_base.specs.Parts.{may_carry, is_ipv6, begins_pieces}
 use Rattle.lan_base.specs.declared.part.Part.{Part}
 use Rattle.lan_base.specs.Slices.{bytes_of_slice}
-use Rattle.lan_hosts.specs.Origins.{begins_datagram}
+use Rattle.lan_world.specs.AtLink.Origins.{begins_datagram}
 use Rattle.lan_world.specs.Link.Made.{sealed}
 use Rattle.lan_world.specs.Link.Frames.{Outgoing, number_by, medium_on, IsLinkHeader6, IsSlice, IsPiece6}
 use Rattle.lan_world.specs.Link.Numbers.{and_number, count_numbered, IsTied}

@@ -30,8 +30,8 @@ use Rattle.interface.specs.Delivered.{IsCutValue, IsWritable}
 use Rattle.interface.specs.Taken.{HasWidths, IsHalfSent}
 use Rattle.interface.proofs.Arrives.{length-written}
 use Rattle.interface.proofs.Offered.{writes, readable, begun_half, left_half}
-use Rattle.lan_hosts.specs.Origins.{begins_datagram}
-use Rattle.lan_hosts.specs.Port.{PortValue, PortMove}
+use Rattle.lan_world.specs.AtLink.Origins.{begins_datagram}
+use Rattle.lan_world.specs.AtLink.Port.{PortValue, PortMove}
 use Rattle.lan_world.specs.Link.Made.{sealed, bytes_of, CarriesNone, IsGoing}
 use Rattle.lan_world.specs.Link.Frames.{Outgoing, number_by, medium_on, IsOut, AreOut}
 use Rattle.lan_world.specs.Link.Numbers.{and_number, count_numbered, AreNumbered, IsTied}

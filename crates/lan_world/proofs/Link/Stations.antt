@@ -5,7 +5,7 @@ use Rattle.std.specs.Prelude.{ℤ, pos, ◌+ℤ◌, nat_lt, remove}
 use Rattle.std.specs.List.{AllByRecursion}
 use Rattle.interface_ingress.specs.Icmpv6 as Icmpv6
 use Rattle.interface_ingress.specs.Icmpv6.{MessageValue}
-use Rattle.lan_hosts.specs.Ndisc.{NeighborMessage, Solicitation, Advertisement}
+use Rattle.lan_world.specs.AtLink.Ndisc.{NeighborMessage, Solicitation, Advertisement}
 use Rattle.interface.specs.NdiscNeighborFlags.{NdiscNeighborFlags}
 use Rattle.interface_ingress.specs.AddressTests.{is_same_hardware}
 use Rattle.interface_ingress.specs.EthernetAddress.{EthernetAddress}

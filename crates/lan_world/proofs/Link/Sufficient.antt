@@ -8,20 +8,20 @@ use Rattle.std.proofs.lemmas.Bool.Decides.{nat_tests}
 use Rattle.std.proofs.lemmas.List.Sums.{sum_by-append}
 use Rattle.lan_base.specs.DeviceCapabilities.{DeviceCapabilities}
 use Rattle.lan_base.specs.Medium.{Medium}
-use Rattle.lan_hosts.specs.History.{Entry}
-use Rattle.lan_hosts.specs.Kinds.{Kind, kind_of}
-use Rattle.lan_hosts.specs.Kinds.Act.{Polls}
-use Rattle.lan_hosts.specs.Kinds.Kind.{OfHost}
-use Rattle.lan_hosts.specs.Refused.{Refused}
-use Rattle.lan_hosts.specs.Side.{Side}
-use Rattle.lan_hosts.specs.Side.TheVariants.{A, B}
-use Rattle.lan_hosts.specs.Origins.{medium_of, begins_datagram}
-use Rattle.lan_hosts.specs.Records.{datagrams_added}
+use Rattle.lan_world.specs.AtLink.History.{Entry}
+use Rattle.lan_world.specs.AtLink.Kinds.{Kind, kind_of}
+use Rattle.lan_world.specs.AtLink.Kinds.Act.{Polls}
+use Rattle.lan_world.specs.AtLink.Kinds.Kind.{OfHost}
+use Rattle.lan_world.specs.AtLink.Refused.{Refused}
+use Rattle.lan_world.specs.AtLink.Side.{Side}
+use Rattle.lan_world.specs.AtLink.Side.TheVariants.{A, B}
+use Rattle.lan_world.specs.AtLink.Origins.{medium_of, begins_datagram}
+use Rattle.lan_world.specs.AtLink.Records.{datagrams_added}
 use Rattle.interface.specs.Used.{sockets_in}
-use Rattle.lan_hosts.specs.Refusals.{Table, may_run_out, refusal, table}
-use Rattle.lan_hosts.specs.Runs.{table_in, tables_in, Leads}
-use Rattle.lan_hosts.specs.Station.{Stations, station}
-use Rattle.lan_hosts.proofs.Growing.{tables_go_on, happens_stays}
+use Rattle.lan_world.specs.AtLink.Refusals.{Table, may_run_out, refusal, table}
+use Rattle.lan_world.specs.AtLink.Runs.{table_in, tables_in, Leads}
+use Rattle.lan_world.specs.AtLink.Station.{Stations, station}
+use Rattle.lan_world.proofs.AtLink.Growing.{tables_go_on, happens_stays}
 use Rattle.lan_world.specs.Link.Numbers.{count_numbered, AreFew, IsTied}
 use Rattle.lan_world.proofs.Link.Begun.{worth}
 use Rattle.lan_world.specs.Link.Frames.{Outgoing}

@@ -32,12 +32,12 @@ use Rattle.interface_ingress.specs.Delivered.{answer_of, segment_place, segment_
 use Rattle.interface_ingress.specs.Datagrams.{TakesDatagram, ItemTakes, GivenIn, GivenAt, IsDelivered}
 use Rattle.interface_ingress.proofs.AtPlace.{changed_here, answer_here}
 use Rattle.interface_ingress.proofs.Segments.{accepted_there}
-use Rattle.lan_hosts.specs.Side.{Side}
-use Rattle.lan_hosts.specs.Kinds.{other}
-use Rattle.lan_hosts.specs.Moves as Moves
-use Rattle.lan_hosts.specs.Parties as Parties
-use Rattle.lan_hosts.specs.Parties.{Party, Net, party, WasMade}
-use Rattle.lan_hosts.specs.Safe.{seen}
+use Rattle.lan_world.specs.AtLink.Side.{Side}
+use Rattle.lan_world.specs.AtLink.Kinds.{other}
+use Rattle.lan_world.specs.AtLink.Moves as Moves
+use Rattle.lan_world.specs.AtLink.Parties as Parties
+use Rattle.lan_world.specs.AtLink.Parties.{Party, Net, party, WasMade}
+use Rattle.lan_world.specs.AtLink.Safe.{seen}
 use Rattle.lan_world.specs.Moves.Follows.{seen_place, sockets_of}
 use Rattle.lan_world.proofs.Moves.Following.{Reaches}
 use Rattle.lan_world.specs.Moves.Made.{Grows, IsMade, datagram_of}

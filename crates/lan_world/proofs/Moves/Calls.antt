@@ -17,28 +17,28 @@ use Rattle.interface_egress.specs.Set.{socket_in, with_socket}
 use Rattle.interface_egress.specs.declared.socket_set.Item.{Item}
 use Rattle.interface_egress.specs.declared.socket_set.SocketStorage.{SocketStorage}
 use Rattle.lan_base.specs.Carried.{names_tcp_or_udp}
-use Rattle.lan_hosts.specs.Call as Call
-use Rattle.lan_hosts.specs.Call.{SocketCall}
-use Rattle.lan_hosts.specs.History.{Entry}
-use Rattle.lan_hosts.specs.Kinds.{calls, Kind}
-use Rattle.lan_hosts.specs.Tables.{IsAllowed, call_refusal, table_of}
-use Rattle.lan_hosts.specs.Answer.{Answer}
-use Rattle.lan_hosts.specs.Answer.TheVariants as To
-use Rattle.lan_hosts.specs.Fault.TheVariants as For
-use Rattle.lan_hosts.specs.Side.{Side}
-use Rattle.lan_hosts.specs.Side.TheVariants.{A, B}
-use Rattle.lan_hosts.specs.SocketKind.{SocketKind}
-use Rattle.lan_hosts.specs.Calls.{Did, tcp_does, udp_does}
-use Rattle.lan_hosts.specs.Moves as Moves
-use Rattle.lan_hosts.specs.Moves.{IsOfOthers, DoneBy}
-use Rattle.lan_hosts.specs.Parties as Parties
-use Rattle.lan_hosts.specs.Parties.{Party, Net, party, places_of}
-use Rattle.lan_hosts.specs.Does.{Does, PlaceDoes, ItemDoes, DidAt, does, did_as, icmp_does, raw_does, message_or, packet_or}
-use Rattle.lan_hosts.specs.Refusals.{refusal}
-use Rattle.lan_hosts.specs.Runs.{tables_in}
-use Rattle.lan_hosts.specs.Safe.{seen}
-use Rattle.lan_hosts.specs.Station as Stations
-use Rattle.lan_hosts.specs.Station.{StationValue, station, kind_at}
+use Rattle.lan_world.specs.AtLink.Call as Call
+use Rattle.lan_world.specs.AtLink.Call.{SocketCall}
+use Rattle.lan_world.specs.AtLink.History.{Entry}
+use Rattle.lan_world.specs.AtLink.Kinds.{calls, Kind}
+use Rattle.lan_world.specs.AtLink.Tables.{IsAllowed, call_refusal, table_of}
+use Rattle.lan_world.specs.AtLink.Answer.{Answer}
+use Rattle.lan_world.specs.AtLink.Answer.TheVariants as To
+use Rattle.lan_world.specs.AtLink.Fault.TheVariants as For
+use Rattle.lan_world.specs.AtLink.Side.{Side}
+use Rattle.lan_world.specs.AtLink.Side.TheVariants.{A, B}
+use Rattle.lan_world.specs.AtLink.SocketKind.{SocketKind}
+use Rattle.lan_world.specs.AtLink.Calls.{Did, tcp_does, udp_does}
+use Rattle.lan_world.specs.AtLink.Moves as Moves
+use Rattle.lan_world.specs.AtLink.Moves.{IsOfOthers, DoneBy}
+use Rattle.lan_world.specs.AtLink.Parties as Parties
+use Rattle.lan_world.specs.AtLink.Parties.{Party, Net, party, places_of}
+use Rattle.lan_world.specs.AtLink.Does.{Does, PlaceDoes, ItemDoes, DidAt, does, did_as, icmp_does, raw_does, message_or, packet_or}
+use Rattle.lan_world.specs.AtLink.Refusals.{refusal}
+use Rattle.lan_world.specs.AtLink.Runs.{tables_in}
+use Rattle.lan_world.specs.AtLink.Safe.{seen}
+use Rattle.lan_world.specs.AtLink.Station as Stations
+use Rattle.lan_world.specs.AtLink.Station.{StationValue, station, kind_at}
 use Rattle.lan_world.specs.Moves.Follows.{seen_place, sockets_of, IsNetOf}
 use Rattle.lan_world.proofs.Moves.Places.{Places, seen_set}
 

@@ -2,11 +2,11 @@
 use Rattle.std.specs.Prelude.{◌≡◌, List}
 use Rattle.lan_base.specs.Medium.TheVariants as Medium
 use Rattle.lan_base.specs.Carried.{names_tcp_or_udp}
-use Rattle.lan_hosts.specs.History.{Entry}
-use Rattle.lan_hosts.specs.Moves.{Step, IsRun, run}
-use Rattle.lan_hosts.specs.Parties.{Net}
-use Rattle.lan_hosts.specs.Runs.{Starts}
-use Rattle.lan_hosts.specs.Station.{Stations}
+use Rattle.lan_world.specs.AtLink.History.{Entry}
+use Rattle.lan_world.specs.AtLink.Moves.{Step, IsRun, run}
+use Rattle.lan_world.specs.AtLink.Parties.{Net}
+use Rattle.lan_world.specs.AtLink.Runs.{Starts}
+use Rattle.lan_world.specs.AtLink.Station.{Stations}
 use Rattle.lan_world.specs.Moves.Follows.{IsNetOf}
 use Rattle.lan_world.specs.Moves.Joined.{first_net}
 

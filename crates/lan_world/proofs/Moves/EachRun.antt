@@ -10,28 +10,28 @@ use Rattle.interface_egress.specs.Set.{socket_at, socket_in, with_socket}
 use Rattle.interface_egress.specs.declared.socket_set.Item.{Item}
 use Rattle.interface_egress.specs.declared.socket_set.SocketStorage.{SocketStorage}
 use Rattle.lan_base.specs.Carried.{names_tcp_or_udp}
-use Rattle.lan_hosts.specs.Call as Call
-use Rattle.lan_hosts.specs.Call.{SocketCall}
-use Rattle.lan_hosts.specs.History.{Entry}
-use Rattle.lan_hosts.specs.Kinds.{other, kind_of, calls, Kind, LinkAct}
-use Rattle.lan_hosts.specs.Kinds.Act.{Calls, Sets, Opens, Asks, Polls}
-use Rattle.lan_hosts.specs.Kinds.Kind.{OfHost, OfLink}
-use Rattle.lan_hosts.specs.Kinds.LinkAct.{Hands, Cuts}
-use Rattle.lan_hosts.specs.Tables.{is_wrong_kind}
-use Rattle.lan_hosts.specs.Answer.{Answer}
-use Rattle.lan_hosts.specs.Refused.{Refused}
-use Rattle.lan_hosts.specs.Refused.TheVariants as For
-use Rattle.lan_hosts.specs.Side.{Side}
-use Rattle.lan_hosts.specs.Side.TheVariants.{A, B}
-use Rattle.lan_hosts.specs.Calls.{Did}
-use Rattle.lan_hosts.specs.Port.{LinkEnd, PortMove}
-use Rattle.lan_hosts.specs.Does.{PlaceDoes, ItemDoes, DidAt, does, did_as}
-use Rattle.lan_hosts.specs.Fresh.{IsUnused, IsFreshWorld}
-use Rattle.lan_hosts.specs.Origins.{goes_to}
-use Rattle.lan_hosts.specs.Refusals.{Tables, refusal}
-use Rattle.lan_hosts.specs.Runs.{Starts, tables_in, unused_both, WorldRun}
-use Rattle.lan_hosts.specs.Station.{StationValue, Stations, station, kind_at, with_station, with_link, at_port}
-use Rattle.lan_hosts.specs.Steps.{Happens, linked}
+use Rattle.lan_world.specs.AtLink.Call as Call
+use Rattle.lan_world.specs.AtLink.Call.{SocketCall}
+use Rattle.lan_world.specs.AtLink.History.{Entry}
+use Rattle.lan_world.specs.AtLink.Kinds.{other, kind_of, calls, Kind, LinkAct}
+use Rattle.lan_world.specs.AtLink.Kinds.Act.{Calls, Sets, Opens, Asks, Polls}
+use Rattle.lan_world.specs.AtLink.Kinds.Kind.{OfHost, OfLink}
+use Rattle.lan_world.specs.AtLink.Kinds.LinkAct.{Hands, Cuts}
+use Rattle.lan_world.specs.AtLink.Tables.{is_wrong_kind}
+use Rattle.lan_world.specs.AtLink.Answer.{Answer}
+use Rattle.lan_world.specs.AtLink.Refused.{Refused}
+use Rattle.lan_world.specs.AtLink.Refused.TheVariants as For
+use Rattle.lan_world.specs.AtLink.Side.{Side}
+use Rattle.lan_world.specs.AtLink.Side.TheVariants.{A, B}
+use Rattle.lan_world.specs.AtLink.Calls.{Did}
+use Rattle.lan_world.specs.AtLink.Port.{LinkEnd, PortMove}
+use Rattle.lan_world.specs.AtLink.Does.{PlaceDoes, ItemDoes, DidAt, does, did_as}
+use Rattle.lan_world.specs.AtLink.Fresh.{IsUnused, IsFreshWorld}
+use Rattle.lan_world.specs.AtLink.Origins.{goes_to}
+use Rattle.lan_world.specs.AtLink.Refusals.{Tables, refusal}
+use Rattle.lan_world.specs.AtLink.Runs.{Starts, tables_in, unused_both, WorldRun}
+use Rattle.lan_world.specs.AtLink.Station.{StationValue, Stations, station, kind_at, with_station, with_link, at_port}
+use Rattle.lan_world.specs.AtLink.Steps.{Happens, linked}
 use Rattle.lan_world.specs.Moves.Raws.{OfItem, OfEach}
 use Rattle.lan_world.proofs.Moves.EachSocket.{IsOfSockets, found, with_set, polls_of_each}
 use Rattle.lan_world.proofs.Moves.Nets.{either_side}

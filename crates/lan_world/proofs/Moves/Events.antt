@@ -1,18 +1,18 @@
 -- What an event of a host, or of the link, does to both hosts, as moves.
 use Rattle.std.proofs.Common.{◌≡◌, ℕ, List, [], ◌∷◌, ◌++◌, None, refl, sym, ap, ◌∙◌, subst}
-use Rattle.lan_hosts.specs.Call.{SocketCall}
-use Rattle.lan_hosts.specs.History.{Entry}
-use Rattle.lan_hosts.specs.Kinds.{other, kind_of, calls}
-use Rattle.lan_hosts.specs.Kinds.Act.{Calls}
-use Rattle.lan_hosts.specs.Side.{Side}
-use Rattle.lan_hosts.specs.Side.TheVariants.{A, B}
-use Rattle.lan_hosts.specs.Moves as Moves
-use Rattle.lan_hosts.specs.Moves.{IsNoCall, IsRun, after}
-use Rattle.lan_hosts.specs.Parties.{Party, Net, party}
-use Rattle.lan_hosts.proofs.Extended.{run-append, IsRun-append}
-use Rattle.lan_hosts.specs.Runs.{refusal_in}
-use Rattle.lan_hosts.specs.Station.{StationValue, Stations, station}
-use Rattle.lan_hosts.specs.Steps.{ActsAt}
+use Rattle.lan_world.specs.AtLink.Call.{SocketCall}
+use Rattle.lan_world.specs.AtLink.History.{Entry}
+use Rattle.lan_world.specs.AtLink.Kinds.{other, kind_of, calls}
+use Rattle.lan_world.specs.AtLink.Kinds.Act.{Calls}
+use Rattle.lan_world.specs.AtLink.Side.{Side}
+use Rattle.lan_world.specs.AtLink.Side.TheVariants.{A, B}
+use Rattle.lan_world.specs.AtLink.Moves as Moves
+use Rattle.lan_world.specs.AtLink.Moves.{IsNoCall, IsRun, after}
+use Rattle.lan_world.specs.AtLink.Parties.{Party, Net, party}
+use Rattle.lan_world.proofs.AtLink.Extended.{run-append, IsRun-append}
+use Rattle.lan_world.specs.AtLink.Runs.{refusal_in}
+use Rattle.lan_world.specs.AtLink.Station.{StationValue, Stations, station}
+use Rattle.lan_world.specs.AtLink.Steps.{ActsAt}
 use Rattle.lan_world.specs.Moves.Follows.{sockets_of, IsNetOf, Comes}
 use Rattle.lan_world.proofs.Moves.Following.{Reaches}
 use Rattle.lan_world.specs.Moves.Made.{Grows}

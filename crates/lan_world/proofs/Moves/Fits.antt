@@ -1,12 +1,12 @@
 -- Wherever two hosts came from a fresh start, their sockets are fit.
 use Rattle.std.proofs.Common.{List, Option, Some, None}
 use Rattle.sockets.specs.declared.socket.Socket.{Socket}
-use Rattle.lan_hosts.specs.History.{Entry}
-use Rattle.lan_hosts.specs.Calls.{Did}
-use Rattle.lan_hosts.specs.Does.{does}
-use Rattle.lan_hosts.specs.Fresh.{IsFreshWorld}
-use Rattle.lan_hosts.specs.Runs.{Starts, unused_both, WorldRun}
-use Rattle.lan_hosts.specs.Station.{Stations}
+use Rattle.lan_world.specs.AtLink.History.{Entry}
+use Rattle.lan_world.specs.AtLink.Calls.{Did}
+use Rattle.lan_world.specs.AtLink.Does.{does}
+use Rattle.lan_world.specs.AtLink.Fresh.{IsFreshWorld}
+use Rattle.lan_world.specs.AtLink.Runs.{Starts, unused_both, WorldRun}
+use Rattle.lan_world.specs.AtLink.Station.{Stations}
 use Rattle.lan_world.specs.Moves.Fit.{IsFit, NamesPorts, AreFit}
 use Rattle.lan_world.specs.Moves.Raws.{QueuesForeign}
 use Rattle.lan_world.proofs.Moves.EachRun.{IsOfRuns, Keeps, runs_of_each}

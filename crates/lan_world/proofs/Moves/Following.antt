@@ -1,10 +1,10 @@
 -- A host that moves of its sockets lead to.
 use Rattle.std.specs.Prelude.{◌≡◌, ℕ, Bool, List}
 use Rattle.interface.specs.State.{State}
-use Rattle.lan_hosts.specs.Side.{Side}
-use Rattle.lan_hosts.specs.Kinds.{other}
-use Rattle.lan_hosts.specs.Moves.{Step, IsRun, run}
-use Rattle.lan_hosts.specs.Parties.{Party, Net, party}
+use Rattle.lan_world.specs.AtLink.Side.{Side}
+use Rattle.lan_world.specs.AtLink.Kinds.{other}
+use Rattle.lan_world.specs.AtLink.Moves.{Step, IsRun, run}
+use Rattle.lan_world.specs.AtLink.Parties.{Party, Net, party}
 use Rattle.lan_world.specs.Moves.Made.{Grows}
 use Rattle.lan_world.specs.Moves.Follows.{sockets_of}
 

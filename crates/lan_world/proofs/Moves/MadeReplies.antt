@@ -1,6 +1,6 @@
 -- A reply of what was made.
 use Rattle.interface_ingress.specs.Arrives.{ReplyValue, Tells, Answers}
-use Rattle.lan_hosts.specs.Parties.{Party}
+use Rattle.lan_world.specs.AtLink.Parties.{Party}
 use Rattle.lan_world.specs.Moves.Made.{IsMade}
 
 -- an ARP packet has neither segment nor datagram

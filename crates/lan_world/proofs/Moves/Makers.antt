@@ -18,20 +18,20 @@ use Rattle.sockets.specs.declared.socket.Socket.TheVariants as Is
 use Rattle.interface_egress.specs.declared.socket_set.Item.{Item}
 use Rattle.interface_egress.specs.declared.socket_set.SocketStorage.{SocketStorage}
 use Rattle.sockets.specs.Context.{ContextValue}
-use Rattle.lan_hosts.specs.Side.{Side}
-use Rattle.lan_hosts.specs.Side.TheVariants.{A, B}
-use Rattle.lan_hosts.specs.Answer.{Answer}
-use Rattle.lan_hosts.specs.Call.{SocketCall}
+use Rattle.lan_world.specs.AtLink.Side.{Side}
+use Rattle.lan_world.specs.AtLink.Side.TheVariants.{A, B}
+use Rattle.lan_world.specs.AtLink.Answer.{Answer}
+use Rattle.lan_world.specs.AtLink.Call.{SocketCall}
 use Rattle.tcp_model.specs.State.{State}
-use Rattle.lan_hosts.specs.Moves.Move.{Invokes, Passes, Offers, Gives, Takes, Receives, Resets, Changes}
-use Rattle.lan_hosts.specs.Moves.{Move, Does, LooksSame, May, Step, IsRun, run, after, party_after}
-use Rattle.lan_hosts.specs.Parties as Parties
-use Rattle.lan_hosts.specs.Parties.{Socket, Party, Net, party, socket_at}
-use Rattle.lan_hosts.specs.Parties.Socket.{Tcp, Udp, Icmp, Raw}
-use Rattle.lan_hosts.specs.Kinds.{other}
-use Rattle.lan_hosts.specs.Safe.{seen_in}
-use Rattle.lan_hosts.specs.Runs.{Starts, WorldValue, start}
-use Rattle.lan_hosts.specs.Station.{station}
+use Rattle.lan_world.specs.AtLink.Moves.Move.{Invokes, Passes, Offers, Gives, Takes, Receives, Resets, Changes}
+use Rattle.lan_world.specs.AtLink.Moves.{Move, Does, LooksSame, May, Step, IsRun, run, after, party_after}
+use Rattle.lan_world.specs.AtLink.Parties as Parties
+use Rattle.lan_world.specs.AtLink.Parties.{Socket, Party, Net, party, socket_at}
+use Rattle.lan_world.specs.AtLink.Parties.Socket.{Tcp, Udp, Icmp, Raw}
+use Rattle.lan_world.specs.AtLink.Kinds.{other}
+use Rattle.lan_world.specs.AtLink.Safe.{seen_in}
+use Rattle.lan_world.specs.AtLink.Runs.{Starts, WorldValue, start}
+use Rattle.lan_world.specs.AtLink.Station.{station}
 use Rattle.lan_world.specs.Link.Made.{sealed, bytes_of}
 use Rattle.lan_world.specs.Moves.Follows.{seen_place, sockets_of}
 use Rattle.lan_world.specs.Moves.Joined.{first_net}

@@ -1,13 +1,13 @@
 -- A net after moves of one host.
 use Rattle.std.proofs.Common.{◌≡◌, ℕ, Bool, List, [], ◌∷◌, ◌++◌, Option, refl, sym, ap, ◌∙◌, subst}
 use Rattle.std.specs.Prelude.{slice_get}
-use Rattle.lan_hosts.specs.Side.{Side}
-use Rattle.lan_hosts.specs.Side.TheVariants.{A, B}
-use Rattle.lan_hosts.specs.Kinds.{other}
-use Rattle.lan_hosts.specs.Moves.{Move, party_after, history_after, May, Step, after, IsRun}
-use Rattle.lan_hosts.specs.Parties.{Socket, Datagram, Party, Net, party}
+use Rattle.lan_world.specs.AtLink.Side.{Side}
+use Rattle.lan_world.specs.AtLink.Side.TheVariants.{A, B}
+use Rattle.lan_world.specs.AtLink.Kinds.{other}
+use Rattle.lan_world.specs.AtLink.Moves.{Move, party_after, history_after, May, Step, after, IsRun}
+use Rattle.lan_world.specs.AtLink.Parties.{Socket, Datagram, Party, Net, party}
 use Rattle.tcp_tie.specs.Host.{Made}
-use Rattle.lan_hosts.proofs.Extended.{run-append, IsRun-append}
+use Rattle.lan_world.proofs.AtLink.Extended.{run-append, IsRun-append}
 use Rattle.lan_world.proofs.Moves.Following.{Reaches}
 use Rattle.lan_world.specs.Moves.Made.{Grows}
 use Rattle.lan_world.proofs.Moves.Places.{get_more}

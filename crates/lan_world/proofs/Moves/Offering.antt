@@ -16,8 +16,8 @@ use Rattle.tcp_tie.specs.Host.{Made, made_of, and_offer}
 use Rattle.tcp_model.specs.OpenOffer.{OpenOffer}
 use Rattle.tcp_model.specs.Offers.{offer_of, payload_of, packet_with, offered_packet}
 use Rattle.tcp_model.specs.Value.{TcpValue}
-use Rattle.lan_hosts.specs.Parties as Parties
-use Rattle.lan_hosts.specs.Parties.{Party, datagrams_in}
+use Rattle.lan_world.specs.AtLink.Parties as Parties
+use Rattle.lan_world.specs.AtLink.Parties.{Party, datagrams_in}
 use Rattle.lan_world.specs.Moves.Made.{IsMade, MadeBy, datagram_of}
 use Rattle.lan_world.proofs.Moves.Places.{get_last}
 

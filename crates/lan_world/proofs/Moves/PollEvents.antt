@@ -2,17 +2,17 @@
 use Rattle.std.proofs.Common.{◌≡◌, ◌+◌, ◌*◌, ℕ, ◌∷◌, List, sym, ap, ◌∙◌, subst}
 use Rattle.std.specs.Prelude.{ℤ}
 use Rattle.interface.specs.State.{State}
-use Rattle.lan_hosts.specs.History.{Entry}
-use Rattle.lan_hosts.specs.Kinds.{other, kind_of}
-use Rattle.lan_hosts.specs.Kinds.Act.{Polls}
-use Rattle.lan_hosts.specs.Kinds.Kind.{OfHost}
-use Rattle.lan_hosts.specs.Side.{Side}
-use Rattle.lan_hosts.specs.Moves.{IsNoCall}
-use Rattle.lan_hosts.specs.Parties.{Party, Net, party}
-use Rattle.lan_hosts.specs.Port.{PortValue, PortMove}
+use Rattle.lan_world.specs.AtLink.History.{Entry}
+use Rattle.lan_world.specs.AtLink.Kinds.{other, kind_of}
+use Rattle.lan_world.specs.AtLink.Kinds.Act.{Polls}
+use Rattle.lan_world.specs.AtLink.Kinds.Kind.{OfHost}
+use Rattle.lan_world.specs.AtLink.Side.{Side}
+use Rattle.lan_world.specs.AtLink.Moves.{IsNoCall}
+use Rattle.lan_world.specs.AtLink.Parties.{Party, Net, party}
+use Rattle.lan_world.specs.AtLink.Port.{PortValue, PortMove}
 use Rattle.interface.specs.Used.{sockets_in}
-use Rattle.lan_hosts.specs.Station.{StationValue, Stations, station, at_port}
-use Rattle.lan_hosts.specs.Steps.{ActsAt}
+use Rattle.lan_world.specs.AtLink.Station.{StationValue, Stations, station, at_port}
+use Rattle.lan_world.specs.AtLink.Steps.{ActsAt}
 use Rattle.lan_world.specs.Moves.Follows.{IsNetOf, Comes, sockets_of}
 use Rattle.lan_world.proofs.Moves.Following.{Follows}
 use Rattle.lan_world.specs.Moves.Fit.{IsFit}

@@ -20,9 +20,9 @@ use Rattle.interface.proofs.Kept.{IsKept}
 use Rattle.interface.proofs.Kept.{IsPriced}
 use Rattle.interface.specs.Used.{sockets_in}
 use Rattle.interface.proofs.Priced.{polls_cost}
-use Rattle.lan_hosts.specs.Side.{Side}
-use Rattle.lan_hosts.specs.Kinds.{other}
-use Rattle.lan_hosts.specs.Parties.{Party, Net, party}
+use Rattle.lan_world.specs.AtLink.Side.{Side}
+use Rattle.lan_world.specs.AtLink.Kinds.{other}
+use Rattle.lan_world.specs.AtLink.Parties.{Party, Net, party}
 use Rattle.lan_world.specs.Moves.Follows.{sockets_of}
 use Rattle.lan_world.proofs.Moves.Following.{Follows}
 use Rattle.lan_world.specs.Moves.Fit.{IsFit}

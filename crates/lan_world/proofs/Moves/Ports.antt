@@ -52,15 +52,15 @@ use Rattle.sockets.specs.declared.socket.Socket.{Socket}
 use Rattle.sockets.specs.declared.socket.Socket.TheVariants as Is
 use Rattle.interface_ingress.specs.Datagrams.{TakesDatagram}
 use Rattle.interface_ingress.specs.Delivered.{with_packet, with_icmpv4, with_icmpv6, with_segment}
-use Rattle.lan_hosts.specs.Call as Call
-use Rattle.lan_hosts.specs.Call.{SocketCall}
-use Rattle.lan_hosts.specs.TcpSetting.{TcpSetting}
-use Rattle.lan_hosts.specs.TcpSetting.TheVariants as Changed
-use Rattle.lan_hosts.specs.Calls.{at_port, read_by, setting_after, tcp_does, udp_does}
-use Rattle.lan_hosts.proofs.Queues.{each_left, each_appended}
-use Rattle.lan_hosts.proofs.WireMoves.{pair_kept, pair_left}
-use Rattle.lan_hosts.specs.Does.{does, icmp_does, raw_does}
-use Rattle.lan_hosts.specs.Fresh.{IsUnused}
+use Rattle.lan_world.specs.AtLink.Call as Call
+use Rattle.lan_world.specs.AtLink.Call.{SocketCall}
+use Rattle.lan_world.specs.AtLink.TcpSetting.{TcpSetting}
+use Rattle.lan_world.specs.AtLink.TcpSetting.TheVariants as Changed
+use Rattle.lan_world.specs.AtLink.Calls.{at_port, read_by, setting_after, tcp_does, udp_does}
+use Rattle.lan_world.proofs.AtLink.Queues.{each_left, each_appended}
+use Rattle.lan_world.proofs.AtLink.WireMoves.{pair_kept, pair_left}
+use Rattle.lan_world.specs.AtLink.Does.{does, icmp_does, raw_does}
+use Rattle.lan_world.specs.AtLink.Fresh.{IsUnused}
 use Rattle.lan_world.specs.Moves.Fit.{AreNamed, NamesPorts}
 use Rattle.lan_world.proofs.Moves.EachRun.{IsOfRuns, SendsForeign, Keeps, kept_as, all_as}
 use Rattle.lan_world.proofs.Moves.EachSocket.{IsOfSockets}

@@ -6,7 +6,7 @@ use Rattle.sockets.specs.Packet.{PacketValue}
 use Rattle.sockets.specs.Offer as Answer
 use Rattle.sockets.specs.Offers.{OffersFirst, left_with}
 use Rattle.sockets.specs.SocketValue.{SocketValue, left_by, settled}
-use Rattle.lan_hosts.proofs.Queues.{IsLeft, contents_unpadded, contents_without_first}
+use Rattle.lan_world.proofs.AtLink.Queues.{IsLeft, contents_unpadded, contents_without_first}
 
 module _ {H S : Type 0} where
   offer_left_by : (p : Option PacketValue) (v v' : SocketValue H S) → v' ≡ left_with p v → IsLeft (contents v.queued) (contents v'.queued)

@@ -35,12 +35,12 @@ use Rattle.interface_ingress.specs.Datagrams.{TakesDatagram}
 use Rattle.interface_ingress.specs.Delivered.{with_packet, with_icmpv4, with_icmpv6, with_segment}
 use Rattle.lan_base.specs.Carried.{IsNeitherBehind, names_tcp_or_udp, is_tcp_or_udp, has_ports_behind}
 use Rattle.lan_base.proofs.Named.{neither_first, neither_second, behind_named}
-use Rattle.lan_hosts.specs.Call as Call
-use Rattle.lan_hosts.specs.Call.{SocketCall}
-use Rattle.lan_hosts.specs.Calls.{tcp_does, udp_does}
-use Rattle.lan_hosts.proofs.Queues.{each_left, each_appended, each_first}
-use Rattle.lan_hosts.specs.Does.{does, icmp_does, raw_does}
-use Rattle.lan_hosts.specs.Fresh.{IsUnused}
+use Rattle.lan_world.specs.AtLink.Call as Call
+use Rattle.lan_world.specs.AtLink.Call.{SocketCall}
+use Rattle.lan_world.specs.AtLink.Calls.{tcp_does, udp_does}
+use Rattle.lan_world.proofs.AtLink.Queues.{each_left, each_appended, each_first}
+use Rattle.lan_world.specs.AtLink.Does.{does, icmp_does, raw_does}
+use Rattle.lan_world.specs.AtLink.Fresh.{IsUnused}
 use Rattle.lan_world.specs.Moves.Fit.{AreNamed}
 use Rattle.lan_world.specs.Moves.Raws.{QueuesForeign}
 use Rattle.lan_world.proofs.Moves.EachRun.{IsOfRuns, SendsForeign, Keeps, kept_as, all_as}

@@ -5,8 +5,8 @@ use Rattle.interface_ingress.specs.Icmpv4Header.{Icmpv4Header}
 use Rattle.interface_ingress.specs.Icmpv4Header.TheVariants as V4
 use Rattle.interface_ingress.specs.Icmpv6 as Icmpv6
 use Rattle.interface_ingress.specs.Icmpv6.{MessageValue}
-use Rattle.lan_hosts.specs.Icmpv6DstUnreachable.TheVariants as V6Reason
-use Rattle.lan_hosts.specs.Ndisc.{NeighborMessage, Solicitation, Advertisement}
+use Rattle.lan_world.specs.AtLink.Icmpv6DstUnreachable.TheVariants as V6Reason
+use Rattle.lan_world.specs.AtLink.Ndisc.{NeighborMessage, Solicitation, Advertisement}
 use Rattle.interface_ingress.specs.HardwareAddress.{HardwareAddress}
 use Rattle.interface_ingress.specs.HardwareAddress.TheVariants as Hardware
 use Rattle.interface_ingress.specs.EthernetAddress.{EthernetAddress}
@@ -30,7 +30,7 @@ use Rattle.interface_ingress.specs.Heard.{neighbor_heard, Heard, heard, heard_on
 use Rattle.interface_ingress.specs.Replies.{sent_v4, echo_v4, port_unreachable, protocol_unreachable, parameter_problem}
 use Rattle.interface_ingress.specs.Replies.{is_told, reason_of, source_of_reply, reply_v6, is_between_hosts, quoted_v4}
 use Rattle.interface_ingress.specs.Replies.{quoted_v6}
-use Rattle.lan_hosts.specs.Parties.{Party}
+use Rattle.lan_world.specs.AtLink.Parties.{Party}
 use Rattle.lan_world.specs.Moves.Made.{IsMade}
 use Rattle.lan_world.proofs.Moves.MadeReplies.{IsMadeReply}
 

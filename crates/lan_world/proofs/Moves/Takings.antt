@@ -22,9 +22,9 @@ use Rattle.interface_ingress.specs.Handed.{control_v4_places, control_v6_places,
 use Rattle.interface_ingress.proofs.Limit.{let_go_so}
 use Rattle.interface_ingress.specs.Incoming.{IncomingValue, Arp, Ip4, Ip6}
 use Rattle.interface_ingress.specs.Upper.{IsBrought}
-use Rattle.lan_hosts.specs.Side.{Side}
-use Rattle.lan_hosts.specs.Kinds.{other}
-use Rattle.lan_hosts.specs.Parties.{Party, Net, party, WasMade}
+use Rattle.lan_world.specs.AtLink.Side.{Side}
+use Rattle.lan_world.specs.AtLink.Kinds.{other}
+use Rattle.lan_world.specs.AtLink.Parties.{Party, Net, party, WasMade}
 use Rattle.lan_world.specs.Moves.Follows.{sockets_of}
 use Rattle.lan_world.proofs.Moves.Following.{Reaches}
 use Rattle.lan_world.specs.Moves.Made.{IsMade, HandsMade, BringsMade, datagram_of}

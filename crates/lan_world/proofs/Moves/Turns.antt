@@ -41,11 +41,11 @@ use Rattle.interface.specs.Turn.{PlaceTurns, ItemTurns, TurnsIf, Answers, SendsB
 use Rattle.interface.specs.Turn.{SendsAs}
 use Rattle.interface.specs.declared.turn.Turned.{Turned}
 use Rattle.interface.specs.State.{sending_as}
-use Rattle.lan_hosts.specs.Side.{Side}
-use Rattle.lan_hosts.specs.Moves as Moves
-use Rattle.lan_hosts.specs.Parties as Parties
-use Rattle.lan_hosts.specs.Parties.{Party, Net, party, datagrams_of}
-use Rattle.lan_hosts.specs.Safe.{seen}
+use Rattle.lan_world.specs.AtLink.Side.{Side}
+use Rattle.lan_world.specs.AtLink.Moves as Moves
+use Rattle.lan_world.specs.AtLink.Parties as Parties
+use Rattle.lan_world.specs.AtLink.Parties.{Party, Net, party, datagrams_of}
+use Rattle.lan_world.specs.AtLink.Safe.{seen}
 use Rattle.lan_world.specs.Moves.Follows.{seen_place, sockets_of}
 use Rattle.lan_world.proofs.Moves.Following.{Reaches, Follows}
 use Rattle.lan_world.specs.Moves.Fit.{IsFit}

@@ -48,7 +48,7 @@ use Rattle.interface_ingress.specs.Handed.{handed_reply, is_unclaimed, limited_r
 use Rattle.interface_ingress.proofs.Limit.{let_go_so}
 use Rattle.interface_ingress.specs.Incoming.{IncomingValue, Arp, Ip4, Ip6}
 use Rattle.interface_ingress.specs.Upper.{upper_header, upper_payload, IsBrought}
-use Rattle.lan_hosts.proofs.Queues.{each_first}
+use Rattle.lan_world.proofs.AtLink.Queues.{each_first}
 use Rattle.lan_world.specs.Moves.Fit.{AreNamed, NamesPorts, IsFit}
 use Rattle.lan_world.specs.Moves.Made.{FitsBehind, IsWide}
 use Rattle.lan_world.specs.Moves.Protocols.{NamesBehind, NamesItsPayload}

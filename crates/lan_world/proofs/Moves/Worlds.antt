@@ -3,29 +3,29 @@ use Rattle.std.proofs.Common.{◌≡◌, ℕ, zero, suc, List, [], ◌∷◌, Op
 use Rattle.std.specs.Prelude.{◌-◌, ◌≤◌, length, slice_index_or}
 use Rattle.tcp_law.specs.Safe.{IsPrefixOf}
 use Rattle.tcp_model.specs.Value.{TcpValue}
-use Rattle.lan_hosts.specs.History.{Entry, written}
-use Rattle.lan_hosts.specs.Kinds.{other, kind_of, Kind, LinkAct}
-use Rattle.lan_hosts.specs.Kinds.Act.{Calls, Sets, Opens, Asks, Polls}
-use Rattle.lan_hosts.specs.Kinds.Kind.{OfHost, OfLink}
-use Rattle.lan_hosts.specs.Kinds.LinkAct.{Hands, Cuts}
-use Rattle.lan_hosts.specs.Side.{Side}
-use Rattle.lan_hosts.specs.Side.TheVariants.{A, B}
-use Rattle.lan_hosts.specs.Partners.{ArePartners}
-use Rattle.lan_hosts.specs.Moves.{IsNoCall}
-use Rattle.lan_hosts.specs.Parties as Parties
-use Rattle.lan_hosts.specs.Parties.{Party, Net, party}
-use Rattle.lan_hosts.specs.PacketsSafe.{IsFreshSocket, IsFreshParty, IsFreshNet, IsSafe, IsTcpAt, taken_in, HasNothing, HoldsRest}
-use Rattle.lan_hosts.proofs.Runs.{runs_safe}
+use Rattle.lan_world.specs.AtLink.History.{Entry, written}
+use Rattle.lan_world.specs.AtLink.Kinds.{other, kind_of, Kind, LinkAct}
+use Rattle.lan_world.specs.AtLink.Kinds.Act.{Calls, Sets, Opens, Asks, Polls}
+use Rattle.lan_world.specs.AtLink.Kinds.Kind.{OfHost, OfLink}
+use Rattle.lan_world.specs.AtLink.Kinds.LinkAct.{Hands, Cuts}
+use Rattle.lan_world.specs.AtLink.Side.{Side}
+use Rattle.lan_world.specs.AtLink.Side.TheVariants.{A, B}
+use Rattle.lan_world.specs.AtLink.Partners.{ArePartners}
+use Rattle.lan_world.specs.AtLink.Moves.{IsNoCall}
+use Rattle.lan_world.specs.AtLink.Parties as Parties
+use Rattle.lan_world.specs.AtLink.Parties.{Party, Net, party}
+use Rattle.lan_world.specs.AtLink.PacketsSafe.{IsFreshSocket, IsFreshParty, IsFreshNet, IsSafe, IsTcpAt, taken_in, HasNothing, HoldsRest}
+use Rattle.lan_world.proofs.AtLink.Runs.{runs_safe}
 use Rattle.interface_egress.specs.Set.{socket_at}
 use Rattle.sockets.specs.declared.socket.Socket.{Socket}
 use Rattle.sockets.specs.declared.socket.Socket.TheVariants as Is
-use Rattle.lan_hosts.specs.Fresh.{IsUnused, IsFreshStart, IsFreshWorld}
-use Rattle.lan_hosts.specs.Runs.{Start, Starts, unused, unused_both, Leads, refusal_in}
-use Rattle.lan_hosts.specs.Safe.{seen, seen_in, party_of, net_of, port_of, first_port}
-use Rattle.lan_hosts.specs.Station.{StationValue, Stations, station, with_station, with_link}
-use Rattle.lan_hosts.specs.Steps.{Happens, linked}
-use Rattle.lan_hosts.specs.Port.{LinkEnd}
-use Rattle.lan_hosts.specs.Origins.{goes_to}
+use Rattle.lan_world.specs.AtLink.Fresh.{IsUnused, IsFreshStart, IsFreshWorld}
+use Rattle.lan_world.specs.AtLink.Runs.{Start, Starts, unused, unused_both, Leads, refusal_in}
+use Rattle.lan_world.specs.AtLink.Safe.{seen, seen_in, party_of, net_of, port_of, first_port}
+use Rattle.lan_world.specs.AtLink.Station.{StationValue, Stations, station, with_station, with_link}
+use Rattle.lan_world.specs.AtLink.Steps.{Happens, linked}
+use Rattle.lan_world.specs.AtLink.Port.{LinkEnd}
+use Rattle.lan_world.specs.AtLink.Origins.{goes_to}
 use Rattle.lan_world.specs.Moves.Follows.{sockets_of, IsNetOf, Comes, IsNoPoll}
 use Rattle.lan_world.specs.Moves.Joined.{first_net}
 use Rattle.lan_world.proofs.Moves.Coming.{HasCome}

@@ -9,13 +9,13 @@ use Rattle.interface_ingress.specs.Kept.{with_ports, IsDamaged}
 use Rattle.interface_ingress.specs.Reassembled.{Slots, uncut}
 use Rattle.interface_tables.specs.Inner.{InnerValue}
 use Rattle.interface_tables.specs.Settings.{is_of_medium}
-use Rattle.lan_hosts.specs.History.{Entry}
-use Rattle.lan_hosts.specs.Kinds.{Kind, Origin, Damaged, kind_of}
-use Rattle.lan_hosts.specs.Kinds.Kind.{OfLink}
-use Rattle.lan_hosts.specs.Kinds.LinkAct.{Hands}
-use Rattle.lan_hosts.specs.Origins.{medium_of, frame_of_origin}
-use Rattle.lan_hosts.specs.Runs.{Leads, WorldRun}
-use Rattle.lan_hosts.specs.Station.{Stations, station}
+use Rattle.lan_world.specs.AtLink.History.{Entry}
+use Rattle.lan_world.specs.AtLink.Kinds.{Kind, Origin, Damaged, kind_of}
+use Rattle.lan_world.specs.AtLink.Kinds.Kind.{OfLink}
+use Rattle.lan_world.specs.AtLink.Kinds.LinkAct.{Hands}
+use Rattle.lan_world.specs.AtLink.Origins.{medium_of, frame_of_origin}
+use Rattle.lan_world.specs.AtLink.Runs.{Leads, WorldRun}
+use Rattle.lan_world.specs.AtLink.Station.{Stations, station}
 use Rattle.lan_base.specs.Capabilities.{all_checksums}
 use Rattle.lan_base.specs.Checksum.TheVariants.{Both}
 use Rattle.lan_base.specs.ChecksumCapabilities.{ChecksumCapabilities}

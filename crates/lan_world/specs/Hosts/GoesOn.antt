@@ -2,7 +2,7 @@
 use Rattle.std.specs.Prelude.{◌≡◌, ◌≤ℤ◌, ℕ, Bool, true, false, List, ◌++◌, length}
 use Rattle.interface_ingress.specs.HardwareAddress.{HardwareAddress}
 use Rattle.interface_ingress.specs.HardwareAddress.TheVariants as Hardware
-use Rattle.lan_hosts.specs.Station.{StationValue}
+use Rattle.lan_world.specs.AtLink.Station.{StationValue}
 
 -- whether the medium has hardware addresses
 abbrev pub has_addresses : HardwareAddress → Bool

@@ -1,13 +1,13 @@
 -- Each host of a world is a run of its machine.
 use Rattle.std.specs.Prelude.{◌≡◌, ℕ, if◌then◌else◌, List, [], ◌∷◌, ◌++◌, map, Option}
-use Rattle.lan_hosts.specs.History.{Entry}
-use Rattle.lan_hosts.specs.Kinds.{same_side, Kind, Act, kind_of}
-use Rattle.lan_hosts.specs.Kinds.Kind.{OfHost}
-use Rattle.lan_hosts.specs.Answer.{Answer}
-use Rattle.lan_hosts.specs.Side.{Side}
-use Rattle.lan_hosts.specs.Station.{station}
-use Rattle.lan_hosts.specs.Origins.{frame_of_origin, origins, own_frames}
-use Rattle.lan_hosts.specs.Runs.{start, unused, WorldValue}
+use Rattle.lan_world.specs.AtLink.History.{Entry}
+use Rattle.lan_world.specs.AtLink.Kinds.{same_side, Kind, Act, kind_of}
+use Rattle.lan_world.specs.AtLink.Kinds.Kind.{OfHost}
+use Rattle.lan_world.specs.AtLink.Answer.{Answer}
+use Rattle.lan_world.specs.AtLink.Side.{Side}
+use Rattle.lan_world.specs.AtLink.Station.{station}
+use Rattle.lan_world.specs.AtLink.Origins.{frame_of_origin, origins, own_frames}
+use Rattle.lan_world.specs.AtLink.Runs.{start, unused, WorldValue}
 use Rattle.tcp_model.specs.State.{State}
 use Rattle.lan_world.specs.Hosts.Machine.{Turn, machine_of, HostRun}
 

@@ -7,12 +7,12 @@ use Rattle.interface_egress.specs.GoesOut.{frame_of}
 use Rattle.interface_egress.specs.declared.socket_set.SocketStorage.{SocketStorage}
 use Rattle.interface.specs.Touches.{Silences}
 use Rattle.interface_tables.specs.Inner.{InnerValue}
-use Rattle.lan_hosts.specs.Kinds.{Act}
-use Rattle.lan_hosts.specs.Kinds.Act.{Opens, Polls}
-use Rattle.lan_hosts.specs.Answer.{Answer}
-use Rattle.lan_hosts.specs.Port.{LinkEnd}
-use Rattle.lan_hosts.specs.Station.{StationValue}
-use Rattle.lan_hosts.specs.Steps.{Acts}
+use Rattle.lan_world.specs.AtLink.Kinds.{Act}
+use Rattle.lan_world.specs.AtLink.Kinds.Act.{Opens, Polls}
+use Rattle.lan_world.specs.AtLink.Answer.{Answer}
+use Rattle.lan_world.specs.AtLink.Port.{LinkEnd}
+use Rattle.lan_world.specs.AtLink.Station.{StationValue}
+use Rattle.lan_world.specs.AtLink.Steps.{Acts}
 use Rattle.sockets.specs.declared.socket.Socket.{Socket}
 use Rattle.tcp_model.specs.State.{State}
 

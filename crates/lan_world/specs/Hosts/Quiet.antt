@@ -5,18 +5,18 @@ use Rattle.interface_ingress.specs.IpAddress.TheVariants as Address
 use Rattle.interface.specs.QuietStep.{IsEarlier}
 use Rattle.interface_tables.specs.Route.{is_gateway_v4, is_gateway_v6, without}
 use Rattle.interface_tables.specs.declared.route.Route.{Route}
-use Rattle.lan_hosts.specs.Call as Call
-use Rattle.lan_hosts.specs.History.{Entry, Counts}
-use Rattle.lan_hosts.specs.Kinds.{Act, Kind, Setting, same_side, kind_of}
-use Rattle.lan_hosts.specs.Kinds as Set
-use Rattle.lan_hosts.specs.Kinds.Act.{Calls, Sets, Opens, Asks, Polls}
-use Rattle.lan_hosts.specs.Kinds.Kind.{OfHost, OfLink}
-use Rattle.lan_hosts.specs.Kinds.LinkAct.{Hands, Cuts}
-use Rattle.lan_hosts.specs.Answer.{Answer}
-use Rattle.lan_hosts.specs.Answer.TheVariants as To
-use Rattle.lan_hosts.specs.Side.{Side}
-use Rattle.lan_hosts.specs.Origins.{goes_to, sent_before, waiting_before}
-use Rattle.lan_hosts.specs.Runs.{Starts, start}
+use Rattle.lan_world.specs.AtLink.Call as Call
+use Rattle.lan_world.specs.AtLink.History.{Entry, Counts}
+use Rattle.lan_world.specs.AtLink.Kinds.{Act, Kind, Setting, same_side, kind_of}
+use Rattle.lan_world.specs.AtLink.Kinds as Set
+use Rattle.lan_world.specs.AtLink.Kinds.Act.{Calls, Sets, Opens, Asks, Polls}
+use Rattle.lan_world.specs.AtLink.Kinds.Kind.{OfHost, OfLink}
+use Rattle.lan_world.specs.AtLink.Kinds.LinkAct.{Hands, Cuts}
+use Rattle.lan_world.specs.AtLink.Answer.{Answer}
+use Rattle.lan_world.specs.AtLink.Answer.TheVariants as To
+use Rattle.lan_world.specs.AtLink.Side.{Side}
+use Rattle.lan_world.specs.AtLink.Origins.{goes_to, sent_before, waiting_before}
+use Rattle.lan_world.specs.AtLink.Runs.{Starts, start}
 
 -- LEFT ALONE
 

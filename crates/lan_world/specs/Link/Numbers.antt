@@ -2,7 +2,7 @@
 use Rattle.std.specs.Prelude.{◌≡◌, ◌+◌, ◌%◌, ◌^◌, ◌<◌, ◌≤◌, ℕ, List, [], ◌∷◌, Option, None, Some}
 use Rattle.std.specs.List.{count_by}
 use Rattle.lan_base.specs.Medium.{Medium}
-use Rattle.lan_hosts.specs.Origins.{begins_datagram}
+use Rattle.lan_world.specs.AtLink.Origins.{begins_datagram}
 use Rattle.lan_world.specs.Link.Frames.{Outgoing, number_of}
 
 abbrev pub and_number : Option ℕ → ℕ → ℕ

@@ -6,8 +6,8 @@ use Rattle.net_containers.specs.Packets.{contents}
 use Rattle.sockets.specs.declared.socket.Socket.{Socket}
 use Rattle.sockets.specs.declared.socket.Socket.TheVariants as Is
 use Rattle.tcp_model.specs.EndpointPair.{EndpointPair}
-use Rattle.lan_hosts.specs.Side.{Side}
-use Rattle.lan_hosts.specs.Station.{Stations, station}
+use Rattle.lan_world.specs.AtLink.Side.{Side}
+use Rattle.lan_world.specs.AtLink.Station.{Stations, station}
 use Rattle.lan_world.specs.Moves.Raws.{OfEach, QueuesForeign}
 
 -- neither port is 0

@@ -3,16 +3,16 @@ use Rattle.std.specs.Prelude.{◌≡◌, ℕ, Bool, List, map, Option, Some}
 use Rattle.interface_egress.specs.Set.{socket_in}
 use Rattle.interface_egress.specs.declared.socket_set.SocketStorage.{SocketStorage}
 use Rattle.sockets.specs.declared.socket.Socket as Sockets
-use Rattle.lan_hosts.specs.Side.{Side}
-use Rattle.lan_hosts.specs.History.{Entry}
-use Rattle.lan_hosts.specs.Kinds.{Kind}
-use Rattle.lan_hosts.specs.Kinds.Act.{Polls}
-use Rattle.lan_hosts.specs.Kinds.Kind.{OfHost}
-use Rattle.lan_hosts.specs.Moves.{Step, IsRun, run}
-use Rattle.lan_hosts.specs.Parties as Parties
-use Rattle.lan_hosts.specs.Parties.{Net, party}
-use Rattle.lan_hosts.specs.Safe.{seen_in}
-use Rattle.lan_hosts.specs.Station.{Stations, station}
+use Rattle.lan_world.specs.AtLink.Side.{Side}
+use Rattle.lan_world.specs.AtLink.History.{Entry}
+use Rattle.lan_world.specs.AtLink.Kinds.{Kind}
+use Rattle.lan_world.specs.AtLink.Kinds.Act.{Polls}
+use Rattle.lan_world.specs.AtLink.Kinds.Kind.{OfHost}
+use Rattle.lan_world.specs.AtLink.Moves.{Step, IsRun, run}
+use Rattle.lan_world.specs.AtLink.Parties as Parties
+use Rattle.lan_world.specs.AtLink.Parties.{Net, party}
+use Rattle.lan_world.specs.AtLink.Safe.{seen_in}
+use Rattle.lan_world.specs.AtLink.Station.{Stations, station}
 use Rattle.lan_world.specs.Moves.Made.{Grows}
 
 -- the socket of a place, of which nothing is looked at where it is of ICMP or a raw one

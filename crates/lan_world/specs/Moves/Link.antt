@@ -19,7 +19,7 @@ use Rattle.interface.specs.Ingress.{is_read}
 use Rattle.interface.specs.Polls.{begun}
 use Rattle.interface.specs.State.{State, state, at_device}
 use Rattle.interface.specs.Turn.{is_done}
-use Rattle.lan_hosts.specs.Parties.{Party}
+use Rattle.lan_world.specs.AtLink.Parties.{Party}
 use Rattle.lan_world.specs.Moves.Made.{Grows, IsMade, IsWide, BringsMade}
 
 -- the frame carries this to the host

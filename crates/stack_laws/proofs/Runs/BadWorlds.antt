@@ -16,30 +16,30 @@ use Rattle.lan_world.specs.Ipv4Address.{Ipv4Address}
 use Rattle.lan_world.specs.Ipv6Address.{Ipv6Address}
 use Rattle.lan_world.specs.Question.{Question}
 use Rattle.lan_world.specs.Question.TheVariants as Query
-use Rattle.lan_hosts.specs.Departure as Leaves
-use Rattle.lan_hosts.specs.Departure.{Tells, Whole, arp_frame, arp_request, packet_frame, question_frame, solicitation, solicited_station}
-use Rattle.lan_hosts.specs.Arrives.{Arrived, ReplyValue}
-use Rattle.lan_hosts.specs.Delivered.{Places}
+use Rattle.lan_world.specs.AtLink.Departure as Leaves
+use Rattle.lan_world.specs.AtLink.Departure.{Tells, Whole, arp_frame, arp_request, packet_frame, question_frame, solicitation, solicited_station}
+use Rattle.lan_world.specs.AtLink.Arrives.{Arrived, ReplyValue}
+use Rattle.lan_world.specs.AtLink.Delivered.{Places}
 use Rattle.lan_world.specs.Kept.{with_ports}
-use Rattle.lan_hosts.specs.Reassembled.{Slots}
-use Rattle.lan_hosts.specs.Inner.{InnerValue}
+use Rattle.lan_world.specs.AtLink.Reassembled.{Slots}
+use Rattle.lan_world.specs.AtLink.Inner.{InnerValue}
 use Rattle.lan_world.specs.Route.{Route}
 use Rattle.lan_world.specs.Touches.{second_after}
-use Rattle.lan_hosts.specs.History.{Entry, Counts}
-use Rattle.lan_hosts.specs.Kinds.{other, Kind, Act, Delivered, Damaged, kind_of}
-use Rattle.lan_hosts.specs.Kinds.Act.{Opens, Asks}
-use Rattle.lan_hosts.specs.Kinds.Kind.{OfHost, OfLink}
-use Rattle.lan_hosts.specs.Kinds.LinkAct.{Hands}
-use Rattle.lan_hosts.specs.Answer.{Answer}
-use Rattle.lan_hosts.specs.Answer.TheVariants as To
-use Rattle.lan_hosts.specs.Refused.TheVariants as For
-use Rattle.lan_hosts.specs.Side.{Side}
-use Rattle.lan_hosts.specs.Side.TheVariants.{A}
-use Rattle.lan_hosts.specs.Origins.{medium_of, frame_of_origin, is_cut_of, own_frames}
-use Rattle.lan_hosts.specs.Refusals.{is_no_frame, refusal}
-use Rattle.lan_hosts.specs.Runs.{Starts, WorldValue, WorldRun, unused, unused_both, counts_of, tables_in}
-use Rattle.lan_hosts.specs.Station.{StationValue, Stations, station}
-use Rattle.lan_hosts.specs.Steps.{Acts, Happens}
+use Rattle.lan_world.specs.AtLink.History.{Entry, Counts}
+use Rattle.lan_world.specs.AtLink.Kinds.{other, Kind, Act, Delivered, Damaged, kind_of}
+use Rattle.lan_world.specs.AtLink.Kinds.Act.{Opens, Asks}
+use Rattle.lan_world.specs.AtLink.Kinds.Kind.{OfHost, OfLink}
+use Rattle.lan_world.specs.AtLink.Kinds.LinkAct.{Hands}
+use Rattle.lan_world.specs.AtLink.Answer.{Answer}
+use Rattle.lan_world.specs.AtLink.Answer.TheVariants as To
+use Rattle.lan_world.specs.AtLink.Refused.TheVariants as For
+use Rattle.lan_world.specs.AtLink.Side.{Side}
+use Rattle.lan_world.specs.AtLink.Side.TheVariants.{A}
+use Rattle.lan_world.specs.AtLink.Origins.{medium_of, frame_of_origin, is_cut_of, own_frames}
+use Rattle.lan_world.specs.AtLink.Refusals.{is_no_frame, refusal}
+use Rattle.lan_world.specs.AtLink.Runs.{Starts, WorldValue, WorldRun, unused, unused_both, counts_of, tables_in}
+use Rattle.lan_world.specs.AtLink.Station.{StationValue, Stations, station}
+use Rattle.lan_world.specs.AtLink.Steps.{Acts, Happens}
 use Rattle.lan_world.specs.Hosts.Asked.{requests, AreApart}
 use Rattle.lan_world.specs.Hosts.Damage.{DamageIsHarmless, IsHarmless, IsHarmlessBy}
 use Rattle.lan_world.specs.Hosts.HostRuns.{Deed, deed_of, deed_in, deeds, IsHostRun, frames_sent, frames_taken}

@@ -1,11 +1,11 @@
 -- The run of a host that connects to one of two listeners is a run.
 use Rattle.std.proofs.Common.{◌≡◌, true, false, Some, None, refl, ap, ◌∙◌}
-use Rattle.lan_hosts.specs.declared.history.event.Side.TheVariants.{A}
-use Rattle.lan_hosts.specs.declared.history.record.Opening.{Opening}
-use Rattle.lan_hosts.specs.Partners.{ArePartners, are_paired}
-use Rattle.lan_hosts.specs.Moves.{IsRun, run}
-use Rattle.lan_hosts.specs.Parties.Socket.{Tcp}
-use Rattle.lan_hosts.specs.PacketsSafe.{IsFreshNet}
+use Rattle.lan_world.specs.declared.hosts.history.event.Side.TheVariants.{A}
+use Rattle.lan_world.specs.declared.hosts.history.record.Opening.{Opening}
+use Rattle.lan_world.specs.AtLink.Partners.{ArePartners, are_paired}
+use Rattle.lan_world.specs.AtLink.Moves.{IsRun, run}
+use Rattle.lan_world.specs.AtLink.Parties.Socket.{Tcp}
+use Rattle.lan_world.specs.AtLink.PacketsSafe.{IsFreshNet}
 use Rattle.stack_laws.specs.Worlds.Candidates.{hosts, steps}
 use Rattle.stack_laws.specs.Worlds.Hosts.{no_names, unbound}
 use Rattle.stack_laws.specs.Worlds.Streams.{fresh}

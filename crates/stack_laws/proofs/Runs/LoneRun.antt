@@ -1,11 +1,11 @@
 -- The run of a socket that is refused is a run.
 use Rattle.std.proofs.Common.{ℕ, refl}
 use Rattle.std.proofs.lemmas.Option.{none-some}
-use Rattle.lan_hosts.specs.declared.history.event.Side.TheVariants.{A}
-use Rattle.lan_hosts.specs.Partners.{ArePartners}
-use Rattle.lan_hosts.specs.Moves.{IsRun, run}
-use Rattle.lan_hosts.specs.Parties.Socket.{Tcp}
-use Rattle.lan_hosts.specs.PacketsSafe.{IsFreshNet}
+use Rattle.lan_world.specs.declared.hosts.history.event.Side.TheVariants.{A}
+use Rattle.lan_world.specs.AtLink.Partners.{ArePartners}
+use Rattle.lan_world.specs.AtLink.Moves.{IsRun, run}
+use Rattle.lan_world.specs.AtLink.Parties.Socket.{Tcp}
+use Rattle.lan_world.specs.AtLink.PacketsSafe.{IsFreshNet}
 use Rattle.stack_laws.specs.Worlds.Hosts.{no_names, unbound}
 use Rattle.stack_laws.specs.Worlds.Lone.{hosts, steps}
 use Rattle.stack_laws.specs.Worlds.Streams.{fresh}

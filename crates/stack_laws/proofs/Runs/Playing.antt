@@ -1,9 +1,9 @@
 -- What two hosts do one after the other is a run, where each piece of it is.
 use Rattle.std.proofs.Common.{◌≡◌, ℕ, Bool, List, [], ◌∷◌, ◌++◌, refl, sym, ap, ◌∙◌, subst}
-use Rattle.lan_hosts.specs.declared.history.event.Side.TheVariants.{A, B}
-use Rattle.lan_hosts.specs.Moves.{Step, after, IsRun, run}
-use Rattle.lan_hosts.specs.Parties.{Net}
-use Rattle.lan_hosts.proofs.Extended.{IsRun-append}
+use Rattle.lan_world.specs.declared.hosts.history.event.Side.TheVariants.{A, B}
+use Rattle.lan_world.specs.AtLink.Moves.{Step, after, IsRun, run}
+use Rattle.lan_world.specs.AtLink.Parties.{Net}
+use Rattle.lan_world.proofs.AtLink.Extended.{IsRun-append}
 use Rattle.stack_laws.specs.Worlds.Played.{Doing, Play, step_of, done, played, steps_of}
 use Rattle.stack_laws.specs.Worlds.Played.Doing.{Calls, Asks, Comes}
 

@@ -5,24 +5,24 @@ use Rattle.net_base.specs.Checksum.TheVariants.{Both}
 use Rattle.net_base.specs.Medium.{Medium}
 use Rattle.lan_world.specs.FragKey.{FragKey}
 use Rattle.lan_world.specs.FragKey.TheVariants as Keys
-use Rattle.lan_hosts.specs.Departure.{Departure, Asks}
+use Rattle.lan_world.specs.AtLink.Departure.{Departure, Asks}
 use Rattle.lan_world.specs.Question.{Question}
-use Rattle.lan_hosts.specs.Arrives.{Arrived, Arrives}
-use Rattle.lan_hosts.specs.Delivered.{Places}
-use Rattle.lan_hosts.specs.Reassembled.{Slots}
-use Rattle.lan_hosts.specs.Inner.{InnerValue}
+use Rattle.lan_world.specs.AtLink.Arrives.{Arrived, Arrives}
+use Rattle.lan_world.specs.AtLink.Delivered.{Places}
+use Rattle.lan_world.specs.AtLink.Reassembled.{Slots}
+use Rattle.lan_world.specs.AtLink.Inner.{InnerValue}
 use Rattle.lan_world.specs.Settings.{is_of_medium}
-use Rattle.lan_hosts.specs.History.{Entry, Counts}
-use Rattle.lan_hosts.specs.Kinds.{Delivered, Damaged, kind_of}
-use Rattle.lan_hosts.specs.Kinds.Act.{Opens, Polls, Asks as AsksWhen}
-use Rattle.lan_hosts.specs.Kinds.Kind.{OfHost, OfLink}
-use Rattle.lan_hosts.specs.Kinds.LinkAct.{Hands}
-use Rattle.lan_hosts.specs.Answer.TheVariants as To
-use Rattle.lan_hosts.specs.Event.TheVariants as E
-use Rattle.lan_hosts.specs.Side.TheVariants.{A}
-use Rattle.lan_hosts.specs.Origins.{medium_of, frame_of_origin}
-use Rattle.lan_hosts.specs.Runs.{Starts, WorldValue}
-use Rattle.lan_hosts.specs.Station.{Stations}
+use Rattle.lan_world.specs.AtLink.History.{Entry, Counts}
+use Rattle.lan_world.specs.AtLink.Kinds.{Delivered, Damaged, kind_of}
+use Rattle.lan_world.specs.AtLink.Kinds.Act.{Opens, Polls, Asks as AsksWhen}
+use Rattle.lan_world.specs.AtLink.Kinds.Kind.{OfHost, OfLink}
+use Rattle.lan_world.specs.AtLink.Kinds.LinkAct.{Hands}
+use Rattle.lan_world.specs.AtLink.Answer.TheVariants as To
+use Rattle.lan_world.specs.AtLink.Event.TheVariants as E
+use Rattle.lan_world.specs.AtLink.Side.TheVariants.{A}
+use Rattle.lan_world.specs.AtLink.Origins.{medium_of, frame_of_origin}
+use Rattle.lan_world.specs.AtLink.Runs.{Starts, WorldValue}
+use Rattle.lan_world.specs.AtLink.Station.{Stations}
 use Rattle.lan_world.specs.Hosts.Machine.{Turn, frames_of}
 use Rattle.lan_world.specs.Said.{Fact, Carries}
 

@@ -1,12 +1,12 @@
 //! Connections.
 ghost use Rattle.std.specs.Prelude.{◌≡◌, ℕ};
-ghost use Rattle.lan_hosts.specs.declared.history.answer.Answer.TheVariants as To;
-ghost use Rattle.lan_hosts.specs.declared.history.answer.Fault.TheVariants as Fault;
-ghost use Rattle.lan_hosts.specs.declared.history.event.Side.TheVariants.{A, B};
-ghost use Rattle.lan_hosts.specs.Partners.{ArePartners};
+ghost use Rattle.lan_world.specs.declared.hosts.history.answer.Answer.TheVariants as To;
+ghost use Rattle.lan_world.specs.declared.hosts.history.answer.Fault.TheVariants as Fault;
+ghost use Rattle.lan_world.specs.declared.hosts.history.event.Side.TheVariants.{A, B};
+ghost use Rattle.lan_world.specs.AtLink.Partners.{ArePartners};
 ghost use Rattle.tcp_model.specs.State.TheVariants as In;
-ghost use Rattle.lan_hosts.specs.Moves.{IsRun, run};
-ghost use Rattle.lan_hosts.specs.PacketsSafe.{IsFreshNet};
+ghost use Rattle.lan_world.specs.AtLink.Moves.{IsRun, run};
+ghost use Rattle.lan_world.specs.AtLink.PacketsSafe.{IsFreshNet};
 ghost use Rattle.stack_laws.specs.Worlds.Candidates as Candidates;
 ghost use Rattle.stack_laws.specs.Worlds.Connection.{telling, told, ending, half_closed, closing, closed, whole};
 ghost use Rattle.stack_laws.specs.Worlds.Fallback as Fallback;

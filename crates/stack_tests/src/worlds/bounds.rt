@@ -4,8 +4,8 @@ use crate::worlds::common::{Row, tell};
 use crate::worlds::steps::play_steps;
 use crate::worlds::texts::{IP, TWO_STREAMS};
 use lan::{Event, Refused, Side, World};
-use lan_hosts::refusal::send_refusal;
-use lan_hosts::{SocketKind, SocketRecord};
+use lan_world::hosts::refusal::send_refusal;
+use lan_world::hosts::{SocketKind, SocketRecord};
 use std::alloc::{AllocError, Global};
 use std::test::Fail;
 

@@ -1,5 +1,5 @@
 use Rattle.std.proofs.Common.{refl}
-use Rattle.lan_hosts.specs.Runs.{counts_of}
+use Rattle.lan_world.specs.AtLink.Runs.{counts_of}
 use Rattle.lan_world.proofs.Hosts.QuietRuns.{polls_quiet}
 use Rattle.lan_world.proofs.host_laws.polls_are_quiet.Goals as goal
 

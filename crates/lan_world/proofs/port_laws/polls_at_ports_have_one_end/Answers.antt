@@ -1,4 +1,4 @@
-use Rattle.lan_hosts.specs.Port.{PortValue, PortMove}
+use Rattle.lan_world.specs.AtLink.Port.{PortValue, PortMove}
 use Rattle.interface.proofs.Unrefused.{one_unrefused}
 use Rattle.lan_world.proofs.PortMoves.{counting_ports}
 use Rattle.lan_world.proofs.port_laws.polls_at_ports_have_one_end.Goals as goal

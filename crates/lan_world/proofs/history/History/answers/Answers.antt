@@ -1,5 +1,5 @@
 use Rattle.std.proofs.Common.{◌∙◌, ap}
-use Rattle.lan_hosts.specs.Runs.{answers_of}
+use Rattle.lan_world.specs.AtLink.Runs.{answers_of}
 use Rattle.lan_world.specs.Past.{PastValue}
 use Rattle.lan_world.proofs.Pasts.{answers_kept}
 use Rattle.lan_world.proofs.history.History.answers.Goals as goal

@@ -1,5 +1,5 @@
 use Rattle.std.proofs.Common.{◌∙◌, ap}
-use Rattle.lan_hosts.specs.Runs.{WorldValue, answers_of}
+use Rattle.lan_world.specs.AtLink.Runs.{WorldValue, answers_of}
 use Rattle.lan_world.proofs.world.World.answers.Goals as goal
 
 pub returns : goal.returns

@@ -1,8 +1,8 @@
 use Rattle.std.proofs.Common.{◌∷◌, take, ◌∙◌, ap, sym, subst}
 use Rattle.std.specs.Vec.Iter.{into_iter_items}
-use Rattle.lan_hosts.specs.Refusals.{MayRefuse}
-use Rattle.lan_hosts.specs.Kinds.{kind_of}
-use Rattle.lan_hosts.specs.Runs.{WorldValue, tables_in}
+use Rattle.lan_world.specs.AtLink.Refusals.{MayRefuse}
+use Rattle.lan_world.specs.AtLink.Kinds.{kind_of}
+use Rattle.lan_world.specs.AtLink.Runs.{WorldValue, tables_in}
 use Rattle.lan_world.proofs.Running.{HasRun}
 use Rattle.lan_world.proofs.Running.{next_is, one_more, starts_stay}
 use Rattle.lan_world.proofs.world.World.step_all.Goals as goal

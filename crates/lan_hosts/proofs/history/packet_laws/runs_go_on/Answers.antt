@@ -1,5 +1,0 @@
-use Rattle.lan_hosts.proofs.Extended.{IsRun-append, run-append}
-use Rattle.lan_hosts.proofs.history.packet_laws.runs_go_on.Goals as goal
-
-pub returns : goal.returns
-returns c = record { runs = IsRun-append; end = run-append }
