@@ -23,9 +23,9 @@ use crate::listener::noting::note_all;
 use crate::listener::way::give_way;
 pub use entry::Entry;
 use interface_egress::{SocketHandle, SocketSet, SocketStorage};
+use interface_ingress::Socket;
 use ip_wire::IpListenEndpoint;
 use net_base::{Instant, ManagedSlice};
-use sockets::Socket;
 pub use stage::Stage;
 use std::alloc::{AllocError, Global};
 

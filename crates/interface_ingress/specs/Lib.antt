@@ -54,7 +54,12 @@ pub use Rattle.sockets.specs.Packet
 pub use Rattle.sockets.specs.PollAt
 pub use Rattle.sockets.specs.Polling
 pub use Rattle.sockets.specs.Socket as Sockets
+pub use Rattle.sockets.specs.State
+pub use Rattle.sockets.specs.TcpCalls
+pub use Rattle.sockets.specs.TcpSettings
 pub use Rattle.sockets.specs.TcpSocket
+pub use Rattle.sockets.specs.TcpStates
+pub use Rattle.sockets.specs.TcpValue
 pub use Rattle.sockets.specs.WellFormed
 pub use Rattle.sockets.specs.declared.socket.Socket
 pub use Rattle.sockets.specs.contracts.socket.Socket as SocketRow

@@ -38,5 +38,5 @@ pub use reply::Reply;
 pub use short::take_short;
 pub use sockets::{
     AnySocket, Context, IpPayload, Offer, Packet, PollAt, Socket, addresses, laws as socket_laws,
-    udp, widths,
+    tcp, udp, widths,
 };

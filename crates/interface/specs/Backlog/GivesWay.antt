@@ -4,10 +4,10 @@ use Rattle.interface_egress.specs.declared.socket_set.Item.{Item}
 use Rattle.interface_egress.specs.declared.socket_set.SocketHandle.{SocketHandle}
 use Rattle.interface_egress.specs.declared.socket_set.SocketStorage.{SocketStorage}
 use Rattle.ip_wire.specs.IpListenEndpoint.{IpListenEndpoint}
-use Rattle.sockets.specs.declared.socket.Socket.{Socket}
-use Rattle.sockets.specs.declared.socket.Socket.TheVariants as Kind
-use Rattle.sockets.specs.TcpCalls.{listen_after, abort_after}
-use Rattle.sockets.specs.TcpValue.{TcpValue}
+use Rattle.interface_ingress.specs.Socket.{Socket}
+use Rattle.interface_ingress.specs.Socket.TheVariants as Kind
+use Rattle.interface_ingress.specs.TcpCalls.{listen_after, abort_after}
+use Rattle.interface_ingress.specs.TcpValue.{TcpValue}
 use Rattle.interface.specs.declared.listener.entry.Entry.{Entry}
 use Rattle.interface.specs.declared.listener.stage.Stage.{Stage}
 use Rattle.interface.specs.declared.listener.stage.Stage.TheVariants as Is

@@ -4,11 +4,11 @@ use Rattle.interface_egress.specs.declared.socket_set.Item.{Item}
 use Rattle.interface_egress.specs.declared.socket_set.SocketHandle.{SocketHandle}
 use Rattle.interface_egress.specs.declared.socket_set.SocketStorage.{SocketStorage}
 use Rattle.ip_wire.specs.IpListenEndpoint.{IpListenEndpoint}
-use Rattle.sockets.specs.declared.socket.Socket.{Socket}
-use Rattle.sockets.specs.declared.socket.Socket.TheVariants as Kind
-use Rattle.sockets.specs.TcpStates.{is_listening}
-use Rattle.sockets.specs.TcpSettings.{pause_synack}
-use Rattle.sockets.specs.TcpValue.{TcpValue}
+use Rattle.interface_ingress.specs.Socket.{Socket}
+use Rattle.interface_ingress.specs.Socket.TheVariants as Kind
+use Rattle.interface_ingress.specs.TcpStates.{is_listening}
+use Rattle.interface_ingress.specs.TcpSettings.{pause_synack}
+use Rattle.interface_ingress.specs.TcpValue.{TcpValue}
 use Rattle.interface.specs.Backlog.GivesWay.{restarted}
 use Rattle.interface.specs.Backlog.Noted.{place_at}
 

@@ -4,12 +4,12 @@ use Rattle.interface_egress.specs.Set.{free}
 use Rattle.interface_egress.specs.declared.socket_set.Item.{Item}
 use Rattle.interface_egress.specs.declared.socket_set.SocketStorage.{SocketStorage}
 use Rattle.ip_wire.specs.IpListenEndpoint.{IpListenEndpoint}
-use Rattle.sockets.specs.declared.socket.Socket.{Socket}
-use Rattle.sockets.specs.declared.socket.Socket.TheVariants as Kind
-use Rattle.sockets.specs.State.{State}
-use Rattle.sockets.specs.TcpStates.{is_closed}
-use Rattle.sockets.specs.TcpCalls.{listen_after}
-use Rattle.sockets.specs.TcpValue.{TcpValue}
+use Rattle.interface_ingress.specs.Socket.{Socket}
+use Rattle.interface_ingress.specs.Socket.TheVariants as Kind
+use Rattle.interface_ingress.specs.State.{State}
+use Rattle.interface_ingress.specs.TcpStates.{is_closed}
+use Rattle.interface_ingress.specs.TcpCalls.{listen_after}
+use Rattle.interface_ingress.specs.TcpValue.{TcpValue}
 use Rattle.interface.specs.declared.listener.entry.Entry.{Entry}
 use Rattle.interface.specs.declared.listener.stage.Stage.{Stage}
 use Rattle.interface.specs.Backlog.Entries.{entry_at}

@@ -4,9 +4,9 @@ ghost use Rattle.interface.specs.Backlog.Kept.{kept, kept_place, kept_at, kept_a
 
 use crate::listener::way::restart;
 use interface_egress::{Item, SocketHandle, SocketStorage};
+use interface_ingress::tcp::State;
+use interface_ingress::{Socket, tcp};
 use ip_wire::IpListenEndpoint;
-use sockets::tcp::State;
-use sockets::{Socket, tcp};
 
 /// Drops the SYN that the socket took, if it took one, and listens on this endpoint, mutely.
 fn keep(socket: &mut tcp::Socket, endpoint: IpListenEndpoint)

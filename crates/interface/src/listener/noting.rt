@@ -5,9 +5,9 @@ ghost use Rattle.interface.specs.Backlog.Noted.{relisted, state_at, relisted_pla
 use crate::listener::entry::Entry;
 use crate::listener::stage::Stage;
 use interface_egress::{Item, SocketStorage};
+use interface_ingress::tcp::State;
+use interface_ingress::{Socket, tcp};
 use ip_wire::IpListenEndpoint;
-use sockets::tcp::State;
-use sockets::{Socket, tcp};
 
 /// Listens on this endpoint, where the socket is closed.
 fn relist(socket: &mut tcp::Socket, endpoint: IpListenEndpoint)

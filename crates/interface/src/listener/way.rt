@@ -6,8 +6,8 @@ use crate::listener::entry::Entry;
 use crate::listener::longest::oldest;
 use crate::listener::stage::Stage;
 use interface_egress::{Item, SocketStorage};
+use interface_ingress::{Socket, tcp};
 use ip_wire::IpListenEndpoint;
-use sockets::{Socket, tcp};
 
 /// Drops what the socket has, without a word to its remote, and listens on this endpoint.
 pub(crate) fn restart(socket: &mut tcp::Socket, endpoint: IpListenEndpoint)
