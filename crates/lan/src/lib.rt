@@ -32,5 +32,6 @@ pub use lan_base::{Line, Port, PortTxToken, names_tcp_or_udp};
 pub use lan_world::hosts::history::laws as history_laws;
 pub use lan_world::{
     Answer, Bytes, Event, Fault, Host, Refused, Side, TcpSetting, World, WorldError, host_laws,
+    hosts,
 };
 pub use script::{MOST_READS, replay, try_replay};

@@ -13,8 +13,8 @@ use crate::end::End;
 use crate::event::{event_of, side_of};
 use crate::header::Header;
 use lan_base::Line;
-use lan_world::hosts::{Event, Side};
 use lan_world::World;
+use lan_world::hosts::{Event, Side};
 use std::alloc::Global;
 use std::mem::replace;
 

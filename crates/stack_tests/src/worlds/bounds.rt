@@ -3,9 +3,9 @@ use crate::worlds::begun::world;
 use crate::worlds::common::{Row, tell};
 use crate::worlds::steps::play_steps;
 use crate::worlds::texts::{IP, TWO_STREAMS};
+use lan::hosts::refusal::send_refusal;
+use lan::hosts::{SocketKind, SocketRecord};
 use lan::{Event, Refused, Side, World};
-use lan_world::hosts::refusal::send_refusal;
-use lan_world::hosts::{SocketKind, SocketRecord};
 use std::alloc::{AllocError, Global};
 use std::test::Fail;
 
