@@ -18,7 +18,7 @@ use Rattle.lan_world.specs.Come.{both, tables, world, HasCome}
 use Rattle.lan_world.specs.Past.{counts_in, entry}
 use Rattle.lan_world.specs.declared.history.Note.{Note}
 
--- the law of tables, which `lan_hosts` proves
+-- the law of tables, which `hosts` proves
 abbrev pub TablesGoOn : Type 0
 TablesGoOn =
     (past : List Entry) (e : Entry) (old new : Stations) (side : Side)

@@ -10,8 +10,8 @@ ghost use Rattle.lan_world.specs.New.{new_error, has_one_medium, is_both, are_on
 ghost use Rattle.lan_world.specs.New.{is_unused, of_place, of_each, is_fresh};
 
 use crate::error::WorldError;
-use ip_wire::HardwareAddress;
 use crate::hosts::{Host, Interface, SocketSet, SocketStorage};
+use ip_wire::HardwareAddress;
 use net_base::{Checksum, ChecksumCapabilities, Device, Medium};
 use sockets::{Context, PollAt, Socket, tcp};
 

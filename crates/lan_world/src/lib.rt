@@ -1,6 +1,6 @@
 //! Two hosts and the link between them, which loses, repeats, reorders, pads, damages and cuts frames, and adds some.
 //!
-//! What an event does stands in `lan_hosts`; a world takes events one by one, refuses those that it must, and keeps them with their
+//! What an event does to a host stands in `hosts`; a world takes events one by one, refuses those that it must, and keeps them with their
 //! answers. It passes on the hosts, the events and their answers, and what a host is made of.
 //!
 //! What a poll takes in was made, so that the theorem over packets holds of hosts with frames. `host_laws` has the hosts as machines: each is a
@@ -24,9 +24,9 @@ pub mod port_laws;
 mod typed;
 mod world;
 
-pub use error::WorldError;
 pub use crate::hosts::{
     Answer, Bytes, Config, Event, Fault, Host, Interface, NewError, Refused, Side, SocketSet,
     TcpSetting,
 };
+pub use error::WorldError;
 pub use world::World;

@@ -15,13 +15,13 @@ use crate::error::WorldError;
 use crate::fresh::new_error;
 use crate::history::{Counts, History, Note};
 use crate::host_laws::{hosts_run, polls_are_quiet, requests_are_apart};
+use crate::hosts::laws::{numbers_are_few, tables_go_on};
+use crate::hosts::{Answer, Event, Host, Records, Refused, Side, refusal_of, take};
 use crate::kept::Kept;
 use crate::laws::{
     damage_was_harmless, frames_are_apart, rebuilt_was_made, rebuilt_was_sent, worlds_are_safe,
 };
 use crate::typed::{event_is_typed, host_is_typed};
-use crate::hosts::laws::{numbers_are_few, tables_go_on};
-use crate::hosts::{Answer, Event, Host, Records, Refused, Side, refusal_of, take};
 use std::alloc::{AllocError, Global};
 use std::marker::Model;
 
