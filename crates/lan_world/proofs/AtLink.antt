@@ -30,5 +30,5 @@ pub mod Growing
 pub mod Counting
 pub mod Setting
 pub mod Called
-pub mod Refused
+pub mod Refusing
 pub mod Linked

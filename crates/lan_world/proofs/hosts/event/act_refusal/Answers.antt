@@ -5,8 +5,8 @@ use Rattle.lan_world.specs.AtLink.Call as Call
 use Rattle.lan_world.specs.AtLink.Kinds.{kind_of, calls}
 use Rattle.lan_world.specs.AtLink.Station.{StationValue, kind_at}
 use Rattle.lan_world.specs.AtLink.Refusals.{Table}
-use Rattle.lan_world.proofs.AtLink.Refused.{refused_call}
-use Rattle.lan_world.proofs.AtLink.event.act_refusal.Goals as goal
+use Rattle.lan_world.proofs.AtLink.Refusing.{refused_call}
+use Rattle.lan_world.proofs.hosts.event.act_refusal.Goals as goal
 
 abbrev names : List ℕ → Bool
 names = names_tcp_or_udp Medium.Ip

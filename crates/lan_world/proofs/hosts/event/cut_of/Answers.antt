@@ -1,5 +1,5 @@
 use Rattle.lan_world.proofs.AtLink.Linked.{still, cut_a, cut_b}
-use Rattle.lan_world.proofs.AtLink.event.cut_of.Goals as goal
+use Rattle.lan_world.proofs.hosts.event.cut_of.Goals as goal
 
 pub returns-in-A-clause-ok : goal.returns-in-A-clause-ok
 returns-in-A-clause-ok c = cut_a c.cut.result c.args.a.now c.cut.new.host c.args.b.now c.args.frame c.args.at c.args.from c.in-A.is c.cut.ensures.ok

@@ -1,7 +1,7 @@
 use Rattle.std.proofs.Common.{ap}
 use Rattle.lan_world.specs.AtLink.Kinds.{kind_of}
 use Rattle.lan_world.proofs.AtLink.Linked.{cut_linked}
-use Rattle.lan_world.proofs.AtLink.event.link.Goals as goal
+use Rattle.lan_world.proofs.hosts.event.link.Goals as goal
 
 pub returns-in-Cut-clause-ok : goal.returns-in-Cut-clause-ok
 returns-in-Cut-clause-ok c =

@@ -2,7 +2,7 @@ use Rattle.std.proofs.Common.{arith}
 use Rattle.lan_world.specs.AtLink.Kinds.{kind_of}
 use Rattle.lan_world.specs.declared.hosts.history.event.Side.TheVariants.{A, B}
 use Rattle.lan_world.proofs.AtLink.Growing.{sent_grows}
-use Rattle.lan_world.proofs.AtLink.event.take.Goals as goal
+use Rattle.lan_world.proofs.hosts.event.take.Goals as goal
 
 pub follow-requires-clause-sent : goal.follow-requires-clause-sent
 follow-requires-clause-sent c =

@@ -4,7 +4,7 @@ use Rattle.net_base.specs.Medium.{Medium}
 use Rattle.lan_world.specs.AtLink.Linking.{frame_at}
 use Rattle.lan_world.specs.AtLink.Origins.{medium_of}
 use Rattle.lan_world.proofs.AtLink.Linked.{with_pieces}
-use Rattle.lan_world.proofs.AtLink.link.cut.Goals as goal
+use Rattle.lan_world.proofs.hosts.link.cut.Goals as goal
 
 pub returns-clause-ok : goal.returns-clause-ok
 returns-clause-ok c =

@@ -3,7 +3,7 @@ use Rattle.std.specs.Prelude.{slice_get}
 use Rattle.std.proofs.lemmas.Option.{slice_get_read}
 use Rattle.lan_world.specs.AtLink.Kinds.{kind_of}
 use Rattle.lan_world.proofs.AtLink.Called.{calls_none}
-use Rattle.lan_world.proofs.AtLink.place.call_in.Goals as goal
+use Rattle.lan_world.proofs.hosts.place.call_in.Goals as goal
 
 pub returns-in-None-clause-done : goal.returns-in-None-clause-done
 returns-in-None-clause-done c =

@@ -2,7 +2,7 @@ use Rattle.interface.specs.Polls.{is_change}
 use Rattle.interface.specs.State.{state}
 use Rattle.interface_egress.specs.Set.{places}
 use Rattle.lan_world.proofs.AtLink.Ready.{none_refused}
-use Rattle.lan_world.proofs.AtLink.poll.poll_ready.Goals as goal
+use Rattle.lan_world.proofs.hosts.poll.poll_ready.Goals as goal
 
 pub returns-in-None-clause-none_denied : goal.returns-in-None-clause-none_denied
 returns-in-None-clause-none_denied c =

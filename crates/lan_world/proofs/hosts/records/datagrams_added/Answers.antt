@@ -5,7 +5,7 @@ use Rattle.net_base.specs.Medium.{Medium}
 use Rattle.lan_world.specs.AtLink.Kinds.{kind_of}
 use Rattle.lan_world.specs.AtLink.Origins.{medium_of, is_cut_of, begins_datagram}
 use Rattle.lan_world.proofs.AtLink.Counting.{added_else}
-use Rattle.lan_world.proofs.AtLink.records.datagrams_added.Goals as goal
+use Rattle.lan_world.proofs.hosts.records.datagrams_added.Goals as goal
 
 pub returns-else-is_cut_of-clause-value : goal.returns-else-is_cut_of-clause-value
 returns-else-is_cut_of-clause-value c =

@@ -1,5 +1,5 @@
 use Rattle.lan_world.proofs.AtLink.TakenLemmas.{another_port, another_number}
-use Rattle.lan_world.proofs.AtLink.history.examples.wrong_reads_break_the_promises.Goals as goal
+use Rattle.lan_world.proofs.hosts.history.examples.wrong_reads_break_the_promises.Goals as goal
 
 pub returns-clause-ports_unread : goal.returns-clause-ports_unread
 returns-clause-ports_unread c = another_port

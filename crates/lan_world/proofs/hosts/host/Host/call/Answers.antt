@@ -1,7 +1,7 @@
 use Rattle.interface_egress.specs.Set.{places}
 use Rattle.lan_world.specs.AtLink.Kinds.{kind_of}
 use Rattle.lan_world.proofs.AtLink.Called.{call_from}
-use Rattle.lan_world.proofs.AtLink.host.Host.call.Goals as goal
+use Rattle.lan_world.proofs.hosts.host.Host.call.Goals as goal
 
 pub returns-clause-done : goal.returns-clause-done
 returns-clause-done c =

@@ -1,6 +1,6 @@
 use Rattle.interface_egress.specs.Set.{places}
 use Rattle.lan_world.proofs.AtLink.Setting.{polls_from}
-use Rattle.lan_world.proofs.AtLink.host.Host.poll.Goals as goal
+use Rattle.lan_world.proofs.hosts.host.Host.poll.Goals as goal
 
 pub returns-clause-polls : goal.returns-clause-polls
 returns-clause-polls c =

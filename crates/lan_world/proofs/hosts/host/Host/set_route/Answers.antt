@@ -1,7 +1,7 @@
 use Rattle.interface_egress.specs.Set.{places}
 use Rattle.lan_world.specs.AtLink.Kinds as Settings
 use Rattle.lan_world.proofs.AtLink.Setting.{configured_from}
-use Rattle.lan_world.proofs.AtLink.host.Host.set_route.Goals as goal
+use Rattle.lan_world.proofs.hosts.host.Host.set_route.Goals as goal
 
 pub returns : goal.returns
 returns c =
