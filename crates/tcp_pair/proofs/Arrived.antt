@@ -7,9 +7,9 @@ use Rattle.tcp_model.specs.Names.{accepts}
 use Rattle.tcp_model.specs.Offers.{offer_of}
 use Rattle.tcp_model.specs.Settled.{settled}
 use Rattle.tcp_model.specs.Value.{TcpValue, Arrived}
-use Rattle.tcp_pair_model.specs.declared.event.SentSegment.{SentSegment}
-use Rattle.tcp_pair_model.specs.Steps.{comes_to, offered_at, taken_at}
-use Rattle.tcp_pair_model.specs.Values.{PairSide, and_offer, and_reply}
+use Rattle.tcp_tie.specs.declared.pair.event.SentSegment.{SentSegment}
+use Rattle.tcp_tie.specs.Pair.Steps.{comes_to, offered_at, taken_at}
+use Rattle.tcp_tie.specs.Pair.Values.{PairSide, and_offer, and_reply}
 use Rattle.tcp_pair.specs.Context.{PairContextValue, context_of, drawn}
 use Rattle.tcp_pair.specs.Ends.{EndValue, with_own}
 

@@ -4,16 +4,16 @@ use Rattle.tcp_model.specs.State.{State}
 use Rattle.tcp_model.specs.Value.{TcpValue}
 use Rattle.tcp_tie.specs.Promises.{IsFresh}
 use Rattle.tcp_tie.specs.Tie.{Past}
-use Rattle.tcp_pair_model.specs.declared.event.Side.{Side}
-use Rattle.tcp_pair_model.specs.declared.event.Side.TheVariants.{A, B}
-use Rattle.tcp_pair_model.specs.declared.event.PairEvent.{PairEvent}
-use Rattle.tcp_pair_model.specs.declared.event.PairAnswer.{PairAnswer}
-use Rattle.tcp_pair_model.specs.History.{Entry, side_of, pasts, adds}
-use Rattle.tcp_pair_model.specs.Safe.{IsKept}
-use Rattle.tcp_pair_model.specs.Sides.{Both, at, put, other}
-use Rattle.tcp_pair_model.specs.Steps.{Acted, Happened, acts, acting, refusal, happens}
-use Rattle.tcp_pair_model.specs.Values.{PairSide, PairValue}
-use Rattle.tcp_pair_model.proofs.PairLaws.{new_is_kept, kept_after}
+use Rattle.tcp_tie.specs.declared.pair.event.Side.{Side}
+use Rattle.tcp_tie.specs.declared.pair.event.Side.TheVariants.{A, B}
+use Rattle.tcp_tie.specs.declared.pair.event.PairEvent.{PairEvent}
+use Rattle.tcp_tie.specs.declared.pair.event.PairAnswer.{PairAnswer}
+use Rattle.tcp_tie.specs.Pair.History.{Entry, side_of, pasts, adds}
+use Rattle.tcp_tie.specs.Pair.Safe.{IsKept}
+use Rattle.tcp_tie.specs.Pair.Sides.{Both, at, put, other}
+use Rattle.tcp_tie.specs.Pair.Steps.{Acted, Happened, acts, acting, refusal, happens}
+use Rattle.tcp_tie.specs.Pair.Values.{PairSide, PairValue}
+use Rattle.tcp_tie.proofs.PairLaws.{new_is_kept, kept_after}
 use Rattle.tcp_pair.specs.Ends.{EndValue, fresh_end, after_event, acted_at, ends_after}
 use Rattle.tcp_pair.specs.Invariant.{Tallies, IsPairOf, owns, pair_of, history_from}
 use Rattle.tcp_pair.specs.declared.pair.Taken.{Taken}

@@ -2,19 +2,19 @@
 use Rattle.std.proofs.Common.{◌≡◌, List, [], ◌∷◌, ◌++◌, None, Result, Ok, Err, IfOk, OnErr, OnOk, refl, sym, ap, ap₂, ◌∙◌, subst}
 use Rattle.std.specs.List.{AllByRecursion}
 use Rattle.tcp_tie.specs.Tie.{Past}
-use Rattle.tcp_pair_model.specs.declared.event.Side.{Side}
-use Rattle.tcp_pair_model.specs.declared.event.Side.TheVariants.{A, B}
-use Rattle.tcp_pair_model.specs.declared.event.PairEvent.{PairEvent}
-use Rattle.tcp_pair_model.specs.declared.event.PairEvent.TheVariants.{Listen, Connect, Send, Recv, Close, Abort, TcpSetting, Offer, Deliver}
-use Rattle.tcp_pair_model.specs.declared.event.PairAnswer.{PairAnswer}
-use Rattle.tcp_pair_model.specs.declared.event.PairAnswer.TheVariants.{Done, Count, Bytes, Error}
-use Rattle.tcp_pair_model.specs.History.{pasts, recv_adds}
-use Rattle.tcp_pair_model.specs.Safe.{written}
-use Rattle.tcp_pair_model.specs.Sides.{at, put, other}
-use Rattle.tcp_pair_model.specs.Steps.{Happened, Steps, acting, happens, refusal}
-use Rattle.tcp_pair_model.specs.Value.{TcpValue}
-use Rattle.tcp_pair_model.specs.Values.{PairValue, new_pair}
-use Rattle.tcp_pair_model.proofs.OutcomeLaws.{goes_on}
+use Rattle.tcp_tie.specs.declared.pair.event.Side.{Side}
+use Rattle.tcp_tie.specs.declared.pair.event.Side.TheVariants.{A, B}
+use Rattle.tcp_tie.specs.declared.pair.event.PairEvent.{PairEvent}
+use Rattle.tcp_tie.specs.declared.pair.event.PairEvent.TheVariants.{Listen, Connect, Send, Recv, Close, Abort, TcpSetting, Offer, Deliver}
+use Rattle.tcp_tie.specs.declared.pair.event.PairAnswer.{PairAnswer}
+use Rattle.tcp_tie.specs.declared.pair.event.PairAnswer.TheVariants.{Done, Count, Bytes, Error}
+use Rattle.tcp_tie.specs.Pair.History.{pasts, recv_adds}
+use Rattle.tcp_tie.specs.Pair.Safe.{written}
+use Rattle.tcp_tie.specs.Pair.Sides.{at, put, other}
+use Rattle.tcp_tie.specs.Pair.Steps.{Happened, Steps, acting, happens, refusal}
+use Rattle.tcp_model.specs.Value.{TcpValue}
+use Rattle.tcp_tie.specs.Pair.Values.{PairValue, new_pair}
+use Rattle.tcp_tie.proofs.OutcomeLaws.{goes_on}
 use Rattle.tcp_progress.specs.Reached.{IsReached}
 use Rattle.tcp_progress.specs.Rounds.{takes}
 use Rattle.tcp_progress.proofs.Kept.{reached_by}

@@ -1,11 +1,11 @@
 -- Several steps, one after the other.
 use Rattle.std.proofs.Common.{◌≡◌, ℕ, zero, suc, ◌+◌, ◌<◌, List, [], ◌∷◌, ◌++◌, length, take, drop, None, Some, sym, ◌∙◌, ap, subst, add-one, arith}
 use Rattle.std.specs.Prelude.{slice_get}
-use Rattle.tcp_pair_model.specs.declared.event.PairEvent.{PairEvent}
-use Rattle.tcp_pair_model.specs.declared.event.PairAnswer.{PairAnswer}
-use Rattle.tcp_pair_model.specs.Safe.{IsKept}
-use Rattle.tcp_pair_model.specs.Steps.{Happened, Steps, refusal, happens}
-use Rattle.tcp_pair_model.specs.Values.{PairValue}
+use Rattle.tcp_tie.specs.declared.pair.event.PairEvent.{PairEvent}
+use Rattle.tcp_tie.specs.declared.pair.event.PairAnswer.{PairAnswer}
+use Rattle.tcp_tie.specs.Pair.Safe.{IsKept}
+use Rattle.tcp_tie.specs.Pair.Steps.{Happened, Steps, refusal, happens}
+use Rattle.tcp_tie.specs.Pair.Values.{PairValue}
 use Rattle.tcp_pair.specs.Invariant.{HasRun}
 
 -- where something is left of a list, its first comes next

@@ -8,15 +8,15 @@ use Rattle.tcp_model.specs.State.{State}
 use Rattle.tcp_model.specs.States.{takes_writes}
 use Rattle.tcp_tie.specs.History.{closes_in, closed_by}
 use Rattle.tcp_tie.specs.Tie.{Past}
-use Rattle.tcp_pair_model.specs.declared.event.SentSegment.{SentSegment}
-use Rattle.tcp_pair_model.specs.declared.event.Side.{Side}
-use Rattle.tcp_pair_model.specs.declared.event.PairEvent.{PairEvent}
-use Rattle.tcp_pair_model.specs.declared.event.PairEvent.TheVariants.{Listen, Connect, Send, Recv, Close, Abort, TcpSetting, Offer, Deliver}
-use Rattle.tcp_pair_model.specs.declared.event.PairAnswer.{PairAnswer}
-use Rattle.tcp_pair_model.specs.declared.event.PairAnswer.TheVariants.{Done, Count, Bytes, Error}
-use Rattle.tcp_pair_model.specs.History.{adds, listen_adds, connect_adds, send_adds, recv_adds}
-use Rattle.tcp_pair_model.specs.Steps.{acts, send_says}
-use Rattle.tcp_pair_model.specs.Values.{PairSide}
+use Rattle.tcp_tie.specs.declared.pair.event.SentSegment.{SentSegment}
+use Rattle.tcp_tie.specs.declared.pair.event.Side.{Side}
+use Rattle.tcp_tie.specs.declared.pair.event.PairEvent.{PairEvent}
+use Rattle.tcp_tie.specs.declared.pair.event.PairEvent.TheVariants.{Listen, Connect, Send, Recv, Close, Abort, TcpSetting, Offer, Deliver}
+use Rattle.tcp_tie.specs.declared.pair.event.PairAnswer.{PairAnswer}
+use Rattle.tcp_tie.specs.declared.pair.event.PairAnswer.TheVariants.{Done, Count, Bytes, Error}
+use Rattle.tcp_tie.specs.Pair.History.{adds, listen_adds, connect_adds, send_adds, recv_adds}
+use Rattle.tcp_tie.specs.Pair.Steps.{acts, send_says}
+use Rattle.tcp_tie.specs.Pair.Values.{PairSide}
 use Rattle.tcp_pair.specs.Ends.{EndValue, with_own, tallied, count_in}
 use Rattle.tcp_pair.specs.Invariant.{Tallies}
 

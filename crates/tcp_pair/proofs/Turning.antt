@@ -5,19 +5,19 @@ use Rattle.std.proofs.lemmas.Bool.{cond_both}
 use Rattle.std.proofs.lemmas.Option.{slice_get_within}
 use Rattle.tcp_model.specs.OpenOffer.{OpenOffer}
 use Rattle.tcp_model.specs.Reply.{Reply}
-use Rattle.tcp_pair_model.specs.Arrival.{arrives}
-use Rattle.tcp_pair_model.specs.Names.{accepts}
-use Rattle.tcp_pair_model.specs.Sides.{at, other}
-use Rattle.tcp_pair_model.specs.Steps.{handed, if_so, refusal, taken_at}
-use Rattle.tcp_pair_model.specs.Value.{TcpValue}
-use Rattle.tcp_pair_model.specs.Values.{PairSide, PairValue, and_reply, context_at}
-use Rattle.tcp_pair_model.specs.declared.event.PairEvent.{PairEvent}
-use Rattle.tcp_pair_model.specs.declared.event.PairEvent.TheVariants.{Deliver, Offer, Recv}
-use Rattle.tcp_pair_model.specs.declared.event.PairRefused.{PairRefused}
-use Rattle.tcp_pair_model.specs.declared.event.PairRefused.TheVariants.{Memory, Moment, NoSegment}
-use Rattle.tcp_pair_model.specs.declared.event.SentSegment.{SentSegment}
-use Rattle.tcp_pair_model.specs.declared.event.Side.{Side}
-use Rattle.tcp_pair_model.specs.declared.event.Side.TheVariants.{A, B}
+use Rattle.tcp_model.specs.Arrival.{arrives}
+use Rattle.tcp_model.specs.Names.{accepts}
+use Rattle.tcp_tie.specs.Pair.Sides.{at, other}
+use Rattle.tcp_tie.specs.Pair.Steps.{handed, if_so, refusal, taken_at}
+use Rattle.tcp_model.specs.Value.{TcpValue}
+use Rattle.tcp_tie.specs.Pair.Values.{PairSide, PairValue, and_reply, context_at}
+use Rattle.tcp_tie.specs.declared.pair.event.PairEvent.{PairEvent}
+use Rattle.tcp_tie.specs.declared.pair.event.PairEvent.TheVariants.{Deliver, Offer, Recv}
+use Rattle.tcp_tie.specs.declared.pair.event.PairRefused.{PairRefused}
+use Rattle.tcp_tie.specs.declared.pair.event.PairRefused.TheVariants.{Memory, Moment, NoSegment}
+use Rattle.tcp_tie.specs.declared.pair.event.SentSegment.{SentSegment}
+use Rattle.tcp_tie.specs.declared.pair.event.Side.{Side}
+use Rattle.tcp_tie.specs.declared.pair.event.Side.TheVariants.{A, B}
 use Rattle.tcp_progress.specs.BothWays.{MayAsk, MayTurn, round_in, roused_in, turn_in, waits_in, wake_in, woken_in}
 use Rattle.tcp_progress.specs.Pair.{AreMirrored, MayReachIn, exchanged_in, next_sent, offered_in}
 use Rattle.tcp_progress.specs.Reached.{IsReached}

@@ -6,9 +6,9 @@ use Rattle.net_base.specs.RandomWords.{next_state}
 use Rattle.ip_wire.specs.AddressTests.{is_same_address}
 use Rattle.ip_wire.specs.IpAddress.TheVariants as Ip
 use Rattle.socket_base.specs.Context.{ContextValue}
-use Rattle.tcp_pair_model.specs.declared.event.Side.{Side}
-use Rattle.tcp_pair_model.specs.declared.event.Side.TheVariants.{A, B}
-use Rattle.tcp_pair_model.specs.Values.{address_of, broadcast, source_at}
+use Rattle.tcp_tie.specs.declared.pair.event.Side.{Side}
+use Rattle.tcp_tie.specs.declared.pair.event.Side.TheVariants.{A, B}
+use Rattle.tcp_tie.specs.Pair.Values.{address_of, broadcast, source_at}
 
 -- which side it is, its last moment, and the state of its random words
 pub record PairContextValue : Type 0 where

@@ -5,18 +5,18 @@ use Rattle.socket_base.specs.Packet.{PacketValue, PayloadValue, packet_of}
 use Rattle.socket_base.specs.Packet as Carried
 use Rattle.tcp_model.specs.Offers.{payload_of}
 use Rattle.tcp_model.specs.Value.{TcpValue}
-use Rattle.tcp_pair_model.specs.declared.event.Side.{Side}
-use Rattle.tcp_pair_model.specs.declared.event.SentSegment.{SentSegment}
-use Rattle.tcp_pair_model.specs.declared.event.PairEvent.{PairEvent}
-use Rattle.tcp_pair_model.specs.declared.event.PairEvent.TheVariants.{Listen, Connect, Send, Recv, Close, Abort, TcpSetting, Offer, Deliver}
-use Rattle.tcp_pair_model.specs.declared.event.PairAnswer.{PairAnswer}
-use Rattle.tcp_pair_model.specs.declared.event.PairAnswer.TheVariants.{Done, Count, Bytes}
-use Rattle.tcp_pair_model.specs.declared.event.PairRefused.{PairRefused}
-use Rattle.tcp_pair_model.specs.declared.event.PairRefused.TheVariants.{NoSegment, OpenedTwice, TooManyBytes, Moment}
-use Rattle.tcp_pair_model.specs.History.{side_of}
-use Rattle.tcp_pair_model.specs.Sides.{Both, at, put, other}
-use Rattle.tcp_pair_model.specs.Steps.{Acted, acts, if_so, may_come}
-use Rattle.tcp_pair_model.specs.Values.{PairSide}
+use Rattle.tcp_tie.specs.declared.pair.event.Side.{Side}
+use Rattle.tcp_tie.specs.declared.pair.event.SentSegment.{SentSegment}
+use Rattle.tcp_tie.specs.declared.pair.event.PairEvent.{PairEvent}
+use Rattle.tcp_tie.specs.declared.pair.event.PairEvent.TheVariants.{Listen, Connect, Send, Recv, Close, Abort, TcpSetting, Offer, Deliver}
+use Rattle.tcp_tie.specs.declared.pair.event.PairAnswer.{PairAnswer}
+use Rattle.tcp_tie.specs.declared.pair.event.PairAnswer.TheVariants.{Done, Count, Bytes}
+use Rattle.tcp_tie.specs.declared.pair.event.PairRefused.{PairRefused}
+use Rattle.tcp_tie.specs.declared.pair.event.PairRefused.TheVariants.{NoSegment, OpenedTwice, TooManyBytes, Moment}
+use Rattle.tcp_tie.specs.Pair.History.{side_of}
+use Rattle.tcp_tie.specs.Pair.Sides.{Both, at, put, other}
+use Rattle.tcp_tie.specs.Pair.Steps.{Acted, acts, if_so, may_come}
+use Rattle.tcp_tie.specs.Pair.Values.{PairSide}
 use Rattle.tcp_pair.specs.Context.{seed_of}
 
 -- Which side it is; its socket, segments, last moment and random words; whether it was opened; how many bytes it took for sending.

@@ -1,16 +1,16 @@
 -- What the fields of a pair show and keep.
 use Rattle.std.specs.Prelude.{◌≡◌, ◌⊎◌, ℕ, ◌≤◌, List, [], ◌∷◌, length, take, drop, None, Some}
 use Rattle.tcp_tie.specs.Tie.{Past}
-use Rattle.tcp_pair_model.specs.declared.event.Side.{Side}
-use Rattle.tcp_pair_model.specs.declared.event.PairEvent.{PairEvent}
-use Rattle.tcp_pair_model.specs.declared.event.PairAnswer.{PairAnswer}
-use Rattle.tcp_pair_model.specs.declared.event.PairRefused.{PairRefused}
-use Rattle.tcp_pair_model.specs.declared.event.PairRefused.TheVariants.{Memory}
-use Rattle.tcp_pair_model.specs.History.{Entry, pasts}
-use Rattle.tcp_pair_model.specs.Safe.{IsKept}
-use Rattle.tcp_pair_model.specs.Sides.{Both, at}
-use Rattle.tcp_pair_model.specs.Steps.{Steps, was_opened, refusal}
-use Rattle.tcp_pair_model.specs.Values.{PairSide, PairValue}
+use Rattle.tcp_tie.specs.declared.pair.event.Side.{Side}
+use Rattle.tcp_tie.specs.declared.pair.event.PairEvent.{PairEvent}
+use Rattle.tcp_tie.specs.declared.pair.event.PairAnswer.{PairAnswer}
+use Rattle.tcp_tie.specs.declared.pair.event.PairRefused.{PairRefused}
+use Rattle.tcp_tie.specs.declared.pair.event.PairRefused.TheVariants.{Memory}
+use Rattle.tcp_tie.specs.Pair.History.{Entry, pasts}
+use Rattle.tcp_tie.specs.Pair.Safe.{IsKept}
+use Rattle.tcp_tie.specs.Pair.Sides.{Both, at}
+use Rattle.tcp_tie.specs.Pair.Steps.{Steps, was_opened, refusal}
+use Rattle.tcp_tie.specs.Pair.Values.{PairSide, PairValue}
 use Rattle.tcp_pair.specs.Ends.{EndValue}
 use Rattle.tcp_pair.specs.declared.pair.Taken.{Taken}
 

@@ -4,4 +4,4 @@ pub mod Invariant
 pub mod Settling
 -- what makes a pair, and what it promises
 pub use Rattle.tcp_tie.specs.Promises
-pub use Rattle.tcp_pair_model.specs.Safe
+pub use Rattle.tcp_tie.specs.Pair.Safe

@@ -3,16 +3,16 @@
 use Rattle.std.specs.Prelude.{◌≡◌, ℕ, ◌+◌, ◌*◌, ◌-◌, ◌^◌, min, ◌||◌, ◌+ℤ◌, ◌≤ℤ◌, pos, ℤ, Bool, true, List, None}
 use Rattle.std.specs.List.{AllByRecursion}
 use Rattle.net_base.specs.Ring.{Ring}
-use Rattle.tcp_pair_model.specs.declared.event.Side.{Side}
-use Rattle.tcp_pair_model.specs.declared.event.Side.TheVariants.{A, B}
-use Rattle.tcp_pair_model.specs.declared.event.PairEvent.{PairEvent}
-use Rattle.tcp_pair_model.specs.declared.event.PairEvent.TheVariants.{Recv, Offer, Deliver}
-use Rattle.tcp_pair_model.specs.declared.event.PairRefused.{PairRefused}
-use Rattle.tcp_pair_model.specs.declared.event.PairRefused.TheVariants.{NoSegment, Moment, Memory}
-use Rattle.tcp_pair_model.specs.Sides.{at, other}
-use Rattle.tcp_pair_model.specs.Steps.{Steps, refusal}
-use Rattle.tcp_pair_model.specs.Value.{TcpValue, new_socket}
-use Rattle.tcp_pair_model.specs.Values.{PairValue, past_at}
+use Rattle.tcp_tie.specs.declared.pair.event.Side.{Side}
+use Rattle.tcp_tie.specs.declared.pair.event.Side.TheVariants.{A, B}
+use Rattle.tcp_tie.specs.declared.pair.event.PairEvent.{PairEvent}
+use Rattle.tcp_tie.specs.declared.pair.event.PairEvent.TheVariants.{Recv, Offer, Deliver}
+use Rattle.tcp_tie.specs.declared.pair.event.PairRefused.{PairRefused}
+use Rattle.tcp_tie.specs.declared.pair.event.PairRefused.TheVariants.{NoSegment, Moment, Memory}
+use Rattle.tcp_tie.specs.Pair.Sides.{at, other}
+use Rattle.tcp_tie.specs.Pair.Steps.{Steps, refusal}
+use Rattle.tcp_model.specs.Value.{TcpValue, new_socket}
+use Rattle.tcp_tie.specs.Pair.Values.{PairValue, past_at}
 use Rattle.tcp_progress.specs.BothWays.{bound, waits_in}
 use Rattle.tcp_progress.specs.Pair.{left_in, next_sent, socket_of}
 use Rattle.tcp_progress.specs.Reached.{IsReached}

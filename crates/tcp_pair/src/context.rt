@@ -1,7 +1,7 @@
 //! What each of two sockets knows of the network that it is in.
 ghost use Rattle.std.specs.Prelude.{◌≡◌, pos};
 ghost use Rattle.net_base.specs.Time.{IsMoment};
-ghost use Rattle.tcp_pair_model.specs.Values.{address_of, source_at};
+ghost use Rattle.tcp_tie.specs.Pair.Values.{address_of, source_at};
 ghost use Rattle.tcp_pair.specs.Context.{seed_of};
 
 use ip_wire::{IpAddress, Ipv4Address};
@@ -9,7 +9,7 @@ use net_base::{ChecksumCapabilities, Instant, Rand};
 use socket_base::Context;
 use socket_base::addresses::is_same_address;
 use std::marker::Model;
-use tcp_pair_model::Side;
+use tcp_tie::pair::Side;
 
 /// The longest IP packet that a frame holds.
 pub const IP_MTU: usize = 1500;

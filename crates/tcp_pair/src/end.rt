@@ -1,11 +1,11 @@
 //! One of the two sockets, with what a pair keeps of it.
 ghost use Rattle.std.specs.Prelude.{◌≡◌, ◌<◌, ◌+◌, ◌^◌, true, false, [], length, slice_get, IfOk, OnOk, OnErr, vec_len, vec_capacity, min, max};
 ghost use Rattle.net_base.specs.Time.{IsMoment};
-ghost use Rattle.tcp_pair_model.specs.declared.event.PairEvent.TheVariants as Event;
-ghost use Rattle.tcp_pair_model.specs.History.{side_of};
+ghost use Rattle.tcp_tie.specs.declared.pair.event.PairEvent.TheVariants as Event;
+ghost use Rattle.tcp_tie.specs.Pair.History.{side_of};
 ghost use Rattle.tcp_model.specs.Calls.{recv_answer};
-ghost use Rattle.tcp_pair_model.specs.Steps.{acts, set_by, reads, offered_at, handed, comes_to};
-ghost use Rattle.tcp_pair_model.specs.Values.{and_reply, and_offer};
+ghost use Rattle.tcp_tie.specs.Pair.Steps.{acts, set_by, reads, offered_at, handed, comes_to};
+ghost use Rattle.tcp_tie.specs.Pair.Values.{and_reply, and_offer};
 ghost use Rattle.tcp_pair.specs.Ends.{fresh_end, refusal_at, MayAct, with_own, after_event, IsShort, HasRoom};
 ghost use Rattle.tcp_socket.specs.Replies.{replies_in};
 
@@ -19,8 +19,8 @@ use net_base::Instant;
 use socket_base::Context;
 use std::alloc::{AllocError, Global};
 use std::marker::Model;
-use tcp_pair_model::{Bytes, PairAnswer, PairEvent, PairRefused, SentSegment, Side, TcpSetting};
 use tcp_socket::Socket;
+use tcp_tie::pair::{Bytes, PairAnswer, PairEvent, PairRefused, SentSegment, Side, TcpSetting};
 
 /// So many bytes and more aren't taken from a user: the numbers of one stream stay near one another.
 const MOST_BYTES: usize = 1 << 29;

@@ -1,8 +1,8 @@
 //! What settling asks for is met.
 ghost use Rattle.std.specs.Prelude.{List};
-ghost use Rattle.tcp_pair_model.specs.Values.{PairValue};
-ghost use Rattle.tcp_pair_model.specs.declared.event.PairEvent.{PairEvent};
-ghost use Rattle.tcp_pair_model.specs.declared.event.Side.{Side};
+ghost use Rattle.tcp_tie.specs.Pair.Values.{PairValue};
+ghost use Rattle.tcp_tie.specs.declared.pair.event.PairEvent.{PairEvent};
+ghost use Rattle.tcp_tie.specs.declared.pair.event.Side.{Side};
 ghost use Rattle.tcp_progress.specs.Connection.{Course, MayConverse};
 ghost use Rattle.tcp_progress.specs.Met.{conversing, conversing_across, timed_conversing};
 ghost use Rattle.tcp_progress.specs.Reached.{IsReached};

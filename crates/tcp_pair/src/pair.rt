@@ -1,12 +1,12 @@
 //! Two sockets, and what happened to them.
 ghost use Rattle.std.specs.Prelude.{◌≡◌, ◌<◌, take, length, slice_get, IfOk, IfErr, IfSome, OnOk, OnErr, None, Err};
 ghost use Rattle.tcp_tie.specs.Promises.{IsFresh};
-ghost use Rattle.tcp_pair_model.specs.History.{side_of, answers_of};
-ghost use Rattle.tcp_pair_model.specs.Safe.{IsKept, IsSafe};
-ghost use Rattle.tcp_pair_model.specs.Sides.{at};
-ghost use Rattle.tcp_pair_model.specs.Steps.{refusal, happens, Steps};
-ghost use Rattle.tcp_pair_model.specs.Values.{new_pair};
-ghost use Rattle.tcp_pair_model.specs.declared.event.Side.TheVariants.{A, B};
+ghost use Rattle.tcp_tie.specs.Pair.History.{side_of, answers_of};
+ghost use Rattle.tcp_tie.specs.Pair.Safe.{IsKept, IsSafe};
+ghost use Rattle.tcp_tie.specs.Pair.Sides.{at};
+ghost use Rattle.tcp_tie.specs.Pair.Steps.{refusal, happens, Steps};
+ghost use Rattle.tcp_tie.specs.Pair.Values.{new_pair};
+ghost use Rattle.tcp_tie.specs.declared.pair.event.Side.TheVariants.{A, B};
 ghost use Rattle.tcp_progress.specs.Reached.{IsReached};
 ghost use Rattle.tcp_pair.specs.Ends.{named, MayAct, acted_at, ends_after};
 ghost use Rattle.tcp_pair.specs.Invariant.{MayRefuse};
@@ -17,8 +17,8 @@ use crate::end::End;
 use net_base::Instant;
 use std::alloc::{AllocError, Global};
 use std::marker::Model;
-use tcp_pair_model::{PairAnswer, PairEvent, PairRefused, SentSegment, Side};
 use tcp_socket::{Socket, State};
+use tcp_tie::pair::{PairAnswer, PairEvent, PairRefused, SentSegment, Side};
 
 /// An event that was taken, and the state in which it found the socket that it is for.
 #[derive(Debug, Drop)]
@@ -43,7 +43,7 @@ pub struct Pair {
 }
 
 impl Model for Pair {
-    ghost use Rattle.tcp_pair_model.specs.Values.{PairValue};
+    ghost use Rattle.tcp_tie.specs.Pair.Values.{PairValue};
 
     ghost Value = { PairValue };
 

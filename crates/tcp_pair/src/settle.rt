@@ -1,11 +1,11 @@
 //! Rounds over a good link, until all that both users wrote was read.
 ghost use Rattle.std.specs.Prelude.{◌≡◌, ◌⊎◌, ◌+◌, ◌<◌, ◌≤◌, ℕ, true, false, None, IfOk, IfErr, OnOk, OnErr};
-ghost use Rattle.tcp_pair_model.specs.Safe.{IsKept, IsSafe, read, written};
-ghost use Rattle.tcp_pair_model.specs.Sides.{other};
-ghost use Rattle.tcp_pair_model.specs.Steps.{refusal};
-ghost use Rattle.tcp_pair_model.specs.declared.event.PairEvent.TheVariants as Event;
-ghost use Rattle.tcp_pair_model.specs.declared.event.PairRefused.TheVariants as Refused;
-ghost use Rattle.tcp_pair_model.specs.declared.event.Side.TheVariants.{A, B};
+ghost use Rattle.tcp_tie.specs.Pair.Safe.{IsKept, IsSafe, read, written};
+ghost use Rattle.tcp_tie.specs.Pair.Sides.{other};
+ghost use Rattle.tcp_tie.specs.Pair.Steps.{refusal};
+ghost use Rattle.tcp_tie.specs.declared.pair.event.PairEvent.TheVariants as Event;
+ghost use Rattle.tcp_tie.specs.declared.pair.event.PairRefused.TheVariants as Refused;
+ghost use Rattle.tcp_tie.specs.declared.pair.event.Side.TheVariants.{A, B};
 ghost use Rattle.tcp_progress.specs.BothWays.{IsThrough, MayTurn, bound, both_read, is_over, roused_in, round_in, rounds_in, turn_in, waits_in, wake_in};
 ghost use Rattle.tcp_progress.specs.Pair.{exchanged_in, next_sent, offered_in};
 ghost use Rattle.tcp_progress.specs.Reached.{IsReached};
@@ -16,7 +16,7 @@ ghost use Rattle.tcp_pair.specs.Settling.{CanSettle, GoesOnTo, IsEndTold, IsOfRo
 
 use crate::pair::Pair;
 use net_base::Instant;
-use tcp_pair_model::{PairEvent, PairRefused, Side};
+use tcp_tie::pair::{PairEvent, PairRefused, Side};
 
 /// So many bytes and more wait nowhere.
 const ALL_BYTES: usize = 1 << 30;

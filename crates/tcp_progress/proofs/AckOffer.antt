@@ -22,16 +22,16 @@ use Rattle.tcp_rules.specs.State.TheVariants as In
 use Rattle.tcp_rules.specs.States.{is_answering, is_closed, is_opening, is_time_wait, keeps_alive, owes_fin, sends_syn, sends_text}
 use Rattle.tcp_rules.specs.Timing.{carries}
 use Rattle.tcp_model.specs.Timeout.{end_by, timeout_end, waits_for_remote}
-use Rattle.tcp_pair_model.specs.Block.{Block}
-use Rattle.tcp_pair_model.specs.Blocks.{one_if, unacked}
-use Rattle.tcp_pair_model.specs.LossRecovery.{loss_probed}
-use Rattle.tcp_pair_model.specs.Offers.{offer_of, offer_ack, offer_choice, payload_of}
-use Rattle.tcp_pair_model.specs.Probing.{is_window_small, probe_moment}
-use Rattle.tcp_pair_model.specs.Retries.{reaches, retries_of}
-use Rattle.tcp_pair_model.specs.Rules.{Choice, ack_moment, backed_off_now, keep_alive_moment, owes_syn, probe_choice, resend_choice, text_choice}
-use Rattle.tcp_pair_model.specs.Segments.{ack_segment, hops_of, segment_len}
-use Rattle.tcp_pair_model.specs.Settled.{settled}
-use Rattle.tcp_pair_model.specs.Value.{TcpValue, with_block, unoffered, queued_in, window_of}
+use Rattle.tcp_model.specs.declared.block.Block.{Block}
+use Rattle.tcp_model.specs.Blocks.{one_if, unacked}
+use Rattle.tcp_model.specs.LossRecovery.{loss_probed}
+use Rattle.tcp_model.specs.Offers.{offer_of, offer_ack, offer_choice, payload_of}
+use Rattle.tcp_model.specs.Probing.{is_window_small, probe_moment}
+use Rattle.tcp_model.specs.Retries.{reaches, retries_of}
+use Rattle.tcp_model.specs.Rules.{Choice, ack_moment, backed_off_now, keep_alive_moment, owes_syn, probe_choice, resend_choice, text_choice}
+use Rattle.tcp_model.specs.Segments.{ack_segment, hops_of, segment_len}
+use Rattle.tcp_model.specs.Settled.{settled}
+use Rattle.tcp_model.specs.Value.{TcpValue, with_block, unoffered, queued_in, window_of}
 use Rattle.tcp_rules.proofs.AckRules.{goes_when_due}
 use Rattle.tcp_rules.proofs.OfferCases.{FirstRules, by_rules, begun, probing}
 use Rattle.tcp_rules.proofs.OrderSteps.{clash}

@@ -12,26 +12,26 @@ use Rattle.tcp_rules.specs.Offsets.{past_by, before_by, behind_by}
 use Rattle.tcp_rules.specs.States.{is_closed, is_answering, takes_text}
 use Rattle.tcp_rules.specs.State.{State}
 use Rattle.tcp_rules.specs.State.TheVariants as In
-use Rattle.tcp_pair_model.specs.Acknowledged.{acknowledged, names_window, windowed, duplicates_after}
-use Rattle.tcp_pair_model.specs.Answers.{drawn, may_draw, with_draw, acked, answer_for}
-use Rattle.tcp_pair_model.specs.Arrival.{arrives, arrives_in, is_void_syn, received, reset_comes, challenges_syn, checked, inside, taken, told, with_content}
-use Rattle.tcp_pair_model.specs.Arrival.{passed_outside, outside, tells_news, has_length, waiting_anew}
-use Rattle.tcp_pair_model.specs.Checks.{Check, acknowledgement_check, opening_check, synchronized_check, is_in_window, lies_before}
-use Rattle.tcp_pair_model.specs.Checks.Check.{Passes, Drops, Draws}
-use Rattle.tcp_pair_model.specs.Probing.{probe_kept}
-use Rattle.tcp_pair_model.specs.Text.{Texted, texted, with_text, with_bytes_at, taken_in_order, held_early, laid, has_new_text, with_fin, takes_fin, fin_taken}
+use Rattle.tcp_model.specs.Acknowledged.{acknowledged, names_window, windowed, duplicates_after}
+use Rattle.tcp_model.specs.Answers.{drawn, may_draw, with_draw, acked, answer_for}
+use Rattle.tcp_model.specs.Arrival.{arrives, arrives_in, is_void_syn, received, reset_comes, challenges_syn, checked, inside, taken, told, with_content}
+use Rattle.tcp_model.specs.Arrival.{passed_outside, outside, tells_news, has_length, waiting_anew}
+use Rattle.tcp_model.specs.Checks.{Check, acknowledgement_check, opening_check, synchronized_check, is_in_window, lies_before}
+use Rattle.tcp_model.specs.Checks.Check.{Passes, Drops, Draws}
+use Rattle.tcp_model.specs.Probing.{probe_kept}
+use Rattle.tcp_model.specs.Text.{Texted, texted, with_text, with_bytes_at, taken_in_order, held_early, laid, has_new_text, with_fin, takes_fin, fin_taken}
 use Rattle.tcp_rules.specs.Held.{runs_of}
-use Rattle.tcp_pair_model.specs.Value.{TcpValue, Arrived, with_block, dropped, unoffered, queued_in, free_in, room_of, received_of}
-use Rattle.tcp_pair_model.specs.Block.{Block}
-use Rattle.tcp_pair_model.specs.Sender.{Sender}
-use Rattle.tcp_pair_model.specs.Segments.{no_ranges}
+use Rattle.tcp_model.specs.Value.{TcpValue, Arrived, with_block, dropped, unoffered, queued_in, free_in, room_of, received_of}
+use Rattle.tcp_model.specs.declared.block.Block.{Block}
+use Rattle.tcp_model.specs.declared.block.Sender.{Sender}
+use Rattle.tcp_model.specs.Segments.{no_ranges}
 use Rattle.tcp_tie.proofs.Tied.{if_so, if_not}
 use Rattle.tcp_rules.proofs.ArrivalCases.{acked_cases}
 use Rattle.tcp_rules.proofs.OrderSteps.{clash}
 use Rattle.tcp_rules.specs.Events.{is_past}
 use Rattle.tcp_progress.specs.Arrivals.{is_synchronized, Counts, IsNearWindow}
-use Rattle.tcp_pair_model.specs.Timestamps.{is_believed, comes_older}
-use Rattle.tcp_pair_model.specs.Arrival.{draws_first, echo_heard}
+use Rattle.tcp_model.specs.Timestamps.{is_believed, comes_older}
+use Rattle.tcp_model.specs.Arrival.{draws_first, echo_heard}
 
 -- WHICH CHECK IT PASSES
 

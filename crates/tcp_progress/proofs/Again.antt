@@ -11,13 +11,13 @@ use Rattle.tcp_rules.specs.EndpointPair.{EndpointPair}
 use Rattle.tcp_rules.specs.OfferKind.{OfferKind}
 use Rattle.tcp_rules.specs.OfferKind.TheVariants as Kind
 use Rattle.tcp_rules.specs.OpenOffer.{OpenOffer}
-use Rattle.tcp_pair_model.specs.Blocks.{one_if}
-use Rattle.tcp_pair_model.specs.Offers.{offer_of, offer_segment, offer_choice, number_at}
-use Rattle.tcp_pair_model.specs.Rules.{Choice, next_place, text_choice, resend_choice, probe_choice, control_for, backed_off_now, size_limit, sent_places}
-use Rattle.tcp_pair_model.specs.LossRecovery.{loss_probed}
-use Rattle.tcp_pair_model.specs.Segments.{hops_of, segment, ack_segment, syn_segment, reset_segment, keep_alive_segment}
-use Rattle.tcp_pair_model.specs.Value.{TcpValue, with_block, unoffered, queued_in, free_in, room_of, window_of}
-use Rattle.tcp_pair_model.specs.Block.{Block}
+use Rattle.tcp_model.specs.Blocks.{one_if}
+use Rattle.tcp_model.specs.Offers.{offer_of, offer_segment, offer_choice, number_at}
+use Rattle.tcp_model.specs.Rules.{Choice, next_place, text_choice, resend_choice, probe_choice, control_for, backed_off_now, size_limit, sent_places}
+use Rattle.tcp_model.specs.LossRecovery.{loss_probed}
+use Rattle.tcp_model.specs.Segments.{hops_of, segment, ack_segment, syn_segment, reset_segment, keep_alive_segment}
+use Rattle.tcp_model.specs.Value.{TcpValue, with_block, unoffered, queued_in, free_in, room_of, window_of}
+use Rattle.tcp_model.specs.declared.block.Block.{Block}
 use Rattle.tcp_rules.proofs.OfferCases.{FirstRules, resends_first, by_rules, begun, probing}
 use Rattle.tcp_rules.proofs.OrderSteps.{clash}
 use Rattle.tcp_rules.specs.Timing.{carries}

@@ -18,14 +18,14 @@ use Rattle.tcp_rules.specs.OpenOffer.{OpenOffer}
 use Rattle.tcp_rules.specs.States.{owes_fin}
 use Rattle.tcp_rules.proofs.OfferCases.{FirstRules, by_rules, begun, probing}
 use Rattle.tcp_rules.proofs.OrderSteps.{clash}
-use Rattle.tcp_pair_model.specs.Block.{Block}
-use Rattle.tcp_pair_model.specs.Blocks.{one_if, unacked}
-use Rattle.tcp_pair_model.specs.LossRecovery.{hole_len, loss_probed}
-use Rattle.tcp_pair_model.specs.Offers.{number_at, offer_choice, offer_of, offer_segment}
-use Rattle.tcp_pair_model.specs.Rules.{Choice, backed_off_now, control_for, probe_choice, resend_choice, sent_places, size_limit, text_choice}
-use Rattle.tcp_pair_model.specs.Segments.{ack_segment, hops_of, keep_alive_segment, reset_segment, segment, segment_len, syn_segment}
-use Rattle.tcp_pair_model.specs.Settled.{settled}
-use Rattle.tcp_pair_model.specs.Value.{TcpValue, with_block, unoffered, free_in, queued_in, room_of, window_of}
+use Rattle.tcp_model.specs.declared.block.Block.{Block}
+use Rattle.tcp_model.specs.Blocks.{one_if, unacked}
+use Rattle.tcp_model.specs.LossRecovery.{hole_len, loss_probed}
+use Rattle.tcp_model.specs.Offers.{number_at, offer_choice, offer_of, offer_segment}
+use Rattle.tcp_model.specs.Rules.{Choice, backed_off_now, control_for, probe_choice, resend_choice, sent_places, size_limit, text_choice}
+use Rattle.tcp_model.specs.Segments.{ack_segment, hops_of, keep_alive_segment, reset_segment, segment, segment_len, syn_segment}
+use Rattle.tcp_model.specs.Settled.{settled}
+use Rattle.tcp_model.specs.Value.{TcpValue, with_block, unoffered, free_in, queued_in, room_of, window_of}
 use Rattle.tcp_progress.specs.Anew.{BeginsAnew}
 use Rattle.tcp_progress.specs.Arrivals.{is_synchronized}
 use Rattle.tcp_progress.specs.Exchange.{text_of}

@@ -24,16 +24,16 @@ use Rattle.tcp_rules.specs.State.TheVariants as In
 use Rattle.tcp_rules.specs.States.{is_closed, keeps_alive, owes_fin, sends_text}
 use Rattle.tcp_rules.proofs.OfferCases.{LastRules, FirstRules, by_rules, begun, probing}
 use Rattle.tcp_rules.proofs.OrderSteps.{clash}
-use Rattle.tcp_pair_model.specs.Block.{Block}
-use Rattle.tcp_pair_model.specs.Blocks.{one_if, unacked}
-use Rattle.tcp_pair_model.specs.LossRecovery.{loss_probed}
-use Rattle.tcp_pair_model.specs.Offers.{offer_of, offer_segment, offer_choice, offer_syn, offer_ack, offer_keep_alive, silent, number_at, payload_of}
-use Rattle.tcp_pair_model.specs.Probing.{is_probing}
-use Rattle.tcp_pair_model.specs.Retries.{one_more}
-use Rattle.tcp_pair_model.specs.Rules.{Choice, text_choice, resend_choice, probe_choice, control_for, backed_off_now}
-use Rattle.tcp_pair_model.specs.Segments.{hops_of, segment, syn_segment, ack_segment, keep_alive_segment}
-use Rattle.tcp_pair_model.specs.Settled.{settled, sent_as, recorded, probed, end_of, syn_went}
-use Rattle.tcp_pair_model.specs.Value.{TcpValue, with_block, unoffered, queued_in, free_in, room_of, window_of}
+use Rattle.tcp_model.specs.declared.block.Block.{Block}
+use Rattle.tcp_model.specs.Blocks.{one_if, unacked}
+use Rattle.tcp_model.specs.LossRecovery.{loss_probed}
+use Rattle.tcp_model.specs.Offers.{offer_of, offer_segment, offer_choice, offer_syn, offer_ack, offer_keep_alive, silent, number_at, payload_of}
+use Rattle.tcp_model.specs.Probing.{is_probing}
+use Rattle.tcp_model.specs.Retries.{one_more}
+use Rattle.tcp_model.specs.Rules.{Choice, text_choice, resend_choice, probe_choice, control_for, backed_off_now}
+use Rattle.tcp_model.specs.Segments.{hops_of, segment, syn_segment, ack_segment, keep_alive_segment}
+use Rattle.tcp_model.specs.Settled.{settled, sent_as, recorded, probed, end_of, syn_went}
+use Rattle.tcp_model.specs.Value.{TcpValue, with_block, unoffered, queued_in, free_in, room_of, window_of}
 use Rattle.tcp_progress.specs.Arrivals.{is_synchronized}
 use Rattle.tcp_progress.specs.Sent.{is_early, size_in, size_of, IsBare}
 use Rattle.tcp_progress.proofs.Comes.{Counted, early_answering}

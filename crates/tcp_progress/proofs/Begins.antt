@@ -3,12 +3,12 @@ use Rattle.std.proofs.Common.{◌≡◌, ℕ, ◌+◌, ◌^◌, ◌<◌, ◌≤�
 use Rattle.std.proofs.Common.{Some, None, refl, sym, ap, ◌∙◌, subst, arith}
 use Rattle.tcp_tie.specs.Context.{ContextValue}
 use Rattle.tcp_rules.specs.Moments.{is_due}
-use Rattle.tcp_pair_model.specs.Arrival.{arrives}
-use Rattle.tcp_pair_model.specs.Sides.{other}
-use Rattle.tcp_pair_model.specs.Value.{TcpValue, room_of}
-use Rattle.tcp_pair_model.specs.Values.{PairSide, PairValue, context_at}
-use Rattle.tcp_pair_model.specs.declared.event.Side.{Side}
-use Rattle.tcp_pair_model.specs.declared.event.Side.TheVariants.{A, B}
+use Rattle.tcp_model.specs.Arrival.{arrives}
+use Rattle.tcp_tie.specs.Pair.Sides.{other}
+use Rattle.tcp_model.specs.Value.{TcpValue, room_of}
+use Rattle.tcp_tie.specs.Pair.Values.{PairSide, PairValue, context_at}
+use Rattle.tcp_tie.specs.declared.pair.event.Side.{Side}
+use Rattle.tcp_tie.specs.declared.pair.event.Side.TheVariants.{A, B}
 use Rattle.tcp_progress.specs.Again.{StartsOver}
 use Rattle.tcp_progress.specs.Handshake.{MayShake, called_in}
 use Rattle.tcp_progress.specs.HandshakeOn.{MayAnswer, MayCallAgain, MayMeet, acked_in, met_in}

@@ -3,9 +3,9 @@ use Rattle.std.proofs.Common.{◌≡◌, ℕ, ◌+◌, ◌≤◌, ◌==◌, ◌&
 use Rattle.std.proofs.lemmas.Bool.{le-leb, ne_eqb}
 use Rattle.ip_wire.specs.Seq.{distance_of}
 use Rattle.ip_wire.specs.TcpHeader.{TcpHeader}
-use Rattle.tcp_pair_model.specs.Checks.{lies_before}
-use Rattle.tcp_pair_model.specs.Segments.{segment_len}
-use Rattle.tcp_pair_model.specs.Value.{TcpValue, room_of}
+use Rattle.tcp_model.specs.Checks.{lies_before}
+use Rattle.tcp_model.specs.Segments.{segment_len}
+use Rattle.tcp_model.specs.Value.{TcpValue, room_of}
 use Rattle.tcp_progress.specs.Bare.{IsBareBefore}
 use Rattle.tcp_progress.proofs.Taken.{begins}
 

@@ -20,18 +20,18 @@ use Rattle.tcp_rules.specs.States.{is_answering, is_closed, owes_fin, after_ack,
 use Rattle.tcp_rules.proofs.ArrivalCases.{by_arrival, Received, Opening, Content, Drawing, acked_open, heeded, timed}
 use Rattle.tcp_rules.proofs.OfferCases.{FirstRules, by_rules, begun, probing}
 use Rattle.tcp_rules.proofs.OrderSteps.{clash}
-use Rattle.tcp_pair_model.specs.Acknowledged.{acks_fin, freed_by, state_after_ack, windowed}
-use Rattle.tcp_pair_model.specs.Arrival.{arrives, waiting_anew}
-use Rattle.tcp_pair_model.specs.Block.{Block}
-use Rattle.tcp_pair_model.specs.Blocks.{one_if}
-use Rattle.tcp_pair_model.specs.LossRecovery.{loss_probed}
-use Rattle.tcp_pair_model.specs.Offers.{number_at, offer_of}
-use Rattle.tcp_pair_model.specs.Retries.{asked, heard, one_more}
-use Rattle.tcp_pair_model.specs.Rules.{backed_off_now, control_for, probe_choice}
-use Rattle.tcp_pair_model.specs.Segments.{hops_of, keep_alive_segment, segment, stamp_by, stamp_of}
-use Rattle.tcp_pair_model.specs.Settled.{end_of, probed, recorded, settled}
-use Rattle.tcp_pair_model.specs.Timestamps.{stamp_taken}
-use Rattle.tcp_pair_model.specs.Value.{TcpValue, Arrived, with_block, unoffered, free_in, queued_in, room_of, window_of}
+use Rattle.tcp_model.specs.Acknowledged.{acks_fin, freed_by, state_after_ack, windowed}
+use Rattle.tcp_model.specs.Arrival.{arrives, waiting_anew}
+use Rattle.tcp_model.specs.declared.block.Block.{Block}
+use Rattle.tcp_model.specs.Blocks.{one_if}
+use Rattle.tcp_model.specs.LossRecovery.{loss_probed}
+use Rattle.tcp_model.specs.Offers.{number_at, offer_of}
+use Rattle.tcp_model.specs.Retries.{asked, heard, one_more}
+use Rattle.tcp_model.specs.Rules.{backed_off_now, control_for, probe_choice}
+use Rattle.tcp_model.specs.Segments.{hops_of, keep_alive_segment, segment, stamp_by, stamp_of}
+use Rattle.tcp_model.specs.Settled.{end_of, probed, recorded, settled}
+use Rattle.tcp_model.specs.Timestamps.{stamp_taken}
+use Rattle.tcp_model.specs.Value.{TcpValue, Arrived, with_block, unoffered, free_in, queued_in, room_of, window_of}
 use Rattle.tcp_progress.specs.Sent.{is_early}
 use Rattle.tcp_progress.proofs.Stampless.{stamp_in}
 use Rattle.tcp_progress.proofs.WindowSteps.{as_large}

@@ -11,13 +11,13 @@ use Rattle.tcp_rules.specs.State.TheVariants as In
 use Rattle.tcp_rules.specs.States.{is_closed, owes_fin, after_ack, after_ack_of_fin, after_fin}
 use Rattle.tcp_rules.proofs.ArrivalCases.{by_arrival, Received, Opening, Content, Drawing, acked_open, heeded, timed}
 use Rattle.tcp_rules.proofs.OrderSteps.{clash}
-use Rattle.tcp_pair_model.specs.Acknowledged.{acks_fin, freed_by, state_after_ack, windowed}
-use Rattle.tcp_pair_model.specs.Arrival.{arrives, waiting_anew}
-use Rattle.tcp_pair_model.specs.Block.{Block}
-use Rattle.tcp_pair_model.specs.Blocks.{one_if, unacked}
-use Rattle.tcp_pair_model.specs.Retries.{heard}
-use Rattle.tcp_pair_model.specs.Timestamps.{stamp_taken}
-use Rattle.tcp_pair_model.specs.Value.{TcpValue, Arrived, with_block, unoffered, queued_in}
+use Rattle.tcp_model.specs.Acknowledged.{acks_fin, freed_by, state_after_ack, windowed}
+use Rattle.tcp_model.specs.Arrival.{arrives, waiting_anew}
+use Rattle.tcp_model.specs.declared.block.Block.{Block}
+use Rattle.tcp_model.specs.Blocks.{one_if, unacked}
+use Rattle.tcp_model.specs.Retries.{heard}
+use Rattle.tcp_model.specs.Timestamps.{stamp_taken}
+use Rattle.tcp_model.specs.Value.{TcpValue, Arrived, with_block, unoffered, queued_in}
 use Rattle.tcp_progress.specs.Exchange.{left_of}
 use Rattle.tcp_progress.specs.Sent.{is_early}
 

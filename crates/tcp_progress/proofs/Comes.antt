@@ -17,15 +17,15 @@ use Rattle.tcp_rules.specs.State.TheVariants as In
 use Rattle.tcp_rules.specs.States.{is_closed, is_answering, takes_text, owes_fin, after_ack, after_ack_of_fin, after_fin}
 use Rattle.tcp_rules.proofs.ArrivalCases.{timed, by_arrival, Received, Opening, Content, Drawing, acked_open, heeded}
 use Rattle.tcp_rules.proofs.OrderSteps.{clash, passes_news}
-use Rattle.tcp_pair_model.specs.Acknowledged.{acks_fin, state_after_ack, freed_by, windowed}
-use Rattle.tcp_pair_model.specs.Arrival.{arrives, arrives_in, is_void_syn, waiting_anew}
-use Rattle.tcp_pair_model.specs.Block.{Block}
-use Rattle.tcp_pair_model.specs.Blocks.{one_if, unacked}
-use Rattle.tcp_pair_model.specs.Checks.{acknowledgement_check, opening_check, synchronized_check}
-use Rattle.tcp_pair_model.specs.Checks.Check.{Passes, Old, Drops, Draws}
-use Rattle.tcp_pair_model.specs.Retries.{heard}
-use Rattle.tcp_pair_model.specs.Timestamps.{stamp_taken}
-use Rattle.tcp_pair_model.specs.Value.{TcpValue, Arrived, with_block, dropped, unoffered, queued_in}
+use Rattle.tcp_model.specs.Acknowledged.{acks_fin, state_after_ack, freed_by, windowed}
+use Rattle.tcp_model.specs.Arrival.{arrives, arrives_in, is_void_syn, waiting_anew}
+use Rattle.tcp_model.specs.declared.block.Block.{Block}
+use Rattle.tcp_model.specs.Blocks.{one_if, unacked}
+use Rattle.tcp_model.specs.Checks.{acknowledgement_check, opening_check, synchronized_check}
+use Rattle.tcp_model.specs.Checks.Check.{Passes, Old, Drops, Draws}
+use Rattle.tcp_model.specs.Retries.{heard}
+use Rattle.tcp_model.specs.Timestamps.{stamp_taken}
+use Rattle.tcp_model.specs.Value.{TcpValue, Arrived, with_block, dropped, unoffered, queued_in}
 use Rattle.tcp_progress.specs.Arrivals.{is_synchronized}
 use Rattle.tcp_progress.specs.Sent.{unsent_in, end_in, is_early, IsBare}
 use Rattle.tcp_progress.proofs.Acked.{not_answering}

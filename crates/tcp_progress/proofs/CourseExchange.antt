@@ -11,21 +11,21 @@ use Rattle.tcp_rules.specs.RecvError.{RecvError}
 use Rattle.tcp_rules.specs.Reply.{Reply}
 use Rattle.tcp_rules.specs.States.{is_closed}
 use Rattle.tcp_rules.proofs.OrderSteps.{clash}
-use Rattle.tcp_pair_model.specs.Arrival.{arrives}
-use Rattle.tcp_pair_model.specs.Calls.{recv_answer}
-use Rattle.tcp_pair_model.specs.History.{side_of}
-use Rattle.tcp_pair_model.specs.Names.{accepts}
-use Rattle.tcp_pair_model.specs.Offers.{offer_of}
-use Rattle.tcp_pair_model.specs.Segments.{segment_len}
-use Rattle.tcp_pair_model.specs.Sides.{Both, at, other, put}
-use Rattle.tcp_pair_model.specs.Steps.{Steps, acting, acts, handed, reads, refusal, taken_at}
-use Rattle.tcp_pair_model.specs.Value.{free_in, room_of}
-use Rattle.tcp_pair_model.specs.Values.{PairSide, PairValue, and_offer, and_reply, context_at, past_at}
-use Rattle.tcp_pair_model.specs.declared.event.PairEvent.{PairEvent}
-use Rattle.tcp_pair_model.specs.declared.event.PairEvent.TheVariants.{Listen, Connect, Send, Recv, Close, Abort, TcpSetting, Offer, Deliver}
-use Rattle.tcp_pair_model.specs.declared.event.SentSegment.{SentSegment}
-use Rattle.tcp_pair_model.specs.declared.event.Side.{Side}
-use Rattle.tcp_pair_model.specs.declared.event.Side.TheVariants.{A, B}
+use Rattle.tcp_model.specs.Arrival.{arrives}
+use Rattle.tcp_model.specs.Calls.{recv_answer}
+use Rattle.tcp_tie.specs.Pair.History.{side_of}
+use Rattle.tcp_model.specs.Names.{accepts}
+use Rattle.tcp_model.specs.Offers.{offer_of}
+use Rattle.tcp_model.specs.Segments.{segment_len}
+use Rattle.tcp_tie.specs.Pair.Sides.{Both, at, other, put}
+use Rattle.tcp_tie.specs.Pair.Steps.{Steps, acting, acts, handed, reads, refusal, taken_at}
+use Rattle.tcp_model.specs.Value.{free_in, room_of}
+use Rattle.tcp_tie.specs.Pair.Values.{PairSide, PairValue, and_offer, and_reply, context_at, past_at}
+use Rattle.tcp_tie.specs.declared.pair.event.PairEvent.{PairEvent}
+use Rattle.tcp_tie.specs.declared.pair.event.PairEvent.TheVariants.{Listen, Connect, Send, Recv, Close, Abort, TcpSetting, Offer, Deliver}
+use Rattle.tcp_tie.specs.declared.pair.event.SentSegment.{SentSegment}
+use Rattle.tcp_tie.specs.declared.pair.event.Side.{Side}
+use Rattle.tcp_tie.specs.declared.pair.event.Side.TheVariants.{A, B}
 use Rattle.tcp_progress.specs.BothWays.{AreThere, total_in}
 use Rattle.tcp_progress.specs.Arrivals.{is_synchronized}
 use Rattle.tcp_progress.specs.Course.{AreHeard, ComesBy, DeliversWithin, IsClocked, IsHeard, IsHeardIn, IsShutAmong, end_of, events_of}

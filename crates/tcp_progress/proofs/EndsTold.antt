@@ -17,21 +17,21 @@ use Rattle.tcp_rules.specs.State.TheVariants as In
 use Rattle.tcp_rules.specs.States.{is_answering, is_closed, owes_fin}
 use Rattle.tcp_rules.proofs.ArrivalCases.{by_arrival, Received, Opening, Content, Drawing, acked_open, heeded, timed}
 use Rattle.tcp_rules.proofs.OrderSteps.{clash}
-use Rattle.tcp_pair_model.specs.Acknowledged.{windowed}
-use Rattle.tcp_pair_model.specs.Arrival.{arrives, waiting_anew}
-use Rattle.tcp_pair_model.specs.Block.{Block}
-use Rattle.tcp_pair_model.specs.Blocks.{one_if}
-use Rattle.tcp_pair_model.specs.Checks.{acknowledgement_check, opening_check, synchronized_check}
-use Rattle.tcp_pair_model.specs.Checks.Check.{Passes, Old, Drops, Draws}
-use Rattle.tcp_pair_model.specs.Offers.{offer_of}
-use Rattle.tcp_pair_model.specs.Retries.{heard}
-use Rattle.tcp_pair_model.specs.Safe.{taken_in as taken_list, written}
-use Rattle.tcp_pair_model.specs.Sides.{other}
-use Rattle.tcp_pair_model.specs.Timestamps.{stamp_taken}
-use Rattle.tcp_pair_model.specs.Value.{TcpValue, Arrived, with_block, unoffered, queued_in}
-use Rattle.tcp_pair_model.specs.Values.{PairSide, PairValue, context_at, past_at}
-use Rattle.tcp_pair_model.specs.declared.event.Side.{Side}
-use Rattle.tcp_pair_model.specs.declared.event.Side.TheVariants.{A, B}
+use Rattle.tcp_model.specs.Acknowledged.{windowed}
+use Rattle.tcp_model.specs.Arrival.{arrives, waiting_anew}
+use Rattle.tcp_model.specs.declared.block.Block.{Block}
+use Rattle.tcp_model.specs.Blocks.{one_if}
+use Rattle.tcp_model.specs.Checks.{acknowledgement_check, opening_check, synchronized_check}
+use Rattle.tcp_model.specs.Checks.Check.{Passes, Old, Drops, Draws}
+use Rattle.tcp_model.specs.Offers.{offer_of}
+use Rattle.tcp_model.specs.Retries.{heard}
+use Rattle.tcp_tie.specs.Pair.Safe.{taken_in as taken_list, written}
+use Rattle.tcp_tie.specs.Pair.Sides.{other}
+use Rattle.tcp_model.specs.Timestamps.{stamp_taken}
+use Rattle.tcp_model.specs.Value.{TcpValue, Arrived, with_block, unoffered, queued_in}
+use Rattle.tcp_tie.specs.Pair.Values.{PairSide, PairValue, context_at, past_at}
+use Rattle.tcp_tie.specs.declared.pair.event.Side.{Side}
+use Rattle.tcp_tie.specs.declared.pair.event.Side.TheVariants.{A, B}
 use Rattle.tcp_progress.specs.Arrivals.{is_synchronized}
 use Rattle.tcp_progress.specs.BothWays.{MayAsk, MayRounds, MayTurn, bound, is_over, roused_in, rounds_in, total_in, turn_in, waits_in, wake_in, woken_in}
 use Rattle.tcp_progress.specs.Exchange.{CanHear, IsOpen, MayReach, left_of, text_of}

@@ -21,15 +21,15 @@ use Rattle.tcp_rules.specs.OpenOffer.{OpenOffer}
 use Rattle.tcp_rules.specs.State.{State}
 use Rattle.tcp_rules.specs.State.TheVariants as In
 use Rattle.tcp_rules.specs.States.{takes_text}
-use Rattle.tcp_pair_model.specs.Arrival.{arrives}
-use Rattle.tcp_pair_model.specs.Block.{Block}
-use Rattle.tcp_pair_model.specs.Blocks.{top, unacked}
-use Rattle.tcp_pair_model.specs.Checks.{is_in_window}
-use Rattle.tcp_pair_model.specs.Offers.{offer_of}
-use Rattle.tcp_pair_model.specs.Segments.{segment_len}
-use Rattle.tcp_pair_model.specs.Settled.{settled}
-use Rattle.tcp_pair_model.specs.Timestamps.{comes_older}
-use Rattle.tcp_pair_model.specs.Value.{TcpValue, Received, Arrived, free_in, queued_in, room_of}
+use Rattle.tcp_model.specs.Arrival.{arrives}
+use Rattle.tcp_model.specs.declared.block.Block.{Block}
+use Rattle.tcp_model.specs.Blocks.{top, unacked}
+use Rattle.tcp_model.specs.Checks.{is_in_window}
+use Rattle.tcp_model.specs.Offers.{offer_of}
+use Rattle.tcp_model.specs.Segments.{segment_len}
+use Rattle.tcp_model.specs.Settled.{settled}
+use Rattle.tcp_model.specs.Timestamps.{comes_older}
+use Rattle.tcp_model.specs.Value.{TcpValue, Received, Arrived, free_in, queued_in, room_of}
 use Rattle.tcp_tie.proofs.ArrivalLaws.{keeps_arrival}
 use Rattle.tcp_tie.proofs.OfferLaws.{keeps_sent_offer}
 use Rattle.tcp_tie.proofs.PromiseLemmas.{keeps_turned, safe_sockets}

@@ -8,9 +8,9 @@ use Rattle.ip_wire.specs.TcpHeader.{TcpHeader}
 use Rattle.tcp_rules.specs.Controls.{is_syn, is_rst}
 use Rattle.tcp_rules.proofs.EdgeSteps.{told_near}
 use Rattle.tcp_rules.proofs.OrderSteps.{clash}
-use Rattle.tcp_pair_model.specs.Acknowledged.{scaled}
-use Rattle.tcp_pair_model.specs.Block.{Block}
-use Rattle.tcp_pair_model.specs.Blocks.{announced, is_worth_telling, own_scale, own_shift, scale_for, shift_of, window_field}
+use Rattle.tcp_model.specs.Acknowledged.{scaled}
+use Rattle.tcp_model.specs.declared.block.Block.{Block}
+use Rattle.tcp_model.specs.Blocks.{announced, is_worth_telling, own_scale, own_shift, scale_for, shift_of, window_field}
 use Rattle.tcp_progress.specs.Windows.{Announces}
 
 scale_most : (most count : ℕ) → scale_for most count ≤ most

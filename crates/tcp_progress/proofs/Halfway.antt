@@ -7,7 +7,7 @@ use Rattle.ip_wire.specs.Seq.{distance_of}
 use Rattle.ip_wire.specs.TcpTimestampGenerator.{TcpTimestampGenerator}
 use Rattle.ip_wire.specs.Timestamp.{value_at}
 use Rattle.tcp_rules.specs.Moments.{stamp_end_from}
-use Rattle.tcp_pair_model.specs.Timestamps.{is_older, stamp_number}
+use Rattle.tcp_model.specs.Timestamps.{is_older, stamp_number}
 
 half_round : (g a b : ℕ) → b ≤ a → a ≤ b + 2_073_600_001 → ((g + b) % 2 ^ 32 + (2 ^ 32 - (g + a) % 2 ^ 32)) % 2 ^ 32 < 2 ^ 31 →
     ((g + b) % 2 ^ 32 + (2 ^ 32 - (g + a) % 2 ^ 32)) % 2 ^ 32 ≡ 0

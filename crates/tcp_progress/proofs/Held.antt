@@ -11,14 +11,14 @@ use Rattle.tcp_rules.specs.OfferKind.TheVariants as Kind
 use Rattle.tcp_rules.specs.States.{owes_fin, sends_text}
 use Rattle.tcp_rules.proofs.OfferCases.{begun, by_first, probing}
 use Rattle.tcp_rules.proofs.OrderSteps.{clash}
-use Rattle.tcp_pair_model.specs.Block.{Block}
-use Rattle.tcp_pair_model.specs.Blocks.{one_if, unacked}
-use Rattle.tcp_pair_model.specs.LossRecovery.{loss_probe_moment, loss_probed, loss_probed_by}
-use Rattle.tcp_pair_model.specs.Offers.{backed_off, first_rules, last_rules, offer_choice, offer_held_back, offer_of, offer_syn}
-use Rattle.tcp_pair_model.specs.Probing.{is_probe_unset, is_probing, is_window_small, probe_moment, probe_started}
-use Rattle.tcp_pair_model.specs.Rules.{Choice, backed_off_now, congestion_limit, congestion_room, fills_enough, has_text, is_sendable, may_be_small}
-use Rattle.tcp_pair_model.specs.Rules.{next_place, owes_syn, probe_choice, resend_choice, resends, text_choice, window_limit}
-use Rattle.tcp_pair_model.specs.Value.{TcpValue, queued_in, unoffered, with_block}
+use Rattle.tcp_model.specs.declared.block.Block.{Block}
+use Rattle.tcp_model.specs.Blocks.{one_if, unacked}
+use Rattle.tcp_model.specs.LossRecovery.{loss_probe_moment, loss_probed, loss_probed_by}
+use Rattle.tcp_model.specs.Offers.{backed_off, first_rules, last_rules, offer_choice, offer_held_back, offer_of, offer_syn}
+use Rattle.tcp_model.specs.Probing.{is_probe_unset, is_probing, is_window_small, probe_moment, probe_started}
+use Rattle.tcp_model.specs.Rules.{Choice, backed_off_now, congestion_limit, congestion_room, fills_enough, has_text, is_sendable, may_be_small}
+use Rattle.tcp_model.specs.Rules.{next_place, owes_syn, probe_choice, resend_choice, resends, text_choice, window_limit}
+use Rattle.tcp_model.specs.Value.{TcpValue, queued_in, unoffered, with_block}
 use Rattle.tcp_model.specs.declared.block.CongestionControl.{CongestionControl}
 use Rattle.tcp_model.specs.declared.block.CongestionControl.TheVariants as Congestion
 use Rattle.tcp_progress.proofs.Resumes.{SendsOut, Starts, StartsWith, both, fin_owed, first, goes, goes_again, idles, limit, no_probe, no_syn}

@@ -2,16 +2,16 @@
 use Rattle.std.proofs.Common.{List, [], ◌∷◌, ◌++◌, refl, sym, subst}
 use Rattle.tcp_tie.specs.Tie.{Keeps}
 use Rattle.tcp_tie.proofs.PromiseLemmas.{keeps_turned}
-use Rattle.tcp_pair_model.specs.Safe.{IsKept}
-use Rattle.tcp_pair_model.specs.Sides.{other}
-use Rattle.tcp_pair_model.specs.Steps.{Steps, happens}
-use Rattle.tcp_pair_model.specs.Value.{new_socket}
-use Rattle.tcp_pair_model.specs.Values.{PairValue, new_pair, past_at}
-use Rattle.tcp_pair_model.specs.declared.event.PairEvent.{PairEvent}
-use Rattle.tcp_pair_model.specs.declared.event.Side.{Side}
-use Rattle.tcp_pair_model.specs.declared.event.Side.TheVariants.{A, B}
-use Rattle.tcp_pair_model.proofs.OutcomeLaws.{goes_on as in_pieces}
-use Rattle.tcp_pair_model.proofs.PairLaws.{new_is_kept, kept_after}
+use Rattle.tcp_tie.specs.Pair.Safe.{IsKept}
+use Rattle.tcp_tie.specs.Pair.Sides.{other}
+use Rattle.tcp_tie.specs.Pair.Steps.{Steps, happens}
+use Rattle.tcp_model.specs.Value.{new_socket}
+use Rattle.tcp_tie.specs.Pair.Values.{PairValue, new_pair, past_at}
+use Rattle.tcp_tie.specs.declared.pair.event.PairEvent.{PairEvent}
+use Rattle.tcp_tie.specs.declared.pair.event.Side.{Side}
+use Rattle.tcp_tie.specs.declared.pair.event.Side.TheVariants.{A, B}
+use Rattle.tcp_tie.proofs.OutcomeLaws.{goes_on as in_pieces}
+use Rattle.tcp_tie.proofs.PairLaws.{new_is_kept, kept_after}
 use Rattle.tcp_progress.specs.Pair.{socket_of}
 use Rattle.tcp_progress.specs.Reached.{IsReached}
 

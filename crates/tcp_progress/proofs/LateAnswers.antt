@@ -21,20 +21,20 @@ use Rattle.tcp_rules.specs.Offsets.{before_by, past_by}
 use Rattle.tcp_rules.specs.States.{is_answering}
 use Rattle.tcp_rules.proofs.ArrivalCases.{by_arrival, Received, Opening, Content, Drawing}
 use Rattle.tcp_rules.proofs.OrderSteps.{clash}
-use Rattle.tcp_pair_model.specs.Arrival.{arrives, waiting_anew}
-use Rattle.tcp_pair_model.specs.Block.{Block}
-use Rattle.tcp_pair_model.specs.Checks.{acknowledgement_check, opening_check, synchronized_check}
-use Rattle.tcp_pair_model.specs.Checks.Check.{Passes, Old, Drops, Draws}
-use Rattle.tcp_pair_model.specs.Names.{accepts}
-use Rattle.tcp_pair_model.specs.Retries.{heard}
-use Rattle.tcp_pair_model.specs.Sides.{at, other}
-use Rattle.tcp_pair_model.specs.Steps.{handed, taken_at}
-use Rattle.tcp_pair_model.specs.Timestamps.{stamp_taken}
-use Rattle.tcp_pair_model.specs.Value.{TcpValue, Arrived, with_block, unoffered}
-use Rattle.tcp_pair_model.specs.Values.{PairSide, PairValue, context_at, past_at, seen_of}
-use Rattle.tcp_pair_model.specs.declared.event.SentSegment.{SentSegment}
-use Rattle.tcp_pair_model.specs.declared.event.Side.{Side}
-use Rattle.tcp_pair_model.specs.declared.event.Side.TheVariants.{A, B}
+use Rattle.tcp_model.specs.Arrival.{arrives, waiting_anew}
+use Rattle.tcp_model.specs.declared.block.Block.{Block}
+use Rattle.tcp_model.specs.Checks.{acknowledgement_check, opening_check, synchronized_check}
+use Rattle.tcp_model.specs.Checks.Check.{Passes, Old, Drops, Draws}
+use Rattle.tcp_model.specs.Names.{accepts}
+use Rattle.tcp_model.specs.Retries.{heard}
+use Rattle.tcp_tie.specs.Pair.Sides.{at, other}
+use Rattle.tcp_tie.specs.Pair.Steps.{handed, taken_at}
+use Rattle.tcp_model.specs.Timestamps.{stamp_taken}
+use Rattle.tcp_model.specs.Value.{TcpValue, Arrived, with_block, unoffered}
+use Rattle.tcp_tie.specs.Pair.Values.{PairSide, PairValue, context_at, past_at, seen_of}
+use Rattle.tcp_tie.specs.declared.pair.event.SentSegment.{SentSegment}
+use Rattle.tcp_tie.specs.declared.pair.event.Side.{Side}
+use Rattle.tcp_tie.specs.declared.pair.event.Side.TheVariants.{A, B}
 use Rattle.tcp_progress.specs.Arrivals.{Counts, IsNearWindow, is_synchronized}
 use Rattle.tcp_progress.specs.Clocks.{comes_stale}
 use Rattle.tcp_progress.specs.Exchange.{IsOpen, TookWhatWasSent, left_of}

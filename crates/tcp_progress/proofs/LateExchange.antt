@@ -13,16 +13,16 @@ use Rattle.tcp_rules.specs.OpenOffer.{OpenOffer}
 use Rattle.tcp_rules.specs.States.{is_closed}
 use Rattle.tcp_rules.specs.Timing.{carries}
 use Rattle.tcp_rules.proofs.OrderSteps.{clash}
-use Rattle.tcp_pair_model.specs.Blocks.{one_if}
-use Rattle.tcp_pair_model.specs.Offers.{offer_of}
-use Rattle.tcp_pair_model.specs.Segments.{segment_len}
-use Rattle.tcp_pair_model.specs.Sides.{at, other}
-use Rattle.tcp_pair_model.specs.Steps.{offered_at, refusal}
-use Rattle.tcp_pair_model.specs.Values.{PairSide, PairValue, and_offer, context_at, past_at}
-use Rattle.tcp_pair_model.specs.declared.event.PairEvent.TheVariants.{Deliver, Offer}
-use Rattle.tcp_pair_model.specs.declared.event.SentSegment.{SentSegment}
-use Rattle.tcp_pair_model.specs.declared.event.Side.{Side}
-use Rattle.tcp_pair_model.specs.declared.event.Side.TheVariants.{A, B}
+use Rattle.tcp_model.specs.Blocks.{one_if}
+use Rattle.tcp_model.specs.Offers.{offer_of}
+use Rattle.tcp_model.specs.Segments.{segment_len}
+use Rattle.tcp_tie.specs.Pair.Sides.{at, other}
+use Rattle.tcp_tie.specs.Pair.Steps.{offered_at, refusal}
+use Rattle.tcp_tie.specs.Pair.Values.{PairSide, PairValue, and_offer, context_at, past_at}
+use Rattle.tcp_tie.specs.declared.pair.event.PairEvent.TheVariants.{Deliver, Offer}
+use Rattle.tcp_tie.specs.declared.pair.event.SentSegment.{SentSegment}
+use Rattle.tcp_tie.specs.declared.pair.event.Side.{Side}
+use Rattle.tcp_tie.specs.declared.pair.event.Side.TheVariants.{A, B}
 use Rattle.tcp_progress.specs.Again.{StartsOver}
 use Rattle.tcp_progress.specs.BothWays.{total_in}
 use Rattle.tcp_progress.specs.Exchange.{GoesFromUna, IsOpen, left_of, text_of}

@@ -14,18 +14,18 @@ use Rattle.tcp_rules.specs.State.{State}
 use Rattle.tcp_rules.specs.State.TheVariants as In
 use Rattle.tcp_rules.specs.States.{is_closed, takes_text}
 use Rattle.tcp_rules.proofs.OrderSteps.{clash}
-use Rattle.tcp_pair_model.specs.Answers.{may_draw}
-use Rattle.tcp_pair_model.specs.Arrival.{arrives}
-use Rattle.tcp_pair_model.specs.Blocks.{one_if}
-use Rattle.tcp_pair_model.specs.Segments.{segment_len}
-use Rattle.tcp_pair_model.specs.Sides.{at, other}
-use Rattle.tcp_pair_model.specs.Steps.{refusal, taken_at}
-use Rattle.tcp_pair_model.specs.Value.{TcpValue, Arrived, free_in, room_of}
-use Rattle.tcp_pair_model.specs.Values.{PairSide, PairValue, and_reply, context_at, past_at}
-use Rattle.tcp_pair_model.specs.declared.event.PairEvent.TheVariants.{Deliver}
-use Rattle.tcp_pair_model.specs.declared.event.SentSegment.{SentSegment}
-use Rattle.tcp_pair_model.specs.declared.event.Side.{Side}
-use Rattle.tcp_pair_model.specs.declared.event.Side.TheVariants.{A, B}
+use Rattle.tcp_model.specs.Answers.{may_draw}
+use Rattle.tcp_model.specs.Arrival.{arrives}
+use Rattle.tcp_model.specs.Blocks.{one_if}
+use Rattle.tcp_model.specs.Segments.{segment_len}
+use Rattle.tcp_tie.specs.Pair.Sides.{at, other}
+use Rattle.tcp_tie.specs.Pair.Steps.{refusal, taken_at}
+use Rattle.tcp_model.specs.Value.{TcpValue, Arrived, free_in, room_of}
+use Rattle.tcp_tie.specs.Pair.Values.{PairSide, PairValue, and_reply, context_at, past_at}
+use Rattle.tcp_tie.specs.declared.pair.event.PairEvent.TheVariants.{Deliver}
+use Rattle.tcp_tie.specs.declared.pair.event.SentSegment.{SentSegment}
+use Rattle.tcp_tie.specs.declared.pair.event.Side.{Side}
+use Rattle.tcp_tie.specs.declared.pair.event.Side.TheVariants.{A, B}
 use Rattle.tcp_progress.specs.Arrivals.{Counts, EndsLastAck, IsAnswered, IsShutOut, Rises, is_synchronized}
 use Rattle.tcp_progress.specs.BothWays.{AreThere, total_in}
 use Rattle.tcp_progress.specs.Exchange.{IsOpen, left_of}

@@ -6,10 +6,10 @@ use Rattle.tcp_tie.proofs.Tied.{if_not}
 use Rattle.tcp_rules.specs.Events.{Event, after, led}
 use Rattle.tcp_rules.specs.Events.Event.{Listens}
 use Rattle.tcp_rules.specs.States.{is_closed}
-use Rattle.tcp_pair_model.specs.Calls.{listening}
-use Rattle.tcp_pair_model.specs.Value.{TcpValue, new_socket, unoffered}
-use Rattle.tcp_pair_model.specs.Values.{PairValue, new_pair}
-use Rattle.tcp_pair_model.specs.declared.event.Side.{Side}
+use Rattle.tcp_model.specs.Calls.{listening}
+use Rattle.tcp_model.specs.Value.{TcpValue, new_socket, unoffered}
+use Rattle.tcp_tie.specs.Pair.Values.{PairValue, new_pair}
+use Rattle.tcp_tie.specs.declared.pair.event.Side.{Side}
 use Rattle.tcp_progress.specs.Pair.{socket_of}
 use Rattle.tcp_progress.specs.Reached.{IsReached}
 use Rattle.tcp_progress.proofs.Events.{of_side, by_steps}

@@ -4,12 +4,12 @@ use Rattle.std.proofs.lemmas.Bool.{lt-ltb}
 use Rattle.std.proofs.lemmas.Option.{slice_get_within}
 use Rattle.tcp_tie.specs.Tie.{Keeps}
 use Rattle.tcp_rules.specs.OpenOffer.{OpenOffer}
-use Rattle.tcp_pair_model.specs.Steps.{refusal, if_so}
-use Rattle.tcp_pair_model.specs.Values.{PairValue, past_at}
-use Rattle.tcp_pair_model.specs.declared.event.PairEvent.TheVariants.{Offer, Deliver}
-use Rattle.tcp_pair_model.specs.declared.event.PairRefused.TheVariants.{NoSegment}
-use Rattle.tcp_pair_model.specs.declared.event.Side.{Side}
-use Rattle.tcp_pair_model.specs.declared.event.Side.TheVariants.{A, B}
+use Rattle.tcp_tie.specs.Pair.Steps.{refusal, if_so}
+use Rattle.tcp_tie.specs.Pair.Values.{PairValue, past_at}
+use Rattle.tcp_tie.specs.declared.pair.event.PairEvent.TheVariants.{Offer, Deliver}
+use Rattle.tcp_tie.specs.declared.pair.event.PairRefused.TheVariants.{NoSegment}
+use Rattle.tcp_tie.specs.declared.pair.event.Side.{Side}
+use Rattle.tcp_tie.specs.declared.pair.event.Side.TheVariants.{A, B}
 use Rattle.tcp_progress.specs.Pair.{AreMirrored, HasStream, MayReachIn, exchanged_in, next_sent, offered_in}
 use Rattle.tcp_progress.specs.Reached.{IsReached}
 use Rattle.tcp_progress.specs.Rounds.{takes, comes}

@@ -14,17 +14,17 @@ use Rattle.tcp_rules.specs.Offsets.{past_by, before_by}
 use Rattle.tcp_rules.specs.State.{State}
 use Rattle.tcp_rules.specs.State.TheVariants as In
 use Rattle.tcp_rules.specs.States.{is_closed, takes_text, owes_fin, after_ack, after_ack_of_fin}
-use Rattle.tcp_pair_model.specs.Acknowledged.{acks_fin, state_after_ack, freed_by, names_window, windowed, duplicates_after}
-use Rattle.tcp_pair_model.specs.Answers.{answer_for, drawn}
-use Rattle.tcp_pair_model.specs.Arrival.{arrives, checked, inside, taken, continued, told, with_content, passed_outside}
-use Rattle.tcp_pair_model.specs.Block.{Block}
-use Rattle.tcp_pair_model.specs.Blocks.{one_if, unacked}
-use Rattle.tcp_pair_model.specs.Checks.{is_in_window}
-use Rattle.tcp_pair_model.specs.Checks.Check.{Passes}
-use Rattle.tcp_pair_model.specs.Probing.{probe_kept}
-use Rattle.tcp_pair_model.specs.Text.{Texted, texted, with_text, with_bytes_at, taken_in_order, held_early}
-use Rattle.tcp_pair_model.specs.Text.{laid, has_new_text, with_fin, takes_fin, is_at_fin, fin_taken}
-use Rattle.tcp_pair_model.specs.Value.{TcpValue, Arrived, with_block, dropped, unoffered, queued_in, free_in, received_of}
+use Rattle.tcp_model.specs.Acknowledged.{acks_fin, state_after_ack, freed_by, names_window, windowed, duplicates_after}
+use Rattle.tcp_model.specs.Answers.{answer_for, drawn}
+use Rattle.tcp_model.specs.Arrival.{arrives, checked, inside, taken, continued, told, with_content, passed_outside}
+use Rattle.tcp_model.specs.declared.block.Block.{Block}
+use Rattle.tcp_model.specs.Blocks.{one_if, unacked}
+use Rattle.tcp_model.specs.Checks.{is_in_window}
+use Rattle.tcp_model.specs.Checks.Check.{Passes}
+use Rattle.tcp_model.specs.Probing.{probe_kept}
+use Rattle.tcp_model.specs.Text.{Texted, texted, with_text, with_bytes_at, taken_in_order, held_early}
+use Rattle.tcp_model.specs.Text.{laid, has_new_text, with_fin, takes_fin, is_at_fin, fin_taken}
+use Rattle.tcp_model.specs.Value.{TcpValue, Arrived, with_block, dropped, unoffered, queued_in, free_in, received_of}
 use Rattle.tcp_tie.proofs.Tied.{if_so, if_not}
 use Rattle.tcp_rules.proofs.ArrivalCases.{acked_cases, acked_open, acked_last, timed}
 use Rattle.tcp_rules.proofs.OrderSteps.{clash}

@@ -14,14 +14,14 @@ use Rattle.tcp_rules.specs.OfferKind.TheVariants as Kind
 use Rattle.tcp_rules.specs.OpenOffer.{OpenOffer}
 use Rattle.tcp_rules.proofs.OfferCases.{FirstRules, by_rules, begun, probing}
 use Rattle.tcp_rules.proofs.OrderSteps.{clash}
-use Rattle.tcp_pair_model.specs.Block.{Block}
-use Rattle.tcp_pair_model.specs.LossRecovery.{loss_probed}
-use Rattle.tcp_pair_model.specs.Offers.{number_at, offer_of}
-use Rattle.tcp_pair_model.specs.Retries.{asked, gives_up, one_more}
-use Rattle.tcp_pair_model.specs.Rules.{backed_off_now, control_for, probe_choice}
-use Rattle.tcp_pair_model.specs.Segments.{hops_of, keep_alive_segment, segment}
-use Rattle.tcp_pair_model.specs.Settled.{end_of, probed, recorded, settled}
-use Rattle.tcp_pair_model.specs.Value.{TcpValue, queued_in, room_of, unoffered, window_of, with_block}
+use Rattle.tcp_model.specs.declared.block.Block.{Block}
+use Rattle.tcp_model.specs.LossRecovery.{loss_probed}
+use Rattle.tcp_model.specs.Offers.{number_at, offer_of}
+use Rattle.tcp_model.specs.Retries.{asked, gives_up, one_more}
+use Rattle.tcp_model.specs.Rules.{backed_off_now, control_for, probe_choice}
+use Rattle.tcp_model.specs.Segments.{hops_of, keep_alive_segment, segment}
+use Rattle.tcp_model.specs.Settled.{end_of, probed, recorded, settled}
+use Rattle.tcp_model.specs.Value.{TcpValue, queued_in, room_of, unoffered, window_of, with_block}
 
 -- what was set, what was agreed on, and how much is unanswered
 pub record Load : Type 0 where

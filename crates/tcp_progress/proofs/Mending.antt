@@ -31,22 +31,22 @@ use Rattle.tcp_rules.proofs.ArrivalCases.{by_arrival, Received, Opening, Content
 use Rattle.tcp_rules.proofs.EarlyRules.{InRecovery, goes_in, rescue_parts}
 use Rattle.tcp_rules.proofs.EdgeSteps.{near_distance}
 use Rattle.tcp_rules.proofs.OrderSteps.{clash, one_if_least}
-use Rattle.tcp_pair_model.specs.Acknowledged.{begins_recovery, counted, duplicates_after, is_partial, is_third, ranges_taken, reno_counted, una_moved, windowed}
-use Rattle.tcp_pair_model.specs.Arrival.{arrives, waiting_anew}
-use Rattle.tcp_pair_model.specs.Block.{Block}
-use Rattle.tcp_pair_model.specs.Blocks.{one_if}
-use Rattle.tcp_pair_model.specs.Checks.{acknowledgement_check}
-use Rattle.tcp_pair_model.specs.Checks.Check.{Passes}
-use Rattle.tcp_pair_model.specs.LossRecovery.{all_noted, hole_len, hole_place, is_lost_again, is_rescue, loss_probed, next_hole, probe_armed}
-use Rattle.tcp_pair_model.specs.LossRecovery.{heard_more, probe_from, probes_losses, probes_tail, ranges_noted, rescue_after, with_board}
-use Rattle.tcp_pair_model.specs.Offers.{number_at, offer_choice}
-use Rattle.tcp_pair_model.specs.Retries.{asked, one_more}
-use Rattle.tcp_pair_model.specs.Rules.{Choice, control_for, fin_goes, resend_choice, resends, sent_places, size_limit}
-use Rattle.tcp_pair_model.specs.Segments.{hops_of, segment}
-use Rattle.tcp_pair_model.specs.Settled.{end_of, nxt_moved, recorded, resent, sent_as, timer_started}
-use Rattle.tcp_pair_model.specs.Timestamps.{echo_taken, stamp_taken}
-use Rattle.tcp_pair_model.specs.Undone.{undone}
-use Rattle.tcp_pair_model.specs.Value.{TcpValue, Arrived, with_block, unoffered, queued_in, room_of, window_of}
+use Rattle.tcp_model.specs.Acknowledged.{begins_recovery, counted, duplicates_after, is_partial, is_third, ranges_taken, reno_counted, una_moved, windowed}
+use Rattle.tcp_model.specs.Arrival.{arrives, waiting_anew}
+use Rattle.tcp_model.specs.declared.block.Block.{Block}
+use Rattle.tcp_model.specs.Blocks.{one_if}
+use Rattle.tcp_model.specs.Checks.{acknowledgement_check}
+use Rattle.tcp_model.specs.Checks.Check.{Passes}
+use Rattle.tcp_model.specs.LossRecovery.{all_noted, hole_len, hole_place, is_lost_again, is_rescue, loss_probed, next_hole, probe_armed}
+use Rattle.tcp_model.specs.LossRecovery.{heard_more, probe_from, probes_losses, probes_tail, ranges_noted, rescue_after, with_board}
+use Rattle.tcp_model.specs.Offers.{number_at, offer_choice}
+use Rattle.tcp_model.specs.Retries.{asked, one_more}
+use Rattle.tcp_model.specs.Rules.{Choice, control_for, fin_goes, resend_choice, resends, sent_places, size_limit}
+use Rattle.tcp_model.specs.Segments.{hops_of, segment}
+use Rattle.tcp_model.specs.Settled.{end_of, nxt_moved, recorded, resent, sent_as, timer_started}
+use Rattle.tcp_model.specs.Timestamps.{echo_taken, stamp_taken}
+use Rattle.tcp_model.specs.Undone.{undone}
+use Rattle.tcp_model.specs.Value.{TcpValue, Arrived, with_block, unoffered, queued_in, room_of, window_of}
 use Rattle.tcp_progress.specs.Anew.{BeginsAnew}
 use Rattle.tcp_progress.specs.Arrivals.{is_synchronized}
 

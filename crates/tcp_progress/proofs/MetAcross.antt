@@ -2,8 +2,8 @@
 use Rattle.std.proofs.Common.{inl, inr, pos, refl}
 use Rattle.tcp_model.specs.AddressPair.TheVariants as Pair
 use Rattle.tcp_rules.specs.EndpointPair.{EndpointPair}
-use Rattle.tcp_pair_model.specs.Values.{address_of}
-use Rattle.tcp_pair_model.specs.declared.event.Side.TheVariants.{A, B}
+use Rattle.tcp_tie.specs.Pair.Values.{address_of}
+use Rattle.tcp_tie.specs.declared.pair.event.Side.TheVariants.{A, B}
 use Rattle.tcp_progress.specs.HandshakeOn.{MayCross, MayMeet}
 use Rattle.tcp_progress.specs.Met.{both_called, crossed, late}
 

@@ -6,14 +6,14 @@ use Rattle.tcp_rules.specs.State.{State}
 use Rattle.tcp_rules.specs.State.TheVariants as In
 use Rattle.tcp_rules.specs.States.{owes_fin, sends_text}
 use Rattle.tcp_rules.proofs.OrderSteps.{clash}
-use Rattle.tcp_pair_model.specs.Blocks.{one_if}
-use Rattle.tcp_pair_model.specs.Offers.{offer_of}
-use Rattle.tcp_pair_model.specs.Sides.{other}
-use Rattle.tcp_pair_model.specs.Steps.{refusal}
-use Rattle.tcp_pair_model.specs.Value.{TcpValue, queued_in}
-use Rattle.tcp_pair_model.specs.Values.{PairValue, past_at}
-use Rattle.tcp_pair_model.specs.declared.event.PairEvent.TheVariants.{Offer}
-use Rattle.tcp_pair_model.specs.declared.event.Side.{Side}
+use Rattle.tcp_model.specs.Blocks.{one_if}
+use Rattle.tcp_model.specs.Offers.{offer_of}
+use Rattle.tcp_tie.specs.Pair.Sides.{other}
+use Rattle.tcp_tie.specs.Pair.Steps.{refusal}
+use Rattle.tcp_model.specs.Value.{TcpValue, queued_in}
+use Rattle.tcp_tie.specs.Pair.Values.{PairValue, past_at}
+use Rattle.tcp_tie.specs.declared.pair.event.PairEvent.TheVariants.{Offer}
+use Rattle.tcp_tie.specs.declared.pair.event.Side.{Side}
 use Rattle.tcp_progress.specs.Arrivals.{is_synchronized}
 use Rattle.tcp_progress.specs.Clocks.{comes_stale}
 use Rattle.tcp_progress.specs.Exchange.{CanHear, left_of}

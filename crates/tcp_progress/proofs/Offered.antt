@@ -20,15 +20,15 @@ use Rattle.tcp_rules.specs.OpenOffer.{OpenOffer}
 use Rattle.tcp_rules.specs.State.{State}
 use Rattle.tcp_rules.specs.States.{is_answering, owes_fin, sends_syn}
 use Rattle.tcp_rules.specs.Timing.{carries}
-use Rattle.tcp_pair_model.specs.Block.{Block}
-use Rattle.tcp_pair_model.specs.Blocks.{one_if, unacked}
-use Rattle.tcp_pair_model.specs.LossRecovery.{loss_probed}
-use Rattle.tcp_pair_model.specs.Offers.{offer_of, offer_segment, offer_choice, number_at, payload_of}
-use Rattle.tcp_pair_model.specs.Retries.{asked, one_more}
-use Rattle.tcp_pair_model.specs.Rules.{Choice, text_choice, resend_choice, probe_choice, control_for, backed_off_now, owes_syn, fin_goes}
-use Rattle.tcp_pair_model.specs.Segments.{hops_of, segment, segment_len, ack_segment, reset_segment, keep_alive_segment}
-use Rattle.tcp_pair_model.specs.Settled.{settled, sent_as, recorded, probed, end_of}
-use Rattle.tcp_pair_model.specs.Value.{TcpValue, with_block, unoffered, queued_in, room_of, window_of}
+use Rattle.tcp_model.specs.declared.block.Block.{Block}
+use Rattle.tcp_model.specs.Blocks.{one_if, unacked}
+use Rattle.tcp_model.specs.LossRecovery.{loss_probed}
+use Rattle.tcp_model.specs.Offers.{offer_of, offer_segment, offer_choice, number_at, payload_of}
+use Rattle.tcp_model.specs.Retries.{asked, one_more}
+use Rattle.tcp_model.specs.Rules.{Choice, text_choice, resend_choice, probe_choice, control_for, backed_off_now, owes_syn, fin_goes}
+use Rattle.tcp_model.specs.Segments.{hops_of, segment, segment_len, ack_segment, reset_segment, keep_alive_segment}
+use Rattle.tcp_model.specs.Settled.{settled, sent_as, recorded, probed, end_of}
+use Rattle.tcp_model.specs.Value.{TcpValue, with_block, unoffered, queued_in, room_of, window_of}
 use Rattle.tcp_rules.proofs.OfferCases.{FirstRules, by_rules, begun, probing}
 use Rattle.tcp_rules.proofs.OrderSteps.{clash}
 use Rattle.tcp_progress.proofs.Again.{again_at_una}

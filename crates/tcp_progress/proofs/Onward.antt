@@ -25,21 +25,21 @@ use Rattle.tcp_rules.specs.States.{is_answering, is_closed, owes_fin, takes_text
 use Rattle.tcp_rules.proofs.ArrivalCases.{by_arrival, Received, Opening, Content, Drawing, acked_open, heeded, timed}
 use Rattle.tcp_rules.proofs.OfferCases.{FirstRules, by_rules, begun, probing}
 use Rattle.tcp_rules.proofs.OrderSteps.{clash}
-use Rattle.tcp_pair_model.specs.Acknowledged.{acks_fin, freed_by, state_after_ack, windowed}
-use Rattle.tcp_pair_model.specs.Arrival.{arrives, waiting_anew}
-use Rattle.tcp_pair_model.specs.Block.{Block}
-use Rattle.tcp_pair_model.specs.Blocks.{one_if}
-use Rattle.tcp_pair_model.specs.Checks.{acknowledgement_check, opening_check, synchronized_check}
-use Rattle.tcp_pair_model.specs.Checks.Check.{Passes, Old, Drops, Draws}
-use Rattle.tcp_pair_model.specs.LossRecovery.{loss_probed}
-use Rattle.tcp_pair_model.specs.Offers.{number_at, offer_choice, offer_of, offer_segment}
-use Rattle.tcp_pair_model.specs.Retries.{asked, heard, one_more}
-use Rattle.tcp_pair_model.specs.Rules.{Choice, backed_off_now, control_for, probe_choice, resend_choice, text_choice}
-use Rattle.tcp_pair_model.specs.Segments.{ack_segment, hops_of, keep_alive_segment, reset_segment, segment, syn_segment}
-use Rattle.tcp_pair_model.specs.Settled.{end_of, probed, recorded, sent_as, settled}
-use Rattle.tcp_pair_model.specs.Text.{taken_in_order}
-use Rattle.tcp_pair_model.specs.Timestamps.{stamp_taken}
-use Rattle.tcp_pair_model.specs.Value.{TcpValue, Arrived, with_block, unoffered, free_in, queued_in, room_of, window_of}
+use Rattle.tcp_model.specs.Acknowledged.{acks_fin, freed_by, state_after_ack, windowed}
+use Rattle.tcp_model.specs.Arrival.{arrives, waiting_anew}
+use Rattle.tcp_model.specs.declared.block.Block.{Block}
+use Rattle.tcp_model.specs.Blocks.{one_if}
+use Rattle.tcp_model.specs.Checks.{acknowledgement_check, opening_check, synchronized_check}
+use Rattle.tcp_model.specs.Checks.Check.{Passes, Old, Drops, Draws}
+use Rattle.tcp_model.specs.LossRecovery.{loss_probed}
+use Rattle.tcp_model.specs.Offers.{number_at, offer_choice, offer_of, offer_segment}
+use Rattle.tcp_model.specs.Retries.{asked, heard, one_more}
+use Rattle.tcp_model.specs.Rules.{Choice, backed_off_now, control_for, probe_choice, resend_choice, text_choice}
+use Rattle.tcp_model.specs.Segments.{ack_segment, hops_of, keep_alive_segment, reset_segment, segment, syn_segment}
+use Rattle.tcp_model.specs.Settled.{end_of, probed, recorded, sent_as, settled}
+use Rattle.tcp_model.specs.Text.{taken_in_order}
+use Rattle.tcp_model.specs.Timestamps.{stamp_taken}
+use Rattle.tcp_model.specs.Value.{TcpValue, Arrived, with_block, unoffered, free_in, queued_in, room_of, window_of}
 use Rattle.tcp_progress.specs.Arrivals.{is_synchronized}
 use Rattle.tcp_progress.specs.Exchange.{left_of}
 use Rattle.tcp_progress.specs.Sent.{is_early}

@@ -16,28 +16,28 @@ use Rattle.tcp_rules.specs.State.{State}
 use Rattle.tcp_rules.specs.State.TheVariants as In
 use Rattle.tcp_rules.specs.States.{after_close, is_closed, is_opening, is_time_wait, owes_fin, takes_text, takes_writes}
 use Rattle.tcp_rules.proofs.OrderSteps.{clash}
-use Rattle.tcp_pair_model.specs.Arrival.{arrives}
-use Rattle.tcp_pair_model.specs.Blocks.{one_if}
-use Rattle.tcp_pair_model.specs.Calls.{recv_answer, sent_more}
-use Rattle.tcp_pair_model.specs.History.{adds, pasts, recv_adds, send_adds, side_of}
-use Rattle.tcp_pair_model.specs.Names.{accepts}
-use Rattle.tcp_pair_model.specs.Offers.{offer_of}
-use Rattle.tcp_pair_model.specs.Receiver.{Receiver}
-use Rattle.tcp_pair_model.specs.Sender.{Sender}
-use Rattle.tcp_pair_model.specs.Settled.{settled}
-use Rattle.tcp_pair_model.specs.Sides.{Both, at, other, put}
-use Rattle.tcp_pair_model.specs.Steps.{Steps, acting, handed, if_so, reads, refusal, send_says, set_by, taken_at, was_opened}
-use Rattle.tcp_pair_model.specs.Value.{TcpValue, Received, ended, queued_in, room_of, unoffered, with_block}
-use Rattle.tcp_pair_model.specs.Values.{PairSide, PairValue, context_at, past_at}
-use Rattle.tcp_pair_model.specs.declared.event.PairEvent.{PairEvent}
-use Rattle.tcp_pair_model.specs.declared.event.PairEvent.TheVariants.{Listen, Connect, Send, Recv, Close, Abort, TcpSetting, Offer, Deliver}
-use Rattle.tcp_pair_model.specs.declared.event.PairRefused.{PairRefused}
-use Rattle.tcp_pair_model.specs.declared.event.PairRefused.TheVariants.{OpenedTwice}
-use Rattle.tcp_pair_model.specs.declared.event.SentSegment.{SentSegment}
-use Rattle.tcp_pair_model.specs.declared.event.Side.{Side}
-use Rattle.tcp_pair_model.specs.declared.event.Side.TheVariants.{A, B}
-use Rattle.tcp_pair_model.specs.declared.event.TcpSetting.{TcpSetting as Setting}
-use Rattle.tcp_pair_model.specs.declared.event.TcpSetting.TheVariants as Set
+use Rattle.tcp_model.specs.Arrival.{arrives}
+use Rattle.tcp_model.specs.Blocks.{one_if}
+use Rattle.tcp_model.specs.Calls.{recv_answer, sent_more}
+use Rattle.tcp_tie.specs.Pair.History.{adds, pasts, recv_adds, send_adds, side_of}
+use Rattle.tcp_model.specs.Names.{accepts}
+use Rattle.tcp_model.specs.Offers.{offer_of}
+use Rattle.tcp_model.specs.declared.block.Receiver.{Receiver}
+use Rattle.tcp_model.specs.declared.block.Sender.{Sender}
+use Rattle.tcp_model.specs.Settled.{settled}
+use Rattle.tcp_tie.specs.Pair.Sides.{Both, at, other, put}
+use Rattle.tcp_tie.specs.Pair.Steps.{Steps, acting, handed, if_so, reads, refusal, send_says, set_by, taken_at, was_opened}
+use Rattle.tcp_model.specs.Value.{TcpValue, Received, ended, queued_in, room_of, unoffered, with_block}
+use Rattle.tcp_tie.specs.Pair.Values.{PairSide, PairValue, context_at, past_at}
+use Rattle.tcp_tie.specs.declared.pair.event.PairEvent.{PairEvent}
+use Rattle.tcp_tie.specs.declared.pair.event.PairEvent.TheVariants.{Listen, Connect, Send, Recv, Close, Abort, TcpSetting, Offer, Deliver}
+use Rattle.tcp_tie.specs.declared.pair.event.PairRefused.{PairRefused}
+use Rattle.tcp_tie.specs.declared.pair.event.PairRefused.TheVariants.{OpenedTwice}
+use Rattle.tcp_tie.specs.declared.pair.event.SentSegment.{SentSegment}
+use Rattle.tcp_tie.specs.declared.pair.event.Side.{Side}
+use Rattle.tcp_tie.specs.declared.pair.event.Side.TheVariants.{A, B}
+use Rattle.tcp_tie.specs.declared.pair.event.TcpSetting.{TcpSetting as Setting}
+use Rattle.tcp_tie.specs.declared.pair.event.TcpSetting.TheVariants as Set
 use Rattle.tcp_progress.specs.Arrivals.{is_synchronized}
 use Rattle.tcp_progress.specs.BothWays.{total_in}
 use Rattle.tcp_progress.specs.Exchange.{IsOpen, left_of}

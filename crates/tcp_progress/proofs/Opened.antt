@@ -17,22 +17,22 @@ use Rattle.tcp_rules.specs.OfferKind.TheVariants as Kind
 use Rattle.tcp_rules.specs.OpenOffer.{OpenOffer}
 use Rattle.tcp_rules.specs.State.{State}
 use Rattle.tcp_rules.specs.State.TheVariants as In
-use Rattle.tcp_pair_model.specs.Acknowledged.{windowed}
-use Rattle.tcp_pair_model.specs.Arrival.{arrives, waiting_anew}
-use Rattle.tcp_pair_model.specs.Block.{Block}
-use Rattle.tcp_pair_model.specs.Calls.{listening, connected_by, pair_for, sent_more}
-use Rattle.tcp_pair_model.specs.FirstNumbers.{number_for}
-use Rattle.tcp_pair_model.specs.LossRecovery.{loss_probed}
-use Rattle.tcp_pair_model.specs.Offers.{offer_of, number_at}
-use Rattle.tcp_pair_model.specs.Retries.{heard, asked, one_more}
-use Rattle.tcp_pair_model.specs.Rules.{backed_off_now, probe_choice, control_for}
-use Rattle.tcp_pair_model.specs.Segments.{hops_of, segment, keep_alive_segment}
-use Rattle.tcp_pair_model.specs.Settled.{settled, recorded, probed, end_of}
-use Rattle.tcp_pair_model.specs.Timestamps.{stamp_taken}
-use Rattle.tcp_pair_model.specs.Value.{TcpValue, Arrived, with_block, unoffered, ended, new_socket, queued_in, room_of, window_of}
-use Rattle.tcp_pair_model.specs.Sides.{at}
-use Rattle.tcp_pair_model.specs.Values.{PairValue, new_pair}
-use Rattle.tcp_pair_model.specs.declared.event.Side.{Side}
+use Rattle.tcp_model.specs.Acknowledged.{windowed}
+use Rattle.tcp_model.specs.Arrival.{arrives, waiting_anew}
+use Rattle.tcp_model.specs.declared.block.Block.{Block}
+use Rattle.tcp_model.specs.Calls.{listening, connected_by, pair_for, sent_more}
+use Rattle.tcp_model.specs.FirstNumbers.{number_for}
+use Rattle.tcp_model.specs.LossRecovery.{loss_probed}
+use Rattle.tcp_model.specs.Offers.{offer_of, number_at}
+use Rattle.tcp_model.specs.Retries.{heard, asked, one_more}
+use Rattle.tcp_model.specs.Rules.{backed_off_now, probe_choice, control_for}
+use Rattle.tcp_model.specs.Segments.{hops_of, segment, keep_alive_segment}
+use Rattle.tcp_model.specs.Settled.{settled, recorded, probed, end_of}
+use Rattle.tcp_model.specs.Timestamps.{stamp_taken}
+use Rattle.tcp_model.specs.Value.{TcpValue, Arrived, with_block, unoffered, ended, new_socket, queued_in, room_of, window_of}
+use Rattle.tcp_tie.specs.Pair.Sides.{at}
+use Rattle.tcp_tie.specs.Pair.Values.{PairValue, new_pair}
+use Rattle.tcp_tie.specs.declared.pair.event.Side.{Side}
 use Rattle.tcp_rules.proofs.ArrivalCases.{by_arrival, Received, Opening, Content, Drawing, acked_open, heeded, timed}
 use Rattle.tcp_rules.proofs.OfferCases.{FirstRules, by_rules, begun, probing}
 use Rattle.tcp_rules.proofs.OrderRules.{event_order, new_order}

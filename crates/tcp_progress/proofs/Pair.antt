@@ -29,18 +29,18 @@ use Rattle.tcp_rules.specs.Reply.{Reply}
 use Rattle.tcp_rules.specs.State.{State}
 use Rattle.tcp_rules.specs.State.TheVariants as In
 use Rattle.tcp_rules.specs.States.{is_answering, is_closed}
-use Rattle.tcp_pair_model.specs.Arrival.{arrives}
-use Rattle.tcp_pair_model.specs.Block.{Block}
-use Rattle.tcp_pair_model.specs.Names.{accepts, accepts_in}
-use Rattle.tcp_pair_model.specs.Offers.{offer_of}
-use Rattle.tcp_pair_model.specs.Settled.{settled}
-use Rattle.tcp_pair_model.specs.Sides.{at, other}
-use Rattle.tcp_pair_model.specs.Steps.{offered_at, handed, taken_at}
-use Rattle.tcp_pair_model.specs.Value.{TcpValue, Arrived}
-use Rattle.tcp_pair_model.specs.Values.{PairSide, PairValue, context_at, and_offer, and_reply, past_at}
-use Rattle.tcp_pair_model.specs.declared.event.SentSegment.{SentSegment}
-use Rattle.tcp_pair_model.specs.declared.event.Side.{Side}
-use Rattle.tcp_pair_model.specs.declared.event.Side.TheVariants.{A, B}
+use Rattle.tcp_model.specs.Arrival.{arrives}
+use Rattle.tcp_model.specs.declared.block.Block.{Block}
+use Rattle.tcp_model.specs.Names.{accepts, accepts_in}
+use Rattle.tcp_model.specs.Offers.{offer_of}
+use Rattle.tcp_model.specs.Settled.{settled}
+use Rattle.tcp_tie.specs.Pair.Sides.{at, other}
+use Rattle.tcp_tie.specs.Pair.Steps.{offered_at, handed, taken_at}
+use Rattle.tcp_model.specs.Value.{TcpValue, Arrived}
+use Rattle.tcp_tie.specs.Pair.Values.{PairSide, PairValue, context_at, and_offer, and_reply, past_at}
+use Rattle.tcp_tie.specs.declared.pair.event.SentSegment.{SentSegment}
+use Rattle.tcp_tie.specs.declared.pair.event.Side.{Side}
+use Rattle.tcp_tie.specs.declared.pair.event.Side.TheVariants.{A, B}
 use Rattle.tcp_tie.proofs.NameLaws.{offer_between_ends, sent_names, answer_back}
 use Rattle.tcp_tie.proofs.Tied.{fits_connected, if_so}
 use Rattle.tcp_rules.proofs.OrderSteps.{clash}

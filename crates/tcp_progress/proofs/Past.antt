@@ -17,15 +17,15 @@ use Rattle.tcp_rules.specs.State.TheVariants as In
 use Rattle.tcp_rules.specs.States.{after_close, is_opening, is_time_wait}
 use Rattle.tcp_rules.proofs.OfferCases.{FirstRules, by_rules, begun, probing}
 use Rattle.tcp_rules.proofs.OrderSteps.{clash}
-use Rattle.tcp_pair_model.specs.Block.{Block}
-use Rattle.tcp_pair_model.specs.Calls.{abort_after, close_after}
-use Rattle.tcp_pair_model.specs.LossRecovery.{loss_probed}
-use Rattle.tcp_pair_model.specs.Offers.{number_at, offer_of}
-use Rattle.tcp_pair_model.specs.Retries.{asked, one_more}
-use Rattle.tcp_pair_model.specs.Rules.{backed_off_now, control_for, probe_choice}
-use Rattle.tcp_pair_model.specs.Segments.{hops_of, keep_alive_segment, segment}
-use Rattle.tcp_pair_model.specs.Settled.{end_of, probed, recorded, settled}
-use Rattle.tcp_pair_model.specs.Value.{TcpValue, ended, queued_in, room_of, unoffered, window_of, with_block}
+use Rattle.tcp_model.specs.declared.block.Block.{Block}
+use Rattle.tcp_model.specs.Calls.{abort_after, close_after}
+use Rattle.tcp_model.specs.LossRecovery.{loss_probed}
+use Rattle.tcp_model.specs.Offers.{number_at, offer_of}
+use Rattle.tcp_model.specs.Retries.{asked, one_more}
+use Rattle.tcp_model.specs.Rules.{backed_off_now, control_for, probe_choice}
+use Rattle.tcp_model.specs.Segments.{hops_of, keep_alive_segment, segment}
+use Rattle.tcp_model.specs.Settled.{end_of, probed, recorded, settled}
+use Rattle.tcp_model.specs.Value.{TcpValue, ended, queued_in, room_of, unoffered, window_of, with_block}
 
 module _ (cx : ContextValue) (v : TcpValue) where
   -- so told whether it was sent, the socket is past SYN-SENT only if it was

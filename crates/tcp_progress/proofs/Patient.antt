@@ -12,18 +12,18 @@ use Rattle.tcp_rules.specs.State.{State}
 use Rattle.tcp_rules.specs.State.TheVariants as In
 use Rattle.tcp_rules.specs.States.{is_answering, is_opening, sends_text}
 use Rattle.tcp_rules.proofs.OrderSteps.{clash}
-use Rattle.tcp_pair_model.specs.Block.{Block}
-use Rattle.tcp_pair_model.specs.Offers.{offer_of}
-use Rattle.tcp_pair_model.specs.Probing.{probe_moment}
-use Rattle.tcp_pair_model.specs.Retries.{gives_up, is_last_question, is_last_timeout, reaches, retries_of}
-use Rattle.tcp_pair_model.specs.Rules.{has_text, keep_alive_moment, resends, text_choice}
-use Rattle.tcp_pair_model.specs.Segments.{segment_len}
-use Rattle.tcp_pair_model.specs.Settled.{settled}
-use Rattle.tcp_pair_model.specs.Sides.{other}
-use Rattle.tcp_pair_model.specs.Value.{TcpValue, free_in, queued_in}
-use Rattle.tcp_pair_model.specs.Values.{PairValue}
-use Rattle.tcp_pair_model.specs.declared.event.Side.{Side}
-use Rattle.tcp_pair_model.specs.declared.event.Side.TheVariants.{A, B}
+use Rattle.tcp_model.specs.declared.block.Block.{Block}
+use Rattle.tcp_model.specs.Offers.{offer_of}
+use Rattle.tcp_model.specs.Probing.{probe_moment}
+use Rattle.tcp_model.specs.Retries.{gives_up, is_last_question, is_last_timeout, reaches, retries_of}
+use Rattle.tcp_model.specs.Rules.{has_text, keep_alive_moment, resends, text_choice}
+use Rattle.tcp_model.specs.Segments.{segment_len}
+use Rattle.tcp_model.specs.Settled.{settled}
+use Rattle.tcp_tie.specs.Pair.Sides.{other}
+use Rattle.tcp_model.specs.Value.{TcpValue, free_in, queued_in}
+use Rattle.tcp_tie.specs.Pair.Values.{PairValue}
+use Rattle.tcp_tie.specs.declared.pair.event.Side.{Side}
+use Rattle.tcp_tie.specs.declared.pair.event.Side.TheVariants.{A, B}
 use Rattle.tcp_progress.specs.Arrivals.{is_synchronized}
 use Rattle.tcp_progress.specs.BothWays.{MayAsk, is_over, roused_in, turn_in, waits_in, wake_in, woken_in}
 use Rattle.tcp_progress.specs.Exchange.{GoesFromUna, text_of}

@@ -8,8 +8,8 @@ use Rattle.tcp_law.specs.Invariant.{IsInStep, IsWellFormed, OneWay}
 use Rattle.tcp_law.specs.Numbers.{wire}
 use Rattle.tcp_law.specs.Side.{Side, rcv_next, send_end, taken_in, one_if as one_in}
 use Rattle.tcp_law.proofs.Lists.{Begins-length}
-use Rattle.tcp_pair_model.specs.Blocks.{one_if, unacked}
-use Rattle.tcp_pair_model.specs.Value.{TcpValue, queued_in}
+use Rattle.tcp_model.specs.Blocks.{one_if, unacked}
+use Rattle.tcp_model.specs.Value.{TcpValue, queued_in}
 use Rattle.tcp_tie.specs.Tie.{Past, Keeps, IsConnectedAs, IsSideOf, is_finished_in, unsent, core_of}
 use Rattle.tcp_tie.proofs.Tied.{is_connected, fits_connected}
 use Rattle.tcp_rules.proofs.OrderSteps.{clash}

@@ -27,33 +27,33 @@ use Rattle.tcp_rules.specs.States.{is_answering, is_closed, is_listening, is_ope
 use Rattle.tcp_rules.proofs.ArrivalCases.{by_arrival, Received, Opening, Content, Drawing, acked_open, heeded, timed}
 use Rattle.tcp_rules.proofs.OfferCases.{FirstRules, by_rules, begun, probing}
 use Rattle.tcp_rules.proofs.OrderSteps.{clash}
-use Rattle.tcp_pair_model.specs.Acknowledged.{is_blind, round_trip_after, una_moved, windowed}
-use Rattle.tcp_pair_model.specs.Arrival.{arrives, waiting_anew}
-use Rattle.tcp_pair_model.specs.Block.{Block}
-use Rattle.tcp_pair_model.specs.Calls.{connected_by, listening, pair_for, recv_answer, sent_more}
-use Rattle.tcp_pair_model.specs.Checks.{acknowledgement_check, synchronized_check}
-use Rattle.tcp_pair_model.specs.Checks.Check.{Passes, Old, Drops, Draws, Resets}
-use Rattle.tcp_pair_model.specs.FirstNumbers.{number_for}
-use Rattle.tcp_pair_model.specs.History.{side_of}
-use Rattle.tcp_pair_model.specs.LossRecovery.{is_first_lost, loss_probed}
-use Rattle.tcp_pair_model.specs.Names.{accepts}
-use Rattle.tcp_pair_model.specs.Offers.{number_at, offer_choice, offer_of, offer_segment}
-use Rattle.tcp_pair_model.specs.Retries.{asked, heard, one_more}
-use Rattle.tcp_pair_model.specs.Rules.{Choice, control_for, probe_choice, resend_choice, text_choice}
-use Rattle.tcp_pair_model.specs.Segments.{ack_segment, hops_of, keep_alive_segment, reset_segment, segment, syn_segment}
-use Rattle.tcp_pair_model.specs.Settled.{end_of, nxt_moved, probed, recorded, resent, sent_as, settled}
-use Rattle.tcp_pair_model.specs.Sides.{Both, at, other, put}
-use Rattle.tcp_pair_model.specs.Steps.{acting, acts, handed, reads, set_by, taken_at}
-use Rattle.tcp_pair_model.specs.Timestamps.{echo_taken, stamp_taken}
-use Rattle.tcp_pair_model.specs.Value.{TcpValue, Arrived, with_block, unoffered, ended, free_in, queued_in, room_of, window_of}
-use Rattle.tcp_pair_model.specs.Values.{PairSide, PairValue, context_at}
-use Rattle.tcp_pair_model.specs.declared.event.PairEvent.{PairEvent}
-use Rattle.tcp_pair_model.specs.declared.event.PairEvent.TheVariants.{Listen, Connect, Send, Recv, Close, Abort, TcpSetting, Offer, Deliver}
-use Rattle.tcp_pair_model.specs.declared.event.SentSegment.{SentSegment}
-use Rattle.tcp_pair_model.specs.declared.event.Side.{Side}
-use Rattle.tcp_pair_model.specs.declared.event.Side.TheVariants.{A, B}
-use Rattle.tcp_pair_model.specs.declared.event.TcpSetting.{TcpSetting as Setting}
-use Rattle.tcp_pair_model.specs.declared.event.TcpSetting.TheVariants as Set
+use Rattle.tcp_model.specs.Acknowledged.{is_blind, round_trip_after, una_moved, windowed}
+use Rattle.tcp_model.specs.Arrival.{arrives, waiting_anew}
+use Rattle.tcp_model.specs.declared.block.Block.{Block}
+use Rattle.tcp_model.specs.Calls.{connected_by, listening, pair_for, recv_answer, sent_more}
+use Rattle.tcp_model.specs.Checks.{acknowledgement_check, synchronized_check}
+use Rattle.tcp_model.specs.Checks.Check.{Passes, Old, Drops, Draws, Resets}
+use Rattle.tcp_model.specs.FirstNumbers.{number_for}
+use Rattle.tcp_tie.specs.Pair.History.{side_of}
+use Rattle.tcp_model.specs.LossRecovery.{is_first_lost, loss_probed}
+use Rattle.tcp_model.specs.Names.{accepts}
+use Rattle.tcp_model.specs.Offers.{number_at, offer_choice, offer_of, offer_segment}
+use Rattle.tcp_model.specs.Retries.{asked, heard, one_more}
+use Rattle.tcp_model.specs.Rules.{Choice, control_for, probe_choice, resend_choice, text_choice}
+use Rattle.tcp_model.specs.Segments.{ack_segment, hops_of, keep_alive_segment, reset_segment, segment, syn_segment}
+use Rattle.tcp_model.specs.Settled.{end_of, nxt_moved, probed, recorded, resent, sent_as, settled}
+use Rattle.tcp_tie.specs.Pair.Sides.{Both, at, other, put}
+use Rattle.tcp_tie.specs.Pair.Steps.{acting, acts, handed, reads, set_by, taken_at}
+use Rattle.tcp_model.specs.Timestamps.{echo_taken, stamp_taken}
+use Rattle.tcp_model.specs.Value.{TcpValue, Arrived, with_block, unoffered, ended, free_in, queued_in, room_of, window_of}
+use Rattle.tcp_tie.specs.Pair.Values.{PairSide, PairValue, context_at}
+use Rattle.tcp_tie.specs.declared.pair.event.PairEvent.{PairEvent}
+use Rattle.tcp_tie.specs.declared.pair.event.PairEvent.TheVariants.{Listen, Connect, Send, Recv, Close, Abort, TcpSetting, Offer, Deliver}
+use Rattle.tcp_tie.specs.declared.pair.event.SentSegment.{SentSegment}
+use Rattle.tcp_tie.specs.declared.pair.event.Side.{Side}
+use Rattle.tcp_tie.specs.declared.pair.event.Side.TheVariants.{A, B}
+use Rattle.tcp_tie.specs.declared.pair.event.TcpSetting.{TcpSetting as Setting}
+use Rattle.tcp_tie.specs.declared.pair.event.TcpSetting.TheVariants as Set
 use Rattle.tcp_progress.specs.Arrivals.{is_synchronized}
 use Rattle.tcp_progress.specs.Pair.{socket_of}
 use Rattle.tcp_progress.specs.PutOff.{IsAskedBefore, IsRunning, Mends, MendsIn, RunsOutAt}

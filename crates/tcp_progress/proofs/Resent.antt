@@ -35,26 +35,26 @@ use Rattle.tcp_rules.proofs.LossRules.{led_held}
 use Rattle.tcp_rules.proofs.OfferCases.{FirstRules, by_rules, begun, probing}
 use Rattle.tcp_rules.proofs.OrderSteps.{clash}
 use Rattle.tcp_rules.proofs.TimingRules.{led_timing}
-use Rattle.tcp_pair_model.specs.Acknowledged.{begins_recovery, duplicates_after, is_duplicate, is_lost_since, is_missed, is_partial, is_third, may_be_missed}
-use Rattle.tcp_pair_model.specs.Acknowledged.{ranges_taken, tells_of_loss, una_moved, una_risen, windowed}
-use Rattle.tcp_pair_model.specs.Arrival.{arrives, waiting_anew}
-use Rattle.tcp_pair_model.specs.Block.{Block}
-use Rattle.tcp_pair_model.specs.Blocks.{past_top}
-use Rattle.tcp_pair_model.specs.Calls.{listening, connected_by, pair_for, sent_more}
-use Rattle.tcp_pair_model.specs.FirstNumbers.{number_for}
-use Rattle.tcp_pair_model.specs.LossRecovery.{heard_more, is_first_lost, is_lost_at, is_passed, loss_lowered, loss_moment, loss_probe_moment, may_be_late}
-use Rattle.tcp_pair_model.specs.LossRecovery.{loss_probed, probe_armed, probe_begins, probe_from, all_noted, fills_early, fills_hole, goes_early, may_go_early}
-use Rattle.tcp_pair_model.specs.LossRecovery.{next_hole, probes_losses, ranges_noted, rescues, threshold, with_board}
-use Rattle.tcp_pair_model.specs.Offers.{number_at, offer_choice, offer_of, offer_segment}
-use Rattle.tcp_pair_model.specs.Retries.{asked, heard, one_more}
-use Rattle.tcp_pair_model.specs.Rules.{Choice, backed_off_now, control_for, probe_choice, resend_choice, resends, text_choice}
-use Rattle.tcp_pair_model.specs.Segments.{ack_segment, hops_of, keep_alive_segment, reset_segment, segment, syn_segment}
-use Rattle.tcp_pair_model.specs.Settled.{end_of, nxt_moved, probed, recorded, resent, sent_as, settled, syn_went, timer_started, went}
-use Rattle.tcp_pair_model.specs.Timestamps.{echo_taken, stamp_taken}
-use Rattle.tcp_pair_model.specs.Undone.{undone}
-use Rattle.tcp_pair_model.specs.Value.{TcpValue, Arrived, with_block, unoffered, ended, free_in, new_socket, queued_in, room_of, window_of}
-use Rattle.tcp_pair_model.specs.Values.{PairValue, new_pair}
-use Rattle.tcp_pair_model.specs.declared.event.Side.{Side}
+use Rattle.tcp_model.specs.Acknowledged.{begins_recovery, duplicates_after, is_duplicate, is_lost_since, is_missed, is_partial, is_third, may_be_missed}
+use Rattle.tcp_model.specs.Acknowledged.{ranges_taken, tells_of_loss, una_moved, una_risen, windowed}
+use Rattle.tcp_model.specs.Arrival.{arrives, waiting_anew}
+use Rattle.tcp_model.specs.declared.block.Block.{Block}
+use Rattle.tcp_model.specs.Blocks.{past_top}
+use Rattle.tcp_model.specs.Calls.{listening, connected_by, pair_for, sent_more}
+use Rattle.tcp_model.specs.FirstNumbers.{number_for}
+use Rattle.tcp_model.specs.LossRecovery.{heard_more, is_first_lost, is_lost_at, is_passed, loss_lowered, loss_moment, loss_probe_moment, may_be_late}
+use Rattle.tcp_model.specs.LossRecovery.{loss_probed, probe_armed, probe_begins, probe_from, all_noted, fills_early, fills_hole, goes_early, may_go_early}
+use Rattle.tcp_model.specs.LossRecovery.{next_hole, probes_losses, ranges_noted, rescues, threshold, with_board}
+use Rattle.tcp_model.specs.Offers.{number_at, offer_choice, offer_of, offer_segment}
+use Rattle.tcp_model.specs.Retries.{asked, heard, one_more}
+use Rattle.tcp_model.specs.Rules.{Choice, backed_off_now, control_for, probe_choice, resend_choice, resends, text_choice}
+use Rattle.tcp_model.specs.Segments.{ack_segment, hops_of, keep_alive_segment, reset_segment, segment, syn_segment}
+use Rattle.tcp_model.specs.Settled.{end_of, nxt_moved, probed, recorded, resent, sent_as, settled, syn_went, timer_started, went}
+use Rattle.tcp_model.specs.Timestamps.{echo_taken, stamp_taken}
+use Rattle.tcp_model.specs.Undone.{undone}
+use Rattle.tcp_model.specs.Value.{TcpValue, Arrived, with_block, unoffered, ended, free_in, new_socket, queued_in, room_of, window_of}
+use Rattle.tcp_tie.specs.Pair.Values.{PairValue, new_pair}
+use Rattle.tcp_tie.specs.declared.pair.event.Side.{Side}
 use Rattle.tcp_progress.specs.Pair.{socket_of}
 use Rattle.tcp_progress.specs.Reached.{IsReached}
 use Rattle.tcp_progress.proofs.Events.{of_side, by_steps}

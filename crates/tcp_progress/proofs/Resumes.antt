@@ -24,18 +24,18 @@ use Rattle.tcp_rules.specs.OfferKind.TheVariants as Kind
 use Rattle.tcp_rules.specs.OpenOffer.{OpenOffer}
 use Rattle.tcp_rules.specs.States.{is_answering, is_closed, owes_fin, sends_syn, sends_text}
 use Rattle.tcp_rules.specs.Timing.{carries}
-use Rattle.tcp_pair_model.specs.Block.{Block}
-use Rattle.tcp_pair_model.specs.Blocks.{one_if, unacked}
-use Rattle.tcp_pair_model.specs.LossRecovery.{fills_early, fills_hole, goes_early, has_room, hole_len, loss_moment, loss_probe_moment, loss_probed}
-use Rattle.tcp_pair_model.specs.LossRecovery.{loss_probed_by, may_go_early, next_hole, pipe, rescues}
-use Rattle.tcp_pair_model.specs.Offers.{backed_off, first_rules, last_rules, number_at, offer_choice, offer_of, offer_reset, offer_syn, offer_with}
-use Rattle.tcp_pair_model.specs.Offers.{payload_of, silent}
-use Rattle.tcp_pair_model.specs.Retries.{given_up, gives_up}
-use Rattle.tcp_pair_model.specs.Rules.{Choice, backed_off_now, beyond, congestion_limit, congestion_room, control_for, fills_enough, fin_goes, has_text}
-use Rattle.tcp_pair_model.specs.Rules.{is_sendable, may_be_small, next_place, owes_syn, resend_choice, resend_from, resends, sent_places, size_limit}
-use Rattle.tcp_pair_model.specs.Rules.{stamp_len, text_choice, time_wait_end, window_limit}
-use Rattle.tcp_pair_model.specs.Segments.{hops_of, segment, segment_len, stamp_of}
-use Rattle.tcp_pair_model.specs.Value.{TcpValue, ended, queued_in, unoffered, window_of, with_block}
+use Rattle.tcp_model.specs.declared.block.Block.{Block}
+use Rattle.tcp_model.specs.Blocks.{one_if, unacked}
+use Rattle.tcp_model.specs.LossRecovery.{fills_early, fills_hole, goes_early, has_room, hole_len, loss_moment, loss_probe_moment, loss_probed}
+use Rattle.tcp_model.specs.LossRecovery.{loss_probed_by, may_go_early, next_hole, pipe, rescues}
+use Rattle.tcp_model.specs.Offers.{backed_off, first_rules, last_rules, number_at, offer_choice, offer_of, offer_reset, offer_syn, offer_with}
+use Rattle.tcp_model.specs.Offers.{payload_of, silent}
+use Rattle.tcp_model.specs.Retries.{given_up, gives_up}
+use Rattle.tcp_model.specs.Rules.{Choice, backed_off_now, beyond, congestion_limit, congestion_room, control_for, fills_enough, fin_goes, has_text}
+use Rattle.tcp_model.specs.Rules.{is_sendable, may_be_small, next_place, owes_syn, resend_choice, resend_from, resends, sent_places, size_limit}
+use Rattle.tcp_model.specs.Rules.{stamp_len, text_choice, time_wait_end, window_limit}
+use Rattle.tcp_model.specs.Segments.{hops_of, segment, segment_len, stamp_of}
+use Rattle.tcp_model.specs.Value.{TcpValue, ended, queued_in, unoffered, window_of, with_block}
 use Rattle.tcp_rules.proofs.OfferCases.{begun, probing, resends_first}
 use Rattle.tcp_rules.proofs.OrderSteps.{clash}
 use Rattle.tcp_rules.specs.Ends.{GoesOn}

@@ -8,19 +8,19 @@ use Rattle.tcp_rules.specs.States.{is_answering}
 use Rattle.tcp_rules.proofs.OfferCases.{FirstRules, begun, by_rules}
 use Rattle.tcp_tie.specs.Context.{ContextValue}
 use Rattle.tcp_tie.specs.Offers.{Offered}
-use Rattle.tcp_pair_model.specs.LossRecovery.{loss_probed}
-use Rattle.tcp_pair_model.specs.Offers.{offer_of}
-use Rattle.tcp_pair_model.specs.Rules.{backed_off_now}
-use Rattle.tcp_pair_model.specs.Settled.{settled}
+use Rattle.tcp_model.specs.LossRecovery.{loss_probed}
+use Rattle.tcp_model.specs.Offers.{offer_of}
+use Rattle.tcp_model.specs.Rules.{backed_off_now}
+use Rattle.tcp_model.specs.Settled.{settled}
 use Rattle.tcp_rules.proofs.OrderSteps.{clash}
-use Rattle.tcp_pair_model.specs.Block.{Block}
-use Rattle.tcp_pair_model.specs.Sides.{other}
-use Rattle.tcp_pair_model.specs.Steps.{refusal}
-use Rattle.tcp_pair_model.specs.Value.{TcpValue, unoffered, with_block}
-use Rattle.tcp_pair_model.specs.Values.{PairValue, context_at}
-use Rattle.tcp_pair_model.specs.declared.event.PairEvent.TheVariants.{Offer}
-use Rattle.tcp_pair_model.specs.declared.event.Side.{Side}
-use Rattle.tcp_pair_model.specs.declared.event.Side.TheVariants.{A, B}
+use Rattle.tcp_model.specs.declared.block.Block.{Block}
+use Rattle.tcp_tie.specs.Pair.Sides.{other}
+use Rattle.tcp_tie.specs.Pair.Steps.{refusal}
+use Rattle.tcp_model.specs.Value.{TcpValue, unoffered, with_block}
+use Rattle.tcp_tie.specs.Pair.Values.{PairValue, context_at}
+use Rattle.tcp_tie.specs.declared.pair.event.PairEvent.TheVariants.{Offer}
+use Rattle.tcp_tie.specs.declared.pair.event.Side.{Side}
+use Rattle.tcp_tie.specs.declared.pair.event.Side.TheVariants.{A, B}
 use Rattle.tcp_progress.specs.BothWays.{roused_in}
 use Rattle.tcp_progress.specs.Pair.{context_of, socket_of}
 use Rattle.tcp_progress.specs.Reached.{IsReached}

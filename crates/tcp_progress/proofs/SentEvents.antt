@@ -22,29 +22,29 @@ use Rattle.tcp_rules.specs.State.{State}
 use Rattle.tcp_rules.specs.State.TheVariants as In
 use Rattle.tcp_rules.specs.States.{is_closed, is_opening, is_time_wait, keeps_alive, owes_fin, sends_syn, takes_writes, after_close}
 use Rattle.tcp_rules.proofs.OrderSteps.{clash}
-use Rattle.tcp_pair_model.specs.Arrival.{arrives}
-use Rattle.tcp_pair_model.specs.Blocks.{one_if, unacked}
-use Rattle.tcp_pair_model.specs.Calls.{listening, connected_by, pair_for, sent_more, recv_answer, recv_after, send_answer, send_after, listen_after}
-use Rattle.tcp_pair_model.specs.Calls.{listen_answer, connect_answer, connect_after, close_after, abort_after}
-use Rattle.tcp_pair_model.specs.FirstNumbers.{number_for}
-use Rattle.tcp_pair_model.specs.History.{adds, listen_adds, connect_adds, send_adds, recv_adds}
-use Rattle.tcp_pair_model.specs.Names.{accepts}
-use Rattle.tcp_pair_model.specs.Offers.{offer_of}
-use Rattle.tcp_pair_model.specs.Settled.{settled}
-use Rattle.tcp_pair_model.specs.Sides.{at, other}
-use Rattle.tcp_pair_model.specs.Steps.{acts, reads, set_by, handed, taken_at}
-use Rattle.tcp_pair_model.specs.Steps.{listen_says, connect_says, send_says}
-use Rattle.tcp_pair_model.specs.Value.{TcpValue, Arrived, unoffered, with_block, queued_in}
-use Rattle.tcp_pair_model.specs.Values.{PairSide, context_at, and_offer, and_reply, seen_of, segments_of, with_segments}
-use Rattle.tcp_pair_model.specs.declared.event.PairAnswer.{PairAnswer}
-use Rattle.tcp_pair_model.specs.declared.event.PairAnswer.TheVariants.{Done, Count, Bytes, Error}
-use Rattle.tcp_pair_model.specs.declared.event.PairEvent.{PairEvent}
-use Rattle.tcp_pair_model.specs.declared.event.PairEvent.TheVariants.{Listen, Connect, Send, Recv, Close, Abort, TcpSetting, Offer, Deliver}
-use Rattle.tcp_pair_model.specs.declared.event.SentSegment.{SentSegment}
-use Rattle.tcp_pair_model.specs.declared.event.Side.{Side}
-use Rattle.tcp_pair_model.specs.declared.event.TcpSetting.{TcpSetting as Setting}
-use Rattle.tcp_pair_model.specs.declared.event.TcpSetting.TheVariants as Set
-use Rattle.tcp_pair_model.proofs.SideLaws.{IsAllowed, led}
+use Rattle.tcp_model.specs.Arrival.{arrives}
+use Rattle.tcp_model.specs.Blocks.{one_if, unacked}
+use Rattle.tcp_model.specs.Calls.{listening, connected_by, pair_for, sent_more, recv_answer, recv_after, send_answer, send_after, listen_after}
+use Rattle.tcp_model.specs.Calls.{listen_answer, connect_answer, connect_after, close_after, abort_after}
+use Rattle.tcp_model.specs.FirstNumbers.{number_for}
+use Rattle.tcp_tie.specs.Pair.History.{adds, listen_adds, connect_adds, send_adds, recv_adds}
+use Rattle.tcp_model.specs.Names.{accepts}
+use Rattle.tcp_model.specs.Offers.{offer_of}
+use Rattle.tcp_model.specs.Settled.{settled}
+use Rattle.tcp_tie.specs.Pair.Sides.{at, other}
+use Rattle.tcp_tie.specs.Pair.Steps.{acts, reads, set_by, handed, taken_at}
+use Rattle.tcp_tie.specs.Pair.Steps.{listen_says, connect_says, send_says}
+use Rattle.tcp_model.specs.Value.{TcpValue, Arrived, unoffered, with_block, queued_in}
+use Rattle.tcp_tie.specs.Pair.Values.{PairSide, context_at, and_offer, and_reply, seen_of, segments_of, with_segments}
+use Rattle.tcp_tie.specs.declared.pair.event.PairAnswer.{PairAnswer}
+use Rattle.tcp_tie.specs.declared.pair.event.PairAnswer.TheVariants.{Done, Count, Bytes, Error}
+use Rattle.tcp_tie.specs.declared.pair.event.PairEvent.{PairEvent}
+use Rattle.tcp_tie.specs.declared.pair.event.PairEvent.TheVariants.{Listen, Connect, Send, Recv, Close, Abort, TcpSetting, Offer, Deliver}
+use Rattle.tcp_tie.specs.declared.pair.event.SentSegment.{SentSegment}
+use Rattle.tcp_tie.specs.declared.pair.event.Side.{Side}
+use Rattle.tcp_tie.specs.declared.pair.event.TcpSetting.{TcpSetting as Setting}
+use Rattle.tcp_tie.specs.declared.pair.event.TcpSetting.TheVariants as Set
+use Rattle.tcp_tie.proofs.SideLaws.{IsAllowed, led}
 use Rattle.tcp_progress.specs.Arrivals.{is_synchronized}
 use Rattle.tcp_progress.specs.Sent.{unsent_in, sent_in, end_in, size_of, IsBare, IsWithin, sent_past, is_early, SendsAll}
 use Rattle.tcp_progress.proofs.Asked.{After as Offers, IsFurther, OfOffer, Below, Reaches, asked_after, segment_in}

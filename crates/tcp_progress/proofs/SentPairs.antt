@@ -16,20 +16,20 @@ use Rattle.tcp_tie.specs.Tie.{Past, Keeps, IsConnectedAs, core_of, unsent}
 use Rattle.tcp_tie.proofs.PromiseLemmas.{Shows, shows}
 use Rattle.tcp_tie.proofs.Tied.{fits_connected}
 use Rattle.tcp_rules.proofs.OrderSteps.{clash}
-use Rattle.tcp_pair_model.specs.Blocks.{one_if}
-use Rattle.tcp_pair_model.specs.History.{pasts, side_of, adds}
-use Rattle.tcp_pair_model.specs.Safe.{IsKept}
-use Rattle.tcp_pair_model.specs.Sides.{Both, at, put, other}
-use Rattle.tcp_pair_model.specs.Steps.{Steps, refusal, happens, acting, was_opened, if_so}
-use Rattle.tcp_pair_model.specs.Value.{TcpValue, new_socket, room_of}
-use Rattle.tcp_pair_model.specs.Values.{PairSide, PairValue, new_pair, past_at, with_segments}
-use Rattle.tcp_pair_model.specs.declared.event.PairEvent.{PairEvent}
-use Rattle.tcp_pair_model.specs.declared.event.PairEvent.TheVariants.{Listen, Connect, Send, Recv, Close, Abort, TcpSetting, Offer, Deliver}
-use Rattle.tcp_pair_model.specs.declared.event.PairRefused.TheVariants.{OpenedTwice, TooManyBytes}
-use Rattle.tcp_pair_model.specs.declared.event.Side.{Side}
-use Rattle.tcp_pair_model.specs.declared.event.Side.TheVariants.{A, B}
-use Rattle.tcp_pair_model.proofs.PairLaws.{new_is_kept, kept_after}
-use Rattle.tcp_pair_model.proofs.SideLaws.{IsAllowed}
+use Rattle.tcp_model.specs.Blocks.{one_if}
+use Rattle.tcp_tie.specs.Pair.History.{pasts, side_of, adds}
+use Rattle.tcp_tie.specs.Pair.Safe.{IsKept}
+use Rattle.tcp_tie.specs.Pair.Sides.{Both, at, put, other}
+use Rattle.tcp_tie.specs.Pair.Steps.{Steps, refusal, happens, acting, was_opened, if_so}
+use Rattle.tcp_model.specs.Value.{TcpValue, new_socket, room_of}
+use Rattle.tcp_tie.specs.Pair.Values.{PairSide, PairValue, new_pair, past_at, with_segments}
+use Rattle.tcp_tie.specs.declared.pair.event.PairEvent.{PairEvent}
+use Rattle.tcp_tie.specs.declared.pair.event.PairEvent.TheVariants.{Listen, Connect, Send, Recv, Close, Abort, TcpSetting, Offer, Deliver}
+use Rattle.tcp_tie.specs.declared.pair.event.PairRefused.TheVariants.{OpenedTwice, TooManyBytes}
+use Rattle.tcp_tie.specs.declared.pair.event.Side.{Side}
+use Rattle.tcp_tie.specs.declared.pair.event.Side.TheVariants.{A, B}
+use Rattle.tcp_tie.proofs.PairLaws.{new_is_kept, kept_after}
+use Rattle.tcp_tie.proofs.SideLaws.{IsAllowed}
 use Rattle.tcp_progress.specs.Arrivals.{is_synchronized}
 use Rattle.tcp_progress.specs.Exchange.{IsOpen, TookWhatWasSent}
 use Rattle.tcp_progress.specs.Pair.{socket_of}

@@ -17,8 +17,8 @@ use Rattle.tcp_rules.specs.State.{State}
 use Rattle.tcp_rules.specs.State.TheVariants as In
 use Rattle.tcp_rules.specs.States.{is_closed}
 use Rattle.tcp_rules.proofs.OrderSteps.{clash}
-use Rattle.tcp_pair_model.specs.Blocks.{one_if, unacked}
-use Rattle.tcp_pair_model.specs.Value.{TcpValue, queued_in}
+use Rattle.tcp_model.specs.Blocks.{one_if, unacked}
+use Rattle.tcp_model.specs.Value.{TcpValue, queued_in}
 use Rattle.tcp_progress.specs.Arrivals.{is_synchronized}
 use Rattle.tcp_progress.specs.Sent.{unsent_in, sent_in, end_in, size_of, IsBare, IsWithin, text_sent, fin_sent, sent_past, KeepsSent, is_early, SendsAll}
 use Rattle.tcp_progress.proofs.Positions.{IsPlaced, placed, connected_in, same_one}

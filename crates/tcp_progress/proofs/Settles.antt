@@ -9,18 +9,18 @@ use Rattle.tcp_tie.specs.Tie.{Past}
 use Rattle.tcp_rules.specs.RecvError.{RecvError}
 use Rattle.tcp_rules.specs.States.{is_closed, owes_fin, takes_text}
 use Rattle.tcp_rules.proofs.OrderSteps.{clash}
-use Rattle.tcp_pair_model.specs.Block.{Block}
-use Rattle.tcp_pair_model.specs.Blocks.{one_if}
-use Rattle.tcp_pair_model.specs.Calls.{nothing_left, or_count, recv_answer}
-use Rattle.tcp_pair_model.specs.Safe.{IsStreamSafe, read, taken_in, written}
-use Rattle.tcp_pair_model.specs.Sides.{other}
-use Rattle.tcp_pair_model.specs.Steps.{reads}
-use Rattle.tcp_pair_model.specs.Value.{queued_in}
-use Rattle.tcp_pair_model.specs.Values.{PairSide, PairValue}
-use Rattle.tcp_pair_model.specs.declared.event.PairEvent.TheVariants.{Deliver, Offer, Recv}
-use Rattle.tcp_pair_model.specs.declared.event.Side.{Side}
-use Rattle.tcp_pair_model.specs.declared.event.Side.TheVariants.{A, B}
-use Rattle.tcp_pair_model.proofs.PairLaws.{kept_is_safe}
+use Rattle.tcp_model.specs.declared.block.Block.{Block}
+use Rattle.tcp_model.specs.Blocks.{one_if}
+use Rattle.tcp_model.specs.Calls.{nothing_left, or_count, recv_answer}
+use Rattle.tcp_tie.specs.Pair.Safe.{IsStreamSafe, read, taken_in, written}
+use Rattle.tcp_tie.specs.Pair.Sides.{other}
+use Rattle.tcp_tie.specs.Pair.Steps.{reads}
+use Rattle.tcp_model.specs.Value.{queued_in}
+use Rattle.tcp_tie.specs.Pair.Values.{PairSide, PairValue}
+use Rattle.tcp_tie.specs.declared.pair.event.PairEvent.TheVariants.{Deliver, Offer, Recv}
+use Rattle.tcp_tie.specs.declared.pair.event.Side.{Side}
+use Rattle.tcp_tie.specs.declared.pair.event.Side.TheVariants.{A, B}
+use Rattle.tcp_tie.proofs.PairLaws.{kept_is_safe}
 use Rattle.tcp_rules.specs.OpenOffer.{OpenOffer}
 use Rattle.tcp_progress.specs.Pair.{MayReachIn, left_in, next_sent, offered_in, socket_of}
 use Rattle.tcp_progress.specs.Reached.{IsReached}

@@ -24,17 +24,17 @@ use Rattle.tcp_rules.specs.OpenOffer.{OpenOffer}
 use Rattle.tcp_rules.specs.State.{State}
 use Rattle.tcp_rules.specs.State.TheVariants as In
 use Rattle.tcp_rules.specs.States.{is_answering, is_closed, is_listening, sends_syn}
-use Rattle.tcp_pair_model.specs.Arrival.{arrives}
-use Rattle.tcp_pair_model.specs.Block.{Block}
-use Rattle.tcp_pair_model.specs.Blocks.{top}
-use Rattle.tcp_pair_model.specs.Checks.{is_in_window}
-use Rattle.tcp_pair_model.specs.Names.{accepts, accepts_in}
-use Rattle.tcp_pair_model.specs.Offers.{offer_of}
-use Rattle.tcp_pair_model.specs.Retries.{reaches}
-use Rattle.tcp_pair_model.specs.Segments.{next_if_heard, segment_len}
-use Rattle.tcp_pair_model.specs.Settled.{settled}
-use Rattle.tcp_pair_model.specs.Timestamps.{is_outdated, is_stale}
-use Rattle.tcp_pair_model.specs.Value.{TcpValue, Received, free_in}
+use Rattle.tcp_model.specs.Arrival.{arrives}
+use Rattle.tcp_model.specs.declared.block.Block.{Block}
+use Rattle.tcp_model.specs.Blocks.{top}
+use Rattle.tcp_model.specs.Checks.{is_in_window}
+use Rattle.tcp_model.specs.Names.{accepts, accepts_in}
+use Rattle.tcp_model.specs.Offers.{offer_of}
+use Rattle.tcp_model.specs.Retries.{reaches}
+use Rattle.tcp_model.specs.Segments.{next_if_heard, segment_len}
+use Rattle.tcp_model.specs.Settled.{settled}
+use Rattle.tcp_model.specs.Timestamps.{is_outdated, is_stale}
+use Rattle.tcp_model.specs.Value.{TcpValue, Received, free_in}
 use Rattle.tcp_rules.proofs.OrderSteps.{clash}
 use Rattle.tcp_progress.specs.Again.{StartsOver}
 use Rattle.tcp_progress.specs.Clocks.{has_stamps}

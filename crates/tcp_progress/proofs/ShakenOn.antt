@@ -9,16 +9,16 @@ use Rattle.tcp_rules.specs.Moments.{is_due}
 use Rattle.tcp_rules.specs.Offsets.{behind_by}
 use Rattle.tcp_rules.specs.State.TheVariants as In
 use Rattle.tcp_rules.specs.States.{is_closed, is_listening}
-use Rattle.tcp_pair_model.specs.Arrival.{arrives}
-use Rattle.tcp_pair_model.specs.Blocks.{top, unacked}
-use Rattle.tcp_pair_model.specs.Offers.{offer_of, payload_of}
-use Rattle.tcp_pair_model.specs.Retries.{reaches}
-use Rattle.tcp_pair_model.specs.Sides.{at, other}
-use Rattle.tcp_pair_model.specs.Timestamps.{is_stale}
-use Rattle.tcp_pair_model.specs.Value.{TcpValue, queued_in, room_of}
-use Rattle.tcp_pair_model.specs.Values.{PairSide, PairValue, context_at}
-use Rattle.tcp_pair_model.specs.declared.event.Side.{Side}
-use Rattle.tcp_pair_model.specs.declared.event.Side.TheVariants.{A, B}
+use Rattle.tcp_model.specs.Arrival.{arrives}
+use Rattle.tcp_model.specs.Blocks.{top, unacked}
+use Rattle.tcp_model.specs.Offers.{offer_of, payload_of}
+use Rattle.tcp_model.specs.Retries.{reaches}
+use Rattle.tcp_tie.specs.Pair.Sides.{at, other}
+use Rattle.tcp_model.specs.Timestamps.{is_stale}
+use Rattle.tcp_model.specs.Value.{TcpValue, queued_in, room_of}
+use Rattle.tcp_tie.specs.Pair.Values.{PairSide, PairValue, context_at}
+use Rattle.tcp_tie.specs.declared.pair.event.Side.{Side}
+use Rattle.tcp_tie.specs.declared.pair.event.Side.TheVariants.{A, B}
 use Rattle.tcp_progress.specs.Again.{StartsOver}
 use Rattle.tcp_progress.specs.Clocks.{IsTimely}
 use Rattle.tcp_progress.specs.Arrivals.{is_synchronized}

@@ -19,20 +19,20 @@ use Rattle.tcp_rules.specs.States.{is_answering, is_closed, owes_fin, after_ack,
 use Rattle.tcp_model.specs.Opening.{acks_syn, answering, connected, crossed, is_first_syn}
 use Rattle.tcp_model.specs.Settled.{nxt_past_held}
 use Rattle.tcp_model.specs.Timeout.{timeout_restarted}
-use Rattle.tcp_pair_model.specs.Acknowledged.{counted, duplicates_after, names_window, ranges_taken, windowed, state_after_ack}
-use Rattle.tcp_pair_model.specs.Answers.{drawn, answer_for}
-use Rattle.tcp_pair_model.specs.Arrival.{arrives, arrives_in, checked, continued, draws_first, echo_heard, finished, inside, is_void_syn, passed_outside}
-use Rattle.tcp_pair_model.specs.Arrival.{reset_comes, taken, told, with_content}
-use Rattle.tcp_pair_model.specs.Block.{Block}
-use Rattle.tcp_pair_model.specs.Blocks.{unacked}
-use Rattle.tcp_pair_model.specs.Checks.{Check, acknowledgement_check, opening_check, synchronized_check, is_in_window}
-use Rattle.tcp_pair_model.specs.Checks.Check.{Passes, Resets}
-use Rattle.tcp_pair_model.specs.FirstNumbers.{first_number, draws_number}
-use Rattle.tcp_pair_model.specs.Probing.{probe_kept}
-use Rattle.tcp_pair_model.specs.Segments.{rst_reply, segment_len}
-use Rattle.tcp_pair_model.specs.Text.{Texted, texted, with_bytes_at, has_new_text, takes_fin, fin_taken}
-use Rattle.tcp_pair_model.specs.Timestamps.{believed, is_stale, stamp_taken}
-use Rattle.tcp_pair_model.specs.Value.{TcpValue, Arrived, with_block, answered_with, dropped, unoffered, ended, queued_in, free_in, room_of}
+use Rattle.tcp_model.specs.Acknowledged.{counted, duplicates_after, names_window, ranges_taken, windowed, state_after_ack}
+use Rattle.tcp_model.specs.Answers.{drawn, answer_for}
+use Rattle.tcp_model.specs.Arrival.{arrives, arrives_in, checked, continued, draws_first, echo_heard, finished, inside, is_void_syn, passed_outside}
+use Rattle.tcp_model.specs.Arrival.{reset_comes, taken, told, with_content}
+use Rattle.tcp_model.specs.declared.block.Block.{Block}
+use Rattle.tcp_model.specs.Blocks.{unacked}
+use Rattle.tcp_model.specs.Checks.{Check, acknowledgement_check, opening_check, synchronized_check, is_in_window}
+use Rattle.tcp_model.specs.Checks.Check.{Passes, Resets}
+use Rattle.tcp_model.specs.FirstNumbers.{first_number, draws_number}
+use Rattle.tcp_model.specs.Probing.{probe_kept}
+use Rattle.tcp_model.specs.Segments.{rst_reply, segment_len}
+use Rattle.tcp_model.specs.Text.{Texted, texted, with_bytes_at, has_new_text, takes_fin, fin_taken}
+use Rattle.tcp_model.specs.Timestamps.{believed, is_stale, stamp_taken}
+use Rattle.tcp_model.specs.Value.{TcpValue, Arrived, with_block, answered_with, dropped, unoffered, ended, queued_in, free_in, room_of}
 use Rattle.tcp_tie.proofs.Tied.{if_so, if_not}
 use Rattle.tcp_rules.proofs.ArrivalCases.{acked_cases, acked_open}
 use Rattle.tcp_rules.proofs.OrderSteps.{clash}

@@ -1,7 +1,7 @@
 -- How far past SND.UNA a segment ends, in numbers: within the partner's buffer, with the SYN and the FIN.
 use Rattle.std.proofs.Common.{◌≡◌, ℕ, suc, ◌+◌, ◌-◌, ◌≤◌, ◌==◌, min, max, Bool, true, false, if◌then◌else◌, arith}
 use Rattle.std.proofs.lemmas.Bool.{cond_both}
-use Rattle.tcp_pair_model.specs.Blocks.{one_if}
+use Rattle.tcp_model.specs.Blocks.{one_if}
 
 -- WHAT WAS SENT
 

@@ -29,18 +29,18 @@ use Rattle.tcp_model.specs.declared.block.CongestionControl.{CongestionControl}
 use Rattle.tcp_model.specs.declared.block.CongestionControl.TheVariants as Congestion
 use Rattle.tcp_model.specs.declared.block.Loss.{Loss}
 use Rattle.tcp_model.specs.Undo.{undo_sent}
-use Rattle.tcp_pair_model.specs.Block.{Block}
-use Rattle.tcp_pair_model.specs.Blocks.{past_top}
-use Rattle.tcp_pair_model.specs.LossRecovery.{fills_hole, goes_early, loss_probe_moment, loss_probed, loss_probed_by, pipe, probe_armed, probe_from}
-use Rattle.tcp_pair_model.specs.LossRecovery.{probes_losses}
-use Rattle.tcp_pair_model.specs.Offers.{backed_off, first_rules, last_rules, number_at, offer_choice, offer_of, offer_segment, offer_syn}
-use Rattle.tcp_pair_model.specs.Probing.{probe_started}
-use Rattle.tcp_pair_model.specs.Retries.{asked, one_more}
-use Rattle.tcp_pair_model.specs.Rules.{Choice, backed_off_now, beyond, congestion_room, control_for, has_text, next_place, owes_syn, probe_choice}
-use Rattle.tcp_pair_model.specs.Rules.{resend_choice, resends, resends_beside, size_limit, text_choice}
-use Rattle.tcp_pair_model.specs.Segments.{ack_segment, hops_of, keep_alive_segment, segment, segment_len}
-use Rattle.tcp_pair_model.specs.Settled.{end_of, nxt_moved, probed, recorded, resent, settled, timer_started, went}
-use Rattle.tcp_pair_model.specs.Value.{TcpValue, queued_in, room_of, unoffered, window_of, with_block}
+use Rattle.tcp_model.specs.declared.block.Block.{Block}
+use Rattle.tcp_model.specs.Blocks.{past_top}
+use Rattle.tcp_model.specs.LossRecovery.{fills_hole, goes_early, loss_probe_moment, loss_probed, loss_probed_by, pipe, probe_armed, probe_from}
+use Rattle.tcp_model.specs.LossRecovery.{probes_losses}
+use Rattle.tcp_model.specs.Offers.{backed_off, first_rules, last_rules, number_at, offer_choice, offer_of, offer_segment, offer_syn}
+use Rattle.tcp_model.specs.Probing.{probe_started}
+use Rattle.tcp_model.specs.Retries.{asked, one_more}
+use Rattle.tcp_model.specs.Rules.{Choice, backed_off_now, beyond, congestion_room, control_for, has_text, next_place, owes_syn, probe_choice}
+use Rattle.tcp_model.specs.Rules.{resend_choice, resends, resends_beside, size_limit, text_choice}
+use Rattle.tcp_model.specs.Segments.{ack_segment, hops_of, keep_alive_segment, segment, segment_len}
+use Rattle.tcp_model.specs.Settled.{end_of, nxt_moved, probed, recorded, resent, settled, timer_started, went}
+use Rattle.tcp_model.specs.Value.{TcpValue, queued_in, room_of, unoffered, window_of, with_block}
 use Rattle.tcp_progress.specs.Exchange.{text_of}
 use Rattle.tcp_progress.proofs.Held.{at_una, full, len_is, most_of, widest}
 use Rattle.tcp_progress.proofs.Resumes.{Starts, StartsWith, idles, neither, no_hole, no_probe, no_syn, none_early, to_rules}

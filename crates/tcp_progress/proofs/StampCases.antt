@@ -21,17 +21,17 @@ use Rattle.tcp_rules.specs.OpenOffer.{OpenOffer}
 use Rattle.tcp_rules.specs.States.{is_closed}
 use Rattle.tcp_rules.proofs.ArrivalCases.{by_arrival, Received, Opening, Content, Drawing, acked_open, heeded, timed}
 use Rattle.tcp_rules.proofs.OfferCases.{FirstRules, by_rules, begun, probing}
-use Rattle.tcp_pair_model.specs.Acknowledged.{windowed}
-use Rattle.tcp_pair_model.specs.Arrival.{arrives, waiting_anew}
-use Rattle.tcp_pair_model.specs.Block.{Block}
-use Rattle.tcp_pair_model.specs.LossRecovery.{loss_probed}
-use Rattle.tcp_pair_model.specs.Offers.{number_at, offer_of}
-use Rattle.tcp_pair_model.specs.Retries.{asked, heard, one_more}
-use Rattle.tcp_pair_model.specs.Rules.{backed_off_now, control_for, probe_choice}
-use Rattle.tcp_pair_model.specs.Segments.{hops_of, keep_alive_segment, segment, stamp_by, stamp_of}
-use Rattle.tcp_pair_model.specs.Settled.{end_of, probed, recorded, settled}
-use Rattle.tcp_pair_model.specs.Timestamps.{generator_of, names_recent, stamp_taken, stamps_begun, value_by}
-use Rattle.tcp_pair_model.specs.Value.{TcpValue, Arrived, queued_in, room_of, unoffered, window_of, with_block}
+use Rattle.tcp_model.specs.Acknowledged.{windowed}
+use Rattle.tcp_model.specs.Arrival.{arrives, waiting_anew}
+use Rattle.tcp_model.specs.declared.block.Block.{Block}
+use Rattle.tcp_model.specs.LossRecovery.{loss_probed}
+use Rattle.tcp_model.specs.Offers.{number_at, offer_of}
+use Rattle.tcp_model.specs.Retries.{asked, heard, one_more}
+use Rattle.tcp_model.specs.Rules.{backed_off_now, control_for, probe_choice}
+use Rattle.tcp_model.specs.Segments.{hops_of, keep_alive_segment, segment, stamp_by, stamp_of}
+use Rattle.tcp_model.specs.Settled.{end_of, probed, recorded, settled}
+use Rattle.tcp_model.specs.Timestamps.{generator_of, names_recent, stamp_taken, stamps_begun, value_by}
+use Rattle.tcp_model.specs.Value.{TcpValue, Arrived, queued_in, room_of, unoffered, window_of, with_block}
 use Rattle.tcp_progress.proofs.Stampless.{stamp_in}
 
 -- WHAT A SOCKET HAS OF TIMESTAMPS

@@ -24,26 +24,26 @@ use Rattle.tcp_rules.specs.State.{State}
 use Rattle.tcp_rules.specs.State.TheVariants as In
 use Rattle.tcp_rules.specs.States.{after_close, is_closed, is_opening, is_time_wait, takes_writes}
 use Rattle.tcp_rules.proofs.OrderSteps.{clash}
-use Rattle.tcp_pair_model.specs.Arrival.{arrives}
-use Rattle.tcp_pair_model.specs.Calls.{connect_after, connected_by, listen_after, listening, pair_for, recv_answer, send_after, send_answer, sent_more}
-use Rattle.tcp_pair_model.specs.Calls.{abort_after, close_after}
-use Rattle.tcp_pair_model.specs.FirstNumbers.{number_for}
-use Rattle.tcp_pair_model.specs.History.{adds, recv_adds, send_adds}
-use Rattle.tcp_pair_model.specs.Names.{accepts}
-use Rattle.tcp_pair_model.specs.Offers.{offer_of, payload_of}
-use Rattle.tcp_pair_model.specs.Sides.{other}
-use Rattle.tcp_pair_model.specs.Steps.{acts, handed, reads, send_says, set_by, taken_at}
-use Rattle.tcp_pair_model.specs.Value.{TcpValue, Arrived, ended, unoffered, with_block}
-use Rattle.tcp_pair_model.specs.Values.{PairSide, and_offer, and_reply, context_at}
-use Rattle.tcp_pair_model.specs.declared.event.PairAnswer.{PairAnswer}
-use Rattle.tcp_pair_model.specs.declared.event.PairAnswer.TheVariants.{Done, Count, Bytes, Error}
-use Rattle.tcp_pair_model.specs.declared.event.PairEvent.{PairEvent}
-use Rattle.tcp_pair_model.specs.declared.event.PairEvent.TheVariants.{Listen, Connect, Send, Recv, Close, Abort, TcpSetting, Offer, Deliver}
-use Rattle.tcp_pair_model.specs.declared.event.SentSegment.{SentSegment}
-use Rattle.tcp_pair_model.specs.declared.event.Side.{Side}
-use Rattle.tcp_pair_model.specs.declared.event.TcpSetting.{TcpSetting as Setting}
-use Rattle.tcp_pair_model.specs.declared.event.TcpSetting.TheVariants as Set
-use Rattle.tcp_pair_model.proofs.SideLaws.{IsAllowed}
+use Rattle.tcp_model.specs.Arrival.{arrives}
+use Rattle.tcp_model.specs.Calls.{connect_after, connected_by, listen_after, listening, pair_for, recv_answer, send_after, send_answer, sent_more}
+use Rattle.tcp_model.specs.Calls.{abort_after, close_after}
+use Rattle.tcp_model.specs.FirstNumbers.{number_for}
+use Rattle.tcp_tie.specs.Pair.History.{adds, recv_adds, send_adds}
+use Rattle.tcp_model.specs.Names.{accepts}
+use Rattle.tcp_model.specs.Offers.{offer_of, payload_of}
+use Rattle.tcp_tie.specs.Pair.Sides.{other}
+use Rattle.tcp_tie.specs.Pair.Steps.{acts, handed, reads, send_says, set_by, taken_at}
+use Rattle.tcp_model.specs.Value.{TcpValue, Arrived, ended, unoffered, with_block}
+use Rattle.tcp_tie.specs.Pair.Values.{PairSide, and_offer, and_reply, context_at}
+use Rattle.tcp_tie.specs.declared.pair.event.PairAnswer.{PairAnswer}
+use Rattle.tcp_tie.specs.declared.pair.event.PairAnswer.TheVariants.{Done, Count, Bytes, Error}
+use Rattle.tcp_tie.specs.declared.pair.event.PairEvent.{PairEvent}
+use Rattle.tcp_tie.specs.declared.pair.event.PairEvent.TheVariants.{Listen, Connect, Send, Recv, Close, Abort, TcpSetting, Offer, Deliver}
+use Rattle.tcp_tie.specs.declared.pair.event.SentSegment.{SentSegment}
+use Rattle.tcp_tie.specs.declared.pair.event.Side.{Side}
+use Rattle.tcp_tie.specs.declared.pair.event.TcpSetting.{TcpSetting as Setting}
+use Rattle.tcp_tie.specs.declared.pair.event.TcpSetting.TheVariants as Set
+use Rattle.tcp_tie.proofs.SideLaws.{IsAllowed}
 use Rattle.tcp_progress.specs.Clocks.{KeepsTime, WasShown}
 use Rattle.tcp_progress.proofs.Moments.{GoesOn}
 use Rattle.tcp_progress.proofs.StampCases.{Goes, IsOwn, Leaves, OfOffered, Recent, anew, arrival_hears, offer_asks, stamping_of, still}

@@ -14,20 +14,20 @@ use Rattle.tcp_rules.specs.OpenOffer.{OpenOffer}
 use Rattle.tcp_rules.specs.Reply.{Reply}
 use Rattle.tcp_rules.specs.States.{is_closed}
 use Rattle.tcp_rules.proofs.OrderSteps.{clash}
-use Rattle.tcp_pair_model.specs.Arrival.{arrives}
-use Rattle.tcp_pair_model.specs.Block.{Block}
-use Rattle.tcp_pair_model.specs.History.{adds, pasts, side_of}
-use Rattle.tcp_pair_model.specs.Offers.{offer_of}
-use Rattle.tcp_pair_model.specs.Sides.{Both, at, other, put}
-use Rattle.tcp_pair_model.specs.Steps.{Steps, acts, happens, refusal}
-use Rattle.tcp_pair_model.specs.Timestamps.{is_older}
-use Rattle.tcp_pair_model.specs.Value.{new_socket}
-use Rattle.tcp_pair_model.specs.Values.{PairSide, PairValue, context_at, new_pair, past_at}
-use Rattle.tcp_pair_model.specs.declared.event.PairEvent.{PairEvent}
-use Rattle.tcp_pair_model.specs.declared.event.PairEvent.TheVariants.{Offer}
-use Rattle.tcp_pair_model.specs.declared.event.Side.{Side}
-use Rattle.tcp_pair_model.specs.declared.event.Side.TheVariants.{A, B}
-use Rattle.tcp_pair_model.proofs.SideLaws.{IsAllowed}
+use Rattle.tcp_model.specs.Arrival.{arrives}
+use Rattle.tcp_model.specs.declared.block.Block.{Block}
+use Rattle.tcp_tie.specs.Pair.History.{adds, pasts, side_of}
+use Rattle.tcp_model.specs.Offers.{offer_of}
+use Rattle.tcp_tie.specs.Pair.Sides.{Both, at, other, put}
+use Rattle.tcp_tie.specs.Pair.Steps.{Steps, acts, happens, refusal}
+use Rattle.tcp_model.specs.Timestamps.{is_older}
+use Rattle.tcp_model.specs.Value.{new_socket}
+use Rattle.tcp_tie.specs.Pair.Values.{PairSide, PairValue, context_at, new_pair, past_at}
+use Rattle.tcp_tie.specs.declared.pair.event.PairEvent.{PairEvent}
+use Rattle.tcp_tie.specs.declared.pair.event.PairEvent.TheVariants.{Offer}
+use Rattle.tcp_tie.specs.declared.pair.event.Side.{Side}
+use Rattle.tcp_tie.specs.declared.pair.event.Side.TheVariants.{A, B}
+use Rattle.tcp_tie.proofs.SideLaws.{IsAllowed}
 use Rattle.tcp_progress.specs.Clocks.{HasDays, IsTimed, KeepsTime, WasShown, comes_stale}
 use Rattle.tcp_progress.specs.Pair.{context_of, socket_of}
 use Rattle.tcp_progress.specs.Reached.{IsReached}

@@ -2,7 +2,7 @@
 use Rattle.std.proofs.Common.{◌≡◌, ◌&&◌, Bool, true, false, Option, Some, None, refl, sym, ap, ◌∙◌}
 use Rattle.ip_wire.specs.TcpTimestampRepr.{TcpTimestampRepr}
 use Rattle.tcp_rules.specs.Reply.{Reply}
-use Rattle.tcp_pair_model.specs.Block.{Block}
+use Rattle.tcp_model.specs.declared.block.Block.{Block}
 use Rattle.tcp_progress.specs.Clocks.{comes_stale}
 
 abbrev pub stamp_in : Option Reply → Option TcpTimestampRepr

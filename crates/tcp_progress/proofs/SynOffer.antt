@@ -21,14 +21,14 @@ use Rattle.tcp_rules.specs.OfferKind.TheVariants as Kind
 use Rattle.tcp_rules.specs.OpenOffer.{OpenOffer}
 use Rattle.tcp_rules.specs.State.{State}
 use Rattle.tcp_rules.specs.States.{is_answering, sends_syn}
-use Rattle.tcp_pair_model.specs.Block.{Block}
-use Rattle.tcp_pair_model.specs.LossRecovery.{loss_probed}
-use Rattle.tcp_pair_model.specs.Offers.{offer_of, offer_syn, payload_of}
-use Rattle.tcp_pair_model.specs.Rules.{owes_syn, backed_off_now}
-use Rattle.tcp_pair_model.specs.Segments.{hops_of, mss_for, next_if_heard, stamp_by, syn_segment}
-use Rattle.tcp_pair_model.specs.Settled.{recorded, settled}
-use Rattle.tcp_pair_model.specs.Timestamps.{generator_of, stamps_begun, value_by}
-use Rattle.tcp_pair_model.specs.Value.{TcpValue, with_block, unoffered, free_in, room_of}
+use Rattle.tcp_model.specs.declared.block.Block.{Block}
+use Rattle.tcp_model.specs.LossRecovery.{loss_probed}
+use Rattle.tcp_model.specs.Offers.{offer_of, offer_syn, payload_of}
+use Rattle.tcp_model.specs.Rules.{owes_syn, backed_off_now}
+use Rattle.tcp_model.specs.Segments.{hops_of, mss_for, next_if_heard, stamp_by, syn_segment}
+use Rattle.tcp_model.specs.Settled.{recorded, settled}
+use Rattle.tcp_model.specs.Timestamps.{generator_of, stamps_begun, value_by}
+use Rattle.tcp_model.specs.Value.{TcpValue, with_block, unoffered, free_in, room_of}
 use Rattle.tcp_rules.proofs.OfferCases.{FirstRules, by_rules, begun}
 use Rattle.tcp_rules.proofs.OrderSteps.{clash}
 use Rattle.tcp_progress.specs.Again.{StartsOver}

@@ -18,20 +18,20 @@ use Rattle.tcp_rules.specs.States.{is_closed, takes_text, after_ack, after_ack_o
 use Rattle.tcp_rules.specs.State.{State}
 use Rattle.tcp_rules.specs.State.TheVariants as In
 use Rattle.tcp_law.specs.ReceiveMap.{store, front}
-use Rattle.tcp_pair_model.specs.Acknowledged.{acknowledged, acks_fin, state_after_ack, names_window, windowed, duplicates_after}
-use Rattle.tcp_pair_model.specs.Answers.{drawn, may_draw, with_draw, acked, answer_for, delayed, sooner, ack_moment_after}
-use Rattle.tcp_pair_model.specs.Arrival.{arrives, checked, inside, taken, continued, told, with_content, finished, passed_outside}
-use Rattle.tcp_pair_model.specs.Arrival.{outside, tells_news, has_length, waiting_anew}
-use Rattle.tcp_pair_model.specs.Checks.{is_in_window, lies_before}
-use Rattle.tcp_pair_model.specs.Checks.Check.{Passes}
-use Rattle.tcp_pair_model.specs.Probing.{probe_kept}
-use Rattle.tcp_pair_model.specs.Segments.{no_ranges, segment_len, reply_to, sack_segment, hops_of}
+use Rattle.tcp_model.specs.Acknowledged.{acknowledged, acks_fin, state_after_ack, names_window, windowed, duplicates_after}
+use Rattle.tcp_model.specs.Answers.{drawn, may_draw, with_draw, acked, answer_for, delayed, sooner, ack_moment_after}
+use Rattle.tcp_model.specs.Arrival.{arrives, checked, inside, taken, continued, told, with_content, finished, passed_outside}
+use Rattle.tcp_model.specs.Arrival.{outside, tells_news, has_length, waiting_anew}
+use Rattle.tcp_model.specs.Checks.{is_in_window, lies_before}
+use Rattle.tcp_model.specs.Checks.Check.{Passes}
+use Rattle.tcp_model.specs.Probing.{probe_kept}
+use Rattle.tcp_model.specs.Segments.{no_ranges, segment_len, reply_to, sack_segment, hops_of}
 use Rattle.tcp_rules.specs.Endpoints.{pair_in}
-use Rattle.tcp_pair_model.specs.Text.{Texted, texted, with_text, with_text_at, with_bytes_at, taken_in_order, is_holding}
-use Rattle.tcp_pair_model.specs.Text.{laid, has_new_text, takes_fin, fin_taken}
-use Rattle.tcp_pair_model.specs.Value.{TcpValue, Received, Arrived, with_block, dropped, unoffered, queued_in, free_in, room_of, window_of}
-use Rattle.tcp_pair_model.specs.Block.{Block}
-use Rattle.tcp_pair_model.specs.Receiver.{Receiver}
+use Rattle.tcp_model.specs.Text.{Texted, texted, with_text, with_text_at, with_bytes_at, taken_in_order, is_holding}
+use Rattle.tcp_model.specs.Text.{laid, has_new_text, takes_fin, fin_taken}
+use Rattle.tcp_model.specs.Value.{TcpValue, Received, Arrived, with_block, dropped, unoffered, queued_in, free_in, room_of, window_of}
+use Rattle.tcp_model.specs.declared.block.Block.{Block}
+use Rattle.tcp_model.specs.declared.block.Receiver.{Receiver}
 use Rattle.tcp_tie.proofs.Tied.{if_so, if_not}
 use Rattle.tcp_rules.proofs.ArrivalCases.{acked_cases, acked_open, heeded}
 use Rattle.tcp_rules.proofs.OrderSteps.{clash}

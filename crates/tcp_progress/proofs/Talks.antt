@@ -11,21 +11,21 @@ use Rattle.tcp_model.specs.Timeout.{end_by, timeout_end, waits_for_remote}
 use Rattle.tcp_rules.specs.State.{State}
 use Rattle.tcp_rules.specs.State.TheVariants as In
 use Rattle.tcp_rules.specs.States.{is_closed, is_time_wait, sends_text}
-use Rattle.tcp_pair_model.specs.Block.{Block}
-use Rattle.tcp_pair_model.specs.Offers.{offer_of}
-use Rattle.tcp_pair_model.specs.Probing.{is_probing, probe_moment}
-use Rattle.tcp_pair_model.specs.Retries.{gives_up}
-use Rattle.tcp_pair_model.specs.Rules.{has_text, resends, time_wait_end}
+use Rattle.tcp_model.specs.declared.block.Block.{Block}
+use Rattle.tcp_model.specs.Offers.{offer_of}
+use Rattle.tcp_model.specs.Probing.{is_probing, probe_moment}
+use Rattle.tcp_model.specs.Retries.{gives_up}
+use Rattle.tcp_model.specs.Rules.{has_text, resends, time_wait_end}
 use Rattle.tcp_rules.specs.EndpointPair.{EndpointPair}
 use Rattle.tcp_rules.specs.Names.{Names}
 use Rattle.net_base.specs.Ring.{Ring}
-use Rattle.tcp_pair_model.specs.Blocks.{one_if}
-use Rattle.tcp_pair_model.specs.Safe.{taken_in as taken_list, written}
-use Rattle.tcp_pair_model.specs.Sides.{at, other}
-use Rattle.tcp_pair_model.specs.Value.{TcpValue, free_in, queued_in, room_of}
-use Rattle.tcp_pair_model.specs.Values.{PairValue, context_at, past_at}
-use Rattle.tcp_pair_model.specs.declared.event.Side.{Side}
-use Rattle.tcp_pair_model.specs.declared.event.Side.TheVariants.{A, B}
+use Rattle.tcp_model.specs.Blocks.{one_if}
+use Rattle.tcp_tie.specs.Pair.Safe.{taken_in as taken_list, written}
+use Rattle.tcp_tie.specs.Pair.Sides.{at, other}
+use Rattle.tcp_model.specs.Value.{TcpValue, free_in, queued_in, room_of}
+use Rattle.tcp_tie.specs.Pair.Values.{PairValue, context_at, past_at}
+use Rattle.tcp_tie.specs.declared.pair.event.Side.{Side}
+use Rattle.tcp_tie.specs.declared.pair.event.Side.TheVariants.{A, B}
 use Rattle.tcp_progress.specs.Again.{StartsOver}
 use Rattle.tcp_progress.specs.Arrivals.{is_synchronized}
 use Rattle.tcp_progress.specs.BothWays.{AreThere, IsThrough, MayAsk, MayRounds, MayTurn, bound, is_over, roused_in, rounds_in, turn_in, waits_in, wake_in}

@@ -14,15 +14,15 @@ use Rattle.tcp_rules.specs.OpenOffer.{OpenOffer}
 use Rattle.tcp_rules.specs.State.TheVariants as In
 use Rattle.tcp_rules.specs.States.{is_closed, is_listening}
 use Rattle.tcp_rules.specs.Timing.{carries}
-use Rattle.tcp_pair_model.specs.Arrival.{arrives}
-use Rattle.tcp_pair_model.specs.Offers.{offer_of, payload_of}
-use Rattle.tcp_pair_model.specs.Segments.{segment_len}
-use Rattle.tcp_pair_model.specs.Sides.{other}
-use Rattle.tcp_pair_model.specs.Timestamps.{generator_of, is_outdated, is_stale}
-use Rattle.tcp_pair_model.specs.Value.{TcpValue, free_in}
-use Rattle.tcp_pair_model.specs.Values.{PairSide, PairValue, context_at}
-use Rattle.tcp_pair_model.specs.declared.event.Side.{Side}
-use Rattle.tcp_pair_model.specs.declared.event.Side.TheVariants.{A, B}
+use Rattle.tcp_model.specs.Arrival.{arrives}
+use Rattle.tcp_model.specs.Offers.{offer_of, payload_of}
+use Rattle.tcp_model.specs.Segments.{segment_len}
+use Rattle.tcp_tie.specs.Pair.Sides.{other}
+use Rattle.tcp_model.specs.Timestamps.{generator_of, is_outdated, is_stale}
+use Rattle.tcp_model.specs.Value.{TcpValue, free_in}
+use Rattle.tcp_tie.specs.Pair.Values.{PairSide, PairValue, context_at}
+use Rattle.tcp_tie.specs.declared.pair.event.Side.{Side}
+use Rattle.tcp_tie.specs.declared.pair.event.Side.TheVariants.{A, B}
 use Rattle.tcp_progress.specs.Again.{StartsOver}
 use Rattle.tcp_progress.specs.Arrivals.{is_synchronized}
 use Rattle.tcp_progress.specs.Clocks.{IsTimely, has_stamps}

@@ -1,19 +1,19 @@
 -- An acknowledgement that opens the other's connection isn't too old to it.
 use Rattle.std.proofs.Common.{◌≡◌, ◌&&◌, ℤ, Bool, true, false, List, ℕ, Some, refl}
-use Rattle.tcp_pair_model.specs.declared.event.Side.TheVariants.{A, B}
+use Rattle.tcp_tie.specs.declared.pair.event.Side.TheVariants.{A, B}
 use Rattle.ip_wire.specs.IpRepr.{IpRepr}
 use Rattle.ip_wire.specs.TcpHeader.{TcpHeader}
 use Rattle.tcp_rules.specs.OpenOffer.{OpenOffer}
 use Rattle.tcp_rules.specs.Reply.{Reply}
-use Rattle.tcp_pair_model.specs.Arrival.{arrives}
-use Rattle.tcp_pair_model.specs.Block.{Block}
-use Rattle.tcp_pair_model.specs.Offers.{offer_of}
-use Rattle.tcp_pair_model.specs.Sides.{at, other}
-use Rattle.tcp_pair_model.specs.Steps.{refusal}
-use Rattle.tcp_pair_model.specs.Timestamps.{comes_older, is_believed, is_stale}
-use Rattle.tcp_pair_model.specs.Values.{PairValue, context_at}
-use Rattle.tcp_pair_model.specs.declared.event.PairEvent.TheVariants.{Offer}
-use Rattle.tcp_pair_model.specs.declared.event.Side.{Side}
+use Rattle.tcp_model.specs.Arrival.{arrives}
+use Rattle.tcp_model.specs.declared.block.Block.{Block}
+use Rattle.tcp_model.specs.Offers.{offer_of}
+use Rattle.tcp_tie.specs.Pair.Sides.{at, other}
+use Rattle.tcp_tie.specs.Pair.Steps.{refusal}
+use Rattle.tcp_model.specs.Timestamps.{comes_older, is_believed, is_stale}
+use Rattle.tcp_tie.specs.Pair.Values.{PairValue, context_at}
+use Rattle.tcp_tie.specs.declared.pair.event.PairEvent.TheVariants.{Offer}
+use Rattle.tcp_tie.specs.declared.pair.event.Side.{Side}
 use Rattle.std.proofs.Common.{[], ◌∷◌, None, is_some}
 use Rattle.tcp_progress.specs.Clocks.{HasDays, comes_stale}
 use Rattle.tcp_progress.specs.Pair.{context_of, offered_in, socket_of}

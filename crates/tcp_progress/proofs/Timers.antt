@@ -19,23 +19,23 @@ use Rattle.tcp_rules.specs.OfferKind.TheVariants as Kind
 use Rattle.tcp_rules.specs.OpenOffer.{OpenOffer}
 use Rattle.tcp_rules.specs.State.TheVariants as In
 use Rattle.tcp_rules.specs.States.{is_closed, is_opening, is_time_wait, takes_writes, after_close}
-use Rattle.tcp_pair_model.specs.Acknowledged.{round_trip_after, una_moved, windowed, acks_own_syn, is_blind}
-use Rattle.tcp_pair_model.specs.Arrival.{arrives, waiting_anew}
-use Rattle.tcp_pair_model.specs.Block.{Block}
-use Rattle.tcp_pair_model.specs.Blocks.{fresh_block}
-use Rattle.tcp_pair_model.specs.Calls.{listening, connected_by, pair_for, sent_more}
-use Rattle.tcp_pair_model.specs.FirstNumbers.{number_for}
-use Rattle.tcp_pair_model.specs.LossRecovery.{is_first_lost, loss_probed}
-use Rattle.tcp_pair_model.specs.Offers.{number_at, offer_choice, offer_of, offer_segment}
-use Rattle.tcp_pair_model.specs.Retries.{heard, asked, one_more}
-use Rattle.tcp_pair_model.specs.Probing.{is_probe_unset, is_probing, probe_kept, probe_started}
-use Rattle.tcp_pair_model.specs.Rules.{Choice, backed_off_now, control_for, probe_choice, resend_choice, text_choice}
-use Rattle.tcp_pair_model.specs.Segments.{ack_segment, hops_of, keep_alive_segment, reset_segment, segment, syn_segment}
-use Rattle.tcp_pair_model.specs.Text.{fin_taken, taken_in_order}
-use Rattle.tcp_pair_model.specs.Settled.{end_of, loss_watched, nxt_moved, probed, recorded, resent, sent_as, settled, syn_went, timer_started, went}
-use Rattle.tcp_pair_model.specs.Timestamps.{echo_of, echo_taken, stamp_taken, timed_by, timed_with}
-use Rattle.tcp_pair_model.specs.Undone.{undone}
-use Rattle.tcp_pair_model.specs.Value.{TcpValue, Arrived, with_block, unoffered, ended, free_in, new_socket, queued_in, room_of, window_of}
+use Rattle.tcp_model.specs.Acknowledged.{round_trip_after, una_moved, windowed, acks_own_syn, is_blind}
+use Rattle.tcp_model.specs.Arrival.{arrives, waiting_anew}
+use Rattle.tcp_model.specs.declared.block.Block.{Block}
+use Rattle.tcp_model.specs.Blocks.{fresh_block}
+use Rattle.tcp_model.specs.Calls.{listening, connected_by, pair_for, sent_more}
+use Rattle.tcp_model.specs.FirstNumbers.{number_for}
+use Rattle.tcp_model.specs.LossRecovery.{is_first_lost, loss_probed}
+use Rattle.tcp_model.specs.Offers.{number_at, offer_choice, offer_of, offer_segment}
+use Rattle.tcp_model.specs.Retries.{heard, asked, one_more}
+use Rattle.tcp_model.specs.Probing.{is_probe_unset, is_probing, probe_kept, probe_started}
+use Rattle.tcp_model.specs.Rules.{Choice, backed_off_now, control_for, probe_choice, resend_choice, text_choice}
+use Rattle.tcp_model.specs.Segments.{ack_segment, hops_of, keep_alive_segment, reset_segment, segment, syn_segment}
+use Rattle.tcp_model.specs.Text.{fin_taken, taken_in_order}
+use Rattle.tcp_model.specs.Settled.{end_of, loss_watched, nxt_moved, probed, recorded, resent, sent_as, settled, syn_went, timer_started, went}
+use Rattle.tcp_model.specs.Timestamps.{echo_of, echo_taken, stamp_taken, timed_by, timed_with}
+use Rattle.tcp_model.specs.Undone.{undone}
+use Rattle.tcp_model.specs.Value.{TcpValue, Arrived, with_block, unoffered, ended, free_in, new_socket, queued_in, room_of, window_of}
 use Rattle.tcp_model.specs.Opening.{took_syn}
 use Rattle.tcp_rules.specs.Events.{Event, after}
 use Rattle.tcp_rules.specs.Events.Event.{Comes, Asked, Listens, Connects, Sends, Reads, Closes, Aborts, Sets}

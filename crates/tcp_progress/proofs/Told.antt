@@ -18,20 +18,20 @@ use Rattle.tcp_rules.proofs.ArrivalCases.{acked_cases, acked_open}
 use Rattle.tcp_rules.proofs.OrderSteps.{clash}
 use Rattle.tcp_model.specs.Settled.{nxt_past_held}
 use Rattle.tcp_model.specs.Timeout.{timeout_restarted}
-use Rattle.tcp_pair_model.specs.Acknowledged.{counted, duplicates_after, names_window, ranges_taken, windowed, state_after_ack}
-use Rattle.tcp_pair_model.specs.Answers.{answer_for, drawn}
-use Rattle.tcp_pair_model.specs.Arrival.{arrives, arrives_in, checked, continued, draws_first, echo_heard, inside, is_void_syn, passed_outside, reset_comes}
-use Rattle.tcp_pair_model.specs.Arrival.{taken, told, with_content}
-use Rattle.tcp_pair_model.specs.Block.{Block}
-use Rattle.tcp_pair_model.specs.Blocks.{unacked}
-use Rattle.tcp_pair_model.specs.Checks.{Check, acknowledgement_check, is_in_window, opening_check, synchronized_check}
-use Rattle.tcp_pair_model.specs.Checks.Check.{Passes, Resets}
-use Rattle.tcp_pair_model.specs.Probing.{probe_kept}
-use Rattle.tcp_pair_model.specs.Segments.{segment_len}
-use Rattle.tcp_pair_model.specs.Sender.{Sender}
-use Rattle.tcp_pair_model.specs.Text.{Texted, fin_taken, has_new_text, held_early, laid, taken_in_order, takes_fin, texted, with_bytes_at, with_fin, with_text}
-use Rattle.tcp_pair_model.specs.Timestamps.{is_stale, stamp_taken}
-use Rattle.tcp_pair_model.specs.Value.{Arrived, Received, TcpValue, dropped, free_in, queued_in, received_of, unoffered, with_block}
+use Rattle.tcp_model.specs.Acknowledged.{counted, duplicates_after, names_window, ranges_taken, windowed, state_after_ack}
+use Rattle.tcp_model.specs.Answers.{answer_for, drawn}
+use Rattle.tcp_model.specs.Arrival.{arrives, arrives_in, checked, continued, draws_first, echo_heard, inside, is_void_syn, passed_outside, reset_comes}
+use Rattle.tcp_model.specs.Arrival.{taken, told, with_content}
+use Rattle.tcp_model.specs.declared.block.Block.{Block}
+use Rattle.tcp_model.specs.Blocks.{unacked}
+use Rattle.tcp_model.specs.Checks.{Check, acknowledgement_check, is_in_window, opening_check, synchronized_check}
+use Rattle.tcp_model.specs.Checks.Check.{Passes, Resets}
+use Rattle.tcp_model.specs.Probing.{probe_kept}
+use Rattle.tcp_model.specs.Segments.{segment_len}
+use Rattle.tcp_model.specs.declared.block.Sender.{Sender}
+use Rattle.tcp_model.specs.Text.{Texted, fin_taken, has_new_text, held_early, laid, taken_in_order, takes_fin, texted, with_bytes_at, with_fin, with_text}
+use Rattle.tcp_model.specs.Timestamps.{is_stale, stamp_taken}
+use Rattle.tcp_model.specs.Value.{Arrived, Received, TcpValue, dropped, free_in, queued_in, received_of, unoffered, with_block}
 use Rattle.tcp_progress.specs.Arrivals.{Rises, is_synchronized}
 use Rattle.tcp_progress.proofs.Acked.{content_keeps}
 use Rattle.tcp_progress.proofs.Taken.{Begins, begins, content_rises}

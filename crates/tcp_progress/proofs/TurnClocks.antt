@@ -7,16 +7,16 @@ use Rattle.net_base.specs.Time.{last_moment}
 use Rattle.tcp_rules.specs.Moments.{is_due, stamp_end_from}
 use Rattle.tcp_rules.specs.RecvError.{RecvError}
 use Rattle.tcp_rules.proofs.OrderSteps.{clash}
-use Rattle.tcp_pair_model.specs.Calls.{recv_answer}
-use Rattle.tcp_pair_model.specs.Probing.{probe_moment}
-use Rattle.tcp_pair_model.specs.Sides.{other}
-use Rattle.tcp_pair_model.specs.Steps.{if_so, may_come, reads, refusal}
-use Rattle.tcp_pair_model.specs.Value.{queued_in}
-use Rattle.tcp_pair_model.specs.Values.{PairSide, PairValue}
-use Rattle.tcp_pair_model.specs.declared.event.PairEvent.TheVariants.{Offer}
-use Rattle.tcp_pair_model.specs.declared.event.PairRefused.TheVariants.{Moment}
-use Rattle.tcp_pair_model.specs.declared.event.Side.{Side}
-use Rattle.tcp_pair_model.specs.declared.event.Side.TheVariants.{A, B}
+use Rattle.tcp_model.specs.Calls.{recv_answer}
+use Rattle.tcp_model.specs.Probing.{probe_moment}
+use Rattle.tcp_tie.specs.Pair.Sides.{other}
+use Rattle.tcp_tie.specs.Pair.Steps.{if_so, may_come, reads, refusal}
+use Rattle.tcp_model.specs.Value.{queued_in}
+use Rattle.tcp_tie.specs.Pair.Values.{PairSide, PairValue}
+use Rattle.tcp_tie.specs.declared.pair.event.PairEvent.TheVariants.{Offer}
+use Rattle.tcp_tie.specs.declared.pair.event.PairRefused.TheVariants.{Moment}
+use Rattle.tcp_tie.specs.declared.pair.event.Side.{Side}
+use Rattle.tcp_tie.specs.declared.pair.event.Side.TheVariants.{A, B}
 use Rattle.tcp_progress.specs.BothWays.{roused_in, turn_in, waits_in, wake_in, woken_in}
 use Rattle.tcp_progress.specs.Clocks.{HasDays, HasStamps, IsTimed}
 use Rattle.tcp_progress.specs.Pair.{socket_of}

@@ -14,14 +14,14 @@ use Rattle.tcp_rules.specs.State.{State}
 use Rattle.tcp_rules.specs.State.TheVariants as In
 use Rattle.tcp_rules.specs.States.{is_closed}
 use Rattle.tcp_rules.proofs.OrderSteps.{clash}
-use Rattle.tcp_pair_model.specs.Block.{Block}
-use Rattle.tcp_pair_model.specs.Blocks.{one_if}
-use Rattle.tcp_pair_model.specs.Safe.{IsStreamSafe, read, taken_in as taken_list, written}
-use Rattle.tcp_pair_model.specs.Sides.{other}
-use Rattle.tcp_pair_model.specs.Value.{TcpValue}
-use Rattle.tcp_pair_model.specs.Values.{PairValue, past_at}
-use Rattle.tcp_pair_model.specs.declared.event.Side.{Side}
-use Rattle.tcp_pair_model.specs.declared.event.Side.TheVariants.{A, B}
+use Rattle.tcp_model.specs.declared.block.Block.{Block}
+use Rattle.tcp_model.specs.Blocks.{one_if}
+use Rattle.tcp_tie.specs.Pair.Safe.{IsStreamSafe, read, taken_in as taken_list, written}
+use Rattle.tcp_tie.specs.Pair.Sides.{other}
+use Rattle.tcp_model.specs.Value.{TcpValue}
+use Rattle.tcp_tie.specs.Pair.Values.{PairValue, past_at}
+use Rattle.tcp_tie.specs.declared.pair.event.Side.{Side}
+use Rattle.tcp_tie.specs.declared.pair.event.Side.TheVariants.{A, B}
 use Rattle.tcp_progress.specs.Arrivals.{is_synchronized}
 use Rattle.tcp_progress.specs.BothWays.{AreThere, IsThrough, MayAsk, MayRounds, MayTurn, bound, both_read, is_over, roused_in, round_in, rounds_in}
 use Rattle.tcp_progress.specs.BothWays.{to_do_for, total_in, turn_in, waits_in, wake_in, woken_in}

@@ -14,18 +14,18 @@ use Rattle.tcp_rules.proofs.OfferCases.{begun, probing}
 use Rattle.tcp_rules.proofs.OrderSteps.{clash}
 use Rattle.tcp_model.specs.declared.block.Peer.{Peer}
 use Rattle.tcp_model.specs.declared.block.Receiver.{Receiver}
-use Rattle.tcp_pair_model.specs.Block.{Block}
-use Rattle.tcp_pair_model.specs.Blocks.{is_worth_telling, window_field}
-use Rattle.tcp_pair_model.specs.Due.{any, poll_of, poll_with, wishes}
-use Rattle.tcp_pair_model.specs.LossRecovery.{loss_probe_moment, loss_probed, loss_probed_by}
-use Rattle.tcp_pair_model.specs.Offers.{first_rules, last_rules, offer_ack, offer_choice, offer_held_back, offer_keep_alive, offer_of, offer_syn, offer_with}
-use Rattle.tcp_pair_model.specs.Offers.{silent}
-use Rattle.tcp_pair_model.specs.Probing.{probe_moment}
-use Rattle.tcp_pair_model.specs.Rules.{ack_moment, backed_off_now, has_text, keep_alive_moment, owes_syn, probe_choice, resend_choice, resends, text_choice}
-use Rattle.tcp_pair_model.specs.Rules.{time_wait_end, updates_window}
-use Rattle.tcp_pair_model.specs.Retries.{given_up, gives_up}
+use Rattle.tcp_model.specs.declared.block.Block.{Block}
+use Rattle.tcp_model.specs.Blocks.{is_worth_telling, window_field}
+use Rattle.tcp_model.specs.Due.{any, poll_of, poll_with, wishes}
+use Rattle.tcp_model.specs.LossRecovery.{loss_probe_moment, loss_probed, loss_probed_by}
+use Rattle.tcp_model.specs.Offers.{first_rules, last_rules, offer_ack, offer_choice, offer_held_back, offer_keep_alive, offer_of, offer_syn, offer_with}
+use Rattle.tcp_model.specs.Offers.{silent}
+use Rattle.tcp_model.specs.Probing.{probe_moment}
+use Rattle.tcp_model.specs.Rules.{ack_moment, backed_off_now, has_text, keep_alive_moment, owes_syn, probe_choice, resend_choice, resends, text_choice}
+use Rattle.tcp_model.specs.Rules.{time_wait_end, updates_window}
+use Rattle.tcp_model.specs.Retries.{given_up, gives_up}
 use Rattle.tcp_model.specs.Timeout.{timed_out, timeout_end}
-use Rattle.tcp_pair_model.specs.Value.{TcpValue, ended, free_in, queued_in, room_of, unoffered, window_of, with_block}
+use Rattle.tcp_model.specs.Value.{TcpValue, ended, free_in, queued_in, room_of, unoffered, window_of, with_block}
 use Rattle.tcp_progress.specs.Windows.{OwesUpdate, TellsSpace}
 
 -- WHEN IT WANTS TO BE ASKED

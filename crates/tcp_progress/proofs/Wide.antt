@@ -34,29 +34,29 @@ use Rattle.tcp_rules.specs.States.{is_closed, is_opening, is_time_wait, takes_wr
 use Rattle.tcp_rules.proofs.ArrivalCases.{by_arrival, Received, Opening, Content, Drawing, acked_open, heeded, timed}
 use Rattle.tcp_rules.proofs.OfferCases.{FirstRules, by_rules, begun, probing}
 use Rattle.tcp_rules.proofs.OrderSteps.{clash}
-use Rattle.tcp_pair_model.specs.Acknowledged.{acks_in_recovery, acks_own_syn, begins_recovery, duplicates_after, freed_by}
-use Rattle.tcp_pair_model.specs.Acknowledged.{is_partial, partly_after, ranges_taken, recovery_after, reno_counted, srtt_after, una_moved}
-use Rattle.tcp_pair_model.specs.Acknowledged.{una_risen, windowed}
-use Rattle.tcp_pair_model.specs.Arrival.{arrives, is_void_syn, waiting_anew}
-use Rattle.tcp_pair_model.specs.Block.{Block}
-use Rattle.tcp_pair_model.specs.Blocks.{cubic_of, fresh_window}
+use Rattle.tcp_model.specs.Acknowledged.{acks_in_recovery, acks_own_syn, begins_recovery, duplicates_after, freed_by}
+use Rattle.tcp_model.specs.Acknowledged.{is_partial, partly_after, ranges_taken, recovery_after, reno_counted, srtt_after, una_moved}
+use Rattle.tcp_model.specs.Acknowledged.{una_risen, windowed}
+use Rattle.tcp_model.specs.Arrival.{arrives, is_void_syn, waiting_anew}
+use Rattle.tcp_model.specs.declared.block.Block.{Block}
+use Rattle.tcp_model.specs.Blocks.{cubic_of, fresh_window}
 use Rattle.tcp_model.specs.Settings.{fresh_reno}
 use Rattle.tcp_model.specs.Scoreboard.{held}
-use Rattle.tcp_pair_model.specs.Calls.{listening, connected_by, pair_for, sent_more}
-use Rattle.tcp_pair_model.specs.FirstNumbers.{number_for}
-use Rattle.tcp_pair_model.specs.LossRecovery.{all_noted, heard_more, is_lost_again, loss_lowered, loss_probed, probe_armed, probe_from, probes_losses}
-use Rattle.tcp_pair_model.specs.LossRecovery.{probe_begins, probes_tail, ranges_noted, with_board}
-use Rattle.tcp_pair_model.specs.Offers.{number_at, offer_choice, offer_of, offer_segment}
-use Rattle.tcp_pair_model.specs.Retries.{asked, heard, one_more}
-use Rattle.tcp_pair_model.specs.Rules.{Choice, backed_off_now, control_for, probe_choice, resend_choice, text_choice}
-use Rattle.tcp_pair_model.specs.Segments.{ack_segment, hops_of, keep_alive_segment, reset_segment, segment, syn_segment}
-use Rattle.tcp_pair_model.specs.Settled.{end_of, nxt_moved, probed, recorded, resent, sent_as, settled, syn_went, timer_started, went}
-use Rattle.tcp_pair_model.specs.Timestamps.{echo_taken, stamp_taken}
-use Rattle.tcp_pair_model.specs.Undone.{undone}
+use Rattle.tcp_model.specs.Calls.{listening, connected_by, pair_for, sent_more}
+use Rattle.tcp_model.specs.FirstNumbers.{number_for}
+use Rattle.tcp_model.specs.LossRecovery.{all_noted, heard_more, is_lost_again, loss_lowered, loss_probed, probe_armed, probe_from, probes_losses}
+use Rattle.tcp_model.specs.LossRecovery.{probe_begins, probes_tail, ranges_noted, with_board}
+use Rattle.tcp_model.specs.Offers.{number_at, offer_choice, offer_of, offer_segment}
+use Rattle.tcp_model.specs.Retries.{asked, heard, one_more}
+use Rattle.tcp_model.specs.Rules.{Choice, backed_off_now, control_for, probe_choice, resend_choice, text_choice}
+use Rattle.tcp_model.specs.Segments.{ack_segment, hops_of, keep_alive_segment, reset_segment, segment, syn_segment}
+use Rattle.tcp_model.specs.Settled.{end_of, nxt_moved, probed, recorded, resent, sent_as, settled, syn_went, timer_started, went}
+use Rattle.tcp_model.specs.Timestamps.{echo_taken, stamp_taken}
+use Rattle.tcp_model.specs.Undone.{undone}
 use Rattle.tcp_model.specs.Validation.{grown_if_used, is_used, periods_ended}
-use Rattle.tcp_pair_model.specs.Value.{TcpValue, Arrived, with_block, unoffered, ended, free_in, new_socket, queued_in, room_of, window_of}
-use Rattle.tcp_pair_model.specs.Values.{PairValue, new_pair}
-use Rattle.tcp_pair_model.specs.declared.event.Side.{Side}
+use Rattle.tcp_model.specs.Value.{TcpValue, Arrived, with_block, unoffered, ended, free_in, new_socket, queued_in, room_of, window_of}
+use Rattle.tcp_tie.specs.Pair.Values.{PairValue, new_pair}
+use Rattle.tcp_tie.specs.declared.pair.event.Side.{Side}
 use Rattle.tcp_progress.specs.Pair.{socket_of}
 use Rattle.tcp_progress.specs.Reached.{IsReached}
 use Rattle.tcp_progress.proofs.Events.{of_side, by_steps}

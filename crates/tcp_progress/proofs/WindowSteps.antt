@@ -38,25 +38,25 @@ use Rattle.tcp_rules.proofs.OrderSteps.{clash, distance_at_most}
 use Rattle.tcp_model.proofs.Holes.{again_sent, hole_least}
 use Rattle.tcp_model.specs.Undone.{is_needless}
 use Rattle.tcp_model.specs.Scoreboard.{first_missing}
-use Rattle.tcp_pair_model.specs.Acknowledged.{acknowledged, acks_fin, counted, duplicates_after, freed_by, ranges_taken, scaled, state_after_ack, windowed}
-use Rattle.tcp_pair_model.specs.Answers.{acked, drawn, may_draw, with_draw}
-use Rattle.tcp_pair_model.specs.Arrival.{arrives, arrives_in, challenges_reset, checked, draws_first, echo_heard, inside, is_void_syn, outside}
-use Rattle.tcp_pair_model.specs.Arrival.{has_length, passed_outside, received, reset_comes, taken, takes_reset, tells_news, waiting_anew}
-use Rattle.tcp_pair_model.specs.Block.{Block}
-use Rattle.tcp_pair_model.specs.Blocks.{one_if, own_scale, unacked}
-use Rattle.tcp_pair_model.specs.Calls.{listening}
-use Rattle.tcp_pair_model.specs.Checks.{Check, acknowledgement_check, falls_back, is_in_window, opening_check, synchronized_check, taken_down}
-use Rattle.tcp_pair_model.specs.Checks.Check.{Passes, Resets}
-use Rattle.tcp_pair_model.specs.LossRecovery.{hole_len, loss_probed}
-use Rattle.tcp_pair_model.specs.Offers.{number_at, offer_choice, offer_of, offer_segment}
-use Rattle.tcp_pair_model.specs.Probing.{is_probing}
-use Rattle.tcp_pair_model.specs.Retries.{asked, heard, one_more}
-use Rattle.tcp_pair_model.specs.Rules.{Choice, backed_off_now, congestion_limit, control_for, fin_goes, next_place, owes_syn, probe_choice, resend_choice}
-use Rattle.tcp_pair_model.specs.Rules.{sent_places, size_limit, text_choice, congestion_room}
-use Rattle.tcp_pair_model.specs.Segments.{hops_of, keep_alive_segment, no_ranges, segment, syn_segment}
-use Rattle.tcp_pair_model.specs.Settled.{end_of, probed, recorded, settled}
-use Rattle.tcp_pair_model.specs.Timestamps.{stamp_taken}
-use Rattle.tcp_pair_model.specs.Value.{TcpValue, Arrived, with_block, unoffered, dropped, ended, queued_in, free_in, room_of, window_of}
+use Rattle.tcp_model.specs.Acknowledged.{acknowledged, acks_fin, counted, duplicates_after, freed_by, ranges_taken, scaled, state_after_ack, windowed}
+use Rattle.tcp_model.specs.Answers.{acked, drawn, may_draw, with_draw}
+use Rattle.tcp_model.specs.Arrival.{arrives, arrives_in, challenges_reset, checked, draws_first, echo_heard, inside, is_void_syn, outside}
+use Rattle.tcp_model.specs.Arrival.{has_length, passed_outside, received, reset_comes, taken, takes_reset, tells_news, waiting_anew}
+use Rattle.tcp_model.specs.declared.block.Block.{Block}
+use Rattle.tcp_model.specs.Blocks.{one_if, own_scale, unacked}
+use Rattle.tcp_model.specs.Calls.{listening}
+use Rattle.tcp_model.specs.Checks.{Check, acknowledgement_check, falls_back, is_in_window, opening_check, synchronized_check, taken_down}
+use Rattle.tcp_model.specs.Checks.Check.{Passes, Resets}
+use Rattle.tcp_model.specs.LossRecovery.{hole_len, loss_probed}
+use Rattle.tcp_model.specs.Offers.{number_at, offer_choice, offer_of, offer_segment}
+use Rattle.tcp_model.specs.Probing.{is_probing}
+use Rattle.tcp_model.specs.Retries.{asked, heard, one_more}
+use Rattle.tcp_model.specs.Rules.{Choice, backed_off_now, congestion_limit, control_for, fin_goes, next_place, owes_syn, probe_choice, resend_choice}
+use Rattle.tcp_model.specs.Rules.{sent_places, size_limit, text_choice, congestion_room}
+use Rattle.tcp_model.specs.Segments.{hops_of, keep_alive_segment, no_ranges, segment, syn_segment}
+use Rattle.tcp_model.specs.Settled.{end_of, probed, recorded, settled}
+use Rattle.tcp_model.specs.Timestamps.{stamp_taken}
+use Rattle.tcp_model.specs.Value.{TcpValue, Arrived, with_block, unoffered, dropped, ended, queued_in, free_in, room_of, window_of}
 use Rattle.tcp_model.specs.declared.block.CongestionControl.{CongestionControl}
 use Rattle.tcp_model.specs.declared.block.CongestionControl.TheVariants as Avoids
 use Rattle.tcp_progress.specs.Windows.{Announces}

@@ -2,7 +2,7 @@
 use Rattle.std.specs.Prelude.{◌≡◌, ◌⊎◌, true}
 use Rattle.tcp_tie.specs.Context.{ContextValue}
 use Rattle.tcp_rules.specs.Moments.{is_due}
-use Rattle.tcp_pair_model.specs.Value.{TcpValue}
+use Rattle.tcp_model.specs.Value.{TcpValue}
 
 -- nothing is in flight, or the retransmission timer has run out
 abbrev pub StartsOver : ContextValue → TcpValue → Type 0

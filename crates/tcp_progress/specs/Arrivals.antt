@@ -11,12 +11,12 @@ use Rattle.tcp_rules.specs.States.{is_answering, is_closed, takes_text}
 use Rattle.tcp_rules.specs.Reply.{Reply}
 use Rattle.tcp_rules.specs.State.{State}
 use Rattle.tcp_rules.specs.State.TheVariants as In
-use Rattle.tcp_pair_model.specs.Answers.{delayed}
-use Rattle.tcp_pair_model.specs.Blocks.{top}
-use Rattle.tcp_pair_model.specs.Checks.{is_in_window, lies_before}
-use Rattle.tcp_pair_model.specs.Segments.{segment_len}
-use Rattle.tcp_pair_model.specs.Value.{TcpValue, Arrived, free_in, room_of}
-use Rattle.tcp_pair_model.specs.Block.{Block}
+use Rattle.tcp_model.specs.Answers.{delayed}
+use Rattle.tcp_model.specs.Blocks.{top}
+use Rattle.tcp_model.specs.Checks.{is_in_window, lies_before}
+use Rattle.tcp_model.specs.Segments.{segment_len}
+use Rattle.tcp_model.specs.Value.{TcpValue, Arrived, free_in, room_of}
+use Rattle.tcp_model.specs.declared.block.Block.{Block}
 use Rattle.tcp_rules.specs.Acks.{IsDueWithin}
 use Rattle.tcp_rules.specs.Events.{is_past}
 use Rattle.tcp_progress.specs.Clocks.{comes_stale}

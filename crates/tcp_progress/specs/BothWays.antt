@@ -2,15 +2,15 @@
 use Rattle.std.specs.Prelude.{◌≡◌, ◌⊎◌, ℕ, zero, suc, ◌+◌, ◌-◌, ◌≤◌, ◌==◌, not, ◌&&◌, ℤ, Bool, true, false, if◌then◌else◌, length, None}
 use Rattle.tcp_rules.specs.OpenOffer.{OpenOffer}
 use Rattle.tcp_rules.specs.States.{is_closed}
-use Rattle.tcp_pair_model.specs.Blocks.{one_if}
-use Rattle.tcp_pair_model.specs.Probing.{probe_moment}
-use Rattle.tcp_pair_model.specs.Sides.{at, other}
-use Rattle.tcp_pair_model.specs.Steps.{refusal}
-use Rattle.tcp_pair_model.specs.Value.{queued_in}
-use Rattle.tcp_pair_model.specs.Values.{PairValue, past_at}
-use Rattle.tcp_pair_model.specs.declared.event.PairEvent.TheVariants.{Offer}
-use Rattle.tcp_pair_model.specs.declared.event.Side.{Side}
-use Rattle.tcp_pair_model.specs.declared.event.Side.TheVariants.{A, B}
+use Rattle.tcp_model.specs.Blocks.{one_if}
+use Rattle.tcp_model.specs.Probing.{probe_moment}
+use Rattle.tcp_tie.specs.Pair.Sides.{at, other}
+use Rattle.tcp_tie.specs.Pair.Steps.{refusal}
+use Rattle.tcp_model.specs.Value.{queued_in}
+use Rattle.tcp_tie.specs.Pair.Values.{PairValue, past_at}
+use Rattle.tcp_tie.specs.declared.pair.event.PairEvent.TheVariants.{Offer}
+use Rattle.tcp_tie.specs.declared.pair.event.Side.{Side}
+use Rattle.tcp_tie.specs.declared.pair.event.Side.TheVariants.{A, B}
 use Rattle.tcp_progress.specs.Arrivals.{is_synchronized}
 use Rattle.tcp_progress.specs.Pair.{HasStream, MayReachIn, exchanged_in, left_in, socket_of}
 use Rattle.tcp_progress.specs.Rounds.{takes}

@@ -6,15 +6,15 @@ use Rattle.ip_wire.specs.Timestamp.{value_at}
 use Rattle.tcp_law.specs.Side.{Opening}
 use Rattle.tcp_law.specs.Side.Opening.{NotYet}
 use Rattle.tcp_rules.specs.Moments.{stamp_end_from}
-use Rattle.tcp_pair_model.specs.Block.{Block}
-use Rattle.tcp_pair_model.specs.History.{Entry, pasts, side_of}
-use Rattle.tcp_pair_model.specs.Sides.{at, other}
-use Rattle.tcp_pair_model.specs.Timestamps.{comes_older, generator_of}
-use Rattle.tcp_pair_model.specs.Values.{PairValue}
-use Rattle.tcp_pair_model.specs.declared.event.PairEvent.{PairEvent}
-use Rattle.tcp_pair_model.specs.declared.event.PairEvent.TheVariants.{Offer, TcpSetting}
-use Rattle.tcp_pair_model.specs.declared.event.Side.{Side}
-use Rattle.tcp_pair_model.specs.declared.event.TcpSetting.TheVariants as Set
+use Rattle.tcp_model.specs.declared.block.Block.{Block}
+use Rattle.tcp_tie.specs.Pair.History.{Entry, pasts, side_of}
+use Rattle.tcp_tie.specs.Pair.Sides.{at, other}
+use Rattle.tcp_model.specs.Timestamps.{comes_older, generator_of}
+use Rattle.tcp_tie.specs.Pair.Values.{PairValue}
+use Rattle.tcp_tie.specs.declared.pair.event.PairEvent.{PairEvent}
+use Rattle.tcp_tie.specs.declared.pair.event.PairEvent.TheVariants.{Offer, TcpSetting}
+use Rattle.tcp_tie.specs.declared.pair.event.Side.{Side}
+use Rattle.tcp_tie.specs.declared.pair.event.TcpSetting.TheVariants as Set
 
 -- WHAT IS TOO OLD
 

@@ -2,16 +2,16 @@
 use Rattle.std.specs.Prelude.{◌≡◌, ◌⊎◌, ℕ, ◌+◌, ◌<◌, ◌≤◌, ℤ, pos, ◌+ℤ◌, ◌≤ℤ◌, true, false, List, [], ◌∷◌, length, Some, slice_get}
 use Rattle.tcp_tie.specs.Offers.{IsBefore}
 use Rattle.tcp_rules.specs.Moments.{is_due}
-use Rattle.tcp_pair_model.specs.Due.{poll_of}
-use Rattle.tcp_pair_model.specs.Names.{accepts}
-use Rattle.tcp_pair_model.specs.Segments.{segment_len}
-use Rattle.tcp_pair_model.specs.Sides.{at, other}
-use Rattle.tcp_pair_model.specs.Value.{free_in, room_of}
-use Rattle.tcp_pair_model.specs.Values.{PairValue, past_at}
-use Rattle.tcp_pair_model.specs.declared.event.PairEvent.{PairEvent}
-use Rattle.tcp_pair_model.specs.declared.event.PairEvent.TheVariants.{Offer, Deliver}
-use Rattle.tcp_pair_model.specs.declared.event.SentSegment.{SentSegment}
-use Rattle.tcp_pair_model.specs.declared.event.Side.{Side}
+use Rattle.tcp_model.specs.Due.{poll_of}
+use Rattle.tcp_model.specs.Names.{accepts}
+use Rattle.tcp_model.specs.Segments.{segment_len}
+use Rattle.tcp_tie.specs.Pair.Sides.{at, other}
+use Rattle.tcp_model.specs.Value.{free_in, room_of}
+use Rattle.tcp_tie.specs.Pair.Values.{PairValue, past_at}
+use Rattle.tcp_tie.specs.declared.pair.event.PairEvent.{PairEvent}
+use Rattle.tcp_tie.specs.declared.pair.event.PairEvent.TheVariants.{Offer, Deliver}
+use Rattle.tcp_tie.specs.declared.pair.event.SentSegment.{SentSegment}
+use Rattle.tcp_tie.specs.declared.pair.event.Side.{Side}
 use Rattle.tcp_progress.specs.Anew.{put_off_in}
 use Rattle.tcp_progress.specs.Arrivals.{IsNearWindow}
 use Rattle.tcp_progress.specs.Clocks.{comes_stale}

@@ -9,13 +9,13 @@ use Rattle.tcp_rules.specs.Offsets.{behind_by}
 use Rattle.tcp_rules.specs.OpenOffer.{OpenOffer}
 use Rattle.tcp_rules.specs.Reply.{Reply}
 use Rattle.tcp_rules.specs.Timing.{carries}
-use Rattle.tcp_pair_model.specs.Arrival.{arrives}
-use Rattle.tcp_pair_model.specs.Block.{Block}
-use Rattle.tcp_pair_model.specs.Blocks.{top, unacked}
-use Rattle.tcp_pair_model.specs.Offers.{offer_of, payload_of}
-use Rattle.tcp_pair_model.specs.Segments.{segment_len}
-use Rattle.tcp_pair_model.specs.Settled.{settled}
-use Rattle.tcp_pair_model.specs.Value.{TcpValue, Arrived, free_in, queued_in, room_of}
+use Rattle.tcp_model.specs.Arrival.{arrives}
+use Rattle.tcp_model.specs.declared.block.Block.{Block}
+use Rattle.tcp_model.specs.Blocks.{top, unacked}
+use Rattle.tcp_model.specs.Offers.{offer_of, payload_of}
+use Rattle.tcp_model.specs.Segments.{segment_len}
+use Rattle.tcp_model.specs.Settled.{settled}
+use Rattle.tcp_model.specs.Value.{TcpValue, Arrived, free_in, queued_in, room_of}
 use Rattle.tcp_progress.specs.Again.{StartsOver}
 use Rattle.tcp_progress.specs.Arrivals.{is_synchronized, EndsLastAck, Rises}
 use Rattle.tcp_progress.specs.Clocks.{comes_stale}

@@ -4,13 +4,13 @@ use Rattle.tcp_rules.specs.Endpoints.{remote_of, takes_address}
 use Rattle.tcp_rules.specs.EndpointPair.{EndpointPair}
 use Rattle.tcp_rules.specs.Ends.{GoesOn}
 use Rattle.tcp_rules.specs.State.TheVariants as In
-use Rattle.tcp_pair_model.specs.Block.{Block}
-use Rattle.tcp_pair_model.specs.Retries.{reaches}
-use Rattle.tcp_pair_model.specs.Sides.{other}
-use Rattle.tcp_pair_model.specs.Steps.{refusal}
-use Rattle.tcp_pair_model.specs.Values.{PairValue}
-use Rattle.tcp_pair_model.specs.declared.event.PairEvent.TheVariants.{Offer}
-use Rattle.tcp_pair_model.specs.declared.event.Side.{Side}
+use Rattle.tcp_model.specs.declared.block.Block.{Block}
+use Rattle.tcp_model.specs.Retries.{reaches}
+use Rattle.tcp_tie.specs.Pair.Sides.{other}
+use Rattle.tcp_tie.specs.Pair.Steps.{refusal}
+use Rattle.tcp_tie.specs.Pair.Values.{PairValue}
+use Rattle.tcp_tie.specs.declared.pair.event.PairEvent.TheVariants.{Offer}
+use Rattle.tcp_tie.specs.declared.pair.event.Side.{Side}
 use Rattle.tcp_progress.specs.Again.{StartsOver}
 use Rattle.tcp_progress.specs.Clocks.{IsTimely}
 use Rattle.tcp_progress.specs.Exchange.{IsOpen}

@@ -1,11 +1,11 @@
 -- A segment that ends a connection.
 use Rattle.std.specs.Prelude.{◌≡◌, ℕ, true, false, Some, slice_get}
 use Rattle.tcp_rules.specs.Controls.{is_rst}
-use Rattle.tcp_pair_model.specs.Sides.{at, other}
-use Rattle.tcp_pair_model.specs.Values.{PairValue, past_at}
-use Rattle.tcp_pair_model.specs.declared.event.PairEvent.TheVariants.{Deliver}
-use Rattle.tcp_pair_model.specs.declared.event.SentSegment.{SentSegment}
-use Rattle.tcp_pair_model.specs.declared.event.Side.{Side}
+use Rattle.tcp_tie.specs.Pair.Sides.{at, other}
+use Rattle.tcp_tie.specs.Pair.Values.{PairValue, past_at}
+use Rattle.tcp_tie.specs.declared.pair.event.PairEvent.TheVariants.{Deliver}
+use Rattle.tcp_tie.specs.declared.pair.event.SentSegment.{SentSegment}
+use Rattle.tcp_tie.specs.declared.pair.event.Side.{Side}
 use Rattle.tcp_progress.specs.Arrivals.{is_synchronized}
 use Rattle.tcp_progress.specs.BothWays.{is_over}
 use Rattle.tcp_progress.specs.Pair.{HasStream, socket_of}

@@ -3,14 +3,14 @@ use Rattle.std.specs.Prelude.{ℤ, pos, true, List, [], ◌∷◌, ◌++◌, Opt
 use Rattle.ip_wire.specs.IpAddress.TheVariants as Ip
 use Rattle.ip_wire.specs.IpEndpoint.{IpEndpoint}
 use Rattle.tcp_rules.specs.OpenOffer.{OpenOffer}
-use Rattle.tcp_pair_model.specs.Offers.{offer_of}
-use Rattle.tcp_pair_model.specs.declared.event.SentSegment.{SentSegment}
-use Rattle.tcp_pair_model.specs.declared.event.Side.TheVariants.{A, B}
-use Rattle.tcp_pair_model.specs.declared.event.PairEvent.{PairEvent}
-use Rattle.tcp_pair_model.specs.declared.event.PairEvent.TheVariants.{Close, Listen, Connect, Send, TcpSetting, Offer, Deliver}
-use Rattle.tcp_pair_model.specs.declared.event.TcpSetting.TheVariants as Set
-use Rattle.tcp_pair_model.specs.Examples.{socket, server, port, run}
-use Rattle.tcp_pair_model.specs.Values.{PairValue, address_of, new_pair}
+use Rattle.tcp_model.specs.Offers.{offer_of}
+use Rattle.tcp_tie.specs.declared.pair.event.SentSegment.{SentSegment}
+use Rattle.tcp_tie.specs.declared.pair.event.Side.TheVariants.{A, B}
+use Rattle.tcp_tie.specs.declared.pair.event.PairEvent.{PairEvent}
+use Rattle.tcp_tie.specs.declared.pair.event.PairEvent.TheVariants.{Close, Listen, Connect, Send, TcpSetting, Offer, Deliver}
+use Rattle.tcp_tie.specs.declared.pair.event.TcpSetting.TheVariants as Set
+use Rattle.tcp_tie.specs.Pair.Examples.{socket, server, port, run}
+use Rattle.tcp_tie.specs.Pair.Values.{PairValue, address_of, new_pair}
 use Rattle.tcp_progress.specs.Handshake.{shaken_in}
 use Rattle.tcp_progress.specs.HandshakeOn.{crossed_in, met_in}
 use Rattle.tcp_progress.specs.Pair.{context_of, exchanged_in}

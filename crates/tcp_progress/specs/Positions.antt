@@ -2,8 +2,8 @@
 use Rattle.std.specs.Prelude.{◌≡◌, ◌+◌, ◌^◌, ◌<◌, ◌≤◌}
 use Rattle.ip_wire.specs.Seq.{distance_of}
 use Rattle.tcp_law.specs.Side.{Side, rcv_next}
-use Rattle.tcp_pair_model.specs.Blocks.{unacked}
-use Rattle.tcp_pair_model.specs.Value.{TcpValue, queued_in}
+use Rattle.tcp_model.specs.Blocks.{unacked}
+use Rattle.tcp_model.specs.Value.{TcpValue, queued_in}
 
 -- of a socket that is the side `s`, and its partner, which is the side `t`
 pub record LiesWithin (v w : TcpValue) (s t : Side) : Type 0 where

@@ -4,15 +4,15 @@ use Rattle.tcp_rules.specs.Moments.{is_due, timeout_from}
 use Rattle.tcp_rules.specs.OfferKind.TheVariants as Kind
 use Rattle.tcp_rules.specs.OpenOffer.{OpenOffer}
 use Rattle.tcp_rules.specs.Timing.{carries}
-use Rattle.tcp_pair_model.specs.LossRecovery.{is_first_lost}
-use Rattle.tcp_pair_model.specs.Offers.{offer_of}
-use Rattle.tcp_pair_model.specs.Settled.{settled}
-use Rattle.tcp_pair_model.specs.Probing.{is_probing}
-use Rattle.tcp_pair_model.specs.Value.{TcpValue, queued_in}
-use Rattle.tcp_pair_model.specs.Values.{PairValue}
-use Rattle.tcp_pair_model.specs.declared.event.PairEvent.{PairEvent}
-use Rattle.tcp_pair_model.specs.declared.event.PairEvent.TheVariants.{Offer}
-use Rattle.tcp_pair_model.specs.declared.event.Side.{Side}
+use Rattle.tcp_model.specs.LossRecovery.{is_first_lost}
+use Rattle.tcp_model.specs.Offers.{offer_of}
+use Rattle.tcp_model.specs.Settled.{settled}
+use Rattle.tcp_model.specs.Probing.{is_probing}
+use Rattle.tcp_model.specs.Value.{TcpValue, queued_in}
+use Rattle.tcp_tie.specs.Pair.Values.{PairValue}
+use Rattle.tcp_tie.specs.declared.pair.event.PairEvent.{PairEvent}
+use Rattle.tcp_tie.specs.declared.pair.event.PairEvent.TheVariants.{Offer}
+use Rattle.tcp_tie.specs.declared.pair.event.Side.{Side}
 use Rattle.tcp_progress.specs.Pair.{context_of, socket_of}
 use Rattle.tcp_progress.specs.Rounds.{takes}
 

@@ -2,11 +2,11 @@
 use Rattle.std.specs.Prelude.{◌≡◌, ℕ, ◌≤◌, false, List}
 use Rattle.net_base.specs.Ring.{Ring}
 use Rattle.tcp_rules.specs.States.{is_closed, is_listening}
-use Rattle.tcp_pair_model.specs.Blocks.{unacked}
-use Rattle.tcp_pair_model.specs.Value.{TcpValue, new_socket, queued_in}
-use Rattle.tcp_pair_model.specs.declared.event.PairEvent.{PairEvent}
-use Rattle.tcp_pair_model.specs.Steps.{Steps}
-use Rattle.tcp_pair_model.specs.Values.{PairValue, new_pair}
+use Rattle.tcp_model.specs.Blocks.{unacked}
+use Rattle.tcp_model.specs.Value.{TcpValue, new_socket, queued_in}
+use Rattle.tcp_tie.specs.declared.pair.event.PairEvent.{PairEvent}
+use Rattle.tcp_tie.specs.Pair.Steps.{Steps}
+use Rattle.tcp_tie.specs.Pair.Values.{PairValue, new_pair}
 
 -- two new sockets, and the events that led from them to the pair, each of which was taken
 pub record IsReached (p : PairValue) : Type 0 where

@@ -3,13 +3,13 @@
 use Rattle.std.specs.Prelude.{ℕ, suc, zero, ◌-◌, ◌^◌, ℤ, int_lt, true, if◌then◌else◌, length, Option, Some, None}
 use Rattle.tcp_tie.specs.PollAt.{PollAt}
 use Rattle.tcp_tie.specs.PollAt.TheVariants as At
-use Rattle.tcp_pair_model.specs.Due.{poll_of}
-use Rattle.tcp_pair_model.specs.declared.event.Side.{Side}
-use Rattle.tcp_pair_model.specs.declared.event.Side.TheVariants.{A, B}
-use Rattle.tcp_pair_model.specs.declared.event.PairEvent.{PairEvent}
-use Rattle.tcp_pair_model.specs.declared.event.PairEvent.TheVariants.{Recv, Offer, Deliver}
-use Rattle.tcp_pair_model.specs.Steps.{happens}
-use Rattle.tcp_pair_model.specs.Values.{PairValue}
+use Rattle.tcp_model.specs.Due.{poll_of}
+use Rattle.tcp_tie.specs.declared.pair.event.Side.{Side}
+use Rattle.tcp_tie.specs.declared.pair.event.Side.TheVariants.{A, B}
+use Rattle.tcp_tie.specs.declared.pair.event.PairEvent.{PairEvent}
+use Rattle.tcp_tie.specs.declared.pair.event.PairEvent.TheVariants.{Recv, Offer, Deliver}
+use Rattle.tcp_tie.specs.Pair.Steps.{happens}
+use Rattle.tcp_tie.specs.Pair.Values.{PairValue}
 
 -- a pair, and how many segments of each side have come or are lost
 pub record Linked : Type 0 where

@@ -4,11 +4,11 @@ use Rattle.std.specs.List.{AllByRecursion}
 use Rattle.tcp_law.specs.Segment.{Segment, Control}
 use Rattle.tcp_law.specs.Segment.Control.{Plain, Syn, Fin, Rst}
 use Rattle.tcp_law.specs.Side.Opening.{NotYet}
-use Rattle.tcp_pair_model.specs.Blocks.{one_if, unacked}
-use Rattle.tcp_pair_model.specs.Sides.{at}
-use Rattle.tcp_pair_model.specs.Value.{TcpValue, queued_in}
-use Rattle.tcp_pair_model.specs.Values.{PairValue, past_at}
-use Rattle.tcp_pair_model.specs.declared.event.Side.{Side}
+use Rattle.tcp_model.specs.Blocks.{one_if, unacked}
+use Rattle.tcp_tie.specs.Pair.Sides.{at}
+use Rattle.tcp_model.specs.Value.{TcpValue, queued_in}
+use Rattle.tcp_tie.specs.Pair.Values.{PairValue, past_at}
+use Rattle.tcp_tie.specs.declared.pair.event.Side.{Side}
 use Rattle.tcp_rules.specs.State.{State}
 use Rattle.tcp_rules.specs.States.{is_closed}
 use Rattle.tcp_tie.specs.Tie.{Past, Keeps}

@@ -1,10 +1,10 @@
 -- One way of a connection: rounds in which the partner's user reads, and the side has an exchange at the moment that its timer names.
 use Rattle.std.specs.Prelude.{◌≡◌, ℕ, zero, suc, ◌^◌, ◌≤◌, ◌==◌, ℤ, true, if◌then◌else◌, Option, Some, None}
-use Rattle.tcp_pair_model.specs.Sides.{at, other}
-use Rattle.tcp_pair_model.specs.Steps.{refusal}
-use Rattle.tcp_pair_model.specs.Values.{PairValue, past_at}
-use Rattle.tcp_pair_model.specs.declared.event.PairEvent.TheVariants.{Offer, Recv}
-use Rattle.tcp_pair_model.specs.declared.event.Side.{Side}
+use Rattle.tcp_tie.specs.Pair.Sides.{at, other}
+use Rattle.tcp_tie.specs.Pair.Steps.{refusal}
+use Rattle.tcp_tie.specs.Pair.Values.{PairValue, past_at}
+use Rattle.tcp_tie.specs.declared.pair.event.PairEvent.TheVariants.{Offer, Recv}
+use Rattle.tcp_tie.specs.declared.pair.event.Side.{Side}
 use Rattle.tcp_progress.specs.Exchange.{CanHear}
 use Rattle.tcp_progress.specs.Pair.{HasStream, exchanged_in, left_in, socket_of}
 use Rattle.tcp_progress.specs.Restart.{MayGoOn}

@@ -2,11 +2,11 @@
 -- bare acknowledgement at SND.NXT and drop the acknowledgement of old text, neither ever learns of it, on a perfect link.
 use Rattle.std.specs.Prelude.{pos, true, [], ◌∷◌, replicate}
 use Rattle.net_base.specs.Ring.{ring}
-use Rattle.tcp_pair_model.specs.Value.{TcpValue, new_socket}
-use Rattle.tcp_pair_model.specs.declared.event.Side.TheVariants.{A, B}
-use Rattle.tcp_pair_model.specs.declared.event.PairEvent.TheVariants.{Send, Recv, Offer, Deliver}
-use Rattle.tcp_pair_model.specs.Examples.{run}
-use Rattle.tcp_pair_model.specs.Values.{PairValue, new_pair}
+use Rattle.tcp_model.specs.Value.{TcpValue, new_socket}
+use Rattle.tcp_tie.specs.declared.pair.event.Side.TheVariants.{A, B}
+use Rattle.tcp_tie.specs.declared.pair.event.PairEvent.TheVariants.{Send, Recv, Offer, Deliver}
+use Rattle.tcp_tie.specs.Pair.Examples.{run}
+use Rattle.tcp_tie.specs.Pair.Values.{PairValue, new_pair}
 use Rattle.tcp_progress.specs.Met.{opening}
 use Rattle.tcp_progress.specs.Rounds.{linked, rounds}
 

@@ -1,12 +1,12 @@
 -- What both ways of a connection ask for at the beginning, and what in each turn.
 use Rattle.std.specs.Prelude.{◌≡◌, ℕ, zero, suc, ◌+◌, ◌*◌, ◌≤◌, pos, ◌+ℤ◌, ◌≤ℤ◌, true, false, None}
 use Rattle.net_base.specs.Time.{last_moment}
-use Rattle.tcp_pair_model.specs.Retries.{gives_up, reaches}
-use Rattle.tcp_pair_model.specs.Sides.{at}
-use Rattle.tcp_pair_model.specs.Value.{queued_in, room_of}
-use Rattle.tcp_pair_model.specs.Values.{PairValue, past_at}
-use Rattle.tcp_pair_model.specs.declared.event.Side.{Side}
-use Rattle.tcp_pair_model.specs.declared.event.Side.TheVariants.{A, B}
+use Rattle.tcp_model.specs.Retries.{gives_up, reaches}
+use Rattle.tcp_tie.specs.Pair.Sides.{at}
+use Rattle.tcp_model.specs.Value.{queued_in, room_of}
+use Rattle.tcp_tie.specs.Pair.Values.{PairValue, past_at}
+use Rattle.tcp_tie.specs.declared.pair.event.Side.{Side}
+use Rattle.tcp_tie.specs.declared.pair.event.Side.TheVariants.{A, B}
 use Rattle.tcp_progress.specs.BothWays.{roused_in, round_in, turn_in, waits_in, wake_in}
 use Rattle.tcp_progress.specs.Clocks.{HasStamps}
 use Rattle.tcp_progress.specs.Exchange.{IsOpen}

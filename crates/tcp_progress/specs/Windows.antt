@@ -5,10 +5,10 @@ use Rattle.ip_wire.specs.TcpHeader.{TcpHeader}
 use Rattle.tcp_rules.specs.Controls.{is_syn, is_rst}
 use Rattle.tcp_rules.specs.OpenOffer.{OpenOffer}
 use Rattle.tcp_rules.specs.States.{takes_text}
-use Rattle.tcp_pair_model.specs.Blocks.{is_worth_telling, own_scale, window_field}
-use Rattle.tcp_pair_model.specs.Value.{TcpValue, free_in, room_of}
-use Rattle.tcp_pair_model.specs.Values.{PairSide}
-use Rattle.tcp_pair_model.specs.declared.event.SentSegment.{SentSegment}
+use Rattle.tcp_model.specs.Blocks.{is_worth_telling, own_scale, window_field}
+use Rattle.tcp_model.specs.Value.{TcpValue, free_in, room_of}
+use Rattle.tcp_tie.specs.Pair.Values.{PairSide}
+use Rattle.tcp_tie.specs.declared.pair.event.SentSegment.{SentSegment}
 
 -- A segment announces no more than a receive buffer of this capacity holds. A SYN, whose field isn't shifted, names the shift of all others;
 -- of a reset no window is read.

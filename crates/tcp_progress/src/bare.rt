@@ -5,8 +5,8 @@ ghost use Rattle.ip_wire.specs.IpRepr.{IpRepr};
 ghost use Rattle.ip_wire.specs.SeqNumber.{SeqNumber};
 ghost use Rattle.ip_wire.specs.TcpHeader.{TcpHeader};
 ghost use Rattle.tcp_tie.specs.Context.{ContextValue};
-ghost use Rattle.tcp_pair_model.specs.Arrival.{arrives};
-ghost use Rattle.tcp_pair_model.specs.Value.{TcpValue};
+ghost use Rattle.tcp_model.specs.Arrival.{arrives};
+ghost use Rattle.tcp_model.specs.Value.{TcpValue};
 ghost use Rattle.tcp_progress.specs.Arrivals.{Counts};
 ghost use Rattle.tcp_progress.specs.Bare.{IsBareBefore};
 

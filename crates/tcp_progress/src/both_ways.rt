@@ -2,11 +2,11 @@
 
 ghost use Rattle.std.specs.Prelude.{◌≡◌, ℕ, true};
 ghost use Rattle.tcp_rules.specs.State.TheVariants as In;
-ghost use Rattle.tcp_pair_model.specs.Safe.{read, written};
-ghost use Rattle.tcp_pair_model.specs.Sides.{other};
-ghost use Rattle.tcp_pair_model.specs.Values.{PairValue, past_at};
-ghost use Rattle.tcp_pair_model.specs.declared.event.SentSegment.{SentSegment};
-ghost use Rattle.tcp_pair_model.specs.declared.event.Side.{Side};
+ghost use Rattle.tcp_tie.specs.Pair.Safe.{read, written};
+ghost use Rattle.tcp_tie.specs.Pair.Sides.{other};
+ghost use Rattle.tcp_tie.specs.Pair.Values.{PairValue, past_at};
+ghost use Rattle.tcp_tie.specs.declared.pair.event.SentSegment.{SentSegment};
+ghost use Rattle.tcp_tie.specs.declared.pair.event.Side.{Side};
 ghost use Rattle.tcp_progress.specs.BothWays.{AreThere, IsThrough, MayRounds, bound, both_read, rounds_in};
 ghost use Rattle.tcp_progress.specs.LastAck.{EndsAt};
 ghost use Rattle.tcp_progress.specs.Pair.{socket_of};

@@ -1,11 +1,11 @@
 //! That a whole connection gets through.
 
 ghost use Rattle.std.specs.Prelude.{◌≡◌, true, List};
-ghost use Rattle.tcp_pair_model.specs.Safe.{read, written};
-ghost use Rattle.tcp_pair_model.specs.Sides.{other};
-ghost use Rattle.tcp_pair_model.specs.Values.{PairValue, past_at};
-ghost use Rattle.tcp_pair_model.specs.declared.event.PairEvent.{PairEvent};
-ghost use Rattle.tcp_pair_model.specs.declared.event.Side.{Side};
+ghost use Rattle.tcp_tie.specs.Pair.Safe.{read, written};
+ghost use Rattle.tcp_tie.specs.Pair.Sides.{other};
+ghost use Rattle.tcp_tie.specs.Pair.Values.{PairValue, past_at};
+ghost use Rattle.tcp_tie.specs.declared.pair.event.PairEvent.{PairEvent};
+ghost use Rattle.tcp_tie.specs.declared.pair.event.Side.{Side};
 ghost use Rattle.tcp_progress.specs.BothWays.{IsThrough, bound, both_read, rounds_in};
 ghost use Rattle.tcp_progress.specs.Connection.{Course, MayConverse};
 ghost use Rattle.tcp_progress.specs.Pair.{socket_of};

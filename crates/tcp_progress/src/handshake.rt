@@ -2,9 +2,9 @@
 
 ghost use Rattle.std.specs.Prelude.{ℤ};
 ghost use Rattle.tcp_rules.specs.OpenOffer.{OpenOffer};
-ghost use Rattle.tcp_pair_model.specs.Sides.{other};
-ghost use Rattle.tcp_pair_model.specs.Values.{PairValue};
-ghost use Rattle.tcp_pair_model.specs.declared.event.Side.{Side};
+ghost use Rattle.tcp_tie.specs.Pair.Sides.{other};
+ghost use Rattle.tcp_tie.specs.Pair.Values.{PairValue};
+ghost use Rattle.tcp_tie.specs.declared.pair.event.Side.{Side};
 ghost use Rattle.tcp_progress.specs.Exchange.{IsOpen};
 ghost use Rattle.tcp_progress.specs.Handshake.{AreConnected, AreOpened, MayShake, called_in, shaken_in};
 ghost use Rattle.tcp_progress.specs.HandshakeOn.{AreTold, HasCrossed, IsUnanswered, MayAnswer, MayCallAgain, MayConfirm, MayCross, MayMeet, MayTell};

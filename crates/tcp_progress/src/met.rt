@@ -3,8 +3,8 @@
 ghost use Rattle.std.specs.Prelude.{◌≡◌, suc, ◌*◌, pos, true, [], ◌∷◌, length, IfSome};
 ghost use Rattle.tcp_progress.specs.BothWays.{bound};
 ghost use Rattle.tcp_progress.specs.Arrivals.{Counts, IsNew, IsAgain};
-ghost use Rattle.tcp_pair_model.specs.Values.{past_at};
-ghost use Rattle.tcp_pair_model.specs.declared.event.Side.TheVariants.{A};
+ghost use Rattle.tcp_tie.specs.Pair.Values.{past_at};
+ghost use Rattle.tcp_tie.specs.declared.pair.event.Side.TheVariants.{A};
 ghost use Rattle.tcp_progress.specs.Connection.{MayConverse};
 ghost use Rattle.tcp_progress.specs.Connection.Course.{ByCall, ByCrossing};
 ghost use Rattle.tcp_progress.specs.Handshake.{MayShake};

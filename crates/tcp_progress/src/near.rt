@@ -1,9 +1,9 @@
 //! That what a side waits for of itself is near.
 
 ghost use Rattle.std.specs.Prelude.{ℤ, pos, ◌+ℤ◌, ◌≤ℤ◌};
-ghost use Rattle.tcp_pair_model.specs.Sides.{at};
-ghost use Rattle.tcp_pair_model.specs.Values.{PairValue};
-ghost use Rattle.tcp_pair_model.specs.declared.event.Side.{Side};
+ghost use Rattle.tcp_tie.specs.Pair.Sides.{at};
+ghost use Rattle.tcp_tie.specs.Pair.Values.{PairValue};
+ghost use Rattle.tcp_tie.specs.declared.pair.event.Side.{Side};
 ghost use Rattle.tcp_progress.specs.Near.{IsNear};
 ghost use Rattle.tcp_progress.specs.Pair.{socket_of};
 ghost use Rattle.tcp_progress.specs.Reached.{IsReached};

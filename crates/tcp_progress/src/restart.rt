@@ -1,11 +1,11 @@
 //! That a side which starts over sends of itself.
 
 ghost use Rattle.std.specs.Prelude.{◌≡◌, ℤ, true, None};
-ghost use Rattle.tcp_pair_model.specs.Steps.{refusal};
-ghost use Rattle.tcp_pair_model.specs.Sides.{other};
-ghost use Rattle.tcp_pair_model.specs.Values.{PairValue, past_at};
-ghost use Rattle.tcp_pair_model.specs.declared.event.PairEvent.TheVariants.{Offer};
-ghost use Rattle.tcp_pair_model.specs.declared.event.Side.{Side};
+ghost use Rattle.tcp_tie.specs.Pair.Steps.{refusal};
+ghost use Rattle.tcp_tie.specs.Pair.Sides.{other};
+ghost use Rattle.tcp_tie.specs.Pair.Values.{PairValue, past_at};
+ghost use Rattle.tcp_tie.specs.declared.pair.event.PairEvent.TheVariants.{Offer};
+ghost use Rattle.tcp_tie.specs.declared.pair.event.Side.{Side};
 ghost use Rattle.tcp_progress.specs.Exchange.{CanHear};
 ghost use Rattle.tcp_progress.specs.Pair.{HasStream, MovesIn, context_of, exchanged_in, socket_of};
 ghost use Rattle.tcp_progress.specs.Reached.{IsReached};

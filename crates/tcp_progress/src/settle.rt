@@ -1,10 +1,10 @@
 //! That one way of a connection gets through.
 
 ghost use Rattle.std.specs.Prelude.{◌≡◌, suc, ◌*◌};
-ghost use Rattle.tcp_pair_model.specs.Safe.{read, written};
-ghost use Rattle.tcp_pair_model.specs.Sides.{other};
-ghost use Rattle.tcp_pair_model.specs.Values.{PairValue};
-ghost use Rattle.tcp_pair_model.specs.declared.event.Side.{Side};
+ghost use Rattle.tcp_tie.specs.Pair.Safe.{read, written};
+ghost use Rattle.tcp_tie.specs.Pair.Sides.{other};
+ghost use Rattle.tcp_tie.specs.Pair.Values.{PairValue};
+ghost use Rattle.tcp_tie.specs.declared.pair.event.Side.{Side};
 ghost use Rattle.tcp_progress.specs.Pair.{left_in};
 ghost use Rattle.tcp_progress.specs.Reached.{IsReached};
 ghost use Rattle.tcp_progress.specs.Settle.{MaySettle, read_in, settled_in};

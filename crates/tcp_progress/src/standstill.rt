@@ -1,8 +1,8 @@
 //! Two sides that each took what the other doesn't know of, on numerals, which the check computes.
 
 ghost use Rattle.std.specs.Prelude.{◌≡◌, [], ◌∷◌, length};
-ghost use Rattle.tcp_pair_model.specs.Safe.{read};
-ghost use Rattle.tcp_pair_model.specs.declared.event.Side.TheVariants.{A, B};
+ghost use Rattle.tcp_tie.specs.Pair.Safe.{read};
+ghost use Rattle.tcp_tie.specs.declared.pair.event.Side.TheVariants.{A, B};
 ghost use Rattle.tcp_progress.specs.Standstill.{crossed, healed};
 
 /// Each has two bytes of the other, and knows that one of its own was taken. After six rounds of a good link all has been read, and

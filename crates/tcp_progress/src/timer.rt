@@ -1,11 +1,11 @@
 //! That only news puts the retransmission timer off.
 
 ghost use Rattle.std.specs.Prelude.{◌≡◌, ◌⊎◌, ◌==◌, ◌<◌, ◌≤◌, ℤ, pos, ◌+ℤ◌, ◌≤ℤ◌, true, false, List};
-ghost use Rattle.tcp_pair_model.specs.Sides.{at};
-ghost use Rattle.tcp_pair_model.specs.Steps.{Steps};
-ghost use Rattle.tcp_pair_model.specs.Values.{PairValue};
-ghost use Rattle.tcp_pair_model.specs.declared.event.PairEvent.{PairEvent};
-ghost use Rattle.tcp_pair_model.specs.declared.event.Side.{Side};
+ghost use Rattle.tcp_tie.specs.Pair.Sides.{at};
+ghost use Rattle.tcp_tie.specs.Pair.Steps.{Steps};
+ghost use Rattle.tcp_tie.specs.Pair.Values.{PairValue};
+ghost use Rattle.tcp_tie.specs.declared.pair.event.PairEvent.{PairEvent};
+ghost use Rattle.tcp_tie.specs.declared.pair.event.Side.{Side};
 ghost use Rattle.tcp_progress.specs.Arrivals.{is_synchronized};
 ghost use Rattle.tcp_progress.specs.Onward.{AreOpen, acked_in};
 ghost use Rattle.tcp_progress.specs.Pair.{socket_of};

@@ -17,3 +17,6 @@ pub mod AloneLaws
 pub mod HostLaws
 pub mod AnsweredLaws
 pub mod AcceptLaws
+pub mod SideLaws
+pub mod PairLaws
+pub mod OutcomeLaws

@@ -5,6 +5,7 @@ pub mod Run
 pub mod Endpoints
 pub mod Host
 pub mod Acceptance
+pub mod Pair
 pub use Rattle.tcp_law.specs.Invariant
 pub use Rattle.tcp_law.specs.Safe
 pub use Rattle.tcp_law.specs.Segment

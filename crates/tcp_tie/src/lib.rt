@@ -1,4 +1,5 @@
-//! TCP sockets between two hosts: the tie of a socket to a side of the machine of `tcp_law`, and the invariant that it gives.
+//! TCP sockets between two hosts: the tie of a socket to a side of the machine of `tcp_law`, and the invariant that it gives; two sockets over
+//! whatever lies between (`pair`).
 #![tactic(auto)]
 
 pub mod acceptance;
@@ -9,5 +10,6 @@ pub mod calls;
 pub mod hosts;
 pub mod names;
 pub mod offers;
+pub mod pair;
 pub mod promises;
 pub mod runs;

@@ -1,8 +1,8 @@
 use Rattle.std.proofs.Common.{pos, List}
-use Rattle.tcp_pair_model.specs.Values.{PairValue}
-use Rattle.tcp_pair_model.specs.declared.event.PairEvent.{PairEvent}
-use Rattle.tcp_pair_model.specs.declared.event.Side.{Side}
-use Rattle.tcp_pair_model.specs.declared.event.Side.TheVariants.{A}
+use Rattle.tcp_tie.specs.Pair.Values.{PairValue}
+use Rattle.tcp_tie.specs.declared.pair.event.PairEvent.{PairEvent}
+use Rattle.tcp_tie.specs.declared.pair.event.Side.{Side}
+use Rattle.tcp_tie.specs.declared.pair.event.Side.TheVariants.{A}
 use Rattle.tcp_progress.specs.Connection.{Course, MayConverse}
 use Rattle.tcp_progress.specs.Connection.Course.{ByCall, ByCrossing}
 use Rattle.tcp_progress.specs.Met.{both_called, called, conversing, conversing_across, late, timed_called, timed_conversing, writing}

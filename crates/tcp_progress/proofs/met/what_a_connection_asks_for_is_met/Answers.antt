@@ -5,10 +5,10 @@ use Rattle.net_base.specs.Time.{last_moment}
 use Rattle.std.specs.Prelude.{[], replicate}
 use Rattle.tcp_model.specs.AddressPair.TheVariants as Pair
 use Rattle.tcp_rules.specs.EndpointPair.{EndpointPair}
-use Rattle.tcp_pair_model.specs.Sides.{at}
-use Rattle.tcp_pair_model.specs.Steps.{Steps}
-use Rattle.tcp_pair_model.specs.Values.{address_of, past_at}
-use Rattle.tcp_pair_model.specs.declared.event.Side.TheVariants.{A, B}
+use Rattle.tcp_tie.specs.Pair.Sides.{at}
+use Rattle.tcp_tie.specs.Pair.Steps.{Steps}
+use Rattle.tcp_tie.specs.Pair.Values.{address_of, past_at}
+use Rattle.tcp_tie.specs.declared.pair.event.Side.TheVariants.{A, B}
 use Rattle.tcp_progress.specs.BothWays.{bound}
 use Rattle.tcp_progress.specs.Connection.{IsLasting}
 use Rattle.tcp_progress.specs.Handshake.{MayShake}

@@ -3,9 +3,9 @@ use Rattle.net_base.specs.Ring.{ring}
 use Rattle.std.specs.Prelude.{[], ◌∷◌, ◌++◌, pos, true, replicate}
 use Rattle.tcp_model.specs.AddressPair.TheVariants as Pair
 use Rattle.tcp_rules.specs.EndpointPair.{EndpointPair}
-use Rattle.tcp_pair_model.specs.Values.{address_of}
-use Rattle.tcp_pair_model.specs.declared.event.PairEvent.TheVariants.{Offer}
-use Rattle.tcp_pair_model.specs.declared.event.Side.TheVariants.{A, B}
+use Rattle.tcp_tie.specs.Pair.Values.{address_of}
+use Rattle.tcp_tie.specs.declared.pair.event.PairEvent.TheVariants.{Offer}
+use Rattle.tcp_tie.specs.declared.pair.event.Side.TheVariants.{A, B}
 use Rattle.tcp_progress.specs.Met.{calling}
 use Rattle.tcp_progress.proofs.met.what_a_handshake_asks_for_is_met.Goals as goal
 

@@ -2,8 +2,8 @@ use Rattle.std.proofs.Common.{inl, inr, refl}
 use Rattle.std.proofs.lemmas.Bool.{leb-true, ltb-true}
 use Rattle.net_base.specs.Ring.{ring}
 use Rattle.std.specs.Prelude.{[], ◌∷◌, ◌++◌, replicate}
-use Rattle.tcp_pair_model.specs.declared.event.PairEvent.TheVariants.{Deliver}
-use Rattle.tcp_pair_model.specs.declared.event.Side.TheVariants.{A}
+use Rattle.tcp_tie.specs.declared.pair.event.PairEvent.TheVariants.{Deliver}
+use Rattle.tcp_tie.specs.declared.pair.event.Side.TheVariants.{A}
 use Rattle.tcp_progress.specs.Met.{events}
 use Rattle.tcp_progress.proofs.met.what_an_exchange_asks_for_is_met.Goals as goal
 

@@ -1,6 +1,6 @@
 use Rattle.std.proofs.Common.{inl, inr, ◌≤◌, refl, arith}
 use Rattle.std.proofs.lemmas.Bool.{leb-true}
-use Rattle.tcp_pair_model.specs.declared.event.Side.TheVariants.{A}
+use Rattle.tcp_tie.specs.declared.pair.event.Side.TheVariants.{A}
 use Rattle.tcp_progress.specs.Met.{gone}
 use Rattle.tcp_progress.specs.Settle.{MayRound, resumed_in}
 use Rattle.tcp_progress.proofs.met.what_rounds_ask_for_is_met.Goals as goal

@@ -1,7 +1,7 @@
 use Rattle.std.proofs.Common.{◌≡◌, inl, true, false, refl, sym}
 use Rattle.std.proofs.lemmas.Bool.{leb-true}
 use Rattle.tcp_rules.proofs.OrderSteps.{clash}
-use Rattle.tcp_pair_model.specs.declared.event.Side.TheVariants.{A, B}
+use Rattle.tcp_tie.specs.declared.pair.event.Side.TheVariants.{A, B}
 use Rattle.tcp_progress.specs.BothWays.{round_in, turn_in}
 use Rattle.tcp_progress.specs.Met.{both_gone}
 use Rattle.tcp_progress.specs.Talking.{MaySpeak}

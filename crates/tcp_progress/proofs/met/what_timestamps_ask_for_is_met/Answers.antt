@@ -2,7 +2,7 @@ use Rattle.std.proofs.Common.{inl, inr, pos, refl}
 use Rattle.std.proofs.lemmas.Bool.{leb-true}
 use Rattle.net_base.specs.Ring.{ring}
 use Rattle.std.specs.Prelude.{[], ◌++◌, replicate}
-use Rattle.tcp_pair_model.specs.declared.event.Side.TheVariants.{A, B}
+use Rattle.tcp_tie.specs.declared.pair.event.Side.TheVariants.{A, B}
 use Rattle.tcp_progress.specs.Clocks.{HasStamps}
 use Rattle.tcp_progress.specs.Met.{both_timed, clocks, losing}
 use Rattle.tcp_progress.proofs.Moments.{le_of}

@@ -1,5 +1,5 @@
 use Rattle.std.proofs.Common.{◌∙◌, ℕ, true, ap, min, max}
-use Rattle.tcp_pair_model.specs.Steps.{offered_at}
+use Rattle.tcp_tie.specs.Pair.Steps.{offered_at}
 use Rattle.tcp_pair.specs.Context.{context_of}
 use Rattle.tcp_pair.specs.Ends.{EndValue, with_own}
 use Rattle.tcp_pair.proofs.Arrived.{went}

@@ -1,5 +1,5 @@
 use Rattle.std.proofs.Common.{◌∙◌, false, ap}
-use Rattle.tcp_pair_model.specs.Steps.{offered_at}
+use Rattle.tcp_tie.specs.Pair.Steps.{offered_at}
 use Rattle.tcp_pair.specs.Ends.{EndValue, with_own}
 use Rattle.tcp_pair.proofs.Arrived.{stayed}
 use Rattle.tcp_pair.proofs.end.End.offer_unsent.Goals as goal

@@ -1,6 +1,6 @@
 use Rattle.std.proofs.Common.{◌∙◌, ap}
-use Rattle.tcp_pair_model.specs.History.{answers_of}
-use Rattle.tcp_pair_model.specs.Values.{PairValue}
+use Rattle.tcp_tie.specs.Pair.History.{answers_of}
+use Rattle.tcp_tie.specs.Pair.Values.{PairValue}
 use Rattle.tcp_pair.proofs.Histories.{answers_kept}
 use Rattle.tcp_pair.proofs.pair.Pair.answers.Goals as goal
 

@@ -1,4 +1,4 @@
-use Rattle.tcp_pair_model.proofs.PairLaws.{kept_is_safe}
+use Rattle.tcp_tie.proofs.PairLaws.{kept_is_safe}
 use Rattle.tcp_pair.specs.Invariant.{pair_of}
 use Rattle.tcp_pair.proofs.Kept.{new_shown}
 use Rattle.tcp_pair.proofs.pair.Pair.new.Goals as goal

@@ -1,7 +1,7 @@
 use Rattle.std.proofs.Common.{◌≡◌, ℕ, Result, Err, IfErr, true, refl, sym, ◌∙◌, subst, arith}
 use Rattle.std.proofs.lemmas.Result.{err_from_is_err_and}
-use Rattle.tcp_pair_model.specs.declared.event.PairRefused.{PairRefused}
-use Rattle.tcp_pair_model.specs.declared.event.PairRefused.TheVariants.{Memory}
+use Rattle.tcp_tie.specs.declared.pair.event.PairRefused.{PairRefused}
+use Rattle.tcp_tie.specs.declared.pair.event.PairRefused.TheVariants.{Memory}
 use Rattle.tcp_pair.specs.Settling.{CanSettle, is_waiting}
 use Rattle.tcp_pair.proofs.Led.{onward, stays}
 use Rattle.tcp_pair.proofs.Settles.{for_memory, one_round, one_waited}

@@ -1,7 +1,7 @@
 use Rattle.std.proofs.Common.{◌∷◌, take, sym, subst}
 use Rattle.std.specs.Vec.Iter.{into_iter_items}
-use Rattle.tcp_pair_model.specs.Values.{PairValue}
-use Rattle.tcp_pair_model.proofs.PairLaws.{kept_is_safe}
+use Rattle.tcp_tie.specs.Pair.Values.{PairValue}
+use Rattle.tcp_tie.proofs.PairLaws.{kept_is_safe}
 use Rattle.tcp_progress.proofs.Kept.{reached_by}
 use Rattle.tcp_pair.specs.Invariant.{HasRun, MayRefuse}
 use Rattle.tcp_pair.proofs.Running.{next_is, one_more}

@@ -1,7 +1,7 @@
 use Rattle.std.proofs.Common.{◌≡◌, ◌∙◌, ap}
-use Rattle.tcp_pair_model.specs.Values.{PairValue}
-use Rattle.tcp_pair_model.specs.declared.event.Side.TheVariants.{B}
-use Rattle.tcp_pair_model.proofs.PairLaws.{kept_is_safe}
+use Rattle.tcp_tie.specs.Pair.Values.{PairValue}
+use Rattle.tcp_tie.specs.declared.pair.event.Side.TheVariants.{B}
+use Rattle.tcp_tie.proofs.PairLaws.{kept_is_safe}
 use Rattle.tcp_progress.specs.BothWays.{both_read}
 use Rattle.tcp_progress.specs.Settle.{read_in}
 use Rattle.tcp_pair.proofs.Led.{led, onward, writes_nothing}

@@ -1,5 +1,5 @@
 use Rattle.std.proofs.Common.{sym}
-use Rattle.tcp_pair_model.proofs.PairLaws.{kept_is_safe}
+use Rattle.tcp_tie.proofs.PairLaws.{kept_is_safe}
 use Rattle.tcp_pair.proofs.Led.{step_reached}
 use Rattle.tcp_pair.proofs.pair.Pair.step.Goals as goal
 

@@ -1,5 +1,4 @@
 //! Two TCP sockets over whatever lies between: the events that can happen to them, what each does, and what holds of every list of them.
-#![tactic(auto)]
 
 mod bytes;
 mod event;

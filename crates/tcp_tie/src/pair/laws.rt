@@ -3,10 +3,10 @@
 ghost use Rattle.std.specs.Prelude.{◌≡◌, ◌++◌, List, None};
 ghost use Rattle.tcp_model.specs.Value.{TcpValue};
 ghost use Rattle.tcp_tie.specs.Promises.{IsFresh};
-ghost use Rattle.tcp_pair_model.specs.declared.event.PairEvent.{PairEvent};
-ghost use Rattle.tcp_pair_model.specs.Safe.{IsKept, IsSafe};
-ghost use Rattle.tcp_pair_model.specs.Steps.{Steps, refusal, happens};
-ghost use Rattle.tcp_pair_model.specs.Values.{PairValue, new_pair};
+ghost use Rattle.tcp_tie.specs.declared.pair.event.PairEvent.{PairEvent};
+ghost use Rattle.tcp_tie.specs.Pair.Safe.{IsKept, IsSafe};
+ghost use Rattle.tcp_tie.specs.Pair.Steps.{Steps, refusal, happens};
+ghost use Rattle.tcp_tie.specs.Pair.Values.{PairValue, new_pair};
 
 /// The invariant of a pair: two sockets that weren't opened have it, and each event that isn't refused keeps it.
 #[tactic(auto, using(crate::proofs::PairLaws::new_is_kept, crate::proofs::PairLaws::kept_after))]

@@ -7,11 +7,11 @@ use Rattle.std.proofs.lemmas.List.{map-append}
 use Rattle.ip_wire.specs.IpEndpoint.{IpEndpoint}
 use Rattle.ip_wire.specs.IpListenEndpoint.{IpListenEndpoint}
 use Rattle.tcp_model.specs.Context.{ContextValue}
-use Rattle.tcp_tie.specs.Segment.{Segment}
-use Rattle.tcp_tie.specs.Invariant.{HoldsBetween, FitsPhase}
-use Rattle.tcp_tie.specs.Side.{Phase, Side as Half}
-use Rattle.tcp_tie.specs.Side.Phase.{SynSent}
-use Rattle.tcp_tie.specs.Side.Opening.{NotYet, Passive, Active}
+use Rattle.tcp_law.specs.Segment.{Segment}
+use Rattle.tcp_law.specs.Invariant.{HoldsBetween, FitsPhase}
+use Rattle.tcp_law.specs.Side.{Phase, Side as Half}
+use Rattle.tcp_law.specs.Side.Phase.{SynSent}
+use Rattle.tcp_law.specs.Side.Opening.{NotYet, Passive, Active}
 use Rattle.tcp_model.specs.ConnectError.{ConnectError}
 use Rattle.tcp_model.specs.ConnectError.TheVariants as Connecting
 use Rattle.tcp_model.specs.ListenError.{ListenError}
@@ -38,19 +38,19 @@ use Rattle.tcp_tie.proofs.AnsweredLaws.{keeps_listen, keeps_connect, keeps_send,
 use Rattle.tcp_tie.proofs.ArrivalLaws.{keeps_arrival}
 use Rattle.tcp_tie.proofs.CallLaws.{keeps_read, keeps_close, keeps_abort, keeps_same}
 use Rattle.tcp_tie.proofs.OfferLaws.{keeps_sent_offer, keeps_unsent_offer}
-use Rattle.tcp_pair_model.specs.declared.event.Side.{Side}
-use Rattle.tcp_pair_model.specs.declared.event.SentSegment.{SentSegment}
-use Rattle.tcp_pair_model.specs.declared.event.PairEvent.{PairEvent}
-use Rattle.tcp_pair_model.specs.declared.event.PairEvent.TheVariants.{Listen, Connect, Send, Recv, Close, Abort, TcpSetting, Offer, Deliver}
-use Rattle.tcp_pair_model.specs.declared.event.PairAnswer.{PairAnswer}
-use Rattle.tcp_pair_model.specs.declared.event.PairAnswer.TheVariants.{Error}
-use Rattle.tcp_pair_model.specs.declared.event.TcpFault.TheVariants as Fault
-use Rattle.tcp_pair_model.specs.declared.event.TcpSetting.{TcpSetting as Setting}
-use Rattle.tcp_pair_model.specs.declared.event.TcpSetting.TheVariants as Set
-use Rattle.tcp_pair_model.specs.History.{adds, listen_adds, connect_adds, send_adds, recv_adds}
-use Rattle.tcp_pair_model.specs.Sides.{other}
-use Rattle.tcp_pair_model.specs.Steps.{Acted, acts, listen_says, connect_says, send_says, recv_fault, reads, set_by, offered_at, comes_to, handed, taken_at}
-use Rattle.tcp_pair_model.specs.Values.{PairSide, context_at, seen_of, segments_of, and_reply, and_offer, with_segments}
+use Rattle.tcp_tie.specs.declared.pair.event.Side.{Side}
+use Rattle.tcp_tie.specs.declared.pair.event.SentSegment.{SentSegment}
+use Rattle.tcp_tie.specs.declared.pair.event.PairEvent.{PairEvent}
+use Rattle.tcp_tie.specs.declared.pair.event.PairEvent.TheVariants.{Listen, Connect, Send, Recv, Close, Abort, TcpSetting, Offer, Deliver}
+use Rattle.tcp_tie.specs.declared.pair.event.PairAnswer.{PairAnswer}
+use Rattle.tcp_tie.specs.declared.pair.event.PairAnswer.TheVariants.{Error}
+use Rattle.tcp_tie.specs.declared.pair.event.TcpFault.TheVariants as Fault
+use Rattle.tcp_tie.specs.declared.pair.event.TcpSetting.{TcpSetting as Setting}
+use Rattle.tcp_tie.specs.declared.pair.event.TcpSetting.TheVariants as Set
+use Rattle.tcp_tie.specs.Pair.History.{adds, listen_adds, connect_adds, send_adds, recv_adds}
+use Rattle.tcp_tie.specs.Pair.Sides.{other}
+use Rattle.tcp_tie.specs.Pair.Steps.{Acted, acts, listen_says, connect_says, send_says, recv_fault, reads, set_by, offered_at, comes_to, handed, taken_at}
+use Rattle.tcp_tie.specs.Pair.Values.{PairSide, context_at, seen_of, segments_of, and_reply, and_offer, with_segments}
 
 -- so it was, where this is the answer
 abbrev pub Ends : PairAnswer → Type 0 → Type 0

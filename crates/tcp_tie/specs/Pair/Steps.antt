@@ -5,8 +5,8 @@ use Rattle.net_base.specs.RandomWords.{next_state}
 use Rattle.net_base.specs.Time.{last_moment}
 use Rattle.ip_wire.specs.IpEndpoint.{IpEndpoint}
 use Rattle.ip_wire.specs.IpListenEndpoint.{IpListenEndpoint}
-use Rattle.tcp_tie.specs.Side.{Opening}
-use Rattle.tcp_tie.specs.Side.Opening.{NotYet, Passive, Active}
+use Rattle.tcp_law.specs.Side.{Opening}
+use Rattle.tcp_law.specs.Side.Opening.{NotYet, Passive, Active}
 use Rattle.tcp_model.specs.ConnectError.{ConnectError}
 use Rattle.tcp_model.specs.ConnectError.TheVariants as Connecting
 use Rattle.tcp_model.specs.ListenError.{ListenError}
@@ -23,20 +23,20 @@ use Rattle.tcp_model.specs.Settings.{set_timeout, set_ack_delay, set_keep_alive,
 use Rattle.tcp_model.specs.Settings.{pause_synack, set_retries, set_min_rto, set_fine_timer}
 use Rattle.tcp_model.specs.Settled.{settled}
 use Rattle.tcp_model.specs.Value.{TcpValue, Arrived, unoffered}
-use Rattle.tcp_pair_model.specs.declared.event.Side.{Side}
-use Rattle.tcp_pair_model.specs.declared.event.SentSegment.{SentSegment}
-use Rattle.tcp_pair_model.specs.declared.event.PairEvent.{PairEvent}
-use Rattle.tcp_pair_model.specs.declared.event.PairEvent.TheVariants.{Listen, Connect, Send, Recv, Close, Abort, TcpSetting, Offer, Deliver}
-use Rattle.tcp_pair_model.specs.declared.event.PairAnswer.{PairAnswer}
-use Rattle.tcp_pair_model.specs.declared.event.PairAnswer.TheVariants.{Done, Count, Bytes, Error}
-use Rattle.tcp_pair_model.specs.declared.event.PairRefused.{PairRefused}
-use Rattle.tcp_pair_model.specs.declared.event.PairRefused.TheVariants.{NoSegment, OpenedTwice, TooManyBytes, Moment, Memory}
-use Rattle.tcp_pair_model.specs.declared.event.TcpFault.TheVariants as Fault
-use Rattle.tcp_pair_model.specs.declared.event.TcpSetting.{TcpSetting as Setting}
-use Rattle.tcp_pair_model.specs.declared.event.TcpSetting.TheVariants as Set
-use Rattle.tcp_pair_model.specs.History.{Entry, side_of, pasts}
-use Rattle.tcp_pair_model.specs.Sides.{Both, at, put, other}
-use Rattle.tcp_pair_model.specs.Values.{PairSide, PairValue, context_at, and_reply, and_offer}
+use Rattle.tcp_tie.specs.declared.pair.event.Side.{Side}
+use Rattle.tcp_tie.specs.declared.pair.event.SentSegment.{SentSegment}
+use Rattle.tcp_tie.specs.declared.pair.event.PairEvent.{PairEvent}
+use Rattle.tcp_tie.specs.declared.pair.event.PairEvent.TheVariants.{Listen, Connect, Send, Recv, Close, Abort, TcpSetting, Offer, Deliver}
+use Rattle.tcp_tie.specs.declared.pair.event.PairAnswer.{PairAnswer}
+use Rattle.tcp_tie.specs.declared.pair.event.PairAnswer.TheVariants.{Done, Count, Bytes, Error}
+use Rattle.tcp_tie.specs.declared.pair.event.PairRefused.{PairRefused}
+use Rattle.tcp_tie.specs.declared.pair.event.PairRefused.TheVariants.{NoSegment, OpenedTwice, TooManyBytes, Moment, Memory}
+use Rattle.tcp_tie.specs.declared.pair.event.TcpFault.TheVariants as Fault
+use Rattle.tcp_tie.specs.declared.pair.event.TcpSetting.{TcpSetting as Setting}
+use Rattle.tcp_tie.specs.declared.pair.event.TcpSetting.TheVariants as Set
+use Rattle.tcp_tie.specs.Pair.History.{Entry, side_of, pasts}
+use Rattle.tcp_tie.specs.Pair.Sides.{Both, at, put, other}
+use Rattle.tcp_tie.specs.Pair.Values.{PairSide, PairValue, context_at, and_reply, and_offer}
 
 -- REFUSALS
 

@@ -1,8 +1,8 @@
 -- A list of events has one outcome, and may be taken in pieces.
 use Rattle.std.proofs.Common.{◌≡◌, List, [], ◌∷◌, ◌++◌, sym, ◌∙◌, subst}
-use Rattle.tcp_pair_model.specs.declared.event.PairEvent.{PairEvent}
-use Rattle.tcp_pair_model.specs.Steps.{Steps, happens}
-use Rattle.tcp_pair_model.specs.Values.{PairValue}
+use Rattle.tcp_tie.specs.declared.pair.event.PairEvent.{PairEvent}
+use Rattle.tcp_tie.specs.Pair.Steps.{Steps, happens}
+use Rattle.tcp_tie.specs.Pair.Values.{PairValue}
 
 pub one_outcome : (old p q : PairValue) (events : List PairEvent) → Steps old events p → Steps old events q → p ≡ q
 one_outcome old p q [] one another = one ∙ sym another

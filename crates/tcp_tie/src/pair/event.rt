@@ -1,5 +1,5 @@
 //! What can happen to two sockets, what each event answers, and why one is refused.
-use crate::Bytes;
+use crate::pair::Bytes;
 use ip_wire::{IpEndpoint, IpListenEndpoint, IpRepr, TcpHeader, TcpTimestampGenerator};
 use net_base::{Duration, Instant};
 use tcp_model::CongestionControl;

@@ -1,15 +1,15 @@
 -- What was seen of each socket of a pair, as the events and their answers tell it.
 use Rattle.std.specs.Prelude.{ℕ, List, [], ◌∷◌, map, reverse, take}
-use Rattle.tcp_tie.specs.Side.Opening.{NotYet}
+use Rattle.tcp_law.specs.Side.Opening.{NotYet}
 use Rattle.tcp_model.specs.State.{State}
 use Rattle.tcp_tie.specs.History.{listened, called, with_written, with_read, closes_in, closed_by}
 use Rattle.tcp_tie.specs.Tie.{Past, no_past}
-use Rattle.tcp_pair_model.specs.declared.event.Side.{Side}
-use Rattle.tcp_pair_model.specs.declared.event.PairEvent.{PairEvent}
-use Rattle.tcp_pair_model.specs.declared.event.PairEvent.TheVariants.{Listen, Connect, Send, Recv, Close, Abort, TcpSetting, Offer, Deliver}
-use Rattle.tcp_pair_model.specs.declared.event.PairAnswer.{PairAnswer}
-use Rattle.tcp_pair_model.specs.declared.event.PairAnswer.TheVariants.{Done, Count, Bytes, Error}
-use Rattle.tcp_pair_model.specs.Sides.{Both, at, put, other}
+use Rattle.tcp_tie.specs.declared.pair.event.Side.{Side}
+use Rattle.tcp_tie.specs.declared.pair.event.PairEvent.{PairEvent}
+use Rattle.tcp_tie.specs.declared.pair.event.PairEvent.TheVariants.{Listen, Connect, Send, Recv, Close, Abort, TcpSetting, Offer, Deliver}
+use Rattle.tcp_tie.specs.declared.pair.event.PairAnswer.{PairAnswer}
+use Rattle.tcp_tie.specs.declared.pair.event.PairAnswer.TheVariants.{Done, Count, Bytes, Error}
+use Rattle.tcp_tie.specs.Pair.Sides.{Both, at, put, other}
 
 -- an event that was taken, its answer, and the state in which it found the socket that it is for
 pub record Entry : Type 0 where

@@ -1,17 +1,17 @@
 -- What holds of each pair, whatever happened to it.
 use Rattle.std.specs.Prelude.{◌≡◌, ℕ, ◌-◌, ◌≤◌, true, List, [], ◌∷◌, ◌++◌, length}
-use Rattle.tcp_tie.specs.Safe.{IsPrefixOf}
+use Rattle.tcp_law.specs.Safe.{IsPrefixOf}
 use Rattle.tcp_tie.specs.Tie.{Past, Keeps}
-use Rattle.tcp_pair_model.specs.declared.event.Side.{Side}
-use Rattle.tcp_pair_model.specs.declared.event.Side.TheVariants.{A, B}
-use Rattle.tcp_pair_model.specs.declared.event.PairEvent.{PairEvent}
-use Rattle.tcp_pair_model.specs.declared.event.PairEvent.TheVariants.{Recv}
-use Rattle.tcp_pair_model.specs.declared.event.PairAnswer.{PairAnswer}
-use Rattle.tcp_pair_model.specs.declared.event.PairAnswer.TheVariants.{Error}
-use Rattle.tcp_pair_model.specs.declared.event.TcpFault.TheVariants as Fault
-use Rattle.tcp_pair_model.specs.History.{Entry, pasts}
-use Rattle.tcp_pair_model.specs.Sides.{Both, at, other}
-use Rattle.tcp_pair_model.specs.Values.{PairValue, past_at}
+use Rattle.tcp_tie.specs.declared.pair.event.Side.{Side}
+use Rattle.tcp_tie.specs.declared.pair.event.Side.TheVariants.{A, B}
+use Rattle.tcp_tie.specs.declared.pair.event.PairEvent.{PairEvent}
+use Rattle.tcp_tie.specs.declared.pair.event.PairEvent.TheVariants.{Recv}
+use Rattle.tcp_tie.specs.declared.pair.event.PairAnswer.{PairAnswer}
+use Rattle.tcp_tie.specs.declared.pair.event.PairAnswer.TheVariants.{Error}
+use Rattle.tcp_tie.specs.declared.pair.event.TcpFault.TheVariants as Fault
+use Rattle.tcp_tie.specs.Pair.History.{Entry, pasts}
+use Rattle.tcp_tie.specs.Pair.Sides.{Both, at, other}
+use Rattle.tcp_tie.specs.Pair.Values.{PairValue, past_at}
 
 -- what a side's user wrote and read
 abbrev pub written : PairValue → Side → List ℕ

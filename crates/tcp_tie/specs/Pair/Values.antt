@@ -7,17 +7,17 @@ use Rattle.ip_wire.specs.IpAddress.{IpAddress}
 use Rattle.ip_wire.specs.IpAddress.TheVariants as Ip
 use Rattle.ip_wire.specs.Ipv4Address.{Ipv4Address}
 use Rattle.tcp_model.specs.Context.{ContextValue}
-use Rattle.tcp_tie.specs.Segment.{Segment}
+use Rattle.tcp_law.specs.Segment.{Segment}
 use Rattle.tcp_model.specs.OpenOffer.{OpenOffer}
 use Rattle.tcp_model.specs.Reply.{Reply}
 use Rattle.tcp_model.specs.Offers.{payload_of}
 use Rattle.tcp_model.specs.Value.{TcpValue}
 use Rattle.tcp_tie.specs.Tie.{Past, segment_of}
-use Rattle.tcp_pair_model.specs.declared.event.Side.{Side}
-use Rattle.tcp_pair_model.specs.declared.event.Side.TheVariants.{A, B}
-use Rattle.tcp_pair_model.specs.declared.event.SentSegment.{SentSegment}
-use Rattle.tcp_pair_model.specs.History.{Entry, pasts}
-use Rattle.tcp_pair_model.specs.Sides.{Both, at}
+use Rattle.tcp_tie.specs.declared.pair.event.Side.{Side}
+use Rattle.tcp_tie.specs.declared.pair.event.Side.TheVariants.{A, B}
+use Rattle.tcp_tie.specs.declared.pair.event.SentSegment.{SentSegment}
+use Rattle.tcp_tie.specs.Pair.History.{Entry, pasts}
+use Rattle.tcp_tie.specs.Pair.Sides.{Both, at}
 
 -- a socket, the segments that it sent, oldest first, its last moment, and the state of its random words
 pub record PairSide : Type 0 where

@@ -2,27 +2,27 @@
 use Rattle.std.proofs.Common.{◌≡◌, ℕ, ◌+◌, ◌^◌, ◌<◌, nat_le, Bool, true, false, if◌then◌else◌, List, [], ◌∷◌, length, Option, Some, None, refl, sym, subst}
 use Rattle.std.proofs.Common.{arith}
 use Rattle.std.proofs.lemmas.Bool.Decides.{nat_tests}
-use Rattle.tcp_tie.specs.Side.{Opening}
-use Rattle.tcp_tie.specs.Side.Opening.{NotYet, Passive, Active}
+use Rattle.tcp_law.specs.Side.{Opening}
+use Rattle.tcp_law.specs.Side.Opening.{NotYet, Passive, Active}
 use Rattle.tcp_model.specs.Value.{TcpValue}
 use Rattle.tcp_tie.specs.Promises.{IsFresh}
 use Rattle.tcp_tie.specs.Tie.{Past, Keeps}
 use Rattle.tcp_tie.proofs.PromiseLemmas.{keeps_fresh, keeps_turned, safe_sockets}
-use Rattle.tcp_pair_model.specs.declared.event.Side.{Side}
-use Rattle.tcp_pair_model.specs.declared.event.Side.TheVariants.{A, B}
-use Rattle.tcp_pair_model.specs.declared.event.PairEvent.{PairEvent}
-use Rattle.tcp_pair_model.specs.declared.event.PairEvent.TheVariants.{Listen, Connect, Send, Recv, Close, Abort, TcpSetting, Offer, Deliver}
-use Rattle.tcp_pair_model.specs.declared.event.PairAnswer.{PairAnswer}
-use Rattle.tcp_pair_model.specs.declared.event.PairAnswer.TheVariants.{Done, Count, Bytes, Error}
-use Rattle.tcp_pair_model.specs.declared.event.PairRefused.TheVariants.{OpenedTwice, TooManyBytes}
-use Rattle.tcp_pair_model.specs.declared.event.TcpFault.{TcpFault}
-use Rattle.tcp_pair_model.specs.declared.event.TcpFault.TheVariants as Fault
-use Rattle.tcp_pair_model.specs.History.{Entry, side_of, pasts, adds}
-use Rattle.tcp_pair_model.specs.Safe.{IsKept, IsSafe, IsStreamSafe, EndIsComplete, EndsWereComplete, WasComplete}
-use Rattle.tcp_pair_model.specs.Sides.{Both, at, put, other}
-use Rattle.tcp_pair_model.specs.Steps.{Steps, refusal, happens, acting, acts, was_opened, if_so}
-use Rattle.tcp_pair_model.specs.Values.{PairSide, PairValue, new_pair, past_at, with_segments}
-use Rattle.tcp_pair_model.proofs.SideLaws.{IsAllowed, Ends, led, led_end}
+use Rattle.tcp_tie.specs.declared.pair.event.Side.{Side}
+use Rattle.tcp_tie.specs.declared.pair.event.Side.TheVariants.{A, B}
+use Rattle.tcp_tie.specs.declared.pair.event.PairEvent.{PairEvent}
+use Rattle.tcp_tie.specs.declared.pair.event.PairEvent.TheVariants.{Listen, Connect, Send, Recv, Close, Abort, TcpSetting, Offer, Deliver}
+use Rattle.tcp_tie.specs.declared.pair.event.PairAnswer.{PairAnswer}
+use Rattle.tcp_tie.specs.declared.pair.event.PairAnswer.TheVariants.{Done, Count, Bytes, Error}
+use Rattle.tcp_tie.specs.declared.pair.event.PairRefused.TheVariants.{OpenedTwice, TooManyBytes}
+use Rattle.tcp_tie.specs.declared.pair.event.TcpFault.{TcpFault}
+use Rattle.tcp_tie.specs.declared.pair.event.TcpFault.TheVariants as Fault
+use Rattle.tcp_tie.specs.Pair.History.{Entry, side_of, pasts, adds}
+use Rattle.tcp_tie.specs.Pair.Safe.{IsKept, IsSafe, IsStreamSafe, EndIsComplete, EndsWereComplete, WasComplete}
+use Rattle.tcp_tie.specs.Pair.Sides.{Both, at, put, other}
+use Rattle.tcp_tie.specs.Pair.Steps.{Steps, refusal, happens, acting, acts, was_opened, if_so}
+use Rattle.tcp_tie.specs.Pair.Values.{PairSide, PairValue, new_pair, past_at, with_segments}
+use Rattle.tcp_tie.proofs.SideLaws.{IsAllowed, Ends, led, led_end}
 
 pub new_is_kept : (a b : TcpValue) → IsFresh a → IsFresh b → IsKept (new_pair a b)
 new_is_kept a b f g = record { sockets = keeps_fresh a b [] [] f g tt tt; ends = tt }

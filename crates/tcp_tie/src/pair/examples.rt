@@ -2,14 +2,14 @@
 
 ghost use Rattle.std.specs.Prelude.{◌≡◌, [], ◌∷◌, drop, Some};
 ghost use Rattle.tcp_model.specs.State.TheVariants as In;
-ghost use Rattle.tcp_pair_model.specs.declared.event.PairAnswer.TheVariants.{Done, Count, Bytes, Error};
-ghost use Rattle.tcp_pair_model.specs.declared.event.PairEvent.TheVariants.{Connect, Deliver};
-ghost use Rattle.tcp_pair_model.specs.declared.event.PairRefused.TheVariants.{NoSegment, OpenedTwice};
-ghost use Rattle.tcp_pair_model.specs.declared.event.Side.TheVariants.{A, B};
-ghost use Rattle.tcp_pair_model.specs.declared.event.TcpFault.TheVariants as Fault;
-ghost use Rattle.tcp_pair_model.specs.Examples.{opened, told, closed, ended, read_out, server, port};
-ghost use Rattle.tcp_pair_model.specs.History.{answers_of};
-ghost use Rattle.tcp_pair_model.specs.Steps.{refusal};
+ghost use Rattle.tcp_tie.specs.declared.pair.event.PairAnswer.TheVariants.{Done, Count, Bytes, Error};
+ghost use Rattle.tcp_tie.specs.declared.pair.event.PairEvent.TheVariants.{Connect, Deliver};
+ghost use Rattle.tcp_tie.specs.declared.pair.event.PairRefused.TheVariants.{NoSegment, OpenedTwice};
+ghost use Rattle.tcp_tie.specs.declared.pair.event.Side.TheVariants.{A, B};
+ghost use Rattle.tcp_tie.specs.declared.pair.event.TcpFault.TheVariants as Fault;
+ghost use Rattle.tcp_tie.specs.Pair.Examples.{opened, told, closed, ended, read_out, server, port};
+ghost use Rattle.tcp_tie.specs.Pair.History.{answers_of};
+ghost use Rattle.tcp_tie.specs.Pair.Steps.{refusal};
 
 /// Three segments open the connection; three bytes, delivered twice, are read once.
 pub fn bytes_are_read_once()

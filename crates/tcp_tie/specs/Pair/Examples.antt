@@ -5,11 +5,11 @@ use Rattle.ip_wire.specs.IpEndpoint.{IpEndpoint}
 use Rattle.ip_wire.specs.IpListenEndpoint.{IpListenEndpoint}
 use Rattle.net_base.specs.Ring.{ring}
 use Rattle.tcp_model.specs.Value.{TcpValue, new_socket}
-use Rattle.tcp_pair_model.specs.declared.event.Side.TheVariants.{A, B}
-use Rattle.tcp_pair_model.specs.declared.event.PairEvent.{PairEvent}
-use Rattle.tcp_pair_model.specs.declared.event.PairEvent.TheVariants.{Listen, Connect, Send, Recv, Close, Offer, Deliver}
-use Rattle.tcp_pair_model.specs.Steps.{happens}
-use Rattle.tcp_pair_model.specs.Values.{PairValue, new_pair, address_of}
+use Rattle.tcp_tie.specs.declared.pair.event.Side.TheVariants.{A, B}
+use Rattle.tcp_tie.specs.declared.pair.event.PairEvent.{PairEvent}
+use Rattle.tcp_tie.specs.declared.pair.event.PairEvent.TheVariants.{Listen, Connect, Send, Recv, Close, Offer, Deliver}
+use Rattle.tcp_tie.specs.Pair.Steps.{happens}
+use Rattle.tcp_tie.specs.Pair.Values.{PairValue, new_pair, address_of}
 
 abbrev pub socket : TcpValue
 socket = new_socket 64 (ring [] (replicate 64 0) 0)

@@ -1,3 +1,0 @@
-pub mod SideLaws
-pub mod PairLaws
-pub mod OutcomeLaws
