@@ -1,5 +1,5 @@
 pub mod Named
-pub mod Words
+pub mod DamagedWords
 pub mod Cutting
 pub mod Slicing
 pub mod WordLemmas

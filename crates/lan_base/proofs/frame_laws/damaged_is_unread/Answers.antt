@@ -1,4 +1,4 @@
-use Rattle.lan_base.proofs.Words.{unread}
+use Rattle.lan_base.proofs.DamagedWords.{unread}
 use Rattle.lan_base.proofs.frame_laws.damaged_is_unread.Goals as goal
 
 pub returns : goal.returns
