@@ -1,12 +1,14 @@
 //! What a script writes.
-ghost use Rattle.std.specs.Prelude.{◌≡◌, ◌++◌, drop, IfOk, OnOk};
+ghost use Rattle.std.specs.Prelude.{◌≡◌, ◌++◌, codes, drop, IfOk, OnOk, IfSome};
 ghost use Rattle.std.specs.String.{string_bytes};
 ghost use Rattle.net_base.specs.Device.{frames_of};
+ghost use Rattle.lan_base.specs.Text.{hex_word};
 ghost use Rattle.lan.specs.Answers.{side_name, fault_name, answer_line, sent_line, sent_lines};
 
 use lan_base::hex_text;
 use lan_world::hosts::{Answer, Fault, Side};
 use std::alloc::{AllocError, Global};
+use std::fmt;
 
 fn side_name(side: Side) -> &'static str
     ensures { result.now ≡ side_name side }
@@ -33,6 +35,22 @@ fn fault_name(fault: Fault) -> &'static str
     }
 }
 
+// A line that ends in a value. (Lines of one shape share a format, which is dear to prove.)
+fn valued<D: fmt::Display>(alloc: Global, label: &str, value: &D) -> Result<String, AllocError>
+    ensures { IfSome (⟦<D as fmt::Display>⟧.output value.now) (λ x. IfOk result (λ text. string_bytes text ≡ label.now ++ (x ++ codes "\n"))) }
+{
+    format!(in alloc; "{label}{value}\n")
+}
+
+// The line of bytes that came from somewhere.
+fn came<D: fmt::Display>(alloc: Global, remote: &D, bytes: &[u8]) -> Result<String, AllocError>
+    ensures { IfSome (⟦<D as fmt::Display>⟧.output remote.now) (λ x.
+        IfOk result (λ text. string_bytes text ≡ codes "from " ++ (x ++ (codes " " ++ (hex_word bytes.now ++ codes "\n"))))) }
+{
+    let hex = hex_text(alloc, bytes)?;
+    format!(in alloc; "from {remote} {hex}\n")
+}
+
 /// The line that answers an event, with its end. `replay` writes it by itself, and the new frames behind it: this is for a loop of one's
 /// own, which steps a `World` by `event_of` each line.
 pub fn answer_line(alloc: Global, answer: &Answer) -> Result<String, AllocError>
@@ -40,25 +58,16 @@ pub fn answer_line(alloc: Global, answer: &Answer) -> Result<String, AllocError>
 {
     match answer {
         Answer::Done => String::from_str(alloc, "ok\n"),
-        Answer::Count(count) => format!(in alloc; "ok {count}\n"),
-        Answer::Bytes(bytes) => {
-            let hex = hex_text(alloc, bytes.as_slice())?;
-            format!(in alloc; "data {hex}\n")
-        }
-        Answer::State(state) => format!(in alloc; "state {state}\n"),
-        Answer::FromEndpoint(remote, bytes) => {
-            let hex = hex_text(alloc, bytes.as_slice())?;
-            format!(in alloc; "from {remote} {hex}\n")
-        }
-        Answer::FromAddr(remote, bytes) => {
-            let hex = hex_text(alloc, bytes.as_slice())?;
-            format!(in alloc; "from {remote} {hex}\n")
-        }
+        Answer::Count(count) => valued(alloc, "ok ", count),
+        Answer::Bytes(bytes) => valued(alloc, "data ", &hex_text(alloc, bytes.as_slice())?),
+        Answer::State(state) => valued(alloc, "state ", state),
+        Answer::FromEndpoint(remote, bytes) => came(alloc, remote, bytes.as_slice()),
+        Answer::FromAddr(remote, bytes) => came(alloc, remote, bytes.as_slice()),
         Answer::Poll(true) => String::from_str(alloc, "changed\n"),
         Answer::Poll(false) => String::from_str(alloc, "none\n"),
-        Answer::At(Some(moment)) => format!(in alloc; "at {}\n", moment.total_micros()),
+        Answer::At(Some(moment)) => valued(alloc, "at ", &moment.total_micros()),
         Answer::At(None) => String::from_str(alloc, "never\n"),
-        Answer::Error(fault) => format!(in alloc; "error {}\n", fault_name(*fault)),
+        Answer::Error(fault) => valued(alloc, "error ", &fault_name(*fault)),
     }
 }
 

@@ -1,5 +1,5 @@
 //! The texts of lines.
-ghost use Rattle.std.specs.Prelude.{◌≡◌, ℕ, List, [], ◌∷◌, ◌++◌, map, codes, IfOk, OnOk};
+ghost use Rattle.std.specs.Prelude.{◌≡◌, ℕ, List, [], ◌∷◌, ◌++◌, map, codes, IfOk, OnOk, IfSome};
 ghost use Rattle.std.specs.List.{join_with_byte};
 ghost use Rattle.std.specs.Fmt.{decimal};
 ghost use Rattle.std.specs.String.{string_bytes};
@@ -15,6 +15,7 @@ use crate::line::Line;
 use ip_wire::{EthernetAddress, IpAddress, IpEndpoint, IpVersion};
 use net_base::{Instant, Medium};
 use std::alloc::{AllocError, Global};
+use std::fmt;
 
 impl<'a> Line<'a> {
     /// The text of a line, without the byte 0a that ends it: its words one blank apart, numbers in decimal, bytes in lower case hex.
@@ -52,37 +53,63 @@ impl<'a> Line<'a> {
     }
 }
 
-// A verb, a host and a number.
-fn one_number(alloc: Global, verb: &str, h: Side, n: usize) -> Result<String, AllocError>
-    ensures { IfOk result (λ text. string_bytes text ≡ join_with_byte 32 (verb.now ∷ side_text h ∷ decimal n ∷ [])) }
-{
-    format!(in alloc; "{verb} {} {n}", name(h))
-}
+// A line's words have one format for each count of them, whatever the words are: a format is dear to prove, and a call of one isn't.
 
-// A verb, a host and two numbers.
-fn two_numbers(
+// Two words and another one.
+fn words1<A: fmt::Display>(
     alloc: Global,
     verb: &str,
-    h: Side,
-    first: usize,
-    second: usize,
+    word: &str,
+    a: &A,
 ) -> Result<String, AllocError>
-    ensures { IfOk result (λ text. string_bytes text ≡ join_with_byte 32 (verb.now ∷ side_text h ∷ decimal first ∷ decimal second ∷ [])) }
+    ensures { IfSome (⟦<A as fmt::Display>⟧.output a.now) (λ x. IfOk result (λ text. string_bytes text ≡ join_with_byte 32 (verb.now ∷ word.now ∷ x ∷ []))) }
 {
-    format!(in alloc; "{verb} {} {first} {second}", name(h))
+    format!(in alloc; "{verb} {word} {a}")
 }
 
-// A verb, a host, a number and bytes.
-fn number_and_bytes(
+// Two words and two others.
+fn words2<A: fmt::Display, B: fmt::Display>(
     alloc: Global,
     verb: &str,
-    h: Side,
-    n: usize,
-    bytes: &HexBytes<'_>,
+    word: &str,
+    a: &A,
+    b: &B,
 ) -> Result<String, AllocError>
-    ensures { IfOk result (λ text. string_bytes text ≡ join_with_byte 32 (verb.now ∷ side_text h ∷ decimal n ∷ hex_word bytes.now ∷ [])) }
+    ensures { IfSome (⟦<A as fmt::Display>⟧.output a.now) (λ x. IfSome (⟦<B as fmt::Display>⟧.output b.now) (λ y.
+        IfOk result (λ text. string_bytes text ≡ join_with_byte 32 (verb.now ∷ word.now ∷ x ∷ y ∷ [])))) }
 {
-    format!(in alloc; "{verb} {} {n} {}", name(h), hex(alloc, bytes)?)
+    format!(in alloc; "{verb} {word} {a} {b}")
+}
+
+// Two words and three others.
+fn words3<A: fmt::Display, B: fmt::Display, C: fmt::Display>(
+    alloc: Global,
+    verb: &str,
+    word: &str,
+    a: &A,
+    b: &B,
+    c: &C,
+) -> Result<String, AllocError>
+    ensures { IfSome (⟦<A as fmt::Display>⟧.output a.now) (λ x. IfSome (⟦<B as fmt::Display>⟧.output b.now) (λ y. IfSome (⟦<C as fmt::Display>⟧.output c.now) (λ z.
+        IfOk result (λ text. string_bytes text ≡ join_with_byte 32 (verb.now ∷ word.now ∷ x ∷ y ∷ z ∷ []))))) }
+{
+    format!(in alloc; "{verb} {word} {a} {b} {c}")
+}
+
+// Two words and four others.
+fn words4<A: fmt::Display, B: fmt::Display, C: fmt::Display, D: fmt::Display>(
+    alloc: Global,
+    verb: &str,
+    word: &str,
+    a: &A,
+    b: &B,
+    c: &C,
+    d: &D,
+) -> Result<String, AllocError>
+    ensures { IfSome (⟦<A as fmt::Display>⟧.output a.now) (λ w. IfSome (⟦<B as fmt::Display>⟧.output b.now) (λ x. IfSome (⟦<C as fmt::Display>⟧.output c.now) (λ y.
+        IfSome (⟦<D as fmt::Display>⟧.output d.now) (λ z. IfOk result (λ text. string_bytes text ≡ join_with_byte 32 (verb.now ∷ word.now ∷ w ∷ x ∷ y ∷ z ∷ [])))))) }
+{
+    format!(in alloc; "{verb} {word} {a} {b} {c} {d}")
 }
 
 fn name(side: Side) -> &'static str
@@ -131,6 +158,39 @@ pub fn hex_text(alloc: Global, bytes: &[u8]) -> Result<String, AllocError>
     } else {
         hex::encode(alloc, bytes)
     }
+}
+
+// A verb, a host and a number.
+fn one_number(alloc: Global, verb: &str, h: Side, n: usize) -> Result<String, AllocError>
+    ensures { IfOk result (λ text. string_bytes text ≡ join_with_byte 32 (verb.now ∷ side_text h ∷ decimal n ∷ [])) }
+{
+    words1(alloc, verb, name(h), &n)
+}
+
+// A verb, a host and two numbers.
+fn two_numbers(
+    alloc: Global,
+    verb: &str,
+    h: Side,
+    first: usize,
+    second: usize,
+) -> Result<String, AllocError>
+    ensures { IfOk result (λ text. string_bytes text ≡ join_with_byte 32 (verb.now ∷ side_text h ∷ decimal first ∷ decimal second ∷ [])) }
+{
+    words2(alloc, verb, name(h), &first, &second)
+}
+
+// A verb, a host, a number and bytes.
+fn number_and_bytes(
+    alloc: Global,
+    verb: &str,
+    h: Side,
+    n: usize,
+    bytes: &HexBytes<'_>,
+) -> Result<String, AllocError>
+    ensures { IfOk result (λ text. string_bytes text ≡ join_with_byte 32 (verb.now ∷ side_text h ∷ decimal n ∷ hex_word bytes.now ∷ [])) }
+{
+    words2(alloc, verb, name(h), &n, &hex(alloc, bytes)?)
 }
 
 fn hex(alloc: Global, bytes: &HexBytes<'_>) -> Result<String, AllocError>
@@ -187,7 +247,7 @@ fn queued_socket(
 ) -> Result<String, AllocError>
     ensures { IfOk result (λ text. string_bytes text ≡ join_with_byte 32 (codes "socket" ∷ side_text side ∷ kind.now ∷ queue_words sizes)) }
 {
-    format!(in alloc; "socket {} {kind} {}", name(side), queues(alloc, sizes)?)
+    words2(alloc, "socket", name(side), &kind, &queues(alloc, sizes)?)
 }
 
 fn raw_socket(
@@ -200,41 +260,47 @@ fn raw_socket(
     ensures { IfOk result (λ text. string_bytes text ≡ line_text (Socket side (Raw version protocol sizes))) }
 {
     let protocol = protocol_word(alloc, protocol)?;
-    format!(in alloc;
-        "socket {} raw {} {protocol} {}",
+    let queues = queues(alloc, sizes)?;
+    words4(
+        alloc,
+        "socket",
         name(side),
-        version_name(version),
-        queues(alloc, sizes)?
+        &"raw",
+        &version_name(version),
+        &protocol,
+        &queues,
     )
 }
 
 fn tcp_socket(alloc: Global, side: Side, sizes: StreamSizes) -> Result<String, AllocError>
     ensures { IfOk result (λ text. string_bytes text ≡ line_text (Socket side (Tcp sizes))) }
 {
-    format!(in alloc;
-        "socket {} tcp {} {}",
+    words3(
+        alloc,
+        "socket",
         name(side),
-        sizes.receive_bytes,
-        sizes.send_bytes
+        &"tcp",
+        &sizes.receive_bytes,
+        &sizes.send_bytes,
     )
 }
 
 fn world(alloc: Global, medium: Medium, mtu: usize) -> Result<String, AllocError>
     ensures { IfOk result (λ text. string_bytes text ≡ line_text (World medium mtu)) }
 {
-    format!(in alloc; "world {} {mtu}", medium_name(medium))
+    words1(alloc, "world", medium_name(medium), &mtu)
 }
 
 fn hw(alloc: Global, h: Side, address: EthernetAddress) -> Result<String, AllocError>
     ensures { IfOk result (λ text. string_bytes text ≡ line_text (Hw h address)) }
 {
-    format!(in alloc; "hw {} {address}", name(h))
+    words1(alloc, "hw", name(h), &address)
 }
 
 fn route(alloc: Global, h: Side, router: IpAddress) -> Result<String, AllocError>
     ensures { IfOk result (λ text. string_bytes text ≡ line_text (Route h router)) }
 {
-    format!(in alloc; "route {} {router}", name(h))
+    words1(alloc, "route", name(h), &router)
 }
 
 fn addrs(alloc: Global, side: Side, blocks: &Blocks) -> Result<String, AllocError>
@@ -258,7 +324,7 @@ fn connect(
     ensures { IfOk result (λ text. string_bytes text ≡ line_text (Connect h s remote port)) }
 {
     let remote = endpoint(alloc, remote)?;
-    format!(in alloc; "connect {} {s} {remote} {port}", name(h))
+    words3(alloc, "connect", name(h), &s, &remote, &port)
 }
 
 fn send_to(
@@ -271,7 +337,7 @@ fn send_to(
     ensures { IfOk result (λ text. string_bytes text ≡ line_text (SendTo h s remote bytes.now)) }
 {
     let remote = endpoint(alloc, remote)?;
-    format!(in alloc; "sendto {} {s} {remote} {}", name(h), hex(alloc, bytes)?)
+    words3(alloc, "sendto", name(h), &s, &remote, &hex(alloc, bytes)?)
 }
 
 fn send_icmp(
@@ -283,19 +349,19 @@ fn send_icmp(
 ) -> Result<String, AllocError>
     ensures { IfOk result (λ text. string_bytes text ≡ line_text (SendIcmp h s to bytes.now)) }
 {
-    format!(in alloc; "sendicmp {} {s} {to} {}", name(h), hex(alloc, bytes)?)
+    words3(alloc, "sendicmp", name(h), &s, &to, &hex(alloc, bytes)?)
 }
 
 fn poll(alloc: Global, h: Side, t: Instant, budget: u16) -> Result<String, AllocError>
     ensures { IfOk result (λ text. string_bytes text ≡ line_text (Poll h t budget)) }
 {
-    format!(in alloc; "poll {} {} {budget}", name(h), t.total_micros())
+    words2(alloc, "poll", name(h), &t.total_micros(), &budget)
 }
 
 fn poll_at(alloc: Global, h: Side, t: Instant) -> Result<String, AllocError>
     ensures { IfOk result (λ text. string_bytes text ≡ line_text (PollAt h t)) }
 {
-    format!(in alloc; "pollat {} {}", name(h), t.total_micros())
+    words1(alloc, "pollat", name(h), &t.total_micros())
 }
 
 fn damage(
@@ -309,15 +375,19 @@ fn damage(
     ensures { IfOk result (λ text. string_bytes text ≡ line_text (Damage h k place word bytes.now)) }
 {
     let word = word_text(alloc, word)?;
-    format!(in alloc;
-        "damage {} {k} {place} {word} {}",
+    words4(
+        alloc,
+        "damage",
         name(h),
-        hex(alloc, bytes)?
+        &k,
+        &place,
+        &word,
+        &hex(alloc, bytes)?,
     )
 }
 
 fn noise(alloc: Global, h: Side, bytes: &HexBytes<'_>) -> Result<String, AllocError>
     ensures { IfOk result (λ text. string_bytes text ≡ line_text (Noise h bytes.now)) }
 {
-    format!(in alloc; "noise {} {}", name(h), hex(alloc, bytes)?)
+    words1(alloc, "noise", name(h), &hex(alloc, bytes)?)
 }
