@@ -1,8 +1,24 @@
 """What tools know of scripts and of what the programs `lan`, `cases` and `one_host` write."""
+import re
+import zlib
+
+TALLY = re.compile(r"(?m)^read \d+ bytes, sum \d+\n?\Z")
+
+
+def tally(data):
+    """The line that ends the answers to a file of cases of these bytes: how many there are, and their CRC-32."""
+    return f"read {len(data)} bytes, sum {zlib.crc32(data)}"
+
+
+def text_of(path):
+    """The text of a file. A byte that is none of a text's stands for itself."""
+    with open(path, encoding="utf-8", errors="surrogateescape", newline="") as file:
+        return file.read()
 
 
 def parts(text):
-    """The parts of a text by name, each the lines behind a line `== NAME`. A text without such a line is one part without a name."""
+    """The parts of a text by name, each the lines behind a line `== NAME`, without the line that ends the answers to them all. A text
+    without a line `== NAME` is one part without a name."""
     found = {}
     lines = found[None] = []
     for line in text.split("\n"):
@@ -12,6 +28,8 @@ def parts(text):
             lines.append(line)
     if len(found) > 1:
         del found[None]
+        if TALLY.match("\n".join(lines[-2:])):
+            del lines[-2:-1]
     return found
 
 
@@ -20,9 +38,12 @@ def script_lines(lines):
     return [line for line in lines if line and not line.startswith("#")]
 
 
-def is_of_sockets(lines):
-    """Whether a case of `cases` is one of two TCP sockets: by how its first line begins, as no script's does."""
-    return (script_lines(lines) or [""])[0].startswith(("sockets", ">"))
+def kind_of(lines):
+    """What a case of `cases` is of, by how its first line begins: `sockets` (two TCP sockets), `clients` or else `script`."""
+    first = (script_lines(lines) or [""])[0]
+    if first.startswith(("sockets", ">")):
+        return "sockets"
+    return "clients" if first.startswith(("dhcp", "dns", "client", "resolver")) else "script"
 
 
 def answered(script, output):

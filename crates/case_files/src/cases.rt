@@ -1,6 +1,10 @@
 //! The cases of a file.
+ghost use Rattle.std.specs.Prelude.{◌≡◌, IfOk, IfSome};
+ghost use Rattle.case_files.specs.Tallies.{tally};
+
 use crate::fault::{Fault, first_fault};
 use crate::lines::{CaseLine, case_line, ends_line};
+use crate::tally::Tally;
 use std::alloc::{AllocError, Global};
 use std::io::{self, Read};
 
@@ -12,14 +16,35 @@ pub struct Case {
     pub text: Vec<u8>,
 }
 
+/// The cases of a text, and its tally.
+#[derive(Drop)]
+pub struct CaseFile {
+    pub cases: Vec<Case>,
+    pub tally: Tally,
+}
+
 /// The cases that a reader gives, to its end.
-pub fn read_cases<R: Read>(alloc: Global, reader: &mut R) -> io::Result<Result<Vec<Case>, Fault>> {
+pub fn read_cases<R: Read>(alloc: Global, reader: &mut R) -> io::Result<Result<CaseFile, Fault>>
+    ensures tally { IfOk result (λ read. IfOk read (λ file. IfSome (R.remaining reader.old) (λ text. file.tally ≡ tally text))) }
+{
     let mut text = Vec::new(alloc);
     reader.read_to_end(&mut text)?;
     match first_fault(text.as_slice()) {
         Some(fault) => Ok(Err(fault)),
-        None => Ok(Ok(cases_of(alloc, text.as_slice())?)),
+        None => Ok(Ok(file_of(alloc, text.as_slice())?)),
     }
+}
+
+/// The file of a text that has no fault.
+fn file_of(alloc: Global, text: &[u8]) -> Result<CaseFile, AllocError>
+    ensures { IfOk result (λ file. file.tally ≡ tally text.now) }
+{
+    let mut tally = Tally::new();
+    tally.take(text);
+    Ok(CaseFile {
+        cases: cases_of(alloc, text)?,
+        tally,
+    })
 }
 
 /// The cases of a text that has no fault.

@@ -11,33 +11,21 @@ mod words;
 use crate::pairs::bad::Bad;
 use crate::pairs::lines::{Line, read_line, read_sizes};
 use crate::pairs::played::Played;
-use case_files::{Case, ends_line};
-use std::alloc::Global;
-use std::io::{self, Write};
+use case_files::ends_line;
+use std::alloc::{AllocError, Global};
 use std::str;
 
-/// Plays a case, whose first line says which sockets it has. False: a line ended it.
-pub fn play_case<W: Write>(alloc: Global, case: &Case, writer: &mut W) -> io::Result<bool> {
-    writer.write_all(b"== ")?;
-    write_line(case.name.as_slice(), writer)?;
-    let first = case
-        .text
-        .split(|byte| ends_line(byte))
-        .next()
-        .unwrap_or(b"");
+/// Plays the lines of a case, the first of which says which sockets it has, and puts what it writes behind a text. False: a line ended it.
+pub fn play(alloc: Global, script: &[u8], out: &mut String) -> Result<bool, AllocError> {
+    let first = script.split(|byte| ends_line(byte)).next().unwrap_or(b"");
     match made(alloc, first) {
-        Ok(mut played) => play_made(alloc, &mut played, first, case.text.as_slice(), writer),
+        Ok(mut played) => play_made(alloc, &mut played, script, out),
         Err(bad) => {
             let why = bad.to_text(alloc, first)?;
-            writeln!(writer, "line 1: {why}")?;
+            writeln!(out, "line 1: {why}")?;
             Ok(false)
         }
     }
-}
-
-fn write_line<W: Write>(line: &[u8], writer: &mut W) -> io::Result<()> {
-    writer.write_all(line)?;
-    writer.write_all(b"\n")
 }
 
 /// The sockets that a case's first line says.
@@ -46,35 +34,23 @@ fn made(alloc: Global, line: &[u8]) -> Result<Box<Played>, Bad> {
     Played::new(alloc, &sizes).ok_or(Bad::new("buffers", 0))
 }
 
-/// Plays a case of these sockets, whose first line says them.
-fn play_made<W: Write>(
-    alloc: Global,
-    played: &mut Played,
-    first: &[u8],
-    script: &[u8],
-    writer: &mut W,
-) -> io::Result<bool> {
-    write_line(first, writer)?;
-    play_events(alloc, played, script, writer)
-}
-
-/// Plays the events behind a case's first line.
-fn play_events<W: Write>(
+/// Plays a case of these sockets, whose first line says them, and then events.
+fn play_made(
     alloc: Global,
     played: &mut Played,
     script: &[u8],
-    writer: &mut W,
-) -> io::Result<bool> {
-    for (place, line) in script.split(|byte| ends_line(byte)).enumerate().skip(1) {
+    out: &mut String,
+) -> Result<bool, AllocError> {
+    for (place, line) in script.split(|byte| ends_line(byte)).enumerate() {
         if line.is_empty() {
             // Behind the last line feed.
             return Ok(true);
         }
-        match play_line(alloc, played, line, writer)? {
+        match play_line(alloc, played, place, line, out)? {
             None => {}
             Some(bad) => {
                 let why = bad.to_text(alloc, line)?;
-                writeln!(writer, "line {}: {why}", place.saturating_add(1))?;
+                writeln!(out, "line {}: {why}", place.saturating_add(1))?;
                 return Ok(false);
             }
         }
@@ -82,26 +58,31 @@ fn play_events<W: Write>(
     Ok(true)
 }
 
-/// Plays a line: why it says no event, if it says none.
-fn play_line<W: Write>(
+/// Plays a line at this place: why it says no event, if it says none. The first one is played already.
+fn play_line(
     alloc: Global,
     played: &mut Played,
+    place: usize,
     line: &[u8],
-    writer: &mut W,
-) -> io::Result<Option<Bad>> {
-    let said = match said(alloc, line) {
-        Ok(Some(said)) => said,
-        Ok(None) => return Ok(None),
+    out: &mut String,
+) -> Result<Option<Bad>, AllocError> {
+    let line = match text(line) {
+        Ok(line) => line,
         Err(bad) => return Ok(Some(bad)),
     };
-    write_line(line, writer)?;
-    let text = played.take(alloc, &said)?;
-    writer.write_all(text.as_bytes())?;
-    Ok(None)
-}
-
-fn said(alloc: Global, line: &[u8]) -> Result<Option<Line>, Bad> {
-    read_line(alloc, text(line)?)
+    if place == 0 {
+        writeln!(out, "{line}")?;
+        return Ok(None);
+    }
+    match read_line(alloc, line) {
+        Ok(Some(said)) => {
+            writeln!(out, "{line}")?;
+            played.take(alloc, &said, out)?;
+            Ok(None)
+        }
+        Ok(None) => Ok(None),
+        Err(bad) => Ok(Some(bad)),
+    }
 }
 
 fn text(line: &[u8]) -> Result<&str, Bad> {

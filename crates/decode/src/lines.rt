@@ -3,21 +3,24 @@ use crate::emit::emit;
 use crate::fault::{CARRIAGE_RETURN, Fault, done};
 use crate::texts::take_text;
 use crate::words::bytes_of;
+use case_files::Tally;
 use net_base::Medium;
 use packet_text::describe;
 use std::alloc::{AllocError, Global};
 use std::io::{self, BufRead, BufReader, Read, Write};
 use std::str;
 
-/// The line that was read last, the medium that was named last, and whether each line was taken.
+/// The line that was read last, all that was read, the medium that was named last, and whether each line was taken.
 #[derive(Drop)]
 struct Lines {
     line: Vec<u8>,
+    tally: Tally,
     medium: Option<Medium>,
     all_taken: bool,
 }
 
-/// Answers each line, and says whether each was taken. Where a frame stands before the first medium, nothing more is read.
+/// Answers each line, and says whether each was taken. Where a frame stands before the first medium, nothing more is read; else the line of
+/// the tally ends the answers.
 pub(crate) fn run<R: Read + Drop, W: Write>(
     alloc: Global,
     reader: R,
@@ -26,34 +29,44 @@ pub(crate) fn run<R: Read + Drop, W: Write>(
     let mut reader = BufReader::new(alloc, reader)?;
     let mut lines = Lines {
         line: Vec::new(alloc),
+        tally: Tally::new(),
         medium: None,
         all_taken: true,
     };
-    answer_all(alloc, &mut lines, &mut reader, writer)?;
+    if answer_all(alloc, &mut lines, &mut reader, writer)? {
+        lines.tally.write_line(writer)?;
+    }
     writer.flush()?;
     Ok(lines.all_taken)
 }
 
+// Answers each line, and says whether all were read; where there is none, that isn't said.
 fn answer_all<R: BufRead, W: Write>(
     alloc: Global,
     lines: &mut Lines,
     reader: &mut R,
     writer: &mut W,
-) -> io::Result<()> {
+) -> io::Result<bool> {
     for number in 1..u64::MAX {
         lines.line.clear();
         if reader.read_until(b'\n', &mut lines.line)? == 0 {
-            if number == 1 {
-                lines.all_taken = false;
-                writer.write_all(b"line 1: bad medium: no word for ip or ethernet\n")?;
-            }
-            break;
+            return end(lines, number, writer);
         }
+        lines.tally.take(lines.line.as_slice());
         if !answer(alloc, lines, number, writer)? {
-            break;
+            return Ok(false);
         }
     }
-    Ok(())
+    Ok(false)
+}
+
+// The input ends where a line of this number would begin: whether there was one before.
+fn end<W: Write>(lines: &mut Lines, number: u64, writer: &mut W) -> io::Result<bool> {
+    if number == 1 {
+        lines.all_taken = false;
+        writer.write_all(b"line 1: bad medium: no word for ip or ethernet\n")?;
+    }
+    Ok(number != 1)
 }
 
 // Answers the line that was read, and says whether more are.

@@ -1,5 +1,6 @@
 //! A run of scripts whose text comes in pieces.
 use crate::session::Session;
+use case_files::Tally;
 use std::alloc::{AllocError, Global};
 use std::io::{self, Write};
 
@@ -14,6 +15,9 @@ pub struct Run {
     // Whether a line ended this script before its own end, or one of those so far.
     is_over: bool,
     has_stopped: bool,
+    // All that was read, and whether a name stood in it.
+    tally: Tally,
+    has_names: bool,
 }
 
 impl Run {
@@ -25,6 +29,8 @@ impl Run {
             begun: Vec::new(alloc),
             is_over: false,
             has_stopped: false,
+            tally: Tally::new(),
+            has_names: false,
         }
     }
 
@@ -35,6 +41,7 @@ impl Run {
         piece: &[u8],
         writer: &mut W,
     ) -> io::Result<()> {
+        self.tally.take(piece);
         for byte in piece {
             self.take_byte(alloc, *byte, writer)?;
         }
@@ -49,10 +56,13 @@ impl Run {
         }
     }
 
-    /// Takes the end of the text, which ends a line that was begun: the status.
+    /// Takes the end of the text, which ends a line that was begun: the status. Behind scripts with names stands the line of the tally.
     pub fn finish<W: Write>(&mut self, alloc: Global, writer: &mut W) -> io::Result<u8> {
         if !self.begun.as_slice().is_empty() {
             self.take_line(alloc, writer)?;
+        }
+        if self.has_names {
+            self.tally.write_line(writer)?;
         }
         Ok(u8::from(self.has_stopped))
     }
@@ -76,6 +86,7 @@ impl Run {
         writer.write_all(self.begun.as_slice())?;
         writer.write_all(b"\n")?;
         self.session.set(Session::Begun);
+        self.has_names = true;
         self.is_over = false;
         self.begun.clear();
         self.number = 1;

@@ -5,10 +5,10 @@ ghost use Rattle.ip_wire.specs.Tcp.{header_len, header_of};
 
 use ip_wire::{IpAddress, TcpPacketMut, TcpRepr};
 use net_base::ChecksumCapabilities;
-use socket_base::{Offer, PollAt};
+use sockets::tcp::Socket;
+use sockets::{Offer, PollAt};
 use std::alloc::{AllocError, Global};
 use tcp_pair::{Pair, PairAnswer, PairRefused, SentSegment, Side, TcpFault};
-use tcp_socket::Socket;
 
 /// The line of an answer: of an offer what was offered.
 pub fn push_answer(

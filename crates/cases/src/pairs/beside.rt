@@ -6,10 +6,10 @@ ghost use Rattle.tcp_pair.specs.Promises.{IsFresh};
 use crate::pairs::lines::{Todo, at_port};
 use ip_wire::TcpRepr;
 use net_base::{Instant, ManagedSlice, RingBuffer};
-use socket_base::{Context, Offer, PollAt};
+use sockets::tcp::{Socket, SocketBuffer};
+use sockets::{Context, Offer, PollAt};
 use std::alloc::Global;
 use tcp_pair::{PairContext, SentSegment, Side, TcpSetting};
-use tcp_socket::{Socket, SocketBuffer};
 
 /// The longest buffer that a socket takes.
 const LONGEST: usize = 1 << 30;

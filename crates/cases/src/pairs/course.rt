@@ -2,7 +2,7 @@
 use crate::pairs::lines::Todo;
 use crate::pairs::played::Played;
 use net_base::{Duration, Instant};
-use socket_base::PollAt;
+use sockets::PollAt;
 use std::alloc::{AllocError, Global};
 use tcp_pair::{PairEvent, PairRefused, Side};
 

@@ -4,9 +4,9 @@ use crate::pairs::words::Words;
 use hex::FromHexError;
 use ip_wire::{IpEndpoint, IpListenEndpoint, TcpTimestampGenerator};
 use net_base::{Duration, Instant};
+use sockets::tcp::CongestionControl;
 use std::alloc::{AllocError, Global};
 use tcp_pair::{Bytes, PairEvent, Side, TcpSetting};
-use tcp_socket::CongestionControl;
 
 /// How many letters a line sends at most.
 const MOST_LETTERS: usize = 1 << 20;

@@ -5,7 +5,7 @@ use crate::pairs::answers::{
 use crate::pairs::beside::{Beside, socket};
 use crate::pairs::lines::{Line, Sizes, Todo};
 use crate::pairs::users::Users;
-use socket_base::Offer;
+use sockets::Offer;
 use std::alloc::{AllocError, Global};
 use tcp_pair::{Pair, PairAnswer, PairRefused, Side};
 
@@ -42,14 +42,8 @@ impl Played {
         })
     }
 
-    /// Does what a line says: what is written of it.
-    pub fn take(&mut self, alloc: Global, line: &Line) -> Result<String, AllocError> {
-        let mut text = String::new(alloc);
-        self.take_into(alloc, line, &mut text)?;
-        Ok(text)
-    }
-
-    fn take_into(
+    /// Does what a line says, and puts what is written of it behind a text.
+    pub fn take(
         &mut self,
         alloc: Global,
         line: &Line,

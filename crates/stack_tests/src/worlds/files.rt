@@ -40,7 +40,8 @@ fn is_case(case: Option<&Case>, name: &str, text: &str) -> bool {
 
 #[test]
 fn cases_have_their_lines(rt: HostRuntime) -> Result<(), Fail> {
-    let cases = read_cases(rt.alloc(), &mut TWO.as_bytes())?.map_err(|_| "a fault")?;
+    let file = read_cases(rt.alloc(), &mut TWO.as_bytes())?.map_err(|_| "a fault")?;
+    let cases = file.cases;
     assert!(rt; cases.len() == 3);
     assert!(rt; is_case(cases.get(0), "one ", "start\n =\nworld\n"));
     assert!(rt; is_case(cases.get(1), "", ""));

@@ -3,7 +3,7 @@ ghost use Rattle.net_base.specs.Time.{IsMoment};
 
 use ip_wire::{IpAddress, Ipv4Address, Ipv6Address};
 use net_base::{ChecksumCapabilities, Instant, Rand};
-use socket_base::Context;
+use sockets::Context;
 
 /// The address of the host, of each family.
 pub(crate) const ADDRESS_V4: Ipv4Address = Ipv4Address([10, 7, 0, 69]);
@@ -42,7 +42,7 @@ impl Context for Host {
     ghost use Rattle.net_base.specs.RandomWords.{next_state};
     ghost use Rattle.net_base.specs.Capabilities.{all_checksums};
     ghost use Rattle.net_base.specs.Checksum.TheVariants as checksum;
-    ghost use Rattle.client_cases.specs.Source.{source_for};
+    ghost use Rattle.cases.specs.Source.{source_for};
 
     ghost context = { λ c. record {
       moment = c.now;

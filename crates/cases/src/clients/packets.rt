@@ -1,61 +1,57 @@
 //! Packets to servers and from them.
 use ip_wire::{IpProtocol, IpRepr, Ipv4Address, Ipv4Repr, Ipv6Address, Ipv6Repr, UdpRepr};
-use socket_base::{IpPayload, Offer, Packet};
-use std::alloc::Global;
+use sockets::{IpPayload, Offer, Packet};
+use std::alloc::{AllocError, Global};
 use std::fmt::Debug;
-use std::io::{self, Write};
 
 /// Says a value on a line of its own.
-pub(crate) fn say<T: Debug, W: Write>(value: &T, writer: &mut W) -> io::Result<()> {
-    writeln!(writer, "{value:?}")
+pub(crate) fn say<T: Debug>(value: &T, out: &mut String) -> Result<(), AllocError> {
+    writeln!(out, "{value:?}")
 }
 
 /// Says what was offered: where from and where to, each an address, this sign and a port, and its bytes.
-pub(crate) fn say_offer<W: Write>(
+pub(crate) fn say_offer(
     alloc: Global,
     offer: Offer,
     offered: Option<Packet<'_>>,
     sign: char,
-    writer: &mut W,
-) -> io::Result<()> {
+    out: &mut String,
+) -> Result<(), AllocError> {
     if let Offer::Silent { changed } = offer {
-        return writeln!(writer, "silent {changed}");
+        return writeln!(out, "silent {changed}");
     }
     match offered {
-        Some(packet) => say_packet(alloc, &packet, sign, writer),
+        Some(packet) => say_packet(alloc, &packet, sign, out),
         None => Ok(()),
     }
 }
 
-fn say_packet<W: Write>(
+fn say_packet(
     alloc: Global,
     packet: &Packet<'_>,
     sign: char,
-    writer: &mut W,
-) -> io::Result<()> {
+    out: &mut String,
+) -> Result<(), AllocError> {
     match packet.payload() {
         IpPayload::Udp(ports, bytes) => {
-            say_datagram(alloc, &packet.ip_repr(), ports, bytes, sign, writer)
+            say_datagram(alloc, &packet.ip_repr(), ports, bytes, sign, out)
         }
         _ => Ok(()),
     }
 }
 
-fn say_datagram<W: Write>(
+fn say_datagram(
     alloc: Global,
     header: &IpRepr,
     ports: &UdpRepr,
     bytes: &[u8],
     sign: char,
-    writer: &mut W,
-) -> io::Result<()> {
+    out: &mut String,
+) -> Result<(), AllocError> {
     let digits = hex::encode(alloc, bytes)?;
     let (from, to) = (header.src_addr(), header.dst_addr());
     let (source, destination) = (ports.src_port, ports.dst_port);
-    writeln!(
-        writer,
-        "{from}{sign}{source} {to}{sign}{destination} {digits}"
-    )
+    writeln!(out, "{from}{sign}{source} {to}{sign}{destination} {digits}")
 }
 
 /// The header of a datagram of IPv4 with so many bytes.

@@ -1,14 +1,14 @@
 //! Messages of DNS, read.
-use dns_socket::{DnsPacket, DnsQuestion, DnsRecord};
-use std::io::{self, Write};
+use sockets::dns::{DnsPacket, DnsQuestion, DnsRecord};
+use std::alloc::AllocError;
 
 /// Says what the header says, how many records follow the answers, and then each question and answer, up to the first that is refused.
-pub(crate) fn describe<W: Write>(bytes: &[u8], writer: &mut W) -> io::Result<()> {
+pub(crate) fn describe(bytes: &[u8], out: &mut String) -> Result<(), AllocError> {
     let Ok(packet) = DnsPacket::new_checked(bytes) else {
-        return writer.write_all(b"refused\n");
+        return out.push_str("refused\n");
     };
     writeln!(
-        writer,
+        out,
         "{:04x} {:?} {:?} {:?}",
         packet.transaction_id(),
         packet.opcode(),
@@ -20,27 +20,27 @@ pub(crate) fn describe<W: Write>(bytes: &[u8], writer: &mut W) -> io::Result<()>
         packet.additional_record_count(),
     );
     if (authority, additional) != (0, 0) {
-        writeln!(writer, "{authority} of authorities, {additional} more")?;
+        writeln!(out, "{authority} of authorities, {additional} more")?;
     }
     let mut at = 12;
     for _ in 0..packet.question_count() {
         let Ok((question, end)) = DnsQuestion::parse(bytes, at) else {
-            return writer.write_all(b"refused\n");
+            return out.push_str("refused\n");
         };
-        writeln!(writer, "{question:?}")?;
+        writeln!(out, "{question:?}")?;
         at = end;
     }
-    records(bytes, at, packet.answer_record_count(), writer)
+    records(bytes, at, packet.answer_record_count(), out)
 }
 
 /// Says what so many records from a place say.
-fn records<W: Write>(bytes: &[u8], start: usize, count: u16, writer: &mut W) -> io::Result<()> {
+fn records(bytes: &[u8], start: usize, count: u16, out: &mut String) -> Result<(), AllocError> {
     let mut at = start;
     for _ in 0..count {
         let Ok((answer, end)) = DnsRecord::parse(bytes, at) else {
-            return writer.write_all(b"refused\n");
+            return out.push_str("refused\n");
         };
-        writeln!(writer, "{answer:?}")?;
+        writeln!(out, "{answer:?}")?;
         at = end;
     }
     Ok(())

@@ -1,17 +1,24 @@
-//! The lines of the input, each answered before the next is read.
-use crate::host::Host;
-use crate::{dhcp_client, dhcp_message, dns_client, dns_message};
+//! Cases of clients of DHCP and DNS, and of their messages, line by line.
+mod dhcp_client;
+mod dhcp_message;
+mod dns_client;
+mod dns_message;
+mod host;
+mod packets;
+
+use crate::clients::host::Host;
+use case_files::ends_line;
 use hex::FromHexError;
-use std::alloc::Global;
-use std::io::{self, BufRead, BufReader, ErrorKind, Read, Write};
+use sockets::{dhcp, dns};
+use std::alloc::{AllocError, Global};
 use std::mem::replace;
 use std::str;
 
 /// The client that lines are for.
 #[derive(Drop)]
 enum Client {
-    Dhcp(dhcpv4::Socket),
-    Dns(dns_socket::Socket),
+    Dhcp(dhcp::Socket),
+    Dns(dns::Socket),
 }
 
 /// A host and its client.
@@ -44,50 +51,40 @@ fn dns_player(seed: u64) -> Player {
     }
 }
 
-/// Answers each line, and says by its number which one isn't taken. The status: 0 where each one was, else 1.
-pub(crate) fn run<R: Read + Drop, W: Write>(
-    alloc: Global,
-    reader: R,
-    writer: &mut W,
-) -> io::Result<u8> {
+/// Plays the lines of a case, at a client of DHCP until another one begins, puts what they answer behind a text, and says by its number
+/// which line isn't taken. False: one wasn't.
+pub fn play(alloc: Global, script: &[u8], out: &mut String) -> Result<bool, AllocError> {
     let mut player = dhcp_player(0);
-    play(alloc, reader, &mut player, writer)
+    play_at(alloc, script, &mut player, out)
 }
 
 /// The same of this player. (It is borrowed: where it is owned each way out lets it go, which makes a long proof.)
-fn play<R: Read + Drop, W: Write>(
+fn play_at(
     alloc: Global,
-    reader: R,
+    script: &[u8],
     player: &mut Player,
-    writer: &mut W,
-) -> io::Result<u8> {
-    let mut reader = BufReader::new(alloc, reader)?;
-    let mut line = Vec::new(alloc);
-    let mut status = 0;
-    for number in 1..u64::MAX {
-        line.clear();
-        if reader.read_until(b'\n', &mut line)? == 0 {
-            break;
-        }
-        let why = match take(alloc, line.as_slice(), player, writer)? {
+    out: &mut String,
+) -> Result<bool, AllocError> {
+    let mut all_taken = true;
+    for (place, line) in script.split(|byte| ends_line(byte)).enumerate() {
+        let why = match take(alloc, line, player, out)? {
             Answer::Taken => continue,
             Answer::NoMessage => "no message",
             Answer::NoSuchLine => "no such line",
         };
-        writeln!(writer, "line {number}: {why}")?;
-        status = 1;
+        writeln!(out, "line {}: {why}", place.saturating_add(1))?;
+        all_taken = false;
     }
-    writer.flush()?;
-    Ok(status)
+    Ok(all_taken)
 }
 
-/// Answers a line; says nothing of an empty one and of a comment.
-fn take<W: Write>(
+/// Answers a line; says nothing of one without a word and of a comment behind blanks.
+fn take(
     alloc: Global,
     line: &[u8],
     player: &mut Player,
-    writer: &mut W,
-) -> io::Result<Answer> {
+    out: &mut String,
+) -> Result<Answer, AllocError> {
     let Ok(text) = str::from_utf8(line) else {
         return Ok(Answer::NoSuchLine);
     };
@@ -97,45 +94,45 @@ fn take<W: Write>(
     }
     let (word, rest) = text.split_once(' ').unwrap_or((text, ""));
     match word {
-        "dhcp" | "dns" => describe(alloc, word, rest, writer),
-        _ => tell(alloc, word, rest, player, writer),
+        "dhcp" | "dns" => describe(alloc, word, rest, out),
+        _ => tell(alloc, word, rest, player, out),
     }
 }
 
 /// Says what a message of this kind says.
-fn describe<W: Write>(
+fn describe(
     alloc: Global,
     kind: &str,
     digits: &str,
-    writer: &mut W,
-) -> io::Result<Answer> {
+    out: &mut String,
+) -> Result<Answer, AllocError> {
     if digits.is_empty() {
         return Ok(Answer::NoMessage);
     }
     let bytes = match hex::decode(alloc, digits) {
         Ok(bytes) => bytes,
-        Err(FromHexError::OutOfMemory) => return Err(ErrorKind::OutOfMemory.into()),
+        Err(FromHexError::OutOfMemory) => return Err(AllocError),
         Err(_) => return Ok(Answer::NoMessage),
     };
     match kind {
-        "dhcp" => dhcp_message::describe(alloc, bytes.as_slice(), writer)?,
-        _ => dns_message::describe(bytes.as_slice(), writer)?,
+        "dhcp" => dhcp_message::describe(alloc, bytes.as_slice(), out)?,
+        _ => dns_message::describe(bytes.as_slice(), out)?,
     }
     Ok(Answer::Taken)
 }
 
 /// Begins a client, or tells the one that began last.
-fn tell<W: Write>(
+fn tell(
     alloc: Global,
     word: &str,
     rest: &str,
     player: &mut Player,
-    writer: &mut W,
-) -> io::Result<Answer> {
+    out: &mut String,
+) -> Result<Answer, AllocError> {
     let known = match word {
         "client" => begin(player, dhcp_player(seed(rest))),
         "resolver" => begin(player, dns_player(seed(rest))),
-        _ => play_on(alloc, word, rest, player, writer)?,
+        _ => play_on(alloc, word, rest, player, out)?,
     };
     Ok(if known {
         Answer::Taken
@@ -151,17 +148,17 @@ fn begin(player: &mut Player, next: Player) -> bool {
 }
 
 /// Tells the client that began last. False: no line begins with that word.
-fn play_on<W: Write>(
+fn play_on(
     alloc: Global,
     word: &str,
     rest: &str,
     player: &mut Player,
-    writer: &mut W,
-) -> io::Result<bool> {
+    out: &mut String,
+) -> Result<bool, AllocError> {
     let host = &mut player.host;
     match &mut player.client {
-        Client::Dhcp(client) => dhcp_client::answer(alloc, word, rest, host, client, writer),
-        Client::Dns(client) => dns_client::answer(alloc, word, rest, host, client, writer),
+        Client::Dhcp(client) => dhcp_client::answer(alloc, word, rest, host, client, out),
+        Client::Dns(client) => dns_client::answer(alloc, word, rest, host, client, out),
     }
 }
 

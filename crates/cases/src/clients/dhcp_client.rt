@@ -1,11 +1,10 @@
 //! A client of DHCP.
-use crate::host::Host;
-use crate::packets::{say, say_offer, v4_header};
-use dhcpv4::{DhcpOption, OptionsError, RetryConfig, Socket};
+use crate::clients::host::Host;
+use crate::clients::packets::{say, say_offer, v4_header};
 use ip_wire::{EthernetAddress, Ipv4Address, UdpRepr};
 use net_base::Duration;
-use std::alloc::Global;
-use std::io::{self, Write};
+use sockets::dhcp::{DhcpOption, OptionsError, RetryConfig, Socket};
+use std::alloc::{AllocError, Global};
 
 /// A client whose random words come from a seed.
 pub(crate) fn new(seed: u64) -> Socket {
@@ -13,33 +12,33 @@ pub(crate) fn new(seed: u64) -> Socket {
 }
 
 /// Answers a line: a word, for most a moment in microseconds, and more. False: no line begins with that word.
-pub(crate) fn answer<W: Write>(
+pub(crate) fn answer(
     alloc: Global,
     word: &str,
     rest: &str,
     host: &mut Host,
     client: &mut Socket,
-    writer: &mut W,
-) -> io::Result<bool> {
+    out: &mut String,
+) -> Result<bool, AllocError> {
     let (first, more) = rest.split_once(' ').unwrap_or((rest, ""));
     let micros = first.parse::<u64>().unwrap_or(0);
     let said = match word {
         "offer" => {
             host.set_now(micros);
             let offer = client.offer(host);
-            say_offer(alloc, offer, client.offered(), ':', writer)
+            say_offer(alloc, offer, client.offered(), ':', out)
         }
         "poll" => {
             host.set_now(micros);
-            say(&client.poll(host.now), writer)
+            say(&client.poll(host.now), out)
         }
-        "when" => say(&client.poll_at(host), writer),
-        "state" => say(&client.state(), writer),
+        "when" => say(&client.poll_at(host), out),
+        "state" => say(&client.state(), out),
         "ask" => {
             let codes = bytes_of(alloc, rest);
-            say(&client.set_parameter_request_list(codes.as_slice()), writer)
+            say(&client.set_parameter_request_list(codes.as_slice()), out)
         }
-        "options" => say(&options(alloc, rest, client), writer),
+        "options" => say(&options(alloc, rest, client), out),
         "arrives" => {
             host.set_now(micros);
             arrives(alloc, host, client, more);

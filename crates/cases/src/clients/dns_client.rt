@@ -1,10 +1,9 @@
 //! A client of DNS.
-use crate::host::{ADDRESS_V4, ADDRESS_V6, Host};
-use crate::packets::{say, say_offer, v4_header, v6_header};
-use dns_socket::{DnsQueryType, Socket};
+use crate::clients::host::{ADDRESS_V4, ADDRESS_V6, Host};
+use crate::clients::packets::{say, say_offer, v4_header, v6_header};
 use ip_wire::{IpAddress, IpRepr, Ipv4Address, Ipv6Address, UdpRepr};
-use std::alloc::Global;
-use std::io::{self, Write};
+use sockets::dns::{DnsQueryType, Socket};
+use std::alloc::{AllocError, Global};
 
 /// A client of two servers.
 pub(crate) fn new() -> Socket {
@@ -21,26 +20,26 @@ fn server(number: u8) -> IpAddress {
 }
 
 /// Answers a line: a word, for most a moment in microseconds, and more. False: no line begins with that word.
-pub(crate) fn answer<W: Write>(
+pub(crate) fn answer(
     alloc: Global,
     word: &str,
     rest: &str,
     host: &mut Host,
     client: &mut Socket,
-    writer: &mut W,
-) -> io::Result<bool> {
+    out: &mut String,
+) -> Result<bool, AllocError> {
     let (first, more) = rest.split_once(' ').unwrap_or((rest, ""));
     let micros = first.parse::<u64>().unwrap_or(0);
     let said = match word {
-        "a" => start(micros, more, DnsQueryType::A, host, client, writer),
-        "aaaa" => start(micros, more, DnsQueryType::Aaaa, host, client, writer),
+        "a" => start(micros, more, DnsQueryType::A, host, client, out),
+        "aaaa" => start(micros, more, DnsQueryType::Aaaa, host, client, out),
         "offer" => {
             host.set_now(micros);
             let offer = client.offer(host);
-            say_offer(alloc, offer, client.offered(), ' ', writer)
+            say_offer(alloc, offer, client.offered(), ' ', out)
         }
-        "result" => result(client, writer),
-        "when" => say(&client.poll_at(host), writer),
+        "result" => result(client, out),
+        "when" => say(&client.poll_at(host), out),
         "arrives" => {
             host.set_now(micros);
             arrives(alloc, host, client, more);
@@ -52,18 +51,18 @@ pub(crate) fn answer<W: Write>(
 }
 
 /// Asks for a name.
-fn start<W: Write>(
+fn start(
     micros: u64,
     name: &str,
     type_: DnsQueryType,
     host: &mut Host,
     client: &mut Socket,
-    writer: &mut W,
-) -> io::Result<()> {
+    out: &mut String,
+) -> Result<(), AllocError> {
     host.set_now(micros);
     match client.start_query(host, name, type_) {
-        Ok(()) => writeln!(writer, "started"),
-        Err(why) => writeln!(writer, "{why}"),
+        Ok(()) => writeln!(out, "started"),
+        Err(why) => writeln!(out, "{why}"),
     }
 }
 
@@ -94,18 +93,18 @@ fn header_from(server: IpAddress, len: usize) -> IpRepr {
 }
 
 /// Says what was found.
-fn result<W: Write>(client: &mut Socket, writer: &mut W) -> io::Result<()> {
+fn result(client: &mut Socket, out: &mut String) -> Result<(), AllocError> {
     match client.get_query_result() {
         Ok(found) => {
-            write!(writer, "found")?;
+            write!(out, "found")?;
             for place in &found {
                 if let Some(address) = place {
-                    write!(writer, " {address}")?;
+                    write!(out, " {address}")?;
                 }
             }
-            writeln!(writer)
+            writeln!(out)
         }
-        Err(why) => writeln!(writer, "{why}"),
+        Err(why) => writeln!(out, "{why}"),
     }
 }
 

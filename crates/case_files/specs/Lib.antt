@@ -1,0 +1,2 @@
+-- How many bytes were read, and their sum.
+pub mod Tallies

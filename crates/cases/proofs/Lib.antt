@@ -1,0 +1,2 @@
+-- What several calls wrote.
+mod Growing

@@ -1,2 +1,0 @@
--- What the host answers.
-pub mod Source
