@@ -7,14 +7,14 @@
 //! refused. `specs/Moves` says what may happen to sockets over packets and what becomes of it, `specs/PacketsSafe` what holds in every run.
 
 mod answer;
-mod bytes;
 mod event;
 pub mod examples;
 pub mod laws;
+mod owned;
 pub mod packet_laws;
 mod record;
 
 pub use answer::{Answer, Fault, Refused};
-pub use bytes::Bytes;
 pub use event::{Event, Side, TcpSetting};
+pub use owned::Bytes;
 pub use record::{Opening, SocketKind, SocketRecord, is_port_taken};

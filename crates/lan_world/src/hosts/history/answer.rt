@@ -2,7 +2,7 @@
 ghost use Rattle.std.specs.Prelude.{◌≡◌};
 ghost use Rattle.lan_world.specs.AtLink.Texts.{fault_text, refused_text};
 
-use crate::hosts::history::bytes::Bytes;
+use crate::hosts::history::owned::Bytes;
 use ip_wire::{IpAddress, IpEndpoint};
 use net_base::Instant;
 use std::fmt;

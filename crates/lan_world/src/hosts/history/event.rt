@@ -1,5 +1,5 @@
 //! The events of two hosts and their link.
-use crate::hosts::history::bytes::Bytes;
+use crate::hosts::history::owned::Bytes;
 use arrayvec::ArrayVec;
 use ip_wire::{EthernetAddress, IpAddress, IpCidr, IpEndpoint, TcpTimestampGenerator};
 use net_base::{Duration, Instant};
