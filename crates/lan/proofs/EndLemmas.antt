@@ -4,9 +4,9 @@ use Rattle.std.specs.Prelude.{◌≢◌, pos, option_map, if◌then◌else◌}
 use Rattle.lan_world.specs.Settings.{refusal}
 use Rattle.lan_world.specs.NewError.{NewError}
 use Rattle.lan_world.specs.NewError.TheVariants as New
-use Rattle.lan_world.specs.declared.hosts.history.answer.Refused.TheVariants.{Memory}
-use Rattle.lan_world.specs.declared.hosts.history.event.Side.{Side}
-use Rattle.lan_world.specs.declared.hosts.history.event.Side.TheVariants.{A, B}
+use Rattle.lan_world.specs.declared.at_link.history.answer.Refused.TheVariants.{Memory}
+use Rattle.lan_world.specs.declared.at_link.history.event.Side.{Side}
+use Rattle.lan_world.specs.declared.at_link.history.event.Side.TheVariants.{A, B}
 use Rattle.lan_base.specs.declared.line.Line.{Line}
 use Rattle.lan_base.specs.declared.line.Line.TheVariants.{Start}
 use Rattle.lan_world.specs.Station.{StationValue}

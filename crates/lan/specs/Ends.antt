@@ -3,9 +3,9 @@ use Rattle.std.specs.Prelude.{ℕ, List, ◌++◌, codes, Option, Some, None}
 use Rattle.std.specs.Fmt.{decimal}
 use Rattle.lan_world.specs.NewError.{NewError}
 use Rattle.lan_world.specs.NewError.TheVariants as New
-use Rattle.lan_world.specs.declared.hosts.history.answer.Refused.{Refused}
-use Rattle.lan_world.specs.declared.hosts.history.answer.Refused.TheVariants.{NoSocket, WrongKind, NoFrame, NotTcp, Place, SameSum, NamesTcpOrUdp, OpenedTwice, PortTaken}
-use Rattle.lan_world.specs.declared.hosts.history.answer.Refused.TheVariants.{TooManyBytes, TooManyCut, RawProtocol, Moment, Memory, NotIpv4, CutPlace}
+use Rattle.lan_world.specs.declared.at_link.history.answer.Refused.{Refused}
+use Rattle.lan_world.specs.declared.at_link.history.answer.Refused.TheVariants.{NoSocket, WrongKind, NoFrame, NotTcp, Place, SameSum, NamesTcpOrUdp, OpenedTwice, PortTaken}
+use Rattle.lan_world.specs.declared.at_link.history.answer.Refused.TheVariants.{TooManyBytes, TooManyCut, RawProtocol, Moment, Memory, NotIpv4, CutPlace}
 use Rattle.lan_world.specs.declared.error.WorldError.{WorldError}
 use Rattle.lan_world.specs.declared.error.WorldError.TheVariants as Since
 use Rattle.lan.specs.declared.end.End.{End}

@@ -20,8 +20,8 @@ use Rattle.ip_address.specs.declared.ip.IpCidr.{IpCidr}
 use Rattle.ip_address.specs.declared.ip.IpCidr.TheVariants as Block
 use Rattle.ip_address.specs.Protocol.{protocol_of}
 use Rattle.lan_world.specs.AtLink.Kinds.{same_side}
-use Rattle.lan_world.specs.declared.hosts.history.event.Side.{Side}
-use Rattle.lan_world.specs.declared.hosts.history.event.Side.TheVariants.{A, B}
+use Rattle.lan_world.specs.declared.at_link.history.event.Side.{Side}
+use Rattle.lan_world.specs.declared.at_link.history.event.Side.TheVariants.{A, B}
 use Rattle.lan_base.specs.Port.{unused_end}
 use Rattle.lan_base.specs.declared.kinds.QueueSizes.{QueueSizes}
 use Rattle.lan_base.specs.declared.kinds.SocketSpec.{SocketSpec}

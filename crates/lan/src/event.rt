@@ -3,7 +3,7 @@ ghost use Rattle.std.specs.Prelude.{◌≡◌, true, IfOk, OnErr};
 ghost use Rattle.lan.specs.Events.{side_of, event_of, has_bytes};
 
 use lan_base::{HexBytes, Line, Side as Named};
-use lan_world::hosts::{Bytes, Event, Side};
+use lan_world::at_link::{Bytes, Event, Side};
 use std::alloc::{AllocError, Global};
 
 /// The host of a world that a line names.

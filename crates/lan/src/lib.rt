@@ -29,9 +29,9 @@ pub use end::End;
 pub use event::{event_of, side_of};
 pub use header::Header;
 pub use lan_base::{Line, Port, PortTxToken, names_tcp_or_udp};
-pub use lan_world::hosts::history::laws as history_laws;
+pub use lan_world::at_link::history::laws as history_laws;
 pub use lan_world::{
-    Answer, Bytes, Event, Fault, Host, Refused, Side, TcpSetting, World, WorldError, host_laws,
-    hosts,
+    Answer, Bytes, Event, Fault, Host, Refused, Side, TcpSetting, World, WorldError, at_link,
+    host_laws,
 };
 pub use script::{MOST_READS, replay, try_replay};

@@ -1,7 +1,7 @@
 //! A script as far as it has come, line by line.
 ghost use Rattle.std.specs.Prelude.{◌≡◌, ◌⊎◌, Some, None, IfOk, OnOk, IfErr, option_map};
 ghost use Rattle.std.specs.String.{string_bytes};
-ghost use Rattle.lan_world.specs.declared.hosts.history.answer.Refused.TheVariants.{Memory};
+ghost use Rattle.lan_world.specs.declared.at_link.history.answer.Refused.TheVariants.{Memory};
 ghost use Rattle.lan_world.specs.Runs.{refusal_in};
 ghost use Rattle.lan.specs.declared.end.End.TheVariants.{Refusal};
 ghost use Rattle.lan.specs.Scripts.{Takes, MayEnd, event_end, EventLeads};
@@ -14,7 +14,7 @@ use crate::event::{event_of, side_of};
 use crate::header::Header;
 use lan_base::Line;
 use lan_world::World;
-use lan_world::hosts::{Event, Side};
+use lan_world::at_link::{Event, Side};
 use std::alloc::Global;
 use std::mem::replace;
 

@@ -2,10 +2,10 @@
 use Rattle.std.proofs.Common.{◌≡◌, ◌≤◌, ℕ, List, ◌∷◌, length, None, refl, sym, subst, ◌∙◌, ap}
 use Rattle.lan_world.specs.AtLink.History.{Entry}
 use Rattle.lan_world.specs.AtLink.Kinds.{kind_of}
-use Rattle.lan_world.specs.declared.hosts.history.event.Side.{Side}
-use Rattle.lan_world.specs.declared.hosts.history.event.Side.TheVariants.{A, B}
-use Rattle.lan_world.specs.declared.hosts.history.event.Event.{Event}
-use Rattle.lan_world.specs.declared.hosts.history.answer.Answer.{Answer}
+use Rattle.lan_world.specs.declared.at_link.history.event.Side.{Side}
+use Rattle.lan_world.specs.declared.at_link.history.event.Side.TheVariants.{A, B}
+use Rattle.lan_world.specs.declared.at_link.history.event.Event.{Event}
+use Rattle.lan_world.specs.declared.at_link.history.answer.Answer.{Answer}
 use Rattle.net_base.specs.Medium.{Medium}
 use Rattle.lan_world.specs.AtLink.Origins.{medium_of, numbered}
 use Rattle.lan_world.specs.AtLink.Records.{table_next}
@@ -18,7 +18,7 @@ use Rattle.lan_world.specs.Come.{both, tables, world, HasCome}
 use Rattle.lan_world.specs.Past.{counts_in, entry}
 use Rattle.lan_world.specs.declared.history.Note.{Note}
 
--- the law of tables, which `hosts` proves
+-- the law of tables, which `at_link` proves
 abbrev pub TablesGoOn : Type 0
 TablesGoOn =
     (past : List Entry) (e : Entry) (old new : Stations) (side : Side)

@@ -9,8 +9,8 @@ use Rattle.net_base.specs.Medium.TheVariants as Medium
 use Rattle.interface.specs.Made.{IsIdle}
 use Rattle.interface_tables.specs.Settings.{is_of_medium}
 use Rattle.lan_world.specs.AtLink.Tables.{no_record}
-use Rattle.lan_world.specs.declared.hosts.history.event.Side.{Side}
-use Rattle.lan_world.specs.declared.hosts.history.event.Side.TheVariants.{A, B}
+use Rattle.lan_world.specs.declared.at_link.history.event.Side.{Side}
+use Rattle.lan_world.specs.declared.at_link.history.event.Side.TheVariants.{A, B}
 use Rattle.lan_world.specs.AtLink.Port.{LinkEnd}
 use Rattle.lan_world.specs.AtLink.Fresh.{IsTypedHost, IsFreshStart}
 use Rattle.lan_world.specs.AtLink.Runs.{unused, unused_both, table_in}

@@ -3,8 +3,8 @@ use Rattle.std.proofs.Common.{◌≡◌, List, [], ◌∷◌, ◌++◌, map, len
 use Rattle.std.proofs.lemmas.Grind.{common_steps}
 use Rattle.std.proofs.lemmas.List.{reverse-append}
 use Rattle.lan_world.specs.AtLink.History.{Entry}
-use Rattle.lan_world.specs.declared.hosts.history.answer.Answer.{Answer}
-use Rattle.lan_world.specs.declared.hosts.history.event.Event.{Event}
+use Rattle.lan_world.specs.declared.at_link.history.answer.Answer.{Answer}
+use Rattle.lan_world.specs.declared.at_link.history.event.Event.{Event}
 use Rattle.lan_world.specs.AtLink.Runs.{answers_of}
 use Rattle.lan_world.specs.Past.{entry, history_from, AreAsMany}
 use Rattle.lan_world.specs.declared.history.Note.{Note}

@@ -1,8 +1,8 @@
 -- The laws of worlds, of a world that came from fresh hosts.
 use Rattle.std.proofs.Common.{ℕ, List}
 use Rattle.lan_world.specs.AtLink.History.{Entry}
-use Rattle.lan_world.specs.declared.hosts.history.event.Side.{Side}
-use Rattle.lan_world.specs.declared.hosts.history.event.Side.TheVariants.{A, B}
+use Rattle.lan_world.specs.declared.at_link.history.event.Side.{Side}
+use Rattle.lan_world.specs.declared.at_link.history.event.Side.TheVariants.{A, B}
 use Rattle.lan_world.specs.AtLink.PacketsSafe.{IsSafe}
 use Rattle.lan_world.specs.AtLink.Fresh.{IsFreshWorld}
 use Rattle.lan_world.specs.AtLink.Refusals.{Table}

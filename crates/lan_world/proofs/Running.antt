@@ -1,8 +1,8 @@
 -- Several steps, one after the other.
 use Rattle.std.proofs.Common.{◌≡◌, ℕ, zero, suc, ◌+◌, ◌<◌, List, [], ◌∷◌, ◌++◌, length, take, drop, Some, refl, ◌∙◌, ap, subst, add-one, arith}
 use Rattle.std.specs.Prelude.{slice_get}
-use Rattle.lan_world.specs.declared.hosts.history.event.Event.{Event}
-use Rattle.lan_world.specs.declared.hosts.history.answer.Answer.{Answer}
+use Rattle.lan_world.specs.declared.at_link.history.event.Event.{Event}
+use Rattle.lan_world.specs.declared.at_link.history.answer.Answer.{Answer}
 use Rattle.lan_world.specs.AtLink.Runs.{WorldValue, Step, Steps}
 use Rattle.std.specs.Prelude.{◌≤◌}
 

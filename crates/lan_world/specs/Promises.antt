@@ -1,5 +1,5 @@
 -- What is promised of two hosts at a link that may lose, repeat, reorder, pad, damage and cut frames, and add some, wherever events led.
-use Rattle.lan_world.specs.declared.hosts.history.event.Side.TheVariants.{A, B}
+use Rattle.lan_world.specs.declared.at_link.history.event.Side.TheVariants.{A, B}
 use Rattle.lan_world.specs.AtLink.PacketsSafe.{IsSafe}
 use Rattle.lan_world.specs.AtLink.Runs.{WorldValue, WorldRun, unused_both, counts_of}
 use Rattle.lan_world.specs.AtLink.Safe.{first_port, net_of}

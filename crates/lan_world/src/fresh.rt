@@ -9,8 +9,8 @@ ghost use Rattle.sockets.specs.TcpCalls.{recv_refusal};
 ghost use Rattle.lan_world.specs.New.{new_error, has_one_medium, is_both, are_on, has_checksums, has_mtu, has_buffers, is_ingress, is_no_socket, is_unopened};
 ghost use Rattle.lan_world.specs.New.{is_unused, of_place, of_each, is_fresh};
 
+use crate::at_link::{Host, Interface, SocketSet, SocketStorage};
 use crate::error::WorldError;
-use crate::hosts::{Host, Interface, SocketSet, SocketStorage};
 use ip_wire::HardwareAddress;
 use net_base::{Checksum, ChecksumCapabilities, Device, Medium};
 use sockets::{Context, PollAt, Socket, tcp};

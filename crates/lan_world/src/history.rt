@@ -3,7 +3,7 @@ ghost use Rattle.std.specs.Prelude.{◌≡◌, ◌≤◌, [], ◌∷◌, length,
 ghost use Rattle.lan_world.specs.AtLink.Runs.{answers_of, counts_of};
 ghost use Rattle.lan_world.specs.Past.{counts_in, entry};
 
-use crate::hosts::{Answer, Event, Host};
+use crate::at_link::{Answer, Event, Host};
 use sockets::tcp::State;
 use std::alloc::{AllocError, Global};
 use std::marker::Model;

@@ -1,6 +1,6 @@
 //! Two hosts and the link between them, which loses, repeats, reorders, pads, damages and cuts frames, and adds some.
 //!
-//! What an event does to a host stands in `hosts`; a world takes events one by one, refuses those that it must, and keeps them with their
+//! What an event does to a host stands in `at_link`; a world takes events one by one, refuses those that it must, and keeps them with their
 //! answers. It passes on the hosts, the events and their answers, and what a host is made of.
 //!
 //! What a poll takes in was made, so that the theorem over packets holds of hosts with frames. `host_laws` has the hosts as machines: each is a
@@ -11,11 +11,11 @@
 //! pieces, the other host's sockets or the host itself made. `laws` joins them. `port_laws` has that a port determines its moves.
 #![tactic(auto)]
 
+pub mod at_link;
 mod error;
 mod fresh;
 mod history;
 pub mod host_laws;
-pub mod hosts;
 mod kept;
 pub mod laws;
 pub mod link_laws;
@@ -24,7 +24,7 @@ pub mod port_laws;
 mod typed;
 mod world;
 
-pub use crate::hosts::{
+pub use crate::at_link::{
     Answer, Bytes, Config, Event, Fault, Host, Interface, NewError, Refused, Side, SocketSet,
     TcpSetting,
 };

@@ -6,7 +6,7 @@ ghost use Rattle.lan_world.specs.AtLink.Kinds.{kind_of};
 ghost use Rattle.lan_world.specs.AtLink.Fresh.{IsHardware, IsTypedHost};
 ghost use Rattle.lan_world.specs.Events.{IsTyped};
 
-use crate::hosts::{Event, Host, Route};
+use crate::at_link::{Event, Host, Route};
 use ip_wire::{EthernetAddress, HardwareAddress, IpAddress, Ipv4Address, Ipv6Address};
 
 /// A word of a damage has 16 bits, a hardware address six bytes, and a router those of its family.

@@ -11,12 +11,12 @@ ghost use Rattle.lan_world.specs.Come.{both, starts_of, world};
 ghost use Rattle.lan_world.specs.New.{new_error, MayFail};
 ghost use Rattle.lan_world.specs.Promises.{IsSafeWorld};
 
+use crate::at_link::laws::{numbers_are_few, tables_go_on};
+use crate::at_link::{Answer, Event, Host, Records, Refused, Side, refusal_of, take};
 use crate::error::WorldError;
 use crate::fresh::new_error;
 use crate::history::{Counts, History, Note};
 use crate::host_laws::{hosts_run, polls_are_quiet, requests_are_apart};
-use crate::hosts::laws::{numbers_are_few, tables_go_on};
-use crate::hosts::{Answer, Event, Host, Records, Refused, Side, refusal_of, take};
 use crate::kept::Kept;
 use crate::laws::{
     damage_was_harmless, frames_are_apart, rebuilt_was_made, rebuilt_was_sent, worlds_are_safe,

@@ -6,7 +6,7 @@ ghost use Rattle.lan_world.specs.AtLink.Texts.{fault_text, refused_text};
 ghost use Rattle.lan.specs.New.{world_error_text};
 
 use lan::{Fault, Refused, WorldError};
-use lan_world::hosts::SocketRecord;
+use lan_world::at_link::SocketRecord;
 use std::fmt::Display;
 
 /// Law: a socket accepts fewer than 2^29 bytes.

@@ -6,7 +6,7 @@ ghost use Rattle.net_base.specs.Medium.{Medium};
 ghost use Rattle.lan.specs.Answers.{answer_line};
 ghost use Rattle.lan.specs.Events.{event_of, side_of};
 ghost use Rattle.lan_base.specs.Carried.{names_tcp_or_udp};
-ghost use Rattle.lan_world.specs.declared.hosts.history.event.Side.{Side};
+ghost use Rattle.lan_world.specs.declared.at_link.history.event.Side.{Side};
 ghost use Rattle.lan_world.specs.AtLink.History.{Entry};
 ghost use Rattle.lan_world.specs.AtLink.Partners.{ArePartners};
 ghost use Rattle.lan_world.specs.AtLink.Tables.{Places, AreAllowed};
@@ -18,10 +18,10 @@ use std::alloc::{AllocError, Global};
 
 /// A side, a setting, a fault, a reason of a refusal, and why two hosts make no world.
 pub fn passes_on_names(
-    side: lan_world::hosts::Side,
-    setting: lan_world::hosts::TcpSetting,
-    fault: lan_world::hosts::Fault,
-    refused: lan_world::hosts::Refused,
+    side: lan_world::at_link::Side,
+    setting: lan_world::at_link::TcpSetting,
+    fault: lan_world::at_link::Fault,
+    refused: lan_world::at_link::Refused,
     error: lan_world::WorldError,
 ) -> (
     lan::Side,
@@ -36,28 +36,28 @@ pub fn passes_on_names(
 }
 
 /// An event.
-pub fn passes_on_events(event: &lan_world::hosts::Event) -> &lan::Event
+pub fn passes_on_events(event: &lan_world::at_link::Event) -> &lan::Event
     ensures { result.now ≡ event.now }
 {
     event
 }
 
 /// An answer.
-pub fn passes_on_answers(answer: &lan_world::hosts::Answer) -> &lan::Answer
+pub fn passes_on_answers(answer: &lan_world::at_link::Answer) -> &lan::Answer
     ensures { result.now ≡ answer.now }
 {
     answer
 }
 
 /// Bytes.
-pub fn passes_on_bytes(bytes: &lan_world::hosts::Bytes) -> &lan::Bytes
+pub fn passes_on_bytes(bytes: &lan_world::at_link::Bytes) -> &lan::Bytes
     ensures { result.now ≡ bytes.now }
 {
     bytes
 }
 
 /// A host.
-pub fn passes_on_hosts(host: &lan_world::hosts::Host) -> &lan::Host
+pub fn passes_on_hosts(host: &lan_world::at_link::Host) -> &lan::Host
     ensures { result.now ≡ host.now }
 {
     host

@@ -6,10 +6,10 @@ ghost use Rattle.lan.specs.Machine.{Turn, Machine, HostRun};
 
 /// A side, a setting, a fault, and a reason of a refusal.
 pub fn passes_on_names(
-    side: lan_world::hosts::Side,
-    setting: lan_world::hosts::TcpSetting,
-    fault: lan_world::hosts::Fault,
-    refused: lan_world::hosts::Refused,
+    side: lan_world::at_link::Side,
+    setting: lan_world::at_link::TcpSetting,
+    fault: lan_world::at_link::Fault,
+    refused: lan_world::at_link::Refused,
 ) -> (
     lan_world::Side,
     lan_world::TcpSetting,
@@ -22,28 +22,28 @@ pub fn passes_on_names(
 }
 
 /// An event.
-pub fn passes_on_events(event: &lan_world::hosts::Event) -> &lan_world::Event
+pub fn passes_on_events(event: &lan_world::at_link::Event) -> &lan_world::Event
     ensures { result.now ≡ event.now }
 {
     event
 }
 
 /// An answer.
-pub fn passes_on_answers(answer: &lan_world::hosts::Answer) -> &lan_world::Answer
+pub fn passes_on_answers(answer: &lan_world::at_link::Answer) -> &lan_world::Answer
     ensures { result.now ≡ answer.now }
 {
     answer
 }
 
 /// Bytes.
-pub fn passes_on_bytes(bytes: &lan_world::hosts::Bytes) -> &lan_world::Bytes
+pub fn passes_on_bytes(bytes: &lan_world::at_link::Bytes) -> &lan_world::Bytes
     ensures { result.now ≡ bytes.now }
 {
     bytes
 }
 
 /// A host.
-pub fn passes_on_hosts(host: &lan_world::hosts::Host) -> &lan_world::Host
+pub fn passes_on_hosts(host: &lan_world::at_link::Host) -> &lan_world::Host
     ensures { result.now ≡ host.now }
 {
     host

@@ -16,12 +16,12 @@ use Rattle.lan_world.specs.AtLink.Kinds.Act.{Calls, Sets, Opens, Asks, Polls}
 use Rattle.lan_world.specs.AtLink.Kinds.Kind.{OfHost, OfLink}
 use Rattle.lan_world.specs.AtLink.Kinds.LinkAct.{Hands, Cuts}
 use Rattle.lan_world.specs.AtLink.Tables.{first_refusal, call_tests, own_tests, has_call, is_too_many, record_at}
-use Rattle.lan_world.specs.declared.hosts.history.answer.Answer.TheVariants as To
-use Rattle.lan_world.specs.declared.hosts.history.answer.Refused.{Refused}
-use Rattle.lan_world.specs.declared.hosts.history.event.Side.{Side}
-use Rattle.lan_world.specs.declared.hosts.history.event.Side.TheVariants.{A, B}
-use Rattle.lan_world.specs.declared.hosts.history.record.SocketKind.{SocketKind}
-use Rattle.lan_world.specs.declared.hosts.history.record.SocketRecord.{SocketRecord}
+use Rattle.lan_world.specs.declared.at_link.history.answer.Answer.TheVariants as To
+use Rattle.lan_world.specs.declared.at_link.history.answer.Refused.{Refused}
+use Rattle.lan_world.specs.declared.at_link.history.event.Side.{Side}
+use Rattle.lan_world.specs.declared.at_link.history.event.Side.TheVariants.{A, B}
+use Rattle.lan_world.specs.declared.at_link.history.record.SocketKind.{SocketKind}
+use Rattle.lan_world.specs.declared.at_link.history.record.SocketRecord.{SocketRecord}
 use Rattle.lan_world.specs.AtLink.Acting.{ActsBy, CanAct, CanActBy, CanHappen, HappensBy, actor, act_refusal, link_refusal}
 use Rattle.lan_world.specs.AtLink.Calling.{is_called}
 use Rattle.lan_world.specs.AtLink.Linking.{CanLink, CanLinkBy, HasSegment, HasPiece, linked_by}
@@ -30,7 +30,7 @@ use Rattle.lan_world.specs.AtLink.Records.{HasByteRoom}
 use Rattle.lan_world.specs.AtLink.Refusals.{Table, Tables, table, act_tests, link_tests, segment_tests, cut_tests, is_too_early, is_no_frame, is_no_place, is_no_cut}
 use Rattle.lan_world.specs.AtLink.Refusals.{refusal}
 use Rattle.lan_world.specs.AtLink.Station.{StationValue, Stations, station, kind_at}
-use Rattle.lan_world.specs.declared.hosts.answer.Taken.{Taken}
+use Rattle.lan_world.specs.declared.at_link.answer.Taken.{Taken}
 
 -- TESTS
 

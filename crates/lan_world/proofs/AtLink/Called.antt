@@ -17,14 +17,14 @@ use Rattle.lan_world.specs.AtLink.Call.{SocketCall}
 use Rattle.lan_world.specs.AtLink.Kinds.{Kind}
 use Rattle.lan_world.specs.AtLink.Kinds.Act.{Calls, Sets, Opens, Asks, Polls}
 use Rattle.lan_world.specs.AtLink.Kinds.Kind.{OfHost, OfLink}
-use Rattle.lan_world.specs.declared.hosts.history.event.Side.{Side}
+use Rattle.lan_world.specs.declared.at_link.history.event.Side.{Side}
 use Rattle.lan_world.specs.AtLink.Calls.{Did}
 use Rattle.lan_world.specs.AtLink.Acting.{ActsBy, ActsSo}
 use Rattle.lan_world.specs.AtLink.Answers.{HasTaken}
 use Rattle.lan_world.specs.AtLink.Calling.{is_called, ItemCalls, PlaceCalls, IsCall}
 use Rattle.lan_world.specs.AtLink.Does.{does, host_after, DidAt, ItemDoes, PlaceDoes}
 use Rattle.lan_world.specs.AtLink.Station.{StationValue, kind_in, kind_of_socket}
-use Rattle.lan_world.specs.declared.hosts.answer.Taken.{Taken}
+use Rattle.lan_world.specs.declared.at_link.answer.Taken.{Taken}
 use Rattle.lan_world.proofs.AtLink.Setting.{of_parts}
 
 some_taken : (t : Taken) → (let o : Option Taken = Some t in o) ≡ None → ⊥

@@ -16,10 +16,10 @@ use Rattle.datagram_sockets.specs.declared.error.BindError.TheVariants as Bind
 use Rattle.datagram_sockets.specs.declared.error.SendError.{SendError}
 use Rattle.datagram_sockets.specs.declared.error.SendError.TheVariants as SendTo
 use Rattle.tcp_model.specs.State.{State}
-use Rattle.lan_world.specs.declared.hosts.history.answer.Answer.{Answer}
-use Rattle.lan_world.specs.declared.hosts.history.answer.Answer.TheVariants as To
-use Rattle.lan_world.specs.declared.hosts.history.answer.Fault.TheVariants as Fault
-use Rattle.lan_world.specs.declared.hosts.history.event.Side.{Side}
+use Rattle.lan_world.specs.declared.at_link.history.answer.Answer.{Answer}
+use Rattle.lan_world.specs.declared.at_link.history.answer.Answer.TheVariants as To
+use Rattle.lan_world.specs.declared.at_link.history.answer.Fault.TheVariants as Fault
+use Rattle.lan_world.specs.declared.at_link.history.event.Side.{Side}
 use Rattle.lan_world.specs.AtLink.Kinds.{other, Kind, kind_of, calls}
 use Rattle.lan_world.specs.AtLink.Call.{SocketCall}
 use Rattle.lan_world.specs.AtLink.Call as Call

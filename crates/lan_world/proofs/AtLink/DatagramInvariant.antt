@@ -3,7 +3,7 @@ use Rattle.std.proofs.Common.{◌≡◌, ◌⊎◌, inl, inr, ℕ, List, [], ◌
 use Rattle.net_base.specs.Packets.{contents}
 use Rattle.datagram_sockets.specs.Udp.{UdpValue}
 use Rattle.datagram_sockets.specs.declared.udp.UdpMetadata.{UdpMetadata}
-use Rattle.lan_world.specs.declared.hosts.history.event.Side.{Side}
+use Rattle.lan_world.specs.declared.at_link.history.event.Side.{Side}
 use Rattle.lan_world.specs.AtLink.Kinds.{other}
 use Rattle.lan_world.specs.AtLink.Call.{SocketCall}
 use Rattle.lan_world.specs.AtLink.History.{Entry, call_of, port_by, bound_port}

@@ -17,8 +17,8 @@ use Rattle.datagram_sockets.specs.Udp as Udps
 use Rattle.datagram_sockets.specs.Udp.{UdpValue, UdpSettings, TakesDatagram, takes_address, metadata_of, is_open}
 use Rattle.datagram_sockets.specs.declared.udp.UdpMetadata.{UdpMetadata}
 use Rattle.tcp_model.specs.Value.{TcpValue}
-use Rattle.lan_world.specs.declared.hosts.history.answer.Answer.{Answer}
-use Rattle.lan_world.specs.declared.hosts.history.event.Side.{Side}
+use Rattle.lan_world.specs.declared.at_link.history.answer.Answer.{Answer}
+use Rattle.lan_world.specs.declared.at_link.history.event.Side.{Side}
 use Rattle.lan_world.specs.AtLink.Kinds.{other, Kind, kind_of, calls}
 use Rattle.lan_world.specs.AtLink.Call.{SocketCall}
 use Rattle.lan_world.specs.AtLink.History.{Entry, call_of, call_in, bound_port}

@@ -8,8 +8,8 @@ use Rattle.tcp_tie.specs.Tie.{Past, Keeps}
 use Rattle.tcp_tie.proofs.HostLaws.{keeps_made_elsewhere, keeps_made_reset}
 use Rattle.tcp_model.specs.EndpointPair.{EndpointPair}
 use Rattle.tcp_model.specs.Value.{TcpValue}
-use Rattle.lan_world.specs.declared.hosts.history.event.Side.{Side}
-use Rattle.lan_world.specs.declared.hosts.history.record.Opening.{Opening}
+use Rattle.lan_world.specs.declared.at_link.history.event.Side.{Side}
+use Rattle.lan_world.specs.declared.at_link.history.record.Opening.{Opening}
 use Rattle.lan_world.specs.AtLink.Kinds.{other}
 use Rattle.lan_world.specs.AtLink.History.{Entry, opening}
 use Rattle.lan_world.specs.AtLink.Partners.{ArePartners}

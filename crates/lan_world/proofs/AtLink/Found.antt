@@ -2,16 +2,16 @@
 use Rattle.std.proofs.Common.{◌≡◌, ◌≢◌, ◌⊎◌, inl, inr, ℕ, zero, suc, ◌<◌, ◌==◌, Bool, true, false, List, [], ◌∷◌, length, Option, Some, None, refl, sym, ap}
 use Rattle.std.proofs.Common.{◌∙◌, subst, arith}
 use Rattle.std.proofs.lemmas.Bool.Decides.{eqb_tells}
-use Rattle.lan_world.specs.declared.hosts.history.event.Side.{Side}
-use Rattle.lan_world.specs.declared.hosts.history.record.Opening.{Opening}
+use Rattle.lan_world.specs.declared.at_link.history.event.Side.{Side}
+use Rattle.lan_world.specs.declared.at_link.history.record.Opening.{Opening}
 use Rattle.lan_world.specs.AtLink.Kinds.{other}
 use Rattle.lan_world.specs.AtLink.History.{Entry, opening}
 use Rattle.lan_world.specs.AtLink.Partners.{are_paired, ArePartners}
 use Rattle.lan_world.specs.AtLink.Tables.{Places, kinds, AreAllowed}
-use Rattle.lan_world.specs.declared.hosts.history.answer.Answer.{Answer}
-use Rattle.lan_world.specs.declared.hosts.history.answer.Answer.TheVariants as To
-use Rattle.lan_world.specs.declared.hosts.history.record.SocketKind.{SocketKind}
-use Rattle.lan_world.specs.declared.hosts.history.record.SocketKind.TheVariants as Of
+use Rattle.lan_world.specs.declared.at_link.history.answer.Answer.{Answer}
+use Rattle.lan_world.specs.declared.at_link.history.answer.Answer.TheVariants as To
+use Rattle.lan_world.specs.declared.at_link.history.record.SocketKind.{SocketKind}
+use Rattle.lan_world.specs.declared.at_link.history.record.SocketKind.TheVariants as Of
 use Rattle.lan_world.specs.AtLink.Call as Call
 use Rattle.lan_world.specs.AtLink.Call.{SocketCall}
 use Rattle.lan_world.specs.AtLink.History.{opening_by}

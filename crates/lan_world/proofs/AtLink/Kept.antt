@@ -16,14 +16,14 @@ use Rattle.tcp_model.specs.RecvError.{RecvError}
 use Rattle.tcp_model.specs.RecvError.TheVariants as Recv
 use Rattle.tcp_model.specs.Calls.{recv_answer}
 use Rattle.tcp_model.specs.Value.{TcpValue}
-use Rattle.lan_world.specs.declared.hosts.history.answer.Answer.{Answer}
-use Rattle.lan_world.specs.declared.hosts.history.answer.Answer.TheVariants as To
-use Rattle.lan_world.specs.declared.hosts.history.answer.Fault.TheVariants as Fault
-use Rattle.lan_world.specs.declared.hosts.history.event.Side.{Side}
-use Rattle.lan_world.specs.declared.hosts.history.event.Side.TheVariants.{A, B}
-use Rattle.lan_world.specs.declared.hosts.history.record.Opening.{Opening}
-use Rattle.lan_world.specs.declared.hosts.history.record.SocketKind.{SocketKind}
-use Rattle.lan_world.specs.declared.hosts.history.record.SocketKind.TheVariants as Of
+use Rattle.lan_world.specs.declared.at_link.history.answer.Answer.{Answer}
+use Rattle.lan_world.specs.declared.at_link.history.answer.Answer.TheVariants as To
+use Rattle.lan_world.specs.declared.at_link.history.answer.Fault.TheVariants as Fault
+use Rattle.lan_world.specs.declared.at_link.history.event.Side.{Side}
+use Rattle.lan_world.specs.declared.at_link.history.event.Side.TheVariants.{A, B}
+use Rattle.lan_world.specs.declared.at_link.history.record.Opening.{Opening}
+use Rattle.lan_world.specs.declared.at_link.history.record.SocketKind.{SocketKind}
+use Rattle.lan_world.specs.declared.at_link.history.record.SocketKind.TheVariants as Of
 use Rattle.lan_world.specs.AtLink.Call as Call
 use Rattle.lan_world.specs.AtLink.Call.{SocketCall}
 use Rattle.lan_world.specs.AtLink.Kinds.{other, Kind, kind_of, calls}

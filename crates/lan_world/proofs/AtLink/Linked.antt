@@ -5,8 +5,8 @@ use Rattle.lan_base.specs.Port.{added}
 use Rattle.lan_world.specs.AtLink.Kinds.{Kind}
 use Rattle.lan_world.specs.AtLink.Kinds.Kind.{OfLink}
 use Rattle.lan_world.specs.AtLink.Kinds.LinkAct.{Cuts}
-use Rattle.lan_world.specs.declared.hosts.history.event.Side.{Side}
-use Rattle.lan_world.specs.declared.hosts.history.event.Side.TheVariants.{A, B}
+use Rattle.lan_world.specs.declared.at_link.history.event.Side.{Side}
+use Rattle.lan_world.specs.declared.at_link.history.event.Side.TheVariants.{A, B}
 use Rattle.lan_world.specs.AtLink.Linking.{frame_at, linked_by}
 use Rattle.lan_world.specs.AtLink.Origins.{medium_of, cut}
 use Rattle.lan_world.specs.AtLink.Station.{StationValue, Stations, with_link}

@@ -7,10 +7,10 @@ use Rattle.lan_world.specs.AtLink.Kinds.{Kind}
 use Rattle.lan_world.specs.AtLink.Kinds.Act.{Calls}
 use Rattle.lan_world.specs.AtLink.Kinds.Kind.{OfHost}
 use Rattle.lan_world.specs.AtLink.Tables.{call_refusal}
-use Rattle.lan_world.specs.declared.hosts.history.answer.Refused.{Refused}
-use Rattle.lan_world.specs.declared.hosts.history.event.Side.{Side}
-use Rattle.lan_world.specs.declared.hosts.history.record.SocketKind.{SocketKind}
-use Rattle.lan_world.specs.declared.hosts.history.record.SocketRecord.{SocketRecord}
+use Rattle.lan_world.specs.declared.at_link.history.answer.Refused.{Refused}
+use Rattle.lan_world.specs.declared.at_link.history.event.Side.{Side}
+use Rattle.lan_world.specs.declared.at_link.history.record.SocketKind.{SocketKind}
+use Rattle.lan_world.specs.declared.at_link.history.record.SocketRecord.{SocketRecord}
 use Rattle.lan_world.specs.AtLink.Acting.{act_refusal}
 use Rattle.lan_world.specs.AtLink.Refusals.{Table}
 use Rattle.lan_world.specs.AtLink.Station.{StationValue, kind_at}

@@ -22,10 +22,10 @@ use Rattle.tcp_model.specs.Names.{accepts}
 use Rattle.tcp_model.specs.Offers.{offer_of}
 use Rattle.tcp_model.specs.Settled.{settled}
 use Rattle.tcp_model.specs.Value.{TcpValue}
-use Rattle.lan_world.specs.declared.hosts.history.event.Side.{Side}
-use Rattle.lan_world.specs.declared.hosts.history.event.Side.TheVariants.{A, B}
-use Rattle.lan_world.specs.declared.hosts.history.record.Opening.{Opening}
-use Rattle.lan_world.specs.declared.hosts.history.record.SocketKind.{SocketKind}
+use Rattle.lan_world.specs.declared.at_link.history.event.Side.{Side}
+use Rattle.lan_world.specs.declared.at_link.history.event.Side.TheVariants.{A, B}
+use Rattle.lan_world.specs.declared.at_link.history.record.Opening.{Opening}
+use Rattle.lan_world.specs.declared.at_link.history.record.SocketKind.{SocketKind}
 use Rattle.lan_world.specs.AtLink.Call.{SocketCall}
 use Rattle.lan_world.specs.AtLink.Kinds.{other, kind_of, calls}
 use Rattle.lan_world.specs.AtLink.History.{Entry, bound_port, opening, written, read}

@@ -7,7 +7,7 @@ use Rattle.tcp_model.specs.Value.{TcpValue}
 use Rattle.tcp_tie.specs.Promises.{KeepsAlone, read_or_waiting}
 use Rattle.tcp_tie.specs.Tie.{Past, past_of, Keeps, core_of}
 use Rattle.tcp_tie.proofs.PromiseLemmas.{Shows, shows, safe_sockets, alone_nothing}
-use Rattle.lan_world.specs.declared.hosts.history.event.Side as Sides
+use Rattle.lan_world.specs.declared.at_link.history.event.Side as Sides
 use Rattle.lan_world.specs.AtLink.History.{written}
 use Rattle.lan_world.specs.AtLink.Parties.{Net}
 use Rattle.lan_world.specs.AtLink.PacketsSafe.{HoldsRest, HasNothing}

@@ -13,8 +13,8 @@ use Rattle.lan_world.specs.AtLink.Answers.{Gives, brief}
 use Rattle.lan_world.specs.AtLink.Sets.{SetsTo, setting_answer}
 use Rattle.lan_world.specs.AtLink.Station.{StationValue}
 use Rattle.lan_world.specs.AtLink.Steps.{PollsAt}
-use Rattle.lan_world.specs.declared.hosts.answer.Brief.{Brief}
-use Rattle.lan_world.specs.declared.hosts.answer.Taken.{Taken}
+use Rattle.lan_world.specs.declared.at_link.answer.Brief.{Brief}
+use Rattle.lan_world.specs.declared.at_link.answer.Taken.{Taken}
 
 abbrev pub of_parts : HostValue → List (SocketStorage Socket) → LinkEnd → StationValue
 of_parts h ps link = record { host = h; places = ps; link = link }

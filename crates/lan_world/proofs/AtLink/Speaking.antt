@@ -14,8 +14,8 @@ use Rattle.tcp_model.specs.States.{is_listening}
 use Rattle.tcp_model.specs.Value.{TcpValue}
 use Rattle.ip_wire.specs.TcpControl.{TcpControl}
 use Rattle.ip_wire.specs.TcpControl.TheVariants as Bits
-use Rattle.lan_world.specs.declared.hosts.history.event.Side.{Side}
-use Rattle.lan_world.specs.declared.hosts.history.record.Opening.{Opening}
+use Rattle.lan_world.specs.declared.at_link.history.event.Side.{Side}
+use Rattle.lan_world.specs.declared.at_link.history.record.Opening.{Opening}
 use Rattle.lan_world.specs.AtLink.Kinds.{other}
 use Rattle.lan_world.specs.AtLink.History.{Entry, opening}
 use Rattle.lan_world.specs.AtLink.Partners.{names_port, are_paired, ArePartners}

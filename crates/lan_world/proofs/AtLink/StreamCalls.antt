@@ -35,14 +35,14 @@ use Rattle.tcp_model.specs.Calls.{pair_for, pair_by, addresses_by, source_by, se
 use Rattle.tcp_model.specs.Calls.{nothing_left, recv_after, close_after, abort_after}
 use Rattle.tcp_model.specs.States.{is_closed, is_time_wait, is_opening, takes_writes, takes_text, after_close}
 use Rattle.tcp_model.specs.Value.{TcpValue, unoffered, ended, with_block}
-use Rattle.lan_world.specs.declared.hosts.history.answer.Answer.{Answer}
-use Rattle.lan_world.specs.declared.hosts.history.answer.Answer.TheVariants as To
-use Rattle.lan_world.specs.declared.hosts.history.answer.Refused.TheVariants as For
-use Rattle.lan_world.specs.declared.hosts.history.event.Side.{Side}
-use Rattle.lan_world.specs.declared.hosts.history.event.TcpSetting.{TcpSetting}
-use Rattle.lan_world.specs.declared.hosts.history.event.TcpSetting.TheVariants as Changed
-use Rattle.lan_world.specs.declared.hosts.history.record.Opening.{Opening}
-use Rattle.lan_world.specs.declared.hosts.history.record.SocketRecord.{SocketRecord}
+use Rattle.lan_world.specs.declared.at_link.history.answer.Answer.{Answer}
+use Rattle.lan_world.specs.declared.at_link.history.answer.Answer.TheVariants as To
+use Rattle.lan_world.specs.declared.at_link.history.answer.Refused.TheVariants as For
+use Rattle.lan_world.specs.declared.at_link.history.event.Side.{Side}
+use Rattle.lan_world.specs.declared.at_link.history.event.TcpSetting.{TcpSetting}
+use Rattle.lan_world.specs.declared.at_link.history.event.TcpSetting.TheVariants as Changed
+use Rattle.lan_world.specs.declared.at_link.history.record.Opening.{Opening}
+use Rattle.lan_world.specs.declared.at_link.history.record.SocketRecord.{SocketRecord}
 use Rattle.lan_world.specs.AtLink.Call as Call
 use Rattle.lan_world.specs.AtLink.Call.{SocketCall}
 use Rattle.lan_world.specs.AtLink.Kinds.{other, Kind, kind_of, calls}

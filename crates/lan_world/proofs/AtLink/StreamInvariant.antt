@@ -9,8 +9,8 @@ use Rattle.tcp_tie.specs.Promises.{IsFresh, KeepsAlone}
 use Rattle.tcp_tie.specs.Tie.{Past, Keeps, no_past}
 use Rattle.tcp_model.specs.EndpointPair.{EndpointPair}
 use Rattle.tcp_model.specs.Value.{TcpValue}
-use Rattle.lan_world.specs.declared.hosts.history.event.Side.{Side}
-use Rattle.lan_world.specs.declared.hosts.history.record.Opening.{Opening}
+use Rattle.lan_world.specs.declared.at_link.history.event.Side.{Side}
+use Rattle.lan_world.specs.declared.at_link.history.record.Opening.{Opening}
 use Rattle.lan_world.specs.AtLink.Kinds.{other}
 use Rattle.lan_world.specs.AtLink.History.{Entry, opening, written, read, is_closed_by}
 use Rattle.lan_world.specs.AtLink.Partners.{ArePartners}

@@ -2,9 +2,9 @@
 use Rattle.std.proofs.Common.{◌≡◌, ◌==◌, ℕ, zero, suc, Bool, true, false, List, [], ◌∷◌, slice_index, Option, Some, None, refl, ap, ◌∙◌, arith}
 use Rattle.std.proofs.lemmas.Bool.Decides.{nat_tests}
 use Rattle.tcp_model.specs.Value.{TcpValue}
-use Rattle.lan_world.specs.declared.hosts.history.event.Side.{Side}
-use Rattle.lan_world.specs.declared.hosts.history.event.Side.TheVariants.{B}
-use Rattle.lan_world.specs.declared.hosts.history.record.Opening.{Opening}
+use Rattle.lan_world.specs.declared.at_link.history.event.Side.{Side}
+use Rattle.lan_world.specs.declared.at_link.history.event.Side.TheVariants.{B}
+use Rattle.lan_world.specs.declared.at_link.history.record.Opening.{Opening}
 use Rattle.lan_world.specs.AtLink.Partners.{ArePartners, are_paired}
 use Rattle.lan_world.specs.AtLink.Parties.{Party, socket_at}
 use Rattle.lan_world.specs.AtLink.Parties.Socket.{Tcp}

@@ -31,8 +31,8 @@ use Rattle.tcp_model.specs.Offers.{offer_of, payload_of}
 use Rattle.tcp_model.specs.Settled.{settled}
 use Rattle.tcp_model.specs.States.{is_closed}
 use Rattle.tcp_model.specs.Value.{TcpValue, unoffered}
-use Rattle.lan_world.specs.declared.hosts.history.event.Side.{Side}
-use Rattle.lan_world.specs.declared.hosts.history.record.Opening.{Opening}
+use Rattle.lan_world.specs.declared.at_link.history.event.Side.{Side}
+use Rattle.lan_world.specs.declared.at_link.history.record.Opening.{Opening}
 use Rattle.lan_world.specs.AtLink.Kinds.{other}
 use Rattle.lan_world.specs.AtLink.History.{Entry, opening}
 use Rattle.lan_world.specs.AtLink.Partners.{ArePartners}

@@ -4,19 +4,19 @@ use Rattle.net_base.specs.Time.{IsMoment}
 use Rattle.lan_world.specs.AtLink.Kinds.{Kind, Act}
 use Rattle.lan_world.specs.AtLink.Kinds.Act.{Calls, Asks, Polls}
 use Rattle.lan_world.specs.AtLink.Kinds.Kind.{OfHost, OfLink}
-use Rattle.lan_world.specs.declared.hosts.history.event.Side.{Side}
+use Rattle.lan_world.specs.declared.at_link.history.event.Side.{Side}
 use Rattle.lan_world.specs.AtLink.Calling.{is_called}
 use Rattle.lan_world.specs.AtLink.Station.{StationValue, Stations, station, kind_at}
 use Rattle.lan_base.specs.Cuts.{ipv4_part}
 use Rattle.lan_base.specs.Parts.{tcp_part}
 use Rattle.lan_world.specs.AtLink.Tables.{first_refusal}
-use Rattle.lan_world.specs.declared.hosts.history.answer.Refused.{Refused}
-use Rattle.lan_world.specs.declared.hosts.history.answer.Refused.TheVariants as For
+use Rattle.lan_world.specs.declared.at_link.history.answer.Refused.{Refused}
+use Rattle.lan_world.specs.declared.at_link.history.answer.Refused.TheVariants as For
 use Rattle.lan_world.specs.AtLink.Linking.{CanLink, frame_at}
 use Rattle.lan_world.specs.AtLink.Origins.{medium_of}
 use Rattle.lan_world.specs.AtLink.Refusals.{Table, act_tests, link_tests, segment_tests, cut_tests, is_no_frame}
 use Rattle.lan_world.specs.AtLink.Steps.{Acts, Happens}
-use Rattle.lan_world.specs.declared.hosts.answer.Taken.{Taken}
+use Rattle.lan_world.specs.declared.at_link.answer.Taken.{Taken}
 
 -- the host that acts; none where the link does
 abbrev pub actor : Kind → Option Side

@@ -2,16 +2,16 @@
 use Rattle.std.specs.Prelude.{◌≡◌, Option, None, Some}
 use Rattle.sockets.specs.RecvError.{RecvError}
 use Rattle.sockets.specs.RecvError.TheVariants as Recv
-use Rattle.lan_world.specs.declared.hosts.history.answer.Answer.{Answer}
-use Rattle.lan_world.specs.declared.hosts.history.answer.Answer.TheVariants as To
-use Rattle.lan_world.specs.declared.hosts.history.answer.Fault.{Fault}
-use Rattle.lan_world.specs.declared.hosts.history.answer.Fault.TheVariants as For
+use Rattle.lan_world.specs.declared.at_link.history.answer.Answer.{Answer}
+use Rattle.lan_world.specs.declared.at_link.history.answer.Answer.TheVariants as To
+use Rattle.lan_world.specs.declared.at_link.history.answer.Fault.{Fault}
+use Rattle.lan_world.specs.declared.at_link.history.answer.Fault.TheVariants as For
 use Rattle.sockets.specs.declared.socket.Socket.{Socket}
 use Rattle.lan_world.specs.AtLink.Calls.{Did}
 use Rattle.tcp_model.specs.State.{State}
-use Rattle.lan_world.specs.declared.hosts.answer.Brief.{Brief}
-use Rattle.lan_world.specs.declared.hosts.answer.Brief.TheVariants as Short
-use Rattle.lan_world.specs.declared.hosts.answer.Taken.{Taken}
+use Rattle.lan_world.specs.declared.at_link.answer.Brief.{Brief}
+use Rattle.lan_world.specs.declared.at_link.answer.Brief.TheVariants as Short
+use Rattle.lan_world.specs.declared.at_link.answer.Taken.{Taken}
 
 abbrev pub IsTwice : Answer × Answer → Answer → Type 0
 IsTwice twins answer = (twins.0 ≡ answer) × (twins.1 ≡ answer)

@@ -2,7 +2,7 @@
 use Rattle.std.specs.Prelude.{ℕ, List}
 use Rattle.ip_wire.specs.IpAddress.{IpAddress}
 use Rattle.ip_wire.specs.IpEndpoint.{IpEndpoint}
-use Rattle.lan_world.specs.declared.hosts.history.event.TcpSetting.{TcpSetting}
+use Rattle.lan_world.specs.declared.at_link.history.event.TcpSetting.{TcpSetting}
 
 -- a call of an application, wherever its socket is
 pub data SocketCall : Type 0 where

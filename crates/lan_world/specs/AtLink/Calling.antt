@@ -10,7 +10,7 @@ use Rattle.interface_egress.specs.declared.socket_set.SocketStorage.{SocketStora
 use Rattle.sockets.specs.declared.socket.Socket.{Socket}
 use Rattle.lan_world.specs.AtLink.Call.{SocketCall}
 use Rattle.lan_world.specs.AtLink.Tables.{has_call}
-use Rattle.lan_world.specs.declared.hosts.history.record.SocketKind.{SocketKind}
+use Rattle.lan_world.specs.declared.at_link.history.record.SocketKind.{SocketKind}
 use Rattle.lan_world.specs.AtLink.Kinds.{Kind}
 use Rattle.lan_world.specs.AtLink.Kinds.Act.{Calls}
 use Rattle.lan_world.specs.AtLink.Kinds.Kind.{OfHost}
@@ -18,7 +18,7 @@ use Rattle.lan_world.specs.AtLink.Calls.{Did}
 use Rattle.lan_world.specs.AtLink.Answers.{HasTaken}
 use Rattle.lan_world.specs.AtLink.Does.{does, draws}
 use Rattle.lan_world.specs.AtLink.Station.{kind_at}
-use Rattle.lan_world.specs.declared.hosts.answer.Taken.{Taken}
+use Rattle.lan_world.specs.declared.at_link.answer.Taken.{Taken}
 
 -- what an event does to a socket, where it is a call that a socket of its kind has
 abbrev pub did_by : ContextValue → Socket → Kind → Option (Did Socket)

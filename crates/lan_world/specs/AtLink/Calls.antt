@@ -25,12 +25,12 @@ use Rattle.tcp_model.specs.Calls.{abort_after}
 use Rattle.tcp_model.specs.Settings.{set_timeout, set_ack_delay, set_keep_alive, set_nagle_enabled, set_hop_limit, set_congestion_control, set_tsval_generator}
 use Rattle.tcp_model.specs.Settings.{pause_synack}
 use Rattle.tcp_model.specs.Value.{TcpValue, unoffered}
-use Rattle.lan_world.specs.declared.hosts.history.answer.Answer.{Answer}
-use Rattle.lan_world.specs.declared.hosts.history.answer.Answer.TheVariants as To
-use Rattle.lan_world.specs.declared.hosts.history.answer.Fault.{Fault}
-use Rattle.lan_world.specs.declared.hosts.history.answer.Fault.TheVariants as For
-use Rattle.lan_world.specs.declared.hosts.history.event.TcpSetting.{TcpSetting}
-use Rattle.lan_world.specs.declared.hosts.history.event.TcpSetting.TheVariants as Changed
+use Rattle.lan_world.specs.declared.at_link.history.answer.Answer.{Answer}
+use Rattle.lan_world.specs.declared.at_link.history.answer.Answer.TheVariants as To
+use Rattle.lan_world.specs.declared.at_link.history.answer.Fault.{Fault}
+use Rattle.lan_world.specs.declared.at_link.history.answer.Fault.TheVariants as For
+use Rattle.lan_world.specs.declared.at_link.history.event.TcpSetting.{TcpSetting}
+use Rattle.lan_world.specs.declared.at_link.history.event.TcpSetting.TheVariants as Changed
 use Rattle.lan_world.specs.AtLink.Call.{SocketCall}
 use Rattle.lan_world.specs.AtLink.Call as Call
 

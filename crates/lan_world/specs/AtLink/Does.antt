@@ -22,10 +22,10 @@ use Rattle.sockets.specs.declared.socket.Socket.{Socket}
 use Rattle.sockets.specs.declared.socket.Socket.TheVariants as Is
 use Rattle.lan_world.specs.AtLink.Call as Call
 use Rattle.lan_world.specs.AtLink.Call.{SocketCall}
-use Rattle.lan_world.specs.declared.hosts.history.answer.Answer.{Answer}
-use Rattle.lan_world.specs.declared.hosts.history.answer.Answer.TheVariants as To
-use Rattle.lan_world.specs.declared.hosts.history.answer.Fault.{Fault}
-use Rattle.lan_world.specs.declared.hosts.history.answer.Fault.TheVariants as For
+use Rattle.lan_world.specs.declared.at_link.history.answer.Answer.{Answer}
+use Rattle.lan_world.specs.declared.at_link.history.answer.Answer.TheVariants as To
+use Rattle.lan_world.specs.declared.at_link.history.answer.Fault.{Fault}
+use Rattle.lan_world.specs.declared.at_link.history.answer.Fault.TheVariants as For
 use Rattle.lan_world.specs.AtLink.Calls.{Did, did, done_or, bind_fault, send_fault, at_port, tcp_does, udp_does}
 use Rattle.lan_world.specs.AtLink.Station.{StationValue}
 

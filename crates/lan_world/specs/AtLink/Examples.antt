@@ -3,13 +3,13 @@ use Rattle.std.specs.Prelude.{ℕ, List, [], ◌∷◌, Option, Some, None}
 use Rattle.ip_wire.specs.IpAddress.TheVariants as Address
 use Rattle.ip_wire.specs.IpEndpoint.{IpEndpoint}
 use Rattle.tcp_model.specs.State.{State}
-use Rattle.lan_world.specs.declared.hosts.history.answer.Answer.{Answer}
-use Rattle.lan_world.specs.declared.hosts.history.answer.Answer.TheVariants as To
-use Rattle.lan_world.specs.declared.hosts.history.answer.Fault.TheVariants as Fault
-use Rattle.lan_world.specs.declared.hosts.history.event.Event.{Event}
-use Rattle.lan_world.specs.declared.hosts.history.event.Event.TheVariants as E
-use Rattle.lan_world.specs.declared.hosts.history.event.Side.{Side}
-use Rattle.lan_world.specs.declared.hosts.history.event.Side.TheVariants.{A, B}
+use Rattle.lan_world.specs.declared.at_link.history.answer.Answer.{Answer}
+use Rattle.lan_world.specs.declared.at_link.history.answer.Answer.TheVariants as To
+use Rattle.lan_world.specs.declared.at_link.history.answer.Fault.TheVariants as Fault
+use Rattle.lan_world.specs.declared.at_link.history.event.Event.{Event}
+use Rattle.lan_world.specs.declared.at_link.history.event.Event.TheVariants as E
+use Rattle.lan_world.specs.declared.at_link.history.event.Side.{Side}
+use Rattle.lan_world.specs.declared.at_link.history.event.Side.TheVariants.{A, B}
 use Rattle.lan_world.specs.AtLink.History.{Entry}
 
 abbrev pub answered : Event → Answer → Option State → Entry

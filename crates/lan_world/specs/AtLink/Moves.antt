@@ -18,9 +18,9 @@ use Rattle.tcp_model.specs.Offers.{offer_of}
 use Rattle.tcp_model.specs.Settled.{settled}
 use Rattle.tcp_model.specs.Value.{TcpValue}
 use Rattle.tcp_model.specs.State.{State}
-use Rattle.lan_world.specs.declared.hosts.history.answer.Answer.{Answer}
-use Rattle.lan_world.specs.declared.hosts.history.answer.Answer.TheVariants as To
-use Rattle.lan_world.specs.declared.hosts.history.event.Side.{Side}
+use Rattle.lan_world.specs.declared.at_link.history.answer.Answer.{Answer}
+use Rattle.lan_world.specs.declared.at_link.history.answer.Answer.TheVariants as To
+use Rattle.lan_world.specs.declared.at_link.history.event.Side.{Side}
 use Rattle.lan_world.specs.AtLink.Kinds.{other, Kind, kind_of, calls}
 use Rattle.lan_world.specs.AtLink.Call.{SocketCall}
 use Rattle.lan_world.specs.AtLink.Kinds.Act.{Calls}

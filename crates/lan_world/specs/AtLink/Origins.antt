@@ -11,8 +11,8 @@ use Rattle.lan_world.specs.AtLink.History.{Entry, Counts}
 use Rattle.lan_world.specs.AtLink.Kinds.{other, same_side, Kind, kind_of, Origin, Delivered, Damaged, Noisy}
 use Rattle.lan_world.specs.AtLink.Kinds.Kind.{OfLink}
 use Rattle.lan_world.specs.AtLink.Kinds.LinkAct.{Hands, Cuts}
-use Rattle.lan_world.specs.declared.hosts.history.event.Side.{Side}
-use Rattle.lan_world.specs.declared.hosts.history.event.Side.TheVariants.{A, B}
+use Rattle.lan_world.specs.declared.at_link.history.event.Side.{Side}
+use Rattle.lan_world.specs.declared.at_link.history.event.Side.TheVariants.{A, B}
 use Rattle.lan_base.specs.Port.{added, arrived}
 use Rattle.lan_world.specs.AtLink.Station.{StationValue, Stations, station, with_station, with_link}
 

@@ -5,8 +5,8 @@ use Rattle.tcp_tie.specs.Safe.{IsPrefixOf}
 use Rattle.tcp_tie.specs.Endpoints.{IsNameless}
 use Rattle.tcp_tie.specs.Promises.{IsFresh}
 use Rattle.tcp_model.specs.Value.{TcpValue}
-use Rattle.lan_world.specs.declared.hosts.history.event.Side.{Side}
-use Rattle.lan_world.specs.declared.hosts.history.event.Side.TheVariants.{A, B}
+use Rattle.lan_world.specs.declared.at_link.history.event.Side.{Side}
+use Rattle.lan_world.specs.declared.at_link.history.event.Side.TheVariants.{A, B}
 use Rattle.lan_world.specs.AtLink.Kinds.{other}
 use Rattle.lan_world.specs.AtLink.History.{written, read}
 use Rattle.lan_world.specs.AtLink.Partners.{ArePartners}

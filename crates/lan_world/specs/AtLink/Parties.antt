@@ -6,10 +6,10 @@ use Rattle.datagram_sockets.specs.Packet as Carried
 use Rattle.datagram_sockets.specs.Udp.{UdpValue}
 use Rattle.tcp_tie.specs.Host.{Made}
 use Rattle.tcp_model.specs.Value.{TcpValue}
-use Rattle.lan_world.specs.declared.hosts.history.event.Side.{Side}
-use Rattle.lan_world.specs.declared.hosts.history.event.Side.TheVariants.{A, B}
-use Rattle.lan_world.specs.declared.hosts.history.record.SocketKind.{SocketKind}
-use Rattle.lan_world.specs.declared.hosts.history.record.SocketKind.TheVariants as Of
+use Rattle.lan_world.specs.declared.at_link.history.event.Side.{Side}
+use Rattle.lan_world.specs.declared.at_link.history.event.Side.TheVariants.{A, B}
+use Rattle.lan_world.specs.declared.at_link.history.record.SocketKind.{SocketKind}
+use Rattle.lan_world.specs.declared.at_link.history.record.SocketKind.TheVariants as Of
 use Rattle.lan_world.specs.AtLink.History.{Entry}
 use Rattle.lan_world.specs.AtLink.Tables.{Places}
 

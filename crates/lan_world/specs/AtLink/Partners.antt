@@ -1,7 +1,7 @@
 -- Which TCP sockets of two hosts are partners: their ports say it.
 use Rattle.std.specs.Prelude.{◌≡◌, ℕ, ◌==◌, ◌&&◌, ◌||◌, Bool, true, List, Option, Some, None, is_some}
-use Rattle.lan_world.specs.declared.hosts.history.event.Side.{Side}
-use Rattle.lan_world.specs.declared.hosts.history.record.Opening.{Opening}
+use Rattle.lan_world.specs.declared.at_link.history.event.Side.{Side}
+use Rattle.lan_world.specs.declared.at_link.history.record.Opening.{Opening}
 use Rattle.lan_world.specs.AtLink.Kinds.{other}
 use Rattle.lan_world.specs.AtLink.History.{Entry, opening}
 

@@ -1,10 +1,10 @@
 -- What a history has to say of what was read: the datagrams (RFC 768) and the ends of streams (RFC 9293).
 use Rattle.std.specs.Prelude.{◌≡◌, ◌⊎◌, ℕ, true, List, [], ◌∷◌}
 use Rattle.ip_wire.specs.IpEndpoint.{IpEndpoint}
-use Rattle.lan_world.specs.declared.hosts.history.answer.Answer.{Answer}
-use Rattle.lan_world.specs.declared.hosts.history.answer.Answer.TheVariants as To
-use Rattle.lan_world.specs.declared.hosts.history.answer.Fault.TheVariants as Fault
-use Rattle.lan_world.specs.declared.hosts.history.event.Side.{Side}
+use Rattle.lan_world.specs.declared.at_link.history.answer.Answer.{Answer}
+use Rattle.lan_world.specs.declared.at_link.history.answer.Answer.TheVariants as To
+use Rattle.lan_world.specs.declared.at_link.history.answer.Fault.TheVariants as Fault
+use Rattle.lan_world.specs.declared.at_link.history.event.Side.{Side}
 use Rattle.lan_world.specs.AtLink.Kinds.{other, Kind, kind_of, calls}
 use Rattle.lan_world.specs.AtLink.Kinds.Act.{Calls}
 use Rattle.lan_world.specs.AtLink.Kinds.Kind.{OfHost}

@@ -8,10 +8,10 @@ use Rattle.lan_world.specs.AtLink.Kinds.{same_side, Kind}
 use Rattle.lan_world.specs.AtLink.Kinds.Act.{Calls}
 use Rattle.lan_world.specs.AtLink.Kinds.Kind.{OfHost}
 use Rattle.lan_world.specs.AtLink.Tables.{record_at, table_after}
-use Rattle.lan_world.specs.declared.hosts.history.answer.Answer.{Answer}
-use Rattle.lan_world.specs.declared.hosts.history.event.Side.{Side}
-use Rattle.lan_world.specs.declared.hosts.history.record.Opening.{Opening}
-use Rattle.lan_world.specs.declared.hosts.history.record.SocketRecord.{SocketRecord}
+use Rattle.lan_world.specs.declared.at_link.history.answer.Answer.{Answer}
+use Rattle.lan_world.specs.declared.at_link.history.event.Side.{Side}
+use Rattle.lan_world.specs.declared.at_link.history.record.Opening.{Opening}
+use Rattle.lan_world.specs.declared.at_link.history.record.SocketRecord.{SocketRecord}
 use Rattle.lan_world.specs.AtLink.Origins.{medium_of, is_cut_of, begins_datagram}
 use Rattle.lan_world.specs.AtLink.Refusals.{Table}
 use Rattle.lan_world.specs.AtLink.Station.{StationValue}

@@ -14,11 +14,11 @@ use Rattle.lan_world.specs.AtLink.Kinds.Kind.{OfHost, OfLink}
 use Rattle.lan_world.specs.AtLink.Kinds.Act.{Calls, Asks, Polls}
 use Rattle.lan_world.specs.AtLink.Kinds.LinkAct.{Hands, Cuts}
 use Rattle.lan_world.specs.AtLink.Tables.{first_refusal, call_tests}
-use Rattle.lan_world.specs.declared.hosts.history.answer.Refused.{Refused}
-use Rattle.lan_world.specs.declared.hosts.history.answer.Refused.TheVariants as For
-use Rattle.lan_world.specs.declared.hosts.history.event.Side.{Side}
-use Rattle.lan_world.specs.declared.hosts.history.event.Side.TheVariants.{A, B}
-use Rattle.lan_world.specs.declared.hosts.history.record.SocketRecord.{SocketRecord}
+use Rattle.lan_world.specs.declared.at_link.history.answer.Refused.{Refused}
+use Rattle.lan_world.specs.declared.at_link.history.answer.Refused.TheVariants as For
+use Rattle.lan_world.specs.declared.at_link.history.event.Side.{Side}
+use Rattle.lan_world.specs.declared.at_link.history.event.Side.TheVariants.{A, B}
+use Rattle.lan_world.specs.declared.at_link.history.record.SocketRecord.{SocketRecord}
 use Rattle.lan_world.specs.AtLink.Station.{StationValue, Stations, station, kind_at}
 use Rattle.lan_world.specs.AtLink.Origins.{medium_of, frame_sent}
 

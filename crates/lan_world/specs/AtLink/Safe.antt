@@ -4,7 +4,7 @@ use Rattle.interface_egress.specs.declared.socket_set.SocketStorage.{SocketStora
 use Rattle.interface_egress.specs.Set.{socket_in, socket_at}
 use Rattle.sockets.specs.declared.socket.Socket as Sockets
 use Rattle.sockets.specs.declared.socket.Socket.TheVariants as Is
-use Rattle.lan_world.specs.declared.hosts.history.event.Side.{Side}
+use Rattle.lan_world.specs.declared.at_link.history.event.Side.{Side}
 use Rattle.lan_world.specs.AtLink.Parties as Parties
 use Rattle.lan_world.specs.AtLink.Parties.{Party, Net}
 use Rattle.lan_world.specs.AtLink.Station.{StationValue}

@@ -15,10 +15,10 @@ use Rattle.interface.specs.HardwareAddrError.TheVariants as Set
 use Rattle.interface.specs.Route.{Route}
 use Rattle.lan_world.specs.AtLink.Kinds.{Setting}
 use Rattle.lan_world.specs.AtLink.Kinds as Sets
-use Rattle.lan_world.specs.declared.hosts.history.answer.Answer.{Answer}
-use Rattle.lan_world.specs.declared.hosts.history.answer.Answer.TheVariants as To
-use Rattle.lan_world.specs.declared.hosts.history.answer.Fault.{Fault}
-use Rattle.lan_world.specs.declared.hosts.history.answer.Fault.TheVariants as For
+use Rattle.lan_world.specs.declared.at_link.history.answer.Answer.{Answer}
+use Rattle.lan_world.specs.declared.at_link.history.answer.Answer.TheVariants as To
+use Rattle.lan_world.specs.declared.at_link.history.answer.Fault.{Fault}
+use Rattle.lan_world.specs.declared.at_link.history.answer.Fault.TheVariants as For
 use Rattle.lan_world.specs.AtLink.Station.{StationValue}
 
 -- how many routes a host has at most

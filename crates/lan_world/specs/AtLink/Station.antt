@@ -4,10 +4,10 @@ use Rattle.interface.specs.State.{State, state}
 use Rattle.interface.specs.Host.{HostValue}
 use Rattle.interface_egress.specs.Set.{socket_at}
 use Rattle.interface_egress.specs.declared.socket_set.SocketStorage.{SocketStorage}
-use Rattle.lan_world.specs.declared.hosts.history.event.Side.{Side}
-use Rattle.lan_world.specs.declared.hosts.history.event.Side.TheVariants.{A, B}
-use Rattle.lan_world.specs.declared.hosts.history.record.SocketKind.{SocketKind}
-use Rattle.lan_world.specs.declared.hosts.history.record.SocketKind.TheVariants as Of
+use Rattle.lan_world.specs.declared.at_link.history.event.Side.{Side}
+use Rattle.lan_world.specs.declared.at_link.history.event.Side.TheVariants.{A, B}
+use Rattle.lan_world.specs.declared.at_link.history.record.SocketKind.{SocketKind}
+use Rattle.lan_world.specs.declared.at_link.history.record.SocketKind.TheVariants as Of
 use Rattle.lan_base.specs.Port.{LinkEnd, PortValue}
 use Rattle.sockets.specs.declared.socket.Socket.{Socket}
 use Rattle.sockets.specs.declared.socket.Socket.TheVariants as Is

@@ -5,9 +5,9 @@ use Rattle.lan_world.specs.AtLink.Kinds.{other, Kind, Act, LinkAct}
 use Rattle.lan_world.specs.AtLink.Kinds.Kind.{OfHost, OfLink}
 use Rattle.lan_world.specs.AtLink.Kinds.Act.{Calls, Sets, Opens, Asks, Polls}
 use Rattle.lan_world.specs.AtLink.Kinds.LinkAct.{Hands, Cuts}
-use Rattle.lan_world.specs.declared.hosts.history.answer.Answer.{Answer}
-use Rattle.lan_world.specs.declared.hosts.history.answer.Answer.TheVariants as To
-use Rattle.lan_world.specs.declared.hosts.history.event.Side.{Side}
+use Rattle.lan_world.specs.declared.at_link.history.answer.Answer.{Answer}
+use Rattle.lan_world.specs.declared.at_link.history.answer.Answer.TheVariants as To
+use Rattle.lan_world.specs.declared.at_link.history.event.Side.{Side}
 use Rattle.lan_base.specs.Port.{PortValue, PortMove}
 use Rattle.tcp_model.specs.State.{State}
 use Rattle.lan_world.specs.AtLink.Station.{StationValue, Stations, station, at_port}

@@ -2,15 +2,15 @@
 use Rattle.std.specs.Prelude.{◌≡◌, ℕ, ◌+◌, ◌^◌, ◌==◌, nat_le, not, ◌&&◌, ◌||◌, Bool, true, false, if◌then◌else◌, List, [], ◌∷◌, length, replicate, slice_set}
 use Rattle.std.specs.Prelude.{slice_index_or, Option, Some, None, is_some}
 use Rattle.std.specs.List.{list_any}
-use Rattle.lan_world.specs.declared.hosts.history.answer.Answer.{Answer}
-use Rattle.lan_world.specs.declared.hosts.history.answer.Refused.{Refused}
-use Rattle.lan_world.specs.declared.hosts.history.answer.Refused.TheVariants as For
-use Rattle.lan_world.specs.declared.hosts.history.event.Side.{Side}
-use Rattle.lan_world.specs.declared.hosts.history.event.Side.TheVariants.{A, B}
-use Rattle.lan_world.specs.declared.hosts.history.record.Opening.{Opening}
-use Rattle.lan_world.specs.declared.hosts.history.record.SocketKind.{SocketKind}
-use Rattle.lan_world.specs.declared.hosts.history.record.SocketKind.TheVariants as Of
-use Rattle.lan_world.specs.declared.hosts.history.record.SocketRecord.{SocketRecord}
+use Rattle.lan_world.specs.declared.at_link.history.answer.Answer.{Answer}
+use Rattle.lan_world.specs.declared.at_link.history.answer.Refused.{Refused}
+use Rattle.lan_world.specs.declared.at_link.history.answer.Refused.TheVariants as For
+use Rattle.lan_world.specs.declared.at_link.history.event.Side.{Side}
+use Rattle.lan_world.specs.declared.at_link.history.event.Side.TheVariants.{A, B}
+use Rattle.lan_world.specs.declared.at_link.history.record.Opening.{Opening}
+use Rattle.lan_world.specs.declared.at_link.history.record.SocketKind.{SocketKind}
+use Rattle.lan_world.specs.declared.at_link.history.record.SocketKind.TheVariants as Of
+use Rattle.lan_world.specs.declared.at_link.history.record.SocketRecord.{SocketRecord}
 use Rattle.lan_world.specs.AtLink.Kinds.{same_side, Kind, kind_of}
 use Rattle.lan_world.specs.AtLink.Call.{SocketCall}
 use Rattle.lan_world.specs.AtLink.Kinds.Act.{Calls}

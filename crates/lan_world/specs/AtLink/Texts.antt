@@ -1,9 +1,9 @@
 -- What faults and refusals say.
 use Rattle.std.specs.Prelude.{ℕ, List, codes}
-use Rattle.lan_world.specs.declared.hosts.history.answer.Fault.{Fault}
-use Rattle.lan_world.specs.declared.hosts.history.answer.Fault.TheVariants as Is
-use Rattle.lan_world.specs.declared.hosts.history.answer.Refused.{Refused}
-use Rattle.lan_world.specs.declared.hosts.history.answer.Refused.TheVariants as For
+use Rattle.lan_world.specs.declared.at_link.history.answer.Fault.{Fault}
+use Rattle.lan_world.specs.declared.at_link.history.answer.Fault.TheVariants as Is
+use Rattle.lan_world.specs.declared.at_link.history.answer.Refused.{Refused}
+use Rattle.lan_world.specs.declared.at_link.history.answer.Refused.TheVariants as For
 
 abbrev pub fault_text : Fault → List ℕ
 fault_text Is.InvalidState = codes "invalid state"

@@ -1,7 +1,7 @@
 -- The run of a host that connects to one of two listeners is a run.
 use Rattle.std.proofs.Common.{◌≡◌, true, false, Some, None, refl, ap, ◌∙◌}
-use Rattle.lan_world.specs.declared.hosts.history.event.Side.TheVariants.{A}
-use Rattle.lan_world.specs.declared.hosts.history.record.Opening.{Opening}
+use Rattle.lan_world.specs.declared.at_link.history.event.Side.TheVariants.{A}
+use Rattle.lan_world.specs.declared.at_link.history.record.Opening.{Opening}
 use Rattle.lan_world.specs.AtLink.Partners.{ArePartners, are_paired}
 use Rattle.lan_world.specs.AtLink.Moves.{IsRun, run}
 use Rattle.lan_world.specs.AtLink.Parties.Socket.{Tcp}

@@ -1,6 +1,6 @@
 -- The run of a datagram between bound ports is a run.
 use Rattle.std.proofs.Common.{refl}
-use Rattle.lan_world.specs.declared.hosts.history.event.Side.TheVariants.{A, B}
+use Rattle.lan_world.specs.declared.at_link.history.event.Side.TheVariants.{A, B}
 use Rattle.datagram_sockets.specs.Udp.{metadata_to}
 use Rattle.datagram_sockets.proofs.UdpPackets.{found}
 use Rattle.lan_world.specs.AtLink.Moves.{IsRun}

@@ -2,9 +2,9 @@
 use Rattle.std.proofs.Common.{◌≡◌, inl, inr, ℕ, ◌+◌, true, false, List, [], ◌∷◌, ◌++◌, length, get_or, length-append, Some, None, refl, sym, ap, ◌∙◌, subst}
 use Rattle.std.proofs.Common.{arith}
 use Rattle.std.specs.Prelude.{◌==◌, ◌||◌, Bool, if◌then◌else◌}
-use Rattle.lan_world.specs.declared.hosts.history.event.Side.{Side}
-use Rattle.lan_world.specs.declared.hosts.history.event.Side.TheVariants.{A, B}
-use Rattle.lan_world.specs.declared.hosts.history.answer.Answer.TheVariants as To
+use Rattle.lan_world.specs.declared.at_link.history.event.Side.{Side}
+use Rattle.lan_world.specs.declared.at_link.history.event.Side.TheVariants.{A, B}
+use Rattle.lan_world.specs.declared.at_link.history.answer.Answer.TheVariants as To
 use Rattle.lan_world.specs.AtLink.Call as Call
 use Rattle.lan_world.specs.AtLink.History.{Entry, closes, is_closed_by, bound_port}
 use Rattle.lan_world.specs.AtLink.Partners.{ArePartners}

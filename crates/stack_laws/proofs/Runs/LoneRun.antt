@@ -1,7 +1,7 @@
 -- The run of a socket that is refused is a run.
 use Rattle.std.proofs.Common.{ℕ, refl}
 use Rattle.std.proofs.lemmas.Option.{none-some}
-use Rattle.lan_world.specs.declared.hosts.history.event.Side.TheVariants.{A}
+use Rattle.lan_world.specs.declared.at_link.history.event.Side.TheVariants.{A}
 use Rattle.lan_world.specs.AtLink.Partners.{ArePartners}
 use Rattle.lan_world.specs.AtLink.Moves.{IsRun, run}
 use Rattle.lan_world.specs.AtLink.Parties.Socket.{Tcp}

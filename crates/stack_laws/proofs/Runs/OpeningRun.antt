@@ -6,7 +6,7 @@ use Rattle.lan_world.specs.AtLink.Moves.{IsRun, run}
 use Rattle.lan_world.specs.AtLink.Parties.{party}
 use Rattle.lan_world.specs.AtLink.Parties.Socket.{Tcp}
 use Rattle.lan_world.specs.AtLink.PacketsSafe.{IsFreshNet}
-use Rattle.lan_world.specs.declared.hosts.history.event.Side.TheVariants.{A, B}
+use Rattle.lan_world.specs.declared.at_link.history.event.Side.TheVariants.{A, B}
 use Rattle.stack_laws.specs.Worlds.Opening.{opening, opened}
 use Rattle.stack_laws.specs.Worlds.Hosts.{endpoint, no_names, unbound}
 use Rattle.stack_laws.specs.Worlds.Played.{Doing, Play, start, played, steps_of, segment_at}

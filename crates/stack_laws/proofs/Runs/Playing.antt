@@ -1,6 +1,6 @@
 -- What two hosts do one after the other is a run, where each piece of it is.
 use Rattle.std.proofs.Common.{◌≡◌, ℕ, Bool, List, [], ◌∷◌, ◌++◌, refl, sym, ap, ◌∙◌, subst}
-use Rattle.lan_world.specs.declared.hosts.history.event.Side.TheVariants.{A, B}
+use Rattle.lan_world.specs.declared.at_link.history.event.Side.TheVariants.{A, B}
 use Rattle.lan_world.specs.AtLink.Moves.{Step, after, IsRun, run}
 use Rattle.lan_world.specs.AtLink.Parties.{Net}
 use Rattle.lan_world.proofs.AtLink.Extended.{IsRun-append}

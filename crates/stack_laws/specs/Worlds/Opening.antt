@@ -1,6 +1,6 @@
 -- B listens, and A connects: three segments open the connection.
 use Rattle.std.specs.Prelude.{List, [], ◌∷◌}
-use Rattle.lan_world.specs.declared.hosts.history.event.Side.TheVariants.{A, B}
+use Rattle.lan_world.specs.declared.at_link.history.event.Side.TheVariants.{A, B}
 use Rattle.lan_world.specs.AtLink.Call.SocketCall.{Listen, Connect}
 use Rattle.stack_laws.specs.Worlds.Hosts.{endpoint}
 use Rattle.stack_laws.specs.Worlds.Played.{Doing, Play, start, played}

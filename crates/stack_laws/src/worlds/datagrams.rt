@@ -1,7 +1,7 @@
 //! A datagram between bound ports.
 ghost use Rattle.std.specs.Prelude.{◌≡◌};
-ghost use Rattle.lan_world.specs.declared.hosts.history.answer.Answer.TheVariants as To;
-ghost use Rattle.lan_world.specs.declared.hosts.history.event.Side.TheVariants.{A, B};
+ghost use Rattle.lan_world.specs.declared.at_link.history.answer.Answer.TheVariants as To;
+ghost use Rattle.lan_world.specs.declared.at_link.history.event.Side.TheVariants.{A, B};
 ghost use Rattle.lan_world.specs.AtLink.Reads.{ReadsWereAccepted};
 ghost use Rattle.lan_world.specs.AtLink.Moves.{IsRun, run};
 ghost use Rattle.lan_world.specs.AtLink.PacketsSafe.{IsFreshNet};

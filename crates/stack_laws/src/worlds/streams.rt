@@ -1,8 +1,8 @@
 //! Connections.
 ghost use Rattle.std.specs.Prelude.{◌≡◌, ℕ};
-ghost use Rattle.lan_world.specs.declared.hosts.history.answer.Answer.TheVariants as To;
-ghost use Rattle.lan_world.specs.declared.hosts.history.answer.Fault.TheVariants as Fault;
-ghost use Rattle.lan_world.specs.declared.hosts.history.event.Side.TheVariants.{A, B};
+ghost use Rattle.lan_world.specs.declared.at_link.history.answer.Answer.TheVariants as To;
+ghost use Rattle.lan_world.specs.declared.at_link.history.answer.Fault.TheVariants as Fault;
+ghost use Rattle.lan_world.specs.declared.at_link.history.event.Side.TheVariants.{A, B};
 ghost use Rattle.lan_world.specs.AtLink.Partners.{ArePartners};
 ghost use Rattle.tcp_model.specs.State.TheVariants as In;
 ghost use Rattle.lan_world.specs.AtLink.Moves.{IsRun, run};
