@@ -27,7 +27,7 @@ const MOST_BYTES: usize = 1 << 29;
 
 /// A socket, what it knows, the segments that it sent, whether it was opened, and how many bytes it took for
 /// sending.
-#[derive(Debug, Drop)]
+#[derive(Drop)]
 pub(crate) struct End {
     socket: Socket,
     context: PairContext,

@@ -21,7 +21,7 @@ use tcp_socket::{Socket, State};
 use tcp_tie::pair::{PairAnswer, PairEvent, PairRefused, SentSegment, Side};
 
 /// An event that was taken, and the state in which it found the socket that it is for.
-#[derive(Debug, Drop)]
+#[derive(Drop)]
 struct Taken {
     event: PairEvent,
     found: State,
