@@ -1,22 +1,23 @@
 //! A first boot: a host without an address asks for one by DHCP, and for the address of a name by DNS. A server at the other end of
 //! the wire answers.
 mod client;
-mod net;
 mod server;
 
+use crate::net::Net;
 use anyhow::Result;
-use net::Net;
+use client::Client;
 use net_base::Duration;
+use server::Server;
 use std::alloc::Global;
 use std::fmt::Display;
 
 /// Lets a host boot, and ask for the address of a name.
 pub fn boot<R: Print>(rt: &R, alloc: Global) -> Result<()> {
-    let mut net = Net::new(alloc)?;
+    let mut net = Net::new(Client::new(alloc), Server::new(alloc))?;
     ask(rt, &mut net)
 }
 
-fn ask<R: Print>(rt: &R, net: &mut Net) -> Result<()> {
+fn ask<R: Print>(rt: &R, net: &mut Net<Client, Server>) -> Result<()> {
     net.pass(Duration::from_secs(5))?;
     show(rt, "after five seconds the host", net.client.address())?;
     net.client.ask("www.example.test")?;

@@ -1,5 +1,6 @@
 //! What the client asks of the server: a datagram, a stream, a ping.
-use crate::host::{Host, address};
+use crate::host::address;
+use crate::peer::Peer;
 use crate::server::ECHO;
 use anyhow::{Context, Result};
 use control_wire::{Icmpv4Packet, Icmpv4PacketMut, Icmpv4Repr};
@@ -10,7 +11,7 @@ use std::alloc::Global;
 use std::str;
 
 /// The number of the server.
-const SERVER: u8 = 2;
+pub const SERVER: u8 = 2;
 
 /// The port of the client, and the identifier of its pings.
 pub const PORT: u16 = 49_152;
@@ -21,41 +22,41 @@ fn text(alloc: Global, bytes: &[u8]) -> Result<String> {
 }
 
 /// Sends a datagram.
-pub fn send_datagram(host: &mut Host, text: &[u8]) -> Result<()> {
+pub fn send_datagram(client: &mut Peer, text: &[u8]) -> Result<()> {
     let server = IpEndpoint::new(address(SERVER), ECHO);
-    let socket = host.udp().context("no socket")?;
+    let socket = client.udp().context("no socket")?;
     Ok(socket.send_slice(text, server)?)
 }
 
 /// Reads the next datagram: its text, and where it came from.
-pub fn read_datagram(alloc: Global, host: &mut Host) -> Result<(String, UdpMetadata)> {
+pub fn read_datagram(alloc: Global, client: &mut Peer) -> Result<(String, UdpMetadata)> {
     let mut buffer = [0; 64];
-    let (count, sender) = host.udp().context("no socket")?.recv_slice(&mut buffer)?;
+    let (count, sender) = client.udp().context("no socket")?.recv_slice(&mut buffer)?;
     Ok((text(alloc, &buffer[..count])?, sender))
 }
 
 /// Connects to the server.
-pub fn connect(host: &mut Host) -> Result<()> {
-    host.connect((address(SERVER), ECHO), PORT)
+pub fn connect(client: &mut Peer) -> Result<()> {
+    client.connect((address(SERVER), ECHO), PORT)
 }
 
 /// Writes a text, and ends the stream.
-pub fn write(host: &mut Host, text: &[u8]) -> Result<usize> {
-    let socket = host.tcp().context("no socket")?;
+pub fn write(client: &mut Peer, text: &[u8]) -> Result<usize> {
+    let socket = client.tcp().context("no socket")?;
     let count = socket.send_slice(text)?;
     socket.close();
     Ok(count)
 }
 
 /// Reads what came.
-pub fn read(alloc: Global, host: &mut Host) -> Result<String> {
+pub fn read(alloc: Global, client: &mut Peer) -> Result<String> {
     let mut buffer = [0; 64];
-    let count = host.tcp().context("no socket")?.recv_slice(&mut buffer)?;
+    let count = client.tcp().context("no socket")?.recv_slice(&mut buffer)?;
     text(alloc, &buffer[..count])
 }
 
 /// Sends an echo request.
-pub fn ping(host: &mut Host, seq_no: u16) -> Result<()> {
+pub fn ping(client: &mut Peer, seq_no: u16) -> Result<()> {
     let request = Icmpv4Repr::EchoRequest {
         ident: PORT,
         seq_no,
@@ -66,14 +67,14 @@ pub fn ping(host: &mut Host, seq_no: u16) -> Result<()> {
         &mut Icmpv4PacketMut::new_unchecked(&mut message),
         &ChecksumCapabilities::default(),
     );
-    let socket = host.icmp().context("no socket")?;
+    let socket = client.icmp().context("no socket")?;
     Ok(socket.send_slice(&message, address(SERVER))?)
 }
 
 /// Reads the next message, and returns the number of the ping that it answers, if it answers one.
-pub fn pong(host: &mut Host) -> Result<Option<u16>> {
+pub fn pong(client: &mut Peer) -> Result<Option<u16>> {
     let mut buffer = [0; 64];
-    let socket = host.icmp().context("no socket")?;
+    let socket = client.icmp().context("no socket")?;
     let (count, _) = socket.recv_slice(&mut buffer)?;
     let packet = Icmpv4Packet::new_checked(&buffer[..count])?;
     match Icmpv4Repr::parse(&packet, &ChecksumCapabilities::default())? {

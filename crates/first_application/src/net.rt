@@ -1,23 +1,28 @@
-//! Two hosts on a wire, and their clock.
+//! Two hosts on a wire, each with its application, and their clock.
 ghost use Rattle.std.specs.Prelude.{IfSome};
 ghost use Rattle.net_base.specs.Time.{IsMoment};
 
-use crate::client::PORT;
 use crate::host::Host;
-use crate::server::{ECHO, serve};
 use anyhow::Result;
 use interface::earlier;
 use net_base::{Duration, Instant};
-use std::alloc::Global;
 
 /// How many turns are taken at most while time passes.
 const TURNS: u32 = 1000;
 
+/// A host with its application.
+pub trait End {
+    fn host(&mut self) -> &mut Host;
+
+    /// What the application does whenever its host was polled.
+    fn act(&mut self, now: Instant);
+}
+
 /// A client and a server on a wire.
 #[derive(Drop)]
-pub struct Net {
-    pub client: Box<Host>,
-    pub server: Box<Host>,
+pub struct Net<C, S> {
+    pub client: C,
+    pub server: S,
     now: Instant,
     ghost now_is_a_moment: { IsMoment now },
 }
@@ -33,35 +38,52 @@ pub fn later(moment: Instant, by: Duration) -> Option<Instant>
     if sum.is_moment() { Some(sum) } else { None }
 }
 
-impl Net {
-    /// Both hosts, at the beginning.
-    pub fn new(alloc: Global) -> Result<Net> {
-        let client = Host::new(alloc, 1, PORT)?;
-        let server = Host::new(alloc, 2, ECHO)?;
+/// A host takes in what came, its application acts, and the host sends what that wrote.
+fn turn<E: End>(end: &mut E, now: Instant)
+    requires { IsMoment now }
+{
+    end.host().poll(now);
+    end.act(now);
+    end.host().poll(now);
+}
+
+/// When a host wants its next turn: now where a frame came.
+fn due<E: End>(end: &mut E, now: Instant) -> Option<Instant>
+    requires { IsMoment now }
+{
+    let host = end.host();
+    if host.wire.has_frame() {
+        return Some(now);
+    }
+    host.poll_at(now)
+}
+
+impl<C: End + Drop, S: End + Drop> Net<C, S> {
+    /// Both ends at the beginning, if both could be made.
+    pub fn new(client: Result<C>, server: Result<S>) -> Result<Net<C, S>> {
         Ok(Net {
-            client,
-            server,
+            client: client?,
+            server: server?,
             now: Instant::ZERO,
         })
     }
 
-    /// Each host is polled, the server does its work, and the wire carries their frames.
+    /// Each end has its turn, and the wire carries their frames.
     fn turn(&mut self) -> Result<()> {
-        self.client.poll(self.now);
-        self.server.poll(self.now);
-        serve(&mut self.server);
-        self.server.poll(self.now);
-        self.client.wire.carry_to(&mut self.server.wire)?;
-        self.server.wire.carry_to(&mut self.client.wire)?;
+        turn(&mut self.client, self.now);
+        turn(&mut self.server, self.now);
+        let (client, server) = (self.client.host(), self.server.host());
+        client.wire.carry_to(&mut server.wire)?;
+        server.wire.carry_to(&mut client.wire)?;
         Ok(())
     }
 
-    /// When the next turn is due: now where a frame came, else when the first of the hosts wants it.
+    /// When the next turn is due.
     fn next(&mut self) -> Option<Instant> {
-        if self.client.wire.has_frame() || self.server.wire.has_frame() {
-            return Some(self.now);
-        }
-        earlier(self.client.poll_at(self.now), self.server.poll_at(self.now))
+        earlier(
+            due(&mut self.client, self.now),
+            due(&mut self.server, self.now),
+        )
     }
 
     /// Lets time pass, and takes each turn that is due.

@@ -1,17 +1,40 @@
-//! What the server does each time that it was polled: it echoes datagrams, and streams.
+//! The server, which echoes datagrams, and streams.
 use crate::host::Host;
+use crate::net::End;
+use crate::peer::Peer;
+use anyhow::Result;
+use net_base::Instant;
 use sockets::{tcp, udp};
+use std::alloc::Global;
 
 /// The port of echoes.
 pub const ECHO: u16 = 7;
 
-/// Does what can be done now.
-pub fn serve(host: &mut Host) {
-    if let Some(socket) = host.udp() {
-        echo_datagram(socket);
+/// A host that echoes.
+#[derive(Drop)]
+pub struct Server {
+    peer: Peer,
+}
+
+impl Server {
+    /// The one with this number.
+    pub fn new(alloc: Global, number: u8) -> Result<Server> {
+        Peer::new(alloc, number, ECHO).map(|peer| Server { peer })
     }
-    if let Some(socket) = host.tcp() {
-        echo_stream(socket);
+}
+
+impl End for Server {
+    fn host(&mut self) -> &mut Host {
+        self.peer.host()
+    }
+
+    fn act(&mut self, _now: Instant) {
+        if let Some(socket) = self.peer.udp() {
+            echo_datagram(socket);
+        }
+        if let Some(socket) = self.peer.tcp() {
+            echo_stream(socket);
+        }
     }
 }
 

@@ -1,21 +1,18 @@
 //! The server: it has one address to give, and one name to tell of.
 ghost use Rattle.dhcp_wire.specs.Written.{Fits};
-ghost use Rattle.net_base.specs.Time.{IsMoment};
 
 use crate::buffers::datagrams;
-use crate::host::{add, addressed, boxed};
-use crate::wire::Wire;
+use crate::host::{Host, add, configure};
+use crate::net::End;
 use anyhow::Result;
-use interface::{Interface, SocketHandle, SocketSet, SocketsByKind};
+use interface::{SocketHandle, SocketsByKind};
 use ip_wire::{IpAddress, IpEndpoint, Ipv4Address};
-use net_base::{Instant, ManagedSlice};
+use net_base::Instant;
 use sockets::dhcp::{DhcpMessageType, DhcpPacket, DhcpRepr};
 use sockets::udp::UdpMetadata;
 use sockets::{Socket, udp};
 use std::alloc::Global;
 
-/// How many frames a poll takes in, and how often it goes over the sockets, at most.
-const BUDGET: u16 = 16;
 /// Its own address.
 const ADDRESS: Ipv4Address = Ipv4Address([192, 168, 1, 1]);
 /// The address that it gives.
@@ -24,63 +21,43 @@ const GIVEN: Ipv4Address = Ipv4Address([192, 168, 1, 50]);
 /// minute.
 const RECORD: [u8; 16] = [0xc0, 12, 0, 1, 0, 1, 0, 0, 0, 60, 0, 4, 192, 168, 1, 80];
 
-/// A host at its end of the wire, and its sockets.
+/// A host with a socket for each kind of client.
 #[derive(Drop)]
 pub struct Server {
-    interface: Interface,
-    pub wire: Wire,
-    sockets: SocketSet<Socket>,
+    host: Box<Host>,
     dhcp: SocketHandle,
     dns: SocketHandle,
 }
 
 impl Server {
-    /// A server at an end of a wire.
-    pub fn new(alloc: Global) -> Result<Box<Server>> {
-        let mut sockets = SocketSet::new(ManagedSlice::Owned(Vec::new(alloc)));
-        let (dhcp, dns) = add_both(alloc, &mut sockets)?;
-        let wire = Wire::new(alloc);
-        let server = addressed(alloc, &wire, 1).map(|interface| Server {
-            interface,
-            wire,
-            sockets,
-            dhcp,
-            dns,
-        })?;
-        boxed(alloc, server)
-    }
-
-    /// Takes in what came, answers, and sends the answers.
-    pub fn poll(&mut self, now: Instant)
-        requires { IsMoment now }
-    {
-        self.interface
-            .poll(now, &mut self.wire, &mut self.sockets, BUDGET);
-        if let Some(socket) = self.sockets.get_mut_as(self.dhcp) {
-            give(socket);
-        }
-        if let Some(socket) = self.sockets.get_mut_as(self.dns) {
-            tell(socket);
-        }
-        self.interface
-            .poll(now, &mut self.wire, &mut self.sockets, BUDGET);
-    }
-
-    /// When it wants to be polled.
-    pub fn poll_at(&mut self, now: Instant) -> Option<Instant>
-        requires { IsMoment now }
-    {
-        self.interface.poll_at(now, &self.sockets)
+    /// A server with one address.
+    pub fn new(alloc: Global) -> Result<Server> {
+        let mut host = Host::new(alloc, 1)?;
+        fill(alloc, &mut host).map(|(dhcp, dns)| Server { host, dhcp, dns })
     }
 }
 
-/// Adds a socket for the clients of DHCP, and one for those of DNS.
-fn add_both(
-    alloc: Global,
-    sockets: &mut SocketSet<Socket>,
-) -> Result<(SocketHandle, SocketHandle)> {
-    let dhcp = add(sockets, Socket::Udp(datagrams(alloc, 67)?))?;
-    let dns = add(sockets, Socket::Udp(datagrams(alloc, 53)?))?;
+impl End for Server {
+    fn host(&mut self) -> &mut Host {
+        &mut self.host
+    }
+
+    /// Answers what came.
+    fn act(&mut self, _now: Instant) {
+        if let Some(socket) = self.host.sockets.get_mut_as(self.dhcp) {
+            give(socket);
+        }
+        if let Some(socket) = self.host.sockets.get_mut_as(self.dns) {
+            tell(socket);
+        }
+    }
+}
+
+/// Gives a host its address, and a socket for the clients of DHCP and one for those of DNS.
+fn fill(alloc: Global, host: &mut Host) -> Result<(SocketHandle, SocketHandle)> {
+    configure(&mut host.interface, 1)?;
+    let dhcp = add(&mut host.sockets, Socket::Udp(datagrams(alloc, 67)?))?;
+    let dns = add(&mut host.sockets, Socket::Udp(datagrams(alloc, 53)?))?;
     Ok((dhcp, dns))
 }
 
