@@ -121,5 +121,6 @@ fn write_case<W: Write>(name: &[u8], text: &str, writer: &mut W) -> io::Result<(
     writer.write_all(b"== ")?;
     writer.write_all(name)?;
     writer.write_all(b"\n")?;
-    writer.write_all(text.as_bytes())
+    writer.write_all(text.as_bytes())?;
+    Ok(())
 }

@@ -165,11 +165,11 @@ fn is_verb(word: &str) -> bool {
 
 /// The bytes of a word: pairs of hex digits, or `-` for none.
 fn bytes(alloc: Global, words: &mut Words<'_>) -> Vec<u8> {
-    let word = words.word();
-    if word == "-" {
-        return Vec::new(alloc);
-    }
-    match hex::decode(alloc, word) {
+    let read = match words.word() {
+        "-" => return Vec::new(alloc),
+        word => hex::decode(alloc, word),
+    };
+    match read {
         Ok(bytes) => return bytes,
         Err(FromHexError::OutOfMemory) => words.lacks("memory"),
         Err(_) => words.lacks("bytes"),

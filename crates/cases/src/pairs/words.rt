@@ -111,11 +111,10 @@ impl<'a> Words<'a> {
 
     /// A duration in microseconds, or none.
     pub fn duration(&mut self) -> Option<Duration> {
-        let word = self.word();
-        if word == "none" {
-            return None;
-        }
-        let micros = number(word);
+        let micros = match self.word() {
+            "none" => return None,
+            word => number(word),
+        };
         Some(Duration::from_micros(self.found("duration", micros, 0)))
     }
 
@@ -130,11 +129,10 @@ impl<'a> Words<'a> {
     where
         T::Err: Drop,
     {
-        let word = self.word();
-        if word == "none" {
-            return None;
-        }
-        let found = number(word);
+        let found = match self.word() {
+            "none" => return None,
+            word => number(word),
+        };
         if found.is_none() {
             self.lacks("number");
         }
@@ -144,10 +142,11 @@ impl<'a> Words<'a> {
     /// One of two words: whether it is the first, which a line lacks that has neither.
     pub fn either(&mut self, yes: &'static str, no: &'static str) -> bool {
         let word = self.word();
-        if word != yes && word != no {
+        let is_first = word == yes;
+        if !is_first && word != no {
             self.lacks(yes);
         }
-        word == yes
+        is_first
     }
 }
 
