@@ -190,38 +190,18 @@ fn socket<'a>(side: Side, kind: SocketKind, words: &mut Words<'a>) -> Option<Lin
     ensures found { IfSome result (IsSocket side kind words.old) }
     ensures only { (line : Line) → IsSocket side kind words.old line → result ≡ Some line }
 {
-    match kind {
-        SocketKind::Udp => {
-            if let Some(queues) = queue_sizes(words) {
-                return ended(Line::Socket(side, SocketSpec::Udp(queues)), words);
-            }
-        }
-        SocketKind::Icmp => {
-            if let Some(queues) = queue_sizes(words) {
-                return ended(Line::Socket(side, SocketSpec::Icmp(queues)), words);
-            }
-        }
+    let spec = match kind {
+        SocketKind::Udp => SocketSpec::Udp(queue_sizes(words)?),
+        SocketKind::Icmp => SocketSpec::Icmp(queue_sizes(words)?),
         SocketKind::Raw => {
-            if let (Some(version), Some(protocol), Some(queues)) = (
-                words.version(),
-                words.protocol(),
-                queue_sizes(words),
-            ) {
-                let spec = SocketSpec::Raw(version, protocol, queues);
-                return ended(Line::Socket(side, spec), words);
-            }
+            SocketSpec::Raw(words.version()?, words.protocol()?, queue_sizes(words)?)
         }
-        SocketKind::Tcp => {
-            if let (Some(receive_bytes), Some(send_bytes)) = (words.size(), words.size()) {
-                let spec = SocketSpec::Tcp(StreamSizes {
-                    receive_bytes,
-                    send_bytes,
-                });
-                return ended(Line::Socket(side, spec), words);
-            }
-        }
-    }
-    None
+        SocketKind::Tcp => SocketSpec::Tcp(StreamSizes {
+            receive_bytes: words.size()?,
+            send_bytes: words.size()?,
+        }),
+    };
+    ended(Line::Socket(side, spec), words)
 }
 
 // `RP RB TP TB`.
