@@ -1,5 +1,5 @@
 -- The socket of a kind that a set of sockets lends.
-use Rattle.std.proofs.Common.{◌≡◌, ℕ, List, Option, None, Some, Result, Ok, refl, sym, ap, subst, ◌∙◌}
+use Rattle.std.proofs.Common.{◌≡◌, ℕ, false, List, Option, None, Some, Result, Ok, refl, sym, ap, subst, ◌∙◌}
 use Rattle.std.specs.Prelude.{slice_get, slice_set, OnSome}
 use Rattle.std.specs.Borrow.{MutBor}
 use Rattle.std.specs.Option.{option_copied_mut}
@@ -47,16 +47,30 @@ module _ {V : Type 0} (as_kind : Socket → Option V) (ps : List (SocketStorage 
   pub found_kind : socket_at ps n ≡ Some s → (k : Option V) → as_kind s ≡ k → found_at as_kind ps n ≡ kind_found k
   found_kind has k is = found_in (slice_get ps n) has ∙ ap kind_found is
 
--- a socket that the set lends, by a handle of the place
-module _ (set : SocketSet Socket) (h n : ℕ) (at : h ≡ n) (r : Option (MutBor Socket)) (s : MutBor Socket) (is : r ≡ Some s) where
-  pub there : option_copied_mut r ≡ socket_at (places set) h → socket_at (places set) n ≡ Some s.now
-  there value = sym (ap (socket_at (places set)) at) ∙ sym value ∙ ap (λ x. option_copied_mut x) is
+-- a socket that the set of these places lends, by a handle of the place
+module _ (set : SocketSet Socket) (ps : List (SocketStorage Socket)) (same : places set ≡ ps) (h n : ℕ) (at : h ≡ n) (r : Option (MutBor Socket))
+    (s : MutBor Socket) (is : r ≡ Some s) where
+  pub there : option_copied_mut r ≡ socket_at (places set) h → socket_at ps n ≡ Some s.now
+  there value =
+      sym (ap (λ x. socket_at x n) same) ∙ sym (ap (socket_at (places set)) at) ∙ sym value ∙ ap (λ x. option_copied_mut x) is
 
-  pub lent_at : (new : SocketSet Socket) (w : Socket) → OnSome r ((places new ≡ set_at (places set) h w) × (is_fixed new ≡ is_fixed set))
-      → (places new ≡ set_at (places set) n w) × (is_fixed new ≡ is_fixed set)
+  abbrev Holds : SocketSet Socket → Socket → Option (MutBor Socket) → Type 0
+  Holds new w r = OnSome r ((places new ≡ set_at (places set) h w) × (is_fixed new ≡ is_fixed set))
+
+  pub lent_at : (new : SocketSet Socket) (w : Socket) → Holds new w r → places new ≡ set_at ps n w
   lent_at new w holds =
-      let kept = subst (λ (x : Option (MutBor Socket)). OnSome x ((places new ≡ set_at (places set) h w) × (is_fixed new ≡ is_fixed set))) is holds in
-      (kept.0 ∙ ap (λ (k : ℕ). set_at (places set) k w) at, kept.1)
+      (subst (Holds new w) is holds).0 ∙ ap (λ (k : ℕ). set_at (places set) k w) at ∙ ap (λ x. set_at x n w) same
+
+  pub unfixed : is_fixed set ≡ false → (new : SocketSet Socket) (w : Socket) → Holds new w r → is_fixed new ≡ false
+  unfixed grows new w holds = (subst (Holds new w) is holds).1 ∙ grows
+
+-- a socket that places lend
+module _ (ps : List (SocketStorage Socket)) (n : ℕ) (r : Option (MutBor Socket)) (s : MutBor Socket) (is : r ≡ Some s) where
+  pub found : option_copied_mut r ≡ socket_at ps n → socket_at ps n ≡ Some s.now
+  found value = sym value ∙ ap (λ x. option_copied_mut x) is
+
+  pub left_at : (new : List (SocketStorage Socket)) (w : Socket) → OnSome r (new ≡ set_at ps n w) → new ≡ set_at ps n w
+  left_at new w holds = subst (λ (x : Option (MutBor Socket)). OnSome x (new ≡ set_at ps n w)) is holds
 
 pub copied : {V : Type 0} (r : Option (MutBor V)) (s : MutBor V) (k : Option V) → r ≡ Some s → option_copied_mut r ≡ k → k ≡ Some s.now
 copied r s k is value = sym value ∙ ap (λ x. option_copied_mut x) is

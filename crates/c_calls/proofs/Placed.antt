@@ -2,9 +2,8 @@
 use Rattle.std.proofs.Common.{◌≡◌, ℕ, Bool, true, false, List, Option, None, Some, Result, Ok, Err, refl, sym, ap, subst, ◌∙◌}
 use Rattle.std.specs.Prelude.{slice_get, slice_set, is_ok, MatchResult, OnErr}
 use Rattle.std.specs.Borrow.{MutBor}
-use Rattle.interface.specs.Set.{places, is_fixed, set_at, set_by, set_in, with_socket}
+use Rattle.interface.specs.Set.{set_at, set_by, set_in, with_socket}
 use Rattle.interface.specs.Item.{Item}
-use Rattle.interface_egress.specs.declared.socket_set.SocketSet.{SocketSet}
 use Rattle.interface.specs.SocketStorage.{SocketStorage}
 use Rattle.interface_egress.proofs.Lent.{same_place}
 use Rattle.sockets.specs.declared.socket.Socket.{Socket}
@@ -178,20 +177,15 @@ module _ {V : Type 0} (as_kind : Socket → Option V) (ps : List (SocketStorage 
   missed_of r code is h =
       subst (λ (x : Result (MutBor V) Code). MatchResult x (λ s. found_at as_kind ps n ≡ Ok s.now) (λ code. found_at as_kind ps n ≡ Err code)) is h
 
--- WHAT IS LEFT of a set whose socket was lent, and of one without it
-module _ {V : Type 0} (as_kind : Socket → Option V) (of_kind : V → Socket) (after : V → V) (set new : SocketSet Socket) (n : ℕ) where
-  abbrev pub Left : Type 0
-  Left = (places new ≡ after_at as_kind of_kind after (places set) n) × (is_fixed new ≡ is_fixed set)
-
+-- WHAT IS LEFT of places of which a socket was lent, and of such without it
+module _ {V : Type 0} (as_kind : Socket → Option V) (of_kind : V → Socket) (after : V → V) (set new : List (SocketStorage Socket)) (n : ℕ) where
   -- the socket that was found is left as the call leaves it
-  pub left : (r : Result (MutBor V) Code) (s : MutBor V) (w : V) → found_at as_kind (places set) n ≡ Ok s.now → r ≡ Ok s → w ≡ after s.now →
-      (is_ok r ≡ true → (places new ≡ set_at (places set) n (of_kind w)) × (is_fixed new ≡ is_fixed set)) → Left
+  pub left : (r : Result (MutBor V) Code) (s : MutBor V) (w : V) → found_at as_kind set n ≡ Ok s.now → r ≡ Ok s → w ≡ after s.now →
+      (is_ok r ≡ true → new ≡ set_at set n (of_kind w)) → new ≡ after_at as_kind of_kind after set n
   left r s w found is went holds =
-      let kept = holds (ap (λ x. is_ok x) is) in
-      (kept.0 ∙ ap (λ (x : V). set_at (places set) n (of_kind x)) went ∙ became as_kind (places set) n s.now of_kind after found, kept.1)
+      holds (ap (λ x. is_ok x) is) ∙ ap (λ (x : V). set_at set n (of_kind x)) went ∙ became as_kind set n s.now of_kind after found
 
-  pub unchanged : (r : Result (MutBor V) Code) (code : Code) → found_at as_kind (places set) n ≡ Err code → r ≡ Err code
-      → OnErr r ((places new ≡ places set) × (is_fixed new ≡ is_fixed set)) → Left
+  pub unchanged : (r : Result (MutBor V) Code) (code : Code) → found_at as_kind set n ≡ Err code → r ≡ Err code
+      → OnErr r (new ≡ set) → new ≡ after_at as_kind of_kind after set n
   unchanged r code found is h =
-      let same = subst (λ (x : Result (MutBor V) Code). OnErr x ((places new ≡ places set) × (is_fixed new ≡ is_fixed set))) is h in
-      (same.0 ∙ kept as_kind (places set) n code of_kind after found, same.1)
+      subst (λ (x : Result (MutBor V) Code). OnErr x (new ≡ set)) is h ∙ kept as_kind set n code of_kind after found

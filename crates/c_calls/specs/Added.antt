@@ -36,7 +36,12 @@ added places socket = added_by (free_place places) places socket
 abbrev pub with_socket : StackValue → Socket → StackValue
 with_socket s socket = record s { places = added s.places socket }
 
--- a socket comes to the first free place, or there is no memory for it and nothing changes
+-- a socket comes to the first free place, or there is no memory for it and the places stay as they are
+abbrev pub AddsSocket : Socket → List (SocketStorage Socket) → Result ℕ Code → List (SocketStorage Socket) → Type 0
+AddsSocket socket places result places' =
+    MatchResult result (λ place. (place ≡ place_in places) × (places' ≡ added places socket)) (λ code. (code ≡ Is.Memory) × (places' ≡ places))
+
+-- so does one of a host, of which nothing else changes
 abbrev pub MakesSocket : Socket → StackValue → Result ℕ Code → StackValue → Type 0
 MakesSocket socket s result s' =
     MatchResult result (λ place. (place ≡ place_in s.places) × (s' ≡ with_socket s socket)) (λ code. (code ≡ Is.Memory) × (s' ≡ s))

@@ -151,10 +151,16 @@ WhereThere Does None result l' = (result ≡ Err Is.NoListener) × (l' ≡ None)
 WhereThere Does (Some l) result l' = Does l result l'
 
 -- a call of the listener at a place, which leaves another there
+abbrev pub OnPlace : {A : Type 0} → (Listener → Result A Code → Option Listener → Type 0) → Option Listener → List (Option Listener) → ℕ → Result A Code →
+    List (Option Listener) → Type 0
+OnPlace Does None ls n result ls' = (result ≡ Err Is.NoListener) × (ls' ≡ ls)
+OnPlace Does (Some l) ls n result ls' = (l' : Option Listener) × Does l result l' × (ls' ≡ slice_set ls n l')
+
+-- the same of a host's, of which nothing else changes
 abbrev pub OnListener : {A : Type 0} → (Listener → Result A Code → Option Listener → Type 0) → Option Listener → StackValue → ℕ → Result A Code →
     StackValue → Type 0
-OnListener Does None s n result s' = (result ≡ Err Is.NoListener) × (s' ≡ s)
-OnListener Does (Some l) s n result s' = (l' : Option Listener) × Does l result l' × (s' ≡ with_listener s n l')
+OnListener Does l s n result s' =
+    (ls : List (Option Listener)) × OnPlace Does l s.listeners n result ls × (s' ≡ record s { listeners = ls })
 
 abbrev pub Grown : (Listener → Listener → Type 0) → Result (Unit {0}) Code → Listener → Result (Unit {0}) Code → Option Listener → Type 0
 Grown Changes (Err code) l result l' = (result ≡ Err code) × (l' ≡ Some l)

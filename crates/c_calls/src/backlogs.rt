@@ -1,7 +1,6 @@
 //! Listeners with a backlog.
 ghost use Rattle.std.specs.Prelude.{◌≡◌, ◌==◌, position, is_none, IfOk, Err, Ok};
 ghost use Rattle.std.specs.List.{list_any};
-ghost use Rattle.interface.specs.Set.{places, is_fixed};
 ghost use Rattle.interface.specs.Backlog.Calls.{micros_of};
 ghost use Rattle.interface.specs.declared.listener.entry.Entry.{Entry};
 ghost use Rattle.interface.specs.SocketHandle.{SocketHandle as Handle};
@@ -9,16 +8,16 @@ ghost use Rattle.sockets.specs.AnySocket.{as_tcp};
 ghost use Rattle.c_calls.specs.Places.{answer_at};
 ghost use Rattle.c_calls.specs.Backlogs.{RefreshesAt, RefreshesAll, MakesListener, IsPut, listener_place, is_there, without_listener, listener_at, has_place};
 ghost use Rattle.c_calls.specs.Backlogs.{is_in_backlog, closed_in, may_be_taken, Takes, Has, HasEntry, HasKeeper, Grows, Grown, WhereThere, Accepted};
-ghost use Rattle.c_calls.specs.Backlogs.{GivenBack, AcceptsFrom, GivesBack, listener_refusal};
+ghost use Rattle.c_calls.specs.Backlogs.{GivenBack, AcceptsFrom, GivesBack, OnPlace, listener_refusal};
 
 use crate::code::Code;
 use crate::host::Host;
 use crate::looks;
+use crate::places::Places;
 use interface::listener::Entry;
-use interface::{Listener, SocketHandle, SocketSet};
+use interface::{Listener, SocketHandle};
 use ip_wire::IpListenEndpoint;
 use net_base::Instant;
-use sockets::Socket;
 use sockets::tcp::State;
 
 /// How many listeners a host has at most.
@@ -33,24 +32,18 @@ enum Role {
     Keeper,
 }
 
-fn refresh_one(listener: &mut Option<Listener>, sockets: &mut SocketSet<Socket>, now: Instant)
-    ensures seen { RefreshesAt (micros_of now) listener.old (places sockets.old) listener.new (places sockets.new) }
-    ensures fixed { is_fixed sockets.new ≡ is_fixed sockets.old }
+fn refresh_one(listener: &mut Option<Listener>, sockets: &mut Places, now: Instant)
+    ensures seen { RefreshesAt (micros_of now) listener.old sockets.old listener.new sockets.new }
 {
     match listener {
-        Some(listener) => listener.refresh(sockets, now),
+        Some(listener) => listener.refresh(&mut sockets.set, now),
         None => {}
     }
 }
 
 /// Each listener in turn sees how far its sockets came.
-pub(crate) fn refresh_all(
-    listeners: &mut [Option<Listener>],
-    sockets: &mut SocketSet<Socket>,
-    now: Instant,
-)
-    ensures seen { RefreshesAll (micros_of now) listeners.old (places sockets.old) listeners.new (places sockets.new) }
-    ensures fixed { is_fixed sockets.new ≡ is_fixed sockets.old }
+pub(crate) fn refresh_all(listeners: &mut [Option<Listener>], sockets: &mut Places, now: Instant)
+    ensures seen { RefreshesAll (micros_of now) listeners.old sockets.old listeners.new sockets.new }
 {
     if let Some((first, rest)) = listeners.split_first_mut() {
         refresh_one(first, sockets, now);
@@ -153,10 +146,11 @@ impl Host {
     pub fn listener_new(&mut self, endpoint: IpListenEndpoint) -> Result<usize, Code>
         ensures { MakesListener endpoint self.old result self.new }
     {
-        if let Some(code) = listener_refusal(&endpoint, self.listeners.as_slice()) {
+        if let Some(code) = listener_refusal(&endpoint, self.seen_listeners()) {
             return Err(code);
         }
-        put_listener(&mut self.listeners, Listener::new(self.alloc, endpoint))
+        let made = Listener::new(self.alloc(), endpoint);
+        put_listener(self.listeners(), made)
     }
 
     /// Gives a listener up. Its sockets stay as they are.
@@ -164,10 +158,11 @@ impl Host {
         ensures answer { result ≡ is_there (listener_at self.old.listeners listener) }
         ensures after { self.new ≡ without_listener (listener_at self.old.listeners listener) self.old listener }
     {
-        if listener >= self.listeners.len() || self.listeners[listener].is_none() {
+        let listeners = self.listeners();
+        if listener >= listeners.len() || listeners[listener].is_none() {
             return Err(Code::NoListener);
         }
-        self.listeners[listener] = None;
+        listeners[listener] = None;
         Ok(())
     }
 
@@ -175,9 +170,9 @@ impl Host {
     fn may_be_taken(&self, socket: usize) -> Result<(), Code>
         ensures { result ≡ may_be_taken self.now socket }
     {
-        match looks::state(&self.sockets, socket) {
+        match looks::state(self.seen_sockets(), socket) {
             Ok(State::Closed) => {
-                if is_in_backlog(self.listeners.as_slice(), socket) {
+                if is_in_backlog(self.seen_listeners(), socket) {
                     Err(Code::InBacklog)
                 } else {
                     Ok(())
@@ -207,30 +202,21 @@ impl Host {
         ensures { Takes (Has role socket) self.old listener socket result self.new }
     {
         let taken = self.may_be_taken(socket);
-        if listener >= self.listeners.len() {
-            return Err(Code::NoListener);
-        }
-        add_to(&mut self.listeners[listener], socket, role, taken)
+        take_at(self.listeners(), listener, socket, role, taken)
     }
 
     /// The place of the socket whose connection has waited for longest. It is its user's until `listener_give_back`.
     pub fn listener_accept(&mut self, listener: usize) -> Result<usize, Code>
         ensures { AcceptsFrom self.old listener result self.new }
     {
-        if listener >= self.listeners.len() {
-            return Err(Code::NoListener);
-        }
-        accept_of(&mut self.listeners[listener])
+        accept_at(self.listeners(), listener)
     }
 
     /// Takes an accepted socket back, which its user closed or aborted. It listens again when its connection has ended.
     pub fn listener_give_back(&mut self, listener: usize, socket: usize) -> Result<(), Code>
         ensures { GivesBack self.old listener socket result self.new }
     {
-        if listener >= self.listeners.len() {
-            return Err(Code::NoListener);
-        }
-        give_back_to(&mut self.listeners[listener], socket)
+        give_back_at(self.listeners(), listener, socket)
     }
 }
 
@@ -267,6 +253,22 @@ fn add_to(
     }
 }
 
+/// The listener at the place takes a socket in.
+fn take_at(
+    listeners: &mut Vec<Option<Listener>>,
+    listener: usize,
+    socket: usize,
+    role: Role,
+    taken: Result<(), Code>,
+) -> Result<(), Code>
+    ensures { OnPlace (Grown (Has role socket) taken) (listener_at listeners.old.items listener) listeners.old.items listener result listeners.new.items }
+{
+    if listener >= listeners.len() {
+        return Err(Code::NoListener);
+    }
+    add_to(&mut listeners[listener], socket, role, taken)
+}
+
 fn accept_of(listener: &mut Option<Listener>) -> Result<usize, Code>
     ensures { WhereThere Accepted listener.old result listener.new }
 {
@@ -279,6 +281,16 @@ fn accept_of(listener: &mut Option<Listener>) -> Result<usize, Code>
     }
 }
 
+/// The listener at the place has a connection accepted.
+fn accept_at(listeners: &mut Vec<Option<Listener>>, listener: usize) -> Result<usize, Code>
+    ensures { OnPlace Accepted (listener_at listeners.old.items listener) listeners.old.items listener result listeners.new.items }
+{
+    if listener >= listeners.len() {
+        return Err(Code::NoListener);
+    }
+    accept_of(&mut listeners[listener])
+}
+
 fn give_back_to(listener: &mut Option<Listener>, socket: usize) -> Result<(), Code>
     ensures { WhereThere (GivenBack socket) listener.old result listener.new }
 {
@@ -289,4 +301,18 @@ fn give_back_to(listener: &mut Option<Listener>, socket: usize) -> Result<(), Co
         }
         None => Err(Code::NoListener),
     }
+}
+
+/// The listener at the place takes a socket back.
+fn give_back_at(
+    listeners: &mut Vec<Option<Listener>>,
+    listener: usize,
+    socket: usize,
+) -> Result<(), Code>
+    ensures { OnPlace (GivenBack socket) (listener_at listeners.old.items listener) listeners.old.items listener result listeners.new.items }
+{
+    if listener >= listeners.len() {
+        return Err(Code::NoListener);
+    }
+    give_back_to(&mut listeners[listener], socket)
 }

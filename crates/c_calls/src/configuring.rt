@@ -24,7 +24,8 @@ impl Host {
         ensures answer { result ≡ dhcp_answer self.old.host.inner.hardware }
         ensures after { self.new ≡ record self.old { dhcp = dhcp_made self.old.host.inner.hardware seed self.old.dhcp } }
     {
-        leases::begin(&mut self.dhcp, self.interface.hardware_addr(), seed)
+        let hardware = self.interface().hardware_addr();
+        leases::begin(self.leases(), hardware, seed)
     }
 
     /// A datagram that a socket received at the clients' port.
@@ -36,14 +37,16 @@ impl Host {
     ) -> Result<(), Code>
         ensures { LeaseArrives remote local bytes.now self.old result self.new }
     {
-        leases::recv(&mut self.dhcp, &self.interface, bytes, remote, local)
+        let (client, cx) = self.leases_beside();
+        leases::recv(client, cx, bytes, remote, local)
     }
 
     /// Copies the message that is due to the front of the slice. It is open until `dhcp_sent` says what became of it.
     pub fn dhcp_send(&mut self, out: &mut [u8]) -> Result<Sending, Code>
         ensures { LeaseGoes out.old self.old result out.new self.new }
     {
-        leases::send(&mut self.dhcp, &self.interface, out)
+        let (client, cx) = self.leases_beside();
+        leases::send(client, cx, out)
     }
 
     /// What became of the message: behind one that was sent the client waits for its answer.
@@ -51,7 +54,7 @@ impl Host {
         ensures answer { result ≡ Leases.sent_answer self.old.dhcp }
         ensures after { self.new ≡ record self.old { dhcp = Leases.sent_after is_sent self.old.dhcp } }
     {
-        leases::sent(&mut self.dhcp, is_sent)
+        leases::sent(self.leases(), is_sent)
     }
 
     /// What happened since the last call: a lease that is over by now is given up first.
@@ -59,21 +62,21 @@ impl Host {
         ensures answer { result ≡ told_answer now self.old.dhcp }
         ensures after { self.new ≡ record self.old { dhcp = told_after now self.old.dhcp } }
     {
-        leases::poll(&mut self.dhcp, now)
+        leases::poll(self.leases(), now)
     }
 
     /// When the client of DHCP has something to send.
     pub fn dhcp_poll_at(&self) -> Result<PollAt, Code>
         ensures { result ≡ Leases.due_answer self.now.dhcp }
     {
-        leases::poll_at(&self.dhcp, &self.interface)
+        leases::poll_at(self.seen_leases(), self.seen_interface())
     }
 
     /// A client of DNS that asks these servers, in place of one that there was.
     pub fn dns_new(&mut self, servers: &[IpAddress])
         ensures { self.new ≡ record self.old { dns = query_made servers.now } }
     {
-        names::begin(&mut self.dns, servers);
+        names::begin(self.names(), servers);
     }
 
     /// Asks for the addresses of a name, which is a text with dots between its labels. A query that is begun draws two random words.
@@ -93,14 +96,16 @@ impl Host {
     ) -> Result<(), Code>
         ensures { AnswerArrives remote local bytes.now self.old result self.new }
     {
-        names::recv(&mut self.dns, &self.interface, bytes, remote, local)
+        let (client, cx) = self.names_beside();
+        names::recv(client, cx, bytes, remote, local)
     }
 
     /// Copies the query that is due to the front of the slice. It is open until `dns_sent` says what became of it.
     pub fn dns_send(&mut self, out: &mut [u8]) -> Result<Sending, Code>
         ensures { QueryGoes out.old self.old result out.new self.new }
     {
-        names::send(&mut self.dns, &self.interface, out)
+        let (client, cx) = self.names_beside();
+        names::send(client, cx, out)
     }
 
     /// What became of the query: behind one that was sent the client waits for its answer.
@@ -108,7 +113,7 @@ impl Host {
         ensures answer { result ≡ Names.sent_answer self.old.dns }
         ensures after { self.new ≡ record self.old { dns = Names.sent_after is_sent self.old.dns } }
     {
-        names::sent(&mut self.dns, is_sent)
+        names::sent(self.names(), is_sent)
     }
 
     /// The addresses that were found, which are told once.
@@ -116,13 +121,13 @@ impl Host {
         ensures answer { result ≡ found_answer self.old.dns }
         ensures after { self.new ≡ record self.old { dns = found_after self.old.dns } }
     {
-        names::found(&mut self.dns)
+        names::found(self.names())
     }
 
     /// When the client of DNS has something to send.
     pub fn dns_poll_at(&self) -> Result<PollAt, Code>
         ensures { result ≡ Names.due_answer self.now.dns }
     {
-        names::poll_at(&self.dns, &self.interface)
+        names::poll_at(self.seen_names(), self.seen_interface())
     }
 }

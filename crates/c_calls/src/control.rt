@@ -1,6 +1,5 @@
 //! Calls of ICMP sockets.
 ghost use Rattle.std.specs.Prelude.{◌≡◌, length};
-ghost use Rattle.interface.specs.Set.{places, is_fixed};
 ghost use Rattle.sockets.specs.AnySocket.{as_icmp};
 ghost use Rattle.sockets.specs.declared.socket.Socket.TheVariants as Kind;
 ghost use Rattle.c_calls.specs.Places.{answer_at, after_at, written_at};
@@ -14,7 +13,7 @@ use crate::code::{Code, of_bind, of_recv, of_send};
 use crate::host::Host;
 use crate::kinds::lent;
 use crate::made::{limit_of, queues};
-use interface::SocketSet;
+use crate::places::Places;
 use ip_wire::IpAddress;
 use sockets::{Socket, icmp};
 
@@ -44,10 +43,9 @@ fn act_on(socket: &mut icmp::Socket, act: Act) -> Result<(), Code>
 }
 
 /// Does a call that answers nothing but whether it was done.
-pub fn perform(sockets: &mut SocketSet<Socket>, place: usize, act: Act) -> Result<(), Code>
-    ensures answer { result ≡ answer_at as_icmp (act_answer act) (places sockets.old) place }
-    ensures after { places sockets.new ≡ after_at as_icmp Kind.Icmp (act_after act) (places sockets.old) place }
-    ensures fixed { is_fixed sockets.new ≡ is_fixed sockets.old }
+pub fn perform(sockets: &mut Places, place: usize, act: Act) -> Result<(), Code>
+    ensures answer { result ≡ answer_at as_icmp (act_answer act) sockets.old place }
+    ensures after { sockets.new ≡ after_at as_icmp Kind.Icmp (act_after act) sockets.old place }
 {
     match lent::<icmp::Socket>(sockets, place) {
         Ok(socket) => act_on(socket, act),
@@ -56,15 +54,9 @@ pub fn perform(sockets: &mut SocketSet<Socket>, place: usize, act: Act) -> Resul
 }
 
 /// Queues a message.
-pub fn send(
-    sockets: &mut SocketSet<Socket>,
-    place: usize,
-    bytes: &[u8],
-    remote: IpAddress,
-) -> Result<(), Code>
-    ensures answer { result ≡ answer_at as_icmp (λ v. coded of_send (send_answer v remote (length bytes.now))) (places sockets.old) place }
-    ensures after { places sockets.new ≡ after_at as_icmp Kind.Icmp (λ v. send_after v remote bytes.now) (places sockets.old) place }
-    ensures fixed { is_fixed sockets.new ≡ is_fixed sockets.old }
+pub fn send(sockets: &mut Places, place: usize, bytes: &[u8], remote: IpAddress) -> Result<(), Code>
+    ensures answer { result ≡ answer_at as_icmp (λ v. coded of_send (send_answer v remote (length bytes.now))) sockets.old place }
+    ensures after { sockets.new ≡ after_at as_icmp Kind.Icmp (λ v. send_after v remote bytes.now) sockets.old place }
 {
     match lent::<icmp::Socket>(sockets, place) {
         Ok(socket) => queue(socket, bytes, remote),
@@ -83,15 +75,10 @@ fn queue(socket: &mut icmp::Socket, bytes: &[u8], remote: IpAddress) -> Result<(
 }
 
 /// Reads the first message to the front of the slice.
-pub fn recv(
-    sockets: &mut SocketSet<Socket>,
-    place: usize,
-    out: &mut [u8],
-) -> Result<(usize, IpAddress), Code>
-    ensures answer { result ≡ answer_at as_icmp (λ v. coded of_recv (recv_answer v (length out.old))) (places sockets.old) place }
-    ensures after { places sockets.new ≡ after_at as_icmp Kind.Icmp (recv_after) (places sockets.old) place }
-    ensures read { out.new ≡ written_at as_icmp recv_written out.old (places sockets.old) place }
-    ensures fixed { is_fixed sockets.new ≡ is_fixed sockets.old }
+pub fn recv(sockets: &mut Places, place: usize, out: &mut [u8]) -> Result<(usize, IpAddress), Code>
+    ensures answer { result ≡ answer_at as_icmp (λ v. coded of_recv (recv_answer v (length out.old))) sockets.old place }
+    ensures after { sockets.new ≡ after_at as_icmp Kind.Icmp (recv_after) sockets.old place }
+    ensures read { out.new ≡ written_at as_icmp recv_written out.old sockets.old place }
 {
     match lent::<icmp::Socket>(sockets, place) {
         Ok(socket) => read(socket, out),
@@ -115,7 +102,7 @@ impl Host {
     pub fn icmp_new(&mut self, packets: usize, bytes: usize) -> Result<usize, Code>
         ensures { MakesSocket (new_icmp packets bytes) self.old result self.new }
     {
-        let Some((received, queued)) = queues(self.alloc, packets, bytes) else {
+        let Some((received, queued)) = queues(self.alloc(), packets, bytes) else {
             return Err(Code::Memory);
         };
         self.add(Socket::Icmp(icmp::Socket::new(received, queued)))
@@ -126,7 +113,7 @@ impl Host {
         ensures answer { result ≡ answer_at as_icmp (act_answer act) self.old.places place }
         ensures after { self.new ≡ record self.old { places = after_at as_icmp Kind.Icmp (act_after act) self.old.places place } }
     {
-        perform(&mut self.sockets, place, act)
+        perform(self.sockets(), place, act)
     }
 
     /// Queues a message. Its checksum is written when it is sent.
@@ -134,7 +121,7 @@ impl Host {
         ensures answer { result ≡ answer_at as_icmp (λ v. coded of_send (send_answer v remote (length bytes.now))) self.old.places place }
         ensures after { self.new ≡ record self.old { places = after_at as_icmp Kind.Icmp (λ v. send_after v remote bytes.now) self.old.places place } }
     {
-        send(&mut self.sockets, place, bytes, remote)
+        send(self.sockets(), place, bytes, remote)
     }
 
     /// Reads the first message to the front of the slice.
@@ -143,6 +130,6 @@ impl Host {
         ensures after { self.new ≡ record self.old { places = after_at as_icmp Kind.Icmp (recv_after) self.old.places place } }
         ensures read { out.new ≡ written_at as_icmp recv_written out.old self.old.places place }
     {
-        recv(&mut self.sockets, place, out)
+        recv(self.sockets(), place, out)
     }
 }

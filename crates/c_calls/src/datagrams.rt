@@ -1,6 +1,5 @@
 //! Calls of UDP sockets.
 ghost use Rattle.std.specs.Prelude.{◌≡◌, length};
-ghost use Rattle.interface.specs.Set.{places, is_fixed};
 ghost use Rattle.sockets.specs.AnySocket.{as_udp};
 ghost use Rattle.sockets.specs.declared.socket.Socket.TheVariants as Kind;
 ghost use Rattle.c_calls.specs.Places.{answer_at, after_at, written_at};
@@ -14,7 +13,7 @@ use crate::code::{Code, of_bind, of_recv, of_send};
 use crate::host::Host;
 use crate::kinds::lent;
 use crate::made::{limit_of, queues};
-use interface::SocketSet;
+use crate::places::Places;
 use ip_wire::IpListenEndpoint;
 use sockets::Socket;
 use sockets::udp::{self, UdpMetadata};
@@ -51,10 +50,9 @@ fn act_on(socket: &mut udp::Socket, act: Act) -> Result<(), Code>
 }
 
 /// Does a call that answers nothing but whether it was done.
-pub fn perform(sockets: &mut SocketSet<Socket>, place: usize, act: Act) -> Result<(), Code>
-    ensures answer { result ≡ answer_at as_udp (act_answer act) (places sockets.old) place }
-    ensures after { places sockets.new ≡ after_at as_udp Kind.Udp (act_after act) (places sockets.old) place }
-    ensures fixed { is_fixed sockets.new ≡ is_fixed sockets.old }
+pub fn perform(sockets: &mut Places, place: usize, act: Act) -> Result<(), Code>
+    ensures answer { result ≡ answer_at as_udp (act_answer act) sockets.old place }
+    ensures after { sockets.new ≡ after_at as_udp Kind.Udp (act_after act) sockets.old place }
 {
     match lent::<udp::Socket>(sockets, place) {
         Ok(socket) => act_on(socket, act),
@@ -64,14 +62,13 @@ pub fn perform(sockets: &mut SocketSet<Socket>, place: usize, act: Act) -> Resul
 
 /// Queues a datagram.
 pub fn send(
-    sockets: &mut SocketSet<Socket>,
+    sockets: &mut Places,
     place: usize,
     bytes: &[u8],
     metadata: UdpMetadata,
 ) -> Result<(), Code>
-    ensures answer { result ≡ answer_at as_udp (λ v. coded of_send (send_answer v metadata (length bytes.now))) (places sockets.old) place }
-    ensures after { places sockets.new ≡ after_at as_udp Kind.Udp (λ v. send_after v metadata bytes.now) (places sockets.old) place }
-    ensures fixed { is_fixed sockets.new ≡ is_fixed sockets.old }
+    ensures answer { result ≡ answer_at as_udp (λ v. coded of_send (send_answer v metadata (length bytes.now))) sockets.old place }
+    ensures after { sockets.new ≡ after_at as_udp Kind.Udp (λ v. send_after v metadata bytes.now) sockets.old place }
 {
     match lent::<udp::Socket>(sockets, place) {
         Ok(socket) => queue(socket, bytes, metadata),
@@ -91,14 +88,13 @@ fn queue(socket: &mut udp::Socket, bytes: &[u8], metadata: UdpMetadata) -> Resul
 
 /// Reads the first datagram to the front of the slice.
 pub fn recv(
-    sockets: &mut SocketSet<Socket>,
+    sockets: &mut Places,
     place: usize,
     out: &mut [u8],
 ) -> Result<(usize, UdpMetadata), Code>
-    ensures answer { result ≡ answer_at as_udp (λ v. coded of_recv (recv_answer v (length out.old))) (places sockets.old) place }
-    ensures after { places sockets.new ≡ after_at as_udp Kind.Udp (recv_after) (places sockets.old) place }
-    ensures read { out.new ≡ written_at as_udp recv_written out.old (places sockets.old) place }
-    ensures fixed { is_fixed sockets.new ≡ is_fixed sockets.old }
+    ensures answer { result ≡ answer_at as_udp (λ v. coded of_recv (recv_answer v (length out.old))) sockets.old place }
+    ensures after { sockets.new ≡ after_at as_udp Kind.Udp (recv_after) sockets.old place }
+    ensures read { out.new ≡ written_at as_udp recv_written out.old sockets.old place }
 {
     match lent::<udp::Socket>(sockets, place) {
         Ok(socket) => read(socket, out),
@@ -122,7 +118,7 @@ impl Host {
     pub fn udp_new(&mut self, packets: usize, bytes: usize) -> Result<usize, Code>
         ensures { MakesSocket (new_udp packets bytes) self.old result self.new }
     {
-        let Some((received, queued)) = queues(self.alloc, packets, bytes) else {
+        let Some((received, queued)) = queues(self.alloc(), packets, bytes) else {
             return Err(Code::Memory);
         };
         self.add(Socket::Udp(udp::Socket::new(received, queued)))
@@ -133,7 +129,7 @@ impl Host {
         ensures answer { result ≡ answer_at as_udp (act_answer act) self.old.places place }
         ensures after { self.new ≡ record self.old { places = after_at as_udp Kind.Udp (act_after act) self.old.places place } }
     {
-        perform(&mut self.sockets, place, act)
+        perform(self.sockets(), place, act)
     }
 
     /// Queues a datagram.
@@ -146,7 +142,7 @@ impl Host {
         ensures answer { result ≡ answer_at as_udp (λ v. coded of_send (send_answer v metadata (length bytes.now))) self.old.places place }
         ensures after { self.new ≡ record self.old { places = after_at as_udp Kind.Udp (λ v. send_after v metadata bytes.now) self.old.places place } }
     {
-        send(&mut self.sockets, place, bytes, metadata)
+        send(self.sockets(), place, bytes, metadata)
     }
 
     /// Reads the first datagram to the front of the slice.
@@ -155,6 +151,6 @@ impl Host {
         ensures after { self.new ≡ record self.old { places = after_at as_udp Kind.Udp (recv_after) self.old.places place } }
         ensures read { out.new ≡ written_at as_udp recv_written out.old self.old.places place }
     {
-        recv(&mut self.sockets, place, out)
+        recv(self.sockets(), place, out)
     }
 }

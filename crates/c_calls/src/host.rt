@@ -1,6 +1,5 @@
 //! A host: its link, its interface and its sockets.
-ghost use Rattle.std.specs.Prelude.{◌≡◌, length, slice_set};
-ghost use Rattle.interface.specs.Set.{places, is_fixed, free};
+ghost use Rattle.std.specs.Prelude.{◌≡◌, length};
 ghost use Rattle.c_link.specs.Link.{next_len, fetch_answer, fetched};
 ghost use Rattle.c_calls.specs.Codes.{coded};
 ghost use Rattle.c_calls.specs.Calls.{counted, NewHost, TakesFrame, fetched_from, or_empty, PollsAt, AsksAt, device_of, config_of};
@@ -10,10 +9,11 @@ ghost use Rattle.c_calls.specs.Codes.{of_fetch};
 
 use crate::backlogs::{is_in_backlog, refresh_all};
 use crate::code::{Code, of_fetch, of_new, of_push};
+use crate::places::Places;
 use c_link::FrameLink;
-use interface::{AddError, Config, Interface, Listener, PollResult, SocketHandle, SocketSet};
+use interface::{Config, Interface, Listener};
 use ip_wire::{EthernetAddress, HardwareAddress};
-use net_base::{ChecksumCapabilities, DeviceCapabilities, Instant, ManagedSlice, Medium};
+use net_base::{ChecksumCapabilities, DeviceCapabilities, Instant, Medium};
 use sockets::{Socket, dhcp, dns};
 use std::alloc::Global;
 use std::marker::Model;
@@ -52,7 +52,7 @@ pub struct Host {
     pub(crate) alloc: Global,
     pub(crate) link: FrameLink,
     pub(crate) interface: Interface,
-    pub(crate) sockets: SocketSet<Socket>,
+    pub(crate) sockets: Places,
     pub(crate) listeners: Vec<Option<Listener>>,
     pub(crate) dhcp: Option<dhcp::Socket>,
     pub(crate) dns: Option<dns::Socket>,
@@ -60,8 +60,6 @@ pub struct Host {
 }
 
 impl Model for Host {
-    ghost use Rattle.std.specs.Prelude.{◌≡◌, false};
-    ghost use Rattle.interface.specs.Set.{places, is_fixed};
     ghost use Rattle.c_calls.specs.Host.{StackValue};
 
     ghost Value = { StackValue };
@@ -69,14 +67,12 @@ impl Model for Host {
     ghost view = { λ h. record {
       link = h.link;
       host = h.interface;
-      places = places h.sockets;
+      places = h.sockets;
       listeners = h.listeners.items;
       dhcp = h.dhcp;
       dns = h.dns;
       counters = h.counters;
     } };
-
-    ghost invariant = { λ h. is_fixed h.sockets ≡ false };
 }
 
 /// What its device says of itself.
@@ -112,19 +108,22 @@ fn one_more(count: u64) -> u64
     count.saturating_add(1)
 }
 
-/// Why a socket wasn't added: a host's storage grows, so there is no memory. The socket is dropped.
-fn lack_of_memory(_refused: AddError<Socket>) -> Code
-    ensures { result ≡ Code.Memory }
+fn frame_came(counters: &mut Counters)
+    ensures { counters.new ≡ record counters.old { frames_in = counted counters.old.frames_in } }
 {
-    Code::Memory
+    counters.frames_in = one_more(counters.frames_in);
 }
 
-/// Takes a socket out and drops it.
-fn give_up(sockets: &mut SocketSet<Socket>, handle: SocketHandle)
-    ensures after { places sockets.new ≡ slice_set (places sockets.old) handle.0 free }
-    ensures fixed { is_fixed sockets.new ≡ is_fixed sockets.old }
+fn frame_dropped(counters: &mut Counters)
+    ensures { counters.new ≡ record counters.old { frames_dropped = counted counters.old.frames_dropped } }
 {
-    let _ = sockets.remove(handle);
+    counters.frames_dropped = one_more(counters.frames_dropped);
+}
+
+fn frame_went(counters: &mut Counters)
+    ensures { counters.new ≡ record counters.old { frames_out = counted counters.old.frames_out } }
+{
+    counters.frames_out = one_more(counters.frames_out);
 }
 
 impl Host {
@@ -138,7 +137,7 @@ impl Host {
                 alloc,
                 link,
                 interface,
-                sockets: SocketSet::new(ManagedSlice::Owned(Vec::new(alloc))),
+                sockets: Places::new(alloc),
                 listeners: Vec::new(alloc),
                 dhcp: None,
                 dns: None,
@@ -157,13 +156,13 @@ impl Host {
     pub fn frame_in(&mut self, frame: &[u8]) -> Result<(), Code>
         ensures { TakesFrame frame.now self.old result self.new }
     {
-        match self.link.push(frame) {
+        match self.link().push(frame) {
             Ok(()) => {
-                self.counters.frames_in = one_more(self.counters.frames_in);
+                frame_came(self.counted());
                 Ok(())
             }
             Err(error) => {
-                self.counters.frames_dropped = one_more(self.counters.frames_dropped);
+                frame_dropped(self.counted());
                 Err(of_push(error))
             }
         }
@@ -175,9 +174,9 @@ impl Host {
         ensures after { self.new ≡ fetched_from self.old (length out.old) }
         ensures bytes { out.new ≡ fetched self.old.link.sent out.old }
     {
-        match self.link.fetch(out) {
+        match self.link().fetch(out) {
             Ok(count) => {
-                self.counters.frames_out = one_more(self.counters.frames_out);
+                frame_went(self.counted());
                 Ok(count)
             }
             Err(error) => Err(of_fetch(error)),
@@ -188,7 +187,7 @@ impl Host {
     pub fn frame_out_len(&self) -> Result<usize, Code>
         ensures { result ≡ or_empty (next_len self.now.link.sent) }
     {
-        match self.link.next_len() {
+        match self.seen_link().next_len() {
             Some(count) => Ok(count),
             None => Err(Code::Empty),
         }
@@ -203,14 +202,11 @@ impl Host {
             return Err(Code::Moment);
         }
         self.counters.polls = one_more(self.counters.polls);
-        let polled = self
-            .interface
-            .poll(now, &mut self.link, &mut self.sockets, budget);
+        let changed = self
+            .sockets
+            .poll(now, budget, &mut self.interface, &mut self.link);
         refresh_all(self.listeners.as_mut_slice(), &mut self.sockets, now);
-        match polled {
-            PollResult::None => Ok(false),
-            PollResult::SocketStateChanged => Ok(true),
-        }
+        Ok(changed)
     }
 
     /// When the host wants to be polled: nothing has to be done before, unless a frame comes or a socket is called.
@@ -220,7 +216,8 @@ impl Host {
         if !now.is_moment() {
             return Err(Code::Moment);
         }
-        Ok(self.interface.poll_at(now, &self.sockets))
+        let (interface, sockets) = self.interface_beside();
+        Ok(sockets.poll_at(now, interface))
     }
 
     /// What was counted.
@@ -235,14 +232,13 @@ impl Host {
         ensures answer { result ≡ may_be_removed self.old place }
         ensures after { self.new ≡ removed_by (may_be_removed self.old place) self.old place }
     {
-        let handle = SocketHandle::at(place);
-        if self.sockets.get(handle).is_none() {
+        if self.seen_sockets().is_free(place) {
             return Err(Code::NoSocket);
         }
-        if is_in_backlog(self.listeners.as_slice(), place) {
+        if is_in_backlog(self.seen_listeners(), place) {
             return Err(Code::InBacklog);
         }
-        give_up(&mut self.sockets, handle);
+        self.sockets().give_up(place);
         Ok(())
     }
 
@@ -250,9 +246,6 @@ impl Host {
     pub(crate) fn add(&mut self, socket: Socket) -> Result<usize, Code>
         ensures { MakesSocket socket self.old result self.new }
     {
-        match self.sockets.add(socket) {
-            Ok(handle) => Ok(handle.place()),
-            Err(refused) => Err(lack_of_memory(refused)),
-        }
+        self.sockets().add(socket)
     }
 }

@@ -1,21 +1,20 @@
 //! The socket of a kind at a place of a host.
 ghost use Rattle.std.specs.Prelude.{◌≡◌, Ok, Err, MatchResult};
 ghost use Rattle.std.specs.Borrow.{sem};
-ghost use Rattle.interface.specs.Set.{places};
 ghost use Rattle.c_calls.specs.Lends.{LendsKind};
 ghost use Rattle.c_calls.specs.Places.{found_at};
 
 use crate::code::Code;
-use interface::{SocketHandle, SocketSet};
-use sockets::{AnySocket, Socket};
+use crate::places::Places;
+use sockets::AnySocket;
 
 /// The socket at the place, if it is of this kind.
-pub(crate) fn seen<K: AnySocket>(sockets: &SocketSet<Socket>, place: usize) -> Result<&K, Code>
+pub(crate) fn seen<K: AnySocket>(sockets: &Places, place: usize) -> Result<&K, Code>
     ensures { MatchResult result
-        (λ socket. found_at K.downcast_of (places sockets.now) place ≡ Ok socket.now)
-        (λ code. found_at K.downcast_of (places sockets.now) place ≡ Err code) }
+        (λ socket. found_at K.downcast_of sockets.now place ≡ Ok socket.now)
+        (λ code. found_at K.downcast_of sockets.now place ≡ Err code) }
 {
-    match sockets.get(SocketHandle::at(place)) {
+    match sockets.get(place) {
         Some(socket) => match K::downcast(socket) {
             Some(socket) => Ok(socket),
             None => Err(Code::WrongKind),
@@ -25,16 +24,13 @@ pub(crate) fn seen<K: AnySocket>(sockets: &SocketSet<Socket>, place: usize) -> R
 }
 
 /// Lends the socket at the place, if it is of this kind. What the other places hold stays as it is.
-pub(crate) fn lent<K: AnySocket>(
-    sockets: &mut SocketSet<Socket>,
-    place: usize,
-) -> Result<&mut K, Code>
+pub(crate) fn lent<K: AnySocket>(sockets: &mut Places, place: usize) -> Result<&mut K, Code>
     ensures* lends { sem 𝓛 (LendsKind K.row K.upcast_of sockets.entry sockets.old place result) }
     ensures value { MatchResult result
-        (λ socket. found_at K.downcast_of (places sockets.old) place ≡ Ok socket.now)
-        (λ code. found_at K.downcast_of (places sockets.old) place ≡ Err code) }
+        (λ socket. found_at K.downcast_of sockets.old place ≡ Ok socket.now)
+        (λ code. found_at K.downcast_of sockets.old place ≡ Err code) }
 {
-    match sockets.get_mut(SocketHandle::at(place)) {
+    match sockets.get_mut(place) {
         Some(socket) => match K::downcast_mut(socket) {
             Some(socket) => {
                 return Ok(socket);

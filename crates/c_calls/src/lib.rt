@@ -18,6 +18,8 @@ pub mod looks;
 mod made;
 pub mod names;
 pub mod packets;
+mod parts;
+mod places;
 pub mod streams;
 mod tables;
 
@@ -25,3 +27,4 @@ pub use carrying::Sending;
 pub use code::Code;
 pub use host::{Counters, Host, Settings};
 pub use made::{queues, rings};
+pub use places::Places;

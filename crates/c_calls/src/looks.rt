@@ -1,20 +1,18 @@
 //! What a TCP socket tells of itself.
 ghost use Rattle.std.specs.Prelude.{◌≡◌, MatchResult, Ok, Err};
-ghost use Rattle.interface.specs.Set.{places};
 ghost use Rattle.sockets.specs.AnySocket.{as_tcp};
 ghost use Rattle.c_calls.specs.Places.{answer_at};
 ghost use Rattle.c_calls.specs.Streams.{peeked, state_in, ends_in, queues_in};
 
 use crate::code::{Code, of_stream_recv};
 use crate::kinds::seen;
-use interface::SocketSet;
+use crate::places::Places;
 use ip_wire::IpEndpoint;
-use sockets::Socket;
 use sockets::tcp::{self, State};
 
 /// The state of the connection.
-pub fn state(sockets: &SocketSet<Socket>, place: usize) -> Result<State, Code>
-    ensures { result ≡ answer_at as_tcp state_in (places sockets.now) place }
+pub fn state(sockets: &Places, place: usize) -> Result<State, Code>
+    ensures { result ≡ answer_at as_tcp state_in sockets.now place }
 {
     match seen::<tcp::Socket>(sockets, place) {
         Ok(socket) => Ok(socket.state()),
@@ -23,8 +21,8 @@ pub fn state(sockets: &SocketSet<Socket>, place: usize) -> Result<State, Code>
 }
 
 /// The own endpoint of the connection and the remote's.
-pub fn ends(sockets: &SocketSet<Socket>, place: usize) -> Result<(IpEndpoint, IpEndpoint), Code>
-    ensures { result ≡ answer_at as_tcp ends_in (places sockets.now) place }
+pub fn ends(sockets: &Places, place: usize) -> Result<(IpEndpoint, IpEndpoint), Code>
+    ensures { result ≡ answer_at as_tcp ends_in sockets.now place }
 {
     match seen::<tcp::Socket>(sockets, place) {
         Ok(socket) => both_ends(socket),
@@ -45,8 +43,8 @@ fn both_ends(socket: &tcp::Socket) -> Result<(IpEndpoint, IpEndpoint), Code>
 }
 
 /// How many bytes wait to be read, and how many are queued that aren't acknowledged.
-pub fn queues(sockets: &SocketSet<Socket>, place: usize) -> Result<(usize, usize), Code>
-    ensures { result ≡ answer_at as_tcp queues_in (places sockets.now) place }
+pub fn queues(sockets: &Places, place: usize) -> Result<(usize, usize), Code>
+    ensures { result ≡ answer_at as_tcp queues_in sockets.now place }
 {
     match seen::<tcp::Socket>(sockets, place) {
         Ok(socket) => Ok((socket.recv_queue(), socket.send_queue())),
@@ -55,10 +53,10 @@ pub fn queues(sockets: &SocketSet<Socket>, place: usize) -> Result<(usize, usize
 }
 
 /// Lends the first waiting bytes, as many as lie behind one another.
-pub fn peek(sockets: &SocketSet<Socket>, place: usize) -> Result<&[u8], Code>
+pub fn peek(sockets: &Places, place: usize) -> Result<&[u8], Code>
     ensures { MatchResult result
-        (λ bytes. answer_at as_tcp peeked (places sockets.now) place ≡ Ok bytes.now)
-        (λ code. answer_at as_tcp peeked (places sockets.now) place ≡ Err code) }
+        (λ bytes. answer_at as_tcp peeked sockets.now place ≡ Ok bytes.now)
+        (λ code. answer_at as_tcp peeked sockets.now place ≡ Err code) }
 {
     match seen::<tcp::Socket>(sockets, place) {
         Ok(socket) => first_bytes(socket),

@@ -1,6 +1,5 @@
 //! Calls of raw sockets.
 ghost use Rattle.std.specs.Prelude.{◌≡◌, length};
-ghost use Rattle.interface.specs.Set.{places, is_fixed};
 ghost use Rattle.sockets.specs.AnySocket.{as_raw};
 ghost use Rattle.sockets.specs.declared.socket.Socket.TheVariants as Kind;
 ghost use Rattle.c_calls.specs.Places.{answer_at, after_at, written_at};
@@ -13,15 +12,14 @@ use crate::code::{Code, of_raw_send, of_recv};
 use crate::host::Host;
 use crate::kinds::lent;
 use crate::made::queues;
-use interface::SocketSet;
+use crate::places::Places;
 use ip_wire::{IpProtocol, IpVersion};
 use sockets::{Socket, raw};
 
 /// Queues a packet with its IP header.
-pub fn send(sockets: &mut SocketSet<Socket>, place: usize, bytes: &[u8]) -> Result<(), Code>
-    ensures answer { result ≡ answer_at as_raw (λ v. coded of_raw_send (send_answer v (length bytes.now))) (places sockets.old) place }
-    ensures after { places sockets.new ≡ after_at as_raw Kind.Raw (λ v. send_after v bytes.now) (places sockets.old) place }
-    ensures fixed { is_fixed sockets.new ≡ is_fixed sockets.old }
+pub fn send(sockets: &mut Places, place: usize, bytes: &[u8]) -> Result<(), Code>
+    ensures answer { result ≡ answer_at as_raw (λ v. coded of_raw_send (send_answer v (length bytes.now))) sockets.old place }
+    ensures after { sockets.new ≡ after_at as_raw Kind.Raw (λ v. send_after v bytes.now) sockets.old place }
 {
     match lent::<raw::Socket>(sockets, place) {
         Ok(socket) => queue(socket, bytes),
@@ -40,11 +38,10 @@ fn queue(socket: &mut raw::Socket, bytes: &[u8]) -> Result<(), Code>
 }
 
 /// Reads the first packet to the front of the slice.
-pub fn recv(sockets: &mut SocketSet<Socket>, place: usize, out: &mut [u8]) -> Result<usize, Code>
-    ensures answer { result ≡ answer_at as_raw (λ v. coded of_recv (counted (recv_answer v (length out.old)))) (places sockets.old) place }
-    ensures after { places sockets.new ≡ after_at as_raw Kind.Raw (recv_after) (places sockets.old) place }
-    ensures read { out.new ≡ written_at as_raw recv_written out.old (places sockets.old) place }
-    ensures fixed { is_fixed sockets.new ≡ is_fixed sockets.old }
+pub fn recv(sockets: &mut Places, place: usize, out: &mut [u8]) -> Result<usize, Code>
+    ensures answer { result ≡ answer_at as_raw (λ v. coded of_recv (counted (recv_answer v (length out.old)))) sockets.old place }
+    ensures after { sockets.new ≡ after_at as_raw Kind.Raw (recv_after) sockets.old place }
+    ensures read { out.new ≡ written_at as_raw recv_written out.old sockets.old place }
 {
     match lent::<raw::Socket>(sockets, place) {
         Ok(socket) => read(socket, out),
@@ -74,7 +71,7 @@ impl Host {
     ) -> Result<usize, Code>
         ensures { MakesSocket (new_raw version protocol packets bytes) self.old result self.new }
     {
-        let Some((received, queued)) = queues(self.alloc, packets, bytes) else {
+        let Some((received, queued)) = queues(self.alloc(), packets, bytes) else {
             return Err(Code::Memory);
         };
         self.add(Socket::Raw(raw::Socket::new(version, protocol, received, queued)))
@@ -85,7 +82,7 @@ impl Host {
         ensures answer { result ≡ answer_at as_raw (λ v. coded of_raw_send (send_answer v (length bytes.now))) self.old.places place }
         ensures after { self.new ≡ record self.old { places = after_at as_raw Kind.Raw (λ v. send_after v bytes.now) self.old.places place } }
     {
-        send(&mut self.sockets, place, bytes)
+        send(self.sockets(), place, bytes)
     }
 
     /// Reads the first packet to the front of the slice, and answers its length.
@@ -94,6 +91,6 @@ impl Host {
         ensures after { self.new ≡ record self.old { places = after_at as_raw Kind.Raw (recv_after) self.old.places place } }
         ensures read { out.new ≡ written_at as_raw recv_written out.old self.old.places place }
     {
-        recv(&mut self.sockets, place, out)
+        recv(self.sockets(), place, out)
     }
 }

@@ -1,6 +1,5 @@
 //! Calls of TCP sockets.
 ghost use Rattle.std.specs.Prelude.{◌≡◌, length, min, if◌then◌else◌, IfOk, Ok, Err, MatchResult};
-ghost use Rattle.interface.specs.Set.{places, is_fixed};
 ghost use Rattle.sockets.specs.AnySocket.{as_tcp};
 ghost use Rattle.sockets.specs.declared.socket.Socket.TheVariants as Kind;
 ghost use Rattle.c_calls.specs.Places.{answer_at, after_at, written_at, draws_at};
@@ -17,7 +16,7 @@ use crate::host::Host;
 use crate::kinds::lent;
 use crate::looks;
 use crate::made::{limit_of, rings};
-use interface::SocketSet;
+use crate::places::Places;
 use ip_wire::{IpEndpoint, IpListenEndpoint, TcpTimestampGenerator};
 use net_base::Duration;
 use sockets::tcp::{self, CongestionControl};
@@ -85,10 +84,9 @@ fn act_on(socket: &mut tcp::Socket, act: Act) -> Result<(), Code>
 }
 
 /// Does a call that answers nothing but whether it was done.
-pub fn perform(sockets: &mut SocketSet<Socket>, place: usize, act: Act) -> Result<(), Code>
-    ensures answer { result ≡ answer_at as_tcp (act_answer act) (places sockets.old) place }
-    ensures after { places sockets.new ≡ after_at as_tcp Kind.Tcp (act_after act) (places sockets.old) place }
-    ensures fixed { is_fixed sockets.new ≡ is_fixed sockets.old }
+pub fn perform(sockets: &mut Places, place: usize, act: Act) -> Result<(), Code>
+    ensures answer { result ≡ answer_at as_tcp (act_answer act) sockets.old place }
+    ensures after { sockets.new ≡ after_at as_tcp Kind.Tcp (act_after act) sockets.old place }
 {
     match lent::<tcp::Socket>(sockets, place) {
         Ok(socket) => act_on(socket, act),
@@ -98,16 +96,15 @@ pub fn perform(sockets: &mut SocketSet<Socket>, place: usize, act: Act) -> Resul
 
 /// Opens a connection to a remote. A connection that is opened draws a random word from the context.
 pub fn connect<C: Context>(
-    sockets: &mut SocketSet<Socket>,
+    sockets: &mut Places,
     place: usize,
     cx: &mut C,
     remote: IpEndpoint,
     local: IpListenEndpoint,
 ) -> Result<(), Code>
-    ensures answer { result ≡ answer_at as_tcp (λ v. coded of_connect (connect_answer (C.context cx.old) v remote local)) (places sockets.old) place }
-    ensures after { places sockets.new ≡ after_at as_tcp Kind.Tcp (λ v. connect_after (C.context cx.old) v remote local) (places sockets.old) place }
-    ensures drawn { cx.new ≡ (if draws_at as_tcp (λ v. connect_draws (C.context cx.old) v remote local) (places sockets.old) place then C.drawn cx.old else cx.old) }
-    ensures fixed { is_fixed sockets.new ≡ is_fixed sockets.old }
+    ensures answer { result ≡ answer_at as_tcp (λ v. coded of_connect (connect_answer (C.context cx.old) v remote local)) sockets.old place }
+    ensures after { sockets.new ≡ after_at as_tcp Kind.Tcp (λ v. connect_after (C.context cx.old) v remote local) sockets.old place }
+    ensures drawn { cx.new ≡ (if draws_at as_tcp (λ v. connect_draws (C.context cx.old) v remote local) sockets.old place then C.drawn cx.old else cx.old) }
 {
     match lent::<tcp::Socket>(sockets, place) {
         Ok(socket) => open(socket, cx, remote, local),
@@ -132,10 +129,9 @@ fn open<C: Context>(
 }
 
 /// Queues as many of the bytes as there is room for, and answers how many.
-pub fn send(sockets: &mut SocketSet<Socket>, place: usize, bytes: &[u8]) -> Result<usize, Code>
-    ensures answer { result ≡ answer_at as_tcp (λ v. coded of_stream_send (send_answer v (length bytes.now))) (places sockets.old) place }
-    ensures after { places sockets.new ≡ after_at as_tcp Kind.Tcp (λ v. send_after v bytes.now) (places sockets.old) place }
-    ensures fixed { is_fixed sockets.new ≡ is_fixed sockets.old }
+pub fn send(sockets: &mut Places, place: usize, bytes: &[u8]) -> Result<usize, Code>
+    ensures answer { result ≡ answer_at as_tcp (λ v. coded of_stream_send (send_answer v (length bytes.now))) sockets.old place }
+    ensures after { sockets.new ≡ after_at as_tcp Kind.Tcp (λ v. send_after v bytes.now) sockets.old place }
 {
     match lent::<tcp::Socket>(sockets, place) {
         Ok(socket) => queue(socket, bytes),
@@ -154,11 +150,10 @@ fn queue(socket: &mut tcp::Socket, bytes: &[u8]) -> Result<usize, Code>
 }
 
 /// Reads waiting bytes to the front of the slice, and answers how many.
-pub fn recv(sockets: &mut SocketSet<Socket>, place: usize, out: &mut [u8]) -> Result<usize, Code>
-    ensures answer { result ≡ answer_at as_tcp (λ v. coded of_stream_recv (recv_answer v (length out.old))) (places sockets.old) place }
-    ensures after { places sockets.new ≡ after_at as_tcp Kind.Tcp (λ v. read_after v (length out.old)) (places sockets.old) place }
-    ensures read { out.new ≡ written_at as_tcp read_written out.old (places sockets.old) place }
-    ensures fixed { is_fixed sockets.new ≡ is_fixed sockets.old }
+pub fn recv(sockets: &mut Places, place: usize, out: &mut [u8]) -> Result<usize, Code>
+    ensures answer { result ≡ answer_at as_tcp (λ v. coded of_stream_recv (recv_answer v (length out.old))) sockets.old place }
+    ensures after { sockets.new ≡ after_at as_tcp Kind.Tcp (λ v. read_after v (length out.old)) sockets.old place }
+    ensures read { out.new ≡ written_at as_tcp read_written out.old sockets.old place }
 {
     match lent::<tcp::Socket>(sockets, place) {
         Ok(socket) => read(socket, out),
@@ -178,10 +173,9 @@ fn read(socket: &mut tcp::Socket, out: &mut [u8]) -> Result<usize, Code>
 }
 
 /// Gives up the first waiting bytes, at most so many and as many as lie behind one another. Answers how many.
-pub fn done(sockets: &mut SocketSet<Socket>, place: usize, count: usize) -> Result<usize, Code>
-    ensures answer { result ≡ answer_at as_tcp (done_answer count) (places sockets.old) place }
-    ensures after { places sockets.new ≡ after_at as_tcp Kind.Tcp (done_after count) (places sockets.old) place }
-    ensures fixed { is_fixed sockets.new ≡ is_fixed sockets.old }
+pub fn done(sockets: &mut Places, place: usize, count: usize) -> Result<usize, Code>
+    ensures answer { result ≡ answer_at as_tcp (done_answer count) sockets.old place }
+    ensures after { sockets.new ≡ after_at as_tcp Kind.Tcp (done_after count) sockets.old place }
 {
     match lent::<tcp::Socket>(sockets, place) {
         Ok(socket) => give_up(socket, count),
@@ -219,7 +213,7 @@ impl Host {
         if MOST < received || MOST < queued {
             return Err(Code::TooLong);
         }
-        let Some((received, queued)) = rings(self.alloc, received, queued) else {
+        let Some((received, queued)) = rings(self.alloc(), received, queued) else {
             return Err(Code::Memory);
         };
         self.add(Socket::Tcp(tcp::Socket::new(received, queued)))
@@ -230,7 +224,7 @@ impl Host {
         ensures answer { result ≡ answer_at as_tcp (act_answer act) self.old.places place }
         ensures after { self.new ≡ record self.old { places = after_at as_tcp Kind.Tcp (act_after act) self.old.places place } }
     {
-        perform(&mut self.sockets, place, act)
+        perform(self.sockets(), place, act)
     }
 
     /// Opens a connection to a remote, from a port of one own address or of the one that the host chooses.
@@ -256,7 +250,7 @@ impl Host {
         ensures answer { result ≡ answer_at as_tcp (λ v. coded of_stream_send (send_answer v (length bytes.now))) self.old.places place }
         ensures after { self.new ≡ record self.old { places = after_at as_tcp Kind.Tcp (λ v. send_after v bytes.now) self.old.places place } }
     {
-        send(&mut self.sockets, place, bytes)
+        send(self.sockets(), place, bytes)
     }
 
     /// Reads waiting bytes to the front of the slice, and answers how many.
@@ -265,7 +259,7 @@ impl Host {
         ensures after { self.new ≡ record self.old { places = after_at as_tcp Kind.Tcp (λ v. read_after v (length out.old)) self.old.places place } }
         ensures read { out.new ≡ written_at as_tcp read_written out.old self.old.places place }
     {
-        recv(&mut self.sockets, place, out)
+        recv(self.sockets(), place, out)
     }
 
     /// Gives up the first waiting bytes, at most so many and as many as lie behind one another. Answers how many.
@@ -273,7 +267,7 @@ impl Host {
         ensures answer { result ≡ answer_at as_tcp (done_answer count) self.old.places place }
         ensures after { self.new ≡ record self.old { places = after_at as_tcp Kind.Tcp (done_after count) self.old.places place } }
     {
-        done(&mut self.sockets, place, count)
+        done(self.sockets(), place, count)
     }
 
     /// Lends the first waiting bytes, as many as lie behind one another.
@@ -282,27 +276,27 @@ impl Host {
             (λ bytes. answer_at as_tcp peeked self.now.places place ≡ Ok bytes.now)
             (λ code. answer_at as_tcp peeked self.now.places place ≡ Err code) }
     {
-        looks::peek(&self.sockets, place)
+        looks::peek(self.seen_sockets(), place)
     }
 
     /// The state of the connection.
     pub fn tcp_state(&self, place: usize) -> Result<tcp::State, Code>
         ensures { result ≡ answer_at as_tcp state_in self.now.places place }
     {
-        looks::state(&self.sockets, place)
+        looks::state(self.seen_sockets(), place)
     }
 
     /// The own endpoint of the connection and the remote's.
     pub fn tcp_ends(&self, place: usize) -> Result<(IpEndpoint, IpEndpoint), Code>
         ensures { result ≡ answer_at as_tcp ends_in self.now.places place }
     {
-        looks::ends(&self.sockets, place)
+        looks::ends(self.seen_sockets(), place)
     }
 
     /// How many bytes wait to be read, and how many are queued that aren't acknowledged.
     pub fn tcp_queues(&self, place: usize) -> Result<(usize, usize), Code>
         ensures { result ≡ answer_at as_tcp queues_in self.now.places place }
     {
-        looks::queues(&self.sockets, place)
+        looks::queues(self.seen_sockets(), place)
     }
 }

@@ -141,7 +141,7 @@ impl Host {
         ensures answer { result ≡ is_done (own_with self.old.host.inner.addresses block) }
         ensures after { self.new ≡ with_own self.old (own_with self.old.host.inner.addresses block) }
     {
-        add_address(&mut self.interface, block)
+        add_address(self.interface(), block)
     }
 
     /// Takes an own address out. All neighbours are forgotten.
@@ -149,7 +149,7 @@ impl Host {
         ensures answer { result ≡ is_done (own_without self.old.host.inner.addresses address) }
         ensures after { self.new ≡ with_own self.old (own_without self.old.host.inner.addresses address) }
     {
-        remove_address(&mut self.interface, &address)
+        remove_address(self.interface(), &address)
     }
 
     /// Adds a route: packets for the network go to the router.
@@ -158,7 +158,7 @@ impl Host {
         ensures after { self.new ≡ with_table self.old (routes_with self.old.host.inner.routes (route_to network router)) }
     {
         add_route(
-            &mut self.interface,
+            self.interface(),
             Route {
                 cidr: network,
                 via_router: router,
@@ -173,7 +173,7 @@ impl Host {
         ensures answer { result ≡ is_done (routes_without self.old.host.inner.routes network) }
         ensures after { self.new ≡ with_table self.old (routes_without self.old.host.inner.routes network) }
     {
-        remove_route(&mut self.interface, &network)
+        remove_route(self.interface(), &network)
     }
 
     /// Sets the station's address.
@@ -181,7 +181,7 @@ impl Host {
         ensures answer { result ≡ hardware_answer (hardware_refusal self.old.host.inner.hardware (Hardware.Ethernet address)) }
         ensures after { self.new ≡ record self.old { host = with_inner self.old.host (with_hardware self.old.host.inner (Hardware.Ethernet address)) } }
     {
-        set_hardware(&mut self.interface, address)
+        set_hardware(self.interface(), address)
     }
 
     /// Sets the station's address, and tells all neighbours of it, by a frame for each own address, as long as there is room for frames.
@@ -204,14 +204,15 @@ impl Host {
     pub fn set_any_ip(&mut self, any_ip: bool)
         ensures { self.new ≡ record self.old { host = with_inner self.old.host (with_any_ip self.old.host.inner any_ip) } }
     {
-        self.interface.set_any_ip(any_ip);
+        self.interface().set_any_ip(any_ip);
     }
 
     /// Sets how many datagrams can come in pieces at a time. What came of such ones is dropped.
     pub fn set_reassembly_slots(&mut self, count: usize) -> Result<(), Code>
         ensures { SetsSlots count self.old result self.new }
     {
-        match self.interface.set_reassembly_slots(self.alloc, count) {
+        let alloc = self.alloc();
+        match self.interface().set_reassembly_slots(alloc, count) {
             Ok(()) => Ok(()),
             Err(_) => Err(Code::Memory),
         }
@@ -221,6 +222,6 @@ impl Host {
     pub fn set_reassembly_timeout(&mut self, timeout: Duration)
         ensures { self.new ≡ record self.old { host = with_timeout self.old.host timeout } }
     {
-        self.interface.set_reassembly_timeout(timeout);
+        self.interface().set_reassembly_timeout(timeout);
     }
 }

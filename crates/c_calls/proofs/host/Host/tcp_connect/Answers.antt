@@ -1,6 +1,5 @@
 use Rattle.std.proofs.Common.{◌≡◌, ap, ◌∙◌}
 use Rattle.interface.specs.Inner.{context_of}
-use Rattle.interface.specs.Set.{places}
 use Rattle.sockets.specs.AnySocket.{as_tcp}
 use Rattle.sockets.specs.TcpCalls.{connect_answer}
 use Rattle.c_calls.specs.Codes.{coded, of_connect}
@@ -13,7 +12,7 @@ use Rattle.c_calls.proofs.host.Host.tcp_connect.Goals as goal
 pub returns-clause-after : goal.returns-clause-after
 returns-clause-after c =
     let now : the_view c.self.inside ≡ c.args.self.now = cc in
-    connects c.args.place c.args.remote c.args.local (the_view c.self.inside) c.args.self.now c.connect.new.cx (places c.connect.new.sockets) now
+    connects c.args.place c.args.remote c.args.local (the_view c.self.inside) c.args.self.now c.connect.new.cx c.connect.new.sockets now
     c.connect.ensures.drawn c.connect.ensures.after
 
 pub returns-clause-answer : goal.returns-clause-answer
