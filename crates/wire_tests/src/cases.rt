@@ -2,7 +2,7 @@
 //! local: an assertion costs a test both, and a table that is a constant costs it one local. A call costs as much as a row of four numbers does
 //! four times: so what is called often stands in one arm of a function that borrows.
 use std::alloc::Global;
-use std::fmt::Display;
+use std::fmt::{Debug, Display};
 use std::process::Abort;
 
 /// A case of a table: a call, and what it must answer.
@@ -23,17 +23,22 @@ pub trait Life {
     fn stops_at(&self, alloc: Global) -> Option<usize>;
 }
 
+/// Asserts that this holds. The failure names what it is, and its place.
+pub fn holds_at(rt: &impl Abort, holds: bool, what: &str, place: usize) {
+    assert!(rt; holds, "{what} {place}");
+}
+
 /// Asserts that all of these hold. The failure names the first that doesn't, counted from 0.
 pub fn all(rt: &impl Abort, said: &[bool]) {
     for (place, holds) in said.iter().enumerate() {
-        assert!(rt; *holds, "statement {place}");
+        holds_at(rt, *holds, "statement", place);
     }
 }
 
 /// Asserts that each case holds. The failure names the first that doesn't, counted from 0.
 pub fn all_hold<C: Case>(rt: &(impl Abort + AllocGlobal), cases: &[C]) {
     for (place, case) in cases.iter().enumerate() {
-        assert!(rt; case.holds(rt.alloc()), "case {place}");
+        holds_at(rt, case.holds(rt.alloc()), "case", place);
     }
 }
 
@@ -62,15 +67,21 @@ pub fn prints<T: Display>(alloc: Global, value: &T, text: &str) -> bool {
     }
 }
 
+/// Whether the value's text for who seeks a fault is this one.
+pub fn shows<T: Debug>(alloc: Global, value: &T, text: &str) -> bool {
+    match format!(in alloc; "{value:?}") {
+        Ok(found) => found.as_str() == text,
+        Err(_) => false,
+    }
+}
+
 /// Asserts that the value of each number has this text. The failure names the number.
 pub fn all_named<T: From<u8> + Display + Copy>(
     rt: &(impl Abort + AllocGlobal),
     names: &[(u8, &'static str)],
 ) {
     for (number, name) in names {
-        assert!(rt;
-            prints(rt.alloc(), &T::from(*number), name),
-            "number {number}"
-        );
+        let is_named = prints(rt.alloc(), &T::from(*number), name);
+        holds_at(rt, is_named, "number", usize::from(*number));
     }
 }

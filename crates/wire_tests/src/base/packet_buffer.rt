@@ -2,7 +2,7 @@
 ghost use Rattle.std.specs.Prelude.{◌≡◌, ℕ, List, length, IfOk, OnOk, OnErr, Some};
 ghost use Rattle.net_base.specs.Packets.{first, unpadded, without_first};
 
-use crate::cases::{Goes, Life, all_live, first_wrong};
+use crate::cases::{self, Goes, Life, all_live, first_wrong};
 use net_base::{Empty, Full, ManagedSlice, PacketBuffer, PacketMetadata, container_laws};
 use std::alloc::{AllocError, Global};
 
@@ -153,16 +153,9 @@ impl Goes<PacketBuffer<u16>> for Step {
             Refuses(header, bytes) => !put(queue, *header, bytes),
             Shows(header, bytes) => shows(queue, *header, bytes),
             Gives(header, bytes) => gives(queue, *header, bytes),
-            Prints(text) => prints(alloc, queue, text),
+            Prints(text) => cases::shows(alloc, queue, text),
             _ => says(queue, self),
         }
-    }
-}
-
-fn prints(alloc: Global, queue: &PacketBuffer<u16>, text: &str) -> bool {
-    match format!(in alloc; "{queue:?}") {
-        Ok(found) => found.as_str() == text,
-        Err(_) => false,
     }
 }
 

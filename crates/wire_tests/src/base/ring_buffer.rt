@@ -1,5 +1,5 @@
 //! Values from outside: the worked examples of the original crate's tests.
-use crate::cases::{Goes, Life, all, all_live, first_wrong};
+use crate::cases::{self, Goes, Life, all, all_live, first_wrong};
 use net_base::{Empty, Full, ManagedSlice, Resettable, RingBuffer};
 use std::alloc::Global;
 
@@ -58,7 +58,7 @@ impl Goes<RingBuffer<u8>> for Step {
             CopiesOut(bytes) => copies_out(ring, bytes),
             Adds(element, answer) => adds(ring, *element) == *answer,
             Takes(answer) => taken(ring) == *answer,
-            Prints(text) => prints(alloc, ring, text),
+            Prints(text) => cases::shows(alloc, ring, text),
             _ => says(ring, self) || writes(ring, self) || lends(ring, self),
         }
     }
@@ -213,13 +213,6 @@ fn gives_all(ring: &mut RingBuffer<u8>) -> (usize, usize) {
     })
 }
 
-fn prints(alloc: Global, ring: &RingBuffer<u8>, text: &str) -> bool {
-    match format!(in alloc; "{ring:?}") {
-        Ok(found) => found.as_str() == text,
-        Err(_) => false,
-    }
-}
-
 /// A ring of so many places, from its beginning on.
 struct Ring(usize, &'static [Step]);
 
@@ -320,7 +313,7 @@ fn rings_live(rt: HostRuntime) {
 }
 
 /// An element that counts what it was given.
-#[derive(Debug, Clone, Copy, PartialEq, Eq)]
+#[derive(Clone, Copy, PartialEq)]
 struct Counter {
     count: u8,
 }

@@ -32,6 +32,7 @@ fn times_have_units_and_parts(rt: HostRuntime) {
         Instant::from_micros(-1_234_567),
         Duration::from_micros(1_234_567),
     );
+    let standard = time::Duration::from(Duration::from_millis(4934));
     all(
         &rt,
         &[
@@ -42,6 +43,9 @@ fn times_have_units_and_parts(rt: HostRuntime) {
             Instant::from_secs(1).total_millis() == 1000,
             Duration::from_millis(4934).total_micros() == 4_934_000,
             Duration::from_secs(5) == Duration::from_millis(5000),
+            Duration::from(time::Duration::from_nanos(1_999)) == Duration::from_micros(1),
+            Duration::from(time::Duration::MAX) == Duration::MAX,
+            standard == time::Duration::from_millis(4934),
         ],
     );
 }
@@ -71,7 +75,7 @@ impl Case for PrintedInstant {
     }
 }
 
-const INSTANTS: [PrintedInstant; 7] = [
+static INSTANTS: [PrintedInstant; 7] = [
     PrintedInstant(74_000, "0.074s"),
     PrintedInstant(5_674_000, "5.674s"),
     PrintedInstant(5_000_000, "5.000s"),
@@ -90,20 +94,13 @@ impl Case for PrintedDuration {
     }
 }
 
-const DURATIONS: [PrintedDuration; 5] = [
+static DURATIONS: [PrintedDuration; 5] = [
     PrintedDuration(0, "0.000s"),
     PrintedDuration(42_000, "0.042s"),
     PrintedDuration(555_000, "0.555s"),
     PrintedDuration(5_000_000, "5.000s"),
     PrintedDuration(u64::MAX, "18446744073709.551s"),
 ];
-
-#[test]
-fn moments_are_told_and_times_printed(rt: HostRuntime) {
-    all_hold(&rt, &MOMENTS);
-    all_hold(&rt, &INSTANTS);
-    all_hold(&rt, &DURATIONS);
-}
 
 /// An instant in microseconds, a duration, and the instant that is that much later.
 struct Later(i64, u64, i64);
@@ -224,14 +221,6 @@ const SHIFTED: [Shifted; 4] = [
     Shifted(u64::MAX, 64, 0, 0),
 ];
 
-#[test]
-fn times_are_calculated_with(rt: HostRuntime) {
-    all_hold(&rt, &LATER);
-    all_hold(&rt, &SUMS);
-    all_hold(&rt, &SCALED);
-    all_hold(&rt, &SHIFTED);
-}
-
 /// An instant, a duration, and whether they have a sum and a difference.
 struct Fits(i64, u64, bool, bool);
 
@@ -251,7 +240,6 @@ const FITS: [Fits; 4] = [
 
 #[test]
 fn times_have_bounds(rt: HostRuntime) {
-    all_hold(&rt, &FITS);
     let (first, last) = (
         Instant::from_micros(i64::MIN),
         Instant::from_micros(i64::MAX),
@@ -264,20 +252,6 @@ fn times_have_bounds(rt: HostRuntime) {
             Instant::from_micros(-1) < Instant::ZERO,
             (Duration::MAX.fits_add(one), Duration::ZERO.fits_sub(one)) == (false, false),
             (long.fits_mul(1 << 30), long.fits_mul(1 << 31)) == (true, false),
-        ],
-    );
-}
-
-#[test]
-fn converts_from_and_to_the_standard_duration(rt: HostRuntime) {
-    let length = Duration::from(time::Duration::from_nanos(1_999));
-    let standard = time::Duration::from(Duration::from_millis(4934));
-    all(
-        &rt,
-        &[
-            length == Duration::from_micros(1),
-            Duration::from(time::Duration::MAX) == Duration::MAX,
-            standard == time::Duration::from_millis(4934),
         ],
     );
 }
@@ -298,17 +272,27 @@ impl Case for Drawn {
 
 const DRAWN: [Drawn; 2] = [Drawn(1, 0x2efc_ecb1, 0xc24d), Drawn(2, 0x977e_763b, 0xe145)];
 
-/// The first word of seed 0, 3, is no port; the second is 1358.
-#[test]
-fn draws_known_words(rt: HostRuntime) {
-    all_hold(&rt, &DRAWN);
+/// The first port of seed 0, and the word behind it. Its first half word, 3, is no port; the second is 1358.
+fn first_draws() -> (u16, u32) {
     let mut rand = Rand::new(0);
-    let drawn = (rand.rand_source_port(), rand.rand_u32());
-    assert!(rt; drawn == (1358, 0x6130_bec3));
+    (rand.rand_source_port(), rand.rand_u32())
 }
 
 #[test]
-fn laws_name_what_comparisons_say(rt: HostRuntime) {
+fn times_and_words_go_by_tables(rt: HostRuntime) {
+    all_hold(&rt, &MOMENTS);
+    all_hold(&rt, &INSTANTS);
+    all_hold(&rt, &DURATIONS);
+    all_hold(&rt, &LATER);
+    all_hold(&rt, &SUMS);
+    all_hold(&rt, &SCALED);
+    all_hold(&rt, &SHIFTED);
+    all_hold(&rt, &FITS);
+    all_hold(&rt, &DRAWN);
+}
+
+#[test]
+fn laws_name_what_comparisons_say_and_seeds_go_on(rt: HostRuntime) {
     let (early, late) = (Instant::from_micros(-7), Instant::from_micros(3));
     let (short, long) = (Duration::from_micros(3), Duration::from_micros(7));
     let (start, none) = (Instant::default(), Duration::default());
@@ -320,6 +304,7 @@ fn laws_name_what_comparisons_say(rt: HostRuntime) {
             laws::orders_durations(short, long).is_lt(),
             !laws::equates_durations(short, long),
             laws::constants() == (start, none, Duration::from_micros(u64::MAX)),
+            first_draws() == (1358, 0x6130_bec3),
         ],
     );
 }

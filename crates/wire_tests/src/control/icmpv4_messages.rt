@@ -2,7 +2,7 @@
 use crate::cases::all;
 use control_wire::{
     Icmpv4DstUnreachable, Icmpv4Header, Icmpv4Message, Icmpv4PacketMut, Icmpv4Repr,
-    Icmpv4TimeExceeded, icmpv4_field as field, icmpv4_laws,
+    Icmpv4TimeExceeded, icmpv4_field as field,
 };
 use ip_wire::{IpProtocol, Ipv4Address, Ipv4Repr};
 use net_base::{Checksum, ChecksumCapabilities};
@@ -52,27 +52,6 @@ fn a_checksum_is_left_to_the_device(rt: HostRuntime) {
     all(&rt, &[bytes == wanted, message.buffer_len() == 40]);
 }
 
-#[test]
-fn laws_hold(_rt: HostRuntime) {
-    icmpv4_laws::icmpv4_fields();
-    icmpv4_laws::icmpv4_equated();
-    icmpv4_laws::icmpv4_spelled();
-    icmpv4_laws::icmpv4_fits();
-    icmpv4_laws::icmpv4_no_longer();
-    icmpv4_laws::icmpv4_reads_back();
-    icmpv4_laws::icmpv4_normal();
-}
-
-#[test]
-fn numbers_have_names(rt: HostRuntime) {
-    let said = (
-        Icmpv4Message::from(9) == Icmpv4Message::RouterAdvert,
-        u8::from(Icmpv4Message::Timestamp),
-        u8::from(Icmpv4TimeExceeded::from(7)),
-    );
-    assert!(rt; said == (true, 13, 7));
-}
-
 // Fields are set one by one; the data's place alone is lent.
 #[test]
 fn message_is_set(rt: HostRuntime) {
@@ -111,7 +90,7 @@ fn message_is_set(rt: HostRuntime) {
 
 // RFC 792.
 #[test]
-fn fields_are_in_their_places(rt: HostRuntime) {
+fn fields_and_numbers_are_in_their_places(rt: HostRuntime) {
     let places = [field::CHECKSUM, field::ECHO_IDENT, field::ECHO_SEQNO];
     all(
         &rt,
@@ -119,6 +98,9 @@ fn fields_are_in_their_places(rt: HostRuntime) {
             [field::TYPE, field::CODE, field::HEADER_END] == [0, 1, 8],
             places == [2..4, 4..6, 6..8],
             field::DATA == (8..),
+            Icmpv4Message::from(9) == Icmpv4Message::RouterAdvert,
+            u8::from(Icmpv4Message::Timestamp) == 13,
+            u8::from(Icmpv4TimeExceeded::from(7)) == 7,
         ],
     );
 }

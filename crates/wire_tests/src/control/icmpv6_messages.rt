@@ -1,8 +1,8 @@
 //! ICMPv6 messages as values, and where they are written. `decode` reads and writes them as data.
-use crate::cases::{Case, all, all_hold};
+use crate::cases::{Case, all, all_hold, holds_at};
 use control_wire::{
     Icmpv6DstUnreachable, Icmpv6Header, Icmpv6Message, Icmpv6Packet, Icmpv6PacketMut,
-    Icmpv6ParamProblem, Icmpv6Repr, Icmpv6TimeExceeded, icmpv6_field as field, icmpv6_laws,
+    Icmpv6ParamProblem, Icmpv6Repr, Icmpv6TimeExceeded, icmpv6_field as field,
 };
 use ip_wire::Ipv6Address;
 use net_base::ChecksumCapabilities;
@@ -137,72 +137,57 @@ const UNKNOWN: [Unknown; 11] = [
 ];
 
 #[test]
-fn headers_are_whole(rt: HostRuntime) {
+fn headers_are_whole_and_kinds_told_apart(rt: HostRuntime) {
     all_hold(&rt, &LENGTHS);
     all_hold(&rt, &UNKNOWN);
+    all_hold(&rt, &KINDS);
     assert!(rt; !is_whole(&[]));
 }
 
-/// Asserts that the message of each number has that number.
-fn have_numbers(rt: &impl Abort) {
-    for number in 0..=255 {
-        assert!(rt;
-            u8::from(Icmpv6Message::from(number)) == number,
-            "type {number}"
-        );
+/// A message, whether it is an error, and whether it is a neighbour message (RFC 4443, section 2.1; RFC 4861, section 4). A known number
+/// under the name of an unknown one is the same kind.
+struct Kinds(Icmpv6Message, bool, bool);
+
+impl Case for Kinds {
+    fn holds(&self, _alloc: Global) -> bool {
+        (self.0.is_error(), self.0.is_ndisc()) == (self.1, self.2)
     }
 }
 
-#[test]
-fn messages_have_numbers(rt: HostRuntime) {
-    have_numbers(&rt);
-}
+const KINDS: [Kinds; 10] = [
+    Kinds(Icmpv6Message::ParamProblem, true, false),
+    Kinds(Icmpv6Message::Unknown(127), true, false),
+    Kinds(Icmpv6Message::EchoRequest, false, false),
+    Kinds(Icmpv6Message::NeighborSolicit, false, true),
+    Kinds(Icmpv6Message::Redirect, false, true),
+    Kinds(Icmpv6Message::Unknown(135), false, true),
+    Kinds(Icmpv6Message::EchoReply, false, false),
+    Kinds(Icmpv6Message::MldReport, false, false),
+    Kinds(Icmpv6Message::Unknown(132), false, false),
+    Kinds(Icmpv6Message::Unknown(138), false, false),
+];
 
-// RFC 4443, section 2.1; RFC 4861, section 4. A known number under the name of an unknown one is the same kind.
-#[test]
-fn kinds_are_told_apart(rt: HostRuntime) {
-    let errors = [
-        Icmpv6Message::ParamProblem.is_error(),
-        Icmpv6Message::Unknown(127).is_error(),
-        Icmpv6Message::EchoRequest.is_error(),
-    ];
-    let neighbors = [
-        Icmpv6Message::NeighborSolicit.is_ndisc(),
-        Icmpv6Message::Redirect.is_ndisc(),
-        Icmpv6Message::Unknown(135).is_ndisc(),
-        Icmpv6Message::EchoReply.is_ndisc(),
-        Icmpv6Message::MldReport.is_ndisc(),
-        Icmpv6Message::Unknown(132).is_ndisc(),
-        Icmpv6Message::Unknown(138).is_ndisc(),
-    ];
-    all(
-        &rt,
-        &[
-            errors == [true, true, false],
-            neighbors == [true, true, true, false, false, false, false],
-        ],
-    );
-}
-
-/// The codes of the three reasons of this code.
-fn codes(code: u8) -> [u8; 3] {
+/// The number of the message of this number, and the codes of its three reasons.
+fn numbers(number: u8) -> [u8; 4] {
     [
-        u8::from(Icmpv6DstUnreachable::from(code)),
-        u8::from(Icmpv6TimeExceeded::from(code)),
-        u8::from(Icmpv6ParamProblem::from(code)),
+        u8::from(Icmpv6Message::from(number)),
+        u8::from(Icmpv6DstUnreachable::from(number)),
+        u8::from(Icmpv6TimeExceeded::from(number)),
+        u8::from(Icmpv6ParamProblem::from(number)),
     ]
 }
 
-/// Asserts that each reason of each code has that code.
-fn have_codes(rt: &impl Abort) {
-    for code in 0..=255 {
-        assert!(rt; codes(code) == [code; 3], "code {code}");
+/// Asserts that the message of each number has that number, and each reason of each code that code.
+fn have_numbers(rt: &impl Abort) {
+    for number in 0..=255 {
+        let are_same = numbers(number) == [number; 4];
+        holds_at(rt, are_same, "number", usize::from(number));
     }
 }
 
 #[test]
-fn reasons_are_codes(rt: HostRuntime) {
-    have_codes(&rt);
+fn messages_and_reasons_are_numbers(rt: HostRuntime) {
+    have_numbers(&rt);
     all(
         &rt,
         &[
@@ -244,17 +229,6 @@ fn headers_are_kept(rt: HostRuntime) {
             repr.header() == REPLIED,
         ],
     );
-}
-
-#[test]
-fn laws_hold(_rt: HostRuntime) {
-    icmpv6_laws::icmpv6_fields();
-    icmpv6_laws::icmpv6_equated();
-    icmpv6_laws::icmpv6_spelled();
-    icmpv6_laws::icmpv6_no_longer();
-    icmpv6_laws::icmpv6_fits();
-    icmpv6_laws::icmpv6_reads_back();
-    icmpv6_laws::icmpv6_normal();
 }
 
 // RFC 4443, sections 2.1, 3 and 4; RFC 4861, section 4.4.

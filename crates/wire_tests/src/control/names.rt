@@ -6,7 +6,7 @@ use control_wire::{
 };
 
 /// Messages of ICMPv4.
-const MESSAGES4: [(u8, &str); 11] = [
+static MESSAGES4: [(u8, &str); 11] = [
     (0, "echo reply"),
     (3, "destination unreachable"),
     (5, "redirect"),
@@ -21,7 +21,7 @@ const MESSAGES4: [(u8, &str); 11] = [
 ];
 
 /// Why a destination can't be reached by IPv4.
-const UNREACHABLE4: [(u8, &str); 17] = [
+static UNREACHABLE4: [(u8, &str); 17] = [
     (0, "network unreachable"),
     (1, "host unreachable"),
     (2, "protocol unreachable"),
@@ -42,21 +42,14 @@ const UNREACHABLE4: [(u8, &str); 17] = [
 ];
 
 /// Which time was exceeded, by IPv4.
-const EXCEEDED4: [(u8, &str); 3] = [
+static EXCEEDED4: [(u8, &str); 3] = [
     (0, "time to live exceeded in transit"),
     (1, "fragment reassembly time exceeded"),
     (2, "2"),
 ];
 
-#[test]
-fn icmpv4_has_names(rt: HostRuntime) {
-    all_named::<Icmpv4Message>(&rt, &MESSAGES4);
-    all_named::<Icmpv4DstUnreachable>(&rt, &UNREACHABLE4);
-    all_named::<Icmpv4TimeExceeded>(&rt, &EXCEEDED4);
-}
-
 /// Messages of ICMPv6.
-const MESSAGES6: [(u8, &str); 15] = [
+static MESSAGES6: [(u8, &str); 15] = [
     (1, "destination unreachable"),
     (2, "packet too big"),
     (3, "time exceeded"),
@@ -75,7 +68,7 @@ const MESSAGES6: [(u8, &str); 15] = [
 ];
 
 /// Why a destination can't be reached by IPv6.
-const UNREACHABLE6: [(u8, &str); 8] = [
+static UNREACHABLE6: [(u8, &str); 8] = [
     (0, "no route to destination"),
     (
         1,
@@ -90,14 +83,14 @@ const UNREACHABLE6: [(u8, &str); 8] = [
 ];
 
 /// Which time was exceeded, by IPv6.
-const EXCEEDED6: [(u8, &str); 3] = [
+static EXCEEDED6: [(u8, &str); 3] = [
     (0, "hop limit exceeded in transit"),
     (1, "fragment reassembly time exceeded"),
     (9, "9"),
 ];
 
 /// What is wrong with a packet.
-const PROBLEMS: [(u8, &str); 4] = [
+static PROBLEMS: [(u8, &str); 4] = [
     (0, "erroneous header field"),
     (1, "unrecognized next header type"),
     (2, "unrecognized IPv6 option"),
@@ -105,7 +98,10 @@ const PROBLEMS: [(u8, &str); 4] = [
 ];
 
 #[test]
-fn icmpv6_has_names(rt: HostRuntime) {
+fn messages_and_reasons_have_names(rt: HostRuntime) {
+    all_named::<Icmpv4Message>(&rt, &MESSAGES4);
+    all_named::<Icmpv4DstUnreachable>(&rt, &UNREACHABLE4);
+    all_named::<Icmpv4TimeExceeded>(&rt, &EXCEEDED4);
     all_named::<Icmpv6Message>(&rt, &MESSAGES6);
     all_named::<Icmpv6DstUnreachable>(&rt, &UNREACHABLE6);
     all_named::<Icmpv6TimeExceeded>(&rt, &EXCEEDED6);

@@ -3,7 +3,7 @@ ghost use Rattle.std.specs.Prelude.{◌≡◌};
 ghost use Rattle.control_wire.specs.Ndisc.{buffer_len, neighbor_message};
 
 use crate::cases::all;
-use control_wire::{Icmpv6PacketMut, NdiscNeighborFlags, NdiscRepr, icmpv6_laws};
+use control_wire::{Icmpv6PacketMut, NdiscNeighborFlags, NdiscRepr, icmpv4_laws, icmpv6_laws};
 use ip_wire::{EthernetAddress, Ipv6Address, RawHardwareAddress};
 
 /// Router fe80::7 to ff02::1, without its link address: it is to replace what readers hold.
@@ -15,6 +15,15 @@ const NO_OPTIONS: [u8; 16] = [0; 16];
 
 fn host(last: u16) -> Ipv6Address {
     Ipv6Address::new(0xfd00, 0, 0, 0, 0, 0, 0, last)
+}
+
+/// Through the conversion of Ethernet's addresses, as a host makes its own.
+fn addressed() -> NdiscRepr {
+    let from = RawHardwareAddress::from(EthernetAddress([2, 0, 0, 0, 0, 2]));
+    NdiscRepr::NeighborSolicit {
+        target_addr: host(1),
+        lladdr: Some(from),
+    }
 }
 
 fn solicitation() -> NdiscRepr
@@ -54,6 +63,20 @@ fn an_announcement_is_written(rt: HostRuntime) {
 
 #[test]
 fn laws_hold(_rt: HostRuntime) {
+    icmpv4_laws::icmpv4_fields();
+    icmpv4_laws::icmpv4_equated();
+    icmpv4_laws::icmpv4_spelled();
+    icmpv4_laws::icmpv4_fits();
+    icmpv4_laws::icmpv4_no_longer();
+    icmpv4_laws::icmpv4_reads_back();
+    icmpv4_laws::icmpv4_normal();
+    icmpv6_laws::icmpv6_fields();
+    icmpv6_laws::icmpv6_equated();
+    icmpv6_laws::icmpv6_spelled();
+    icmpv6_laws::icmpv6_no_longer();
+    icmpv6_laws::icmpv6_fits();
+    icmpv6_laws::icmpv6_reads_back();
+    icmpv6_laws::icmpv6_normal();
     icmpv6_laws::ndisc_flags();
     icmpv6_laws::ndisc_spelled();
     icmpv6_laws::ndisc_reads_back();
@@ -76,7 +99,7 @@ fn all_flags() -> NdiscNeighborFlags {
 }
 
 #[test]
-fn flags_are_bits(rt: HostRuntime) {
+fn flags_are_bits_and_link_addresses_stations(rt: HostRuntime) {
     all(
         &rt,
         &[
@@ -85,18 +108,9 @@ fn flags_are_bits(rt: HostRuntime) {
             NdiscNeighborFlags::OVERRIDE.bits() == 0x20,
             all_flags().contains(NdiscNeighborFlags::SOLICITED),
             !NdiscNeighborFlags::OVERRIDE.contains(NdiscNeighborFlags::SOLICITED),
-        ],
-    );
-}
-
-#[test]
-fn other_bits_are_no_flags(rt: HostRuntime) {
-    let none = NdiscNeighborFlags::empty();
-    all(
-        &rt,
-        &[
-            NdiscNeighborFlags::from_bits_truncate(0x1f) == none,
+            NdiscNeighborFlags::from_bits_truncate(0x1f) == NdiscNeighborFlags::empty(),
             NdiscNeighborFlags::from_bits_truncate(0xff) == all_flags(),
+            addressed() == solicitation(),
         ],
     );
 }
@@ -118,15 +132,4 @@ fn flags_are_read_and_written(rt: HostRuntime) {
             bytes[23] == 9,
         ],
     );
-}
-
-// Through the conversion of Ethernet's addresses, as a host makes its own.
-#[test]
-fn an_ethernet_address_is_a_link_address(rt: HostRuntime) {
-    let from = RawHardwareAddress::from(EthernetAddress([2, 0, 0, 0, 0, 2]));
-    let message = NdiscRepr::NeighborSolicit {
-        target_addr: host(1),
-        lladdr: Some(from),
-    };
-    assert!(rt; message == solicitation());
 }

@@ -113,9 +113,14 @@ fn are_equal(left: &RawHardwareAddress, right: &RawHardwareAddress) -> bool {
     address_laws::compare_raw_hardware_addresses(left, right).equal
 }
 
-/// Whether they are equal, in order and by their hashes.
+/// Whether they are equal, and by their hashes.
+fn is_same(said: &Comparison) -> bool {
+    said.equal && said.hashes.0 == said.hashes.1
+}
+
+/// The same, and in order.
 fn is_equal(said: &Comparison) -> bool {
-    said.equal && said.order.is_eq() && said.hashes.0 == said.hashes.1
+    is_same(said) && said.order.is_eq()
 }
 
 #[test]
@@ -137,10 +142,12 @@ fn equal_values_have_equal_hashes(rt: HostRuntime) {
             are_equal(&raw, &RawHardwareAddress::from(STATION)),
             equal,
             first == second,
+            is_same(&address_laws::compare_fragment_keys(&KEY, &KEY)),
         ],
     );
 }
 
+/// RFC 791, section 3.2: pieces of one packet have the same of all four.
 const KEY: Ipv4FragKey = Ipv4FragKey {
     id: 7,
     src_addr: Ipv4Address([10, 0, 0, 1]),
@@ -173,66 +180,50 @@ const BEHIND: [Behind; 4] = [
     }),
 ];
 
-// RFC 791, section 3.2: pieces of one packet have the same of all four.
-#[test]
-fn tells_cut_packets_apart(rt: HostRuntime) {
-    all_hold(&rt, &BEHIND);
-    let said = address_laws::compare_fragment_keys(&KEY, &KEY);
-    all(&rt, &[said.equal, said.hashes.0 == said.hashes.1]);
-}
+/// An address, whether it is this host's own, none, a group's, one host's and of a link, and its scope.
+struct Ipv6Kinds(Ipv6Address, [bool; 5], u8);
 
-enum Kind {
-    Loopback,
-    Unspecified,
-    Multicast,
-    Unicast,
-}
-
-fn is_of(address: &Ipv6Address, kind: &Kind) -> bool {
-    match kind {
-        Kind::Loopback => address.is_loopback(),
-        Kind::Unspecified => address.is_unspecified(),
-        Kind::Multicast => address.is_multicast(),
-        Kind::Unicast => address.x_is_unicast(),
-    }
-}
-
-/// An address, whether it is of the kind, and the kind.
-struct IsOf(Ipv6Address, bool, Kind);
-
-impl Case for IsOf {
+impl Case for Ipv6Kinds {
     fn holds(&self, _alloc: Global) -> bool {
-        is_of(&self.0, &self.2) == self.1
+        ipv6_kinds(&self.0) == self.1 && self.0.x_multicast_scope() == self.2
     }
 }
 
-const KINDS: [IsOf; 8] = [
-    IsOf(Ipv6Address::LOCALHOST, true, Kind::Loopback),
-    IsOf(LOCAL, false, Kind::Loopback),
-    IsOf(Ipv6Address::UNSPECIFIED, true, Kind::Unspecified),
-    IsOf(LOCAL, false, Kind::Unspecified),
-    IsOf(IPV6_LINK_LOCAL_ALL_ROUTERS, true, Kind::Multicast),
-    IsOf(LOCAL, false, Kind::Multicast),
-    IsOf(LOCAL, true, Kind::Unicast),
-    IsOf(IPV6_LINK_LOCAL_ALL_MLDV2_ROUTERS, false, Kind::Unicast),
-];
-
-/// An address, whether it is of a link, and its scope.
-struct Reach(Ipv6Address, bool, u8);
-
-impl Case for Reach {
-    fn holds(&self, _alloc: Global) -> bool {
-        (self.0.is_link_local(), self.0.x_multicast_scope()) == (self.1, self.2)
-    }
+fn ipv6_kinds(address: &Ipv6Address) -> [bool; 5] {
+    [
+        address.is_loopback(),
+        address.is_unspecified(),
+        address.is_multicast(),
+        address.x_is_unicast(),
+        address.is_link_local(),
+    ]
 }
 
-const REACHES: [Reach; 6] = [
-    Reach(LOCAL, true, 2),
-    Reach(SITE, false, 14),
-    Reach(GLOBAL, false, 14),
-    Reach(Ipv6Address::LOCALHOST, false, 14),
-    Reach(IPV6_LINK_LOCAL_ALL_ROUTERS, false, 2),
-    Reach(WIDE_GROUP, false, 14),
+const IPV6_KINDS: [Ipv6Kinds; 8] = [
+    Ipv6Kinds(LOCAL, [false, false, false, true, true], 2),
+    Ipv6Kinds(SITE, [false, false, false, true, false], 14),
+    Ipv6Kinds(GLOBAL, [false, false, false, true, false], 14),
+    Ipv6Kinds(
+        Ipv6Address::LOCALHOST,
+        [true, false, false, true, false],
+        14,
+    ),
+    Ipv6Kinds(
+        Ipv6Address::UNSPECIFIED,
+        [false, true, false, false, false],
+        14,
+    ),
+    Ipv6Kinds(
+        IPV6_LINK_LOCAL_ALL_ROUTERS,
+        [false, false, true, false, false],
+        2,
+    ),
+    Ipv6Kinds(
+        IPV6_LINK_LOCAL_ALL_MLDV2_ROUTERS,
+        [false, false, true, false, false],
+        2,
+    ),
+    Ipv6Kinds(WIDE_GROUP, [false, false, true, false, false], 14),
 ];
 
 /// fe80::1, fec0::1, 4037::1:800:200e:8c6c and ff3e::1.
@@ -247,17 +238,14 @@ const GLOBAL: Ipv6Address = Ipv6Address([
 const WIDE_GROUP: Ipv6Address = Ipv6Address([0xff, 0x3e, 0, 0, 0, 0, 0, 0, 0, 0, 0, 0, 0, 0, 0, 1]);
 
 #[test]
-fn tells_ipv6_addresses_apart(rt: HostRuntime) {
-    all_hold(&rt, &REACHES);
-    all_hold(&rt, &KINDS);
-}
-
-#[test]
-fn makes_ipv6_addresses(rt: HostRuntime) {
+fn makes_addresses(rt: HostRuntime) {
     let local = Ipv6Address::new(0xfe80, 0, 0, 0, 0, 0, 0, 1);
+    let host = Ipv4Address::new(192, 168, 1, 1);
     all(
         &rt,
         &[
+            host.octets() == [192, 168, 1, 1],
+            host == HOST,
             local == LOCAL,
             local.octets()[1] == 0x80,
             Ipv6Address::new(0xfec0, 0, 0, 0, 0, 0, 0, 1) == SITE,
@@ -303,20 +291,6 @@ const IPV4_KINDS: [Ipv4Kinds; 7] = [
     Ipv4Kinds(Ipv4Address::UNSPECIFIED, false, false, false, true, false),
 ];
 
-#[test]
-fn tells_ipv4_addresses_apart(rt: HostRuntime) {
-    all_hold(&rt, &IPV4_KINDS);
-    let host = Ipv4Address::new(192, 168, 1, 1);
-    all(
-        &rt,
-        &[
-            !kinds(&IpAddress::Ipv6(IPV6_LINK_LOCAL_ALL_NODES)).2,
-            host.octets() == [192, 168, 1, 1],
-            host == HOST,
-        ],
-    );
-}
-
 /// Whether the address is one host's, a group's, all hosts', none, and of IPv4.
 fn kinds(address: &IpAddress) -> (bool, bool, bool, bool, bool) {
     (
@@ -341,12 +315,13 @@ fn gives_solicited_node_addresses(rt: HostRuntime) {
             !address.is_solicited_node_multicast(),
             ipv6("ff02::1:ff0e:8c6c") == Some(solicited),
             solicited.is_solicited_node_multicast(),
+            !kinds(&IpAddress::Ipv6(IPV6_LINK_LOCAL_ALL_NODES)).2,
             Ipv6Cidr::SOLICITED_NODE_PREFIX.contains_addr(&solicited),
         ],
     );
 }
 
-/// Two addresses, and how many first bits they have in common.
+/// Two addresses, and how many first bits they have in common (RFC 6724, section 2.2).
 struct Common(&'static str, &'static str, u8);
 
 impl Case for Common {
@@ -355,7 +330,7 @@ impl Case for Common {
     }
 }
 
-const COMMON: [Common; 6] = [
+static COMMON: [Common; 6] = [
     Common("2001:db8::1", "2001:db8::1", 128),
     Common("2001:db8::1", "2001:db8::2", 126),
     Common("2001:db8:1::1", "2001:db8:2::1", 46),
@@ -364,9 +339,11 @@ const COMMON: [Common; 6] = [
     Common("2001:db8::", "2001:db9::", 31),
 ];
 
-// RFC 6724, section 2.2: the length of the longest prefix that two addresses have in common.
 #[test]
-fn counts_common_first_bits(rt: HostRuntime) {
+fn tells_addresses_apart(rt: HostRuntime) {
+    all_hold(&rt, &BEHIND);
+    all_hold(&rt, &IPV6_KINDS);
+    all_hold(&rt, &IPV4_KINDS);
     all_hold(&rt, &COMMON);
 }
 

@@ -31,9 +31,13 @@ const MASK: Ipv4Address = Ipv4Address([255, 255, 255, 192]);
 fn ipv4_blocks_have_ends(rt: HostRuntime) {
     let block = of_26_bits();
     let two = Ipv4Cidr::new(Ipv4Address([10, 0, 0, 1]), 31);
+    let whole = Ipv4Cidr::new(Ipv4Address::UNSPECIFIED, 0);
     all(
         &rt,
         &[
+            whole.contains_subnet(&block),
+            !block.contains_subnet(&whole),
+            whole.contains_addr(&Ipv4Address::BROADCAST),
             parts(&block) == (MASK, WITHIN, 26),
             block.network() == Ipv4Cidr::new(Ipv4Address([192, 168, 1, 64]), 26),
             last(&block) == Some(Ipv4Address([192, 168, 1, 127])),
@@ -58,37 +62,8 @@ const HELD: [Held; 4] = [
     Held(128, false),
 ];
 
-#[test]
-fn holds_the_right_ipv4_addresses(rt: HostRuntime) {
-    all_hold(&rt, &HELD);
-    let (block, whole) = (of_26_bits(), Ipv4Cidr::new(Ipv4Address::UNSPECIFIED, 0));
-    all(
-        &rt,
-        &[
-            whole.contains_subnet(&block),
-            !block.contains_subnet(&whole),
-            whole.contains_addr(&Ipv4Address::BROADCAST),
-        ],
-    );
-}
-
 fn is_made_of(mask: Ipv4Address, wanted: Result<Ipv4Cidr, Error>) -> bool {
     Ipv4Cidr::from_netmask(WITHIN, mask) == wanted
-}
-
-#[test]
-fn makes_blocks_of_netmasks(rt: HostRuntime) {
-    let mask = Ipv4Address([255, 255, 254, 0]);
-    all(
-        &rt,
-        &[
-            mask.prefix_len() == Some(23),
-            is_made_of(mask, Ok(Ipv4Cidr::new(WITHIN, 23))),
-            is_made_of(Ipv4Address::UNSPECIFIED, Err(Error)),
-            is_made_of(Ipv4Address([255, 0, 255, 0]), Err(Error)),
-            is_made_of(Ipv4Address([0, 255, 0, 0]), Err(Error)),
-        ],
-    );
 }
 
 /// A block, an address or a block, and whether the one holds the other.
@@ -113,7 +88,7 @@ fn is_held(outer: &str, inner: &Inner) -> Option<bool> {
     }
 }
 
-const HOLDS: [Holds; 7] = [
+static HOLDS: [Holds; 7] = [
     Holds("2001:db8::/48", Inner::Block("2001:db8:0:8000::/49"), true),
     Holds("2001:db8:0:8000::/49", Inner::Block("2001:db8::/48"), false),
     Holds(
@@ -128,7 +103,8 @@ const HOLDS: [Holds; 7] = [
 ];
 
 #[test]
-fn holds_the_right_ipv6_addresses(rt: HostRuntime) {
+fn holds_the_right_addresses(rt: HostRuntime) {
+    all_hold(&rt, &HELD);
     all_hold(&rt, &HOLDS);
     let none = Ipv4Cidr::new(Ipv4Address::UNSPECIFIED, 0);
     let whole = Ipv6Cidr::new(Ipv6Address::UNSPECIFIED, 0);
@@ -153,11 +129,17 @@ fn bits(text: &str) -> Option<u8> {
 }
 
 #[test]
-fn counts_the_bits_of_masks(rt: HostRuntime) {
+fn masks_have_bits_and_make_blocks(rt: HostRuntime) {
     let inside = IpAddress::v6(0x2001, 0xdb8, 0, 0xffff, 0, 0, 0, 1);
+    let mask = Ipv4Address([255, 255, 254, 0]);
     all(
         &rt,
         &[
+            mask.prefix_len() == Some(23),
+            is_made_of(mask, Ok(Ipv4Cidr::new(WITHIN, 23))),
+            is_made_of(Ipv4Address::UNSPECIFIED, Err(Error)),
+            is_made_of(Ipv4Address([255, 0, 255, 0]), Err(Error)),
+            is_made_of(Ipv4Address([0, 255, 0, 0]), Err(Error)),
             either("2001:db8::ffff:0:0:0:1") == Some(inside),
             IpCidr::new(inside, 48).address() == inside,
             bits("2001:db8::/48") == Some(48),

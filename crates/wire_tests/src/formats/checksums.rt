@@ -15,33 +15,8 @@ fn added(first: u16, second: u16) -> u16 {
     checksum::add(first, second)
 }
 
+/// RFC 1071, section 3: the sum of these bytes is 2ddf0, which folds to ddf2.
 const EXAMPLE: [u8; 8] = [0x00, 0x01, 0xf2, 0x03, 0xf4, 0xf5, 0xf6, 0xf7];
-
-// RFC 1071, section 3: the sum of these bytes is 2ddf0, which folds to ddf2.
-#[test]
-fn sums_the_example(rt: HostRuntime) {
-    all(
-        &rt,
-        &[
-            sum(&EXAMPLE) == 0xddf2,
-            sum(first(&EXAMPLE, 7)) == 0xdcfb,
-            sum(&[]) == 0,
-            sum(&[0xff; 64]) == 0xffff,
-            sum_of_both(sum(first(&EXAMPLE, 2)), sum(behind(&EXAMPLE, 2))) == 0xddf2,
-            added(added(0x0001, 0xf203), added(0xf4f5, 0xf6f7)) == 0xddf2,
-            added(0xffff, 0xffff) == 0xffff,
-        ],
-    );
-}
-
-#[test]
-fn states_its_laws(_rt: HostRuntime) {
-    checksum::joined();
-    checksum::covered_combines();
-    checksum::holds_at_all_ones();
-    checksum::complement_holds();
-    checksum::changed_word_fails();
-}
 
 /// A TCP segment from 192.168.1.1 to 192.168.1.2.
 const SEGMENT: [u8; 24] = [
@@ -57,7 +32,7 @@ const MESSAGE: [u8; 32] = [
 
 // The checksums of both hold.
 #[test]
-fn holds_over_packets(rt: HostRuntime) {
+fn sums_the_example_and_packets(rt: HostRuntime) {
     let of_segment = checksum::pseudo_header(&LEFT, &RIGHT, IpProtocol::Tcp, 24);
     let source = IpAddress::v6(0xfd00, 0, 0, 0, 0, 0, 0, 2);
     let destination = IpAddress::v6(0xff02, 0, 0, 0, 0, 1, 0xff00, 1);
@@ -67,6 +42,13 @@ fn holds_over_packets(rt: HostRuntime) {
         &[
             sum_of_both(of_segment, sum(&SEGMENT)) == 0xffff,
             sum_of_both(of_message, sum(&MESSAGE)) == 0xffff,
+            sum(&EXAMPLE) == 0xddf2,
+            sum(first(&EXAMPLE, 7)) == 0xdcfb,
+            sum(&[]) == 0,
+            sum(&[0xff; 64]) == 0xffff,
+            sum_of_both(sum(first(&EXAMPLE, 2)), sum(behind(&EXAMPLE, 2))) == 0xddf2,
+            added(added(0x0001, 0xf203), added(0xf4f5, 0xf6f7)) == 0xddf2,
+            added(0xffff, 0xffff) == 0xffff,
         ],
     );
 }

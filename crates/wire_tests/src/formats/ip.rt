@@ -33,26 +33,22 @@ fn ipv4_header_has_parts(rt: HostRuntime) {
     );
 }
 
+const HERE: IpAddress = IpAddress::Ipv6(ipv6::LOCAL);
+
+const ALL: IpAddress = IpAddress::Ipv6(IPV6_LINK_LOCAL_ALL_NODES);
+
 #[test]
-fn ipv4_header_is_written(rt: HostRuntime) {
+fn ipv4_header_is_written_and_ipv6_header_has_parts(rt: HostRuntime) {
     let mut bytes = [0xa5; 24];
     IpRepr::from(SAID).emit(&mut bytes, &checksums(true));
+    let udp = IpProtocol::Udp;
+    let over_v6 = IpRepr::new(HERE, ALL, udp, 4, 64);
     all(
         &rt,
         &[
             is_same(first(&bytes, 20), &HEADER),
             is_same(behind(&bytes, 20), &[0xa5; 4]),
+            parts(&over_v6) == (IpVersion::Ipv6, HERE, ALL, udp, 64, 40),
         ],
     );
-}
-
-#[test]
-fn ipv6_header_has_parts(rt: HostRuntime) {
-    let (source, destination) = (
-        IpAddress::Ipv6(ipv6::LOCAL),
-        IpAddress::Ipv6(IPV6_LINK_LOCAL_ALL_NODES),
-    );
-    let udp = IpProtocol::Udp;
-    let wanted = (IpVersion::Ipv6, source, destination, udp, 64, 40);
-    assert!(rt; parts(&IpRepr::new(source, destination, udp, 4, 64)) == wanted);
 }

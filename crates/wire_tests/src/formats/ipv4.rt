@@ -74,15 +74,6 @@ const FRONT: [u8; 20] = [
     0xe0, 0x00, 0x00, 0x16,
 ];
 
-#[test]
-fn ipv4_is_set(rt: HostRuntime) {
-    let mut bytes = [0xff; 32];
-    set_numbers(&mut bytes);
-    set_rest(&mut bytes);
-    set_addresses(&mut bytes);
-    assert!(rt; starts_with(&bytes, &FRONT));
-}
-
 fn numbers_in_place(bytes: &mut [u8]) -> Option<Numbers> {
     let packet = Ipv4PacketMut::new_checked(bytes).ok()?;
     Some((
@@ -116,19 +107,6 @@ fn carried_in_place(bytes: &mut [u8], payload: &[u8]) -> Option<(bool, u16, IpPr
     Some((is_whole, checksum, protocol, packet.into_inner().len()))
 }
 
-#[test]
-fn ipv4_is_read_where_it_is_written(rt: HostRuntime) {
-    let mut bytes = WITH_OPTION;
-    all(
-        &rt,
-        &[
-            numbers_in_place(&mut bytes) == Some(NUMBERS),
-            named_in_place(&mut bytes) == Some(NAMED),
-            carried_in_place(&mut bytes, &EIGHT) == Some((true, 0, IpProtocol::Igmp, 34)),
-        ],
-    );
-}
-
 /// Fills the payload, and says whether there is a packet.
 fn is_filled(bytes: &mut [u8], byte: u8) -> bool {
     match Ipv4PacketMut::new_checked(bytes) {
@@ -141,11 +119,14 @@ fn is_filled(bytes: &mut [u8], byte: u8) -> bool {
 }
 
 #[test]
-fn ipv4_payload_alone_is_lent(rt: HostRuntime) {
+fn ipv4_is_read_where_it_is_written_and_its_payload_lent(rt: HostRuntime) {
     let mut bytes = WITH_OPTION;
     all(
         &rt,
         &[
+            numbers_in_place(&mut bytes) == Some(NUMBERS),
+            named_in_place(&mut bytes) == Some(NAMED),
+            carried_in_place(&mut bytes, &EIGHT) == Some((true, 0, IpProtocol::Igmp, 34)),
             is_filled(&mut bytes, 7),
             starts_with(&bytes, first(&WITH_OPTION, 24)),
             is_same(behind(&bytes, 24), &[7, 7, 7, 7, 7, 7, 7, 7, 0, 0]),
@@ -183,9 +164,13 @@ fn emit_datagram(frame: &mut [u8], ip: &Ipv4Repr, udp: &UdpRepr, payload: &[u8])
     );
 }
 
+const HERE: Ipv4Address = Ipv4Address([192, 168, 1, 1]);
+
+const THERE: Ipv4Address = Ipv4Address([192, 168, 1, 2]);
+
 const IP: Ipv4Repr = Ipv4Repr {
-    src_addr: Ipv4Address([192, 168, 1, 1]),
-    dst_addr: Ipv4Address([192, 168, 1, 2]),
+    src_addr: HERE,
+    dst_addr: THERE,
     next_header: IpProtocol::Udp,
     payload_len: 12,
     hop_limit: 64,
@@ -198,32 +183,40 @@ const UDP: UdpRepr = UdpRepr {
     dst_port: 53,
 };
 
-#[test]
-fn frame_is_written_in_place(rt: HostRuntime) {
-    let mut frame = [0xa5; 46];
-    emit_datagram(&mut frame, &IP, &UDP, &[0xaa, 0x00, 0x00, 0xff]);
-    assert!(rt; is_same(behind(&frame, 34), &DATAGRAM));
-}
-
 /// The header of the last piece of a datagram.
 const PIECE: [u8; 24] = [
     0x45, 0x00, 0x00, 0x18, 0xc2, 0x4d, 0x00, 0x01, 0x40, 0x11, 0x35, 0x33, 0xc0, 0xa8, 0x01, 0x01,
     0xc0, 0xa8, 0x01, 0x02, 0xaa, 0x00, 0x00, 0xff,
 ];
 
-/// What is the same in all pieces of a datagram, as the bytes and as the quoted header tell it.
+/// What is the same in all pieces of a datagram, as the bytes and as the quoted header tell it (RFC 791, section 3.2).
 fn keys(bytes: &[u8]) -> Option<(Ipv4FragKey, Ipv4FragKey)> {
     let packet = Ipv4Packet::new_checked(bytes).ok()?;
     let (header, _) = Ipv4Repr::parse_quoted(bytes).ok()?;
     Some((packet.get_key(), header.key()))
 }
 
-// RFC 791, section 3.2.
+const KEY: Ipv4FragKey = Ipv4FragKey {
+    id: 0xc24d,
+    src_addr: HERE,
+    dst_addr: THERE,
+    protocol: IpProtocol::Udp,
+};
+
 #[test]
-fn pieces_have_one_key(rt: HostRuntime) {
-    let said = match keys(&PIECE) {
-        Some((read, quoted)) => (read == quoted, read.id, read.protocol),
-        None => (false, 0, IpProtocol::Tcp),
-    };
-    assert!(rt; said == (true, 0xc24d, IpProtocol::Udp));
+fn ipv4_is_set_and_written_in_place(rt: HostRuntime) {
+    let mut bytes = [0xff; 32];
+    set_numbers(&mut bytes);
+    set_rest(&mut bytes);
+    set_addresses(&mut bytes);
+    let mut frame = [0xa5; 46];
+    emit_datagram(&mut frame, &IP, &UDP, &[0xaa, 0x00, 0x00, 0xff]);
+    all(
+        &rt,
+        &[
+            starts_with(&bytes, &FRONT),
+            is_same(behind(&frame, 34), &DATAGRAM),
+            keys(&PIECE) == Some((KEY, KEY)),
+        ],
+    );
 }

@@ -1,10 +1,11 @@
 //! The laws of the formats, as a user of `ip_wire` calls them.
 use ip_wire::{
-    arp_laws, ethernet_laws, ip_laws, ipv4_laws, ipv6_fragment_laws, ipv6_laws, tcp_laws, udp_laws,
+    IpEndpoint, address_laws, arp_laws, checksum, ethernet_laws, ip_laws, ipv4_laws,
+    ipv6_fragment_laws, ipv6_laws, tcp_laws, text, udp_laws,
 };
 
 #[test]
-fn of_links(_rt: HostRuntime) {
+fn of_links_checksums_and_texts(_rt: HostRuntime) {
     ethernet_laws::ethernet_equal();
     ethernet_laws::ethernet_fields();
     ethernet_laws::ethernet_fits();
@@ -23,6 +24,15 @@ fn of_links(_rt: HostRuntime) {
     arp_laws::arp_reads_back();
     arp_laws::arp_spelled();
     arp_laws::arp_written_fields_are_read();
+    checksum::joined();
+    checksum::covered_combines();
+    checksum::holds_at_all_ones();
+    checksum::complement_holds();
+    checksum::changed_word_fails();
+    text::printed_reads_back();
+    text::one_reading();
+    address_laws::number_reads_back();
+    address_laws::is_total_order::<IpEndpoint>();
 }
 
 #[test]

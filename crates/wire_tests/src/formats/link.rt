@@ -35,20 +35,6 @@ fn request(operation: ArpOperation) -> ArpRepr {
     }
 }
 
-#[test]
-fn frames_have_lengths(rt: HostRuntime) {
-    all(
-        &rt,
-        &[
-            EthernetFrame::header_len() == 14,
-            EthernetFrameMut::header_len() == 14,
-            HEADER.buffer_len() == 14,
-            EthernetFrame::buffer_len(46) == 60,
-            EthernetFrameMut::buffer_len(46) == 60,
-        ],
-    );
-}
-
 /// Whether the frame is whole, both addresses, and what it carries, where it is written.
 fn frame_parts_in_place(
     bytes: &mut [u8],
@@ -94,12 +80,17 @@ fn is_filled(bytes: &mut [u8], byte: u8) -> bool {
 }
 
 #[test]
-fn payload_alone_is_lent(rt: HostRuntime) {
+fn frames_have_lengths_and_lend_their_payload_alone(rt: HostRuntime) {
     let mut bytes = [0xa5; 20];
     bytes[..14].copy_from_slice(&FRAME[..14]);
     all(
         &rt,
         &[
+            EthernetFrame::header_len() == 14,
+            EthernetFrameMut::header_len() == 14,
+            HEADER.buffer_len() == 14,
+            EthernetFrame::buffer_len(46) == 60,
+            EthernetFrameMut::buffer_len(46) == 60,
             is_filled(&mut bytes, 7),
             starts_with(&bytes, first(&FRAME, 14)),
             ends_with(&bytes, &[7; 6]),
@@ -128,20 +119,6 @@ const NUMBERS: ArpNumbers = (
 
 /// The four addresses of a packet, in their order.
 type ArpAddresses<'a> = (&'a [u8], &'a [u8], &'a [u8], &'a [u8]);
-
-#[test]
-fn request_is_written(rt: HostRuntime) {
-    let mut bytes = [0xa5; 30];
-    emit_arp(&request(ArpOperation::Request), &mut bytes);
-    all(
-        &rt,
-        &[
-            starts_with(&bytes, first(behind(&FRAME, 14), 28)),
-            bytes.last().copied() == Some(0xa5),
-            request(ArpOperation::Request).buffer_len() == 28,
-        ],
-    );
-}
 
 /// Sets kinds, lengths and operation, if there is a place for them.
 fn set_numbers(bytes: &mut [u8]) {
@@ -220,13 +197,19 @@ const THERE: [u8; 4] = [192, 168, 1, 2];
 const NOBODY: [u8; 6] = [0; 6];
 
 #[test]
-fn packet_is_set(rt: HostRuntime) {
+fn packet_is_written_and_set(rt: HostRuntime) {
+    let packet = request(ArpOperation::Request);
+    let mut written = [0xa5; 30];
+    emit_arp(&packet, &mut written);
     let mut bytes = [0xff; 28];
     set_numbers(&mut bytes);
     let addresses: ArpAddresses<'_> = (&SENDER.0, &HERE, &NOBODY, &THERE);
     all(
         &rt,
         &[
+            starts_with(&written, first(behind(&FRAME, 14), 28)),
+            written.last().copied() == Some(0xa5),
+            packet.buffer_len() == 28,
             arp_numbers_in_place(&mut bytes) == Some(NUMBERS),
             set_hardware_addresses(&mut bytes, &SENDER.0, &NOBODY).is_some(),
             set_protocol_addresses(&mut bytes, &HERE, &THERE).is_some(),

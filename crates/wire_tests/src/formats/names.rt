@@ -5,7 +5,7 @@ use ip_wire::{EthernetProtocol, IpProtocol, IpVersion, SeqNumber};
 use std::alloc::Global;
 
 /// Protocols over IP.
-const PROTOCOLS: [(u8, &str); 14] = [
+static PROTOCOLS: [(u8, &str); 14] = [
     (0, "Hop-by-Hop"),
     (1, "ICMP"),
     (2, "IGMP"),
@@ -31,7 +31,7 @@ impl Case for Ethertype {
     }
 }
 
-const ETHERTYPES: [Ethertype; 5] = [
+static ETHERTYPES: [Ethertype; 5] = [
     Ethertype(0x0800, "IPv4"),
     Ethertype(0x0806, "ARP"),
     Ethertype(0x86dd, "IPv6"),

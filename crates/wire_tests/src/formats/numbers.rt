@@ -18,7 +18,7 @@ impl Case for Constant {
     }
 }
 
-const CONSTANTS: [Constant; 10] = [
+static CONSTANTS: [Constant; 10] = [
     Constant("224.0.0.1", IpAddress::Ipv4(IPV4_MULTICAST_ALL_SYSTEMS)),
     Constant("224.0.0.2", IpAddress::Ipv4(IPV4_MULTICAST_ALL_ROUTERS)),
     Constant("0.0.0.0", IpAddress::Ipv4(Ipv4Address::UNSPECIFIED)),
@@ -43,10 +43,6 @@ fn constants_have_their_values(rt: HostRuntime) {
     address_laws::hardware_tests();
     address_laws::ipv4_constants();
     address_laws::ipv6_constants();
-}
-
-#[test]
-fn prefixes_have_their_values(rt: HostRuntime) {
     let (solicited, local) = address_laws::ipv6_prefixes();
     all(
         &rt,
@@ -101,7 +97,16 @@ const BEFORE: [Before; 5] = [
     Before(HALF, FIRST, true),
 ];
 
-// Numbers on both sides of the point where they go round.
+/// Distances, of which the first goes round.
+fn distances() -> (u32, usize, usize) {
+    (
+        LAST.distance(SeqNumber(4)),
+        SeqNumber(7) - SeqNumber(7),
+        SeqNumber(9) - SeqNumber(7),
+    )
+}
+
+// Numbers on both sides of the point where they go round, and their beginning.
 #[test]
 fn goes_round(rt: HostRuntime) {
     seq_number::sum_comes_after();
@@ -116,25 +121,9 @@ fn goes_round(rt: HostRuntime) {
             LAST.max(FIRST) == FIRST,
             LAST.min(FIRST) == LAST,
             moved == FIRST,
+            distances() == (5, 0, 2),
+            SeqNumber::default() == SeqNumber(0),
+            address_laws::default_sequence_number() == SeqNumber(0),
         ],
     );
-}
-
-#[test]
-fn distances_go_round(rt: HostRuntime) {
-    let distances = (
-        LAST.distance(SeqNumber(4)),
-        SeqNumber(7) - SeqNumber(7),
-        SeqNumber(9) - SeqNumber(7),
-    );
-    assert!(rt; distances == (5, 0, 2));
-}
-
-#[test]
-fn begins_at_zero(rt: HostRuntime) {
-    let firsts = [
-        SeqNumber::default(),
-        address_laws::default_sequence_number(),
-    ];
-    assert!(rt; firsts == [SeqNumber(0); 2]);
 }

@@ -1,5 +1,5 @@
 //! Segments with their payload. `decode` reads and writes headers as data.
-use crate::cases::{Case, all_hold};
+use crate::cases::{Case, all, all_hold};
 use crate::formats::samples::{checksums, is_same};
 use ip_wire::{
     Error, IpAddress, Ipv4Address, SeqNumber, TcpControl, TcpHeader, TcpOptions, TcpPacket,
@@ -64,11 +64,6 @@ fn is_read(
     }
 }
 
-#[test]
-fn reads_a_segment(rt: HostRuntime) {
-    assert!(rt; is_read(&SYN_BYTES, &SYN, &PAYLOAD, (5, false, 20, 24)));
-}
-
 /// Writes a segment into bytes for it.
 fn emit_segment(segment: &TcpRepr<'_>, bytes: &mut [u8]) {
     let (header, all) = (segment.header_len(), segment.buffer_len());
@@ -82,13 +77,6 @@ fn emit_segment(segment: &TcpRepr<'_>, bytes: &mut [u8]) {
     }
 }
 
-#[test]
-fn writes_a_segment(rt: HostRuntime) {
-    let mut buffer = [0x5a; 24];
-    emit_segment(&TcpRepr::new(&SYN, &PAYLOAD), &mut buffer);
-    assert!(rt; is_same(&buffer, &SYN_BYTES));
-}
-
 // The last row of the third case of RFC 2018, section 4, over IPv6 with timestamps: 5500 is
 // acknowledged, and three ranges behind it have come.
 pub const RANGES: [u8; 59] = [
@@ -97,28 +85,6 @@ pub const RANGES: [u8; 59] = [
     0x1b, 0x58, 0x00, 0x00, 0x1d, 0x4c, 0x00, 0x00, 0x17, 0x70, 0x00, 0x00, 0x19, 0x64, 0x08, 0x0a,
     0x00, 0x00, 0x00, 0x07, 0x00, 0x00, 0x00, 0x09, 0x61, 0x62, 0xff,
 ];
-
-/// A flag, how many numbers it takes, and what it is without PSH.
-struct Flag(TcpControl, usize, TcpControl);
-
-impl Case for Flag {
-    fn holds(&self, _alloc: Global) -> bool {
-        self.0.len() == self.1 && self.0.quash_psh() == self.2
-    }
-}
-
-const FLAGS: [Flag; 5] = [
-    Flag(TcpControl::None, 0, TcpControl::None),
-    Flag(TcpControl::Psh, 0, TcpControl::None),
-    Flag(TcpControl::Syn, 1, TcpControl::Syn),
-    Flag(TcpControl::Fin, 1, TcpControl::Fin),
-    Flag(TcpControl::Rst, 0, TcpControl::Rst),
-];
-
-#[test]
-fn counts_flags(rt: HostRuntime) {
-    all_hold(&rt, &FLAGS);
-}
 
 /// Whether acknowledgements may have ranges, the ranges, and how many numbers the segment takes.
 type Acknowledged = (bool, [Option<(u32, u32)>; 3], usize);
@@ -135,36 +101,55 @@ fn acknowledged(bytes: &[u8]) -> Result<Acknowledged, Error> {
     ))
 }
 
+const ACKNOWLEDGED: Acknowledged = (
+    false,
+    [Some((8000, 8500)), Some((7000, 7500)), Some((6000, 6500))],
+    3,
+);
+
 #[test]
-fn ranges_are_seen(rt: HostRuntime) {
-    let ranges = [Some((8000, 8500)), Some((7000, 7500)), Some((6000, 6500))];
-    assert!(rt; acknowledged(&RANGES) == Ok((false, ranges, 3)));
+fn segments_are_read_and_written(rt: HostRuntime) {
+    let mut buffer = [0x5a; 24];
+    emit_segment(&TcpRepr::new(&SYN, &PAYLOAD), &mut buffer);
+    all(
+        &rt,
+        &[
+            is_read(&SYN_BYTES, &SYN, &PAYLOAD, (5, false, 20, 24)),
+            is_same(&buffer, &SYN_BYTES),
+            acknowledged(&RANGES) == Ok(ACKNOWLEDGED),
+        ],
+    );
 }
 
-/// A segment with this flag and no payload takes so many numbers, and takes none. One with four bytes takes four more.
-struct Counted(TcpControl, usize, bool);
+/// A flag, what it is without PSH, how many numbers it takes, and whether a segment with it and no payload, which takes as many, is empty.
+/// One with four bytes takes four more.
+struct Flag(TcpControl, TcpControl, usize, bool);
 
-impl Case for Counted {
+impl Case for Flag {
     fn holds(&self, _alloc: Global) -> bool {
-        let header = TcpHeader {
-            control: self.0,
-            ..SYN
-        };
-        let (bare, is_empty, _, _) = lengths(&TcpRepr::new(&header, &[]));
-        let (full, is_none, _, _) = lengths(&TcpRepr::new(&header, &PAYLOAD));
-        (bare, is_empty, full, is_none) == (self.1, self.2, self.1.wrapping_add(4), false)
+        let alone = (self.0.len(), self.0.quash_psh());
+        alone == (self.2, self.1)
+            && counted(self.0) == (self.2, self.3, self.2.wrapping_add(4), false)
     }
 }
 
-const COUNTED: [Counted; 5] = [
-    Counted(TcpControl::None, 0, true),
-    Counted(TcpControl::Psh, 0, true),
-    Counted(TcpControl::Syn, 1, false),
-    Counted(TcpControl::Fin, 1, false),
-    Counted(TcpControl::Rst, 0, false),
+/// The numbers that a segment with this flag takes, and whether it is empty: without payload, and with four bytes.
+fn counted(control: TcpControl) -> (usize, bool, usize, bool) {
+    let header = TcpHeader { control, ..SYN };
+    let (bare, is_empty, _, _) = lengths(&TcpRepr::new(&header, &[]));
+    let (full, is_none, _, _) = lengths(&TcpRepr::new(&header, &PAYLOAD));
+    (bare, is_empty, full, is_none)
+}
+
+const FLAGS: [Flag; 5] = [
+    Flag(TcpControl::None, TcpControl::None, 0, true),
+    Flag(TcpControl::Psh, TcpControl::None, 0, true),
+    Flag(TcpControl::Syn, TcpControl::Syn, 1, false),
+    Flag(TcpControl::Fin, TcpControl::Fin, 1, false),
+    Flag(TcpControl::Rst, TcpControl::Rst, 0, false),
 ];
 
 #[test]
-fn counts_sequence_numbers(rt: HostRuntime) {
-    all_hold(&rt, &COUNTED);
+fn counts_flags(rt: HostRuntime) {
+    all_hold(&rt, &FLAGS);
 }

@@ -6,7 +6,20 @@ use ip_wire::{Error, SeqNumber, TcpPacketMut};
 
 // The same fields through the writing view, and those of a segment with ranges.
 /// Ports, numbers, the header's length, window, checksum and urgent pointer.
-fn fields(bytes: &mut [u8]) -> Result<(u16, u16, SeqNumber, SeqNumber, u8, u16, u16, u16), Error> {
+type Fields = (u16, u16, SeqNumber, SeqNumber, u8, u16, u16, u16);
+
+const FIELDS: Fields = (
+    49500,
+    80,
+    SeqNumber(100),
+    SeqNumber(5500),
+    56,
+    1000,
+    0x32b0,
+    0,
+);
+
+fn fields(bytes: &mut [u8]) -> Result<Fields, Error> {
     let packet = TcpPacketMut::new_checked(bytes)?;
     Ok((
         packet.src_port(),
@@ -18,22 +31,6 @@ fn fields(bytes: &mut [u8]) -> Result<(u16, u16, SeqNumber, SeqNumber, u8, u16, 
         packet.checksum(),
         packet.urgent_at(),
     ))
-}
-
-#[test]
-fn reads_what_it_can_write(rt: HostRuntime) {
-    let mut buffer = RANGES;
-    let wanted = (
-        49500,
-        80,
-        SeqNumber(100),
-        SeqNumber(5500),
-        56,
-        1000,
-        0x32b0,
-        0,
-    );
-    assert!(rt; fields(&mut buffer) == Ok(wanted));
 }
 
 /// Whether the segment's length is right, the numbers it takes, and whether acknowledgements may have ranges.
@@ -70,11 +67,13 @@ const ACKNOWLEDGED: [Option<(u32, u32)>; 3] = [
 ];
 
 #[test]
-fn reads_behind_the_header(rt: HostRuntime) {
+fn reads_what_it_can_write(rt: HostRuntime) {
     let mut buffer = RANGES;
     all(
         &rt,
         &[
+            fields(&mut buffer) == Ok(FIELDS),
+            fields(&mut [0x50; 19]).is_err(),
             said(&mut buffer) == Ok((true, 3, Ok(false))),
             ranges(&mut buffer) == Ok(ACKNOWLEDGED),
             carries(&mut buffer, first(behind(&RANGES, 20), 36), b"ab\xff"),
@@ -104,37 +103,30 @@ fn fills_payload(bytes: &mut [u8], byte: u8) -> bool {
     }
 }
 
+/// The header's first 20 bytes, 36 bytes of options, and three of payload.
+fn parts(bytes: &[u8]) -> (&[u8], &[u8], &[u8]) {
+    (
+        first(bytes, 20),
+        first(behind(bytes, 20), 36),
+        behind(bytes, 56),
+    )
+}
+
 #[test]
-fn writes_through_the_options(rt: HostRuntime) {
+fn options_alone_are_lent_and_the_payload_alone(rt: HostRuntime) {
     let mut buffer = RANGES;
+    let (header, _, payload) = parts(&RANGES);
+    let ones: &[u8] = &[1; 36];
+    let twos: &[u8] = &[2; 3];
     all(
         &rt,
         &[
             fills_options(&mut buffer, 1),
-            is_same(first(&buffer, 20), first(&RANGES, 20)),
-            is_same(first(behind(&buffer, 20), 36), &[1; 36]),
-            is_same(behind(&buffer, 56), behind(&RANGES, 56)),
-        ],
-    );
-}
-
-#[test]
-fn writes_through_the_payload(rt: HostRuntime) {
-    let mut buffer = RANGES;
-    all(
-        &rt,
-        &[
+            parts(&buffer) == (header, ones, payload),
             fills_payload(&mut buffer, 2),
-            is_same(first(&buffer, 56), first(&RANGES, 56)),
-            is_same(behind(&buffer, 56), &[2, 2, 2]),
+            parts(&buffer) == (header, ones, twos),
         ],
     );
-}
-
-#[test]
-fn refuses_to_write_too_few_bytes(rt: HostRuntime) {
-    let mut short = [0x50; 19];
-    assert!(rt; TcpPacketMut::new_checked(&mut short).is_err());
 }
 
 /// Sets the flags, if there is a header: a FIN, and none again.
@@ -234,19 +226,6 @@ fn low_flags(bytes: &mut [u8]) -> [bool; 5] {
     [fin, syn, rst, psh, packet.ack()]
 }
 
-// RFC 9293, section 3.1, and RFC 3540, section 9: the bits of bytes 12 and 13.
-#[test]
-fn sets_each_flag(rt: HostRuntime) {
-    let mut buffer = [0; 20];
-    all(
-        &rt,
-        &[
-            low_flags(&mut buffer) == [true; 5],
-            is_same(first(behind(&buffer, 13), 1), &[0x1f]),
-        ],
-    );
-}
-
 /// The same of the other four.
 fn high_flags(bytes: &mut [u8]) -> [bool; 4] {
     if bytes.len() < 20 {
@@ -275,13 +254,15 @@ fn cleared(bytes: &mut [u8]) -> Option<u8> {
     Some(packet.header_len())
 }
 
+// RFC 9293, section 3.1, and RFC 3540, section 9: the bits of bytes 12 and 13.
 #[test]
-fn sets_the_other_flags(rt: HostRuntime) {
+fn sets_each_flag(rt: HostRuntime) {
     let mut buffer = [0; 20];
-    buffer[13] = 0x1f;
     all(
         &rt,
         &[
+            low_flags(&mut buffer) == [true; 5],
+            is_same(first(behind(&buffer, 13), 1), &[0x1f]),
             high_flags(&mut buffer) == [true; 4],
             cleared(&mut buffer) == Some(60),
             is_same(first(behind(&buffer, 12), 2), &[0xf1, 0xdd]),

@@ -2,7 +2,7 @@
 use crate::cases::{all, prints};
 use ip_wire::{
     Error, IpAddress, IpCidr, IpEndpoint, IpListenEndpoint, Ipv4Address, Ipv6Address, Ipv6Cidr,
-    address_laws, text,
+    address_laws,
 };
 
 pub fn ipv4(text: &str) -> Option<Ipv4Address> {
@@ -31,6 +31,8 @@ pub fn ipv6_block(text: &str) -> Option<Ipv6Cidr> {
 fn prints_listening_endpoints(rt: HostRuntime) {
     let there = IpAddress::v6(0xfd00, 0, 0, 0, 0, 0, 0, 1);
     let listening = IpListenEndpoint::from(IpEndpoint::new(there, 53));
+    // An endpoint of port 0 is none.
+    let (none, zero) = (IpListenEndpoint::default(), at_port(0));
     let alloc = rt.alloc();
     all(
         &rt,
@@ -40,17 +42,6 @@ fn prints_listening_endpoints(rt: HostRuntime) {
             prints(alloc, &Error, "wire::Error"),
             is_specified(&listening),
             is_listening(&IpListenEndpoint::from((there, 53)), &listening),
-        ],
-    );
-}
-
-#[test]
-fn an_endpoint_of_port_0_is_none(rt: HostRuntime) {
-    let none = IpListenEndpoint::default();
-    let zero = at_port(0);
-    all(
-        &rt,
-        &[
             !is_specified(&none),
             is_listening(&none, &zero),
             is_listening(&address_laws::default_listen_endpoint(), &zero),
@@ -69,12 +60,4 @@ fn is_specified(endpoint: &IpListenEndpoint) -> bool {
 
 fn is_listening(endpoint: &IpListenEndpoint, wanted: &IpListenEndpoint) -> bool {
     *endpoint == *wanted
-}
-
-#[test]
-fn states_its_laws(_rt: HostRuntime) {
-    text::printed_reads_back();
-    text::one_reading();
-    address_laws::number_reads_back();
-    address_laws::is_total_order::<IpEndpoint>();
 }
