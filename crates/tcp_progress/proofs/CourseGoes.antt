@@ -68,12 +68,12 @@ pub record Goes (p : PairValue) (side : Side) (event : PairEvent) : Type 0 where
   pub sent : slice_get (at (takes p event).sides side).sent (next_sent p side) ≡ Some x
 
 -- a side with its connection, which it keeps with the event
-record IsThere (p : PairValue) (side : Side) (event : PairEvent) : Type 0 where
-  reached : IsReached p
-  mine : IsOpen (socket_of p side).block
-  owes : 1 ≤ left_in p side
-  top : 1 ≤ (socket_of p side).block.sender.top
-  stays : is_synchronized (socket_of (takes p event) side).block.state ≡ true
+pub record IsThere (p : PairValue) (side : Side) (event : PairEvent) : Type 0 where
+  pub reached : IsReached p
+  pub mine : IsOpen (socket_of p side).block
+  pub owes : 1 ≤ left_in p side
+  pub top : 1 ≤ (socket_of p side).block.sender.top
+  pub stays : is_synchronized (socket_of (takes p event) side).block.state ≡ true
 
 pub offered_there : (p : PairValue) (side : Side) (moment : ℤ) → is_synchronized (socket_of (takes p (Offer side moment true)) side).block.state ≡ true →
     is_synchronized (settled true (offer_of (context_of p side moment) (socket_of p side)).socket).block.state ≡ true
@@ -162,7 +162,7 @@ some_of p side moment h it =
     anew_some (context_of p side moment) (socket_of p side) (ready_side p side h.reached).order.number h.mine.acknowledged h.top a.few a.top it
     (number_of p side moment h.mine it)
 
-begins_anew :
+pub begins_anew :
     (p : PairValue) (side : Side) (moment : ℤ) → IsThere p side (Offer side moment true)
     → BeginsAnew (offer_of (context_of p side moment) (socket_of p side)).socket → Goes p side (Offer side moment true)
 begins_anew p A moment h it = record {
@@ -249,7 +249,7 @@ sooner a b end n e f = first_of (omega (arith, ints), grind (arith, ints))
 
 -- THE COURSE
 
-sent_all : (p : PairValue) (side : Side) → IsReached p → IsOpen (socket_of p side).block
+pub sent_all : (p : PairValue) (side : Side) → IsReached p → IsOpen (socket_of p side).block
     → (socket_of p side).block.sender.in_flight ≤ (socket_of p side).block.sender.top
 sent_all p side r mine = (is_sure p side r (not_closed (socket_of p side).block.state mine.synchronized) mine.synchronized mine.acknowledged).sent
 
@@ -258,10 +258,10 @@ was_open true new e f = clash (sym (e refl) ∙ f)
 was_open false new e f = refl
 
 -- what of a course is left with each event
-abbrev Lasts : ℕ → PairValue → List (ℤ × PairEvent) → Type 0
+abbrev pub Lasts : ℕ → PairValue → List (ℤ × PairEvent) → Type 0
 Lasts delay p course = AreTaken course × (DeliversWithin delay p course × AreHeard p course)
 
-lasts_on : (delay : ℕ) (p : PairValue) (x : ℤ × PairEvent) (course : List (ℤ × PairEvent)) → Lasts delay p (x ∷ course) → Lasts delay (takes p x.1) course
+pub lasts_on : (delay : ℕ) (p : PairValue) (x : ℤ × PairEvent) (course : List (ℤ × PairEvent)) → Lasts delay p (x ∷ course) → Lasts delay (takes p x.1) course
 lasts_on delay p x course l = (l.0.1, (l.1.0.1, l.1.1.1))
 
 module _ (p q : PairValue) (side : Side) (course : List (ℤ × PairEvent)) (wait delay : ℕ) (now : ℤ) (r : IsReached p) (o : AreOpen p)

@@ -196,13 +196,13 @@ positive (suc n) e = one n where
 -- THE COURSE
 
 module _ (q : PairValue) (side : Side) (there : AreThere q) (wait delay : ℕ) where
-  record State (p : PairValue) (now : ℤ) (course : Course) : Type 0 where
-    reached : IsReached p
-    a : IsBegun p A
-    b : IsBegun p B
-    steps : Steps p (events_of course) q
-    owes : 1 ≤ left_in p side
-    in_time : GoesInTime wait delay now p side course
+  pub record State (p : PairValue) (now : ℤ) (course : Course) : Type 0 where
+    pub reached : IsReached p
+    pub a : IsBegun p A
+    pub b : IsBegun p B
+    pub steps : Steps p (events_of course) q
+    pub owes : 1 ≤ left_in p side
+    pub in_time : GoesInTime wait delay now p side course
 
   abbrev Ways : PairValue → Course → Type 0
   Ways p course =
@@ -213,7 +213,7 @@ module _ (q : PairValue) (side : Side) (there : AreThere q) (wait delay : ℕ) w
   begun_of p A a b = a
   begun_of p B a b = b
 
-  open_at : (p : PairValue) (now : ℤ) (course : Course) (of : Side) → State p now course → IsOpen (socket_of p of).block
+  pub open_at : (p : PairValue) (now : ℤ) (course : Course) (of : Side) → State p now course → IsOpen (socket_of p of).block
   open_at p now course of h =
       is_open p of h.reached
       (there_before p q of (begun_of p of h.a h.b) (by_steps p (events_of course) q h.reached h.a h.b h.steps of) (there_of q of there))
@@ -231,31 +231,31 @@ module _ (q : PairValue) (side : Side) (there : AreThere q) (wait delay : ℕ) w
       by (inr (inr it)) = inr (inr (inl it))
 
   module _ (p : PairValue) (now : ℤ) (x : ℤ × PairEvent) (course : Course) (h : State p now (x ∷ course)) where
-    abbrev m : PairValue
+    abbrev pub m : PairValue
     m = takes p x.1
 
-    moves : (of : Side) → MovesIn p m of
+    pub moves : (of : Side) → MovesIn p m of
     moves of = by_steps p (x.1 ∷ []) m h.reached h.a h.b (h.steps.0, refl) of
 
-    rm : IsReached m
+    pub rm : IsReached m
     rm = reached_by p m (x.1 ∷ []) h.reached (h.steps.0, refl)
 
-    begun_m : (of : Side) → IsBegun m of
+    pub begun_m : (of : Side) → IsBegun m of
     begun_m of = begun_after p m of (moves of) (begun_of p of h.a h.b)
 
-    from_m : (of : Side) → MovesIn m q of
+    pub from_m : (of : Side) → MovesIn m q of
     from_m of = by_steps m (events_of course) q rm (begun_m A) (begun_m B) h.steps.1 of
 
-    there_m : (of : Side) → is_synchronized (socket_of m of).block.state ≡ true
+    pub there_m : (of : Side) → is_synchronized (socket_of m of).block.state ≡ true
     there_m of = there_before m q of (begun_m of) (from_m of) (there_of q of there)
 
-    open_m : (of : Side) → IsOpen (socket_of m of).block
+    pub open_m : (of : Side) → IsOpen (socket_of m of).block
     open_m of = is_open m of rm (there_m of) (begun_m of).syn
 
     mine : IsOpen (socket_of p side).block
     mine = open_at p now (x ∷ course) side h
 
-    lifted : (of : Side) → HasRisen m q of → HasRisen p q of
+    pub lifted : (of : Side) → HasRisen m q of → HasRisen p q of
     lifted of (inl e) =
         inl (more (total_in p of) (left_in p of) (total_in m of) (left_in m of) (acked_in q of) (moves of).acked e) where
           more : (a b c d e : ℕ) → a + d ≤ c + b → c - d < e → a - b < e
@@ -271,7 +271,7 @@ module _ (q : PairValue) (side : Side) (there : AreThere q) (wait delay : ℕ) w
     lift (inr (inr (inr it))) = inr (inr (inr (inr it)))
 
     -- the stream, and the other's buffer
-    stream : HasStream (past_at m side)
+    pub stream : HasStream (past_at m side)
     stream = inr (more (length (past_at p side).written) (length (past_at m side).written) (wrote h.in_time.stream) (moves side).written) where
       more : (a b : ℕ) → 1 ≤ a → a ≤ b → 1 ≤ b
       more a b e f = omega arith
@@ -283,10 +283,10 @@ module _ (q : PairValue) (side : Side) (there : AreThere q) (wait delay : ℕ) w
       wrote (inl unclosed) = some (length (past_at p side).written) (ap one_if unclosed) (left_within p side h.reached mine) h.owes
       wrote (inr some) = some
 
-    room : 1 ≤ room_of (socket_of m (other side)).received
+    pub room : 1 ≤ room_of (socket_of m (other side)).received
     room = subst (λ (n : ℕ). 1 ≤ n) (sym (moves (other side)).room) h.in_time.room
 
-    tail : 1 ≤ left_in m side → State m x.0 course
+    pub tail : 1 ≤ left_in m side → State m x.0 course
     tail owes = record {
       reached = rm;
       a = begun_m A;
@@ -306,13 +306,13 @@ module _ (q : PairValue) (side : Side) (there : AreThere q) (wait delay : ℕ) w
     }
 
     -- more is acknowledged, or something isn't still
-    still_owes : acked_in m side ≤ acked_in p side → 1 ≤ left_in m side
+    pub still_owes : acked_in m side ≤ acked_in p side → 1 ≤ left_in m side
     still_owes e =
         by (total_in p side) (left_in p side) (total_in m side) (left_in m side) h.owes (left_within p side h.reached mine) (moves side).total e where
           by : (a b c d : ℕ) → 1 ≤ b → b ≤ a → a ≤ c → c - d ≤ a - b → 1 ≤ d
           by a b c d e f g h = omega arith
 
-    acked_to_end : acked_in m side ≤ acked_in q side
+    pub acked_to_end : acked_in m side ≤ acked_in q side
     acked_to_end = by (total_in m side) (total_in q side) (left_in m side) (left_in q side) (from_m side).acked where
       by : (a b c d : ℕ) → a + d ≤ b + c → a - c ≤ b - d
       by a b c d e = omega arith

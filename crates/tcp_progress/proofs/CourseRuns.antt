@@ -330,19 +330,17 @@ module _ (P : PairValue → List (ℤ × PairEvent) → Type 0)
 
 -- WITHIN THE SPAN
 
-pub starts_in_course :
+-- from a side with a timer
+pub runs_in_course :
     (P : PairValue → List (ℤ × PairEvent) → Type 0)
     → ((p : PairValue) (x : ℤ × PairEvent) (course : List (ℤ × PairEvent)) → P p (x ∷ course) → P (takes p x.1) course) → (p q : PairValue) (side : Side)
     → (course : List (ℤ × PairEvent)) (wait : ℕ) (now : ℤ) → IsReached p → AreOpen p → Steps p (events_of course) q
-    → is_synchronized (socket_of q side).block.state ≡ true → ((socket_of p side).block.sender.in_flight == 0) ≡ false
+    → is_synchronized (socket_of q side).block.state ≡ true → IsRunning (socket_of p side)
     → (at p.sides side).moment ≤ℤ now → IsClocked now course → AsksWithin wait now p course → P p course
     → ((now +ℤ pos (put_off_in p side)) +ℤ pos wait) <ℤ end_of now course
     → (acked_in p side < acked_in q side)
     ⊎ ((acked_in q side ≤ acked_in p side) × Start P p q side now ((now +ℤ pos (put_off_in p side)) +ℤ pos wait) course)
-starts_in_course P tail p q side course wait now r o s there_q flight clock clocked asks has over = by (nat_lt (acked_in p side) (acked_in q side)) refl where
-  it : IsRunning (socket_of p side)
-  it = is_running p side r flight
-
+runs_in_course P tail p q side course wait now r o s there_q it clock clocked asks has over = by (nat_lt (acked_in p side) (acked_in q side)) refl where
   near : it.at ≤ℤ ((at p.sides side).moment +ℤ pos 60_000_000)
   near = subst (λ (timer : Option ℤ). IsNear (at p.sides side).moment 60_000_000 timer) it.runs (timer_near p side r)
 
@@ -381,6 +379,19 @@ starts_in_course P tail p q side course wait now r o s there_q flight clock cloc
             })
             (waits_after now (put_off_in p side)) refl asks over,
       )
+
+-- from one with something in flight
+pub starts_in_course :
+    (P : PairValue → List (ℤ × PairEvent) → Type 0)
+    → ((p : PairValue) (x : ℤ × PairEvent) (course : List (ℤ × PairEvent)) → P p (x ∷ course) → P (takes p x.1) course) → (p q : PairValue) (side : Side)
+    → (course : List (ℤ × PairEvent)) (wait : ℕ) (now : ℤ) → IsReached p → AreOpen p → Steps p (events_of course) q
+    → is_synchronized (socket_of q side).block.state ≡ true → ((socket_of p side).block.sender.in_flight == 0) ≡ false
+    → (at p.sides side).moment ≤ℤ now → IsClocked now course → AsksWithin wait now p course → P p course
+    → ((now +ℤ pos (put_off_in p side)) +ℤ pos wait) <ℤ end_of now course
+    → (acked_in p side < acked_in q side)
+    ⊎ ((acked_in q side ≤ acked_in p side) × Start P p q side now ((now +ℤ pos (put_off_in p side)) +ℤ pos wait) course)
+starts_in_course P tail p q side course wait now r o s there_q flight =
+    runs_in_course P tail p q side course wait now r o s there_q (is_running p side r flight)
 
 pub begins_in_course :
     (p q : PairValue) (side : Side) (course : List (ℤ × PairEvent)) (wait : ℕ) (now : ℤ) → IsReached p → AreOpen p → Steps p (events_of course) q

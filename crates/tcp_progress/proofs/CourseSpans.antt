@@ -59,12 +59,12 @@ after_now now n = first_of (omega (arith, ints), grind (arith, ints))
 
 -- WHERE A SPAN ENDS
 
-record Cut (now limit : ℤ) (wait : ℕ) (course : Course) : Type 0 where
-  first : Course
-  rest : Course
-  is : course ≡ first ++ rest
-  over : limit <ℤ end_of now first
-  within : end_of now first ≤ℤ ((limit +ℤ pos 60_000_000) +ℤ pos wait)
+pub record Cut (now limit : ℤ) (wait : ℕ) (course : Course) : Type 0 where
+  pub first : Course
+  pub rest : Course
+  pub is : course ≡ first ++ rest
+  pub over : limit <ℤ end_of now first
+  pub within : end_of now first ≤ℤ ((limit +ℤ pos 60_000_000) +ℤ pos wait)
 
 begun_of : (p : PairValue) (side : Side) → IsBegun p A → IsBegun p B → IsBegun p side
 begun_of p A a b = a
@@ -168,7 +168,7 @@ module _ (p m : PairValue) (moves : (of : Side) → MovesIn p m of) where
   taken_on : (of : Side) → taken_in p of ≤ taken_in m of
   taken_on of = (moves of).taken
 
-  no_less : reached_in p ≤ reached_in m
+  pub no_less : reached_in p ≤ reached_in m
   no_less =
       four (acked_in p A) (taken_in p A) (acked_in p B) (taken_in p B) (acked_in m A) (taken_in m A) (acked_in m B) (taken_in m B) (acked_on A) (taken_on A)
       (acked_on B) (taken_on B)
@@ -176,7 +176,7 @@ module _ (p m : PairValue) (moves : (of : Side) → MovesIn p m of) where
       four : (a b c d e f g h : ℕ) → a ≤ e → b ≤ f → c ≤ g → d ≤ h → a + b + (c + d) ≤ e + f + (g + h)
       four a b c d e f g h x y z w = omega arith
 
-  one_more : (side : Side) → HasRisen p m side → reached_in p + 1 ≤ reached_in m
+  pub one_more : (side : Side) → HasRisen p m side → reached_in p + 1 ≤ reached_in m
   one_more A (inl rises) =
       four (acked_in p A) (taken_in p A) (acked_in p B) (taken_in p B) (acked_in m A) (taken_in m A) (acked_in m B) (taken_in m B) rises (taken_on A)
       (acked_on B) (taken_on B)
@@ -204,10 +204,10 @@ module _ (p m : PairValue) (moves : (of : Side) → MovesIn p m of) where
 
 -- SO MANY SPANS
 
-first_span : (now end : ℤ) (span more : ℕ) → (now +ℤ pos (2 * span + more)) <ℤ end → (now +ℤ pos span) <ℤ end
+pub first_span : (now end : ℤ) (span more : ℕ) → (now +ℤ pos (2 * span + more)) <ℤ end → (now +ℤ pos span) <ℤ end
 first_span now end span more e = first_of (omega (arith, ints), grind (arith, ints))
 
-other_spans :
+pub other_spans :
     (now mid end : ℤ) (span wait more : ℕ) → mid ≤ℤ (((now +ℤ pos span) +ℤ pos 60_000_000) +ℤ pos wait) → 60_000_000 + wait ≤ span
     → (now +ℤ pos (2 * span + more)) <ℤ end → (mid +ℤ pos more) <ℤ end
 other_spans now mid end span wait more e f g = first_of (omega (arith, ints), grind (arith, ints))
@@ -215,7 +215,7 @@ other_spans now mid end span wait more e f g = first_of (omega (arith, ints), gr
 minute_fits : (most wait delay : ℕ) → 60_000_000 + wait ≤ wait + ((most + 2) * 60_000_000 + wait + delay + delay)
 minute_fits most wait delay = omega arith
 
-times_suc : (n span : ℕ) → suc n * (2 * span) ≡ 2 * span + n * (2 * span)
+pub times_suc : (n span : ℕ) → suc n * (2 * span) ≡ 2 * span + n * (2 * span)
 times_suc n span = by n (2 * span) where
   by : (n w : ℕ) → suc n * w ≡ w + n * w
   by n w = first_of (omega arith, grind arith)
@@ -382,7 +382,7 @@ reached_in_spans (suc n) p q side course wait delay now r o s there c over =
     by rest false e = by_cut rest (positive (left_in p side) e) found
 
 -- each position of both streams is acknowledged once, and taken once
-all_reached :
+pub all_reached :
     (q : PairValue) → IsReached q → AreThere q → reached_in q ≤ most_reached q
 all_reached q r there =
     both (total_in q A) (left_in q A) (taken_in q A) (total_in q B) (left_in q B) (taken_in q B) (taken B) (taken A) where

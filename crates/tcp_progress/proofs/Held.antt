@@ -109,7 +109,7 @@ module _ (cx : ContextValue) (v : TcpValue) (pair : EndpointPair) (b : Block) (s
         by : (len most full all place : ℕ) → 1 ≤ len → len ≡ min most (min full (all - place)) → 1 ≤ all
         by len most full all place e f = omega arith
 
-  goes_text : has_text b pair.addresses cx.ip_mtu v.queued ≡ true →
+  pub goes_text : has_text b pair.addresses cx.ip_mtu v.queued ≡ true →
       SendsOut cx v (offer_choice Kind.Text cx (with_block (unoffered v) b) pair text)
   goes_text e = goes cx v pair b s Kind.Text text refl refl (some_goes text v.queued.queue at_una (text_parts e))
 
@@ -197,7 +197,7 @@ module _ (cx : ContextValue) (v : TcpValue) (pair : EndpointPair) (b : Block) (s
           more n e = omega arith
 
   -- where no text may go, the window holds it back
-  holds_back : has_text b pair.addresses cx.ip_mtu v.queued ≡ false → is_probing b all ≡ true
+  pub holds_back : has_text b pair.addresses cx.ip_mtu v.queued ≡ false → is_probing b all ≡ true
   holds_back none =
       both (sends_text b.state) _ s.sends
       (both (is_window_small b all) (b.sender.in_flight == 0) (small (is_window_small b all) refl) (eq-eqb b.sender.in_flight 0 s.none))
@@ -207,7 +207,7 @@ module _ (cx : ContextValue) (v : TcpValue) (pair : EndpointPair) (b : Block) (s
       small false e = clash (sym (text_where_wide e) ∙ none)
 
   -- and goes at its moment
-  held_goes : is_probing b all ≡ true → 1 ≤ b.reno.cwnd → SendsOut cx v (offer_held_back cx (with_block (unoffered v) b) pair)
+  pub held_goes : is_probing b all ≡ true → 1 ≤ b.reno.cwnd → SendsOut cx v (offer_held_back cx (with_block (unoffered v) b) pair)
   held_goes probes cwnd = at (b.peer.window == 0) refl where
     small : is_window_small b all ≡ true
     small = (parts (is_window_small b all) (b.sender.in_flight == 0) (parts (sends_text b.state) _ probes).1).0
@@ -280,7 +280,7 @@ of_block cx pair v x y s e q = record {
 }
 
 -- the moment is set where one is needed
-set_probe : (now : ℤ) (all : ℕ) (b : Block) → is_probing b all ≡ true → is_some (probe_started now all b).timers.probe_at ≡ true
+pub set_probe : (now : ℤ) (all : ℕ) (b : Block) → is_probing b all ≡ true → is_some (probe_started now all b).timers.probe_at ≡ true
 set_probe now all b probes = by b.timers.probe_at refl where
   unset : is_probe_unset b all ≡ is_none b.timers.probe_at
   unset = ap (λ (t : Bool). t && is_none b.timers.probe_at) probes

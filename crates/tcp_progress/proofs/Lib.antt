@@ -86,3 +86,9 @@ pub mod CourseGoes
 pub mod CourseParts
 pub mod CourseOwes
 pub mod CourseSpans
+pub mod Frees
+pub mod Idles
+pub mod OrWaits
+pub mod CourseIdle
+pub mod CourseWindows
+pub mod CourseThrough

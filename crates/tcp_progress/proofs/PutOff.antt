@@ -107,7 +107,7 @@ passes_small b (Some n) by e = tested (is_answering b.state) e where
 none_moved : (una by : ℕ) → by < 2 ^ 32 → (una + by) % 2 ^ 32 ≡ una → by ≡ 0
 none_moved una by a e = omega arith
 
-moved_stays :
+pub moved_stays :
     (b : Block) (by queued : ℕ) (now : ℤ) → by < 2 ^ 32 → behind_by b.sender.una by ≡ b.sender.una
     → (una_moved b by queued now).timers.retransmit_at ≡ b.timers.retransmit_at
 moved_stays b by queued now small same =

@@ -602,8 +602,14 @@ new_wide : (room : ℕ) (ring : Ring ℕ) → WideIn (new_socket room ring)
 new_wide room ring = record { reno = wide_fresh None; undo = tt; peer = omega arith }
 
 -- of each side of a pair that events led to
-pub reached_cwnd : (p : PairValue) (side : Side) → IsReached p → 1 ≤ (socket_of p side).block.reno.cwnd
-reached_cwnd p side r =
+reached_wide : (p : PairValue) (side : Side) → IsReached p → IsWide (socket_of p side).block.reno
+reached_wide p side r =
     (of_side WideIn p.sides side
     (by_steps WideIn event_wide (λ v w. w) (new_pair (new_socket r.room_a r.ring_a) (new_socket r.room_b r.ring_b)) r.events p r.steps
-    (record { first = new_wide r.room_a r.ring_a; second = new_wide r.room_b r.ring_b }))).reno.cwnd
+    (record { first = new_wide r.room_a r.ring_a; second = new_wide r.room_b r.ring_b }))).reno
+
+pub reached_cwnd : (p : PairValue) (side : Side) → IsReached p → 1 ≤ (socket_of p side).block.reno.cwnd
+reached_cwnd p side r = (reached_wide p side r).cwnd
+
+pub reached_mss : (p : PairValue) (side : Side) → IsReached p → 1 ≤ (socket_of p side).block.reno.mss
+reached_mss p side r = (reached_wide p side r).mss

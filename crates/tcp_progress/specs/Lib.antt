@@ -26,3 +26,4 @@ pub mod Anew
 pub mod Course
 pub mod Spans
 pub mod LastAck
+pub mod Readers

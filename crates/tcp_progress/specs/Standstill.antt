@@ -1,10 +1,11 @@
 -- Two sides of which each took what the other doesn't know of: all that either sends again is old to the other. Under rules that set a
 -- bare acknowledgement at SND.NXT and drop the acknowledgement of old text, neither ever learns of it, on a perfect link.
-use Rattle.std.specs.Prelude.{pos, true, [], ◌∷◌, replicate}
+use Rattle.std.specs.Prelude.{ℤ, pos, true, List, [], ◌∷◌, ◌++◌, replicate}
 use Rattle.net_base.specs.Ring.{ring}
 use Rattle.tcp_model.specs.Value.{TcpValue, new_socket}
 use Rattle.tcp_tie.specs.declared.pair.event.Side.TheVariants.{A, B}
-use Rattle.tcp_tie.specs.declared.pair.event.PairEvent.TheVariants.{Send, Recv, Offer, Deliver}
+use Rattle.tcp_tie.specs.declared.pair.event.PairEvent.{PairEvent}
+use Rattle.tcp_pair_model.specs.declared.event.PairEvent.TheVariants.{Send, Recv, Offer, Deliver}
 use Rattle.tcp_tie.specs.Pair.Examples.{run}
 use Rattle.tcp_tie.specs.Pair.Values.{PairValue, new_pair}
 use Rattle.tcp_progress.specs.Met.{opening}
@@ -44,3 +45,32 @@ crossed =
 -- six rounds of a good link
 abbrev pub healed : PairValue
 healed = (rounds 6 (linked crossed)).pair
+
+-- A byte of abc went and was taken, and B's window is closed; A waits for a probe. Then B's user reads, and B tells of it.
+abbrev pub held_back : PairValue
+held_back =
+    run opened
+    (Send A (97 ∷ 98 ∷ 99 ∷ [])
+    ∷ Offer A (pos 0) true
+    ∷ Deliver A 2
+    ∷ Offer B (pos 10_000) true
+    ∷ Deliver B 1
+    ∷ Offer A (pos 10_000) true
+    ∷ Recv B 8
+    ∷ Offer B (pos 10_000) true
+    ∷ [])
+
+-- The link repeats two segments of B, of which one opens the window and the other closes it, and then A is asked.
+abbrev pub repeated : ℤ → List PairEvent
+repeated moment = Deliver B 2 ∷ Deliver B 1 ∷ Offer A moment true ∷ []
+
+-- so it is six times in three seconds
+abbrev pub starved : PairValue
+starved =
+    run held_back
+    (repeated (pos 500_000)
+    ++ repeated (pos 1_000_000)
+    ++ repeated (pos 1_500_000)
+    ++ repeated (pos 2_000_000)
+    ++ repeated (pos 2_500_000)
+    ++ repeated (pos 3_000_000))

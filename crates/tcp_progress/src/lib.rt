@@ -10,6 +10,7 @@ pub mod latency;
 pub mod laws;
 pub mod met;
 pub mod near;
+pub mod readers;
 pub mod restart;
 pub mod settle;
 pub mod standstill;

@@ -1,9 +1,10 @@
 //! Two sides that each took what the other doesn't know of, on numerals, which the check computes.
 
-ghost use Rattle.std.specs.Prelude.{◌≡◌, [], ◌∷◌, length};
+ghost use Rattle.std.specs.Prelude.{◌≡◌, pos, [], ◌∷◌, length, Some};
 ghost use Rattle.tcp_tie.specs.Pair.Safe.{read};
 ghost use Rattle.tcp_tie.specs.declared.pair.event.Side.TheVariants.{A, B};
-ghost use Rattle.tcp_progress.specs.Standstill.{crossed, healed};
+ghost use Rattle.tcp_pair_model.specs.Value.{free_in};
+ghost use Rattle.tcp_progress.specs.Standstill.{crossed, healed, held_back, starved};
 
 /// Each has two bytes of the other, and knows that one of its own was taken. After six rounds of a good link all has been read, and
 /// both sides know it.
@@ -14,4 +15,13 @@ pub fn sides_that_both_send_again_go_on()
     ensures read_b { read healed B ≡ 97 ∷ 98 ∷ 99 ∷ [] }
     ensures known_a { healed.sides.a.socket.queued.queue ≡ [] }
     ensures known_b { healed.sides.b.socket.queued.queue ≡ [] }
+{}
+
+/// What `StaysOpen` excludes: where the link repeats an old segment that opens a window and one that closes it, so that neither the one nor the
+/// other lasts until the side is asked, no probe goes in three seconds. The other's user has read, and its buffer is free.
+pub fn windows_that_close_again_starve_a_probe()
+    ensures free { free_in held_back.sides.b.socket ≡ 1 }
+    ensures waits { held_back.sides.a.socket.block.timers.probe_at ≡ Some (pos 1_010_000) }
+    ensures none { length starved.sides.a.sent ≡ length held_back.sides.a.sent }
+    ensures left { starved.sides.a.socket.queued.queue ≡ 98 ∷ 99 ∷ [] }
 {}

@@ -1,0 +1,614 @@
+-- A side with nothing in flight, and no timer, sends within a minute and twice what it is let wait, whatever its windows are.
+use Rattle.std.proofs.Common.{◌≡◌, ◌⊎◌, inl, inr, ℕ, ◌+◌, ◌-◌, ◌<◌, ◌≤◌, nat_lt, ℤ, pos, ◌+ℤ◌, ◌≤ℤ◌, ◌<ℤ◌, int_lt, int_le, Bool, true, false}
+use Rattle.std.proofs.Common.{if◌then◌else◌, [], ◌∷◌, Option, Some, None, is_none, is_some, refl, sym, ap, ◌∙◌, subst, arith}
+use Rattle.std.proofs.lemmas.Bool.{ltb-false, ltb-true}
+use Rattle.std.proofs.lemmas.Int.{ints}
+use Rattle.std.proofs.lemmas.Option.{slice_get_within}
+use Rattle.tcp_tie.specs.Offers.{IsBefore}
+use Rattle.tcp_tie.specs.PollAt.{PollAt}
+use Rattle.tcp_model.proofs.Waits.{is_quiet}
+use Rattle.tcp_model.specs.Quiet.{IsQuiet}
+use Rattle.tcp_rules.specs.EndpointPair.{EndpointPair}
+use Rattle.tcp_rules.specs.Moments.{is_due}
+use Rattle.tcp_rules.proofs.OfferCases.{begun as asked_with}
+use Rattle.tcp_rules.proofs.OrderSteps.{clash}
+use Rattle.tcp_pair_model.specs.Due.{poll_of}
+use Rattle.tcp_pair_model.specs.Probing.{is_probing}
+use Rattle.tcp_pair_model.specs.Sides.{at, other}
+use Rattle.tcp_pair_model.specs.Value.{free_in, queued_in}
+use Rattle.tcp_pair_model.specs.Values.{PairValue}
+use Rattle.tcp_pair_model.specs.declared.event.PairEvent.{PairEvent}
+use Rattle.tcp_pair_model.specs.declared.event.PairEvent.TheVariants.{Listen, Connect, Send, Recv, Close, Abort, TcpSetting, Offer, Deliver}
+use Rattle.tcp_pair_model.specs.declared.event.Side.{Side}
+use Rattle.tcp_pair_model.specs.declared.event.Side.TheVariants.{A, B}
+use Rattle.tcp_progress.specs.Arrivals.{is_synchronized}
+use Rattle.tcp_progress.specs.BothWays.{AreThere, total_in}
+use Rattle.tcp_progress.specs.Course.{Asks, IsAskedBy, IsAt, IsShutAmong, IsTaken, Wants, end_of}
+use Rattle.tcp_progress.specs.Exchange.{IsOpen}
+use Rattle.tcp_progress.specs.Near.{IsNear}
+use Rattle.tcp_progress.specs.Onward.{HasRisen, acked_in}
+use Rattle.tcp_progress.specs.Pair.{context_of, left_in, next_sent, socket_of}
+use Rattle.tcp_progress.specs.PutOff.{CarriesIn, ProbesAt}
+use Rattle.tcp_progress.specs.Reached.{IsReached}
+use Rattle.tcp_progress.specs.Readers.{IsLet, StaysOpen}
+use Rattle.tcp_progress.specs.Rounds.{takes}
+use Rattle.tcp_progress.specs.Sent.{taken_in}
+use Rattle.tcp_progress.proofs.CourseExchange.{exchange_in_time}
+use Rattle.tcp_progress.proofs.CourseGoes.{Goes}
+use Rattle.tcp_progress.proofs.CourseOwes.{State, acked_to_end, begun_m, from_m, lifted, moves, open_at, open_m, rm, room, still_owes, stream, tail, there_m}
+use Rattle.tcp_progress.proofs.CourseParts.{Course}
+use Rattle.tcp_progress.proofs.CourseRuns.{poll_is}
+use Rattle.tcp_progress.proofs.Frees.{frees_on, never_shut}
+use Rattle.tcp_progress.proofs.Held.{holds_back}
+use Rattle.tcp_progress.proofs.Idles.{IsIdle, idle_on}
+use Rattle.tcp_progress.proofs.LateText.{left_within}
+use Rattle.tcp_progress.proofs.Mirrored.{named_in}
+use Rattle.tcp_progress.proofs.OfItself.{sends_there}
+use Rattle.tcp_progress.proofs.OnwardPairs.{MovesIn}
+use Rattle.tcp_progress.proofs.OrWaits.{WaitsIn, goes_or_waits}
+use Rattle.tcp_progress.proofs.Pair.{not_closed}
+use Rattle.tcp_progress.proofs.PairTimers.{probe_near}
+use Rattle.tcp_progress.proofs.PutOffProbes.{held_back}
+use Rattle.tcp_progress.proofs.Resent.{again_sent}
+use Rattle.tcp_progress.proofs.Resumes.{StartsWith, both}
+
+-- MOMENTS
+
+not_both : (last end : ℤ) → end ≤ℤ last → last <ℤ end → ⊥
+not_both last end e f = first_of (omega (arith, ints), grind (arith, ints))
+
+upto : (a b c : ℤ) → a ≤ℤ b → b ≤ℤ c → a ≤ℤ c
+upto a b c e f = grind arith
+
+itself : (a : ℤ) → a ≤ℤ a
+itself a = grind arith
+
+later : (now : ℤ) (n : ℕ) → now ≤ℤ (now +ℤ pos n)
+later now n = first_of (omega (arith, ints), grind (arith, ints))
+
+more_time : (a b : ℤ) (n : ℕ) → a ≤ℤ b → (a +ℤ pos n) ≤ℤ (b +ℤ pos n)
+more_time a b n e = first_of (omega (arith, ints), grind (arith, ints))
+
+below : (due now : ℤ) → int_lt due now ≡ true → due ≤ℤ now
+below due now e = first_of (omega (arith, ints), grind (arith, ints))
+
+not_below : (due now : ℤ) → int_lt due now ≡ false → now ≤ℤ due
+not_below due now e = first_of (omega (arith, ints), grind (arith, ints))
+
+come : (when now : ℤ) → when ≤ℤ now → is_due now (Some when) ≡ true
+come when now e = by (int_le when now) refl where
+  never : int_le when now ≡ false → ⊥
+  never so = first_of (omega (arith, ints), grind (arith, ints))
+
+  by : (due : Bool) → int_le when now ≡ due → due ≡ true
+  by true so = refl
+  by false so = absurd (never so)
+
+sooner : (a b end : ℤ) (n : ℕ) → a ≤ℤ b → (b +ℤ pos n) <ℤ end → (a +ℤ pos n) <ℤ end
+sooner a b end n e f = first_of (omega (arith, ints), grind (arith, ints))
+
+less_time : (a end : ℤ) (n : ℕ) → (a +ℤ pos n) <ℤ end → a <ℤ end
+less_time a end n e = first_of (omega (arith, ints), grind (arith, ints))
+
+two_segments : (a end : ℤ) (delay : ℕ) → (a +ℤ pos (delay + delay)) <ℤ end → ((a +ℤ pos delay) +ℤ pos delay) <ℤ end
+two_segments a end delay e = first_of (omega (arith, ints), grind (arith, ints))
+
+-- WHETHER IT IS ASKED
+
+is_asked : (side : Side) (event : PairEvent) → Asks side event ⊎ (Asks side event → ⊥)
+is_asked A (Offer A moment true) = inl refl
+is_asked B (Offer B moment true) = inl refl
+is_asked A (Offer B moment true) = inr (λ e. absurd (cc))
+is_asked B (Offer A moment true) = inr (λ e. absurd (cc))
+is_asked side (Offer of moment false) = inr (λ never. never)
+is_asked side (Listen of endpoint) = inr (λ never. never)
+is_asked side (Connect of remote local) = inr (λ never. never)
+is_asked side (Send of bytes) = inr (λ never. never)
+is_asked side (Recv of count) = inr (λ never. never)
+is_asked side (Close of) = inr (λ never. never)
+is_asked side (Abort of) = inr (λ never. never)
+is_asked side (TcpSetting of setting) = inr (λ never. never)
+is_asked side (Deliver from k) = inr (λ never. never)
+
+carries_asks : (p : PairValue) (side : Side) (event : PairEvent) → CarriesIn p side event → Asks side event
+carries_asks p side (Offer of moment true) some = some.0
+carries_asks p side (Offer of moment false) never = absurd never
+carries_asks p side (Listen of endpoint) never = absurd never
+carries_asks p side (Connect of remote local) never = absurd never
+carries_asks p side (Send of bytes) never = absurd never
+carries_asks p side (Recv of count) never = absurd never
+carries_asks p side (Close of) never = absurd never
+carries_asks p side (Abort of) never = absurd never
+carries_asks p side (TcpSetting of setting) never = absurd never
+carries_asks p side (Deliver from k) never = absurd never
+
+-- WHAT AN EVENT LEAVES
+
+abbrev pub probing_in : PairValue → Side → Bool
+probing_in p side = is_probing (socket_of p side).block (queued_in (socket_of p side))
+
+-- It is idle still; a probe that waits does so as long as a window holds text back, which none does anew; and where the side was asked, the moment
+-- of a probe is set, and it wasn't due.
+pub record StaysIdle (p : PairValue) (side : Side) (now : ℤ) (event : PairEvent) : Type 0 where
+  pub idle : IsIdle (socket_of (takes p event) side)
+  pub kept : (at : ℤ) → ProbesAt at (socket_of p side) → probing_in (takes p event) side ≡ true → ProbesAt at (socket_of (takes p event) side)
+  pub fresh : probing_in p side ≡ false → probing_in (takes p event) side ≡ true → ⊥
+  pub asked :
+      Asks side event
+      → (probing_in p side ≡ true)
+      × (((at : ℤ) → ProbesAt at (socket_of p side) → is_due now (Some at) ≡ false)
+      × (is_some (socket_of (takes p event) side).block.timers.probe_at ≡ true))
+
+asked_idle :
+    (p : PairValue) (side : Side) (moment now : ℤ) → moment ≡ now → IsReached p → IsOpen (socket_of p side).block → 1 ≤ left_in p side
+    → IsIdle (socket_of p side) → is_synchronized (socket_of (takes p (Offer side moment true)) side).block.state ≡ true
+    → Goes p side (Offer side moment true) ⊎ StaysIdle p side now (Offer side moment true)
+asked_idle p side moment now same r mine owes idle stays = by (goes_or_waits p side moment r mine owes (inl idle.none) stays) where
+  not_due : is_due moment (socket_of p side).block.timers.retransmit_at ≡ false
+  not_due = ap (is_due moment) idle.timer
+
+  waits : WaitsIn p side moment → StaysIdle p side now (Offer side moment true)
+  waits w = record {
+    idle = record { none = w.waits.none; timer = w.waits.timer_is ∙ ((w.runs not_due).0 ∙ idle.timer) };
+    kept = λ at e _. w.waits.kept at e;
+    fresh = λ not _. clash (sym (w.runs not_due).1 ∙ not);
+    asked = λ _. ((w.runs not_due).1, ((λ at e. ap (λ (m : ℤ). is_due m (Some at)) (sym same) ∙ w.early at e), w.waits.some));
+  }
+
+  by : {X : Type 0} → Goes p side (Offer side moment true) ⊎ (WaitsIn p side moment × X) → Goes p side (Offer side moment true) ⊎ StaysIdle p side now (Offer side moment true)
+  by (inl goes) = inl goes
+  by (inr w) = inr (waits w.0)
+
+asked_by :
+    (p : PairValue) (side : Side) (event : PairEvent) (now : ℤ) → Asks side event → IsAt now event → IsReached p → IsOpen (socket_of p side).block
+    → 1 ≤ left_in p side → IsIdle (socket_of p side) → is_synchronized (socket_of (takes p event) side).block.state ≡ true
+    → Goes p side event ⊎ StaysIdle p side now event
+asked_by p A (Offer A moment true) now asks is r mine owes idle stays = asked_idle p A moment now is r mine owes idle stays
+asked_by p B (Offer B moment true) now asks is r mine owes idle stays = asked_idle p B moment now is r mine owes idle stays
+asked_by p A (Offer B moment true) now asks is r mine owes idle stays = absurd (cc)
+asked_by p B (Offer A moment true) now asks is r mine owes idle stays = absurd (cc)
+asked_by p side (Offer of moment false) now never is r mine owes idle stays = absurd never
+asked_by p side (Listen of endpoint) now never is r mine owes idle stays = absurd never
+asked_by p side (Connect of remote local) now never is r mine owes idle stays = absurd never
+asked_by p side (Send of bytes) now never is r mine owes idle stays = absurd never
+asked_by p side (Recv of count) now never is r mine owes idle stays = absurd never
+asked_by p side (Close of) now never is r mine owes idle stays = absurd never
+asked_by p side (Abort of) now never is r mine owes idle stays = absurd never
+asked_by p side (TcpSetting of setting) now never is r mine owes idle stays = absurd never
+asked_by p side (Deliver from k) now never is r mine owes idle stays = absurd never
+
+-- where it isn't asked
+other_by :
+    (p : PairValue) (side : Side) (event : PairEvent) (now : ℤ) → (Asks side event → ⊥) → IsTaken event
+    → is_synchronized (socket_of p side).block.state ≡ true → IsIdle (socket_of p side)
+    → (socket_of (takes p event) side).block.sender.una ≡ (socket_of p side).block.sender.una
+    → (IsLet (socket_of p side) → Asks side event ⊎ (probing_in (takes p event) side ≡ false)) → StaysIdle p side now event
+other_by p side event now unasked taken there idle una stays_open = record {
+  idle = idle_on p side event taken unasked there idle una;
+  kept = λ at probes held. kept at (held_back p side event at probes held);
+  fresh = λ lets held. fresh held (stays_open (record { none = idle.none; lets = lets }));
+  asked = λ asks. absurd (unasked asks);
+}
+  where
+    kept : (at : ℤ) → ProbesAt at (socket_of (takes p event) side) ⊎ CarriesIn p side event → ProbesAt at (socket_of (takes p event) side)
+    kept at (inl stays) = stays
+    kept at (inr carries) = absurd (unasked (carries_asks p side event carries))
+
+    fresh : probing_in (takes p event) side ≡ true → Asks side event ⊎ (probing_in (takes p event) side ≡ false) → ⊥
+    fresh held (inl asks) = unasked asks
+    fresh held (inr lets) = clash (sym held ∙ lets)
+
+-- WHAT IT WANTS
+
+starts_idle :
+    (p : PairValue) (side : Side) (due : ℤ) → IsReached p → IsOpen (socket_of p side).block → 1 ≤ left_in p side → IsIdle (socket_of p side)
+    → (pair : EndpointPair) → StartsWith (context_of p side due) (socket_of p side) pair (asked_with (context_of p side due) (socket_of p side))
+starts_idle p side due r mine owes idle pair = record {
+  sends = sends_there p side r mine.synchronized mine.acknowledged owes;
+  syn = mine.acknowledged;
+  none = idle.none;
+  owes = owes;
+  mss = refl;
+  stamp = refl;
+  again = again_sent p side r mine.acknowledged pair.addresses 1500 (socket_of p side).queued;
+}
+
+module _ (p : PairValue) (side : Side) (due : ℤ) (r : IsReached p) (mine : IsOpen (socket_of p side).block) (owes : 1 ≤ left_in p side)
+    (idle : IsIdle (socket_of p side)) where
+  named : (pair : EndpointPair) × ((socket_of p side).block.names.pair ≡ Some pair)
+  named = named_in p side r mine.synchronized
+
+  quiet : IsBefore due (poll_of 1500 (socket_of p side)) → IsQuiet (context_of p side due) (socket_of p side) named.0
+  quiet before =
+      is_quiet (context_of p side due) (socket_of p side) named.0
+      (subst (λ (at : PollAt). IsBefore due at)
+      (poll_is (socket_of p side) named.0 named.1 (not_closed (socket_of p side).block.state mine.synchronized)) before)
+
+  -- nothing holds it back
+  wants_open : probing_in p side ≡ false → Wants due p side
+  wants_open lets before =
+      clash
+      (sym
+      (holds_back (context_of p side due) (socket_of p side) named.0 (asked_with (context_of p side due) (socket_of p side))
+      (starts_idle p side due r mine owes idle named.0) (quiet before).text)
+      ∙ lets)
+
+  -- no moment of a probe is set
+  wants_unset : probing_in p side ≡ true → (socket_of p side).block.timers.probe_at ≡ None → Wants due p side
+  wants_unset probes none before =
+      clash
+      (sym (both (probing_in p side) (is_none (socket_of p side).block.timers.probe_at) probes (ap is_none none)) ∙ (quiet before).probe_set)
+
+  -- it has come
+  wants_probe : (at : ℤ) → probing_in p side ≡ true → ProbesAt at (socket_of p side) → at ≤ℤ due → Wants due p side
+  wants_probe at probes waits e before =
+      clash
+      (sym
+      (ap (λ (t : Bool). is_due due (if t then (socket_of p side).block.timers.probe_at else None)) probes ∙ (ap (is_due due) waits ∙ come at due e))
+      ∙ (quiet before).probe)
+
+-- within a minute it does
+pub wants_soon :
+    (p : PairValue) (side : Side) (now : ℤ) → IsReached p → IsOpen (socket_of p side).block → 1 ≤ left_in p side → IsIdle (socket_of p side)
+    → (at p.sides side).moment ≤ℤ now → Wants (now +ℤ pos 60_000_000) p side
+wants_soon p side now r mine owes idle clock = by (probing_in p side) refl where
+  due : ℤ
+  due = now +ℤ pos 60_000_000
+
+  at_moment : (t : Option ℤ) → (socket_of p side).block.timers.probe_at ≡ t → probing_in p side ≡ true → Wants due p side
+  at_moment None e probes = wants_unset p side due r mine owes idle probes e
+  at_moment (Some m) e probes =
+      wants_probe p side due r mine owes idle m probes e
+      (upto m ((at p.sides side).moment +ℤ pos 60_000_000) due
+      (subst (λ (t : Option ℤ). IsNear (at p.sides side).moment 60_000_000 t) e (probe_near p side r))
+      (more_time (at p.sides side).moment now 60_000_000 clock))
+
+  by : (t : Bool) → probing_in p side ≡ t → Wants due p side
+  by false e = wants_open p side due r mine owes idle e
+  by true e = at_moment (socket_of p side).block.timers.probe_at refl e
+
+-- THE COURSE
+
+module _ (q : PairValue) (side : Side) (there : AreThere q) (wait delay : ℕ) where
+  -- a side that owes something, of which the other's window is open
+  pub record Open (p : PairValue) (now : ℤ) (course : Course) : Type 0 where
+    pub state : State q side there wait delay p now course
+    pub stays : StaysOpen p side course
+    pub free : 1 ≤ free_in (socket_of p (other side))
+
+  abbrev pub Gets : PairValue → Type 0
+  Gets p = HasRisen p q side ⊎ HasRisen p q (other side)
+
+  -- if a probe waits, then it does for a moment that is no later
+  abbrev IsBy : ℤ → PairValue → Type 0
+  IsBy due p = probing_in p side ≡ true → (at : ℤ) × (ProbesAt at (socket_of p side) × (at ≤ℤ due))
+
+  module _ (p : PairValue) (now : ℤ) (x : ℤ × PairEvent) (course : Course) (o : Open p now (x ∷ course)) where
+    abbrev h : State q side there wait delay p now (x ∷ course)
+    h = o.state
+
+    abbrev m : PairValue
+    m = takes p x.1
+
+    mine : IsOpen (socket_of p side).block
+    mine = open_at q side there wait delay p now (x ∷ course) side h
+
+    theirs : IsOpen (socket_of p (other side)).block
+    theirs = open_at q side there wait delay p now (x ∷ course) (other side) h
+
+    first : (of : Side) → MovesIn p m of
+    first of = moves q side there wait delay p now x course h of
+
+    onward : (of : Side) → MovesIn m q of
+    onward of = from_m q side there wait delay p now x course h of
+
+    -- what is reached behind the event
+    lift : Gets m → Gets p
+    lift (inl risen) = inl (lifted q side there wait delay p now x course h side risen)
+    lift (inr risen) = inr (lifted q side there wait delay p now x course h (other side) risen)
+
+    -- with the event more is acknowledged, or taken
+    acked_now : acked_in p side < acked_in m side → Gets p
+    acked_now e = inl (inl (less (acked_in p side) (acked_in m side) (acked_in q side) e (acked_to_end q side there wait delay p now x course h))) where
+      less : (a b c : ℕ) → a < b → b ≤ c → a < c
+      less a b c e f = omega arith
+
+    taken_now : taken_in p (other side) < taken_in m (other side) → Gets p
+    taken_now e = inr (inr (less (taken_in p (other side)) (taken_in m (other side)) (taken_in q (other side)) e (onward (other side)).taken)) where
+      less : (a b c : ℕ) → a < b → b ≤ c → a < c
+      less a b c e f = omega arith
+
+    -- or neither
+    on : acked_in m side ≤ acked_in p side → free_in (socket_of p (other side)) ≤ free_in (socket_of m (other side)) → Open m x.0 course
+    on e f = record {
+      state = tail q side there wait delay p now x course h (still_owes q side there wait delay p now x course h e);
+      stays = o.stays.1;
+      free = more (free_in (socket_of p (other side))) (free_in (socket_of m (other side))) o.free f;
+    }
+      where
+        more : (a b : ℕ) → 1 ≤ a → a ≤ b → 1 ≤ b
+        more a b e f = omega arith
+
+    -- SND.UNA stays, where no more is acknowledged
+    same_una : acked_in m side ≤ acked_in p side → (socket_of m side).block.sender.una ≡ (socket_of p side).block.sender.una
+    same_una e = by ((first side).una (not_closed (socket_of m side).block.state (there_m q side there wait delay p now x course h side))) where
+      never : (a b c d : ℕ) → b ≤ a → a + d < c + b → c - d ≤ a - b → ⊥
+      never a b c d e f g = absurd (omega arith)
+
+      by :
+          (((socket_of m side).block.sender.una ≡ (socket_of p side).block.sender.una)
+          × ((socket_of p side).block.sender.top ≤ (socket_of m side).block.sender.top))
+          ⊎ (total_in p side + left_in m side < total_in m side + left_in p side)
+          → (socket_of m side).block.sender.una ≡ (socket_of p side).block.sender.una
+      by (inl same) = same.0
+      by (inr risen) =
+          absurd
+          (never (total_in p side) (left_in p side) (total_in m side) (left_in m side) (left_within p side h.reached mine) risen e)
+
+    -- a segment went, and comes
+    pub goes : Goes p side x.1 → (x.0 +ℤ pos (delay + delay)) <ℤ end_of x.0 course → free_in (socket_of p (other side)) ≤ free_in (socket_of m (other side)) →
+        Gets p
+    goes it over kept =
+        by
+        (exchange_in_time m q side (next_sent p side) it.x course delay x.0 (rm q side there wait delay p now x course h)
+        (open_m q side there wait delay p now x course h A, open_m q side there wait delay p now x course h B) h.steps.1 there
+        (stream q side there wait delay p now x course h) (room q side there wait delay p now x course h) it.goes it.sent
+        (h.in_time.delivers.0 side (next_sent p side) (same (next_sent p side)) (slice_get_within (at m.sides side).sent (next_sent p side) it.x it.sent))
+        h.in_time.clocked.1.1 h.in_time.delivers.1 h.in_time.heard.1 (two_segments x.0 (end_of x.0 course) delay over))
+      where
+        same : (n : ℕ) → n ≤ n
+        same n = omega arith
+
+        free : 1 ≤ free_in (socket_of m (other side))
+        free = more (free_in (socket_of p (other side))) (free_in (socket_of m (other side))) o.free kept where
+          more : (a b : ℕ) → 1 ≤ a → a ≤ b → 1 ≤ b
+          more a b e f = omega arith
+
+        by : HasRisen m q side ⊎ (HasRisen m q (other side) ⊎ IsShutAmong m side (next_sent p side) course) → Gets p
+        by (inl risen) = lift (inl risen)
+        by (inr (inl risen)) = lift (inr risen)
+        by (inr (inr shut)) =
+            lift
+            (inr
+            (inr
+            (never_shut m q side (next_sent p side) course (rm q side there wait delay p now x course h)
+            (begun_m q side there wait delay p now x course h A) (begun_m q side there wait delay p now x course h B) h.steps.1 there free shut)))
+
+    -- of a side that is idle
+    pub idles_on : IsIdle (socket_of p side) → (x.0 +ℤ pos (delay + delay)) <ℤ end_of x.0 course →
+        Gets p ⊎ (Open m x.0 course × StaysIdle p side x.0 x.1)
+    idles_on idle over = by (nat_lt (acked_in p side) (acked_in m side)) refl where
+      mine_m : is_synchronized (socket_of m side).block.state ≡ true
+      mine_m = there_m q side there wait delay p now x course h side
+
+      asked : acked_in m side ≤ acked_in p side → free_in (socket_of p (other side)) ≤ free_in (socket_of m (other side)) →
+          Goes p side x.1 ⊎ StaysIdle p side x.0 x.1 → Gets p ⊎ (Open m x.0 course × StaysIdle p side x.0 x.1)
+      asked e f (inl it) = inl (goes it over f)
+      asked e f (inr stays) = inr (on e f, stays)
+
+      either : acked_in m side ≤ acked_in p side → Asks side x.1 ⊎ (Asks side x.1 → ⊥) → Goes p side x.1 ⊎ StaysIdle p side x.0 x.1
+      either e (inl asks) = asked_by p side x.1 x.0 asks h.in_time.clocked.1.0 h.reached mine h.owes idle mine_m
+      either e (inr not) = inr (other_by p side x.1 x.0 not h.in_time.taken.0 mine.synchronized idle (same_una e) o.stays.0)
+
+      taking : acked_in m side ≤ acked_in p side →
+          (free_in (socket_of p (other side)) ≤ free_in (socket_of m (other side))) ⊎ (taken_in p (other side) < taken_in m (other side)) →
+          Gets p ⊎ (Open m x.0 course × StaysIdle p side x.0 x.1)
+      taking e (inl f) = asked e f (either e (is_asked side x.1))
+      taking e (inr taken) = inl (taken_now taken)
+
+      by : (risen : Bool) → nat_lt (acked_in p side) (acked_in m side) ≡ risen → Gets p ⊎ (Open m x.0 course × StaysIdle p side x.0 x.1)
+      by true e = inl (acked_now (ltb-true (acked_in p side) (acked_in m side) e))
+      by false e = taking (ltb-false (acked_in p side) (acked_in m side) e) (frees_on p x.1 (other side) theirs.synchronized)
+
+  -- another clock before the first event
+  with_clock : (p : PairValue) (now due : ℤ) (x : ℤ × PairEvent) (course : Course) → Open p now (x ∷ course) → now ≤ℤ due → due ≤ℤ x.0 → Open p due (x ∷ course)
+  with_clock p now due x course o before after =
+      let c = o.state.in_time in
+      record {
+        state = record {
+          reached = o.state.reached;
+          a = o.state.a;
+          b = o.state.b;
+          steps = o.state.steps;
+          owes = o.state.owes;
+          in_time = record {
+            clock = upto (at p.sides side).moment now due c.clock before;
+            clocked = (after, c.clocked.1);
+            asks = ((λ of moment late wants. c.asks.0 of moment (upto now due moment before late) wants), c.asks.1);
+            taken = c.taken;
+            delivers = c.delivers;
+            heard = c.heard;
+            stream = c.stream;
+            room = c.room;
+          };
+        };
+        stays = o.stays;
+        free = o.free;
+      }
+
+  mine_at : (p : PairValue) (now : ℤ) (course : Course) → Open p now course → IsOpen (socket_of p side).block
+  mine_at p now course o = open_at q side there wait delay p now course side o.state
+
+  -- it wants to be asked then
+  wants_by : (p : PairValue) (now : ℤ) (course : Course) (due : ℤ) → Open p now course → IsIdle (socket_of p side) → IsBy due p → Wants due p side
+  wants_by p now course due o idle by_then = by (probing_in p side) refl where
+    by : (t : Bool) → probing_in p side ≡ t → Wants due p side
+    by false e = wants_open p side due o.state.reached (mine_at p now course o) o.state.owes idle e
+    by true e =
+        let it = by_then e in wants_probe p side due o.state.reached (mine_at p now course o) o.state.owes idle it.0 e it.1.0 it.1.1
+
+  -- that stays so with an event
+  by_on : (p : PairValue) (now due : ℤ) (event : PairEvent) → IsBy due p → StaysIdle p side now event → IsBy due (takes p event)
+  by_on p now due event by_then s held = by (probing_in p side) refl where
+    by : (t : Bool) → probing_in p side ≡ t → (at : ℤ) × (ProbesAt at (socket_of (takes p event) side) × (at ≤ℤ due))
+    by false e = absurd (s.fresh e held)
+    by true e = let it = by_then e in (it.0, (s.kept it.0 it.1.0 held, it.1.1))
+
+  -- The moment has come, and the side is to be asked.
+  asked_out :
+      (p : PairValue) (now : ℤ) (course : Course) (due last : ℤ) → Open p now course → IsIdle (socket_of p side) → IsBy due p → due ≤ℤ now → now ≤ℤ last
+      → IsAskedBy due last side p course → (last +ℤ pos (delay + delay)) <ℤ end_of now course → Gets p
+  asked_out p now [] due last o idle by_then after before asked over = absurd (not_both last now before (less_time last now (delay + delay) over))
+  asked_out p now (x ∷ course) due last o idle by_then after before asked over =
+      by
+      (λ (on : Open (takes p x.1) x.0 course) (s : StaysIdle p side x.0 x.1) (more : IsAskedBy due last side (takes p x.1) course).
+      asked_out (takes p x.1) x.0 course due last on s.idle (by_on p x.0 due x.1 by_then s) (upto due now x.0 after o.state.in_time.clocked.0) asked.0 more over)
+      (idles_on p now x course o idle (sooner x.0 last (end_of x.0 course) (delay + delay) asked.0 over))
+    where
+      Rest : Type 0
+      Rest = Open (takes p x.1) x.0 course → StaysIdle p side x.0 x.1 → IsAskedBy due last side (takes p x.1) course → Gets (takes p x.1)
+
+      -- a probe that was due then
+      was_due : StaysIdle p side x.0 x.1 → Asks side x.1 → ⊥
+      was_due s asks =
+          let that = s.asked asks in
+          let it = by_then that.0 in
+          clash (sym (come it.0 x.0 (upto it.0 due x.0 it.1.1 (upto due now x.0 after o.state.in_time.clocked.0))) ∙ that.1.0 it.0 it.1.0)
+
+      next :
+          Rest → Open (takes p x.1) x.0 course → StaysIdle p side x.0 x.1
+          → Asks side x.1 ⊎ ((Wants due (takes p x.1) side → ⊥) ⊎ IsAskedBy due last side (takes p x.1) course) → Gets p
+      next rest on s (inl asks) = absurd (was_due s asks)
+      next rest on s (inr (inl not)) = absurd (not (wants_by (takes p x.1) x.0 course due on s.idle (by_on p x.0 due x.1 by_then s)))
+      next rest on s (inr (inr more)) = lift p now x course o (rest on s more)
+
+      by : Rest → Gets p ⊎ (Open (takes p x.1) x.0 course × StaysIdle p side x.0 x.1) → Gets p
+      by rest (inl gets) = gets
+      by rest (inr it) = next rest it.0 it.1 asked.1
+
+  -- or it has yet to come
+  waits_out :
+      (p : PairValue) (now : ℤ) (course : Course) (due : ℤ) → Open p now course → IsIdle (socket_of p side) → IsBy due p → now ≤ℤ due
+      → ((due +ℤ pos wait) +ℤ pos (delay + delay)) <ℤ end_of now course → Gets p
+  waits_out p now [] due o idle by_then before over =
+      absurd (not_both due now before (less_time due now wait (less_time (due +ℤ pos wait) now (delay + delay) over)))
+  waits_out p now (x ∷ course) due o idle by_then before over =
+      at (int_lt due x.0) refl
+      (λ (early : x.0 ≤ℤ due) (on : Open (takes p x.1) x.0 course) (s : StaysIdle p side x.0 x.1).
+      waits_out (takes p x.1) x.0 course due on s.idle (by_on p x.0 due x.1 by_then s) early over)
+    where
+      Rest : Type 0
+      Rest = x.0 ≤ℤ due → Open (takes p x.1) x.0 course → StaysIdle p side x.0 x.1 → Gets (takes p x.1)
+
+      by : Rest → x.0 ≤ℤ due → Gets p ⊎ (Open (takes p x.1) x.0 course × StaysIdle p side x.0 x.1) → Gets p
+      by rest early (inl gets) = gets
+      by rest early (inr it) = lift p now x course o (rest early it.0 it.1)
+
+      at : (passed : Bool) → int_lt due x.0 ≡ passed → Rest → Gets p
+      at true e rest =
+          asked_out p due (x ∷ course) due (due +ℤ pos wait) (with_clock p now due x course o before (below due x.0 e)) idle by_then (itself due)
+          (later due wait) (o.state.in_time.asks.0 side due before (wants_by p now (x ∷ course) due o idle by_then)) over
+      at false e rest =
+          by rest (not_below due x.0 e)
+          (idles_on p now x course o idle
+          (sooner x.0 (due +ℤ pos wait) (end_of x.0 course) (delay + delay)
+          (upto x.0 due (due +ℤ pos wait) (not_below due x.0 e) (later due wait)) over))
+
+  -- A PROBE WHOSE MOMENT ISN'T SET
+
+  record IsUnset (p : PairValue) : Type 0 where
+    probes : probing_in p side ≡ true
+    none : (socket_of p side).block.timers.probe_at ≡ None
+
+  -- a moment that is set lies within a minute
+  sorted : (p : PairValue) (now : ℤ) → IsReached p → (at p.sides side).moment ≤ℤ now → IsBy (now +ℤ pos 60_000_000) p ⊎ IsUnset p
+  sorted p now r clock = by (probing_in p side) refl where
+    no_probe : probing_in p side ≡ false → IsBy (now +ℤ pos 60_000_000) p
+    no_probe e probes = clash (sym probes ∙ e)
+
+    at_moment : (t : Option ℤ) → (socket_of p side).block.timers.probe_at ≡ t → probing_in p side ≡ true → IsBy (now +ℤ pos 60_000_000) p ⊎ IsUnset p
+    at_moment None e probes = inr (record { probes = probes; none = e })
+    at_moment (Some m) e probes =
+        inl
+        (λ _. (
+          m,
+          (
+            e,
+            upto m ((at p.sides side).moment +ℤ pos 60_000_000) (now +ℤ pos 60_000_000)
+                (subst (λ (t : Option ℤ). IsNear (at p.sides side).moment 60_000_000 t) e (probe_near p side r))
+                (more_time (at p.sides side).moment now 60_000_000 clock),
+          ),
+        ))
+
+    by : (t : Bool) → probing_in p side ≡ t → IsBy (now +ℤ pos 60_000_000) p ⊎ IsUnset p
+    by false e = inl (no_probe e)
+    by true e = at_moment (socket_of p side).block.timers.probe_at refl e
+
+  by_later : (p : PairValue) (a b : ℤ) → a ≤ℤ b → IsBy a p → IsBy b p
+  by_later p a b e by_then held = let it = by_then held in (it.0, (it.1.0, upto it.0 a b it.1.1 e))
+
+  is_unset_not : (p : PairValue) → IsUnset p → is_some (socket_of p side).block.timers.probe_at ≡ true → ⊥
+  is_unset_not p u some = clash (sym some ∙ ap is_some u.none)
+
+  -- it is set when the side is asked
+  unset_out :
+      (p : PairValue) (now : ℤ) (course : Course) (first last : ℤ) → Open p now course → IsIdle (socket_of p side) → IsUnset p → now ≤ℤ last
+      → IsAskedBy first last side p course → (((last +ℤ pos 60_000_000) +ℤ pos wait) +ℤ pos (delay + delay)) <ℤ end_of now course → Gets p
+  unset_out p now [] first last o idle unset before asked over =
+      absurd
+      (not_both last now before
+      (less_time last now 60_000_000
+      (less_time (last +ℤ pos 60_000_000) now wait (less_time ((last +ℤ pos 60_000_000) +ℤ pos wait) now (delay + delay) over))))
+  unset_out p now (x ∷ course) first last o idle unset before asked over =
+      by
+      (λ (on : Open (takes p x.1) x.0 course) (s : StaysIdle p side x.0 x.1) (u : IsUnset (takes p x.1))
+      (more : IsAskedBy first last side (takes p x.1) course). unset_out (takes p x.1) x.0 course first last on s.idle u asked.0 more over)
+      (idles_on p now x course o idle
+      (sooner x.0 ((last +ℤ pos 60_000_000) +ℤ pos wait) (end_of x.0 course) (delay + delay)
+      (upto x.0 last ((last +ℤ pos 60_000_000) +ℤ pos wait) asked.0
+      (upto last (last +ℤ pos 60_000_000) ((last +ℤ pos 60_000_000) +ℤ pos wait) (later last 60_000_000) (later (last +ℤ pos 60_000_000) wait)))
+      over))
+    where
+      Rest : Type 0
+      Rest =
+          Open (takes p x.1) x.0 course → StaysIdle p side x.0 x.1 → IsUnset (takes p x.1) → IsAskedBy first last side (takes p x.1) course
+          → Gets (takes p x.1)
+
+      still :
+          Rest → (on : Open (takes p x.1) x.0 course) → (s : StaysIdle p side x.0 x.1)
+          → Asks side x.1 ⊎ ((Wants first (takes p x.1) side → ⊥) ⊎ IsAskedBy first last side (takes p x.1) course) → IsUnset (takes p x.1)
+          → Gets (takes p x.1)
+      still rest on s (inl asks) u = absurd (is_unset_not (takes p x.1) u (s.asked asks).1.1)
+      still rest on s (inr (inl not)) u =
+          absurd
+          (not
+          (wants_unset (takes p x.1) side first on.state.reached (mine_at (takes p x.1) x.0 course on) on.state.owes s.idle u.probes u.none))
+      still rest on s (inr (inr more)) u = rest on s u more
+
+      next : Rest → Open (takes p x.1) x.0 course → StaysIdle p side x.0 x.1 → IsBy (x.0 +ℤ pos 60_000_000) (takes p x.1) ⊎ IsUnset (takes p x.1) →
+          Gets (takes p x.1)
+      next rest on s (inl soon) =
+          waits_out (takes p x.1) x.0 course (last +ℤ pos 60_000_000) on s.idle
+          (by_later (takes p x.1) (x.0 +ℤ pos 60_000_000) (last +ℤ pos 60_000_000) (more_time x.0 last 60_000_000 asked.0) soon)
+          (upto x.0 last (last +ℤ pos 60_000_000) asked.0 (later last 60_000_000)) over
+      next rest on s (inr u) = still rest on s asked.1 u
+
+      by : Rest → Gets p ⊎ (Open (takes p x.1) x.0 course × StaysIdle p side x.0 x.1) → Gets p
+      by rest (inl gets) = gets
+      by rest (inr it) =
+          lift p now x course o (next rest it.0 it.1 (sorted (takes p x.1) x.0 it.0.state.reached it.0.state.in_time.clock))
+
+  pub idle_out :
+      (p : PairValue) (now : ℤ) (course : Course) → Open p now course → IsIdle (socket_of p side)
+      → ((((now +ℤ pos wait) +ℤ pos 60_000_000) +ℤ pos wait) +ℤ pos (delay + delay)) <ℤ end_of now course → Gets p
+  idle_out p now course o idle over = by course o over (sorted p now o.state.reached o.state.in_time.clock) where
+    last : ℤ
+    last = now +ℤ pos wait
+
+    by :
+        (course : Course) → Open p now course → (((last +ℤ pos 60_000_000) +ℤ pos wait) +ℤ pos (delay + delay)) <ℤ end_of now course
+        → IsBy (now +ℤ pos 60_000_000) p ⊎ IsUnset p → Gets p
+    by course o over (inl soon) =
+        waits_out p now course (last +ℤ pos 60_000_000) o idle
+        (by_later p (now +ℤ pos 60_000_000) (last +ℤ pos 60_000_000) (more_time now last 60_000_000 (later now wait)) soon)
+        (upto now last (last +ℤ pos 60_000_000) (later now wait) (later last 60_000_000)) over
+    by [] o over (inr unset) =
+        absurd
+        (not_both last now (later now wait)
+        (less_time last now 60_000_000
+        (less_time (last +ℤ pos 60_000_000) now wait (less_time ((last +ℤ pos 60_000_000) +ℤ pos wait) now (delay + delay) over))))
+    by (x ∷ course) o over (inr unset) =
+        unset_out p now (x ∷ course) now last o idle unset (later now wait)
+        (o.state.in_time.asks.0 side now (itself now)
+        (wants_unset p side now o.state.reached (mine_at p now (x ∷ course) o) o.state.owes idle unset.probes unset.none))
+        over
