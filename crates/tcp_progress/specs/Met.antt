@@ -7,10 +7,11 @@ use Rattle.tcp_model.specs.Offers.{offer_of}
 use Rattle.tcp_tie.specs.declared.pair.event.SentSegment.{SentSegment}
 use Rattle.tcp_tie.specs.declared.pair.event.Side.TheVariants.{A, B}
 use Rattle.tcp_tie.specs.declared.pair.event.PairEvent.{PairEvent}
-use Rattle.tcp_tie.specs.declared.pair.event.PairEvent.TheVariants.{Close, Listen, Connect, Send, TcpSetting, Offer, Deliver}
+use Rattle.tcp_tie.specs.declared.pair.event.PairEvent.TheVariants.{Close, Listen, Connect, Send, Recv, TcpSetting, Offer, Deliver}
 use Rattle.tcp_tie.specs.declared.pair.event.TcpSetting.TheVariants as Set
 use Rattle.tcp_tie.specs.Pair.Examples.{socket, server, port, run}
 use Rattle.tcp_tie.specs.Pair.Values.{PairValue, address_of, new_pair}
+use Rattle.tcp_progress.specs.Course.{events_of}
 use Rattle.tcp_progress.specs.Handshake.{shaken_in}
 use Rattle.tcp_progress.specs.HandshakeOn.{crossed_in, met_in}
 use Rattle.tcp_progress.specs.Pair.{context_of, exchanged_in}
@@ -133,3 +134,18 @@ timed_answered = shaken_in timed_called A (pos 0) (pos 0) (pos 0)
 
 abbrev pub timed_conversing : PairValue
 timed_conversing = run timed_answered writing
+
+-- A course from where the text was lost: A is asked when its timer runs out, the text comes again half a millisecond later, B is asked for the
+-- acknowledgement that is due, this comes half a millisecond after that; and eleven days later B's user reads.
+abbrev pub mending : List (ℤ × PairEvent)
+mending =
+    (pos 1_000_000, Offer A (pos 1_000_000) true)
+    ∷ (pos 1_000_500, Deliver A 3)
+    ∷ (pos 1_000_500, Offer B (pos 1_000_500) true)
+    ∷ (pos 1_001_000, Deliver B 1)
+    ∷ (pos 1_000_000_000_000, Recv B 3)
+    ∷ []
+
+-- the pair behind it
+abbrev pub mended : PairValue
+mended = run gone (events_of mending)

@@ -1,18 +1,22 @@
 //! What the laws ask for is met, on numerals.
 
-ghost use Rattle.std.specs.Prelude.{◌≡◌, suc, ◌*◌, pos, true, [], ◌∷◌, length, IfSome};
+ghost use Rattle.std.specs.Prelude.{◌≡◌, suc, ◌-◌, ◌*◌, pos, ◌+ℤ◌, ◌<ℤ◌, true, [], ◌∷◌, length, IfSome};
 ghost use Rattle.tcp_progress.specs.BothWays.{bound};
 ghost use Rattle.tcp_progress.specs.Arrivals.{Counts, IsNew, IsAgain};
 ghost use Rattle.tcp_tie.specs.Pair.Values.{past_at};
-ghost use Rattle.tcp_tie.specs.declared.pair.event.Side.TheVariants.{A};
+ghost use Rattle.tcp_tie.specs.declared.pair.event.Side.TheVariants.{A, B};
+ghost use Rattle.tcp_pair_model.specs.Steps.{Steps};
 ghost use Rattle.tcp_progress.specs.Connection.{MayConverse};
 ghost use Rattle.tcp_progress.specs.Connection.Course.{ByCall, ByCrossing};
+ghost use Rattle.tcp_progress.specs.Course.{GoesInTime, end_of, events_of};
 ghost use Rattle.tcp_progress.specs.Handshake.{MayShake};
 ghost use Rattle.tcp_progress.specs.HandshakeOn.{MayAnswer, MayCallAgain, MayConfirm, MayCross, MayMeet, MayTell};
-ghost use Rattle.tcp_progress.specs.Met.{both_called, both_gone, both_timed, timed_called, timed_conversing, called, conversing, conversing_across, crossed, spoken, unanswered, unconfirmed, unheard, gone, come, told, text, late, later, again_in, writing};
+ghost use Rattle.tcp_progress.specs.Met.{both_called, both_gone, both_timed, timed_called, timed_conversing, called, conversing, conversing_across, crossed, spoken, unanswered, unconfirmed, unheard, gone, mended, mending, come, told, text, late, later, again_in, writing};
 ghost use Rattle.tcp_progress.specs.Pair.{Exchanges, HasStream, MayExchangeIn, MovesIn, exchanged_in, left_in};
 ghost use Rattle.tcp_progress.specs.Reached.{IsReached, Owes};
+ghost use Rattle.tcp_progress.specs.Readers.{ReadsWithin, StaysOpen, whole_span};
 ghost use Rattle.tcp_progress.specs.Settle.{MaySettle};
+ghost use Rattle.tcp_progress.specs.Spans.{most_reached, reached_in};
 ghost use Rattle.tcp_progress.specs.Talking.{AreTalking, HaveTries, MayTalk};
 
 /// Three bytes that have gone: their side waits, and they count and are new to the other; once they have come, they are old to it.
@@ -105,4 +109,16 @@ pub fn what_a_connection_asks_for_is_met()
     ensures reached { IsReached called }
     ensures converses { MayConverse called A (ByCall (pos 0) (pos 0) (pos 0)) writing conversing }
     ensures across { MayConverse both_called A (ByCrossing (pos 0) (pos 0) late late) writing conversing_across }
+{}
+
+/// A course is met where three bytes have gone and were lost: each segment takes half a millisecond, each side is asked at once, and the other's
+/// buffer is never full. It is longer than there are positions to reach; and all is acknowledged in it.
+pub fn what_a_course_asks_for_is_met()
+    ensures course { GoesInTime 1_000 1_000 (pos 0) gone A mending }
+    ensures reads { ReadsWithin 1_000 (pos 0) gone B mending }
+    ensures stays { StaysOpen gone A mending }
+    ensures takes { Steps gone (events_of mending) mended }
+    ensures long { (pos 0 +ℤ pos (suc (most_reached mended - reached_in gone) * (2 * whole_span 1_000 1_000 1_000 gone A))) <ℤ end_of (pos 0) mending }
+    ensures some { left_in gone A ≡ 3 }
+    ensures none { left_in mended A ≡ 0 }
 {}
