@@ -92,3 +92,4 @@ pub mod OrWaits
 pub mod CourseIdle
 pub mod CourseWindows
 pub mod CourseThrough
+pub mod Accepted

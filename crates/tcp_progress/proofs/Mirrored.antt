@@ -593,6 +593,20 @@ reached_directed p r =
     (record { state = refl; waiting = refl; queue = refl; unfinished = refl }))
     (record { a = new_directed (new_socket r.room_a r.ring_a) refl; b = new_directed (new_socket r.room_b r.ring_b) refl }) r.steps
 
+-- each segment that a side which called ever sent goes between its endpoints
+pub called_goes :
+    (p : PairValue) (side : Side) (k : ℕ) (x : SentSegment) (pair : EndpointPair) → IsReached p → (at (pasts p.history) side).opening ≡ Active
+    → (socket_of p side).block.names.pair ≡ Some pair → slice_get (at p.sides side).sent k ≡ Some x
+    → (source_of x.header ≡ local_of pair.addresses)
+    × ((destination_of x.header ≡ remote_of pair.addresses)
+    × ((x.segment.src_port ≡ pair.local_port) × (x.segment.dst_port ≡ pair.remote_port)))
+called_goes p side k x pair r called named e =
+    let g =
+    all_among (GoesFrom pair) (at p.sides side).sent x ((side_directed p.sides (pasts p.history) side (reached_directed p r)).active called pair named)
+    (among_at (at p.sides side).sent k x e)
+    in
+    (g.source, (g.destination, (g.source_port, g.destination_port)))
+
 -- THE ENDPOINTS MIRROR EACH OTHER
 
 -- a segment came between the endpoints of one, and the other sends between its own

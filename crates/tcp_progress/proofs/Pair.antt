@@ -82,7 +82,7 @@ between pair ip header a b c d =
     (pair.local_port == header.dst_port) (pair.remote_port == header.src_port) (alike (local_of pair.addresses) (destination_of ip) a)
     (alike (remote_of pair.addresses) (source_of ip) b) (eq-eqb pair.local_port header.dst_port c) (eq-eqb pair.remote_port header.src_port d)
 
-accepted_by :
+pub accepted_by :
     (b : Block) (pair : EndpointPair) (ip : IpRepr) (header : TcpHeader) → is_synchronized b.state ≡ true → b.names.pair ≡ Some pair
     → is_between pair ip header ≡ true → accepts b ip header ≡ true
 accepted_by b pair ip header past named fits =

@@ -2,10 +2,12 @@
 
 ghost use Rattle.std.specs.Prelude.{◌≡◌, ◌⊎◌, ℕ, ◌≤◌, ℤ, true, false, List, length, Some, slice_get};
 ghost use Rattle.ip_wire.specs.SeqNumber.{SeqNumber};
+ghost use Rattle.tcp_law.specs.Side.Opening.{Active};
 ghost use Rattle.tcp_rules.specs.Controls.{is_rst, is_syn};
 ghost use Rattle.tcp_rules.specs.OpenOffer.{OpenOffer};
 ghost use Rattle.tcp_rules.specs.Timing.{carries};
-ghost use Rattle.tcp_model.specs.Offers.{offer_of};
+ghost use Rattle.tcp_model.specs.Names.{accepts};
+ghost use Rattle.tcp_pair_model.specs.Offers.{offer_of};
 ghost use Rattle.tcp_model.specs.Segments.{segment_len};
 ghost use Rattle.tcp_tie.specs.Pair.Sides.{at, other};
 ghost use Rattle.tcp_tie.specs.Pair.Steps.{Steps};
@@ -16,7 +18,7 @@ ghost use Rattle.tcp_tie.specs.declared.pair.event.PairEvent.TheVariants.{Offer}
 ghost use Rattle.tcp_tie.specs.declared.pair.event.SentSegment.{SentSegment};
 ghost use Rattle.tcp_tie.specs.declared.pair.event.Side.{Side};
 ghost use Rattle.tcp_progress.specs.Again.{StartsOver};
-ghost use Rattle.tcp_progress.specs.Arrivals.{IsNearWindow};
+ghost use Rattle.tcp_progress.specs.Arrivals.{IsNearWindow, is_synchronized};
 ghost use Rattle.tcp_progress.specs.Exchange.{IsOpen, text_of};
 ghost use Rattle.tcp_progress.specs.Late.{CountsIn, GoesFrom, GoesOnIn, IsAckedTo, MayCome, TakesTime, come_in, sent_by};
 ghost use Rattle.tcp_progress.specs.Onward.{AreOpen, HasRisen, Lasts, acked_in};
@@ -66,4 +68,11 @@ pub fn an_exchange_that_takes_time_goes_on()
         → carries o.kind ≡ true → slice_get (at (takes p (Offer side moment true)).sides side).sent (next_sent p side) ≡ Some (sent_by p side o) }
     ensures moves { (p q s : PairValue) (side : Side) (k j : ℕ) (x : SentSegment) → IsReached p → TakesTime p q s side k j x
         → GoesOnIn p q s side k j }
+{}
+
+/// Of a connection the other side accepts whatever a side that called ever sent, however late it comes.
+pub fn what_a_caller_sent_is_accepted()
+    ensures accepted { (p : PairValue) (side : Side) (k : ℕ) (x : SentSegment) → IsReached p → is_synchronized (socket_of p side).block.state ≡ true
+        → is_synchronized (socket_of p (other side)).block.state ≡ true → (past_at p side).opening ≡ Active
+        → slice_get (at p.sides side).sent k ≡ Some x → accepts (socket_of p (other side)).block x.header x.segment ≡ true }
 {}
