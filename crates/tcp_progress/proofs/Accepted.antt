@@ -1,12 +1,12 @@
 -- The other side of a connection accepts whatever a side that called ever sent, however late it comes.
 use Rattle.std.proofs.Common.{◌≡◌, ℕ, true, Some, slice_get, sym, ◌∙◌}
 use Rattle.tcp_law.specs.Side.Opening.{Active}
-use Rattle.tcp_pair_model.specs.History.{pasts}
-use Rattle.tcp_pair_model.specs.Names.{accepts}
-use Rattle.tcp_pair_model.specs.Sides.{at, other}
-use Rattle.tcp_pair_model.specs.Values.{PairValue}
-use Rattle.tcp_pair_model.specs.declared.event.SentSegment.{SentSegment}
-use Rattle.tcp_pair_model.specs.declared.event.Side.{Side}
+use Rattle.tcp_tie.specs.Pair.History.{pasts}
+use Rattle.tcp_model.specs.Names.{accepts}
+use Rattle.tcp_tie.specs.Pair.Sides.{at, other}
+use Rattle.tcp_tie.specs.Pair.Values.{PairValue}
+use Rattle.tcp_tie.specs.declared.pair.event.SentSegment.{SentSegment}
+use Rattle.tcp_tie.specs.declared.pair.event.Side.{Side}
 use Rattle.tcp_progress.specs.Arrivals.{is_synchronized}
 use Rattle.tcp_progress.specs.Pair.{socket_of}
 use Rattle.tcp_progress.specs.Reached.{IsReached}

@@ -19,31 +19,31 @@ use Rattle.tcp_rules.specs.States.{after_close, is_answering, is_closed, is_open
 use Rattle.tcp_rules.proofs.ArrivalCases.{by_arrival, Received, Opening, Content, Drawing, acked_open, heeded, timed}
 use Rattle.tcp_rules.proofs.OfferCases.{FirstRules, by_rules, begun}
 use Rattle.tcp_rules.proofs.OrderSteps.{clash}
-use Rattle.tcp_pair_model.specs.Acknowledged.{windowed}
-use Rattle.tcp_pair_model.specs.Arrival.{arrives, waiting_anew}
-use Rattle.tcp_pair_model.specs.Block.{Block}
-use Rattle.tcp_pair_model.specs.Blocks.{one_if}
-use Rattle.tcp_pair_model.specs.Calls.{connected_by, listening, nothing_left, or_count, pair_for, recv_answer, sent_more}
-use Rattle.tcp_pair_model.specs.FirstNumbers.{number_for}
-use Rattle.tcp_pair_model.specs.History.{adds, pasts, side_of}
-use Rattle.tcp_pair_model.specs.LossRecovery.{loss_probed}
-use Rattle.tcp_pair_model.specs.Names.{accepts}
-use Rattle.tcp_pair_model.specs.Offers.{offer_of}
-use Rattle.tcp_pair_model.specs.Retries.{heard}
-use Rattle.tcp_pair_model.specs.Rules.{backed_off_now}
-use Rattle.tcp_pair_model.specs.Settled.{settled}
-use Rattle.tcp_pair_model.specs.Sides.{Both, at, other, put}
-use Rattle.tcp_pair_model.specs.Steps.{Steps, acting, handed, reads, set_by, taken_at}
-use Rattle.tcp_pair_model.specs.Timestamps.{stamp_taken}
-use Rattle.tcp_pair_model.specs.Value.{TcpValue, Received as Buffer, Arrived, ended, free_in, room_of, unoffered, with_block}
-use Rattle.tcp_pair_model.specs.Values.{PairSide, PairValue, context_at}
-use Rattle.tcp_pair_model.specs.declared.event.PairEvent.{PairEvent}
-use Rattle.tcp_pair_model.specs.declared.event.PairEvent.TheVariants.{Listen, Connect, Send, Recv, Close, Abort, TcpSetting, Offer, Deliver}
-use Rattle.tcp_pair_model.specs.declared.event.SentSegment.{SentSegment}
-use Rattle.tcp_pair_model.specs.declared.event.Side.{Side}
-use Rattle.tcp_pair_model.specs.declared.event.Side.TheVariants.{A, B}
-use Rattle.tcp_pair_model.specs.declared.event.TcpSetting.{TcpSetting as Setting}
-use Rattle.tcp_pair_model.specs.declared.event.TcpSetting.TheVariants as Set
+use Rattle.tcp_model.specs.Acknowledged.{windowed}
+use Rattle.tcp_model.specs.Arrival.{arrives, waiting_anew}
+use Rattle.tcp_model.specs.declared.block.Block.{Block}
+use Rattle.tcp_model.specs.Blocks.{one_if}
+use Rattle.tcp_model.specs.Calls.{connected_by, listening, nothing_left, or_count, pair_for, recv_answer, sent_more}
+use Rattle.tcp_model.specs.FirstNumbers.{number_for}
+use Rattle.tcp_tie.specs.Pair.History.{adds, pasts, side_of}
+use Rattle.tcp_model.specs.LossRecovery.{loss_probed}
+use Rattle.tcp_model.specs.Names.{accepts}
+use Rattle.tcp_model.specs.Offers.{offer_of}
+use Rattle.tcp_model.specs.Retries.{heard}
+use Rattle.tcp_model.specs.Rules.{backed_off_now}
+use Rattle.tcp_model.specs.Settled.{settled}
+use Rattle.tcp_tie.specs.Pair.Sides.{Both, at, other, put}
+use Rattle.tcp_tie.specs.Pair.Steps.{Steps, acting, handed, reads, set_by, taken_at}
+use Rattle.tcp_model.specs.Timestamps.{stamp_taken}
+use Rattle.tcp_model.specs.Value.{TcpValue, Received as Buffer, Arrived, ended, free_in, room_of, unoffered, with_block}
+use Rattle.tcp_tie.specs.Pair.Values.{PairSide, PairValue, context_at}
+use Rattle.tcp_tie.specs.declared.pair.event.PairEvent.{PairEvent}
+use Rattle.tcp_tie.specs.declared.pair.event.PairEvent.TheVariants.{Listen, Connect, Send, Recv, Close, Abort, TcpSetting, Offer, Deliver}
+use Rattle.tcp_tie.specs.declared.pair.event.SentSegment.{SentSegment}
+use Rattle.tcp_tie.specs.declared.pair.event.Side.{Side}
+use Rattle.tcp_tie.specs.declared.pair.event.Side.TheVariants.{A, B}
+use Rattle.tcp_tie.specs.declared.pair.event.TcpSetting.{TcpSetting as Setting}
+use Rattle.tcp_tie.specs.declared.pair.event.TcpSetting.TheVariants as Set
 use Rattle.tcp_progress.specs.Arrivals.{is_synchronized}
 use Rattle.tcp_progress.specs.BothWays.{AreThere}
 use Rattle.tcp_progress.specs.Course.{IsShutAmong, events_of}

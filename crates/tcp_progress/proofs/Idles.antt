@@ -14,29 +14,29 @@ use Rattle.tcp_rules.specs.State.TheVariants as In
 use Rattle.tcp_rules.specs.States.{after_close, is_answering, is_closed, is_opening, is_time_wait, takes_writes}
 use Rattle.tcp_rules.proofs.ArrivalCases.{by_arrival, Received, Opening, Content, Drawing, acked_open, heeded, timed}
 use Rattle.tcp_rules.proofs.OrderSteps.{clash}
-use Rattle.tcp_pair_model.specs.Acknowledged.{freed_by, windowed}
-use Rattle.tcp_pair_model.specs.Arrival.{arrives, waiting_anew}
-use Rattle.tcp_pair_model.specs.Block.{Block}
-use Rattle.tcp_pair_model.specs.Blocks.{one_if}
-use Rattle.tcp_pair_model.specs.Calls.{connected_by, listening, pair_for, recv_answer, sent_more}
-use Rattle.tcp_pair_model.specs.Checks.{acknowledgement_check}
-use Rattle.tcp_pair_model.specs.Checks.Check.{Passes}
-use Rattle.tcp_pair_model.specs.FirstNumbers.{number_for}
-use Rattle.tcp_pair_model.specs.History.{side_of}
-use Rattle.tcp_pair_model.specs.Names.{accepts}
-use Rattle.tcp_pair_model.specs.Retries.{heard}
-use Rattle.tcp_pair_model.specs.Sides.{at, other}
-use Rattle.tcp_pair_model.specs.Steps.{acting, acts, handed, reads, set_by, taken_at}
-use Rattle.tcp_pair_model.specs.Timestamps.{stamp_taken}
-use Rattle.tcp_pair_model.specs.Undone.{is_needless}
-use Rattle.tcp_pair_model.specs.Value.{TcpValue, Arrived, ended, queued_in, unoffered, with_block}
-use Rattle.tcp_pair_model.specs.Values.{PairSide, PairValue, context_at}
-use Rattle.tcp_pair_model.specs.declared.event.PairEvent.{PairEvent}
-use Rattle.tcp_pair_model.specs.declared.event.PairEvent.TheVariants.{Listen, Connect, Send, Recv, Close, Abort, TcpSetting, Offer, Deliver}
-use Rattle.tcp_pair_model.specs.declared.event.SentSegment.{SentSegment}
-use Rattle.tcp_pair_model.specs.declared.event.Side.{Side}
-use Rattle.tcp_pair_model.specs.declared.event.TcpSetting.{TcpSetting as Setting}
-use Rattle.tcp_pair_model.specs.declared.event.TcpSetting.TheVariants as Set
+use Rattle.tcp_model.specs.Acknowledged.{freed_by, windowed}
+use Rattle.tcp_model.specs.Arrival.{arrives, waiting_anew}
+use Rattle.tcp_model.specs.declared.block.Block.{Block}
+use Rattle.tcp_model.specs.Blocks.{one_if}
+use Rattle.tcp_model.specs.Calls.{connected_by, listening, pair_for, recv_answer, sent_more}
+use Rattle.tcp_model.specs.Checks.{acknowledgement_check}
+use Rattle.tcp_model.specs.Checks.Check.{Passes}
+use Rattle.tcp_model.specs.FirstNumbers.{number_for}
+use Rattle.tcp_tie.specs.Pair.History.{side_of}
+use Rattle.tcp_model.specs.Names.{accepts}
+use Rattle.tcp_model.specs.Retries.{heard}
+use Rattle.tcp_tie.specs.Pair.Sides.{at, other}
+use Rattle.tcp_tie.specs.Pair.Steps.{acting, acts, handed, reads, set_by, taken_at}
+use Rattle.tcp_model.specs.Timestamps.{stamp_taken}
+use Rattle.tcp_model.specs.Undone.{is_needless}
+use Rattle.tcp_model.specs.Value.{TcpValue, Arrived, ended, queued_in, unoffered, with_block}
+use Rattle.tcp_tie.specs.Pair.Values.{PairSide, PairValue, context_at}
+use Rattle.tcp_tie.specs.declared.pair.event.PairEvent.{PairEvent}
+use Rattle.tcp_tie.specs.declared.pair.event.PairEvent.TheVariants.{Listen, Connect, Send, Recv, Close, Abort, TcpSetting, Offer, Deliver}
+use Rattle.tcp_tie.specs.declared.pair.event.SentSegment.{SentSegment}
+use Rattle.tcp_tie.specs.declared.pair.event.Side.{Side}
+use Rattle.tcp_tie.specs.declared.pair.event.TcpSetting.{TcpSetting as Setting}
+use Rattle.tcp_tie.specs.declared.pair.event.TcpSetting.TheVariants as Set
 use Rattle.tcp_progress.specs.Arrivals.{is_synchronized}
 use Rattle.tcp_progress.specs.Course.{Asks, IsTaken}
 use Rattle.tcp_progress.specs.Pair.{socket_of}

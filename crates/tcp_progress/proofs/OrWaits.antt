@@ -19,21 +19,21 @@ use Rattle.tcp_rules.specs.States.{sends_text}
 use Rattle.tcp_rules.specs.Timing.{carries}
 use Rattle.tcp_rules.proofs.OfferCases.{FirstRules, begun, by_first, probing}
 use Rattle.tcp_rules.proofs.OrderSteps.{clash}
-use Rattle.tcp_pair_model.specs.Block.{Block}
-use Rattle.tcp_pair_model.specs.LossRecovery.{loss_probe_moment, loss_probed, loss_probed_by}
-use Rattle.tcp_pair_model.specs.Offers.{backed_off, first_rules, last_rules, offer_ack, offer_choice, offer_held_back, offer_of, offer_segment}
-use Rattle.tcp_pair_model.specs.Offers.{offer_syn}
-use Rattle.tcp_pair_model.specs.Probing.{is_probe_unset, is_probing, probe_moment, probe_started}
-use Rattle.tcp_pair_model.specs.Retries.{asked, one_more}
-use Rattle.tcp_pair_model.specs.Rules.{backed_off_now, has_text, owes_syn, resend_choice, resends, text_choice}
-use Rattle.tcp_pair_model.specs.Segments.{ack_segment, hops_of, keep_alive_segment}
-use Rattle.tcp_pair_model.specs.Settled.{recorded, settled}
-use Rattle.tcp_pair_model.specs.Sides.{at}
-use Rattle.tcp_pair_model.specs.Value.{TcpValue, queued_in, room_of, unoffered, window_of, with_block}
-use Rattle.tcp_pair_model.specs.Values.{PairValue}
-use Rattle.tcp_pair_model.specs.declared.event.PairEvent.TheVariants.{Offer}
-use Rattle.tcp_pair_model.specs.declared.event.Side.{Side}
-use Rattle.tcp_pair_model.specs.declared.event.Side.TheVariants.{A, B}
+use Rattle.tcp_model.specs.declared.block.Block.{Block}
+use Rattle.tcp_model.specs.LossRecovery.{loss_probe_moment, loss_probed, loss_probed_by}
+use Rattle.tcp_model.specs.Offers.{backed_off, first_rules, last_rules, offer_ack, offer_choice, offer_held_back, offer_of, offer_segment}
+use Rattle.tcp_model.specs.Offers.{offer_syn}
+use Rattle.tcp_model.specs.Probing.{is_probe_unset, is_probing, probe_moment, probe_started}
+use Rattle.tcp_model.specs.Retries.{asked, one_more}
+use Rattle.tcp_model.specs.Rules.{backed_off_now, has_text, owes_syn, resend_choice, resends, text_choice}
+use Rattle.tcp_model.specs.Segments.{ack_segment, hops_of, keep_alive_segment}
+use Rattle.tcp_model.specs.Settled.{recorded, settled}
+use Rattle.tcp_tie.specs.Pair.Sides.{at}
+use Rattle.tcp_model.specs.Value.{TcpValue, queued_in, room_of, unoffered, window_of, with_block}
+use Rattle.tcp_tie.specs.Pair.Values.{PairValue}
+use Rattle.tcp_tie.specs.declared.pair.event.PairEvent.TheVariants.{Offer}
+use Rattle.tcp_tie.specs.declared.pair.event.Side.{Side}
+use Rattle.tcp_tie.specs.declared.pair.event.Side.TheVariants.{A, B}
 use Rattle.tcp_progress.specs.Again.{StartsOver}
 use Rattle.tcp_progress.specs.Arrivals.{is_synchronized}
 use Rattle.tcp_progress.specs.Exchange.{IsOpen}

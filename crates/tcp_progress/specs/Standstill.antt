@@ -5,7 +5,7 @@ use Rattle.net_base.specs.Ring.{ring}
 use Rattle.tcp_model.specs.Value.{TcpValue, new_socket}
 use Rattle.tcp_tie.specs.declared.pair.event.Side.TheVariants.{A, B}
 use Rattle.tcp_tie.specs.declared.pair.event.PairEvent.{PairEvent}
-use Rattle.tcp_pair_model.specs.declared.event.PairEvent.TheVariants.{Send, Recv, Offer, Deliver}
+use Rattle.tcp_tie.specs.declared.pair.event.PairEvent.TheVariants.{Send, Recv, Offer, Deliver}
 use Rattle.tcp_tie.specs.Pair.Examples.{run}
 use Rattle.tcp_tie.specs.Pair.Values.{PairValue, new_pair}
 use Rattle.tcp_progress.specs.Met.{opening}

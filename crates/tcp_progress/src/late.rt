@@ -7,7 +7,7 @@ ghost use Rattle.tcp_rules.specs.Controls.{is_rst, is_syn};
 ghost use Rattle.tcp_rules.specs.OpenOffer.{OpenOffer};
 ghost use Rattle.tcp_rules.specs.Timing.{carries};
 ghost use Rattle.tcp_model.specs.Names.{accepts};
-ghost use Rattle.tcp_pair_model.specs.Offers.{offer_of};
+ghost use Rattle.tcp_model.specs.Offers.{offer_of};
 ghost use Rattle.tcp_model.specs.Segments.{segment_len};
 ghost use Rattle.tcp_tie.specs.Pair.Sides.{at, other};
 ghost use Rattle.tcp_tie.specs.Pair.Steps.{Steps};

@@ -5,7 +5,7 @@ ghost use Rattle.tcp_progress.specs.BothWays.{bound};
 ghost use Rattle.tcp_progress.specs.Arrivals.{Counts, IsNew, IsAgain};
 ghost use Rattle.tcp_tie.specs.Pair.Values.{past_at};
 ghost use Rattle.tcp_tie.specs.declared.pair.event.Side.TheVariants.{A, B};
-ghost use Rattle.tcp_pair_model.specs.Steps.{Steps};
+ghost use Rattle.tcp_tie.specs.Pair.Steps.{Steps};
 ghost use Rattle.tcp_progress.specs.Connection.{MayConverse};
 ghost use Rattle.tcp_progress.specs.Connection.Course.{ByCall, ByCrossing};
 ghost use Rattle.tcp_progress.specs.Course.{GoesInTime, end_of, events_of};

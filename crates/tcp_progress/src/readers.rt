@@ -1,12 +1,12 @@
 //! That a connection goes on whatever its windows are, where users read.
 
 ghost use Rattle.std.specs.Prelude.{◌≡◌, ◌⊎◌, ℕ, suc, ◌+◌, ◌-◌, ◌*◌, ◌==◌, ◌<◌, ◌≤◌, ℤ, pos, ◌+ℤ◌, ◌<ℤ◌, true, false, List};
-ghost use Rattle.tcp_pair_model.specs.Sides.{other};
-ghost use Rattle.tcp_pair_model.specs.Steps.{Steps};
-ghost use Rattle.tcp_pair_model.specs.Value.{free_in, room_of};
-ghost use Rattle.tcp_pair_model.specs.Values.{PairValue};
-ghost use Rattle.tcp_pair_model.specs.declared.event.PairEvent.{PairEvent};
-ghost use Rattle.tcp_pair_model.specs.declared.event.Side.{Side};
+ghost use Rattle.tcp_tie.specs.Pair.Sides.{other};
+ghost use Rattle.tcp_tie.specs.Pair.Steps.{Steps};
+ghost use Rattle.tcp_model.specs.Value.{free_in, room_of};
+ghost use Rattle.tcp_tie.specs.Pair.Values.{PairValue};
+ghost use Rattle.tcp_tie.specs.declared.pair.event.PairEvent.{PairEvent};
+ghost use Rattle.tcp_tie.specs.declared.pair.event.Side.{Side};
 ghost use Rattle.tcp_progress.specs.Arrivals.{is_synchronized};
 ghost use Rattle.tcp_progress.specs.BothWays.{AreThere};
 ghost use Rattle.tcp_progress.specs.Course.{GoesInTime, end_of, events_of};

@@ -3,7 +3,7 @@
 ghost use Rattle.std.specs.Prelude.{◌≡◌, pos, [], ◌∷◌, length, Some};
 ghost use Rattle.tcp_tie.specs.Pair.Safe.{read};
 ghost use Rattle.tcp_tie.specs.declared.pair.event.Side.TheVariants.{A, B};
-ghost use Rattle.tcp_pair_model.specs.Value.{free_in};
+ghost use Rattle.tcp_model.specs.Value.{free_in};
 ghost use Rattle.tcp_progress.specs.Standstill.{crossed, healed, held_back, starved};
 
 /// Each has two bytes of the other, and knows that one of its own was taken. After six rounds of a good link all has been read, and

@@ -5,14 +5,14 @@ use Rattle.std.specs.Prelude.{IfSome, slice_get}
 use Rattle.tcp_tie.specs.Offers.{IsBefore}
 use Rattle.tcp_tie.specs.PollAt.{PollAt}
 use Rattle.tcp_tie.specs.PollAt.TheVariants as At
-use Rattle.tcp_pair_model.specs.Due.{poll_of}
-use Rattle.tcp_pair_model.specs.Sides.{at}
-use Rattle.tcp_pair_model.specs.Values.{PairValue}
-use Rattle.tcp_pair_model.specs.declared.event.PairEvent.{PairEvent}
-use Rattle.tcp_pair_model.specs.declared.event.PairEvent.TheVariants.{Deliver, Offer, Recv}
-use Rattle.tcp_pair_model.specs.declared.event.SentSegment.{SentSegment}
-use Rattle.tcp_pair_model.specs.declared.event.Side.{Side}
-use Rattle.tcp_pair_model.specs.declared.event.Side.TheVariants.{A, B}
+use Rattle.tcp_model.specs.Due.{poll_of}
+use Rattle.tcp_tie.specs.Pair.Sides.{at}
+use Rattle.tcp_tie.specs.Pair.Values.{PairValue}
+use Rattle.tcp_tie.specs.declared.pair.event.PairEvent.{PairEvent}
+use Rattle.tcp_tie.specs.declared.pair.event.PairEvent.TheVariants.{Deliver, Offer, Recv}
+use Rattle.tcp_tie.specs.declared.pair.event.SentSegment.{SentSegment}
+use Rattle.tcp_tie.specs.declared.pair.event.Side.{Side}
+use Rattle.tcp_tie.specs.declared.pair.event.Side.TheVariants.{A, B}
 use Rattle.tcp_progress.specs.Course.{ComesBy, IsAskedBy, IsHeard, Wants}
 use Rattle.tcp_progress.specs.Met.{gone, mending}
 use Rattle.tcp_progress.specs.Pair.{next_sent, socket_of}
