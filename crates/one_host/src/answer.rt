@@ -1,4 +1,5 @@
 //! What lines answer, and how it is written.
+use crate::said::{Refusal, Said};
 use ip_wire::{HardwareAddress, IpAddress, IpEndpoint};
 use lan_base::hex_text;
 use net_base::Instant;
@@ -12,16 +13,16 @@ pub enum Answer {
     /// It was done.
     Done,
     /// A word of its own.
-    Says(&'static str),
+    Says(Said),
     /// The socket or the host refused.
-    Error(&'static str),
+    Error(Refusal),
     /// A number behind a word: of bytes that were taken, of microseconds, a value that was asked for.
-    Number(&'static str, u64),
+    Number(Said, u64),
     /// At this moment.
     At(Instant),
     State(State),
     /// An address behind a word: one that was asked for, a next hop whose hardware address isn't known.
-    Address(&'static str, IpAddress),
+    Address(Said, IpAddress),
     Station(HardwareAddress),
     /// These bytes were read.
     Bytes(Vec<u8>),
@@ -35,7 +36,7 @@ pub enum Answer {
 impl Answer {
     /// Whether something holds.
     pub fn is(holds: bool) -> Answer {
-        Answer::Says(if holds { "yes" } else { "no" })
+        Answer::Says(if holds { Said::Yes } else { Said::No })
     }
 
     /// The line that says it, with its end.
@@ -59,12 +60,12 @@ impl Answer {
     fn line_with(&self, alloc: Global, hex: &str) -> Result<String, AllocError> {
         match self {
             Answer::Done => String::from_str(alloc, "ok\n"),
-            Answer::Says(word) => format!(in alloc; "{word}\n"),
-            Answer::Error(name) => line(alloc, "error", name),
-            Answer::Number(word, value) => line(alloc, word, value),
+            Answer::Says(said) => format!(in alloc; "{}\n", said.text()),
+            Answer::Error(refusal) => line(alloc, "error", &refusal.text()),
+            Answer::Number(said, value) => line(alloc, said.text(), value),
             Answer::At(moment) => line(alloc, "at", &moment.total_micros()),
             Answer::State(state) => line(alloc, "state", state),
-            Answer::Address(word, address) => line(alloc, word, address),
+            Answer::Address(said, address) => line(alloc, said.text(), address),
             Answer::Station(station) => line(alloc, "is", station),
             Answer::Bytes(_) => line(alloc, "data", &hex),
             Answer::FromEndpoint(remote, _) => line_from(alloc, remote, hex),

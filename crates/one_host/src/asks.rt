@@ -1,6 +1,8 @@
 //! Lines that ask for what a host has.
 use crate::answer::Answer;
 use crate::host::Host;
+use crate::said::Said;
+use crate::stop::{Class, Stop};
 use crate::words::Words;
 use interface::InterfaceInner;
 use interface_tables::{Answer as Neighbor, LinkAddress};
@@ -11,17 +13,17 @@ use sockets::Context;
 /// Plays `ask H WHAT`, behind which an address may stand.
 pub fn play(host: &mut Host, words: &mut Words<'_>) -> Answer {
     words.host();
-    let name = words.word("question");
+    let name = words.word(Class::Question);
     let inner = host.interface.context();
     let answer = match name {
         "fresh" => Answer::is(host.interface.is_fresh()),
         "any_ip" => Answer::is(host.interface.any_ip()),
-        "ident" => Answer::Number("is", u64::from(inner.ident())),
-        "mtu" => Answer::Number("is", inner.ip_mtu() as u64),
-        "slots" => Answer::Number("is", host.interface.reassembly_slots() as u64),
+        "ident" => Answer::Number(Said::Is, u64::from(inner.ident())),
+        "mtu" => Answer::Number(Said::Is, inner.ip_mtu() as u64),
+        "slots" => Answer::Number(Said::Is, host.interface.reassembly_slots() as u64),
         "hw" => Answer::Station(inner.hardware_addr()),
-        "waiting" => Answer::Number("is", host.wire.waiting() as u64),
-        "refusals" => Answer::Number("is", host.wire.refusals()),
+        "waiting" => Answer::Number(Said::Is, host.wire.waiting() as u64),
+        "refusals" => Answer::Number(Said::Is, host.wire.refusals()),
         _ => ask_of(inner, name, words),
     };
     words.end();
@@ -29,12 +31,13 @@ pub fn play(host: &mut Host, words: &mut Words<'_>) -> Answer {
 }
 
 /// Plays a question about an address.
-fn ask_of<'a>(inner: &InterfaceInner, name: &'a str, words: &mut Words<'a>) -> Answer {
+fn ask_of(inner: &InterfaceInner, name: &str, words: &mut Words<'_>) -> Answer {
+    let number = words.count();
     let address = words.address();
     match about(inner, name, &address) {
         Some(answer) => answer,
         None => {
-            words.wrong("question", name);
+            words.note(Stop::Wrong(Class::Question, number));
             Answer::Done
         }
     }
@@ -58,26 +61,26 @@ fn about(inner: &InterfaceInner, name: &str, address: &IpAddress) -> Option<Answ
 
 fn named(address: Option<IpAddress>) -> Answer {
     match address {
-        Some(address) => Answer::Address("is", address),
-        None => Answer::Says("none"),
+        Some(address) => Answer::Address(Said::Is, address),
+        None => Answer::Says(Said::Nothing),
     }
 }
 
 fn link(link: LinkAddress) -> Answer {
     match link {
         LinkAddress::Known(station) => Answer::Station(station),
-        LinkAddress::NoRoute => Answer::Says("no route"),
-        LinkAddress::Silent => Answer::Says("silent"),
-        LinkAddress::Unanswered => Answer::Says("without answer"),
-        LinkAddress::Unknown(hop) => Answer::Address("unknown", hop),
+        LinkAddress::NoRoute => Answer::Says(Said::NoRoute),
+        LinkAddress::Silent => Answer::Says(Said::Silent),
+        LinkAddress::Unanswered => Answer::Says(Said::WithoutAnswer),
+        LinkAddress::Unknown(hop) => Answer::Address(Said::Unknown, hop),
     }
 }
 
 fn neighbor(neighbor: Neighbor) -> Answer {
     match neighbor {
         Neighbor::Found(station) => Answer::Station(station),
-        Neighbor::NotFound => Answer::Says("not found"),
-        Neighbor::RateLimited => Answer::Says("silent"),
-        Neighbor::Unanswered => Answer::Says("without answer"),
+        Neighbor::NotFound => Answer::Says(Said::NotFound),
+        Neighbor::RateLimited => Answer::Says(Said::Silent),
+        Neighbor::Unanswered => Answer::Says(Said::WithoutAnswer),
     }
 }

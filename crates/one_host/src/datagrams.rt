@@ -1,6 +1,8 @@
 //! Lines of UDP, ICMP and raw sockets.
 use crate::answer::Answer;
 use crate::host::Host;
+use crate::said::Refusal;
+use crate::stop::Class;
 use crate::words::{Words, number};
 use ip_wire::{IpAddress, IpEndpoint, IpListenEndpoint};
 use lan_base::names_tcp_or_udp;
@@ -11,21 +13,39 @@ use sockets::{Socket, icmp, raw, udp};
 use std::alloc::Global;
 
 /// The lines of these sockets.
-pub const VERBS: [&str; 9] = [
-    "bind", "ident", "errors", "sendto", "sendicmp", "sendraw", "sendany", "recvfrom", "peek",
-];
+#[derive(Clone, Copy)]
+pub enum Verb {
+    Bind,
+    Ident,
+    Errors,
+    SendTo,
+    SendIcmp,
+    SendRaw,
+    SendAny,
+    RecvFrom,
+    Peek,
+}
 
 /// Plays one of these lines.
-pub fn play(alloc: Global, host: &mut Host, verb: &str, words: &mut Words<'_>) -> Answer {
+pub fn play(alloc: Global, host: &mut Host, verb: Verb, words: &mut Words<'_>) -> Answer {
     words.host();
     let place = words.size();
     match verb {
-        "bind" => bind(host, place, words),
-        "ident" | "errors" => bind_icmp(host, place, verb, words),
-        "recvfrom" | "peek" => receive(alloc, host, place, verb, words),
-        "sendto" => send_to(alloc, host, place, words),
-        "sendicmp" => send_icmp(alloc, host, place, words),
-        _ => send_raw(alloc, host, place, verb, words),
+        Verb::Bind => bind(host, place, words),
+        Verb::Ident => {
+            let ident = Endpoint::Ident(words.short(Class::Identifier));
+            bind_icmp(host, place, ident, words)
+        }
+        Verb::Errors => {
+            let quoted = quoted(words);
+            bind_icmp(host, place, quoted, words)
+        }
+        Verb::SendTo => send_to(alloc, host, place, words),
+        Verb::SendIcmp => send_icmp(alloc, host, place, words),
+        Verb::SendRaw => send_raw(alloc, host, place, true, words),
+        Verb::SendAny => send_raw(alloc, host, place, false, words),
+        Verb::RecvFrom => receive(alloc, host, place, true, words),
+        Verb::Peek => receive(alloc, host, place, false, words),
     }
 }
 
@@ -38,12 +58,7 @@ fn bind(host: &mut Host, place: usize, words: &mut Words<'_>) -> Answer {
     }
 }
 
-fn bind_icmp(host: &mut Host, place: usize, verb: &str, words: &mut Words<'_>) -> Answer {
-    let endpoint = if verb == "ident" {
-        Endpoint::Ident(words.short("identifier"))
-    } else {
-        quoted(words)
-    };
+fn bind_icmp(host: &mut Host, place: usize, endpoint: Endpoint, words: &mut Words<'_>) -> Answer {
     words.end();
     match host.icmp(place, words) {
         Some(socket) => bound(socket.bind(endpoint)),
@@ -53,13 +68,12 @@ fn bind_icmp(host: &mut Host, place: usize, verb: &str, words: &mut Words<'_>) -
 
 /// What errors are for an ICMP socket: those about what this port sent.
 fn quoted(words: &mut Words<'_>) -> Endpoint {
-    let word = words.word("kind of endpoint");
-    match word {
+    match words.word(Class::KindOfEndpoint) {
         "none" => Endpoint::Unspecified,
         "udp" => Endpoint::Udp(listened(words)),
         "tcp" => Endpoint::Tcp(listened(words)),
         _ => {
-            words.wrong("kind of endpoint", word);
+            words.wrong(Class::KindOfEndpoint);
             Endpoint::Unspecified
         }
     }
@@ -67,7 +81,7 @@ fn quoted(words: &mut Words<'_>) -> Endpoint {
 
 /// A port of every address, or an address and a port.
 fn listened(words: &mut Words<'_>) -> IpListenEndpoint {
-    let word = words.word("port or endpoint");
+    let word = words.word(Class::Listened);
     if let Some(port) = number(word) {
         return IpListenEndpoint { addr: None, port };
     }
@@ -77,7 +91,7 @@ fn listened(words: &mut Words<'_>) -> IpListenEndpoint {
             port: endpoint.port,
         },
         Err(_) => {
-            words.wrong("port or endpoint", word);
+            words.wrong(Class::Listened);
             IpListenEndpoint {
                 addr: None,
                 port: 0,
@@ -109,13 +123,13 @@ fn send_raw(
     alloc: Global,
     host: &mut Host,
     place: usize,
-    verb: &str,
+    is_checked: bool,
     words: &mut Words<'_>,
 ) -> Answer {
     let bytes = words.last_bytes(alloc);
-    let is_refused = verb == "sendraw" && names_tcp_or_udp(Medium::Ip, bytes.as_slice());
+    let is_refused = is_checked && names_tcp_or_udp(Medium::Ip, bytes.as_slice());
     match host.raw(place, words) {
-        Some(_) if is_refused => words.refuse("RawProtocol"),
+        Some(_) if is_refused => words.refuse(Refusal::RawProtocol),
         Some(socket) => sent_raw(socket.send_slice(bytes.as_slice())),
         None => Answer::Done,
     }
@@ -124,30 +138,30 @@ fn send_raw(
 fn bound(answer: Result<(), BindError>) -> Answer {
     match answer {
         Ok(()) => Answer::Done,
-        Err(BindError::InvalidState) => Answer::Error("InvalidState"),
-        Err(BindError::Unaddressable) => Answer::Error("Unaddressable"),
+        Err(BindError::InvalidState) => Answer::Error(Refusal::InvalidState),
+        Err(BindError::Unaddressable) => Answer::Error(Refusal::Unaddressable),
     }
 }
 
 fn sent(answer: Result<(), SendError>) -> Answer {
     match answer {
         Ok(()) => Answer::Done,
-        Err(SendError::Unaddressable) => Answer::Error("Unaddressable"),
-        Err(SendError::BufferFull) => Answer::Error("BufferFull"),
+        Err(SendError::Unaddressable) => Answer::Error(Refusal::Unaddressable),
+        Err(SendError::BufferFull) => Answer::Error(Refusal::BufferFull),
     }
 }
 
 fn sent_raw(answer: Result<(), raw::SendError>) -> Answer {
     match answer {
         Ok(()) => Answer::Done,
-        Err(raw::SendError::BufferFull) => Answer::Error("BufferFull"),
+        Err(raw::SendError::BufferFull) => Answer::Error(Refusal::BufferFull),
     }
 }
 
 fn unread(error: RecvError) -> Answer {
     match error {
-        RecvError::Exhausted => Answer::Error("Exhausted"),
-        RecvError::Truncated => Answer::Error("Truncated"),
+        RecvError::Exhausted => Answer::Error(Refusal::Exhausted),
+        RecvError::Truncated => Answer::Error(Refusal::Truncated),
     }
 }
 
@@ -156,7 +170,7 @@ fn receive(
     alloc: Global,
     host: &mut Host,
     place: usize,
-    verb: &str,
+    takes: bool,
     words: &mut Words<'_>,
 ) -> Answer {
     let most = words.size();
@@ -165,9 +179,9 @@ fn receive(
         return Answer::Done;
     };
     match vec![in alloc; 0; most.min(waiting(socket))].ok() {
-        Some(bytes) if verb == "peek" => peek(socket, bytes, words),
-        Some(bytes) => take(socket, bytes, words),
-        None => words.refuse("Memory"),
+        Some(bytes) if takes => take(socket, bytes, words),
+        Some(bytes) => peek(socket, bytes, words),
+        None => words.refuse(Refusal::Memory),
     }
 }
 
@@ -186,7 +200,7 @@ fn take(socket: &mut Socket, bytes: Vec<u8>, words: &mut Words<'_>) -> Answer {
         Socket::Udp(socket) => datagram(socket, bytes),
         Socket::Icmp(socket) => message(socket, bytes),
         Socket::Raw(socket) => packet(socket, bytes),
-        Socket::Tcp(_) | Socket::Dhcpv4(_) | Socket::Dns(_) => words.refuse("WrongKind"),
+        Socket::Tcp(_) | Socket::Dhcpv4(_) | Socket::Dns(_) => words.refuse(Refusal::WrongKind),
     }
 }
 
@@ -194,7 +208,7 @@ fn peek(socket: &mut Socket, bytes: Vec<u8>, words: &mut Words<'_>) -> Answer {
     match socket {
         Socket::Udp(socket) => peek_datagram(socket, bytes),
         Socket::Raw(socket) => peek_packet(socket, bytes),
-        _ => words.refuse("WrongKind"),
+        _ => words.refuse(Refusal::WrongKind),
     }
 }
 

@@ -3,7 +3,8 @@ ghost use Rattle.std.specs.Prelude.{◌<◌, IfSome};
 
 use crate::host::Host;
 use crate::made::{add_all, read_socket};
-use crate::stop::Stop;
+use crate::said::Refusal;
+use crate::stop::{Class, Order, Stop};
 use crate::wire::Wire;
 use crate::words::Words;
 use arrayvec::ArrayVec;
@@ -12,6 +13,17 @@ use ip_wire::{EthernetAddress, HardwareAddress, IpAddress, IpCidr};
 use lan_base::SocketSpec;
 use net_base::{ChecksumCapabilities, DeviceCapabilities, Instant, ManagedSlice, Medium};
 use std::alloc::Global;
+
+/// The lines between `world` and `start`.
+#[derive(Clone, Copy)]
+pub enum Verb {
+    Socket,
+    Seed,
+    Begins,
+    Mac,
+    IsnKey,
+    Checksums,
+}
 
 /// What a script asks for before its line `start`.
 #[derive(Drop)]
@@ -50,31 +62,30 @@ impl Header {
         })
     }
 
-    /// Takes a line of the header but `start`, if there is memory for it.
-    pub fn take<'a>(&mut self, verb: &'a str, words: &mut Words<'a>) -> bool {
+    /// Takes a line of the header, if there is memory for it.
+    pub fn take(&mut self, verb: Verb, words: &mut Words<'_>) -> bool {
         match verb {
-            "socket" => return self.socket(words),
-            "seed" => {
+            Verb::Socket => return self.socket(words),
+            Verb::Seed => {
                 words.host();
                 self.seed = words.number();
             }
-            "begins" => {
+            Verb::Begins => {
                 words.host();
                 self.begins = Instant::from_micros(words.signed_micros());
             }
-            "mac" => {
+            Verb::Mac => {
                 words.host();
                 self.hardware = hardware(words);
             }
-            "isn_key" => {
+            Verb::IsnKey => {
                 words.host();
                 self.isn_key = Some(isn_key(words));
             }
-            "checksums" => {
+            Verb::Checksums => {
                 words.host();
                 self.device.checksum = checksums(words);
             }
-            _ => words.note(Stop::order("`start` comes first", verb)),
         }
         words.end();
         words.is_taken()
@@ -82,13 +93,17 @@ impl Header {
 
     /// One socket more. Those of a host B, which isn't there, are passed over.
     fn socket(&mut self, words: &mut Words<'_>) -> bool {
-        let word = words.word("host");
-        if word != "A" && word != "B" {
-            words.wrong("host", word);
-        }
+        let is_own = match words.word(Class::Host) {
+            "A" => true,
+            "B" => false,
+            _ => {
+                words.wrong(Class::Host);
+                false
+            }
+        };
         let spec = read_socket(words);
         words.end();
-        if words.is_taken() && word == "A" {
+        if words.is_taken() && is_own {
             self.specs.push(spec).is_ok()
         } else {
             words.is_taken()
@@ -127,7 +142,7 @@ impl Header {
         match Interface::new(alloc, &config, wire, self.begins) {
             Ok(interface) => Some(interface),
             Err(error) => {
-                words.note(Stop::refused(new_error_name(error)));
+                words.note(Stop::Refused(refusal_of(error)));
                 None
             }
         }
@@ -148,12 +163,11 @@ fn fill(alloc: Global, host: &mut Host, specs: &[SocketSpec], words: &mut Words<
 }
 
 fn medium(words: &mut Words<'_>) -> Medium {
-    let word = words.word("medium");
-    match word {
+    match words.word(Class::Medium) {
         "eth" => Medium::Ethernet,
         "ip" => Medium::Ip,
         _ => {
-            words.wrong("medium", word);
+            words.wrong(Class::Medium);
             Medium::Ip
         }
     }
@@ -166,14 +180,14 @@ fn put_blocks(addresses: &mut ArrayVec<IpCidr, TABLE_ROOM>) {
 
 /// A hardware address, or `none` of a medium that has none.
 pub fn hardware(words: &mut Words<'_>) -> HardwareAddress {
-    let word = words.word("hardware address");
-    if word == "none" {
-        return HardwareAddress::Ip;
-    }
-    match word.parse::<EthernetAddress>() {
+    let found = match words.word(Class::HardwareAddress) {
+        "none" => return HardwareAddress::Ip,
+        word => word.parse::<EthernetAddress>(),
+    };
+    match found {
         Ok(station) => HardwareAddress::Ethernet(station),
         Err(_) => {
-            words.wrong("hardware address", word);
+            words.wrong(Class::HardwareAddress);
             HardwareAddress::Ip
         }
     }
@@ -181,11 +195,10 @@ pub fn hardware(words: &mut Words<'_>) -> HardwareAddress {
 
 /// A key of 16 bytes.
 fn isn_key(words: &mut Words<'_>) -> [u8; 16] {
-    let word = words.word("key");
-    match read_key(word.as_bytes()) {
+    match read_key(words.word(Class::Key).as_bytes()) {
         Some(key) => key,
         None => {
-            words.wrong("key", word);
+            words.wrong(Class::Key);
             [0; 16]
         }
     }
@@ -222,12 +235,12 @@ fn checksums(words: &mut Words<'_>) -> ChecksumCapabilities {
     }
 }
 
-fn new_error_name(error: NewError) -> &'static str {
+fn refusal_of(error: NewError) -> Refusal {
     match error {
-        NewError::Medium => "Medium",
-        NewError::NotUnicast => "NotUnicast",
-        NewError::Mtu => "Mtu",
-        NewError::Moment => "Moment",
-        NewError::Memory => "Memory",
+        NewError::Medium => Refusal::Medium,
+        NewError::NotUnicast => Refusal::NotUnicast,
+        NewError::Mtu => Refusal::Mtu,
+        NewError::Moment => Refusal::Moment,
+        NewError::Memory => Refusal::Memory,
     }
 }

@@ -1,5 +1,6 @@
 //! A host that runs: its interface, its sockets and its device.
-use crate::stop::{Stop, WRONG_KIND};
+use crate::said::Refusal;
+use crate::stop::Stop;
 use crate::wire::Wire;
 use crate::words::Words;
 use interface::{Interface, SocketHandle, SocketSet};
@@ -22,7 +23,7 @@ impl Host {
         match self.sockets.get_mut(SocketHandle::at(place)) {
             Some(socket) => Some(socket),
             None => {
-                words.note(Stop::refused("NoSocket"));
+                words.note(Stop::Refused(Refusal::NoSocket));
                 None
             }
         }
@@ -33,7 +34,7 @@ impl Host {
         match self.socket(place, words) {
             Some(Socket::Tcp(socket)) => Some(socket),
             _ => {
-                words.note(WRONG_KIND);
+                words.note(Stop::Refused(Refusal::WrongKind));
                 None
             }
         }
@@ -44,7 +45,7 @@ impl Host {
         match self.socket(place, words) {
             Some(Socket::Udp(socket)) => Some(socket),
             _ => {
-                words.note(WRONG_KIND);
+                words.note(Stop::Refused(Refusal::WrongKind));
                 None
             }
         }
@@ -55,7 +56,7 @@ impl Host {
         match self.socket(place, words) {
             Some(Socket::Icmp(socket)) => Some(socket),
             _ => {
-                words.note(WRONG_KIND);
+                words.note(Stop::Refused(Refusal::WrongKind));
                 None
             }
         }
@@ -66,7 +67,7 @@ impl Host {
         match self.socket(place, words) {
             Some(Socket::Raw(socket)) => Some(socket),
             _ => {
-                words.note(WRONG_KIND);
+                words.note(Stop::Refused(Refusal::WrongKind));
                 None
             }
         }

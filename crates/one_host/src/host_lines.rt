@@ -2,57 +2,49 @@
 use crate::answer::Answer;
 use crate::header::hardware;
 use crate::host::Host;
+use crate::said::{Refusal, Said};
+use crate::stop::Class;
 use crate::words::Words;
 use interface::{HardwareAddrError, Interface, Route, Routes, TABLE_ROOM};
-use ip_wire::{HardwareAddress, IpAddress};
+use ip_wire::IpAddress;
 use net_base::{Duration, Instant};
 use std::alloc::Global;
 
 /// The lines that set something of a host.
-pub const VERBS: [&str; 13] = [
-    "addrs",
-    "hw",
-    "announce",
-    "any_ip",
-    "reassembly",
-    "slots",
-    "route",
-    "exchange_route",
-    "add_route",
-    "drop_route",
-    "no_routes",
-    "no_route_v4",
-    "no_route_v6",
-];
+#[derive(Clone, Copy)]
+pub enum Verb {
+    Addrs,
+    Hw,
+    Announce,
+    AnyIp,
+    Reassembly,
+    Slots,
+    Route,
+    ExchangeRoute,
+    AddRoute,
+    DropRoute,
+    NoRoutes,
+    NoRouteV4,
+    NoRouteV6,
+}
 
 /// Plays one of these lines.
-pub fn play(alloc: Global, host: &mut Host, verb: &str, words: &mut Words<'_>) -> Answer {
+pub fn play(alloc: Global, host: &mut Host, verb: Verb, words: &mut Words<'_>) -> Answer {
     words.host();
-    if verb == "announce" {
-        return announce(host, words);
-    }
     let interface = &mut host.interface;
     match verb {
-        "addrs" => return set_addresses(interface, words),
-        "hw" => {
-            let address = hardware(words);
-            words.end();
-            if words.is_taken() {
-                return set_hardware(interface, address);
-            }
-        }
-        "any_ip" => {
-            let any = words.switch();
-            words.end();
-            if words.is_taken() {
-                interface.set_any_ip(any);
-            }
-        }
-        "reassembly" => set_reassembly_timeout(interface, words),
-        "slots" => return set_reassembly_slots(alloc, interface, words),
-        _ => return routes(interface, verb, words),
+        Verb::Announce => announce(host, words),
+        Verb::Addrs => set_addresses(interface, words),
+        Verb::Hw => set_hardware(interface, words),
+        Verb::AnyIp => set_any_ip(interface, words),
+        Verb::Reassembly => set_reassembly_timeout(interface, words),
+        Verb::Slots => set_reassembly_slots(alloc, interface, words),
+        Verb::Route => set_router(interface, false, words),
+        Verb::ExchangeRoute => set_router(interface, true, words),
+        Verb::AddRoute => add_route(interface, words),
+        Verb::DropRoute => drop_route(interface, words),
+        Verb::NoRoutes | Verb::NoRouteV4 | Verb::NoRouteV6 => drop_routes(interface, verb, words),
     }
-    Answer::Done
 }
 
 fn set_addresses(interface: &mut Interface, words: &mut Words<'_>) -> Answer {
@@ -62,14 +54,27 @@ fn set_addresses(interface: &mut Interface, words: &mut Words<'_>) -> Answer {
     }
     match interface.update_ip_addrs(|addresses| *addresses = blocks) {
         Ok(()) => Answer::Done,
-        Err(_) => Answer::Error("NotUnicast"),
+        Err(_) => Answer::Error(Refusal::NotUnicast),
     }
 }
 
-fn set_hardware(interface: &mut Interface, address: HardwareAddress) -> Answer {
+fn set_any_ip(interface: &mut Interface, words: &mut Words<'_>) -> Answer {
+    let any = words.last_switch();
+    if words.is_taken() {
+        interface.set_any_ip(any);
+    }
+    Answer::Done
+}
+
+fn set_hardware(interface: &mut Interface, words: &mut Words<'_>) -> Answer {
+    let address = hardware(words);
+    words.end();
+    if !words.is_taken() {
+        return Answer::Done;
+    }
     match interface.set_hardware_addr(address) {
         Ok(()) => Answer::Done,
-        Err(error) => Answer::Error(hardware_error_name(error)),
+        Err(error) => Answer::Error(refusal_of(error)),
     }
 }
 
@@ -85,19 +90,19 @@ fn announce(host: &mut Host, words: &mut Words<'_>) -> Answer {
         .interface
         .update_hardware_addr(now, &mut host.wire, address)
     {
-        Ok(told) => Answer::Number("told", told as u64),
-        Err(error) => Answer::Error(hardware_error_name(error)),
+        Ok(told) => Answer::Number(Said::Told, told as u64),
+        Err(error) => Answer::Error(refusal_of(error)),
     }
 }
 
-fn hardware_error_name(error: HardwareAddrError) -> &'static str {
+fn refusal_of(error: HardwareAddrError) -> Refusal {
     match error {
-        HardwareAddrError::Medium => "Medium",
-        HardwareAddrError::NotUnicast => "NotUnicast",
+        HardwareAddrError::Medium => Refusal::Medium,
+        HardwareAddrError::NotUnicast => Refusal::NotUnicast,
     }
 }
 
-fn set_reassembly_timeout(interface: &mut Interface, words: &mut Words<'_>) {
+fn set_reassembly_timeout(interface: &mut Interface, words: &mut Words<'_>) -> Answer {
     let span = words.span();
     words.end();
     match span {
@@ -105,51 +110,53 @@ fn set_reassembly_timeout(interface: &mut Interface, words: &mut Words<'_>) {
             interface.set_reassembly_timeout(Duration::from_micros(micros));
         }
         Some(_) => {}
-        None => words.wrong("number", "none"),
+        None => words.wrong(Class::Number),
     }
+    Answer::Done
 }
 
 fn set_reassembly_slots(alloc: Global, interface: &mut Interface, words: &mut Words<'_>) -> Answer {
     let count = words.size();
     words.end();
     if words.is_taken() && interface.set_reassembly_slots(alloc, count).is_err() {
-        return words.refuse("Memory");
+        return words.refuse(Refusal::Memory);
     }
     Answer::Done
 }
 
-/// Plays a line about routes.
-fn routes(interface: &mut Interface, verb: &str, words: &mut Words<'_>) -> Answer {
-    match verb {
-        "route" | "exchange_route" => {
-            let router = words.address();
-            words.end();
-            if words.is_taken() {
-                let exchanges = verb == "exchange_route";
-                return interface.update_routes(|routes| default_route(routes, router, exchanges));
-            }
-        }
-        "add_route" => return add_route(interface, words),
-        "drop_route" => {
-            let place = words.size();
-            words.end();
-            if words.is_taken() {
-                return interface.update_routes(|routes| dropped(routes.remove(place)));
-            }
-        }
-        _ => {
-            words.end();
-            if words.is_taken() {
-                return interface.update_routes(|routes| no_route(routes, verb));
-            }
-        }
+/// The router of all other packets of its family: whether there was room, or the one that it takes the place of.
+fn set_router(interface: &mut Interface, exchanges: bool, words: &mut Words<'_>) -> Answer {
+    let router = words.address();
+    words.end();
+    if words.is_taken() {
+        interface.update_routes(|routes| default_route(routes, router, exchanges))
+    } else {
+        Answer::Done
     }
-    Answer::Done
+}
+
+fn drop_route(interface: &mut Interface, words: &mut Words<'_>) -> Answer {
+    let place = words.size();
+    words.end();
+    if words.is_taken() {
+        interface.update_routes(|routes| dropped(routes.remove(place)))
+    } else {
+        Answer::Done
+    }
+}
+
+fn drop_routes(interface: &mut Interface, verb: Verb, words: &mut Words<'_>) -> Answer {
+    words.end();
+    if words.is_taken() {
+        interface.update_routes(|routes| no_route(routes, verb))
+    } else {
+        Answer::Done
+    }
 }
 
 fn add_route(interface: &mut Interface, words: &mut Words<'_>) -> Answer {
     let (cidr, via_router) = (words.block(), words.address());
-    let expires_at = moment_of(words.until());
+    let expires_at = words.until().map(Instant::from_micros);
     words.end();
     if !words.is_taken() {
         return Answer::Done;
@@ -163,14 +170,6 @@ fn add_route(interface: &mut Interface, words: &mut Words<'_>) -> Answer {
     interface.update_routes(|routes| added(routes.push(route).is_ok()))
 }
 
-fn moment_of(micros: Option<i64>) -> Option<Instant> {
-    match micros {
-        Some(micros) => Some(Instant::from_micros(micros)),
-        None => None,
-    }
-}
-
-/// Makes this the router of all other packets of its family: whether there was room, or the router that it takes the place of.
 fn default_route(routes: &mut Routes<TABLE_ROOM>, router: IpAddress, exchanges: bool) -> Answer {
     let answer = match router {
         IpAddress::Ipv4(router) => routes.add_default_ipv4_route(router),
@@ -179,7 +178,7 @@ fn default_route(routes: &mut Routes<TABLE_ROOM>, router: IpAddress, exchanges: 
     match answer {
         Ok(old) if exchanges => dropped(old),
         Ok(_) => Answer::Done,
-        Err(_) => Answer::Error("RouteTableFull"),
+        Err(_) => Answer::Error(Refusal::RouteTableFull),
     }
 }
 
@@ -187,23 +186,23 @@ fn added(is_added: bool) -> Answer {
     if is_added {
         Answer::Done
     } else {
-        Answer::Error("RouteTableFull")
+        Answer::Error(Refusal::RouteTableFull)
     }
 }
 
 /// The router of the route that was taken out.
 fn dropped(route: Option<Route>) -> Answer {
     match route {
-        Some(route) => Answer::Address("is", route.via_router),
-        None => Answer::Says("none"),
+        Some(route) => Answer::Address(Said::Is, route.via_router),
+        None => Answer::Says(Said::Nothing),
     }
 }
 
 /// Takes out the default routes of a family, or all routes.
-fn no_route(routes: &mut Routes<TABLE_ROOM>, verb: &str) -> Answer {
+fn no_route(routes: &mut Routes<TABLE_ROOM>, verb: Verb) -> Answer {
     match verb {
-        "no_route_v4" => dropped(routes.remove_default_ipv4_route()),
-        "no_route_v6" => dropped(routes.remove_default_ipv6_route()),
+        Verb::NoRouteV4 => dropped(routes.remove_default_ipv4_route()),
+        Verb::NoRouteV6 => dropped(routes.remove_default_ipv6_route()),
         _ => {
             routes.clear();
             Answer::Done

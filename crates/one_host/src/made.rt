@@ -1,5 +1,6 @@
 //! The sockets that a script's header asks for.
-use crate::stop::Stop;
+use crate::said::Refusal;
+use crate::stop::{Class, Stop};
 use crate::words::{Words, number};
 use interface::SocketSet;
 use ip_wire::{IpProtocol, IpVersion};
@@ -21,8 +22,7 @@ const NO_SOCKET: SocketSpec = SocketSpec::Tcp(StreamSizes {
 
 /// Reads what stands behind `socket H`.
 pub fn read_socket(words: &mut Words<'_>) -> SocketSpec {
-    let kind = words.word("kind of socket");
-    match kind {
+    match words.word(Class::Kind) {
         "udp" => SocketSpec::Udp(queue_sizes(words)),
         "icmp" => SocketSpec::Icmp(queue_sizes(words)),
         "raw" => SocketSpec::Raw(version(words), protocol(words), queue_sizes(words)),
@@ -31,7 +31,7 @@ pub fn read_socket(words: &mut Words<'_>) -> SocketSpec {
             send_bytes: words.size(),
         }),
         _ => {
-            words.wrong("kind of socket", kind);
+            words.wrong(Class::Kind);
             NO_SOCKET
         }
     }
@@ -48,26 +48,24 @@ fn queue_sizes(words: &mut Words<'_>) -> QueueSizes {
 }
 
 fn version(words: &mut Words<'_>) -> Option<IpVersion> {
-    let word = words.word("version of IP");
-    match word {
+    match words.word(Class::Version) {
         "4" => Some(IpVersion::Ipv4),
         "6" => Some(IpVersion::Ipv6),
         "any" => None,
         _ => {
-            words.wrong("version of IP", word);
+            words.wrong(Class::Version);
             None
         }
     }
 }
 
 fn protocol(words: &mut Words<'_>) -> Option<u8> {
-    let word = words.word("protocol");
-    if word == "any" {
-        return None;
-    }
-    let found = number(word);
+    let found = match words.word(Class::Protocol) {
+        "any" => return None,
+        word => number(word),
+    };
     if found.is_none() {
-        words.wrong("protocol", word);
+        words.wrong(Class::Protocol);
     }
     found
 }
@@ -94,7 +92,7 @@ fn add(
     words: &mut Words<'_>,
 ) -> bool {
     if !is_short(spec) {
-        words.note(Stop::refused("Buffers"));
+        words.note(Stop::Refused(Refusal::Buffers));
         return false;
     }
     match socket_of(alloc, spec) {

@@ -3,38 +3,52 @@ ghost use Rattle.net_base.specs.Time.{IsMoment};
 
 use crate::answer::Answer;
 use crate::host::Host;
+use crate::said::{Refusal, Said};
+use crate::stop::Class;
 use crate::words::Words;
 use interface::{PollIngressSingleResult, PollResult};
 use net_base::Instant;
 
 /// The lines that poll a host, or ask when it wants that.
-pub const VERBS: [&str; 6] = ["poll", "egress", "ingress", "maintain", "pollat", "delay"];
+#[derive(Clone, Copy)]
+pub enum Verb {
+    Poll,
+    Egress,
+    Ingress,
+    Maintain,
+    PollAt,
+    Delay,
+}
 
 /// Plays one of these lines.
-pub fn play(host: &mut Host, verb: &str, words: &mut Words<'_>) -> Answer {
+pub fn play(host: &mut Host, verb: Verb, words: &mut Words<'_>) -> Answer {
     words.host();
     let now = Instant::from_micros(words.micros());
     if !now.is_moment() {
-        return words.refuse("Moment");
+        return words.refuse(Refusal::Moment);
     }
     let budget = budget(verb, words);
     if !words.is_taken() {
         return Answer::Done;
     }
     match verb {
-        "poll" => poll(host, now, budget),
-        "egress" => egress(host, now),
-        "ingress" => ingress(host, now),
-        _ => asked(host, verb, now),
+        Verb::Poll => poll(host, now, budget),
+        Verb::Egress => egress(host, now),
+        Verb::Ingress => ingress(host, now),
+        Verb::Maintain => {
+            host.interface.poll_maintenance(now);
+            Answer::Done
+        }
+        Verb::PollAt => moment(host, now),
+        Verb::Delay => delay(host, now),
     }
 }
 
 /// The last word of a line, which `poll` alone has.
-fn budget(verb: &str, words: &mut Words<'_>) -> u16 {
-    let budget = if verb == "poll" {
-        words.short("budget")
-    } else {
-        0
+fn budget(verb: Verb, words: &mut Words<'_>) -> u16 {
+    let budget = match verb {
+        Verb::Poll => words.short(Class::Budget),
+        _ => 0,
     };
     words.end();
     budget
@@ -67,37 +81,35 @@ fn ingress(host: &mut Host, now: Instant) -> Answer
     )
 }
 
-/// Plays a line that sends nothing.
-fn asked(host: &mut Host, verb: &str, now: Instant) -> Answer
+fn moment(host: &mut Host, now: Instant) -> Answer
     requires { IsMoment now }
 {
-    match verb {
-        "maintain" => {
-            host.interface.poll_maintenance(now);
-            Answer::Done
-        }
-        "delay" => match host.interface.poll_delay(now, &host.sockets) {
-            Some(delay) => Answer::Number("in", delay.total_micros()),
-            None => Answer::Says("never"),
-        },
-        _ => match host.interface.poll_at(now, &host.sockets) {
-            Some(moment) => Answer::At(moment),
-            None => Answer::Says("never"),
-        },
+    match host.interface.poll_at(now, &host.sockets) {
+        Some(moment) => Answer::At(moment),
+        None => Answer::Says(Said::Never),
+    }
+}
+
+fn delay(host: &mut Host, now: Instant) -> Answer
+    requires { IsMoment now }
+{
+    match host.interface.poll_delay(now, &host.sockets) {
+        Some(delay) => Answer::Number(Said::In, delay.total_micros()),
+        None => Answer::Says(Said::Never),
     }
 }
 
 fn polled(answer: PollResult) -> Answer {
     Answer::Says(match answer {
-        PollResult::None => "none",
-        PollResult::SocketStateChanged => "changed",
+        PollResult::None => Said::Nothing,
+        PollResult::SocketStateChanged => Said::Changed,
     })
 }
 
 fn took(answer: PollIngressSingleResult) -> Answer {
     Answer::Says(match answer {
-        PollIngressSingleResult::None => "none",
-        PollIngressSingleResult::PacketProcessed => "processed",
-        PollIngressSingleResult::SocketStateChanged => "changed",
+        PollIngressSingleResult::None => Said::Nothing,
+        PollIngressSingleResult::PacketProcessed => Said::Processed,
+        PollIngressSingleResult::SocketStateChanged => Said::Changed,
     })
 }

@@ -105,7 +105,7 @@ impl Run {
         match self.session.take_line(alloc, self.begun.as_slice()) {
             Ok(text) => Ok(text),
             Err(stop) => {
-                let text = stop.to_text(alloc)?;
+                let text = stop.to_text(alloc, self.begun.as_slice())?;
                 self.stop();
                 format!(in alloc; "line {number}: {text}\n")
             }

@@ -2,22 +2,12 @@
 use crate::answer::{Answer, put_sent};
 use crate::header::Header;
 use crate::host::Host;
-use crate::stop::{CARRIAGE_RETURN, Stop};
+use crate::line::Line;
+use crate::stop::{Class, Order, Stop};
 use crate::words::Words;
 use crate::{asks, datagrams, device_lines, host_lines, polls, settings, streams};
 use std::alloc::{AllocError, Global};
 use std::mem::replace;
-
-/// The lines that stand before the host runs.
-const BEFORE: [&str; 7] = [
-    "world",
-    "socket",
-    "seed",
-    "mac",
-    "begins",
-    "checksums",
-    "start",
-];
 
 /// How far a script has come.
 #[derive(Drop)]
@@ -33,10 +23,10 @@ pub enum Session {
 impl Session {
     /// Takes one line of ASCII, without the byte 0a that ends it: what it writes. A line without bytes, or that begins with `#`, says
     /// nothing.
-    pub fn take_line<'a>(&mut self, alloc: Global, line: &'a [u8]) -> Result<String, Stop<'a>> {
+    pub fn take_line(&mut self, alloc: Global, line: &[u8]) -> Result<String, Stop> {
         let text = match str::from_utf8(line) {
             Ok(text) if !text.ends_with('\r') => text,
-            _ => return Err(CARRIAGE_RETURN),
+            _ => return Err(Stop::CarriageReturn),
         };
         if text.is_empty() || text.starts_with('#') {
             return Ok(String::new(alloc));
@@ -50,26 +40,32 @@ impl Session {
 
     // Takes a line that says something. None: it isn't taken.
     fn take_words(&mut self, alloc: Global, words: &mut Words<'_>) -> Option<String> {
-        let verb = words.word("line");
+        let line = Line::of(words.word(Class::Line));
         match self {
             Session::Begun => {
-                let header = begun(alloc, verb, words)?;
+                let header = begun(alloc, line, words)?;
                 self.set(Session::Header(header));
                 Some(String::new(alloc))
             }
-            Session::Header(header) if verb == "start" => {
-                let host = started(alloc, header, words)?;
-                self.set(Session::Running(host));
-                String::from_str(alloc, "ok\n").ok()
-            }
-            Session::Header(header) => {
-                if header.take(verb, words) {
-                    Some(String::new(alloc))
-                } else {
+            Session::Header(header) => match line {
+                Line::Start => {
+                    let host = started(alloc, header, words)?;
+                    self.set(Session::Running(host));
+                    String::from_str(alloc, "ok\n").ok()
+                }
+                Line::Header(verb) => {
+                    if header.take(verb, words) {
+                        Some(String::new(alloc))
+                    } else {
+                        None
+                    }
+                }
+                _ => {
+                    words.note(Stop::Misplaced(Order::StartFirst, 1));
                     None
                 }
-            }
-            Session::Running(host) => go_on(alloc, host, verb, words),
+            },
+            Session::Running(host) => go_on(alloc, host, line, words),
         }
     }
 
@@ -80,9 +76,10 @@ impl Session {
 }
 
 // What the first line of a script asks for.
-fn begun<'a>(alloc: Global, verb: &'a str, words: &mut Words<'a>) -> Option<Header> {
-    if verb != "world" {
-        words.note(Stop::order("`world` comes first", verb));
+fn begun(alloc: Global, line: Line, words: &mut Words<'_>) -> Option<Header> {
+    match line {
+        Line::World => {}
+        _ => words.note(Stop::Misplaced(Order::WorldFirst, 1)),
     }
     Header::read(alloc, words)
 }
@@ -98,13 +95,8 @@ fn started(alloc: Global, header: &Header, words: &mut Words<'_>) -> Option<Box<
 }
 
 /// Takes a line once the host runs: its answer, and the frames that were sent then.
-fn go_on<'a>(
-    alloc: Global,
-    host: &mut Host,
-    verb: &'a str,
-    words: &mut Words<'a>,
-) -> Option<String> {
-    let answer = play(alloc, host, verb, words);
+fn go_on(alloc: Global, host: &mut Host, line: Line, words: &mut Words<'_>) -> Option<String> {
+    let answer = play(alloc, host, line, words);
     if words.is_taken() {
         written(alloc, &answer, host).ok()
     } else {
@@ -112,41 +104,25 @@ fn go_on<'a>(
     }
 }
 
-fn play<'a>(alloc: Global, host: &mut Host, verb: &'a str, words: &mut Words<'a>) -> Answer {
-    if is_one_of(verb, &streams::VERBS) {
-        streams::play(alloc, host, verb, words)
-    } else if is_one_of(verb, &datagrams::VERBS) {
-        datagrams::play(alloc, host, verb, words)
-    } else if is_one_of(verb, &host_lines::VERBS) {
-        host_lines::play(alloc, host, verb, words)
-    } else if is_one_of(verb, &polls::VERBS) {
-        polls::play(host, verb, words)
-    } else if is_one_of(verb, &device_lines::VERBS) {
-        device_lines::play(alloc, host, verb, words)
-    } else {
-        play_question(host, verb, words)
-    }
-}
-
-// Plays a line that sets or asks for something, or says that it is none.
-fn play_question<'a>(host: &mut Host, verb: &'a str, words: &mut Words<'a>) -> Answer {
-    match verb {
-        "set" => settings::set(host, words),
-        "get" => settings::get(host, words),
-        "ask" => asks::play(host, words),
-        _ => {
-            words.note(if is_one_of(verb, &BEFORE) {
-                Stop::order("it stands before the host runs", verb)
-            } else {
-                Stop::wrong("such line", verb)
-            });
+fn play(alloc: Global, host: &mut Host, line: Line, words: &mut Words<'_>) -> Answer {
+    match line {
+        Line::Stream(verb) => streams::play(alloc, host, verb, words),
+        Line::Datagram(verb) => datagrams::play(alloc, host, verb, words),
+        Line::Host(verb) => host_lines::play(alloc, host, verb, words),
+        Line::Poll(verb) => polls::play(host, verb, words),
+        Line::Device(verb) => device_lines::play(alloc, host, verb, words),
+        Line::Set => settings::set(host, words),
+        Line::Get => settings::get(host, words),
+        Line::Ask => asks::play(host, words),
+        Line::World | Line::Start | Line::Header(_) => {
+            words.note(Stop::Misplaced(Order::BeforeStart, 1));
+            Answer::Done
+        }
+        Line::Unknown => {
+            words.note(Stop::Wrong(Class::SuchLine, 1));
             Answer::Done
         }
     }
-}
-
-fn is_one_of(verb: &str, verbs: &[&str]) -> bool {
-    verbs.iter().any(|other| *other == verb)
 }
 
 // The line of an answer, and one for each frame that was sent since the last line, which are let go.

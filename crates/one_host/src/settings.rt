@@ -1,6 +1,8 @@
 //! Lines that set what a socket has, or ask for it.
 use crate::answer::Answer;
 use crate::host::Host;
+use crate::said::{Refusal, Said};
+use crate::stop::Class;
 use crate::words::{Words, number};
 use ip_wire::TcpTimestampGenerator;
 use net_base::Duration;
@@ -11,33 +13,51 @@ use sockets::{Socket, icmp, raw, udp};
 pub fn set(host: &mut Host, words: &mut Words<'_>) -> Answer {
     words.host();
     let place = words.size();
-    let name = words.word("setting");
-    if name == "hop_limit" {
-        return match host.socket(place, words) {
+    let name = words.word(Class::Setting);
+    match name {
+        "hop_limit" => match host.socket(place, words) {
             Some(socket) => set_hop_limit(socket, words),
             None => Answer::Done,
-        };
+        },
+        _ => {
+            if let Some(socket) = host.tcp(place, words) {
+                set_tcp(socket, name, words);
+            }
+            Answer::Done
+        }
     }
-    if let Some(socket) = host.tcp(place, words) {
-        set_tcp(socket, name, words);
-    }
-    Answer::Done
 }
 
-fn set_tcp<'a>(socket: &mut tcp::Socket, name: &'a str, words: &mut Words<'a>) {
+fn set_tcp(socket: &mut tcp::Socket, name: &str, words: &mut Words<'_>) {
     match name {
-        "timeout" | "ack_delay" | "keep_alive" => {
-            let span = duration_of(words.span());
-            words.end();
+        "timeout" => {
+            let span = last_span(words);
             if words.is_taken() {
-                set_span(socket, name, span);
+                socket.set_timeout(span);
             }
         }
-        "nagle" | "pause" => {
-            let is_on = words.switch();
-            words.end();
+        "ack_delay" => {
+            let span = last_span(words);
             if words.is_taken() {
-                switch(socket, name, is_on);
+                socket.set_ack_delay(span);
+            }
+        }
+        "keep_alive" => {
+            let span = last_span(words);
+            if words.is_taken() {
+                socket.set_keep_alive(span);
+            }
+        }
+        "nagle" => {
+            let is_on = words.last_switch();
+            if words.is_taken() {
+                socket.set_nagle_enabled(is_on);
+            }
+        }
+        "pause" => {
+            let is_on = words.last_switch();
+            if words.is_taken() {
+                socket.pause_synack(is_on);
             }
         }
         "congestion" => {
@@ -54,31 +74,15 @@ fn set_tcp<'a>(socket: &mut tcp::Socket, name: &'a str, words: &mut Words<'a>) {
                 socket.set_tsval_generator(generator);
             }
         }
-        _ => words.wrong("setting", name),
+        _ => words.wrong(Class::Setting),
     }
 }
 
-fn duration_of(micros: Option<u64>) -> Option<Duration> {
-    match micros {
-        Some(micros) => Some(Duration::from_micros(micros)),
-        None => None,
-    }
-}
-
-fn set_span(socket: &mut tcp::Socket, name: &str, span: Option<Duration>) {
-    match name {
-        "timeout" => socket.set_timeout(span),
-        "ack_delay" => socket.set_ack_delay(span),
-        _ => socket.set_keep_alive(span),
-    }
-}
-
-fn switch(socket: &mut tcp::Socket, name: &str, is_on: bool) {
-    if name == "nagle" {
-        socket.set_nagle_enabled(is_on);
-    } else {
-        socket.pause_synack(is_on);
-    }
+/// The last word, which says how long something takes, or none.
+fn last_span(words: &mut Words<'_>) -> Option<Duration> {
+    let span = words.span().map(Duration::from_micros);
+    words.end();
+    span
 }
 
 fn set_hop_limit(socket: &mut Socket, words: &mut Words<'_>) -> Answer {
@@ -91,19 +95,20 @@ fn set_hop_limit(socket: &mut Socket, words: &mut Words<'_>) -> Answer {
         Socket::Tcp(socket) => socket.set_hop_limit(hops),
         Socket::Udp(socket) => socket.set_hop_limit(hops),
         Socket::Icmp(socket) => socket.set_hop_limit(hops),
-        Socket::Raw(_) | Socket::Dhcpv4(_) | Socket::Dns(_) => return words.refuse("WrongKind"),
+        Socket::Raw(_) | Socket::Dhcpv4(_) | Socket::Dns(_) => return words.refuse(
+            Refusal::WrongKind,
+        ),
     }
     Answer::Done
 }
 
 fn control(words: &mut Words<'_>) -> CongestionControl {
-    let word = words.word("congestion control");
-    match word {
+    match words.word(Class::Control) {
         "none" => CongestionControl::None,
         "reno" => CongestionControl::Reno,
         "cubic" => CongestionControl::Cubic,
         _ => {
-            words.wrong("congestion control", word);
+            words.wrong(Class::Control);
             CongestionControl::None
         }
     }
@@ -121,7 +126,7 @@ fn generator(words: &mut Words<'_>) -> Option<TcpTimestampGenerator> {
 pub fn get(host: &mut Host, words: &mut Words<'_>) -> Answer {
     words.host();
     let place = words.size();
-    let name = words.word("setting");
+    let name = words.word(Class::Setting);
     words.end();
     let Some(socket) = host.socket(place, words) else {
         return Answer::Done;
@@ -131,12 +136,12 @@ pub fn get(host: &mut Host, words: &mut Words<'_>) -> Answer {
         Socket::Udp(socket) => of_udp(socket).get(name),
         Socket::Icmp(socket) => of_icmp(socket).get(name),
         Socket::Raw(socket) => get_raw(socket, name),
-        Socket::Dhcpv4(_) | Socket::Dns(_) => return words.refuse("WrongKind"),
+        Socket::Dhcpv4(_) | Socket::Dns(_) => return words.refuse(Refusal::WrongKind),
     };
     match found {
         Some(answer) => answer,
         None => {
-            words.wrong("setting", name);
+            words.wrong(Class::Setting);
             Answer::Done
         }
     }
@@ -172,19 +177,22 @@ fn of_icmp(socket: &icmp::Socket) -> Common {
     }
 }
 
-// A raw socket's packets have their own hop limits.
-fn get_raw(socket: &raw::Socket, name: &str) -> Option<Answer> {
-    if name == "hop_limit" {
-        return None;
-    }
-    let found = Common {
+fn of_raw(socket: &raw::Socket) -> Common {
+    Common {
         can_send: socket.can_send(),
         can_recv: socket.can_recv(),
         send_queue: socket.send_queue(),
         recv_queue: socket.recv_queue(),
         hop_limit: None,
-    };
-    found.get(name)
+    }
+}
+
+// A raw socket's packets have their own hop limits.
+fn get_raw(socket: &raw::Socket, name: &str) -> Option<Answer> {
+    match name {
+        "hop_limit" => None,
+        _ => of_raw(socket).get(name),
+    }
 }
 
 impl Common {
@@ -201,20 +209,20 @@ impl Common {
 }
 
 fn count(count: usize) -> Answer {
-    Answer::Number("is", count as u64)
+    Answer::Number(Said::Is, count as u64)
 }
 
 fn span(span: Option<Duration>) -> Answer {
     match span {
-        Some(span) => Answer::Number("in", span.total_micros()),
-        None => Answer::Says("none"),
+        Some(span) => Answer::Number(Said::In, span.total_micros()),
+        None => Answer::Says(Said::Nothing),
     }
 }
 
 fn hops(hops: Option<u8>) -> Answer {
     match hops {
-        Some(hops) => Answer::Number("is", u64::from(hops)),
-        None => Answer::Says("none"),
+        Some(hops) => Answer::Number(Said::Is, u64::from(hops)),
+        None => Answer::Says(Said::Nothing),
     }
 }
 

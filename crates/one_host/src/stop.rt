@@ -1,93 +1,148 @@
 //! Why a line isn't taken.
+use crate::said::Refusal;
 use std::alloc::{AllocError, Global};
+use std::str;
 
 /// How much of a word is shown, in characters.
 const MOST_SHOWN: usize = 40;
 
-/// Why a line ended its script: what is said of it, and the word that isn't taken, if there is one.
+/// What a word is to be.
 #[derive(Clone, Copy)]
-pub struct Stop<'a> {
-    said: &'static str,
-    what: &'static str,
-    word: Option<&'a str>,
-    // What is said in place of a word.
-    end: &'static str,
+pub enum Class {
+    Line,
+    /// One that there is.
+    SuchLine,
+    Host,
+    Number,
+    Medium,
+    HardwareAddress,
+    Key,
+    Kind,
+    Version,
+    Protocol,
+    Question,
+    Setting,
+    Switch,
+    Control,
+    HopLimit,
+    Identifier,
+    Port,
+    Listened,
+    KindOfEndpoint,
+    Endpoint,
+    Address,
+    Block,
+    Bytes,
+    Budget,
 }
 
-/// The line ends with a carriage return.
-pub const CARRIAGE_RETURN: Stop<'static> = Stop {
-    said: "bad event: a carriage return ends the line",
-    what: "",
-    word: None,
-    end: "",
-};
-
-/// No memory for what the line says.
-pub const NO_MEMORY: Stop<'static> = Stop {
-    said: "refused ",
-    what: "Memory",
-    word: None,
-    end: "",
-};
-
-/// The socket at a place is of another kind.
-pub const WRONG_KIND: Stop<'static> = Stop {
-    said: "refused ",
-    what: "WrongKind",
-    word: None,
-    end: "",
-};
-
-impl<'a> Stop<'a> {
-    /// The line ends where a word of this class is wanted.
-    pub fn missing(class: &'static str) -> Stop<'a> {
-        Stop {
-            said: "bad event: no ",
-            what: class,
-            word: None,
-            end: ": the line ends",
+impl Class {
+    fn text(self) -> &'static str {
+        match self {
+            Class::Line => "line",
+            Class::SuchLine => "such line",
+            Class::Host => "host",
+            Class::Number => "number",
+            Class::Medium => "medium",
+            Class::HardwareAddress => "hardware address",
+            Class::Key => "key",
+            Class::Kind => "kind of socket",
+            Class::Version => "version of IP",
+            Class::Protocol => "protocol",
+            Class::Question => "question",
+            Class::Setting => "setting",
+            Class::Switch => "on or off",
+            Class::Control => "congestion control",
+            Class::HopLimit => "hop limit",
+            Class::Identifier => "identifier",
+            Class::Port => "port",
+            Class::Listened => "port or endpoint",
+            Class::KindOfEndpoint => "kind of endpoint",
+            Class::Endpoint => "endpoint",
+            Class::Address => "address",
+            Class::Block => "block",
+            Class::Bytes => "bytes",
+            Class::Budget => "budget",
         }
     }
+}
 
+/// Where a line or a word has to stand.
+#[derive(Clone, Copy)]
+pub enum Order {
+    WorldFirst,
+    StartFirst,
+    BeforeStart,
+    TooMany,
+}
+
+impl Order {
+    fn text(self) -> &'static str {
+        match self {
+            Order::WorldFirst => "`world` comes first",
+            Order::StartFirst => "`start` comes first",
+            Order::BeforeStart => "it stands before the host runs",
+            Order::TooMany => "a word too many",
+        }
+    }
+}
+
+/// Why a line ended its script. A word is named by its number, from 1.
+#[derive(Clone, Copy)]
+pub enum Stop {
+    /// The line ends with a carriage return.
+    CarriageReturn,
+    /// It ends where a word of this class is wanted.
+    Missing(Class),
     /// This word is none of this class.
-    pub fn wrong(class: &'static str, word: &'a str) -> Stop<'a> {
-        Stop {
-            said: "bad event: no ",
-            what: class,
-            word: Some(word),
-            end: "",
-        }
-    }
-
-    /// A line that begins with this word stands where another is wanted, or this word behind the last one that is wanted.
-    pub fn order(rule: &'static str, word: &'a str) -> Stop<'a> {
-        Stop {
-            said: "bad event: ",
-            what: rule,
-            word: Some(word),
-            end: "",
-        }
-    }
-
+    Wrong(Class, usize),
+    /// This word, or a line that begins with it, doesn't stand here.
+    Misplaced(Order, usize),
     /// What the line says isn't done.
-    pub fn refused(name: &'static str) -> Stop<'a> {
-        Stop {
-            said: "refused ",
-            what: name,
-            word: None,
-            end: "",
+    Refused(Refusal),
+}
+
+impl Stop {
+    /// What is written of it behind the line's number, of this line.
+    pub fn to_text(self, alloc: Global, line: &[u8]) -> Result<String, AllocError> {
+        match self {
+            Stop::CarriageReturn => {
+                String::from_str(alloc, "bad event: a carriage return ends the line")
+            }
+            Stop::Missing(class) => {
+                format!(in alloc; "bad event: no {}: the line ends", class.text())
+            }
+            Stop::Wrong(class, number) => text_of(alloc, "no ", class.text(), line, number),
+            Stop::Misplaced(order, number) => text_of(alloc, "", order.text(), line, number),
+            Stop::Refused(refusal) => format!(in alloc; "refused {}", refusal.text()),
         }
     }
+}
 
-    /// What is written of it behind the line's number.
-    pub fn to_text(&self, alloc: Global) -> Result<String, AllocError> {
-        match self.word {
-            Some(word) => {
-                let word = shown(alloc, word)?;
-                format!(in alloc; "{}{}: {word}", self.said, self.what)
-            }
-            None => format!(in alloc; "{}{}{}", self.said, self.what, self.end),
-        }
+/// What is written of a word of a line.
+fn text_of(
+    alloc: Global,
+    said: &str,
+    what: &str,
+    line: &[u8],
+    number: usize,
+) -> Result<String, AllocError> {
+    let word = shown(alloc, word_at(str::from_utf8(line).unwrap_or(""), number))?;
+    format!(in alloc; "bad event: {said}{what}: {word}")
+}
+
+/// The word of a line that has this number.
+fn word_at(line: &str, number: usize) -> &str {
+    let mut rest = line;
+    for _ in 1..number {
+        rest = match rest.split_once(' ') {
+            Some((_, rest)) => rest,
+            None => "",
+        };
+    }
+    match rest.split_once(' ') {
+        Some((word, _)) => word,
+        None => rest,
     }
 }
 

@@ -1,6 +1,8 @@
 //! Lines of TCP sockets.
 use crate::answer::Answer;
 use crate::host::Host;
+use crate::said::{Refusal, Said};
+use crate::stop::Class;
 use crate::words::Words;
 use interface::SocketHandle;
 use ip_wire::{IpEndpoint, IpListenEndpoint};
@@ -9,53 +11,61 @@ use sockets::tcp::{self, ConnectError, ListenError, RecvError, SendError};
 use std::alloc::Global;
 
 /// The lines of a TCP socket, and of one of UDP that closes.
-pub const VERBS: [&str; 7] = [
-    "listen", "connect", "send", "recv", "close", "abort", "state",
-];
+#[derive(Clone, Copy)]
+pub enum Verb {
+    Listen,
+    Connect,
+    Send,
+    Recv,
+    Close,
+    Abort,
+    State,
+}
 
 /// Plays one of these lines.
-pub fn play(alloc: Global, host: &mut Host, verb: &str, words: &mut Words<'_>) -> Answer {
+pub fn play(alloc: Global, host: &mut Host, verb: Verb, words: &mut Words<'_>) -> Answer {
     words.host();
     let place = words.size();
     match verb {
-        "listen" => listen(host, place, words),
-        "connect" => connect(host, place, words),
-        "send" => send(alloc, host, place, words),
-        "recv" => recv(alloc, host, place, words),
-        _ => {
-            words.end();
-            end(host, place, verb, words)
-        }
+        Verb::Listen => listen(host, place, words),
+        Verb::Connect => connect(host, place, words),
+        Verb::Send => send(alloc, host, place, words),
+        Verb::Recv => recv(alloc, host, place, words),
+        Verb::Close => close(host, place, words),
+        Verb::Abort => abort(host, place, words),
+        Verb::State => state(host, place, words),
     }
 }
 
-/// Plays a line that has no more words.
-fn end(host: &mut Host, place: usize, verb: &str, words: &mut Words<'_>) -> Answer {
-    if verb == "close" {
-        return close(host, place, words);
-    }
+fn state(host: &mut Host, place: usize, words: &mut Words<'_>) -> Answer {
+    words.end();
     match host.tcp(place, words) {
-        Some(socket) if verb == "state" => Answer::State(socket.state()),
-        Some(socket) => {
-            socket.abort();
-            Answer::Done
-        }
+        Some(socket) => Answer::State(socket.state()),
         None => Answer::Done,
     }
 }
 
+fn abort(host: &mut Host, place: usize, words: &mut Words<'_>) -> Answer {
+    words.end();
+    if let Some(socket) = host.tcp(place, words) {
+        socket.abort();
+    }
+    Answer::Done
+}
+
 fn close(host: &mut Host, place: usize, words: &mut Words<'_>) -> Answer {
+    words.end();
     match host.socket(place, words) {
         Some(Socket::Tcp(socket)) => socket.close(),
         Some(Socket::Udp(socket)) => socket.close(),
-        Some(_) => return words.refuse("WrongKind"),
+        Some(_) => return words.refuse(Refusal::WrongKind),
         None => {}
     }
     Answer::Done
 }
 
 fn listen(host: &mut Host, place: usize, words: &mut Words<'_>) -> Answer {
-    let port = words.short("port");
+    let port = words.short(Class::Port);
     words.end();
     match host.tcp(place, words) {
         Some(socket) => listens(socket.listen(IpListenEndpoint { addr: None, port })),
@@ -66,13 +76,13 @@ fn listen(host: &mut Host, place: usize, words: &mut Words<'_>) -> Answer {
 fn listens(answer: Result<(), ListenError>) -> Answer {
     match answer {
         Ok(()) => Answer::Done,
-        Err(ListenError::InvalidState) => Answer::Error("InvalidState"),
-        Err(ListenError::Unaddressable) => Answer::Error("Unaddressable"),
+        Err(ListenError::InvalidState) => Answer::Error(Refusal::InvalidState),
+        Err(ListenError::Unaddressable) => Answer::Error(Refusal::Unaddressable),
     }
 }
 
 fn connect(host: &mut Host, place: usize, words: &mut Words<'_>) -> Answer {
-    let (remote, port) = (words.endpoint(), words.short("port"));
+    let (remote, port) = (words.endpoint(), words.short(Class::Port));
     words.end();
     if words.is_taken() {
         connect_to(host, place, remote, port, words)
@@ -91,16 +101,16 @@ fn connect_to(
     let local = IpListenEndpoint { addr: None, port };
     match host.sockets.get_mut(SocketHandle::at(place)) {
         Some(Socket::Tcp(socket)) => connects(socket.connect(&mut host.interface, remote, local)),
-        Some(_) => words.refuse("WrongKind"),
-        None => words.refuse("NoSocket"),
+        Some(_) => words.refuse(Refusal::WrongKind),
+        None => words.refuse(Refusal::NoSocket),
     }
 }
 
 fn connects(answer: Result<(), ConnectError>) -> Answer {
     match answer {
         Ok(()) => Answer::Done,
-        Err(ConnectError::InvalidState) => Answer::Error("InvalidState"),
-        Err(ConnectError::Unaddressable) => Answer::Error("Unaddressable"),
+        Err(ConnectError::InvalidState) => Answer::Error(Refusal::InvalidState),
+        Err(ConnectError::Unaddressable) => Answer::Error(Refusal::Unaddressable),
     }
 }
 
@@ -114,8 +124,8 @@ fn send(alloc: Global, host: &mut Host, place: usize, words: &mut Words<'_>) -> 
 
 fn sent(answer: Result<usize, SendError>) -> Answer {
     match answer {
-        Ok(count) => Answer::Number("ok", count as u64),
-        Err(SendError::InvalidState) => Answer::Error("InvalidState"),
+        Ok(count) => Answer::Number(Said::Took, count as u64),
+        Err(SendError::InvalidState) => Answer::Error(Refusal::InvalidState),
     }
 }
 
@@ -125,7 +135,7 @@ fn recv(alloc: Global, host: &mut Host, place: usize, words: &mut Words<'_>) -> 
     match host.tcp(place, words) {
         Some(socket) => match vec![in alloc; 0; most.min(socket.recv_queue())].ok() {
             Some(bytes) => recv_into(socket, bytes),
-            None => words.refuse("Memory"),
+            None => words.refuse(Refusal::Memory),
         },
         None => Answer::Done,
     }
@@ -137,7 +147,7 @@ fn recv_into(socket: &mut tcp::Socket, mut bytes: Vec<u8>) -> Answer {
             bytes.truncate(count);
             Answer::Bytes(bytes)
         }
-        Err(RecvError::InvalidState) => Answer::Error("InvalidState"),
-        Err(RecvError::Finished) => Answer::Error("Finished"),
+        Err(RecvError::InvalidState) => Answer::Error(Refusal::InvalidState),
+        Err(RecvError::Finished) => Answer::Error(Refusal::Finished),
     }
 }

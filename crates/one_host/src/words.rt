@@ -2,7 +2,8 @@
 ghost use Rattle.std.specs.Prelude.{◌≢◌, Some};
 
 use crate::answer::Answer;
-use crate::stop::{NO_MEMORY, Stop};
+use crate::said::Refusal;
+use crate::stop::{Class, Order, Stop};
 use arrayvec::ArrayVec;
 use interface::TABLE_ROOM;
 use ip_wire::{IpAddress, IpCidr, IpEndpoint};
@@ -19,7 +20,9 @@ const MOST_REPEATED: usize = 1 << 20;
 #[derive(Drop)]
 pub struct Words<'a> {
     rest: Option<&'a str>,
-    stop: Option<Stop<'a>>,
+    /// How many words were read.
+    count: usize,
+    stop: Option<Stop>,
 }
 
 /// The text of bytes, and how often they come.
@@ -49,25 +52,31 @@ impl<'a> Words<'a> {
     pub fn new(text: &'a str) -> Words<'a> {
         Words {
             rest: Some(text),
+            count: 0,
             stop: None,
         }
     }
 
     /// The line isn't taken. What says so first counts.
-    pub fn note(&mut self, stop: Stop<'a>) {
+    pub fn note(&mut self, stop: Stop) {
         if self.stop.is_none() {
             self.stop = Some(stop);
         }
     }
 
     /// The word that was read last is none of this class.
-    pub fn wrong(&mut self, class: &'static str, word: &'a str) {
-        self.note(Stop::wrong(class, word));
+    pub fn wrong(&mut self, class: Class) {
+        self.note(Stop::Wrong(class, self.count));
+    }
+
+    /// How many words were read.
+    pub fn count(&self) -> usize {
+        self.count
     }
 
     /// What the line says isn't done: an answer that nobody looks at.
-    pub fn refuse(&mut self, name: &'static str) -> Answer {
-        self.note(Stop::refused(name));
+    pub fn refuse(&mut self, refusal: Refusal) -> Answer {
+        self.note(Stop::Refused(refusal));
         Answer::Done
     }
 
@@ -77,23 +86,24 @@ impl<'a> Words<'a> {
     }
 
     /// Why the line isn't taken. Where no word and no refusal says so, there was no memory for its answer.
-    pub fn stop(&self) -> Stop<'a> {
+    pub fn stop(&self) -> Stop {
         match self.stop {
             Some(stop) => stop,
-            None => NO_MEMORY,
+            None => Stop::Refused(Refusal::Memory),
         }
     }
 
     /// No word is left.
     pub fn end(&mut self) {
-        if let Some(word) = self.next() {
-            self.note(Stop::order("a word too many", word));
+        if self.next().is_some() {
+            self.note(Stop::Misplaced(Order::TooMany, self.count));
         }
     }
 
     /// The next word, if there is one left.
     pub fn next(&mut self) -> Option<&'a str> {
         let rest = self.rest?;
+        self.count = self.count.saturating_add(1);
         match rest.split_once(' ') {
             Some((word, rest)) => {
                 self.rest = Some(rest);
@@ -107,28 +117,22 @@ impl<'a> Words<'a> {
     }
 
     /// The next word, where one of this class is wanted.
-    pub fn word(&mut self, class: &'static str) -> &'a str {
+    pub fn word(&mut self, class: Class) -> &'a str {
         match self.next() {
             Some(word) => word,
             None => {
-                self.note(Stop::missing(class));
+                self.note(Stop::Missing(class));
                 ""
             }
         }
     }
 
-    // What was found in a word of this class, or else another value.
-    fn found<T: Copy>(
-        &mut self,
-        class: &'static str,
-        word: &'a str,
-        found: Option<T>,
-        other: T,
-    ) -> T {
+    // What was found in the word that was read last, of this class, or else another value.
+    fn found<T: Copy>(&mut self, class: Class, found: Option<T>, other: T) -> T {
         match found {
             Some(value) => value,
             None => {
-                self.wrong(class, word);
+                self.wrong(class);
                 other
             }
         }
@@ -136,54 +140,54 @@ impl<'a> Words<'a> {
 
     /// The host, which is A.
     pub fn host(&mut self) {
-        let word = self.word("host");
-        if word != "A" {
-            self.wrong("host", word);
+        match self.word(Class::Host) {
+            "A" => {}
+            _ => self.wrong(Class::Host),
         }
     }
 
     // What a word of this class says, where it is a number of this type.
-    fn digits<T: FromStr + Copy>(&mut self, class: &'static str, other: T) -> T
+    fn digits<T: FromStr + Copy>(&mut self, class: Class, other: T) -> T
     where
         T::Err: Drop,
     {
-        let word = self.word(class);
-        self.found(class, word, number(word), other)
+        let found = number(self.word(class));
+        self.found(class, found, other)
     }
 
     // What a word of this class says.
-    fn parsed<T: FromStr + Copy>(&mut self, class: &'static str, other: T) -> T
+    fn parsed<T: FromStr + Copy>(&mut self, class: Class, other: T) -> T
     where
         T::Err: Drop,
     {
-        let word = self.word(class);
-        self.found(class, word, word.parse().ok(), other)
+        let found = self.word(class).parse().ok();
+        self.found(class, found, other)
     }
 
     /// A count or a value.
     pub fn number(&mut self) -> u64 {
-        self.digits("number", 0)
+        self.digits(Class::Number, 0)
     }
 
     /// A place or a size.
     pub fn size(&mut self) -> usize {
-        self.digits("number", 0)
+        self.digits(Class::Number, 0)
     }
 
     /// A port, an identifier or a budget.
-    pub fn short(&mut self, class: &'static str) -> u16 {
+    pub fn short(&mut self, class: Class) -> u16 {
         self.digits(class, 0)
     }
 
     /// A moment, in microseconds.
     pub fn micros(&mut self) -> i64 {
-        self.digits("number", 0)
+        self.digits(Class::Number, 0)
     }
 
     /// A moment, which may lie before 0.
     pub fn signed_micros(&mut self) -> i64 {
-        let word = self.word("number");
-        self.found("number", word, signed_micros(word), 0)
+        let found = signed_micros(self.word(Class::Number));
+        self.found(Class::Number, found, 0)
     }
 
     /// A moment, or none.
@@ -201,10 +205,12 @@ impl<'a> Words<'a> {
     where
         T::Err: Drop,
     {
-        let word = self.word("number");
-        let found = number(word);
-        if found.is_none() && word != "none" {
-            self.wrong("number", word);
+        let found = match self.word(Class::Number) {
+            "none" => return None,
+            word => number(word),
+        };
+        if found.is_none() {
+            self.wrong(Class::Number);
         }
         found
     }
@@ -213,13 +219,13 @@ impl<'a> Words<'a> {
     pub fn hops(&mut self) -> Option<u8>
         ensures { result ≢ Some 0 }
     {
-        let word = self.word("hop limit");
-        if word == "none" {
-            return None;
-        }
-        match number(word) {
+        let found = match self.word(Class::HopLimit) {
+            "none" => return None,
+            word => number(word),
+        };
+        match found {
             None | Some(0) => {
-                self.wrong("hop limit", word);
+                self.wrong(Class::HopLimit);
                 None
             }
             Some(hops) => Some(hops),
@@ -228,27 +234,37 @@ impl<'a> Words<'a> {
 
     /// `on` or `off`.
     pub fn switch(&mut self) -> bool {
-        let word = self.word("on or off");
-        if word != "on" && word != "off" {
-            self.wrong("on or off", word);
+        match self.word(Class::Switch) {
+            "on" => true,
+            "off" => false,
+            _ => {
+                self.wrong(Class::Switch);
+                false
+            }
         }
-        word == "on"
+    }
+
+    /// `on` or `off`, as the last word.
+    pub fn last_switch(&mut self) -> bool {
+        let is_on = self.switch();
+        self.end();
+        is_on
     }
 
     /// An address and a port.
     pub fn endpoint(&mut self) -> IpEndpoint {
         let none = IpEndpoint::new(IpAddress::v4(0, 0, 0, 0), 0);
-        self.parsed("endpoint", none)
+        self.parsed(Class::Endpoint, none)
     }
 
     /// An address of either family.
     pub fn address(&mut self) -> IpAddress {
-        self.parsed("address", IpAddress::v4(0, 0, 0, 0))
+        self.parsed(Class::Address, IpAddress::v4(0, 0, 0, 0))
     }
 
     /// An address with a prefix.
     pub fn block(&mut self) -> IpCidr {
-        self.parsed("block", IpCidr::default())
+        self.parsed(Class::Block, IpCidr::default())
     }
 
     /// All words that are left, as at most four blocks.
@@ -262,7 +278,7 @@ impl<'a> Words<'a> {
                 Ok(block) => {
                     let _ = found.try_push(block);
                 }
-                Err(_) => self.wrong("block", word),
+                Err(_) => self.wrong(Class::Block),
             }
         }
         self.end();
@@ -271,16 +287,15 @@ impl<'a> Words<'a> {
 
     /// The last word, which says bytes in hex, which a count behind `*` may repeat: these bytes.
     pub fn last_bytes(&mut self, alloc: Global) -> Vec<u8> {
-        let word = self.word("bytes");
-        let bytes = read_bytes(word);
+        let bytes = read_bytes(self.word(Class::Bytes));
         if bytes.is_none() {
-            self.wrong("bytes", word);
+            self.wrong(Class::Bytes);
         }
         self.end();
         match self.decoded(alloc, bytes) {
             Some(bytes) => bytes,
             None => {
-                self.note(NO_MEMORY);
+                self.note(Stop::Refused(Refusal::Memory));
                 Vec::new(alloc)
             }
         }
