@@ -113,17 +113,20 @@ pub(crate) fn emit_icmpv6(
     let destination = words.ipv6("destination");
     let ends = (&source, &destination);
     let kind = words.word("message");
-    if kind == "solicit" || kind == "advert" {
-        let header = Icmpv6Header::Ndisc(neighbor(alloc, kind, words));
-        return if words.end() {
-            write6(alloc, ends, &header, &[], is_summed)
-        } else {
-            None
-        };
+    let message = match kind {
+        "solicit" => solicit(alloc, words),
+        "advert" => advert(alloc, words),
+        _ => {
+            let header = header6(kind, words);
+            let payload = last_bytes(alloc, words)?;
+            return write6(alloc, ends, &header, payload.as_slice(), is_summed);
+        }
+    };
+    if words.end() {
+        write6(alloc, ends, &Icmpv6Header::Ndisc(message), &[], is_summed)
+    } else {
+        None
     }
-    let header = header6(kind, words);
-    let payload = last_bytes(alloc, words)?;
-    write6(alloc, ends, &header, payload.as_slice(), is_summed)
 }
 
 fn header6<'a>(kind: &'a str, words: &mut Words<'a>) -> Icmpv6Header
@@ -234,26 +237,28 @@ fn quoted6(words: &mut Words<'_>) -> Ipv6Repr
     }
 }
 
-fn neighbor(alloc: Global, kind: &str, words: &mut Words<'_>) -> NdiscRepr {
-    if kind == "solicit" {
-        NdiscRepr::NeighborSolicit {
-            target_addr: words.ipv6("target"),
-            lladdr: link(alloc, words),
-        }
-    } else {
-        NdiscRepr::NeighborAdvert {
-            flags: flags(words),
-            target_addr: words.ipv6("target"),
-            lladdr: link(alloc, words),
-        }
+fn solicit(alloc: Global, words: &mut Words<'_>) -> NdiscRepr {
+    NdiscRepr::NeighborSolicit {
+        target_addr: words.ipv6("target"),
+        lladdr: link(alloc, words),
+    }
+}
+
+fn advert(alloc: Global, words: &mut Words<'_>) -> NdiscRepr {
+    NdiscRepr::NeighborAdvert {
+        flags: flags(words),
+        target_addr: words.ipv6("target"),
+        lladdr: link(alloc, words),
     }
 }
 
 // `-` for none, or letters of R, S and O.
 fn flags(words: &mut Words<'_>) -> NdiscNeighborFlags {
     let word = words.word("flags");
-    if word != "-" && !word.bytes().all(|b| matches!(b, b'R' | b'S' | b'O')) {
-        words.no("flags of R S O", word);
+    match word {
+        "-" => {}
+        _ if word.bytes().all(|b| matches!(b, b'R' | b'S' | b'O')) => {}
+        _ => words.no("flags of R S O", word),
     }
     NdiscNeighborFlags {
         router: word.contains('R'),

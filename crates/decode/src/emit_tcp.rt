@@ -59,10 +59,11 @@ fn control(words: &mut Words<'_>) -> TcpControl {
 
 fn ack_number(words: &mut Words<'_>) -> Option<SeqNumber> {
     let word = words.word("ack");
-    if word == "-" {
-        return None;
-    }
-    match number(word) {
+    let found = match word {
+        "-" => return None,
+        _ => number(word),
+    };
+    match found {
         Some(number) => Some(SeqNumber(number)),
         None => {
             words.no("ack", word);
@@ -75,8 +76,9 @@ fn ack_number(words: &mut Words<'_>) -> Option<SeqNumber> {
 fn options(words: &mut Words<'_>) -> TcpOptions {
     let word = words.word("options");
     let mut options = TcpOptions::none();
-    if word == "-" {
-        return options;
+    match word {
+        "-" => return options,
+        _ => {}
     }
     let mut ranges = 0;
     for part in word.split(',') {
@@ -89,12 +91,17 @@ fn options(words: &mut Words<'_>) -> TcpOptions {
 }
 
 fn with_option(options: TcpOptions, ranges: &mut usize, part: &str) -> Option<TcpOptions> {
-    if part == "sackok" {
-        return Some(TcpOptions {
+    match part {
+        "sackok" => Some(TcpOptions {
             sack_permitted: true,
             ..options
-        });
+        }),
+        _ => with_value(options, ranges, part),
     }
+}
+
+// One option more, which has a value.
+fn with_value(options: TcpOptions, ranges: &mut usize, part: &str) -> Option<TcpOptions> {
     let (name, value) = part.split_once('=')?;
     match name {
         "mss" => Some(TcpOptions {
@@ -119,10 +126,9 @@ fn with_option(options: TcpOptions, ranges: &mut usize, part: &str) -> Option<Tc
 
 // One range more, or a place for one that is left empty.
 fn with_range(options: TcpOptions, ranges: &mut usize, value: &str) -> Option<TcpOptions> {
-    let range = if value == "-" {
-        None
-    } else {
-        Some(pair(value)?)
+    let range = match value {
+        "-" => None,
+        _ => Some(pair(value)?),
     };
     let mut sack_ranges = options.sack_ranges;
     *sack_ranges.get_mut(*ranges)? = range;

@@ -134,10 +134,11 @@ impl<'a> Words<'a> {
     /// One of two words: whether it is the first.
     pub(crate) fn either(&mut self, yes: &str, no: &str, what: &'static str) -> bool {
         let word = self.word(what);
-        if word != yes && word != no {
+        let is_first = word == yes;
+        if !is_first && word != no {
             self.no(what, word);
         }
-        word == yes
+        is_first
     }
 
     /// An address of either family.
@@ -208,11 +209,10 @@ pub(crate) fn bytes_of<'a>(
     what: &'static str,
     word: &'a str,
 ) -> Result<Vec<u8>, Fault<'a>> {
-    if word == "-" {
-        return Ok(Vec::new(alloc));
-    }
-    if word.is_empty() {
-        return Err(Fault::no(what, word));
+    match word {
+        "-" => return Ok(Vec::new(alloc)),
+        "" => return Err(Fault::no(what, word)),
+        _ => {}
     }
     match hex::decode(alloc, word) {
         Ok(bytes) => Ok(bytes),
