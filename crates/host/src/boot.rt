@@ -5,6 +5,8 @@ mod client;
 mod orders;
 mod page;
 mod pings;
+mod plan;
+mod steps;
 mod turns;
 
 pub use turns::serve;
