@@ -2,5 +2,6 @@
 
 mod icmpv4_messages;
 mod icmpv6_messages;
+mod laws;
 mod names;
 mod neighbor_messages;

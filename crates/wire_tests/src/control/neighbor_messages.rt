@@ -3,7 +3,7 @@ ghost use Rattle.std.specs.Prelude.{◌≡◌};
 ghost use Rattle.control_wire.specs.Ndisc.{buffer_len, neighbor_message};
 
 use crate::cases::all;
-use control_wire::{Icmpv6PacketMut, NdiscNeighborFlags, NdiscRepr, icmpv4_laws, icmpv6_laws};
+use control_wire::{Icmpv6PacketMut, NdiscNeighborFlags, NdiscRepr};
 use ip_wire::{EthernetAddress, Ipv6Address, RawHardwareAddress};
 
 /// Router fe80::7 to ff02::1, without its link address: it is to replace what readers hold.
@@ -59,29 +59,6 @@ fn an_announcement_is_written(rt: HostRuntime) {
             &packet.into_inner()[4..] == &ANNOUNCEMENT[4..],
         ],
     );
-}
-
-#[test]
-fn laws_hold(_rt: HostRuntime) {
-    icmpv4_laws::icmpv4_fields();
-    icmpv4_laws::icmpv4_equated();
-    icmpv4_laws::icmpv4_spelled();
-    icmpv4_laws::icmpv4_fits();
-    icmpv4_laws::icmpv4_no_longer();
-    icmpv4_laws::icmpv4_reads_back();
-    icmpv4_laws::icmpv4_normal();
-    icmpv6_laws::icmpv6_fields();
-    icmpv6_laws::icmpv6_equated();
-    icmpv6_laws::icmpv6_spelled();
-    icmpv6_laws::icmpv6_no_longer();
-    icmpv6_laws::icmpv6_fits();
-    icmpv6_laws::icmpv6_reads_back();
-    icmpv6_laws::icmpv6_normal();
-    icmpv6_laws::ndisc_flags();
-    icmpv6_laws::ndisc_spelled();
-    icmpv6_laws::ndisc_reads_back();
-    icmpv6_laws::ndisc_no_longer();
-    icmpv6_laws::ndisc_normal();
 }
 
 /// A message of this type and code about fd00::1 with all reserved bits set, then these options.
