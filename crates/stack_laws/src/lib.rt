@@ -40,6 +40,5 @@ pub mod tun_served;
 pub mod tun_values;
 pub mod wire;
 pub mod world_equal;
-pub mod world_facade;
 pub mod world_refusals;
 pub mod worlds;
