@@ -30,8 +30,8 @@ use Rattle.lan_world.specs.AtLink.Kinds.{other, Kind, Act, Delivered, Damaged, k
 use Rattle.lan_world.specs.AtLink.Kinds.Act.{Opens, Asks}
 use Rattle.lan_world.specs.AtLink.Kinds.Kind.{OfHost, OfLink}
 use Rattle.lan_world.specs.AtLink.Kinds.LinkAct.{Hands}
-use Rattle.lan_world.specs.AtLink.Answer.{Answer}
-use Rattle.lan_world.specs.AtLink.Answer.TheVariants as To
+use Rattle.lan_world.specs.declared.at_link.history.answer.Answer.{Answer}
+use Rattle.lan_world.specs.declared.at_link.history.answer.Answer.TheVariants as To
 use Rattle.lan_world.specs.AtLink.Refused.TheVariants as For
 use Rattle.lan_world.specs.AtLink.Side.{Side}
 use Rattle.lan_world.specs.AtLink.Side.TheVariants.{A}

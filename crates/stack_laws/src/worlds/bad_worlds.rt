@@ -19,7 +19,7 @@ ghost use Rattle.lan_world.specs.AtLink.Reassembled.{Slots};
 ghost use Rattle.lan_world.specs.AtLink.Inner.{InnerValue};
 ghost use Rattle.lan_world.specs.AtLink.History.{Entry};
 ghost use Rattle.lan_world.specs.AtLink.Kinds.{other};
-ghost use Rattle.lan_world.specs.AtLink.Answer.TheVariants as To;
+ghost use Rattle.lan_world.specs.declared.at_link.history.answer.Answer.TheVariants as To;
 ghost use Rattle.lan_world.specs.AtLink.Side.{Side};
 ghost use Rattle.lan_world.specs.AtLink.Side.TheVariants.{A};
 ghost use Rattle.lan_world.specs.AtLink.Origins.{medium_of};
