@@ -32,9 +32,9 @@ use Rattle.lan_world.specs.AtLink.Kinds.Kind.{OfHost, OfLink}
 use Rattle.lan_world.specs.AtLink.Kinds.LinkAct.{Hands}
 use Rattle.lan_world.specs.declared.at_link.history.answer.Answer.{Answer}
 use Rattle.lan_world.specs.declared.at_link.history.answer.Answer.TheVariants as To
-use Rattle.lan_world.specs.AtLink.Refused.TheVariants as For
-use Rattle.lan_world.specs.AtLink.Side.{Side}
-use Rattle.lan_world.specs.AtLink.Side.TheVariants.{A}
+use Rattle.lan_world.specs.declared.at_link.history.answer.Refused.TheVariants as For
+use Rattle.lan_world.specs.declared.at_link.history.event.Side.{Side}
+use Rattle.lan_world.specs.declared.at_link.history.event.Side.TheVariants.{A}
 use Rattle.lan_world.specs.AtLink.Origins.{medium_of, frame_of_origin, is_cut_of, own_frames}
 use Rattle.lan_world.specs.AtLink.Refusals.{is_no_frame, refusal}
 use Rattle.lan_world.specs.AtLink.Runs.{Starts, WorldValue, WorldRun, unused, unused_both, counts_of, tables_in}

@@ -18,8 +18,8 @@ use Rattle.lan_world.specs.AtLink.Kinds.Act.{Opens, Polls, Asks as AsksWhen}
 use Rattle.lan_world.specs.AtLink.Kinds.Kind.{OfHost, OfLink}
 use Rattle.lan_world.specs.AtLink.Kinds.LinkAct.{Hands}
 use Rattle.lan_world.specs.declared.at_link.history.answer.Answer.TheVariants as To
-use Rattle.lan_world.specs.AtLink.Event.TheVariants as E
-use Rattle.lan_world.specs.AtLink.Side.TheVariants.{A}
+use Rattle.lan_world.specs.declared.at_link.history.event.Event.TheVariants as E
+use Rattle.lan_world.specs.declared.at_link.history.event.Side.TheVariants.{A}
 use Rattle.lan_world.specs.AtLink.Origins.{medium_of, frame_of_origin}
 use Rattle.lan_world.specs.AtLink.Runs.{Starts, WorldValue}
 use Rattle.lan_world.specs.AtLink.Station.{Stations}
