@@ -83,7 +83,7 @@ module _ {X : Type 0} (t : X → Bool) where
   pub at_first : (xs : List X) → at_place (position t xs) xs ≡ find t xs
   at_first xs = first_by xs (position_or_len t xs) (nat_lt (position_or_len t xs) (length xs)) refl ∙ sym (find_at t xs)
 
-  find_last : (xs : List X) (y : X) → find t xs ≡ None → t y ≡ true → find t (xs ++ y ∷ []) ≡ Some y
+  pub find_last : (xs : List X) (y : X) → find t xs ≡ None → t y ≡ true → find t (xs ++ y ∷ []) ≡ Some y
   find_last [] y none is = ap (λ (b : Bool). cond b (Some y) None) is
   find_last (x ∷ xs) y none is = by (t x) none (λ rest. find_last xs y rest is) where
     by : (b : Bool) → cond b (Some x) (find t xs) ≡ None → (find t xs ≡ None → find t (xs ++ y ∷ []) ≡ Some y) →
@@ -111,7 +111,7 @@ module _ {X : Type 0} (t : X → Bool) where
   none_head : (x : X) (xs : List X) → t x ≡ false → find t xs ≡ None → find t (x ∷ xs) ≡ None
   none_head x xs off none = ap (λ (b : Bool). cond b (Some x) (find t xs)) off ∙ none
 
-  none_removed : (xs : List X) (k : ℕ) → find t xs ≡ None → find t (remove xs k) ≡ None
+  pub none_removed : (xs : List X) (k : ℕ) → find t xs ≡ None → find t (remove xs k) ≡ None
   none_removed [] k none = rw_none where
     rw_none : find t (remove [] k) ≡ None
     rw_none = by k where
@@ -123,7 +123,7 @@ module _ {X : Type 0} (t : X → Bool) where
       let both = none_tail x xs none in none_head x (remove xs k) both.0 (none_removed xs k both.1)
 
   -- nothing is found where there is no place
-  none_found : (xs : List X) → position t xs ≡ None → find t xs ≡ None
+  pub none_found : (xs : List X) → position t xs ≡ None → find t xs ≡ None
   none_found xs is = sym (at_first xs) ∙ ap (λ (o : Option ℕ). at_place o xs) is
 
   pub is_found : (xs : List X) (at : ℕ) (y : X) → position t xs ≡ Some at → t y ≡ true → find t (slice_set xs at y) ≡ Some y
@@ -139,7 +139,7 @@ module _ {X : Type 0} (t : X → Bool) where
 
 -- ENTRIES
 
-itself : (a : IpAddress) → is_same_address a a ≡ true
+pub itself : (a : IpAddress) → is_same_address a a ≡ true
 itself (Address.Ipv4 a) = (bytes_eq-Decides a.0 a.0).1 refl
 itself (Address.Ipv6 a) = (bytes_eq-Decides a.0 a.0).1 refl
 

@@ -7,9 +7,13 @@ pub mod Turns
 pub mod Passes
 pub mod Polled
 pub mod Ways
+pub mod OurLeave
 pub mod OurTurn
 pub mod Goes
 pub mod InTurn
 pub mod Readers
 pub mod NeverRests
 pub mod Reached
+pub mod Asks
+pub mod Asking
+pub mod Answered

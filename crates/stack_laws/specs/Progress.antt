@@ -5,3 +5,4 @@ pub mod OfUse
 pub mod Queued
 pub mod Excluded
 pub mod Reached
+pub mod Asked

@@ -1,0 +1,135 @@
+-- A packet whose next hop isn't known, and may be asked for: its plan, and what stays of that behind the turns of others.
+use Rattle.std.proofs.Common.{◌≡◌, Bool, true, false, ◌&&◌, if◌then◌else◌, List, Option, Some, None, refl, sym, ap, ◌∙◌, subst}
+use Rattle.ip_wire.specs.AddressTests.{is_multicast, is_unspecified}
+use Rattle.ip_wire.specs.EthernetAddress.{EthernetAddress}
+use Rattle.ip_wire.specs.HardwareAddress.{HardwareAddress}
+use Rattle.ip_wire.specs.HardwareAddress.TheVariants as Hardware
+use Rattle.ip_wire.specs.Ip.{destination_of}
+use Rattle.ip_wire.specs.IpAddress.{IpAddress}
+use Rattle.ip_wire.specs.IpAddress.TheVariants as Address
+use Rattle.ip_wire.specs.Ipv4Address.{Ipv4Address}
+use Rattle.sockets.specs.Udp.{UdpSettings}
+use Rattle.sockets.specs.UdpMetadata.{UdpMetadata}
+use Rattle.interface_ingress.specs.Packet.{PacketValue}
+use Rattle.interface_tables.specs.Inner.{InnerValue, is_crowded, is_local_broadcast, next_hop, link_of_hop, link_on, link_address, all_stations, group_station}
+use Rattle.interface_tables.specs.Neighbor.{CacheValue}
+use Rattle.interface_tables.specs.Source.{source_v4, source_v6, in_v4, source_for}
+use Rattle.interface_tables.specs.declared.link.LinkAddress.{LinkAddress}
+use Rattle.interface_tables.specs.declared.link.LinkAddress.TheVariants as Link
+use Rattle.interface_egress.specs.Departure.{target_of}
+use Rattle.interface_egress.specs.Meta.{has_waited}
+use Rattle.interface_egress.specs.Plan.{ask_v4, ask_from, ask_on, ask_if, may_ask, may_come_by, plan_by, plan_of}
+use Rattle.interface_egress.specs.declared.frame.Question.{Question}
+use Rattle.interface_egress.specs.declared.frame.Question.TheVariants as Query
+use Rattle.interface_egress.specs.declared.plan.Plan.{Plan}
+use Rattle.interface_egress.specs.declared.plan.Plan.TheVariants as Way
+use Rattle.interface_egress.specs.declared.socket_meta.Meta.{Meta}
+use Rattle.interface_egress.specs.declared.way_out.Sent.TheVariants as Outcome
+use Rattle.interface.specs.SameHost.{IsSameHost}
+use Rattle.interface.specs.Turn.{crowded_time, held, is_given_up, is_other, is_out_of_turn, is_waiting}
+use Rattle.stack_laws.specs.Progress.Asked.{HasToAsk}
+use Rattle.stack_laws.proofs.Polls.Ways.{waits_still}
+use Rattle.std.specs.Prelude.{ℕ}
+
+clash : {X : Type 0} → true ≡ false → X
+clash {X} e = absurd cc
+
+-- THE PLAN
+
+abbrev Asking : IpAddress → Plan → Type 0
+Asking hop plan = (q : Question) × (plan ≡ Way.Ask q) × (target_of q ≡ hop)
+
+module _ (i : InnerValue) (own : EthernetAddress) where
+  asks_v4 : (unspecified : Bool) (o : Option Ipv4Address) (hop : Ipv4Address)
+      → may_come_by (if unspecified then None else in_v4 o) i (Address.Ipv4 hop) ≡ true → Asking (Address.Ipv4 hop) (ask_v4 own o hop)
+  asks_v4 true o hop may = clash (sym may)
+  asks_v4 false None hop may = clash (sym may)
+  asks_v4 false (Some source) hop may = (Query.Arp own source hop, refl, refl)
+
+  asks_from : (hop : IpAddress) → may_ask i hop ≡ true → Asking hop (ask_from own i hop)
+  asks_from (Address.Ipv4 hop) may = asks_v4 (is_unspecified (Address.Ipv4 hop)) (source_v4 i.addresses hop) hop may
+  asks_from (Address.Ipv6 hop) may = (Query.Neighbor own (source_v6 i.addresses hop) hop, refl, refl)
+
+-- a medium without hardware addresses has no hop that isn't known
+asks_on : (i : InnerValue) (to hop : IpAddress) (hardware : HardwareAddress) → link_on hardware i to ≡ Link.Unknown hop → may_ask i hop ≡ true
+    → Asking hop (ask_on hardware i hop)
+asks_on i to hop Hardware.Ip unknown may = absurd (let never : Link.Known Hardware.Ip ≡ Link.Unknown hop = unknown in cc)
+asks_on i to hop (Hardware.Ethernet own) unknown may = asks_from i own hop may
+
+pub asks_plan : (i : InnerValue) (busy : Bool) (settings : UdpSettings) (d : UdpMetadata × List ℕ) (hop : IpAddress) (p : PacketValue)
+    → HasToAsk i settings d hop p → Asking hop (plan_of i busy p.header)
+asks_plan i busy settings d hop p has =
+    let is : plan_of i busy p.header ≡ ask_on i.hardware i hop =
+    ap (λ (never : Bool). if never then Way.Drop else plan_by (link_address i (destination_of p.header)) i busy p.header) has.may
+    ∙ ap (λ (l : LinkAddress). plan_by l i busy p.header) has.unknown
+    ∙ ap (λ (may : Bool). ask_if may i hop) has.asks in
+    let asks : Asking hop (ask_on i.hardware i hop) = asks_on i (destination_of p.header) hop i.hardware has.unknown has.asks in
+    (asks.0, is ∙ asks.1, asks.2)
+
+-- WHAT STAYS
+
+module _ (i : InnerValue) (ident : ℕ) where
+  abbrev later : InnerValue
+  later = record i { ident = ident }
+
+  hop_kept : (o : Option IpAddress) (hop : IpAddress) → link_of_hop i o ≡ Link.Unknown hop → link_of_hop later o ≡ Link.Unknown hop
+  hop_kept None hop is = is
+  hop_kept (Some via) hop is = is
+
+  on_kept : (hardware : HardwareAddress) (to hop : IpAddress) → link_on hardware i to ≡ Link.Unknown hop → link_on hardware later to ≡ Link.Unknown hop
+  on_kept Hardware.Ip to hop is = is
+  on_kept (Hardware.Ethernet own) to hop is = by (is_local_broadcast i to) (is_multicast to) is where
+    by : (all group : Bool)
+        → (if all then Link.Known (Hardware.Ethernet all_stations)
+        else if group then Link.Known (Hardware.Ethernet (group_station to)) else link_of_hop i (next_hop i to)) ≡ Link.Unknown hop
+        → (if all then Link.Known (Hardware.Ethernet all_stations)
+        else if group then Link.Known (Hardware.Ethernet (group_station to)) else link_of_hop later (next_hop i to)) ≡ Link.Unknown hop
+    by true group e = e
+    by false true e = e
+    by false false e = hop_kept (next_hop i to) hop e
+
+  may_kept : (o : Option IpAddress) (hop : IpAddress) → may_come_by o i hop ≡ true → may_come_by o later hop ≡ true
+  may_kept None hop is = is
+  may_kept (Some source) hop is = is
+
+  kept_by : (settings : UdpSettings) (d : UdpMetadata × List ℕ) (hop : IpAddress) (p : PacketValue) → HasToAsk i settings d hop p
+      → HasToAsk later settings d hop p
+  kept_by settings d hop p has = record {
+    takes = has.takes;
+    may = has.may;
+    unknown = on_kept i.hardware (destination_of p.header) hop has.unknown;
+    asks = may_kept (source_for i.addresses hop) hop has.asks;
+    room = has.room;
+  }
+
+pub kept_in : (i i' : InnerValue) (settings : UdpSettings) (d : UdpMetadata × List ℕ) (hop : IpAddress) (p : PacketValue) (m : Meta) → IsSameHost i i'
+    → i'.neighbors ≡ i.neighbors → HasToAsk i settings d hop p → is_waiting i m ≡ false
+    → (HasToAsk i' settings d hop p) × (is_waiting i' m ≡ false)
+kept_in i i' settings d hop p m same kept has ready =
+    let is : i' ≡ record i { ident = i'.ident } =
+    same ∙ ap (λ (c : CacheValue). record i {
+      ident = i'.ident;
+      neighbors = record i.neighbors { silent = c.silent; searches = c.searches };
+    }) kept in
+    (
+      subst (λ (x : InnerValue). HasToAsk x settings d hop p) (sym is) (kept_by i i'.ident settings d hop p has),
+      waits_still i i' m same ready,
+    )
+
+-- HELD
+
+held_by : (given_up other : Bool) → (if given_up then Some Outcome.Dropped else if other then Some Outcome.Waits else None) ≡ None → other ≡ false
+held_by true other is = absurd (let clash : Some Outcome.Dropped ≡ None = is in cc)
+held_by false true is = absurd (let clash : Some Outcome.Waits ≡ None = is in cc)
+held_by false false is = refl
+
+pub held_not : (turn : Option IpAddress) (m : Meta) (i : InnerValue) (to : IpAddress) (plan : Plan) → held turn m i to plan ≡ None
+    → is_out_of_turn turn plan ≡ false
+held_not turn m i to plan is = held_by (is_given_up m i to plan) (is_out_of_turn turn plan) is
+
+pub held_none : (turn : Option IpAddress) (m : Meta) (i : InnerValue) (to : IpAddress) (q : Question) → is_crowded i ≡ false
+    → is_other turn (target_of q) ≡ false → held turn m i to (Way.Ask q) ≡ None
+held_none turn m i to q room whose =
+    ap (λ (crowded : Bool). if crowded && has_waited m to crowded_time i.moment then Some Outcome.Dropped
+    else if is_other turn (target_of q) then Some Outcome.Waits else None) room
+    ∙ ap (λ (other : Bool). if other then Some Outcome.Waits else None) whose

@@ -1,0 +1,75 @@
+-- A datagram whose next hop isn't known: that neighbour is asked for, answers, and is known.
+use Rattle.std.specs.Prelude.{◌≡◌, ◌⊎◌, ℕ, ℤ, true, false, List, Option, Some}
+use Rattle.std.specs.List.{list_any}
+use Rattle.net_base.specs.Device.{Move, Took}
+use Rattle.ip_wire.specs.AddressTests.{is_ethernet_unicast, is_multicast, is_unicast_v4}
+use Rattle.ip_wire.specs.EthernetAddress.{EthernetAddress}
+use Rattle.ip_wire.specs.Ip.{destination_of}
+use Rattle.ip_wire.specs.IpAddress.{IpAddress}
+use Rattle.ip_wire.specs.IpAddress.TheVariants as Address
+use Rattle.ip_wire.specs.Ipv4Address.{Ipv4Address}
+use Rattle.ip_wire.specs.declared.arp.kinds.ArpOperation.TheVariants as Operation
+use Rattle.ip_wire.specs.declared.arp.repr.ArpRepr.{ArpRepr}
+use Rattle.ip_wire.specs.declared.arp.repr.ArpRepr.TheVariants as Arp
+use Rattle.sockets.specs.Udp.{UdpSettings, TakesDatagram}
+use Rattle.sockets.specs.UdpMetadata.{UdpMetadata}
+use Rattle.interface_ingress.specs.Packet.{PacketValue}
+use Rattle.interface_tables.specs.Inner.{InnerValue, context_of, link_address, next_hop, is_crowded, is_local_broadcast, is_in_own_network}
+use Rattle.interface_tables.specs.declared.link.LinkAddress.TheVariants as Link
+use Rattle.interface_egress.specs.Departure as Departures
+use Rattle.interface_egress.specs.Departure.{Asks, target_of}
+use Rattle.interface_egress.specs.GoesOut.{frame_of}
+use Rattle.interface_egress.specs.Plan.{never_leaves, may_ask}
+use Rattle.interface_egress.specs.declared.frame.Question.{Question}
+use Rattle.interface.specs.Turn.{is_other}
+use Rattle.stack_laws.specs.Progress.Moves.{AreMoves, is_refused}
+use Rattle.stack_laws.specs.Progress.Queued.{Sends}
+
+-- This packet takes a datagram of a socket with these settings, and may leave the host; the hardware address of its next hop isn't known,
+-- and may be asked for now; and the host keeps count of fewer neighbours than it can.
+pub record HasToAsk (i : InnerValue) (settings : UdpSettings) (d : UdpMetadata × List ℕ) (hop : IpAddress) (p : PacketValue) : Type 0 where
+  pub takes : TakesDatagram (context_of i) settings d p
+  pub may : never_leaves i p.header ≡ false
+  pub unknown : link_address i (destination_of p.header) ≡ Link.Unknown hop
+  pub asks : may_ask i hop ≡ true
+  pub room : is_crowded i ≡ false
+
+-- among the moves a question went, and it is for the neighbour whose turn it is, where a socket waits for one
+pub record AsksInTurn (i : InnerValue) (turn : Option IpAddress) (all : List Move) : Type 0 where
+  pub question : Question
+  pub sent : Sends (frame_of i (Asks question)) all
+  pub whose : is_other turn (target_of question) ≡ false
+
+-- of a step of the way out: a question went, or the device refused
+pub record AsksAtOnce {D : Type 0} (moves : D → Move → D → Type 0) (i : InnerValue) (turn : Option IpAddress) (old new : D) : Type 0 where
+  pub all : List Move
+  pub are : AreMoves moves all old new
+  pub what : (list_any is_refused all ≡ true) ⊎ AsksInTurn i turn all
+
+-- ANSWERS (RFC 826)
+
+-- no other frame than this waits at the device at this moment
+abbrev pub IsNext : {D : Type 0} → (D → Move → D → Type 0) → ℤ → D → List ℕ → Type 0
+IsNext {D} moves t old frame = (other : List ℕ) (new : D) → moves old (Took t other) new → other ≡ frame
+
+-- the reply in which a station says to another one that it has an address
+abbrev pub arp_reply : EthernetAddress → Ipv4Address → EthernetAddress → Ipv4Address → ArpRepr
+arp_reply own a station asker = Arp.EthernetIpv4 Operation.Reply own a station asker
+
+-- an address of one host in a network of this one, at one station
+pub record IsNeighbor (i : InnerValue) (station : EthernetAddress) (a : Ipv4Address) : Type 0 where
+  pub one : is_unicast_v4 a ≡ true
+  pub sound : is_ethernet_unicast station ≡ true
+  pub near : is_in_own_network i (Address.Ipv4 a) ≡ true
+
+-- this ARP packet went, or the device refused it
+pub record Tells {D : Type 0} (moves : D → Move → D → Type 0) (i : InnerValue) (packet : ArpRepr) (old new : D) : Type 0 where
+  pub all : List Move
+  pub are : AreMoves moves all old new
+  pub what : (list_any is_refused all ≡ true) ⊎ Sends (frame_of i (Departures.Tells packet)) all
+
+-- packets for this destination, which is one host's, go by this next hop
+pub record IsVia (i : InnerValue) (to hop : IpAddress) : Type 0 where
+  pub one : is_local_broadcast i to ≡ false
+  pub group : is_multicast to ≡ false
+  pub hop_is : next_hop i to ≡ Some hop

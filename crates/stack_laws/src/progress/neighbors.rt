@@ -1,0 +1,69 @@
+//! A neighbour that isn't known is asked for, answers, and is known.
+
+ghost use Rattle.std.specs.Prelude.{◌≡◌, ℕ, ℤ, Bool, true, false, List, ◌∷◌, ◌++◌, Option, Some};
+ghost use Rattle.net_base.specs.Packets.{contents};
+ghost use Rattle.ip_wire.specs.Arp as Arps;
+ghost use Rattle.ip_wire.specs.EthernetAddress.{EthernetAddress};
+ghost use Rattle.ip_wire.specs.HardwareAddress.TheVariants as Hardware;
+ghost use Rattle.ip_wire.specs.IpAddress.{IpAddress};
+ghost use Rattle.ip_wire.specs.IpAddress.TheVariants as Address;
+ghost use Rattle.ip_wire.specs.Ipv4Address.{Ipv4Address};
+ghost use Rattle.sockets.specs.Udp.{UdpValue};
+ghost use Rattle.sockets.specs.UdpMetadata.{UdpMetadata};
+ghost use Rattle.interface_ingress.specs.Packet.{PacketValue};
+ghost use Rattle.interface_ingress.specs.Sent.{AreSealed};
+ghost use Rattle.interface_tables.specs.Inner.{InnerValue, at_moment, is_own, link_address};
+ghost use Rattle.interface_tables.specs.declared.link.LinkAddress.TheVariants as Link;
+ghost use Rattle.interface_egress.specs.Departure as Departures;
+ghost use Rattle.interface_egress.specs.Departure.{Asks};
+ghost use Rattle.interface_egress.specs.GoesOut.{frame_of};
+ghost use Rattle.interface_egress.specs.declared.frame.Question.TheVariants as Query;
+ghost use Rattle.interface.specs.Awaited.{turn_of};
+ghost use Rattle.interface.specs.Delivered.{IsQuestion};
+ghost use Rattle.interface.specs.Egress.{EgressStep};
+ghost use Rattle.interface.specs.Ingress.{IngressStep};
+ghost use Rattle.interface.specs.State.{State};
+ghost use Rattle.interface.specs.Turn.{is_other};
+ghost use Rattle.stack_laws.specs.Progress.Queued.{HasTurn};
+ghost use Rattle.stack_laws.specs.Progress.Asked.{HasToAsk, AsksAtOnce, IsNext, IsNeighbor, IsVia, Tells, arp_reply};
+
+use net_base::Device;
+
+/// Law: a neighbour that isn't known is asked for. Where the first datagram in the queue of a UDP socket that isn't waiting goes by a next hop
+/// whose hardware address isn't known, and no socket waits for another neighbour whose turn it is, a question goes in that step of the way out,
+/// unless the device refuses in it: for that hop, where a socket waits for it, else for the first that a packet needs.
+pub fn unknown_neighbors_are_asked_for<D: Device>()
+    ensures { (t : ℤ) (s s' : State D) (answer : Option Bool) (n : ℕ) (v : UdpValue) (d : UdpMetadata × List ℕ)
+        (more : List (UdpMetadata × List ℕ)) (hop : IpAddress) (p : PacketValue)
+        → HasTurn (at_moment t s.host.inner) s.places n v
+        → contents v.queued ≡ d ∷ more
+        → HasToAsk (at_moment t s.host.inner) v.settings d hop p
+        → is_other (turn_of (at_moment t s.host.inner) s.places) hop ≡ false
+        → EgressStep D.moves t s answer s'
+        → AsksAtOnce D.moves (at_moment t s.host.inner) (turn_of (at_moment t s.host.inner) s.places) s.device s'.device }
+{}
+
+/// Law: a host on Ethernet that reads an ARP request for an own address, from a station of one of its networks, answers to that station with its
+/// own, unless the device refuses; and a host that reads such an answer for an own address sends what goes by the address that answered to the
+/// station that did. Whatever padding follows.
+pub fn neighbors_answer<D: Device>()
+    ensures tells { (t : ℤ) (s s' : State D) (i : InnerValue) (padding : List ℕ) (own station : EthernetAddress) (a asked : Ipv4Address)
+        → s.host.inner.hardware ≡ Hardware.Ethernet own
+        → AreSealed i.checksums s.host.inner.checksums
+        → is_own s.host.inner (Address.Ipv4 asked) ≡ true
+        → IsNeighbor s.host.inner station a
+        → IsQuestion (Query.Arp station a asked)
+        → IsNext D.moves t s.device (frame_of i (Asks (Query.Arp station a asked)) ++ padding)
+        → IngressStep D.moves t s (Some true) s'
+        → Tells D.moves s.host.inner (arp_reply own asked station a) s.device s'.device }
+    ensures known { (t : ℤ) (s s' : State D) (i : InnerValue) (padding : List ℕ) (own station : EthernetAddress) (a asked : Ipv4Address) (to : IpAddress)
+        → s.host.inner.hardware ≡ Hardware.Ethernet own
+        → AreSealed i.checksums s.host.inner.checksums
+        → is_own s.host.inner (Address.Ipv4 a) ≡ true
+        → IsNeighbor s.host.inner station asked
+        → Arps.IsValue (arp_reply station asked own a)
+        → IsNext D.moves t s.device (frame_of i (Departures.Tells (arp_reply station asked own a)) ++ padding)
+        → IngressStep D.moves t s (Some true) s'
+        → IsVia (at_moment t s.host.inner) to (Address.Ipv4 asked)
+        → link_address s'.host.inner to ≡ Link.Known (Hardware.Ethernet station) }
+{}
