@@ -2,7 +2,7 @@
 use Rattle.std.proofs.Common.{◌≡◌, ℕ, zero, suc, ◌+◌, ◌<◌, List, [], ◌∷◌, ◌++◌, length, get_or, drop, sym, ap, ◌∙◌, append_assoc, add-one, arith}
 use Rattle.std.specs.Global.{Vec}
 use Rattle.net_base.specs.Device.{frames_of}
-use Rattle.lan_world.specs.declared.at_link.history.event.Side.{Side}
+use Rattle.lan.specs.declared.at_link.history.event.Side.{Side}
 use Rattle.lan.specs.Answers.{sent_line, sent_lines}
 
 -- the frames from the k-th on are that frame, and those from the next on

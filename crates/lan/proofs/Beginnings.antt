@@ -1,9 +1,9 @@
 -- A world that begins.
 use Rattle.std.proofs.Common.{◌≡◌, List, []}
-use Rattle.lan_world.specs.AtLink.History.{Entry}
-use Rattle.lan_world.specs.Runs.{Starts, WorldValue}
-use Rattle.lan_world.specs.Station.{StationValue, Stations}
-use Rattle.lan_world.specs.Come.{both, starts_of}
+use Rattle.lan.specs.Worlds.AtLink.History.{Entry}
+use Rattle.lan.specs.Worlds.AtLink.Runs.{Starts, WorldValue}
+use Rattle.lan.specs.Worlds.AtLink.Station.{StationValue, Stations}
+use Rattle.lan.specs.Worlds.Come.{both, starts_of}
 use Rattle.lan.specs.Hosts.{first_world}
 
 pub begins : (world : WorldValue) (a b : StationValue) → world.hosts ≡ both a b → world.starts ≡ starts_of a b → world.history ≡ [] → world ≡ first_world a b

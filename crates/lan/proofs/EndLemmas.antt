@@ -1,18 +1,18 @@
 -- Why a script's lines end the run.
 use Rattle.std.proofs.Common.{◌≡◌, ℕ, Bool, true, false, List, [], ◌∷◌, Option, Some, None, inl, inr, ◌⊎◌, refl}
 use Rattle.std.specs.Prelude.{◌≢◌, pos, option_map, if◌then◌else◌}
-use Rattle.lan_world.specs.Settings.{refusal}
-use Rattle.lan_world.specs.NewError.{NewError}
-use Rattle.lan_world.specs.NewError.TheVariants as New
-use Rattle.lan_world.specs.declared.at_link.history.answer.Refused.TheVariants.{Memory}
-use Rattle.lan_world.specs.declared.at_link.history.event.Side.{Side}
-use Rattle.lan_world.specs.declared.at_link.history.event.Side.TheVariants.{A, B}
+use Rattle.lan.specs.Worlds.Settings.{refusal}
+use Rattle.lan.specs.Worlds.AtLink.NewError.{NewError}
+use Rattle.lan.specs.Worlds.AtLink.NewError.TheVariants as New
+use Rattle.lan.specs.declared.at_link.history.answer.Refused.TheVariants.{Memory}
+use Rattle.lan.specs.declared.at_link.history.event.Side.{Side}
+use Rattle.lan.specs.declared.at_link.history.event.Side.TheVariants.{A, B}
 use Rattle.lan_base.specs.declared.line.Line.{Line}
 use Rattle.lan_base.specs.declared.line.Line.TheVariants.{Start}
-use Rattle.lan_world.specs.Station.{StationValue}
-use Rattle.lan_world.specs.New.{new_error}
-use Rattle.lan_world.specs.declared.error.WorldError.{WorldError}
-use Rattle.lan_world.specs.declared.error.WorldError.TheVariants as Since
+use Rattle.lan.specs.Worlds.AtLink.Station.{StationValue}
+use Rattle.lan.specs.Worlds.New.{new_error}
+use Rattle.lan.specs.declared.error.WorldError.{WorldError}
+use Rattle.lan.specs.declared.error.WorldError.TheVariants as Since
 use Rattle.net_base.specs.Medium.{Medium}
 use Rattle.lan.specs.declared.end.End.{End}
 use Rattle.lan.specs.declared.end.End.TheVariants.{BadEvent, Refusal, World}

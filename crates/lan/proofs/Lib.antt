@@ -8,3 +8,4 @@ pub mod Outcomes
 pub mod Beginnings
 pub mod SocketLemmas
 pub mod EndLemmas
+pub mod Worlds

@@ -4,10 +4,10 @@ use Rattle.std.proofs.Common.{ap, ap₂, arith}
 use Rattle.std.specs.Prelude.{◌||◌, ◌&&◌, if◌then◌else◌}
 use Rattle.std.specs.List.{position_or_len}
 use Rattle.std.proofs.lemmas.Bool.Decides.{nat_tests}
-use Rattle.lan_world.specs.Set.{unmarked, is_free, free_place}
-use Rattle.lan_world.specs.SocketStorage.{SocketStorage}
-use Rattle.lan_world.specs.AtLink.Kinds.{same_side}
-use Rattle.lan_world.specs.declared.at_link.history.event.Side.{Side}
+use Rattle.lan.specs.Worlds.Set.{unmarked, is_free, free_place}
+use Rattle.lan.specs.Worlds.SocketStorage.{SocketStorage}
+use Rattle.lan.specs.Worlds.AtLink.Kinds.{same_side}
+use Rattle.lan.specs.declared.at_link.history.event.Side.{Side}
 use Rattle.lan_base.specs.declared.kinds.SocketSpec.{SocketSpec}
 use Rattle.sockets.specs.declared.socket.Socket.{Socket}
 use Rattle.lan.specs.Hosts.{socket_of, with_sockets, is_large, has_large}

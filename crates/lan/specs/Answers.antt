@@ -2,13 +2,13 @@
 use Rattle.std.specs.Prelude.{ℕ, ◌+◌, ℤ, true, false, List, [], ◌∷◌, ◌++◌, codes, Some, None}
 use Rattle.std.specs.Fmt.{decimal, signed_decimal}
 use Rattle.ip_address.specs.Text.{endpoint_text, ip_text}
-use Rattle.lan_world.specs.declared.at_link.history.event.Side.{Side}
-use Rattle.lan_world.specs.declared.at_link.history.event.Side.TheVariants.{A, B}
-use Rattle.lan_world.specs.declared.at_link.history.answer.Answer.{Answer}
-use Rattle.lan_world.specs.declared.at_link.history.answer.Answer.TheVariants.{Done, Count, Bytes, State, FromEndpoint, FromAddr, Poll, At, Error}
-use Rattle.lan_world.specs.declared.at_link.history.answer.Fault.{Fault}
-use Rattle.lan_world.specs.declared.at_link.history.answer.Fault.TheVariants.{InvalidState, Unaddressable, BufferFull, Exhausted, Truncated, Finished, Medium, NotUnicast}
-use Rattle.lan_world.specs.declared.at_link.history.answer.Fault.TheVariants.{RouteTableFull}
+use Rattle.lan.specs.declared.at_link.history.event.Side.{Side}
+use Rattle.lan.specs.declared.at_link.history.event.Side.TheVariants.{A, B}
+use Rattle.lan.specs.declared.at_link.history.answer.Answer.{Answer}
+use Rattle.lan.specs.declared.at_link.history.answer.Answer.TheVariants.{Done, Count, Bytes, State, FromEndpoint, FromAddr, Poll, At, Error}
+use Rattle.lan.specs.declared.at_link.history.answer.Fault.{Fault}
+use Rattle.lan.specs.declared.at_link.history.answer.Fault.TheVariants.{InvalidState, Unaddressable, BufferFull, Exhausted, Truncated, Finished, Medium, NotUnicast}
+use Rattle.lan.specs.declared.at_link.history.answer.Fault.TheVariants.{RouteTableFull}
 use Rattle.lan_base.specs.Text.{hex_word}
 use Rattle.sockets.specs.TcpStates.{text_of}
 

@@ -1,13 +1,13 @@
 -- How a run of a script ends early, and the line that says so.
 use Rattle.std.specs.Prelude.{ℕ, List, ◌++◌, codes, Option, Some, None}
 use Rattle.std.specs.Fmt.{decimal}
-use Rattle.lan_world.specs.NewError.{NewError}
-use Rattle.lan_world.specs.NewError.TheVariants as New
-use Rattle.lan_world.specs.declared.at_link.history.answer.Refused.{Refused}
-use Rattle.lan_world.specs.declared.at_link.history.answer.Refused.TheVariants.{NoSocket, WrongKind, NoFrame, NotTcp, Place, SameSum, NamesTcpOrUdp, OpenedTwice, PortTaken}
-use Rattle.lan_world.specs.declared.at_link.history.answer.Refused.TheVariants.{TooManyBytes, TooManyCut, RawProtocol, Moment, Memory, NotIpv4, CutPlace}
-use Rattle.lan_world.specs.declared.error.WorldError.{WorldError}
-use Rattle.lan_world.specs.declared.error.WorldError.TheVariants as Since
+use Rattle.lan.specs.Worlds.AtLink.NewError.{NewError}
+use Rattle.lan.specs.Worlds.AtLink.NewError.TheVariants as New
+use Rattle.lan.specs.declared.at_link.history.answer.Refused.{Refused}
+use Rattle.lan.specs.declared.at_link.history.answer.Refused.TheVariants.{NoSocket, WrongKind, NoFrame, NotTcp, Place, SameSum, NamesTcpOrUdp, OpenedTwice, PortTaken}
+use Rattle.lan.specs.declared.at_link.history.answer.Refused.TheVariants.{TooManyBytes, TooManyCut, RawProtocol, Moment, Memory, NotIpv4, CutPlace}
+use Rattle.lan.specs.declared.error.WorldError.{WorldError}
+use Rattle.lan.specs.declared.error.WorldError.TheVariants as Since
 use Rattle.lan.specs.declared.end.End.{End}
 use Rattle.lan.specs.declared.end.End.TheVariants.{BadEvent, Refusal, Interface, World}
 

@@ -1,9 +1,9 @@
 -- The lines of a script, and the event that each names.
 use Rattle.std.specs.Prelude.{◌≡◌, ℕ, ◌==◌, Bool, true, false, if◌then◌else◌, List, [], ◌∷◌, Option, None, Some}
-use Rattle.lan_world.specs.declared.at_link.history.event.Side as host_side
-use Rattle.lan_world.specs.declared.at_link.history.event.Side.TheVariants as Host
-use Rattle.lan_world.specs.declared.at_link.history.event.Event.{Event}
-use Rattle.lan_world.specs.declared.at_link.history.event.Event.TheVariants as E
+use Rattle.lan.specs.declared.at_link.history.event.Side as host_side
+use Rattle.lan.specs.declared.at_link.history.event.Side.TheVariants as Host
+use Rattle.lan.specs.declared.at_link.history.event.Event.{Event}
+use Rattle.lan.specs.declared.at_link.history.event.Event.TheVariants as E
 use Rattle.lan_base.specs.Lines.{SaysLine}
 use Rattle.lan_base.specs.declared.kinds.Side.{Side}
 use Rattle.lan_base.specs.declared.kinds.Side.TheVariants.{A, B}

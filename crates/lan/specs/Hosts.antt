@@ -8,29 +8,29 @@ use Rattle.sockets.specs.Icmp as icmp
 use Rattle.sockets.specs.Raw as raw
 use Rattle.sockets.specs.SocketValue.{fresh}
 use Rattle.sockets.specs.Udp as udp
-use Rattle.lan_world.specs.Host.{HostValue}
-use Rattle.lan_world.specs.Made.{new_host, with_inner}
-use Rattle.lan_world.specs.Set.{unmarked}
-use Rattle.lan_world.specs.SocketStorage.{SocketStorage}
-use Rattle.lan_world.specs.Settings.{refusal, with_addresses}
-use Rattle.lan_world.specs.Config.{Config}
+use Rattle.lan.specs.Worlds.AtLink.Host.{HostValue}
+use Rattle.lan.specs.Worlds.Made.{new_host, with_inner}
+use Rattle.lan.specs.Worlds.Set.{unmarked}
+use Rattle.lan.specs.Worlds.SocketStorage.{SocketStorage}
+use Rattle.lan.specs.Worlds.Settings.{refusal, with_addresses}
+use Rattle.lan.specs.Worlds.AtLink.Config.{Config}
 use Rattle.ip_address.specs.declared.hardware.HardwareAddress.{HardwareAddress}
 use Rattle.ip_address.specs.declared.hardware.HardwareAddress.TheVariants as Hardware
 use Rattle.ip_address.specs.declared.ip.IpCidr.{IpCidr}
 use Rattle.ip_address.specs.declared.ip.IpCidr.TheVariants as Block
 use Rattle.ip_address.specs.Protocol.{protocol_of}
-use Rattle.lan_world.specs.AtLink.Kinds.{same_side}
-use Rattle.lan_world.specs.declared.at_link.history.event.Side.{Side}
-use Rattle.lan_world.specs.declared.at_link.history.event.Side.TheVariants.{A, B}
+use Rattle.lan.specs.Worlds.AtLink.Kinds.{same_side}
+use Rattle.lan.specs.declared.at_link.history.event.Side.{Side}
+use Rattle.lan.specs.declared.at_link.history.event.Side.TheVariants.{A, B}
 use Rattle.lan_base.specs.Port.{unused_end}
 use Rattle.lan_base.specs.declared.kinds.QueueSizes.{QueueSizes}
 use Rattle.lan_base.specs.declared.kinds.SocketSpec.{SocketSpec}
 use Rattle.lan_base.specs.declared.kinds.SocketSpec.TheVariants as Asks
-use Rattle.lan_world.specs.Runs.{WorldValue}
-use Rattle.lan_world.specs.Station.{StationValue}
-use Rattle.lan_world.specs.Come.{both, starts_of}
-use Rattle.lan_world.specs.New.{new_error}
-use Rattle.lan_world.specs.declared.error.WorldError.TheVariants as Since
+use Rattle.lan.specs.Worlds.AtLink.Runs.{WorldValue}
+use Rattle.lan.specs.Worlds.AtLink.Station.{StationValue}
+use Rattle.lan.specs.Worlds.Come.{both, starts_of}
+use Rattle.lan.specs.Worlds.New.{new_error}
+use Rattle.lan.specs.declared.error.WorldError.TheVariants as Since
 use Rattle.net_base.specs.Capabilities.{all_checksums}
 use Rattle.net_base.specs.Checksum.TheVariants.{Both}
 use Rattle.net_base.specs.DeviceCapabilities.{DeviceCapabilities}
@@ -40,7 +40,7 @@ use Rattle.net_base.specs.Packets.{Packets, packets_in}
 use Rattle.net_base.specs.Ring.{ring}
 use Rattle.sockets.specs.declared.socket.Socket.{Socket}
 use Rattle.sockets.specs.declared.socket.Socket.TheVariants as Is
-use Rattle.lan_world.specs.AtLink.Value.{new_socket}
+use Rattle.lan.specs.Worlds.AtLink.Value.{new_socket}
 use Rattle.lan.specs.Ends.{interface_end, world_end}
 use Rattle.lan.specs.declared.end.End.{End}
 use Rattle.lan.specs.declared.end.End.TheVariants.{World}

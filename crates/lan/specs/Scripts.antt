@@ -1,14 +1,14 @@
 -- A run of a script: what each line does and writes, and what the whole writes.
 use Rattle.std.specs.Prelude.{◌≡◌, ◌≢◌, ℕ, ◌+◌, Bool, true, false, List, [], ◌∷◌, ◌++◌, length, drop, codes, ◌⊎◌, Option, Some, None, option_map}
-use Rattle.lan_world.specs.declared.at_link.history.answer.Answer.{Answer}
-use Rattle.lan_world.specs.declared.at_link.history.answer.Refused.TheVariants.{Memory}
-use Rattle.lan_world.specs.declared.at_link.history.event.Event.{Event}
-use Rattle.lan_world.specs.declared.at_link.history.event.Side.{Side}
-use Rattle.lan_world.specs.declared.at_link.history.event.Side.TheVariants.{A, B}
+use Rattle.lan.specs.declared.at_link.history.answer.Answer.{Answer}
+use Rattle.lan.specs.declared.at_link.history.answer.Refused.TheVariants.{Memory}
+use Rattle.lan.specs.declared.at_link.history.event.Event.{Event}
+use Rattle.lan.specs.declared.at_link.history.event.Side.{Side}
+use Rattle.lan.specs.declared.at_link.history.event.Side.TheVariants.{A, B}
 use Rattle.lan_base.specs.declared.line.Line.{Line}
 use Rattle.lan_base.specs.declared.line.Line.TheVariants.{World, Socket, Start}
-use Rattle.lan_world.specs.Runs.{WorldValue, Step, refusal_in}
-use Rattle.lan_world.specs.Station.{Stations, station}
+use Rattle.lan.specs.Worlds.AtLink.Runs.{WorldValue, Step, refusal_in}
+use Rattle.lan.specs.Worlds.AtLink.Station.{Stations, station}
 use Rattle.lan.specs.declared.end.End.{End}
 use Rattle.lan.specs.declared.end.End.TheVariants.{BadEvent, Refusal}
 use Rattle.lan.specs.declared.session.Session.{Session}

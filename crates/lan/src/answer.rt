@@ -5,8 +5,8 @@ ghost use Rattle.net_base.specs.Device.{frames_of};
 ghost use Rattle.lan_base.specs.Text.{hex_word};
 ghost use Rattle.lan.specs.Answers.{side_name, fault_name, answer_line, sent_line, sent_lines};
 
+use crate::at_link::{Answer, Fault, Side};
 use lan_base::hex_text;
-use lan_world::at_link::{Answer, Fault, Side};
 use std::alloc::{AllocError, Global};
 use std::fmt;
 

@@ -2,8 +2,8 @@
 ghost use Rattle.std.specs.Prelude.{◌≡◌};
 ghost use Rattle.lan.specs.Ends.{refused_name, new_error_name, world_error_name};
 
-use lan_world::at_link::Refused;
-use lan_world::{NewError, WorldError};
+use crate::at_link::{NewError, Refused};
+use crate::error::WorldError;
 use std::alloc::AllocError;
 use std::fmt;
 
@@ -23,7 +23,7 @@ pub enum End {
 impl From<AllocError> for End {
     ghost use Rattle.std.specs.Prelude.{◌≡◌};
     ghost use Rattle.lan.specs.declared.end.End.TheVariants.{Refusal};
-    ghost use Rattle.lan_world.specs.declared.at_link.history.answer.Refused.TheVariants.{Memory};
+    ghost use Rattle.lan.specs.declared.at_link.history.answer.Refused.TheVariants.{Memory};
 
     ghost from_gives = { λ _ end. end ≡ Refusal Memory };
 

@@ -2,8 +2,8 @@
 ghost use Rattle.std.specs.Prelude.{◌≡◌, true, IfOk, OnErr};
 ghost use Rattle.lan.specs.Events.{side_of, event_of, has_bytes};
 
+use crate::at_link::{Bytes, Event, Side};
 use lan_base::{HexBytes, Line, Side as Named};
-use lan_world::at_link::{Bytes, Event, Side};
 use std::alloc::{AllocError, Global};
 
 /// The host of a world that a line names.

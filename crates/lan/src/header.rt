@@ -1,21 +1,21 @@
 //! The header of a script, and the world that it asks for.
 ghost use Rattle.std.specs.Prelude.{◌≡◌, ◌⊎◌, ◌++◌, ◌∷◌, [], Some, None, pos, IfOk, OnOk, IfErr};
-ghost use Rattle.lan_world.specs.Made.{Makes};
-ghost use Rattle.lan_world.specs.Set.{places};
-ghost use Rattle.lan_world.specs.declared.at_link.history.answer.Refused.TheVariants.{Memory};
-ghost use Rattle.lan_world.specs.declared.at_link.history.event.Side.TheVariants.{A, B};
+ghost use Rattle.lan.specs.Worlds.Made.{Makes};
+ghost use Rattle.lan.specs.Worlds.Set.{places};
+ghost use Rattle.lan.specs.declared.at_link.history.answer.Refused.TheVariants.{Memory};
+ghost use Rattle.lan.specs.declared.at_link.history.event.Side.TheVariants.{A, B};
 ghost use Rattle.lan_base.specs.Port.{unused_end};
 ghost use Rattle.lan.specs.declared.end.End.TheVariants.{Refusal};
 ghost use Rattle.lan.specs.Hosts.{number, hardware_of, block_v4, block_v6, config_of, device_of, interface_of, with_sockets, host_of, first_world, first_of};
 ghost use Rattle.lan.specs.Hosts.{no_interface, no_sockets, no_world, no_start};
 
+use crate::at_link::{Config, Host, Interface, NewError, Side, SocketSet};
 use crate::end::End;
 use crate::own_sockets::own_sockets_of;
+use crate::world::World;
 use arrayvec::ArrayVec;
 use ip_address::{EthernetAddress, HardwareAddress, IpAddress, IpCidr};
 use lan_base::{Port, SocketSpec};
-use lan_world::at_link::Side;
-use lan_world::{Config, Host, Interface, NewError, SocketSet, World};
 use net_base::{ChecksumCapabilities, DeviceCapabilities, Instant, Medium};
 use sockets::Socket;
 use std::alloc::{AllocError, Global};

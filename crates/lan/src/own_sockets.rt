@@ -1,20 +1,20 @@
 //! The sockets that a header asks for.
 ghost use Rattle.std.specs.Prelude.{◌≡◌, ◌⊎◌, ◌+◌, [], ◌∷◌, ◌++◌, true, false, None, IfOk, OnOk, IfErr, length, replicate};
-ghost use Rattle.lan_world.specs.Set.{places, free_place, is_fixed, unmarked};
-ghost use Rattle.lan_world.specs.AtLink.Kinds.{same_side};
-ghost use Rattle.lan_world.specs.declared.at_link.history.answer.Refused.TheVariants.{Memory};
-ghost use Rattle.lan_world.specs.declared.error.WorldError.TheVariants.{Buffers};
+ghost use Rattle.lan.specs.Worlds.Set.{places, free_place, is_fixed, unmarked};
+ghost use Rattle.lan.specs.Worlds.AtLink.Kinds.{same_side};
+ghost use Rattle.lan.specs.declared.at_link.history.answer.Refused.TheVariants.{Memory};
+ghost use Rattle.lan.specs.declared.error.WorldError.TheVariants.{Buffers};
 ghost use Rattle.net_base.specs.Ring.{ring};
 ghost use Rattle.lan.specs.declared.end.End.TheVariants.{Refusal, World};
 ghost use Rattle.lan_base.specs.declared.kinds.SocketSpec.TheVariants as Asks;
-ghost use Rattle.lan_world.specs.AtLink.Value.{new_socket};
+ghost use Rattle.lan.specs.Worlds.AtLink.Value.{new_socket};
 ghost use Rattle.lan.specs.Hosts.{queue, received, queued, socket_of, with_sockets, is_large, has_large};
 
+use crate::at_link::{Refused, Side, SocketSet};
 use crate::end::End;
+use crate::error::WorldError;
 use ip_address::IpProtocol;
 use lan_base::{QueueSizes, SocketSpec, StreamSizes};
-use lan_world::at_link::{Refused, Side};
-use lan_world::{SocketSet, WorldError};
 use net_base::{ManagedSlice, PacketBuffer, PacketMetadata, RingBuffer};
 use sockets::{Socket, icmp, raw, tcp, udp};
 use std::alloc::{AllocError, Global};

@@ -4,8 +4,8 @@ ghost use Rattle.lan_base.specs.Lines.{SaysLine};
 ghost use Rattle.lan_base.specs.declared.line.Line.{Line};
 ghost use Rattle.lan.specs.Scripts.{IsReplay, IsSameReplay};
 
+use crate::host_laws::one_outcome;
 use crate::script::MOST_READS;
-use lan_world::host_laws::one_outcome;
 
 /// `replay` reads from its reader 2^32 times at most.
 pub fn reads_have_a_bound()

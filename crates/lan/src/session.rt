@@ -1,20 +1,20 @@
 //! A script as far as it has come, line by line.
 ghost use Rattle.std.specs.Prelude.{◌≡◌, ◌⊎◌, Some, None, IfOk, OnOk, IfErr, option_map};
 ghost use Rattle.std.specs.String.{string_bytes};
-ghost use Rattle.lan_world.specs.declared.at_link.history.answer.Refused.TheVariants.{Memory};
-ghost use Rattle.lan_world.specs.Runs.{refusal_in};
+ghost use Rattle.lan.specs.declared.at_link.history.answer.Refused.TheVariants.{Memory};
+ghost use Rattle.lan.specs.Worlds.AtLink.Runs.{refusal_in};
 ghost use Rattle.lan.specs.declared.end.End.TheVariants.{Refusal};
 ghost use Rattle.lan.specs.Scripts.{Takes, MayEnd, event_end, EventLeads};
 ghost use Rattle.lan.specs.Events.{event_of};
 ghost use Rattle.lan.specs.declared.session.Session.TheVariants.{Running};
 
 use crate::answer::{answer_line, push_sent};
+use crate::at_link::{Event, Side};
 use crate::end::End;
 use crate::event::{event_of, side_of};
 use crate::header::Header;
+use crate::world::World;
 use lan_base::Line;
-use lan_world::World;
-use lan_world::at_link::{Event, Side};
 use std::alloc::Global;
 use std::mem::replace;
 

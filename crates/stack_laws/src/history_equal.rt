@@ -2,8 +2,8 @@
 //! same value.
 ghost use Rattle.std.specs.Prelude.{◌≡◌, ◌↔◌, IsTrue};
 
+use lan::at_link::{Fault, Opening, Refused, Side, SocketKind, SocketRecord, TcpSetting};
 use lan_base::Part;
-use lan_world::at_link::{Fault, Opening, Refused, Side, SocketKind, SocketRecord, TcpSetting};
 
 /// Law: `==` says of two faults, and of two reasons of a refusal, whether they are the same.
 pub fn faults_are_equated()

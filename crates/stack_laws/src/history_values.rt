@@ -1,12 +1,12 @@
 //! What is kept of a socket of two hosts at a link: the first record, and how many bytes are too many; and what faults, refusals and
 //! errors of a world say.
 ghost use Rattle.std.specs.Prelude.{◌≡◌, ◌↔◌, ◌+◌, ◌≤◌, ℕ, IsTrue, None, Some};
-ghost use Rattle.lan_world.specs.AtLink.Tables.{is_too_many};
-ghost use Rattle.lan_world.specs.AtLink.Texts.{fault_text, refused_text};
+ghost use Rattle.lan.specs.Worlds.AtLink.Tables.{is_too_many};
+ghost use Rattle.lan.specs.Worlds.AtLink.Texts.{fault_text, refused_text};
 ghost use Rattle.lan.specs.New.{world_error_text};
 
+use lan::at_link::SocketRecord;
 use lan::{Fault, Refused, WorldError};
-use lan_world::at_link::SocketRecord;
 use std::fmt::Display;
 
 /// Law: a socket accepts fewer than 2^29 bytes.

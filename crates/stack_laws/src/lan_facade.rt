@@ -1,73 +1,59 @@
-//! What `lan` passes on is its members', each item under its own name: each function takes a member's item and
-//! gives it as the facade's, which is accepted only where both names mean one item.
+//! What `lan` passes on is its modules' or `lan_base`'s: each function takes an item under the name that it has there and
+//! gives it under the one that `lan` passes on, which is accepted only where both names mean one item.
 ghost use Rattle.std.specs.Prelude.{◌≡◌, List, ℕ, IfOk};
 ghost use Rattle.std.specs.String.{string_bytes};
 ghost use Rattle.net_base.specs.Medium.{Medium};
 ghost use Rattle.lan.specs.Answers.{answer_line};
 ghost use Rattle.lan.specs.Events.{event_of, side_of};
 ghost use Rattle.lan_base.specs.Carried.{names_tcp_or_udp};
-ghost use Rattle.lan_world.specs.declared.at_link.history.event.Side.{Side};
-ghost use Rattle.lan_world.specs.AtLink.History.{Entry};
-ghost use Rattle.lan_world.specs.AtLink.Partners.{ArePartners};
-ghost use Rattle.lan_world.specs.AtLink.Tables.{Places, AreAllowed};
+ghost use Rattle.lan.specs.declared.at_link.history.event.Side.{Side};
+ghost use Rattle.lan.specs.Worlds.AtLink.History.{Entry};
+ghost use Rattle.lan.specs.Worlds.AtLink.Partners.{ArePartners};
+ghost use Rattle.lan.specs.Worlds.AtLink.Tables.{Places, AreAllowed};
 ghost use Rattle.lan.specs.Asked.{requests, AreApart};
 ghost use Rattle.lan.specs.Machine.{Turn, Machine, HostRun};
 
 use net_base::Medium;
 use std::alloc::{AllocError, Global};
 
-/// A side, a setting, a fault, a reason of a refusal, and why two hosts make no world.
+/// A side, a setting, a fault, and a reason of a refusal.
 pub fn passes_on_names(
-    side: lan_world::at_link::Side,
-    setting: lan_world::at_link::TcpSetting,
-    fault: lan_world::at_link::Fault,
-    refused: lan_world::at_link::Refused,
-    error: lan_world::WorldError,
-) -> (
-    lan::Side,
-    lan::TcpSetting,
-    lan::Fault,
-    lan::Refused,
-    lan::WorldError,
-)
-    ensures { result ≡ (side, setting, fault, refused, error) }
+    side: lan::at_link::Side,
+    setting: lan::at_link::TcpSetting,
+    fault: lan::at_link::Fault,
+    refused: lan::at_link::Refused,
+) -> (lan::Side, lan::TcpSetting, lan::Fault, lan::Refused)
+    ensures { result ≡ (side, setting, fault, refused) }
 {
-    (side, setting, fault, refused, error)
+    (side, setting, fault, refused)
 }
 
 /// An event.
-pub fn passes_on_events(event: &lan_world::at_link::Event) -> &lan::Event
+pub fn passes_on_events(event: &lan::at_link::Event) -> &lan::Event
     ensures { result.now ≡ event.now }
 {
     event
 }
 
 /// An answer.
-pub fn passes_on_answers(answer: &lan_world::at_link::Answer) -> &lan::Answer
+pub fn passes_on_answers(answer: &lan::at_link::Answer) -> &lan::Answer
     ensures { result.now ≡ answer.now }
 {
     answer
 }
 
 /// Bytes.
-pub fn passes_on_bytes(bytes: &lan_world::at_link::Bytes) -> &lan::Bytes
+pub fn passes_on_bytes(bytes: &lan::at_link::Bytes) -> &lan::Bytes
     ensures { result.now ≡ bytes.now }
 {
     bytes
 }
 
 /// A host.
-pub fn passes_on_hosts(host: &lan_world::at_link::Host) -> &lan::Host
+pub fn passes_on_hosts(host: &lan::at_link::Host) -> &lan::Host
     ensures { result.now ≡ host.now }
 {
     host
-}
-
-/// A world.
-pub fn passes_on_worlds(world: &lan_world::World) -> &lan::World
-    ensures { result.now ≡ world.now }
-{
-    world
 }
 
 /// A port.

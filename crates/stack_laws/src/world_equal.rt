@@ -3,7 +3,7 @@
 ghost use Rattle.std.specs.Prelude.{◌≡◌, ◌↔◌, IsTrue};
 
 use lan::WorldError;
-use lan_world::at_link::Brief;
+use lan::at_link::Brief;
 
 /// Law: `==` says of two answers without bytes, and of why hosts make no world, whether it is the same.
 pub fn worlds_are_equated()

@@ -1,9 +1,9 @@
 //! When a world isn't made and when it refuses an event, and that a refused event leaves it as it was: each function makes one
 //! call, and says again what the call promises.
 ghost use Rattle.std.specs.Prelude.{◌≡◌, ◌<◌, [], take, length, slice_get, IfOk, IfErr, OnOk, OnErr, IfSome, Err};
-ghost use Rattle.lan_world.specs.AtLink.Kinds.{kind_of};
-ghost use Rattle.lan_world.specs.AtLink.Refusals.{MayRefuse};
-ghost use Rattle.lan_world.specs.AtLink.Runs.{Step, Steps, answers_of, refusal_in, tables_in};
+ghost use Rattle.lan.specs.Worlds.AtLink.Kinds.{kind_of};
+ghost use Rattle.lan.specs.Worlds.AtLink.Refusals.{MayRefuse};
+ghost use Rattle.lan.specs.Worlds.AtLink.Runs.{Step, Steps, answers_of, refusal_in, tables_in};
 ghost use Rattle.lan.specs.Come.{both, starts_of};
 ghost use Rattle.lan.specs.New.{new_error, MayFail};
 

@@ -5,53 +5,53 @@ use Rattle.std.proofs.Common.{refl, sym}
 use Rattle.std.proofs.Common.{◌∙◌, ap, subst, arith}
 use Rattle.std.specs.Prelude.{slice_get, ◌≤ℤ◌, ◌<ℤ◌}
 use Rattle.std.proofs.lemmas.Int.{ints}
-use Rattle.lan_world.specs.FragKey.{FragKey}
-use Rattle.lan_world.specs.IpProtocol.TheVariants as Protocol
+use Rattle.lan.specs.Worlds.FragKey.{FragKey}
+use Rattle.lan.specs.Worlds.IpProtocol.TheVariants as Protocol
 use Rattle.net_base.specs.Medium.{Medium}
-use Rattle.lan_world.specs.Address.{IsEthernetAddress, IsIpv6Address}
-use Rattle.lan_world.specs.EthernetAddress.{EthernetAddress}
-use Rattle.lan_world.specs.HardwareAddress.{HardwareAddress}
-use Rattle.lan_world.specs.HardwareAddress.TheVariants as Hardware
-use Rattle.lan_world.specs.Ipv4Address.{Ipv4Address}
-use Rattle.lan_world.specs.Ipv6Address.{Ipv6Address}
-use Rattle.lan_world.specs.Question.{Question}
-use Rattle.lan_world.specs.Question.TheVariants as Query
-use Rattle.lan_world.specs.AtLink.Departure as Leaves
-use Rattle.lan_world.specs.AtLink.Departure.{Tells, Whole, arp_frame, arp_request, packet_frame, question_frame, solicitation, solicited_station}
-use Rattle.lan_world.specs.AtLink.Arrives.{Arrived, ReplyValue}
-use Rattle.lan_world.specs.AtLink.Delivered.{Places}
-use Rattle.lan_world.specs.Kept.{with_ports}
-use Rattle.lan_world.specs.AtLink.Reassembled.{Slots}
-use Rattle.lan_world.specs.AtLink.Inner.{InnerValue}
-use Rattle.lan_world.specs.Route.{Route}
-use Rattle.lan_world.specs.Touches.{second_after}
-use Rattle.lan_world.specs.AtLink.History.{Entry, Counts}
-use Rattle.lan_world.specs.AtLink.Kinds.{other, Kind, Act, Delivered, Damaged, kind_of}
-use Rattle.lan_world.specs.AtLink.Kinds.Act.{Opens, Asks}
-use Rattle.lan_world.specs.AtLink.Kinds.Kind.{OfHost, OfLink}
-use Rattle.lan_world.specs.AtLink.Kinds.LinkAct.{Hands}
-use Rattle.lan_world.specs.declared.at_link.history.answer.Answer.{Answer}
-use Rattle.lan_world.specs.declared.at_link.history.answer.Answer.TheVariants as To
-use Rattle.lan_world.specs.declared.at_link.history.answer.Refused.TheVariants as For
-use Rattle.lan_world.specs.declared.at_link.history.event.Side.{Side}
-use Rattle.lan_world.specs.declared.at_link.history.event.Side.TheVariants.{A}
-use Rattle.lan_world.specs.AtLink.Origins.{medium_of, frame_of_origin, is_cut_of, own_frames}
-use Rattle.lan_world.specs.AtLink.Refusals.{is_no_frame, refusal}
-use Rattle.lan_world.specs.AtLink.Runs.{Starts, WorldValue, WorldRun, unused, unused_both, counts_of, tables_in}
-use Rattle.lan_world.specs.AtLink.Station.{StationValue, Stations, station}
-use Rattle.lan_world.specs.AtLink.Steps.{Acts, Happens}
-use Rattle.lan_world.specs.Hosts.Asked.{requests, AreApart}
-use Rattle.lan_world.specs.Hosts.Damage.{DamageIsHarmless, IsHarmless, IsHarmlessBy}
-use Rattle.lan_world.specs.Hosts.HostRuns.{Deed, deed_of, deed_in, deeds, IsHostRun, frames_sent, frames_taken}
-use Rattle.lan_world.specs.Hosts.Machine.{Turn, Machine, HostRun, HostStep, at_link, machine_of}
-use Rattle.lan_world.specs.Hosts.Quiet.{PollsWereQuiet, NoneExpires}
-use Rattle.lan_world.specs.Hosts.Wire.{FramesAreApart, HasPorts, asks, is_request}
-use Rattle.lan_world.specs.Moves.Raws.{OfEach}
-use Rattle.lan_world.specs.Rebuilt.{Rebuilds, RebuiltWasMade, protocol_in, room_before}
-use Rattle.lan_world.specs.Said.{Fact, ByteAt, EndsAt, IsSaid, RebuiltWasSent}
-use Rattle.lan_world.proofs.Hosts.WireQuestions.{request_passes, solicitation_passes}
-use Rattle.lan_world.proofs.LinkActs.{passed, below}
-use Rattle.lan_world.proofs.Moves.Makers.{made_long, made_segment_long}
+use Rattle.lan.specs.Worlds.Address.{IsEthernetAddress, IsIpv6Address}
+use Rattle.lan.specs.Worlds.EthernetAddress.{EthernetAddress}
+use Rattle.lan.specs.Worlds.HardwareAddress.{HardwareAddress}
+use Rattle.lan.specs.Worlds.HardwareAddress.TheVariants as Hardware
+use Rattle.lan.specs.Worlds.Ipv4Address.{Ipv4Address}
+use Rattle.lan.specs.Worlds.Ipv6Address.{Ipv6Address}
+use Rattle.lan.specs.Worlds.Question.{Question}
+use Rattle.lan.specs.Worlds.Question.TheVariants as Query
+use Rattle.lan.specs.Worlds.AtLink.Departure as Leaves
+use Rattle.lan.specs.Worlds.AtLink.Departure.{Tells, Whole, arp_frame, arp_request, packet_frame, question_frame, solicitation, solicited_station}
+use Rattle.lan.specs.Worlds.AtLink.Arrives.{Arrived, ReplyValue}
+use Rattle.lan.specs.Worlds.AtLink.Delivered.{Places}
+use Rattle.lan.specs.Worlds.Kept.{with_ports}
+use Rattle.lan.specs.Worlds.AtLink.Reassembled.{Slots}
+use Rattle.lan.specs.Worlds.AtLink.Inner.{InnerValue}
+use Rattle.lan.specs.Worlds.Route.{Route}
+use Rattle.lan.specs.Worlds.Touches.{second_after}
+use Rattle.lan.specs.Worlds.AtLink.History.{Entry, Counts}
+use Rattle.lan.specs.Worlds.AtLink.Kinds.{other, Kind, Act, Delivered, Damaged, kind_of}
+use Rattle.lan.specs.Worlds.AtLink.Kinds.Act.{Opens, Asks}
+use Rattle.lan.specs.Worlds.AtLink.Kinds.Kind.{OfHost, OfLink}
+use Rattle.lan.specs.Worlds.AtLink.Kinds.LinkAct.{Hands}
+use Rattle.lan.specs.declared.at_link.history.answer.Answer.{Answer}
+use Rattle.lan.specs.declared.at_link.history.answer.Answer.TheVariants as To
+use Rattle.lan.specs.declared.at_link.history.answer.Refused.TheVariants as For
+use Rattle.lan.specs.declared.at_link.history.event.Side.{Side}
+use Rattle.lan.specs.declared.at_link.history.event.Side.TheVariants.{A}
+use Rattle.lan.specs.Worlds.AtLink.Origins.{medium_of, frame_of_origin, is_cut_of, own_frames}
+use Rattle.lan.specs.Worlds.AtLink.Refusals.{is_no_frame, refusal}
+use Rattle.lan.specs.Worlds.AtLink.Runs.{Starts, WorldValue, WorldRun, unused, unused_both, counts_of, tables_in}
+use Rattle.lan.specs.Worlds.AtLink.Station.{StationValue, Stations, station}
+use Rattle.lan.specs.Worlds.AtLink.Steps.{Acts, Happens}
+use Rattle.lan.specs.Worlds.Hosts.Asked.{requests, AreApart}
+use Rattle.lan.specs.Worlds.Hosts.Damage.{DamageIsHarmless, IsHarmless, IsHarmlessBy}
+use Rattle.lan.specs.Worlds.Hosts.HostRuns.{Deed, deed_of, deed_in, deeds, IsHostRun, frames_sent, frames_taken}
+use Rattle.lan.specs.Worlds.Hosts.Machine.{Turn, Machine, HostRun, HostStep, at_link, machine_of}
+use Rattle.lan.specs.Worlds.Hosts.Quiet.{PollsWereQuiet, NoneExpires}
+use Rattle.lan.specs.Worlds.Hosts.Wire.{FramesAreApart, HasPorts, asks, is_request}
+use Rattle.lan.specs.Worlds.Moves.Raws.{OfEach}
+use Rattle.lan.specs.Worlds.Rebuilt.{Rebuilds, RebuiltWasMade, protocol_in, room_before}
+use Rattle.lan.specs.Worlds.Said.{Fact, ByteAt, EndsAt, IsSaid, RebuiltWasSent}
+use Rattle.lan.proofs.Worlds.Hosts.WireQuestions.{request_passes, solicitation_passes}
+use Rattle.lan.proofs.Worlds.LinkActs.{passed, below}
+use Rattle.lan.proofs.Worlds.Moves.Makers.{made_long, made_segment_long}
 use Rattle.stack_laws.specs.Worlds.BadWorlds.{after, Delivers, Damages, IsAsked, GetsRoom, sent_by_a, asked, polled, asking, leaving, AreOfOther, IsTaken}
 
 -- RUNS

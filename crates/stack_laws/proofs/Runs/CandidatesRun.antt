@@ -1,11 +1,11 @@
 -- The run of a host that connects to one of two listeners is a run.
 use Rattle.std.proofs.Common.{◌≡◌, true, false, Some, None, refl, ap, ◌∙◌}
-use Rattle.lan_world.specs.declared.at_link.history.event.Side.TheVariants.{A}
-use Rattle.lan_world.specs.declared.at_link.history.record.Opening.{Opening}
-use Rattle.lan_world.specs.AtLink.Partners.{ArePartners, are_paired}
-use Rattle.lan_world.specs.AtLink.Moves.{IsRun, run}
-use Rattle.lan_world.specs.AtLink.Parties.Socket.{Tcp}
-use Rattle.lan_world.specs.AtLink.PacketsSafe.{IsFreshNet}
+use Rattle.lan.specs.declared.at_link.history.event.Side.TheVariants.{A}
+use Rattle.lan.specs.declared.at_link.history.record.Opening.{Opening}
+use Rattle.lan.specs.Worlds.AtLink.Partners.{ArePartners, are_paired}
+use Rattle.lan.specs.Worlds.AtLink.Moves.{IsRun, run}
+use Rattle.lan.specs.Worlds.AtLink.Parties.Socket.{Tcp}
+use Rattle.lan.specs.Worlds.AtLink.PacketsSafe.{IsFreshNet}
 use Rattle.stack_laws.specs.Worlds.Candidates.{hosts, steps}
 use Rattle.stack_laws.specs.Worlds.Hosts.{no_names, unbound}
 use Rattle.stack_laws.specs.Worlds.Streams.{fresh}

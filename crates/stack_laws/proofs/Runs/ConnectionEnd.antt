@@ -1,10 +1,10 @@
 -- What a connection has come to when three bytes were read, when one side closed, and when both did.
 use Rattle.std.proofs.Common.{◌≡◌, Some, None, refl, sym, ap, subst}
 use Rattle.tcp_model.specs.State.TheVariants as In
-use Rattle.lan_world.specs.declared.at_link.history.answer.Answer.TheVariants as To
-use Rattle.lan_world.specs.declared.at_link.history.answer.Fault.TheVariants as Fault
-use Rattle.lan_world.specs.declared.at_link.history.event.Side.TheVariants.{A, B}
-use Rattle.lan_world.specs.AtLink.Partners.{ArePartners}
+use Rattle.lan.specs.declared.at_link.history.answer.Answer.TheVariants as To
+use Rattle.lan.specs.declared.at_link.history.answer.Fault.TheVariants as Fault
+use Rattle.lan.specs.declared.at_link.history.event.Side.TheVariants.{A, B}
+use Rattle.lan.specs.Worlds.AtLink.Partners.{ArePartners}
 use Rattle.stack_laws.specs.Worlds.Connection.{told, half_closed, closing, closed}
 use Rattle.stack_laws.specs.Worlds.Hosts.{text, last_answer}
 use Rattle.stack_laws.specs.Worlds.Played.{Play, played}

@@ -1,6 +1,6 @@
 -- A whole connection is a run: its pieces, joined.
 use Rattle.std.proofs.Common.{◌≡◌, ◌++◌, refl, sym, ap, ◌∙◌, subst}
-use Rattle.lan_world.specs.AtLink.Moves.{IsRun, run}
+use Rattle.lan.specs.Worlds.AtLink.Moves.{IsRun, run}
 use Rattle.stack_laws.specs.Worlds.Connection.{telling, told, ending, half_closed, closing, closed, whole}
 use Rattle.stack_laws.specs.Worlds.Hosts.{no_names}
 use Rattle.stack_laws.specs.Worlds.Opening.{opening, opened}

@@ -1,11 +1,11 @@
 -- The run of a datagram between bound ports is a run.
 use Rattle.std.proofs.Common.{refl}
-use Rattle.lan_world.specs.declared.at_link.history.event.Side.TheVariants.{A, B}
+use Rattle.lan.specs.declared.at_link.history.event.Side.TheVariants.{A, B}
 use Rattle.datagram_sockets.specs.Udp.{metadata_to}
 use Rattle.datagram_sockets.proofs.UdpPackets.{found}
-use Rattle.lan_world.specs.AtLink.Moves.{IsRun}
-use Rattle.lan_world.specs.AtLink.Parties.Socket.{Udp}
-use Rattle.lan_world.specs.AtLink.PacketsSafe.{IsFreshNet}
+use Rattle.lan.specs.Worlds.AtLink.Moves.{IsRun}
+use Rattle.lan.specs.Worlds.AtLink.Parties.Socket.{Udp}
+use Rattle.lan.specs.Worlds.AtLink.PacketsSafe.{IsFreshNet}
 use Rattle.stack_laws.specs.Worlds.Hosts.{no_names, unbound, context, endpoint, text}
 use Rattle.stack_laws.specs.Worlds.Datagrams.{hosts, steps, fresh, queued_a, header}
 use Rattle.stack_laws.proofs.Runs.Fresh.{fresh_one}

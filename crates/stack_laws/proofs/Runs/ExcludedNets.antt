@@ -2,13 +2,13 @@
 use Rattle.std.proofs.Common.{◌≡◌, inl, inr, ℕ, ◌+◌, true, false, List, [], ◌∷◌, ◌++◌, length, get_or, length-append, Some, None, refl, sym, ap, ◌∙◌, subst}
 use Rattle.std.proofs.Common.{arith}
 use Rattle.std.specs.Prelude.{◌==◌, ◌||◌, Bool, if◌then◌else◌}
-use Rattle.lan_world.specs.declared.at_link.history.event.Side.{Side}
-use Rattle.lan_world.specs.declared.at_link.history.event.Side.TheVariants.{A, B}
-use Rattle.lan_world.specs.declared.at_link.history.answer.Answer.TheVariants as To
-use Rattle.lan_world.specs.AtLink.Call as Call
-use Rattle.lan_world.specs.AtLink.History.{Entry, closes, is_closed_by, bound_port}
-use Rattle.lan_world.specs.AtLink.Partners.{ArePartners}
-use Rattle.lan_world.specs.AtLink.Reads.{Accepts, Accepted}
+use Rattle.lan.specs.declared.at_link.history.event.Side.{Side}
+use Rattle.lan.specs.declared.at_link.history.event.Side.TheVariants.{A, B}
+use Rattle.lan.specs.declared.at_link.history.answer.Answer.TheVariants as To
+use Rattle.lan.specs.Worlds.AtLink.Call as Call
+use Rattle.lan.specs.Worlds.AtLink.History.{Entry, closes, is_closed_by, bound_port}
+use Rattle.lan.specs.Worlds.AtLink.Partners.{ArePartners}
+use Rattle.lan.specs.Worlds.AtLink.Reads.{Accepts, Accepted}
 use Rattle.stack_laws.specs.Worlds.Hosts.{endpoint, text, unbound}
 use Rattle.stack_laws.specs.Worlds.Streams.{fresh}
 use Rattle.stack_laws.specs.Worlds.Excluded.{Cannot, had, listened, spoken, lonely, ended, waits, queues, with_sockets, bound, and_sent, and_read, only}

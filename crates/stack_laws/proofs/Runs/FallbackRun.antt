@@ -1,9 +1,9 @@
 -- The run of a listener that falls back is a run.
 use Rattle.std.proofs.Common.{refl}
-use Rattle.lan_world.specs.AtLink.Moves.{IsRun, run}
-use Rattle.lan_world.specs.AtLink.Parties.Socket.{Tcp}
-use Rattle.lan_world.specs.AtLink.PacketsSafe.{IsFreshNet}
-use Rattle.lan_world.proofs.AtLink.Extended.{IsRun-append}
+use Rattle.lan.specs.Worlds.AtLink.Moves.{IsRun, run}
+use Rattle.lan.specs.Worlds.AtLink.Parties.Socket.{Tcp}
+use Rattle.lan.specs.Worlds.AtLink.PacketsSafe.{IsFreshNet}
+use Rattle.lan.proofs.Worlds.AtLink.Extended.{IsRun-append}
 use Rattle.stack_laws.specs.Worlds.Fallback.{hosts, calls, falls, fell, again, steps}
 use Rattle.stack_laws.specs.Worlds.Hosts.{no_names, unbound}
 use Rattle.stack_laws.specs.Worlds.Streams.{fresh}

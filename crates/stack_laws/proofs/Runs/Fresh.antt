@@ -1,9 +1,9 @@
 -- Hosts of one or two sockets that are fresh.
 use Rattle.std.proofs.Common.{◌≡◌, ℕ, zero, suc, [], ◌∷◌, Some, refl, subst}
 use Rattle.std.proofs.lemmas.Option.{none-some}
-use Rattle.lan_world.specs.AtLink.Parties.{Socket, socket_at}
-use Rattle.lan_world.specs.AtLink.Parties.Socket.{Tcp}
-use Rattle.lan_world.specs.AtLink.PacketsSafe.{IsFreshSocket, IsFreshParty}
+use Rattle.lan.specs.Worlds.AtLink.Parties.{Socket, socket_at}
+use Rattle.lan.specs.Worlds.AtLink.Parties.Socket.{Tcp}
+use Rattle.lan.specs.Worlds.AtLink.PacketsSafe.{IsFreshSocket, IsFreshParty}
 use Rattle.stack_laws.specs.Worlds.Hosts.{host}
 use Rattle.stack_laws.specs.Worlds.Streams.{fresh}
 

@@ -1,11 +1,11 @@
 -- The run of a socket that is refused is a run.
 use Rattle.std.proofs.Common.{ℕ, refl}
 use Rattle.std.proofs.lemmas.Option.{none-some}
-use Rattle.lan_world.specs.declared.at_link.history.event.Side.TheVariants.{A}
-use Rattle.lan_world.specs.AtLink.Partners.{ArePartners}
-use Rattle.lan_world.specs.AtLink.Moves.{IsRun, run}
-use Rattle.lan_world.specs.AtLink.Parties.Socket.{Tcp}
-use Rattle.lan_world.specs.AtLink.PacketsSafe.{IsFreshNet}
+use Rattle.lan.specs.declared.at_link.history.event.Side.TheVariants.{A}
+use Rattle.lan.specs.Worlds.AtLink.Partners.{ArePartners}
+use Rattle.lan.specs.Worlds.AtLink.Moves.{IsRun, run}
+use Rattle.lan.specs.Worlds.AtLink.Parties.Socket.{Tcp}
+use Rattle.lan.specs.Worlds.AtLink.PacketsSafe.{IsFreshNet}
 use Rattle.stack_laws.specs.Worlds.Hosts.{no_names, unbound}
 use Rattle.stack_laws.specs.Worlds.Lone.{hosts, steps}
 use Rattle.stack_laws.specs.Worlds.Streams.{fresh}

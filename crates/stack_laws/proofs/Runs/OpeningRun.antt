@@ -1,12 +1,12 @@
 -- The opening of a connection is a run: its pieces, joined.
 use Rattle.std.proofs.Common.{◌≡◌, List, [], ◌∷◌, ◌++◌, slice_get, Some, refl, sym, ap, ◌∙◌, subst}
-use Rattle.lan_world.specs.AtLink.Call.SocketCall.{Listen, Connect}
+use Rattle.lan.specs.Worlds.AtLink.Call.SocketCall.{Listen, Connect}
 use Rattle.tcp_tie.specs.Host.{made_of}
-use Rattle.lan_world.specs.AtLink.Moves.{IsRun, run}
-use Rattle.lan_world.specs.AtLink.Parties.{party}
-use Rattle.lan_world.specs.AtLink.Parties.Socket.{Tcp}
-use Rattle.lan_world.specs.AtLink.PacketsSafe.{IsFreshNet}
-use Rattle.lan_world.specs.declared.at_link.history.event.Side.TheVariants.{A, B}
+use Rattle.lan.specs.Worlds.AtLink.Moves.{IsRun, run}
+use Rattle.lan.specs.Worlds.AtLink.Parties.{party}
+use Rattle.lan.specs.Worlds.AtLink.Parties.Socket.{Tcp}
+use Rattle.lan.specs.Worlds.AtLink.PacketsSafe.{IsFreshNet}
+use Rattle.lan.specs.declared.at_link.history.event.Side.TheVariants.{A, B}
 use Rattle.stack_laws.specs.Worlds.Opening.{opening, opened}
 use Rattle.stack_laws.specs.Worlds.Hosts.{endpoint, no_names, unbound}
 use Rattle.stack_laws.specs.Worlds.Played.{Doing, Play, start, played, steps_of, segment_at}

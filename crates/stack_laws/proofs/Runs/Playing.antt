@@ -1,9 +1,9 @@
 -- What two hosts do one after the other is a run, where each piece of it is.
 use Rattle.std.proofs.Common.{◌≡◌, ℕ, Bool, List, [], ◌∷◌, ◌++◌, refl, sym, ap, ◌∙◌, subst}
-use Rattle.lan_world.specs.declared.at_link.history.event.Side.TheVariants.{A, B}
-use Rattle.lan_world.specs.AtLink.Moves.{Step, after, IsRun, run}
-use Rattle.lan_world.specs.AtLink.Parties.{Net}
-use Rattle.lan_world.proofs.AtLink.Extended.{IsRun-append}
+use Rattle.lan.specs.declared.at_link.history.event.Side.TheVariants.{A, B}
+use Rattle.lan.specs.Worlds.AtLink.Moves.{Step, after, IsRun, run}
+use Rattle.lan.specs.Worlds.AtLink.Parties.{Net}
+use Rattle.lan.proofs.Worlds.AtLink.Extended.{IsRun-append}
 use Rattle.stack_laws.specs.Worlds.Played.{Doing, Play, step_of, done, played, steps_of}
 use Rattle.stack_laws.specs.Worlds.Played.Doing.{Calls, Asks, Comes}
 

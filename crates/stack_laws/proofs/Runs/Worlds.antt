@@ -9,7 +9,7 @@ use Rattle.ip_wire.specs.TcpHeader.{TcpHeader}
 use Rattle.ip_wire.specs.TcpOptions.{TcpOptions}
 use Rattle.net_base.specs.Ring.{ring}
 use Rattle.tcp_tie.specs.Host.{Made, made_of}
-use Rattle.lan_world.specs.AtLink.ReceiveMap.{space}
+use Rattle.lan.specs.Worlds.AtLink.ReceiveMap.{space}
 use Rattle.tcp_model.specs.AddressPair.TheVariants as Pair
 use Rattle.tcp_model.specs.Blocks.{default_settings, fresh_loss, fresh_stamps, fresh_timers}
 use Rattle.tcp_model.specs.declared.block.Block.{Block}
@@ -17,17 +17,17 @@ use Rattle.tcp_model.specs.declared.block.Names.{Names}
 use Rattle.tcp_model.specs.State.{State}
 use Rattle.tcp_model.specs.State.TheVariants as In
 use Rattle.tcp_model.specs.Value.{TcpValue, received_of}
-use Rattle.lan_world.specs.declared.at_link.history.answer.Answer.{Answer}
-use Rattle.lan_world.specs.declared.at_link.history.answer.Answer.TheVariants as To
-use Rattle.lan_world.specs.declared.at_link.history.answer.Fault.TheVariants as Fault
-use Rattle.lan_world.specs.declared.at_link.history.event.Side.{Side}
-use Rattle.lan_world.specs.declared.at_link.history.event.Side.TheVariants.{A, B}
-use Rattle.lan_world.specs.AtLink.Call as Call
-use Rattle.lan_world.specs.AtLink.Call.{SocketCall}
-use Rattle.lan_world.specs.AtLink.History.{Entry}
-use Rattle.lan_world.specs.AtLink.Calls.{did, at_port}
-use Rattle.lan_world.specs.AtLink.Parties.{Party}
-use Rattle.lan_world.specs.AtLink.Parties.Socket.{Tcp}
+use Rattle.lan.specs.declared.at_link.history.answer.Answer.{Answer}
+use Rattle.lan.specs.declared.at_link.history.answer.Answer.TheVariants as To
+use Rattle.lan.specs.declared.at_link.history.answer.Fault.TheVariants as Fault
+use Rattle.lan.specs.declared.at_link.history.event.Side.{Side}
+use Rattle.lan.specs.declared.at_link.history.event.Side.TheVariants.{A, B}
+use Rattle.lan.specs.Worlds.AtLink.Call as Call
+use Rattle.lan.specs.Worlds.AtLink.Call.{SocketCall}
+use Rattle.lan.specs.Worlds.AtLink.History.{Entry}
+use Rattle.lan.specs.Worlds.AtLink.Calls.{did, at_port}
+use Rattle.lan.specs.Worlds.AtLink.Parties.{Party}
+use Rattle.lan.specs.Worlds.AtLink.Parties.Socket.{Tcp}
 use Rattle.stack_laws.specs.Worlds.Connection as Connection
 use Rattle.stack_laws.specs.Worlds.Hosts.{address, endpoint, entry_of, text}
 use Rattle.stack_laws.specs.Worlds.Opening as Opening

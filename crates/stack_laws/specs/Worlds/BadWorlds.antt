@@ -3,28 +3,28 @@ use Rattle.std.specs.Prelude.{◌≡◌, ◌≢◌, ℕ, ℤ, pos, true, List, [
 use Rattle.net_base.specs.Capabilities.{all_checksums}
 use Rattle.net_base.specs.Checksum.TheVariants.{Both}
 use Rattle.net_base.specs.Medium.{Medium}
-use Rattle.lan_world.specs.FragKey.{FragKey}
-use Rattle.lan_world.specs.FragKey.TheVariants as Keys
-use Rattle.lan_world.specs.AtLink.Departure.{Departure, Asks}
-use Rattle.lan_world.specs.Question.{Question}
-use Rattle.lan_world.specs.AtLink.Arrives.{Arrived, Arrives}
-use Rattle.lan_world.specs.AtLink.Delivered.{Places}
-use Rattle.lan_world.specs.AtLink.Reassembled.{Slots}
-use Rattle.lan_world.specs.AtLink.Inner.{InnerValue}
-use Rattle.lan_world.specs.Settings.{is_of_medium}
-use Rattle.lan_world.specs.AtLink.History.{Entry, Counts}
-use Rattle.lan_world.specs.AtLink.Kinds.{Delivered, Damaged, kind_of}
-use Rattle.lan_world.specs.AtLink.Kinds.Act.{Opens, Polls, Asks as AsksWhen}
-use Rattle.lan_world.specs.AtLink.Kinds.Kind.{OfHost, OfLink}
-use Rattle.lan_world.specs.AtLink.Kinds.LinkAct.{Hands}
-use Rattle.lan_world.specs.declared.at_link.history.answer.Answer.TheVariants as To
-use Rattle.lan_world.specs.declared.at_link.history.event.Event.TheVariants as E
-use Rattle.lan_world.specs.declared.at_link.history.event.Side.TheVariants.{A}
-use Rattle.lan_world.specs.AtLink.Origins.{medium_of, frame_of_origin}
-use Rattle.lan_world.specs.AtLink.Runs.{Starts, WorldValue}
-use Rattle.lan_world.specs.AtLink.Station.{Stations}
-use Rattle.lan_world.specs.Hosts.Machine.{Turn, frames_of}
-use Rattle.lan_world.specs.Said.{Fact, Carries}
+use Rattle.lan.specs.Worlds.FragKey.{FragKey}
+use Rattle.lan.specs.Worlds.FragKey.TheVariants as Keys
+use Rattle.lan.specs.Worlds.AtLink.Departure.{Departure, Asks}
+use Rattle.lan.specs.Worlds.Question.{Question}
+use Rattle.lan.specs.Worlds.AtLink.Arrives.{Arrived, Arrives}
+use Rattle.lan.specs.Worlds.AtLink.Delivered.{Places}
+use Rattle.lan.specs.Worlds.AtLink.Reassembled.{Slots}
+use Rattle.lan.specs.Worlds.AtLink.Inner.{InnerValue}
+use Rattle.lan.specs.Worlds.Settings.{is_of_medium}
+use Rattle.lan.specs.Worlds.AtLink.History.{Entry, Counts}
+use Rattle.lan.specs.Worlds.AtLink.Kinds.{Delivered, Damaged, kind_of}
+use Rattle.lan.specs.Worlds.AtLink.Kinds.Act.{Opens, Polls, Asks as AsksWhen}
+use Rattle.lan.specs.Worlds.AtLink.Kinds.Kind.{OfHost, OfLink}
+use Rattle.lan.specs.Worlds.AtLink.Kinds.LinkAct.{Hands}
+use Rattle.lan.specs.declared.at_link.history.answer.Answer.TheVariants as To
+use Rattle.lan.specs.declared.at_link.history.event.Event.TheVariants as E
+use Rattle.lan.specs.declared.at_link.history.event.Side.TheVariants.{A}
+use Rattle.lan.specs.Worlds.AtLink.Origins.{medium_of, frame_of_origin}
+use Rattle.lan.specs.Worlds.AtLink.Runs.{Starts, WorldValue}
+use Rattle.lan.specs.Worlds.AtLink.Station.{Stations}
+use Rattle.lan.specs.Worlds.Hosts.Machine.{Turn, frames_of}
+use Rattle.lan.specs.Worlds.Said.{Fact, Carries}
 
 -- a world with this history
 abbrev pub after : Starts → List Entry → Stations → WorldValue

@@ -1,12 +1,12 @@
 -- A host listens at two ports, and the other one connects to the second of them.
 use Rattle.std.specs.Prelude.{List, [], ◌∷◌, Some}
 use Rattle.tcp_model.specs.Value.{TcpValue}
-use Rattle.lan_world.specs.declared.at_link.history.event.Side.TheVariants.{A, B}
-use Rattle.lan_world.specs.AtLink.Call as Call
-use Rattle.lan_world.specs.AtLink.Call.{SocketCall}
-use Rattle.lan_world.specs.AtLink.Parties.{Net}
-use Rattle.lan_world.specs.AtLink.Parties.Socket.{Tcp}
-use Rattle.lan_world.specs.AtLink.Moves.{Step}
+use Rattle.lan.specs.declared.at_link.history.event.Side.TheVariants.{A, B}
+use Rattle.lan.specs.Worlds.AtLink.Call as Call
+use Rattle.lan.specs.Worlds.AtLink.Call.{SocketCall}
+use Rattle.lan.specs.Worlds.AtLink.Parties.{Net}
+use Rattle.lan.specs.Worlds.AtLink.Parties.Socket.{Tcp}
+use Rattle.lan.specs.Worlds.AtLink.Moves.{Step}
 use Rattle.stack_laws.specs.Worlds.Hosts.{endpoint, host}
 use Rattle.stack_laws.specs.Worlds.Streams.{fresh, invokes, called, asks, TcpSegment, sent_by, comes}
 

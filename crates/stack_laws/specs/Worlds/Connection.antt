@@ -1,7 +1,7 @@
 -- A whole connection: behind its opening A writes abc, which comes twice and is read once; then A closes, and B after it.
 use Rattle.std.specs.Prelude.{List, [], ◌∷◌, ◌++◌}
-use Rattle.lan_world.specs.declared.at_link.history.event.Side.TheVariants.{A, B}
-use Rattle.lan_world.specs.AtLink.Call.SocketCall.{Send, Recv, Close}
+use Rattle.lan.specs.declared.at_link.history.event.Side.TheVariants.{A, B}
+use Rattle.lan.specs.Worlds.AtLink.Call.SocketCall.{Send, Recv, Close}
 use Rattle.stack_laws.specs.Worlds.Hosts.{text}
 use Rattle.stack_laws.specs.Worlds.Opening.{opening, opened}
 use Rattle.stack_laws.specs.Worlds.Played.{Doing, Play, played}

@@ -7,16 +7,16 @@ use Rattle.datagram_sockets.specs.Offers.{left_with}
 use Rattle.datagram_sockets.specs.Udp as Udps
 use Rattle.datagram_sockets.specs.Udp.{UdpValue, metadata_to}
 use Rattle.tcp_model.specs.Offer.TheVariants as Offer
-use Rattle.lan_world.specs.declared.at_link.history.answer.Answer.TheVariants as To
-use Rattle.lan_world.specs.declared.at_link.history.event.Side.{Side}
-use Rattle.lan_world.specs.declared.at_link.history.event.Side.TheVariants.{A, B}
-use Rattle.lan_world.specs.AtLink.Call as Call
-use Rattle.lan_world.specs.AtLink.Call.{SocketCall}
-use Rattle.lan_world.specs.AtLink.Calls.{Did, did, udp_does}
-use Rattle.lan_world.specs.AtLink.Parties.{Net}
-use Rattle.lan_world.specs.AtLink.Parties.Socket.{Udp}
-use Rattle.lan_world.specs.AtLink.Moves.{Step}
-use Rattle.lan_world.specs.AtLink.Moves.Move.{Invokes, Gives, Receives}
+use Rattle.lan.specs.declared.at_link.history.answer.Answer.TheVariants as To
+use Rattle.lan.specs.declared.at_link.history.event.Side.{Side}
+use Rattle.lan.specs.declared.at_link.history.event.Side.TheVariants.{A, B}
+use Rattle.lan.specs.Worlds.AtLink.Call as Call
+use Rattle.lan.specs.Worlds.AtLink.Call.{SocketCall}
+use Rattle.lan.specs.Worlds.AtLink.Calls.{Did, did, udp_does}
+use Rattle.lan.specs.Worlds.AtLink.Parties.{Net}
+use Rattle.lan.specs.Worlds.AtLink.Parties.Socket.{Udp}
+use Rattle.lan.specs.Worlds.AtLink.Moves.{Step}
+use Rattle.lan.specs.Worlds.AtLink.Moves.Move.{Invokes, Gives, Receives}
 use Rattle.stack_laws.specs.Worlds.Hosts.{context, endpoint, packet_to, host, text, entry_of}
 
 abbrev pub fresh : UdpValue

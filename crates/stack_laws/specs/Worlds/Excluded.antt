@@ -2,17 +2,17 @@
 use Rattle.std.specs.Prelude.{ℕ, List, [], ◌∷◌, Some, None}
 use Rattle.net_base.specs.Ring.{ring}
 use Rattle.tcp_model.specs.Value.{TcpValue}
-use Rattle.lan_world.specs.declared.at_link.history.answer.Answer.{Answer}
-use Rattle.lan_world.specs.declared.at_link.history.answer.Answer.TheVariants as To
-use Rattle.lan_world.specs.declared.at_link.history.answer.Fault.TheVariants as Fault
-use Rattle.lan_world.specs.declared.at_link.history.event.Side.{Side}
-use Rattle.lan_world.specs.declared.at_link.history.event.Side.TheVariants.{A, B}
-use Rattle.lan_world.specs.AtLink.Call as Call
-use Rattle.lan_world.specs.AtLink.Call.{SocketCall}
-use Rattle.lan_world.specs.AtLink.History.{Entry}
-use Rattle.lan_world.specs.AtLink.Parties.{Net}
-use Rattle.lan_world.specs.AtLink.Parties.Socket.{Tcp}
-use Rattle.lan_world.specs.AtLink.PacketsSafe.{IsSafe}
+use Rattle.lan.specs.declared.at_link.history.answer.Answer.{Answer}
+use Rattle.lan.specs.declared.at_link.history.answer.Answer.TheVariants as To
+use Rattle.lan.specs.declared.at_link.history.answer.Fault.TheVariants as Fault
+use Rattle.lan.specs.declared.at_link.history.event.Side.{Side}
+use Rattle.lan.specs.declared.at_link.history.event.Side.TheVariants.{A, B}
+use Rattle.lan.specs.Worlds.AtLink.Call as Call
+use Rattle.lan.specs.Worlds.AtLink.Call.{SocketCall}
+use Rattle.lan.specs.Worlds.AtLink.History.{Entry}
+use Rattle.lan.specs.Worlds.AtLink.Parties.{Net}
+use Rattle.lan.specs.Worlds.AtLink.Parties.Socket.{Tcp}
+use Rattle.lan.specs.Worlds.AtLink.PacketsSafe.{IsSafe}
 use Rattle.stack_laws.specs.Worlds.Hosts.{endpoint, host, text, unbound, event_of}
 use Rattle.stack_laws.specs.Worlds.Streams.{fresh}
 

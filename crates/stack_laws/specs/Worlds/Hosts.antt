@@ -9,18 +9,18 @@ use Rattle.ip_wire.specs.IpRepr.TheVariants as Ip
 use Rattle.net_base.specs.Capabilities.{all_checksums}
 use Rattle.net_base.specs.Checksum.TheVariants as Checksum
 use Rattle.tcp_model.specs.Context.{ContextValue}
-use Rattle.lan_world.specs.declared.at_link.history.answer.Answer.{Answer}
-use Rattle.lan_world.specs.declared.at_link.history.answer.Answer.TheVariants as To
-use Rattle.lan_world.specs.declared.at_link.history.event.Event.{Event}
-use Rattle.lan_world.specs.declared.at_link.history.event.Event.TheVariants as E
-use Rattle.lan_world.specs.declared.at_link.history.event.Side.{Side}
-use Rattle.lan_world.specs.declared.at_link.history.event.Side.TheVariants.{A, B}
-use Rattle.lan_world.specs.AtLink.Call as Call
-use Rattle.lan_world.specs.AtLink.Call.{SocketCall}
-use Rattle.lan_world.specs.AtLink.Kinds.{other}
-use Rattle.lan_world.specs.AtLink.History.{Entry}
-use Rattle.lan_world.specs.AtLink.Calls.{Did}
-use Rattle.lan_world.specs.AtLink.Parties.{Socket, Party, Net}
+use Rattle.lan.specs.declared.at_link.history.answer.Answer.{Answer}
+use Rattle.lan.specs.declared.at_link.history.answer.Answer.TheVariants as To
+use Rattle.lan.specs.declared.at_link.history.event.Event.{Event}
+use Rattle.lan.specs.declared.at_link.history.event.Event.TheVariants as E
+use Rattle.lan.specs.declared.at_link.history.event.Side.{Side}
+use Rattle.lan.specs.declared.at_link.history.event.Side.TheVariants.{A, B}
+use Rattle.lan.specs.Worlds.AtLink.Call as Call
+use Rattle.lan.specs.Worlds.AtLink.Call.{SocketCall}
+use Rattle.lan.specs.Worlds.AtLink.Kinds.{other}
+use Rattle.lan.specs.Worlds.AtLink.History.{Entry}
+use Rattle.lan.specs.Worlds.AtLink.Calls.{Did}
+use Rattle.lan.specs.Worlds.AtLink.Parties.{Socket, Party, Net}
 
 abbrev pub address : Side → Ipv4Address
 address A = record { 0 = 192 ∷ 168 ∷ 1 ∷ 1 ∷ [] }

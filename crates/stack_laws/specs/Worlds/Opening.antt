@@ -1,7 +1,7 @@
 -- B listens, and A connects: three segments open the connection.
 use Rattle.std.specs.Prelude.{List, [], ◌∷◌}
-use Rattle.lan_world.specs.declared.at_link.history.event.Side.TheVariants.{A, B}
-use Rattle.lan_world.specs.AtLink.Call.SocketCall.{Listen, Connect}
+use Rattle.lan.specs.declared.at_link.history.event.Side.TheVariants.{A, B}
+use Rattle.lan.specs.Worlds.AtLink.Call.SocketCall.{Listen, Connect}
 use Rattle.stack_laws.specs.Worlds.Hosts.{endpoint}
 use Rattle.stack_laws.specs.Worlds.Played.{Doing, Play, start, played}
 use Rattle.stack_laws.specs.Worlds.Played.Doing.{Calls, Asks, Comes}

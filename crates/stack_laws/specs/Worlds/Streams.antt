@@ -13,14 +13,14 @@ use Rattle.tcp_model.specs.Arrival.{arrives}
 use Rattle.tcp_model.specs.Offers.{offer_of, offered_packet}
 use Rattle.tcp_model.specs.Settled.{settled}
 use Rattle.tcp_model.specs.Value.{TcpValue, new_socket}
-use Rattle.lan_world.specs.declared.at_link.history.answer.Answer.TheVariants as To
-use Rattle.lan_world.specs.declared.at_link.history.event.Side.{Side}
-use Rattle.lan_world.specs.AtLink.Call.{SocketCall}
-use Rattle.lan_world.specs.AtLink.Calls.{Did, did, tcp_does}
-use Rattle.lan_world.specs.AtLink.Parties.{Socket, socket_at, Net, party}
-use Rattle.lan_world.specs.AtLink.Parties.Socket.{Tcp}
-use Rattle.lan_world.specs.AtLink.Moves.{Step}
-use Rattle.lan_world.specs.AtLink.Moves.Move.{Invokes, Offers, Takes, Resets}
+use Rattle.lan.specs.declared.at_link.history.answer.Answer.TheVariants as To
+use Rattle.lan.specs.declared.at_link.history.event.Side.{Side}
+use Rattle.lan.specs.Worlds.AtLink.Call.{SocketCall}
+use Rattle.lan.specs.Worlds.AtLink.Calls.{Did, did, tcp_does}
+use Rattle.lan.specs.Worlds.AtLink.Parties.{Socket, socket_at, Net, party}
+use Rattle.lan.specs.Worlds.AtLink.Parties.Socket.{Tcp}
+use Rattle.lan.specs.Worlds.AtLink.Moves.{Step}
+use Rattle.lan.specs.Worlds.AtLink.Moves.Move.{Invokes, Offers, Takes, Resets}
 use Rattle.stack_laws.specs.Worlds.Hosts.{context, packet_to, entry_of}
 
 abbrev pub fresh : TcpValue

@@ -1,10 +1,10 @@
 //! A datagram between bound ports.
 ghost use Rattle.std.specs.Prelude.{◌≡◌};
-ghost use Rattle.lan_world.specs.declared.at_link.history.answer.Answer.TheVariants as To;
-ghost use Rattle.lan_world.specs.declared.at_link.history.event.Side.TheVariants.{A, B};
-ghost use Rattle.lan_world.specs.AtLink.Reads.{ReadsWereAccepted};
-ghost use Rattle.lan_world.specs.AtLink.Moves.{IsRun, run};
-ghost use Rattle.lan_world.specs.AtLink.PacketsSafe.{IsFreshNet};
+ghost use Rattle.lan.specs.declared.at_link.history.answer.Answer.TheVariants as To;
+ghost use Rattle.lan.specs.declared.at_link.history.event.Side.TheVariants.{A, B};
+ghost use Rattle.lan.specs.Worlds.AtLink.Reads.{ReadsWereAccepted};
+ghost use Rattle.lan.specs.Worlds.AtLink.Moves.{IsRun, run};
+ghost use Rattle.lan.specs.Worlds.AtLink.PacketsSafe.{IsFreshNet};
 ghost use Rattle.stack_laws.specs.Worlds.Datagrams.{hosts, steps};
 ghost use Rattle.stack_laws.specs.Worlds.Hosts.{no_names, unbound, endpoint, text, last_answer};
 

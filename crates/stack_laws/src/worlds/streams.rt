@@ -1,12 +1,12 @@
 //! Connections.
 ghost use Rattle.std.specs.Prelude.{◌≡◌, ℕ};
-ghost use Rattle.lan_world.specs.declared.at_link.history.answer.Answer.TheVariants as To;
-ghost use Rattle.lan_world.specs.declared.at_link.history.answer.Fault.TheVariants as Fault;
-ghost use Rattle.lan_world.specs.declared.at_link.history.event.Side.TheVariants.{A, B};
-ghost use Rattle.lan_world.specs.AtLink.Partners.{ArePartners};
+ghost use Rattle.lan.specs.declared.at_link.history.answer.Answer.TheVariants as To;
+ghost use Rattle.lan.specs.declared.at_link.history.answer.Fault.TheVariants as Fault;
+ghost use Rattle.lan.specs.declared.at_link.history.event.Side.TheVariants.{A, B};
+ghost use Rattle.lan.specs.Worlds.AtLink.Partners.{ArePartners};
 ghost use Rattle.tcp_model.specs.State.TheVariants as In;
-ghost use Rattle.lan_world.specs.AtLink.Moves.{IsRun, run};
-ghost use Rattle.lan_world.specs.AtLink.PacketsSafe.{IsFreshNet};
+ghost use Rattle.lan.specs.Worlds.AtLink.Moves.{IsRun, run};
+ghost use Rattle.lan.specs.Worlds.AtLink.PacketsSafe.{IsFreshNet};
 ghost use Rattle.stack_laws.specs.Worlds.Candidates as Candidates;
 ghost use Rattle.stack_laws.specs.Worlds.Connection.{telling, told, ending, half_closed, closing, closed, whole};
 ghost use Rattle.stack_laws.specs.Worlds.Fallback as Fallback;

@@ -1,6 +1,6 @@
 use Rattle.std.proofs.Common.{rules, ◌≡◌, ◌+◌, ◌++◌, ◌∷◌, [], sym, ap, ◌∙◌, subst, drop, List, Option, None, false}
 use Rattle.std.proofs.lemmas.List.{drop_more}
-use Rattle.lan_world.specs.Set.{places}
+use Rattle.lan.specs.Worlds.Set.{places}
 use Rattle.lan.proofs.SocketLemmas.{own_next, other_next}
 use Rattle.lan.proofs.own_sockets.add_own.Goals as goal
 use Rattle.lan.proofs.own_sockets.add_own.Goals.{then-is_same+in_ok-add_socket, else-is_same}

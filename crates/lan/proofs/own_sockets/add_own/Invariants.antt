@@ -1,6 +1,6 @@
 -- The sockets so far, with the host's own of those that are left, are all of its own, and none of those so far was too large.
 use Rattle.std.proofs.Common.{◌≡◌, drop, false, None}
-use Rattle.lan_world.specs.Set.{places, free_place, is_fixed}
+use Rattle.lan.specs.Worlds.Set.{places, free_place, is_fixed}
 use Rattle.lan.specs.Hosts.{with_sockets, has_large}
 use Rattle.lan.proofs.own_sockets.add_own.Given as goal
 

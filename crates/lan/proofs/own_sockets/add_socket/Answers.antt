@@ -1,5 +1,5 @@
 use Rattle.std.proofs.Common.{◌≡◌, ◌++◌, ◌∷◌, [], ap, ◌∙◌}
-use Rattle.lan_world.specs.Set.{places, unmarked}
+use Rattle.lan.specs.Worlds.Set.{places, unmarked}
 use Rattle.sockets.specs.declared.socket.Socket.{Socket}
 use Rattle.lan.proofs.SocketLemmas.{still_used}
 use Rattle.lan.proofs.own_sockets.add_socket.Goals as goal

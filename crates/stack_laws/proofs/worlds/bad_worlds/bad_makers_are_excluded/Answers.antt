@@ -1,4 +1,4 @@
-use Rattle.lan_world.proofs.Moves.Makers.{made_by_hosts}
+use Rattle.lan.proofs.Worlds.Moves.Makers.{made_by_hosts}
 use Rattle.stack_laws.proofs.Runs.BadWorlds as by
 use Rattle.stack_laws.proofs.worlds.bad_worlds.bad_makers_are_excluded.Goals as goal
 

@@ -1,0 +1,25 @@
+-- Two hosts and the link between them.
+pub mod AtLink
+pub mod Hosts
+pub mod Moves
+pub mod Link
+pub mod Acts
+pub mod LinkActs
+pub mod Told
+pub mod Keeps
+pub mod Settings
+pub mod Events
+pub mod Beginnings
+pub mod PolledJoins
+pub mod Runs
+pub mod Rebuilding
+pub mod Damages
+pub mod SaidPolls
+pub mod SaidRuns
+pub mod PortMoves
+pub mod Pasts
+pub mod Unused
+pub mod JustMade
+pub mod Goings
+pub mod Running
+pub mod Promises

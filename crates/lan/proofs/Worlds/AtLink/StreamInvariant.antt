@@ -1,0 +1,89 @@
+-- What is kept of TCP sockets and of the segments that were made.
+use Rattle.std.proofs.Common.{◌≡◌, ◌⊎◌, inl, inr, ℕ, ◌==◌, Bool, true, false, List, [], ◌∷◌, Option, Some, None, refl, sym, ap, ◌∙◌, subst}
+use Rattle.tcp_tie.specs.Segment.Control.{Rst}
+use Rattle.tcp_tie.specs.Side as Law
+use Rattle.tcp_tie.specs.Side.Opening.{NotYet, Passive, Active}
+use Rattle.tcp_tie.specs.Endpoints.{Ports, HasPorts, IsNameless}
+use Rattle.tcp_tie.specs.Host.{Made, past_at}
+use Rattle.tcp_tie.specs.Promises.{IsFresh, KeepsAlone}
+use Rattle.tcp_tie.specs.Tie.{Past, Keeps, no_past}
+use Rattle.tcp_model.specs.EndpointPair.{EndpointPair}
+use Rattle.tcp_model.specs.Value.{TcpValue}
+use Rattle.lan.specs.declared.at_link.history.event.Side.{Side}
+use Rattle.lan.specs.declared.at_link.history.record.Opening.{Opening}
+use Rattle.lan.specs.Worlds.AtLink.Kinds.{other}
+use Rattle.lan.specs.Worlds.AtLink.History.{Entry, opening, written, read, is_closed_by}
+use Rattle.lan.specs.Worlds.AtLink.Partners.{ArePartners}
+use Rattle.lan.specs.Worlds.AtLink.Parties.{Socket, Party, socket_at}
+use Rattle.lan.specs.Worlds.AtLink.Parties.Socket.{Tcp}
+use Rattle.lan.proofs.Worlds.AtLink.Lists.{Each}
+
+-- THE PAST OF A SOCKET, as the history tells it
+
+abbrev pub way_of : Option ℕ → Law.Opening
+way_of None = Passive
+way_of (Some remote) = Active
+
+abbrev pub way_by : Option Opening → Law.Opening
+way_by None = NotYet
+way_by (Some o) = way_of o.remote
+
+abbrev pub told : List Entry → Side → ℕ → Past
+told h side i = record { opening = way_by (opening h side i); written = written h side i; read = read h side i; closed = is_closed_by h side i; sent = [] }
+
+abbrev pub ports_of : Opening → Ports
+ports_of o = record { local = o.local; remote = o.remote }
+
+-- ONE SOCKET
+
+-- never opened: nothing was seen of it
+pub record IsUntouched (h : List Entry) (side : Side) (i : ℕ) (v : TcpValue) : Type 0 where
+  pub fresh : IsFresh v
+  pub nameless : IsNameless v.block
+  pub nothing : told h side i ≡ no_past []
+
+-- a socket of this host connects from a port to another
+pub record ConnectsTo (h : List Entry) (side : Side) (port target : ℕ) : Type 0 where
+  pub place : ℕ
+  pub by : Opening
+  pub opened : opening h side place ≡ Some by
+  pub from : by.local ≡ port
+  pub to : by.remote ≡ Some target
+
+-- a socket that was opened so speaks with a port of the other host: the one that it names, or one that calls it
+abbrev pub SpeaksWith : List Entry → Side → Opening → ℕ → Type 0
+SpeaksWith h side o port = (o.remote ≡ Some port) ⊎ ((o.remote ≡ None) × ConnectsTo h (other side) port o.local)
+
+pub record TcpOk (h : List Entry) (side : Side) (made : List Made) (i : ℕ) (v : TcpValue) : Type 0 where
+  pub untouched : opening h side i ≡ None → IsUntouched h side i v
+  pub ports : (o : Opening) → opening h side i ≡ Some o → HasPorts (ports_of o) v.block
+  pub heard : (o : Opening) → opening h side i ≡ Some o → (pair : EndpointPair) → v.block.names.pair ≡ Some pair → SpeaksWith h side o pair.remote_port
+  pub alone :
+      (o : Opening) → opening h side i ≡ Some o → ((j : ℕ) → ¬ (ArePartners h side i j))
+      → KeepsAlone v (past_at o.local made (told h side i))
+
+-- SEGMENTS
+
+-- it went from an opened socket's port to one that the socket speaks with
+pub record WasSent (h : List Entry) (side : Side) (x : Made) : Type 0 where
+  pub place : ℕ
+  pub by : Opening
+  pub opened : opening h side place ≡ Some by
+  pub from : by.local ≡ x.source
+  pub to : SpeaksWith h side by x.destination
+
+-- each is a reset, or was sent by a socket
+abbrev pub SegmentOk : List Entry → Side → Made → Type 0
+SegmentOk h side x = (x.segment.control ≡ Rst) ⊎ WasSent h side x
+
+-- A HOST, AND BOTH
+
+pub record StreamsOk (h : List Entry) (side : Side) (p : Party) : Type 0 where
+  pub sockets : (i : ℕ) (v : TcpValue) → socket_at p i ≡ Some (Tcp v) → TcpOk h side p.segments i v
+  pub made : Each (SegmentOk h side) p.segments
+
+-- partners keep the invariant between two sockets
+abbrev pub PairsOk : List Entry → Side → Party → Party → Type 0
+PairsOk h side p q =
+    (i j : ℕ) (v w : TcpValue) (a : ArePartners h side i j) → socket_at p i ≡ Some (Tcp v) → socket_at q j ≡ Some (Tcp w)
+    → Keeps v (past_at a.one.local p.segments (told h side i)) w (past_at a.another.local q.segments (told h (other side) j))

@@ -1,0 +1,235 @@
+-- The neighbours that a host knows are stations, whatever arrives.
+use Rattle.std.proofs.Common.{◌≡◌, ℕ, zero, suc, ◌^◌, ◌<◌, ◌≤◌, Bool, true, false, cond, List, [], ◌∷◌, ◌++◌, length, take, drop, Option, Some, None, refl, sym}
+use Rattle.std.proofs.Common.{◌∙◌, subst}
+use Rattle.std.specs.Prelude.{ℤ, pos, ◌+ℤ◌, nat_lt, remove}
+use Rattle.std.specs.List.{AllByRecursion}
+use Rattle.interface_ingress.specs.Icmpv6 as Icmpv6
+use Rattle.interface_ingress.specs.Icmpv6.{MessageValue}
+use Rattle.lan.specs.Worlds.AtLink.Ndisc.{NeighborMessage, Solicitation, Advertisement}
+use Rattle.interface.specs.NdiscNeighborFlags.{NdiscNeighborFlags}
+use Rattle.interface_ingress.specs.AddressTests.{is_same_hardware}
+use Rattle.interface_ingress.specs.EthernetAddress.{EthernetAddress}
+use Rattle.interface_ingress.specs.HardwareAddress.{HardwareAddress}
+use Rattle.interface_ingress.specs.HardwareAddress.TheVariants as Hardware
+use Rattle.interface_ingress.specs.IpAddress.{IpAddress}
+use Rattle.interface_ingress.specs.IpAddress.TheVariants as Address
+use Rattle.interface.specs.IpRepr.{IpRepr}
+use Rattle.interface.specs.IpRepr.TheVariants as Ip
+use Rattle.interface_ingress.specs.Ipv6Address.{Ipv6Address}
+use Rattle.interface.specs.Ipv6Repr.{Ipv6Repr}
+use Rattle.interface_ingress.specs.ArpRepr.{ArpRepr}
+use Rattle.interface_ingress.specs.ArpRepr.TheVariants as ArpIs
+use Rattle.interface_ingress.specs.EthernetRepr.{EthernetRepr}
+use Rattle.sockets.specs.Packet.{PayloadValue, ControlV4, ControlV6, Bytes, Datagram, Segment}
+use Rattle.interface_tables.specs.Best.{at_place}
+use Rattle.interface_tables.specs.Inner.{InnerValue, context_of, with_neighbor, table_room, is_for_us}
+use Rattle.interface_tables.specs.Neighbor.{entry_lifetime, renewed_entry, renewed_at, filled_at, place_of, victim}
+use Rattle.interface_tables.specs.declared.neighbor.Neighbor.{Neighbor}
+use Rattle.interface_egress.specs.Fragments.{LeftValue}
+use Rattle.interface_ingress.specs.Arp as Arps
+use Rattle.interface_ingress.specs.Arp.{arp_arrived}
+use Rattle.interface_ingress.specs.Arrives.{Arrived, ArrivesV4, ArrivesV6, Brings, is_direct, sender_of, renewed, renewed_by}
+use Rattle.interface_ingress.specs.Delivered.{Places, drawn_if, is_taken_raw, segment_draws, packet_delivered}
+use Rattle.interface_ingress.specs.Handed.{handed_host, handed_reply, is_unclaimed, limited_host, message_host, control_v6_host, names_nobody}
+use Rattle.interface_ingress.proofs.Limit.{counted_so}
+use Rattle.interface_ingress.proofs.PathTold.{path_v4_so, path_v6_so}
+use Rattle.interface_ingress.specs.Reassembled.{is_control_v6}
+use Rattle.interface_ingress.specs.Heard.{neighbor_heard, heard, heard_on, station, learned, advertised, replaces, counts, tells, answer}
+use Rattle.interface_ingress.specs.Incoming.{IncomingValue, Arp, Ip4, Ip6}
+use Rattle.interface_ingress.proofs.Settings.{brings_same}
+use Rattle.lan.specs.Worlds.Link.Frames.{Outgoing, medium_on}
+use Rattle.lan.specs.Worlds.Link.Sides.{AreSent, IsHostFrame, IsStation, HasSixBytes, RoutersAre, IsSound, IsSender}
+use Rattle.lan.proofs.Worlds.Link.Slots.{all_set, all_at, all_more}
+use Rattle.lan.proofs.Worlds.Link.Sends.{left_to}
+
+abbrev IsNear : Neighbor → Type 0
+IsNear n = IsStation n.hardware_addr
+
+abbrev AreNear : InnerValue → Type 0
+AreNear i = AllByRecursion IsNear i.neighbors.entries
+
+-- TABLES
+
+all_take : (n : ℕ) (xs : List Neighbor) → AllByRecursion IsNear xs → AllByRecursion IsNear (take n xs)
+all_take zero xs all = tt
+all_take (suc n) [] all = tt
+all_take (suc n) (x ∷ xs) all = (all.0, all_take n xs all.1)
+
+all_drop : (n : ℕ) (xs : List Neighbor) → AllByRecursion IsNear xs → AllByRecursion IsNear (drop n xs)
+all_drop zero xs all = all
+all_drop (suc n) [] all = tt
+all_drop (suc n) (x ∷ xs) all = all_drop n xs all.1
+
+all_join : (xs ys : List Neighbor) → AllByRecursion IsNear xs → AllByRecursion IsNear ys → AllByRecursion IsNear (xs ++ ys)
+all_join [] ys all more = more
+all_join (x ∷ xs) ys all more = (all.0, all_join xs ys all.1 more)
+
+filled_near : (place : Option ℕ) (room : ℕ) (entries : List Neighbor) (new : Neighbor) → AllByRecursion IsNear entries → IsNear new →
+    AllByRecursion IsNear (filled_at place room entries new)
+filled_near (Some at) room entries new all near = all_set IsNear entries at new all near
+filled_near None room entries new all near =
+    elim (nat_lt (length entries) room) as (λ b. AllByRecursion IsNear (cond b (entries ++ new ∷ []) (remove entries (victim entries) ++ new ∷ []))) [
+      | true ↦ all_more IsNear entries new all near
+      | false ↦ all_more IsNear (remove entries (victim entries)) new
+          (all_join (take (victim entries) entries) (drop (suc (victim entries)) entries) (all_take (victim entries) entries all)
+          (all_drop (suc (victim entries)) entries all)) near
+    ]
+
+renewed_near : (entry : Neighbor) (hardware : HardwareAddress) (moment : ℤ) → IsNear entry → IsNear (renewed_entry entry hardware moment)
+renewed_near entry hardware moment near =
+    elim (is_same_hardware entry.hardware_addr hardware) as (λ b. IsNear (cond b (record entry { expires_at = moment +ℤ pos entry_lifetime }) entry))
+    [ true ↦ near | false ↦ near ]
+
+renewed_all : (place : Option ℕ) (o : Option Neighbor) (entries : List Neighbor) (hardware : HardwareAddress) (moment : ℤ) → at_place place entries ≡ o →
+    AllByRecursion IsNear entries → AllByRecursion IsNear (renewed_at place o entries hardware moment)
+renewed_all None o entries hardware moment is all = all
+renewed_all (Some at) None entries hardware moment is all = all
+renewed_all (Some at) (Some entry) entries hardware moment is all =
+    all_set IsNear entries at (renewed_entry entry hardware moment) all (renewed_near entry hardware moment (all_at IsNear entries at entry all is))
+
+-- HOSTS
+
+near_neighbor : (i : InnerValue) (address : IpAddress) (station : EthernetAddress) → AreNear i → AreNear (with_neighbor i address (Hardware.Ethernet station))
+near_neighbor i address station near =
+    filled_near (place_of i.neighbors.entries address) table_room i.neighbors.entries
+    (record { protocol_addr = address; hardware_addr = Hardware.Ethernet station; expires_at = i.moment +ℤ pos entry_lifetime }) near tt
+
+near_renewed_by : (i : InnerValue) (link : Option EthernetRepr) (sender : IpAddress) → AreNear i → AreNear (renewed_by i link sender)
+near_renewed_by i None sender near = near
+near_renewed_by i (Some link) sender near =
+    renewed_all (place_of i.neighbors.entries sender) (at_place (place_of i.neighbors.entries sender) i.neighbors.entries) i.neighbors.entries
+    (Hardware.Ethernet link.src_addr) i.moment refl near
+
+near_renewed : (i : InnerValue) (link : Option EthernetRepr) (ip : IpRepr) → AreNear i → AreNear (renewed i link ip)
+near_renewed i link ip near =
+    elim (is_direct i ip) as (λ b. AreNear (cond b (renewed_by i link (sender_of ip)) i)) [ true ↦ near_renewed_by i link (sender_of ip) near | false ↦ near ]
+
+near_learned : (i : InnerValue) (source : Ipv6Address) (link : Option (List ℕ)) → AreNear i → AreNear (learned i source link)
+near_learned i source None near = near
+near_learned i source (Some link) near = near_neighbor i (Address.Ipv6 source) (station link) near
+
+near_advertised : (i : InnerValue) (flags : NdiscNeighborFlags) (target : Ipv6Address) (link : Option (List ℕ)) → AreNear i →
+    AreNear (advertised i flags target link)
+near_advertised i flags target link near =
+    elim (replaces i flags target) as (λ b. AreNear (cond b (learned i target link) i)) [ true ↦ near_learned i target link near | false ↦ near ]
+
+near_heard : (hardware : HardwareAddress) (i : InnerValue) (header : Ipv6Repr) (message : NeighborMessage) → AreNear i →
+    AreNear (heard_on hardware i header message).inner
+near_heard Hardware.Ip i header message near = near
+near_heard (Hardware.Ethernet own) i header (Solicitation target link) near =
+    elim (counts header target link) as (λ b. AreNear (cond b (heard (learned i header.src_addr link) (answer own i header target)) (heard i None)).inner)
+    [ true ↦ near_learned i header.src_addr link near | false ↦ near ]
+near_heard (Hardware.Ethernet own) i header (Advertisement flags target link) near =
+    elim (tells header flags target link) as (λ b. AreNear (cond b (heard (advertised i flags target link) None) (heard i None)).inner)
+    [ true ↦ near_advertised i flags target link near | false ↦ near ]
+
+near_message : (i : InnerValue) (places : Places) (header : Ipv6Repr) (message : MessageValue) (bytes : List ℕ) → AreNear i →
+    AreNear (message_host i places header message bytes)
+near_message i places header (Icmpv6.Ndisc message) bytes near =
+    elim (is_control_v6 header.next_header) as (λ b. AreNear (cond b (neighbor_heard i header message).inner i)) [
+      | true ↦ near_heard i.hardware i header message near
+      | false ↦ near
+    ]
+near_message i places header (Icmpv6.DstUnreachable reason quoted) bytes near = near
+near_message i places header (Icmpv6.PktTooBig mtu quoted) bytes near =
+    path_v6_so AreNear i near (λ address told. near) places (Icmpv6.PktTooBig mtu quoted) bytes
+near_message i places header (Icmpv6.TimeExceeded reason quoted) bytes near = near
+near_message i places header (Icmpv6.ParamProblem reason pointer quoted) bytes near = near
+near_message i places header (Icmpv6.EchoRequest ident sequence) bytes near = near
+near_message i places header (Icmpv6.EchoReply ident sequence) bytes near = near
+
+near_control : (i : InnerValue) (places : Places) (ip : IpRepr) (message : MessageValue) (bytes : List ℕ) → AreNear i →
+    AreNear (control_v6_host i places ip message bytes)
+near_control i places (Ip.Ipv4 header) message bytes near = near
+near_control i places (Ip.Ipv6 header) message bytes near = near_message i places header message bytes near
+
+near_drawn : (b : Bool) (i : InnerValue) → AreNear i → AreNear (drawn_if b i)
+near_drawn true i near = near
+near_drawn false i near = near
+
+near_handed : (i : InnerValue) (places : Places) (ip : IpRepr) (payload : List ℕ) (carried : Option PayloadValue) → AreNear i →
+    AreNear (handed_host i places ip payload carried)
+near_handed i places ip payload None near = near
+near_handed i places (Ip.Ipv4 header) payload (Some (ControlV4 message bytes)) near =
+    path_v4_so AreNear i near (λ address told. near) places payload message bytes
+near_handed i places (Ip.Ipv6 header) payload (Some (ControlV4 message bytes)) near = near
+near_handed i places ip payload (Some (ControlV6 message bytes)) near = near_control i places ip message bytes near
+near_handed i places ip payload (Some (Bytes bytes)) near = near
+near_handed i places ip payload (Some (Datagram udp bytes)) near = near
+near_handed i places ip payload (Some (Segment header bytes)) near =
+    elim (names_nobody i ip) as (λ b. AreNear (cond b i (drawn_if (segment_draws (context_of i) ip header bytes places) i))) [
+      | true ↦ near
+      | false ↦ near_drawn (segment_draws (context_of i) ip header bytes places) i near
+    ]
+
+-- an error that goes is counted, and nothing else
+near_limited : (i : InnerValue) (places : Places) (ip : IpRepr) (payload : List ℕ) (taken : Bool) (carried : Option PayloadValue) → AreNear i →
+    AreNear (limited_host i places ip payload taken carried)
+near_limited i places ip payload taken carried near =
+    let after = near_handed i places ip payload carried near in
+    counted_so AreNear (is_unclaimed i places ip carried) i (handed_reply i places ip payload taken carried) (handed_host i places ip payload carried)
+    after after
+
+-- ARRIVALS
+
+near_v4 : (ours : Bool) (i : InnerValue) (places : Places) (link : Option EthernetRepr) (ip : IpRepr) (payload : List ℕ) (a : Arrived) → AreNear i →
+    ArrivesV4 ours i places link ip payload a → AreNear a.inner
+near_v4 true i places link ip payload a near (carried, is, handed) =
+    subst AreNear (sym handed.inner)
+    (near_limited (renewed i link ip) (packet_delivered ip payload places) ip payload (is_taken_raw ip places) carried (near_renewed i link ip near))
+near_v4 false i places link ip payload a near is = subst AreNear (sym is.inner) near
+
+near_v6 : (ours : Bool) (i : InnerValue) (places : Places) (link : Option EthernetRepr) (ip : IpRepr) (payload : List ℕ) (a : Arrived) → AreNear i →
+    ArrivesV6 ours i places link ip payload a → AreNear a.inner
+near_v6 true i places link ip payload a near (carried, is, handed) =
+    subst AreNear (sym handed.inner)
+    (near_limited (renewed i link ip) (packet_delivered ip payload places) ip payload (is_taken_raw ip places) carried (near_renewed i link ip near))
+near_v6 false i places link ip payload a near is = subst AreNear (sym is.inner) near
+
+near_arp : (i : InnerValue) (packet : ArpRepr) → AreNear i → AreNear (arp_arrived i packet)
+near_arp i (ArpIs.EthernetIpv4 operation source source_protocol target target_protocol) near =
+    elim (Arps.teaches i (ArpIs.EthernetIpv4 operation source source_protocol target target_protocol)) as
+    (λ b. AreNear (cond b (with_neighbor i (Address.Ipv4 source_protocol) (Hardware.Ethernet source)) i)) [
+      | true ↦ near_neighbor i (Address.Ipv4 source_protocol) source near
+      | false ↦ near
+    ]
+
+near_brings : (i : InnerValue) (places : Places) (content : Option IncomingValue) (a : Arrived) → AreNear i → Brings i places content a → AreNear a.inner
+near_brings i places None a near is = subst AreNear (sym is.inner) near
+near_brings i places (Some (Arp link packet)) a near is = subst AreNear (sym is.inner) (near_arp i packet near)
+near_brings i places (Some (Ip4 link header piece payload)) a near is =
+    near_v4 (is_for_us i (Address.Ipv4 header.dst_addr)) i places link (Ip.Ipv4 header) payload a near is
+near_brings i places (Some (Ip6 link header payload)) a near is =
+    near_v6 (is_for_us i (Address.Ipv6 header.dst_addr)) i places link (Ip.Ipv6 header) payload a near is
+
+-- THE SENDER
+
+-- a host of which nothing that a sender is read by has changed
+pub sender_settled : (made : PayloadValue → Type 0) (first : ℕ) (out : List Outgoing) (i i' : InnerValue) (l : Option LeftValue) (sent : List (List ℕ)) →
+    i'.hardware ≡ i.hardware → i'.ident ≡ i.ident → IsSound i'
+    → IsSender made first i l sent out → IsSender made first i' l sent out
+sender_settled made first out i i' l sent hardware ident sound s = record {
+  sound = sound;
+  are_sent = subst (λ (n : ℕ). AreSent made first n out) (sym ident) s.are_sent;
+  left_is = left_to out i.hardware i'.hardware l hardware s.left_is;
+  frames = subst (λ (h : HardwareAddress). AllByRecursion (IsHostFrame (medium_on h) out) sent) (sym hardware) s.frames;
+}
+
+-- what arrives leaves a sender one
+pub arrival_keeps_sender : (made : PayloadValue → Type 0) (first : ℕ) (out : List Outgoing) (i : InnerValue) (l : Option LeftValue) (sent : List (List ℕ))
+    (places : Places) (content : Option IncomingValue) (a : Arrived)
+    → Brings i places content a → IsSender made first i l sent out → IsSender made first a.inner l sent out
+arrival_keeps_sender made first out i l sent places content a brings s =
+    let same = brings_same i places content a brings in
+    sender_settled made first out i a.inner l sent same.hardware same.ident
+    (record {
+      own = subst HasSixBytes (sym same.hardware) s.sound.own;
+      neighbors = near_brings i places content a s.sound.neighbors brings;
+      routers = subst RoutersAre (sym same.routes) s.sound.routers;
+      widths = record {
+        mtu = subst (λ (n : ℕ). n ≤ 65535) (sym same.mtu) s.sound.widths.mtu;
+        ident =
+            subst (λ (n : ℕ). n < 2 ^ 16) (sym same.ident) s.sound.widths.ident;
+      };
+      checksums = same.checksums ∙ s.sound.checksums;
+    }) s

@@ -1,0 +1,85 @@
+-- What a socket offers is made.
+use Rattle.std.proofs.Common.{◌≡◌, ℕ, List, Option, Some, None, IfSome, refl, sym, ap, ◌∙◌, subst}
+use Rattle.std.specs.Prelude.{[], ◌∷◌, ◌++◌, slice_get}
+use Rattle.interface.specs.UdpRepr.{UdpRepr}
+use Rattle.sockets.specs.Context.{ContextValue}
+use Rattle.interface_ingress.specs.IpAddress.{IpAddress}
+use Rattle.interface_ingress.specs.IpAddress.TheVariants as Address
+use Rattle.sockets.specs.Packet.{PacketValue, PayloadValue, ControlV4, ControlV6, Bytes, Datagram, Segment, packet_of}
+use Rattle.sockets.specs.Offer as Answer
+use Rattle.sockets.specs.Icmp.{IsMessage, IsPacketFrom}
+use Rattle.sockets.specs.Offers.{IsFound, IsOnly, OffersFirst}
+use Rattle.sockets.specs.SocketValue.{SocketValue}
+use Rattle.sockets.specs.Udp as Udps
+use Rattle.sockets.specs.UdpMetadata.{UdpMetadata}
+use Rattle.tcp_tie.specs.Host.{Made, made_of, and_offer}
+use Rattle.tcp_model.specs.OpenOffer.{OpenOffer}
+use Rattle.tcp_model.specs.Offers.{offer_of, payload_of, packet_with, offered_packet}
+use Rattle.tcp_model.specs.Value.{TcpValue}
+use Rattle.lan.specs.Worlds.AtLink.Parties as Parties
+use Rattle.lan.specs.Worlds.AtLink.Parties.{Party, datagrams_in}
+use Rattle.lan.specs.Worlds.Moves.Made.{IsMade, MadeBy, datagram_of}
+use Rattle.lan.proofs.Worlds.Moves.Places.{get_last}
+
+pub if_some : {X : Type 0} (o : Option X) (Q : X → Type 0) → ((x : X) → o ≡ Some x → Q x) → IfSome o Q
+if_some None Q f = tt
+if_some (Some x) Q f = f x refl
+
+pub some_so : {X : Type 0} (o : Option X) (Q : X → Type 0) (x : X) → o ≡ Some x → IfSome o Q → Q x
+some_so {X} o Q x is holds = let P : Option X → Type 0 = λ y. IfSome y Q in subst P is holds
+
+-- an offered packet takes a datagram of the queue
+pub takes_one : {H S : Type 0} (Takes : S → H × List ℕ → PacketValue →
+    Type 0) (v : SocketValue H S) (o : Option (H × List ℕ)) (answer : Answer.Offer) (v' : SocketValue H S) (p : PacketValue)
+    → OffersFirst Takes v o answer v' → v'.offered ≡ Some p → (q : H × List ℕ) × Takes v.settings q p
+takes_one {H} {S} Takes v None answer v' p offers is =
+    let none : v'.offered ≡ None = ap (λ (w : SocketValue H S). w.offered) offers.1 in
+    absurd (let clash : None ≡ Some p = sym none ∙ is in cc)
+takes_one Takes v (Some q) answer v' p offers is =
+    let only : IsOnly (Takes v.settings q) p = subst (IsFound (Takes v.settings q)) is offers.0 in
+    (q, only.takes)
+
+-- a control message is nobody's
+control_made : (party : Party) (source remote : IpAddress) (bytes : List ℕ) (x : PayloadValue) → IsMessage source remote bytes x → MadeBy party x
+control_made party source remote bytes (ControlV4 message more) is = tt
+control_made party source remote bytes (ControlV6 message more) is = tt
+control_made party source remote bytes (Bytes more) is = tt
+control_made party (Address.Ipv4 source) (Address.Ipv4 remote) bytes (Datagram udp more) is = absurd is
+control_made party (Address.Ipv4 source) (Address.Ipv6 remote) bytes (Datagram udp more) is = absurd is
+control_made party (Address.Ipv6 source) (Address.Ipv4 remote) bytes (Datagram udp more) is = absurd is
+control_made party (Address.Ipv6 source) (Address.Ipv6 remote) bytes (Datagram udp more) is = absurd is
+control_made party (Address.Ipv4 source) (Address.Ipv4 remote) bytes (Segment header more) is = absurd is
+control_made party (Address.Ipv4 source) (Address.Ipv6 remote) bytes (Segment header more) is = absurd is
+control_made party (Address.Ipv6 source) (Address.Ipv4 remote) bytes (Segment header more) is = absurd is
+control_made party (Address.Ipv6 source) (Address.Ipv6 remote) bytes (Segment header more) is = absurd is
+
+pub message_made : (party : Party) (source : Option IpAddress) (remote : IpAddress) (bytes : List ℕ) (limit : ℕ) (p : PacketValue) →
+    IsPacketFrom source remote bytes limit p → IsMade party p
+message_made party None remote bytes limit p is = absurd is
+message_made party (Some source) remote bytes limit p is = control_made party source remote bytes p.payload is.0
+
+-- a datagram is among those that were made
+pub udp_made : (party : Party) (before : List Parties.Datagram) (cx : ContextValue) (s : Udps.UdpSettings) (q : UdpMetadata × List ℕ) (p : PacketValue)
+    → party.datagrams ≡ before ++ datagrams_in p.payload → Udps.TakesDatagram cx s q p → IsMade party p
+udp_made party before cx s q p made takes =
+    let udp : UdpRepr = record { src_port = s.endpoint.port; dst_port = q.0.endpoint.port } in
+    let is : p.payload ≡ Datagram udp q.1 = ap (λ (x : PacketValue). x.payload) takes.1 in
+    let all : party.datagrams ≡ before ++ datagram_of udp q.1 ∷ [] = made ∙ ap (λ x. before ++ datagrams_in x) is in
+    let last = get_last before (datagram_of udp q.1) [] in
+    subst (MadeBy party) (sym is) (last.0, ap (λ (xs : List Parties.Datagram). slice_get xs last.0) all ∙ last.1)
+
+-- a segment is among those that were made
+segment_made : (party : Party) (before : List Made) (o : Option OpenOffer) (queue : List ℕ) (p : PacketValue) → party.segments ≡ and_offer before o queue
+    → packet_with o queue ≡ Some p → IsMade party p
+segment_made party before None queue p made is = absurd (cc)
+segment_made party before (Some o) queue p made is =
+    let x = made_of o.segment (payload_of o o.kind queue) in
+    let same : packet_of o.header (Segment o.segment (payload_of o o.kind queue)) ≡ p = cc in
+    let last = get_last before x [] in
+    subst (IsMade party) same (last.0, ap (λ (xs : List Made). slice_get xs last.0) made ∙ last.1)
+
+pub tcp_made : (party : Party) (before : List Made) (cx : ContextValue) (v : TcpValue) (p : PacketValue)
+    → party.segments ≡ and_offer before (offer_of cx v).socket.offered (offer_of cx v).socket.queued.queue → offered_packet (offer_of cx v).socket ≡ Some p →
+    IsMade party p
+tcp_made party before cx v p made is =
+    segment_made party before (offer_of cx v).socket.offered (offer_of cx v).socket.queued.queue p made is

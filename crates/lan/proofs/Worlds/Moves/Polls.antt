@@ -1,0 +1,177 @@
+-- A poll of a host is a run of moves.
+use Rattle.std.proofs.Common.{◌≡◌, ◌≤◌, ◌+◌, ◌*◌, arith, ℕ, Bool, true, false, inl, inr, List, Option, Some, None, IfSome, refl, sym, ap, ◌∙◌, subst}
+use Rattle.std.specs.Prelude.{ℤ}
+use Rattle.std.proofs.Math.Nat.{mul-le-mul_left}
+use Rattle.lan_base.specs.Device.{Move, Took}
+use Rattle.interface_egress.specs.Fragments.{LeftValue}
+use Rattle.interface_ingress.specs.ArpRepr.{ArpRepr}
+use Rattle.interface_egress.specs.Departure as Departures
+use Rattle.interface_egress.specs.GoesOut.{Departs}
+use Rattle.lan.proofs.Worlds.Moves.Nets.{grows_not}
+use Rattle.interface_ingress.specs.Arrives as Replies
+use Rattle.interface_ingress.specs.Arrives.{ReplyValue}
+use Rattle.interface.specs.Host.{HostValue, Sender, sender}
+use Rattle.interface.specs.Ingress.{is_read, Takes, Reads, Replied, is_awaited, sender_of}
+use Rattle.interface.specs.Polls.{Polls, begun}
+use Rattle.interface.specs.State.{State, state, at_device}
+use Rattle.interface.specs.WayOut.{PieceLeaves}
+use Rattle.interface.specs.State.{sending_as}
+use Rattle.interface.proofs.Kept.{IsKept}
+use Rattle.interface.proofs.Kept.{IsPriced}
+use Rattle.interface.specs.Used.{sockets_in}
+use Rattle.interface.proofs.Priced.{polls_cost}
+use Rattle.lan.specs.Worlds.AtLink.Side.{Side}
+use Rattle.lan.specs.Worlds.AtLink.Kinds.{other}
+use Rattle.lan.specs.Worlds.AtLink.Parties.{Party, Net, party}
+use Rattle.lan.specs.Worlds.Moves.Follows.{sockets_of}
+use Rattle.lan.proofs.Worlds.Moves.Following.{Follows}
+use Rattle.lan.specs.Worlds.Moves.Fit.{IsFit}
+use Rattle.lan.specs.Worlds.Moves.Link.{IsLink, brought}
+use Rattle.lan.proofs.Worlds.Moves.MadeReplies.{IsMadeReply}
+use Rattle.lan.specs.Worlds.Moves.Raws.{OfEach}
+use Rattle.lan.proofs.Worlds.Moves.EachSocket.{kept, middle}
+use Rattle.lan.proofs.Worlds.Moves.Fits.{fit_runs}
+use Rattle.lan.proofs.Worlds.Moves.Places.{Places}
+use Rattle.lan.proofs.Worlds.Moves.Takings.{brings_moves}
+use Rattle.lan.proofs.Worlds.Moves.Turns.{turn_follows}
+use Rattle.lan.proofs.Worlds.Moves.Wide.{CanBeWide, brings_wide}
+
+module _ {D : Type 0} (moves : D → Move → D → Type 0) (t : ℤ) (names : List ℕ → Bool) (side : Side) (net : Net) (L : ℕ → State D → Party →
+    Type 0) (link : IsLink moves (party net (other side)) L) where
+  abbrev At : ℕ → State D → Type 0
+  At n s = Follows names side (L n) net s
+
+  more : (n m : ℕ) (s : State D) → n ≤ m → At n s → At m s
+  more n m s up f = record { now = f.now; reaches = f.reaches; sockets = f.sockets; link = link.more n m s (party f.now side) up f.link }
+
+  -- MAINTENANCE
+
+  maintenance : (n : ℕ) (s : State D) → At n s → At n (begun t s)
+  maintenance n s f = record { now = f.now; reaches = f.reaches; sockets = f.sockets; link = link.maintenance n t s (party f.now side) f.link }
+
+  -- THE PIECE THAT WAITS
+
+  left_link : (n : ℕ) (h : HostValue) (ps : Places) (x x' : Sender D) (l : LeftValue) (gone : Bool) (p : Party) → x.left ≡ Some l →
+      PieceLeaves moves l x gone x' → x'.inner ≡ x.inner
+      → L n (sending_as h x ps) p → L n (sending_as h x' ps) p
+  left_link n h ps x x' l gone p is (inl denied) same holds =
+      let there : state x'.device (record h { inner = x.inner; left = x.left }) ps ≡ sending_as h x' ps =
+      λ k. state x'.device (record h { inner = sym same k; left = sym denied.2 k }) ps in
+      subst (λ (s : State D). L n s p) there (link.leave n (sending_as h x ps) p false x'.device denied.0 holds)
+  left_link n h ps x x' l gone p is (inr goes) same holds =
+      let at : State D = state goes.0 (record h { inner = x.inner; left = x.left }) ps in
+      let there : state x'.device (record h { inner = x.inner; left = x'.left }) ps ≡ sending_as h x' ps =
+      λ k. state x'.device (record h { inner = sym same k; left = x'.left }) ps in
+      subst (λ (s : State D). L n s p) there
+      (link.piece n at p l gone x'.device x'.left is goes.2 (link.leave n (sending_as h x ps) p true goes.0 goes.1 holds))
+
+  pieces : (n : ℕ) (h : HostValue) (ps : Places) (x x' : Sender D) (l : LeftValue) (gone : Bool) → x.left ≡ Some l → PieceLeaves moves l x gone x' →
+      x'.inner ≡ x.inner → At n (sending_as h x ps) → At n (sending_as h x' ps)
+  pieces n h ps x x' l gone is leaves same f = record {
+    now = f.now;
+    reaches = f.reaches;
+    sockets = f.sockets;
+    link = left_link n h ps x x' l gone (party f.now side) is leaves same f.link;
+  }
+
+  -- A FRAME
+
+  -- what is asked of an answer that is an ARP packet
+  abbrev CanTell : ℕ → HostValue → Places → Sender D → Party → Option ReplyValue → Type 0
+  CanTell n g ps x p reply = (packet : ArpRepr) (gone : Bool) (d : D) → reply ≡ Some (Replies.Tells packet) →
+      Departs moves x.device x.inner (Departures.Tells packet) gone d
+      → L n (sending_as g x ps) p → L n (at_device (sending_as g x ps) d) p
+
+  replied : (n : ℕ) (g : HostValue) (ps : Places) (x x' : Sender D) (p : Party) (awaited : Bool) (reply : Option ReplyValue) → CanTell n g ps x p reply →
+      IfSome reply CanBeWide → IfSome reply (IsMadeReply p) → Replied moves awaited reply x x'
+      → L n (sending_as g x ps) p → L (n + 1) (sending_as g x' ps) p
+  replied n g ps x x' p awaited None tell wide made is holds =
+      link.more n (n + 1) (sending_as g x' ps) p (omega arith) (subst (λ (y : Sender D). L n (sending_as g y ps) p) (sym is) holds)
+  replied n g ps x x' p awaited (Some (Replies.Tells packet)) tell wide made (gone, departs, inner, left) holds =
+      let there : state x'.device (record g { inner = x.inner; left = x.left }) ps ≡ sending_as g x' ps =
+      λ k. state x'.device (record g { inner = sym inner k; left = sym left k }) ps in
+      link.more n (n + 1) (sending_as g x' ps) p (omega arith) (subst (λ (s : State D). L n s p) there (tell packet gone x'.device refl departs holds))
+  replied n g ps x x' p awaited (Some (Replies.Answers packet)) tell wide made (inl held) holds =
+      link.more n (n + 1) (sending_as g x' ps) p (omega arith) (subst (λ (y : Sender D). L n (sending_as g y ps) p) (sym held.0) holds)
+  replied n g ps x x' p awaited (Some (Replies.Answers packet)) tell wide made (inr (sent, goes, formed, free)) holds =
+      link.goes n (sending_as g x ps) p packet sent x'.device x'.inner x'.left (wide formed) (λ done. made) goes holds
+
+  read : (n : ℕ) (s s' : State D) (frame : List ℕ) (mid : D) → moves s.device (Took s.host.inner.moment frame) mid → is_read frame ≡ true →
+      Reads moves frame (at_device s mid) s' →
+      At n s → At (n + 1) s'
+  read n s s' frame mid took reads (content, is, receives) f =
+      let a = receives.0 in
+      let p = party f.now side in
+      let g : HostValue = record s.host { slots = s'.host.slots } in
+      let x = sender mid a.inner s.host.left in
+      let made = link.brings n s p frame mid content took reads is f.link in
+      let end = brings_moves names side net f.now f.reaches s.host.inner s.places f.sockets (brought s content) a receives.1.1 made in
+      let p' = party end.moved.next side in
+      let taken : L n (sending_as g x s.places) p = link.takes n s p frame mid content s'.host.slots a took reads is receives.1 f.link in
+      let given : L n (sending_as g x s.places) p' = link.grown n (sending_as g x s.places) s.places p p' end.moved.grows taken in
+      let tell : CanTell n g s.places x p' a.reply =
+      λ packet gone d so departs holds. link.tells n s p' frame mid content s'.host.slots a packet gone d took reads is receives.1 so departs holds in
+      let told : L (n + 1) (sending_as g (sender_of moves s') s.places) p' =
+      replied n g s.places x (sender_of moves s') p' (is_awaited a) a.reply tell (brings_wide s.host.inner s.places (brought s content) a receives.1.1) end.made
+      receives.3 given in
+      let placed : L (n + 1) (sending_as g (sender_of moves s') s'.places) p' =
+      link.grown (n + 1) (sending_as g (sender_of moves s') s.places) s'.places p' p' (grows_not p') told in
+      let there : sending_as g (sender_of moves s') s'.places ≡ s' =
+      λ k. state s'.device (record { inner = s'.host.inner; left = s'.host.left; slots = s'.host.slots; timeout = sym receives.4 k }) s'.places in
+      record {
+        now = end.moved.next;
+        reaches = end.moved.reaches;
+        sockets = end.moved.sockets_are ∙ ap (λ (ps : Places). sockets_of ps) (sym receives.2);
+        link = subst (λ (u : State D). L (n + 1) u p') there placed;
+      }
+
+  arrivals : (n : ℕ) (s s' : State D) (answer : Option Bool) → At n s → Takes moves s answer s' → At (n + 1) s'
+  arrivals n s s' None f takes = more n (n + 1) s' (omega arith) (subst (At n) (sym takes.1) (record {
+    now = f.now;
+    reaches = f.reaches;
+    sockets = f.sockets;
+    link = link.looks n s (party f.now side) s'.device takes.0 f.link;
+  }))
+  arrivals n s s' (Some false) f takes = more n (n + 1) s' (omega arith) (subst (At n) (sym takes.3) (record {
+    now = f.now;
+    reaches = f.reaches;
+    sockets = f.sockets;
+    link = link.skips n s (party f.now side) takes.0 s'.device takes.1 takes.2 f.link;
+  }))
+  arrivals n s s' (Some true) f takes = read n s s' takes.0 takes.1 takes.2 takes.3 takes.4 f
+
+  -- ALL
+
+  abbrev Fit : State D → Type 0
+  Fit s = OfEach IsFit s.places
+
+  fit_kept : IsKept moves t Fit
+  fit_kept = kept IsFit fit_runs.polls moves t
+
+  abbrev Both : ℕ → State D → Type 0
+  Both n s = Fit s × At n s
+
+  all_priced : IsPriced moves t 0 Both
+  all_priced = record {
+    more = λ n m s up both. (both.0, more n m s up both.1);
+    maintenance = λ n s both. (fit_kept.maintenance s both.0, maintenance n s both.1);
+    arrivals = λ n s s' answer runs both takes. (fit_kept.arrivals s s' answer runs both.0 takes, arrivals n s s' answer both.1 takes);
+    pieces = λ n h ps x x' l gone runs is both leaves same. (
+      fit_kept.pieces h ps x x' l gone runs is both.0 leaves same,
+      more n (n + 0) (sending_as h x' ps) (omega arith) (pieces n h ps x x' l gone is leaves same both.1),
+    );
+    turns = λ turn n h before after p p' x x' turned used runs both took. (
+      fit_kept.turns turn h before after p p' x x' turned runs both.0 took,
+      turn_follows moves turn names side net (party net (other side)) L link n h before after p p' x x' turned took (middle IsFit before after p both.0) both.1,
+    );
+  }
+
+  -- What holds before a poll holds behind it, where moves of this host have led to its sockets. It counted no more packets than one for
+  -- each frame that it took and each socket's turn.
+  pub polls_follow : (budget n : ℕ) (s s' : State D) (changed : Bool) → OfEach IsFit s.places → Follows names side (L n) net s →
+      Polls moves t budget s changed s'
+      → OfEach IsFit s'.places × Follows names side (L (n + budget * (1 + sockets_in s.places))) net s'
+  polls_follow budget n s s' changed fit f polls =
+      let both = (polls_cost moves t 0 Both all_priced budget n s s' changed (fit, f) polls).0 in
+      let most : budget * (1 + (0 + sockets_in s.places)) ≤ budget * (1 + sockets_in s.places) = mul-le-mul_left budget (omega arith) in
+      (both.0, more (n + budget * (1 + (0 + sockets_in s.places))) (n + budget * (1 + sockets_in s.places)) s' (omega (arith, most)) both.1)

@@ -1,0 +1,324 @@
+-- A socket's turn is a move, or none.
+use Rattle.std.proofs.Common.{◌≡◌, ℕ, Bool, true, false, inl, inr, List, [], ◌∷◌, ◌++◌, length, Option, Some, None, IfSome, refl, sym, ap, ◌∙◌, subst, arith}
+use Rattle.std.proofs.Common.{append-nil, ◌+◌}
+use Rattle.std.specs.Prelude.{slice_set, slice_index_or}
+use Rattle.interface.specs.Ip.{destination_of}
+use Rattle.interface_ingress.specs.IpAddress.{IpAddress}
+use Rattle.lan_base.specs.Device.{Move}
+use Rattle.sockets.specs.Context.{ContextValue}
+use Rattle.sockets.specs.Packet.{PacketValue}
+use Rattle.sockets.specs.WellFormed.{IsWellFormed}
+use Rattle.sockets.specs.Offer as Answer
+use Rattle.sockets.specs.Offer.TheVariants as Offer
+use Rattle.sockets.specs.Offers.{HasPacket}
+use Rattle.net_containers.specs.Packets.{first}
+use Rattle.sockets.specs.Header.{hops}
+use Rattle.sockets.specs.Icmp as Icmps
+use Rattle.sockets.specs.Icmp.{IcmpValue}
+use Rattle.sockets.specs.Raw as Raws
+use Rattle.sockets.specs.Raw.{RawValue}
+use Rattle.sockets.specs.Udp as Udps
+use Rattle.sockets.specs.Udp.{UdpValue}
+use Rattle.tcp_tie.specs.Host.{made_of, and_offer}
+use Rattle.tcp_model.specs.OpenOffer.{OpenOffer}
+use Rattle.tcp_model.specs.Offers.{offer_of, payload_of, packet_with, offered_packet}
+use Rattle.tcp_model.specs.Value.{TcpValue}
+use Rattle.sockets.specs.DhcpValue as Dhcps
+use Rattle.sockets.specs.DnsValue as Dnss
+use Rattle.sockets.specs.Socket.{Offers, offered_by, settled}
+use Rattle.sockets.specs.declared.socket.Socket.{Socket}
+use Rattle.sockets.specs.declared.socket.Socket.TheVariants as Is
+use Rattle.sockets.proofs.AnyKind.{has_packet}
+use Rattle.interface_egress.specs.Meta.{unmarked}
+use Rattle.interface_egress.specs.declared.socket_meta.Meta.{Meta}
+use Rattle.interface_egress.specs.declared.socket_set.Item.{Item}
+use Rattle.interface_egress.specs.declared.socket_set.SocketStorage.{SocketStorage}
+use Rattle.interface_egress.specs.declared.way_out.Sent.{Sent}
+use Rattle.interface.specs.Host.{HostValue, Sender}
+use Rattle.interface.specs.State.{State, state}
+use Rattle.interface.specs.Remote.{context_for}
+use Rattle.interface.specs.Turn.{PlaceTurns, ItemTurns, TurnsIf, Answers, SendsBy, Leaves, is_waiting, let_through, is_done, marked, plan_at, waits_until}
+use Rattle.interface.specs.Turn.{SendsAs}
+use Rattle.interface.specs.declared.turn.Turned.{Turned}
+use Rattle.interface.specs.State.{sending_as}
+use Rattle.lan.specs.Worlds.AtLink.Side.{Side}
+use Rattle.lan.specs.Worlds.AtLink.Moves as Moves
+use Rattle.lan.specs.Worlds.AtLink.Parties as Parties
+use Rattle.lan.specs.Worlds.AtLink.Parties.{Party, Net, party, datagrams_of}
+use Rattle.lan.specs.Worlds.AtLink.Safe.{seen}
+use Rattle.lan.specs.Worlds.Moves.Follows.{seen_place, sockets_of}
+use Rattle.lan.proofs.Worlds.Moves.Following.{Reaches, Follows}
+use Rattle.lan.specs.Worlds.Moves.Fit.{IsFit}
+use Rattle.lan.specs.Worlds.Moves.Link.{IsLink}
+use Rattle.lan.specs.Worlds.Moves.Made.{Grows, MadeBy, IsMade, IsWide}
+use Rattle.lan.specs.Worlds.Moves.Raws.{OfItem}
+use Rattle.lan.proofs.Worlds.Moves.Nets.{Moved, stays, moves_by, there, grows_to, grows_not, grows_by}
+use Rattle.lan.proofs.Worlds.Moves.Sourced.{sourced_wide}
+use Rattle.lan.proofs.Worlds.Moves.Offering.{if_some, some_so, takes_one, message_made, udp_made, tcp_made}
+use Rattle.lan.proofs.Worlds.Moves.Places.{Places, get-middle, set-middle, same-middle}
+use Rattle.lan.proofs.Worlds.Moves.Wide.{offered_wide}
+
+-- a place with this mark and this socket
+abbrev pub holding : Meta → Socket → SocketStorage Socket
+holding m s = record { inner = Some (record { meta = m; socket = s }) }
+
+-- AN OFFER
+
+-- a packet is wide, once its fields are of their widths
+abbrev CanBeWide : PacketValue → Type 0
+CanBeWide x = IsWellFormed x → IsWide x
+
+-- moves lead to these sockets, and a packet that is done with was made
+pub record Gives (names : List ℕ →
+    Bool) (side : Side) (net now : Net) (sockets : List (Option Parties.Socket)) (sent : Bool) (packet : Option PacketValue) : Type 0 where
+  pub moved : Moved names side net now sockets
+  pub made : sent ≡ true → IfSome packet (IsMade (party moved.next side))
+
+module _ (names : List ℕ → Bool) (side : Side) (net now : Net) (r : Reaches names side net now) (before after : Places) where
+  -- the party has the sockets of the places, of which one holds this socket
+  abbrev Has : Meta → Socket → Type 0
+  Has m s = (party now side).sockets ≡ sockets_of (before ++ holding m s ∷ after)
+
+  abbrev To : Meta → Socket → Bool → Option PacketValue → Type 0
+  To m s sent packet = Gives names side net now (sockets_of (before ++ holding m s ∷ after)) sent packet
+
+  found : (m : Meta) (s : Socket) → Has m s → Parties.socket_at (party now side) (length before) ≡ seen s
+  found m s has =
+      ap (λ (xs : List (Option Parties.Socket)). slice_index_or xs (length before) None) has ∙ get-middle seen_place before (holding m s) after None
+
+  changed : (m m' : Meta) (s s' : Socket) → Has m s →
+      slice_set (party now side).sockets (length before) (seen s') ≡ sockets_of (before ++ holding m' s' ∷ after)
+  changed m m' s s' has =
+      ap (λ (xs : List (Option Parties.Socket)). slice_set xs (length before) (seen s')) has ∙
+      set-middle seen_place before (holding m s) (holding m' s') after
+
+  abbrev looks_same : (m m' : Meta) (s s' : Socket) → seen s' ≡ seen s → Has m s → Moved names side net now (sockets_of (before ++ holding m' s' ∷ after))
+  looks_same m m' s s' same has =
+      stays names side net now r (sockets_of (before ++ holding m' s' ∷ after)) (has ∙
+      sym (same-middle seen_place before (holding m s) (holding m' s') after same))
+
+  -- a raw packet and a control message are neither segments nor datagrams
+  raw_gives : (m m' : Meta) (cx : ContextValue) (v v' : RawValue) (answer : Answer.Offer) (sent : Bool) → Raws.Offers cx v answer v' → Has m (Is.Raw v) →
+      To m' (settled sent (Is.Raw v')) sent v'.offered
+  raw_gives m m' cx v v' answer sent offers has = record {
+    moved = looks_same m m' (Is.Raw v) (settled sent (Is.Raw v')) refl has;
+    made = λ done. if_some v'.offered (IsMade (party now side)) (λ x is.
+        let took = takes_one Raws.TakesPacket v (first v.queued) answer v' x offers is in
+        subst (MadeBy (party now side)) (sym (ap (λ (y : PacketValue). y.payload) took.1.carried)) tt);
+  }
+
+  icmp_gives : (m m' : Meta) (cx : ContextValue) (v v' : IcmpValue) (answer : Answer.Offer) (sent : Bool) → Icmps.Offers cx v answer v' → Has m (Is.Icmp v) →
+      To m' (settled sent (Is.Icmp v')) sent v'.offered
+  icmp_gives m m' cx v v' answer sent offers has = record {
+    moved = looks_same m m' (Is.Icmp v) (settled sent (Is.Icmp v')) refl has;
+    made = λ done. if_some v'.offered (IsMade (party now side)) (λ x is.
+        let took = takes_one (Icmps.TakesMessage cx) v (first v.queued) answer v' x offers is in
+        message_made (party now side) (cx.source_for took.0.0) took.0.0 took.0.1 (hops v.settings.hop_limit) x took.1);
+  }
+
+  udp_gives : (m m' : Meta) (cx : ContextValue) (v v' : UdpValue) (answer : Answer.Offer) (sent : Bool) → Udps.Offers cx v answer v' → Has m (Is.Udp v) →
+      To m' (settled sent (Is.Udp v')) sent v'.offered
+  udp_gives m m' cx v v' answer sent offers has = record {
+    moved =
+        moves_by names side net now r move (sockets_of (before ++ holding m' (settled sent (Is.Udp v')) ∷ after)) (found m (Is.Udp v) has, offers) refl
+        (changed m m' (Is.Udp v) (settled sent (Is.Udp v')) has)
+        (grows_by (party now side) (Moves.party_after (party now side) move) [] (datagrams_of v'.offered) (sym (append-nil (party now side).segments)) refl);
+    made = λ done. there now side move (λ (y : Party). IfSome v'.offered (IsMade y))
+        (if_some v'.offered (IsMade (Moves.party_after (party now side) move)) (λ x is.
+        let took = takes_one (Udps.TakesDatagram cx) v (first v.queued) answer v' x offers is in
+        udp_made (Moves.party_after (party now side) move) (party now side).datagrams cx v.settings took.0 x
+        (ap (λ (o : Option PacketValue). (party now side).datagrams ++ datagrams_of o) is) took.1));
+  } where
+    move : Moves.Move
+    move = Moves.Gives (length before) cx v answer v' sent
+
+  more_offered : (y : Party) (o : Option OpenOffer) (queue : List ℕ) → y.segments ≡ and_offer (party now side).segments o queue →
+      y.datagrams ≡ (party now side).datagrams → Grows (party now side) y
+  more_offered y None queue s d = grows_to (party now side) y s d
+  more_offered y (Some o) queue s d =
+      grows_by (party now side) y (made_of o.segment (payload_of o o.kind queue) ∷ []) [] s (d ∙ sym (append-nil (party now side).datagrams))
+
+  tcp_gives : (m m' : Meta) (cx : ContextValue) (v : TcpValue) (sent : Bool) → Has m (Is.Tcp v) →
+      To m' (settled sent (Is.Tcp (offer_of cx v).socket)) sent (offered_packet (offer_of cx v).socket)
+  tcp_gives m m' cx v true has = record {
+    moved =
+        moves_by names side net now r move (sockets_of (before ++ holding m' (settled true (Is.Tcp (offer_of cx v).socket)) ∷ after))
+        (found m (Is.Tcp v) has) refl
+        (changed m m' (Is.Tcp v) (settled true (Is.Tcp (offer_of cx v).socket)) has)
+        (more_offered (Moves.party_after (party now side) move) (offer_of cx v).socket.offered (offer_of cx v).socket.queued.queue refl refl);
+    made = λ done. there now side move (λ (y : Party). IfSome (offered_packet (offer_of cx v).socket) (IsMade y))
+        (if_some (offered_packet (offer_of cx v).socket) (IsMade (Moves.party_after (party now side) move)) (λ x is.
+        tcp_made (Moves.party_after (party now side) move) (party now side).segments cx v x refl is));
+  } where
+    move : Moves.Move
+    move = Moves.Offers (length before) cx v true
+  tcp_gives m m' cx v false has = record {
+    moved =
+        moves_by names side net now r move (sockets_of (before ++ holding m' (settled false (Is.Tcp (offer_of cx v).socket)) ∷ after))
+        (found m (Is.Tcp v) has) refl
+        (changed m m' (Is.Tcp v) (settled false (Is.Tcp (offer_of cx v).socket)) has)
+        (grows_to (party now side) (Moves.party_after (party now side) move) refl refl);
+    made = λ done. absurd (cc);
+  } where
+    move : Moves.Move
+    move = Moves.Offers (length before) cx v false
+
+  pub gives : (m m' : Meta) (cx : ContextValue) (s offered : Socket) (answer : Answer.Offer) (sent : Bool) → IsFit s → Offers cx s answer offered → Has m s
+      → To m' (settled sent offered) sent (offered_by offered)
+  gives m m' cx (Is.Raw v) (Is.Raw v') answer sent fit offers has = raw_gives m m' cx v v' answer sent offers has
+  gives m m' cx (Is.Icmp v) (Is.Icmp v') answer sent fit offers has = icmp_gives m m' cx v v' answer sent offers has
+  gives m m' cx (Is.Udp v) (Is.Udp v') answer sent fit offers has = udp_gives m m' cx v v' answer sent offers has
+  gives m m' cx (Is.Tcp v) (Is.Tcp v') answer sent fit offers has =
+      subst (λ (w : TcpValue). To m' (settled sent (Is.Tcp w)) sent (offered_packet w)) (sym offers.1) (tcp_gives m m' cx v sent has)
+  gives m m' cx (Is.Dhcpv4 v) offered answer sent fit offers has = absurd fit.0
+  gives m m' cx (Is.Dns v) offered answer sent fit offers has = absurd fit.0
+  gives m m' cx s offered answer sent fit offers has = absurd offers
+
+-- an offer that is silent leaves none open
+none_open : (o : Option OpenOffer) (queue : List ℕ) → packet_with o queue ≡ None → o ≡ None
+none_open None queue is = refl
+none_open (Some o) queue is = absurd (cc)
+
+none_kept : (o : Option Dhcps.Open) → Dhcps.packet_in o ≡ None → o ≡ None
+none_kept None is = refl
+none_kept (Some o) is = absurd (cc)
+
+none_asked : (o : Option Dnss.Open) → Dnss.packet_in o ≡ None → o ≡ None
+none_asked None is = refl
+none_asked (Some o) is = absurd (cc)
+
+none_offered : (o : Option PacketValue) (changed : Bool) → HasPacket (Offer.Silent changed) o → o ≡ None
+none_offered None any has = refl
+none_offered (Some p) any has = absurd has
+
+unsettled : (s : Socket) → offered_by s ≡ None → settled false s ≡ s
+unsettled (Is.Raw v) none = λ k. Is.Raw (record v { offered = sym none k })
+unsettled (Is.Icmp v) none = λ k. Is.Icmp (record v { offered = sym none k })
+unsettled (Is.Udp v) none = λ k. Is.Udp (record v { offered = sym none k })
+unsettled (Is.Dhcpv4 v) none = let no_offer : v.offered ≡ None = none_kept v.offered none in λ k. Is.Dhcpv4 (record v { offered = sym no_offer k })
+unsettled (Is.Dns v) none = let no_offer : v.offered ≡ None = none_asked v.offered none in λ k. Is.Dns (record v { offered = sym no_offer k })
+unsettled (Is.Tcp v) none = let no_offer : v.offered ≡ None = none_open v.offered v.queued.queue none in λ k. Is.Tcp (record v { offered = sym no_offer k })
+
+-- THE TURN
+
+module _ {D : Type 0} (moves : D → Move → D → Type 0) (turn_of : Option IpAddress) (names : List ℕ → Bool) (side : Side) (net : Net) (q : Party) (L : ℕ →
+    State D → Party → Type 0) (link : IsLink moves q L) (n : ℕ) (h : HostValue) (before after : Places) where
+  abbrev At : Sender D → Option (Item Socket) → State D
+  At x o = sending_as h x (before ++ record { inner = o } ∷ after)
+
+  -- before the turn, and behind it
+  abbrev Now : State D → Type 0
+  Now s = Follows names side (L n) net s
+
+  abbrev Next : State D → Type 0
+  Next s = Follows names side (L (n + 1)) net s
+
+  uncounted : (s : State D) → Now s → Next s
+  uncounted s f = record { now = f.now; reaches = f.reaches; sockets = f.sockets; link = link.more n (n + 1) s (party f.now side) (omega arith) f.link }
+
+  -- a packet goes its way, with its sockets told already
+  leaves : (x x' : Sender D) (places : Places) (party : Party) (meta : Meta) (packet : PacketValue) (sent : Sent) → IsWide packet →
+      (is_done sent ≡ true → IsMade party packet) → Leaves moves turn_of x meta packet sent x'
+      → L n (sending_as h x places) party → L (n + 1) (sending_as h x' places) party
+  leaves x x' places party meta packet sent wide made (inl rests) holds =
+      let there : state x'.device (record h { inner = x.inner; left = x.left }) places ≡ sending_as h x' places =
+      λ k. state x'.device (record h { inner = sym rests.2 k; left = sym rests.3 k }) places in
+      link.more n (n + 1) (sending_as h x' places) party (omega arith)
+      (subst (λ (s : State D). L n s party) there (link.leave n (sending_as h x places) party rests.0 x'.device rests.1 holds))
+  leaves x x' places party meta packet sent wide made (inr goes) holds =
+      link.goes n (state goes.0 (record h { inner = x.inner; left = x.left }) places) party packet sent x'.device x'.inner x'.left wide made goes.2
+      (link.leave n (sending_as h x places) party true goes.0 goes.1 holds)
+
+  -- nothing goes, and the sockets look the same
+  stays_put : (x x' : Sender D) (o o' : Option (Item Socket)) → x' ≡ x → seen_place (record { inner = o' }) ≡ seen_place (record { inner = o }) → Now (At x o) →
+      Now (At x' o')
+  stays_put x x' o o' is same f = subst (λ (y : Sender D). Now (At y o')) (sym is) (record {
+    now = f.now;
+    reaches = f.reaches;
+    sockets = f.sockets ∙ sym (same-middle seen_place before (record { inner = o }) (record { inner = o' }) after same);
+    link = link.grown n (At x o) (before ++ record { inner = o' } ∷ after) (party f.now side) (party f.now side) (grows_not (party f.now side)) f.link;
+  })
+
+  -- moves lead on, while nothing goes
+  abbrev moved_on : (x : Sender D) (o : Option (Item Socket)) (places : Places) (f : Now (At x o)) → (m : Moved names side net f.now (sockets_of places)) →
+      Now (sending_as h x places)
+  moved_on x o places f m = record {
+    now = m.next;
+    reaches = m.reaches;
+    sockets = m.sockets_are;
+    link = link.grown n (At x o) places (party f.now side) (party m.next side) m.grows f.link;
+  }
+
+  silent : (x x' : Sender D) (item item' : Item Socket) (offered : Socket) (changed : Bool) (turned : Turned) → IsFit item.socket →
+      Offers (context_for x.inner item.socket) item.socket (Offer.Silent changed) offered
+      → Answers moves turn_of (Offer.Silent changed) x (record item { socket = offered }) turned x' item' → Now (At x (Some item)) → Now (At x' (Some item'))
+  silent x x' item item' offered changed turned fit offers answers f =
+      let cx = context_for x.inner item.socket in
+      let given = gives names side net f.now f.reaches before after item.meta unmarked cx item.socket offered (Offer.Silent changed) false
+      fit offers f.sockets in
+      let same : settled false offered ≡ offered =
+      unsettled offered (none_offered (offered_by offered) changed (has_packet item.socket offered cx (Offer.Silent changed) offers)) in
+      let still : Now (At x (Some (record { meta = unmarked; socket = offered }))) =
+      subst (λ (s : Socket). Now (At x (Some (record { meta = unmarked; socket = s })))) same
+      (moved_on x (Some item) (before ++ holding unmarked (settled false offered) ∷ after) f given.moved) in
+      subst (λ (i : Item Socket). Now (At x' (Some i))) (sym answers.2)
+      (subst (λ (y : Sender D). Now (At y (Some (record { meta = unmarked; socket = offered })))) (sym answers.1) still)
+
+  sends : (x x' : Sender D) (item item' : Item Socket) (offered : Socket) (changed : Bool) (turned : Turned) (packet : Option PacketValue) →
+      packet ≡ offered_by offered → IfSome packet CanBeWide → IsFit item.socket
+      → Offers (context_for x.inner item.socket) item.socket (Offer.Packet changed) offered →
+      SendsBy moves turn_of packet x (record item { socket = offered }) changed turned x' item'
+      → Now (At x (Some item)) → Next (At x' (Some item'))
+  sends x x' item item' offered changed turned None is wide fit offers goes f = absurd goes
+  sends x x' item item' offered changed turned (Some packet) is wide fit offers sending f =
+      let leaving = sending.0 in
+      let goes : SendsAs moves turn_of leaving x (record item { socket = offered }) changed turned x' item' = sending.3 in
+      let sent = goes.0 in
+      let meta = marked sent x.inner.moment (waits_until (plan_at x leaving) x'.inner) (destination_of leaving.header) item.meta in
+      let places = before ++ holding meta (settled (is_done sent) offered) ∷ after in
+      let given = gives names side net f.now f.reaches before after item.meta meta (context_for x.inner item.socket) item.socket offered (Offer.Packet changed)
+      (is_done sent) fit offers f.sockets in
+      let on = moved_on x (Some item) places f given.moved in
+      let told : Next (sending_as h x' places) = record {
+        now = on.now;
+        reaches = on.reaches;
+        sockets = on.sockets;
+        link = leaves x x' places (party given.moved.next side) item.meta leaving sent
+            (subst IsWide (sym sending.1) (sourced_wide x.inner packet (wide sending.2) (subst IsWellFormed sending.1 goes.4)))
+            (λ done. subst (IsMade (party given.moved.next side)) (sym sending.1)
+            (some_so (offered_by offered) (IsMade (party given.moved.next side)) packet (sym is) (given.made done))) goes.1 on.link;
+      } in
+      subst (λ (i : Item Socket). Next (At x' (Some i))) (sym goes.3) told
+
+  asks : (x x' : Sender D) (item item' : Item Socket) (answer : Answer.Offer) (offered : Socket) (turned : Turned)
+      → IfSome (offered_by offered) CanBeWide → IsFit item.socket
+      → Offers (context_for x.inner item.socket) item.socket answer offered → Answers moves turn_of answer x (record item { socket = offered }) turned x' item'
+      → Now (At x (Some item)) → Next (At x' (Some item'))
+  asks x x' item item' (Offer.Silent changed) offered turned wide fit offers answers f =
+      uncounted (At x' (Some item')) (silent x x' item item' offered changed turned fit offers answers f)
+  asks x x' item item' (Offer.Packet changed) offered turned wide fit offers answers f =
+      sends x x' item item' offered changed turned (offered_by offered) refl wide fit offers answers f
+
+  turns : (waits : Bool) (x x' : Sender D) (item item' : Item Socket) (turned : Turned) →
+      TurnsIf moves turn_of waits x (let_through x.inner item) turned x' item' → IsFit item.socket
+      → Now (At x (Some item)) → Next (At x' (Some item'))
+  turns true x x' item item' turned waits fit f =
+      uncounted (At x' (Some item')) (stays_put x x' (Some item) (Some item') waits.1 (ap (λ (i : Item Socket). seen i.socket) waits.2) f)
+  turns false x x' item item' turned asked fit f =
+      let through = let_through x.inner item in
+      asks x x' through item' asked.0 asked.1 turned
+      (if_some (offered_by asked.1) CanBeWide
+      (λ p is formed. offered_wide (context_for x.inner item.socket) item.socket asked.1 asked.0 p fit asked.2 is formed))
+      fit asked.2 asked.3
+      (stays_put x x (Some item) (Some through) refl refl f)
+
+  items : (x x' : Sender D) (o o' : Option (Item Socket)) (turned : Turned) → ItemTurns moves turn_of o x turned x' o' → OfItem IsFit o → Now (At x o) →
+      Next (At x' o')
+  items x x' None None turned turn fit f = uncounted (At x' None) (stays_put x x' None None turn.1 refl f)
+  items x x' (Some item) (Some item') turned turn fit f = turns (is_waiting x.inner item.meta) x x' item item' turned turn fit f
+  items x x' None (Some item') turned turn fit f = absurd turn
+  items x x' (Some item) None turned turn fit f = absurd turn
+
+  pub turn_follows : (p p' : SocketStorage Socket) (x x' : Sender D) (turned : Turned) → PlaceTurns moves turn_of x p turned x' p' → OfItem IsFit p.inner
+      → Now (sending_as h x (before ++ p ∷ after)) → Next (sending_as h x' (before ++ p' ∷ after))
+  turn_follows p p' x x' turned turn fit f = items x x' p.inner p'.inner turned turn fit f

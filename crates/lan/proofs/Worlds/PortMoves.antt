@@ -1,0 +1,71 @@
+-- The moves of a port.
+use Rattle.std.proofs.Common.{◌≡◌, ℕ, ◌-◌, ◌<◌, ◌≤◌, ℤ, Bool, true, false, cond, List, [], ◌∷◌, length, sym, ap, ◌∙◌, arith}
+use Rattle.std.specs.Prelude.{nat_le, drop}
+use Rattle.lan_base.specs.Device.{Move, Took, Empty, Allowed, Emitted, Denied}
+use Rattle.lan.specs.Worlds.AtLink.Port.{PortValue, PortMove, has_leave}
+use Rattle.interface_egress.specs.Determined.{IsDetermined}
+use Rattle.interface.proofs.Unrefused.{IsCounting, head_is, none_waits, given_or_not}
+
+-- a port before a frame was taken
+abbrev before : List ℕ → PortValue → PortValue
+before frame p = record p { link = record p.link { waiting = frame ∷ p.link.waiting } }
+
+-- and behind it
+abbrev behind : PortValue → PortValue
+behind p = record p { link = record p.link { waiting = drop 1 p.link.waiting } }
+
+one_end : (here one other : PortValue) (m : Move) → PortMove here m one → PortMove here m other → one ≡ other
+one_end here one other (Took t frame) a b = ap behind (sym a.1 ∙ b.1)
+one_end here one other (Empty t) a b = a.0 ∙ sym b.0
+one_end here one other (Allowed t leave) a b = a.0 ∙ sym b.0
+one_end here one other (Emitted frame) a b = a ∙ sym b
+one_end here one other (Denied len) a b = a.0 ∙ sym b.0
+
+one_frame : (here : PortValue) (t : ℤ) (one other : PortValue) (frame again : List ℕ) → PortMove here (Took t frame) one →
+    PortMove here (Took t again) other → frame ≡ again
+one_frame here t one other frame again a b =
+    head_is frame again one.link.waiting other.link.waiting (ap (λ (p : PortValue). p.link.waiting) (sym a.1 ∙ b.1))
+
+looks : (here : PortValue) (t : ℤ) (one other : PortValue) (frame : List ℕ) → PortMove here (Took t frame) one → PortMove here (Empty t) other → ⊥
+looks here t one other frame a b =
+    none_waits frame one.link.waiting (ap (λ (p : PortValue). p.link.waiting) (sym a.1) ∙ b.1 a.0)
+
+gives : (here : PortValue) (t : ℤ) (one other : PortValue) → PortMove here (Allowed t true) one → PortMove here (Allowed t false) other → ⊥
+gives here t one other a b = given_or_not (has_leave here.link) a.1 b.1
+
+pub takes : (here new : PortValue) (len : ℕ) → 0 < here.ready → len ≤ here.size → PortMove here (Denied len) new → ⊥
+takes here new len some short denied = let none : here.ready ≡ 0 = denied.1 short in absurd (omega (arith, none))
+
+pub determined : (port : PortValue) (longest : ℕ) → 0 < port.ready → longest ≤ port.size → IsDetermined PortMove longest port
+determined port longest some fits = record {
+  one_end = one_end port;
+  one_frame = one_frame port;
+  looks = looks port;
+  gives = gives port;
+  takes = λ one other frame short a b. takes port other (length frame) some (omega arith) b;
+}
+
+left_by : (b : Bool) (count : ℕ) → count - 1 ≤ cond b (count - 1) count
+left_by true count = omega arith
+left_by false count = omega arith
+
+pub ready : (port new : PortValue) (frame : List ℕ) → PortMove port (Emitted frame) new → (port.ready - 1 ≤ new.ready) × (new.size ≡ port.size)
+ready port new frame emitted = (rw emitted (left_by (nat_le (length frame) port.size) port.ready), ap (λ (p : PortValue). p.size) emitted)
+
+-- REFUSALS ARE COUNTED
+
+abbrev refusals : PortValue → ℕ
+refusals p = p.link.refusals
+
+kept : (old new : PortValue) (m : Move) → PortMove old m new → refusals old ≤ refusals new
+kept old new (Took t frame) goes = let same = ap refusals goes.1 in omega (arith, same)
+kept old new (Empty t) goes = let same = ap refusals goes.0 in omega (arith, same)
+kept old new (Allowed t given) goes = let same = ap refusals goes.0 in omega (arith, same)
+kept old new (Emitted frame) goes = let same = ap refusals goes in omega (arith, same)
+kept old new (Denied len) goes = let more = ap refusals goes.0 in omega (arith, more)
+
+denied : (old new : PortValue) (len : ℕ) → PortMove old (Denied len) new → refusals old < refusals new
+denied old new len goes = let more = ap refusals goes.0 in omega (arith, more)
+
+pub counting_ports : IsCounting PortMove (λ (p : PortValue). p.link.refusals)
+counting_ports = record { one_end = one_end; one_frame = one_frame; looks = looks; gives = gives; kept = kept; denied = denied }

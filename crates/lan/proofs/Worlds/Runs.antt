@@ -1,0 +1,172 @@
+-- Wherever a history of typed events led from two fresh hosts, they are joined, and so their sockets are safe.
+use Rattle.std.proofs.Common.{◌≡◌, ℕ, ◌+◌, ◌^◌, ◌<◌, ◌≤◌, List, [], ◌∷◌, ◌++◌, refl, sym, ◌∙◌, ap, subst, arith}
+use Rattle.std.specs.Prelude.{ℤ}
+use Rattle.lan.specs.Worlds.AtLink.History.{Entry}
+use Rattle.lan.specs.Worlds.AtLink.Kinds.{other, kind_of, Kind}
+use Rattle.lan.specs.Worlds.AtLink.Kinds.Act.{Calls, Sets, Opens, Asks, Polls}
+use Rattle.lan.specs.Worlds.AtLink.Kinds.Kind.{OfHost, OfLink}
+use Rattle.lan.specs.Worlds.AtLink.Side.{Side}
+use Rattle.lan.specs.Worlds.AtLink.Side.TheVariants.{A, B}
+use Rattle.lan.specs.Worlds.AtLink.Moves.{IsRun, run}
+use Rattle.lan.specs.Worlds.AtLink.Parties.{Net}
+use Rattle.lan.specs.Worlds.AtLink.PacketsSafe.{IsSafe}
+use Rattle.lan.proofs.Worlds.AtLink.Extended.{run-append, IsRun-append}
+use Rattle.lan.specs.Worlds.AtLink.Fresh.{IsFreshWorld}
+use Rattle.lan.specs.Worlds.AtLink.Origins.{medium_of, numbered}
+use Rattle.lan.specs.Worlds.AtLink.Runs.{Starts, unused_both, WorldRun, Leads}
+use Rattle.lan.specs.Worlds.AtLink.Safe.{first_port, net_of}
+use Rattle.lan.specs.Worlds.AtLink.Station.{Stations, station}
+use Rattle.lan.specs.Worlds.AtLink.Steps.{Happens, ActsAt}
+use Rattle.lan.specs.Worlds.Moves.Follows.{IsNetOf, Comes, IsNoPoll}
+use Rattle.lan.specs.Worlds.Moves.Joined.{first_net}
+use Rattle.lan.proofs.Worlds.Moves.Coming.{HasCome}
+use Rattle.lan.specs.Worlds.Moves.Fit.{IsFit, AreFit}
+use Rattle.lan.specs.Worlds.Moves.Raws.{OfEach}
+use Rattle.lan.proofs.Worlds.Moves.Calls.{names}
+use Rattle.lan.proofs.Worlds.Moves.Fits.{worlds_fit}
+use Rattle.lan.proofs.Worlds.Moves.Nets.{either_side}
+use Rattle.lan.proofs.Worlds.Moves.Worlds.{rest_comes, first_of, came_safe}
+use Rattle.lan.specs.Worlds.Link.Numbers.{count_numbered, AreFew}
+use Rattle.lan.proofs.Worlds.Link.Sufficient.{numbers_grow, polled_few}
+use Rattle.lan.specs.Worlds.Events.{IsTyped, AreTyped}
+use Rattle.lan.specs.Worlds.Joins.{AreJoined, IsPlain}
+use Rattle.lan.proofs.Worlds.Acts.{joins_grow}
+use Rattle.lan.proofs.Worlds.Beginnings.{firsts, none_yet, first_joined}
+use Rattle.lan.proofs.Worlds.Events.{plain_joins}
+use Rattle.lan.proofs.Worlds.PolledJoins as Polled
+use Rattle.lan.proofs.Worlds.Settings.{setting_joins}
+use Rattle.lan.specs.Worlds.Link.Frames.{Outgoing}
+
+-- how many datagrams a host has numbered
+abbrev pub numbered_by : List Entry → Stations → Side → ℕ
+numbered_by history hosts side = numbered (medium_of (station hosts side)) side history (station hosts side).link.sent
+
+-- J: the hosts are joined, and each sent fewer packets that have one than there are numbers, no more than it numbered
+pub record AreWell (starts : Starts) (history : List Entry) (hosts : Stations) (net : Net) : Type 0 where
+  pub most : Side → ℕ
+  pub joined : AreJoined (firsts starts) most hosts net
+  pub few : (side : Side) → most side < 2 ^ 16
+  pub numbered : (side : Side) → most side ≤ numbered_by history hosts side
+
+-- one side's number exchanged
+abbrev exchanged : (Side → ℕ) → Side → ℕ → Side → ℕ
+exchanged most A n A = n
+exchanged most A n B = most B
+exchanged most B n A = most A
+exchanged most B n B = n
+
+exchanged_here : (most : Side → ℕ) (side : Side) (n : ℕ) → exchanged most side n side ≡ n
+exchanged_here most A n = refl
+exchanged_here most B n = refl
+
+exchanged_there : (most : Side → ℕ) (side : Side) (n : ℕ) → exchanged most side n (other side) ≡ most (other side)
+exchanged_there most A n = refl
+exchanged_there most B n = refl
+
+module _ (starts : Starts) (net : Net) (old new : Stations) (past : List Entry) (e : Entry) (w : AreWell starts past old net) (of : IsNetOf net old past)
+    (leads : Leads past old e new) where
+  abbrev Then : Type 0
+  Then = (c : Comes names net new (e ∷ past)) × AreWell starts (e ∷ past) new c.next
+
+  grows : (side : Side) → w.most side ≤ numbered_by (e ∷ past) new side
+  grows side = let up = w.numbered side in let more = numbers_grow past e old new side leads in omega (arith, up, more)
+
+  -- AN EVENT THAT IS NO POLL
+
+  rests : IsNoPoll (kind_of e.event) → AreJoined (firsts starts) w.most new net → Then
+  rests quiet joined =
+      let c : Comes names net new (e ∷ past) = rest_comes net old new past e of quiet leads in
+      (c, record { most = w.most; joined = joins_grow (firsts starts) w.most new net c.next c.grows joined; few = w.few; numbered = grows })
+
+  plain : IsNoPoll (kind_of e.event) → IsPlain (kind_of e.event) → IsTyped (kind_of e.event) → Then
+  plain quiet is typed = rests quiet (plain_joins (firsts starts) w.most old new net w.joined past e is typed leads)
+
+  -- A POLL
+
+  module _ (side : Side) (t : ℤ) (budget : ℕ) (is : kind_of e.event ≡
+      OfHost side (Polls t budget)) (acts : ActsAt old side (Polls t budget) e.answer e.found new) where
+    few_out : AreFew (w.joined.out (other side))
+    few_out = let a = w.joined.counted (other side) in let b = w.few (other side) in omega (arith, a, b)
+
+    module _ (fit : OfEach IsFit (station old side).places) where
+      abbrev out_after : List Outgoing
+      out_after = (Polled.linked_after (firsts starts) w.most old new net past e w.joined of side t budget is few_out acts fit).out
+
+      abbrev most' : Side → ℕ
+      most' = exchanged w.most side (count_numbered out_after)
+
+      all_few : AreFew out_after → (x : Side) → most' x < 2 ^ 16
+      all_few few = either_side side (λ x. most' x < 2 ^ 16) (omega (arith, few, exchanged_here w.most side (count_numbered out_after)))
+          (let b = w.few (other side) in omega (arith, b, exchanged_there w.most side (count_numbered out_after)))
+
+      polled_numbered : count_numbered out_after ≤ numbered_by (e ∷ past) new side → (x : Side) → most' x ≤ numbered_by (e ∷ past) new x
+      polled_numbered up = either_side side (λ x. most' x ≤ numbered_by (e ∷ past) new x) (omega (arith, up, exchanged_here w.most side (count_numbered out_after)))
+          (let b = grows (other side) in omega (arith, b, exchanged_there w.most side (count_numbered out_after)))
+
+      suffice : AreFew out_after × (count_numbered out_after ≤ numbered_by (e ∷ past) new side)
+      suffice =
+          let linked = Polled.linked_after (firsts starts) w.most old new net past e w.joined of side t budget is few_out acts fit in
+          let up : count_numbered (w.joined.out side) ≤ numbered_by past old side =
+          (let a = w.joined.counted side in let b = w.numbered side in omega (arith, a, b)) in
+          polled_few past e old new side leads t budget is (w.joined.out side) out_after up linked.count
+          (Polled.tied_after (firsts starts) w.most old new net past e w.joined of side t budget is few_out acts fit)
+
+      polled : Then
+      polled = (
+        Polled.comes (firsts starts) w.most old new net past e w.joined of side t budget is few_out acts fit,
+        record {
+          most = most';
+          joined = Polled.polled_joins (firsts starts) w.most old new net past e w.joined of side t budget is few_out acts fit most'
+              (omega (arith, exchanged_there w.most side (count_numbered out_after))) (omega (arith, exchanged_here w.most side (count_numbered out_after)));
+          few = all_few suffice.0;
+          numbered = polled_numbered suffice.1;
+        },
+      )
+
+-- ANY EVENT
+
+module _ (starts : Starts) where
+  by_kind : (net : Net) (old new : Stations) (past : List Entry) (e : Entry) (w : AreWell starts past old net) (of : IsNetOf net old past)
+      (leads : Leads past old e new) → AreFit old
+      → (k : Kind) → kind_of e.event ≡ k → IsTyped k → Happens old k e.answer e.found new → Then starts net old new past e w of leads
+  by_kind net old new past e w of leads fit (OfHost side (Calls i call)) is typed happens =
+      plain starts net old new past e w of leads (subst IsNoPoll (sym is) tt) (subst IsPlain (sym is) tt) (subst IsTyped (sym is) typed)
+  by_kind net old new past e w of leads fit (OfHost side (Opens n)) is typed happens =
+      plain starts net old new past e w of leads (subst IsNoPoll (sym is) tt) (subst IsPlain (sym is) tt) (subst IsTyped (sym is) typed)
+  by_kind net old new past e w of leads fit (OfHost side (Asks t)) is typed happens =
+      plain starts net old new past e w of leads (subst IsNoPoll (sym is) tt) (subst IsPlain (sym is) tt) (subst IsTyped (sym is) typed)
+  by_kind net old new past e w of leads fit (OfLink act) is typed happens =
+      plain starts net old new past e w of leads (subst IsNoPoll (sym is) tt) (subst IsPlain (sym is) tt) (subst IsTyped (sym is) typed)
+  by_kind net old new past e w of leads fit (OfHost side (Sets setting)) is typed happens =
+      rests starts net old new past e w of leads (subst IsNoPoll (sym is) tt)
+      (setting_joins (firsts starts) w.most old new net side setting e.answer w.joined typed happens.acts.0 happens.rests)
+  by_kind net old new past e w of leads fit (OfHost side (Polls t budget)) is typed happens =
+      polled starts net old new past e w of leads side t budget is happens (fit side)
+
+  pub has_come : (history : List Entry) (hosts : Stations) → IsFreshWorld starts → AreTyped history → WorldRun history (unused_both starts) hosts →
+      HasCome starts (λ h n. AreWell starts history h n) history hosts
+  has_come [] hosts fresh typed is = subst (λ (h : Stations). HasCome starts (λ x n. AreWell starts [] x n) [] h) (sym is) (record {
+    net = first_net starts;
+    steps = [];
+    may = tt;
+    ends = refl;
+    of = record { sockets = first_of starts; history = refl };
+    joined = record { most = none_yet; joined = first_joined starts fresh; few = λ side. omega arith; numbered = λ side. omega arith };
+  })
+  has_come (e ∷ past) hosts fresh typed (before, ran, leads) =
+      let came = has_come past before fresh typed.1 ran in
+      let next = by_kind came.net before hosts past e came.joined came.of leads (worlds_fit starts fresh past before ran) (kind_of e.event) refl typed.0
+      leads.happens in
+      let c : Comes names came.net hosts (e ∷ past) = next.0 in
+      record {
+        net = c.next;
+        steps = came.steps ++ c.steps;
+        may = IsRun-append names (first_net starts) came.steps c.steps came.may (subst (λ (n : Net). IsRun names n c.steps) (sym came.ends) c.may);
+        ends = run-append (first_net starts) came.steps c.steps ∙ ap (λ (n : Net). run n c.steps) came.ends ∙ c.ends;
+        of = c.of;
+        joined = next.1;
+      }
+
+  pub runs_safe : IsFreshWorld starts → (history : List Entry) (hosts : Stations) → AreTyped history → WorldRun history (unused_both starts) hosts
+      → IsSafe (first_port starts) (net_of (record { hosts = hosts; starts = starts; history = history }))
+  runs_safe fresh history hosts typed ran = came_safe starts (λ h n. AreWell starts history h n) fresh history hosts (has_come history hosts fresh typed ran)

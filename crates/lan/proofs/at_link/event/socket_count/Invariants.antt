@@ -1,0 +1,7 @@
+use Rattle.std.proofs.Common.{◌≡◌, ◌≤◌, take}
+use Rattle.std.specs.List.{count_by}
+use Rattle.interface.specs.Used.{is_used}
+use Rattle.lan.proofs.at_link.event.socket_count.Given as goal
+
+abbrev pub invariant-loop-place : goal.invariant-loop-place
+invariant-loop-place l = (l.count ≡ count_by is_used (take l.place-index l.places)) × (l.count ≤ l.place-index)

@@ -1,0 +1,68 @@
+-- What a packet has of TCP or UDP, and who made it.
+use Rattle.std.specs.Prelude.{ℕ, List, Option, None, Some}
+use Rattle.lan_base.specs.ChecksumCapabilities.{ChecksumCapabilities}
+use Rattle.interface.specs.Ip as Ips
+use Rattle.interface.specs.IpRepr.{IpRepr}
+use Rattle.interface.specs.IpRepr.TheVariants as Ip
+use Rattle.ip_tcp.specs.declared.header.TcpHeader.{TcpHeader}
+use Rattle.interface.specs.UdpRepr.{UdpRepr}
+use Rattle.sockets.specs.Packet.{PacketValue, PayloadValue, ControlV4, ControlV6, Bytes, Datagram, Segment}
+use Rattle.tcp_tie.specs.Host.{Made, made_of, IsAmong}
+use Rattle.lan.specs.Worlds.Link.Made.{CarriesNone}
+use Rattle.interface.specs.Taken.{IsOffered}
+use Rattle.interface_ingress.specs.Carried.{IsDatagram, IsSegment}
+use Rattle.interface_ingress.specs.Sent.{CanBeRead}
+use Rattle.interface_ingress.specs.Incoming.{IncomingValue, Arp, Ip4, Ip6}
+use Rattle.interface_ingress.specs.Upper.{upper_header, upper_payload}
+use Rattle.lan.specs.Worlds.AtLink.Parties as Parties
+use Rattle.lan.specs.Worlds.AtLink.Parties.{Party, WasMade}
+
+-- more was made
+pub record Grows (p p' : Party) : Type 0 where
+  pub segments : (x : Made) → IsAmong p.segments x → IsAmong p'.segments x
+  pub datagrams : (x : Parties.Datagram) → WasMade p x → WasMade p' x
+
+abbrev pub datagram_of : UdpRepr → List ℕ → Parties.Datagram
+datagram_of udp bytes = record { source = udp.src_port; destination = udp.dst_port; bytes = bytes }
+
+-- WHAT GOES
+
+-- a segment and a datagram that this host made; what else a packet carries is nobody's
+abbrev pub MadeBy : Party → PayloadValue → Type 0
+MadeBy p (ControlV4 message bytes) = Unit {0}
+MadeBy p (ControlV6 message bytes) = Unit {0}
+MadeBy p (Bytes bytes) = Unit {0}
+MadeBy p (Datagram udp bytes) = WasMade p (datagram_of udp bytes)
+MadeBy p (Segment header bytes) = IsAmong p.segments (made_of header bytes)
+
+abbrev pub IsMade : Party → PacketValue → Type 0
+IsMade p x = MadeBy p x.payload
+
+-- FORM
+
+-- the header names what is carried, whose fields are numbers of their widths; bytes carry neither TCP nor UDP, behind extension headers
+-- either, and are no piece of IPv6
+abbrev pub FitsBehind : IpRepr → PayloadValue → Type 0
+FitsBehind header (Bytes bytes) = CarriesNone (Ips.normal header) bytes
+FitsBehind header payload = CanBeRead header payload
+
+-- a packet that can be sent, and read by another host
+pub record IsWide (x : PacketValue) : Type 0 where
+  pub offered : IsOffered x
+  pub fits : FitsBehind x.header x.payload
+
+-- WHAT COMES
+
+-- each segment and each datagram that this payload is read as was made by this host
+pub record HandsMade (q : Party) (caps : ChecksumCapabilities) (ip : IpRepr) (payload : List ℕ) : Type 0 where
+  pub segments : (header : TcpHeader) (bytes : List ℕ) → IsSegment caps (upper_header ip payload) (upper_payload ip payload) header bytes
+      → IsAmong q.segments (made_of header bytes)
+  pub datagrams : (udp : UdpRepr) (bytes : List ℕ) → IsDatagram caps (upper_header ip payload) (upper_payload ip payload) udp bytes
+      → WasMade q (datagram_of udp bytes)
+
+-- so of a content that arrived whole, or was rebuilt
+abbrev pub BringsMade : Party → ChecksumCapabilities → Option IncomingValue → Type 0
+BringsMade q caps None = Unit {0}
+BringsMade q caps (Some (Arp link packet)) = Unit {0}
+BringsMade q caps (Some (Ip4 link header piece payload)) = HandsMade q caps (Ip.Ipv4 header) payload
+BringsMade q caps (Some (Ip6 link header payload)) = HandsMade q caps (Ip.Ipv6 header) payload

@@ -1,0 +1,28 @@
+//! Laws of histories.
+ghost use Rattle.std.specs.Prelude.{◌≡◌, ◌<◌, ℕ, List, Some, ◌∷◌};
+ghost use Rattle.lan.specs.declared.at_link.history.event.Side.{Side};
+ghost use Rattle.lan.specs.declared.at_link.history.record.Opening.{Opening};
+ghost use Rattle.lan.specs.Worlds.AtLink.Kinds.{other};
+ghost use Rattle.lan.specs.Worlds.AtLink.History.{Entry, opening};
+ghost use Rattle.lan.specs.Worlds.AtLink.Partners.{ArePartners};
+ghost use Rattle.lan.specs.Worlds.AtLink.Tables.{table_of, record_at, record_of, Places, AreAllowed};
+
+/// The table that follows each event says of each place what the history says of its socket.
+#[tactic(auto, using(crate::proofs::Worlds::AtLink::TableLemmas::table_says))]
+pub fn tables_say_what_the_history_says()
+    ensures { (history : List Entry) (side : Side) (places i : ℕ) → i < places
+        → record_at (table_of history side places) i ≡ record_of history side i }
+{}
+
+/// A socket has at most one partner, and is its partner's. Partners stay so, and an opening stays.
+#[tactic(auto, using(crate::proofs::Worlds::AtLink::PartnerLemmas::partner_laws))]
+pub fn a_socket_has_at_most_one_partner()
+    ensures one { (places : Places) (history : List Entry) (side : Side) (i j k : ℕ) → AreAllowed places history
+        → ArePartners history side i j → ArePartners history side i k → j ≡ k }
+    ensures mutual { (history : List Entry) (side : Side) (i j : ℕ) → ArePartners history side i j
+        → ArePartners history (other side) j i }
+    ensures stay { (past : List Entry) (e : Entry) (side : Side) (i j : ℕ) → ArePartners past side i j
+        → ArePartners (e ∷ past) side i j }
+    ensures opening_stays { (past : List Entry) (e : Entry) (side : Side) (i : ℕ) (o : Opening)
+        → opening past side i ≡ Some o → opening (e ∷ past) side i ≡ Some o }
+{}

@@ -1,0 +1,50 @@
+//! A host at the link.
+ghost use Rattle.std.specs.Prelude.{◌≡◌, ◌≤◌, length, drop};
+ghost use Rattle.net_base.specs.Device.{frames_of};
+
+use interface::{Interface, SocketSet};
+use lan_base::Port;
+use sockets::Socket;
+use std::marker::Model;
+
+/// A host at the link: its interface, its sockets, and the port through which its frames come and go.
+#[derive(Drop)]
+pub struct Host {
+    pub interface: Interface,
+    pub sockets: SocketSet<Socket>,
+    pub port: Port,
+}
+
+impl Model for Host {
+    ghost use Rattle.interface.specs.Set.{places};
+    ghost use Rattle.lan.specs.Worlds.AtLink.Station.{StationValue};
+
+    ghost Value = { StationValue };
+
+    ghost view = { λ h. record { host = h.interface; places = places h.sockets; link = h.port.link } };
+}
+
+impl Host {
+    /// How many frames the host has sent, the link's pieces among them.
+    pub fn sent_count(&self) -> usize
+        ensures { result ≡ length self.now.link.sent }
+    {
+        self.port.sent().len()
+    }
+
+    /// How many frames wait for the host.
+    pub fn waiting_count(&self) -> usize
+        ensures { result ≡ length self.now.link.waiting }
+    {
+        self.port.waiting().len()
+    }
+
+    /// The sent frames but for so many.
+    #[tactic(auto, using(crate::proofs::Worlds::AtLink::Counting::frames_behind))]
+    pub(crate) fn sent_since(&self, before: usize) -> &[Vec<u8>]
+        requires { before ≤ length self.now.link.sent }
+        ensures { frames_of result.now ≡ drop before self.now.link.sent }
+    {
+        self.port.sent().split_at(before).1
+    }
+}

@@ -1,0 +1,80 @@
+//! A poll of a host, for which room is made first.
+ghost use Rattle.std.specs.Prelude.{◌≡◌, ◌+◌, ◌*◌, ◌≤◌, IfOk, IfSome, OnErr, length};
+ghost use Rattle.net_base.specs.Time.{IsMoment};
+ghost use Rattle.interface.specs.Departing.{link_room};
+ghost use Rattle.interface.specs.Set.{places};
+ghost use Rattle.interface.specs.Polls.{Polls};
+ghost use Rattle.interface.specs.State.{state};
+ghost use Rattle.lan_base.specs.Port.{PortMove};
+ghost use Rattle.lan.specs.Worlds.AtLink.Steps.{PollsAt};
+
+use crate::at_link::host::Host;
+use interface::{Interface, PollResult, SocketSet};
+use ip_wire::HardwareAddress;
+use lan_base::Port;
+use net_base::Instant;
+use sockets::Socket;
+use std::alloc::AllocError;
+
+/// How many bytes the longest frame has that the host sends.
+fn longest_frame(interface: &Interface) -> usize
+    ensures value { result ≡ link_room interface.now.inner.hardware + interface.now.inner.mtu }
+    ensures least { 576 ≤ interface.now.inner.mtu }
+{
+    let link = match interface.hardware_addr() {
+        HardwareAddress::Ip => 0,
+        HardwareAddress::Ethernet(_) => 14,
+    };
+    link + interface.context().mtu()
+}
+
+/// How many frames a poll of this budget sends at most: in answer to each frame that it takes, and in each pass a piece of a datagram
+/// and a packet of each socket.
+fn most_sends(budget: u16, sockets: &SocketSet<Socket>) -> Option<usize>
+    ensures { IfSome result (λ count. count ≡ budget * (length (places sockets.now) + 2)) }
+{
+    let each = sockets.sockets.as_slice().len().checked_add(2)?;
+    each.checked_mul(budget as usize)
+}
+
+/// Polls a host for whose frames buffers lie ready: its port refuses none.
+fn poll_ready(
+    interface: &mut Interface,
+    port: &mut Port,
+    sockets: &mut SocketSet<Socket>,
+    moment: Instant,
+    budget: u16,
+) -> bool
+    requires moment { IsMoment moment }
+    requires count { budget * (length (places sockets.old) + 2) ≤ port.old.ready }
+    requires size { link_room interface.old.inner.hardware + interface.old.inner.mtu ≤ port.old.size }
+    requires least { 576 ≤ interface.old.inner.mtu }
+    ensures polls { Polls PortMove moment budget (state port.old interface.old (places sockets.old)) result
+        (state port.new interface.new (places sockets.new)) }
+    ensures none_denied { port.new.link.refusals ≡ port.old.link.refusals }
+{
+    match interface.poll(moment, port, sockets, budget) {
+        PollResult::None => false,
+        PollResult::SocketStateChanged => true,
+    }
+}
+
+impl Host {
+    /// Polls the host at a moment. Room for all that it may send is made first: want of memory refuses the poll whole. What is left of
+    /// the room stays for later polls.
+    pub fn poll(&mut self, moment: Instant, budget: u16) -> Result<bool, AllocError>
+        requires { IsMoment moment }
+        ensures polls { IfOk result (λ changed. PollsAt self.old moment budget changed self.new) }
+        ensures unchanged { OnErr result (self.new ≡ self.old) }
+    {
+        let count = most_sends(budget, &self.sockets).ok_or(AllocError)?;
+        self.port.prepare(count, longest_frame(&self.interface))?;
+        Ok(poll_ready(
+            &mut self.interface,
+            &mut self.port,
+            &mut self.sockets,
+            moment,
+            budget,
+        ))
+    }
+}

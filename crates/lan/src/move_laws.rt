@@ -1,0 +1,94 @@
+//! What one host does, in a poll and beside it, is a run of moves over packets.
+ghost use Rattle.std.specs.Prelude.{◌≡◌, ◌∷◌, Bool, IfSome, List, Option, Some, ℕ};
+ghost use Rattle.sockets.specs.Raw as Raws;
+ghost use Rattle.sockets.specs.Raw.{RawValue};
+ghost use Rattle.lan.specs.Worlds.Link.Made.{CarriesNone, bytes_of};
+ghost use Rattle.interface.specs.Ip.{normal};
+ghost use Rattle.interface.specs.IpRepr.{IpRepr};
+ghost use Rattle.lan.specs.Worlds.AtLink.Arrives.{Answers, Arrived, Brings};
+ghost use Rattle.lan.specs.Worlds.AtLink.Delivered.{Places};
+ghost use Rattle.lan.specs.Worlds.AtLink.Handed.{handed_reply};
+ghost use Rattle.lan.specs.Worlds.AtLink.Incoming.{IncomingValue};
+ghost use Rattle.lan.specs.Worlds.AtLink.Inner.{InnerValue};
+ghost use Rattle.sockets.specs.Socket.{Offers, offered_by};
+ghost use Rattle.sockets.specs.declared.socket.Socket.{Socket};
+ghost use Rattle.lan_base.specs.Carried.{names_tcp_or_udp};
+ghost use Rattle.lan.specs.Worlds.Moves.Fit.{AreFit, IsFit};
+ghost use Rattle.lan.specs.Worlds.Moves.Follows.{Comes, IsNetOf, IsNoPoll};
+ghost use Rattle.lan.specs.Worlds.Moves.Made.{IsWide};
+ghost use Rattle.lan.specs.Worlds.Moves.Protocols.{NamesItsPayload};
+ghost use Rattle.lan.specs.Worlds.Moves.Raws.{OfEach, QueuesForeign};
+ghost use Rattle.lan.specs.Worlds.AtLink.History.{Entry};
+ghost use Rattle.lan.specs.Worlds.AtLink.Kinds.{kind_of};
+ghost use Rattle.lan.specs.Worlds.AtLink.Side.{Side};
+ghost use Rattle.lan.specs.Worlds.AtLink.Parties.{Net};
+ghost use Rattle.lan.specs.Worlds.AtLink.Fresh.{IsFreshWorld};
+ghost use Rattle.lan.specs.Worlds.AtLink.Runs.{Leads, Starts, WorldRun, unused_both};
+ghost use Rattle.lan.specs.Worlds.AtLink.Station.{Stations, station};
+ghost use Rattle.lan_base.specs.Medium.TheVariants as Medium;
+ghost use Rattle.sockets.specs.WellFormed.{IsWellFormed};
+ghost use Rattle.sockets.specs.Context.{ContextValue};
+ghost use Rattle.sockets.specs.Packet.{PacketValue, PayloadValue};
+ghost use Rattle.sockets.specs.Offer as Answer;
+ghost use Rattle.sockets.specs.declared.socket.Socket.TheVariants as Is;
+
+/// Law: each event that is taken, but for a poll, is a move: a call is one of the socket at its place, and any other event leaves every
+/// socket as it was.
+#[tactic(auto, using(crate::proofs::Worlds::Moves::Worlds::rest_comes))]
+pub fn events_are_moves()
+    ensures { (net : Net) (old new : Stations) (past : List Entry) (e : Entry)
+        → IsNetOf net old past
+        → IsNoPoll (kind_of e.event)
+        → Leads past old e new
+        → Comes (names_tcp_or_udp Medium.Ip) net new (e ∷ past) }
+{}
+
+/// Law: wherever two hosts came from a fresh start, no raw socket of theirs has a packet of TCP or UDP in its queue, nor a piece of an
+/// IPv6 datagram. A packet that such a socket offers is neither to whoever reads it, behind extension headers either.
+pub fn raw_sockets_send_no_tcp_or_udp()
+    ensures queues { (starts : Starts) (history : List Entry) (hosts : Stations) (side : Side)
+        → IsFreshWorld starts
+        → WorldRun history (unused_both starts) hosts
+        → OfEach QueuesForeign (station hosts side).places }
+    ensures offers { (cx : ContextValue) (v v' : RawValue) (answer : Answer.Offer) (p : PacketValue)
+        → QueuesForeign (Is.Raw v)
+        → Raws.Offers cx v answer v'
+        → v'.offered ≡ Some p
+        → CarriesNone (normal p.header) (bytes_of p) }
+{}
+
+/// Law: the header of each packet that a socket offers, and of each that a host answers, names what the packet carries: TCP, UDP, or the
+/// control messages of its family.
+pub fn packets_name_what_they_carry()
+    ensures offered { (cx : ContextValue) (s s' : Socket) (answer : Answer.Offer) (p : PacketValue)
+        → Offers cx s answer s'
+        → offered_by s' ≡ Some p
+        → NamesItsPayload p }
+    ensures answered { (i : InnerValue) (places : Places) (ip : IpRepr) (payload : List ℕ) (taken : Bool) (carried : Option PayloadValue)
+        → IfSome (handed_reply i places ip payload taken carried) NamesItsPayload }
+{}
+
+/// Law: wherever two hosts came from a fresh start, each of their sockets is fit to send: no raw packet that it queues is of TCP or UDP, no
+/// datagram that it queues goes to port 0, and no end of its connection has that port.
+pub fn sockets_stay_fit()
+    ensures { (starts : Starts) (history : List Entry) (hosts : Stations)
+        → IsFreshWorld starts
+        → WorldRun history (unused_both starts) hosts
+        → AreFit hosts }
+{}
+
+/// Law: what a fit socket offers, and what answers a frame, another host can read, since a poll sends well-formed packets alone: the header
+/// names what is carried, and each field is a number of its width.
+pub fn packets_can_be_read()
+    ensures offered { (cx : ContextValue) (s s' : Socket) (answer : Answer.Offer) (p : PacketValue)
+        → IsFit s
+        → Offers cx s answer s'
+        → offered_by s' ≡ Some p
+        → IsWellFormed p
+        → IsWide p }
+    ensures answered { (i : InnerValue) (places : Places) (content : Option IncomingValue) (a : Arrived) (p : PacketValue)
+        → Brings i places content a
+        → a.reply ≡ Some (Answers p)
+        → IsWellFormed p
+        → IsWide p }
+{}

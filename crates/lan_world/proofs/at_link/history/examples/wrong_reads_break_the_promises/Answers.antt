@@ -1,8 +1,0 @@
-use Rattle.lan_world.proofs.AtLink.TakenLemmas.{another_port, another_number}
-use Rattle.lan_world.proofs.at_link.history.examples.wrong_reads_break_the_promises.Goals as goal
-
-pub returns-clause-ports_unread : goal.returns-clause-ports_unread
-returns-clause-ports_unread c = another_port
-
-pub returns-clause-any_acknowledgement : goal.returns-clause-any_acknowledgement
-returns-clause-any_acknowledgement c = another_number

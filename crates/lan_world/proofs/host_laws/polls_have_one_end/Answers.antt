@@ -1,5 +1,0 @@
-use Rattle.lan_world.proofs.Hosts.Outcomes.{polls_once}
-use Rattle.lan_world.proofs.host_laws.polls_have_one_end.Goals as goal
-
-pub returns : goal.returns
-returns c = polls_once c.one_offer.ensures

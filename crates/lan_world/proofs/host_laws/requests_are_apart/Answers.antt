@@ -1,5 +1,0 @@
-use Rattle.lan_world.proofs.Hosts.Asking.{run_apart}
-use Rattle.lan_world.proofs.host_laws.requests_are_apart.Goals as goal
-
-pub returns : goal.returns
-returns c = run_apart

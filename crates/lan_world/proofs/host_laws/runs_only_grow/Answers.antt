@@ -1,5 +1,0 @@
-use Rattle.lan_world.proofs.Hosts.Going.{goes_on_along}
-use Rattle.lan_world.proofs.host_laws.runs_only_grow.Goals as goal
-
-pub returns : goal.returns
-returns c = λ history from to side run. goes_on_along history from to run side

@@ -1,5 +1,0 @@
-use Rattle.lan_world.proofs.Keeps.{is_link}
-use Rattle.lan_world.proofs.laws.polls_take_what_was_made.Goals as goal
-
-pub returns : goal.returns
-returns c = λ q others base before first start next other. is_link q others base first before start next other

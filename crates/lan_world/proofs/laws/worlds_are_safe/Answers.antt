@@ -1,5 +1,0 @@
-use Rattle.lan_world.proofs.Runs.{runs_safe}
-use Rattle.lan_world.proofs.laws.worlds_are_safe.Goals as goal
-
-pub returns : goal.returns
-returns c = λ starts history hosts fresh typed ran. runs_safe starts fresh history hosts typed ran

@@ -1,9 +1,0 @@
--- What is asked of the hosts and their link over a whole run.
-use Rattle.std.specs.Prelude.{[]}
-use Rattle.lan_world.specs.AtLink.Parties.{Net}
-use Rattle.lan_world.specs.AtLink.Runs.{Starts, unused}
-use Rattle.lan_world.specs.AtLink.Safe.{party_of}
-
--- both hosts as they start, of which nothing was made
-abbrev pub first_net : Starts → Net
-first_net starts = record { a = party_of (unused starts.a); b = party_of (unused starts.b); history = [] }
