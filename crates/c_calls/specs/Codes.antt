@@ -1,13 +1,13 @@
 -- Why a call is refused: the numbers that C knows, and what the errors of the calls, of a link and of an interface become.
 use Rattle.std.specs.Prelude.{ℕ, Result, Ok, Err}
-use Rattle.sockets.specs.BindError.{BindError}
-use Rattle.sockets.specs.BindError.TheVariants as Bind
-use Rattle.sockets.specs.SendError.{SendError}
-use Rattle.sockets.specs.SendError.TheVariants as Send
-use Rattle.sockets.specs.RawSendError as Raws
-use Rattle.sockets.specs.RawSendError.TheVariants as RawSend
-use Rattle.sockets.specs.RecvError.{RecvError}
-use Rattle.sockets.specs.RecvError.TheVariants as Recv
+use Rattle.sockets.specs.declared.error.BindError.{BindError}
+use Rattle.sockets.specs.declared.error.BindError.TheVariants as Bind
+use Rattle.sockets.specs.declared.error.SendError.{SendError}
+use Rattle.sockets.specs.declared.error.SendError.TheVariants as Send
+use Rattle.sockets.specs.declared.raw.SendError as Raws
+use Rattle.sockets.specs.declared.raw.SendError.TheVariants as RawSend
+use Rattle.sockets.specs.declared.error.RecvError.{RecvError}
+use Rattle.sockets.specs.declared.error.RecvError.TheVariants as Recv
 use Rattle.tcp_control.specs.declared.error.ConnectError.{ConnectError}
 use Rattle.tcp_control.specs.declared.error.ConnectError.TheVariants as Connect
 use Rattle.tcp_control.specs.declared.error.ListenError.{ListenError}

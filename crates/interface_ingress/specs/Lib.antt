@@ -46,8 +46,8 @@ pub use Rattle.sockets.specs.Context
 pub use Rattle.sockets.specs.SocketValue
 pub use Rattle.sockets.specs.LentPacket
 pub use Rattle.sockets.specs.Udp
-pub use Rattle.sockets.specs.UdpMetadata
-pub use Rattle.sockets.specs.SendError
+pub use Rattle.sockets.specs.declared.udp.UdpMetadata
+pub use Rattle.sockets.specs.declared.error.SendError
 pub use Rattle.sockets.specs.Offer
 pub use Rattle.sockets.specs.Offers
 pub use Rattle.sockets.specs.Packet

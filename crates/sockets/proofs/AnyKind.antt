@@ -1,19 +1,19 @@
 -- The laws of a socket of any kind, from those of each kind.
 use Rattle.std.proofs.Common.{◌≡◌, ℕ, false, ℤ, List, Option, Some, None, is_some, if◌then◌else◌, IsSome, ◌↔◌, sym, ap, ◌∙◌}
-use Rattle.datagram_sockets.specs.Packets.{first}
-use Rattle.datagram_sockets.specs.Context.{ContextValue}
-use Rattle.datagram_sockets.specs.BaseOffers.{IsBefore}
-use Rattle.datagram_sockets.specs.Packet.{PacketValue}
-use Rattle.datagram_sockets.specs.Offer as Answer
-use Rattle.datagram_sockets.specs.Offer.TheVariants as Offer
+use Rattle.net_containers.specs.Packets.{first}
+use Rattle.socket_base.specs.Context.{ContextValue}
+use Rattle.socket_base.specs.Offers.{IsBefore}
+use Rattle.socket_base.specs.Packet.{PacketValue}
+use Rattle.socket_base.specs.declared.offer.Offer as Answer
+use Rattle.socket_base.specs.declared.offer.Offer.TheVariants as Offer
 use Rattle.tcp_socket.specs.PollAt.TheVariants as At
-use Rattle.datagram_sockets.specs.Icmp as Icmps
-use Rattle.datagram_sockets.specs.Raw as Raws
-use Rattle.datagram_sockets.specs.Udp as Udps
-use Rattle.datagram_sockets.specs.Offers.{HasPacket, OffersFirst, OffersBy, answer_with, changed_by}
-use Rattle.datagram_sockets.specs.SocketValue as Datagrams
-use Rattle.datagram_sockets.specs.SocketValue.{SocketValue}
-use Rattle.datagram_sockets.proofs.OfferLaws as datagrams
+use Rattle.sockets.specs.Icmp as Icmps
+use Rattle.sockets.specs.Raw as Raws
+use Rattle.sockets.specs.Udp as Udps
+use Rattle.sockets.specs.Offers.{HasPacket, OffersFirst, OffersBy, answer_with, changed_by}
+use Rattle.sockets.specs.SocketValue as Datagrams
+use Rattle.sockets.specs.SocketValue.{SocketValue}
+use Rattle.sockets.proofs.OfferLaws as datagrams
 use Rattle.tcp_model.specs.Value.{TcpValue}
 use Rattle.dhcpv4.proofs.OneMessage.{one_offered}
 use Rattle.dhcpv4.proofs.Turns as Dhcps

@@ -1,10 +1,10 @@
 -- What an offer of a client answers and leaves.
 use Rattle.std.proofs.Common.{◌≡◌, true, false, if◌then◌else◌, int_lt, int_le, Option, Some, None, IsSome, refl, sym, ap, ◌∙◌, subst}
 use Rattle.ip_wire.specs.IpAddress.{IpAddress}
-use Rattle.datagram_sockets.specs.Context.{ContextValue}
-use Rattle.datagram_sockets.specs.Offer as Answer
-use Rattle.datagram_sockets.specs.Offer.TheVariants as Offer
-use Rattle.datagram_sockets.specs.Offers.{HasPacket, changed_by}
+use Rattle.socket_base.specs.Context.{ContextValue}
+use Rattle.socket_base.specs.declared.offer.Offer as Answer
+use Rattle.socket_base.specs.declared.offer.Offer.TheVariants as Offer
+use Rattle.sockets.specs.Offers.{HasPacket, changed_by}
 use Rattle.dhcpv4.specs.Offers as DhcpOffers
 use Rattle.dhcpv4.specs.States as DhcpStates
 use Rattle.dhcpv4.specs.Value as Dhcps

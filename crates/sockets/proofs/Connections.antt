@@ -1,11 +1,11 @@
 -- What an offer of a connection answers and leaves.
 use Rattle.std.proofs.Common.{◌≡◌, ℕ, ◌==◌, Bool, true, false, if◌then◌else◌, Option, Some, None, refl, sym, ap, ◌∙◌}
 use Rattle.ip_wire.specs.TcpHeader.{TcpHeader}
-use Rattle.datagram_sockets.specs.Context.{ContextValue}
-use Rattle.datagram_sockets.specs.BaseOffers.{Offered, IsBefore}
-use Rattle.datagram_sockets.specs.Offer.{Offer}
-use Rattle.datagram_sockets.specs.Offer.TheVariants as Answer
-use Rattle.datagram_sockets.specs.Offers.{HasPacket, changed_by}
+use Rattle.socket_base.specs.Context.{ContextValue}
+use Rattle.socket_base.specs.Offers.{Offered, IsBefore}
+use Rattle.socket_base.specs.declared.offer.Offer.{Offer}
+use Rattle.socket_base.specs.declared.offer.Offer.TheVariants as Answer
+use Rattle.sockets.specs.Offers.{HasPacket, changed_by}
 use Rattle.tcp_model.specs.declared.block.Block.{Block}
 use Rattle.tcp_model.specs.EndpointPair.{EndpointPair}
 use Rattle.tcp_model.specs.OfferKind.{OfferKind}

@@ -1,8 +1,8 @@
 -- A socket of any kind, taken for one of a kind.
 use Rattle.std.specs.Prelude.{Option, None, Some}
-use Rattle.datagram_sockets.specs.Udp.{UdpValue}
-use Rattle.datagram_sockets.specs.Icmp.{IcmpValue}
-use Rattle.datagram_sockets.specs.Raw.{RawValue}
+use Rattle.sockets.specs.Udp.{UdpValue}
+use Rattle.sockets.specs.Icmp.{IcmpValue}
+use Rattle.sockets.specs.Raw.{RawValue}
 use Rattle.tcp_model.specs.Value.{TcpValue}
 use Rattle.dhcpv4.specs.Value.{DhcpValue}
 use Rattle.dns_socket.specs.Value.{DnsValue}

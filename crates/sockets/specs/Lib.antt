@@ -1,30 +1,32 @@
 -- Of sockets of any kind, and what contracts of the members cite, for the crates above: `Rattle.sockets.specs.Udp`,
--- `Rattle.sockets.specs.UdpMetadata.{UdpMetadata}`.
+-- `Rattle.sockets.specs.declared.udp.UdpMetadata.{UdpMetadata}`.
 pub mod AnySocket
 pub mod Socket
+pub mod SocketValue
+pub mod Offers
+pub mod Dispatch
+pub mod Held
+pub mod Lends
+pub mod Header
+pub mod Udp
+pub mod Icmp
+pub mod IcmpKept
+pub mod Same
+pub mod Raw
 pub use Rattle.tcp_socket.specs.Addresses
-pub use Rattle.datagram_sockets.specs.Context
-pub use Rattle.datagram_sockets.specs.BaseOffers as Polling
-pub use Rattle.datagram_sockets.specs.Packet
-pub use Rattle.datagram_sockets.specs.Offer
+pub use Rattle.socket_base.specs.Context
+pub use Rattle.socket_base.specs.Offers as Polling
+pub use Rattle.socket_base.specs.Packet
+pub use Rattle.socket_base.specs.declared.offer.Offer
+pub use Rattle.net_containers.specs.Packets
+pub use Rattle.icmpv4.specs.declared.message.Icmpv4DstUnreachable
+pub use Rattle.icmpv6.specs.declared.reason.Icmpv6DstUnreachable
+pub use Rattle.icmpv6.specs.declared.reason.Icmpv6ParamProblem
+pub use Rattle.icmpv6.specs.Ndisc
 pub use Rattle.tcp_socket.specs.PollAt
 pub use Rattle.tcp_socket.specs.IpPayload
 pub use Rattle.tcp_socket.specs.Packet as LentPacket
 pub use Rattle.tcp_socket.specs.Text
-pub use Rattle.datagram_sockets.specs.SocketValue
-pub use Rattle.datagram_sockets.specs.Offers
-pub use Rattle.datagram_sockets.specs.Dispatch
-pub use Rattle.datagram_sockets.specs.Header
-pub use Rattle.datagram_sockets.specs.Udp
-pub use Rattle.datagram_sockets.specs.Icmp
-pub use Rattle.datagram_sockets.specs.Raw
-pub use Rattle.datagram_sockets.specs.Same
-pub use Rattle.datagram_sockets.specs.declared.udp.UdpMetadata
-pub use Rattle.datagram_sockets.specs.declared.icmp.Endpoint
-pub use Rattle.datagram_sockets.specs.declared.error.BindError
-pub use Rattle.datagram_sockets.specs.declared.error.RecvError
-pub use Rattle.datagram_sockets.specs.declared.error.SendError
-pub use Rattle.datagram_sockets.specs.declared.raw.SendError as RawSendError
 pub use Rattle.tcp_model.specs.Calls as TcpCalls
 pub use Rattle.tcp_model.specs.Settings as TcpSettings
 pub use Rattle.tcp_model.specs.Arrival as TcpArrival

@@ -4,17 +4,17 @@ use Rattle.std.specs.Prelude.{◌≡◌, ℕ, Bool, false, List, Option, IfSome}
 use Rattle.ip_wire.specs.IpAddress.{IpAddress}
 use Rattle.ip_wire.specs.IpRepr.{IpRepr}
 use Rattle.ip_wire.specs.UdpRepr.{UdpRepr}
-use Rattle.datagram_sockets.specs.Icmpv4Header.{Icmpv4Header}
-use Rattle.datagram_sockets.specs.Icmpv6.{MessageValue}
-use Rattle.datagram_sockets.specs.Context.{ContextValue}
-use Rattle.datagram_sockets.specs.Packet.{PacketValue, IsSendable}
-use Rattle.datagram_sockets.specs.Offer.{Offer}
+use Rattle.icmpv4.specs.declared.header.Icmpv4Header.{Icmpv4Header}
+use Rattle.icmpv6.specs.Icmpv6.{MessageValue}
+use Rattle.socket_base.specs.Context.{ContextValue}
+use Rattle.socket_base.specs.Packet.{PacketValue, IsSendable}
+use Rattle.socket_base.specs.declared.offer.Offer.{Offer}
 use Rattle.tcp_socket.specs.PollAt.{PollAt}
-use Rattle.datagram_sockets.specs.SocketValue as Datagrams
-use Rattle.datagram_sockets.specs.Offers as Places
-use Rattle.datagram_sockets.specs.Udp as Udps
-use Rattle.datagram_sockets.specs.Icmp as Icmps
-use Rattle.datagram_sockets.specs.Raw as Raws
+use Rattle.sockets.specs.SocketValue as Datagrams
+use Rattle.sockets.specs.Offers as Places
+use Rattle.sockets.specs.Udp as Udps
+use Rattle.sockets.specs.Icmp as Icmps
+use Rattle.sockets.specs.Raw as Raws
 use Rattle.ip_wire.specs.TcpHeader.{TcpHeader}
 use Rattle.tcp_model.specs.Due as Tcps
 use Rattle.tcp_model.specs.Names as TcpNames

@@ -8,8 +8,7 @@ ghost use Rattle.sockets.specs.declared.socket.Socket.TheVariants as Kind;
 ghost use Rattle.sockets.specs.contracts.socket.Socket.{the_row};
 
 use crate::socket::Socket;
-use crate::{dhcp, dns, tcp};
-use datagram_sockets::{icmp, raw, udp};
+use crate::{dhcp, dns, icmp, raw, tcp, udp};
 
 /// A socket of some kind.
 pub trait AnySocket: Sized {

@@ -1,14 +1,22 @@
 //! Laws of sockets of any kind, and those of each kind.
-ghost use Rattle.std.specs.Prelude.{◌≡◌, ◌↔◌, ℤ, false, IsSome};
-ghost use Rattle.datagram_sockets.specs.Context.{ContextValue};
-ghost use Rattle.datagram_sockets.specs.BaseOffers.{IsBefore};
-ghost use Rattle.datagram_sockets.specs.Offer as Answer;
-ghost use Rattle.datagram_sockets.specs.Offer.TheVariants as Offer;
-ghost use Rattle.datagram_sockets.specs.Offers.{HasPacket, changed_by};
+ghost use Rattle.std.specs.Prelude.{◌≡◌, ◌↔◌, ℤ, false, IsSome, IsTrue};
+ghost use Rattle.socket_base.specs.Context.{ContextValue};
+ghost use Rattle.socket_base.specs.Offers.{IsBefore};
+ghost use Rattle.socket_base.specs.declared.offer.Offer as Answer;
+ghost use Rattle.socket_base.specs.declared.offer.Offer.TheVariants as Offer;
+ghost use Rattle.sockets.specs.Offers.{HasPacket, changed_by};
 ghost use Rattle.sockets.specs.Socket.{Offers, offered_by, settled, poll_of, IsSameButForPlaces, IsOfDatagrams};
+ghost use Rattle.sockets.specs.declared.error.BindError.{BindError};
+ghost use Rattle.sockets.specs.declared.error.RecvError.{RecvError};
+ghost use Rattle.sockets.specs.declared.error.SendError.{SendError};
+ghost use Rattle.sockets.specs.declared.icmp.Endpoint.{Endpoint};
+ghost use Rattle.sockets.specs.declared.udp.UdpMetadata.{UdpMetadata};
 ghost use Rattle.sockets.specs.declared.socket.Socket.{Socket};
 
-use datagram_sockets::{icmp, raw, udp};
+use crate::error::{BindError, RecvError, SendError};
+use crate::icmp::Endpoint;
+use crate::udp::UdpMetadata;
+use crate::{icmp, raw, udp};
 
 /// Law: where the socket doesn't want to be polled at a moment yet, an offer at that moment is silent and
 /// changes nothing, but that an open offer is settled as not sent.
@@ -63,3 +71,13 @@ pub fn one_offer()
     icmp::one_offer();
     udp::one_offer();
 }
+
+/// Law: `==` says of the metadata of two datagrams, of two endpoints of ICMP sockets, and of two errors
+/// whether they are the same.
+pub fn equal()
+    ensures metadata { (a b : UdpMetadata) → IsTrue (⟦<UdpMetadata as PartialEq>⟧.eq a b) ↔ (a ≡ b) }
+    ensures endpoints { (a b : Endpoint) → IsTrue (⟦<Endpoint as PartialEq>⟧.eq a b) ↔ (a ≡ b) }
+    ensures bind { (a b : BindError) → IsTrue (⟦<BindError as PartialEq>⟧.eq a b) ↔ (a ≡ b) }
+    ensures send { (a b : SendError) → IsTrue (⟦<SendError as PartialEq>⟧.eq a b) ↔ (a ≡ b) }
+    ensures recv { (a b : RecvError) → IsTrue (⟦<RecvError as PartialEq>⟧.eq a b) ↔ (a ≡ b) }
+{}

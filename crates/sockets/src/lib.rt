@@ -1,6 +1,6 @@
 //! The sockets of the stack, and one type for all kinds.
 //!
-//! It passes on its members, `socket_base`, `datagram_sockets`, `tcp_model`, `tcp_socket`, `dhcpv4` and `dns_socket`: a crate above names
+//! It passes on its members, `socket_base`, `tcp_model`, `tcp_socket`, `dhcpv4` and `dns_socket`: a crate above names
 //! `sockets` alone, in `crates.txt` and in its code, as `sockets::udp::Socket` and `sockets::dhcp::Socket`. In clauses, `specs/` and `proofs/` the members'
 //! definitions are `Rattle.sockets.specs.Udp`, `.Packet`, `.Context` and so on.
 #![tactic(auto)]
@@ -8,13 +8,17 @@
 mod any_socket;
 pub mod dhcp;
 pub mod dns;
+mod error;
+mod header;
+pub mod icmp;
 pub mod laws;
+mod queues;
+pub mod raw;
 mod socket;
 pub mod tcp;
+pub mod udp;
 
 pub use any_socket::AnySocket;
-pub use datagram_sockets::{
-    Context, IpPayload, Offer, Packet, PollAt, addresses, icmp, raw, udp, widths,
-};
 pub use socket::Socket;
+pub use socket_base::{Context, IpPayload, Offer, Packet, PollAt, addresses, widths};
 pub use tcp_socket::SegmentText;

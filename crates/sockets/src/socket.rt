@@ -1,10 +1,10 @@
 //! A socket of any kind.
 ghost use Rattle.std.specs.Prelude.{◌≡◌};
-ghost use Rattle.datagram_sockets.specs.Packet.{option_value};
+ghost use Rattle.socket_base.specs.Packet.{option_value};
 ghost use Rattle.sockets.specs.Socket.{Offers, offered_by, settled, poll_of, IfSendable};
 
-use crate::{dhcp, dns, tcp};
-use datagram_sockets::{Context, Offer, Packet, PollAt, icmp, raw, udp};
+use crate::{dhcp, dns, icmp, raw, tcp, udp};
+use socket_base::{Context, Offer, Packet, PollAt};
 
 /// A socket of any kind.
 #[derive(Debug, Drop)]

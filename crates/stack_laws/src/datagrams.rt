@@ -1,15 +1,15 @@
 //! What datagram sockets are given and answer, by the paths of each kind.
 ghost use Rattle.std.specs.Prelude.{◌≡◌, ◌↔◌, IsTrue};
-ghost use Rattle.datagram_sockets.specs.declared.error.BindError.{BindError};
-ghost use Rattle.datagram_sockets.specs.declared.error.RecvError.{RecvError};
-ghost use Rattle.datagram_sockets.specs.declared.error.SendError.{SendError};
-ghost use Rattle.datagram_sockets.specs.declared.icmp.Endpoint.{Endpoint};
-ghost use Rattle.datagram_sockets.specs.declared.udp.UdpMetadata.{UdpMetadata};
+ghost use Rattle.sockets.specs.declared.error.BindError.{BindError};
+ghost use Rattle.sockets.specs.declared.error.RecvError.{RecvError};
+ghost use Rattle.sockets.specs.declared.error.SendError.{SendError};
+ghost use Rattle.sockets.specs.declared.icmp.Endpoint.{Endpoint};
+ghost use Rattle.sockets.specs.declared.udp.UdpMetadata.{UdpMetadata};
 
-use datagram_sockets::laws;
 use sockets::icmp::{
     BindError as IcmpBindError, Endpoint, RecvError as IcmpRecvError, SendError as IcmpSendError,
 };
+use sockets::laws;
 use sockets::raw::{RecvError as RawRecvError, SendError as RawSendError};
 use sockets::udp::{
     BindError as UdpBindError, RecvError as UdpRecvError, SendError as UdpSendError, UdpMetadata,

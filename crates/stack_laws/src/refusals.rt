@@ -1,9 +1,9 @@
 //! What a refused call of a socket answers and leaves, as a caller sees it.
 ghost use Rattle.std.specs.Prelude.{◌≡◌, ◌↔◌, length, Err, None, Some, IfErr, IfOk, IsErr, OnErr};
 ghost use Rattle.net_base.specs.Packets.{first};
-ghost use Rattle.datagram_sockets.specs.Udp.{bind_answer, bind_after, send_answer, send_after};
-ghost use Rattle.datagram_sockets.specs.SocketValue.{recv_answer, recv_after, recv_written};
-ghost use Rattle.datagram_sockets.specs.declared.error.RecvError.TheVariants as Recv;
+ghost use Rattle.sockets.specs.Udp.{bind_answer, bind_after, send_answer, send_after};
+ghost use Rattle.sockets.specs.SocketValue.{recv_answer, recv_after, recv_written};
+ghost use Rattle.sockets.specs.declared.error.RecvError.TheVariants as Recv;
 ghost use Rattle.tcp_model.specs.Calls as Calls;
 ghost use Rattle.tcp_model.specs.Value.{unoffered};
 

@@ -2,11 +2,11 @@
 use Rattle.std.proofs.Common.{◌≡◌, ℕ, nat_lt, if◌then◌else◌, Bool, true, false, List, ◌++◌, length, take, drop, ◌≤◌, subst, arith, Option, None, Some, Result}
 use Rattle.std.proofs.Common.{Ok, Err, ap, sym}
 use Rattle.std.proofs.Math.Seq.{take-append_seam}
-use Rattle.datagram_sockets.specs.SocketValue.{read_answer_by, read_written_by}
-use Rattle.datagram_sockets.specs.Udp.{UdpValue, send_after}
-use Rattle.datagram_sockets.specs.declared.udp.UdpMetadata.{UdpMetadata}
-use Rattle.datagram_sockets.specs.declared.error.RecvError.{RecvError}
-use Rattle.datagram_sockets.specs.declared.error.RecvError.TheVariants as Recv
+use Rattle.sockets.specs.SocketValue.{read_answer_by, read_written_by}
+use Rattle.sockets.specs.Udp.{UdpValue, send_after}
+use Rattle.sockets.specs.declared.udp.UdpMetadata.{UdpMetadata}
+use Rattle.sockets.specs.declared.error.RecvError.{RecvError}
+use Rattle.sockets.specs.declared.error.RecvError.TheVariants as Recv
 use Rattle.std.proofs.lemmas.List.{length-take-le}
 use Rattle.tcp_model.specs.Calls as Streams
 use Rattle.tcp_model.specs.RecvError as StreamErrors

@@ -1,9 +1,9 @@
 -- What the echo services make of their sockets (RFC 862).
 use Rattle.std.specs.Prelude.{ℕ, nat_lt, min, if◌then◌else◌, List, length, take, Option, None, Some}
-use Rattle.datagram_sockets.specs.Packets.{first}
-use Rattle.datagram_sockets.specs.SocketValue as Datagrams
-use Rattle.datagram_sockets.specs.Udp.{UdpValue, send_after}
-use Rattle.datagram_sockets.specs.declared.udp.UdpMetadata.{UdpMetadata}
+use Rattle.sockets.specs.Packets.{first}
+use Rattle.sockets.specs.SocketValue as Datagrams
+use Rattle.sockets.specs.Udp.{UdpValue, send_after}
+use Rattle.sockets.specs.declared.udp.UdpMetadata.{UdpMetadata}
 use Rattle.tcp_model.specs.Calls as Streams
 use Rattle.tcp_model.specs.RecvError.{RecvError}
 use Rattle.tcp_model.specs.RecvError.TheVariants as Recv

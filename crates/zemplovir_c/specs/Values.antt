@@ -14,7 +14,7 @@ use Rattle.ip_wire.specs.Protocol.{protocol_of}
 use Rattle.ip_wire.specs.TcpTimestampGenerator.{TcpTimestampGenerator}
 use Rattle.sockets.specs.CongestionControl.{CongestionControl}
 use Rattle.sockets.specs.CongestionControl.TheVariants as Control
-use Rattle.sockets.specs.UdpMetadata.{UdpMetadata}
+use Rattle.sockets.specs.declared.udp.UdpMetadata.{UdpMetadata}
 use Rattle.sockets.specs.State.{State}
 use Rattle.sockets.specs.State.TheVariants as At
 use Rattle.c_calls.specs.declared.code.Code.{Code}

@@ -2,7 +2,7 @@
 ghost use Rattle.std.specs.Prelude.{◌≡◌, length};
 ghost use Rattle.sockets.specs.AnySocket.{as_icmp};
 ghost use Rattle.sockets.specs.Icmp.{send_answer, send_after};
-ghost use Rattle.sockets.specs.Endpoint.TheVariants as Bound;
+ghost use Rattle.sockets.specs.declared.icmp.Endpoint.TheVariants as Bound;
 ghost use Rattle.sockets.specs.SocketValue.{recv_answer, recv_after, recv_written};
 ghost use Rattle.sockets.specs.declared.socket.Socket.TheVariants as Kind;
 ghost use Rattle.c_calls.specs.Codes.{coded, of_send, of_recv};

@@ -26,10 +26,10 @@ pub mod Fresh
 pub mod Safe
 pub use Rattle.tcp_model.specs.State
 pub use Rattle.tcp_model.specs.Value
-pub use Rattle.datagram_sockets.specs.Icmpv4DstUnreachable
-pub use Rattle.datagram_sockets.specs.Icmpv6DstUnreachable
-pub use Rattle.datagram_sockets.specs.Icmpv6ParamProblem
-pub use Rattle.datagram_sockets.specs.Ndisc
+pub use Rattle.sockets.specs.Icmpv4DstUnreachable
+pub use Rattle.sockets.specs.Icmpv6DstUnreachable
+pub use Rattle.sockets.specs.Icmpv6ParamProblem
+pub use Rattle.sockets.specs.Ndisc
 pub use Rattle.tcp_tie.specs.Endpoints
 pub use Rattle.tcp_tie.specs.Promises
 pub use Rattle.tcp_tie.specs.ReceiveMap

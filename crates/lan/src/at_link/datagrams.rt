@@ -5,7 +5,7 @@ ghost use Rattle.sockets.specs.SocketValue.{recv_after};
 ghost use Rattle.sockets.specs.Udp as udps;
 ghost use Rattle.sockets.specs.Icmp as icmps;
 ghost use Rattle.sockets.specs.Raw as raws;
-ghost use Rattle.sockets.specs.Endpoint.TheVariants.{Ident};
+ghost use Rattle.sockets.specs.declared.icmp.Endpoint.TheVariants.{Ident};
 ghost use Rattle.lan.specs.Worlds.AtLink.Calls.{done_or, bind_fault, send_fault, at_port, datagram_or};
 ghost use Rattle.lan.specs.Worlds.AtLink.Does.{raw_fault, message_or, packet_or};
 ghost use Rattle.lan.specs.Worlds.AtLink.Answers.{IsTwice, brief};

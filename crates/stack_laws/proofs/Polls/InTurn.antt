@@ -7,7 +7,7 @@ use Rattle.net_base.specs.Device.{Move, Empty}
 use Rattle.net_base.specs.Packets.{contents}
 use Rattle.ip_wire.specs.HardwareAddress.{HardwareAddress}
 use Rattle.sockets.specs.Udp.{UdpValue, UdpSettings}
-use Rattle.sockets.specs.UdpMetadata.{UdpMetadata}
+use Rattle.sockets.specs.declared.udp.UdpMetadata.{UdpMetadata}
 use Rattle.interface_ingress.specs.Packet.{PacketValue}
 use Rattle.interface_ingress.specs.Socket.{Socket}
 use Rattle.interface_ingress.specs.WellFormed.{IsWellFormed}

@@ -12,7 +12,7 @@ use Rattle.ip_packet.specs.declared.ip.repr.IpRepr.{IpRepr}
 use Rattle.ip_packet.specs.declared.ip.repr.IpRepr.TheVariants as Ip
 use Rattle.sockets.specs.Header.{header_between, hops}
 use Rattle.sockets.specs.Udp.{UdpSettings, source_for, header_from}
-use Rattle.sockets.specs.UdpMetadata.{UdpMetadata}
+use Rattle.sockets.specs.declared.udp.UdpMetadata.{UdpMetadata}
 use Rattle.socket_base.specs.Packet.{PacketValue, PayloadValue, ControlV4, ControlV6, Bytes, Datagram, Segment, payload_written}
 use Rattle.socket_base.specs.WellFormed.{IsWellFormed, HasWidths}
 use Rattle.socket_base.specs.Widths.{IsPayload}

@@ -10,7 +10,7 @@ use Rattle.ip_wire.specs.IpAddress.{IpAddress}
 use Rattle.ip_wire.specs.IpRepr.{IpRepr}
 use Rattle.ip_wire.specs.IpRepr.TheVariants as Ip
 use Rattle.sockets.specs.Udp.{UdpSettings}
-use Rattle.sockets.specs.UdpMetadata.{UdpMetadata}
+use Rattle.sockets.specs.declared.udp.UdpMetadata.{UdpMetadata}
 use Rattle.interface_ingress.specs.Packet.{PacketValue}
 use Rattle.interface_tables.specs.Best.{at_place}
 use Rattle.interface_tables.specs.Inner.{InnerValue, is_local_broadcast, next_hop, link_by, link_of_hop, link_on, link_address, all_stations, group_station}

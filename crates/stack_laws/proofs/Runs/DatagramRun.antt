@@ -1,8 +1,8 @@
 -- The run of a datagram between bound ports is a run.
 use Rattle.std.proofs.Common.{refl}
 use Rattle.lan.specs.declared.at_link.history.event.Side.TheVariants.{A, B}
-use Rattle.datagram_sockets.specs.Udp.{metadata_to}
-use Rattle.datagram_sockets.proofs.UdpPackets.{found}
+use Rattle.sockets.specs.Udp.{metadata_to}
+use Rattle.sockets.proofs.UdpPackets.{found}
 use Rattle.lan.specs.Worlds.AtLink.Moves.{IsRun}
 use Rattle.lan.specs.Worlds.AtLink.Parties.Socket.{Udp}
 use Rattle.lan.specs.Worlds.AtLink.PacketsSafe.{IsFreshNet}

@@ -6,7 +6,7 @@ use Rattle.net_base.specs.Packets.{contents}
 use Rattle.ip_wire.specs.HardwareAddress.{HardwareAddress}
 use Rattle.ip_wire.specs.Ip.{destination_of}
 use Rattle.sockets.specs.Udp.{UdpValue, UdpSettings, TakesDatagram}
-use Rattle.sockets.specs.UdpMetadata.{UdpMetadata}
+use Rattle.sockets.specs.declared.udp.UdpMetadata.{UdpMetadata}
 use Rattle.ip_packet.specs.Ip as Ips
 use Rattle.ip_packet.specs.declared.udp.repr.UdpRepr.{UdpRepr}
 use Rattle.interface.specs.Taken.{Reader}

@@ -2,10 +2,10 @@
 use Rattle.std.specs.Prelude.{ℕ, true, false, List, [], ◌∷◌, Option, Some, None}
 use Rattle.ip_wire.specs.IpProtocol.TheVariants as Protocol
 use Rattle.ip_wire.specs.IpRepr.{IpRepr}
-use Rattle.datagram_sockets.specs.Packets.{packets_in}
-use Rattle.datagram_sockets.specs.Offers.{left_with}
-use Rattle.datagram_sockets.specs.Udp as Udps
-use Rattle.datagram_sockets.specs.Udp.{UdpValue, metadata_to}
+use Rattle.sockets.specs.Packets.{packets_in}
+use Rattle.sockets.specs.Offers.{left_with}
+use Rattle.sockets.specs.Udp as Udps
+use Rattle.sockets.specs.Udp.{UdpValue, metadata_to}
 use Rattle.tcp_model.specs.Offer.TheVariants as Offer
 use Rattle.lan.specs.declared.at_link.history.answer.Answer.TheVariants as To
 use Rattle.lan.specs.declared.at_link.history.event.Side.{Side}

@@ -6,8 +6,8 @@ use Rattle.ip_wire.specs.SeqNumber.{SeqNumber}
 use Rattle.ip_wire.specs.TcpControl.TheVariants as Bits
 use Rattle.ip_wire.specs.TcpHeader.{TcpHeader}
 use Rattle.net_base.specs.Ring.{ring}
-use Rattle.datagram_sockets.specs.Packet.{PacketValue, PayloadValue}
-use Rattle.datagram_sockets.specs.Packet as Carried
+use Rattle.sockets.specs.Packet.{PacketValue, PayloadValue}
+use Rattle.sockets.specs.Packet as Carried
 use Rattle.tcp_tie.specs.Host.{made_of}
 use Rattle.tcp_model.specs.Arrival.{arrives}
 use Rattle.tcp_model.specs.Offers.{offer_of, offered_packet}

@@ -10,7 +10,7 @@ ghost use Rattle.ip_wire.specs.TcpHeader.{TcpHeader};
 ghost use Rattle.ip_wire.specs.Udp.{IsChecked, payload_of};
 ghost use Rattle.sockets.specs.Context.{ContextValue};
 ghost use Rattle.sockets.specs.Udp.{UdpValue};
-ghost use Rattle.sockets.specs.UdpMetadata.{UdpMetadata};
+ghost use Rattle.sockets.specs.declared.udp.UdpMetadata.{UdpMetadata};
 ghost use Rattle.tcp_model.specs.Names.{accepts};
 ghost use Rattle.tcp_model.specs.Value.{TcpValue};
 ghost use Rattle.interface.specs.State.{State};

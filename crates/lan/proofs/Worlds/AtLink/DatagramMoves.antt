@@ -6,16 +6,16 @@ use Rattle.ip_wire.specs.Ip.{destination_of}
 use Rattle.ip_wire.specs.IpRepr.{IpRepr}
 use Rattle.ip_wire.specs.UdpRepr.{UdpRepr}
 use Rattle.net_base.specs.Packets.{Packets, contents, first, without_first}
-use Rattle.datagram_sockets.specs.Context.{ContextValue}
-use Rattle.datagram_sockets.specs.Packet as Carried
-use Rattle.datagram_sockets.specs.Packet.{PacketValue, PayloadValue}
-use Rattle.datagram_sockets.specs.Offer as Answers
-use Rattle.datagram_sockets.specs.Offers.{IsFound, OffersFirst, left_with}
-use Rattle.datagram_sockets.specs.SocketValue as Datagrams
-use Rattle.datagram_sockets.specs.SocketValue.{left_by}
-use Rattle.datagram_sockets.specs.Udp as Udps
-use Rattle.datagram_sockets.specs.Udp.{UdpValue, UdpSettings, TakesDatagram, takes_address, metadata_of, is_open}
-use Rattle.datagram_sockets.specs.declared.udp.UdpMetadata.{UdpMetadata}
+use Rattle.sockets.specs.Context.{ContextValue}
+use Rattle.sockets.specs.Packet as Carried
+use Rattle.sockets.specs.Packet.{PacketValue, PayloadValue}
+use Rattle.sockets.specs.Offer as Answers
+use Rattle.sockets.specs.Offers.{IsFound, OffersFirst, left_with}
+use Rattle.sockets.specs.SocketValue as Datagrams
+use Rattle.sockets.specs.SocketValue.{left_by}
+use Rattle.sockets.specs.Udp as Udps
+use Rattle.sockets.specs.Udp.{UdpValue, UdpSettings, TakesDatagram, takes_address, metadata_of, is_open}
+use Rattle.sockets.specs.declared.udp.UdpMetadata.{UdpMetadata}
 use Rattle.tcp_model.specs.Value.{TcpValue}
 use Rattle.lan.specs.declared.at_link.history.answer.Answer.{Answer}
 use Rattle.lan.specs.declared.at_link.history.event.Side.{Side}

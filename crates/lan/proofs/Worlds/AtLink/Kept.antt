@@ -5,8 +5,8 @@ use Rattle.std.specs.Prelude.{slice_set, slice_index_or}
 use Rattle.std.proofs.lemmas.Bool.{ne_eqb}
 use Rattle.std.proofs.Math.Seq.{map-set_same}
 use Rattle.std.proofs.Math.ListN.{get_or-map}
-use Rattle.datagram_sockets.specs.Context.{ContextValue}
-use Rattle.datagram_sockets.specs.Udp.{UdpValue}
+use Rattle.sockets.specs.Context.{ContextValue}
+use Rattle.sockets.specs.Udp.{UdpValue}
 use Rattle.tcp_tie.specs.Host.{past_at}
 use Rattle.tcp_tie.specs.Promises.{KeepsAlone}
 use Rattle.tcp_tie.specs.Tie.{Keeps}

@@ -3,7 +3,7 @@ use Rattle.std.proofs.Common.{◌≡◌, ◌⊎◌, inl, inr, ℕ, ◌+◌, ◌%
 use Rattle.std.proofs.Common.{sym, ap, ◌∙◌, subst}
 use Rattle.net_base.specs.Packets.{QueuedPacket, Packets, contents, packet, packets_in, unpadded, unpadded_by, first, first_by, without_first, without_first_by}
 use Rattle.net_base.specs.Packets.{appended, is_full_for, padding_for, start_of}
-use Rattle.datagram_sockets.specs.SocketValue.{taken_in}
+use Rattle.sockets.specs.SocketValue.{taken_in}
 use Rattle.lan.proofs.Worlds.AtLink.Lists.{Each, each_append, each_dropped}
 
 -- the same, or without the first

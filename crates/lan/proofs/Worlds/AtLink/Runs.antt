@@ -5,11 +5,11 @@ use Rattle.ip_wire.specs.IpRepr.{IpRepr}
 use Rattle.ip_wire.specs.TcpHeader.{TcpHeader}
 use Rattle.ip_wire.specs.UdpRepr.{UdpRepr}
 use Rattle.net_base.specs.Packets.{contents}
-use Rattle.datagram_sockets.specs.Context.{ContextValue}
-use Rattle.datagram_sockets.specs.Offer as Answers
-use Rattle.datagram_sockets.specs.SocketValue as Datagrams
-use Rattle.datagram_sockets.specs.Udp as Udps
-use Rattle.datagram_sockets.specs.Udp.{UdpValue}
+use Rattle.sockets.specs.Context.{ContextValue}
+use Rattle.sockets.specs.Offer as Answers
+use Rattle.sockets.specs.SocketValue as Datagrams
+use Rattle.sockets.specs.Udp as Udps
+use Rattle.sockets.specs.Udp.{UdpValue}
 use Rattle.tcp_tie.specs.Safe.{IsPrefixOf}
 use Rattle.tcp_tie.specs.Segment.Control.{Rst}
 use Rattle.tcp_tie.specs.Host.{Made, made_of, past_at, IsAmong, and_answer}

@@ -6,7 +6,7 @@ use Rattle.std.proofs.lemmas.List.{length-append, length-take}
 use Rattle.net_base.specs.Ring.{anchored, enqueued}
 use Rattle.ip_wire.specs.IpEndpoint.{IpEndpoint}
 use Rattle.ip_wire.specs.AddressTests.{is_unspecified}
-use Rattle.datagram_sockets.specs.Context.{ContextValue}
+use Rattle.sockets.specs.Context.{ContextValue}
 use Rattle.tcp_tie.specs.Segment.{Segment}
 use Rattle.tcp_tie.specs.Side.Opening.{NotYet}
 use Rattle.tcp_tie.specs.Endpoints.{HasPorts}

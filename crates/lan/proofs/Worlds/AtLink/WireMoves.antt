@@ -4,8 +4,8 @@ use Rattle.std.proofs.Common.{subst}
 use Rattle.std.specs.Prelude.{slice_get}
 use Rattle.ip_wire.specs.IpRepr.{IpRepr}
 use Rattle.ip_wire.specs.TcpHeader.{TcpHeader}
-use Rattle.datagram_sockets.specs.Context.{ContextValue}
-use Rattle.datagram_sockets.specs.BaseOffers.{Offered}
+use Rattle.sockets.specs.Context.{ContextValue}
+use Rattle.sockets.specs.Polling.{Offered}
 use Rattle.tcp_tie.specs.Segment.Control.{Rst}
 use Rattle.tcp_tie.specs.Endpoints.{HasPorts, IsFor, IsNameless, KeepsNames, Forgets, KeepsOrForgets, IsLeftBy, IsRenamed, IsOpenedBy, FallsBack}
 use Rattle.tcp_tie.specs.Host.{Made, made_of, past_at, IsAmong, and_answer, and_offer}

@@ -11,7 +11,7 @@ use Rattle.sockets.specs.Icmp.{IsMessage, IsPacketFrom}
 use Rattle.sockets.specs.Offers.{IsFound, IsOnly, OffersFirst}
 use Rattle.sockets.specs.SocketValue.{SocketValue}
 use Rattle.sockets.specs.Udp as Udps
-use Rattle.sockets.specs.UdpMetadata.{UdpMetadata}
+use Rattle.sockets.specs.declared.udp.UdpMetadata.{UdpMetadata}
 use Rattle.tcp_tie.specs.Host.{Made, made_of, and_offer}
 use Rattle.tcp_model.specs.OpenOffer.{OpenOffer}
 use Rattle.tcp_model.specs.Offers.{offer_of, payload_of, packet_with, offered_packet}

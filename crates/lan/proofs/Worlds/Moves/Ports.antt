@@ -22,9 +22,9 @@ use Rattle.sockets.specs.SocketValue as Datagrams
 use Rattle.sockets.specs.SocketValue.{sent_after}
 use Rattle.sockets.specs.Udp as Udps
 use Rattle.sockets.specs.Udp.{UdpValue, metadata_to}
-use Rattle.sockets.specs.SendError.{SendError}
-use Rattle.sockets.specs.SendError.TheVariants as SendTo
-use Rattle.sockets.specs.UdpMetadata.{UdpMetadata}
+use Rattle.sockets.specs.declared.error.SendError.{SendError}
+use Rattle.sockets.specs.declared.error.SendError.TheVariants as SendTo
+use Rattle.sockets.specs.declared.udp.UdpMetadata.{UdpMetadata}
 use Rattle.ip_tcp.specs.Rand.{word}
 use Rattle.net_containers.specs.Ring.{anchored, enqueued}
 use Rattle.tcp_tie.specs.Endpoints.{KeepsOrForgets, IsLeftBy, IsRenamed}

@@ -27,7 +27,7 @@ use Rattle.sockets.specs.Icmp as Icmps
 use Rattle.sockets.specs.Icmp.{protocol_to}
 use Rattle.sockets.specs.Raw as Raws
 use Rattle.sockets.specs.Udp as Udps
-use Rattle.sockets.specs.UdpMetadata.{UdpMetadata}
+use Rattle.sockets.specs.declared.udp.UdpMetadata.{UdpMetadata}
 use Rattle.tcp_model.specs.AddressPair.{AddressPair}
 use Rattle.tcp_model.specs.AddressPair.TheVariants as Pair
 use Rattle.tcp_model.specs.Acknowledged.{acknowledged, duplicates_after}

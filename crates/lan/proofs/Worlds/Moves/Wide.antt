@@ -28,7 +28,7 @@ use Rattle.sockets.specs.Raw as Raws
 use Rattle.sockets.specs.Udp as Udps
 use Rattle.sockets.specs.Udp.{UdpValue}
 use Rattle.sockets.specs.Header.{hops}
-use Rattle.sockets.specs.UdpMetadata.{UdpMetadata}
+use Rattle.sockets.specs.declared.udp.UdpMetadata.{UdpMetadata}
 use Rattle.tcp_tie.proofs.NameLaws.{answer_back, offer_between_ends, reset_back}
 use Rattle.tcp_tie.specs.Endpoints.{GoesBack}
 use Rattle.tcp_model.specs.Arrival.{arrives}

@@ -1,7 +1,7 @@
 -- Answers that are given twice: one goes to the caller, and one is kept.
 use Rattle.std.specs.Prelude.{◌≡◌, Option, None, Some}
-use Rattle.sockets.specs.RecvError.{RecvError}
-use Rattle.sockets.specs.RecvError.TheVariants as Recv
+use Rattle.sockets.specs.declared.error.RecvError.{RecvError}
+use Rattle.sockets.specs.declared.error.RecvError.TheVariants as Recv
 use Rattle.lan.specs.declared.at_link.history.answer.Answer.{Answer}
 use Rattle.lan.specs.declared.at_link.history.answer.Answer.TheVariants as To
 use Rattle.lan.specs.declared.at_link.history.answer.Fault.{Fault}

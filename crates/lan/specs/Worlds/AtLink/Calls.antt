@@ -2,15 +2,15 @@
 use Rattle.std.specs.Prelude.{◌≡◌, ℕ, nat_lt, if◌then◌else◌, List, length, take, Option, Some, None, Result, Ok, Err}
 use Rattle.ip_wire.specs.IpListenEndpoint.{IpListenEndpoint}
 use Rattle.net_base.specs.Packets.{first}
-use Rattle.datagram_sockets.specs.Context.{ContextValue}
-use Rattle.datagram_sockets.specs.SocketValue as Datagrams
-use Rattle.datagram_sockets.specs.Udp as Udps
-use Rattle.datagram_sockets.specs.Udp.{UdpValue, metadata_to}
-use Rattle.datagram_sockets.specs.declared.error.BindError.{BindError}
-use Rattle.datagram_sockets.specs.declared.error.BindError.TheVariants as Bind
-use Rattle.datagram_sockets.specs.declared.error.SendError.{SendError}
-use Rattle.datagram_sockets.specs.declared.error.SendError.TheVariants as SendTo
-use Rattle.datagram_sockets.specs.declared.udp.UdpMetadata.{UdpMetadata}
+use Rattle.sockets.specs.Context.{ContextValue}
+use Rattle.sockets.specs.SocketValue as Datagrams
+use Rattle.sockets.specs.Udp as Udps
+use Rattle.sockets.specs.Udp.{UdpValue, metadata_to}
+use Rattle.sockets.specs.declared.error.BindError.{BindError}
+use Rattle.sockets.specs.declared.error.BindError.TheVariants as Bind
+use Rattle.sockets.specs.declared.error.SendError.{SendError}
+use Rattle.sockets.specs.declared.error.SendError.TheVariants as SendTo
+use Rattle.sockets.specs.declared.udp.UdpMetadata.{UdpMetadata}
 use Rattle.tcp_model.specs.ConnectError.{ConnectError}
 use Rattle.tcp_model.specs.ConnectError.TheVariants as Connect
 use Rattle.tcp_model.specs.ListenError.{ListenError}

@@ -8,9 +8,9 @@ use Rattle.sockets.specs.Icmp as Icmps
 use Rattle.sockets.specs.Icmp.{IcmpValue}
 use Rattle.sockets.specs.Raw as Raws
 use Rattle.sockets.specs.Raw.{RawValue}
-use Rattle.sockets.specs.Endpoint.TheVariants as Bound
-use Rattle.sockets.specs.RawSendError as RawErrors
-use Rattle.sockets.specs.RawSendError.TheVariants as RawSend
+use Rattle.sockets.specs.declared.icmp.Endpoint.TheVariants as Bound
+use Rattle.sockets.specs.declared.raw.SendError as RawErrors
+use Rattle.sockets.specs.declared.raw.SendError.TheVariants as RawSend
 use Rattle.tcp_model.specs.Calls.{connect_draws}
 use Rattle.tcp_model.specs.State as States
 use Rattle.interface.specs.Host.{HostValue}

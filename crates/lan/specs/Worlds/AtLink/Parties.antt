@@ -1,9 +1,9 @@
 -- Two hosts as their sockets see them: no frame, no interface. What a host made may arrive at the other in any order, any number of
 -- times, or never.
 use Rattle.std.specs.Prelude.{◌≡◌, ℕ, Bool, List, [], ◌∷◌, ◌++◌, map, slice_get, slice_index_or, Option, Some, None}
-use Rattle.datagram_sockets.specs.Packet.{PacketValue, PayloadValue}
-use Rattle.datagram_sockets.specs.Packet as Carried
-use Rattle.datagram_sockets.specs.Udp.{UdpValue}
+use Rattle.sockets.specs.Packet.{PacketValue, PayloadValue}
+use Rattle.sockets.specs.Packet as Carried
+use Rattle.sockets.specs.Udp.{UdpValue}
 use Rattle.tcp_tie.specs.Host.{Made}
 use Rattle.tcp_model.specs.Value.{TcpValue}
 use Rattle.lan.specs.declared.at_link.history.event.Side.{Side}

@@ -1,6 +1,6 @@
 use Rattle.std.proofs.Common.{◌∙◌, sym}
-use Rattle.datagram_sockets.specs.Packets.{first}
-use Rattle.datagram_sockets.specs.SocketValue.{recv_after}
+use Rattle.sockets.specs.Packets.{first}
+use Rattle.sockets.specs.SocketValue.{recv_after}
 use Rattle.tun_host.proofs.Echo.{sent_back_is}
 use Rattle.tun_host.proofs.datagram.echo_datagram.Goals as goal
 

@@ -1,5 +1,5 @@
 use Rattle.std.proofs.Common.{◌≡◌, ℕ, List, [], ◌∷◌, ◌++◌, sym, ap, ◌∙◌, get_or}
-use Rattle.sockets.specs.UdpMetadata.{UdpMetadata}
+use Rattle.sockets.specs.declared.udp.UdpMetadata.{UdpMetadata}
 use Rattle.stack_laws.proofs.peer_host.excluded.bad_datagrams_are_excluded.Goals as goal
 
 pub returns-clause-no_frame : goal.returns-clause-no_frame
