@@ -6,7 +6,7 @@ use Rattle.sockets.specs.DhcpEvents.{fresh, event_of, untold}
 use Rattle.sockets.specs.DhcpOffers.{Offers}
 use Rattle.sockets.specs.DhcpAnswers.{Processed}
 use Rattle.sockets.specs.DhcpStates.{poll_of}
-use Rattle.sockets.specs.DhcpEvent.{Event}
+use Rattle.sockets.specs.declared.dhcpv4.config.Event.{Event}
 use Rattle.ip_wire.specs.HardwareAddress.{HardwareAddress}
 use Rattle.ip_wire.specs.HardwareAddress.TheVariants as Hardware
 use Rattle.ip_wire.specs.IpAddress.{IpAddress}

@@ -8,8 +8,8 @@ use Rattle.std.specs.contracts.option.Option as option
 use Rattle.std.specs.contracts.vec.Vec as vec
 use Rattle.c_link.specs.Link.{LinkValue}
 use Rattle.c_link.specs.contracts.device.FrameLink as link
-use Rattle.dhcpv4.specs.contracts.socket.Socket as dhcp
-use Rattle.dns_socket.specs.contracts.socket.Socket as dns
+use Rattle.sockets.specs.contracts.dhcpv4.socket.Socket as dhcp
+use Rattle.sockets.specs.contracts.dns.socket.Socket as dns
 use Rattle.interface.specs.Host.{HostValue}
 use Rattle.interface.specs.Set.{set_at}
 use Rattle.interface.specs.SocketStorage.{SocketStorage}

@@ -7,10 +7,10 @@ use Rattle.sockets.specs.DnsProcessed.{Processed}
 use Rattle.sockets.specs.DnsStarts.{Starts}
 use Rattle.sockets.specs.DnsTurns.{poll_of}
 use Rattle.dns_wire.specs.declared.codes.DnsQueryType.{DnsQueryType}
-use Rattle.sockets.specs.GetQueryResultError.{GetQueryResultError}
-use Rattle.sockets.specs.GetQueryResultError.TheVariants as Get
-use Rattle.sockets.specs.StartQueryError.{StartQueryError}
-use Rattle.sockets.specs.StartQueryError.TheVariants as Start
+use Rattle.sockets.specs.declared.dns.error.GetQueryResultError.{GetQueryResultError}
+use Rattle.sockets.specs.declared.dns.error.GetQueryResultError.TheVariants as Get
+use Rattle.sockets.specs.declared.dns.error.StartQueryError.{StartQueryError}
+use Rattle.sockets.specs.declared.dns.error.StartQueryError.TheVariants as Start
 use Rattle.ip_wire.specs.IpAddress.{IpAddress}
 use Rattle.ip_wire.specs.IpEndpoint.{IpEndpoint}
 use Rattle.sockets.specs.Context.{ContextValue}

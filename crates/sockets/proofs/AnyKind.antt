@@ -15,11 +15,11 @@ use Rattle.sockets.specs.SocketValue as Datagrams
 use Rattle.sockets.specs.SocketValue.{SocketValue}
 use Rattle.sockets.proofs.OfferLaws as datagrams
 use Rattle.tcp_model.specs.Value.{TcpValue}
-use Rattle.dhcpv4.proofs.OneMessage.{one_offered}
-use Rattle.dhcpv4.proofs.Turns as Dhcps
-use Rattle.dhcpv4.specs.Value.{DhcpValue}
-use Rattle.dns_socket.proofs.Turned as Dnss
-use Rattle.dns_socket.specs.Value.{DnsValue}
+use Rattle.sockets.proofs.DhcpClient.OneMessage.{one_offered}
+use Rattle.sockets.proofs.DhcpClient.Turns as Dhcps
+use Rattle.sockets.specs.DhcpClient.Value.{DhcpValue}
+use Rattle.sockets.proofs.DnsClient.Turned as Dnss
+use Rattle.sockets.specs.DnsClient.Value.{DnsValue}
 use Rattle.sockets.proofs.Clients.{dhcp_packet, dhcp_same, dhcp_unoffered, dhcp_offered, dhcp_again, dns_packet, dns_same, dns_unoffered, dns_offered}
 use Rattle.sockets.proofs.Clients.{dns_again, dns_once}
 use Rattle.sockets.proofs.Connections.{said_packet, said_same, silent_before}

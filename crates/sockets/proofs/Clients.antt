@@ -5,23 +5,23 @@ use Rattle.socket_base.specs.Context.{ContextValue}
 use Rattle.socket_base.specs.declared.offer.Offer as Answer
 use Rattle.socket_base.specs.declared.offer.Offer.TheVariants as Offer
 use Rattle.sockets.specs.Offers.{HasPacket, changed_by}
-use Rattle.dhcpv4.specs.Offers as DhcpOffers
-use Rattle.dhcpv4.specs.States as DhcpStates
-use Rattle.dhcpv4.specs.Value as Dhcps
-use Rattle.dhcpv4.specs.Value.{DhcpValue}
-use Rattle.dhcpv4.specs.declared.request.Kind.{Kind}
-use Rattle.dhcpv4.specs.declared.request.Kind.TheVariants as K
-use Rattle.dhcpv4.specs.declared.state.Turn as DhcpTurn
-use Rattle.dhcpv4.specs.declared.state.Turn.TheVariants as D
-use Rattle.dns_socket.specs.Offers as DnsOffers
-use Rattle.dns_socket.specs.Turns.{due_at}
-use Rattle.dns_socket.specs.Value as Dnss
-use Rattle.dns_socket.specs.Value.{DnsValue}
-use Rattle.dns_socket.specs.declared.query.Query.{Query}
-use Rattle.dns_socket.specs.declared.query.Turn as DnsTurn
-use Rattle.dns_socket.specs.declared.query.Turn.TheVariants as N
-use Rattle.dns_socket.specs.declared.state.State.{State}
-use Rattle.dns_socket.specs.declared.state.State.TheVariants as S
+use Rattle.sockets.specs.DhcpClient.Offers as DhcpOffers
+use Rattle.sockets.specs.DhcpClient.States as DhcpStates
+use Rattle.sockets.specs.DhcpClient.Value as Dhcps
+use Rattle.sockets.specs.DhcpClient.Value.{DhcpValue}
+use Rattle.sockets.specs.declared.dhcpv4.request.Kind.{Kind}
+use Rattle.sockets.specs.declared.dhcpv4.request.Kind.TheVariants as K
+use Rattle.sockets.specs.declared.dhcpv4.state.Turn as DhcpTurn
+use Rattle.sockets.specs.declared.dhcpv4.state.Turn.TheVariants as D
+use Rattle.sockets.specs.DnsClient.Offers as DnsOffers
+use Rattle.sockets.specs.DnsClient.Turns.{due_at}
+use Rattle.sockets.specs.DnsClient.Value as Dnss
+use Rattle.sockets.specs.DnsClient.Value.{DnsValue}
+use Rattle.sockets.specs.declared.dns.query.Query.{Query}
+use Rattle.sockets.specs.declared.dns.query.Turn as DnsTurn
+use Rattle.sockets.specs.declared.dns.query.Turn.TheVariants as N
+use Rattle.sockets.specs.declared.dns.state.State.{State}
+use Rattle.sockets.specs.declared.dns.state.State.TheVariants as S
 
 -- an answer with these says that nothing changed, or doesn't
 silent_changes : (answer : Answer.Offer) → answer ≡ Offer.Silent true → changed_by answer ≡ false → ⊥

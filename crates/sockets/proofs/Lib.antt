@@ -9,7 +9,9 @@ pub mod RawPackets
 pub mod UdpPackets
 pub mod AtOnce
 pub mod Equal
-pub use Rattle.dhcpv4.proofs.Datagrams as DhcpDatagrams
-pub use Rattle.dhcpv4.proofs.OneMessage as DhcpOneMessage
-pub use Rattle.dns_socket.proofs.Datagrams as DnsDatagrams
-pub use Rattle.dns_socket.proofs.OneVerdict as DnsOneVerdict
+pub mod DhcpClient
+pub mod DnsClient
+pub use Rattle.sockets.proofs.DhcpClient.Datagrams as DhcpDatagrams
+pub use Rattle.sockets.proofs.DhcpClient.OneMessage as DhcpOneMessage
+pub use Rattle.sockets.proofs.DnsClient.Datagrams as DnsDatagrams
+pub use Rattle.sockets.proofs.DnsClient.OneVerdict as DnsOneVerdict

@@ -4,8 +4,8 @@ use Rattle.sockets.specs.Udp.{UdpValue}
 use Rattle.sockets.specs.Icmp.{IcmpValue}
 use Rattle.sockets.specs.Raw.{RawValue}
 use Rattle.tcp_model.specs.Value.{TcpValue}
-use Rattle.dhcpv4.specs.Value.{DhcpValue}
-use Rattle.dns_socket.specs.Value.{DnsValue}
+use Rattle.sockets.specs.DhcpClient.Value.{DhcpValue}
+use Rattle.sockets.specs.DnsClient.Value.{DnsValue}
 use Rattle.sockets.specs.declared.socket.Socket.{Socket}
 use Rattle.sockets.specs.declared.socket.Socket.TheVariants as Kind
 

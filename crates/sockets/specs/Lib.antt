@@ -13,6 +13,8 @@ pub mod Icmp
 pub mod IcmpKept
 pub mod Same
 pub mod Raw
+pub mod DhcpClient
+pub mod DnsClient
 pub use Rattle.tcp_socket.specs.Addresses
 pub use Rattle.socket_base.specs.Context
 pub use Rattle.socket_base.specs.Offers as Polling
@@ -43,19 +45,15 @@ pub use Rattle.tcp_model.specs.State
 pub use Rattle.tcp_socket.specs.WellFormed
 pub use Rattle.tcp_socket.specs.Replies
 pub use Rattle.tcp_model.specs.declared.block.CongestionControl
-pub use Rattle.dhcpv4.specs.Answers as DhcpAnswers
-pub use Rattle.dhcpv4.specs.declared.config.Config as DhcpConfig
-pub use Rattle.dhcpv4.specs.declared.config.Event as DhcpEvent
-pub use Rattle.dhcpv4.specs.Events as DhcpEvents
-pub use Rattle.dhcpv4.specs.Offers as DhcpOffers
-pub use Rattle.dhcpv4.specs.States as DhcpStates
-pub use Rattle.dhcpv4.specs.Value as DhcpValue
-pub use Rattle.dns_socket.specs.Offers as DnsOffers
-pub use Rattle.dns_socket.specs.Processed as DnsProcessed
-pub use Rattle.dns_socket.specs.Starts as DnsStarts
-pub use Rattle.dns_socket.specs.Turns as DnsTurns
-pub use Rattle.dns_socket.specs.Value as DnsValue
-pub use Rattle.dns_socket.specs.declared.error.GetQueryResultError
-pub use Rattle.dns_socket.specs.declared.error.StartQueryError
+pub use Rattle.sockets.specs.DhcpClient.Answers as DhcpAnswers
+pub use Rattle.sockets.specs.DhcpClient.Events as DhcpEvents
+pub use Rattle.sockets.specs.DhcpClient.Offers as DhcpOffers
+pub use Rattle.sockets.specs.DhcpClient.States as DhcpStates
+pub use Rattle.sockets.specs.DhcpClient.Value as DhcpValue
+pub use Rattle.sockets.specs.DnsClient.Offers as DnsOffers
+pub use Rattle.sockets.specs.DnsClient.Processed as DnsProcessed
+pub use Rattle.sockets.specs.DnsClient.Starts as DnsStarts
+pub use Rattle.sockets.specs.DnsClient.Turns as DnsTurns
+pub use Rattle.sockets.specs.DnsClient.Value as DnsValue
 pub use Rattle.tcp_model.specs.Controls as TcpControls
 pub use Rattle.tcp_model.specs.Reply as TcpReply

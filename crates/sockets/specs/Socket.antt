@@ -21,13 +21,13 @@ use Rattle.tcp_model.specs.Names as TcpNames
 use Rattle.tcp_model.specs.Offers as TcpOffers
 use Rattle.tcp_model.specs.Settled as TcpSettled
 use Rattle.tcp_model.specs.Value.{TcpValue}
-use Rattle.dhcpv4.specs.Offers as DhcpOffers
-use Rattle.dhcpv4.specs.States as DhcpStates
-use Rattle.dhcpv4.specs.Value as Dhcps
-use Rattle.dns_socket.specs.Offers as DnsOffers
-use Rattle.dns_socket.specs.Processed as DnsProcessed
-use Rattle.dns_socket.specs.Turns as DnsTurns
-use Rattle.dns_socket.specs.Value as Dnss
+use Rattle.sockets.specs.DhcpClient.Offers as DhcpOffers
+use Rattle.sockets.specs.DhcpClient.States as DhcpStates
+use Rattle.sockets.specs.DhcpClient.Value as Dhcps
+use Rattle.sockets.specs.DnsClient.Offers as DnsOffers
+use Rattle.sockets.specs.DnsClient.Processed as DnsProcessed
+use Rattle.sockets.specs.DnsClient.Turns as DnsTurns
+use Rattle.sockets.specs.DnsClient.Value as Dnss
 use Rattle.sockets.specs.declared.socket.Socket.{Socket}
 use Rattle.sockets.specs.declared.socket.Socket.TheVariants as Kind
 

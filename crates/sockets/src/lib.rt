@@ -1,12 +1,13 @@
 //! The sockets of the stack, and one type for all kinds.
 //!
-//! It passes on its members, `socket_base`, `tcp_model`, `tcp_socket`, `dhcpv4` and `dns_socket`: a crate above names
-//! `sockets` alone, in `crates.txt` and in its code, as `sockets::udp::Socket` and `sockets::dhcp::Socket`. In clauses, `specs/` and `proofs/` the members'
-//! definitions are `Rattle.sockets.specs.Udp`, `.Packet`, `.Context` and so on.
+//! UDP, ICMP and raw sockets and the clients of DHCP and DNS are its own. It passes on `socket_base`, `tcp_model`, `tcp_socket` and the messages
+//! of both clients: a crate above names `sockets` alone, in `crates.txt` and in its code, as `sockets::udp::Socket` and
+//! `sockets::dhcp::Socket`. In clauses, `specs/` and `proofs/` the definitions are `Rattle.sockets.specs.Udp`, `.Packet`, `.Context` and so on.
 #![tactic(auto)]
 
 mod any_socket;
 pub mod dhcp;
+pub mod dhcpv4;
 pub mod dns;
 mod error;
 mod header;

@@ -1,9 +1,9 @@
 -- What C gets of the clients of DHCP and DNS.
 use Rattle.std.specs.Prelude.{◌≡◌, ℕ, ◌==◌, ◌-◌, ◌^◌, ℤ, pos, if◌then◌else◌, List, [], ◌∷◌, slice_index_or, Option, None, Some, Result, Ok, Err}
 use Rattle.std.specs.Str.{IsUtf8}
-use Rattle.sockets.specs.DhcpConfig.{Config}
-use Rattle.sockets.specs.DhcpEvent.{Event}
-use Rattle.sockets.specs.DhcpEvent.TheVariants.{Configured, Deconfigured}
+use Rattle.sockets.specs.declared.dhcpv4.config.Config.{Config}
+use Rattle.sockets.specs.declared.dhcpv4.config.Event.{Event}
+use Rattle.sockets.specs.declared.dhcpv4.config.Event.TheVariants.{Configured, Deconfigured}
 use Rattle.dns_wire.specs.declared.codes.DnsQueryType.{DnsQueryType}
 use Rattle.dns_wire.specs.declared.codes.DnsQueryType.TheVariants as Query
 use Rattle.ip_wire.specs.IpAddress.{IpAddress}

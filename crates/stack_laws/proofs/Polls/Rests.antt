@@ -19,25 +19,25 @@ use Rattle.sockets.specs.Socket.{Offers, poll_of}
 use Rattle.sockets.specs.declared.socket.Socket.{Socket}
 use Rattle.sockets.specs.declared.socket.Socket.TheVariants as Kind
 use Rattle.net_base.specs.Packets.{first}
-use Rattle.dhcpv4.specs.Moments.{earlier}
-use Rattle.dhcpv4.specs.Offers as DhcpOffers
-use Rattle.dhcpv4.specs.States as DhcpStates
-use Rattle.dhcpv4.specs.Value.{DhcpValue}
-use Rattle.dhcpv4.specs.declared.lease.Lease.{Lease}
-use Rattle.dhcpv4.specs.declared.request.Kind.TheVariants.{Discover, Request, Renew, Rebind}
-use Rattle.dhcpv4.specs.declared.state.ClientState.{ClientState}
-use Rattle.dhcpv4.specs.declared.state.ClientState.TheVariants as Client
-use Rattle.dhcpv4.specs.declared.state.Turn.{Turn}
-use Rattle.dhcpv4.specs.declared.state.Turn.TheVariants as Does
-use Rattle.dns_socket.specs.Offers as DnsOffers
-use Rattle.dns_socket.specs.Turns as DnsTurns
-use Rattle.dns_socket.specs.Value as Dnss
-use Rattle.dns_socket.specs.Value.{DnsValue}
-use Rattle.dns_socket.specs.declared.query.Query.{Query}
-use Rattle.dns_socket.specs.declared.query.Turn as DnsTurn
-use Rattle.dns_socket.specs.declared.query.Turn.TheVariants as Asks
-use Rattle.dns_socket.specs.declared.state.State.{State}
-use Rattle.dns_socket.specs.declared.state.State.TheVariants as Names
+use Rattle.sockets.specs.DhcpClient.Moments.{earlier}
+use Rattle.sockets.specs.DhcpClient.Offers as DhcpOffers
+use Rattle.sockets.specs.DhcpClient.States as DhcpStates
+use Rattle.sockets.specs.DhcpClient.Value.{DhcpValue}
+use Rattle.sockets.specs.declared.dhcpv4.lease.Lease.{Lease}
+use Rattle.sockets.specs.declared.dhcpv4.request.Kind.TheVariants.{Discover, Request, Renew, Rebind}
+use Rattle.sockets.specs.declared.dhcpv4.state.ClientState.{ClientState}
+use Rattle.sockets.specs.declared.dhcpv4.state.ClientState.TheVariants as Client
+use Rattle.sockets.specs.declared.dhcpv4.state.Turn.{Turn}
+use Rattle.sockets.specs.declared.dhcpv4.state.Turn.TheVariants as Does
+use Rattle.sockets.specs.DnsClient.Offers as DnsOffers
+use Rattle.sockets.specs.DnsClient.Turns as DnsTurns
+use Rattle.sockets.specs.DnsClient.Value as Dnss
+use Rattle.sockets.specs.DnsClient.Value.{DnsValue}
+use Rattle.sockets.specs.declared.dns.query.Query.{Query}
+use Rattle.sockets.specs.declared.dns.query.Turn as DnsTurn
+use Rattle.sockets.specs.declared.dns.query.Turn.TheVariants as Asks
+use Rattle.sockets.specs.declared.dns.state.State.{State}
+use Rattle.sockets.specs.declared.dns.state.State.TheVariants as Names
 use Rattle.stack_laws.specs.Progress.Patience.{IsPatient}
 use Rattle.stack_laws.proofs.Polls.TcpRests.{tcp_rests}
 
@@ -78,7 +78,7 @@ module _ (cx : ContextValue) (v v' : DhcpValue) where
   given_up : {X : Type 0} → Silent Does.GiveUp → X
   given_up {X} offers = absurd (let is : Offer.Silent false ≡ Offer.Silent true = offers.0 in cc)
 
-  sent : {X : Type 0} (kind : Rattle.dhcpv4.specs.declared.request.Kind.Kind) → Silent (Does.Send kind) → X
+  sent : {X : Type 0} (kind : Rattle.sockets.specs.declared.dhcpv4.request.Kind.Kind) → Silent (Does.Send kind) → X
   sent {X} kind offers = absurd (let is : Offer.Silent false ≡ Offer.Packet false = offers.0 in cc)
 
   with_rests : (now : ℤ) (lease : Lease) (ask_at : ℤ) → Silent (DhcpStates.turn_with now lease ask_at) → now <ℤ earlier lease.expires_at ask_at
@@ -128,7 +128,7 @@ module _ (cx : ContextValue) (v v' : DnsValue) where
   goes_on : {X : Type 0} → IsSilent Asks.Next → X
   goes_on {X} offers = absurd (let is : Offer.Silent false ≡ Offer.Silent true = offers.0 in cc)
 
-  asked : {X : Type 0} (s : Rattle.dns_socket.specs.declared.query.Sending.Sending) → IsSilent (Asks.Send s) → X
+  asked : {X : Type 0} (s : Rattle.sockets.specs.declared.dns.query.Sending.Sending) → IsSilent (Asks.Send s) → X
   asked {X} s offers = absurd (let is : Offer.Silent false ≡ Offer.Packet false = offers.0 in cc)
 
   with_header : {X : Type 0} (header : Option IpRepr) (now : ℤ) (server : IpAddress) (q : Query) → IsSilent (DnsOffers.sent_with header now server q) → X

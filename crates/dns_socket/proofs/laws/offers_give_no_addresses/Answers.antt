@@ -1,5 +1,0 @@
-use Rattle.dns_socket.proofs.Turned.{offers_kept, settled_kept}
-use Rattle.dns_socket.proofs.laws.offers_give_no_addresses.Goals as goal
-
-pub returns : goal.returns
-returns c = record { offered = offers_kept; settled = settled_kept }

@@ -1,9 +1,0 @@
--- What the contracts of this crate speak of.
-pub mod Laws
-pub mod Offers
-pub mod Processed
-pub mod Records
-pub mod Replies
-pub mod Starts
-pub mod Turns
-pub mod Value
