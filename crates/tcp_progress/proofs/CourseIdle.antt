@@ -1,22 +1,30 @@
 -- A side with nothing in flight, and no timer, sends within a minute and twice what it is let wait, whatever its windows are.
-use Rattle.std.proofs.Common.{◌≡◌, ◌⊎◌, inl, inr, ℕ, ◌+◌, ◌-◌, ◌<◌, ◌≤◌, nat_lt, ℤ, pos, ◌+ℤ◌, ◌≤ℤ◌, ◌<ℤ◌, int_lt, int_le, Bool, true, false}
-use Rattle.std.proofs.Common.{if◌then◌else◌, [], ◌∷◌, Option, Some, None, is_none, is_some, refl, sym, ap, ◌∙◌, subst, arith}
-use Rattle.std.proofs.lemmas.Bool.{ltb-false, ltb-true}
+use Rattle.std.proofs.Common.{◌≡◌, ◌⊎◌, inl, inr, ℕ, zero, suc, ◌+◌, ◌-◌, ◌/◌, ◌<◌, ◌≤◌, ◌==◌, nat_lt, ◌&&◌, not, min, max, ℤ, pos, ◌+ℤ◌, ◌≤ℤ◌}
+use Rattle.std.proofs.Common.{◌<ℤ◌, int_lt, int_le, Bool, true, false}
+use Rattle.std.proofs.Common.{if◌then◌else◌, [], ◌∷◌, length, Option, Some, None, is_none, is_some, refl, sym, ap, ◌∙◌, subst, arith}
+use Rattle.std.proofs.lemmas.Bool.{eq-eqb, eqb-true, ltb-false, ltb-true}
 use Rattle.std.proofs.lemmas.Int.{ints}
 use Rattle.std.proofs.lemmas.Option.{slice_get_within}
 use Rattle.tcp_tie.specs.Offers.{IsBefore}
 use Rattle.tcp_tie.specs.PollAt.{PollAt}
+use Rattle.tcp_tie.specs.Tie.{IsConnectedAs, Keeps, Past, core_of, is_closed_in, unsent}
 use Rattle.tcp_model.proofs.Waits.{is_quiet}
 use Rattle.tcp_model.specs.Quiet.{IsQuiet}
 use Rattle.tcp_rules.specs.EndpointPair.{EndpointPair}
 use Rattle.tcp_rules.specs.Moments.{is_due}
+use Rattle.tcp_rules.specs.State.{State as Phase}
+use Rattle.tcp_rules.specs.State.TheVariants as In
+use Rattle.tcp_rules.specs.States.{owes_fin, sends_text}
 use Rattle.tcp_rules.proofs.OfferCases.{begun as asked_with}
 use Rattle.tcp_rules.proofs.OrderSteps.{clash}
+use Rattle.tcp_model.specs.Blocks.{one_if}
+use Rattle.tcp_model.specs.declared.block.Block.{Block}
 use Rattle.tcp_model.specs.Due.{poll_of}
-use Rattle.tcp_model.specs.Probing.{is_probing}
+use Rattle.tcp_model.specs.Probing.{is_probing, is_window_small, may_probe}
+use Rattle.tcp_model.specs.Rules.{window_limit}
 use Rattle.tcp_tie.specs.Pair.Sides.{at, other}
-use Rattle.tcp_model.specs.Value.{free_in, queued_in}
-use Rattle.tcp_tie.specs.Pair.Values.{PairValue}
+use Rattle.tcp_model.specs.Value.{TcpValue, free_in, queued_in}
+use Rattle.tcp_tie.specs.Pair.Values.{PairValue, past_at}
 use Rattle.tcp_tie.specs.declared.pair.event.PairEvent.{PairEvent}
 use Rattle.tcp_tie.specs.declared.pair.event.PairEvent.TheVariants.{Listen, Connect, Send, Recv, Close, Abort, TcpSetting, Offer, Deliver}
 use Rattle.tcp_tie.specs.declared.pair.event.Side.{Side}
@@ -30,7 +38,6 @@ use Rattle.tcp_progress.specs.Onward.{HasRisen, acked_in}
 use Rattle.tcp_progress.specs.Pair.{context_of, left_in, next_sent, socket_of}
 use Rattle.tcp_progress.specs.PutOff.{CarriesIn, ProbesAt}
 use Rattle.tcp_progress.specs.Reached.{IsReached}
-use Rattle.tcp_progress.specs.Readers.{IsLet, StaysOpen}
 use Rattle.tcp_progress.specs.Rounds.{takes}
 use Rattle.tcp_progress.specs.Sent.{taken_in}
 use Rattle.tcp_progress.proofs.CourseExchange.{exchange_in_time}
@@ -41,10 +48,11 @@ use Rattle.tcp_progress.proofs.CourseRuns.{poll_is}
 use Rattle.tcp_progress.proofs.Frees.{frees_on, never_shut}
 use Rattle.tcp_progress.proofs.Held.{holds_back}
 use Rattle.tcp_progress.proofs.Idles.{IsIdle, idle_on}
+use Rattle.tcp_progress.proofs.Kept.{reached_keeps}
 use Rattle.tcp_progress.proofs.LateText.{left_within}
 use Rattle.tcp_progress.proofs.Mirrored.{named_in}
 use Rattle.tcp_progress.proofs.OfItself.{sends_there}
-use Rattle.tcp_progress.proofs.OnwardPairs.{MovesIn}
+use Rattle.tcp_progress.proofs.OnwardPairs.{MovesIn, connected}
 use Rattle.tcp_progress.proofs.OrWaits.{WaitsIn, goes_or_waits}
 use Rattle.tcp_progress.proofs.Pair.{not_closed}
 use Rattle.tcp_progress.proofs.PairTimers.{probe_near}
@@ -122,17 +130,57 @@ carries_asks p side (Abort of) never = absurd never
 carries_asks p side (TcpSetting of setting) never = absurd never
 carries_asks p side (Deliver from k) never = absurd never
 
+-- WHAT IS HELD BACK
+
+not_none : (n : ℕ) → 1 ≤ n → (n == 0) ≡ false
+not_none n e = by (n == 0) refl where
+  never : (n : ℕ) → 1 ≤ n → n ≡ 0 → ⊥
+  never n e f = absurd (omega arith)
+
+  by : (none : Bool) → (n == 0) ≡ none → (n == 0) ≡ false
+  by true is = absurd (never n e (eqb-true n 0 is))
+  by false is = is
+
+-- bytes are queued, and nothing is in flight
+may_be : (b : Block) (queued : ℕ) → sends_text b.state ≡ true → 1 ≤ queued → b.sender.in_flight ≡ 0 → may_probe b queued ≡ true
+may_be b queued sends some none =
+    both (sends_text b.state) (not (queued == 0) && (b.sender.in_flight == 0)) sends
+    (both (not (queued == 0)) (b.sender.in_flight == 0) (ap not (not_none queued some)) (eq-eqb b.sender.in_flight 0 none))
+
+-- a window holds back what is queued
+held_queued : (b : Block) (queued : ℕ) → is_probing b queued ≡ true → 1 ≤ queued
+held_queued b queued probes =
+    some (window_limit b queued) queued (max 1 (b.peer.largest_window / 2))
+    (ltb-true (window_limit b queued) (min queued (max 1 (b.peer.largest_window / 2)))
+    (first (is_window_small b queued) (b.sender.in_flight == 0)
+    (second (sends_text b.state) (is_window_small b queued && (b.sender.in_flight == 0)) probes)))
+  where
+    first : (x y : Bool) → (x && y) ≡ true → x ≡ true
+    first true y e = refl
+    first false y e = e
+
+    second : (x y : Bool) → (x && y) ≡ true → y ≡ true
+    second true y e = e
+    second false y e = clash (sym e)
+
+    some : (limit queued enough : ℕ) → limit < min queued enough → 1 ≤ queued
+    some limit queued enough e = omega arith
+
 -- WHAT AN EVENT LEAVES
 
 abbrev pub probing_in : PairValue → Side → Bool
 probing_in p side = is_probing (socket_of p side).block (queued_in (socket_of p side))
 
--- It is idle still; a probe that waits does so as long as a window holds text back, which none does anew; and where the side was asked, the moment
--- of a probe is set, and it wasn't due.
+-- what is queued is so still
+abbrev pub QueuesOn : PairValue → Side → PairEvent → Type 0
+QueuesOn p side event = 1 ≤ queued_in (socket_of p side) → 1 ≤ queued_in (socket_of (takes p event) side)
+
+-- It is idle still, and what was queued is; the moment of a probe stays where anything is queued, whatever the windows are; and where the side was
+-- asked, a window held text back, and the moment of a probe is set, and wasn't due.
 pub record StaysIdle (p : PairValue) (side : Side) (now : ℤ) (event : PairEvent) : Type 0 where
   pub idle : IsIdle (socket_of (takes p event) side)
-  pub kept : (at : ℤ) → ProbesAt at (socket_of p side) → probing_in (takes p event) side ≡ true → ProbesAt at (socket_of (takes p event) side)
-  pub fresh : probing_in p side ≡ false → probing_in (takes p event) side ≡ true → ⊥
+  pub queued : QueuesOn p side event
+  pub kept : (at : ℤ) → ProbesAt at (socket_of p side) → 1 ≤ queued_in (socket_of (takes p event) side) → ProbesAt at (socket_of (takes p event) side)
   pub asked :
       Asks side event
       → (probing_in p side ≡ true)
@@ -142,16 +190,16 @@ pub record StaysIdle (p : PairValue) (side : Side) (now : ℤ) (event : PairEven
 asked_idle :
     (p : PairValue) (side : Side) (moment now : ℤ) → moment ≡ now → IsReached p → IsOpen (socket_of p side).block → 1 ≤ left_in p side
     → IsIdle (socket_of p side) → is_synchronized (socket_of (takes p (Offer side moment true)) side).block.state ≡ true
-    → Goes p side (Offer side moment true) ⊎ StaysIdle p side now (Offer side moment true)
-asked_idle p side moment now same r mine owes idle stays = by (goes_or_waits p side moment r mine owes (inl idle.none) stays) where
+    → QueuesOn p side (Offer side moment true) → Goes p side (Offer side moment true) ⊎ StaysIdle p side now (Offer side moment true)
+asked_idle p side moment now same r mine owes idle stays queued = by (goes_or_waits p side moment r mine owes (inl idle.none) stays) where
   not_due : is_due moment (socket_of p side).block.timers.retransmit_at ≡ false
   not_due = ap (is_due moment) idle.timer
 
   waits : WaitsIn p side moment → StaysIdle p side now (Offer side moment true)
   waits w = record {
     idle = record { none = w.waits.none; timer = w.waits.timer_is ∙ ((w.runs not_due).0 ∙ idle.timer) };
+    queued = queued;
     kept = λ at e _. w.waits.kept at e;
-    fresh = λ not _. clash (sym (w.runs not_due).1 ∙ not);
     asked = λ _. ((w.runs not_due).1, ((λ at e. ap (λ (m : ℤ). is_due m (Some at)) (sym same) ∙ w.early at e), w.waits.some));
   }
 
@@ -162,41 +210,83 @@ asked_idle p side moment now same r mine owes idle stays = by (goes_or_waits p s
 asked_by :
     (p : PairValue) (side : Side) (event : PairEvent) (now : ℤ) → Asks side event → IsAt now event → IsReached p → IsOpen (socket_of p side).block
     → 1 ≤ left_in p side → IsIdle (socket_of p side) → is_synchronized (socket_of (takes p event) side).block.state ≡ true
-    → Goes p side event ⊎ StaysIdle p side now event
-asked_by p A (Offer A moment true) now asks is r mine owes idle stays = asked_idle p A moment now is r mine owes idle stays
-asked_by p B (Offer B moment true) now asks is r mine owes idle stays = asked_idle p B moment now is r mine owes idle stays
-asked_by p A (Offer B moment true) now asks is r mine owes idle stays = absurd (cc)
-asked_by p B (Offer A moment true) now asks is r mine owes idle stays = absurd (cc)
-asked_by p side (Offer of moment false) now never is r mine owes idle stays = absurd never
-asked_by p side (Listen of endpoint) now never is r mine owes idle stays = absurd never
-asked_by p side (Connect of remote local) now never is r mine owes idle stays = absurd never
-asked_by p side (Send of bytes) now never is r mine owes idle stays = absurd never
-asked_by p side (Recv of count) now never is r mine owes idle stays = absurd never
-asked_by p side (Close of) now never is r mine owes idle stays = absurd never
-asked_by p side (Abort of) now never is r mine owes idle stays = absurd never
-asked_by p side (TcpSetting of setting) now never is r mine owes idle stays = absurd never
-asked_by p side (Deliver from k) now never is r mine owes idle stays = absurd never
+    → QueuesOn p side event → Goes p side event ⊎ StaysIdle p side now event
+asked_by p A (Offer A moment true) now asks is r mine owes idle stays queued = asked_idle p A moment now is r mine owes idle stays queued
+asked_by p B (Offer B moment true) now asks is r mine owes idle stays queued = asked_idle p B moment now is r mine owes idle stays queued
+asked_by p A (Offer B moment true) now asks is r mine owes idle stays queued = absurd (cc)
+asked_by p B (Offer A moment true) now asks is r mine owes idle stays queued = absurd (cc)
+asked_by p side (Offer of moment false) now never is r mine owes idle stays queued = absurd never
+asked_by p side (Listen of endpoint) now never is r mine owes idle stays queued = absurd never
+asked_by p side (Connect of remote local) now never is r mine owes idle stays queued = absurd never
+asked_by p side (Send of bytes) now never is r mine owes idle stays queued = absurd never
+asked_by p side (Recv of count) now never is r mine owes idle stays queued = absurd never
+asked_by p side (Close of) now never is r mine owes idle stays queued = absurd never
+asked_by p side (Abort of) now never is r mine owes idle stays queued = absurd never
+asked_by p side (TcpSetting of setting) now never is r mine owes idle stays queued = absurd never
+asked_by p side (Deliver from k) now never is r mine owes idle stays queued = absurd never
 
 -- where it isn't asked
 other_by :
     (p : PairValue) (side : Side) (event : PairEvent) (now : ℤ) → (Asks side event → ⊥) → IsTaken event
     → is_synchronized (socket_of p side).block.state ≡ true → IsIdle (socket_of p side)
     → (socket_of (takes p event) side).block.sender.una ≡ (socket_of p side).block.sender.una
-    → (IsLet (socket_of p side) → Asks side event ⊎ (probing_in (takes p event) side ≡ false)) → StaysIdle p side now event
-other_by p side event now unasked taken there idle una stays_open = record {
-  idle = idle_on p side event taken unasked there idle una;
-  kept = λ at probes held. kept at (held_back p side event at probes held);
-  fresh = λ lets held. fresh held (stays_open (record { none = idle.none; lets = lets }));
+    → sends_text (socket_of (takes p event) side).block.state ≡ true → QueuesOn p side event → StaysIdle p side now event
+other_by p side event now unasked taken there idle una sends queued = record {
+  idle = still;
+  queued = queued;
+  kept = λ at probes some. kept at (held_back p side event at probes (may_be new.block (queued_in new) sends some still.none));
   asked = λ asks. absurd (unasked asks);
 }
   where
-    kept : (at : ℤ) → ProbesAt at (socket_of (takes p event) side) ⊎ CarriesIn p side event → ProbesAt at (socket_of (takes p event) side)
+    new : TcpValue
+    new = socket_of (takes p event) side
+
+    still : IsIdle new
+    still = idle_on p side event taken unasked there idle una
+
+    kept : (at : ℤ) → ProbesAt at new ⊎ CarriesIn p side event → ProbesAt at new
     kept at (inl stays) = stays
     kept at (inr carries) = absurd (unasked (carries_asks p side event carries))
 
-    fresh : probing_in (takes p event) side ≡ true → Asks side event ⊎ (probing_in (takes p event) side ≡ false) → ⊥
-    fresh held (inl asks) = unasked asks
-    fresh held (inr lets) = clash (sym held ∙ lets)
+-- WHAT IS QUEUED
+
+-- where a side may send text, its user closed it just where it owes a FIN
+closed_owes : (state : Phase) → sends_text state ≡ true → is_closed_in state ≡ owes_fin state
+closed_owes In.Established sends = refl
+closed_owes In.CloseWait sends = refl
+closed_owes In.FinWait1 sends = refl
+closed_owes In.Closing sends = refl
+closed_owes In.LastAck sends = refl
+closed_owes other sends = clash (sym sends)
+
+module _ (p : PairValue) (side : Side) (r : IsReached p) (mine : IsOpen (socket_of p side).block) (owes : 1 ≤ left_in p side) where
+  owed : (past_at p side).closed ≡ owes_fin (socket_of p side).block.state
+  owed =
+      subst (λ (x : Past). x.closed ≡ owes_fin (socket_of p side).block.state) k.past
+      (f.closed ∙ closed_owes (socket_of p side).block.state (sends_there p side r mine.synchronized mine.acknowledged owes))
+    where
+      k : Keeps (socket_of p side) (past_at p side) (socket_of p (other side)) (past_at p (other side))
+      k = reached_keeps p side r
+
+      f : IsConnectedAs (core_of (socket_of p side)) (unsent k.side)
+      f = connected p side r mine.synchronized
+
+  -- so of what the user wrote just what is queued isn't acknowledged
+  all_queued : acked_in p side ≡ length (past_at p side).written - queued_in (socket_of p side)
+  all_queued =
+      count (length (past_at p side).written) (one_if (past_at p side).closed) (one_if (socket_of p side).block.sender.syn_unacked)
+      (queued_in (socket_of p side)) (one_if (owes_fin (socket_of p side).block.state)) (ap one_if mine.acknowledged) (ap one_if owed)
+    where
+      count : (written closed syn queued fin : ℕ) → syn ≡ 0 → closed ≡ fin → written + closed - (syn + queued + fin) ≡ written - queued
+      count written closed syn queued fin e f = omega arith
+
+  queued_within : queued_in (socket_of p side) ≤ length (past_at p side).written
+  queued_within =
+      count (length (past_at p side).written) (one_if (past_at p side).closed) (one_if (socket_of p side).block.sender.syn_unacked)
+      (queued_in (socket_of p side)) (one_if (owes_fin (socket_of p side).block.state)) (ap one_if owed) (left_within p side r mine)
+    where
+      count : (written closed syn queued fin : ℕ) → closed ≡ fin → syn + queued + fin ≤ written + closed → queued ≤ written
+      count written closed syn queued fin e f = omega arith
 
 -- WHAT IT WANTS
 
@@ -247,6 +337,19 @@ module _ (p : PairValue) (side : Side) (due : ℤ) (r : IsReached p) (mine : IsO
       (ap (λ (t : Bool). is_due due (if t then (socket_of p side).block.timers.probe_at else None)) probes ∙ (ap (is_due due) waits ∙ come at due e))
       ∙ (quiet before).probe)
 
+  -- no moment of a probe is set, or there is only a FIN to send
+  wants_any : (queued_in (socket_of p side) ≡ 0) ⊎ ((socket_of p side).block.timers.probe_at ≡ None) → Wants due p side
+  wants_any unset = by unset (probing_in p side) refl where
+    never : (n : ℕ) → 1 ≤ n → n ≡ 0 → ⊥
+    never n e f = absurd (omega arith)
+
+    by :
+        (queued_in (socket_of p side) ≡ 0) ⊎ ((socket_of p side).block.timers.probe_at ≡ None) → (t : Bool) → probing_in p side ≡ t
+        → Wants due p side
+    by unset false e = wants_open e
+    by (inl empty) true e = absurd (never (queued_in (socket_of p side)) (held_queued (socket_of p side).block (queued_in (socket_of p side)) e) empty)
+    by (inr none) true e = wants_unset e none
+
 -- within a minute it does
 pub wants_soon :
     (p : PairValue) (side : Side) (now : ℤ) → IsReached p → IsOpen (socket_of p side).block → 1 ≤ left_in p side → IsIdle (socket_of p side)
@@ -273,15 +376,14 @@ module _ (q : PairValue) (side : Side) (there : AreThere q) (wait delay : ℕ) w
   -- a side that owes something, of which the other's window is open
   pub record Open (p : PairValue) (now : ℤ) (course : Course) : Type 0 where
     pub state : State q side there wait delay p now course
-    pub stays : StaysOpen p side course
     pub free : 1 ≤ free_in (socket_of p (other side))
 
   abbrev pub Gets : PairValue → Type 0
   Gets p = HasRisen p q side ⊎ HasRisen p q (other side)
 
-  -- if a probe waits, then it does for a moment that is no later
+  -- the moment of a probe is set, and no later than this
   abbrev IsBy : ℤ → PairValue → Type 0
-  IsBy due p = probing_in p side ≡ true → (at : ℤ) × (ProbesAt at (socket_of p side) × (at ≤ℤ due))
+  IsBy due p = (1 ≤ queued_in (socket_of p side)) × ((at : ℤ) × (ProbesAt at (socket_of p side) × (at ≤ℤ due)))
 
   module _ (p : PairValue) (now : ℤ) (x : ℤ × PairEvent) (course : Course) (o : Open p now (x ∷ course)) where
     abbrev h : State q side there wait delay p now (x ∷ course)
@@ -322,7 +424,6 @@ module _ (q : PairValue) (side : Side) (there : AreThere q) (wait delay : ℕ) w
     on : acked_in m side ≤ acked_in p side → free_in (socket_of p (other side)) ≤ free_in (socket_of m (other side)) → Open m x.0 course
     on e f = record {
       state = tail q side there wait delay p now x course h (still_owes q side there wait delay p now x course h e);
-      stays = o.stays.1;
       free = more (free_in (socket_of p (other side))) (free_in (socket_of m (other side))) o.free f;
     }
       where
@@ -374,6 +475,32 @@ module _ (q : PairValue) (side : Side) (there : AreThere q) (wait delay : ℕ) w
             (never_shut m q side (next_sent p side) course (rm q side there wait delay p now x course h)
             (begun_m q side there wait delay p now x course h A) (begun_m q side there wait delay p now x course h B) h.steps.1 there free shut)))
 
+    -- what is queued stays so, where no more is acknowledged
+    queues_on : acked_in m side ≤ acked_in p side → QueuesOn p side x.1
+    queues_on e some =
+        more (length (past_at p side).written) (queued_in (socket_of p side)) (length (past_at m side).written) (queued_in (socket_of m side)) some
+        (queued_within p side h.reached mine h.owes) (first side).written
+        (subst (λ (n : ℕ). n ≤ length (past_at p side).written - queued_in (socket_of p side)) (all_queued m side reached_m open_side owes_m)
+        (subst (λ (n : ℕ). acked_in m side ≤ n) (all_queued p side h.reached mine h.owes) e))
+      where
+        reached_m : IsReached m
+        reached_m = rm q side there wait delay p now x course h
+
+        open_side : IsOpen (socket_of m side).block
+        open_side = open_m q side there wait delay p now x course h side
+
+        owes_m : 1 ≤ left_in m side
+        owes_m = still_owes q side there wait delay p now x course h e
+
+        more : (a b c d : ℕ) → 1 ≤ b → b ≤ a → a ≤ c → c - d ≤ a - b → 1 ≤ d
+        more a b c d e f g h = omega arith
+
+    sends_on : acked_in m side ≤ acked_in p side → sends_text (socket_of m side).block.state ≡ true
+    sends_on e =
+        let mine = open_m q side there wait delay p now x course h side in
+        sends_there m side (rm q side there wait delay p now x course h) mine.synchronized mine.acknowledged
+        (still_owes q side there wait delay p now x course h e)
+
     -- of a side that is idle
     pub idles_on : IsIdle (socket_of p side) → (x.0 +ℤ pos (delay + delay)) <ℤ end_of x.0 course →
         Gets p ⊎ (Open m x.0 course × StaysIdle p side x.0 x.1)
@@ -387,8 +514,8 @@ module _ (q : PairValue) (side : Side) (there : AreThere q) (wait delay : ℕ) w
       asked e f (inr stays) = inr (on e f, stays)
 
       either : acked_in m side ≤ acked_in p side → Asks side x.1 ⊎ (Asks side x.1 → ⊥) → Goes p side x.1 ⊎ StaysIdle p side x.0 x.1
-      either e (inl asks) = asked_by p side x.1 x.0 asks h.in_time.clocked.1.0 h.reached mine h.owes idle mine_m
-      either e (inr not) = inr (other_by p side x.1 x.0 not h.in_time.taken.0 mine.synchronized idle (same_una e) o.stays.0)
+      either e (inl asks) = asked_by p side x.1 x.0 asks h.in_time.clocked.1.0 h.reached mine h.owes idle mine_m (queues_on e)
+      either e (inr not) = inr (other_by p side x.1 x.0 not h.in_time.taken.0 mine.synchronized idle (same_una e) (sends_on e) (queues_on e))
 
       taking : acked_in m side ≤ acked_in p side →
           (free_in (socket_of p (other side)) ≤ free_in (socket_of m (other side))) ⊎ (taken_in p (other side) < taken_in m (other side)) →
@@ -422,7 +549,6 @@ module _ (q : PairValue) (side : Side) (there : AreThere q) (wait delay : ℕ) w
             room = c.room;
           };
         };
-        stays = o.stays;
         free = o.free;
       }
 
@@ -435,14 +561,14 @@ module _ (q : PairValue) (side : Side) (there : AreThere q) (wait delay : ℕ) w
     by : (t : Bool) → probing_in p side ≡ t → Wants due p side
     by false e = wants_open p side due o.state.reached (mine_at p now course o) o.state.owes idle e
     by true e =
-        let it = by_then e in wants_probe p side due o.state.reached (mine_at p now course o) o.state.owes idle it.0 e it.1.0 it.1.1
+        let it = by_then.1 in wants_probe p side due o.state.reached (mine_at p now course o) o.state.owes idle it.0 e it.1.0 it.1.1
 
   -- that stays so with an event
   by_on : (p : PairValue) (now due : ℤ) (event : PairEvent) → IsBy due p → StaysIdle p side now event → IsBy due (takes p event)
-  by_on p now due event by_then s held = by (probing_in p side) refl where
-    by : (t : Bool) → probing_in p side ≡ t → (at : ℤ) × (ProbesAt at (socket_of (takes p event) side) × (at ≤ℤ due))
-    by false e = absurd (s.fresh e held)
-    by true e = let it = by_then e in (it.0, (s.kept it.0 it.1.0 held, it.1.1))
+  by_on p now due event by_then s =
+      let some = s.queued by_then.0 in
+      let it = by_then.1 in
+      (some, (it.0, (s.kept it.0 it.1.0 some, it.1.1)))
 
   -- The moment has come, and the side is to be asked.
   asked_out :
@@ -462,7 +588,7 @@ module _ (q : PairValue) (side : Side) (there : AreThere q) (wait delay : ℕ) w
       was_due : StaysIdle p side x.0 x.1 → Asks side x.1 → ⊥
       was_due s asks =
           let that = s.asked asks in
-          let it = by_then that.0 in
+          let it = by_then.1 in
           clash (sym (come it.0 x.0 (upto it.0 due x.0 it.1.1 (upto due now x.0 after o.state.in_time.clocked.0))) ∙ that.1.0 it.0 it.1.0)
 
       next :
@@ -506,39 +632,53 @@ module _ (q : PairValue) (side : Side) (there : AreThere q) (wait delay : ℕ) w
 
   -- A PROBE WHOSE MOMENT ISN'T SET
 
-  record IsUnset (p : PairValue) : Type 0 where
-    probes : probing_in p side ≡ true
-    none : (socket_of p side).block.timers.probe_at ≡ None
+  abbrev IsUnset : PairValue → Type 0
+  IsUnset p = (queued_in (socket_of p side) ≡ 0) ⊎ ((socket_of p side).block.timers.probe_at ≡ None)
 
   -- a moment that is set lies within a minute
   sorted : (p : PairValue) (now : ℤ) → IsReached p → (at p.sides side).moment ≤ℤ now → IsBy (now +ℤ pos 60_000_000) p ⊎ IsUnset p
-  sorted p now r clock = by (probing_in p side) refl where
-    no_probe : probing_in p side ≡ false → IsBy (now +ℤ pos 60_000_000) p
-    no_probe e probes = clash (sym probes ∙ e)
+  sorted p now r clock = by (queued_in (socket_of p side) == 0) refl where
+    some : (n : ℕ) → (n == 0) ≡ false → 1 ≤ n
+    some zero e = clash e
+    some (suc n) e = one n where
+      one : (n : ℕ) → 1 ≤ suc n
+      one n = omega arith
 
-    at_moment : (t : Option ℤ) → (socket_of p side).block.timers.probe_at ≡ t → probing_in p side ≡ true → IsBy (now +ℤ pos 60_000_000) p ⊎ IsUnset p
-    at_moment None e probes = inr (record { probes = probes; none = e })
-    at_moment (Some m) e probes =
-        inl
-        (λ _. (
-          m,
+    at_moment : (t : Option ℤ) → (socket_of p side).block.timers.probe_at ≡ t → 1 ≤ queued_in (socket_of p side) →
+        IsBy (now +ℤ pos 60_000_000) p ⊎ IsUnset p
+    at_moment None e queued = inr (inr e)
+    at_moment (Some m) e queued =
+        inl (
+          queued,
           (
-            e,
-            upto m ((at p.sides side).moment +ℤ pos 60_000_000) (now +ℤ pos 60_000_000)
-                (subst (λ (t : Option ℤ). IsNear (at p.sides side).moment 60_000_000 t) e (probe_near p side r))
-                (more_time (at p.sides side).moment now 60_000_000 clock),
+            m,
+            (
+              e,
+              upto m ((at p.sides side).moment +ℤ pos 60_000_000) (now +ℤ pos 60_000_000)
+                  (subst (λ (t : Option ℤ). IsNear (at p.sides side).moment 60_000_000 t) e (probe_near p side r))
+                  (more_time (at p.sides side).moment now 60_000_000 clock),
+            ),
           ),
-        ))
+        )
 
-    by : (t : Bool) → probing_in p side ≡ t → IsBy (now +ℤ pos 60_000_000) p ⊎ IsUnset p
-    by false e = inl (no_probe e)
-    by true e = at_moment (socket_of p side).block.timers.probe_at refl e
+    by : (t : Bool) → (queued_in (socket_of p side) == 0) ≡ t → IsBy (now +ℤ pos 60_000_000) p ⊎ IsUnset p
+    by true e = inr (inl (eqb-true (queued_in (socket_of p side)) 0 e))
+    by false e = at_moment (socket_of p side).block.timers.probe_at refl (some (queued_in (socket_of p side)) e)
 
   by_later : (p : PairValue) (a b : ℤ) → a ≤ℤ b → IsBy a p → IsBy b p
-  by_later p a b e by_then held = let it = by_then held in (it.0, (it.1.0, upto it.0 a b it.1.1 e))
+  by_later p a b e by_then = let it = by_then.1 in (by_then.0, (it.0, (it.1.0, upto it.0 a b it.1.1 e)))
 
-  is_unset_not : (p : PairValue) → IsUnset p → is_some (socket_of p side).block.timers.probe_at ≡ true → ⊥
-  is_unset_not p u some = clash (sym some ∙ ap is_some u.none)
+  -- an offer that nothing goes with sets it, where text is queued
+  unset_not :
+      (p : PairValue) (now : ℤ) (event : PairEvent) → StaysIdle p side now event → Asks side event → IsUnset (takes p event) → ⊥
+  unset_not p now event s asks = by (s.asked asks).0 (s.asked asks).1.1 where
+    never : (n : ℕ) → 1 ≤ n → n ≡ 0 → ⊥
+    never n e f = absurd (omega arith)
+
+    by : probing_in p side ≡ true → is_some (socket_of (takes p event) side).block.timers.probe_at ≡ true → IsUnset (takes p event) → ⊥
+    by held set (inl empty) =
+        never (queued_in (socket_of (takes p event) side)) (s.queued (held_queued (socket_of p side).block (queued_in (socket_of p side)) held)) empty
+    by held set (inr none) = clash (sym set ∙ ap is_some none)
 
   -- it is set when the side is asked
   unset_out :
@@ -568,11 +708,11 @@ module _ (q : PairValue) (side : Side) (there : AreThere q) (wait delay : ℕ) w
           Rest → (on : Open (takes p x.1) x.0 course) → (s : StaysIdle p side x.0 x.1)
           → Asks side x.1 ⊎ ((Wants first (takes p x.1) side → ⊥) ⊎ IsAskedBy first last side (takes p x.1) course) → IsUnset (takes p x.1)
           → Gets (takes p x.1)
-      still rest on s (inl asks) u = absurd (is_unset_not (takes p x.1) u (s.asked asks).1.1)
+      still rest on s (inl asks) u = absurd (unset_not p x.0 x.1 s asks u)
       still rest on s (inr (inl not)) u =
           absurd
           (not
-          (wants_unset (takes p x.1) side first on.state.reached (mine_at (takes p x.1) x.0 course on) on.state.owes s.idle u.probes u.none))
+          (wants_any (takes p x.1) side first on.state.reached (mine_at (takes p x.1) x.0 course on) on.state.owes s.idle u))
       still rest on s (inr (inr more)) u = rest on s u more
 
       next : Rest → Open (takes p x.1) x.0 course → StaysIdle p side x.0 x.1 → IsBy (x.0 +ℤ pos 60_000_000) (takes p x.1) ⊎ IsUnset (takes p x.1) →
@@ -610,5 +750,5 @@ module _ (q : PairValue) (side : Side) (there : AreThere q) (wait delay : ℕ) w
     by (x ∷ course) o over (inr unset) =
         unset_out p now (x ∷ course) now last o idle unset (later now wait)
         (o.state.in_time.asks.0 side now (itself now)
-        (wants_unset p side now o.state.reached (mine_at p now (x ∷ course) o) o.state.owes idle unset.probes unset.none))
+        (wants_any p side now o.state.reached (mine_at p now (x ∷ course) o) o.state.owes idle unset))
         over

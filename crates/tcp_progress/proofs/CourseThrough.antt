@@ -18,7 +18,7 @@ use Rattle.tcp_progress.specs.Near.{IsNear}
 use Rattle.tcp_progress.specs.Onward.{AreOpen, HasRisen}
 use Rattle.tcp_progress.specs.Pair.{HasStream, left_in, socket_of}
 use Rattle.tcp_progress.specs.Reached.{IsReached}
-use Rattle.tcp_progress.specs.Readers.{IsReadBy, Reads, ReadsWithin, StaysOpen, whole_span}
+use Rattle.tcp_progress.specs.Readers.{IsReadBy, Reads, ReadsWithin, whole_span}
 use Rattle.tcp_progress.specs.Rounds.{takes}
 use Rattle.tcp_progress.specs.Spans.{IsThroughAmong, most_reached, reached_in}
 use Rattle.tcp_progress.proofs.CourseIdle.{wants_soon}
@@ -85,14 +85,6 @@ reads_rest :
     → ReadsWithin read (end_of now first) (after_all p first) side rest
 reads_rest read now p side [] rest r = r
 reads_rest read now p side (x ∷ first) rest r = reads_rest read x.0 (takes p x.1) side first rest r.1
-
-stays_first : (p : PairValue) (side : Side) (first rest : Course) → StaysOpen p side (first ++ rest) → StaysOpen p side first
-stays_first p side [] rest s = tt
-stays_first p side (x ∷ first) rest s = (s.0, stays_first (takes p x.1) side first rest s.1)
-
-stays_rest : (p : PairValue) (side : Side) (first rest : Course) → StaysOpen p side (first ++ rest) → StaysOpen (after_all p first) side rest
-stays_rest p side [] rest s = s
-stays_rest p side (x ∷ first) rest s = stays_rest (takes p x.1) side first rest s.1
 
 -- WHERE A SPAN ENDS
 
@@ -169,14 +161,14 @@ minute_fits read wait span = omega arith
 
 pub reached_whatever :
     (n : ℕ) (p q : PairValue) (side : Side) (course : Course) (read wait delay : ℕ) (now : ℤ) → IsReached p → AreOpen p → Steps p (events_of course) q
-    → AreThere q → GoesInTime wait delay now p side course → ReadsWithin read now p (other side) course → StaysOpen p side course
+    → AreThere q → GoesInTime wait delay now p side course → ReadsWithin read now p (other side) course
     → (now +ℤ pos (n * (2 * whole_span read wait delay p side))) <ℤ end_of now course
     → (reached_in p + n ≤ reached_in q) ⊎ IsThroughAmong p side (events_of course)
-reached_whatever zero p q side course read wait delay now r o s there c reads stays over =
+reached_whatever zero p q side course read wait delay now r o s there c reads over =
     inl (none (reached_in p) (reached_in q) (no_less p q (λ of. by_steps p (events_of course) q r (begun p A r o.0) (begun p B r o.1) s of))) where
       none : (a b : ℕ) → a ≤ b → a + 0 ≤ b
       none a b e = omega arith
-reached_whatever (suc n) p q side course read wait delay now r o s there c reads stays over =
+reached_whatever (suc n) p q side course read wait delay now r o s there c reads over =
     by
     (λ (it : Cut now limit wait course) (wrote : HasStream (past_at (mid it) side)).
     reached_whatever n (mid it) q side it.rest read wait delay (end_of now it.first) (rm it) (open_mid it A, open_mid it B) (on it) there
@@ -191,7 +183,6 @@ reached_whatever (suc n) p q side course read wait delay now r o s there c reads
       room = subst (λ (k : ℕ). 1 ≤ k) (sym (to_mid it (other side)).room) c.room;
     })
     (reads_rest read now p (other side) it.first it.rest (subst (ReadsWithin read now p (other side)) it.is reads))
-    (stays_rest p side it.first it.rest (subst (StaysOpen p side) it.is stays))
     (subst (λ (end : ℤ). (end_of now it.first +ℤ pos (n * (2 * whole_span read wait delay (mid it) side))) <ℤ end) (ends it)
     (subst (λ (k : ℕ). (end_of now it.first +ℤ pos (n * (2 * k))) <ℤ end_of now course) (sym (same_span it))
     (other_spans now (end_of now it.first) (end_of now course) span wait (n * (2 * span)) it.within (minute_fits read wait _) over_all))))
@@ -290,7 +281,6 @@ reached_whatever (suc n) p q side course read wait delay now r o s there c reads
           room = c.room;
         })
         (reads_first read now p (other side) it.first it.rest (subst (ReadsWithin read now p (other side)) it.is reads))
-        (stays_first p side it.first it.rest (subst (StaysOpen p side) it.is stays))
         it.over
 
     sum : (a b c n : ℕ) → a + 1 ≤ b → b + n ≤ c → a + suc n ≤ c
@@ -314,11 +304,11 @@ reached_whatever (suc n) p q side course read wait delay now r o s there c reads
 
 pub through_whatever :
     (p q : PairValue) (side : Side) (course : Course) (read wait delay : ℕ) (now : ℤ) → IsReached p → AreOpen p → Steps p (events_of course) q → AreThere q
-    → GoesInTime wait delay now p side course → ReadsWithin read now p (other side) course → StaysOpen p side course
+    → GoesInTime wait delay now p side course → ReadsWithin read now p (other side) course
     → (now +ℤ pos (suc (most_reached q - reached_in p) * (2 * whole_span read wait delay p side))) <ℤ end_of now course
     → IsThroughAmong p side (events_of course)
-through_whatever p q side course read wait delay now r o s there c reads stays over =
-    by (reached_whatever (suc (most_reached q - reached_in p)) p q side course read wait delay now r o s there c reads stays over) where
+through_whatever p q side course read wait delay now r o s there c reads over =
+    by (reached_whatever (suc (most_reached q - reached_in p)) p q side course read wait delay now r o s there c reads over) where
       never : (a b c : ℕ) → b ≤ c → a + suc (c - a) ≤ b → ⊥
       never a b c e f = absurd (omega arith)
 

@@ -26,7 +26,7 @@ use Rattle.tcp_progress.specs.Onward.{AreOpen, HasRisen, acked_in}
 use Rattle.tcp_progress.specs.Pair.{HasStream, context_of, left_in, next_sent, socket_of}
 use Rattle.tcp_progress.specs.PutOff.{IsRunning, RunsOutIn}
 use Rattle.tcp_progress.specs.Reached.{IsReached}
-use Rattle.tcp_progress.specs.Readers.{IsReadBy, Reads, ReadsWithin, StaysOpen, whole_span}
+use Rattle.tcp_progress.specs.Readers.{IsReadBy, Reads, ReadsWithin, whole_span}
 use Rattle.tcp_progress.specs.Rounds.{takes}
 use Rattle.tcp_progress.specs.Sent.{taken_in}
 use Rattle.tcp_progress.proofs.CourseGoes.{Goes, Lasts, begins_anew, lasts_on, sent_all}
@@ -241,10 +241,10 @@ behind_of wait now p (x ∷ course) clocked asks = (clocked.1.0, (clocked.1.1, a
 
 module _ (q : PairValue) (side : Side) (there : AreThere q) (wait delay : ℕ) where
   abbrev Lasts_ : PairValue → Course → Type 0
-  Lasts_ p course = Lasts delay p course × (Behind wait p course × StaysOpen p side course)
+  Lasts_ p course = Lasts delay p course × Behind wait p course
 
   lasts_all : (p : PairValue) (x : ℤ × PairEvent) (course : Course) → Lasts_ p (x ∷ course) → Lasts_ (takes p x.1) course
-  lasts_all p x course l = (lasts_on delay p x course l.0, (behind_on wait p x course l.1.0, l.1.1.1))
+  lasts_all p x course l = (lasts_on delay p x course l.0, behind_on wait p x course l.1)
 
   abbrev Gets_ : PairValue → Type 0
   Gets_ p = Gets q side there wait delay p
@@ -371,9 +371,9 @@ module _ (q : PairValue) (side : Side) (there : AreThere q) (wait delay : ℕ) w
         steps = st.steps_on.1;
         owes = owes_then after (p_after side) (from_after side) (left_within after side ra open_after);
         in_time = record {
-          clock = clock_at mid st.x.0 side st.x.1 st.starts st.has.0.0.0 st.has.1.0.0;
+          clock = clock_at mid st.x.0 side st.x.1 st.starts st.has.0.0.0 st.has.1.0;
           clocked = st.clocked;
-          asks = st.has.1.0.1.1;
+          asks = st.has.1.1.1;
           taken = st.has.0.0.1;
           delivers = st.has.0.1.0.1;
           heard = st.has.0.1.1.1;
@@ -381,7 +381,6 @@ module _ (q : PairValue) (side : Side) (there : AreThere q) (wait delay : ℕ) w
           room = subst (λ (n : ℕ). 1 ≤ n) (sym (p_after (other side)).room) h.in_time.room;
         };
       };
-      stays = st.has.1.1.1;
       free = free;
     }
 
@@ -450,7 +449,7 @@ module _ (q : PairValue) (side : Side) (there : AreThere q) (wait delay : ℕ) w
       by
       (runs_in_course Lasts_ lasts_all p q side course wait now h.reached (opened A, opened B) h.steps (there_of q side there) it h.in_time.clock
       h.in_time.clocked h.in_time.asks
-      ((h.in_time.taken, (h.in_time.delivers, h.in_time.heard)), (behind_of wait now p course h.in_time.clocked h.in_time.asks, o.stays))
+      ((h.in_time.taken, (h.in_time.delivers, h.in_time.heard)), behind_of wait now p course h.in_time.clocked h.in_time.asks)
       (less_time ((now +ℤ pos (put_off_in p side)) +ℤ pos wait) (end_of now course) (wait + 60_000_000 + wait + (delay + delay)) over_all))
     where
       h : State q side there wait delay p now course
@@ -498,13 +497,13 @@ module _ (q : PairValue) (side : Side) (there : AreThere q) (wait delay : ℕ) w
 
   -- a user whose buffer is full is waited for
   read_gets :
-      (p : PairValue) (now : ℤ) (course : Course) (last : ℤ) → State q side there wait delay p now course → StaysOpen p side course
-      → now ≤ℤ last → IsReadBy last (other side) course → (last +ℤ pos (open_time p)) <ℤ end_of now course → Gets_ p
-  read_gets p now [] last h stays before reads over = absurd (not_both last now before (less_time last now (open_time p) over))
-  read_gets p now (x ∷ course) last h stays before reads over =
+      (p : PairValue) (now : ℤ) (course : Course) (last : ℤ) → State q side there wait delay p now course → now ≤ℤ last
+      → IsReadBy last (other side) course → (last +ℤ pos (open_time p)) <ℤ end_of now course → Gets_ p
+  read_gets p now [] last h before reads over = absurd (not_both last now before (less_time last now (open_time p) over))
+  read_gets p now (x ∷ course) last h before reads over =
       by
       (λ (state : State q side there wait delay (takes p x.1) x.0 course) (more : IsReadBy last (other side) course).
-      read_gets (takes p x.1) x.0 course last state stays.1 reads.0 more over_on)
+      read_gets (takes p x.1) x.0 course last state reads.0 more over_on)
       (nat_lt (acked_in p side) (acked_in (takes p x.1) side)) refl
     where
       first : (of : Side) → MovesIn p (takes p x.1) of
@@ -527,7 +526,7 @@ module _ (q : PairValue) (side : Side) (there : AreThere q) (wait delay : ℕ) w
       read_now : State q side there wait delay (takes p x.1) x.0 course → Reads (other side) x.1 → Gets_ (takes p x.1)
       read_now state reads_it =
           open_gets (takes p x.1) x.0 course
-          (record { state = state; stays = stays.1; free = reads_free p x.1 (other side) reads_it h.in_time.room })
+          (record { state = state; free = reads_free p x.1 (other side) reads_it h.in_time.room })
           (sooner x.0 last (end_of x.0 course) (open_time (takes p x.1)) reads.0 over_on)
 
       on : Rest → State q side there wait delay (takes p x.1) x.0 course → Reads (other side) x.1 ⊎ IsReadBy last (other side) course → Gets_ (takes p x.1)
@@ -555,9 +554,9 @@ module _ (q : PairValue) (side : Side) (there : AreThere q) (wait delay : ℕ) w
   whole_sum now end read put e = first_of (omega (arith, ints), grind (arith, ints))
 
   all_gets :
-      (p : PairValue) (now : ℤ) (course : Course) (read : ℕ) → State q side there wait delay p now course → StaysOpen p side course
+      (p : PairValue) (now : ℤ) (course : Course) (read : ℕ) → State q side there wait delay p now course
       → ReadsWithin read now p (other side) course → (now +ℤ pos (whole_span read wait delay p side)) <ℤ end_of now course → Gets_ p
-  all_gets p now course read h stays reads over = by (nat_lt 0 (free_in (socket_of p (other side)))) refl where
+  all_gets p now course read h reads over = by (nat_lt 0 (free_in (socket_of p (other side)))) refl where
     over_all : ((now +ℤ pos read) +ℤ pos (open_time p)) <ℤ end_of now course
     over_all = whole_sum now (end_of now course) read (put_off_in p side) over
 
@@ -568,23 +567,23 @@ module _ (q : PairValue) (side : Side) (there : AreThere q) (wait delay : ℕ) w
     some n e = omega arith
 
     shut :
-        (course : Course) → State q side there wait delay p now course → StaysOpen p side course → ReadsWithin read now p (other side) course
+        (course : Course) → State q side there wait delay p now course → ReadsWithin read now p (other side) course
         → ((now +ℤ pos read) +ℤ pos (open_time p)) <ℤ end_of now course → free_in (socket_of p (other side)) ≡ 0 → Gets_ p
-    shut [] h stays reads over none = absurd (not_both (now +ℤ pos read) now (later now read) (less_time (now +ℤ pos read) now (open_time p) over))
-    shut (x ∷ course) h stays reads over none =
-        read_gets p now (x ∷ course) (now +ℤ pos read) h stays (later now read) (reads.0 none) over
+    shut [] h reads over none = absurd (not_both (now +ℤ pos read) now (later now read) (less_time (now +ℤ pos read) now (open_time p) over))
+    shut (x ∷ course) h reads over none =
+        read_gets p now (x ∷ course) (now +ℤ pos read) h (later now read) (reads.0 none) over
 
     by : (test : Bool) → nat_lt 0 (free_in (socket_of p (other side))) ≡ test → Gets_ p
     by true e =
-        open_gets p now course (record { state = h; stays = stays; free = some (free_in (socket_of p (other side))) (ltb-true 0 (free_in (socket_of p (other side))) e) })
+        open_gets p now course (record { state = h; free = some (free_in (socket_of p (other side))) (ltb-true 0 (free_in (socket_of p (other side))) e) })
         (sooner now (now +ℤ pos read) (end_of now course) (open_time p) (later now read) over_all)
     by false e =
-        shut course h stays reads over_all (closed (free_in (socket_of p (other side))) (ltb-false 0 (free_in (socket_of p (other side))) e))
+        shut course h reads over_all (closed (free_in (socket_of p (other side))) (ltb-false 0 (free_in (socket_of p (other side))) e))
 
 pub gets_on :
     (p q : PairValue) (side : Side) (course : Course) (read wait delay : ℕ) (now : ℤ) → IsReached p → AreOpen p → Steps p (events_of course) q → AreThere q
-    → 1 ≤ left_in p side → GoesInTime wait delay now p side course → ReadsWithin read now p (other side) course → StaysOpen p side course
+    → 1 ≤ left_in p side → GoesInTime wait delay now p side course → ReadsWithin read now p (other side) course
     → (now +ℤ pos (whole_span read wait delay p side)) <ℤ end_of now course → HasRisen p q side ⊎ HasRisen p q (other side)
-gets_on p q side course read wait delay now r o s there owes c reads stays over =
+gets_on p q side course read wait delay now r o s there owes c reads over =
     all_gets q side there wait delay p now course read
-    (record { reached = r; a = begun p A r o.0; b = begun p B r o.1; steps = s; owes = owes; in_time = c }) stays reads over
+    (record { reached = r; a = begun p A r o.0; b = begun p B r o.1; steps = s; owes = owes; in_time = c }) reads over

@@ -1,4 +1,4 @@
--- Only a window that opens, and what goes, put a probe off.
+-- Only what goes puts a probe off: no window does.
 use Rattle.std.proofs.Common.{◌≡◌, ◌⊎◌, inl, inr, ℕ, ◌+◌, ◌==◌, ◌&&◌, not, min, ℤ, Bool, true, false}
 use Rattle.std.proofs.Common.{if◌then◌else◌, List, length, take, Option, Some, None, is_none, is_some, Result, Ok, Err, slice_get, refl, sym, ap, ◌∙◌, subst}
 use Rattle.std.proofs.lemmas.Bool.{cond_both}
@@ -45,8 +45,8 @@ use Rattle.tcp_tie.specs.declared.pair.event.Side.{Side}
 use Rattle.tcp_tie.specs.declared.pair.event.TcpSetting.{TcpSetting as Setting}
 use Rattle.tcp_tie.specs.declared.pair.event.TcpSetting.TheVariants as Set
 use Rattle.tcp_progress.specs.Pair.{socket_of}
-use Rattle.tcp_progress.specs.PutOff.{Carries, CarriesIn, IsHeldBack, ProbesAt}
-use Rattle.tcp_model.specs.Probing.{is_probing, probe_kept, probe_started, is_probe_unset}
+use Rattle.tcp_progress.specs.PutOff.{Carries, CarriesIn, MayProbe, ProbesAt}
+use Rattle.tcp_model.specs.Probing.{is_probing, may_probe, probe_kept, probe_started, is_probe_unset}
 use Rattle.tcp_model.specs.Rules.{backed_off_now}
 use Rattle.tcp_model.specs.Text.{fin_taken, taken_in_order}
 use Rattle.tcp_rules.specs.Timing.{carries}
@@ -55,8 +55,8 @@ use Rattle.tcp_progress.specs.Rounds.{takes}
 
 -- A SEGMENT COMES
 
--- where text is held back, its moment stays
-kept_probe : (b : Block) (queued : ℕ) (timer : Option ℤ) → b.timers.probe_at ≡ timer → is_probing b queued ≡ true →
+-- where bytes are queued and nothing is in flight, its moment stays
+kept_probe : (b : Block) (queued : ℕ) (timer : Option ℤ) → b.timers.probe_at ≡ timer → may_probe b queued ≡ true →
     (probe_kept b queued).timers.probe_at ≡ timer
 kept_probe b queued timer same held = ap (λ (t : Bool). if t then b.timers.probe_at else None) held ∙ same
 
@@ -65,7 +65,7 @@ module _ (cx : ContextValue) (ip : IpRepr) (header : TcpHeader) (bytes : List �
   Since x = x.block.timers.probe_at ≡ v.block.timers.probe_at
 
   abbrev Stays : Arrived → Type 0
-  Stays a = is_probing a.socket.block (queued_in a.socket) ≡ true → a.socket.block.timers.probe_at ≡ v.block.timers.probe_at
+  Stays a = may_probe a.socket.block (queued_in a.socket) ≡ true → a.socket.block.timers.probe_at ≡ v.block.timers.probe_at
 
   stays_drawing : (x : TcpValue) → Since x → Drawing cx ip header bytes Stays x
   stays_drawing x h = record { answers = λ _ _. h; at_once = λ _. h; pauses = λ _. h }
@@ -118,13 +118,13 @@ module _ (cx : ContextValue) (v : TcpValue) (when : ℤ) (waits : ProbesAt when 
   abbrev Waits : Block → Type 0
   Waits b = b.timers.probe_at ≡ Some when
 
-  -- it is held back still, or it goes
+  -- it waits still, or it goes
   abbrev Unsent : Offered TcpValue → Type 0
-  Unsent o = is_probing o.socket.block (queued_in o.socket) ≡ true → ProbesAt when o.socket
+  Unsent o = may_probe o.socket.block (queued_in o.socket) ≡ true → ProbesAt when o.socket
 
   abbrev Sent : Offered TcpValue → Type 0
   Sent o =
-      (is_probing (settled true o.socket).block (queued_in (settled true o.socket)) ≡ true → ProbesAt when (settled true o.socket)) ⊎ Carries o.socket
+      (may_probe (settled true o.socket).block (queued_in (settled true o.socket)) ≡ true → ProbesAt when (settled true o.socket)) ⊎ Carries o.socket
 
   abbrev Whether : Offered TcpValue → Type 0
   Whether o = Sent o × Unsent o
@@ -242,10 +242,10 @@ CarriesBy s other = ⊥
 
 module _ (when : ℤ) where
   abbrev Left : PairSide → Type 0 → Type 0
-  Left new X = IsHeldBack new.socket → ProbesAt when new.socket ⊎ X
+  Left new X = MayProbe new.socket → ProbesAt when new.socket ⊎ X
 
   abbrev LeftTo : TcpValue → Type 0
-  LeftTo new = IsHeldBack new → ProbesAt when new
+  LeftTo new = MayProbe new → ProbesAt when new
 
   by_read : (s : PairSide) (r : Result ℕ RecvError) → ProbesAt when s.socket → ProbesAt when (reads s r).side.socket
   by_read s (Ok n) waits = waits
@@ -310,7 +310,7 @@ module _ (when : ℤ) where
         o = offer_of (context_at side (record s { moment = moment })) s.socket
 
         by :
-            (is_probing (settled true o.socket).block (queued_in (settled true o.socket)) ≡ true → ProbesAt when (settled true o.socket)) ⊎ Carries o.socket
+            (may_probe (settled true o.socket).block (queued_in (settled true o.socket)) ≡ true → ProbesAt when (settled true o.socket)) ⊎ Carries o.socket
             → ProbesAt when (settled true o.socket) ⊎ Carries o.socket
         by (inl stays) = inl (stays held)
         by (inr some) = inr some
@@ -333,7 +333,7 @@ carries_in p (TcpSetting side setting) never = never
 carries_in p (Deliver from k) never = never
 
 abbrev LeftIn : PairValue → PairEvent → ℤ → Side → PairSide → Type 0
-LeftIn p event when side new = ProbesAt when (socket_of p side) → IsHeldBack new.socket → ProbesAt when new.socket ⊎ CarriesIn p side event
+LeftIn p event when side new = ProbesAt when (socket_of p side) → MayProbe new.socket → ProbesAt when new.socket ⊎ CarriesIn p side event
 
 by_own : (p : PairValue) (event : PairEvent) (when : ℤ) → LeftIn p event when (side_of event) (acting p event).side
 by_own p event when waits held = by (by_act when (at p.sides (side_of event)) (at p.sides (other (side_of event))).sent event waits held) where
@@ -344,7 +344,7 @@ by_own p event when waits held = by (by_act when (at p.sides (side_of event)) (a
   by (inr some) = inr (carries_in p event some)
 
 pub held_back :
-    (p : PairValue) (side : Side) (event : PairEvent) (when : ℤ) → ProbesAt when (socket_of p side) → IsHeldBack (socket_of (takes p event) side)
+    (p : PairValue) (side : Side) (event : PairEvent) (when : ℤ) → ProbesAt when (socket_of p side) → MayProbe (socket_of (takes p event) side)
     → ProbesAt when (socket_of (takes p event) side) ⊎ CarriesIn p side event
 held_back p side event when waits =
     by_put (LeftIn p event when side) p.sides (side_of event) side (acting p event).side

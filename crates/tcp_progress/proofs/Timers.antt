@@ -28,7 +28,7 @@ use Rattle.tcp_model.specs.FirstNumbers.{number_for}
 use Rattle.tcp_model.specs.LossRecovery.{is_first_lost, loss_probed}
 use Rattle.tcp_model.specs.Offers.{number_at, offer_choice, offer_of, offer_segment}
 use Rattle.tcp_model.specs.Retries.{heard, asked, one_more}
-use Rattle.tcp_model.specs.Probing.{is_probe_unset, is_probing, probe_kept, probe_started}
+use Rattle.tcp_model.specs.Probing.{is_probe_unset, may_probe, probe_kept, probe_started}
 use Rattle.tcp_model.specs.Rules.{Choice, backed_off_now, control_for, probe_choice, resend_choice, text_choice}
 use Rattle.tcp_model.specs.Segments.{ack_segment, hops_of, keep_alive_segment, reset_segment, segment, syn_segment}
 use Rattle.tcp_model.specs.Text.{fin_taken, taken_in_order}
@@ -117,7 +117,7 @@ kept_near now b queued h = record {
   good = h.good;
   timer = h.timer;
   pause = h.pause;
-  probe = cond_both (is_probing b queued) b.timers.probe_at None (IsNear now 60_000_000) (λ _. h.probe) (λ _. tt);
+  probe = cond_both (may_probe b queued) b.timers.probe_at None (IsNear now 60_000_000) (λ _. h.probe) (λ _. tt);
 }
 
 timeout_near : (now : ℤ) (r : RoundTripValue) → IsGood r → IsNear now 60_000_000 (Some (timeout_from now r))
@@ -255,7 +255,7 @@ module _ (now : ℤ) (b : Block) (o : OpenOffer) (queued : ℕ) (same : o.moment
         (timeout_near o.moment (nxt_moved b (end_of b o) queued o.moment).round_trip nxt_good));
     pause = h.pause;
     probe =
-        cond_both (is_probing (loss_watched (timer_started (nxt_moved b (end_of b o) queued o.moment) o.moment) o.moment) queued) b.timers.probe_at None
+        cond_both (may_probe (loss_watched (timer_started (nxt_moved b (end_of b o) queued o.moment) o.moment) o.moment) queued) b.timers.probe_at None
         (IsNear now 60_000_000) (λ _. h.probe) (λ _. tt);
   }
 

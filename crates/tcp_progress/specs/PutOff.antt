@@ -7,7 +7,7 @@ use Rattle.tcp_rules.specs.Timing.{carries}
 use Rattle.tcp_model.specs.LossRecovery.{is_first_lost}
 use Rattle.tcp_model.specs.Offers.{offer_of}
 use Rattle.tcp_model.specs.Settled.{settled}
-use Rattle.tcp_model.specs.Probing.{is_probing}
+use Rattle.tcp_model.specs.Probing.{may_probe}
 use Rattle.tcp_model.specs.Value.{TcpValue, queued_in}
 use Rattle.tcp_tie.specs.Pair.Values.{PairValue}
 use Rattle.tcp_tie.specs.declared.pair.event.PairEvent.{PairEvent}
@@ -66,13 +66,13 @@ RunsOutAmong p side (event ∷ events) = RunsOutIn p side event ⊎ RunsOutAmong
 
 -- PROBES
 
--- what a window holds back waits for this moment
+-- what a window held back waits for this moment
 abbrev pub ProbesAt : ℤ → TcpValue → Type 0
 ProbesAt at v = v.block.timers.probe_at ≡ Some at
 
--- a window holds text back, and nothing is in flight
-abbrev pub IsHeldBack : TcpValue → Type 0
-IsHeldBack v = is_probing v.block (queued_in v) ≡ true
+-- bytes are queued and nothing is in flight, whatever the window says
+abbrev pub MayProbe : TcpValue → Type 0
+MayProbe v = may_probe v.block (queued_in v) ≡ true
 
 -- the socket offers a SYN or a part of its send queue
 pub record Carries (v : TcpValue) : Type 0 where

@@ -1,13 +1,12 @@
--- What opens a window: a user that reads in time; and what closes it again before the side that waits for it is asked.
-use Rattle.std.specs.Prelude.{◌≡◌, ◌⊎◌, ℕ, ◌+◌, ◌≤◌, ℤ, pos, ◌+ℤ◌, ◌≤ℤ◌, false, List, [], ◌∷◌}
-use Rattle.tcp_model.specs.Probing.{is_probing}
+-- What opens a window: a user that reads in time.
+use Rattle.std.specs.Prelude.{◌≡◌, ◌⊎◌, ℕ, ◌+◌, ◌≤◌, ℤ, pos, ◌+ℤ◌, ◌≤ℤ◌, List, [], ◌∷◌}
 use Rattle.tcp_tie.specs.Pair.Sides.{other}
-use Rattle.tcp_model.specs.Value.{TcpValue, free_in, queued_in}
+use Rattle.tcp_model.specs.Value.{free_in}
 use Rattle.tcp_tie.specs.Pair.Values.{PairValue}
 use Rattle.tcp_tie.specs.declared.pair.event.PairEvent.{PairEvent}
 use Rattle.tcp_tie.specs.declared.pair.event.PairEvent.TheVariants.{Recv}
 use Rattle.tcp_tie.specs.declared.pair.event.Side.{Side}
-use Rattle.tcp_progress.specs.Course.{Asks, span_of}
+use Rattle.tcp_progress.specs.Course.{span_of}
 use Rattle.tcp_progress.specs.Pair.{socket_of}
 use Rattle.tcp_progress.specs.Rounds.{takes}
 
@@ -28,20 +27,6 @@ abbrev pub ReadsWithin : ℕ → ℤ → PairValue → Side → List (ℤ × Pai
 ReadsWithin read now p side [] = Unit {0}
 ReadsWithin read now p side (x ∷ course) =
     (free_in (socket_of p side) ≡ 0 → IsReadBy (now +ℤ pos read) side (x ∷ course)) × ReadsWithin read x.0 (takes p x.1) side course
-
--- WINDOWS
-
--- nothing is in flight, and no window holds back what is queued
-pub record IsLet (v : TcpValue) : Type 0 where
-  pub none : v.block.sender.in_flight ≡ 0
-  pub lets : is_probing v.block (queued_in v) ≡ false
-
--- A side whose windows let it send, with nothing in flight, is asked before they hold it back again.
-abbrev pub StaysOpen : PairValue → Side → List (ℤ × PairEvent) → Type 0
-StaysOpen p side [] = Unit {0}
-StaysOpen p side (x ∷ course) =
-    (IsLet (socket_of p side) → Asks side x.1 ⊎ (is_probing (socket_of (takes p x.1) side).block (queued_in (socket_of (takes p x.1) side)) ≡ false))
-    × StaysOpen (takes p x.1) side course
 
 -- HOW LONG A WINDOW STANDS IN THE WAY
 

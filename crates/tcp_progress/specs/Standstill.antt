@@ -64,13 +64,14 @@ held_back =
 abbrev pub repeated : ℤ → List PairEvent
 repeated moment = Deliver B 2 ∷ Deliver B 1 ∷ Offer A moment true ∷ []
 
--- so it is six times in three seconds
-abbrev pub starved : PairValue
-starved =
-    run held_back
-    (repeated (pos 500_000)
-    ++ repeated (pos 1_000_000)
-    ++ repeated (pos 1_500_000)
-    ++ repeated (pos 2_000_000)
-    ++ repeated (pos 2_500_000)
-    ++ repeated (pos 3_000_000))
+-- so it is twice before the moment of the probe
+abbrev pub waiting : PairValue
+waiting = run held_back (repeated (pos 500_000) ++ repeated (pos 1_000_000))
+
+-- and once behind it
+abbrev pub probed : PairValue
+probed = run waiting (repeated (pos 1_500_000))
+
+-- what went comes, and B's user reads
+abbrev pub heard : PairValue
+heard = run probed (Deliver A 3 ∷ Recv B 8 ∷ [])

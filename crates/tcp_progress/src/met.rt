@@ -14,7 +14,7 @@ ghost use Rattle.tcp_progress.specs.HandshakeOn.{MayAnswer, MayCallAgain, MayCon
 ghost use Rattle.tcp_progress.specs.Met.{both_called, both_gone, both_timed, timed_called, timed_conversing, called, conversing, conversing_across, crossed, spoken, unanswered, unconfirmed, unheard, gone, mended, mending, come, told, text, late, later, again_in, writing};
 ghost use Rattle.tcp_progress.specs.Pair.{Exchanges, HasStream, MayExchangeIn, MovesIn, exchanged_in, left_in};
 ghost use Rattle.tcp_progress.specs.Reached.{IsReached, Owes};
-ghost use Rattle.tcp_progress.specs.Readers.{ReadsWithin, StaysOpen, whole_span};
+ghost use Rattle.tcp_progress.specs.Readers.{ReadsWithin, whole_span};
 ghost use Rattle.tcp_progress.specs.Settle.{MaySettle};
 ghost use Rattle.tcp_progress.specs.Spans.{most_reached, reached_in};
 ghost use Rattle.tcp_progress.specs.Talking.{AreTalking, HaveTries, MayTalk};
@@ -116,7 +116,6 @@ pub fn what_a_connection_asks_for_is_met()
 pub fn what_a_course_asks_for_is_met()
     ensures course { GoesInTime 1_000 1_000 (pos 0) gone A mending }
     ensures reads { ReadsWithin 1_000 (pos 0) gone B mending }
-    ensures stays { StaysOpen gone A mending }
     ensures takes { Steps gone (events_of mending) mended }
     ensures long { (pos 0 +ℤ pos (suc (most_reached mended - reached_in gone) * (2 * whole_span 1_000 1_000 1_000 gone A))) <ℤ end_of (pos 0) mending }
     ensures some { left_in gone A ≡ 3 }

@@ -13,7 +13,7 @@ ghost use Rattle.tcp_progress.specs.Course.{GoesInTime, end_of, events_of};
 ghost use Rattle.tcp_progress.specs.Onward.{AreOpen, HasRisen};
 ghost use Rattle.tcp_progress.specs.Pair.{left_in, socket_of};
 ghost use Rattle.tcp_progress.specs.Reached.{IsReached};
-ghost use Rattle.tcp_progress.specs.Readers.{Reads, ReadsWithin, StaysOpen, whole_span};
+ghost use Rattle.tcp_progress.specs.Readers.{Reads, ReadsWithin, whole_span};
 ghost use Rattle.tcp_progress.specs.Rounds.{takes};
 ghost use Rattle.tcp_progress.specs.Sent.{taken_in};
 ghost use Rattle.tcp_progress.specs.Spans.{IsThroughAmong, most_reached, reached_in};
@@ -28,12 +28,12 @@ pub fn free_space_stays_free()
 {}
 
 /// A connection goes on in time, whatever its windows are. In a course in which each side is asked in time, what it offers goes, and each segment
-/// comes in time, and is heard; and in which the other's user reads in time where its buffer is full, and a window that lets the side send does
-/// so until it is asked: within a span SND.UNA or RCV.NXT of a side rises, where the side owes something.
+/// comes in time, and is heard; and in which the other's user reads in time where its buffer is full: within a span SND.UNA or RCV.NXT of a side
+/// rises, where the side owes something.
 pub fn a_connection_goes_on_whatever_its_windows_are()
     ensures owes { (p q : PairValue) (side : Side) (course : List (ℤ × PairEvent)) (read wait delay : ℕ) (now : ℤ) → IsReached p → AreOpen p
         → Steps p (events_of course) q → AreThere q → 1 ≤ left_in p side → GoesInTime wait delay now p side course
-        → ReadsWithin read now p (other side) course → StaysOpen p side course
+        → ReadsWithin read now p (other side) course
         → (now +ℤ pos (whole_span read wait delay p side)) <ℤ end_of now course → HasRisen p q side ⊎ HasRisen p q (other side) }
 {}
 
@@ -42,12 +42,11 @@ pub fn a_connection_goes_on_whatever_its_windows_are()
 pub fn all_is_acknowledged_whatever_the_windows_are()
     ensures reached { (n : ℕ) (p q : PairValue) (side : Side) (course : List (ℤ × PairEvent)) (read wait delay : ℕ) (now : ℤ) → IsReached p
         → AreOpen p → Steps p (events_of course) q → AreThere q → GoesInTime wait delay now p side course
-        → ReadsWithin read now p (other side) course → StaysOpen p side course
+        → ReadsWithin read now p (other side) course
         → (now +ℤ pos (n * (2 * whole_span read wait delay p side))) <ℤ end_of now course
         → (reached_in p + n ≤ reached_in q) ⊎ IsThroughAmong p side (events_of course) }
     ensures through { (p q : PairValue) (side : Side) (course : List (ℤ × PairEvent)) (read wait delay : ℕ) (now : ℤ) → IsReached p → AreOpen p
         → Steps p (events_of course) q → AreThere q → GoesInTime wait delay now p side course → ReadsWithin read now p (other side) course
-        → StaysOpen p side course
         → (now +ℤ pos (suc (most_reached q - reached_in p) * (2 * whole_span read wait delay p side))) <ℤ end_of now course
         → IsThroughAmong p side (events_of course) }
 {}

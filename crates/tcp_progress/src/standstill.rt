@@ -1,10 +1,10 @@
 //! Two sides that each took what the other doesn't know of, on numerals, which the check computes.
 
-ghost use Rattle.std.specs.Prelude.{◌≡◌, pos, [], ◌∷◌, length, Some};
+ghost use Rattle.std.specs.Prelude.{◌≡◌, suc, pos, [], ◌∷◌, length, Some};
 ghost use Rattle.tcp_tie.specs.Pair.Safe.{read};
 ghost use Rattle.tcp_tie.specs.declared.pair.event.Side.TheVariants.{A, B};
 ghost use Rattle.tcp_model.specs.Value.{free_in};
-ghost use Rattle.tcp_progress.specs.Standstill.{crossed, healed, held_back, starved};
+ghost use Rattle.tcp_progress.specs.Standstill.{crossed, healed, heard, held_back, probed, waiting};
 
 /// Each has two bytes of the other, and knows that one of its own was taken. After six rounds of a good link all has been read, and
 /// both sides know it.
@@ -17,11 +17,14 @@ pub fn sides_that_both_send_again_go_on()
     ensures known_b { healed.sides.b.socket.queued.queue ≡ [] }
 {}
 
-/// What `StaysOpen` excludes: where the link repeats an old segment that opens a window and one that closes it, so that neither the one nor the
-/// other lasts until the side is asked, no probe goes in three seconds. The other's user has read, and its buffer is free.
-pub fn windows_that_close_again_starve_a_probe()
+/// No window delays a probe. Where the link repeats an old segment that opens a window and one that closes it, so that neither the one nor the
+/// other lasts until the side is asked, the probe waits for the moment that was set, and goes then; and its byte is taken. The other's user has
+/// read, and its buffer is free.
+pub fn windows_that_close_again_delay_no_probe()
     ensures free { free_in held_back.sides.b.socket ≡ 1 }
     ensures waits { held_back.sides.a.socket.block.timers.probe_at ≡ Some (pos 1_010_000) }
-    ensures none { length starved.sides.a.sent ≡ length held_back.sides.a.sent }
-    ensures left { starved.sides.a.socket.queued.queue ≡ 98 ∷ 99 ∷ [] }
+    ensures stays { waiting.sides.a.socket.block.timers.probe_at ≡ Some (pos 1_010_000) }
+    ensures none { length waiting.sides.a.sent ≡ length held_back.sides.a.sent }
+    ensures goes { length probed.sides.a.sent ≡ suc (length held_back.sides.a.sent) }
+    ensures taken { read heard B ≡ 97 ∷ 98 ∷ [] }
 {}

@@ -9,7 +9,7 @@ ghost use Rattle.tcp_tie.specs.declared.pair.event.Side.{Side};
 ghost use Rattle.tcp_progress.specs.Arrivals.{is_synchronized};
 ghost use Rattle.tcp_progress.specs.Onward.{AreOpen, acked_in};
 ghost use Rattle.tcp_progress.specs.Pair.{socket_of};
-ghost use Rattle.tcp_progress.specs.PutOff.{AreAskedBefore, CarriesIn, IsAskedBefore, IsHeldBack, IsRunning, MendsAmong, MendsIn, ProbesAt, RunsOutAmong};
+ghost use Rattle.tcp_progress.specs.PutOff.{AreAskedBefore, CarriesIn, IsAskedBefore, IsRunning, MayProbe, MendsAmong, MendsIn, ProbesAt, RunsOutAmong};
 ghost use Rattle.tcp_progress.specs.PutOff.{RunsOutAt};
 ghost use Rattle.tcp_progress.specs.Reached.{IsReached};
 ghost use Rattle.tcp_progress.specs.Rounds.{takes};
@@ -39,9 +39,9 @@ pub fn a_minute_brings_news_or_runs_the_timer_out()
         → (acked_in p side < acked_in q side) ⊎ (RunsOutAmong p side events ⊎ MendsAmong p side events) }
 {}
 
-/// What a window holds back waits for the moment of a probe. Nothing puts it off while the window holds it back: it stays until a SYN or a part of
-/// the send queue goes, or the window opens.
-pub fn only_an_open_window_puts_a_probe_off()
+/// What a window held back waits for the moment of a probe. No window puts it off, be it one that opens or one that closes again: as long as bytes
+/// are queued and nothing is in flight the moment stays, until a SYN or a part of the send queue goes.
+pub fn no_window_puts_a_probe_off()
     ensures stays { (p : PairValue) (side : Side) (event : PairEvent) (at : ℤ) → ProbesAt at (socket_of p side)
-        → IsHeldBack (socket_of (takes p event) side) → ProbesAt at (socket_of (takes p event) side) ⊎ CarriesIn p side event }
+        → MayProbe (socket_of (takes p event) side) → ProbesAt at (socket_of (takes p event) side) ⊎ CarriesIn p side event }
 {}

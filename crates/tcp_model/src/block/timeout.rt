@@ -3,7 +3,7 @@ ghost use Rattle.std.specs.Prelude.{◌≡◌, ◌≤◌, ◌^◌, IfSome};
 ghost use Rattle.net_base.specs.Time.{IsMoment};
 ghost use Rattle.tcp_model.specs.Timeout.{waits_for_remote, timeout_runs, timeout_restarted, timeout_kept, is_timeout_unset, timeout_started, timeout_end};
 ghost use Rattle.tcp_model.specs.Timeout.{timed_out};
-ghost use Rattle.tcp_model.specs.Probing.{is_window_small, is_probing, probe_kept, is_probe_unset, probe_started, probe_moment};
+ghost use Rattle.tcp_model.specs.Probing.{is_window_small, is_probing, may_probe, probe_kept, is_probe_unset, probe_started, probe_moment};
 
 use crate::{Block, State};
 use net_base::Instant;
@@ -110,11 +110,21 @@ impl Block {
         self.sender.in_flight == 0 && self.state.sends_text() && self.is_window_small(queued)
     }
 
-    /// Forgets the moment of the next probe where the window isn't probed any more.
+    /// Whether bytes are queued and nothing is in flight, whatever the window says.
+    fn may_probe(&self, queued: usize) -> bool
+        ensures { result ≡ may_probe self.now queued }
+    {
+        self.sender.in_flight == 0 && self.state.sends_text() && queued != 0
+    }
+
+    /// Forgets the moment of the next probe where nothing can be probed for. A window that opens leaves it: it may close again before
+    /// the side is asked.
     pub fn keep_probe(&mut self, queued: usize)
         ensures { self.new ≡ probe_kept self.old queued }
     {
-        self.timers.probe_at = self.probe_moment(queued);
+        if !self.may_probe(queued) {
+            self.timers.probe_at = None;
+        }
     }
 
     /// Whether the window is probed and no probe has a moment.

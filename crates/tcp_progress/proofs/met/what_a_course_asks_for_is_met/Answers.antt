@@ -174,10 +174,6 @@ returns-clause-course c = record {
 pub returns-clause-reads : goal.returns-clause-reads
 returns-clause-reads c = ((λ full. absurd (cc)), ((λ full. absurd (cc)), ((λ full. absurd (cc)), ((λ full. absurd (cc)), ((λ full. absurd (cc)), tt)))))
 
--- no window holds anything back
-pub returns-clause-stays : goal.returns-clause-stays
-returns-clause-stays c = ((λ _. inr refl), ((λ _. inr refl), ((λ _. inr refl), ((λ _. inr refl), ((λ _. inr refl), tt)))))
-
 pub returns-clause-takes : goal.returns-clause-takes
 returns-clause-takes c = (refl, (refl, (refl, (refl, (refl, refl)))))
 
