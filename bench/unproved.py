@@ -1,4 +1,6 @@
-"""Programs of this repository without proof, compiled as proved ones are: what bench/count and tools/tcp-goodput run.
+#!/usr/bin/env python3
+"""Programs and libraries of this repository without proof, compiled as proved ones are: what bench/count and tools/tcp-goodput run, and what
+`bench/interface --unproved` links.
 
 `rt try` builds programs without proof, and looks at each index and address as they run. What its compiler is given is taken while it is there,
 and compiled once more as a proved program is: without these looks, for x86-64-v2, the library's comparisons of slices inlined.
@@ -8,7 +10,10 @@ import re
 import shutil
 import subprocess
 import sys
+import tempfile
 import time
+
+HERE = os.path.dirname(os.path.realpath(__file__))
 
 
 def crates_in(tree, room, crate, below):
@@ -44,10 +49,9 @@ def module_of(room, crate, kept):
         sys.exit(open(f"{room}/said").read() + f"{crate}: `rt try` built nothing")
 
 
-def program_of(module, room):
-    """Compiles the module without what a quick build adds."""
-    kit = os.path.dirname(subprocess.run(["rt", "doc"], capture_output=True, text=True, check=True).stdout.strip())
-    clang = f"{kit}/toolchain/bin/clang"
+def object_of(module, room, exporter=None):
+    """Compiles the module without what a quick build adds. What the crate `exporter` has for C is called by its own name, and its `main` not at all."""
+    clang = f"{kit()}/toolchain/bin/clang"
     subprocess.run([clang, "-S", "-emit-llvm", "-O0", "-Xclang", "-disable-llvm-passes", "-x", "ir", module, "-o", f"{room}/text.ll"], check=True)
     with open(f"{room}/text.ll", errors="surrogateescape") as text, open(f"{room}/made.ll", "w", errors="surrogateescape") as made:
         for line in text:
@@ -58,8 +62,48 @@ def program_of(module, room):
                 line = line.replace("sanitize_address", "nounwind").replace('"frame-pointer"="all"', "").replace('="x86-64"', '="x86-64-v2"')
             elif re.match(r'define internal .*@"core::(slice::scan|cmp::slices)::', line):
                 line = re.sub(r"\) #(\d+) \{$", r") alwaysinline #\1 {", line)
-            made.write(line)
+            made.write(exported(line, exporter) if exporter else line)
     subprocess.run([clang, "-march=x86-64-v2", "-O3", "-fPIE", "-ffunction-sections", "-Wno-override-module", "-mllvm", "-trap-unreachable",
                     "-c", "-x", "ir", f"{room}/made.ll", "-o", f"{room}/made.o"], check=True)
-    subprocess.run(["cc", "-Wl,--gc-sections", f"{room}/made.o", f"{kit}/c/libos_c.a", f"{kit}/c/liblibc_c.a", "-lm", "-o", f"{room}/made"], check=True)
+    return f"{room}/made.o"
+
+
+def kit():
+    return os.path.dirname(subprocess.run(["rt", "doc"], capture_output=True, text=True, check=True).stdout.strip())
+
+
+def exported(line, crate):
+    """The line with the crate's functions for C under their own names."""
+    line = re.sub(rf'@"{crate}::(?:\w+::)?((?:bench|zv)_\w+)"', r"@\1", line)
+    if re.match(r"define internal .*@(bench|zv)_\w+\(", line):
+        line = line.replace("define internal ", "define ", 1)
+    return re.sub(r"^define (.*@main\()", r"define internal \1", line)
+
+
+def program_of(module, room):
+    libraries = [f"{kit()}/c/libos_c.a", f"{kit()}/c/liblibc_c.a"]
+    subprocess.run(["cc", "-Wl,--gc-sections", object_of(module, room), *libraries, "-lm", "-o", f"{room}/made"], check=True)
     return f"{room}/made"
+
+
+def library_of(name, folder, below):
+    """Builds bench/NAME/*.txt over the crates below as FOLDER/libNAME.a. bench/NAME.calls calls each of its exports, so that `rt try` keeps them."""
+    with tempfile.TemporaryDirectory(prefix="unproved-") as room:
+        source = crates_in(os.path.dirname(HERE), room, name, " ".join(below))
+        for file in os.listdir(f"{HERE}/{name}"):
+            shutil.copy(f"{HERE}/{name}/{file}", f"{source}/{file.removesuffix('.txt')}.rt")
+        with open(f"{source}/lib.rt") as lib, open(f"{HERE}/{name}.calls") as calls, open(f"{source}/main.rt", "w") as main:
+            main.write(lib.read() + calls.read())
+        os.remove(f"{source}/lib.rt")
+        module_of(room, name, f"{room}/module.bc")
+        made = object_of(f"{room}/module.bc", room, name)
+        archive = f"{os.path.abspath(folder)}/lib{name}.a"
+        if os.path.exists(archive):
+            os.remove(archive)
+        subprocess.run(["ar", "rcs", archive, made], check=True)
+
+
+if __name__ == "__main__":
+    if len(sys.argv) < 4 or not os.path.isdir(sys.argv[2]) or not os.path.exists(f"{HERE}/{sys.argv[1]}.calls"):
+        sys.exit("unproved.py NAME FOLDER CRATE ..: bench/NAME/*.txt over these crates as FOLDER/libNAME.a, without its proofs")
+    library_of(sys.argv[1], sys.argv[2], sys.argv[3:])
