@@ -10,7 +10,7 @@ use Rattle.ip_wire.specs.IpAddress.{IpAddress}
 use Rattle.ip_wire.specs.IpRepr.{IpRepr}
 use Rattle.ip_wire.specs.IpRepr.TheVariants as Ip
 use Rattle.sockets.specs.Udp.{UdpValue}
-use Rattle.sockets.specs.UdpMetadata.{UdpMetadata}
+use Rattle.sockets.specs.declared.udp.UdpMetadata.{UdpMetadata}
 use Rattle.interface_ingress.specs.Offer as Answer
 use Rattle.interface_ingress.specs.Offer.TheVariants as Offer
 use Rattle.interface_ingress.specs.Packet.{PacketValue}

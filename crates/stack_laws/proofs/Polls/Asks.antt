@@ -9,7 +9,7 @@ use Rattle.ip_wire.specs.IpAddress.{IpAddress}
 use Rattle.ip_wire.specs.IpAddress.TheVariants as Address
 use Rattle.ip_wire.specs.Ipv4Address.{Ipv4Address}
 use Rattle.sockets.specs.Udp.{UdpSettings}
-use Rattle.sockets.specs.UdpMetadata.{UdpMetadata}
+use Rattle.sockets.specs.declared.udp.UdpMetadata.{UdpMetadata}
 use Rattle.interface_ingress.specs.Packet.{PacketValue}
 use Rattle.interface_tables.specs.Inner.{InnerValue, is_crowded, is_local_broadcast, next_hop, link_of_hop, link_on, link_address, all_stations, group_station}
 use Rattle.interface_tables.specs.Neighbor.{CacheValue}

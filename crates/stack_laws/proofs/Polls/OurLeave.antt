@@ -10,7 +10,7 @@ use Rattle.ip_wire.specs.Ip.{source_of, destination_of}
 use Rattle.ip_wire.specs.IpAddress.{IpAddress}
 use Rattle.sockets.specs.Offers.{IsFound, OffersFirst, answer_with, left_with}
 use Rattle.sockets.specs.Udp.{UdpValue, TakesDatagram}
-use Rattle.sockets.specs.UdpMetadata.{UdpMetadata}
+use Rattle.sockets.specs.declared.udp.UdpMetadata.{UdpMetadata}
 use Rattle.interface_ingress.specs.Offer as Answer
 use Rattle.interface_ingress.specs.Offer.TheVariants as Offer
 use Rattle.interface_ingress.specs.Packet.{PacketValue}

@@ -12,7 +12,7 @@ use Rattle.ip_wire.specs.declared.arp.kinds.ArpOperation.TheVariants as Operatio
 use Rattle.ip_wire.specs.declared.arp.repr.ArpRepr.{ArpRepr}
 use Rattle.ip_wire.specs.declared.arp.repr.ArpRepr.TheVariants as Arp
 use Rattle.sockets.specs.Udp.{UdpSettings, TakesDatagram}
-use Rattle.sockets.specs.UdpMetadata.{UdpMetadata}
+use Rattle.sockets.specs.declared.udp.UdpMetadata.{UdpMetadata}
 use Rattle.interface_ingress.specs.Packet.{PacketValue}
 use Rattle.interface_tables.specs.Inner.{InnerValue, context_of, link_address, next_hop, is_crowded, is_local_broadcast, is_in_own_network}
 use Rattle.interface_tables.specs.declared.link.LinkAddress.TheVariants as Link

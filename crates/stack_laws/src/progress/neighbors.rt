@@ -9,7 +9,7 @@ ghost use Rattle.ip_wire.specs.IpAddress.{IpAddress};
 ghost use Rattle.ip_wire.specs.IpAddress.TheVariants as Address;
 ghost use Rattle.ip_wire.specs.Ipv4Address.{Ipv4Address};
 ghost use Rattle.sockets.specs.Udp.{UdpValue};
-ghost use Rattle.sockets.specs.UdpMetadata.{UdpMetadata};
+ghost use Rattle.sockets.specs.declared.udp.UdpMetadata.{UdpMetadata};
 ghost use Rattle.interface_ingress.specs.Packet.{PacketValue};
 ghost use Rattle.interface_ingress.specs.Sent.{AreSealed};
 ghost use Rattle.interface_tables.specs.Inner.{InnerValue, at_moment, is_own, link_address};
