@@ -9,9 +9,9 @@ use Rattle.net_base.specs.Medium.TheVariants as On
 use Rattle.ip_wire.specs.EthernetAddress.{EthernetAddress}
 use Rattle.ip_wire.specs.HardwareAddress.{HardwareAddress}
 use Rattle.ip_wire.specs.HardwareAddress.TheVariants as Hardware
-use Rattle.c_link.specs.Link.{LinkValue, unused, IsTaken, arrived, fetch_answer, fetch_after, push_refusal, LinkMove}
-use Rattle.c_link.specs.declared.error.PushError.{PushError}
-use Rattle.c_link.specs.declared.error.FetchError.{FetchError}
+use Rattle.c_calls.specs.Link.{LinkValue, unused, IsTaken, arrived, fetch_answer, fetch_after, push_refusal, LinkMove}
+use Rattle.c_calls.specs.declared.link.error.PushError.{PushError}
+use Rattle.c_calls.specs.declared.link.error.FetchError.{FetchError}
 use Rattle.c_calls.specs.Codes.{coded}
 use Rattle.c_calls.specs.declared.code.Code.{Code}
 use Rattle.c_calls.specs.declared.code.Code.TheVariants as Is

@@ -18,10 +18,10 @@ use Rattle.tcp_control.specs.declared.error.SendError as StreamSendErrors
 use Rattle.tcp_control.specs.declared.error.SendError.TheVariants as StreamSend
 use Rattle.c_calls.specs.declared.code.Code.{Code}
 use Rattle.c_calls.specs.declared.code.Code.TheVariants as Is
-use Rattle.c_link.specs.declared.error.FetchError.{FetchError}
-use Rattle.c_link.specs.declared.error.FetchError.TheVariants as Fetch
-use Rattle.c_link.specs.declared.error.PushError.{PushError}
-use Rattle.c_link.specs.declared.error.PushError.TheVariants as Push
+use Rattle.c_calls.specs.declared.link.error.FetchError.{FetchError}
+use Rattle.c_calls.specs.declared.link.error.FetchError.TheVariants as Fetch
+use Rattle.c_calls.specs.declared.link.error.PushError.{PushError}
+use Rattle.c_calls.specs.declared.link.error.PushError.TheVariants as Push
 use Rattle.interface.specs.NewError.{NewError}
 use Rattle.interface.specs.NewError.TheVariants as New
 

@@ -1,6 +1,6 @@
 -- A host as a value: its link, its interface, its sockets, its listeners, its clients and what it counted.
 use Rattle.std.specs.Prelude.{ℕ, List, Option}
-use Rattle.c_link.specs.Link.{LinkValue}
+use Rattle.c_calls.specs.Link.{LinkValue}
 use Rattle.c_calls.specs.declared.host.Counters.{Counters}
 use Rattle.interface.specs.Host.{HostValue}
 use Rattle.interface.specs.SocketStorage.{SocketStorage}

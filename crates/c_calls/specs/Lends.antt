@@ -6,8 +6,8 @@ use Rattle.std.specs.contracts.alloc.Global as global
 use Rattle.std.specs.contracts.impls.GlobalAllocator.TheImpl.{ghosts}
 use Rattle.std.specs.contracts.option.Option as option
 use Rattle.std.specs.contracts.vec.Vec as vec
-use Rattle.c_link.specs.Link.{LinkValue}
-use Rattle.c_link.specs.contracts.device.FrameLink as link
+use Rattle.c_calls.specs.Link.{LinkValue}
+use Rattle.c_calls.specs.contracts.link.device.FrameLink as link
 use Rattle.sockets.specs.contracts.dhcpv4.socket.Socket as dhcp
 use Rattle.sockets.specs.contracts.dns.socket.Socket as dns
 use Rattle.interface.specs.Host.{HostValue}

@@ -1,3 +1,4 @@
+pub mod Link
 pub mod Codes
 pub mod Places
 pub mod Lends
@@ -14,4 +15,3 @@ pub mod Tables
 pub mod Added
 pub mod Backlogs
 pub mod Configuring
-pub use Rattle.c_link.specs.Link

@@ -15,7 +15,7 @@ use Rattle.interface.specs.Route.{Route}
 use Rattle.interface.specs.Settings.{is_stranger, with_addresses, with_routes, with_hardware, hardware_refusal}
 use Rattle.interface.specs.HardwareAddrError.{HardwareAddrError}
 use Rattle.interface.specs.HardwareAddrError.TheVariants as No
-use Rattle.c_link.specs.Link.{LinkMove}
+use Rattle.c_calls.specs.Link.{LinkMove}
 use Rattle.c_calls.specs.Codes.{coded}
 use Rattle.c_calls.specs.declared.code.Code.{Code}
 use Rattle.c_calls.specs.declared.code.Code.TheVariants as Is

@@ -2,7 +2,7 @@
 ghost use Rattle.std.specs.Prelude.{◌≡◌};
 ghost use Rattle.c_calls.specs.Codes.{number_of, of_bind, of_send, of_raw_send, of_recv, of_listen, of_connect, of_stream_send, of_stream_recv, of_new, of_push, of_fetch};
 
-use c_link::{FetchError, PushError};
+use crate::link::{FetchError, PushError};
 use interface::NewError;
 use sockets::{raw, tcp, udp};
 

@@ -1,6 +1,6 @@
 //! A host: its link, its interface and its sockets.
 ghost use Rattle.std.specs.Prelude.{◌≡◌, length};
-ghost use Rattle.c_link.specs.Link.{next_len, fetch_answer, fetched};
+ghost use Rattle.c_calls.specs.Link.{next_len, fetch_answer, fetched};
 ghost use Rattle.c_calls.specs.Codes.{coded};
 ghost use Rattle.c_calls.specs.Calls.{counted, NewHost, TakesFrame, fetched_from, or_empty, PollsAt, AsksAt, device_of, config_of};
 ghost use Rattle.c_calls.specs.Added.{MakesSocket};
@@ -9,8 +9,8 @@ ghost use Rattle.c_calls.specs.Codes.{of_fetch};
 
 use crate::backlogs::{is_in_backlog, refresh_all};
 use crate::code::{Code, of_fetch, of_new, of_push};
+use crate::link::FrameLink;
 use crate::places::Places;
-use c_link::FrameLink;
 use interface::{Config, Interface, Listener};
 use ip_wire::{EthernetAddress, HardwareAddress};
 use net_base::{ChecksumCapabilities, DeviceCapabilities, Instant, Medium};

@@ -1,6 +1,8 @@
 //! A host with its calls, each of which answers whatever numbers, moments and sockets it is given: what the static library
 //! `zemplovir_c` passes on to C.
 //!
+//! `link` is the device in memory that a host sends over: its caller pushes frames and fetches them.
+//!
 //! Calls of the sockets at a host's places answer a code where there is no socket, or one of another kind, and those of its clients of DHCP
 //! and DNS one where there is none. Each stands twice, of the sockets or of the client alone and as a method of a host.
 #![tactic(auto)]
@@ -14,6 +16,7 @@ pub mod datagrams;
 mod host;
 mod kinds;
 pub mod leases;
+pub mod link;
 pub mod looks;
 mod made;
 pub mod names;

@@ -4,8 +4,8 @@ ghost use Rattle.std.specs.Borrow.{sem};
 ghost use Rattle.c_calls.specs.Lends.{LendsLink, LendsSockets, LendsInterface, LendsListeners, LendsLeases, LendsNames, LendsCounters};
 
 use crate::host::{Counters, Host};
+use crate::link::FrameLink;
 use crate::places::Places;
-use c_link::FrameLink;
 use interface::{Interface, Listener};
 use sockets::{dhcp, dns};
 use std::alloc::Global;

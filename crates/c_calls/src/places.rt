@@ -9,12 +9,12 @@ ghost use Rattle.interface.specs.Instant.{poll_instant};
 ghost use Rattle.interface.specs.Polls.{Polls};
 ghost use Rattle.interface.specs.State.{state};
 ghost use Rattle.net_base.specs.Time.{IsMoment};
-ghost use Rattle.c_link.specs.Link.{LinkMove};
+ghost use Rattle.c_calls.specs.Link.{LinkMove};
 ghost use Rattle.c_calls.specs.Added.{AddsSocket};
 ghost use Rattle.c_calls.specs.Lends.{LendsSocket};
 
 use crate::code::Code;
-use c_link::FrameLink;
+use crate::link::FrameLink;
 use interface::{AddError, Interface, PollResult, SocketHandle, SocketSet};
 use net_base::{Instant, ManagedSlice};
 use sockets::Socket;

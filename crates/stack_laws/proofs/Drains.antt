@@ -1,6 +1,6 @@
 -- But for want of memory a drain's moves are determined.
 use Rattle.std.proofs.Common.{◌≡◌, ◌<◌, ◌≤◌, ℕ, ℤ, true, false, List, Option, Some, None, sym, ap, ◌∙◌, arith}
-use Rattle.tun_link.specs.Drain.{DrainValue, DrainMove}
+use Rattle.tun_host.specs.Link.Drain.{DrainValue, DrainMove}
 use Rattle.net_base.specs.Device.{Move, Took, Empty, Allowed, Emitted, Denied, gives_tokens}
 use Rattle.interface.proofs.Unrefused.{IsCounting, given_or_not}
 

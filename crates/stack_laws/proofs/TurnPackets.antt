@@ -6,7 +6,7 @@ use Rattle.ip_wire.specs.IpRepr.{IpRepr}
 use Rattle.interface.specs.State.{State, state}
 use Rattle.tun_host.specs.Backlogs.{HostState}
 use Rattle.tun_host.specs.Turns.{TakesTurn, with_packet, budget}
-use Rattle.tun_link.specs.Drain.{DrainValue, DrainMove, brought, received, unless_empty, one_more}
+use Rattle.tun_host.specs.Link.Drain.{DrainValue, DrainMove, brought, received, unless_empty, one_more}
 use Rattle.stack_laws.specs.PeerHost.Brought.{WasBrought}
 use Rattle.stack_laws.proofs.Peers.Devices.{reached_keeps, polled_keeps}
 

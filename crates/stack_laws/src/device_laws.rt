@@ -2,7 +2,7 @@
 ghost use Rattle.std.specs.Prelude.{◌≡◌, ℕ, ℤ, Bool};
 ghost use Rattle.interface.specs.Polls.{Polls};
 ghost use Rattle.interface.specs.State.{State};
-ghost use Rattle.tun_link.specs.Drain.{DrainValue, DrainMove};
+ghost use Rattle.tun_host.specs.Link.Drain.{DrainValue, DrainMove};
 
 use sockets::laws::one_offer;
 

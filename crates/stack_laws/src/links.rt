@@ -1,10 +1,10 @@
-//! Of `tun_link`, and of the services of `tun_host`.
+//! Of the link of `tun_host`, and of its services.
 ghost use Rattle.std.specs.Prelude.{◌≡◌, ◌↔◌, IsTrue};
 ghost use Rattle.tun_host.specs.declared.request.Verdict.{Verdict};
-ghost use Rattle.tun_link.specs.declared.turn.TurnError.{TurnError};
+ghost use Rattle.tun_host.specs.declared.link.turn.TurnError.{TurnError};
 
 use tun_host::Verdict;
-use tun_link::{HEAD_LEN, TurnError};
+use tun_host::link::{HEAD_LEN, TurnError};
 
 /// Law: `==` says of two verdicts, and of two reasons why a turn isn't taken, whether they are the same.
 pub fn answers_are_equated()

@@ -7,7 +7,7 @@ ghost use Rattle.sockets.specs.Udp.{UdpValue};
 ghost use Rattle.sockets.specs.TcpValue.{TcpValue};
 ghost use Rattle.tun_host.specs.Backlogs.{HostState};
 ghost use Rattle.tun_host.specs.Turns.{TakesTurn, with_packet};
-ghost use Rattle.tun_link.specs.Drain.{DrainMove};
+ghost use Rattle.tun_host.specs.Link.Drain.{DrainMove};
 ghost use Rattle.stack_laws.specs.PeerHost.Brought.{WasBrought};
 ghost use Rattle.stack_laws.specs.PeerHost.Streams.{IsTcpAt, StreamGoesOn};
 ghost use Rattle.stack_laws.specs.PeerHost.Datagrams.{IsUdpAt, DatagramsGoOn};

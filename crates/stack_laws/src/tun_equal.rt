@@ -4,8 +4,8 @@ ghost use Rattle.std.specs.Prelude.{◌≡◌, ◌↔◌, IsTrue};
 ghost use Rattle.tun_host.specs.contracts.place.ServicePartialEq.TheImpl as Services;
 ghost use Rattle.tun_host.specs.declared.place.Service.{Service};
 
+use tun_host::link::TurnError;
 use tun_host::{ServeError, Verdict};
-use tun_link::TurnError;
 
 /// Law: `==` says of why two turns aren't taken, of why two hosts ended, and of two verdicts on requests whether they are the
 /// same.

@@ -6,7 +6,7 @@ ghost use Rattle.tun_host.specs.Turns.{budget};
 ghost use Rattle.tun_host.specs.declared.interface_of.TheConstants.{MTU};
 ghost use Rattle.tun_host.specs.declared.place.TheConstants.{ECHO_PORT, PAGE_PORT, DATAGRAMS};
 
-use tun_link::HEAD_LEN;
+use tun_host::link::HEAD_LEN;
 
 /// Law: the ports of the services (RFC 862, RFC 1945), the longest packet, how many datagrams wait and are echoed, how many sockets
 /// there are, how much each keeps of datagrams and of a stream, how much of a request is looked at, and how many frames a poll takes.

@@ -1,3 +1,4 @@
+mod ReadTurns
 mod Beginning
 mod Fresh
 mod Connections

@@ -4,8 +4,8 @@ use Rattle.std.proofs.Common.{subst}
 use Rattle.std.specs.Prelude.{⊤}
 use Rattle.std.specs.Io.KnownBytes.{Appends}
 use Rattle.std.proofs.KnownBytes.{Appends-nil, Appends-trans}
-use Rattle.tun_link.specs.Turn.{Takes, Next, Refuses}
-use Rattle.tun_link.specs.declared.turn.TurnError.{TurnError}
+use Rattle.tun_host.specs.Link.Turn.{Takes, Next, Refuses}
+use Rattle.tun_host.specs.declared.link.turn.TurnError.{TurnError}
 use Rattle.tun_host.specs.Settings.{settings_in}
 use Rattle.tun_host.specs.Backlogs.{HostState}
 use Rattle.tun_host.specs.Turns.{Turn, Arrives, Answers, Serves, Runs, Reads, BeginsNone, ArrivesNot, Ends, IsServed}

@@ -18,7 +18,7 @@ use Rattle.interface.specs.declared.listener.stage.Stage.TheVariants as Stage
 use Rattle.tun_host.specs.Services.{first_place, socket_count, keeper_place, port_of, PlaceServes, is_over}
 use Rattle.tun_host.specs.declared.place.Service.{Service}
 use Rattle.tun_host.specs.declared.tally.Tally.{Tally}
-use Rattle.tun_link.specs.Drain.{DrainValue}
+use Rattle.tun_host.specs.Link.Drain.{DrainValue}
 
 abbrev pub on_port : ℕ → IpListenEndpoint
 on_port port = record { addr = None; port = port }

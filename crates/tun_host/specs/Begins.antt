@@ -43,7 +43,7 @@ use Rattle.tun_host.specs.declared.place.Service.{Service}
 use Rattle.tun_host.specs.declared.place.Service.TheVariants.{Datagrams, Streams, Page, Keeper}
 use Rattle.tun_host.specs.declared.place.TheConstants.{ECHO_PORT, DATAGRAMS}
 use Rattle.tun_host.specs.declared.settings.Settings.{Settings}
-use Rattle.tun_link.specs.Drain.{DrainValue, fresh_drain}
+use Rattle.tun_host.specs.Link.Drain.{DrainValue, fresh_drain}
 use Rattle.tun_host.specs.Tallies.{no_tally}
 use Rattle.tun_host.specs.Site.{fresh_session}
 

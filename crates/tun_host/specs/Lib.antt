@@ -1,3 +1,4 @@
+pub mod Link
 pub mod Echo
 pub mod Request
 pub mod Counts

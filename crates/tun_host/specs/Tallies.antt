@@ -5,7 +5,7 @@ use Rattle.tun_host.specs.declared.site.Session.{Session}
 use Rattle.interface.specs.Backlog.Stages.{is_open}
 use Rattle.interface.specs.declared.listener.entry.Entry.{Entry}
 use Rattle.tun_host.specs.declared.tally.Tally.{Tally}
-use Rattle.tun_link.specs.Drain.{DrainValue}
+use Rattle.tun_host.specs.Link.Drain.{DrainValue}
 
 -- counted to the largest number of 64 bits
 abbrev pub more : ℕ → ℕ → ℕ

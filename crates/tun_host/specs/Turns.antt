@@ -25,9 +25,9 @@ use Rattle.tun_host.specs.declared.place.Service.TheVariants.{Streams, Page}
 use Rattle.tun_host.specs.declared.place.TheConstants.{ECHO_PORT, PAGE_PORT}
 use Rattle.tun_host.specs.declared.turns.TheConstants.{LONGEST}
 use Rattle.tun_host.specs.declared.settings.Settings.{Settings}
-use Rattle.tun_link.specs.Answer.{answer_end}
-use Rattle.tun_link.specs.Drain.{DrainValue, DrainMove, brought}
-use Rattle.tun_link.specs.Turn.{Takes, Refuses}
+use Rattle.tun_host.specs.Link.Answer.{answer_end}
+use Rattle.tun_host.specs.Link.Drain.{DrainValue, DrainMove, brought}
+use Rattle.tun_host.specs.Link.Turn.{Takes, Refuses}
 
 abbrev pub state_of : Host → HostState
 state_of h = record {

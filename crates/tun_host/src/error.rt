@@ -1,6 +1,6 @@
 //! How serving ends early.
+use crate::link::TurnError;
 use thiserror::Error;
-use tun_link::TurnError;
 
 /// Why a host ended before its input.
 #[derive(Clone, Copy, Debug, PartialEq, Eq, Drop, Error)]

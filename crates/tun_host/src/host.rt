@@ -11,12 +11,13 @@ ghost use Rattle.tun_host.specs.Turns.{state_of, IsSetUp, budget, served_of, Ser
 ghost use Rattle.interface.specs.State.{state};
 ghost use Rattle.tun_host.specs.Site.{fresh_session};
 ghost use Rattle.interface.specs.Polls.{Polls, is_change};
-ghost use Rattle.tun_link.specs.Drain.{DrainMove};
+ghost use Rattle.tun_host.specs.Link.Drain.{DrainMove};
 
 use crate::backlog::{listener, serve_backlog, serve_first};
 use crate::counts::Counts;
 use crate::error::ServeError;
 use crate::interface_of::{capabilities, interface};
+use crate::link::{Drain, write_answer};
 use crate::place::{Service, socket_count};
 use crate::settings::Settings;
 use crate::site::Session;
@@ -27,7 +28,6 @@ use net_base::{Instant, ManagedSlice};
 use sockets::Socket;
 use std::alloc::{AllocError, Global};
 use std::io::Write;
-use tun_link::{Drain, write_answer};
 
 /// How many frames a poll takes, and how many passes over the sockets it makes, at most.
 const BUDGET: u16 = 64;

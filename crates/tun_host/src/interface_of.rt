@@ -9,13 +9,13 @@ ghost use Rattle.tun_host.specs.Settings.{HasPrefixes};
 ghost use Rattle.tun_host.specs.Begins.{capabilities_of, config_of, AddsRouters, AreDefaults, IsInterface, RefusesHardware, RefusesSettings};
 
 use crate::error::ServeError;
+use crate::link::Drain;
 use crate::settings::Settings;
 use arrayvec::ArrayVec;
 use interface::{Config, Interface, NewError, Routes, TABLE_ROOM};
 use ip_wire::{IpCidr, Ipv4Address, Ipv6Address};
 use net_base::{ChecksumCapabilities, DeviceCapabilities, Instant, Medium};
 use std::alloc::Global;
-use tun_link::Drain;
 
 /// The longest packet, in bytes.
 pub const MTU: usize = 1500;

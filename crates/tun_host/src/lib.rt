@@ -1,6 +1,8 @@
 //! A host that other programs can talk to: it takes turns from a reader and answers them to a writer, echoes datagrams and streams
 //! on port 7, and serves a page on port 80.
 //!
+//! `link` is its device, over a reader and a writer.
+//!
 //! Its services are small servers, each over one socket: echoes of datagrams and of streams, and a site of three pages. Each is called
 //! whenever its socket may have changed, and does what can be done now.
 #![tactic(auto)]
@@ -11,6 +13,7 @@ mod datagram;
 mod error;
 mod host;
 mod interface_of;
+pub mod link;
 mod place;
 mod program;
 mod request;

@@ -4,10 +4,10 @@ ghost use Rattle.interface.specs.Backlog.Stages.{is_open};
 ghost use Rattle.tun_host.specs.Tallies.{no_more, tally_with, collected, counts_of, more_waiting, open_count};
 
 use crate::counts::Counts;
+use crate::link::Drain;
 use crate::site::Session;
 use interface::Listener;
 use interface::listener::Entry;
-use tun_link::Drain;
 
 /// Connections that were accepted, and requests that were answered, each to the largest number of 64 bits.
 #[derive(Clone, Copy, Debug, PartialEq, Eq)]

@@ -3,18 +3,18 @@ ghost use Rattle.std.specs.Prelude.{◌≡◌, ◌≢◌, ℕ, List, IfOk, IfErr
 ghost use Rattle.std.specs.Option.{option_map};
 ghost use Rattle.std.specs.Io.KnownBytes.{Appends};
 ghost use Rattle.net_base.specs.Time.{IsMoment};
-ghost use Rattle.tun_link.specs.Turn.{Next, Refuses};
-ghost use Rattle.tun_link.specs.declared.turn.TurnError.{TurnError};
+ghost use Rattle.tun_host.specs.Link.Turn.{Next, Refuses};
+ghost use Rattle.tun_host.specs.declared.link.turn.TurnError.{TurnError};
 ghost use Rattle.tun_host.specs.Settings.{settings_in};
 ghost use Rattle.tun_host.specs.Turns.{state_of, IsSetUp, Begun, Arrives, BeginsNone, ArrivesNot, IsServed};
 
 use crate::error::ServeError;
 use crate::host::Host;
+use crate::link::read_turn;
 use crate::settings::Settings;
 use net_base::Instant;
 use std::alloc::Global;
 use std::io::{Read, Write};
-use tun_link::read_turn;
 
 /// The longest packet that a turn brings, in bytes: the most that its length can say. The link drops one that is longer than its own.
 pub const LONGEST: usize = 65_535;

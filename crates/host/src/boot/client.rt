@@ -13,7 +13,7 @@ use ip_wire::{EthernetAddress, HardwareAddress};
 use net_base::{ChecksumCapabilities, DeviceCapabilities, Instant, ManagedSlice, Medium};
 use sockets::{AnySocket, Socket, dhcp, dns};
 use std::alloc::Global;
-use tun_link::Drain;
+use tun_host::link::Drain;
 
 /// How many frames a poll takes in, and how often it goes over the sockets, at most.
 const BUDGET: u16 = 16;

@@ -6,7 +6,7 @@ use crate::boot::orders::Orders;
 use anyhow::Result;
 use net_base::Instant;
 use std::io::{self, Read};
-use tun_link::{read_turn, write_answer};
+use tun_host::link::{read_turn, write_answer};
 
 /// The longest frame that a turn brings, in bytes.
 const LONGEST: usize = 65_535;

@@ -1,4 +1,4 @@
-use Rattle.tun_link.specs.Drain.{DrainValue, DrainMove}
+use Rattle.tun_host.specs.Link.Drain.{DrainValue, DrainMove}
 use Rattle.interface.proofs.Unrefused.{one_unrefused}
 use Rattle.stack_laws.proofs.Drains.{counting_drains}
 use Rattle.stack_laws.proofs.device_laws.polls_at_drains_have_one_end.Goals as goal

@@ -1,6 +1,6 @@
 use Rattle.interface.specs.State.{state}
 use Rattle.tun_host.specs.Turns.{budget, with_packet}
-use Rattle.tun_link.specs.Drain.{DrainMove}
+use Rattle.tun_host.specs.Link.Drain.{DrainMove}
 use Rattle.stack_laws.proofs.Peers.Tcp.{stream_goes_on}
 use Rattle.stack_laws.proofs.Peers.Udp.{datagrams_go_on}
 use Rattle.stack_laws.proofs.peer_turns.turns_go_on.Goals as goal

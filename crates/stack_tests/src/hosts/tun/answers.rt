@@ -2,7 +2,7 @@
 use crate::cases::{Goes, Life, all_live, first_wrong};
 use net_base::{ChecksumCapabilities, Device, DeviceCapabilities, Instant, Medium, RxToken};
 use std::alloc::{AllocError, Global};
-use tun_link::{Drain, write_answer};
+use tun_host::link::{Drain, write_answer};
 
 /// A call of a link, and what it must answer.
 enum Step {

@@ -2,7 +2,7 @@
 use crate::cases::{Life, all_live};
 use std::alloc::Global;
 use tun_host::ServeError;
-use tun_link::TurnError;
+use tun_host::link::TurnError;
 
 /// An error, and its text.
 struct End(ServeError, &'static str);

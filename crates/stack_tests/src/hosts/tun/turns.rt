@@ -2,7 +2,7 @@
 use crate::cases::{Life, all_live};
 use net_base::Instant;
 use std::alloc::Global;
-use tun_link::{TurnError, read_turn};
+use tun_host::link::{TurnError, read_turn};
 
 /// A turn at 258 microseconds with a packet of three bytes, and then a tick at 65,537 microseconds.
 const TWO: [u8; 23] = [

@@ -2,7 +2,7 @@ use Rattle.std.proofs.Common.{◌≡◌, ℤ, List, ℕ, Option, Result, Err, If
 use Rattle.std.specs.Io.KnownBytes.{Appends}
 use Rattle.std.proofs.lemmas.Result.{err_from_is_err_and}
 use Rattle.net_base.specs.Time.{IsMoment}
-use Rattle.tun_link.specs.Turn.{Next}
+use Rattle.tun_host.specs.Link.Turn.{Next}
 use Rattle.tun_host.specs.Turns.{state_of, IsServed}
 use Rattle.tun_host.specs.declared.error.ServeError.{ServeError}
 use Rattle.tun_host.specs.declared.turns.TheConstants.{LONGEST}

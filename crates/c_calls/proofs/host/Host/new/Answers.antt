@@ -1,5 +1,5 @@
 use Rattle.std.proofs.Common.{◌≡◌, ap, ◌∙◌}
-use Rattle.c_link.specs.Link.{LinkValue}
+use Rattle.c_calls.specs.Link.{LinkValue}
 use Rattle.c_calls.specs.Calls.{config_of, device_of}
 use Rattle.c_calls.proofs.Making.{refused_by}
 use Rattle.c_calls.proofs.host.Host.new.Goals as goal

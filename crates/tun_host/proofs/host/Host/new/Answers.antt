@@ -1,7 +1,7 @@
 use Rattle.std.proofs.Common.{◌≡◌, ◌∙◌, refl, ap, rules, arith}
 use Rattle.std.proofs.lemmas.Grind.{common_steps}
 use Rattle.interface.specs.declared.listener.Listener.{Listener}
-use Rattle.tun_link.specs.Drain.{fresh_drain}
+use Rattle.tun_host.specs.Link.Drain.{fresh_drain}
 use Rattle.tun_host.specs.Backlogs.{IsFreshListener}
 use Rattle.tun_host.specs.declared.place.Service.TheVariants.{Streams, Page}
 use Rattle.tun_host.proofs.host.Host.new.Goals as goal

@@ -7,7 +7,7 @@ use Rattle.interface.specs.Host.{HostValue}
 use Rattle.interface.specs.Polls.{Polls, is_change}
 use Rattle.interface.specs.State.{state}
 use Rattle.interface.specs.Set.{places}
-use Rattle.tun_link.specs.Drain.{DrainValue, DrainMove}
+use Rattle.tun_host.specs.Link.Drain.{DrainValue, DrainMove}
 use Rattle.tun_host.specs.Backlogs.{HostState}
 use Rattle.tun_host.specs.Turns.{budget, served_of, AreServed}
 use Rattle.tun_host.proofs.host.Host.take_turn.Goals as goal
