@@ -13,7 +13,7 @@ use Rattle.tcp_law.specs.Invariant.{FitsPhase}
 use Rattle.tcp_law.specs.Side.{Side as Half, Phase}
 use Rattle.tcp_law.specs.Side.Phase.{SynSent}
 use Rattle.tcp_law.specs.Side.Opening.{NotYet, Passive, Active}
-use Rattle.tcp_law.proofs.Lists.{AllByRecursion-push}
+use Rattle.tcp_law.proofs.Lists.{AllByRecursion-map, AllByRecursion-push}
 use Rattle.tcp_tie.specs.Context.{ContextValue}
 use Rattle.tcp_tie.specs.Endpoints.{GoesBetween, GoesBack, CameBetween, IsFor, KeepsOrForgets, IsLeftBy, IsRenamed}
 use Rattle.tcp_tie.specs.History.{closed_by, closes_in}
@@ -111,13 +111,23 @@ record Comes (pair : EndpointPair) (others : List SentSegment) : Type 0 where
   among : Among x others
   came : CameBetween pair x.header x.segment
 
+-- a segment goes back to where one of the other side came from
+record GoesBackIn (others : List SentSegment) (x : SentSegment) : Type 0 where
+  to : SentSegment
+  among : Among to others
+  source : source_of x.header ≡ destination_of to.header
+  destination : destination_of x.header ≡ source_of to.header
+  source_port : x.segment.src_port ≡ to.segment.dst_port
+  destination_port : x.segment.dst_port ≡ to.segment.src_port
+
 -- A socket, with what was seen of it and what it sent, and how its partner was opened and what that sent: before it is opened it sends
 -- nothing; one that called sends between its endpoints, and past SYN-SENT a segment of its partner came between them; one that listened has
--- those of a segment of a partner that called; and where none called nothing is sent.
+-- those of a segment of a partner that called, and whatever it sent goes back to one; and where none called nothing is sent.
 pub record IsDirected (v : TcpValue) (mine : Opening) (sent : List SentSegment) (theirs : Opening) (others : List SentSegment) : Type 0 where
   unopened : mine ≡ NotYet → (sent ≡ []) × (v.block.names.pair ≡ None)
   active : mine ≡ Active → (pair : EndpointPair) → v.block.names.pair ≡ Some pair → AllByRecursion (GoesFrom pair) sent
   passive : mine ≡ Passive → (pair : EndpointPair) → v.block.names.pair ≡ Some pair → (theirs ≡ Active) × Comes pair others
+  returns : mine ≡ Passive → AllByRecursion (GoesBackIn others) sent
   heard : mine ≡ Active → is_past v.block.state ≡ true → (pair : EndpointPair) → v.block.names.pair ≡ Some pair → Comes pair others
   none : (mine ≡ Active → ⊥) → (theirs ≡ Active → ⊥) → sent ≡ []
 
@@ -139,6 +149,7 @@ still v new mine after sent theirs others same past names = record {
     unopened = λ first. let it = d.unopened (sym same ∙ first) in (it.0, unnamed names it.1);
     active = λ called pair e. by names (λ old. d.active (sym same ∙ called) pair old) e;
     passive = λ listened pair e. by names (λ old. d.passive (sym same ∙ listened) pair old) e;
+    returns = λ listened. d.returns (sym same ∙ listened);
     heard = λ called on pair e. by names (λ old. d.heard (sym same ∙ called) (past on) pair old) e;
     none = λ not theirs_not. d.none (λ e. not (same ∙ e)) theirs_not;
   };
@@ -204,6 +215,8 @@ offered cx v mine theirs sent others (Some o) queue e = record {
     active = λ called pair named.
         AllByRecursion-push (GoesFrom pair) sent gone (d.active called pair (before pair named)) (goes pair (before pair named));
     passive = λ listened pair named. d.passive listened pair (before pair named);
+    returns = λ listened.
+        AllByRecursion-push (GoesBackIn others) sent gone (d.returns listened) (goes_back (d.passive listened it.0 it.1).1);
     heard = λ called on pair named. d.heard called (sent_past cx v on) pair (before pair named);
     none = λ not theirs_not. absurd (nobody d not theirs_not);
   };
@@ -232,6 +245,16 @@ offered cx v mine theirs sent others (Some o) queue e = record {
         let g = subst (λ (pair : EndpointPair). GoesBetween pair o) (one_pair it.0 pair (sym it.1 ∙ named)) it.2 in
         record { source = g.source; destination = g.destination; source_port = g.source_port; destination_port = g.destination_port }
 
+    goes_back : Comes it.0 others → GoesBackIn others gone
+    goes_back c = record {
+      to = c.x;
+      among = c.among;
+      source = it.2.source ∙ sym c.came.destination;
+      destination = it.2.destination ∙ sym c.came.source;
+      source_port = it.2.source_port ∙ sym c.came.destination_port;
+      destination_port = it.2.destination_port ∙ sym c.came.source_port;
+    }
+
     nobody : IsDirected v mine sent theirs others → (mine ≡ Active → ⊥) → (theirs ≡ Active → ⊥) → ⊥
     nobody d not theirs_not = by mine refl where
       by : (opening : Opening) → mine ≡ opening → ⊥
@@ -254,6 +277,7 @@ arrived cx v w p q k mine theirs sent others x answer first among accepts_it rep
     unopened = λ at. absurd (not_closed d back at);
     active = λ called pair named. all answer refl d called pair (pair_before pair named called);
     passive = λ listened pair named. by_names d back listened pair named renamed;
+    returns = λ listened. all_back answer refl (d.returns listened);
     heard = λ called _ pair named. came_between called pair (pair_before pair named called) (is_for.connected (listens_not called));
     none = λ not theirs_not. none_among others x (back theirs_not not) among;
   };
@@ -329,6 +353,22 @@ arrived cx v w p q k mine theirs sent others x answer first among accepts_it rep
               destination_port = back.destination_port ∙ c.source_port;
             }
 
+    all_back : (a : Option Reply) → answer ≡ a → AllByRecursion (GoesBackIn others) sent → AllByRecursion (GoesBackIn others) (and_reply sent a)
+    all_back None e all = all
+    all_back (Some reply) e all =
+        AllByRecursion-push (GoesBackIn others) sent (record { header = reply.header; segment = reply.segment; bytes = [] }) all
+        (record {
+          to = x;
+          among = among;
+          source = back.source;
+          destination = back.destination;
+          source_port = back.source_port;
+          destination_port = back.destination_port;
+        })
+      where
+        back : GoesBack x.header x.segment reply
+        back = answer_back cx v x.header x.segment x.bytes reply (replied ∙ e)
+
     -- a listener is opened by a partner that called
     by_names :
         IsDirected v mine sent theirs others → ((theirs ≡ Active → ⊥) → (mine ≡ Active → ⊥) → others ≡ []) → mine ≡ Passive → (pair : EndpointPair)
@@ -394,6 +434,7 @@ module _ (s : PairSide) (w : TcpValue) (p q : Past) (others : List SentSegment) 
           unopened = λ _. ((d.unopened first).0, unnamed);
           active = λ _ pair named. absurd (no_pair pair (sym unnamed ∙ named));
           passive = λ _ pair named. absurd (no_pair pair (sym unnamed ∙ named));
+          returns = λ _. subst (λ (xs : List SentSegment). AllByRecursion (GoesBackIn others) xs) (sym (d.unopened first).0) tt;
           heard = λ _ _ pair named. absurd (no_pair pair (sym unnamed ∙ named));
           none = λ _ _. (d.unopened first).0;
         };
@@ -416,6 +457,7 @@ module _ (s : PairSide) (w : TcpValue) (p q : Past) (others : List SentSegment) 
       unopened = λ (e : Active ≡ NotYet). absurd (cc);
       active = λ _ it _. subst (λ (xs : List SentSegment). AllByRecursion (GoesFrom it) xs) (sym (d.unopened first).0) tt;
       passive = λ (e : Active ≡ Passive). absurd (cc);
+      returns = λ (e : Active ≡ Passive). absurd (cc);
       heard = λ _ (e : false ≡ true). clash (sym e);
       none = λ not _. absurd (not refl);
     };
@@ -509,15 +551,25 @@ beside v new w mine after theirs sent gone others m d = record {
   active = d.active;
   passive = λ listened pair named.
       let it = d.passive listened pair named in (m.stays it.0, comes_still pair it.1);
+  returns = λ listened. AllByRecursion-map (GoesBackIn sent) (GoesBackIn gone) back_still others (d.returns listened);
   heard = λ called on pair named. comes_still pair (d.heard called on pair named);
   none = λ not theirs_not. d.none not (λ called. theirs_not (m.stays called));
 }
   where
+    among_still : (x : SentSegment) → Among x sent → Among x gone
+    among_still x among = subst (λ (xs : List SentSegment). Among x xs) (sym m.grown) (among_more x sent m.more among)
+
     comes_still : (pair : EndpointPair) → Comes pair sent → Comes pair gone
-    comes_still pair it = record {
-      x = it.x;
-      among = subst (λ (xs : List SentSegment). Among it.x xs) (sym m.grown) (among_more it.x sent m.more it.among);
-      came = it.came;
+    comes_still pair it = record { x = it.x; among = among_still it.x it.among; came = it.came }
+
+    back_still : (x : SentSegment) → GoesBackIn sent x → GoesBackIn gone x
+    back_still x it = record {
+      to = it.to;
+      among = among_still it.to it.among;
+      source = it.source;
+      destination = it.destination;
+      source_port = it.source_port;
+      destination_port = it.destination_port;
     }
 
 -- A PAIR
@@ -581,6 +633,7 @@ new_directed v unnamed = record {
   unopened = λ _. (refl, unnamed);
   active = λ (e : NotYet ≡ Active). absurd (cc);
   passive = λ (e : NotYet ≡ Passive). absurd (cc);
+  returns = λ (e : NotYet ≡ Passive). absurd (cc);
   heard = λ (e : NotYet ≡ Active). absurd (cc);
   none = λ _ _. refl;
 }
@@ -592,20 +645,6 @@ reached_directed p r =
     (record { state = refl; waiting = refl; queue = refl; unfinished = refl })
     (record { state = refl; waiting = refl; queue = refl; unfinished = refl }))
     (record { a = new_directed (new_socket r.room_a r.ring_a) refl; b = new_directed (new_socket r.room_b r.ring_b) refl }) r.steps
-
--- each segment that a side which called ever sent goes between its endpoints
-pub called_goes :
-    (p : PairValue) (side : Side) (k : ℕ) (x : SentSegment) (pair : EndpointPair) → IsReached p → (at (pasts p.history) side).opening ≡ Active
-    → (socket_of p side).block.names.pair ≡ Some pair → slice_get (at p.sides side).sent k ≡ Some x
-    → (source_of x.header ≡ local_of pair.addresses)
-    × ((destination_of x.header ≡ remote_of pair.addresses)
-    × ((x.segment.src_port ≡ pair.local_port) × (x.segment.dst_port ≡ pair.remote_port)))
-called_goes p side k x pair r called named e =
-    let g =
-    all_among (GoesFrom pair) (at p.sides side).sent x ((side_directed p.sides (pasts p.history) side (reached_directed p r)).active called pair named)
-    (among_at (at p.sides side).sent k x e)
-    in
-    (g.source, (g.destination, (g.source_port, g.destination_port)))
 
 -- THE ENDPOINTS MIRROR EACH OTHER
 
@@ -723,3 +762,38 @@ pub connected_mirrored :
 connected_mirrored p side r mine theirs =
     reached_mirrored p side r (later_heard (socket_of p side).block.state mine)
     (past_there (socket_of p (other side)).block.state (later_past (socket_of p (other side)).block.state theirs))
+
+-- WHATEVER A SIDE EVER SENT
+
+-- goes between the endpoints of the other
+came_by :
+    (v w : TcpValue) (mine theirs : Opening) (sent others : List SentSegment) (x : SentSegment) (m : AreMirrored v.block w.block)
+    → IsDirected v mine sent theirs others → IsDirected w theirs others mine sent → Among x sent → CameBetween m.theirs x.header x.segment
+came_by v w mine theirs sent others x m d e among = by mine refl where
+  by : (a : Opening) → mine ≡ a → CameBetween m.theirs x.header x.segment
+  by NotYet first = none_among sent x (d.unopened first).0 among
+  by Passive first =
+      let back = all_among (GoesBackIn others) sent x (d.returns first) among in
+      let g = all_among (GoesFrom m.theirs) others back.to (e.active (d.passive first m.own m.named).0 m.theirs m.partner_named) back.among in
+      record {
+        source = back.source ∙ g.destination;
+        destination = back.destination ∙ g.source;
+        source_port = back.source_port ∙ g.destination_port;
+        destination_port = back.destination_port ∙ g.source_port;
+      }
+  by Active first =
+      let g = all_among (GoesFrom m.own) sent x (d.active first m.own m.named) among in
+      record {
+        source = g.source ∙ m.local;
+        destination = g.destination ∙ m.remote;
+        source_port = g.source_port ∙ m.local_port;
+        destination_port = g.destination_port ∙ m.remote_port;
+      }
+
+pub came_between_theirs :
+    (p : PairValue) (side : Side) (k : ℕ) (x : SentSegment) (m : AreMirrored (socket_of p side).block (socket_of p (other side)).block) → IsReached p
+    → slice_get (at p.sides side).sent k ≡ Some x → CameBetween m.theirs x.header x.segment
+came_between_theirs p side k x m r sent =
+    let b = reached_directed p r in
+    came_by (socket_of p side) (socket_of p (other side)) _ _ _ _ x m (side_directed p.sides (pasts p.history) side b)
+    (partner_directed p.sides (pasts p.history) side b) (among_at (at p.sides side).sent k x sent)

@@ -2,7 +2,6 @@
 
 ghost use Rattle.std.specs.Prelude.{◌≡◌, ◌⊎◌, ℕ, ◌≤◌, ℤ, true, false, List, length, Some, slice_get};
 ghost use Rattle.ip_wire.specs.SeqNumber.{SeqNumber};
-ghost use Rattle.tcp_law.specs.Side.Opening.{Active};
 ghost use Rattle.tcp_rules.specs.Controls.{is_rst, is_syn};
 ghost use Rattle.tcp_rules.specs.OpenOffer.{OpenOffer};
 ghost use Rattle.tcp_rules.specs.Timing.{carries};
@@ -70,9 +69,10 @@ pub fn an_exchange_that_takes_time_goes_on()
         → GoesOnIn p q s side k j }
 {}
 
-/// Of a connection the other side accepts whatever a side that called ever sent, however late it comes.
-pub fn what_a_caller_sent_is_accepted()
+/// Of a connection the other side accepts whatever a side ever sent, however late it comes, be it that the side called, that it listened, or that
+/// both called.
+pub fn what_was_sent_is_accepted()
     ensures accepted { (p : PairValue) (side : Side) (k : ℕ) (x : SentSegment) → IsReached p → is_synchronized (socket_of p side).block.state ≡ true
-        → is_synchronized (socket_of p (other side)).block.state ≡ true → (past_at p side).opening ≡ Active
-        → slice_get (at p.sides side).sent k ≡ Some x → accepts (socket_of p (other side)).block x.header x.segment ≡ true }
+        → is_synchronized (socket_of p (other side)).block.state ≡ true → slice_get (at p.sides side).sent k ≡ Some x
+        → accepts (socket_of p (other side)).block x.header x.segment ≡ true }
 {}
