@@ -242,8 +242,8 @@ bare_in p B k y = bare_answer A p.sides.a (slice_get p.sides.b.sent k) y
 -- a segment of the other is heard
 may_hear : (p : PairValue) (side : Side) (j : ℕ) (y : SentSegment) → slice_get (at p.sides (other side)).sent j ≡ Some y → IsHeard p (other side) y
     → segment_len y.segment (length y.bytes) ≡ 0 → MayHear p side j y
-may_hear p A j y sent h bare = record { sent = sent; accepted = h.accepted; fresh = h.fresh; near = h.near bare }
-may_hear p B j y sent h bare = record { sent = sent; accepted = h.accepted; fresh = h.fresh; near = h.near bare }
+may_hear p A j y sent h bare = record { sent = sent; fresh = h.fresh; near = h.near bare }
+may_hear p B j y sent h bare = record { sent = sent; fresh = h.fresh; near = h.near bare }
 
 module _ (delay : ℕ) (p q : PairValue) (side : Side) (k : ℕ) (x : SentSegment) (course : List (ℤ × PairEvent)) (now : ℤ) (r : IsReached p) (o : AreOpen p)
     (there : AreThere q) (stream : HasStream (past_at p side)) (room : 1 ≤ room_of (socket_of p (other side)).received) (g : GoesFrom p side x)
@@ -305,7 +305,7 @@ module _ (delay : ℕ) (p q : PairValue) (side : Side) (k : ℕ) (x : SentSegmen
   }
 
   comes : MayCome mid side k x
-  comes = record { sent = first.sent; accepted = first.heard.accepted; fresh = first.heard.fresh }
+  comes = record { sent = first.sent; fresh = first.heard.fresh }
 
   -- what has risen by then has risen in the end
   lifted : (m : PairValue) (of : Side) → MovesIn m q of → HasRisen p m of → HasRisen p q of

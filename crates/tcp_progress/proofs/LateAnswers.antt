@@ -44,6 +44,7 @@ use Rattle.tcp_progress.specs.Pair.{HasStream, socket_of}
 use Rattle.tcp_progress.specs.Positions.{LiesWithin}
 use Rattle.tcp_progress.specs.Reached.{IsReached}
 use Rattle.tcp_progress.specs.Sent.{is_early}
+use Rattle.tcp_progress.proofs.Accepted.{sent_accepted}
 use Rattle.tcp_progress.proofs.Acked.{not_answering, una_rises}
 use Rattle.tcp_progress.proofs.Kept.{reached_keeps}
 use Rattle.tcp_progress.proofs.Pair.{in_step, late_in}
@@ -53,18 +54,21 @@ use Rattle.tcp_progress.proofs.SentPairs.{reached_took}
 -- IT COMES
 
 pub delivered :
-    (p : PairValue) (from : Side) (k : ℕ) (x : SentSegment) → MayCome p from k x
+    (p : PairValue) (from : Side) (k : ℕ) (x : SentSegment) → IsReached p → is_synchronized (socket_of p from).block.state ≡ true
+    → is_synchronized (socket_of p (other from)).block.state ≡ true → slice_get (at p.sides from).sent k ≡ Some x
     → at (come_in p from k).sides (other from)
     ≡ taken_at (at p.sides (other from))
     (arrives (context_at (other from) (at p.sides (other from))) (socket_of p (other from)) x.header x.segment x.bytes)
-delivered p A k x m =
-    ap (handed B p.sides.b) m.sent
+delivered p A k x r mine theirs sent =
+    ap (handed B p.sides.b) sent
     ∙ if_so (accepts p.sides.b.socket.block x.header x.segment)
-    (taken_at p.sides.b (arrives (context_at B p.sides.b) p.sides.b.socket x.header x.segment x.bytes)) p.sides.b m.accepted
-delivered p B k x m =
-    ap (handed A p.sides.a) m.sent
+    (taken_at p.sides.b (arrives (context_at B p.sides.b) p.sides.b.socket x.header x.segment x.bytes)) p.sides.b
+    (sent_accepted p A k x r mine theirs sent)
+delivered p B k x r mine theirs sent =
+    ap (handed A p.sides.a) sent
     ∙ if_so (accepts p.sides.a.socket.block x.header x.segment)
-    (taken_at p.sides.a (arrives (context_at A p.sides.a) p.sides.a.socket x.header x.segment x.bytes)) p.sides.a m.accepted
+    (taken_at p.sides.a (arrives (context_at A p.sides.a) p.sides.a.socket x.header x.segment x.bytes)) p.sides.a
+    (sent_accepted p B k x r mine theirs sent)
 
 -- WHAT IT SAYS
 
@@ -274,7 +278,7 @@ pub late_answer :
     → IsNearWindow (socket_of p (other side)) x.segment (length x.bytes)
     → IsAckedTo number (socket_of (come_in p side n) (other side)).block.sender.una
 late_answer p A n x number r both stream may no_syn no_reset ack near =
-    subst (λ (s : PairSide). IsAckedTo number s.socket.block.sender.una) (sym (delivered p A n x may))
+    subst (λ (s : PairSide). IsAckedTo number s.socket.block.sender.una) (sym (delivered p A n x r both.0.synchronized both.1.synchronized may.sent))
     (acked_to (context_at B p.sides.b) p.sides.b.socket p.sides.a.socket (past_at p B) (past_at p A) k x.header x.segment x.bytes number both.1
     both.0.synchronized (in_step p.sides.b.socket p.sides.a.socket (past_at p B) (past_at p A) k both.1.synchronized stream)
     (reached_took p B r both.1 both.0).sent no_syn no_reset may.fresh ack n
@@ -283,7 +287,7 @@ late_answer p A n x number r both stream may no_syn no_reset ack near =
     k : Keeps p.sides.b.socket (past_at p B) p.sides.a.socket (past_at p A)
     k = reached_keeps p B r
 late_answer p B n x number r both stream may no_syn no_reset ack near =
-    subst (λ (s : PairSide). IsAckedTo number s.socket.block.sender.una) (sym (delivered p B n x may))
+    subst (λ (s : PairSide). IsAckedTo number s.socket.block.sender.una) (sym (delivered p B n x r both.1.synchronized both.0.synchronized may.sent))
     (acked_to (context_at A p.sides.a) p.sides.a.socket p.sides.b.socket (past_at p A) (past_at p B) k x.header x.segment x.bytes number both.0
     both.1.synchronized (in_step p.sides.a.socket p.sides.b.socket (past_at p A) (past_at p B) k both.0.synchronized stream)
     (reached_took p A r both.0 both.1).sent no_syn no_reset may.fresh ack n

@@ -123,9 +123,9 @@ heard_acked :
     → is_syn x.segment.control ≡ false → is_rst x.segment.control ≡ false → x.segment.ack_number ≡ Some number
     → IsAckedTo number (socket_of (heard_in s side j) side).block.sender.una
 heard_acked s A j x number r both stream h no_syn no_reset ack =
-    late_answer s B j x number r both stream (record { sent = h.sent; accepted = h.accepted; fresh = h.fresh }) no_syn no_reset ack h.near
+    late_answer s B j x number r both stream (record { sent = h.sent; fresh = h.fresh }) no_syn no_reset ack h.near
 heard_acked s B j x number r both stream h no_syn no_reset ack =
-    late_answer s A j x number r both stream (record { sent = h.sent; accepted = h.accepted; fresh = h.fresh }) no_syn no_reset ack h.near
+    late_answer s A j x number r both stream (record { sent = h.sent; fresh = h.fresh }) no_syn no_reset ack h.near
 
 less : (a b c d : ℕ) → a + b < c + d → d ≤ a → a - d < c - b
 less a b c d e f = omega arith

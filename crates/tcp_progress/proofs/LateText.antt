@@ -235,7 +235,7 @@ module _ (p q : PairValue) (side : Side) (n : ℕ) (x : SentSegment) (r : IsReac
     came = arrives cx now x.header x.segment x.bytes
 
     comes : at (come_in q side n).sides (other side) ≡ taken_at (at q.sides (other side)) came
-    comes = delivered q side n x c
+    comes = delivered q side n x rq (there_of q side l.after) there c.sent
 
     taken_there : refusal q (Deliver side n) ≡ None
     taken_there = within n (length (at q.sides side).sent) (slice_get_within (at q.sides side).sent n x c.sent)

@@ -3,7 +3,6 @@ use Rattle.std.specs.Prelude.{◌≡◌, ◌⊎◌, ℕ, ◌+◌, ◌<◌, ◌�
 use Rattle.tcp_tie.specs.Offers.{IsBefore}
 use Rattle.tcp_rules.specs.Moments.{is_due}
 use Rattle.tcp_model.specs.Due.{poll_of}
-use Rattle.tcp_model.specs.Names.{accepts}
 use Rattle.tcp_model.specs.Segments.{segment_len}
 use Rattle.tcp_tie.specs.Pair.Sides.{at, other}
 use Rattle.tcp_model.specs.Value.{free_in, room_of}
@@ -77,10 +76,9 @@ DeliversWithin delay p (x ∷ course) =
     ((side : Side) (k : ℕ) → next_sent p side ≤ k → k < next_sent (takes p x.1) side → ComesBy (x.0 +ℤ pos delay) side k course)
     × DeliversWithin delay (takes p x.1) course
 
--- A segment of a side that comes is for the other, and has no timestamp that is older than TS.Recent; one that takes no position lies in the
--- other's window, or before it.
+-- A segment of a side that comes has no timestamp that is older than TS.Recent of the other; one that takes no position lies in the other's
+-- window, or before it.
 pub record IsHeard (p : PairValue) (side : Side) (x : SentSegment) : Type 0 where
-  pub accepted : accepts (socket_of p (other side)).block x.header x.segment ≡ true
   pub fresh : comes_stale (socket_of p (other side)).block x.segment.options.timestamp ≡ false
   pub near : segment_len x.segment (length x.bytes) ≡ 0 → IsNearWindow (socket_of p (other side)) x.segment (length x.bytes)
 

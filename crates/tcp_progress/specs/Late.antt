@@ -8,7 +8,6 @@ use Rattle.tcp_rules.specs.OpenOffer.{OpenOffer}
 use Rattle.tcp_rules.specs.State.TheVariants as In
 use Rattle.tcp_rules.specs.States.{is_closed}
 use Rattle.tcp_model.specs.Answers.{may_draw}
-use Rattle.tcp_model.specs.Names.{accepts}
 use Rattle.tcp_model.specs.Segments.{segment_len}
 use Rattle.tcp_tie.specs.Pair.Sides.{at, other}
 use Rattle.tcp_model.specs.Value.{free_in, room_of}
@@ -33,10 +32,9 @@ pub record GoesFrom (p : PairValue) (side : Side) (x : SentSegment) : Type 0 whe
   pub no_syn : is_syn x.segment.control ≡ false
   pub no_reset : is_rst x.segment.control ≡ false
 
--- A segment of a side of this number can come: the other accepts it, and it has no timestamp that is older than TS.Recent.
+-- A segment of a side of this number can come: it was sent, and has no timestamp that is older than TS.Recent of the other.
 pub record MayCome (p : PairValue) (side : Side) (k : ℕ) (x : SentSegment) : Type 0 where
   pub sent : slice_get (at p.sides side).sent k ≡ Some x
-  pub accepted : accepts (socket_of p (other side)).block x.header x.segment ≡ true
   pub fresh : comes_stale (socket_of p (other side)).block x.segment.options.timestamp ≡ false
 
 -- the pair when it has come
@@ -81,7 +79,6 @@ sent_by p side o = record { header = o.header; segment = o.segment; bytes = text
 -- A segment of the other of this number can come to a side, near its window.
 pub record MayHear (p : PairValue) (side : Side) (j : ℕ) (x : SentSegment) : Type 0 where
   pub sent : slice_get (at p.sides (other side)).sent j ≡ Some x
-  pub accepted : accepts (socket_of p side).block x.header x.segment ≡ true
   pub fresh : comes_stale (socket_of p side).block x.segment.options.timestamp ≡ false
   pub near : IsNearWindow (socket_of p side) x.segment (length x.bytes)
 

@@ -73,10 +73,10 @@ by_found P (Some y) holds x e = subst P (one y x e) holds where
   one y x e = cc
 
 heard_text : (x : SentSegment) → slice_get (at asked.sides A).sent 3 ≡ Some x → IsHeard asked A x
-heard_text = by_found (IsHeard asked A) (slice_get (at asked.sides A).sent 3) (record { accepted = refl; fresh = refl; near = λ none. absurd (cc) })
+heard_text = by_found (IsHeard asked A) (slice_get (at asked.sides A).sent 3) (record { fresh = refl; near = λ none. absurd (cc) })
 
 heard_ack : (x : SentSegment) → slice_get (at told.sides B).sent 1 ≡ Some x → IsHeard told B x
-heard_ack = by_found (IsHeard told B) (slice_get (at told.sides B).sent 1) (record { accepted = refl; fresh = refl; near = λ _. inl refl })
+heard_ack = by_found (IsHeard told B) (slice_get (at told.sides B).sent 1) (record { fresh = refl; near = λ _. inl refl })
 
 -- WHAT IS LEFT OF THE COURSE
 
