@@ -30,12 +30,8 @@ fn put_ethernet(out: &mut Out<'_>, bytes: &[u8]) {
     };
     let payload = frame.payload();
     if let Ok(header) = EthernetRepr::parse(&frame) {
-        writeln!(
-            out,
-            "Ethernet {}; payload {}",
-            EthernetText(header),
-            payload.len()
-        );
+        out.put("Ethernet ", EthernetText(header));
+        out.put_last("; payload ", payload.len());
     }
     match frame.ethertype() {
         EthernetProtocol::Arp => put_arp(out, payload),
@@ -52,11 +48,11 @@ fn put_arp(out: &mut Out<'_>, bytes: &[u8]) {
     };
     let length = match ArpRepr::parse(&packet) {
         Ok(header) => {
-            write!(out, "ARP {}", ArpText(header));
+            out.put("ARP ", ArpText(header));
             header.buffer_len()
         }
         Err(_) => {
-            write!(out, "ARP unknown, {}", OperationText(packet.operation()));
+            out.put("ARP unknown, ", OperationText(packet.operation()));
             bytes.len()
         }
     };
@@ -68,23 +64,16 @@ fn put_arp(out: &mut Out<'_>, bytes: &[u8]) {
 fn put_arp_fields(out: &mut Out<'_>, packet: &ArpPacket<'_>) {
     let bytes = packet.into_inner();
     let Ok(packet) = ArpPacket::new_checked(bytes) else {
-        writeln!(out, "");
+        out.end_line();
         return;
     };
-    write!(
-        out,
-        "; hardware {} len {}, {} len {}, addresses ",
-        u16::from(packet.hardware_type()),
-        packet.hardware_len(),
-        EtherText(packet.protocol_type()),
-        packet.protocol_len()
-    );
-    out.put_hex(packet.source_hardware_addr());
-    write!(out, " ");
-    out.put_hex(packet.source_protocol_addr());
-    write!(out, " ");
-    out.put_hex(packet.target_hardware_addr());
-    write!(out, " ");
-    out.put_hex(packet.target_protocol_addr());
-    writeln!(out, "");
+    out.put("; hardware ", u16::from(packet.hardware_type()));
+    out.put(" len ", packet.hardware_len());
+    out.put(", ", EtherText(packet.protocol_type()));
+    out.put(" len ", packet.protocol_len());
+    out.put_hex(", addresses ", packet.source_hardware_addr());
+    out.put_hex(" ", packet.source_protocol_addr());
+    out.put_hex(" ", packet.target_hardware_addr());
+    out.put_hex(" ", packet.target_protocol_addr());
+    out.end_line();
 }

@@ -2,10 +2,10 @@
 ghost use Rattle.std.specs.Prelude.{◌≡◌};
 ghost use Rattle.ip_wire.specs.Address.{version_of};
 
-use crate::headers::{FragmentText, Ipv4Text, Ipv6Text, UdpText, set};
+use crate::headers::{FragmentText, Ipv4Text, Ipv6Text, UdpText};
 use crate::icmp::{put_icmpv4, put_icmpv6};
 use crate::names::ProtocolText;
-use crate::put::{Out, all, good, if_bad, none, tested_first};
+use crate::put::{Out, all, good, none, tested_first};
 use crate::tcp::put_tcp;
 use ip_wire::{
     IpAddress, IpProtocol, IpRepr, Ipv4Packet, Ipv4Repr, Ipv6FragmentHeader, Ipv6FragmentRepr,
@@ -23,8 +23,7 @@ pub(crate) fn put_ip(out: &mut Out<'_>, bytes: &[u8]) {
             Some(first) if first / 16 == 4 => put_no_ipv4(out, bytes),
             Some(first) if first / 16 == 6 => put_cut_line(out, "IPv6", bytes),
             Some(first) => {
-                let version = first / 16;
-                writeln!(out, "IP unknown, version {version}");
+                out.put_last("IP unknown, version ", first / 16);
                 out.put_bytes("payload", bytes)
             }
         },
@@ -51,11 +50,8 @@ pub(crate) fn put_ipv6_alone(out: &mut Out<'_>, bytes: &[u8]) {
         Ok(header) => put_ipv6(out, bytes, &header),
         Err(_) if packet.check_len().is_err() => put_cut_line(out, "IPv6", bytes),
         Err(_) => {
-            writeln!(
-                out,
-                "IPv6 unknown, version {}",
-                bytes.first().copied().unwrap_or(0) / 16
-            );
+            let version = bytes.first().copied().unwrap_or(0) / 16;
+            out.put_last("IPv6 unknown, version ", version);
             out.put_bytes("payload", bytes)
         }
     }
@@ -75,9 +71,9 @@ fn put_no_ipv4(out: &mut Out<'_>, bytes: &[u8]) {
     let packet = Ipv4Packet::new_unchecked(bytes);
     let (header_len, total_len) = (packet.header_len(), packet.total_len());
     if packet.version() != 4 {
-        write!(out, "IPv4 unknown");
+        out.put_text("IPv4 unknown");
     } else if header_len < 20 || u16::from(header_len) > total_len {
-        write!(out, "IPv4 bad length");
+        out.put_text("IPv4 bad length");
     } else {
         out.put_cut("IPv4", bytes.len());
     }
@@ -86,7 +82,7 @@ fn put_no_ipv4(out: &mut Out<'_>, bytes: &[u8]) {
 }
 
 fn put_ipv4(out: &mut Out<'_>, bytes: &[u8], is_good: bool, header: &Ipv4Repr) {
-    write!(out, "IPv4 {}{}", if_bad(is_good), Ipv4Text(*header));
+    out.put_header("IPv4 ", is_good, Ipv4Text(*header));
     put_ipv4_fields(out, bytes);
     let Ok(packet) = Ipv4Packet::new_checked(bytes) else {
         return;
@@ -111,39 +107,31 @@ fn put_ipv4(out: &mut Out<'_>, bytes: &[u8], is_good: bool, header: &Ipv4Repr) {
 // The fields as they stand, where there is a header.
 fn put_ipv4_fields(out: &mut Out<'_>, bytes: &[u8]) {
     if bytes.len() < 20 {
-        writeln!(out, "");
+        out.end_line();
         return;
     }
     let packet = Ipv4Packet::new_unchecked(bytes);
     let header_len = usize::from(packet.header_len());
-    write!(
-        out,
-        "; version {}, header {}, dscp {}, ecn {}, length {}",
-        packet.version(),
-        header_len,
-        packet.dscp(),
-        packet.ecn(),
-        packet.total_len()
-    );
-    write!(
-        out,
-        ", id {}, flags [{}{}], offset {}, checksum 0x{:04x}",
-        packet.ident(),
-        set(packet.dont_frag(), "DF"),
-        set(packet.more_frags(), "+"),
-        packet.frag_offset(),
-        packet.checksum()
-    );
+    out.put("; version ", packet.version());
+    out.put(", header ", header_len);
+    out.put(", dscp ", packet.dscp());
+    out.put(", ecn ", packet.ecn());
+    out.put(", length ", packet.total_len());
+    out.put(", id ", packet.ident());
+    out.put_text(", flags [");
+    out.put_where(packet.dont_frag(), "DF");
+    out.put_where(packet.more_frags(), "+");
+    out.put("], offset ", packet.frag_offset());
+    out.put_checksum(packet.checksum());
     if header_len <= bytes.len() {
-        write!(out, " {}", good(packet.verify_checksum()));
+        out.put(" ", good(packet.verify_checksum()));
     }
     if let Some(options) = bytes.get(20..header_len) {
         if !options.is_empty() {
-            write!(out, ", options ");
-            out.put_hex(options);
+            out.put_hex(", options ", options);
         }
     }
-    writeln!(out, "");
+    out.end_line();
 }
 
 fn put_ipv6(out: &mut Out<'_>, bytes: &[u8], header: &Ipv6Repr) {
@@ -151,15 +139,11 @@ fn put_ipv6(out: &mut Out<'_>, bytes: &[u8], header: &Ipv6Repr) {
         put_cut_line(out, "IPv6", bytes);
         return;
     };
-    writeln!(
-        out,
-        "IPv6 {}; version {}, class {}, flow 0x{:05x}, length {}",
-        Ipv6Text(*header),
-        packet.version(),
-        packet.traffic_class(),
-        packet.flow_label(),
-        packet.payload_len()
-    );
+    out.put("IPv6 ", Ipv6Text(*header));
+    out.put("; version ", packet.version());
+    out.put(", class ", packet.traffic_class());
+    out.put_flow(packet.flow_label());
+    out.put_last(", length ", packet.payload_len());
     put_extensions(out, header, packet.payload());
     let end = packet.total_len();
     out.put_some_bytes("padding", bytes.get(end..).unwrap_or(&[]));
@@ -217,22 +201,14 @@ fn extension_len(next: IpProtocol, rest: &[u8]) -> usize {
 
 fn put_extension(out: &mut Out<'_>, kind: IpProtocol, next: IpProtocol, front: &[u8]) {
     if let Some(place) = place_of(kind, front) {
-        writeln!(
-            out,
-            "fragment {}; next {}",
-            FragmentText(place),
-            ProtocolText(next)
-        );
+        out.put("fragment ", FragmentText(place));
+        out.put_last("; next ", ProtocolText(next));
         return;
     }
-    write!(
-        out,
-        "extension {}, next {}, data ",
-        ProtocolText(kind),
-        ProtocolText(next)
-    );
-    out.put_hex(front.get(2..).unwrap_or(&[]));
-    writeln!(out, "");
+    out.put("extension ", ProtocolText(kind));
+    out.put(", next ", ProtocolText(next));
+    out.put_hex(", data ", front.get(2..).unwrap_or(&[]));
+    out.end_line();
 }
 
 // What the header of a piece says.
@@ -284,21 +260,15 @@ fn put_udp(out: &mut Out<'_>, source: &IpAddress, destination: &IpAddress, bytes
         UdpRepr::parse(&packet, source, destination, &none()),
     );
     match found {
-        Some((is_good, header)) => write!(out, "UDP {}{}", if_bad(is_good), UdpText(header)),
-        None => write!(
-            out,
-            "UDP unknown, {} > {}",
-            packet.src_port(),
-            packet.dst_port()
-        ),
+        Some((is_good, header)) => out.put_header("UDP ", is_good, UdpText(header)),
+        None => {
+            out.put("UDP unknown, ", packet.src_port());
+            out.put(" > ", packet.dst_port());
+        }
     }
-    writeln!(
-        out,
-        "; length {}, checksum 0x{:04x} {}",
-        packet.len(),
-        packet.checksum(),
-        good(packet.verify_checksum(source, destination))
-    );
+    out.put("; length ", packet.len());
+    out.put_checksum(packet.checksum());
+    out.put_last(" ", good(packet.verify_checksum(source, destination)));
     out.put_bytes("payload", packet.payload());
     let end = usize::from(packet.len());
     out.put_some_bytes("behind", bytes.get(end..).unwrap_or(&[]));

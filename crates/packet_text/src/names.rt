@@ -1,5 +1,6 @@
 //! Numbers of protocols, operations and reasons, printed as a name and the number: `UDP (17)`.
-ghost use Rattle.std.specs.Prelude.{◌≡◌, Some};
+ghost use Rattle.std.specs.Prelude.{◌≡◌, Some, ◌++◌, codes, decimal};
+ghost use Rattle.std.specs.Fmt.{DisplaysOnOk};
 ghost use Rattle.packet_text.specs.Names.{protocol_name, protocol_text, operation_name, operation_text, unreachable4_name, unreachable4_text, exceeded4_name};
 ghost use Rattle.packet_text.specs.Names.{exceeded4_text, unreachable6_name, unreachable6_text, exceeded6_name, exceeded6_text, problem_name, problem_text};
 ghost use Rattle.packet_text.specs.Names.{ether_text};
@@ -11,6 +12,13 @@ use control_wire::{
 use ip_wire::{ArpOperation, EthernetProtocol, IpProtocol};
 use std::fmt;
 
+// Writes a name, and in brackets its number.
+fn write_numbered<W: fmt::Write>(f: &mut fmt::Formatter<W>, name: &str, number: u16) -> fmt::Result
+    ensures { DisplaysOnOk W.write_str_gives f.old result (Some (name.now ++ (codes " (" ++ (decimal number ++ codes ")")))) f.new }
+{
+    write!(f, "{name} ({number})")
+}
+
 /// Prints a protocol over IP: its name, and in brackets its number.
 #[derive(Clone, Copy)]
 pub struct ProtocolText(pub IpProtocol);
@@ -19,7 +27,7 @@ impl fmt::Display for ProtocolText {
     ghost output = { λ x. Some (protocol_text x.0) };
 
     fn fmt<W: fmt::Write>(&self, f: &mut fmt::Formatter<W>) -> fmt::Result {
-        write!(f, "{} ({})", protocol_name(self.0), u8::from(self.0))
+        write_numbered(f, protocol_name(self.0), u16::from(u8::from(self.0)))
     }
 }
 
@@ -51,7 +59,7 @@ impl fmt::Display for OperationText {
     ghost output = { λ x. Some (operation_text x.0) };
 
     fn fmt<W: fmt::Write>(&self, f: &mut fmt::Formatter<W>) -> fmt::Result {
-        write!(f, "{} ({})", operation_name(self.0), u16::from(self.0))
+        write_numbered(f, operation_name(self.0), u16::from(self.0))
     }
 }
 
@@ -73,7 +81,7 @@ impl fmt::Display for Unreachable4Text {
     ghost output = { λ x. Some (unreachable4_text x.0) };
 
     fn fmt<W: fmt::Write>(&self, f: &mut fmt::Formatter<W>) -> fmt::Result {
-        write!(f, "{} ({})", unreachable4_name(self.0), u8::from(self.0))
+        write_numbered(f, unreachable4_name(self.0), u16::from(u8::from(self.0)))
     }
 }
 
@@ -109,7 +117,7 @@ impl fmt::Display for Exceeded4Text {
     ghost output = { λ x. Some (exceeded4_text x.0) };
 
     fn fmt<W: fmt::Write>(&self, f: &mut fmt::Formatter<W>) -> fmt::Result {
-        write!(f, "{} ({})", exceeded4_name(self.0), u8::from(self.0))
+        write_numbered(f, exceeded4_name(self.0), u16::from(u8::from(self.0)))
     }
 }
 
@@ -131,7 +139,7 @@ impl fmt::Display for Unreachable6Text {
     ghost output = { λ x. Some (unreachable6_text x.0) };
 
     fn fmt<W: fmt::Write>(&self, f: &mut fmt::Formatter<W>) -> fmt::Result {
-        write!(f, "{} ({})", unreachable6_name(self.0), u8::from(self.0))
+        write_numbered(f, unreachable6_name(self.0), u16::from(u8::from(self.0)))
     }
 }
 
@@ -158,7 +166,7 @@ impl fmt::Display for Exceeded6Text {
     ghost output = { λ x. Some (exceeded6_text x.0) };
 
     fn fmt<W: fmt::Write>(&self, f: &mut fmt::Formatter<W>) -> fmt::Result {
-        write!(f, "{} ({})", exceeded6_name(self.0), u8::from(self.0))
+        write_numbered(f, exceeded6_name(self.0), u16::from(u8::from(self.0)))
     }
 }
 
@@ -180,7 +188,7 @@ impl fmt::Display for ProblemText {
     ghost output = { λ x. Some (problem_text x.0) };
 
     fn fmt<W: fmt::Write>(&self, f: &mut fmt::Formatter<W>) -> fmt::Result {
-        write!(f, "{} ({})", problem_name(self.0), u8::from(self.0))
+        write_numbered(f, problem_name(self.0), u16::from(u8::from(self.0)))
     }
 }
 

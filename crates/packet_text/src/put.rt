@@ -39,16 +39,65 @@ impl<'a> Out<'a> {
         }
     }
 
+    /// A text.
+    pub(crate) fn put_text(&mut self, text: &str) {
+        write!(self, "{text}");
+    }
+
+    /// A text where a flag is set.
+    pub(crate) fn put_where(&mut self, flag: bool, text: &str) {
+        if flag {
+            self.put_text(text);
+        }
+    }
+
+    /// A text, and a value behind it.
+    pub(crate) fn put<D: Display + Copy>(&mut self, what: &str, value: D) {
+        write!(self, "{what}{value}");
+    }
+
+    /// The same at the end of a line.
+    pub(crate) fn put_last<D: Display + Copy>(&mut self, what: &str, value: D) {
+        writeln!(self, "{what}{value}");
+    }
+
+    /// The end of a line.
+    pub(crate) fn end_line(&mut self) {
+        writeln!(self, "");
+    }
+
+    /// A header that is read behind its layer, and whether it has a wrong checksum.
+    pub(crate) fn put_header<D: Display + Copy>(&mut self, layer: &str, is_good: bool, header: D) {
+        self.put_text(layer);
+        self.put(if is_good { "" } else { "bad checksum, " }, header);
+    }
+
+    /// A checksum.
+    pub(crate) fn put_checksum(&mut self, checksum: u16) {
+        write!(self, ", checksum 0x{checksum:04x}");
+    }
+
+    /// A flow label.
+    pub(crate) fn put_flow(&mut self, label: u32) {
+        write!(self, ", flow 0x{label:05x}");
+    }
+
     /// A line for bytes: what they are, how many, and the bytes in hex.
     pub(crate) fn put_bytes(&mut self, what: &str, bytes: &[u8]) {
         if bytes.is_empty() {
-            writeln!(self, "{what} 0");
+            self.put_last(what, " 0");
             return;
         }
         match hex::encode(self.alloc, bytes) {
-            Ok(digits) => writeln!(self, "{what} {}: {digits}", bytes.len()),
+            Ok(digits) => self.put_digits(what, bytes.len(), digits.as_str()),
             Err(_) => self.is_short = true,
         }
+    }
+
+    fn put_digits(&mut self, what: &str, len: usize, digits: &str) {
+        self.put(what, " ");
+        self.put("", len);
+        self.put_last(": ", digits);
     }
 
     /// The same, where there are any.
@@ -58,32 +107,31 @@ impl<'a> Out<'a> {
         }
     }
 
-    /// Bytes in hex inside a line, `-` where there are none.
-    pub(crate) fn put_hex(&mut self, bytes: &[u8]) {
+    /// A text, and behind it inside a line bytes in hex, `-` where there are none.
+    pub(crate) fn put_hex(&mut self, what: &str, bytes: &[u8]) {
         if bytes.is_empty() {
-            write!(self, "-");
+            self.put(what, "-");
             return;
         }
+        self.put_text(what);
         match hex::encode(self.alloc, bytes) {
-            Ok(digits) => write!(self, "{digits}"),
+            Ok(digits) => self.put_text(digits.as_str()),
             Err(_) => self.is_short = true,
         }
     }
 
     /// A header that ends before its bytes, or whose lengths say more than is there.
     pub(crate) fn put_cut(&mut self, layer: &str, len: usize) {
-        write!(self, "{layer} cut short after {len} bytes");
+        self.put(layer, " cut short after ");
+        self.put("", len);
+        self.put_text(" bytes");
     }
 
     /// The same in a line of its own.
     pub(crate) fn put_cut_line(&mut self, layer: &str, bytes: &[u8]) {
-        writeln!(self, "{layer} cut short after {} bytes", bytes.len());
+        self.put_cut(layer, bytes.len());
+        self.end_line();
     }
-}
-
-/// What is said before a header whose checksum is wrong.
-pub(crate) fn if_bad(is_good: bool) -> &'static str {
-    if is_good { "" } else { "bad checksum, " }
 }
 
 /// How a checksum is called.

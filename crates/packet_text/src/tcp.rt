@@ -2,8 +2,7 @@
 ghost use Rattle.std.specs.Prelude.{◌≡◌};
 ghost use Rattle.ip_wire.specs.Address.{version_of};
 
-use crate::headers::set;
-use crate::put::{Out, all, good, if_bad, none, tested_first};
+use crate::put::{Out, all, good, none, tested_first};
 use crate::tcp_text::{TcpOptionText, TcpText};
 use ip_wire::{IpAddress, TcpHeader, TcpOption, TcpPacket};
 
@@ -22,14 +21,12 @@ pub(crate) fn put_tcp(out: &mut Out<'_>, source: &IpAddress, destination: &IpAdd
         TcpHeader::parse(&packet, source, destination, &none()),
     );
     match found {
-        Some((is_good, header)) => write!(out, "TCP {}{}", if_bad(is_good), TcpText(header)),
-        None => write!(
-            out,
-            "TCP unknown, {} > {}, seq {}",
-            packet.src_port(),
-            packet.dst_port(),
-            packet.seq_number().0
-        ),
+        Some((is_good, header)) => out.put_header("TCP ", is_good, TcpText(header)),
+        None => {
+            out.put("TCP unknown, ", packet.src_port());
+            out.put(" > ", packet.dst_port());
+            out.put(", seq ", packet.seq_number().0);
+        }
     }
     let is_good = packet.verify_checksum(source, destination);
     put_fields(out, bytes, is_good);
@@ -41,33 +38,22 @@ fn put_fields(out: &mut Out<'_>, bytes: &[u8], is_good: bool) {
     let Ok(packet) = TcpPacket::new_checked(bytes) else {
         return;
     };
-    write!(
-        out,
-        "; header {}, bits [{}{}{}{}{}",
-        packet.header_len(),
-        set(packet.fin(), "F"),
-        set(packet.syn(), "S"),
-        set(packet.rst(), "R"),
-        set(packet.psh(), "P"),
-        set(packet.ack(), ".")
-    );
-    write!(
-        out,
-        "{}{}{}{}], ack field {}, win {}",
-        set(packet.urg(), "U"),
-        set(packet.ece(), "E"),
-        set(packet.cwr(), "W"),
-        set(packet.ns(), "e"),
-        packet.ack_number().0,
-        packet.window_len()
-    );
-    writeln!(
-        out,
-        ", checksum 0x{:04x} {}, urgent {}",
-        packet.checksum(),
-        good(is_good),
-        packet.urgent_at()
-    );
+    out.put("; header ", packet.header_len());
+    out.put_text(", bits [");
+    out.put_where(packet.fin(), "F");
+    out.put_where(packet.syn(), "S");
+    out.put_where(packet.rst(), "R");
+    out.put_where(packet.psh(), "P");
+    out.put_where(packet.ack(), ".");
+    out.put_where(packet.urg(), "U");
+    out.put_where(packet.ece(), "E");
+    out.put_where(packet.cwr(), "W");
+    out.put_where(packet.ns(), "e");
+    out.put("], ack field ", packet.ack_number().0);
+    out.put(", win ", packet.window_len());
+    out.put_checksum(packet.checksum());
+    out.put(" ", good(is_good));
+    out.put_last(", urgent ", packet.urgent_at());
     put_options(out, packet.options());
 }
 
@@ -76,7 +62,7 @@ fn put_options(out: &mut Out<'_>, options: &[u8]) {
     if options.is_empty() {
         return;
     }
-    write!(out, "options");
+    out.put_text("options");
     let mut rest = options;
     for _ in 0..options.len() {
         if rest.is_empty() {
@@ -84,9 +70,9 @@ fn put_options(out: &mut Out<'_>, options: &[u8]) {
         }
         match TcpOption::parse(rest) {
             Ok((behind, option)) => {
-                write!(out, " [{}", TcpOptionText(option));
+                out.put(" [", TcpOptionText(option));
                 put_unknown(out, option);
-                write!(out, "]");
+                out.put_text("]");
                 if option == TcpOption::EndOfList {
                     put_behind(out, behind);
                     return;
@@ -94,31 +80,26 @@ fn put_options(out: &mut Out<'_>, options: &[u8]) {
                 rest = behind;
             }
             Err(_) => {
-                write!(out, " bad ");
-                out.put_hex(rest);
+                out.put_hex(" bad ", rest);
                 break;
             }
         }
     }
-    writeln!(out, "");
+    out.end_line();
 }
 
 // The end of the line, with what stands behind the end of the options.
 fn put_behind(out: &mut Out<'_>, behind: &[u8]) {
     if !behind.is_empty() {
-        write!(out, " behind ");
-        out.put_hex(behind);
+        out.put_hex(" behind ", behind);
     }
-    writeln!(out, "");
+    out.end_line();
 }
 
 // What is inside an option of another kind.
 fn put_unknown(out: &mut Out<'_>, option: TcpOption<'_>) {
     match option {
-        TcpOption::Unknown { bytes, .. } if !bytes.is_empty() => {
-            write!(out, " ");
-            out.put_hex(bytes)
-        }
+        TcpOption::Unknown { bytes, .. } if !bytes.is_empty() => { out.put_hex(" ", bytes) }
         _ => {}
     }
 }
