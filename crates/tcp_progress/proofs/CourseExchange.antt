@@ -1,10 +1,12 @@
 -- In a course in which each segment comes in time, an exchange takes no longer than its two segments.
-use Rattle.std.proofs.Common.{◌≡◌, ◌⊎◌, inl, inr, ℕ, zero, suc, ◌+◌, ◌-◌, ◌<◌, ◌≤◌, ℤ, pos, ◌+ℤ◌, ◌≤ℤ◌, ◌<ℤ◌, Bool, true, false, List, [], ◌∷◌, ◌++◌}
+use Rattle.std.proofs.Common.{◌≡◌, ◌⊎◌, inl, inr, ℕ, zero, suc, ◌+◌, ◌-◌, ◌^◌, ◌<◌, ◌≤◌, ℤ, pos, ◌+ℤ◌, ◌≤ℤ◌, ◌<ℤ◌, Bool, true, false, List, [], ◌∷◌, ◌++◌}
 use Rattle.std.proofs.Common.{length, Option, Some, None, Result, Ok, Err, slice_get, refl, sym, ap, ◌∙◌, subst, arith, length-append}
 use Rattle.std.proofs.lemmas.Bool.{cond_both}
 use Rattle.std.proofs.lemmas.Int.{ints}
 use Rattle.std.proofs.lemmas.Option.{slice_get_past}
 use Rattle.ip_wire.specs.Control.{control_len}
+use Rattle.ip_wire.specs.Seq.{distance_of}
+use Rattle.ip_wire.specs.SeqNumber.{SeqNumber}
 use Rattle.ip_wire.specs.TcpControl.{TcpControl}
 use Rattle.tcp_rules.specs.OpenOffer.{OpenOffer}
 use Rattle.tcp_rules.specs.RecvError.{RecvError}
@@ -28,7 +30,7 @@ use Rattle.tcp_tie.specs.declared.pair.event.Side.{Side}
 use Rattle.tcp_tie.specs.declared.pair.event.Side.TheVariants.{A, B}
 use Rattle.tcp_progress.specs.BothWays.{AreThere, total_in}
 use Rattle.tcp_progress.specs.Arrivals.{is_synchronized}
-use Rattle.tcp_progress.specs.Course.{AreHeard, ComesBy, DeliversWithin, IsClocked, IsHeard, IsHeardIn, IsShutAmong, end_of, events_of}
+use Rattle.tcp_progress.specs.Course.{DeliversWithin, IsClocked, IsHeard, IsHeardBy, IsHeardWith, IsShutAmong, end_of, events_of}
 use Rattle.tcp_progress.specs.Exchange.{IsOpen}
 use Rattle.tcp_progress.specs.Late.{GoesFrom, GoesOnIn, IsAnsweredIn, IsTakenIn, MayCome, MayHear, TakesTime, come_in, heard_in}
 use Rattle.tcp_progress.specs.Onward.{AreOpen, HasRisen, Lasts, acked_in}
@@ -37,6 +39,7 @@ use Rattle.tcp_progress.specs.Reached.{IsReached}
 use Rattle.tcp_progress.specs.Rounds.{takes}
 use Rattle.tcp_progress.specs.Sent.{taken_in}
 use Rattle.tcp_progress.proofs.Exchange.{last_of}
+use Rattle.tcp_progress.proofs.Inside.{in_window, top_ahead}
 use Rattle.tcp_progress.proofs.Kept.{reached_by}
 use Rattle.tcp_progress.proofs.LateExchange.{goes_on}
 use Rattle.tcp_progress.proofs.LateText.{Outcome, open_of, outcome, there_of}
@@ -47,7 +50,7 @@ use Rattle.tcp_progress.proofs.Turns.{late_on}
 
 -- WHAT WAS SENT STAYS SENT
 
-abbrev Keeps : List SentSegment → List SentSegment → Type 0
+abbrev pub Keeps : List SentSegment → List SentSegment → Type 0
 Keeps old new = (k : ℕ) (x : SentSegment) → slice_get old k ≡ Some x → slice_get new k ≡ Some x
 
 with_more : (xs more : List SentSegment) → Keeps xs (xs ++ more)
@@ -88,13 +91,13 @@ by_act s others (Offer side moment true) k x e =
 by_act s others (Offer side moment false) k x e = e
 by_act s others (Deliver from n) k x e = by_delivery (other from) s (slice_get others n) k x e
 
-by_put : (P : PairSide → Type 0) (both : Both PairSide) (of side : Side) (new : PairSide) → (of ≡ side → P new) → P (at both side) → P (at (put both of new) side)
+pub by_put : (P : PairSide → Type 0) (both : Both PairSide) (of side : Side) (new : PairSide) → (of ≡ side → P new) → P (at both side) → P (at (put both of new) side)
 by_put P both A A new own not = own refl
 by_put P both A B new own not = not
 by_put P both B A new own not = not
 by_put P both B B new own not = own refl
 
-sent_by : (p : PairValue) (event : PairEvent) (side : Side) → Keeps (at p.sides side).sent (at (takes p event).sides side).sent
+pub sent_by : (p : PairValue) (event : PairEvent) (side : Side) → Keeps (at p.sides side).sent (at (takes p event).sides side).sent
 sent_by p event side =
     by_put (λ (s : PairSide). Keeps (at p.sides side).sent s.sent) p.sides (side_of event) side (acting p event).side
     (λ own.
@@ -125,7 +128,6 @@ more_time a b n e = first_of (omega (arith, ints), grind (arith, ints))
 record Left (delay : ℕ) (p q : PairValue) (now : ℤ) (course : List (ℤ × PairEvent)) : Type 0 where
   steps : Steps p (events_of course) q
   delivers : DeliversWithin delay p course
-  heard : AreHeard p course
   clocked : IsClocked now course
 
 -- where it comes, and what the course leaves then
@@ -140,7 +142,7 @@ record Comes (delay : ℕ) (p q : PairValue) (now last : ℤ) (side : Side) (k :
   within : time ≤ℤ last
   rest : List (ℤ × PairEvent)
   -- what it draws comes in time, too
-  drawn : (of : Side) (n : ℕ) → next_sent mid of ≤ n → n < next_sent (come_in mid side k) of → ComesBy (time +ℤ pos delay) of n rest
+  drawn : (of : Side) (n : ℕ) → next_sent mid of ≤ n → n < next_sent (come_in mid side k) of → IsHeardBy (time +ℤ pos delay) of n (come_in mid side k) rest
   left : Left delay (come_in mid side k) q time rest
   same_end : end_of time rest ≡ end_of now course
   shut : free_in (socket_of mid (other side)) ≡ 0 → IsShutAmong p side k course
@@ -148,38 +150,38 @@ record Comes (delay : ℕ) (p q : PairValue) (now last : ℤ) (side : Side) (k :
 module _ (delay : ℕ) (q : PairValue) (side : Side) (k : ℕ) (x : SentSegment) (last : ℤ) where
   now_it :
       (p : PairValue) (y : ℤ × PairEvent) (course : List (ℤ × PairEvent)) (now : ℤ) → Left delay p q now (y ∷ course)
-      → slice_get (at p.sides side).sent k ≡ Some x → y.0 ≤ℤ last → y.1 ≡ Deliver side k → Comes delay p q now last side k x (y ∷ course)
+      → slice_get (at p.sides side).sent k ≡ Some x → y.0 ≤ℤ last → IsHeardWith p side k y.1 → Comes delay p q now last side k x (y ∷ course)
   now_it p y course now l sent within is =
       subst
       (λ (event : PairEvent). refusal p event ≡ None → Steps (takes p event) (events_of course) q
-      → ((of : Side) (n : ℕ) → next_sent p of ≤ n → n < next_sent (takes p event) of → ComesBy (y.0 +ℤ pos delay) of n course)
-      → DeliversWithin delay (takes p event) course → IsHeardIn p event → AreHeard (takes p event) course → Comes delay p q now last side k x (y ∷ course))
-      (sym is)
-      (λ allowed steps drawn delivers heard on. record {
+      → ((of : Side) (n : ℕ) → next_sent p of ≤ n → n < next_sent (takes p event) of → IsHeardBy (y.0 +ℤ pos delay) of n (takes p event) course)
+      → DeliversWithin delay (takes p event) course → Comes delay p q now last side k x (y ∷ course))
+      (sym is.0)
+      (λ allowed steps drawn delivers. record {
         mid = p;
         before_it = [];
         steps = refl;
         allowed = allowed;
         sent = sent;
-        heard = heard x sent;
+        heard = is.1 x sent;
         time = y.0;
         within = within;
         rest = course;
         drawn = drawn;
-        left = record { steps = steps; delivers = delivers; heard = on; clocked = l.clocked.1.1 };
+        left = record { steps = steps; delivers = delivers; clocked = l.clocked.1.1 };
         same_end = refl;
-        shut = λ none. inl (is, none);
+        shut = λ none. inl (is.0, none);
       })
-      l.steps.0 l.steps.1 l.delivers.0 l.delivers.1 l.heard.0 l.heard.1
+      l.steps.0 l.steps.1 l.delivers.0 l.delivers.1
 
   comes_in :
       (p : PairValue) (course : List (ℤ × PairEvent)) (now : ℤ) → Left delay p q now course → slice_get (at p.sides side).sent k ≡ Some x → now ≤ℤ last
-      → ComesBy last side k course → last <ℤ end_of now course → Comes delay p q now last side k x course
+      → IsHeardBy last side k p course → last <ℤ end_of now course → Comes delay p q now last side k x course
   comes_in p [] now l sent soon comes over = absurd (not_both last now soon over)
   comes_in p (y ∷ course) now l sent soon comes over =
       by
-      (λ (then : ComesBy last side k course).
-      comes_in (takes p y.1) course y.0 (record { steps = l.steps.1; delivers = l.delivers.1; heard = l.heard.1; clocked = l.clocked.1.1 })
+      (λ (then : IsHeardBy last side k (takes p y.1) course).
+      comes_in (takes p y.1) course y.0 (record { steps = l.steps.1; delivers = l.delivers.1; clocked = l.clocked.1.1 })
       (sent_by p y.1 side k x sent) comes.0 then over)
       comes.1
     where
@@ -200,8 +202,8 @@ module _ (delay : ℕ) (q : PairValue) (side : Side) (k : ℕ) (x : SentSegment)
         shut = λ none. inr (it.shut none);
       }
 
-      by : (ComesBy last side k course → Comes delay (takes p y.1) q y.0 last side k x course) → (y.1 ≡ Deliver side k) ⊎ ComesBy last side k course →
-          Comes delay p q now last side k x (y ∷ course)
+      by : (IsHeardBy last side k (takes p y.1) course → Comes delay (takes p y.1) q y.0 last side k x course) →
+          IsHeardWith p side k y.1 ⊎ IsHeardBy last side k (takes p y.1) course → Comes delay p q now last side k x (y ∷ course)
       by more (inl is) = now_it p y course now l sent comes.0 is
       by more (inr then) = further (more then)
 
@@ -241,9 +243,11 @@ bare_in p B k y = bare_answer A p.sides.a (slice_get p.sides.b.sent k) y
 
 -- a segment of the other is heard
 may_hear : (p : PairValue) (side : Side) (j : ℕ) (y : SentSegment) → slice_get (at p.sides (other side)).sent j ≡ Some y → IsHeard p (other side) y
-    → segment_len y.segment (length y.bytes) ≡ 0 → MayHear p side j y
-may_hear p A j y sent h bare = record { sent = sent; fresh = h.fresh; near = h.near bare }
-may_hear p B j y sent h bare = record { sent = sent; fresh = h.fresh; near = h.near bare }
+    → segment_len y.segment (length y.bytes) ≡ 0 → distance_of (socket_of p side).block.receiver.next y.segment.seq_number < 2 ^ 31 → MayHear p side j y
+may_hear p A j y sent h bare ahead =
+    record { sent = sent; fresh = h.fresh; near = inl (in_window p.sides.a.socket.block (free_in p.sides.a.socket) y.segment (length y.bytes) bare ahead (h.inside bare)) }
+may_hear p B j y sent h bare ahead =
+    record { sent = sent; fresh = h.fresh; near = inl (in_window p.sides.b.socket.block (free_in p.sides.b.socket) y.segment (length y.bytes) bare ahead (h.inside bare)) }
 
 module _ (delay : ℕ) (p q : PairValue) (side : Side) (k : ℕ) (x : SentSegment) (course : List (ℤ × PairEvent)) (now : ℤ) (r : IsReached p) (o : AreOpen p)
     (there : AreThere q) (stream : HasStream (past_at p side)) (room : 1 ≤ room_of (socket_of p (other side)).received) (g : GoesFrom p side x)
@@ -399,8 +403,16 @@ module _ (delay : ℕ) (p q : PairValue) (side : Side) (k : ℕ) (x : SentSegmen
     from_then : (of : Side) → MovesIn there_then q of
     from_then of = then_moves there_then heard q of (to_heard of) (from_heard of)
 
-    takes_time : TakesTime p mid there_then side k j x
-    takes_time = record {
+    -- RCV.NXT of the side stays until then, so that the answer begins there or behind
+    ahead : (socket_of there_then side).block.receiver.next ≡ (socket_of came side).block.receiver.next →
+        distance_of (socket_of there_then side).block.receiver.next answered.answer.segment.seq_number < 2 ^ 31
+    ahead same =
+        subst (λ (n : SeqNumber). distance_of n answered.answer.segment.seq_number < 2 ^ 31) (sym same)
+        (subst (λ (n : SeqNumber). distance_of (socket_of came side).block.receiver.next n < 2 ^ 31) (sym answered.bare)
+        (top_ahead came side rc (open_came side) (open_came (other side))))
+
+    takes_time : (socket_of there_then side).block.receiver.next ≡ (socket_of came side).block.receiver.next → TakesTime p mid there_then side k j x
+    takes_time same = record {
       stream = stream;
       room = room;
       goes = g;
@@ -413,16 +425,32 @@ module _ (delay : ℕ) (p q : PairValue) (side : Side) (k : ℕ) (x : SentSegmen
         after = (there_at there_then A (begun_then A) (from_then A), there_at there_then B (begun_then B) (from_then B));
       };
       hears = λ it.
-          subst (MayHear there_then side j) (sym (one it)) (may_hear there_then side j answered.answer second.sent second.heard bare);
+          subst (MayHear there_then side j) (sym (one it)) (may_hear there_then side j answered.answer second.sent second.heard bare (ahead same));
     }
 
     by_answer : Outcomes
-    by_answer = by (goes_on p mid there_then side k j x r takes_time) where
+    by_answer = at ((to_then side).next (alive_at there_then side (from_then side))) where
       by : GoesOnIn p mid there_then side k j → Outcomes
       by (inl risen) = inr (inl (lifted came (other side) (from_came (other side)) risen))
       by (inr (inl none)) = inr (inr (first.shut none))
       by (inr (inr (inl risen))) = inl (lifted heard side (from_heard side) risen)
       by (inr (inr (inr closed))) = clash (sym closed ∙ alive_at heard side (from_heard side))
+
+      less : (a b c d : ℕ) → a ≤ b → b < c → c ≤ d → a < d
+      less a b c d x y z = omega arith
+
+      at :
+          ((socket_of there_then side).block.receiver.next ≡ (socket_of came side).block.receiver.next)
+          ⊎ (taken_in came side < taken_in there_then side) → Outcomes
+      at (inl same) = by (goes_on p mid there_then side k j x r (takes_time same))
+      at (inr more) =
+          inl
+          (inr
+          (less (taken_in p side) (taken_in came side) (taken_in there_then side) (taken_in q side)
+          (upto_taken (taken_in p side) (taken_in mid side) (taken_in came side) (to_mid side).taken (to_came side).taken) more (from_then side).taken))
+        where
+          upto_taken : (a b c : ℕ) → a ≤ b → b ≤ c → a ≤ c
+          upto_taken a b c x y = omega arith
 
   exchanged : Outcomes
   exchanged = by (outcome p mid side k x r until stream room g comes) where
@@ -436,12 +464,12 @@ module _ (delay : ℕ) (p q : PairValue) (side : Side) (k : ℕ) (x : SentSegmen
 pub exchange_in_time :
     (p q : PairValue) (side : Side) (k : ℕ) (x : SentSegment) (course : List (ℤ × PairEvent)) (delay : ℕ) (now : ℤ) → IsReached p → AreOpen p
     → Steps p (events_of course) q → AreThere q → HasStream (past_at p side) → 1 ≤ room_of (socket_of p (other side)).received → GoesFrom p side x
-    → slice_get (at p.sides side).sent k ≡ Some x → ComesBy (now +ℤ pos delay) side k course → IsClocked now course → DeliversWithin delay p course
-    → AreHeard p course → ((now +ℤ pos delay) +ℤ pos delay) <ℤ end_of now course
+    → slice_get (at p.sides side).sent k ≡ Some x → IsHeardBy (now +ℤ pos delay) side k p course → IsClocked now course → DeliversWithin delay p course
+    → ((now +ℤ pos delay) +ℤ pos delay) <ℤ end_of now course
     → HasRisen p q side ⊎ (HasRisen p q (other side) ⊎ IsShutAmong p side k course)
-exchange_in_time p q side k x course delay now r o s there stream room g sent comes clocked delivers heard over =
+exchange_in_time p q side k x course delay now r o s there stream room g sent comes clocked delivers over =
     exchanged delay p q side k x course now r o there stream room g
     (comes_in delay q side k x (now +ℤ pos delay) p course now
-    (record { steps = s; delivers = delivers; heard = heard; clocked = clocked }) sent (later now delay) comes
+    (record { steps = s; delivers = delivers; clocked = clocked }) sent (later now delay) comes
     (before (now +ℤ pos delay) ((now +ℤ pos delay) +ℤ pos delay) (end_of now course) (later (now +ℤ pos delay) delay) over))
     over

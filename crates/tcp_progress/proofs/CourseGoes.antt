@@ -28,7 +28,7 @@ use Rattle.tcp_tie.specs.declared.pair.event.Side.TheVariants.{A, B}
 use Rattle.tcp_progress.specs.Anew.{BeginsAnew, BeginsAnewIn, put_off_in}
 use Rattle.tcp_progress.specs.Arrivals.{is_synchronized}
 use Rattle.tcp_progress.specs.BothWays.{AreThere, total_in}
-use Rattle.tcp_progress.specs.Course.{AreHeard, AreTaken, DeliversWithin, GoesInTime, IsHinderedAmong, IsHinderedIn, IsShutAmong}
+use Rattle.tcp_progress.specs.Course.{AreTaken, DeliversWithin, GoesInTime, IsHinderedAmong, IsHinderedIn, IsShutAmong}
 use Rattle.tcp_progress.specs.Course.{IsTaken, end_of, events_of, span_of}
 use Rattle.tcp_progress.specs.Exchange.{IsOpen, left_of, text_of}
 use Rattle.tcp_progress.specs.Late.{GoesFrom, sent_by}
@@ -259,10 +259,10 @@ was_open false new e f = refl
 
 -- what of a course is left with each event
 abbrev pub Lasts : ℕ → PairValue → List (ℤ × PairEvent) → Type 0
-Lasts delay p course = AreTaken course × (DeliversWithin delay p course × AreHeard p course)
+Lasts delay p course = AreTaken course × DeliversWithin delay p course
 
 pub lasts_on : (delay : ℕ) (p : PairValue) (x : ℤ × PairEvent) (course : List (ℤ × PairEvent)) → Lasts delay p (x ∷ course) → Lasts delay (takes p x.1) course
-lasts_on delay p x course l = (l.0.1, (l.1.0.1, l.1.1.1))
+lasts_on delay p x course l = (l.0.1, l.1.1)
 
 module _ (p q : PairValue) (side : Side) (course : List (ℤ × PairEvent)) (wait delay : ℕ) (now : ℤ) (r : IsReached p) (o : AreOpen p)
     (there : AreThere q) (flight : ((socket_of p side).block.sender.in_flight == 0) ≡ false) (c : GoesInTime wait delay now p side course)
@@ -403,7 +403,7 @@ module _ (p q : PairValue) (side : Side) (course : List (ℤ × PairEvent)) (wai
   exchanges it =
       by
       (exchange_in_time after q side (next_sent mid side) it.x st.rest delay st.x.0 ra (open_after A, open_after B) st.steps_on.1 there stream room it.goes
-      it.sent (st.has.1.0.0 side (next_sent mid side) (itself (next_sent mid side)) sent_now) st.clocked st.has.1.0.1 st.has.1.1.1
+      it.sent (st.has.1.0 side (next_sent mid side) (itself (next_sent mid side)) sent_now) st.clocked st.has.1.1
       (subst (λ (end : ℤ). ((st.x.0 +ℤ pos delay) +ℤ pos delay) <ℤ end) (sym st.same_end)
       (sooner st.x.0 ((now +ℤ pos (put_off_in p side)) +ℤ pos wait) (end_of now course) delay st.within over)))
     where
@@ -436,7 +436,7 @@ pub goes_on_in_time :
 goes_on_in_time p q side course wait delay now r o s there flight c over =
     by
     (starts_in_course (Lasts delay) (lasts_on delay) p q side course wait now r o s (there_of q side there) flight c.clock c.clocked c.asks
-    (c.taken, (c.delivers, c.heard)) (less_time ((now +ℤ pos (put_off_in p side)) +ℤ pos wait) (end_of now course) delay over_all))
+    (c.taken, c.delivers) (less_time ((now +ℤ pos (put_off_in p side)) +ℤ pos wait) (end_of now course) delay over_all))
   where
     over_all : ((((now +ℤ pos (put_off_in p side)) +ℤ pos wait) +ℤ pos delay) +ℤ pos delay) <ℤ end_of now course
     over_all = subst (λ (m : ℤ). m <ℤ end_of now course) (sum_of now (put_off_in p side) wait delay) over

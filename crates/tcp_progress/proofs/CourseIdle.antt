@@ -455,7 +455,7 @@ module _ (q : PairValue) (side : Side) (there : AreThere q) (wait delay : ℕ) w
         (open_m q side there wait delay p now x course h A, open_m q side there wait delay p now x course h B) h.steps.1 there
         (stream q side there wait delay p now x course h) (room q side there wait delay p now x course h) it.goes it.sent
         (h.in_time.delivers.0 side (next_sent p side) (same (next_sent p side)) (slice_get_within (at m.sides side).sent (next_sent p side) it.x it.sent))
-        h.in_time.clocked.1.1 h.in_time.delivers.1 h.in_time.heard.1 (two_segments x.0 (end_of x.0 course) delay over))
+        h.in_time.clocked.1.1 h.in_time.delivers.1 (two_segments x.0 (end_of x.0 course) delay over))
       where
         same : (n : ℕ) → n ≤ n
         same n = omega arith
@@ -544,7 +544,6 @@ module _ (q : PairValue) (side : Side) (there : AreThere q) (wait delay : ℕ) w
             asks = ((λ of moment late wants. c.asks.0 of moment (upto now due moment before late) wants), c.asks.1);
             taken = c.taken;
             delivers = c.delivers;
-            heard = c.heard;
             stream = c.stream;
             room = c.room;
           };

@@ -299,7 +299,6 @@ module _ (q : PairValue) (side : Side) (there : AreThere q) (wait delay : ℕ) w
         asks = h.in_time.asks.1;
         taken = h.in_time.taken.1;
         delivers = h.in_time.delivers.1;
-        heard = h.in_time.heard.1;
         stream = stream;
         room = room;
       };
@@ -344,7 +343,7 @@ module _ (q : PairValue) (side : Side) (there : AreThere q) (wait delay : ℕ) w
           (exchange_in_time m q side (next_sent p side) it.x course delay x.0 rm (open_m A, open_m B) h.steps.1 there stream room it.goes it.sent
           (h.in_time.delivers.0 side (next_sent p side) (itself (next_sent p side))
           (slice_get_within (at m.sides side).sent (next_sent p side) it.x it.sent))
-          h.in_time.clocked.1.1 h.in_time.delivers.1 h.in_time.heard.1 over)
+          h.in_time.clocked.1.1 h.in_time.delivers.1 over)
 
   -- the side waits to be asked
   walk :

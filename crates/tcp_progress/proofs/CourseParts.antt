@@ -12,7 +12,7 @@ use Rattle.tcp_tie.specs.declared.pair.event.PairEvent.{PairEvent}
 use Rattle.tcp_tie.specs.declared.pair.event.PairEvent.TheVariants.{Listen, Connect, Send, Recv, Close, Abort, TcpSetting, Offer, Deliver}
 use Rattle.tcp_tie.specs.declared.pair.event.Side.{Side}
 use Rattle.tcp_progress.specs.Arrivals.{is_synchronized}
-use Rattle.tcp_progress.specs.Course.{AreHeard, AreTaken, Asks, AsksWithin, ComesBy, DeliversWithin, IsAskedBy, IsAt, IsClocked, IsHinderedAmong}
+use Rattle.tcp_progress.specs.Course.{AreTaken, Asks, AsksWithin, DeliversWithin, IsAskedBy, IsAt, IsClocked, IsHeardBy, IsHeardWith, IsHinderedAmong}
 use Rattle.tcp_progress.specs.Course.{Wants, end_of, events_of}
 use Rattle.tcp_progress.specs.Pair.{left_in, socket_of}
 use Rattle.tcp_progress.specs.PutOff.{IsAskedBefore}
@@ -101,27 +101,21 @@ pub taken_rest : (first rest : Course) → AreTaken (first ++ rest) → AreTaken
 taken_rest [] rest a = a
 taken_rest (x ∷ first) rest a = taken_rest first rest a.1
 
-pub heard_first : (p : PairValue) (first rest : Course) → AreHeard p (first ++ rest) → AreHeard p first
-heard_first p [] rest a = tt
-heard_first p (x ∷ first) rest a = (a.0, heard_first (takes p x.1) first rest a.1)
-
-pub heard_rest : (p : PairValue) (first rest : Course) → AreHeard p (first ++ rest) → AreHeard (after_all p first) rest
-heard_rest p [] rest a = a
-heard_rest p (x ∷ first) rest a = heard_rest (takes p x.1) first rest a.1
-
-comes_first : (last : ℤ) (side : Side) (k : ℕ) (first rest : Course) → ComesBy last side k (first ++ rest) → ComesBy last side k first
-comes_first last side k [] rest c = tt
-comes_first last side k (x ∷ first) rest c = (c.0, by (λ more. comes_first last side k first rest more) c.1) where
+heard_first :
+    (last : ℤ) (side : Side) (k : ℕ) (p : PairValue) (first rest : Course) → IsHeardBy last side k p (first ++ rest) → IsHeardBy last side k p first
+heard_first last side k p [] rest c = tt
+heard_first last side k p (x ∷ first) rest c = (c.0, by (λ more. heard_first last side k (takes p x.1) first rest more) c.1) where
   by :
-      (ComesBy last side k (first ++ rest) → ComesBy last side k first) → (x.1 ≡ Deliver side k) ⊎ ComesBy last side k (first ++ rest)
-      → (x.1 ≡ Deliver side k) ⊎ ComesBy last side k first
+      (IsHeardBy last side k (takes p x.1) (first ++ rest) → IsHeardBy last side k (takes p x.1) first)
+      → IsHeardWith p side k x.1 ⊎ IsHeardBy last side k (takes p x.1) (first ++ rest)
+      → IsHeardWith p side k x.1 ⊎ IsHeardBy last side k (takes p x.1) first
   by on (inl is) = inl is
   by on (inr more) = inr (on more)
 
 pub delivers_first : (delay : ℕ) (p : PairValue) (first rest : Course) → DeliversWithin delay p (first ++ rest) → DeliversWithin delay p first
 delivers_first delay p [] rest d = tt
 delivers_first delay p (x ∷ first) rest d =
-    ((λ side k old new. comes_first (x.0 +ℤ pos delay) side k first rest (d.0 side k old new)), delivers_first delay (takes p x.1) first rest d.1)
+    ((λ side k old new. heard_first (x.0 +ℤ pos delay) side k (takes p x.1) first rest (d.0 side k old new)), delivers_first delay (takes p x.1) first rest d.1)
 
 pub delivers_rest : (delay : ℕ) (p : PairValue) (first rest : Course) → DeliversWithin delay p (first ++ rest) → DeliversWithin delay (after_all p first) rest
 delivers_rest delay p [] rest d = d

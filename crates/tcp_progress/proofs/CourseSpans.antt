@@ -13,7 +13,7 @@ use Rattle.tcp_tie.specs.declared.pair.event.Side.TheVariants.{A, B}
 use Rattle.tcp_progress.specs.Anew.{most_sent}
 use Rattle.tcp_progress.specs.Arrivals.{is_synchronized}
 use Rattle.tcp_progress.specs.BothWays.{AreThere, total_in}
-use Rattle.tcp_progress.specs.Course.{AreHeard, AreTaken, AsksWithin, DeliversWithin, GoesInTime, IsClocked, IsHinderedAmong}
+use Rattle.tcp_progress.specs.Course.{AreTaken, AsksWithin, DeliversWithin, GoesInTime, IsClocked, IsHinderedAmong}
 use Rattle.tcp_progress.specs.Course.{end_of, events_of, span_of}
 use Rattle.tcp_progress.specs.Exchange.{IsOpen}
 use Rattle.tcp_progress.specs.Near.{IsNear}
@@ -25,7 +25,7 @@ use Rattle.tcp_progress.specs.Rounds.{takes}
 use Rattle.tcp_progress.specs.Sent.{sent_in, taken_in, unsent_in}
 use Rattle.tcp_progress.specs.Spans.{IsHeldAmong, IsHeldIn, IsThroughAmong, most_reached, reached_in}
 use Rattle.tcp_progress.proofs.CourseParts.{Course, after_all, asks_first, asks_rest, clock_all, clock_on, clocked_first, clocked_rest, delivers_first}
-use Rattle.tcp_progress.proofs.CourseParts.{delivers_rest, end_parts, heard_first, heard_rest, held_first, held_rest, hindered_first, hindered_rest}
+use Rattle.tcp_progress.proofs.CourseParts.{delivers_rest, end_parts, held_first, held_rest, hindered_first, hindered_rest}
 use Rattle.tcp_progress.proofs.CourseParts.{steps_first, steps_rest, taken_first, taken_rest, there_before, through_now, through_rest}
 use Rattle.tcp_progress.proofs.CourseOwes.{IsWide, owed_in_time, wants_idle, wide_or_held}
 use Rattle.tcp_progress.proofs.CourseRuns.{wants}
@@ -239,7 +239,6 @@ reached_in_spans (suc n) p q side course wait delay now r o s there c over =
       asks = asks_rest wait now p it.first it.rest (subst (AsksWithin wait now p) it.is c.asks);
       taken = taken_rest it.first it.rest (subst AreTaken it.is c.taken);
       delivers = delivers_rest delay p it.first it.rest (subst (DeliversWithin delay p) it.is c.delivers);
-      heard = heard_rest p it.first it.rest (subst (AreHeard p) it.is c.heard);
       stream = wrote;
       room = subst (λ (k : ℕ). 1 ≤ k) (sym (to_mid it (other side)).room) c.room;
     })
@@ -343,7 +342,6 @@ reached_in_spans (suc n) p q side course wait delay now r o s there c over =
           asks = asks_first wait now p it.first it.rest (subst (AsksWithin wait now p) it.is c.asks);
           taken = taken_first it.first it.rest (subst AreTaken it.is c.taken);
           delivers = delivers_first delay p it.first it.rest (subst (DeliversWithin delay p) it.is c.delivers);
-          heard = heard_first p it.first it.rest (subst (AreHeard p) it.is c.heard);
           stream = c.stream;
           room = c.room;
         })

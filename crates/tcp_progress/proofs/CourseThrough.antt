@@ -12,7 +12,7 @@ use Rattle.tcp_tie.specs.declared.pair.event.Side.{Side}
 use Rattle.tcp_tie.specs.declared.pair.event.Side.TheVariants.{A, B}
 use Rattle.tcp_progress.specs.Arrivals.{is_synchronized}
 use Rattle.tcp_progress.specs.BothWays.{AreThere}
-use Rattle.tcp_progress.specs.Course.{AreHeard, AreTaken, AsksWithin, DeliversWithin, GoesInTime, IsClocked, Wants, end_of, events_of}
+use Rattle.tcp_progress.specs.Course.{AreTaken, AsksWithin, DeliversWithin, GoesInTime, IsClocked, Wants, end_of, events_of}
 use Rattle.tcp_progress.specs.Exchange.{IsOpen}
 use Rattle.tcp_progress.specs.Near.{IsNear}
 use Rattle.tcp_progress.specs.Onward.{AreOpen, HasRisen}
@@ -23,7 +23,7 @@ use Rattle.tcp_progress.specs.Rounds.{takes}
 use Rattle.tcp_progress.specs.Spans.{IsThroughAmong, most_reached, reached_in}
 use Rattle.tcp_progress.proofs.CourseIdle.{wants_soon}
 use Rattle.tcp_progress.proofs.CourseParts.{Course, after_all, asks_first, asks_rest, clock_all, clock_on, clocked_first, clocked_rest, delivers_first}
-use Rattle.tcp_progress.proofs.CourseParts.{delivers_rest, end_parts, heard_first, heard_rest, steps_first, steps_rest, taken_first, taken_rest}
+use Rattle.tcp_progress.proofs.CourseParts.{delivers_rest, end_parts, steps_first, steps_rest, taken_first, taken_rest}
 use Rattle.tcp_progress.proofs.CourseParts.{there_before, through_now, through_rest}
 use Rattle.tcp_progress.proofs.CourseRuns.{wants}
 use Rattle.tcp_progress.proofs.CourseSpans.{Cut, all_reached, first_span, no_less, one_more, other_spans, times_suc}
@@ -178,7 +178,6 @@ reached_whatever (suc n) p q side course read wait delay now r o s there c reads
       asks = asks_rest wait now p it.first it.rest (subst (AsksWithin wait now p) it.is c.asks);
       taken = taken_rest it.first it.rest (subst AreTaken it.is c.taken);
       delivers = delivers_rest delay p it.first it.rest (subst (DeliversWithin delay p) it.is c.delivers);
-      heard = heard_rest p it.first it.rest (subst (AreHeard p) it.is c.heard);
       stream = wrote;
       room = subst (λ (k : ℕ). 1 ≤ k) (sym (to_mid it (other side)).room) c.room;
     })
@@ -276,7 +275,6 @@ reached_whatever (suc n) p q side course read wait delay now r o s there c reads
           asks = asks_first wait now p it.first it.rest (subst (AsksWithin wait now p) it.is c.asks);
           taken = taken_first it.first it.rest (subst AreTaken it.is c.taken);
           delivers = delivers_first delay p it.first it.rest (subst (DeliversWithin delay p) it.is c.delivers);
-          heard = heard_first p it.first it.rest (subst (AreHeard p) it.is c.heard);
           stream = c.stream;
           room = c.room;
         })

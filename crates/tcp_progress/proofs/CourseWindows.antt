@@ -375,8 +375,7 @@ module _ (q : PairValue) (side : Side) (there : AreThere q) (wait delay : ℕ) w
           clocked = st.clocked;
           asks = st.has.1.1.1;
           taken = st.has.0.0.1;
-          delivers = st.has.0.1.0.1;
-          heard = st.has.0.1.1.1;
+          delivers = st.has.0.1.1;
           stream = stream;
           room = subst (λ (n : ℕ). 1 ≤ n) (sym (p_after (other side)).room) h.in_time.room;
         };
@@ -399,9 +398,9 @@ module _ (q : PairValue) (side : Side) (there : AreThere q) (wait delay : ℕ) w
         (exchange_in_time after q side (next_sent mid side) it.x st.rest delay st.x.0 ra
         (is_open after A ra (there_after A) (begun_then A).syn, is_open after B ra (there_after B) (begun_then B).syn) st.steps_on.1 there stream
         (subst (λ (n : ℕ). 1 ≤ n) (sym (p_after (other side)).room) h.in_time.room) it.goes it.sent
-        (st.has.0.1.0.0 side (next_sent mid side) (same_one (next_sent mid side))
+        (st.has.0.1.0 side (next_sent mid side) (same_one (next_sent mid side))
         (slice_get_within (at after.sides side).sent (next_sent mid side) it.x it.sent))
-        st.clocked st.has.0.1.0.1 st.has.0.1.1.1 (two st.x.0 (end_of st.x.0 st.rest) (wait + 60_000_000 + wait) delay over_then))
+        st.clocked st.has.0.1.1 (two st.x.0 (end_of st.x.0 st.rest) (wait + 60_000_000 + wait) delay over_then))
       where
         same_one : (n : ℕ) → n ≤ n
         same_one n = omega arith
@@ -449,7 +448,7 @@ module _ (q : PairValue) (side : Side) (there : AreThere q) (wait delay : ℕ) w
       by
       (runs_in_course Lasts_ lasts_all p q side course wait now h.reached (opened A, opened B) h.steps (there_of q side there) it h.in_time.clock
       h.in_time.clocked h.in_time.asks
-      ((h.in_time.taken, (h.in_time.delivers, h.in_time.heard)), behind_of wait now p course h.in_time.clocked h.in_time.asks)
+      ((h.in_time.taken, h.in_time.delivers), behind_of wait now p course h.in_time.clocked h.in_time.asks)
       (less_time ((now +ℤ pos (put_off_in p side)) +ℤ pos wait) (end_of now course) (wait + 60_000_000 + wait + (delay + delay)) over_all))
     where
       h : State q side there wait delay p now course

@@ -16,7 +16,7 @@ use Rattle.tcp_rules.specs.States.{is_closed, takes_text}
 use Rattle.tcp_rules.proofs.OrderSteps.{clash}
 use Rattle.tcp_model.specs.Answers.{may_draw}
 use Rattle.tcp_model.specs.Arrival.{arrives}
-use Rattle.tcp_model.specs.Blocks.{one_if}
+use Rattle.tcp_model.specs.Blocks.{one_if, top as end_of}
 use Rattle.tcp_model.specs.Segments.{segment_len}
 use Rattle.tcp_tie.specs.Pair.Sides.{at, other}
 use Rattle.tcp_tie.specs.Pair.Steps.{refusal, taken_at}
@@ -294,6 +294,7 @@ module _ (p q : PairValue) (side : Side) (n : ℕ) (x : SentSegment) (r : IsReac
               ∙ (drawn came.draws ∙ ap (λ (reply : Option Reply). and_reply (at q.sides (other side)).sent reply) it.answer);
           acknowledges = it.acknowledges;
           plain = it.plain;
+          bare = it.bare ∙ ap (λ (s : PairSide). end_of s.socket.block) (sym comes);
         }
       where
         drawn : (draws : Bool) → (taken_at (at q.sides (other side)) (record came { draws = draws })).sent ≡

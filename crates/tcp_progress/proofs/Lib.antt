@@ -79,7 +79,10 @@ pub mod Mending
 pub mod MendingEvents
 pub mod MendingRuns
 pub mod CourseRuns
+pub mod Inside
 pub mod CourseExchange
+pub mod Overtaken
+pub mod InOrder
 pub mod ProbeGoes
 pub mod AgainGoes
 pub mod CourseGoes

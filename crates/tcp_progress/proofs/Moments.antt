@@ -58,7 +58,7 @@ goes_on p (Deliver from k) e = tt
 
 -- THE CLOCKS
 
-handed_moment : (side : Side) (s : PairSide) (x : Option SentSegment) → (handed side s x).moment ≡ s.moment
+pub handed_moment : (side : Side) (s : PairSide) (x : Option SentSegment) → (handed side s x).moment ≡ s.moment
 handed_moment side s None = refl
 handed_moment side s (Some x) =
     cond_both (accepts s.socket.block x.header x.segment) (taken_at s (arrives (context_at side s) s.socket x.header x.segment x.bytes)) s

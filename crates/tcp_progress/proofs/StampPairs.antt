@@ -100,7 +100,7 @@ event_way since side p event r taken keeps w = by (which (side_of event) side) w
       (partner_event since (at p.sides side) (at p.sides (other side)) (at (pasts p.history) side).opening w event)))
 
 -- what was so at the end was so before
-earlier : (since : ℤ) (side : Side) (p : PairValue) (events : List PairEvent) (new : PairValue) → Steps p events new → IsTimed since side new.history →
+pub earlier : (since : ℤ) (side : Side) (p : PairValue) (events : List PairEvent) (new : PairValue) → Steps p events new → IsTimed since side new.history →
     IsTimed since side p.history
 earlier since side p [] new s t = subst (λ (p : PairValue). IsTimed since side p.history) s t
 earlier since side p (event ∷ events) new s t = (earlier since side (happens p event).pair events new s.1 t).1
@@ -151,7 +151,7 @@ later_end : (a b : ℤ) → a ≤ℤ b → stamp_end_from a ≤ℤ stamp_end_fro
 later_end a b e = first_of (omega (arith, ints), grind (arith, ints))
 
 -- what a clock shows isn't older than what it showed within 24 days
-fresh_by :
+pub fresh_by :
     (b : Block) (set : Option TcpTimestampGenerator) (since last now : ℤ) (stamp : Option TcpTimestampRepr) → pos 0 ≤ℤ since → last ≤ℤ now
     → now ≤ℤ stamp_end_from since → (b.peer.timestamps ≡ true → WasShown set since last b.peer.recent) → IsOwn set now stamp
     → comes_stale b stamp ≡ false

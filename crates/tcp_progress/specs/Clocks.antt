@@ -1,5 +1,5 @@
 -- The clocks of timestamps (RFC 7323, 4.1 and 5): what none of a side's segments being older than one that came asks of its clock.
-use Rattle.std.specs.Prelude.{◌≡◌, ◌⊎◌, ℕ, ◌*◌, ◌&&◌, ℤ, pos, ◌+ℤ◌, ◌≤ℤ◌, Bool, false, List, [], ◌∷◌, Option, Some, is_some}
+use Rattle.std.specs.Prelude.{◌≡◌, ◌⊎◌, ℕ, ◌*◌, ◌<◌, ◌&&◌, ℤ, pos, ◌+ℤ◌, ◌≤ℤ◌, Bool, false, List, [], ◌∷◌, Option, Some, is_some}
 use Rattle.ip_wire.specs.TcpTimestampGenerator.{TcpTimestampGenerator}
 use Rattle.ip_wire.specs.TcpTimestampRepr.{TcpTimestampRepr}
 use Rattle.ip_wire.specs.Timestamp.{value_at}
@@ -12,7 +12,7 @@ use Rattle.tcp_tie.specs.Pair.Sides.{at, other}
 use Rattle.tcp_model.specs.Timestamps.{comes_older, generator_of}
 use Rattle.tcp_tie.specs.Pair.Values.{PairValue}
 use Rattle.tcp_tie.specs.declared.pair.event.PairEvent.{PairEvent}
-use Rattle.tcp_tie.specs.declared.pair.event.PairEvent.TheVariants.{Offer, TcpSetting}
+use Rattle.tcp_tie.specs.declared.pair.event.PairEvent.TheVariants.{Deliver, Offer, TcpSetting}
 use Rattle.tcp_tie.specs.declared.pair.event.Side.{Side}
 use Rattle.tcp_tie.specs.declared.pair.event.TcpSetting.TheVariants as Set
 
@@ -21,6 +21,16 @@ use Rattle.tcp_tie.specs.declared.pair.event.TcpSetting.TheVariants as Set
 -- a timestamp is older than TS.Recent, where the remote has timestamps (5.3)
 abbrev pub comes_stale : Block → Option TcpTimestampRepr → Bool
 comes_stale b stamp = b.peer.timestamps && comes_older stamp b.peer.recent
+
+-- with this event a segment of a side comes that it sent behind the one of this number
+abbrev pub Overtakes : Side → ℕ → PairEvent → Type 0
+Overtakes side k (Deliver from j) = (from ≡ side) × (k < j)
+Overtakes side k other = ⊥
+
+-- so it is with one of these events
+abbrev pub IsOvertakenAmong : Side → ℕ → List PairEvent → Type 0
+IsOvertakenAmong side k [] = ⊥
+IsOvertakenAmong side k (event ∷ events) = Overtakes side k event ⊎ IsOvertakenAmong side k events
 
 -- THE CLOCK OF A SIDE
 

@@ -1,7 +1,8 @@
 -- Two hosts and a link that take their time: events, each at a moment of one clock.
-use Rattle.std.specs.Prelude.{◌≡◌, ◌⊎◌, ℕ, ◌+◌, ◌<◌, ◌≤◌, ℤ, pos, ◌+ℤ◌, ◌≤ℤ◌, true, false, List, [], ◌∷◌, length, Some, slice_get}
+use Rattle.std.specs.Prelude.{◌≡◌, ◌⊎◌, ℕ, ◌+◌, ◌<◌, ◌≤◌, max, ℤ, pos, ◌+ℤ◌, ◌≤ℤ◌, true, false, List, [], ◌∷◌, length, Some, slice_get}
 use Rattle.tcp_tie.specs.Offers.{IsBefore}
 use Rattle.tcp_rules.specs.Moments.{is_due}
+use Rattle.tcp_rules.specs.Offsets.{past_by}
 use Rattle.tcp_model.specs.Due.{poll_of}
 use Rattle.tcp_model.specs.Segments.{segment_len}
 use Rattle.tcp_tie.specs.Pair.Sides.{at, other}
@@ -12,8 +13,7 @@ use Rattle.tcp_tie.specs.declared.pair.event.PairEvent.TheVariants.{Offer, Deliv
 use Rattle.tcp_tie.specs.declared.pair.event.SentSegment.{SentSegment}
 use Rattle.tcp_tie.specs.declared.pair.event.Side.{Side}
 use Rattle.tcp_progress.specs.Anew.{put_off_in}
-use Rattle.tcp_progress.specs.Arrivals.{IsNearWindow}
-use Rattle.tcp_progress.specs.Clocks.{comes_stale}
+use Rattle.tcp_progress.specs.Clocks.{Overtakes, comes_stale}
 use Rattle.tcp_progress.specs.Pair.{HasStream, context_of, next_sent, socket_of}
 use Rattle.tcp_progress.specs.Restart.{first_cwnd, worth_sending}
 use Rattle.tcp_progress.specs.Rounds.{takes}
@@ -64,32 +64,56 @@ AsksWithin wait now p (x ∷ course) =
 
 -- SEGMENTS COME
 
--- a segment of a side of this number comes before the clock passes a moment, unless the course ends before
-abbrev pub ComesBy : ℤ → Side → ℕ → List (ℤ × PairEvent) → Type 0
-ComesBy last side k [] = Unit {0}
-ComesBy last side k (x ∷ course) = (x.0 ≤ℤ last) × ((x.1 ≡ Deliver side k) ⊎ ComesBy last side k course)
+-- a segment of a side that takes no position begins before the right edge of the other's window, or at RCV.NXT
+abbrev pub IsInside : PairValue → Side → SentSegment → Type 0
+IsInside p side x =
+    segment_len x.segment (length x.bytes) ≡ 0
+    → past_by (socket_of p (other side)).block.receiver.next x.segment.seq_number < max 1 (free_in (socket_of p (other side)))
 
--- each segment that a side sends in the course comes no more than so many microseconds later, at least once
+-- A segment of a side that comes counts: it has no timestamp that is older than TS.Recent of the other; and where it takes no position, it lies
+-- inside.
+pub record IsHeard (p : PairValue) (side : Side) (x : SentSegment) : Type 0 where
+  pub fresh : comes_stale (socket_of p (other side)).block x.segment.options.timestamp ≡ false
+  pub inside : IsInside p side x
+
+-- with this event the segment of a side of this number comes, and is heard
+abbrev pub IsHeardWith : PairValue → Side → ℕ → PairEvent → Type 0
+IsHeardWith p side k event = (event ≡ Deliver side k) × ((x : SentSegment) → slice_get (at p.sides side).sent k ≡ Some x → IsHeard p side x)
+
+-- it does before the clock passes a moment, unless the course ends before
+abbrev pub IsHeardBy : ℤ → Side → ℕ → PairValue → List (ℤ × PairEvent) → Type 0
+IsHeardBy last side k p [] = Unit {0}
+IsHeardBy last side k p (x ∷ course) = (x.0 ≤ℤ last) × (IsHeardWith p side k x.1 ⊎ IsHeardBy last side k (takes p x.1) course)
+
+-- Each segment that a side sends in the course comes no more than so many microseconds later, and is heard then. It may come at other times,
+-- too, as may what was sent before.
 abbrev pub DeliversWithin : ℕ → PairValue → List (ℤ × PairEvent) → Type 0
 DeliversWithin delay p [] = Unit {0}
 DeliversWithin delay p (x ∷ course) =
-    ((side : Side) (k : ℕ) → next_sent p side ≤ k → k < next_sent (takes p x.1) side → ComesBy (x.0 +ℤ pos delay) side k course)
+    ((side : Side) (k : ℕ) → next_sent p side ≤ k → k < next_sent (takes p x.1) side → IsHeardBy (x.0 +ℤ pos delay) side k (takes p x.1) course)
     × DeliversWithin delay (takes p x.1) course
 
--- A segment of a side that comes has no timestamp that is older than TS.Recent of the other; one that takes no position lies in the other's
--- window, or before it.
-pub record IsHeard (p : PairValue) (side : Side) (x : SentSegment) : Type 0 where
-  pub fresh : comes_stale (socket_of p (other side)).block x.segment.options.timestamp ≡ false
-  pub near : segment_len x.segment (length x.bytes) ≡ 0 → IsNearWindow (socket_of p (other side)) x.segment (length x.bytes)
+-- A LINK THAT KEEPS ORDER
 
--- so is each that comes in the course
-abbrev pub IsHeardIn : PairValue → PairEvent → Type 0
-IsHeardIn p (Deliver side k) = (x : SentSegment) → slice_get (at p.sides side).sent k ≡ Some x → IsHeard p side x
-IsHeardIn p other = Unit {0}
+-- with this event the segment of a side of this number comes, and where it takes no position, it lies inside
+abbrev pub ComesWith : PairValue → Side → ℕ → PairEvent → Type 0
+ComesWith p side k event = (event ≡ Deliver side k) × ((x : SentSegment) → slice_get (at p.sides side).sent k ≡ Some x → IsInside p side x)
 
-abbrev pub AreHeard : PairValue → List (ℤ × PairEvent) → Type 0
-AreHeard p [] = Unit {0}
-AreHeard p (x ∷ course) = IsHeardIn p x.1 × AreHeard (takes p x.1) course
+-- it does before the clock passes a moment, unless the course ends before; and before each that the side sent later
+abbrev pub ComesFirst : ℤ → Side → ℕ → PairValue → List (ℤ × PairEvent) → Type 0
+ComesFirst last side k p [] = Unit {0}
+ComesFirst last side k p (x ∷ course) =
+    (x.0 ≤ℤ last) × (ComesWith p side k x.1 ⊎ ((Overtakes side k x.1 → ⊥) × ComesFirst last side k (takes p x.1) course))
+
+-- Each segment that a side sends in the course comes no more than so many microseconds later, and before those that the side sends later. It
+-- may come at other times, too, as may what was sent before.
+abbrev pub KeepsOrder : ℕ → PairValue → List (ℤ × PairEvent) → Type 0
+KeepsOrder delay p [] = Unit {0}
+KeepsOrder delay p (x ∷ course) =
+    ((side : Side) (k : ℕ) → next_sent p side ≤ k → k < next_sent (takes p x.1) side → ComesFirst (x.0 +ℤ pos delay) side k (takes p x.1) course)
+    × KeepsOrder delay (takes p x.1) course
+
+-- A CLOSED WINDOW
 
 -- a segment of a side of this number comes while the other's window is closed
 abbrev pub IsShutAmong : PairValue → Side → ℕ → List (ℤ × PairEvent) → Type 0
@@ -126,15 +150,14 @@ IsHinderedAmong p side (event ∷ events) = IsHinderedIn p side event ⊎ IsHind
 
 -- A COURSE
 
--- From this pair on, with the clock at `now`: each side is asked in time, and what it offers goes; each segment comes in time, and is heard. The
--- side has a receive buffer to send to, and a stream that is no empty one.
+-- From this pair on, with the clock at `now`: each side is asked in time, and what it offers goes; each segment is heard in time. The side has a
+-- receive buffer to send to, and a stream that is no empty one.
 pub record GoesInTime (wait delay : ℕ) (now : ℤ) (p : PairValue) (side : Side) (course : List (ℤ × PairEvent)) : Type 0 where
   pub clock : (at p.sides side).moment ≤ℤ now
   pub clocked : IsClocked now course
   pub asks : AsksWithin wait now p course
   pub taken : AreTaken course
   pub delivers : DeliversWithin delay p course
-  pub heard : AreHeard p course
   pub stream : HasStream (past_at p side)
   pub room : 1 ≤ room_of (socket_of p (other side)).received
 

@@ -8,6 +8,7 @@ use Rattle.tcp_rules.specs.OpenOffer.{OpenOffer}
 use Rattle.tcp_rules.specs.State.TheVariants as In
 use Rattle.tcp_rules.specs.States.{is_closed}
 use Rattle.tcp_model.specs.Answers.{may_draw}
+use Rattle.tcp_model.specs.Blocks.{top}
 use Rattle.tcp_model.specs.Segments.{segment_len}
 use Rattle.tcp_tie.specs.Pair.Sides.{at, other}
 use Rattle.tcp_model.specs.Value.{free_in, room_of}
@@ -45,12 +46,13 @@ come_in p side k = takes p (Deliver side k)
 abbrev pub IsTakenIn : PairValue → Side → ℕ → Type 0
 IsTakenIn p side k = taken_in p (other side) < taken_in (come_in p side k) (other side)
 
--- or it is answered by RCV.NXT
+-- or it is answered by RCV.NXT, at a number past all that the other ever sent
 pub record IsAnsweredIn (p : PairValue) (side : Side) (k : ℕ) : Type 0 where
   pub answer : SentSegment
   pub sent : (at (come_in p side k).sides (other side)).sent ≡ (at p.sides (other side)).sent ++ answer ∷ []
   pub acknowledges : answer.segment.ack_number ≡ Some (socket_of p (other side)).block.receiver.next
   pub plain : answer.segment.control ≡ Control.None
+  pub bare : answer.segment.seq_number ≡ top (socket_of (come_in p side k) (other side)).block
 
 -- or the window is closed, and the last answer was drawn less than a second ago
 abbrev pub IsShutIn : PairValue → Side → Type 0

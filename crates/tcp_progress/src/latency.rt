@@ -13,7 +13,8 @@ ghost use Rattle.tcp_tie.specs.declared.pair.event.Side.{Side};
 ghost use Rattle.tcp_progress.specs.Anew.{BeginsAnewAmong, put_off_in};
 ghost use Rattle.tcp_progress.specs.Arrivals.{is_synchronized};
 ghost use Rattle.tcp_progress.specs.BothWays.{AreThere};
-ghost use Rattle.tcp_progress.specs.Course.{AreHeard, AsksWithin, ComesBy, DeliversWithin, GoesInTime, IsClocked, IsHinderedAmong, IsShutAmong};
+ghost use Rattle.tcp_progress.specs.Clocks.{HasDays};
+ghost use Rattle.tcp_progress.specs.Course.{AsksWithin, DeliversWithin, GoesInTime, IsClocked, IsHeardBy, IsHinderedAmong, IsShutAmong, KeepsOrder};
 ghost use Rattle.tcp_progress.specs.Course.{end_of, events_of, span_of};
 ghost use Rattle.tcp_progress.specs.Exchange.{IsOpen};
 ghost use Rattle.tcp_progress.specs.Late.{GoesFrom};
@@ -45,14 +46,14 @@ pub fn a_side_that_is_asked_in_time_begins_at_snd_una()
         → (acked_in p side < acked_in q side) ⊎ (RunsOutAmong p side (events_of course) ⊎ BeginsAnewAmong p side (events_of course)) }
 {}
 
-/// In a course in which each segment comes in time an exchange takes twice as long at most: where a segment of a side went from SND.UNA on, and
-/// comes in time, as what answers it does, SND.UNA or RCV.NXT of a side has risen by then; or the segment came while the other's window was
+/// In a course in which each segment is heard in time an exchange takes twice as long at most: where a segment of a side went from SND.UNA on, and
+/// is heard in time, as what answers it is, SND.UNA or RCV.NXT of a side has risen by then; or the segment came while the other's window was
 /// closed, so that it is for its user to read.
 pub fn an_exchange_takes_no_longer_than_its_segments()
     ensures twice { (p q : PairValue) (side : Side) (k : ℕ) (x : SentSegment) (course : List (ℤ × PairEvent)) (delay : ℕ) (now : ℤ) → IsReached p
         → AreOpen p → Steps p (events_of course) q → AreThere q → HasStream (past_at p side)
         → 1 ≤ room_of (socket_of p (other side)).received → GoesFrom p side x → slice_get (at p.sides side).sent k ≡ Some x
-        → ComesBy (now +ℤ pos delay) side k course → IsClocked now course → DeliversWithin delay p course → AreHeard p course
+        → IsHeardBy (now +ℤ pos delay) side k p course → IsClocked now course → DeliversWithin delay p course
         → ((now +ℤ pos delay) +ℤ pos delay) <ℤ end_of now course
         → HasRisen p q side ⊎ (HasRisen p q (other side) ⊎ IsShutAmong p side k course) }
 {}
@@ -66,8 +67,8 @@ pub fn a_due_probe_goes()
         → Sends (context_of p side moment) (socket_of p side) }
 {}
 
-/// A connection goes on in time. In a course in which each side is asked in time, what it offers goes, and each segment comes in time, and is
-/// heard: within a span that these times and the other's buffer make, SND.UNA or RCV.NXT of a side rises, where a side has something in flight;
+/// A connection goes on in time. In a course in which each side is asked in time, what it offers goes, and each segment is heard in time:
+/// within a span that these times and the other's buffer make, SND.UNA or RCV.NXT of a side rises, where a side has something in flight;
 /// or a window stood in its way meanwhile: the other's was closed as a segment of it came; or the one that it knows, or that of congestion
 /// control, took neither a full segment nor all that was queued as its timer had run out. Where a side owes something, in flight or not, the
 /// same is so within as long as it is let wait and a span, or such a window held it back while it had nothing in flight.
@@ -96,4 +97,10 @@ pub fn all_is_acknowledged_in_time()
         → Steps p (events_of course) q → AreThere q → GoesInTime wait delay now p side course
         → (now +ℤ pos (suc (most_reached q - reached_in p) * (2 * (wait + span_of wait delay p side)))) <ℤ end_of now course
         → IsHinderedAmong p side (events_of course) ⊎ (IsHeldAmong p side (events_of course) ⊎ IsThroughAmong p side (events_of course)) }
+{}
+
+/// A link that keeps order: where each segment comes in time, and before those that its side sends later, each is heard, within 24 days.
+pub fn what_comes_in_order_is_heard()
+    ensures heard { (p q : PairValue) (course : List (ℤ × PairEvent)) (delay : ℕ) → IsReached p → Steps p (events_of course) q
+        → ((side : Side) → HasDays q side (at q.sides side).moment) → KeepsOrder delay p course → DeliversWithin delay p course }
 {}

@@ -1,6 +1,6 @@
 //! That no segment of a side is older than what its partner had of it.
 
-ghost use Rattle.std.specs.Prelude.{◌≡◌, ℕ, ℤ, true, false, List, Some, None};
+ghost use Rattle.std.specs.Prelude.{◌≡◌, ℕ, ◌≤◌, ℤ, true, false, List, Some, None, slice_get};
 ghost use Rattle.ip_wire.specs.IpRepr.{IpRepr};
 ghost use Rattle.ip_wire.specs.TcpHeader.{TcpHeader};
 ghost use Rattle.tcp_rules.specs.OpenOffer.{OpenOffer};
@@ -8,13 +8,16 @@ ghost use Rattle.tcp_rules.specs.Reply.{Reply};
 ghost use Rattle.tcp_model.specs.Arrival.{arrives};
 ghost use Rattle.tcp_model.specs.Offers.{offer_of};
 ghost use Rattle.tcp_tie.specs.Pair.Sides.{at, other};
-ghost use Rattle.tcp_tie.specs.Pair.Steps.{refusal};
+ghost use Rattle.tcp_tie.specs.Pair.Steps.{Steps, refusal};
 ghost use Rattle.tcp_tie.specs.Pair.Values.{PairValue, context_at};
+ghost use Rattle.tcp_tie.specs.declared.pair.event.PairEvent.{PairEvent};
 ghost use Rattle.tcp_tie.specs.declared.pair.event.PairEvent.TheVariants.{Offer};
+ghost use Rattle.tcp_tie.specs.declared.pair.event.SentSegment.{SentSegment};
 ghost use Rattle.tcp_tie.specs.declared.pair.event.Side.{Side};
-ghost use Rattle.tcp_progress.specs.Clocks.{HasDays, IsTimed, WasShown, comes_stale};
-ghost use Rattle.tcp_progress.specs.Pair.{context_of, socket_of};
+ghost use Rattle.tcp_progress.specs.Clocks.{HasDays, IsOvertakenAmong, IsTimed, WasShown, comes_stale};
+ghost use Rattle.tcp_progress.specs.Pair.{context_of, next_sent, socket_of};
 ghost use Rattle.tcp_progress.specs.Reached.{IsReached};
+ghost use Rattle.tcp_progress.specs.Rounds.{takes};
 
 /// Of a pair that events led to, and a side that was asked only since some moment, whose clock was set before it was opened: where the
 /// other takes timestamps, its TS.Recent is what that clock showed since then, up to the side's last moment.
@@ -33,4 +36,13 @@ pub fn no_segment_is_older_than_ts_recent()
         → HasDays p (other side) (at p.sides (other side)).moment
         → (arrives (context_at (other side) (at p.sides (other side))) (socket_of p (other side)) ip header bytes).answer ≡ Some reply
         → comes_stale (socket_of p side).block reply.segment.options.timestamp ≡ false }
+{}
+
+/// A segment that a side sends with an event, within 24 days, isn't older whenever it comes, unless one that the side sent later comes before it
+/// (RFC 7323, 5.3).
+pub fn what_nothing_overtook_is_fresh()
+    ensures fresh { (p q : PairValue) (side : Side) (event : PairEvent) (events : List PairEvent) (k : ℕ) (x : SentSegment) → IsReached p
+        → refusal p event ≡ None → next_sent p side ≤ k → slice_get (at (takes p event).sides side).sent k ≡ Some x
+        → HasDays (takes p event) side (at (takes p event).sides side).moment → Steps (takes p event) events q → (IsOvertakenAmong side k events → ⊥)
+        → comes_stale (socket_of q (other side)).block x.segment.options.timestamp ≡ false }
 {}

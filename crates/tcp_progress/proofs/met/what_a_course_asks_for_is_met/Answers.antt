@@ -1,5 +1,5 @@
-use Rattle.std.proofs.Common.{◌≡◌, inl, inr, ℕ, suc, ◌<◌, ◌≤◌, ℤ, pos, ◌+ℤ◌, ◌≤ℤ◌, ◌<ℤ◌, int_le, int_lt, Bool, true, false, List, [], ◌∷◌, Option, Some, None, refl, sym, ap, subst, arith}
-use Rattle.std.proofs.lemmas.Bool.{leb-true}
+use Rattle.std.proofs.Common.{◌≡◌, inl, inr, ℕ, suc, ◌<◌, ◌≤◌, ℤ, pos, ◌+ℤ◌, ◌≤ℤ◌, ◌<ℤ◌, int_le, int_lt, Bool, true, false, List, [], ◌∷◌, Option, Some, None, refl, sym, ap, ◌∙◌, subst, arith}
+use Rattle.std.proofs.lemmas.Bool.{leb-true, ltb-true}
 use Rattle.std.proofs.lemmas.Int.{ints}
 use Rattle.std.specs.Prelude.{IfSome, slice_get}
 use Rattle.tcp_tie.specs.Offers.{IsBefore}
@@ -13,7 +13,7 @@ use Rattle.tcp_tie.specs.declared.pair.event.PairEvent.TheVariants.{Deliver, Off
 use Rattle.tcp_tie.specs.declared.pair.event.SentSegment.{SentSegment}
 use Rattle.tcp_tie.specs.declared.pair.event.Side.{Side}
 use Rattle.tcp_tie.specs.declared.pair.event.Side.TheVariants.{A, B}
-use Rattle.tcp_progress.specs.Course.{ComesBy, IsAskedBy, IsHeard, Wants}
+use Rattle.tcp_progress.specs.Course.{IsAskedBy, IsHeard, IsHeardBy, Wants}
 use Rattle.tcp_progress.specs.Met.{gone, mending}
 use Rattle.tcp_progress.specs.Pair.{next_sent, socket_of}
 use Rattle.tcp_progress.specs.Rounds.{takes}
@@ -73,10 +73,10 @@ by_found P (Some y) holds x e = subst P (one y x e) holds where
   one y x e = cc
 
 heard_text : (x : SentSegment) → slice_get (at asked.sides A).sent 3 ≡ Some x → IsHeard asked A x
-heard_text = by_found (IsHeard asked A) (slice_get (at asked.sides A).sent 3) (record { fresh = refl; near = λ none. absurd (cc) })
+heard_text = by_found (IsHeard asked A) (slice_get (at asked.sides A).sent 3) (record { fresh = refl; inside = λ none. absurd (cc) })
 
 heard_ack : (x : SentSegment) → slice_get (at told.sides B).sent 1 ≡ Some x → IsHeard told B x
-heard_ack = by_found (IsHeard told B) (slice_get (at told.sides B).sent 1) (record { fresh = refl; near = λ _. inl refl })
+heard_ack = by_found (IsHeard told B) (slice_get (at told.sides B).sent 1) (record { fresh = refl; inside = λ _. ltb-true _ _ refl })
 
 -- WHAT IS LEFT OF THE COURSE
 
@@ -136,10 +136,13 @@ fifth B due late wants = quiet known B due refl wants
 -- EACH SEGMENT COMES
 
 abbrev Sent : PairValue → ℤ × PairEvent → List (ℤ × PairEvent) → Type 0
-Sent p x course = (side : Side) (k : ℕ) → next_sent p side ≤ k → k < next_sent (takes p x.1) side → ComesBy (x.0 +ℤ pos 1_000) side k course
+Sent p x course = (side : Side) (k : ℕ) → next_sent p side ≤ k → k < next_sent (takes p x.1) side →
+    IsHeardBy (x.0 +ℤ pos 1_000) side k (takes p x.1) course
 
 sends : Sent gone (pos 1_000_000, Offer A (pos 1_000_000) true) from_asked
-sends A k old new = (le_of _ _ refl, inl (ap (λ (n : ℕ). Deliver A n) (one_new 3 k old new)))
+sends A k old new =
+    let is = one_new 3 k old new in
+    (le_of _ _ refl, inl (ap (λ (n : ℕ). Deliver A n) is, λ x found. heard_text x (ap (slice_get asked.sides.a.sent) is ∙ found)))
 sends B k old new = none_new 1 k old new
 
 comes : Sent asked (pos 1_000_500, Deliver A 3) from_came
@@ -148,7 +151,9 @@ comes B k old new = none_new 1 k old new
 
 acks : Sent came (pos 1_000_500, Offer B (pos 1_000_500) true) from_told
 acks A k old new = none_new 4 k old new
-acks B k old new = (le_of _ _ refl, inl (ap (λ (n : ℕ). Deliver B n) (one_new 1 k old new)))
+acks B k old new =
+    let is = one_new 1 k old new in
+    (le_of _ _ refl, inl (ap (λ (n : ℕ). Deliver B n) is, λ x found. heard_ack x (ap (slice_get told.sides.b.sent) is ∙ found)))
 
 hears : Sent told (pos 1_001_000, Deliver B 1) last_one
 hears A k old new = none_new 4 k old new
@@ -165,7 +170,6 @@ returns-clause-course c = record {
   asks = (first, (second, (third, (fourth, (fifth, tt)))));
   taken = (refl, (tt, (refl, (tt, (tt, tt)))));
   delivers = (sends, (comes, (acks, (hears, (reads, tt)))));
-  heard = (tt, (heard_text, (tt, (heard_ack, (tt, tt)))));
   stream = inl refl;
   room = leb-true _ _ refl;
 }

@@ -1,0 +1,133 @@
+-- On a link that keeps order each segment that comes in time is heard, within 24 days.
+use Rattle.std.proofs.Common.{◌≡◌, ◌⊎◌, inl, inr, ℕ, ◌≤◌, ℤ, pos, ◌+ℤ◌, ◌≤ℤ◌, true, false, List, [], ◌∷◌, Some, None, Result, Ok, Err}
+use Rattle.std.proofs.Common.{slice_get, refl, sym, ◌∙◌, subst, arith}
+use Rattle.std.proofs.lemmas.Option.{slice_get_within}
+use Rattle.tcp_law.specs.Side.{Opening}
+use Rattle.tcp_rules.specs.Moments.{stamp_end_from}
+use Rattle.tcp_rules.specs.RecvError.{RecvError}
+use Rattle.tcp_model.specs.Calls.{recv_answer}
+use Rattle.tcp_tie.specs.Pair.History.{pasts, side_of}
+use Rattle.tcp_tie.specs.Pair.Sides.{at, other}
+use Rattle.tcp_tie.specs.Pair.Steps.{Steps, acting, acts, reads, refusal}
+use Rattle.tcp_tie.specs.Pair.Values.{PairSide, PairValue}
+use Rattle.tcp_tie.specs.declared.pair.event.PairEvent.{PairEvent}
+use Rattle.tcp_tie.specs.declared.pair.event.PairEvent.TheVariants.{Listen, Connect, Send, Recv, Close, Abort, TcpSetting, Offer, Deliver}
+use Rattle.tcp_tie.specs.declared.pair.event.SentSegment.{SentSegment}
+use Rattle.tcp_tie.specs.declared.pair.event.Side.{Side}
+use Rattle.tcp_progress.specs.Clocks.{HasDays, IsTimed, Overtakes, comes_stale}
+use Rattle.tcp_progress.specs.Course.{ComesFirst, ComesWith, DeliversWithin, IsHeard, IsHeardBy, IsHeardWith, IsInside, KeepsOrder, events_of}
+use Rattle.tcp_progress.specs.Pair.{next_sent, socket_of}
+use Rattle.tcp_progress.specs.Reached.{IsReached}
+use Rattle.tcp_progress.specs.Rounds.{takes}
+use Rattle.tcp_progress.proofs.CourseExchange.{by_put, sent_by}
+use Rattle.tcp_progress.proofs.CourseParts.{Course}
+use Rattle.tcp_progress.proofs.Kept.{reached_by}
+use Rattle.tcp_progress.proofs.Moments.{GoesOn, goes_on, handed_moment}
+use Rattle.tcp_progress.proofs.Overtaken.{Has, Shown, own_in, same_in, shown_after, some_at}
+use Rattle.tcp_progress.proofs.StampCases.{IsOwn}
+use Rattle.tcp_progress.proofs.StampPairs.{earlier, fresh_by, reached_way}
+
+-- MOMENTS
+
+itself : (a : ℤ) → a ≤ℤ a
+itself a = grind arith
+
+upto : (a b c : ℤ) → a ≤ℤ b → b ≤ℤ c → a ≤ℤ c
+upto a b c e f = grind arith
+
+later_act : (s : PairSide) (others : List SentSegment) (event : PairEvent) → GoesOn s event → s.moment ≤ℤ (acts s others event).side.moment
+later_act s others (Listen of endpoint) on = itself s.moment
+later_act s others (Connect of remote local) on = itself s.moment
+later_act s others (Send of bytes) on = itself s.moment
+later_act s others (Recv of count) on = by (recv_answer s.socket count) where
+  by : (got : Result ℕ RecvError) → s.moment ≤ℤ (reads s got).side.moment
+  by (Ok n) = itself s.moment
+  by (Err fault) = itself s.moment
+later_act s others (Close of) on = itself s.moment
+later_act s others (Abort of) on = itself s.moment
+later_act s others (TcpSetting of setting) on = itself s.moment
+later_act s others (Offer of moment true) on = on
+later_act s others (Offer of moment false) on = on
+later_act s others (Deliver from j) on =
+    subst (λ (t : ℤ). s.moment ≤ℤ t) (sym (handed_moment (other from) s (slice_get others j))) (itself s.moment)
+
+later_event : (p : PairValue) (event : PairEvent) (side : Side) → refusal p event ≡ None → (at p.sides side).moment ≤ℤ (at (takes p event).sides side).moment
+later_event p event side allowed =
+    by_put (λ (s : PairSide). (at p.sides side).moment ≤ℤ s.moment) p.sides (side_of event) side (acting p event).side
+    (λ own.
+    subst (λ (of : Side). (at p.sides of).moment ≤ℤ (acting p event).side.moment) own
+    (later_act (at p.sides (side_of event)) (at p.sides (other (side_of event))).sent event (goes_on p event allowed)))
+    (itself (at p.sides side).moment)
+
+later_steps : (p : PairValue) (events : List PairEvent) (q : PairValue) (side : Side) → Steps p events q → (at p.sides side).moment ≤ℤ (at q.sides side).moment
+later_steps p [] q side s = subst (λ (q : PairValue). (at p.sides side).moment ≤ℤ (at q.sides side).moment) (sym s) (itself (at p.sides side).moment)
+later_steps p (event ∷ events) q side s =
+    upto (at p.sides side).moment (at (takes p event).sides side).moment (at q.sides side).moment (later_event p event side s.0)
+    (later_steps (takes p event) events q side s.1)
+
+-- A SEGMENT COMES BEFORE EACH LATER ONE
+
+one_segment : (a b : SentSegment) → Some a ≡ Some b → a ≡ b
+one_segment a b e = cc
+
+module _ (since : ℤ) (begun : pos 0 ≤ℤ since) (s : PairSide) (opening : Opening) (side : Side) (k : ℕ) (x : SentSegment)
+    (sent : slice_get s.sent k ≡ Some x) (within : s.moment ≤ℤ stamp_end_from since)
+    (own : IsOwn s.socket.block.settings.timestamps s.moment x.segment.options.timestamp) (last : ℤ) where
+  abbrev Has_ : PairValue → Type 0
+  Has_ c = Has since s opening side k c
+
+  abbrev Shown_ : PairValue → Type 0
+  Shown_ c = Shown since s opening side k (at c.sides (other side))
+
+  heard_at : (c : PairValue) (z : SentSegment) → Has_ c → Shown_ c → slice_get (at c.sides side).sent k ≡ Some z → IsInside c side z → IsHeard c side z
+  heard_at c z has w e inside = record {
+    fresh =
+        subst (λ (z : SentSegment). comes_stale (socket_of c (other side)).block z.segment.options.timestamp ≡ false)
+        (one_segment x z (sym (has k x sent) ∙ e))
+        (fresh_by (socket_of c (other side)).block s.socket.block.settings.timestamps since s.moment s.moment x.segment.options.timestamp begun
+        (itself s.moment) within w.heard own);
+    inside = inside;
+  }
+
+  in_order : (c : PairValue) (course : Course) → Has_ c → Shown_ c → ComesFirst last side k c course → IsHeardBy last side k c course
+  in_order c [] has w t = tt
+  in_order c (y ∷ course) has w t =
+      (t.0, by (λ (has : Has_ (takes c y.1)) (w : Shown_ (takes c y.1)) (t : ComesFirst last side k (takes c y.1) course). in_order (takes c y.1) course has w t) t.1)
+    where
+      by :
+          (Has_ (takes c y.1) → Shown_ (takes c y.1) → ComesFirst last side k (takes c y.1) course → IsHeardBy last side k (takes c y.1) course)
+          → ComesWith c side k y.1 ⊎ ((Overtakes side k y.1 → ⊥) × ComesFirst last side k (takes c y.1) course)
+          → IsHeardWith c side k y.1 ⊎ IsHeardBy last side k (takes c y.1) course
+      by on (inl is) = inl (is.0, λ z e. heard_at c z has w e (is.1 z e))
+      by on (inr more) =
+          inr
+          (on (λ j z e. sent_by c y.1 side j z (has j z e))
+          (shown_after since s opening side k c y.1 w (same_in since s opening side k c (slice_get_within s.sent k x sent) has) more.0) more.1)
+
+-- A COURSE
+
+pub heard_in_order :
+    (q p : PairValue) (course : Course) (delay : ℕ) → IsReached p → Steps p (events_of course) q
+    → ((side : Side) → HasDays q side (at q.sides side).moment) → KeepsOrder delay p course → DeliversWithin delay p course
+heard_in_order q p [] delay r s days o = tt
+heard_in_order q p (x ∷ course) delay r s days o =
+    ((λ side k old new. comes side k old (some_at (at m.sides side).sent k new) (o.0 side k old new)), heard_in_order q m course delay rm s.1 days o.1)
+  where
+    m : PairValue
+    m = takes p x.1
+
+    rm : IsReached m
+    rm = reached_by p m (x.1 ∷ []) r (s.0, refl)
+
+    timed : (side : Side) → IsTimed (days side).since side m.history
+    timed side = earlier (days side).since side m (events_of course) q s.1 (days side).timed
+
+    comes :
+        (side : Side) (k : ℕ) → next_sent p side ≤ k → (y : SentSegment) × (slice_get (at m.sides side).sent k ≡ Some y)
+        → ComesFirst (x.0 +ℤ pos delay) side k m course → IsHeardBy (x.0 +ℤ pos delay) side k m course
+    comes side k old it first =
+        in_order (days side).since (days side).begun (at m.sides side) (at (pasts m.history) side).opening side k it.0 it.1
+        (upto (at m.sides side).moment (at q.sides side).moment (stamp_end_from (days side).since) (later_steps m (events_of course) q side s.1)
+        (days side).within)
+        (own_in p side x.1 k it.0 (days side).since r (timed side).1 old it.1) (x.0 +ℤ pos delay) m course (λ j z e. e)
+        (reached_way (days side).since side m rm (timed side)) first
