@@ -4,6 +4,7 @@ ghost use Rattle.packet_text.specs.Headers.{echo_text, icmpv4_text, icmpv6_text,
 
 use crate::headers::{Ipv4Text, Ipv6Text, set};
 use crate::names::{Exceeded4Text, Exceeded6Text, ProblemText, Unreachable4Text, Unreachable6Text};
+use crate::parts::{write_error, write_value, write_values};
 use control_wire::{Icmpv4Header, Icmpv6Header, NdiscNeighborFlags, NdiscRepr};
 use ip_wire::RawHardwareAddress;
 use std::fmt;
@@ -18,23 +19,27 @@ impl fmt::Display for Icmpv4Text {
     fn fmt<W: fmt::Write>(&self, f: &mut fmt::Formatter<W>) -> fmt::Result {
         match self.0 {
             Icmpv4Header::EchoRequest { ident, seq_no } => {
-                write!(f, "echo request, id {}", EchoText(ident, seq_no))
+                write_value(f, "echo request, id ", EchoText(ident, seq_no))
             }
             Icmpv4Header::EchoReply { ident, seq_no } => {
-                write!(f, "echo reply, id {}", EchoText(ident, seq_no))
+                write_value(f, "echo reply, id ", EchoText(ident, seq_no))
             }
-            Icmpv4Header::DstUnreachable { reason, header } => write!(
-                f,
-                "unreachable, {}, of [{}]",
-                Unreachable4Text(reason),
-                Ipv4Text(header)
-            ),
-            Icmpv4Header::TimeExceeded { reason, header } => write!(
-                f,
-                "time exceeded, {}, of [{}]",
-                Exceeded4Text(reason),
-                Ipv4Text(header)
-            ),
+            Icmpv4Header::DstUnreachable { reason, header } => {
+                write_error(
+                    f,
+                    "unreachable, ",
+                    Unreachable4Text(reason),
+                    Ipv4Text(header),
+                )
+            }
+            Icmpv4Header::TimeExceeded { reason, header } => {
+                write_error(
+                    f,
+                    "time exceeded, ",
+                    Exceeded4Text(reason),
+                    Ipv4Text(header),
+                )
+            }
         }
     }
 }
@@ -47,7 +52,7 @@ impl fmt::Display for EchoText {
     ghost output = { λ x. Some (echo_text x.0 x.1) };
 
     fn fmt<W: fmt::Write>(&self, f: &mut fmt::Formatter<W>) -> fmt::Result {
-        write!(f, "{}, seq {}", self.0, self.1)
+        write_values(f, "", self.0, ", seq ", self.1)
     }
 }
 
@@ -60,21 +65,25 @@ impl fmt::Display for Icmpv6Text {
 
     fn fmt<W: fmt::Write>(&self, f: &mut fmt::Formatter<W>) -> fmt::Result {
         match self.0 {
-            Icmpv6Header::DstUnreachable { reason, header } => write!(
-                f,
-                "unreachable, {}, of [{}]",
-                Unreachable6Text(reason),
-                Ipv6Text(header)
-            ),
-            Icmpv6Header::PktTooBig { mtu, header } => {
-                write!(f, "packet too big, mtu {mtu}, of [{}]", Ipv6Text(header))
+            Icmpv6Header::DstUnreachable { reason, header } => {
+                write_error(
+                    f,
+                    "unreachable, ",
+                    Unreachable6Text(reason),
+                    Ipv6Text(header),
+                )
             }
-            Icmpv6Header::TimeExceeded { reason, header } => write!(
-                f,
-                "time exceeded, {}, of [{}]",
-                Exceeded6Text(reason),
-                Ipv6Text(header)
-            ),
+            Icmpv6Header::PktTooBig { mtu, header } => {
+                write_error(f, "packet too big, mtu ", mtu, Ipv6Text(header))
+            }
+            Icmpv6Header::TimeExceeded { reason, header } => {
+                write_error(
+                    f,
+                    "time exceeded, ",
+                    Exceeded6Text(reason),
+                    Ipv6Text(header),
+                )
+            }
             Icmpv6Header::ParamProblem {
                 reason,
                 pointer,
@@ -86,12 +95,12 @@ impl fmt::Display for Icmpv6Text {
                 Ipv6Text(header)
             ),
             Icmpv6Header::EchoRequest { ident, seq_no } => {
-                write!(f, "echo request, id {ident}, seq {seq_no}")
+                write_value(f, "echo request, id ", EchoText(ident, seq_no))
             }
             Icmpv6Header::EchoReply { ident, seq_no } => {
-                write!(f, "echo reply, id {ident}, seq {seq_no}")
+                write_value(f, "echo reply, id ", EchoText(ident, seq_no))
             }
-            Icmpv6Header::Ndisc(message) => write!(f, "{}", NdiscText(message)),
+            Icmpv6Header::Ndisc(message) => f.write(NdiscText(message)),
         }
     }
 }
@@ -108,10 +117,12 @@ impl fmt::Display for NdiscText {
             NdiscRepr::NeighborSolicit {
                 target_addr,
                 lladdr,
-            } => write!(
+            } => write_values(
                 f,
-                "neighbor solicitation, target {target_addr}{}",
-                LinkText(lladdr)
+                "neighbor solicitation, target ",
+                target_addr,
+                "",
+                LinkText(lladdr),
             ),
             NdiscRepr::NeighborAdvert {
                 flags,

@@ -1,6 +1,6 @@
 //! Control messages.
 use crate::control::{Icmpv4Text, Icmpv6Text};
-use crate::put::{Out, all, good, none, tested_first};
+use crate::put::{Out, all, none, tested_first};
 use control_wire::{Icmpv4Packet, Icmpv4Repr, Icmpv6Header, Icmpv6Packet, Icmpv6Repr};
 use ip_wire::Ipv6Address;
 
@@ -25,11 +25,22 @@ pub(crate) fn put_icmpv4(out: &mut Out<'_>, bytes: &[u8]) {
             packet.data()
         }
     };
-    out.put("; type ", u8::from(packet.msg_type()));
-    out.put(", code ", packet.msg_code());
-    out.put_checksum(packet.checksum());
-    out.put_last(" ", good(packet.verify_checksum()));
+    put_fields(
+        out,
+        u8::from(packet.msg_type()),
+        packet.msg_code(),
+        packet.checksum(),
+        packet.verify_checksum(),
+    );
     out.put_bytes("payload", payload);
+}
+
+// The fields as they stand.
+fn put_fields(out: &mut Out<'_>, kind: u8, code: u8, checksum: u16, is_good: bool) {
+    out.put("; type ", kind);
+    out.put(", code ", code);
+    out.put_tested(checksum, is_good);
+    out.end_line();
 }
 
 /// A message of IPv6 between these addresses.
@@ -59,10 +70,13 @@ pub(crate) fn put_icmpv6(
             bytes.get(4..).unwrap_or(&[])
         }
     };
-    out.put("; type ", u8::from(packet.msg_type()));
-    out.put(", code ", packet.msg_code());
-    out.put_checksum(packet.checksum());
-    out.put_last(" ", good(packet.verify_checksum(source, destination)));
+    put_fields(
+        out,
+        u8::from(packet.msg_type()),
+        packet.msg_code(),
+        packet.checksum(),
+        packet.verify_checksum(source, destination),
+    );
     match found {
         Some((_, Icmpv6Repr::Ndisc(_))) => put_options(out, bytes.get(24..).unwrap_or(&[])),
         _ => out.put_bytes("payload", payload),
@@ -77,12 +91,16 @@ fn put_options(out: &mut Out<'_>, options: &[u8]) {
             break;
         };
         let length = 8 * usize::from(*units);
-        out.put("option ", *kind);
-        out.put_hex(": ", rest.get(2..length).unwrap_or(&[]));
-        out.end_line();
+        put_option(out, *kind, rest.get(2..length).unwrap_or(&[]));
         rest = rest.get(length..).unwrap_or(&[]);
         if length == 0 {
             break;
         }
     }
+}
+
+fn put_option(out: &mut Out<'_>, kind: u8, inside: &[u8]) {
+    out.put("option ", kind);
+    out.put_hex(": ", inside);
+    out.end_line();
 }

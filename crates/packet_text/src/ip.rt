@@ -126,11 +126,7 @@ fn put_ipv4_fields(out: &mut Out<'_>, bytes: &[u8]) {
     if header_len <= bytes.len() {
         out.put(" ", good(packet.verify_checksum()));
     }
-    if let Some(options) = bytes.get(20..header_len) {
-        if !options.is_empty() {
-            out.put_hex(", options ", options);
-        }
-    }
+    out.put_some_hex(", options ", bytes.get(20..header_len).unwrap_or(&[]));
     out.end_line();
 }
 
@@ -213,10 +209,16 @@ fn put_extension(out: &mut Out<'_>, kind: IpProtocol, next: IpProtocol, front: &
 
 // What the header of a piece says.
 fn place_of(kind: IpProtocol, front: &[u8]) -> Option<Ipv6FragmentRepr> {
-    if kind != IpProtocol::Ipv6Frag {
-        return None;
+    match kind {
+        IpProtocol::Ipv6Frag => place_at(front.get(2..).unwrap_or(&[])),
+        _ => None,
     }
-    let header = Ipv6FragmentHeader::new_checked(front.get(2..)?).ok()?;
+}
+
+fn place_at(bytes: &[u8]) -> Option<Ipv6FragmentRepr> {
+    let Ok(header) = Ipv6FragmentHeader::new_checked(bytes) else {
+        return None;
+    };
     Ipv6FragmentRepr::parse(&header).ok()
 }
 
@@ -267,8 +269,11 @@ fn put_udp(out: &mut Out<'_>, source: &IpAddress, destination: &IpAddress, bytes
         }
     }
     out.put("; length ", packet.len());
-    out.put_checksum(packet.checksum());
-    out.put_last(" ", good(packet.verify_checksum(source, destination)));
+    out.put_tested(
+        packet.checksum(),
+        packet.verify_checksum(source, destination),
+    );
+    out.end_line();
     out.put_bytes("payload", packet.payload());
     let end = usize::from(packet.len());
     out.put_some_bytes("behind", bytes.get(end..).unwrap_or(&[]));

@@ -7,6 +7,7 @@ mod headers;
 mod icmp;
 mod ip;
 mod names;
+mod parts;
 mod put;
 mod tcp;
 mod tcp_text;

@@ -5,6 +5,7 @@ ghost use Rattle.packet_text.specs.Names.{protocol_name, protocol_text, operatio
 ghost use Rattle.packet_text.specs.Names.{exceeded4_text, unreachable6_name, unreachable6_text, exceeded6_name, exceeded6_text, problem_name, problem_text};
 ghost use Rattle.packet_text.specs.Names.{ether_text};
 
+use crate::parts::write_value;
 use control_wire::{
     Icmpv4DstUnreachable, Icmpv4TimeExceeded, Icmpv6DstUnreachable, Icmpv6ParamProblem,
     Icmpv6TimeExceeded,
@@ -212,10 +213,10 @@ impl fmt::Display for EtherText {
 
     fn fmt<W: fmt::Write>(&self, f: &mut fmt::Formatter<W>) -> fmt::Result {
         match self.0 {
-            EthernetProtocol::Ipv4 => write!(f, "IPv4"),
-            EthernetProtocol::Arp => write!(f, "ARP"),
-            EthernetProtocol::Ipv6 => write!(f, "IPv6"),
-            EthernetProtocol::Unknown(number) => write!(f, "type {number}"),
+            EthernetProtocol::Ipv4 => f.write("IPv4"),
+            EthernetProtocol::Arp => f.write("ARP"),
+            EthernetProtocol::Ipv6 => f.write("IPv6"),
+            EthernetProtocol::Unknown(number) => write_value(f, "type ", number),
         }
     }
 }

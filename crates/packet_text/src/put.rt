@@ -77,6 +77,12 @@ impl<'a> Out<'a> {
         write!(self, ", checksum 0x{checksum:04x}");
     }
 
+    /// A checksum, and whether it is right.
+    pub(crate) fn put_tested(&mut self, checksum: u16, is_good: bool) {
+        self.put_checksum(checksum);
+        self.put(" ", good(is_good));
+    }
+
     /// A flow label.
     pub(crate) fn put_flow(&mut self, label: u32) {
         write!(self, ", flow 0x{label:05x}");
@@ -117,6 +123,13 @@ impl<'a> Out<'a> {
         match hex::encode(self.alloc, bytes) {
             Ok(digits) => self.put_text(digits.as_str()),
             Err(_) => self.is_short = true,
+        }
+    }
+
+    /// The same, where there are any.
+    pub(crate) fn put_some_hex(&mut self, what: &str, bytes: &[u8]) {
+        if !bytes.is_empty() {
+            self.put_hex(what, bytes);
         }
     }
 

@@ -2,7 +2,7 @@
 ghost use Rattle.std.specs.Prelude.{◌≡◌};
 ghost use Rattle.ip_wire.specs.Address.{version_of};
 
-use crate::put::{Out, all, good, none, tested_first};
+use crate::put::{Out, all, none, tested_first};
 use crate::tcp_text::{TcpOptionText, TcpText};
 use ip_wire::{IpAddress, TcpHeader, TcpOption, TcpPacket};
 
@@ -51,8 +51,7 @@ fn put_fields(out: &mut Out<'_>, bytes: &[u8], is_good: bool) {
     out.put_where(packet.ns(), "e");
     out.put("], ack field ", packet.ack_number().0);
     out.put(", win ", packet.window_len());
-    out.put_checksum(packet.checksum());
-    out.put(" ", good(is_good));
+    out.put_tested(packet.checksum(), is_good);
     out.put_last(", urgent ", packet.urgent_at());
     put_options(out, packet.options());
 }
@@ -90,16 +89,13 @@ fn put_options(out: &mut Out<'_>, options: &[u8]) {
 
 // The end of the line, with what stands behind the end of the options.
 fn put_behind(out: &mut Out<'_>, behind: &[u8]) {
-    if !behind.is_empty() {
-        out.put_hex(" behind ", behind);
-    }
+    out.put_some_hex(" behind ", behind);
     out.end_line();
 }
 
 // What is inside an option of another kind.
 fn put_unknown(out: &mut Out<'_>, option: TcpOption<'_>) {
-    match option {
-        TcpOption::Unknown { bytes, .. } if !bytes.is_empty() => { out.put_hex(" ", bytes) }
-        _ => {}
+    if let TcpOption::Unknown { bytes, .. } = option {
+        out.put_some_hex(" ", bytes);
     }
 }

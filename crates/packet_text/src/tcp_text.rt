@@ -4,6 +4,7 @@ ghost use Rattle.std.specs.List.{flat_map};
 ghost use Rattle.packet_text.specs.Headers.{control_text, ack_mark, ack_text, size_text, scale_text, stamp_text, range_text, options_text, tcp_text};
 
 use crate::headers::set;
+use crate::parts::{write_value, write_values};
 use ip_wire::{SeqNumber, TcpControl, TcpHeader, TcpOption, TcpOptions, TcpTimestampRepr};
 use std::fmt;
 
@@ -60,7 +61,7 @@ impl fmt::Display for AckText {
 
     fn fmt<W: fmt::Write>(&self, f: &mut fmt::Formatter<W>) -> fmt::Result {
         match self.0 {
-            Some(number) => write!(f, ", ack {}", number.0),
+            Some(number) => write_value(f, ", ack ", number.0),
             None => Ok(()),
         }
     }
@@ -94,7 +95,7 @@ impl fmt::Display for SizeText {
 
     fn fmt<W: fmt::Write>(&self, f: &mut fmt::Formatter<W>) -> fmt::Result {
         match self.0 {
-            Some(size) => write!(f, ", mss {size}"),
+            Some(size) => write_value(f, ", mss ", size),
             None => Ok(()),
         }
     }
@@ -108,7 +109,7 @@ impl fmt::Display for ScaleText {
 
     fn fmt<W: fmt::Write>(&self, f: &mut fmt::Formatter<W>) -> fmt::Result {
         match self.0 {
-            Some(shift) => write!(f, ", wscale {shift}"),
+            Some(shift) => write_value(f, ", wscale ", shift),
             None => Ok(()),
         }
     }
@@ -122,7 +123,7 @@ impl fmt::Display for StampText {
 
     fn fmt<W: fmt::Write>(&self, f: &mut fmt::Formatter<W>) -> fmt::Result {
         match self.0 {
-            Some(stamp) => write!(f, ", TS val {} ecr {}", stamp.tsval, stamp.tsecr),
+            Some(stamp) => write_values(f, ", TS val ", stamp.tsval, " ecr ", stamp.tsecr),
             None => Ok(()),
         }
     }
@@ -167,13 +168,15 @@ pub struct TcpOptionText<'a>(pub TcpOption<'a>);
 impl<'a> fmt::Display for TcpOptionText<'a> {
     fn fmt<W: fmt::Write>(&self, f: &mut fmt::Formatter<W>) -> fmt::Result {
         match self.0 {
-            TcpOption::EndOfList => write!(f, "eol"),
-            TcpOption::NoOperation => write!(f, "nop"),
-            TcpOption::MaxSegmentSize(size) => write!(f, "mss {size}"),
-            TcpOption::WindowScale(shift) => write!(f, "wscale {shift}"),
-            TcpOption::SackPermitted => write!(f, "sackOK"),
-            TcpOption::SackRange(ranges) => write!(f, "sacks{}", RangesText(ranges)),
-            TcpOption::TimeStamp { tsval, tsecr } => write!(f, "TS val {tsval} ecr {tsecr}"),
+            TcpOption::EndOfList => f.write("eol"),
+            TcpOption::NoOperation => f.write("nop"),
+            TcpOption::MaxSegmentSize(size) => write_value(f, "mss ", size),
+            TcpOption::WindowScale(shift) => write_value(f, "wscale ", shift),
+            TcpOption::SackPermitted => f.write("sackOK"),
+            TcpOption::SackRange(ranges) => write_value(f, "sacks", RangesText(ranges)),
+            TcpOption::TimeStamp { tsval, tsecr } => write_values(
+                f, "TS val ", tsval, " ecr ", tsecr,
+            ),
             TcpOption::Unknown { kind, bytes } => write!(
                 f,
                 "kind {kind} with {} bytes",
