@@ -14,6 +14,7 @@ pub mod InTurn
 pub mod Readers
 pub mod NeverRests
 pub mod Reached
+pub mod Round
 pub mod Asks
 pub mod Asking
 pub mod Answered

@@ -1,6 +1,6 @@
-//! A neighbour that isn't known is asked for, answers, and is known.
+//! A neighbour that isn't known is asked for, in its turn, answers, and is known.
 
-ghost use Rattle.std.specs.Prelude.{◌≡◌, ℕ, ℤ, Bool, true, false, List, ◌∷◌, ◌++◌, Option, Some};
+ghost use Rattle.std.specs.Prelude.{◌≡◌, ℕ, ℤ, ◌≤ℤ◌, Bool, true, false, List, ◌∷◌, ◌++◌, Option, None, Some, slice_get};
 ghost use Rattle.net_base.specs.Packets.{contents};
 ghost use Rattle.ip_wire.specs.Arp as Arps;
 ghost use Rattle.ip_wire.specs.EthernetAddress.{EthernetAddress};
@@ -18,7 +18,10 @@ ghost use Rattle.interface_egress.specs.Departure as Departures;
 ghost use Rattle.interface_egress.specs.Departure.{Asks};
 ghost use Rattle.interface_egress.specs.GoesOut.{frame_of};
 ghost use Rattle.interface_egress.specs.declared.frame.Question.TheVariants as Query;
-ghost use Rattle.interface.specs.Awaited.{turn_of};
+ghost use Rattle.interface_egress.specs.declared.socket_set.SocketStorage.{SocketStorage};
+ghost use Rattle.interface_ingress.specs.Socket.{Socket};
+ghost use Rattle.interface.specs.Awaited.{awaited_in, next_awaited, turn_of};
+ghost use Rattle.interface.specs.declared.awaited.Awaited.{Awaited};
 ghost use Rattle.interface.specs.Delivered.{IsQuestion};
 ghost use Rattle.interface.specs.Egress.{EgressStep};
 ghost use Rattle.interface.specs.Ingress.{IngressStep};
@@ -41,6 +44,25 @@ pub fn unknown_neighbors_are_asked_for<D: Device>()
         → is_other (turn_of (at_moment t s.host.inner) s.places) hop ≡ false
         → EgressStep D.moves t s answer s'
         → AsksAtOnce D.moves (at_moment t s.host.inner) (turn_of (at_moment t s.host.inner) s.places) s.device s'.device }
+{}
+
+/// Law: turns come round. Whoever's turn it is to be asked for again, each other neighbour that a socket waits for was asked for since: its last
+/// request is to be answered no earlier. And of those that were never asked for the one is first that was waited for longest. So of so many
+/// neighbours that sockets wait for each is asked for within as many questions, which go a second apart (`asks_a_second_apart`).
+pub fn turns_come_round()
+    ensures again { (i : InnerValue) (places : List (SocketStorage Socket)) (n : ℕ) (place : SocketStorage Socket) (a b : Awaited) (last : ℤ)
+        → next_awaited i places ≡ Some a
+        → slice_get places n ≡ Some place
+        → awaited_in i place ≡ Some b
+        → a.last_request ≡ Some last
+        → (later : ℤ) × (b.last_request ≡ Some later) × (last ≤ℤ later) }
+    ensures first { (i : InnerValue) (places : List (SocketStorage Socket)) (n : ℕ) (place : SocketStorage Socket) (a b : Awaited)
+        → next_awaited i places ≡ Some a
+        → slice_get places n ≡ Some place
+        → awaited_in i place ≡ Some b
+        → a.last_request ≡ None
+        → b.last_request ≡ None
+        → a.since ≤ℤ b.since }
 {}
 
 /// Law: a host on Ethernet that reads an ARP request for an own address, from a station of one of its networks, answers to that station with its
