@@ -18,3 +18,4 @@ pub mod Round
 pub mod Asks
 pub mod Asking
 pub mod Answered
+pub mod Pieces

@@ -273,11 +273,11 @@ module _ {D : Type 0} (moves : D → Move → D → Type 0) (turn : Option IpAdd
   next_not b c same = cc
 
   -- a pass only adds moves
-  record Tail (old new : D) : Type 0 where
-    all : List Move
-    are : AreMoves moves all old new
+  pub record Tail (old new : D) : Type 0 where
+    pub all : List Move
+    pub are : AreMoves moves all old new
 
-  tail : (s : Sender D) (before : List Place) (changed : Bool) (ps : List Place) (e : Passed D) → Pass moves turn s before changed ps e
+  pub tail : (s : Sender D) (before : List Place) (changed : Bool) (ps : List Place) (e : Passed D) → Pass moves turn s before changed ps e
       → Tail s.device e.sender.device
   tail s before changed [] e ends = record { all = []; are = ap (λ (x : Passed D). x.sender.device) ends }
   tail s before changed (p ∷ ps) e (inl goes) =

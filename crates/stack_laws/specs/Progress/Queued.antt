@@ -18,6 +18,7 @@ use Rattle.interface_ingress.specs.WellFormed.{IsWellFormed}
 use Rattle.interface_tables.specs.Inner.{InnerValue, context_of, link_address, mtu_to}
 use Rattle.interface_tables.specs.declared.link.LinkAddress.TheVariants as Link
 use Rattle.interface_egress.specs.Departure.{Whole}
+use Rattle.interface_egress.specs.Fragments.{LeftValue, departure_from, left_from}
 use Rattle.interface_egress.specs.GoesOut.{frame_of, numbered}
 use Rattle.interface_egress.specs.Plan.{never_leaves, total_len}
 use Rattle.interface_egress.specs.Set.{unmarked}
@@ -98,3 +99,12 @@ ports_of settings d = record { src_port = settings.endpoint.port; dst_port = d.0
 abbrev pub FindsDatagram : InnerValue → UdpSettings → UdpMetadata × List ℕ → PacketValue → Reader → Type 0
 FindsDatagram i settings d p reader =
     IsBrought reader.checksums (Ips.normal p.header) (payload_written i.checksums p.header p.payload) (Some (Datagram (ports_of settings d) d.1))
+
+-- A DATAGRAM THAT IS HALF SENT
+
+-- Of a step of the way out: the next piece went, and what is left behind it waits, if something is; or the device refused.
+pub record PieceWent {D : Type 0} (moves : D → Move → D → Type 0) (i : InnerValue) (l : LeftValue) (old new : D) (left : Option LeftValue) : Type 0 where
+  pub all : List Move
+  pub are : AreMoves moves all old new
+  pub what : (list_any is_refused all ≡ true)
+      ⊎ (Sends (frame_of i (departure_from i l)) all × ((rest : LeftValue) → left_from i l ≡ Some rest → left ≡ Some rest))
