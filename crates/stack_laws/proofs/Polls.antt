@@ -19,3 +19,4 @@ pub mod Asks
 pub mod Asking
 pub mod Answered
 pub mod Pieces
+pub mod Solicited

@@ -82,7 +82,7 @@ module _ (i : InnerValue) (own station : EthernetAddress) (hop to : IpAddress) (
   abbrev entry_of : Neighbor
   entry_of = record { protocol_addr = hop; hardware_addr = Hardware.Ethernet station; expires_at = i.moment +ℤ pos entry_lifetime }
 
-  goes_there : link_address then_host to ≡ Link.Known (Hardware.Ethernet station)
+  pub goes_there : link_address then_host to ≡ Link.Known (Hardware.Ethernet station)
   goes_there =
       ap (λ (h : HardwareAddress). link_on h then_host to) on
       ∙ ap (λ (all : Bool). if all then Link.Known (Hardware.Ethernet all_stations)

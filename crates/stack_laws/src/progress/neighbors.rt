@@ -2,20 +2,26 @@
 
 ghost use Rattle.std.specs.Prelude.{◌≡◌, ℕ, ℤ, ◌≤ℤ◌, Bool, true, false, List, ◌∷◌, ◌++◌, Option, None, Some, slice_get};
 ghost use Rattle.net_base.specs.Packets.{contents};
+ghost use Rattle.icmpv6.specs.Ndisc.{Solicitation, Advertisement};
+ghost use Rattle.ip_wire.specs.Address.{IsEthernetAddress};
+ghost use Rattle.ip_wire.specs.AddressTests.{is_ethernet_unicast, is_unicast_v6};
 ghost use Rattle.ip_wire.specs.Arp as Arps;
 ghost use Rattle.ip_wire.specs.EthernetAddress.{EthernetAddress};
 ghost use Rattle.ip_wire.specs.HardwareAddress.TheVariants as Hardware;
 ghost use Rattle.ip_wire.specs.IpAddress.{IpAddress};
 ghost use Rattle.ip_wire.specs.IpAddress.TheVariants as Address;
 ghost use Rattle.ip_wire.specs.Ipv4Address.{Ipv4Address};
+ghost use Rattle.ip_wire.specs.Ipv6Address.{Ipv6Address};
 ghost use Rattle.sockets.specs.Udp.{UdpValue};
 ghost use Rattle.sockets.specs.declared.udp.UdpMetadata.{UdpMetadata};
 ghost use Rattle.interface_ingress.specs.Packet.{PacketValue};
+ghost use Rattle.interface_ingress.specs.Acquaintance.{knows, seeks};
+ghost use Rattle.interface_ingress.specs.Heard.{advertisement, advertisement_header, flags_for, neighbor_heard, told_at};
 ghost use Rattle.interface_ingress.specs.Sent.{AreSealed};
-ghost use Rattle.interface_tables.specs.Inner.{InnerValue, at_moment, is_own, link_address};
+ghost use Rattle.interface_tables.specs.Inner.{InnerValue, at_moment, is_own, is_own_solicited_node, link_address};
 ghost use Rattle.interface_tables.specs.declared.link.LinkAddress.TheVariants as Link;
 ghost use Rattle.interface_egress.specs.Departure as Departures;
-ghost use Rattle.interface_egress.specs.Departure.{Asks};
+ghost use Rattle.interface_egress.specs.Departure.{Asks, solicitation_header, solicited_node};
 ghost use Rattle.interface_egress.specs.GoesOut.{frame_of};
 ghost use Rattle.interface_egress.specs.declared.frame.Question.TheVariants as Query;
 ghost use Rattle.interface_egress.specs.declared.socket_set.SocketStorage.{SocketStorage};
@@ -88,4 +94,30 @@ pub fn neighbors_answer<D: Device>()
         → IngressStep D.moves t s (Some true) s'
         → IsVia (at_moment t s.host.inner) to (Address.Ipv4 asked)
         → link_address s'.host.inner to ≡ Link.Known (Hardware.Ethernet station) }
+{}
+
+/// Law: the same by neighbour messages of IPv6 (RFC 4861, section 7.2), of what is read in a packet. A host on Ethernet that hears a solicitation
+/// for an own address, in whose group it is, from a station that has an address, answers to that; and a host that asks for an address and doesn't
+/// know it sends what goes by that, once it hears such an answer, to the station that it tells of.
+pub fn neighbors_answer_solicitations()
+    ensures tells { (own station : EthernetAddress) (i : InnerValue) (source target : Ipv6Address)
+        → is_ethernet_unicast station ≡ true
+        → IsEthernetAddress station
+        → i.hardware ≡ Hardware.Ethernet own
+        → is_own i (Address.Ipv6 target) ≡ true
+        → is_own_solicited_node i (solicited_node target) ≡ true
+        → is_unicast_v6 target ≡ true
+        → is_unicast_v6 source ≡ true
+        → (neighbor_heard i (solicitation_header source target) (Solicitation target (Some station.0))).reply ≡ Some (advertisement own target source) }
+    ensures known { (own station : EthernetAddress) (i : InnerValue) (a asked : Ipv6Address) (to : IpAddress)
+        → is_ethernet_unicast station ≡ true
+        → IsEthernetAddress station
+        → i.hardware ≡ Hardware.Ethernet own
+        → knows i (Address.Ipv6 asked) ≡ false
+        → seeks i (Address.Ipv6 asked) ≡ true
+        → is_unicast_v6 asked ≡ true
+        → is_unicast_v6 a ≡ true
+        → IsVia i to (Address.Ipv6 asked)
+        → link_address (neighbor_heard i (advertisement_header asked (told_at a)) (Advertisement (flags_for a) asked (Some station.0))).inner to
+        ≡ Link.Known (Hardware.Ethernet station) }
 {}
