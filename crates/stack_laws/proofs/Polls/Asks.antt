@@ -110,8 +110,7 @@ kept_in i i' settings d hop p m same kept has ready =
     same ∙ ap (λ (c : CacheValue). record i {
       ident = i'.ident;
       neighbors = record i.neighbors { silent = c.silent; searches = c.searches };
-    }) kept in
-    (
+    }) kept in (
       subst (λ (x : InnerValue). HasToAsk x settings d hop p) (sym is) (kept_by i i'.ident settings d hop p has),
       waits_still i i' m same ready,
     )
