@@ -1,7 +1,7 @@
 -- A neighbour solicitation is answered, and who is told of by the answer is known.
 use Rattle.std.proofs.Common.{◌≡◌, Bool, true, false, if◌then◌else◌, not, ◌&&◌, ◌||◌, Option, Some, None, refl, sym, ap, ◌∙◌, eq-eqb}
 use Rattle.std.specs.Prelude.{◌==◌, length}
-use Rattle.icmpv6.specs.Ndisc.{Solicitation, Advertisement}
+use Rattle.control_wire.specs.Ndisc.{Solicitation, Advertisement}
 use Rattle.ip_wire.specs.Address.{IsEthernetAddress}
 use Rattle.ip_wire.specs.AddressTests.{is_ethernet_unicast, is_multicast_v6, is_unicast_v6, is_unspecified_v6}
 use Rattle.ip_wire.specs.EthernetAddress.{EthernetAddress}

@@ -2,7 +2,7 @@
 
 ghost use Rattle.std.specs.Prelude.{◌≡◌, ℕ, ℤ, ◌≤ℤ◌, Bool, true, false, List, ◌∷◌, ◌++◌, Option, None, Some, slice_get};
 ghost use Rattle.net_base.specs.Packets.{contents};
-ghost use Rattle.icmpv6.specs.Ndisc.{Solicitation, Advertisement};
+ghost use Rattle.control_wire.specs.Ndisc.{Solicitation, Advertisement};
 ghost use Rattle.ip_wire.specs.Address.{IsEthernetAddress};
 ghost use Rattle.ip_wire.specs.AddressTests.{is_ethernet_unicast, is_unicast_v6};
 ghost use Rattle.ip_wire.specs.Arp as Arps;
