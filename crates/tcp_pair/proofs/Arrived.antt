@@ -9,15 +9,16 @@ use Rattle.tcp_model.specs.Settled.{settled}
 use Rattle.tcp_model.specs.Value.{TcpValue, Arrived}
 use Rattle.tcp_tie.specs.declared.pair.event.SentSegment.{SentSegment}
 use Rattle.tcp_tie.specs.Pair.Steps.{comes_to, offered_at, taken_at}
-use Rattle.tcp_tie.specs.Pair.Values.{PairSide, and_offer, and_reply}
+use Rattle.tcp_tie.specs.Pair.Values.{PairSide, and_offer, and_reply, host_of}
 use Rattle.tcp_pair.specs.Context.{PairContextValue, context_of, drawn}
 use Rattle.tcp_pair.specs.Ends.{EndValue, with_own}
+use Rattle.tcp_pair.specs.States.{bare}
 
 abbrev own_of : PairContextValue → TcpValue → List SentSegment → PairSide
-own_of k v sent = record { socket = v; sent = sent; moment = k.moment; random = k.random }
+own_of k v sent = record { socket = v; host = host_of k.side; sent = sent; moment = k.moment; random = k.random }
 
 abbrev end_of : PairContextValue → TcpValue → List SentSegment → Bool → ℕ → EndValue
-end_of k v sent opened accepted = record { side = k.side; own = own_of k v sent; opened = opened; accepted = accepted }
+end_of k v sent opened accepted = record { side = k.side; own = bare (own_of k v sent); opened = opened; accepted = accepted }
 
 when : {X : Type 0} (t : Bool) (a b : X) → t ≡ true → (if t then a else b) ≡ a
 when true a b e = refl

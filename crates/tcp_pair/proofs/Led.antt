@@ -13,12 +13,14 @@ use Rattle.tcp_tie.specs.Pair.Safe.{written}
 use Rattle.tcp_tie.specs.Pair.Sides.{at, put, other}
 use Rattle.tcp_tie.specs.Pair.Steps.{Happened, Steps, acting, happens, refusal}
 use Rattle.tcp_model.specs.Value.{TcpValue}
-use Rattle.tcp_tie.specs.Pair.Values.{PairValue, new_pair}
+use Rattle.tcp_tie.specs.Pair.Values.{PairValue, host_of, new_pair}
 use Rattle.tcp_tie.proofs.OutcomeLaws.{goes_on}
 use Rattle.tcp_progress.specs.Reached.{IsReached}
 use Rattle.tcp_progress.specs.Rounds.{takes}
 use Rattle.tcp_progress.proofs.Kept.{reached_by}
+use Rattle.tcp_progress.proofs.MetStarts.{held}
 use Rattle.tcp_pair.specs.Settling.{GoesOnTo, IsNewSocket, IsOfRound}
+use Rattle.tcp_pair.specs.States.{PairState, hosted}
 
 -- EVENTS OF ROUNDS
 
@@ -92,6 +94,11 @@ writes_nothing p q a side = unwritten p q a.events side a.only a.steps
 
 -- NEW SOCKETS, AND A STEP
 
+-- a pair that a refusal leaves as it is, with both hosts
+pub on_hosted : {X E : Type 0} (r : Result X E) (p new : PairState) → OnErr r (new ≡ p) → OnErr r (hosted new ≡ hosted p)
+on_hosted (Ok x) p new same = tt
+on_hosted (Err e) p new same = ap hosted same
+
 pub led_by :
     {E : Type 0} (p new : PairValue) (event : PairEvent) (r : Result PairAnswer E) → IsOfRound event → OnOk r (refusal p event ≡ None)
     → IfOk r (λ answer. happens p event ≡ record { answer = answer; pair = new }) → OnErr r (new ≡ p) → GoesOnTo p new
@@ -100,10 +107,8 @@ led_by p new event (Err e) of allowed step same = as_before p p new (stays p) sa
 
 pub new_reached : (p : PairValue) (a b : TcpValue) → p ≡ new_pair a b → IsNewSocket a → IsNewSocket b → IsReached p
 new_reached p a b is first second = record {
-  room_a = first.room;
-  room_b = second.room;
-  ring_a = first.ring;
-  ring_b = second.ring;
+  a = record { host = host_of A; holds = held; random = 1; room = first.room; ring = first.ring };
+  b = record { host = host_of B; holds = held; random = 2; room = second.room; ring = second.ring };
   events = [];
   steps = is ∙ ap₂ (λ (x y : TcpValue). new_pair x y) first.is second.is;
 }

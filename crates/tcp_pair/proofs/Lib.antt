@@ -1,5 +1,6 @@
 pub mod Rooms
 pub mod Arrived
+pub mod Acting
 pub mod Histories
 pub mod Tallied
 pub mod Kept

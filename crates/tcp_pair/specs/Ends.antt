@@ -18,11 +18,12 @@ use Rattle.tcp_tie.specs.Pair.Sides.{Both, at, put, other}
 use Rattle.tcp_tie.specs.Pair.Steps.{Acted, acts, if_so, may_come}
 use Rattle.tcp_tie.specs.Pair.Values.{PairSide}
 use Rattle.tcp_pair.specs.Context.{seed_of}
+use Rattle.tcp_pair.specs.States.{SideState, bare, side_on}
 
 -- Which side it is; its socket, segments, last moment and random words; whether it was opened; how many bytes it took for sending.
 pub record EndValue : Type 0 where
   pub side : Side
-  pub own : PairSide
+  pub own : SideState
   pub opened : Bool
   pub accepted : ℕ
 
@@ -84,8 +85,12 @@ abbrev pub counts : PairEvent → PairAnswer → ℕ
 counts (Send side bytes) answer = count_in answer
 counts event answer = 0
 
+-- as it stands on its host
+abbrev pub on_host : EndValue → PairSide
+on_host e = side_on e.side e.own
+
 abbrev pub with_own : EndValue → PairSide → EndValue
-with_own e own = record e { own = own }
+with_own e own = record e { own = bare own }
 
 -- with what the answer says of opening and writing
 abbrev pub tallied : EndValue → PairEvent → PairAnswer → EndValue
@@ -93,7 +98,7 @@ tallied e event answer = record e { opened = opens event answer || e.opened; acc
 
 -- the side after an event, by its answer
 abbrev pub after_event : EndValue → List SentSegment → PairEvent → PairAnswer → EndValue
-after_event e others event answer = tallied (with_own e (acts e.own others event).side) event answer
+after_event e others event answer = tallied (with_own e (acts (on_host e) others event).side) event answer
 
 -- an answer without bytes
 abbrev pub IsShort : PairAnswer → Type 0
@@ -119,7 +124,7 @@ HasRoom room v = IfSome v.offered (λ o. length (payload_of o o.kind v.queued.qu
 
 -- by the side that the event is for
 abbrev pub acted_at : Both EndValue → PairEvent → Acted
-acted_at ends event = acts (at ends (side_of event)).own (at ends (other (side_of event))).own.sent event
+acted_at ends event = acts (on_host (at ends (side_of event))) (at ends (other (side_of event))).own.sent event
 
 -- the other side is left as it was
 abbrev pub ends_after : Both EndValue → PairEvent → Both EndValue

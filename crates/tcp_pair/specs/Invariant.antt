@@ -10,8 +10,9 @@ use Rattle.tcp_tie.specs.Pair.History.{Entry, pasts}
 use Rattle.tcp_tie.specs.Pair.Safe.{IsKept}
 use Rattle.tcp_tie.specs.Pair.Sides.{Both, at}
 use Rattle.tcp_tie.specs.Pair.Steps.{Steps, was_opened, refusal}
-use Rattle.tcp_tie.specs.Pair.Values.{PairSide, PairValue}
+use Rattle.tcp_tie.specs.Pair.Values.{PairValue}
 use Rattle.tcp_pair.specs.Ends.{EndValue}
+use Rattle.tcp_pair.specs.States.{PairState, SideState, hosted}
 use Rattle.tcp_pair.specs.declared.pair.Taken.{Taken}
 
 -- the history of these events and answers, which stand in the order in which they came, before it
@@ -21,11 +22,11 @@ history_from past (t ∷ taken) [] = past
 history_from past (t ∷ taken) (answer ∷ answers) =
     history_from (record { event = t.event; answer = answer; found = t.found } ∷ past) taken answers
 
-abbrev pub owns : Both EndValue → Both PairSide
+abbrev pub owns : Both EndValue → Both SideState
 owns ends = record { a = ends.a.own; b = ends.b.own }
 
 -- a pair as its fields have it
-abbrev pub pair_of : Both EndValue → List Taken → List PairAnswer → PairValue
+abbrev pub pair_of : Both EndValue → List Taken → List PairAnswer → PairState
 pair_of ends taken answers = record { sides = owns ends; history = history_from [] taken answers }
 
 -- what a side counted is what the history says of it
@@ -37,7 +38,7 @@ pub record IsPairOf (ends : Both EndValue) (taken : List Taken) (answers : List 
   pub as_many : length taken ≡ length answers
   pub sides : (side : Side) → (at ends side).side ≡ side
   pub tallies : (side : Side) → Tallies (at ends side) (at (pasts (history_from [] taken answers)) side)
-  pub kept : IsKept (pair_of ends taken answers)
+  pub kept : IsKept (hosted (pair_of ends taken answers))
 
 -- a refusal of an event: that which it must have, or want of memory where it must have none
 abbrev pub MayRefuse : PairValue → PairEvent → PairRefused → Type 0

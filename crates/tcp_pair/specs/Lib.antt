@@ -1,4 +1,5 @@
 pub mod Context
+pub mod States
 pub mod Ends
 pub mod Invariant
 pub mod Settling

@@ -6,7 +6,7 @@ ghost use Rattle.tcp_tie.specs.Pair.History.{side_of};
 ghost use Rattle.tcp_model.specs.Calls.{recv_answer};
 ghost use Rattle.tcp_tie.specs.Pair.Steps.{acts, set_by, reads, offered_at, handed, comes_to};
 ghost use Rattle.tcp_tie.specs.Pair.Values.{and_reply, and_offer};
-ghost use Rattle.tcp_pair.specs.Ends.{fresh_end, refusal_at, MayAct, with_own, after_event, IsShort, HasRoom};
+ghost use Rattle.tcp_pair.specs.Ends.{fresh_end, refusal_at, MayAct, on_host, with_own, after_event, IsShort, HasRoom};
 ghost use Rattle.tcp_socket.specs.Replies.{replies_in};
 
 use crate::answer::{
@@ -121,7 +121,7 @@ impl End {
     ) -> Result<Twins, AllocError>
         requires side { side_of event.now ≡ self.old.side }
         requires allowed { MayAct self.old event.now }
-        ensures answer { IfOk result (λ r. r.0 ≡ (acts self.old.own others.now event.now).answer) }
+        ensures answer { IfOk result (λ r. r.0 ≡ (acts (on_host self.old) others.now event.now).answer) }
         ensures twin { IfOk result (λ r. r.1 ≡ r.0) }
         ensures after { IfOk result (λ r. self.new ≡ after_event self.old others.now event.now r.0) }
         ensures unchanged { OnErr result (self.new ≡ self.old) }
@@ -155,7 +155,7 @@ impl End {
     }
 
     fn listen(&mut self, endpoint: IpListenEndpoint) -> PairAnswer
-        ensures answer { result ≡ (acts self.old.own [] (Event.Listen self.old.side endpoint)).answer }
+        ensures answer { result ≡ (acts (on_host self.old) [] (Event.Listen self.old.side endpoint)).answer }
         ensures short { IsShort result }
         ensures after { self.new ≡ after_event self.old [] (Event.Listen self.old.side endpoint) result }
     {
@@ -165,7 +165,7 @@ impl End {
     }
 
     fn connect(&mut self, remote: IpEndpoint, local: IpListenEndpoint) -> PairAnswer
-        ensures answer { result ≡ (acts self.old.own [] (Event.Connect self.old.side remote local)).answer }
+        ensures answer { result ≡ (acts (on_host self.old) [] (Event.Connect self.old.side remote local)).answer }
         ensures short { IsShort result }
         ensures after { self.new ≡ after_event self.old [] (Event.Connect self.old.side remote local) result }
     {
@@ -176,7 +176,7 @@ impl End {
 
     fn send(&mut self, bytes: &Bytes) -> PairAnswer
         requires { self.old.accepted + length bytes.now < 2 ^ 29 }
-        ensures answer { result ≡ (acts self.old.own [] (Event.Send self.old.side bytes.now)).answer }
+        ensures answer { result ≡ (acts (on_host self.old) [] (Event.Send self.old.side bytes.now)).answer }
         ensures short { IsShort result }
         ensures after { self.new ≡ after_event self.old [] (Event.Send self.old.side bytes.now) result }
     {
@@ -187,9 +187,9 @@ impl End {
 
     /// Reads at most so many bytes.
     fn recv(&mut self, alloc: Global, count: usize) -> Result<Twins, AllocError>
-        ensures answer { IfOk result (λ r. r.0 ≡ (reads self.old.own (recv_answer self.old.own.socket count)).answer) }
+        ensures answer { IfOk result (λ r. r.0 ≡ (reads (on_host self.old) (recv_answer self.old.own.socket count)).answer) }
         ensures twin { IfOk result (λ r. r.1 ≡ r.0) }
-        ensures after { OnOk result (self.new ≡ with_own self.old (reads self.old.own (recv_answer self.old.own.socket count)).side) }
+        ensures after { OnOk result (self.new ≡ with_own self.old (reads (on_host self.old) (recv_answer self.old.own.socket count)).side) }
         ensures unchanged { OnErr result (self.new ≡ self.old) }
     {
         let count = count.min(self.socket.recv_queue());
@@ -208,7 +208,7 @@ impl End {
     }
 
     fn set(&mut self, setting: &TcpSetting)
-        ensures { self.new ≡ with_own self.old (record self.old.own { socket = set_by setting.now self.old.own.socket }) }
+        ensures { self.new ≡ with_own self.old (record (on_host self.old) { socket = set_by setting.now self.old.own.socket }) }
     {
         match setting {
             TcpSetting::Timeout(duration) => self.socket.set_timeout(*duration),
@@ -229,7 +229,7 @@ impl End {
 
     fn offer(&mut self, alloc: Global, moment: Instant, sent: bool) -> Result<(), AllocError>
         requires { IsMoment moment }
-        ensures after { OnOk result (self.new ≡ with_own self.old (offered_at self.old.side (record self.old.own { moment = moment }) sent)) }
+        ensures after { OnOk result (self.new ≡ with_own self.old (offered_at self.old.side (record (on_host self.old) { moment = moment }) sent)) }
         ensures unchanged { OnErr result (self.new ≡ self.old) }
     {
         if sent {
@@ -242,7 +242,7 @@ impl End {
 
     fn offer_unsent(&mut self, moment: Instant)
         requires { IsMoment moment }
-        ensures { self.new ≡ with_own self.old (offered_at self.old.side (record self.old.own { moment = moment }) false) }
+        ensures { self.new ≡ with_own self.old (offered_at self.old.side (record (on_host self.old) { moment = moment }) false) }
     {
         self.context.set_now(moment);
         self.socket.offer(&self.context);
@@ -252,7 +252,7 @@ impl End {
     /// The segment that is offered joins those that were sent.
     fn offer_sent(&mut self, alloc: Global, moment: Instant) -> Result<(), AllocError>
         requires { IsMoment moment }
-        ensures after { OnOk result (self.new ≡ with_own self.old (offered_at self.old.side (record self.old.own { moment = moment }) true)) }
+        ensures after { OnOk result (self.new ≡ with_own self.old (offered_at self.old.side (record (on_host self.old) { moment = moment }) true)) }
         ensures unchanged { OnErr result (self.new ≡ self.old) }
     {
         self.sent.try_reserve(1)?;
@@ -267,7 +267,7 @@ impl End {
 
     /// A segment of the other side comes: the one of this number, if there is one.
     fn deliver(&mut self, alloc: Global, others: &[SentSegment], k: usize) -> Result<(), AllocError>
-        ensures after { OnOk result (self.new ≡ with_own self.old (handed self.old.side self.old.own (slice_get others.now k))) }
+        ensures after { OnOk result (self.new ≡ with_own self.old (handed self.old.side (on_host self.old) (slice_get others.now k))) }
         ensures unchanged { OnErr result (self.new ≡ self.old) }
     {
         match others.get(k) {
@@ -279,7 +279,7 @@ impl End {
     /// A segment comes. It is dropped where the socket doesn't accept it; what answers it joins those that were
     /// sent.
     fn take(&mut self, alloc: Global, x: &SentSegment) -> Result<(), AllocError>
-        ensures after { OnOk result (self.new ≡ with_own self.old (comes_to self.old.side self.old.own x.now)) }
+        ensures after { OnOk result (self.new ≡ with_own self.old (comes_to self.old.side (on_host self.old) x.now)) }
         ensures unchanged { OnErr result (self.new ≡ self.old) }
     {
         self.sent.try_reserve(1)?;

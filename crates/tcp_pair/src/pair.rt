@@ -11,6 +11,7 @@ ghost use Rattle.tcp_progress.specs.Reached.{IsReached};
 ghost use Rattle.tcp_pair.specs.Ends.{named, MayAct, acted_at, ends_after};
 ghost use Rattle.tcp_pair.specs.Invariant.{MayRefuse};
 ghost use Rattle.tcp_pair.specs.Settling.{IsNewSocket};
+ghost use Rattle.tcp_pair.specs.States.{hosted};
 
 use crate::answer::Twins;
 use crate::end::End;
@@ -43,9 +44,9 @@ pub struct Pair {
 }
 
 impl Model for Pair {
-    ghost use Rattle.tcp_tie.specs.Pair.Values.{PairValue};
+    ghost use Rattle.tcp_pair.specs.States.{PairState};
 
-    ghost Value = { PairValue };
+    ghost Value = { PairState };
 
     ghost use Rattle.tcp_pair.specs.Invariant.{pair_of, IsPairOf};
 
@@ -60,10 +61,10 @@ impl Pair {
     pub fn new(alloc: Global, a: Socket, b: Socket) -> Pair
         requires a { IsFresh a }
         requires b { IsFresh b }
-        ensures value { result ≡ new_pair a b }
-        ensures reached { IsNewSocket a → IsNewSocket b → IsReached result }
-        ensures kept { IsKept result }
-        ensures safe { IsSafe result }
+        ensures value { hosted result ≡ new_pair a b }
+        ensures reached { IsNewSocket a → IsNewSocket b → IsReached (hosted result) }
+        ensures kept { IsKept (hosted result) }
+        ensures safe { IsSafe (hosted result) }
     {
         Pair {
             alloc,
@@ -76,8 +77,8 @@ impl Pair {
 
     /// Why the pair doesn't take an event, but for want of memory.
     fn refusal(&self, event: &PairEvent) -> Option<PairRefused>
-        ensures value { result ≡ refusal self.now event.now }
-        ensures kept { IsKept self.now }
+        ensures value { result ≡ refusal (hosted self.now) event.now }
+        ensures kept { IsKept (hosted self.now) }
     {
         end_at(&self.a, &self.b, named_by(event)).refusal(event)
     }
@@ -87,14 +88,14 @@ impl Pair {
     /// Memory for the event, its answer and a segment is taken first: where there is none the event is refused
     /// whole. After a refusal nothing has changed.
     pub fn step(&mut self, event: PairEvent) -> Result<PairAnswer, PairRefused>
-        ensures step { IfOk result (λ answer. happens self.old event ≡ record { answer = answer; pair = self.new }) }
-        ensures taken { OnOk result (refusal self.old event ≡ None) }
-        ensures exact { IfSome (refusal self.old event) (λ refused. result ≡ Err refused) }
-        ensures memory { IfErr result (MayRefuse self.old event) }
+        ensures step { IfOk result (λ answer. happens (hosted self.old) event ≡ record { answer = answer; pair = hosted self.new }) }
+        ensures taken { OnOk result (refusal (hosted self.old) event ≡ None) }
+        ensures exact { IfSome (refusal (hosted self.old) event) (λ refused. result ≡ Err refused) }
+        ensures memory { IfErr result (MayRefuse (hosted self.old) event) }
         ensures unchanged { OnErr result (self.new ≡ self.old) }
-        ensures reached { IsReached self.old → IsReached self.new }
-        ensures kept { IsKept self.new }
-        ensures safe { IsSafe self.new }
+        ensures reached { IsReached (hosted self.old) → IsReached (hosted self.new) }
+        ensures kept { IsKept (hosted self.new) }
+        ensures safe { IsSafe (hosted self.new) }
     {
         match self.refusal(&event) {
             Some(refused) => Err(refused),
@@ -104,10 +105,10 @@ impl Pair {
 
     /// Takes an event that isn't refused but for want of memory.
     fn take(&mut self, event: PairEvent) -> Result<PairAnswer, AllocError>
-        requires { refusal self.old event ≡ None }
-        ensures step { IfOk result (λ answer. happens self.old event ≡ record { answer = answer; pair = self.new }) }
+        requires { refusal (hosted self.old) event ≡ None }
+        ensures step { IfOk result (λ answer. happens (hosted self.old) event ≡ record { answer = answer; pair = hosted self.new }) }
         ensures unchanged { OnErr result (self.new ≡ self.old) }
-        ensures kept { IsKept self.new }
+        ensures kept { IsKept (hosted self.new) }
     {
         self.taken.try_reserve(1)?;
         self.answers.try_reserve(1)?;
@@ -121,13 +122,13 @@ impl Pair {
     /// Takes events in order, up to the first that is refused: its place among them comes with the refusal, and
     /// the steps before it stay.
     pub fn run(&mut self, events: Vec<PairEvent>) -> Result<(), (usize, PairRefused)>
-        ensures ok { OnOk result (Steps self.old events.items self.new) }
-        ensures err { IfErr result (λ e. Steps self.old (take e.0 events.items) self.new) }
+        ensures ok { OnOk result (Steps (hosted self.old) events.items (hosted self.new)) }
+        ensures err { IfErr result (λ e. Steps (hosted self.old) (take e.0 events.items) (hosted self.new)) }
         ensures place { IfErr result (λ e. e.0 < length events.items) }
-        ensures refused { IfErr result (λ e. IfSome (slice_get events.items e.0) (λ event. MayRefuse self.new event e.1)) }
-        ensures reached { IsReached self.old → IsReached self.new }
-        ensures kept { IsKept self.new }
-        ensures safe { IsSafe self.new }
+        ensures refused { IfErr result (λ e. IfSome (slice_get events.items e.0) (λ event. MayRefuse (hosted self.new) event e.1)) }
+        ensures reached { IsReached (hosted self.old) → IsReached (hosted self.new) }
+        ensures kept { IsKept (hosted self.new) }
+        ensures safe { IsSafe (hosted self.new) }
     {
         // The use of a field tells what is always true of a pair: the loop begins with it.
         let _ = &self.answers;
@@ -143,21 +144,21 @@ impl Pair {
 
     /// The socket of a side.
     pub fn socket(&self, side: Side) -> &Socket
-        ensures { result.now ≡ (at self.now.sides side).socket }
+        ensures { result.now ≡ (at (hosted self.now).sides side).socket }
     {
         end_at(&self.a, &self.b, side).socket()
     }
 
     /// The last moment of a side: 0, or that at which it was asked last.
     pub fn moment(&self, side: Side) -> Instant
-        ensures { result ≡ (at self.now.sides side).moment }
+        ensures { result ≡ (at (hosted self.now).sides side).moment }
     {
         end_at(&self.a, &self.b, side).moment()
     }
 
     /// The segments that a side sent, the oldest first.
     pub fn sent(&self, side: Side) -> &[SentSegment]
-        ensures { result.now ≡ (at self.now.sides side).sent }
+        ensures { result.now ≡ (at (hosted self.now).sides side).sent }
     {
         end_at(&self.a, &self.b, side).sent()
     }

@@ -13,6 +13,7 @@ ghost use Rattle.tcp_progress.specs.Rounds.{takes};
 ghost use Rattle.tcp_progress.specs.Settle.{read_in, restart_by, restart_in};
 ghost use Rattle.tcp_pair.specs.Invariant.{MayRefuse};
 ghost use Rattle.tcp_pair.specs.Settling.{CanSettle, GoesOnTo, IsEndTold, IsOfRound, IsSoon, MaySendAt, StopsRound, answered_by, is_waiting, most_rounds};
+ghost use Rattle.tcp_pair.specs.States.{hosted};
 
 use crate::pair::Pair;
 use net_base::Instant;
@@ -34,21 +35,21 @@ impl Pair {
     /// with no more done. A refusal leaves the rounds before it, and what there was of the last: `NoSegment` where
     /// a side that waits sends nothing, `Moment` where its clock has ended, and `Memory`.
     pub fn settle(&mut self) -> Result<usize, PairRefused>
-        ensures rounds { IfOk result (λ count. self.new ≡ both_read (rounds_in count self.old)) }
-        ensures waited { IfOk result (λ count. (n : ℕ) → n < count → is_waiting (rounds_in n self.old) ≡ true) }
-        ensures stops { IfOk result (λ count. (is_waiting (rounds_in count self.old) ≡ false) ⊎ (count ≡ most_rounds self.old)) }
-        ensures bound { IfOk result (λ count. CanSettle self.old → count ≤ bound self.old) }
-        ensures soon { IfOk result (λ count. CanSettle self.old → (side : Side) → IsSoon count self.old self.new side) }
-        ensures through { OnOk result (CanSettle self.old → (side : Side) → IsThrough self.new side) }
-        ensures read { OnOk result (CanSettle self.old → (side : Side) → read self.new (other side) ≡ written self.old side) }
-        ensures ends { OnOk result (CanSettle self.old → (side : Side) → IsEndTold self.old self.new side) }
-        ensures memory { IfErr result (λ refused. CanSettle self.old → refused ≡ Refused.Memory) }
+        ensures rounds { IfOk result (λ count. hosted self.new ≡ both_read (rounds_in count (hosted self.old))) }
+        ensures waited { IfOk result (λ count. (n : ℕ) → n < count → is_waiting (rounds_in n (hosted self.old)) ≡ true) }
+        ensures stops { IfOk result (λ count. (is_waiting (rounds_in count (hosted self.old)) ≡ false) ⊎ (count ≡ most_rounds (hosted self.old))) }
+        ensures bound { IfOk result (λ count. CanSettle (hosted self.old) → count ≤ bound (hosted self.old)) }
+        ensures soon { IfOk result (λ count. CanSettle (hosted self.old) → (side : Side) → IsSoon count (hosted self.old) (hosted self.new) side) }
+        ensures through { OnOk result (CanSettle (hosted self.old) → (side : Side) → IsThrough (hosted self.new) side) }
+        ensures read { OnOk result (CanSettle (hosted self.old) → (side : Side) → read (hosted self.new) (other side) ≡ written (hosted self.old) side) }
+        ensures ends { OnOk result (CanSettle (hosted self.old) → (side : Side) → IsEndTold (hosted self.old) (hosted self.new) side) }
+        ensures memory { IfErr result (λ refused. CanSettle (hosted self.old) → refused ≡ Refused.Memory) }
         ensures refused { IfErr result StopsRound }
-        ensures leads { GoesOnTo self.old self.new }
-        ensures written { (side : Side) → written self.new side ≡ written self.old side }
-        ensures reached { IsReached self.old → IsReached self.new }
-        ensures kept { IsKept self.new }
-        ensures safe { IsSafe self.new }
+        ensures leads { GoesOnTo (hosted self.old) (hosted self.new) }
+        ensures written { (side : Side) → written (hosted self.new) side ≡ written (hosted self.old) side }
+        ensures reached { IsReached (hosted self.old) → IsReached (hosted self.new) }
+        ensures kept { IsKept (hosted self.new) }
+        ensures safe { IsSafe (hosted self.new) }
     {
         let count = self.rounds()?;
         self.read(Side::A)?;
@@ -58,13 +59,13 @@ impl Pair {
 
     /// Rounds until neither side waits, and how many.
     fn rounds(&mut self) -> Result<usize, PairRefused>
-        ensures rounds { IfOk result (λ count. self.new ≡ rounds_in count self.old) }
-        ensures waited { IfOk result (λ count. (n : ℕ) → n < count → is_waiting (rounds_in n self.old) ≡ true) }
-        ensures stops { IfOk result (λ count. (is_waiting (rounds_in count self.old) ≡ false) ⊎ (count ≡ most_rounds self.old)) }
-        ensures memory { IfErr result (λ refused. CanSettle self.old → refused ≡ Refused.Memory) }
+        ensures rounds { IfOk result (λ count. hosted self.new ≡ rounds_in count (hosted self.old)) }
+        ensures waited { IfOk result (λ count. (n : ℕ) → n < count → is_waiting (rounds_in n (hosted self.old)) ≡ true) }
+        ensures stops { IfOk result (λ count. (is_waiting (rounds_in count (hosted self.old)) ≡ false) ⊎ (count ≡ most_rounds (hosted self.old))) }
+        ensures memory { IfErr result (λ refused. CanSettle (hosted self.old) → refused ≡ Refused.Memory) }
         ensures refused { IfErr result StopsRound }
-        ensures leads { GoesOnTo self.old self.new }
-        ensures kept { OnErr result (IsKept self.new) }
+        ensures leads { GoesOnTo (hosted self.old) (hosted self.new) }
+        ensures kept { OnErr result (IsKept (hosted self.new)) }
     {
         let most = self.most_rounds();
         for count in 0..most {
@@ -78,7 +79,7 @@ impl Pair {
 
     /// Two for each position that isn't acknowledged.
     fn most_rounds(&self) -> usize
-        ensures { result ≡ most_rounds self.now }
+        ensures { result ≡ most_rounds (hosted self.now) }
     {
         let left = self
             .socket(Side::A)
@@ -89,31 +90,32 @@ impl Pair {
 
     /// Whether a side waits.
     fn is_waiting(&self) -> bool
-        ensures { result ≡ is_waiting self.now }
+        ensures { result ≡ is_waiting (hosted self.now) }
     {
         self.waits(Side::A) || self.waits(Side::B)
     }
 
     /// Whether something of a side isn't acknowledged, and both connections are there.
     pub fn waits(&self, side: Side) -> bool
-        ensures { result ≡ waits_in self.now side }
+        ensures { result ≡ waits_in (hosted self.now) side }
     {
         self.socket(side).unacked() != 0 && !self.is_over(side) && !self.is_over(other(side))
     }
 
     fn is_over(&self, side: Side) -> bool
-        ensures { result ≡ is_over self.now side }
+        ensures { result ≡ is_over (hosted self.now) side }
     {
         self.socket(side).state().is_closed()
     }
 
     /// Each side has its turn.
     fn round(&mut self) -> Result<(), PairRefused>
-        ensures round { OnOk result (self.new ≡ round_in self.old) }
-        ensures memory { IfErr result (λ refused. IsReached self.old → MayTurn self.old A → MayTurn (turn_in self.old A) B → refused ≡ Refused.Memory) }
+        ensures round { OnOk result (hosted self.new ≡ round_in (hosted self.old)) }
+        ensures memory { IfErr result (λ refused. IsReached (hosted self.old) → MayTurn (hosted self.old) A
+            → MayTurn (turn_in (hosted self.old) A) B → refused ≡ Refused.Memory) }
         ensures refused { IfErr result StopsRound }
-        ensures leads { GoesOnTo self.old self.new }
-        ensures kept { OnErr result (IsKept self.new) }
+        ensures leads { GoesOnTo (hosted self.old) (hosted self.new) }
+        ensures kept { OnErr result (IsKept (hosted self.new)) }
     {
         self.turn(Side::A)?;
         self.turn(Side::B)
@@ -121,11 +123,11 @@ impl Pair {
 
     /// A side's turn, if it waits.
     fn turn(&mut self, side: Side) -> Result<(), PairRefused>
-        ensures turn { OnOk result (self.new ≡ turn_in self.old side) }
-        ensures memory { IfErr result (λ refused. IsReached self.old → MayTurn self.old side → refused ≡ Refused.Memory) }
+        ensures turn { OnOk result (hosted self.new ≡ turn_in (hosted self.old) side) }
+        ensures memory { IfErr result (λ refused. IsReached (hosted self.old) → MayTurn (hosted self.old) side → refused ≡ Refused.Memory) }
         ensures refused { IfErr result StopsRound }
-        ensures leads { GoesOnTo self.old self.new }
-        ensures kept { OnErr result (IsKept self.new) }
+        ensures leads { GoesOnTo (hosted self.old) (hosted self.new) }
+        ensures kept { OnErr result (IsKept (hosted self.new)) }
     {
         if !self.waits(side) {
             return Ok(());
@@ -138,13 +140,13 @@ impl Pair {
     /// The other's user reads, and the side is asked when its timer runs out, or now where none runs. The link
     /// takes nothing then.
     fn rouse(&mut self, side: Side) -> Result<(), PairRefused>
-        ensures roused { OnOk result (self.new ≡ roused_in self.old side) }
-        ensures allowed { OnOk result (refusal (read_in self.old side) (Event.Offer side (restart_in self.old side) false) ≡ None) }
-        ensures memory { IfErr result (λ refused. refusal (read_in self.old side) (Event.Offer side (restart_in self.old side) false) ≡ None
+        ensures roused { OnOk result (hosted self.new ≡ roused_in (hosted self.old) side) }
+        ensures allowed { OnOk result (refusal (read_in (hosted self.old) side) (Event.Offer side (restart_in (hosted self.old) side) false) ≡ None) }
+        ensures memory { IfErr result (λ refused. refusal (read_in (hosted self.old) side) (Event.Offer side (restart_in (hosted self.old) side) false) ≡ None
             → refused ≡ Refused.Memory) }
         ensures refused { IfErr result StopsRound }
-        ensures leads { GoesOnTo self.old self.new }
-        ensures kept { IsKept self.new }
+        ensures leads { GoesOnTo (hosted self.old) (hosted self.new) }
+        ensures kept { IsKept (hosted self.new) }
     {
         let moment = restart_by(self.moment(side), self.socket(side).retransmit_at());
         self.read(side)?;
@@ -153,18 +155,18 @@ impl Pair {
 
     /// When a side that was roused goes on: at the moment of a probe, or now.
     fn wake_at(&self, side: Side) -> Instant
-        ensures { result ≡ wake_in self.now side }
+        ensures { result ≡ wake_in (hosted self.now) side }
     {
         restart_by(self.moment(side), self.socket(side).probe_at())
     }
 
     /// A side is asked, what it sends comes to the other, and so does what answers that.
     fn exchange(&mut self, side: Side, moment: Instant) -> Result<(), PairRefused>
-        ensures exchanged { OnOk result (self.new ≡ exchanged_in self.old side moment) }
-        ensures memory { IfErr result (λ refused. MaySendAt self.old side moment → refused ≡ Refused.Memory) }
+        ensures exchanged { OnOk result (hosted self.new ≡ exchanged_in (hosted self.old) side moment) }
+        ensures memory { IfErr result (λ refused. MaySendAt (hosted self.old) side moment → refused ≡ Refused.Memory) }
         ensures refused { IfErr result StopsRound }
-        ensures leads { GoesOnTo self.old self.new }
-        ensures kept { IsKept self.new }
+        ensures leads { GoesOnTo (hosted self.old) (hosted self.new) }
+        ensures kept { IsKept (hosted self.new) }
     {
         let answer = self.sent(other(side)).len();
         self.send(side, moment)?;
@@ -173,11 +175,11 @@ impl Pair {
 
     /// A side is asked, and what it sends comes to the other.
     fn send(&mut self, side: Side, moment: Instant) -> Result<(), PairRefused>
-        ensures sent { OnOk result (self.new ≡ offered_in self.old side moment) }
-        ensures memory { IfErr result (λ refused. MaySendAt self.old side moment → refused ≡ Refused.Memory) }
+        ensures sent { OnOk result (hosted self.new ≡ offered_in (hosted self.old) side moment) }
+        ensures memory { IfErr result (λ refused. MaySendAt (hosted self.old) side moment → refused ≡ Refused.Memory) }
         ensures refused { IfErr result StopsRound }
-        ensures leads { GoesOnTo self.old self.new }
-        ensures kept { IsKept self.new }
+        ensures leads { GoesOnTo (hosted self.old) (hosted self.new) }
+        ensures kept { IsKept (hosted self.new) }
     {
         let next = self.sent(side).len();
         self.take_on(PairEvent::Offer(side, moment, true))?;
@@ -186,12 +188,12 @@ impl Pair {
 
     /// What answers a side comes to it: the segment of this number of the other's, if it was sent.
     fn answer(&mut self, side: Side, k: usize) -> Result<(), PairRefused>
-        requires one { next_sent self.old (other side) ≤ k + 1 }
-        requires kept { IsKept self.old }
-        ensures comes { OnOk result (self.new ≡ answered_by self.old side k) }
+        requires one { next_sent (hosted self.old) (other side) ≤ k + 1 }
+        requires kept { IsKept (hosted self.old) }
+        ensures comes { OnOk result (hosted self.new ≡ answered_by (hosted self.old) side k) }
         ensures memory { IfErr result (λ refused. refused ≡ Refused.Memory) }
-        ensures leads { GoesOnTo self.old self.new }
-        ensures kept { IsKept self.new }
+        ensures leads { GoesOnTo (hosted self.old) (hosted self.new) }
+        ensures kept { IsKept (hosted self.new) }
     {
         if k < self.sent(other(side)).len() {
             self.take_on(PairEvent::Deliver(other(side), k))
@@ -202,10 +204,10 @@ impl Pair {
 
     /// The user of the side's partner reads all that waits.
     fn read(&mut self, side: Side) -> Result<(), PairRefused>
-        ensures read { OnOk result (self.new ≡ read_in self.old side) }
+        ensures read { OnOk result (hosted self.new ≡ read_in (hosted self.old) side) }
         ensures memory { IfErr result (λ refused. refused ≡ Refused.Memory) }
-        ensures leads { GoesOnTo self.old self.new }
-        ensures kept { IsKept self.new }
+        ensures leads { GoesOnTo (hosted self.old) (hosted self.new) }
+        ensures kept { IsKept (hosted self.new) }
     {
         self.take_on(PairEvent::Recv(other(side), ALL_BYTES))
     }
@@ -213,12 +215,12 @@ impl Pair {
     /// Takes an event of a round, whose answer nobody looks at.
     fn take_on(&mut self, event: PairEvent) -> Result<(), PairRefused>
         requires { IsOfRound event }
-        ensures taken { OnOk result (self.new ≡ takes self.old event) }
-        ensures allowed { OnOk result (refusal self.old event ≡ None) }
-        ensures memory { IfErr result (MayRefuse self.old event) }
+        ensures taken { OnOk result (hosted self.new ≡ takes (hosted self.old) event) }
+        ensures allowed { OnOk result (refusal (hosted self.old) event ≡ None) }
+        ensures memory { IfErr result (MayRefuse (hosted self.old) event) }
         ensures refused { IfErr result StopsRound }
-        ensures leads { GoesOnTo self.old self.new }
-        ensures kept { IsKept self.new }
+        ensures leads { GoesOnTo (hosted self.old) (hosted self.new) }
+        ensures kept { IsKept (hosted self.new) }
     {
         match self.step(event) {
             Ok(_) => Ok(()),

@@ -1,12 +1,12 @@
 -- What a handshake leaves of both sides, however it begins.
 use Rattle.std.proofs.Common.{◌≡◌, ℕ, ◌+◌, ◌^◌, ◌<◌, ◌≤◌, ℤ, true, []}
-use Rattle.std.proofs.Common.{Some, None, refl, sym, ap, ◌∙◌, subst, arith}
+use Rattle.std.proofs.Common.{Some, None, sym, ap, ◌∙◌, subst, arith}
 use Rattle.tcp_tie.specs.Context.{ContextValue}
 use Rattle.tcp_rules.specs.Moments.{is_due}
 use Rattle.tcp_model.specs.Arrival.{arrives}
 use Rattle.tcp_tie.specs.Pair.Sides.{other}
 use Rattle.tcp_model.specs.Value.{TcpValue, room_of}
-use Rattle.tcp_tie.specs.Pair.Values.{PairSide, PairValue, context_at}
+use Rattle.tcp_tie.specs.Pair.Values.{HoldsText, PairSide, PairValue, context_at}
 use Rattle.tcp_tie.specs.declared.pair.event.Side.{Side}
 use Rattle.tcp_tie.specs.declared.pair.event.Side.TheVariants.{A, B}
 use Rattle.tcp_progress.specs.Again.{StartsOver}
@@ -16,10 +16,12 @@ use Rattle.tcp_progress.specs.Pair.{context_of, exchanged_in, offered_in, socket
 use Rattle.tcp_progress.specs.Reached.{IsReached}
 use Rattle.tcp_progress.proofs.AckOffer.{answering_goes_on, open_goes_on}
 use Rattle.tcp_progress.proofs.Crossed.{Unmoved}
+use Rattle.tcp_progress.proofs.Hosts.{reached_holds}
 use Rattle.tcp_progress.proofs.Pair.{asked_side, partner_after}
 use Rattle.tcp_progress.proofs.ShakeSteps.{Answered, Heard, IsFresh, MayCall, acks, answer, it, one, taken}
 use Rattle.tcp_progress.proofs.Shaken.{IsFreshAck, a2, after_answer, asking, b2, bytes, bytes2, came, came2, came3, cx, cx2, cx3, cy, cy2, cy3}
-use Rattle.tcp_progress.proofs.Shaken.{fresh_a, fresh_b, heard_a, heard_b, heard_in, k, k2, k3, later_a, later_b, may_call, r2, s2, timely_a, timely_b, una_of}
+use Rattle.tcp_progress.proofs.Shaken.{fresh_a, fresh_b, heard_a, heard_b, heard_in, holds_a, holds_b, k, k2, k3, later_a, later_b}
+use Rattle.tcp_progress.proofs.Shaken.{may_call, r2, s2, timely_a, timely_b, una_of}
 use Rattle.tcp_progress.proofs.ShakenOn.{Confirmed, confirms, still as still_there}
 use Rattle.tcp_progress.proofs.ShakenAcross.{Meets, may_confirm, meets}
 use Rattle.tcp_progress.proofs.Shakes.{Answering, Connecting, Opens, caller_takes}
@@ -72,65 +74,66 @@ shaken_from p side q x b s = record {
 
 -- THE ANSWER GOES, AND THE ACKNOWLEDGEMENT
 
-module _ (side : Side) (s r : PairSide) (second third : ℤ) (h : Heard s.socket r.socket)
+module _ (side : Side) (s r : PairSide) (second third : ℤ) (holds : HoldsText r.host) (h : Heard s.socket r.socket)
     (over : StartsOver (context_at (other side) (record r { moment = second })) r.socket) (f : IsFresh s.socket)
-    (later : is_due third (Some s.moment) ≡ true) (small : (s2 side s r second third h over f).socket.block.sender.una.0 < 2 ^ 32)
-    (partner_small : (r2 side s r second third h over f).socket.block.sender.una.0 < 2 ^ 32)
-    (timely : IsFreshAck side s r second third h over f later small partner_small) where
+    (later : is_due third (Some s.moment) ≡ true) (small : (s2 side s r second third holds h over f).socket.block.sender.una.0 < 2 ^ 32)
+    (partner_small : (r2 side s r second third holds h over f).socket.block.sender.una.0 < 2 ^ 32)
+    (timely : IsFreshAck side s r second third holds h over f later small partner_small) where
   abbrev c2 : ContextValue
-  c2 = cx2 side s r second third h over f
+  c2 = cx2 side s r second third holds h over f
 
   abbrev d2 : ContextValue
-  d2 = cy2 side s r second third h over f
+  d2 = cy2 side s r second third holds h over f
 
   abbrev c3 : ContextValue
-  c3 = cx3 side s r second third h over f later small partner_small
+  c3 = cx3 side s r second third holds h over f later small partner_small
 
   abbrev d3 : ContextValue
-  d3 = cy3 side s r second third h over f later small partner_small
+  d3 = cy3 side s r second third holds h over f later small partner_small
 
   abbrev v2 : TcpValue
-  v2 = (s2 side s r second third h over f).socket
+  v2 = (s2 side s r second third holds h over f).socket
 
   abbrev w2 : TcpValue
-  w2 = (r2 side s r second third h over f).socket
+  w2 = (r2 side s r second third holds h over f).socket
 
   abbrev v3 : TcpValue
-  v3 = (asked_side side (s2 side s r second third h over f) (r2 side s r second third h over f) third).socket
+  v3 = (asked_side side (s2 side s r second third holds h over f) (r2 side s r second third holds h over f) third).socket
 
   abbrev w3 : TcpValue
-  w3 = (partner_after side (s2 side s r second third h over f) (r2 side s r second third h over f) third).socket
+  w3 = (partner_after side (s2 side s r second third holds h over f) (r2 side s r second third holds h over f) third).socket
 
   abbrev a : Answered s.moment v2 w2
-  a = after_answer side s r second third h over f
+  a = after_answer side s r second third holds h over f
 
   -- the answer goes, and comes
   reply : IsAsSet (load_of r.socket) (load_of w2)
   reply = offered_set c2 r.socket (answering_goes_on c2 r.socket h.answerer.timeout h.answerer.answers h.answerer.tries).tries
 
-  takes_reply : Connecting s.socket (k2 side s r second third h over f).segment d2.moment
-      (arrives d2 s.socket (k2 side s r second third h over f).header (k2 side s r second third h over f).segment (bytes2 side s r second third h over f))
+  takes_reply : Connecting s.socket (k2 side s r second third holds h over f).segment d2.moment
+      (arrives d2 s.socket (k2 side s r second third holds h over f).header (k2 side s r second third holds h over f).segment
+      (bytes2 side s r second third holds h over f))
   takes_reply =
-      caller_takes d2 s.socket (k2 side s r second third h over f).header (k2 side s r second third h over f).segment
-      (bytes2 side s r second third h over f) r.socket.block.receiver.next h.calls (answer c2 d2 s.socket r.socket refl h over f).control
-      (acks c2 d2 s.socket r.socket refl h over f) (one c2 d2 s.socket r.socket refl h over f) (answer c2 d2 s.socket r.socket refl h over f).named
+      caller_takes d2 s.socket (k2 side s r second third holds h over f).header (k2 side s r second third holds h over f).segment
+      (bytes2 side s r second third holds h over f) r.socket.block.receiver.next h.calls (answer c2 d2 s.socket r.socket holds h over f).control
+      (acks c2 d2 s.socket r.socket holds h over f) (one c2 d2 s.socket r.socket holds h over f) (answer c2 d2 s.socket r.socket holds h over f).named
 
   reply_load : load_of v2 ≡ load_of
-      (arrives d2 s.socket (k2 side s r second third h over f).header (k2 side s r second third h over f).segment
-      (bytes2 side s r second third h over f)).socket
-  reply_load = ap load_of (came2 side s r second third h over f).socket
+      (arrives d2 s.socket (k2 side s r second third holds h over f).header (k2 side s r second third holds h over f).segment
+      (bytes2 side s r second third holds h over f)).socket
+  reply_load = ap load_of (came2 side s r second third holds h over f).socket
 
   -- the last acknowledgement goes, and comes
   ack : IsAsSet (load_of v2) (load_of v3)
   ack = offered_set c3 v2 (open_goes_on c3 v2 a.caller.timeout a.opened a.timer a.caller.tries a.unanswered).tries
 
-  takes_ack : Opens w2 (arrives d3 w2 (k3 side s r second third h over f later small partner_small).header
-      (k3 side s r second third h over f later small partner_small).segment [])
+  takes_ack : Opens w2 (arrives d3 w2 (k3 side s r second third holds h over f later small partner_small).header
+      (k3 side s r second third holds h over f later small partner_small).segment [])
   takes_ack = it c3 d3 v2 w2 s.moment a later small partner_small timely
 
-  ack_load : load_of w3 ≡ load_of (arrives d3 w2 (k3 side s r second third h over f later small partner_small).header
-      (k3 side s r second third h over f later small partner_small).segment []).socket
-  ack_load = ap load_of (came3 side s r second third h over f later small partner_small).socket
+  ack_load : load_of w3 ≡ load_of (arrives d3 w2 (k3 side s r second third holds h over f later small partner_small).header
+      (k3 side s r second third holds h over f later small partner_small).segment []).socket
+  ack_load = ap load_of (came3 side s r second third holds h over f later small partner_small).socket
 
   caller_shaken : IsShaken s.socket v3
   caller_shaken = record {
@@ -159,24 +162,26 @@ pub answered_shaken :
 answered_shaken p A second third r m =
     let small = una_of (offered_in p B second) A (a2 p second third r m) in
     let partner_small = una_of (offered_in p B second) B (a2 p second third r m) in
+    let holds = holds_a p second third r m in
     let h = heard_a p second third r m in
     let fresh = fresh_a p second third r m in
     let later = later_a p second third r m in
     let timely = timely_a p second third r m small partner_small in
     record {
-      own = caller_shaken A p.sides.a p.sides.b second third h m.over fresh later small partner_small timely;
-      theirs = answerer_shaken A p.sides.a p.sides.b second third h m.over fresh later small partner_small timely;
+      own = caller_shaken A p.sides.a p.sides.b second third holds h m.over fresh later small partner_small timely;
+      theirs = answerer_shaken A p.sides.a p.sides.b second third holds h m.over fresh later small partner_small timely;
     }
 answered_shaken p B second third r m =
     let small = una_of (offered_in p A second) B (b2 p second third r m) in
     let partner_small = una_of (offered_in p A second) A (b2 p second third r m) in
+    let holds = holds_b p second third r m in
     let h = heard_b p second third r m in
     let fresh = fresh_b p second third r m in
     let later = later_b p second third r m in
     let timely = timely_b p second third r m small partner_small in
     record {
-      own = caller_shaken B p.sides.b p.sides.a second third h m.over fresh later small partner_small timely;
-      theirs = answerer_shaken B p.sides.b p.sides.a second third h m.over fresh later small partner_small timely;
+      own = caller_shaken B p.sides.b p.sides.a second third holds h m.over fresh later small partner_small timely;
+      theirs = answerer_shaken B p.sides.b p.sides.a second third holds h m.over fresh later small partner_small timely;
     }
 
 -- THE CALL GOES, OR GOES AGAIN
@@ -224,17 +229,19 @@ pub again_begins :
     (p : PairValue) (side : Side) (first second third : ℤ) → IsReached p → MayCallAgain p side first second third
     → IsBegun p side (called_in p side first)
 again_begins p A first second third r m =
+    let holds = reached_holds p A r in
     let h = heard_in p A r m.unanswered in
     let f = asking p A r m.unanswered.calls in
     to_called p A (called_in p A first) (offered_set (context_of p A first) p.sides.a.socket m.goes.tries)
     (heard_still p.sides.b.socket (socket_of (called_in p A first) B)
-    (still_there A p.sides.a p.sides.b first h m.over m.goes f.syn_unacked f.alone))
+    (still_there A p.sides.a p.sides.b first holds h m.over m.goes f.syn_unacked f.alone))
 again_begins p B first second third r m =
+    let holds = reached_holds p B r in
     let h = heard_in p B r m.unanswered in
     let f = asking p B r m.unanswered.calls in
     to_called p B (called_in p B first) (offered_set (context_of p B first) p.sides.b.socket m.goes.tries)
     (heard_still p.sides.a.socket (socket_of (called_in p B first) A)
-    (still_there B p.sides.b p.sides.a first h m.over m.goes f.syn_unacked f.alone))
+    (still_there B p.sides.b p.sides.a first holds h m.over m.goes f.syn_unacked f.alone))
 
 -- AN ANSWER IS CONFIRMED
 

@@ -35,7 +35,7 @@ use Rattle.tcp_progress.specs.Course.{Asks, IsAskedBy, IsAt, IsShutAmong, IsTake
 use Rattle.tcp_progress.specs.Exchange.{IsOpen}
 use Rattle.tcp_progress.specs.Near.{IsNear}
 use Rattle.tcp_progress.specs.Onward.{HasRisen, acked_in}
-use Rattle.tcp_progress.specs.Pair.{context_of, left_in, next_sent, socket_of}
+use Rattle.tcp_progress.specs.Pair.{context_of, left_in, mtu_of, next_sent, socket_of}
 use Rattle.tcp_progress.specs.PutOff.{CarriesIn, ProbesAt}
 use Rattle.tcp_progress.specs.Reached.{IsReached}
 use Rattle.tcp_progress.specs.Rounds.{takes}
@@ -300,7 +300,7 @@ starts_idle p side due r mine owes idle pair = record {
   owes = owes;
   mss = refl;
   stamp = refl;
-  again = again_sent p side r mine.acknowledged pair.addresses 1500 (socket_of p side).queued;
+  again = again_sent p side r mine.acknowledged pair.addresses (mtu_of p side) (socket_of p side).queued;
 }
 
 module _ (p : PairValue) (side : Side) (due : ℤ) (r : IsReached p) (mine : IsOpen (socket_of p side).block) (owes : 1 ≤ left_in p side)
@@ -308,11 +308,11 @@ module _ (p : PairValue) (side : Side) (due : ℤ) (r : IsReached p) (mine : IsO
   named : (pair : EndpointPair) × ((socket_of p side).block.names.pair ≡ Some pair)
   named = named_in p side r mine.synchronized
 
-  quiet : IsBefore due (poll_of 1500 (socket_of p side)) → IsQuiet (context_of p side due) (socket_of p side) named.0
+  quiet : IsBefore due (poll_of (mtu_of p side) (socket_of p side)) → IsQuiet (context_of p side due) (socket_of p side) named.0
   quiet before =
       is_quiet (context_of p side due) (socket_of p side) named.0
       (subst (λ (at : PollAt). IsBefore due at)
-      (poll_is (socket_of p side) named.0 named.1 (not_closed (socket_of p side).block.state mine.synchronized)) before)
+      (poll_is (mtu_of p side) (socket_of p side) named.0 named.1 (not_closed (socket_of p side).block.state mine.synchronized)) before)
 
   -- nothing holds it back
   wants_open : probing_in p side ≡ false → Wants due p side

@@ -26,7 +26,7 @@ use Rattle.tcp_progress.specs.Course.{Asks, GoesInTime, IsAskedBy, IsHinderedAmo
 use Rattle.tcp_progress.specs.Exchange.{IsOpen}
 use Rattle.tcp_progress.specs.Late.{sent_by}
 use Rattle.tcp_progress.specs.Onward.{AreOpen, HasRisen, acked_in}
-use Rattle.tcp_progress.specs.Pair.{HasStream, context_of, left_in, next_sent, socket_of}
+use Rattle.tcp_progress.specs.Pair.{HasStream, context_of, left_in, mtu_of, next_sent, socket_of}
 use Rattle.tcp_progress.specs.Reached.{IsReached}
 use Rattle.tcp_progress.specs.Restart.{Sends, first_cwnd, worth_sending}
 use Rattle.tcp_progress.specs.Rounds.{takes}
@@ -81,7 +81,7 @@ wants_idle p side due r mine owes none wide before =
     (record { window = wide.window; cwnd = wide.cwnd }))
     ∙ (is_quiet (context_of p side due) (socket_of p side) named.0
     (subst (λ (at : PollAt). IsBefore due at)
-    (poll_is (socket_of p side) named.0 named.1 (not_closed (socket_of p side).block.state mine.synchronized)) before)).text)
+    (poll_is (mtu_of p side) (socket_of p side) named.0 named.1 (not_closed (socket_of p side).block.state mine.synchronized)) before)).text)
   where
     named : (pair : EndpointPair) × ((socket_of p side).block.names.pair ≡ Some pair)
     named = named_in p side r mine.synchronized
@@ -94,7 +94,7 @@ wants_idle p side due r mine owes none wide before =
       owes = owes;
       mss = refl;
       stamp = refl;
-      again = again_sent p side r mine.acknowledged named.0.addresses 1500 (socket_of p side).queued;
+      again = again_sent p side r mine.acknowledged named.0.addresses (mtu_of p side) (socket_of p side).queued;
     }
 
 -- WHAT IT SENDS

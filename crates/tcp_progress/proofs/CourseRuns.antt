@@ -25,7 +25,7 @@ use Rattle.tcp_progress.specs.Arrivals.{is_synchronized}
 use Rattle.tcp_progress.specs.Course.{Asks, AsksWithin, IsAskedBy, IsAt, IsClocked, IsHinderedAmong, Wants, end_of, events_of}
 use Rattle.tcp_progress.specs.Near.{IsNear}
 use Rattle.tcp_progress.specs.Onward.{AreOpen, acked_in}
-use Rattle.tcp_progress.specs.Pair.{context_of, socket_of}
+use Rattle.tcp_progress.specs.Pair.{context_of, mtu_of, socket_of}
 use Rattle.tcp_progress.specs.PutOff.{IsAskedBefore, IsRunning, RunsOutAmong, RunsOutAt, RunsOutIn}
 use Rattle.tcp_progress.specs.Reached.{IsReached}
 use Rattle.tcp_progress.specs.Rounds.{takes}
@@ -71,10 +71,11 @@ not_below due now e = first_of (omega (arith, ints), grind (arith, ints))
 -- A SIDE WITH A TIMER WANTS TO BE ASKED
 
 pub poll_is :
-    (v : TcpValue) (pair : EndpointPair) → v.block.names.pair ≡ Some pair → is_closed v.block.state ≡ false → poll_of 1500 v ≡ poll_open 1500 v pair
-poll_is v pair named alive =
-    ap (λ (names : Option EndpointPair). poll_with names 1500 v) named
-    ∙ ap (λ (closed : Bool). if closed then (if v.block.sender.reset_due then At.Now else At.Ingress) else poll_open 1500 v pair) alive
+    (mtu : ℕ) (v : TcpValue) (pair : EndpointPair) → v.block.names.pair ≡ Some pair → is_closed v.block.state ≡ false
+    → poll_of mtu v ≡ poll_open mtu v pair
+poll_is mtu v pair named alive =
+    ap (λ (names : Option EndpointPair). poll_with names mtu v) named
+    ∙ ap (λ (closed : Bool). if closed then (if v.block.sender.reset_due then At.Now else At.Ingress) else poll_open mtu v pair) alive
 
 pub wants :
     (p : PairValue) (side : Side) (when due : ℤ) → IsReached p → is_synchronized (socket_of p side).block.state ≡ true
@@ -84,7 +85,7 @@ wants p side when due r there runs e before =
     (sym (ap (is_due due) runs ∙ come when due e)
     ∙ (is_quiet (context_of p side due) (socket_of p side) named.0
     (subst (λ (at : PollAt). IsBefore due at)
-    (poll_is (socket_of p side) named.0 named.1 (not_closed (socket_of p side).block.state there)) before)).retransmission)
+    (poll_is (mtu_of p side) (socket_of p side) named.0 named.1 (not_closed (socket_of p side).block.state there)) before)).retransmission)
   where
     named : (pair : EndpointPair) × ((socket_of p side).block.names.pair ≡ Some pair)
     named = named_in p side r there

@@ -6,25 +6,28 @@ use Rattle.tcp_tie.specs.Pair.Safe.{IsKept}
 use Rattle.tcp_tie.specs.Pair.Sides.{other}
 use Rattle.tcp_tie.specs.Pair.Steps.{Steps, happens}
 use Rattle.tcp_model.specs.Value.{new_socket}
-use Rattle.tcp_tie.specs.Pair.Values.{PairValue, new_pair, past_at}
+use Rattle.tcp_tie.specs.Pair.Values.{PairValue, past_at}
 use Rattle.tcp_tie.specs.declared.pair.event.PairEvent.{PairEvent}
 use Rattle.tcp_tie.specs.declared.pair.event.Side.{Side}
 use Rattle.tcp_tie.specs.declared.pair.event.Side.TheVariants.{A, B}
 use Rattle.tcp_tie.proofs.OutcomeLaws.{goes_on as in_pieces}
 use Rattle.tcp_tie.proofs.PairLaws.{new_is_kept, kept_after}
 use Rattle.tcp_progress.specs.Pair.{socket_of}
-use Rattle.tcp_progress.specs.Reached.{IsReached}
+use Rattle.tcp_progress.specs.Reached.{IsReached, Start, both_started}
 
 kept_steps : (p : PairValue) (events : List PairEvent) (new : PairValue) → IsKept p → Steps p events new → IsKept new
 kept_steps p [] new k steps = subst IsKept (sym steps) k
 kept_steps p (event ∷ events) new k steps = kept_steps (happens p event).pair events new (kept_after p event k steps.0) steps.1
 
+pub started_kept : (a b : Start) → IsKept (both_started a b)
+started_kept a b =
+    new_is_kept a.host b.host a.random b.random (new_socket a.room a.ring) (new_socket b.room b.ring)
+    (record { state = refl; waiting = refl; queue = refl; unfinished = refl })
+    (record { state = refl; waiting = refl; queue = refl; unfinished = refl })
+
 pub reached_kept : (p : PairValue) → IsReached p → IsKept p
 reached_kept p r =
-    kept_steps (new_pair (new_socket r.room_a r.ring_a) (new_socket r.room_b r.ring_b)) r.events p
-    (new_is_kept (new_socket r.room_a r.ring_a) (new_socket r.room_b r.ring_b)
-    (record { state = refl; waiting = refl; queue = refl; unfinished = refl })
-    (record { state = refl; waiting = refl; queue = refl; unfinished = refl })) r.steps
+    kept_steps (both_started r.a r.b) r.events p (started_kept r.a r.b) r.steps
 
 pub keeps_of : (p : PairValue) (side : Side) → IsKept p → Keeps (socket_of p side) (past_at p side) (socket_of p (other side)) (past_at p (other side))
 keeps_of p A k = k.sockets
@@ -37,10 +40,8 @@ reached_keeps p side reached = keeps_of p side (reached_kept p reached)
 
 pub reached_by : (p new : PairValue) (more : List PairEvent) → IsReached p → Steps p more new → IsReached new
 reached_by p new more r steps = record {
-  room_a = r.room_a;
-  room_b = r.room_b;
-  ring_a = r.ring_a;
-  ring_b = r.ring_b;
+  a = r.a;
+  b = r.b;
   events = r.events ++ more;
-  steps = in_pieces (new_pair (new_socket r.room_a r.ring_a) (new_socket r.room_b r.ring_b)) p new r.events more r.steps steps;
+  steps = in_pieces (both_started r.a r.b) p new r.events more r.steps steps;
 }

@@ -8,10 +8,10 @@ use Rattle.tcp_rules.specs.Events.Event.{Listens}
 use Rattle.tcp_rules.specs.States.{is_closed}
 use Rattle.tcp_model.specs.Calls.{listening}
 use Rattle.tcp_model.specs.Value.{TcpValue, new_socket, unoffered}
-use Rattle.tcp_tie.specs.Pair.Values.{PairValue, new_pair}
+use Rattle.tcp_tie.specs.Pair.Values.{PairValue}
 use Rattle.tcp_tie.specs.declared.pair.event.Side.{Side}
 use Rattle.tcp_progress.specs.Pair.{socket_of}
-use Rattle.tcp_progress.specs.Reached.{IsReached}
+use Rattle.tcp_progress.specs.Reached.{IsReached, both_started}
 use Rattle.tcp_progress.proofs.Events.{of_side, by_steps}
 
 pub record IsLed (v : TcpValue) : Type 0 where
@@ -52,5 +52,5 @@ new_led room ring = record { room = room; ring = ring; events = []; is = refl }
 pub led_side : (p : PairValue) (side : Side) → IsReached p → IsLed (socket_of p side)
 led_side p side r =
     of_side IsLed p.sides side
-    (by_steps IsLed event_led unoffered_led (new_pair (new_socket r.room_a r.ring_a) (new_socket r.room_b r.ring_b)) r.events p r.steps
-    (record { first = new_led r.room_a r.ring_a; second = new_led r.room_b r.ring_b }))
+    (by_steps IsLed event_led unoffered_led (both_started r.a r.b) r.events p r.steps
+    (record { first = new_led r.a.room r.a.ring; second = new_led r.b.room r.b.ring }))

@@ -17,6 +17,7 @@ pub mod Comes
 pub mod Asked
 pub mod SentSteps
 pub mod Kept
+pub mod Hosts
 pub mod SentEvents
 pub mod SentPairs
 pub mod Past
@@ -65,6 +66,7 @@ pub mod Loads
 pub mod Begins
 pub mod Joins
 pub mod MetAcross
+pub mod MetStarts
 pub mod Behind
 pub mod PutOff
 pub mod Onward

@@ -46,7 +46,7 @@ use Rattle.tcp_model.specs.Settled.{settled}
 use Rattle.tcp_tie.specs.Pair.Sides.{Both, at, put, other}
 use Rattle.tcp_tie.specs.Pair.Steps.{Steps, refusal, happens, acts, acting, reads, set_by, handed, taken_at, connect_says, send_says}
 use Rattle.tcp_model.specs.Value.{TcpValue, new_socket, unoffered}
-use Rattle.tcp_tie.specs.Pair.Values.{PairSide, PairValue, context_at, new_pair, and_offer, and_reply, with_segments}
+use Rattle.tcp_tie.specs.Pair.Values.{PairSide, PairValue, context_at, and_offer, and_reply, with_segments}
 use Rattle.tcp_tie.specs.declared.pair.event.PairAnswer.{PairAnswer}
 use Rattle.tcp_tie.specs.declared.pair.event.PairAnswer.TheVariants.{Done, Count, Bytes, Error}
 use Rattle.tcp_tie.specs.declared.pair.event.PairEvent.{PairEvent}
@@ -56,12 +56,12 @@ use Rattle.tcp_tie.specs.declared.pair.event.Side.{Side}
 use Rattle.tcp_tie.specs.declared.pair.event.Side.TheVariants.{A, B}
 use Rattle.tcp_tie.specs.declared.pair.event.TcpSetting.{TcpSetting as Setting}
 use Rattle.tcp_tie.specs.declared.pair.event.TcpSetting.TheVariants as Set
-use Rattle.tcp_tie.proofs.PairLaws.{new_is_kept, kept_after}
+use Rattle.tcp_tie.proofs.PairLaws.{kept_after}
 use Rattle.tcp_tie.proofs.SideLaws.{IsAllowed}
 use Rattle.tcp_progress.specs.Arrivals.{is_synchronized}
 use Rattle.tcp_progress.specs.Pair.{AreMirrored, has_heard, socket_of}
-use Rattle.tcp_progress.specs.Reached.{IsReached}
-use Rattle.tcp_progress.proofs.Kept.{keeps_of}
+use Rattle.tcp_progress.specs.Reached.{IsReached, both_started}
+use Rattle.tcp_progress.proofs.Kept.{keeps_of, started_kept}
 use Rattle.tcp_progress.proofs.Past.{abort_past, close_past, sent_past, withheld_past}
 use Rattle.tcp_progress.proofs.Ready.{ready_side, some_pair}
 use Rattle.tcp_progress.proofs.SentPairs.{is_allowed}
@@ -640,11 +640,8 @@ new_directed v unnamed = record {
 
 reached_directed : (p : PairValue) → IsReached p → BothDirected p.sides (pasts p.history)
 reached_directed p r =
-    directed_steps (new_pair (new_socket r.room_a r.ring_a) (new_socket r.room_b r.ring_b)) r.events p
-    (new_is_kept (new_socket r.room_a r.ring_a) (new_socket r.room_b r.ring_b)
-    (record { state = refl; waiting = refl; queue = refl; unfinished = refl })
-    (record { state = refl; waiting = refl; queue = refl; unfinished = refl }))
-    (record { a = new_directed (new_socket r.room_a r.ring_a) refl; b = new_directed (new_socket r.room_b r.ring_b) refl }) r.steps
+    directed_steps (both_started r.a r.b) r.events p (started_kept r.a r.b)
+    (record { a = new_directed (new_socket r.a.room r.a.ring) refl; b = new_directed (new_socket r.b.room r.b.ring) refl }) r.steps
 
 -- THE ENDPOINTS MIRROR EACH OTHER
 

@@ -17,7 +17,7 @@ use Rattle.tcp_tie.specs.declared.pair.event.Side.{Side}
 use Rattle.tcp_progress.specs.Arrivals.{is_synchronized}
 use Rattle.tcp_progress.specs.Clocks.{comes_stale}
 use Rattle.tcp_progress.specs.Exchange.{CanHear, left_of}
-use Rattle.tcp_progress.specs.Pair.{HasStream, MayReachIn, MovesIn, context_of, exchanged_in, socket_of}
+use Rattle.tcp_progress.specs.Pair.{HasStream, MayReachIn, MovesIn, context_of, exchanged_in, mtu_of, socket_of}
 use Rattle.tcp_progress.specs.Reached.{IsReached}
 use Rattle.tcp_progress.specs.Restart.{MayGoOn, MaySend, Sends}
 use Rattle.tcp_progress.proofs.Led.{leads_on}
@@ -58,7 +58,7 @@ sends_in p side moment r m =
     let named = named_in p side r m.own.synchronized in
     sends_out (context_of p side moment) (socket_of p side) named.0 named.1 m
     (sends_there p side r m.own.synchronized m.own.acknowledged m.owes)
-    (again_sent p side r m.own.acknowledged named.0.addresses 1500 (socket_of p side).queued)
+    (again_sent p side r m.own.acknowledged named.0.addresses (mtu_of p side) (socket_of p side).queued)
 
 pub side_sends : (p : PairValue) (side : Side) (moment : ℤ) → IsReached p → MaySend (context_of p side moment) (socket_of p side) →
     Sends (context_of p side moment) (socket_of p side)

@@ -31,7 +31,7 @@ use Rattle.tcp_model.specs.Settled.{settled, recorded, probed, end_of}
 use Rattle.tcp_model.specs.Timestamps.{stamp_taken}
 use Rattle.tcp_model.specs.Value.{TcpValue, Arrived, with_block, unoffered, ended, new_socket, queued_in, room_of, window_of}
 use Rattle.tcp_tie.specs.Pair.Sides.{at}
-use Rattle.tcp_tie.specs.Pair.Values.{PairValue, new_pair}
+use Rattle.tcp_tie.specs.Pair.Values.{PairValue}
 use Rattle.tcp_tie.specs.declared.pair.event.Side.{Side}
 use Rattle.tcp_rules.proofs.ArrivalCases.{by_arrival, Received, Opening, Content, Drawing, acked_open, heeded, timed}
 use Rattle.tcp_rules.proofs.OfferCases.{FirstRules, by_rules, begun, probing}
@@ -44,7 +44,7 @@ use Rattle.tcp_rules.specs.InOrder.{sending_of, IsInOrder}
 use Rattle.tcp_progress.specs.Arrivals.{is_synchronized}
 use Rattle.tcp_progress.specs.Exchange.{IsOpen}
 use Rattle.tcp_progress.specs.Pair.{socket_of}
-use Rattle.tcp_progress.specs.Reached.{IsReached}
+use Rattle.tcp_progress.specs.Reached.{IsReached, both_started}
 use Rattle.tcp_progress.proofs.Events.{of_side, by_steps}
 
 abbrev CountsOf : Block → Type 0
@@ -257,8 +257,8 @@ pub is_open : (p : PairValue) (side : Side) → IsReached p → is_synchronized 
 is_open p side r past acked =
     let h : HasCounted (at p.sides side).socket =
     of_side HasCounted p.sides side
-    (by_steps HasCounted event_counted unoffered_counted (new_pair (new_socket r.room_a r.ring_a) (new_socket r.room_b r.ring_b)) r.events p r.steps
-    (record { first = new_counted r.room_a r.ring_a; second = new_counted r.room_b r.ring_b })) in
+    (by_steps HasCounted event_counted unoffered_counted (both_started r.a r.b) r.events p r.steps
+    (record { first = new_counted r.a.room r.a.ring; second = new_counted r.b.room r.b.ring })) in
     record {
       synchronized = past;
       acknowledged = acked;

@@ -38,7 +38,7 @@ use Rattle.tcp_progress.specs.Again.{StartsOver}
 use Rattle.tcp_progress.specs.Arrivals.{is_synchronized}
 use Rattle.tcp_progress.specs.Exchange.{IsOpen}
 use Rattle.tcp_progress.specs.Late.{sent_by}
-use Rattle.tcp_progress.specs.Pair.{context_of, left_in, socket_of}
+use Rattle.tcp_progress.specs.Pair.{context_of, left_in, mtu_of, socket_of}
 use Rattle.tcp_progress.specs.PutOff.{ProbesAt}
 use Rattle.tcp_progress.specs.Reached.{IsReached}
 use Rattle.tcp_progress.specs.Rounds.{takes}
@@ -342,7 +342,7 @@ goes_or_waits p side moment r mine owes over stays =
     by
     (sends_or_waits cx v named.0 named.1
     (record { own = mine; owes = owes; over = over; goes = survives cx v mine.synchronized named.0 named.1 (offered_there p side moment stays) })
-    (sends_there p side r mine.synchronized mine.acknowledged owes) (again_sent p side r mine.acknowledged named.0.addresses 1500 v.queued)
+    (sends_there p side r mine.synchronized mine.acknowledged owes) (again_sent p side r mine.acknowledged named.0.addresses (mtu_of p side) v.queued)
     (reached_cwnd p side r) (reached_mss p side r))
   where
     cx : ContextValue

@@ -14,8 +14,8 @@ use Rattle.tcp_tie.specs.Pair.Sides.{Both, at, put, other}
 use Rattle.tcp_tie.specs.Pair.Steps.{Steps, acting, acts, handed, happens, limit_of, reads, refusal, set_by, taken_at}
 use Rattle.tcp_model.specs.declared.block.Block.{Block}
 use Rattle.tcp_model.specs.Probing.{is_probing, probe_moment}
-use Rattle.tcp_model.specs.Value.{TcpValue, new_socket, queued_in}
-use Rattle.tcp_tie.specs.Pair.Values.{PairSide, PairValue, context_at, new_pair}
+use Rattle.tcp_model.specs.Value.{TcpValue, queued_in}
+use Rattle.tcp_tie.specs.Pair.Values.{PairSide, PairValue, context_at}
 use Rattle.tcp_tie.specs.declared.pair.event.PairEvent.{PairEvent}
 use Rattle.tcp_tie.specs.declared.pair.event.PairEvent.TheVariants.{Listen, Connect, Send, Recv, Close, Abort, TcpSetting, Offer, Deliver}
 use Rattle.tcp_tie.specs.declared.pair.event.SentSegment.{SentSegment}
@@ -26,7 +26,7 @@ use Rattle.tcp_tie.specs.declared.pair.event.TcpSetting.TheVariants as Set
 use Rattle.tcp_progress.specs.BothWays.{wake_in}
 use Rattle.tcp_progress.specs.Near.{IsNear}
 use Rattle.tcp_progress.specs.Pair.{socket_of}
-use Rattle.tcp_progress.specs.Reached.{IsReached}
+use Rattle.tcp_progress.specs.Reached.{IsReached, both_started}
 use Rattle.tcp_progress.specs.Settle.{restart_by, restart_in}
 use Rattle.tcp_progress.proofs.Moments.{GoesOn, goes_on}
 use Rattle.tcp_progress.proofs.Timers.{Bounded, event_near, later_near, new_near}
@@ -104,8 +104,8 @@ by_steps old (event ∷ events) new s n = by_steps (happens old event).pair even
 reached_near : (p : PairValue) (side : Side) → IsReached p → NearSide (at p.sides side)
 reached_near p side r =
     near_of p.sides side
-    (by_steps (new_pair (new_socket r.room_a r.ring_a) (new_socket r.room_b r.ring_b)) r.events p r.steps
-    (record { a = new_near (pos 0) r.room_a r.ring_a; b = new_near (pos 0) r.room_b r.ring_b }))
+    (by_steps (both_started r.a r.b) r.events p r.steps
+    (record { a = new_near (pos 0) r.a.room r.a.ring; b = new_near (pos 0) r.b.room r.b.ring }))
 
 pub timer_near : (p : PairValue) (side : Side) → IsReached p → IsNear (at p.sides side).moment 60_000_000 (socket_of p side).block.timers.retransmit_at
 timer_near p side r = (reached_near p side r).timer

@@ -27,12 +27,13 @@ use Rattle.tcp_tie.specs.declared.pair.event.Side.TheVariants.{A, B}
 use Rattle.tcp_progress.specs.Arrivals.{is_synchronized}
 use Rattle.tcp_progress.specs.BothWays.{MayAsk, is_over, roused_in, turn_in, waits_in, wake_in, woken_in}
 use Rattle.tcp_progress.specs.Exchange.{GoesFromUna, text_of}
-use Rattle.tcp_progress.specs.Pair.{context_of, left_in, socket_of}
+use Rattle.tcp_progress.specs.Pair.{context_of, left_in, mtu_of, socket_of}
 use Rattle.tcp_progress.specs.Reached.{IsReached}
 use Rattle.tcp_progress.specs.Settle.{read_in, restart_in}
 use Rattle.tcp_progress.specs.Talking.{AreTalking, HasTries, HaveTries, MayTalk, NeverGiveUp, SpeaksIn}
 use Rattle.tcp_progress.proofs.Acked.{IsHeard}
 use Rattle.tcp_progress.proofs.Hears.{Heard, IsSilent, Outcome, exchange_heard}
+use Rattle.tcp_progress.proofs.Hosts.{read_mtu, roused_mtu, woken_mtu}
 use Rattle.tcp_progress.proofs.Mirrored.{named_in}
 use Rattle.tcp_progress.proofs.Offered.{goes_from_una, goes_out_of}
 use Rattle.tcp_progress.proofs.Pair.{HasSome, below_quarter, further, had_in, has_some}
@@ -96,16 +97,20 @@ still_asks b now queued timer questions =
 -- STAGES
 
 -- how much text a socket says once its timer has run out
-says_in : Option EndpointPair → TcpValue → ℕ
-says_in None v = 0
-says_in (Some pair) v = says (voice_of pair.addresses 1500 v.block) v.queued
+says_in : Option EndpointPair → ℕ → TcpValue → ℕ
+says_in None mtu v = 0
+says_in (Some pair) mtu v = says (voice_of pair.addresses mtu v.block) v.queued
 
-abbrev said : TcpValue → ℕ
-said v = says_in v.block.names.pair v
+abbrev said : ℕ → TcpValue → ℕ
+said mtu v = says_in v.block.names.pair mtu v
 
-said_as : (v : TcpValue) (pair : EndpointPair) → v.block.names.pair ≡ Some pair → said v ≡ says (voice_of pair.addresses 1500 v.block) v.queued
+said_as : (mtu : ℕ) (v : TcpValue) (pair : EndpointPair) → v.block.names.pair ≡ Some pair →
+    said mtu v ≡ says (voice_of pair.addresses mtu v.block) v.queued
 unfolding says_in
-said_as v pair named = ap (λ (names : Option EndpointPair). says_in names v) named
+said_as mtu v pair named = ap (λ (names : Option EndpointPair). says_in names mtu v) named
+
+abbrev said_in : PairValue → Side → ℕ
+said_in p side = said (mtu_of p side) (socket_of p side)
 
 -- nothing is to go again; and the timer runs, or the window is closed
 record IsSteady (v : TcpValue) : Type 0 where
@@ -119,8 +124,8 @@ abbrev Patience : PairValue → Side → Type 0
 Patience p side =
     HasTries 4 p side
     ⊎ ((HasTries 3 p side × IsSteady (socket_of p side))
-    ⊎ ((HasTries 2 p side × (IsSteady (socket_of p side) × (said (socket_of p side) ≤ had_in p side)))
-    ⊎ (HasTries 1 p side × (IsSteady (socket_of p side) × (said (socket_of p side) < had_in p side)))))
+    ⊎ ((HasTries 2 p side × (IsSteady (socket_of p side) × (said_in p side ≤ had_in p side)))
+    ⊎ (HasTries 1 p side × (IsSteady (socket_of p side) × (said_in p side < had_in p side)))))
 
 tries_of : (m n : ℕ) (p : PairValue) (side : Side) → m ≤ n → HasTries n p side → HasTries m p side
 tries_of m n p side e t = record {
@@ -221,18 +226,24 @@ module _ (n : ℕ) (p : PairValue) (side : Side) (r : IsReached p) (s : BothStay
   named : v.block.names.pair ≡ Some pair
   named = (named_in x side (rx n p side r s m waits tries) (mine n p side r s m waits tries)).1
 
-  roused : IsRoused pair.addresses 1500 v.block w.block
+  -- a packet is as long as before
+  abbrev mtu : ℕ
+  mtu = mtu_of p side
+
+  roused : IsRoused pair.addresses mtu v.block w.block
   roused =
-      subst (λ (z : TcpValue). IsRoused pair.addresses 1500 v.block z.block) (sym (roused_own p side))
+      subst (λ (k : ℕ). IsRoused pair.addresses k v.block w.block) (read_mtu p side)
+      (subst (λ (z : TcpValue). IsRoused pair.addresses (mtu_of x side) v.block z.block) (sym (roused_own p side))
       (again
       (asked_roused (context_of x side (restart_in p side)) v pair named (starts n p side r s m waits tries) (sends n p side r s m waits tries)
-      (again_sent x side (rx n p side r s m waits tries) (of x side sx).acked pair.addresses 1500 v.queued) (runs n p side r s m waits tries)))
+      (again_sent x side (rx n p side r s m waits tries) (of x side sx).acked pair.addresses (mtu_of x side) v.queued)
+      (runs n p side r s m waits tries))))
     where
       sx : BothStay x
       sx = both_on p x (read_calm p side) s
 
-      again : IsRoused pair.addresses 1500 v.block (offer_of (context_of x side (restart_in p side)) v).socket.block →
-          IsRoused pair.addresses 1500 v.block (settled false (offer_of (context_of x side (restart_in p side)) v).socket).block
+      again : IsRoused pair.addresses (mtu_of x side) v.block (offer_of (context_of x side (restart_in p side)) v).socket.block →
+          IsRoused pair.addresses (mtu_of x side) v.block (settled false (offer_of (context_of x side (restart_in p side)) v).socket).block
       again g = record { timeouts = g.timeouts; unanswered = g.unanswered; again = g.again; voice = g.voice; slowed = g.slowed }
 
   -- the side doesn't give up later, either
@@ -270,11 +281,12 @@ module _ (n : ℕ) (p : PairValue) (side : Side) (r : IsReached p) (s : BothStay
     sends_w : sends_text w.block.state ≡ true
     sends_w = ap sends_text (set n p side r s m waits tries).state ∙ sends n p side r s m waits tries
 
-    sp : IsSpoken pair.addresses 1500 w w.block o g
+    sp : IsSpoken pair.addresses mtu w w.block o g
     sp =
-        spoken (context_of y side then_at) w pair named_w (starts_y n p side r s m waits tries tries_on) sends_w (again_y n p side r s m waits tries)
+        subst (λ (k : ℕ). IsSpoken pair.addresses k w w.block o g) (roused_mtu p side)
+        (spoken (context_of y side then_at) w pair named_w (starts_y n p side r s m waits tries tries_on) sends_w (again_y n p side r s m waits tries)
         (set n p side r s m waits tries).none (set n p side r s m waits tries).timer o asks.reaches.offered
-        asks.reaches.kind
+        asks.reaches.kind)
 
     since : BothCalm p (turn_in p side)
     since = (turned (Unit {0}) p side r s.late (λ _. asks) (λ _. inr tt)).calm
@@ -287,19 +299,19 @@ module _ (n : ℕ) (p : PairValue) (side : Side) (r : IsReached p) (s : BothStay
 
     -- WHAT STAYS
 
-    said_still : said g ≡ said (socket_of p side)
+    said_still : said mtu g ≡ said_in p side
     said_still =
-        said_as g pair (ap (λ (names : Names). names.pair) sp.names ∙ named_w)
+        said_as mtu g pair (ap (λ (names : Names). names.pair) sp.names ∙ named_w)
         ∙ (ap (λ (voice : Voice). says voice g.queued) (sp.voice ∙ roused.voice)
-        ∙ (ap (says (voice_of pair.addresses 1500 v.block)) (sp.queued ∙ (set n p side r s m waits tries).queued)
-        ∙ (sym (said_as v pair named) ∙ ap said (same_own p side))))
+        ∙ (ap (says (voice_of pair.addresses mtu v.block)) (sp.queued ∙ (set n p side r s m waits tries).queued)
+        ∙ (sym (said_as mtu v pair named) ∙ ap (said mtu) (same_own p side))))
 
-    said_w : said w ≡ said (socket_of p side)
+    said_w : said mtu w ≡ said_in p side
     said_w =
-        said_as w pair named_w
+        said_as mtu w pair named_w
         ∙ (ap (λ (voice : Voice). says voice w.queued) roused.voice
-        ∙ (ap (says (voice_of pair.addresses 1500 v.block)) (set n p side r s m waits tries).queued
-        ∙ (sym (said_as v pair named) ∙ ap said (same_own p side))))
+        ∙ (ap (says (voice_of pair.addresses mtu v.block)) (set n p side r s m waits tries).queued
+        ∙ (sym (said_as mtu v pair named) ∙ ap (said mtu) (same_own p side))))
 
     had_still : had_in y side ≡ had_in p side
     had_still =
@@ -351,8 +363,8 @@ module _ (n : ℕ) (p : PairValue) (side : Side) (r : IsReached p) (s : BothStay
       steady : IsSteady (socket_of q side)
       steady = subst IsSteady (sym it.own) (record { resend = sp.resend; probes = sp.probes; runs = sp.runs })
 
-      said_there : said (socket_of q side) ≡ said (socket_of p side)
-      said_there = ap said it.own ∙ said_still
+      said_there : said_in q side ≡ said_in p side
+      said_there = ap (λ (k : ℕ). said k (socket_of q side)) (woken_mtu p side) ∙ (ap (said mtu) it.own ∙ said_still)
 
       had_more : had_in q side ≡ had_in p side + it.by
       had_more =
@@ -372,13 +384,13 @@ module _ (n : ℕ) (p : PairValue) (side : Side) (r : IsReached p) (s : BothStay
         steady_v : IsSteady v
         steady_v = subst IsSteady (sym (same_own p side)) before
 
-        quiet : resends w.block pair.addresses 1500 w.queued ≡ false
-        quiet = roused.again steady_v.resend steady_v.probes (has_text w.block pair.addresses 1500 w.queued)
+        quiet : resends w.block pair.addresses mtu w.queued ≡ false
+        quiet = roused.again steady_v.resend steady_v.probes (has_text w.block pair.addresses mtu w.queued)
 
-        size : HasSize w (text_choice w.block pair.addresses 1500 w.queued).len o
+        size : HasSize w (text_choice w.block pair.addresses mtu w.queued).len o
         size = by sp.size where
-          by : (resends w.block pair.addresses 1500 w.queued ≡ true) ⊎ HasSize w (text_choice w.block pair.addresses 1500 w.queued).len o →
-              HasSize w (text_choice w.block pair.addresses 1500 w.queued).len o
+          by : (resends w.block pair.addresses mtu w.queued ≡ true) ⊎ HasSize w (text_choice w.block pair.addresses mtu w.queued).len o →
+              HasSize w (text_choice w.block pair.addresses mtu w.queued).len o
           by (inl again) = clash (sym again ∙ quiet)
           by (inr it) = it
 
@@ -388,26 +400,27 @@ module _ (n : ℕ) (p : PairValue) (side : Side) (r : IsReached p) (s : BothStay
           by (inl timer) = inl (roused.slowed timer)
           by (inr shut) = inr (ap (λ (voice : Voice). voice.window) roused.voice ∙ shut)
 
-        len_is : (text_choice w.block pair.addresses 1500 w.queued).len ≡ said (socket_of p side)
+        len_is : (text_choice w.block pair.addresses mtu w.queued).len ≡ said_in p side
         len_is =
-            says_text (context_of y side then_at) w pair named_w (starts_y n p side r s m waits tries tries_on) sends_w
-            (again_y n p side r s m waits tries) (set n p side r s m waits tries).none (set n p side r s m waits tries).timer how
-            ∙ (sym (said_as w pair named_w) ∙ said_w)
+            subst (λ (k : ℕ). (text_choice w.block pair.addresses k w.queued).len ≡ says (voice_of pair.addresses k w.block) w.queued) (roused_mtu p side)
+            (says_text (context_of y side then_at) w pair named_w (starts_y n p side r s m waits tries tries_on) sends_w
+            (again_y n p side r s m waits tries) (set n p side r s m waits tries).none (set n p side r s m waits tries).timer how)
+            ∙ (sym (said_as mtu w pair named_w) ∙ said_w)
 
         -- it fits the buffer of the other, who has read all
-        fits : said (socket_of p side) ≤ free_in u
+        fits : said_in p side ≤ free_in u
         fits =
-            by (said (socket_of p side)) (says (voice_of pair.addresses 1500 w.block) w.queued) w.block.peer.window (length u.received.waiting) (free_in u)
-            (sym said_w ∙ said_as w pair named_w) (says_most (voice_of pair.addresses 1500 w.block) w.queued)
+            by (said_in p side) (says (voice_of pair.addresses mtu w.block) w.queued) w.block.peer.window (length u.received.waiting) (free_in u)
+            (sym said_w ∙ said_as mtu w pair named_w) (says_most (voice_of pair.addresses mtu w.block) w.queued)
             (reached_windows y side (reached_y n p side r s m waits tries)).window
             (ap (λ (z : TcpValue). length z.received.waiting) (roused_other p side) ∙ ap length (empty_after p side r))
           where
             by : (said says window waiting free : ℕ) → said ≡ says → says ≤ window → window ≤ waiting + free → waiting ≡ 0 → said ≤ free
             by said says window waiting free a b c d = omega arith
 
-        all_text : said (socket_of q side) ≤ had_in q side
+        all_text : said_in q side ≤ had_in q side
         all_text =
-            by (said (socket_of q side)) (said (socket_of p side)) (text_choice w.block pair.addresses 1500 w.queued).len (length (text_of w o))
+            by (said_in q side) (said_in p side) (text_choice w.block pair.addresses mtu w.queued).len (length (text_of w o))
             (distance_of o.segment.seq_number u.block.receiver.next) (free_in u) it.by (had_in p side) (had_in q side) said_there len_is size.least began
             fits it.all had_more
           where
@@ -416,9 +429,9 @@ module _ (n : ℕ) (p : PairValue) (side : Side) (r : IsReached p) (s : BothStay
             by new old len size start free more had all a b c d e f g = omega arith
 
         -- what was taken isn't new
-        not_new : said (socket_of p side) < had_in p side → ⊥
+        not_new : said_in p side < had_in p side → ⊥
         not_new less =
-            by (said (socket_of p side)) (text_choice w.block pair.addresses 1500 w.queued).len (segment_len o.segment (length (text_of w o)))
+            by (said_in p side) (text_choice w.block pair.addresses mtu w.queued).len (segment_len o.segment (length (text_of w o)))
             (distance_of o.segment.seq_number u.block.receiver.next) (had_in p side) len_is size.most it.new.ends began less
           where
             by : (said len size start had : ℕ) → len ≡ said → size ≤ suc len → start < size → start ≡ had → said < had → ⊥
@@ -434,7 +447,7 @@ module _ (n : ℕ) (p : PairValue) (side : Side) (r : IsReached p) (s : BothStay
             spent 1 two.0,
             (
               steady,
-              by (said (socket_of q side)) (said (socket_of p side)) (had_in p side) (had_in q side) it.by said_there two.1.1 had_more it.some,
+              by (said_in q side) (said_in p side) (had_in p side) (had_in q side) it.by said_there two.1.1 had_more it.some,
             ),
           )))
         where

@@ -6,7 +6,7 @@ use Rattle.tcp_model.specs.Offers.{offer_of}
 use Rattle.tcp_tie.specs.Pair.Values.{PairValue}
 use Rattle.tcp_tie.specs.declared.pair.event.Side.{Side}
 use Rattle.tcp_progress.specs.Exchange.{IsOpen}
-use Rattle.tcp_progress.specs.Pair.{context_of, left_in, socket_of}
+use Rattle.tcp_progress.specs.Pair.{context_of, left_in, mtu_of, socket_of}
 use Rattle.tcp_progress.specs.PutOff.{ProbesAt}
 use Rattle.tcp_progress.specs.Reached.{IsReached}
 use Rattle.tcp_progress.specs.Restart.{Sends}
@@ -26,7 +26,7 @@ probe_goes p side moment at r own owes goes none timer probes due =
     let named = named_in p side r own.synchronized in
     let sends : SendsOut (context_of p side moment) (socket_of p side) (offer_of (context_of p side moment) (socket_of p side)) =
     goes_then (context_of p side moment) (socket_of p side) named.0 named.1 (record { own = own; owes = owes; over = inl none; goes = goes })
-    (sends_there p side r own.synchronized own.acknowledged owes) (again_sent p side r own.acknowledged named.0.addresses 1500 (socket_of p side).queued)
+    (sends_there p side r own.synchronized own.acknowledged owes) (again_sent p side r own.acknowledged named.0.addresses (mtu_of p side) (socket_of p side).queued)
     none timer (reached_cwnd p side r) (inr (inr (λ _. ap is_some probes))) (λ _ _. ap (is_due moment) probes ∙ due)
     in
     record { o = sends.k; offered = sends.offered; kind = sends.kind; some = sends.some }

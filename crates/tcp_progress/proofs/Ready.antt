@@ -32,7 +32,7 @@ use Rattle.tcp_model.specs.Value.{TcpValue, Arrived, with_block, unoffered, ende
 use Rattle.tcp_model.specs.declared.block.Block.{Block}
 use Rattle.tcp_rules.specs.Names.{Names}
 use Rattle.tcp_tie.specs.Pair.Sides.{at}
-use Rattle.tcp_tie.specs.Pair.Values.{PairValue, new_pair}
+use Rattle.tcp_tie.specs.Pair.Values.{PairValue}
 use Rattle.tcp_tie.specs.declared.pair.event.Side.{Side}
 use Rattle.tcp_rules.proofs.ArrivalCases.{by_arrival, Received, Opening, Content, Drawing, acked_open, heeded}
 use Rattle.tcp_rules.proofs.ArrivalRules.{arrival_goes}
@@ -47,7 +47,7 @@ use Rattle.tcp_rules.specs.Events.Setting.{Timeout, KeepAlive, AckDelay, Nagle, 
 use Rattle.tcp_rules.specs.Flight.{flight_of, IsArmed}
 use Rattle.tcp_rules.specs.InOrder.{sending_of, IsInOrder}
 use Rattle.tcp_rules.specs.Waiting.{IsWaiting}
-use Rattle.tcp_progress.specs.Reached.{IsReached, Owes}
+use Rattle.tcp_progress.specs.Reached.{IsReached, Owes, both_started}
 use Rattle.tcp_progress.proofs.Events.{of_side, by_steps}
 use Rattle.tcp_model.specs.FirstNumbers.{number_for}
 use Rattle.tcp_model.specs.Timestamps.{stamp_taken}
@@ -289,8 +289,8 @@ new_ready room ring = record { order = new_order room ring; armed = nothing_out 
 pub ready_side : (p : PairValue) (side : Side) → IsReached p → IsReady (at p.sides side).socket
 ready_side p side r =
     of_side IsReady p.sides side
-    (by_steps IsReady event_ready unoffered_ready (new_pair (new_socket r.room_a r.ring_a) (new_socket r.room_b r.ring_b)) r.events p r.steps
-    (record { first = new_ready r.room_a r.ring_a; second = new_ready r.room_b r.ring_b }))
+    (by_steps IsReady event_ready unoffered_ready (both_started r.a r.b) r.events p r.steps
+    (record { first = new_ready r.a.room r.a.ring; second = new_ready r.b.room r.b.ring }))
 
 pub some_pair : (names : Option EndpointPair) → is_some names ≡ true → (pair : EndpointPair) × (names ≡ Some pair)
 some_pair None e = clash (sym e)

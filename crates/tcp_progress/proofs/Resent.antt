@@ -52,11 +52,11 @@ use Rattle.tcp_model.specs.Segments.{ack_segment, hops_of, keep_alive_segment, r
 use Rattle.tcp_model.specs.Settled.{end_of, nxt_moved, probed, recorded, resent, sent_as, settled, syn_went, timer_started, went}
 use Rattle.tcp_model.specs.Timestamps.{echo_taken, stamp_taken}
 use Rattle.tcp_model.specs.Undone.{undone}
-use Rattle.tcp_model.specs.Value.{TcpValue, Arrived, with_block, unoffered, ended, free_in, new_socket, queued_in, room_of, window_of}
-use Rattle.tcp_tie.specs.Pair.Values.{PairValue, new_pair}
+use Rattle.tcp_model.specs.Value.{TcpValue, Arrived, with_block, unoffered, ended, free_in, queued_in, room_of, window_of}
+use Rattle.tcp_tie.specs.Pair.Values.{PairValue}
 use Rattle.tcp_tie.specs.declared.pair.event.Side.{Side}
 use Rattle.tcp_progress.specs.Pair.{socket_of}
-use Rattle.tcp_progress.specs.Reached.{IsReached}
+use Rattle.tcp_progress.specs.Reached.{IsReached, both_started}
 use Rattle.tcp_progress.proofs.Events.{of_side, by_steps}
 use Rattle.tcp_progress.proofs.Leads.{IsLed, event_led, led_side, new_led, unoffered_led}
 
@@ -546,10 +546,10 @@ reached_again p side r =
     (of_side LedSent p.sides side
     (by_steps LedSent (λ v it h. record { led = event_led v it h.led; sent = event_sent v it h.led h.sent })
     (λ v h. record { led = unoffered_led v h.led; sent = h.sent })
-    (new_pair (new_socket r.room_a r.ring_a) (new_socket r.room_b r.ring_b)) r.events p r.steps
+    (both_started r.a r.b) r.events p r.steps
     (record {
-      first = record { led = new_led r.room_a r.ring_a; sent = none_sent 0 false };
-      second = record { led = new_led r.room_b r.ring_b; sent = none_sent 0 false };
+      first = record { led = new_led r.a.room r.a.ring; sent = none_sent 0 false };
+      second = record { led = new_led r.b.room r.b.ring; sent = none_sent 0 false };
     }))).sent
 
 -- what is to go again was sent

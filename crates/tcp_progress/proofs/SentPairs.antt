@@ -3,7 +3,6 @@ use Rattle.std.proofs.Common.{◌≡◌, ◌⊎◌, inl, inr, ℕ, suc, ◌+◌,
 use Rattle.std.proofs.Common.{length, None, refl, sym, ap, ◌∙◌, subst, arith, length-take}
 use Rattle.std.proofs.lemmas.Bool.{and_parts, ltb-true}
 use Rattle.std.proofs.lemmas.Bool.Decides.{nat_tests}
-use Rattle.net_base.specs.Ring.{Ring}
 use Rattle.ip_wire.specs.Seq.{distance_of}
 use Rattle.tcp_law.specs.Invariant.{IsInStep, IsSilent, HasReached}
 use Rattle.tcp_law.specs.Numbers.{wire}
@@ -21,21 +20,21 @@ use Rattle.tcp_tie.specs.Pair.History.{pasts, side_of, adds}
 use Rattle.tcp_tie.specs.Pair.Safe.{IsKept}
 use Rattle.tcp_tie.specs.Pair.Sides.{Both, at, put, other}
 use Rattle.tcp_tie.specs.Pair.Steps.{Steps, refusal, happens, acting, was_opened, if_so}
-use Rattle.tcp_model.specs.Value.{TcpValue, new_socket, room_of}
-use Rattle.tcp_tie.specs.Pair.Values.{PairSide, PairValue, new_pair, past_at, with_segments}
+use Rattle.tcp_model.specs.Value.{TcpValue, room_of}
+use Rattle.tcp_tie.specs.Pair.Values.{PairSide, PairValue, past_at, with_segments}
 use Rattle.tcp_tie.specs.declared.pair.event.PairEvent.{PairEvent}
 use Rattle.tcp_tie.specs.declared.pair.event.PairEvent.TheVariants.{Listen, Connect, Send, Recv, Close, Abort, TcpSetting, Offer, Deliver}
 use Rattle.tcp_tie.specs.declared.pair.event.PairRefused.TheVariants.{OpenedTwice, TooManyBytes}
 use Rattle.tcp_tie.specs.declared.pair.event.Side.{Side}
 use Rattle.tcp_tie.specs.declared.pair.event.Side.TheVariants.{A, B}
-use Rattle.tcp_tie.proofs.PairLaws.{new_is_kept, kept_after}
+use Rattle.tcp_tie.proofs.PairLaws.{kept_after}
 use Rattle.tcp_tie.proofs.SideLaws.{IsAllowed}
 use Rattle.tcp_progress.specs.Arrivals.{is_synchronized}
 use Rattle.tcp_progress.specs.Exchange.{IsOpen, TookWhatWasSent}
 use Rattle.tcp_progress.specs.Pair.{socket_of}
-use Rattle.tcp_progress.specs.Reached.{IsReached}
+use Rattle.tcp_progress.specs.Reached.{IsReached, Start, both_started}
 use Rattle.tcp_progress.specs.Sent.{sent_in, sent_past, KeepsSent, SendsAll, taken_in}
-use Rattle.tcp_progress.proofs.Kept.{keeps_of, reached_keeps}
+use Rattle.tcp_progress.proofs.Kept.{keeps_of, reached_keeps, started_kept}
 use Rattle.tcp_progress.proofs.Positions.{IsPlaced, placed, connected_in, lies_within, far}
 use Rattle.tcp_progress.proofs.SentEvents.{own, partners}
 use Rattle.tcp_progress.proofs.SentSteps.{is_sent, took_sent}
@@ -110,8 +109,8 @@ both_steps p [] new k b steps = subst (λ (p : PairValue). BothSend p.sides (pas
 both_steps p (event ∷ events) new k b steps =
     both_steps (happens p event).pair events new (kept_after p event k steps.0) (both_after p event k steps.0 b) steps.1
 
-new_sends : (a b : ℕ) (ring_a ring_b : Ring ℕ) → BothSend (new_pair (new_socket a ring_a) (new_socket b ring_b)).sides (pasts [])
-new_sends a b ring_a ring_b = record {
+new_sends : (a b : Start) → BothSend (both_started a b).sides (pasts [])
+new_sends a b = record {
   a = record { unopened = λ _. tt; early = λ _. tt; within = λ on. clash (sym on); keeps = λ on. clash (sym on) };
   b = record { unopened = λ _. tt; early = λ _. tt; within = λ on. clash (sym on); keeps = λ on. clash (sym on) };
 }
@@ -120,11 +119,7 @@ pub reached_sends : (p : PairValue) (side : Side) → IsReached p →
     SendsAll (socket_of p side) (past_at p side) (socket_of p (other side)) (past_at p (other side))
 reached_sends p side r =
     side_sends p.sides (pasts p.history) side
-    (both_steps (new_pair (new_socket r.room_a r.ring_a) (new_socket r.room_b r.ring_b)) r.events p
-    (new_is_kept (new_socket r.room_a r.ring_a) (new_socket r.room_b r.ring_b)
-    (record { state = refl; waiting = refl; queue = refl; unfinished = refl })
-    (record { state = refl; waiting = refl; queue = refl; unfinished = refl }))
-    (new_sends r.room_a r.room_b r.ring_a r.ring_b) r.steps)
+    (both_steps (both_started r.a r.b) r.events p (started_kept r.a r.b) (new_sends r.a r.b) r.steps)
 
 -- WHAT WAS TAKEN
 

@@ -120,7 +120,7 @@ pub record Heard (v w : TcpValue) : Type 0 where
 
 -- a caller and a listener that it calls
 pub record MayCall (cx : ContextValue) (v w : TcpValue) : Type 0 where
-  pub mtu : cx.ip_mtu ≡ 1500
+  pub mtu : 60 < cx.ip_mtu
   pub calls : v.block.state ≡ In.SynSent
   pub listens : w.block.state ≡ In.Listen
   pub own : EndpointPair
@@ -137,7 +137,7 @@ pub record MayCall (cx : ContextValue) (v w : TcpValue) : Type 0 where
 
 -- the SYN of a caller goes
 pub call_goes :
-    (cx : ContextValue) (v : TcpValue) (own : EndpointPair) → cx.ip_mtu ≡ 1500 → v.block.state ≡ In.SynSent → v.block.names.pair ≡ Some own
+    (cx : ContextValue) (v : TcpValue) (own : EndpointPair) → 60 < cx.ip_mtu → v.block.state ≡ In.SynSent → v.block.names.pair ≡ Some own
     → StartsOver cx v → GoesOn cx v → v.block.sender.syn_unacked ≡ true → SynGoes v (offer_of cx v)
 call_goes cx v own mtu calls named over goes syn_unacked =
     syn_goes cx v mtu goes (ap (λ (state : State). sends_syn state && not (is_answering state && v.block.settings.synack_paused)) calls) syn_unacked over own
@@ -238,7 +238,7 @@ none_left n e = omega arith
 
 -- a side in SYN-RECEIVED answers, or does so again
 pub answer_goes :
-    (cx : ContextValue) (w : TcpValue) (own : EndpointPair) → cx.ip_mtu ≡ 1500 → w.block.names.pair ≡ Some own → AnswersOn w.block → StartsOver cx w
+    (cx : ContextValue) (w : TcpValue) (own : EndpointPair) → 60 < cx.ip_mtu → w.block.names.pair ≡ Some own → AnswersOn w.block → StartsOver cx w
     → w.block.sender.syn_unacked ≡ true → SynGoes w (offer_of cx w)
 answer_goes cx w own mtu named on over syn_unacked =
     syn_goes cx w mtu (answering_goes_on cx w on.timeout on.answers on.tries)
@@ -258,7 +258,7 @@ pub acks_by : (w : TcpValue) (number : Option SeqNumber) → number ≡ next_if_
     number ≡ Some w.block.receiver.next
 acks_by w number is took = is ∙ ap (λ (took : Bool). if took then Some w.block.receiver.next else None) took
 
-module _ (cx cy : ContextValue) (v w : TcpValue) (mtu : cx.ip_mtu ≡ 1500) (c : Heard v w) (over : StartsOver cx w) (f : IsFresh v) where
+module _ (cx cy : ContextValue) (v w : TcpValue) (mtu : 60 < cx.ip_mtu) (c : Heard v w) (over : StartsOver cx w) (f : IsFresh v) where
   pub answer : SynGoes w (offer_of cx w)
   answer = answer_goes cx w c.mirrored.theirs mtu c.mirrored.partner_named c.answerer over c.syn_unacked
 
@@ -350,7 +350,7 @@ pub record Asking (w v : TcpValue) : Type 0 where
   pub near : distance_of w.block.receiver.next (top v.block) < 2 ^ 31
   pub space : HasSpace w v
 
-module _ (cx cy : ContextValue) (w v : TcpValue) (mtu : cx.ip_mtu ≡ 1500) (c : Asking w v) (over : StartsOver cx w) where
+module _ (cx cy : ContextValue) (w v : TcpValue) (mtu : 60 < cx.ip_mtu) (c : Asking w v) (over : StartsOver cx w) where
   pub question : SynGoes w (offer_of cx w)
   question = answer_goes cx w c.mirrored.own mtu c.mirrored.named c.answerer over c.syn_unacked
 

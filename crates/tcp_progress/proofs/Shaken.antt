@@ -23,7 +23,7 @@ use Rattle.tcp_tie.specs.Pair.Sides.{at, other}
 use Rattle.tcp_tie.specs.Pair.Steps.{handed, refusal, taken_at}
 use Rattle.tcp_model.specs.Timestamps.{is_stale}
 use Rattle.tcp_model.specs.Value.{TcpValue, Arrived}
-use Rattle.tcp_tie.specs.Pair.Values.{PairSide, PairValue, and_offer, and_reply, context_at, past_at}
+use Rattle.tcp_tie.specs.Pair.Values.{HoldsText, PairSide, PairValue, and_offer, and_reply, context_at, past_at}
 use Rattle.tcp_tie.specs.declared.pair.event.PairEvent.TheVariants.{Offer}
 use Rattle.tcp_tie.specs.declared.pair.event.SentSegment.{SentSegment}
 use Rattle.tcp_tie.specs.declared.pair.event.Side.{Side}
@@ -39,6 +39,7 @@ use Rattle.tcp_progress.specs.Pair.{context_of, exchanged_in, has_heard, next_se
 use Rattle.tcp_progress.specs.Reached.{IsReached}
 use Rattle.tcp_progress.specs.Rounds.{comes, takes}
 use Rattle.tcp_progress.proofs.Exchange.{last_of}
+use Rattle.tcp_progress.proofs.Hosts.{reached_holds}
 use Rattle.tcp_progress.proofs.Kept.{reached_keeps}
 use Rattle.tcp_progress.proofs.Led.{by_answer, by_two, one_more, within}
 use Rattle.tcp_progress.proofs.Mirrored.{connected_mirrored, mirrored_back}
@@ -207,7 +208,7 @@ pub may_call : (p : PairValue) (side : Side) (first second third : ℤ) → IsRe
 may_call p side first second third r m =
     let f = asking p side r m.calls in
     record {
-      mtu = refl;
+      mtu = reached_holds p side r;
       calls = m.calls;
       listens = m.listens;
       own = m.own;
@@ -306,7 +307,7 @@ module _ (side : Side) (s r : PairSide) (first : ℤ) (m : MayCall (context_at s
 -- ITS ANSWER, AND THE ACKNOWLEDGEMENT OF THAT
 
 -- `s` is the side that calls
-module _ (side : Side) (s r : PairSide) (second third : ℤ) (h : Heard s.socket r.socket)
+module _ (side : Side) (s r : PairSide) (second third : ℤ) (holds : HoldsText r.host) (h : Heard s.socket r.socket)
     (over : StartsOver (context_at (other side) (record r { moment = second })) r.socket) (f : IsFresh s.socket) where
   abbrev pub cx2 : ContextValue
   cx2 = context_at (other side) (record r { moment = second })
@@ -315,7 +316,7 @@ module _ (side : Side) (s r : PairSide) (second third : ℤ) (h : Heard s.socket
   cy2 = context_at (other (other side)) s
 
   abbrev pub k2 : OpenOffer
-  k2 = (answer cx2 cy2 s.socket r.socket refl h over f).k
+  k2 = (answer cx2 cy2 s.socket r.socket holds h over f).k
 
   abbrev pub bytes2 : List ℕ
   bytes2 = payload_of k2 k2.kind (offer_of cx2 r.socket).socket.queued.queue
@@ -328,12 +329,12 @@ module _ (side : Side) (s r : PairSide) (second third : ℤ) (h : Heard s.socket
 
   pub came2 : Comes (other side) r s second k2 bytes2
   came2 =
-      comes_over (other side) r s second k2 bytes2 (answer cx2 cy2 s.socket r.socket refl h over f).offered refl
-      (caller_accepts cx2 cy2 s.socket r.socket refl h over f)
+      comes_over (other side) r s second k2 bytes2 (answer cx2 cy2 s.socket r.socket holds h over f).offered refl
+      (caller_accepts cx2 cy2 s.socket r.socket holds h over f)
 
   pub after_answer : Answered s.moment s2.socket r2.socket
   after_answer =
-      subst (λ (v : TcpValue). Answered s.moment v r2.socket) (sym came2.socket) (answered cx2 cy2 s.socket r.socket refl h over f bytes2)
+      subst (λ (v : TcpValue). Answered s.moment v r2.socket) (sym came2.socket) (answered cx2 cy2 s.socket r.socket holds h over f bytes2)
 
   module _ (later : is_due third (Some s.moment) ≡ true) (small : s2.socket.block.sender.una.0 < 2 ^ 32)
       (partner_small : r2.socket.block.sender.una.0 < 2 ^ 32) where
@@ -363,15 +364,18 @@ module _ (side : Side) (s r : PairSide) (second third : ℤ) (h : Heard s.socket
 
 module _ (p : PairValue) (second third : ℤ) (r : IsReached p) where
   module _ (m : MayAnswer p A second third) where
+    pub holds_a : HoldsText p.sides.b.host
+    holds_a = reached_holds p B r
+
     pub heard_a : Heard p.sides.a.socket p.sides.b.socket
     heard_a = heard_in p A r m.unanswered
 
     pub fresh_a : IsFresh p.sides.a.socket
     fresh_a = fresh_of p A r m.unanswered.calls
 
-    pub answer_a : Comes B p.sides.b p.sides.a second (k2 A p.sides.a p.sides.b second third heard_a m.over fresh_a)
-        (bytes2 A p.sides.a p.sides.b second third heard_a m.over fresh_a)
-    answer_a = came2 A p.sides.a p.sides.b second third heard_a m.over fresh_a
+    pub answer_a : Comes B p.sides.b p.sides.a second (k2 A p.sides.a p.sides.b second third holds_a heard_a m.over fresh_a)
+        (bytes2 A p.sides.a p.sides.b second third holds_a heard_a m.over fresh_a)
+    answer_a = came2 A p.sides.a p.sides.b second third holds_a heard_a m.over fresh_a
 
     pub a2 : IsReached (offered_in p B second)
     a2 = reach p B second _ r m.at_second answer_a.sent
@@ -381,25 +385,25 @@ module _ (p : PairValue) (second third : ℤ) (r : IsReached p) where
         subst (λ (t : ℤ). is_due third (Some t) ≡ true) answer_a.clock (comes_later (offered_in p B second).sides.a.moment third m.at_third)
 
     pub timely_a :
-        (small : (s2 A p.sides.a p.sides.b second third heard_a m.over fresh_a).socket.block.sender.una.0 < 2 ^ 32)
-        (partner_small : (r2 A p.sides.a p.sides.b second third heard_a m.over fresh_a).socket.block.sender.una.0 < 2 ^ 32)
-        → IsFreshAck A p.sides.a p.sides.b second third heard_a m.over fresh_a later_a small partner_small
+        (small : (s2 A p.sides.a p.sides.b second third holds_a heard_a m.over fresh_a).socket.block.sender.una.0 < 2 ^ 32)
+        (partner_small : (r2 A p.sides.a p.sides.b second third holds_a heard_a m.over fresh_a).socket.block.sender.una.0 < 2 ^ 32)
+        → IsFreshAck A p.sides.a p.sides.b second third holds_a heard_a m.over fresh_a later_a small partner_small
     timely_a small partner_small = by m.stamps where
       now : ℤ
-      now = (cy3 A p.sides.a p.sides.b second third heard_a m.over fresh_a later_a small partner_small).moment
+      now = (cy3 A p.sides.a p.sides.b second third holds_a heard_a m.over fresh_a later_a small partner_small).moment
 
-      by : IsTimely p A third → IsFreshAck A p.sides.a p.sides.b second third heard_a m.over fresh_a later_a small partner_small
+      by : IsTimely p A third → IsFreshAck A p.sides.a p.sides.b second third holds_a heard_a m.over fresh_a later_a small partner_small
       by (inl none) =
-          unstamped (cx2 A p.sides.a p.sides.b second third heard_a m.over fresh_a) p.sides.b.socket
-          (answer (cx2 A p.sides.a p.sides.b second third heard_a m.over fresh_a) (cy2 A p.sides.a p.sides.b second third heard_a m.over fresh_a)
-          p.sides.a.socket p.sides.b.socket refl heard_a m.over fresh_a)
-          none (k3 A p.sides.a p.sides.b second third heard_a m.over fresh_a later_a small partner_small).segment now
+          unstamped (cx2 A p.sides.a p.sides.b second third holds_a heard_a m.over fresh_a) p.sides.b.socket
+          (answer (cx2 A p.sides.a p.sides.b second third holds_a heard_a m.over fresh_a) (cy2 A p.sides.a p.sides.b second third holds_a heard_a m.over fresh_a)
+          p.sides.a.socket p.sides.b.socket holds_a heard_a m.over fresh_a)
+          none (k3 A p.sides.a p.sides.b second third holds_a heard_a m.over fresh_a later_a small partner_small).segment now
       by (inr d) =
-          ack_timely p A second third now (k3 A p.sides.a p.sides.b second third heard_a m.over fresh_a later_a small partner_small) a2 m.at_third d
-          (last (cx3 A p.sides.a p.sides.b second third heard_a m.over fresh_a later_a small partner_small)
-          (cy3 A p.sides.a p.sides.b second third heard_a m.over fresh_a later_a small partner_small)
-          (s2 A p.sides.a p.sides.b second third heard_a m.over fresh_a).socket (r2 A p.sides.a p.sides.b second third heard_a m.over fresh_a).socket
-          p.sides.a.moment (after_answer A p.sides.a p.sides.b second third heard_a m.over fresh_a) later_a small partner_small).offered
+          ack_timely p A second third now (k3 A p.sides.a p.sides.b second third holds_a heard_a m.over fresh_a later_a small partner_small) a2 m.at_third d
+          (last (cx3 A p.sides.a p.sides.b second third holds_a heard_a m.over fresh_a later_a small partner_small)
+          (cy3 A p.sides.a p.sides.b second third holds_a heard_a m.over fresh_a later_a small partner_small)
+          (s2 A p.sides.a p.sides.b second third holds_a heard_a m.over fresh_a).socket (r2 A p.sides.a p.sides.b second third holds_a heard_a m.over fresh_a).socket
+          p.sides.a.moment (after_answer A p.sides.a p.sides.b second third holds_a heard_a m.over fresh_a) later_a small partner_small).offered
 
     answered_a : AreConnected (acked_in p A second third) A
     answered_a =
@@ -407,20 +411,23 @@ module _ (p : PairValue) (second third : ℤ) (r : IsReached p) where
         let partner_small = una_of (offered_in p B second) B a2 in
         let a3 =
         reach (offered_in p B second) A third _ a2 m.at_third
-        (came3 A p.sides.a p.sides.b second third heard_a m.over fresh_a later_a small partner_small).sent in
-        let o = after_ack A p.sides.a p.sides.b second third heard_a m.over fresh_a later_a small partner_small (timely_a small partner_small) in
+        (came3 A p.sides.a p.sides.b second third holds_a heard_a m.over fresh_a later_a small partner_small).sent in
+        let o = after_ack A p.sides.a p.sides.b second third holds_a heard_a m.over fresh_a later_a small partner_small (timely_a small partner_small) in
         connected_in (acked_in p A second third) A a3 (record { own = o.own; theirs = o.theirs; una = o.una; partner_una = o.partner_una })
 
   module _ (m : MayAnswer p B second third) where
+    pub holds_b : HoldsText p.sides.a.host
+    holds_b = reached_holds p A r
+
     pub heard_b : Heard p.sides.b.socket p.sides.a.socket
     heard_b = heard_in p B r m.unanswered
 
     pub fresh_b : IsFresh p.sides.b.socket
     fresh_b = fresh_of p B r m.unanswered.calls
 
-    pub answer_b : Comes A p.sides.a p.sides.b second (k2 B p.sides.b p.sides.a second third heard_b m.over fresh_b)
-        (bytes2 B p.sides.b p.sides.a second third heard_b m.over fresh_b)
-    answer_b = came2 B p.sides.b p.sides.a second third heard_b m.over fresh_b
+    pub answer_b : Comes A p.sides.a p.sides.b second (k2 B p.sides.b p.sides.a second third holds_b heard_b m.over fresh_b)
+        (bytes2 B p.sides.b p.sides.a second third holds_b heard_b m.over fresh_b)
+    answer_b = came2 B p.sides.b p.sides.a second third holds_b heard_b m.over fresh_b
 
     pub b2 : IsReached (offered_in p A second)
     b2 = reach p A second _ r m.at_second answer_b.sent
@@ -430,25 +437,25 @@ module _ (p : PairValue) (second third : ℤ) (r : IsReached p) where
         subst (λ (t : ℤ). is_due third (Some t) ≡ true) answer_b.clock (comes_later (offered_in p A second).sides.b.moment third m.at_third)
 
     pub timely_b :
-        (small : (s2 B p.sides.b p.sides.a second third heard_b m.over fresh_b).socket.block.sender.una.0 < 2 ^ 32)
-        (partner_small : (r2 B p.sides.b p.sides.a second third heard_b m.over fresh_b).socket.block.sender.una.0 < 2 ^ 32)
-        → IsFreshAck B p.sides.b p.sides.a second third heard_b m.over fresh_b later_b small partner_small
+        (small : (s2 B p.sides.b p.sides.a second third holds_b heard_b m.over fresh_b).socket.block.sender.una.0 < 2 ^ 32)
+        (partner_small : (r2 B p.sides.b p.sides.a second third holds_b heard_b m.over fresh_b).socket.block.sender.una.0 < 2 ^ 32)
+        → IsFreshAck B p.sides.b p.sides.a second third holds_b heard_b m.over fresh_b later_b small partner_small
     timely_b small partner_small = by m.stamps where
       now : ℤ
-      now = (cy3 B p.sides.b p.sides.a second third heard_b m.over fresh_b later_b small partner_small).moment
+      now = (cy3 B p.sides.b p.sides.a second third holds_b heard_b m.over fresh_b later_b small partner_small).moment
 
-      by : IsTimely p B third → IsFreshAck B p.sides.b p.sides.a second third heard_b m.over fresh_b later_b small partner_small
+      by : IsTimely p B third → IsFreshAck B p.sides.b p.sides.a second third holds_b heard_b m.over fresh_b later_b small partner_small
       by (inl none) =
-          unstamped (cx2 B p.sides.b p.sides.a second third heard_b m.over fresh_b) p.sides.a.socket
-          (answer (cx2 B p.sides.b p.sides.a second third heard_b m.over fresh_b) (cy2 B p.sides.b p.sides.a second third heard_b m.over fresh_b)
-          p.sides.b.socket p.sides.a.socket refl heard_b m.over fresh_b)
-          none (k3 B p.sides.b p.sides.a second third heard_b m.over fresh_b later_b small partner_small).segment now
+          unstamped (cx2 B p.sides.b p.sides.a second third holds_b heard_b m.over fresh_b) p.sides.a.socket
+          (answer (cx2 B p.sides.b p.sides.a second third holds_b heard_b m.over fresh_b) (cy2 B p.sides.b p.sides.a second third holds_b heard_b m.over fresh_b)
+          p.sides.b.socket p.sides.a.socket holds_b heard_b m.over fresh_b)
+          none (k3 B p.sides.b p.sides.a second third holds_b heard_b m.over fresh_b later_b small partner_small).segment now
       by (inr d) =
-          ack_timely p B second third now (k3 B p.sides.b p.sides.a second third heard_b m.over fresh_b later_b small partner_small) b2 m.at_third d
-          (last (cx3 B p.sides.b p.sides.a second third heard_b m.over fresh_b later_b small partner_small)
-          (cy3 B p.sides.b p.sides.a second third heard_b m.over fresh_b later_b small partner_small)
-          (s2 B p.sides.b p.sides.a second third heard_b m.over fresh_b).socket (r2 B p.sides.b p.sides.a second third heard_b m.over fresh_b).socket
-          p.sides.b.moment (after_answer B p.sides.b p.sides.a second third heard_b m.over fresh_b) later_b small partner_small).offered
+          ack_timely p B second third now (k3 B p.sides.b p.sides.a second third holds_b heard_b m.over fresh_b later_b small partner_small) b2 m.at_third d
+          (last (cx3 B p.sides.b p.sides.a second third holds_b heard_b m.over fresh_b later_b small partner_small)
+          (cy3 B p.sides.b p.sides.a second third holds_b heard_b m.over fresh_b later_b small partner_small)
+          (s2 B p.sides.b p.sides.a second third holds_b heard_b m.over fresh_b).socket (r2 B p.sides.b p.sides.a second third holds_b heard_b m.over fresh_b).socket
+          p.sides.b.moment (after_answer B p.sides.b p.sides.a second third holds_b heard_b m.over fresh_b) later_b small partner_small).offered
 
     answered_b : AreConnected (acked_in p B second third) B
     answered_b =
@@ -456,8 +463,8 @@ module _ (p : PairValue) (second third : ℤ) (r : IsReached p) where
         let partner_small = una_of (offered_in p A second) A b2 in
         let b3 =
         reach (offered_in p A second) B third _ b2 m.at_third
-        (came3 B p.sides.b p.sides.a second third heard_b m.over fresh_b later_b small partner_small).sent in
-        let o = after_ack B p.sides.b p.sides.a second third heard_b m.over fresh_b later_b small partner_small (timely_b small partner_small) in
+        (came3 B p.sides.b p.sides.a second third holds_b heard_b m.over fresh_b later_b small partner_small).sent in
+        let o = after_ack B p.sides.b p.sides.a second third holds_b heard_b m.over fresh_b later_b small partner_small (timely_b small partner_small) in
         connected_in (acked_in p B second third) B b3 (record { own = o.own; theirs = o.theirs; una = o.una; partner_una = o.partner_una })
 
 pub answers_on : (p : PairValue) (side : Side) (second third : ℤ) → IsReached p → MayAnswer p side second third → AreConnected (acked_in p side second third) side

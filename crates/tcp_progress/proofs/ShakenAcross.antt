@@ -23,7 +23,7 @@ use Rattle.tcp_model.specs.Settled.{settled}
 use Rattle.tcp_tie.specs.Pair.Sides.{at, other}
 use Rattle.tcp_tie.specs.Pair.Steps.{handed, if_so as refused_if}
 use Rattle.tcp_model.specs.Value.{Arrived, TcpValue, room_of}
-use Rattle.tcp_tie.specs.Pair.Values.{PairSide, PairValue, and_reply, context_at}
+use Rattle.tcp_tie.specs.Pair.Values.{HoldsText, PairSide, PairValue, and_reply, context_at}
 use Rattle.tcp_tie.specs.declared.pair.event.PairEvent.TheVariants.{Deliver, Offer}
 use Rattle.tcp_tie.specs.declared.pair.event.PairRefused.TheVariants.{NoSegment}
 use Rattle.tcp_tie.specs.declared.pair.event.SentSegment.{SentSegment}
@@ -36,6 +36,7 @@ use Rattle.tcp_progress.specs.HandshakeOn.{AnswersOn, CallsAcross, HasCrossed, H
 use Rattle.tcp_progress.specs.Pair.{AreMirrored, context_of, exchanged_in, has_heard, next_sent, offered_in, socket_of}
 use Rattle.tcp_progress.specs.Reached.{IsReached}
 use Rattle.tcp_progress.proofs.Crossed.{Crosses, Draws, answering_draws, crosses}
+use Rattle.tcp_progress.proofs.Hosts.{reached_holds}
 use Rattle.tcp_progress.proofs.Kept.{reached_by, reached_keeps}
 use Rattle.tcp_progress.proofs.Led.{within}
 use Rattle.tcp_progress.proofs.Mirrored.{reached_mirrored, turned}
@@ -95,7 +96,7 @@ may_first : (now : ℤ) (from : Option ℤ) → from ≡ None → may_draw now f
 may_first now from none = ap (may_draw now) none
 
 -- `s` asks again
-module _ (side : Side) (s r : PairSide) (moment : ℤ) (c : Asking s.socket r.socket)
+module _ (side : Side) (s r : PairSide) (moment : ℤ) (holds : HoldsText s.host) (c : Asking s.socket r.socket)
     (over : StartsOver (context_at side (record s { moment = moment })) s.socket) (at : r.socket.block.state ≡ In.SynReceived)
     (theirs : s.socket.block.receiver.next ≡ behind_by r.socket.block.sender.una 1) (small : r.socket.block.sender.una.0 < 2 ^ 32)
     (undrawn : r.socket.block.timers.draws_from ≡ None) where
@@ -106,23 +107,23 @@ module _ (side : Side) (s r : PairSide) (moment : ℤ) (c : Asking s.socket r.so
   later = ap is_listening at
 
   abbrev asks : SynGoes s.socket (offer_of (context_at side (record s { moment = moment })) s.socket)
-  asks = again side s r moment c over
+  asks = again side s r moment holds c over
 
-  pub draws_it : Draws r.socket (arrives (ay side s r moment c over) r.socket asks.k.header asks.k.segment (text side s r moment c over))
+  pub draws_it : Draws r.socket (arrives (ay side s r moment holds c over) r.socket asks.k.header asks.k.segment (text side s r moment holds c over))
   draws_it =
-      answering_draws (ay side s r moment c over) r.socket asks.k.header asks.k.segment (text side s r moment c over) asks.control at
+      answering_draws (ay side s r moment holds c over) r.socket asks.k.header asks.k.segment (text side s r moment holds c over) asks.control at
       s.socket.block.receiver.next
-      (asks_number (context_at side (record s { moment = moment })) (ay side s r moment c over) s.socket r.socket refl c over)
+      (asks_number (context_at side (record s { moment = moment })) (ay side s r moment holds c over) s.socket r.socket holds c over)
       (ap (distance_of r.socket.block.sender.una) theirs ∙ one_past r.socket.block.sender.una.0 small)
       (c.took ∙ ap (λ (n : SeqNumber). behind_by n 1) (sym asks.number)) (subst (λ (n : SeqNumber). n.0 < 2 ^ 32) (sym asks.number) c.small)
-      (no_text side s r moment c over) asks.named (may_first (ay side s r moment c over).moment r.socket.block.timers.draws_from undrawn)
+      (no_text side s r moment holds c over) asks.named (may_first (ay side s r moment holds c over).moment r.socket.block.timers.draws_from undrawn)
 
 pub meets : (p : PairValue) (side : Side) (moment fourth : ℤ) → IsReached p → MayMeet p side moment fourth → Meets p side moment
 meets p A moment fourth r m = record {
-  leads = exchange_reached p A moment (reach p A moment _ r m.at_third (goes_there A s t moment c m.over up lasts d).sent) answered;
+  leads = exchange_reached p A moment (reach p A moment _ r m.at_third (goes_there A s t moment holds c m.over up lasts d).sent) answered;
   sockets =
       subst (λ (q : PairValue). Confirmed s.socket t.socket (socket_of q A) (socket_of q B)) (sym (exchange_is p A moment answered))
-      (confirmed A s t moment c m.over up lasts d timely);
+      (confirmed A s t moment holds c m.over up lasts d timely);
 }
   where
     s : PairSide
@@ -130,6 +131,9 @@ meets p A moment fourth r m = record {
 
     t : PairSide
     t = p.sides.b
+
+    holds : HoldsText s.host
+    holds = reached_holds p A r
 
     theirs : IsAnswering t.socket
     theirs = answering_in p B r m.theirs.answerer.answers
@@ -141,31 +145,31 @@ meets p A moment fourth r m = record {
         (answering_in p A r m.own.answerer.answers) m.theirs.took m.own.took m.theirs.sent
 
     up : is_closed t.socket.block.state ≡ false
-    up = alive A s t moment c m.over m.theirs.answerer.answers m.own.took theirs.small m.theirs.undrawn
+    up = alive A s t moment holds c m.over m.theirs.answerer.answers m.own.took theirs.small m.theirs.undrawn
 
     lasts : is_listening t.socket.block.state ≡ false
-    lasts = later A s t moment c m.over m.theirs.answerer.answers m.own.took theirs.small m.theirs.undrawn
+    lasts = later A s t moment holds c m.over m.theirs.answerer.answers m.own.took theirs.small m.theirs.undrawn
 
-    d : Draws t.socket (arrives (ay A s t moment c m.over) t.socket (again A s t moment c m.over).k.header (again A s t moment c m.over).k.segment
-        (text A s t moment c m.over))
-    d = draws_it A s t moment c m.over m.theirs.answerer.answers m.own.took theirs.small m.theirs.undrawn
+    d : Draws t.socket (arrives (ay A s t moment holds c m.over) t.socket (again A s t moment holds c m.over).k.header (again A s t moment holds c m.over).k.segment
+        (text A s t moment holds c m.over))
+    d = draws_it A s t moment holds c m.over m.theirs.answerer.answers m.own.took theirs.small m.theirs.undrawn
 
-    timely : IsFreshReply A s t moment c m.over up lasts d
+    timely : IsFreshReply A s t moment holds c m.over up lasts d
     timely = by m.stamps where
-      by : IsTimely p B (at p.sides B).moment → IsFreshReply A s t moment c m.over up lasts d
+      by : IsTimely p B (at p.sides B).moment → IsFreshReply A s t moment holds c m.over up lasts d
       by (inl none) =
-          unstamped (ax A s t moment c m.over) s.socket (again A s t moment c m.over) none d.reply.segment (ax A s t moment c m.over).moment
+          unstamped (ax A s t moment holds c m.over) s.socket (again A s t moment holds c m.over) none d.reply.segment (ax A s t moment holds c m.over).moment
       by (inr days) =
-          reply_timely p A moment (ax A s t moment c m.over).moment (again A s t moment c m.over).k.header (again A s t moment c m.over).k.segment
-          (text A s t moment c m.over) d.reply r m.at_third days d.answer
+          reply_timely p A moment (ax A s t moment holds c m.over).moment (again A s t moment holds c m.over).k.header (again A s t moment holds c m.over).k.segment
+          (text A s t moment holds c m.over) d.reply r m.at_third days d.answer
 
     answered : next_sent (offered_in p A moment) B - next_sent p B ≡ 1
-    answered = one A s t moment c m.over up lasts d
+    answered = one A s t moment holds c m.over up lasts d
 meets p B moment fourth r m = record {
-  leads = exchange_reached p B moment (reach p B moment _ r m.at_third (goes_there B s t moment c m.over up lasts d).sent) answered;
+  leads = exchange_reached p B moment (reach p B moment _ r m.at_third (goes_there B s t moment holds c m.over up lasts d).sent) answered;
   sockets =
       subst (λ (q : PairValue). Confirmed s.socket t.socket (socket_of q B) (socket_of q A)) (sym (exchange_is p B moment answered))
-      (confirmed B s t moment c m.over up lasts d timely);
+      (confirmed B s t moment holds c m.over up lasts d timely);
 }
   where
     s : PairSide
@@ -173,6 +177,9 @@ meets p B moment fourth r m = record {
 
     t : PairSide
     t = p.sides.a
+
+    holds : HoldsText s.host
+    holds = reached_holds p B r
 
     theirs : IsAnswering t.socket
     theirs = answering_in p A r m.theirs.answerer.answers
@@ -184,26 +191,26 @@ meets p B moment fourth r m = record {
         (answering_in p B r m.own.answerer.answers) m.theirs.took m.own.took m.theirs.sent
 
     up : is_closed t.socket.block.state ≡ false
-    up = alive B s t moment c m.over m.theirs.answerer.answers m.own.took theirs.small m.theirs.undrawn
+    up = alive B s t moment holds c m.over m.theirs.answerer.answers m.own.took theirs.small m.theirs.undrawn
 
     lasts : is_listening t.socket.block.state ≡ false
-    lasts = later B s t moment c m.over m.theirs.answerer.answers m.own.took theirs.small m.theirs.undrawn
+    lasts = later B s t moment holds c m.over m.theirs.answerer.answers m.own.took theirs.small m.theirs.undrawn
 
-    d : Draws t.socket (arrives (ay B s t moment c m.over) t.socket (again B s t moment c m.over).k.header (again B s t moment c m.over).k.segment
-        (text B s t moment c m.over))
-    d = draws_it B s t moment c m.over m.theirs.answerer.answers m.own.took theirs.small m.theirs.undrawn
+    d : Draws t.socket (arrives (ay B s t moment holds c m.over) t.socket (again B s t moment holds c m.over).k.header (again B s t moment holds c m.over).k.segment
+        (text B s t moment holds c m.over))
+    d = draws_it B s t moment holds c m.over m.theirs.answerer.answers m.own.took theirs.small m.theirs.undrawn
 
-    timely : IsFreshReply B s t moment c m.over up lasts d
+    timely : IsFreshReply B s t moment holds c m.over up lasts d
     timely = by m.stamps where
-      by : IsTimely p A (at p.sides A).moment → IsFreshReply B s t moment c m.over up lasts d
+      by : IsTimely p A (at p.sides A).moment → IsFreshReply B s t moment holds c m.over up lasts d
       by (inl none) =
-          unstamped (ax B s t moment c m.over) s.socket (again B s t moment c m.over) none d.reply.segment (ax B s t moment c m.over).moment
+          unstamped (ax B s t moment holds c m.over) s.socket (again B s t moment holds c m.over) none d.reply.segment (ax B s t moment holds c m.over).moment
       by (inr days) =
-          reply_timely p B moment (ax B s t moment c m.over).moment (again B s t moment c m.over).k.header (again B s t moment c m.over).k.segment
-          (text B s t moment c m.over) d.reply r m.at_third days d.answer
+          reply_timely p B moment (ax B s t moment holds c m.over).moment (again B s t moment holds c m.over).k.header (again B s t moment holds c m.over).k.segment
+          (text B s t moment holds c m.over) d.reply r m.at_third days d.answer
 
     answered : next_sent (offered_in p B moment) A - next_sent p A ≡ 1
-    answered = one B s t moment c m.over up lasts d
+    answered = one B s t moment holds c m.over up lasts d
 
 -- THE SECOND EXCHANGE
 
@@ -310,7 +317,8 @@ pub record CrossedBoth (s r s_new r_new : TcpValue) : Type 0 where
   pub their_limit : r_new.block.settings.retries ≡ r.block.settings.retries
 
 -- `s` goes first
-module _ (side : Side) (s r : PairSide) (first second : ℤ) (a : CallsAcross s.socket.block) (b : CallsAcross r.socket.block)
+module _ (side : Side) (s r : PairSide) (first second : ℤ) (holds : HoldsText s.host) (they_hold : HoldsText r.host)
+    (a : CallsAcross s.socket.block) (b : CallsAcross r.socket.block)
     (mirrored : AreMirrored s.socket.block r.socket.block) (over : StartsOver (context_at side (record s { moment = first })) s.socket)
     (goes : GoesOn (context_at side (record s { moment = first })) s.socket)
     (their_over : StartsOver (context_at (other side) (record r { moment = second })) r.socket)
@@ -325,10 +333,10 @@ module _ (side : Side) (s r : PairSide) (first second : ℤ) (a : CallsAcross s.
   cy = context_at (other side) (record r { moment = second })
 
   pub call : SynGoes s.socket (offer_of cx s.socket)
-  call = call_goes cx s.socket mirrored.own refl a.calls mirrored.named over goes syn
+  call = call_goes cx s.socket mirrored.own holds a.calls mirrored.named over goes syn
 
   pub their_call : SynGoes r.socket (offer_of cy r.socket)
-  their_call = call_goes cy r.socket mirrored.theirs refl b.calls mirrored.partner_named their_over they_go their_syn
+  their_call = call_goes cy r.socket mirrored.theirs they_hold b.calls mirrored.partner_named their_over they_go their_syn
 
   abbrev pub s1 : PairSide
   s1 = asked_side side s r first
@@ -483,6 +491,12 @@ crossing_a p first second r m =
     t : PairSide
     t = p.sides.b
 
+    holds : HoldsText s.host
+    holds = reached_holds p A r
+
+    they_hold : HoldsText t.host
+    they_hold = reached_holds p B r
+
     f : IsAsking (core_of s.socket) (unsent (reached_keeps p A r).side)
     f = asking p A r m.own.calls
 
@@ -498,38 +512,38 @@ crossing_a p first second r m =
     -- each as the other's SYN leaves it
     own_side : PairSide
     own_side =
-        s2 A s t first second m.own m.theirs m.mirrored m.over m.goes m.their_over m.they_go f.syn_unacked g.syn_unacked f.alone g.alone small their_small
-        f.top g.top
+        s2 A s t first second holds they_hold m.own m.theirs m.mirrored m.over m.goes m.their_over m.they_go f.syn_unacked g.syn_unacked f.alone g.alone
+        small their_small f.top g.top
 
     other_side : PairSide
     other_side =
-        r2 A s t first second m.own m.theirs m.mirrored m.over m.goes m.their_over m.they_go f.syn_unacked g.syn_unacked f.alone g.alone small their_small
-        f.top g.top
+        r2 A s t first second holds they_hold m.own m.theirs m.mirrored m.over m.goes m.their_over m.they_go f.syn_unacked g.syn_unacked f.alone g.alone
+        small their_small f.top g.top
 
     x : CrossedBoth s.socket t.socket own_side.socket other_side.socket
     x =
-        both_crossed A s t first second m.own m.theirs m.mirrored m.over m.goes m.their_over m.they_go f.syn_unacked g.syn_unacked f.alone g.alone small
-        their_small f.top g.top
+        both_crossed A s t first second holds they_hold m.own m.theirs m.mirrored m.over m.goes m.their_over m.they_go f.syn_unacked g.syn_unacked f.alone
+        g.alone small their_small f.top g.top
 
     is_there : slice_get other_side.sent (length t.sent) ≡ slice_get (asked_side B t s second).sent (length t.sent)
     is_there =
-        found A s t first second m.own m.theirs m.mirrored m.over m.goes m.their_over m.they_go f.syn_unacked g.syn_unacked f.alone g.alone small
-        their_small f.top g.top
+        found A s t first second holds they_hold m.own m.theirs m.mirrored m.over m.goes m.their_over m.they_go f.syn_unacked g.syn_unacked f.alone
+        g.alone small their_small f.top g.top
 
     first_comes : refused_if (not (nat_lt (length s.sent) (length (asked_side A s t first).sent))) NoSegment ≡ None
     first_comes =
         within (length s.sent) (length (asked_side A s t first).sent)
         (slice_get_within (asked_side A s t first).sent (length s.sent) _
-        (came A s t first second m.own m.theirs m.mirrored m.over m.goes m.their_over m.they_go f.syn_unacked g.syn_unacked f.alone g.alone small
-        their_small f.top g.top).sent)
+        (came A s t first second holds they_hold m.own m.theirs m.mirrored m.over m.goes m.their_over m.they_go f.syn_unacked g.syn_unacked f.alone
+        g.alone small their_small f.top g.top).sent)
 
     second_comes : refused_if (not (nat_lt (length t.sent) (length other_side.sent))) NoSegment ≡ None
     second_comes =
         within (length t.sent) (length other_side.sent)
         (slice_get_within other_side.sent (length t.sent) _
         (is_there
-        ∙ (their_came A s t first second m.own m.theirs m.mirrored m.over m.goes m.their_over m.they_go f.syn_unacked g.syn_unacked f.alone g.alone small
-        their_small f.top g.top).sent))
+        ∙ (their_came A s t first second holds they_hold m.own m.theirs m.mirrored m.over m.goes m.their_over m.they_go f.syn_unacked g.syn_unacked f.alone
+        g.alone small their_small f.top g.top).sent))
 
     same : (handed A (asked_side A s t first) (slice_get other_side.sent (length t.sent))).socket ≡ own_side.socket
     same = ap (λ (x : Option SentSegment). (handed A (asked_side A s t first) x).socket) is_there
@@ -548,6 +562,12 @@ crossing_b p first second r m =
     t : PairSide
     t = p.sides.a
 
+    holds : HoldsText s.host
+    holds = reached_holds p B r
+
+    they_hold : HoldsText t.host
+    they_hold = reached_holds p A r
+
     f : IsAsking (core_of s.socket) (unsent (reached_keeps p B r).side)
     f = asking p B r m.own.calls
 
@@ -563,38 +583,38 @@ crossing_b p first second r m =
     -- each as the other's SYN leaves it
     own_side : PairSide
     own_side =
-        s2 B s t first second m.own m.theirs m.mirrored m.over m.goes m.their_over m.they_go f.syn_unacked g.syn_unacked f.alone g.alone small their_small
-        f.top g.top
+        s2 B s t first second holds they_hold m.own m.theirs m.mirrored m.over m.goes m.their_over m.they_go f.syn_unacked g.syn_unacked f.alone g.alone
+        small their_small f.top g.top
 
     other_side : PairSide
     other_side =
-        r2 B s t first second m.own m.theirs m.mirrored m.over m.goes m.their_over m.they_go f.syn_unacked g.syn_unacked f.alone g.alone small their_small
-        f.top g.top
+        r2 B s t first second holds they_hold m.own m.theirs m.mirrored m.over m.goes m.their_over m.they_go f.syn_unacked g.syn_unacked f.alone g.alone
+        small their_small f.top g.top
 
     x : CrossedBoth s.socket t.socket own_side.socket other_side.socket
     x =
-        both_crossed B s t first second m.own m.theirs m.mirrored m.over m.goes m.their_over m.they_go f.syn_unacked g.syn_unacked f.alone g.alone small
-        their_small f.top g.top
+        both_crossed B s t first second holds they_hold m.own m.theirs m.mirrored m.over m.goes m.their_over m.they_go f.syn_unacked g.syn_unacked f.alone
+        g.alone small their_small f.top g.top
 
     is_there : slice_get other_side.sent (length t.sent) ≡ slice_get (asked_side A t s second).sent (length t.sent)
     is_there =
-        found B s t first second m.own m.theirs m.mirrored m.over m.goes m.their_over m.they_go f.syn_unacked g.syn_unacked f.alone g.alone small
-        their_small f.top g.top
+        found B s t first second holds they_hold m.own m.theirs m.mirrored m.over m.goes m.their_over m.they_go f.syn_unacked g.syn_unacked f.alone
+        g.alone small their_small f.top g.top
 
     first_comes : refused_if (not (nat_lt (length s.sent) (length (asked_side B s t first).sent))) NoSegment ≡ None
     first_comes =
         within (length s.sent) (length (asked_side B s t first).sent)
         (slice_get_within (asked_side B s t first).sent (length s.sent) _
-        (came B s t first second m.own m.theirs m.mirrored m.over m.goes m.their_over m.they_go f.syn_unacked g.syn_unacked f.alone g.alone small
-        their_small f.top g.top).sent)
+        (came B s t first second holds they_hold m.own m.theirs m.mirrored m.over m.goes m.their_over m.they_go f.syn_unacked g.syn_unacked f.alone
+        g.alone small their_small f.top g.top).sent)
 
     second_comes : refused_if (not (nat_lt (length t.sent) (length other_side.sent))) NoSegment ≡ None
     second_comes =
         within (length t.sent) (length other_side.sent)
         (slice_get_within other_side.sent (length t.sent) _
         (is_there
-        ∙ (their_came B s t first second m.own m.theirs m.mirrored m.over m.goes m.their_over m.they_go f.syn_unacked g.syn_unacked f.alone g.alone small
-        their_small f.top g.top).sent))
+        ∙ (their_came B s t first second holds they_hold m.own m.theirs m.mirrored m.over m.goes m.their_over m.they_go f.syn_unacked g.syn_unacked f.alone
+        g.alone small their_small f.top g.top).sent))
 
     same : (handed B (asked_side B s t first) (slice_get other_side.sent (length t.sent))).socket ≡ own_side.socket
     same = ap (λ (x : Option SentSegment). (handed B (asked_side B s t first) x).socket) is_there

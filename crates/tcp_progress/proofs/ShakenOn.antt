@@ -16,7 +16,7 @@ use Rattle.tcp_model.specs.Retries.{reaches}
 use Rattle.tcp_tie.specs.Pair.Sides.{at, other}
 use Rattle.tcp_model.specs.Timestamps.{is_stale}
 use Rattle.tcp_model.specs.Value.{TcpValue, queued_in, room_of}
-use Rattle.tcp_tie.specs.Pair.Values.{PairSide, PairValue, context_at}
+use Rattle.tcp_tie.specs.Pair.Values.{HoldsText, PairSide, PairValue, context_at}
 use Rattle.tcp_tie.specs.declared.pair.event.Side.{Side}
 use Rattle.tcp_tie.specs.declared.pair.event.Side.TheVariants.{A, B}
 use Rattle.tcp_progress.specs.Again.{StartsOver}
@@ -29,6 +29,7 @@ use Rattle.tcp_progress.specs.HandshakeOn.{confirmed_in}
 use Rattle.tcp_progress.specs.Pair.{AreMirrored, context_of, has_heard, next_sent, offered_in, socket_of}
 use Rattle.tcp_progress.specs.Reached.{IsReached}
 use Rattle.tcp_progress.proofs.Crossed.{Draws, Unmoved, again_unmoved, established_draws}
+use Rattle.tcp_progress.proofs.Hosts.{reached_holds}
 use Rattle.tcp_progress.proofs.Kept.{reached_keeps}
 use Rattle.tcp_progress.proofs.Mirrored.{reached_mirrored}
 use Rattle.tcp_progress.proofs.Pair.{asked_side, partner_after, side_after}
@@ -69,14 +70,15 @@ no_ack v number is alone = is ∙ ap (λ (took : Bool). if took then Some v.bloc
 -- A CALL GOES AGAIN
 
 -- `s` is the side that calls
-module _ (side : Side) (s r : PairSide) (first : ℤ) (h : Heard s.socket r.socket) (over : StartsOver (context_at side (record s { moment = first })) s.socket)
+module _ (side : Side) (s r : PairSide) (first : ℤ) (holds : HoldsText s.host) (h : Heard s.socket r.socket)
+    (over : StartsOver (context_at side (record s { moment = first })) s.socket)
     (goes : GoesOn (context_at side (record s { moment = first })) s.socket) (syn_unacked : s.socket.block.sender.syn_unacked ≡ true)
     (alone : s.socket.block.receiver.took_syn ≡ false) where
   abbrev pub cx : ContextValue
   cx = context_at side (record s { moment = first })
 
   pub call : SynGoes s.socket (offer_of cx s.socket)
-  call = call_goes cx s.socket h.mirrored.own refl h.calls h.mirrored.named over goes syn_unacked
+  call = call_goes cx s.socket h.mirrored.own holds h.calls h.mirrored.named over goes syn_unacked
 
   abbrev pub bytes : List ℕ
   bytes = payload_of call.k call.k.kind (offer_of cx s.socket).socket.queued.queue
@@ -121,22 +123,23 @@ pub called_again : (p : PairValue) (side : Side) (first second third : ℤ) → 
 called_again p A first second third r m =
     let s = p.sides.a in
     let t = p.sides.b in
+    let holds = reached_holds p A r in
     let h = heard_in p A r m.unanswered in
     let f = asking p A r m.unanswered.calls in
     record {
-      leads = reach p A first _ r m.at_first (came A s t first h m.over m.goes f.syn_unacked f.alone).sent;
+      leads = reach p A first _ r m.at_first (came A s t first holds h m.over m.goes f.syn_unacked f.alone).sent;
       may =
           record {
             unanswered =
                 record {
-                  calls = calls A s t first h m.over m.goes f.syn_unacked f.alone;
-                  caller = caller A s t first h m.over m.goes f.syn_unacked f.alone;
-                  answerer = answerer A s t first h m.over m.goes f.syn_unacked f.alone;
-                  took = took A s t first h m.over m.goes f.syn_unacked f.alone;
+                  calls = calls A s t first holds h m.over m.goes f.syn_unacked f.alone;
+                  caller = caller A s t first holds h m.over m.goes f.syn_unacked f.alone;
+                  answerer = answerer A s t first holds h m.over m.goes f.syn_unacked f.alone;
+                  took = took A s t first holds h m.over m.goes f.syn_unacked f.alone;
                 };
             over =
                 starts_still (context_of p B second) (context_of (called_in p A first) B second) t.socket (partner_after A s t first).socket refl
-                (still A s t first h m.over m.goes f.syn_unacked f.alone) m.answer_over;
+                (still A s t first holds h m.over m.goes f.syn_unacked f.alone) m.answer_over;
             at_second = m.at_second;
             at_third = m.at_third;
             stamps = m.stamps;
@@ -145,22 +148,23 @@ called_again p A first second third r m =
 called_again p B first second third r m =
     let s = p.sides.b in
     let t = p.sides.a in
+    let holds = reached_holds p B r in
     let h = heard_in p B r m.unanswered in
     let f = asking p B r m.unanswered.calls in
     record {
-      leads = reach p B first _ r m.at_first (came B s t first h m.over m.goes f.syn_unacked f.alone).sent;
+      leads = reach p B first _ r m.at_first (came B s t first holds h m.over m.goes f.syn_unacked f.alone).sent;
       may =
           record {
             unanswered =
                 record {
-                  calls = calls B s t first h m.over m.goes f.syn_unacked f.alone;
-                  caller = caller B s t first h m.over m.goes f.syn_unacked f.alone;
-                  answerer = answerer B s t first h m.over m.goes f.syn_unacked f.alone;
-                  took = took B s t first h m.over m.goes f.syn_unacked f.alone;
+                  calls = calls B s t first holds h m.over m.goes f.syn_unacked f.alone;
+                  caller = caller B s t first holds h m.over m.goes f.syn_unacked f.alone;
+                  answerer = answerer B s t first holds h m.over m.goes f.syn_unacked f.alone;
+                  took = took B s t first holds h m.over m.goes f.syn_unacked f.alone;
                 };
             over =
                 starts_still (context_of p A second) (context_of (called_in p B first) A second) t.socket (partner_after B s t first).socket refl
-                (still B s t first h m.over m.goes f.syn_unacked f.alone) m.answer_over;
+                (still B s t first holds h m.over m.goes f.syn_unacked f.alone) m.answer_over;
             at_second = m.at_second;
             at_third = m.at_third;
             stamps = m.stamps;
@@ -194,7 +198,7 @@ less_one : (n : ℕ) → n ≡ 1 → n - 1 ≡ 0
 less_one n e = omega arith
 
 -- `s` is the side that asks again
-module _ (side : Side) (s r : PairSide) (moment : ℤ) (c : Asking s.socket r.socket)
+module _ (side : Side) (s r : PairSide) (moment : ℤ) (holds : HoldsText s.host) (c : Asking s.socket r.socket)
     (over : StartsOver (context_at side (record s { moment = moment })) s.socket) where
   abbrev pub ax : ContextValue
   ax = context_at side (record s { moment = moment })
@@ -203,7 +207,7 @@ module _ (side : Side) (s r : PairSide) (moment : ℤ) (c : Asking s.socket r.so
   ay = context_at (other side) r
 
   abbrev pub again : SynGoes s.socket (offer_of ax s.socket)
-  again = question ax ay s.socket r.socket refl c over
+  again = question ax ay s.socket r.socket holds c over
 
   abbrev pub text : List ℕ
   text = payload_of again.k again.k.kind (offer_of ax s.socket).socket.queued.queue
@@ -215,13 +219,13 @@ module _ (side : Side) (s r : PairSide) (moment : ℤ) (c : Asking s.socket r.so
       (d : Draws r.socket (arrives ay r.socket again.k.header again.k.segment text)) where
     pub goes_there : Comes side s r moment again.k text
     goes_there =
-        comes_over side s r moment again.k text again.offered refl (partner_accepts ax ay s.socket r.socket refl c over alive later)
+        comes_over side s r moment again.k text again.offered refl (partner_accepts ax ay s.socket r.socket holds c over alive later)
 
     pub one : length (partner_after side s r moment).sent - length r.sent ≡ 1
     one = one_answered side s r moment again.k text goes_there d.reply d.answer
 
     pub comes_back : (side_after side s r moment).socket ≡ (arrives ax (asked_side side s r moment).socket d.reply.header d.reply.segment []).socket
-    comes_back = back side s r moment again.k text goes_there d.reply d.answer (side_accepts ax ay s.socket r.socket refl c over text d)
+    comes_back = back side s r moment again.k text goes_there d.reply d.answer (side_accepts ax ay s.socket r.socket holds c over text d)
 
     -- what answers isn't too old
     abbrev pub IsFreshReply : Type 0
@@ -247,7 +251,7 @@ module _ (side : Side) (s r : PairSide) (moment : ℤ) (c : Asking s.socket r.so
         }))
       where
         o : Opens (asked_side side s r moment).socket (arrives ax (asked_side side s r moment).socket d.reply.header d.reply.segment [])
-        o = opens_it ax ay s.socket r.socket refl c over text d fresh
+        o = opens_it ax ay s.socket r.socket holds c over text d fresh
 
 -- THE LAST ACKNOWLEDGEMENT
 
@@ -288,14 +292,17 @@ pub record Confirms (p : PairValue) (side : Side) (moment : ℤ) : Type 0 where
 
 pub confirms : (p : PairValue) (side : Side) (moment : ℤ) → IsReached p → MayConfirm p side moment → Confirms p side moment
 confirms p A moment r m = record {
-  leads = exchange_reached p B moment (reach p B moment _ r m.at_moment (goes_there B s t moment c m.over alive later d).sent) answered;
+  leads = exchange_reached p B moment (reach p B moment _ r m.at_moment (goes_there B s t moment holds c m.over alive later d).sent) answered;
   sockets =
       subst (λ (q : PairValue). Confirmed s.socket t.socket (socket_of q B) (socket_of q A)) (sym (exchange_is p B moment answered))
-      (confirmed B s t moment c m.over alive later d timely);
+      (confirmed B s t moment holds c m.over alive later d timely);
 }
   where
     s : PairSide
     s = p.sides.b
+
+    holds : HoldsText s.host
+    holds = reached_holds p B r
 
     t : PairSide
     t = p.sides.a
@@ -314,32 +321,35 @@ confirms p A moment r m = record {
     later : is_listening t.socket.block.state ≡ false
     later = ap is_listening u.opened
 
-    d : Draws t.socket (arrives (ay B s t moment c m.over) t.socket (again B s t moment c m.over).k.header (again B s t moment c m.over).k.segment
-        (text B s t moment c m.over))
+    d : Draws t.socket (arrives (ay B s t moment holds c m.over) t.socket (again B s t moment holds c m.over).k.header (again B s t moment holds c m.over).k.segment
+        (text B s t moment holds c m.over))
     d =
-        established_draws (ay B s t moment c m.over) t.socket (again B s t moment c m.over).k.header (again B s t moment c m.over).k.segment
-        (text B s t moment c m.over) (again B s t moment c m.over).control u.opened (again B s t moment c m.over).named m.draws
+        established_draws (ay B s t moment holds c m.over) t.socket (again B s t moment holds c m.over).k.header (again B s t moment holds c m.over).k.segment
+        (text B s t moment holds c m.over) (again B s t moment holds c m.over).control u.opened (again B s t moment holds c m.over).named m.draws
 
-    timely : IsFreshReply B s t moment c m.over alive later d
+    timely : IsFreshReply B s t moment holds c m.over alive later d
     timely = by m.stamps where
-      by : IsTimely p A (at p.sides A).moment → IsFreshReply B s t moment c m.over alive later d
+      by : IsTimely p A (at p.sides A).moment → IsFreshReply B s t moment holds c m.over alive later d
       by (inl none) =
-          unstamped (ax B s t moment c m.over) s.socket (again B s t moment c m.over) none d.reply.segment (ax B s t moment c m.over).moment
+          unstamped (ax B s t moment holds c m.over) s.socket (again B s t moment holds c m.over) none d.reply.segment (ax B s t moment holds c m.over).moment
       by (inr days) =
-          reply_timely p B moment (ax B s t moment c m.over).moment (again B s t moment c m.over).k.header (again B s t moment c m.over).k.segment
-          (text B s t moment c m.over) d.reply r m.at_moment days d.answer
+          reply_timely p B moment (ax B s t moment holds c m.over).moment (again B s t moment holds c m.over).k.header (again B s t moment holds c m.over).k.segment
+          (text B s t moment holds c m.over) d.reply r m.at_moment days d.answer
 
     answered : next_sent (offered_in p B moment) A - next_sent p A ≡ 1
-    answered = one B s t moment c m.over alive later d
+    answered = one B s t moment holds c m.over alive later d
 confirms p B moment r m = record {
-  leads = exchange_reached p A moment (reach p A moment _ r m.at_moment (goes_there A s t moment c m.over alive later d).sent) answered;
+  leads = exchange_reached p A moment (reach p A moment _ r m.at_moment (goes_there A s t moment holds c m.over alive later d).sent) answered;
   sockets =
       subst (λ (q : PairValue). Confirmed s.socket t.socket (socket_of q A) (socket_of q B)) (sym (exchange_is p A moment answered))
-      (confirmed A s t moment c m.over alive later d timely);
+      (confirmed A s t moment holds c m.over alive later d timely);
 }
   where
     s : PairSide
     s = p.sides.a
+
+    holds : HoldsText s.host
+    holds = reached_holds p A r
 
     t : PairSide
     t = p.sides.b
@@ -358,23 +368,23 @@ confirms p B moment r m = record {
     later : is_listening t.socket.block.state ≡ false
     later = ap is_listening u.opened
 
-    d : Draws t.socket (arrives (ay A s t moment c m.over) t.socket (again A s t moment c m.over).k.header (again A s t moment c m.over).k.segment
-        (text A s t moment c m.over))
+    d : Draws t.socket (arrives (ay A s t moment holds c m.over) t.socket (again A s t moment holds c m.over).k.header (again A s t moment holds c m.over).k.segment
+        (text A s t moment holds c m.over))
     d =
-        established_draws (ay A s t moment c m.over) t.socket (again A s t moment c m.over).k.header (again A s t moment c m.over).k.segment
-        (text A s t moment c m.over) (again A s t moment c m.over).control u.opened (again A s t moment c m.over).named m.draws
+        established_draws (ay A s t moment holds c m.over) t.socket (again A s t moment holds c m.over).k.header (again A s t moment holds c m.over).k.segment
+        (text A s t moment holds c m.over) (again A s t moment holds c m.over).control u.opened (again A s t moment holds c m.over).named m.draws
 
-    timely : IsFreshReply A s t moment c m.over alive later d
+    timely : IsFreshReply A s t moment holds c m.over alive later d
     timely = by m.stamps where
-      by : IsTimely p B (at p.sides B).moment → IsFreshReply A s t moment c m.over alive later d
+      by : IsTimely p B (at p.sides B).moment → IsFreshReply A s t moment holds c m.over alive later d
       by (inl none) =
-          unstamped (ax A s t moment c m.over) s.socket (again A s t moment c m.over) none d.reply.segment (ax A s t moment c m.over).moment
+          unstamped (ax A s t moment holds c m.over) s.socket (again A s t moment holds c m.over) none d.reply.segment (ax A s t moment holds c m.over).moment
       by (inr days) =
-          reply_timely p A moment (ax A s t moment c m.over).moment (again A s t moment c m.over).k.header (again A s t moment c m.over).k.segment
-          (text A s t moment c m.over) d.reply r m.at_moment days d.answer
+          reply_timely p A moment (ax A s t moment holds c m.over).moment (again A s t moment holds c m.over).k.header (again A s t moment holds c m.over).k.segment
+          (text A s t moment holds c m.over) d.reply r m.at_moment days d.answer
 
     answered : next_sent (offered_in p A moment) B - next_sent p B ≡ 1
-    answered = one A s t moment c m.over alive later d
+    answered = one A s t moment holds c m.over alive later d
 
 pub confirms_on : (p : PairValue) (side : Side) (moment : ℤ) → IsReached p → MayConfirm p side moment → AreConnected (confirmed_in p side moment) side
 confirms_on p side moment r m =

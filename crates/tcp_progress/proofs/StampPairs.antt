@@ -1,7 +1,6 @@
 -- Of each pair that events led to: TS.Recent is what the partner's clock showed, and within 24 days nothing that goes is older.
 use Rattle.std.proofs.Common.{◌≡◌, ◌⊎◌, inl, inr, ℕ, ◌&&◌, ℤ, pos, ◌≤ℤ◌, Bool, true, false, List, [], ◌∷◌, Option, Some, None, refl, sym, ap, ◌∙◌, subst, arith}
 use Rattle.std.proofs.lemmas.Int.{ints}
-use Rattle.net_base.specs.Ring.{Ring}
 use Rattle.ip_wire.specs.IpRepr.{IpRepr}
 use Rattle.ip_wire.specs.TcpHeader.{TcpHeader}
 use Rattle.ip_wire.specs.TcpTimestampGenerator.{TcpTimestampGenerator}
@@ -21,8 +20,7 @@ use Rattle.tcp_model.specs.Offers.{offer_of}
 use Rattle.tcp_tie.specs.Pair.Sides.{Both, at, other, put}
 use Rattle.tcp_tie.specs.Pair.Steps.{Steps, acts, happens, refusal}
 use Rattle.tcp_model.specs.Timestamps.{is_older}
-use Rattle.tcp_model.specs.Value.{new_socket}
-use Rattle.tcp_tie.specs.Pair.Values.{PairSide, PairValue, context_at, new_pair, past_at}
+use Rattle.tcp_tie.specs.Pair.Values.{PairSide, PairValue, context_at, past_at}
 use Rattle.tcp_tie.specs.declared.pair.event.PairEvent.{PairEvent}
 use Rattle.tcp_tie.specs.declared.pair.event.PairEvent.TheVariants.{Offer}
 use Rattle.tcp_tie.specs.declared.pair.event.Side.{Side}
@@ -30,7 +28,7 @@ use Rattle.tcp_tie.specs.declared.pair.event.Side.TheVariants.{A, B}
 use Rattle.tcp_tie.proofs.SideLaws.{IsAllowed}
 use Rattle.tcp_progress.specs.Clocks.{HasDays, IsTimed, KeepsTime, WasShown, comes_stale}
 use Rattle.tcp_progress.specs.Pair.{context_of, socket_of}
-use Rattle.tcp_progress.specs.Reached.{IsReached}
+use Rattle.tcp_progress.specs.Reached.{IsReached, Start, both_started}
 use Rattle.tcp_progress.proofs.Halfway.{not_older}
 use Rattle.tcp_progress.proofs.Kept.{reached_by, reached_keeps}
 use Rattle.tcp_progress.proofs.Moments.{GoesOn, comes_later, goes_on, le_of}
@@ -113,15 +111,14 @@ steps_way since side p (event ∷ events) new r s t w =
     steps_way since side (happens p event).pair events new (reached_by p (happens p event).pair (event ∷ []) r (s.0, refl)) s.1 t
     (event_way since side p event r s.0 (earlier since side (happens p event).pair events new s.1 t).0 w)
 
-new_way : (since : ℤ) (side : Side) (a b : ℕ) (ring_a ring_b : Ring ℕ) →
-    WayIn since (new_pair (new_socket a ring_a) (new_socket b ring_b)).sides (pasts []) side
-new_way since A a b ring_a ring_b = record {
+new_way : (since : ℤ) (side : Side) (a b : Start) → WayIn since (both_started a b).sides (pasts []) side
+new_way since A a b = record {
   clock = inl refl;
   sent = tt;
   heard = λ agreed. clash (sym agreed);
   silent = λ _. record { clock = refl; sent = tt; unheard = refl };
 }
-new_way since B a b ring_a ring_b = record {
+new_way since B a b = record {
   clock = inl refl;
   sent = tt;
   heard = λ agreed. clash (sym agreed);
@@ -130,9 +127,9 @@ new_way since B a b ring_a ring_b = record {
 
 pub reached_way : (since : ℤ) (side : Side) (p : PairValue) → IsReached p → IsTimed since side p.history → WayIn since p.sides (pasts p.history) side
 reached_way since side p r t =
-    steps_way since side (new_pair (new_socket r.room_a r.ring_a) (new_socket r.room_b r.ring_b)) r.events p
-    (record { room_a = r.room_a; room_b = r.room_b; ring_a = r.ring_a; ring_b = r.ring_b; events = []; steps = refl }) r.steps t
-    (new_way since side r.room_a r.room_b r.ring_a r.ring_b)
+    steps_way since side (both_started r.a r.b) r.events p
+    (record { a = r.a; b = r.b; events = []; steps = refl }) r.steps t
+    (new_way since side r.a r.b)
 
 pub was_shown :
     (p : PairValue) (side : Side) (since : ℤ) → IsReached p → IsTimed since side p.history → (socket_of p (other side)).block.peer.timestamps ≡ true

@@ -1,7 +1,7 @@
 -- A SYN that is to go is offered, with the acknowledgement of the other's SYN if that came.
 use Rattle.std.proofs.Common.{◌≡◌, inl, inr, ℕ, ◌+◌, ◌-◌, ◌%◌, ◌^◌, ◌<◌, ◌≤◌, ◌==◌, ◌&&◌, ◌||◌, max, not, ℤ, Bool, true, false, if◌then◌else◌, List, [], Option, Some, None}
 use Rattle.std.proofs.Common.{is_some, refl, sym, ap, ◌∙◌, arith}
-use Rattle.std.proofs.lemmas.Bool.{eq-eqb}
+use Rattle.std.proofs.lemmas.Bool.{eq-eqb, ne_eqb}
 use Rattle.ip_wire.specs.Seq.{distance_of}
 use Rattle.ip_wire.specs.SeqNumber.{SeqNumber}
 use Rattle.ip_wire.specs.Tcp.{header_len}
@@ -87,10 +87,12 @@ record Alike (old b : Block) : Type 0 where
 all_three : (a b c : Bool) → a ≡ true → b ≡ true → c ≡ true → (a && (b && c)) ≡ true
 all_three a b c e f g = ap (λ (t : Bool). t && (b && c)) e ∙ (ap (λ (t : Bool). t && c) f ∙ g)
 
--- a packet of 1500 bytes has room for text, whatever its addresses
-some_text : (addresses : AddressPair) → (mss_for 1500 (ip_header_len addresses) == 0) ≡ false
-some_text (Pair.Ipv4 local remote) = refl
-some_text (Pair.Ipv6 local remote) = refl
+-- such a packet has room for text, whatever its addresses
+some_text : (mtu : ℕ) (addresses : AddressPair) → 60 < mtu → (mss_for mtu (ip_header_len addresses) == 0) ≡ false
+some_text mtu addresses e = ne_eqb (mss_for mtu (ip_header_len addresses)) 0 (by addresses) where
+  by : (addresses : AddressPair) → mss_for mtu (ip_header_len addresses) ≡ 0 → ⊥
+  by (Pair.Ipv4 local remote) f = absurd (omega (arith, e, f))
+  by (Pair.Ipv6 local remote) f = absurd (omega (arith, e, f))
 
 -- the first SYN begins the timestamps that are set
 begun_stamps : (b : Block) (now : ℤ) → (stamps_begun b now).generator ≡ generator_of b
@@ -124,7 +126,7 @@ bare_stamp t generator now recent e = ap (λ (g : Option TcpTimestampGenerator).
   by true = refl
   by false = refl
 
-module _ (cx : ContextValue) (v : TcpValue) (mtu : cx.ip_mtu ≡ 1500) (on : GoesOn cx v)
+module _ (cx : ContextValue) (v : TcpValue) (mtu : 60 < cx.ip_mtu) (on : GoesOn cx v)
     (sends : (sends_syn v.block.state && not (is_answering v.block.state && v.block.settings.synack_paused)) ≡ true)
     (syn : v.block.sender.syn_unacked ≡ true) (over : StartsOver cx v) where
   no_pair : (pair : EndpointPair) → None ≡ Some pair → ⊥
@@ -165,7 +167,7 @@ module _ (cx : ContextValue) (v : TcpValue) (mtu : cx.ip_mtu ≡ 1500) (on : Goe
     acknowledges =
         ap (λ (took : Bool). if took then Some b.receiver.next else None) same.took_syn
         ∙ ap (λ (next : SeqNumber). if v.block.receiver.took_syn then Some next else None) same.next;
-    named = ap (λ (mtu : ℕ). mss_for mtu (ip_header_len pair.addresses) == 0) mtu ∙ some_text pair.addresses;
+    named = some_text cx.ip_mtu pair.addresses mtu;
     bare = λ queue. refl;
     state = same.state;
     names = same.names;

@@ -31,7 +31,7 @@ use Rattle.tcp_progress.specs.Arrivals.{is_synchronized}
 use Rattle.tcp_progress.specs.BothWays.{AreThere, IsThrough, MayAsk, MayRounds, MayTurn, bound, is_over, roused_in, rounds_in, turn_in, waits_in, wake_in}
 use Rattle.tcp_progress.specs.Clocks.{HasStamps, comes_stale}
 use Rattle.tcp_progress.specs.Exchange.{IsOpen, left_of, offer_comes, text_of}
-use Rattle.tcp_progress.specs.Pair.{HasStream, context_of, left_in, socket_of}
+use Rattle.tcp_progress.specs.Pair.{HasStream, context_of, left_in, mtu_of, socket_of}
 use Rattle.tcp_progress.specs.Reached.{IsReached}
 use Rattle.tcp_progress.specs.Sent.{is_early}
 use Rattle.tcp_progress.specs.Settle.{read_in, restart_in}
@@ -39,6 +39,7 @@ use Rattle.tcp_progress.specs.Talking.{AreTalking, MayTalk, SpeaksIn}
 use Rattle.tcp_progress.proofs.Calm.{answer_bare, no_stamp}
 use Rattle.tcp_progress.proofs.Opened.{is_open}
 use Rattle.tcp_progress.proofs.Held.{IsSet, asked_sets, goes_then}
+use Rattle.tcp_progress.proofs.Hosts.{read_mtu, roused_mtu}
 use Rattle.tcp_progress.proofs.Left.{left_same}
 use Rattle.tcp_progress.proofs.Mirrored.{named_in}
 use Rattle.tcp_progress.proofs.Moments.{clock}
@@ -221,7 +222,7 @@ module _ (n : ℕ) (p : PairValue) (side : Side) (r : IsReached p) (s : BothStay
   asked : IsSet (context_of x side t) pair v (offer_of (context_of x side t) v).socket
   asked =
       asked_sets (context_of x side t) v pair (named_in x side rx mine).1 starts sends
-      (again_sent x side rx (of x side sx).acked pair.addresses 1500 v.queued) runs
+      (again_sent x side rx (of x side sx).acked pair.addresses (mtu_of x side) v.queued) runs
 
   pub set : IsSet (context_of x side t) pair v w
   set =
@@ -251,11 +252,15 @@ module _ (n : ℕ) (p : PairValue) (side : Side) (r : IsReached p) (s : BothStay
     opened = subst (λ (k : ℕ). 1 ≤ k) (sym set.past_iss) own.opened;
   }
 
-  same_queue : queued_in w ≡ queued_in v
-  same_queue = ap (λ (q : Ring ℕ). length q.queue) set.queued
+  pub same_mtu : mtu_of y side ≡ mtu_of x side
+  same_mtu = roused_mtu p side ∙ sym (read_mtu p side)
 
-  pub again_y : resends w.block pair.addresses 1500 w.queued ≡ true → 1 ≤ w.block.sender.top
-  again_y = subst (λ (q : Ring ℕ). resends w.block pair.addresses 1500 q ≡ true → 1 ≤ w.block.sender.top) (sym set.queued) set.again
+  -- of the queue as it was, and of the one that it is
+  requeued : (P : ℕ → Ring ℕ → Type 0) → P (mtu_of x side) v.queued → P (mtu_of y side) w.queued
+  requeued P it = subst (λ (q : Ring ℕ). P (mtu_of y side) q) (sym set.queued) (subst (λ (n : ℕ). P n v.queued) (sym same_mtu) it)
+
+  pub again_y : resends w.block pair.addresses (mtu_of y side) w.queued ≡ true → 1 ≤ w.block.sender.top
+  again_y = requeued (λ (n : ℕ) (q : Ring ℕ). resends w.block pair.addresses n q ≡ true → 1 ≤ w.block.sender.top) set.again
 
   owes_y : 1 ≤ left_of w
   owes_y =
@@ -281,18 +286,13 @@ module _ (n : ℕ) (p : PairValue) (side : Side) (r : IsReached p) (s : BothStay
           };
     }
 
-    set_y :
-        (resends w.block pair.addresses 1500 w.queued ≡ true) ⊎ ((has_text w.block pair.addresses 1500 w.queued ≡ true)
-        ⊎ (is_probing w.block (queued_in w) ≡ true → is_some w.block.timers.probe_at ≡ true))
-    set_y = by set.set where
-      by :
-          (resends w.block pair.addresses 1500 v.queued ≡ true) ⊎ ((has_text w.block pair.addresses 1500 v.queued ≡ true)
-          ⊎ (is_probing w.block (queued_in v) ≡ true → is_some w.block.timers.probe_at ≡ true))
-          → (resends w.block pair.addresses 1500 w.queued ≡ true) ⊎ ((has_text w.block pair.addresses 1500 w.queued ≡ true)
-          ⊎ (is_probing w.block (queued_in w) ≡ true → is_some w.block.timers.probe_at ≡ true))
-      by (inl e) = inl (subst (λ (q : Ring ℕ). resends w.block pair.addresses 1500 q ≡ true) (sym set.queued) e)
-      by (inr (inl e)) = inr (inl (subst (λ (q : Ring ℕ). has_text w.block pair.addresses 1500 q ≡ true) (sym set.queued) e))
-      by (inr (inr e)) = inr (inr (subst (λ (k : ℕ). is_probing w.block k ≡ true → is_some w.block.timers.probe_at ≡ true) (sym same_queue) e))
+    abbrev SetsOf : ℕ → Ring ℕ → Type 0
+    SetsOf mtu q =
+        (resends w.block pair.addresses mtu q ≡ true) ⊎ ((has_text w.block pair.addresses mtu q ≡ true)
+        ⊎ (is_probing w.block (length q.queue) ≡ true → is_some w.block.timers.probe_at ≡ true))
+
+    set_y : SetsOf (mtu_of y side) w.queued
+    set_y = requeued SetsOf set.set
 
     -- by then the moment of a probe has come
     come : is_probing w.block (queued_in w) ≡ true → is_some w.block.timers.probe_at ≡ true → is_due then_at w.block.timers.probe_at ≡ true

@@ -55,10 +55,10 @@ use Rattle.tcp_model.specs.Timestamps.{echo_taken, stamp_taken}
 use Rattle.tcp_model.specs.Undone.{undone}
 use Rattle.tcp_model.specs.Validation.{grown_if_used, is_used, periods_ended}
 use Rattle.tcp_model.specs.Value.{TcpValue, Arrived, with_block, unoffered, ended, free_in, new_socket, queued_in, room_of, window_of}
-use Rattle.tcp_tie.specs.Pair.Values.{PairValue, new_pair}
+use Rattle.tcp_tie.specs.Pair.Values.{PairValue}
 use Rattle.tcp_tie.specs.declared.pair.event.Side.{Side}
 use Rattle.tcp_progress.specs.Pair.{socket_of}
-use Rattle.tcp_progress.specs.Reached.{IsReached}
+use Rattle.tcp_progress.specs.Reached.{IsReached, both_started}
 use Rattle.tcp_progress.proofs.Events.{of_side, by_steps}
 
 -- WINDOWS
@@ -605,8 +605,8 @@ new_wide room ring = record { reno = wide_fresh None; undo = tt; peer = omega ar
 reached_wide : (p : PairValue) (side : Side) → IsReached p → IsWide (socket_of p side).block.reno
 reached_wide p side r =
     (of_side WideIn p.sides side
-    (by_steps WideIn event_wide (λ v w. w) (new_pair (new_socket r.room_a r.ring_a) (new_socket r.room_b r.ring_b)) r.events p r.steps
-    (record { first = new_wide r.room_a r.ring_a; second = new_wide r.room_b r.ring_b }))).reno
+    (by_steps WideIn event_wide (λ v w. w) (both_started r.a r.b) r.events p r.steps
+    (record { first = new_wide r.a.room r.a.ring; second = new_wide r.b.room r.b.ring }))).reno
 
 pub reached_cwnd : (p : PairValue) (side : Side) → IsReached p → 1 ≤ (socket_of p side).block.reno.cwnd
 reached_cwnd p side r = (reached_wide p side r).cwnd

@@ -28,7 +28,7 @@ use Rattle.tcp_model.specs.Offers.{offer_of, payload_of}
 use Rattle.tcp_tie.specs.Pair.Sides.{Both, at, put, other}
 use Rattle.tcp_tie.specs.Pair.Steps.{Steps, acting, acts, handed, happens, reads, set_by, taken_at}
 use Rattle.tcp_model.specs.Value.{TcpValue, Arrived, ended, free_in, new_socket, queued_in, room_of, unoffered, with_block}
-use Rattle.tcp_tie.specs.Pair.Values.{PairSide, PairValue, and_offer, and_reply, context_at, new_pair}
+use Rattle.tcp_tie.specs.Pair.Values.{PairSide, PairValue, and_offer, and_reply, context_at}
 use Rattle.tcp_tie.specs.declared.pair.event.PairEvent.{PairEvent}
 use Rattle.tcp_tie.specs.declared.pair.event.PairEvent.TheVariants.{Listen, Connect, Send, Recv, Close, Abort, TcpSetting, Offer, Deliver}
 use Rattle.tcp_tie.specs.declared.pair.event.SentSegment.{SentSegment}
@@ -39,7 +39,7 @@ use Rattle.tcp_tie.specs.declared.pair.event.TcpSetting.TheVariants as Set
 use Rattle.tcp_progress.specs.Arrivals.{is_synchronized}
 use Rattle.tcp_progress.specs.Exchange.{FitsBuffer, IsOpen}
 use Rattle.tcp_progress.specs.Pair.{socket_of}
-use Rattle.tcp_progress.specs.Reached.{IsReached}
+use Rattle.tcp_progress.specs.Reached.{IsReached, both_started}
 use Rattle.tcp_progress.specs.Windows.{KeepsToWindow, IsTold, HasTold}
 use Rattle.tcp_progress.proofs.Kept.{reached_by, reached_keeps}
 use Rattle.tcp_progress.proofs.Positions.{placed}
@@ -265,15 +265,12 @@ new_fit own theirs ring = fresh_fit own theirs In.Closed (0 + length (space own)
   by : {a : ℕ} → a ≡ own → 0 + a ≡ own
   by a = omega arith
 
-reached_fits : (p : PairValue) (r : IsReached p) → BothFit r.room_a r.room_b p.sides
+reached_fits : (p : PairValue) (r : IsReached p) → BothFit r.a.room r.b.room p.sides
 reached_fits p r =
-    let a = new_socket r.room_a r.ring_a in
-    let b = new_socket r.room_b r.ring_b in
-    steps_fit r.room_a r.room_b (new_pair a b) r.events p
-    (record { room_a = r.room_a; room_b = r.room_b; ring_a = r.ring_a; ring_b = r.ring_b; events = []; steps = refl }) r.steps
+    steps_fit r.a.room r.b.room (both_started r.a r.b) r.events p (record { a = r.a; b = r.b; events = []; steps = refl }) r.steps
     (record {
-      first = record { fit = new_fit r.room_a r.room_b r.ring_a; told = tt };
-      second = record { fit = new_fit r.room_b r.room_a r.ring_b; told = tt };
+      first = record { fit = new_fit r.a.room r.b.room r.a.ring; told = tt };
+      second = record { fit = new_fit r.b.room r.a.room r.b.ring; told = tt };
     })
 
 keeps_by :
@@ -288,16 +285,16 @@ keeps_by v w own theirs f same = record {
 
 pub reached_windows : (p : PairValue) (side : Side) → IsReached p → KeepsToWindow (socket_of p side) (socket_of p (other side))
 reached_windows p A r =
-    let f = reached_fits p r in keeps_by p.sides.a.socket p.sides.b.socket r.room_a r.room_b f.first.fit f.second.fit.room
+    let f = reached_fits p r in keeps_by p.sides.a.socket p.sides.b.socket r.a.room r.b.room f.first.fit f.second.fit.room
 reached_windows p B r =
-    let f = reached_fits p r in keeps_by p.sides.b.socket p.sides.a.socket r.room_b r.room_a f.second.fit f.first.fit.room
+    let f = reached_fits p r in keeps_by p.sides.b.socket p.sides.a.socket r.b.room r.a.room f.second.fit f.first.fit.room
 
 told_at : (own room : ℕ) (s : PairSide) → room ≡ own → AllByRecursion (IsTold own) s.sent → AllByRecursion (IsTold room) s.sent
 told_at own room s same told = subst (λ (n : ℕ). AllByRecursion (IsTold n) s.sent) (sym same) told
 
 pub reached_told : (p : PairValue) (side : Side) → IsReached p → HasTold (at p.sides side)
-reached_told p A r = let f = reached_fits p r in told_at r.room_a (room_of p.sides.a.socket.received) p.sides.a f.first.fit.room f.first.told
-reached_told p B r = let f = reached_fits p r in told_at r.room_b (room_of p.sides.b.socket.received) p.sides.b f.second.fit.room f.second.told
+reached_told p A r = let f = reached_fits p r in told_at r.a.room (room_of p.sides.a.socket.received) p.sides.a f.first.fit.room f.first.told
+reached_told p B r = let f = reached_fits p r in told_at r.b.room (room_of p.sides.b.socket.received) p.sides.b f.second.fit.room f.second.told
 
 pub near_in :
     (p : PairValue) (side : Side) → IsReached p → IsOpen (socket_of p side).block → is_synchronized (socket_of p (other side)).block.state ≡ true

@@ -14,7 +14,7 @@ use Rattle.tcp_tie.specs.declared.pair.event.SentSegment.{SentSegment}
 use Rattle.tcp_tie.specs.declared.pair.event.Side.{Side}
 use Rattle.tcp_progress.specs.Anew.{put_off_in}
 use Rattle.tcp_progress.specs.Clocks.{Overtakes, comes_stale}
-use Rattle.tcp_progress.specs.Pair.{HasStream, context_of, next_sent, socket_of}
+use Rattle.tcp_progress.specs.Pair.{HasStream, context_of, mtu_of, next_sent, socket_of}
 use Rattle.tcp_progress.specs.Restart.{first_cwnd, worth_sending}
 use Rattle.tcp_progress.specs.Rounds.{takes}
 
@@ -47,7 +47,7 @@ Asks side other = ⊥
 
 -- a side wants to be asked at this moment, or wanted to be earlier
 abbrev pub Wants : ℤ → PairValue → Side → Type 0
-Wants moment p side = IsBefore moment (poll_of 1500 (socket_of p side)) → ⊥
+Wants moment p side = IsBefore moment (poll_of (mtu_of p side) (socket_of p side)) → ⊥
 
 -- It is asked before the clock passes the second moment, unless it doesn't want to be at the first one any more, or the course ends before.
 abbrev pub IsAskedBy : ℤ → ℤ → Side → PairValue → List (ℤ × PairEvent) → Type 0

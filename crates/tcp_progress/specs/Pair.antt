@@ -59,6 +59,10 @@ has_heard state = not (is_over state || is_opening state)
 abbrev pub context_of : PairValue → Side → ℤ → ContextValue
 context_of p side moment = context_at side (record (at p.sides side) { moment = moment })
 
+-- the longest packet of its host
+abbrev pub mtu_of : PairValue → Side → ℕ
+mtu_of p side = (at p.sides side).host.ip_mtu
+
 -- the side, asked at this moment, offers this for an exchange with the other, whose clock stands still meanwhile
 abbrev pub MayExchangeIn : PairValue → Side → ℤ → OpenOffer → Type 0
 MayExchangeIn p side moment o =

@@ -6,16 +6,28 @@ use Rattle.tcp_model.specs.Blocks.{unacked}
 use Rattle.tcp_model.specs.Value.{TcpValue, new_socket, queued_in}
 use Rattle.tcp_tie.specs.declared.pair.event.PairEvent.{PairEvent}
 use Rattle.tcp_tie.specs.Pair.Steps.{Steps}
-use Rattle.tcp_tie.specs.Pair.Values.{PairValue, new_pair}
+use Rattle.tcp_tie.specs.Pair.Values.{HoldsText, HostContext, PairSide, PairValue, beginning, new_side}
 
--- two new sockets, and the events that led from them to the pair, each of which was taken
+-- a new socket on any host a packet of which holds text, and any random words
+pub record Start : Type 0 where
+  pub host : HostContext
+  pub holds : HoldsText host
+  pub random : ℕ
+  pub room : ℕ
+  pub ring : Ring ℕ
+
+abbrev pub started : Start → PairSide
+started s = new_side s.host s.random (new_socket s.room s.ring)
+
+abbrev pub both_started : Start → Start → PairValue
+both_started a b = beginning (started a) (started b)
+
+-- two of them, and the events that led from there to the pair, each of which was taken
 pub record IsReached (p : PairValue) : Type 0 where
-  pub room_a : ℕ
-  pub room_b : ℕ
-  pub ring_a : Ring ℕ
-  pub ring_b : Ring ℕ
+  pub a : Start
+  pub b : Start
   pub events : List PairEvent
-  pub steps : Steps (new_pair (new_socket room_a ring_a) (new_socket room_b ring_b)) events p
+  pub steps : Steps (both_started a b) events p
 
 -- There is a connection, or one is being opened; a SYN, text or a FIN isn't acknowledged, sent or not; and the user doesn't hold the
 -- answer to a SYN back.

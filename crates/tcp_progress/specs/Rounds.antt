@@ -9,7 +9,7 @@ use Rattle.tcp_tie.specs.declared.pair.event.Side.TheVariants.{A, B}
 use Rattle.tcp_tie.specs.declared.pair.event.PairEvent.{PairEvent}
 use Rattle.tcp_tie.specs.declared.pair.event.PairEvent.TheVariants.{Recv, Offer, Deliver}
 use Rattle.tcp_tie.specs.Pair.Steps.{happens}
-use Rattle.tcp_tie.specs.Pair.Values.{PairValue}
+use Rattle.tcp_tie.specs.Pair.Values.{PairSide, PairValue}
 
 -- a pair, and how many segments of each side have come or are lost
 pub record Linked : Type 0 where
@@ -54,9 +54,12 @@ sooner_of None m = m
 sooner_of (Some m) None = Some m
 sooner_of (Some m) (Some n) = Some (if int_lt n m then n else m)
 
+abbrev pub due_at : ℤ → PairSide → Option ℤ
+due_at now s = due_by now (poll_of s.host.ip_mtu s.socket)
+
 -- when the first of them does
 abbrev pub due_in : PairValue → Option ℤ
-due_in p = sooner_of (due_by (now_in p) (poll_of 1500 p.sides.a.socket)) (due_by (now_in p) (poll_of 1500 p.sides.b.socket))
+due_in p = sooner_of (due_at (now_in p) p.sides.a) (due_at (now_in p) p.sides.b)
 
 abbrev pub reads : PairValue → PairValue
 reads p = takes (takes p (Recv A (2 ^ 30))) (Recv B (2 ^ 30))

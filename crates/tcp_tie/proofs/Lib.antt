@@ -18,5 +18,6 @@ pub mod HostLaws
 pub mod AnsweredLaws
 pub mod AcceptLaws
 pub mod SideLaws
+pub mod SideHosts
 pub mod PairLaws
 pub mod OutcomeLaws

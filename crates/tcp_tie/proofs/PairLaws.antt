@@ -21,11 +21,12 @@ use Rattle.tcp_tie.specs.Pair.History.{Entry, side_of, pasts, adds}
 use Rattle.tcp_tie.specs.Pair.Safe.{IsKept, IsSafe, IsStreamSafe, EndIsComplete, EndsWereComplete, WasComplete}
 use Rattle.tcp_tie.specs.Pair.Sides.{Both, at, put, other}
 use Rattle.tcp_tie.specs.Pair.Steps.{Steps, refusal, happens, acting, acts, was_opened, if_so}
-use Rattle.tcp_tie.specs.Pair.Values.{PairSide, PairValue, new_pair, past_at, with_segments}
+use Rattle.tcp_tie.specs.Pair.Values.{HostContext, PairSide, PairValue, beginning, new_side, past_at, with_segments}
 use Rattle.tcp_tie.proofs.SideLaws.{IsAllowed, Ends, led, led_end}
 
-pub new_is_kept : (a b : TcpValue) → IsFresh a → IsFresh b → IsKept (new_pair a b)
-new_is_kept a b f g = record { sockets = keeps_fresh a b [] [] f g tt tt; ends = tt }
+pub new_is_kept : (host partner : HostContext) (m n : ℕ) (a b : TcpValue) → IsFresh a → IsFresh b →
+    IsKept (beginning (new_side host m a) (new_side partner n b))
+new_is_kept host partner m n a b f g = record { sockets = keeps_fresh a b [] [] f g tt tt; ends = tt }
 
 -- WHAT ISN'T REFUSED
 
@@ -136,5 +137,8 @@ kept_steps : (p : PairValue) (events : List PairEvent) (new : PairValue) → IsK
 kept_steps p [] new k steps = subst (λ (p : PairValue). IsKept p) (sym steps) k
 kept_steps p (event ∷ events) new k steps = kept_steps (happens p event).pair events new (kept_after p event k steps.0) steps.1
 
-pub steps_are_safe : (a b : TcpValue) (events : List PairEvent) (p : PairValue) → IsFresh a → IsFresh b → Steps (new_pair a b) events p → IsSafe p
-steps_are_safe a b events p f g steps = kept_is_safe p (kept_steps (new_pair a b) events p (new_is_kept a b f g) steps)
+pub steps_are_safe :
+    (host partner : HostContext) (m n : ℕ) (a b : TcpValue) (events : List PairEvent) (p : PairValue) → IsFresh a → IsFresh b
+    → Steps (beginning (new_side host m a) (new_side partner n b)) events p → IsSafe p
+steps_are_safe host partner m n a b events p f g steps =
+    kept_is_safe p (kept_steps (beginning (new_side host m a) (new_side partner n b)) events p (new_is_kept host partner m n a b f g) steps)

@@ -4,6 +4,7 @@
 ghost use Rattle.std.specs.Prelude.{IfOk, OnOk};
 ghost use Rattle.tcp_pair.specs.Promises.{IsFresh};
 ghost use Rattle.tcp_pair.specs.Safe.{IsSafe};
+ghost use Rattle.tcp_pair.specs.States.{hosted};
 ghost use Rattle.sockets.specs.TcpReceive.{FitsBuffer};
 
 use anyhow::Result;
@@ -49,7 +50,7 @@ fn opening(alloc: Global) -> Result<Vec<PairEvent>, AllocError> {
 
 /// Two such sockets, with nothing between them.
 fn fresh(alloc: Global) -> Result<Pair>
-    ensures { IfOk result IsSafe }
+    ensures { IfOk result (λ pair. IsSafe (hosted pair)) }
 {
     let a = socket(alloc)?;
     let b = socket(alloc)?;
@@ -57,7 +58,7 @@ fn fresh(alloc: Global) -> Result<Pair>
 }
 
 fn open(alloc: Global, pair: &mut Pair) -> Result<()>
-    ensures { OnOk result (IsSafe pair.new) }
+    ensures { OnOk result (IsSafe (hosted pair.new)) }
 {
     match pair.run(opening(alloc)?) {
         Ok(()) => Ok(()),

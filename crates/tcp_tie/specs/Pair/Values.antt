@@ -1,7 +1,8 @@
 -- A pair of sockets as a value.
-use Rattle.std.specs.Prelude.{ℕ, ℤ, pos, Bool, false, List, [], ◌∷◌, ◌++◌, map, Option, Some, None}
+use Rattle.std.specs.Prelude.{ℕ, ◌<◌, ℤ, pos, Bool, List, [], ◌∷◌, ◌++◌, map, Option, Some, None}
 use Rattle.net_base.specs.Capabilities.{all_checksums}
 use Rattle.net_base.specs.Checksum.TheVariants as Checksum
+use Rattle.net_base.specs.ChecksumCapabilities.{ChecksumCapabilities}
 use Rattle.ip_wire.specs.AddressTests.{is_same_address}
 use Rattle.ip_wire.specs.IpAddress.{IpAddress}
 use Rattle.ip_wire.specs.IpAddress.TheVariants as Ip
@@ -19,9 +20,40 @@ use Rattle.tcp_tie.specs.declared.pair.event.SentSegment.{SentSegment}
 use Rattle.tcp_tie.specs.Pair.History.{Entry, pasts}
 use Rattle.tcp_tie.specs.Pair.Sides.{Both, at}
 
--- a socket, the segments that it sent, oldest first, its last moment, and the state of its random words
+-- WHAT A SOCKET KNOWS
+
+-- What a side knows of its host, whatever happens: a context but for the moment and the random words.
+pub record HostContext : Type 0 where
+  pub has_ip_addr : IpAddress → Bool
+  pub source_for : IpAddress → Option IpAddress
+  pub is_broadcast : IpAddress → Bool
+  pub ip_mtu : ℕ
+  pub checksums : ChecksumCapabilities
+  pub isn_key : Option (List ℕ)
+
+-- A packet holds an IPv6 header of 40 octets, a TCP header of 20, and text. Each link has more: 68 octets for IPv4 (RFC 791), 1280 for IPv6
+-- (RFC 8200).
+abbrev pub HoldsText : HostContext → Type 0
+HoldsText host = 60 < host.ip_mtu
+
+abbrev pub context_on : HostContext → ℤ → ℕ → ContextValue
+context_on host moment random = record {
+  moment = moment;
+  has_ip_addr = host.has_ip_addr;
+  source_for = host.source_for;
+  is_broadcast = host.is_broadcast;
+  ip_mtu = host.ip_mtu;
+  checksums = host.checksums;
+  random = random;
+  isn_key = host.isn_key;
+}
+
+-- A PAIR
+
+-- a socket, its host, the segments that it sent, oldest first, its last moment, and the state of its random words
 pub record PairSide : Type 0 where
   pub socket : TcpValue
+  pub host : HostContext
   pub sent : List SentSegment
   pub moment : ℤ
   pub random : ℕ
@@ -30,17 +62,17 @@ pub record PairValue : Type 0 where
   pub sides : Both PairSide
   pub history : List Entry
 
--- two sockets to which nothing happened yet
-abbrev pub new_pair : TcpValue → TcpValue → PairValue
-new_pair a b = record {
-  sides = record {
-    a = record { socket = a; sent = []; moment = pos 0; random = 1 };
-    b = record { socket = b; sent = []; moment = pos 0; random = 2 };
-  };
-  history = [];
-}
+abbrev pub context_at : Side → PairSide → ContextValue
+context_at side s = context_on s.host s.moment s.random
 
--- WHAT A SOCKET KNOWS
+-- a socket to which nothing happened yet, on any host, with any random words
+abbrev pub new_side : HostContext → ℕ → TcpValue → PairSide
+new_side host random socket = record { socket = socket; host = host; sent = []; moment = pos 0; random = random }
+
+abbrev pub beginning : PairSide → PairSide → PairValue
+beginning a b = record { sides = record { a = a; b = b }; history = [] }
+
+-- THE TWO HOSTS OF THE PAIR THAT RUNS
 
 -- 192.168.1.1 and 192.168.1.2
 abbrev pub address_of : Side → Ipv4Address
@@ -55,17 +87,19 @@ abbrev pub source_at : Side → IpAddress → Option IpAddress
 source_at side (Ip.Ipv4 remote) = Some (Ip.Ipv4 (address_of side))
 source_at side (Ip.Ipv6 remote) = None
 
-abbrev pub context_at : Side → PairSide → ContextValue
-context_at side s = record {
-  moment = s.moment;
+abbrev pub host_of : Side → HostContext
+host_of side = record {
   has_ip_addr = λ address. is_same_address address (Ip.Ipv4 (address_of side));
   source_for = source_at side;
   is_broadcast = λ address. is_same_address address (Ip.Ipv4 broadcast);
   ip_mtu = 1500;
   checksums = all_checksums Checksum.Both;
-  random = s.random;
   isn_key = None;
 }
+
+-- two sockets to which nothing happened yet
+abbrev pub new_pair : TcpValue → TcpValue → PairValue
+new_pair a b = beginning (new_side (host_of A) 1 a) (new_side (host_of B) 2 b)
 
 -- SEGMENTS SENT
 

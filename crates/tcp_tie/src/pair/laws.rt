@@ -1,17 +1,19 @@
 //! What holds of two sockets after every list of events.
 
-ghost use Rattle.std.specs.Prelude.{◌≡◌, ◌++◌, List, None};
+ghost use Rattle.std.specs.Prelude.{◌≡◌, ◌++◌, ℕ, List, None};
 ghost use Rattle.tcp_model.specs.Value.{TcpValue};
 ghost use Rattle.tcp_tie.specs.Promises.{IsFresh};
 ghost use Rattle.tcp_tie.specs.declared.pair.event.PairEvent.{PairEvent};
+ghost use Rattle.tcp_tie.specs.declared.pair.event.Side.{Side};
 ghost use Rattle.tcp_tie.specs.Pair.Safe.{IsKept, IsSafe};
+ghost use Rattle.tcp_tie.specs.Pair.Sides.{at};
 ghost use Rattle.tcp_tie.specs.Pair.Steps.{Steps, refusal, happens};
-ghost use Rattle.tcp_tie.specs.Pair.Values.{PairValue, new_pair};
+ghost use Rattle.tcp_tie.specs.Pair.Values.{HostContext, PairValue, beginning, new_side};
 
-/// The invariant of a pair: two sockets that weren't opened have it, and each event that isn't refused keeps it.
-#[tactic(auto, using(crate::proofs::PairLaws::new_is_kept, crate::proofs::PairLaws::kept_after))]
+/// The invariant of a pair: two sockets that weren't opened have it, on any two hosts, and each event that isn't refused keeps it.
 pub fn pairs_keep_the_invariant()
-    ensures new { (a b : TcpValue) → IsFresh a → IsFresh b → IsKept (new_pair a b) }
+    ensures new { (host partner : HostContext) (m n : ℕ) (a b : TcpValue) → IsFresh a → IsFresh b
+        → IsKept (beginning (new_side host m a) (new_side partner n b)) }
     ensures step { (p : PairValue) (event : PairEvent) → IsKept p → refusal p event ≡ None → IsKept (happens p event).pair }
 {}
 
@@ -25,8 +27,14 @@ pub fn kept_pairs_are_safe()
 /// So after every list of events, whichever sent segments are delivered, how often and in which order.
 #[tactic(auto, using(crate::proofs::PairLaws::steps_are_safe))]
 pub fn pairs_are_safe()
-    ensures safe { (a b : TcpValue) (events : List PairEvent) (p : PairValue) → IsFresh a → IsFresh b
-        → Steps (new_pair a b) events p → IsSafe p }
+    ensures safe { (host partner : HostContext) (m n : ℕ) (a b : TcpValue) (events : List PairEvent) (p : PairValue) → IsFresh a → IsFresh b
+        → Steps (beginning (new_side host m a) (new_side partner n b)) events p → IsSafe p }
+{}
+
+/// No event changes what a side knows of its host.
+#[tactic(auto, using(crate::proofs::SideHosts::event_host))]
+pub fn hosts_stay()
+    ensures event { (p : PairValue) (event : PairEvent) (side : Side) → (at (happens p event).pair.sides side).host ≡ (at p.sides side).host }
 {}
 
 /// A list of events has one outcome. And it may be taken in pieces: so a run that was refused for want of memory, and taken up

@@ -1,17 +1,14 @@
 use Rattle.std.proofs.Common.{inl, inr, refl}
 use Rattle.std.proofs.lemmas.Bool.{leb-true}
-use Rattle.net_base.specs.Ring.{ring}
-use Rattle.std.specs.Prelude.{[], replicate}
 use Rattle.tcp_progress.specs.Met.{events}
+use Rattle.tcp_progress.proofs.MetStarts.{start_a, start_b}
 use Rattle.tcp_progress.proofs.met.two_exchanges_are_enough.Goals as goal
 
 pub returns-clause-one : goal.returns-clause-one
 returns-clause-one c = (
   record {
-    room_a = 64;
-    room_b = 64;
-    ring_a = ring [] (replicate 64 0) 0;
-    ring_b = ring [] (replicate 64 0) 0;
+    a = start_a;
+    b = start_b;
     events = events;
     steps = (refl, (refl, (refl, (refl, (refl, (refl, (refl, (refl, (refl, (refl, refl))))))))));
   },

@@ -1,8 +1,7 @@
 use Rattle.std.proofs.Common.{◌≡◌, inl, inr, ℕ, ◌*◌, ◌≤◌, ℤ, pos, ◌+ℤ◌, ◌≤ℤ◌, length, refl, sym, subst}
 use Rattle.std.proofs.lemmas.Bool.{leb-true}
-use Rattle.net_base.specs.Ring.{ring}
 use Rattle.net_base.specs.Time.{last_moment}
-use Rattle.std.specs.Prelude.{[], ◌++◌, replicate}
+use Rattle.std.specs.Prelude.{◌++◌}
 use Rattle.tcp_model.specs.AddressPair.TheVariants as Pair
 use Rattle.tcp_rules.specs.EndpointPair.{EndpointPair}
 use Rattle.tcp_rules.specs.Moments.{stamp_end_from}
@@ -18,6 +17,7 @@ use Rattle.tcp_progress.specs.Met.{calling, clocks, timed_answered, timed_called
 use Rattle.tcp_progress.specs.Pair.{HasStream, socket_of}
 use Rattle.tcp_progress.specs.Talking.{HasMinutes}
 use Rattle.tcp_progress.proofs.Moments.{le_of}
+use Rattle.tcp_progress.proofs.MetStarts.{start_a, start_b}
 use Rattle.tcp_progress.proofs.met.what_a_connection_with_timestamps_asks_for_is_met.Goals as goal
 
 abbrev own : EndpointPair
@@ -25,10 +25,8 @@ own = record { addresses = Pair.Ipv4 (address_of A) (address_of B); local_port =
 
 pub returns-clause-reached : goal.returns-clause-reached
 returns-clause-reached c = record {
-  room_a = 64;
-  room_b = 64;
-  ring_a = ring [] (replicate 64 0) 0;
-  ring_b = ring [] (replicate 64 0) 0;
+  a = start_a;
+  b = start_b;
   events = clocks ++ calling;
   steps = (refl, (refl, (refl, (refl, refl))));
 }

@@ -15,7 +15,7 @@ use Rattle.tcp_tie.specs.declared.pair.event.Side.{Side}
 use Rattle.tcp_tie.specs.declared.pair.event.Side.TheVariants.{A, B}
 use Rattle.tcp_progress.specs.Course.{IsAskedBy, IsHeard, IsHeardBy, Wants}
 use Rattle.tcp_progress.specs.Met.{gone, mending}
-use Rattle.tcp_progress.specs.Pair.{next_sent, socket_of}
+use Rattle.tcp_progress.specs.Pair.{mtu_of, next_sent, socket_of}
 use Rattle.tcp_progress.specs.Rounds.{takes}
 use Rattle.tcp_progress.proofs.Moments.{le_of}
 use Rattle.tcp_progress.proofs.met.what_a_course_asks_for_is_met.Goals as goal
@@ -37,7 +37,7 @@ known = takes told (Deliver B 1)
 -- MOMENTS
 
 -- a side that waits for nothing doesn't want to be asked
-quiet : {X : Type 0} (p : PairValue) (side : Side) (due : ℤ) → poll_of 1500 (socket_of p side) ≡ At.Ingress → Wants due p side → X
+quiet : {X : Type 0} (p : PairValue) (side : Side) (due : ℤ) → poll_of (mtu_of p side) (socket_of p side) ≡ At.Ingress → Wants due p side → X
 quiet p side due e wants = absurd (wants (subst (λ (at : PollAt). IsBefore due at) (sym e) tt))
 
 not_before : (due t : ℤ) → int_lt due t ≡ false → t ≤ℤ due
@@ -47,7 +47,7 @@ before : (due t : ℤ) → int_lt due t ≡ true → due <ℤ t
 before due t e = first_of (omega (arith, ints), grind (arith, ints))
 
 -- one that waits for a moment does so then, and later
-waits : (p : PairValue) (side : Side) (t due : ℤ) → poll_of 1500 (socket_of p side) ≡ At.Time t → Wants due p side → t ≤ℤ due
+waits : (p : PairValue) (side : Side) (t due : ℤ) → poll_of (mtu_of p side) (socket_of p side) ≡ At.Time t → Wants due p side → t ≤ℤ due
 waits p side t due e wants = by (int_lt due t) refl where
   by : (early : Bool) → int_lt due t ≡ early → t ≤ℤ due
   by true f = absurd (wants (subst (λ (at : PollAt). IsBefore due at) (sym e) (before due t f)))

@@ -1,12 +1,12 @@
 use Rattle.std.proofs.Common.{inl, inr, refl}
-use Rattle.net_base.specs.Ring.{ring}
-use Rattle.std.specs.Prelude.{[], ◌∷◌, ◌++◌, pos, true, replicate}
+use Rattle.std.specs.Prelude.{[], ◌∷◌, ◌++◌, pos, true}
 use Rattle.tcp_model.specs.AddressPair.TheVariants as Pair
 use Rattle.tcp_rules.specs.EndpointPair.{EndpointPair}
 use Rattle.tcp_tie.specs.Pair.Values.{address_of}
 use Rattle.tcp_tie.specs.declared.pair.event.PairEvent.TheVariants.{Offer}
 use Rattle.tcp_tie.specs.declared.pair.event.Side.TheVariants.{A, B}
 use Rattle.tcp_progress.specs.Met.{calling}
+use Rattle.tcp_progress.proofs.MetStarts.{start_a, start_b}
 use Rattle.tcp_progress.proofs.met.what_a_handshake_asks_for_is_met.Goals as goal
 
 abbrev own : EndpointPair
@@ -14,10 +14,8 @@ own = record { addresses = Pair.Ipv4 (address_of A) (address_of B); local_port =
 
 pub returns-clause-reached : goal.returns-clause-reached
 returns-clause-reached c = record {
-  room_a = 64;
-  room_b = 64;
-  ring_a = ring [] (replicate 64 0) 0;
-  ring_b = ring [] (replicate 64 0) 0;
+  a = start_a;
+  b = start_b;
   events = calling ++ Offer A (pos 0) true ∷ [];
   steps = (refl, (refl, (refl, refl)));
 }

@@ -1,18 +1,16 @@
 use Rattle.std.proofs.Common.{inl, inr, refl}
 use Rattle.std.proofs.lemmas.Bool.{leb-true}
-use Rattle.net_base.specs.Ring.{ring}
-use Rattle.std.specs.Prelude.{[], ◌∷◌, ◌++◌, pos, true, replicate}
+use Rattle.std.specs.Prelude.{[], ◌∷◌, ◌++◌, pos, true}
 use Rattle.tcp_tie.specs.declared.pair.event.PairEvent.TheVariants.{Deliver, Offer}
 use Rattle.tcp_tie.specs.declared.pair.event.Side.TheVariants.{A, B}
 use Rattle.tcp_progress.specs.Met.{calling}
+use Rattle.tcp_progress.proofs.MetStarts.{start_a, start_b}
 use Rattle.tcp_progress.proofs.met.what_a_lost_acknowledgement_asks_for_is_met.Goals as goal
 
 pub returns-clause-reached : goal.returns-clause-reached
 returns-clause-reached c = record {
-  room_a = 64;
-  room_b = 64;
-  ring_a = ring [] (replicate 64 0) 0;
-  ring_b = ring [] (replicate 64 0) 0;
+  a = start_a;
+  b = start_b;
   events = calling ++ Offer A (pos 0) true ∷ Deliver A 0 ∷ Offer B (pos 0) true ∷ Deliver B 0 ∷ Offer A (pos 0) true ∷ [];
   steps = (refl, (refl, (refl, (refl, (refl, (refl, (refl, refl)))))));
 }

@@ -1,16 +1,13 @@
 use Rattle.std.proofs.Common.{refl}
-use Rattle.net_base.specs.Ring.{ring}
-use Rattle.std.specs.Prelude.{[], replicate}
 use Rattle.tcp_progress.specs.Met.{calling_both}
 use Rattle.tcp_progress.proofs.MetAcross.{may_cross, may_meet}
+use Rattle.tcp_progress.proofs.MetStarts.{start_a, start_b}
 use Rattle.tcp_progress.proofs.met.what_crossed_syns_ask_for_is_met.Goals as goal
 
 pub returns-clause-reached : goal.returns-clause-reached
 returns-clause-reached c = record {
-  room_a = 64;
-  room_b = 64;
-  ring_a = ring [] (replicate 64 0) 0;
-  ring_b = ring [] (replicate 64 0) 0;
+  a = start_a;
+  b = start_b;
   events = calling_both;
   steps = (refl, (refl, refl));
 }

@@ -1,19 +1,17 @@
 use Rattle.std.proofs.Common.{inl, inr, pos, refl}
 use Rattle.std.proofs.lemmas.Bool.{leb-true}
-use Rattle.net_base.specs.Ring.{ring}
-use Rattle.std.specs.Prelude.{[], ◌++◌, replicate}
+use Rattle.std.specs.Prelude.{◌++◌}
 use Rattle.tcp_tie.specs.declared.pair.event.Side.TheVariants.{A, B}
 use Rattle.tcp_progress.specs.Clocks.{HasStamps}
 use Rattle.tcp_progress.specs.Met.{both_timed, clocks, losing}
 use Rattle.tcp_progress.proofs.Moments.{le_of}
+use Rattle.tcp_progress.proofs.MetStarts.{start_a, start_b}
 use Rattle.tcp_progress.proofs.met.what_timestamps_ask_for_is_met.Goals as goal
 
 pub returns-clause-reached : goal.returns-clause-reached
 returns-clause-reached c = record {
-  room_a = 64;
-  room_b = 64;
-  ring_a = ring [] (replicate 64 0) 0;
-  ring_b = ring [] (replicate 64 0) 0;
+  a = start_a;
+  b = start_b;
   events = clocks ++ losing;
   steps = (refl, (refl, (refl, (refl, (refl, (refl, (refl, (refl, (refl, (refl, (refl, (refl, (refl, (refl, refl))))))))))))));
 }

@@ -1,7 +1,7 @@
 use Rattle.std.proofs.Common.{◌∙◌, ℕ, true, ap, min, max}
 use Rattle.tcp_tie.specs.Pair.Steps.{offered_at}
 use Rattle.tcp_pair.specs.Context.{context_of}
-use Rattle.tcp_pair.specs.Ends.{EndValue, with_own}
+use Rattle.tcp_pair.specs.Ends.{EndValue, on_host, with_own}
 use Rattle.tcp_pair.proofs.Arrived.{went}
 use Rattle.tcp_pair.proofs.Rooms.{fits_offered}
 use Rattle.tcp_pair.proofs.end.End.offer_sent.Goals as goal
@@ -17,4 +17,4 @@ returns-clause-after c =
     c.join_offered.new.sent.items
     c.self.inside.opened c.self.inside.accepted c.args.moment c.set_now.ensures c.offer.ensures.socket c.in_ok-try_reserve.ensures.items c.join_offered.ensures
     c.settle.ensures
-    ∙ ap (λ (e : EndValue). with_own e (offered_at e.side (record e.own { moment = c.args.moment }) true)) c.self.view_is
+    ∙ ap (λ (e : EndValue). with_own e (offered_at e.side (record (on_host e) { moment = c.args.moment }) true)) c.self.view_is

@@ -5,7 +5,7 @@ use Rattle.tcp_socket.specs.Replies.{replies_in}
 use Rattle.tcp_tie.specs.declared.pair.event.SentSegment.{SentSegment}
 use Rattle.tcp_tie.specs.Pair.Steps.{comes_to}
 use Rattle.tcp_tie.specs.Pair.Values.{and_reply}
-use Rattle.tcp_pair.specs.Ends.{EndValue, with_own}
+use Rattle.tcp_pair.specs.Ends.{EndValue, on_host, with_own}
 use Rattle.tcp_pair.proofs.Arrived.{came}
 use Rattle.tcp_pair.proofs.end.End.take.Goals as goal
 
@@ -18,4 +18,4 @@ returns-then-accepts-clause-after c =
     c.join_answer.new.sent.items c.accepts.ensures c.if-accepts.true c.process-answer.ensures.socket c.process-answer.ensures.drawn
     (c.join_answer.ensures ∙ ap (λ (sent : List SentSegment). and_reply sent (replies_in c.process-answer.result)) c.in_ok-try_reserve.ensures.items
     ∙ ap (λ (answer : Option Reply). and_reply c.self.inside.sent.items answer) c.process-answer.ensures.answer)
-    ∙ ap (λ (e : EndValue). with_own e (comes_to e.side e.own c.args.x.now)) c.self.view_is
+    ∙ ap (λ (e : EndValue). with_own e (comes_to e.side (on_host e) c.args.x.now)) c.self.view_is

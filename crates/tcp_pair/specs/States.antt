@@ -1,0 +1,31 @@
+-- A pair as a program shows it. What a side knows of its host has functions, which no value of a program has: so it stands beside.
+use Rattle.std.specs.Prelude.{ℕ, ℤ, List}
+use Rattle.tcp_model.specs.Value.{TcpValue}
+use Rattle.tcp_tie.specs.declared.pair.event.SentSegment.{SentSegment}
+use Rattle.tcp_tie.specs.declared.pair.event.Side.{Side}
+use Rattle.tcp_tie.specs.declared.pair.event.Side.TheVariants.{A, B}
+use Rattle.tcp_tie.specs.Pair.History.{Entry}
+use Rattle.tcp_tie.specs.Pair.Sides.{Both}
+use Rattle.tcp_tie.specs.Pair.Values.{PairSide, PairValue, host_of}
+
+-- a socket, the segments that it sent, oldest first, its last moment, and the state of its random words
+pub record SideState : Type 0 where
+  pub socket : TcpValue
+  pub sent : List SentSegment
+  pub moment : ℤ
+  pub random : ℕ
+
+pub record PairState : Type 0 where
+  pub sides : Both SideState
+  pub history : List Entry
+
+-- on the host of this side, and without it
+abbrev pub side_on : Side → SideState → PairSide
+side_on side s = record { socket = s.socket; host = host_of side; sent = s.sent; moment = s.moment; random = s.random }
+
+abbrev pub bare : PairSide → SideState
+bare s = record { socket = s.socket; sent = s.sent; moment = s.moment; random = s.random }
+
+-- both on their hosts: what the laws speak of
+abbrev pub hosted : PairState → PairValue
+hosted p = record { sides = record { a = side_on A p.sides.a; b = side_on B p.sides.b }; history = p.history }
