@@ -1,7 +1,8 @@
 -- A question for an own address is answered, and whose answer is heard is known.
-use Rattle.std.proofs.Common.{◌≡◌, ℕ, ◌+◌, ◌<◌, Bool, true, false, ◌&&◌, ◌||◌, if◌then◌else◌, inl, inr, ℤ, pos, ◌+ℤ◌, int_lt, List, [], ◌∷◌, ◌++◌, length}
+use Rattle.std.proofs.Common.{◌≡◌, ℕ, ◌+◌, ◌<◌, Bool, true, false, ◌||◌, if◌then◌else◌, inl, inr, ℤ, pos, ◌+ℤ◌, int_lt, List, [], ◌∷◌, ◌++◌, length}
 use Rattle.std.proofs.Common.{Option, Some, None, refl, sym, ap, ◌∙◌, subst, arith}
 use Rattle.std.specs.Prelude.{nat_lt, find, position, remove}
+use Rattle.std.proofs.lemmas.Bool.{and_from, or_left, or_right}
 use Rattle.std.proofs.lemmas.Int.{ints}
 use Rattle.std.proofs.lemmas.Slice.Eq.{bytes_eq-Decides}
 use Rattle.net_base.specs.Device.{Move, Took, Emitted, Denied}
@@ -129,19 +130,6 @@ module _ {D : Type 0} (moves : D → Move → D → Type 0) (t : ℤ) (s s' : St
 
 -- THE QUESTION IS ANSWERED
 
-both : (a b : Bool) → a ≡ true → b ≡ true → (a && b) ≡ true
-both true true e f = refl
-both true false e f = f
-both false b e f = e
-
-either : (a b : Bool) → a ≡ true → (a || b) ≡ true
-either true b e = refl
-either false b e = absurd (let clash : false ≡ true = e in cc)
-
-or_second : (a b : Bool) → b ≡ true → (a || b) ≡ true
-or_second true b e = refl
-or_second false b e = e
-
 module _ {D : Type 0} (moves : D → Move → D → Type 0) (t : ℤ) (s s' : State D) (i : InnerValue) (padding : List ℕ) (own station : EthernetAddress)
     (on : s.host.inner.hardware ≡ Hardware.Ethernet own) (sealed : AreSealed i.checksums s.host.inner.checksums) where
   answers : (a asked : Ipv4Address) → is_own s.host.inner (Address.Ipv4 asked) ≡ true → IsNeighbor s.host.inner station a
@@ -155,7 +143,7 @@ module _ {D : Type 0} (moves : D → Move → D → Type 0) (t : ℤ) (s s' : St
       (arrives i (Hardware.Ethernet own) s.host.inner.checksums (Asks (Query.Arp station a asked)) padding sealed (tt, question)) in
       let came_in : Came moves t s s' (frame_of i (Asks (Query.Arp station a asked)) ++ padding) (arp_request station a asked) =
       came moves t s s' (frame_of i (Asks (Query.Arp station a asked)) ++ padding) (arp_request station a asked) only read
-      (or_second (is_same_hardware s.host.inner.hardware (Hardware.Ethernet every_station)) true refl) step in
+      (or_right (is_same_hardware s.host.inner.hardware (Hardware.Ethernet every_station)) true refl) step in
       by came_in.mid came_in.took came_in.awaited
       (subst (λ (o : Option ArpRepr). Replied moves came_in.awaited (told o)
       (sender came_in.mid (arp_arrived (at_moment t s.host.inner) (arp_request station a asked)) s.host.left) (sender_of moves s'))
@@ -164,8 +152,8 @@ module _ {D : Type 0} (moves : D → Move → D → Type 0) (t : ℤ) (s s' : St
       answer : arp_answer (at_moment t s.host.inner) (arp_request station a asked) ≡ Some (arp_reply own asked station a)
       answer =
           ap (λ (b : Bool). if b then answer_at s.host.inner.hardware (arp_request station a asked) else None)
-          (either (counts (at_moment t s.host.inner) (arp_request station a asked)) (probes (at_moment t s.host.inner) (arp_request station a asked))
-          (both (is_own s.host.inner (Address.Ipv4 asked)) _ mine (both _ _ (both _ _ near.one near.sound) near.near)))
+          (or_left (counts (at_moment t s.host.inner) (arp_request station a asked)) (probes (at_moment t s.host.inner) (arp_request station a asked))
+          (and_from (is_own s.host.inner (Address.Ipv4 asked)) _ mine (and_from _ _ (and_from _ _ near.one near.sound) near.near)))
           ∙ ap (λ (h : HardwareAddress). answer_at h (arp_request station a asked)) on
 
       by : (mid : D) → moves s.device (Took t (frame_of i (Asks (Query.Arp station a asked)) ++ padding)) mid → (awaited : Bool)
@@ -198,15 +186,15 @@ module _ {D : Type 0} (moves : D → Move → D → Type 0) (t : ℤ) (s s' : St
       subst (λ (h : HardwareAddress). IsContent h s.host.inner.checksums (frame_of i (Tells reply) ++ padding) (Some (read_of i (Tells reply)))) (sym on)
       (arrives i (Hardware.Ethernet own) s.host.inner.checksums (Tells reply) padding sealed (tt, value)) in
       let heard : is_heard (at_moment t s.host.inner) (Some (arp_link reply)) ≡ true =
-      either (is_same_hardware s.host.inner.hardware (Hardware.Ethernet own)) _
+      or_left (is_same_hardware s.host.inner.hardware (Hardware.Ethernet own)) _
       (ap (λ (h : HardwareAddress). is_same_hardware h (Hardware.Ethernet own)) on ∙ (bytes_eq-Decides own.0 own.0).1 refl) in
       let came_in : Came moves t s s' (frame_of i (Tells reply) ++ padding) reply =
       came moves t s s' (frame_of i (Tells reply) ++ padding) reply only read heard step in
       let learns : arp_arrived (at_moment t s.host.inner) reply
       ≡ with_neighbor (at_moment t s.host.inner) (Address.Ipv4 asked) (Hardware.Ethernet station) =
       ap (λ (b : Bool). if b then with_neighbor (at_moment t s.host.inner) (Address.Ipv4 asked) (Hardware.Ethernet station) else at_moment t s.host.inner)
-      (both (is_for_own (at_moment t s.host.inner) reply || is_from_known (at_moment t s.host.inner) reply) _ (either _ _ mine)
-      (both _ _ (both _ _ near.one near.sound) near.near)) in
+      (and_from (is_for_own (at_moment t s.host.inner) reply || is_from_known (at_moment t s.host.inner) reply) _ (or_left _ _ mine)
+      (and_from _ _ (and_from _ _ near.one near.sound) near.near)) in
       let ends : sender_of moves s' ≡ sender came_in.mid (arp_arrived (at_moment t s.host.inner) reply) s.host.left =
       silent came_in.mid (arp_arrived (at_moment t s.host.inner) reply) came_in.awaited came_in.replied in
       ap (λ (x : Sender D). link_address x.inner to) ends ∙ ap (λ (x : InnerValue). link_address x to) learns

@@ -30,16 +30,12 @@ use Rattle.interface.specs.Turn.{is_waiting, let_through, waits_until, plan_at, 
 use Rattle.interface.specs.Turn.{ItemTurns}
 use Rattle.interface.specs.Turn.{PlaceTurns, SendsAs, is_raw, with_source, sourced}
 use Rattle.interface.specs.Remote.{context_for}
-use Rattle.std.proofs.lemmas.Bool.{or_parts}
+use Rattle.std.proofs.lemmas.Bool.{or_parts, or_right}
 use Rattle.interface.specs.declared.turn.Turned.{Turned}
 
 not_false : (b : Bool) → not b ≡ false → b ≡ true
 not_false true e = refl
 not_false false e = absurd (let clash : true ≡ false = e in cc)
-
-or_other : (a b : Bool) → b ≡ true → (a || b) ≡ true
-or_other true b e = refl
-or_other false b e = e
 
 module _ {D : Type 0} (moves : D → Move → D → Type 0) (turn : Option IpAddress) (x x' : Sender D) (v : UdpValue) (d : UdpMetadata × List ℕ)
     (p : PacketValue) (takes : TakesDatagram (context_of x.inner) v.settings d p) (may : never_leaves x.inner p.header ≡ false) where
@@ -69,7 +65,7 @@ module _ {D : Type 0} (moves : D → Move → D → Type 0) (turn : Option IpAdd
       not_false (may_come_from x.inner (source_of p.header) (destination_of p.header))
       (or_parts (is_foreign_loopback x.inner (destination_of p.header)) _ leaves_not).1 in
       ap (λ (keeps : Bool). record p { header = if keeps then p.header else with_source p.header (source_for x.inner.addresses (destination_of p.header)) })
-      (or_other (is_raw p.payload) (may_come_from x.inner (source_of p.header) (destination_of p.header)) from_here)
+      (or_right (is_raw p.payload) (may_come_from x.inner (source_of p.header) (destination_of p.header)) from_here)
 
   sends : (item' : Item Socket) (turned : Turned) (meta : Meta) → SendsBy moves turn (Some p) x (offered_with meta) false turned x' item'
       → OursLeaves turned (Some item')

@@ -1,7 +1,8 @@
 -- Whose turn it is to be asked for, and since when the others were.
-use Rattle.std.proofs.Common.{◌≡◌, ℕ, zero, suc, Bool, true, false, ◌||◌, ℤ, ◌≤ℤ◌, int_lt, List, [], ◌∷◌, Option, Some, None, refl, ap, ◌∙◌, subst, arith}
+use Rattle.std.proofs.Common.{◌≡◌, ℕ, zero, suc, Bool, true, false, ℤ, ◌≤ℤ◌, int_lt, List, [], ◌∷◌, Option, Some, None, refl, ap, ◌∙◌, subst, arith}
 use Rattle.std.specs.Prelude.{slice_get}
 use Rattle.std.specs.List.{filter_map, list_any, cons_option}
+use Rattle.std.proofs.lemmas.Bool.{or_parts}
 use Rattle.std.proofs.lemmas.Int.{ints}
 use Rattle.interface_tables.specs.Inner.{InnerValue}
 use Rattle.interface_egress.specs.declared.socket_set.SocketStorage.{SocketStorage}
@@ -20,10 +21,6 @@ abbrev nobody : Option Awaited
 nobody = None
 
 -- WHAT HOLDS OF NONE THAT IS FOUND doesn't of one of them
-
-or_parts : (a b : Bool) → (a || b) ≡ false → (a ≡ false) × (b ≡ false)
-or_parts true b is = absurd (let clash : true ≡ false = is in cc)
-or_parts false b is = (refl, is)
 
 module _ (test : Awaited → Bool) where
   not_first : (o : Option Awaited) (more : List Awaited) (b : Awaited) → o ≡ Some b → list_any test (cons_option o more) ≡ false → test b ≡ false
