@@ -9,7 +9,7 @@ use Rattle.tcp_tie.specs.Pair.Sides.{at, other}
 use Rattle.tcp_model.specs.Value.{free_in, room_of}
 use Rattle.tcp_tie.specs.Pair.Values.{PairValue, past_at}
 use Rattle.tcp_tie.specs.declared.pair.event.PairEvent.{PairEvent}
-use Rattle.tcp_tie.specs.declared.pair.event.PairEvent.TheVariants.{Offer, Deliver}
+use Rattle.tcp_tie.specs.declared.pair.event.PairEvent.TheVariants.{Clock, Offer, Deliver}
 use Rattle.tcp_tie.specs.declared.pair.event.SentSegment.{SentSegment}
 use Rattle.tcp_tie.specs.declared.pair.event.Side.{Side}
 use Rattle.tcp_progress.specs.Anew.{put_off_in}
@@ -30,8 +30,9 @@ abbrev pub end_of : ℤ → List (ℤ × PairEvent) → ℤ
 end_of now [] = now
 end_of now (x ∷ course) = end_of x.0 course
 
--- a side is asked at the moment that the clock shows
+-- a side is asked at the moment that the clock shows, and its host's clock shows no other
 abbrev pub IsAt : ℤ → PairEvent → Type 0
+IsAt now (Clock side moment) = moment ≡ now
 IsAt now (Offer side moment sent) = moment ≡ now
 IsAt now other = Unit {0}
 

@@ -6,7 +6,7 @@ use Rattle.tcp_tie.specs.History.{listened, called, with_written, with_read, clo
 use Rattle.tcp_tie.specs.Tie.{Past, no_past}
 use Rattle.tcp_tie.specs.declared.pair.event.Side.{Side}
 use Rattle.tcp_tie.specs.declared.pair.event.PairEvent.{PairEvent}
-use Rattle.tcp_tie.specs.declared.pair.event.PairEvent.TheVariants.{Listen, Connect, Send, Recv, Close, Abort, TcpSetting, Offer, Deliver}
+use Rattle.tcp_tie.specs.declared.pair.event.PairEvent.TheVariants.{Listen, Connect, Send, Recv, Close, Abort, TcpSetting, Clock, Offer, Deliver}
 use Rattle.tcp_tie.specs.declared.pair.event.PairAnswer.{PairAnswer}
 use Rattle.tcp_tie.specs.declared.pair.event.PairAnswer.TheVariants.{Done, Count, Bytes, Error}
 use Rattle.tcp_tie.specs.Pair.Sides.{Both, at, put, other}
@@ -26,6 +26,7 @@ side_of (Recv side count) = side
 side_of (Close side) = side
 side_of (Abort side) = side
 side_of (TcpSetting side setting) = side
+side_of (Clock side moment) = side
 side_of (Offer side moment sent) = side
 side_of (Deliver from k) = other from
 
@@ -54,6 +55,7 @@ adds (Recv side count) answer found p = recv_adds answer p
 adds (Close side) answer found p = closed_by (closes_in found) p
 adds (Abort side) answer found p = p
 adds (TcpSetting side setting) answer found p = p
+adds (Clock side moment) answer found p = p
 adds (Offer side moment sent) answer found p = p
 adds (Deliver from k) answer found p = p
 

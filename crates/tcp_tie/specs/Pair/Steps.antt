@@ -26,7 +26,7 @@ use Rattle.tcp_model.specs.Value.{TcpValue, Arrived, unoffered}
 use Rattle.tcp_tie.specs.declared.pair.event.Side.{Side}
 use Rattle.tcp_tie.specs.declared.pair.event.SentSegment.{SentSegment}
 use Rattle.tcp_tie.specs.declared.pair.event.PairEvent.{PairEvent}
-use Rattle.tcp_tie.specs.declared.pair.event.PairEvent.TheVariants.{Listen, Connect, Send, Recv, Close, Abort, TcpSetting, Offer, Deliver}
+use Rattle.tcp_tie.specs.declared.pair.event.PairEvent.TheVariants.{Listen, Connect, Send, Recv, Close, Abort, TcpSetting, Clock, Offer, Deliver}
 use Rattle.tcp_tie.specs.declared.pair.event.PairAnswer.{PairAnswer}
 use Rattle.tcp_tie.specs.declared.pair.event.PairAnswer.TheVariants.{Done, Count, Bytes, Error}
 use Rattle.tcp_tie.specs.declared.pair.event.PairRefused.{PairRefused}
@@ -58,6 +58,7 @@ refusal p (Deliver from k) = if_so (not (nat_lt k (length (at p.sides from).sent
 refusal p (Listen side endpoint) = if_so (was_opened (at (pasts p.history) side).opening) OpenedTwice
 refusal p (Connect side remote local) = if_so (was_opened (at (pasts p.history) side).opening) OpenedTwice
 refusal p (Send side bytes) = if_so (nat_le (2 ^ 29) (length (at (pasts p.history) side).written + length bytes)) TooManyBytes
+refusal p (Clock side moment) = if_so (not (may_come (at p.sides side).moment moment)) Moment
 refusal p (Offer side moment sent) = if_so (not (may_come (at p.sides side).moment moment)) Moment
 refusal p other = None
 
@@ -116,6 +117,10 @@ set_by (Set.Retries limit) v = set_retries v limit
 set_by (Set.MinRto duration) v = set_min_rto v duration
 set_by (Set.FineTimer fine) v = set_fine_timer v fine
 
+-- its host knows a later moment
+abbrev pub at_clock : PairSide → ℤ → PairSide
+at_clock s moment = record s { moment = moment }
+
 -- asked at its last moment, and told whether the segment was sent
 abbrev pub offered_at : Side → PairSide → Bool → PairSide
 offered_at side s false = record s { socket = settled false (offer_of (context_at side s) s.socket).socket }
@@ -151,7 +156,8 @@ acts s others (Recv side count) = reads s (recv_answer s.socket count)
 acts s others (Close side) = acted Done s (close_after s.socket)
 acts s others (Abort side) = acted Done s (abort_after s.socket)
 acts s others (TcpSetting side setting) = acted Done s (set_by setting s.socket)
-acts s others (Offer side moment sent) = record { answer = Done; side = offered_at side (record s { moment = moment }) sent }
+acts s others (Clock side moment) = record { answer = Done; side = at_clock s moment }
+acts s others (Offer side moment sent) = record { answer = Done; side = offered_at side (at_clock s moment) sent }
 acts s others (Deliver from k) = record { answer = Done; side = handed (other from) s (slice_get others k) }
 
 -- STEPS OF THE PAIR

@@ -32,7 +32,7 @@ pub enum TcpSetting {
     FineTimer(bool),
 }
 
-/// What happens to the pair: a call of a user on one socket, an offer with its settling, or a delivery.
+/// What happens to the pair: a call of a user on one socket, time that passes at a host, an offer with its settling, or a delivery.
 #[derive(Debug, Drop)]
 pub enum PairEvent {
     Listen(Side, IpListenEndpoint),
@@ -44,6 +44,8 @@ pub enum PairEvent {
     Close(Side),
     Abort(Side),
     TcpSetting(Side, TcpSetting),
+    /// The clock of the side's host goes on to this moment. The socket isn't asked.
+    Clock(Side, Instant),
     /// The socket is asked for a segment at this moment, and told whether it was sent.
     Offer(Side, Instant, bool),
     /// Hands the segment of this number, of those that the named side sent, to the other side.
