@@ -21,3 +21,4 @@ pub mod SideLaws
 pub mod SideHosts
 pub mod PairLaws
 pub mod OutcomeLaws
+pub mod AddressLaws

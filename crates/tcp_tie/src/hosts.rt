@@ -1,7 +1,8 @@
 //! The invariant between two sockets, where what each of them sent is told by the segments of its host.
 
-ghost use Rattle.std.specs.Prelude.{◌≡◌, ◌≢◌, ◌⊎◌, ◌==◌, ◌++◌, ℕ, true, if◌then◌else◌, List, [], ◌∷◌, Some, slice_get};
+ghost use Rattle.std.specs.Prelude.{◌≡◌, ◌≢◌, ◌⊎◌, ◌==◌, ◌++◌, ℕ, ℤ, true, if◌then◌else◌, List, [], ◌∷◌, Some, slice_get};
 ghost use Rattle.std.specs.List.{AllByRecursion};
+ghost use Rattle.ip_wire.specs.Ip.{source_of, destination_of};
 ghost use Rattle.ip_wire.specs.IpRepr.{IpRepr};
 ghost use Rattle.ip_wire.specs.Tcp.{normal};
 ghost use Rattle.ip_wire.specs.TcpHeader.{TcpHeader};
@@ -9,12 +10,15 @@ ghost use Rattle.tcp_model.specs.Context.{ContextValue};
 ghost use Rattle.tcp_law.specs.Alone.{AreResets};
 ghost use Rattle.tcp_law.specs.Segment.Control.{Rst};
 ghost use Rattle.tcp_model.specs.Arrival.{arrives};
+ghost use Rattle.tcp_model.specs.Names.{accepts};
 ghost use Rattle.tcp_model.specs.Offers.{offer_of};
 ghost use Rattle.tcp_model.specs.Opening.{is_first_syn};
 ghost use Rattle.tcp_model.specs.Settled.{settled};
 ghost use Rattle.tcp_model.specs.Value.{TcpValue};
+ghost use Rattle.tcp_model.specs.declared.block.Block.{Block};
 ghost use Rattle.tcp_tie.specs.Endpoints.{Ports, HasPorts};
 ghost use Rattle.tcp_tie.specs.Host.{Made, made_of, sent_from, past_at, IsAmong, and_answer, and_offer};
+ghost use Rattle.tcp_tie.specs.Pair.Values.{HostContext, context_on};
 ghost use Rattle.tcp_tie.specs.Promises.{KeepsAlone};
 ghost use Rattle.tcp_tie.specs.Tie.{Past, Keeps, segment_of};
 
@@ -62,4 +66,14 @@ pub fn normal_segments_are_seen_alike()
     ensures segment { (header : TcpHeader) (bytes : List ℕ) → segment_of (normal header) bytes ≡ segment_of header bytes }
     ensures made { (header : TcpHeader) (bytes : List ℕ) → made_of (normal header) bytes ≡ made_of header bytes }
     ensures opening { (header : TcpHeader) → is_first_syn (normal header) ≡ is_first_syn header }
+{}
+
+/// Of the IP header of a segment that comes a socket reads the addresses alone; and of its host's random words nothing, where first numbers are made
+/// with a key (RFC 6528).
+pub fn only_addresses_matter()
+    ensures accepts { (b : Block) (ip other : IpRepr) (header : TcpHeader) → source_of ip ≡ source_of other → destination_of ip ≡ destination_of other
+        → accepts b ip header ≡ accepts b other header }
+    ensures arrives { (host : HostContext) (key : List ℕ) (moment : ℤ) (random words : ℕ) (v : TcpValue) (ip other : IpRepr) (header : TcpHeader)
+        (bytes : List ℕ) → host.isn_key ≡ Some key → source_of ip ≡ source_of other → destination_of ip ≡ destination_of other
+        → arrives (context_on host moment random) v ip header bytes ≡ arrives (context_on host moment words) v other header bytes }
 {}

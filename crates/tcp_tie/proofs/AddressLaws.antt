@@ -1,0 +1,200 @@
+-- Of the header of a packet that comes the addresses matter alone; and of a host's random words nothing where first numbers are made with a key.
+use Rattle.std.proofs.Common.{◌≡◌, ℕ, ◌==◌, not, ◌&&◌, Bool, true, false, if◌then◌else◌, List, length, Option, Some, None, is_some, refl, sym, ap, ◌∙◌, subst}
+use Rattle.std.proofs.lemmas.Bool.{cond_both}
+use Rattle.std.specs.Prelude.{ℤ}
+use Rattle.ip_wire.specs.Ip.{source_of, destination_of}
+use Rattle.ip_wire.specs.IpAddress.{IpAddress}
+use Rattle.ip_wire.specs.IpAddress.TheVariants as Address
+use Rattle.ip_wire.specs.IpProtocol.TheVariants as Protocol
+use Rattle.ip_wire.specs.IpRepr.{IpRepr}
+use Rattle.ip_wire.specs.IpRepr.TheVariants as Ip
+use Rattle.ip_wire.specs.Ipv4Address.{Ipv4Address}
+use Rattle.ip_wire.specs.Ipv6Address.{Ipv6Address}
+use Rattle.ip_wire.specs.TcpHeader.{TcpHeader}
+use Rattle.tcp_model.specs.declared.block.Block.{Block}
+use Rattle.tcp_model.specs.Acknowledged.{acknowledged, duplicates_after}
+use Rattle.tcp_model.specs.Answers.{acked, answer_for, drawn, may_draw, with_draw, ranges_held}
+use Rattle.tcp_model.specs.Arrival.{arrives, arrives_in, challenges_reset, checked, comes_again, continued, draws_first, echo_heard, finished}
+use Rattle.tcp_model.specs.Arrival.{has_length, inside, is_void_syn, outside, passed_outside, received, reset_comes, taken, takes_reset, tells_news, told}
+use Rattle.tcp_model.specs.Arrival.{waiting_anew, with_content}
+use Rattle.tcp_model.specs.Checks.{Check, acknowledgement_check, is_in_window, taken_down}
+use Rattle.tcp_model.specs.Checks.Check.{Passes, Old, Drops, Draws, Resets}
+use Rattle.tcp_model.specs.Context.{ContextValue}
+use Rattle.tcp_model.specs.Controls.{is_syn, is_rst}
+use Rattle.tcp_model.specs.EndpointPair.{EndpointPair}
+use Rattle.tcp_model.specs.Endpoints.{is_connected_by}
+use Rattle.tcp_model.specs.Names.{accepts, accepts_in}
+use Rattle.tcp_model.specs.Opening.{acks_syn, is_first_syn, opens, syn_answered, takes_answer}
+use Rattle.tcp_model.specs.Retries.{heard}
+use Rattle.tcp_model.specs.Segments.{no_ranges, rst_reply}
+use Rattle.tcp_model.specs.State.{State}
+use Rattle.tcp_model.specs.State.TheVariants as In
+use Rattle.tcp_model.specs.States.{is_closed}
+use Rattle.tcp_model.specs.Text.{Texted, with_text}
+use Rattle.tcp_model.specs.Timeout.{timeout_restarted}
+use Rattle.tcp_model.specs.Timestamps.{stamp_taken}
+use Rattle.tcp_model.specs.Value.{TcpValue, Arrived, answered_with, dropped, ended, free_in, queued_in, unoffered, with_block}
+use Rattle.tcp_tie.specs.Pair.Values.{HostContext, context_on}
+
+-- ADDRESSES ALONE
+
+abbrev header4 : Ipv4Address → Ipv4Address → IpRepr
+header4 source destination = Ip.Ipv4 (record {
+  src_addr = source;
+  dst_addr = destination;
+  next_header = Protocol.Tcp;
+  payload_len = 0;
+  hop_limit = 0;
+  ident = 0;
+  dont_frag = false;
+})
+
+abbrev header6 : Ipv6Address → Ipv6Address → IpRepr
+header6 source destination =
+    Ip.Ipv6 (record { src_addr = source; dst_addr = destination; next_header = Protocol.Tcp; payload_len = 0; hop_limit = 0 })
+
+-- a header between these addresses, and with nothing else
+abbrev between : IpAddress → IpAddress → IpRepr
+between (Address.Ipv4 source) (Address.Ipv4 destination) = header4 source destination
+between (Address.Ipv6 source) (Address.Ipv6 destination) = header6 source destination
+between (Address.Ipv4 source) (Address.Ipv6 destination) = header4 source source
+between (Address.Ipv6 source) (Address.Ipv4 destination) = header6 source source
+
+abbrev bare : IpRepr → IpRepr
+bare ip = between (source_of ip) (destination_of ip)
+
+bare_same : (ip other : IpRepr) → source_of ip ≡ source_of other → destination_of ip ≡ destination_of other → bare ip ≡ bare other
+bare_same ip other source destination = λ k. between (source k) (destination k)
+
+-- WHO ACCEPTS
+
+connected_bare : (pair : Option EndpointPair) (ip : IpRepr) (header : TcpHeader) → is_connected_by pair ip header ≡ is_connected_by pair (bare ip) header
+connected_bare None ip header = refl
+connected_bare (Some pair) (Ip.Ipv4 v) header = refl
+connected_bare (Some pair) (Ip.Ipv6 v) header = refl
+
+listens_bare : (b : Block) (ip : IpRepr) (header : TcpHeader) → accepts_in In.Listen b ip header ≡ accepts_in In.Listen b (bare ip) header
+listens_bare b (Ip.Ipv4 v) header = refl
+listens_bare b (Ip.Ipv6 v) header = refl
+
+accepts_bare : (state : State) (b : Block) (ip : IpRepr) (header : TcpHeader) → accepts_in state b ip header ≡ accepts_in state b (bare ip) header
+accepts_bare In.Closed b ip header = refl
+accepts_bare In.Listen b ip header = listens_bare b ip header
+accepts_bare state b ip header = connected_bare b.names.pair ip header
+
+pub accepts_same : (b : Block) (ip other : IpRepr) (header : TcpHeader) → source_of ip ≡ source_of other → destination_of ip ≡ destination_of other →
+    accepts b ip header ≡ accepts b other header
+accepts_same b ip other header source destination =
+    accepts_bare b.state b ip header ∙ ap (λ (h : IpRepr). accepts_in b.state b h header) (bare_same ip other source destination)
+    ∙ sym (accepts_bare b.state b other header)
+
+-- WHAT COMES OF IT
+
+module _ (host : HostContext) (key : List ℕ) (moment : ℤ) (random words : ℕ) where
+  abbrev keyed : HostContext
+  keyed = record host { isn_key = Some key }
+
+  abbrev cx : ContextValue
+  cx = context_on keyed moment random
+
+  abbrev cy : ContextValue
+  cy = context_on keyed moment words
+
+  acked_bare : (v : TcpValue) (ip : IpRepr) (header : TcpHeader) (ranges : List (Option (ℕ × ℕ))) → acked cx v ip header ranges ≡ acked cy v (bare ip) header ranges
+  acked_bare v (Ip.Ipv4 x) header ranges = refl
+  acked_bare v (Ip.Ipv6 x) header ranges = refl
+
+  drawn_bare : (v : TcpValue) (ip : IpRepr) (header : TcpHeader) → drawn cx v ip header ≡ drawn cy v (bare ip) header
+  drawn_bare v ip header = λ k. if may_draw moment v.block.timers.draws_from then acked_bare (with_draw v moment) ip header no_ranges k else dropped v
+
+  outside_bare : (v : TcpValue) (ip : IpRepr) (header : TcpHeader) (again : Bool) → outside cx v ip header again ≡ outside cy v (bare ip) header again
+  outside_bare v ip header again =
+      λ k. if is_closed v.block.state then dropped v
+      else if again then acked_bare (waiting_anew v header moment) ip header no_ranges k
+      else drawn_bare (waiting_anew v header moment) ip header k
+
+  passed_bare : (v : TcpValue) (ip : IpRepr) (header : TcpHeader) (size by : ℕ) → passed_outside cx v ip header size by ≡
+      passed_outside cy v (bare ip) header size by
+  passed_bare v ip header size by =
+      λ k. if tells_news v header size
+      then outside_bare (acknowledged (echo_heard v header by moment) by moment) ip header (has_length header size) k
+      else outside_bare v ip header false k
+
+  answer_bare : (v : TcpValue) (ip : IpRepr) (header : TcpHeader) (size : ℕ) (fills : Bool) (place : Option ℕ) →
+      answer_for cx v ip header size fills place ≡ answer_for cy v (bare ip) header size fills place
+  answer_bare v ip header size fills None = refl
+  answer_bare v ip header size fills (Some place) = acked_bare v ip header (ranges_held v place)
+
+  content_bare : (v : TcpValue) (ip : IpRepr) (header : TcpHeader) (bytes : List ℕ) → with_content cx v ip header bytes ≡ with_content cy v (bare ip) header bytes
+  content_bare v ip header bytes = answer_bare _ ip header (length bytes) (with_text v header bytes).fills (with_text v header bytes).early
+
+  taken_bare : (v : TcpValue) (ip : IpRepr) (header : TcpHeader) (bytes : List ℕ) (by : ℕ) → taken cx v ip header bytes by ≡ taken cy v (bare ip) header bytes by
+  taken_bare v ip header bytes by =
+      let u = acknowledged (echo_heard v header by moment) by moment in
+      λ k. if is_closed u.block.state then dropped u
+      else content_bare (told u header (duplicates_after v.block header (length bytes) by) moment) ip header bytes k
+
+  inside_bare : (v : TcpValue) (ip : IpRepr) (header : TcpHeader) (bytes : List ℕ) (by : ℕ) → inside cx v ip header bytes by ≡ inside cy v (bare ip) header bytes by
+  inside_bare v ip header bytes by = λ k. if is_syn header.control then drawn_bare v ip header k else taken_bare v ip header bytes by k
+
+  resets_bare : (v : TcpValue) (ip : IpRepr) (header : TcpHeader) (size : ℕ) → answered_with v (rst_reply ip header size) ≡
+      answered_with v (rst_reply (bare ip) header size)
+  resets_bare v (Ip.Ipv4 x) header size = refl
+  resets_bare v (Ip.Ipv6 x) header size = refl
+
+  checked_bare : (c : Check) (v : TcpValue) (ip : IpRepr) (header : TcpHeader) (bytes : List ℕ) → checked c cx v ip header bytes ≡
+      checked c cy v (bare ip) header bytes
+  checked_bare (Passes by) v ip header bytes =
+      λ k. if is_in_window v.block (free_in v) header (length bytes) then inside_bare v ip header bytes by k else passed_bare v ip header (length bytes) by k
+  checked_bare Old v ip header bytes =
+      λ k. if is_in_window v.block (free_in v) header (length bytes)
+      then content_bare (with_block v (stamp_taken (heard v.block) header moment)) ip header bytes k
+      else outside_bare v ip header (comes_again v header (length bytes)) k
+  checked_bare Drops v ip header bytes = refl
+  checked_bare Draws v ip header bytes = drawn_bare v ip header
+  checked_bare Resets v ip header bytes = resets_bare v ip header (length bytes)
+
+  received_bare : (v : TcpValue) (ip : IpRepr) (header : TcpHeader) (bytes : List ℕ) → received cx v ip header bytes ≡ received cy v (bare ip) header bytes
+  received_bare v ip header bytes =
+      λ k. if is_rst header.control
+      then (if takes_reset v.block header then dropped (taken_down v)
+      else if challenges_reset v header (length bytes) then drawn_bare v ip header k
+      else dropped v)
+      else if draws_first v.block header moment then drawn_bare v ip header k
+      else checked_bare (acknowledgement_check v.block header.ack_number) v ip header bytes k
+
+  opens_bare : (v : TcpValue) (ip : IpRepr) (header : TcpHeader) → opens cx v ip header ≡ opens cy v (bare ip) header
+  opens_bare v (Ip.Ipv4 x) header = refl
+  opens_bare v (Ip.Ipv6 x) header = refl
+
+  takes_bare : (v : TcpValue) (ip : IpRepr) (header : TcpHeader) (bytes : List ℕ) → takes_answer cx v ip header bytes ≡ takes_answer cy v (bare ip) header bytes
+  takes_bare v (Ip.Ipv4 x) header bytes = refl
+  takes_bare v (Ip.Ipv6 x) header bytes = refl
+
+  in_bare : (state : State) (v : TcpValue) (ip : IpRepr) (header : TcpHeader) (bytes : List ℕ) → arrives_in state cx v ip header bytes ≡
+      arrives_in state cy v (bare ip) header bytes
+  in_bare In.Closed v ip header bytes = refl
+  in_bare In.Listen v ip header bytes = opens_bare v ip header
+  in_bare In.SynSent v ip header bytes = takes_bare v ip header bytes
+  in_bare state v ip header bytes = received_bare v ip header bytes
+
+  arrives_bare : (v : TcpValue) (ip : IpRepr) (header : TcpHeader) (bytes : List ℕ) → arrives cx v ip header bytes ≡ arrives cy v (bare ip) header bytes
+  arrives_bare v ip header bytes = λ k. if is_void_syn header then dropped (unoffered v) else in_bare v.block.state (unoffered v) ip header bytes k
+
+module _ (host : HostContext) (key : List ℕ) (moment : ℤ) where
+  keyed_same : (random words : ℕ) (v : TcpValue) (ip other : IpRepr) (header : TcpHeader) (bytes : List ℕ) → source_of ip ≡ source_of other →
+      destination_of ip ≡ destination_of other → (let h : HostContext = record host { isn_key = Some key } in
+      arrives (context_on h moment random) v ip header bytes ≡ arrives (context_on h moment words) v other header bytes)
+  keyed_same random words v ip other header bytes source destination =
+      let h : HostContext = record host { isn_key = Some key } in
+      arrives_bare host key moment random words v ip header bytes
+      ∙ (λ k. arrives (context_on h moment words) v (bare_same ip other source destination k) header bytes)
+      ∙ sym (arrives_bare host key moment words words v other header bytes)
+
+  pub arrives_same : (random words : ℕ) (v : TcpValue) (ip other : IpRepr) (header : TcpHeader) (bytes : List ℕ) → host.isn_key ≡ Some key →
+      source_of ip ≡ source_of other → destination_of ip ≡ destination_of other
+      → arrives (context_on host moment random) v ip header bytes ≡ arrives (context_on host moment words) v other header bytes
+  arrives_same random words v ip other header bytes has source destination =
+      let same : record host { isn_key = Some key } ≡ host = λ k. record host { isn_key = sym has k } in
+      subst (λ (h : HostContext). arrives (context_on h moment random) v ip header bytes ≡ arrives (context_on h moment words) v other header bytes) same
+      (keyed_same random words v ip other header bytes source destination)
