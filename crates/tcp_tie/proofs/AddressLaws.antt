@@ -198,3 +198,106 @@ module _ (host : HostContext) (key : List ℕ) (moment : ℤ) where
       let same : record host { isn_key = Some key } ≡ host = λ k. record host { isn_key = sym has k } in
       subst (λ (h : HostContext). arrives (context_on h moment random) v ip header bytes ≡ arrives (context_on h moment words) v other header bytes) same
       (keyed_same random words v ip other header bytes source destination)
+
+-- NO WORD IS DRAWN
+
+module _ (host : HostContext) (key : List ℕ) (moment : ℤ) (random : ℕ) where
+  abbrev kx : ContextValue
+  kx = context_on (record host { isn_key = Some key }) moment random
+
+  abbrev DrawsNone : Arrived → Type 0
+  DrawsNone a = a.draws ≡ false
+
+  either : (t : Bool) (a b : Arrived) → DrawsNone a → DrawsNone b → DrawsNone (if t then a else b)
+  either true a b da db = da
+  either false a b da db = db
+
+  drawn_none : (v : TcpValue) (ip : IpRepr) (header : TcpHeader) → DrawsNone (drawn kx v ip header)
+  drawn_none v ip header = either (may_draw moment v.block.timers.draws_from) (acked kx (with_draw v moment) ip header no_ranges) (dropped v) refl refl
+
+  outside_none : (v : TcpValue) (ip : IpRepr) (header : TcpHeader) (again : Bool) → DrawsNone (outside kx v ip header again)
+  outside_none v ip header again =
+      let w = waiting_anew v header moment in
+      either (is_closed v.block.state) (dropped v) (if again then acked kx w ip header no_ranges else drawn kx w ip header) refl
+      (either again (acked kx w ip header no_ranges) (drawn kx w ip header) refl (drawn_none w ip header))
+
+  passed_none : (v : TcpValue) (ip : IpRepr) (header : TcpHeader) (size by : ℕ) → DrawsNone (passed_outside kx v ip header size by)
+  passed_none v ip header size by =
+      let w = acknowledged (echo_heard v header by moment) by moment in
+      either (tells_news v header size) (outside kx w ip header (has_length header size)) (outside kx v ip header false)
+      (outside_none w ip header (has_length header size)) (outside_none v ip header false)
+
+  answer_none : (v : TcpValue) (ip : IpRepr) (header : TcpHeader) (size : ℕ) (fills : Bool) (place : Option ℕ) → DrawsNone (answer_for kx v ip header size fills place)
+  answer_none v ip header size fills None = refl
+  answer_none v ip header size fills (Some place) = refl
+
+  content_none : (v : TcpValue) (ip : IpRepr) (header : TcpHeader) (bytes : List ℕ) → DrawsNone (with_content kx v ip header bytes)
+  content_none v ip header bytes = answer_none _ ip header (length bytes) (with_text v header bytes).fills (with_text v header bytes).early
+
+  taken_none : (v : TcpValue) (ip : IpRepr) (header : TcpHeader) (bytes : List ℕ) (by : ℕ) → DrawsNone (taken kx v ip header bytes by)
+  taken_none v ip header bytes by =
+      let u = acknowledged (echo_heard v header by moment) by moment in
+      let w = told u header (duplicates_after v.block header (length bytes) by) moment in
+      either (is_closed u.block.state) (dropped u) (with_content kx w ip header bytes) refl (content_none w ip header bytes)
+
+  inside_none : (v : TcpValue) (ip : IpRepr) (header : TcpHeader) (bytes : List ℕ) (by : ℕ) → DrawsNone (inside kx v ip header bytes by)
+  inside_none v ip header bytes by =
+      either (is_syn header.control) (drawn kx v ip header) (taken kx v ip header bytes by) (drawn_none v ip header) (taken_none v ip header bytes by)
+
+  checked_none : (c : Check) (v : TcpValue) (ip : IpRepr) (header : TcpHeader) (bytes : List ℕ) → DrawsNone (checked c kx v ip header bytes)
+  checked_none (Passes by) v ip header bytes =
+      either (is_in_window v.block (free_in v) header (length bytes)) (inside kx v ip header bytes by) (passed_outside kx v ip header (length bytes) by)
+      (inside_none v ip header bytes by) (passed_none v ip header (length bytes) by)
+  checked_none Old v ip header bytes =
+      let w = with_block v (stamp_taken (heard v.block) header moment) in
+      either (is_in_window v.block (free_in v) header (length bytes)) (with_content kx w ip header bytes)
+      (outside kx v ip header (comes_again v header (length bytes))) (content_none w ip header bytes)
+      (outside_none v ip header (comes_again v header (length bytes)))
+  checked_none Drops v ip header bytes = refl
+  checked_none Draws v ip header bytes = drawn_none v ip header
+  checked_none Resets v ip header bytes = refl
+
+  reset_none : (v : TcpValue) (ip : IpRepr) (header : TcpHeader) (size : ℕ) → DrawsNone (reset_comes kx v ip header size)
+  reset_none v ip header size =
+      either (takes_reset v.block header) (dropped (taken_down v)) (if challenges_reset v header size then drawn kx v ip header else dropped v) refl
+      (either (challenges_reset v header size) (drawn kx v ip header) (dropped v) (drawn_none v ip header) refl)
+
+  received_none : (v : TcpValue) (ip : IpRepr) (header : TcpHeader) (bytes : List ℕ) → DrawsNone (received kx v ip header bytes)
+  received_none v ip header bytes =
+      let c = acknowledgement_check v.block header.ack_number in
+      either (is_rst header.control) (reset_comes kx v ip header (length bytes))
+      (if draws_first v.block header moment then drawn kx v ip header else checked c kx v ip header bytes) (reset_none v ip header (length bytes))
+      (either (draws_first v.block header moment) (drawn kx v ip header) (checked c kx v ip header bytes) (drawn_none v ip header)
+      (checked_none c v ip header bytes))
+
+  opens_none : (v : TcpValue) (ip : IpRepr) (header : TcpHeader) → DrawsNone (opens kx v ip header)
+  opens_none v ip header = cond_both (is_first_syn header) _ (dropped v) DrawsNone (λ _. refl) (λ _. refl)
+
+  answered_none : (v : TcpValue) (ip : IpRepr) (header : TcpHeader) (bytes : List ℕ) → DrawsNone (takes_answer kx v ip header bytes)
+  answered_none v ip header bytes =
+      let tests = is_some header.ack_number && not (acks_syn v.block.sender.una header.ack_number) in
+      let taken = dropped (with_block v (timeout_restarted (syn_answered v.block header moment) moment (queued_in v))) in
+      let syn = if is_syn header.control then taken else dropped v in
+      let answer = answered_with v (rst_reply ip header (length bytes)) in
+      let reset = if acks_syn v.block.sender.una header.ack_number then dropped (ended v) else dropped v in
+      either (is_rst header.control) reset (if tests then answer else syn)
+      (either (acks_syn v.block.sender.una header.ack_number) (dropped (ended v)) (dropped v) refl refl)
+      (either tests answer syn refl (either (is_syn header.control) taken (dropped v) refl refl))
+
+  in_none : (state : State) (v : TcpValue) (ip : IpRepr) (header : TcpHeader) (bytes : List ℕ) → DrawsNone (arrives_in state kx v ip header bytes)
+  in_none In.Closed v ip header bytes = refl
+  in_none In.Listen v ip header bytes = opens_none v ip header
+  in_none In.SynSent v ip header bytes = answered_none v ip header bytes
+  in_none state v ip header bytes = received_none v ip header bytes
+
+  arrives_none : (v : TcpValue) (ip : IpRepr) (header : TcpHeader) (bytes : List ℕ) → DrawsNone (arrives kx v ip header bytes)
+  arrives_none v ip header bytes =
+      either (is_void_syn header) (dropped (unoffered v)) (arrives_in v.block.state kx (unoffered v) ip header bytes) refl
+      (in_none v.block.state (unoffered v) ip header bytes)
+
+pub keyed_draws : (host : HostContext) (key : List ℕ) (moment : ℤ) (random : ℕ) (v : TcpValue) (ip : IpRepr) (header : TcpHeader) (bytes : List ℕ) →
+    host.isn_key ≡ Some key → (arrives (context_on host moment random) v ip header bytes).draws ≡ false
+keyed_draws host key moment random v ip header bytes has =
+    let same : record host { isn_key = Some key } ≡ host = λ k. record host { isn_key = sym has k } in
+    subst (λ (h : HostContext). (arrives (context_on h moment random) v ip header bytes).draws ≡ false) same
+    (arrives_none host key moment random v ip header bytes)

@@ -1,6 +1,6 @@
 //! The invariant between two sockets, where what each of them sent is told by the segments of its host.
 
-ghost use Rattle.std.specs.Prelude.{◌≡◌, ◌≢◌, ◌⊎◌, ◌==◌, ◌++◌, ℕ, ℤ, true, if◌then◌else◌, List, [], ◌∷◌, Some, slice_get};
+ghost use Rattle.std.specs.Prelude.{◌≡◌, ◌≢◌, ◌⊎◌, ◌==◌, ◌++◌, ℕ, ℤ, true, if◌then◌else◌, List, [], ◌∷◌, Some, false, slice_get};
 ghost use Rattle.std.specs.List.{AllByRecursion};
 ghost use Rattle.ip_wire.specs.Ip.{source_of, destination_of};
 ghost use Rattle.ip_wire.specs.IpRepr.{IpRepr};
@@ -76,4 +76,6 @@ pub fn only_addresses_matter()
     ensures arrives { (host : HostContext) (key : List ℕ) (moment : ℤ) (random words : ℕ) (v : TcpValue) (ip other : IpRepr) (header : TcpHeader)
         (bytes : List ℕ) → host.isn_key ≡ Some key → source_of ip ≡ source_of other → destination_of ip ≡ destination_of other
         → arrives (context_on host moment random) v ip header bytes ≡ arrives (context_on host moment words) v other header bytes }
+    ensures draws { (host : HostContext) (key : List ℕ) (moment : ℤ) (random : ℕ) (v : TcpValue) (ip : IpRepr) (header : TcpHeader) (bytes : List ℕ)
+        → host.isn_key ≡ Some key → (arrives (context_on host moment random) v ip header bytes).draws ≡ false }
 {}

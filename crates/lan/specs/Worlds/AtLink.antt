@@ -8,6 +8,7 @@ pub mod Texts
 pub mod Calls
 pub mod Parties
 pub mod Moves
+pub mod Paired
 pub mod PacketsSafe
 pub mod Examples
 pub mod Station
