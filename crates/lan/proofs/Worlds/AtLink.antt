@@ -32,3 +32,4 @@ pub mod Setting
 pub mod Called
 pub mod Refusing
 pub mod Linked
+pub mod Paired

@@ -6,6 +6,7 @@ use Rattle.lan_base.specs.Medium.{Medium}
 use Rattle.lan_base.specs.Medium.TheVariants as Medium
 use Rattle.interface_ingress.specs.HardwareAddress.{HardwareAddress}
 use Rattle.interface_ingress.specs.HardwareAddress.TheVariants as Hardware
+use Rattle.interface_ingress.specs.IpAddress.{IpAddress}
 use Rattle.sockets.specs.Packet.{PayloadValue}
 use Rattle.interface_tables.specs.Inner.{InnerValue}
 use Rattle.interface_tables.specs.Reassembly.{SlotValue, is_free}
@@ -68,7 +69,7 @@ module _ (s : Start) (fresh : IsFreshStart s) where
     checksums = fresh.checksums;
   }
 
-  none_sent : (made : PayloadValue → Type 0) → AreSent made i.ident i.ident []
+  none_sent : (made : IpAddress → IpAddress → PayloadValue → Type 0) → AreSent made i.ident i.ident []
   none_sent made = record { packets = λ p among. absurd among; numbered = (refl, fresh.typed.ident) }
 
   fresh_sends : (p : Party) → Sends p i.ident (unused s) []

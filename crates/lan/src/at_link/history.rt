@@ -12,6 +12,7 @@ pub mod examples;
 pub mod laws;
 mod owned;
 pub mod packet_laws;
+pub mod pair_laws;
 mod record;
 
 pub use answer::{Answer, Fault, Refused};

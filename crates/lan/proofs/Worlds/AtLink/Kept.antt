@@ -250,7 +250,7 @@ module _ (starts : Side → ℕ → ℕ) (places : Places) (h : List Entry) (e :
 
 -- AN EVENT THAT IS NO CALL
 
-no_call : (kind : Kind) (side : Side) (i : ℕ) → IsNoCall kind → call_in kind side i ≡ None
+pub no_call : (kind : Kind) (side : Side) (i : ℕ) → IsNoCall kind → call_in kind side i ≡ None
 no_call (OfHost s (Calls place call)) side i none = absurd (none)
 no_call kind side i none = refl
 

@@ -6,6 +6,7 @@ use Rattle.interface.specs.IpRepr.{IpRepr}
 use Rattle.interface.specs.IpRepr.TheVariants as Ip
 use Rattle.interface.specs.Ipv4 as Ipv4
 use Rattle.interface.specs.Ipv6 as Ipv6
+use Rattle.interface_ingress.specs.IpAddress.{IpAddress}
 use Rattle.sockets.specs.Packet.{PayloadValue}
 use Rattle.interface_tables.specs.Pieces as Pieces
 use Rattle.interface_tables.proofs.Rebuilt.{Begins-take}
@@ -56,7 +57,7 @@ module _ (medium : Medium) (out : List Outgoing) (frame : List ℕ) (f : IsPiece
   pub piece6_parts : (p : PieceValue) → part_in packet_in6 ≡ Some p → IsPieceOf out p
   piece6_parts p is = parts_by p is (is_atomic (rest6 medium out frame f)) refl
 
-module _ (made : PayloadValue → Type 0) (hardware : HardwareAddress) (out : List Outgoing) where
+module _ (made : IpAddress → IpAddress → PayloadValue → Type 0) (hardware : HardwareAddress) (out : List Outgoing) where
   -- the frame of a slice, with padding, carries that slice
   pub slice_brings : (frame padding : List ℕ) → IsSlice (medium_on hardware) out frame → BringsFrom made out hardware (frame ++ padding)
   slice_brings frame padding f v is =

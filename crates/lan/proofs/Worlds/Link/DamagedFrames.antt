@@ -25,6 +25,7 @@ use Rattle.ip_address.specs.Protocol.{protocol_of}
 use Rattle.ip_tcp.specs.Tcp as Tcp
 use Rattle.interface.specs.Ipv4.{header_len_of}
 use Rattle.interface_ingress.specs.EthernetRepr.{EthernetRepr}
+use Rattle.interface_ingress.specs.IpAddress.{IpAddress}
 use Rattle.sockets.specs.Packet.{PayloadValue}
 use Rattle.interface_ingress.specs.Incoming.{IncomingValue, Ip4, Ip6, IsIncoming, IsPacketV4, IsPacketV6}
 use Rattle.interface_ingress.specs.Handed.{is_known_v6}
@@ -174,7 +175,7 @@ IsBad v = IsBad4 v ⊎ IsBad6 v
 abbrev pub BringsBad : HardwareAddress → List ℕ → Type 0
 BringsBad hardware frame = (v : IncomingValue) → IsIncoming hardware sealed frame v → IsBad v
 
-bad_from : (made : PayloadValue → Type 0) (out : List Outgoing) (v : IncomingValue) → IsBad v → IsFrom made out v
+bad_from : (made : IpAddress → IpAddress → PayloadValue → Type 0) (out : List Outgoing) (v : IncomingValue) → IsBad v → IsFrom made out v
 bad_from made out v (inl b) =
     subst (IsFrom made out) (sym b.value_is)
     (inl (λ cut. absurd (let e : true ≡ false = sym cut ∙ refl in cc), hands_damaged made (Ip.Ipv4 b.header) b.payload b.bad))
@@ -182,7 +183,7 @@ bad_from made out v (inr b) =
     subst (IsFrom made out) (sym b.value_is)
     (inl (known_whole b.header b.payload (ap is_known_v6 b.bad.0), hands_damaged made (Ip.Ipv6 b.header) b.payload b.bad))
 
-module _ (made : PayloadValue → Type 0) (hardware : HardwareAddress) (out : List Outgoing) (all : AreOut made out) (frame : List ℕ) (part : Part)
+module _ (made : IpAddress → IpAddress → PayloadValue → Type 0) (hardware : HardwareAddress) (out : List Outgoing) (all : AreOut made out) (frame : List ℕ) (part : Part)
     (place word : ℕ) where
   module _ (f : IsSlice (medium_on hardware) out frame) (is_part : tcp_part (medium_on hardware) frame ≡ Some part) where
     abbrev w : List ℕ

@@ -1,6 +1,7 @@
 -- Two TCP sockets of two hosts, seen as a pair of sockets between which segments go: each move of a host is none, one or two events of the pair.
-use Rattle.std.specs.Prelude.{◌≡◌, ℕ, ◌==◌, Bool, true, false, if◌then◌else◌, ℤ, ◌≤ℤ◌, List, [], ◌∷◌, map, Option, Some, None, IfSome}
+use Rattle.std.specs.Prelude.{◌≡◌, ℕ, ◌==◌, Bool, true, false, if◌then◌else◌, ℤ, pos, ◌≤ℤ◌, List, [], ◌∷◌, map, Option, Some, None, IfSome}
 use Rattle.std.specs.List.{AllByRecursion}
+use Rattle.net_base.specs.Ring.{Ring}
 use Rattle.net_base.specs.Time.{IsMoment}
 use Rattle.ip_wire.specs.Ip.{source_of, destination_of}
 use Rattle.ip_wire.specs.Tcp.{normal}
@@ -11,13 +12,14 @@ use Rattle.tcp_tie.specs.Host.{Made, made_of, source_port}
 use Rattle.tcp_tie.specs.Pair.History.{pasts}
 use Rattle.tcp_tie.specs.Pair.Sides.{at}
 use Rattle.tcp_tie.specs.Pair.Steps.{Steps}
-use Rattle.tcp_tie.specs.Pair.Values.{HostContext, PairValue, context_on}
+use Rattle.tcp_tie.specs.Pair.Values.{HostContext, PairSide, PairValue, beginning, context_on, new_side}
 use Rattle.tcp_tie.specs.Tie.{Past}
 use Rattle.tcp_tie.specs.declared.pair.event.PairEvent.{PairEvent}
 use Rattle.tcp_tie.specs.declared.pair.event.SentSegment.{SentSegment}
 use Rattle.tcp_tie.specs.declared.pair.event.Side as Pairs
 use Rattle.tcp_tie.specs.declared.pair.event.Side.TheVariants as Of
 use Rattle.tcp_model.specs.Offers.{offer_of}
+use Rattle.tcp_model.specs.Value.{new_socket}
 use Rattle.lan.specs.declared.at_link.history.event.Side.{Side}
 use Rattle.lan.specs.declared.at_link.history.event.Side.TheVariants.{A, B}
 use Rattle.lan.specs.declared.at_link.history.record.Opening.{Opening}
@@ -148,3 +150,27 @@ pub record GoesOn (seats : Side → Seat) (clocks : Side → ℤ) (net : Net) (p
   pub next : PairValue
   pub steps : Steps p events next
   pub shows : Shows seats clocks net next
+
+-- hosts make their first numbers with keys (RFC 6528)
+abbrev pub HaveKeys : (Side → Seat) → Type 0
+HaveKeys seats = (side : Side) → (key : List ℕ) × ((seats side).host.isn_key ≡ Some key)
+
+-- AT FIRST
+
+-- a socket to which nothing happened yet: the room of its receive buffer, and its send ring
+pub record NewSocket : Type 0 where
+  pub room : ℕ
+  pub ring : Ring ℕ
+
+abbrev pub AreNew : (Side → Seat) → (Side → NewSocket) → Net → Type 0
+AreNew seats news net = (side : Side) → socket_at (party net side) (seats side).place ≡ Some (Tcp (new_socket (news side).room (news side).ring))
+
+abbrev pub at_zero : Side → ℤ
+at_zero side = pos 0
+
+abbrev pub side_begun : Seat → NewSocket → PairSide
+side_begun seat new = new_side seat.host seat.random (new_socket new.room new.ring)
+
+-- the pair of two such sockets
+abbrev pub begun : (Side → Seat) → (Side → NewSocket) → PairValue
+begun seats news = beginning (side_begun (seats A) (news A)) (side_begun (seats B) (news B))

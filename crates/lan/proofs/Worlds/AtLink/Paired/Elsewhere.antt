@@ -36,8 +36,9 @@ use Rattle.lan.proofs.Worlds.AtLink.HostSteps.{Stay}
 use Rattle.lan.proofs.Worlds.AtLink.Kept.{KeptFrom}
 use Rattle.lan.proofs.Worlds.AtLink.PartnerLemmas.{AreApart, opened_apart}
 use Rattle.lan.proofs.Worlds.AtLink.Speaking.{accepted_speaks}
-use Rattle.lan.proofs.Worlds.AtLink.StreamInvariant.{TcpOk, SpeaksWith}
-use Rattle.lan.proofs.Worlds.AtLink.WireMoves.{came_ok}
+use Rattle.lan.proofs.Worlds.AtLink.StreamInvariant.{TcpOk, SegmentOk, SpeaksWith}
+use Rattle.lan.proofs.Worlds.AtLink.Lists.{Each, each_get}
+use Rattle.lan.proofs.Worlds.AtLink.WireMoves.{read_ok}
 use Rattle.lan.proofs.Worlds.AtLink.Paired.Parts.{from_apart}
 use Rattle.lan.proofs.Worlds.AtLink.Paired.Shown.{shows_still}
 
@@ -160,7 +161,9 @@ module _ (starts : Side → ℕ → ℕ) (places : Places) (h : List Entry) (sid
     pub spoken : (o : Opening) → opening h side place ≡ Some o → (header.dst_port ≡ o.local) × SpeaksWith h side o header.src_port
     spoken o opened =
         accepted_speaks h side place o opened places k.allowed p.segments v ip header bytes ok (accepted_for v.block ip header accepted)
-        (came_ok h (other side) q.segments (source_of ip) (destination_of ip) header bytes comes k.theirs.streams.made)
+        (read_ok h (other side) (source_of ip) (destination_of ip) header comes.written bytes comes.read
+        (each_get (SegmentOk h (other side)) q.segments comes.among.0 (made_of (source_of ip) (destination_of ip) comes.written bytes) k.theirs.streams.made
+        comes.among.1))
 
     pub answer_port : (o : Opening) (reply : Reply) → opening h side place ≡ Some o → (arrives cx v ip header bytes).answer ≡ Some reply →
         reply.segment.src_port ≡ o.local

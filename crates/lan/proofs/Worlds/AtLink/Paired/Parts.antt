@@ -40,19 +40,19 @@ back_in B = refl
 
 pub from_more : (port : ℕ) (made : List Made) (x : Made) → source_port x ≡ port → from_port port (made ++ x ∷ []) ≡ from_port port made ++ x ∷ []
 from_more port [] x is = ap (λ (t : Bool). if t then x ∷ [] else []) (eq-eqb (source_port x) port is)
-from_more port (y ∷ ys) x is = by (source_port y == port) where
-  by : (t : Bool) → (if t then y ∷ from_port port (ys ++ x ∷ []) else from_port port (ys ++ x ∷ [])) ≡
+from_more port (y ∷ ys) x is = by (source_port y == port) (from_more port ys x is) where
+  by : (t : Bool) → from_port port (ys ++ x ∷ []) ≡ from_port port ys ++ x ∷ [] → (if t then y ∷ from_port port (ys ++ x ∷ []) else from_port port (ys ++ x ∷ [])) ≡
       (if t then y ∷ from_port port ys else from_port port ys) ++ x ∷ []
-  by true = ap (λ (zs : List Made). y ∷ zs) (from_more port ys x is)
-  by false = from_more port ys x is
+  by true rest = ap (λ (zs : List Made). y ∷ zs) rest
+  by false rest = rest
 
 pub from_apart : (port : ℕ) (made : List Made) (x : Made) → source_port x ≢ port → from_port port (made ++ x ∷ []) ≡ from_port port made
 from_apart port [] x apart = ap (λ (t : Bool). if t then x ∷ [] else []) (ne_eqb (source_port x) port apart)
-from_apart port (y ∷ ys) x apart = by (source_port y == port) where
-  by : (t : Bool) → (if t then y ∷ from_port port (ys ++ x ∷ []) else from_port port (ys ++ x ∷ [])) ≡
+from_apart port (y ∷ ys) x apart = by (source_port y == port) (from_apart port ys x apart) where
+  by : (t : Bool) → from_port port (ys ++ x ∷ []) ≡ from_port port ys → (if t then y ∷ from_port port (ys ++ x ∷ []) else from_port port (ys ++ x ∷ [])) ≡
       (if t then y ∷ from_port port ys else from_port port ys)
-  by true = ap (λ (zs : List Made). y ∷ zs) (from_apart port ys x apart)
-  by false = from_apart port ys x apart
+  by true rest = ap (λ (zs : List Made). y ∷ zs) rest
+  by false rest = rest
 
 pub from_get : (port : ℕ) (made : List Made) (k : ℕ) (x : Made) → slice_get made k ≡ Some x → source_port x ≡ port →
     (j : ℕ) × (slice_get (from_port port made) j ≡ Some x)

@@ -119,7 +119,7 @@ module _ (seats : Side → Seat) (net net' : Net) (side : Side) (clocks clocks' 
 
 module _ (seats : Side → Seat) (net : Net) (side : Side) (clocks clocks' : Side → ℤ) (p : PairValue) (sh : Shows seats clocks net p) (cx : ContextValue)
     (of : IsOf (seats side) (clocks side) cx) (now : clocks' side ≡ cx.moment) (rest : clocks' (other side) ≡ clocks (other side)) where
-  abbrev clock_event : PairEvent
+  abbrev pub clock_event : PairEvent
   clock_event = Clock (side_in side) cx.moment
 
   pub clock_allowed : refusal p clock_event ≡ None

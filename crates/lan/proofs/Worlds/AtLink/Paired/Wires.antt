@@ -1,10 +1,11 @@
 -- An offer of a socket of the pair, and a segment that comes to one, are events of the pair.
-use Rattle.std.proofs.Common.{◌≡◌, ◌≢◌, ◌⊎◌, inl, inr, ℕ, ℤ, ◌<◌, Bool, true, false, if◌then◌else◌, not, List, [], ◌∷◌, ◌++◌, length, map, Option, Some, None, IfSome}
+use Rattle.std.proofs.Common.{◌≡◌, ◌≢◌, ◌⊎◌, inl, inr, ℕ, zero, suc, ℤ, ◌<◌, ◌≤◌, Bool, true, false, if◌then◌else◌, not, List, [], ◌∷◌, ◌++◌, length, map, Option, Some, None, IfSome}
 use Rattle.std.proofs.Common.{refl, sym, ap, ◌∙◌, subst, arith}
-use Rattle.std.proofs.lemmas.Bool.{lt-ltb}
-use Rattle.std.proofs.lemmas.List.{get_or-set_same, map-append}
+use Rattle.std.proofs.lemmas.Bool.{cases_lt}
+use Rattle.std.proofs.lemmas.Bool.Decides.{nat_tests}
+use Rattle.std.proofs.lemmas.List.{get_or-set_same, get_or_past, map-append}
 use Rattle.std.specs.List.{AllByRecursion}
-use Rattle.std.specs.Prelude.{slice_get, nat_lt}
+use Rattle.std.specs.Prelude.{◌≤ℤ◌, slice_get, nat_lt}
 use Rattle.ip_wire.specs.Ip.{source_of, destination_of}
 use Rattle.ip_wire.specs.IpAddress.{IpAddress}
 use Rattle.ip_wire.specs.IpRepr.{IpRepr}
@@ -46,7 +47,8 @@ use Rattle.lan.proofs.Worlds.AtLink.HostSteps.{Stay, speaks_stay}
 use Rattle.lan.proofs.Worlds.AtLink.Kept.{KeptFrom}
 use Rattle.lan.proofs.Worlds.AtLink.PartnerLemmas.{AreApart, opened_apart}
 use Rattle.lan.proofs.Worlds.AtLink.Places.{some_is}
-use Rattle.lan.proofs.Worlds.AtLink.Speaking.{partner_port, same_opening}
+use Rattle.lan.proofs.Worlds.AtLink.Speaking.{partner_port}
+use Rattle.lan.proofs.Worlds.AtLink.StreamInvariant.{SpeaksWith}
 use Rattle.lan.proofs.Worlds.AtLink.Paired.Elsewhere.{accepting_opened, all_append, answer_port, answers_more, more_of_socket, offer_port, offers_more, spoken}
 use Rattle.lan.proofs.Worlds.AtLink.Paired.Elsewhere.{unopened_silent}
 use Rattle.lan.proofs.Worlds.AtLink.Paired.Parts.{at_put, back_in, from_get, from_more, get_below, map_get, other_in}
@@ -54,7 +56,19 @@ use Rattle.lan.proofs.Worlds.AtLink.Paired.Shown.{Far, Near, may_be, shows_event
 
 -- the exchanged socket is there
 pub socket_set : (p : Party) (place : ℕ) (old new : Socket) → socket_at p place ≡ Some old → socket_at (with_socket p place new) place ≡ Some new
-socket_set p place old new is = get_or-set_there p.sockets place old new is
+socket_set p place old new is = by (cases_lt place (length p.sockets)) where
+  by : (place < length p.sockets) ⊎ (length p.sockets ≤ place) → socket_at (with_socket p place new) place ≡ Some new
+  by (inl below) = get_or-set_same p.sockets place (Some new) None below
+  by (inr past) = absurd (let clash : None ≡ Some old = sym (get_or_past p.sockets place None past) ∙ is in cc)
+
+pub all_get : {X : Type 0} (P : X → Type 0) (xs : List X) (k : ℕ) (x : X) → AllByRecursion P xs → slice_get xs k ≡ Some x → P x
+all_get P [] zero x all e = absurd (cc)
+all_get P [] (suc k) x all e = absurd (cc)
+all_get P (y ∷ ys) zero x all e = let same : y ≡ x = cc in subst P same all.0
+all_get P (y ∷ ys) (suc k) x all e = all_get P ys k x all.1 e
+
+below_is : (j n : ℕ) → j < n → nat_lt j n ≡ true
+below_is j n less = grind (arith, nat_tests)
 
 -- one segment more of the socket, from its port, joins those of the pair
 sent_more : (o : Opening) (made : List Made) (sent : List SentSegment) (x : SentSegment) → x.segment.src_port ≡ o.local → from_port o.local made ≡ map made_by sent
@@ -163,3 +177,157 @@ module _ (starts : Side → ℕ → ℕ) (places : Places) (seats : Side → Sea
               (more_of_socket net.history side here (party net side).segments (offered_segments sent (party net side) from (offered_by cx v))
               (offers_more starts places net.history side (party net side) (party net (other side)) k here v is cx from sent) (sh.made side)));
         })
+
+  -- A SEGMENT COMES, at the moment that the host's clock shows
+
+  module _ (cx : ContextValue) (ip : IpRepr) (header : TcpHeader) (bytes : List ℕ) (key : List ℕ) (keyed : (seats side).host.isn_key ≡ Some key)
+      (of : cx ≡ context_on (seats side).host cx.moment (seats side).random) (now : own.moment ≡ cx.moment) (clock : clocks' side ≡ clocks side)
+      (accepted : accepts v.block ip header ≡ true)
+      (comes : MayCome (party net (other side)).segments (source_of ip) (destination_of ip) header bytes)
+      (as_made : AllByRecursion IsReadAsMade (party net (other side)).segments)
+      (later : List Entry) (stay : Stay net.history later) (all_allowed : AreAllowed places later)
+      (partners : ArePartners later side here (seats (other side)).place)
+      (mine : party net' side ≡ record (with_socket (party net side) here (Tcp (arrives cx v ip header bytes).socket)) {
+        segments =
+            and_answer (party net side).segments (arrives cx v ip header bytes).answer;
+      }) where
+    abbrev theirs : PairSide
+    theirs = at p.sides (side_in (other side))
+
+    abbrev x : Made
+    x = made_of (source_of ip) (destination_of ip) comes.written bytes
+
+    abbrev arrived : Arrived
+    arrived = arrives cx v ip header bytes
+
+    pub header_is : header ≡ comes.written
+    header_is = comes.read ∙ all_get IsReadAsMade (party net (other side)).segments comes.among.0 x as_made comes.among.1
+
+    pub of_x : IsOfSocket net.history (other side) x
+    of_x = all_get (IsOfSocket net.history (other side)) (party net (other side)).segments comes.among.0 x (sh.made (other side)) comes.among.1
+
+    -- it was sent by the partner
+    pub from_partner : (o : Opening) → opening net.history side here ≡ Some o → opening net.history (other side) (seats (other side)).place ≡ Some of_x.by
+    from_partner o opened =
+        by (opened_apart places later (other side) of_x.place (seats (other side)).place of_x.by partners.another all_allowed
+        (stay (other side) of_x.place of_x.by of_x.opened) partners.partner_opened)
+      where
+        says : (header.dst_port ≡ o.local) × SpeaksWith net.history side o header.src_port
+        says = spoken starts places net.history side (party net side) (party net (other side)) k here v is cx ip header bytes accepted comes o opened
+
+        port : partners.another.local ≡ header.src_port
+        port =
+            partner_port later side here o (stay side here o opened) places all_allowed (seats (other side)).place header.src_port partners
+            (speaks_stay net.history later side o header.src_port stay says.1)
+
+        by : (of_x.place ≡ (seats (other side)).place) ⊎ AreApart of_x.by partners.another → opening net.history (other side) (seats (other side)).place ≡ Some of_x.by
+        by (inl same) = ap (λ (i : ℕ). opening net.history (other side) i) (sym same) ∙ of_x.opened
+        by (inr apart) = absurd (apart.local (of_x.from ∙ ap (λ (h : TcpHeader). h.src_port) (sym header_is) ∙ sym port))
+
+    pub record Found : Type 0 where
+      pub number : ℕ
+      pub segment : SentSegment
+      pub there : slice_get theirs.sent number ≡ Some segment
+      pub found : made_by segment ≡ x
+
+    pub found_by : opening net.history (other side) (seats (other side)).place ≡ Some of_x.by → Found
+    found_by opened =
+        let has : from_port of_x.by.local (party net (other side)).segments ≡ map made_by theirs.sent =
+        subst (λ o. HasSent o (party net (other side)).segments theirs.sent) opened (sh.sent (other side)) in
+        let got = from_get of_x.by.local (party net (other side)).segments comes.among.0 x comes.among.1 (sym of_x.from) in
+        let one = map_get made_by theirs.sent got.0 x (ap (λ (xs : List Made). slice_get xs got.0) (sym has) ∙ got.1) in
+        record { number = got.0; segment = one.0; there = one.1; found = one.2 }
+
+    module _ (o : Opening) (opened : opening net.history side here ≡ Some o) where
+      abbrev f : Found
+      f = found_by (from_partner o opened)
+
+      abbrev y : SentSegment
+      y = f.segment
+
+      segment_is : y.segment ≡ header
+      segment_is = ap (λ (m : Made). m.header) f.found ∙ sym header_is
+
+      bytes_are : y.bytes ≡ bytes
+      bytes_are = ap (λ (m : Made). m.bytes) f.found
+
+      source_is : source_of y.header ≡ source_of ip
+      source_is = ap (λ (m : Made). m.from) f.found
+
+      destination_is : destination_of y.header ≡ destination_of ip
+      destination_is = ap (λ (m : Made). m.to) f.found
+
+      abbrev pub comes_event : PairEvent
+      comes_event = Deliver (side_in (other side)) f.number
+
+      pub comes_allowed : refusal p comes_event ≡ None
+      comes_allowed = ap (λ (t : Bool). if_so (not t) Why.NoSegment) (below_is f.number (length theirs.sent) (get_below theirs.sent f.number y f.there))
+
+      takes_it : accepts own.socket.block y.header y.segment ≡ true
+      takes_it =
+          (λ i. accepts (socket_is i).block y.header (segment_is i)) ∙ accepts_same v.block y.header ip header source_is destination_is ∙ accepted
+
+      abbrev host_at : ContextValue
+      host_at = context_on (seats side).host cx.moment (seats side).random
+
+      arrives_so : arrives (context_at (side_in side) own) own.socket y.header y.segment y.bytes ≡ arrived
+      arrives_so =
+          (λ i. arrives (context_on (sh.host side i) (now i) (sh.random side i)) (socket_is i) y.header (segment_is i) (bytes_are i))
+          ∙ arrives_same (seats side).host key cx.moment (seats side).random (seats side).random v y.header ip header bytes keyed source_is destination_is
+          ∙ ap (λ (c : ContextValue). arrives c v ip header bytes) (sym of)
+
+      draws_none : arrived.draws ≡ false
+      draws_none =
+          ap (λ (c : ContextValue). (arrives c v ip header bytes).draws) of
+          ∙ keyed_draws (seats side).host key cx.moment (seats side).random v ip header bytes keyed
+
+      abbrev taken : PairSide
+      taken = record own { socket = arrived.socket; sent = and_reply own.sent arrived.answer }
+
+      handed_so : handed (side_in side) own (slice_get theirs.sent f.number) ≡ taken
+      handed_so =
+          ap (handed (side_in side) own) f.there
+          ∙ (λ i. if takes_it i then taken_at own (arrives_so i) else own)
+          ∙ ap (λ (d : Bool). with_random d taken) draws_none
+
+      acting_is : (acting p comes_event).side ≡ taken
+      acting_is =
+          (λ i. handed (back_in side i) (at p.sides (back_in side i)) (slice_get (at p.sides (Sides.other (back_in side i))).sent f.number))
+          ∙ ap (λ (d : Pairs.Side). handed (side_in side) own (slice_get (at p.sides d).sent f.number)) (sym (other_in side))
+          ∙ handed_so
+
+      answered : (answer : Option Reply) → arrived.answer ≡ answer
+          → from_port o.local (and_answer (party net side).segments answer) ≡ map made_by (and_reply own.sent answer)
+      answered None e = subst (λ oo. HasSent oo (party net side).segments own.sent) opened (sh.sent side)
+      answered (Some reply) e =
+          sent_more o (party net side).segments own.sent (record { header = reply.header; segment = reply.segment; bytes = [] })
+          (answer_port starts places net.history side (party net side) (party net (other side)) k here v is cx ip header bytes accepted comes o reply opened e)
+          (subst (λ oo. HasSent oo (party net side).segments own.sent) opened (sh.sent side))
+
+      pub comes_shows : Shows seats clocks' net' (happens p comes_event).pair
+      comes_shows =
+          shows_event seats net net' side clocks clocks' p sh far comes_event (back_in side)
+          (record {
+            socket = ap (λ (q : Party). socket_at q here) mine ∙ socket_set (party net side) here (Tcp v) (Tcp arrived.socket) is
+                ∙ ap (λ (s : PairSide). Some (Tcp s.socket)) (sym acting_is);
+            host = ap (λ (s : PairSide). s.host) acting_is ∙ sh.host side;
+            random = ap (λ (s : PairSide). s.random) acting_is ∙ sh.random side;
+            clock = ap (λ (s : PairSide). s.moment) acting_is ∙ sh.clock side ∙ sym clock;
+            is_past = (λ i. at (pasts p.history) (back_in side i)) ∙ sh.past side ∙ sym (ap (λ (h : List Entry). told h side here) history);
+            sent = subst (λ (oo : Option Opening). HasSent oo (party net' side).segments (acting p comes_event).side.sent)
+                (sym opened ∙ ap (λ (h : List Entry). opening h side here) (sym history))
+                (ap (λ (q : Party). from_port o.local q.segments) mine ∙ answered arrived.answer refl ∙ ap (λ (s : PairSide). map made_by s.sent) (sym acting_is));
+            made = subst (λ (h : List Entry). AllByRecursion (IsOfSocket h side) (party net' side).segments) (sym history)
+                (subst (λ (q : Party). AllByRecursion (IsOfSocket net.history side) q.segments) (sym mine)
+                (more_of_socket net.history side here (party net side).segments (and_answer (party net side).segments arrived.answer)
+                (answers_more starts places net.history side (party net side) (party net (other side)) k here v is cx ip header bytes accepted comes)
+                (sh.made side)));
+          })
+
+    -- the socket was opened
+    pub was_opened : (o : Opening) × (opening net.history side here ≡ Some o)
+    was_opened = by (opening net.history side here) refl where
+      by : (oo : Option Opening) → opening net.history side here ≡ oo → (o : Opening) × (opening net.history side here ≡ Some o)
+      by None none =
+          absurd (accepting_opened starts places net.history side (party net side) (party net (other side)) k here v is cx ip header bytes accepted comes none)
+      by (Some o) opened = (o, opened)

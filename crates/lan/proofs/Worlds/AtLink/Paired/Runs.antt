@@ -1,0 +1,341 @@
+-- Each step of a plain run is none, one or two events of the pair.
+use Rattle.std.proofs.Common.{◌≡◌, ◌≢◌, ◌⊎◌, inl, inr, ℕ, ◌==◌, ℤ, Bool, true, false, if◌then◌else◌, List, [], ◌∷◌, ◌++◌, Option, Some, None, refl, sym, ap, ◌∙◌}
+use Rattle.std.proofs.Common.{subst, eq-eqb}
+use Rattle.std.proofs.lemmas.Bool.Decides.{eqb_tells}
+use Rattle.std.specs.List.{AllByRecursion}
+use Rattle.ip_wire.specs.IpAddress.{IpAddress}
+use Rattle.ip_wire.specs.IpRepr.{IpRepr}
+use Rattle.ip_wire.specs.TcpHeader.{TcpHeader}
+use Rattle.sockets.specs.Context.{ContextValue}
+use Rattle.tcp_tie.specs.Pair.Sides.{at}
+use Rattle.tcp_tie.specs.Pair.Steps.{Steps, happens, refusal}
+use Rattle.tcp_tie.specs.Pair.Values.{PairValue}
+use Rattle.tcp_tie.specs.declared.pair.event.PairEvent.{PairEvent}
+use Rattle.tcp_model.specs.Value.{TcpValue}
+use Rattle.lan.specs.declared.at_link.history.event.Side.{Side}
+use Rattle.lan.specs.declared.at_link.history.event.Side.TheVariants.{A, B}
+use Rattle.lan.specs.Worlds.AtLink.Call.{SocketCall}
+use Rattle.lan.specs.Worlds.AtLink.Kinds.{calls, kind_of, other, same_side}
+use Rattle.lan.specs.Worlds.AtLink.History.{Entry, opening}
+use Rattle.lan.specs.Worlds.AtLink.Moves.{Does, IsNoCall, IsRun, May, Move, Step, after, history_after, party_after, run, with_socket}
+use Rattle.lan.specs.Worlds.AtLink.Moves.Move.{Invokes, Passes, Offers, Gives, Takes, Receives, Resets, Changes}
+use Rattle.lan.specs.Worlds.AtLink.PacketsSafe.{IsFreshNet}
+use Rattle.lan.specs.Worlds.AtLink.Parties.{Net, Party, Socket, party, places_of, socket_at}
+use Rattle.lan.specs.Worlds.AtLink.Parties.Socket.{Tcp, Udp, Icmp, Raw}
+use Rattle.lan.specs.Worlds.AtLink.Partners.{ArePartners}
+use Rattle.lan.specs.Worlds.AtLink.Tables.{AreAllowed, Places}
+use Rattle.lan.specs.Worlds.AtLink.Paired.{AreHosted, GoesOn, HasSent, HaveKeys, IsOf, IsOfSocket, IsPlain, IsShown, Seat, Shows, clock_after, clocks_after, clocks_in}
+use Rattle.lan.specs.Worlds.AtLink.Paired.{if_at, shown_to, side_in, told}
+use Rattle.lan.proofs.Worlds.AtLink.CallLemmas.{call_at_other_place, call_at_other_side, same_side_other, same_side_refl}
+use Rattle.lan.proofs.Worlds.AtLink.HostSteps.{Stay, opening_left, told_left}
+use Rattle.lan.proofs.Worlds.AtLink.Kept.{KeptFrom, kept_turned, no_call}
+use Rattle.lan.proofs.Worlds.AtLink.PartnerLemmas.{opening_stays, partners_turned}
+use Rattle.lan.proofs.Worlds.AtLink.Places.{some_is}
+use Rattle.lan.proofs.Worlds.AtLink.Runs.{Kept, MayFrom, fresh_kept, kept_run, may_a, may_b, step_by}
+use Rattle.lan.proofs.Worlds.Moves.Nets.{mine, step_of, theirs}
+use Rattle.lan.proofs.Worlds.AtLink.Paired.Calls.{called}
+use Rattle.lan.proofs.Worlds.AtLink.Paired.Elsewhere.{IsMoreOf, answers_more, left, more_elsewhere, more_of_socket, of_socket_stays, offers_more, socket_stays}
+use Rattle.lan.proofs.Worlds.AtLink.Paired.Shown.{clock_allowed, clock_event, clock_shows}
+use Rattle.lan.proofs.Worlds.AtLink.Paired.Wires.{comes_allowed, comes_event, comes_shows, offer_allowed, offer_shows, was_opened}
+
+-- OPENINGS STAY
+
+after_stays : (h : List Entry) (move : Move) → Stay h (history_after h move)
+after_stays h (Invokes place cx old entry call new) = λ s i o. opening_stays h entry s i o
+after_stays h (Passes entry) = λ s i o. opening_stays h entry s i o
+after_stays h move = λ s i o e. e
+
+run_stays : (net : Net) (steps : List Step) → Stay net.history (run net steps).history
+run_stays net [] = λ s i o e. e
+run_stays net (step ∷ steps) = λ s i o e. run_stays (after net step) steps s i o (after_stays net.history step.move s i o e)
+
+-- MORE EVENTS
+
+pub steps_append : (p q r : PairValue) (events more : List PairEvent) → Steps p events q → Steps q more r → Steps p (events ++ more) r
+steps_append p q r [] more first second = subst (λ (x : PairValue). Steps x more r) first second
+steps_append p q r (event ∷ events) more first second = (first.0, steps_append (happens p event).pair q r events more first.1 second)
+
+-- SEEN FROM ONE SIDE
+
+from_side : (starts : Side → ℕ → ℕ) (places : Places) (net : Net) (side : Side) → Kept starts places net →
+    KeptFrom starts places net.history side (party net side) (party net (other side))
+from_side starts places net A k = k
+from_side starts places net B k = kept_turned starts places net.history A net.a net.b k
+
+from_may : (starts : Side → ℕ → ℕ) (places : Places) (net : Net) (side : Side) (move : Move) → Kept starts places net → May places.names net side move →
+    MayFrom places net.history side (party net side) (party net (other side)) move
+from_may starts places net A move k may = may_a starts places net move k may
+from_may starts places net B move k may = may_b starts places net move k may
+
+module _ (starts : Side → ℕ → ℕ) (places : Places) (seats : Side → Seat) (net : Net) (side : Side) (clocks : Side → ℤ) (p : PairValue)
+    (k : KeptFrom starts places net.history side (party net side) (party net (other side))) (sh : Shows seats clocks net p) (keys : HaveKeys seats)
+    (later : List Entry) (stay : Stay net.history later) (all_allowed : AreAllowed places later)
+    (partners : ArePartners later side (seats side).place (seats (other side)).place) where
+  abbrev here : ℕ
+  here = (seats side).place
+
+  abbrev h : List Entry
+  h = net.history
+
+  abbrev P : Party
+  P = party net side
+
+  abbrev Q : Party
+  Q = party net (other side)
+
+  abbrev next : Move → Net
+  next move = after net (step_of side move)
+
+  abbrev clocks' : Move → Side → ℤ
+  clocks' move = clocks_after seats clocks (step_of side move)
+
+  abbrev Goes : Move → Type 0
+  Goes move = GoesOn seats (clocks' move) (next move) p
+
+  -- CLOCKS
+
+  own_clock : (move : Move) → clocks' move side ≡ clock_after (clocks side) (shown_to here move)
+  own_clock move = ap (λ (t : Bool). if t then clock_after (clocks side) (shown_to here move) else clocks side) (same_side_refl side)
+
+  far_clock : (move : Move) → clocks' move (other side) ≡ clocks (other side)
+  far_clock move =
+      ap (λ (t : Bool). if t then clock_after (clocks (other side)) (shown_to (seats (other side)).place move) else clocks (other side)) (same_side_other side)
+
+  shown_here : (cx : ContextValue) → if_at here here cx ≡ Some cx
+  shown_here cx = ap (λ (t : Bool). if t then Some cx else None) (eq-eqb here here refl)
+
+  shown_there : (at : ℕ) (cx : ContextValue) → (at == here) ≡ false → if_at at here cx ≡ None
+  shown_there at cx apart = ap (λ (t : Bool). if t then Some cx else None) apart
+
+  is_of : (cx : ContextValue) → IsShown (seats side) (clocks side) (if_at here here cx) → IsOf (seats side) (clocks side) cx
+  is_of cx shown = subst (IsShown (seats side) (clocks side)) (shown_here cx) shown
+
+  -- ELSEWHERE
+
+  -- a socket of another place moves, or none, and the history stays
+  elsewhere : (move : Move) → history_after h move ≡ h → shown_to here move ≡ None → socket_at (party_after P move) here ≡ socket_at P here →
+      HasSent (opening h side here) (party_after P move).segments (at p.sides (side_in side)).sent
+      → AllByRecursion (IsOfSocket h side) (party_after P move).segments → Goes move
+  elsewhere move same shown socket sent made = record {
+    events = [];
+    next = p;
+    steps = refl;
+    shows =
+        left seats net (next move) side clocks (clocks' move) p sh (λ s i o e. ap (λ (x : List Entry). opening x s i) same ∙ e)
+        (ap (λ (x : List Entry). opening x side here) same) (told_same side here) (ap (λ (x : List Entry). opening x (other side) (seats (other side)).place) same)
+        (told_same (other side) (seats (other side)).place) (theirs net side move)
+        (ap (λ (x : Party). socket_at x here) (mine net side move) ∙ socket)
+        (subst (λ (x : Party). HasSent (opening h side here) x.segments (at p.sides (side_in side)).sent) (sym (mine net side move)) sent)
+        (subst (λ (x : List Entry). AllByRecursion (IsOfSocket x side) (party (next move) side).segments) (sym same)
+        (subst (λ (x : Party). AllByRecursion (IsOfSocket h side) x.segments) (sym (mine net side move)) made))
+        (own_clock move ∙ ap (clock_after (clocks side)) shown) (far_clock move);
+  } where
+    told_same : (s : Side) (i : ℕ) → told (history_after h move) s i ≡ told h s i
+    told_same s i = ap (λ (x : List Entry). told x s i) same
+
+  -- the history has one entry more, which is no call of the two
+  besides : (move : Move) (e : Entry) → history_after h move ≡ e ∷ h → shown_to here move ≡ None → socket_at (party_after P move) here ≡ socket_at P here →
+      (party_after P move).segments ≡ P.segments → opening (e ∷ h) side here ≡ opening h side here → told (e ∷ h) side here ≡ told h side here
+      → opening (e ∷ h) (other side) (seats (other side)).place ≡ opening h (other side) (seats (other side)).place
+      → told (e ∷ h) (other side) (seats (other side)).place ≡ told h (other side) (seats (other side)).place → Goes move
+  besides move e grown shown socket segments opened past far_opened far_past = record {
+    events = [];
+    next = p;
+    steps = refl;
+    shows =
+        left seats net (next move) side clocks (clocks' move) p sh
+        (λ s i o is. ap (λ (x : List Entry). opening x s i) grown ∙ opening_stays h e s i o is)
+        (ap (λ (x : List Entry). opening x side here) grown ∙ opened) (ap (λ (x : List Entry). told x side here) grown ∙ past)
+        (ap (λ (x : List Entry). opening x (other side) (seats (other side)).place) grown ∙ far_opened)
+        (ap (λ (x : List Entry). told x (other side) (seats (other side)).place) grown ∙ far_past) (theirs net side move)
+        (ap (λ (x : Party). socket_at x here) (mine net side move) ∙ socket)
+        (subst (λ xs. HasSent (opening h side here) xs (at p.sides (side_in side)).sent) (sym same_segments) (sh.sent side))
+        (subst (AllByRecursion (IsOfSocket (next move).history side)) (sym same_segments)
+        (subst (λ (x : List Entry). AllByRecursion (IsOfSocket x side) P.segments) (sym grown)
+        (of_socket_stays h (e ∷ h) side (λ s i o. opening_stays h e s i o) P.segments (sh.made side))))
+        (own_clock move ∙ ap (clock_after (clocks side)) shown) (far_clock move);
+  } where
+    same_segments : (party (next move) side).segments ≡ P.segments
+    same_segments = ap (λ (x : Party). x.segments) (mine net side move) ∙ segments
+
+  -- a place with a socket of another kind is another place
+  no_udp : (place : ℕ) (s : Socket) → ((v : TcpValue) → s ≢ Tcp v) → socket_at P place ≡ Some s → here ≢ place
+  no_udp place s other_kind is same =
+      other_kind (at p.sides (side_in side)).socket
+      (some_is s (Tcp (at p.sides (side_in side)).socket) (sym is ∙ ap (socket_at P) (sym same) ∙ sh.socket side))
+
+  -- OFFERS
+
+  offer_here : (cx : ContextValue) (v : TcpValue) (from : IpAddress) (sent : Bool) → MayFrom places h side P Q (Offers here cx v from sent)
+      → IsPlain net side (Offers here cx v from sent) → IsShown (seats side) (clocks side) (shown_to here (Offers here cx v from sent))
+      → Goes (Offers here cx v from sent)
+  offer_here cx v from sent may plain shown =
+      let move : Move = Offers here cx v from sent in
+      let now = own_clock move ∙ ap (clock_after (clocks side)) (shown_here cx) in
+      record {
+        events = _ ∷ [];
+        next = _;
+        steps = (
+          offer_allowed starts places seats net (next move) side clocks (clocks' move) p k sh v may.0 (theirs net side move) (far_clock move) refl cx from sent
+          (is_of cx shown) now plain (mine net side move),
+          refl,
+        );
+        shows =
+            offer_shows starts places seats net (next move) side clocks (clocks' move) p k sh v may.0 (theirs net side move) (far_clock move) refl cx from sent
+            (is_of cx shown) now plain (mine net side move);
+      }
+
+  offer_there : (at : ℕ) (cx : ContextValue) (v : TcpValue) (from : IpAddress) (sent : Bool) → MayFrom places h side P Q (Offers at cx v from sent)
+      → (at == here) ≡ false → here ≢ at → Goes (Offers at cx v from sent)
+  offer_there at cx v from sent may other_place apart =
+      let move : Move = Offers at cx v from sent in
+      let more = offers_more starts places h side P Q k at v may.0 cx from sent in
+      elsewhere move refl (shown_there at cx other_place) (socket_stays P here at _ apart)
+      (more_elsewhere places h side here at P.segments (party_after P move).segments (opening h side here) _ k.allowed refl apart more (sh.sent side))
+      (more_of_socket h side at P.segments (party_after P move).segments more (sh.made side))
+
+  -- ARRIVALS
+
+  arrival_here : (cx : ContextValue) (v : TcpValue) (ip : IpRepr) (header : TcpHeader) (bytes : List ℕ) → MayFrom places h side P Q (Takes here cx v ip header bytes)
+      → IsPlain net side (Takes here cx v ip header bytes) → IsShown (seats side) (clocks side) (shown_to here (Takes here cx v ip header bytes))
+      → Goes (Takes here cx v ip header bytes)
+  arrival_here cx v ip header bytes may plain shown =
+      let move : Move = Takes here cx v ip header bytes in
+      let now = own_clock move ∙ ap (clock_after (clocks side)) (shown_here cx) in
+      let of = is_of cx shown in
+      let p1 : PairValue = (happens p (clock_event seats net side clocks (clocks' move) p sh cx of now (far_clock move))).pair in
+      let sh1 : Shows seats (clocks' move) net p1 = clock_shows seats net side clocks (clocks' move) p sh cx of now (far_clock move) in
+      let o = was_opened starts places seats net (next move) side (clocks' move) (clocks' move) p1 k sh1 v may.0 (theirs net side move) refl refl cx ip header bytes
+      (keys side).0 (keys side).1 of.host (sh1.clock side ∙ now) refl may.1 may.2 plain later stay all_allowed partners (mine net side move) in
+      record {
+        events = clock_event seats net side clocks (clocks' move) p sh cx of now (far_clock move) ∷ _ ∷ [];
+        next = _;
+        steps = (
+          clock_allowed seats net side clocks (clocks' move) p sh cx of now (far_clock move),
+          (comes_allowed starts places seats net (next move) side (clocks' move) (clocks' move) p1 k sh1 v may.0 (theirs net side move) refl refl cx ip header bytes
+          (keys side).0 (keys side).1 of.host (sh1.clock side ∙ now) refl may.1 may.2 plain later stay all_allowed partners (mine net side move) o.0 o.1, refl),
+        );
+        shows =
+            comes_shows starts places seats net (next move) side (clocks' move) (clocks' move) p1 k sh1 v may.0 (theirs net side move) refl refl cx ip header bytes
+            (keys side).0 (keys side).1 of.host (sh1.clock side ∙ now) refl may.1 may.2 plain later stay all_allowed partners (mine net side move) o.0 o.1;
+      }
+
+  arrival_there : (at : ℕ) (cx : ContextValue) (v : TcpValue) (ip : IpRepr) (header : TcpHeader) (bytes : List ℕ)
+      → MayFrom places h side P Q (Takes at cx v ip header bytes) → (at == here) ≡ false → here ≢ at → Goes (Takes at cx v ip header bytes)
+  arrival_there at cx v ip header bytes may other_place apart =
+      let move : Move = Takes at cx v ip header bytes in
+      let more = answers_more starts places h side P Q k at v may.0 cx ip header bytes may.1 may.2 in
+      elsewhere move refl (shown_there at cx other_place) (socket_stays P here at _ apart)
+      (more_elsewhere places h side here at P.segments (party_after P move).segments (opening h side here) _ k.allowed refl apart more (sh.sent side))
+      (more_of_socket h side at P.segments (party_after P move).segments more (sh.made side))
+
+  -- CALLS
+
+  call_here : (cx : ContextValue) (old new : Socket) (entry : Entry) (call : SocketCall) → MayFrom places h side P Q (Invokes here cx old entry call new)
+      → IsShown (seats side) (clocks side) (shown_to here (Invokes here cx old entry call new)) → Goes (Invokes here cx old entry call new)
+  call_here cx (Tcp v) (Tcp new) entry call may shown =
+      let move : Move = Invokes here cx (Tcp v) entry call (Tcp new) in
+      let now = own_clock move ∙ ap (clock_after (clocks side)) (shown_here cx) in
+      let of = is_of cx shown in
+      let p1 : PairValue = (happens p (clock_event seats net side clocks (clocks' move) p sh cx of now (far_clock move))).pair in
+      let sh1 : Shows seats (clocks' move) net p1 = clock_shows seats net side clocks (clocks' move) p sh cx of now (far_clock move) in
+      let goes = called starts places seats net (next move) side (clocks' move) p1 k sh1 v new entry may.0 (may.2, k.allowed) (theirs net side move) refl
+      (mine net side move) cx (keys side).0 (keys side).1 of.host (sh1.clock side ∙ now) call may.1 may.3 in
+      record {
+        events = clock_event seats net side clocks (clocks' move) p sh cx of now (far_clock move) ∷ goes.events;
+        next = goes.next;
+        steps = (clock_allowed seats net side clocks (clocks' move) p sh cx of now (far_clock move), goes.steps);
+        shows = goes.shows;
+      }
+  call_here cx (Udp v) new entry call may shown = absurd (no_udp here (Udp v) (λ w e. absurd (cc)) may.0 refl)
+  call_here cx Icmp new entry call may shown = absurd (no_udp here Icmp (λ w e. absurd (cc)) may.0 refl)
+  call_here cx Raw new entry call may shown = absurd (no_udp here Raw (λ w e. absurd (cc)) may.0 refl)
+  call_here cx (Tcp v) new entry call may shown = absurd (may.3)
+
+  call_there : (at : ℕ) (cx : ContextValue) (old new : Socket) (entry : Entry) (call : SocketCall) → MayFrom places h side P Q (Invokes at cx old entry call new)
+      → (at == here) ≡ false → here ≢ at → Goes (Invokes at cx old entry call new)
+  call_there at cx old new entry call may other_place apart =
+      let mine_none = call_at_other_place entry side at here call may.1 other_place in
+      let far_none = call_at_other_side entry side at (seats (other side)).place call may.1 in
+      besides (Invokes at cx old entry call new) entry refl (shown_there at cx other_place) (socket_stays P here at new apart) refl
+      (opening_left h entry side here mine_none) (told_left h entry side here mine_none) (opening_left h entry (other side) (seats (other side)).place far_none)
+      (told_left h entry (other side) (seats (other side)).place far_none)
+
+  passes : (entry : Entry) → IsNoCall (kind_of entry.event) → Goes (Passes entry)
+  passes entry none =
+      let mine_none = no_call (kind_of entry.event) side here none in
+      let far_none = no_call (kind_of entry.event) (other side) (seats (other side)).place none in
+      besides (Passes entry) entry refl refl refl refl (opening_left h entry side here mine_none) (told_left h entry side here mine_none)
+      (opening_left h entry (other side) (seats (other side)).place far_none) (told_left h entry (other side) (seats (other side)).place far_none)
+
+  -- EACH MOVE
+
+  -- at the socket's own place, or at another
+  by_place : (at : ℕ) (X : ℕ → Type 0) → X here → ((at == here) ≡ false → here ≢ at → X at) → X at
+  by_place at X own there = by (eqb_tells at here) where
+    by : (((at == here) ≡ true) × (at ≡ here)) ⊎ (((at == here) ≡ false) × (at ≢ here)) → X at
+    by (inl same) = subst X (sym same.1) own
+    by (inr apart) = there apart.0 (λ same. apart.1 (sym same))
+
+  goes : (move : Move) → MayFrom places h side P Q move → IsPlain net side move → IsShown (seats side) (clocks side) (shown_to here move) → Goes move
+  goes (Invokes at cx old entry call new) may plain shown =
+      by_place at
+      (λ i. MayFrom places h side P Q (Invokes i cx old entry call new) → IsShown (seats side) (clocks side) (shown_to here (Invokes i cx old entry call new)) →
+      Goes (Invokes i cx old entry call new))
+      (λ m s. call_here cx old new entry call m s) (λ off apart m s. call_there at cx old new entry call m off apart) may shown
+  goes (Passes entry) may plain shown = passes entry may
+  goes (Offers at cx v from sent) may plain shown =
+      by_place at
+      (λ i. MayFrom places h side P Q (Offers i cx v from sent) → IsShown (seats side) (clocks side) (shown_to here (Offers i cx v from sent)) →
+      Goes (Offers i cx v from sent))
+      (λ m s. offer_here cx v from sent m plain s) (λ off apart m s. offer_there at cx v from sent m off apart) may shown
+  goes (Gives at cx v answer v' sent) may plain shown =
+      let apart = no_udp at (Udp v) (λ w e. absurd (cc)) may.0 in
+      elsewhere (Gives at cx v answer v' sent) refl refl (socket_stays P here at _ apart) (sh.sent side) (sh.made side)
+  goes (Takes at cx v ip header bytes) may plain shown =
+      by_place at
+      (λ i. MayFrom places h side P Q (Takes i cx v ip header bytes) → IsShown (seats side) (clocks side) (shown_to here (Takes i cx v ip header bytes)) →
+      Goes (Takes i cx v ip header bytes))
+      (λ m s. arrival_here cx v ip header bytes m plain s) (λ off apart m s. arrival_there at cx v ip header bytes m off apart) may shown
+  goes (Receives at cx v ip udp bytes) may plain shown =
+      let apart = no_udp at (Udp v) (λ w e. absurd (cc)) may.0 in
+      elsewhere (Receives at cx v ip udp bytes) refl refl (socket_stays P here at _ apart) (sh.sent side) (sh.made side)
+  goes (Resets x) may plain shown = absurd plain
+  goes (Changes at old new) may plain shown = absurd plain
+
+-- RUNS
+
+turned : (history : List Entry) (seats : Side → Seat) (side : Side) → ArePartners history A (seats A).place (seats B).place →
+    ArePartners history side (seats side).place (seats (other side)).place
+turned history seats A a = a
+turned history seats B a = partners_turned history A (seats A).place (seats B).place a
+
+run_goes : (starts : Side → ℕ → ℕ) (places : Places) (seats : Side → Seat) (keys : HaveKeys seats) (net : Net) (steps : List Step) (clocks : Side → ℤ) (p : PairValue)
+    → Kept starts places net → IsRun places.names net steps → AreHosted seats clocks net steps → ArePartners (run net steps).history A (seats A).place (seats B).place
+    → Shows seats clocks net p → GoesOn seats (clocks_in seats clocks steps) (run net steps) p
+run_goes starts places seats keys net [] clocks p k is hosted partners sh = record { events = []; next = p; steps = refl; shows = sh }
+run_goes starts places seats keys net (step ∷ steps) clocks p k is hosted partners sh =
+    let side = step.side in
+    let last = kept_run starts places net (step ∷ steps) k is in
+    let stay = run_stays net (step ∷ steps) in
+    let one =
+    goes starts places seats net side clocks p (from_side starts places net side k) sh keys (run net (step ∷ steps)).history stay last.allowed
+    (turned (run net (step ∷ steps)).history seats side partners) step.move (from_may starts places net side step.move k is.0) hosted.0 hosted.1 in
+    let rest =
+    run_goes starts places seats keys (after net step) steps (clocks_after seats clocks step) one.next (step_by starts places net side step.move k is.0) is.1 hosted.2
+    partners one.shows in
+    record {
+      events = one.events ++ rest.events;
+      next = rest.next;
+      steps = steps_append p one.next rest.next one.events rest.events one.steps rest.steps;
+      shows = rest.shows;
+    }
+
+pub partners_go_on : (starts : Side → ℕ → ℕ) (names : List ℕ → Bool) (first : Net) (before steps : List Step) (seats : Side → Seat) (clocks : Side → ℤ) (p : PairValue)
+    → IsFreshNet starts first → IsRun names first before → IsRun names (run first before) steps → AreHosted seats clocks (run first before) steps → HaveKeys seats
+    → ArePartners (run (run first before) steps).history A (seats A).place (seats B).place → Shows seats clocks (run first before) p
+    → GoesOn seats (clocks_in seats clocks steps) (run (run first before) steps) p
+partners_go_on starts names first before steps seats clocks p fresh was is hosted keys partners sh =
+    let places = places_of names first in
+    run_goes starts places seats keys (run first before) steps clocks p (kept_run starts places first before (fresh_kept starts names first fresh) was) is hosted partners
+    sh

@@ -1,0 +1,23 @@
+//! That two sockets of hosts at a link are a pair of sockets.
+ghost use Rattle.std.specs.Prelude.{◌≡◌, ℕ, ℤ, Bool, List};
+ghost use Rattle.lan.specs.declared.at_link.history.event.Side.{Side};
+ghost use Rattle.lan.specs.declared.at_link.history.event.Side.TheVariants.{A, B};
+ghost use Rattle.lan.specs.Worlds.AtLink.Moves.{Step, IsRun, run};
+ghost use Rattle.lan.specs.Worlds.AtLink.Paired.{AreHosted, AreNew, GoesOn, HaveKeys, NewSocket, Seat, Shows, at_zero, begun, clocks_in};
+ghost use Rattle.lan.specs.Worlds.AtLink.Parties.{Net};
+ghost use Rattle.lan.specs.Worlds.AtLink.Partners.{ArePartners};
+ghost use Rattle.lan.specs.Worlds.AtLink.PacketsSafe.{IsFreshNet};
+ghost use Rattle.tcp_tie.specs.Pair.Values.{PairValue};
+
+/// Law: two TCP sockets that are partners in the end of a plain run of two hosts are a pair of sockets: at first two new ones, and each move of a host
+/// is none, one or two events of the pair, so what holds of every list of events holds of them. Their hosts stay as the sockets are shown them, but
+/// for their clocks, and make first numbers with a key (RFC 6528).
+pub fn partners_are_a_pair()
+    ensures begins { (starts : Side → ℕ → ℕ) (net : Net) (seats : Side → Seat) (news : Side → NewSocket) → IsFreshNet starts net → AreNew seats news net
+        → Shows seats at_zero net (begun seats news) }
+    ensures goes_on { (starts : Side → ℕ → ℕ) (names : List ℕ → Bool) (first : Net) (before steps : List Step) (seats : Side → Seat) (clocks : Side → ℤ)
+        (p : PairValue) → IsFreshNet starts first → IsRun names first before → IsRun names (run first before) steps
+        → AreHosted seats clocks (run first before) steps → HaveKeys seats
+        → ArePartners (run (run first before) steps).history A (seats A).place (seats B).place → Shows seats clocks (run first before) p
+        → GoesOn seats (clocks_in seats clocks steps) (run (run first before) steps) p }
+{}
