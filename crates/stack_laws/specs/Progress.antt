@@ -6,3 +6,4 @@ pub mod Queued
 pub mod Excluded
 pub mod Reached
 pub mod Asked
+pub mod Partners

@@ -4,6 +4,7 @@ pub mod arrivals;
 pub mod datagrams;
 pub mod excluded;
 pub mod neighbors;
+pub mod partners;
 pub mod pieces;
 pub mod polls;
 pub mod rest;

@@ -5,3 +5,4 @@ pub mod Wires
 pub mod Pasts
 pub mod Calls
 pub mod Runs
+pub mod Begins

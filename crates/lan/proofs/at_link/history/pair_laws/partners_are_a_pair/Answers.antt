@@ -1,5 +1,9 @@
+use Rattle.lan.proofs.Worlds.AtLink.Paired.Begins.{begins}
 use Rattle.lan.proofs.Worlds.AtLink.Paired.Runs.{partners_go_on}
 use Rattle.lan.proofs.at_link.history.pair_laws.partners_are_a_pair.Goals as goal
+
+pub returns-clause-begins : goal.returns-clause-begins
+returns-clause-begins c = begins
 
 pub returns-clause-goes_on : goal.returns-clause-goes_on
 returns-clause-goes_on c = partners_go_on

@@ -1,0 +1,43 @@
+//! Two partners at hosts whose connection goes on.
+
+ghost use Rattle.std.specs.Prelude.{◌≡◌, ◌++◌, ℕ, ℤ, Bool, List};
+ghost use Rattle.lan.specs.declared.at_link.history.event.Side.{Side};
+ghost use Rattle.lan.specs.declared.at_link.history.event.Side.TheVariants.{A, B};
+ghost use Rattle.lan.specs.Worlds.AtLink.Moves.{Step, IsRun, run};
+ghost use Rattle.lan.specs.Worlds.AtLink.PacketsSafe.{IsFreshNet};
+ghost use Rattle.lan.specs.Worlds.AtLink.Paired.{AreHosted, AreNew, HaveKeys, NewSocket, Seat, Shows, at_zero, clocks_in};
+ghost use Rattle.lan.specs.Worlds.AtLink.Parties.{Net};
+ghost use Rattle.lan.specs.Worlds.AtLink.Partners.{ArePartners};
+ghost use Rattle.tcp_tie.specs.Pair.Values.{PairValue};
+ghost use Rattle.tcp_progress.specs.Reached.{IsReached};
+ghost use Rattle.stack_laws.specs.Progress.Partners.{GoesOnInTime, HoldText, ShowsReached};
+
+use lan::at_link::history::pair_laws::partners_are_a_pair;
+use tcp_progress::readers::{
+    a_connection_goes_on_whatever_its_windows_are, all_is_acknowledged_whatever_the_windows_are,
+};
+
+/// Law: after a plain run over packets of two hosts, in which new TCP sockets of theirs became partners, a pair that events led to shows them: so
+/// each law on such pairs is one on them.
+pub fn partners_are_reached()
+    ensures { (starts : Side → ℕ → ℕ) (names : List ℕ → Bool) (first : Net) (steps : List Step) (seats : Side → Seat) (news : Side → NewSocket)
+        → IsFreshNet starts first → AreNew seats news first → IsRun names first steps → AreHosted seats at_zero first steps → HaveKeys seats
+        → HoldText seats → ArePartners (run first steps).history A (seats A).place (seats B).place
+        → ShowsReached seats (clocks_in seats at_zero steps) (run first steps) }
+{
+    partners_are_a_pair();
+}
+
+/// Law: and their connection goes on, whatever its windows are, where from some net on hosts are polled in time, segments come in time, and users
+/// read.
+pub fn partners_go_on()
+    ensures { (starts : Side → ℕ → ℕ) (names : List ℕ → Bool) (first : Net) (before steps : List Step) (seats : Side → Seat) (clocks : Side → ℤ)
+        (p : PairValue) → IsFreshNet starts first → IsRun names first before → IsReached p → Shows seats clocks (run first before) p
+        → IsRun names (run first before) steps → AreHosted seats clocks (run first before) steps → HaveKeys seats
+        → ArePartners (run (run first before) steps).history A (seats A).place (seats B).place
+        → GoesOnInTime seats (clocks_in seats clocks steps) (run (run first before) steps) p }
+{
+    partners_are_a_pair();
+    a_connection_goes_on_whatever_its_windows_are();
+    all_is_acknowledged_whatever_the_windows_are();
+}
