@@ -20,7 +20,7 @@ ghost use Rattle.tcp_progress.specs.Exchange.{IsOpen};
 ghost use Rattle.tcp_progress.specs.Late.{GoesFrom};
 ghost use Rattle.tcp_progress.specs.Onward.{AreOpen, HasRisen, acked_in};
 ghost use Rattle.tcp_progress.specs.Pair.{HasStream, context_of, left_in, socket_of};
-ghost use Rattle.tcp_progress.specs.PutOff.{ProbesAt, RunsOutAmong};
+ghost use Rattle.tcp_progress.specs.PutOff.{IsAskedFromAmong, ProbesAt, RunsOutAmong};
 ghost use Rattle.tcp_progress.specs.Reached.{IsReached};
 ghost use Rattle.tcp_progress.specs.Restart.{Sends};
 ghost use Rattle.tcp_progress.specs.Spans.{IsHeldAmong, IsThroughAmong, most_reached, reached_in};
@@ -31,7 +31,7 @@ ghost use Rattle.tcp_progress.specs.Spans.{IsHeldAmong, IsThroughAmong, most_rea
 pub fn a_side_begins_at_snd_una_in_time()
     ensures minutes { (p q : PairValue) (side : Side) (events : List PairEvent) → IsReached p → AreOpen p → Steps p events q
         → ((socket_of p side).block.sender.in_flight == 0) ≡ false
-        → ((at p.sides side).moment +ℤ pos (put_off_in p side)) ≤ℤ (at q.sides side).moment
+        → IsAskedFromAmong ((at p.sides side).moment +ℤ pos (put_off_in p side)) side events
         → is_synchronized (socket_of q side).block.state ≡ true
         → (acked_in p side < acked_in q side) ⊎ (RunsOutAmong p side events ⊎ BeginsAnewAmong p side events) }
 {}
