@@ -29,8 +29,8 @@ pub fn only_news_puts_the_timer_off()
         → AreAskedBefore at side events → RunsOutAt at (socket_of q side) ⊎ MendsAmong p side events }
 {}
 
-/// Within a minute of its clock SND.UNA of a side with something in flight rises, or it is asked when its timer has run out, and begins anew at
-/// SND.UNA; or something goes again in a recovery. Whatever happens meanwhile, as long as the connection is there.
+/// Of a side with something in flight that is asked a minute later, or later still, SND.UNA has risen; or it was asked when its timer had run out,
+/// and began anew at SND.UNA; or something went again in a recovery. Whatever happens meanwhile, as long as the connection is there.
 pub fn a_minute_brings_news_or_runs_the_timer_out()
     ensures minute { (p q : PairValue) (side : Side) (events : List PairEvent) → IsReached p → AreOpen p → Steps p events q
         → ((socket_of p side).block.sender.in_flight == 0) ≡ false
