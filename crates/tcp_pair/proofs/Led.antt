@@ -5,7 +5,7 @@ use Rattle.tcp_tie.specs.Tie.{Past}
 use Rattle.tcp_tie.specs.declared.pair.event.Side.{Side}
 use Rattle.tcp_tie.specs.declared.pair.event.Side.TheVariants.{A, B}
 use Rattle.tcp_tie.specs.declared.pair.event.PairEvent.{PairEvent}
-use Rattle.tcp_tie.specs.declared.pair.event.PairEvent.TheVariants.{Listen, Connect, Send, Recv, Close, Abort, TcpSetting, Offer, Deliver}
+use Rattle.tcp_tie.specs.declared.pair.event.PairEvent.TheVariants.{Listen, Connect, Send, Recv, Close, Abort, TcpSetting, Clock, Offer, Deliver}
 use Rattle.tcp_tie.specs.declared.pair.event.PairAnswer.{PairAnswer}
 use Rattle.tcp_tie.specs.declared.pair.event.PairAnswer.TheVariants.{Done, Count, Bytes, Error}
 use Rattle.tcp_tie.specs.Pair.History.{pasts, recv_adds}
@@ -84,6 +84,7 @@ once p (Send s bytes) side of = absurd of
 once p (Close s) side of = absurd of
 once p (Abort s) side of = absurd of
 once p (TcpSetting s setting) side of = absurd of
+once p (Clock s moment) side of = absurd of
 
 unwritten : (p q : PairValue) (events : List PairEvent) (side : Side) → AllByRecursion IsOfRound events → Steps p events q → written q side ≡ written p side
 unwritten p q [] side only is = ap (λ (x : PairValue). written x side) is

@@ -11,7 +11,7 @@ use Rattle.tcp_tie.specs.Tie.{Past}
 use Rattle.tcp_tie.specs.declared.pair.event.SentSegment.{SentSegment}
 use Rattle.tcp_tie.specs.declared.pair.event.Side.{Side}
 use Rattle.tcp_tie.specs.declared.pair.event.PairEvent.{PairEvent}
-use Rattle.tcp_tie.specs.declared.pair.event.PairEvent.TheVariants.{Listen, Connect, Send, Recv, Close, Abort, TcpSetting, Offer, Deliver}
+use Rattle.tcp_tie.specs.declared.pair.event.PairEvent.TheVariants.{Listen, Connect, Send, Recv, Close, Abort, TcpSetting, Clock, Offer, Deliver}
 use Rattle.tcp_tie.specs.declared.pair.event.PairAnswer.{PairAnswer}
 use Rattle.tcp_tie.specs.declared.pair.event.PairAnswer.TheVariants.{Done, Count, Bytes, Error}
 use Rattle.tcp_tie.specs.Pair.History.{adds, listen_adds, connect_adds, send_adds, recv_adds}
@@ -37,6 +37,7 @@ acts_few s others (Recv side count) = tt
 acts_few s others (Close side) = tt
 acts_few s others (Abort side) = tt
 acts_few s others (TcpSetting side setting) = tt
+acts_few s others (Clock side moment) = tt
 acts_few s others (Offer side moment sent) = tt
 acts_few s others (Deliver from k) = tt
 
@@ -89,5 +90,6 @@ module _ (e : EndValue) (p : Past) (own : PairSide) (t : Tallies e p) where
       record { opened = c.opened; accepted = omega (arith, c.accepted) }
   tallies_on (Abort side) answer found few = record { opened = t.opened; accepted = count_none }
   tallies_on (TcpSetting side setting) answer found few = record { opened = t.opened; accepted = count_none }
+  tallies_on (Clock side moment) answer found few = record { opened = t.opened; accepted = count_none }
   tallies_on (Offer side moment sent) answer found few = record { opened = t.opened; accepted = count_none }
   tallies_on (Deliver from k) answer found few = record { opened = t.opened; accepted = count_none }

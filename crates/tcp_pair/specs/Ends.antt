@@ -8,7 +8,7 @@ use Rattle.tcp_model.specs.Value.{TcpValue}
 use Rattle.tcp_tie.specs.declared.pair.event.Side.{Side}
 use Rattle.tcp_tie.specs.declared.pair.event.SentSegment.{SentSegment}
 use Rattle.tcp_tie.specs.declared.pair.event.PairEvent.{PairEvent}
-use Rattle.tcp_tie.specs.declared.pair.event.PairEvent.TheVariants.{Listen, Connect, Send, Recv, Close, Abort, TcpSetting, Offer, Deliver}
+use Rattle.tcp_tie.specs.declared.pair.event.PairEvent.TheVariants.{Listen, Connect, Send, Recv, Close, Abort, TcpSetting, Clock, Offer, Deliver}
 use Rattle.tcp_tie.specs.declared.pair.event.PairAnswer.{PairAnswer}
 use Rattle.tcp_tie.specs.declared.pair.event.PairAnswer.TheVariants.{Done, Count, Bytes}
 use Rattle.tcp_tie.specs.declared.pair.event.PairRefused.{PairRefused}
@@ -47,6 +47,7 @@ named (Recv side count) = side
 named (Close side) = side
 named (Abort side) = side
 named (TcpSetting side setting) = side
+named (Clock side moment) = side
 named (Offer side moment sent) = side
 named (Deliver from k) = from
 
@@ -55,12 +56,14 @@ refusal_at e (Deliver from k) = if_so (not (nat_lt k (length e.own.sent))) NoSeg
 refusal_at e (Listen side endpoint) = if_so e.opened OpenedTwice
 refusal_at e (Connect side remote local) = if_so e.opened OpenedTwice
 refusal_at e (Send side bytes) = if_so (nat_le (2 ^ 29) (e.accepted + length bytes)) TooManyBytes
+refusal_at e (Clock side moment) = if_so (not (may_come e.own.moment moment)) Moment
 refusal_at e (Offer side moment sent) = if_so (not (may_come e.own.moment moment)) Moment
 refusal_at e event = None
 
 -- what is known of an event that isn't refused
 abbrev pub MayAct : EndValue → PairEvent → Type 0
 MayAct e (Send side bytes) = e.accepted + length bytes < 2 ^ 29
+MayAct e (Clock side moment) = IsMoment moment
 MayAct e (Offer side moment sent) = IsMoment moment
 MayAct e event = Unit {0}
 

@@ -100,7 +100,7 @@ impl End {
                 let all = self.accepted.saturating_add(bytes.as_slice().len());
                 (MOST_BYTES <= all).then_some(PairRefused::TooManyBytes)
             }
-            PairEvent::Offer(_, moment, _) => {
+            PairEvent::Clock(_, moment) | PairEvent::Offer(_, moment, _) => {
                 let may_come = moment.is_moment() && self.context.now() <= *moment;
                 (!may_come).then_some(PairRefused::Moment)
             }
@@ -141,6 +141,10 @@ impl End {
             }
             PairEvent::TcpSetting(_, setting) => {
                 self.set(setting);
+                Ok((PairAnswer::Done, PairAnswer::Done))
+            }
+            PairEvent::Clock(_, moment) => {
+                self.context.set_now(*moment);
                 Ok((PairAnswer::Done, PairAnswer::Done))
             }
             PairEvent::Offer(_, moment, sent) => {

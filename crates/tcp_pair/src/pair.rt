@@ -149,7 +149,7 @@ impl Pair {
         end_at(&self.a, &self.b, side).socket()
     }
 
-    /// The last moment of a side: 0, or that at which it was asked last.
+    /// The last moment of a side: 0, or that which its host's clock showed last, or at which it was asked since.
     pub fn moment(&self, side: Side) -> Instant
         ensures { result ≡ (at (hosted self.now).sides side).moment }
     {
@@ -193,6 +193,7 @@ fn named_by(event: &PairEvent) -> Side
         | PairEvent::Close(side)
         | PairEvent::Abort(side)
         | PairEvent::TcpSetting(side, _)
+        | PairEvent::Clock(side, _)
         | PairEvent::Offer(side, _, _)
         | PairEvent::Deliver(side, _) => *side,
     }

@@ -24,7 +24,7 @@ use Rattle.tcp_tie.specs.Pair.Steps.{Steps, acting, acts, handed, reads, refusal
 use Rattle.tcp_model.specs.Value.{free_in, room_of}
 use Rattle.tcp_tie.specs.Pair.Values.{PairSide, PairValue, and_offer, and_reply, context_at, past_at}
 use Rattle.tcp_tie.specs.declared.pair.event.PairEvent.{PairEvent}
-use Rattle.tcp_tie.specs.declared.pair.event.PairEvent.TheVariants.{Listen, Connect, Send, Recv, Close, Abort, TcpSetting, Offer, Deliver}
+use Rattle.tcp_tie.specs.declared.pair.event.PairEvent.TheVariants.{Listen, Connect, Send, Recv, Close, Abort, TcpSetting, Clock, Offer, Deliver}
 use Rattle.tcp_tie.specs.declared.pair.event.SentSegment.{SentSegment}
 use Rattle.tcp_tie.specs.declared.pair.event.Side.{Side}
 use Rattle.tcp_tie.specs.declared.pair.event.Side.TheVariants.{A, B}
@@ -85,6 +85,7 @@ by_act s others (Recv side count) k x e = by_read s (recv_answer s.socket count)
 by_act s others (Close side) k x e = e
 by_act s others (Abort side) k x e = e
 by_act s others (TcpSetting side setting) k x e = e
+by_act s others (Clock side moment) k x e = e
 by_act s others (Offer side moment true) k x e =
     by_offer s.sent (offer_of (context_at side (record s { moment = moment })) s.socket).socket.offered
     (offer_of (context_at side (record s { moment = moment })) s.socket).socket.queued.queue k x e

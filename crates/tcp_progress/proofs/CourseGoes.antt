@@ -21,7 +21,7 @@ use Rattle.tcp_tie.specs.Pair.Steps.{Steps, offered_at, refusal}
 use Rattle.tcp_model.specs.Value.{TcpValue, room_of}
 use Rattle.tcp_tie.specs.Pair.Values.{PairSide, PairValue, and_offer, context_at, past_at}
 use Rattle.tcp_tie.specs.declared.pair.event.PairEvent.{PairEvent}
-use Rattle.tcp_tie.specs.declared.pair.event.PairEvent.TheVariants.{Listen, Connect, Send, Recv, Close, Abort, TcpSetting, Offer, Deliver}
+use Rattle.tcp_tie.specs.declared.pair.event.PairEvent.TheVariants.{Listen, Connect, Send, Recv, Close, Abort, TcpSetting, Clock, Offer, Deliver}
 use Rattle.tcp_tie.specs.declared.pair.event.SentSegment.{SentSegment}
 use Rattle.tcp_tie.specs.declared.pair.event.Side.{Side}
 use Rattle.tcp_tie.specs.declared.pair.event.Side.TheVariants.{A, B}
@@ -226,7 +226,9 @@ sends_in p side (Close of) (inr never) taken h = absurd never
 sends_in p side (Abort of) (inl never) taken h = absurd never
 sends_in p side (Abort of) (inr never) taken h = absurd never
 sends_in p side (TcpSetting of setting) (inl never) taken h = absurd never
+sends_in p side (Clock of moment) (inl never) taken h = absurd never
 sends_in p side (TcpSetting of setting) (inr never) taken h = absurd never
+sends_in p side (Clock of moment) (inr never) taken h = absurd never
 sends_in p side (Deliver from k) (inl never) taken h = absurd never
 sends_in p side (Deliver from k) (inr never) taken h = absurd never
 

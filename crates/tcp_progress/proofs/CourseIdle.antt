@@ -26,7 +26,7 @@ use Rattle.tcp_tie.specs.Pair.Sides.{at, other}
 use Rattle.tcp_model.specs.Value.{TcpValue, free_in, queued_in}
 use Rattle.tcp_tie.specs.Pair.Values.{PairValue, past_at}
 use Rattle.tcp_tie.specs.declared.pair.event.PairEvent.{PairEvent}
-use Rattle.tcp_tie.specs.declared.pair.event.PairEvent.TheVariants.{Listen, Connect, Send, Recv, Close, Abort, TcpSetting, Offer, Deliver}
+use Rattle.tcp_tie.specs.declared.pair.event.PairEvent.TheVariants.{Listen, Connect, Send, Recv, Close, Abort, TcpSetting, Clock, Offer, Deliver}
 use Rattle.tcp_tie.specs.declared.pair.event.Side.{Side}
 use Rattle.tcp_tie.specs.declared.pair.event.Side.TheVariants.{A, B}
 use Rattle.tcp_progress.specs.Arrivals.{is_synchronized}
@@ -116,6 +116,7 @@ is_asked side (Recv of count) = inr (λ never. never)
 is_asked side (Close of) = inr (λ never. never)
 is_asked side (Abort of) = inr (λ never. never)
 is_asked side (TcpSetting of setting) = inr (λ never. never)
+is_asked side (Clock of moment) = inr (λ never. never)
 is_asked side (Deliver from k) = inr (λ never. never)
 
 carries_asks : (p : PairValue) (side : Side) (event : PairEvent) → CarriesIn p side event → Asks side event
@@ -128,6 +129,7 @@ carries_asks p side (Recv of count) never = absurd never
 carries_asks p side (Close of) never = absurd never
 carries_asks p side (Abort of) never = absurd never
 carries_asks p side (TcpSetting of setting) never = absurd never
+carries_asks p side (Clock of moment) never = absurd never
 carries_asks p side (Deliver from k) never = absurd never
 
 -- WHAT IS HELD BACK
@@ -223,6 +225,7 @@ asked_by p side (Recv of count) now never is r mine owes idle stays queued = abs
 asked_by p side (Close of) now never is r mine owes idle stays queued = absurd never
 asked_by p side (Abort of) now never is r mine owes idle stays queued = absurd never
 asked_by p side (TcpSetting of setting) now never is r mine owes idle stays queued = absurd never
+asked_by p side (Clock of moment) now never is r mine owes idle stays queued = absurd never
 asked_by p side (Deliver from k) now never is r mine owes idle stays queued = absurd never
 
 -- where it isn't asked

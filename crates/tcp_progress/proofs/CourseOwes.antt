@@ -17,7 +17,7 @@ use Rattle.tcp_tie.specs.Pair.Steps.{Steps}
 use Rattle.tcp_model.specs.Value.{TcpValue, room_of}
 use Rattle.tcp_tie.specs.Pair.Values.{PairValue, past_at}
 use Rattle.tcp_tie.specs.declared.pair.event.PairEvent.{PairEvent}
-use Rattle.tcp_tie.specs.declared.pair.event.PairEvent.TheVariants.{Listen, Connect, Send, Recv, Close, Abort, TcpSetting, Offer, Deliver}
+use Rattle.tcp_tie.specs.declared.pair.event.PairEvent.TheVariants.{Listen, Connect, Send, Recv, Close, Abort, TcpSetting, Clock, Offer, Deliver}
 use Rattle.tcp_tie.specs.declared.pair.event.Side.{Side}
 use Rattle.tcp_tie.specs.declared.pair.event.Side.TheVariants.{A, B}
 use Rattle.tcp_progress.specs.Arrivals.{is_synchronized}
@@ -165,6 +165,7 @@ asked_sends p side (Recv of count) never r mine owes none wide stays = absurd ne
 asked_sends p side (Close of) never r mine owes none wide stays = absurd never
 asked_sends p side (Abort of) never r mine owes none wide stays = absurd never
 asked_sends p side (TcpSetting of setting) never r mine owes none wide stays = absurd never
+asked_sends p side (Clock of moment) never r mine owes none wide stays = absurd never
 asked_sends p side (Deliver from k) never r mine owes none wide stays = absurd never
 
 -- MOMENTS

@@ -1,26 +1,28 @@
 -- A course in two parts, and the clock of a side in it.
-use Rattle.std.proofs.Common.{◌≡◌, ◌⊎◌, inl, inr, ℕ, ℤ, pos, ◌+ℤ◌, ◌≤ℤ◌, int_le, Bool, true, false, List, []}
-use Rattle.std.proofs.Common.{◌∷◌, ◌++◌, Some, refl, sym, ◌∙◌, subst, arith}
-use Rattle.std.proofs.lemmas.Int.{ints}
-use Rattle.tcp_rules.specs.Moments.{is_due}
+use Rattle.std.proofs.Common.{◌≡◌, ◌⊎◌, inl, inr, ℕ, ℤ, pos, ◌+ℤ◌, ◌≤ℤ◌, Bool, true, false, List, []}
+use Rattle.std.proofs.Common.{◌∷◌, ◌++◌, Result, Ok, Err, slice_get, refl, sym, ◌∙◌, subst, arith}
+use Rattle.tcp_rules.specs.RecvError.{RecvError}
 use Rattle.tcp_rules.specs.States.{is_closed}
 use Rattle.tcp_rules.proofs.OrderSteps.{clash}
-use Rattle.tcp_tie.specs.Pair.Sides.{at}
-use Rattle.tcp_tie.specs.Pair.Steps.{Steps}
-use Rattle.tcp_tie.specs.Pair.Values.{PairValue}
+use Rattle.tcp_model.specs.Calls.{recv_answer}
+use Rattle.tcp_tie.specs.Pair.History.{side_of}
+use Rattle.tcp_tie.specs.Pair.Sides.{at, other}
+use Rattle.tcp_tie.specs.Pair.Steps.{Steps, acting, acts, reads}
+use Rattle.tcp_tie.specs.Pair.Values.{PairSide, PairValue}
 use Rattle.tcp_tie.specs.declared.pair.event.PairEvent.{PairEvent}
-use Rattle.tcp_tie.specs.declared.pair.event.PairEvent.TheVariants.{Listen, Connect, Send, Recv, Close, Abort, TcpSetting, Offer, Deliver}
+use Rattle.tcp_tie.specs.declared.pair.event.PairEvent.TheVariants.{Listen, Connect, Send, Recv, Close, Abort, TcpSetting, Clock, Offer, Deliver}
+use Rattle.tcp_tie.specs.declared.pair.event.SentSegment.{SentSegment}
 use Rattle.tcp_tie.specs.declared.pair.event.Side.{Side}
 use Rattle.tcp_progress.specs.Arrivals.{is_synchronized}
 use Rattle.tcp_progress.specs.Course.{AreTaken, Asks, AsksWithin, DeliversWithin, IsAskedBy, IsAt, IsClocked, IsHeardBy, IsHeardWith, IsHinderedAmong}
 use Rattle.tcp_progress.specs.Course.{Wants, end_of, events_of}
 use Rattle.tcp_progress.specs.Pair.{left_in, socket_of}
-use Rattle.tcp_progress.specs.PutOff.{IsAskedBefore}
 use Rattle.tcp_progress.specs.Rounds.{takes}
 use Rattle.tcp_progress.specs.Spans.{IsHeldAmong, IsHeldIn, IsThroughAmong}
+use Rattle.tcp_progress.proofs.CourseExchange.{by_put}
+use Rattle.tcp_progress.proofs.Moments.{handed_moment}
 use Rattle.tcp_progress.proofs.OnwardPairs.{IsBegun, MovesIn}
 use Rattle.tcp_progress.proofs.Pair.{not_closed}
-use Rattle.tcp_progress.proofs.PutOffRuns.{ClockIn, clock_after}
 use Rattle.tcp_progress.proofs.Turns.{late_on}
 
 abbrev pub Course : Type 0
@@ -33,37 +35,35 @@ after_all p (x ∷ course) = after_all (takes p x.1) course
 upto : (a b c : ℤ) → a ≤ℤ b → b ≤ℤ c → a ≤ℤ c
 upto a b c e f = grind arith
 
+at_most : (moment now : ℤ) → moment ≡ now → moment ≤ℤ now
+at_most moment now e = grind arith
+
 -- no side's clock is ahead of the one of the course
-not_after : (moment now : ℤ) → moment ≡ now → is_due moment (Some (now +ℤ pos 1)) ≡ false
-not_after moment now e = by (int_le (now +ℤ pos 1) moment) refl where
-  never : int_le (now +ℤ pos 1) moment ≡ true → ⊥
-  never so = first_of (omega (arith, ints), grind (arith, ints))
-
-  by : (due : Bool) → int_le (now +ℤ pos 1) moment ≡ due → due ≡ false
-  by true so = absurd (never so)
-  by false so = refl
-
-asked_before : (side : Side) (event : PairEvent) (now : ℤ) → IsAt now event → IsAskedBefore (now +ℤ pos 1) side event
-asked_before side (Offer of moment sent) now is = λ _. not_after moment now is
-asked_before side (Listen of endpoint) now is = tt
-asked_before side (Connect of remote local) now is = tt
-asked_before side (Send of bytes) now is = tt
-asked_before side (Recv of count) now is = tt
-asked_before side (Close of) now is = tt
-asked_before side (Abort of) now is = tt
-asked_before side (TcpSetting of setting) now is = tt
-asked_before side (Deliver from k) now is = tt
+own_clock : (s : PairSide) (others : List SentSegment) (event : PairEvent) (now : ℤ) → s.moment ≤ℤ now → IsAt now event → (acts s others event).side.moment ≤ℤ now
+own_clock s others (Listen of endpoint) now clock is = clock
+own_clock s others (Connect of remote local) now clock is = clock
+own_clock s others (Send of bytes) now clock is = clock
+own_clock s others (Recv of count) now clock is = by (recv_answer s.socket count) where
+  by : (got : Result ℕ RecvError) → (reads s got).side.moment ≤ℤ now
+  by (Ok n) = clock
+  by (Err fault) = clock
+own_clock s others (Close of) now clock is = clock
+own_clock s others (Abort of) now clock is = clock
+own_clock s others (TcpSetting of setting) now clock is = clock
+own_clock s others (Clock of moment) now clock is = at_most moment now is
+own_clock s others (Offer of moment true) now clock is = at_most moment now is
+own_clock s others (Offer of moment false) now clock is = at_most moment now is
+own_clock s others (Deliver from k) now clock is = subst (λ (m : ℤ). m ≤ℤ now) (sym (handed_moment (other from) s (slice_get others k))) clock
 
 pub clock_on :
     (p : PairValue) (side : Side) (event : PairEvent) (old now : ℤ) → (at p.sides side).moment ≤ℤ old → old ≤ℤ now → IsAt now event
     → (at (takes p event).sides side).moment ≤ℤ now
-clock_on p side event old now clock later is = by (clock_after p side event (now +ℤ pos 1) (asked_before side event now is)) where
-  before : (m : ℤ) → int_le (now +ℤ pos 1) m ≡ false → m ≤ℤ now
-  before m e = first_of (omega (arith, ints), grind (arith, ints))
-
-  by : ClockIn (now +ℤ pos 1) (at p.sides side).moment (at (takes p event).sides side).moment → (at (takes p event).sides side).moment ≤ℤ now
-  by (inl same) = subst (λ (m : ℤ). m ≤ℤ now) (sym same) (upto (at p.sides side).moment old now clock later)
-  by (inr e) = before (at (takes p event).sides side).moment e
+clock_on p side event old now clock later is =
+    by_put (λ (s : PairSide). s.moment ≤ℤ now) p.sides (side_of event) side (acting p event).side
+    (λ own.
+    own_clock (at p.sides (side_of event)) (at p.sides (other (side_of event))).sent event now
+    (subst (λ (s : Side). (at p.sides s).moment ≤ℤ now) (sym own) (upto (at p.sides side).moment old now clock later)) is)
+    (upto (at p.sides side).moment old now clock later)
 
 pub clock_all :
     (p : PairValue) (side : Side) (now : ℤ) (course : Course) → (at p.sides side).moment ≤ℤ now → IsClocked now course

@@ -17,7 +17,7 @@ use Rattle.tcp_tie.specs.Pair.Steps.{Steps, refusal}
 use Rattle.tcp_model.specs.Value.{TcpValue, room_of}
 use Rattle.tcp_tie.specs.Pair.Values.{PairValue}
 use Rattle.tcp_tie.specs.declared.pair.event.PairEvent.{PairEvent}
-use Rattle.tcp_tie.specs.declared.pair.event.PairEvent.TheVariants.{Listen, Connect, Send, Recv, Close, Abort, TcpSetting, Offer, Deliver}
+use Rattle.tcp_tie.specs.declared.pair.event.PairEvent.TheVariants.{Listen, Connect, Send, Recv, Close, Abort, TcpSetting, Clock, Offer, Deliver}
 use Rattle.tcp_tie.specs.declared.pair.event.Side.{Side}
 use Rattle.tcp_tie.specs.declared.pair.event.Side.TheVariants.{A, B}
 use Rattle.tcp_progress.specs.Anew.{BeginsAnewAmong, BeginsAnewIn, most_sent, put_off_in}
@@ -103,6 +103,7 @@ not_early side (Recv of count) when now never is before e = never
 not_early side (Close of) when now never is before e = never
 not_early side (Abort of) when now never is before e = never
 not_early side (TcpSetting of setting) when now never is before e = never
+not_early side (Clock of moment) when now never is before e = never
 not_early side (Deliver from k) when now never is before e = never
 
 -- An offer of a side in a course with which its timer runs out, or it begins anew at SND.UNA, before the clock passes a moment; and what holds

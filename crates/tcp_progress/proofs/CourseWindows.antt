@@ -14,7 +14,7 @@ use Rattle.tcp_tie.specs.Pair.Steps.{Steps, refusal}
 use Rattle.tcp_model.specs.Value.{free_in}
 use Rattle.tcp_tie.specs.Pair.Values.{PairValue, past_at}
 use Rattle.tcp_tie.specs.declared.pair.event.PairEvent.{PairEvent}
-use Rattle.tcp_tie.specs.declared.pair.event.PairEvent.TheVariants.{Listen, Connect, Send, Recv, Close, Abort, TcpSetting, Offer, Deliver}
+use Rattle.tcp_tie.specs.declared.pair.event.PairEvent.TheVariants.{Listen, Connect, Send, Recv, Close, Abort, TcpSetting, Clock, Offer, Deliver}
 use Rattle.tcp_tie.specs.declared.pair.event.Side.{Side}
 use Rattle.tcp_tie.specs.declared.pair.event.Side.TheVariants.{A, B}
 use Rattle.tcp_progress.specs.Anew.{BeginsAnew, BeginsAnewIn, put_off_in}
@@ -189,7 +189,9 @@ starts_or_idles p side (Close of) (inr never) taken h = absurd never
 starts_or_idles p side (Abort of) (inl never) taken h = absurd never
 starts_or_idles p side (Abort of) (inr never) taken h = absurd never
 starts_or_idles p side (TcpSetting of setting) (inl never) taken h = absurd never
+starts_or_idles p side (Clock of moment) (inl never) taken h = absurd never
 starts_or_idles p side (TcpSetting of setting) (inr never) taken h = absurd never
+starts_or_idles p side (Clock of moment) (inr never) taken h = absurd never
 starts_or_idles p side (Deliver from k) (inl never) taken h = absurd never
 starts_or_idles p side (Deliver from k) (inr never) taken h = absurd never
 
@@ -220,7 +222,9 @@ clock_at p now side (Close of) (inr never) taken is = absurd never
 clock_at p now side (Abort of) (inl never) taken is = absurd never
 clock_at p now side (Abort of) (inr never) taken is = absurd never
 clock_at p now side (TcpSetting of setting) (inl never) taken is = absurd never
+clock_at p now side (Clock of moment) (inl never) taken is = absurd never
 clock_at p now side (TcpSetting of setting) (inr never) taken is = absurd never
+clock_at p now side (Clock of moment) (inr never) taken is = absurd never
 clock_at p now side (Deliver from k) (inl never) taken is = absurd never
 clock_at p now side (Deliver from k) (inr never) taken is = absurd never
 

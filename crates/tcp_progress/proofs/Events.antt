@@ -10,7 +10,7 @@ use Rattle.tcp_tie.specs.declared.pair.event.Side.{Side}
 use Rattle.tcp_tie.specs.declared.pair.event.Side.TheVariants.{A, B}
 use Rattle.tcp_tie.specs.declared.pair.event.SentSegment.{SentSegment}
 use Rattle.tcp_tie.specs.declared.pair.event.PairEvent.{PairEvent}
-use Rattle.tcp_tie.specs.declared.pair.event.PairEvent.TheVariants.{Listen, Connect, Send, Recv, Close, Abort, TcpSetting, Offer, Deliver}
+use Rattle.tcp_tie.specs.declared.pair.event.PairEvent.TheVariants.{Listen, Connect, Send, Recv, Close, Abort, TcpSetting, Clock, Offer, Deliver}
 use Rattle.tcp_tie.specs.declared.pair.event.TcpSetting.{TcpSetting as Setting}
 use Rattle.tcp_tie.specs.declared.pair.event.TcpSetting.TheVariants as Set
 use Rattle.tcp_tie.specs.Pair.History.{side_of}
@@ -64,6 +64,7 @@ module _ (P : TcpValue → Type 0) (keeps : (v : TcpValue) (it : Event) → P v 
   by_act s others (Close side) p = keeps s.socket Closes p
   by_act s others (Abort side) p = keeps s.socket Aborts p
   by_act s others (TcpSetting side setting) p = by_setting setting s.socket p
+  by_act s others (Clock side moment) p = p
   by_act s others (Offer side moment true) p = keeps s.socket (Asked (context_at side (record s { moment = moment })) true) p
   by_act s others (Offer side moment false) p = keeps s.socket (Asked (context_at side (record s { moment = moment })) false) p
   by_act s others (Deliver from k) p = by_delivery (other from) s (slice_get others k) p

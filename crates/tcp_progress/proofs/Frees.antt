@@ -38,7 +38,7 @@ use Rattle.tcp_model.specs.Timestamps.{stamp_taken}
 use Rattle.tcp_model.specs.Value.{TcpValue, Received as Buffer, Arrived, ended, free_in, room_of, unoffered, with_block}
 use Rattle.tcp_tie.specs.Pair.Values.{PairSide, PairValue, context_at}
 use Rattle.tcp_tie.specs.declared.pair.event.PairEvent.{PairEvent}
-use Rattle.tcp_tie.specs.declared.pair.event.PairEvent.TheVariants.{Listen, Connect, Send, Recv, Close, Abort, TcpSetting, Offer, Deliver}
+use Rattle.tcp_tie.specs.declared.pair.event.PairEvent.TheVariants.{Listen, Connect, Send, Recv, Close, Abort, TcpSetting, Clock, Offer, Deliver}
 use Rattle.tcp_tie.specs.declared.pair.event.SentSegment.{SentSegment}
 use Rattle.tcp_tie.specs.declared.pair.event.Side.{Side}
 use Rattle.tcp_tie.specs.declared.pair.event.Side.TheVariants.{A, B}
@@ -298,6 +298,7 @@ reads_free p (Send of bytes) side never room = absurd never
 reads_free p (Close of) side never room = absurd never
 reads_free p (Abort of) side never room = absurd never
 reads_free p (TcpSetting of setting) side never room = absurd never
+reads_free p (Clock of moment) side never room = absurd never
 reads_free p (Offer of moment sent) side never room = absurd never
 reads_free p (Deliver from k) side never room = absurd never
 
@@ -353,6 +354,7 @@ by_own p (Abort side) there =
     (with_block (unoffered v) (record v.block { state = In.Closed; sender = record v.block.sender { reset_due = is_some v.block.names.pair } }))
     (λ (w : TcpValue). free_in v ≤ free_in w) (λ _. itself _) (λ _. itself _))
 by_own p (TcpSetting side setting) there = inl (by_setting setting (socket_of p side))
+by_own p (Clock side moment) there = inl (itself _)
 by_own p (Offer side moment true) there =
     let s = at p.sides side in
     inl (no_less _ _ (offer_same (context_at side (record s { moment = moment })) s.socket (late_in s.socket.block.state there)).0)

@@ -32,7 +32,7 @@ use Rattle.tcp_model.specs.Undone.{is_needless}
 use Rattle.tcp_model.specs.Value.{TcpValue, Arrived, ended, queued_in, unoffered, with_block}
 use Rattle.tcp_tie.specs.Pair.Values.{PairSide, PairValue, context_at}
 use Rattle.tcp_tie.specs.declared.pair.event.PairEvent.{PairEvent}
-use Rattle.tcp_tie.specs.declared.pair.event.PairEvent.TheVariants.{Listen, Connect, Send, Recv, Close, Abort, TcpSetting, Offer, Deliver}
+use Rattle.tcp_tie.specs.declared.pair.event.PairEvent.TheVariants.{Listen, Connect, Send, Recv, Close, Abort, TcpSetting, Clock, Offer, Deliver}
 use Rattle.tcp_tie.specs.declared.pair.event.SentSegment.{SentSegment}
 use Rattle.tcp_tie.specs.declared.pair.event.Side.{Side}
 use Rattle.tcp_tie.specs.declared.pair.event.TcpSetting.{TcpSetting as Setting}
@@ -218,6 +218,7 @@ by_act s others (Abort side) taken unasked there idle =
     (with_block (unoffered v) (record v.block { state = In.Closed; sender = record v.block.sender { reset_due = is_some v.block.names.pair } }))
     (StaysTo v) (λ _ _. record { none = idle.none; timer = idle.timer }) (λ _ _. record { none = idle.none; timer = idle.timer })
 by_act s others (TcpSetting side setting) taken unasked there idle = λ _. by_setting setting s.socket idle
+by_act s others (Clock side moment) taken unasked there idle = λ _. idle
 by_act s others (Offer side moment true) taken unasked there idle = absurd (unasked refl)
 by_act s others (Offer side moment false) taken unasked there idle = clash (sym taken)
 by_act s others (Deliver from k) taken unasked there idle = by_delivery (other from) s (slice_get others k) (late_in s.socket.block.state there) idle

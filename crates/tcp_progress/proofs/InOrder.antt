@@ -11,7 +11,7 @@ use Rattle.tcp_tie.specs.Pair.Sides.{at, other}
 use Rattle.tcp_tie.specs.Pair.Steps.{Steps, acting, acts, reads, refusal}
 use Rattle.tcp_tie.specs.Pair.Values.{PairSide, PairValue}
 use Rattle.tcp_tie.specs.declared.pair.event.PairEvent.{PairEvent}
-use Rattle.tcp_tie.specs.declared.pair.event.PairEvent.TheVariants.{Listen, Connect, Send, Recv, Close, Abort, TcpSetting, Offer, Deliver}
+use Rattle.tcp_tie.specs.declared.pair.event.PairEvent.TheVariants.{Listen, Connect, Send, Recv, Close, Abort, TcpSetting, Clock, Offer, Deliver}
 use Rattle.tcp_tie.specs.declared.pair.event.SentSegment.{SentSegment}
 use Rattle.tcp_tie.specs.declared.pair.event.Side.{Side}
 use Rattle.tcp_progress.specs.Clocks.{HasDays, IsTimed, Overtakes, comes_stale}
@@ -46,6 +46,7 @@ later_act s others (Recv of count) on = by (recv_answer s.socket count) where
 later_act s others (Close of) on = itself s.moment
 later_act s others (Abort of) on = itself s.moment
 later_act s others (TcpSetting of setting) on = itself s.moment
+later_act s others (Clock of moment) on = on
 later_act s others (Offer of moment true) on = on
 later_act s others (Offer of moment false) on = on
 later_act s others (Deliver from j) on =

@@ -45,7 +45,7 @@ use Rattle.tcp_tie.specs.Pair.Steps.{acting, acts, handed, reads, set_by, taken_
 use Rattle.tcp_model.specs.Value.{TcpValue, Arrived, with_block, unoffered, ended, free_in, new_socket, queued_in, room_of, window_of}
 use Rattle.tcp_tie.specs.Pair.Values.{PairSide, PairValue, context_at}
 use Rattle.tcp_tie.specs.declared.pair.event.PairEvent.{PairEvent}
-use Rattle.tcp_tie.specs.declared.pair.event.PairEvent.TheVariants.{Listen, Connect, Send, Recv, Close, Abort, TcpSetting, Offer, Deliver}
+use Rattle.tcp_tie.specs.declared.pair.event.PairEvent.TheVariants.{Listen, Connect, Send, Recv, Close, Abort, TcpSetting, Clock, Offer, Deliver}
 use Rattle.tcp_tie.specs.declared.pair.event.SentSegment.{SentSegment}
 use Rattle.tcp_tie.specs.declared.pair.event.Side.{Side}
 use Rattle.tcp_tie.specs.declared.pair.event.Side.TheVariants.{A, B}
@@ -361,6 +361,7 @@ module _ (most n : ℕ) where
       (with_block (unoffered v) (record v.block { state = In.Closed; sender = record v.block.sender { reset_due = is_some v.block.names.pair } }))
       (λ (w : TcpValue). Has w.block) (λ _. h) (λ _. h))
   by_act s others (TcpSetting side setting) when runs e h sure there same = plainly (λ never. never) (by_setting setting s.socket h)
+  by_act s others (Clock side moment) when runs e h sure there same = plainly (λ never. never) h
   by_act s others (Offer side moment true) when runs e h sure there same =
       by (offer_few (context_at side (record s { moment = moment })) s.socket when runs (e refl) h sure).0 where
         o : Offered TcpValue
@@ -401,6 +402,7 @@ module _ (most n : ℕ) where
   begins_in p (Close side) never = never
   begins_in p (Abort side) never = never
   begins_in p (TcpSetting side setting) never = never
+  begins_in p (Clock side moment) never = never
   begins_in p (Deliver from k) never = never
 
   mends_by : (p : PairValue) (event : PairEvent) → MendsIn p (side_of event) event → MendsBy (at p.sides (side_of event)) event
@@ -413,6 +415,7 @@ module _ (most n : ℕ) where
   mends_by p (Close side) never = never
   mends_by p (Abort side) never = never
   mends_by p (TcpSetting side setting) never = never
+  mends_by p (Clock side moment) never = never
   mends_by p (Deliver from k) never = never
 
   by_own : (p : PairValue) (event : PairEvent) (when : ℤ) → LeftIn p event when (side_of event) (acting p event).side
@@ -438,6 +441,7 @@ module _ (most n : ℕ) where
   not_of p side (Close of) not never = never
   not_of p side (Abort of) not never = never
   not_of p side (TcpSetting of setting) not never = never
+  not_of p side (Clock of moment) not never = never
   not_of p side (Deliver from k) not never = never
 
   by_two :

@@ -9,7 +9,7 @@ use Rattle.tcp_tie.specs.Pair.Steps.{Steps, refusal}
 use Rattle.tcp_model.specs.Value.{room_of}
 use Rattle.tcp_tie.specs.Pair.Values.{PairValue}
 use Rattle.tcp_tie.specs.declared.pair.event.PairEvent.{PairEvent}
-use Rattle.tcp_tie.specs.declared.pair.event.PairEvent.TheVariants.{Listen, Connect, Send, Recv, Close, Abort, TcpSetting, Offer, Deliver}
+use Rattle.tcp_tie.specs.declared.pair.event.PairEvent.TheVariants.{Listen, Connect, Send, Recv, Close, Abort, TcpSetting, Clock, Offer, Deliver}
 use Rattle.tcp_tie.specs.declared.pair.event.Side.{Side}
 use Rattle.tcp_tie.specs.declared.pair.event.Side.TheVariants.{A, B}
 use Rattle.tcp_progress.specs.Anew.{BeginsAnewAmong, BeginsAnewIn, most_sent, put_off_in}
@@ -17,7 +17,7 @@ use Rattle.tcp_progress.specs.Arrivals.{is_synchronized}
 use Rattle.tcp_progress.specs.Near.{IsNear}
 use Rattle.tcp_progress.specs.Onward.{AreOpen, acked_in}
 use Rattle.tcp_progress.specs.Pair.{socket_of}
-use Rattle.tcp_progress.specs.PutOff.{IsAskedBefore, IsRunning, MendsIn, RunsOutAmong, RunsOutAt, RunsOutIn}
+use Rattle.tcp_progress.specs.PutOff.{AreAskedBefore, IsAskedBefore, IsAskedFromAmong, IsRunning, MendsIn, RunsOutAmong, RunsOutAt, RunsOutIn}
 use Rattle.tcp_progress.specs.Reached.{IsReached}
 use Rattle.tcp_progress.specs.Rounds.{takes}
 use Rattle.tcp_progress.proofs.Mending.{Few, few_first, mending_of}
@@ -27,7 +27,7 @@ use Rattle.tcp_progress.proofs.OnwardPairs.{IsBegun, begun, by_steps}
 use Rattle.tcp_progress.proofs.Pair.{not_closed}
 use Rattle.tcp_progress.proofs.PairTimers.{timer_near}
 use Rattle.tcp_progress.proofs.PutOff.{in_time, is_running}
-use Rattle.tcp_progress.proofs.PutOffRuns.{Step, asked_then, begun_of, clock_after, ClockIn, step}
+use Rattle.tcp_progress.proofs.PutOffRuns.{Step, asked_then, begun_of, none_asked, step}
 use Rattle.tcp_progress.proofs.WindowPairs.{reached_windows}
 
 -- what mends is an offer before the timer runs out, and starts it
@@ -46,6 +46,7 @@ mends_then p side (Recv of count) when e never = absurd never
 mends_then p side (Close of) when e never = absurd never
 mends_then p side (Abort of) when e never = absurd never
 mends_then p side (TcpSetting of setting) when e never = absurd never
+mends_then p side (Clock of moment) when e never = absurd never
 mends_then p side (Deliver from k) when e never = absurd never
 
 -- a later moment hasn't come either
@@ -137,29 +138,37 @@ next_of most n p q side event when r a b allowed it there is few runs e =
     next (inr (inl anew)) timer = inl anew
     next (inr (inr falls)) timer = inr (fewer (falls within) timer)
 
--- THE CLOCK OF THE SIDE
+-- A SIDE THAT IS ASKED LATE
+
+before_later : (side : Side) (event : PairEvent) (when last : ℤ) → when ≤ℤ last → IsAskedBefore when side event → IsAskedBefore last side event
+before_later side (Offer of moment sent) when last e before = λ own. not_yet when last moment e (before own)
+before_later side (Listen of endpoint) when last e before = tt
+before_later side (Connect of remote local) when last e before = tt
+before_later side (Send of bytes) when last e before = tt
+before_later side (Recv of count) when last e before = tt
+before_later side (Close of) when last e before = tt
+before_later side (Abort of) when last e before = tt
+before_later side (TcpSetting of setting) when last e before = tt
+before_later side (Clock of moment) when last e before = tt
+before_later side (Deliver of k) when last e before = tt
+
+all_before_later :
+    (side : Side) (events : List PairEvent) (when last : ℤ) → when ≤ℤ last → AreAskedBefore when side events → AreAskedBefore last side events
+all_before_later side [] when last e before = tt
+all_before_later side (event ∷ events) when last e before =
+    (before_later side event when last e before.0, all_before_later side events when last e before.1)
 
 module _ (side : Side) where
-  -- an offer of the side that runs the timer out, or begins at SND.UNA; or its clock stands, or doesn't show this moment yet
-  abbrev Until : PairValue → PairValue → List PairEvent → ℤ → Type 0
-  Until p q events last =
-      (RunsOutAmong p side events ⊎ BeginsAnewAmong p side events) ⊎ ClockIn last (at p.sides side).moment (at q.sides side).moment
-
-  after_first : (old mid new last : ℤ) → ClockIn last old mid → ClockIn last mid new → ClockIn last old new
-  after_first old mid new last e (inr before) = inr before
-  after_first old mid new last (inl same) (inl still) = inl (still ∙ same)
-  after_first old mid new last (inr before) (inl still) = inr (ap (λ (m : ℤ). is_due m (Some last)) still ∙ before)
-
-  no_later_than : (old new when last : ℤ) → when ≤ℤ last → ClockIn when old new → ClockIn last old new
-  no_later_than old new when last e (inl same) = inl same
-  no_later_than old new when last e (inr before) = inr (not_yet when last new e before)
+  -- an offer of the side that runs the timer out, or begins at SND.UNA; or it isn't asked at this moment or later
+  abbrev Until : PairValue → List PairEvent → ℤ → Type 0
+  Until p events last = (RunsOutAmong p side events ⊎ BeginsAnewAmong p side events) ⊎ AreAskedBefore last side events
 
   runs_down :
       (most n : ℕ) (p q : PairValue) (events : List PairEvent) (when : ℤ) → IsReached p → IsBegun p A → IsBegun p B → Steps p events q
       → is_synchronized (socket_of p side).block.state ≡ true → is_synchronized (socket_of q side).block.state ≡ true → acked_in q side ≤ acked_in p side
       → most_sent p side ≡ most → Few most n (mending_of (socket_of p side).block) → RunsOutAt when (socket_of p side)
-      → Until p q events (later_by when n)
-  runs_down most n p q [] when r a b s there there_q acked is few runs = inr (inl (ap (λ (x : PairValue). (at x.sides side).moment) s))
+      → Until p events (later_by when n)
+  runs_down most n p q [] when r a b s there there_q acked is few runs = inr tt
   runs_down most n p q (event ∷ events) when r a b s there there_q acked is few runs =
       by
       (λ (next : Next most n p side event when).
@@ -170,65 +179,54 @@ module _ (side : Side) where
       it : Step p q side event
       it = step p q side event events r a b s there_q acked
 
-      more : ClockIn (later_by when n) (at p.sides side).moment (at (takes p event).sides side).moment → Until (takes p event) q events (later_by when n)
-          → Until p q (event ∷ events) (later_by when n)
+      more : IsAskedBefore (later_by when n) side event → Until (takes p event) events (later_by when n) → Until p (event ∷ events) (later_by when n)
       more first (inl (inl out)) = inl (inl (inr out))
       more first (inl (inr anew)) = inl (inr (inr anew))
-      more first (inr clock) =
-          inr (after_first (at p.sides side).moment (at (takes p event).sides side).moment (at q.sides side).moment (later_by when n) first clock)
+      more first (inr before) = inr (first, before)
 
-      widened : (last wide : ℤ) → last ≤ℤ wide → Until (takes p event) q events last → Until (takes p event) q events wide
+      widened : (last wide : ℤ) → last ≤ℤ wide → Until (takes p event) events last → Until (takes p event) events wide
       widened last wide e (inl out) = inl out
-      widened last wide e (inr clock) = inr (no_later_than (at (takes p event).sides side).moment (at q.sides side).moment last wide e clock)
+      widened last wide e (inr before) = inr (all_before_later side events last wide e before)
 
       Rest : Type 0
-      Rest = (next : Next most n p side event when) → Until (takes p event) q events (later_by next.moment next.tries)
+      Rest = (next : Next most n p side event when) → Until (takes p event) events (later_by next.moment next.tries)
 
-      on : Rest → IsAskedBefore when side event → BeginsAnewIn p side event ⊎ Next most n p side event when → Until p q (event ∷ events) (later_by when n)
+      on : Rest → IsAskedBefore when side event → BeginsAnewIn p side event ⊎ Next most n p side event when → Until p (event ∷ events) (later_by when n)
       on rest e (inl anew) = inl (inr (inl anew))
       on rest e (inr next) =
-          more
-          (no_later_than (at p.sides side).moment (at (takes p event).sides side).moment when (later_by when n) (when_before when n)
-          (clock_after p side event when e))
+          more (before_later side event when (later_by when n) (when_before when n) e)
           (widened (later_by next.moment next.tries) (later_by when n) next.within (rest next))
 
-      by : Rest → RunsOutIn p side event ⊎ IsAskedBefore when side event → Until p q (event ∷ events) (later_by when n)
+      by : Rest → RunsOutIn p side event ⊎ IsAskedBefore when side event → Until p (event ∷ events) (later_by when n)
       by rest (inl out) = inl (inl (inl out))
       by rest (inr e) = on rest e (next_of most n p q side event when r a b s.0 it there is few runs e)
 
 -- WITHIN SO MANY MINUTES
 
-not_same : (old new : ℤ) (n : ℕ) → 1 ≤ n → new ≡ old → later_by old n ≤ℤ new → ⊥
-not_same old new n e a b = first_of (omega (arith, ints), grind (arith, ints))
-
-no_later : (old new when : ℤ) (most : ℕ) → when ≤ℤ (old +ℤ pos 60_000_000) → later_by old (most + 2) ≤ℤ new → is_due new (Some (later_by when (most + 1))) ≡ false → ⊥
-no_later old new when most a b c = first_of (omega (arith, ints), grind (arith, ints))
+in_time_of : (old when : ℤ) (most : ℕ) → when ≤ℤ (old +ℤ pos 60_000_000) → later_by when (most + 1) ≤ℤ later_by old (most + 2)
+in_time_of old when most e = first_of (omega (arith, ints), grind (arith, ints))
 
 pub begins_in_time :
     (p q : PairValue) (side : Side) (events : List PairEvent) → IsReached p → AreOpen p → Steps p events q
-    → ((socket_of p side).block.sender.in_flight == 0) ≡ false → ((at p.sides side).moment +ℤ pos (put_off_in p side)) ≤ℤ (at q.sides side).moment
+    → ((socket_of p side).block.sender.in_flight == 0) ≡ false → IsAskedFromAmong ((at p.sides side).moment +ℤ pos (put_off_in p side)) side events
     → is_synchronized (socket_of q side).block.state ≡ true
     → (acked_in p side < acked_in q side) ⊎ (RunsOutAmong p side events ⊎ BeginsAnewAmong p side events)
-begins_in_time p q side events r o s flight later there_q = by (nat_lt (acked_in p side) (acked_in q side)) refl where
+begins_in_time p q side events r o s flight late there_q = by (nat_lt (acked_in p side) (acked_in q side)) refl where
   it : IsRunning (socket_of p side)
   it = is_running p side r flight
 
   near : it.at ≤ℤ ((at p.sides side).moment +ℤ pos 60_000_000)
   near = subst (λ (timer : Option ℤ). IsNear (at p.sides side).moment 60_000_000 timer) it.runs (timer_near p side r)
 
-  some : (n : ℕ) → 1 ≤ n + 2
-  some n = omega arith
-
   more : (n : ℕ) → 1 ≤ max 1 n + 2
   more n = omega arith
 
-  never : ClockIn (later_by it.at (most_sent p side + 1)) (at p.sides side).moment (at q.sides side).moment → ⊥
-  never (inl same) = not_same (at p.sides side).moment (at q.sides side).moment (most_sent p side + 2) (some (most_sent p side)) same later
-  never (inr before) = no_later (at p.sides side).moment (at q.sides side).moment it.at (most_sent p side) near later before
-
-  over : Until side p q events (later_by it.at (most_sent p side + 1)) → (acked_in p side < acked_in q side) ⊎ (RunsOutAmong p side events ⊎ BeginsAnewAmong p side events)
+  over : Until side p events (later_by it.at (most_sent p side + 1)) → (acked_in p side < acked_in q side) ⊎ (RunsOutAmong p side events ⊎ BeginsAnewAmong p side events)
   over (inl out) = inr out
-  over (inr clock) = absurd (never clock)
+  over (inr before) =
+      absurd
+      (none_asked side events (later_by (at p.sides side).moment (most_sent p side + 2)) (later_by it.at (most_sent p side + 1))
+      (in_time_of (at p.sides side).moment it.at (most_sent p side) near) before late)
 
   by : (risen : Bool) → nat_lt (acked_in p side) (acked_in q side) ≡ risen → (acked_in p side < acked_in q side) ⊎ (RunsOutAmong p side events ⊎ BeginsAnewAmong p side events)
   by true e = inl (ltb-true (acked_in p side) (acked_in q side) e)

@@ -50,7 +50,7 @@ use Rattle.tcp_tie.specs.Pair.Values.{PairSide, PairValue, context_at, and_offer
 use Rattle.tcp_tie.specs.declared.pair.event.PairAnswer.{PairAnswer}
 use Rattle.tcp_tie.specs.declared.pair.event.PairAnswer.TheVariants.{Done, Count, Bytes, Error}
 use Rattle.tcp_tie.specs.declared.pair.event.PairEvent.{PairEvent}
-use Rattle.tcp_tie.specs.declared.pair.event.PairEvent.TheVariants.{Listen, Connect, Send, Recv, Close, Abort, TcpSetting, Offer, Deliver}
+use Rattle.tcp_tie.specs.declared.pair.event.PairEvent.TheVariants.{Listen, Connect, Send, Recv, Close, Abort, TcpSetting, Clock, Offer, Deliver}
 use Rattle.tcp_tie.specs.declared.pair.event.SentSegment.{SentSegment}
 use Rattle.tcp_tie.specs.declared.pair.event.Side.{Side}
 use Rattle.tcp_tie.specs.declared.pair.event.Side.TheVariants.{A, B}
@@ -533,6 +533,7 @@ module _ (s : PairSide) (w : TcpValue) (p q : Past) (others : List SentSegment) 
   directs (Abort side) allowed =
       kept (abort_after s.socket) p.opening refl (abort_past s.socket) (pairs_kept s.socket.block (abort_after s.socket).block (abort_names s.socket))
   directs (TcpSetting side setting) allowed = sets setting
+  directs (Clock side moment) allowed = kept s.socket p.opening refl (λ e. e) (inl refl)
   directs (Offer side moment true) allowed =
       let cx = context_at side (record s { moment = moment }) in
       offered cx s.socket p.opening q.opening s.sent others (offer_of cx s.socket).socket.offered (offer_of cx s.socket).socket.queued.queue refl

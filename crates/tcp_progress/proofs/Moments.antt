@@ -12,7 +12,7 @@ use Rattle.tcp_tie.specs.Pair.Sides.{at, other}
 use Rattle.tcp_tie.specs.Pair.Steps.{handed, if_so as refused_if, may_come, refusal, taken_at}
 use Rattle.tcp_tie.specs.Pair.Values.{PairSide, PairValue, context_at}
 use Rattle.tcp_tie.specs.declared.pair.event.PairEvent.{PairEvent}
-use Rattle.tcp_tie.specs.declared.pair.event.PairEvent.TheVariants.{Listen, Connect, Send, Recv, Close, Abort, TcpSetting, Offer, Deliver}
+use Rattle.tcp_tie.specs.declared.pair.event.PairEvent.TheVariants.{Listen, Connect, Send, Recv, Close, Abort, TcpSetting, Clock, Offer, Deliver}
 use Rattle.tcp_tie.specs.declared.pair.event.PairRefused.TheVariants.{Moment}
 use Rattle.tcp_tie.specs.declared.pair.event.SentSegment.{SentSegment}
 use Rattle.tcp_tie.specs.declared.pair.event.Side.{Side}
@@ -40,6 +40,7 @@ le_of a b e = grind arith
 
 -- the clock of the side doesn't go back
 abbrev pub GoesOn : PairSide → PairEvent → Type 0
+GoesOn s (Clock side moment) = s.moment ≤ℤ moment
 GoesOn s (Offer side moment sent) = s.moment ≤ℤ moment
 GoesOn s other = Unit {0}
 
@@ -54,6 +55,7 @@ goes_on p (Recv side count) e = tt
 goes_on p (Close side) e = tt
 goes_on p (Abort side) e = tt
 goes_on p (TcpSetting side setting) e = tt
+goes_on p (Clock side moment) e = le_of (at p.sides side).moment moment (comes_later (at p.sides side).moment moment e)
 goes_on p (Deliver from k) e = tt
 
 -- THE CLOCKS

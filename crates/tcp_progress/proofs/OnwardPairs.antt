@@ -30,7 +30,7 @@ use Rattle.tcp_tie.specs.Pair.Steps.{Steps, acting, handed, if_so, reads, refusa
 use Rattle.tcp_model.specs.Value.{TcpValue, Received, ended, queued_in, room_of, unoffered, with_block}
 use Rattle.tcp_tie.specs.Pair.Values.{PairSide, PairValue, context_at, past_at}
 use Rattle.tcp_tie.specs.declared.pair.event.PairEvent.{PairEvent}
-use Rattle.tcp_tie.specs.declared.pair.event.PairEvent.TheVariants.{Listen, Connect, Send, Recv, Close, Abort, TcpSetting, Offer, Deliver}
+use Rattle.tcp_tie.specs.declared.pair.event.PairEvent.TheVariants.{Listen, Connect, Send, Recv, Close, Abort, TcpSetting, Clock, Offer, Deliver}
 use Rattle.tcp_tie.specs.declared.pair.event.PairRefused.{PairRefused}
 use Rattle.tcp_tie.specs.declared.pair.event.PairRefused.TheVariants.{OpenedTwice}
 use Rattle.tcp_tie.specs.declared.pair.event.SentSegment.{SentSegment}
@@ -532,6 +532,7 @@ by_own p (Abort side) e fit =
     (with_block (unoffered v) (record v.block { state = In.Closed; sender = record v.block.sender { reset_due = is_some v.block.names.pair } }))
     (λ (w : TcpValue). Moves v w x x) (λ _. by_end v _ x refl refl refl refl refl) (λ _. by_end v _ x refl refl refl refl refl)
 by_own p (TcpSetting side setting) e fit = by_setting setting (at p.sides side).socket (at (pasts p.history) side)
+by_own p (Clock side moment) e fit = alike (at p.sides side).socket _ (at (pasts p.history) side) refl refl refl refl refl
 by_own p (Offer side moment true) e fit = by_offer side (at p.sides side) (at (pasts p.history) side) moment true fit
 by_own p (Offer side moment false) e fit = by_offer side (at p.sides side) (at (pasts p.history) side) moment false fit
 by_own p (Deliver from k) e fit =

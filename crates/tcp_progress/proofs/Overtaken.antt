@@ -20,7 +20,7 @@ use Rattle.tcp_tie.specs.Pair.Sides.{at, other}
 use Rattle.tcp_tie.specs.Pair.Steps.{Steps, acting, acts, handed, reads, refusal, taken_at}
 use Rattle.tcp_tie.specs.Pair.Values.{PairSide, PairValue, and_offer, and_reply, context_at}
 use Rattle.tcp_tie.specs.declared.pair.event.PairEvent.{PairEvent}
-use Rattle.tcp_tie.specs.declared.pair.event.PairEvent.TheVariants.{Listen, Connect, Send, Recv, Close, Abort, TcpSetting, Offer, Deliver}
+use Rattle.tcp_tie.specs.declared.pair.event.PairEvent.TheVariants.{Listen, Connect, Send, Recv, Close, Abort, TcpSetting, Clock, Offer, Deliver}
 use Rattle.tcp_tie.specs.declared.pair.event.SentSegment.{SentSegment}
 use Rattle.tcp_tie.specs.declared.pair.event.Side.{Side}
 use Rattle.tcp_progress.specs.Clocks.{HasDays, IsOvertakenAmong, IsTimed, Overtakes, comes_stale}
@@ -109,6 +109,7 @@ module _ (since : ℤ) (s r : PairSide) (p : Past) (w : Way since s r p.opening)
   stamped others (Close side) e = nothing e
   stamped others (Abort side) e = nothing e
   stamped others (TcpSetting side setting) e = nothing e
+  stamped others (Clock side moment) e = nothing e
   stamped others (Offer side moment true) e =
       let cx = context_at side (record s { moment = moment }) in
       let it = offer_asks cx s.socket in
@@ -146,6 +147,7 @@ module _ (since : ℤ) (s : PairSide) (opening : Opening) (side : Side) (k : ℕ
   partner_led r others (Close of) w same own not = partner_event since s r opening w (Close of)
   partner_led r others (Abort of) w same own not = partner_event since s r opening w (Abort of)
   partner_led r others (TcpSetting of setting) w same own not = partner_event since s r opening w (TcpSetting of setting)
+  partner_led r others (Clock of moment) w same own not = partner_event since s r opening w (Clock of moment)
   partner_led r others (Offer of moment sent) w same own not = offers sent where
     offers : (sent : Bool) → Shown (acts r others (Offer of moment sent)).side
     offers true = partner_event since s r opening w (Offer of moment true)

@@ -17,7 +17,7 @@ use Rattle.tcp_model.specs.Probing.{is_probing, probe_moment}
 use Rattle.tcp_model.specs.Value.{TcpValue, queued_in}
 use Rattle.tcp_tie.specs.Pair.Values.{PairSide, PairValue, context_at}
 use Rattle.tcp_tie.specs.declared.pair.event.PairEvent.{PairEvent}
-use Rattle.tcp_tie.specs.declared.pair.event.PairEvent.TheVariants.{Listen, Connect, Send, Recv, Close, Abort, TcpSetting, Offer, Deliver}
+use Rattle.tcp_tie.specs.declared.pair.event.PairEvent.TheVariants.{Listen, Connect, Send, Recv, Close, Abort, TcpSetting, Clock, Offer, Deliver}
 use Rattle.tcp_tie.specs.declared.pair.event.SentSegment.{SentSegment}
 use Rattle.tcp_tie.specs.declared.pair.event.Side.{Side}
 use Rattle.tcp_tie.specs.declared.pair.event.Side.TheVariants.{A, B}
@@ -74,6 +74,7 @@ by_act s others (Recv side count) e h = by_read s (recv_answer s.socket count) h
 by_act s others (Close side) e h = event_near s.moment s.socket Closes tt h
 by_act s others (Abort side) e h = event_near s.moment s.socket Aborts tt h
 by_act s others (TcpSetting side setting) e h = by_setting s.moment setting s.socket h
+by_act s others (Clock side moment) e h = weakened s moment e h
 by_act s others (Offer side moment true) e h =
     event_near moment s.socket (Asked (context_at side (record s { moment = moment })) true) refl (weakened s moment e h)
 by_act s others (Offer side moment false) e h =

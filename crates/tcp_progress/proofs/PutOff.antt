@@ -48,7 +48,7 @@ use Rattle.tcp_model.specs.Timestamps.{echo_taken, stamp_taken}
 use Rattle.tcp_model.specs.Value.{TcpValue, Arrived, with_block, unoffered, ended, free_in, queued_in, room_of, window_of}
 use Rattle.tcp_tie.specs.Pair.Values.{PairSide, PairValue, context_at}
 use Rattle.tcp_tie.specs.declared.pair.event.PairEvent.{PairEvent}
-use Rattle.tcp_tie.specs.declared.pair.event.PairEvent.TheVariants.{Listen, Connect, Send, Recv, Close, Abort, TcpSetting, Offer, Deliver}
+use Rattle.tcp_tie.specs.declared.pair.event.PairEvent.TheVariants.{Listen, Connect, Send, Recv, Close, Abort, TcpSetting, Clock, Offer, Deliver}
 use Rattle.tcp_tie.specs.declared.pair.event.SentSegment.{SentSegment}
 use Rattle.tcp_tie.specs.declared.pair.event.Side.{Side}
 use Rattle.tcp_tie.specs.declared.pair.event.Side.TheVariants.{A, B}
@@ -428,6 +428,7 @@ module _ (when : ℤ) where
       (with_block (unoffered v) (record v.block { state = In.Closed; sender = record v.block.sender { reset_due = is_some v.block.names.pair } }))
       (RunsOutAt when) (λ _. runs) (λ _. runs))
   by_act s others (TcpSetting side setting) runs e there same = inl (by_setting setting s.socket runs)
+  by_act s others (Clock side moment) runs e there same = inl runs
   by_act s others (Offer side moment true) runs e there same =
       by (offer_stays (context_at side (record s { moment = moment })) s.socket when runs (e refl)).0 there
     where
@@ -465,6 +466,7 @@ mends_in p (Recv side count) never = never
 mends_in p (Close side) never = never
 mends_in p (Abort side) never = never
 mends_in p (TcpSetting side setting) never = never
+mends_in p (Clock side moment) never = never
 mends_in p (Deliver from k) never = never
 
 -- a side after an event of its own, or of the other

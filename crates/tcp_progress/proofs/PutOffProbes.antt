@@ -39,7 +39,7 @@ use Rattle.tcp_model.specs.Timestamps.{stamp_taken}
 use Rattle.tcp_model.specs.Value.{TcpValue, Arrived, with_block, unoffered, ended, free_in, queued_in, room_of, window_of}
 use Rattle.tcp_tie.specs.Pair.Values.{PairSide, PairValue, context_at}
 use Rattle.tcp_tie.specs.declared.pair.event.PairEvent.{PairEvent}
-use Rattle.tcp_tie.specs.declared.pair.event.PairEvent.TheVariants.{Listen, Connect, Send, Recv, Close, Abort, TcpSetting, Offer, Deliver}
+use Rattle.tcp_tie.specs.declared.pair.event.PairEvent.TheVariants.{Listen, Connect, Send, Recv, Close, Abort, TcpSetting, Clock, Offer, Deliver}
 use Rattle.tcp_tie.specs.declared.pair.event.SentSegment.{SentSegment}
 use Rattle.tcp_tie.specs.declared.pair.event.Side.{Side}
 use Rattle.tcp_tie.specs.declared.pair.event.TcpSetting.{TcpSetting as Setting}
@@ -304,6 +304,7 @@ module _ (when : ℤ) where
       (with_block (unoffered v) (record v.block { state = In.Closed; sender = record v.block.sender { reset_due = is_some v.block.names.pair } }))
       (ProbesAt when) (λ _. waits) (λ _. waits))
   by_act s others (TcpSetting side setting) waits held = inl (by_setting setting s.socket waits)
+  by_act s others (Clock side moment) waits held = inl waits
   by_act s others (Offer side moment true) waits held =
       by (offer_stays (context_at side (record s { moment = moment })) s.socket when waits).0 where
         o : Offered TcpValue
@@ -330,6 +331,7 @@ carries_in p (Recv side count) never = never
 carries_in p (Close side) never = never
 carries_in p (Abort side) never = never
 carries_in p (TcpSetting side setting) never = never
+carries_in p (Clock side moment) never = never
 carries_in p (Deliver from k) never = never
 
 abbrev LeftIn : PairValue → PairEvent → ℤ → Side → PairSide → Type 0

@@ -1,22 +1,16 @@
 -- Through whatever events the retransmission timer runs out when it did, where SND.UNA hasn't risen; and within a minute it does.
 use Rattle.std.proofs.Common.{◌≡◌, ◌⊎◌, inl, inr, ℕ, ◌+◌, ◌-◌, ◌<◌, ◌≤◌, ◌==◌, nat_lt, ℤ, pos, ◌+ℤ◌, ◌≤ℤ◌, int_le, Bool, true, false, List, [], ◌∷◌}
-use Rattle.std.proofs.Common.{Option, Some, None, Result, Ok, Err, slice_get, refl, sym, ap, ◌∙◌, subst, arith}
-use Rattle.std.proofs.lemmas.Bool.{cond_both, ltb-false, ltb-true}
+use Rattle.std.proofs.Common.{Option, Some, refl, sym, ap, ◌∙◌, subst, arith}
+use Rattle.std.proofs.lemmas.Bool.{ltb-false, ltb-true}
 use Rattle.std.proofs.lemmas.Int.{ints}
 use Rattle.tcp_rules.specs.Moments.{is_due}
-use Rattle.tcp_rules.specs.RecvError.{RecvError}
 use Rattle.tcp_rules.specs.States.{is_closed}
 use Rattle.tcp_rules.proofs.OrderSteps.{clash}
-use Rattle.tcp_model.specs.Arrival.{arrives}
-use Rattle.tcp_model.specs.Calls.{recv_answer}
-use Rattle.tcp_tie.specs.Pair.History.{side_of}
-use Rattle.tcp_model.specs.Names.{accepts}
-use Rattle.tcp_tie.specs.Pair.Sides.{at, other}
-use Rattle.tcp_tie.specs.Pair.Steps.{Steps, acting, acts, handed, reads, taken_at}
-use Rattle.tcp_tie.specs.Pair.Values.{PairSide, PairValue, context_at}
+use Rattle.tcp_tie.specs.Pair.Sides.{at}
+use Rattle.tcp_tie.specs.Pair.Steps.{Steps}
+use Rattle.tcp_tie.specs.Pair.Values.{PairValue}
 use Rattle.tcp_tie.specs.declared.pair.event.PairEvent.{PairEvent}
-use Rattle.tcp_tie.specs.declared.pair.event.PairEvent.TheVariants.{Listen, Connect, Send, Recv, Close, Abort, TcpSetting, Offer, Deliver}
-use Rattle.tcp_tie.specs.declared.pair.event.SentSegment.{SentSegment}
+use Rattle.tcp_tie.specs.declared.pair.event.PairEvent.TheVariants.{Listen, Connect, Send, Recv, Close, Abort, TcpSetting, Clock, Offer, Deliver}
 use Rattle.tcp_tie.specs.declared.pair.event.Side.{Side}
 use Rattle.tcp_tie.specs.declared.pair.event.Side.TheVariants.{A, B}
 use Rattle.tcp_progress.specs.Arrivals.{is_synchronized}
@@ -24,7 +18,7 @@ use Rattle.tcp_progress.specs.BothWays.{total_in}
 use Rattle.tcp_progress.specs.Near.{IsNear}
 use Rattle.tcp_progress.specs.Onward.{AreOpen, acked_in}
 use Rattle.tcp_progress.specs.Pair.{left_in, socket_of}
-use Rattle.tcp_progress.specs.PutOff.{AreAskedBefore, IsAskedBefore, IsRunning, MendsAmong, MendsIn, RunsOutAmong, RunsOutAt, RunsOutIn}
+use Rattle.tcp_progress.specs.PutOff.{AreAskedBefore, IsAskedBefore, IsAskedFrom, IsAskedFromAmong, IsRunning, MendsAmong, MendsIn, RunsOutAmong, RunsOutAt, RunsOutIn}
 use Rattle.tcp_progress.specs.Reached.{IsReached}
 use Rattle.tcp_progress.specs.Rounds.{takes}
 use Rattle.tcp_progress.proofs.Kept.{reached_by}
@@ -33,7 +27,7 @@ use Rattle.tcp_progress.proofs.Opened.{is_open}
 use Rattle.tcp_progress.proofs.OnwardPairs.{IsBegun, MovesIn, begun, begun_after, by_steps}
 use Rattle.tcp_progress.proofs.Pair.{not_closed}
 use Rattle.tcp_progress.proofs.PairTimers.{timer_near}
-use Rattle.tcp_progress.proofs.PutOff.{by_put, in_time, is_running}
+use Rattle.tcp_progress.proofs.PutOff.{in_time, is_running}
 use Rattle.tcp_progress.proofs.Turns.{late_on}
 
 was_open : (old new : Bool) → (old ≡ true → new ≡ true) → new ≡ false → old ≡ false
@@ -168,6 +162,7 @@ asked_then p side (Recv of count) when runs = inr tt
 asked_then p side (Close of) when runs = inr tt
 asked_then p side (Abort of) when runs = inr tt
 asked_then p side (TcpSetting of setting) when runs = inr tt
+asked_then p side (Clock of moment) when runs = inr tt
 asked_then p side (Deliver from k) when runs = inr tt
 
 -- through all of them it runs out, or starts anew, or the side isn't asked then
@@ -202,87 +197,45 @@ runs_or p q side (event ∷ events) when r a b s there acked runs =
       next (inl runs) = last (more runs)
       next (inr mends) = inr (inr (inl mends))
 
--- THE CLOCK OF A SIDE
+-- A SIDE THAT IS ASKED LATE
 
-read_clock : (s : PairSide) (r : Result ℕ RecvError) → (reads s r).side.moment ≡ s.moment
-read_clock s (Ok n) = refl
-read_clock s (Err fault) = refl
+-- one that is asked before a moment isn't asked at that one, or one behind it
+not_asked : (side : Side) (event : PairEvent) (from when : ℤ) → when ≤ℤ from → IsAskedBefore when side event → IsAskedFrom from side event → ⊥
+not_asked side (Offer of moment sent) from when e before asked = too_late when from moment e asked.1 (before asked.0) where
+  too_late : (when from moment : ℤ) → when ≤ℤ from → from ≤ℤ moment → int_le when moment ≡ false → ⊥
+  too_late when from moment a b c = first_of (omega (arith, ints), grind (arith, ints))
+not_asked side (Listen of endpoint) from when e before never = never
+not_asked side (Connect of remote local) from when e before never = never
+not_asked side (Send of bytes) from when e before never = never
+not_asked side (Recv of count) from when e before never = never
+not_asked side (Close of) from when e before never = never
+not_asked side (Abort of) from when e before never = never
+not_asked side (TcpSetting of setting) from when e before never = never
+not_asked side (Clock of moment) from when e before never = never
+not_asked side (Deliver of k) from when e before never = never
 
-handed_clock : (side : Side) (s : PairSide) (x : Option SentSegment) → (handed side s x).moment ≡ s.moment
-handed_clock side s None = refl
-handed_clock side s (Some x) =
-    cond_both (accepts s.socket.block x.header x.segment) (taken_at s (arrives (context_at side s) s.socket x.header x.segment x.bytes)) s
-    (λ (t : PairSide). t.moment ≡ s.moment) (λ _. refl) (λ _. refl)
-
--- it stands, or goes to a moment before that
-abbrev pub ClockIn : ℤ → ℤ → ℤ → Type 0
-ClockIn when old new = (new ≡ old) ⊎ (is_due new (Some when) ≡ false)
-
-own_clock :
-    (s : PairSide) (others : List SentSegment) (event : PairEvent) (when : ℤ) → IsAskedBefore when (side_of event) event
-    → ClockIn when s.moment (acts s others event).side.moment
-own_clock s others (Listen side endpoint) when e = inl refl
-own_clock s others (Connect side remote local) when e = inl refl
-own_clock s others (Send side bytes) when e = inl refl
-own_clock s others (Recv side count) when e = inl (read_clock s (recv_answer s.socket count))
-own_clock s others (Close side) when e = inl refl
-own_clock s others (Abort side) when e = inl refl
-own_clock s others (TcpSetting side setting) when e = inl refl
-own_clock s others (Offer side moment true) when e = inr (e refl)
-own_clock s others (Offer side moment false) when e = inr (e refl)
-own_clock s others (Deliver from k) when e = inl (handed_clock (other from) s (slice_get others k))
-
-pub clock_after : (p : PairValue) (side : Side) (event : PairEvent) (when : ℤ) → IsAskedBefore when side event →
-    ClockIn when (at p.sides side).moment (at (takes p event).sides side).moment
-clock_after p side event when e =
-    by_put (λ (s : PairSide). ClockIn when (at p.sides side).moment s.moment) p.sides (side_of event) side new
-    (λ own.
-    subst (λ (s : Side). IsAskedBefore when s event → ClockIn when (at p.sides s).moment new.moment) own
-    (own_clock (at p.sides (side_of event)) (at p.sides (other (side_of event))).sent event when) e)
-    (inl refl)
-  where
-    new : PairSide
-    new = (acting p event).side
-
-clock_through : (p q : PairValue) (side : Side) (events : List PairEvent) (when : ℤ) → Steps p events q → AreAskedBefore when side events →
-    ClockIn when (at p.sides side).moment (at q.sides side).moment
-clock_through p q side [] when s asked = inl (ap (λ (x : PairValue). (at x.sides side).moment) s)
-clock_through p q side (event ∷ events) when s asked =
-    by (clock_through (takes p event) q side events when s.1 asked.1) (clock_after p side event when asked.0) where
-      by :
-          ClockIn when (at (takes p event).sides side).moment (at q.sides side).moment
-          → ClockIn when (at p.sides side).moment (at (takes p event).sides side).moment → ClockIn when (at p.sides side).moment (at q.sides side).moment
-      by (inr before) first = inr before
-      by (inl same) (inl first) = inl (same ∙ first)
-      by (inl same) (inr before) = inr (ap (λ (m : ℤ). is_due m (Some when)) same ∙ before)
-
--- a minute later no moment within that minute is still to come
-no_later : (old new when : ℤ) → when ≤ℤ (old +ℤ pos 60_000_000) → (old +ℤ pos 60_000_000) ≤ℤ new → int_le when new ≡ false → ⊥
-no_later old new when a b c = first_of (omega (arith, ints), grind (arith, ints))
-
-not_same : (old new : ℤ) → new ≡ old → (old +ℤ pos 60_000_000) ≤ℤ new → ⊥
-not_same old new a b = first_of (omega (arith, ints), grind (arith, ints))
+pub none_asked :
+    (side : Side) (events : List PairEvent) (from when : ℤ) → when ≤ℤ from → AreAskedBefore when side events → IsAskedFromAmong from side events → ⊥
+none_asked side [] from when e before never = never
+none_asked side (event ∷ events) from when e before (inl asked) = not_asked side event from when e before.0 asked
+none_asked side (event ∷ events) from when e before (inr asked) = none_asked side events from when e before.1 asked
 
 pub minute_passes :
     (p q : PairValue) (side : Side) (events : List PairEvent) → IsReached p → AreOpen p → Steps p events q
-    → ((socket_of p side).block.sender.in_flight == 0) ≡ false → ((at p.sides side).moment +ℤ pos 60_000_000) ≤ℤ (at q.sides side).moment
+    → ((socket_of p side).block.sender.in_flight == 0) ≡ false → IsAskedFromAmong ((at p.sides side).moment +ℤ pos 60_000_000) side events
     → is_synchronized (socket_of q side).block.state ≡ true
     → (acked_in p side < acked_in q side) ⊎ (RunsOutAmong p side events ⊎ MendsAmong p side events)
-minute_passes p q side events r o s flight later there = by (nat_lt (acked_in p side) (acked_in q side)) refl where
+minute_passes p q side events r o s flight late there = by (nat_lt (acked_in p side) (acked_in q side)) refl where
   it : IsRunning (socket_of p side)
   it = is_running p side r flight
 
   near : it.at ≤ℤ ((at p.sides side).moment +ℤ pos 60_000_000)
   near = subst (λ (timer : Option ℤ). IsNear (at p.sides side).moment 60_000_000 timer) it.runs (timer_near p side r)
 
-  never : ClockIn it.at (at p.sides side).moment (at q.sides side).moment → ⊥
-  never (inl same) = not_same (at p.sides side).moment (at q.sides side).moment same later
-  never (inr before) = no_later (at p.sides side).moment (at q.sides side).moment it.at near later before
-
   over :
       AreAskedBefore it.at side events ⊎ (RunsOutAmong p side events ⊎ MendsAmong p side events)
       → (acked_in p side < acked_in q side) ⊎ (RunsOutAmong p side events ⊎ MendsAmong p side events)
-  over (inl asked) = absurd (never (clock_through p q side events it.at s asked))
+  over (inl asked) = absurd (none_asked side events ((at p.sides side).moment +ℤ pos 60_000_000) it.at near asked late)
   over (inr out) = inr out
 
   by :

@@ -39,7 +39,7 @@ use Rattle.tcp_tie.specs.Pair.Values.{PairSide, context_at, and_offer, and_reply
 use Rattle.tcp_tie.specs.declared.pair.event.PairAnswer.{PairAnswer}
 use Rattle.tcp_tie.specs.declared.pair.event.PairAnswer.TheVariants.{Done, Count, Bytes, Error}
 use Rattle.tcp_tie.specs.declared.pair.event.PairEvent.{PairEvent}
-use Rattle.tcp_tie.specs.declared.pair.event.PairEvent.TheVariants.{Listen, Connect, Send, Recv, Close, Abort, TcpSetting, Offer, Deliver}
+use Rattle.tcp_tie.specs.declared.pair.event.PairEvent.TheVariants.{Listen, Connect, Send, Recv, Close, Abort, TcpSetting, Clock, Offer, Deliver}
 use Rattle.tcp_tie.specs.declared.pair.event.SentSegment.{SentSegment}
 use Rattle.tcp_tie.specs.declared.pair.event.Side.{Side}
 use Rattle.tcp_tie.specs.declared.pair.event.TcpSetting.{TcpSetting as Setting}
@@ -690,6 +690,7 @@ module _ (s : PairSide) (w : TcpValue) (p q : Past) (others : List SentSegment) 
   moves (Close side) allowed = close_all
   moves (Abort side) allowed = abort_moves
   moves (TcpSetting side setting) allowed = set_moves setting
+  moves (Clock side moment) allowed = set_still s.socket refl (refl, refl)
   moves (Offer side moment true) allowed = sent_moves side moment (led s w p q others k (Offer side moment true) tt)
   moves (Offer side moment false) allowed = unsent_moves side moment
   moves (Deliver from n) allowed = handed_moves (other from) (slice_get others n)

@@ -23,7 +23,7 @@ use Rattle.tcp_tie.specs.Pair.Steps.{Steps, refusal, happens, acting, was_opened
 use Rattle.tcp_model.specs.Value.{TcpValue, room_of}
 use Rattle.tcp_tie.specs.Pair.Values.{PairSide, PairValue, past_at, with_segments}
 use Rattle.tcp_tie.specs.declared.pair.event.PairEvent.{PairEvent}
-use Rattle.tcp_tie.specs.declared.pair.event.PairEvent.TheVariants.{Listen, Connect, Send, Recv, Close, Abort, TcpSetting, Offer, Deliver}
+use Rattle.tcp_tie.specs.declared.pair.event.PairEvent.TheVariants.{Listen, Connect, Send, Recv, Close, Abort, TcpSetting, Clock, Offer, Deliver}
 use Rattle.tcp_tie.specs.declared.pair.event.PairRefused.TheVariants.{OpenedTwice, TooManyBytes}
 use Rattle.tcp_tie.specs.declared.pair.event.Side.{Side}
 use Rattle.tcp_tie.specs.declared.pair.event.Side.TheVariants.{A, B}
@@ -87,6 +87,7 @@ is_allowed p (Recv side count) e = tt
 is_allowed p (Close side) e = tt
 is_allowed p (Abort side) e = tt
 is_allowed p (TcpSetting side setting) e = tt
+is_allowed p (Clock side moment) e = tt
 is_allowed p (Offer side moment sent) e = tt
 is_allowed p (Deliver from k) e = tt
 

@@ -38,7 +38,7 @@ use Rattle.tcp_tie.specs.Pair.Values.{PairSide, and_offer, and_reply, context_at
 use Rattle.tcp_tie.specs.declared.pair.event.PairAnswer.{PairAnswer}
 use Rattle.tcp_tie.specs.declared.pair.event.PairAnswer.TheVariants.{Done, Count, Bytes, Error}
 use Rattle.tcp_tie.specs.declared.pair.event.PairEvent.{PairEvent}
-use Rattle.tcp_tie.specs.declared.pair.event.PairEvent.TheVariants.{Listen, Connect, Send, Recv, Close, Abort, TcpSetting, Offer, Deliver}
+use Rattle.tcp_tie.specs.declared.pair.event.PairEvent.TheVariants.{Listen, Connect, Send, Recv, Close, Abort, TcpSetting, Clock, Offer, Deliver}
 use Rattle.tcp_tie.specs.declared.pair.event.SentSegment.{SentSegment}
 use Rattle.tcp_tie.specs.declared.pair.event.Side.{Side}
 use Rattle.tcp_tie.specs.declared.pair.event.TcpSetting.{TcpSetting as Setting}
@@ -265,6 +265,14 @@ module _ (since : ℤ) (s r : PairSide) (p : Past) (w : Way since s r p.opening)
       (subst (λ (sent : List SentSegment). AllByRecursion (IsStamped set since s.moment) sent) (sym gone) w.sent))
       (λ it. subst (λ (sent : List SentSegment). AllByRecursion IsPlain sent) (sym gone) (w.silent it).sent) first
 
+  -- its host's clock goes on
+  clock_goes_on : (moment : ℤ) → s.moment ≤ℤ moment → Way since (record s { moment = moment }) r p.opening
+  clock_goes_on moment later =
+      moved ⊥ (record s { moment = moment }) p.opening (same s) later (λ never. absurd never)
+      (AllByRecursion-map (IsStamped set since s.moment) (IsStamped set since moment)
+      (λ x e. longer_in set since s.moment moment x.segment.options.timestamp later e) s.sent w.sent)
+      (λ first. (w.silent first).sent) (λ e. e)
+
   -- its clock is set
   set_clock : (generator : Option TcpTimestampGenerator) → p.opening ≡ NotYet →
       Way since (record s { socket = set_by (Set.TsvalGenerator generator) s.socket }) r p.opening
@@ -450,6 +458,7 @@ module _ (since : ℤ) (s r : PairSide) (p : Past) (w : Way since s r p.opening)
         called (led (Close side)) (seen (Close side)) (closes s) refl refl (λ e. sym (closed_opening (closes_in s.socket.block.state) p) ∙ e)
     own_event (Abort side) closed allowed on k = called (led (Abort side)) p.opening (aborts s) refl refl (λ e. e)
     own_event (TcpSetting side setting) closed allowed on k = sets setting side k
+    own_event (Clock side moment) closed allowed on k = clock_goes_on moment on
     own_event (Offer side moment sent) closed allowed on k = offers closed side moment on k others sent
     own_event (Deliver from i) closed allowed on k = came (other from) (slice_get others i)
 
@@ -520,6 +529,7 @@ module _ (since : ℤ) (s r : PairSide) (opening : Opening) (w : Way since s r o
   partner_event (Close side) = untold (acts r s.sent (Close side)).side (closes r).recent
   partner_event (Abort side) = untold (acts r s.sent (Abort side)).side (aborts r).recent
   partner_event (TcpSetting side setting) = untold (acts r s.sent (TcpSetting side setting)).side (set_there setting)
+  partner_event (Clock side moment) = untold (acts r s.sent (Clock side moment)).side (inr (inl (refl, refl)))
   partner_event (Offer side moment true) =
       untold (acts r s.sent (Offer side moment true)).side (offer_asks (context_at side (record r { moment = moment })) r.socket).0.recent
   partner_event (Offer side moment false) =

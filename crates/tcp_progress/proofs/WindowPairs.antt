@@ -30,7 +30,7 @@ use Rattle.tcp_tie.specs.Pair.Steps.{Steps, acting, acts, handed, happens, reads
 use Rattle.tcp_model.specs.Value.{TcpValue, Arrived, ended, free_in, new_socket, queued_in, room_of, unoffered, with_block}
 use Rattle.tcp_tie.specs.Pair.Values.{PairSide, PairValue, and_offer, and_reply, context_at}
 use Rattle.tcp_tie.specs.declared.pair.event.PairEvent.{PairEvent}
-use Rattle.tcp_tie.specs.declared.pair.event.PairEvent.TheVariants.{Listen, Connect, Send, Recv, Close, Abort, TcpSetting, Offer, Deliver}
+use Rattle.tcp_tie.specs.declared.pair.event.PairEvent.TheVariants.{Listen, Connect, Send, Recv, Close, Abort, TcpSetting, Clock, Offer, Deliver}
 use Rattle.tcp_tie.specs.declared.pair.event.SentSegment.{SentSegment}
 use Rattle.tcp_tie.specs.declared.pair.event.Side.{Side}
 use Rattle.tcp_tie.specs.declared.pair.event.Side.TheVariants.{A, B}
@@ -216,6 +216,7 @@ module _ (own theirs : ℕ) (s : PairSide) (others : List SentSegment) (order : 
       (λ _. closed_fit own theirs (fit_of v) h.fit) (λ _. closed_fit own theirs (fit_of v) h.fit))
       refl
   act_fits (TcpSetting side setting) = called (acts s others (TcpSetting side setting)).side (set_fits setting) refl
+  act_fits (Clock side moment) = called (acts s others (Clock side moment)).side h.fit refl
   act_fits (Offer side moment sent) = asked side moment sent
   act_fits (Deliver from k) = handed_fits (other from) (slice_get others k) (λ x e. AllByRecursion-at (IsTold theirs) others k x heard e)
 

@@ -12,7 +12,7 @@ use Rattle.tcp_tie.specs.Pair.Sides.{at, other}
 use Rattle.tcp_model.specs.Timestamps.{comes_older, generator_of}
 use Rattle.tcp_tie.specs.Pair.Values.{PairValue}
 use Rattle.tcp_tie.specs.declared.pair.event.PairEvent.{PairEvent}
-use Rattle.tcp_tie.specs.declared.pair.event.PairEvent.TheVariants.{Clock, Deliver, Offer, TcpSetting}
+use Rattle.tcp_tie.specs.declared.pair.event.PairEvent.TheVariants.{Deliver, Offer, TcpSetting}
 use Rattle.tcp_tie.specs.declared.pair.event.Side.{Side}
 use Rattle.tcp_tie.specs.declared.pair.event.TcpSetting.TheVariants as Set
 
@@ -43,9 +43,8 @@ pub record WasShown (clock : Option TcpTimestampGenerator) (since now : ℤ) (st
   pub after : since ≤ℤ moment
   pub before : moment ≤ℤ now
 
--- an event tells a side this moment or a later one, and sets its clock only before it is opened
+-- an event asks a side at this moment or later, and sets its clock only before it is opened
 abbrev pub KeepsTime : ℤ → PairEvent → Opening → Type 0
-KeepsTime since (Clock side moment) opening = since ≤ℤ moment
 KeepsTime since (Offer side moment sent) opening = since ≤ℤ moment
 KeepsTime since (TcpSetting side (Set.TsvalGenerator generator)) opening = opening ≡ NotYet
 KeepsTime since event opening = Unit {0}

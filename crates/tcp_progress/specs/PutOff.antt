@@ -1,5 +1,5 @@
 -- What puts the retransmission timer off (RFC 6298, 5; RFC 6675, 6).
-use Rattle.std.specs.Prelude.{◌≡◌, ◌⊎◌, ℤ, true, false, List, [], ◌∷◌, Some}
+use Rattle.std.specs.Prelude.{◌≡◌, ◌⊎◌, ℤ, ◌≤ℤ◌, true, false, List, [], ◌∷◌, Some}
 use Rattle.tcp_rules.specs.Moments.{is_due, timeout_from}
 use Rattle.tcp_rules.specs.OfferKind.TheVariants as Kind
 use Rattle.tcp_rules.specs.OpenOffer.{OpenOffer}
@@ -33,6 +33,16 @@ IsAskedBefore at side other = Unit {0}
 abbrev pub AreAskedBefore : ℤ → Side → List PairEvent → Type 0
 AreAskedBefore at side [] = Unit {0}
 AreAskedBefore at side (event ∷ events) = IsAskedBefore at side event × AreAskedBefore at side events
+
+-- the side is asked for a segment at this moment or later
+abbrev pub IsAskedFrom : ℤ → Side → PairEvent → Type 0
+IsAskedFrom at side (Offer of moment sent) = (of ≡ side) × (at ≤ℤ moment)
+IsAskedFrom at side other = ⊥
+
+-- with one of these events
+abbrev pub IsAskedFromAmong : ℤ → Side → List PairEvent → Type 0
+IsAskedFromAmong at side [] = ⊥
+IsAskedFromAmong at side (event ∷ events) = IsAskedFrom at side event ⊎ IsAskedFromAmong at side events
 
 -- Of a socket with an open offer: something goes again in a recovery, while ranges say that the segment at SND.UNA is lost. Then the timer
 -- starts anew, so that it doesn't run out before this can be acknowledged (RFC 6675, 6).

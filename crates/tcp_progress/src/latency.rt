@@ -20,18 +20,18 @@ ghost use Rattle.tcp_progress.specs.Exchange.{IsOpen};
 ghost use Rattle.tcp_progress.specs.Late.{GoesFrom};
 ghost use Rattle.tcp_progress.specs.Onward.{AreOpen, HasRisen, acked_in};
 ghost use Rattle.tcp_progress.specs.Pair.{HasStream, context_of, left_in, socket_of};
-ghost use Rattle.tcp_progress.specs.PutOff.{ProbesAt, RunsOutAmong};
+ghost use Rattle.tcp_progress.specs.PutOff.{IsAskedFromAmong, ProbesAt, RunsOutAmong};
 ghost use Rattle.tcp_progress.specs.Reached.{IsReached};
 ghost use Rattle.tcp_progress.specs.Restart.{Sends};
 ghost use Rattle.tcp_progress.specs.Spans.{IsHeldAmong, IsThroughAmong, most_reached, reached_in};
 
-/// Within a minute for each position that may be sent past SND.UNA, and two more, SND.UNA of a side with something in flight rises; or it is asked
-/// when its timer has run out; or a segment goes again from SND.UNA on. A recovery puts the timer off no longer than that: each segment that
-/// goes again takes a position behind those that did, or begins at SND.UNA.
+/// Of a side with something in flight that is asked as many minutes later as positions may be sent past SND.UNA, and two more, or later still,
+/// SND.UNA has risen; or it was asked when its timer had run out; or a segment went again from SND.UNA on. A recovery puts the timer off no
+/// longer than that: each segment that goes again takes a position behind those that did, or begins at SND.UNA.
 pub fn a_side_begins_at_snd_una_in_time()
     ensures minutes { (p q : PairValue) (side : Side) (events : List PairEvent) → IsReached p → AreOpen p → Steps p events q
         → ((socket_of p side).block.sender.in_flight == 0) ≡ false
-        → ((at p.sides side).moment +ℤ pos (put_off_in p side)) ≤ℤ (at q.sides side).moment
+        → IsAskedFromAmong ((at p.sides side).moment +ℤ pos (put_off_in p side)) side events
         → is_synchronized (socket_of q side).block.state ≡ true
         → (acked_in p side < acked_in q side) ⊎ (RunsOutAmong p side events ⊎ BeginsAnewAmong p side events) }
 {}

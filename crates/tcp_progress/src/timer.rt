@@ -1,6 +1,6 @@
 //! That only news puts the retransmission timer off.
 
-ghost use Rattle.std.specs.Prelude.{◌≡◌, ◌⊎◌, ◌==◌, ◌<◌, ◌≤◌, ℤ, pos, ◌+ℤ◌, ◌≤ℤ◌, true, false, List};
+ghost use Rattle.std.specs.Prelude.{◌≡◌, ◌⊎◌, ◌==◌, ◌<◌, ◌≤◌, ℤ, pos, ◌+ℤ◌, true, false, List};
 ghost use Rattle.tcp_tie.specs.Pair.Sides.{at};
 ghost use Rattle.tcp_tie.specs.Pair.Steps.{Steps};
 ghost use Rattle.tcp_tie.specs.Pair.Values.{PairValue};
@@ -9,8 +9,8 @@ ghost use Rattle.tcp_tie.specs.declared.pair.event.Side.{Side};
 ghost use Rattle.tcp_progress.specs.Arrivals.{is_synchronized};
 ghost use Rattle.tcp_progress.specs.Onward.{AreOpen, acked_in};
 ghost use Rattle.tcp_progress.specs.Pair.{socket_of};
-ghost use Rattle.tcp_progress.specs.PutOff.{AreAskedBefore, CarriesIn, IsAskedBefore, IsRunning, MayProbe, MendsAmong, MendsIn, ProbesAt, RunsOutAmong};
-ghost use Rattle.tcp_progress.specs.PutOff.{RunsOutAt};
+ghost use Rattle.tcp_progress.specs.PutOff.{AreAskedBefore, CarriesIn, IsAskedBefore, IsAskedFromAmong, IsRunning, MayProbe, MendsAmong, MendsIn};
+ghost use Rattle.tcp_progress.specs.PutOff.{ProbesAt, RunsOutAmong, RunsOutAt};
 ghost use Rattle.tcp_progress.specs.Reached.{IsReached};
 ghost use Rattle.tcp_progress.specs.Rounds.{takes};
 
@@ -29,12 +29,12 @@ pub fn only_news_puts_the_timer_off()
         → AreAskedBefore at side events → RunsOutAt at (socket_of q side) ⊎ MendsAmong p side events }
 {}
 
-/// Within a minute of its clock SND.UNA of a side with something in flight rises, or it is asked when its timer has run out, and begins anew at
-/// SND.UNA; or something goes again in a recovery. Whatever happens meanwhile, as long as the connection is there.
+/// Of a side with something in flight that is asked a minute later, or later still, SND.UNA has risen; or it was asked when its timer had run out,
+/// and began anew at SND.UNA; or something went again in a recovery. Whatever happens meanwhile, as long as the connection is there.
 pub fn a_minute_brings_news_or_runs_the_timer_out()
     ensures minute { (p q : PairValue) (side : Side) (events : List PairEvent) → IsReached p → AreOpen p → Steps p events q
         → ((socket_of p side).block.sender.in_flight == 0) ≡ false
-        → ((at p.sides side).moment +ℤ pos 60_000_000) ≤ℤ (at q.sides side).moment
+        → IsAskedFromAmong ((at p.sides side).moment +ℤ pos 60_000_000) side events
         → is_synchronized (socket_of q side).block.state ≡ true
         → (acked_in p side < acked_in q side) ⊎ (RunsOutAmong p side events ⊎ MendsAmong p side events) }
 {}

@@ -11,7 +11,7 @@ use Rattle.tcp_tie.proofs.PromiseLemmas.{keeps_fresh, keeps_turned, safe_sockets
 use Rattle.tcp_tie.specs.declared.pair.event.Side.{Side}
 use Rattle.tcp_tie.specs.declared.pair.event.Side.TheVariants.{A, B}
 use Rattle.tcp_tie.specs.declared.pair.event.PairEvent.{PairEvent}
-use Rattle.tcp_tie.specs.declared.pair.event.PairEvent.TheVariants.{Listen, Connect, Send, Recv, Close, Abort, TcpSetting, Offer, Deliver}
+use Rattle.tcp_tie.specs.declared.pair.event.PairEvent.TheVariants.{Listen, Connect, Send, Recv, Close, Abort, TcpSetting, Clock, Offer, Deliver}
 use Rattle.tcp_tie.specs.declared.pair.event.PairAnswer.{PairAnswer}
 use Rattle.tcp_tie.specs.declared.pair.event.PairAnswer.TheVariants.{Done, Count, Bytes, Error}
 use Rattle.tcp_tie.specs.declared.pair.event.PairRefused.TheVariants.{OpenedTwice, TooManyBytes}
@@ -49,6 +49,7 @@ is_allowed p (Recv side count) e = tt
 is_allowed p (Close side) e = tt
 is_allowed p (Abort side) e = tt
 is_allowed p (TcpSetting side setting) e = tt
+is_allowed p (Clock side moment) e = tt
 is_allowed p (Offer side moment sent) e = tt
 is_allowed p (Deliver from k) e = tt
 
@@ -103,6 +104,7 @@ module _ (p : PairValue) (k : IsKept p) where
   was_complete (Close side) = tt
   was_complete (Abort side) = tt
   was_complete (TcpSetting side setting) = tt
+  was_complete (Clock side moment) = tt
   was_complete (Offer side moment sent) = tt
   was_complete (Deliver from n) = tt
 

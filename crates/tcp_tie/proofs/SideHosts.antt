@@ -9,7 +9,7 @@ use Rattle.tcp_tie.specs.declared.pair.event.Side.{Side}
 use Rattle.tcp_tie.specs.declared.pair.event.Side.TheVariants.{A, B}
 use Rattle.tcp_tie.specs.declared.pair.event.SentSegment.{SentSegment}
 use Rattle.tcp_tie.specs.declared.pair.event.PairEvent.{PairEvent}
-use Rattle.tcp_tie.specs.declared.pair.event.PairEvent.TheVariants.{Listen, Connect, Send, Recv, Close, Abort, TcpSetting, Offer, Deliver}
+use Rattle.tcp_tie.specs.declared.pair.event.PairEvent.TheVariants.{Listen, Connect, Send, Recv, Close, Abort, TcpSetting, Clock, Offer, Deliver}
 use Rattle.tcp_tie.specs.Pair.History.{side_of}
 use Rattle.tcp_tie.specs.Pair.Sides.{Both, at, put, other}
 use Rattle.tcp_tie.specs.Pair.Steps.{Steps, acting, acts, handed, happens, reads, taken_at}
@@ -33,6 +33,7 @@ act_host s others (Recv side count) = read_host s (recv_answer s.socket count)
 act_host s others (Close side) = refl
 act_host s others (Abort side) = refl
 act_host s others (TcpSetting side setting) = refl
+act_host s others (Clock side moment) = refl
 act_host s others (Offer side moment true) = refl
 act_host s others (Offer side moment false) = refl
 act_host s others (Deliver from k) = handed_host (other from) s (slice_get others k)

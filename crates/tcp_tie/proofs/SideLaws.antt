@@ -41,7 +41,7 @@ use Rattle.tcp_tie.proofs.OfferLaws.{keeps_sent_offer, keeps_unsent_offer}
 use Rattle.tcp_tie.specs.declared.pair.event.Side.{Side}
 use Rattle.tcp_tie.specs.declared.pair.event.SentSegment.{SentSegment}
 use Rattle.tcp_tie.specs.declared.pair.event.PairEvent.{PairEvent}
-use Rattle.tcp_tie.specs.declared.pair.event.PairEvent.TheVariants.{Listen, Connect, Send, Recv, Close, Abort, TcpSetting, Offer, Deliver}
+use Rattle.tcp_tie.specs.declared.pair.event.PairEvent.TheVariants.{Listen, Connect, Send, Recv, Close, Abort, TcpSetting, Clock, Offer, Deliver}
 use Rattle.tcp_tie.specs.declared.pair.event.PairAnswer.{PairAnswer}
 use Rattle.tcp_tie.specs.declared.pair.event.PairAnswer.TheVariants.{Error}
 use Rattle.tcp_tie.specs.declared.pair.event.TcpFault.TheVariants as Fault
@@ -221,6 +221,7 @@ module _ (s : PairSide) (w : TcpValue) (p q : Past) (others : List SentSegment) 
   led (Close side) allowed = led_close side
   led (Abort side) allowed = keeps_abort s.socket w (with_segments p s.sent) (with_segments q others) k
   led (TcpSetting side setting) allowed = led_set setting
+  led (Clock side moment) allowed = k
   led (Offer side moment sent) allowed = led_offer side moment sent
   led (Deliver from at) allowed = led_handed (other from) at (slice_get others at) refl
 

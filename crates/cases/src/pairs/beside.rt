@@ -72,9 +72,16 @@ impl Beside {
             Todo::Close(_) => self.socket.close(),
             Todo::Abort(_) => self.socket.abort(),
             Todo::Set(_, setting) => self.set(setting),
+            Todo::Clock(_, moment) => self.set_now(*moment),
             Todo::Deliver(_, k) => self.deliver(others, *k),
         }
         None
+    }
+
+    fn set_now(&mut self, moment: Instant) {
+        if moment.is_moment() {
+            self.context.set_now(moment);
+        }
     }
 
     fn offer(&mut self, moment: Instant, sent: bool) -> Option<Offer> {

@@ -29,6 +29,8 @@ pub enum Todo {
     Close(Side),
     Abort(Side),
     Set(Side, TcpSetting),
+    /// Its host's clock goes on to this moment.
+    Clock(Side, Instant),
     /// At this moment, and whether what is offered counts as sent.
     Offer(Side, Instant, bool),
     /// The segment of this number, of those that the side sent, to the other side.
@@ -69,6 +71,7 @@ impl Todo {
             Todo::Close(side) => PairEvent::Close(*side),
             Todo::Abort(side) => PairEvent::Abort(*side),
             Todo::Set(side, setting) => PairEvent::TcpSetting(*side, *setting),
+            Todo::Clock(side, moment) => PairEvent::Clock(*side, *moment),
             Todo::Offer(side, moment, sent) => PairEvent::Offer(*side, *moment, *sent),
             Todo::Deliver(side, k) => PairEvent::Deliver(*side, *k),
         })
@@ -142,6 +145,7 @@ fn event(alloc: Global, verb: &str, words: &mut Words<'_>) -> Todo {
         "close" => Todo::Close(side),
         "abort" => Todo::Abort(side),
         "set" => Todo::Set(side, setting(words)),
+        "clock" => Todo::Clock(side, words.moment()),
         "offer" => Todo::Offer(side, words.moment(), words.either("sent", "unsent")),
         _ => Todo::Deliver(side, words.size()),
     }
@@ -158,6 +162,7 @@ fn is_verb(word: &str) -> bool {
             | "close"
             | "abort"
             | "set"
+            | "clock"
             | "offer"
             | "deliver"
     )

@@ -149,6 +149,7 @@ fn side_of(todo: &Todo) -> Side {
         | Todo::Close(side)
         | Todo::Abort(side)
         | Todo::Set(side, _)
+        | Todo::Clock(side, _)
         | Todo::Offer(side, _, _)
         | Todo::Deliver(side, _) => *side,
     }

@@ -11,7 +11,7 @@ struct User {
     read: usize,
 }
 
-/// Both users, and the last moment at which a side was asked.
+/// Both users, and the last moment of either side.
 #[derive(Clone, Copy)]
 pub struct Users {
     a: User,
@@ -35,7 +35,9 @@ impl Users {
     /// Notes what an event that was taken did.
     pub fn note(&mut self, todo: &Todo, answer: &PairAnswer) {
         match (todo, answer) {
-            (Todo::Offer(_, moment, _), _) => self.now = cmp::max(self.now, *moment),
+            (Todo::Offer(_, moment, _) | Todo::Clock(_, moment), _) => {
+                self.now = cmp::max(self.now, *moment);
+            }
             (Todo::Send(side, _), PairAnswer::Count(count)) => {
                 let user = self.user(*side);
                 user.written = user.written.wrapping_add(*count);
