@@ -1,5 +1,5 @@
 -- Of the header of a packet that comes the addresses matter alone; and of a host's random words nothing where first numbers are made with a key.
-use Rattle.std.proofs.Common.{◌≡◌, ℕ, ◌==◌, not, ◌&&◌, Bool, true, false, if◌then◌else◌, List, length, Option, Some, None, is_some, refl, sym, ap, ◌∙◌, subst}
+use Rattle.std.proofs.Common.{◌≡◌, ℕ, not, ◌&&◌, Bool, true, false, if◌then◌else◌, List, length, Option, Some, None, is_some, refl, sym, ap, ◌∙◌, subst}
 use Rattle.std.proofs.lemmas.Bool.{cond_both}
 use Rattle.std.specs.Prelude.{ℤ}
 use Rattle.ip_wire.specs.Ip.{source_of, destination_of}
@@ -14,7 +14,7 @@ use Rattle.ip_wire.specs.TcpHeader.{TcpHeader}
 use Rattle.tcp_model.specs.declared.block.Block.{Block}
 use Rattle.tcp_model.specs.Acknowledged.{acknowledged, duplicates_after}
 use Rattle.tcp_model.specs.Answers.{acked, answer_for, drawn, may_draw, with_draw, ranges_held}
-use Rattle.tcp_model.specs.Arrival.{arrives, arrives_in, challenges_reset, checked, comes_again, continued, draws_first, echo_heard, finished}
+use Rattle.tcp_model.specs.Arrival.{arrives, arrives_in, challenges_reset, checked, comes_again, draws_first, echo_heard}
 use Rattle.tcp_model.specs.Arrival.{has_length, inside, is_void_syn, outside, passed_outside, received, reset_comes, taken, takes_reset, tells_news, told}
 use Rattle.tcp_model.specs.Arrival.{waiting_anew, with_content}
 use Rattle.tcp_model.specs.Checks.{Check, acknowledgement_check, is_in_window, taken_down}
@@ -30,7 +30,7 @@ use Rattle.tcp_model.specs.Segments.{no_ranges, rst_reply}
 use Rattle.tcp_model.specs.State.{State}
 use Rattle.tcp_model.specs.State.TheVariants as In
 use Rattle.tcp_model.specs.States.{is_closed}
-use Rattle.tcp_model.specs.Text.{Texted, with_text}
+use Rattle.tcp_model.specs.Text.{with_text}
 use Rattle.tcp_model.specs.Timeout.{timeout_restarted}
 use Rattle.tcp_model.specs.Timestamps.{stamp_taken}
 use Rattle.tcp_model.specs.Value.{TcpValue, Arrived, answered_with, dropped, ended, free_in, queued_in, unoffered, with_block}

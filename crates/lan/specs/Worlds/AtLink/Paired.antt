@@ -1,5 +1,5 @@
 -- Two TCP sockets of two hosts, seen as a pair of sockets between which segments go: each move of a host is none, one or two events of the pair.
-use Rattle.std.specs.Prelude.{◌≡◌, ℕ, ◌==◌, Bool, true, false, if◌then◌else◌, ℤ, pos, ◌≤ℤ◌, List, [], ◌∷◌, map, Option, Some, None, IfSome}
+use Rattle.std.specs.Prelude.{◌≡◌, ℕ, ◌==◌, if◌then◌else◌, ℤ, pos, ◌≤ℤ◌, List, [], ◌∷◌, map, Option, Some, None, IfSome}
 use Rattle.std.specs.List.{AllByRecursion}
 use Rattle.net_base.specs.Ring.{Ring}
 use Rattle.net_base.specs.Time.{IsMoment}
@@ -28,7 +28,7 @@ use Rattle.lan.specs.Worlds.AtLink.History.{Entry, opening, written, read, is_cl
 use Rattle.lan.specs.Worlds.AtLink.Parties.{Net, party, socket_at}
 use Rattle.lan.specs.Worlds.AtLink.Parties.Socket.{Tcp}
 use Rattle.lan.specs.Worlds.AtLink.Moves.{Move, Step, after}
-use Rattle.lan.specs.Worlds.AtLink.Moves.Move.{Invokes, Passes, Offers, Gives, Takes, Receives, Resets, Changes}
+use Rattle.lan.specs.Worlds.AtLink.Moves.Move.{Invokes, Offers, Takes, Resets, Changes}
 
 abbrev pub side_in : Side → Pairs.Side
 side_in A = Of.A

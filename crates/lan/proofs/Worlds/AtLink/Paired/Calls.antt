@@ -1,5 +1,5 @@
 -- A call of a socket of the pair is an event of the pair, or none.
-use Rattle.std.proofs.Common.{◌≡◌, ◌≢◌, ◌⊎◌, inl, inr, ℕ, ◌+◌, ◌^◌, ◌==◌, ◌&&◌, nat_le, ℤ, Bool, true, false, if◌then◌else◌, List, [], ◌∷◌, length, map, Option, Some, None}
+use Rattle.std.proofs.Common.{◌≡◌, ◌≢◌, ◌⊎◌, inl, inr, ℕ, ◌+◌, ◌^◌, ◌&&◌, nat_le, ℤ, Bool, true, false, if◌then◌else◌, List, [], ◌∷◌, length, map, Option, Some, None}
 use Rattle.std.proofs.Common.{is_none, is_ok, Result, Ok, Err, refl, sym, ap, ◌∙◌, subst}
 use Rattle.std.proofs.lemmas.Bool.{ne_eqb}
 use Rattle.std.specs.List.{AllByRecursion}
@@ -31,7 +31,7 @@ use Rattle.lan.specs.Worlds.AtLink.Call as Call
 use Rattle.lan.specs.Worlds.AtLink.Call.{SocketCall}
 use Rattle.lan.specs.Worlds.AtLink.Calls.{at_port, bytes_or, connect_fault, count_or, done_or, listen_fault, read_by, setting_after, tcp_does, write_fault}
 use Rattle.lan.specs.Worlds.AtLink.Kinds.{Kind, calls, kind_of, other}
-use Rattle.lan.specs.Worlds.AtLink.History.{Entry, opening, opening_by, written}
+use Rattle.lan.specs.Worlds.AtLink.History.{Entry, opening}
 use Rattle.lan.specs.Worlds.AtLink.Moves.{DoneBy, with_socket}
 use Rattle.lan.specs.Worlds.AtLink.Parties.{Net, Party, party, socket_at}
 use Rattle.lan.specs.Worlds.AtLink.Parties.Socket.{Tcp}
@@ -42,7 +42,7 @@ use Rattle.lan.proofs.Worlds.AtLink.CallSteps.{told_after, told_with}
 use Rattle.lan.proofs.Worlds.AtLink.Exchange.{same_tcp}
 use Rattle.lan.proofs.Worlds.AtLink.HostSteps.{opening_left, told_left}
 use Rattle.lan.proofs.Worlds.AtLink.Kept.{KeptFrom}
-use Rattle.lan.proofs.Worlds.AtLink.PartnerLemmas.{AreApart, MayOpen, WasTaken, may_open, opened_apart, opening_stays, test_passed, was_taken}
+use Rattle.lan.proofs.Worlds.AtLink.PartnerLemmas.{AreApart, WasTaken, may_open, opened_apart, opening_stays, test_passed, was_taken}
 use Rattle.lan.proofs.Worlds.AtLink.Places.{some_is}
 use Rattle.lan.proofs.Worlds.AtLink.Speaking.{same_opening}
 use Rattle.lan.proofs.Worlds.AtLink.TableLemmas.{table_says}

@@ -1,6 +1,6 @@
 -- What a host does besides leaves the pair as it is.
 use Rattle.std.proofs.Common.{◌≡◌, ◌≢◌, ◌⊎◌, inl, inr, ℕ, ℤ, Bool, true, false, List, [], ◌∷◌, ◌++◌, Option, Some, None, refl, sym, ap, ◌∙◌, subst}
-use Rattle.std.proofs.lemmas.List.{get_or-set_other, get_or-set_same}
+use Rattle.std.proofs.lemmas.List.{get_or-set_other}
 use Rattle.std.specs.List.{AllByRecursion}
 use Rattle.ip_wire.specs.Ip.{source_of, destination_of}
 use Rattle.ip_wire.specs.IpAddress.{IpAddress}
@@ -8,9 +8,7 @@ use Rattle.ip_wire.specs.IpRepr.{IpRepr}
 use Rattle.ip_wire.specs.TcpHeader.{TcpHeader}
 use Rattle.sockets.specs.Context.{ContextValue}
 use Rattle.sockets.specs.Polling.{Offered}
-use Rattle.tcp_tie.specs.Endpoints.{HasPorts}
 use Rattle.tcp_tie.specs.Host.{Made, made_of, source_port, MayCome, and_answer, and_offer}
-use Rattle.tcp_tie.specs.Pair.History.{pasts}
 use Rattle.tcp_tie.specs.Pair.Sides.{at}
 use Rattle.tcp_tie.specs.Pair.Values.{PairValue}
 use Rattle.tcp_tie.specs.declared.pair.event.SentSegment.{SentSegment}
@@ -31,13 +29,13 @@ use Rattle.lan.specs.Worlds.AtLink.Moves.{with_socket, offered_segments}
 use Rattle.lan.specs.Worlds.AtLink.Parties.{Net, Party, Socket, party, socket_at}
 use Rattle.lan.specs.Worlds.AtLink.Parties.Socket.{Tcp}
 use Rattle.lan.specs.Worlds.AtLink.Tables.{Places, AreAllowed}
-use Rattle.lan.specs.Worlds.AtLink.Paired.{HasSent, IsOfSocket, Seat, Shows, from_port, made_by, side_in, told}
+use Rattle.lan.specs.Worlds.AtLink.Paired.{HasSent, IsOfSocket, Seat, Shows, from_port, side_in, told}
 use Rattle.lan.proofs.Worlds.AtLink.HostSteps.{Stay}
 use Rattle.lan.proofs.Worlds.AtLink.Kept.{KeptFrom}
 use Rattle.lan.proofs.Worlds.AtLink.PartnerLemmas.{AreApart, opened_apart}
 use Rattle.lan.proofs.Worlds.AtLink.Speaking.{accepted_speaks}
 use Rattle.lan.proofs.Worlds.AtLink.StreamInvariant.{TcpOk, SegmentOk, SpeaksWith}
-use Rattle.lan.proofs.Worlds.AtLink.Lists.{Each, each_get}
+use Rattle.lan.proofs.Worlds.AtLink.Lists.{each_get}
 use Rattle.lan.proofs.Worlds.AtLink.WireMoves.{read_ok}
 use Rattle.lan.proofs.Worlds.AtLink.Paired.Parts.{from_apart}
 use Rattle.lan.proofs.Worlds.AtLink.Paired.Shown.{shows_still}

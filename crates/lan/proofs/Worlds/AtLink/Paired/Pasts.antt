@@ -1,8 +1,8 @@
 -- What a call adds to what was seen of a socket, as the history tells it and as the events of a pair do.
-use Rattle.std.proofs.Common.{◌≡◌, ℕ, zero, suc, ◌==◌, ◌||◌, nat_lt, Bool, true, false, if◌then◌else◌, List, [], ◌∷◌, ◌++◌, take, Option, Some, None, Result, Ok, Err}
-use Rattle.std.proofs.Common.{refl, sym, ap, ◌∙◌, subst, append-nil, arith}
+use Rattle.std.proofs.Common.{◌≡◌, ℕ, ◌==◌, ◌||◌, nat_lt, Bool, true, false, if◌then◌else◌, List, [], ◌++◌, take, Option, Some, None, Result, Ok, Err}
+use Rattle.std.proofs.Common.{refl, sym, ap, ◌∙◌, append-nil, arith}
 use Rattle.std.proofs.lemmas.Bool.Decides.{nat_tests}
-use Rattle.tcp_tie.specs.History.{called, closed_by, closes_in, listened, with_read, with_written}
+use Rattle.tcp_tie.specs.History.{closed_by, closes_in}
 use Rattle.tcp_tie.specs.Pair.History.{connect_adds, listen_adds, recv_adds, send_adds}
 use Rattle.tcp_tie.specs.Pair.Steps.{connect_says, limit_of, listen_says, recv_fault, send_says, set_by}
 use Rattle.tcp_tie.specs.Tie.{Past}

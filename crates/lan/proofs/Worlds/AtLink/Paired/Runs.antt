@@ -1,5 +1,5 @@
 -- Each step of a plain run is none, one or two events of the pair.
-use Rattle.std.proofs.Common.{◌≡◌, ◌≢◌, ◌⊎◌, inl, inr, ℕ, ◌==◌, ℤ, Bool, true, false, if◌then◌else◌, List, [], ◌∷◌, ◌++◌, Option, Some, None, refl, sym, ap, ◌∙◌}
+use Rattle.std.proofs.Common.{◌≡◌, ◌≢◌, ◌⊎◌, inl, inr, ℕ, ◌==◌, ℤ, Bool, true, false, if◌then◌else◌, List, [], ◌∷◌, ◌++◌, Some, None, refl, sym, ap, ◌∙◌}
 use Rattle.std.proofs.Common.{subst, eq-eqb}
 use Rattle.std.proofs.lemmas.Bool.Decides.{eqb_tells}
 use Rattle.std.specs.List.{AllByRecursion}
@@ -8,16 +8,16 @@ use Rattle.ip_wire.specs.IpRepr.{IpRepr}
 use Rattle.ip_wire.specs.TcpHeader.{TcpHeader}
 use Rattle.sockets.specs.Context.{ContextValue}
 use Rattle.tcp_tie.specs.Pair.Sides.{at}
-use Rattle.tcp_tie.specs.Pair.Steps.{Steps, happens, refusal}
+use Rattle.tcp_tie.specs.Pair.Steps.{Steps, happens}
 use Rattle.tcp_tie.specs.Pair.Values.{PairValue}
 use Rattle.tcp_tie.specs.declared.pair.event.PairEvent.{PairEvent}
 use Rattle.tcp_model.specs.Value.{TcpValue}
 use Rattle.lan.specs.declared.at_link.history.event.Side.{Side}
 use Rattle.lan.specs.declared.at_link.history.event.Side.TheVariants.{A, B}
 use Rattle.lan.specs.Worlds.AtLink.Call.{SocketCall}
-use Rattle.lan.specs.Worlds.AtLink.Kinds.{calls, kind_of, other, same_side}
+use Rattle.lan.specs.Worlds.AtLink.Kinds.{kind_of, other}
 use Rattle.lan.specs.Worlds.AtLink.History.{Entry, opening}
-use Rattle.lan.specs.Worlds.AtLink.Moves.{Does, IsNoCall, IsRun, May, Move, Step, after, history_after, party_after, run, with_socket}
+use Rattle.lan.specs.Worlds.AtLink.Moves.{IsNoCall, IsRun, May, Move, Step, after, history_after, party_after, run}
 use Rattle.lan.specs.Worlds.AtLink.Moves.Move.{Invokes, Passes, Offers, Gives, Takes, Receives, Resets, Changes}
 use Rattle.lan.specs.Worlds.AtLink.PacketsSafe.{IsFreshNet}
 use Rattle.lan.specs.Worlds.AtLink.Parties.{Net, Party, Socket, party, places_of, socket_at}
@@ -34,9 +34,9 @@ use Rattle.lan.proofs.Worlds.AtLink.Places.{some_is}
 use Rattle.lan.proofs.Worlds.AtLink.Runs.{Kept, MayFrom, fresh_kept, kept_run, may_a, may_b, step_by}
 use Rattle.lan.proofs.Worlds.Moves.Nets.{mine, step_of, theirs}
 use Rattle.lan.proofs.Worlds.AtLink.Paired.Calls.{called}
-use Rattle.lan.proofs.Worlds.AtLink.Paired.Elsewhere.{IsMoreOf, answers_more, left, more_elsewhere, more_of_socket, of_socket_stays, offers_more, socket_stays}
+use Rattle.lan.proofs.Worlds.AtLink.Paired.Elsewhere.{answers_more, left, more_elsewhere, more_of_socket, of_socket_stays, offers_more, socket_stays}
 use Rattle.lan.proofs.Worlds.AtLink.Paired.Shown.{clock_allowed, clock_event, clock_shows}
-use Rattle.lan.proofs.Worlds.AtLink.Paired.Wires.{comes_allowed, comes_event, comes_shows, offer_allowed, offer_shows, was_opened}
+use Rattle.lan.proofs.Worlds.AtLink.Paired.Wires.{comes_allowed, comes_shows, offer_allowed, offer_shows, was_opened}
 
 -- OPENINGS STAY
 

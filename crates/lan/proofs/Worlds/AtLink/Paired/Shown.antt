@@ -1,12 +1,12 @@
 -- A pair shows a net after a step of one host.
-use Rattle.std.proofs.Common.{◌≡◌, ℕ, ℤ, Bool, true, false, if◌then◌else◌, List, [], ◌∷◌, ◌++◌, Option, Some, None, refl, sym, ap, ◌∙◌, subst, arith}
+use Rattle.std.proofs.Common.{◌≡◌, ℤ, Bool, true, false, Some, None, refl, sym, ap, ◌∙◌, subst, arith}
 use Rattle.std.proofs.lemmas.Int.{ints}
 use Rattle.std.specs.Prelude.{◌≤ℤ◌, pos, int_le, not, ◌&&◌}
 use Rattle.std.specs.List.{AllByRecursion}
 use Rattle.net_base.specs.Time.{IsMoment, last_moment}
 use Rattle.tcp_tie.specs.Pair.History.{pasts, side_of, adds}
 use Rattle.tcp_tie.specs.Pair.Sides.{Both, at, put}
-use Rattle.tcp_tie.specs.Pair.Steps.{Steps, acting, at_clock, happens, if_so, may_come, refusal}
+use Rattle.tcp_tie.specs.Pair.Steps.{acting, happens, if_so, may_come, refusal}
 use Rattle.tcp_tie.specs.Pair.Values.{PairSide, PairValue}
 use Rattle.tcp_tie.specs.Tie.{Past}
 use Rattle.tcp_tie.specs.declared.pair.event.PairEvent.{PairEvent}
@@ -18,7 +18,7 @@ use Rattle.lan.specs.Worlds.AtLink.Kinds.{other}
 use Rattle.lan.specs.Worlds.AtLink.History.{opening}
 use Rattle.lan.specs.Worlds.AtLink.Parties.{Net, Party, party, socket_at}
 use Rattle.lan.specs.Worlds.AtLink.Parties.Socket.{Tcp}
-use Rattle.lan.specs.Worlds.AtLink.Paired.{GoesOn, HasSent, IsOf, IsOfSocket, Seat, Shows, side_in, told}
+use Rattle.lan.specs.Worlds.AtLink.Paired.{HasSent, IsOf, IsOfSocket, Seat, Shows, side_in, told}
 use Rattle.lan.proofs.Worlds.Moves.Nets.{either_side}
 use Rattle.lan.proofs.Worlds.AtLink.Paired.Parts.{at_put, at_put_other, put_same}
 

@@ -1,5 +1,5 @@
 -- An offer of a socket of the pair, and a segment that comes to one, are events of the pair.
-use Rattle.std.proofs.Common.{◌≡◌, ◌≢◌, ◌⊎◌, inl, inr, ℕ, zero, suc, ℤ, ◌<◌, ◌≤◌, Bool, true, false, if◌then◌else◌, not, List, [], ◌∷◌, ◌++◌, length, map, Option, Some, None, IfSome}
+use Rattle.std.proofs.Common.{◌≡◌, ◌⊎◌, inl, inr, ℕ, zero, suc, ℤ, ◌<◌, ◌≤◌, Bool, true, false, if◌then◌else◌, not, List, [], ◌∷◌, ◌++◌, length, map, Option, Some, None, IfSome}
 use Rattle.std.proofs.Common.{refl, sym, ap, ◌∙◌, subst, arith}
 use Rattle.std.proofs.lemmas.Bool.{cases_lt}
 use Rattle.std.proofs.lemmas.Bool.Decides.{nat_tests}
@@ -9,15 +9,14 @@ use Rattle.std.specs.Prelude.{◌≤ℤ◌, slice_get, nat_lt}
 use Rattle.ip_wire.specs.Ip.{source_of, destination_of}
 use Rattle.ip_wire.specs.IpAddress.{IpAddress}
 use Rattle.ip_wire.specs.IpRepr.{IpRepr}
-use Rattle.ip_wire.specs.Tcp.{normal}
 use Rattle.ip_wire.specs.TcpHeader.{TcpHeader}
 use Rattle.sockets.specs.Context.{ContextValue}
-use Rattle.tcp_tie.specs.Host.{Made, made_of, source_port, MayCome, and_answer, and_offer}
-use Rattle.tcp_tie.specs.Pair.History.{pasts, side_of}
+use Rattle.tcp_tie.specs.Host.{Made, made_of, MayCome, and_answer, and_offer}
+use Rattle.tcp_tie.specs.Pair.History.{pasts}
 use Rattle.tcp_tie.specs.Pair.Sides.{at}
 use Rattle.tcp_tie.specs.Pair.Sides as Sides
-use Rattle.tcp_tie.specs.Pair.Steps.{acting, acts, at_clock, comes_to, handed, happens, if_so, offered_at, refusal, taken_at, with_random}
-use Rattle.tcp_tie.specs.Pair.Values.{HostContext, PairSide, PairValue, and_reply, context_at, context_on}
+use Rattle.tcp_tie.specs.Pair.Steps.{acting, at_clock, handed, happens, if_so, offered_at, refusal, taken_at, with_random}
+use Rattle.tcp_tie.specs.Pair.Values.{PairSide, PairValue, and_reply, context_at, context_on}
 use Rattle.tcp_tie.specs.Pair.Values as Values
 use Rattle.tcp_tie.specs.declared.pair.event.PairEvent.{PairEvent}
 use Rattle.tcp_tie.specs.declared.pair.event.PairEvent.TheVariants.{Deliver, Offer}
@@ -49,10 +48,10 @@ use Rattle.lan.proofs.Worlds.AtLink.PartnerLemmas.{AreApart, opened_apart}
 use Rattle.lan.proofs.Worlds.AtLink.Places.{some_is}
 use Rattle.lan.proofs.Worlds.AtLink.Speaking.{partner_port}
 use Rattle.lan.proofs.Worlds.AtLink.StreamInvariant.{SpeaksWith}
-use Rattle.lan.proofs.Worlds.AtLink.Paired.Elsewhere.{accepting_opened, all_append, answer_port, answers_more, more_of_socket, offer_port, offers_more, spoken}
+use Rattle.lan.proofs.Worlds.AtLink.Paired.Elsewhere.{accepting_opened, answer_port, answers_more, more_of_socket, offer_port, offers_more, spoken}
 use Rattle.lan.proofs.Worlds.AtLink.Paired.Elsewhere.{unopened_silent}
-use Rattle.lan.proofs.Worlds.AtLink.Paired.Parts.{at_put, back_in, from_get, from_more, get_below, map_get, other_in}
-use Rattle.lan.proofs.Worlds.AtLink.Paired.Shown.{Far, Near, may_be, shows_event}
+use Rattle.lan.proofs.Worlds.AtLink.Paired.Parts.{back_in, from_get, from_more, get_below, map_get, other_in}
+use Rattle.lan.proofs.Worlds.AtLink.Paired.Shown.{Far, may_be, shows_event}
 
 -- the exchanged socket is there
 pub socket_set : (p : Party) (place : ℕ) (old new : Socket) → socket_at p place ≡ Some old → socket_at (with_socket p place new) place ≡ Some new

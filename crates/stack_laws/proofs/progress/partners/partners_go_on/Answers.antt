@@ -1,4 +1,4 @@
-use Rattle.std.proofs.Common.{◌≡◌, subst, sym}
+use Rattle.std.proofs.Common.{subst, sym}
 use Rattle.tcp_tie.specs.Pair.Steps.{Steps}
 use Rattle.tcp_progress.proofs.CourseThrough.{through_whatever}
 use Rattle.tcp_progress.proofs.CourseWindows.{gets_on}
