@@ -5,7 +5,7 @@ ghost use Rattle.interface_ingress.specs.HardwareAddress.{HardwareAddress};
 ghost use Rattle.interface.specs.IpRepr.TheVariants as Ip;
 ghost use Rattle.interface.specs.Ipv4Repr.{Ipv4Repr};
 ghost use Rattle.interface_ingress.specs.ArpRepr.{ArpRepr};
-ghost use Rattle.sockets.specs.Packet.{PacketValue, PayloadValue};
+ghost use Rattle.sockets.specs.Packet.{PacketValue};
 ghost use Rattle.lan.specs.Worlds.AtLink.Inner.{InnerValue};
 ghost use Rattle.lan.specs.Worlds.AtLink.Slots.{without_expired};
 ghost use Rattle.lan.specs.Worlds.AtLink.Departure.{Tells};
@@ -31,7 +31,7 @@ ghost use Rattle.lan.specs.Worlds.AtLink.Origins.{medium_of};
 ghost use Rattle.interface.specs.Used.{sockets_in};
 ghost use Rattle.lan.specs.Worlds.AtLink.Runs.{Leads, table_in};
 ghost use Rattle.lan.specs.Worlds.AtLink.Station.{Stations, station};
-ghost use Rattle.lan.specs.Worlds.Link.Made.{IsIn, BringsMade, IsGoing};
+ghost use Rattle.lan.specs.Worlds.Link.Made.{Addressed, IsIn, BringsMade, IsGoing};
 ghost use Rattle.lan.specs.Worlds.Link.Frames.{Outgoing, medium_on, IsAmong, IsNumbered, BringsFrom, AreOut};
 ghost use Rattle.lan.specs.Worlds.Link.Numbers.{AreNumbered, AreFew, IsTied, count_numbered};
 ghost use Rattle.lan.specs.Worlds.Link.Sides.{AreSent, IsHostFrame, IsDamage, IsReceiver, IsSender, IsStation, IsBetweenStations, WentOut};
@@ -40,7 +40,7 @@ ghost use Rattle.lan.specs.Worlds.Link.Sides.{AreSent, IsHostFrame, IsDamage, Is
 /// its place: a frame that the host sent, with any padding; one of which a word of its segment was exchanged for one of another sum, which
 /// brings no segment; a piece that the link made of one; bytes that name neither TCP nor UDP.
 pub fn frames_bring_what_was_made()
-    ensures sent { (made : List PayloadValue) (hardware : HardwareAddress) (out : List Outgoing) (frame padding : List ℕ)
+    ensures sent { (made : List Addressed) (hardware : HardwareAddress) (out : List Outgoing) (frame padding : List ℕ)
         → AreOut (IsIn made) out
         → IsHostFrame (medium_on hardware) out frame
         → BringsFrom (IsIn made) out hardware (frame ++ padding) }
@@ -50,13 +50,13 @@ pub fn frames_bring_what_was_made()
         → at ≤ part.len
         → at % 8 ≡ 0
         → IsHostFrame medium out (first_piece medium frame at) × IsHostFrame medium out (second_piece medium frame at) }
-    ensures damaged { (made : List PayloadValue) (hardware : HardwareAddress) (out : List Outgoing) (frame padding : List ℕ) (part : Part) (place word : ℕ)
+    ensures damaged { (made : List Addressed) (hardware : HardwareAddress) (out : List Outgoing) (frame padding : List ℕ) (part : Part) (place word : ℕ)
         → AreOut (IsIn made) out
         → IsHostFrame (medium_on hardware) out frame
         → tcp_part (medium_on hardware) frame ≡ Some part
         → IsDamage frame part place word
         → BringsFrom (IsIn made) out hardware (damaged frame part place word ++ padding) }
-    ensures noise { (made : List PayloadValue) (hardware : HardwareAddress) (out : List Outgoing) (bytes : List ℕ)
+    ensures noise { (made : List Addressed) (hardware : HardwareAddress) (out : List Outgoing) (bytes : List ℕ)
         → names_tcp_or_udp (medium_on hardware) bytes ≡ false
         → BringsFrom (IsIn made) out hardware bytes }
 {}
@@ -65,14 +65,14 @@ pub fn frames_bring_what_was_made()
 /// rebuilt is one packet's payload, since the other host gave each packet of IPv4, and each of IPv6 that it cut, a number of its own. The
 /// host stays one of which this can be said.
 pub fn what_is_taken_was_made()
-    ensures brings { (made : List PayloadValue) (first next : ℕ) (out : List Outgoing) (i : InnerValue) (timeout : ℕ) (slots : Slots) (frame : List ℕ)
+    ensures brings { (made : List Addressed) (first next : ℕ) (out : List Outgoing) (i : InnerValue) (timeout : ℕ) (slots : Slots) (frame : List ℕ)
         (rest : List (List ℕ)) (content : Option IncomingValue)
         → AreSent (IsIn made) first next out
         → AreFew out
         → IsReceiver (IsIn made) out i slots (frame ∷ rest)
         → IsContent i.hardware i.checksums frame content
         → BringsMade (IsIn made) (whole_after i timeout slots (taken_in i content)) }
-    ensures keeps { (made : List PayloadValue) (first next : ℕ) (out : List Outgoing) (i : InnerValue) (timeout : ℕ) (slots slots' : Slots) (places : Places)
+    ensures keeps { (made : List Addressed) (first next : ℕ) (out : List Outgoing) (i : InnerValue) (timeout : ℕ) (slots slots' : Slots) (places : Places)
         (frame : List ℕ) (rest : List (List ℕ)) (content : Option IncomingValue) (a : Arrived)
         → AreSent (IsIn made) first next out
         → AreFew out
@@ -80,7 +80,7 @@ pub fn what_is_taken_was_made()
         → IsContent i.hardware i.checksums frame content
         → ArrivesAs i timeout slots places content slots' a
         → IsReceiver (IsIn made) out a.inner slots' rest }
-    ensures expires { (made : List PayloadValue) (out : List Outgoing) (i : InnerValue) (slots : Slots) (waiting : List (List ℕ)) (moment : ℤ)
+    ensures expires { (made : List Addressed) (out : List Outgoing) (i : InnerValue) (slots : Slots) (waiting : List (List ℕ)) (moment : ℤ)
         → IsReceiver (IsIn made) out i slots waiting
         → IsReceiver (IsIn made) out i (without_expired slots moment) waiting }
 {}
@@ -109,25 +109,25 @@ pub fn one_number()
 /// piece; an ARP packet. A packet takes one number at most, and then its frame begins a datagram; the others take none. What arrives
 /// keeps it too.
 pub fn what_leaves_was_made()
-    ensures packet { (made : List PayloadValue) (first : ℕ) (out : List Outgoing) (i i' : InnerValue) (l l' : Option LeftValue) (d d' : PortValue)
+    ensures packet { (made : List Addressed) (first : ℕ) (out : List Outgoing) (i i' : InnerValue) (l l' : Option LeftValue) (d d' : PortValue)
         (p : PacketValue) (busy : Bool) (sent : Sent)
         → IsSender (IsIn made) first i l d.link.sent out
         → IsGoing (IsIn made) p
         → GoesOut PortMove d i l p (plan_of i busy p.header) sent d' i' l'
         → WentOut (IsIn made) first 1 out d.link.sent i' l' d'.link.sent }
-    ensures piece { (made : List PayloadValue) (first : ℕ) (out : List Outgoing) (i : InnerValue) (l : LeftValue) (l' : Option LeftValue) (d d' : PortValue)
+    ensures piece { (made : List Addressed) (first : ℕ) (out : List Outgoing) (i : InnerValue) (l : LeftValue) (l' : Option LeftValue) (d d' : PortValue)
         (gone : Bool)
         → IsSender (IsIn made) first i (Some l) d.link.sent out
         → PieceGoesOut PortMove d i l gone d' l'
         → WentOut (IsIn made) first 0 out d.link.sent i l' d'.link.sent }
-    ensures arp { (made : List PayloadValue) (first : ℕ) (out : List Outgoing) (i : InnerValue) (l : Option LeftValue) (d d' : PortValue) (packet : ArpRepr)
+    ensures arp { (made : List Addressed) (first : ℕ) (out : List Outgoing) (i : InnerValue) (l : Option LeftValue) (d d' : PortValue) (packet : ArpRepr)
         (gone : Bool)
         → IsSender (IsIn made) first i l d.link.sent out
         → IsStation i.hardware
         → IsBetweenStations packet
         → Departs PortMove d i (Tells packet) gone d'
         → WentOut (IsIn made) first 0 out d.link.sent i l d'.link.sent }
-    ensures arrival { (made : List PayloadValue) (first : ℕ) (out : List Outgoing) (i : InnerValue) (l : Option LeftValue) (sent : List (List ℕ))
+    ensures arrival { (made : List Addressed) (first : ℕ) (out : List Outgoing) (i : InnerValue) (l : Option LeftValue) (sent : List (List ℕ))
         (places : Places) (content : Option IncomingValue) (a : Arrived)
         → IsSender (IsIn made) first i l sent out
         → Brings i places content a

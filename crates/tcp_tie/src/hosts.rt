@@ -2,6 +2,8 @@
 
 ghost use Rattle.std.specs.Prelude.{◌≡◌, ◌≢◌, ◌⊎◌, ◌==◌, ◌++◌, ℕ, true, if◌then◌else◌, List, [], ◌∷◌, Some, slice_get};
 ghost use Rattle.std.specs.List.{AllByRecursion};
+ghost use Rattle.ip_wire.specs.Ip.{source_of, destination_of};
+ghost use Rattle.ip_wire.specs.IpAddress.{IpAddress};
 ghost use Rattle.ip_wire.specs.IpRepr.{IpRepr};
 ghost use Rattle.ip_wire.specs.Tcp.{normal};
 ghost use Rattle.ip_wire.specs.TcpHeader.{TcpHeader};
@@ -14,7 +16,7 @@ ghost use Rattle.tcp_model.specs.Opening.{is_first_syn};
 ghost use Rattle.tcp_model.specs.Settled.{settled};
 ghost use Rattle.tcp_model.specs.Value.{TcpValue};
 ghost use Rattle.tcp_tie.specs.Endpoints.{Ports, HasPorts};
-ghost use Rattle.tcp_tie.specs.Host.{Made, made_of, sent_from, past_at, IsAmong, and_answer, and_offer};
+ghost use Rattle.tcp_tie.specs.Host.{Made, source_port, destination_port, seen_of, sent_from, past_at, IsAmong, MayCome, and_answer, and_offer};
 ghost use Rattle.tcp_tie.specs.Promises.{KeepsAlone};
 ghost use Rattle.tcp_tie.specs.Tie.{Past, Keeps, segment_of};
 
@@ -22,10 +24,10 @@ ghost use Rattle.tcp_tie.specs.Tie.{Past, Keeps, segment_of};
 #[tactic(auto, using(crate::proofs::HostLaws::one_more, crate::proofs::HostLaws::among_sent, crate::proofs::HostLaws::resets_from))]
 pub fn segments_of_a_host()
     ensures more { (port : ℕ) (made : List Made) (x : Made)
-        → sent_from port (made ++ x ∷ []) ≡ (if x.source == port then sent_from port made ++ x.segment ∷ [] else sent_from port made) }
-    ensures among { (port : ℕ) (made : List Made) (x : Made) → IsAmong made x → x.source ≡ port
-        → (k : ℕ) × (slice_get (sent_from port made) k ≡ Some x.segment) }
-    ensures resets { (port : ℕ) (made : List Made) → AllByRecursion (λ x. x.source ≡ port → x.segment.control ≡ Rst) made
+        → sent_from port (made ++ x ∷ []) ≡ (if source_port x == port then sent_from port made ++ seen_of x ∷ [] else sent_from port made) }
+    ensures among { (port : ℕ) (made : List Made) (x : Made) → IsAmong made x → source_port x ≡ port
+        → (k : ℕ) × (slice_get (sent_from port made) k ≡ Some (seen_of x)) }
+    ensures resets { (port : ℕ) (made : List Made) → AllByRecursion (λ x. source_port x ≡ port → (seen_of x).control ≡ Rst) made
         → AreResets (sent_from port made) }
 {}
 
@@ -35,17 +37,17 @@ pub fn segments_of_a_host()
 pub fn hosts_keep_the_invariant()
     ensures arrival { (cx : ContextValue) (v w : TcpValue) (p q : Past) (ip : IpRepr) (header : TcpHeader) (bytes : List ℕ)
         (made theirs : List Made) → Keeps v (past_at header.dst_port made p) w (past_at header.src_port theirs q)
-        → IsAmong theirs (made_of header bytes)
+        → MayCome theirs (source_of ip) (destination_of ip) header bytes
         → Keeps (arrives cx v ip header bytes).socket
         (past_at header.dst_port (and_answer made (arrives cx v ip header bytes).answer) p) w (past_at header.src_port theirs q) }
-    ensures offer { (cx : ContextValue) (v w : TcpValue) (p q : Past) (o : Ports) (made : List Made)
+    ensures offer { (cx : ContextValue) (v w : TcpValue) (p q : Past) (o : Ports) (made : List Made) (from : IpAddress)
         → Keeps v (past_at o.local made p) w q → HasPorts o v.block
         → Keeps (settled true (offer_of cx v).socket)
-        (past_at o.local (and_offer made (offer_of cx v).socket.offered (offer_of cx v).socket.queued.queue) p) w q }
+        (past_at o.local (and_offer made from (offer_of cx v).socket.offered (offer_of cx v).socket.queued.queue) p) w q }
     ensures reset { (v w : TcpValue) (p q : Past) (port : ℕ) (made : List Made) (x : Made) → Keeps v (past_at port made p) w q
-        → x.segment.control ≡ Rst → Keeps v (past_at port (made ++ x ∷ []) p) w q }
+        → (seen_of x).control ≡ Rst → Keeps v (past_at port (made ++ x ∷ []) p) w q }
     ensures elsewhere { (v w : TcpValue) (p q : Past) (port : ℕ) (made : List Made) (x : Made) → Keeps v (past_at port made p) w q
-        → x.source ≢ port → Keeps v (past_at port (made ++ x ∷ []) p) w q }
+        → source_port x ≢ port → Keeps v (past_at port (made ++ x ∷ []) p) w q }
 {}
 
 /// A reset of another host comes to a socket without a partner.
@@ -57,9 +59,13 @@ pub fn hosts_keep_a_socket_alone()
         (past_at header.dst_port (and_answer made (arrives cx v ip header bytes).answer) p) }
 {}
 
-/// A segment that was emitted and read again, which gives its normal form, is seen as it was sent.
+/// A segment that was emitted and read again, which gives its normal form, is seen as it was sent. So is each that may come, with the
+/// ports that it was made with.
+#[tactic(auto, using(crate::proofs::HostLaws::comes_as_made))]
 pub fn normal_segments_are_seen_alike()
     ensures segment { (header : TcpHeader) (bytes : List ℕ) → segment_of (normal header) bytes ≡ segment_of header bytes }
-    ensures made { (header : TcpHeader) (bytes : List ℕ) → made_of (normal header) bytes ≡ made_of header bytes }
+    ensures made { (made : List Made) (from to : IpAddress) (header : TcpHeader) (bytes : List ℕ) → MayCome made from to header bytes
+        → (x : Made) × IsAmong made x × (source_port x ≡ header.src_port) × (destination_port x ≡ header.dst_port)
+        × (seen_of x ≡ segment_of header bytes) }
     ensures opening { (header : TcpHeader) → is_first_syn (normal header) ≡ is_first_syn header }
 {}

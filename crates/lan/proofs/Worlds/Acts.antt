@@ -77,7 +77,7 @@ module _ (firsts most most' : Side → ℕ) (hosts new : Stations) (net : Net) (
   rested p q first own out out' s s' same more sends receives = (
     subst (λ (x : StationValue). Sends p first x own) (sym same) sends,
     subst (λ (x : StationValue). Receives q out' x) (sym same)
-        (receiver_grows out out' more (MadeBy q) (MadeBy q) (λ x was. was) s.host.inner s.host.slots s.link.waiting receives),
+        (receiver_grows out out' more (MadeBy q) (MadeBy q) (λ source destination x was. was) s.host.inner s.host.slots s.link.waiting receives),
   )
 
   pub acted_joins : (side : Side) → station new (other side) ≡ station hosts (other side) → most (other side) ≤ most' (other side) → Acted side →

@@ -3,6 +3,8 @@ use Rattle.std.proofs.Common.{◌≡◌, ◌⊎◌, inl, inr, ℕ, ◌+◌, ◌�
 use Rattle.lan_base.specs.ChecksumCapabilities.{ChecksumCapabilities}
 use Rattle.lan_base.specs.Device.{Took, Empty, Allowed}
 use Rattle.interface.specs.Ip as Ips
+use Rattle.interface.specs.Ip.{source_of, destination_of}
+use Rattle.interface_ingress.specs.IpAddress.{IpAddress}
 use Rattle.interface.specs.IpRepr.{IpRepr}
 use Rattle.interface.specs.IpRepr.TheVariants as Ip
 use Rattle.sockets.specs.Packet.{PacketValue, PayloadValue, ControlV4, ControlV6, Bytes, Datagram, Segment, payload_written}
@@ -66,23 +68,27 @@ taken_sent t d d' frame is = sym (ap (λ (p : PortValue). p.link.sent) is.1)
 -- WHAT WAS MADE
 
 -- what goes has the form that the link wants
-going_by : (p : Party) (h : IpRepr) (x : PayloadValue) → FitsBehind h x → MadeBy p x →
-    CarriesNone (Ips.normal h) (payload_written sealed h x) ⊎ (CanBeRead h x × MadeBy p (normal_payload x))
-going_by p h (ControlV4 message bytes) fits made = inr (fits, tt)
-going_by p h (ControlV6 message bytes) fits made = inr (fits, tt)
-going_by p h (Bytes bytes) fits made = inl fits
-going_by p h (Datagram udp bytes) fits made = inr (fits, made)
-going_by p h (Segment header bytes) fits made = inr (fits, made)
+going_by : (p : Party) (from to : IpAddress) (h : IpRepr) (x : PayloadValue) → FitsBehind h x → MadeBy p from to (normal_payload x) →
+    CarriesNone (Ips.normal h) (payload_written sealed h x) ⊎ (CanBeRead h x × MadeBy p from to (normal_payload x))
+going_by p from to h (ControlV4 message bytes) fits made = inr (fits, tt)
+going_by p from to h (ControlV6 message bytes) fits made = inr (fits, tt)
+going_by p from to h (Bytes bytes) fits made = inl fits
+going_by p from to h (Datagram udp bytes) fits made = inr (fits, made)
+going_by p from to h (Segment header bytes) fits made = inr (fits, made)
 
 going : (p : Party) (x : PacketValue) → IsWide x → IsMade p x → IsGoing (MadeBy p) x
-going p x wide made = record { offered = wide.offered; carries = going_by p x.header x.payload wide.fits made }
+going p x wide made = record { offered = wide.offered; carries = going_by p (source_of x.header) (destination_of x.header) x.header x.payload wide.fits made }
 
-pub more_made : (p p' : Party) → Grows p p' → (x : PayloadValue) → MadeBy p x → MadeBy p' x
-more_made p p' grows (ControlV4 message bytes) made = tt
-more_made p p' grows (ControlV6 message bytes) made = tt
-more_made p p' grows (Bytes bytes) made = tt
-more_made p p' grows (Datagram udp bytes) made = grows.datagrams (datagram_of udp bytes) made
-more_made p p' grows (Segment header bytes) made = grows.segments (made_of header bytes) made
+pub more_made : (p p' : Party) → Grows p p' → (from to : IpAddress) (x : PayloadValue) → MadeBy p from to x → MadeBy p' from to x
+more_made p p' grows from to (ControlV4 message bytes) made = tt
+more_made p p' grows from to (ControlV6 message bytes) made = tt
+more_made p p' grows from to (Bytes bytes) made = tt
+more_made p p' grows from to (Datagram udp bytes) made = grows.datagrams (datagram_of udp bytes) made
+more_made p p' grows from to (Segment header bytes) made = record {
+  written = made.written;
+  among = grows.segments (made_of from to made.written bytes) made.among;
+  read = made.read;
+}
 
 pub sender_grows : (p p' : Party) (first : ℕ) (i : InnerValue) (l : Option LeftValue) (sent : List (List ℕ)) (out : List Outgoing) → Grows p p' →
     IsSender (MadeBy p) first i l sent out → IsSender (MadeBy p') first i l sent out
@@ -103,7 +109,7 @@ hands_so q caps ip payload are hands = subst (λ (c : ChecksumCapabilities). Mov
   datagrams = λ udp bytes is. hands (Datagram udp bytes) is;
 })
 
-brings_so : (q : Party) (caps : ChecksumCapabilities) (content : Option IncomingValue) → caps ≡ sealed → Links.BringsMade (MadeBy q) content →
+pub brings_so : (q : Party) (caps : ChecksumCapabilities) (content : Option IncomingValue) → caps ≡ sealed → Links.BringsMade (MadeBy q) content →
     Moves.BringsMade q caps content
 brings_so q caps None are brings = tt
 brings_so q caps (Some (Arp link packet)) are brings = tt

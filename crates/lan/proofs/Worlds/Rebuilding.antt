@@ -7,7 +7,7 @@ use Rattle.lan_base.specs.ChecksumCapabilities.{ChecksumCapabilities}
 use Rattle.lan_base.specs.Medium.{Medium}
 use Rattle.ip_address.specs.declared.ipv4.Ipv4FragKey.{Ipv4FragKey}
 use Rattle.interface.specs.Ip as Ips
-use Rattle.interface.specs.Ip.{carried_in}
+use Rattle.interface.specs.Ip.{carried_in, source_of, destination_of}
 use Rattle.interface.specs.IpRepr.{IpRepr}
 use Rattle.interface.specs.Ipv4Repr.{Ipv4Repr}
 use Rattle.interface.specs.Ipv6 as Ipv6
@@ -72,8 +72,8 @@ either_is a b same (inl tcp) = inl (same ∙ tcp)
 either_is a b same (inr udp) = inr (same ∙ udp)
 
 -- a control message isn't named so, and bytes alone aren't named
-has_made : (q : Party) (header : IpRepr) (x : PayloadValue) → CanBeRead header x → IsTcpOrUdp (told (carried_in header)) → MadeBy q (normal_payload x) →
-    HasMade q (normal_payload x)
+has_made : (q : Party) (header : IpRepr) (x : PayloadValue) → CanBeRead header x → IsTcpOrUdp (told (carried_in header)) →
+    MadeBy q (source_of header) (destination_of header) (normal_payload x) → HasMade q header (normal_payload x)
 has_made q header (ControlV4 message bytes) named ports made = absurd (not_icmp (carried_in header) named.0 ports)
 has_made q header (ControlV6 message bytes) named ports made = absurd (not_icmpv6 (carried_in header) named.0 ports)
 has_made q header (Bytes bytes) named ports made = absurd named
@@ -175,7 +175,7 @@ upper_is (Protocol.Unknown n) ports = absurd (other_upper ports)
 module _ (q : Party) (first next : ℕ) (out : List Outgoing) (sent : AreSent (MadeBy q) first next out) where
   -- a packet that carries TCP or UDP was made
   made_by : (p : PacketValue) → IsAmong p out → IsTcpOrUdp (carried_in (upper_header (Ips.normal p.header) (bytes_of p))) →
-      IsTcpOrUdp (told (carried_in p.header)) → CanBeRead p.header p.payload × HasMade q (normal_payload p.payload)
+      IsTcpOrUdp (told (carried_in p.header)) → CanBeRead p.header p.payload × HasMade q p.header (normal_payload p.payload)
   made_by p among ports known = elim (sent.packets p among).going.carries [
     | inl none ↦ absurd (not_both (carried_in (upper_header (Ips.normal p.header) (bytes_of p))) none.0 ports)
     | inr reads ↦ (reads.0, has_made q p.header p.payload reads.0 known reads.1)

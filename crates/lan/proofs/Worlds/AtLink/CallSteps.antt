@@ -9,7 +9,7 @@ use Rattle.tcp_tie.specs.Segment.Control.{Rst}
 use Rattle.tcp_tie.specs.Side as Law
 use Rattle.tcp_tie.specs.Side.Opening.{NotYet}
 use Rattle.tcp_tie.specs.Endpoints.{HasPorts}
-use Rattle.tcp_tie.specs.Host.{Made, sent_from, past_at}
+use Rattle.tcp_tie.specs.Host.{Made, source_port, seen_of, sent_from, past_at}
 use Rattle.tcp_tie.specs.Promises.{IsFresh, KeepsAlone}
 use Rattle.tcp_tie.specs.Tie.{Past, Keeps, no_past}
 use Rattle.tcp_tie.proofs.AloneLaws.{stays_alone}
@@ -162,10 +162,10 @@ module _
   -- THE OPENING
 
   all_resets : (o : Opening) → MayOpen places h side at o → (xs : List Made) → Each (SegmentOk h side) xs →
-      AllByRecursion (λ x. x.source ≡ o.local → x.segment.control ≡ Rst) xs
+      AllByRecursion (λ x. source_port x ≡ o.local → (seen_of x).control ≡ Rst) xs
   all_resets o may [] all = tt
   all_resets o may (x ∷ xs) all = (by all.0, all_resets o may xs all.1) where
-    by : SegmentOk h side x → x.source ≡ o.local → x.segment.control ≡ Rst
+    by : SegmentOk h side x → source_port x ≡ o.local → (seen_of x).control ≡ Rst
     by (inl rst) from = rst
     by (inr s) from = absurd ((apart_from_opened places h side at s.place o s.by allowed.1 may s.opened).local (sym from ∙ sym s.from))
 

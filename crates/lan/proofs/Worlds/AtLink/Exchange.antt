@@ -2,7 +2,7 @@
 use Rattle.std.proofs.Common.{◌≡◌, ◌≢◌, ◌⊎◌, inl, inr, ℕ, List, [], ◌∷◌, ◌++◌, Option, Some, None, refl, sym, ap, ◌∙◌, subst}
 use Rattle.tcp_tie.specs.Segment.Control.{Rst}
 use Rattle.tcp_tie.specs.Endpoints.{HasPorts}
-use Rattle.tcp_tie.specs.Host.{Made, past_at}
+use Rattle.tcp_tie.specs.Host.{Made, source_port, destination_port, seen_of, past_at}
 use Rattle.tcp_tie.specs.Promises.{KeepsAlone}
 use Rattle.tcp_tie.specs.Tie.{Past, Keeps}
 use Rattle.tcp_tie.proofs.HostLaws.{keeps_made_elsewhere, keeps_made_reset}
@@ -28,7 +28,7 @@ same_tcp v w e = cc
 -- one segment more, or none, from the socket's port to one that it speaks with
 abbrev pub IsMore : List Entry → Side → Opening → List Made → List Made → Type 0
 IsMore h side o made made' =
-    (made' ≡ made) ⊎ ((x : Made) × (made' ≡ made ++ x ∷ []) × (x.source ≡ o.local) × SpeaksWith h side o x.destination)
+    (made' ≡ made) ⊎ ((x : Made) × (made' ≡ made ++ x ∷ []) × (source_port x ≡ o.local) × SpeaksWith h side o (destination_port x))
 
 more_made : (h : List Entry) (side : Side) (at : ℕ) (o : Opening) (made made' : List Made) → opening h side at ≡ Some o → IsMore h side o made made' →
     Each (SegmentOk h side) made → Each (SegmentOk h side) made'
@@ -183,7 +183,7 @@ all_kept h h' side p q made' stay same made keeps = record {
   sockets = λ i v is. inr (record { was = is; same = (same side i).0; told_same = (same side i).1; keeps = λ o opened. keeps o.local });
 }
 
-pub reset_made : (h : List Entry) (side : Side) (p q : Party) (x : Made) → x.segment.control ≡ Rst → Each (SegmentOk h side) p.segments →
+pub reset_made : (h : List Entry) (side : Side) (p q : Party) (x : Made) → (seen_of x).control ≡ Rst → Each (SegmentOk h side) p.segments →
     HostSteps h h side p (record p { segments = p.segments ++ x ∷ [] }) q
 reset_made h side p q x rst made =
     all_kept h h side p q (p.segments ++ x ∷ []) (λ s i o e. e) (λ s i. (refl, refl)) (each_append (SegmentOk h side) p.segments (x ∷ []) made (inl rst, tt))

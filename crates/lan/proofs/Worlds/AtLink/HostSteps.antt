@@ -4,7 +4,7 @@ use Rattle.std.proofs.Common.{append-nil}
 use Rattle.tcp_tie.specs.Segment.Control.{Rst}
 use Rattle.tcp_tie.specs.Side as Law
 use Rattle.tcp_tie.specs.Endpoints.{HasPorts}
-use Rattle.tcp_tie.specs.Host.{Made, past_at}
+use Rattle.tcp_tie.specs.Host.{Made, destination_port, past_at}
 use Rattle.tcp_tie.specs.Promises.{KeepsAlone}
 use Rattle.tcp_tie.specs.Tie.{Past, Keeps, no_past}
 use Rattle.tcp_tie.proofs.AloneLaws.{stays_alone}
@@ -65,7 +65,7 @@ segment_stays h h' side stay x (inr s) =
       opened = stay side s.place s.by s.opened;
       from = s.from;
       to =
-          speaks_stay h h' side s.by x.destination stay s.to;
+          speaks_stay h h' side s.by (destination_port x) stay s.to;
     })
 
 pub segments_stay : (h h' : List Entry) (side : Side) (xs : List Made) → Stay h h' → Each (SegmentOk h side) xs → Each (SegmentOk h' side) xs

@@ -1,6 +1,7 @@
 -- Each run is safe.
 use Rattle.std.proofs.Common.{◌≡◌, ◌≢◌, ◌⊎◌, inl, inr, ℕ, Bool, true, false, List, [], ◌∷◌, ◌++◌, length, map, Option, Some, None, refl, sym, ap, ◌∙◌, subst}
-use Rattle.std.proofs.Common.{arith}
+use Rattle.std.proofs.Common.{IfSome, arith}
+use Rattle.ip_wire.specs.Ip.{source_of, destination_of}
 use Rattle.ip_wire.specs.IpRepr.{IpRepr}
 use Rattle.ip_wire.specs.TcpHeader.{TcpHeader}
 use Rattle.ip_wire.specs.UdpRepr.{UdpRepr}
@@ -12,7 +13,7 @@ use Rattle.sockets.specs.Udp as Udps
 use Rattle.sockets.specs.Udp.{UdpValue}
 use Rattle.tcp_tie.specs.Safe.{IsPrefixOf}
 use Rattle.tcp_tie.specs.Segment.Control.{Rst}
-use Rattle.tcp_tie.specs.Host.{Made, made_of, past_at, IsAmong, and_answer}
+use Rattle.tcp_tie.specs.Host.{Made, seen_of, past_at, MayCome, and_answer}
 use Rattle.tcp_tie.specs.Promises.{AreSafeSockets}
 use Rattle.tcp_tie.proofs.PromiseLemmas.{safe_sockets, alone_nothing}
 use Rattle.lan.proofs.Worlds.AtLink.SendQueues.{alone_queue, pair_rest}
@@ -35,6 +36,7 @@ use Rattle.lan.proofs.Worlds.AtLink.PartnerLemmas.{partners_turned}
 use Rattle.lan.specs.Worlds.AtLink.Parties.{Socket, Datagram, Party, socket_at, kind_in, WasMade, Net, party, with_party, places_of, datagrams_of}
 use Rattle.lan.specs.Worlds.AtLink.Parties.Socket.{Tcp, Udp, Icmp, Raw}
 use Rattle.lan.specs.Worlds.AtLink.Moves.{Move, with_socket, offered_segments, Does, IsNoCall, LooksSame, party_after, history_after, May, Step, after, IsRun, run}
+use Rattle.lan.specs.Worlds.AtLink.Moves.{LeavesFrom}
 use Rattle.lan.specs.Worlds.AtLink.Moves.Move.{Invokes, Passes, Offers, Gives, Takes, Receives, Resets, Changes}
 use Rattle.lan.specs.Worlds.AtLink.PacketsSafe.{IsFreshSocket, IsFreshParty, IsFreshNet, IsTcpAt, taken_in, HasNothing, IsSafe}
 use Rattle.lan.proofs.Worlds.AtLink.Lists.{Each}
@@ -54,14 +56,15 @@ MayFrom places h side p q (Invokes place cx old entry call new) =
     (socket_at p place ≡ Some old) × (kind_of entry.event ≡ calls side place call) × IsAllowed places h (kind_of entry.event) ×
     Does cx old call entry.answer entry.found new
 MayFrom places h side p q (Passes entry) = IsNoCall (kind_of entry.event)
-MayFrom places h side p q (Offers place cx v sent) = socket_at p place ≡ Some (Tcp v)
+MayFrom places h side p q (Offers place cx v from sent) =
+    (socket_at p place ≡ Some (Tcp v)) × IfSome (offer_of cx v).socket.offered (λ o. LeavesFrom cx from o.header)
 MayFrom places h side p q (Gives place cx v answer v' sent) = (socket_at p place ≡ Some (Udp v)) × Udps.Offers cx v answer v'
 MayFrom places h side p q (Takes place cx v ip header bytes) =
-    (socket_at p place ≡ Some (Tcp v)) × (accepts v.block ip header ≡ true) × IsAmong q.segments (made_of header bytes)
+    (socket_at p place ≡ Some (Tcp v)) × (accepts v.block ip header ≡ true) × MayCome q.segments (source_of ip) (destination_of ip) header bytes
 MayFrom places h side p q (Receives place cx v ip udp bytes) =
     (socket_at p place ≡ Some (Udp v)) × (Udps.accepts cx v ip udp ≡ true) ×
     WasMade q (record { source = udp.src_port; destination = udp.dst_port; bytes = bytes })
-MayFrom places h side p q (Resets x) = x.segment.control ≡ Rst
+MayFrom places h side p q (Resets x) = (seen_of x).control ≡ Rst
 MayFrom places h side p q (Changes place old new) = (socket_at p place ≡ Some old) × LooksSame old new
 
 same_udp : (v w : UdpValue) → Udp v ≡ Udp w → v ≡ w
@@ -107,9 +110,9 @@ module _ (starts : Side → ℕ → ℕ) (places : Places) (h : List Entry) (sid
   moved : (move : Move) → MayFrom places h side p q move → KeptFrom starts places (history_after h move) side (party_after p move) q
   moved (Invokes place cx old entry call new) may = invoked starts places h entry side p q place call may.1 k may.2 cx old new may.0 may.3
   moved (Passes entry) may = passes starts places h entry side p q k may
-  moved (Offers place cx v sent) may =
-      tcp_still place v (settled sent (offer_of cx v).socket) (offered_segments sent p (offer_of cx v).socket) may
-      (wire.offers places h side p q place v k.allowed may k.mine.streams k.pairs cx sent)
+  moved (Offers place cx v from sent) may =
+      tcp_still place v (settled sent (offer_of cx v).socket) (offered_segments sent p from (offer_of cx v).socket) may.0
+      (wire.offers places h side p q place v k.allowed may.0 k.mine.streams k.pairs cx from sent)
   moved (Gives place cx v answer v' sent) may =
       let ok = k.mine.datagrams.sockets place v may.0 in
       let gave = gives starts h side place cx v answer v' may.1 ok in

@@ -2,11 +2,12 @@
 use Rattle.std.proofs.Common.{◌≡◌, ◌≢◌, ◌⊎◌, inl, inr, ℕ, ◌==◌, ◌&&◌, ◌||◌, Bool, true, false, List, [], ◌∷◌, Option, Some, None, is_some, refl, sym, ap, ◌∙◌}
 use Rattle.std.proofs.Common.{subst, eq-eqb}
 use Rattle.std.proofs.lemmas.Bool.{eqb-true, and_parts}
+use Rattle.ip_wire.specs.Ip.{source_of, destination_of}
 use Rattle.ip_wire.specs.IpRepr.{IpRepr}
 use Rattle.ip_wire.specs.TcpHeader.{TcpHeader}
 use Rattle.tcp_tie.specs.Segment.Control.{Rst}
 use Rattle.tcp_tie.specs.Endpoints.{IsFor, HasPorts, IsToward, CameBetween}
-use Rattle.tcp_tie.specs.Host.{Made, made_of}
+use Rattle.tcp_tie.specs.Host.{Made, made_of, source_port, destination_port}
 use Rattle.tcp_tie.specs.Tie.{control_of, segment_of}
 use Rattle.tcp_model.specs.EndpointPair.{EndpointPair}
 use Rattle.tcp_model.specs.Controls.{is_rst}
@@ -23,6 +24,10 @@ use Rattle.lan.specs.Worlds.AtLink.Tables.{Places, AreAllowed}
 use Rattle.lan.proofs.Worlds.AtLink.CallLemmas.{other_twice}
 use Rattle.lan.proofs.Worlds.AtLink.PartnerLemmas.{opened_apart, AreApart, one_partner}
 use Rattle.lan.proofs.Worlds.AtLink.StreamInvariant.{ports_of, ConnectsTo, SpeaksWith, TcpOk, WasSent, SegmentOk}
+
+-- a segment that comes
+abbrev pub come : IpRepr → TcpHeader → List ℕ → Made
+come ip header bytes = made_of (source_of ip) (destination_of ip) header bytes
 
 pub same_opening : (o p : Opening) → Some o ≡ Some p → o ≡ p
 same_opening o p e = cc
@@ -78,8 +83,8 @@ module _ (h : List Entry) (side : Side) (i : ℕ) (o : Opening) (opened : openin
 
   -- the sender of a segment to this port is the partner
   pub sender_is_partner :
-      (x : Made) → x.destination ≡ o.local → SpeaksWith h side o x.source → (s : WasSent h (other side) x) → (j : ℕ) × ArePartners h side i j
-  sender_is_partner x to (inr calls) s = (calls.1.place, caller_is_partner x.source calls.0 calls.1)
+      (x : Made) → destination_port x ≡ o.local → SpeaksWith h side o (source_port x) → (s : WasSent h (other side) x) → (j : ℕ) × ArePartners h side i j
+  sender_is_partner x to (inr calls) s = (calls.1.place, caller_is_partner (source_port x) calls.0 calls.1)
   sender_is_partner x to (inl remote) s = (
     s.place,
     record {
@@ -87,20 +92,20 @@ module _ (h : List Entry) (side : Side) (i : ℕ) (o : Opening) (opened : openin
       another = s.by;
       opened = opened;
       partner_opened = s.opened;
-      paired = paired_by o s.by x.source remote (sym s.from) (names_to h (other side) s.by o.local (subst (SpeaksWith h (other side) s.by) to s.to));
+      paired = paired_by o s.by (source_port x) remote (sym s.from) (names_to h (other side) s.by o.local (subst (SpeaksWith h (other side) s.by) to s.to));
     },
   )
 
   -- what an accepted segment tells
   pub accepted_speaks :
       (places : Places) → AreAllowed places h → (made : List Made) (v : TcpValue) (ip : IpRepr) (header : TcpHeader) (bytes : List ℕ)
-      → TcpOk h side made i v → IsFor v.block ip header → SegmentOk h (other side) (made_of header bytes) → (header.dst_port ≡ o.local) ×
+      → TcpOk h side made i v → IsFor v.block ip header → SegmentOk h (other side) (come ip header bytes) → (header.dst_port ≡ o.local) ×
       SpeaksWith h side o header.src_port
   accepted_speaks places allowed made v ip header bytes k is_for ok = by (is_listening v.block.state) refl ok where
     has : HasPorts (ports_of o) v.block
     has = k.ports o opened
 
-    called : o.remote ≡ None → header.dst_port ≡ o.local → WasSent h (other side) (made_of header bytes) → SpeaksWith h side o header.src_port
+    called : o.remote ≡ None → header.dst_port ≡ o.local → WasSent h (other side) (come ip header bytes) → SpeaksWith h side o header.src_port
     called none to s = by_sender s.to where
       by_sender : SpeaksWith h (other side) s.by header.dst_port → SpeaksWith h side o header.src_port
       by_sender (inl remote) = inr (none, record { place = s.place; by = s.by; opened = s.opened; from = s.from; to = remote ∙ ap (λ (n : ℕ). Some n) to })
@@ -115,7 +120,7 @@ module _ (h : List Entry) (side : Side) (i : ℕ) (o : Opening) (opened : openin
                 cc
             clash (inr apart) = apart.local (calls.1.from ∙ to)
 
-    by : (t : Bool) → is_listening v.block.state ≡ t → SegmentOk h (other side) (made_of header bytes) → (header.dst_port ≡ o.local) ×
+    by : (t : Bool) → is_listening v.block.state ≡ t → SegmentOk h (other side) (come ip header bytes) → (header.dst_port ≡ o.local) ×
         SpeaksWith h side o header.src_port
     by true e (inl rst) = absurd (not_rst header.control header bytes refl (is_for.listening e).2 rst)
     by true e (inr s) =

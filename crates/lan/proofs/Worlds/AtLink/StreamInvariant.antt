@@ -4,7 +4,7 @@ use Rattle.tcp_tie.specs.Segment.Control.{Rst}
 use Rattle.tcp_tie.specs.Side as Law
 use Rattle.tcp_tie.specs.Side.Opening.{NotYet, Passive, Active}
 use Rattle.tcp_tie.specs.Endpoints.{Ports, HasPorts, IsNameless}
-use Rattle.tcp_tie.specs.Host.{Made, past_at}
+use Rattle.tcp_tie.specs.Host.{Made, source_port, destination_port, seen_of, past_at}
 use Rattle.tcp_tie.specs.Promises.{IsFresh, KeepsAlone}
 use Rattle.tcp_tie.specs.Tie.{Past, Keeps, no_past}
 use Rattle.tcp_model.specs.EndpointPair.{EndpointPair}
@@ -69,12 +69,12 @@ pub record WasSent (h : List Entry) (side : Side) (x : Made) : Type 0 where
   pub place : ℕ
   pub by : Opening
   pub opened : opening h side place ≡ Some by
-  pub from : by.local ≡ x.source
-  pub to : SpeaksWith h side by x.destination
+  pub from : by.local ≡ source_port x
+  pub to : SpeaksWith h side by (destination_port x)
 
 -- each is a reset, or was sent by a socket
 abbrev pub SegmentOk : List Entry → Side → Made → Type 0
-SegmentOk h side x = (x.segment.control ≡ Rst) ⊎ WasSent h side x
+SegmentOk h side x = ((seen_of x).control ≡ Rst) ⊎ WasSent h side x
 
 -- A HOST, AND BOTH
 

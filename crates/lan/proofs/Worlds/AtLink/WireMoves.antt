@@ -2,13 +2,16 @@
 use Rattle.std.proofs.Common.{◌≡◌, ◌≢◌, ◌⊎◌, inl, inr, ℕ, ◌==◌, Bool, true, false, List, [], ◌∷◌, ◌++◌, length, Option, Some, None, is_some, refl, sym, ap, ◌∙◌}
 use Rattle.std.proofs.Common.{subst}
 use Rattle.std.specs.Prelude.{slice_get}
+use Rattle.ip_wire.specs.Ip.{source_of, destination_of}
+use Rattle.ip_wire.specs.IpAddress.{IpAddress}
 use Rattle.ip_wire.specs.IpRepr.{IpRepr}
+use Rattle.ip_wire.specs.Tcp.{normal}
 use Rattle.ip_wire.specs.TcpHeader.{TcpHeader}
 use Rattle.sockets.specs.Context.{ContextValue}
 use Rattle.sockets.specs.Polling.{Offered}
 use Rattle.tcp_tie.specs.Segment.Control.{Rst}
 use Rattle.tcp_tie.specs.Endpoints.{HasPorts, IsFor, IsNameless, KeepsNames, Forgets, KeepsOrForgets, IsLeftBy, IsRenamed, IsOpenedBy, FallsBack}
-use Rattle.tcp_tie.specs.Host.{Made, made_of, past_at, IsAmong, and_answer, and_offer}
+use Rattle.tcp_tie.specs.Host.{Made, made_of, made_by, past_at, MayCome, and_answer, and_offer}
 use Rattle.tcp_tie.specs.Promises.{IsFresh, KeepsAlone}
 use Rattle.tcp_tie.specs.Tie.{Core, core_of, Past, Keeps, segment_of}
 use Rattle.tcp_tie.proofs.AloneLaws.{stays_alone, reset_comes}
@@ -42,7 +45,7 @@ use Rattle.lan.specs.Worlds.AtLink.Parties.{Socket, Party, socket_at}
 use Rattle.lan.specs.Worlds.AtLink.Parties.Socket.{Tcp}
 use Rattle.lan.specs.Worlds.AtLink.Moves.{with_socket, offered_segments}
 use Rattle.lan.proofs.Worlds.AtLink.Lists.{Each, each_get}
-use Rattle.lan.proofs.Worlds.AtLink.Speaking.{partner_port, sender_is_partner, accepted_speaks}
+use Rattle.lan.proofs.Worlds.AtLink.Speaking.{come, partner_port, sender_is_partner, accepted_speaks}
 use Rattle.lan.proofs.Worlds.AtLink.StreamInvariant.{told, ports_of, IsUntouched, SpeaksWith, TcpOk, SegmentOk, StreamsOk, PairsOk}
 use Rattle.lan.proofs.Worlds.AtLink.HostSteps.{HostSteps}
 use Rattle.lan.proofs.Worlds.AtLink.Exchange.{IsMore, Exchanges, leaves_all, exchange_opened, exchange_untouched}
@@ -69,6 +72,16 @@ pair_kept old new pair (inr forgot) e = absurd (let none : None ≡ Some pair = 
 pub pair_left : (old new : Block) (pair : EndpointPair) → IsLeftBy old new → new.names.pair ≡ Some pair → old.names.pair ≡ Some pair
 pair_left old new pair (inl falls) e = absurd (let none : None ≡ Some pair = sym (ap (λ (n : Names). n.pair) falls.names) ∙ e in cc)
 pair_left old new pair (inr kept) e = pair_kept old new pair kept e
+
+-- a segment that comes is sent as it was made
+read_ok : (h : List Entry) (side : Side) (from to : IpAddress) (header written : TcpHeader) (bytes : List ℕ) → header ≡ normal written →
+    SegmentOk h side (made_of from to written bytes) → SegmentOk h side (made_of from to header bytes)
+read_ok h side from to header written bytes read ok =
+    subst (λ (x : TcpHeader). SegmentOk h side (made_of from to x bytes)) (sym read) (by ok)
+  where
+    by : SegmentOk h side (made_of from to written bytes) → SegmentOk h side (made_of from to (normal written) bytes)
+    by (inl rst) = inl rst
+    by (inr s) = inr (record { place = s.place; by = s.by; opened = s.opened; from = s.from; to = s.to })
 
 module _
     (places : Places) (h : List Entry) (side : Side) (p q : Party) (at : ℕ) (v : TcpValue) (allowed : AreAllowed places h)
@@ -112,66 +125,66 @@ module _
 
   -- OFFERS
 
-  offer_more : (cx : ContextValue) (o : Opening) → opening h side at ≡ Some o →
-      IsMore h side o p.segments (and_offer p.segments (offer_of cx v).socket.offered (offer_of cx v).socket.queued.queue)
-  offer_more cx o opened = by (offer_of cx v).socket.offered refl where
+  offer_more : (cx : ContextValue) (from : IpAddress) (o : Opening) → opening h side at ≡ Some o →
+      IsMore h side o p.segments (and_offer p.segments from (offer_of cx v).socket.offered (offer_of cx v).socket.queued.queue)
+  offer_more cx from o opened = by (offer_of cx v).socket.offered refl where
     by : (offered : Option OpenOffer) → (offer_of cx v).socket.offered ≡ offered →
-        IsMore h side o p.segments (and_offer p.segments offered (offer_of cx v).socket.queued.queue)
+        IsMore h side o p.segments (and_offer p.segments from offered (offer_of cx v).socket.queued.queue)
     by None e = inl refl
     by (Some x) e =
         let ends = offer_between_ends cx v x e in
         let has = (ok.ports o opened).pair ends.0 ends.1 in
         inr (
-          made_of x.segment (payload_of x x.kind (offer_of cx v).socket.queued.queue),
+          made_of from (destination_of x.header) x.segment (payload_of x x.kind (offer_of cx v).socket.queued.queue),
           refl,
           ends.2.source_port ∙ has.0,
           subst (SpeaksWith h side o) (sym ends.2.destination_port) (ok.heard o opened ends.0 ends.1),
         )
 
-  offers_opened : (cx : ContextValue) (sent : Bool) (o : Opening) → opening h side at ≡ Some o
+  offers_opened : (cx : ContextValue) (from : IpAddress) (sent : Bool) (o : Opening) → opening h side at ≡ Some o
       → HostSteps h h side p (record (with_socket p at (Tcp (settled sent (offer_of cx v).socket))) {
         segments =
-            offered_segments sent p (offer_of cx v).socket;
+            offered_segments sent p from (offer_of cx v).socket;
       }) q
-  offers_opened cx true o opened =
-      opened_step o (offered_segments true p (offer_of cx v).socket) (settled true (offer_of cx v).socket) opened (offer_more cx o opened)
+  offers_opened cx from true o opened =
+      opened_step o (offered_segments true p from (offer_of cx v).socket) (settled true (offer_of cx v).socket) opened (offer_more cx from o opened)
       (ports_sent cx v (ports_of o) (ok.ports o opened)) (λ pair e. pair_left v.block (settled true (offer_of cx v).socket).block pair (sent_names cx v) e)
-      (λ w b keeps. keeps_hosted_offer cx v w (told h side at) b (ports_of o) p.segments keeps (ok.ports o opened))
-  offers_opened cx false o opened =
+      (λ w b keeps. keeps_hosted_offer cx v w (told h side at) b (ports_of o) p.segments from keeps (ok.ports o opened))
+  offers_opened cx from false o opened =
       opened_step o p.segments (settled false (offer_of cx v).socket) opened (inl refl)
       (ports_withheld cx v (ports_of o) (ok.ports o opened))
       (λ pair e. pair_left v.block (settled false (offer_of cx v).socket).block pair (withheld_names cx v) e)
       (λ w b keeps. keeps_unsent_offer cx v w (past_at o.local p.segments (told h side at)) b keeps)
 
-  offers_untouched : (cx : ContextValue) (sent : Bool) → opening h side at ≡ None
+  offers_untouched : (cx : ContextValue) (from : IpAddress) (sent : Bool) → opening h side at ≡ None
       → HostSteps h h side p (record (with_socket p at (Tcp (settled sent (offer_of cx v).socket))) {
         segments =
-            offered_segments sent p (offer_of cx v).socket;
+            offered_segments sent p from (offer_of cx v).socket;
       }) q
-  offers_untouched cx sent none =
+  offers_untouched cx from sent none =
       let u = ok.untouched none in
       let silent = nameless_silent cx v u.nameless in
-      subst (λ (s : TcpValue). HostSteps h h side p (record (with_socket p at (Tcp (settled sent s))) { segments = offered_segments sent p s }) q)
+      subst (λ (s : TcpValue). HostSteps h h side p (record (with_socket p at (Tcp (settled sent s))) { segments = offered_segments sent p from s }) q)
       (sym (ap (λ (o : Offered TcpValue). o.socket) silent)) (by sent u)
     where
       by : (sent : Bool) → IsUntouched h side at v →
-          HostSteps h h side p (record (with_socket p at (Tcp (settled sent (unoffered v)))) { segments = offered_segments sent p (unoffered v) }) q
+          HostSteps h h side p (record (with_socket p at (Tcp (settled sent (unoffered v)))) { segments = offered_segments sent p from (unoffered v) }) q
       by true u = exchange_untouched h h side p q at (leaves_all h side at) k.made (unoffered v) none (untouched_same h side at v (unoffered v) refl u)
       by false u = exchange_untouched h h side p q at (leaves_all h side at) k.made (unoffered v) none (untouched_same h side at v (unoffered v) refl u)
 
-  pub offers : (cx : ContextValue) (sent : Bool)
+  pub offers : (cx : ContextValue) (from : IpAddress) (sent : Bool)
       → HostSteps h h side p (record (with_socket p at (Tcp (settled sent (offer_of cx v).socket))) {
         segments =
-            offered_segments sent p (offer_of cx v).socket;
+            offered_segments sent p from (offer_of cx v).socket;
       }) q
-  offers cx sent = by (opening h side at) refl where
+  offers cx from sent = by (opening h side at) refl where
     by : (o : Option Opening) → opening h side at ≡ o →
         HostSteps h h side p (record (with_socket p at (Tcp (settled sent (offer_of cx v).socket))) {
           segments =
-              offered_segments sent p (offer_of cx v).socket;
+              offered_segments sent p from (offer_of cx v).socket;
         }) q
-    by None e = offers_untouched cx sent e
-    by (Some o) e = offers_opened cx sent o e
+    by None e = offers_untouched cx from sent e
+    by (Some o) e = offers_opened cx from sent o e
 
   -- WHAT CHANGES NOTHING THAT THE TIE READS
 
@@ -188,15 +201,17 @@ module _
 
   module _
       (cx : ContextValue) (ip : IpRepr) (header : TcpHeader) (bytes : List ℕ) (accepted : accepts v.block ip header ≡ true)
-      (among : IsAmong q.segments (made_of header bytes)) (theirs : Each (SegmentOk h (other side)) q.segments) where
+      (among : MayCome q.segments (source_of ip) (destination_of ip) header bytes) (theirs : Each (SegmentOk h (other side)) q.segments) where
     abbrev new : TcpValue
     new = (arrives cx v ip header bytes).socket
 
     abbrev made_after : List Made
     made_after = and_answer p.segments (arrives cx v ip header bytes).answer
 
-    sent_ok : SegmentOk h (other side) (made_of header bytes)
-    sent_ok = each_get (SegmentOk h (other side)) q.segments among.0 (made_of header bytes) theirs among.1
+    sent_ok : SegmentOk h (other side) (come ip header bytes)
+    sent_ok =
+        read_ok h (other side) (source_of ip) (destination_of ip) header among.written bytes among.read
+        (each_get (SegmentOk h (other side)) q.segments among.among.0 (come ip among.written bytes) theirs among.among.1)
 
     module _ (o : Opening) (opened : opening h side at ≡ Some o) where
       speaks : (header.dst_port ≡ o.local) × SpeaksWith h side o header.src_port
@@ -208,7 +223,7 @@ module _
         by None e = inl refl
         by (Some reply) e =
             let back = answer_back cx v ip header bytes reply e in
-            inr (made_of reply.segment [], refl, back.source_port ∙ speaks.0, subst (SpeaksWith h side o) (sym back.destination_port) speaks.1)
+            inr (made_by reply, refl, back.source_port ∙ speaks.0, subst (SpeaksWith h side o) (sym back.destination_port) speaks.1)
 
       named_after : (pair : EndpointPair) → new.block.names.pair ≡ Some pair → SpeaksWith h side o pair.remote_port
       named_after pair e = by (arrival_names cx v ip header bytes) where
@@ -225,13 +240,13 @@ module _
 
       lone_after : ((j : ℕ) → ¬ (ArePartners h side at j)) → KeepsAlone new (past_at o.local made_after (told h side at))
       lone_after lone = by sent_ok where
-        by : SegmentOk h (other side) (made_of header bytes) → KeepsAlone new (past_at o.local made_after (told h side at))
+        by : SegmentOk h (other side) (come ip header bytes) → KeepsAlone new (past_at o.local made_after (told h side at))
         by (inl rst) =
             subst (KeepsAlone new)
             (past_of_answer o.local p.segments (told h side at) (arrives cx v ip header bytes).answer
             (λ reply e. (answer_back cx v ip header bytes reply e).source_port ∙ speaks.0))
             (reset_comes cx v (past_at o.local p.segments (told h side at)) ip header bytes (ok.alone o opened lone) rst)
-        by (inr s) = let partner = sender_is_partner h side at o opened (made_of header bytes) speaks.0 speaks.1 s in absurd (lone partner.0 partner.1)
+        by (inr s) = let partner = sender_is_partner h side at o opened (come ip header bytes) speaks.0 speaks.1 s in absurd (lone partner.0 partner.1)
 
       pair_after :
           (j : ℕ) (w : TcpValue) (a : ArePartners h side at j) → socket_at q j ≡ Some (Tcp w)

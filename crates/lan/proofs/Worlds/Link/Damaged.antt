@@ -16,7 +16,7 @@ use Rattle.interface_ingress.specs.Sent.{normal_payload}
 use Rattle.interface_ingress.proofs.Bare.{bare_where}
 use Rattle.interface_ingress.specs.Upper.{upper_payload}
 use Rattle.interface_ingress.proofs.FramesArrive.{payload-arrives}
-use Rattle.lan.specs.Worlds.Link.Made.{sealed, WasMade, HandsMade, bytes_of}
+use Rattle.lan.specs.Worlds.Link.Made.{Makes, sealed, WasMade, HandsMade, bytes_of}
 use Rattle.lan.specs.Worlds.Link.Frames.{IsOut}
 use Rattle.lan.proofs.Worlds.Link.Behind.{sealed_both}
 
@@ -43,7 +43,7 @@ put_len xs k word = set_len (set xs k (word / 256 % 256)) (k + 1) (word % 256) �
 
 -- THE CHECKSUM
 
-module _ (made : PayloadValue → Type 0) where
+module _ (made : Makes) where
   checked_by : (h : IpRepr) (x : PayloadValue) (bytes : List ℕ) → carried_in (Ips.normal h) ≡ Protocol.Tcp → IsCarried sealed (Ips.normal h) bytes x →
       Tcp.IsChecked (source_of (Ips.normal h)) (destination_of (Ips.normal h)) bytes
   checked_by h (Segment header carried_bytes) bytes is carried = carried.format.checked refl
@@ -64,7 +64,8 @@ module _ (made : PayloadValue → Type 0) where
   ]
 
   -- what is no segment brings nothing that was not made
-  none_damaged : (ip : IpRepr) (payload : List ℕ) → IsDamaged sealed ip payload → (x : PayloadValue) → IsCarried sealed ip payload x → WasMade made x
+  none_damaged : (ip : IpRepr) (payload : List ℕ) → IsDamaged sealed ip payload → (x : PayloadValue) → IsCarried sealed ip payload x →
+      WasMade made (source_of ip) (destination_of ip) x
   none_damaged ip payload bad (Segment header bytes) is = absurd (bad.1 header bytes is)
   none_damaged ip payload bad (Datagram udp bytes) is = absurd (let p = is.protocol in let q = bad.0 in cc)
   none_damaged ip payload bad (ControlV4 message bytes) is = tt

@@ -3,10 +3,12 @@ use Rattle.std.proofs.Common.{inl, inr, ℕ, List, [], ◌∷◌}
 use Rattle.std.specs.List.{AllByRecursion}
 use Rattle.lan_base.specs.Medium.{Medium}
 use Rattle.interface_ingress.specs.HardwareAddress.{HardwareAddress}
+use Rattle.interface.specs.Ip.{source_of, destination_of}
 use Rattle.interface.specs.IpRepr.{IpRepr}
 use Rattle.interface.specs.IpRepr.TheVariants as Ip
 use Rattle.interface.specs.Ipv4Repr.{Ipv4Repr}
 use Rattle.interface.specs.Ipv6Repr.{Ipv6Repr}
+use Rattle.interface_ingress.specs.IpAddress.{IpAddress}
 use Rattle.sockets.specs.Packet.{PacketValue, PayloadValue, ControlV4, ControlV6, Bytes, Datagram, Segment}
 use Rattle.interface_tables.specs.Inner.{InnerValue}
 use Rattle.interface_tables.specs.Reassembly.{SlotValue}
@@ -16,7 +18,7 @@ use Rattle.interface_ingress.specs.Incoming.{IncomingValue, Arp, Ip4, Ip6}
 use Rattle.interface_egress.specs.declared.frame.CutHeader.{CutHeader}
 use Rattle.interface_egress.specs.declared.frame.CutHeader.TheVariants as Cut
 use Rattle.interface_ingress.specs.Reassembled.{Slots, PieceValue, part_v4}
-use Rattle.lan.specs.Worlds.Link.Made.{WasMade, HandsMade, IsGoing}
+use Rattle.lan.specs.Worlds.Link.Made.{Makes, WasMade, HandsMade, IsGoing}
 use Rattle.lan.specs.Worlds.Link.Frames.{Outgoing, IsSentV4, IsSentV6, IsCutV6, IsDatagram, IsPieceOf, IsFrom, BringsFrom}
 use Rattle.lan.specs.Worlds.Link.Held.{IsOfKey, IsSlotOf}
 use Rattle.lan.specs.Worlds.Link.Sides.{Grows, IsCutFrom, IsHostFrame, IsReceiver, AreSent}
@@ -138,16 +140,17 @@ module _ (out out' : List Outgoing) (grows : Grows out out') where
 
   -- WHAT WAS MADE
 
-  module _ (made made' : PayloadValue → Type 0) (more : (x : PayloadValue) → made x → made' x) where
-    was_grows : (x : PayloadValue) → WasMade made x → WasMade made' x
-    was_grows (Datagram udp bytes) was = more (Datagram udp bytes) was
-    was_grows (Segment header bytes) was = more (Segment header bytes) was
-    was_grows (ControlV4 message bytes) was = tt
-    was_grows (ControlV6 message bytes) was = tt
-    was_grows (Bytes bytes) was = tt
+  module _ (made made' : Makes)
+      (more : (source destination : IpAddress) (x : PayloadValue) → made source destination x → made' source destination x) where
+    was_grows : (source destination : IpAddress) (x : PayloadValue) → WasMade made source destination x → WasMade made' source destination x
+    was_grows source destination (Datagram udp bytes) was = more source destination (Datagram udp bytes) was
+    was_grows source destination (Segment header bytes) was = more source destination (Segment header bytes) was
+    was_grows source destination (ControlV4 message bytes) was = tt
+    was_grows source destination (ControlV6 message bytes) was = tt
+    was_grows source destination (Bytes bytes) was = tt
 
     hands_grow : (ip : IpRepr) (payload : List ℕ) → HandsMade made ip payload → HandsMade made' ip payload
-    hands_grow ip payload hands x is = was_grows x (hands x is)
+    hands_grow ip payload hands x is = was_grows (source_of ip) (destination_of ip) x (hands x is)
 
     from_grows : (v : IncomingValue) → IsFrom made out v → IsFrom made' out' v
     from_grows (Arp link packet) from = inl tt
@@ -168,11 +171,12 @@ module _ (out out' : List Outgoing) (grows : Grows out out') where
       waits = all_grow (BringsFrom made out i.hardware) (BringsFrom made' out' i.hardware) (brings_grow i.hardware) waiting r.waits;
     }
 
-module _ (made made' : PayloadValue → Type 0) (more : (x : PayloadValue) → made x → made' x) where
+module _ (made made' : Makes)
+    (more : (source destination : IpAddress) (x : PayloadValue) → made source destination x → made' source destination x) where
   pub going_grows : (p : PacketValue) → IsGoing made p → IsGoing made' p
   going_grows p going = record {
     offered = going.offered;
-    carries = elim going.carries [ inl none ↦ inl none | inr reads ↦ inr (reads.0, more _ reads.1) ];
+    carries = elim going.carries [ inl none ↦ inl none | inr reads ↦ inr (reads.0, more (source_of p.header) (destination_of p.header) _ reads.1) ];
   }
 
   pub sent_grows : (first next : ℕ) (out : List Outgoing) → AreSent made first next out → AreSent made' first next out

@@ -36,7 +36,7 @@ use Rattle.interface_ingress.specs.Sent.{CanBeRead, normal_payload}
 use Rattle.interface_ingress.proofs.FramesArrive.{payload-brought}
 use Rattle.interface_ingress.proofs.OneContent.{one-carried-content}
 use Rattle.interface.specs.Delivered.{NamesNoPorts}
-use Rattle.lan.specs.Worlds.Link.Made.{sealed, IsWholeV6, CarriesNone, WasMade, HandsMade, BringsMade, bytes_of}
+use Rattle.lan.specs.Worlds.Link.Made.{Makes, sealed, IsWholeV6, CarriesNone, WasMade, HandsMade, BringsMade, bytes_of}
 use Rattle.lan.specs.Worlds.Link.Frames.{Outgoing, IsSentV4, IsSentV6, IsDatagramV6, IsFrom, IsOut, AreOut, behind_fragment}
 use Rattle.interface_tables.specs.declared.key.Ipv6FragKey.{Ipv6FragKey}
 use Rattle.lan.proofs.Worlds.Link.Behind.{sealed_both}
@@ -53,7 +53,16 @@ no_part h x (End.Upper protocol at) p whole is = absurd cc
 no_part h x (End.Problem problem pointer) p whole is = absurd cc
 no_part h x End.Nothing p whole is = absurd cc
 
-module _ (made : PayloadValue → Type 0) where
+-- extension headers leave the addresses
+source_upper : (ip : IpRepr) (payload : List ℕ) → source_of (upper_header ip payload) ≡ source_of ip
+source_upper (Ip.Ipv4 header) payload = refl
+source_upper (Ip.Ipv6 header) payload = refl
+
+destination_upper : (ip : IpRepr) (payload : List ℕ) → destination_of (upper_header ip payload) ≡ destination_of ip
+destination_upper (Ip.Ipv4 header) payload = refl
+destination_upper (Ip.Ipv6 header) payload = refl
+
+module _ (made : Makes) where
   -- PROTOCOLS
 
   -- behind a header that names neither TCP nor UDP there is nothing of them
@@ -67,18 +76,25 @@ module _ (made : PayloadValue → Type 0) where
 
   -- PACKETS
 
-  was_made : (x : PayloadValue) → made x → WasMade made x
-  was_made (Datagram udp bytes) was = was
-  was_made (Segment header bytes) was = was
-  was_made (ControlV4 message bytes) was = tt
-  was_made (ControlV6 message bytes) was = tt
-  was_made (Bytes bytes) was = tt
+  was_made : (source destination : IpAddress) (x : PayloadValue) → made source destination x → WasMade made source destination x
+  was_made source destination (Datagram udp bytes) was = was
+  was_made source destination (Segment header bytes) was = was
+  was_made source destination (ControlV4 message bytes) was = tt
+  was_made source destination (ControlV6 message bytes) was = tt
+  was_made source destination (Bytes bytes) was = tt
+
+  -- the addresses of a header are those of its normal form
+  normal_made : (h : IpRepr) (x : PayloadValue) → made (source_of h) (destination_of h) x →
+      WasMade made (source_of (Ips.normal h)) (destination_of (Ips.normal h)) x
+  normal_made (Ip.Ipv4 v) x was = was_made (Address.Ipv4 v.src_addr) (Address.Ipv4 v.dst_addr) x was
+  normal_made (Ip.Ipv6 v) x was = was_made (Address.Ipv6 v.src_addr) (Address.Ipv6 v.dst_addr) x was
 
   same_some : {A : Type 0} (x y : A) → Some x ≡ Some y → x ≡ y
   same_some x y same = cc
 
   hands_by : (p : PacketValue) → IsOut made p → CarriesNone (Ips.normal p.header) (bytes_of p) ⊎
-      (CanBeRead p.header p.payload × made (normal_payload p.payload)) → HandsMade made (Ips.normal p.header) (bytes_of p)
+      (CanBeRead p.header p.payload × made (source_of p.header) (destination_of p.header) (normal_payload p.payload)) →
+      HandsMade made (Ips.normal p.header) (bytes_of p)
   hands_by p is (inl none) = hands_none (Ips.normal p.header) (bytes_of p) none.0
   hands_by p is (inr reads) = λ x carried.
       let read : IsBrought sealed (Ips.normal p.header) (bytes_of p) (Some (normal_payload p.payload)) =
@@ -87,7 +103,7 @@ module _ (made : PayloadValue → Type 0) where
       same_some (normal_payload p.payload) x
       (one-carried-content sealed (upper_header (Ips.normal p.header) (bytes_of p)) (upper_payload (Ips.normal p.header) (bytes_of p))
       (Some (normal_payload p.payload)) (Some x) read carried) in
-      was_made x (subst made same reads.1)
+      normal_made p.header x (subst (made (source_of p.header) (destination_of p.header)) same reads.1)
 
   -- what is read behind the header of a packet that was sent was made
   pub hands_sent : (p : PacketValue) → IsOut made p → HandsMade made (Ips.normal p.header) (bytes_of p)
@@ -106,8 +122,8 @@ module _ (made : PayloadValue → Type 0) where
   named_whole (Ip.Ipv6 v) (Datagram udp carried) bytes can = by_name Protocol.Udp v bytes can.0 refl
   named_whole (Ip.Ipv6 v) (Segment header carried) bytes can = by_name Protocol.Tcp v bytes can.0 refl
 
-  whole_by : (p : PacketValue) → CarriesNone (Ips.normal p.header) (bytes_of p) ⊎ (CanBeRead p.header p.payload × made (normal_payload p.payload)) →
-      IsWholeV6 (Ips.normal p.header) (bytes_of p)
+  whole_by : (p : PacketValue) → CarriesNone (Ips.normal p.header) (bytes_of p) ⊎ (CanBeRead p.header p.payload ×
+      made (source_of p.header) (destination_of p.header) (normal_payload p.payload)) → IsWholeV6 (Ips.normal p.header) (bytes_of p)
   whole_by p (inl none) = none.1
   whole_by p (inr reads) = named_whole p.header p.payload (bytes_of p) reads.0
 
@@ -129,22 +145,31 @@ module _ (made : PayloadValue → Type 0) where
     abbrev bytes_there : List ℕ
     bytes_there = upper_payload ip' payload'
 
+    -- so they are between the same addresses
+    between_same : (x : PayloadValue) → WasMade made (source_of ip') (destination_of ip') x → WasMade made (source_of ip) (destination_of ip) x
+    between_same x was =
+        let source : source_of ip' ≡ source_of ip = sym (source_upper ip' payload') ∙ sym source_same ∙ source_upper ip payload in
+        let destination : destination_of ip' ≡ destination_of ip =
+        sym (destination_upper ip' payload') ∙ sym destination_same ∙ destination_upper ip payload in
+        subst (λ (a : IpAddress). WasMade made a (destination_of ip) x) source
+        (subst (λ (a : IpAddress). WasMade made (source_of ip') a x) destination was)
+
     pub hands_by_upper : HandsMade made ip' payload' → HandsMade made ip payload
-    hands_by_upper hands (Datagram udp bytes) is = hands (Datagram udp bytes) (record {
+    hands_by_upper hands (Datagram udp bytes) is = between_same (Datagram udp bytes) (hands (Datagram udp bytes) (record {
       protocol = sym protocol_same ∙ is.protocol;
       format = subst (λ (a : IpAddress). Udp.IsUdp a (destination_of (upper_header ip' payload')) true bytes_there udp) source_same
           (subst (λ (a : IpAddress). Udp.IsUdp (source_of (upper_header ip payload)) a true bytes_there udp) destination_same
           (subst (λ (b : List ℕ). Udp.IsUdp (source_of (upper_header ip payload)) (destination_of (upper_header ip payload)) true b udp) bytes_same is.format));
       bytes_are = is.bytes_are ∙ ap Udp.payload_of bytes_same;
-    })
-    hands_by_upper hands (Segment header bytes) is = hands (Segment header bytes) (record {
+    }))
+    hands_by_upper hands (Segment header bytes) is = between_same (Segment header bytes) (hands (Segment header bytes) (record {
       protocol = sym protocol_same ∙ is.protocol;
       format = subst (λ (a : IpAddress). Tcp.IsTcp a (destination_of (upper_header ip' payload')) true bytes_there header) source_same
           (subst (λ (a : IpAddress). Tcp.IsTcp (source_of (upper_header ip payload)) a true bytes_there header) destination_same
           (subst (λ (b : List ℕ). Tcp.IsTcp (source_of (upper_header ip payload)) (destination_of (upper_header ip payload)) true b header) bytes_same
           is.format));
       bytes_are = is.bytes_are ∙ ap Tcp.payload_of bytes_same;
-    })
+    }))
     hands_by_upper hands (ControlV4 message bytes) is = tt
     hands_by_upper hands (ControlV6 message bytes) is = tt
     hands_by_upper hands (Bytes bytes) is = tt

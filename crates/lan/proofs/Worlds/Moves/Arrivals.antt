@@ -8,6 +8,7 @@ use Rattle.std.proofs.lemmas.Option.{slice_get-get_or}
 use Rattle.interface_ingress.specs.Icmpv4Header.{Icmpv4Header}
 use Rattle.interface_ingress.specs.Icmpv6.{MessageValue}
 use Rattle.interface_ingress.specs.IpAddress.TheVariants as Address
+use Rattle.interface.specs.Ip.{source_of, destination_of}
 use Rattle.interface.specs.IpRepr.{IpRepr}
 use Rattle.interface.specs.Ipv4Repr.{Ipv4Repr}
 use Rattle.interface.specs.Ipv6Repr.{Ipv6Repr}
@@ -16,7 +17,7 @@ use Rattle.interface.specs.UdpRepr.{UdpRepr}
 use Rattle.sockets.specs.Context.{ContextValue}
 use Rattle.sockets.specs.Packet.{PacketValue}
 use Rattle.sockets.specs.Udp as Udps
-use Rattle.tcp_tie.specs.Host.{Made, made_of, and_answer, IsAmong}
+use Rattle.tcp_tie.specs.Host.{Made, made_by, MayCome, and_answer}
 use Rattle.tcp_model.specs.Controls.{is_rst}
 use Rattle.tcp_model.specs.Arrival.{arrives}
 use Rattle.tcp_model.specs.Segments.{rst_reply}
@@ -117,8 +118,8 @@ pub record Answered (names : List ℕ → Bool) (side : Side) (net now : Net) (s
 reply_made : (p : Party) (before : List Made) (a : Option Reply) → p.segments ≡ and_answer before a → IfSome (packet_by a) (IsMade p)
 reply_made p before None is = tt
 reply_made p before (Some reply) is =
-    let last = get_last before (made_of reply.segment []) [] in
-    (last.0, ap (λ (xs : List Made). slice_get xs last.0) is ∙ last.1)
+    let last = get_last before (made_by reply) [] in
+    record { written = reply.segment; among = (last.0, ap (λ (xs : List Made). slice_get xs last.0) is ∙ last.1); read = refl }
 
 module _ (names : List ℕ → Bool) (side : Side) (net now : Net) (r : Reaches names side net now) (places : Places) (has : (party now side).sockets ≡
     sockets_of places) where
@@ -192,7 +193,7 @@ module _ (names : List ℕ → Bool) (side : Side) (net now : Net) (r : Reaches 
   -- A SEGMENT
 
   module _ (cx : ContextValue) (ip : IpRepr) (header : TcpHeader) (bytes : List ℕ)
-      (made : IsAmong (party now (other side)).segments (made_of header bytes)) where
+      (made : MayCome (party now (other side)).segments (source_of ip) (destination_of ip) header bytes) where
     abbrev Taken : ℕ → SocketStorage Socket → Type 0
     Taken at place = Ends (sockets_of (slice_set places at (with_change (with_segment cx ip header bytes) place)))
         (answer_in (answer_of cx ip header bytes) place.inner)
@@ -201,7 +202,7 @@ module _ (names : List ℕ → Bool) (side : Side) (net now : Net) (r : Reaches 
         Grows (party now side) v
     grown v None s d = grows_to (party now side) v s d
     grown v (Some reply) s d =
-        grows_by (party now side) v (made_of reply.segment [] ∷ []) [] s (d ∙ sym (append-nil (party now side).datagrams))
+        grows_by (party now side) v (made_by reply ∷ []) [] s (d ∙ sym (append-nil (party now side).datagrams))
 
     socket_takes : (at : ℕ) (item : Item Socket) (s : Socket) → holds_at at (Some (record item { socket = s })) → accepts_segment s ip header ≡ true →
         Taken at (record { inner = Some (record item { socket = s }) })
@@ -237,7 +238,7 @@ module _ (names : List ℕ → Bool) (side : Side) (net now : Net) (r : Reaches 
           (reply_made (Moves.party_after (party now side) move) (party now side).segments (Some (rst_reply ip header (length bytes))) refl);
     } where
       x : Made
-      x = made_of (rst_reply ip header (length bytes)).segment []
+      x = made_by (rst_reply ip header (length bytes))
 
       move : Moves.Move
       move = Moves.Resets x

@@ -92,7 +92,7 @@ module _ (names : List ℕ → Bool) (net : Net) (side : Side) where
     datagrams = none.datagrams;
   }
   moved (Passes entry) may none = none
-  moved (Offers place cx v sent) may none = record {
+  moved (Offers place cx v from sent) may none = record {
     sockets = none_set (party net side).sockets place _ tt none.sockets;
     datagrams = none.datagrams;
   }
@@ -140,14 +140,14 @@ none_seen (place ∷ places) none = (place_seen place.inner none.0, none_seen pl
 
 -- WHAT WAS REBUILT
 
-long : (q : Party) (ip : IpRepr) (x : PayloadValue) → HasMade q (normal_payload x) → 8 ≤ length (payload_written sealed ip x)
+long : (q : Party) (ip : IpRepr) (x : PayloadValue) → HasMade q ip (normal_payload x) → 8 ≤ length (payload_written sealed ip x)
 long q ip (Datagram udp bytes) made = omega arith
 long q ip (Segment header bytes) made = omega arith
 long q ip (ControlV4 message bytes) made = absurd made
 long q ip (ControlV6 message bytes) made = absurd made
 long q ip (Bytes bytes) made = absurd made
 
-long_segment : (q : Party) (ip : IpRepr) (x : PayloadValue) → CanBeRead ip x → told (carried_in ip) ≡ Protocol.Tcp → HasMade q (normal_payload x) →
+long_segment : (q : Party) (ip : IpRepr) (x : PayloadValue) → CanBeRead ip x → told (carried_in ip) ≡ Protocol.Tcp → HasMade q ip (normal_payload x) →
     20 ≤ length (payload_written sealed ip x)
 long_segment q ip (Datagram udp bytes) named tcp made = absurd (not_udp (carried_in ip) named.0 tcp)
 long_segment q ip (Segment header bytes) named tcp made = omega arith
@@ -155,7 +155,7 @@ long_segment q ip (ControlV4 message bytes) named tcp made = absurd made
 long_segment q ip (ControlV6 message bytes) named tcp made = absurd made
 long_segment q ip (Bytes bytes) named tcp made = absurd made
 
-made_by_socket : (q : Party) (ip : IpRepr) (x : PayloadValue) → CanBeRead ip x → told (carried_in ip) ≡ Protocol.Udp → HasMade q (normal_payload x) →
+made_by_socket : (q : Party) (ip : IpRepr) (x : PayloadValue) → CanBeRead ip x → told (carried_in ip) ≡ Protocol.Udp → HasMade q ip (normal_payload x) →
     q.datagrams ≡ [] → ⊥
 made_by_socket q ip (Datagram udp bytes) named is made none =
     let there = ap (λ (xs : List Parties.Datagram). slice_get xs made.0) (sym none) ∙ made.1 in

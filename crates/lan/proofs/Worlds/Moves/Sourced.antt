@@ -1,8 +1,8 @@
 -- A packet that leaves from the source that is chosen for it: what its header names stays, but for its source.
-use Rattle.std.proofs.Common.{◌≡◌, Option, Some, None, refl}
-use Rattle.interface.proofs.Sourced.{as_sourced}
-use Rattle.interface.specs.Turn.{with_source, sourced}
-use Rattle.interface.specs.Ip.{carried_in}
+use Rattle.std.proofs.Common.{◌≡◌, ◌⊎◌, inl, inr, Bool, true, false, if◌then◌else◌, Option, Some, None, refl, sym, subst}
+use Rattle.interface.proofs.Sourced.{as_sourced, sourced_same}
+use Rattle.interface.specs.Turn.{keeps_source, with_source, sourced}
+use Rattle.interface.specs.Ip.{carried_in, source_of, destination_of}
 use Rattle.interface.specs.IpRepr.{IpRepr}
 use Rattle.interface.specs.IpRepr.TheVariants as Ip
 use Rattle.interface.specs.Ipv4Repr.{Ipv4Repr}
@@ -13,9 +13,13 @@ use Rattle.interface_ingress.specs.Ipv4Address.{Ipv4Address}
 use Rattle.interface_ingress.specs.Ipv6Address.{Ipv6Address}
 use Rattle.interface_ingress.specs.Sent.{IsV4}
 use Rattle.interface_tables.specs.Inner.{InnerValue}
+use Rattle.interface_tables.specs.Source.{source_for}
 use Rattle.sockets.specs.Packet.{PacketValue, PayloadValue, ControlV4, ControlV6, Bytes, Datagram, Segment}
 use Rattle.sockets.specs.WellFormed.{IsWellFormed}
-use Rattle.lan.specs.Worlds.Moves.Made.{IsWide, FitsBehind}
+use Rattle.lan.specs.Worlds.AtLink.Parties.{Party}
+use Rattle.lan.specs.Worlds.Moves.Made.{IsMade, IsWide, FitsBehind, MadeBy}
+use Rattle.lan.proofs.Worlds.Moves.Offering.{IsMadeFrom}
+use Rattle.interface_ingress.specs.Sent.{normal_payload}
 
 -- the family, and what the packet carries
 pub sourced_v4 : (h : IpRepr) (s : Option IpAddress) → IsV4 h → IsV4 (with_source h s)
@@ -63,3 +67,28 @@ sourced_wide i p wide formed = record {
   };
   fits = as_sourced FitsBehind fits_source i p wide.fits;
 }
+
+-- it leaves from its source, or from the one that is chosen
+source_or_chosen : (h : IpRepr) (s : Option IpAddress) → (source_of (with_source h s) ≡ source_of h) ⊎ (s ≡ Some (source_of (with_source h s)))
+source_or_chosen (Ip.Ipv4 v) (Some (Address.Ipv4 a)) = inr refl
+source_or_chosen (Ip.Ipv6 v) (Some (Address.Ipv6 a)) = inr refl
+source_or_chosen (Ip.Ipv4 v) (Some (Address.Ipv6 a)) = inl refl
+source_or_chosen (Ip.Ipv6 v) (Some (Address.Ipv4 a)) = inl refl
+source_or_chosen (Ip.Ipv4 v) None = inl refl
+source_or_chosen (Ip.Ipv6 v) None = inl refl
+
+pub leaves_from : (i : InnerValue) (p : PacketValue) →
+    (source_of (sourced i p).header ≡ source_of p.header) ⊎ (source_for i.addresses (destination_of p.header) ≡ Some (source_of (sourced i p).header))
+leaves_from i p = by (keeps_source i p) where
+  chosen : Option IpAddress
+  chosen = source_for i.addresses (destination_of p.header)
+
+  by : (b : Bool) → (source_of (if b then p.header else with_source p.header chosen) ≡ source_of p.header)
+      ⊎ (chosen ≡ Some (source_of (if b then p.header else with_source p.header chosen)))
+  by true = inl refl
+  by false = source_or_chosen p.header chosen
+
+-- what was made from the source that it leaves from was made
+pub sourced_made : (party : Party) (i : InnerValue) (p : PacketValue) → IsMadeFrom party (source_of (sourced i p).header) p → IsMade party (sourced i p)
+sourced_made party i p made =
+    subst (λ (to : IpAddress). MadeBy party (source_of (sourced i p).header) to (normal_payload p.payload)) (sym (sourced_same i p).0) made

@@ -4,6 +4,7 @@ use Rattle.std.specs.Prelude.{◌||◌, is_some}
 use Rattle.lan_base.specs.ChecksumCapabilities.{ChecksumCapabilities}
 use Rattle.interface_ingress.specs.IpAddress.{IpAddress}
 use Rattle.interface_ingress.specs.IpAddress.TheVariants as Address
+use Rattle.interface.specs.Ip.{source_of, destination_of}
 use Rattle.interface.specs.IpRepr.{IpRepr}
 use Rattle.interface.specs.IpRepr.TheVariants as Ip
 use Rattle.ip_tcp.specs.declared.header.TcpHeader.{TcpHeader}
@@ -11,7 +12,7 @@ use Rattle.interface_ingress.specs.EthernetRepr.{EthernetRepr}
 use Rattle.sockets.specs.Packet.{PacketValue, PayloadValue, ControlV4, ControlV6, Bytes, Datagram, Segment}
 use Rattle.interface_ingress.specs.Icmpv4Header.{Icmpv4Header}
 use Rattle.interface_ingress.specs.Icmpv6.{MessageValue}
-use Rattle.tcp_tie.specs.Host.{made_of, IsAmong}
+use Rattle.tcp_tie.specs.Host.{MayCome}
 use Rattle.interface_tables.specs.Inner.{InnerValue, context_of, is_for_us}
 use Rattle.interface_ingress.specs.Arp.{arp_answer}
 use Rattle.interface_ingress.specs.Arrives as Replies
@@ -58,7 +59,7 @@ module _ (names : List ℕ → Bool) (side : Side) (net now : Net) (r : Reaches 
     control_v6 (Ip.Ipv4 header) message bytes = refl
     control_v6 (Ip.Ipv6 header) message bytes = icmpv6_delivered_same header message bytes places
 
-    segment : (nobody : Bool) (header : TcpHeader) (bytes : List ℕ) → IsAmong (party now (other side)).segments (made_of header bytes)
+    segment : (nobody : Bool) (header : TcpHeader) (bytes : List ℕ) → MayCome (party now (other side)).segments (source_of ip) (destination_of ip) header bytes
         → Ends (if nobody then places else segment_delivered (context_of i) ip header bytes places)
         (if nobody then None else segment_answer (context_of i) ip header bytes taken places)
     segment true header bytes made = nothing names side net now r places has
@@ -80,8 +81,8 @@ module _ (names : List ℕ → Bool) (side : Side) (net now : Net) (r : Reaches 
         let moved = datagram_given names side net now r places has (context_of i) ip udp bytes was qs to in
         record { moved = moved; made = port_error_made (party moved.next side) (is_some (datagram_place (context_of i) ip udp places) || taken) i ip payload }
     handed caps (Some (Segment header bytes)) is made qs to =
-        let was : IsAmong (party now (other side)).segments (made_of header bytes) =
-        subst (λ (p : Party). IsAmong p.segments (made_of header bytes)) (sym r.rests) (made.segments header bytes is) in
+        let was : MayCome (party now (other side)).segments (source_of ip) (destination_of ip) header bytes =
+        subst (λ (p : Party). MayCome p.segments (source_of ip) (destination_of ip) header bytes) (sym r.rests) (made.segments header bytes is) in
         subst (λ (ps : Places). Ends ps (handed_reply i places ip payload taken (Some (Segment header bytes)))) (sym to)
         (segment (names_nobody i ip) header bytes was)
 

@@ -2,11 +2,13 @@
 use Rattle.std.proofs.Common.{◌≡◌, ℕ, Bool, true, false, inl, inr, List, [], ◌∷◌, ◌++◌, length, Option, Some, None, IfSome, refl, sym, ap, ◌∙◌, subst, arith}
 use Rattle.std.proofs.Common.{append-nil, ◌+◌}
 use Rattle.std.specs.Prelude.{slice_set, slice_index_or}
-use Rattle.interface.specs.Ip.{destination_of}
+use Rattle.interface.specs.Ip.{source_of, destination_of}
 use Rattle.interface_ingress.specs.IpAddress.{IpAddress}
+use Rattle.interface_ingress.specs.IpAddress.TheVariants as Address
+use Rattle.interface_ingress.specs.Sent.{normal_payload}
 use Rattle.lan_base.specs.Device.{Move}
 use Rattle.sockets.specs.Context.{ContextValue}
-use Rattle.sockets.specs.Packet.{PacketValue}
+use Rattle.sockets.specs.Packet.{PacketValue, PayloadValue}
 use Rattle.sockets.specs.WellFormed.{IsWellFormed}
 use Rattle.sockets.specs.Offer as Answer
 use Rattle.sockets.specs.Offer.TheVariants as Offer
@@ -38,11 +40,12 @@ use Rattle.interface.specs.Host.{HostValue, Sender}
 use Rattle.interface.specs.State.{State, state}
 use Rattle.interface.specs.Remote.{context_for}
 use Rattle.interface.specs.Turn.{PlaceTurns, ItemTurns, TurnsIf, Answers, SendsBy, Leaves, is_waiting, let_through, is_done, marked, plan_at, waits_until}
-use Rattle.interface.specs.Turn.{SendsAs}
+use Rattle.interface.specs.Turn.{SendsAs, sourced}
 use Rattle.interface.specs.declared.turn.Turned.{Turned}
 use Rattle.interface.specs.State.{sending_as}
 use Rattle.lan.specs.Worlds.AtLink.Side.{Side}
 use Rattle.lan.specs.Worlds.AtLink.Moves as Moves
+use Rattle.lan.specs.Worlds.AtLink.Moves.{LeavesFrom}
 use Rattle.lan.specs.Worlds.AtLink.Parties as Parties
 use Rattle.lan.specs.Worlds.AtLink.Parties.{Party, Net, party, datagrams_of}
 use Rattle.lan.specs.Worlds.AtLink.Safe.{seen}
@@ -53,8 +56,8 @@ use Rattle.lan.specs.Worlds.Moves.Link.{IsLink}
 use Rattle.lan.specs.Worlds.Moves.Made.{Grows, MadeBy, IsMade, IsWide}
 use Rattle.lan.specs.Worlds.Moves.Raws.{OfItem}
 use Rattle.lan.proofs.Worlds.Moves.Nets.{Moved, stays, moves_by, there, grows_to, grows_not, grows_by}
-use Rattle.lan.proofs.Worlds.Moves.Sourced.{sourced_wide}
-use Rattle.lan.proofs.Worlds.Moves.Offering.{if_some, some_so, takes_one, message_made, udp_made, tcp_made}
+use Rattle.lan.proofs.Worlds.Moves.Sourced.{sourced_wide, leaves_from, sourced_made}
+use Rattle.lan.proofs.Worlds.Moves.Offering.{IsMadeFrom, if_some, some_so, takes_one, message_made, udp_made, tcp_made}
 use Rattle.lan.proofs.Worlds.Moves.Places.{Places, get-middle, set-middle, same-middle}
 use Rattle.lan.proofs.Worlds.Moves.Wide.{offered_wide}
 
@@ -68,19 +71,19 @@ holding m s = record { inner = Some (record { meta = m; socket = s }) }
 abbrev CanBeWide : PacketValue → Type 0
 CanBeWide x = IsWellFormed x → IsWide x
 
--- moves lead to these sockets, and a packet that is done with was made
+-- moves lead to these sockets, and a packet that is done with was made, as it leaves from this address
 pub record Gives (names : List ℕ →
-    Bool) (side : Side) (net now : Net) (sockets : List (Option Parties.Socket)) (sent : Bool) (packet : Option PacketValue) : Type 0 where
+    Bool) (side : Side) (net now : Net) (sockets : List (Option Parties.Socket)) (from : IpAddress) (sent : Bool) (packet : Option PacketValue) : Type 0 where
   pub moved : Moved names side net now sockets
-  pub made : sent ≡ true → IfSome packet (IsMade (party moved.next side))
+  pub made : sent ≡ true → IfSome packet (IsMadeFrom (party moved.next side) from)
 
-module _ (names : List ℕ → Bool) (side : Side) (net now : Net) (r : Reaches names side net now) (before after : Places) where
+module _ (names : List ℕ → Bool) (side : Side) (net now : Net) (r : Reaches names side net now) (before after : Places) (from : IpAddress) where
   -- the party has the sockets of the places, of which one holds this socket
   abbrev Has : Meta → Socket → Type 0
   Has m s = (party now side).sockets ≡ sockets_of (before ++ holding m s ∷ after)
 
   abbrev To : Meta → Socket → Bool → Option PacketValue → Type 0
-  To m s sent packet = Gives names side net now (sockets_of (before ++ holding m s ∷ after)) sent packet
+  To m s sent packet = Gives names side net now (sockets_of (before ++ holding m s ∷ after)) from sent packet
 
   found : (m : Meta) (s : Socket) → Has m s → Parties.socket_at (party now side) (length before) ≡ seen s
   found m s has =
@@ -102,18 +105,19 @@ module _ (names : List ℕ → Bool) (side : Side) (net now : Net) (r : Reaches 
       To m' (settled sent (Is.Raw v')) sent v'.offered
   raw_gives m m' cx v v' answer sent offers has = record {
     moved = looks_same m m' (Is.Raw v) (settled sent (Is.Raw v')) refl has;
-    made = λ done. if_some v'.offered (IsMade (party now side)) (λ x is.
+    made = λ done. if_some v'.offered (IsMadeFrom (party now side) from) (λ x is.
         let took = takes_one Raws.TakesPacket v (first v.queued) answer v' x offers is in
-        subst (MadeBy (party now side)) (sym (ap (λ (y : PacketValue). y.payload) took.1.carried)) tt);
+        subst (λ (y : PayloadValue). MadeBy (party now side) from (destination_of x.header) (normal_payload y))
+        (sym (ap (λ (y : PacketValue). y.payload) took.1.carried)) tt);
   }
 
   icmp_gives : (m m' : Meta) (cx : ContextValue) (v v' : IcmpValue) (answer : Answer.Offer) (sent : Bool) → Icmps.Offers cx v answer v' → Has m (Is.Icmp v) →
       To m' (settled sent (Is.Icmp v')) sent v'.offered
   icmp_gives m m' cx v v' answer sent offers has = record {
     moved = looks_same m m' (Is.Icmp v) (settled sent (Is.Icmp v')) refl has;
-    made = λ done. if_some v'.offered (IsMade (party now side)) (λ x is.
+    made = λ done. if_some v'.offered (IsMadeFrom (party now side) from) (λ x is.
         let took = takes_one (Icmps.TakesMessage cx) v (first v.queued) answer v' x offers is in
-        message_made (party now side) (cx.source_for took.0.0) took.0.0 took.0.1 (hops v.settings.hop_limit) x took.1);
+        message_made (party now side) from (cx.source_for took.0.0) took.0.0 took.0.1 (hops v.settings.hop_limit) x took.1);
   }
 
   udp_gives : (m m' : Meta) (cx : ContextValue) (v v' : UdpValue) (answer : Answer.Offer) (sent : Bool) → Udps.Offers cx v answer v' → Has m (Is.Udp v) →
@@ -123,56 +127,66 @@ module _ (names : List ℕ → Bool) (side : Side) (net now : Net) (r : Reaches 
         moves_by names side net now r move (sockets_of (before ++ holding m' (settled sent (Is.Udp v')) ∷ after)) (found m (Is.Udp v) has, offers) refl
         (changed m m' (Is.Udp v) (settled sent (Is.Udp v')) has)
         (grows_by (party now side) (Moves.party_after (party now side) move) [] (datagrams_of v'.offered) (sym (append-nil (party now side).segments)) refl);
-    made = λ done. there now side move (λ (y : Party). IfSome v'.offered (IsMade y))
-        (if_some v'.offered (IsMade (Moves.party_after (party now side) move)) (λ x is.
+    made = λ done. there now side move (λ (y : Party). IfSome v'.offered (IsMadeFrom y from))
+        (if_some v'.offered (IsMadeFrom (Moves.party_after (party now side) move) from) (λ x is.
         let took = takes_one (Udps.TakesDatagram cx) v (first v.queued) answer v' x offers is in
-        udp_made (Moves.party_after (party now side) move) (party now side).datagrams cx v.settings took.0 x
+        udp_made (Moves.party_after (party now side) move) from (party now side).datagrams cx v.settings took.0 x
         (ap (λ (o : Option PacketValue). (party now side).datagrams ++ datagrams_of o) is) took.1));
   } where
     move : Moves.Move
     move = Moves.Gives (length before) cx v answer v' sent
 
-  more_offered : (y : Party) (o : Option OpenOffer) (queue : List ℕ) → y.segments ≡ and_offer (party now side).segments o queue →
+  more_offered : (y : Party) (o : Option OpenOffer) (queue : List ℕ) → y.segments ≡ and_offer (party now side).segments from o queue →
       y.datagrams ≡ (party now side).datagrams → Grows (party now side) y
   more_offered y None queue s d = grows_to (party now side) y s d
   more_offered y (Some o) queue s d =
-      grows_by (party now side) y (made_of o.segment (payload_of o o.kind queue) ∷ []) [] s (d ∙ sym (append-nil (party now side).datagrams))
+      grows_by (party now side) y (made_of from (destination_of o.header) o.segment (payload_of o o.kind queue) ∷ []) [] s
+      (d ∙ sym (append-nil (party now side).datagrams))
 
-  tcp_gives : (m m' : Meta) (cx : ContextValue) (v : TcpValue) (sent : Bool) → Has m (Is.Tcp v) →
+  tcp_gives : (m m' : Meta) (cx : ContextValue) (v : TcpValue) (sent : Bool)
+      → IfSome (offer_of cx v).socket.offered (λ o. LeavesFrom cx from o.header) → Has m (Is.Tcp v) →
       To m' (settled sent (Is.Tcp (offer_of cx v).socket)) sent (offered_packet (offer_of cx v).socket)
-  tcp_gives m m' cx v true has = record {
+  tcp_gives m m' cx v true leaves has = record {
     moved =
         moves_by names side net now r move (sockets_of (before ++ holding m' (settled true (Is.Tcp (offer_of cx v).socket)) ∷ after))
-        (found m (Is.Tcp v) has) refl
+        (found m (Is.Tcp v) has, leaves) refl
         (changed m m' (Is.Tcp v) (settled true (Is.Tcp (offer_of cx v).socket)) has)
         (more_offered (Moves.party_after (party now side) move) (offer_of cx v).socket.offered (offer_of cx v).socket.queued.queue refl refl);
-    made = λ done. there now side move (λ (y : Party). IfSome (offered_packet (offer_of cx v).socket) (IsMade y))
-        (if_some (offered_packet (offer_of cx v).socket) (IsMade (Moves.party_after (party now side) move)) (λ x is.
-        tcp_made (Moves.party_after (party now side) move) (party now side).segments cx v x refl is));
+    made = λ done. there now side move (λ (y : Party). IfSome (offered_packet (offer_of cx v).socket) (IsMadeFrom y from))
+        (if_some (offered_packet (offer_of cx v).socket) (IsMadeFrom (Moves.party_after (party now side) move) from) (λ x is.
+        tcp_made (Moves.party_after (party now side) move) from (party now side).segments cx v x refl is));
   } where
     move : Moves.Move
-    move = Moves.Offers (length before) cx v true
-  tcp_gives m m' cx v false has = record {
+    move = Moves.Offers (length before) cx v from true
+  tcp_gives m m' cx v false leaves has = record {
     moved =
         moves_by names side net now r move (sockets_of (before ++ holding m' (settled false (Is.Tcp (offer_of cx v).socket)) ∷ after))
-        (found m (Is.Tcp v) has) refl
+        (found m (Is.Tcp v) has, leaves) refl
         (changed m m' (Is.Tcp v) (settled false (Is.Tcp (offer_of cx v).socket)) has)
         (grows_to (party now side) (Moves.party_after (party now side) move) refl refl);
     made = λ done. absurd (cc);
   } where
     move : Moves.Move
-    move = Moves.Offers (length before) cx v false
+    move = Moves.Offers (length before) cx v from false
 
-  pub gives : (m m' : Meta) (cx : ContextValue) (s offered : Socket) (answer : Answer.Offer) (sent : Bool) → IsFit s → Offers cx s answer offered → Has m s
+  offer_leaves : (cx : ContextValue) (o : Option OpenOffer) (queue : List ℕ) → IfSome (packet_with o queue) (λ x. LeavesFrom cx from x.header) →
+      IfSome o (λ o. LeavesFrom cx from o.header)
+  offer_leaves cx None queue leaves = tt
+  offer_leaves cx (Some o) queue leaves = leaves
+
+  pub gives : (m m' : Meta) (cx : ContextValue) (s offered : Socket) (answer : Answer.Offer) (sent : Bool) → IsFit s → Offers cx s answer offered
+      → IfSome (offered_by offered) (λ x. LeavesFrom cx from x.header) → Has m s
       → To m' (settled sent offered) sent (offered_by offered)
-  gives m m' cx (Is.Raw v) (Is.Raw v') answer sent fit offers has = raw_gives m m' cx v v' answer sent offers has
-  gives m m' cx (Is.Icmp v) (Is.Icmp v') answer sent fit offers has = icmp_gives m m' cx v v' answer sent offers has
-  gives m m' cx (Is.Udp v) (Is.Udp v') answer sent fit offers has = udp_gives m m' cx v v' answer sent offers has
-  gives m m' cx (Is.Tcp v) (Is.Tcp v') answer sent fit offers has =
-      subst (λ (w : TcpValue). To m' (settled sent (Is.Tcp w)) sent (offered_packet w)) (sym offers.1) (tcp_gives m m' cx v sent has)
-  gives m m' cx (Is.Dhcpv4 v) offered answer sent fit offers has = absurd fit.0
-  gives m m' cx (Is.Dns v) offered answer sent fit offers has = absurd fit.0
-  gives m m' cx s offered answer sent fit offers has = absurd offers
+  gives m m' cx (Is.Raw v) (Is.Raw v') answer sent fit offers leaves has = raw_gives m m' cx v v' answer sent offers has
+  gives m m' cx (Is.Icmp v) (Is.Icmp v') answer sent fit offers leaves has = icmp_gives m m' cx v v' answer sent offers has
+  gives m m' cx (Is.Udp v) (Is.Udp v') answer sent fit offers leaves has = udp_gives m m' cx v v' answer sent offers has
+  gives m m' cx (Is.Tcp v) (Is.Tcp v') answer sent fit offers leaves has =
+      subst (λ (w : TcpValue). To m' (settled sent (Is.Tcp w)) sent (offered_packet w)) (sym offers.1) (tcp_gives m m' cx v sent
+      (offer_leaves cx (offer_of cx v).socket.offered (offer_of cx v).socket.queued.queue
+      (subst (λ (w : TcpValue). IfSome (offered_packet w) (λ x. LeavesFrom cx from x.header)) offers.1 leaves)) has)
+  gives m m' cx (Is.Dhcpv4 v) offered answer sent fit offers leaves has = absurd fit.0
+  gives m m' cx (Is.Dns v) offered answer sent fit offers leaves has = absurd fit.0
+  gives m m' cx s offered answer sent fit offers leaves has = absurd offers
 
 -- an offer that is silent leaves none open
 none_open : (o : Option OpenOffer) (queue : List ℕ) → packet_with o queue ≡ None → o ≡ None
@@ -198,6 +212,10 @@ unsettled (Is.Udp v) none = λ k. Is.Udp (record v { offered = sym none k })
 unsettled (Is.Dhcpv4 v) none = let no_offer : v.offered ≡ None = none_kept v.offered none in λ k. Is.Dhcpv4 (record v { offered = sym no_offer k })
 unsettled (Is.Dns v) none = let no_offer : v.offered ≡ None = none_asked v.offered none in λ k. Is.Dns (record v { offered = sym no_offer k })
 unsettled (Is.Tcp v) none = let no_offer : v.offered ≡ None = none_open v.offered v.queued.queue none in λ k. Is.Tcp (record v { offered = sym no_offer k })
+
+-- where nothing goes, it leaves from anywhere
+nowhere : IpAddress
+nowhere = Address.Ipv4 (record { 0 = [] })
 
 -- THE TURN
 
@@ -254,10 +272,11 @@ module _ {D : Type 0} (moves : D → Move → D → Type 0) (turn_of : Option Ip
       → Answers moves turn_of (Offer.Silent changed) x (record item { socket = offered }) turned x' item' → Now (At x (Some item)) → Now (At x' (Some item'))
   silent x x' item item' offered changed turned fit offers answers f =
       let cx = context_for x.inner item.socket in
-      let given = gives names side net f.now f.reaches before after item.meta unmarked cx item.socket offered (Offer.Silent changed) false
-      fit offers f.sockets in
-      let same : settled false offered ≡ offered =
-      unsettled offered (none_offered (offered_by offered) changed (has_packet item.socket offered cx (Offer.Silent changed) offers)) in
+      let none : offered_by offered ≡ None =
+      none_offered (offered_by offered) changed (has_packet item.socket offered cx (Offer.Silent changed) offers) in
+      let given = gives names side net f.now f.reaches before after nowhere item.meta unmarked cx item.socket offered (Offer.Silent changed) false
+      fit offers (subst (λ (o : Option PacketValue). IfSome o (λ x. LeavesFrom cx nowhere x.header)) (sym none) tt) f.sockets in
+      let same : settled false offered ≡ offered = unsettled offered none in
       let still : Now (At x (Some (record { meta = unmarked; socket = offered }))) =
       subst (λ (s : Socket). Now (At x (Some (record { meta = unmarked; socket = s })))) same
       (moved_on x (Some item) (before ++ holding unmarked (settled false offered) ∷ after) f given.moved) in
@@ -276,8 +295,11 @@ module _ {D : Type 0} (moves : D → Move → D → Type 0) (turn_of : Option Ip
       let sent = goes.0 in
       let meta = marked sent x.inner.moment (waits_until (plan_at x leaving) x'.inner) (destination_of leaving.header) item.meta in
       let places = before ++ holding meta (settled (is_done sent) offered) ∷ after in
-      let given = gives names side net f.now f.reaches before after item.meta meta (context_for x.inner item.socket) item.socket offered (Offer.Packet changed)
-      (is_done sent) fit offers f.sockets in
+      let cx = context_for x.inner item.socket in
+      let from = source_of (sourced x.inner packet).header in
+      let from_it : LeavesFrom cx from packet.header = leaves_from x.inner packet in
+      let given = gives names side net f.now f.reaches before after from item.meta meta cx item.socket offered (Offer.Packet changed)
+      (is_done sent) fit offers (subst (λ (o : Option PacketValue). IfSome o (λ y. LeavesFrom cx from y.header)) is from_it) f.sockets in
       let on = moved_on x (Some item) places f given.moved in
       let told : Next (sending_as h x' places) = record {
         now = on.now;
@@ -286,7 +308,8 @@ module _ {D : Type 0} (moves : D → Move → D → Type 0) (turn_of : Option Ip
         link = leaves x x' places (party given.moved.next side) item.meta leaving sent
             (subst IsWide (sym sending.1) (sourced_wide x.inner packet (wide sending.2) (subst IsWellFormed sending.1 goes.4)))
             (λ done. subst (IsMade (party given.moved.next side)) (sym sending.1)
-            (some_so (offered_by offered) (IsMade (party given.moved.next side)) packet (sym is) (given.made done))) goes.1 on.link;
+            (sourced_made (party given.moved.next side) x.inner packet
+            (some_so (offered_by offered) (IsMadeFrom (party given.moved.next side) from) packet (sym is) (given.made done)))) goes.1 on.link;
       } in
       subst (λ (i : Item Socket). Next (At x' (Some i))) (sym goes.3) told
 

@@ -1,5 +1,7 @@
 -- What may happen, and what becomes of it.
-use Rattle.std.specs.Prelude.{◌≡◌, ℕ, Bool, true, false, List, [], ◌∷◌, ◌++◌, slice_set, Option, Some, None}
+use Rattle.std.specs.Prelude.{◌≡◌, ◌⊎◌, ℕ, Bool, true, false, List, [], ◌∷◌, ◌++◌, slice_set, Option, Some, None, IfSome}
+use Rattle.ip_wire.specs.Ip.{source_of, destination_of}
+use Rattle.ip_wire.specs.IpAddress.{IpAddress}
 use Rattle.ip_wire.specs.IpRepr.{IpRepr}
 use Rattle.ip_wire.specs.TcpHeader.{TcpHeader}
 use Rattle.ip_wire.specs.UdpRepr.{UdpRepr}
@@ -10,7 +12,7 @@ use Rattle.sockets.specs.SocketValue as Datagrams
 use Rattle.sockets.specs.Udp as Udps
 use Rattle.sockets.specs.Udp.{UdpValue}
 use Rattle.tcp_tie.specs.Segment.Control.{Rst}
-use Rattle.tcp_tie.specs.Host.{Made, made_of, IsAmong, and_answer, and_offer}
+use Rattle.tcp_tie.specs.Host.{Made, seen_of, MayCome, and_answer, and_offer}
 use Rattle.tcp_tie.specs.Tie.{core_of}
 use Rattle.tcp_model.specs.Arrival.{arrives}
 use Rattle.tcp_model.specs.Names.{accepts}
@@ -38,11 +40,11 @@ pub data Move : Type 0 where
   Invokes : (place : ℕ) (cx : ContextValue) (old : Socket) (entry : Entry) (call : SocketCall) (new : Socket) → Move
   -- an event that is no call of a TCP or UDP socket
   Passes : (entry : Entry) → Move
-  -- a TCP socket is asked for a segment, and the offer is settled
-  Offers : (place : ℕ) (cx : ContextValue) (v : TcpValue) (sent : Bool) → Move
+  -- a TCP socket is asked for a segment, and the offer is settled; one that is sent leaves from this address
+  Offers : (place : ℕ) (cx : ContextValue) (v : TcpValue) (from : IpAddress) (sent : Bool) → Move
   -- a UDP socket is asked for a datagram, and the offer is settled
   Gives : (place : ℕ) (cx : ContextValue) (v : UdpValue) (answer : Answers.Offer) (v' : UdpValue) (sent : Bool) → Move
-  -- a TCP segment that the other host made comes to a socket that accepts it
+  -- a TCP segment that the other host made, between these addresses and with this header and these bytes, comes to a socket that accepts it
   Takes : (place : ℕ) (cx : ContextValue) (v : TcpValue) (ip : IpRepr) (header : TcpHeader) (bytes : List ℕ) → Move
   -- a UDP datagram that the other host made comes to a socket that accepts it
   Receives : (place : ℕ) (cx : ContextValue) (v : UdpValue) (ip : IpRepr) (udp : UdpRepr) (bytes : List ℕ) → Move
@@ -86,20 +88,27 @@ LooksSame (Udp v) (Udp new) =
     (new.settings.endpoint.port ≡ v.settings.endpoint.port) × (contents new.received ≡ contents v.received) × (contents new.queued ≡ contents v.queued)
 LooksSame old new = ⊥
 
+-- OFFERS
+
+-- An offer leaves from its source, or from the address that the host chooses for its destination, where its source can't be one any more
+-- (RFC 1122, sections 3.2.1.3 and 3.3.4.3).
+abbrev pub LeavesFrom : ContextValue → IpAddress → IpRepr → Type 0
+LeavesFrom cx from header = (from ≡ source_of header) ⊎ (cx.source_for (destination_of header) ≡ Some from)
+
 -- THE HOST AFTERWARDS
 
 abbrev pub with_socket : Party → ℕ → Socket → Party
 with_socket p i s = record p { sockets = slice_set p.sockets i (Some s) }
 
-abbrev pub offered_segments : Bool → Party → TcpValue → List Made
-offered_segments true p v = and_offer p.segments v.offered v.queued.queue
-offered_segments false p v = p.segments
+abbrev pub offered_segments : Bool → Party → IpAddress → TcpValue → List Made
+offered_segments true p from v = and_offer p.segments from v.offered v.queued.queue
+offered_segments false p from v = p.segments
 
 abbrev pub party_after : Party → Move → Party
 party_after p (Invokes place cx old entry call new) = with_socket p place new
 party_after p (Passes entry) = p
-party_after p (Offers place cx v sent) =
-    record (with_socket p place (Tcp (settled sent (offer_of cx v).socket))) { segments = offered_segments sent p (offer_of cx v).socket }
+party_after p (Offers place cx v from sent) =
+    record (with_socket p place (Tcp (settled sent (offer_of cx v).socket))) { segments = offered_segments sent p from (offer_of cx v).socket }
 party_after p (Gives place cx v answer v' sent) =
     record (with_socket p place (Udp (Datagrams.settled sent v'))) { datagrams = p.datagrams ++ datagrams_of v'.offered }
 party_after p (Takes place cx v ip header bytes) =
@@ -120,14 +129,16 @@ May names net side (Invokes place cx old entry call new) =
     (socket_at (party net side) place ≡ Some old) × (kind_of entry.event ≡ calls side place call)
     × IsAllowed (places_of names net) net.history (kind_of entry.event) × Does cx old call entry.answer entry.found new
 May names net side (Passes entry) = IsNoCall (kind_of entry.event)
-May names net side (Offers place cx v sent) = socket_at (party net side) place ≡ Some (Tcp v)
+May names net side (Offers place cx v from sent) =
+    (socket_at (party net side) place ≡ Some (Tcp v)) × IfSome (offer_of cx v).socket.offered (λ o. LeavesFrom cx from o.header)
 May names net side (Gives place cx v answer v' sent) = (socket_at (party net side) place ≡ Some (Udp v)) × Udps.Offers cx v answer v'
 May names net side (Takes place cx v ip header bytes) =
-    (socket_at (party net side) place ≡ Some (Tcp v)) × (accepts v.block ip header ≡ true) × IsAmong (party net (other side)).segments (made_of header bytes)
+    (socket_at (party net side) place ≡ Some (Tcp v)) × (accepts v.block ip header ≡ true)
+    × MayCome (party net (other side)).segments (source_of ip) (destination_of ip) header bytes
 May names net side (Receives place cx v ip udp bytes) =
     (socket_at (party net side) place ≡ Some (Udp v)) × (Udps.accepts cx v ip udp ≡ true)
     × WasMade (party net (other side)) (record { source = udp.src_port; destination = udp.dst_port; bytes = bytes })
-May names net side (Resets x) = x.segment.control ≡ Rst
+May names net side (Resets x) = (seen_of x).control ≡ Rst
 May names net side (Changes place old new) = (socket_at (party net side) place ≡ Some old) × LooksSame old new
 
 -- RUNS

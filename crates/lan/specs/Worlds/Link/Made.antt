@@ -1,13 +1,14 @@
--- What a host made, and what a frame brings of it. `made` says what TCP segments and UDP datagrams the host made, with the header
--- that a reader makes of it.
+-- What a host made, and what a frame brings of it. `made` says what TCP segments and UDP datagrams the host made from one address to
+-- another, with the header that a reader makes of it.
 use Rattle.std.specs.Prelude.{◌≡◌, ◌⊎◌, ℕ, true, false, List, slice_get, Option, None, Some}
 use Rattle.lan_base.specs.Capabilities.{all_checksums}
 use Rattle.lan_base.specs.Checksum.TheVariants as Checksum
 use Rattle.lan_base.specs.ChecksumCapabilities.{ChecksumCapabilities}
 use Rattle.interface.specs.Ip as Ips
-use Rattle.interface.specs.Ip.{carried_in}
+use Rattle.interface.specs.Ip.{carried_in, source_of, destination_of}
 use Rattle.interface.specs.IpRepr.{IpRepr}
 use Rattle.interface.specs.IpRepr.TheVariants as Ip
+use Rattle.interface_ingress.specs.IpAddress.{IpAddress}
 use Rattle.sockets.specs.Packet.{PacketValue, PayloadValue, ControlV4, ControlV6, Bytes, Datagram, Segment, payload_written}
 use Rattle.interface_ingress.specs.Carried.{IsCarried}
 use Rattle.interface_ingress.specs.Upper.{upper_header, upper_payload}
@@ -17,9 +18,19 @@ use Rattle.interface_ingress.specs.Sent.{CanBeRead, normal_payload}
 use Rattle.interface.specs.Delivered.{NamesNoPorts}
 use Rattle.interface.specs.Taken.{IsOffered}
 
+-- which payloads a host made, from one address to another
+abbrev pub Makes : Type 1
+Makes = IpAddress → IpAddress → PayloadValue → Type 0
+
+-- a payload with the addresses of its packet
+pub record Addressed : Type 0 where
+  pub source : IpAddress
+  pub destination : IpAddress
+  pub payload : PayloadValue
+
 -- it is one of these
-abbrev pub IsIn : List PayloadValue → PayloadValue → Type 0
-IsIn made x = (k : ℕ) × (slice_get made k ≡ Some x)
+abbrev pub IsIn : List Addressed → IpAddress → IpAddress → PayloadValue → Type 0
+IsIn made source destination x = (k : ℕ) × (slice_get made k ≡ Some (record { source = source; destination = destination; payload = x }))
 
 -- every checksum is written and tested
 abbrev pub sealed : ChecksumCapabilities
@@ -34,18 +45,19 @@ IsWholeV6 (Ip.Ipv6 header) payload = is_piece_v6 header payload ≡ false
 abbrev pub CarriesNone : IpRepr → List ℕ → Type 0
 CarriesNone ip payload = NamesNoPorts (carried_in (upper_header ip payload)) × IsWholeV6 ip payload
 
-module _ (made : PayloadValue → Type 0) where
-  -- a segment or a datagram was made; of anything else nothing is asked
-  abbrev pub WasMade : PayloadValue → Type 0
-  WasMade (Datagram udp bytes) = made (Datagram udp bytes)
-  WasMade (Segment header bytes) = made (Segment header bytes)
-  WasMade (ControlV4 message bytes) = Unit {0}
-  WasMade (ControlV6 message bytes) = Unit {0}
-  WasMade (Bytes bytes) = Unit {0}
+module _ (made : Makes) where
+  -- a segment or a datagram was made between these addresses; of anything else nothing is asked
+  abbrev pub WasMade : IpAddress → IpAddress → PayloadValue → Type 0
+  WasMade source destination (Datagram udp bytes) = made source destination (Datagram udp bytes)
+  WasMade source destination (Segment header bytes) = made source destination (Segment header bytes)
+  WasMade source destination (ControlV4 message bytes) = Unit {0}
+  WasMade source destination (ControlV6 message bytes) = Unit {0}
+  WasMade source destination (Bytes bytes) = Unit {0}
 
-  -- whatever is read behind this header, and its extension headers, was made
+  -- whatever is read behind this header, and its extension headers, was made between its addresses
   abbrev pub HandsMade : IpRepr → List ℕ → Type 0
-  HandsMade ip payload = (x : PayloadValue) → IsCarried sealed (upper_header ip payload) (upper_payload ip payload) x → WasMade x
+  HandsMade ip payload = (x : PayloadValue) → IsCarried sealed (upper_header ip payload) (upper_payload ip payload) x →
+      WasMade (source_of ip) (destination_of ip) x
 
   -- what is whole brings what was made
   abbrev pub BringsMade : Option IncomingValue → Type 0
@@ -61,11 +73,11 @@ module _ (made : PayloadValue → Type 0) where
   IsWholeMade (Ip6 link header payload) = (is_piece_v6 header payload ≡ false) × HandsMade (Ip.Ipv6 header) payload
 
   -- A packet that a host sends: its lengths fit, its fields are numbers of their widths, and it carries neither TCP nor UDP and is no piece
-  -- of IPv6, or it carries what the host made.
+  -- of IPv6, or it carries what the host made between its addresses.
   pub record IsGoing (p : PacketValue) : Type 0 where
     pub offered : IsOffered p
     pub carries : CarriesNone (Ips.normal p.header) (payload_written sealed p.header p.payload)
-        ⊎ (CanBeRead p.header p.payload × made (normal_payload p.payload))
+        ⊎ (CanBeRead p.header p.payload × made (source_of p.header) (destination_of p.header) (normal_payload p.payload))
 
 -- the bytes behind a packet's IP header
 abbrev pub bytes_of : PacketValue → List ℕ

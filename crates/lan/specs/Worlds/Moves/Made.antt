@@ -2,16 +2,18 @@
 use Rattle.std.specs.Prelude.{ℕ, List, Option, None, Some}
 use Rattle.lan_base.specs.ChecksumCapabilities.{ChecksumCapabilities}
 use Rattle.interface.specs.Ip as Ips
+use Rattle.interface.specs.Ip.{source_of, destination_of}
 use Rattle.interface.specs.IpRepr.{IpRepr}
 use Rattle.interface.specs.IpRepr.TheVariants as Ip
 use Rattle.ip_tcp.specs.declared.header.TcpHeader.{TcpHeader}
 use Rattle.interface.specs.UdpRepr.{UdpRepr}
+use Rattle.interface_ingress.specs.IpAddress.{IpAddress}
 use Rattle.sockets.specs.Packet.{PacketValue, PayloadValue, ControlV4, ControlV6, Bytes, Datagram, Segment}
-use Rattle.tcp_tie.specs.Host.{Made, made_of, IsAmong}
+use Rattle.tcp_tie.specs.Host.{Made, IsAmong, MayCome}
 use Rattle.lan.specs.Worlds.Link.Made.{CarriesNone}
 use Rattle.interface.specs.Taken.{IsOffered}
 use Rattle.interface_ingress.specs.Carried.{IsDatagram, IsSegment}
-use Rattle.interface_ingress.specs.Sent.{CanBeRead}
+use Rattle.interface_ingress.specs.Sent.{CanBeRead, normal_payload}
 use Rattle.interface_ingress.specs.Incoming.{IncomingValue, Arp, Ip4, Ip6}
 use Rattle.interface_ingress.specs.Upper.{upper_header, upper_payload}
 use Rattle.lan.specs.Worlds.AtLink.Parties as Parties
@@ -27,16 +29,18 @@ datagram_of udp bytes = record { source = udp.src_port; destination = udp.dst_po
 
 -- WHAT GOES
 
--- a segment and a datagram that this host made; what else a packet carries is nobody's
-abbrev pub MadeBy : Party → PayloadValue → Type 0
-MadeBy p (ControlV4 message bytes) = Unit {0}
-MadeBy p (ControlV6 message bytes) = Unit {0}
-MadeBy p (Bytes bytes) = Unit {0}
-MadeBy p (Datagram udp bytes) = WasMade p (datagram_of udp bytes)
-MadeBy p (Segment header bytes) = IsAmong p.segments (made_of header bytes)
+-- a segment that this host made between these addresses, as a reader has it, and a datagram that it made; what else a packet carries is
+-- nobody's
+abbrev pub MadeBy : Party → IpAddress → IpAddress → PayloadValue → Type 0
+MadeBy p source destination (ControlV4 message bytes) = Unit {0}
+MadeBy p source destination (ControlV6 message bytes) = Unit {0}
+MadeBy p source destination (Bytes bytes) = Unit {0}
+MadeBy p source destination (Datagram udp bytes) = WasMade p (datagram_of udp bytes)
+MadeBy p source destination (Segment header bytes) = MayCome p.segments source destination header bytes
 
+-- what a reader has of the packet was made
 abbrev pub IsMade : Party → PacketValue → Type 0
-IsMade p x = MadeBy p x.payload
+IsMade p x = MadeBy p (source_of x.header) (destination_of x.header) (normal_payload x.payload)
 
 -- FORM
 
@@ -53,10 +57,10 @@ pub record IsWide (x : PacketValue) : Type 0 where
 
 -- WHAT COMES
 
--- each segment and each datagram that this payload is read as was made by this host
+-- each segment that this payload is read as was made by this host, between these addresses, and so was each datagram
 pub record HandsMade (q : Party) (caps : ChecksumCapabilities) (ip : IpRepr) (payload : List ℕ) : Type 0 where
   pub segments : (header : TcpHeader) (bytes : List ℕ) → IsSegment caps (upper_header ip payload) (upper_payload ip payload) header bytes
-      → IsAmong q.segments (made_of header bytes)
+      → MayCome q.segments (source_of ip) (destination_of ip) header bytes
   pub datagrams : (udp : UdpRepr) (bytes : List ℕ) → IsDatagram caps (upper_header ip payload) (upper_payload ip payload) udp bytes
       → WasMade q (datagram_of udp bytes)
 
