@@ -13,6 +13,7 @@ pub mod Beginnings
 pub mod PolledJoins
 pub mod Runs
 pub mod Rebuilding
+pub mod Whole
 pub mod Damages
 pub mod SaidPolls
 pub mod SaidRuns

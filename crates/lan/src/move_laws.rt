@@ -1,27 +1,36 @@
 //! What one host does, in a poll and beside it, is a run of moves over packets.
-ghost use Rattle.std.specs.Prelude.{◌≡◌, ◌∷◌, Bool, IfSome, List, Option, Some, ℕ};
+ghost use Rattle.std.specs.Prelude.{◌≡◌, ◌∷◌, ◌++◌, Bool, IfSome, List, Option, Some, slice_get, ℕ};
 ghost use Rattle.sockets.specs.Raw as Raws;
 ghost use Rattle.sockets.specs.Raw.{RawValue};
 ghost use Rattle.lan.specs.Worlds.Link.Made.{CarriesNone, bytes_of};
-ghost use Rattle.interface.specs.Ip.{normal};
+ghost use Rattle.interface.specs.Ip.{normal, source_of, destination_of};
 ghost use Rattle.interface.specs.IpRepr.{IpRepr};
+ghost use Rattle.ip_tcp.specs.Tcp as Tcp;
+ghost use Rattle.ip_tcp.specs.declared.header.TcpHeader.{TcpHeader};
+ghost use Rattle.tcp_model.specs.Value.{TcpValue};
+ghost use Rattle.tcp_tie.specs.Host.{Made, IsAmong};
 ghost use Rattle.lan.specs.Worlds.AtLink.Arrives.{Answers, Arrived, Brings};
 ghost use Rattle.lan.specs.Worlds.AtLink.Delivered.{Places};
 ghost use Rattle.lan.specs.Worlds.AtLink.Handed.{handed_reply};
-ghost use Rattle.lan.specs.Worlds.AtLink.Incoming.{IncomingValue};
+ghost use Rattle.lan.specs.Worlds.AtLink.Incoming.{IncomingValue, IsContent};
 ghost use Rattle.lan.specs.Worlds.AtLink.Inner.{InnerValue};
 ghost use Rattle.sockets.specs.Socket.{Offers, offered_by};
 ghost use Rattle.sockets.specs.declared.socket.Socket.{Socket};
 ghost use Rattle.lan_base.specs.Carried.{names_tcp_or_udp};
 ghost use Rattle.lan.specs.Worlds.Moves.Fit.{AreFit, IsFit};
 ghost use Rattle.lan.specs.Worlds.Moves.Follows.{Comes, IsNetOf, IsNoPoll};
-ghost use Rattle.lan.specs.Worlds.Moves.Made.{IsWide};
+ghost use Rattle.lan.specs.Worlds.Moves.Joined.{first_net};
+ghost use Rattle.lan.specs.Worlds.Moves.Made.{BringsMade, IsWide};
 ghost use Rattle.lan.specs.Worlds.Moves.Protocols.{NamesItsPayload};
 ghost use Rattle.lan.specs.Worlds.Moves.Raws.{OfEach, QueuesForeign};
 ghost use Rattle.lan.specs.Worlds.AtLink.History.{Entry};
-ghost use Rattle.lan.specs.Worlds.AtLink.Kinds.{kind_of};
+ghost use Rattle.lan.specs.Worlds.AtLink.Kinds.{kind_of, other};
+ghost use Rattle.lan.specs.Worlds.AtLink.Moves.{Step, IsRun, run};
+ghost use Rattle.lan.specs.Worlds.AtLink.Moves.Move.{Takes};
 ghost use Rattle.lan.specs.Worlds.AtLink.Side.{Side};
-ghost use Rattle.lan.specs.Worlds.AtLink.Parties.{Net};
+ghost use Rattle.lan.specs.Worlds.AtLink.Parties.{Net, party};
+ghost use Rattle.lan.specs.Worlds.Events.{AreTyped};
+ghost use Rattle.lan.specs.Worlds.Rebuilt.{taken_next};
 ghost use Rattle.lan.specs.Worlds.AtLink.Fresh.{IsFreshWorld};
 ghost use Rattle.lan.specs.Worlds.AtLink.Runs.{Leads, Starts, WorldRun, unused_both};
 ghost use Rattle.lan.specs.Worlds.AtLink.Station.{Stations, station};
@@ -41,6 +50,30 @@ pub fn events_are_moves()
         → IsNoPoll (kind_of e.event)
         → Leads past old e new
         → Comes (names_tcp_or_udp Medium.Ip) net new (e ∷ past) }
+{}
+
+/// Law: each TCP segment that a socket takes is, field by field, one that the other host had made: between the addresses of its packet,
+/// with these bytes, and with the header that a reader has of the one that was written, its window and its options with it. And wherever
+/// events led two fresh hosts, such moves led their sockets there; and each segment and each datagram that a frame which waits for a host
+/// brings when the host takes it next, whole or rebuilt of pieces, was made so.
+#[tactic(auto, using(crate::proofs::Worlds::Whole::made_whole))]
+pub fn what_a_socket_takes_was_made_whole()
+    ensures takes { (names : List ℕ → Bool) (net : Net) (steps more : List Step) (side : Side) (place : ℕ) (cx : ContextValue) (v : TcpValue)
+        (ip : IpRepr) (header : TcpHeader) (bytes : List ℕ)
+        → IsRun names net (steps ++ record { side = side; move = Takes place cx v ip header bytes } ∷ more)
+        → (x : Made) × IsAmong (party (run net steps) (other side)).segments x
+        × (source_of ip ≡ x.from) × (destination_of ip ≡ x.to) × (header ≡ Tcp.normal x.header) × (bytes ≡ x.bytes) }
+    ensures world { (starts : Starts) (history : List Entry) (hosts : Stations)
+        → IsFreshWorld starts
+        → AreTyped history
+        → WorldRun history (unused_both starts) hosts
+        → (steps : List Step) × IsRun (names_tcp_or_udp Medium.Ip) (first_net starts) steps
+        × IsNetOf (run (first_net starts) steps) hosts history
+        × ((side : Side) (place : ℕ) (frame : List ℕ) (content : Option IncomingValue)
+        → slice_get (station hosts side).link.waiting place ≡ Some frame
+        → IsContent (station hosts side).host.inner.hardware (station hosts side).host.inner.checksums frame content
+        → BringsMade (party (run (first_net starts) steps) (other side)) (station hosts side).host.inner.checksums
+        (taken_next (station hosts side) content)) }
 {}
 
 /// Law: wherever two hosts came from a fresh start, no raw socket of theirs has a packet of TCP or UDP in its queue, nor a piece of an

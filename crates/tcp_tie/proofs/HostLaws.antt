@@ -20,7 +20,7 @@ use Rattle.tcp_model.specs.Settled.{settled}
 use Rattle.tcp_model.specs.Value.{TcpValue}
 use Rattle.tcp_tie.specs.Endpoints.{Ports, HasPorts}
 use Rattle.tcp_tie.specs.History.{with_sent, with_answer, with_offer}
-use Rattle.tcp_tie.specs.Host.{Made, made_of, source_port, destination_port, seen_of, sent_from, past_at, IsAmong, MayCome, and_answer, and_offer}
+use Rattle.tcp_tie.specs.Host.{Made, made_of, made_by, source_port, destination_port, seen_of, sent_from, past_at, IsAmong, MayCome, and_answer, and_offer}
 use Rattle.tcp_tie.specs.Promises.{KeepsAlone}
 use Rattle.tcp_tie.specs.Tie.{Past, Keeps, segment_of}
 use Rattle.tcp_tie.proofs.AloneLaws.{reset_comes}
@@ -81,7 +81,8 @@ among_at port (y ∷ made) x (suc k) e source = by (source_port y == port) (amon
   by true at = (suc at.0, at.1)
   by false at = at
 
-pub among_sent : (port : ℕ) (made : List Made) (x : Made) → IsAmong made x → source_port x ≡ port → (k : ℕ) × (slice_get (sent_from port made) k ≡ Some (seen_of x))
+pub among_sent : (port : ℕ) (made : List Made) (x : Made) → IsAmong made x → source_port x ≡ port →
+    (k : ℕ) × (slice_get (sent_from port made) k ≡ Some (seen_of x))
 among_sent port made x among source = among_at port made x among.0 among.1 source
 
 pub resets_from : (port : ℕ) (made : List Made) → AllByRecursion (λ x. source_port x ≡ port → (seen_of x).control ≡ Rst) made → AreResets (sent_from port made)
@@ -101,7 +102,7 @@ pub past_of_answer :
     (port : ℕ) (made : List Made) (p : Past) (answer : Option Reply) → ((reply : Reply) → answer ≡ Some reply → reply.segment.src_port ≡ port)
     → with_answer (past_at port made p) answer ≡ past_at port (and_answer made answer) p
 past_of_answer port made p None from = refl
-past_of_answer port made p (Some reply) from = past_of_sent port made p (made_of (source_of reply.header) (destination_of reply.header) reply.segment []) (from reply refl)
+past_of_answer port made p (Some reply) from = past_of_sent port made p (made_by reply) (from reply refl)
 
 pub past_of_offer :
     (port : ℕ) (made : List Made) (p : Past) (source : IpAddress) (offer : Option OpenOffer) (queue : List ℕ)
@@ -162,7 +163,8 @@ keeps_made_reset v w p q port made x k reset = by (source_port x == port) refl w
   by : (test : Bool) → (source_port x == port) ≡ test → Keeps v (past_at port (made ++ x ∷ []) p) w q
   by true here = subst (λ (p : Past). Keeps v p w q) (past_of_sent port made p x (eqb-true (source_port x) port here))
       (keeps_reset v w (past_at port made p) q (seen_of x) reset k)
-  by false there = keeps_made_elsewhere v w p q port made x k (λ same. let clash : true ≡ false = sym (test_same (source_port x) port same) ∙ there in absurd (cc))
+  by false there = keeps_made_elsewhere v w p q port made x k (λ same.
+      let clash : true ≡ false = sym (test_same (source_port x) port same) ∙ there in absurd (cc))
 
 -- WITHOUT A PARTNER
 

@@ -50,9 +50,12 @@ pub record MayCome (made : List Made) (from to : IpAddress) (header : TcpHeader)
   pub read : header ≡ normal written
 
 -- what answers a segment was made
+abbrev pub made_by : Reply → Made
+made_by reply = made_of (source_of reply.header) (destination_of reply.header) reply.segment []
+
 abbrev pub and_answer : List Made → Option Reply → List Made
 and_answer made None = made
-and_answer made (Some reply) = made ++ made_of (source_of reply.header) (destination_of reply.header) reply.segment [] ∷ []
+and_answer made (Some reply) = made ++ made_by reply ∷ []
 
 -- what a socket offered and left from this address, with its part of the send queue
 abbrev pub and_offer : List Made → IpAddress → Option OpenOffer → List ℕ → List Made

@@ -1,6 +1,6 @@
 //! The invariant between two sockets, where what each of them sent is told by the segments of its host.
 
-ghost use Rattle.std.specs.Prelude.{◌≡◌, ◌≢◌, ◌⊎◌, ◌==◌, ◌++◌, ℕ, ℤ, true, if◌then◌else◌, List, [], ◌∷◌, Some, false, slice_get};
+ghost use Rattle.std.specs.Prelude.{◌≡◌, ◌≢◌, ◌⊎◌, ◌==◌, ◌++◌, ℕ, ℤ, true, false, if◌then◌else◌, List, [], ◌∷◌, Some, slice_get};
 ghost use Rattle.std.specs.List.{AllByRecursion};
 ghost use Rattle.ip_wire.specs.Ip.{source_of, destination_of};
 ghost use Rattle.ip_wire.specs.IpAddress.{IpAddress};

@@ -6,8 +6,6 @@ use Rattle.lan_base.specs.Medium.{Medium}
 use Rattle.lan_base.specs.Medium.TheVariants as Medium
 use Rattle.interface_ingress.specs.HardwareAddress.{HardwareAddress}
 use Rattle.interface_ingress.specs.HardwareAddress.TheVariants as Hardware
-use Rattle.interface_ingress.specs.IpAddress.{IpAddress}
-use Rattle.sockets.specs.Packet.{PayloadValue}
 use Rattle.interface_tables.specs.Inner.{InnerValue}
 use Rattle.interface_tables.specs.Reassembly.{SlotValue, is_free}
 use Rattle.interface_tables.specs.declared.key.FragKey.{FragKey}
@@ -24,6 +22,7 @@ use Rattle.lan.specs.Worlds.AtLink.Runs.{Start, Starts, start, unused, unused_bo
 use Rattle.lan.specs.Worlds.AtLink.Station.{station}
 use Rattle.lan.specs.Worlds.Moves.Joined.{first_net}
 use Rattle.lan.specs.Worlds.Moves.Made.{MadeBy}
+use Rattle.lan.specs.Worlds.Link.Made.{Makes}
 use Rattle.lan.specs.Worlds.Link.Frames.{Outgoing, medium_on}
 use Rattle.lan.specs.Worlds.Link.Held.{IsSlotOf, AreSlotsOf}
 use Rattle.lan.specs.Worlds.Link.Sides.{HasSixBytes, IsStation, IsSound, IsLeft, AreSent}
@@ -69,7 +68,7 @@ module _ (s : Start) (fresh : IsFreshStart s) where
     checksums = fresh.checksums;
   }
 
-  none_sent : (made : IpAddress → IpAddress → PayloadValue → Type 0) → AreSent made i.ident i.ident []
+  none_sent : (made : Makes) → AreSent made i.ident i.ident []
   none_sent made = record { packets = λ p among. absurd among; numbered = (refl, fresh.typed.ident) }
 
   fresh_sends : (p : Party) → Sends p i.ident (unused s) []

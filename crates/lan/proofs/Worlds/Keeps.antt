@@ -109,7 +109,7 @@ hands_so q caps ip payload are hands = subst (λ (c : ChecksumCapabilities). Mov
   datagrams = λ udp bytes is. hands (Datagram udp bytes) is;
 })
 
-brings_so : (q : Party) (caps : ChecksumCapabilities) (content : Option IncomingValue) → caps ≡ sealed → Links.BringsMade (MadeBy q) content →
+pub brings_so : (q : Party) (caps : ChecksumCapabilities) (content : Option IncomingValue) → caps ≡ sealed → Links.BringsMade (MadeBy q) content →
     Moves.BringsMade q caps content
 brings_so q caps None are brings = tt
 brings_so q caps (Some (Arp link packet)) are brings = tt

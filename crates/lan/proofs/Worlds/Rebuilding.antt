@@ -8,7 +8,6 @@ use Rattle.lan_base.specs.Medium.{Medium}
 use Rattle.ip_address.specs.declared.ipv4.Ipv4FragKey.{Ipv4FragKey}
 use Rattle.interface.specs.Ip as Ips
 use Rattle.interface.specs.Ip.{carried_in, source_of, destination_of}
-use Rattle.interface_ingress.specs.IpAddress.{IpAddress}
 use Rattle.interface.specs.IpRepr.{IpRepr}
 use Rattle.interface.specs.Ipv4Repr.{Ipv4Repr}
 use Rattle.interface.specs.Ipv6 as Ipv6
@@ -73,13 +72,13 @@ either_is a b same (inl tcp) = inl (same ∙ tcp)
 either_is a b same (inr udp) = inr (same ∙ udp)
 
 -- a control message isn't named so, and bytes alone aren't named
-has_made : (q : Party) (from to : IpAddress) (header : IpRepr) (x : PayloadValue) → CanBeRead header x → IsTcpOrUdp (told (carried_in header)) →
-    MadeBy q from to (normal_payload x) → HasMade q from to (normal_payload x)
-has_made q from to header (ControlV4 message bytes) named ports made = absurd (not_icmp (carried_in header) named.0 ports)
-has_made q from to header (ControlV6 message bytes) named ports made = absurd (not_icmpv6 (carried_in header) named.0 ports)
-has_made q from to header (Bytes bytes) named ports made = absurd named
-has_made q from to header (Datagram udp bytes) named ports made = made
-has_made q from to header (Segment header' bytes) named ports made = made
+has_made : (q : Party) (header : IpRepr) (x : PayloadValue) → CanBeRead header x → IsTcpOrUdp (told (carried_in header)) →
+    MadeBy q (source_of header) (destination_of header) (normal_payload x) → HasMade q header (normal_payload x)
+has_made q header (ControlV4 message bytes) named ports made = absurd (not_icmp (carried_in header) named.0 ports)
+has_made q header (ControlV6 message bytes) named ports made = absurd (not_icmpv6 (carried_in header) named.0 ports)
+has_made q header (Bytes bytes) named ports made = absurd named
+has_made q header (Datagram udp bytes) named ports made = made
+has_made q header (Segment header' bytes) named ports made = made
 
 -- WHAT A PIECE COMPLETES
 
@@ -176,11 +175,10 @@ upper_is (Protocol.Unknown n) ports = absurd (other_upper ports)
 module _ (q : Party) (first next : ℕ) (out : List Outgoing) (sent : AreSent (MadeBy q) first next out) where
   -- a packet that carries TCP or UDP was made
   made_by : (p : PacketValue) → IsAmong p out → IsTcpOrUdp (carried_in (upper_header (Ips.normal p.header) (bytes_of p))) →
-      IsTcpOrUdp (told (carried_in p.header)) → CanBeRead p.header p.payload ×
-      HasMade q (source_of p.header) (destination_of p.header) (normal_payload p.payload)
+      IsTcpOrUdp (told (carried_in p.header)) → CanBeRead p.header p.payload × HasMade q p.header (normal_payload p.payload)
   made_by p among ports known = elim (sent.packets p among).going.carries [
     | inl none ↦ absurd (not_both (carried_in (upper_header (Ips.normal p.header) (bytes_of p))) none.0 ports)
-    | inr reads ↦ (reads.0, has_made q (source_of p.header) (destination_of p.header) p.header p.payload reads.0 known reads.1)
+    | inr reads ↦ (reads.0, has_made q p.header p.payload reads.0 known reads.1)
   ]
 
   of_made4 : (key : Ipv4FragKey) (bytes : List ℕ) → IsDatagramV4 out key bytes → IsTcpOrUdp key.protocol → IsOfMade q (Keys.Ipv4 key) bytes

@@ -6,6 +6,7 @@ use Rattle.ip_address.specs.declared.ipv4.Ipv4FragKey.{Ipv4FragKey}
 use Rattle.interface_ingress.specs.IpProtocol.{IpProtocol}
 use Rattle.interface_ingress.specs.IpProtocol.TheVariants as Protocol
 use Rattle.interface.specs.Ip.{carried_in, source_of, destination_of}
+use Rattle.interface.specs.IpRepr.{IpRepr}
 use Rattle.interface.specs.IpRepr.TheVariants as Ip
 use Rattle.interface.specs.Ipv4 as Ipv4
 use Rattle.interface.specs.Ipv4Repr.{Ipv4Repr}
@@ -13,7 +14,6 @@ use Rattle.interface.specs.Ipv6Repr.{Ipv6Repr}
 use Rattle.interface_tables.specs.declared.key.FragKey.{FragKey}
 use Rattle.interface_tables.specs.declared.key.FragKey.TheVariants as Keys
 use Rattle.interface_tables.specs.declared.key.Ipv6FragKey.{Ipv6FragKey}
-use Rattle.interface_ingress.specs.IpAddress.{IpAddress}
 use Rattle.sockets.specs.Packet.{PacketValue, PayloadValue, Datagram, Segment}
 use Rattle.tcp_tie.specs.Host.{MayCome}
 use Rattle.interface_ingress.specs.Arrives.{whole_after}
@@ -79,11 +79,11 @@ abbrev pub room_before : FragKey → ℕ
 room_before (Keys.Ipv4 key) = 0
 room_before (Keys.Ipv6 key) = 8
 
--- a segment or a datagram, and this host made it, a segment between these addresses
-abbrev pub HasMade : Party → IpAddress → IpAddress → PayloadValue → Type 0
-HasMade p source destination (Datagram udp bytes) = WasMade p (datagram_of udp bytes)
-HasMade p source destination (Segment header bytes) = MayCome p.segments source destination header bytes
-HasMade p source destination payload = ⊥
+-- a segment or a datagram, and this host made it, a segment between the addresses of its packet
+abbrev pub HasMade : Party → IpRepr → PayloadValue → Type 0
+HasMade p ip (Datagram udp bytes) = WasMade p (datagram_of udp bytes)
+HasMade p ip (Segment header bytes) = MayCome p.segments (source_of ip) (destination_of ip) header bytes
+HasMade p ip payload = ⊥
 
 -- It is the payload of one packet, with the same identification, addresses and protocol, whose header names what it carries: a segment or
 -- a datagram that this host made.
@@ -94,7 +94,7 @@ pub record IsOfMadeV4 (q : Party) (key : Ipv4FragKey) (bytes : List ℕ) : Type 
   pub key_is : key ≡ Ipv4.key_of (Ipv4.normal header)
   pub bytes_are : bytes ≡ bytes_of packet
   pub named : CanBeRead packet.header packet.payload
-  pub made : HasMade q (source_of packet.header) (destination_of packet.header) (normal_payload packet.payload)
+  pub made : HasMade q packet.header (normal_payload packet.payload)
 
 -- The same of IPv6: the payload of one packet with these addresses, behind a fragment header with that identification, which names what
 -- the packet carries.
@@ -106,7 +106,7 @@ pub record IsOfMadeV6 (q : Party) (key : Ipv6FragKey) (bytes : List ℕ) : Type 
   pub destination : key.dst_addr ≡ header.dst_addr
   pub bytes_are : bytes ≡ behind_fragment header.next_header key.id (bytes_of packet)
   pub named : CanBeRead packet.header packet.payload
-  pub made : HasMade q (source_of packet.header) (destination_of packet.header) (normal_payload packet.payload)
+  pub made : HasMade q packet.header (normal_payload packet.payload)
 
 abbrev pub IsOfMade : Party → FragKey → List ℕ → Type 0
 IsOfMade q (Keys.Ipv4 key) bytes = IsOfMadeV4 q key bytes

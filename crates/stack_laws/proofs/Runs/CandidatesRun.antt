@@ -10,6 +10,7 @@ use Rattle.stack_laws.specs.Worlds.Candidates.{hosts, steps}
 use Rattle.stack_laws.specs.Worlds.Hosts.{no_names, unbound}
 use Rattle.stack_laws.specs.Worlds.Streams.{fresh}
 use Rattle.stack_laws.proofs.Runs.Fresh.{fresh_one, fresh_two, fresh_tcp, some_same}
+use Rattle.stack_laws.proofs.Runs.Playing.{leaves_own, comes_whole}
 
 pub are_fresh : IsFreshNet unbound hosts
 are_fresh = record { a = fresh_one (Tcp fresh) fresh_tcp; b = fresh_two (Tcp fresh) fresh_tcp; history = refl }
@@ -19,7 +20,7 @@ is_run = (
   (refl, refl, refl, (refl, refl, refl)),
   (
     (refl, refl, refl, (refl, refl, refl)),
-    ((refl, refl, refl, (refl, refl, refl)), (refl, ((refl, refl, (0, refl)), tt))),
+    ((refl, refl, refl, (refl, refl, refl)), ((refl, leaves_own A _), ((refl, refl, comes_whole 0 refl refl), tt))),
   ),
 )
 

@@ -1,5 +1,6 @@
 -- The run of a listener that falls back is a run.
 use Rattle.std.proofs.Common.{refl}
+use Rattle.lan.specs.declared.at_link.history.event.Side.TheVariants.{A}
 use Rattle.lan.specs.Worlds.AtLink.Moves.{IsRun, run}
 use Rattle.lan.specs.Worlds.AtLink.Parties.Socket.{Tcp}
 use Rattle.lan.specs.Worlds.AtLink.PacketsSafe.{IsFreshNet}
@@ -8,6 +9,7 @@ use Rattle.stack_laws.specs.Worlds.Fallback.{hosts, calls, falls, fell, again, s
 use Rattle.stack_laws.specs.Worlds.Hosts.{no_names, unbound}
 use Rattle.stack_laws.specs.Worlds.Streams.{fresh}
 use Rattle.stack_laws.proofs.Runs.Fresh.{fresh_one, fresh_tcp}
+use Rattle.stack_laws.proofs.Runs.Playing.{leaves_own, comes_whole}
 
 pub are_fresh : IsFreshNet unbound hosts
 are_fresh = record { a = fresh_one (Tcp fresh) fresh_tcp; b = fresh_one (Tcp fresh) fresh_tcp; history = refl }
@@ -15,17 +17,17 @@ are_fresh = record { a = fresh_one (Tcp fresh) fresh_tcp; b = fresh_one (Tcp fre
 pub calls_run : IsRun no_names hosts calls
 calls_run = (
   (refl, refl, refl, (refl, refl, refl)),
-  ((refl, refl, refl, (refl, refl, refl)), (refl, ((refl, refl, (0, refl)), tt))),
+  ((refl, refl, refl, (refl, refl, refl)), ((refl, leaves_own A _), ((refl, refl, comes_whole 0 refl refl), tt))),
 )
 
 falls_run : IsRun no_names (run hosts calls) falls
-falls_run = (refl, ((refl, refl, (1, refl)), tt))
+falls_run = (refl, ((refl, refl, comes_whole 1 refl refl), tt))
 
 pub fell_run : IsRun no_names hosts fell
 fell_run = IsRun-append no_names hosts calls falls calls_run falls_run
 
 again_run : IsRun no_names (run hosts fell) again
-again_run = ((refl, refl, (0, refl)), tt)
+again_run = ((refl, refl, comes_whole 0 refl refl), tt)
 
 pub is_run : IsRun no_names hosts steps
 is_run = IsRun-append no_names hosts fell again fell_run again_run

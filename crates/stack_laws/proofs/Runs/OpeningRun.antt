@@ -1,19 +1,21 @@
 -- The opening of a connection is a run: its pieces, joined.
 use Rattle.std.proofs.Common.{◌≡◌, List, [], ◌∷◌, ◌++◌, slice_get, Some, refl, sym, ap, ◌∙◌, subst}
 use Rattle.lan.specs.Worlds.AtLink.Call.SocketCall.{Listen, Connect}
-use Rattle.tcp_tie.specs.Host.{made_of}
+use Rattle.ip_wire.specs.IpAddress.TheVariants as Address
+use Rattle.ip_wire.specs.Tcp.{normal}
+use Rattle.tcp_tie.specs.Host.{Made, made_of}
 use Rattle.lan.specs.Worlds.AtLink.Moves.{IsRun, run}
 use Rattle.lan.specs.Worlds.AtLink.Parties.{party}
 use Rattle.lan.specs.Worlds.AtLink.Parties.Socket.{Tcp}
 use Rattle.lan.specs.Worlds.AtLink.PacketsSafe.{IsFreshNet}
 use Rattle.lan.specs.declared.at_link.history.event.Side.TheVariants.{A, B}
 use Rattle.stack_laws.specs.Worlds.Opening.{opening, opened}
-use Rattle.stack_laws.specs.Worlds.Hosts.{endpoint, no_names, unbound}
+use Rattle.stack_laws.specs.Worlds.Hosts.{address, endpoint, no_names, unbound}
 use Rattle.stack_laws.specs.Worlds.Played.{Doing, Play, start, played, steps_of, segment_at}
 use Rattle.stack_laws.specs.Worlds.Played.Doing.{Calls, Asks, Comes}
 use Rattle.stack_laws.specs.Worlds.Streams.{TcpSegment, fresh}
 use Rattle.stack_laws.proofs.Runs.Fresh.{fresh_one, fresh_tcp}
-use Rattle.stack_laws.proofs.Runs.Playing.{net_played, run_on}
+use Rattle.stack_laws.proofs.Runs.Playing.{leaves_own, comes_whole, net_played, run_on}
 use Rattle.stack_laws.proofs.Runs.Worlds.{ack}
 
 pub are_fresh : IsFreshNet unbound start.net
@@ -46,26 +48,32 @@ coming = Comes B 1 ∷ []
 asking_run : IsRun no_names start.net (steps_of start asking)
 asking_run = (
   (refl, refl, refl, (refl, refl, refl)),
-  ((refl, refl, refl, (refl, refl, refl)), (refl, ((refl, refl, (0, refl)), tt))),
+  ((refl, refl, refl, (refl, refl, refl)), ((refl, leaves_own A _), ((refl, refl, comes_whole 0 refl refl), tt))),
 )
 
 answering_run : IsRun no_names asked.net (steps_of asked answering)
-answering_run = (refl, ((refl, refl, (0, refl)), tt))
+answering_run = ((refl, leaves_own B _), ((refl, refl, comes_whole 0 refl refl), tt))
 
 sending_run : IsRun no_names answered.net (steps_of answered sending)
-sending_run = (refl, tt)
+sending_run = ((refl, leaves_own A _), tt)
 
-there : slice_get (party sent.net A).segments 1 ≡ Some (made_of ack [])
+abbrev between : TcpSegment → Made
+between x = made_of (Address.Ipv4 (address A)) (Address.Ipv4 (address B)) x.0 x.1
+
+there : slice_get (party sent.net A).segments 1 ≡ Some (between (ack, []))
 there = refl
 
 named : segment_at sent A 1 ≡ (ack, [])
 named = refl
 
-was_sent : slice_get (party sent.net A).segments 1 ≡ Some (made_of (segment_at sent A 1).0 (segment_at sent A 1).1)
-was_sent = there ∙ sym (ap (λ (x : TcpSegment). Some (made_of x.0 x.1)) named)
+was_sent : slice_get (party sent.net A).segments 1 ≡ Some (between (segment_at sent A 1))
+was_sent = there ∙ sym (ap (λ (x : TcpSegment). Some (between x)) named)
+
+is_normal : (segment_at sent A 1).0 ≡ normal (segment_at sent A 1).0
+is_normal = subst (λ (x : TcpSegment). x.0 ≡ normal x.0) (sym named) refl
 
 coming_run : IsRun no_names sent.net (steps_of sent coming)
-coming_run = ((refl, refl, (1, was_sent)), tt)
+coming_run = ((refl, refl, comes_whole 1 was_sent is_normal), tt)
 
 joined : asking ++ (answering ++ (sending ++ coming)) ≡ opening
 joined = refl

@@ -1,11 +1,29 @@
 -- What two hosts do one after the other is a run, where each piece of it is.
-use Rattle.std.proofs.Common.{◌≡◌, ℕ, Bool, List, [], ◌∷◌, ◌++◌, refl, sym, ap, ◌∙◌, subst}
+use Rattle.std.proofs.Common.{◌≡◌, inr, ℕ, Bool, List, [], ◌∷◌, ◌++◌, slice_get, Option, Some, None, IfSome, refl, sym, ap, ◌∙◌, subst}
+use Rattle.ip_wire.specs.IpAddress.{IpAddress}
+use Rattle.ip_wire.specs.IpAddress.TheVariants as Address
+use Rattle.ip_wire.specs.Tcp.{normal}
+use Rattle.ip_wire.specs.TcpHeader.{TcpHeader}
+use Rattle.tcp_model.specs.OpenOffer.{OpenOffer}
+use Rattle.tcp_tie.specs.Host.{Made, made_of, MayCome}
+use Rattle.lan.specs.declared.at_link.history.event.Side.{Side}
 use Rattle.lan.specs.declared.at_link.history.event.Side.TheVariants.{A, B}
-use Rattle.lan.specs.Worlds.AtLink.Moves.{Step, after, IsRun, run}
+use Rattle.lan.specs.Worlds.AtLink.Moves.{Step, LeavesFrom, after, IsRun, run}
 use Rattle.lan.specs.Worlds.AtLink.Parties.{Net}
 use Rattle.lan.proofs.Worlds.AtLink.Extended.{IsRun-append}
+use Rattle.stack_laws.specs.Worlds.Hosts.{address, context}
 use Rattle.stack_laws.specs.Worlds.Played.{Doing, Play, step_of, done, played, steps_of}
 use Rattle.stack_laws.specs.Worlds.Played.Doing.{Calls, Asks, Comes}
+
+-- what is offered leaves from its host's address
+pub leaves_own : (side : Side) (o : Option OpenOffer) → IfSome o (λ x. LeavesFrom (context side) (Address.Ipv4 (address side)) x.header)
+leaves_own side None = tt
+leaves_own side (Some x) = inr refl
+
+-- a segment comes as it was made, where its header is in its normal form
+pub comes_whole : {made : List Made} {from to : IpAddress} {header : TcpHeader} {bytes : List ℕ} (k : ℕ) →
+    slice_get made k ≡ Some (made_of from to header bytes) → header ≡ normal header → MayCome made from to header bytes
+comes_whole {made} {from} {to} {header} {bytes} k is same = record { written = header; among = (k, is); read = same }
 
 net_done : (p : Play) (doing : Doing) → after p.net (step_of p doing) ≡ (done p doing).net
 net_done p (Calls side call) = refl

@@ -1,6 +1,7 @@
 -- A connection that is open, one that told three bytes, and one that is half closed, in full: what is proved behind them needn't compute
 -- what led to them.
 use Rattle.std.proofs.Common.{◌≡◌, ℕ, pos, true, false, List, [], ◌∷◌, replicate, Option, Some, None, refl, ap, ◌∙◌}
+use Rattle.ip_wire.specs.IpAddress.TheVariants as Address
 use Rattle.ip_wire.specs.Options.{no_options}
 use Rattle.ip_wire.specs.SeqNumber.{SeqNumber}
 use Rattle.ip_wire.specs.TcpControl.{TcpControl}
@@ -25,6 +26,7 @@ use Rattle.lan.specs.declared.at_link.history.event.Side.TheVariants.{A, B}
 use Rattle.lan.specs.Worlds.AtLink.Call as Call
 use Rattle.lan.specs.Worlds.AtLink.Call.{SocketCall}
 use Rattle.lan.specs.Worlds.AtLink.History.{Entry}
+use Rattle.lan.specs.Worlds.AtLink.Kinds.{other}
 use Rattle.lan.specs.Worlds.AtLink.Calls.{did, at_port}
 use Rattle.lan.specs.Worlds.AtLink.Parties.{Party}
 use Rattle.lan.specs.Worlds.AtLink.Parties.Socket.{Tcp}
@@ -183,8 +185,12 @@ ack_again = segment 80 49_500 Bits.None 4 (Some (number 7)) no_options
 
 -- WORLDS
 
+-- a host made this for the other one
+abbrev made : Side → TcpHeader → List ℕ → Made
+made side header bytes = made_of (Address.Ipv4 (address side)) (Address.Ipv4 (address (other side))) header bytes
+
 abbrev party_with : TcpValue → List Made → Party
-party_with v made = record { sockets = Some (Tcp v) ∷ []; segments = made; datagrams = [] }
+party_with v segments = record { sockets = Some (Tcp v) ∷ []; segments = segments; datagrams = [] }
 
 abbrev entry : Side → SocketCall → Answer → Entry
 entry side call answer = entry_of side 0 call (did answer fresh)
@@ -198,8 +204,8 @@ openings = entry A (Call.Connect (endpoint B 80) 49_500) To.Done ∷ entry B (Ca
 abbrev pub opened : Play
 opened = record {
   net = record {
-    a = party_with (idle A) (made_of syn [] ∷ made_of ack [] ∷ []);
-    b = party_with (idle B) (made_of syn_ack [] ∷ []);
+    a = party_with (idle A) (made A syn [] ∷ made A ack [] ∷ []);
+    b = party_with (idle B) (made B syn_ack [] ∷ []);
     history = openings;
   };
   from_a = (syn, []) ∷ (ack, []) ∷ [];
@@ -212,8 +218,8 @@ readings = entry B (Call.Recv 8) (To.Bytes text) ∷ entry A (Call.Send text) (T
 abbrev pub told : Play
 told = record {
   net = record {
-    a = party_with telling (made_of syn [] ∷ made_of ack [] ∷ made_of push text ∷ []);
-    b = party_with reading (made_of syn_ack [] ∷ made_of ack_again [] ∷ []);
+    a = party_with telling (made A syn [] ∷ made A ack [] ∷ made A push text ∷ []);
+    b = party_with reading (made B syn_ack [] ∷ made B ack_again [] ∷ []);
     history = readings;
   };
   from_a = (syn, []) ∷ (ack, []) ∷ (push, text) ∷ [];
@@ -223,8 +229,8 @@ told = record {
 abbrev pub half_closed : Play
 half_closed = record {
   net = record {
-    a = party_with finishing (made_of syn [] ∷ made_of ack [] ∷ made_of push text ∷ made_of fin [] ∷ []);
-    b = party_with told_the_end (made_of syn_ack [] ∷ made_of ack_again [] ∷ []);
+    a = party_with finishing (made A syn [] ∷ made A ack [] ∷ made A push text ∷ made A fin [] ∷ []);
+    b = party_with told_the_end (made B syn_ack [] ∷ made B ack_again [] ∷ []);
     history = entry B (Call.Recv 8) (To.Error Fault.Finished) ∷ close A In.Established ∷ readings;
   };
   from_a = (syn, []) ∷ (ack, []) ∷ (push, text) ∷ (fin, []) ∷ [];

@@ -1,5 +1,6 @@
 -- TCP sockets on numerals, with room for 8 bytes each way, and the steps that they take.
 use Rattle.std.specs.Prelude.{ℕ, ◌+◌, true, List, [], replicate, Option, Some, None}
+use Rattle.ip_wire.specs.IpAddress.TheVariants as Address
 use Rattle.ip_wire.specs.IpProtocol.TheVariants as Protocol
 use Rattle.ip_wire.specs.Options.{no_options}
 use Rattle.ip_wire.specs.SeqNumber.{SeqNumber}
@@ -16,12 +17,13 @@ use Rattle.tcp_model.specs.Value.{TcpValue, new_socket}
 use Rattle.lan.specs.declared.at_link.history.answer.Answer.TheVariants as To
 use Rattle.lan.specs.declared.at_link.history.event.Side.{Side}
 use Rattle.lan.specs.Worlds.AtLink.Call.{SocketCall}
+use Rattle.lan.specs.Worlds.AtLink.Kinds.{other}
 use Rattle.lan.specs.Worlds.AtLink.Calls.{Did, did, tcp_does}
 use Rattle.lan.specs.Worlds.AtLink.Parties.{Socket, socket_at, Net, party}
 use Rattle.lan.specs.Worlds.AtLink.Parties.Socket.{Tcp}
 use Rattle.lan.specs.Worlds.AtLink.Moves.{Step}
 use Rattle.lan.specs.Worlds.AtLink.Moves.Move.{Invokes, Offers, Takes, Resets}
-use Rattle.stack_laws.specs.Worlds.Hosts.{context, packet_to, entry_of}
+use Rattle.stack_laws.specs.Worlds.Hosts.{address, context, packet_to, entry_of}
 
 abbrev pub fresh : TcpValue
 fresh = new_socket 8 (ring [] (replicate 8 0) 0)
@@ -43,9 +45,9 @@ invokes side i v call = record {
 abbrev pub called : Side → TcpValue → SocketCall → TcpValue
 called side v call = (does side v call).socket
 
--- it is asked for a segment, which is sent
+-- it is asked for a segment, which is sent from its host's address
 abbrev pub asks : Side → ℕ → TcpValue → Step
-asks side i v = record { side = side; move = Offers i (context side) v true }
+asks side i v = record { side = side; move = Offers i (context side) v (Address.Ipv4 (address side)) true }
 
 abbrev pub asked : Side → TcpValue → TcpValue
 asked side v = settled true (offer_of (context side) v).socket
@@ -88,9 +90,9 @@ comes side i v x = record { side = side; move = Takes i (context side) v (packet
 abbrev pub reached : Side → TcpValue → TcpSegment → TcpValue
 reached side v x = (arrives (context side) v (packet_to side Protocol.Tcp 20) x.0 x.1).socket
 
--- a host makes a reset of its own
+-- a host makes a reset of its own, for the other one
 abbrev pub resets : Side → TcpSegment → Step
-resets side x = record { side = side; move = Resets (made_of x.0 x.1) }
+resets side x = record { side = side; move = Resets (made_of (Address.Ipv4 (address side)) (Address.Ipv4 (address (other side))) x.0 x.1) }
 
 abbrev pub number_after : TcpSegment → SeqNumber
 number_after x = record { 0 = x.0.seq_number.0 + 1 }

@@ -1,6 +1,6 @@
 -- Each run is safe.
-use Rattle.std.proofs.Common.{◌≡◌, ◌≢◌, ◌⊎◌, inl, inr, ℕ, Bool, true, false, List, [], ◌∷◌, ◌++◌, length, map, Option, Some, None, IfSome, refl, sym, ap, ◌∙◌, subst}
-use Rattle.std.proofs.Common.{arith}
+use Rattle.std.proofs.Common.{◌≡◌, ◌≢◌, ◌⊎◌, inl, inr, ℕ, Bool, true, false, List, [], ◌∷◌, ◌++◌, length, map, Option, Some, None, refl, sym, ap, ◌∙◌, subst}
+use Rattle.std.proofs.Common.{IfSome, arith}
 use Rattle.ip_wire.specs.Ip.{source_of, destination_of}
 use Rattle.ip_wire.specs.IpRepr.{IpRepr}
 use Rattle.ip_wire.specs.TcpHeader.{TcpHeader}
@@ -35,7 +35,8 @@ use Rattle.lan.specs.Worlds.AtLink.Tables.{Places, kinds, IsAllowed, AreAllowed}
 use Rattle.lan.proofs.Worlds.AtLink.PartnerLemmas.{partners_turned}
 use Rattle.lan.specs.Worlds.AtLink.Parties.{Socket, Datagram, Party, socket_at, kind_in, WasMade, Net, party, with_party, places_of, datagrams_of}
 use Rattle.lan.specs.Worlds.AtLink.Parties.Socket.{Tcp, Udp, Icmp, Raw}
-use Rattle.lan.specs.Worlds.AtLink.Moves.{Move, with_socket, offered_segments, LeavesFrom, Does, IsNoCall, LooksSame, party_after, history_after, May, Step, after, IsRun, run}
+use Rattle.lan.specs.Worlds.AtLink.Moves.{Move, with_socket, offered_segments, Does, IsNoCall, LooksSame, party_after, history_after, May, Step, after, IsRun, run}
+use Rattle.lan.specs.Worlds.AtLink.Moves.{LeavesFrom}
 use Rattle.lan.specs.Worlds.AtLink.Moves.Move.{Invokes, Passes, Offers, Gives, Takes, Receives, Resets, Changes}
 use Rattle.lan.specs.Worlds.AtLink.PacketsSafe.{IsFreshSocket, IsFreshParty, IsFreshNet, IsTcpAt, taken_in, HasNothing, IsSafe}
 use Rattle.lan.proofs.Worlds.AtLink.Lists.{Each}

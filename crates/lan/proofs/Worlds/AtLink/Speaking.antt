@@ -25,6 +25,10 @@ use Rattle.lan.proofs.Worlds.AtLink.CallLemmas.{other_twice}
 use Rattle.lan.proofs.Worlds.AtLink.PartnerLemmas.{opened_apart, AreApart, one_partner}
 use Rattle.lan.proofs.Worlds.AtLink.StreamInvariant.{ports_of, ConnectsTo, SpeaksWith, TcpOk, WasSent, SegmentOk}
 
+-- a segment that comes
+abbrev pub come : IpRepr → TcpHeader → List ℕ → Made
+come ip header bytes = made_of (source_of ip) (destination_of ip) header bytes
+
 pub same_opening : (o p : Opening) → Some o ≡ Some p → o ≡ p
 same_opening o p e = cc
 
@@ -95,13 +99,13 @@ module _ (h : List Entry) (side : Side) (i : ℕ) (o : Opening) (opened : openin
   -- what an accepted segment tells
   pub accepted_speaks :
       (places : Places) → AreAllowed places h → (made : List Made) (v : TcpValue) (ip : IpRepr) (header : TcpHeader) (bytes : List ℕ)
-      → TcpOk h side made i v → IsFor v.block ip header → SegmentOk h (other side) (made_of (source_of ip) (destination_of ip) header bytes) → (header.dst_port ≡ o.local) ×
+      → TcpOk h side made i v → IsFor v.block ip header → SegmentOk h (other side) (come ip header bytes) → (header.dst_port ≡ o.local) ×
       SpeaksWith h side o header.src_port
   accepted_speaks places allowed made v ip header bytes k is_for ok = by (is_listening v.block.state) refl ok where
     has : HasPorts (ports_of o) v.block
     has = k.ports o opened
 
-    called : o.remote ≡ None → header.dst_port ≡ o.local → WasSent h (other side) (made_of (source_of ip) (destination_of ip) header bytes) → SpeaksWith h side o header.src_port
+    called : o.remote ≡ None → header.dst_port ≡ o.local → WasSent h (other side) (come ip header bytes) → SpeaksWith h side o header.src_port
     called none to s = by_sender s.to where
       by_sender : SpeaksWith h (other side) s.by header.dst_port → SpeaksWith h side o header.src_port
       by_sender (inl remote) = inr (none, record { place = s.place; by = s.by; opened = s.opened; from = s.from; to = remote ∙ ap (λ (n : ℕ). Some n) to })
@@ -116,7 +120,7 @@ module _ (h : List Entry) (side : Side) (i : ℕ) (o : Opening) (opened : openin
                 cc
             clash (inr apart) = apart.local (calls.1.from ∙ to)
 
-    by : (t : Bool) → is_listening v.block.state ≡ t → SegmentOk h (other side) (made_of (source_of ip) (destination_of ip) header bytes) → (header.dst_port ≡ o.local) ×
+    by : (t : Bool) → is_listening v.block.state ≡ t → SegmentOk h (other side) (come ip header bytes) → (header.dst_port ≡ o.local) ×
         SpeaksWith h side o header.src_port
     by true e (inl rst) = absurd (not_rst header.control header bytes refl (is_for.listening e).2 rst)
     by true e (inr s) =

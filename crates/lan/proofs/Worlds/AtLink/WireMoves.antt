@@ -11,7 +11,7 @@ use Rattle.sockets.specs.Context.{ContextValue}
 use Rattle.sockets.specs.Polling.{Offered}
 use Rattle.tcp_tie.specs.Segment.Control.{Rst}
 use Rattle.tcp_tie.specs.Endpoints.{HasPorts, IsFor, IsNameless, KeepsNames, Forgets, KeepsOrForgets, IsLeftBy, IsRenamed, IsOpenedBy, FallsBack}
-use Rattle.tcp_tie.specs.Host.{Made, made_of, past_at, MayCome, and_answer, and_offer}
+use Rattle.tcp_tie.specs.Host.{Made, made_of, made_by, past_at, MayCome, and_answer, and_offer}
 use Rattle.tcp_tie.specs.Promises.{IsFresh, KeepsAlone}
 use Rattle.tcp_tie.specs.Tie.{Core, core_of, Past, Keeps, segment_of}
 use Rattle.tcp_tie.proofs.AloneLaws.{stays_alone, reset_comes}
@@ -45,7 +45,7 @@ use Rattle.lan.specs.Worlds.AtLink.Parties.{Socket, Party, socket_at}
 use Rattle.lan.specs.Worlds.AtLink.Parties.Socket.{Tcp}
 use Rattle.lan.specs.Worlds.AtLink.Moves.{with_socket, offered_segments}
 use Rattle.lan.proofs.Worlds.AtLink.Lists.{Each, each_get}
-use Rattle.lan.proofs.Worlds.AtLink.Speaking.{partner_port, sender_is_partner, accepted_speaks}
+use Rattle.lan.proofs.Worlds.AtLink.Speaking.{come, partner_port, sender_is_partner, accepted_speaks}
 use Rattle.lan.proofs.Worlds.AtLink.StreamInvariant.{told, ports_of, IsUntouched, SpeaksWith, TcpOk, SegmentOk, StreamsOk, PairsOk}
 use Rattle.lan.proofs.Worlds.AtLink.HostSteps.{HostSteps}
 use Rattle.lan.proofs.Worlds.AtLink.Exchange.{IsMore, Exchanges, leaves_all, exchange_opened, exchange_untouched}
@@ -208,11 +208,10 @@ module _
     abbrev made_after : List Made
     made_after = and_answer p.segments (arrives cx v ip header bytes).answer
 
-    sent_ok : SegmentOk h (other side) (made_of (source_of ip) (destination_of ip) header bytes)
+    sent_ok : SegmentOk h (other side) (come ip header bytes)
     sent_ok =
-        let x = made_of (source_of ip) (destination_of ip) among.written bytes in
         read_ok h (other side) (source_of ip) (destination_of ip) header among.written bytes among.read
-        (each_get (SegmentOk h (other side)) q.segments among.among.0 x theirs among.among.1)
+        (each_get (SegmentOk h (other side)) q.segments among.among.0 (come ip among.written bytes) theirs among.among.1)
 
     module _ (o : Opening) (opened : opening h side at ≡ Some o) where
       speaks : (header.dst_port ≡ o.local) × SpeaksWith h side o header.src_port
@@ -224,7 +223,7 @@ module _
         by None e = inl refl
         by (Some reply) e =
             let back = answer_back cx v ip header bytes reply e in
-            inr (made_of (source_of reply.header) (destination_of reply.header) reply.segment [], refl, back.source_port ∙ speaks.0, subst (SpeaksWith h side o) (sym back.destination_port) speaks.1)
+            inr (made_by reply, refl, back.source_port ∙ speaks.0, subst (SpeaksWith h side o) (sym back.destination_port) speaks.1)
 
       named_after : (pair : EndpointPair) → new.block.names.pair ≡ Some pair → SpeaksWith h side o pair.remote_port
       named_after pair e = by (arrival_names cx v ip header bytes) where
@@ -241,13 +240,13 @@ module _
 
       lone_after : ((j : ℕ) → ¬ (ArePartners h side at j)) → KeepsAlone new (past_at o.local made_after (told h side at))
       lone_after lone = by sent_ok where
-        by : SegmentOk h (other side) (made_of (source_of ip) (destination_of ip) header bytes) → KeepsAlone new (past_at o.local made_after (told h side at))
+        by : SegmentOk h (other side) (come ip header bytes) → KeepsAlone new (past_at o.local made_after (told h side at))
         by (inl rst) =
             subst (KeepsAlone new)
             (past_of_answer o.local p.segments (told h side at) (arrives cx v ip header bytes).answer
             (λ reply e. (answer_back cx v ip header bytes reply e).source_port ∙ speaks.0))
             (reset_comes cx v (past_at o.local p.segments (told h side at)) ip header bytes (ok.alone o opened lone) rst)
-        by (inr s) = let partner = sender_is_partner h side at o opened (made_of (source_of ip) (destination_of ip) header bytes) speaks.0 speaks.1 s in absurd (lone partner.0 partner.1)
+        by (inr s) = let partner = sender_is_partner h side at o opened (come ip header bytes) speaks.0 speaks.1 s in absurd (lone partner.0 partner.1)
 
       pair_after :
           (j : ℕ) (w : TcpValue) (a : ArePartners h side at j) → socket_at q j ≡ Some (Tcp w)

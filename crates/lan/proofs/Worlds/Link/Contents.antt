@@ -6,8 +6,6 @@ use Rattle.interface.specs.IpRepr.{IpRepr}
 use Rattle.interface.specs.IpRepr.TheVariants as Ip
 use Rattle.interface.specs.Ipv4 as Ipv4
 use Rattle.interface.specs.Ipv6 as Ipv6
-use Rattle.interface_ingress.specs.IpAddress.{IpAddress}
-use Rattle.sockets.specs.Packet.{PayloadValue}
 use Rattle.interface_tables.specs.Pieces as Pieces
 use Rattle.interface_tables.proofs.Rebuilt.{Begins-take}
 use Rattle.interface.specs.Ipv6Repr.{Ipv6Repr}
@@ -17,7 +15,7 @@ use Rattle.interface_ingress.specs.Incoming.{IncomingValue, Ip6, IsIncoming}
 use Rattle.interface_ingress.specs.Reassembled.{PieceValue, part_v4, part_in, behind_headers}
 use Rattle.lan_base.specs.Medium.{Medium}
 use Rattle.lan_base.specs.Slices.{Slice, IsSliceOf, bytes_of_slice}
-use Rattle.lan.specs.Worlds.Link.Made.{sealed, bytes_of, HandsMade}
+use Rattle.lan.specs.Worlds.Link.Made.{Makes, sealed, bytes_of, HandsMade}
 use Rattle.lan.specs.Worlds.Link.Frames.{Outgoing, medium_on, IsSlice, IsWhole6, IsPiece6, IsPieceOf, IsFrom, BringsFrom, AreOut}
 use Rattle.lan.proofs.Worlds.Link.Behind.{with_len, packet_of_slice, piece_of_slice, count_of_slice, read_slice, read_v6, read_behind4, read_behind6}
 use Rattle.lan.proofs.Worlds.Link.Hands.{hands_sent, whole_sent, no_part}
@@ -57,7 +55,7 @@ module _ (medium : Medium) (out : List Outgoing) (frame : List ℕ) (f : IsPiece
   pub piece6_parts : (p : PieceValue) → part_in packet_in6 ≡ Some p → IsPieceOf out p
   piece6_parts p is = parts_by p is (is_atomic (rest6 medium out frame f)) refl
 
-module _ (made : IpAddress → IpAddress → PayloadValue → Type 0) (hardware : HardwareAddress) (out : List Outgoing) where
+module _ (made : Makes) (hardware : HardwareAddress) (out : List Outgoing) where
   -- the frame of a slice, with padding, carries that slice
   pub slice_brings : (frame padding : List ℕ) → IsSlice (medium_on hardware) out frame → BringsFrom made out hardware (frame ++ padding)
   slice_brings frame padding f v is =

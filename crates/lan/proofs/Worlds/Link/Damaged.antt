@@ -9,7 +9,6 @@ use Rattle.interface.specs.IpRepr.{IpRepr}
 use Rattle.interface.specs.IpRepr.TheVariants as Ip
 use Rattle.ip_tcp.specs.Tcp as Tcp
 use Rattle.ip_tcp.proofs.Sealed.{IsTcp-put16}
-use Rattle.interface_ingress.specs.IpAddress.{IpAddress}
 use Rattle.sockets.specs.Packet.{PacketValue, PayloadValue, ControlV4, ControlV6, Bytes, Datagram, Segment}
 use Rattle.interface_ingress.specs.Carried.{IsCarried}
 use Rattle.interface_ingress.specs.Kept.{IsDamaged}
@@ -17,7 +16,7 @@ use Rattle.interface_ingress.specs.Sent.{normal_payload}
 use Rattle.interface_ingress.proofs.Bare.{bare_where}
 use Rattle.interface_ingress.specs.Upper.{upper_payload}
 use Rattle.interface_ingress.proofs.FramesArrive.{payload-arrives}
-use Rattle.lan.specs.Worlds.Link.Made.{sealed, WasMade, HandsMade, bytes_of}
+use Rattle.lan.specs.Worlds.Link.Made.{Makes, sealed, WasMade, HandsMade, bytes_of}
 use Rattle.lan.specs.Worlds.Link.Frames.{IsOut}
 use Rattle.lan.proofs.Worlds.Link.Behind.{sealed_both}
 
@@ -44,7 +43,7 @@ put_len xs k word = set_len (set xs k (word / 256 % 256)) (k + 1) (word % 256) �
 
 -- THE CHECKSUM
 
-module _ (made : IpAddress → IpAddress → PayloadValue → Type 0) where
+module _ (made : Makes) where
   checked_by : (h : IpRepr) (x : PayloadValue) (bytes : List ℕ) → carried_in (Ips.normal h) ≡ Protocol.Tcp → IsCarried sealed (Ips.normal h) bytes x →
       Tcp.IsChecked (source_of (Ips.normal h)) (destination_of (Ips.normal h)) bytes
   checked_by h (Segment header carried_bytes) bytes is carried = carried.format.checked refl

@@ -25,8 +25,6 @@ use Rattle.ip_address.specs.Protocol.{protocol_of}
 use Rattle.ip_tcp.specs.Tcp as Tcp
 use Rattle.interface.specs.Ipv4.{header_len_of}
 use Rattle.interface_ingress.specs.EthernetRepr.{EthernetRepr}
-use Rattle.interface_ingress.specs.IpAddress.{IpAddress}
-use Rattle.sockets.specs.Packet.{PayloadValue}
 use Rattle.interface_ingress.specs.Incoming.{IncomingValue, Ip4, Ip6, IsIncoming, IsPacketV4, IsPacketV6}
 use Rattle.interface_ingress.specs.Handed.{is_known_v6}
 use Rattle.interface_ingress.specs.Kept.{IsDamaged}
@@ -36,7 +34,7 @@ use Rattle.lan_base.specs.Carried.{packet_in}
 use Rattle.lan_base.specs.Parts.{may_carry, is_ipv4, is_ipv6, is_uncut, payload_v4, payload_v6, tcp_part, bytes_at, damaged}
 use Rattle.lan_base.specs.declared.part.Part.{Part}
 use Rattle.lan_base.specs.Slices.{IsLinkHeader, bytes_of_slice}
-use Rattle.lan.specs.Worlds.Link.Made.{sealed, bytes_of}
+use Rattle.lan.specs.Worlds.Link.Made.{Makes, sealed, bytes_of}
 use Rattle.lan.specs.Worlds.Link.Frames.{Outgoing, medium_on, IsSlice, IsWhole6, IsPiece6, IsLinkHeader6, IsFrom, BringsFrom, AreOut}
 use Rattle.lan.specs.Worlds.Link.Sides.{IsHostFrame, IsDamage}
 use Rattle.lan.proofs.Worlds.Link.Behind.{sealed_both, with_len, value_with, count_of_slice, piece_of_slice, read_slice, read_v6, read_behind4, read_behind6}
@@ -175,7 +173,7 @@ IsBad v = IsBad4 v ⊎ IsBad6 v
 abbrev pub BringsBad : HardwareAddress → List ℕ → Type 0
 BringsBad hardware frame = (v : IncomingValue) → IsIncoming hardware sealed frame v → IsBad v
 
-bad_from : (made : IpAddress → IpAddress → PayloadValue → Type 0) (out : List Outgoing) (v : IncomingValue) → IsBad v → IsFrom made out v
+bad_from : (made : Makes) (out : List Outgoing) (v : IncomingValue) → IsBad v → IsFrom made out v
 bad_from made out v (inl b) =
     subst (IsFrom made out) (sym b.value_is)
     (inl (λ cut. absurd (let e : true ≡ false = sym cut ∙ refl in cc), hands_damaged made (Ip.Ipv4 b.header) b.payload b.bad))
@@ -183,7 +181,7 @@ bad_from made out v (inr b) =
     subst (IsFrom made out) (sym b.value_is)
     (inl (known_whole b.header b.payload (ap is_known_v6 b.bad.0), hands_damaged made (Ip.Ipv6 b.header) b.payload b.bad))
 
-module _ (made : IpAddress → IpAddress → PayloadValue → Type 0) (hardware : HardwareAddress) (out : List Outgoing) (all : AreOut made out) (frame : List ℕ) (part : Part)
+module _ (made : Makes) (hardware : HardwareAddress) (out : List Outgoing) (all : AreOut made out) (frame : List ℕ) (part : Part)
     (place word : ℕ) where
   module _ (f : IsSlice (medium_on hardware) out frame) (is_part : tcp_part (medium_on hardware) frame ≡ Some part) where
     abbrev w : List ℕ

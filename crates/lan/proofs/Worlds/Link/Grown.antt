@@ -18,7 +18,7 @@ use Rattle.interface_ingress.specs.Incoming.{IncomingValue, Arp, Ip4, Ip6}
 use Rattle.interface_egress.specs.declared.frame.CutHeader.{CutHeader}
 use Rattle.interface_egress.specs.declared.frame.CutHeader.TheVariants as Cut
 use Rattle.interface_ingress.specs.Reassembled.{Slots, PieceValue, part_v4}
-use Rattle.lan.specs.Worlds.Link.Made.{WasMade, HandsMade, IsGoing}
+use Rattle.lan.specs.Worlds.Link.Made.{Makes, WasMade, HandsMade, IsGoing}
 use Rattle.lan.specs.Worlds.Link.Frames.{Outgoing, IsSentV4, IsSentV6, IsCutV6, IsDatagram, IsPieceOf, IsFrom, BringsFrom}
 use Rattle.lan.specs.Worlds.Link.Held.{IsOfKey, IsSlotOf}
 use Rattle.lan.specs.Worlds.Link.Sides.{Grows, IsCutFrom, IsHostFrame, IsReceiver, AreSent}
@@ -140,7 +140,7 @@ module _ (out out' : List Outgoing) (grows : Grows out out') where
 
   -- WHAT WAS MADE
 
-  module _ (made made' : IpAddress → IpAddress → PayloadValue → Type 0)
+  module _ (made made' : Makes)
       (more : (source destination : IpAddress) (x : PayloadValue) → made source destination x → made' source destination x) where
     was_grows : (source destination : IpAddress) (x : PayloadValue) → WasMade made source destination x → WasMade made' source destination x
     was_grows source destination (Datagram udp bytes) was = more source destination (Datagram udp bytes) was
@@ -171,7 +171,7 @@ module _ (out out' : List Outgoing) (grows : Grows out out') where
       waits = all_grow (BringsFrom made out i.hardware) (BringsFrom made' out' i.hardware) (brings_grow i.hardware) waiting r.waits;
     }
 
-module _ (made made' : IpAddress → IpAddress → PayloadValue → Type 0)
+module _ (made made' : Makes)
     (more : (source destination : IpAddress) (x : PayloadValue) → made source destination x → made' source destination x) where
   pub going_grows : (p : PacketValue) → IsGoing made p → IsGoing made' p
   going_grows p going = record {

@@ -36,7 +36,7 @@ use Rattle.interface_ingress.specs.Sent.{CanBeRead, normal_payload}
 use Rattle.interface_ingress.proofs.FramesArrive.{payload-brought}
 use Rattle.interface_ingress.proofs.OneContent.{one-carried-content}
 use Rattle.interface.specs.Delivered.{NamesNoPorts}
-use Rattle.lan.specs.Worlds.Link.Made.{sealed, IsWholeV6, CarriesNone, WasMade, HandsMade, BringsMade, bytes_of}
+use Rattle.lan.specs.Worlds.Link.Made.{Makes, sealed, IsWholeV6, CarriesNone, WasMade, HandsMade, BringsMade, bytes_of}
 use Rattle.lan.specs.Worlds.Link.Frames.{Outgoing, IsSentV4, IsSentV6, IsDatagramV6, IsFrom, IsOut, AreOut, behind_fragment}
 use Rattle.interface_tables.specs.declared.key.Ipv6FragKey.{Ipv6FragKey}
 use Rattle.lan.proofs.Worlds.Link.Behind.{sealed_both}
@@ -62,7 +62,7 @@ destination_upper : (ip : IpRepr) (payload : List ℕ) → destination_of (upper
 destination_upper (Ip.Ipv4 header) payload = refl
 destination_upper (Ip.Ipv6 header) payload = refl
 
-module _ (made : IpAddress → IpAddress → PayloadValue → Type 0) where
+module _ (made : Makes) where
   -- PROTOCOLS
 
   -- behind a header that names neither TCP nor UDP there is nothing of them
@@ -122,8 +122,8 @@ module _ (made : IpAddress → IpAddress → PayloadValue → Type 0) where
   named_whole (Ip.Ipv6 v) (Datagram udp carried) bytes can = by_name Protocol.Udp v bytes can.0 refl
   named_whole (Ip.Ipv6 v) (Segment header carried) bytes can = by_name Protocol.Tcp v bytes can.0 refl
 
-  whole_by : (p : PacketValue) → CarriesNone (Ips.normal p.header) (bytes_of p) ⊎ (CanBeRead p.header p.payload × made (source_of p.header) (destination_of p.header) (normal_payload p.payload)) →
-      IsWholeV6 (Ips.normal p.header) (bytes_of p)
+  whole_by : (p : PacketValue) → CarriesNone (Ips.normal p.header) (bytes_of p) ⊎ (CanBeRead p.header p.payload ×
+      made (source_of p.header) (destination_of p.header) (normal_payload p.payload)) → IsWholeV6 (Ips.normal p.header) (bytes_of p)
   whole_by p (inl none) = none.1
   whole_by p (inr reads) = named_whole p.header p.payload (bytes_of p) reads.0
 

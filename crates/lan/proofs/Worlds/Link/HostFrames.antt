@@ -10,12 +10,11 @@ use Rattle.interface.specs.Ipv6 as Ipv6
 use Rattle.interface.specs.Ipv6Repr.{Ipv6Repr}
 use Rattle.interface_egress.specs.Departure.{piece_v6, fragment_header}
 use Rattle.interface.specs.Ipv4.{header_len_of}
-use Rattle.interface_ingress.specs.IpAddress.{IpAddress}
-use Rattle.sockets.specs.Packet.{PayloadValue}
 use Rattle.lan_base.specs.Carried.{packet_in, names_tcp_or_udp}
 use Rattle.lan_base.specs.Cuts.{ipv4_part, first_piece, second_piece}
 use Rattle.lan_base.specs.Parts.{may_carry, is_ipv4, payload_v4}
 use Rattle.lan_base.specs.declared.part.Part.{Part}
+use Rattle.lan.specs.Worlds.Link.Made.{Makes}
 use Rattle.lan.specs.Worlds.Link.Frames.{Outgoing, medium_on, IsLinkHeader6, BringsFrom, AreOut}
 use Rattle.lan.specs.Worlds.Link.Sides.{IsHostFrame}
 use Rattle.lan.proofs.Worlds.Link.Behind.{ether_front, said, none_left}
@@ -25,7 +24,7 @@ use Rattle.lan.proofs.Worlds.Link.Noise.{noise_names_neither, whole_where_none}
 
 -- HANDED OVER
 
-module _ (made : IpAddress → IpAddress → PayloadValue → Type 0) (hardware : HardwareAddress) (out : List Outgoing) where
+module _ (made : Makes) (hardware : HardwareAddress) (out : List Outgoing) where
   -- a host's frame, or a piece that the link made, with any padding
   pub host_frame_brings : (frame padding : List ℕ) → AreOut made out → IsHostFrame (medium_on hardware) out frame →
       BringsFrom made out hardware (frame ++ padding)

@@ -6,8 +6,6 @@ use Rattle.interface_ingress.specs.HardwareAddress.{HardwareAddress}
 use Rattle.interface_ingress.specs.HardwareAddress.TheVariants as Hardware
 use Rattle.interface.specs.IpRepr.TheVariants as Ip
 use Rattle.ip_address.specs.Protocol.{protocol_of}
-use Rattle.interface_ingress.specs.IpAddress.{IpAddress}
-use Rattle.sockets.specs.Packet.{PayloadValue}
 use Rattle.lan_base.specs.Medium.TheVariants as Medium
 use Rattle.interface_ingress.specs.Incoming.{IncomingValue, Arp, Ip4, Ip6, IsIncoming}
 use Rattle.interface.specs.Ipv6.{payload_of}
@@ -15,7 +13,7 @@ use Rattle.interface.specs.Ipv6Repr.{Ipv6Repr}
 use Rattle.interface_ingress.specs.Headers.{go_through}
 use Rattle.lan_base.specs.Carried.{IsNeitherBehind, is_tcp_or_udp, has_ports_behind, names_tcp_or_udp}
 use Rattle.lan_base.proofs.Named.{neither_first, neither_second, behind_named, ether_is, byte_behind}
-use Rattle.lan.specs.Worlds.Link.Made.{sealed, CarriesNone, IsWholeMade}
+use Rattle.lan.specs.Worlds.Link.Made.{Makes, sealed, CarriesNone, IsWholeMade}
 use Rattle.lan.specs.Worlds.Link.Frames.{medium_on}
 use Rattle.lan.specs.Worlds.Link.Sides.{BringsNone}
 use Rattle.lan.proofs.Worlds.Link.Hands.{hands_none}
@@ -60,7 +58,7 @@ noise_names_neither (Hardware.Ethernet own) bytes v none is = on_ethernet own by
 noise_names_neither Hardware.Ip bytes v none is = bare bytes v none is
 
 -- so it brings nothing of them
-pub whole_where_none : (made : IpAddress → IpAddress → PayloadValue → Type 0) (v : IncomingValue) → BringsNone v → IsWholeMade made v
+pub whole_where_none : (made : Makes) (v : IncomingValue) → BringsNone v → IsWholeMade made v
 whole_where_none made (Arp link packet) none = tt
 whole_where_none made (Ip4 link h p x) none = (λ _. none.0, hands_none made (Ip.Ipv4 h) x none.0)
 whole_where_none made (Ip6 link h x) none = (none.1, hands_none made (Ip.Ipv6 h) x none.0)

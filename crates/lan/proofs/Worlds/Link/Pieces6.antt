@@ -9,9 +9,7 @@ use Rattle.interface_ingress.specs.Headers.{is_atomic}
 use Rattle.interface_ingress.specs.Incoming.{Ip6}
 use Rattle.interface_ingress.specs.Reassembled.{PieceValue, part_v6, part_behind, part_in, is_first, is_piece_v6}
 use Rattle.interface_tables.specs.declared.key.Ipv6FragKey.{Ipv6FragKey}
-use Rattle.interface_ingress.specs.IpAddress.{IpAddress}
-use Rattle.sockets.specs.Packet.{PayloadValue}
-use Rattle.lan.specs.Worlds.Link.Made.{HandsMade}
+use Rattle.lan.specs.Worlds.Link.Made.{Makes, HandsMade}
 use Rattle.lan.specs.Worlds.Link.Frames.{Outgoing, IsPiece6, IsDatagramV6, IsPieceOf, AreOut, behind_fragment}
 use Rattle.lan.proofs.Worlds.Link.Fragments.{piece_with, rest_of, all_of_it, atomic_is, number_is, long_is, stops_at_piece, fragment_so, fragment_slice, whole_rest}
 use Rattle.lan.proofs.Worlds.Link.Hands.{hands_v6}
@@ -79,7 +77,7 @@ module _ (medium : Medium) (out : List Outgoing) (frame : List ℕ) (f : IsPiece
       ap (λ (b : List ℕ). is_piece_v6 (Ipv6.normal header6) b) (whole_is whole)
       ∙ (fragment_so f.header.next_header f.number f.bytes f.cut.bare).whole
 
-  pub hands6 : (made : IpAddress → IpAddress → PayloadValue → Type 0) → AreOut made out → is_atomic rest6 ≡ true → HandsMade made (Ip.Ipv6 (Ipv6.normal header6)) rest6
+  pub hands6 : (made : Makes) → AreOut made out → is_atomic rest6 ≡ true → HandsMade made (Ip.Ipv6 (Ipv6.normal header6)) rest6
   hands6 made all whole =
       subst (HandsMade made (Ip.Ipv6 (Ipv6.normal header6))) (sym (whole_is whole))
       (hands_v6 made out (key_at f.number) (Ipv6.normal header6) (behind_fragment f.header.next_header f.number f.bytes) all datagram6 refl refl refl)

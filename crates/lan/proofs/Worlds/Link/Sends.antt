@@ -12,7 +12,6 @@ use Rattle.interface.specs.Ip.{source_of, destination_of}
 use Rattle.interface.specs.IpRepr.{IpRepr}
 use Rattle.interface.specs.IpRepr.TheVariants as Ip
 use Rattle.interface_ingress.specs.ArpRepr.{ArpRepr}
-use Rattle.interface_ingress.specs.IpAddress.{IpAddress}
 use Rattle.sockets.specs.Packet.{PacketValue, PayloadValue, packet_of, payload_written}
 use Rattle.interface_tables.specs.Inner.{InnerValue, with_next_ident, with_request}
 use Rattle.interface_egress.specs.Departure.{Asks, Tells, Whole, question_frame, arp_frame, packet_frame, packet_frame_len, piece_frame, piece_frame_len, piece_header_len}
@@ -33,7 +32,7 @@ use Rattle.interface.proofs.Arrives.{length-written}
 use Rattle.interface.proofs.Offered.{writes, readable, begun_half, left_half}
 use Rattle.lan.specs.Worlds.AtLink.Origins.{begins_datagram}
 use Rattle.lan.specs.Worlds.AtLink.Port.{PortValue, PortMove}
-use Rattle.lan.specs.Worlds.Link.Made.{sealed, bytes_of, CarriesNone, IsGoing}
+use Rattle.lan.specs.Worlds.Link.Made.{Makes, sealed, bytes_of, CarriesNone, IsGoing}
 use Rattle.lan.specs.Worlds.Link.Frames.{Outgoing, number_by, medium_on, IsOut, AreOut}
 use Rattle.lan.specs.Worlds.Link.Numbers.{and_number, count_numbered, AreNumbered, IsTied}
 use Rattle.lan.specs.Worlds.Link.Sides.{Grows, WentOut, IsHostFrame, IsCutFrom, IsOther, IsSound, IsSameKind, IsStation, IsLeft, IsSender}
@@ -56,7 +55,7 @@ denied d d' frame len is = ap (λ (p : PortValue). p.link.sent) is.0
 
 -- NUMBERS
 
-module _ (made : IpAddress → IpAddress → PayloadValue → Type 0) (i : InnerValue) where
+module _ (made : Makes) (i : InnerValue) where
   carries_number : (h : IpRepr) (x : PayloadValue) → CarriesNone (Ips.normal h) (payload_written sealed h x)
       ⊎ (CanBeRead h x × made (source_of h) (destination_of h) (normal_payload x))
       → CarriesNone (Ips.normal (numbered_header i h)) (payload_written sealed (numbered_header i h) x)
@@ -129,13 +128,13 @@ to_address : (h : IpRepr) → Ips.IsValue h → IsIpAddress (destination_of h)
 to_address (Ip.Ipv4 v) is = is.destination
 to_address (Ip.Ipv6 v) is = is.destination
 
-same_sender : (made : IpAddress → IpAddress → PayloadValue → Type 0) (first : ℕ) (out : List Outgoing) (i i' : InnerValue) (l l' : Option LeftValue) (sent sent' : List (List ℕ)) →
+same_sender : (made : Makes) (first : ℕ) (out : List Outgoing) (i i' : InnerValue) (l l' : Option LeftValue) (sent sent' : List (List ℕ)) →
     i' ≡ i → l' ≡ l → sent' ≡ sent → IsSender made first i l sent out → IsSender made first i' l' sent' out
 same_sender made first out i i' l l' sent sent' a b c s =
     subst (λ (x : InnerValue). IsSender made first x l' sent' out) (sym a)
     (subst (λ (x : Option LeftValue). IsSender made first i x sent' out) (sym b) (subst (λ (x : List (List ℕ)). IsSender made first i l x out) (sym c) s))
 
-unchanged : (made : IpAddress → IpAddress → PayloadValue → Type 0) (first most : ℕ) (out : List Outgoing) (i i' : InnerValue) (l l' : Option LeftValue) (sent sent' : List (List ℕ)) → i' ≡ i → l' ≡ l →
+unchanged : (made : Makes) (first most : ℕ) (out : List Outgoing) (i i' : InnerValue) (l l' : Option LeftValue) (sent sent' : List (List ℕ)) → i' ≡ i → l' ≡ l →
     sent' ≡ sent → IsSender made first i l sent out → WentOut made first most out sent i' l' sent'
 unchanged made first most out i i' l l' sent sent' a b c s = record {
   out_after = out;
@@ -146,7 +145,7 @@ unchanged made first most out i i' l l' sent sent' a b c s = record {
 }
 
 -- one more frame, of no packet that is new
-one_frame : (made : IpAddress → IpAddress → PayloadValue → Type 0) (first most : ℕ) (out : List Outgoing) (i' : InnerValue) (l' : Option LeftValue) (sent sent' : List (List ℕ))
+one_frame : (made : Makes) (first most : ℕ) (out : List Outgoing) (i' : InnerValue) (l' : Option LeftValue) (sent sent' : List (List ℕ))
     (frame : List ℕ) → sent' ≡ sent ++ frame ∷ [] → IsSender made first i' l' sent' out → WentOut made first most out sent i' l' sent'
 one_frame made first most out i' l' sent sent' frame is s = record {
   out_after = out;
@@ -165,7 +164,8 @@ pub left_to : (out : List Outgoing) (hardware hardware' : HardwareAddress) (l : 
     IfSome l (IsLeft hardware' out)
 left_to out hardware hardware' l same is = subst (λ (h : HardwareAddress). IfSome l (IsLeft h out)) (sym same) is
 
-module _ (made : IpAddress → IpAddress → PayloadValue → Type 0) (first : ℕ) (out : List Outgoing) (i : InnerValue) (l : Option LeftValue) (d : PortValue) (s : IsSender made first i l d.link.sent out) where
+module _ (made : Makes) (first : ℕ) (out : List Outgoing) (i : InnerValue) (l : Option LeftValue) (d : PortValue)
+    (s : IsSender made first i l d.link.sent out) where
   -- the packet is of `out` from now on
   module _ (p : PacketValue) (going : IsGoing made p) (cut_as : Option ℕ) where
     abbrev more : List Outgoing
@@ -478,7 +478,8 @@ rest_by : (hardware : HardwareAddress) (out : List Outgoing) (mtu : ℕ) (c : Le
 rest_by hardware out mtu c true left is = record { sent = left.sent; half = is; to = left.to }
 rest_by hardware out mtu c false left is = tt
 
-module _ (made : IpAddress → IpAddress → PayloadValue → Type 0) (first : ℕ) (out : List Outgoing) (i : InnerValue) (c : LeftValue) (d : PortValue) (s : IsSender made first i (Some c) d.link.sent out) where
+module _ (made : Makes) (first : ℕ) (out : List Outgoing) (i : InnerValue) (c : LeftValue) (d : PortValue)
+    (s : IsSender made first i (Some c) d.link.sent out) where
   piece_sender : (d' : PortValue) → Departs PortMove d i (departure_from i c) true d' → IsSender made first i (left_from i c) d'.link.sent out
   piece_sender d' departs =
       let caps : i.checksums ≡ sealed = s.sound.checksums in

@@ -37,6 +37,7 @@ use Rattle.interface_ingress.specs.Reassembled.{is_control_v6}
 use Rattle.interface_ingress.specs.Heard.{neighbor_heard, heard, heard_on, station, learned, advertised, replaces, counts, tells, answer}
 use Rattle.interface_ingress.specs.Incoming.{IncomingValue, Arp, Ip4, Ip6}
 use Rattle.interface_ingress.proofs.Settings.{brings_same}
+use Rattle.lan.specs.Worlds.Link.Made.{Makes}
 use Rattle.lan.specs.Worlds.Link.Frames.{Outgoing, medium_on}
 use Rattle.lan.specs.Worlds.Link.Sides.{AreSent, IsHostFrame, IsStation, HasSixBytes, RoutersAre, IsSound, IsSender}
 use Rattle.lan.proofs.Worlds.Link.Slots.{all_set, all_at, all_more}
@@ -205,7 +206,7 @@ near_brings i places (Some (Ip6 link header payload)) a near is =
 -- THE SENDER
 
 -- a host of which nothing that a sender is read by has changed
-pub sender_settled : (made : IpAddress → IpAddress → PayloadValue → Type 0) (first : ℕ) (out : List Outgoing) (i i' : InnerValue) (l : Option LeftValue) (sent : List (List ℕ)) →
+pub sender_settled : (made : Makes) (first : ℕ) (out : List Outgoing) (i i' : InnerValue) (l : Option LeftValue) (sent : List (List ℕ)) →
     i'.hardware ≡ i.hardware → i'.ident ≡ i.ident → IsSound i'
     → IsSender made first i l sent out → IsSender made first i' l sent out
 sender_settled made first out i i' l sent hardware ident sound s = record {
@@ -216,7 +217,7 @@ sender_settled made first out i i' l sent hardware ident sound s = record {
 }
 
 -- what arrives leaves a sender one
-pub arrival_keeps_sender : (made : IpAddress → IpAddress → PayloadValue → Type 0) (first : ℕ) (out : List Outgoing) (i : InnerValue) (l : Option LeftValue) (sent : List (List ℕ))
+pub arrival_keeps_sender : (made : Makes) (first : ℕ) (out : List Outgoing) (i : InnerValue) (l : Option LeftValue) (sent : List (List ℕ))
     (places : Places) (content : Option IncomingValue) (a : Arrived)
     → Brings i places content a → IsSender made first i l sent out → IsSender made first a.inner l sent out
 arrival_keeps_sender made first out i l sent places content a brings s =

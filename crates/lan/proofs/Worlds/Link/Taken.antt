@@ -14,8 +14,6 @@ use Rattle.interface.specs.Ipv6Repr.{Ipv6Repr}
 use Rattle.interface.specs.IpRepr.TheVariants as Ip
 use Rattle.interface_ingress.specs.EthernetRepr.{EthernetRepr}
 use Rattle.lan_base.specs.ChecksumCapabilities.{ChecksumCapabilities}
-use Rattle.interface_ingress.specs.IpAddress.{IpAddress}
-use Rattle.sockets.specs.Packet.{PayloadValue}
 use Rattle.interface_tables.specs.Inner.{InnerValue}
 use Rattle.interface_tables.specs.Slots.{without_expired}
 use Rattle.interface_tables.specs.declared.key.FragKey.{FragKey}
@@ -26,7 +24,7 @@ use Rattle.interface_ingress.specs.Incoming.{IncomingValue, Arp, Ip4, Ip6, IsInc
 use Rattle.interface_ingress.specs.Reassembled.{Slots, PieceValue, is_piece, is_piece_v6, part_v4, part_v6, part_behind, part_in, part_of, behind_headers}
 use Rattle.interface_ingress.specs.Reassembled.{is_taken_in, taken_in, place_of, place_in, with_piece, kept, bytes_at, rebuilt, rebuilt_v6, uncut}
 use Rattle.interface_ingress.proofs.Settings.{brings_same}
-use Rattle.lan.specs.Worlds.Link.Made.{sealed, HandsMade, BringsMade}
+use Rattle.lan.specs.Worlds.Link.Made.{Makes, sealed, HandsMade, BringsMade}
 use Rattle.lan.specs.Worlds.Link.Frames.{Outgoing, IsFrom, BringsFrom}
 use Rattle.lan.specs.Worlds.Link.Held.{AreSlotsOf}
 use Rattle.lan.proofs.Worlds.Link.Rebuilt.{IsRebuiltOf}
@@ -36,21 +34,21 @@ use Rattle.lan.proofs.Worlds.Link.Hands.{brings_whole, hands_none, hands_v4, han
 use Rattle.lan.proofs.Worlds.Link.Slots.{IsPartOf, all_more, expired_keep, part_keeps, part_rebuilds, released_keeps}
 
 -- each content is of a frame that is brought to a host
-abbrev pub AreFrom : (IpAddress → IpAddress → PayloadValue → Type 0) → List Outgoing → Option IncomingValue → Type 0
+abbrev pub AreFrom : Makes → List Outgoing → Option IncomingValue → Type 0
 AreFrom made out None = Unit {0}
 AreFrom made out (Some v) = IsFrom made out v
 
 -- WHAT IS READ
 
 -- the content of a frame is what the frame brings
-pub content_from : (made : IpAddress → IpAddress → PayloadValue → Type 0) (out : List Outgoing) (hardware : HardwareAddress) (caps : ChecksumCapabilities) (frame : List ℕ)
+pub content_from : (made : Makes) (out : List Outgoing) (hardware : HardwareAddress) (caps : ChecksumCapabilities) (frame : List ℕ)
     (content : Option IncomingValue)
     → caps ≡ sealed → BringsFrom made out hardware frame → IsContent hardware caps frame content → AreFrom made out content
 content_from made out hardware caps frame None are brings is = tt
 content_from made out hardware caps frame (Some v) are brings is = brings v (subst (λ (c : ChecksumCapabilities). IsIncoming hardware c frame v) are is)
 
 -- what a host takes in of it is so too
-pub taken_from : (made : IpAddress → IpAddress → PayloadValue → Type 0) (out : List Outgoing) (i : InnerValue) (content : Option IncomingValue) → AreFrom made out content →
+pub taken_from : (made : Makes) (out : List Outgoing) (i : InnerValue) (content : Option IncomingValue) → AreFrom made out content →
     AreFrom made out (taken_in i content)
 taken_from made out i None from = tt
 taken_from made out i (Some v) from = elim (is_taken_in i v) as (λ b. AreFrom made out (cond b (Some v) None)) [ true ↦ from | false ↦ tt ]
@@ -65,7 +63,7 @@ same_part : (a b : Option PieceValue) (q p : PieceValue) → a ≡ Some q → a 
 same_part a b q p one other = cc
 
 -- a piece of a content is of neither TCP nor UDP, or of a datagram that was sent
-pub part_from : (made : IpAddress → IpAddress → PayloadValue → Type 0) (out : List Outgoing) (v : IncomingValue) → IsFrom made out v → (p : PieceValue) → part_in v ≡ Some p →
+pub part_from : (made : Makes) (out : List Outgoing) (v : IncomingValue) → IsFrom made out v → (p : PieceValue) → part_in v ≡ Some p →
     IsPartOf out p
 part_from made out (Arp link packet) from p is = absurd cc
 part_from made out (Ip4 link h q x) (inl whole) p is =
@@ -76,7 +74,7 @@ part_from made out (Ip6 link h x) (inl whole) p is = absurd (no_part h x (behind
 part_from made out (Ip6 link h x) (inr piece) p is =
     subst (IsPartOf out) (same_part (part_in (Ip6 link h x)) None piece.part p piece.part_is is) (inr piece.of)
 
-part_of_from : (made : IpAddress → IpAddress → PayloadValue → Type 0) (out : List Outgoing) (content : Option IncomingValue) → AreFrom made out content →
+part_of_from : (made : Makes) (out : List Outgoing) (content : Option IncomingValue) → AreFrom made out content →
     (p : PieceValue) → part_of content ≡ Some p → IsPartOf out p
 part_of_from made out None from p is = absurd cc
 part_of_from made out (Some v) from p is = part_from made out v from p is
@@ -95,7 +93,7 @@ key_v6_is h x (End.Upper protocol at) p is = absurd cc
 key_v6_is h x (End.Problem problem pointer) p is = absurd cc
 key_v6_is h x End.Nothing p is = absurd cc
 
-module _ (made : IpAddress → IpAddress → PayloadValue → Type 0) (first : ℕ) (out : List Outgoing) (next : ℕ) (sent : AreSent made first next out) (few : AreFew out) where
+module _ (made : Makes) (first : ℕ) (out : List Outgoing) (next : ℕ) (sent : AreSent made first next out) (few : AreFew out) where
   -- SLOTS
 
   -- the slots after a frame
@@ -223,7 +221,7 @@ module _ (made : IpAddress → IpAddress → PayloadValue → Type 0) (first : �
 
 -- OTHER STEPS OF THE RECEIVER
 
-module _ (made : IpAddress → IpAddress → PayloadValue → Type 0) (out : List Outgoing) where
+module _ (made : Makes) (out : List Outgoing) where
   -- a frame that isn't read
   pub skipped_keeps : (i : InnerValue) (slots : Slots) (frame : List ℕ) (rest : List (List ℕ)) → IsReceiver made out i slots (frame ∷ rest) →
       IsReceiver made out i slots rest

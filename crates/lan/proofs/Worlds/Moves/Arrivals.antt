@@ -17,7 +17,7 @@ use Rattle.interface.specs.UdpRepr.{UdpRepr}
 use Rattle.sockets.specs.Context.{ContextValue}
 use Rattle.sockets.specs.Packet.{PacketValue}
 use Rattle.sockets.specs.Udp as Udps
-use Rattle.tcp_tie.specs.Host.{Made, made_of, MayCome, and_answer}
+use Rattle.tcp_tie.specs.Host.{Made, made_by, MayCome, and_answer}
 use Rattle.tcp_model.specs.Controls.{is_rst}
 use Rattle.tcp_model.specs.Arrival.{arrives}
 use Rattle.tcp_model.specs.Segments.{rst_reply}
@@ -118,7 +118,7 @@ pub record Answered (names : List ℕ → Bool) (side : Side) (net now : Net) (s
 reply_made : (p : Party) (before : List Made) (a : Option Reply) → p.segments ≡ and_answer before a → IfSome (packet_by a) (IsMade p)
 reply_made p before None is = tt
 reply_made p before (Some reply) is =
-    let last = get_last before (made_of (source_of reply.header) (destination_of reply.header) reply.segment []) [] in
+    let last = get_last before (made_by reply) [] in
     record { written = reply.segment; among = (last.0, ap (λ (xs : List Made). slice_get xs last.0) is ∙ last.1); read = refl }
 
 module _ (names : List ℕ → Bool) (side : Side) (net now : Net) (r : Reaches names side net now) (places : Places) (has : (party now side).sockets ≡
@@ -202,7 +202,7 @@ module _ (names : List ℕ → Bool) (side : Side) (net now : Net) (r : Reaches 
         Grows (party now side) v
     grown v None s d = grows_to (party now side) v s d
     grown v (Some reply) s d =
-        grows_by (party now side) v (made_of (source_of reply.header) (destination_of reply.header) reply.segment [] ∷ []) [] s (d ∙ sym (append-nil (party now side).datagrams))
+        grows_by (party now side) v (made_by reply ∷ []) [] s (d ∙ sym (append-nil (party now side).datagrams))
 
     socket_takes : (at : ℕ) (item : Item Socket) (s : Socket) → holds_at at (Some (record item { socket = s })) → accepts_segment s ip header ≡ true →
         Taken at (record { inner = Some (record item { socket = s }) })
@@ -237,11 +237,8 @@ module _ (names : List ℕ → Bool) (side : Side) (net now : Net) (r : Reaches 
       made = there now side move (λ (y : Party). IfSome (packet_by (Some (rst_reply ip header (length bytes)))) (IsMade y))
           (reply_made (Moves.party_after (party now side) move) (party now side).segments (Some (rst_reply ip header (length bytes))) refl);
     } where
-      reply : Reply
-      reply = rst_reply ip header (length bytes)
-
       x : Made
-      x = made_of (source_of reply.header) (destination_of reply.header) reply.segment []
+      x = made_by (rst_reply ip header (length bytes))
 
       move : Moves.Move
       move = Moves.Resets x

@@ -8,8 +8,7 @@ use Rattle.ip_address.specs.declared.ipv4.Ipv4FragKey.{Ipv4FragKey}
 use Rattle.interface_tables.specs.declared.key.FragKey.{FragKey}
 use Rattle.interface_tables.specs.declared.key.FragKey.TheVariants as Keys
 use Rattle.interface_tables.specs.declared.key.Ipv6FragKey.{Ipv6FragKey}
-use Rattle.interface.specs.Ip.{carried_in, source_of, destination_of}
-use Rattle.interface_ingress.specs.IpAddress.{IpAddress}
+use Rattle.interface.specs.Ip.{carried_in}
 use Rattle.interface.specs.IpRepr.{IpRepr}
 use Rattle.interface_ingress.specs.IpProtocol.TheVariants as Protocol
 use Rattle.interface_ingress.specs.Sent.{CanBeRead, normal_payload}
@@ -141,39 +140,37 @@ none_seen (place ∷ places) none = (place_seen place.inner none.0, none_seen pl
 
 -- WHAT WAS REBUILT
 
-long : (q : Party) (from to : IpAddress) (ip : IpRepr) (x : PayloadValue) → HasMade q from to (normal_payload x) → 8 ≤ length (payload_written sealed ip x)
-long q from to ip (Datagram udp bytes) made = omega arith
-long q from to ip (Segment header bytes) made = omega arith
-long q from to ip (ControlV4 message bytes) made = absurd made
-long q from to ip (ControlV6 message bytes) made = absurd made
-long q from to ip (Bytes bytes) made = absurd made
+long : (q : Party) (ip : IpRepr) (x : PayloadValue) → HasMade q ip (normal_payload x) → 8 ≤ length (payload_written sealed ip x)
+long q ip (Datagram udp bytes) made = omega arith
+long q ip (Segment header bytes) made = omega arith
+long q ip (ControlV4 message bytes) made = absurd made
+long q ip (ControlV6 message bytes) made = absurd made
+long q ip (Bytes bytes) made = absurd made
 
-long_segment : (q : Party) (from to : IpAddress) (ip : IpRepr) (x : PayloadValue) → CanBeRead ip x → told (carried_in ip) ≡ Protocol.Tcp →
-    HasMade q from to (normal_payload x) →
+long_segment : (q : Party) (ip : IpRepr) (x : PayloadValue) → CanBeRead ip x → told (carried_in ip) ≡ Protocol.Tcp → HasMade q ip (normal_payload x) →
     20 ≤ length (payload_written sealed ip x)
-long_segment q from to ip (Datagram udp bytes) named tcp made = absurd (not_udp (carried_in ip) named.0 tcp)
-long_segment q from to ip (Segment header bytes) named tcp made = omega arith
-long_segment q from to ip (ControlV4 message bytes) named tcp made = absurd made
-long_segment q from to ip (ControlV6 message bytes) named tcp made = absurd made
-long_segment q from to ip (Bytes bytes) named tcp made = absurd made
+long_segment q ip (Datagram udp bytes) named tcp made = absurd (not_udp (carried_in ip) named.0 tcp)
+long_segment q ip (Segment header bytes) named tcp made = omega arith
+long_segment q ip (ControlV4 message bytes) named tcp made = absurd made
+long_segment q ip (ControlV6 message bytes) named tcp made = absurd made
+long_segment q ip (Bytes bytes) named tcp made = absurd made
 
-made_by_socket : (q : Party) (from to : IpAddress) (ip : IpRepr) (x : PayloadValue) → CanBeRead ip x → told (carried_in ip) ≡ Protocol.Udp →
-    HasMade q from to (normal_payload x) →
+made_by_socket : (q : Party) (ip : IpRepr) (x : PayloadValue) → CanBeRead ip x → told (carried_in ip) ≡ Protocol.Udp → HasMade q ip (normal_payload x) →
     q.datagrams ≡ [] → ⊥
-made_by_socket q from to ip (Datagram udp bytes) named is made none =
+made_by_socket q ip (Datagram udp bytes) named is made none =
     let there = ap (λ (xs : List Parties.Datagram). slice_get xs made.0) (sym none) ∙ made.1 in
     cc
-made_by_socket q from to ip (Segment header bytes) named is made none = absurd (not_tcp (carried_in ip) named.0 is)
-made_by_socket q from to ip (ControlV4 message bytes) named is made none = absurd made
-made_by_socket q from to ip (ControlV6 message bytes) named is made none = absurd made
-made_by_socket q from to ip (Bytes bytes) named is made none = absurd made
+made_by_socket q ip (Segment header bytes) named is made none = absurd (not_tcp (carried_in ip) named.0 is)
+made_by_socket q ip (ControlV4 message bytes) named is made none = absurd made
+made_by_socket q ip (ControlV6 message bytes) named is made none = absurd made
+made_by_socket q ip (Bytes bytes) named is made none = absurd made
 
 module _ (q : Party) where
   pub made_long : (key : FragKey) (bytes : List ℕ) → IsOfMade q key bytes → room_before key + 8 ≤ length bytes
   made_long (Keys.Ipv4 key) bytes o =
-      subst (λ (xs : List ℕ). 8 ≤ length xs) (sym o.bytes_are) (long q (source_of o.packet.header) (destination_of o.packet.header) o.packet.header o.packet.payload o.made)
+      subst (λ (xs : List ℕ). 8 ≤ length xs) (sym o.bytes_are) (long q o.packet.header o.packet.payload o.made)
   made_long (Keys.Ipv6 key) bytes o =
-      let enough = long q (source_of o.packet.header) (destination_of o.packet.header) o.packet.header o.packet.payload o.made in
+      let enough = long q o.packet.header o.packet.payload o.made in
       let count : length bytes ≡ 8 + length (bytes_of o.packet) = ap length o.bytes_are ∙ length_whole o.header.next_header key.id (bytes_of o.packet) in
       omega (arith, enough, count)
 
@@ -191,17 +188,17 @@ module _ (q : Party) where
   pub made_segment_long : (key : FragKey) (bytes : List ℕ) → IsOfMade q key bytes → protocol_in key bytes ≡ Protocol.Tcp → room_before key + 20 ≤ length bytes
   made_segment_long (Keys.Ipv4 key) bytes o tcp =
       subst (λ (xs : List ℕ). 20 ≤ length xs) (sym o.bytes_are)
-      (long_segment q (source_of o.packet.header) (destination_of o.packet.header) o.packet.header o.packet.payload o.named (named_v4 key bytes o ∙ tcp) o.made)
+      (long_segment q o.packet.header o.packet.payload o.named (named_v4 key bytes o ∙ tcp) o.made)
   made_segment_long (Keys.Ipv6 key) bytes o tcp =
-      let enough = long_segment q (source_of o.packet.header) (destination_of o.packet.header) o.packet.header o.packet.payload o.named (named_v6 key bytes o ∙ tcp) o.made in
+      let enough = long_segment q o.packet.header o.packet.payload o.named (named_v6 key bytes o ∙ tcp) o.made in
       let count : length bytes ≡ 8 + length (bytes_of o.packet) = ap length o.bytes_are ∙ length_whole o.header.next_header key.id (bytes_of o.packet) in
       omega (arith, enough, count)
 
   pub made_needs_socket : (key : FragKey) (bytes : List ℕ) → IsOfMade q key bytes → protocol_in key bytes ≡ Protocol.Udp → q.datagrams ≡ [] → ⊥
   made_needs_socket (Keys.Ipv4 key) bytes o udp none =
-      made_by_socket q (source_of o.packet.header) (destination_of o.packet.header) o.packet.header o.packet.payload o.named (named_v4 key bytes o ∙ udp) o.made none
+      made_by_socket q o.packet.header o.packet.payload o.named (named_v4 key bytes o ∙ udp) o.made none
   made_needs_socket (Keys.Ipv6 key) bytes o udp none =
-      made_by_socket q (source_of o.packet.header) (destination_of o.packet.header) o.packet.header o.packet.payload o.named (named_v6 key bytes o ∙ udp) o.made none
+      made_by_socket q o.packet.header o.packet.payload o.named (named_v6 key bytes o ∙ udp) o.made none
 
 -- WHERE EVENTS LED
 

@@ -107,7 +107,8 @@ module _ (names : List ℕ → Bool) (side : Side) (net now : Net) (r : Reaches 
     moved = looks_same m m' (Is.Raw v) (settled sent (Is.Raw v')) refl has;
     made = λ done. if_some v'.offered (IsMadeFrom (party now side) from) (λ x is.
         let took = takes_one Raws.TakesPacket v (first v.queued) answer v' x offers is in
-        subst (λ (y : PayloadValue). MadeBy (party now side) from (destination_of x.header) (normal_payload y)) (sym (ap (λ (y : PacketValue). y.payload) took.1.carried)) tt);
+        subst (λ (y : PayloadValue). MadeBy (party now side) from (destination_of x.header) (normal_payload y))
+        (sym (ap (λ (y : PacketValue). y.payload) took.1.carried)) tt);
   }
 
   icmp_gives : (m m' : Meta) (cx : ContextValue) (v v' : IcmpValue) (answer : Answer.Offer) (sent : Bool) → Icmps.Offers cx v answer v' → Has m (Is.Icmp v) →
@@ -139,7 +140,8 @@ module _ (names : List ℕ → Bool) (side : Side) (net now : Net) (r : Reaches 
       y.datagrams ≡ (party now side).datagrams → Grows (party now side) y
   more_offered y None queue s d = grows_to (party now side) y s d
   more_offered y (Some o) queue s d =
-      grows_by (party now side) y (made_of from (destination_of o.header) o.segment (payload_of o o.kind queue) ∷ []) [] s (d ∙ sym (append-nil (party now side).datagrams))
+      grows_by (party now side) y (made_of from (destination_of o.header) o.segment (payload_of o o.kind queue) ∷ []) [] s
+      (d ∙ sym (append-nil (party now side).datagrams))
 
   tcp_gives : (m m' : Meta) (cx : ContextValue) (v : TcpValue) (sent : Bool)
       → IfSome (offer_of cx v).socket.offered (λ o. LeavesFrom cx from o.header) → Has m (Is.Tcp v) →

@@ -14,8 +14,7 @@ use Rattle.interface.specs.Ip as Ips
 use Rattle.interface.specs.Ipv4Repr.{Ipv4Repr}
 use Rattle.interface.specs.Ipv6 as Ipv6
 use Rattle.interface.specs.Ipv6Repr.{Ipv6Repr}
-use Rattle.interface_ingress.specs.IpAddress.{IpAddress}
-use Rattle.sockets.specs.Packet.{PacketValue, PayloadValue}
+use Rattle.sockets.specs.Packet.{PacketValue}
 use Rattle.interface_tables.specs.Pieces as Pieces
 use Rattle.interface_tables.specs.declared.key.FragKey.{FragKey}
 use Rattle.interface_tables.specs.declared.key.FragKey.TheVariants as Keys
@@ -27,7 +26,7 @@ use Rattle.interface_ingress.specs.Reassembled.{PieceValue, part_v4, part_in}
 use Rattle.lan_base.specs.Parts.{may_carry}
 use Rattle.lan_base.specs.Slices.{Slice, IsSliceOf, IsLinkHeader, frame_of_slice}
 use Rattle.lan_base.specs.Capabilities.{frame_header}
-use Rattle.lan.specs.Worlds.Link.Made.{sealed, bytes_of, IsWholeMade, IsGoing}
+use Rattle.lan.specs.Worlds.Link.Made.{Makes, sealed, bytes_of, IsWholeMade, IsGoing}
 
 -- the medium that has such addresses
 abbrev pub medium_on : HardwareAddress → Medium
@@ -172,17 +171,17 @@ IsPiece out (Ip4 link header piece payload) = IsPieceOf out (part_v4 header piec
 IsPiece out (Ip6 link header payload) = BringsPiece out (Ip6 link header payload)
 
 -- what a frame brings was made, or is a piece of what was sent
-abbrev pub IsFrom : (IpAddress → IpAddress → PayloadValue → Type 0) → List Outgoing → IncomingValue → Type 0
+abbrev pub IsFrom : Makes → List Outgoing → IncomingValue → Type 0
 IsFrom made out v = IsWholeMade made v ⊎ IsPiece out v
 
 -- a host with such an address reads nothing else in this frame
-abbrev pub BringsFrom : (IpAddress → IpAddress → PayloadValue → Type 0) → List Outgoing → HardwareAddress → List ℕ → Type 0
+abbrev pub BringsFrom : Makes → List Outgoing → HardwareAddress → List ℕ → Type 0
 BringsFrom made out hardware frame = (v : IncomingValue) → IsIncoming hardware sealed frame v → IsFrom made out v
 
 -- each packet that was sent is one that a host sends, and its lengths fit
-pub record IsOut (made : IpAddress → IpAddress → PayloadValue → Type 0) (p : PacketValue) : Type 0 where
+pub record IsOut (made : Makes) (p : PacketValue) : Type 0 where
   pub going : IsGoing made p
   pub fits : Ips.Fits p.header
 
-abbrev pub AreOut : (IpAddress → IpAddress → PayloadValue → Type 0) → List Outgoing → Type 0
+abbrev pub AreOut : Makes → List Outgoing → Type 0
 AreOut made out = (p : PacketValue) → IsAmong p out → IsOut made p

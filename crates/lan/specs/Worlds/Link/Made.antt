@@ -18,6 +18,10 @@ use Rattle.interface_ingress.specs.Sent.{CanBeRead, normal_payload}
 use Rattle.interface.specs.Delivered.{NamesNoPorts}
 use Rattle.interface.specs.Taken.{IsOffered}
 
+-- which payloads a host made, from one address to another
+abbrev pub Makes : Type 1
+Makes = IpAddress → IpAddress → PayloadValue → Type 0
+
 -- a payload with the addresses of its packet
 pub record Addressed : Type 0 where
   pub source : IpAddress
@@ -41,7 +45,7 @@ IsWholeV6 (Ip.Ipv6 header) payload = is_piece_v6 header payload ≡ false
 abbrev pub CarriesNone : IpRepr → List ℕ → Type 0
 CarriesNone ip payload = NamesNoPorts (carried_in (upper_header ip payload)) × IsWholeV6 ip payload
 
-module _ (made : IpAddress → IpAddress → PayloadValue → Type 0) where
+module _ (made : Makes) where
   -- a segment or a datagram was made between these addresses; of anything else nothing is asked
   abbrev pub WasMade : IpAddress → IpAddress → PayloadValue → Type 0
   WasMade source destination (Datagram udp bytes) = made source destination (Datagram udp bytes)

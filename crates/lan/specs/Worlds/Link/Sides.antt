@@ -7,8 +7,7 @@ use Rattle.interface_ingress.specs.HardwareAddress.{HardwareAddress}
 use Rattle.interface_ingress.specs.HardwareAddress.TheVariants as Hardware
 use Rattle.interface_ingress.specs.ArpRepr.{ArpRepr}
 use Rattle.interface_ingress.specs.ArpRepr.TheVariants as Arp
-use Rattle.interface_ingress.specs.IpAddress.{IpAddress}
-use Rattle.sockets.specs.Packet.{PacketValue, PayloadValue}
+use Rattle.sockets.specs.Packet.{PacketValue}
 use Rattle.interface_tables.specs.Inner.{InnerValue}
 use Rattle.interface_tables.specs.declared.neighbor.Neighbor.{Neighbor}
 use Rattle.interface_tables.specs.declared.route.Route.{Route}
@@ -24,7 +23,7 @@ use Rattle.lan_base.specs.Cuts.{ipv4_part}
 use Rattle.interface_ingress.specs.Fields.{be16}
 use Rattle.lan_base.specs.Parts.{tcp_part, bytes_at}
 use Rattle.lan_base.specs.declared.part.Part.{Part}
-use Rattle.lan.specs.Worlds.Link.Made.{sealed}
+use Rattle.lan.specs.Worlds.Link.Made.{Makes, sealed}
 use Rattle.lan.specs.Worlds.Link.Frames.{Outgoing, medium_on, IsAmong, IsNumbered, IsSentV4, IsCutV6, IsSlice, IsWhole6, IsPiece6, BringsFrom, AreOut}
 use Rattle.lan.specs.Worlds.Link.Held.{AreSlotsOf}
 use Rattle.lan.specs.Worlds.Link.Numbers.{count_numbered, AreNumbered, IsTied}
@@ -32,7 +31,7 @@ use Rattle.lan.specs.Worlds.Link.Numbers.{count_numbered, AreNumbered, IsTied}
 -- WHAT A HOST SENT
 
 -- The packets of which a host sent the first frame at least, the newest first: what each carries was made, and each has its number.
-pub record AreSent (made : IpAddress → IpAddress → PayloadValue → Type 0) (first next : ℕ) (out : List Outgoing) : Type 0 where
+pub record AreSent (made : Makes) (first next : ℕ) (out : List Outgoing) : Type 0 where
   pub packets : AreOut made out
   pub numbered : AreNumbered first out next
 
@@ -61,7 +60,7 @@ pub record IsDamage (frame : List ℕ) (part : Part) (place word : ℕ) : Type 0
 
 -- WHAT COMES TO A HOST: `made` and `out` are the other host's
 
-pub record IsReceiver (made : IpAddress → IpAddress → PayloadValue → Type 0) (out : List Outgoing) (i : InnerValue) (slots : Slots) (waiting : List (List ℕ)) : Type 0 where
+pub record IsReceiver (made : Makes) (out : List Outgoing) (i : InnerValue) (slots : Slots) (waiting : List (List ℕ)) : Type 0 where
   pub checksums : i.checksums ≡ sealed
   pub slots_are : AreSlotsOf out slots
   pub waits : AllByRecursion (BringsFrom made out i.hardware) waiting
@@ -108,7 +107,7 @@ pub record IsLeft (hardware : HardwareAddress) (out : List Outgoing) (l : LeftVa
 
 -- A host that sends. `made` and `out` are its own, `first` its first number, and `sent` the frames that left it with those that the link
 -- made of them.
-pub record IsSender (made : IpAddress → IpAddress → PayloadValue → Type 0) (first : ℕ) (i : InnerValue) (left : Option LeftValue) (sent : List (List ℕ)) (out : List Outgoing) : Type 0 where
+pub record IsSender (made : Makes) (first : ℕ) (i : InnerValue) (left : Option LeftValue) (sent : List (List ℕ)) (out : List Outgoing) : Type 0 where
   pub sound : IsSound i
   pub are_sent : AreSent made first i.ident out
   pub left_is : IfSome left (IsLeft i.hardware out)
@@ -127,7 +126,7 @@ pub record Grows (out out' : List Outgoing) : Type 0 where
   pub numbered : (p : PacketValue) (number : ℕ) → IsNumbered p number out → IsNumbered p number out'
 
 -- It is a sender still, of more packets: so many more with a number at most, each of which has a first frame.
-pub record WentOut (made : IpAddress → IpAddress → PayloadValue → Type 0) (first most : ℕ) (out : List Outgoing) (sent : List (List ℕ)) (i' : InnerValue) (l' : Option LeftValue)
+pub record WentOut (made : Makes) (first most : ℕ) (out : List Outgoing) (sent : List (List ℕ)) (i' : InnerValue) (l' : Option LeftValue)
     (sent' : List (List ℕ)) : Type 0 where
   pub out_after : List Outgoing
   pub grows : Grows out out_after
