@@ -1,16 +1,14 @@
 -- A call of one TCP socket: what it leaves, and the step of an opening.
-use Rattle.std.proofs.Common.{◌≡◌, ◌≢◌, ◌⊎◌, inl, inr, ℕ, ◌==◌, ◌||◌, Bool, true, false, List, [], ◌∷◌, ◌++◌, Option, Some, None, refl, sym, ap, ◌∙◌, subst}
+use Rattle.std.proofs.Common.{◌≡◌, ◌≢◌, ◌⊎◌, inl, inr, ℕ, ◌||◌, Bool, true, false, List, [], ◌∷◌, ◌++◌, Option, Some, None, refl, sym, ap, ◌∙◌, subst}
 use Rattle.std.proofs.Common.{append-nil}
 use Rattle.std.proofs.lemmas.Bool.{ne_eqb}
 use Rattle.std.specs.List.{AllByRecursion}
 use Rattle.tcp_tie.specs.Alone.{AreResets}
 use Rattle.tcp_tie.specs.Segment.{Segment}
 use Rattle.tcp_tie.specs.Segment.Control.{Rst}
-use Rattle.tcp_tie.specs.Side as Law
-use Rattle.tcp_tie.specs.Side.Opening.{NotYet}
 use Rattle.tcp_tie.specs.Endpoints.{HasPorts}
 use Rattle.tcp_tie.specs.Host.{Made, source_port, seen_of, sent_from, past_at}
-use Rattle.tcp_tie.specs.Promises.{IsFresh, KeepsAlone}
+use Rattle.tcp_tie.specs.Promises.{KeepsAlone}
 use Rattle.tcp_tie.specs.Tie.{Past, Keeps, no_past}
 use Rattle.tcp_tie.proofs.AloneLaws.{stays_alone}
 use Rattle.tcp_tie.proofs.HostLaws.{resets_from}
@@ -23,18 +21,19 @@ use Rattle.lan.specs.declared.at_link.history.event.Side.{Side}
 use Rattle.lan.specs.declared.at_link.history.record.Opening.{Opening}
 use Rattle.lan.specs.Worlds.AtLink.Call.{SocketCall}
 use Rattle.lan.specs.Worlds.AtLink.Kinds.{other, kind_of, calls}
-use Rattle.lan.specs.Worlds.AtLink.History.{Entry, call_of, first_of, opening_by, bytes_written, bytes_read, closes, opening, written, read, is_closed_by}
+use Rattle.lan.specs.Worlds.AtLink.History.{Entry, first_of, opening_by, bytes_written, bytes_read, closes, opening, written, read, is_closed_by}
 use Rattle.lan.specs.Worlds.AtLink.Partners.{ArePartners}
 use Rattle.lan.specs.Worlds.AtLink.Tables.{Places, AreAllowed}
 use Rattle.lan.proofs.Worlds.AtLink.CallLemmas.{other_twice, call_here, call_at_other_side, call_at_other_place}
 use Rattle.lan.proofs.Worlds.AtLink.PartnerLemmas.{MayOpen, AreApart, apart_from_opened, opened_apart, opening_stays, one_partner, partners_turned}
-use Rattle.lan.specs.Worlds.AtLink.Parties.{Socket, Party, socket_at}
+use Rattle.lan.specs.Worlds.AtLink.Parties.{Party, socket_at}
 use Rattle.lan.specs.Worlds.AtLink.Parties.Socket.{Tcp}
 use Rattle.lan.specs.Worlds.AtLink.Moves.{with_socket}
 use Rattle.lan.proofs.Worlds.AtLink.Lists.{Each}
-use Rattle.lan.proofs.Worlds.AtLink.StreamInvariant.{way_of, way_by, told, ports_of, IsUntouched, SpeaksWith, TcpOk, WasSent, SegmentOk, StreamsOk, PairsOk}
-use Rattle.lan.proofs.Worlds.AtLink.HostSteps.{past, or_false, Stay, told_left, opening_left, speaks_stay, segments_stay, partners_stay, HostSteps}
-use Rattle.lan.proofs.Worlds.AtLink.Exchange.{Leaves, Exchanges, exchange_opened, exchange_untouched}
+use Rattle.lan.specs.Worlds.AtLink.Paired.{way_of, way_by, told}
+use Rattle.lan.proofs.Worlds.AtLink.StreamInvariant.{ports_of, IsUntouched, SpeaksWith, TcpOk, SegmentOk, StreamsOk, PairsOk}
+use Rattle.lan.proofs.Worlds.AtLink.HostSteps.{past, or_false, told_left, opening_left, speaks_stay, segments_stay, partners_stay, HostSteps}
+use Rattle.lan.proofs.Worlds.AtLink.Exchange.{Leaves, exchange_opened, exchange_untouched}
 
 -- the past after a call
 abbrev pub told_with : List Entry → Side → ℕ → SocketCall → Answer → Option State → Past

@@ -1,10 +1,10 @@
 -- A step of one host that exchanges one socket, or none of TCP.
-use Rattle.std.proofs.Common.{◌≡◌, ◌≢◌, ◌⊎◌, inl, inr, ℕ, List, [], ◌∷◌, ◌++◌, Option, Some, None, refl, sym, ap, ◌∙◌, subst}
+use Rattle.std.proofs.Common.{◌≡◌, ◌≢◌, ◌⊎◌, inl, inr, ℕ, List, [], ◌∷◌, ◌++◌, Some, None, refl, sym, ◌∙◌, subst}
 use Rattle.tcp_tie.specs.Segment.Control.{Rst}
 use Rattle.tcp_tie.specs.Endpoints.{HasPorts}
 use Rattle.tcp_tie.specs.Host.{Made, source_port, destination_port, seen_of, past_at}
 use Rattle.tcp_tie.specs.Promises.{KeepsAlone}
-use Rattle.tcp_tie.specs.Tie.{Past, Keeps}
+use Rattle.tcp_tie.specs.Tie.{Keeps}
 use Rattle.tcp_tie.proofs.HostLaws.{keeps_made_elsewhere, keeps_made_reset}
 use Rattle.tcp_model.specs.EndpointPair.{EndpointPair}
 use Rattle.tcp_model.specs.Value.{TcpValue}
@@ -19,7 +19,8 @@ use Rattle.lan.specs.Worlds.AtLink.Moves.{with_socket}
 use Rattle.lan.proofs.Worlds.AtLink.Lists.{Each, each_append}
 use Rattle.lan.proofs.Worlds.AtLink.Places.{socket_cases}
 use Rattle.lan.proofs.Worlds.AtLink.Speaking.{same_opening}
-use Rattle.lan.proofs.Worlds.AtLink.StreamInvariant.{told, ports_of, IsUntouched, SpeaksWith, TcpOk, SegmentOk, StreamsOk}
+use Rattle.lan.specs.Worlds.AtLink.Paired.{told}
+use Rattle.lan.proofs.Worlds.AtLink.StreamInvariant.{ports_of, IsUntouched, SpeaksWith, TcpOk, SegmentOk}
 use Rattle.lan.proofs.Worlds.AtLink.HostSteps.{Stay, KeepAt, IsKept, IsExchanged, HostSteps}
 
 pub same_tcp : (v w : TcpValue) → Tcp v ≡ Tcp w → v ≡ w

@@ -1,14 +1,11 @@
 -- A step of one host keeps what is kept of both hosts' streams, where it keeps it of each socket.
-use Rattle.std.proofs.Common.{◌≡◌, ◌≢◌, ◌⊎◌, inl, inr, ℕ, ◌||◌, Bool, true, false, List, [], ◌∷◌, ◌++◌, Option, Some, None, refl, sym, ap, ◌∙◌, subst}
+use Rattle.std.proofs.Common.{◌≡◌, ◌⊎◌, inl, inr, ℕ, ◌||◌, Bool, true, false, List, [], ◌∷◌, ◌++◌, Option, Some, None, refl, sym, ap, ◌∙◌, subst}
 use Rattle.std.proofs.Common.{append-nil}
-use Rattle.tcp_tie.specs.Segment.Control.{Rst}
 use Rattle.tcp_tie.specs.Side as Law
-use Rattle.tcp_tie.specs.Endpoints.{HasPorts}
 use Rattle.tcp_tie.specs.Host.{Made, destination_port, past_at}
 use Rattle.tcp_tie.specs.Promises.{KeepsAlone}
-use Rattle.tcp_tie.specs.Tie.{Past, Keeps, no_past}
+use Rattle.tcp_tie.specs.Tie.{Past, Keeps}
 use Rattle.tcp_tie.proofs.AloneLaws.{stays_alone}
-use Rattle.tcp_model.specs.EndpointPair.{EndpointPair}
 use Rattle.tcp_model.specs.Value.{TcpValue}
 use Rattle.lan.specs.declared.at_link.history.event.Side.{Side}
 use Rattle.lan.specs.declared.at_link.history.record.Opening.{Opening}
@@ -20,7 +17,8 @@ use Rattle.lan.proofs.Worlds.AtLink.TableLemmas.{first_of-none}
 use Rattle.lan.specs.Worlds.AtLink.Parties.{Party, socket_at}
 use Rattle.lan.specs.Worlds.AtLink.Parties.Socket.{Tcp}
 use Rattle.lan.proofs.Worlds.AtLink.Lists.{Each, each_of}
-use Rattle.lan.proofs.Worlds.AtLink.StreamInvariant.{way_by, told, ports_of, IsUntouched, ConnectsTo, SpeaksWith, TcpOk, WasSent, SegmentOk, StreamsOk, PairsOk}
+use Rattle.lan.specs.Worlds.AtLink.Paired.{way_by, told}
+use Rattle.lan.proofs.Worlds.AtLink.StreamInvariant.{ConnectsTo, SpeaksWith, TcpOk, SegmentOk, StreamsOk, PairsOk}
 
 -- WHAT STAYS
 

@@ -1,6 +1,6 @@
 -- What is kept of both hosts, and that each move keeps it.
-use Rattle.std.proofs.Common.{◌≡◌, ◌≢◌, ◌⊎◌, inl, inr, ℕ, ◌<◌, Bool, true, false, List, [], ◌∷◌, ◌++◌, length, map, Option, Some, None, Result, Ok, Err, refl}
-use Rattle.std.proofs.Common.{sym, ap, ◌∙◌, subst, arith}
+use Rattle.std.proofs.Common.{◌≡◌, ◌≢◌, ◌⊎◌, inl, inr, ℕ, List, ◌∷◌, map, Option, Some, None, Result, Ok, Err, refl}
+use Rattle.std.proofs.Common.{sym, ap, ◌∙◌, subst}
 use Rattle.std.specs.Prelude.{slice_set, slice_index_or}
 use Rattle.std.proofs.lemmas.Bool.{ne_eqb}
 use Rattle.std.proofs.Math.Seq.{map-set_same}
@@ -8,8 +8,6 @@ use Rattle.std.proofs.Math.ListN.{get_or-map}
 use Rattle.sockets.specs.Context.{ContextValue}
 use Rattle.sockets.specs.Udp.{UdpValue}
 use Rattle.tcp_tie.specs.Host.{past_at}
-use Rattle.tcp_tie.specs.Promises.{KeepsAlone}
-use Rattle.tcp_tie.specs.Tie.{Keeps}
 use Rattle.tcp_tie.proofs.AnsweredLaws.{read_to_the_end}
 use Rattle.tcp_tie.proofs.PromiseLemmas.{keeps_turned, alone_nothing}
 use Rattle.tcp_model.specs.RecvError.{RecvError}
@@ -18,7 +16,6 @@ use Rattle.tcp_model.specs.Calls.{recv_answer}
 use Rattle.tcp_model.specs.Value.{TcpValue}
 use Rattle.lan.specs.declared.at_link.history.answer.Answer.{Answer}
 use Rattle.lan.specs.declared.at_link.history.answer.Answer.TheVariants as To
-use Rattle.lan.specs.declared.at_link.history.answer.Fault.TheVariants as Fault
 use Rattle.lan.specs.declared.at_link.history.event.Side.{Side}
 use Rattle.lan.specs.declared.at_link.history.event.Side.TheVariants.{A, B}
 use Rattle.lan.specs.declared.at_link.history.record.Opening.{Opening}
@@ -32,7 +29,7 @@ use Rattle.lan.specs.Worlds.AtLink.Kinds.Kind.{OfHost}
 use Rattle.lan.specs.Worlds.AtLink.History.{Entry, call_of, call_in, opening}
 use Rattle.lan.specs.Worlds.AtLink.Partners.{ArePartners}
 use Rattle.lan.specs.Worlds.AtLink.Reads.{ReadWasAccepted, ReadsWereAccepted, HasEnded, EndWasTrue, EndsWereTrue}
-use Rattle.lan.specs.Worlds.AtLink.Tables.{Places, kinds, kind_at, IsAllowed, AreAllowed}
+use Rattle.lan.specs.Worlds.AtLink.Tables.{Places, kinds, IsAllowed, AreAllowed}
 use Rattle.lan.proofs.Worlds.AtLink.PartnerLemmas.{paired_turned}
 use Rattle.lan.proofs.Worlds.AtLink.PartnerLemmas.{opening_stays}
 use Rattle.lan.proofs.Worlds.AtLink.CallLemmas.{call_at_other_side, call_at_other_place}
@@ -41,7 +38,8 @@ use Rattle.lan.specs.Worlds.AtLink.Moves.{DoneBy, Does, IsOfOthers, IsNoCall, wi
 use Rattle.lan.proofs.Worlds.AtLink.Found.{opened_tcp, find_partner}
 use Rattle.lan.specs.Worlds.AtLink.Parties.{Socket, Party, kind_in, kind_of_socket, socket_at}
 use Rattle.lan.specs.Worlds.AtLink.Parties.Socket.{Tcp, Udp, Icmp, Raw}
-use Rattle.lan.proofs.Worlds.AtLink.StreamInvariant.{told, StreamsOk, PairsOk}
+use Rattle.lan.specs.Worlds.AtLink.Paired.{told}
+use Rattle.lan.proofs.Worlds.AtLink.StreamInvariant.{StreamsOk, PairsOk}
 use Rattle.lan.proofs.Worlds.AtLink.DatagramInvariant.{UdpOk, DatagramsOk}
 use Rattle.lan.proofs.Worlds.AtLink.DatagramCalls.{udp_called}
 use Rattle.lan.proofs.Worlds.AtLink.DatagramMoves.{datagrams_called, datagrams_grown}

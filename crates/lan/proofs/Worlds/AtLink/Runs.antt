@@ -1,13 +1,7 @@
 -- Each run is safe.
-use Rattle.std.proofs.Common.{◌≡◌, ◌≢◌, ◌⊎◌, inl, inr, ℕ, Bool, true, false, List, [], ◌∷◌, ◌++◌, length, map, Option, Some, None, refl, sym, ap, ◌∙◌, subst}
-use Rattle.std.proofs.Common.{IfSome, arith}
+use Rattle.std.proofs.Common.{◌≡◌, ℕ, Bool, true, List, [], ◌∷◌, ◌++◌, map, Option, Some, None, refl, sym, ap, ◌∙◌, subst}
+use Rattle.std.proofs.Common.{IfSome}
 use Rattle.ip_wire.specs.Ip.{source_of, destination_of}
-use Rattle.ip_wire.specs.IpRepr.{IpRepr}
-use Rattle.ip_wire.specs.TcpHeader.{TcpHeader}
-use Rattle.ip_wire.specs.UdpRepr.{UdpRepr}
-use Rattle.net_base.specs.Packets.{contents}
-use Rattle.sockets.specs.Context.{ContextValue}
-use Rattle.sockets.specs.Offer as Answers
 use Rattle.sockets.specs.SocketValue as Datagrams
 use Rattle.sockets.specs.Udp as Udps
 use Rattle.sockets.specs.Udp.{UdpValue}
@@ -27,27 +21,26 @@ use Rattle.lan.specs.declared.at_link.history.event.Side.{Side}
 use Rattle.lan.specs.declared.at_link.history.event.Side.TheVariants.{A, B}
 use Rattle.lan.specs.declared.at_link.history.record.Opening.{Opening}
 use Rattle.lan.specs.declared.at_link.history.record.SocketKind.{SocketKind}
-use Rattle.lan.specs.Worlds.AtLink.Call.{SocketCall}
 use Rattle.lan.specs.Worlds.AtLink.Kinds.{other, kind_of, calls}
-use Rattle.lan.specs.Worlds.AtLink.History.{Entry, bound_port, opening, written, read}
+use Rattle.lan.specs.Worlds.AtLink.History.{Entry, opening, written, read}
 use Rattle.lan.specs.Worlds.AtLink.Partners.{ArePartners}
-use Rattle.lan.specs.Worlds.AtLink.Tables.{Places, kinds, IsAllowed, AreAllowed}
+use Rattle.lan.specs.Worlds.AtLink.Tables.{Places, kinds, IsAllowed}
 use Rattle.lan.proofs.Worlds.AtLink.PartnerLemmas.{partners_turned}
-use Rattle.lan.specs.Worlds.AtLink.Parties.{Socket, Datagram, Party, socket_at, kind_in, WasMade, Net, party, with_party, places_of, datagrams_of}
-use Rattle.lan.specs.Worlds.AtLink.Parties.Socket.{Tcp, Udp, Icmp, Raw}
+use Rattle.lan.specs.Worlds.AtLink.Parties.{Socket, Datagram, Party, socket_at, kind_in, WasMade, Net, party, places_of, datagrams_of}
+use Rattle.lan.specs.Worlds.AtLink.Parties.Socket.{Tcp, Udp}
 use Rattle.lan.specs.Worlds.AtLink.Moves.{Move, with_socket, offered_segments, Does, IsNoCall, LooksSame, party_after, history_after, May, Step, after, IsRun, run}
 use Rattle.lan.specs.Worlds.AtLink.Moves.{LeavesFrom}
 use Rattle.lan.specs.Worlds.AtLink.Moves.Move.{Invokes, Passes, Offers, Gives, Takes, Receives, Resets, Changes}
-use Rattle.lan.specs.Worlds.AtLink.PacketsSafe.{IsFreshSocket, IsFreshParty, IsFreshNet, IsTcpAt, taken_in, HasNothing, IsSafe}
+use Rattle.lan.specs.Worlds.AtLink.PacketsSafe.{IsFreshParty, IsFreshNet, IsTcpAt, taken_in, IsSafe}
 use Rattle.lan.proofs.Worlds.AtLink.Lists.{Each}
 use Rattle.lan.proofs.Worlds.AtLink.DatagramInvariant.{CameTo, GoesFrom, UdpOk, DatagramOk, DatagramsOk, udp_fewer}
 use Rattle.lan.proofs.Worlds.AtLink.DatagramMoves.{gives, settles, receives, looks_same, datagrams_set, datagrams_made, was_accepted}
-use Rattle.lan.proofs.Worlds.AtLink.StreamInvariant.{told, TcpOk, SegmentOk, StreamsOk, PairsOk}
+use Rattle.lan.specs.Worlds.AtLink.Paired.{told}
+use Rattle.lan.proofs.Worlds.AtLink.StreamInvariant.{TcpOk, SegmentOk}
 use Rattle.lan.proofs.Worlds.AtLink.HostSteps.{HostSteps}
 use Rattle.lan.proofs.Worlds.AtLink.Exchange.{leaves_all, exchange_other, reset_made}
 use Rattle.lan.proofs.Worlds.AtLink.WireMoves as wire
 use Rattle.lan.proofs.Worlds.AtLink.Kept.{HostOk, KeptFrom, kept_turned, kinds_set, kept_still, invoked, passes, opened_there}
-use Rattle.lan.proofs.Worlds.AtLink.Found.{find_partner}
 
 -- EACH MOVE, seen from the host that makes it
 

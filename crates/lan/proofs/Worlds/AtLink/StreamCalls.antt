@@ -1,14 +1,12 @@
 -- Each call of a TCP socket.
-use Rattle.std.proofs.Common.{◌≡◌, ◌≢◌, ◌⊎◌, inl, inr, ℕ, ◌+◌, ◌<◌, ◌≤◌, ◌^◌, ◌==◌, nat_le, not, ◌&&◌, ◌||◌, min, Bool, true, false, if◌then◌else◌, List, []}
-use Rattle.std.proofs.Common.{◌∷◌, ◌++◌, length, take, Option, Some, None, is_some, Result, Ok, Err, is_ok, refl, sym, ap, ◌∙◌, subst, append-nil, arith}
+use Rattle.std.proofs.Common.{◌≡◌, ◌≢◌, inl, ℕ, ◌+◌, ◌<◌, ◌≤◌, ◌^◌, ◌==◌, nat_le, not, ◌&&◌, ◌||◌, min, Bool, true, false, if◌then◌else◌, List, []}
+use Rattle.std.proofs.Common.{◌∷◌, ◌++◌, length, take, Option, Some, None, is_some, Result, Ok, Err, refl, sym, ap, ◌∙◌, subst, append-nil, arith}
 use Rattle.std.proofs.lemmas.Bool.Decides.{nat_tests}
 use Rattle.std.proofs.lemmas.List.{length-append, length-take}
 use Rattle.net_base.specs.Ring.{anchored, enqueued}
 use Rattle.ip_wire.specs.IpEndpoint.{IpEndpoint}
 use Rattle.ip_wire.specs.AddressTests.{is_unspecified}
 use Rattle.sockets.specs.Context.{ContextValue}
-use Rattle.tcp_tie.specs.Segment.{Segment}
-use Rattle.tcp_tie.specs.Side.Opening.{NotYet}
 use Rattle.tcp_tie.specs.Endpoints.{HasPorts}
 use Rattle.tcp_tie.specs.Host.{past_at}
 use Rattle.tcp_tie.specs.History.{closes_in, closed_by, bytes_taken, with_written, with_read}
@@ -20,9 +18,7 @@ use Rattle.tcp_tie.proofs.PortLaws.{ports_listening, ports_connecting, ports_sam
 use Rattle.tcp_model.specs.declared.block.Block.{Block}
 use Rattle.tcp_model.specs.AddressPair.{AddressPair}
 use Rattle.tcp_model.specs.EndpointPair.{EndpointPair}
-use Rattle.tcp_model.specs.ConnectError.{ConnectError}
 use Rattle.tcp_model.specs.ConnectError.TheVariants as Connect
-use Rattle.tcp_model.specs.ListenError.{ListenError}
 use Rattle.tcp_model.specs.ListenError.TheVariants as Listen
 use Rattle.tcp_model.specs.RecvError.{RecvError}
 use Rattle.tcp_model.specs.RecvError.TheVariants as Recv
@@ -31,7 +27,7 @@ use Rattle.tcp_model.specs.SendError.TheVariants as Send
 use Rattle.tcp_model.specs.State.{State}
 use Rattle.tcp_model.specs.State.TheVariants as In
 use Rattle.tcp_model.specs.Calls.{listening, listens_on, listen_answer, listen_after, connecting, connected_by, connect_answer, connect_after, found_answer}
-use Rattle.tcp_model.specs.Calls.{pair_for, pair_by, addresses_by, source_by, send_answer, sent_more, send_after, recv_answer, recv_refusal, or_count}
+use Rattle.tcp_model.specs.Calls.{pair_for, pair_by, addresses_by, source_by, send_answer, sent_more, send_after, recv_answer, or_count}
 use Rattle.tcp_model.specs.Calls.{nothing_left, recv_after, close_after, abort_after}
 use Rattle.tcp_model.specs.States.{is_closed, is_time_wait, is_opening, takes_writes, takes_text, after_close}
 use Rattle.tcp_model.specs.Value.{TcpValue, unoffered, ended, with_block}
@@ -50,15 +46,16 @@ use Rattle.lan.specs.Worlds.AtLink.History.{Entry, first_of, opening_by, bytes_w
 use Rattle.lan.specs.Worlds.AtLink.Tables.{Places, kinds, table_of, record_at, IsAllowed, AreAllowed}
 use Rattle.lan.proofs.Worlds.AtLink.PartnerLemmas.{WasTaken, was_taken, MayOpen, may_open, test_passed}
 use Rattle.lan.proofs.Worlds.AtLink.TableLemmas.{first_of-none, table_says}
-use Rattle.lan.specs.Worlds.AtLink.Calls.{at_port, done_or, count_or, listen_fault, connect_fault, write_fault, recv_fault, bytes_or, read_by, hops_or_none}
+use Rattle.lan.specs.Worlds.AtLink.Calls.{at_port, done_or, count_or, listen_fault, connect_fault, write_fault, recv_fault, bytes_or, read_by}
 use Rattle.lan.specs.Worlds.AtLink.Calls.{setting_after, tcp_does}
 use Rattle.lan.specs.Worlds.AtLink.Moves.{DoneBy, with_socket}
-use Rattle.lan.specs.Worlds.AtLink.Parties.{Socket, Party, socket_at}
+use Rattle.lan.specs.Worlds.AtLink.Parties.{Party, socket_at}
 use Rattle.lan.specs.Worlds.AtLink.Parties.Socket.{Tcp}
-use Rattle.lan.proofs.Worlds.AtLink.StreamInvariant.{way_by, told, ports_of, IsUntouched, SpeaksWith, TcpOk, StreamsOk, PairsOk}
+use Rattle.lan.specs.Worlds.AtLink.Paired.{way_by, told}
+use Rattle.lan.proofs.Worlds.AtLink.StreamInvariant.{ports_of, IsUntouched, TcpOk, StreamsOk, PairsOk}
 use Rattle.lan.proofs.Worlds.AtLink.HostSteps.{past, or_false, HostSteps}
 use Rattle.lan.proofs.Worlds.AtLink.WireMoves.{untouched_same, pair_kept}
-use Rattle.lan.proofs.Worlds.AtLink.CallSteps.{or_true, told_with, told_parts, told_plain, told_after, called_opened, called_untouched, called_opens}
+use Rattle.lan.proofs.Worlds.AtLink.CallSteps.{or_true, told_parts, told_plain, told_after, called_opened, called_untouched, called_opens}
 use Rattle.tcp_model.specs.FirstNumbers.{first_number, number_for}
 use Rattle.tcp_model.proofs.Numbers.{number_small}
 

@@ -1,35 +1,21 @@
 -- What is kept of TCP sockets and of the segments that were made.
-use Rattle.std.proofs.Common.{◌≡◌, ◌⊎◌, inl, inr, ℕ, ◌==◌, Bool, true, false, List, [], ◌∷◌, Option, Some, None, refl, sym, ap, ◌∙◌, subst}
+use Rattle.std.proofs.Common.{◌≡◌, ◌⊎◌, ℕ, List, [], Some, None}
 use Rattle.tcp_tie.specs.Segment.Control.{Rst}
-use Rattle.tcp_tie.specs.Side as Law
-use Rattle.tcp_tie.specs.Side.Opening.{NotYet, Passive, Active}
 use Rattle.tcp_tie.specs.Endpoints.{Ports, HasPorts, IsNameless}
 use Rattle.tcp_tie.specs.Host.{Made, source_port, destination_port, seen_of, past_at}
 use Rattle.tcp_tie.specs.Promises.{IsFresh, KeepsAlone}
-use Rattle.tcp_tie.specs.Tie.{Past, Keeps, no_past}
+use Rattle.tcp_tie.specs.Tie.{Keeps, no_past}
 use Rattle.tcp_model.specs.EndpointPair.{EndpointPair}
 use Rattle.tcp_model.specs.Value.{TcpValue}
 use Rattle.lan.specs.declared.at_link.history.event.Side.{Side}
 use Rattle.lan.specs.declared.at_link.history.record.Opening.{Opening}
 use Rattle.lan.specs.Worlds.AtLink.Kinds.{other}
-use Rattle.lan.specs.Worlds.AtLink.History.{Entry, opening, written, read, is_closed_by}
+use Rattle.lan.specs.Worlds.AtLink.History.{Entry, opening}
+use Rattle.lan.specs.Worlds.AtLink.Paired.{told}
 use Rattle.lan.specs.Worlds.AtLink.Partners.{ArePartners}
-use Rattle.lan.specs.Worlds.AtLink.Parties.{Socket, Party, socket_at}
+use Rattle.lan.specs.Worlds.AtLink.Parties.{Party, socket_at}
 use Rattle.lan.specs.Worlds.AtLink.Parties.Socket.{Tcp}
 use Rattle.lan.proofs.Worlds.AtLink.Lists.{Each}
-
--- THE PAST OF A SOCKET, as the history tells it
-
-abbrev pub way_of : Option ℕ → Law.Opening
-way_of None = Passive
-way_of (Some remote) = Active
-
-abbrev pub way_by : Option Opening → Law.Opening
-way_by None = NotYet
-way_by (Some o) = way_of o.remote
-
-abbrev pub told : List Entry → Side → ℕ → Past
-told h side i = record { opening = way_by (opening h side i); written = written h side i; read = read h side i; closed = is_closed_by h side i; sent = [] }
 
 abbrev pub ports_of : Opening → Ports
 ports_of o = record { local = o.local; remote = o.remote }

@@ -1,7 +1,6 @@
 -- Offers, arrivals and settings: each step of one TCP socket that no call of the history tells.
-use Rattle.std.proofs.Common.{◌≡◌, ◌≢◌, ◌⊎◌, inl, inr, ℕ, ◌==◌, Bool, true, false, List, [], ◌∷◌, ◌++◌, length, Option, Some, None, is_some, refl, sym, ap, ◌∙◌}
+use Rattle.std.proofs.Common.{◌≡◌, ◌≢◌, ◌⊎◌, inl, inr, ℕ, Bool, true, false, List, Option, Some, None, refl, sym, ap, ◌∙◌}
 use Rattle.std.proofs.Common.{subst}
-use Rattle.std.specs.Prelude.{slice_get}
 use Rattle.ip_wire.specs.Ip.{source_of, destination_of}
 use Rattle.ip_wire.specs.IpAddress.{IpAddress}
 use Rattle.ip_wire.specs.IpRepr.{IpRepr}
@@ -9,13 +8,11 @@ use Rattle.ip_wire.specs.Tcp.{normal}
 use Rattle.ip_wire.specs.TcpHeader.{TcpHeader}
 use Rattle.sockets.specs.Context.{ContextValue}
 use Rattle.sockets.specs.Polling.{Offered}
-use Rattle.tcp_tie.specs.Segment.Control.{Rst}
-use Rattle.tcp_tie.specs.Endpoints.{HasPorts, IsFor, IsNameless, KeepsNames, Forgets, KeepsOrForgets, IsLeftBy, IsRenamed, IsOpenedBy, FallsBack}
+use Rattle.tcp_tie.specs.Endpoints.{HasPorts, KeepsOrForgets, IsLeftBy, IsRenamed}
 use Rattle.tcp_tie.specs.Host.{Made, made_of, made_by, past_at, MayCome, and_answer, and_offer}
-use Rattle.tcp_tie.specs.Promises.{IsFresh, KeepsAlone}
-use Rattle.tcp_tie.specs.Tie.{Core, core_of, Past, Keeps, segment_of}
+use Rattle.tcp_tie.specs.Promises.{KeepsAlone}
+use Rattle.tcp_tie.specs.Tie.{Core, core_of, Past, Keeps}
 use Rattle.tcp_tie.proofs.AloneLaws.{stays_alone, reset_comes}
-use Rattle.tcp_tie.proofs.ArrivalLaws.{keeps_arrival}
 use Rattle.tcp_tie.proofs.CallLaws.{keeps_same}
 use Rattle.tcp_tie.proofs.HostLaws.{keeps_hosted_arrival, keeps_hosted_offer, past_of_answer}
 use Rattle.tcp_tie.proofs.NameLaws.{arrival_names, answer_back, offer_between_ends, sent_names, withheld_names}
@@ -41,14 +38,15 @@ use Rattle.lan.specs.Worlds.AtLink.History.{Entry, opening}
 use Rattle.lan.specs.Worlds.AtLink.Partners.{ArePartners}
 use Rattle.lan.specs.Worlds.AtLink.Tables.{Places, AreAllowed}
 use Rattle.lan.proofs.Worlds.AtLink.PartnerLemmas.{opened_apart, AreApart}
-use Rattle.lan.specs.Worlds.AtLink.Parties.{Socket, Party, socket_at}
+use Rattle.lan.specs.Worlds.AtLink.Parties.{Party, socket_at}
 use Rattle.lan.specs.Worlds.AtLink.Parties.Socket.{Tcp}
 use Rattle.lan.specs.Worlds.AtLink.Moves.{with_socket, offered_segments}
 use Rattle.lan.proofs.Worlds.AtLink.Lists.{Each, each_get}
 use Rattle.lan.proofs.Worlds.AtLink.Speaking.{come, partner_port, sender_is_partner, accepted_speaks}
-use Rattle.lan.proofs.Worlds.AtLink.StreamInvariant.{told, ports_of, IsUntouched, SpeaksWith, TcpOk, SegmentOk, StreamsOk, PairsOk}
+use Rattle.lan.specs.Worlds.AtLink.Paired.{told}
+use Rattle.lan.proofs.Worlds.AtLink.StreamInvariant.{ports_of, IsUntouched, SpeaksWith, TcpOk, SegmentOk, StreamsOk, PairsOk}
 use Rattle.lan.proofs.Worlds.AtLink.HostSteps.{HostSteps}
-use Rattle.lan.proofs.Worlds.AtLink.Exchange.{IsMore, Exchanges, leaves_all, exchange_opened, exchange_untouched}
+use Rattle.lan.proofs.Worlds.AtLink.Exchange.{IsMore, leaves_all, exchange_opened, exchange_untouched}
 
 -- a fresh socket without endpoints, seen by what the tie reads
 pub untouched_same : (h : List Entry) (side : Side) (i : ℕ) (v new : TcpValue) → core_of new ≡ core_of v → IsUntouched h side i v → IsUntouched h side i new
