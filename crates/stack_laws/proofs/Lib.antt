@@ -7,3 +7,4 @@ pub mod Drains
 pub mod TurnPackets
 pub mod Polls
 pub mod Runs
+pub mod Partnered

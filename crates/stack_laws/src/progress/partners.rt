@@ -1,16 +1,21 @@
 //! Two partners at hosts whose connection goes on.
 
-ghost use Rattle.std.specs.Prelude.{◌≡◌, ◌++◌, ℕ, ℤ, Bool, List};
+ghost use Rattle.std.specs.Prelude.{◌≡◌, ℕ, ℤ, Bool, List};
 ghost use Rattle.lan.specs.declared.at_link.history.event.Side.{Side};
 ghost use Rattle.lan.specs.declared.at_link.history.event.Side.TheVariants.{A, B};
+ghost use Rattle.lan.specs.Worlds.AtLink.Fresh.{IsFreshWorld};
+ghost use Rattle.lan.specs.Worlds.AtLink.History.{Entry};
 ghost use Rattle.lan.specs.Worlds.AtLink.Moves.{Step, IsRun, run};
 ghost use Rattle.lan.specs.Worlds.AtLink.PacketsSafe.{IsFreshNet};
 ghost use Rattle.lan.specs.Worlds.AtLink.Paired.{AreHosted, AreNew, HaveKeys, NewSocket, Seat, Shows, at_zero, clocks_in};
 ghost use Rattle.lan.specs.Worlds.AtLink.Parties.{Net};
 ghost use Rattle.lan.specs.Worlds.AtLink.Partners.{ArePartners};
+ghost use Rattle.lan.specs.Worlds.AtLink.Runs.{Starts, WorldRun, unused_both};
+ghost use Rattle.lan.specs.Worlds.AtLink.Station.{Stations};
+ghost use Rattle.lan.specs.Worlds.Events.{AreTyped};
 ghost use Rattle.tcp_tie.specs.Pair.Values.{PairValue};
 ghost use Rattle.tcp_progress.specs.Reached.{IsReached};
-ghost use Rattle.stack_laws.specs.Progress.Partners.{GoesOnInTime, HoldText, ShowsReached};
+ghost use Rattle.stack_laws.specs.Progress.Partners.{CameByPackets, GoesOnInTime, HoldText, ShowsReached};
 
 use lan::at_link::history::pair_laws::partners_are_a_pair;
 use tcp_progress::readers::{
@@ -40,4 +45,12 @@ pub fn partners_go_on()
     partners_are_a_pair();
     a_connection_goes_on_whatever_its_windows_are();
     all_is_acknowledged_whatever_the_windows_are();
+}
+
+/// Law: each world came by a run over packets of its two hosts; where that is plain, its partners are a pair that events led to.
+pub fn partners_in_a_world_are_reached()
+    ensures { (starts : Starts) (history : List Entry) (hosts : Stations) (seats : Side → Seat) (news : Side → NewSocket)
+        → IsFreshWorld starts → AreTyped history → WorldRun history (unused_both starts) hosts → CameByPackets starts history hosts seats news }
+{
+    partners_are_reached();
 }

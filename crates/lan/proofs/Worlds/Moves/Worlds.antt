@@ -115,7 +115,7 @@ fresh_party s p ports fresh is named = record {
   datagrams = ap (λ (y : Party). y.datagrams) is;
 }
 
-fresh_net : (starts : Starts) → IsFreshWorld starts → IsFreshNet (first_port starts) (first_net starts)
+pub fresh_net : (starts : Starts) → IsFreshWorld starts → IsFreshNet (first_port starts) (first_net starts)
 fresh_net starts fresh = record {
   a = fresh_party starts.a (party_of (unused starts.a)) (first_port starts A) fresh.a refl (λ i. refl);
   b = fresh_party starts.b (party_of (unused starts.b)) (first_port starts B) fresh.b refl (λ i. refl);
