@@ -12,7 +12,7 @@ ghost use Rattle.tcp_model.specs.Offers.{offer_of};
 ghost use Rattle.tcp_model.specs.Value.{TcpValue};
 
 /// A reader has the header of each segment that a socket makes as it was made: a SYN's scale is at most 14 (RFC 7323, 2.3), and ranges go in an
-/// acknowledgement alone, where the run that the text came into is there and the others stand behind it without a gap (RFC 2018, 4).
+/// acknowledgement alone, closed up, since the run that the text came into is always there (RFC 2018, 4).
 pub fn segments_are_read_as_made()
     ensures offers { (cx : ContextValue) (v : TcpValue) (o : OpenOffer) → (offer_of cx v).socket.offered ≡ Some o → normal o.segment ≡ o.segment }
     ensures answers { (cx : ContextValue) (v : TcpValue) (ip : IpRepr) (header : TcpHeader) (bytes : List ℕ) (reply : Reply)
