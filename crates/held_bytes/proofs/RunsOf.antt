@@ -1,10 +1,11 @@
 -- The runs of a map of held bytes are those that it was made of.
-use Rattle.std.proofs.Common.{◌≡◌, ℕ, suc, ◌+◌, ◌<◌, ◌≤◌, inl, inr, List, [], ◌∷◌, length, Option, Some, None, arith}
+use Rattle.std.proofs.Common.{◌≡◌, ℕ, zero, suc, ◌+◌, ◌<◌, ◌≤◌, true, inl, inr, List, [], ◌∷◌, length, Option, Some, None, arith}
 use Rattle.std.specs.Prelude.{◌↔◌}
 use Rattle.net_containers.specs.Assembler.{Holds, AreRuns, AreRunsFrom}
 use Rattle.net_containers.proofs.Runs.{AreRuns-joined, AreRunsFrom-lower, Holds-joined, same_runs}
-use Rattle.held_bytes.specs.Held.{map_from, runs_from, runs_of, EndsBy}
-use Rattle.held_bytes.proofs.Places.{is_held-tells}
+use Rattle.tcp_law.specs.ReceiveMap.{store}
+use Rattle.held_bytes.specs.Held.{is_held, map_from, runs_from, runs_of, EndsBy}
+use Rattle.held_bytes.proofs.Places.{is_held-tells, is_held-iff}
 use Rattle.std.proofs.lemmas.Bool.{cases_lt}
 
 pub AreRuns-runs_from : (p : ℕ) (map : List (Option ℕ)) → AreRunsFrom p (runs_from p map)
@@ -46,3 +47,20 @@ pub runs_of-held : (rs : List (ℕ × ℕ)) (free : List ℕ) → AreRuns rs →
 runs_of-held rs free runs ends =
     same_runs 0 0 (runs_of (map_from rs 0 free)) rs (AreRuns-runs_from 0 (map_from rs 0 free)) runs (λ q. let both = Holds-runs_from rs 0 free q in
     (λ h. (both.0 h).0, λ h. both.1 (h, (omega arith, omega (arith, ends q h)))))
+
+-- the first of the bytes that are stored is held, where there is space at its place
+Holds-store : (p : ℕ) (map : List (Option ℕ)) (at byte : ℕ) (bytes : List ℕ) (q : ℕ) → q ≡ p + at → at < length map →
+    Holds (runs_from p (store map at (byte ∷ bytes))) q
+Holds-store p [] at byte bytes q e lt = absurd (omega (arith, lt))
+Holds-store p (x ∷ map) zero byte bytes q e lt =
+    (Holds-joined (runs_from (suc p) (store map zero bytes)) (suc p) p (suc p) q (AreRuns-runs_from (suc p) (store map zero bytes)) (omega arith)).1
+    (inr (omega arith, omega arith))
+Holds-store p (None ∷ map) (suc at) byte bytes q e lt = Holds-store (suc p) map at byte bytes q (omega arith) (omega arith)
+Holds-store p (Some x ∷ map) (suc at) byte bytes q e lt =
+    let rest = store map at (byte ∷ bytes) in
+    (Holds-joined (runs_from (suc p) rest) (suc p) p (suc p) q (AreRuns-runs_from (suc p) rest) (omega arith)).1
+    (inl (Holds-store (suc p) map at byte bytes q (omega arith) (omega arith)))
+
+pub is_held-store : (map : List (Option ℕ)) (at byte : ℕ) (bytes : List ℕ) → at < length map → is_held (runs_of (store map at (byte ∷ bytes))) at ≡ true
+is_held-store map at byte bytes lt =
+    (is_held-iff (runs_of (store map at (byte ∷ bytes))) at).1 (Holds-store 0 map at byte bytes at (omega arith) lt)

@@ -1,28 +1,17 @@
 -- What window fields say of a receive buffer, own or the partner's.
-use Rattle.std.proofs.Common.{◌≡◌, ℕ, zero, suc, ◌+◌, ◌*◌, ◌/◌, ◌^◌, ◌≤◌, ◌==◌, ◌||◌, nat_lt, min, false, Option, Some, sym, ap, ◌∙◌, subst, arith}
+use Rattle.std.proofs.Common.{◌≡◌, ℕ, ◌+◌, ◌*◌, ◌^◌, ◌≤◌, ◌==◌, ◌||◌, min, false, Option, Some, sym, ap, ◌∙◌, subst, arith}
 use Rattle.std.proofs.lemmas.Bool.{cond_both}
 use Rattle.std.proofs.lemmas.Nat.{pow_pos}
-use Rattle.ip_wire.specs.Options.{capped}
 use Rattle.ip_wire.specs.TcpControl.TheVariants as Control
 use Rattle.ip_wire.specs.TcpHeader.{TcpHeader}
 use Rattle.tcp_rules.specs.Controls.{is_syn, is_rst}
 use Rattle.tcp_rules.proofs.EdgeSteps.{told_near}
 use Rattle.tcp_rules.proofs.OrderSteps.{clash}
+use Rattle.tcp_rules.proofs.ReadRules.{capped_own}
 use Rattle.tcp_model.specs.Acknowledged.{scaled}
 use Rattle.tcp_model.specs.declared.block.Block.{Block}
-use Rattle.tcp_model.specs.Blocks.{announced, is_worth_telling, own_scale, own_shift, scale_for, shift_of, window_field}
+use Rattle.tcp_model.specs.Blocks.{announced, is_worth_telling, own_scale, own_shift, shift_of, window_field}
 use Rattle.tcp_progress.specs.Windows.{Announces}
-
-scale_most : (most count : ℕ) → scale_for most count ≤ most
-scale_most zero count = omega arith
-scale_most (suc most) count =
-    let less = scale_most most (count / 2) in
-    cond_both (nat_lt count (2 ^ 16)) 0 (suc (scale_for most (count / 2))) (λ (n : ℕ). n ≤ suc most) (λ _. omega arith) (λ _. omega (arith, less))
-
-capped_own : (capacity : ℕ) → capped (own_scale capacity) ≡ own_scale capacity
-capped_own capacity = by (own_scale capacity) (scale_most 14 capacity) where
-  by : (n : ℕ) → n ≤ 14 → min n 14 ≡ n
-  by n e = omega arith
 
 -- what a field says of a window that fits
 pub heard_fits :

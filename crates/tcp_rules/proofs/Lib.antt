@@ -43,3 +43,4 @@ pub mod TopRules
 pub mod NextRules
 pub mod InsideRules
 pub mod PipeRules
+pub mod ReadRules

@@ -13,6 +13,7 @@ pub mod giving_up;
 pub mod late;
 pub mod losses;
 pub mod order;
+pub mod read_back;
 pub mod recovery;
 pub mod stamps;
 pub mod storage;
