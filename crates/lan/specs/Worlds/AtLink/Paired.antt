@@ -23,7 +23,7 @@ use Rattle.tcp_model.specs.Value.{new_socket}
 use Rattle.lan.specs.declared.at_link.history.event.Side.{Side}
 use Rattle.lan.specs.declared.at_link.history.event.Side.TheVariants.{A, B}
 use Rattle.lan.specs.declared.at_link.history.record.Opening.{Opening}
-use Rattle.lan.specs.Worlds.AtLink.Kinds.{other, same_side}
+use Rattle.lan.specs.Worlds.AtLink.Kinds.{same_side}
 use Rattle.lan.specs.Worlds.AtLink.History.{Entry, opening, written, read, is_closed_by}
 use Rattle.lan.specs.Worlds.AtLink.Parties.{Net, party, socket_at}
 use Rattle.lan.specs.Worlds.AtLink.Parties.Socket.{Tcp}
@@ -77,24 +77,18 @@ clocks_in seats clocks (step ∷ steps) = clocks_in seats (clocks_after seats cl
 
 -- A PLAIN RUN
 
--- a reader has the header as it was made
-abbrev pub IsReadAsMade : Made → Type 0
-IsReadAsMade x = normal x.header ≡ x.header
-
--- An offer leaves from its own address, and each segment that may come is read as it was made. No host makes a reset itself, for a segment that
--- no socket of it accepts.
-abbrev pub IsPlain : Net → Side → Move → Type 0
-IsPlain net side (Offers at cx v from sent) = IfSome (offer_of cx v).socket.offered (λ o. from ≡ source_of o.header)
-IsPlain net side (Takes at cx v ip header bytes) = AllByRecursion IsReadAsMade (party net (other side)).segments
-IsPlain net side (Resets x) = ⊥
-IsPlain net side (Changes at old new) = ⊥
-IsPlain net side move = Unit {0}
+-- An offer leaves from its own address, and no host makes a reset itself, for a segment that no socket of it accepts.
+abbrev pub IsPlain : Move → Type 0
+IsPlain (Offers at cx v from sent) = IfSome (offer_of cx v).socket.offered (λ o. from ≡ source_of o.header)
+IsPlain (Resets x) = ⊥
+IsPlain (Changes at old new) = ⊥
+IsPlain move = Unit {0}
 
 -- each move is plain, and shows the two sockets their hosts, whose clocks never go back
 abbrev pub AreHosted : (Side → Seat) → (Side → ℤ) → Net → List Step → Type 0
 AreHosted seats clocks net [] = Unit {0}
 AreHosted seats clocks net (step ∷ steps) =
-    IsPlain net step.side step.move
+    IsPlain step.move
     × IsShown (seats step.side) (clocks step.side) (shown_to (seats step.side).place step.move)
     × AreHosted seats (clocks_after seats clocks step) (after net step) steps
 
@@ -126,12 +120,13 @@ abbrev pub HasSent : Option Opening → List Made → List SentSegment → Type 
 HasSent None made sent = sent ≡ []
 HasSent (Some o) made sent = from_port o.local made ≡ map made_by sent
 
--- a socket of the host that was opened at its port made it
+-- a socket of the host that was opened at its port made it, and a reader has its header as it was made
 pub record IsOfSocket (h : List Entry) (side : Side) (x : Made) : Type 0 where
   pub place : ℕ
   pub by : Opening
   pub opened : opening h side place ≡ Some by
   pub from : by.local ≡ source_port x
+  pub as_made : normal x.header ≡ x.header
 
 -- The pair has the two sockets, each at its host, whose clock shows this moment; what the history tells of them; and the segments that they sent. No host
 -- made any itself.

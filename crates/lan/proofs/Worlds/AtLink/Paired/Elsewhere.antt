@@ -15,6 +15,8 @@ use Rattle.tcp_tie.specs.declared.pair.event.SentSegment.{SentSegment}
 use Rattle.tcp_tie.proofs.NameLaws.{answer_back, offer_between_ends}
 use Rattle.tcp_tie.proofs.NameLaws.{accepted as accepted_for}
 use Rattle.tcp_tie.proofs.PortLaws.{nameless_refuses, nameless_silent}
+use Rattle.ip_wire.specs.Tcp.{normal}
+use Rattle.tcp_rules.proofs.ReadRules.{answers_read, offers_read}
 use Rattle.tcp_model.specs.Arrival.{arrives}
 use Rattle.tcp_model.specs.Names.{accepts}
 use Rattle.tcp_model.specs.Offers.{offer_of, payload_of}
@@ -50,21 +52,22 @@ pub of_socket_stays : (h h' : List Entry) (side : Side) → Stay h h' → (xs : 
     AllByRecursion (IsOfSocket h' side) xs
 of_socket_stays h h' side stay [] all = tt
 of_socket_stays h h' side stay (x ∷ xs) all = (
-  record { place = all.0.place; by = all.0.by; opened = stay side all.0.place all.0.by all.0.opened; from = all.0.from },
+  record { place = all.0.place; by = all.0.by; opened = stay side all.0.place all.0.by all.0.opened; from = all.0.from; as_made = all.0.as_made },
   of_socket_stays h h' side stay xs all.1,
 )
 
 -- one segment more from the port of the socket at a place, or none
 abbrev pub IsMoreOf : List Entry → Side → ℕ → List Made → List Made → Type 0
 IsMoreOf h side place made made' =
-    (made' ≡ made) ⊎ ((o : Opening) × (x : Made) × (opening h side place ≡ Some o) × (made' ≡ made ++ x ∷ []) × (source_port x ≡ o.local))
+    (made' ≡ made) ⊎ ((o : Opening) × (x : Made) × (opening h side place ≡ Some o) × (made' ≡ made ++ x ∷ []) × (source_port x ≡ o.local)
+    × (normal x.header ≡ x.header))
 
 pub more_of_socket : (h : List Entry) (side : Side) (place : ℕ) (made made' : List Made) → IsMoreOf h side place made made' →
     AllByRecursion (IsOfSocket h side) made → AllByRecursion (IsOfSocket h side) made'
 more_of_socket h side place made made' (inl same) all = subst (AllByRecursion (IsOfSocket h side)) (sym same) all
 more_of_socket h side place made made' (inr more) all =
     subst (AllByRecursion (IsOfSocket h side)) (sym more.3)
-    (all_append (IsOfSocket h side) made more.1 all (record { place = place; by = more.0; opened = more.2; from = sym more.4 }))
+    (all_append (IsOfSocket h side) made more.1 all (record { place = place; by = more.0; opened = more.2; from = sym more.4; as_made = more.5 }))
 
 -- it isn't of the socket at another place
 pub more_elsewhere : (places : Places) (h : List Entry) (side : Side) (here place : ℕ) (made made' : List Made) (o : Option Opening)
@@ -145,7 +148,7 @@ module _ (starts : Side → ℕ → ℕ) (places : Places) (h : List Entry) (sid
     by (Some x) None e none = absurd (let clash : None ≡ Some x = sym (unopened_silent cx none) ∙ e in cc)
     by (Some x) (Some o) e opened =
         inr (o, made_of from (destination_of x.header) x.segment (payload_of x x.kind (offer_of cx v).socket.queued.queue), opened, refl,
-        offer_port cx o x opened e)
+        offer_port cx o x opened e, offers_read cx v x e)
 
   module _ (cx : ContextValue) (ip : IpRepr) (header : TcpHeader) (bytes : List ℕ) (accepted : accepts v.block ip header ≡ true)
       (comes : MayCome q.segments (source_of ip) (destination_of ip) header bytes) where
@@ -174,4 +177,4 @@ module _ (starts : Side → ℕ → ℕ) (places : Places) (h : List Entry) (sid
       by None o e opened = inl refl
       by (Some reply) None e none = absurd (accepting_opened none)
       by (Some reply) (Some o) e opened =
-          inr (o, made_of (source_of reply.header) (destination_of reply.header) reply.segment [], opened, refl, answer_port o reply opened e)
+          inr (o, made_of (source_of reply.header) (destination_of reply.header) reply.segment [], opened, refl, answer_port o reply opened e, answers_read cx v ip header bytes reply e)

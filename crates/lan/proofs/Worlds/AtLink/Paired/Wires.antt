@@ -40,7 +40,7 @@ use Rattle.lan.specs.Worlds.AtLink.Parties.{Net, Party, Socket, party, socket_at
 use Rattle.lan.specs.Worlds.AtLink.Parties.Socket.{Tcp}
 use Rattle.lan.specs.Worlds.AtLink.Partners.{ArePartners}
 use Rattle.lan.specs.Worlds.AtLink.Tables.{Places, AreAllowed}
-use Rattle.lan.specs.Worlds.AtLink.Paired.{HasSent, IsOf, IsOfSocket, IsReadAsMade, Seat, Shows, from_port, made_by, side_in, told}
+use Rattle.lan.specs.Worlds.AtLink.Paired.{HasSent, IsOf, IsOfSocket, Seat, Shows, from_port, made_by, side_in, told}
 use Rattle.lan.proofs.Worlds.AtLink.Exchange.{same_tcp}
 use Rattle.lan.proofs.Worlds.AtLink.HostSteps.{Stay, speaks_stay}
 use Rattle.lan.proofs.Worlds.AtLink.Kept.{KeptFrom}
@@ -183,7 +183,6 @@ module _ (starts : Side → ℕ → ℕ) (places : Places) (seats : Side → Sea
       (of : cx ≡ context_on (seats side).host cx.moment (seats side).random) (now : own.moment ≡ cx.moment) (clock : clocks' side ≡ clocks side)
       (accepted : accepts v.block ip header ≡ true)
       (comes : MayCome (party net (other side)).segments (source_of ip) (destination_of ip) header bytes)
-      (as_made : AllByRecursion IsReadAsMade (party net (other side)).segments)
       (later : List Entry) (stay : Stay net.history later) (all_allowed : AreAllowed places later)
       (partners : ArePartners later side here (seats (other side)).place)
       (mine : party net' side ≡ record (with_socket (party net side) here (Tcp (arrives cx v ip header bytes).socket)) {
@@ -199,11 +198,11 @@ module _ (starts : Side → ℕ → ℕ) (places : Places) (seats : Side → Sea
     abbrev arrived : Arrived
     arrived = arrives cx v ip header bytes
 
-    pub header_is : header ≡ comes.written
-    header_is = comes.read ∙ all_get IsReadAsMade (party net (other side)).segments comes.among.0 x as_made comes.among.1
-
     pub of_x : IsOfSocket net.history (other side) x
     of_x = all_get (IsOfSocket net.history (other side)) (party net (other side)).segments comes.among.0 x (sh.made (other side)) comes.among.1
+
+    pub header_is : header ≡ comes.written
+    header_is = comes.read ∙ of_x.as_made
 
     -- it was sent by the partner
     pub from_partner : (o : Opening) → opening net.history side here ≡ Some o → opening net.history (other side) (seats (other side)).place ≡ Some of_x.by
