@@ -147,7 +147,7 @@ request_sound i q s = record {
 -- what arrives leaves a sound host one
 arrival_sound : (i : InnerValue) (places : Places) (content : Option IncomingValue) (a : Arrived) → Brings i places content a → IsSound i → IsSound a.inner
 arrival_sound i places content a brings s =
-    (arrival_keeps_sender (λ x. Unit {0}) i.ident [] i None [] places content a brings (record {
+    (arrival_keeps_sender (λ source destination x. Unit {0}) i.ident [] i None [] places content a brings (record {
       sound = s;
       are_sent = record { packets = λ p among. absurd among; numbered = (refl, s.widths.ident) };
       left_is = tt;

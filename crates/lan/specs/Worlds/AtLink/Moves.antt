@@ -90,8 +90,8 @@ LooksSame old new = ⊥
 
 -- OFFERS
 
--- An offer leaves from its source, or from the address that the host chooses for its destination, where its source can't be one any more
--- (RFC 1122, sections 3.2.1.3 and 3.3.4.3).
+-- An offer leaves from its source, or from the address that the host chooses for its destination (RFC 1122, sections 3.2.1.3 and 3.3.4.3).
+-- Which of them it is, the host's addresses say, which are no part of a net.
 abbrev pub LeavesFrom : ContextValue → IpAddress → IpRepr → Type 0
 LeavesFrom cx from header = (from ≡ source_of header) ⊎ (cx.source_for (destination_of header) ≡ Some from)
 
