@@ -97,9 +97,9 @@ module _ (starts : Side → ℕ → ℕ) (places : Places) (seats : Side → Sea
       differs : source_port x ≢ o.local
       differs same =
           by (opened_apart places (e ∷ h) side here all.0.place o all.0.by allowed now (opening_stays h e side all.0.place all.0.by all.0.opened)) where
-        by : (here ≡ all.0.place) ⊎ AreApart o all.0.by → ⊥
-        by (inl one) = let clash : None ≡ Some all.0.by = sym none ∙ ap (λ (i : ℕ). opening h side i) one ∙ all.0.opened in cc
-        by (inr apart) = apart.local (sym same ∙ sym all.0.from)
+            by : (here ≡ all.0.place) ⊎ AreApart o all.0.by → ⊥
+            by (inl one) = let clash : None ≡ Some all.0.by = sym none ∙ ap (λ (i : ℕ). opening h side i) one ∙ all.0.opened in cc
+            by (inr apart) = apart.local (sym same ∙ sym all.0.from)
 
   sent_by : (o o' : Option Opening) → opening h side here ≡ o → opening (e ∷ h) side here ≡ o' → HasSent o (party net side).segments own.sent →
       HasSent o' (party net side).segments own.sent

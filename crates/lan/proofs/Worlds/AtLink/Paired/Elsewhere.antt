@@ -147,8 +147,14 @@ module _ (starts : Side → ℕ → ℕ) (places : Places) (h : List Entry) (sid
     by None o e opened = inl refl
     by (Some x) None e none = absurd (let clash : None ≡ Some x = sym (unopened_silent cx none) ∙ e in cc)
     by (Some x) (Some o) e opened =
-        inr (o, made_of from (destination_of x.header) x.segment (payload_of x x.kind (offer_of cx v).socket.queued.queue), opened, refl,
-        offer_port cx o x opened e, offers_read cx v x e)
+        inr (
+          o,
+          made_of from (destination_of x.header) x.segment (payload_of x x.kind (offer_of cx v).socket.queued.queue),
+          opened,
+          refl,
+          offer_port cx o x opened e,
+          offers_read cx v x e,
+        )
 
   module _ (cx : ContextValue) (ip : IpRepr) (header : TcpHeader) (bytes : List ℕ) (accepted : accepts v.block ip header ≡ true)
       (comes : MayCome q.segments (source_of ip) (destination_of ip) header bytes) where

@@ -59,9 +59,11 @@ pub from_get : (port : ℕ) (made : List Made) (k : ℕ) (x : Made) → slice_ge
 from_get port [] zero x e is = absurd (cc)
 from_get port [] (suc k) x e is = absurd (cc)
 from_get port (y ∷ ys) zero x e is =
-    let same : y ≡ x = cc in
-    (zero, ap (λ (t : Bool). slice_get (if t then y ∷ from_port port ys else from_port port ys) zero)
-    (eq-eqb (source_port y) port (ap source_port same ∙ is)) ∙ ap (λ (z : Made). Some z) same)
+    let same : y ≡ x = cc in (
+      zero,
+      ap (λ (t : Bool). slice_get (if t then y ∷ from_port port ys else from_port port ys) zero)
+          (eq-eqb (source_port y) port (ap source_port same ∙ is)) ∙ ap (λ (z : Made). Some z) same,
+    )
 from_get port (y ∷ ys) (suc k) x e is = by (source_port y == port) (from_get port ys k x e is) where
   by : (t : Bool) → (j : ℕ) × (slice_get (from_port port ys) j ≡ Some x) →
       (j : ℕ) × (slice_get (if t then y ∷ from_port port ys else from_port port ys) j ≡ Some x)

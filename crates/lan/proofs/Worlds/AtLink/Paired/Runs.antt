@@ -177,7 +177,7 @@ module _ (starts : Side → ℕ → ℕ) (places : Places) (seats : Side → Sea
         next = _;
         steps = (
           offer_allowed starts places seats net (next move) side clocks (clocks' move) p k sh v may.0 (theirs net side move) (far_clock move) refl cx from sent
-          (is_of cx shown) now plain (mine net side move),
+              (is_of cx shown) now plain (mine net side move),
           refl,
         );
         shows =
@@ -212,8 +212,11 @@ module _ (starts : Side → ℕ → ℕ) (places : Places) (seats : Side → Sea
         next = _;
         steps = (
           clock_allowed seats net side clocks (clocks' move) p sh cx of now (far_clock move),
-          (comes_allowed starts places seats net (next move) side (clocks' move) (clocks' move) p1 k sh1 v may.0 (theirs net side move) refl refl cx ip header bytes
-          (keys side).0 (keys side).1 of.host (sh1.clock side ∙ now) refl may.1 may.2 later stay all_allowed partners (mine net side move) o.0 o.1, refl),
+          (
+            comes_allowed starts places seats net (next move) side (clocks' move) (clocks' move) p1 k sh1 v may.0 (theirs net side move) refl refl cx ip header bytes
+                (keys side).0 (keys side).1 of.host (sh1.clock side ∙ now) refl may.1 may.2 later stay all_allowed partners (mine net side move) o.0 o.1,
+            refl,
+          ),
         );
         shows =
             comes_shows starts places seats net (next move) side (clocks' move) (clocks' move) p1 k sh1 v may.0 (theirs net side move) refl refl cx ip header bytes
