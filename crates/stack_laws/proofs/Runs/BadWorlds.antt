@@ -30,19 +30,18 @@ use Rattle.lan.specs.Worlds.AtLink.Kinds.{other, Kind, Act, Delivered, Damaged, 
 use Rattle.lan.specs.Worlds.AtLink.Kinds.Act.{Opens, Asks}
 use Rattle.lan.specs.Worlds.AtLink.Kinds.Kind.{OfHost, OfLink}
 use Rattle.lan.specs.Worlds.AtLink.Kinds.LinkAct.{Hands}
-use Rattle.lan.specs.declared.at_link.history.answer.Answer.{Answer}
 use Rattle.lan.specs.declared.at_link.history.answer.Answer.TheVariants as To
 use Rattle.lan.specs.declared.at_link.history.answer.Refused.TheVariants as For
 use Rattle.lan.specs.declared.at_link.history.event.Side.{Side}
 use Rattle.lan.specs.declared.at_link.history.event.Side.TheVariants.{A}
 use Rattle.lan.specs.Worlds.AtLink.Origins.{medium_of, frame_of_origin, is_cut_of, own_frames}
 use Rattle.lan.specs.Worlds.AtLink.Refusals.{is_no_frame, refusal}
-use Rattle.lan.specs.Worlds.AtLink.Runs.{Starts, WorldValue, WorldRun, unused, unused_both, counts_of, tables_in}
+use Rattle.lan.specs.Worlds.AtLink.Runs.{Starts, WorldValue, WorldRun, unused, unused_both, tables_in}
 use Rattle.lan.specs.Worlds.AtLink.Station.{StationValue, Stations, station}
 use Rattle.lan.specs.Worlds.AtLink.Steps.{Acts, Happens}
 use Rattle.lan.specs.Worlds.Hosts.Asked.{requests, AreApart}
 use Rattle.lan.specs.Worlds.Hosts.Damage.{DamageIsHarmless, IsHarmless, IsHarmlessBy}
-use Rattle.lan.specs.Worlds.Hosts.HostRuns.{Deed, deed_of, deed_in, deeds, IsHostRun, frames_sent, frames_taken}
+use Rattle.lan.specs.Worlds.Hosts.HostRuns.{Deed, deed_of, deed_in, IsHostRun, frames_sent, frames_taken}
 use Rattle.lan.specs.Worlds.Hosts.Machine.{Turn, Machine, HostRun, HostStep, at_link, machine_of}
 use Rattle.lan.specs.Worlds.Hosts.Quiet.{PollsWereQuiet, NoneExpires}
 use Rattle.lan.specs.Worlds.Hosts.Wire.{FramesAreApart, HasPorts, asks, is_request}

@@ -6,11 +6,11 @@ use Rattle.lan.specs.Worlds.AtLink.Partners.{ArePartners, are_paired}
 use Rattle.lan.specs.Worlds.AtLink.Moves.{IsRun, run}
 use Rattle.lan.specs.Worlds.AtLink.Parties.Socket.{Tcp}
 use Rattle.lan.specs.Worlds.AtLink.PacketsSafe.{IsFreshNet}
-use Rattle.stack_laws.specs.Worlds.Candidates.{hosts, steps}
+use Rattle.stack_laws.specs.Worlds.Candidates.{caller, hosts, steps}
 use Rattle.stack_laws.specs.Worlds.Hosts.{no_names, unbound}
 use Rattle.stack_laws.specs.Worlds.Streams.{fresh}
 use Rattle.stack_laws.proofs.Runs.Fresh.{fresh_one, fresh_two, fresh_tcp, some_same}
-use Rattle.stack_laws.proofs.Runs.Playing.{leaves_own, comes_whole}
+use Rattle.stack_laws.proofs.Runs.Playing.{comes_whole, leaves_from}
 
 pub are_fresh : IsFreshNet unbound hosts
 are_fresh = record { a = fresh_one (Tcp fresh) fresh_tcp; b = fresh_two (Tcp fresh) fresh_tcp; history = refl }
@@ -20,7 +20,7 @@ is_run = (
   (refl, refl, refl, (refl, refl, refl)),
   (
     (refl, refl, refl, (refl, refl, refl)),
-    ((refl, refl, refl, (refl, refl, refl)), ((refl, leaves_own A _), ((refl, refl, comes_whole 0 refl refl), tt))),
+    ((refl, refl, refl, (refl, refl, refl)), ((refl, leaves_from A caller), ((refl, refl, comes_whole 0 refl refl), tt))),
   ),
 )
 

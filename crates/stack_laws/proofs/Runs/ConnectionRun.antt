@@ -1,32 +1,34 @@
 -- A whole connection is a run: its pieces, joined.
 use Rattle.std.proofs.Common.{◌≡◌, ◌++◌, refl, sym, ap, ◌∙◌, subst}
 use Rattle.lan.specs.declared.at_link.history.event.Side.TheVariants.{A, B}
+use Rattle.lan.specs.Worlds.AtLink.Call as Call
 use Rattle.lan.specs.Worlds.AtLink.Moves.{IsRun, run}
 use Rattle.stack_laws.specs.Worlds.Connection.{telling, told, ending, half_closed, closing, closed, whole}
-use Rattle.stack_laws.specs.Worlds.Hosts.{no_names}
+use Rattle.stack_laws.specs.Worlds.Hosts.{no_names, text}
 use Rattle.stack_laws.specs.Worlds.Opening.{opening, opened}
-use Rattle.stack_laws.specs.Worlds.Played.{Play, start, steps_of}
+use Rattle.stack_laws.specs.Worlds.Played.{Play, done, start, steps_of}
+use Rattle.stack_laws.specs.Worlds.Played.Doing.{Asks, Calls, Comes}
 use Rattle.stack_laws.proofs.Runs.OpeningRun.{opening_run}
-use Rattle.stack_laws.proofs.Runs.Playing.{leaves_own, comes_whole, run_on, net_played, played_append}
+use Rattle.stack_laws.proofs.Runs.Playing.{comes_whole, leaves_now, run_on, net_played, played_append}
 use Rattle.stack_laws.proofs.Runs.Worlds as Worlds
 use Rattle.stack_laws.proofs.Runs.Worlds.{opened_is, told_is, half_closed_is}
 
 tells_from : IsRun no_names Worlds.opened.net (steps_of Worlds.opened telling)
 tells_from = (
   (refl, refl, refl, (refl, refl, refl)),
-  ((refl, leaves_own A _), ((refl, refl, comes_whole 2 refl refl), ((refl, refl, comes_whole 2 refl refl), ((refl, refl, refl, (refl, refl, refl)), tt)))),
+  ((refl, leaves_now A (done Worlds.opened (Calls A (Call.Send text)))), ((refl, refl, comes_whole 2 refl refl), ((refl, refl, comes_whole 2 refl refl), ((refl, refl, refl, (refl, refl, refl)), tt)))),
 )
 
 ends_from : IsRun no_names Worlds.told.net (steps_of Worlds.told ending)
 ends_from = (
   (refl, refl, refl, (refl, refl, refl)),
-  ((refl, leaves_own A _), ((refl, refl, comes_whole 3 refl refl), ((refl, refl, refl, (refl, refl, refl)), tt))),
+  ((refl, leaves_now A (done Worlds.told (Calls A Call.Close))), ((refl, refl, comes_whole 3 refl refl), ((refl, refl, refl, (refl, refl, refl)), tt))),
 )
 
 closes_from : IsRun no_names Worlds.half_closed.net (steps_of Worlds.half_closed closing)
 closes_from = (
   (refl, refl, refl, (refl, refl, refl)),
-  ((refl, leaves_own B _), ((refl, refl, comes_whole 2 refl refl), ((refl, leaves_own A _), ((refl, refl, comes_whole 4 refl refl), tt)))),
+  ((refl, leaves_now B (done Worlds.half_closed (Calls B Call.Close))), ((refl, refl, comes_whole 2 refl refl), ((refl, leaves_now A (done (done (done Worlds.half_closed (Calls B Call.Close)) (Asks B)) (Comes A 1))), ((refl, refl, comes_whole 4 refl refl), tt)))),
 )
 
 pub telling_run : IsRun no_names opened.net (steps_of opened telling)

@@ -5,11 +5,11 @@ use Rattle.lan.specs.Worlds.AtLink.Moves.{IsRun, run}
 use Rattle.lan.specs.Worlds.AtLink.Parties.Socket.{Tcp}
 use Rattle.lan.specs.Worlds.AtLink.PacketsSafe.{IsFreshNet}
 use Rattle.lan.proofs.Worlds.AtLink.Extended.{IsRun-append}
-use Rattle.stack_laws.specs.Worlds.Fallback.{hosts, calls, falls, fell, again, steps}
+use Rattle.stack_laws.specs.Worlds.Fallback.{again, caller, calls, falls, fell, hosts, steps}
 use Rattle.stack_laws.specs.Worlds.Hosts.{no_names, unbound}
 use Rattle.stack_laws.specs.Worlds.Streams.{fresh}
 use Rattle.stack_laws.proofs.Runs.Fresh.{fresh_one, fresh_tcp}
-use Rattle.stack_laws.proofs.Runs.Playing.{leaves_own, comes_whole}
+use Rattle.stack_laws.proofs.Runs.Playing.{comes_whole, leaves_from}
 
 pub are_fresh : IsFreshNet unbound hosts
 are_fresh = record { a = fresh_one (Tcp fresh) fresh_tcp; b = fresh_one (Tcp fresh) fresh_tcp; history = refl }
@@ -17,7 +17,7 @@ are_fresh = record { a = fresh_one (Tcp fresh) fresh_tcp; b = fresh_one (Tcp fre
 pub calls_run : IsRun no_names hosts calls
 calls_run = (
   (refl, refl, refl, (refl, refl, refl)),
-  ((refl, refl, refl, (refl, refl, refl)), ((refl, leaves_own A _), ((refl, refl, comes_whole 0 refl refl), tt))),
+  ((refl, refl, refl, (refl, refl, refl)), ((refl, leaves_from A caller), ((refl, refl, comes_whole 0 refl refl), tt))),
 )
 
 falls_run : IsRun no_names (run hosts calls) falls

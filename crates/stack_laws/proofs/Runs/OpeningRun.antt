@@ -11,11 +11,11 @@ use Rattle.lan.specs.Worlds.AtLink.PacketsSafe.{IsFreshNet}
 use Rattle.lan.specs.declared.at_link.history.event.Side.TheVariants.{A, B}
 use Rattle.stack_laws.specs.Worlds.Opening.{opening, opened}
 use Rattle.stack_laws.specs.Worlds.Hosts.{address, endpoint, no_names, unbound}
-use Rattle.stack_laws.specs.Worlds.Played.{Doing, Play, start, played, steps_of, segment_at}
+use Rattle.stack_laws.specs.Worlds.Played.{Doing, Play, done, start, played, steps_of, segment_at}
 use Rattle.stack_laws.specs.Worlds.Played.Doing.{Calls, Asks, Comes}
 use Rattle.stack_laws.specs.Worlds.Streams.{TcpSegment, fresh}
 use Rattle.stack_laws.proofs.Runs.Fresh.{fresh_one, fresh_tcp}
-use Rattle.stack_laws.proofs.Runs.Playing.{leaves_own, comes_whole, net_played, run_on}
+use Rattle.stack_laws.proofs.Runs.Playing.{comes_whole, leaves_now, net_played, run_on}
 use Rattle.stack_laws.proofs.Runs.Worlds.{ack}
 
 pub are_fresh : IsFreshNet unbound start.net
@@ -48,14 +48,14 @@ coming = Comes B 1 ∷ []
 asking_run : IsRun no_names start.net (steps_of start asking)
 asking_run = (
   (refl, refl, refl, (refl, refl, refl)),
-  ((refl, refl, refl, (refl, refl, refl)), ((refl, leaves_own A _), ((refl, refl, comes_whole 0 refl refl), tt))),
+  ((refl, refl, refl, (refl, refl, refl)), ((refl, leaves_now A (done (done start (Calls B (Listen 80))) (Calls A (Connect (endpoint B 80) 49_500)))), ((refl, refl, comes_whole 0 refl refl), tt))),
 )
 
 answering_run : IsRun no_names asked.net (steps_of asked answering)
-answering_run = ((refl, leaves_own B _), ((refl, refl, comes_whole 0 refl refl), tt))
+answering_run = ((refl, leaves_now B asked), ((refl, refl, comes_whole 0 refl refl), tt))
 
 sending_run : IsRun no_names answered.net (steps_of answered sending)
-sending_run = ((refl, leaves_own A _), tt)
+sending_run = ((refl, leaves_now A answered), tt)
 
 abbrev between : TcpSegment → Made
 between x = made_of (Address.Ipv4 (address A)) (Address.Ipv4 (address B)) x.0 x.1

@@ -4,7 +4,9 @@ use Rattle.ip_wire.specs.IpAddress.{IpAddress}
 use Rattle.ip_wire.specs.IpAddress.TheVariants as Address
 use Rattle.ip_wire.specs.Tcp.{normal}
 use Rattle.ip_wire.specs.TcpHeader.{TcpHeader}
+use Rattle.tcp_model.specs.Offers.{offer_of}
 use Rattle.tcp_model.specs.OpenOffer.{OpenOffer}
+use Rattle.tcp_model.specs.Value.{TcpValue}
 use Rattle.tcp_tie.specs.Host.{Made, made_of, MayCome}
 use Rattle.lan.specs.declared.at_link.history.event.Side.{Side}
 use Rattle.lan.specs.declared.at_link.history.event.Side.TheVariants.{A, B}
@@ -14,11 +16,20 @@ use Rattle.lan.proofs.Worlds.AtLink.Extended.{IsRun-append}
 use Rattle.stack_laws.specs.Worlds.Hosts.{address, context}
 use Rattle.stack_laws.specs.Worlds.Played.{Doing, Play, step_of, done, played, steps_of}
 use Rattle.stack_laws.specs.Worlds.Played.Doing.{Calls, Asks, Comes}
+use Rattle.stack_laws.specs.Worlds.Streams.{tcp_at}
 
 -- what is offered leaves from its host's address
-pub leaves_own : (side : Side) (o : Option OpenOffer) → IfSome o (λ x. LeavesFrom (context side) (Address.Ipv4 (address side)) x.header)
+leaves_own : (side : Side) (o : Option OpenOffer) → IfSome o (λ x. LeavesFrom (context side) (Address.Ipv4 (address side)) x.header)
 leaves_own side None = tt
 leaves_own side (Some x) = inr refl
+
+pub leaves_from : (side : Side) (v : TcpValue) → IfSome (offer_of (context side) v).socket.offered
+    (λ x. LeavesFrom (context side) (Address.Ipv4 (address side)) x.header)
+leaves_from side v = leaves_own side (offer_of (context side) v).socket.offered
+
+pub leaves_now : (side : Side) (p : Play) → IfSome (offer_of (context side) (tcp_at p.net side 0)).socket.offered
+    (λ x. LeavesFrom (context side) (Address.Ipv4 (address side)) x.header)
+leaves_now side p = leaves_from side (tcp_at p.net side 0)
 
 -- a segment comes as it was made, where its header is in its normal form
 pub comes_whole : {made : List Made} {from to : IpAddress} {header : TcpHeader} {bytes : List ℕ} (k : ℕ) →

@@ -181,7 +181,7 @@ fin = segment 49_500 80 Bits.Fin 7 (Some (number 4)) no_options
 
 -- what answers the second coming
 abbrev ack_again : TcpHeader
-ack_again = segment 80 49_500 Bits.None 4 (Some (number 7)) no_options
+ack_again = record (segment 80 49_500 Bits.None 4 (Some (number 7)) no_options) { window_len = 5 }
 
 -- WORLDS
 
