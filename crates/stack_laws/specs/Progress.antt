@@ -6,4 +6,5 @@ pub mod Queued
 pub mod Excluded
 pub mod Reached
 pub mod Asked
+pub mod Delivered
 pub mod Partners
