@@ -20,5 +20,6 @@ pub mod Asks
 pub mod Asking
 pub mod Answered
 pub mod Delivered
+pub mod Exchanged
 pub mod Pieces
 pub mod Solicited

@@ -7,4 +7,5 @@ pub mod Excluded
 pub mod Reached
 pub mod Asked
 pub mod Delivered
+pub mod Exchanged
 pub mod Partners
