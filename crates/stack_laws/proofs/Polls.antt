@@ -6,6 +6,7 @@ pub mod Plans
 pub mod Turns
 pub mod Passes
 pub mod Polled
+pub mod Numbers
 pub mod Ways
 pub mod OurLeave
 pub mod OurTurn
@@ -18,5 +19,7 @@ pub mod Round
 pub mod Asks
 pub mod Asking
 pub mod Answered
+pub mod Delivered
+pub mod Exchanged
 pub mod Pieces
 pub mod Solicited

@@ -6,4 +6,6 @@ pub mod Queued
 pub mod Excluded
 pub mod Reached
 pub mod Asked
+pub mod Delivered
+pub mod Exchanged
 pub mod Partners

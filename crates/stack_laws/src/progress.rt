@@ -2,6 +2,7 @@
 
 pub mod arrivals;
 pub mod datagrams;
+pub mod delivered;
 pub mod excluded;
 pub mod neighbors;
 pub mod partners;

@@ -65,7 +65,7 @@ module _ (entries : List Neighbor) (new : Neighbor) where
       at_first ours (filled_at (place_of entries new.protocol_addr) table_room entries new)
       ∙ entered (place_of entries new.protocol_addr) refl
 
-known_now : (c : CacheValue) (new : Neighbor) (moment : ℤ) → int_lt moment new.expires_at ≡ true
+pub known_now : (c : CacheValue) (new : Neighbor) (moment : ℤ) → int_lt moment new.expires_at ≡ true
     → lookup (filled table_room c new) new.protocol_addr moment ≡ Known.Found new.hardware_addr
 known_now c new moment early =
     ap (λ (o : Option Neighbor). unless_failed (has_failed (filled table_room c new) new.protocol_addr moment) (answer_by o (filled table_room c new) moment))
@@ -73,7 +73,7 @@ known_now c new moment early =
     ∙ ap (λ (b : Bool). unless_failed (has_failed (filled table_room c new) new.protocol_addr moment)
     (if b then Known.Found new.hardware_addr else missing (filled table_room c new) moment)) early
 
-lives : (t : ℤ) (n : ℕ) → 0 < n → int_lt t (t +ℤ pos n) ≡ true
+pub lives : (t : ℤ) (n : ℕ) → 0 < n → int_lt t (t +ℤ pos n) ≡ true
 lives t n some = grind (arith, ints)
 
 module _ (i : InnerValue) (own station : EthernetAddress) (hop to : IpAddress) (on : i.hardware ≡ Hardware.Ethernet own) (via : IsVia i to hop) where
@@ -104,6 +104,7 @@ module _ {D : Type 0} (moves : D → Move → D → Type 0) (t : ℤ) (s s' : St
     took : moves s.device (Took t frame) mid
     awaited : Bool
     replied : Replied moves awaited (told (arp_answer host packet)) (sender mid (arp_arrived host packet) s.host.left) (sender_of moves s')
+    places : s'.places ≡ s.places
 
   came : IsNext moves t s.device frame → IsContent s.host.inner.hardware s.host.inner.checksums frame (Some (Incoming.Arp (arp_link packet) packet))
       → is_heard host (Some (arp_link packet)) ≡ true → IngressStep moves t s (Some true) s' → Came
@@ -126,61 +127,79 @@ module _ {D : Type 0} (moves : D → Move → D → Type 0) (t : ℤ) (s s' : St
             brings.inner
             (subst (λ (r : Option Rattle.interface_ingress.specs.Arrives.ReplyValue). Replied moves (is_awaited a) r (sender step.1 a.inner s.host.left) (sender_of moves s'))
             brings.reply receives.3);
+        places = receives.2 ∙ brings.places_are;
       }
 
 -- THE QUESTION IS ANSWERED
 
 module _ {D : Type 0} (moves : D → Move → D → Type 0) (t : ℤ) (s s' : State D) (i : InnerValue) (padding : List ℕ) (own station : EthernetAddress)
     (on : s.host.inner.hardware ≡ Hardware.Ethernet own) (sealed : AreSealed i.checksums s.host.inner.checksums) where
-  answers : (a asked : Ipv4Address) → is_own s.host.inner (Address.Ipv4 asked) ≡ true → IsNeighbor s.host.inner station a
-      → IsQuestion (Query.Arp station a asked) → IsNext moves t s.device (frame_of i (Asks (Query.Arp station a asked)) ++ padding)
-      → IngressStep moves t s (Some true) s' → Asked.Tells moves s.host.inner (arp_reply own asked station a) s.device s'.device
-  answers a asked mine near question only step =
-      let read : IsContent s.host.inner.hardware s.host.inner.checksums (frame_of i (Asks (Query.Arp station a asked)) ++ padding)
-      (Some (read_of i (Asks (Query.Arp station a asked)))) =
-      subst (λ (h : HardwareAddress). IsContent h s.host.inner.checksums (frame_of i (Asks (Query.Arp station a asked)) ++ padding)
-      (Some (read_of i (Asks (Query.Arp station a asked))))) (sym on)
-      (arrives i (Hardware.Ethernet own) s.host.inner.checksums (Asks (Query.Arp station a asked)) padding sealed (tt, question)) in
-      let came_in : Came moves t s s' (frame_of i (Asks (Query.Arp station a asked)) ++ padding) (arp_request station a asked) =
-      came moves t s s' (frame_of i (Asks (Query.Arp station a asked)) ++ padding) (arp_request station a asked) only read
-      (or_right (is_same_hardware s.host.inner.hardware (Hardware.Ethernet every_station)) true refl) step in
-      by came_in.mid came_in.took came_in.awaited
-      (subst (λ (o : Option ArpRepr). Replied moves came_in.awaited (told o)
-      (sender came_in.mid (arp_arrived (at_moment t s.host.inner) (arp_request station a asked)) s.host.left) (sender_of moves s'))
-      answer came_in.replied)
-    where
-      answer : arp_answer (at_moment t s.host.inner) (arp_request station a asked) ≡ Some (arp_reply own asked station a)
-      answer =
-          ap (λ (b : Bool). if b then answer_at s.host.inner.hardware (arp_request station a asked) else None)
-          (or_left (counts (at_moment t s.host.inner) (arp_request station a asked)) (probes (at_moment t s.host.inner) (arp_request station a asked))
-          (and_from (is_own s.host.inner (Address.Ipv4 asked)) _ mine (and_from _ _ (and_from _ _ near.one near.sound) near.near)))
-          ∙ ap (λ (h : HardwareAddress). answer_at h (arp_request station a asked)) on
+  abbrev asking : Ipv4Address → Ipv4Address → List ℕ
+  asking a asked = frame_of i (Asks (Query.Arp station a asked)) ++ padding
 
-      by : (mid : D) → moves s.device (Took t (frame_of i (Asks (Query.Arp station a asked)) ++ padding)) mid → (awaited : Bool)
-          → Replied moves awaited (told (Some (arp_reply own asked station a)))
-          (sender mid (arp_arrived (at_moment t s.host.inner) (arp_request station a asked)) s.host.left) (sender_of moves s')
-          → Asked.Tells moves s.host.inner (arp_reply own asked station a) s.device s'.device
-      by mid took awaited goes = gone goes.0 goes.1 where
-        gone : (is : Bool) → Departs moves mid (arp_arrived (at_moment t s.host.inner) (arp_request station a asked)) (Tells (arp_reply own asked station a)) is
-            s'.device → Asked.Tells moves s.host.inner (arp_reply own asked station a) s.device s'.device
-        gone true departs = record {
-          all = Took t (frame_of i (Asks (Query.Arp station a asked)) ++ padding) ∷ Emitted (arp_frame (arp_reply own asked station a)) ∷ [];
-          are = (mid, took, (s'.device, departs.0, refl));
-          what = inr (inr (inl refl));
-        }
-        gone false departs = record {
-          all = Took t (frame_of i (Asks (Query.Arp station a asked)) ++ padding) ∷ Denied 42 ∷ [];
-          are = (mid, took, (s'.device, departs, refl));
-          what = inl refl;
-        }
+  request_came : (a asked : Ipv4Address) → IsQuestion (Query.Arp station a asked) → IsNext moves t s.device (asking a asked)
+      → IngressStep moves t s (Some true) s' → Came moves t s s' (asking a asked) (arp_request station a asked)
+  request_came a asked question only step =
+      came moves t s s' (asking a asked) (arp_request station a asked) only
+      (subst (λ (h : HardwareAddress). IsContent h s.host.inner.checksums (asking a asked) (Some (read_of i (Asks (Query.Arp station a asked))))) (sym on)
+      (arrives i (Hardware.Ethernet own) s.host.inner.checksums (Asks (Query.Arp station a asked)) padding sealed (tt, question)))
+      (or_right (is_same_hardware s.host.inner.hardware (Hardware.Ethernet every_station)) true refl) step
+
+  module _ (a asked : Ipv4Address) (mine : is_own s.host.inner (Address.Ipv4 asked) ≡ true) (near : IsNeighbor s.host.inner station a) where
+    abbrev then_inner : InnerValue
+    then_inner = arp_arrived (at_moment t s.host.inner) (arp_request station a asked)
+
+    answer : arp_answer (at_moment t s.host.inner) (arp_request station a asked) ≡ Some (arp_reply own asked station a)
+    answer =
+        ap (λ (b : Bool). if b then answer_at s.host.inner.hardware (arp_request station a asked) else None)
+        (or_left (counts (at_moment t s.host.inner) (arp_request station a asked)) (probes (at_moment t s.host.inner) (arp_request station a asked))
+        (and_from (is_own s.host.inner (Address.Ipv4 asked)) _ mine (and_from _ _ (and_from _ _ near.one near.sound) near.near)))
+        ∙ ap (λ (h : HardwareAddress). answer_at h (arp_request station a asked)) on
+
+    -- what is answered, of the host that has heard the question
+    replies : (it : Came moves t s s' (asking a asked) (arp_request station a asked))
+        → Replied moves it.awaited (told (Some (arp_reply own asked station a))) (sender it.mid then_inner s.host.left) (sender_of moves s')
+    replies it =
+        subst (λ (o : Option ArpRepr). Replied moves it.awaited (told o) (sender it.mid then_inner s.host.left) (sender_of moves s')) answer it.replied
+
+    answers : IsQuestion (Query.Arp station a asked) → IsNext moves t s.device (asking a asked) → IngressStep moves t s (Some true) s'
+        → Asked.Tells moves s.host.inner (arp_reply own asked station a) s.device s'.device
+    answers question only step =
+        let it : Came moves t s s' (asking a asked) (arp_request station a asked) = request_came a asked question only step in
+        by it.mid it.took it.awaited (replies it)
+      where
+        by : (mid : D) → moves s.device (Took t (asking a asked)) mid → (awaited : Bool)
+            → Replied moves awaited (told (Some (arp_reply own asked station a))) (sender mid then_inner s.host.left) (sender_of moves s')
+            → Asked.Tells moves s.host.inner (arp_reply own asked station a) s.device s'.device
+        by mid took awaited goes = gone goes.0 goes.1 where
+          gone : (is : Bool) → Departs moves mid then_inner (Tells (arp_reply own asked station a)) is s'.device
+              → Asked.Tells moves s.host.inner (arp_reply own asked station a) s.device s'.device
+          gone true departs = record {
+            all = Took t (asking a asked) ∷ Emitted (arp_frame (arp_reply own asked station a)) ∷ [];
+            are = (mid, took, (s'.device, departs.0, refl));
+            what = inr (inr (inl refl));
+          }
+          gone false departs = record {
+            all = Took t (asking a asked) ∷ Denied 42 ∷ [];
+            are = (mid, took, (s'.device, departs, refl));
+            what = inl refl;
+          }
+
+    -- the host knows who asked, and its sockets are as they were
+    pub asker_known : IsQuestion (Query.Arp station a asked) → IsNext moves t s.device (asking a asked) → IngressStep moves t s (Some true) s'
+        → (s'.host.inner ≡ arp_arrived (at_moment t s.host.inner) (arp_request station a asked)) × (s'.places ≡ s.places)
+    asker_known question only step =
+        let it : Came moves t s s' (asking a asked) (arp_request station a asked) = request_came a asked question only step in
+        ((replies it).2, it.places)
 
   -- THE ANSWER IS HEARD
 
-  knows : (a asked : Ipv4Address) → is_own s.host.inner (Address.Ipv4 a) ≡ true → IsNeighbor s.host.inner station asked
+  -- who answered is known, and the sockets are as they were
+  pub learned : (a asked : Ipv4Address) → is_own s.host.inner (Address.Ipv4 a) ≡ true → IsNeighbor s.host.inner station asked
       → Arps.IsValue (arp_reply station asked own a) → IsNext moves t s.device (frame_of i (Tells (arp_reply station asked own a)) ++ padding)
-      → IngressStep moves t s (Some true) s' → (to : IpAddress) → IsVia (at_moment t s.host.inner) to (Address.Ipv4 asked)
-      → link_address s'.host.inner to ≡ Link.Known (Hardware.Ethernet station)
-  knows a asked mine near value only step to via =
+      → IngressStep moves t s (Some true) s'
+      → (s'.host.inner ≡ with_neighbor (at_moment t s.host.inner) (Address.Ipv4 asked) (Hardware.Ethernet station)) × (s'.places ≡ s.places)
+  learned a asked mine near value only step =
       let reply : ArpRepr = arp_reply station asked own a in
       let read : IsContent s.host.inner.hardware s.host.inner.checksums (frame_of i (Tells reply) ++ padding) (Some (read_of i (Tells reply))) =
       subst (λ (h : HardwareAddress). IsContent h s.host.inner.checksums (frame_of i (Tells reply) ++ padding) (Some (read_of i (Tells reply)))) (sym on)
@@ -197,8 +216,7 @@ module _ {D : Type 0} (moves : D → Move → D → Type 0) (t : ℤ) (s s' : St
       (and_from _ _ (and_from _ _ near.one near.sound) near.near)) in
       let ends : sender_of moves s' ≡ sender came_in.mid (arp_arrived (at_moment t s.host.inner) reply) s.host.left =
       silent came_in.mid (arp_arrived (at_moment t s.host.inner) reply) came_in.awaited came_in.replied in
-      ap (λ (x : Sender D). link_address x.inner to) ends ∙ ap (λ (x : InnerValue). link_address x to) learns
-      ∙ goes_there (at_moment t s.host.inner) own station (Address.Ipv4 asked) to on via
+      (ap (λ (x : Sender D). x.inner) ends ∙ learns, came_in.places)
     where
       -- a reply isn't answered
       no_answer : (b : Bool) (h : HardwareAddress) → (if b then answer_at h (arp_reply station asked own a) else None) ≡ None
@@ -213,6 +231,14 @@ module _ {D : Type 0} (moves : D → Move → D → Type 0) (t : ℤ) (s s' : St
           subst (λ (o : Option ArpRepr). Replied moves awaited (told o) (sender mid then_inner s.host.left) (sender_of moves s'))
           (no_answer (counts (at_moment t s.host.inner) (arp_reply station asked own a) || probes (at_moment t s.host.inner) (arp_reply station asked own a))
           s.host.inner.hardware) replied
+
+  knows : (a asked : Ipv4Address) → is_own s.host.inner (Address.Ipv4 a) ≡ true → IsNeighbor s.host.inner station asked
+      → Arps.IsValue (arp_reply station asked own a) → IsNext moves t s.device (frame_of i (Tells (arp_reply station asked own a)) ++ padding)
+      → IngressStep moves t s (Some true) s' → (to : IpAddress) → IsVia (at_moment t s.host.inner) to (Address.Ipv4 asked)
+      → link_address s'.host.inner to ≡ Link.Known (Hardware.Ethernet station)
+  knows a asked mine near value only step to via =
+      ap (λ (x : InnerValue). link_address x to) (learned a asked mine near value only step).0
+      ∙ goes_there (at_moment t s.host.inner) own station (Address.Ipv4 asked) to on via
 
 pub question_answered : {D : Type 0} (moves : D → Move → D → Type 0) (t : ℤ) (s s' : State D) (i : InnerValue) (padding : List ℕ)
     (own station : EthernetAddress) (a asked : Ipv4Address)

@@ -42,10 +42,10 @@ use Rattle.interface.specs.declared.turn.Turned.{Turned}
 use Rattle.interface.specs.declared.turn.Turned.TheVariants as Turn
 use Rattle.interface.proofs.SameHost.{same_where, place_same}
 use Rattle.stack_laws.specs.Progress.Moves.{AreMoves, is_refused}
-use Rattle.stack_laws.specs.Progress.Asked.{HasToAsk, AsksInTurn, AsksAtOnce}
+use Rattle.stack_laws.specs.Progress.Asked.{HasToAsk, IsFrom, AsksInTurn, AsksAtOnce}
 use Rattle.stack_laws.specs.Progress.Queued.{HasTurn, Sends}
 use Rattle.stack_laws.proofs.Polls.OurLeave.{OursLeaves, our_leave}
-use Rattle.stack_laws.proofs.Polls.Asks.{asks_plan, held_none, held_not, kept_in}
+use Rattle.stack_laws.proofs.Polls.Asks.{asks_plan, held_none, held_not, kept_in, plan_from}
 use Rattle.stack_laws.proofs.Polls.Passes.{PieceEnds, clears}
 use Rattle.stack_laws.proofs.Polls.Walks.{joined, refused_before, refused_behind, sends_before, sends_behind}
 
@@ -111,20 +111,20 @@ module _ {D : Type 0} (moves : D → Move → D → Type 0) (turn : Option IpAdd
           stops = inr (b, next);
         }
 
-        asked : (q : Question) (sent : Sent) (changed : Bool) → is_other turn (target_of q) ≡ false → Asked moves mid x.inner q sent x'.device x'.inner
+        asked : (q : Question) (sent : Sent) (changed : Bool) → IsFrom x.inner.hardware x.inner.addresses q → is_other turn (target_of q) ≡ false → Asked moves mid x.inner q sent x'.device x'.inner
             → turned ≡ turned_by sent changed → TurnWalks x x' turned
-        asked q Outcome.Waits changed whose goes next = record {
+        asked q Outcome.Waits changed from whose goes next = record {
           walked = record {
             all = Allowed x.inner.moment true ∷ Emitted (frame_of x.inner (Asks q)) ∷ [];
             are = (mid, leave, (x'.device, goes.0.0, refl));
-            what = inr (inl (record { question = q; sent = inr (inl refl); whose = whose }));
+            what = inr (inl (record { question = q; from = from; sent = inr (inl refl); whose = whose }));
           };
           stops = inr (changed, next);
         }
-        asked q Outcome.Refused changed whose goes next = was_refused (frame_len_of x.inner (Asks q)) goes.0
-        asked q Outcome.Gone changed whose goes next = absurd goes
-        asked q Outcome.Dropped changed whose goes next = absurd goes
-        asked q Outcome.Busy changed whose goes next = absurd goes
+        asked q Outcome.Refused changed from whose goes next = was_refused (frame_len_of x.inner (Asks q)) goes.0
+        asked q Outcome.Gone changed from whose goes next = absurd goes
+        asked q Outcome.Dropped changed from whose goes next = absurd goes
+        asked q Outcome.Busy changed from whose goes next = absurd goes
 
         numbers : (header : IpRepr) → x'.inner ≡ after_header header x.inner → x'.inner.neighbors ≡ x.inner.neighbors
         numbers (Ip.Ipv4 v) is = ap (λ (i : InnerValue). i.neighbors) is
@@ -150,19 +150,20 @@ module _ {D : Type 0} (moves : D → Move → D → Type 0) (turn : Option IpAdd
         here : x'.device ≡ mid → moves x.device (Allowed x.inner.moment true) x'.device
         here is = subst (λ (d : D). moves x.device (Allowed x.inner.moment true) d) (sym is) leave
 
-        out : (p : PacketValue) (changed : Bool) (plan : Plan) (sent : Sent) → is_out_of_turn turn plan ≡ false
+        out : (p : PacketValue) (changed : Bool) (plan : Plan) (sent : Sent)
+            → ((q : Question) → plan ≡ Way.Ask q → IsFrom x.inner.hardware x.inner.addresses q) → is_out_of_turn turn plan ≡ false
             → GoesOut moves mid x.inner x.left p plan sent x'.device x'.inner x'.left → turned ≡ turned_by sent changed → TurnWalks x x' turned
-        out p changed Way.Drop sent whose goes next =
+        out p changed Way.Drop sent from whose goes next =
             admitted true (here goes.1.0) goes.1.1 (next ∙ ap (λ (s : Sent). turned_by s changed) goes.0)
-        out p changed Way.NoRoute sent whose goes next =
+        out p changed Way.NoRoute sent from whose goes next =
             admitted changed (here goes.1.0) goes.1.1 (next ∙ ap (λ (s : Sent). turned_by s changed) goes.0)
-        out p changed Way.Wait sent whose goes next =
+        out p changed Way.Wait sent from whose goes next =
             admitted changed (here goes.1.0) goes.1.1 (next ∙ ap (λ (s : Sent). turned_by s changed) goes.0)
-        out p changed Way.Busy sent whose goes next =
+        out p changed Way.Busy sent from whose goes next =
             admitted changed (here goes.1.0) goes.1.1 (next ∙ ap (λ (s : Sent). turned_by s changed) goes.0)
-        out p changed (Way.Ask q) sent whose goes next = asked q sent changed whose goes.0 next
-        out p changed (Way.Go to) sent whose goes next = whole p.header (Whole to (numbered x.inner p)) sent changed goes.0 next
-        out p changed (Way.Cut to) sent whose goes next = cut (cut_of x.inner to p) sent changed goes next
+        out p changed (Way.Ask q) sent from whose goes next = asked q sent changed (from q refl) whose goes.0 next
+        out p changed (Way.Go to) sent from whose goes next = whole p.header (Whole to (numbered x.inner p)) sent changed goes.0 next
+        out p changed (Way.Cut to) sent from whose goes next = cut (cut_of x.inner to p) sent changed goes next
 
       -- what doesn't go is dropped, or waits
       rests : (sent : Sent) (given_up other changed : Bool) → moves x.device (Allowed x.inner.moment true) x'.device → x'.inner ≡ x.inner
@@ -185,7 +186,7 @@ module _ {D : Type 0} (moves : D → Move → D → Type 0) (turn : Option IpAdd
         by true move is =
             rests sent (is_given_up meta x.inner (destination_of p.header) (plan_at x p)) (is_out_of_turn turn (plan_at x p)) changed move stays.2 is next
       leaves p meta sent changed (inr goes) next =
-          out goes.0 goes.1 p changed (plan_at x p) sent
+          out goes.0 goes.1 p changed (plan_at x p) sent (plan_from x.inner (is_some x.left) p.header)
           (held_not turn meta x.inner (destination_of p.header) (plan_at x p) goes.3) goes.2 next
 
     sends : (o : Option PacketValue) (item item' : Item Socket) (changed : Bool) (turned : Turned) → SendsBy moves turn o x item changed turned x' item'
@@ -221,21 +222,22 @@ module _ {D : Type 0} (moves : D → Move → D → Type 0) (turn : Option IpAdd
 
   module _ (x x' : Sender D) (v : UdpValue) (d : UdpMetadata × List ℕ) (hop : IpAddress) (p : PacketValue) (has : HasToAsk x.inner v.settings d hop p)
       (ours : is_other turn hop ≡ false) where
-    asks_now : (mid : D) (q : Question) (sent : Sent) → moves x.device (Allowed x.inner.moment true) mid → is_other turn (target_of q) ≡ false
+    asks_now : (mid : D) (q : Question) (sent : Sent) → moves x.device (Allowed x.inner.moment true) mid
+        → IsFrom x.inner.hardware x.inner.addresses q → is_other turn (target_of q) ≡ false
         → Asked moves mid x.inner q sent x'.device x'.inner → AsksOnce x.inner x.device x'.device
-    asks_now mid q Outcome.Waits leave whose goes = record {
+    asks_now mid q Outcome.Waits leave from whose goes = record {
       all = Allowed x.inner.moment true ∷ Emitted (frame_of x.inner (Asks q)) ∷ [];
       are = (mid, leave, (x'.device, goes.0.0, refl));
-      what = inr (record { question = q; sent = inr (inl refl); whose = whose });
+      what = inr (record { question = q; from = from; sent = inr (inl refl); whose = whose });
     }
-    asks_now mid q Outcome.Refused leave whose goes = record {
+    asks_now mid q Outcome.Refused leave from whose goes = record {
       all = Allowed x.inner.moment true ∷ Denied (frame_len_of x.inner (Asks q)) ∷ [];
       are = (mid, leave, (x'.device, goes.0, refl));
       what = inl refl;
     }
-    asks_now mid q Outcome.Gone leave whose goes = absurd goes
-    asks_now mid q Outcome.Dropped leave whose goes = absurd goes
-    asks_now mid q Outcome.Busy leave whose goes = absurd goes
+    asks_now mid q Outcome.Gone leave from whose goes = absurd goes
+    asks_now mid q Outcome.Dropped leave from whose goes = absurd goes
+    asks_now mid q Outcome.Busy leave from whose goes = absurd goes
 
     not_held : (meta : Meta) (q : Question) (given : Bool) (sent : Sent) → is_other turn (target_of q) ≡ false
         → moves x.device (Allowed x.inner.moment given) x'.device → outcome_by given (held turn meta x.inner (destination_of p.header) (Way.Ask q)) ≡ Some sent
@@ -256,7 +258,7 @@ module _ {D : Type 0} (moves : D → Move → D → Type 0) (turn : Option IpAdd
             not_held meta q stays.0 sent whose stays.1
             (subst (λ (plan : Plan). outcome_by stays.0 (held turn meta x.inner (destination_of p.header) plan) ≡ Some sent) plan stays.4)
         by q plan whose (inr goes) =
-            asks_now goes.0 q sent goes.1 whose
+            asks_now goes.0 q sent goes.1 (plan_from x.inner (is_some x.left) p.header q plan) whose
             (subst (λ (plan : Plan). GoesOut moves goes.0 x.inner x.left p plan sent x'.device x'.inner x'.left) plan goes.2).0
 
     our_asking : (more : List (UdpMetadata × List ℕ)) → contents v.queued ≡ d ∷ more → (meta : Meta) (place : Place) (turned : Turned)
@@ -296,11 +298,17 @@ module _ {D : Type 0} (moves : D → Move → D → Type 0) (turn : Option IpAdd
 
   asked_before : (i : InnerValue) (xs ys : List Move) → AsksInTurn i turn xs → AsksInTurn i turn (xs ++ ys)
   asked_before i xs ys asks =
-      record { question = asks.question; sent = sends_before (frame_of i (Asks asks.question)) xs ys asks.sent; whose = asks.whose }
+      record {
+        question = asks.question;
+        from = asks.from;
+        sent = sends_before (frame_of i (Asks asks.question)) xs ys asks.sent;
+        whose = asks.whose;
+      }
 
   asked_behind : (i j : InnerValue) (xs ys : List Move) → IsSameHost i j → AsksInTurn j turn ys → AsksInTurn i turn (xs ++ ys)
   asked_behind i j xs ys same asks = record {
     question = asks.question;
+    from = subst (λ (x : InnerValue). IsFrom x.hardware x.addresses asks.question) same asks.from;
     sent = sends_behind (frame_of i (Asks asks.question)) xs ys
         (subst (λ (x : InnerValue). Sends (frame_of x (Asks asks.question)) ys) same asks.sent);
     whose = asks.whose;

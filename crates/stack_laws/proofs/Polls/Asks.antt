@@ -5,6 +5,7 @@ use Rattle.ip_wire.specs.EthernetAddress.{EthernetAddress}
 use Rattle.ip_wire.specs.HardwareAddress.{HardwareAddress}
 use Rattle.ip_wire.specs.HardwareAddress.TheVariants as Hardware
 use Rattle.ip_wire.specs.Ip.{destination_of}
+use Rattle.ip_wire.specs.IpRepr.{IpRepr}
 use Rattle.ip_wire.specs.IpAddress.{IpAddress}
 use Rattle.ip_wire.specs.IpAddress.TheVariants as Address
 use Rattle.ip_wire.specs.Ipv4Address.{Ipv4Address}
@@ -12,13 +13,14 @@ use Rattle.sockets.specs.Udp.{UdpSettings}
 use Rattle.sockets.specs.declared.udp.UdpMetadata.{UdpMetadata}
 use Rattle.interface_ingress.specs.Packet.{PacketValue}
 use Rattle.interface_tables.specs.Inner.{InnerValue, is_crowded, is_local_broadcast, next_hop, link_of_hop, link_on, link_address, all_stations, group_station}
+use Rattle.interface_tables.specs.Inner.{mtu_to}
 use Rattle.interface_tables.specs.Neighbor.{CacheValue}
 use Rattle.interface_tables.specs.Source.{source_v4, source_v6, in_v4, source_for}
 use Rattle.interface_tables.specs.declared.link.LinkAddress.{LinkAddress}
 use Rattle.interface_tables.specs.declared.link.LinkAddress.TheVariants as Link
 use Rattle.interface_egress.specs.Departure.{target_of}
 use Rattle.interface_egress.specs.Meta.{has_waited}
-use Rattle.interface_egress.specs.Plan.{ask_v4, ask_from, ask_on, ask_if, may_ask, may_come_by, plan_by, plan_of}
+use Rattle.interface_egress.specs.Plan.{ask_v4, ask_from, ask_on, ask_if, can_be_cut, may_ask, may_come_by, never_leaves, plan_by, plan_of, total_len}
 use Rattle.interface_egress.specs.declared.frame.Question.{Question}
 use Rattle.interface_egress.specs.declared.frame.Question.TheVariants as Query
 use Rattle.interface_egress.specs.declared.plan.Plan.{Plan}
@@ -27,9 +29,9 @@ use Rattle.interface_egress.specs.declared.socket_meta.Meta.{Meta}
 use Rattle.interface_egress.specs.declared.way_out.Sent.TheVariants as Outcome
 use Rattle.interface.specs.SameHost.{IsSameHost}
 use Rattle.interface.specs.Turn.{crowded_time, held, is_given_up, is_other, is_out_of_turn, is_waiting}
-use Rattle.stack_laws.specs.Progress.Asked.{HasToAsk}
+use Rattle.stack_laws.specs.Progress.Asked.{HasToAsk, IsFrom}
 use Rattle.stack_laws.proofs.Polls.Ways.{waits_still}
-use Rattle.std.specs.Prelude.{ℕ}
+use Rattle.std.specs.Prelude.{ℕ, nat_le}
 
 clash : {X : Type 0} → true ≡ false → X
 clash {X} e = absurd cc
@@ -65,6 +67,52 @@ asks_plan i busy settings d hop p has =
     ∙ ap (λ (may : Bool). ask_if may i hop) has.asks in
     let asks : Asking hop (ask_on i.hardware i hop) = asks_on i (destination_of p.header) hop i.hardware has.unknown has.asks in
     (asks.0, is ∙ asks.1, asks.2)
+
+-- a question is from the host's station, and from the address that a packet for the neighbour would be sent from
+module _ (i : InnerValue) (q : Question) where
+  abbrev From : Type 0
+  From = IsFrom i.hardware i.addresses q
+
+  this : (k : Question) → Way.Ask k ≡ Way.Ask q → IsFrom i.hardware i.addresses k → From
+  this k is from = subst (λ (x : Question). IsFrom i.hardware i.addresses x) (let same : k ≡ q = cc in same) from
+
+  by_source : (own : EthernetAddress) (hop : Ipv4Address) (o : Option Ipv4Address) → i.hardware ≡ Hardware.Ethernet own → source_v4 i.addresses hop ≡ o
+      → ask_v4 own o hop ≡ Way.Ask q → From
+  by_source own hop None on source is = absurd cc
+  by_source own hop (Some a) on source is = this (Query.Arp own a hop) is (on, source)
+
+  by_hop : (own : EthernetAddress) (hop : IpAddress) → i.hardware ≡ Hardware.Ethernet own → ask_from own i hop ≡ Way.Ask q → From
+  by_hop own (Address.Ipv4 hop) on is = by_source own hop (source_v4 i.addresses hop) on refl is
+  by_hop own (Address.Ipv6 hop) on is = this (Query.Neighbor own (source_v6 i.addresses hop) hop) is (on, refl)
+
+  by_hardware : (hardware : HardwareAddress) (hop : IpAddress) → i.hardware ≡ hardware → ask_on hardware i hop ≡ Way.Ask q → From
+  by_hardware Hardware.Ip hop on is = absurd cc
+  by_hardware (Hardware.Ethernet own) hop on is = by_hop own hop on is
+
+  by_leave : (may : Bool) (hop : IpAddress) → ask_if may i hop ≡ Way.Ask q → From
+  by_leave true hop is = by_hardware i.hardware hop refl is
+  by_leave false hop is = absurd cc
+
+  no_question : (short cuttable busy : Bool) (to : HardwareAddress)
+      → (if short then Way.Go to else if cuttable then if busy then Way.Busy else Way.Cut to else Way.Drop) ≡ Way.Ask q → ⊥
+  no_question true cuttable busy to is = cc
+  no_question false true true to is = cc
+  no_question false true false to is = cc
+  no_question false false busy to is = cc
+
+  by_link : (l : LinkAddress) (busy : Bool) (h : IpRepr) → plan_by l i busy h ≡ Way.Ask q → From
+  by_link (Link.Known to) busy h is = absurd (no_question (nat_le (total_len h) (mtu_to i (destination_of h))) (can_be_cut h) busy to is)
+  by_link Link.NoRoute busy h is = absurd cc
+  by_link Link.Silent busy h is = absurd cc
+  by_link Link.Unanswered busy h is = absurd cc
+  by_link (Link.Unknown hop) busy h is = by_leave (may_ask i hop) hop is
+
+  by_plan : (never busy : Bool) (h : IpRepr) → (if never then Way.Drop else plan_by (link_address i (destination_of h)) i busy h) ≡ Way.Ask q → From
+  by_plan true busy h is = absurd cc
+  by_plan false busy h is = by_link (link_address i (destination_of h)) busy h is
+
+pub plan_from : (i : InnerValue) (busy : Bool) (h : IpRepr) (q : Question) → plan_of i busy h ≡ Way.Ask q → IsFrom i.hardware i.addresses q
+plan_from i busy h q is = by_plan i q (never_leaves i h) busy h is
 
 -- WHAT STAYS
 

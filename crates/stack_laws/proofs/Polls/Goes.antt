@@ -34,6 +34,7 @@ use Rattle.stack_laws.specs.Progress.Patience.{IsItemPatient}
 use Rattle.stack_laws.specs.Progress.Queued.{CanGo, HasTurn, Sends, frame_under, WentFrom, GoesAtOnce}
 use Rattle.stack_laws.proofs.Polls.Walks.{joined, refused_before, refused_behind, sends_before, sends_behind}
 use Rattle.stack_laws.proofs.Polls.Ways.{can_still, waits_still, same_frame, under_still}
+use Rattle.stack_laws.proofs.Polls.Numbers.{IsSmall, place_small}
 use Rattle.stack_laws.proofs.Polls.Turns.{Ends, place_ends}
 use Rattle.stack_laws.proofs.Polls.Passes.{PassEnds, pass_ends, PieceEnds, clears}
 use Rattle.stack_laws.proofs.Polls.OurTurn.{Ours, OurEnds, our_turn}
@@ -123,6 +124,7 @@ module _ {D : Type 0} (moves : D → Move → D → Type 0) where
                 sends_before (frame_under s.inner s.inner.ident to p) xs ys
                     (subst (λ (frame : List ℕ). Sends frame xs) (same_frame s.inner s.inner to p (same_where s.inner s.inner refl)) went.sent),
               );
+              wide = λ small. small;
               formed = went.formed;
               new = went.new;
               stands = here ∙ ap (λ (o : Option (Item Socket)). Some (place_with o)) went.stands;
@@ -146,16 +148,17 @@ module _ {D : Type 0} (moves : D → Move → D → Type 0) where
         by xs (inr went) = absurd (next_not b true went.next)
 
     -- what went of a later host went of this one
-    as_before : (i j : InnerValue) (k : ℕ) (xs ys : List Move) (answer : Option Bool) (places : List Place) → IsSameHost i j
+    as_before : (i j : InnerValue) (k : ℕ) (xs ys : List Move) (answer : Option Bool) (places : List Place) → IsSameHost i j → (IsSmall i → IsSmall j)
         → (list_any is_refused ys ≡ true) ⊎ WentFrom j k v to p ys answer places
         → (list_any is_refused (xs ++ ys) ≡ true) ⊎ WentFrom i k v to p (xs ++ ys) answer places
-    as_before i j k xs ys answer places same (inl refused) = inl (refused_behind xs ys refused)
-    as_before i j k xs ys answer places same (inr went) = inr (record {
+    as_before i j k xs ys answer places same small (inl refused) = inl (refused_behind xs ys refused)
+    as_before i j k xs ys answer places same small (inr went) = inr (record {
       sent = (
         went.sent.0,
         sends_behind (frame_under i went.sent.0 to p) xs ys
             (subst (λ (frame : List ℕ). Sends frame ys) (under_still i j went.sent.0 to p same) went.sent.1),
       );
+      wide = λ before. went.wide (small before);
       formed = went.formed;
       new = went.new;
       stands = went.stands;
@@ -190,7 +193,8 @@ module _ {D : Type 0} (moves : D → Move → D → Type 0) where
         record {
           all = took.all ++ rest.all;
           are = joined moves took.all rest.all s.device goes.1.device e.sender.device took.are rest.are;
-          what = as_before s.inner goes.1.inner k took.all rest.all (if_changed e.changed) e.places same rest.what;
+          what = as_before s.inner goes.1.inner k took.all rest.all (if_changed e.changed) e.places same
+              (place_small moves turn s goes.1 q goes.2 (Turn.Next goes.0) goes.3) rest.what;
         }
       where
         one_more : (xs : List Place) (x : Place) (n : ℕ) → length xs + suc n ≡ length (xs ++ x ∷ []) + n
@@ -249,7 +253,8 @@ module _ {D : Type 0} (moves : D → Move → D → Type 0) where
         record {
           all = piece.all ++ rest.all;
           are = joined moves piece.all rest.all s.device goes.0.device e.sender.device piece.are rest.are;
-          what = as_before s.inner goes.0.inner n piece.all rest.all (if_changed e.changed) e.places same rest.what;
+          what = as_before s.inner goes.0.inner n piece.all rest.all (if_changed e.changed) e.places same
+              (λ small. subst IsSmall (sym (clears_same s.left s goes.0 goes.1)) small) rest.what;
         }
 
   pub step_goes : (t : ℤ) (s s' : State D) (answer : Option Bool) (n : ℕ) (v : UdpValue) (d : UdpMetadata × List ℕ) (more : List (UdpMetadata × List ℕ))

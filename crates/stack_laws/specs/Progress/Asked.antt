@@ -4,9 +4,12 @@ use Rattle.std.specs.List.{list_any}
 use Rattle.net_base.specs.Device.{Move, Took}
 use Rattle.ip_wire.specs.AddressTests.{is_ethernet_unicast, is_multicast, is_unicast_v4}
 use Rattle.ip_wire.specs.EthernetAddress.{EthernetAddress}
+use Rattle.ip_wire.specs.HardwareAddress.{HardwareAddress}
+use Rattle.ip_wire.specs.HardwareAddress.TheVariants as Hardware
 use Rattle.ip_wire.specs.Ip.{destination_of}
 use Rattle.ip_wire.specs.IpAddress.{IpAddress}
 use Rattle.ip_wire.specs.IpAddress.TheVariants as Address
+use Rattle.ip_wire.specs.IpCidr.{IpCidr}
 use Rattle.ip_wire.specs.Ipv4Address.{Ipv4Address}
 use Rattle.ip_wire.specs.declared.arp.kinds.ArpOperation.TheVariants as Operation
 use Rattle.ip_wire.specs.declared.arp.repr.ArpRepr.{ArpRepr}
@@ -16,11 +19,13 @@ use Rattle.sockets.specs.declared.udp.UdpMetadata.{UdpMetadata}
 use Rattle.interface_ingress.specs.Packet.{PacketValue}
 use Rattle.interface_tables.specs.Inner.{InnerValue, context_of, link_address, next_hop, is_crowded, is_local_broadcast, is_in_own_network}
 use Rattle.interface_tables.specs.declared.link.LinkAddress.TheVariants as Link
+use Rattle.interface_tables.specs.Source.{source_v4, source_v6}
 use Rattle.interface_egress.specs.Departure as Departures
 use Rattle.interface_egress.specs.Departure.{Asks, target_of}
 use Rattle.interface_egress.specs.GoesOut.{frame_of}
 use Rattle.interface_egress.specs.Plan.{never_leaves, may_ask}
 use Rattle.interface_egress.specs.declared.frame.Question.{Question}
+use Rattle.interface_egress.specs.declared.frame.Question.TheVariants as Query
 use Rattle.interface.specs.Turn.{is_other}
 use Rattle.stack_laws.specs.Progress.Moves.{AreMoves, is_refused}
 use Rattle.stack_laws.specs.Progress.Queued.{Sends}
@@ -34,9 +39,15 @@ pub record HasToAsk (i : InnerValue) (settings : UdpSettings) (d : UdpMetadata �
   pub asks : may_ask i hop ≡ true
   pub room : is_crowded i ≡ false
 
--- among the moves a question went, and it is for the neighbour whose turn it is, where a socket waits for one
+-- a question from this station, and from the address that a packet for the neighbour would be sent from
+abbrev pub IsFrom : HardwareAddress → List IpCidr → Question → Type 0
+IsFrom hardware addresses (Query.Arp own source target) = (hardware ≡ Hardware.Ethernet own) × (source_v4 addresses target ≡ Some source)
+IsFrom hardware addresses (Query.Neighbor own source target) = (hardware ≡ Hardware.Ethernet own) × (source_v6 addresses target ≡ source)
+
+-- among the moves a question of the host went, and it is for the neighbour whose turn it is, where a socket waits for one
 pub record AsksInTurn (i : InnerValue) (turn : Option IpAddress) (all : List Move) : Type 0 where
   pub question : Question
+  pub from : IsFrom i.hardware i.addresses question
   pub sent : Sends (frame_of i (Asks question)) all
   pub whose : is_other turn (target_of question) ≡ false
 

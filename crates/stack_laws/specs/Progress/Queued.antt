@@ -1,5 +1,5 @@
 -- A datagram that is queued at a UDP socket, and can go.
-use Rattle.std.specs.Prelude.{◌≡◌, ℕ, ◌≤◌, ◌⊎◌, Bool, true, false, List, [], ◌∷◌, slice_get, drop, Option, Some}
+use Rattle.std.specs.Prelude.{◌≡◌, ℕ, ◌^◌, ◌<◌, ◌≤◌, ◌⊎◌, Bool, true, false, List, [], ◌∷◌, slice_get, drop, Option, Some}
 use Rattle.std.specs.List.{list_any}
 use Rattle.net_base.specs.Device.{Move, Emitted}
 use Rattle.net_base.specs.Packets.{contents}
@@ -65,10 +65,12 @@ SendsPacket i to p all = (ident : ℕ) × Sends (frame_under i ident to p) all
 
 -- WHAT BECOMES OF IT
 
--- The packet went, and the socket, which waits for nobody, has the datagrams behind it in its queue; the step says that something changed.
+-- The packet went, under an identification of 16 bits where the host had one, and the socket, which waits for nobody, has the datagrams behind it
+-- in its queue; the step says that something changed.
 pub record WentFrom (i : InnerValue) (n : ℕ) (v : UdpValue) (to : HardwareAddress) (p : PacketValue) (all : List Move) (answer : Option Bool)
     (places : List (SocketStorage Socket)) : Type 0 where
   pub sent : SendsPacket i to p all
+  pub wide : i.ident < 2 ^ 16 → sent.0 < 2 ^ 16
   pub formed : IsWellFormed p
   pub new : UdpValue
   pub stands : slice_get places n ≡ Some (unmarked (Kind.Udp new))

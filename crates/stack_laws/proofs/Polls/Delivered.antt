@@ -1,0 +1,248 @@
+-- A datagram goes from one host, and waits at another.
+use Rattle.std.proofs.Common.{◌≡◌, ◌≢◌, ℕ, ◌+◌, ◌^◌, ◌==◌, ◌&&◌, Bool, true, false, not, ◌⊎◌, inl, inr, cond, ℤ, List, [], ◌∷◌, ◌++◌, length, Option, Some, None}
+use Rattle.std.proofs.Common.{refl, sym, ap, ◌∙◌}
+use Rattle.std.specs.Prelude.{slice_get, position, nat_lt}
+use Rattle.std.specs.List.{list_any, prefix_len}
+use Rattle.std.proofs.lemmas.Bool.{and_from, or_left}
+use Rattle.net_base.specs.Device.{Move}
+use Rattle.net_base.specs.Packets.{contents, is_full_for}
+use Rattle.ip_address.specs.declared.ip.IpAddress.{IpAddress}
+use Rattle.ip_address.specs.declared.ip.IpAddress.TheVariants as Address
+use Rattle.ip_address.specs.declared.ip.IpProtocol.TheVariants as Protocol
+use Rattle.ip_address.specs.declared.hardware.HardwareAddress.{HardwareAddress}
+use Rattle.ip_address.specs.declared.hardware.HardwareAddress.TheVariants as Hardware
+use Rattle.ip_packet.specs.Ip as Ips
+use Rattle.ip_packet.specs.Ip.{destination_of, source_of}
+use Rattle.ip_packet.specs.declared.ip.repr.IpRepr.{IpRepr}
+use Rattle.ip_packet.specs.declared.ip.repr.IpRepr.TheVariants as Ip
+use Rattle.ip_packet.specs.declared.udp.repr.UdpRepr.{UdpRepr}
+use Rattle.ip_wire.specs.AddressTests.{is_same_address}
+use Rattle.ip_wire.specs.EthernetProtocol.{EthernetProtocol}
+use Rattle.sockets.specs.Header.{header_between, hops}
+use Rattle.sockets.specs.Socket.{accepts_datagram}
+use Rattle.sockets.specs.Udp.{UdpValue, UdpSettings, source_for, header_from, process_after, metadata_of}
+use Rattle.sockets.specs.declared.udp.UdpMetadata.{UdpMetadata}
+use Rattle.sockets.specs.DnsClient.Processed as Processed
+use Rattle.sockets.specs.declared.dns.state.State.TheVariants as Dns
+use Rattle.interface_ingress.specs.Context.{ContextValue}
+use Rattle.interface_ingress.specs.Delivered.{datagram_place, passes, passes_in}
+use Rattle.interface_ingress.specs.Packet.{PacketValue, payload_written}
+use Rattle.interface_ingress.specs.Reassembled.{is_heard, is_sender, is_taken_in}
+use Rattle.interface_ingress.specs.Sent.{ether_for, uncut}
+use Rattle.interface_ingress.specs.Socket.{Socket}
+use Rattle.interface_ingress.specs.Socket.TheVariants as Kind
+use Rattle.interface_ingress.specs.WellFormed.{IsWellFormed}
+use Rattle.interface_tables.specs.Inner.{InnerValue, at_moment, context_of, is_for_us}
+use Rattle.interface_egress.specs.GoesOut.{numbered, numbered_header}
+use Rattle.interface_egress.specs.declared.socket_meta.Meta.{Meta}
+use Rattle.interface_egress.specs.declared.socket_set.Item.{Item}
+use Rattle.interface_egress.specs.declared.socket_set.SocketStorage.{SocketStorage}
+use Rattle.interface.specs.Delivered.{link_of}
+use Rattle.interface.specs.Egress.{EgressStep}
+use Rattle.interface.specs.Ingress.{IngressStep}
+use Rattle.interface.specs.State.{State}
+use Rattle.interface.specs.Taken.{CanRead, HasWidths}
+use Rattle.stack_laws.specs.Progress.Asked.{IsNext}
+use Rattle.stack_laws.specs.Progress.Delivered.{Brings, ComesNext, IsExpected, RefusesNothing, WaitsBehind, as_received, hears, reader_of}
+use Rattle.stack_laws.specs.Progress.Moves.{is_refused}
+use Rattle.stack_laws.specs.Progress.Queued.{CanGo, GoesAtOnce, HasTurn, WentFrom, frame_under, ports_of, with_ident}
+use Rattle.stack_laws.specs.Progress.Reached.{IsFor, udp_place}
+use Rattle.stack_laws.proofs.Polls.Goes.{step_goes}
+use Rattle.stack_laws.proofs.Polls.Reached.{reached, waits_behind}
+use Rattle.stack_laws.proofs.Polls.Readers.{is_read, finds}
+
+abbrev Places : Type 0
+Places = List (SocketStorage Socket)
+
+-- THE FIRST PLACE, BY TESTS THAT AGREE
+
+module _ (test test' : SocketStorage Socket → Bool) (same : (p : SocketStorage Socket) → test p ≡ test' p) where
+  same_prefix : (ps : Places) → prefix_len (λ p. not (test p)) ps ≡ prefix_len (λ p. not (test' p)) ps
+  same_prefix [] = refl
+  same_prefix (p ∷ ps) =
+      ap (λ (b : Bool). cond (not b) (1 + prefix_len (λ p. not (test p)) ps) 0) (same p)
+      ∙ ap (λ (n : ℕ). cond (not (test' p)) (1 + n) 0) (same_prefix ps)
+
+  same_position : (ps : Places) → position test ps ≡ position test' ps
+  same_position ps = ap (λ (n : ℕ). cond (nat_lt n (length ps)) (Some n) None) (same_prefix ps)
+
+-- A HEADER AS IT IS READ has the addresses of the one that was queued
+
+module _ (j : InnerValue) where
+  abbrev as_read : IpRepr → IpRepr
+  as_read h = Ips.normal (numbered_header j h)
+
+  same_destination : (h : IpRepr) → destination_of (as_read h) ≡ destination_of h
+  same_destination (Ip.Ipv4 v) = refl
+  same_destination (Ip.Ipv6 v) = refl
+
+  same_source : (h : IpRepr) → source_of (as_read h) ≡ source_of h
+  same_source (Ip.Ipv4 v) = refl
+  same_source (Ip.Ipv6 v) = refl
+
+  module _ (cx : ContextValue) (udp : UdpRepr) where
+    asked_by : (v : Rattle.sockets.specs.declared.dns.state.State.State) (h : IpRepr)
+        → Processed.accepts v (as_read h) udp ≡ Processed.accepts v h udp
+    asked_by Dns.Idle h = refl
+    asked_by (Dns.Pending q) h = server q.asked where
+      server : (o : Option IpAddress) → Processed.is_from o q (as_read h) udp ≡ Processed.is_from o q h udp
+      server None = refl
+      server (Some a) = ap (λ (source : IpAddress). (udp.src_port == 53) && (udp.dst_port == q.port) && is_same_address a source) (same_source h)
+    asked_by (Dns.Completed found) h = refl
+    asked_by Dns.Failed h = refl
+
+    same_acceptance : (s : Socket) (h : IpRepr) → accepts_datagram cx s (as_read h) udp ≡ accepts_datagram cx s h udp
+    same_acceptance (Kind.Udp v) (Ip.Ipv4 header) = refl
+    same_acceptance (Kind.Udp v) (Ip.Ipv6 header) = refl
+    same_acceptance (Kind.Dhcpv4 v) (Ip.Ipv4 header) = refl
+    same_acceptance (Kind.Dhcpv4 v) (Ip.Ipv6 header) = refl
+    same_acceptance (Kind.Dns v) h = asked_by v.state h
+    same_acceptance (Kind.Raw v) h = refl
+    same_acceptance (Kind.Icmp v) h = refl
+    same_acceptance (Kind.Tcp v) h = refl
+
+    same_place : (h : IpRepr) (places : Places) → datagram_place cx (as_read h) udp places ≡ datagram_place cx h udp places
+    same_place h places =
+        same_position (passes (λ s. accepts_datagram cx s (as_read h) udp)) (passes (λ s. accepts_datagram cx s h udp)) (λ p. by p.inner) places
+      where
+        by : (o : Option (Item Socket)) → passes_in (λ s. accepts_datagram cx s (as_read h) udp) o ≡ passes_in (λ s. accepts_datagram cx s h udp) o
+        by None = refl
+        by (Some item) = same_acceptance item.socket h
+
+  -- what is heard and comes from one host is taken in
+  heard_on : (i : InnerValue) (own to : HardwareAddress) (carried : EthernetProtocol) → hears i to ≡ true → is_heard i (link_of own to carried) ≡ true
+  heard_on i (Hardware.Ethernet from) (Hardware.Ethernet station) carried is = is
+  heard_on i (Hardware.Ethernet from) Hardware.Ip carried is = refl
+  heard_on i Hardware.Ip (Hardware.Ethernet station) carried is = refl
+  heard_on i Hardware.Ip Hardware.Ip carried is = refl
+
+  taken_in : (i : InnerValue) (places : Places) (own to : HardwareAddress) (h : IpRepr) (ports : UdpRepr) (m : ℕ) (meta : Meta) (w : UdpValue)
+      (payload : List ℕ) → IsExpected i places to h ports m meta w
+      → is_taken_in i (uncut (link_of own to (ether_for (numbered_header j h))) (as_read h) payload) ≡ true
+  taken_in i places own to (Ip.Ipv4 v) ports m meta w payload is =
+      and_from (is_heard i (link_of own to (ether_for (Ip.Ipv4 v))) && is_sender i v.src_addr) _
+      (and_from _ _ (heard_on i own to (ether_for (Ip.Ipv4 v)) is.heard) is.sender) (ap not is.here)
+  taken_in i places own to (Ip.Ipv6 v) ports m meta w payload is =
+      and_from _ _ (and_from _ _ (heard_on i own to (ether_for (Ip.Ipv6 v)) is.heard) (or_left _ _ is.sender)) (ap not is.here)
+
+-- THE DESTINATION OF A DATAGRAM
+
+abbrev no_header : Option IpRepr
+no_header = None
+
+module _ (to : IpAddress) where
+  abbrev GoesTo : Option IpRepr → IpRepr → Type 0
+  GoesTo o h = o ≡ Some h → destination_of h ≡ to
+
+  none_goes : (h : IpRepr) → GoesTo None h
+  none_goes h is = absurd (let never : no_header ≡ Some h = is in cc)
+
+  some_goes : (k h : IpRepr) → destination_of k ≡ to → GoesTo (Some k) h
+  some_goes k h there is = ap destination_of (sym (let same : Some k ≡ Some h = is in let at : k ≡ h = cc in at)) ∙ there
+
+if_goes : (test : Bool) (to : IpAddress) (k h : IpRepr) → destination_of k ≡ to → GoesTo to (cond test (Some k) None) h
+if_goes true to k h there = some_goes to k h there
+if_goes false to k h there = none_goes to h
+
+between : (source destination : IpAddress) (len limit : ℕ) (h : IpRepr) → GoesTo destination (header_between source destination Protocol.Udp len limit) h
+between (Address.Ipv4 source) (Address.Ipv4 destination) len limit h =
+    if_goes (nat_lt (20 + len) (2 ^ 16)) (Address.Ipv4 destination) (Ip.Ipv4 (record {
+      src_addr = source;
+      dst_addr = destination;
+      next_header = Protocol.Udp;
+      payload_len = len;
+      hop_limit = limit;
+      ident = 0;
+      dont_frag = false;
+    })) h refl
+between (Address.Ipv6 source) (Address.Ipv6 destination) len limit h =
+    if_goes (nat_lt len (2 ^ 16)) (Address.Ipv6 destination)
+    (Ip.Ipv6 (record { src_addr = source; dst_addr = destination; next_header = Protocol.Udp; payload_len = len; hop_limit = limit })) h refl
+between (Address.Ipv4 source) (Address.Ipv6 destination) len limit h = none_goes (Address.Ipv6 destination) h
+between (Address.Ipv6 source) (Address.Ipv4 destination) len limit h = none_goes (Address.Ipv4 destination) h
+
+from : (o : Option IpAddress) (settings : UdpSettings) (destination : IpAddress) (size : ℕ) (h : IpRepr)
+    → GoesTo destination (header_from o settings destination size) h
+from None settings destination size h = none_goes destination h
+from (Some source) settings destination size h = between source destination (8 + size) (hops settings.hop_limit) h
+
+pub goes_to : (i : InnerValue) (settings : UdpSettings) (d : UdpMetadata × List ℕ) (to : HardwareAddress) (p : PacketValue) → CanGo i settings d to p
+    → destination_of p.header ≡ d.0.endpoint.addr
+goes_to i settings d to p can = from (source_for (context_of i) settings d.0) settings d.0.endpoint.addr (length d.1) p.header can.takes.0
+
+-- IT IS READ
+
+module _ {E : Type 0} (moves : E → Move → E → Type 0) (i : InnerValue) (u : ℤ) (r r' : State E) (m : ℕ) (w : UdpValue) (meta : Meta) (settings : UdpSettings)
+    (d : UdpMetadata × List ℕ) (to : HardwareAddress) (p : PacketValue) (some : d.0.endpoint.port ≢ 0) (can : CanGo i settings d to p)
+    (formed : IsWellFormed p) (reads : CanRead i to (reader_of r.host.inner))
+    (expected : IsExpected (at_moment u r.host.inner) r.places to p.header (ports_of settings d) m meta w)
+    (room : is_full_for w.received (length d.1) ≡ false) (ident : ℕ) (wide : HasWidths (with_ident i ident)) (padding : List ℕ) where
+  abbrev then_host : InnerValue
+  then_host = with_ident i ident
+
+  abbrev header : IpRepr
+  header = as_read then_host p.header
+
+  abbrev bytes : List ℕ
+  bytes = payload_written i.checksums (numbered then_host p).header p.payload
+
+  abbrev then_value : UdpValue
+  then_value = process_after w header (ports_of settings d) d.1
+
+  is_for : IsFor (at_moment u r.host.inner) r.places (link_of i.hardware to (ether_for (numbered then_host p).header)) header bytes (ports_of settings d) d.1
+      m meta w
+  is_for = record {
+    carries = finds i ident settings d to p (reader_of r.host.inner) wide can formed reads some;
+    listens = taken_in then_host (at_moment u r.host.inner) r.places i.hardware to p.header (ports_of settings d) m meta w bytes expected;
+    ours = ap (λ (a : IpAddress). is_for_us (at_moment u r.host.inner) a) (same_destination then_host p.header) ∙ expected.ours;
+    place = same_place then_host (context_of (at_moment u r.host.inner)) (ports_of settings d) p.header r.places ∙ expected.place;
+    stands = expected.stands;
+  }
+
+  stands_then : IsNext moves u r.device (frame_under i ident to p ++ padding) → IngressStep moves u r (Some true) r'
+      → slice_get r'.places m ≡ Some (udp_place meta then_value)
+  stands_then next step =
+      reached moves u r r' (frame_under i ident to p ++ padding) (link_of i.hardware to (ether_for (numbered then_host p).header)) header bytes
+      (ports_of settings d) d.1 m meta w next (is_read i ident settings d to p (reader_of r.host.inner) wide can formed reads padding) is_for step
+
+  same_metadata : metadata_of header (ports_of settings d) ≡ (as_received (source_of p.header) settings d).0
+  same_metadata =
+      ap (λ (a : IpAddress). (as_received a settings (record d.0 { endpoint = record d.0.endpoint { addr = destination_of header } }, d.1)).0)
+      (same_source then_host p.header)
+      ∙ ap (λ (a : IpAddress). (as_received (source_of p.header) settings (record d.0 { endpoint = record d.0.endpoint { addr = a } }, d.1)).0)
+      (same_destination then_host p.header ∙ goes_to i settings d to p can)
+
+  waits : IsNext moves u r.device (frame_under i ident to p ++ padding) → IngressStep moves u r (Some true) r'
+      → WaitsBehind r'.places m meta w (as_received (source_of p.header) settings d)
+  waits next step = record {
+    new = then_value;
+    stands = stands_then next step;
+    settings = refl;
+    queued = refl;
+    behind = waits_behind w header (ports_of settings d) d.1 room
+        ∙ ap (λ (x : UdpMetadata). contents w.received ++ (x, d.1) ∷ []) same_metadata;
+  }
+
+-- IT GOES, AND IS READ
+
+pub arrives : {D E : Type 0} (out : D → Move → D → Type 0) (back : E → Move → E → Type 0) (t u : ℤ) (s s' : State D) (r r' : State E)
+    (answer : Option Bool) (n m : ℕ) (v w : UdpValue) (d : UdpMetadata × List ℕ) (more : List (UdpMetadata × List ℕ)) (to : HardwareAddress)
+    (p : PacketValue) (meta : Meta) → HasWidths (at_moment t s.host.inner) → HasTurn (at_moment t s.host.inner) s.places n v → contents v.queued ≡ d ∷ more
+    → d.0.endpoint.port ≢ 0 → CanGo (at_moment t s.host.inner) v.settings d to p → EgressStep out t s answer s' → RefusesNothing out s.device s'.device
+    → Brings out back (at_moment t s.host.inner) to p s.device s'.device u r.device → CanRead (at_moment t s.host.inner) to (reader_of r.host.inner)
+    → IsExpected (at_moment u r.host.inner) r.places to p.header (ports_of v.settings d) m meta w → is_full_for w.received (length d.1) ≡ false
+    → IngressStep back u r (Some true) r' → WaitsBehind r'.places m meta w (as_received (source_of p.header) v.settings d)
+arrives {D} {E} out back t u s s' r r' answer n m v w d more to p meta wide turn queued some can step freely brings reads expected room taken =
+    by goes.what
+  where
+    goes : GoesAtOnce out (at_moment t s.host.inner) n v to p s.device s'.device answer s'.places
+    goes = step_goes out t s s' answer n v d more to p turn queued can step
+
+    by : (list_any is_refused goes.all ≡ true) ⊎ WentFrom (at_moment t s.host.inner) n v to p goes.all answer s'.places
+        → WaitsBehind r'.places m meta w (as_received (source_of p.header) v.settings d)
+    by (inl refused) = absurd (let clash : true ≡ false = sym refused ∙ freely goes.all goes.are in cc)
+    by (inr went) =
+        let comes : ComesNext back u r.device (at_moment t s.host.inner) to p goes.all =
+        brings goes.all goes.are (record { ident = went.sent.0; wide = went.wide wide.ident; sent = went.sent.1 }) in
+        waits back (at_moment t s.host.inner) u r r' m w meta v.settings d to p some can went.formed reads expected room comes.went.ident
+        (record { mtu = wide.mtu; ident = comes.went.wide }) comes.padding comes.next taken

@@ -1,0 +1,314 @@
+-- A neighbour that isn't known is asked for, answers, and gets the datagram.
+use Rattle.std.proofs.Common.{◌≡◌, ◌≢◌, ℕ, ◌^◌, ◌<◌, ◌≤◌, arith, Bool, true, false, not, ◌&&◌, if◌then◌else◌, ◌⊎◌, inl, inr, ℤ, int_lt, pos, ◌+ℤ◌}
+use Rattle.std.proofs.Common.{List, ◌∷◌, ◌++◌, length, Option, Some, None, refl, sym, ap, ◌∙◌, subst}
+use Rattle.std.specs.Prelude.{slice_get}
+use Rattle.std.specs.List.{list_any}
+use Rattle.net_base.specs.Device.{Move}
+use Rattle.net_base.specs.Packets.{contents, is_full_for}
+use Rattle.ip_packet.specs.Ip.{destination_of, source_of}
+use Rattle.ip_packet.specs.declared.ip.repr.IpRepr.{IpRepr}
+use Rattle.ip_packet.specs.declared.ip.repr.IpRepr.TheVariants as Ip
+use Rattle.ip_packet.specs.declared.udp.repr.UdpRepr.{UdpRepr}
+use Rattle.ip_wire.specs.Arp as Arps
+use Rattle.ip_wire.specs.EthernetAddress.{EthernetAddress}
+use Rattle.ip_wire.specs.HardwareAddress.{HardwareAddress}
+use Rattle.ip_wire.specs.HardwareAddress.TheVariants as Hardware
+use Rattle.ip_wire.specs.IpAddress.{IpAddress}
+use Rattle.ip_wire.specs.IpAddress.TheVariants as Address
+use Rattle.ip_wire.specs.Ipv4Address.{Ipv4Address}
+use Rattle.ip_wire.specs.declared.arp.repr.ArpRepr.{ArpRepr}
+use Rattle.sockets.specs.Udp.{UdpValue, UdpSettings}
+use Rattle.sockets.specs.declared.udp.UdpMetadata.{UdpMetadata}
+use Rattle.interface_ingress.specs.Arp.{arp_arrived, learned, teaches}
+use Rattle.interface_ingress.specs.Packet.{PacketValue}
+use Rattle.interface_ingress.specs.Sent.{AreSealed}
+use Rattle.interface_ingress.specs.Socket.{Socket}
+use Rattle.interface_tables.specs.Inner.{InnerValue, at_moment, has_neighbor, is_known_hop, is_known_on, is_own, mtu_to, with_neighbor}
+use Rattle.interface_tables.specs.Neighbor.{CacheValue, entry_lifetime, is_found}
+use Rattle.interface_tables.specs.Source.{source_v4}
+use Rattle.interface_egress.specs.Departure as Departures
+use Rattle.interface_egress.specs.Departure.{Asks, arp_request, target_of}
+use Rattle.interface_egress.specs.GoesOut.{frame_of}
+use Rattle.interface_egress.specs.Meta.{neighbor_by, waits_by}
+use Rattle.interface_egress.specs.Plan.{total_len}
+use Rattle.interface_egress.specs.declared.frame.Question.{Question}
+use Rattle.interface_egress.specs.declared.frame.Question.TheVariants as Query
+use Rattle.interface_egress.specs.declared.socket_meta.Meta.{Meta}
+use Rattle.interface_egress.specs.declared.socket_meta.Waiting.{Waiting}
+use Rattle.interface_egress.specs.declared.socket_set.SocketStorage.{SocketStorage}
+use Rattle.interface.specs.Awaited.{turn_of}
+use Rattle.interface.specs.Delivered.{AreOfOneMedium}
+use Rattle.interface.specs.Egress.{sending}
+use Rattle.interface.specs.SameHost.{IsSameHost}
+use Rattle.interface.specs.State.{State}
+use Rattle.interface.specs.Taken.{CanRead, HasWidths}
+use Rattle.interface.specs.Turn.{is_known, is_other, is_waiting}
+use Rattle.interface.proofs.SameHost.{egress_same_host}
+use Rattle.stack_laws.specs.Progress.Asked as Asked
+use Rattle.stack_laws.specs.Progress.Asked.{AsksAtOnce, AsksInTurn, HasToAsk, IsFrom, IsNeighbor, IsNext, IsVia, arp_reply}
+use Rattle.stack_laws.specs.Progress.Delivered.{IsExpected, WaitsBehind, as_received, reader_of}
+use Rattle.stack_laws.specs.Progress.Exchanged.{AreNeighbors, Exchange, IsMarkFor, IsServed, IsStillFirst}
+use Rattle.stack_laws.specs.Progress.Moves.{is_refused}
+use Rattle.stack_laws.specs.Progress.Queued.{CanGo, HasTurn, Sends, ports_of}
+use Rattle.stack_laws.proofs.Polls.Answered as Answered
+use Rattle.stack_laws.proofs.Polls.Answered.{question_answered, goes_there, known_now, lives}
+use Rattle.stack_laws.proofs.Polls.Asking.{step_asks}
+use Rattle.stack_laws.proofs.Polls.Delivered.{arrives}
+use Rattle.stack_laws.proofs.Polls.Numbers.{IsSmall, step_small}
+
+-- THE QUESTION
+
+question_is : (i : InnerValue) (own : EthernetAddress) (a asked : Ipv4Address) → i.hardware ≡ Hardware.Ethernet own → source_v4 i.addresses asked ≡ Some a
+    → (q : Question) → IsFrom i.hardware i.addresses q → target_of q ≡ Address.Ipv4 asked → q ≡ Query.Arp own a asked
+question_is i own a asked here source (Query.Arp station address target) from whom =
+    let there : target ≡ asked = (let is : Address.Ipv4 target ≡ Address.Ipv4 asked = whom in cc) in
+    let same : station ≡ own = (let is : Hardware.Ethernet station ≡ Hardware.Ethernet own = sym from.0 ∙ here in cc) in
+    let some : Some address ≡ Some a = sym from.1 ∙ ap (λ (x : Ipv4Address). source_v4 i.addresses x) there ∙ source in
+    let its : address ≡ a = cc in
+    ap (λ (x : EthernetAddress). Query.Arp x address target) same ∙ ap (λ (x : Ipv4Address). Query.Arp own x target) its
+    ∙ ap (λ (x : Ipv4Address). Query.Arp own a x) there
+question_is i own a asked here source (Query.Neighbor station address target) from whom =
+    absurd (let never : Address.Ipv6 target ≡ Address.Ipv4 asked = whom in cc)
+
+-- A HOST THAT KNOWS SOMEONE MORE expects the same datagrams
+
+expected_still : (i : InnerValue) (c : CacheValue) (places : List (SocketStorage Socket)) (to : HardwareAddress) (h : IpRepr) (ports : UdpRepr) (m : ℕ)
+    (meta : Meta) (w : UdpValue) → IsExpected i places to h ports m meta w → IsExpected (record i { neighbors = c }) places to h ports m meta w
+expected_still i c places (Hardware.Ethernet station) (Ip.Ipv4 header) ports m meta w is = record {
+  heard = is.heard;
+  sender = is.sender;
+  here = is.here;
+  ours = is.ours;
+  place = is.place;
+  stands = is.stands;
+}
+expected_still i c places (Hardware.Ethernet station) (Ip.Ipv6 header) ports m meta w is = record {
+  heard = is.heard;
+  sender = is.sender;
+  here = is.here;
+  ours = is.ours;
+  place = is.place;
+  stands = is.stands;
+}
+expected_still i c places Hardware.Ip (Ip.Ipv4 header) ports m meta w is = record {
+  heard = is.heard;
+  sender = is.sender;
+  here = is.here;
+  ours = is.ours;
+  place = is.place;
+  stands = is.stands;
+}
+expected_still i c places Hardware.Ip (Ip.Ipv6 header) ports m meta w is = record {
+  heard = is.heard;
+  sender = is.sender;
+  here = is.here;
+  ours = is.ours;
+  place = is.place;
+  stands = is.stands;
+}
+
+arrived_keeps : (i : InnerValue) (own : EthernetAddress) (a asked : Ipv4Address) → (teaches : Bool)
+    → (if teaches then learned i (arp_request own a asked) else i)
+    ≡ record i { neighbors = (if teaches then learned i (arp_request own a asked) else i).neighbors }
+arrived_keeps i own a asked true = refl
+arrived_keeps i own a asked false = refl
+
+-- THE EXCHANGE
+
+module _ {D E : Type 0} {from : D → Move → D → Type 0} {at : E → Move → E → Type 0} (x : Exchange from at) (n m : ℕ) (v w : UdpValue)
+    (d : UdpMetadata × List ℕ) (more : List (UdpMetadata × List ℕ)) (own station : EthernetAddress) (a asked : Ipv4Address) (p : PacketValue) (meta : Meta)
+    (wide : HasWidths (at_moment x.asked x.s0.host.inner)) (both : AreNeighbors x.s0.host.inner x.r0.host.inner own station a asked)
+    (has : HasToAsk (at_moment x.asked x.s0.host.inner) v.settings d (Address.Ipv4 asked) p)
+    (via : IsVia (at_moment x.heard x.s0.host.inner) (destination_of p.header) (Address.Ipv4 asked))
+    (short : total_len p.header ≤ mtu_to (at_moment x.heard x.s0.host.inner) (destination_of p.header))
+    (served : IsServed x own station a asked p) where
+  abbrev start : InnerValue
+  start = at_moment x.asked x.s0.host.inner
+
+  abbrev hop : IpAddress
+  hop = Address.Ipv4 asked
+
+  abbrev reply : ArpRepr
+  reply = arp_reply station asked own a
+
+  -- the question comes next at the other host
+  asked_next : AsksAtOnce from start (turn_of start x.s0.places) x.s0.device x.s1.device
+      → (padding : List ℕ) × IsNext at x.answered x.r0.device (frame_of start (Asks (Query.Arp own a asked)) ++ padding)
+  asked_next asks = by asks.what where
+    by : (list_any is_refused asks.all ≡ true) ⊎ AsksInTurn start (turn_of start x.s0.places) asks.all
+        → (padding : List ℕ) × IsNext at x.answered x.r0.device (frame_of start (Asks (Query.Arp own a asked)) ++ padding)
+    by (inl refused) = absurd (let clash : true ≡ false = sym refused ∙ served.asks_freely asks.all asks.are in cc)
+    by (inr it) =
+        served.question_comes asks.all asks.are
+        (subst (λ (q : Question). Sends (frame_of start (Asks q)) asks.all)
+        (question_is start own a asked both.here both.source it.question it.from (served.alone asks.all asks.are it.question it.sent)) it.sent)
+
+  -- and its answer at the one
+  answer_next : Asked.Tells at x.r0.host.inner reply x.r0.device x.r1.device
+      → (padding : List ℕ) × IsNext from x.heard x.s2.device (frame_of x.r0.host.inner (Departures.Tells reply) ++ padding)
+  answer_next tells = by tells.what where
+    by : (list_any is_refused tells.all ≡ true) ⊎ Sends (frame_of x.r0.host.inner (Departures.Tells reply)) tells.all
+        → (padding : List ℕ) × IsNext from x.heard x.s2.device (frame_of x.r0.host.inner (Departures.Tells reply) ++ padding)
+    by (inl refused) = absurd (let clash : true ≡ false = sym refused ∙ served.answers_freely tells.all tells.are in cc)
+    by (inr sent) = served.answer_comes tells.all tells.are sent
+
+  -- THE ONE, behind its question and behind the answer
+
+  abbrev waiting : InnerValue
+  waiting = record start {
+    ident = x.s1.host.inner.ident;
+    neighbors = record start.neighbors { silent = x.s1.host.inner.neighbors.silent; searches = x.s1.host.inner.neighbors.searches };
+  }
+
+  ends_at : x.s1.host.inner ≡ x.asks.0.sender.inner
+  ends_at = ap (λ (y : State D). y.host.inner) x.asks.2
+
+  is_waiting_host : x.s2.host.inner ≡ waiting
+  is_waiting_host =
+      ap (λ (y : State D). y.host.inner) x.waits
+      ∙ subst (IsSameHost start) (sym ends_at) (egress_same_host from (sending x.asked x.s0) x.s0.places x.asks.0 x.asks.1)
+
+  small : x.s1.host.inner.ident < 2 ^ 16
+  small = subst IsSmall (sym ends_at) (step_small from (sending x.asked x.s0) x.s0.places x.asks.0 x.asks.1 wide.ident)
+
+  abbrev knowing : InnerValue
+  knowing = with_neighbor (at_moment x.heard waiting) hop (Hardware.Ethernet station)
+
+  record Hears (y : InnerValue) : Type 0 where
+    on : y.hardware ≡ Hardware.Ethernet own
+    sealed : AreSealed x.r0.host.inner.checksums y.checksums
+    mine : is_own y (Address.Ipv4 a) ≡ true
+    near : IsNeighbor y station asked
+
+  hears : Hears x.s2.host.inner
+  hears = subst Hears (sym is_waiting_host) (record {
+    on = both.here;
+    sealed = both.sealed_here;
+    mine = both.ours;
+    near = record { one = both.seen.one; sound = both.seen.sound; near = both.seen.near };
+  })
+
+  value : Arps.IsValue reply
+  value = (let two : 2 < 2 ^ 16 = omega arith in two, both.station_is, both.asked_is, both.own_is, both.a_is)
+
+  heard_it : (padding : List ℕ) → IsNext from x.heard x.s2.device (frame_of x.r0.host.inner (Departures.Tells reply) ++ padding)
+      → (x.s3.host.inner ≡ with_neighbor (at_moment x.heard x.s2.host.inner) hop (Hardware.Ethernet station)) × (x.s3.places ≡ x.s2.places)
+  heard_it padding next =
+      Answered.learned from x.heard x.s2 x.s3 x.r0.host.inner padding own station hears.on hears.sealed a asked hears.mine hears.near value next x.hears
+
+  is_knowing : x.s3.host.inner ≡ with_neighbor (at_moment x.heard x.s2.host.inner) hop (Hardware.Ethernet station)
+      → at_moment x.heard x.s4.host.inner ≡ knowing
+  is_knowing it =
+      ap (λ (y : State D). at_moment x.heard y.host.inner) x.looks ∙ ap (at_moment x.heard) it
+      ∙ ap (λ (y : InnerValue). at_moment x.heard (with_neighbor (at_moment x.heard y) hop (Hardware.Ethernet station))) is_waiting_host
+
+  via_then : IsVia (at_moment x.heard waiting) (destination_of p.header) hop
+  via_then = record { one = via.one; group = via.group; hop_is = via.hop_is }
+
+  can_then : CanGo knowing v.settings d (Hardware.Ethernet station) p
+  can_then = record {
+    takes = has.takes;
+    may = has.may;
+    known = goes_there (at_moment x.heard waiting) own station hop (destination_of p.header) both.here via_then;
+    short = short;
+  }
+
+  hop_known : has_neighbor knowing (destination_of p.header) ≡ true
+  hop_known =
+      ap (is_known_hop knowing) via.hop_is
+      ∙ ap (λ (h : HardwareAddress). is_known_on h knowing hop) both.here
+      ∙ ap is_found (known_now waiting.neighbors (record {
+        protocol_addr = hop;
+        hardware_addr = Hardware.Ethernet station;
+        expires_at = x.heard +ℤ pos entry_lifetime;
+      }) x.heard (lives x.heard entry_lifetime (omega arith)))
+
+  -- its socket waits for nobody who isn't known
+  ready_then : (o : Option Waiting) → IsMarkFor o (destination_of p.header) → waits_by o (is_known knowing (neighbor_by o)) x.heard ≡ false
+  ready_then None mark = refl
+  ready_then (Some mark) is =
+      ap (λ (known : Bool). not known && int_lt x.heard mark.silent_until) (ap (has_neighbor knowing) is ∙ hop_known)
+
+  -- THE OTHER, behind the question
+
+  abbrev answering : InnerValue
+  answering = arp_arrived (at_moment x.answered x.r0.host.inner) (arp_request own a asked)
+
+  abbrev reading : InnerValue
+  reading = record (at_moment x.answered x.r0.host.inner) { neighbors = answering.neighbors }
+
+  is_reading : x.r1.host.inner ≡ answering → x.r2.host.inner ≡ reading
+  is_reading it =
+      ap (λ (y : State E). y.host.inner) x.rests ∙ it
+      ∙ arrived_keeps (at_moment x.answered x.r0.host.inner) own a asked
+      (teaches (at_moment x.answered x.r0.host.inner) (arp_request own a asked))
+
+  reads_then : CanRead knowing (Hardware.Ethernet station) (reader_of reading)
+  reads_then = record {
+    medium = subst (λ (h : HardwareAddress). AreOfOneMedium h (Hardware.Ethernet station) x.r0.host.inner.hardware) (sym both.here)
+        (subst (λ (h : HardwareAddress). AreOfOneMedium (Hardware.Ethernet own) (Hardware.Ethernet station) h) (sym both.there)
+        (record { from = both.own_is; receiver = both.station_is }));
+    sealed = both.sealed_there;
+  }
+
+  -- THE DATAGRAM GOES, AND IS READ
+
+  module _ (some : d.0.endpoint.port ≢ 0) (still : IsStillFirst x.s1.places n v d (destination_of p.header))
+      (expected : IsExpected (at_moment x.read x.r0.host.inner) x.r0.places (Hardware.Ethernet station) p.header (ports_of v.settings d) m meta w)
+      (room : is_full_for w.received (length d.1) ≡ false) where
+    goes : at_moment x.heard x.s4.host.inner ≡ knowing → x.s4.places ≡ x.s1.places → x.r2.host.inner ≡ reading → x.r2.places ≡ x.r0.places
+        → WaitsBehind x.r3.places m meta w (as_received (source_of p.header) v.settings d)
+    goes knows places reads their_places =
+        subst (λ (settings : UdpSettings). WaitsBehind x.r3.places m meta w (as_received (source_of p.header) settings d)) still.settings
+        (arrives from at x.heard x.read x.s4 x.s5 x.r2 x.r3 x.second n m still.value w d still.more (Hardware.Ethernet station) p meta
+        (subst HasWidths (sym knows) (record { mtu = wide.mtu; ident = small }))
+        (record {
+          meta = still.meta;
+          stands = ap (λ (ps : List (SocketStorage Socket)). slice_get ps n) places ∙ still.stands;
+          ready = subst (λ (i : InnerValue). is_waiting i still.meta ≡ false) (sym knows) (ready_then still.meta.waiting still.mark);
+        })
+        still.first some
+        (subst (λ (settings : UdpSettings). CanGo (at_moment x.heard x.s4.host.inner) settings d (Hardware.Ethernet station) p) (sym still.settings)
+        (subst (λ (i : InnerValue). CanGo i v.settings d (Hardware.Ethernet station) p) (sym knows) can_then))
+        x.sends served.sends_freely served.packet_comes
+        (subst (λ (i : InnerValue). CanRead i (Hardware.Ethernet station) (reader_of x.r2.host.inner)) (sym knows)
+        (subst (λ (i : InnerValue). CanRead knowing (Hardware.Ethernet station) (reader_of i)) (sym reads) reads_then))
+        (subst (λ (settings : UdpSettings). IsExpected (at_moment x.read x.r2.host.inner) x.r2.places (Hardware.Ethernet station) p.header (ports_of settings d) m
+        meta w) (sym still.settings)
+        (subst (λ (ps : List (SocketStorage Socket)). IsExpected (at_moment x.read x.r2.host.inner) ps (Hardware.Ethernet station) p.header
+        (ports_of v.settings d) m meta w) (sym their_places)
+        (subst (λ (i : InnerValue). IsExpected (at_moment x.read i) x.r0.places (Hardware.Ethernet station) p.header (ports_of v.settings d) m meta w) (sym reads)
+        (expected_still (at_moment x.read x.r0.host.inner) answering.neighbors x.r0.places (Hardware.Ethernet station) p.header (ports_of v.settings d) m meta w
+        expected))))
+        room x.reads)
+
+    exchanged : HasTurn start x.s0.places n v → contents v.queued ≡ d ∷ more → is_other (turn_of start x.s0.places) hop ≡ false
+        → WaitsBehind x.r3.places m meta w (as_received (source_of p.header) v.settings d)
+    exchanged turn queued whose =
+        let question : (padding : List ℕ) × IsNext at x.answered x.r0.device (frame_of start (Asks (Query.Arp own a asked)) ++ padding) =
+        asked_next (step_asks from x.asked x.s0 x.s1 x.first n v d more hop p turn queued has whose x.asks) in
+        let answer : (padding : List ℕ) × IsNext from x.heard x.s2.device (frame_of x.r0.host.inner (Departures.Tells reply) ++ padding) =
+        answer_next (question_answered at x.answered x.r0 x.r1 start question.0 station own a asked both.there both.sealed_there both.theirs both.sees
+        (both.own_is, both.a_is, both.asked_is) question.1 x.answers) in
+        let known : (x.r1.host.inner ≡ answering) × (x.r1.places ≡ x.r0.places) =
+        Answered.asker_known at x.answered x.r0 x.r1 start question.0 station own both.there both.sealed_there a asked both.theirs both.sees
+        (both.own_is, both.a_is, both.asked_is) question.1 x.answers in
+        let heard : (x.s3.host.inner ≡ with_neighbor (at_moment x.heard x.s2.host.inner) hop (Hardware.Ethernet station)) × (x.s3.places ≡ x.s2.places) =
+        heard_it answer.0 answer.1 in
+        goes (is_knowing heard.0) (ap (λ (y : State D). y.places) x.looks ∙ heard.1 ∙ ap (λ (y : State D). y.places) x.waits) (is_reading known.0)
+        (ap (λ (y : State E). y.places) x.rests ∙ known.1)
+
+pub exchanged_with : {D E : Type 0} (from : D → Move → D → Type 0) (at : E → Move → E → Type 0) (x : Exchange from at) (n m : ℕ) (v w : UdpValue)
+    (d : UdpMetadata × List ℕ) (more : List (UdpMetadata × List ℕ)) (own station : EthernetAddress) (a asked : Ipv4Address) (p : PacketValue) (meta : Meta)
+    → HasWidths (at_moment x.asked x.s0.host.inner) → AreNeighbors x.s0.host.inner x.r0.host.inner own station a asked
+    → HasTurn (at_moment x.asked x.s0.host.inner) x.s0.places n v → contents v.queued ≡ d ∷ more → d.0.endpoint.port ≢ 0
+    → HasToAsk (at_moment x.asked x.s0.host.inner) v.settings d (Address.Ipv4 asked) p
+    → is_other (turn_of (at_moment x.asked x.s0.host.inner) x.s0.places) (Address.Ipv4 asked) ≡ false
+    → IsStillFirst x.s1.places n v d (destination_of p.header)
+    → IsVia (at_moment x.heard x.s0.host.inner) (destination_of p.header) (Address.Ipv4 asked)
+    → total_len p.header ≤ mtu_to (at_moment x.heard x.s0.host.inner) (destination_of p.header)
+    → IsExpected (at_moment x.read x.r0.host.inner) x.r0.places (Hardware.Ethernet station) p.header (ports_of v.settings d) m meta w
+    → is_full_for w.received (length d.1) ≡ false → IsServed x own station a asked p
+    → WaitsBehind x.r3.places m meta w (as_received (source_of p.header) v.settings d)
+exchanged_with from at x n m v w d more own station a asked p meta wide both turn queued some has whose still via short expected room served =
+    exchanged x n m v w d more own station a asked p meta wide both has via short served some still expected room turn queued whose

@@ -1,0 +1,124 @@
+-- A datagram to a neighbour that isn't known, over IPv4 on Ethernet (RFC 826): the neighbour is asked for, answers, and gets the datagram.
+use Rattle.std.specs.Prelude.{◌≡◌, ℕ, ℤ, true, Bool, List, ◌∷◌, ◌++◌, slice_get, Option, Some, None}
+use Rattle.net_base.specs.Device.{Move}
+use Rattle.net_base.specs.Packets.{contents}
+use Rattle.ip_wire.specs.Address.{IsEthernetAddress, IsIpv4Address}
+use Rattle.ip_wire.specs.EthernetAddress.{EthernetAddress}
+use Rattle.ip_wire.specs.HardwareAddress.TheVariants as Hardware
+use Rattle.ip_wire.specs.IpAddress.{IpAddress}
+use Rattle.ip_wire.specs.IpAddress.TheVariants as Address
+use Rattle.ip_wire.specs.Ipv4Address.{Ipv4Address}
+use Rattle.sockets.specs.Udp.{UdpValue}
+use Rattle.sockets.specs.declared.udp.UdpMetadata.{UdpMetadata}
+use Rattle.interface_ingress.specs.Packet.{PacketValue}
+use Rattle.interface_ingress.specs.Sent.{AreSealed}
+use Rattle.interface_ingress.specs.Socket.{Socket}
+use Rattle.interface_tables.specs.Inner.{InnerValue, at_moment, is_own}
+use Rattle.interface_tables.specs.Source.{source_v4}
+use Rattle.interface_egress.specs.Departure as Departures
+use Rattle.interface_egress.specs.Departure.{Asks, target_of}
+use Rattle.interface_egress.specs.GoesOut.{frame_of}
+use Rattle.interface_egress.specs.declared.frame.Question.{Question}
+use Rattle.interface_egress.specs.declared.frame.Question.TheVariants as Query
+use Rattle.interface_egress.specs.declared.socket_meta.Meta.{Meta}
+use Rattle.interface_egress.specs.declared.socket_meta.Waiting.{Waiting}
+use Rattle.interface_egress.specs.declared.socket_set.SocketStorage.{SocketStorage}
+use Rattle.interface.specs.Egress.{EgressStep}
+use Rattle.interface.specs.Ingress.{IngressStep}
+use Rattle.interface.specs.State.{State, at_device}
+use Rattle.stack_laws.specs.Progress.Asked.{IsNext, IsNeighbor, arp_reply}
+use Rattle.stack_laws.specs.Progress.Delivered.{Brings, RefusesNothing}
+use Rattle.stack_laws.specs.Progress.Moves.{AreMoves}
+use Rattle.stack_laws.specs.Progress.Queued.{Sends}
+use Rattle.stack_laws.specs.Progress.Reached.{udp_place}
+
+-- THE STEPS
+
+-- The one host asks; the other reads the question and answers; the one reads the answer and, at that moment, sends; and the other reads what was
+-- sent. Between its steps a host stays as it is while frames come and go at its device.
+pub record Exchange {D E : Type 0} (from : D → Move → D → Type 0) (at : E → Move → E → Type 0) : Type 0 where
+  pub asked : ℤ
+  pub answered : ℤ
+  pub heard : ℤ
+  pub read : ℤ
+  pub s0 : State D
+  pub s1 : State D
+  pub s2 : State D
+  pub s3 : State D
+  pub s4 : State D
+  pub s5 : State D
+  pub r0 : State E
+  pub r1 : State E
+  pub r2 : State E
+  pub r3 : State E
+  pub first : Option Bool
+  pub second : Option Bool
+  pub asks : EgressStep from asked s0 first s1
+  pub answers : IngressStep at answered r0 (Some true) r1
+  pub waits : s2 ≡ at_device s1 s2.device
+  pub hears : IngressStep from heard s2 (Some true) s3
+  pub looks : s4 ≡ at_device s3 s4.device
+  pub sends : EgressStep from heard s4 second s5
+  pub rests : r2 ≡ at_device r1 r2.device
+  pub reads : IngressStep at read r2 (Some true) r3
+
+-- THE LINK
+
+-- it brings a frame: where that went as the one device moved, it comes next at the other one, with whatever padding
+abbrev pub BringsFrame : {D E : Type 0} → (D → Move → D → Type 0) → (E → Move → E → Type 0) → List ℕ → D → D → ℤ → E → Type 0
+BringsFrame {D} {E} from at frame old new t device =
+    (all : List Move) → AreMoves from all old new → Sends frame all → (padding : List ℕ) × IsNext at t device (frame ++ padding)
+
+-- as the device moved, no other neighbour than this one was asked for
+abbrev pub AsksOnlyFor : {D : Type 0} → (D → Move → D → Type 0) → InnerValue → IpAddress → D → D → Type 0
+AsksOnlyFor {D} moves i hop old new =
+    (all : List Move) → AreMoves moves all old new → (q : Question) → Sends (frame_of i (Asks q)) all → target_of q ≡ hop
+
+-- No device refuses anything; no other neighbour is asked for; and question, answer and packet each come next at the other device.
+pub record IsServed {D E : Type 0} {from : D → Move → D → Type 0} {at : E → Move → E → Type 0} (x : Exchange from at)
+    (own station : EthernetAddress) (a asked : Ipv4Address) (p : PacketValue) : Type 0 where
+  pub asks_freely : RefusesNothing from x.s0.device x.s1.device
+  pub answers_freely : RefusesNothing at x.r0.device x.r1.device
+  pub sends_freely : RefusesNothing from x.s4.device x.s5.device
+  pub alone : AsksOnlyFor from (at_moment x.asked x.s0.host.inner) (Address.Ipv4 asked) x.s0.device x.s1.device
+  pub question_comes : BringsFrame from at (frame_of (at_moment x.asked x.s0.host.inner) (Asks (Query.Arp own a asked))) x.s0.device x.s1.device x.answered
+      x.r0.device
+  pub answer_comes : BringsFrame at from (frame_of x.r0.host.inner (Departures.Tells (arp_reply station asked own a))) x.r0.device x.r1.device x.heard
+      x.s2.device
+  pub packet_comes : Brings from at (at_moment x.heard x.s4.host.inner) (Hardware.Ethernet station) p x.s4.device x.s5.device x.read x.r2.device
+
+-- THE HOSTS
+
+-- Two hosts on one Ethernet, with their stations and addresses: each one's address is one host's, in a network of the other; the one asks from its
+-- address; and neither tests a checksum that the other leaves out.
+pub record AreNeighbors (i j : InnerValue) (own station : EthernetAddress) (a asked : Ipv4Address) : Type 0 where
+  pub here : i.hardware ≡ Hardware.Ethernet own
+  pub there : j.hardware ≡ Hardware.Ethernet station
+  pub source : source_v4 i.addresses asked ≡ Some a
+  pub ours : is_own i (Address.Ipv4 a) ≡ true
+  pub theirs : is_own j (Address.Ipv4 asked) ≡ true
+  pub seen : IsNeighbor i station asked
+  pub sees : IsNeighbor j own a
+  pub own_is : IsEthernetAddress own
+  pub station_is : IsEthernetAddress station
+  pub a_is : IsIpv4Address a
+  pub asked_is : IsIpv4Address asked
+  pub sealed_there : AreSealed i.checksums j.checksums
+  pub sealed_here : AreSealed j.checksums i.checksums
+
+-- THE DATAGRAM MEANWHILE
+
+-- a mark for this destination, or none
+abbrev pub IsMarkFor : Option Waiting → IpAddress → Type 0
+IsMarkFor None to = Unit {0}
+IsMarkFor (Some w) to = w.neighbor ≡ to
+
+-- the UDP socket at a place has the datagram first in its queue, and waits for its destination or for nobody
+pub record IsStillFirst (places : List (SocketStorage Socket)) (n : ℕ) (v : UdpValue) (d : UdpMetadata × List ℕ) (to : IpAddress) : Type 0 where
+  pub meta : Meta
+  pub value : UdpValue
+  pub more : List (UdpMetadata × List ℕ)
+  pub stands : slice_get places n ≡ Some (udp_place meta value)
+  pub settings : value.settings ≡ v.settings
+  pub first : contents value.queued ≡ d ∷ more
+  pub mark : IsMarkFor meta.waiting to

@@ -1,0 +1,73 @@
+//! A datagram that is queued at one host comes to wait at another.
+
+ghost use Rattle.std.specs.Prelude.{◌≡◌, ◌≢◌, ℕ, ◌≤◌, ℤ, Bool, true, false, List, ◌∷◌, length, Option, Some};
+ghost use Rattle.net_base.specs.Packets.{contents, is_full_for};
+ghost use Rattle.ip_wire.specs.EthernetAddress.{EthernetAddress};
+ghost use Rattle.ip_wire.specs.HardwareAddress.{HardwareAddress};
+ghost use Rattle.ip_wire.specs.HardwareAddress.TheVariants as Hardware;
+ghost use Rattle.ip_wire.specs.IpAddress.TheVariants as Address;
+ghost use Rattle.ip_wire.specs.Ipv4Address.{Ipv4Address};
+ghost use Rattle.ip_packet.specs.Ip.{destination_of, source_of};
+ghost use Rattle.sockets.specs.Udp.{UdpValue};
+ghost use Rattle.sockets.specs.declared.udp.UdpMetadata.{UdpMetadata};
+ghost use Rattle.interface_ingress.specs.Packet.{PacketValue};
+ghost use Rattle.interface_tables.specs.Inner.{at_moment, mtu_to};
+ghost use Rattle.interface_egress.specs.Plan.{total_len};
+ghost use Rattle.interface_egress.specs.declared.socket_meta.Meta.{Meta};
+ghost use Rattle.interface.specs.Awaited.{turn_of};
+ghost use Rattle.interface.specs.Egress.{EgressStep};
+ghost use Rattle.interface.specs.Ingress.{IngressStep};
+ghost use Rattle.interface.specs.State.{State};
+ghost use Rattle.interface.specs.Taken.{CanRead, HasWidths};
+ghost use Rattle.interface.specs.Turn.{is_other};
+ghost use Rattle.stack_laws.specs.Progress.Asked.{HasToAsk, IsVia};
+ghost use Rattle.stack_laws.specs.Progress.Exchanged.{AreNeighbors, Exchange, IsServed, IsStillFirst};
+ghost use Rattle.stack_laws.specs.Progress.Delivered.{Brings, IsExpected, RefusesNothing, WaitsBehind, as_received, reader_of};
+ghost use Rattle.stack_laws.specs.Progress.Queued.{CanGo, HasTurn, ports_of};
+
+use net_base::Device;
+
+/// Law: of two hosts on one medium, where the first datagram in the queue of a UDP socket of the one is to go to a known hardware address, a step
+/// of the way out of the one, in which its device refuses nothing, and behind it a step of the way in of the other, at whose device what went
+/// comes next, leave the datagram at the UDP socket that it is for: behind those that waited there, with the endpoint that it came from and the
+/// address that it was sent to.
+pub fn a_datagram_arrives<D: Device, E: Device>()
+    ensures { (t u : ℤ) (s s' : State D) (r r' : State E) (answer : Option Bool) (n m : ℕ) (v w : UdpValue) (d : UdpMetadata × List ℕ)
+        (more : List (UdpMetadata × List ℕ)) (to : HardwareAddress) (p : PacketValue) (meta : Meta)
+        → HasWidths (at_moment t s.host.inner)
+        → HasTurn (at_moment t s.host.inner) s.places n v
+        → contents v.queued ≡ d ∷ more
+        → d.0.endpoint.port ≢ 0
+        → CanGo (at_moment t s.host.inner) v.settings d to p
+        → EgressStep D.moves t s answer s'
+        → RefusesNothing D.moves s.device s'.device
+        → Brings D.moves E.moves (at_moment t s.host.inner) to p s.device s'.device u r.device
+        → CanRead (at_moment t s.host.inner) to (reader_of r.host.inner)
+        → IsExpected (at_moment u r.host.inner) r.places to p.header (ports_of v.settings d) m meta w
+        → is_full_for w.received (length d.1) ≡ false
+        → IngressStep E.moves u r (Some true) r'
+        → WaitsBehind r'.places m meta w (as_received (source_of p.header) v.settings d) }
+{}
+
+/// Law: the same over IPv4 on Ethernet where the next hop isn't known yet, and the other host is that hop: the one asks for it, the other answers,
+/// the one reads the answer and sends at that moment, and the other reads the datagram. No device refuses anything in these steps, no other
+/// neighbour is asked for, question, answer and packet each come next at the other device, and behind the question the datagram still is the first
+/// of its socket.
+pub fn a_datagram_to_an_unknown_neighbor_arrives<D: Device, E: Device>()
+    ensures { (x : Exchange D.moves E.moves) (n m : ℕ) (v w : UdpValue) (d : UdpMetadata × List ℕ) (more : List (UdpMetadata × List ℕ))
+        (own station : EthernetAddress) (a asked : Ipv4Address) (p : PacketValue) (meta : Meta)
+        → HasWidths (at_moment x.asked x.s0.host.inner)
+        → AreNeighbors x.s0.host.inner x.r0.host.inner own station a asked
+        → HasTurn (at_moment x.asked x.s0.host.inner) x.s0.places n v
+        → contents v.queued ≡ d ∷ more
+        → d.0.endpoint.port ≢ 0
+        → HasToAsk (at_moment x.asked x.s0.host.inner) v.settings d (Address.Ipv4 asked) p
+        → is_other (turn_of (at_moment x.asked x.s0.host.inner) x.s0.places) (Address.Ipv4 asked) ≡ false
+        → IsStillFirst x.s1.places n v d (destination_of p.header)
+        → IsVia (at_moment x.heard x.s0.host.inner) (destination_of p.header) (Address.Ipv4 asked)
+        → total_len p.header ≤ mtu_to (at_moment x.heard x.s0.host.inner) (destination_of p.header)
+        → IsExpected (at_moment x.read x.r0.host.inner) x.r0.places (Hardware.Ethernet station) p.header (ports_of v.settings d) m meta w
+        → is_full_for w.received (length d.1) ≡ false
+        → IsServed x own station a asked p
+        → WaitsBehind x.r3.places m meta w (as_received (source_of p.header) v.settings d) }
+{}
