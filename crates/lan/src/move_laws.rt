@@ -3,12 +3,8 @@ ghost use Rattle.std.specs.Prelude.{◌≡◌, ◌∷◌, ◌++◌, Bool, IfSome
 ghost use Rattle.sockets.specs.Raw as Raws;
 ghost use Rattle.sockets.specs.Raw.{RawValue};
 ghost use Rattle.lan.specs.Worlds.Link.Made.{CarriesNone, bytes_of};
-ghost use Rattle.interface.specs.Ip.{normal, source_of, destination_of};
+ghost use Rattle.interface.specs.Ip.{normal};
 ghost use Rattle.interface.specs.IpRepr.{IpRepr};
-ghost use Rattle.ip_tcp.specs.Tcp as Tcp;
-ghost use Rattle.ip_tcp.specs.declared.header.TcpHeader.{TcpHeader};
-ghost use Rattle.tcp_model.specs.Value.{TcpValue};
-ghost use Rattle.tcp_tie.specs.Host.{Made, IsAmong};
 ghost use Rattle.lan.specs.Worlds.AtLink.Arrives.{Answers, Arrived, Brings};
 ghost use Rattle.lan.specs.Worlds.AtLink.Delivered.{Places};
 ghost use Rattle.lan.specs.Worlds.AtLink.Handed.{handed_reply};
@@ -26,7 +22,6 @@ ghost use Rattle.lan.specs.Worlds.Moves.Raws.{OfEach, QueuesForeign};
 ghost use Rattle.lan.specs.Worlds.AtLink.History.{Entry};
 ghost use Rattle.lan.specs.Worlds.AtLink.Kinds.{kind_of, other};
 ghost use Rattle.lan.specs.Worlds.AtLink.Moves.{Step, IsRun, run};
-ghost use Rattle.lan.specs.Worlds.AtLink.Moves.Move.{Takes};
 ghost use Rattle.lan.specs.Worlds.AtLink.Side.{Side};
 ghost use Rattle.lan.specs.Worlds.AtLink.Parties.{Net, party};
 ghost use Rattle.lan.specs.Worlds.Events.{AreTyped};
@@ -52,18 +47,13 @@ pub fn events_are_moves()
         → Comes (names_tcp_or_udp Medium.Ip) net new (e ∷ past) }
 {}
 
-/// Law: each TCP segment that a socket takes is, field by field, one that the other host had made: between the addresses of its packet,
-/// with these bytes, and with the header that a reader has of the one that was written, its window and its options with it. And wherever
-/// events led two fresh hosts, such moves led their sockets there; and each segment and each datagram that a frame which waits for a host
-/// brings when the host takes it next, whole or rebuilt of pieces, was made so.
-#[tactic(auto, using(crate::proofs::Worlds::Whole::made_whole))]
-pub fn what_a_socket_takes_was_made_whole()
-    ensures takes { (names : List ℕ → Bool) (net : Net) (steps more : List Step) (side : Side) (place : ℕ) (cx : ContextValue) (v : TcpValue)
-        (ip : IpRepr) (header : TcpHeader) (bytes : List ℕ)
-        → IsRun names net (steps ++ record { side = side; move = Takes place cx v ip header bytes } ∷ more)
-        → (x : Made) × IsAmong (party (run net steps) (other side)).segments x
-        × (source_of ip ≡ x.from) × (destination_of ip ≡ x.to) × (header ≡ Tcp.normal x.header) × (bytes ≡ x.bytes) }
-    ensures world { (starts : Starts) (history : List Entry) (hosts : Stations)
+/// Law: wherever events led two fresh hosts, moves over packets led their sockets there; and each segment and each datagram that a frame
+/// which waits for a host brings when the host takes it next, whole or rebuilt of pieces, the other host had made: a TCP segment field by
+/// field, between the addresses of its packet, with these bytes, and with the header that a reader has of the one that was written, its
+/// window and its options with it.
+#[tactic(auto, using(crate::proofs::Worlds::Whole::worlds_made))]
+pub fn what_a_frame_brings_was_made_whole()
+    ensures { (starts : Starts) (history : List Entry) (hosts : Stations)
         → IsFreshWorld starts
         → AreTyped history
         → WorldRun history (unused_both starts) hosts

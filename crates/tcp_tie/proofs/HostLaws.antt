@@ -4,7 +4,7 @@ use Rattle.std.proofs.Common.{◌∙◌, subst, arith}
 use Rattle.std.proofs.lemmas.Bool.{cond_both, eqb-true}
 use Rattle.std.proofs.lemmas.Bool.Decides.{nat_tests}
 use Rattle.std.specs.List.{AllByRecursion}
-use Rattle.ip_wire.specs.Ip.{source_of, destination_of}
+use Rattle.ip_wire.specs.Ip.{destination_of}
 use Rattle.ip_wire.specs.IpAddress.{IpAddress}
 use Rattle.ip_wire.specs.IpRepr.{IpRepr}
 use Rattle.ip_wire.specs.TcpHeader.{TcpHeader}
@@ -20,7 +20,7 @@ use Rattle.tcp_model.specs.Settled.{settled}
 use Rattle.tcp_model.specs.Value.{TcpValue}
 use Rattle.tcp_tie.specs.Endpoints.{Ports, HasPorts}
 use Rattle.tcp_tie.specs.History.{with_sent, with_answer, with_offer}
-use Rattle.tcp_tie.specs.Host.{Made, made_of, made_by, source_port, destination_port, seen_of, sent_from, past_at, IsAmong, MayCome, and_answer, and_offer}
+use Rattle.tcp_tie.specs.Host.{Made, made_of, made_by, source_port, seen_of, sent_from, past_at, IsAmong, MayCome, IsSeenAmong, and_answer, and_offer}
 use Rattle.tcp_tie.specs.Promises.{KeepsAlone}
 use Rattle.tcp_tie.specs.Tie.{Past, Keeps, segment_of}
 use Rattle.tcp_tie.proofs.AloneLaws.{reset_comes}
@@ -116,25 +116,24 @@ past_of_offer port made p source (Some o) queue from =
 
 -- it is seen as it was made
 pub comes_as_made : (made : List Made) (from to : IpAddress) (header : TcpHeader) (bytes : List ℕ) → MayCome made from to header bytes →
-    (x : Made) × IsAmong made x × (source_port x ≡ header.src_port) × (destination_port x ≡ header.dst_port) × (seen_of x ≡ segment_of header bytes)
-comes_as_made made from to header bytes come = (
-  made_of from to come.written bytes,
-  come.among,
-  sym (ap (λ (h : TcpHeader). h.src_port) come.read),
-  sym (ap (λ (h : TcpHeader). h.dst_port) come.read),
-  sym (ap (λ (h : TcpHeader). segment_of h bytes) come.read),
-)
+    IsSeenAmong made header bytes
+comes_as_made made from to header bytes come = record {
+  segment = made_of from to come.written bytes;
+  among = come.among;
+  source = sym (ap (λ (h : TcpHeader). h.src_port) come.read);
+  destination = sym (ap (λ (h : TcpHeader). h.dst_port) come.read);
+  seen = sym (ap (λ (h : TcpHeader). segment_of h bytes) come.read);
+}
 
 pub keeps_hosted_arrival :
     (cx : ContextValue) (v w : TcpValue) (p q : Past) (ip : IpRepr) (header : TcpHeader) (bytes : List ℕ) (made theirs : List Made)
     → Keeps v (past_at header.dst_port made p) w (past_at header.src_port theirs q)
-    → MayCome theirs (source_of ip) (destination_of ip) header bytes
+    → IsSeenAmong theirs header bytes
     → Keeps (arrives cx v ip header bytes).socket (past_at header.dst_port (and_answer made (arrives cx v ip header bytes).answer) p) w
     (past_at header.src_port theirs q)
 keeps_hosted_arrival cx v w p q ip header bytes made theirs k come =
-    let was = comes_as_made theirs (source_of ip) (destination_of ip) header bytes come in
-    let at = among_sent header.src_port theirs was.0 was.1 was.2 in
-    let seen : slice_get (sent_from header.src_port theirs) at.0 ≡ Some (segment_of header bytes) = at.1 ∙ ap (λ (s : Segment). Some s) was.4 in
+    let at = among_sent header.src_port theirs come.segment come.among come.source in
+    let seen : slice_get (sent_from header.src_port theirs) at.0 ≡ Some (segment_of header bytes) = at.1 ∙ ap (λ (s : Segment). Some s) come.seen in
     subst (λ (p : Past). Keeps (arrives cx v ip header bytes).socket p w (past_at header.src_port theirs q))
     (past_of_answer header.dst_port made p (arrives cx v ip header bytes).answer (λ reply e. (answer_back cx v ip header bytes reply e).source_port))
     (keeps_arrival cx v w (past_at header.dst_port made p) (past_at header.src_port theirs q) ip header bytes at.0 k seen)

@@ -49,6 +49,14 @@ pub record MayCome (made : List Made) (from to : IpAddress) (header : TcpHeader)
   pub among : IsAmong made (made_of from to written bytes)
   pub read : header ≡ normal written
 
+-- A segment that comes is seen as one that was made: its ports, its numbers and its bytes, whatever else of it a network rewrites.
+pub record IsSeenAmong (made : List Made) (header : TcpHeader) (bytes : List ℕ) : Type 0 where
+  pub segment : Made
+  pub among : IsAmong made segment
+  pub source : source_port segment ≡ header.src_port
+  pub destination : destination_port segment ≡ header.dst_port
+  pub seen : seen_of segment ≡ segment_of header bytes
+
 -- what answers a segment was made
 abbrev pub made_by : Reply → Made
 made_by reply = made_of (source_of reply.header) (destination_of reply.header) reply.segment []

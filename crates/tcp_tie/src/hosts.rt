@@ -18,7 +18,7 @@ ghost use Rattle.tcp_model.specs.Settled.{settled};
 ghost use Rattle.tcp_model.specs.Value.{TcpValue};
 ghost use Rattle.tcp_model.specs.declared.block.Block.{Block};
 ghost use Rattle.tcp_tie.specs.Endpoints.{Ports, HasPorts};
-ghost use Rattle.tcp_tie.specs.Host.{Made, source_port, destination_port, seen_of, sent_from, past_at, IsAmong, MayCome, and_answer, and_offer};
+ghost use Rattle.tcp_tie.specs.Host.{Made, source_port, destination_port, seen_of, sent_from, past_at, IsAmong, MayCome, IsSeenAmong, and_answer, and_offer};
 ghost use Rattle.tcp_tie.specs.Pair.Values.{HostContext, context_on};
 ghost use Rattle.tcp_tie.specs.Promises.{KeepsAlone};
 ghost use Rattle.tcp_tie.specs.Tie.{Past, Keeps, segment_of};
@@ -40,7 +40,7 @@ pub fn segments_of_a_host()
 pub fn hosts_keep_the_invariant()
     ensures arrival { (cx : ContextValue) (v w : TcpValue) (p q : Past) (ip : IpRepr) (header : TcpHeader) (bytes : List ℕ)
         (made theirs : List Made) → Keeps v (past_at header.dst_port made p) w (past_at header.src_port theirs q)
-        → MayCome theirs (source_of ip) (destination_of ip) header bytes
+        → IsSeenAmong theirs header bytes
         → Keeps (arrives cx v ip header bytes).socket
         (past_at header.dst_port (and_answer made (arrives cx v ip header bytes).answer) p) w (past_at header.src_port theirs q) }
     ensures offer { (cx : ContextValue) (v w : TcpValue) (p q : Past) (o : Ports) (made : List Made) (from : IpAddress)
@@ -68,8 +68,7 @@ pub fn hosts_keep_a_socket_alone()
 pub fn normal_segments_are_seen_alike()
     ensures segment { (header : TcpHeader) (bytes : List ℕ) → segment_of (normal header) bytes ≡ segment_of header bytes }
     ensures made { (made : List Made) (from to : IpAddress) (header : TcpHeader) (bytes : List ℕ) → MayCome made from to header bytes
-        → (x : Made) × IsAmong made x × (source_port x ≡ header.src_port) × (destination_port x ≡ header.dst_port)
-        × (seen_of x ≡ segment_of header bytes) }
+        → IsSeenAmong made header bytes }
     ensures opening { (header : TcpHeader) → is_first_syn (normal header) ≡ is_first_syn header }
 {}
 

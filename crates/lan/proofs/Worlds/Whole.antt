@@ -1,20 +1,12 @@
--- What a socket takes, and what a frame that waits brings next, the other host made, whole.
-use Rattle.std.proofs.Common.{◌≡◌, ℕ, Bool, List, [], ◌∷◌, ◌++◌, slice_get, Option, Some, refl, sym, ap, subst, arith}
+-- What a frame that waits brings next, the other host made, whole.
+use Rattle.std.proofs.Common.{◌≡◌, ℕ, List, slice_get, Option, Some, sym, subst, arith}
 use Rattle.lan_base.specs.Carried.{names_tcp_or_udp}
 use Rattle.lan_base.specs.Medium.TheVariants as Medium
-use Rattle.interface.specs.Ip.{source_of, destination_of}
-use Rattle.interface.specs.IpRepr.{IpRepr}
-use Rattle.ip_tcp.specs.Tcp.{normal}
-use Rattle.ip_tcp.specs.declared.header.TcpHeader.{TcpHeader}
-use Rattle.sockets.specs.Context.{ContextValue}
-use Rattle.tcp_model.specs.Value.{TcpValue}
-use Rattle.tcp_tie.specs.Host.{Made, made_of, IsAmong, MayCome}
 use Rattle.interface_ingress.specs.Incoming.{IncomingValue, IsContent}
 use Rattle.lan.specs.Worlds.AtLink.Fresh.{IsFreshWorld}
 use Rattle.lan.specs.Worlds.AtLink.History.{Entry}
 use Rattle.lan.specs.Worlds.AtLink.Kinds.{other}
-use Rattle.lan.specs.Worlds.AtLink.Moves.{Step, after, IsRun, run}
-use Rattle.lan.specs.Worlds.AtLink.Moves.Move.{Takes}
+use Rattle.lan.specs.Worlds.AtLink.Moves.{Step, IsRun, run}
 use Rattle.lan.specs.Worlds.AtLink.Parties.{Net, Party, party}
 use Rattle.lan.specs.Worlds.AtLink.Runs.{Starts, WorldRun, unused_both}
 use Rattle.lan.specs.Worlds.AtLink.Side.{Side}
@@ -32,22 +24,6 @@ use Rattle.lan.proofs.Worlds.Keeps.{brings_so}
 use Rattle.lan.proofs.Worlds.Link.Slots.{all_at}
 use Rattle.lan.proofs.Worlds.Link.Taken.{content_from, whole_made}
 use Rattle.lan.proofs.Worlds.Runs.{has_come}
-
--- A MOVE
-
-run_behind : (names : List ℕ → Bool) (net : Net) (steps more : List Step) → IsRun names net (steps ++ more) → IsRun names (run net steps) more
-run_behind names net [] more is = is
-run_behind names net (step ∷ steps) more is = run_behind names (after net step) steps more is.1
-
-pub takes_made : (names : List ℕ → Bool) (net : Net) (steps more : List Step) (side : Side) (place : ℕ) (cx : ContextValue) (v : TcpValue) (ip : IpRepr)
-    (header : TcpHeader) (bytes : List ℕ)
-    → IsRun names net (steps ++ record { side = side; move = Takes place cx v ip header bytes } ∷ more)
-    → (x : Made) × IsAmong (party (run net steps) (other side)).segments x
-    × (source_of ip ≡ x.from) × (destination_of ip ≡ x.to) × (header ≡ normal x.header) × (bytes ≡ x.bytes)
-takes_made names net steps more side place cx v ip header bytes is =
-    let behind = run_behind names net steps (record { side = side; move = Takes place cx v ip header bytes } ∷ more) is in
-    let come : MayCome (party (run net steps) (other side)).segments (source_of ip) (destination_of ip) header bytes = behind.0.2 in
-    (made_of (source_of ip) (destination_of ip) come.written bytes, come.among, refl, refl, come.read, refl)
 
 -- A FRAME
 
@@ -80,5 +56,3 @@ worlds_made starts history hosts fresh typed ran =
           (next_made (party came.net (other side)) _ _ (w.joined.out (other side)) (w.joined.sends (other side)).are_sent few (station hosts side)
           (w.joined.receives side) place frame content waits is),
     )
-
-pub ruleset made_whole = (takes_made, worlds_made)

@@ -20,7 +20,7 @@ is_run = (
   (refl, refl, refl, (refl, refl, refl)),
   (
     (refl, refl, refl, (refl, refl, refl)),
-    ((refl, refl, refl, (refl, refl, refl)), ((refl, leaves_from A caller), ((refl, refl, comes_whole 0 refl refl), tt))),
+    ((refl, refl, refl, (refl, refl, refl)), ((refl, leaves_from A caller), ((refl, refl, comes_whole 0 refl), tt))),
   ),
 )
 

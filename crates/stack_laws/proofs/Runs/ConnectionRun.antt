@@ -16,19 +16,19 @@ use Rattle.stack_laws.proofs.Runs.Worlds.{opened_is, told_is, half_closed_is}
 tells_from : IsRun no_names Worlds.opened.net (steps_of Worlds.opened telling)
 tells_from = (
   (refl, refl, refl, (refl, refl, refl)),
-  ((refl, leaves_now A (done Worlds.opened (Calls A (Call.Send text)))), ((refl, refl, comes_whole 2 refl refl), ((refl, refl, comes_whole 2 refl refl), ((refl, refl, refl, (refl, refl, refl)), tt)))),
+  ((refl, leaves_now A (done Worlds.opened (Calls A (Call.Send text)))), ((refl, refl, comes_whole 2 refl), ((refl, refl, comes_whole 2 refl), ((refl, refl, refl, (refl, refl, refl)), tt)))),
 )
 
 ends_from : IsRun no_names Worlds.told.net (steps_of Worlds.told ending)
 ends_from = (
   (refl, refl, refl, (refl, refl, refl)),
-  ((refl, leaves_now A (done Worlds.told (Calls A Call.Close))), ((refl, refl, comes_whole 3 refl refl), ((refl, refl, refl, (refl, refl, refl)), tt))),
+  ((refl, leaves_now A (done Worlds.told (Calls A Call.Close))), ((refl, refl, comes_whole 3 refl), ((refl, refl, refl, (refl, refl, refl)), tt))),
 )
 
 closes_from : IsRun no_names Worlds.half_closed.net (steps_of Worlds.half_closed closing)
 closes_from = (
   (refl, refl, refl, (refl, refl, refl)),
-  ((refl, leaves_now B (done Worlds.half_closed (Calls B Call.Close))), ((refl, refl, comes_whole 2 refl refl), ((refl, leaves_now A (done (done (done Worlds.half_closed (Calls B Call.Close)) (Asks B)) (Comes A 1))), ((refl, refl, comes_whole 4 refl refl), tt)))),
+  ((refl, leaves_now B (done Worlds.half_closed (Calls B Call.Close))), ((refl, refl, comes_whole 2 refl), ((refl, leaves_now A (done (done (done Worlds.half_closed (Calls B Call.Close)) (Asks B)) (Comes A 1))), ((refl, refl, comes_whole 4 refl), tt)))),
 )
 
 pub telling_run : IsRun no_names opened.net (steps_of opened telling)

@@ -17,17 +17,17 @@ are_fresh = record { a = fresh_one (Tcp fresh) fresh_tcp; b = fresh_one (Tcp fre
 pub calls_run : IsRun no_names hosts calls
 calls_run = (
   (refl, refl, refl, (refl, refl, refl)),
-  ((refl, refl, refl, (refl, refl, refl)), ((refl, leaves_from A caller), ((refl, refl, comes_whole 0 refl refl), tt))),
+  ((refl, refl, refl, (refl, refl, refl)), ((refl, leaves_from A caller), ((refl, refl, comes_whole 0 refl), tt))),
 )
 
 falls_run : IsRun no_names (run hosts calls) falls
-falls_run = (refl, ((refl, refl, comes_whole 1 refl refl), tt))
+falls_run = (refl, ((refl, refl, comes_whole 1 refl), tt))
 
 pub fell_run : IsRun no_names hosts fell
 fell_run = IsRun-append no_names hosts calls falls calls_run falls_run
 
 again_run : IsRun no_names (run hosts fell) again
-again_run = ((refl, refl, comes_whole 0 refl refl), tt)
+again_run = ((refl, refl, comes_whole 0 refl), tt)
 
 pub is_run : IsRun no_names hosts steps
 is_run = IsRun-append no_names hosts fell again fell_run again_run

@@ -18,7 +18,7 @@ are_fresh = record { a = fresh_one (Tcp fresh) fresh_tcp; b = fresh_one (Tcp fre
 pub is_run : IsRun no_names hosts steps
 is_run = (
   (refl, refl, refl, (refl, refl, refl)),
-  ((refl, leaves_from A caller), (refl, ((refl, refl, comes_whole 0 refl refl), ((refl, refl, refl, (refl, refl, refl)), tt)))),
+  ((refl, leaves_from A caller), (refl, ((refl, refl, comes_whole 0 refl), ((refl, refl, refl, (refl, refl, refl)), tt)))),
 )
 
 pub alone : (j : ℕ) → ¬ (ArePartners (run hosts steps).history A 0 j)

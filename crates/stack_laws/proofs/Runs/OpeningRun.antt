@@ -48,11 +48,11 @@ coming = Comes B 1 ∷ []
 asking_run : IsRun no_names start.net (steps_of start asking)
 asking_run = (
   (refl, refl, refl, (refl, refl, refl)),
-  ((refl, refl, refl, (refl, refl, refl)), ((refl, leaves_now A (done (done start (Calls B (Listen 80))) (Calls A (Connect (endpoint B 80) 49_500)))), ((refl, refl, comes_whole 0 refl refl), tt))),
+  ((refl, refl, refl, (refl, refl, refl)), ((refl, leaves_now A (done (done start (Calls B (Listen 80))) (Calls A (Connect (endpoint B 80) 49_500)))), ((refl, refl, comes_whole 0 refl), tt))),
 )
 
 answering_run : IsRun no_names asked.net (steps_of asked answering)
-answering_run = ((refl, leaves_now B asked), ((refl, refl, comes_whole 0 refl refl), tt))
+answering_run = ((refl, leaves_now B asked), ((refl, refl, comes_whole 0 refl), tt))
 
 sending_run : IsRun no_names answered.net (steps_of answered sending)
 sending_run = ((refl, leaves_now A answered), tt)
@@ -73,7 +73,7 @@ is_normal : (segment_at sent A 1).0 ≡ normal (segment_at sent A 1).0
 is_normal = subst (λ (x : TcpSegment). x.0 ≡ normal x.0) (sym named) refl
 
 coming_run : IsRun no_names sent.net (steps_of sent coming)
-coming_run = ((refl, refl, comes_whole 1 was_sent is_normal), tt)
+coming_run = ((refl, refl, comes_whole 1 was_sent), tt)
 
 joined : asking ++ (answering ++ (sending ++ coming)) ≡ opening
 joined = refl

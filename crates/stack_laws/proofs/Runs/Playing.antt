@@ -2,12 +2,11 @@
 use Rattle.std.proofs.Common.{◌≡◌, inr, ℕ, Bool, List, [], ◌∷◌, ◌++◌, slice_get, Option, Some, None, IfSome, refl, sym, ap, ◌∙◌, subst}
 use Rattle.ip_wire.specs.IpAddress.{IpAddress}
 use Rattle.ip_wire.specs.IpAddress.TheVariants as Address
-use Rattle.ip_wire.specs.Tcp.{normal}
 use Rattle.ip_wire.specs.TcpHeader.{TcpHeader}
 use Rattle.tcp_model.specs.Offers.{offer_of}
 use Rattle.tcp_model.specs.OpenOffer.{OpenOffer}
 use Rattle.tcp_model.specs.Value.{TcpValue}
-use Rattle.tcp_tie.specs.Host.{Made, made_of, MayCome}
+use Rattle.tcp_tie.specs.Host.{Made, made_of, IsSeenAmong}
 use Rattle.lan.specs.declared.at_link.history.event.Side.{Side}
 use Rattle.lan.specs.declared.at_link.history.event.Side.TheVariants.{A, B}
 use Rattle.lan.specs.Worlds.AtLink.Moves.{Step, LeavesFrom, after, IsRun, run}
@@ -31,10 +30,11 @@ pub leaves_now : (side : Side) (p : Play) → IfSome (offer_of (context side) (t
     (λ x. LeavesFrom (context side) (Address.Ipv4 (address side)) x.header)
 leaves_now side p = leaves_from side (tcp_at p.net side 0)
 
--- a segment comes as it was made, where its header is in its normal form
+-- a segment comes as it was made
 pub comes_whole : {made : List Made} {from to : IpAddress} {header : TcpHeader} {bytes : List ℕ} (k : ℕ) →
-    slice_get made k ≡ Some (made_of from to header bytes) → header ≡ normal header → MayCome made from to header bytes
-comes_whole {made} {from} {to} {header} {bytes} k is same = record { written = header; among = (k, is); read = same }
+    slice_get made k ≡ Some (made_of from to header bytes) → IsSeenAmong made header bytes
+comes_whole {made} {from} {to} {header} {bytes} k is =
+    record { segment = made_of from to header bytes; among = (k, is); source = refl; destination = refl; seen = refl }
 
 net_done : (p : Play) (doing : Doing) → after p.net (step_of p doing) ≡ (done p doing).net
 net_done p (Calls side call) = refl

@@ -1,13 +1,12 @@
 -- Each run is safe.
 use Rattle.std.proofs.Common.{◌≡◌, ℕ, Bool, true, List, [], ◌∷◌, ◌++◌, map, Option, Some, None, refl, sym, ap, ◌∙◌, subst}
 use Rattle.std.proofs.Common.{IfSome}
-use Rattle.ip_wire.specs.Ip.{source_of, destination_of}
 use Rattle.sockets.specs.SocketValue as Datagrams
 use Rattle.sockets.specs.Udp as Udps
 use Rattle.sockets.specs.Udp.{UdpValue}
 use Rattle.tcp_tie.specs.Safe.{IsPrefixOf}
 use Rattle.tcp_tie.specs.Segment.Control.{Rst}
-use Rattle.tcp_tie.specs.Host.{Made, seen_of, past_at, MayCome, and_answer}
+use Rattle.tcp_tie.specs.Host.{Made, seen_of, past_at, IsSeenAmong, and_answer}
 use Rattle.tcp_tie.specs.Promises.{AreSafeSockets}
 use Rattle.tcp_tie.proofs.PromiseLemmas.{safe_sockets, alone_nothing}
 use Rattle.lan.proofs.Worlds.AtLink.SendQueues.{alone_queue, pair_rest}
@@ -53,7 +52,7 @@ MayFrom places h side p q (Offers place cx v from sent) =
     (socket_at p place ≡ Some (Tcp v)) × IfSome (offer_of cx v).socket.offered (λ o. LeavesFrom cx from o.header)
 MayFrom places h side p q (Gives place cx v answer v' sent) = (socket_at p place ≡ Some (Udp v)) × Udps.Offers cx v answer v'
 MayFrom places h side p q (Takes place cx v ip header bytes) =
-    (socket_at p place ≡ Some (Tcp v)) × (accepts v.block ip header ≡ true) × MayCome q.segments (source_of ip) (destination_of ip) header bytes
+    (socket_at p place ≡ Some (Tcp v)) × (accepts v.block ip header ≡ true) × IsSeenAmong q.segments header bytes
 MayFrom places h side p q (Receives place cx v ip udp bytes) =
     (socket_at p place ≡ Some (Udp v)) × (Udps.accepts cx v ip udp ≡ true) ×
     WasMade q (record { source = udp.src_port; destination = udp.dst_port; bytes = bytes })

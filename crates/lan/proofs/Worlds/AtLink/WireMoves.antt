@@ -4,12 +4,12 @@ use Rattle.std.proofs.Common.{subst}
 use Rattle.ip_wire.specs.Ip.{source_of, destination_of}
 use Rattle.ip_wire.specs.IpAddress.{IpAddress}
 use Rattle.ip_wire.specs.IpRepr.{IpRepr}
-use Rattle.ip_wire.specs.Tcp.{normal}
 use Rattle.ip_wire.specs.TcpHeader.{TcpHeader}
 use Rattle.sockets.specs.Context.{ContextValue}
 use Rattle.sockets.specs.Polling.{Offered}
 use Rattle.tcp_tie.specs.Endpoints.{HasPorts, KeepsOrForgets, IsLeftBy, IsRenamed}
-use Rattle.tcp_tie.specs.Host.{Made, made_of, made_by, past_at, MayCome, and_answer, and_offer}
+use Rattle.tcp_tie.specs.Segment.{Segment}
+use Rattle.tcp_tie.specs.Host.{Made, made_of, made_by, past_at, IsSeenAmong, and_answer, and_offer}
 use Rattle.tcp_tie.specs.Promises.{KeepsAlone}
 use Rattle.tcp_tie.specs.Tie.{Core, core_of, Past, Keeps}
 use Rattle.tcp_tie.proofs.AloneLaws.{stays_alone, reset_comes}
@@ -71,15 +71,22 @@ pub pair_left : (old new : Block) (pair : EndpointPair) → IsLeftBy old new →
 pair_left old new pair (inl falls) e = absurd (let none : None ≡ Some pair = sym (ap (λ (n : Names). n.pair) falls.names) ∙ e in cc)
 pair_left old new pair (inr kept) e = pair_kept old new pair kept e
 
--- a segment that comes is sent as it was made
-pub read_ok : (h : List Entry) (side : Side) (from to : IpAddress) (header written : TcpHeader) (bytes : List ℕ) → header ≡ normal written →
-    SegmentOk h side (made_of from to written bytes) → SegmentOk h side (made_of from to header bytes)
-read_ok h side from to header written bytes read ok =
-    subst (λ (x : TcpHeader). SegmentOk h side (made_of from to x bytes)) (sym read) (by ok)
+-- a segment that is seen as one that was sent was sent
+pub seen_ok : (h : List Entry) (side : Side) (made : List Made) (from to : IpAddress) (header : TcpHeader) (bytes : List ℕ) → IsSeenAmong made header bytes →
+    Each (SegmentOk h side) made → SegmentOk h side (made_of from to header bytes)
+seen_ok h side made from to header bytes came all =
+    by (each_get (SegmentOk h side) made came.among.0 came.segment all came.among.1)
   where
-    by : SegmentOk h side (made_of from to written bytes) → SegmentOk h side (made_of from to (normal written) bytes)
-    by (inl rst) = inl rst
-    by (inr s) = inr (record { place = s.place; by = s.by; opened = s.opened; from = s.from; to = s.to })
+    by : SegmentOk h side came.segment → SegmentOk h side (made_of from to header bytes)
+    by (inl rst) = inl (ap (λ (s : Segment). s.control) (sym came.seen) ∙ rst)
+    by (inr s) =
+        inr (record {
+          place = s.place;
+          by = s.by;
+          opened = s.opened;
+          from = s.from ∙ came.source;
+          to = subst (SpeaksWith h side s.by) came.destination s.to;
+        })
 
 module _
     (places : Places) (h : List Entry) (side : Side) (p q : Party) (at : ℕ) (v : TcpValue) (allowed : AreAllowed places h)
@@ -199,7 +206,7 @@ module _
 
   module _
       (cx : ContextValue) (ip : IpRepr) (header : TcpHeader) (bytes : List ℕ) (accepted : accepts v.block ip header ≡ true)
-      (among : MayCome q.segments (source_of ip) (destination_of ip) header bytes) (theirs : Each (SegmentOk h (other side)) q.segments) where
+      (among : IsSeenAmong q.segments header bytes) (theirs : Each (SegmentOk h (other side)) q.segments) where
     abbrev new : TcpValue
     new = (arrives cx v ip header bytes).socket
 
@@ -207,9 +214,7 @@ module _
     made_after = and_answer p.segments (arrives cx v ip header bytes).answer
 
     sent_ok : SegmentOk h (other side) (come ip header bytes)
-    sent_ok =
-        read_ok h (other side) (source_of ip) (destination_of ip) header among.written bytes among.read
-        (each_get (SegmentOk h (other side)) q.segments among.among.0 (come ip among.written bytes) theirs among.among.1)
+    sent_ok = seen_ok h (other side) q.segments (source_of ip) (destination_of ip) header bytes among theirs
 
     module _ (o : Opening) (opened : opening h side at ≡ Some o) where
       speaks : (header.dst_port ≡ o.local) × SpeaksWith h side o header.src_port

@@ -17,7 +17,8 @@ use Rattle.interface.specs.UdpRepr.{UdpRepr}
 use Rattle.sockets.specs.Context.{ContextValue}
 use Rattle.sockets.specs.Packet.{PacketValue}
 use Rattle.sockets.specs.Udp as Udps
-use Rattle.tcp_tie.specs.Host.{Made, made_by, MayCome, and_answer}
+use Rattle.tcp_tie.specs.Host.{Made, made_by, MayCome, IsSeenAmong, and_answer}
+use Rattle.tcp_tie.proofs.HostLaws.{comes_as_made}
 use Rattle.tcp_model.specs.Controls.{is_rst}
 use Rattle.tcp_model.specs.Arrival.{arrives}
 use Rattle.tcp_model.specs.Segments.{rst_reply}
@@ -198,6 +199,9 @@ module _ (names : List ℕ → Bool) (side : Side) (net now : Net) (r : Reaches 
     Taken at place = Ends (sockets_of (slice_set places at (with_change (with_segment cx ip header bytes) place)))
         (answer_in (answer_of cx ip header bytes) place.inner)
 
+    came : IsSeenAmong (party now (other side)).segments header bytes
+    came = comes_as_made (party now (other side)).segments (source_of ip) (destination_of ip) header bytes made
+
     grown : (v : Party) (a : Option Reply) → v.segments ≡ and_answer (party now side).segments a → v.datagrams ≡ (party now side).datagrams →
         Grows (party now side) v
     grown v None s d = grows_to (party now side) v s d
@@ -208,7 +212,7 @@ module _ (names : List ℕ → Bool) (side : Side) (net now : Net) (r : Reaches 
         Taken at (record { inner = Some (record item { socket = s }) })
     socket_takes at item (Is.Tcp v) here accepts = record {
       moved =
-          moves_by names side net now r move _ (found at (record item { socket = Is.Tcp v }) here, accepts, made) refl
+          moves_by names side net now r move _ (found at (record item { socket = Is.Tcp v }) here, accepts, came) refl
           (set_there at (with_change (with_segment cx ip header bytes) (record { inner = Some (record item { socket = Is.Tcp v }) })))
           (grown (Moves.party_after (party now side) move) (arrives cx v ip header bytes).answer refl refl);
       made = there now side move (λ (y : Party). IfSome (packet_by (arrives cx v ip header bytes).answer) (IsMade y))

@@ -12,7 +12,7 @@ use Rattle.sockets.specs.SocketValue as Datagrams
 use Rattle.sockets.specs.Udp as Udps
 use Rattle.sockets.specs.Udp.{UdpValue}
 use Rattle.tcp_tie.specs.Segment.Control.{Rst}
-use Rattle.tcp_tie.specs.Host.{Made, seen_of, MayCome, and_answer, and_offer}
+use Rattle.tcp_tie.specs.Host.{Made, seen_of, IsSeenAmong, and_answer, and_offer}
 use Rattle.tcp_tie.specs.Tie.{core_of}
 use Rattle.tcp_model.specs.Arrival.{arrives}
 use Rattle.tcp_model.specs.Names.{accepts}
@@ -31,7 +31,7 @@ use Rattle.lan.specs.Worlds.AtLink.Call as Call
 use Rattle.lan.specs.Worlds.AtLink.History.{Entry}
 use Rattle.lan.specs.Worlds.AtLink.Tables.{IsAllowed}
 use Rattle.lan.specs.Worlds.AtLink.Calls.{Did, tcp_does, udp_does}
-use Rattle.lan.specs.Worlds.AtLink.Parties.{Socket, Datagram, Party, socket_at, WasMade, datagrams_of, Net, party, with_party, places_of}
+use Rattle.lan.specs.Worlds.AtLink.Parties.{Socket, Party, socket_at, WasMade, datagrams_of, Net, party, with_party, places_of}
 use Rattle.lan.specs.Worlds.AtLink.Parties.Socket.{Tcp, Udp, Icmp, Raw}
 
 -- A move of a host, which names the socket at the place as it is, and of a call what it is afterwards.
@@ -44,7 +44,7 @@ pub data Move : Type 0 where
   Offers : (place : ℕ) (cx : ContextValue) (v : TcpValue) (from : IpAddress) (sent : Bool) → Move
   -- a UDP socket is asked for a datagram, and the offer is settled
   Gives : (place : ℕ) (cx : ContextValue) (v : UdpValue) (answer : Answers.Offer) (v' : UdpValue) (sent : Bool) → Move
-  -- a TCP segment that the other host made, between these addresses and with this header and these bytes, comes to a socket that accepts it
+  -- a TCP segment that is seen as one that the other host made comes to a socket that accepts it
   Takes : (place : ℕ) (cx : ContextValue) (v : TcpValue) (ip : IpRepr) (header : TcpHeader) (bytes : List ℕ) → Move
   -- a UDP datagram that the other host made comes to a socket that accepts it
   Receives : (place : ℕ) (cx : ContextValue) (v : UdpValue) (ip : IpRepr) (udp : UdpRepr) (bytes : List ℕ) → Move
@@ -134,7 +134,7 @@ May names net side (Offers place cx v from sent) =
 May names net side (Gives place cx v answer v' sent) = (socket_at (party net side) place ≡ Some (Udp v)) × Udps.Offers cx v answer v'
 May names net side (Takes place cx v ip header bytes) =
     (socket_at (party net side) place ≡ Some (Tcp v)) × (accepts v.block ip header ≡ true)
-    × MayCome (party net (other side)).segments (source_of ip) (destination_of ip) header bytes
+    × IsSeenAmong (party net (other side)).segments header bytes
 May names net side (Receives place cx v ip udp bytes) =
     (socket_at (party net side) place ≡ Some (Udp v)) × (Udps.accepts cx v ip udp ≡ true)
     × WasMade (party net (other side)) (record { source = udp.src_port; destination = udp.dst_port; bytes = bytes })

@@ -8,7 +8,7 @@ use Rattle.ip_wire.specs.Tcp.{normal}
 use Rattle.sockets.specs.Context.{ContextValue}
 use Rattle.tcp_tie.specs.Side as Law
 use Rattle.tcp_tie.specs.Side.Opening.{NotYet, Passive, Active}
-use Rattle.tcp_tie.specs.Host.{Made, made_of, source_port}
+use Rattle.tcp_tie.specs.Host.{Made, made_of, source_port, MayCome}
 use Rattle.tcp_tie.specs.Pair.History.{pasts}
 use Rattle.tcp_tie.specs.Pair.Sides.{at}
 use Rattle.tcp_tie.specs.Pair.Steps.{Steps}
@@ -23,7 +23,7 @@ use Rattle.tcp_model.specs.Value.{new_socket}
 use Rattle.lan.specs.declared.at_link.history.event.Side.{Side}
 use Rattle.lan.specs.declared.at_link.history.event.Side.TheVariants.{A, B}
 use Rattle.lan.specs.declared.at_link.history.record.Opening.{Opening}
-use Rattle.lan.specs.Worlds.AtLink.Kinds.{same_side}
+use Rattle.lan.specs.Worlds.AtLink.Kinds.{other, same_side}
 use Rattle.lan.specs.Worlds.AtLink.History.{Entry, opening, written, read, is_closed_by}
 use Rattle.lan.specs.Worlds.AtLink.Parties.{Net, party, socket_at}
 use Rattle.lan.specs.Worlds.AtLink.Parties.Socket.{Tcp}
@@ -77,18 +77,20 @@ clocks_in seats clocks (step ∷ steps) = clocks_in seats (clocks_after seats cl
 
 -- A PLAIN RUN
 
--- An offer leaves from its own address, and no host makes a reset itself, for a segment that no socket of it accepts.
-abbrev pub IsPlain : Move → Type 0
-IsPlain (Offers at cx v from sent) = IfSome (offer_of cx v).socket.offered (λ o. from ≡ source_of o.header)
-IsPlain (Resets x) = ⊥
-IsPlain (Changes at old new) = ⊥
-IsPlain move = Unit {0}
+-- An offer leaves from its own address, a segment comes whole, as it was made, and no host makes a reset itself, for a segment that no socket of it
+-- accepts.
+abbrev pub IsPlain : Net → Side → Move → Type 0
+IsPlain net side (Offers at cx v from sent) = IfSome (offer_of cx v).socket.offered (λ o. from ≡ source_of o.header)
+IsPlain net side (Takes at cx v ip header bytes) = MayCome (party net (other side)).segments (source_of ip) (destination_of ip) header bytes
+IsPlain net side (Resets x) = ⊥
+IsPlain net side (Changes at old new) = ⊥
+IsPlain net side move = Unit {0}
 
 -- each move is plain, and shows the two sockets their hosts, whose clocks never go back
 abbrev pub AreHosted : (Side → Seat) → (Side → ℤ) → Net → List Step → Type 0
 AreHosted seats clocks net [] = Unit {0}
 AreHosted seats clocks net (step ∷ steps) =
-    IsPlain step.move
+    IsPlain net step.side step.move
     × IsShown (seats step.side) (clocks step.side) (shown_to (seats step.side).place step.move)
     × AreHosted seats (clocks_after seats clocks step) (after net step) steps
 

@@ -8,7 +8,7 @@ use Rattle.ip_wire.specs.IpRepr.{IpRepr}
 use Rattle.ip_wire.specs.TcpHeader.{TcpHeader}
 use Rattle.sockets.specs.Context.{ContextValue}
 use Rattle.sockets.specs.Polling.{Offered}
-use Rattle.tcp_tie.specs.Host.{Made, made_of, source_port, MayCome, and_answer, and_offer}
+use Rattle.tcp_tie.specs.Host.{Made, made_of, source_port, IsSeenAmong, and_answer, and_offer}
 use Rattle.tcp_tie.specs.Pair.Sides.{at}
 use Rattle.tcp_tie.specs.Pair.Values.{PairValue}
 use Rattle.tcp_tie.specs.declared.pair.event.SentSegment.{SentSegment}
@@ -36,9 +36,8 @@ use Rattle.lan.proofs.Worlds.AtLink.HostSteps.{Stay}
 use Rattle.lan.proofs.Worlds.AtLink.Kept.{KeptFrom}
 use Rattle.lan.proofs.Worlds.AtLink.PartnerLemmas.{AreApart, opened_apart}
 use Rattle.lan.proofs.Worlds.AtLink.Speaking.{accepted_speaks}
-use Rattle.lan.proofs.Worlds.AtLink.StreamInvariant.{TcpOk, SegmentOk, SpeaksWith}
-use Rattle.lan.proofs.Worlds.AtLink.Lists.{each_get}
-use Rattle.lan.proofs.Worlds.AtLink.WireMoves.{read_ok}
+use Rattle.lan.proofs.Worlds.AtLink.StreamInvariant.{TcpOk, SpeaksWith}
+use Rattle.lan.proofs.Worlds.AtLink.WireMoves.{seen_ok}
 use Rattle.lan.proofs.Worlds.AtLink.Paired.Parts.{from_apart}
 use Rattle.lan.proofs.Worlds.AtLink.Paired.Shown.{shows_still}
 
@@ -157,7 +156,7 @@ module _ (starts : Side → ℕ → ℕ) (places : Places) (h : List Entry) (sid
         )
 
   module _ (cx : ContextValue) (ip : IpRepr) (header : TcpHeader) (bytes : List ℕ) (accepted : accepts v.block ip header ≡ true)
-      (comes : MayCome q.segments (source_of ip) (destination_of ip) header bytes) where
+      (comes : IsSeenAmong q.segments header bytes) where
     -- a socket that accepts was opened
     pub accepting_opened : opening h side place ≡ None → ⊥
     accepting_opened none =
@@ -168,9 +167,7 @@ module _ (starts : Side → ℕ → ℕ) (places : Places) (h : List Entry) (sid
     pub spoken : (o : Opening) → opening h side place ≡ Some o → (header.dst_port ≡ o.local) × SpeaksWith h side o header.src_port
     spoken o opened =
         accepted_speaks h side place o opened places k.allowed p.segments v ip header bytes ok (accepted_for v.block ip header accepted)
-        (read_ok h (other side) (source_of ip) (destination_of ip) header comes.written bytes comes.read
-        (each_get (SegmentOk h (other side)) q.segments comes.among.0 (made_of (source_of ip) (destination_of ip) comes.written bytes) k.theirs.streams.made
-        comes.among.1))
+        (seen_ok h (other side) q.segments (source_of ip) (destination_of ip) header bytes comes k.theirs.streams.made)
 
     pub answer_port : (o : Opening) (reply : Reply) → opening h side place ≡ Some o → (arrives cx v ip header bytes).answer ≡ Some reply →
         reply.segment.src_port ≡ o.local

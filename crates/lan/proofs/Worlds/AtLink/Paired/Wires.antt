@@ -11,7 +11,8 @@ use Rattle.ip_wire.specs.IpAddress.{IpAddress}
 use Rattle.ip_wire.specs.IpRepr.{IpRepr}
 use Rattle.ip_wire.specs.TcpHeader.{TcpHeader}
 use Rattle.sockets.specs.Context.{ContextValue}
-use Rattle.tcp_tie.specs.Host.{Made, made_of, MayCome, and_answer, and_offer}
+use Rattle.tcp_tie.specs.Host.{Made, made_of, MayCome, IsSeenAmong, and_answer, and_offer}
+use Rattle.tcp_tie.proofs.HostLaws.{comes_as_made}
 use Rattle.tcp_tie.specs.Pair.History.{pasts}
 use Rattle.tcp_tie.specs.Pair.Sides.{at}
 use Rattle.tcp_tie.specs.Pair.Sides as Sides
@@ -192,6 +193,9 @@ module _ (starts : Side → ℕ → ℕ) (places : Places) (seats : Side → Sea
     abbrev theirs : PairSide
     theirs = at p.sides (side_in (other side))
 
+    seen : IsSeenAmong (party net (other side)).segments header bytes
+    seen = comes_as_made (party net (other side)).segments (source_of ip) (destination_of ip) header bytes comes
+
     abbrev x : Made
     x = made_of (source_of ip) (destination_of ip) comes.written bytes
 
@@ -211,7 +215,7 @@ module _ (starts : Side → ℕ → ℕ) (places : Places) (seats : Side → Sea
         (stay (other side) of_x.place of_x.by of_x.opened) partners.partner_opened)
       where
         says : (header.dst_port ≡ o.local) × SpeaksWith net.history side o header.src_port
-        says = spoken starts places net.history side (party net side) (party net (other side)) k here v is cx ip header bytes accepted comes o opened
+        says = spoken starts places net.history side (party net side) (party net (other side)) k here v is cx ip header bytes accepted seen o opened
 
         port : partners.another.local ≡ header.src_port
         port =
@@ -299,7 +303,7 @@ module _ (starts : Side → ℕ → ℕ) (places : Places) (seats : Side → Sea
       answered None e = subst (λ oo. HasSent oo (party net side).segments own.sent) opened (sh.sent side)
       answered (Some reply) e =
           sent_more o (party net side).segments own.sent (record { header = reply.header; segment = reply.segment; bytes = [] })
-          (answer_port starts places net.history side (party net side) (party net (other side)) k here v is cx ip header bytes accepted comes o reply opened e)
+          (answer_port starts places net.history side (party net side) (party net (other side)) k here v is cx ip header bytes accepted seen o reply opened e)
           (subst (λ oo. HasSent oo (party net side).segments own.sent) opened (sh.sent side))
 
       pub comes_shows : Shows seats clocks' net' (happens p comes_event).pair
@@ -318,7 +322,7 @@ module _ (starts : Side → ℕ → ℕ) (places : Places) (seats : Side → Sea
             made = subst (λ (h : List Entry). AllByRecursion (IsOfSocket h side) (party net' side).segments) (sym history)
                 (subst (λ (q : Party). AllByRecursion (IsOfSocket net.history side) q.segments) (sym mine)
                 (more_of_socket net.history side here (party net side).segments (and_answer (party net side).segments arrived.answer)
-                (answers_more starts places net.history side (party net side) (party net (other side)) k here v is cx ip header bytes accepted comes)
+                (answers_more starts places net.history side (party net side) (party net (other side)) k here v is cx ip header bytes accepted seen)
                 (sh.made side)));
           })
 
@@ -327,5 +331,5 @@ module _ (starts : Side → ℕ → ℕ) (places : Places) (seats : Side → Sea
     was_opened = by (opening net.history side here) refl where
       by : (oo : Option Opening) → opening net.history side here ≡ oo → (o : Opening) × (opening net.history side here ≡ Some o)
       by None none =
-          absurd (accepting_opened starts places net.history side (party net side) (party net (other side)) k here v is cx ip header bytes accepted comes none)
+          absurd (accepting_opened starts places net.history side (party net side) (party net (other side)) k here v is cx ip header bytes accepted seen none)
       by (Some o) opened = (o, opened)
