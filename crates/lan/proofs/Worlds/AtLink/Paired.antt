@@ -2,6 +2,7 @@ pub mod Parts
 pub mod Shown
 pub mod Elsewhere
 pub mod Wires
+pub mod Words
 pub mod Pasts
 pub mod Calls
 pub mod Runs

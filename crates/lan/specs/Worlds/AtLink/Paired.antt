@@ -34,11 +34,10 @@ abbrev pub side_in : Side → Pairs.Side
 side_in A = Of.A
 side_in B = Of.B
 
--- the place of a socket at its host, and the host as the socket is shown it: but for the moment, it stays as it is
+-- the place of a socket at its host, and the host as the socket is shown it: but for the moment and the random words, it stays as it is
 pub record Seat : Type 0 where
   pub place : ℕ
   pub host : HostContext
-  pub random : ℕ
 
 -- WHAT A MOVE SHOWS OF ITS HOST
 
@@ -54,7 +53,7 @@ shown_to place move = None
 
 -- this host, at a moment that isn't before the last one
 pub record IsOf (seat : Seat) (clock : ℤ) (cx : ContextValue) : Type 0 where
-  pub host : cx ≡ context_on seat.host cx.moment seat.random
+  pub host : cx ≡ context_on seat.host cx.moment cx.random
   pub moment : IsMoment cx.moment
   pub later : clock ≤ℤ cx.moment
 
@@ -77,20 +76,21 @@ clocks_in seats clocks (step ∷ steps) = clocks_in seats (clocks_after seats cl
 
 -- A PLAIN RUN
 
--- An offer leaves from its own address, a segment comes whole, as it was made, and no host makes a reset itself, for a segment that no socket of it
--- accepts.
-abbrev pub IsPlain : Net → Side → Move → Type 0
-IsPlain net side (Offers at cx v from sent) = IfSome (offer_of cx v).socket.offered (λ o. from ≡ source_of o.header)
-IsPlain net side (Takes at cx v ip header bytes) = MayCome (party net (other side)).segments (source_of ip) (destination_of ip) header bytes
-IsPlain net side (Resets x) = ⊥
-IsPlain net side (Changes at old new) = ⊥
-IsPlain net side move = Unit {0}
+-- An offer of the socket at this place leaves from its own address, a segment comes to it whole, as it was made, and no host makes a reset itself,
+-- for a segment that no socket of it accepts.
+abbrev pub IsPlain : ℕ → Net → Side → Move → Type 0
+IsPlain place net side (Offers at cx v from sent) = at ≡ place → IfSome (offer_of cx v).socket.offered (λ o. from ≡ source_of o.header)
+IsPlain place net side (Takes at cx v ip header bytes) =
+    at ≡ place → MayCome (party net (other side)).segments (source_of ip) (destination_of ip) header bytes
+IsPlain place net side (Resets x) = ⊥
+IsPlain place net side (Changes at old new) = ⊥
+IsPlain place net side move = Unit {0}
 
 -- each move is plain, and shows the two sockets their hosts, whose clocks never go back
 abbrev pub AreHosted : (Side → Seat) → (Side → ℤ) → Net → List Step → Type 0
 AreHosted seats clocks net [] = Unit {0}
 AreHosted seats clocks net (step ∷ steps) =
-    IsPlain net step.side step.move
+    IsPlain (seats step.side).place net step.side step.move
     × IsShown (seats step.side) (clocks step.side) (shown_to (seats step.side).place step.move)
     × AreHosted seats (clocks_after seats clocks step) (after net step) steps
 
@@ -135,7 +135,6 @@ pub record IsOfSocket (h : List Entry) (side : Side) (x : Made) : Type 0 where
 pub record Shows (seats : Side → Seat) (clocks : Side → ℤ) (net : Net) (p : PairValue) : Type 0 where
   pub socket : (side : Side) → socket_at (party net side) (seats side).place ≡ Some (Tcp (at p.sides (side_in side)).socket)
   pub host : (side : Side) → (at p.sides (side_in side)).host ≡ (seats side).host
-  pub random : (side : Side) → (at p.sides (side_in side)).random ≡ (seats side).random
   pub clock : (side : Side) → (at p.sides (side_in side)).moment ≡ clocks side
   pub past : (side : Side) → at (pasts p.history) (side_in side) ≡ told net.history side (seats side).place
   pub sent : (side : Side) → HasSent (opening net.history side (seats side).place) (party net side).segments (at p.sides (side_in side)).sent
@@ -166,7 +165,7 @@ abbrev pub at_zero : Side → ℤ
 at_zero side = pos 0
 
 abbrev pub side_begun : Seat → NewSocket → PairSide
-side_begun seat new = new_side seat.host seat.random (new_socket new.room new.ring)
+side_begun seat new = new_side seat.host 0 (new_socket new.room new.ring)
 
 -- the pair of two such sockets
 abbrev pub begun : (Side → Seat) → (Side → NewSocket) → PairValue

@@ -27,10 +27,6 @@ module _ (starts : Side → ℕ → ℕ) (net : Net) (seats : Side → Seat) (ne
   host A = refl
   host B = refl
 
-  random : (side : Side) → (at (begun seats news).sides (side_in side)).random ≡ (seats side).random
-  random A = refl
-  random B = refl
-
   clock : (side : Side) → (at (begun seats news).sides (side_in side)).moment ≡ at_zero side
   clock A = refl
   clock B = refl
@@ -50,4 +46,4 @@ module _ (starts : Side → ℕ → ℕ) (net : Net) (seats : Side → Seat) (ne
   made side = subst (AllByRecursion (IsOfSocket net.history side)) (sym (none_made side)) tt
 
   pub begins : Shows seats at_zero net (begun seats news)
-  begins = record { socket = socket; host = host; random = random; clock = clock; past = past; sent = sent; made = made }
+  begins = record { socket = socket; host = host; clock = clock; past = past; sent = sent; made = made }

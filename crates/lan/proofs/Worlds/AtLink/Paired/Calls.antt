@@ -50,6 +50,7 @@ use Rattle.lan.proofs.Worlds.AtLink.Paired.Elsewhere.{of_socket_stays}
 use Rattle.lan.proofs.Worlds.AtLink.Paired.Pasts.{close_told, connect_told, listen_told, plain, recv_says, recv_told, send_told, setting_in, setting_same}
 use Rattle.lan.proofs.Worlds.AtLink.Paired.Shown.{Far, Near, shows_event, shows_still}
 use Rattle.lan.proofs.Worlds.AtLink.Paired.Wires.{socket_set}
+use Rattle.lan.proofs.Worlds.AtLink.Paired.Words.{connects_same}
 
 -- what a read leaves of a side
 read_side : (s : PairSide) (r : Result ℕ RecvError) → (reads s r).side ≡ record s { socket = read_by s.socket r }
@@ -143,12 +144,11 @@ module _ (starts : Side → ℕ → ℕ) (places : Places) (seats : Side → Sea
         told_after places h e side (party net side) (party net (other side)) here v call kind allowed is k.mine.streams k.theirs.streams k.pairs answer found
         answered found_is
 
-    near : (s : PairSide) (past : Past) → s.socket ≡ new → s.host ≡ own.host → s.random ≡ own.random → s.moment ≡ own.moment → s.sent ≡ own.sent →
+    near : (s : PairSide) (past : Past) → s.socket ≡ new → s.host ≡ own.host → s.moment ≡ own.moment → s.sent ≡ own.sent →
         past ≡ told (e ∷ h) side here → Near seats net net' side clocks clocks s past
-    near s past socket host random moment sent is_past = record {
+    near s past socket host moment sent is_past = record {
       socket = ap (λ (q : Party). socket_at q here) mine ∙ socket_set (party net side) here (Tcp v) (Tcp new) is ∙ ap (λ (w : TcpValue). Some (Tcp w)) (sym socket);
       host = host ∙ sh.host side;
-      random = random ∙ sh.random side;
       clock = moment ∙ sh.clock side;
       is_past = is_past ∙ ap (λ (x : List Entry). told x side here) (sym history);
       sent = subst (HasSent (opening net'.history side here) (party net' side).segments) (sym sent) sent_now;
@@ -157,16 +157,16 @@ module _ (starts : Side → ℕ → ℕ) (places : Places) (seats : Side → Sea
 
     -- an event of the side, and what it makes of it
     by_event : (ev : PairEvent) → side_of ev ≡ side_in side → refusal p ev ≡ None → (s : PairSide) → (acting p ev).side ≡ s → s.socket ≡ new → s.host ≡ own.host
-        → s.random ≡ own.random → s.moment ≡ own.moment → s.sent ≡ own.sent
+        → s.moment ≡ own.moment → s.sent ≡ own.sent
         → adds ev (acting p ev).answer (at p.sides (side_of ev)).socket.block.state (at (pasts p.history) (side_of ev)) ≡ told (e ∷ h) side here
         → GoesOn seats clocks net' p
-    by_event ev of allowed_now s s_is socket host random moment sent is_past = record {
+    by_event ev of allowed_now s s_is socket host moment sent is_past = record {
       events = ev ∷ [];
       next = (happens p ev).pair;
       steps = (allowed_now, refl);
       shows = shows_event seats net net' side clocks clocks p sh far ev of
           (near (acting p ev).side (adds ev (acting p ev).answer (at p.sides (side_of ev)).socket.block.state (at (pasts p.history) (side_of ev)))
-          (ap (λ (x : PairSide). x.socket) s_is ∙ socket) (ap (λ (x : PairSide). x.host) s_is ∙ host) (ap (λ (x : PairSide). x.random) s_is ∙ random)
+          (ap (λ (x : PairSide). x.socket) s_is ∙ socket) (ap (λ (x : PairSide). x.host) s_is ∙ host)
           (ap (λ (x : PairSide). x.moment) s_is ∙ moment) (ap (λ (x : PairSide). x.sent) s_is ∙ sent) is_past);
     }
 
@@ -176,7 +176,7 @@ module _ (starts : Side → ℕ → ℕ) (places : Places) (seats : Side → Sea
       next = p;
       steps = refl;
       shows = shows_still seats net net' side clocks clocks p sh far
-          (near own (at (pasts p.history) (side_in side)) (socket_is ∙ sym same) refl refl refl refl (sh.past side ∙ sym past));
+          (near own (at (pasts p.history) (side_in side)) (socket_is ∙ sym same) refl refl refl (sh.past side ∙ sym past));
     }
 
   taken : (call : SocketCall) → kind_of e.event ≡ calls side here call → WasTaken places h side here call
@@ -195,15 +195,25 @@ module _ (starts : Side → ℕ → ℕ) (places : Places) (seats : Side → Sea
       let w = taken (Call.Listen port) kind in
       let may = may_open places h side here (record { local = port; remote = None }) w.place w.own in
       by_event (Call.Listen port) kind (Ev.Listen (side_in side) (at_port port)) refl (not_opened may.first)
-      (record own { socket = listen_after own.socket (at_port port) }) refl (ap (λ (x : TcpValue). listen_after x (at_port port)) socket_is ∙ sym becomes) refl refl refl refl
+      (record own { socket = listen_after own.socket (at_port port) }) refl (ap (λ (x : TcpValue). listen_after x (at_port port)) socket_is ∙ sym becomes) refl refl refl
       ((λ i. listen_adds (listen_says (listen_answer (socket_is i) (at_port port))) (sh.past side i))
       ∙ listen_told h side here port (listen_answer v (at_port port)) may.first
       ∙ sym (told_is (Call.Listen port) kind (done_or listen_fault (listen_answer v (at_port port))) None answered found))
 
   module _ (cx : ContextValue) (key : List ℕ) (keyed : (seats side).host.isn_key ≡ Some key)
-      (of : cx ≡ context_on (seats side).host cx.moment (seats side).random) (now : own.moment ≡ cx.moment) where
-    context_is : context_at (side_in side) own ≡ cx
-    context_is = (λ i. context_on (sh.host side i) (now i) (sh.random side i)) ∙ sym of
+      (of : cx ≡ context_on (seats side).host cx.moment cx.random) (now : own.moment ≡ cx.moment) where
+    connects_so : (remote : IpEndpoint) (port : ℕ) →
+        connect_after (context_at (side_in side) own) own.socket remote (at_port port) ≡ connect_after cx v remote (at_port port)
+    connects_so remote port =
+        (λ i. connect_after (context_on (sh.host side i) (now i) own.random) (socket_is i) remote (at_port port))
+        ∙ connects_same (seats side).host key cx.moment own.random cx.random v remote port keyed
+        ∙ ap (λ (c : ContextValue). connect_after c v remote (at_port port)) (sym of)
+
+    answers_so : (remote : IpEndpoint) (port : ℕ) →
+        connect_answer (context_at (side_in side) own) own.socket remote (at_port port) ≡ connect_answer cx v remote (at_port port)
+    answers_so remote port =
+        (λ i. connect_answer (context_on (sh.host side i) (now i) own.random) (socket_is i) remote (at_port port))
+        ∙ ap (λ (c : ContextValue). connect_answer c v remote (at_port port)) (sym of)
 
     key_is : (context_at (side_in side) own).isn_key ≡ Some key
     key_is = ap (λ (x : HostContext). x.isn_key) (sh.host side) ∙ keyed
@@ -220,8 +230,8 @@ module _ (starts : Side → ℕ → ℕ) (places : Places) (seats : Side → Sea
         by_event (Call.Connect remote port) kind (Ev.Connect (side_in side) remote (at_port port)) refl (not_opened may.first)
         (record own { socket = connect_after (context_at (side_in side) own) own.socket remote (at_port port) })
         (ap (λ (d : Bool). record (with_random d own) { socket = connect_after (context_at (side_in side) own) own.socket remote (at_port port) }) none_drawn)
-        ((λ i. connect_after (context_is i) (socket_is i) remote (at_port port)) ∙ sym becomes) refl refl refl refl
-        ((λ i. connect_adds (connect_says (connect_answer (context_is i) (socket_is i) remote (at_port port))) (sh.past side i))
+        (connects_so remote port ∙ sym becomes) refl refl refl
+        ((λ i. connect_adds (connect_says (answers_so remote port i)) (sh.past side i))
         ∙ connect_told h side here remote port (connect_answer cx v remote (at_port port)) may.first
         ∙ sym (told_is (Call.Connect remote port) kind (done_or connect_fault (connect_answer cx v remote (at_port port))) None answered found))
 
@@ -229,7 +239,7 @@ module _ (starts : Side → ℕ → ℕ) (places : Places) (seats : Side → Sea
       new ≡ send_after v bytes → GoesOn seats clocks net' p
   sends bytes kind answered found becomes =
       by_event (Call.Send bytes) kind (Ev.Send (side_in side) bytes) refl few (record own { socket = send_after own.socket bytes }) refl
-      (ap (λ (x : TcpValue). send_after x bytes) socket_is ∙ sym becomes) refl refl refl refl
+      (ap (λ (x : TcpValue). send_after x bytes) socket_is ∙ sym becomes) refl refl refl
       ((λ i. send_adds bytes (send_says (send_answer (socket_is i) (length bytes))) (sh.past side i))
       ∙ send_told h side here bytes (send_answer v (length bytes))
       ∙ sym (told_is (Call.Send bytes) kind (count_or write_fault (send_answer v (length bytes))) None answered found))
@@ -251,7 +261,7 @@ module _ (starts : Side → ℕ → ℕ) (places : Places) (seats : Side → Sea
   receives limit kind answered found becomes =
       by_event (Call.Recv limit) kind (Ev.Recv (side_in side) limit) refl refl
       (record own { socket = read_by own.socket (recv_answer own.socket limit) }) (read_side own (recv_answer own.socket limit))
-      (ap (λ (x : TcpValue). read_by x (recv_answer x limit)) socket_is ∙ sym becomes) refl refl refl refl
+      (ap (λ (x : TcpValue). read_by x (recv_answer x limit)) socket_is ∙ sym becomes) refl refl refl
       (ap (λ a. recv_adds a (at (pasts p.history) (side_in side))) (read_says own (recv_answer own.socket limit))
       ∙ (λ i. recv_adds (recv_says (socket_is i) (recv_answer (socket_is i) limit)) (sh.past side i))
       ∙ recv_told h side here v limit (recv_answer v limit)
@@ -259,22 +269,20 @@ module _ (starts : Side → ℕ → ℕ) (places : Places) (seats : Side → Sea
 
   closes_it : kind_of e.event ≡ calls side here Call.Close → e.answer ≡ To.Done → e.found ≡ Some v.block.state → new ≡ close_after v → GoesOn seats clocks net' p
   closes_it kind answered found becomes =
-      by_event Call.Close kind (Ev.Close (side_in side)) refl refl (record own { socket = close_after own.socket }) refl (ap close_after socket_is ∙ sym becomes) refl refl
-      refl refl
+      by_event Call.Close kind (Ev.Close (side_in side)) refl refl (record own { socket = close_after own.socket }) refl (ap close_after socket_is ∙ sym becomes) refl refl refl
       ((λ i. closed_by (closes_in (socket_is i).block.state) (sh.past side i)) ∙ close_told h side here v.block.state
       ∙ sym (told_is Call.Close kind To.Done (Some v.block.state) answered found))
 
   aborts : kind_of e.event ≡ calls side here Call.Abort → e.answer ≡ To.Done → e.found ≡ None → new ≡ abort_after v → GoesOn seats clocks net' p
   aborts kind answered found becomes =
-      by_event Call.Abort kind (Ev.Abort (side_in side)) refl refl (record own { socket = abort_after own.socket }) refl (ap abort_after socket_is ∙ sym becomes) refl refl
-      refl refl
+      by_event Call.Abort kind (Ev.Abort (side_in side)) refl refl (record own { socket = abort_after own.socket }) refl (ap abort_after socket_is ∙ sym becomes) refl refl refl
       (sh.past side ∙ sym (plain h side here Call.Abort To.Done None refl refl refl refl) ∙ sym (told_is Call.Abort kind To.Done None answered found))
 
   sets : (setting : TcpSetting) → kind_of e.event ≡ calls side here (Call.Set setting) → e.answer ≡ To.Done → e.found ≡ None → new ≡ setting_after v setting →
       GoesOn seats clocks net' p
   sets setting kind answered found becomes =
       by_event (Call.Set setting) kind (Ev.TcpSetting (side_in side) (setting_in setting)) refl refl (record own { socket = set_by (setting_in setting) own.socket }) refl
-      (ap (set_by (setting_in setting)) socket_is ∙ setting_same v setting ∙ sym becomes) refl refl refl refl
+      (ap (set_by (setting_in setting)) socket_is ∙ setting_same v setting ∙ sym becomes) refl refl refl
       (sh.past side ∙ sym (plain h side here (Call.Set setting) To.Done None refl refl refl refl)
       ∙ sym (told_is (Call.Set setting) kind To.Done None answered found))
 
@@ -283,7 +291,7 @@ module _ (starts : Side → ℕ → ℕ) (places : Places) (seats : Side → Sea
       still Call.State kind becomes
       (told_is Call.State kind (To.State v.block.state) None answered found ∙ plain h side here Call.State (To.State v.block.state) None refl refl refl refl)
 
-  pub called : (cx : ContextValue) (key : List ℕ) → (seats side).host.isn_key ≡ Some key → cx ≡ context_on (seats side).host cx.moment (seats side).random →
+  pub called : (cx : ContextValue) (key : List ℕ) → (seats side).host.isn_key ≡ Some key → cx ≡ context_on (seats side).host cx.moment cx.random →
       own.moment ≡ cx.moment → (call : SocketCall) → kind_of e.event ≡ calls side here call → DoneBy (tcp_does cx v call) e.answer e.found new → GoesOn seats clocks net' p
   called cx key keyed of now (Call.Listen port) kind done = listens port kind done.0 done.1 done.2
   called cx key keyed of now (Call.Connect remote port) kind done = connects cx key keyed of now remote port kind done.0 done.1 done.2

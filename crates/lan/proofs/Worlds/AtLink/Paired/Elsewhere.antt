@@ -112,7 +112,6 @@ module _ (seats : Side → Seat) (net net' : Net) (side : Side) (clocks clocks' 
       (record {
         socket = socket ∙ sh.socket side;
         host = sh.host side;
-        random = sh.random side;
         clock = sh.clock side ∙ sym clock;
         is_past = sh.past side ∙ sym past;
         sent = subst (λ o. HasSent o (party net' side).segments (at p.sides (side_in side)).sent) (sym opened) sent;

@@ -167,7 +167,7 @@ module _ (starts : Side → ℕ → ℕ) (places : Places) (seats : Side → Sea
   -- OFFERS
 
   offer_here : (cx : ContextValue) (v : TcpValue) (from : IpAddress) (sent : Bool) → MayFrom places h side P Q (Offers here cx v from sent)
-      → IsPlain net side (Offers here cx v from sent) → IsShown (seats side) (clocks side) (shown_to here (Offers here cx v from sent))
+      → IsPlain here net side (Offers here cx v from sent) → IsShown (seats side) (clocks side) (shown_to here (Offers here cx v from sent))
       → Goes (Offers here cx v from sent)
   offer_here cx v from sent may plain shown =
       let move : Move = Offers here cx v from sent in
@@ -177,12 +177,12 @@ module _ (starts : Side → ℕ → ℕ) (places : Places) (seats : Side → Sea
         next = _;
         steps = (
           offer_allowed starts places seats net (next move) side clocks (clocks' move) p k sh v may.0 (theirs net side move) (far_clock move) refl cx from sent
-              (is_of cx shown) now plain (mine net side move),
+              (is_of cx shown) now (plain refl) (mine net side move),
           refl,
         );
         shows =
             offer_shows starts places seats net (next move) side clocks (clocks' move) p k sh v may.0 (theirs net side move) (far_clock move) refl cx from sent
-            (is_of cx shown) now plain (mine net side move);
+            (is_of cx shown) now (plain refl) (mine net side move);
       }
 
   offer_there : (at : ℕ) (cx : ContextValue) (v : TcpValue) (from : IpAddress) (sent : Bool) → MayFrom places h side P Q (Offers at cx v from sent)
@@ -197,7 +197,7 @@ module _ (starts : Side → ℕ → ℕ) (places : Places) (seats : Side → Sea
   -- ARRIVALS
 
   arrival_here : (cx : ContextValue) (v : TcpValue) (ip : IpRepr) (header : TcpHeader) (bytes : List ℕ) → MayFrom places h side P Q (Takes here cx v ip header bytes)
-      → IsPlain net side (Takes here cx v ip header bytes) → IsShown (seats side) (clocks side) (shown_to here (Takes here cx v ip header bytes))
+      → IsPlain here net side (Takes here cx v ip header bytes) → IsShown (seats side) (clocks side) (shown_to here (Takes here cx v ip header bytes))
       → Goes (Takes here cx v ip header bytes)
   arrival_here cx v ip header bytes may plain shown =
       let move : Move = Takes here cx v ip header bytes in
@@ -206,7 +206,7 @@ module _ (starts : Side → ℕ → ℕ) (places : Places) (seats : Side → Sea
       let p1 : PairValue = (happens p (clock_event seats net side clocks (clocks' move) p sh cx of now (far_clock move))).pair in
       let sh1 : Shows seats (clocks' move) net p1 = clock_shows seats net side clocks (clocks' move) p sh cx of now (far_clock move) in
       let o = was_opened starts places seats net (next move) side (clocks' move) (clocks' move) p1 k sh1 v may.0 (theirs net side move) refl refl cx ip header bytes
-      (keys side).0 (keys side).1 of.host (sh1.clock side ∙ now) refl may.1 plain later stay all_allowed partners (mine net side move) in
+      (keys side).0 (keys side).1 of.host (sh1.clock side ∙ now) refl may.1 (plain refl) later stay all_allowed partners (mine net side move) in
       record {
         events = clock_event seats net side clocks (clocks' move) p sh cx of now (far_clock move) ∷ _ ∷ [];
         next = _;
@@ -214,13 +214,13 @@ module _ (starts : Side → ℕ → ℕ) (places : Places) (seats : Side → Sea
           clock_allowed seats net side clocks (clocks' move) p sh cx of now (far_clock move),
           (
             comes_allowed starts places seats net (next move) side (clocks' move) (clocks' move) p1 k sh1 v may.0 (theirs net side move) refl refl cx ip header bytes
-                (keys side).0 (keys side).1 of.host (sh1.clock side ∙ now) refl may.1 plain later stay all_allowed partners (mine net side move) o.0 o.1,
+                (keys side).0 (keys side).1 of.host (sh1.clock side ∙ now) refl may.1 (plain refl) later stay all_allowed partners (mine net side move) o.0 o.1,
             refl,
           ),
         );
         shows =
             comes_shows starts places seats net (next move) side (clocks' move) (clocks' move) p1 k sh1 v may.0 (theirs net side move) refl refl cx ip header bytes
-            (keys side).0 (keys side).1 of.host (sh1.clock side ∙ now) refl may.1 plain later stay all_allowed partners (mine net side move) o.0 o.1;
+            (keys side).0 (keys side).1 of.host (sh1.clock side ∙ now) refl may.1 (plain refl) later stay all_allowed partners (mine net side move) o.0 o.1;
       }
 
   arrival_there : (at : ℕ) (cx : ContextValue) (v : TcpValue) (ip : IpRepr) (header : TcpHeader) (bytes : List ℕ)
@@ -280,7 +280,7 @@ module _ (starts : Side → ℕ → ℕ) (places : Places) (seats : Side → Sea
     by (inl same) = subst X (sym same.1) own
     by (inr apart) = there apart.0 (λ same. apart.1 (sym same))
 
-  goes : (move : Move) → MayFrom places h side P Q move → IsPlain net side move → IsShown (seats side) (clocks side) (shown_to here move) → Goes move
+  goes : (move : Move) → MayFrom places h side P Q move → IsPlain here net side move → IsShown (seats side) (clocks side) (shown_to here move) → Goes move
   goes (Invokes at cx old entry call new) may plain shown =
       by_place at
       (λ i. MayFrom places h side P Q (Invokes i cx old entry call new) → IsShown (seats side) (clocks side) (shown_to here (Invokes i cx old entry call new)) →
@@ -289,17 +289,17 @@ module _ (starts : Side → ℕ → ℕ) (places : Places) (seats : Side → Sea
   goes (Passes entry) may plain shown = passes entry may
   goes (Offers at cx v from sent) may plain shown =
       by_place at
-      (λ i. MayFrom places h side P Q (Offers i cx v from sent) → IsShown (seats side) (clocks side) (shown_to here (Offers i cx v from sent)) →
-      Goes (Offers i cx v from sent))
-      (λ m s. offer_here cx v from sent m plain s) (λ off apart m s. offer_there at cx v from sent m off apart) may shown
+      (λ i. MayFrom places h side P Q (Offers i cx v from sent) → IsPlain here net side (Offers i cx v from sent)
+      → IsShown (seats side) (clocks side) (shown_to here (Offers i cx v from sent)) → Goes (Offers i cx v from sent))
+      (λ m own s. offer_here cx v from sent m own s) (λ off apart m own s. offer_there at cx v from sent m off apart) may plain shown
   goes (Gives at cx v answer v' sent) may plain shown =
       let apart = no_udp at (Udp v) (λ w e. absurd (cc)) may.0 in
       elsewhere (Gives at cx v answer v' sent) refl refl (socket_stays P here at _ apart) (sh.sent side) (sh.made side)
   goes (Takes at cx v ip header bytes) may plain shown =
       by_place at
-      (λ i. MayFrom places h side P Q (Takes i cx v ip header bytes) → IsShown (seats side) (clocks side) (shown_to here (Takes i cx v ip header bytes)) →
-      Goes (Takes i cx v ip header bytes))
-      (λ m s. arrival_here cx v ip header bytes m plain s) (λ off apart m s. arrival_there at cx v ip header bytes m off apart) may shown
+      (λ i. MayFrom places h side P Q (Takes i cx v ip header bytes) → IsPlain here net side (Takes i cx v ip header bytes)
+      → IsShown (seats side) (clocks side) (shown_to here (Takes i cx v ip header bytes)) → Goes (Takes i cx v ip header bytes))
+      (λ m own s. arrival_here cx v ip header bytes m own s) (λ off apart m own s. arrival_there at cx v ip header bytes m off apart) may plain shown
   goes (Receives at cx v ip udp bytes) may plain shown =
       let apart = no_udp at (Udp v) (λ w e. absurd (cc)) may.0 in
       elsewhere (Receives at cx v ip udp bytes) refl refl (socket_stays P here at _ apart) (sh.sent side) (sh.made side)

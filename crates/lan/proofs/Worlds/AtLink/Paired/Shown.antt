@@ -47,7 +47,6 @@ module _ (seats : Side → Seat) (net net' : Net) (side : Side) (clocks clocks' 
   pub record Near (s : PairSide) (past : Past) : Type 0 where
     pub socket : socket_at (party net' side) (seats side).place ≡ Some (Tcp s.socket)
     pub host : s.host ≡ (seats side).host
-    pub random : s.random ≡ (seats side).random
     pub clock : s.moment ≡ clocks' side
     pub is_past : past ≡ told net'.history side (seats side).place
     pub sent : HasSent (opening net'.history side (seats side).place) (party net' side).segments s.sent
@@ -75,8 +74,6 @@ module _ (seats : Side → Seat) (net net' : Net) (side : Side) (clocks clocks' 
           ap (λ (x : PairSide). Some (Tcp x.socket)) (sym far_side));
       host = either_side side (λ d. (at q.sides (side_in d)).host ≡ (seats d).host)
           (ap (λ (x : PairSide). x.host) near_side ∙ near.host) (ap (λ (x : PairSide). x.host) far_side ∙ sh.host (other side));
-      random = either_side side (λ d. (at q.sides (side_in d)).random ≡ (seats d).random)
-          (ap (λ (x : PairSide). x.random) near_side ∙ near.random) (ap (λ (x : PairSide). x.random) far_side ∙ sh.random (other side));
       clock = either_side side (λ d. (at q.sides (side_in d)).moment ≡ clocks' d)
           (ap (λ (x : PairSide). x.moment) near_side ∙ near.clock)
           (ap (λ (x : PairSide). x.moment) far_side ∙ sh.clock (other side) ∙ sym far.clock);
@@ -135,7 +132,6 @@ module _ (seats : Side → Seat) (net : Net) (side : Side) (clocks clocks' : Sid
       (record {
         socket = sh.socket side;
         host = sh.host side;
-        random = sh.random side;
         clock = sym now;
         is_past = sh.past side;
         sent = sh.sent side;

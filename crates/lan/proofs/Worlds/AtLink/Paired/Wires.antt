@@ -27,6 +27,7 @@ use Rattle.tcp_tie.specs.declared.pair.event.Side as Pairs
 use Rattle.tcp_tie.proofs.AddressLaws.{accepts_same, arrives_same, keyed_draws}
 use Rattle.tcp_model.specs.Arrival.{arrives}
 use Rattle.tcp_model.specs.Names.{accepts}
+use Rattle.tcp_control.specs.Offers.{Offered}
 use Rattle.tcp_model.specs.Offers.{offer_of, payload_of}
 use Rattle.tcp_model.specs.OpenOffer.{OpenOffer}
 use Rattle.tcp_model.specs.Reply.{Reply}
@@ -53,6 +54,7 @@ use Rattle.lan.proofs.Worlds.AtLink.Paired.Elsewhere.{accepting_opened, answer_p
 use Rattle.lan.proofs.Worlds.AtLink.Paired.Elsewhere.{unopened_silent}
 use Rattle.lan.proofs.Worlds.AtLink.Paired.Parts.{back_in, from_get, from_more, get_below, map_get, other_in}
 use Rattle.lan.proofs.Worlds.AtLink.Paired.Shown.{Far, may_be, shows_event}
+use Rattle.lan.proofs.Worlds.AtLink.Paired.Words.{offers_same}
 
 -- the exchanged socket is there
 pub socket_set : (p : Party) (place : ℕ) (old new : Socket) → socket_at p place ≡ Some old → socket_at (with_socket p place new) place ≡ Some new
@@ -115,14 +117,14 @@ module _ (starts : Side → ℕ → ℕ) (places : Places) (seats : Side → Sea
         ap (λ (t : Bool). if_so (not t) Why.Moment)
         (may_be own.moment cx.moment of.moment (subst (λ (m : ℤ). m ≤ℤ cx.moment) (sym (sh.clock side)) of.later))
 
-    context_is : context_at (side_in side) (at_clock own cx.moment) ≡ cx
-    context_is = (λ i. context_on (sh.host side i) cx.moment (sh.random side i)) ∙ sym of.host
-
     abbrev offered_by : ContextValue → TcpValue → TcpValue
     offered_by c w = (offer_of c w).socket
 
     turn_is : offered_by (context_at (side_in side) (at_clock own cx.moment)) own.socket ≡ offered_by cx v
-    turn_is = λ i. offered_by (context_is i) (socket_is i)
+    turn_is =
+        (λ i. offered_by (context_on (sh.host side i) cx.moment own.random) (socket_is i))
+        ∙ ap (λ (o : Offered TcpValue). o.socket) (offers_same (seats side).host cx.moment own.random cx.random v)
+        ∙ ap (λ (c : ContextValue). offered_by c v) (sym of.host)
 
     -- what goes of an offer
     goes : (o : Option Opening) (offered : Option OpenOffer) (queue : List ℕ) → opening net.history side here ≡ o → (offered_by cx v).offered ≡ offered
@@ -153,10 +155,9 @@ module _ (starts : Side → ℕ → ℕ) (places : Places) (seats : Side → Sea
     socket_after true = ap (settled true) turn_is
 
     rest_after : (sent : Bool) → ((offered_at (side_in side) (at_clock own cx.moment) sent).host ≡ own.host)
-        × ((offered_at (side_in side) (at_clock own cx.moment) sent).random ≡ own.random)
         × ((offered_at (side_in side) (at_clock own cx.moment) sent).moment ≡ cx.moment)
-    rest_after false = (refl, refl, refl)
-    rest_after true = (refl, refl, refl)
+    rest_after false = (refl, refl)
+    rest_after true = (refl, refl)
 
     pub offer_shows : Shows seats clocks' net' (happens p asked).pair
     offer_shows =
@@ -166,8 +167,7 @@ module _ (starts : Side → ℕ → ℕ) (places : Places) (seats : Side → Sea
               ∙ socket_set (party net side) here (Tcp v) (Tcp (settled sent (offered_by cx v))) is
               ∙ ap (λ (w : TcpValue). Some (Tcp w)) (sym (socket_after sent));
           host = (rest_after sent).0 ∙ sh.host side;
-          random = (rest_after sent).1 ∙ sh.random side;
-          clock = (rest_after sent).2 ∙ sym now;
+          clock = (rest_after sent).1 ∙ sym now;
           is_past = sh.past side ∙ sym (ap (λ (h : List Entry). told h side here) history);
           sent = subst (λ (h : List Entry). HasSent (opening h side here) (party net' side).segments (offered_at (side_in side) (at_clock own cx.moment) sent).sent)
               (sym history)
@@ -181,7 +181,7 @@ module _ (starts : Side → ℕ → ℕ) (places : Places) (seats : Side → Sea
   -- A SEGMENT COMES, at the moment that the host's clock shows
 
   module _ (cx : ContextValue) (ip : IpRepr) (header : TcpHeader) (bytes : List ℕ) (key : List ℕ) (keyed : (seats side).host.isn_key ≡ Some key)
-      (of : cx ≡ context_on (seats side).host cx.moment (seats side).random) (now : own.moment ≡ cx.moment) (clock : clocks' side ≡ clocks side)
+      (of : cx ≡ context_on (seats side).host cx.moment cx.random) (now : own.moment ≡ cx.moment) (clock : clocks' side ≡ clocks side)
       (accepted : accepts v.block ip header ≡ true)
       (comes : MayCome (party net (other side)).segments (source_of ip) (destination_of ip) header bytes)
       (later : List Entry) (stay : Stay net.history later) (all_allowed : AreAllowed places later)
@@ -269,19 +269,16 @@ module _ (starts : Side → ℕ → ℕ) (places : Places) (seats : Side → Sea
       takes_it =
           (λ i. accepts (socket_is i).block y.header (segment_is i)) ∙ accepts_same v.block y.header ip header source_is destination_is ∙ accepted
 
-      abbrev host_at : ContextValue
-      host_at = context_on (seats side).host cx.moment (seats side).random
-
       arrives_so : arrives (context_at (side_in side) own) own.socket y.header y.segment y.bytes ≡ arrived
       arrives_so =
-          (λ i. arrives (context_on (sh.host side i) (now i) (sh.random side i)) (socket_is i) y.header (segment_is i) (bytes_are i))
-          ∙ arrives_same (seats side).host key cx.moment (seats side).random (seats side).random v y.header ip header bytes keyed source_is destination_is
+          (λ i. arrives (context_on (sh.host side i) (now i) own.random) (socket_is i) y.header (segment_is i) (bytes_are i))
+          ∙ arrives_same (seats side).host key cx.moment own.random cx.random v y.header ip header bytes keyed source_is destination_is
           ∙ ap (λ (c : ContextValue). arrives c v ip header bytes) (sym of)
 
       draws_none : arrived.draws ≡ false
       draws_none =
           ap (λ (c : ContextValue). (arrives c v ip header bytes).draws) of
-          ∙ keyed_draws (seats side).host key cx.moment (seats side).random v ip header bytes keyed
+          ∙ keyed_draws (seats side).host key cx.moment cx.random v ip header bytes keyed
 
       abbrev taken : PairSide
       taken = record own { socket = arrived.socket; sent = and_reply own.sent arrived.answer }
@@ -313,7 +310,6 @@ module _ (starts : Side → ℕ → ℕ) (places : Places) (seats : Side → Sea
             socket = ap (λ (q : Party). socket_at q here) mine ∙ socket_set (party net side) here (Tcp v) (Tcp arrived.socket) is
                 ∙ ap (λ (s : PairSide). Some (Tcp s.socket)) (sym acting_is);
             host = ap (λ (s : PairSide). s.host) acting_is ∙ sh.host side;
-            random = ap (λ (s : PairSide). s.random) acting_is ∙ sh.random side;
             clock = ap (λ (s : PairSide). s.moment) acting_is ∙ sh.clock side ∙ sym clock;
             is_past = (λ i. at (pasts p.history) (back_in side i)) ∙ sh.past side ∙ sym (ap (λ (h : List Entry). told h side here) history);
             sent = subst (λ (oo : Option Opening). HasSent oo (party net' side).segments (acting p comes_event).side.sent)
