@@ -6,6 +6,7 @@ pub mod Queued
 pub mod Excluded
 pub mod Reached
 pub mod Asked
+pub mod Rounds
 pub mod Delivered
 pub mod Exchanged
 pub mod Partners
