@@ -23,5 +23,6 @@ pub mod Silenced
 pub mod Delivered
 pub mod First
 pub mod Exchanged
+pub mod Inbox
 pub mod Pieces
 pub mod Solicited

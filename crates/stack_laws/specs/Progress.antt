@@ -8,5 +8,6 @@ pub mod Reached
 pub mod Asked
 pub mod Rounds
 pub mod Delivered
+pub mod Inbox
 pub mod Exchanged
 pub mod Partners

@@ -215,7 +215,7 @@ module _ {E : Type 0} (moves : E → Move → E → Type 0) (i : InnerValue) (u 
       ∙ ap (λ (a : IpAddress). (as_received (source_of p.header) settings (record d.0 { endpoint = record d.0.endpoint { addr = a } }, d.1)).0)
       (same_destination then_host p.header ∙ goes_to i settings d to p can)
 
-  waits : IsNext moves u r.device (frame_under i ident to p ++ padding) → IngressStep moves u r (Some true) r'
+  pub waits : IsNext moves u r.device (frame_under i ident to p ++ padding) → IngressStep moves u r (Some true) r'
       → WaitsBehind r'.places m meta w (as_received (source_of p.header) settings d)
   waits next step = record {
     new = then_value;

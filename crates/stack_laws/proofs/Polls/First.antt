@@ -577,6 +577,9 @@ module _ {D : Type 0} (moves : D → Move → D → Type 0) (turn : Option IpAdd
   clears_same None s mid goes = ap (λ (x : Sender D). x.inner) goes.1
   clears_same (Some l) s mid goes = goes.1
 
+none_before : (k : ℕ) → k ≡ 0 + k
+none_before k = omega arith
+
 module _ {D : Type 0} (moves : D → Move → D → Type 0) (t : ℤ) (s s' : State D) (n : ℕ) (v : UdpValue) (d : UdpMetadata × List ℕ)
     (more : List (UdpMetadata × List ℕ)) (hop : IpAddress) (p : PacketValue)
     (asks : AsksFirst (at_moment t s.host.inner) s.places n v hop (destination_of p.header)) (queued : contents v.queued ≡ d ∷ more)
@@ -591,9 +594,9 @@ module _ {D : Type 0} (moves : D → Move → D → Type 0) (t : ℤ) (s s' : St
   Through e = Ends moves whose_turn v d more queued hop p asks.turn.meta now has asks.turn.ready asks.spared asks.whose (AsksFor now hop) n s.device e
 
   egress : (e : Passed D) → Egress moves (sending t s) s.places e → Through e
-  egress e (inl waits) =
-      stays moves whose_turn v d more queued hop p asks.turn.meta now has asks.turn.ready asks.spared asks.whose s.host.left (sending t s) waits.0 n e waits.1
-      (ap (λ (x : Passed D). x.sender.device) waits.2)
+  egress e (inl rests) =
+      stays moves whose_turn v d more queued hop p asks.turn.meta now has asks.turn.ready asks.spared asks.whose s.host.left (sending t s) rests.0 n e rests.1
+      (ap (λ (x : Passed D). x.sender.device) rests.2)
   egress e (inr goes) =
       let piece : PieceEnds moves (sending t s) goes.0 true = clears moves s.host.left (sending t s) goes.0 true refl goes.1 in
       let same : goes.0.inner ≡ now =
@@ -605,7 +608,7 @@ module _ {D : Type 0} (moves : D → Move → D → Type 0) (t : ℤ) (s s' : St
       (asks_grows moves whose_turn v d more queued hop p asks.turn.meta now has asks.turn.ready asks.spared asks.whose now) (sending t s) goes.0 n piece.all e
       piece.are
       (pass_first moves whose_turn v d more queued hop p asks.turn.meta now has asks.turn.ready asks.spared asks.whose goes.0 [] false s.places n n e
-      asks.turn.stands refl asks.alone (same_where now goes.0.inner same) (ap (λ (j : InnerValue). j.neighbors) same) pass)
+      asks.turn.stands (none_before n) asks.alone (same_where now goes.0.inner same) (ap (λ (j : InnerValue). j.neighbors) same) pass)
 
   step_ends : (e : Passed D) → Through e → (s' ≡ behind s.host e)
       → AsksForIt moves now hop (destination_of p.header) n v d s.device s'.device s'.places

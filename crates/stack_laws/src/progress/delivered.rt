@@ -24,6 +24,8 @@ ghost use Rattle.interface.specs.Taken.{CanRead, HasWidths};
 ghost use Rattle.stack_laws.specs.Progress.Asked.{AsksFirst, HasToAsk};
 ghost use Rattle.stack_laws.specs.Progress.Exchanged.{AreNeighbors, Exchange, IsServed};
 ghost use Rattle.stack_laws.specs.Progress.Delivered.{Brings, IsExpected, RefusesNothing, WaitsBehind, as_received, reader_of};
+ghost use Rattle.stack_laws.specs.PeerHost.Datagrams.{IsUdpAt};
+ghost use Rattle.stack_laws.specs.Progress.Inbox.{BringsAmong, IsInbox, IsReady, WaitsAmongThem};
 ghost use Rattle.stack_laws.specs.Progress.Queued.{CanGo, HasTurn, HasWay, ports_of};
 
 use net_base::Device;
@@ -73,6 +75,31 @@ pub fn a_queued_datagram_arrives_in_turn<D: Device, E: Device>()
         → is_full_for w.received (length d.1) ≡ false
         → IngressStep E.moves u r (Some true) r'
         → WaitsBehind r'.places m meta w (as_received (source_of p.header) v.settings d) }
+{}
+
+/// Law: within two polls: where the other host's device has the frames in order, with its frame behind fewer others than that host's poll has steps,
+/// one poll of the one sends the datagram, and one poll of the other ends with it at the UDP socket that it is for, behind those that waited there,
+/// among others that came. Wherever that poll has come when its frame is next, the socket expects the datagram, and has room for it.
+pub fn a_queued_datagram_arrives_within_a_poll<D: Device, E: Device>()
+    ensures { (waiting : E → List (List ℕ) → Type 0) (t u : ℤ) (budget steps : ℕ) (s s' : State D) (r r' : State E) (changed changed' : Bool) (n m : ℕ)
+        (v w : UdpValue) (before : List (UdpMetadata × List ℕ)) (d : UdpMetadata × List ℕ) (more : List (UdpMetadata × List ℕ))
+        (to : HardwareAddress) (p : PacketValue)
+        → IsInbox E.moves waiting
+        → HasWidths (at_moment t s.host.inner)
+        → HasTurn (at_moment t s.host.inner) s.places n v
+        → contents v.queued ≡ before ++ d ∷ more
+        → length before < budget
+        → AllByRecursion (HasWay (at_moment t s.host.inner) v.settings) before
+        → d.0.endpoint.port ≢ 0
+        → CanGo (at_moment t s.host.inner) v.settings d to p
+        → HasNoFrame D.moves t s.device
+        → Polls D.moves t budget s changed s'
+        → RefusesNothing D.moves s.device s'.device
+        → BringsAmong D.moves waiting (at_moment t s.host.inner) to p s.device s'.device r.device steps
+        → IsUdpAt r.places m w
+        → IsReady E.moves waiting u r (at_moment t s.host.inner) to p v.settings d m
+        → Polls E.moves u steps r changed' r'
+        → WaitsAmongThem r'.places m w (as_received (source_of p.header) v.settings d) }
 {}
 
 /// Law: the same over IPv4 on Ethernet where the next hop isn't known yet, and the other host is that hop: the one asks for it, the other answers,
