@@ -124,7 +124,8 @@ module _ {D : Type 0} (moves : D → Move → D → Type 0) (turn : Option IpAdd
           stops = inr (b, next);
         }
 
-        asked : (q : Question) (sent : Sent) (changed : Bool) → Such q → Asked moves mid x.inner q sent x'.device x'.inner → turned ≡ turned_by sent changed → TurnWalks Such x x' turned
+        asked : (q : Question) (sent : Sent) (changed : Bool) → Such q → Asked moves mid x.inner q sent x'.device x'.inner
+            → turned ≡ turned_by sent changed → TurnWalks Such x x' turned
         asked q Outcome.Waits changed such goes next = record {
           walked = record {
             all = Allowed x.inner.moment true ∷ Emitted (frame_of x.inner (Asks q)) ∷ [];
@@ -163,7 +164,8 @@ module _ {D : Type 0} (moves : D → Move → D → Type 0) (turn : Option IpAdd
         here is = subst (λ (d : D). moves x.device (Allowed x.inner.moment true) d) (sym is) leave
 
         out : (p : PacketValue) (changed : Bool) (plan : Plan) (sent : Sent)
-            → ((q : Question) → plan ≡ Way.Ask q → Such q) → GoesOut moves mid x.inner x.left p plan sent x'.device x'.inner x'.left → turned ≡ turned_by sent changed → TurnWalks Such x x' turned
+            → ((q : Question) → plan ≡ Way.Ask q → Such q) → GoesOut moves mid x.inner x.left p plan sent x'.device x'.inner x'.left
+            → turned ≡ turned_by sent changed → TurnWalks Such x x' turned
         out p changed Way.Drop sent such goes next =
             admitted true (here goes.1.0) goes.1.1 (next ∙ ap (λ (s : Sent). turned_by s changed) goes.0)
         out p changed Way.NoRoute sent such goes next =

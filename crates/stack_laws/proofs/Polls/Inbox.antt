@@ -238,9 +238,10 @@ module _ {E : Type 0} (moves : E → Move → E → Type 0) (waiting : E → Lis
     end =
         holds_found (GotMore moves u coming.x' it_waits.new) r'.places m
         (outs moves waiting inbox u coming.x' it_waits.new m budget polls.0 r' polls.1 changed
-        (ins moves waiting inbox u coming.x' it_waits.new m coming.left coming.x' polls.0 coming.c coming.c'
-        (begins moves waiting inbox u coming.x' it_waits.new m (ap socket_in it_waits.stands),
-        (one_in moves waiting inbox u r w m coming.x coming.x' (Some true) coming.runs coming.reads).1) coming.rest) polls.3).0.1
+        (ins moves waiting inbox u coming.x' it_waits.new m coming.left coming.x' polls.0 coming.c coming.c' (
+          begins moves waiting inbox u coming.x' it_waits.new m (ap socket_in it_waits.stands),
+          (one_in moves waiting inbox u r w m coming.x coming.x' (Some true) coming.runs coming.reads).1,
+        ) coming.rest) polls.3).0.1
 
     there : WaitsAmongThem r'.places m w received
     there = record {

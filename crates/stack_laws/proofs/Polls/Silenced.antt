@@ -8,9 +8,12 @@ use Rattle.ip_wire.specs.HardwareAddress.{HardwareAddress}
 use Rattle.ip_wire.specs.HardwareAddress.TheVariants as Hardware
 use Rattle.ip_wire.specs.IpAddress.{IpAddress}
 use Rattle.interface_tables.specs.Best.{at_place}
-use Rattle.interface_tables.specs.Inner.{InnerValue, is_local_broadcast, next_hop, link_by, link_of_hop, link_on, link_address, all_stations, group_station}
-use Rattle.interface_tables.specs.Neighbor.{CacheValue, lookup, missing, answer_by, place_of, unless_failed, has_failed, has_failed_by, is_failed, is_found}
-use Rattle.interface_tables.specs.Neighbor.{answer_of, first_search, is_search_for, last_request, most_requests, oldest_search, one_more, requested, search_room, searched_at, silent_time}
+use Rattle.interface_tables.specs.Inner.{InnerValue, is_local_broadcast, next_hop, link_by, link_of_hop, link_on, link_address, all_stations}
+use Rattle.interface_tables.specs.Inner.{group_station}
+use Rattle.interface_tables.specs.Neighbor.{CacheValue, lookup, missing, answer_by, place_of, unless_failed, has_failed, has_failed_by, is_failed}
+use Rattle.interface_tables.specs.Neighbor.{is_found}
+use Rattle.interface_tables.specs.Neighbor.{answer_of, first_search, is_search_for, last_request, most_requests, oldest_search}
+use Rattle.interface_tables.specs.Neighbor.{one_more, requested, search_room, searched_at, silent_time}
 use Rattle.interface_tables.specs.declared.link.LinkAddress.{LinkAddress}
 use Rattle.interface_tables.specs.declared.link.LinkAddress.TheVariants as Link
 use Rattle.interface_tables.specs.declared.neighbor.Answer.{Answer}

@@ -20,7 +20,8 @@ use Rattle.interface_ingress.specs.Offer as Answer
 use Rattle.interface_ingress.specs.Packet.{PacketValue}
 use Rattle.interface_ingress.specs.Socket.{Socket}
 use Rattle.interface_ingress.specs.Sockets.{Offers, offered_by}
-use Rattle.interface_tables.specs.Inner.{InnerValue, context_of, link_address, next_hop, is_crowded, is_local_broadcast, is_in_own_network, with_request}
+use Rattle.interface_tables.specs.Inner.{InnerValue, context_of, link_address, next_hop, is_crowded, is_local_broadcast, is_in_own_network}
+use Rattle.interface_tables.specs.Inner.{with_request}
 use Rattle.interface_tables.specs.declared.link.LinkAddress.TheVariants as Link
 use Rattle.interface_tables.specs.Source.{source_v4, source_v6}
 use Rattle.interface_egress.specs.Departure as Departures

@@ -41,13 +41,14 @@ pub record WaitsAmong {E : Type 0} (waiting : E → List (List ℕ) → Type 0) 
   pub short : is_read (frame_under i went.ident to p ++ padding) ≡ true
 
 -- the link brings the packet: where it went as the one device moved, its frame waits so at the other one
-abbrev pub BringsAmong : {D E : Type 0} → (D → Move → D → Type 0) → (E → List (List ℕ) → Type 0) → InnerValue → HardwareAddress → PacketValue → D → D →
-    E → ℕ → Type 0
+abbrev pub BringsAmong : {D E : Type 0} → (D → Move → D → Type 0) → (E → List (List ℕ) → Type 0) → InnerValue → HardwareAddress → PacketValue
+    → D → D → E → ℕ → Type 0
 BringsAmong {D} {E} from waiting i to p old new device budget =
     (all : List Move) → AreMoves from all old new → WentAs i to p all → WaitsAmong waiting device budget i to p all
 
 -- in this state the UDP socket at a place expects a datagram of so many bytes, and has room for it
-pub record IsExpectedAt {E : Type 0} (u : ℤ) (x : State E) (i : InnerValue) (to : HardwareAddress) (header : IpRepr) (ports : UdpRepr) (size m : ℕ) : Type 0 where
+pub record IsExpectedAt {E : Type 0} (u : ℤ) (x : State E) (i : InnerValue) (to : HardwareAddress) (header : IpRepr) (ports : UdpRepr)
+    (size m : ℕ) : Type 0 where
   pub meta : Meta
   pub value : UdpValue
   pub expected : IsExpected (at_moment u x.host.inner) x.places to header ports m meta value
@@ -55,8 +56,8 @@ pub record IsExpectedAt {E : Type 0} (u : ℤ) (x : State E) (i : InnerValue) (t
   pub reads : CanRead i to (reader_of x.host.inner)
 
 -- so it is wherever a poll of this moment that began here has come when a frame of the packet is next
-abbrev pub IsReady : {E : Type 0} → (E → Move → E → Type 0) → (E → List (List ℕ) → Type 0) → ℤ → State E → InnerValue → HardwareAddress → PacketValue →
-    UdpSettings → UdpMetadata × List ℕ → ℕ → Type 0
+abbrev pub IsReady : {E : Type 0} → (E → Move → E → Type 0) → (E → List (List ℕ) → Type 0) → ℤ → State E → InnerValue → HardwareAddress
+    → PacketValue → UdpSettings → UdpMetadata × List ℕ → ℕ → Type 0
 IsReady {E} moves waiting u r i to p settings d m =
     (x : State E) (ident : ℕ) (padding : List ℕ) (more : List (List ℕ)) → Reaches moves u r x
     → waiting x.device ((frame_under i ident to p ++ padding) ∷ more) → IsExpectedAt u x i to p.header (ports_of settings d) (length d.1) m

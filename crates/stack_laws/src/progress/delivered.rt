@@ -81,8 +81,8 @@ pub fn a_queued_datagram_arrives_in_turn<D: Device, E: Device>()
 /// one poll of the one sends the datagram, and one poll of the other ends with it at the UDP socket that it is for, behind those that waited there,
 /// among others that came. Wherever that poll has come when its frame is next, the socket expects the datagram, and has room for it.
 pub fn a_queued_datagram_arrives_within_a_poll<D: Device, E: Device>()
-    ensures { (waiting : E → List (List ℕ) → Type 0) (t u : ℤ) (budget steps : ℕ) (s s' : State D) (r r' : State E) (changed changed' : Bool) (n m : ℕ)
-        (v w : UdpValue) (before : List (UdpMetadata × List ℕ)) (d : UdpMetadata × List ℕ) (more : List (UdpMetadata × List ℕ))
+    ensures { (waiting : E → List (List ℕ) → Type 0) (t u : ℤ) (budget steps : ℕ) (s s' : State D) (r r' : State E)
+        (changed changed' : Bool) (n m : ℕ) (v w : UdpValue) (before : List (UdpMetadata × List ℕ)) (d : UdpMetadata × List ℕ) (more : List (UdpMetadata × List ℕ))
         (to : HardwareAddress) (p : PacketValue)
         → IsInbox E.moves waiting
         → HasWidths (at_moment t s.host.inner)
