@@ -48,38 +48,42 @@ use Rattle.stack_laws.proofs.Peers.Udp.{GotMore, got_law}
 use Rattle.stack_laws.proofs.Polls.Delivered.{waits}
 use Rattle.stack_laws.proofs.Polls.InTurn.{poll_goes}
 
+-- these frames wait at the device
+abbrev Waits : {E : Type 0} → (E → List (List ℕ)) → E → List (List ℕ) → Type 0
+Waits {E} frames_at device frames = frames_at device ≡ frames
+
 below_none : (n : ℕ) → n < 0 → ⊥
 below_none n is = absurd (omega arith)
 
 clash : {X : Type 0} → true ≡ false → X
 clash {X} e = absurd cc
 
-module _ {E : Type 0} (moves : E → Move → E → Type 0) (waiting : E → List (List ℕ) → Type 0) (inbox : IsInbox moves waiting) where
+module _ {E : Type 0} (moves : E → Move → E → Type 0) (frames_at : E → List (List ℕ)) (inbox : IsInbox moves frames_at) where
   -- WHAT GOES OUT LEAVES WHAT WAITS
 
-  module _ (old new : E) (frames : List (List ℕ)) (wait : waiting old frames) where
-    here : new ≡ old → waiting new frames
-    here is = subst (λ (d : E). waiting d frames) (sym is) wait
+  module _ (old new : E) (frames : List (List ℕ)) (wait : Waits frames_at old frames) where
+    here : new ≡ old → Waits frames_at new frames
+    here is = subst (λ (d : E). Waits frames_at d frames) (sym is) wait
 
-    departs : (i : InnerValue) (d : Departure) (gone : Bool) → Departs moves old i d gone new → waiting new frames
-    departs i d true goes = inbox.out old new (Emitted (frame_of i d)) frames refl wait goes.0
-    departs i d false goes = inbox.out old new (Denied (frame_len_of i d)) frames refl wait goes
+    departs : (i : InnerValue) (d : Departure) (gone : Bool) → Departs moves old i d gone new → Waits frames_at new frames
+    departs i d true goes = inbox.out old new (Emitted (frame_of i d)) refl goes.0 ∙ wait
+    departs i d false goes = inbox.out old new (Denied (frame_len_of i d)) refl goes ∙ wait
 
-    asked : (i i' : InnerValue) (q : Question) (sent : Sent) → Asked moves old i q sent new i' → waiting new frames
+    asked : (i i' : InnerValue) (q : Question) (sent : Sent) → Asked moves old i q sent new i' → Waits frames_at new frames
     asked i i' q Outcome.Waits goes = departs i (Departures.Asks q) true goes.0
     asked i i' q Outcome.Refused goes = departs i (Departures.Asks q) false goes.0
     asked i i' q Outcome.Gone goes = absurd goes
     asked i i' q Outcome.Dropped goes = absurd goes
     asked i i' q Outcome.Busy goes = absurd goes
 
-    went : (i i' : InnerValue) (h : IpRepr) (d : Departure) (sent : Sent) → Went moves old i h d sent new i' → waiting new frames
+    went : (i i' : InnerValue) (h : IpRepr) (d : Departure) (sent : Sent) → Went moves old i h d sent new i' → Waits frames_at new frames
     went i i' h d Outcome.Gone goes = departs i d true goes.0
     went i i' h d Outcome.Refused goes = departs i d false goes.0
     went i i' h d Outcome.Waits goes = absurd goes
     went i i' h d Outcome.Dropped goes = absurd goes
     went i i' h d Outcome.Busy goes = absurd goes
 
-    was_cut : (i i' : InnerValue) (l l' : Option LeftValue) (c : LeftValue) (sent : Sent) → WasCut moves old i l c sent new i' l' → waiting new frames
+    was_cut : (i i' : InnerValue) (l l' : Option LeftValue) (c : LeftValue) (sent : Sent) → WasCut moves old i l c sent new i' l' → Waits frames_at new frames
     was_cut i i' l l' c Outcome.Gone goes = departs i (departure_from i c) true goes.0
     was_cut i i' l l' c Outcome.Refused goes = departs i (departure_from i c) false goes.0
     was_cut i i' l l' c Outcome.Waits goes = absurd goes
@@ -87,7 +91,7 @@ module _ {E : Type 0} (moves : E → Move → E → Type 0) (waiting : E → Lis
     was_cut i i' l l' c Outcome.Busy goes = absurd goes
 
     out : (i i' : InnerValue) (l l' : Option LeftValue) (p : PacketValue) (plan : Plan) (sent : Sent) → GoesOut moves old i l p plan sent new i' l'
-        → waiting new frames
+        → Waits frames_at new frames
     out i i' l l' p Way.Drop sent goes = here goes.1.0
     out i i' l l' p Way.NoRoute sent goes = here goes.1.0
     out i i' l l' p Way.Wait sent goes = here goes.1.0
@@ -97,32 +101,32 @@ module _ {E : Type 0} (moves : E → Move → E → Type 0) (waiting : E → Lis
     out i i' l l' p (Way.Cut to) sent goes = was_cut i i' l l' (cut_of i to p) sent goes
 
   replied : (awaited : Bool) (reply : Option ReplyValue) (x x' : Sender E) (frames : List (List ℕ)) → Replied moves awaited reply x x'
-      → waiting x.device frames → waiting x'.device frames
-  replied awaited None x x' frames goes wait = subst (λ (y : Sender E). waiting y.device frames) (sym goes) wait
+      → Waits frames_at x.device frames → Waits frames_at x'.device frames
+  replied awaited None x x' frames goes wait = subst (λ (y : Sender E). Waits frames_at y.device frames) (sym goes) wait
   replied awaited (Some (Replies.Tells packet)) x x' frames goes wait =
       departs x.device x'.device frames wait x.inner (Departures.Tells packet) goes.0 goes.1
-  replied awaited (Some (Replies.Answers p)) x x' frames (inl rests) wait = subst (λ (y : Sender E). waiting y.device frames) (sym rests.0) wait
+  replied awaited (Some (Replies.Answers p)) x x' frames (inl rests) wait = subst (λ (y : Sender E). Waits frames_at y.device frames) (sym rests.0) wait
   replied awaited (Some (Replies.Answers p)) x x' frames (inr goes) wait =
       out x.device x'.device frames wait x.inner x'.inner x.left x'.left p (plan_of x.inner (is_some x.left) p.header) goes.0 goes.1
 
   -- A STEP OF THE WAY IN TAKES THE FIRST
 
   module _ (u : ℤ) where
-    takes : (s s' : State E) (b : Bool) (frame : List ℕ) (more : List (List ℕ)) → waiting s.device (frame ∷ more) → IngressStep moves u s (Some b) s'
-        → waiting s'.device more
+    takes : (s s' : State E) (b : Bool) (frame : List ℕ) (more : List (List ℕ)) → Waits frames_at s.device (frame ∷ more) → IngressStep moves u s (Some b) s'
+        → Waits frames_at s'.device more
     takes s s' false frame more wait step = (inbox.first s.device s'.device u frame step.0 more wait step.1).1
     takes s s' true frame more wait step =
-        let rest : waiting step.1 more = (inbox.first s.device step.1 u frame step.0 more wait step.2).1 in
+        let rest : Waits frames_at step.1 more = (inbox.first s.device step.1 u frame step.0 more wait step.2).1 in
         let before : State E = at_device (state s.device (maintained u s.host) s.places) step.1 in
         let receives = step.4.2 in
         let a : Arrived = receives.0 in
         replied (is_awaited a) a.reply (sender_with moves before a) (sender_of moves s') more receives.3 rest
 
-    never_ends : (s s' : State E) (frame : List ℕ) (more : List (List ℕ)) → waiting s.device (frame ∷ more) → IngressStep moves u s None s' → ⊥
+    never_ends : (s s' : State E) (frame : List ℕ) (more : List (List ℕ)) → Waits frames_at s.device (frame ∷ more) → IngressStep moves u s None s' → ⊥
     never_ends s s' frame more wait step = inbox.found s.device s'.device u frame more wait step.0
 
     -- a frame that isn't too long is read
-    is_true : (s s' : State E) (b : Bool) (frame : List ℕ) (more : List (List ℕ)) → waiting s.device (frame ∷ more) → is_read frame ≡ true
+    is_true : (s s' : State E) (b : Bool) (frame : List ℕ) (more : List (List ℕ)) → Waits frames_at s.device (frame ∷ more) → is_read frame ≡ true
         → IngressStep moves u s (Some b) s' → b ≡ true
     is_true s s' true frame more wait short step = refl
     is_true s s' false frame more wait short step =
@@ -170,12 +174,12 @@ module _ {E : Type 0} (moves : E → Move → E → Type 0) (waiting : E → Lis
         c : Bool
         c' : Bool
         runs : Runs x
-        wait : waiting x.device (frame ∷ more)
+        wait : Waits frames_at x.device (frame ∷ more)
         reads : IngressStep moves u x (Some true) x'
         rest : Repeats (IngressStep moves u) left x' c mid c'
 
       comes : (n : ℕ) (before : List (List ℕ)) (s mid : State E) (c c' : Bool) (frame : List ℕ) (more : List (List ℕ)) → is_read frame ≡ true
-          → waiting s.device (before ++ frame ∷ more) → length before < n → Runs s → Repeats (IngressStep moves u) n s c mid c' → Comes frame more mid
+          → Waits frames_at s.device (before ++ frame ∷ more) → length before < n → Runs s → Repeats (IngressStep moves u) n s c mid c' → Comes frame more mid
       comes zero before s mid c c' frame more short wait few runs steps = absurd (below_none (length before) few)
       comes (suc n) [] s mid c c' frame more short wait few runs (inl ends) = absurd (never_ends s mid frame more wait ends.0)
       comes (suc n) [] s mid c c' frame more short wait few runs (inr goes) = record {
@@ -199,23 +203,23 @@ module _ {E : Type 0} (moves : E → Move → E → Type 0) (waiting : E → Lis
 same_value : (a b : UdpValue) → Some (Is.Udp a) ≡ Some (Is.Udp b) → a ≡ b
 same_value a b is = let inside : Is.Udp a ≡ Is.Udp b = cc in let at : a ≡ b = cc in at
 
-module _ {E : Type 0} (moves : E → Move → E → Type 0) (waiting : E → List (List ℕ) → Type 0) (inbox : IsInbox moves waiting) (u : ℤ) (budget : ℕ)
+module _ {E : Type 0} (moves : E → Move → E → Type 0) (frames_at : E → List (List ℕ)) (inbox : IsInbox moves frames_at) (u : ℤ) (budget : ℕ)
     (r r' : State E) (changed : Bool) (m : ℕ) (w : UdpValue) (is_udp : IsUdpAt r.places m w) (polls : Polls moves u budget r changed r') (i : InnerValue)
     (settings : UdpSettings) (d : UdpMetadata × List ℕ) (to : HardwareAddress) (p : PacketValue) (some : d.0.endpoint.port ≢ 0)
-    (can : CanGo i settings d to p) (formed : IsWellFormed p) (ready : IsReady moves waiting u r i to p settings d m) where
+    (can : CanGo i settings d to p) (formed : IsWellFormed p) (ready : IsReady moves frames_at u r i to p settings d m) where
   abbrev received : UdpMetadata × List ℕ
   received = as_received (source_of p.header) settings d
 
   module _ (ident : ℕ) (wide : HasWidths (with_ident i ident)) (padding : List ℕ) (before behind : List (List ℕ))
       (short : is_read (frame_under i ident to p ++ padding) ≡ true)
-      (wait : waiting r.device (before ++ (frame_under i ident to p ++ padding) ∷ behind)) (few : length before < budget) where
+      (wait : Waits frames_at r.device (before ++ (frame_under i ident to p ++ padding) ∷ behind)) (few : length before < budget) where
     abbrev frame : List ℕ
     frame = frame_under i ident to p ++ padding
 
-    coming : Comes moves waiting inbox u r w m frame behind polls.0
+    coming : Comes moves frames_at inbox u r w m frame behind polls.0
     coming =
-        comes moves waiting inbox u r w m budget before (begun u r) polls.0 false polls.1 frame behind short wait few
-        ((got_kept moves waiting inbox u r w m).maintenance r (begins moves waiting inbox u r w m is_udp), (refl, refl)) polls.2
+        comes moves frames_at inbox u r w m budget before (begun u r) polls.0 false polls.1 frame behind short wait few
+        ((got_kept moves frames_at inbox u r w m).maintenance r (begins moves frames_at inbox u r w m is_udp), (refl, refl)) polls.2
 
     then_expected : IsExpectedAt u coming.x i to p.header (ports_of settings d) (length d.1) m
     then_expected = ready coming.x ident padding behind coming.runs.0.0 coming.wait
@@ -237,10 +241,10 @@ module _ {E : Type 0} (moves : E → Move → E → Type 0) (waiting : E → Lis
     end : Found (GotMore moves u coming.x' it_waits.new) r'.places m
     end =
         holds_found (GotMore moves u coming.x' it_waits.new) r'.places m
-        (outs moves waiting inbox u coming.x' it_waits.new m budget polls.0 r' polls.1 changed
-        (ins moves waiting inbox u coming.x' it_waits.new m coming.left coming.x' polls.0 coming.c coming.c' (
-          begins moves waiting inbox u coming.x' it_waits.new m (ap socket_in it_waits.stands),
-          (one_in moves waiting inbox u r w m coming.x coming.x' (Some true) coming.runs coming.reads).1,
+        (outs moves frames_at inbox u coming.x' it_waits.new m budget polls.0 r' polls.1 changed
+        (ins moves frames_at inbox u coming.x' it_waits.new m coming.left coming.x' polls.0 coming.c coming.c' (
+          begins moves frames_at inbox u coming.x' it_waits.new m (ap socket_in it_waits.stands),
+          (one_in moves frames_at inbox u r w m coming.x coming.x' (Some true) coming.runs coming.reads).1,
         ) coming.rest) polls.3).0.1
 
     there : WaitsAmongThem r'.places m w received
@@ -259,16 +263,16 @@ module _ {E : Type 0} (moves : E → Move → E → Type 0) (waiting : E → Lis
     }
 
 -- one poll sends it, and one reads it
-pub arrives_in_a_poll : {D E : Type 0} (out : D → Move → D → Type 0) (moves : E → Move → E → Type 0) (waiting : E → List (List ℕ) → Type 0) (t u : ℤ)
+pub arrives_in_a_poll : {D E : Type 0} (out : D → Move → D → Type 0) (moves : E → Move → E → Type 0) (frames_at : E → List (List ℕ)) (t u : ℤ)
     (budget steps : ℕ) (s s' : State D) (r r' : State E) (changed changed' : Bool) (n m : ℕ) (v w : UdpValue) (before : List (UdpMetadata × List ℕ))
-    (d : UdpMetadata × List ℕ) (more : List (UdpMetadata × List ℕ)) (to : HardwareAddress) (p : PacketValue) → IsInbox moves waiting
+    (d : UdpMetadata × List ℕ) (more : List (UdpMetadata × List ℕ)) (to : HardwareAddress) (p : PacketValue) → IsInbox moves frames_at
     → HasWidths (at_moment t s.host.inner) → HasTurn (at_moment t s.host.inner) s.places n v → contents v.queued ≡ before ++ d ∷ more
     → length before < budget → AllByRecursion (HasWay (at_moment t s.host.inner) v.settings) before → d.0.endpoint.port ≢ 0
     → CanGo (at_moment t s.host.inner) v.settings d to p → HasNoFrame out t s.device → Polls out t budget s changed s'
-    → RefusesNothing out s.device s'.device → BringsAmong out waiting (at_moment t s.host.inner) to p s.device s'.device r.device steps
-    → IsUdpAt r.places m w → IsReady moves waiting u r (at_moment t s.host.inner) to p v.settings d m → Polls moves u steps r changed' r'
+    → RefusesNothing out s.device s'.device → BringsAmong out frames_at (at_moment t s.host.inner) to p s.device s'.device r.device steps
+    → IsUdpAt r.places m w → IsReady moves frames_at u r (at_moment t s.host.inner) to p v.settings d m → Polls moves u steps r changed' r'
     → WaitsAmongThem r'.places m w (as_received (source_of p.header) v.settings d)
-arrives_in_a_poll {D} {E} out moves waiting t u budget steps s s' r r' changed changed' n m v w before d more to p inbox wide turn queued short ways some can
+arrives_in_a_poll {D} {E} out moves frames_at t u budget steps s s' r r' changed changed' n m v w before d more to p inbox wide turn queued short ways some can
     none polls freely brings is_udp ready reads = by goes.what
   where
     goes : GoesInTurn out (at_moment t s.host.inner) to p s.device s'.device
@@ -278,7 +282,7 @@ arrives_in_a_poll {D} {E} out moves waiting t u budget steps s s' r r' changed c
         → WaitsAmongThem r'.places m w (as_received (source_of p.header) v.settings d)
     by (inl refused) = absurd (let no_way : true ≡ false = sym refused ∙ freely goes.all goes.are in cc)
     by (inr went) =
-        let it : WaitsAmong waiting r.device steps (at_moment t s.host.inner) to p goes.all =
+        let it : WaitsAmong frames_at r.device steps (at_moment t s.host.inner) to p goes.all =
         brings goes.all goes.are (record { ident = went.sent.0; wide = went.wide wide.ident; sent = went.sent.1 }) in
-        there moves waiting inbox u steps r r' changed' m w is_udp reads (at_moment t s.host.inner) v.settings d to p some can went.formed ready it.went.ident
+        there moves frames_at inbox u steps r r' changed' m w is_udp reads (at_moment t s.host.inner) v.settings d to p some can went.formed ready it.went.ident
         (record { mtu = wide.mtu; ident = it.went.wide }) it.padding it.before it.behind it.short it.frames it.few

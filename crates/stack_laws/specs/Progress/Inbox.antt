@@ -21,30 +21,31 @@ use Rattle.stack_laws.specs.Progress.Delivered.{IsExpected, WentAs, reader_of}
 use Rattle.stack_laws.specs.Progress.Moves.{AreMoves, goes_out}
 use Rattle.stack_laws.specs.Progress.Queued.{frame_under, ports_of}
 
--- Frames wait at a device in order: a look finds the first of them, and takes that alone; and what goes out leaves them.
-pub record IsInbox {E : Type 0} (moves : E → Move → E → Type 0) (waiting : E → List (List ℕ) → Type 0) : Type 0 where
-  pub first : (old new : E) (t : ℤ) (frame other : List ℕ) (more : List (List ℕ)) → waiting old (frame ∷ more) → moves old (Took t other) new
-      → (other ≡ frame) × waiting new more
-  pub found : (old new : E) (t : ℤ) (frame : List ℕ) (more : List (List ℕ)) → waiting old (frame ∷ more) → moves old (Empty t) new → ⊥
-  pub out : (old new : E) (m : Move) (frames : List (List ℕ)) → goes_out m ≡ true → waiting old frames → moves old m new → waiting new frames
+-- The frames that wait at a device in each of its states, in order: a look finds the first of them, and takes that alone; and what goes out leaves
+-- them.
+pub record IsInbox {E : Type 0} (moves : E → Move → E → Type 0) (frames_at : E → List (List ℕ)) : Type 0 where
+  pub first : (old new : E) (t : ℤ) (frame other : List ℕ) (more : List (List ℕ)) → frames_at old ≡ frame ∷ more → moves old (Took t other) new
+      → (other ≡ frame) × (frames_at new ≡ more)
+  pub found : (old new : E) (t : ℤ) (frame : List ℕ) (more : List (List ℕ)) → frames_at old ≡ frame ∷ more → moves old (Empty t) new → ⊥
+  pub out : (old new : E) (m : Move) → goes_out m ≡ true → moves old m new → frames_at new ≡ frames_at old
 
 -- a frame in which the packet went waits at a device, with whatever padding, behind fewer others than a poll has steps; and it isn't too long to be
 -- read
-pub record WaitsAmong {E : Type 0} (waiting : E → List (List ℕ) → Type 0) (device : E) (budget : ℕ) (i : InnerValue) (to : HardwareAddress)
+pub record WaitsAmong {E : Type 0} (frames_at : E → List (List ℕ)) (device : E) (budget : ℕ) (i : InnerValue) (to : HardwareAddress)
     (p : PacketValue) (all : List Move) : Type 0 where
   pub went : WentAs i to p all
   pub padding : List ℕ
   pub before : List (List ℕ)
   pub behind : List (List ℕ)
-  pub frames : waiting device (before ++ (frame_under i went.ident to p ++ padding) ∷ behind)
+  pub frames : frames_at device ≡ before ++ (frame_under i went.ident to p ++ padding) ∷ behind
   pub few : length before < budget
   pub short : is_read (frame_under i went.ident to p ++ padding) ≡ true
 
 -- the link brings the packet: where it went as the one device moved, its frame waits so at the other one
-abbrev pub BringsAmong : {D E : Type 0} → (D → Move → D → Type 0) → (E → List (List ℕ) → Type 0) → InnerValue → HardwareAddress → PacketValue
+abbrev pub BringsAmong : {D E : Type 0} → (D → Move → D → Type 0) → (E → List (List ℕ)) → InnerValue → HardwareAddress → PacketValue
     → D → D → E → ℕ → Type 0
-BringsAmong {D} {E} from waiting i to p old new device budget =
-    (all : List Move) → AreMoves from all old new → WentAs i to p all → WaitsAmong waiting device budget i to p all
+BringsAmong {D} {E} from frames_at i to p old new device budget =
+    (all : List Move) → AreMoves from all old new → WentAs i to p all → WaitsAmong frames_at device budget i to p all
 
 -- in this state the UDP socket at a place expects a datagram of so many bytes, and has room for it
 pub record IsExpectedAt {E : Type 0} (u : ℤ) (x : State E) (i : InnerValue) (to : HardwareAddress) (header : IpRepr) (ports : UdpRepr)
@@ -56,11 +57,11 @@ pub record IsExpectedAt {E : Type 0} (u : ℤ) (x : State E) (i : InnerValue) (t
   pub reads : CanRead i to (reader_of x.host.inner)
 
 -- so it is wherever a poll of this moment that began here has come when a frame of the packet is next
-abbrev pub IsReady : {E : Type 0} → (E → Move → E → Type 0) → (E → List (List ℕ) → Type 0) → ℤ → State E → InnerValue → HardwareAddress
+abbrev pub IsReady : {E : Type 0} → (E → Move → E → Type 0) → (E → List (List ℕ)) → ℤ → State E → InnerValue → HardwareAddress
     → PacketValue → UdpSettings → UdpMetadata × List ℕ → ℕ → Type 0
-IsReady {E} moves waiting u r i to p settings d m =
+IsReady {E} moves frames_at u r i to p settings d m =
     (x : State E) (ident : ℕ) (padding : List ℕ) (more : List (List ℕ)) → Reaches moves u r x
-    → waiting x.device ((frame_under i ident to p ++ padding) ∷ more) → IsExpectedAt u x i to p.header (ports_of settings d) (length d.1) m
+    → frames_at x.device ≡ (frame_under i ident to p ++ padding) ∷ more → IsExpectedAt u x i to p.header (ports_of settings d) (length d.1) m
 
 -- behind the datagrams that waited at a UDP socket there are some that came, this one among them; and the socket is bound as it was
 pub record WaitsAmongThem (places : List (SocketStorage Socket)) (m : ℕ) (w : UdpValue) (received : UdpMetadata × List ℕ) : Type 0 where

@@ -81,10 +81,10 @@ pub fn a_queued_datagram_arrives_in_turn<D: Device, E: Device>()
 /// one poll of the one sends the datagram, and one poll of the other ends with it at the UDP socket that it is for, behind those that waited there,
 /// among others that came. Wherever that poll has come when its frame is next, the socket expects the datagram, and has room for it.
 pub fn a_queued_datagram_arrives_within_a_poll<D: Device, E: Device>()
-    ensures { (waiting : E → List (List ℕ) → Type 0) (t u : ℤ) (budget steps : ℕ) (s s' : State D) (r r' : State E)
+    ensures { (frames_at : E → List (List ℕ)) (t u : ℤ) (budget steps : ℕ) (s s' : State D) (r r' : State E)
         (changed changed' : Bool) (n m : ℕ) (v w : UdpValue) (before : List (UdpMetadata × List ℕ)) (d : UdpMetadata × List ℕ) (more : List (UdpMetadata × List ℕ))
         (to : HardwareAddress) (p : PacketValue)
-        → IsInbox E.moves waiting
+        → IsInbox E.moves frames_at
         → HasWidths (at_moment t s.host.inner)
         → HasTurn (at_moment t s.host.inner) s.places n v
         → contents v.queued ≡ before ++ d ∷ more
@@ -95,9 +95,9 @@ pub fn a_queued_datagram_arrives_within_a_poll<D: Device, E: Device>()
         → HasNoFrame D.moves t s.device
         → Polls D.moves t budget s changed s'
         → RefusesNothing D.moves s.device s'.device
-        → BringsAmong D.moves waiting (at_moment t s.host.inner) to p s.device s'.device r.device steps
+        → BringsAmong D.moves frames_at (at_moment t s.host.inner) to p s.device s'.device r.device steps
         → IsUdpAt r.places m w
-        → IsReady E.moves waiting u r (at_moment t s.host.inner) to p v.settings d m
+        → IsReady E.moves frames_at u r (at_moment t s.host.inner) to p v.settings d m
         → Polls E.moves u steps r changed' r'
         → WaitsAmongThem r'.places m w (as_received (source_of p.header) v.settings d) }
 {}
