@@ -19,7 +19,10 @@ pub mod Round
 pub mod Asks
 pub mod Asking
 pub mod Answered
+pub mod Silenced
 pub mod Delivered
+pub mod First
 pub mod Exchanged
+pub mod Inbox
 pub mod Pieces
 pub mod Solicited

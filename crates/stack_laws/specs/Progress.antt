@@ -6,6 +6,8 @@ pub mod Queued
 pub mod Excluded
 pub mod Reached
 pub mod Asked
+pub mod Rounds
 pub mod Delivered
+pub mod Inbox
 pub mod Exchanged
 pub mod Partners

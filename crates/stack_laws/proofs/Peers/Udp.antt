@@ -161,7 +161,7 @@ module _ {D : Type 0} (moves : D → Move → D → Type 0) (t : ℤ) (from : St
           were = were_more got.more (metadata_of ip udp, bytes) got.were was;
         }
 
-  got_law : IsOfPolls (Came moves t from) GotMore
+  pub got_law : IsOfPolls (Came moves t from) GotMore
   got_law = record {
     offers = offer_got;
     packet = λ ip payload s got. same_for (with_packet ip payload) (λ u. refl) s got;

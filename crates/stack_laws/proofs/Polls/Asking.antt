@@ -18,6 +18,7 @@ use Rattle.interface_ingress.specs.Socket.{Socket}
 use Rattle.interface_ingress.specs.Socket.TheVariants as Kind
 use Rattle.interface_ingress.specs.Sockets.{offered_by}
 use Rattle.interface_tables.specs.Inner.{InnerValue, at_moment}
+use Rattle.interface_tables.specs.Neighbor.{requested}
 use Rattle.interface_egress.specs.Departure.{Departure, Asks, Whole, target_of}
 use Rattle.interface_egress.specs.Fragments.{LeftValue, departure_from}
 use Rattle.interface_egress.specs.GoesOut.{GoesOut, Asked, Went, WasCut, numbered, cut_of, frame_of, frame_len_of, after_header}
@@ -36,13 +37,13 @@ use Rattle.interface.specs.Pass.{Pass, Passed}
 use Rattle.interface.specs.SameHost.{IsSameHost}
 use Rattle.interface.specs.State.{State}
 use Rattle.interface.specs.Turn.{is_waiting, is_given_up, is_other, is_out_of_turn, held, outcome_by, plan_at, turned_by, Leaves, SendsBy, Answers, TurnsIf}
-use Rattle.interface.specs.Turn.{ItemTurns, PlaceTurns}
+use Rattle.interface.specs.Turn.{ItemTurns, PlaceTurns, let_through, sourced}
 use Rattle.interface.specs.WayOut.{PieceLeaves, Clears, Egress}
 use Rattle.interface.specs.declared.turn.Turned.{Turned}
 use Rattle.interface.specs.declared.turn.Turned.TheVariants as Turn
 use Rattle.interface.proofs.SameHost.{same_where, place_same}
 use Rattle.stack_laws.specs.Progress.Moves.{AreMoves, is_refused}
-use Rattle.stack_laws.specs.Progress.Asked.{HasToAsk, IsFrom, AsksInTurn, AsksAtOnce}
+use Rattle.stack_laws.specs.Progress.Asked.{HasToAsk, IsFrom, AsksInTurn, AsksAtOnce, MayOffer}
 use Rattle.stack_laws.specs.Progress.Queued.{HasTurn, Sends}
 use Rattle.stack_laws.proofs.Polls.OurLeave.{OursLeaves, our_leave}
 use Rattle.stack_laws.proofs.Polls.Asks.{asks_plan, held_none, held_not, kept_in, plan_from}
@@ -59,20 +60,32 @@ abbrev no_one : Option Sent
 no_one = None
 
 module _ {D : Type 0} (moves : D → Move → D → Type 0) (turn : Option IpAddress) where
+  -- such a question went, and counts
+  pub record AskedSo (Such : Question → Type 0) (i : InnerValue) (all : List Move) (i' : InnerValue) : Type 0 where
+    pub question : Question
+    pub such : Such question
+    pub sent : Sends (frame_of i (Asks question)) all
+    pub counts : i'.neighbors ≡ requested i.neighbors (target_of question) i.moment
+
   -- what one or more turns asked of the device: it refused, or a question went, or what is known of neighbours is as it was
-  record Walked (i : InnerValue) (old new : D) (i' : InnerValue) : Type 0 where
-    all : List Move
-    are : AreMoves moves all old new
-    what : (list_any is_refused all ≡ true) ⊎ (AsksInTurn i turn all ⊎ (i'.neighbors ≡ i.neighbors))
+  pub record Walked (Such : Question → Type 0) (i : InnerValue) (old new : D) (i' : InnerValue) : Type 0 where
+    pub all : List Move
+    pub are : AreMoves moves all old new
+    pub what : (list_any is_refused all ≡ true) ⊎ (AskedSo Such i all i' ⊎ (i'.neighbors ≡ i.neighbors))
 
   -- of one turn: unless the device refused, the next socket has its turn
-  record TurnWalks (x x' : Sender D) (turned : Turned) : Type 0 where
-    walked : Walked x.inner x.device x'.device x'.inner
-    stops : (list_any is_refused walked.all ≡ true) ⊎ ((b : Bool) × (turned ≡ Turn.Next b))
+  pub record TurnWalks (Such : Question → Type 0) (x x' : Sender D) (turned : Turned) : Type 0 where
+    pub walked : Walked Such x.inner x.device x'.device x'.inner
+    pub stops : (list_any is_refused walked.all ≡ true) ⊎ ((b : Bool) × (turned ≡ Turn.Next b))
 
-  module _ (x x' : Sender D) where
+  -- a question for the neighbour of a packet that is offered is such, where it is its turn
+  abbrev pub AreSuch : (Question → Type 0) → Sender D → Option (Item Socket) → Type 0
+  AreSuch Such x o =
+      (p : PacketValue) (q : Question) → MayOffer x.inner o p → plan_at x (sourced x.inner p) ≡ Way.Ask q → is_other turn (target_of q) ≡ false → Such q
+
+  module _ (Such : Question → Type 0) (x x' : Sender D) where
     -- nothing was asked of the device
-    still : (turned : Turned) (b : Bool) → x' ≡ x → turned ≡ Turn.Next b → TurnWalks x x' turned
+    still : (turned : Turned) (b : Bool) → x' ≡ x → turned ≡ Turn.Next b → TurnWalks Such x x' turned
     still turned b same next = record {
       walked = record { all = []; are = ap (λ (y : Sender D). y.device) same; what = inr (inr (ap (λ (y : Sender D). y.inner.neighbors) same)) };
       stops = inr (b, next);
@@ -80,20 +93,20 @@ module _ {D : Type 0} (moves : D → Move → D → Type 0) (turn : Option IpAdd
 
     module _ (turned : Turned) where
       -- it gave leave, or not, and no frame went
-      admitted : (b : Bool) → moves x.device (Allowed x.inner.moment true) x'.device → x'.inner ≡ x.inner → turned ≡ Turn.Next b → TurnWalks x x' turned
+      admitted : (b : Bool) → moves x.device (Allowed x.inner.moment true) x'.device → x'.inner ≡ x.inner → turned ≡ Turn.Next b → TurnWalks Such x x' turned
       admitted b leave same next = record {
         walked = record { all = Allowed x.inner.moment true ∷ []; are = (x'.device, leave, refl); what = inr (inr (ap (λ (i : InnerValue). i.neighbors) same)) };
         stops = inr (b, next);
       }
 
-      no_leave : moves x.device (Allowed x.inner.moment false) x'.device → TurnWalks x x' turned
+      no_leave : moves x.device (Allowed x.inner.moment false) x'.device → TurnWalks Such x x' turned
       no_leave move = record {
         walked = record { all = Allowed x.inner.moment false ∷ []; are = (x'.device, move, refl); what = inl refl };
         stops = inl refl;
       }
 
       module _ (mid : D) (leave : moves x.device (Allowed x.inner.moment true) mid) where
-        was_refused : (len : ℕ) → moves mid (Denied len) x'.device → TurnWalks x x' turned
+        was_refused : (len : ℕ) → moves mid (Denied len) x'.device → TurnWalks Such x x' turned
         was_refused len move = record {
           walked = record { all = Allowed x.inner.moment true ∷ Denied len ∷ []; are = (mid, leave, (x'.device, move, refl)); what = inl refl };
           stops = inl refl;
@@ -101,7 +114,7 @@ module _ {D : Type 0} (moves : D → Move → D → Type 0) (turn : Option IpAdd
 
         -- a frame that is no question
         went : (frame : List ℕ) (b : Bool) → moves mid (Emitted frame) x'.device → x'.inner.neighbors ≡ x.inner.neighbors → turned ≡ Turn.Next b
-            → TurnWalks x x' turned
+            → TurnWalks Such x x' turned
         went frame b move same next = record {
           walked = record {
             all = Allowed x.inner.moment true ∷ Emitted frame ∷ [];
@@ -111,27 +124,27 @@ module _ {D : Type 0} (moves : D → Move → D → Type 0) (turn : Option IpAdd
           stops = inr (b, next);
         }
 
-        asked : (q : Question) (sent : Sent) (changed : Bool) → IsFrom x.inner.hardware x.inner.addresses q → is_other turn (target_of q) ≡ false → Asked moves mid x.inner q sent x'.device x'.inner
-            → turned ≡ turned_by sent changed → TurnWalks x x' turned
-        asked q Outcome.Waits changed from whose goes next = record {
+        asked : (q : Question) (sent : Sent) (changed : Bool) → Such q → Asked moves mid x.inner q sent x'.device x'.inner
+            → turned ≡ turned_by sent changed → TurnWalks Such x x' turned
+        asked q Outcome.Waits changed such goes next = record {
           walked = record {
             all = Allowed x.inner.moment true ∷ Emitted (frame_of x.inner (Asks q)) ∷ [];
             are = (mid, leave, (x'.device, goes.0.0, refl));
-            what = inr (inl (record { question = q; from = from; sent = inr (inl refl); whose = whose }));
+            what = inr (inl (record { question = q; such = such; sent = inr (inl refl); counts = ap (λ (i : InnerValue). i.neighbors) goes.1 }));
           };
           stops = inr (changed, next);
         }
-        asked q Outcome.Refused changed from whose goes next = was_refused (frame_len_of x.inner (Asks q)) goes.0
-        asked q Outcome.Gone changed from whose goes next = absurd goes
-        asked q Outcome.Dropped changed from whose goes next = absurd goes
-        asked q Outcome.Busy changed from whose goes next = absurd goes
+        asked q Outcome.Refused changed such goes next = was_refused (frame_len_of x.inner (Asks q)) goes.0
+        asked q Outcome.Gone changed such goes next = absurd goes
+        asked q Outcome.Dropped changed such goes next = absurd goes
+        asked q Outcome.Busy changed such goes next = absurd goes
 
         numbers : (header : IpRepr) → x'.inner ≡ after_header header x.inner → x'.inner.neighbors ≡ x.inner.neighbors
         numbers (Ip.Ipv4 v) is = ap (λ (i : InnerValue). i.neighbors) is
         numbers (Ip.Ipv6 v) is = ap (λ (i : InnerValue). i.neighbors) is
 
         whole : (header : IpRepr) (d : Departure) (sent : Sent) (changed : Bool) → Went moves mid x.inner header d sent x'.device x'.inner
-            → turned ≡ turned_by sent changed → TurnWalks x x' turned
+            → turned ≡ turned_by sent changed → TurnWalks Such x x' turned
         whole header d Outcome.Gone changed goes next = went (frame_of x.inner d) true goes.0.0 (numbers header goes.1) next
         whole header d Outcome.Refused changed goes next = was_refused (frame_len_of x.inner d) goes.0
         whole header d Outcome.Waits changed goes next = absurd goes
@@ -139,7 +152,7 @@ module _ {D : Type 0} (moves : D → Move → D → Type 0) (turn : Option IpAdd
         whole header d Outcome.Busy changed goes next = absurd goes
 
         cut : (c : LeftValue) (sent : Sent) (changed : Bool) → WasCut moves mid x.inner x.left c sent x'.device x'.inner x'.left
-            → turned ≡ turned_by sent changed → TurnWalks x x' turned
+            → turned ≡ turned_by sent changed → TurnWalks Such x x' turned
         cut c Outcome.Gone changed goes next =
             went (frame_of x.inner (departure_from x.inner c)) true goes.0.0 (ap (λ (i : InnerValue). i.neighbors) goes.1) next
         cut c Outcome.Refused changed goes next = was_refused (frame_len_of x.inner (departure_from x.inner c)) goes.0
@@ -151,24 +164,24 @@ module _ {D : Type 0} (moves : D → Move → D → Type 0) (turn : Option IpAdd
         here is = subst (λ (d : D). moves x.device (Allowed x.inner.moment true) d) (sym is) leave
 
         out : (p : PacketValue) (changed : Bool) (plan : Plan) (sent : Sent)
-            → ((q : Question) → plan ≡ Way.Ask q → IsFrom x.inner.hardware x.inner.addresses q) → is_out_of_turn turn plan ≡ false
-            → GoesOut moves mid x.inner x.left p plan sent x'.device x'.inner x'.left → turned ≡ turned_by sent changed → TurnWalks x x' turned
-        out p changed Way.Drop sent from whose goes next =
+            → ((q : Question) → plan ≡ Way.Ask q → Such q) → GoesOut moves mid x.inner x.left p plan sent x'.device x'.inner x'.left
+            → turned ≡ turned_by sent changed → TurnWalks Such x x' turned
+        out p changed Way.Drop sent such goes next =
             admitted true (here goes.1.0) goes.1.1 (next ∙ ap (λ (s : Sent). turned_by s changed) goes.0)
-        out p changed Way.NoRoute sent from whose goes next =
+        out p changed Way.NoRoute sent such goes next =
             admitted changed (here goes.1.0) goes.1.1 (next ∙ ap (λ (s : Sent). turned_by s changed) goes.0)
-        out p changed Way.Wait sent from whose goes next =
+        out p changed Way.Wait sent such goes next =
             admitted changed (here goes.1.0) goes.1.1 (next ∙ ap (λ (s : Sent). turned_by s changed) goes.0)
-        out p changed Way.Busy sent from whose goes next =
+        out p changed Way.Busy sent such goes next =
             admitted changed (here goes.1.0) goes.1.1 (next ∙ ap (λ (s : Sent). turned_by s changed) goes.0)
-        out p changed (Way.Ask q) sent from whose goes next = asked q sent changed (from q refl) whose goes.0 next
-        out p changed (Way.Go to) sent from whose goes next = whole p.header (Whole to (numbered x.inner p)) sent changed goes.0 next
-        out p changed (Way.Cut to) sent from whose goes next = cut (cut_of x.inner to p) sent changed goes next
+        out p changed (Way.Ask q) sent such goes next = asked q sent changed (such q refl) goes.0 next
+        out p changed (Way.Go to) sent such goes next = whole p.header (Whole to (numbered x.inner p)) sent changed goes.0 next
+        out p changed (Way.Cut to) sent such goes next = cut (cut_of x.inner to p) sent changed goes next
 
       -- what doesn't go is dropped, or waits
       rests : (sent : Sent) (given_up other changed : Bool) → moves x.device (Allowed x.inner.moment true) x'.device → x'.inner ≡ x.inner
           → (if given_up then Some Outcome.Dropped else if other then Some Outcome.Waits else None) ≡ Some sent → turned ≡ turned_by sent changed
-          → TurnWalks x x' turned
+          → TurnWalks Such x x' turned
       rests sent true other changed move same is next =
           let dropped : sent ≡ Outcome.Dropped = (let so : Some Outcome.Dropped ≡ Some sent = is in sym cc) in
           admitted true move same (next ∙ ap (λ (s : Sent). turned_by s changed) dropped)
@@ -177,40 +190,61 @@ module _ {D : Type 0} (moves : D → Move → D → Type 0) (turn : Option IpAdd
           admitted changed move same (next ∙ ap (λ (s : Sent). turned_by s changed) waits)
       rests sent false false changed move same is next = absurd (let never : no_one ≡ Some sent = is in cc)
 
-      leaves : (p : PacketValue) (meta : Meta) (sent : Sent) (changed : Bool) → Leaves moves turn x meta p sent x' → turned ≡ turned_by sent changed
-          → TurnWalks x x' turned
-      leaves p meta sent changed (inl stays) next = by stays.0 stays.1 stays.4 where
+      leaves : (p : PacketValue) (meta : Meta) (sent : Sent) (changed : Bool)
+          → ((q : Question) → plan_at x p ≡ Way.Ask q → is_other turn (target_of q) ≡ false → Such q) → Leaves moves turn x meta p sent x'
+          → turned ≡ turned_by sent changed → TurnWalks Such x x' turned
+      leaves p meta sent changed such (inl stays) next = by stays.0 stays.1 stays.4 where
         by : (given : Bool) → moves x.device (Allowed x.inner.moment given) x'.device
-            → outcome_by given (held turn meta x.inner (destination_of p.header) (plan_at x p)) ≡ Some sent → TurnWalks x x' turned
+            → outcome_by given (held turn meta x.inner (destination_of p.header) (plan_at x p)) ≡ Some sent → TurnWalks Such x x' turned
         by false move is = no_leave move
         by true move is =
             rests sent (is_given_up meta x.inner (destination_of p.header) (plan_at x p)) (is_out_of_turn turn (plan_at x p)) changed move stays.2 is next
-      leaves p meta sent changed (inr goes) next =
-          out goes.0 goes.1 p changed (plan_at x p) sent (plan_from x.inner (is_some x.left) p.header)
-          (held_not turn meta x.inner (destination_of p.header) (plan_at x p) goes.3) goes.2 next
+      leaves p meta sent changed such (inr goes) next =
+          out goes.0 goes.1 p changed (plan_at x p) sent
+          (λ q is. such q is (ap (is_out_of_turn turn) (sym is) ∙ held_not turn meta x.inner (destination_of p.header) (plan_at x p) goes.3)) goes.2 next
 
-    sends : (o : Option PacketValue) (item item' : Item Socket) (changed : Bool) (turned : Turned) → SendsBy moves turn o x item changed turned x' item'
-        → TurnWalks x x' turned
-    sends None item item' changed turned goes = absurd goes
-    sends (Some p) item item' changed turned goes = leaves turned goes.0 item.meta goes.3.0 changed goes.3.1 goes.3.2
+    sends : (o : Option PacketValue) (item item' : Item Socket) (changed : Bool) (turned : Turned)
+        → ((p : PacketValue) (q : Question) → o ≡ Some p → plan_at x (sourced x.inner p) ≡ Way.Ask q → is_other turn (target_of q) ≡ false → Such q)
+        → SendsBy moves turn o x item changed turned x' item' → TurnWalks Such x x' turned
+    sends None item item' changed turned such goes = absurd goes
+    sends (Some p) item item' changed turned such goes =
+        leaves turned goes.0 item.meta goes.3.0 changed
+        (λ q is. such p q refl (ap (plan_at x) (sym goes.1) ∙ is)) goes.3.1 goes.3.2
 
-    answers : (answer : Answer.Offer) (item item' : Item Socket) (turned : Turned) → Answers moves turn answer x item turned x' item' → TurnWalks x x' turned
-    answers (Offer.Packet changed) item item' turned goes = sends (offered_by item.socket) item item' changed turned goes
-    answers (Offer.Silent changed) item item' turned goes = still turned changed goes.1 goes.0
+    answers : (answer : Answer.Offer) (item item' : Item Socket) (turned : Turned)
+        → ((p : PacketValue) (q : Question) → offered_by item.socket ≡ Some p → plan_at x (sourced x.inner p) ≡ Way.Ask q → is_other turn (target_of q) ≡ false
+        → Such q)
+        → Answers moves turn answer x item turned x' item' → TurnWalks Such x x' turned
+    answers (Offer.Packet changed) item item' turned such goes = sends (offered_by item.socket) item item' changed turned such goes
+    answers (Offer.Silent changed) item item' turned such goes = still turned changed goes.1 goes.0
 
-    turns_if : (waits : Bool) (item item' : Item Socket) (turned : Turned) → TurnsIf moves turn waits x item turned x' item' → TurnWalks x x' turned
-    turns_if true item item' turned goes = still turned false goes.1 goes.0
-    turns_if false item item' turned goes = answers goes.0 (record item { socket = goes.1 }) item' turned goes.3
+    turns_if : (waits : Bool) (item item' : Item Socket) (turned : Turned) → is_waiting x.inner item.meta ≡ waits → AreSuch Such x (Some item)
+        → TurnsIf moves turn waits x (let_through x.inner item) turned x' item' → TurnWalks Such x x' turned
+    turns_if true item item' turned is such goes = still turned false goes.1 goes.0
+    turns_if false item item' turned is such goes =
+        answers goes.0 (record (let_through x.inner item) { socket = goes.1 }) item' turned
+        (λ p q offered. such p q (is, (goes.0, goes.1, goes.2, offered))) goes.3
 
-    item_turns : (o o' : Option (Item Socket)) (turned : Turned) → ItemTurns moves turn o x turned x' o' → TurnWalks x x' turned
-    item_turns None None turned goes = still turned false goes.1 goes.0
-    item_turns (Some item) (Some item') turned goes =
-        turns_if (is_waiting x.inner item.meta) (Rattle.interface.specs.Turn.let_through x.inner item) item' turned goes
-    item_turns None (Some item') turned goes = absurd goes
-    item_turns (Some item) None turned goes = absurd goes
+    item_turns : (o o' : Option (Item Socket)) (turned : Turned) → AreSuch Such x o → ItemTurns moves turn o x turned x' o' → TurnWalks Such x x' turned
+    item_turns None None turned such goes = still turned false goes.1 goes.0
+    item_turns (Some item) (Some item') turned such goes = turns_if (is_waiting x.inner item.meta) item item' turned refl such goes
+    item_turns None (Some item') turned such goes = absurd goes
+    item_turns (Some item) None turned such goes = absurd goes
 
-    walks : (p p' : Place) (turned : Turned) → PlaceTurns moves turn x p turned x' p' → TurnWalks x x' turned
-    walks p p' turned goes = item_turns p.inner p'.inner turned goes
+    pub walks : (p p' : Place) (turned : Turned) → AreSuch Such x p.inner → PlaceTurns moves turn x p turned x' p' → TurnWalks Such x x' turned
+    walks p p' turned such goes = item_turns p.inner p'.inner turned such goes
+
+  -- a question in its turn
+  abbrev InTurn : InnerValue → Question → Type 0
+  InTurn i q = IsFrom i.hardware i.addresses q × (is_other turn (target_of q) ≡ false)
+
+  walks_in_turn : (x x' : Sender D) (p p' : Place) (turned : Turned) → PlaceTurns moves turn x p turned x' p' → TurnWalks (InTurn x.inner) x x' turned
+  walks_in_turn x x' p p' turned goes =
+      walks (InTurn x.inner) x x' p p' turned
+      (λ packet q offered is whose. (plan_from x.inner (is_some x.left) (sourced x.inner packet).header q is, whose)) goes
+
+  asked_in_turn : (i i' : InnerValue) (xs : List Move) → AskedSo (InTurn i) i xs i' → AsksInTurn i turn xs
+  asked_in_turn i i' xs asked = record { question = asked.question; from = asked.such.0; sent = asked.sent; whose = asked.such.1 }
 
   -- OUR TURN
 
@@ -265,7 +299,7 @@ module _ {D : Type 0} (moves : D → Move → D → Type 0) (turn : Option IpAdd
         → is_waiting x.inner meta ≡ false
         → PlaceTurns moves turn x (record { inner = Some (record { meta = meta; socket = Kind.Udp v }) }) turned x' place → AsksOnce x.inner x.device x'.device
     our_asking more queued meta place turned ready goes =
-        let left : OursLeaves moves turn x x' v d p has.takes has.may turned place.inner =
+        let left : OursLeaves moves turn x x' v d p has.takes has.may meta turned place.inner =
         our_leave moves turn x x' v d p has.takes has.may more queued meta place turned ready goes in
         asks_leaving left.meta left.sent left.leaves
 
@@ -283,14 +317,14 @@ module _ {D : Type 0} (moves : D → Move → D → Type 0) (turn : Option IpAdd
       → Tail s.device e.sender.device
   tail s before changed [] e ends = record { all = []; are = ap (λ (x : Passed D). x.sender.device) ends }
   tail s before changed (p ∷ ps) e (inl goes) =
-      let took : TurnWalks s goes.1 (Turn.Next goes.0) = walks s goes.1 p goes.2 (Turn.Next goes.0) goes.3 in
+      let took : TurnWalks (InTurn s.inner) s goes.1 (Turn.Next goes.0) = walks_in_turn s goes.1 p goes.2 (Turn.Next goes.0) goes.3 in
       let rest : Tail goes.1.device e.sender.device = tail goes.1 (before ++ goes.2 ∷ []) (changed || goes.0) ps e goes.4 in
       record {
         all = took.walked.all ++ rest.all;
         are = joined moves took.walked.all rest.all s.device goes.1.device e.sender.device took.walked.are rest.are;
       }
   tail s before changed (p ∷ ps) e (inr stops) =
-      let took : TurnWalks s stops.1 (Turn.Stop stops.0) = walks s stops.1 p stops.2 (Turn.Stop stops.0) stops.3 in
+      let took : TurnWalks (InTurn s.inner) s stops.1 (Turn.Stop stops.0) = walks_in_turn s stops.1 p stops.2 (Turn.Stop stops.0) stops.3 in
       record {
         all = took.walked.all;
         are = subst (λ (x : D). AreMoves moves took.walked.all s.device x) (sym (ap (λ (x : Passed D). x.sender.device) stops.4)) took.walked.are;
@@ -346,7 +380,7 @@ module _ {D : Type 0} (moves : D → Move → D → Type 0) (turn : Option IpAdd
         (subst (λ (place : Place). PlaceTurns moves turn s place (Turn.Stop stops.0) stops.1 stops.2)
         (let same : Some q ≡ Some our_place = stands in let at : q ≡ our_place = cc in at) stops.3))
     pass_asks s before changed (q ∷ ps) (suc n) e stands has ready (inl goes) =
-        let took : TurnWalks s goes.1 (Turn.Next goes.0) = walks s goes.1 q goes.2 (Turn.Next goes.0) goes.3 in
+        let took : TurnWalks (InTurn s.inner) s goes.1 (Turn.Next goes.0) = walks_in_turn s goes.1 q goes.2 (Turn.Next goes.0) goes.3 in
         let same : IsSameHost s.inner goes.1.inner = place_same moves turn s goes.1 q goes.2 (Turn.Next goes.0) goes.3 in
         by took.walked same (λ has' ready'. pass_asks goes.1 (before ++ goes.2 ∷ []) (changed || goes.0) ps n e stands has' ready' goes.4) took.walked.what
       where
@@ -355,15 +389,15 @@ module _ {D : Type 0} (moves : D → Move → D → Type 0) (turn : Option IpAdd
         later same xs ys (inl refused) = inl (refused_behind xs ys refused)
         later same xs ys (inr asked) = inr (asked_behind s.inner goes.1.inner xs ys same asked)
 
-        by : (walked : Walked s.inner s.device goes.1.device goes.1.inner) → IsSameHost s.inner goes.1.inner
+        by : (walked : Walked (InTurn s.inner) s.inner s.device goes.1.device goes.1.inner) → IsSameHost s.inner goes.1.inner
             → (HasToAsk goes.1.inner v.settings d hop p → is_waiting goes.1.inner meta ≡ false → AsksOnce goes.1.inner goes.1.device e.sender.device)
-            → (list_any is_refused walked.all ≡ true) ⊎ (AsksInTurn s.inner turn walked.all ⊎ (goes.1.inner.neighbors ≡ s.inner.neighbors))
+            → (list_any is_refused walked.all ≡ true) ⊎ (AskedSo (InTurn s.inner) s.inner walked.all goes.1.inner ⊎ (goes.1.inner.neighbors ≡ s.inner.neighbors))
             → AsksOnce s.inner s.device e.sender.device
         by walked same more (inl refused) =
             with_tail s.inner s.device goes.1.device e.sender.device (record { all = walked.all; are = walked.are; what = inl refused })
             (tail goes.1 (before ++ goes.2 ∷ []) (changed || goes.0) ps e goes.4)
         by walked same more (inr (inl asked)) =
-            with_tail s.inner s.device goes.1.device e.sender.device (record { all = walked.all; are = walked.are; what = inr asked })
+            with_tail s.inner s.device goes.1.device e.sender.device (record { all = walked.all; are = walked.are; what = inr (asked_in_turn s.inner goes.1.inner walked.all asked) })
             (tail goes.1 (before ++ goes.2 ∷ []) (changed || goes.0) ps e goes.4)
         by walked same more (inr (inr kept)) =
             let still : (HasToAsk goes.1.inner v.settings d hop p) × (is_waiting goes.1.inner meta ≡ false) =
@@ -375,7 +409,7 @@ module _ {D : Type 0} (moves : D → Move → D → Type 0) (turn : Option IpAdd
               what = later same walked.all rest.all rest.what;
             }
     pass_asks s before changed (q ∷ ps) (suc n) e stands has ready (inr stops) =
-        let took : TurnWalks s stops.1 (Turn.Stop stops.0) = walks s stops.1 q stops.2 (Turn.Stop stops.0) stops.3 in
+        let took : TurnWalks (InTurn s.inner) s stops.1 (Turn.Stop stops.0) = walks_in_turn s stops.1 q stops.2 (Turn.Stop stops.0) stops.3 in
         record {
           all = took.walked.all;
           are = subst (λ (x : D). AreMoves moves took.walked.all s.device x) (sym (ap (λ (x : Passed D). x.sender.device) stops.4)) took.walked.are;

@@ -114,6 +114,43 @@ module _ (i : InnerValue) (q : Question) where
 pub plan_from : (i : InnerValue) (busy : Bool) (h : IpRepr) (q : Question) → plan_of i busy h ≡ Way.Ask q → IsFrom i.hardware i.addresses q
 plan_from i busy h q is = by_plan i q (never_leaves i h) busy h is
 
+-- and it is for the packet's next hop
+module _ (i : InnerValue) (q : Question) where
+  its_target : (k : Question) → Way.Ask k ≡ Way.Ask q → target_of k ≡ target_of q
+  its_target k is = ap target_of (let same : k ≡ q = cc in same)
+
+  target_v4 : (own : EthernetAddress) (o : Option Ipv4Address) (hop : Ipv4Address) → ask_v4 own o hop ≡ Way.Ask q → Address.Ipv4 hop ≡ target_of q
+  target_v4 own None hop is = absurd cc
+  target_v4 own (Some a) hop is = its_target (Query.Arp own a hop) is
+
+  target_from : (own : EthernetAddress) (hop : IpAddress) → ask_from own i hop ≡ Way.Ask q → hop ≡ target_of q
+  target_from own (Address.Ipv4 hop) is = target_v4 own (source_v4 i.addresses hop) hop is
+  target_from own (Address.Ipv6 hop) is = its_target (Query.Neighbor own (source_v6 i.addresses hop) hop) is
+
+  target_on : (hardware : HardwareAddress) (hop : IpAddress) → ask_on hardware i hop ≡ Way.Ask q → hop ≡ target_of q
+  target_on Hardware.Ip hop is = absurd cc
+  target_on (Hardware.Ethernet own) hop is = target_from own hop is
+
+  target_if : (may : Bool) (hop : IpAddress) → ask_if may i hop ≡ Way.Ask q → hop ≡ target_of q
+  target_if true hop is = target_on i.hardware hop is
+  target_if false hop is = absurd cc
+
+  target_by : (l : LinkAddress) (busy : Bool) (h : IpRepr) → plan_by l i busy h ≡ Way.Ask q → l ≡ Link.Unknown (target_of q)
+  target_by (Link.Known to) busy h is = absurd (no_question i q (nat_le (total_len h) (mtu_to i (destination_of h))) (can_be_cut h) busy to is)
+  target_by Link.NoRoute busy h is = absurd cc
+  target_by Link.Silent busy h is = absurd cc
+  target_by Link.Unanswered busy h is = absurd cc
+  target_by (Link.Unknown hop) busy h is = ap Link.Unknown (target_if (may_ask i hop) hop is)
+
+  target_plan : (never busy : Bool) (h : IpRepr) → (if never then Way.Drop else plan_by (link_address i (destination_of h)) i busy h) ≡ Way.Ask q
+      → link_address i (destination_of h) ≡ Link.Unknown (target_of q)
+  target_plan true busy h is = absurd cc
+  target_plan false busy h is = target_by (link_address i (destination_of h)) busy h is
+
+pub plan_for : (i : InnerValue) (busy : Bool) (h : IpRepr) (q : Question) → plan_of i busy h ≡ Way.Ask q
+    → link_address i (destination_of h) ≡ Link.Unknown (target_of q)
+plan_for i busy h q is = target_plan i q (never_leaves i h) busy h is
+
 -- WHAT STAYS
 
 module _ (i : InnerValue) (ident : ℕ) where
@@ -149,6 +186,14 @@ module _ (i : InnerValue) (ident : ℕ) where
     asks = may_kept (source_for i.addresses hop) hop has.asks;
     room = has.room;
   }
+
+pub sought_under : (i : InnerValue) (ident : ℕ) (to hop : IpAddress) → link_address (record i { ident = ident }) to ≡ Link.Unknown hop
+    → link_address i to ≡ Link.Unknown hop
+sought_under i ident to hop is = on_kept (record i { ident = ident }) i.ident i.hardware to hop is
+
+pub asks_under : (i : InnerValue) (ident : ℕ) (settings : UdpSettings) (d : UdpMetadata × List ℕ) (hop : IpAddress) (p : PacketValue)
+    → HasToAsk i settings d hop p → HasToAsk (record i { ident = ident }) settings d hop p
+asks_under i ident settings d hop p has = kept_by i ident settings d hop p has
 
 pub kept_in : (i i' : InnerValue) (settings : UdpSettings) (d : UdpMetadata × List ℕ) (hop : IpAddress) (p : PacketValue) (m : Meta) → IsSameHost i i'
     → i'.neighbors ≡ i.neighbors → HasToAsk i settings d hop p → is_waiting i m ≡ false

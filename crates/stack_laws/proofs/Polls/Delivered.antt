@@ -1,8 +1,8 @@
 -- A datagram goes from one host, and waits at another.
-use Rattle.std.proofs.Common.{◌≡◌, ◌≢◌, ℕ, ◌+◌, ◌^◌, ◌==◌, ◌&&◌, Bool, true, false, not, ◌⊎◌, inl, inr, cond, ℤ, List, [], ◌∷◌, ◌++◌, length, Option, Some, None}
+use Rattle.std.proofs.Common.{◌≡◌, ◌≢◌, ℕ, ◌+◌, ◌<◌, ◌^◌, ◌==◌, ◌&&◌, Bool, true, false, not, ◌⊎◌, inl, inr, cond, ℤ, List, [], ◌∷◌, ◌++◌, length, Option, Some, None}
 use Rattle.std.proofs.Common.{refl, sym, ap, ◌∙◌}
 use Rattle.std.specs.Prelude.{slice_get, position, nat_lt}
-use Rattle.std.specs.List.{list_any, prefix_len}
+use Rattle.std.specs.List.{list_any, prefix_len, AllByRecursion}
 use Rattle.std.proofs.lemmas.Bool.{and_from, or_left}
 use Rattle.net_base.specs.Device.{Move}
 use Rattle.net_base.specs.Packets.{contents, is_full_for}
@@ -40,14 +40,17 @@ use Rattle.interface_egress.specs.declared.socket_set.SocketStorage.{SocketStora
 use Rattle.interface.specs.Delivered.{link_of}
 use Rattle.interface.specs.Egress.{EgressStep}
 use Rattle.interface.specs.Ingress.{IngressStep}
+use Rattle.interface.specs.Polls.{Polls}
+use Rattle.interface.specs.QuietPoll.{HasNoFrame}
 use Rattle.interface.specs.State.{State}
 use Rattle.interface.specs.Taken.{CanRead, HasWidths}
 use Rattle.stack_laws.specs.Progress.Asked.{IsNext}
 use Rattle.stack_laws.specs.Progress.Delivered.{Brings, ComesNext, IsExpected, RefusesNothing, WaitsBehind, as_received, hears, reader_of}
-use Rattle.stack_laws.specs.Progress.Moves.{is_refused}
-use Rattle.stack_laws.specs.Progress.Queued.{CanGo, GoesAtOnce, HasTurn, WentFrom, frame_under, ports_of, with_ident}
+use Rattle.stack_laws.specs.Progress.Moves.{AreMoves, is_refused}
+use Rattle.stack_laws.specs.Progress.Queued.{CanGo, GoesAtOnce, GoesInTurn, HasTurn, HasWay, WentFrom, WentOut, ports_of, frame_under, with_ident}
 use Rattle.stack_laws.specs.Progress.Reached.{IsFor, udp_place}
 use Rattle.stack_laws.proofs.Polls.Goes.{step_goes}
+use Rattle.stack_laws.proofs.Polls.InTurn.{poll_goes}
 use Rattle.stack_laws.proofs.Polls.Reached.{reached, waits_behind}
 use Rattle.stack_laws.proofs.Polls.Readers.{is_read, finds}
 
@@ -212,7 +215,7 @@ module _ {E : Type 0} (moves : E → Move → E → Type 0) (i : InnerValue) (u 
       ∙ ap (λ (a : IpAddress). (as_received (source_of p.header) settings (record d.0 { endpoint = record d.0.endpoint { addr = a } }, d.1)).0)
       (same_destination then_host p.header ∙ goes_to i settings d to p can)
 
-  waits : IsNext moves u r.device (frame_under i ident to p ++ padding) → IngressStep moves u r (Some true) r'
+  pub waits : IsNext moves u r.device (frame_under i ident to p ++ padding) → IngressStep moves u r (Some true) r'
       → WaitsBehind r'.places m meta w (as_received (source_of p.header) settings d)
   waits next step = record {
     new = then_value;
@@ -224,6 +227,19 @@ module _ {E : Type 0} (moves : E → Move → E → Type 0) (i : InnerValue) (u 
   }
 
 -- IT GOES, AND IS READ
+
+-- where the packet went as the one device moved, and the link brings it
+went_and_read : {D E : Type 0} (out : D → Move → D → Type 0) (back : E → Move → E → Type 0) (i : InnerValue) (old new : D) (u : ℤ) (r r' : State E)
+    (m : ℕ) (w : UdpValue) (meta : Meta) (settings : UdpSettings) (d : UdpMetadata × List ℕ) (to : HardwareAddress) (p : PacketValue) (all : List Move)
+    → HasWidths i → d.0.endpoint.port ≢ 0 → CanGo i settings d to p → WentOut i to p all → AreMoves out all old new
+    → Brings out back i to p old new u r.device → CanRead i to (reader_of r.host.inner)
+    → IsExpected (at_moment u r.host.inner) r.places to p.header (ports_of settings d) m meta w → is_full_for w.received (length d.1) ≡ false
+    → IngressStep back u r (Some true) r' → WaitsBehind r'.places m meta w (as_received (source_of p.header) settings d)
+went_and_read out back i old new u r r' m w meta settings d to p all wide some can went are brings reads expected room taken =
+    let comes : ComesNext back u r.device i to p all =
+    brings all are (record { ident = went.sent.0; wide = went.wide wide.ident; sent = went.sent.1 }) in
+    waits back i u r r' m w meta settings d to p some can went.formed reads expected room comes.went.ident
+    (record { mtu = wide.mtu; ident = comes.went.wide }) comes.padding comes.next taken
 
 pub arrives : {D E : Type 0} (out : D → Move → D → Type 0) (back : E → Move → E → Type 0) (t u : ℤ) (s s' : State D) (r r' : State E)
     (answer : Option Bool) (n m : ℕ) (v w : UdpValue) (d : UdpMetadata × List ℕ) (more : List (UdpMetadata × List ℕ)) (to : HardwareAddress)
@@ -242,7 +258,28 @@ arrives {D} {E} out back t u s s' r r' answer n m v w d more to p meta wide turn
         → WaitsBehind r'.places m meta w (as_received (source_of p.header) v.settings d)
     by (inl refused) = absurd (let clash : true ≡ false = sym refused ∙ freely goes.all goes.are in cc)
     by (inr went) =
-        let comes : ComesNext back u r.device (at_moment t s.host.inner) to p goes.all =
-        brings goes.all goes.are (record { ident = went.sent.0; wide = went.wide wide.ident; sent = went.sent.1 }) in
-        waits back (at_moment t s.host.inner) u r r' m w meta v.settings d to p some can went.formed reads expected room comes.went.ident
-        (record { mtu = wide.mtu; ident = comes.went.wide }) comes.padding comes.next taken
+        went_and_read out back (at_moment t s.host.inner) s.device s'.device u r r' m w meta v.settings d to p goes.all wide some can
+        (record { sent = went.sent; wide = went.wide; formed = went.formed }) goes.are brings reads expected room taken
+
+-- the same of a poll of the one
+pub arrives_in_turn : {D E : Type 0} (out : D → Move → D → Type 0) (back : E → Move → E → Type 0) (t u : ℤ) (budget : ℕ) (s s' : State D) (r r' : State E)
+    (changed : Bool) (n m : ℕ) (v w : UdpValue) (before : List (UdpMetadata × List ℕ)) (d : UdpMetadata × List ℕ) (more : List (UdpMetadata × List ℕ))
+    (to : HardwareAddress) (p : PacketValue) (meta : Meta) → HasWidths (at_moment t s.host.inner) → HasTurn (at_moment t s.host.inner) s.places n v
+    → contents v.queued ≡ before ++ d ∷ more → length before < budget → AllByRecursion (HasWay (at_moment t s.host.inner) v.settings) before
+    → d.0.endpoint.port ≢ 0 → CanGo (at_moment t s.host.inner) v.settings d to p → HasNoFrame out t s.device → Polls out t budget s changed s'
+    → RefusesNothing out s.device s'.device → Brings out back (at_moment t s.host.inner) to p s.device s'.device u r.device
+    → CanRead (at_moment t s.host.inner) to (reader_of r.host.inner)
+    → IsExpected (at_moment u r.host.inner) r.places to p.header (ports_of v.settings d) m meta w → is_full_for w.received (length d.1) ≡ false
+    → IngressStep back u r (Some true) r' → WaitsBehind r'.places m meta w (as_received (source_of p.header) v.settings d)
+arrives_in_turn {D} {E} out back t u budget s s' r r' changed n m v w before d more to p meta wide turn queued short ways some can none polls freely brings
+    reads expected room taken = by goes.what
+  where
+    goes : GoesInTurn out (at_moment t s.host.inner) to p s.device s'.device
+    goes = poll_goes out t budget s s' changed n v before d more to p turn queued short ways can none polls
+
+    by : (list_any is_refused goes.all ≡ true) ⊎ WentOut (at_moment t s.host.inner) to p goes.all
+        → WaitsBehind r'.places m meta w (as_received (source_of p.header) v.settings d)
+    by (inl refused) = absurd (let clash : true ≡ false = sym refused ∙ freely goes.all goes.are in cc)
+    by (inr went) =
+        went_and_read out back (at_moment t s.host.inner) s.device s'.device u r r' m w meta v.settings d to p goes.all wide some can went goes.are brings reads
+        expected room taken

@@ -23,7 +23,7 @@ use Rattle.interface_ingress.specs.Arp.{arp_arrived, learned, teaches}
 use Rattle.interface_ingress.specs.Packet.{PacketValue}
 use Rattle.interface_ingress.specs.Sent.{AreSealed}
 use Rattle.interface_ingress.specs.Socket.{Socket}
-use Rattle.interface_tables.specs.Inner.{InnerValue, at_moment, has_neighbor, is_known_hop, is_known_on, is_own, mtu_to, with_neighbor}
+use Rattle.interface_tables.specs.Inner.{InnerValue, at_moment, has_neighbor, is_known_hop, is_known_on, is_own, mtu_to, next_hop, with_neighbor}
 use Rattle.interface_tables.specs.Neighbor.{CacheValue, entry_lifetime, is_found}
 use Rattle.interface_tables.specs.Source.{source_v4}
 use Rattle.interface_egress.specs.Departure as Departures
@@ -36,25 +36,25 @@ use Rattle.interface_egress.specs.declared.frame.Question.TheVariants as Query
 use Rattle.interface_egress.specs.declared.socket_meta.Meta.{Meta}
 use Rattle.interface_egress.specs.declared.socket_meta.Waiting.{Waiting}
 use Rattle.interface_egress.specs.declared.socket_set.SocketStorage.{SocketStorage}
-use Rattle.interface.specs.Awaited.{turn_of}
 use Rattle.interface.specs.Delivered.{AreOfOneMedium}
 use Rattle.interface.specs.Egress.{sending}
 use Rattle.interface.specs.SameHost.{IsSameHost}
 use Rattle.interface.specs.State.{State}
 use Rattle.interface.specs.Taken.{CanRead, HasWidths}
-use Rattle.interface.specs.Turn.{is_known, is_other, is_waiting}
+use Rattle.interface.specs.Turn.{is_known, is_waiting}
 use Rattle.interface.proofs.SameHost.{egress_same_host}
 use Rattle.stack_laws.specs.Progress.Asked as Asked
-use Rattle.stack_laws.specs.Progress.Asked.{AsksAtOnce, AsksInTurn, HasToAsk, IsFrom, IsNeighbor, IsNext, IsVia, arp_reply}
+use Rattle.stack_laws.specs.Progress.Asked.{AsksFirst, HasToAsk, IsFrom, IsNeighbor, IsNext, IsVia, arp_reply}
 use Rattle.stack_laws.specs.Progress.Delivered.{IsExpected, WaitsBehind, as_received, reader_of}
-use Rattle.stack_laws.specs.Progress.Exchanged.{AreNeighbors, Exchange, IsMarkFor, IsServed, IsStillFirst}
-use Rattle.stack_laws.specs.Progress.Moves.{is_refused}
-use Rattle.stack_laws.specs.Progress.Queued.{CanGo, HasTurn, Sends, ports_of}
+use Rattle.stack_laws.specs.Progress.Exchanged.{AreNeighbors, AsksFor, AsksForIt, Exchange, IsMarkFor, IsServed, IsStillFirst}
+use Rattle.stack_laws.specs.Progress.Moves.{AreMoves, is_refused}
+use Rattle.stack_laws.specs.Progress.Queued.{CanGo, Sends, ports_of}
 use Rattle.stack_laws.proofs.Polls.Answered as Answered
 use Rattle.stack_laws.proofs.Polls.Answered.{question_answered, goes_there, known_now, lives}
-use Rattle.stack_laws.proofs.Polls.Asking.{step_asks}
 use Rattle.stack_laws.proofs.Polls.Delivered.{arrives}
+use Rattle.stack_laws.proofs.Polls.First.{step_asks_for_it}
 use Rattle.stack_laws.proofs.Polls.Numbers.{IsSmall, step_small}
+use Rattle.stack_laws.proofs.Polls.Silenced.{IsSought, sought}
 
 -- THE QUESTION
 
@@ -119,7 +119,7 @@ module _ {D E : Type 0} {from : D → Move → D → Type 0} {at : E → Move �
     (d : UdpMetadata × List ℕ) (more : List (UdpMetadata × List ℕ)) (own station : EthernetAddress) (a asked : Ipv4Address) (p : PacketValue) (meta : Meta)
     (wide : HasWidths (at_moment x.asked x.s0.host.inner)) (both : AreNeighbors x.s0.host.inner x.r0.host.inner own station a asked)
     (has : HasToAsk (at_moment x.asked x.s0.host.inner) v.settings d (Address.Ipv4 asked) p)
-    (via : IsVia (at_moment x.heard x.s0.host.inner) (destination_of p.header) (Address.Ipv4 asked))
+    (via : next_hop (at_moment x.heard x.s0.host.inner) (destination_of p.header) ≡ Some (Address.Ipv4 asked))
     (short : total_len p.header ≤ mtu_to (at_moment x.heard x.s0.host.inner) (destination_of p.header))
     (served : IsServed x own station a asked p) where
   abbrev start : InnerValue
@@ -132,16 +132,11 @@ module _ {D E : Type 0} {from : D → Move → D → Type 0} {at : E → Move �
   reply = arp_reply station asked own a
 
   -- the question comes next at the other host
-  asked_next : AsksAtOnce from start (turn_of start x.s0.places) x.s0.device x.s1.device
+  asked_next : (all : List Move) → AreMoves from all x.s0.device x.s1.device → AsksFor start hop all
       → (padding : List ℕ) × IsNext at x.answered x.r0.device (frame_of start (Asks (Query.Arp own a asked)) ++ padding)
-  asked_next asks = by asks.what where
-    by : (list_any is_refused asks.all ≡ true) ⊎ AsksInTurn start (turn_of start x.s0.places) asks.all
-        → (padding : List ℕ) × IsNext at x.answered x.r0.device (frame_of start (Asks (Query.Arp own a asked)) ++ padding)
-    by (inl refused) = absurd (let clash : true ≡ false = sym refused ∙ served.asks_freely asks.all asks.are in cc)
-    by (inr it) =
-        served.question_comes asks.all asks.are
-        (subst (λ (q : Question). Sends (frame_of start (Asks q)) asks.all)
-        (question_is start own a asked both.here both.source it.question it.from (served.alone asks.all asks.are it.question it.sent)) it.sent)
+  asked_next all are it =
+      served.question_comes all are
+      (subst (λ (q : Question). Sends (frame_of start (Asks q)) all) (question_is start own a asked both.here both.source it.question it.from it.whom) it.sent)
 
   -- and its answer at the one
   answer_next : Asked.Tells at x.r0.host.inner reply x.r0.device x.r1.device
@@ -203,7 +198,9 @@ module _ {D E : Type 0} {from : D → Move → D → Type 0} {at : E → Move �
       ∙ ap (λ (y : InnerValue). at_moment x.heard (with_neighbor (at_moment x.heard y) hop (Hardware.Ethernet station))) is_waiting_host
 
   via_then : IsVia (at_moment x.heard waiting) (destination_of p.header) hop
-  via_then = record { one = via.one; group = via.group; hop_is = via.hop_is }
+  via_then =
+      let there : IsSought start (destination_of p.header) hop = sought start (destination_of p.header) hop has.unknown in
+      record { one = there.one; group = there.group; hop_is = via }
 
   can_then : CanGo knowing v.settings d (Hardware.Ethernet station) p
   can_then = record {
@@ -215,7 +212,7 @@ module _ {D E : Type 0} {from : D → Move → D → Type 0} {at : E → Move �
 
   hop_known : has_neighbor knowing (destination_of p.header) ≡ true
   hop_known =
-      ap (is_known_hop knowing) via.hop_is
+      ap (is_known_hop knowing) via
       ∙ ap (λ (h : HardwareAddress). is_known_on h knowing hop) both.here
       ∙ ap is_found (known_now waiting.neighbors (record {
         protocol_addr = hop;
@@ -282,11 +279,9 @@ module _ {D E : Type 0} {from : D → Move → D → Type 0} {at : E → Move �
         expected))))
         room x.reads)
 
-    exchanged : HasTurn start x.s0.places n v → contents v.queued ≡ d ∷ more → is_other (turn_of start x.s0.places) hop ≡ false
+    exchanged : (padding : List ℕ) × IsNext at x.answered x.r0.device (frame_of start (Asks (Query.Arp own a asked)) ++ padding)
         → WaitsBehind x.r3.places m meta w (as_received (source_of p.header) v.settings d)
-    exchanged turn queued whose =
-        let question : (padding : List ℕ) × IsNext at x.answered x.r0.device (frame_of start (Asks (Query.Arp own a asked)) ++ padding) =
-        asked_next (step_asks from x.asked x.s0 x.s1 x.first n v d more hop p turn queued has whose x.asks) in
+    exchanged question =
         let answer : (padding : List ℕ) × IsNext from x.heard x.s2.device (frame_of x.r0.host.inner (Departures.Tells reply) ++ padding) =
         answer_next (question_answered at x.answered x.r0 x.r1 start question.0 station own a asked both.there both.sealed_there both.theirs both.sees
         (both.own_is, both.a_is, both.asked_is) question.1 x.answers) in
@@ -301,14 +296,22 @@ module _ {D E : Type 0} {from : D → Move → D → Type 0} {at : E → Move �
 pub exchanged_with : {D E : Type 0} (from : D → Move → D → Type 0) (at : E → Move → E → Type 0) (x : Exchange from at) (n m : ℕ) (v w : UdpValue)
     (d : UdpMetadata × List ℕ) (more : List (UdpMetadata × List ℕ)) (own station : EthernetAddress) (a asked : Ipv4Address) (p : PacketValue) (meta : Meta)
     → HasWidths (at_moment x.asked x.s0.host.inner) → AreNeighbors x.s0.host.inner x.r0.host.inner own station a asked
-    → HasTurn (at_moment x.asked x.s0.host.inner) x.s0.places n v → contents v.queued ≡ d ∷ more → d.0.endpoint.port ≢ 0
+    → AsksFirst (at_moment x.asked x.s0.host.inner) x.s0.places n v (Address.Ipv4 asked) (destination_of p.header)
+    → contents v.queued ≡ d ∷ more → d.0.endpoint.port ≢ 0
     → HasToAsk (at_moment x.asked x.s0.host.inner) v.settings d (Address.Ipv4 asked) p
-    → is_other (turn_of (at_moment x.asked x.s0.host.inner) x.s0.places) (Address.Ipv4 asked) ≡ false
-    → IsStillFirst x.s1.places n v d (destination_of p.header)
-    → IsVia (at_moment x.heard x.s0.host.inner) (destination_of p.header) (Address.Ipv4 asked)
+    → next_hop (at_moment x.heard x.s0.host.inner) (destination_of p.header) ≡ Some (Address.Ipv4 asked)
     → total_len p.header ≤ mtu_to (at_moment x.heard x.s0.host.inner) (destination_of p.header)
     → IsExpected (at_moment x.read x.r0.host.inner) x.r0.places (Hardware.Ethernet station) p.header (ports_of v.settings d) m meta w
     → is_full_for w.received (length d.1) ≡ false → IsServed x own station a asked p
     → WaitsBehind x.r3.places m meta w (as_received (source_of p.header) v.settings d)
-exchanged_with from at x n m v w d more own station a asked p meta wide both turn queued some has whose still via short expected room served =
-    exchanged x n m v w d more own station a asked p meta wide both has via short served some still expected room turn queued whose
+exchanged_with {D} {E} from at x n m v w d more own station a asked p meta wide both asks queued some has via short expected room served = by it.what where
+  it : AsksForIt from (at_moment x.asked x.s0.host.inner) (Address.Ipv4 asked) (destination_of p.header) n v d x.s0.device x.s1.device x.s1.places
+  it = step_asks_for_it from x.asked x.s0 x.s1 x.first n v d more (Address.Ipv4 asked) p asks queued has x.asks
+
+  by : (list_any is_refused it.all ≡ true)
+      ⊎ (AsksFor (at_moment x.asked x.s0.host.inner) (Address.Ipv4 asked) it.all × IsStillFirst x.s1.places n v d (destination_of p.header))
+      → WaitsBehind x.r3.places m meta w (as_received (source_of p.header) v.settings d)
+  by (inl refused) = absurd (let clash : true ≡ false = sym refused ∙ served.asks_freely it.all it.are in cc)
+  by (inr this) =
+      exchanged x n m v w d more own station a asked p meta wide both has via short served some this.1 expected room
+      (asked_next x n m v w d more own station a asked p meta wide both has via short served it.all it.are this.0)

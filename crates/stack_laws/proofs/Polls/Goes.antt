@@ -50,7 +50,7 @@ no_place = None
 
 -- PLACES
 
-stands_at : (before more : List Place) (p : Place) → slice_get (before ++ p ∷ more) (length before) ≡ Some p
+pub stands_at : (before more : List Place) (p : Place) → slice_get (before ++ p ∷ more) (length before) ≡ Some p
 stands_at [] more p = refl
 stands_at (q ∷ before) more p = stands_at before more p
 
@@ -70,7 +70,7 @@ module _ {D : Type 0} (moves : D → Move → D → Type 0) where
   or_first false b e = absurd (let clash : false ≡ true = e in cc)
 
   -- the places before stay, and what changed stays said
-  kept : (turn : Option IpAddress) (s : Sender D) (before : List Place) (changed : Bool) (ps : List Place) (e : Passed D)
+  pub kept : (turn : Option IpAddress) (s : Sender D) (before : List Place) (changed : Bool) (ps : List Place) (e : Passed D)
       → Pass moves turn s before changed ps e
       → (more : List Place) × (e.places ≡ before ++ more)
   kept turn s before changed [] e ends = ([], ap (λ (x : Passed D). x.places) ends ∙ sym (append-nil before))

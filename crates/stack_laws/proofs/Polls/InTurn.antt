@@ -10,7 +10,6 @@ use Rattle.sockets.specs.Udp.{UdpValue, UdpSettings}
 use Rattle.sockets.specs.declared.udp.UdpMetadata.{UdpMetadata}
 use Rattle.interface_ingress.specs.Packet.{PacketValue}
 use Rattle.interface_ingress.specs.Socket.{Socket}
-use Rattle.interface_ingress.specs.WellFormed.{IsWellFormed}
 use Rattle.interface_tables.specs.Inner.{InnerValue, at_moment}
 use Rattle.interface_egress.specs.declared.socket_set.SocketStorage.{SocketStorage}
 use Rattle.interface.specs.Egress.{EgressStep, sending}
@@ -21,12 +20,13 @@ use Rattle.interface.specs.SameHost.{IsSameHost}
 use Rattle.interface.specs.State.{State}
 use Rattle.interface.proofs.SameHost.{same_where, egress_same_host}
 use Rattle.stack_laws.specs.Progress.Moves.{AreMoves, is_refused}
-use Rattle.stack_laws.specs.Progress.Queued.{CanGo, HasWay, HasTurn, SendsPacket, WentFrom, GoesAtOnce, GoesInTurn, frame_under, Sends}
+use Rattle.stack_laws.specs.Progress.Queued.{CanGo, HasWay, HasTurn, WentFrom, WentOut, GoesAtOnce, GoesInTurn, frame_under, Sends}
 use Rattle.stack_laws.proofs.Polls.Walks.{joined, refused_before, refused_behind, sends_before, sends_behind}
 use Rattle.stack_laws.proofs.Polls.Ways.{can_still, under_still}
 use Rattle.stack_laws.proofs.Polls.Passes.{StepEnds, egress_ends}
 use Rattle.stack_laws.proofs.Polls.Polled.{InEnds}
 use Rattle.stack_laws.proofs.Polls.Goes.{step_goes}
+use Rattle.stack_laws.proofs.Polls.Numbers.{IsSmall, step_small}
 
 abbrev Queued : Type 0
 Queued = UdpMetadata × List ℕ
@@ -93,23 +93,33 @@ module _ {D : Type 0} (moves : D → Move → D → Type 0) (t : ℤ) where
       ((ways.0.0, ways.0.1, can_still i j settings d ways.0.0 ways.0.1 same ways.0.2), ways_still i j settings ds same ways.1)
 
   abbrev Gone : InnerValue → HardwareAddress → PacketValue → List Move → Type 0
-  Gone i to p all = (list_any is_refused all ≡ true) ⊎ (SendsPacket i to p all × IsWellFormed p)
+  Gone i to p all = (list_any is_refused all ≡ true) ⊎ WentOut i to p all
 
   gone_before : (i : InnerValue) (to : HardwareAddress) (p : PacketValue) (xs ys : List Move) → Gone i to p xs → Gone i to p (xs ++ ys)
   gone_before i to p xs ys (inl refused) = inl (refused_before xs ys refused)
-  gone_before i to p xs ys (inr went) = inr ((went.0.0, sends_before (frame_under i went.0.0 to p) xs ys went.0.1), went.1)
+  gone_before i to p xs ys (inr went) = inr (record {
+    sent = (went.sent.0, sends_before (frame_under i went.sent.0 to p) xs ys went.sent.1);
+    wide = went.wide;
+    formed = went.formed;
+  })
 
-  gone_behind : (i j : InnerValue) (to : HardwareAddress) (p : PacketValue) (xs ys : List Move) → IsSameHost i j → Gone j to p ys → Gone i to p (xs ++ ys)
-  gone_behind i j to p xs ys same (inl refused) = inl (refused_behind xs ys refused)
-  gone_behind i j to p xs ys same (inr went) =
-      inr (
-        (
-          went.0.0,
-          sends_behind (frame_under i went.0.0 to p) xs ys
-              (subst (λ (frame : List ℕ). Sends frame ys) (under_still i j went.0.0 to p same) went.0.1),
-        ),
-        went.1,
-      )
+  gone_behind : (i j : InnerValue) (to : HardwareAddress) (p : PacketValue) (xs ys : List Move) → IsSameHost i j → (IsSmall i → IsSmall j) → Gone j to p ys
+      → Gone i to p (xs ++ ys)
+  gone_behind i j to p xs ys same small (inl refused) = inl (refused_behind xs ys refused)
+  gone_behind i j to p xs ys same small (inr went) = inr (record {
+    sent = (
+      went.sent.0,
+      sends_behind (frame_under i went.sent.0 to p) xs ys
+          (subst (λ (frame : List ℕ). Sends frame ys) (under_still i j went.sent.0 to p same) went.sent.1),
+    );
+    wide = λ before. went.wide (small before);
+    formed = went.formed;
+  })
+
+  behind_small : (s s' : State D) (answer : Option Bool) → EgressStep moves t s answer s' → IsSmall (at_moment t s.host.inner)
+      → IsSmall (at_moment t s'.host.inner)
+  behind_small s s' answer step small =
+      subst (λ (x : State D). IsSmall (at_moment t x.host.inner)) (sym step.2) (step_small moves (sending t s) s.places step.0 step.1 small)
 
   module _ (n : ℕ) (d : Queued) (more : List Queued) (to : HardwareAddress) (p : PacketValue) where
     abbrev Out : State D → State D → Type 0
@@ -140,7 +150,7 @@ module _ {D : Type 0} (moves : D → Move → D → Type 0) (t : ℤ) where
         by : (xs : List Move) (b : Bool) (places : List (SocketStorage Socket)) → (list_any is_refused xs ≡ true)
             ⊎ WentFrom (at_moment t s.host.inner) n v to p xs (Some b) places → Gone (at_moment t s.host.inner) to p xs
         by xs b places (inl refused) = inl refused
-        by xs b places (inr went) = inr (went.sent, went.formed)
+        by xs b places (inr went) = inr (record { sent = went.sent; wide = went.wide; formed = went.formed })
 
     -- behind the one that goes now
     out_goes : (budget : ℕ) (before : List Queued) (s s' : State D) (c c' : Bool) (v : UdpValue) → HasTurn (at_moment t s.host.inner) s.places n v
@@ -190,7 +200,7 @@ module _ {D : Type 0} (moves : D → Move → D → Type 0) (t : ℤ) where
               all = xs ++ rest.all;
               are = joined moves xs rest.all s.device goes.1.device s'.device are rest.are;
               what = gone_behind (at_moment t s.host.inner) (at_moment t goes.1.host.inner) to p xs rest.all
-                  (behind_same s goes.1 (Some goes.0) goes.2) rest.what;
+                  (behind_same s goes.1 (Some goes.0) goes.2) (behind_small s goes.1 (Some goes.0) goes.2) rest.what;
             }
 
   pub poll_goes : (budget : ℕ) (s s' : State D) (changed : Bool) (n : ℕ) (v : UdpValue) (before : List Queued) (d : Queued) (more : List Queued)
@@ -216,5 +226,5 @@ module _ {D : Type 0} (moves : D → Move → D → Type 0) (t : ℤ) where
         all = entry.all ++ exit.all;
         are = joined moves entry.all exit.all s.device mid.device s'.device entry.are exit.are;
         what = gone_behind (at_moment t s.host.inner) (at_moment t mid.host.inner) to p entry.all exit.all
-            (same_where (at_moment t s.host.inner) (at_moment t mid.host.inner) (sym here)) exit.what;
+            (same_where (at_moment t s.host.inner) (at_moment t mid.host.inner) (sym here)) (λ small. subst IsSmall here small) exit.what;
       }

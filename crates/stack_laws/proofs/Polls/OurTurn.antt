@@ -116,7 +116,7 @@ module _ {D : Type 0} (moves : D → Move → D → Type 0) (turn : Option IpAdd
       → is_waiting x.inner meta ≡ false
       → PlaceTurns moves turn x (record { inner = Some (record { meta = meta; socket = Kind.Udp v }) }) turned x' place → OurEnds turned place.inner
   our_turn more queued meta place turned ready goes =
-      let left : OursLeaves moves turn x x' v d p can.takes can.may turned place.inner =
+      let left : OursLeaves moves turn x x' v d p can.takes can.may meta turned place.inner =
       our_leave moves turn x x' v d p can.takes can.may more queued meta place turned ready goes in
       subst (λ (o : Option (Item Socket)). OurEnds turned o) (sym left.became)
       (leaves (settled_by left.sent x.inner.moment (waits_until (plan_at x p) x'.inner) (destination_of p.header)

@@ -1,15 +1,19 @@
 -- Whose turn it is to be asked for, and since when the others were.
-use Rattle.std.proofs.Common.{◌≡◌, ℕ, zero, suc, Bool, true, false, ℤ, ◌≤ℤ◌, int_lt, List, [], ◌∷◌, Option, Some, None, refl, ap, ◌∙◌, subst, arith}
+use Rattle.std.proofs.Common.{◌≡◌, ℕ, zero, suc, ◌<◌, Bool, true, false, ◌⊎◌, inl, inr, ℤ, pos, ◌+ℤ◌, ◌≤ℤ◌, int_lt, List, [], ◌∷◌, length}
+use Rattle.std.proofs.Common.{Option, Some, None, refl, sym, ap, ◌∙◌, subst, arith}
 use Rattle.std.specs.Prelude.{slice_get}
-use Rattle.std.specs.List.{filter_map, list_any, cons_option}
+use Rattle.std.specs.List.{AllByRecursion, filter_map, list_any, cons_option}
 use Rattle.std.proofs.lemmas.Bool.{or_parts}
 use Rattle.std.proofs.lemmas.Int.{ints}
+use Rattle.ip_wire.specs.IpAddress.{IpAddress}
 use Rattle.interface_tables.specs.Inner.{InnerValue}
+use Rattle.interface_tables.specs.Neighbor.{silent_time}
 use Rattle.interface_egress.specs.declared.socket_set.SocketStorage.{SocketStorage}
 use Rattle.interface_ingress.specs.Socket.{Socket}
 use Rattle.interface.specs.Awaited.{awaited_in, comes_before, is_before, next_awaited}
 use Rattle.interface.specs.declared.awaited.Awaited.{Awaited}
 use Rattle.interface.proofs.Waiting.{none_before}
+use Rattle.stack_laws.specs.Progress.Rounds.{AreRounds, Counts, IsOneOf, PassesOver, Round}
 
 abbrev Place : Type 0
 Place = SocketStorage Socket
@@ -66,3 +70,62 @@ module _ (i : InnerValue) (ps : List Place) (n : ℕ) (place : Place) (a b : Awa
       not_less b.since a.since
       (subst (λ (o : Option ℤ). is_before o None b.since a.since ≡ false) never
       (subst (λ (o : Option ℤ). is_before b.last_request o b.since a.since ≡ false) first never_before))
+
+-- AS MANY QUESTIONS AS NEIGHBOURS
+
+abbrev without : (x : IpAddress) (ys : List IpAddress) → IsOneOf x ys → List IpAddress
+without x [] here = []
+without x (y ∷ ys) (inl is) = ys
+without x (y ∷ ys) (inr later) = y ∷ without x ys later
+
+one_less : (x : IpAddress) (ys : List IpAddress) (here : IsOneOf x ys) → length ys ≡ suc (length (without x ys here))
+one_less x [] here = absurd here
+one_less x (y ∷ ys) (inl is) = refl
+one_less x (y ∷ ys) (inr later) = ap (λ (n : ℕ). suc n) (one_less x ys later)
+
+still_one : (x z : IpAddress) (ys : List IpAddress) (here : IsOneOf x ys) → IsOneOf z ys → (z ≡ x → ⊥) → IsOneOf z (without x ys here)
+still_one x z [] here there apart = there
+still_one x z (y ∷ ys) (inl is) (inl same) apart = absurd (apart (same ∙ sym is))
+still_one x z (y ∷ ys) (inl is) (inr more) apart = more
+still_one x z (y ∷ ys) (inr later) (inl same) apart = inl same
+still_one x z (y ∷ ys) (inr later) (inr more) apart = inr (still_one x z ys later more apart)
+
+never_late : (m l k : ℤ) → (m +ℤ pos 1_000_000) ≤ℤ l → l ≤ℤ k → k ≤ℤ m → ⊥
+never_late m l k first second third = grind (arith, ints)
+
+module _ (hop : IpAddress) (last : Option ℤ) (all : List IpAddress) where
+  abbrev Over : Round → Type 0
+  Over r = PassesOver hop last all r
+
+  -- nobody is asked for twice meanwhile
+  apart : (r later : Round) → Counts r later → Over r → Over later → later.asked.hop ≡ r.asked.hop → ⊥
+  apart r later counts over then same =
+      let again : (l : ℤ) × (later.asked.last_request ≡ Some l) × ((r.host.moment +ℤ pos silent_time) ≤ℤ l) = counts same in
+      let since : (k : ℤ) × (then.awaited.last_request ≡ Some k) × (again.0 ≤ℤ k) =
+      asked_for_since later.host later.places then.n then.place later.asked then.awaited later.turn then.stands then.waits again.0 again.1 in
+      never_late r.host.moment again.0 since.0 again.2 since.2 (over.due since.0 (sym then.since ∙ since.1))
+
+  module _ (r : Round) (over : Over r) (hops : List IpAddress) (here : IsOneOf r.asked.hop hops) where
+    others : (rs : List Round) → AllByRecursion (Counts r) rs → AllByRecursion Over rs → AllByRecursion (λ q. IsOneOf q.asked.hop hops) rs
+        → AllByRecursion (λ q. IsOneOf q.asked.hop (without r.asked.hop hops here)) rs
+    others [] counts overs ones = tt
+    others (q ∷ rs) counts overs ones =
+        (still_one r.asked.hop q.asked.hop hops here ones.0 (apart r q counts.0 over overs.0), others rs counts.1 overs.1 ones.1)
+
+  fewer : (rounds : List Round) (hops : List IpAddress) → AreRounds rounds → AllByRecursion Over rounds
+      → AllByRecursion (λ r. IsOneOf r.asked.hop hops) rounds → IsOneOf hop hops → length rounds < length hops
+  fewer [] hops are overs ones ours = let some = one_less hop hops ours in omega (arith, some)
+  fewer (r ∷ rs) hops are overs ones ours =
+      let less : length rs < length (without r.asked.hop hops ones.0) =
+      fewer rs (without r.asked.hop hops ones.0) are.1 overs.1 (others r overs.0 hops ones.0 rs are.0 overs.1 ones.1)
+      (still_one r.asked.hop hop hops ones.0 ours (λ is. overs.0.other (sym is))) in
+      let some = one_less r.asked.hop hops ones.0 in
+      omega (arith, less, some)
+
+  each_one : (rounds : List Round) → AllByRecursion Over rounds → AllByRecursion (λ r. IsOneOf r.asked.hop all) rounds
+  each_one [] overs = tt
+  each_one (r ∷ rs) overs = (overs.0.another, each_one rs overs.1)
+
+pub asked_within : (rounds : List Round) (hops : List IpAddress) (hop : IpAddress) (last : Option ℤ) → AreRounds rounds
+    → AllByRecursion (PassesOver hop last hops) rounds → IsOneOf hop hops → length rounds < length hops
+asked_within rounds hops hop last are overs ours = fewer hop last hops rounds hops are overs (each_one hop last hops rounds overs) ours

@@ -1,6 +1,6 @@
 -- A datagram whose next hop isn't known: that neighbour is asked for, answers, and is known.
-use Rattle.std.specs.Prelude.{◌≡◌, ◌⊎◌, ℕ, ℤ, true, false, List, Option, Some}
-use Rattle.std.specs.List.{list_any}
+use Rattle.std.specs.Prelude.{◌≡◌, ◌⊎◌, ℕ, ℤ, true, false, List, take, Option, Some, None}
+use Rattle.std.specs.List.{list_any, AllByRecursion}
 use Rattle.net_base.specs.Device.{Move, Took}
 use Rattle.ip_wire.specs.AddressTests.{is_ethernet_unicast, is_multicast, is_unicast_v4}
 use Rattle.ip_wire.specs.EthernetAddress.{EthernetAddress}
@@ -14,10 +14,14 @@ use Rattle.ip_wire.specs.Ipv4Address.{Ipv4Address}
 use Rattle.ip_wire.specs.declared.arp.kinds.ArpOperation.TheVariants as Operation
 use Rattle.ip_wire.specs.declared.arp.repr.ArpRepr.{ArpRepr}
 use Rattle.ip_wire.specs.declared.arp.repr.ArpRepr.TheVariants as Arp
-use Rattle.sockets.specs.Udp.{UdpSettings, TakesDatagram}
+use Rattle.sockets.specs.Udp.{UdpValue, UdpSettings, TakesDatagram}
 use Rattle.sockets.specs.declared.udp.UdpMetadata.{UdpMetadata}
+use Rattle.interface_ingress.specs.Offer as Answer
 use Rattle.interface_ingress.specs.Packet.{PacketValue}
+use Rattle.interface_ingress.specs.Socket.{Socket}
+use Rattle.interface_ingress.specs.Sockets.{Offers, offered_by}
 use Rattle.interface_tables.specs.Inner.{InnerValue, context_of, link_address, next_hop, is_crowded, is_local_broadcast, is_in_own_network}
+use Rattle.interface_tables.specs.Inner.{with_request}
 use Rattle.interface_tables.specs.declared.link.LinkAddress.TheVariants as Link
 use Rattle.interface_tables.specs.Source.{source_v4, source_v6}
 use Rattle.interface_egress.specs.Departure as Departures
@@ -26,9 +30,14 @@ use Rattle.interface_egress.specs.GoesOut.{frame_of}
 use Rattle.interface_egress.specs.Plan.{never_leaves, may_ask}
 use Rattle.interface_egress.specs.declared.frame.Question.{Question}
 use Rattle.interface_egress.specs.declared.frame.Question.TheVariants as Query
-use Rattle.interface.specs.Turn.{is_other}
+use Rattle.interface_egress.specs.declared.plan.Plan.TheVariants as Way
+use Rattle.interface_egress.specs.declared.socket_set.Item.{Item}
+use Rattle.interface_egress.specs.declared.socket_set.SocketStorage.{SocketStorage}
+use Rattle.interface.specs.Awaited.{turn_of}
+use Rattle.interface.specs.Remote.{context_for}
+use Rattle.interface.specs.Turn.{is_given_up, is_other, is_waiting}
 use Rattle.stack_laws.specs.Progress.Moves.{AreMoves, is_refused}
-use Rattle.stack_laws.specs.Progress.Queued.{Sends}
+use Rattle.stack_laws.specs.Progress.Queued.{HasTurn, Sends}
 
 -- This packet takes a datagram of a socket with these settings, and may leave the host; the hardware address of its next hop isn't known,
 -- and may be asked for now; and the host keeps count of fewer neighbours than it can.
@@ -56,6 +65,29 @@ pub record AsksAtOnce {D : Type 0} (moves : D → Move → D → Type 0) (i : In
   pub all : List Move
   pub are : AreMoves moves all old new
   pub what : (list_any is_refused all ≡ true) ⊎ AsksInTurn i turn all
+
+-- WHO ASKS FIRST
+
+-- the socket at a place, which waits for no neighbour at the host's moment, may offer this packet
+abbrev pub MayOffer : InnerValue → Option (Item Socket) → PacketValue → Type 0
+MayOffer i None p = ⊥
+MayOffer i (Some item) p =
+    (is_waiting i item.meta ≡ false)
+    × ((answer : Answer.Offer) × (s : Socket) × Offers (context_for i item.socket) item.socket answer s × (offered_by s ≡ Some p))
+
+-- no packet that it may offer has another next hop whose hardware address isn't known
+abbrev pub NeedsNoOther : InnerValue → IpAddress → SocketStorage Socket → Type 0
+NeedsNoOther i hop place =
+    (p : PacketValue) (other : IpAddress) → MayOffer i place.inner p → link_address i (destination_of p.header) ≡ Link.Unknown other → other ≡ hop
+
+-- The UDP socket at a place has its turn; the neighbour whose turn it is to be asked for, if a socket waits for one, is this hop, and where no
+-- socket waits, those before this one need no other. And its packet for this destination isn't given up behind the question, as one is that has
+-- waited for half a minute while the host asks for as many neighbours as it keeps count of.
+pub record AsksFirst (i : InnerValue) (places : List (SocketStorage Socket)) (n : ℕ) (v : UdpValue) (hop to : IpAddress) : Type 0 where
+  pub turn : HasTurn i places n v
+  pub whose : is_other (turn_of i places) hop ≡ false
+  pub alone : turn_of i places ≡ None → AllByRecursion (NeedsNoOther i hop) (take n places)
+  pub spared : is_given_up turn.meta (with_request i hop) to Way.Wait ≡ false
 
 -- ANSWERS (RFC 826)
 

@@ -1,5 +1,6 @@
 -- A datagram to a neighbour that isn't known, over IPv4 on Ethernet (RFC 826): the neighbour is asked for, answers, and gets the datagram.
-use Rattle.std.specs.Prelude.{◌≡◌, ℕ, ℤ, true, Bool, List, ◌∷◌, ◌++◌, slice_get, Option, Some, None}
+use Rattle.std.specs.Prelude.{◌≡◌, ◌⊎◌, ℕ, ℤ, true, Bool, List, ◌∷◌, ◌++◌, slice_get, Option, Some, None}
+use Rattle.std.specs.List.{list_any}
 use Rattle.net_base.specs.Device.{Move}
 use Rattle.net_base.specs.Packets.{contents}
 use Rattle.ip_wire.specs.Address.{IsEthernetAddress, IsIpv4Address}
@@ -26,9 +27,9 @@ use Rattle.interface_egress.specs.declared.socket_set.SocketStorage.{SocketStora
 use Rattle.interface.specs.Egress.{EgressStep}
 use Rattle.interface.specs.Ingress.{IngressStep}
 use Rattle.interface.specs.State.{State, at_device}
-use Rattle.stack_laws.specs.Progress.Asked.{IsNext, IsNeighbor, arp_reply}
+use Rattle.stack_laws.specs.Progress.Asked.{IsFrom, IsNext, IsNeighbor, arp_reply}
 use Rattle.stack_laws.specs.Progress.Delivered.{Brings, RefusesNothing}
-use Rattle.stack_laws.specs.Progress.Moves.{AreMoves}
+use Rattle.stack_laws.specs.Progress.Moves.{AreMoves, is_refused}
 use Rattle.stack_laws.specs.Progress.Queued.{Sends}
 use Rattle.stack_laws.specs.Progress.Reached.{udp_place}
 
@@ -69,18 +70,12 @@ abbrev pub BringsFrame : {D E : Type 0} → (D → Move → D → Type 0) → (E
 BringsFrame {D} {E} from at frame old new t device =
     (all : List Move) → AreMoves from all old new → Sends frame all → (padding : List ℕ) × IsNext at t device (frame ++ padding)
 
--- as the device moved, no other neighbour than this one was asked for
-abbrev pub AsksOnlyFor : {D : Type 0} → (D → Move → D → Type 0) → InnerValue → IpAddress → D → D → Type 0
-AsksOnlyFor {D} moves i hop old new =
-    (all : List Move) → AreMoves moves all old new → (q : Question) → Sends (frame_of i (Asks q)) all → target_of q ≡ hop
-
--- No device refuses anything; no other neighbour is asked for; and question, answer and packet each come next at the other device.
+-- No device refuses anything; and question, answer and packet each come next at the other device.
 pub record IsServed {D E : Type 0} {from : D → Move → D → Type 0} {at : E → Move → E → Type 0} (x : Exchange from at)
     (own station : EthernetAddress) (a asked : Ipv4Address) (p : PacketValue) : Type 0 where
   pub asks_freely : RefusesNothing from x.s0.device x.s1.device
   pub answers_freely : RefusesNothing at x.r0.device x.r1.device
   pub sends_freely : RefusesNothing from x.s4.device x.s5.device
-  pub alone : AsksOnlyFor from (at_moment x.asked x.s0.host.inner) (Address.Ipv4 asked) x.s0.device x.s1.device
   pub question_comes : BringsFrame from at (frame_of (at_moment x.asked x.s0.host.inner) (Asks (Query.Arp own a asked))) x.s0.device x.s1.device x.answered
       x.r0.device
   pub answer_comes : BringsFrame at from (frame_of x.r0.host.inner (Departures.Tells (arp_reply station asked own a))) x.r0.device x.r1.device x.heard
@@ -108,6 +103,13 @@ pub record AreNeighbors (i j : InnerValue) (own station : EthernetAddress) (a as
 
 -- THE DATAGRAM MEANWHILE
 
+-- among the moves a question of the host for this hop went
+pub record AsksFor (i : InnerValue) (hop : IpAddress) (all : List Move) : Type 0 where
+  pub question : Question
+  pub from : IsFrom i.hardware i.addresses question
+  pub sent : Sends (frame_of i (Asks question)) all
+  pub whom : target_of question ≡ hop
+
 -- a mark for this destination, or none
 abbrev pub IsMarkFor : Option Waiting → IpAddress → Type 0
 IsMarkFor None to = Unit {0}
@@ -122,3 +124,10 @@ pub record IsStillFirst (places : List (SocketStorage Socket)) (n : ℕ) (v : Ud
   pub settings : value.settings ≡ v.settings
   pub first : contents value.queued ≡ d ∷ more
   pub mark : IsMarkFor meta.waiting to
+
+-- of a step of the way out: a question for this hop went, and the socket still has the datagram first; or the device refused
+pub record AsksForIt {D : Type 0} (moves : D → Move → D → Type 0) (i : InnerValue) (hop to : IpAddress) (n : ℕ) (v : UdpValue)
+    (d : UdpMetadata × List ℕ) (old new : D) (places : List (SocketStorage Socket)) : Type 0 where
+  pub all : List Move
+  pub are : AreMoves moves all old new
+  pub what : (list_any is_refused all ≡ true) ⊎ (AsksFor i hop all × IsStillFirst places n v d to)

@@ -23,3 +23,11 @@ is_refused (Empty t) = false
 is_refused (Allowed t given) = not given
 is_refused (Emitted frame) = false
 is_refused (Denied len) = true
+
+-- no look for a frame: leave to send, or a frame that went or was refused
+abbrev pub goes_out : Move → Bool
+goes_out (Took t frame) = false
+goes_out (Empty t) = false
+goes_out (Allowed t given) = true
+goes_out (Emitted frame) = true
+goes_out (Denied len) = true

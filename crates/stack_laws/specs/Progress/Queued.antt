@@ -85,11 +85,17 @@ pub record GoesAtOnce {D : Type 0} (moves : D → Move → D → Type 0) (i : In
   pub are : AreMoves moves all old new
   pub what : (list_any is_refused all ≡ true) ⊎ WentFrom i n v to p all answer places
 
--- of a poll: a packet that can be sent went, or the device refused
+-- a packet that can be sent went, under an identification of 16 bits where the host had one
+pub record WentOut (i : InnerValue) (to : HardwareAddress) (p : PacketValue) (all : List Move) : Type 0 where
+  pub sent : SendsPacket i to p all
+  pub wide : i.ident < 2 ^ 16 → sent.0 < 2 ^ 16
+  pub formed : IsWellFormed p
+
+-- of a poll: it went, or the device refused
 pub record GoesInTurn {D : Type 0} (moves : D → Move → D → Type 0) (i : InnerValue) (to : HardwareAddress) (p : PacketValue) (old new : D) : Type 0 where
   pub all : List Move
   pub are : AreMoves moves all old new
-  pub what : (list_any is_refused all ≡ true) ⊎ (SendsPacket i to p all × IsWellFormed p)
+  pub what : (list_any is_refused all ≡ true) ⊎ WentOut i to p all
 
 -- WHAT IS READ
 

@@ -1,6 +1,7 @@
 //! A datagram that is queued at one host comes to wait at another.
 
-ghost use Rattle.std.specs.Prelude.{◌≡◌, ◌≢◌, ℕ, ◌≤◌, ℤ, Bool, true, false, List, ◌∷◌, length, Option, Some};
+ghost use Rattle.std.specs.Prelude.{◌≡◌, ◌≢◌, ℕ, ◌<◌, ◌≤◌, ℤ, Bool, true, false, List, ◌∷◌, ◌++◌, length, Option, Some};
+ghost use Rattle.std.specs.List.{AllByRecursion};
 ghost use Rattle.net_base.specs.Packets.{contents, is_full_for};
 ghost use Rattle.ip_wire.specs.EthernetAddress.{EthernetAddress};
 ghost use Rattle.ip_wire.specs.HardwareAddress.{HardwareAddress};
@@ -11,19 +12,21 @@ ghost use Rattle.ip_packet.specs.Ip.{destination_of, source_of};
 ghost use Rattle.sockets.specs.Udp.{UdpValue};
 ghost use Rattle.sockets.specs.declared.udp.UdpMetadata.{UdpMetadata};
 ghost use Rattle.interface_ingress.specs.Packet.{PacketValue};
-ghost use Rattle.interface_tables.specs.Inner.{at_moment, mtu_to};
+ghost use Rattle.interface_tables.specs.Inner.{at_moment, mtu_to, next_hop};
 ghost use Rattle.interface_egress.specs.Plan.{total_len};
 ghost use Rattle.interface_egress.specs.declared.socket_meta.Meta.{Meta};
-ghost use Rattle.interface.specs.Awaited.{turn_of};
 ghost use Rattle.interface.specs.Egress.{EgressStep};
 ghost use Rattle.interface.specs.Ingress.{IngressStep};
+ghost use Rattle.interface.specs.Polls.{Polls};
+ghost use Rattle.interface.specs.QuietPoll.{HasNoFrame};
 ghost use Rattle.interface.specs.State.{State};
 ghost use Rattle.interface.specs.Taken.{CanRead, HasWidths};
-ghost use Rattle.interface.specs.Turn.{is_other};
-ghost use Rattle.stack_laws.specs.Progress.Asked.{HasToAsk, IsVia};
-ghost use Rattle.stack_laws.specs.Progress.Exchanged.{AreNeighbors, Exchange, IsServed, IsStillFirst};
+ghost use Rattle.stack_laws.specs.Progress.Asked.{AsksFirst, HasToAsk};
+ghost use Rattle.stack_laws.specs.Progress.Exchanged.{AreNeighbors, Exchange, IsServed};
 ghost use Rattle.stack_laws.specs.Progress.Delivered.{Brings, IsExpected, RefusesNothing, WaitsBehind, as_received, reader_of};
-ghost use Rattle.stack_laws.specs.Progress.Queued.{CanGo, HasTurn, ports_of};
+ghost use Rattle.stack_laws.specs.PeerHost.Datagrams.{IsUdpAt};
+ghost use Rattle.stack_laws.specs.Progress.Inbox.{BringsAmong, IsInbox, IsReady, WaitsAmongThem};
+ghost use Rattle.stack_laws.specs.Progress.Queued.{CanGo, HasTurn, HasWay, ports_of};
 
 use net_base::Device;
 
@@ -49,22 +52,70 @@ pub fn a_datagram_arrives<D: Device, E: Device>()
         → WaitsBehind r'.places m meta w (as_received (source_of p.header) v.settings d) }
 {}
 
+/// Law: so do the datagrams behind it, in their turn: in a poll of the one that finds no frame, and in which its device refuses nothing, each datagram
+/// goes that has fewer before it in the queue than the poll has steps, and a step of the way in of the other, at whose device its frame comes next,
+/// leaves it at the UDP socket that it is for. Whatever other sockets of the one wait for and send.
+pub fn a_queued_datagram_arrives_in_turn<D: Device, E: Device>()
+    ensures { (t u : ℤ) (budget : ℕ) (s s' : State D) (r r' : State E) (changed : Bool) (n m : ℕ) (v w : UdpValue)
+        (before : List (UdpMetadata × List ℕ)) (d : UdpMetadata × List ℕ) (more : List (UdpMetadata × List ℕ)) (to : HardwareAddress)
+        (p : PacketValue) (meta : Meta)
+        → HasWidths (at_moment t s.host.inner)
+        → HasTurn (at_moment t s.host.inner) s.places n v
+        → contents v.queued ≡ before ++ d ∷ more
+        → length before < budget
+        → AllByRecursion (HasWay (at_moment t s.host.inner) v.settings) before
+        → d.0.endpoint.port ≢ 0
+        → CanGo (at_moment t s.host.inner) v.settings d to p
+        → HasNoFrame D.moves t s.device
+        → Polls D.moves t budget s changed s'
+        → RefusesNothing D.moves s.device s'.device
+        → Brings D.moves E.moves (at_moment t s.host.inner) to p s.device s'.device u r.device
+        → CanRead (at_moment t s.host.inner) to (reader_of r.host.inner)
+        → IsExpected (at_moment u r.host.inner) r.places to p.header (ports_of v.settings d) m meta w
+        → is_full_for w.received (length d.1) ≡ false
+        → IngressStep E.moves u r (Some true) r'
+        → WaitsBehind r'.places m meta w (as_received (source_of p.header) v.settings d) }
+{}
+
+/// Law: within two polls: where the other host's device has the frames in order, with its frame behind fewer others than that host's poll has steps,
+/// one poll of the one sends the datagram, and one poll of the other ends with it at the UDP socket that it is for, behind those that waited there,
+/// among others that came. Wherever that poll has come when its frame is next, the socket expects the datagram, and has room for it.
+pub fn a_queued_datagram_arrives_within_a_poll<D: Device, E: Device>()
+    ensures { (frames_at : E → List (List ℕ)) (t u : ℤ) (budget steps : ℕ) (s s' : State D) (r r' : State E)
+        (changed changed' : Bool) (n m : ℕ) (v w : UdpValue) (before : List (UdpMetadata × List ℕ)) (d : UdpMetadata × List ℕ) (more : List (UdpMetadata × List ℕ))
+        (to : HardwareAddress) (p : PacketValue)
+        → IsInbox E.moves frames_at
+        → HasWidths (at_moment t s.host.inner)
+        → HasTurn (at_moment t s.host.inner) s.places n v
+        → contents v.queued ≡ before ++ d ∷ more
+        → length before < budget
+        → AllByRecursion (HasWay (at_moment t s.host.inner) v.settings) before
+        → d.0.endpoint.port ≢ 0
+        → CanGo (at_moment t s.host.inner) v.settings d to p
+        → HasNoFrame D.moves t s.device
+        → Polls D.moves t budget s changed s'
+        → RefusesNothing D.moves s.device s'.device
+        → BringsAmong D.moves frames_at (at_moment t s.host.inner) to p s.device s'.device r.device steps
+        → IsUdpAt r.places m w
+        → IsReady E.moves frames_at u r (at_moment t s.host.inner) to p v.settings d m
+        → Polls E.moves u steps r changed' r'
+        → WaitsAmongThem r'.places m w (as_received (source_of p.header) v.settings d) }
+{}
+
 /// Law: the same over IPv4 on Ethernet where the next hop isn't known yet, and the other host is that hop: the one asks for it, the other answers,
-/// the one reads the answer and sends at that moment, and the other reads the datagram. No device refuses anything in these steps, no other
-/// neighbour is asked for, question, answer and packet each come next at the other device, and behind the question the datagram still is the first
-/// of its socket.
+/// the one reads the answer and sends at that moment, and the other reads the datagram. No device refuses anything in these steps, and question,
+/// answer and packet each come next at the other device. No socket of the one waits for another neighbour whose turn it is; and where none waits
+/// for any, those before this one need no other.
 pub fn a_datagram_to_an_unknown_neighbor_arrives<D: Device, E: Device>()
     ensures { (x : Exchange D.moves E.moves) (n m : ℕ) (v w : UdpValue) (d : UdpMetadata × List ℕ) (more : List (UdpMetadata × List ℕ))
         (own station : EthernetAddress) (a asked : Ipv4Address) (p : PacketValue) (meta : Meta)
         → HasWidths (at_moment x.asked x.s0.host.inner)
         → AreNeighbors x.s0.host.inner x.r0.host.inner own station a asked
-        → HasTurn (at_moment x.asked x.s0.host.inner) x.s0.places n v
+        → AsksFirst (at_moment x.asked x.s0.host.inner) x.s0.places n v (Address.Ipv4 asked) (destination_of p.header)
         → contents v.queued ≡ d ∷ more
         → d.0.endpoint.port ≢ 0
         → HasToAsk (at_moment x.asked x.s0.host.inner) v.settings d (Address.Ipv4 asked) p
-        → is_other (turn_of (at_moment x.asked x.s0.host.inner) x.s0.places) (Address.Ipv4 asked) ≡ false
-        → IsStillFirst x.s1.places n v d (destination_of p.header)
-        → IsVia (at_moment x.heard x.s0.host.inner) (destination_of p.header) (Address.Ipv4 asked)
+        → next_hop (at_moment x.heard x.s0.host.inner) (destination_of p.header) ≡ Some (Address.Ipv4 asked)
         → total_len p.header ≤ mtu_to (at_moment x.heard x.s0.host.inner) (destination_of p.header)
         → IsExpected (at_moment x.read x.r0.host.inner) x.r0.places (Hardware.Ethernet station) p.header (ports_of v.settings d) m meta w
         → is_full_for w.received (length d.1) ≡ false

@@ -1,6 +1,7 @@
 //! A neighbour that isn't known is asked for, in its turn, answers, and is known.
 
-ghost use Rattle.std.specs.Prelude.{◌≡◌, ℕ, ℤ, ◌≤ℤ◌, Bool, true, false, List, ◌∷◌, ◌++◌, Option, None, Some, slice_get};
+ghost use Rattle.std.specs.Prelude.{◌≡◌, ℕ, ◌<◌, ℤ, pos, ◌+ℤ◌, ◌≤ℤ◌, Bool, true, false, List, ◌∷◌, ◌++◌, length, Option, None, Some, slice_get};
+ghost use Rattle.std.specs.List.{AllByRecursion};
 ghost use Rattle.net_base.specs.Packets.{contents};
 ghost use Rattle.control_wire.specs.Ndisc.{Solicitation, Advertisement};
 ghost use Rattle.ip_wire.specs.Address.{IsEthernetAddress};
@@ -8,6 +9,7 @@ ghost use Rattle.ip_wire.specs.AddressTests.{is_ethernet_unicast, is_unicast_v6}
 ghost use Rattle.ip_wire.specs.Arp as Arps;
 ghost use Rattle.ip_wire.specs.EthernetAddress.{EthernetAddress};
 ghost use Rattle.ip_wire.specs.HardwareAddress.TheVariants as Hardware;
+ghost use Rattle.ip_packet.specs.Ip.{destination_of};
 ghost use Rattle.ip_wire.specs.IpAddress.{IpAddress};
 ghost use Rattle.ip_wire.specs.IpAddress.TheVariants as Address;
 ghost use Rattle.ip_wire.specs.Ipv4Address.{Ipv4Address};
@@ -19,6 +21,7 @@ ghost use Rattle.interface_ingress.specs.Acquaintance.{knows, seeks};
 ghost use Rattle.interface_ingress.specs.Heard.{advertisement, advertisement_header, flags_for, neighbor_heard, told_at};
 ghost use Rattle.interface_ingress.specs.Sent.{AreSealed};
 ghost use Rattle.interface_tables.specs.Inner.{InnerValue, at_moment, is_own, is_own_solicited_node, link_address};
+ghost use Rattle.interface_tables.specs.Neighbor.{CacheValue, last_request, requested, silent_time};
 ghost use Rattle.interface_tables.specs.declared.link.LinkAddress.TheVariants as Link;
 ghost use Rattle.interface_egress.specs.Departure as Departures;
 ghost use Rattle.interface_egress.specs.Departure.{Asks, solicitation_header, solicited_node};
@@ -34,7 +37,9 @@ ghost use Rattle.interface.specs.Ingress.{IngressStep};
 ghost use Rattle.interface.specs.State.{State};
 ghost use Rattle.interface.specs.Turn.{is_other};
 ghost use Rattle.stack_laws.specs.Progress.Queued.{HasTurn};
-ghost use Rattle.stack_laws.specs.Progress.Asked.{HasToAsk, AsksAtOnce, IsNext, IsNeighbor, IsVia, Tells, arp_reply};
+ghost use Rattle.stack_laws.specs.Progress.Asked.{HasToAsk, AsksAtOnce, AsksFirst, IsNext, IsNeighbor, IsVia, Tells, arp_reply};
+ghost use Rattle.stack_laws.specs.Progress.Exchanged.{AsksForIt};
+ghost use Rattle.stack_laws.specs.Progress.Rounds.{AreRounds, IsOneOf, PassesOver, Round};
 
 use net_base::Device;
 
@@ -52,9 +57,24 @@ pub fn unknown_neighbors_are_asked_for<D: Device>()
         → AsksAtOnce D.moves (at_moment t s.host.inner) (turn_of (at_moment t s.host.inner) s.places) s.device s'.device }
 {}
 
+/// Law: and the datagram stays. In such a step the question is for its own next hop, where no socket waits for another neighbour whose turn it is,
+/// and, where none waits for any, the sockets before this one need no other; and behind the step the datagram still is the first of its socket,
+/// which waits for its destination. Unless the device refuses.
+pub fn a_datagram_waits_for_its_neighbor<D: Device>()
+    ensures { (t : ℤ) (s s' : State D) (answer : Option Bool) (n : ℕ) (v : UdpValue) (d : UdpMetadata × List ℕ)
+        (more : List (UdpMetadata × List ℕ)) (hop : IpAddress) (p : PacketValue)
+        → AsksFirst (at_moment t s.host.inner) s.places n v hop (destination_of p.header)
+        → contents v.queued ≡ d ∷ more
+        → HasToAsk (at_moment t s.host.inner) v.settings d hop p
+        → EgressStep D.moves t s answer s'
+        → AsksForIt D.moves (at_moment t s.host.inner) hop (destination_of p.header) n v d s.device s'.device s'.places }
+{}
+
 /// Law: turns come round. Whoever's turn it is to be asked for again, each other neighbour that a socket waits for was asked for since: its last
-/// request is to be answered no earlier. And of those that were never asked for the one is first that was waited for longest. So of so many
-/// neighbours that sockets wait for each is asked for within as many questions, which go a second apart (`asks_a_second_apart`).
+/// request is to be answered no earlier. And of those that were never asked for the one is first that was waited for longest. A question counts:
+/// the last request of that neighbour is then to be answered in a second. So while a socket waits for a neighbour that isn't asked for, fewer
+/// questions go than there are neighbours that sockets wait for: of so many each is asked for within as many questions, which go a second apart
+/// (`asks_a_second_apart`).
 pub fn turns_come_round()
     ensures again { (i : InnerValue) (places : List (SocketStorage Socket)) (n : ℕ) (place : SocketStorage Socket) (a b : Awaited) (last : ℤ)
         → next_awaited i places ≡ Some a
@@ -69,6 +89,13 @@ pub fn turns_come_round()
         → a.last_request ≡ None
         → b.last_request ≡ None
         → a.since ≤ℤ b.since }
+    ensures counts { (c : CacheValue) (hop : IpAddress) (moment : ℤ)
+        → last_request (requested c hop moment) hop ≡ Some (moment +ℤ pos silent_time) }
+    ensures within { (rounds : List Round) (hops : List IpAddress) (hop : IpAddress) (last : Option ℤ)
+        → AreRounds rounds
+        → AllByRecursion (PassesOver hop last hops) rounds
+        → IsOneOf hop hops
+        → length rounds < length hops }
 {}
 
 /// Law: a host on Ethernet that reads an ARP request for an own address, from a station of one of its networks, answers to that station with its
